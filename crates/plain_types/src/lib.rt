@@ -1,0 +1,27 @@
+// Small types that crates with and without trees share: want of memory, and plain lists.
+#![tactic(auto)]
+
+mod memory;
+mod sequence;
+
+pub use memory::{Mem, NoMemory};
+pub use sequence::{NameLit, Names, Numbers, Parts, Sequence, Text, Texts};
+
+#[cfg(test)]
+mod tests {
+    use super::*;
+
+    #[test]
+    fn lists_keep_what_they_are_given(rt: HostRuntime) {
+        let mut numbers = Numbers::new(rt.alloc());
+        for number in [3u64, 1, 2] {
+            assert!(rt; numbers.push(number).is_ok());
+        }
+        assert_eq!(rt; numbers.len(), 3);
+        assert!(rt; numbers.as_slice() == [3, 1, 2].as_slice());
+        let text = Text::from_slice(rt.alloc(), b"abc").expect(&rt, "memory");
+        let bytes = text.into_vec();
+        assert!(rt; bytes.as_slice() == b"abc".as_slice());
+        assert_eq!(rt; Text::from_vec(bytes).len(), 3);
+    }
+}
