@@ -1,0 +1,42 @@
+-- Literals and clauses over trees.
+use Rattle.std.specs.Prelude.{ℕ, ◌+◌, Bool, List, [], ◌∷◌, ◌++◌, map, flat_map, sum_by, All}
+use Rattle.plain_types.specs.declared.sequence.NameLit.{NameLit}
+use Rattle.fol_base.specs.Tree.{Tree, tree_size, tree_variables, VariablesBelow}
+use Rattle.fol_base.specs.Instance.{Substitution, instance}
+
+-- a positive or negated equation
+pub record TreeLiteral : Type 0 where
+  pub positive : Bool
+  pub left : Tree
+  pub right : Tree
+
+-- the ordinary literals, and the signed names of split-off parts
+pub record TreeClause : Type 0 where
+  pub literals : List TreeLiteral
+  pub names : List NameLit
+
+abbrev pub literal_instance : Substitution → TreeLiteral → TreeLiteral
+literal_instance σ l = record { positive = l.positive; left = instance σ l.left; right = instance σ l.right }
+
+-- the names stay
+abbrev pub clause_instance : Substitution → TreeClause → TreeClause
+clause_instance σ c = record { literals = map (literal_instance σ) c.literals; names = c.names }
+
+abbrev pub literal_size : TreeLiteral → ℕ
+literal_size l = tree_size l.left + tree_size l.right
+
+-- names count nothing
+abbrev pub clause_size : TreeClause → ℕ
+clause_size c = sum_by literal_size c.literals
+
+abbrev pub literal_variables : TreeLiteral → List ℕ
+literal_variables l = tree_variables l.left ++ tree_variables l.right
+
+abbrev pub clause_variables : TreeClause → List ℕ
+clause_variables c = flat_map literal_variables c.literals
+
+abbrev pub LiteralVariablesBelow : ℕ → TreeLiteral → Type 0
+LiteralVariablesBelow n l = VariablesBelow n l.left × VariablesBelow n l.right
+
+abbrev pub ClauseVariablesBelow : ℕ → TreeClause → Type 0
+ClauseVariablesBelow n c = All (LiteralVariablesBelow n) c.literals

@@ -1,0 +1,9 @@
+pub mod Tree
+pub mod TreeCode
+pub mod Term
+pub mod Falls
+pub mod Instance
+pub mod Place
+pub mod Clause
+pub mod Canonical
+pub mod Literal

@@ -1,0 +1,69 @@
+// Literals and clauses.
+
+ghost use Rattle.std.specs.Prelude.{◌≡◌, map, IfOk};
+ghost use Rattle.fol_base.specs.Literal.{literal_of, clause_of};
+
+use crate::term::Term;
+use plain_types::{Mem, Names, Sequence};
+use std::alloc::Global;
+
+/// An equation between two terms, or its negation. An atom is written as its predicate term on the
+/// left and `$true`, the symbol 0, on the right.
+#[derive(Drop)]
+pub struct Literal {
+    pub positive: bool,
+    pub left: Term,
+    pub right: Term,
+}
+
+/// A side of a literal.
+#[derive(Clone, Copy, Debug, PartialEq, Eq)]
+pub enum Side {
+    Left,
+    Right,
+}
+
+/// Literals, in order.
+pub type Literals = Sequence<Literal>;
+
+/// A disjunction of literals and of names of split-off parts; the empty clause is false.
+#[derive(Drop)]
+pub struct Clause {
+    pub literals: Literals,
+    pub names: Names,
+}
+
+/// Clauses, in order.
+pub type Clauses = Sequence<Clause>;
+
+impl Literal {
+    /// An equal literal.
+    pub fn copy(&self, alloc: Global) -> Mem<Literal>
+        ensures { IfOk result (λ literal. literal_of literal ≡ literal_of self.now) }
+    {
+        let left = self.left.copy(alloc)?;
+        let right = self.right.copy(alloc)?;
+        Ok(Literal {
+            positive: self.positive,
+            left,
+            right,
+        })
+    }
+}
+
+impl Clause {
+    /// An equal clause.
+    pub fn copy(&self, alloc: Global) -> Mem<Clause>
+        ensures { IfOk result (λ clause. clause_of clause ≡ clause_of self.now) }
+    {
+        let mut literals = Vec::with_capacity(alloc, self.literals.len())?;
+        for literal in self.literals.as_slice() {
+            literals.push(literal.copy(alloc)?)?;
+        }
+        let names = Names::from_slice(alloc, self.names.as_slice())?;
+        Ok(Clause {
+            literals: Literals::from_vec(literals),
+            names,
+        })
+    }
+}

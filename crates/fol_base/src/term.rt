@@ -1,0 +1,118 @@
+// Terms, which contracts see as trees.
+
+ghost use Rattle.std.specs.Prelude.{◌≡◌, ◌<◌, ◌++◌, [], ◌∷◌, length, map, IfOk, OnErr};
+ghost use Rattle.fol_base.specs.Term.{tree_of};
+
+use plain_types::Mem;
+use std::alloc::Global;
+use std::marker::Model;
+
+/// A first-order term: a variable by its number, or a symbol by its number, applied to terms.
+#[derive(Drop)]
+#[cycle(terms)]
+pub enum Term {
+    Var(u32),
+    App(u32, Terms),
+}
+
+/// A list of terms, which contracts see as the list of their trees.
+#[derive(Drop)]
+#[cycle(terms)]
+pub struct Terms {
+    items: Vec<Term>,
+}
+
+impl Model for Terms {
+    ghost use Rattle.std.specs.Prelude.{List, map};
+    ghost use Rattle.std.specs.Coded.{coded_list};
+    ghost use Rattle.fol_base.specs.Tree.{Tree, trees_size, trees_of};
+    ghost use Rattle.fol_base.specs.TreeCode.{tree_code};
+
+    ghost Value = { List Tree };
+
+    ghost coded = { coded_list tree_code };
+
+    ghost use Rattle.fol_base.specs.Term.{tree_of};
+
+    ghost view = { λ a. map tree_of a.items.items };
+
+    ghost size = { λ ts. trees_size (trees_of ts) };
+
+    ghost use Rattle.std.proofs.Common.{arith};
+    ghost use Rattle.fol_base.specs.Falls.{most-deep-Term-≤};
+
+    ghost size_decreases = { λ a h. Prim.omega (arith, most-deep-Term-≤ a.items.items) };
+}
+
+impl Term {
+    /// An equal term.
+    #[cycle(copy)]
+    pub fn copy(&self, alloc: Global) -> Mem<Term>
+        ensures { IfOk result (λ term. tree_of term ≡ tree_of self.now) }
+    {
+        match self {
+            Term::Var(variable) => Ok(Term::Var(*variable)),
+            Term::App(symbol, arguments) => Ok(Term::App(*symbol, arguments.copy(alloc)?)),
+        }
+    }
+}
+
+impl Terms {
+    /// The empty list. It takes no memory.
+    pub fn new(alloc: Global) -> Terms
+        ensures { result ≡ [] }
+    {
+        Terms {
+            items: Vec::new(alloc),
+        }
+    }
+
+    /// The list of a vector's terms. It takes no memory.
+    pub fn from_vec(items: Vec<Term>) -> Terms
+        ensures { result ≡ map tree_of items.items }
+    {
+        Terms { items }
+    }
+
+    /// The vector of the list's terms. It takes no memory.
+    pub fn into_vec(self) -> Vec<Term>
+        ensures { map tree_of result.items ≡ self }
+    {
+        self.items
+    }
+
+    /// The terms, lent.
+    pub fn as_slice(&self) -> &[Term]
+        ensures { map tree_of result.now ≡ self.now }
+    {
+        self.items.as_slice()
+    }
+
+    /// How many terms there are.
+    pub fn len(&self) -> usize
+        ensures { result ≡ length self.now }
+    {
+        self.items.len()
+    }
+
+    /// Adds a term at the end. After want of memory the list is as before.
+    pub fn push(&mut self, term: Term) -> Mem<()>
+        ensures ok { IfOk result (λ _. self.new ≡ self.old ++ tree_of term ∷ []) }
+        ensures err { OnErr result (self.new ≡ self.old) }
+    {
+        self.items.push(term)?;
+        Ok(())
+    }
+
+    /// An equal list.
+    #[cycle(copy)]
+    pub fn copy(&self, alloc: Global) -> Mem<Terms>
+        ensures { IfOk result (λ terms. terms ≡ self.now) }
+    {
+        let mut items = Vec::with_capacity(alloc, self.items.len())?;
+        for term in &self.items {
+            items.push(term.copy(alloc)?)?;
+        }
+        Ok(Terms { items })
+    }
+}
