@@ -1,3 +1,5 @@
 pub mod ListLemmas
 pub mod TreeLemmas
 pub mod TermLemmas
+pub mod PlaceLemmas
+pub mod ClauseLemmas

@@ -1,7 +1,6 @@
 -- Facts about the program's terms, as they are read from a list.
-use Rattle.std.proofs.Common.{◌≡◌, ℕ, zero, suc, ◌+◌, ◌*◌, ◌<◌, ◌≤◌, List, [], ◌∷◌, ◌++◌, length, map, take, drop, get_or, refl, ap, sym, ◌∙◌, subst, arith}
-use Rattle.std.proofs.lemmas.List.{map-append}
-use Rattle.fol_base.specs.Tree.{Tree, Trees, trees_of, tree_size, trees_size, VariablesBelow, AllVariablesBelow}
+use Rattle.std.proofs.Common.{◌≡◌, ℕ, zero, suc, ◌+◌, ◌<◌, ◌≤◌, List, [], ◌∷◌, length, map, take, get_or, refl, ap, sym, ◌∙◌, subst, arith}
+use Rattle.fol_base.specs.Tree.{Tree, trees_of, tree_size, trees_size, VariablesBelow, AllVariablesBelow}
 use Rattle.fol_base.specs.Term.{tree_of}
 use Rattle.fol_base.specs.declared.term.Term.{Term}
 use Rattle.fol_base.proofs.ListLemmas.{map-take_more_item}
@@ -47,3 +46,7 @@ VariablesBelow-item n xs ts i x e h r all =
     at_index [] i d h all = absurd (omega arith)
     at_index (y ∷ ys) zero d h all = all.0
     at_index (y ∷ ys) (suc i) d h all = at_index ys i d (omega arith) all.1
+
+pub length-trees : (xs : List Term) → length (map tree_of xs) ≡ length xs
+length-trees [] = refl
+length-trees (x ∷ xs) = ap suc (length-trees xs)

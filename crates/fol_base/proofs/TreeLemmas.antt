@@ -1,6 +1,7 @@
 -- Facts about trees and lists of trees.
-use Rattle.std.proofs.Common.{◌≡◌, ℕ, zero, suc, ◌+◌, ◌*◌, ◌<◌, ◌≤◌, List, [], ◌∷◌, ◌++◌, length, map, take, drop, get_or, refl, ap, arith}
-use Rattle.fol_base.specs.Tree.{Tree, variable, application, Trees, no_trees, tree_then, trees_of, list_of, tree_size, trees_size}
+use Rattle.std.proofs.Common.{◌≡◌, ℕ, zero, suc, ◌+◌, ◌<◌, ◌≤◌, List, [], ◌∷◌, ◌++◌, Bool, true, false, ◌&&◌, ◌==◌, length, map, get_or, refl, ap, ◌∙◌, arith, eq-eqb}
+use Rattle.std.proofs.lemmas.Bool.{eqb-true}
+use Rattle.fol_base.specs.Tree.{Tree, variable, application, Trees, no_trees, tree_then, trees_of, list_of, tree_size, trees_size, tree_eq, trees_eq}
 use Rattle.fol_base.specs.Instance.{Substitution, instance, instances}
 
 pub list_of-trees_of : (ts : List Tree) → list_of (trees_of ts) ≡ ts
@@ -10,6 +11,14 @@ list_of-trees_of (t ∷ ts) = ap (λ us. t ∷ us) (list_of-trees_of ts)
 pub trees_of-list_of : (ts : Trees) → trees_of (list_of ts) ≡ ts
 trees_of-list_of no_trees = refl
 trees_of-list_of (tree_then t ts) = ap (tree_then t) (trees_of-list_of ts)
+
+pub and_left : (a b : Bool) → (a && b) ≡ true → a ≡ true
+and_left true b h = refl
+and_left false b h = h
+
+pub and_right : (a b : Bool) → (a && b) ≡ true → b ≡ true
+and_right true b h = h
+and_right false b h = cc
 
 -- a tree has at least one occurrence
 pub tree_size-positive : (t : Tree) → 1 ≤ tree_size t
@@ -32,3 +41,45 @@ trees_size-push ts t = omega (arith, trees_size-append ts (t ∷ []))
 pub instances-trees_of : (σ : Substitution) (ts : List Tree) → instances σ (trees_of ts) ≡ trees_of (map (instance σ) ts)
 instances-trees_of σ [] = refl
 instances-trees_of σ (t ∷ ts) = ap (tree_then (instance σ t)) (instances-trees_of σ ts)
+
+-- lists of different lengths differ
+pub trees_eq-lengths : (ts us : List Tree) → (length ts ≡ length us → ⊥) → false ≡ trees_eq (trees_of ts) (trees_of us)
+trees_eq-lengths [] [] h = absurd (h refl)
+trees_eq-lengths [] (u ∷ us) h = refl
+trees_eq-lengths (t ∷ ts) [] h = refl
+trees_eq-lengths (t ∷ ts) (u ∷ us) h =
+    and_false (tree_eq t u) ∙ ap (λ b. tree_eq t u && b) (trees_eq-lengths ts us (λ e. h (ap suc e)))
+  where
+    and_false : (b : Bool) → false ≡ (b && false)
+    and_false true = refl
+    and_false false = refl
+
+-- a tree equals itself
+mutual
+  pub tree_eq-refl : (t : Tree) → tree_eq t t ≡ true
+  tree_eq-refl (variable v) = eq-eqb v v refl
+  tree_eq-refl (application f ts) = ap (λ b. b && trees_eq ts ts) (eq-eqb f f refl) ∙ trees_eq-refl ts
+
+  pub trees_eq-refl : (ts : Trees) → trees_eq ts ts ≡ true
+  trees_eq-refl no_trees = refl
+  trees_eq-refl (tree_then t ts) = ap (λ b. b && trees_eq ts ts) (tree_eq-refl t) ∙ trees_eq-refl ts
+
+-- and only itself
+mutual
+  pub tree_eq-true : (t u : Tree) → tree_eq t u ≡ true → t ≡ u
+  tree_eq-true (variable v) (variable w) h = ap variable (eqb-true v w h)
+  tree_eq-true (variable v) (application g us) h = cc
+  tree_eq-true (application f ts) (variable w) h = cc
+  tree_eq-true (application f ts) (application g us) h =
+      let heads : f ≡ g = eqb-true f g (and_left (f == g) (trees_eq ts us) h) in
+      let arguments : ts ≡ us = trees_eq-true ts us (and_right (f == g) (trees_eq ts us) h) in
+      cc
+
+  pub trees_eq-true : (ts us : Trees) → trees_eq ts us ≡ true → ts ≡ us
+  trees_eq-true no_trees no_trees h = refl
+  trees_eq-true no_trees (tree_then u us) h = cc
+  trees_eq-true (tree_then t ts) no_trees h = cc
+  trees_eq-true (tree_then t ts) (tree_then u us) h =
+      let first : t ≡ u = tree_eq-true t u (and_left (tree_eq t u) (trees_eq ts us) h) in
+      let rest : ts ≡ us = trees_eq-true ts us (and_right (tree_eq t u) (trees_eq ts us) h) in
+      cc

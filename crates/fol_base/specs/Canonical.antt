@@ -1,6 +1,5 @@
 -- The canonical form of a clause: its variables are numbered by first occurrence, left side before right.
 use Rattle.std.specs.Prelude.{ℕ, zero, suc, ◌+◌, max, not, ◌==◌, List, [], ◌∷◌, Option, None, Some, option_map, unwrap_or, filter, if◌then◌else◌}
-
 use Rattle.fol_base.specs.Tree.{Tree, variable}
 use Rattle.fol_base.specs.Instance.{Substitution}
 use Rattle.fol_base.specs.Clause.{TreeClause, clause_variables, clause_instance}

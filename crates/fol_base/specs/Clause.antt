@@ -1,7 +1,8 @@
 -- Literals and clauses over trees.
-use Rattle.std.specs.Prelude.{ℕ, ◌+◌, Bool, List, [], ◌∷◌, ◌++◌, map, flat_map, sum_by, All}
+use mathlib.Core.Bool.{beq}
+use Rattle.std.specs.Prelude.{ℕ, ◌+◌, Bool, true, false, ◌&&◌, List, [], ◌∷◌, ◌++◌, map, flat_map, sum_by, All}
 use Rattle.plain_types.specs.declared.sequence.NameLit.{NameLit}
-use Rattle.fol_base.specs.Tree.{Tree, tree_size, tree_variables, VariablesBelow}
+use Rattle.fol_base.specs.Tree.{Tree, tree_size, tree_eq, tree_variables, VariablesBelow}
 use Rattle.fol_base.specs.Instance.{Substitution, instance}
 
 -- a positive or negated equation
@@ -21,6 +22,16 @@ literal_instance σ l = record { positive = l.positive; left = instance σ l.lef
 -- the names stay
 abbrev pub clause_instance : Substitution → TreeClause → TreeClause
 clause_instance σ c = record { literals = map (literal_instance σ) c.literals; names = c.names }
+
+-- the same sign and the same sides
+abbrev pub literal_eq : TreeLiteral → TreeLiteral → Bool
+literal_eq l k = beq l.positive k.positive && tree_eq l.left k.left && tree_eq l.right k.right
+
+abbrev pub literals_eq : List TreeLiteral → List TreeLiteral → Bool
+literals_eq [] [] = true
+literals_eq [] (k ∷ ks) = false
+literals_eq (l ∷ ls) [] = false
+literals_eq (l ∷ ls) (k ∷ ks) = literal_eq l k && literals_eq ls ks
 
 abbrev pub literal_size : TreeLiteral → ℕ
 literal_size l = tree_size l.left + tree_size l.right

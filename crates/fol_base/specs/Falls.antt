@@ -1,5 +1,5 @@
 -- Each term of a list is smaller than the list, which is why a recursion down a term ends.
-use Rattle.std.specs.Prelude.{ℕ, ◌≤◌, ◌+◌, max, List, [], ◌∷◌, map}
+use Rattle.std.specs.Prelude.{◌≤◌, List, [], ◌∷◌, map}
 use Rattle.std.proofs.Common.{arith}
 use denote.Param.Weighed.{most}
 use Rattle.fol_base.specs.Tree.{tree_size, trees_size, trees_of}

@@ -1,5 +1,4 @@
 -- What the program's terms, literals and clauses are: trees.
-use Rattle.std.specs.Prelude.{ℕ, List, [], ◌∷◌, map}
 use Rattle.fol_base.specs.Tree.{Tree, variable, application, trees_of}
 use Rattle.fol_base.specs.declared.term.Term.{Term}
 use Rattle.fol_base.specs.declared.term.Term.TheVariants.{Var, App}

@@ -1,7 +1,7 @@
 -- A code for trees: the steps of a small machine that builds one, read from the last step to the first.
 use Rattle.std.specs.Prelude.{◌≡◌, ℕ, zero, suc, List, [], ◌∷◌, refl}
 use Rattle.std.specs.Coded.{Coded, code_by, coded×, coded_ℕ, coded_list}
-use Rattle.std.proofs.Common.{◌∙◌, ap, sym}
+use Rattle.std.proofs.Common.{◌∙◌, ap}
 use Rattle.fol_base.specs.Tree.{Tree, variable, application, Trees, no_trees, tree_then}
 
 -- (0, v) puts a variable in front, (2, _) begins a list of arguments, (1, f) ends it with its symbol

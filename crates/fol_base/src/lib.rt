@@ -2,11 +2,15 @@
 #![tactic(auto)]
 
 mod clause;
+mod equality;
+mod place;
 mod size;
 mod substitution;
 mod term;
 
 pub use clause::{Clause, Clauses, Literal, Literals, Side};
+pub use equality::{same_literal, same_term, same_terms};
+pub use place::{Position, at, replace_at};
 pub use plain_types::{Mem, NameLit, Names, NoMemory, Numbers, Parts, Sequence, Text, Texts};
-pub use substitution::{Subst, apply};
+pub use substitution::{Subst, apply, apply_clause, apply_literal};
 pub use term::{Term, Terms};

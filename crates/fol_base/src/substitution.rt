@@ -38,3 +38,33 @@ fn apply_all(alloc: Global, subst: &Subst, terms: &Terms) -> Mem<Terms>
     }
     Ok(Terms::from_vec(items))
 }
+
+/// The instance of a clause: each side of each literal. The names stay. The condition is that of `apply`.
+pub fn apply_clause(alloc: Global, subst: &Subst, clause: &Clause) -> Mem<Clause>
+    requires { ClauseVariablesBelow (length subst.now) (clause_of clause.now) }
+    ensures { IfOk result (λ made. clause_of made ≡ clause_instance (substitution subst.now) (clause_of clause.now)) }
+{
+    let mut literals = Vec::with_capacity(alloc, clause.literals.len())?;
+    for literal in clause.literals.as_slice() {
+        literals.push(apply_literal(alloc, subst, literal)?)?;
+    }
+    let names = Names::from_slice(alloc, clause.names.as_slice())?;
+    Ok(Clause {
+        literals: Literals::from_vec(literals),
+        names,
+    })
+}
+
+/// The instance of a literal.
+pub fn apply_literal(alloc: Global, subst: &Subst, literal: &Literal) -> Mem<Literal>
+    requires { LiteralVariablesBelow (length subst.now) (literal_of literal.now) }
+    ensures { IfOk result (λ made. literal_of made ≡ literal_instance (substitution subst.now) (literal_of literal.now)) }
+{
+    let left = apply(alloc, subst, &literal.left)?;
+    let right = apply(alloc, subst, &literal.right)?;
+    Ok(Literal {
+        positive: literal.positive,
+        left,
+        right,
+    })
+}

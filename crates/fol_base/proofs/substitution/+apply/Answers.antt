@@ -13,6 +13,7 @@ apply-returns-in_ok-apply_all-in-App t c =
     ∙ ap (λ u. instance (substitution c.args.subst.now) (tree_of u)) (sym c.in-App.is)
 
 pub apply_all-apply-requires : goal.apply_all-apply-requires
-apply_all-apply-requires t c =
-    (omega (arith, tree_size-item _ _ _ _ c.as_slice-term-items.ensures c.loop-term-test.true c.term-item.is, c.decreases),
-      VariablesBelow-item _ _ _ _ _ c.as_slice-term-items.ensures c.loop-term-test.true c.term-item.is c.requires)
+apply_all-apply-requires t c = (
+  omega (arith, tree_size-item _ _ _ _ c.as_slice-term-items.ensures c.loop-term-test.true c.term-item.is, c.decreases),
+  VariablesBelow-item _ _ _ _ _ c.as_slice-term-items.ensures c.loop-term-test.true c.term-item.is c.requires,
+)

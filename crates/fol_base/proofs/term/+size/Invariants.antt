@@ -1,4 +1,4 @@
-use Rattle.std.proofs.Common.{◌≡◌, ℕ, ◌+◌, ◌-◌, ◌*◌, ◌^◌, min, map, take}
+use Rattle.std.proofs.Common.{◌≡◌, ◌+◌, ◌-◌, ◌*◌, ◌^◌, min, map, take}
 use Rattle.fol_base.specs.Tree.{tree_size, trees_size, trees_of}
 use Rattle.fol_base.specs.Term.{tree_of}
 use Rattle.fol_base.proofs.term.+size.Given as goal

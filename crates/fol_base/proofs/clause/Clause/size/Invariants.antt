@@ -1,4 +1,4 @@
-use Rattle.std.proofs.Common.{◌≡◌, ℕ, ◌-◌, ◌^◌, min, map, take}
+use Rattle.std.proofs.Common.{◌≡◌, ◌-◌, ◌^◌, min, map, take}
 use Rattle.std.specs.Prelude.{sum_by}
 use Rattle.fol_base.specs.Clause.{literal_size}
 use Rattle.fol_base.specs.Literal.{literal_of}
