@@ -1,8 +1,7 @@
 -- Steps down a place.
-use Rattle.std.proofs.Common.{◌≡◌, ℕ, zero, suc, ◌+◌, ◌-◌, ◌<◌, ◌≤◌, Option, None, Some, List, [], ◌∷◌, ◌++◌, length, map, take, drop, get_or, refl, ap, sym, ◌∙◌, arith}
+use Rattle.std.proofs.Common.{◌≡◌, ℕ, zero, suc, ◌+◌, ◌<◌, ◌≤◌, Option, None, Some, List, [], ◌∷◌, length, map, drop, get_or, refl, ap, sym, ◌∙◌, arith}
 use Rattle.std.specs.Prelude.{slice_get, slice_set, option_and_then}
 use Rattle.std.specs.Option.{option_map}
-use Rattle.std.proofs.lemmas.List.{map-append, take_all, length-drop}
 use Rattle.fol_base.specs.Tree.{Tree, application, trees_of}
 use Rattle.fol_base.specs.Place.{argument, subterm, replaced, with_argument}
 use Rattle.fol_base.specs.Term.{tree_of}
@@ -77,35 +76,6 @@ replaced_stop place i new t h e =
     ∙ ap
     (option_and_then (λ a. option_map (λ b. with_argument (get_or place i 0) b t) (replaced (drop (i + 1) place) new a)))
     e
-
--- a list with one item exchanged is its front, the new item and its rest
-pub set-parts :
-    (xs : List Term) (i : ℕ) (new : Tree)
-    → i < length xs → slice_set (map tree_of xs) i new ≡ map tree_of (take i xs) ++ new ∷ [] ++ map tree_of (drop (i + 1) xs)
-set-parts [] i new h = absurd (omega arith)
-set-parts (x ∷ xs) zero new h = refl
-set-parts (x ∷ xs) (suc i) new h =
-    ap (λ us. tree_of x ∷ us) (set-parts xs i new (omega arith))
-    ∙ ap (λ k. tree_of x ∷ (map tree_of (take i xs) ++ new ∷ [] ++ map tree_of (drop k (x ∷ xs)))) step
-  where
-    step : suc (i + 1) ≡ suc i + 1
-    step = omega arith
-
--- the front, the new item and the rest, as they are pushed one after another
-pub set-pushed :
-    (xs made front more whole : List Term) (i : ℕ) (new : Term)
-    → i < length xs → made ≡ [] → map tree_of front ≡ map tree_of made ++ map tree_of (take i xs)
-    → more ≡ front ++ new ∷ []
-    → map tree_of whole ≡ map tree_of more ++ map tree_of (take (length xs - (i + 1)) (drop (i + 1) xs))
-    → map tree_of whole ≡ slice_set (map tree_of xs) i (tree_of new)
-set-pushed xs made front more whole i new h none first second third =
-    third
-    ∙ ap (λ us. us ++ map tree_of (take (length xs - (i + 1)) (drop (i + 1) xs)))
-    (ap (map tree_of) second ∙ map-append tree_of front (new ∷ [])
-    ∙ ap (λ us. us ++ tree_of new ∷ []) (first ∙ ap (λ m. map tree_of m ++ map tree_of (take i xs)) none))
-    ∙ ap (λ ys. map tree_of (take i xs) ++ tree_of new ∷ [] ++ map tree_of ys)
-    (take_all (length xs - (i + 1)) (drop (i + 1) xs) (omega (arith, length-drop (i + 1) xs)))
-    ∙ sym (set-parts xs i (tree_of new) h)
 
 -- the whole with the argument that was made
 pub replaced-made :

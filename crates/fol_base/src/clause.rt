@@ -1,6 +1,6 @@
 // Literals and clauses.
 
-ghost use Rattle.std.specs.Prelude.{◌≡◌, map, IfOk};
+ghost use Rattle.std.specs.Prelude.{◌≡◌, ◌++◌, map, IfOk};
 ghost use Rattle.fol_base.specs.Literal.{literal_of, clause_of};
 
 use crate::term::Term;
@@ -57,13 +57,21 @@ impl Clause {
         ensures { IfOk result (λ clause. clause_of clause ≡ clause_of self.now) }
     {
         let mut literals = Vec::with_capacity(alloc, self.literals.len())?;
-        for literal in self.literals.as_slice() {
-            literals.push(literal.copy(alloc)?)?;
-        }
+        push_literal_copies(alloc, &mut literals, self.literals.as_slice())?;
         let names = Names::from_slice(alloc, self.names.as_slice())?;
         Ok(Clause {
             literals: Literals::from_vec(literals),
             names,
         })
     }
+}
+
+/// Adds copies of the literals at the end.
+pub fn push_literal_copies(alloc: Global, made: &mut Vec<Literal>, literals: &[Literal]) -> Mem<()>
+    ensures { IfOk result (λ _. map literal_of made.new.items ≡ map literal_of made.old.items ++ map literal_of literals.now) }
+{
+    for literal in literals {
+        made.push(literal.copy(alloc)?)?;
+    }
+    Ok(())
 }

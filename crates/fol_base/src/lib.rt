@@ -8,7 +8,7 @@ mod size;
 mod substitution;
 mod term;
 
-pub use clause::{Clause, Clauses, Literal, Literals, Side};
+pub use clause::{Clause, Clauses, Literal, Literals, Side, push_literal_copies};
 pub use equality::{same_literal, same_term, same_terms};
 pub use place::{Position, at, replace_at};
 pub use plain_types::{Mem, NameLit, Names, NoMemory, Numbers, Parts, Sequence, Text, Texts};

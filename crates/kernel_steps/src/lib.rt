@@ -1,0 +1,9 @@
+// The steps of derivations, and what each step concludes.
+#![tactic(auto)]
+
+mod conclude;
+mod rules;
+mod step;
+
+pub use conclude::conclusion;
+pub use step::{Derivation, Line, Step, StepFault};
