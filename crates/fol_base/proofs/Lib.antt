@@ -3,3 +3,5 @@ pub mod TreeLemmas
 pub mod TermLemmas
 pub mod PlaceLemmas
 pub mod ClauseLemmas
+pub mod TestLemmas
+pub mod MeaningLemmas

@@ -7,3 +7,6 @@ pub mod Place
 pub mod Clause
 pub mod Canonical
 pub mod Literal
+pub mod Ground
+pub mod Interpretation
+pub mod Entails

@@ -1,0 +1,9 @@
+// The laws of the definitions: each is the contract of a function without arguments and with an empty body.
+
+mod meaning;
+
+pub use meaning::{
+    congruence, empty_clause_entailed, entailment_cuts, entailment_of_members, entailment_of_more,
+    ground_instances_are_ground, ground_trees_need_a_constant, truth_of_ground_clauses,
+    truth_of_instances, values_of_instances,
+};
