@@ -5,3 +5,5 @@ pub mod PlaceLemmas
 pub mod ClauseLemmas
 pub mod TestLemmas
 pub mod MeaningLemmas
+pub mod OrderLemmas
+pub mod CoverageLemmas

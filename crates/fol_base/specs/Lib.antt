@@ -10,3 +10,8 @@ pub mod Literal
 pub mod Ground
 pub mod Interpretation
 pub mod Entails
+pub mod Multiset
+pub mod Order
+pub mod Selection
+pub mod GroundInference
+pub mod Covered
