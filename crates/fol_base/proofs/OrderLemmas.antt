@@ -4,7 +4,7 @@ use Rattle.std.specs.List.{list_all}
 use Rattle.std.proofs.lemmas.Bool.{and_from, eq-eqb, and_left}
 use Rattle.fol_base.specs.Ground.{GroundClause}
 use Rattle.fol_base.specs.Multiset.{times, same_multiset, multiset_greater}
-use Rattle.fol_base.specs.Order.{same_literal, literal_greater, clause_greater}
+use Rattle.fol_base.specs.Order.{equivalent_literals, literal_greater, clause_greater}
 
 pub list_all-always : {X : Type 0} (p : X → Bool) → ((x : X) → p x ≡ true) → (xs : List X) → list_all p xs ≡ true
 list_all-always p h [] = refl
@@ -20,4 +20,4 @@ pub multiset_greater-itself : {X : Type 0} (same exceeds : X → X → Bool) (xs
 multiset_greater-itself same exceeds xs = and_left (not (same_multiset same xs xs)) _ (ap not (same_multiset-itself same xs))
 
 pub clause_greater-itself : (c : GroundClause) → clause_greater c c ≡ false
-clause_greater-itself c = multiset_greater-itself same_literal literal_greater c
+clause_greater-itself c = multiset_greater-itself equivalent_literals literal_greater c

@@ -1,5 +1,6 @@
 -- The Knuth-Bendix order on trees (Knuth and Bendix 1970), with weight 1 for each occurrence of a symbol or a variable and the
 -- symbols' numbers as precedence, so that `$true` is lowest; and its extension to literals and clauses (Bachmair and Ganzinger 1994).
+use mathlib.Core.Bool.{beq}
 use Rattle.std.specs.Prelude.{◌≡◌, ℕ, ◌<◌, ◌≤◌, Bool, true, false, ◌&&◌, ◌||◌, ◌==◌, nat_lt, nat_le, if◌then◌else◌, List, [], ◌∷◌, ◌⊎◌, IsTrue}
 use Rattle.std.specs.List.{list_all}
 use Rattle.fol_base.specs.Tree.{Tree, variable, application, Trees, no_trees, tree_then, tree_size, tree_eq, tree_variables}
@@ -43,26 +44,26 @@ sides_multiset l =
     if l.positive then (l.left ∷ l.right ∷ []) else (l.left ∷ l.left ∷ l.right ∷ l.right ∷ [])
 
 -- the same sign, and the same sides in either order
-abbrev pub same_literal : TreeLiteral → TreeLiteral → Bool
-same_literal l m =
-    (if l.positive then m.positive else (if m.positive then false else true))
+abbrev pub equivalent_literals : TreeLiteral → TreeLiteral → Bool
+equivalent_literals l m =
+    beq l.positive m.positive
     && ((tree_eq l.left m.left && tree_eq l.right m.right) || (tree_eq l.left m.right && tree_eq l.right m.left))
 
 abbrev pub literal_greater : TreeLiteral → TreeLiteral → Bool
 literal_greater l m = multiset_greater tree_eq tree_greater (sides_multiset l) (sides_multiset m)
 
 abbrev pub compare_literals : TreeLiteral → TreeLiteral → Comparison
-compare_literals l m = compared same_literal literal_greater l m
+compare_literals l m = compared equivalent_literals literal_greater l m
 
 -- a clause is the multiset of its literals
-abbrev pub same_clause : List TreeLiteral → List TreeLiteral → Bool
-same_clause c d = same_multiset same_literal c d
+abbrev pub equivalent_clauses : List TreeLiteral → List TreeLiteral → Bool
+equivalent_clauses c d = same_multiset equivalent_literals c d
 
 abbrev pub clause_greater : List TreeLiteral → List TreeLiteral → Bool
-clause_greater c d = multiset_greater same_literal literal_greater c d
+clause_greater c d = multiset_greater equivalent_literals literal_greater c d
 
 abbrev pub compare_clauses : List TreeLiteral → List TreeLiteral → Comparison
-compare_clauses c d = compared same_clause clause_greater c d
+compare_clauses c d = compared equivalent_clauses clause_greater c d
 
 -- ---- the same as types, for proofs
 

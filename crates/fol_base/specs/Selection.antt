@@ -4,7 +4,7 @@ use Rattle.std.specs.List.{list_all}
 use Rattle.fol_base.specs.Instance.{Substitution}
 use Rattle.fol_base.specs.Clause.{TreeLiteral, literal_size}
 use Rattle.fol_base.specs.Ground.{literals_instance}
-use Rattle.fol_base.specs.Order.{literal_greater, same_literal}
+use Rattle.fol_base.specs.Order.{literal_greater, equivalent_literals}
 
 -- which literal of a clause is chosen: none, or a negative one
 pub data SelectionMode : Type 0 where
@@ -29,7 +29,7 @@ chosen select_negative ls = first_index (λ l. not l.positive && (literal_size l
 
 -- no literal is greater than this one, nor equal to it where strictness is asked
 abbrev pub is_maximal : Bool → TreeLiteral → List TreeLiteral → Bool
-is_maximal strict l ls = list_all (λ m. not (literal_greater m l) && not (strict && same_literal m l)) ls
+is_maximal strict l ls = list_all (λ m. not (literal_greater m l) && not (strict && equivalent_literals m l)) ls
 
 -- the literal of that index, against the list without it; false past the end
 abbrev pub is_maximal_at : Bool → Option TreeLiteral → List TreeLiteral → Bool
