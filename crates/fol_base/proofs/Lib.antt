@@ -7,3 +7,4 @@ pub mod TestLemmas
 pub mod MeaningLemmas
 pub mod OrderLemmas
 pub mod CoverageLemmas
+pub mod ExampleLemmas

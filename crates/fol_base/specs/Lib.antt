@@ -15,3 +15,4 @@ pub mod Order
 pub mod Selection
 pub mod GroundInference
 pub mod Covered
+pub mod Examples

@@ -1,7 +1,7 @@
 -- The Knuth-Bendix order on trees (Knuth and Bendix 1970), with weight 1 for each occurrence of a symbol or a variable and the
 -- symbols' numbers as precedence, so that `$true` is lowest; and its extension to literals and clauses (Bachmair and Ganzinger 1994).
 use mathlib.Core.Bool.{beq}
-use Rattle.std.specs.Prelude.{◌≡◌, ℕ, ◌<◌, ◌≤◌, Bool, true, false, ◌&&◌, ◌||◌, ◌==◌, nat_lt, nat_le, if◌then◌else◌, List, [], ◌∷◌, ◌⊎◌, IsTrue}
+use Rattle.std.specs.Prelude.{◌≡◌, ℕ, ◌<◌, ◌≤◌, Bool, false, ◌&&◌, ◌||◌, ◌==◌, nat_lt, nat_le, if◌then◌else◌, List, [], ◌∷◌, ◌⊎◌, IsTrue}
 use Rattle.std.specs.List.{list_all}
 use Rattle.fol_base.specs.Tree.{Tree, variable, application, Trees, no_trees, tree_then, tree_size, tree_eq, tree_variables}
 use Rattle.fol_base.specs.Clause.{TreeLiteral}
