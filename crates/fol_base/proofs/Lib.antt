@@ -3,3 +3,8 @@ pub mod TreeLemmas
 pub mod TermLemmas
 pub mod PlaceLemmas
 pub mod ClauseLemmas
+pub mod TestLemmas
+pub mod MeaningLemmas
+pub mod OrderLemmas
+pub mod CoverageLemmas
+pub mod ExampleLemmas

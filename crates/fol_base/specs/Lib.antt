@@ -7,3 +7,12 @@ pub mod Place
 pub mod Clause
 pub mod Canonical
 pub mod Literal
+pub mod Ground
+pub mod Interpretation
+pub mod Entails
+pub mod Multiset
+pub mod Order
+pub mod Selection
+pub mod GroundInference
+pub mod Covered
+pub mod Examples

@@ -14,3 +14,5 @@ pub use place::{Position, at, replace_at};
 pub use plain_types::{Mem, NameLit, Names, NoMemory, Numbers, Parts, Sequence, Text, Texts};
 pub use substitution::{Subst, apply, apply_clause, apply_literal};
 pub use term::{Term, Terms};
+
+pub mod laws;

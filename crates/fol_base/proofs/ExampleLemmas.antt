@@ -1,0 +1,106 @@
+-- The worked examples that don't just compute.
+use Rattle.std.proofs.Common.{◌≡◌, ℕ, zero, suc, ◌<◌, true, false, List, [], ◌∷◌, refl, ap, sym, ◌∙◌, inr, arith, true≢false, get_or}
+use Rattle.std.specs.Prelude.{All, Contains}
+use Rattle.std.proofs.lemmas.Bool.{and_parts, or_right}
+use Rattle.std.proofs.lemmas.List.Elements.{All-head, All-cons, All-nil}
+use Rattle.fol_base.specs.Clause.{TreeClause}
+use Rattle.fol_base.specs.Ground.{GroundClause, GroundInstance, literals_instance}
+use Rattle.fol_base.specs.Interpretation.{Interpretation, literal_true, clause_true}
+use Rattle.fol_base.specs.Entails.{Entails}
+use Rattle.fol_base.specs.Order.{clause_greater}
+use Rattle.fol_base.specs.Selection.{select_nothing}
+use Rattle.fol_base.specs.GroundInference.{GroundSuperposition}
+use Rattle.fol_base.specs.Covered.{InstanceOf, Covers}
+use Rattle.fol_base.specs.declared.clause.Side.TheVariants.{Left}
+use Rattle.fol_base.specs.Examples.{x, a, b, f, p, equation, clause, is_predicate, functions, all_a, p_of_a_alone}
+
+-- p(a) is an instance of p(X0), and of itself
+pub instance_over_the_list : GroundInstance functions (clause (p (x 0) ∷ [])) (p a ∷ [])
+instance_over_the_list = record { trees = all_a; trees_ground = λ v. refl; literals = refl }
+
+-- the interpretation is one, makes p(a) true and p(b) false
+pub p_of_a_without_p_of_b : Entails is_predicate ((p a ∷ []) ∷ []) (p b ∷ []) → ⊥
+p_of_a_without_p_of_b entails =
+    true≢false (sym (entails p_of_a_alone (record { has_value = omega arith; rows_in_range = refl }) refl))
+
+-- f(X0) = b rewrites the inner f(X0) of p(f(f(X0))), both at X0 = a
+pub inner_rewritten :
+    GroundSuperposition functions select_nothing (clause (equation (f (x 0)) b ∷ [])) (clause (p (f (f (x 0))) ∷ [])) (p (f b) ∷ [])
+inner_rewritten = record {
+  first_trees = all_a;
+  first_ground = λ v. refl;
+  second_trees = all_a;
+  second_ground = λ v. refl;
+  i = 0;
+  from_side = Left;
+  from = equation (f (x 0)) b;
+  from_there = refl;
+  from_positive = refl;
+  from_falls = refl;
+  from_eligible = record { nothing_chosen = refl; is_eligible = refl };
+  j = 0;
+  into_side = Left;
+  into = p (f (f (x 0)));
+  into_there = refl;
+  into_falls = refl;
+  into_eligible = inr (refl, record { nothing_chosen = refl; is_eligible = refl });
+  place = 0 ∷ 0 ∷ [];
+  old = f (x 0);
+  old_there = refl;
+  old_no_variable = refl;
+  old_is_s = refl;
+  concludes = refl;
+}
+
+-- ---- coverage of p(a) | p(a) by p(a), and not the other way round
+
+abbrev single : GroundClause
+single = p a ∷ []
+
+abbrev repeated : GroundClause
+repeated = p a ∷ p a ∷ []
+
+abbrev InstanceOfListed : GroundClause → GroundClause → Type 0
+InstanceOfListed listed g = InstanceOf functions (Contains (clause listed ∷ [])) g
+
+abbrev NotGreater : GroundClause → GroundClause → Type 0
+NotGreater bound g = clause_greater g bound ≡ false
+
+pub repeated_by_single : Covers is_predicate functions (clause single ∷ []) repeated
+repeated_by_single = record {
+  by = single ∷ [];
+  instances =
+      All-cons (InstanceOfListed single) single []
+      (record {
+        clause = clause single;
+        holds = (0, omega arith, refl);
+        is_instance = record { trees = all_a; trees_ground = λ v. refl; literals = refl };
+      })
+      (All-nil (InstanceOfListed single));
+  none_greater = All-cons (NotGreater repeated) single [] refl (All-nil (NotGreater repeated));
+  entailed = λ i ok h. or_right (literal_true i (p a)) (clause_true i single) (and_parts (clause_true i single) true h).0;
+}
+
+only_member : {X : Type 0} (x y : X) (k : ℕ) → k < 1 → get_or (x ∷ []) k y ≡ y → x ≡ y
+only_member x y zero h e = e
+only_member x y (suc k) h e = absurd (omega arith)
+
+-- an instance of p(a) | p(a) is that clause, which is greater than p(a)
+instance_is_greater : (g : GroundClause) → InstanceOfListed repeated g → clause_greater g single ≡ false → ⊥
+instance_is_greater g it not_greater =
+    let listed : clause repeated ≡ it.clause = only_member (clause repeated) it.clause it.holds.0 it.holds.1 it.holds.2 in
+    let same : g ≡ repeated = it.is_instance.literals ∙ ap (λ (d : TreeClause). literals_instance it.is_instance.trees d.literals) (sym listed) in
+    true≢false (ap (λ h. clause_greater h single) (sym same) ∙ not_greater)
+
+-- no symbol has a row, so no atom is true
+abbrev nothing_true : Interpretation
+nothing_true = record { size = 1; rows = [] }
+
+pub single_not_by_repeated : Covers is_predicate functions (clause repeated ∷ []) single → ⊥
+single_not_by_repeated covered = none covered.by covered.instances covered.none_greater covered.entailed
+  where
+    none : (by : List GroundClause) → All (InstanceOfListed repeated) by → All (NotGreater single) by → Entails is_predicate by single → ⊥
+    none [] instances none_greater entailed =
+        true≢false (sym (entailed nothing_true (record { has_value = omega arith; rows_in_range = refl }) refl))
+    none (g ∷ gs) instances none_greater entailed =
+        instance_is_greater g (All-head (InstanceOfListed repeated) g gs instances) (All-head (NotGreater single) g gs none_greater)

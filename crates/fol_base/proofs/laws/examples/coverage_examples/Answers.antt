@@ -1,0 +1,11 @@
+use Rattle.fol_base.proofs.ExampleLemmas.{inner_rewritten, repeated_by_single, single_not_by_repeated}
+use Rattle.fol_base.proofs.laws.examples.coverage_examples.Goals as goal
+
+pub returns-clause-inference : goal.returns-clause-inference
+returns-clause-inference c = inner_rewritten
+
+pub returns-clause-by_a_smaller : goal.returns-clause-by_a_smaller
+returns-clause-by_a_smaller c = repeated_by_single
+
+pub returns-clause-not_by_a_greater : goal.returns-clause-not_by_a_greater
+returns-clause-not_by_a_greater c = single_not_by_repeated

@@ -1,0 +1,73 @@
+-- The symbols of the worked examples. Their numbers rise in the order a, b, c, f, g, p, q; the last two are predicates.
+use Rattle.std.specs.Prelude.{ℕ, Bool, true, false, ◌||◌, ◌==◌, List, [], ◌∷◌}
+use Rattle.fol_base.specs.Tree.{Tree, variable, application, no_trees, tree_then}
+use Rattle.fol_base.specs.Instance.{Substitution}
+use Rattle.fol_base.specs.Clause.{TreeLiteral, TreeClause}
+use Rattle.fol_base.specs.Ground.{FunctionSymbol}
+use Rattle.fol_base.specs.Interpretation.{Interpretation, true_tree}
+
+abbrev pub x : ℕ → Tree
+x v = variable v
+
+abbrev pub a : Tree
+a = application 1 no_trees
+
+abbrev pub b : Tree
+b = application 2 no_trees
+
+abbrev pub c : Tree
+c = application 3 no_trees
+
+abbrev pub f : Tree → Tree
+f t = application 4 (tree_then t no_trees)
+
+abbrev pub f₂ : Tree → Tree → Tree
+f₂ t u = application 4 (tree_then t (tree_then u no_trees))
+
+abbrev pub g : Tree → Tree
+g t = application 5 (tree_then t no_trees)
+
+abbrev pub equation : Tree → Tree → TreeLiteral
+equation t u = record { positive = true; left = t; right = u }
+
+abbrev pub disequation : Tree → Tree → TreeLiteral
+disequation t u = record { positive = false; left = t; right = u }
+
+-- the atoms p(t), q(t) and q(t, u)
+abbrev pub p : Tree → TreeLiteral
+p t = equation (application 6 (tree_then t no_trees)) true_tree
+
+abbrev pub q : Tree → TreeLiteral
+q t = equation (application 7 (tree_then t no_trees)) true_tree
+
+abbrev pub q₂ : Tree → Tree → TreeLiteral
+q₂ t u = equation (application 7 (tree_then t (tree_then u no_trees))) true_tree
+
+abbrev pub is_predicate : ℕ → Bool
+is_predicate symbol = (symbol == 6) || (symbol == 7)
+
+-- a, b and f with one argument
+abbrev pub functions : List FunctionSymbol
+functions =
+    record { number = 1; arity = 0 }
+    ∷ record { number = 2; arity = 0 }
+    ∷ record { number = 4; arity = 1 }
+    ∷ []
+
+-- each variable becomes a
+abbrev pub all_a : Substitution
+all_a v = a
+
+-- a clause without names
+abbrev pub clause : List TreeLiteral → TreeClause
+clause ls = record { literals = ls; names = [] }
+
+-- two values; a is 0 and b is 1; p is true of 0 alone
+abbrev pub p_of_a_alone : Interpretation
+p_of_a_alone = record {
+  size = 2;
+  rows =
+      record { symbol = 2; arguments = []; value = 1 }
+      ∷ record { symbol = 6; arguments = 0 ∷ []; value = 1 }
+      ∷ [];
+}

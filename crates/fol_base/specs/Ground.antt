@@ -1,0 +1,80 @@
+-- Ground trees over a list of function symbols, and the ground instances of a clause (Herbrand 1930, Robinson 1965).
+use Rattle.std.specs.Prelude.{◌≡◌, ℕ, ◌+◌, Bool, true, false, ◌&&◌, ◌==◌, ◌↔◌, List, map, IsTrue}
+use Rattle.std.specs.List.{list_any, list_all}
+use Rattle.fol_base.specs.Tree.{Tree, variable, application, Trees, no_trees, tree_then}
+use Rattle.fol_base.specs.Instance.{Substitution}
+use Rattle.fol_base.specs.Clause.{TreeLiteral, TreeClause, literal_instance}
+
+-- a function symbol: its number, and how many arguments it takes
+pub record FunctionSymbol : Type 0 where
+  pub number : ℕ
+  pub arity : ℕ
+
+-- whether the list has this symbol with this number of arguments
+abbrev pub has_symbol : List FunctionSymbol → ℕ → ℕ → Bool
+has_symbol functions f arity = list_any (λ s. (s.number == f) && (s.arity == arity)) functions
+
+-- whether it has a constant, a symbol without arguments: only then is any tree ground over it
+abbrev pub has_constant : List FunctionSymbol → Bool
+has_constant functions = list_any (λ s. s.arity == 0) functions
+
+abbrev pub trees_count : Trees → ℕ
+trees_count no_trees = 0
+trees_count (tree_then t ts) = 1 + trees_count ts
+
+-- no variables
+abbrev mutual
+  pub is_ground : Tree → Bool
+  is_ground (variable v) = false
+  is_ground (application f ts) = are_ground ts
+
+  pub are_ground : Trees → Bool
+  are_ground no_trees = true
+  are_ground (tree_then t ts) = is_ground t && are_ground ts
+
+-- no variables, and symbols of the list alone, each with its number of arguments
+abbrev mutual
+  pub ground_over : List FunctionSymbol → Tree → Bool
+  ground_over functions (variable v) = false
+  ground_over functions (application f ts) = has_symbol functions f (trees_count ts) && all_ground_over functions ts
+
+  pub all_ground_over : List FunctionSymbol → Trees → Bool
+  all_ground_over functions no_trees = true
+  all_ground_over functions (tree_then t ts) = ground_over functions t && all_ground_over functions ts
+
+-- each variable becomes a ground tree over the list
+abbrev pub IsGroundOver : List FunctionSymbol → Substitution → Type 0
+IsGroundOver functions σ = (v : ℕ) → IsTrue (ground_over functions (σ v))
+
+-- A ground clause is written as the list of its literals, a disjunction. The names of split-off parts are no part of it.
+abbrev pub GroundClause : Type 0
+GroundClause = List TreeLiteral
+
+abbrev pub is_ground_literal : TreeLiteral → Bool
+is_ground_literal l = is_ground l.left && is_ground l.right
+
+abbrev pub is_ground_clause : GroundClause → Bool
+is_ground_clause c = list_all is_ground_literal c
+
+-- the literals of a clause under a substitution
+abbrev pub literals_instance : Substitution → List TreeLiteral → List TreeLiteral
+literals_instance σ ls = map (literal_instance σ) ls
+
+-- g is an instance of c whose variables have become ground trees over the list. Only these trees have to be over it: the heads
+-- of atoms are predicates, and the function symbols of c stay.
+pub record GroundInstance (functions : List FunctionSymbol) (c : TreeClause) (g : GroundClause) : Type 0 where
+  pub trees : Substitution
+  pub trees_ground : IsGroundOver functions trees
+  pub literals : g ≡ literals_instance trees c.literals
+
+-- ---- laws
+
+-- some tree is ground over a list exactly where the list has a constant
+abbrev pub ConstantsGiveGroundTrees : Type 0
+ConstantsGiveGroundTrees =
+    (functions : List FunctionSymbol) → ((t : Tree) × IsTrue (ground_over functions t)) ↔ IsTrue (has_constant functions)
+
+-- a ground instance has no variables
+abbrev pub GroundInstancesAreGround : Type 0
+GroundInstancesAreGround =
+    (functions : List FunctionSymbol) (c : TreeClause) (g : GroundClause) → GroundInstance functions c g → IsTrue (is_ground_clause g)

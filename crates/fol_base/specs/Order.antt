@@ -1,0 +1,95 @@
+-- The Knuth-Bendix order on trees (Knuth and Bendix 1970), with weight 1 for each occurrence of a symbol or a variable and the
+-- symbols' numbers as precedence, so that `$true` is lowest; and its extension to literals and clauses (Bachmair and Ganzinger 1994).
+use mathlib.Core.Bool.{beq}
+use Rattle.std.specs.Prelude.{◌≡◌, ℕ, ◌<◌, ◌≤◌, Bool, false, ◌&&◌, ◌||◌, ◌==◌, nat_lt, nat_le, if◌then◌else◌, List, [], ◌∷◌, ◌⊎◌, IsTrue}
+use Rattle.std.specs.List.{list_all}
+use Rattle.fol_base.specs.Tree.{Tree, variable, application, Trees, no_trees, tree_then, tree_size, tree_eq, tree_variables}
+use Rattle.fol_base.specs.Clause.{TreeLiteral}
+use Rattle.fol_base.specs.Ground.{GroundClause, is_ground_clause}
+use Rattle.fol_base.specs.Multiset.{Comparison, compared, times, same_multiset, multiset_greater}
+
+-- how often a variable occurs
+abbrev pub occurrences : ℕ → Tree → ℕ
+occurrences v t = times ◌==◌ v (tree_variables t)
+
+-- each variable occurs in s at least as often as in t
+abbrev pub has_variables_of : Tree → Tree → Bool
+has_variables_of s t = list_all (λ v. nat_le (occurrences v t) (occurrences v s)) (tree_variables t)
+
+-- the variable condition, and the greater size or, at equal sizes, what decides then
+abbrev pub exceeds_by_size : Tree → Tree → Bool → Bool
+exceeds_by_size s t tie =
+    has_variables_of s t && (nat_lt (tree_size t) (tree_size s) || ((tree_size s == tree_size t) && tie))
+
+-- At equal sizes the higher head decides, and at equal heads the first argument in which the two differ. A variable is greater
+-- than nothing, and at its own size nothing is greater than it.
+abbrev mutual
+  pub tree_greater : Tree → Tree → Bool
+  tree_greater (variable v) t = exceeds_by_size (variable v) t false
+  tree_greater (application f ts) (variable w) = exceeds_by_size (application f ts) (variable w) false
+  tree_greater (application f ts) (application g us) =
+      exceeds_by_size (application f ts) (application g us) (nat_lt g f || ((f == g) && trees_greater ts us))
+
+  pub trees_greater : Trees → Trees → Bool
+  trees_greater no_trees us = false
+  trees_greater (tree_then t ts) no_trees = false
+  trees_greater (tree_then t ts) (tree_then u us) = tree_greater t u || (tree_eq t u && trees_greater ts us)
+
+abbrev pub compare_trees : Tree → Tree → Comparison
+compare_trees s t = compared tree_eq tree_greater s t
+
+-- a positive equation is the multiset of its sides, a negative one has each side twice
+abbrev pub sides_multiset : TreeLiteral → List Tree
+sides_multiset l =
+    if l.positive then (l.left ∷ l.right ∷ []) else (l.left ∷ l.left ∷ l.right ∷ l.right ∷ [])
+
+-- the same sign, and the same sides in either order
+abbrev pub equivalent_literals : TreeLiteral → TreeLiteral → Bool
+equivalent_literals l m =
+    beq l.positive m.positive
+    && ((tree_eq l.left m.left && tree_eq l.right m.right) || (tree_eq l.left m.right && tree_eq l.right m.left))
+
+abbrev pub literal_greater : TreeLiteral → TreeLiteral → Bool
+literal_greater l m = multiset_greater tree_eq tree_greater (sides_multiset l) (sides_multiset m)
+
+abbrev pub compare_literals : TreeLiteral → TreeLiteral → Comparison
+compare_literals l m = compared equivalent_literals literal_greater l m
+
+-- a clause is the multiset of its literals
+abbrev pub equivalent_clauses : List TreeLiteral → List TreeLiteral → Bool
+equivalent_clauses c d = same_multiset equivalent_literals c d
+
+abbrev pub clause_greater : List TreeLiteral → List TreeLiteral → Bool
+clause_greater c d = multiset_greater equivalent_literals literal_greater c d
+
+abbrev pub compare_clauses : List TreeLiteral → List TreeLiteral → Comparison
+compare_clauses c d = compared equivalent_clauses clause_greater c d
+
+-- ---- the same as types, for proofs
+
+abbrev pub HasVariablesOf : Tree → Tree → Type 0
+HasVariablesOf s t = (v : ℕ) → occurrences v t ≤ occurrences v s
+
+abbrev pub ExceedsBySize : Tree → Tree → Type 0 → Type 0
+ExceedsBySize s t Tie = HasVariablesOf s t × ((tree_size t < tree_size s) ⊎ ((tree_size s ≡ tree_size t) × Tie))
+
+abbrev mutual
+  pub TreeGreater : Tree → Tree → Type 0
+  TreeGreater (variable v) t = ExceedsBySize (variable v) t ⊥
+  TreeGreater (application f ts) (variable w) = ExceedsBySize (application f ts) (variable w) ⊥
+  TreeGreater (application f ts) (application g us) =
+      ExceedsBySize (application f ts) (application g us) ((g < f) ⊎ ((f ≡ g) × TreesGreater ts us))
+
+  pub TreesGreater : Trees → Trees → Type 0
+  TreesGreater no_trees us = ⊥
+  TreesGreater (tree_then t ts) no_trees = ⊥
+  TreesGreater (tree_then t ts) (tree_then u us) = TreeGreater t u ⊎ ((t ≡ u) × TreesGreater ts us)
+
+-- ---- laws
+
+-- "not greater" is transitive on clauses without variables: a premise of the laws of coverage
+abbrev pub NotGreaterIsTransitive : Type 0
+NotGreaterIsTransitive =
+    (b c d : GroundClause)
+    → IsTrue (is_ground_clause b) → IsTrue (is_ground_clause c) → IsTrue (is_ground_clause d)
+    → clause_greater b c ≡ false → clause_greater c d ≡ false → clause_greater b d ≡ false

@@ -1,0 +1,15 @@
+// The laws of the definitions: each is the contract of a function without arguments and with an empty body.
+
+mod coverage;
+mod examples;
+mod meaning;
+
+pub use coverage::{coverage_by_more, coverage_composes, coverage_of_instances};
+pub use examples::{
+    coverage_examples, meaning_examples, order_examples, selection_examples, tree_examples,
+};
+pub use meaning::{
+    congruence, empty_clause_entailed, entailment_cuts, entailment_of_members, entailment_of_more,
+    ground_instances_are_ground, ground_trees_need_a_constant, truth_of_ground_clauses,
+    truth_of_instances, values_of_instances,
+};
