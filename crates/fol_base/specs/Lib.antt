@@ -16,3 +16,4 @@ pub mod Selection
 pub mod GroundInference
 pub mod Covered
 pub mod Examples
+pub mod GroundForm

@@ -6,12 +6,12 @@ use Rattle.std.proofs.lemmas.Bool.{eqb-true, lt-leb, ne_eqb, cases_lt}
 use Rattle.fol_base.specs.Canonical.{bound_of}
 use Rattle.fol_base.proofs.TreeLemmas.{and_left}
 use Rattle.fol_base.specs.declared.clause.Literal.{Literal}
-use Rattle.kernel_steps.specs.Rules.{merge_literals, same_literal}
+use Rattle.fol_base.specs.Order.{equivalent_literals}
+use Rattle.kernel_steps.specs.Rules.{is_truth, merge_literals}
 use Rattle.fol_base.specs.Tree.{Tree, variable, application, Trees, no_trees, tree_then, trees_of}
 use Rattle.fol_base.specs.Instance.{substitution, instance, instances}
 use Rattle.fol_base.specs.Clause.{TreeLiteral, TreeClause, literal_instance, literal_size, clause_size, clause_variables}
 use Rattle.fol_base.specs.Literal.{literal_of, clause_of}
-use Rattle.kernel_steps.specs.Sides.{is_truth}
 use Rattle.kernel_steps.specs.Conclusion.{Verdict, verdict_of, verdict_if, line_clause, binds, bound_literals, bound_clause, IsAnswerTo}
 use Rattle.fol_base.specs.declared.clause.Clause.{Clause}
 use Rattle.kernel_steps.specs.declared.step.StepFault.{StepFault}
@@ -92,15 +92,15 @@ slice_get-item f xs i x h r = at_index f xs i x h ∙ ap (λ y. Some (f y)) (sym
 pub merge-made :
     (xs : List Literal) (i j : ℕ) (x y : Literal) (made : List TreeLiteral)
     → (i ≡ j → ⊥) → i < length xs → j < length xs → x ≡ get_or xs i x → y ≡ get_or xs j y
-    → same_literal (literal_of x) (literal_of y) ≡ true → made ≡ remove (map literal_of xs) j
+    → equivalent_literals (literal_of x) (literal_of y) ≡ true → made ≡ remove (map literal_of xs) j
     → Some made ≡ merge_literals (map literal_of xs) i j
 merge-made xs i j x y made differ hi hj rx ry same is =
     sym
-    (ap (λ b. if b then None else option_and_then (λ l. option_and_then (λ k. if same_literal l k then Some (remove ls j) else None) (slice_get ls j)) (slice_get ls i))
+    (ap (λ b. if b then None else option_and_then (λ l. option_and_then (λ k. if equivalent_literals l k then Some (remove ls j) else None) (slice_get ls j)) (slice_get ls i))
     (ne_eqb i j differ)
-    ∙ ap (option_and_then (λ l. option_and_then (λ k. if same_literal l k then Some (remove ls j) else None) (slice_get ls j)))
+    ∙ ap (option_and_then (λ l. option_and_then (λ k. if equivalent_literals l k then Some (remove ls j) else None) (slice_get ls j)))
     (slice_get-item literal_of xs i x hi rx)
-    ∙ ap (option_and_then (λ k. if same_literal (literal_of x) k then Some (remove ls j) else None))
+    ∙ ap (option_and_then (λ k. if equivalent_literals (literal_of x) k then Some (remove ls j) else None))
     (slice_get-item literal_of xs j y hj ry)
     ∙ ap (λ b. if b then Some (remove ls j) else None) same
     ∙ ap (λ ks. Some ks) (sym is))

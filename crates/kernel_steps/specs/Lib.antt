@@ -1,3 +1,3 @@
-pub mod Sides
 pub mod Rules
 pub mod Conclusion
+pub mod Derivation

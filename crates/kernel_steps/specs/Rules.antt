@@ -1,12 +1,17 @@
 -- The rules of the kernel on bound clauses: superposition, equality resolution and factoring, merging
 -- (Bachmair and Ganzinger 1994, without conditions of order). None: the condition of the rule fails.
-use mathlib.Core.Bool.{beq}
-use Rattle.std.specs.Prelude.{ℕ, Bool, not, ◌&&◌, ◌||◌, ◌==◌, List, ◌++◌, remove, Option, None, Some, option_and_then, option_map, slice_get, slice_set, if◌then◌else◌}
-use Rattle.fol_base.specs.Tree.{tree_eq}
+use Rattle.std.specs.Prelude.{ℕ, Bool, not, ◌&&◌, ◌==◌, List, ◌++◌, remove, Option, None, Some, option_and_then, option_map, slice_get, slice_set, if◌then◌else◌}
+use Rattle.fol_base.specs.Tree.{Tree, tree_eq}
 use Rattle.fol_base.specs.Place.{subterm, replaced}
 use Rattle.fol_base.specs.Clause.{TreeLiteral}
 use Rattle.fol_base.specs.declared.clause.Side.{Side}
-use Rattle.kernel_steps.specs.Sides.{side_of, other_side, with_side, is_truth}
+use Rattle.fol_base.specs.Interpretation.{true_tree}
+use Rattle.fol_base.specs.Order.{equivalent_literals}
+use Rattle.fol_base.specs.GroundInference.{side_of, other_side_of, with_side}
+
+-- whether a tree is `$true`
+abbrev pub is_truth : Tree → Bool
+is_truth t = tree_eq t true_tree
 
 -- The second literal, where its term at the place is the chosen side of the first, a positive equation, with the other side of
 -- the first there. `$true` is never chosen, so an atom is chosen by its left side alone, and equal terms are of one kind.
@@ -14,7 +19,7 @@ abbrev pub superposed : TreeLiteral → Side → TreeLiteral → Side → List �
 superposed from s into z place =
     option_and_then
     (λ u. if from.positive && (not (is_truth (side_of s from)) && tree_eq u (side_of s from))
-    then option_map (λ new. with_side z new into) (replaced place (side_of (other_side s) from) (side_of z into))
+    then option_map (λ new. with_side z new into) (replaced place (other_side_of s from) (side_of z into))
     else None)
     (subterm place (side_of z into))
 
@@ -32,17 +37,11 @@ abbrev pub refl_literals : List TreeLiteral → ℕ → Option (List TreeLiteral
 refl_literals ls i =
     option_and_then (λ l. if not l.positive && tree_eq l.left l.right then Some (remove ls i) else None) (slice_get ls i)
 
--- the same sign, and the same sides in either order
-abbrev pub same_literal : TreeLiteral → TreeLiteral → Bool
-same_literal l k =
-    beq l.positive k.positive
-    && ((tree_eq l.left k.left && tree_eq l.right k.right) || (tree_eq l.left k.right && tree_eq l.right k.left))
-
 -- of two different literals that are the same the second goes
 abbrev pub merge_literals : List TreeLiteral → ℕ → ℕ → Option (List TreeLiteral)
 merge_literals ls i j =
     if i == j
     then None
     else option_and_then
-    (λ l. option_and_then (λ k. if same_literal l k then Some (remove ls j) else None) (slice_get ls j))
+    (λ l. option_and_then (λ k. if equivalent_literals l k then Some (remove ls j) else None) (slice_get ls j))
     (slice_get ls i)

