@@ -1,2 +1,4 @@
 pub mod Resolution
+pub mod Entries
 pub mod Answer
+pub mod Search

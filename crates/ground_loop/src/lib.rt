@@ -2,7 +2,10 @@
 #![tactic(auto)]
 
 mod answer;
+mod derive;
+mod entry;
 mod prove;
+mod search;
 
 pub use answer::Ground;
 pub use prove::prove_ground;

@@ -6,18 +6,23 @@ ghost use Rattle.fol_base.specs.Literal.{clause_of};
 ghost use Rattle.ground_loop.specs.Answer.{IsGroundAnswer};
 
 use crate::answer::Ground;
-use fol_base::{Clauses, Mem, NoMemory};
+use crate::derive::derive;
+use crate::entry::Found;
+use crate::search::search;
+use fol_base::{Clauses, Mem};
 use std::alloc::Global;
 
 /// Resolves ground clauses without equality until the empty clause is derived, nothing is left to resolve, or
 /// `limit` inferences are counted.
-pub fn prove_ground(_alloc: Global, form: &Clauses, limit: u32) -> Mem<Ground>
+pub fn prove_ground(alloc: Global, form: &Clauses, limit: u32) -> Mem<Ground>
     requires ground { IsGroundForm (map clause_of form.now) }
     requires small { form_size (map clause_of form.now) ≤ 4000 }
     requires counted { 1 ≤ limit }
     ensures { IfOk result (IsGroundAnswer (map clause_of form.now) limit) }
 {
-    let _ = form;
-    let _ = limit;
-    Err(NoMemory)
+    match search(alloc, form, limit)? {
+        Found::Empty(atoms, entries) => Ok(Ground::Refuted(derive(alloc, form, &atoms, &entries)?)),
+        Found::Closed => Ok(Ground::Closed),
+        Found::Spent(count) => Ok(Ground::Spent(count)),
+    }
 }
