@@ -1,6 +1,8 @@
 -- Facts about trees and lists of trees.
-use Rattle.std.proofs.Common.{◌≡◌, ℕ, zero, suc, ◌+◌, ◌<◌, ◌≤◌, List, [], ◌∷◌, ◌++◌, Bool, true, false, ◌&&◌, ◌==◌, length, map, get_or, refl, ap, ◌∙◌, arith, eq-eqb}
+use Rattle.std.proofs.Common.{◌≡◌, ℕ, zero, suc, ◌+◌, ◌<◌, ◌≤◌, List, [], ◌∷◌, ◌++◌, Bool, true, false, ◌&&◌, ◌==◌, length, map, get_or, refl, ap, sym, ◌∙◌, arith, eq-eqb}
 use Rattle.std.proofs.lemmas.Bool.{eqb-true}
+use Rattle.std.proofs.Math.Dec.{eqb-suc-zero}
+use Rattle.fol_base.specs.GroundForm.{is_truth}
 use Rattle.fol_base.specs.Tree.{Tree, variable, application, Trees, no_trees, tree_then, trees_of, list_of, tree_size, trees_size, tree_eq, trees_eq}
 use Rattle.fol_base.specs.Instance.{Substitution, instance, instances}
 
@@ -83,3 +85,8 @@ mutual
       let first : t ≡ u = tree_eq-true t u (and_left (tree_eq t u) (trees_eq ts us) h) in
       let rest : ts ≡ us = trees_eq-true ts us (and_right (tree_eq t u) (trees_eq ts us) h) in
       cc
+
+-- an application is `$true` where its symbol is 0 and it has no arguments
+pub is_truth-application : (f : ℕ) (ts : List Tree) → is_truth (application f (trees_of ts)) ≡ ((f == 0) && (length ts == 0))
+is_truth-application f [] = refl
+is_truth-application f (t ∷ ts) = ap (λ b. (f == 0) && b) (sym (eqb-suc-zero (length ts)))

@@ -6,6 +6,10 @@ use Rattle.fol_base.specs.Clause.{TreeLiteral, TreeClause, clause_size}
 use Rattle.fol_base.specs.Ground.{are_ground}
 use Rattle.fol_base.specs.Interpretation.{true_tree}
 
+-- whether a tree is `$true`
+abbrev pub is_truth : Tree → Bool
+is_truth t = tree_eq t true_tree
+
 -- a ground term whose head isn't `$true`
 abbrev pub is_ground_atom : Tree → Bool
 is_ground_atom (variable v) = false
@@ -13,7 +17,7 @@ is_ground_atom (application f ts) = not (f == 0) && are_ground ts
 
 -- an atom on the left and `$true` on the right
 abbrev pub is_atom_literal : TreeLiteral → Bool
-is_atom_literal l = is_ground_atom l.left && tree_eq l.right true_tree
+is_atom_literal l = is_ground_atom l.left && is_truth l.right
 
 -- ground literals of predicates alone, and no names
 abbrev pub IsGroundClause : TreeClause → Type 0

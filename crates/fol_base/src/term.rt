@@ -2,6 +2,7 @@
 
 ghost use Rattle.std.specs.Prelude.{◌≡◌, ◌<◌, ◌++◌, [], ◌∷◌, length, map, IfOk, OnErr};
 ghost use Rattle.fol_base.specs.Term.{tree_of};
+ghost use Rattle.fol_base.specs.GroundForm.{is_truth};
 
 use plain_types::Mem;
 use std::alloc::Global;
@@ -45,6 +46,16 @@ impl Model for Terms {
 }
 
 impl Term {
+    /// Whether this is `$true`, the symbol 0 without arguments.
+    pub fn is_truth(&self) -> bool
+        ensures { result ≡ is_truth (tree_of self.now) }
+    {
+        match self {
+            Term::App(symbol, arguments) => *symbol == 0 && arguments.len() == 0,
+            Term::Var(_) => false,
+        }
+    }
+
     /// An equal term.
     #[cycle(copy)]
     pub fn copy(&self, alloc: Global) -> Mem<Term>

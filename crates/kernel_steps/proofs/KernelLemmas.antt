@@ -1,13 +1,12 @@
 -- Facts about the rules of the kernel.
 use Rattle.std.proofs.Common.{◌≡◌, ℕ, zero, suc, ◌-◌, ◌^◌, ◌<◌, min, true, ◌&&◌, ◌==◌, List, [], ◌∷◌, length, map, get_or, refl, ap, sym, ◌∙◌, subst, arith, lit<, inl, inr, leb, Option, None, Some, Result, Ok, Err, IfOk}
 use Rattle.std.specs.Prelude.{slice_get, remove, option_and_then, sum_by, if◌then◌else◌}
-use Rattle.std.proofs.Math.Dec.{eqb-suc-zero}
 use Rattle.std.proofs.lemmas.Bool.{eqb-true, lt-leb, ne_eqb, cases_lt}
 use Rattle.fol_base.specs.Canonical.{bound_of}
 use Rattle.fol_base.proofs.TreeLemmas.{and_left}
 use Rattle.fol_base.specs.declared.clause.Literal.{Literal}
 use Rattle.fol_base.specs.Order.{equivalent_literals}
-use Rattle.kernel_steps.specs.Rules.{is_truth, merge_literals}
+use Rattle.kernel_steps.specs.Rules.{merge_literals}
 use Rattle.fol_base.specs.Tree.{Tree, variable, application, Trees, no_trees, tree_then, trees_of}
 use Rattle.fol_base.specs.Instance.{substitution, instance, instances}
 use Rattle.fol_base.specs.Clause.{TreeLiteral, TreeClause, literal_instance, literal_size, clause_size, clause_variables}
@@ -16,11 +15,6 @@ use Rattle.kernel_steps.specs.Conclusion.{Verdict, verdict_of, verdict_if, line_
 use Rattle.fol_base.specs.declared.clause.Clause.{Clause}
 use Rattle.kernel_steps.specs.declared.step.StepFault.{StepFault}
 use Rattle.kernel_steps.specs.declared.step.Line.{Line}
-
--- an application is `$true` where its symbol is 0 and it has no arguments
-pub is_truth-application : (f : ℕ) (ts : List Tree) → is_truth (application f (trees_of ts)) ≡ ((f == 0) && (length ts == 0))
-is_truth-application f [] = refl
-is_truth-application f (t ∷ ts) = ap (λ b. (f == 0) && b) (sym (eqb-suc-zero (length ts)))
 
 -- the empty binding changes nothing
 mutual

@@ -12,7 +12,8 @@ use Rattle.kernel_steps.specs.declared.step.Step.TheVariants.{Para, Refl, Merge}
 use Rattle.kernel_steps.specs.declared.step.Line.{Line}
 use Rattle.kernel_steps.specs.declared.step.StepFault.{StepFault}
 use Rattle.kernel_steps.specs.declared.step.StepFault.TheVariants.{Binding, Rule, NoMemory}
-use Rattle.kernel_steps.specs.Rules.{is_truth, para_literals, refl_literals, merge_literals}
+use Rattle.fol_base.specs.GroundForm.{is_truth}
+use Rattle.kernel_steps.specs.Rules.{para_literals, refl_literals, merge_literals}
 
 abbrev pub empty_clause : TreeClause
 empty_clause = record { literals = []; names = [] }

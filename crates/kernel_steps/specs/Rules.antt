@@ -5,13 +5,9 @@ use Rattle.fol_base.specs.Tree.{Tree, tree_eq}
 use Rattle.fol_base.specs.Place.{subterm, replaced}
 use Rattle.fol_base.specs.Clause.{TreeLiteral}
 use Rattle.fol_base.specs.declared.clause.Side.{Side}
-use Rattle.fol_base.specs.Interpretation.{true_tree}
+use Rattle.fol_base.specs.GroundForm.{is_truth}
 use Rattle.fol_base.specs.Order.{equivalent_literals}
 use Rattle.fol_base.specs.GroundInference.{side_of, other_side_of, with_side}
-
--- whether a tree is `$true`
-abbrev pub is_truth : Tree → Bool
-is_truth t = tree_eq t true_tree
 
 -- The second literal, where its term at the place is the chosen side of the first, a positive equation, with the other side of
 -- the first there. `$true` is never chosen, so an atom is chosen by its left side alone, and equal terms are of one kind.

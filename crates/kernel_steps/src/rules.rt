@@ -6,7 +6,7 @@ ghost use Rattle.fol_base.specs.Term.{tree_of};
 ghost use Rattle.fol_base.specs.Literal.{literal_of};
 ghost use Rattle.fol_base.specs.GroundInference.{side_of, other_side_of, with_side};
 ghost use Rattle.fol_base.specs.Order.{equivalent_literals};
-ghost use Rattle.kernel_steps.specs.Rules.{is_truth, superposed, para_literals, refl_literals, merge_literals};
+ghost use Rattle.kernel_steps.specs.Rules.{superposed, para_literals, refl_literals, merge_literals};
 
 use fol_base::{
     Literal, Literals, Mem, Position, Side, Term, at, push_literal_copies, replace_at, same_term,
@@ -30,16 +30,6 @@ fn other_side(literal: &Literal, side: Side) -> &Term
     match side {
         Side::Left => &literal.right,
         Side::Right => &literal.left,
-    }
-}
-
-/// Whether a term is `$true`.
-fn is_true_constant(term: &Term) -> bool
-    ensures { result ≡ is_truth (tree_of term.now) }
-{
-    match term {
-        Term::App(symbol, arguments) => *symbol == 0 && arguments.len() == 0,
-        Term::Var(_) => false,
     }
 }
 
@@ -86,7 +76,7 @@ fn superpose(
     match at(host, place) {
         None => Ok(None),
         Some(found) => {
-            if !(from.positive && !is_true_constant(chosen) && same_term(found, chosen)) {
+            if !(from.positive && !chosen.is_truth() && same_term(found, chosen)) {
                 return Ok(None);
             }
             match replace_at(alloc, host, place, other_side(from, from_side))? {

@@ -1,8 +1,8 @@
 use Rattle.std.proofs.Common.{◌&&◌, ◌==◌, length, ap, sym, ◌∙◌}
 use Rattle.fol_base.specs.Term.{tree_of}
-use Rattle.kernel_steps.specs.Rules.{is_truth}
-use Rattle.kernel_steps.proofs.KernelLemmas.{is_truth-application}
-use Rattle.kernel_steps.proofs.rules.is_true_constant.Goals as goal
+use Rattle.fol_base.specs.GroundForm.{is_truth}
+use Rattle.fol_base.proofs.TreeLemmas.{is_truth-application}
+use Rattle.fol_base.proofs.term.Term.is_truth.Goals as goal
 
 pub returns-then-symbol-eq0 : goal.returns-then-symbol-eq0
 returns-then-symbol-eq0 c =

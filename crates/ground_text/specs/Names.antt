@@ -1,0 +1,51 @@
+-- How names are printed, and the names that a report shows of a file.
+use Rattle.std.specs.Prelude.{ℕ, Bool, true, false, not, ◌&&◌, ◌||◌, ◌==◌, nat_le, List, [], ◌∷◌, ◌++◌, map, flat_map, if◌then◌else◌, codes}
+use Rattle.std.specs.List.{list_all}
+
+-- a small letter
+abbrev pub is_small : ℕ → Bool
+is_small b = nat_le 97 b && nat_le b 122
+
+-- a letter, a digit or an underscore
+abbrev pub is_letter_or_digit : ℕ → Bool
+is_letter_or_digit b = is_small b || (nat_le 65 b && nat_le b 90 || (nat_le 48 b && nat_le b 57 || b == 95))
+
+-- a small letter, and then letters, digits and underscores
+abbrev pub is_lower_word : List ℕ → Bool
+is_lower_word [] = false
+is_lower_word (b ∷ bs) = is_small b && list_all is_letter_or_digit bs
+
+-- between quotes, a quote and a backslash stand behind a backslash
+abbrev pub escaped_byte : ℕ → List ℕ
+escaped_byte b = if b == 39 || b == 92 then (92 ∷ b ∷ []) else (b ∷ [])
+
+-- bare where it is a lower word, else quoted
+abbrev pub name_text : List ℕ → List ℕ
+name_text name = if is_lower_word name then name else (39 ∷ flat_map escaped_byte name) ++ 39 ∷ []
+
+-- a byte outside 32 to 126 is shown as a question mark
+abbrev pub shown_byte : ℕ → ℕ
+shown_byte b = if nat_le 32 b && nat_le b 126 then b else 63
+
+abbrev pub shown : List ℕ → List ℕ
+shown bytes = map shown_byte bytes
+
+-- what stands behind the last slash
+abbrev pub has_slash : List ℕ → Bool
+has_slash [] = false
+has_slash (b ∷ bs) = b == 47 || has_slash bs
+
+abbrev pub after_last_slash : List ℕ → List ℕ
+after_last_slash [] = []
+after_last_slash (b ∷ bs) = if has_slash (b ∷ bs) then after_last_slash bs else b ∷ bs
+
+-- without a final `.p`
+abbrev pub without_suffix : List ℕ → List ℕ
+without_suffix [] = []
+without_suffix (b ∷ []) = b ∷ []
+without_suffix (b ∷ c ∷ []) = if b == 46 && c == 112 then [] else b ∷ c ∷ []
+without_suffix (b ∷ c ∷ d ∷ bs) = b ∷ without_suffix (c ∷ d ∷ bs)
+
+-- the name of the problem in a file
+abbrev pub problem_name : List ℕ → List ℕ
+problem_name file = shown (without_suffix (after_last_slash file))

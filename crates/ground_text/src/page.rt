@@ -1,0 +1,59 @@
+// A text in the making.
+
+ghost use Rattle.std.specs.Prelude.{◌≡◌, [], ◌++◌, IfOk};
+ghost use Rattle.std.specs.Fmt.{decimal};
+
+use fol_base::{Mem, Text};
+use std::alloc::Global;
+use std::marker::Model;
+
+/// A text that grows at its end, which contracts see as its bytes.
+#[derive(Drop)]
+pub struct Page {
+    alloc: Global,
+    bytes: Vec<u8>,
+}
+
+impl Model for Page {
+    ghost use Rattle.std.specs.Prelude.{List, ℕ};
+
+    ghost Value = { List ℕ };
+
+    ghost view = { λ p. p.bytes.items };
+}
+
+impl Page {
+    /// The empty text. It takes no memory.
+    pub fn new(alloc: Global) -> Page
+        ensures { result ≡ [] }
+    {
+        Page {
+            alloc,
+            bytes: Vec::new(alloc),
+        }
+    }
+
+    /// Adds bytes at the end.
+    pub fn bytes(&mut self, bytes: &[u8]) -> Mem<()>
+        ensures { IfOk result (λ _. self.new ≡ self.old ++ bytes.now) }
+    {
+        self.bytes.extend_from_slice(bytes)?;
+        Ok(())
+    }
+
+    /// Adds a number in decimal digits.
+    pub fn number(&mut self, number: u64) -> Mem<()>
+        ensures { IfOk result (λ _. self.new ≡ self.old ++ decimal number) }
+    {
+        let digits = number.to_string(self.alloc)?;
+        self.bytes.extend_from_slice(digits.as_bytes())?;
+        Ok(())
+    }
+
+    /// The text.
+    pub fn into_text(self) -> Text
+        ensures { result ≡ self }
+    {
+        Text::from_vec(self.bytes)
+    }
+}
