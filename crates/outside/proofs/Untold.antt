@@ -1,5 +1,5 @@
 -- What holds of each answer where nothing is told.
-use Rattle.std.proofs.Common.{◌≡◌, ℕ, List, Option, None, refl}
+use Rattle.std.proofs.Common.{◌≡◌, ℕ, List, None, refl}
 use Rattle.std.specs.Prelude.{Result, Ok, Err, IfOk, OnErr}
 use Rattle.outside.specs.Library.{failed_after}
 use Rattle.outside.specs.declared.fault.LoadFault.{LoadFault}

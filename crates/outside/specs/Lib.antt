@@ -3,6 +3,7 @@ pub mod Library
 pub mod MemLibrary
 pub mod MemSink
 pub mod Memory
+pub mod Messages
 pub mod Read
 pub mod Real
 pub mod Sink

@@ -1,5 +1,5 @@
 -- What a sink over memory shows of itself, and how it answers a write.
-use Rattle.std.specs.Prelude.{ℕ, ◌-◌, ◌||◌, ◌==◌, Bool, List, nat_eq, min, length, Result, Ok, Err, if◌then◌else◌}
+use Rattle.std.specs.Prelude.{ℕ, ◌||◌, ◌==◌, List, nat_eq, min, Result, Ok, Err, if◌then◌else◌}
 use Rattle.std.specs.List.{list_any}
 use Rattle.outside.specs.declared.fault.SinkFault.{SinkFault}
 use Rattle.outside.specs.declared.fault.SinkFault.TheVariants.{Failed}

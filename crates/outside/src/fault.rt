@@ -1,5 +1,5 @@
 // What keeps a load or a write from being done.
-ghost use Rattle.std.specs.Prelude.{◌≡◌};
+ghost use Rattle.std.specs.Prelude.{◌≡◌, Some};
 ghost use Rattle.outside.specs.declared.fault.LoadFault.TheVariants.{NoMemory as no_memory};
 
 use plain_types::NoMemory;
@@ -26,6 +26,10 @@ pub enum SinkFault {
 }
 
 impl fmt::Display for LoadFault {
+    ghost use Rattle.outside.specs.Messages.{load_fault_text};
+
+    ghost output = { λ fault. Some (load_fault_text fault) };
+
     fn fmt<W: fmt::Write>(&self, f: &mut fmt::Formatter<W>) -> fmt::Result {
         match self {
             LoadFault::Failed => write!(f, "the load failed"),
@@ -36,6 +40,10 @@ impl fmt::Display for LoadFault {
 }
 
 impl fmt::Display for SinkFault {
+    ghost use Rattle.outside.specs.Messages.{sink_fault_text};
+
+    ghost output = { λ fault. Some (sink_fault_text fault) };
+
     fn fmt<W: fmt::Write>(&self, f: &mut fmt::Formatter<W>) -> fmt::Result {
         match self {
             SinkFault::Failed => write!(f, "the write failed"),

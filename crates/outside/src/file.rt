@@ -2,7 +2,7 @@
 ghost use Rattle.std.specs.Prelude.{◌≡◌, ◌<◌, ◌≤◌, None, refl, IfOk, IsErrOf, vec_len};
 ghost use Rattle.outside.specs.declared.fault.LoadFault.TheVariants.{Failed, TooLong};
 ghost use Rattle.outside.specs.Faults.{Rose};
-ghost use Rattle.outside.specs.Read.{ReadsFront};
+ghost use Rattle.outside.specs.Read.{ReadsFront, IsReadFrom};
 
 use crate::fault::LoadFault;
 use crate::library::Library;
@@ -55,6 +55,8 @@ impl<R: Files> Library for FileLibrary<'_, R> {
 
     fn load(&mut self, alloc: Global, name: &str, limit: usize) -> Result<Vec<u8>, LoadFault>
         ensures count { file_faults self.new ≡ faults_after result (file_faults self.old) }
+        // What is given was read from a file, to its end.
+        ensures read { IfOk result (λ bytes. IsReadFrom R.File.remaining limit bytes.items) }
         // The clauses of the trait that are not of what is told.
         ensures within { IfOk result (λ bytes. vec_len bytes ≤ limit) }
         ensures too_long { IsErrOf result TooLong → limit < file_found self.new }
@@ -80,7 +82,9 @@ impl<R: Files> Library for FileLibrary<'_, R> {
 }
 
 // A file's bytes, or one more than `limit` of them where there are more.
-fn read_file<R: Files>(rt: &R, alloc: Global, path: &str, limit: usize) -> io::Result<Vec<u8>> {
+fn read_file<R: Files>(rt: &R, alloc: Global, path: &str, limit: usize) -> io::Result<Vec<u8>>
+    ensures { IfOk result (λ bytes. IsReadFrom R.File.remaining limit bytes.items) }
+{
     read_front(alloc, &mut fs::open(rt, path)?, limit)
 }
 
