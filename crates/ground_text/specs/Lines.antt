@@ -39,11 +39,15 @@ abbrev pub side_text : Side → List ℕ
 side_text Left = codes "left"
 side_text Right = codes "right"
 
+-- texts with a comma before each
+abbrev pub more_listed : List (List ℕ) → List ℕ
+more_listed [] = []
+more_listed (t ∷ ts) = codes "," ++ t ++ more_listed ts
+
 -- texts with a comma between two of them
 abbrev pub listed : List (List ℕ) → List ℕ
 listed [] = []
-listed (t ∷ []) = t
-listed (t ∷ u ∷ us) = t ++ codes "," ++ listed (u ∷ us)
+listed (t ∷ ts) = t ++ more_listed ts
 
 abbrev pub bracketed : List (List ℕ) → List ℕ
 bracketed ts = codes "[" ++ listed ts ++ codes "]"

@@ -1,0 +1,3 @@
+mod Delivered
+mod Front
+mod Untold

@@ -1,0 +1,30 @@
+-- What a sink has taken.
+use Rattle.std.specs.Prelude.{◌≡◌, ◌<◌, ◌+◌, ℕ, List, ◌++◌, length, take, Option, Some, None, option_map, refl}
+use Rattle.std.proofs.Common.{ap, sym, ◌∙◌, arith}
+use Rattle.std.proofs.lemmas.List.{append_assoc, length-append, take-append-le}
+use Rattle.std.proofs.Math.Seq.{take-append-add}
+
+-- what was taken before, and then these bytes; untold where it was untold
+abbrev pub with_bytes : Option (List ℕ) → List ℕ → Option (List ℕ)
+with_bytes taken bytes = option_map (λ before. before ++ bytes) taken
+
+-- of the text a prefix was taken, and not the whole
+abbrev pub HasPrefixAfter : Option (List ℕ) → Option (List ℕ) → List ℕ → Type 0
+HasPrefixAfter before now text = (n : ℕ) × (n < length text) × (now ≡ with_bytes before (take n text))
+
+-- two texts, one after the other, are one
+pub with_bytes_twice : (taken : Option (List ℕ)) (a b : List ℕ) → with_bytes (with_bytes taken a) b ≡ with_bytes taken (a ++ b)
+with_bytes_twice None a b = refl
+with_bytes_twice (Some before) a b = ap (λ (xs : List ℕ). Some xs) (append_assoc before a b)
+
+-- where the first of two texts failed, a prefix of both was taken
+pub prefix_of_first : (before now : Option (List ℕ)) (a b : List ℕ) → HasPrefixAfter before now a → HasPrefixAfter before now (a ++ b)
+prefix_of_first before now a b h =
+    let len : length (a ++ b) ≡ length a + length b = length-append a b in
+    (h.0, omega (arith, h.1), h.2 ∙ ap (with_bytes before) (sym (take-append-le h.0 a b (omega (arith, h.1)))))
+
+-- where the second of two texts failed, a prefix of both was taken
+pub prefix_after_whole : (before now : Option (List ℕ)) (a b : List ℕ) → HasPrefixAfter (with_bytes before a) now b → HasPrefixAfter before now (a ++ b)
+prefix_after_whole before now a b h =
+    let len : length (a ++ b) ≡ length a + length b = length-append a b in
+    (length a + h.0, omega (arith, h.1), h.2 ∙ with_bytes_twice before a (take h.0 b) ∙ ap (with_bytes before) (sym (take-append-add a b h.0)))

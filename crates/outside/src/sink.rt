@@ -1,0 +1,29 @@
+// Sinks: what takes the bytes of a report.
+ghost use Rattle.std.specs.Prelude.{◌≡◌, ◌<◌, ◌≤◌, ℕ, List, Option, length, take, IfOk, OnErr};
+ghost use Rattle.outside.specs.Faults.{Rose};
+ghost use Rattle.outside.specs.Sink.{with_bytes};
+
+use crate::fault::SinkFault;
+
+/// Where bytes are written to.
+pub trait Sink {
+    /// The bytes taken so far, where the sink tells.
+    ghost taken: { Self → Option (List ℕ) };
+
+    /// How often the sink has failed. Where it is kept in a number, it stops at the number's end.
+    ghost faults: { Self → ℕ };
+
+    /// Takes at least the first byte, and says how many it took.
+    ///
+    /// `Failed` comes only where the sink failed in this call, or its count stands at the end, and
+    /// then nothing was taken.
+    fn write(&mut self, bytes: &[u8]) -> Result<usize, SinkFault>
+        requires { 0 < length bytes.now }
+        ensures some { IfOk result (λ n. 0 < n) }
+        ensures within { IfOk result (λ n. n ≤ length bytes.now) }
+        ensures taken { IfOk result (λ n.
+            taken self.new ≡ with_bytes (taken self.old) (take n bytes.now)) }
+        ensures nothing { OnErr result (taken self.new ≡ taken self.old) }
+        ensures later { faults self.old ≤ faults self.new }
+        ensures cause { OnErr result (Rose (faults self.old) (faults self.new)) };
+}
