@@ -1,5 +1,5 @@
 -- How the lines of a derivation are printed.
-use Rattle.std.specs.Prelude.{ℕ, zero, suc, ◌+◌, Bool, true, false, ◌==◌, List, [], ◌∷◌, ◌++◌, map, if◌then◌else◌, codes}
+use Rattle.std.specs.Prelude.{ℕ, zero, suc, ◌+◌, Bool, true, false, ◌==◌, List, [], ◌∷◌, ◌++◌, map, Option, None, Some, unwrap_or, slice_get, if◌then◌else◌, codes}
 use Rattle.std.specs.Fmt.{decimal}
 use Rattle.fol_base.specs.Tree.{Tree}
 use Rattle.fol_base.specs.Clause.{TreeLiteral, TreeClause}
@@ -9,28 +9,38 @@ use Rattle.fol_base.specs.declared.clause.Side.TheVariants.{Left, Right}
 use Rattle.kernel_steps.specs.declared.step.Step.{Step}
 use Rattle.kernel_steps.specs.declared.step.Step.TheVariants.{Input, Negate, Clausify, Para, Refl, Factor, Merge, Component, Split, Chain}
 use Rattle.kernel_steps.specs.declared.step.Line.{Line}
-use Rattle.ground_text.specs.Names.{name_text}
-use Rattle.ground_text.specs.Terms.{SymbolNames, term_text, literals_text}
+use Rattle.tptp_reader.specs.declared.problem.GroundRole.{GroundRole}
+use Rattle.tptp_reader.specs.declared.problem.GroundRole.TheVariants.{Axiom, NegatedConjecture}
+use Rattle.tptp_reader.specs.declared.problem.GroundProblem.{GroundProblem}
+use Rattle.ground_text.specs.Names.{name_text, shown}
+use Rattle.ground_text.specs.Terms.{SymbolNames, name_at, symbol_names, term_text, literals_text}
 
--- what is printed of a formula of the problem
-pub record Formula : Type 0 where
-  pub name : List ℕ
-  pub role : List ℕ
-  pub literals : List TreeLiteral
-
--- what a derivation is printed over: its file, the formulas of its problem and the names of its symbols
+-- what a derivation is printed over: its file, the formulas of its problem by name, role and clause, and the names of the symbols
 pub record Source : Type 0 where
   pub file : List ℕ
-  pub formulas : List Formula
+  pub names : List (List ℕ)
+  pub roles : List GroundRole
+  pub clauses : List TreeClause
   pub symbols : SymbolNames
 
-abbrev pub no_formula : Formula
-no_formula = record { name = []; role = []; literals = [] }
+abbrev pub source_of : List ℕ → GroundProblem → Source
+source_of file p =
+    record { file = shown file; names = p.names; roles = p.roles; clauses = map clause_of p.clauses; symbols = symbol_names p.symbols }
 
-abbrev pub formula_at : List Formula → ℕ → Formula
-formula_at [] n = no_formula
-formula_at (f ∷ fs) zero = f
-formula_at (f ∷ fs) (suc n) = formula_at fs n
+abbrev pub role_word : GroundRole → List ℕ
+role_word Axiom = codes "axiom"
+role_word NegatedConjecture = codes "negated_conjecture"
+
+-- of the formula with that number, empty where there is none
+abbrev pub role_text : Option GroundRole → List ℕ
+role_text None = []
+role_text (Some role) = role_word role
+
+abbrev pub role_at : List GroundRole → ℕ → List ℕ
+role_at roles n = role_text (slice_get roles n)
+
+abbrev pub literals_at : List TreeClause → ℕ → List TreeLiteral
+literals_at clauses n = unwrap_or (slice_get (map (λ (c : TreeClause). c.literals) clauses) n) []
 
 abbrev pub line_name : ℕ → List ℕ
 line_name n = codes "c" ++ decimal n
@@ -59,10 +69,6 @@ bind_text names ts = codes "bind(" ++ bracketed (map (term_text names) ts) ++ co
 abbrev pub chosen_text : ℕ → Side → List ℕ
 chosen_text i s = decimal i ++ codes "," ++ side_text s
 
-abbrev pub inference_text : List ℕ → List ℕ → List ℕ → List (List ℕ) → List ℕ
-inference_text rule status items parents =
-    codes "inference(" ++ rule ++ codes ",[status(" ++ status ++ codes ")," ++ items ++ codes "]," ++ bracketed parents ++ codes ")"
-
 -- whether a line is the input line of that formula
 abbrev pub is_input : ℕ → Step → Bool
 is_input place (Input p) = p == place
@@ -74,50 +80,91 @@ input_line [] place = 0
 input_line (l ∷ ls) place = if is_input place l.step then 0 else suc (input_line ls place)
 
 -- a formula of the problem, with its file and its name there
+abbrev pub formula_head : Source → ℕ → ℕ → List ℕ
+formula_head source n place =
+    codes "cnf(" ++ line_name n ++ codes "," ++ role_at source.roles place ++ codes ","
+    ++ literals_text source.symbols (literals_at source.clauses place)
+
+abbrev pub formula_tail : Source → ℕ → List ℕ
+formula_tail source place =
+    codes ",file(" ++ name_text source.file ++ codes "," ++ name_text (name_at source.names place) ++ codes ")).\n"
+
 abbrev pub input_text : Source → ℕ → ℕ → List ℕ
-input_text source n place =
-    codes "cnf(" ++ line_name n ++ codes "," ++ (formula_at source.formulas place).role ++ codes ","
-    ++ literals_text source.symbols (formula_at source.formulas place).literals
-    ++ codes ",file(" ++ name_text source.file ++ codes "," ++ (formula_at source.formulas place).name ++ codes "))."
+input_text source n place = formula_head source n place ++ formula_tail source place
+
+-- the parents, and the end of the inference
+abbrev pub one_parent_text : ℕ → List ℕ
+one_parent_text a = codes "],[" ++ line_name a ++ codes "])"
+
+abbrev pub two_parents_text : ℕ → ℕ → List ℕ
+two_parents_text a b = codes "],[" ++ line_name a ++ codes "," ++ line_name b ++ codes "])"
+
+abbrev pub clausify_text : ℕ → ℕ → List ℕ
+clausify_text i parent = codes "inference(clausify,[status(esa),index(" ++ decimal i ++ codes ")" ++ one_parent_text parent
+
+abbrev pub from_text : ℕ → Side → List ℕ
+from_text i s = codes "from(" ++ chosen_text i s ++ codes "),"
+
+abbrev pub into_text : ℕ → Side → List ℕ → List ℕ
+into_text j z place = codes "into(" ++ chosen_text j z ++ codes "," ++ bracketed (map decimal place) ++ codes "),"
+
+-- which literal goes into which place of which
+abbrev pub spots_text : ℕ → Side → ℕ → Side → List ℕ → List ℕ
+spots_text i s j z place = from_text i s ++ into_text j z place
+
+abbrev pub binds_text : SymbolNames → List Tree → List Tree → List ℕ
+binds_text names first second = bind_text names first ++ codes "," ++ bind_text names second
+
+-- the one binding, and the one parent
+abbrev pub bound_parent_text : SymbolNames → List Tree → ℕ → List ℕ
+bound_parent_text names bind a = bind_text names bind ++ one_parent_text a
+
+abbrev pub refl_text : SymbolNames → ℕ → ℕ → List Tree → List ℕ
+refl_text names a i bind =
+    codes "inference(refl,[status(thm),lit(" ++ decimal i ++ codes ")," ++ bound_parent_text names bind a
+
+abbrev pub two_literals_text : ℕ → ℕ → List ℕ
+two_literals_text i j = codes "lit(" ++ decimal i ++ codes "),lit(" ++ decimal j ++ codes "),"
+
+abbrev pub merge_text : SymbolNames → ℕ → ℕ → ℕ → List Tree → List ℕ
+merge_text names a i j bind =
+    codes "inference(merge,[status(thm)," ++ two_literals_text i j ++ bound_parent_text names bind a
+
+-- the inference of a step, for those that are built; a clausify line names the input line of its formula
+abbrev pub para_text : SymbolNames → ℕ → ℕ → ℕ → Side → ℕ → Side → List ℕ → List Tree → List Tree → List ℕ
+para_text names a b i s j z place first second =
+    codes "inference(para,[status(thm)," ++ spots_text i s j z place ++ binds_text names first second ++ two_parents_text a b
+
+abbrev pub step_text : SymbolNames → List Line → Step → List ℕ
+step_text names lines (Clausify i) = clausify_text i (input_line lines i)
+step_text names lines (Para a b i s j z place first second) = para_text names a b i s j z place first second
+step_text names lines (Refl a i bind) = refl_text names a i bind
+step_text names lines (Merge a i j bind) = merge_text names a i j bind
+step_text names lines _ = []
 
 -- a clause, with the inference that gave it
-abbrev pub clause_text : Source → ℕ → TreeClause → List ℕ → List ℕ
-clause_text source n c inference =
-    codes "cnf(" ++ line_name n ++ codes ",plain," ++ literals_text source.symbols c.literals ++ codes ","
-    ++ inference ++ codes ")."
+abbrev pub clause_head : Source → ℕ → TreeClause → List ℕ
+clause_head source n c = codes "cnf(" ++ line_name n ++ codes ",plain," ++ literals_text source.symbols c.literals ++ codes ","
 
--- the inference of a step, for those that are built
-abbrev pub step_text : Source → List Line → Step → List ℕ
-step_text source lines (Clausify i) =
-    inference_text (codes "clausify") (codes "esa") (codes "index(" ++ decimal i ++ codes ")")
-      (line_name (input_line lines i) ∷ [])
-step_text source lines (Para a b i s j z place first second) =
-    inference_text (codes "para") (codes "thm")
-      (codes "from(" ++ chosen_text i s ++ codes "),into(" ++ chosen_text j z ++ codes ","
-        ++ bracketed (map decimal place) ++ codes ")," ++ bind_text source.symbols first ++ codes ","
-        ++ bind_text source.symbols second)
-      (line_name a ∷ line_name b ∷ [])
-step_text source lines (Refl a i bind) =
-    inference_text (codes "refl") (codes "thm")
-      (codes "lit(" ++ decimal i ++ codes ")," ++ bind_text source.symbols bind) (line_name a ∷ [])
-step_text source lines (Merge a i j bind) =
-    inference_text (codes "merge") (codes "thm")
-      (codes "lit(" ++ decimal i ++ codes "),lit(" ++ decimal j ++ codes ")," ++ bind_text source.symbols bind)
-      (line_name a ∷ [])
-step_text source lines _ = []
+abbrev pub clause_text : Source → List Line → ℕ → Step → TreeClause → List ℕ
+clause_text source lines n step c = clause_head source n c ++ step_text source.symbols lines step ++ codes ").\n"
 
 abbrev pub line_text_of : Source → List Line → ℕ → Step → TreeClause → List ℕ
 line_text_of source lines n (Input place) c = input_text source n place
 line_text_of source lines n (Negate place) c = []
-line_text_of source lines n step c = clause_text source n c (step_text source lines step)
+line_text_of source lines n step c = clause_text source lines n step c
 
 abbrev pub line_text : Source → List Line → ℕ → Line → List ℕ
 line_text source lines n line = line_text_of source lines n line.step (clause_of line.clause)
 
--- the lines from one on, each ended by a newline
+-- the lines from one on; each ends with a newline
 abbrev pub lines_text_from : Source → List Line → ℕ → List Line → List ℕ
 lines_text_from source lines n [] = []
-lines_text_from source lines n (l ∷ ls) = line_text source lines n l ++ 10 ∷ [] ++ lines_text_from source lines (suc n) ls
+lines_text_from source lines n (l ∷ ls) = line_text source lines n l ++ lines_text_from source lines (suc n) ls
 
 abbrev pub lines_text : Source → List Line → List ℕ
 lines_text source lines = lines_text_from source lines 0 lines
+
+abbrev pub IsPara : Step → Type 0
+IsPara (Para a b i s j z place first second) = Unit {0}
+IsPara _ = ⊥

@@ -1,5 +1,5 @@
 -- How terms, literals and clauses are printed.
-use Rattle.std.specs.Prelude.{ℕ, zero, suc, Bool, not, ◌==◌, List, [], ◌∷◌, ◌++◌, if◌then◌else◌, codes}
+use Rattle.std.specs.Prelude.{ℕ, Bool, ◌==◌, List, [], ◌∷◌, ◌++◌, map, unwrap_or, slice_get, if◌then◌else◌, codes}
 use Rattle.std.specs.Fmt.{decimal}
 use Rattle.fol_base.specs.Tree.{Tree, variable, application, Trees, no_trees, tree_then, tree_eq}
 use Rattle.fol_base.specs.Interpretation.{true_tree}
@@ -13,9 +13,7 @@ SymbolNames = List (List ℕ)
 
 -- the name with that number, empty past the end
 abbrev pub name_at : SymbolNames → ℕ → List ℕ
-name_at [] f = []
-name_at (n ∷ ns) zero = n
-name_at (n ∷ ns) (suc f) = name_at ns f
+name_at names f = unwrap_or (slice_get names f) []
 
 abbrev pub symbol_text : SymbolNames → ℕ → List ℕ
 symbol_text names f = if f == 0 then codes "$true" else name_text (name_at names f)
@@ -60,5 +58,4 @@ literals_text names (l ∷ ls) = literal_text names l ++ more_literals_text name
 
 -- the names of the symbols of a problem
 abbrev pub symbol_names : List GroundSymbol → SymbolNames
-symbol_names [] = []
-symbol_names (s ∷ ss) = s.name ∷ symbol_names ss
+symbol_names symbols = map (λ (s : GroundSymbol). s.name) symbols

@@ -1,10 +1,12 @@
 // How ground problems, their clauses and their derivations are printed.
 #![tactic(auto)]
 
+mod lines;
 mod names;
 mod page;
 mod terms;
 
+pub use lines::{Source, push_derivation};
 pub use names::{is_lower_word, push_name, push_shown};
 pub use page::Page;
 pub use terms::{push_literals, push_term};

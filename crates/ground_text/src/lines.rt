@@ -4,13 +4,14 @@ ghost use Rattle.std.specs.Prelude.{◌≡◌, ◌≤◌, ◌<◌, ◌^◌, ◌+
 ghost use Rattle.std.specs.Fmt.{decimal};
 ghost use Rattle.fol_base.specs.Term.{tree_of};
 ghost use Rattle.fol_base.specs.Literal.{literal_of, clause_of};
-ghost use Rattle.ground_text.specs.Terms.{symbol_names, term_text};
-ghost use Rattle.ground_text.specs.Lines.{source_of, line_name, side_text, bracketed, listed, more_listed, bind_text, chosen_text, inference_text, input_line, input_text, clause_text, step_text, line_text, lines_text_from, lines_text};
+ghost use Rattle.ground_text.specs.Names.{name_text};
+ghost use Rattle.ground_text.specs.Terms.{name_at, symbol_names, term_text, literals_text};
+ghost use Rattle.ground_text.specs.Lines.{source_of, is_input, IsPara, line_text_of, role_at, literals_at, line_name, side_text, bracketed, more_listed, bind_text, chosen_text, formula_head, formula_tail, input_text, from_text, into_text, two_literals_text, clause_head, clause_text, para_text, one_parent_text, two_parents_text, clausify_text, spots_text, binds_text, refl_text, merge_text, bound_parent_text, step_text, line_text, lines_text_from, lines_text, input_line};
 
-use crate::names::push_name;
+use crate::names::{push_file, push_name};
 use crate::page::Page;
 use crate::terms::{push_literals, push_term};
-use fol_base::{Clause, Mem, Side, Term};
+use fol_base::{Clause, Mem, Side, Term, Text};
 use kernel_steps::{Derivation, Line, Step};
 use std::alloc::Global;
 use tptp_reader::{GroundProblem, GroundRole, GroundSymbol};
@@ -67,9 +68,7 @@ fn push_more_numbers(page: &mut Page, numbers: &[u64]) -> Mem<()>
 
 /// Adds a binding.
 fn push_bind(page: &mut Page, symbols: &[GroundSymbol], terms: &[Term]) -> Mem<()>
-    ensures {
-        IfOk result (λ _. page.new ≡ page.old ++ bind_text (symbol_names symbols.now) (map tree_of terms.now))
-    }
+    ensures { IfOk result (λ _. page.new ≡ page.old ++ bind_text (symbol_names symbols.now) (map tree_of terms.now)) }
 {
     page.bytes(b"bind([")?;
     if let Some((first, rest)) = terms.split_first() {
@@ -81,14 +80,366 @@ fn push_bind(page: &mut Page, symbols: &[GroundSymbol], terms: &[Term]) -> Mem<(
 
 /// Adds the terms from the second on.
 fn push_more_terms(page: &mut Page, symbols: &[GroundSymbol], terms: &[Term]) -> Mem<()>
-    ensures {
-        IfOk result (λ _.
-            page.new ≡ page.old ++ more_listed (map (term_text (symbol_names symbols.now)) (map tree_of terms.now)))
-    }
+    ensures { IfOk result (λ _.
+        page.new ≡ page.old ++ more_listed (map (term_text (symbol_names symbols.now)) (map tree_of terms.now))) }
 {
     for term in terms {
         page.bytes(b",")?;
         push_term(page, symbols, term)?;
+    }
+    Ok(())
+}
+
+/// Adds the word for the role of a formula, or nothing where there is no such formula.
+fn push_role(page: &mut Page, roles: &[GroundRole], place: usize) -> Mem<()>
+    ensures { IfOk result (λ _. page.new ≡ page.old ++ role_at roles.now place) }
+{
+    if place >= roles.len() {
+        return Ok(());
+    }
+    match roles[place] {
+        GroundRole::Axiom => page.bytes(b"axiom"),
+        GroundRole::NegatedConjecture => page.bytes(b"negated_conjecture"),
+    }
+}
+
+/// Adds the name of a formula, or the empty name where there is no such formula.
+fn push_formula_name(page: &mut Page, names: &[Text], place: usize) -> Mem<()>
+    ensures { IfOk result (λ _. page.new ≡ page.old ++ name_text (name_at names.now place)) }
+{
+    if place < names.len() {
+        push_name(page, names[place].as_slice())
+    } else {
+        push_name(page, b"")
+    }
+}
+
+/// Adds the clause of a formula, or `$false` where there is no such formula.
+fn push_formula(
+    page: &mut Page,
+    symbols: &[GroundSymbol],
+    clauses: &[Clause],
+    place: usize,
+) -> Mem<()>
+    ensures { IfOk result (λ _.
+        page.new ≡ page.old
+        ++ literals_text (symbol_names symbols.now) (literals_at (map clause_of clauses.now) place)) }
+{
+    if place < clauses.len() {
+        push_literals(page, symbols, clauses[place].literals.as_slice())
+    } else {
+        page.bytes(b"$false")
+    }
+}
+
+/// What a derivation is printed over: the name of its file, and its problem.
+#[derive(Clone, Copy)]
+pub struct Source<'a> {
+    pub file: &'a str,
+    pub problem: &'a GroundProblem,
+}
+
+/// Adds the beginning of the line of a formula of the problem.
+fn push_formula_head(page: &mut Page, problem: &GroundProblem, number: u64, place: usize) -> Mem<()>
+    ensures { IfOk result (λ _. page.new ≡ page.old ++ formula_head (source_of [] problem.now) number place) }
+{
+    page.bytes(b"cnf(")?;
+    push_line_name(page, number)?;
+    page.bytes(b",")?;
+    push_role(page, problem.roles.as_slice(), place)?;
+    page.bytes(b",")?;
+    push_formula(
+        page,
+        problem.symbols.as_slice(),
+        problem.clauses.as_slice(),
+        place,
+    )
+}
+
+/// Adds the line of a formula of the problem.
+fn push_input(
+    alloc: Global,
+    page: &mut Page,
+    source: Source<'_>,
+    number: u64,
+    place: u32,
+) -> Mem<()>
+    ensures { IfOk result (λ _. page.new ≡ page.old ++ input_text (source_of source.entry.file.now source.entry.problem.now) number place) }
+{
+    let place = place as usize;
+    push_formula_head(page, source.problem, number, place)?;
+    push_formula_tail(alloc, page, source, place)
+}
+
+/// Adds the file of a formula, its name there, and the end of its line.
+fn push_formula_tail(alloc: Global, page: &mut Page, source: Source<'_>, place: usize) -> Mem<()>
+    ensures { IfOk result (λ _. page.new ≡ page.old ++ formula_tail (source_of source.entry.file.now source.entry.problem.now) place) }
+{
+    page.bytes(b",file(")?;
+    push_file(alloc, page, source.file)?;
+    page.bytes(b",")?;
+    push_formula_name(page, source.problem.names.as_slice(), place)?;
+    page.bytes(b")).\n")
+}
+
+/// Adds the one parent of an inference, and its end.
+fn push_one_parent(page: &mut Page, parent: u64) -> Mem<()>
+    ensures { IfOk result (λ _. page.new ≡ page.old ++ one_parent_text parent) }
+{
+    page.bytes(b"],[")?;
+    push_line_name(page, parent)?;
+    page.bytes(b"])")
+}
+
+/// Adds the two parents of an inference, and its end.
+fn push_two_parents(page: &mut Page, first: u64, second: u64) -> Mem<()>
+    ensures { IfOk result (λ _. page.new ≡ page.old ++ two_parents_text first second) }
+{
+    page.bytes(b"],[")?;
+    push_line_name(page, first)?;
+    page.bytes(b",")?;
+    push_line_name(page, second)?;
+    page.bytes(b"])")
+}
+
+fn push_clausify(page: &mut Page, index: u64, parent: u64) -> Mem<()>
+    ensures { IfOk result (λ _. page.new ≡ page.old ++ clausify_text index parent) }
+{
+    page.bytes(b"inference(clausify,[status(esa),index(")?;
+    page.number(index)?;
+    page.bytes(b")")?;
+    push_one_parent(page, parent)
+}
+
+fn push_spots(
+    page: &mut Page,
+    from: u64,
+    from_side: Side,
+    into: u64,
+    into_side: Side,
+    place: &[u64],
+) -> Mem<()>
+    ensures { IfOk result (λ _. page.new ≡ page.old ++ spots_text from from_side into into_side place.now) }
+{
+    push_from(page, from, from_side)?;
+    push_into(page, into, into_side, place)
+}
+
+fn push_from(page: &mut Page, index: u64, side: Side) -> Mem<()>
+    ensures { IfOk result (λ _. page.new ≡ page.old ++ from_text index side) }
+{
+    page.bytes(b"from(")?;
+    push_chosen(page, index, side)?;
+    page.bytes(b"),")
+}
+
+fn push_into(page: &mut Page, index: u64, side: Side, place: &[u64]) -> Mem<()>
+    ensures { IfOk result (λ _. page.new ≡ page.old ++ into_text index side place.now) }
+{
+    page.bytes(b"into(")?;
+    push_chosen(page, index, side)?;
+    page.bytes(b",")?;
+    push_place(page, place)?;
+    page.bytes(b"),")
+}
+
+fn push_binds(page: &mut Page, symbols: &[GroundSymbol], first: &[Term], second: &[Term]) -> Mem<()>
+    ensures { IfOk result (λ _.
+        page.new ≡ page.old ++ binds_text (symbol_names symbols.now) (map tree_of first.now) (map tree_of second.now)) }
+{
+    push_bind(page, symbols, first)?;
+    page.bytes(b",")?;
+    push_bind(page, symbols, second)
+}
+
+/// Adds the one binding and the one parent of an inference, and its end.
+fn push_bound_parent(
+    page: &mut Page,
+    symbols: &[GroundSymbol],
+    bind: &[Term],
+    parent: u64,
+) -> Mem<()>
+    ensures { IfOk result (λ _. page.new ≡ page.old ++ bound_parent_text (symbol_names symbols.now) (map tree_of bind.now) parent) }
+{
+    push_bind(page, symbols, bind)?;
+    push_one_parent(page, parent)
+}
+
+fn push_refl(
+    page: &mut Page,
+    symbols: &[GroundSymbol],
+    parent: u64,
+    index: u64,
+    bind: &[Term],
+) -> Mem<()>
+    ensures { IfOk result (λ _. page.new ≡ page.old ++ refl_text (symbol_names symbols.now) parent index (map tree_of bind.now)) }
+{
+    page.bytes(b"inference(refl,[status(thm),lit(")?;
+    page.number(index)?;
+    page.bytes(b"),")?;
+    push_bound_parent(page, symbols, bind, parent)
+}
+
+fn push_merge(
+    page: &mut Page,
+    symbols: &[GroundSymbol],
+    parent: u64,
+    stays: u64,
+    goes: u64,
+    bind: &[Term],
+) -> Mem<()>
+    ensures { IfOk result (λ _. page.new ≡ page.old ++ merge_text (symbol_names symbols.now) parent stays goes (map tree_of bind.now)) }
+{
+    page.bytes(b"inference(merge,[status(thm),")?;
+    push_two_literals(page, stays, goes)?;
+    push_bound_parent(page, symbols, bind, parent)
+}
+
+fn push_two_literals(page: &mut Page, first: u64, second: u64) -> Mem<()>
+    ensures { IfOk result (λ _. page.new ≡ page.old ++ two_literals_text first second) }
+{
+    page.bytes(b"lit(")?;
+    page.number(first)?;
+    page.bytes(b"),lit(")?;
+    page.number(second)?;
+    page.bytes(b"),")
+}
+
+/// Adds the beginning of the line of a clause.
+fn push_clause_head(
+    page: &mut Page,
+    problem: &GroundProblem,
+    number: u64,
+    clause: &Clause,
+) -> Mem<()>
+    ensures { IfOk result (λ _. page.new ≡ page.old ++ clause_head (source_of [] problem.now) number (clause_of clause.now)) }
+{
+    page.bytes(b"cnf(")?;
+    push_line_name(page, number)?;
+    page.bytes(b",plain,")?;
+    push_literals(page, problem.symbols.as_slice(), clause.literals.as_slice())?;
+    page.bytes(b",")
+}
+
+/// The number of the first input line of a formula, or how many lines there are where there is none.
+fn input_line_of(lines: &[Line], place: u64) -> u64
+    ensures { result ≡ input_line lines.now place }
+{
+    for (number, line) in lines.iter().enumerate() {
+        if is_input_of(&line.step, place) {
+            return number as u64;
+        }
+    }
+    lines.len() as u64
+}
+
+/// Whether a step is the input of that formula.
+fn is_input_of(step: &Step, place: u64) -> bool
+    ensures { result ≡ is_input place step.now }
+{
+    match step {
+        Step::Input(formula) => u64::from(*formula) == place,
+        _ => false,
+    }
+}
+
+/// Adds the inference of a superposition.
+fn push_para(page: &mut Page, symbols: &[GroundSymbol], step: &Step) -> Mem<()>
+    requires { IsPara step.now }
+    ensures { IfOk result (λ _. page.new ≡ page.old ++ step_text (symbol_names symbols.now) [] step.now) }
+{
+    match step {
+        Step::Para(
+            first,
+            second,
+            from,
+            from_side,
+            into,
+            into_side,
+            place,
+            first_bind,
+            second_bind,
+        ) => {
+            page.bytes(b"inference(para,[status(thm),")?;
+            push_spots(page, *from, *from_side, *into, *into_side, place.as_slice())?;
+            push_binds(page, symbols, first_bind.as_slice(), second_bind.as_slice())?;
+            push_two_parents(page, *first, *second)
+        }
+        _ => unreachable!(),
+    }
+}
+
+/// Adds the inference of a step; a clausify line names the input line of its formula.
+fn push_step(page: &mut Page, symbols: &[GroundSymbol], lines: &[Line], step: &Step) -> Mem<()>
+    ensures { IfOk result (λ _. page.new ≡ page.old ++ step_text (symbol_names symbols.now) lines.now step.now) }
+{
+    match step {
+        Step::Clausify(index) => push_clausify(page, *index, input_line_of(lines, *index)),
+        Step::Para(..) => push_para(page, symbols, step),
+        Step::Refl(parent, index, bind) => push_refl(
+            page,
+            symbols,
+            *parent,
+            *index,
+            bind.as_slice(),
+        ),
+        Step::Merge(parent, stays, goes, bind) => {
+            push_merge(page, symbols, *parent, *stays, *goes, bind.as_slice())
+        }
+        _ => Ok(()),
+    }
+}
+
+/// Adds the line of a clause.
+fn push_clause_line(
+    page: &mut Page,
+    problem: &GroundProblem,
+    lines: &[Line],
+    number: u64,
+    line: &Line,
+) -> Mem<()>
+    ensures { IfOk result (λ _.
+        page.new ≡ page.old
+        ++ clause_text (source_of [] problem.now) lines.now number line.now.step (clause_of line.now.clause)) }
+{
+    push_clause_head(page, problem, number, &line.clause)?;
+    push_step(page, problem.symbols.as_slice(), lines, &line.step)?;
+    page.bytes(b").\n")
+}
+
+/// Adds a line.
+fn push_line(
+    alloc: Global,
+    page: &mut Page,
+    source: Source<'_>,
+    lines: &[Line],
+    number: u64,
+    line: &Line,
+) -> Mem<()>
+    ensures { IfOk result (λ _.
+        page.new ≡ page.old
+        ++ line_text (source_of source.entry.file.now source.entry.problem.now) lines.now number line.now) }
+{
+    match &line.step {
+        Step::Input(place) => push_input(alloc, page, source, number, *place),
+        Step::Negate(_) => Ok(()),
+        _ => push_clause_line(page, source.problem, lines, number, line),
+    }
+}
+
+/// Adds the lines of a derivation.
+pub fn push_derivation(
+    alloc: Global,
+    page: &mut Page,
+    source: Source<'_>,
+    derivation: &Derivation,
+) -> Mem<()>
+    ensures { IfOk result (λ _.
+        page.new ≡ page.old ++ lines_text (source_of source.entry.file.now source.entry.problem.now) derivation.now) }
+{
+    let lines = derivation.as_slice();
+    for (number, line) in lines.iter().enumerate() {
+        push_line(alloc, page, source, lines, number as u64, line)?;
     }
     Ok(())
 }

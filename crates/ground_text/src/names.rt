@@ -6,6 +6,7 @@ ghost use Rattle.ground_text.specs.Names.{is_lower_word as lower_word, is_small 
 
 use crate::page::Page;
 use fol_base::Mem;
+use std::alloc::Global;
 
 /// Whether a byte is a small letter.
 fn is_small(byte: u8) -> bool
@@ -78,4 +79,13 @@ fn shown_byte(byte: u8) -> u8
     ensures { result ≡ shown_as byte }
 {
     if 32 <= byte && byte <= 126 { byte } else { 63 }
+}
+
+/// Adds the name of a file as it is shown: bare where it is a lower word, else quoted.
+pub fn push_file(alloc: Global, page: &mut Page, file: &str) -> Mem<()>
+    ensures { IfOk result (λ _. page.new ≡ page.old ++ name_text (shown file.now)) }
+{
+    let mut name = Page::new(alloc);
+    push_shown(&mut name, file.as_bytes())?;
+    push_name(page, name.into_text().as_slice())
 }

@@ -46,10 +46,8 @@ pub fn push_term(page: &mut Page, symbols: &[GroundSymbol], term: &Term) -> Mem<
 /// Adds arguments between brackets, or nothing where there are none.
 #[cycle(print)]
 fn push_arguments(page: &mut Page, symbols: &[GroundSymbol], arguments: &[Term]) -> Mem<()>
-    ensures {
-        IfOk result (λ _.
-            page.new ≡ page.old ++ arguments_text (symbol_names symbols.now) (trees_of (map tree_of arguments.now)))
-    }
+    ensures { IfOk result (λ _.
+        page.new ≡ page.old ++ arguments_text (symbol_names symbols.now) (trees_of (map tree_of arguments.now))) }
 {
     match arguments.split_first() {
         None => Ok(()),
@@ -64,10 +62,8 @@ fn push_arguments(page: &mut Page, symbols: &[GroundSymbol], arguments: &[Term])
 /// Adds the arguments from the second on, and the closing bracket.
 #[cycle(print)]
 fn push_more_arguments(page: &mut Page, symbols: &[GroundSymbol], arguments: &[Term]) -> Mem<()>
-    ensures {
-        IfOk result (λ _.
-            page.new ≡ page.old ++ more_arguments_text (symbol_names symbols.now) (trees_of (map tree_of arguments.now)))
-    }
+    ensures { IfOk result (λ _.
+        page.new ≡ page.old ++ more_arguments_text (symbol_names symbols.now) (trees_of (map tree_of arguments.now))) }
 {
     for argument in arguments {
         page.bytes(b",")?;
@@ -93,9 +89,7 @@ pub fn push_literal(page: &mut Page, symbols: &[GroundSymbol], literal: &Literal
 
 /// Adds the literals of a clause, or `$false` where there are none.
 pub fn push_literals(page: &mut Page, symbols: &[GroundSymbol], literals: &[Literal]) -> Mem<()>
-    ensures {
-        IfOk result (λ _. page.new ≡ page.old ++ literals_text (symbol_names symbols.now) (map literal_of literals.now))
-    }
+    ensures { IfOk result (λ _. page.new ≡ page.old ++ literals_text (symbol_names symbols.now) (map literal_of literals.now)) }
 {
     match literals.split_first() {
         None => page.bytes(b"$false"),
@@ -108,9 +102,7 @@ pub fn push_literals(page: &mut Page, symbols: &[GroundSymbol], literals: &[Lite
 
 /// Adds the literals from the second on.
 fn push_more_literals(page: &mut Page, symbols: &[GroundSymbol], literals: &[Literal]) -> Mem<()>
-    ensures {
-        IfOk result (λ _. page.new ≡ page.old ++ more_literals_text (symbol_names symbols.now) (map literal_of literals.now))
-    }
+    ensures { IfOk result (λ _. page.new ≡ page.old ++ more_literals_text (symbol_names symbols.now) (map literal_of literals.now)) }
 {
     for literal in literals {
         page.bytes(b" | ")?;
