@@ -1,6 +1,6 @@
 -- How names are printed, and the names that a report shows of a file.
-use Rattle.std.specs.Prelude.{ℕ, Bool, true, false, not, ◌&&◌, ◌||◌, ◌==◌, nat_le, List, [], ◌∷◌, ◌++◌, map, flat_map, if◌then◌else◌, codes}
-use Rattle.std.specs.List.{list_all}
+use Rattle.std.specs.Prelude.{ℕ, Bool, true, false, not, ◌&&◌, ◌||◌, ◌==◌, nat_le, List, [], ◌∷◌, ◌++◌, map, flat_map, take, length, ◌-◌, nat_eq, if◌then◌else◌, codes}
+use Rattle.std.specs.List.{list_all, ends_with}
 
 -- a small letter
 abbrev pub is_small : ℕ → Bool
@@ -41,10 +41,7 @@ after_last_slash (b ∷ bs) = if has_slash (b ∷ bs) then after_last_slash bs e
 
 -- without a final `.p`
 abbrev pub without_suffix : List ℕ → List ℕ
-without_suffix [] = []
-without_suffix (b ∷ []) = b ∷ []
-without_suffix (b ∷ c ∷ []) = if b == 46 && c == 112 then [] else b ∷ c ∷ []
-without_suffix (b ∷ c ∷ d ∷ bs) = b ∷ without_suffix (c ∷ d ∷ bs)
+without_suffix bytes = if ends_with nat_eq bytes (codes ".p") then take (length bytes - 2) bytes else bytes
 
 -- the name of the problem in a file
 abbrev pub problem_name : List ℕ → List ℕ

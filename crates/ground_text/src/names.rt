@@ -2,7 +2,7 @@
 
 ghost use Rattle.std.specs.Prelude.{◌≡◌, ◌++◌, flat_map, IfOk};
 ghost use Rattle.std.specs.List.{list_all};
-ghost use Rattle.ground_text.specs.Names.{is_lower_word as lower_word, is_small as small, is_letter_or_digit as letter_or_digit, escaped_byte, name_text, shown_byte as shown_as, shown, problem_name};
+ghost use Rattle.ground_text.specs.Names.{is_lower_word as lower_word, is_small as small, is_letter_or_digit as letter_or_digit, escaped_byte, name_text, shown_byte as shown_as, shown, problem_name, after_last_slash as behind_slash, without_suffix as before_suffix};
 
 use crate::page::Page;
 use fol_base::Mem;
@@ -88,4 +88,33 @@ pub fn push_file(alloc: Global, page: &mut Page, file: &str) -> Mem<()>
     let mut name = Page::new(alloc);
     push_shown(&mut name, file.as_bytes())?;
     push_name(page, name.into_text().as_slice())
+}
+
+/// What stands behind the last slash.
+fn after_last_slash(bytes: &[u8]) -> &[u8]
+    ensures { result.now ≡ behind_slash bytes.entry.now }
+{
+    let mut start = bytes.len();
+    while start > 0 && bytes[start - 1] != 47 {
+        start -= 1;
+    }
+    &bytes[start..]
+}
+
+/// The bytes without a final `.p`.
+fn without_suffix(bytes: &[u8]) -> &[u8]
+    ensures { result.now ≡ before_suffix bytes.entry.now }
+{
+    if bytes.ends_with(b".p".as_slice()) {
+        &bytes[..bytes.len() - 2]
+    } else {
+        bytes
+    }
+}
+
+/// Adds the name of the problem in a file: what stands behind its last slash, without a final `.p`.
+pub fn push_problem_name(page: &mut Page, file: &str) -> Mem<()>
+    ensures { IfOk result (λ _. page.new ≡ page.old ++ problem_name file.now) }
+{
+    push_shown(page, without_suffix(after_last_slash(file.as_bytes())))
 }

@@ -1,5 +1,6 @@
 -- Derivations: each line comes about by a step from earlier lines.
-use Rattle.std.specs.Prelude.{◌≡◌, ℕ, ◌<◌, Bool, true, false, List, [], ◌∷◌, ◌++◌, take, length, Some, slice_get, IsTrue}
+use Rattle.std.specs.Prelude.{◌≡◌, ℕ, ◌<◌, Bool, true, false, ◌==◌, List, [], ◌∷◌, ◌++◌, take, length, Some, slice_get, IsTrue}
+use Rattle.std.specs.List.{list_any}
 use Rattle.fol_base.specs.Clause.{TreeClause}
 use Rattle.fol_base.specs.Literal.{clause_of}
 use Rattle.kernel_steps.specs.declared.step.Step.{Step}
@@ -38,3 +39,21 @@ pub record IsRefutation (form : List TreeClause) (lines : List Line) : Type 0 wh
   pub ends : lines ≡ before ++ last ∷ []
   pub is_clause : IsTrue (is_clause_step last.step)
   pub is_empty : clause_of last.clause ≡ empty_clause
+
+-- whether a step is the input of that formula
+abbrev pub is_input_of : ℕ → Step → Bool
+is_input_of place (Input p) = p == place
+is_input_of place _ = false
+
+-- an input line names a formula of the problem, and a clausify line stands below an input line of its formula, where clause number i
+-- comes from formula i
+abbrev pub IsSourced : ℕ → List Line → Step → Type 0
+IsSourced formulas earlier (Input place) = place < formulas
+IsSourced formulas earlier (Clausify i) = IsTrue (list_any (λ (l : Line). is_input_of i l.step) earlier)
+IsSourced formulas earlier _ = Unit {0}
+
+-- a refutation with its input lines, of a problem with one formula for each clause of the form
+pub record IsSourcedRefutation (form : List TreeClause) (lines : List Line) : Type 0 where
+  pub refutes : IsRefutation form lines
+  pub sourced :
+      (n : ℕ) (line : Line) → slice_get lines n ≡ Some line → IsSourced (length form) (take n lines) line.step

@@ -1,0 +1,4 @@
+pub mod Words
+pub mod Accepted
+pub mod Report
+pub mod Run

@@ -1,0 +1,102 @@
+-- What a run answers and prints, and why.
+use Rattle.std.specs.Prelude.{◌≡◌, ℕ, List, Option, None, Some, IfSome, IsSome}
+use Rattle.fol_base.specs.Clause.{TreeClause}
+use Rattle.tptp_reader.specs.Syntax.{NamedFormula}
+use Rattle.tptp_reader.specs.GroundText.{IsGroundText, IsWithinLimits, IsReadAs}
+use Rattle.tptp_reader.specs.declared.problem.GroundProblem.{GroundProblem}
+use Rattle.outside.specs.Faults.{Rose}
+use Rattle.outside.specs.Library.{Holdings, HoldsExactly, FoundMore}
+use Rattle.outside.specs.Sink.{with_bytes, HasPrefixAfter}
+use Rattle.ground_loop.specs.Answer.{HasClosedSets, HasTriples}
+use Rattle.prover_main.specs.Words.{proved_file}
+use Rattle.prover_main.specs.Accepted.{IsAcceptedDerivation, form_of}
+use Rattle.prover_main.specs.Report.{refuted_report, closed_report, spent_report, not_built_report, load_failed_report, usage_report}
+
+-- the most bytes of a file
+abbrev pub most_file_bytes : ℕ
+most_file_bytes = 67108864
+
+-- how many inferences are counted at most
+abbrev pub most_inferences : ℕ
+most_inferences = 100000
+
+-- ---- by the bytes of the file
+
+-- the bytes are no ground problem within the limits
+abbrev pub IsUnreadable : List ℕ → Type 0
+IsUnreadable bytes = (fs : List NamedFormula) → IsGroundText bytes fs → IsWithinLimits fs → ⊥
+
+-- a text that is an accepted derivation of the problem that the bytes spell
+pub record IsRefutedBy (bytes file text : List ℕ) : Type 0 where
+  pub problem : GroundProblem
+  pub is_read : IsReadAs bytes problem
+  pub derivation : List ℕ
+  pub accepted : IsAcceptedDerivation file problem derivation
+  pub prints : text ≡ refuted_report file derivation
+
+-- as many different inferences as the limit
+pub record IsSpentBy (bytes file text : List ℕ) : Type 0 where
+  pub problem : GroundProblem
+  pub is_read : IsReadAs bytes problem
+  pub triples : HasTriples (form_of problem) most_inferences
+  pub prints : text ≡ spent_report file most_inferences
+
+-- a closed list of sets without the empty set
+pub record IsClosedBy (bytes file text : List ℕ) : Type 0 where
+  pub problem : GroundProblem
+  pub is_read : IsReadAs bytes problem
+  pub closed_sets : HasClosedSets (form_of problem)
+  pub prints : text ≡ closed_report file
+
+-- the status, the report and their cause, for a file with these bytes
+pub data IsDueOn (bytes file : List ℕ) (status : ℕ) (text : List ℕ) : Type 0 where
+  refuted : status ≡ 0 → IsRefutedBy bytes file text → IsDueOn bytes file status text
+  spent : status ≡ 2 → IsSpentBy bytes file text → IsDueOn bytes file status text
+  not_built : status ≡ 3 → IsUnreadable bytes → text ≡ not_built_report file → IsDueOn bytes file status text
+  closed : status ≡ 10 → IsClosedBy bytes file text → IsDueOn bytes file status text
+
+-- ---- by what the library does
+
+-- what the library tells, its count of faults before and after the run, how many bytes it found, and the name of its last failure
+pub record Outside : Type 0 where
+  pub told : Option Holdings
+  pub faults_before : ℕ
+  pub faults_after : ℕ
+  pub found_after : ℕ
+  pub failed_after : Option (List ℕ)
+
+-- The file was read: where the library tells, it has these bytes. Or it was too long, or the library failed on it.
+pub data IsDueFor (outside : Outside) (file : List ℕ) (status : ℕ) (text : List ℕ) : Type 0 where
+  read : (bytes : List ℕ) → HoldsExactly outside.told file bytes → IsDueOn bytes file status text → IsDueFor outside file status text
+  too_long :
+      status ≡ 3 → FoundMore outside.told outside.found_after file most_file_bytes → text ≡ not_built_report file
+      → IsDueFor outside file status text
+  load_failed :
+      status ≡ 4 → Rose outside.faults_before outside.faults_after → IfSome outside.failed_after (λ name. name ≡ file)
+      → text ≡ load_failed_report file → IsDueFor outside file status text
+
+-- 6 exactly where the words are usage
+abbrev pub IsDue : Option (List ℕ) → Outside → ℕ → List ℕ → Type 0
+IsDue None outside status text = (status ≡ 6) × (text ≡ usage_report)
+IsDue (Some file) outside status text = IsDueFor outside file status text
+
+-- ---- by what the sink takes
+
+pub record Taken : Type 0 where
+  pub bytes_before : Option (List ℕ)
+  pub bytes_after : Option (List ℕ)
+  pub faults_before : ℕ
+  pub faults_after : ℕ
+
+-- The sink took the whole report that was due. Or it failed: then the status is 5, and it took a prefix of that report. Or memory
+-- was wanted: then the status is 7, the words are no usage and the sink took nothing.
+pub data IsRun (words : List (List ℕ)) (outside : Outside) (taken : Taken) (status : ℕ) : Type 0 where
+  whole :
+      (text : List ℕ) → IsDue (proved_file words) outside status text → taken.bytes_after ≡ with_bytes taken.bytes_before text
+      → IsRun words outside taken status
+  cut_off :
+      status ≡ 5 → (due : ℕ) (text : List ℕ) → IsDue (proved_file words) outside due text
+      → Rose taken.faults_before taken.faults_after → HasPrefixAfter taken.bytes_before taken.bytes_after text
+      → IsRun words outside taken status
+  no_memory :
+      status ≡ 7 → IsSome (proved_file words) → taken.bytes_after ≡ taken.bytes_before → IsRun words outside taken status

@@ -1,0 +1,65 @@
+// The words of the command line, and the rule on them.
+
+ghost use Rattle.std.specs.Prelude.{◌≡◌, [], ◌∷◌, ◌++◌, IfOk, string_bytes};
+ghost use Rattle.std.specs.Option.{option_map};
+ghost use Rattle.prover_main.specs.Words.{proved_file, is_file_word as file_word};
+
+use fol_base::Mem;
+use std::alloc::Global;
+use std::marker::Model;
+
+/// The words after the program's name, which contracts see as the list of their bytes.
+#[derive(Drop)]
+pub struct Words {
+    words: Vec<String>,
+}
+
+impl Model for Words {
+    ghost use Rattle.std.specs.Prelude.{List, ℕ, map, string_bytes};
+
+    ghost Value = { List (List ℕ) };
+
+    ghost view = { λ w. map string_bytes w.words.items };
+}
+
+impl Words {
+    /// No words. It takes no memory.
+    pub fn new(alloc: Global) -> Words
+        ensures { result ≡ [] }
+    {
+        Words {
+            words: Vec::new(alloc),
+        }
+    }
+
+    /// Adds a word at the end.
+    pub fn push(&mut self, word: String) -> Mem<()>
+        ensures { IfOk result (λ _. self.new ≡ self.old ++ string_bytes word ∷ []) }
+    {
+        self.words.push(word)?;
+        Ok(())
+    }
+
+    /// The file of `prove FILE`. None exactly where the words are usage.
+    pub fn file(&self) -> Option<&str>
+        ensures { option_map (λ file. file.now) result ≡ proved_file self.entry.now }
+    {
+        match self.words.as_slice() {
+            [command, file] => {
+                let file = file.as_str();
+                if command.as_str() == "prove" && is_file_word(file) { Some(file) } else { None }
+            }
+            _ => None,
+        }
+    }
+}
+
+/// Whether a word can name a file: it isn't empty and doesn't begin with `-`.
+fn is_file_word(word: &str) -> bool
+    ensures { result ≡ file_word word.now }
+{
+    match word.as_bytes().first() {
+        None => false,
+        Some(byte) => *byte != 45,
+    }
+}
