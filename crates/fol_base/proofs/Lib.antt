@@ -6,5 +6,8 @@ pub mod ClauseLemmas
 pub mod TestLemmas
 pub mod MeaningLemmas
 pub mod OrderLemmas
+pub mod InstanceLemmas
+pub mod InstancePlaces
+pub mod GroundInstanceLemmas
 pub mod CoverageLemmas
 pub mod ExampleLemmas

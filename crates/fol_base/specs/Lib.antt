@@ -15,5 +15,6 @@ pub mod Order
 pub mod Selection
 pub mod GroundInference
 pub mod Covered
+pub mod InstanceLaws
 pub mod Examples
 pub mod GroundForm

@@ -2,11 +2,16 @@
 
 mod coverage;
 mod examples;
+mod instances;
 mod meaning;
 
 pub use coverage::{coverage_by_more, coverage_composes, coverage_of_instances};
 pub use examples::{
     coverage_examples, meaning_examples, order_examples, selection_examples, tree_examples,
+};
+pub use instances::{
+    agreement_of_instances, ground_instances_of_canonical, ground_instances_of_instances,
+    instances_of_instances, places_in_instances, sizes_of_instances, variables_of_instances,
 };
 pub use meaning::{
     congruence, empty_clause_entailed, entailment_cuts, entailment_of_members, entailment_of_more,
