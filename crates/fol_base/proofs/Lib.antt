@@ -5,6 +5,7 @@ pub mod PlaceLemmas
 pub mod ClauseLemmas
 pub mod TestLemmas
 pub mod MeaningLemmas
+pub mod CountLemmas
 pub mod OrderLemmas
 pub mod InstanceLemmas
 pub mod InstancePlaces

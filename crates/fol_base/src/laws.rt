@@ -4,6 +4,7 @@ mod coverage;
 mod examples;
 mod instances;
 mod meaning;
+mod order;
 
 pub use coverage::{coverage_by_more, coverage_composes, coverage_of_instances};
 pub use examples::{
@@ -18,3 +19,4 @@ pub use meaning::{
     ground_instances_are_ground, ground_trees_need_a_constant, truth_of_ground_clauses,
     truth_of_instances, values_of_instances,
 };
+pub use order::{order_equivalences, order_tests_decide};
