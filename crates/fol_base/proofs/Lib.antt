@@ -12,3 +12,4 @@ pub mod InstancePlaces
 pub mod GroundInstanceLemmas
 pub mod CoverageLemmas
 pub mod ExampleLemmas
+pub mod MatchingExamples

@@ -3,6 +3,7 @@
 mod coverage;
 mod examples;
 mod instances;
+mod matching_examples;
 mod meaning;
 mod order;
 
@@ -13,6 +14,9 @@ pub use examples::{
 pub use instances::{
     agreement_of_instances, ground_instances_of_canonical, ground_instances_of_instances,
     instances_of_instances, places_in_instances, sizes_of_instances, variables_of_instances,
+};
+pub use matching_examples::{
+    compatible_examples, spelling_examples, subsumption_examples, unifier_examples,
 };
 pub use meaning::{
     congruence, empty_clause_entailed, entailment_cuts, entailment_of_members, entailment_of_more,
