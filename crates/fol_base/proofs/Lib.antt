@@ -9,6 +9,7 @@ pub mod CountLemmas
 pub mod OrderLemmas
 pub mod InstanceLemmas
 pub mod InstancePlaces
+pub mod InferenceLemmas
 pub mod GroundInstanceLemmas
 pub mod CoverageLemmas
 pub mod ExampleLemmas

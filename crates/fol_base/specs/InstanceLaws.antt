@@ -3,10 +3,12 @@ use Rattle.std.specs.Prelude.{◌≡◌, ◌↔◌, ℕ, ◌+◌, ◌<◌, List,
 use Rattle.fol_base.specs.Tree.{Tree, variable, application, Trees, no_trees, tree_then, tree_size, tree_variables, VariablesBelow}
 use Rattle.fol_base.specs.Instance.{Substitution, instance}
 use Rattle.fol_base.specs.Place.{subterm, replaced}
-use Rattle.fol_base.specs.Clause.{TreeClause, clause_instance, clause_size, clause_variables}
+use Rattle.fol_base.specs.Clause.{TreeLiteral, TreeClause, clause_instance, clause_size, clause_variables}
 use Rattle.fol_base.specs.Canonical.{canonical_clause}
-use Rattle.fol_base.specs.Ground.{FunctionSymbol, is_over, GroundClause, GroundInstance}
+use Rattle.fol_base.specs.Ground.{FunctionSymbol, is_over, GroundClause, GroundInstance, literals_instance}
 use Rattle.fol_base.specs.Order.{occurrences}
+use Rattle.fol_base.specs.GroundInference.{superposed, factored}
+use Rattle.fol_base.specs.declared.clause.Side.{Side}
 
 -- the second substitution after the first
 abbrev pub after : Substitution → Substitution → Substitution
@@ -83,6 +85,19 @@ abbrev pub ReplacementsInInstances : Type 0
 ReplacementsInInstances =
     (σ : Substitution) (place : List ℕ) (new t made : Tree)
     → replaced place new t ≡ Some made → replaced place (instance σ new) (instance σ t) ≡ Some (instance σ made)
+
+-- conclusions of instances are instances of conclusions
+abbrev pub SuperpositionsInInstances : Type 0
+SuperpositionsInInstances =
+    (σ : Substitution) (first second made : List TreeLiteral) (i j : ℕ) (from_side into_side : Side) (place : List ℕ)
+    → superposed first i from_side second j into_side place ≡ Some made
+    → superposed (literals_instance σ first) i from_side (literals_instance σ second) j into_side place ≡ Some (literals_instance σ made)
+
+abbrev pub FactoringsInInstances : Type 0
+FactoringsInInstances =
+    (σ : Substitution) (ls made : List TreeLiteral) (i j : ℕ) (side_i side_j : Side)
+    → factored ls i side_i j side_j ≡ Some made
+    → factored (literals_instance σ ls) i side_i j side_j ≡ Some (literals_instance σ made)
 
 -- a clause's ground instances are those of its canonical form
 abbrev pub GroundInstancesOfCanonical : Type 0

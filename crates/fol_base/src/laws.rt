@@ -12,8 +12,9 @@ pub use examples::{
     coverage_examples, meaning_examples, order_examples, selection_examples, tree_examples,
 };
 pub use instances::{
-    agreement_of_instances, ground_instances_of_canonical, ground_instances_of_instances,
-    instances_of_instances, places_in_instances, sizes_of_instances, variables_of_instances,
+    agreement_of_instances, conclusions_of_instances, ground_instances_of_canonical,
+    ground_instances_of_instances, instances_of_instances, places_in_instances, sizes_of_instances,
+    variables_of_instances,
 };
 pub use matching_examples::{
     compatible_examples, spelling_examples, subsumption_examples, unifier_examples,

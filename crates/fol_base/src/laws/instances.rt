@@ -12,6 +12,8 @@ ghost use Rattle.fol_base.specs.InstanceLaws.{
   OccurrencesInInstances,
   SubtermsOfInstances,
   ReplacementsInInstances,
+  SuperpositionsInInstances,
+  FactoringsInInstances,
   GroundInstancesOfCanonical,
 };
 
@@ -53,4 +55,10 @@ pub fn ground_instances_of_instances()
 /// A clause's ground instances are those of its canonical form.
 pub fn ground_instances_of_canonical()
     ensures { GroundInstancesOfCanonical }
+{}
+
+/// The conclusions of instances by superposition and factoring are the instances of the conclusions.
+pub fn conclusions_of_instances()
+    ensures superposition { SuperpositionsInInstances }
+    ensures factoring { FactoringsInInstances }
 {}
