@@ -6,7 +6,10 @@ pub mod ClauseLemmas
 pub mod TestLemmas
 pub mod MeaningLemmas
 pub mod CountLemmas
+pub mod TotalLemmas
 pub mod OrderLemmas
+pub mod TreeOrderLemmas
+pub mod ClauseOrderLemmas
 pub mod InstanceLemmas
 pub mod InstancePlaces
 pub mod InferenceLemmas

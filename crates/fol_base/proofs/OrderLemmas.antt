@@ -47,10 +47,10 @@ trees_equivalence = equivalence_from tree_eq (λ t u. t ≡ u) tree_equality_dec
 -- ---- equivalence of literals and clauses
 
 -- the same sides in either order
-abbrev SameSides : TreeLiteral → TreeLiteral → Type 0
+abbrev pub SameSides : TreeLiteral → TreeLiteral → Type 0
 SameSides l m = ((l.left ≡ m.left) × (l.right ≡ m.right)) ⊎ ((l.left ≡ m.right) × (l.right ≡ m.left))
 
-abbrev SameLiteral : TreeLiteral → TreeLiteral → Type 0
+abbrev pub SameLiteral : TreeLiteral → TreeLiteral → Type 0
 SameLiteral l m = (l.positive ≡ m.positive) × SameSides l m
 
 both_equal : (t u t' u' : Tree) → Decides (tree_eq t t' && tree_eq u u') ((t ≡ t') × (u ≡ u'))
@@ -59,7 +59,7 @@ both_equal t u t' u' = (
   λ e. and_from (tree_eq t t') (tree_eq u u') ((tree_equality_decided t t').1 e.0) ((tree_equality_decided u u').1 e.1),
 )
 
-equivalent_literals-decided : (l m : TreeLiteral) → Decides (equivalent_literals l m) (SameLiteral l m)
+pub equivalent_literals-decided : (l m : TreeLiteral) → Decides (equivalent_literals l m) (SameLiteral l m)
 equivalent_literals-decided l m =
     let signs : Bool = beq l.positive m.positive in
     let straight : Bool = tree_eq l.left m.left && tree_eq l.right m.right in

@@ -7,8 +7,8 @@ use Rattle.std.specs.Cmp.{IsEquivalence}
 use Rattle.std.specs.List.{list_all}
 use Rattle.fol_base.specs.Tree.{Tree, variable, application, Trees, no_trees, tree_then, tree_size, tree_eq, tree_variables}
 use Rattle.fol_base.specs.Clause.{TreeLiteral}
-use Rattle.fol_base.specs.Ground.{GroundClause, is_ground_clause}
-use Rattle.fol_base.specs.Multiset.{Comparison, compared, times, same_multiset, multiset_greater, MultisetGreater}
+use Rattle.fol_base.specs.Ground.{is_ground, GroundClause, is_ground_literal, is_ground_clause}
+use Rattle.fol_base.specs.Multiset.{Comparison, compared, times, same_multiset, multiset_greater, MultisetGreater, IsTotalOrderOn}
 
 -- how often a variable occurs
 abbrev pub occurrences : ℕ → Tree → ℕ
@@ -125,7 +125,17 @@ ClausesCounted =
     (c d : List TreeLiteral)
     → Decides (equivalent_clauses c d) ((l : TreeLiteral) → times equivalent_literals l c ≡ times equivalent_literals l d)
 
--- "not greater" is transitive on clauses without variables: a premise of the laws of coverage
+-- the order is total on ground trees, literals and clauses
+abbrev pub TreesTotallyOrdered : Type 0
+TreesTotallyOrdered = IsTotalOrderOn tree_eq tree_greater (λ t. IsTrue (is_ground t))
+
+abbrev pub LiteralsTotallyOrdered : Type 0
+LiteralsTotallyOrdered = IsTotalOrderOn equivalent_literals literal_greater (λ l. IsTrue (is_ground_literal l))
+
+abbrev pub ClausesTotallyOrdered : Type 0
+ClausesTotallyOrdered = IsTotalOrderOn equivalent_clauses clause_greater (λ c. IsTrue (is_ground_clause c))
+
+-- so "not greater" is transitive on them
 abbrev pub NotGreaterIsTransitive : Type 0
 NotGreaterIsTransitive =
     (b c d : GroundClause)

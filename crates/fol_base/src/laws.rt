@@ -24,4 +24,4 @@ pub use meaning::{
     ground_instances_are_ground, ground_trees_need_a_constant, truth_of_ground_clauses,
     truth_of_instances, values_of_instances,
 };
-pub use order::{order_equivalences, order_tests_decide};
+pub use order::{order_equivalences, order_is_total, order_tests_decide};

@@ -9,6 +9,10 @@ ghost use Rattle.fol_base.specs.Order.{
   LiteralsEquivalence,
   ClausesEquivalence,
   ClausesCounted,
+  TreesTotallyOrdered,
+  LiteralsTotallyOrdered,
+  ClausesTotallyOrdered,
+  NotGreaterIsTransitive,
 };
 
 /// The tests of equality and of the order say what the same definitions as types do.
@@ -25,4 +29,12 @@ pub fn order_equivalences()
     ensures literals { LiteralsEquivalence }
     ensures clauses { ClausesEquivalence }
     ensures counted { ClausesCounted }
+{}
+
+/// The order is total on ground terms, literals and clauses.
+pub fn order_is_total()
+    ensures trees { TreesTotallyOrdered }
+    ensures literals { LiteralsTotallyOrdered }
+    ensures clauses { ClausesTotallyOrdered }
+    ensures not_greater { NotGreaterIsTransitive }
 {}
