@@ -1,4 +1,4 @@
-// Laws of the order's tests.
+// Laws of the order on terms, literals and clauses.
 
 ghost use Rattle.fol_base.specs.Order.{
   TreeEqualityDecided,
