@@ -7,10 +7,11 @@ use Rattle.std.proofs.lemmas.List.Elements.{All-nil, All-cons, All-head, All-tai
 use Rattle.fol_base.specs.Clause.{TreeClause}
 use Rattle.fol_base.specs.Ground.{FunctionSymbol, GroundClause, GroundInstance, is_ground_clause}
 use Rattle.fol_base.specs.Interpretation.{Interpretation, IsInterpretation, clause_true, clauses_true}
-use Rattle.fol_base.specs.Order.{clause_greater, NotGreaterIsTransitive}
+use Rattle.fol_base.specs.Order.{clause_greater}
 use Rattle.fol_base.specs.Covered.{InstanceOf, Covered, CoversInstances, CoversMore, CoversAcross}
 use Rattle.fol_base.proofs.MeaningLemmas.{ground_instances_are_ground}
 use Rattle.fol_base.proofs.OrderLemmas.{clause_greater-itself}
+use Rattle.fol_base.proofs.ClauseOrderLemmas.{not_greater_is_transitive}
 
 -- a clause covers its ground instances
 pub Covered-instance :
@@ -55,21 +56,21 @@ record Together (is_predicate : ℕ → Bool) (functions : List FunctionSymbol) 
 
 together :
     (is_predicate : ℕ → Bool) (functions : List FunctionSymbol) (Holds : TreeClause → Type 0) (c : GroundClause)
-    → NotGreaterIsTransitive → is_ground_clause c ≡ true
+    → is_ground_clause c ≡ true
     → (gs : List GroundClause) → All (Below is_predicate functions Holds c) gs → Together is_predicate functions Holds c gs
-together is_predicate functions Holds c transitive c_ground [] all = record {
+together is_predicate functions Holds c c_ground [] all = record {
   by = [];
   instances = All-nil (InstanceOf functions Holds);
   none_greater = All-nil (λ h. clause_greater h c ≡ false);
   entail = λ i ok h. refl;
 }
-together is_predicate functions Holds c transitive c_ground (g ∷ gs) all =
+together is_predicate functions Holds c c_ground (g ∷ gs) all =
     let here : Below is_predicate functions Holds c g = All-head (Below is_predicate functions Holds c) g gs all in
     let rest : Together is_predicate functions Holds c gs =
-    together is_predicate functions Holds c transitive c_ground gs (All-tail (Below is_predicate functions Holds c) g gs all) in
+    together is_predicate functions Holds c c_ground gs (All-tail (Below is_predicate functions Holds c) g gs all) in
     let front : List GroundClause = here.covered.by in
     let front_below : All (λ h. clause_greater h c ≡ false) front = λ k d in_range.
-    transitive (get_or front k d) g c
+    not_greater_is_transitive (get_or front k d) g c
     (InstanceOf-ground functions Holds (get_or front k d) (here.covered.instances k d in_range))
     here.is_ground c_ground (here.covered.none_greater k d in_range) here.not_greater in
     record {
@@ -84,14 +85,13 @@ together is_predicate functions Holds c transitive c_ground (g ∷ gs) all =
 -- what is covered by clauses whose ground instances are covered is covered
 pub Covered-across :
     (is_predicate : ℕ → Bool) (functions : List FunctionSymbol) (Middle Holds : TreeClause → Type 0) (c : GroundClause)
-    → NotGreaterIsTransitive
     → IsTrue (is_ground_clause c)
     → ((d : TreeClause) → Middle d → (g : GroundClause) → GroundInstance functions d g → Covered is_predicate functions Holds g)
     → Covered is_predicate functions Middle c
     → Covered is_predicate functions Holds c
-Covered-across is_predicate functions Middle Holds c transitive c_ground each covered =
+Covered-across is_predicate functions Middle Holds c c_ground each covered =
     let all : Together is_predicate functions Holds c covered.by =
-    together is_predicate functions Holds c transitive c_ground covered.by (λ k d in_range.
+    together is_predicate functions Holds c c_ground covered.by (λ k d in_range.
     let it : InstanceOf functions Middle (get_or covered.by k d) = covered.instances k d in_range in
     record {
       covered = each it.clause it.holds (get_or covered.by k d) it.is_instance;
@@ -115,5 +115,5 @@ covers_more is_predicate functions cs ds c within covered =
     Covered-more is_predicate functions (Contains cs) (Contains ds) c (λ d there. All-contains (Contains ds) cs d within there) covered
 
 pub covers_across : CoversAcross
-covers_across is_predicate functions cs ds c transitive c_ground each covered =
-    Covered-across is_predicate functions (Contains cs) (Contains ds) c transitive c_ground each covered
+covers_across is_predicate functions cs ds c c_ground each covered =
+    Covered-across is_predicate functions (Contains cs) (Contains ds) c c_ground each covered

@@ -5,6 +5,15 @@ pub mod PlaceLemmas
 pub mod ClauseLemmas
 pub mod TestLemmas
 pub mod MeaningLemmas
+pub mod CountLemmas
+pub mod TotalLemmas
 pub mod OrderLemmas
+pub mod TreeOrderLemmas
+pub mod ClauseOrderLemmas
+pub mod InstanceLemmas
+pub mod InstancePlaces
+pub mod InferenceLemmas
+pub mod GroundInstanceLemmas
 pub mod CoverageLemmas
 pub mod ExampleLemmas
+pub mod MatchingExamples

@@ -9,7 +9,7 @@ use Rattle.fol_base.specs.Tree.{Tree, variable, application, Trees, no_trees, tr
 use Rattle.fol_base.specs.Instance.{Substitution, instance, instances}
 use Rattle.fol_base.specs.Place.{argument, with_argument, subterm, replaced}
 use Rattle.fol_base.specs.Clause.{literal_instance}
-use Rattle.fol_base.specs.Ground.{FunctionSymbol, has_symbol, has_constant, trees_count, is_ground, are_ground, ground_over, all_ground_over, IsGroundOver, is_ground_literal, is_ground_clause, ConstantsGiveGroundTrees, GroundInstancesAreGround}
+use Rattle.fol_base.specs.Ground.{FunctionSymbol, has_symbol, has_constant, trees_count, is_ground, are_ground, is_over, are_over, IsGroundOver, is_ground_literal, is_ground_clause, ConstantsGiveGroundTrees, GroundInstancesAreGround}
 use Rattle.fol_base.specs.Interpretation.{Interpretation, symbol_value, Assignment, tree_value, trees_values, sides_true, literal_true_under, no_values, clause_true, CongruenceOfValues, ValuesOfInstances, TruthOfInstances, TruthOfGroundClauses}
 use Rattle.fol_base.specs.Entails.{EntailsMonotone, EntailsCut}
 use Rattle.fol_base.proofs.TreeLemmas.{trees_of-list_of}
@@ -30,40 +30,31 @@ constant-symbol (s ∷ functions) h =
     (or_cases (s.arity == 0) (has_constant functions) h)
 
 mutual
-  ground_tree-constant : (functions : List FunctionSymbol) (t : Tree) → ground_over functions t ≡ true → has_constant functions ≡ true
-  ground_tree-constant functions (variable v) h = absurd (true≢false (sym h))
-  ground_tree-constant functions (application f ts) h =
-      let parts = and_parts (has_symbol functions f (trees_count ts)) (all_ground_over functions ts) h in
-      ground_trees-constant functions ts f parts.0 parts.1
+  ground_tree-constant :
+      (functions : List FunctionSymbol) (t : Tree) → is_ground t ≡ true → is_over functions t ≡ true → has_constant functions ≡ true
+  ground_tree-constant functions (variable v) ground over = absurd (true≢false (sym ground))
+  ground_tree-constant functions (application f ts) ground over =
+      let parts = and_parts (has_symbol functions f (trees_count ts)) (are_over functions ts) over in
+      ground_trees-constant functions ts f parts.0 ground parts.1
 
   ground_trees-constant :
       (functions : List FunctionSymbol) (ts : Trees) (f : ℕ)
-      → has_symbol functions f (trees_count ts) ≡ true → all_ground_over functions ts ≡ true → has_constant functions ≡ true
-  ground_trees-constant functions no_trees f h all = symbol-constant functions f h
-  ground_trees-constant functions (tree_then t ts) f h all = ground_tree-constant functions t (and_parts (ground_over functions t) _ all).0
+      → has_symbol functions f (trees_count ts) ≡ true → are_ground ts ≡ true → are_over functions ts ≡ true
+      → has_constant functions ≡ true
+  ground_trees-constant functions no_trees f h ground over = symbol-constant functions f h
+  ground_trees-constant functions (tree_then t ts) f h ground over =
+      ground_tree-constant functions t (and_parts (is_ground t) (are_ground ts) ground).0 (and_parts (is_over functions t) (are_over functions ts) over).0
 
 pub constants_give_ground_trees : ConstantsGiveGroundTrees
 constants_give_ground_trees functions = (
-  λ tree. ground_tree-constant functions tree.0 tree.1,
+  λ tree. let parts = and_parts (is_ground tree.0) (is_over functions tree.0) tree.1 in ground_tree-constant functions tree.0 parts.0 parts.1,
   λ h. let r = constant-symbol functions h in (application r.0 no_trees, and_from (has_symbol functions r.0 0) true r.1 refl),
 )
 
 mutual
-  pub is_ground-from_over : (functions : List FunctionSymbol) (t : Tree) → ground_over functions t ≡ true → is_ground t ≡ true
-  is_ground-from_over functions (variable v) h = h
-  is_ground-from_over functions (application f ts) h =
-      are_ground-from_over functions ts (and_parts (has_symbol functions f (trees_count ts)) (all_ground_over functions ts) h).1
-
-  are_ground-from_over : (functions : List FunctionSymbol) (ts : Trees) → all_ground_over functions ts ≡ true → are_ground ts ≡ true
-  are_ground-from_over functions no_trees h = refl
-  are_ground-from_over functions (tree_then t ts) h =
-      let parts = and_parts (ground_over functions t) (all_ground_over functions ts) h in
-      and_from (is_ground t) _ (is_ground-from_over functions t parts.0) (are_ground-from_over functions ts parts.1)
-
-mutual
   pub is_ground-instance :
       (functions : List FunctionSymbol) (σ : Substitution) → IsGroundOver functions σ → (t : Tree) → is_ground (instance σ t) ≡ true
-  is_ground-instance functions σ h (variable v) = is_ground-from_over functions (σ v) (h v)
+  is_ground-instance functions σ h (variable v) = (and_parts (is_ground (σ v)) (is_over functions (σ v)) (h v)).0
   is_ground-instance functions σ h (application f ts) = are_ground-instances functions σ h ts
 
   are_ground-instances :

@@ -3,7 +3,7 @@ use Rattle.std.specs.Prelude.{◌≡◌, ℕ, Bool, false, List, All, Contains, 
 use Rattle.fol_base.specs.Clause.{TreeClause}
 use Rattle.fol_base.specs.Ground.{FunctionSymbol, GroundClause, GroundInstance, is_ground_clause}
 use Rattle.fol_base.specs.Entails.{Entails}
-use Rattle.fol_base.specs.Order.{clause_greater, NotGreaterIsTransitive}
+use Rattle.fol_base.specs.Order.{clause_greater}
 
 -- g is a ground instance of a clause that satisfies the predicate
 pub record InstanceOf (functions : List FunctionSymbol) (Holds : TreeClause → Type 0) (g : GroundClause) : Type 0 where
@@ -40,7 +40,6 @@ CoversMore =
 abbrev pub CoversAcross : Type 0
 CoversAcross =
     (is_predicate : ℕ → Bool) (functions : List FunctionSymbol) (cs ds : List TreeClause) (c : GroundClause)
-    → NotGreaterIsTransitive
     → IsTrue (is_ground_clause c)
     → ((d : TreeClause) → Contains cs d → (g : GroundClause) → GroundInstance functions d g → Covers is_predicate functions ds g)
     → Covers is_predicate functions cs c

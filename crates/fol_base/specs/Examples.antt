@@ -1,5 +1,5 @@
--- The symbols of the worked examples. Their numbers rise in the order a, b, c, f, g, p, q; the last two are predicates.
-use Rattle.std.specs.Prelude.{ℕ, Bool, true, false, ◌||◌, ◌==◌, List, [], ◌∷◌}
+-- The symbols of the worked examples. Their numbers rise in the order a, b, c, f, g, p, q, r; the last three are predicates.
+use Rattle.std.specs.Prelude.{ℕ, zero, suc, Bool, true, false, ◌||◌, ◌==◌, List, [], ◌∷◌}
 use Rattle.fol_base.specs.Tree.{Tree, variable, application, no_trees, tree_then}
 use Rattle.fol_base.specs.Instance.{Substitution}
 use Rattle.fol_base.specs.Clause.{TreeLiteral, TreeClause}
@@ -43,8 +43,12 @@ q t = equation (application 7 (tree_then t no_trees)) true_tree
 abbrev pub q₂ : Tree → Tree → TreeLiteral
 q₂ t u = equation (application 7 (tree_then t (tree_then u no_trees))) true_tree
 
+-- the nullary atom r
+abbrev pub r : TreeLiteral
+r = equation (application 8 no_trees) true_tree
+
 abbrev pub is_predicate : ℕ → Bool
-is_predicate symbol = (symbol == 6) || (symbol == 7)
+is_predicate symbol = (symbol == 6) || ((symbol == 7) || (symbol == 8))
 
 -- a, b and f with one argument
 abbrev pub functions : List FunctionSymbol
@@ -57,6 +61,14 @@ functions =
 -- each variable becomes a
 abbrev pub all_a : Substitution
 all_a v = a
+
+abbrev pub all_b : Substitution
+all_b v = b
+
+-- the variable 0 becomes a, and the others stay
+abbrev pub first_is_a : Substitution
+first_is_a zero = a
+first_is_a (suc v) = variable (suc v)
 
 -- a clause without names
 abbrev pub clause : List TreeLiteral → TreeClause

@@ -32,15 +32,18 @@ abbrev mutual
   are_ground no_trees = true
   are_ground (tree_then t ts) = is_ground t && are_ground ts
 
--- no variables, and symbols of the list alone, each with its number of arguments
+-- symbols of the list alone, each with its number of arguments; variables may stand anywhere
 abbrev mutual
-  pub ground_over : List FunctionSymbol → Tree → Bool
-  ground_over functions (variable v) = false
-  ground_over functions (application f ts) = has_symbol functions f (trees_count ts) && all_ground_over functions ts
+  pub is_over : List FunctionSymbol → Tree → Bool
+  is_over functions (variable v) = true
+  is_over functions (application f ts) = has_symbol functions f (trees_count ts) && are_over functions ts
 
-  pub all_ground_over : List FunctionSymbol → Trees → Bool
-  all_ground_over functions no_trees = true
-  all_ground_over functions (tree_then t ts) = ground_over functions t && all_ground_over functions ts
+  pub are_over : List FunctionSymbol → Trees → Bool
+  are_over functions no_trees = true
+  are_over functions (tree_then t ts) = is_over functions t && are_over functions ts
+
+abbrev pub ground_over : List FunctionSymbol → Tree → Bool
+ground_over functions t = is_ground t && is_over functions t
 
 -- each variable becomes a ground tree over the list
 abbrev pub IsGroundOver : List FunctionSymbol → Substitution → Type 0

@@ -15,5 +15,10 @@ pub mod Order
 pub mod Selection
 pub mod GroundInference
 pub mod Covered
+pub mod InstanceLaws
+pub mod Compatible
+pub mod Unifier
+pub mod Subsumption
+pub mod Spelling
 pub mod Examples
 pub mod GroundForm

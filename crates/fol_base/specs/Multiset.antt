@@ -1,5 +1,6 @@
 -- Lists as multisets, and the extension of an order to them (Dershowitz and Manna 1979).
 use Rattle.std.specs.Prelude.{◌≡◌, ℕ, ◌<◌, ◌≤◌, Bool, not, ◌&&◌, ◌||◌, ◌==◌, nat_lt, if◌then◌else◌, List, ◌++◌, ◌⊎◌, count_by, IsTrue, IsFalse, Contains, All}
+use Rattle.std.specs.Cmp.{IsEquivalence}
 use Rattle.std.specs.List.{list_any, list_all}
 
 -- what two things are to each other
@@ -49,3 +50,14 @@ pub record Outdoing {X : Type 0} (same : X → X → Bool) (exceeds : X → X �
 pub record MultisetGreater {X : Type 0} (same : X → X → Bool) (exceeds : X → X → Bool) (xs : List X) (ys : List X) : Type 0 where
   pub differ : IsFalse (same_multiset same xs ys)
   pub each_outdone : All (λ y. (times same y ys ≤ times same y xs) ⊎ Outdoing same exceeds xs ys y) ys
+
+-- ---- total orders
+
+-- Exceeding is a total order, up to sameness, on the elements within.
+pub record IsTotalOrderOn {X : Type 0} (same : X → X → Bool) (exceeds : X → X → Bool) (Within : X → Type 0) : Type 0 where
+  pub is_equivalence : IsEquivalence same
+  pub same_left : (x y z : X) → Within x → Within y → Within z → IsTrue (same x y) → IsTrue (exceeds x z) → IsTrue (exceeds y z)
+  pub same_right : (x y z : X) → Within x → Within y → Within z → IsTrue (same x y) → IsTrue (exceeds z x) → IsTrue (exceeds z y)
+  pub is_irreflexive : (x : X) → IsFalse (exceeds x x)
+  pub is_transitive : (x y z : X) → Within x → Within y → Within z → IsTrue (exceeds x y) → IsTrue (exceeds y z) → IsTrue (exceeds x z)
+  pub is_total : (x y : X) → Within x → Within y → IsTrue (same x y) ⊎ (IsTrue (exceeds x y) ⊎ IsTrue (exceeds y x))

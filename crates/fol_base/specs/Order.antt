@@ -2,11 +2,13 @@
 -- symbols' numbers as precedence, so that `$true` is lowest; and its extension to literals and clauses (Bachmair and Ganzinger 1994).
 use mathlib.Core.Bool.{beq}
 use Rattle.std.specs.Prelude.{◌≡◌, ℕ, ◌<◌, ◌≤◌, Bool, false, ◌&&◌, ◌||◌, ◌==◌, nat_lt, nat_le, if◌then◌else◌, List, [], ◌∷◌, ◌⊎◌, IsTrue}
+use Rattle.std.specs.Bool.{Decides}
+use Rattle.std.specs.Cmp.{IsEquivalence}
 use Rattle.std.specs.List.{list_all}
 use Rattle.fol_base.specs.Tree.{Tree, variable, application, Trees, no_trees, tree_then, tree_size, tree_eq, tree_variables}
 use Rattle.fol_base.specs.Clause.{TreeLiteral}
-use Rattle.fol_base.specs.Ground.{GroundClause, is_ground_clause}
-use Rattle.fol_base.specs.Multiset.{Comparison, compared, times, same_multiset, multiset_greater}
+use Rattle.fol_base.specs.Ground.{is_ground, GroundClause, is_ground_literal, is_ground_clause}
+use Rattle.fol_base.specs.Multiset.{Comparison, compared, times, same_multiset, multiset_greater, MultisetGreater, IsTotalOrderOn}
 
 -- how often a variable occurs
 abbrev pub occurrences : ℕ → Tree → ℕ
@@ -85,9 +87,55 @@ abbrev mutual
   TreesGreater (tree_then t ts) no_trees = ⊥
   TreesGreater (tree_then t ts) (tree_then u us) = TreeGreater t u ⊎ ((t ≡ u) × TreesGreater ts us)
 
+abbrev pub LiteralGreater : TreeLiteral → TreeLiteral → Type 0
+LiteralGreater l m = MultisetGreater tree_eq tree_greater (sides_multiset l) (sides_multiset m)
+
+abbrev pub ClauseGreater : List TreeLiteral → List TreeLiteral → Type 0
+ClauseGreater c d = MultisetGreater equivalent_literals literal_greater c d
+
 -- ---- laws
 
--- "not greater" is transitive on clauses without variables: a premise of the laws of coverage
+-- the test of equality decides it
+abbrev pub TreeEqualityDecided : Type 0
+TreeEqualityDecided = (t u : Tree) → Decides (tree_eq t u) (t ≡ u)
+
+-- each test says what the type does
+abbrev pub TreeGreaterDecided : Type 0
+TreeGreaterDecided = (s t : Tree) → Decides (tree_greater s t) (TreeGreater s t)
+
+abbrev pub LiteralGreaterDecided : Type 0
+LiteralGreaterDecided = (l m : TreeLiteral) → Decides (literal_greater l m) (LiteralGreater l m)
+
+abbrev pub ClauseGreaterDecided : Type 0
+ClauseGreaterDecided = (c d : List TreeLiteral) → Decides (clause_greater c d) (ClauseGreater c d)
+
+-- trees, literals and clauses that are the same for the order
+abbrev pub TreesEquivalence : Type 0
+TreesEquivalence = IsEquivalence tree_eq
+
+abbrev pub LiteralsEquivalence : Type 0
+LiteralsEquivalence = IsEquivalence equivalent_literals
+
+abbrev pub ClausesEquivalence : Type 0
+ClausesEquivalence = IsEquivalence equivalent_clauses
+
+-- clauses are the same exactly where each literal, listed or not, stands in both equally often
+abbrev pub ClausesCounted : Type 0
+ClausesCounted =
+    (c d : List TreeLiteral)
+    → Decides (equivalent_clauses c d) ((l : TreeLiteral) → times equivalent_literals l c ≡ times equivalent_literals l d)
+
+-- the order is total on ground trees, literals and clauses
+abbrev pub TreesTotallyOrdered : Type 0
+TreesTotallyOrdered = IsTotalOrderOn tree_eq tree_greater (λ t. IsTrue (is_ground t))
+
+abbrev pub LiteralsTotallyOrdered : Type 0
+LiteralsTotallyOrdered = IsTotalOrderOn equivalent_literals literal_greater (λ l. IsTrue (is_ground_literal l))
+
+abbrev pub ClausesTotallyOrdered : Type 0
+ClausesTotallyOrdered = IsTotalOrderOn equivalent_clauses clause_greater (λ c. IsTrue (is_ground_clause c))
+
+-- so "not greater" is transitive on them
 abbrev pub NotGreaterIsTransitive : Type 0
 NotGreaterIsTransitive =
     (b c d : GroundClause)

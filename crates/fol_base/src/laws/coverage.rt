@@ -12,8 +12,7 @@ pub fn coverage_by_more()
     ensures { CoversMore }
 {}
 
-/// What is covered by clauses whose ground instances are covered is covered, as far as "not greater" is transitive on ground
-/// clauses.
+/// What is covered by clauses whose ground instances are covered is covered.
 pub fn coverage_composes()
     ensures { CoversAcross }
 {}

@@ -1,0 +1,8 @@
+use Rattle.fol_base.proofs.MatchingExamples.{variable_occurs, first_is_a_general}
+use Rattle.fol_base.proofs.laws.matching_examples.unifier_examples.Goals as goal
+
+pub returns-clause-occurs : goal.returns-clause-occurs
+returns-clause-occurs c = variable_occurs
+
+pub returns-clause-most_general : goal.returns-clause-most_general
+returns-clause-most_general c = first_is_a_general

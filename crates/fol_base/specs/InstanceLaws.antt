@@ -1,0 +1,106 @@
+-- Laws of instances: one after another, their sizes and variables, their subterms, and the instances of canonical forms.
+use Rattle.std.specs.Prelude.{◌≡◌, ◌↔◌, ℕ, ◌+◌, ◌<◌, List, flat_map, sum_by, All, Some, IsTrue}
+use Rattle.fol_base.specs.Tree.{Tree, variable, application, Trees, no_trees, tree_then, tree_size, tree_variables, VariablesBelow}
+use Rattle.fol_base.specs.Instance.{Substitution, instance}
+use Rattle.fol_base.specs.Place.{subterm, replaced}
+use Rattle.fol_base.specs.Clause.{TreeLiteral, TreeClause, clause_instance, clause_size, clause_variables}
+use Rattle.fol_base.specs.Canonical.{canonical_clause}
+use Rattle.fol_base.specs.Ground.{FunctionSymbol, is_over, GroundClause, GroundInstance, literals_instance}
+use Rattle.fol_base.specs.Order.{occurrences}
+use Rattle.fol_base.specs.GroundInference.{superposed, factored}
+use Rattle.fol_base.specs.declared.clause.Side.{Side}
+
+-- the second substitution after the first
+abbrev pub after : Substitution → Substitution → Substitution
+after second first v = instance second (first v)
+
+-- the occurrences of symbols
+abbrev mutual
+  pub tree_symbols : Tree → ℕ
+  tree_symbols (variable v) = 0
+  tree_symbols (application f ts) = 1 + trees_symbols ts
+
+  pub trees_symbols : Trees → ℕ
+  trees_symbols no_trees = 0
+  trees_symbols (tree_then t ts) = tree_symbols t + trees_symbols ts
+
+abbrev pub clause_symbols : TreeClause → ℕ
+clause_symbols c = sum_by (λ l. tree_symbols l.left + tree_symbols l.right) c.literals
+
+-- ---- laws
+
+-- an instance of an instance is an instance
+abbrev pub InstancesOfInstances : Type 0
+InstancesOfInstances = (σ τ : Substitution) (t : Tree) → instance σ (instance τ t) ≡ instance (after σ τ) t
+
+abbrev pub ClauseInstancesOfInstances : Type 0
+ClauseInstancesOfInstances =
+    (σ τ : Substitution) (c : TreeClause) → clause_instance σ (clause_instance τ c) ≡ clause_instance (after σ τ) c
+
+-- a ground instance of an instance is one of the clause, where what was put in for its variables is over the list
+abbrev pub GroundInstancesOfInstances : Type 0
+GroundInstancesOfInstances =
+    (functions : List FunctionSymbol) (τ : Substitution) (c : TreeClause) (g : GroundClause)
+    → All (λ v. IsTrue (is_over functions (τ v))) (clause_variables c)
+    → GroundInstance functions (clause_instance τ c) g → GroundInstance functions c g
+
+-- what is put in for other variables doesn't count
+abbrev pub InstancesAgree : Type 0
+InstancesAgree =
+    (σ τ : Substitution) (t : Tree) → All (λ v. σ v ≡ τ v) (tree_variables t) → instance σ t ≡ instance τ t
+
+abbrev pub InstancesAgreeBelow : Type 0
+InstancesAgreeBelow =
+    (n : ℕ) (σ τ : Substitution) (t : Tree)
+    → VariablesBelow n t → ((v : ℕ) → v < n → σ v ≡ τ v) → instance σ t ≡ instance τ t
+
+-- the size of an instance: the symbols, and for each occurrence of a variable the size of what is put in
+abbrev pub SizesOfInstances : Type 0
+SizesOfInstances =
+    (σ : Substitution) (t : Tree) → tree_size (instance σ t) ≡ tree_symbols t + sum_by (λ v. tree_size (σ v)) (tree_variables t)
+
+abbrev pub SizesOfClauseInstances : Type 0
+SizesOfClauseInstances =
+    (σ : Substitution) (c : TreeClause)
+    → clause_size (clause_instance σ c) ≡ clause_symbols c + sum_by (λ v. tree_size (σ v)) (clause_variables c)
+
+-- the variables of an instance are those of what is put in, in order, and so are their counts
+abbrev pub VariablesOfInstances : Type 0
+VariablesOfInstances =
+    (σ : Substitution) (t : Tree) → tree_variables (instance σ t) ≡ flat_map (λ v. tree_variables (σ v)) (tree_variables t)
+
+abbrev pub OccurrencesInInstances : Type 0
+OccurrencesInInstances =
+    (σ : Substitution) (t : Tree) (v : ℕ)
+    → occurrences v (instance σ t) ≡ sum_by (λ w. occurrences v (σ w)) (tree_variables t)
+
+-- an instance has, at the places of the tree, the instances of its subterms
+abbrev pub SubtermsOfInstances : Type 0
+SubtermsOfInstances =
+    (σ : Substitution) (place : List ℕ) (t u : Tree)
+    → subterm place t ≡ Some u → subterm place (instance σ t) ≡ Some (instance σ u)
+
+-- to replace and then put in is to put in and then replace
+abbrev pub ReplacementsInInstances : Type 0
+ReplacementsInInstances =
+    (σ : Substitution) (place : List ℕ) (new t made : Tree)
+    → replaced place new t ≡ Some made → replaced place (instance σ new) (instance σ t) ≡ Some (instance σ made)
+
+-- conclusions of instances are instances of conclusions
+abbrev pub SuperpositionsInInstances : Type 0
+SuperpositionsInInstances =
+    (σ : Substitution) (first second made : List TreeLiteral) (i j : ℕ) (from_side into_side : Side) (place : List ℕ)
+    → superposed first i from_side second j into_side place ≡ Some made
+    → superposed (literals_instance σ first) i from_side (literals_instance σ second) j into_side place ≡ Some (literals_instance σ made)
+
+abbrev pub FactoringsInInstances : Type 0
+FactoringsInInstances =
+    (σ : Substitution) (ls made : List TreeLiteral) (i j : ℕ) (side_i side_j : Side)
+    → factored ls i side_i j side_j ≡ Some made
+    → factored (literals_instance σ ls) i side_i j side_j ≡ Some (literals_instance σ made)
+
+-- a clause's ground instances are those of its canonical form
+abbrev pub GroundInstancesOfCanonical : Type 0
+GroundInstancesOfCanonical =
+    (functions : List FunctionSymbol) (c : TreeClause) (g : GroundClause)
+    → GroundInstance functions c g ↔ GroundInstance functions (canonical_clause c) g

@@ -1,0 +1,64 @@
+// Laws of instances.
+
+ghost use Rattle.fol_base.specs.InstanceLaws.{
+  InstancesOfInstances,
+  ClauseInstancesOfInstances,
+  GroundInstancesOfInstances,
+  InstancesAgree,
+  InstancesAgreeBelow,
+  SizesOfInstances,
+  SizesOfClauseInstances,
+  VariablesOfInstances,
+  OccurrencesInInstances,
+  SubtermsOfInstances,
+  ReplacementsInInstances,
+  SuperpositionsInInstances,
+  FactoringsInInstances,
+  GroundInstancesOfCanonical,
+};
+
+/// An instance of an instance is an instance.
+pub fn instances_of_instances()
+    ensures trees { InstancesOfInstances }
+    ensures clauses { ClauseInstancesOfInstances }
+{}
+
+/// Substitutions that agree on a term's variables give one instance.
+pub fn agreement_of_instances()
+    ensures on_variables { InstancesAgree }
+    ensures below { InstancesAgreeBelow }
+{}
+
+/// The size of an instance: the symbols, and for each occurrence of a variable the size of what is put in.
+pub fn sizes_of_instances()
+    ensures trees { SizesOfInstances }
+    ensures clauses { SizesOfClauseInstances }
+{}
+
+/// The variables of an instance are those of what is put in.
+pub fn variables_of_instances()
+    ensures variables { VariablesOfInstances }
+    ensures occurrences { OccurrencesInInstances }
+{}
+
+/// The subterms of an instance at the term's places, and replacements there.
+pub fn places_in_instances()
+    ensures subterms { SubtermsOfInstances }
+    ensures replacements { ReplacementsInInstances }
+{}
+
+/// A ground instance of an instance is one of the clause, where what was put in for its variables is over the function symbols.
+pub fn ground_instances_of_instances()
+    ensures { GroundInstancesOfInstances }
+{}
+
+/// A clause's ground instances are those of its canonical form.
+pub fn ground_instances_of_canonical()
+    ensures { GroundInstancesOfCanonical }
+{}
+
+/// The conclusions of instances by superposition and factoring are the instances of the conclusions.
+pub fn conclusions_of_instances()
+    ensures superposition { SuperpositionsInInstances }
+    ensures factoring { FactoringsInInstances }
+{}

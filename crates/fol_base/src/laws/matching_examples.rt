@@ -1,0 +1,64 @@
+// Worked examples of compatible terms, unifiers, matchers, subsumption and the spelling of tokens.
+
+ghost use Rattle.std.specs.Prelude.{◌≡◌, [], ◌∷◌, true, false, IsTrue, IsFalse, codes};
+ghost use Rattle.fol_base.specs.Instance.{Substitution};
+ghost use Rattle.fol_base.specs.Compatible.{compatible, compatible_generalisation, compatible_instance};
+ghost use Rattle.fol_base.specs.Unifier.{IsUnifier, IsUnifierApart, IsMostGeneralUnifier, IsMatcher};
+ghost use Rattle.fol_base.specs.Subsumption.{Subsumes};
+ghost use Rattle.fol_base.specs.Spelling.{
+  spells,
+  lower_word,
+  variable_word,
+  quoted_word,
+  distinct_object,
+  dollar_word,
+  number,
+  connective,
+  mark,
+  other,
+};
+ghost use Rattle.fol_base.specs.Examples.{x, a, b, f, f₂, g, p, q, r, clause, all_a, all_b, first_is_a};
+
+/// Entries that may unify with a query, generalise it or be instances of it.
+pub fn compatible_examples()
+    ensures left_variable { IsTrue (compatible (f₂ (x 0) a) (f₂ b a)) }
+    ensures right_variable { IsTrue (compatible (f₂ b (x 0)) (f₂ b a)) }
+    ensures other_head { IsFalse (compatible (g a) (f₂ b a)) }
+    ensures generalisation { IsTrue (compatible_generalisation (f₂ (x 0) a) (f₂ b a)) }
+    ensures no_generalisation { IsFalse (compatible_generalisation (f₂ b a) (f₂ (x 0) a)) }
+    ensures instance_of_query { IsTrue (compatible_instance (f₂ (x 0) a) (f₂ (x 0) (x 1))) }
+    ensures no_instance { IsFalse (compatible_instance (f₂ (x 0) a) (f₂ b a)) }
+{}
+
+/// Unifiers and matchers.
+pub fn unifier_examples()
+    ensures apart { IsUnifierApart (f₂ (x 0) b) (f₂ a (x 0)) all_a all_b }
+    ensures occurs { (σ : Substitution) → IsUnifier (x 0) (f (x 0)) σ → ⊥ }
+    ensures most_general { IsMostGeneralUnifier (x 0) a first_is_a }
+    ensures matched { IsMatcher (f₂ (x 0) (x 0)) (f₂ a a) all_a }
+    ensures not_matched { (σ : Substitution) → IsMatcher (f₂ (x 0) (x 0)) (f₂ a b) σ → ⊥ }
+{}
+
+/// Subsumption.
+pub fn subsumption_examples()
+    ensures in_other_order { Subsumes (clause (p (x 0) ∷ q (x 0) ∷ [])) (clause (q a ∷ p a ∷ r ∷ [])) }
+    ensures to_different_literals { Subsumes (clause (p (x 0) ∷ p (x 1) ∷ [])) (clause (p a ∷ [])) → ⊥ }
+{}
+
+/// The spelling of tokens.
+pub fn spelling_examples()
+    ensures lower { IsTrue (spells lower_word (codes "aB_1")) }
+    ensures variable { IsTrue (spells variable_word (codes "X0")) }
+    ensures quoted { IsTrue (spells quoted_word (codes "'A \\' b'")) }
+    ensures quoted_empty { IsFalse (spells quoted_word (codes "''")) }
+    ensures quoted_unclosed { IsFalse (spells quoted_word (codes "'ab")) }
+    ensures distinct_empty { IsTrue (spells distinct_object (codes "\"\"")) }
+    ensures dollar { IsTrue (spells dollar_word (codes "$true")) }
+    ensures dollar_alone { IsFalse (spells dollar_word (codes "$$")) }
+    ensures real { IsTrue (spells number (codes "3.5e-2")) }
+    ensures fraction { IsTrue (spells number (codes "12/7")) }
+    ensures number_cut { IsFalse (spells number (codes "3.")) }
+    ensures arrow { IsTrue (spells connective (codes "<=>")) }
+    ensures bracket { IsTrue (spells mark (codes "[")) }
+    ensures other_sign { IsTrue (spells other (codes "*")) }
+{}
