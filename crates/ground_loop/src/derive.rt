@@ -3,7 +3,7 @@
 ghost use Rattle.std.specs.Prelude.{◌≤◌, map, IfOk};
 ghost use Rattle.fol_base.specs.GroundForm.{IsGroundForm, form_size};
 ghost use Rattle.fol_base.specs.Literal.{clause_of};
-ghost use Rattle.kernel_steps.specs.Derivation.{IsRefutation};
+ghost use Rattle.kernel_steps.specs.Derivation.{IsRefutation, AreClauseLines};
 ghost use Rattle.ground_loop.specs.Search.{ReachesEmpty};
 
 use crate::entry::Entries;
@@ -16,7 +16,8 @@ pub fn derive(_alloc: Global, form: &Clauses, atoms: &Terms, entries: &Entries) 
     requires ground { IsGroundForm (map clause_of form.now) }
     requires small { form_size (map clause_of form.now) ≤ 4000 }
     requires reaches { ReachesEmpty (map clause_of form.now) atoms.now entries.now }
-    ensures { IfOk result (IsRefutation (map clause_of form.now)) }
+    ensures refutes { IfOk result (IsRefutation (map clause_of form.now)) }
+    ensures clause_lines { IfOk result AreClauseLines }
 {
     let _ = form;
     let _ = atoms;

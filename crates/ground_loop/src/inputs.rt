@@ -1,19 +1,111 @@
 // The input lines of a derivation.
 
-ghost use Rattle.std.specs.Prelude.{map, IfOk};
+ghost use Rattle.std.specs.Prelude.{◌≡◌, ◌+◌, ◌++◌, map, IfOk};
 ghost use Rattle.fol_base.specs.Literal.{clause_of};
-ghost use Rattle.kernel_steps.specs.Derivation.{IsRefutation, IsSourcedRefutation};
+ghost use Rattle.kernel_steps.specs.Derivation.{IsRefutation, AreClauseLines, IsSourcedRefutation};
+ghost use Rattle.ground_loop.specs.Inputs.{shifted_step, shifted_line, input_of, inputs_of, with_inputs_of};
 
-use fol_base::{Clauses, Mem, NoMemory};
-use kernel_steps::Derivation;
+use fol_base::{Clause, Clauses, Literals, Mem, Names, NoMemory};
+use kernel_steps::{Derivation, Line, Step};
 use std::alloc::Global;
 
-/// The derivation below the input lines of the formulas whose clauses it uses. The parents of its lines are numbered anew.
-pub fn with_inputs(_alloc: Global, form: &Clauses, derivation: Derivation) -> Mem<Derivation>
-    requires { IsRefutation (map clause_of form.now) derivation }
+/// The derivation below the input lines of the formulas whose clauses it uses, where clause number i comes from
+/// formula i. The parents of its lines are numbered anew.
+pub fn with_inputs(alloc: Global, form: &Clauses, derivation: Derivation) -> Mem<Derivation>
+    requires refutes { IsRefutation (map clause_of form.now) derivation }
+    requires clause_lines { AreClauseLines derivation }
     ensures { IfOk result (IsSourcedRefutation (map clause_of form.now)) }
 {
     let _ = form;
-    let _ = derivation;
-    Err(NoMemory)
+    below_inputs(alloc, derivation)
+}
+
+fn below_inputs(alloc: Global, derivation: Derivation) -> Mem<Derivation>
+    ensures { IfOk result (λ lines. lines ≡ with_inputs_of derivation) }
+{
+    let mut lines = Vec::new(alloc);
+    for line in derivation.as_slice() {
+        push_input(alloc, &mut lines, &line.step)?;
+    }
+    let shift = lines.len() as u64;
+    push_shifted(&mut lines, derivation.into_vec(), shift)?;
+    Ok(Derivation::from_vec(lines))
+}
+
+/// Adds the input line that a step needs.
+fn push_input(alloc: Global, lines: &mut Vec<Line>, step: &Step) -> Mem<()>
+    ensures { IfOk result (λ _. lines.new.items ≡ lines.old.items ++ input_of step.now) }
+{
+    if let Step::Clausify(number) = step {
+        let place = u32::try_from(*number).map_err(|_| NoMemory)?;
+        lines.push(Line {
+            step: Step::Input(place),
+            clause: Clause {
+                literals: Literals::new(alloc),
+                names: Names::new(alloc),
+            },
+        })?;
+    }
+    Ok(())
+}
+
+/// Adds lines with their parents numbered from so many lines on.
+fn push_shifted(lines: &mut Vec<Line>, more: Vec<Line>, shift: u64) -> Mem<()>
+    ensures { IfOk result (λ _. lines.new.items ≡ lines.old.items ++ map (shifted_line shift) more.items) }
+{
+    for line in more {
+        lines.push(Line {
+            step: shifted(line.step, shift)?,
+            clause: line.clause,
+        })?;
+    }
+    Ok(())
+}
+
+/// The step with its parents numbered from so many lines on.
+fn shifted(step: Step, shift: u64) -> Mem<Step>
+    ensures { IfOk result (λ made. made ≡ shifted_step shift step) }
+{
+    match step {
+        Step::Para(
+            first,
+            second,
+            from,
+            from_side,
+            into,
+            into_side,
+            place,
+            first_bind,
+            second_bind,
+        ) => {
+            let first = moved(first, shift)?;
+            let second = moved(second, shift)?;
+            Ok(Step::Para(
+                first,
+                second,
+                from,
+                from_side,
+                into,
+                into_side,
+                place,
+                first_bind,
+                second_bind,
+            ))
+        }
+        Step::Refl(parent, index, bind) => Ok(Step::Refl(moved(parent, shift)?, index, bind)),
+        Step::Merge(parent, stays, goes, bind) => Ok(Step::Merge(
+            moved(parent, shift)?,
+            stays,
+            goes,
+            bind,
+        )),
+        other => Ok(other),
+    }
+}
+
+/// The number of a line below so many others. More lines than a number counts find no memory.
+fn moved(parent: u64, shift: u64) -> Mem<u64>
+    ensures { IfOk result (λ number. number ≡ parent + shift) }
+{
+    parent.checked_add(shift).ok_or(NoMemory)
 }

@@ -40,6 +40,10 @@ pub record IsRefutation (form : List TreeClause) (lines : List Line) : Type 0 wh
   pub is_clause : IsTrue (is_clause_step last.step)
   pub is_empty : clause_of last.clause ≡ empty_clause
 
+-- no line is an input or negate line
+abbrev pub AreClauseLines : List Line → Type 0
+AreClauseLines lines = (n : ℕ) (line : Line) → slice_get lines n ≡ Some line → IsTrue (is_clause_step line.step)
+
 -- whether a step is the input of that formula
 abbrev pub is_input_of : ℕ → Step → Bool
 is_input_of place (Input p) = p == place
