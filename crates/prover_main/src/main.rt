@@ -5,7 +5,37 @@ mod report;
 mod run;
 mod words;
 
+use fol_base::{Mem, NoMemory};
+use outside::{FileLibrary, StdoutSink};
 pub use run::run;
+use std::env;
+use std::io::ErrorKind;
+use std::process::ExitCode;
 pub use words::Words;
 
-fn main() {}
+/// The words after the program's name. Words of which one is no text are as none, which is usage.
+fn command_words(rt: &HostRuntime) -> Mem<Words> {
+    let mut words = Words::new(rt.alloc());
+    match env::args(rt) {
+        Ok(arguments) => {
+            for word in arguments.skip(1) {
+                words.push(word)?;
+            }
+        }
+        Err(error) if error.kind() == ErrorKind::OutOfMemory => return Err(NoMemory),
+        Err(_) => {}
+    }
+    Ok(words)
+}
+
+fn main(rt: HostRuntime) -> ExitCode {
+    let Ok(words) = command_words(&rt) else {
+        return ExitCode::from(7);
+    };
+    let mut library = FileLibrary::new(&rt);
+    let mut sink = StdoutSink::new(&rt);
+    ExitCode::from(run(rt.alloc(), &words, &mut library, &mut sink))
+}
+
+#[cfg(test)]
+mod tests;

@@ -1,0 +1,176 @@
+// What no clause says: that runs end with the report that they should, over memory.
+use super::*;
+use fol_base::Numbers;
+use outside::{Files, MemFile, MemLibrary, MemSink};
+use std::alloc::Global;
+use std::test::Fail;
+
+// The words, the file's name and bytes, the status, and the report.
+struct Case {
+    words: &'static [&'static str],
+    file: &'static str,
+    bytes: &'static [u8],
+    status: u8,
+    report: &'static [u8],
+}
+
+const TWO_UNITS: &[u8] = b"cnf(a,axiom,p). cnf(b,negated_conjecture,~p).";
+
+const TWO_UNITS_REPORT: &[u8] = b"% SZS status Unsatisfiable for r1\n\
+% SZS output start CNFRefutation for r1\n\
+cnf(c0,axiom,p,file('r1.p',a)).\n\
+cnf(c1,negated_conjecture,~p,file('r1.p',b)).\n\
+cnf(c2,plain,p,inference(clausify,[status(esa),index(0)],[c0])).\n\
+cnf(c3,plain,~p,inference(clausify,[status(esa),index(1)],[c1])).\n\
+cnf(c4,plain,~$true,inference(para,[status(thm),from(0,left),into(0,left,[]),bind([]),bind([])],[c2,c3])).\n\
+cnf(c5,plain,$false,inference(refl,[status(thm),lit(0),bind([])],[c4])).\n\
+% SZS output end CNFRefutation for r1\n";
+
+fn words_of(alloc: Global, words: &[&str]) -> Result<Words, Fail> {
+    let mut list = Words::new(alloc);
+    for word in words {
+        list.push(String::from_str(alloc, word)?)?;
+    }
+    Ok(list)
+}
+
+fn library_of(alloc: Global, name: &str, bytes: &[u8]) -> Result<MemLibrary, Fail> {
+    let mut files = Files::new(alloc);
+    files.push(MemFile::new(alloc, name, bytes)?)?;
+    Ok(MemLibrary::new(alloc, files, Numbers::new(alloc)))
+}
+
+fn expect_run(rt: &HostRuntime, case: &Case) -> Result<(), Fail> {
+    let alloc = rt.alloc();
+    let words = words_of(alloc, case.words)?;
+    let mut library = library_of(alloc, case.file, case.bytes)?;
+    let mut sink = MemSink::new(alloc, 64, 100_000, Numbers::new(alloc))?;
+    let status = run(alloc, &words, &mut library, &mut sink);
+    assert_eq!(rt; status, case.status, "on {}", case.file);
+    assert!(rt; sink.bytes() == case.report, "the report on {}", case.file);
+    Ok(())
+}
+
+#[test]
+fn runs_report_as_stated(rt: HostRuntime) -> Result<(), Fail> {
+    let cases = [
+        Case {
+            words: &["prove", "r1.p"],
+            file: "r1.p",
+            bytes: TWO_UNITS,
+            status: 0,
+            report: TWO_UNITS_REPORT,
+        },
+        Case {
+            words: &["prove", "q.p"],
+            file: "q.p",
+            bytes: b"cnf(a,axiom,p(c)).",
+            status: 10,
+            report: b"% SZS status Unknown for q\n% closed\n",
+        },
+        Case {
+            words: &["prove", "r21.p"],
+            file: "r21.p",
+            bytes: b"tff(a,axiom,p).",
+            status: 3,
+            report: b"% SZS status InputError for r21\n% NotBuilt\n",
+        },
+        Case {
+            words: &["prove", "none.p"],
+            file: "other.p",
+            bytes: b"",
+            status: 4,
+            report: b"% SZS status OSError for none\n% Load none.p\n",
+        },
+        Case {
+            words: &["prove"],
+            file: "r1.p",
+            bytes: TWO_UNITS,
+            status: 6,
+            report: b"usage: prove FILE\n",
+        },
+        Case {
+            words: &[],
+            file: "r1.p",
+            bytes: TWO_UNITS,
+            status: 6,
+            report: b"usage: prove FILE\n",
+        },
+        Case {
+            words: &["--help"],
+            file: "r1.p",
+            bytes: TWO_UNITS,
+            status: 6,
+            report: b"usage: prove FILE\n",
+        },
+        Case {
+            words: &["prove", "-"],
+            file: "-",
+            bytes: TWO_UNITS,
+            status: 6,
+            report: b"usage: prove FILE\n",
+        },
+        Case {
+            words: &["prove", ""],
+            file: "",
+            bytes: TWO_UNITS,
+            status: 6,
+            report: b"usage: prove FILE\n",
+        },
+        Case {
+            words: &["prove", "dir/sub/.p"],
+            file: "dir/sub/.p",
+            bytes: b"",
+            status: 10,
+            report: b"% SZS status Unknown for \n% closed\n",
+        },
+        Case {
+            words: &["prove", "d/\x01 x.p.p"],
+            file: "d/\x01 x.p.p",
+            bytes: b"!",
+            status: 3,
+            report: b"% SZS status InputError for ? x.p\n% NotBuilt\n",
+        },
+    ];
+    for case in &cases {
+        expect_run(&rt, case)?;
+    }
+    Ok(())
+}
+
+#[test]
+fn a_text_that_is_cut_off_is_refused(rt: HostRuntime) -> Result<(), Fail> {
+    let alloc = rt.alloc();
+    for end in 0..TWO_UNITS.len() {
+        let words = words_of(alloc, &["prove", "r1.p"])?;
+        let mut library = library_of(alloc, "r1.p", &TWO_UNITS[..end])?;
+        let mut sink = MemSink::new(alloc, 1000, 1000, Numbers::new(alloc))?;
+        let status = run(alloc, &words, &mut library, &mut sink);
+        let whole = end == 0 || end == 15 || end == 16;
+        assert_eq!(rt; status, if whole { 10 } else { 3 }, "cut at {end}");
+    }
+    Ok(())
+}
+
+#[test]
+fn a_file_over_the_limit_is_refused(rt: HostRuntime) -> Result<(), Fail> {
+    let alloc = rt.alloc();
+    let words = words_of(alloc, &["prove", "r1.p"])?;
+    let bytes = vec![in alloc; 32u8; 67_108_865]?;
+    let mut library = library_of(alloc, "r1.p", bytes.as_slice())?;
+    let mut sink = MemSink::new(alloc, 1000, 1000, Numbers::new(alloc))?;
+    assert_eq!(rt; run(alloc, &words, &mut library, &mut sink), 3);
+    assert!(rt; sink.bytes() == b"% SZS status InputError for r1\n% NotBuilt\n".as_slice());
+    Ok(())
+}
+
+#[test]
+fn a_sink_that_fails_ends_the_report(rt: HostRuntime) -> Result<(), Fail> {
+    let alloc = rt.alloc();
+    let words = words_of(alloc, &["prove", "r2.p"])?;
+    let mut library = library_of(alloc, "r2.p", b"")?;
+    let mut sink = MemSink::new(alloc, 8, 1000, Numbers::from_slice(alloc, &[3])?)?;
+    assert_eq!(rt; run(alloc, &words, &mut library, &mut sink), 5);
+    assert!(rt; sink.bytes() == b"% SZS status Unk".as_slice());
+    Ok(())
+}
