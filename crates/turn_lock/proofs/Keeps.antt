@@ -13,7 +13,7 @@ use prog.Atomic.{either}
 use Rattle.atomic_table.specs.Table.{State, Me, Act, keeps, takes, gives, step, stepped, opening, Allows, Splits, Joins, Final, Seen, homes_after, carried_after, rest}
 use Rattle.atomic_table.proofs.Lists.{at_set, set_else, set_again, at_longer, at_snoc, exchanged}
 use Rattle.turn_lock.specs.declared.view.View.{View}
-use Rattle.turn_lock.specs.History.{AddsOwnKeys, OwnsKeys, added_places, longer}
+use Rattle.turn_lock.specs.History.{AddsOwnKeys, OwnsKeys, AreBelow, added_places, longer}
 use Rattle.turn_lock.specs.Rule.{IsDistinct, all_shares, IsLive, IsKnown, IsHome, IsHeldBy, Turns}
 use Rattle.turn_lock.specs.Steps.{first_view, holding, raised, released, planning, kept_part, given_part, joined, spent_view, Seizes, Raises, Releases, Plans, Looks}
 use Rattle.turn_lock.proofs.Lists.{prefix_itself, prefix_trans, prefix_length, prefixes, set_there, same_at, single, contains_none, distinct_append, range_distinct, longer_prefix, both_lists, added_bounds, others_keys, own_keys, own_keys_none, both_keys, shares_set, shares_snoc, shares_two}
@@ -185,8 +185,9 @@ module _ {S E O : Type 0} (history_of : S → List E) (origin_of : S → O) (key
               home.0,
               (λ i. (holding me.0 (sym same i), (0, Some home.0) ∷ empty i)),
               subst (IsPrefix me.0.seen) (sym same) live.begins,
-              subst (λ (l : List E). OwnsKeys key_of l me.0.own) (sym same) live.keys,
               live.origin ∙ ap (λ (o : O). Some o) (sym home.3),
+              live.below,
+              subst (λ (l : List E). OwnsKeys key_of l me.0.own) (sym same) live.keys,
             )),
             (λ shut. absurd (shut free)),
           ),
@@ -447,18 +448,28 @@ module _ {S E O : Type 0} (history_of : S → List E) (origin_of : S → O) (key
     whole = refl;
   }
 
+  -- what a pass with all shares knows of the state that the lock had in the end
+  abbrev pub IsLast : V → S → Type 0
+  IsLast v x = IsPrefix v.seen (history_of x) × (v.origin ≡ Some (origin_of x)) × AreBelow v.own (length v.seen) × OwnsKeys key_of (history_of x) v.own
+
   -- with all shares there is no other pass, so the state is at home
-  pub closes : (first : O) (id : ℕ) (v : V) (ws : List ℕ) (xs : List (Option S)) → Final (Seen (Rule first) id v) ws xs → v.held ≡ None → v.shares ≡ 1024
-      → (x : S) × (get_elem? xs 0 ≡ some (Some x)) × IsPrefix v.seen (history_of x) × (v.origin ≡ Some (origin_of x)) × OwnsKeys key_of (history_of x) v.own
-  closes first id v ws xs final free all =
+  pub closes : (first : O) (id : ℕ) (v : V) (ws : List ℕ) (xs : List (Option S)) (taken : Option S) → Final (Seen (Rule first) id v) ws xs → get_elem? xs 0 ≡ some taken → v.held ≡ None → v.shares ≡ 1024
+      → (x : S) × (taken ≡ Some x) × IsLast v x
+  closes first id v ws xs taken final got free all =
       let s : St = final.0 in let r : Rule first s = final.1.0 in let at : get_elem? s.views id ≡ some v = final.1.1 in
       let gate : r.gate ≡ 0 = dite (ℕ_discrete r.gate 0) (λ e. e) (λ shut. absurd (let h = r.closed shut in let k = (r.each r.holder h.0 h.1).holds r.log h.2 in dite (ℕ_discrete r.holder id)
           (λ e. none-some r.log (sym free ∙ ap (λ (z : V). z.held) (same_at s.views id v h.0 at (subst (λ (z : ℕ). get_elem? s.views z ≡ some h.0) e h.1)) ∙ h.2))
           (λ ne. let t = shares_two s.views r.holder id h.0 v ne h.1 at in let u = r.whole in let z = k.3 in omega (arith, t, u, z, all)))) in
       let home = r.home gate in let live = (r.each id v at).live (omega (arith, all)) in (
         home.0,
-        final.4 0 (Some home.0) (ap (λ (l : List (Opt (Option S))). get_elem? l 0) home.1),
-        subst (IsPrefix v.seen) (sym home.2) live.begins,
-        live.origin ∙ ap (λ (o : O). Some o) (sym home.3),
-        subst (λ (l : List E). OwnsKeys key_of l v.own) (sym home.2) live.keys,
+        same_at xs 0 taken (Some home.0) got (final.4 0 (Some home.0) (ap (λ (l : List (Opt (Option S))). get_elem? l 0) home.1)),
+        (
+          subst (IsPrefix v.seen) (sym home.2) live.begins,
+          live.origin ∙ ap (λ (o : O). Some o) (sym home.3),
+          live.below,
+          subst (λ (l : List E). OwnsKeys key_of l v.own) (sym home.2) live.keys,
+        ),
       )
+
+  pub closes_as : (v : V) (taken : Option S) (y : S) → (x : S) × (taken ≡ Some x) × IsLast v x → taken ≡ Some y → IsLast v y
+  closes_as v taken y t e = subst (IsLast v) (same_Some t.0 y (sym t.1 ∙ e)) t.2

@@ -1,5 +1,5 @@
 -- Lemmas on lists: beginnings, entries at places, lists of places, shares.
-use Rattle.std.proofs.Common.{◌≡◌, ◌≢◌, ℕ, zero, suc, ◌+◌, ◌-◌, ◌<◌, ◌≤◌, ◌⊎◌, cond, leb, Bool, true, false, List, [], ◌∷◌, ◌++◌, length, get_or, drop, set, slice_get, Option, Some, None, IsSome, unwrap_or, sym, refl, ap, ◌∙◌, subst, inl, inr, ⊎_elim, arith, append_assoc, length-append, le-leb}
+use Rattle.std.proofs.Common.{◌≡◌, ◌≢◌, ℕ, zero, suc, ◌+◌, ◌-◌, ◌<◌, ◌≤◌, ◌⊎◌, cond, leb, Bool, true, false, List, [], ◌∷◌, ◌++◌, length, get_or, drop, set, slice_get, Option, Some, None, IsSome, unwrap_or, sym, refl, ap, ◌∙◌, subst, inl, inr, ⊎_elim, arith, append_assoc, length-append, le-leb, true≢false}
 use Rattle.std.specs.List.{Contains, range_with_len}
 use Rattle.std.proofs.lemmas.List.Elements.{Contains-append_left, Contains-append_right, Contains-append_cases}
 use Rattle.std.proofs.lemmas.Option.{slice_get_within, same_Some, none-some}
@@ -179,5 +179,5 @@ module _ {E O : Type 0} where
   shares_two (x ∷ xs) (suc i) (suc j) v w ne e f = let r = shares_two xs i j v w (λ h. ne (ap suc h)) e f in omega (arith, r)
 
 pub some_held : {A : Type 0} (o : Option (List A)) → IsSome o → o ≡ Some (unwrap_or o [])
-some_held None h = absurd h
+some_held None h = absurd (true≢false (sym h))
 some_held (Some x) h = refl

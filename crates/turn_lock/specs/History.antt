@@ -1,5 +1,5 @@
 -- Histories, and the places in them that a pass owns. A place is the index of an entry, from 0.
-use Rattle.std.specs.Prelude.{◌≡◌, ◌≢◌, ℕ, ◌-◌, ◌≤◌, ◌⊎◌, List, Some, length, slice_get, cond, leb}
+use Rattle.std.specs.Prelude.{◌≡◌, ◌≢◌, ℕ, ◌-◌, ◌<◌, ◌≤◌, ◌⊎◌, List, Some, length, slice_get, cond, leb}
 use Rattle.std.specs.List.{Contains, range_with_len}
 
 -- the longer of two lists, and the shorter; where they are equally long, the first is the longer one
@@ -16,6 +16,10 @@ added_places old new = range_with_len (length old) (length new - length old)
 -- no place stands in both lists
 abbrev pub AreApart : List ℕ → List ℕ → Type 0
 AreApart own other = (place : ℕ) → Contains own place → Contains other place → ⊥
+
+-- each place of the list is below n
+abbrev pub AreBelow : List ℕ → ℕ → Type 0
+AreBelow own n = (place : ℕ) → Contains own place → place < n
 
 module _ {E : Type 0} (key : E → ℕ) where
   -- each entry whose key is that of an entry at an owned place stands itself at an owned place

@@ -7,7 +7,7 @@ use mathlib.Core.List.{IsPrefix}
 use lib.ListN.{get_elem?}
 use Rattle.atomic_table.specs.Table.{State}
 use Rattle.turn_lock.specs.declared.view.View.{View}
-use Rattle.turn_lock.specs.History.{OwnsKeys}
+use Rattle.turn_lock.specs.History.{OwnsKeys, AreBelow}
 
 -- no place stands twice in the list
 abbrev pub IsDistinct : List ℕ → Type 0
@@ -24,7 +24,7 @@ module _ {S E O : Type 0} (history_of : S → List E) (origin_of : S → O) (key
   pub record IsLive (log : List E) (first : O) (v : View E O) : Type 0 where
     pub begins : IsPrefix v.seen log
     pub shorter : IsPrefix v.shorter v.seen
-    pub below : (k : ℕ) → Contains v.own k → k < length v.seen
+    pub below : AreBelow v.own (length v.seen)
     pub keys : OwnsKeys key_of log v.own
     pub once : IsDistinct v.own
     pub origin : v.origin ≡ Some first

@@ -3,7 +3,7 @@ use Rattle.std.specs.Prelude.{◌≡◌, ◌≢◌, ℕ, ◌+◌, ◌-◌, ◌�
 use mathlib.Core.List.{IsPrefix}
 use Rattle.atomic_table.specs.Table.{Me, Step}
 use Rattle.turn_lock.specs.declared.view.View.{View}
-use Rattle.turn_lock.specs.History.{OwnsKeys, longer, shorter, added_places}
+use Rattle.turn_lock.specs.History.{OwnsKeys, AreBelow, longer, shorter, added_places}
 use Rattle.turn_lock.specs.Rule.{IsDistinct}
 
 module _ {E O : Type 0} where
@@ -37,12 +37,14 @@ module _ {E O : Type 0} where
   abbrev pub spent_view : View E O
   spent_view = record { seen = []; own = []; shares = 0; origin = None; held = None; planned = 0; shorter = [] }
 
-module _ {S E O : Type 0} (history_of : S → List E) (origin_of : S → O) (key_of : E → ℕ) where
-  -- the gate was open: the seat holds it, with the state. Else nothing changed
-  abbrev pub Seizes : Step (Option S) → Me (Option S) (View E O) → ℕ → Me (Option S) (View E O) → Type 0
-  Seizes step before found after =
-      (found ≡ 0 → (x : S) × (after ≡ (holding before.0 (history_of x), (0, Some x) ∷ [])) × IsPrefix before.0.seen (history_of x) × OwnsKeys key_of (history_of x) before.0.own × (before.0.origin ≡ Some (origin_of x)))
-      × (found ≢ 0 → after ≡ before)
+-- the seat holds the gate, with the state, which goes on from what was seen
+abbrev pub IsSeized : {S E O : Type 0} → (S → List E) → (S → O) → (E → ℕ) → Me (Option S) (View E O) → Me (Option S) (View E O) → Type 0
+IsSeized {S} history_of origin_of key_of before after = (x : S) × (after ≡ (holding before.0 (history_of x), (0, Some x) ∷ [])) × IsPrefix before.0.seen (history_of x)
+    × (before.0.origin ≡ Some (origin_of x)) × AreBelow before.0.own (length before.0.seen) × OwnsKeys key_of (history_of x) before.0.own
+
+-- where the gate was closed already, nothing changed
+abbrev pub Seizes : {S E O : Type 0} → (S → List E) → (S → O) → (E → ℕ) → Step (Option S) → Me (Option S) (View E O) → ℕ → Me (Option S) (View E O) → Type 0
+Seizes history_of origin_of key_of step before found after = (found ≡ 0 → IsSeized history_of origin_of key_of before after) × (found ≢ 0 → after ≡ before)
 
 -- the seat has seen its state's whole history, and owns what was added
 abbrev pub Raises : {S E O : Type 0} → (S → List E) → Step (Option S) → Me (Option S) (View E O) → ℕ → Me (Option S) (View E O) → Type 0

@@ -1,11 +1,12 @@
 // The lock.
 
-ghost use Rattle.std.specs.Prelude.{◌≡◌, ◌≢◌, ◌+◌, ◌-◌, ◌<◌, [], ◌∷◌, ◌++◌, length, None, Some, IfOk};
+ghost use Rattle.std.specs.Prelude.{◌≡◌, ◌≢◌, ◌+◌, ◌-◌, ◌<◌, [], ◌∷◌, ◌++◌, length, None, Some, IfOk, IsSome};
+ghost use Rattle.std.specs.Option.{unwrap_or};
 ghost use Rattle.std.specs.List.{Contains};
 ghost use mathlib.Core.List.{IsPrefix};
-ghost use Rattle.turn_lock.specs.History.{longer, added_places, AreApart, OwnsKeys, AddsOwnKeys};
+ghost use Rattle.turn_lock.specs.History.{longer, added_places, AreApart, AreBelow, OwnsKeys, AddsOwnKeys};
 ghost use Rattle.turn_lock.specs.Shown.{with_shares, split_off};
-ghost use Rattle.turn_lock.specs.Steps.{holding};
+ghost use Rattle.turn_lock.specs.Steps.{raised, released, IsSeized};
 
 use crate::historied::Historied;
 use crate::pass::{Hold, Pass, Turn};
@@ -77,6 +78,7 @@ impl<S: Historied> TurnLock<S> {
         ensures history { result.hold.history ≡ S.history result.state }
         ensures seen { IsPrefix pass.seen (S.history result.state) }
         ensures origin { pass.origin ≡ Some (S.origin result.state) }
+        ensures below { AreBelow pass.own (length pass.seen) }
         ensures keys { OwnsKeys S.key (S.history result.state) pass.own }
     {
         let Pass { mut seat } = pass;
@@ -93,7 +95,7 @@ impl<S: Historied> TurnLock<S> {
         requires lock { seat.old.table_id ≡ self.now }
         requires pass { (seat.old.me.1 ≡ []) × (seat.old.me.0.held ≡ None) × (0 < seat.old.me.0.shares) }
         ensures same { (seat.new.table_id ≡ seat.old.table_id) × (seat.new.id ≡ seat.old.id) }
-        ensures seized { (x : S) × (seat.new.me ≡ (holding seat.old.me.0 (S.history x), (0, Some x) ∷ [])) × IsPrefix seat.old.me.0.seen (S.history x) × OwnsKeys S.key (S.history x) seat.old.me.0.own × (seat.old.me.0.origin ≡ Some (S.origin x)) }
+        ensures seized { IsSeized S.history S.origin S.key seat.old.me seat.new.me }
     {
         for _ in rt.forever() {
             if self.table.shared.compare_exchange::<Seize>(seat, GATE, OPEN, CLOSED) == OPEN {
@@ -118,13 +120,26 @@ impl<S: Historied> TurnLock<S> {
     {
         let Turn { state, hold } = turn;
         let Hold { mut seat } = hold;
+        self.open_gate(&mut seat, state);
+        Pass { seat }
+    }
+
+    // Brings the state home, raises the length of the history and opens the gate.
+    fn open_gate(&self, seat: &mut Seat<Option<S>, View<S::Entry, S::Origin>>, state: S)
+        requires lock { seat.old.table_id ≡ self.now }
+        requires hold { (seat.old.me.1 ≡ (0, None) ∷ []) × IsSome seat.old.me.0.held }
+        requires grown { IsPrefix (unwrap_or seat.old.me.0.held []) (S.history state) }
+        requires origin { seat.old.me.0.origin ≡ Some (S.origin state) }
+        requires keys { AddsOwnKeys S.key (unwrap_or seat.old.me.0.held []) seat.old.me.0.own (S.history state) }
+        ensures same { (seat.new.table_id ≡ seat.old.table_id) × (seat.new.id ≡ seat.old.id) }
+        ensures view { seat.new.me ≡ (released (raised seat.old.me.0 (unwrap_or seat.old.me.0.held []) (S.history state)), []) }
+    {
         let shared = &self.table.shared;
         let length = state.len();
-        let left = shared.exchange(&mut seat, STATE, Some(state));
+        let left = shared.exchange(seat, STATE, Some(state));
         let None = left else { unreachable!() };
-        shared.store::<Raise>(&mut seat, LENGTH, length);
-        shared.store::<Release>(&mut seat, GATE, OPEN);
-        Pass { seat }
+        shared.store::<Raise>(seat, LENGTH, length);
+        shared.store::<Release>(seat, GATE, OPEN);
     }
 
     /// Cuts the pass in two. The second has `shares` of the shares, has seen the same and owns nothing.
@@ -167,6 +182,7 @@ impl<S: Historied> TurnLock<S> {
         requires whole { pass.shares ≡ 1024 }
         ensures seen { IsPrefix pass.seen (S.history result) }
         ensures origin { pass.origin ≡ Some (S.origin result) }
+        ensures below { AreBelow pass.own (length pass.seen) }
         ensures keys { OwnsKeys S.key (S.history result) pass.own }
     {
         let TurnLock { table } = self;

@@ -1,4 +1,8 @@
-use Rattle.std.proofs.Common.{rules}
+use Rattle.std.proofs.Common.{rules, ap, sym, subst}
+use Rattle.std.specs.List.{Contains}
+use Rattle.turn_lock.specs.Rule.{IsDistinct}
+use Rattle.turn_lock.specs.Shown.{Known}
+use Rattle.turn_lock.proofs.Lists.{distinct_parts}
 use Rattle.turn_lock.proofs.Keeps.{joins, looks}
 use Rattle.turn_lock.proofs.lock.TurnLock.join_pass.Goals as goal
 
@@ -7,3 +11,9 @@ join_seat-requires g c = (search rules, search rules, search rules, search rules
 
 pub load-requires : goal.load-requires
 load-requires g c = (search rules, search rules, looks _ _ _ _ _ _ _ (search rules))
+
+pub returns-clause-apart : goal.returns-clause-apart
+returns-clause-apart g c = let P = Known g.row.S-Entry.Denot g.row.S-Origin.Denot in
+    let once = subst IsDistinct (ap (λ m. m.0.own) c.join_seat.ensures.2) c.load.ensures.2.2 in
+    λ place has also. distinct_parts c.pass.inside.seat.me.0.own c.other.inside.seat.me.0.own once place
+        (subst (λ (p : P). Contains p.own place) (sym c.pass.view_is) has) (subst (λ (p : P). Contains p.own place) (sym c.other.view_is) also)
