@@ -10,7 +10,7 @@ use native.Mathlib.Decide.{ℕ_discrete}
 use mathlib.Core.List.{IsPrefix}
 use lib.ListN.{get_elem?}
 use Rattle.turn_lock.specs.declared.view.View.{View}
-use Rattle.turn_lock.specs.History.{OwnsKeys, AddsOwnKeys, added_places, longer, shorter}
+use Rattle.turn_lock.specs.History.{OwnsKeys, AddsOwnKeys, AreKeysPlaces, added_places, longer, shorter}
 use Rattle.turn_lock.specs.Rule.{IsDistinct, all_shares}
 
 module _ {A : Type 0} where
@@ -181,3 +181,64 @@ module _ {E O : Type 0} where
 pub some_held : {A : Type 0} (o : Option (List A)) → IsSome o → o ≡ Some (unwrap_or o [])
 some_held None h = absurd (true≢false (sym h))
 some_held (Some x) h = refl
+
+module _ {E : Type 0} (key : E → ℕ) where
+  pub get_last : (log : List E) (e : E) (j : ℕ) (b : E) → length log ≤ j → slice_get (log ++ e ∷ []) j ≡ Some b → (j ≡ length log) × (e ≡ b)
+  get_last [] e zero b l is = (refl, same_Some e b is)
+  get_last [] e (suc j) b l is = absurd (none-some b is)
+  get_last (x ∷ xs) e zero b l is = absurd (omega arith)
+  get_last (x ∷ xs) e (suc j) b l is = let r = get_last xs e j b (omega arith) is in (ap suc r.0, r.1)
+
+  -- an entry whose key is its own place has a new key
+  pub adds_keyed : (log : List E) (own : List ℕ) (e : E) → AreKeysPlaces key log → key e ≡ length log → AddsOwnKeys key log own (log ++ e ∷ [])
+  adds_keyed log own e keyed here j b l is = let last = get_last log e j b l is in
+      inl (λ i a at same. let inside = slice_get_within log i a at in let n = keyed i a at in let k : key e ≡ key b = ap key last.1 in omega (arith, inside, n, k, here, same))
+
+  pub still_keyed : (log : List E) (e : E) → AreKeysPlaces key log → key e ≡ length log → AreKeysPlaces key (log ++ e ∷ [])
+  still_keyed log e keyed here i a at = ⊎_elim
+      (λ (l : i < length log). keyed i a (get_shorter log (e ∷ []) i a l at))
+      (λ (l : length log ≤ i). let last = get_last log e i a l at in sym (ap key last.1) ∙ here ∙ sym last.0)
+      (cases_lt i (length log))
+
+  -- where nothing is added
+  pub adds_none : (log : List E) (own : List ℕ) → AddsOwnKeys key log own log
+  adds_none log own j b l is = let inside = slice_get_within log j b is in absurd (omega (arith, inside, l))
+
+-- Worked rows
+row_longer : longer {E = ℕ} (1 ∷ 2 ∷ []) (1 ∷ 2 ∷ 3 ∷ []) ≡ 1 ∷ 2 ∷ 3 ∷ []
+row_longer = refl
+
+row_equally_long : longer {E = ℕ} (1 ∷ []) (2 ∷ []) ≡ 1 ∷ []
+row_equally_long = refl
+
+row_added : added_places {E = ℕ} (7 ∷ 8 ∷ []) (7 ∷ 8 ∷ 9 ∷ 9 ∷ []) ≡ 2 ∷ 3 ∷ []
+row_added = refl
+
+row_none_added : added_places {E = ℕ} (7 ∷ 8 ∷ []) (7 ∷ 8 ∷ []) ≡ []
+row_none_added = refl
+
+-- entries are their own keys: whoever owns the first 5 owns the other 5 too
+row_not_owned : OwnsKeys (λ n. n) (5 ∷ 6 ∷ 5 ∷ []) (0 ∷ []) → ⊥
+row_not_owned owns = let place = owns 0 2 5 5 (0, omega arith, refl) refl refl refl in omega (arith, one_place 0 2 place)
+
+row_own_keys : AddsOwnKeys (λ n. n) (5 ∷ 6 ∷ []) (0 ∷ []) (5 ∷ 6 ∷ 5 ∷ 7 ∷ [])
+row_own_keys zero b l is = absurd (omega arith)
+row_own_keys (suc zero) b l is = absurd (omega arith)
+row_own_keys (suc (suc zero)) b l is = inr (0, 5, (0, omega arith, refl), refl, same_Some 5 b is)
+row_own_keys (suc (suc (suc zero))) b l is = inl (λ i a at same. new i a at (same ∙ sym (same_Some 7 b is)))
+  where
+    new : (i a : ℕ) → slice_get (5 ∷ 6 ∷ []) i ≡ Some a → a ≡ 7 → ⊥
+    new zero a at same = let n = same_Some 5 a at in omega (arith, n, same)
+    new (suc zero) a at same = let n = same_Some 6 a at in omega (arith, n, same)
+    new (suc (suc i)) a at same = none-some a at
+row_own_keys (suc (suc (suc (suc j)))) b l is = absurd (none-some b is)
+
+-- 6 is another's key
+row_not_own_keys : AddsOwnKeys (λ n. n) (5 ∷ 6 ∷ []) (0 ∷ []) (5 ∷ 6 ∷ 6 ∷ []) → ⊥
+row_not_own_keys adds = ⊎_elim
+    (λ fresh. fresh 1 6 refl refl)
+    (λ owned. owner owned.0 owned.1 (one_place 0 owned.0 owned.2) owned.3 owned.4)
+    (adds 2 6 (omega arith) refl)
+  where
+    owner : (i a : ℕ) → 0 ≡ i → slice_get (5 ∷ 6 ∷ []) i ≡ Some a → a ≡ 6 → ⊥
+    owner i a e at same = let n = same_Some 5 a (subst (λ (k : ℕ). slice_get (5 ∷ 6 ∷ []) k ≡ Some a) (sym e) at) in omega (arith, n, same)

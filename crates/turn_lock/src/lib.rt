@@ -10,3 +10,6 @@ mod view;
 pub use historied::Historied;
 pub use lock::TurnLock;
 pub use pass::{Hold, Pass, Turn};
+
+#[cfg(test)]
+mod tests;
