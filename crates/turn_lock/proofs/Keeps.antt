@@ -238,14 +238,15 @@ module _ {S E O : Type 0} (history_of : S → List E) (origin_of : S → O) (key
   raises first slots id me x old new carries holds pre adds long s r _ at _ =
       let known = r.each id me.0 at in let h = known.holds old holds in let log : List E = history_of x in
       let known' : Known r.gate r.holder old first id me.0 = subst (λ (l : List E). Known r.gate r.holder l first id me.0) (sym h.2) known in
-      let w : V = raised me.0 old log in (
+      let w : V = raised me.0 old log in
+      let mine = raised_known id r.gate r.holder me.0 first old log h.0 h.3 known' h.1 pre adds in (
         w,
         keeps,
         tt,
         moved first s r (set s.words 1 new) s.homes id me.0 w r.gate r.holder log at
         (ap (λ (l : List ℕ). set l 1 new) r.words ∙ ap (λ (n : ℕ). r.gate ∷ n ∷ []) long) (λ free. absurd (h.0 free))
         (λ _. (w, subst (λ (z : ℕ). get_elem? (set s.views id w) z ≡ some w) h.1 (set_there s.views id me.0 w at), refl))
-        (raised_known id r.gate r.holder me.0 first old log h.0 h.3 known' h.1 pre adds)
+        mine
         (λ j v ne e. grown_known j r.gate r.holder v me.0 first old log (λ is. ne (is ∙ sym h.1)) (subst (λ (l : List E). Known r.gate r.holder l first j v) (sym h.2) (r.each j v e)) pre adds
           (owned_keys r.gate r.holder old first id me.0 known') (λ n a b. ne (r.apart j id n v me.0 e at b a)))
         (λ j n v ne e has also. ⊎_elim
@@ -254,7 +255,7 @@ module _ {S E O : Type 0} (history_of : S → List E) (origin_of : S → O) (key
             let d : length old ≡ length r.log = ap length h.2 in omega (arith, b, c, d))
           (Contains-append_cases me.0.own (added_places old log) n also))
         refl,
-        λ y old' carries' holds'. same_raise y old' (same_state y (sym carries ∙ carries')) (same_Some old old' (sym holds ∙ holds')),
+        λ y old' carries' holds'. (same_raise y old' (same_state y (sym carries ∙ carries')) (same_Some old old' (sym holds ∙ holds')), (mine.live h.3).below),
       )
     where
       same_state : (y : S) → ◌≡◌ {A = List (ℕ × Option S)} ((0, Some x) ∷ []) ((0, Some y) ∷ []) → x ≡ y
@@ -307,7 +308,7 @@ module _ {S E O : Type 0} (history_of : S → List E) (origin_of : S → O) (key
   raises_at first slots id m v x old new is holds pre adds long =
       subst (λ (m : M). Allows (Rule first) slots id m 1 (λ _. new) (λ _. Raises history_of (step slots 1 new 0 none) m new)) (sym is) (raises first slots id (v, One x) x old new refl holds pre adds long)
 
-  pub raised_at : (slots : ℕ) (m m' : M) (v : V) (x : S) (old : List E) (new : ℕ) → m ≡ (v, One x) → v.held ≡ Some old → Raises history_of (step slots 1 new 0 none) m new m' → m' ≡ (raised v old (history_of x), One x)
+  pub raised_at : (slots : ℕ) (m m' : M) (v : V) (x : S) (old : List E) (new : ℕ) → m ≡ (v, One x) → v.held ≡ Some old → Raises history_of (step slots 1 new 0 none) m new m' → (m' ≡ (raised v old (history_of x), One x)) × AreBelow m'.0.own (length m'.0.seen)
   raised_at slots m m' v x old new is holds told = subst (λ (m : M). Raises history_of (step slots 1 new 0 none) m new m') is told x old refl holds
 
   pub releases_at : (first : O) (slots id : ℕ) (m : M) (v : V) (x : S) → slots ≡ 1 → m ≡ (v, One x) → v.held ≡ Some (history_of x) → v.origin ≡ Some (origin_of x)
@@ -321,7 +322,7 @@ module _ {S E O : Type 0} (history_of : S → List E) (origin_of : S → O) (key
     keeps,
     tt,
     unmoved first s r 1 id me.1 me.0 me.0 at (λ _ _ _ k. k) refl refl refl,
-    (refl, omega (arith, le, n), live.once, live.shorter),
+    (refl, omega (arith, le, n), live.below, live.once, live.shorter),
   )
 
   kept_known : (id gate holder : ℕ) (v : V) (first : O) (log : List E) → v.held ≡ None → v.planned < v.shares → Known gate holder log first id v → Known gate holder log first id (kept_part v)

@@ -48,7 +48,7 @@ Seizes history_of origin_of key_of step before found after = (found ≡ 0 → Is
 
 -- the seat has seen its state's whole history, and owns what was added
 abbrev pub Raises : {S E O : Type 0} → (S → List E) → Step (Option S) → Me (Option S) (View E O) → ℕ → Me (Option S) (View E O) → Type 0
-Raises {S} {E} history_of step before stored after = (x : S) (old : List E) → before.1 ≡ (0, Some x) ∷ [] → before.0.held ≡ Some old → after ≡ (raised before.0 old (history_of x), before.1)
+Raises {S} {E} history_of step before stored after = (x : S) (old : List E) → before.1 ≡ (0, Some x) ∷ [] → before.0.held ≡ Some old → (after ≡ (raised before.0 old (history_of x), before.1)) × AreBelow after.0.own (length after.0.seen)
 
 abbrev pub Releases : {S E O : Type 0} → Step (Option S) → Me (Option S) (View E O) → ℕ → Me (Option S) (View E O) → Type 0
 Releases step before stored after = after ≡ (released before.0, [])
@@ -58,4 +58,4 @@ Plans step before found after = after ≡ (planning before.0 step.first, before.
 
 -- what the pass has seen begins the counted history, of this length
 abbrev pub Looks : {S E O : Type 0} → Step (Option S) → Me (Option S) (View E O) → ℕ → Me (Option S) (View E O) → Type 0
-Looks step before found after = (after ≡ before) × (length before.0.seen ≤ found) × IsDistinct before.0.own × IsPrefix before.0.shorter before.0.seen
+Looks step before found after = (after ≡ before) × (length before.0.seen ≤ found) × AreBelow before.0.own (length before.0.seen) × IsDistinct before.0.own × IsPrefix before.0.shorter before.0.seen

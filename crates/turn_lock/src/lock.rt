@@ -115,6 +115,7 @@ impl<S: Historied> TurnLock<S> {
         ensures lock { result.lock ≡ self.now }
         ensures seen { result.seen ≡ S.history turn.state }
         ensures own { result.own ≡ turn.hold.pass.own ++ added_places turn.hold.history (S.history turn.state) }
+        ensures below { AreBelow result.own (length result.seen) }
         ensures shares { result.shares ≡ turn.hold.pass.shares }
         ensures origin { result.origin ≡ turn.hold.pass.origin }
     {
@@ -133,6 +134,7 @@ impl<S: Historied> TurnLock<S> {
         requires keys { AddsOwnKeys S.key (unwrap_or seat.old.me.0.held []) seat.old.me.0.own (S.history state) }
         ensures same { (seat.new.table_id ≡ seat.old.table_id) × (seat.new.id ≡ seat.old.id) }
         ensures view { seat.new.me ≡ (released (raised seat.old.me.0 (unwrap_or seat.old.me.0.held []) (S.history state)), []) }
+        ensures below { AreBelow seat.new.me.0.own (length seat.new.me.0.seen) }
     {
         let shared = &self.table.shared;
         let length = state.len();
@@ -164,6 +166,7 @@ impl<S: Historied> TurnLock<S> {
         ensures seen { result.seen ≡ longer pass.seen other.seen }
         ensures begins { IsPrefix pass.seen result.seen × IsPrefix other.seen result.seen }
         ensures own { result.own ≡ pass.own ++ other.own }
+        ensures below { AreBelow result.own (length result.seen) }
         ensures apart { AreApart pass.own other.own }
         ensures shares { result.shares ≡ pass.shares + other.shares }
         ensures origin { result.origin ≡ pass.origin }

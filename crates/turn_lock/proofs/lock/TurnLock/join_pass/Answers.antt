@@ -1,4 +1,7 @@
-use Rattle.std.proofs.Common.{rules, ap, sym, subst}
+use Rattle.std.proofs.Common.{rules, length, Option, ap, sym, subst}
+use Rattle.atomic_table.specs.Table.{Me}
+use Rattle.turn_lock.specs.declared.view.View.{View}
+use Rattle.turn_lock.specs.History.{AreBelow}
 use Rattle.std.specs.List.{Contains}
 use Rattle.turn_lock.specs.Rule.{IsDistinct}
 use Rattle.turn_lock.specs.Shown.{Known}
@@ -14,6 +17,10 @@ load-requires g c = (search rules, search rules, looks _ _ _ _ _ _ _ (search rul
 
 pub returns-clause-apart : goal.returns-clause-apart
 returns-clause-apart g c = let P = Known g.row.S-Entry.Denot g.row.S-Origin.Denot in
-    let once = subst IsDistinct (ap (λ m. m.0.own) c.join_seat.ensures.2) c.load.ensures.2.2 in
+    let once = subst IsDistinct (ap (λ m. m.0.own) c.join_seat.ensures.2) c.load.ensures.2.3 in
     λ place has also. distinct_parts c.pass.inside.seat.me.0.own c.other.inside.seat.me.0.own once place
         (subst (λ (p : P). Contains p.own place) (sym c.pass.view_is) has) (subst (λ (p : P). Contains p.own place) (sym c.other.view_is) also)
+
+pub returns-clause-below : goal.returns-clause-below
+returns-clause-below g c = let M = Me (Option g.row.S.Denot) (View g.row.S-Entry.Denot g.row.S-Origin.Denot) in
+    subst (λ (m : M). AreBelow m.0.own (length m.0.seen)) (sym c.load.ensures.2.0) c.load.ensures.2.2
