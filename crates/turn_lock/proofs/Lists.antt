@@ -1,5 +1,5 @@
 -- Lemmas on lists: beginnings, entries at places, lists of places, shares.
-use Rattle.std.proofs.Common.{◌≡◌, ◌≢◌, ℕ, zero, suc, ◌+◌, ◌-◌, ◌<◌, ◌≤◌, ◌⊎◌, cond, leb, Bool, true, false, List, [], ◌∷◌, ◌++◌, length, get_or, drop, set, slice_get, Option, Some, None, IsSome, unwrap_or, sym, refl, ap, ◌∙◌, subst, inl, inr, ⊎_elim, arith, append_assoc, length-append, le-leb, true≢false}
+use Rattle.std.proofs.Common.{◌≡◌, ◌≢◌, ℕ, zero, suc, ◌+◌, ◌-◌, ◌<◌, ◌≤◌, cond, leb, Bool, true, false, List, [], ◌∷◌, ◌++◌, length, get_or, drop, set, slice_get, Option, Some, None, IsSome, unwrap_or, sym, refl, ap, ◌∙◌, subst, inl, inr, ⊎_elim, arith, append_assoc, length-append, le-leb, true≢false}
 use Rattle.std.specs.List.{Contains, range_with_len}
 use Rattle.std.proofs.lemmas.List.Elements.{Contains-append_left, Contains-append_right, Contains-append_cases}
 use Rattle.std.proofs.lemmas.Option.{slice_get_within, same_Some, none-some}
@@ -10,7 +10,7 @@ use native.Mathlib.Decide.{ℕ_discrete}
 use mathlib.Core.List.{IsPrefix}
 use lib.ListN.{get_elem?}
 use Rattle.turn_lock.specs.declared.view.View.{View}
-use Rattle.turn_lock.specs.History.{OwnsKeys, AddsOwnKeys, AreKeysPlaces, added_places, longer, shorter}
+use Rattle.turn_lock.specs.History.{OwnsKeys, AddsOwnKeys, added_places, longer, shorter}
 use Rattle.turn_lock.specs.Rule.{IsDistinct, all_shares}
 
 module _ {A : Type 0} where
@@ -109,11 +109,11 @@ module _ {E : Type 0} where
   pub both_lists : (a b c : List E) → IsPrefix a c → IsPrefix b c → IsPrefix (shorter a b) (longer a b) × (length a ≤ length (longer a b)) × (length b ≤ length (longer a b))
   both_lists a b c p q = ⊎_elim
       (λ (l : length a < length b). subst
-        (λ (t : Bool). IsPrefix (cond t b a) (cond t a b) × (length a ≤ length (cond t a b)) × (length b ≤ length (cond t a b)))
-        (sym (lt-leb (length b) (length a) l)) (prefixes a b c p q (omega (arith, l)), omega (arith, l), omega arith))
+      (λ (t : Bool). IsPrefix (cond t b a) (cond t a b) × (length a ≤ length (cond t a b)) × (length b ≤ length (cond t a b)))
+      (sym (lt-leb (length b) (length a) l)) (prefixes a b c p q (omega (arith, l)), omega (arith, l), omega arith))
       (λ (l : length b ≤ length a). subst
-        (λ (t : Bool). IsPrefix (cond t b a) (cond t a b) × (length a ≤ length (cond t a b)) × (length b ≤ length (cond t a b)))
-        (sym (le-leb (length b) (length a) l)) (prefixes b a c q p l, omega arith, omega (arith, l)))
+      (λ (t : Bool). IsPrefix (cond t b a) (cond t a b) × (length a ≤ length (cond t a b)) × (length b ≤ length (cond t a b)))
+      (sym (le-leb (length b) (length a) l)) (prefixes b a c q p l, omega arith, omega (arith, l)))
       (cases_lt (length a) (length b))
 
   pub added_bounds : (old new : List E) (k : ℕ) → length old ≤ length new → Contains (added_places old new) k → (length old ≤ k) × (k < length new)
@@ -127,22 +127,22 @@ module _ {E : Type 0} where
         let at_i' = get_prefix log new i a pre (below i has) at_i in ⊎_elim
         (λ (l : j < length log). theirs i j a b has at_i' (get_prefix log new j b pre l at_j) same)
         (λ (l : length log ≤ j). ⊎_elim
-          (λ fresh. absurd (fresh i a at_i' (sym same)))
-          (λ owned. absurd (apart i (mine owned.0 i owned.1 a owned.2 owned.3 at_i' (sym same ∙ sym owned.4)) has))
-          (adds j b l at_j))
+        (λ fresh. absurd (fresh i a at_i' (sym same)))
+        (λ owned. absurd (apart i (mine owned.0 i owned.1 a owned.2 owned.3 at_i' (sym same ∙ sym owned.4)) has))
+        (adds j b l at_j))
         (cases_lt j (length log))
 
     pub own_keys : (log new : List E) (own : List ℕ) → IsPrefix log new → AddsOwnKeys key log own new → OwnsKeys key log own → ((k : ℕ) → Contains own k → k < length log) → OwnsKeys key new (own ++ added_places log new)
     own_keys log new own pre adds mine below i j a b has at_i at_j same = let added = added_places log new in ⊎_elim
         (λ (l : j < length log). let at_j' = get_prefix log new j b pre l at_j in Contains-append_left own added j (⊎_elim
-          (λ (h : Contains own i). mine i j a b h (get_prefix log new i a pre (below i h) at_i) at_j' same)
-          (λ (h : Contains added i). ⊎_elim
-            (λ fresh. absurd (fresh j b at_j' same))
-            (λ owned. mine owned.0 j owned.1 b owned.2 owned.3 at_j' (same ∙ sym owned.4))
-            (adds i a (added_bounds log new i (prefix_length log new pre) h).0 at_i))
-          (Contains-append_cases own added i has)))
+        (λ (h : Contains own i). mine i j a b h (get_prefix log new i a pre (below i h) at_i) at_j' same)
+        (λ (h : Contains added i). ⊎_elim
+        (λ fresh. absurd (fresh j b at_j' same))
+        (λ owned. mine owned.0 j owned.1 b owned.2 owned.3 at_j' (same ∙ sym owned.4))
+        (adds i a (added_bounds log new i (prefix_length log new pre) h).0 at_i))
+        (Contains-append_cases own added i has)))
         (λ (l : length log ≤ j). let inside = slice_get_within new j b at_j in
-          Contains-append_right own added j (range_has (length log) (length new - length log) j l (omega arith)))
+        Contains-append_right own added j (range_has (length log) (length new - length log) j l (omega arith)))
         (cases_lt j (length log))
 
   pub own_keys_none : (key : E → ℕ) (log : List E) → OwnsKeys key log []
@@ -181,28 +181,6 @@ module _ {E O : Type 0} where
 pub some_held : {A : Type 0} (o : Option (List A)) → IsSome o → o ≡ Some (unwrap_or o [])
 some_held None h = absurd (true≢false (sym h))
 some_held (Some x) h = refl
-
-module _ {E : Type 0} (key : E → ℕ) where
-  pub get_last : (log : List E) (e : E) (j : ℕ) (b : E) → length log ≤ j → slice_get (log ++ e ∷ []) j ≡ Some b → (j ≡ length log) × (e ≡ b)
-  get_last [] e zero b l is = (refl, same_Some e b is)
-  get_last [] e (suc j) b l is = absurd (none-some b is)
-  get_last (x ∷ xs) e zero b l is = absurd (omega arith)
-  get_last (x ∷ xs) e (suc j) b l is = let r = get_last xs e j b (omega arith) is in (ap suc r.0, r.1)
-
-  -- an entry whose key is its own place has a new key
-  pub adds_keyed : (log : List E) (own : List ℕ) (e : E) → AreKeysPlaces key log → key e ≡ length log → AddsOwnKeys key log own (log ++ e ∷ [])
-  adds_keyed log own e keyed here j b l is = let last = get_last log e j b l is in
-      inl (λ i a at same. let inside = slice_get_within log i a at in let n = keyed i a at in let k : key e ≡ key b = ap key last.1 in omega (arith, inside, n, k, here, same))
-
-  pub still_keyed : (log : List E) (e : E) → AreKeysPlaces key log → key e ≡ length log → AreKeysPlaces key (log ++ e ∷ [])
-  still_keyed log e keyed here i a at = ⊎_elim
-      (λ (l : i < length log). keyed i a (get_shorter log (e ∷ []) i a l at))
-      (λ (l : length log ≤ i). let last = get_last log e i a l at in sym (ap key last.1) ∙ here ∙ sym last.0)
-      (cases_lt i (length log))
-
-  -- where nothing is added
-  pub adds_none : (log : List E) (own : List ℕ) → AddsOwnKeys key log own log
-  adds_none log own j b l is = let inside = slice_get_within log j b is in absurd (omega (arith, inside, l))
 
 -- Worked rows
 row_longer : longer {E = ℕ} (1 ∷ 2 ∷ []) (1 ∷ 2 ∷ 3 ∷ []) ≡ 1 ∷ 2 ∷ 3 ∷ []

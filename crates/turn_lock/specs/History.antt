@@ -37,7 +37,3 @@ module _ {E : Type 0} (key : E → ℕ) where
   -- each entry from the old history's end on has a key that was new then, or that of an entry at an owned place
   abbrev pub AddsOwnKeys : List E → List ℕ → List E → Type 0
   AddsOwnKeys old own new = (j : ℕ) (b : E) → length old ≤ j → slice_get new j ≡ Some b → IsNewKey old (key b) ⊎ IsOwnedKey old own (key b)
-
-  -- each entry's key is its own place
-  abbrev pub AreKeysPlaces : List E → Type 0
-  AreKeysPlaces log = (i : ℕ) (a : E) → slice_get log i ≡ Some a → key a ≡ i

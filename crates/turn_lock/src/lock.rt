@@ -9,10 +9,10 @@ ghost use Rattle.turn_lock.specs.Shown.{with_shares, split_off};
 ghost use Rattle.turn_lock.specs.Steps.{raised, released, IsSeized};
 
 use crate::historied::Historied;
-use crate::pass::{Hold, Pass, Turn};
+use crate::pass::{Hold, LockSeat, Pass, Turn};
 use crate::steps::{Look, Part, Plan, Raise, Release, Seize, TurnRule, Unite};
 use crate::view::View;
-use atomic_table::{Refused, Seat, Table};
+use atomic_table::{Refused, Table};
 use plain_types::{Mem, NoMemory};
 use std::alloc::Global;
 use std::marker::Model;
@@ -22,10 +22,12 @@ use std::thread;
 
 // The words of the table.
 const GATE: usize = 0;
+
 const LENGTH: usize = 1;
 
 // What the gate word says.
 const OPEN: u64 = 0;
+
 const CLOSED: u64 = 1;
 
 // The slot of the state.
@@ -91,14 +93,16 @@ impl<S: Historied> TurnLock<S> {
     }
 
     // Tries until the gate was open, and yields the processor after each try that fails.
-    fn close_gate<R: Wait>(&self, rt: &R, seat: &mut Seat<Option<S>, View<S::Entry, S::Origin>>)
+    fn close_gate<R: Wait>(&self, rt: &R, seat: &mut LockSeat<S>)
         requires lock { seat.old.table_id ≡ self.now }
         requires pass { (seat.old.me.1 ≡ []) × (seat.old.me.0.held ≡ None) × (0 < seat.old.me.0.shares) }
         ensures same { (seat.new.table_id ≡ seat.old.table_id) × (seat.new.id ≡ seat.old.id) }
         ensures seized { IsSeized S.history S.origin S.key seat.old.me seat.new.me }
     {
+        let shared = &self.table.shared;
         for _ in rt.forever() {
-            if self.table.shared.compare_exchange::<Seize>(seat, GATE, OPEN, CLOSED) == OPEN {
+            let found = shared.compare_exchange::<Seize>(seat, GATE, OPEN, CLOSED);
+            if found == OPEN {
                 return;
             }
             thread::yield_now();
@@ -126,7 +130,7 @@ impl<S: Historied> TurnLock<S> {
     }
 
     // Brings the state home, raises the length of the history and opens the gate.
-    fn open_gate(&self, seat: &mut Seat<Option<S>, View<S::Entry, S::Origin>>, state: S)
+    fn open_gate(&self, seat: &mut LockSeat<S>, state: S)
         requires lock { seat.old.table_id ≡ self.now }
         requires hold { (seat.old.me.1 ≡ (0, None) ∷ []) × IsSome seat.old.me.0.held }
         requires grown { IsPrefix (unwrap_or seat.old.me.0.held []) (S.history state) }

@@ -5,10 +5,16 @@ use crate::view::View;
 use atomic_table::Seat;
 use std::marker::Model;
 
+// A seat at the table of a lock.
+pub(crate) type LockSeat<S> = Seat<
+    Option<S>,
+    View<<S as Historied>::Entry, <S as Historied>::Origin>,
+>;
+
 /// Leave to take turns at one lock. It has no bytes. A pass that is dropped takes its shares with it, and the lock can't be closed any more.
 #[derive(Drop)]
 pub struct Pass<S: Historied> {
-    pub(crate) seat: Seat<Option<S>, View<S::Entry, S::Origin>>,
+    pub(crate) seat: LockSeat<S>,
 }
 
 impl<S: Historied> Model for Pass<S> {
@@ -24,7 +30,7 @@ impl<S: Historied> Model for Pass<S> {
 
 /// The hold of a turn on its lock. It has no bytes.
 pub struct Hold<S: Historied> {
-    pub(crate) seat: Seat<Option<S>, View<S::Entry, S::Origin>>,
+    pub(crate) seat: LockSeat<S>,
 }
 
 impl<S: Historied> Model for Hold<S> {

@@ -1,7 +1,7 @@
-ghost use Rattle.std.specs.Prelude.{◌≡◌, ℕ, ◌+◌, ◌<◌, [], ◌∷◌, ◌++◌, length, MatchBool, IfSome};
+ghost use Rattle.std.specs.Prelude.{◌≡◌, ℕ, ◌+◌, ◌<◌, [], ◌∷◌, ◌++◌, length, slice_get, Some, MatchBool, IfSome};
 ghost use Rattle.std.specs.Bool.{OnTrue};
 ghost use Rattle.std.specs.List.{Contains};
-ghost use Rattle.turn_lock.specs.History.{AreKeysPlaces};
+ghost use Rattle.turn_lock.specs.declared.tests.Note.{Note};
 
 use crate::{Historied, Pass, TurnLock};
 use std::alloc::Global;
@@ -23,11 +23,12 @@ struct Note {
 struct Notes {
     name: u64,
     notes: Vec<Note>,
-    ghost keyed: { AreKeysPlaces (λ n. n.key) notes.items },
+    ghost keyed: { (place : ℕ) (note : Note) → slice_get notes.items place ≡ Some note → note.key ≡ place },
 }
 
 impl Historied for Notes {
     type Entry = Note;
+
     type Origin = u64;
 
     ghost history = { λ n. n.notes.items };
@@ -57,7 +58,13 @@ impl Notes {
         ensures notes { MatchBool result (self.new.notes.items ≡ self.old.notes.items ++ record { key = length self.old.notes.items; worker = worker; number = number } ∷ []) (self.new.notes.items ≡ self.old.notes.items) }
     {
         let key = self.notes.len() as u64;
-        self.notes.push(Note { key, worker, number }).is_ok()
+        self.notes
+            .push(Note {
+                key,
+                worker,
+                number,
+            })
+            .is_ok()
     }
 }
 
@@ -80,10 +87,7 @@ fn leave_note<R: Wait>(
 }
 
 /// Two passes of 512 shares each leave a note, and are joined, and the lock is closed. What comes back is the notes and what the joined pass knew.
-fn two_notes<R: Wait>(
-    rt: &R,
-    alloc: Global,
-) -> Option<(Notes, Snapshot<Pass<Notes>>)>
+fn two_notes<R: Wait>(rt: &R, alloc: Global) -> Option<(Notes, Snapshot<Pass<Notes>>)>
     ensures two { IfSome result (λ closed. length closed.0.notes.items ≡ 2) }
     ensures own { IfSome result (λ closed. Contains closed.1.value.own 0 × Contains closed.1.value.own 1) }
 {
@@ -105,8 +109,16 @@ fn two_notes<R: Wait>(
 fn two_passes_own_the_places_of_their_notes(rt: HostRuntime) -> Result<(), Fail> {
     let (closed, _known) = two_notes(&rt, rt.alloc()).ok_or("no memory")?;
     let numbers = [
-        Note { key: 0, worker: 1, number: 10 },
-        Note { key: 1, worker: 2, number: 20 },
+        Note {
+            key: 0,
+            worker: 1,
+            number: 10,
+        },
+        Note {
+            key: 1,
+            worker: 2,
+            number: 20,
+        },
     ];
     assert!(rt; closed.notes.as_slice() == numbers.as_slice());
     assert_eq!(rt; closed.name, 7);

@@ -1,4 +1,4 @@
-use Rattle.std.proofs.Common.{rules, ◌≡◌, ◌≢◌, ℕ, ◌+◌, ◌<◌, ◌≤◌, Bool, true, List, [], ◌∷◌, ◌++◌, length, refl, sym, ap, ◌∙◌, subst, arith}
+use Rattle.std.proofs.Common.{rules, ◌≡◌, ◌≢◌, ℕ, ◌<◌, ◌≤◌, Bool, true, List, [], ◌∷◌, ◌++◌, length, refl, sym, ap, ◌∙◌, subst, arith}
 use Rattle.std.specs.Bool.{OnTrue}
 use Rattle.std.specs.List.{Contains}
 use mathlib.Core.Logic.{dite}
@@ -45,5 +45,5 @@ returns-then-len-eq2-clause-own g c =
     let le = prefix_length c.join_pass-joined.result.seen c.close-notes.result.notes.items c.close-notes.ensures.seen in
     let two : length c.join_pass-joined.result.seen ≤ 2 = search (rules, le) in
     subst (λ (k : K). Contains k.own 0 × Contains k.own 1) (sym c.of-known.ensures)
-        (own_places c.leave_note-left.result.0.own c.leave_note-right.result.0.own c.join_pass-joined.result.own left.0 right.0 (length c.join_pass-joined.result.seen)
-          (left.1 ∙ ap (λ (l : List ℕ). l ++ left.0 ∷ []) kept) (right.1 ∙ ap (λ (l : List ℕ). l ++ right.0 ∷ []) given) c.join_pass-joined.ensures.own c.join_pass-joined.ensures.apart c.close-notes.ensures.below two)
+    (own_places c.leave_note-left.result.0.own c.leave_note-right.result.0.own c.join_pass-joined.result.own left.0 right.0 (length c.join_pass-joined.result.seen)
+    (left.1 ∙ ap (λ (l : List ℕ). l ++ left.0 ∷ []) kept) (right.1 ∙ ap (λ (l : List ℕ). l ++ right.0 ∷ []) given) c.join_pass-joined.ensures.own c.join_pass-joined.ensures.apart c.close-notes.ensures.below two)

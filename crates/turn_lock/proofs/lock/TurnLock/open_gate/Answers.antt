@@ -1,4 +1,4 @@
-use Rattle.std.proofs.Common.{rules, ◌≡◌, List, [], ◌∷◌, length, Option, Some, ap, sym, subst, ◌∙◌, refl, unwrap_or}
+use Rattle.std.proofs.Common.{rules, ◌≡◌, [], ◌∷◌, length, Option, Some, ap, sym, subst, ◌∙◌, refl, unwrap_or}
 use Rattle.atomic_table.specs.Table.{Me}
 use Rattle.turn_lock.specs.declared.view.View.{View}
 use Rattle.turn_lock.specs.History.{AreBelow}
@@ -23,8 +23,8 @@ store-requires-2 g c = let seat = c.args.seat.now in (
   search rules,
   releases_at g.S.Historied.history g.S.Historied.origin g.S.Historied.key _ _ _ _ _ c.args.state (search rules)
       (raised_at g.S.Historied.history g.S.Historied.origin g.S.Historied.key c.self.inside.table.shared.table_id.slots c.exchange-left.new.seat.me c.store.new.seat.me seat.me.0 c.args.state (unwrap_or seat.me.0.held []) c.len-length.result
-        (filled g.S.Historied.history g.S.Historied.origin g.S.Historied.key seat.me c.exchange-left.new.seat.me c.args.state c.requires.hold.0 c.exchange-left.ensures.3)
-        (some_held seat.me.0.held c.requires.hold.1) c.store.ensures.2).0
+      (filled g.S.Historied.history g.S.Historied.origin g.S.Historied.key seat.me c.exchange-left.new.seat.me c.args.state c.requires.hold.0 c.exchange-left.ensures.3)
+      (some_held seat.me.0.held c.requires.hold.1) c.store.ensures.2).0
       refl c.requires.origin,
 )
 
