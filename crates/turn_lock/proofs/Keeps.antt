@@ -148,7 +148,7 @@ module _ {S E O : Type 0} (history_of : S → List E) (origin_of : S → O) (key
         refl,
       )
 
-  -- what others know stays, where the history stays and the gate, if it was closed, is another's
+  -- the gate was open, and is now held by the seat `me`: what the others know stays
   closed_known : (gate holder me j : ℕ) (v : V) (first : O) (log : List E) → gate ≡ 0 → Knows gate holder log first j v → Knows 1 me log first j v
   closed_known gate holder me j v first log shut k = record {
     holds = λ h e. absurd ((k.holds h e).0 shut);
@@ -217,7 +217,7 @@ module _ {S E O : Type 0} (history_of : S → List E) (origin_of : S → O) (key
         spent = λ none_left. absurd (omega (arith, none_left, alive));
       }
 
-  -- where another's history is raised
+  -- another raises the history
   grown_known : (j gate holder : ℕ) (v mine : V) (first : O) (old new : List E) → j ≢ holder → Knows gate holder old first j v → IsPrefix old new → AddsOwnKeys key_of old mine.own new → OwnsKeys key_of old mine.own
       → ((n : ℕ) → Contains mine.own n → Contains v.own n → ⊥) → Knows gate holder new first j v
   grown_known j gate holder v mine first old new other k pre adds keys apart = record {
@@ -271,6 +271,7 @@ module _ {S E O : Type 0} (history_of : S → List E) (origin_of : S → O) (key
     spent = k.spent;
   }
 
+  -- the gate is opened by another
   opened_known : (j gate holder : ℕ) (v : V) (first : O) (log : List E) → j ≢ holder → Knows gate holder log first j v → Knows 0 holder log first j v
   opened_known j gate holder v first log other k = record {
     holds = λ h e. absurd (other (k.holds h e).1);

@@ -1,8 +1,7 @@
-// The lock.
+// The lock: two words, the gate and the length of the history, and a slot for the state. `specs/Rule.antt` says what holds between any two steps on them.
 
-ghost use Rattle.std.specs.Prelude.{◌≡◌, ◌≢◌, ◌+◌, ◌-◌, ◌<◌, [], ◌∷◌, ◌++◌, length, None, Some, IfOk, IsSome};
+ghost use Rattle.std.specs.Prelude.{◌≡◌, ◌+◌, ◌-◌, ◌<◌, [], ◌∷◌, ◌++◌, length, None, Some, IfOk, IsSome};
 ghost use Rattle.std.specs.Option.{unwrap_or};
-ghost use Rattle.std.specs.List.{Contains};
 ghost use mathlib.Core.List.{IsPrefix};
 ghost use Rattle.turn_lock.specs.History.{longer, added_places, AreApart, AreBelow, OwnsKeys, AddsOwnKeys};
 ghost use Rattle.turn_lock.specs.Shown.{with_shares, split_off};
@@ -33,7 +32,7 @@ const CLOSED: u64 = 1;
 // The slot of the state.
 const STATE: usize = 0;
 
-/// A lock over a state with a history. Contracts see which lock it is.
+/// A lock over a state with a history. Contracts see which lock it is, so that a pass of another one is not taken for its own.
 #[derive(Drop)]
 pub struct TurnLock<S: Historied> {
     table: Table<Option<S>, View<S::Entry, S::Origin>, Snapshot<S>, TurnRule, Global>,
@@ -53,7 +52,7 @@ impl<S: Historied> Model for TurnLock<S> {
 }
 
 impl<S: Historied + Drop> TurnLock<S> {
-    /// A lock over the state, and its only pass, which has seen the state's history, owns nothing and has all 1,024 shares.
+    /// A lock over the state, and its only pass, which has seen the state's history, owns nothing and has all 1,024 shares. Where there is no memory the state is let go.
     pub fn new(alloc: Global, state: S) -> Mem<(TurnLock<S>, Pass<S>)>
         ensures lock { IfOk result (λ made. made.1.lock ≡ made.0) }
         ensures seen { IfOk result (λ made. made.1.seen ≡ S.history state) }
@@ -73,7 +72,7 @@ impl<S: Historied + Drop> TurnLock<S> {
 }
 
 impl<S: Historied> TurnLock<S> {
-    /// Waits for the gate to be open, and closes it. What comes out is the state and the pass's hold on it.
+    /// Waits until no turn is under way, and begins one. The state's history begins with all that the pass has seen, and an entry whose key is that of an entry at a place that the pass owns stands at such a place too. Nothing bounds the wait.
     pub fn take<R: Wait>(&self, rt: &R, pass: Pass<S>) -> Turn<S>
         requires lock { pass.lock ≡ self.now }
         ensures pass { result.hold.pass ≡ pass }
@@ -92,7 +91,7 @@ impl<S: Historied> TurnLock<S> {
         }
     }
 
-    // Tries until the gate was open, and yields the processor after each try that fails.
+    // Tries until it finds the gate open, and yields the processor after each try that fails.
     fn close_gate<R: Wait>(&self, rt: &R, seat: &mut LockSeat<S>)
         requires lock { seat.old.table_id ≡ self.now }
         requires pass { (seat.old.me.1 ≡ []) × (seat.old.me.0.held ≡ None) × (0 < seat.old.me.0.shares) }
@@ -110,7 +109,7 @@ impl<S: Historied> TurnLock<S> {
         unreachable!()
     }
 
-    /// Gives the state back and opens the gate. The pass has then seen the whole history, and owns the places that were added.
+    /// Ends the turn. The history may only have grown, by entries with keys that were new or that the pass owns. The pass has then seen the whole history, and owns the places that were added.
     pub fn give(&self, turn: Turn<S>) -> Pass<S>
         requires lock { turn.hold.pass.lock ≡ self.now }
         requires grown { IsPrefix turn.hold.history (S.history turn.state) }
@@ -157,6 +156,7 @@ impl<S: Historied> TurnLock<S> {
     {
         let Pass { mut seat } = pass;
         let shared = &self.table.shared;
+        // A split is a function of the view alone, so the number goes into the view first. No word changes.
         let planned = u64::from(shares);
         shared.compare_exchange::<Plan>(&mut seat, GATE, planned, planned);
         let other = shared.split_seat::<Part>(&mut seat);
@@ -179,11 +179,12 @@ impl<S: Historied> TurnLock<S> {
         let Pass { seat: spent } = other;
         let shared = &self.table.shared;
         shared.join_seat::<Unite>(&mut seat, spent);
+        // A join tells nothing: what the rule says of the joined view is learnt by a load.
         shared.load::<Look>(&mut seat, LENGTH);
         Pass { seat }
     }
 
-    /// Takes the lock apart. The pass has all its shares, so nobody else can have a turn.
+    /// Takes the lock apart, with a pass that has all its shares, so that no other turn is under way.
     pub fn close(self, pass: Pass<S>) -> S
         requires lock { pass.lock ≡ self }
         requires whole { pass.shares ≡ 1024 }

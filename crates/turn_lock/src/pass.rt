@@ -11,7 +11,8 @@ pub(crate) type LockSeat<S> = Seat<
     View<<S as Historied>::Entry, <S as Historied>::Origin>,
 >;
 
-/// Leave to take turns at one lock. It has no bytes. A pass that is dropped takes its shares with it, and the lock can't be closed any more.
+/// Leave to take turns at one lock. It has no bytes. Contracts see which lock, the history that the pass has seen, the places in it that were added through the pass, its shares of 1,024, and the origin of the state with which the lock was made.
+/// A pass that is dropped takes its shares with it, and the lock can't be closed any more.
 #[derive(Drop)]
 pub struct Pass<S: Historied> {
     pub(crate) seat: LockSeat<S>,
@@ -28,7 +29,7 @@ impl<S: Historied> Model for Pass<S> {
     ghost invariant = { λ p. (p.seat.me.1 ≡ []) × (p.seat.me.0.held ≡ None) × (0 < p.seat.me.0.shares) };
 }
 
-/// The hold of a turn on its lock. It has no bytes.
+/// The hold of a turn on its lock. It has no bytes. Contracts see the pass as it was handed to `take`, and the state's history then.
 pub struct Hold<S: Historied> {
     pub(crate) seat: LockSeat<S>,
 }
@@ -48,7 +49,7 @@ impl<S: Historied> Model for Hold<S> {
     ghost invariant = { λ h. (h.seat.me.1 ≡ (0, None) ∷ []) × IsSome h.seat.me.0.held × (0 < h.seat.me.0.shares) };
 }
 
-/// A turn at a lock, with the state. It has no `Drop`: give it back.
+/// A turn at a lock. It can't be dropped: `TurnLock::give` ends it.
 pub struct Turn<S: Historied> {
     /// The state. Its history may grow.
     pub state: S,
