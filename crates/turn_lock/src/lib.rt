@@ -1,0 +1,17 @@
+//! A lock over a state that has a history. Whoever takes a turn sees all that it has seen before, and what was added through it stays its own.
+//!
+//! It is a test-and-set lock. That its clauses hold over every interleaving follows from a rule over the memory and over what each pass knows, which each atomic step keeps (after Owicki and Gries, 1976). Nothing is promised of progress, fairness or time.
+#![tactic(auto)]
+
+mod historied;
+mod lock;
+mod pass;
+mod steps;
+mod view;
+
+pub use historied::Historied;
+pub use lock::TurnLock;
+pub use pass::{Hold, Pass, Turn};
+
+#[cfg(test)]
+mod tests;
