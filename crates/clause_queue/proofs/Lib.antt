@@ -1,0 +1,5 @@
+mod Kept
+pub mod Numbers
+pub mod PairsLemmas
+mod Placed
+mod Rows

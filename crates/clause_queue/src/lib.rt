@@ -1,0 +1,12 @@
+// The queue of waiting clauses, from which the lightest or the oldest is picked.
+#![tactic(auto)]
+
+mod choice;
+mod queue;
+mod tree;
+
+pub use choice::Choice;
+pub use queue::Queue;
+
+#[cfg(test)]
+mod tests;
