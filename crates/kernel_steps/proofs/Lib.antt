@@ -1,1 +1,4 @@
 pub mod KernelLemmas
+pub mod TestLemmas
+pub mod RuleLemmas
+pub mod SoundLemmas

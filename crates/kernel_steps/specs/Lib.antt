@@ -1,3 +1,4 @@
 pub mod Rules
 pub mod Conclusion
 pub mod Derivation
+pub mod Soundness
