@@ -2,9 +2,8 @@
 use Rattle.std.proofs.Common.{◌≡◌, ℕ, Bool, true, false, ◌&&◌, ◌||◌, ◌==◌, List, ◌++◌, Some, None, refl, ap, ap₂, sym, ◌∙◌, ⊎_elim}
 use mathlib.Core.Bool.{beq}
 use Rattle.std.specs.Prelude.{not, slice_get, slice_set, remove, option_map, option_and_then, if◌then◌else◌}
-use Rattle.std.specs.List.{list_any}
-use Rattle.std.proofs.lemmas.Bool.{and_parts, or_cases, or_left, or_right, cases_Bool, eqb-true, eq-eqb, true≢false, not-true}
-use Rattle.std.proofs.lemmas.Option.{option_and_then_some, same_Some, none-some}
+use Rattle.std.proofs.lemmas.Bool.{and_parts, or_cases, or_left, or_right, cases_Bool, eqb-true, eq-eqb, true≢false}
+use Rattle.std.proofs.lemmas.Option.{option_and_then_some, same_Some}
 use Rattle.std.proofs.lemmas.List.Folds.{list_any-append}
 use Rattle.fol_base.specs.Tree.{Tree, tree_eq}
 use Rattle.fol_base.specs.Place.{subterm, replaced}

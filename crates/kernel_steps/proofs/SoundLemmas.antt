@@ -1,20 +1,18 @@
 -- Derivations are sound, so refutations refute.
-use Rattle.std.proofs.Common.{◌≡◌, ℕ, zero, suc, ◌<◌, ◌⊎◌, inl, inr, Bool, true, false, ◌&&◌, ◌==◌, List, [], ◌∷◌, ◌++◌, length, map, take, get_or, Option, Some, None, refl, ap, ap₂, sym, ◌∙◌, subst, arith, ⊎_elim}
+use Rattle.std.proofs.Common.{◌≡◌, ℕ, zero, suc, ◌<◌, ◌⊎◌, inl, inr, Bool, true, false, ◌==◌, List, [], ◌∷◌, ◌++◌, length, take, get_or, Option, Some, None, refl, ap, ap₂, sym, ◌∙◌, subst, arith, ⊎_elim}
 use Rattle.std.specs.Prelude.{not, slice_get, All, Contains}
-use Rattle.std.specs.List.{list_all}
 use Rattle.std.proofs.lemmas.Bool.{and_parts, and_from, true≢false, false_from_ne_true}
 use Rattle.std.proofs.lemmas.Option.{none-some}
 use Rattle.std.proofs.lemmas.List.Elements.{All-contains, All-map, Contains-get_or}
 use Rattle.std.proofs.lemmas.List.Folds.{list_all-map}
 use Rattle.std.proofs.lemmas.List.Sums.{AllPass-from_list_all}
-use Rattle.fol_base.specs.Tree.{Tree, variable, application, Trees, no_trees, tree_then, tree_eq}
+use Rattle.fol_base.specs.Tree.{Tree, variable, application, Trees, no_trees, tree_then}
 use Rattle.fol_base.specs.Instance.{Substitution, substitution, instance, instances}
-use Rattle.fol_base.specs.Clause.{TreeLiteral, TreeClause, literal_instance}
+use Rattle.fol_base.specs.Clause.{TreeLiteral, TreeClause}
 use Rattle.fol_base.specs.Literal.{clause_of}
-use Rattle.fol_base.specs.Ground.{FunctionSymbol, has_constant, ground_over, is_ground, are_ground, GroundClause, is_ground_literal, is_ground_clause, literals_instance, GroundInstance}
+use Rattle.fol_base.specs.Ground.{FunctionSymbol, has_constant, ground_over, is_ground, are_ground, is_ground_literal, is_ground_clause, literals_instance}
 use Rattle.fol_base.specs.GroundForm.{is_truth, is_ground_atom, is_atom_literal, IsGroundClause, IsGroundForm}
 use Rattle.fol_base.specs.Interpretation.{Interpretation, Assignment, true_tree, tree_value, no_values, literals_true_under, clause_true, clauses_true}
-use Rattle.fol_base.specs.Entails.{Entails}
 use Rattle.fol_base.specs.Covered.{InstanceOf}
 use Rattle.fol_base.proofs.MeaningLemmas.{constants_give_ground_trees, truth_of_instances, truth_of_ground_clauses}
 use Rattle.fol_base.proofs.TreeLemmas.{tree_eq-true}
@@ -22,8 +20,8 @@ use Rattle.kernel_steps.specs.declared.step.Step.{Step}
 use Rattle.kernel_steps.specs.declared.step.Step.TheVariants.{Input, Negate, Clausify, Para, Refl, Factor, Merge, Component, Split, Chain}
 use Rattle.kernel_steps.specs.declared.step.Line.{Line}
 use Rattle.kernel_steps.specs.Conclusion.{line_clause, bound_literals, Verdict, binding_fault, rule_fault, concludes, verdict_of, verdict_if}
-use Rattle.kernel_steps.specs.Derivation.{is_clause_step, ComesBy, IsDerivation, IsRefutation}
-use Rattle.kernel_steps.specs.Soundness.{HoldsIn, ground_clauses, Grounds, DerivationsAreSound, LinesAreGrounded, RefutationsRefute, RefutationsHerbrandRefute}
+use Rattle.kernel_steps.specs.Derivation.{is_clause_step, ComesBy, IsDerivation}
+use Rattle.kernel_steps.specs.Soundness.{HoldsIn, ground_clauses, DerivationsAreSound, LinesAreGrounded, RefutationsRefute, RefutationsHerbrandRefute}
 use Rattle.kernel_steps.proofs.TestLemmas.{list_all-weaker, Contains-item}
 use Rattle.kernel_steps.proofs.RuleLemmas.{TrueWith, para-truth, refl-truth, merge-truth}
 
