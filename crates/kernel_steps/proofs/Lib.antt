@@ -2,3 +2,4 @@ pub mod KernelLemmas
 pub mod TestLemmas
 pub mod RuleLemmas
 pub mod SoundLemmas
+pub mod GroundingLemmas

@@ -21,7 +21,7 @@ use Rattle.kernel_steps.specs.declared.step.Step.TheVariants.{Input, Negate, Cla
 use Rattle.kernel_steps.specs.declared.step.Line.{Line}
 use Rattle.kernel_steps.specs.Conclusion.{line_clause, bound_literals, Verdict, binding_fault, rule_fault, concludes, verdict_of, verdict_if}
 use Rattle.kernel_steps.specs.Derivation.{is_clause_step, ComesBy, IsDerivation}
-use Rattle.kernel_steps.specs.Soundness.{HoldsIn, ground_clauses, DerivationsAreSound, LinesAreGrounded, RefutationsRefute, RefutationsHerbrandRefute}
+use Rattle.kernel_steps.specs.Soundness.{HoldsIn, ground_clauses, DerivationsAreSound, GroundLinesAreGrounded, RefutationsRefute, GroundRefutationsHerbrandRefute}
 use Rattle.kernel_steps.proofs.TestLemmas.{list_all-weaker, Contains-item}
 use Rattle.kernel_steps.proofs.RuleLemmas.{TrueWith, para-truth, refl-truth, merge-truth}
 
@@ -37,7 +37,7 @@ verdict_of-literals None = refl
 verdict_of-literals (Some ls) = refl
 
 -- a conclusion is what the rule gives
-verdict_if-concludes :
+pub verdict_if-concludes :
     (bound : Bool) (made : Option (List TreeLiteral)) (c : TreeClause) → verdict_if bound made ≡ concludes c → made ≡ Some c.literals
 verdict_if-concludes true made c is = sym (verdict_of-literals made) ∙ ap verdict_literals is
 verdict_if-concludes false made c is = absurd (none-some c.literals (ap verdict_literals is))
@@ -45,13 +45,13 @@ verdict_if-concludes false made c is = absurd (none-some c.literals (ap verdict_
 -- ---- parents
 
 -- the line that a parent's number stands for
-record Parent (lines : List Line) (n : ℕ) (a : ℕ) : Type 0 where
-  line : Line
-  there : slice_get lines a ≡ Some line
-  clause : line_clause (take n lines) a ≡ clause_of line.clause
-  before : a < n
+pub record Parent (lines : List Line) (n : ℕ) (a : ℕ) : Type 0 where
+  pub line : Line
+  pub there : slice_get lines a ≡ Some line
+  pub clause : line_clause (take n lines) a ≡ clause_of line.clause
+  pub before : a < n
 
-parent : (lines : List Line) (n a : ℕ) → a < length (take n lines) → Parent lines n a
+pub parent : (lines : List Line) (n a : ℕ) → a < length (take n lines) → Parent lines n a
 parent lines zero a h = absurd (omega arith)
 parent [] (suc n) a h = absurd (omega arith)
 parent (l ∷ ls) (suc n) zero h = record { line = l; there = refl; clause = refl; before = omega arith }
@@ -64,7 +64,7 @@ abbrev Stands : Interpretation → Step → TreeClause → Type 0
 Stands i step c = ((is_clause_step step ≡ false) × (c.literals ≡ [])) ⊎ HoldsIn i c
 
 -- a binding keeps what holds
-bound-truth :
+pub bound-truth :
     (i : Interpretation) (ρ : Assignment) (bind : List Tree) (c : TreeClause) (k : ℕ)
     → (c.literals ≡ []) ⊎ HoldsIn i c → TrueWith i ρ (bound_literals bind c) k
 bound-truth i ρ bind c k (inl none) l at =
@@ -192,8 +192,8 @@ form-instances functions form constant ground =
     some_tree : (t : Tree) × (ground_over functions t ≡ true)
     some_tree = (constants_give_ground_trees functions).1 constant
 
-pub lines_are_grounded : LinesAreGrounded
-lines_are_grounded is_predicate functions form lines constant ground derived n line at is_clause g made = record {
+pub ground_lines_are_grounded : GroundLinesAreGrounded
+ground_lines_are_grounded is_predicate functions form lines constant ground derived n line at is_clause g made = record {
   by = ground_clauses form;
   instances = form-instances functions form constant ground;
   entailed = λ i ok all_true.
@@ -205,7 +205,7 @@ lines_are_grounded is_predicate functions form lines constant ground derived n l
 
 -- ---- refutations
 
-slice_get-last : {X : Type 0} (xs : List X) (x : X) → slice_get (xs ++ x ∷ []) (length xs) ≡ Some x
+pub slice_get-last : {X : Type 0} (xs : List X) (x : X) → slice_get (xs ++ x ∷ []) (length xs) ≡ Some x
 slice_get-last [] x = refl
 slice_get-last (y ∷ xs) x = slice_get-last xs x
 
@@ -221,8 +221,8 @@ refutations_refute is_predicate form lines ground refutation i ok =
     is_last =
         ap (λ ls. slice_get ls (length refutation.before)) refutation.ends ∙ slice_get-last refutation.before refutation.last
 
-pub refutations_herbrand_refute : RefutationsHerbrandRefute
-refutations_herbrand_refute is_predicate functions form lines constant ground refutation = record {
+pub ground_refutations_herbrand_refute : GroundRefutationsHerbrandRefute
+ground_refutations_herbrand_refute is_predicate functions form lines constant ground refutation = record {
   constant = constant;
   by = ground_clauses form;
   instances = form-instances functions form constant ground;

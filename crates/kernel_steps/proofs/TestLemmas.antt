@@ -1,5 +1,5 @@
 -- Tests of lists after an item went or was exchanged.
-use Rattle.std.proofs.Common.{◌≡◌, ℕ, zero, suc, Bool, true, false, ◌||◌, List, [], ◌∷◌, Option, Some, None, refl, ap, sym, ◌∙◌, ⊎_elim}
+use Rattle.std.proofs.Common.{◌≡◌, ℕ, zero, suc, Bool, true, false, ◌||◌, List, [], ◌∷◌, get_or, Option, Some, None, refl, ap, sym, ◌∙◌, ⊎_elim}
 use Rattle.std.specs.Prelude.{Contains, slice_get, slice_set, remove, if◌then◌else◌}
 use Rattle.std.specs.List.{list_any, list_all}
 use Rattle.std.proofs.lemmas.Bool.{or_cases, or_left, or_right, and_parts, and_from}
@@ -63,3 +63,16 @@ pub else_some :
     {X : Type 0} (b : Bool) (o : Option X) (x : X) → (if b then None else o) ≡ Some x → (b ≡ false) × (o ≡ Some x)
 else_some true o x h = absurd (none-some x h)
 else_some false o x h = (refl, h)
+
+-- an item, or what is read past the end
+pub get_or-passes :
+    {X : Type 0} (p : X → Bool) (xs : List X) (k : ℕ) (d : X) → list_all p xs ≡ true → p d ≡ true → p (get_or xs k d) ≡ true
+get_or-passes p [] k d all passes = passes
+get_or-passes p (x ∷ xs) zero d all passes = (and_parts (p x) (list_all p xs) all).0
+get_or-passes p (x ∷ xs) (suc k) d all passes = get_or-passes p xs k d (and_parts (p x) (list_all p xs) all).1 passes
+
+pub slice_get-passes :
+    {X : Type 0} (p : X → Bool) (xs : List X) (k : ℕ) (x : X) → slice_get xs k ≡ Some x → list_all p xs ≡ true → p x ≡ true
+slice_get-passes p [] k x at all = absurd (none-some x at)
+slice_get-passes p (y ∷ ys) zero x at all = ap p (sym (same_Some y x at)) ∙ (and_parts (p y) (list_all p ys) all).0
+slice_get-passes p (y ∷ ys) (suc k) x at all = slice_get-passes p ys k x at (and_parts (p y) (list_all p ys) all).1

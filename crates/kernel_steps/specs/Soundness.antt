@@ -1,14 +1,18 @@
 -- What a derivation establishes: its clauses are true wherever the form is, so a refutation refutes the form (Robinson 1965), by
 -- finitely many of its ground instances (Herbrand 1930).
-use Rattle.std.specs.Prelude.{◌≡◌, ℕ, Bool, List, map, Some, slice_get, All, Contains, IsTrue}
+use Rattle.std.specs.Prelude.{◌≡◌, ℕ, Bool, List, [], ◌∷◌, map, Some, slice_get, All, Contains, IsTrue}
+use Rattle.std.specs.List.{list_all}
+use Rattle.fol_base.specs.Tree.{Tree}
 use Rattle.fol_base.specs.Clause.{TreeLiteral, TreeClause}
-use Rattle.fol_base.specs.Ground.{FunctionSymbol, has_constant, GroundClause, GroundInstance}
+use Rattle.fol_base.specs.Ground.{FunctionSymbol, has_constant, is_over, GroundClause, GroundInstance}
 use Rattle.fol_base.specs.GroundForm.{IsGroundForm}
 use Rattle.fol_base.specs.Interpretation.{Interpretation, Assignment, literals_true_under}
 use Rattle.fol_base.specs.Entails.{Entails, IsRefuted}
 use Rattle.fol_base.specs.Covered.{InstanceOf}
 use Rattle.fol_base.specs.Literal.{clause_of}
 use Rattle.fol_base.specs.declared.clause.Side.{Side}
+use Rattle.kernel_steps.specs.declared.step.Step.{Step}
+use Rattle.kernel_steps.specs.declared.step.Step.TheVariants.{Para, Refl, Factor, Merge}
 use Rattle.kernel_steps.specs.declared.step.Line.{Line}
 use Rattle.kernel_steps.specs.Rules.{para_literals, refl_literals, merge_literals}
 use Rattle.kernel_steps.specs.Derivation.{is_clause_step, IsDerivation, IsRefutation}
@@ -38,6 +42,21 @@ pub record HerbrandRefuted (is_predicate : ℕ → Bool) (functions : List Funct
   pub by : List GroundClause
   pub instances : All (InstanceOf functions (Contains form)) by
   pub refuted : IsRefuted is_predicate by
+
+-- the bindings of a step, one for each parent
+abbrev pub bindings_of : Step → List (List Tree)
+bindings_of (Para a b i s j z place first second) = first ∷ second ∷ []
+bindings_of (Refl a i bind) = bind ∷ []
+bindings_of (Factor a i s j z bind) = bind ∷ []
+bindings_of (Merge a i j bind) = bind ∷ []
+bindings_of _ = []
+
+-- each term that a line binds a variable to has symbols of the list alone; it may have variables
+abbrev pub binds_over : List FunctionSymbol → Line → Bool
+binds_over functions line = list_all (list_all (is_over functions)) (bindings_of line.step)
+
+abbrev pub BindsOver : List FunctionSymbol → List Line → Type 0
+BindsOver functions lines = IsTrue (list_all (binds_over functions) lines)
 
 -- ---- laws of the rules: what a rule gives is true where the clauses that it is given are, under the same values of variables
 
@@ -69,13 +88,23 @@ DerivationsAreSound =
     → (n : ℕ) (line : Line) → slice_get lines n ≡ Some line → IsTrue (is_clause_step line.step)
     → HoldsIn i (clause_of line.clause)
 
--- each clause line of a derivation from a ground form is grounded
+-- each clause line of a derivation is grounded, where its bindings are over the function symbols
 abbrev pub LinesAreGrounded : Type 0
 LinesAreGrounded =
+    (is_predicate : ℕ → Bool) (functions : List FunctionSymbol) (form : List TreeClause) (lines : List Line)
+    → BindsOver functions lines → IsDerivation form lines
+    → (n : ℕ) (line : Line) → slice_get lines n ≡ Some line → IsTrue (is_clause_step line.step)
+    → IsGrounded is_predicate functions form (clause_of line.clause)
+
+-- and from a ground form, which has nothing to bind
+abbrev pub GroundLinesAreGrounded : Type 0
+GroundLinesAreGrounded =
     (is_predicate : ℕ → Bool) (functions : List FunctionSymbol) (form : List TreeClause) (lines : List Line)
     → IsTrue (has_constant functions) → IsGroundForm form → IsDerivation form lines
     → (n : ℕ) (line : Line) → slice_get lines n ≡ Some line → IsTrue (is_clause_step line.step)
     → IsGrounded is_predicate functions form (clause_of line.clause)
+
+-- ---- laws of refutations
 
 -- no interpretation makes a ground form true that has a refutation
 abbrev pub RefutationsRefute : Type 0
@@ -83,9 +112,16 @@ RefutationsRefute =
     (is_predicate : ℕ → Bool) (form : List TreeClause) (lines : List Line)
     → IsGroundForm form → IsRefutation form lines → IsRefuted is_predicate (ground_clauses form)
 
--- and the form is Herbrand-refuted, over every list of function symbols that has a constant
+-- a form that has a refutation is Herbrand-refuted over function symbols that have a constant, where its bindings are over them
 abbrev pub RefutationsHerbrandRefute : Type 0
 RefutationsHerbrandRefute =
+    (is_predicate : ℕ → Bool) (functions : List FunctionSymbol) (form : List TreeClause) (lines : List Line)
+    → IsTrue (has_constant functions) → BindsOver functions lines → IsRefutation form lines
+    → HerbrandRefuted is_predicate functions form
+
+-- and a ground form over every list that has a constant
+abbrev pub GroundRefutationsHerbrandRefute : Type 0
+GroundRefutationsHerbrandRefute =
     (is_predicate : ℕ → Bool) (functions : List FunctionSymbol) (form : List TreeClause) (lines : List Line)
     → IsTrue (has_constant functions) → IsGroundForm form → IsRefutation form lines
     → HerbrandRefuted is_predicate functions form
