@@ -3,3 +3,4 @@ pub mod TestLemmas
 pub mod RuleLemmas
 pub mod SoundLemmas
 pub mod GroundingLemmas
+pub mod RefutationExamples

@@ -2,3 +2,4 @@ pub mod Rules
 pub mod Conclusion
 pub mod Derivation
 pub mod Soundness
+pub mod Examples

@@ -17,7 +17,7 @@ use Rattle.kernel_steps.specs.declared.step.Line.{Line}
 use Rattle.kernel_steps.specs.Rules.{para_literals, refl_literals, merge_literals}
 use Rattle.kernel_steps.specs.Derivation.{is_clause_step, IsDerivation, IsRefutation}
 
--- a clause is true whatever its variables stand for
+-- a clause is true whatever numbers its variables stand for, also those that are no value of the interpretation
 abbrev pub HoldsIn : Interpretation → TreeClause → Type 0
 HoldsIn i c = (ρ : Assignment) → IsTrue (literals_true_under i ρ c.literals)
 
@@ -43,7 +43,7 @@ pub record HerbrandRefuted (is_predicate : ℕ → Bool) (functions : List Funct
   pub instances : All (InstanceOf functions (Contains form)) by
   pub refuted : IsRefuted is_predicate by
 
--- the bindings of a step, one for each parent
+-- the bindings of a step, one for each parent that has one
 abbrev pub bindings_of : Step → List (List Tree)
 bindings_of (Para a b i s j z place first second) = first ∷ second ∷ []
 bindings_of (Refl a i bind) = bind ∷ []
