@@ -9,7 +9,7 @@ use Rattle.fol_base.specs.Tree.{Tree, variable}
 use Rattle.fol_base.specs.Instance.{Substitution, substitution}
 use Rattle.fol_base.specs.Clause.{TreeLiteral, TreeClause, clause_variables}
 use Rattle.fol_base.specs.Literal.{clause_of}
-use Rattle.fol_base.specs.Ground.{FunctionSymbol, has_constant, ground_over, is_over, IsGroundOver, GroundClause, literals_instance, GroundInstance}
+use Rattle.fol_base.specs.Ground.{FunctionSymbol, ground_over, is_over, IsGroundOver, GroundClause, literals_instance}
 use Rattle.fol_base.specs.Interpretation.{Interpretation, IsInterpretation, Assignment, tree_value, no_values, literals_true_under, clause_true, clauses_true}
 use Rattle.fol_base.specs.Covered.{InstanceOf}
 use Rattle.fol_base.proofs.MeaningLemmas.{constants_give_ground_trees, truth_of_instances}
@@ -17,9 +17,9 @@ use Rattle.fol_base.proofs.GroundInstanceLemmas.{ground_instances_of_instances}
 use Rattle.kernel_steps.specs.declared.step.Step.{Step}
 use Rattle.kernel_steps.specs.declared.step.Step.TheVariants.{Input, Negate, Clausify, Para, Refl, Factor, Merge, Component, Split, Chain}
 use Rattle.kernel_steps.specs.declared.step.Line.{Line}
-use Rattle.kernel_steps.specs.Conclusion.{empty_clause, line_clause, bound_literals, bound_clause}
-use Rattle.kernel_steps.specs.Derivation.{is_clause_step, ComesBy, IsDerivation, IsRefutation}
-use Rattle.kernel_steps.specs.Soundness.{Grounds, IsGrounded, HerbrandRefuted, bindings_of, binds_over, BindsOver, LinesAreGrounded, RefutationsHerbrandRefute}
+use Rattle.kernel_steps.specs.Conclusion.{line_clause, bound_literals}
+use Rattle.kernel_steps.specs.Derivation.{is_clause_step, ComesBy, IsDerivation}
+use Rattle.kernel_steps.specs.Soundness.{Grounds, IsGrounded, bindings_of, binds_over, BindsOver, LinesAreGrounded, RefutationsHerbrandRefute}
 use Rattle.kernel_steps.proofs.TestLemmas.{Contains-item, get_or-passes, slice_get-passes}
 use Rattle.kernel_steps.proofs.RuleLemmas.{TrueWith, para-truth, refl-truth, merge-truth}
 use Rattle.kernel_steps.proofs.SoundLemmas.{verdict_if-concludes, Parent, parent, bound-truth, slice_get-last}

@@ -1,15 +1,15 @@
 -- The worked refutations.
-use Rattle.std.proofs.Common.{◌≡◌, ℕ, zero, suc, ◌+◌, ◌<◌, Bool, true, false, ◌&&◌, ◌||◌, List, [], ◌∷◌, ◌++◌, length, get_or, Some, None, refl, ap, sym, ◌∙◌, subst, arith, true≢false}
-use Rattle.std.specs.Prelude.{not, All, Contains, slice_get, take}
+use Rattle.std.proofs.Common.{◌≡◌, ℕ, zero, suc, ◌<◌, Bool, true, false, ◌&&◌, ◌||◌, [], ◌∷◌, length, get_or, None, refl, ap, sym, ◌∙◌, subst, arith, true≢false}
+use Rattle.std.specs.Prelude.{not, Contains, slice_get, take}
 use Rattle.std.proofs.lemmas.List.{length_push}
 use Rattle.std.proofs.lemmas.Option.{same_Some, none-some}
 use Rattle.std.proofs.lemmas.List.Elements.{All-nil, All-cons}
 use Rattle.std.proofs.lemmas.List.Sums.{list_all-from_AllPass}
-use Rattle.fol_base.specs.Clause.{TreeLiteral, TreeClause}
+use Rattle.fol_base.specs.Clause.{TreeClause}
 use Rattle.fol_base.specs.Instance.{Substitution}
 use Rattle.fol_base.specs.Literal.{literal_of, clause_of}
 use Rattle.fol_base.specs.Ground.{GroundClause, literals_instance}
-use Rattle.fol_base.specs.Interpretation.{literal_true, clause_true, clauses_true}
+use Rattle.fol_base.specs.Interpretation.{literal_true, clause_true}
 use Rattle.fol_base.specs.Covered.{InstanceOf}
 use Rattle.fol_base.specs.Examples.{x, a, p, clause, is_predicate, functions, all_a, p_of_a_alone}
 use Rattle.fol_base.specs.declared.clause.Side.TheVariants.{Left}
