@@ -4,6 +4,7 @@
 mod answer;
 mod derive;
 mod entry;
+mod inputs;
 mod prove;
 mod search;
 

@@ -8,6 +8,7 @@ ghost use Rattle.ground_loop.specs.Answer.{IsGroundAnswer};
 use crate::answer::Ground;
 use crate::derive::derive;
 use crate::entry::Found;
+use crate::inputs::with_inputs;
 use crate::search::search;
 use fol_base::{Clauses, Mem};
 use std::alloc::Global;
@@ -21,7 +22,11 @@ pub fn prove_ground(alloc: Global, form: &Clauses, limit: u32) -> Mem<Ground>
     ensures { IfOk result (IsGroundAnswer (map clause_of form.now) limit) }
 {
     match search(alloc, form, limit)? {
-        Found::Empty(atoms, entries) => Ok(Ground::Refuted(derive(alloc, form, &atoms, &entries)?)),
+        Found::Empty(atoms, entries) => Ok(Ground::Refuted(with_inputs(
+            alloc,
+            form,
+            derive(alloc, form, &atoms, &entries)?,
+        )?)),
         Found::Closed => Ok(Ground::Closed),
         Found::Spent(count) => Ok(Ground::Spent(count)),
     }

@@ -3,12 +3,17 @@ use Rattle.std.specs.Prelude.{ℕ, List, [], ◌++◌, codes}
 use Rattle.std.specs.Fmt.{decimal}
 use Rattle.ground_text.specs.Names.{problem_name, shown}
 
+-- the end of a line that names the problem
+abbrev pub for_problem : List ℕ → List ℕ
+for_problem file = codes " for " ++ problem_name file ++ codes "\n"
+
 -- the line of a status
 abbrev pub status_line : List ℕ → List ℕ → List ℕ
-status_line word file = codes "% SZS status " ++ word ++ codes " for " ++ problem_name file ++ codes "\n"
+status_line word file = codes "% SZS status " ++ word ++ for_problem file
 
+-- the lines around a derivation
 abbrev pub output_line : List ℕ → List ℕ → List ℕ
-output_line word file = codes "% SZS output " ++ word ++ codes " CNFRefutation for " ++ problem_name file ++ codes "\n"
+output_line word file = codes "% SZS output " ++ word ++ codes " CNFRefutation" ++ for_problem file
 
 -- a derivation between its two lines
 abbrev pub refuted_report : List ℕ → List ℕ → List ℕ
@@ -18,14 +23,20 @@ refuted_report file derivation =
 abbrev pub closed_report : List ℕ → List ℕ
 closed_report file = status_line (codes "Unknown") file ++ codes "% closed\n"
 
+abbrev pub spent_line : ℕ → List ℕ
+spent_line count = codes "% spent " ++ decimal count ++ codes " of 100000\n"
+
 abbrev pub spent_report : List ℕ → ℕ → List ℕ
-spent_report file count = status_line (codes "GaveUp") file ++ codes "% spent " ++ decimal count ++ codes " of 100000\n"
+spent_report file count = status_line (codes "GaveUp") file ++ spent_line count
 
 abbrev pub not_built_report : List ℕ → List ℕ
 not_built_report file = status_line (codes "InputError") file ++ codes "% NotBuilt\n"
 
+abbrev pub load_line : List ℕ → List ℕ
+load_line file = codes "% Load " ++ shown file ++ codes "\n"
+
 abbrev pub load_failed_report : List ℕ → List ℕ
-load_failed_report file = status_line (codes "OSError") file ++ codes "% Load " ++ shown file ++ codes "\n"
+load_failed_report file = status_line (codes "OSError") file ++ load_line file
 
 abbrev pub usage_report : List ℕ
 usage_report = codes "usage: prove FILE\n"

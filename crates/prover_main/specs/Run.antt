@@ -88,6 +88,13 @@ pub record Taken : Type 0 where
   pub faults_before : ℕ
   pub faults_after : ℕ
 
+-- the sink took the text, or it failed and took a prefix
+pub data Delivered (taken : Taken) (due : ℕ) (text : List ℕ) (status : ℕ) : Type 0 where
+  all_taken : status ≡ due → taken.bytes_after ≡ with_bytes taken.bytes_before text → Delivered taken due text status
+  prefix_taken :
+      status ≡ 5 → Rose taken.faults_before taken.faults_after → HasPrefixAfter taken.bytes_before taken.bytes_after text
+      → Delivered taken due text status
+
 -- The sink took the whole report that was due. Or it failed: then the status is 5, and it took a prefix of that report. Or memory
 -- was wanted: then the status is 7, the words are no usage and the sink took nothing.
 pub data IsRun (words : List (List ℕ)) (outside : Outside) (taken : Taken) (status : ℕ) : Type 0 where

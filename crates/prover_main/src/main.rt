@@ -2,9 +2,10 @@
 #![tactic(auto)]
 
 mod report;
+mod run;
 mod words;
 
-pub use report::{Report, closed};
+pub use run::run;
 pub use words::Words;
 
 fn main() {}

@@ -47,7 +47,11 @@ impl Words {
         match self.words.as_slice() {
             [command, file] => {
                 let file = file.as_str();
-                if command.as_str() == "prove" && is_file_word(file) { Some(file) } else { None }
+                if command.as_str() == "prove" && is_file_word(file) {
+                    Some(file)
+                } else {
+                    None
+                }
             }
             _ => None,
         }

@@ -5,7 +5,7 @@ ghost use Rattle.std.specs.Prelude.{◌≡◌, ◌≤◌, IfOk, List, map, sum_b
 ghost use Rattle.fol_base.specs.Clause.{clause_size};
 ghost use Rattle.fol_base.specs.Literal.{clause_of};
 ghost use Rattle.tptp_reader.specs.Syntax.{NamedFormula};
-ghost use Rattle.tptp_reader.specs.GroundForm.{IsGroundForm};
+ghost use Rattle.fol_base.specs.GroundForm.{IsGroundForm, form_size};
 ghost use Rattle.tptp_reader.specs.GroundText.{IsGroundText, IsWithinLimits, IsReadAs};
 
 mod fault;
@@ -19,7 +19,7 @@ use std::alloc::Global;
 pub fn read_ground(_alloc: Global, bytes: &[u8]) -> Result<GroundProblem, GroundFault>
     ensures read { IfOk result (IsReadAs bytes.now) }
     ensures ground { IfOk result (λ problem. IsGroundForm (map clause_of problem.clauses)) }
-    ensures few { IfOk result (λ problem. sum_by clause_size (map clause_of problem.clauses) ≤ 4000) }
+    ensures few { IfOk result (λ problem. form_size (map clause_of problem.clauses) ≤ 4000) }
     ensures not_built { result ≡ Err GroundFault.NotBuilt
         → (fs : List NamedFormula) → IsGroundText bytes.now fs → IsWithinLimits fs → ⊥ }
 {

@@ -1,0 +1,58 @@
+-- From what was delivered to what a run answers.
+use Rattle.std.proofs.Common.{◌≡◌, ℕ, Option, None, Some, List, refl, subst, sym}
+use Rattle.fol_base.specs.Clause.{TreeClause}
+use Rattle.ground_loop.specs.Answer.{IsGroundAnswer}
+use Rattle.ground_loop.specs.declared.answer.Ground.{Ground}
+use Rattle.ground_loop.specs.declared.answer.Ground.TheVariants.{Refuted}
+use Rattle.kernel_steps.specs.Derivation.{IsSourcedRefutation}
+use Rattle.kernel_steps.specs.declared.step.Line.{Line}
+use Rattle.tptp_reader.specs.GroundText.{IsReadAs}
+use Rattle.tptp_reader.specs.declared.problem.GroundProblem.{GroundProblem}
+use Rattle.ground_text.specs.Lines.{source_of, lines_text}
+use Rattle.prover_main.specs.Words.{proved_file}
+use Rattle.prover_main.specs.Accepted.{form_of}
+use Rattle.prover_main.specs.Report.{usage_report, refuted_report}
+use Rattle.prover_main.specs.Run.{most_inferences, IsDueOn, refuted, IsDueFor, Outside, IsDue, Taken, Delivered, all_taken, prefix_taken, IsRun, whole, cut_off}
+
+pub run_usage :
+    (words : List (List ℕ)) (outside : Outside) (taken : Taken) (status : ℕ)
+    → None ≡ proved_file words → Delivered taken 6 usage_report status → IsRun words outside taken status
+run_usage words outside taken status e (all_taken s t) =
+    let P : Option (List ℕ) → Type 0 = λ f. IsDue f outside status usage_report in
+    whole usage_report (subst P e (s, refl)) t
+run_usage words outside taken status e (prefix_taken s r p) =
+    let P : Option (List ℕ) → Type 0 = λ f. IsDue f outside 6 usage_report in
+    cut_off s 6 usage_report (subst P e (refl, refl)) r p
+
+pub run_due :
+    (words : List (List ℕ)) (outside : Outside) (taken : Taken) (file : List ℕ) (due : ℕ) (text : List ℕ) (status : ℕ)
+    → Some file ≡ proved_file words → IsDueFor outside file due text → Delivered taken due text status
+    → IsRun words outside taken status
+run_due words outside taken file due text status e cause (all_taken s t) =
+    let P : Option (List ℕ) → Type 0 = λ f. IsDue f outside status text in
+    let Q : ℕ → Type 0 = λ n. IsDueFor outside file n text in
+    whole text (subst P e (subst Q (sym s) cause)) t
+run_due words outside taken file due text status e cause (prefix_taken s r p) =
+    let P : Option (List ℕ) → Type 0 = λ f. IsDue f outside due text in
+    cut_off s due text (subst P e cause) r p
+
+pub due_refuted :
+    (bytes file text : List ℕ) (problem : GroundProblem) (answer : Ground) (lines : List Line)
+    → IsReadAs bytes problem → IsGroundAnswer (form_of problem) most_inferences answer → answer ≡ Refuted lines
+    → text ≡ refuted_report file (lines_text (source_of file problem) lines) → IsDueOn bytes file 0 text
+due_refuted bytes file text problem answer lines read is e printed =
+    let P : Ground → Type 0 = IsGroundAnswer (form_of problem) most_inferences in
+    refuted refl (record {
+      problem = problem;
+      is_read = read;
+      derivation = lines_text (source_of file problem) lines;
+      accepted = record { lines = lines; spells = refl; refutes = subst P e is };
+      prints = printed;
+    })
+
+pub due_text :
+    (outside : Outside) (file : List ℕ) (status : ℕ) (text shown : List ℕ)
+    → text ≡ shown → IsDueFor outside file status text → IsDueFor outside file status shown
+due_text outside file status text shown e due =
+    let P : List ℕ → Type 0 = IsDueFor outside file status in
+    subst P e due

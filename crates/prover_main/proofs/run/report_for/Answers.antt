@@ -1,0 +1,12 @@
+use Rattle.std.proofs.Common.{ℕ, List, sym, subst}
+use Rattle.outside.specs.Library.{HoldsExactly}
+use Rattle.kernel_steps.proofs.KernelLemmas.{IfOk-change}
+use Rattle.prover_main.specs.Run.{read}
+use Rattle.prover_main.proofs.run.report_for.Goals as goal
+
+pub returns-in-Ok : goal.returns-in-Ok
+returns-in-Ok g c =
+    let P : List ℕ → Type 0 = HoldsExactly (g.L.Library.told c.args.library.now) c.args.file.now in
+    IfOk-change c.report_on.result _ _
+    (λ r due. read _ (subst P (sym c.as_slice.ensures.value) c.in-Ok.ensures.bytes) due)
+    c.report_on.ensures

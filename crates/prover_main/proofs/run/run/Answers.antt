@@ -1,0 +1,11 @@
+use Rattle.std.proofs.Common.{sym}
+use Rattle.prover_main.proofs.RunLemmas.{run_usage, run_due, due_text}
+use Rattle.prover_main.proofs.run.run.Goals as goal
+
+pub returns-in-None : goal.returns-in-None
+returns-in-None g c = run_usage _ _ _ _ c.in-None.ensures c.deliver_report.ensures
+
+pub returns-in-Ok : goal.returns-in-Ok
+returns-in-Ok g c =
+    run_due _ _ _ c.in-Some.file.now c.in-Ok.report.status c.as_slice.result.now _ c.in-Some.ensures
+    (due_text _ _ _ _ _ (sym c.as_slice.ensures) c.in-Ok.ensures) c.deliver_report-in-Ok.ensures
