@@ -1,3 +1,5 @@
 pub mod Rules
 pub mod Conclusion
 pub mod Derivation
+pub mod Soundness
+pub mod Examples

@@ -7,3 +7,5 @@ mod step;
 
 pub use conclude::conclusion;
 pub use step::{Derivation, Line, Step, StepFault};
+
+pub mod laws;

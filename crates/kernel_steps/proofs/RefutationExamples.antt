@@ -1,0 +1,115 @@
+-- The worked refutations.
+use Rattle.std.proofs.Common.{◌≡◌, ℕ, zero, suc, ◌<◌, Bool, true, false, ◌&&◌, ◌||◌, [], ◌∷◌, length, get_or, None, refl, ap, sym, ◌∙◌, subst, arith, true≢false}
+use Rattle.std.specs.Prelude.{not, Contains, slice_get, take}
+use Rattle.std.proofs.lemmas.List.{length_push}
+use Rattle.std.proofs.lemmas.Option.{same_Some, none-some}
+use Rattle.std.proofs.lemmas.List.Elements.{All-nil, All-cons}
+use Rattle.std.proofs.lemmas.List.Sums.{list_all-from_AllPass}
+use Rattle.fol_base.specs.Clause.{TreeClause}
+use Rattle.fol_base.specs.Instance.{Substitution}
+use Rattle.fol_base.specs.Literal.{literal_of, clause_of}
+use Rattle.fol_base.specs.Ground.{GroundClause, literals_instance}
+use Rattle.fol_base.specs.Interpretation.{literal_true, clause_true}
+use Rattle.fol_base.specs.Covered.{InstanceOf}
+use Rattle.fol_base.specs.Examples.{x, a, p, clause, is_predicate, functions, all_a, p_of_a_alone}
+use Rattle.fol_base.specs.declared.clause.Side.TheVariants.{Left}
+use Rattle.kernel_steps.specs.declared.step.Step.TheVariants.{Input, Clausify, Para, Refl}
+use Rattle.kernel_steps.specs.declared.step.Line.{Line}
+use Rattle.kernel_steps.specs.Conclusion.{empty_clause}
+use Rattle.kernel_steps.specs.Derivation.{ComesBy, IsDerivation, IsRefutation}
+use Rattle.kernel_steps.specs.Soundness.{HerbrandRefuted}
+use Rattle.kernel_steps.specs.Examples.{not_p, line, p_of_a, not_true, opposites, unrelated, general, opposites_lines}
+use Rattle.kernel_steps.proofs.SoundLemmas.{verdict_if-concludes, slice_get-last}
+
+-- ---- derivations
+
+abbrev Comes : ℕ → Line → Type 0
+Comes n l = ComesBy l.step opposites (take n (opposites_lines 3)) (clause_of l.clause)
+
+opposites-derived : IsDerivation opposites (opposites_lines 3)
+opposites-derived zero l at = subst (Comes 0) (same_Some (line (Input 0) []) l at) refl
+opposites-derived (suc zero) l at = subst (Comes 1) (same_Some (line (Clausify 0) (p_of_a true ∷ [])) l at) refl
+opposites-derived (suc (suc zero)) l at = subst (Comes 2) (same_Some (line (Clausify 1) (p_of_a false ∷ [])) l at) refl
+opposites-derived (suc (suc (suc zero))) l at =
+    subst (Comes 3) (same_Some (line (Para 1 2 0 Left 0 Left [] [] []) (not_true ∷ [])) l at) (omega arith, omega arith, refl)
+opposites-derived (suc (suc (suc (suc zero)))) l at =
+    subst (Comes 4) (same_Some (line (Refl 3 0 []) []) l at) (omega arith, refl)
+opposites-derived (suc (suc (suc (suc (suc n))))) l at = absurd (none-some l at)
+
+pub opposites_refuted : IsRefutation opposites (opposites_lines 3)
+opposites_refuted = record {
+  derived = opposites-derived;
+  before = take 4 (opposites_lines 3);
+  last = line (Refl 3 0 []) [];
+  ends = refl;
+  is_clause = refl;
+  is_empty = refl;
+}
+
+-- the negation of p(a) has sides that differ
+pub other_parent : IsRefutation opposites (opposites_lines 2) → ⊥
+other_parent refutation = none-some [] (verdict_if-concludes true None empty_clause (refutation.derived 4 (line (Refl 2 0 []) []) refl).1)
+
+-- the last line is then the negation of `$true`
+pub last_line_left_out : IsRefutation opposites (take 4 (opposites_lines 3)) → ⊥
+last_line_left_out refutation =
+    none-some (literal_of not_true)
+    (ap (λ (c : TreeClause). slice_get c.literals 0) (sym (ap (λ (l : Line). clause_of l.clause) last_is ∙ refutation.is_empty)))
+  where
+    place : length refutation.before ≡ 3
+    place = omega (arith, ap length refutation.ends, length_push refutation.before refutation.last)
+
+    last_is : line (Para 1 2 0 Left 0 Left [] [] []) (not_true ∷ []) ≡ refutation.last
+    last_is =
+        same_Some (line (Para 1 2 0 Left 0 Left [] [] []) (not_true ∷ [])) refutation.last
+        (ap (slice_get (take 4 (opposites_lines 3))) (sym place)
+        ∙ ap (λ ls. slice_get ls (length refutation.before)) refutation.ends
+        ∙ slice_get-last refutation.before refutation.last)
+
+-- ---- ground instances
+
+-- p(a) and its negation
+pub general_refuted : HerbrandRefuted is_predicate functions general
+general_refuted = record {
+  constant = refl;
+  by = (p a ∷ []) ∷ (not_p a ∷ []) ∷ [];
+  instances =
+      All-cons (InstanceOf functions (Contains general)) (p a ∷ []) ((not_p a ∷ []) ∷ [])
+      (record {
+        clause = clause (p (x 0) ∷ []);
+        holds = (0, omega arith, refl);
+        is_instance = record { trees = all_a; trees_ground = λ v. refl; literals = refl };
+      })
+      (All-cons (InstanceOf functions (Contains general)) (not_p a ∷ []) []
+      (record {
+        clause = clause (not_p a ∷ []);
+        holds = (1, omega arith, refl);
+        is_instance = record { trees = all_a; trees_ground = λ v. refl; literals = refl };
+      })
+      (All-nil (InstanceOf functions (Contains general))));
+  refuted = λ i ok. never_both (literal_true i (p a));
+}
+  where
+    never_both : (holds : Bool) → ((holds || false) && ((not holds || false) && true)) ≡ false
+    never_both true = refl
+    never_both false = refl
+
+-- p(a) is true and p(b) false in an interpretation
+pub unrelated_not_refuted : HerbrandRefuted is_predicate functions unrelated → ⊥
+unrelated_not_refuted refuted =
+    true≢false
+    (sym (list_all-from_AllPass (clause_true p_of_a_alone) refuted.by (λ k d within. instance-true (get_or refuted.by k d) (refuted.instances k d within)))
+    ∙ refuted.refuted p_of_a_alone (record { has_value = omega arith; rows_in_range = refl }))
+  where
+    clause-true :
+        (c : TreeClause) (k : ℕ) → k < 2 → get_or unrelated k c ≡ c → (σ : Substitution) → clause_true p_of_a_alone (literals_instance σ c.literals) ≡ true
+    clause-true c zero within is σ =
+        subst (λ (d : TreeClause). clause_true p_of_a_alone (literals_instance σ d.literals) ≡ true) is refl
+    clause-true c (suc zero) within is σ =
+        subst (λ (d : TreeClause). clause_true p_of_a_alone (literals_instance σ d.literals) ≡ true) is refl
+    clause-true c (suc (suc k)) within is σ = absurd (omega arith)
+
+    instance-true : (g : GroundClause) → InstanceOf functions (Contains unrelated) g → clause_true p_of_a_alone g ≡ true
+    instance-true g it =
+        ap (clause_true p_of_a_alone) it.is_instance.literals
+        ∙ clause-true it.clause it.holds.0 it.holds.1 it.holds.2 it.is_instance.trees
