@@ -1,2 +1,4 @@
 pub mod TokenLemmas
 pub mod SyntaxLemmas
+pub mod SpellingLemmas
+pub mod FrontLemmas

@@ -33,7 +33,7 @@ pub fn next_token(bytes: &[u8]) -> Option<(Lexeme<'_>, &[u8])>
     let text = after_blanks(bytes);
     let (first, rest) = text.split_first()?;
     if is_lower(*first) {
-        let end = word_end(text);
+        let end = word_length(text);
         return Some((Lexeme::Word(&text[..end]), &text[end..]));
     }
     let mark = mark_at(*first)?;
@@ -73,16 +73,23 @@ pub fn is_at_end(bytes: &[u8]) -> bool
 fn after_blanks(bytes: &[u8]) -> &[u8]
     ensures { result.now ≡ drop (prefix_len blank bytes.entry.now) bytes.entry.now }
 {
-    let blanks = bytes
+    &bytes[blank_count(bytes)..]
+}
+
+/// How many blanks stand at the front.
+fn blank_count(bytes: &[u8]) -> usize
+    ensures length { result ≡ prefix_len blank bytes.now }
+    ensures within { result ≤ length bytes.now }
+{
+    bytes
         .iter()
         .position(|b| !is_blank(*b))
-        .unwrap_or(bytes.len());
-    &bytes[blanks..]
+        .unwrap_or(bytes.len())
 }
 
 /// How many bytes at the front a word can have.
-fn word_end(bytes: &[u8]) -> usize
-    ensures end { result ≡ prefix_len word_byte bytes.now }
+fn word_length(bytes: &[u8]) -> usize
+    ensures length { result ≡ prefix_len word_byte bytes.now }
     ensures within { result ≤ length bytes.now }
 {
     bytes
@@ -105,18 +112,21 @@ fn mark_at(byte: u8) -> Option<Mark>
     }
 }
 
+#[tactic(auto, unfolding(crate::specs::Token::is_blank))]
 fn is_blank(byte: u8) -> bool
     ensures { result ≡ blank byte }
 {
     matches!(byte, 9..=13 | b' ')
 }
 
+#[tactic(auto, unfolding(crate::specs::Token::is_lower))]
 fn is_lower(byte: u8) -> bool
     ensures { result ≡ lower byte }
 {
     byte.is_ascii_lowercase()
 }
 
+#[tactic(auto, unfolding(crate::specs::Token::is_word_byte, crate::specs::Token::is_lower))]
 fn is_word_byte(byte: u8) -> bool
     ensures { result ≡ word_byte byte }
 {
