@@ -40,7 +40,7 @@ under_way c v (b ∷ w) rest h e =
 in_front :
     (t : Token) (spelling rest : List ℕ)
     → IsSpelling t spelling → Ends t rest → tokens_of (spelling ++ rest) ≡ t ∷ tokens_of rest
-unfolding scanned tokens_of
+unfolding scanned tokens_of is_blank is_lower
 in_front (word []) s rest h e = absurd h.0
 in_front (word (b ∷ w)) s rest h e =
     ap (λ bs. tokens_of (bs ++ rest)) h.1

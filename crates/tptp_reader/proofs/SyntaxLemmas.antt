@@ -2,7 +2,7 @@
 use Rattle.std.proofs.Common.{◌≡◌, ℕ, Bool, true, false, List, [], ◌∷◌, refl, ap, sym, ◌∙◌, subst, arith}
 use Rattle.tptp_reader.specs.Token.{Token, word, left_bracket, right_bracket, comma, bar, negation, full_stop, unknown}
 use Rattle.tptp_reader.specs.Syntax.{NamedTerm, named, NamedTerms, no_terms, term_then, NamedLiteral, NamedFormula, term_text, more_terms_text, sign_text, literal_text, more_literals_text, formula_end, clause_text, formula_text, formulas_text, role_word}
-use Rattle.tptp_reader.specs.Script.{EndsTerm, EndsClause}
+use Rattle.tptp_reader.specs.Script.{EndsTerm, EndsLiterals, EndsAfter, EndsClause}
 use Rattle.tptp_reader.specs.declared.problem.GroundRole.{GroundRole}
 use Rattle.tptp_reader.specs.declared.problem.GroundRole.TheVariants.{Axiom, NegatedConjecture}
 
@@ -11,10 +11,17 @@ pub more_terms-end : (ts : NamedTerms) (r : List Token) → EndsTerm (more_terms
 more_terms-end no_terms r = tt
 more_terms-end (term_then t ts) r = tt
 
+pub ends-after : (t : NamedTerm) (r : List Token) → EndsTerm r → EndsAfter t r
+ends-after (named w no_terms) r h = h
+ends-after (named w (term_then t ts)) r h = tt
+
+pub more_terms-after : (t : NamedTerm) (ts : NamedTerms) (r : List Token) → EndsAfter t (more_terms_text ts r)
+more_terms-after t ts r = ends-after t (more_terms_text ts r) (more_terms-end ts r)
+
 mutual
   pub term_text-same :
       (t u : NamedTerm) (r s : List Token)
-      → EndsTerm r → EndsTerm s → term_text t r ≡ term_text u s → (t ≡ u) × (r ≡ s)
+      → EndsAfter t r → EndsAfter u s → term_text t r ≡ term_text u s → (t ≡ u) × (r ≡ s)
   term_text-same (named w no_terms) (named v no_terms) r s er es e =
       let names : w ≡ v = cc in
       let rests : r ≡ s = cc in
@@ -29,7 +36,7 @@ mutual
       let names : w ≡ v = cc in
       let inner : term_text t (more_terms_text ts r) ≡ term_text u (more_terms_text us s) = cc in
       let parts : (t ≡ u) × (more_terms_text ts r ≡ more_terms_text us s) =
-      term_text-same t u (more_terms_text ts r) (more_terms_text us s) (more_terms-end ts r) (more_terms-end us s) inner in
+      term_text-same t u (more_terms_text ts r) (more_terms_text us s) (more_terms-after t ts r) (more_terms-after u us s) inner in
       let behind : (ts ≡ us) × (r ≡ s) = more_terms-same ts us r s parts.1 in
       let first : t ≡ u = parts.0 in
       let others : ts ≡ us = behind.0 in
@@ -44,7 +51,7 @@ mutual
   more_terms-same (term_then t ts) (term_then u us) r s e =
       let inner : term_text t (more_terms_text ts r) ≡ term_text u (more_terms_text us s) = cc in
       let parts : (t ≡ u) × (more_terms_text ts r ≡ more_terms_text us s) =
-      term_text-same t u (more_terms_text ts r) (more_terms_text us s) (more_terms-end ts r) (more_terms-end us s) inner in
+      term_text-same t u (more_terms_text ts r) (more_terms_text us s) (more_terms-after t ts r) (more_terms-after u us s) inner in
       let behind : (ts ≡ us) × (r ≡ s) = more_terms-same ts us r s parts.1 in
       let first : t ≡ u = parts.0 in
       let others : ts ≡ us = behind.0 in
@@ -57,7 +64,7 @@ pub arguments-same :
     → (t ≡ u) × (ts ≡ us) × (r ≡ s)
 arguments-same t u ts us r s e =
     let parts : (t ≡ u) × (more_terms_text ts r ≡ more_terms_text us s) =
-    term_text-same t u (more_terms_text ts r) (more_terms_text us s) (more_terms-end ts r) (more_terms-end us s) e in
+    term_text-same t u (more_terms_text ts r) (more_terms_text us s) (more_terms-after t ts r) (more_terms-after u us s) e in
     let others : (ts ≡ us) × (r ≡ s) = more_terms-same ts us r s parts.1 in
     (parts.0, others.0, others.1)
 
@@ -86,7 +93,7 @@ literal-same l k p a =
 
 pub literal_text-same :
     (l k : NamedLiteral) (r s : List Token)
-    → EndsTerm r → EndsTerm s → literal_text l r ≡ literal_text k s → (l ≡ k) × (r ≡ s)
+    → EndsAfter l.atom r → EndsAfter k.atom s → literal_text l r ≡ literal_text k s → (l ≡ k) × (r ≡ s)
 literal_text-same l k r s er es e =
     let a = term-begins l.atom r in
     let b = term-begins k.atom s in
@@ -99,47 +106,40 @@ literal_text-same l k r s er es e =
     let atom : l.atom ≡ k.atom = atoms.0 in
     (literal-same l k sign atom, atoms.1)
 
-pub clause-end : (ts : List Token) → EndsClause ts → EndsTerm ts
-clause-end [] h = tt
-clause-end (word w ∷ ts) h = tt
-clause-end (left_bracket ∷ ts) h = absurd h
-clause-end (right_bracket ∷ ts) h = tt
-clause-end (comma ∷ ts) h = tt
-clause-end (bar ∷ ts) h = absurd h
-clause-end (negation ∷ ts) h = tt
-clause-end (full_stop ∷ ts) h = tt
-clause-end (unknown ∷ ts) h = tt
-
-pub more_literals-end : (ls : List NamedLiteral) (r : List Token) → EndsClause r → EndsTerm (more_literals_text ls r)
-more_literals-end [] r h = clause-end r h
-more_literals-end (l ∷ ls) r h = tt
-
-pub more_literals-same :
-    (ls ks : List NamedLiteral) (r s : List Token)
-    → EndsClause r → EndsClause s → more_literals_text ls r ≡ more_literals_text ks s → (ls ≡ ks) × (r ≡ s)
-more_literals-same [] [] r s er es e = (refl, e)
-more_literals-same [] (k ∷ ks) r s er es e = absurd (subst EndsClause e er)
-more_literals-same (l ∷ ls) [] r s er es e = absurd (subst EndsClause (sym e) es)
-more_literals-same (l ∷ ls) (k ∷ ks) r s er es e =
-    let inner : literal_text l (more_literals_text ls r) ≡ literal_text k (more_literals_text ks s) = cc in
-    let parts : (l ≡ k) × (more_literals_text ls r ≡ more_literals_text ks s) =
-    literal_text-same l k (more_literals_text ls r) (more_literals_text ks s) (more_literals-end ls r er) (more_literals-end ks s es) inner in
-    let behind : (ls ≡ ks) × (r ≡ s) = more_literals-same ls ks r s er es parts.1 in
-    let first : l ≡ k = parts.0 in
-    let others : ls ≡ ks = behind.0 in
-    let whole : l ∷ ls ≡ k ∷ ks = cc in
-    (whole, behind.1)
-
+-- a text spells at most one clause
 pub clause-same :
     (l k : NamedLiteral) (ls ks : List NamedLiteral) (r s : List Token)
-    → EndsClause r → EndsClause s
+    → EndsClause l ls r → EndsClause k ks s
     → literal_text l (more_literals_text ls r) ≡ literal_text k (more_literals_text ks s)
     → (l ≡ k) × (ls ≡ ks) × (r ≡ s)
-clause-same l k ls ks r s er es e =
-    let parts : (l ≡ k) × (more_literals_text ls r ≡ more_literals_text ks s) =
-    literal_text-same l k (more_literals_text ls r) (more_literals_text ks s) (more_literals-end ls r er) (more_literals-end ks s es) e in
-    let behind : (ls ≡ ks) × (r ≡ s) = more_literals-same ls ks r s er es parts.1 in
-    (parts.0, behind.0, behind.1)
+clause-same l k [] [] r s er es e =
+    let parts : (l ≡ k) × (r ≡ s) = literal_text-same l k r s er.0 es.0 e in
+    (parts.0, refl, parts.1)
+clause-same l k [] (m ∷ ks) r s er es e =
+    let behind : List Token = bar ∷ literal_text m (more_literals_text ks s) in
+    let parts : (l ≡ k) × (r ≡ behind) = literal_text-same l k r behind er.0 (ends-after k.atom behind tt) e in
+    absurd (subst EndsLiterals parts.1 er.1)
+clause-same l k (m ∷ ls) [] r s er es e =
+    let behind : List Token = bar ∷ literal_text m (more_literals_text ls r) in
+    let parts : (l ≡ k) × (behind ≡ s) = literal_text-same l k behind s (ends-after l.atom behind tt) es.0 e in
+    absurd (subst EndsLiterals (sym parts.1) es.1)
+clause-same l k (m ∷ ls) (n ∷ ks) r s er es e =
+    let left : List Token = bar ∷ literal_text m (more_literals_text ls r) in
+    let right : List Token = bar ∷ literal_text n (more_literals_text ks s) in
+    let parts : (l ≡ k) × (left ≡ right) =
+    literal_text-same l k left right (ends-after l.atom left tt) (ends-after k.atom right tt) e in
+    let both : left ≡ right = parts.1 in
+    let inner : literal_text m (more_literals_text ls r) ≡ literal_text n (more_literals_text ks s) = cc in
+    let behind : (m ≡ n) × (ls ≡ ks) × (r ≡ s) = clause-same m n ls ks r s er es inner in
+    let first : m ≡ n = behind.0 in
+    let others : ls ≡ ks = behind.1 in
+    let whole : m ∷ ls ≡ n ∷ ks = cc in
+    (parts.0, whole, behind.2)
+
+-- the closing bracket of a formula ends its clause
+pub formula_end-clause : (l : NamedLiteral) (ls : List NamedLiteral) (r : List Token) → EndsClause l ls (formula_end r)
+formula_end-clause l [] r = (ends-after l.atom (formula_end r) tt, tt)
+formula_end-clause l (k ∷ ls) r = formula_end-clause k ls r
 
 pub role_word-same : (r s : GroundRole) → role_word r ≡ role_word s → r ≡ s
 role_word-same Axiom Axiom e = refl
@@ -160,7 +160,8 @@ formula_text-same f g r s e =
     let words : role_word f.role ≡ role_word g.role = cc in
     let clauses : clause_text f r ≡ clause_text g s = cc in
     let parts : (f.first ≡ g.first) × (f.others ≡ g.others) × (formula_end r ≡ formula_end s) =
-    clause-same f.first g.first f.others g.others (formula_end r) (formula_end s) tt tt clauses in
+    clause-same f.first g.first f.others g.others (formula_end r) (formula_end s)
+    (formula_end-clause f.first f.others r) (formula_end-clause g.first g.others s) clauses in
     let roles : f.role ≡ g.role = role_word-same f.role g.role words in
     let firsts : f.first ≡ g.first = parts.0 in
     let others : f.others ≡ g.others = parts.1 in

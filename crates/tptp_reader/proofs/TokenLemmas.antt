@@ -7,7 +7,7 @@ use borrow.Author.Tests.{ltb-false}
 use Rattle.tptp_reader.specs.Token.{Token, word, unknown, is_blank, is_lower, is_word_byte}
 use Rattle.tptp_reader.specs.Reading.{scanned, tokens_of, begun, marked, mark_of}
 
-pub append-nil : (xs : List ℕ) → xs ++ [] ≡ xs
+pub append-nil : {A : Type 0} (xs : List A) → xs ++ [] ≡ xs
 append-nil [] = refl
 append-nil (x ∷ xs) = ap (λ ys. x ∷ ys) (append-nil xs)
 

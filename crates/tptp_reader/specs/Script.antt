@@ -2,7 +2,7 @@
 use Rattle.std.specs.Prelude.{◌≡◌, ℕ, ◌+◌, ◌≤◌, max, Bool, List, [], ◌∷◌, ◌++◌, map, flat_map, length}
 use Rattle.std.specs.List.{AllByRecursion}
 use Rattle.tptp_reader.specs.Token.{Token, word, left_bracket, right_bracket, comma, bar, negation, full_stop, unknown}
-use Rattle.tptp_reader.specs.Syntax.{NamedTerm, NamedTerms, term_then, NamedLiteral, NamedFormula, literals_of, term_text, more_terms_text, literal_text, more_literals_text, formula_end, formula_text, formulas_text, nesting, nestings, AtomNestsWithin, NestsWithin, term_count}
+use Rattle.tptp_reader.specs.Syntax.{NamedTerm, named, NamedTerms, no_terms, term_then, NamedLiteral, NamedFormula, literals_of, term_text, more_terms_text, literal_text, more_literals_text, formula_end, formula_text, formulas_text, nesting, nestings, AtomNestsWithin, NestsWithin, term_count}
 use Rattle.tptp_reader.specs.Numbering.{SymbolKey, term_symbols, terms_symbols, literal_symbols, formula_symbols}
 use Rattle.tptp_reader.specs.declared.problem.GroundRole.{GroundRole}
 use Rattle.tptp_reader.specs.declared.occurrence.Occurrence.{Occurrence}
@@ -16,7 +16,7 @@ key_of s = record { name = s.name.now; predicate = s.predicate; arity = s.arity 
 abbrev pub keys_of : List Occurrence → List SymbolKey
 keys_of = map key_of
 
--- a term whose text ends there would go on at a left bracket
+-- no arguments follow
 abbrev pub EndsTerm : List Token → Type 0
 EndsTerm [] = Unit {0}
 EndsTerm (word w ∷ ts) = Unit {0}
@@ -28,23 +28,33 @@ EndsTerm (negation ∷ ts) = Unit {0}
 EndsTerm (full_stop ∷ ts) = Unit {0}
 EndsTerm (unknown ∷ ts) = Unit {0}
 
--- and a clause also at a bar
-abbrev pub EndsClause : List Token → Type 0
-EndsClause [] = Unit {0}
-EndsClause (word w ∷ ts) = Unit {0}
-EndsClause (left_bracket ∷ ts) = ⊥
-EndsClause (right_bracket ∷ ts) = Unit {0}
-EndsClause (comma ∷ ts) = Unit {0}
-EndsClause (bar ∷ ts) = ⊥
-EndsClause (negation ∷ ts) = Unit {0}
-EndsClause (full_stop ∷ ts) = Unit {0}
-EndsClause (unknown ∷ ts) = Unit {0}
+-- no literal follows
+abbrev pub EndsLiterals : List Token → Type 0
+EndsLiterals [] = Unit {0}
+EndsLiterals (word w ∷ ts) = Unit {0}
+EndsLiterals (left_bracket ∷ ts) = Unit {0}
+EndsLiterals (right_bracket ∷ ts) = Unit {0}
+EndsLiterals (comma ∷ ts) = Unit {0}
+EndsLiterals (bar ∷ ts) = ⊥
+EndsLiterals (negation ∷ ts) = Unit {0}
+EndsLiterals (full_stop ∷ ts) = Unit {0}
+EndsLiterals (unknown ∷ ts) = Unit {0}
+
+-- a term without arguments would go on at a left bracket
+abbrev pub EndsAfter : NamedTerm → List Token → Type 0
+EndsAfter (named w no_terms) rest = EndsTerm rest
+EndsAfter (named w (term_then t ts)) rest = Unit {0}
+
+-- literals would go on at a bar, and as their last atom does
+abbrev pub EndsClause : NamedLiteral → List NamedLiteral → List Token → Type 0
+EndsClause l [] rest = EndsAfter l.atom rest × EndsLiterals rest
+EndsClause l (k ∷ ks) rest = EndsClause k ks rest
 
 -- the tokens are a term and those after it, and its symbols are added
 pub record ReadsTerm (is_atom : Bool) (levels : ℕ) (before after : List Token) (old new : List SymbolKey) : Type 0 where
   pub term : NamedTerm
   pub text : before ≡ term_text term after
-  pub ends : EndsTerm after
+  pub ends : EndsAfter term after
   pub nested : nesting term ≤ levels
   pub symbols : new ≡ old ++ term_symbols is_atom term
 
@@ -53,7 +63,7 @@ pub record HasTerm (is_atom : Bool) (levels : ℕ) (before : List Token) (known 
   pub term : NamedTerm
   pub after : List Token
   pub text : before ≡ term_text term after
-  pub ends : EndsTerm after
+  pub ends : EndsAfter term after
   pub nested : nesting term ≤ levels
   pub few : length known + length (term_symbols is_atom term) ≤ 4000
 
@@ -77,7 +87,7 @@ pub record HasArguments (levels : ℕ) (before : List Token) (known : List Symbo
 pub record ReadsLiteral (before after : List Token) (old new : List SymbolKey) (positive : Bool) : Type 0 where
   pub literal : NamedLiteral
   pub text : before ≡ literal_text literal after
-  pub ends : EndsTerm after
+  pub ends : EndsAfter literal.atom after
   pub nested : AtomNestsWithin 500 literal
   pub symbols : new ≡ old ++ literal_symbols literal
   pub sign : positive ≡ literal.positive
@@ -86,7 +96,7 @@ pub record HasLiteral (before : List Token) (known : List SymbolKey) : Type 0 wh
   pub literal : NamedLiteral
   pub after : List Token
   pub text : before ≡ literal_text literal after
-  pub ends : EndsTerm after
+  pub ends : EndsAfter literal.atom after
   pub nested : AtomNestsWithin 500 literal
   pub few : length known + length (literal_symbols literal) ≤ 4000
 
@@ -97,7 +107,7 @@ pub record ReadsClause (before after : List Token) (old new : List SymbolKey) (s
   pub first : NamedLiteral
   pub others : List NamedLiteral
   pub text : before ≡ literal_text first (more_literals_text others after)
-  pub ends : EndsClause after
+  pub ends : EndsClause first others after
   pub nested : AllByRecursion (AtomNestsWithin 500) (first ∷ others)
   pub symbols : new ≡ old ++ flat_map literal_symbols (first ∷ others)
   pub signed : signs ≡ signs_of (first ∷ others)
@@ -107,7 +117,7 @@ pub record HasClause (before : List Token) (known : List SymbolKey) : Type 0 whe
   pub others : List NamedLiteral
   pub after : List Token
   pub text : before ≡ literal_text first (more_literals_text others after)
-  pub ends : EndsClause after
+  pub ends : EndsClause first others after
   pub nested : AllByRecursion (AtomNestsWithin 500) (first ∷ others)
   pub few : length known + length (flat_map literal_symbols (first ∷ others)) ≤ 4000
 

@@ -10,7 +10,7 @@ ghost use Rattle.tptp_reader.specs.Script.{key_of, keys_of, ReadsTerm, HasTerm, 
 use crate::fault::GroundFault;
 use crate::occurrence::{Occurrence, TRUE};
 use crate::problem::GroundRole;
-use crate::token::{Lexeme, Mark, after_mark, is_at_end, next_token, next_word};
+use crate::token::{Mark, after_mark, is_at_end, next_word};
 use std::alloc::Global;
 
 /// How deep the brackets of terms nest at most.
@@ -64,10 +64,14 @@ fn read_formula<'a>(
     ensures few { IfOk result (λ _. vec_len symbols.new ≤ 4000) }
     ensures not_built { result ≡ Err GroundFault.NotBuilt → HasFormula (tokens_of bytes.entry.now) (keys_of symbols.old.items) → ⊥ }
 {
-    let (name, role, rest) = read_heading(bytes).ok_or(GroundFault::NotBuilt)?;
-    let (signs, rest) = read_clause(alloc, rest, symbols)?;
-    let rest = after_formula(rest).ok_or(GroundFault::NotBuilt)?;
-    Ok((Outline { name, role, signs }, rest))
+    let Some((name, role, clause)) = read_heading(bytes) else {
+        return Err(GroundFault::NotBuilt);
+    };
+    let (signs, rest) = read_clause(alloc, clause, symbols)?;
+    match after_formula(rest) {
+        Some(after) => Ok((Outline { name, role, signs }, after)),
+        None => Err(GroundFault::NotBuilt),
+    }
 }
 
 /// Reads what stands before a clause: the word `cnf`, the name and the role.
@@ -182,7 +186,9 @@ fn read_application<'a>(
     ensures not_built { result ≡ Err GroundFault.NotBuilt
         → HasTerm predicate levels (tokens_of bytes.entry.now) (keys_of symbols.old.items) → ⊥ }
 {
-    let (name, rest) = next_word(bytes).ok_or(GroundFault::NotBuilt)?;
+    let Some((name, rest)) = next_word(bytes) else {
+        return Err(GroundFault::NotBuilt);
+    };
     let place = symbols.len();
     add_symbol(
         symbols,
@@ -226,10 +232,12 @@ fn read_arguments<'a>(
     loop {
         let after = read_application(rest, false, levels, symbols)?;
         count += 1;
-        match next_token(after) {
-            Some((Lexeme::Mark(Mark::Comma), next)) => rest = next,
-            Some((Lexeme::Mark(Mark::RightBracket), next)) => return Ok((count, next)),
-            _ => return Err(GroundFault::NotBuilt),
+        match after_mark(after, Mark::Comma) {
+            Some(next) => rest = next,
+            None => match after_mark(after, Mark::RightBracket) {
+                Some(end) => return Ok((count, end)),
+                None => return Err(GroundFault::NotBuilt),
+            },
         }
     }
 }
