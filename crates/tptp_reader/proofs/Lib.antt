@@ -5,3 +5,5 @@ pub mod FrontLemmas
 pub mod SymbolLemmas
 pub mod TermLemmas
 pub mod FaultLemmas
+pub mod ClauseLemmas
+pub mod ScriptLemmas

@@ -62,6 +62,7 @@ fn read_formula<'a>(
     ensures read { IfOk result (λ read.
         ReadsFormula (tokens_of bytes.entry.now) (tokens_of read.1.now) (keys_of symbols.old.items) (keys_of symbols.new.items) read.0) }
     ensures few { IfOk result (λ _. vec_len symbols.new ≤ 4000) }
+    ensures grown { IfOk result (λ _. vec_len symbols.old < vec_len symbols.new) }
     ensures not_built { result ≡ Err GroundFault.NotBuilt → HasFormula (tokens_of bytes.entry.now) (keys_of symbols.old.items) → ⊥ }
 {
     let Some((name, role, clause)) = read_heading(bytes) else {
@@ -127,6 +128,7 @@ fn read_clause<'a>(
     ensures read { IfOk result (λ read.
         ReadsClause (tokens_of bytes.entry.now) (tokens_of read.1.now) (keys_of symbols.old.items) (keys_of symbols.new.items) read.0.items) }
     ensures few { IfOk result (λ _. vec_len symbols.new ≤ 4000) }
+    ensures grown { IfOk result (λ _. vec_len symbols.old < vec_len symbols.new) }
     ensures not_built { result ≡ Err GroundFault.NotBuilt → HasClause (tokens_of bytes.entry.now) (keys_of symbols.old.items) → ⊥ }
 {
     let mut signs = Vec::new(alloc);
@@ -150,6 +152,7 @@ fn read_literal<'a>(
     ensures read { IfOk result (λ read.
         ReadsLiteral (tokens_of bytes.entry.now) (tokens_of read.1.now) (keys_of symbols.old.items) (keys_of symbols.new.items) read.0) }
     ensures few { IfOk result (λ _. vec_len symbols.new ≤ 4000) }
+    ensures grown { IfOk result (λ _. vec_len symbols.old < vec_len symbols.new) }
     ensures not_built { result ≡ Err GroundFault.NotBuilt → HasLiteral (tokens_of bytes.entry.now) (keys_of symbols.old.items) → ⊥ }
 {
     let (positive, atom) = read_sign(bytes);
