@@ -7,3 +7,5 @@ pub mod TermLemmas
 pub mod FaultLemmas
 pub mod ClauseLemmas
 pub mod ScriptLemmas
+pub mod BuildLemmas
+pub mod NumberLemmas
