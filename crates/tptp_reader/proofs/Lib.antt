@@ -9,3 +9,5 @@ pub mod ClauseLemmas
 pub mod ScriptLemmas
 pub mod BuildLemmas
 pub mod NumberLemmas
+pub mod SideLemmas
+pub mod ProblemLemmas

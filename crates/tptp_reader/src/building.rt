@@ -1,9 +1,9 @@
 // Terms and clauses, built from symbols in reading order.
 
-ghost use Rattle.std.specs.Prelude.{◌≡◌, ◌++◌, [], IfOk, List, length, map, flat_map, reverse, take, drop};
+ghost use Rattle.std.specs.Prelude.{◌≡◌, ◌++◌, ◌∷◌, [], IfOk, IsSomeAnd, List, length, map, flat_map, reverse, take, drop};
 ghost use Rattle.fol_base.specs.Tree.{Tree};
 ghost use Rattle.fol_base.specs.Term.{tree_of};
-ghost use Rattle.fol_base.specs.Literal.{clause_of};
+ghost use Rattle.fol_base.specs.Literal.{literal_of, clause_of};
 ghost use Rattle.tptp_reader.specs.Syntax.{NamedLiteral, NamedFormula};
 ghost use Rattle.tptp_reader.specs.Numbering.{SymbolKey, numbered_literal, numbered_clause};
 ghost use Rattle.tptp_reader.specs.Script.{keys_of, signs_of, AreOutlines};
@@ -22,24 +22,20 @@ pub fn build_terms(alloc: Global, symbols: &[Occurrence<'_>], numbers: &[u32]) -
 {
     let mut terms = Vec::new(alloc);
     for place in (0..symbols.len()).rev() {
-        let arguments = take_terms(alloc, &mut terms, symbols[place].arity)?;
+        let arguments = take_terms(&mut terms, symbols[place].arity)?;
         terms.push(Term::App(numbers[place], arguments))?;
     }
     Ok(terms)
 }
 
 /// Takes the last terms, and gives them in the opposite order.
-fn take_terms(alloc: Global, terms: &mut Vec<Term>, count: u32) -> Mem<Terms>
+fn take_terms(terms: &mut Vec<Term>, count: u32) -> Mem<Terms>
     ensures taken { IfOk result (λ taken. taken ≡ take count (reverse (map tree_of terms.old.items))) }
     ensures left { IfOk result (λ _. reverse (map tree_of terms.new.items) ≡ drop count (reverse (map tree_of terms.old.items))) }
 {
-    let mut taken = Vec::new(alloc);
-    for _ in 0..count {
-        match terms.pop() {
-            Some(term) => taken.push(term)?,
-            None => break,
-        }
-    }
+    let first = terms.len().saturating_sub(count as usize);
+    let mut taken = terms.split_off(first)?;
+    taken.reverse();
     Ok(Terms::from_vec(taken))
 }
 
@@ -69,16 +65,29 @@ fn build_clause(alloc: Global, signs: &[bool], sides: &mut Vec<Term>) -> Mem<Cla
 {
     let mut literals = Vec::with_capacity(alloc, signs.len())?;
     for positive in signs {
-        if let (Some(left), Some(right)) = (sides.pop(), sides.pop()) {
-            literals.push(Literal {
-                positive: *positive,
-                left,
-                right,
-            })?;
+        if let Some(literal) = take_literal(sides, *positive) {
+            literals.push(literal)?;
         }
     }
     Ok(Clause {
         literals: Literals::from_vec(literals),
         names: Names::new(alloc),
+    })
+}
+
+/// The literal whose sides are the last two terms, the left one last.
+fn take_literal(sides: &mut Vec<Term>, positive: bool) -> Option<Literal>
+    ensures { (left right : Tree) (more : List Tree)
+        → reverse (map tree_of sides.old.items) ≡ left ∷ right ∷ more
+        → IsSomeAnd result (λ literal.
+            (literal_of literal ≡ record { positive = positive; left = left; right = right })
+            × (reverse (map tree_of sides.new.items) ≡ more)) }
+{
+    let left = sides.pop()?;
+    let right = sides.pop()?;
+    Some(Literal {
+        positive,
+        left,
+        right,
     })
 }

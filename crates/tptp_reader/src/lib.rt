@@ -1,7 +1,7 @@
 // Ground problems, read from the bytes of a text.
 #![tactic(auto)]
 
-ghost use Rattle.std.specs.Prelude.{◌≡◌, ◌≤◌, IfOk, List, map, sum_by};
+ghost use Rattle.std.specs.Prelude.{◌≡◌, ◌≤◌, IfOk, List, ℕ, map, sum_by};
 ghost use Rattle.fol_base.specs.Clause.{clause_size};
 ghost use Rattle.fol_base.specs.Literal.{clause_of};
 ghost use Rattle.tptp_reader.specs.Syntax.{NamedFormula};
@@ -47,6 +47,12 @@ pub fn read_ground(alloc: Global, bytes: &[u8]) -> Result<GroundProblem, GroundF
         clauses: build_clauses(alloc, outlines, sides)?,
         symbols: owned_symbols(alloc, numbering.known.as_slice())?,
     })
+}
+
+/// A text spells at most one list of formulas, so that each answer is the only right one.
+pub fn one_reading()
+    ensures { (bytes : List ℕ) (fs gs : List NamedFormula) → IsGroundText bytes fs → IsGroundText bytes gs → fs ≡ gs }
+{
 }
 
 /// The names of the formulas.
