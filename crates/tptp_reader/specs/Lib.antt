@@ -1,5 +1,9 @@
 pub mod Token
+pub mod Reading
+pub mod Lexeme
 pub mod Syntax
 pub mod Numbering
+pub mod Script
+pub mod Building
 pub mod GroundForm
 pub mod GroundText

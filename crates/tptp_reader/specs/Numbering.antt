@@ -14,7 +14,7 @@ pub record SymbolKey : Type 0 where
   pub arity : ℕ
 
 abbrev pub same_symbol : SymbolKey → SymbolKey → Bool
-same_symbol s t = bytes_eq s.name t.name && beq s.predicate t.predicate && s.arity == t.arity
+same_symbol s t = bytes_eq s.name t.name && (beq s.predicate t.predicate && s.arity == t.arity)
 
 -- $true, under the name that no text spells
 abbrev pub true_symbol : SymbolKey

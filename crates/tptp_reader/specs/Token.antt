@@ -14,14 +14,14 @@ pub data Token : Type 0 where
   unknown : Token
 
 -- tab, line feed, vertical tab, form feed, carriage return, space
-abbrev pub is_blank : ℕ → Bool
+unfoldable pub is_blank : ℕ → Bool
 is_blank b = nat_le 9 b && nat_le b 13 || b == 32
 
-abbrev pub is_lower : ℕ → Bool
+unfoldable pub is_lower : ℕ → Bool
 is_lower b = nat_le 97 b && nat_le b 122
 
 -- a letter, a digit or an underscore
-abbrev pub is_word_byte : ℕ → Bool
+unfoldable pub is_word_byte : ℕ → Bool
 is_word_byte b = is_lower b || nat_le 65 b && nat_le b 90 || nat_le 48 b && nat_le b 57 || b == 95
 
 -- a small letter, and then letters, digits and underscores

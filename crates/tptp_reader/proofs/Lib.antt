@@ -1,0 +1,13 @@
+pub mod TokenLemmas
+pub mod SyntaxLemmas
+pub mod SpellingLemmas
+pub mod FrontLemmas
+pub mod SymbolLemmas
+pub mod TermLemmas
+pub mod FaultLemmas
+pub mod ClauseLemmas
+pub mod ScriptLemmas
+pub mod BuildLemmas
+pub mod NumberLemmas
+pub mod SideLemmas
+pub mod ProblemLemmas
