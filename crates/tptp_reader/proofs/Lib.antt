@@ -11,3 +11,5 @@ pub mod BuildLemmas
 pub mod NumberLemmas
 pub mod SideLemmas
 pub mod ProblemLemmas
+pub mod GroundForm
+pub mod GroundFormLemmas

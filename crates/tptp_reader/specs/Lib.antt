@@ -5,5 +5,4 @@ pub mod Syntax
 pub mod Numbering
 pub mod Script
 pub mod Building
-pub mod GroundForm
 pub mod GroundText

@@ -6,7 +6,7 @@ ghost use Rattle.fol_base.specs.Clause.{clause_size};
 ghost use Rattle.fol_base.specs.Literal.{clause_of};
 ghost use Rattle.tptp_reader.specs.Syntax.{NamedFormula};
 ghost use Rattle.tptp_reader.specs.Script.{AreOutlines};
-ghost use Rattle.tptp_reader.specs.GroundForm.{IsGroundForm};
+ghost use Rattle.fol_base.specs.GroundForm.{IsGroundForm, form_size};
 ghost use Rattle.tptp_reader.specs.GroundText.{IsGroundText, IsWithinLimits, IsReadAs};
 
 mod building;
@@ -29,7 +29,7 @@ use std::alloc::Global;
 pub fn read_ground(alloc: Global, bytes: &[u8]) -> Result<GroundProblem, GroundFault>
     ensures read { IfOk result (IsReadAs bytes.now) }
     ensures ground { IfOk result (λ problem. IsGroundForm (map clause_of problem.clauses)) }
-    ensures few { IfOk result (λ problem. sum_by clause_size (map clause_of problem.clauses) ≤ 4000) }
+    ensures few { IfOk result (λ problem. form_size (map clause_of problem.clauses) ≤ 4000) }
     ensures not_built { result ≡ Err GroundFault.NotBuilt
         → (fs : List NamedFormula) → IsGroundText bytes.now fs → IsWithinLimits fs → ⊥ }
 {
@@ -52,8 +52,7 @@ pub fn read_ground(alloc: Global, bytes: &[u8]) -> Result<GroundProblem, GroundF
 /// A text spells at most one list of formulas, so that each answer is the only right one.
 pub fn one_reading()
     ensures { (bytes : List ℕ) (fs gs : List NamedFormula) → IsGroundText bytes fs → IsGroundText bytes gs → fs ≡ gs }
-{
-}
+{}
 
 /// The names of the formulas.
 fn names_of(alloc: Global, outlines: &[Outline<'_>]) -> Mem<Texts>

@@ -3,13 +3,14 @@ use Rattle.tptp_reader.specs.GroundText.{IsReadAs}
 use Rattle.tptp_reader.specs.declared.problem.GroundProblem.{GroundProblem}
 use Rattle.tptp_reader.proofs.FaultLemmas.{passed-on}
 use Rattle.tptp_reader.proofs.ProblemLemmas.{lent-problem, script-within, IsReadAs-ground, IsReadAs-few}
+use Rattle.tptp_reader.proofs.GroundFormLemmas.{ground_form}
 use Rattle.tptp_reader.proofs.read_ground.Goals as goal
 
 pub returns-in_err-script-clause-not_built : goal.returns-in_err-script-clause-not_built
 returns-in_err-script-clause-not_built c =
     λ e fs text within.
-        c.in_err-script.ensures.not_built (ap Err (passed-on _ _ _ c.from_residual.ensures.1 e))
-        (script-within c.args.bytes.now fs text within)
+    c.in_err-script.ensures.not_built (ap Err (passed-on _ _ _ c.from_residual.ensures.1 e))
+    (script-within c.args.bytes.now fs text within)
 
 pub returns-clause-read : goal.returns-clause-read
 returns-clause-read c =
@@ -21,7 +22,7 @@ returns-clause-read c =
     c.in_ok-build_clauses.ensures c.in_ok-names_of.ensures c.in_ok-roles_of.ensures c.in_ok-owned_symbols.ensures
 
 pub returns-clause-ground : goal.returns-clause-ground
-returns-clause-ground c = IsReadAs-ground c.args.bytes.now _ (returns-clause-read c)
+returns-clause-ground c = ground_form _ (IsReadAs-ground c.args.bytes.now _ (returns-clause-read c))
 
 pub returns-clause-few : goal.returns-clause-few
 returns-clause-few c = IsReadAs-few c.args.bytes.now _ (returns-clause-read c)
