@@ -45,6 +45,7 @@ numbers-append known (s ∷ ss) us = ap (λ ns. number_of known s ∷ ns) (numbe
 -- the symbols of a term make the term
 mutual
   unfolding trees_listed
+
   pub made-term :
       (known : List SymbolKey) (is_atom : Bool) (t : NamedTerm) (more : List SymbolKey)
       → trees_made (term_symbols is_atom t ++ more) (numbers known (term_symbols is_atom t ++ more))

@@ -38,8 +38,10 @@ full-no_literal before atom after old begun positive e r full h =
   where
     read : NamedLiteral
     read = record { positive = positive; atom = r.term }
+
     same : (read ≡ h.literal) × (after ≡ h.after)
     same = literal_text-same read h.literal after h.after r.ends h.ends (sym (e ∙ ap (sign_text positive) r.text) ∙ h.text)
+
     longer : length begun ≡ length old + length (term_symbols true h.literal.atom)
     longer =
         ap length r.symbols ∙ length-append old (term_symbols true r.term)

@@ -96,6 +96,7 @@ no_mark ts h m rest e =
   where
     nil : [] ≡ mark_token m ∷ rest → ⊥
     nil g = cc
+
     known : (k : Mark) → unknown ∷ [] ≡ mark_token k ∷ rest → ⊥
     known LeftBracket g = cc
     known RightBracket g = cc

@@ -147,6 +147,7 @@ inserted-keys eq o ks agree =
     push : (xs : List Occurrence) → keys_of (xs ++ o ∷ []) ≡ keys_of xs ++ key_of o ∷ []
     push [] = refl
     push (x ∷ xs) = ap (λ us. key_of x ∷ us) (push xs)
+
     by : (t : Bool) → keys_of (if t then ks else ks ++ o ∷ []) ≡ (if t then keys_of ks else keys_of ks ++ key_of o ∷ [])
     by true = refl
     by false = push ks
@@ -177,14 +178,15 @@ pub number-step :
 number-step eq xs i d o known new start numbers more place h e n p m f g agree =
     let rest : drop i xs ≡ o ∷ drop (i + 1) xs = drop-item xs i d h ∙ ap (λ x. x ∷ drop (i + 1) xs) (sym e) in
     let grown : keys_of new ≡ with_symbol (keys_of known) (key_of o) = ap keys_of n ∙ inserted-keys eq o known agree in
-    let number : place ≡ number_of (keys_of known) (key_of o) = p ∙ position-keys eq o known agree in
-    (ap (λ ks. fold with_symbol ks (keys_of (drop (i + 1) xs))) grown
-    ∙ sym (ap (λ ys. fold with_symbol (keys_of known) (keys_of ys)) rest) ∙ f,
-    ap (λ ns. ns ++ met_numbers (keys_of new) (keys_of (drop (i + 1) xs))) m
-    ∙ append_assoc numbers (place ∷ []) (met_numbers (keys_of new) (keys_of (drop (i + 1) xs)))
-    ∙ ap (λ k. numbers ++ k ∷ met_numbers (keys_of new) (keys_of (drop (i + 1) xs))) number
-    ∙ ap (λ ks. numbers ++ number_of (keys_of known) (key_of o) ∷ met_numbers ks (keys_of (drop (i + 1) xs))) grown
-    ∙ sym (ap (λ ys. numbers ++ met_numbers (keys_of known) (keys_of ys)) rest) ∙ g)
+    let number : place ≡ number_of (keys_of known) (key_of o) = p ∙ position-keys eq o known agree in (
+      ap (λ ks. fold with_symbol ks (keys_of (drop (i + 1) xs))) grown
+          ∙ sym (ap (λ ys. fold with_symbol (keys_of known) (keys_of ys)) rest) ∙ f,
+      ap (λ ns. ns ++ met_numbers (keys_of new) (keys_of (drop (i + 1) xs))) m
+          ∙ append_assoc numbers (place ∷ []) (met_numbers (keys_of new) (keys_of (drop (i + 1) xs)))
+          ∙ ap (λ k. numbers ++ k ∷ met_numbers (keys_of new) (keys_of (drop (i + 1) xs))) number
+          ∙ ap (λ ks. numbers ++ number_of (keys_of known) (key_of o) ∷ met_numbers ks (keys_of (drop (i + 1) xs))) grown
+          ∙ sym (ap (λ ys. numbers ++ met_numbers (keys_of known) (keys_of ys)) rest) ∙ g,
+    )
 
 pub drop-end : {X : Type 0} (xs : List X) (i : ℕ) → length xs ≤ i → drop i xs ≡ []
 drop-end [] zero h = refl

@@ -51,10 +51,26 @@ more_literals-known (l ∷ ls) r h = (tt, literal-known l (more_literals_text ls
 
 formulas-known : (fs : List NamedFormula) → AreKnown (formulas_text fs [])
 formulas-known [] = tt
-formulas-known (f ∷ fs) =
-    (tt, (tt, (tt, (tt, (tt, (tt,
-    literal-known f.first (more_literals_text f.others (formula_end (formulas_text fs [])))
-    (more_literals-known f.others (formula_end (formulas_text fs [])) (tt, (tt, formulas-known fs)))))))))
+formulas-known (f ∷ fs) = (
+  tt,
+  (
+    tt,
+    (
+      tt,
+      (
+        tt,
+        (
+          tt,
+          (
+            tt,
+            literal-known f.first (more_literals_text f.others (formula_end (formulas_text fs [])))
+                (more_literals-known f.others (formula_end (formulas_text fs [])) (tt, (tt, formulas-known fs))),
+          ),
+        ),
+      ),
+    ),
+  ),
+)
 
 -- a text spells at most one list of formulas
 pub ground_text-same : (bytes : List ℕ) (fs gs : List NamedFormula) → IsGroundText bytes fs → IsGroundText bytes gs → fs ≡ gs
@@ -185,22 +201,24 @@ literals-ground :
     (known : List SymbolKey) (ls : List NamedLiteral) → StartsWith true_symbol known → LiteralsNamed ls
     → AllByRecursion IsGroundLiteral (map (numbered_literal known) ls)
 literals-ground known [] k h = tt
-literals-ground known (l ∷ ls) k h =
-    (record { left = term-predicate known l.atom k h.0; right = refl; closed = (term-closed known true l.atom, tt) },
-    literals-ground known ls k h.1)
+literals-ground known (l ∷ ls) k h = (
+  record { left = term-predicate known l.atom k h.0; right = refl; closed = (term-closed known true l.atom, tt) },
+  literals-ground known ls k h.1,
+)
 
 clauses-ground :
     (known : List SymbolKey) (fs : List NamedFormula) → StartsWith true_symbol known
     → AllByRecursion (λ f. LiteralsNamed (literals_of f)) fs
     → AllByRecursion IsGroundClause (map (numbered_clause known) fs)
 clauses-ground known [] k h = tt
-clauses-ground known (f ∷ fs) k h =
-    (record {
-      literals =
-          All-from_recursion IsGroundLiteral (map (numbered_literal known) (literals_of f)) (literals-ground known (literals_of f) k h.0);
-      names = refl;
-    },
-    clauses-ground known fs k h.1)
+clauses-ground known (f ∷ fs) k h = (
+  record {
+    literals =
+        All-from_recursion IsGroundLiteral (map (numbered_literal known) (literals_of f)) (literals-ground known (literals_of f) k h.0);
+    names = refl;
+  },
+  clauses-ground known fs k h.1,
+)
 
 symbols-start : (fs : List NamedFormula) → StartsWith true_symbol (symbols_of fs)
 symbols-start fs = starts true_symbol [] (flat_map formula_symbols fs)
@@ -229,9 +247,13 @@ literals-size :
 literals-size known [] = refl
 literals-size known (l ∷ ls) =
     sum_by-cons literal_size (numbered_literal known l) (map (numbered_literal known) ls)
-    ∙ omega
-    (arith, literals-size known ls, term-size known true l.atom, length-append (term_symbols true l.atom) (true_symbol ∷ []),
-    length-append (literal_symbols l) (flat_map literal_symbols ls))
+    ∙ omega (
+      arith,
+      literals-size known ls,
+      term-size known true l.atom,
+      length-append (term_symbols true l.atom) (true_symbol ∷ []),
+      length-append (literal_symbols l) (flat_map literal_symbols ls),
+    )
 
 formulas-size :
     (known : List SymbolKey) (fs : List NamedFormula)
@@ -292,28 +314,34 @@ pub script-problem :
     → p.roles ≡ map (λ (o : Outline). o.role) script.outlines.items
     → map symbol_key p.symbols ≡ known
     → IsReadAs bytes p
-script-problem bytes script p known numbers sides r few k n s clauses names roles symbols =
-    (fs, IsTokenText-known bytes (formulas_text fs []) r.text (formulas-known fs),
-    record {
-      nesting = r.nested;
-      symbols = omega (arith, few, formulas-size (symbols_of fs) fs, ap length r.symbols, long script.symbols.items);
-    },
-    record {
-      names = names ∙ names-outlined script.outlines.items fs r.outlines;
-      roles = roles ∙ roles-outlined script.outlines.items fs r.outlines;
-      clauses = clauses fs (symbols_of fs) r.outlines sides_are;
-      symbols = symbols ∙ known_is;
-    })
+script-problem bytes script p known numbers sides r few k n s clauses names roles symbols = (
+  fs,
+  IsTokenText-known bytes (formulas_text fs []) r.text (formulas-known fs),
+  record {
+    nesting = r.nested;
+    symbols = omega (arith, few, formulas-size (symbols_of fs) fs, ap length r.symbols, long script.symbols.items);
+  },
+  record {
+    names = names ∙ names-outlined script.outlines.items fs r.outlines;
+    roles = roles ∙ roles-outlined script.outlines.items fs r.outlines;
+    clauses = clauses fs (symbols_of fs) r.outlines sides_are;
+    symbols = symbols ∙ known_is;
+  },
+)
   where
     fs : List NamedFormula
     fs = r.formulas
+
     long : (xs : List Occurrence) → length (keys_of xs) ≡ length xs
     long [] = refl
     long (x ∷ xs) = ap suc (long xs)
+
     known_is : known ≡ symbols_of fs
     known_is = k ∙ ap (fold with_symbol (true_symbol ∷ [])) r.symbols
+
     numbers_are : numbers ≡ map (number_of (symbols_of fs)) (flat_map formula_symbols fs)
     numbers_are = n ∙ ap (λ ks. map (number_of ks) (keys_of script.symbols.items)) known_is ∙ ap (map (number_of (symbols_of fs))) r.symbols
+
     sides_are : reverse (map tree_of sides) ≡ flat_map (formula_sides (symbols_of fs)) fs
     sides_are =
         ap reverse s ∙ reverse-reverse (trees_made (keys_of script.symbols.items) numbers)

@@ -43,19 +43,24 @@ end-reversed {X} xs c first e = ⊎_elim few all (cases_lt (length xs) c)
   where
     split : reverse xs ≡ reverse (drop first xs) ++ reverse (take first xs)
     split = ap reverse (sym (take-append-drop first xs)) ∙ reverse-append (take first xs) (drop first xs)
+
     size : length (reverse (drop first xs)) ≡ length xs - first
     size = length-reverse (drop first xs) ∙ length-drop first xs
+
     all : c ≤ length xs → (reverse (drop first xs) ≡ take c (reverse xs)) × (reverse (take first xs) ≡ drop c (reverse xs))
     all h =
-        let long : length (reverse (drop first xs)) ≡ c = omega (arith, size, e) in
-        (sym (ap (take c) split ∙ take-front (reverse (drop first xs)) (reverse (take first xs)) c long),
-        sym (ap (drop c) split ∙ drop-front (reverse (drop first xs)) (reverse (take first xs)) c long))
+        let long : length (reverse (drop first xs)) ≡ c = omega (arith, size, e) in (
+          sym (ap (take c) split ∙ take-front (reverse (drop first xs)) (reverse (take first xs)) c long),
+          sym (ap (drop c) split ∙ drop-front (reverse (drop first xs)) (reverse (take first xs)) c long),
+        )
+
     few : length xs < c → (reverse (drop first xs) ≡ take c (reverse xs)) × (reverse (take first xs) ≡ drop c (reverse xs))
     few h =
         let none : first ≡ 0 = omega (arith, e) in
-        let short : length (reverse xs) ≤ c = omega (arith, length-reverse xs) in
-        (ap (λ k. reverse (drop k xs)) none ∙ sym (take_all c (reverse xs) short),
-        ap (λ k. reverse (take k xs)) none ∙ sym (drop-past (reverse xs) c short))
+        let short : length (reverse xs) ≤ c = omega (arith, length-reverse xs) in (
+          ap (λ k. reverse (drop k xs)) none ∙ sym (take_all c (reverse xs) short),
+          ap (λ k. reverse (take k xs)) none ∙ sym (drop-past (reverse xs) c short),
+        )
 
 map-drop : {X Y : Type 0} (f : X → Y) (xs : List X) (i : ℕ) → map f (drop i xs) ≡ drop i (map f xs)
 map-drop f xs zero = refl
@@ -106,10 +111,11 @@ literal-taken xs mid rest x y positive left right more e f h =
     ap (λ ts. tree_of x ∷ ts) (sym (last-first mid rest y f)) ∙ sym (last-first xs mid x e) ∙ h in
     let first : tree_of x ≡ left = cc in
     let second : tree_of y ≡ right = cc in
-    let others : reverse (map tree_of rest) ≡ more = cc in
-    (ap (λ (t : Tree). let l : TreeLiteral = record { positive = positive; left = t; right = tree_of y } in l) first
-    ∙ ap (λ (t : Tree). let l : TreeLiteral = record { positive = positive; left = left; right = t } in l) second,
-    others)
+    let others : reverse (map tree_of rest) ≡ more = cc in (
+      ap (λ (t : Tree). let l : TreeLiteral = record { positive = positive; left = t; right = tree_of y } in l) first
+          ∙ ap (λ (t : Tree). let l : TreeLiteral = record { positive = positive; left = left; right = t } in l) second,
+      others,
+    )
 
 -- a term from the right
 pub term-made :
@@ -128,8 +134,10 @@ term-made s ss n ns old kept new arguments made o a k m e =
   where
     trees : List Tree
     trees = trees_made ss ns
+
     back : reverse (map tree_of old) ≡ trees
     back = ap reverse o ∙ reverse-reverse trees
+
     rest : map tree_of kept ≡ reverse (drop s.arity trees)
     rest = sym (reverse-reverse (map tree_of kept)) ∙ ap reverse (k ∙ ap (drop s.arity) back)
 
@@ -209,17 +217,18 @@ literals-step signs start now next i d sign made more literal inv h s taken m ls
     let so_far = inv ls known rest e f in
     let new = taken (numbered_term known true at.literal.atom) (application 0 no_trees) (sides_of known (drop (i + 1) ls) ++ rest)
     (next-sides known ls i at.literal now rest so_far.1 at.behind) in
-    let sign_is : sign ≡ at.literal.positive = s ∙ at.positive in
-    (ap (map literal_of) m ∙ map-append literal_of made (literal ∷ [])
-    ∙ ap (λ ks. ks ++ literal_of literal ∷ []) so_far.0
-    ∙ ap (λ k. map (numbered_literal known) (take i ls) ++ k ∷ [])
-    (new.0
-    ∙ ap
-    (λ (b : Bool). let l : TreeLiteral = record { positive = b; left = numbered_term known true at.literal.atom; right = application 0 no_trees } in l)
-    sign_is)
-    ∙ sym (map-append (numbered_literal known) (take i ls) (at.literal ∷ []))
-    ∙ sym (ap (map (numbered_literal known)) at.before),
-    new.1)
+    let sign_is : sign ≡ at.literal.positive = s ∙ at.positive in (
+      ap (map literal_of) m ∙ map-append literal_of made (literal ∷ [])
+          ∙ ap (λ ks. ks ++ literal_of literal ∷ []) so_far.0
+          ∙ ap (λ k. map (numbered_literal known) (take i ls) ++ k ∷ [])
+          (new.0
+          ∙ ap
+          (λ (b : Bool). let l : TreeLiteral = record { positive = b; left = numbered_term known true at.literal.atom; right = application 0 no_trees } in l)
+          sign_is)
+          ∙ sym (map-append (numbered_literal known) (take i ls) (at.literal ∷ []))
+          ∙ sym (ap (map (numbered_literal known)) at.before),
+      new.1,
+    )
 
 -- there are always two sides
 pub literals-none :
@@ -244,9 +253,10 @@ pub literals-end :
     → (map literal_of made ≡ map (numbered_literal known) ls) × (now ≡ more)
 literals-end signs start now i made inv h ls known more e f =
     let so_far = inv ls known more e f in
-    let long : length ls ≤ i = omega (arith, ap length e, length-signs ls) in
-    (so_far.0 ∙ ap (map (numbered_literal known)) (take_all i ls long),
-    so_far.1 ∙ ap (λ ks. sides_of known ks ++ more) (drop-past ls i long))
+    let long : length ls ≤ i = omega (arith, ap length e, length-signs ls) in (
+      so_far.0 ∙ ap (map (numbered_literal known)) (take_all i ls long),
+      so_far.1 ∙ ap (λ ks. sides_of known ks ++ more) (drop-past ls i long),
+    )
 
 -- the clauses that were made of the first outlines
 abbrev pub ClausesMade : List Outline → List Tree → ℕ → List Clause → List Tree → Type 0
@@ -268,13 +278,14 @@ clauses-step outlines start now next i d o made more clause inv h s taken m fs k
     let so_far = inv fs known e f in
     let new = taken (literals_of at.formula) known (flat_map (formula_sides known) (drop (i + 1) fs))
     (ap (λ (p : Outline). p.signs.items) s ∙ at.outline.signs)
-    (so_far.1 ∙ ap (flat_map (formula_sides known)) at.behind) in
-    (ap (map clause_of) m ∙ map-append clause_of made (clause ∷ [])
-    ∙ ap (λ ks. ks ++ clause_of clause ∷ []) so_far.0
-    ∙ ap (λ k. map (numbered_clause known) (take i fs) ++ k ∷ []) new.0
-    ∙ sym (map-append (numbered_clause known) (take i fs) (at.formula ∷ []))
-    ∙ sym (ap (map (numbered_clause known)) at.before),
-    new.1)
+    (so_far.1 ∙ ap (flat_map (formula_sides known)) at.behind) in (
+      ap (map clause_of) m ∙ map-append clause_of made (clause ∷ [])
+          ∙ ap (λ ks. ks ++ clause_of clause ∷ []) so_far.0
+          ∙ ap (λ k. map (numbered_clause known) (take i fs) ++ k ∷ []) new.0
+          ∙ sym (map-append (numbered_clause known) (take i fs) (at.formula ∷ []))
+          ∙ sym (ap (map (numbered_clause known)) at.before),
+      new.1,
+    )
 
 length-outlines : (os : List Outline) (fs : List NamedFormula) → AreOutlines os fs → length os ≡ length fs
 length-outlines [] [] h = refl

@@ -150,10 +150,10 @@ mark-front b bs ts inner known =
     ⊎_elim
     (λ e. let none : AreKnown (unknown ∷ []) = subst (λ m. AreKnown (marked m ts)) e known in absurd none.0)
     (λ f.
-        let parts = f bs in
-        let P : List Token → Type 0 = λ us. IsTokenText (b ∷ bs) us in
-        let all : AreKnown (mark_of b ∷ ts) = subst AreKnown (parts.2 ts) known in
-        subst P (sym (parts.2 ts)) ([], b ∷ [], bs, tt, parts.0, refl, parts.1, inner all.1))
+    let parts = f bs in
+    let P : List Token → Type 0 = λ us. IsTokenText (b ∷ bs) us in
+    let all : AreKnown (mark_of b ∷ ts) = subst AreKnown (parts.2 ts) known in
+    subst P (sym (parts.2 ts)) ([], b ∷ [], bs, tt, parts.0, refl, parts.1, inner all.1))
     (mark_of-cases b)
 
 spelled : (bs : List ℕ) → Spelled bs
@@ -162,16 +162,16 @@ spelled [] =
     record {
       whole = λ k. tt;
       begun_word = λ c v k.
-        record {
-          more = [];
-          rest = [];
-          later = [];
-          bytes = refl;
-          in_word = tt;
-          ends = tt;
-          tokens = ap (λ u. word (c ∷ u) ∷ []) (sym (append-nil v));
-          inner = tt;
-        };
+          record {
+            more = [];
+            rest = [];
+            later = [];
+            bytes = refl;
+            in_word = tt;
+            ends = tt;
+            tokens = ap (λ u. word (c ∷ u) ∷ []) (sym (append-nil v));
+            inner = tt;
+          };
     }
 spelled (b ∷ bs) = record { whole = whole_of (spelled bs); begun_word = λ c v. goes_on (spelled bs) c v (is_word_byte b) refl }
   where
@@ -185,6 +185,7 @@ spelled (b ∷ bs) = record { whole = whole_of (spelled bs); begun_word = λ c v
         step true u h k known = blank-front b bs (scanned [] bs) h (below.whole known)
         step false true h k known = word-front b bs (scanned (b ∷ []) bs) k (below.begun_word b [] known)
         step false false h k known = mark-front b bs (scanned [] bs) below.whole known
+
     goes_on :
         Spelled bs → (c : ℕ) (v : List ℕ) (t : Bool) → is_word_byte b ≡ t
         → AreKnown (if t then scanned (c ∷ (v ++ b ∷ [])) bs else word (c ∷ v) ∷ scanned [] (b ∷ bs))

@@ -68,7 +68,6 @@ arguments-same t u ts us r s e =
     let others : (ts ≡ us) × (r ≡ s) = more_terms-same ts us r s parts.1 in
     (parts.0, others.0, others.1)
 
-
 pub sign_text-same :
     (p q : Bool) (w v : List ℕ) (r s : List Token)
     → sign_text p (word w ∷ r) ≡ sign_text q (word v ∷ s) → (p ≡ q) × (word w ∷ r ≡ word v ∷ s)

@@ -158,10 +158,12 @@ arguments-left levels now after next known new r e h = by h.others (sym e ∙ sa
     same =
         term_text-same r.term h.first after (more_terms_text h.others h.after) r.ends (more_terms-after h.first h.others h.after)
         (sym r.text ∙ h.text)
+
     longer : length new ≡ length known + length (term_symbols false h.first)
     longer =
         ap length r.symbols ∙ length-append known (term_symbols false r.term)
         ∙ ap (λ t. length known + length (term_symbols false t)) same.0
+
     by :
         (us : NamedTerms) → comma ∷ next ≡ more_terms_text us h.after → nestings (term_then h.first us) ≤ levels
         → length known + length (terms_symbols (term_then h.first us)) ≤ 4000 → HasArguments levels next new
@@ -271,6 +273,7 @@ no_separator levels now after known new r no_comma no_bracket h = by h.others sa
     same =
         term_text-same r.term h.first after (more_terms_text h.others h.after) r.ends (more_terms-after h.first h.others h.after)
         (sym r.text ∙ h.text)
+
     by : (us : NamedTerms) → after ≡ more_terms_text us h.after → ⊥
     by no_terms g = no_bracket h.after g
     by (term_then u us) g = no_comma (term_text u (more_terms_text us h.after)) g

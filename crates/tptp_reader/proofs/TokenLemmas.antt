@@ -22,6 +22,7 @@ tokens_of-blanks (b ∷ bs) = step (tokens_of-blanks bs) (is_blank b) refl
   where
     others : List Token
     others = if is_lower b then scanned (b ∷ []) bs else marked (mark_of b) (scanned [] bs)
+
     step : tokens_of (drop (prefix_len is_blank bs) bs) ≡ tokens_of bs → (t : Bool) → is_blank b ≡ t → tokens_of (drop (cond t (1 + prefix_len is_blank bs) 0) (b ∷ bs)) ≡ (if t then scanned [] bs else others)
     step h true e = ap (λ k. tokens_of (drop k (b ∷ bs))) (one-add (prefix_len is_blank bs)) ∙ h
     step h false e = ap (λ (t : Bool). if t then scanned [] bs else others) e
@@ -106,6 +107,7 @@ unwrap_or-position p xs = chosen (prefix_len (λ x. not (not (p x))) xs) (prefix
         by : (t : Bool) → nat_lt n (length xs) ≡ t → unwrap_or (cond t (Some n) None) (length xs) ≡ n
         by true e = refl
         by false e = let past : length xs ≤ n = ltb-false n (length xs) e in omega arith
+
     twice : (ys : List ℕ) → prefix_len (λ x. not (not (p x))) ys ≡ prefix_len p ys
     twice [] = refl
     twice (y ∷ ys) = ap (λ t. cond t (1 + prefix_len (λ x. not (not (p x))) ys) 0) (not_not (p y)) ∙ ap (λ n. cond (p y) (1 + n) 0) (twice ys)

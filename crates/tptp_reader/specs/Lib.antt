@@ -7,3 +7,4 @@ pub mod Script
 pub mod Building
 pub mod GroundForm
 pub mod GroundText
+pub mod Example

@@ -80,8 +80,8 @@ fn take_literal(sides: &mut Vec<Term>, positive: bool) -> Option<Literal>
     ensures { (left right : Tree) (more : List Tree)
         → reverse (map tree_of sides.old.items) ≡ left ∷ right ∷ more
         → IsSomeAnd result (λ literal.
-            (literal_of literal ≡ record { positive = positive; left = left; right = right })
-            × (reverse (map tree_of sides.new.items) ≡ more)) }
+        (literal_of literal ≡ record { positive = positive; left = left; right = right })
+        × (reverse (map tree_of sides.new.items) ≡ more)) }
 {
     let left = sides.pop()?;
     let right = sides.pop()?;

@@ -8,8 +8,8 @@ use Rattle.tptp_reader.proofs.read_ground.Goals as goal
 pub returns-in_err-script-clause-not_built : goal.returns-in_err-script-clause-not_built
 returns-in_err-script-clause-not_built c =
     λ e fs text within.
-        c.in_err-script.ensures.not_built (ap Err (passed-on _ _ _ c.from_residual.ensures.1 e))
-        (script-within c.args.bytes.now fs text within)
+    c.in_err-script.ensures.not_built (ap Err (passed-on _ _ _ c.from_residual.ensures.1 e))
+    (script-within c.args.bytes.now fs text within)
 
 pub returns-clause-read : goal.returns-clause-read
 returns-clause-read c =

@@ -7,7 +7,7 @@ use Rattle.tptp_reader.proofs.building.build_clause.Goals.{in-Some+in_ok-push, i
 pub loop-positive-preserved : goal.loop-positive-preserved
 loop-positive-preserved c =
     elim c.match-take_literal.branch [
-      in-Some+in_ok-push w ↦
+      | in-Some+in_ok-push w ↦
           literals-step _ _ _ _ _ false _ _ _ _ c.loop-positive.invariant c.loop-positive-test.true refl w.in-Some.ensures
           (ap (λ (v : Vec Literal Global). v.items) w.literals-is ∙ w.in_ok-push.ensures.items)
       | in_default w ↦ literals-none _ _ _ _ _ _ _ c.loop-positive.invariant c.loop-positive-test.true w.in_default.ensures

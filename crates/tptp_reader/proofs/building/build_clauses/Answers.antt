@@ -11,5 +11,5 @@ loop-outline-preserved c =
 pub returns : goal.returns
 returns c =
     λ fs known e f.
-        ap (map clause_of) c.from_vec.ensures
-        ∙ clauses-end _ _ _ _ _ c.loop-outline.invariant c.loop-outline-test.false fs known e f
+    ap (map clause_of) c.from_vec.ensures
+    ∙ clauses-end _ _ _ _ _ c.loop-outline.invariant c.loop-outline-test.false fs known e f

@@ -6,8 +6,8 @@ use Rattle.tptp_reader.proofs.reading.read_clause.Goals as goal
 pub returns-in_err-positive-clause-not_built : goal.returns-in_err-positive-clause-not_built
 returns-in_err-positive-clause-not_built c =
     λ e h.
-        c.in_err-positive.ensures.not_built (ap Err (passed-on _ _ _ c.from_residual.ensures.1 e))
-        (first-literal _ _ (c.loop-signs.invariant.read.still h))
+    c.in_err-positive.ensures.not_built (ap Err (passed-on _ _ _ c.from_residual.ensures.1 e))
+    (first-literal _ _ (c.loop-signs.invariant.read.still h))
 
 pub loop-signs-preserved : goal.loop-signs-preserved
 loop-signs-preserved c =

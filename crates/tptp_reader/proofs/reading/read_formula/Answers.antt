@@ -6,8 +6,8 @@ use Rattle.tptp_reader.proofs.reading.read_formula.Goals as goal
 pub returns-in_err-signs-clause-not_built : goal.returns-in_err-signs-clause-not_built
 returns-in_err-signs-clause-not_built c =
     λ e h.
-        c.in_err-signs.ensures.not_built (ap Err (passed-on _ _ _ c.from_residual.ensures.1 e))
-        (formula-clause _ _ _ _ _ c.in-Some.ensures.found h)
+    c.in_err-signs.ensures.not_built (ap Err (passed-on _ _ _ c.from_residual.ensures.1 e))
+    (formula-clause _ _ _ _ _ c.in-Some.ensures.found h)
 
 pub returns-in-Some-after_formula-clause-read : goal.returns-in-Some-after_formula-clause-read
 returns-in-Some-after_formula-clause-read c =
