@@ -6,3 +6,4 @@ pub mod Numbering
 pub mod Script
 pub mod Building
 pub mod GroundText
+pub mod Example
