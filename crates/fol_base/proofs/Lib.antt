@@ -17,3 +17,6 @@ pub mod GroundInstanceLemmas
 pub mod CoverageLemmas
 pub mod ExampleLemmas
 pub mod MatchingExamples
+pub mod VariableLemmas
+pub mod NumberingLemmas
+pub mod CanonicalLemmas

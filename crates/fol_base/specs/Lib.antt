@@ -22,3 +22,4 @@ pub mod Subsumption
 pub mod Spelling
 pub mod Examples
 pub mod GroundForm
+pub mod Renaming

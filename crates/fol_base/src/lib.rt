@@ -1,13 +1,16 @@
 // Terms, literals and clauses of first-order logic, and the definitions that the prover rests on.
 #![tactic(auto)]
 
+mod canonical_form;
 mod clause;
 mod equality;
 mod place;
 mod size;
 mod substitution;
 mod term;
+mod variables;
 
+pub use canonical_form::canonical;
 pub use clause::{Clause, Clauses, Literal, Literals, Side, push_literal_copies};
 pub use equality::{same_literal, same_term, same_terms};
 pub use place::{Position, at, replace_at};
