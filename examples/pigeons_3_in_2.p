@@ -1,0 +1,9 @@
+cnf(pigeon1,axiom,in(p1,h1) | in(p1,h2)).
+cnf(pigeon2,axiom,in(p2,h1) | in(p2,h2)).
+cnf(pigeon3,axiom,in(p3,h1) | in(p3,h2)).
+cnf(hole1_1_2,axiom,~in(p1,h1) | ~in(p2,h1)).
+cnf(hole1_1_3,axiom,~in(p1,h1) | ~in(p3,h1)).
+cnf(hole1_2_3,axiom,~in(p2,h1) | ~in(p3,h1)).
+cnf(hole2_1_2,axiom,~in(p1,h2) | ~in(p2,h2)).
+cnf(hole2_1_3,axiom,~in(p1,h2) | ~in(p3,h2)).
+cnf(hole2_2_3,axiom,~in(p2,h2) | ~in(p3,h2)).

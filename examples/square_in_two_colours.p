@@ -1,0 +1,12 @@
+cnf(a_has_one,axiom,red(corner(a)) | blue(corner(a))).
+cnf(b_has_one,axiom,red(corner(b)) | blue(corner(b))).
+cnf(c_has_one,axiom,red(corner(c)) | blue(corner(c))).
+cnf(d_has_one,axiom,red(corner(d)) | blue(corner(d))).
+cnf(ab_not_red,axiom,~red(corner(a)) | ~red(corner(b))).
+cnf(ab_not_blue,axiom,~blue(corner(a)) | ~blue(corner(b))).
+cnf(bc_not_red,axiom,~red(corner(b)) | ~red(corner(c))).
+cnf(bc_not_blue,axiom,~blue(corner(b)) | ~blue(corner(c))).
+cnf(cd_not_red,axiom,~red(corner(c)) | ~red(corner(d))).
+cnf(cd_not_blue,axiom,~blue(corner(c)) | ~blue(corner(d))).
+cnf(da_not_red,axiom,~red(corner(d)) | ~red(corner(a))).
+cnf(da_not_blue,axiom,~blue(corner(d)) | ~blue(corner(a))).

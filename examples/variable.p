@@ -1,0 +1,2 @@
+cnf(all,axiom,p(X)).
+cnf(one,negated_conjecture,~p(a)).
