@@ -164,7 +164,7 @@ sourced_below :
     → IsSourced formulas (pre ++ rest) (shifted_step k step)
 sourced_below formulas (Input place) k pre rest none inputs = cc
 sourced_below formulas (Clausify i) k pre rest none inputs = any_front i pre rest (inputs i refl)
-sourced_below formulas (Negate place) k pre rest none inputs = tt
+sourced_below formulas (Negate place) k pre rest none inputs = cc
 sourced_below formulas (Para a b i s j z place first second) k pre rest none inputs = tt
 sourced_below formulas (Refl a i bind) k pre rest none inputs = tt
 sourced_below formulas (Factor a i s j z bind) k pre rest none inputs = tt

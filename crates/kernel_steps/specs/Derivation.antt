@@ -49,10 +49,11 @@ abbrev pub is_input_of : ℕ → Step → Bool
 is_input_of place (Input p) = p == place
 is_input_of place _ = false
 
--- an input line names a formula of the problem, and a clausify line stands below an input line of its formula, where clause number i
+-- An input line names a formula of the problem, there is no conjecture to negate, and a clausify line stands below an input line of its formula, where clause number i
 -- comes from formula i
 abbrev pub IsSourced : ℕ → List Line → Step → Type 0
 IsSourced formulas earlier (Input place) = place < formulas
+IsSourced formulas earlier (Negate place) = ⊥
 IsSourced formulas earlier (Clausify i) = IsTrue (list_any (λ (l : Line). is_input_of i l.step) earlier)
 IsSourced formulas earlier _ = Unit {0}
 

@@ -10,7 +10,9 @@ use Rattle.tptp_reader.specs.GroundText.{IsReadAs}
 use Rattle.tptp_reader.specs.declared.problem.GroundProblem.{GroundProblem}
 use Rattle.ground_text.specs.Lines.{source_of, lines_text}
 use Rattle.prover_main.specs.Words.{proved_file}
-use Rattle.prover_main.specs.Accepted.{form_of}
+use Rattle.fol_base.specs.GroundForm.{IsGroundForm}
+use Rattle.kernel_steps.proofs.SoundLemmas.{ground_refutations_herbrand_refute}
+use Rattle.prover_main.specs.Accepted.{form_of, is_predicate_of}
 use Rattle.prover_main.specs.Report.{usage_report, refuted_report}
 use Rattle.prover_main.specs.Run.{most_inferences, IsDueOn, refuted, IsDueFor, Outside, IsDue, Taken, Delivered, all_taken, prefix_taken, IsRun, whole, cut_off}
 
@@ -38,15 +40,19 @@ run_due words outside taken file due text status e cause (prefix_taken s r p) =
 
 pub due_refuted :
     (bytes file text : List ℕ) (problem : GroundProblem) (answer : Ground) (lines : List Line)
-    → IsReadAs bytes problem → IsGroundAnswer (form_of problem) most_inferences answer → answer ≡ Refuted lines
+    → IsReadAs bytes problem → IsGroundForm (form_of problem)
+    → IsGroundAnswer (form_of problem) most_inferences answer → answer ≡ Refuted lines
     → text ≡ refuted_report file (lines_text (source_of file problem) lines) → IsDueOn bytes file 0 text
-due_refuted bytes file text problem answer lines read is e printed =
+due_refuted bytes file text problem answer lines read ground is e printed =
     let P : Ground → Type 0 = IsGroundAnswer (form_of problem) most_inferences in
+    let sourced : IsSourcedRefutation (form_of problem) lines = subst P e is in
     refuted refl (record {
       problem = problem;
       is_read = read;
       derivation = lines_text (source_of file problem) lines;
-      accepted = record { lines = lines; spells = refl; refutes = subst P e is };
+      accepted = record { lines = lines; spells = refl; refutes = sourced };
+      herbrand = λ functions constant.
+        ground_refutations_herbrand_refute (is_predicate_of problem) functions (form_of problem) lines constant ground sourced.refutes;
       prints = printed;
     })
 

@@ -1,5 +1,5 @@
 -- What a run answers and prints, and why.
-use Rattle.std.specs.Prelude.{◌≡◌, ℕ, List, Option, None, Some, IfSome, IsSome}
+use Rattle.std.specs.Prelude.{◌≡◌, ℕ, List, Option, None, Some, IfSome, IsSome, IsTrue}
 use Rattle.fol_base.specs.Clause.{TreeClause}
 use Rattle.tptp_reader.specs.Syntax.{NamedFormula}
 use Rattle.tptp_reader.specs.GroundText.{IsGroundText, IsWithinLimits, IsReadAs}
@@ -9,7 +9,9 @@ use Rattle.outside.specs.Library.{Holdings, HoldsExactly, FoundMore}
 use Rattle.outside.specs.Sink.{with_bytes, HasPrefixAfter}
 use Rattle.ground_loop.specs.Answer.{HasClosedSets, HasTriples}
 use Rattle.prover_main.specs.Words.{proved_file}
-use Rattle.prover_main.specs.Accepted.{IsAcceptedDerivation, form_of}
+use Rattle.fol_base.specs.Ground.{FunctionSymbol, has_constant}
+use Rattle.kernel_steps.specs.Soundness.{HerbrandRefuted}
+use Rattle.prover_main.specs.Accepted.{IsAcceptedDerivation, form_of, is_predicate_of}
 use Rattle.prover_main.specs.Report.{refuted_report, closed_report, spent_report, not_built_report, load_failed_report, usage_report}
 
 -- the most bytes of a file
@@ -26,12 +28,16 @@ most_inferences = 100000
 abbrev pub IsUnreadable : List ℕ → Type 0
 IsUnreadable bytes = (fs : List NamedFormula) → IsGroundText bytes fs → IsWithinLimits fs → ⊥
 
--- a text that is an accepted derivation of the problem that the bytes spell
+-- A text that is an accepted derivation of the problem that the bytes spell; and, over every list of function symbols that has a
+-- constant, some finite list of ground instances of the clausal form is true in no interpretation.
 pub record IsRefutedBy (bytes file text : List ℕ) : Type 0 where
   pub problem : GroundProblem
   pub is_read : IsReadAs bytes problem
   pub derivation : List ℕ
   pub accepted : IsAcceptedDerivation file problem derivation
+  pub herbrand :
+      (functions : List FunctionSymbol) → IsTrue (has_constant functions)
+      → HerbrandRefuted (is_predicate_of problem) functions (form_of problem)
   pub prints : text ≡ refuted_report file derivation
 
 -- as many different inferences as the limit
