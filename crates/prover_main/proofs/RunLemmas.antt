@@ -52,7 +52,7 @@ due_refuted bytes file text problem answer lines read ground is e printed =
       derivation = lines_text (source_of file problem) lines;
       accepted = record { lines = lines; spells = refl; refutes = sourced };
       herbrand = λ functions constant.
-        ground_refutations_herbrand_refute (is_predicate_of problem) functions (form_of problem) lines constant ground sourced.refutes;
+          ground_refutations_herbrand_refute (is_predicate_of problem) functions (form_of problem) lines constant ground sourced.refutes;
       prints = printed;
     })
 

@@ -6,6 +6,7 @@ use std::alloc::Global;
 use std::test::Fail;
 
 // The words, the file's name and bytes, the status, and the report.
+#[derive(Drop)]
 struct Case {
     words: &'static [&'static str],
     file: &'static str,
@@ -40,15 +41,13 @@ fn library_of(alloc: Global, name: &str, bytes: &[u8]) -> Result<MemLibrary, Fai
     Ok(MemLibrary::new(alloc, files, Numbers::new(alloc)))
 }
 
-fn expect_run(rt: &HostRuntime, case: &Case) -> Result<(), Fail> {
-    let alloc = rt.alloc();
+// The status of a run, and whether its report is the one that is wanted.
+fn outcome(alloc: Global, case: &Case) -> Result<(u8, bool), Fail> {
     let words = words_of(alloc, case.words)?;
     let mut library = library_of(alloc, case.file, case.bytes)?;
     let mut sink = MemSink::new(alloc, 64, 100_000, Numbers::new(alloc))?;
     let status = run(alloc, &words, &mut library, &mut sink);
-    assert_eq!(rt; status, case.status, "on {}", case.file);
-    assert!(rt; sink.bytes() == case.report, "the report on {}", case.file);
-    Ok(())
+    Ok((status, sink.bytes() == case.report))
 }
 
 #[test]
@@ -133,7 +132,9 @@ fn runs_report_as_stated(rt: HostRuntime) -> Result<(), Fail> {
         },
     ];
     for case in &cases {
-        expect_run(&rt, case)?;
+        let (status, right) = outcome(rt.alloc(), case)?;
+        assert_eq!(rt; status, case.status, "on {}", case.file);
+        assert!(rt; right, "the report on {}", case.file);
     }
     Ok(())
 }
