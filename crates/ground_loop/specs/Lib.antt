@@ -2,3 +2,4 @@ pub mod Resolution
 pub mod Entries
 pub mod Answer
 pub mod Search
+pub mod Lines

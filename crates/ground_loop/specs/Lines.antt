@@ -1,0 +1,138 @@
+-- Lines of a derivation as sets of literals, and how lines are added.
+use Rattle.std.specs.Prelude.{◌≡◌, ℕ, ◌+◌, ◌-◌, ◌<◌, ◌≤◌, Bool, true, false, not, ◌&&◌, List, [], ◌∷◌, ◌++◌, length, Some, slice_get, slice_set, slice_index, slice_index_or, IsTrue}
+use Rattle.std.specs.List.{list_any, list_all}
+use Rattle.fol_base.specs.Tree.{Tree}
+use Rattle.fol_base.specs.Clause.{TreeLiteral, TreeClause, clause_size}
+use Rattle.fol_base.specs.GroundForm.{is_atom_literal}
+use Rattle.kernel_steps.specs.declared.step.Step.{Step}
+use Rattle.kernel_steps.specs.declared.step.Line.{Line}
+use Rattle.kernel_steps.specs.Conclusion.{Verdict, verdict, concludes, line_clause, IsGroundLine}
+use Rattle.kernel_steps.specs.Derivation.{is_clause_step, IsDerivation}
+use Rattle.ground_loop.specs.Resolution.{LiteralSet, has_literal, resolvent}
+use Rattle.ground_loop.specs.Entries.{entry_set}
+use Rattle.ground_loop.specs.declared.entry.Entry.{Entry}
+use Rattle.ground_loop.specs.declared.entry.Origin.{Origin}
+use Rattle.ground_loop.specs.declared.entry.Origin.TheVariants.{Clause, Resolvent}
+
+-- ---- sets of literals
+
+-- no literal stands twice
+abbrev pub are_different : LiteralSet → Bool
+are_different [] = true
+are_different (l ∷ ls) = not (has_literal l ls) && are_different ls
+
+-- the same literals, however often and in which order
+abbrev pub SameElements : LiteralSet → LiteralSet → Type 0
+SameElements s t = (l : TreeLiteral) → has_literal l s ≡ has_literal l t
+
+-- some clause of the form has the literal
+abbrev pub form_has : List TreeClause → TreeLiteral → Bool
+form_has form l = list_any (λ c. has_literal l c.literals) form
+
+abbrev pub line_literals : List Line → ℕ → LiteralSet
+line_literals lines n = (line_clause lines n).literals
+
+-- ---- lines that are added
+
+-- further lines, which keep a derivation from the form one
+pub record Continues (form : List TreeClause) (old new : List Line) : Type 0 where
+  pub more : List Line
+  pub grown : new ≡ old ++ more
+  pub derived : IsDerivation form old → IsDerivation form new
+
+-- the last line has that number, and is the line of a clause
+pub record IsLastLine (lines : List Line) (number : ℕ) : Type 0 where
+  pub before : List Line
+  pub line : Line
+  pub ends : lines ≡ before ++ line ∷ []
+  pub counted : number ≡ length before
+  pub is_clause : IsTrue (is_clause_step line.step)
+
+abbrev pub Concludes : Verdict → Type 0
+Concludes v = (c : TreeClause) × (v ≡ concludes c)
+
+-- the line of a step is added, with what the step concludes
+pub record AddsLine (old : List Line) (step : Step) (new : List Line) (number : ℕ) : Type 0 where
+  pub continues : (form : List TreeClause) → Continues form old new
+  pub is_last : IsLastLine new number
+  pub concluded : verdict step old ≡ concludes (line_clause new number)
+
+-- a line without names and repeats, of atoms and their negations, with at most 4,000 symbols
+pub record IsSetLine (lines : List Line) (number : ℕ) : Type 0 where
+  pub there : number < length lines
+  pub no_names : (line_clause lines number).names ≡ []
+  pub of_atoms : IsTrue (list_all is_atom_literal (line_literals lines number))
+  pub different : IsTrue (are_different (line_literals lines number))
+  pub small : clause_size (line_clause lines number) ≤ 4000
+
+-- a line is left that has the literals of the given one, each once
+pub record IsMerged (old : List Line) (line : ℕ) (new : List Line) (left : ℕ) : Type 0 where
+  pub continues : (form : List TreeClause) → Continues form old new
+  pub there : left < length new
+  pub no_names : (line_clause new left).names ≡ []
+  pub different : IsTrue (are_different (line_literals new left))
+  pub same : SameElements (line_literals new left) (line_literals old line)
+  pub is_last : IsLastLine old line → IsLastLine new left
+
+-- the last line has the literals of the resolvent of two lines, some of them maybe more than once
+pub record IsResolved (old : List Line) (first second : ℕ) (atom : Tree) (new : List Line) (number : ℕ) : Type 0 where
+  pub continues : (form : List TreeClause) → Continues form old new
+  pub is_last : IsLastLine new number
+  pub is_ground : IsGroundLine new number
+  pub small : clause_size (line_clause new number) ≤ 8000
+  pub same : SameElements (line_literals new number) (resolvent atom (line_literals old first) (line_literals old second))
+
+-- the last line has the literals of the resolvent of two lines, each once
+pub record IsResolvent (old : List Line) (first second : ℕ) (atom : Tree) (new : List Line) (number : ℕ) : Type 0 where
+  pub continues : (form : List TreeClause) → Continues form old new
+  pub is_last : IsLastLine new number
+  pub no_names : (line_clause new number).names ≡ []
+  pub different : IsTrue (are_different (line_literals new number))
+  pub same : SameElements (line_literals new number) (resolvent atom (line_literals old first) (line_literals old second))
+
+-- ---- lines of clauses and entries
+
+abbrev pub IsClauseLine : List Line → ℕ → TreeClause → Type 0
+IsClauseLine lines number c = (number < length lines) × (line_clause lines number ≡ c)
+
+-- a line without names that has each literal of a set once, and those from the form
+pub record IsLineOf (form : List TreeClause) (lines : List Line) (number : ℕ) (s : LiteralSet) : Type 0 where
+  pub there : number < length lines
+  pub no_names : (line_clause lines number).names ≡ []
+  pub different : IsTrue (are_different (line_literals lines number))
+  pub of_form : IsTrue (list_all (form_has form) (line_literals lines number))
+  pub same : SameElements (line_literals lines number) s
+
+-- the number that a table has for a clause of the form is that of its line
+abbrev pub HasClauseLine : List TreeClause → List Line → List ℕ → ℕ → Type 0
+HasClauseLine form lines numbers n = (c : TreeClause) → slice_get form n ≡ Some c → IsClauseLine lines (slice_index numbers n) c
+
+-- the number that a table has for an entry is that of its line
+abbrev pub HasEntryLine : List TreeClause → List Tree → List Entry → List Line → List ℕ → ℕ → Type 0
+HasEntryLine form atoms entries lines numbers n =
+    (e : Entry) → slice_get entries n ≡ Some e → IsLineOf form lines (slice_index numbers n) (entry_set atoms e)
+
+-- ---- the cone of the last entry
+
+-- an origin is a clause of the form, or two entries before the one with that number
+abbrev pub IsOrigin : List TreeClause → ℕ → Origin → Type 0
+IsOrigin form n (Clause k) = k < length form
+IsOrigin form n (Resolvent first second atom) = (first < n) × (second < n)
+
+abbrev pub HasOrigins : List TreeClause → List Entry → Type 0
+HasOrigins form entries = (n : ℕ) (e : Entry) → slice_get entries n ≡ Some e → IsOrigin form n e.origin
+
+abbrev pub is_marked : List Bool → ℕ → Bool
+is_marked marks n = slice_index_or marks n false
+
+-- marks of entries and of clauses: those of an origin
+abbrev pub HasMarks : List Bool → List Bool → Origin → Type 0
+HasMarks entries clauses (Clause n) = IsTrue (is_marked clauses n)
+HasMarks entries clauses (Resolvent first second atom) = IsTrue (is_marked entries first) × IsTrue (is_marked entries second)
+
+-- the last entry is marked, and whatever a marked entry comes from
+pub record IsCone (form : List TreeClause) (entries : List Entry) (entry_marks clause_marks : List Bool) : Type 0 where
+  pub entries_counted : length entry_marks ≡ length entries
+  pub clauses_counted : length clause_marks ≡ length form
+  pub has_last : IsTrue (is_marked entry_marks (length entries - 1))
+  pub is_closed : (n : ℕ) (e : Entry) → slice_get entries n ≡ Some e → IsTrue (is_marked entry_marks n) → HasMarks entry_marks clause_marks e.origin
