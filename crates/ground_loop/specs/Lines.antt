@@ -1,5 +1,5 @@
 -- Lines of a derivation as sets of literals, and how lines are added.
-use Rattle.std.specs.Prelude.{◌≡◌, ℕ, ◌+◌, ◌-◌, ◌<◌, ◌≤◌, Bool, true, false, not, ◌&&◌, List, [], ◌∷◌, ◌++◌, length, Some, slice_get, slice_set, slice_index, slice_index_or, IsTrue}
+use Rattle.std.specs.Prelude.{◌≡◌, ℕ, ◌+◌, ◌-◌, ◌<◌, ◌≤◌, Bool, true, false, not, ◌&&◌, List, [], ◌∷◌, ◌++◌, length, Some, slice_get, slice_set, slice_index, slice_index_or, take, IsTrue, IsFalse}
 use Rattle.std.specs.List.{list_any, list_all}
 use Rattle.fol_base.specs.Tree.{Tree}
 use Rattle.fol_base.specs.Clause.{TreeLiteral, TreeClause, clause_size}
@@ -24,6 +24,15 @@ are_different (l ∷ ls) = not (has_literal l ls) && are_different ls
 -- the same literals, however often and in which order
 abbrev pub SameElements : LiteralSet → LiteralSet → Type 0
 SameElements s t = (l : TreeLiteral) → has_literal l s ≡ has_literal l t
+
+-- the literal at a place stands at an earlier one too
+abbrev pub IsRepeat : LiteralSet → ℕ → ℕ → Type 0
+IsRepeat ls place earlier =
+    (earlier < place) × (l : TreeLiteral) × (slice_get ls earlier ≡ Some l) × (slice_get ls place ≡ Some l)
+
+-- the literal at a place stands at no earlier one
+abbrev pub IsNew : LiteralSet → ℕ → Type 0
+IsNew ls place = (l : TreeLiteral) → slice_get ls place ≡ Some l → IsFalse (has_literal l (take place ls))
 
 -- some clause of the form has the literal
 abbrev pub form_has : List TreeClause → TreeLiteral → Bool

@@ -1,0 +1,3 @@
+pub mod DeriveLemmas
+pub mod DeriveLines
+pub mod DeriveSteps
