@@ -1,3 +1,4 @@
 pub mod DeriveLemmas
 pub mod DeriveLines
 pub mod DeriveSteps
+pub mod DeriveCone

@@ -139,6 +139,20 @@ abbrev pub HasMarks : List Bool → List Bool → Origin → Type 0
 HasMarks entries clauses (Clause n) = IsTrue (is_marked clauses n)
 HasMarks entries clauses (Resolvent first second atom) = IsTrue (is_marked entries first) × IsTrue (is_marked entries second)
 
+-- the marks of entries, and of clauses, with those of an origin
+abbrev pub entries_with : Origin → List Bool → List Bool
+entries_with (Clause n) marks = marks
+entries_with (Resolvent first second atom) marks = slice_set (slice_set marks first true) second true
+
+abbrev pub clauses_with : Origin → List Bool → List Bool
+clauses_with (Clause n) marks = slice_set marks n true
+clauses_with (Resolvent first second atom) marks = marks
+
+-- so many marks that an origin has its among them
+abbrev pub HasPlaces : ℕ → ℕ → Origin → Type 0
+HasPlaces entries clauses (Clause n) = n < clauses
+HasPlaces entries clauses (Resolvent first second atom) = (first < entries) × (second < entries)
+
 -- the last entry is marked, and whatever a marked entry comes from
 pub record IsCone (form : List TreeClause) (entries : List Entry) (entry_marks clause_marks : List Bool) : Type 0 where
   pub entries_counted : length entry_marks ≡ length entries
