@@ -2,3 +2,4 @@ pub mod DeriveLemmas
 pub mod DeriveLines
 pub mod DeriveSteps
 pub mod DeriveCone
+pub mod DeriveEntries

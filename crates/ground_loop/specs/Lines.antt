@@ -3,13 +3,13 @@ use Rattle.std.specs.Prelude.{◌≡◌, ℕ, ◌+◌, ◌-◌, ◌<◌, ◌≤�
 use Rattle.std.specs.List.{list_any, list_all}
 use Rattle.fol_base.specs.Tree.{Tree}
 use Rattle.fol_base.specs.Clause.{TreeLiteral, TreeClause, clause_size}
-use Rattle.fol_base.specs.GroundForm.{is_atom_literal}
+use Rattle.fol_base.specs.GroundForm.{is_atom_literal, IsGroundForm, form_size}
 use Rattle.kernel_steps.specs.declared.step.Step.{Step}
 use Rattle.kernel_steps.specs.declared.step.Line.{Line}
 use Rattle.kernel_steps.specs.Conclusion.{Verdict, verdict, concludes, line_clause, IsGroundLine}
 use Rattle.kernel_steps.specs.Derivation.{is_clause_step, IsDerivation}
 use Rattle.ground_loop.specs.Resolution.{LiteralSet, has_literal, resolvent}
-use Rattle.ground_loop.specs.Entries.{entry_set}
+use Rattle.ground_loop.specs.Entries.{entry_set, AreEntries}
 use Rattle.ground_loop.specs.declared.entry.Entry.{Entry}
 use Rattle.ground_loop.specs.declared.entry.Origin.{Origin}
 use Rattle.ground_loop.specs.declared.entry.Origin.TheVariants.{Clause, Resolvent}
@@ -99,28 +99,6 @@ pub record IsResolvent (old : List Line) (first second : ℕ) (atom : Tree) (new
   pub different : IsTrue (are_different (line_literals new number))
   pub same : SameElements (line_literals new number) (resolvent atom (line_literals old first) (line_literals old second))
 
--- ---- lines of clauses and entries
-
-abbrev pub IsClauseLine : List Line → ℕ → TreeClause → Type 0
-IsClauseLine lines number c = (number < length lines) × (line_clause lines number ≡ c)
-
--- a line without names that has each literal of a set once, and those from the form
-pub record IsLineOf (form : List TreeClause) (lines : List Line) (number : ℕ) (s : LiteralSet) : Type 0 where
-  pub there : number < length lines
-  pub no_names : (line_clause lines number).names ≡ []
-  pub different : IsTrue (are_different (line_literals lines number))
-  pub of_form : IsTrue (list_all (form_has form) (line_literals lines number))
-  pub same : SameElements (line_literals lines number) s
-
--- the number that a table has for a clause of the form is that of its line
-abbrev pub HasClauseLine : List TreeClause → List Line → List ℕ → ℕ → Type 0
-HasClauseLine form lines numbers n = (c : TreeClause) → slice_get form n ≡ Some c → IsClauseLine lines (slice_index numbers n) c
-
--- the number that a table has for an entry is that of its line
-abbrev pub HasEntryLine : List TreeClause → List Tree → List Entry → List Line → List ℕ → ℕ → Type 0
-HasEntryLine form atoms entries lines numbers n =
-    (e : Entry) → slice_get entries n ≡ Some e → IsLineOf form lines (slice_index numbers n) (entry_set atoms e)
-
 -- ---- the cone of the last entry
 
 -- an origin is a clause of the form, or two entries before the one with that number
@@ -153,9 +131,86 @@ abbrev pub HasPlaces : ℕ → ℕ → Origin → Type 0
 HasPlaces entries clauses (Clause n) = n < clauses
 HasPlaces entries clauses (Resolvent first second atom) = (first < entries) × (second < entries)
 
+-- whatever a marked entry comes from is marked
+abbrev pub IsClosedUnder : List Entry → List Bool → List Bool → Type 0
+IsClosedUnder entries entry_marks clause_marks =
+    (n : ℕ) (e : Entry) → slice_get entries n ≡ Some e → IsTrue (is_marked entry_marks n) → HasMarks entry_marks clause_marks e.origin
+
 -- the last entry is marked, and whatever a marked entry comes from
 pub record IsCone (form : List TreeClause) (entries : List Entry) (entry_marks clause_marks : List Bool) : Type 0 where
   pub entries_counted : length entry_marks ≡ length entries
   pub clauses_counted : length clause_marks ≡ length form
   pub has_last : IsTrue (is_marked entry_marks (length entries - 1))
-  pub is_closed : (n : ℕ) (e : Entry) → slice_get entries n ≡ Some e → IsTrue (is_marked entry_marks n) → HasMarks entry_marks clause_marks e.origin
+  pub is_closed : IsClosedUnder entries entry_marks clause_marks
+
+-- ---- lines of clauses and entries
+
+abbrev pub IsClauseLine : List Line → ℕ → TreeClause → Type 0
+IsClauseLine lines number c = (number < length lines) × (line_clause lines number ≡ c)
+
+-- a line without names that has each literal of a set once, and those from the form
+pub record IsLineOf (form : List TreeClause) (lines : List Line) (number : ℕ) (s : LiteralSet) : Type 0 where
+  pub there : number < length lines
+  pub no_names : (line_clause lines number).names ≡ []
+  pub different : IsTrue (are_different (line_literals lines number))
+  pub of_form : IsTrue (list_all (form_has form) (line_literals lines number))
+  pub same : SameElements (line_literals lines number) s
+
+-- the number that a table has for a clause of the form is that of its line
+abbrev pub HasClauseLine : List TreeClause → List Line → List ℕ → ℕ → Type 0
+HasClauseLine form lines numbers n = (c : TreeClause) → slice_get form n ≡ Some c → IsClauseLine lines (slice_index numbers n) c
+
+-- the number that a table has for an entry is that of its line
+abbrev pub HasEntryLine : List TreeClause → List Tree → List Entry → List Line → List ℕ → ℕ → Type 0
+HasEntryLine form atoms entries lines numbers n =
+    (e : Entry) → slice_get entries n ≡ Some e → IsLineOf form lines (slice_index numbers n) (entry_set atoms e)
+
+-- the line of a clause of the form is added
+pub record AddsClause (form : List TreeClause) (n : ℕ) (old new : List Line) : Type 0 where
+  pub continues : Continues form old new
+  pub is_last : IsLastLine new (length old)
+  pub has_clause : (c : TreeClause) → slice_get form n ≡ Some c → line_clause new (length old) ≡ c
+
+-- the lines of the marked clauses are added
+pub record AddsClauses (form : List TreeClause) (marks : List Bool) (old new : List Line) (numbers : List ℕ) : Type 0 where
+  pub continues : Continues form old new
+  pub counted : length numbers ≡ length form
+  pub has_lines : (n : ℕ) → IsTrue (is_marked marks n) → HasClauseLine form new numbers n
+
+-- the tables have the lines of what an entry comes from
+abbrev pub HasOriginLines : List TreeClause → List Tree → List Entry → List Line → List ℕ → List ℕ → Origin → Type 0
+HasOriginLines form atoms entries lines clause_lines entry_lines (Clause n) = HasClauseLine form lines clause_lines n
+HasOriginLines form atoms entries lines clause_lines entry_lines (Resolvent first second atom) =
+    HasEntryLine form atoms entries lines entry_lines first × HasEntryLine form atoms entries lines entry_lines second
+
+-- lawful entries from a small ground form
+pub record AreGroundEntries (form : List TreeClause) (atoms : List Tree) (entries : List Entry) : Type 0 where
+  pub ground : IsGroundForm form
+  pub small : form_size form ≤ 4000
+  pub are_entries : AreEntries form atoms entries
+
+-- the lines of what an entry comes from are there
+pub record IsNext (form : List TreeClause) (atoms : List Tree) (entries : List Entry) (index : ℕ) (lines : List Line) (clause_lines entry_lines : List ℕ) : Type 0 where
+  pub within : index < length entries
+  pub clauses_counted : length clause_lines ≡ length form
+  pub entries_counted : length entry_lines ≡ index
+  pub has_origin :
+      (e : Entry) → slice_get entries index ≡ Some e → HasOriginLines form atoms entries lines clause_lines entry_lines e.origin
+
+-- the lines of an entry are added
+pub record AddsEntry (form : List TreeClause) (atoms : List Tree) (entries : List Entry) (index : ℕ) (old new : List Line) (number : ℕ) : Type 0 where
+  pub continues : Continues form old new
+  pub has_line : (e : Entry) → slice_get entries index ≡ Some e → IsLineOf form new number (entry_set atoms e)
+
+-- the marks of entries and clauses are closed, and the lines of the marked clauses are there
+pub record IsPrepared (form : List TreeClause) (entries : List Entry) (entry_marks clause_marks : List Bool) (lines : List Line) (clause_lines : List ℕ) : Type 0 where
+  pub entries_counted : length entries ≤ length entry_marks
+  pub is_closed : IsClosedUnder entries entry_marks clause_marks
+  pub clauses_counted : length clause_lines ≡ length form
+  pub has_lines : (n : ℕ) → IsTrue (is_marked clause_marks n) → HasClauseLine form lines clause_lines n
+
+-- the lines of the marked entries are added
+pub record AddsEntries (form : List TreeClause) (atoms : List Tree) (entries : List Entry) (marks : List Bool) (old new : List Line) (numbers : List ℕ) : Type 0 where
+  pub continues : Continues form old new
+  pub counted : length numbers ≡ length entries
+  pub has_lines : (n : ℕ) → IsTrue (is_marked marks n) → HasEntryLine form atoms entries new numbers n

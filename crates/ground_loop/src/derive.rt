@@ -3,11 +3,12 @@
 mod cone;
 mod steps;
 
-ghost use Rattle.std.specs.Prelude.{◌≤◌, map, IfOk};
+ghost use Rattle.std.specs.Prelude.{◌≡◌, ◌<◌, ◌≤◌, map, length, IfOk};
 ghost use Rattle.fol_base.specs.GroundForm.{IsGroundForm, form_size};
 ghost use Rattle.fol_base.specs.Literal.{clause_of};
 ghost use Rattle.kernel_steps.specs.Derivation.{IsRefutation};
 ghost use Rattle.ground_loop.specs.Search.{ReachesEmpty};
+ghost use Rattle.ground_loop.specs.Lines.{AddsClause, AddsClauses, AreGroundEntries, IsNext, AddsEntry, IsPrepared, AddsEntries};
 
 use crate::derive::cone::{Cone, cone_of_last};
 use crate::derive::steps::{push_merges, push_resolvent};
@@ -54,7 +55,10 @@ struct Source<'a> {
 }
 
 /// Adds the line of a clause of the form.
-fn push_clause(alloc: Global, form: &Clauses, number: usize, lines: &mut Derivation) -> Mem<()> {
+fn push_clause(alloc: Global, form: &Clauses, number: usize, lines: &mut Derivation) -> Mem<()>
+    requires { number < length form.now }
+    ensures { IfOk result (λ _. AddsClause (map clause_of form.now) number lines.old lines.new) }
+{
     let clause = form.as_slice()[number].copy(alloc)?;
     let step = Step::Clausify(number as u64);
     lines.push(Line { step, clause })
@@ -66,7 +70,10 @@ fn push_clauses(
     form: &Clauses,
     cone: &Cone,
     lines: &mut Derivation,
-) -> Mem<Numbers> {
+) -> Mem<Numbers>
+    requires { length cone.now.clauses.items ≡ length form.now }
+    ensures { IfOk result (AddsClauses (map clause_of form.now) cone.now.clauses.items lines.old lines.new) }
+{
     let mut numbers = Numbers::new(alloc);
     for number in 0..form.len() {
         numbers.push(lines.len() as u64)?;
@@ -84,7 +91,14 @@ fn push_entries(
     cone: &Cone,
     clause_lines: &Numbers,
     lines: &mut Derivation,
-) -> Mem<Numbers> {
+) -> Mem<Numbers>
+    requires lawful { AreGroundEntries (map clause_of source.form.now) source.atoms.now source.entries.now }
+    requires prepared { IsPrepared (map clause_of source.form.now) source.entries.now
+        cone.now.entries.items cone.now.clauses.items lines.old clause_lines.now }
+    ensures { IfOk result
+        (AddsEntries (map clause_of source.entry.form.now) source.entry.atoms.now source.entry.entries.now
+        cone.now.entries.items lines.old lines.new) }
+{
     let mut numbers = Numbers::new(alloc);
     for index in 0..source.entries.len() {
         let number = if cone.entries[index] {
@@ -105,7 +119,14 @@ fn push_entry(
     clause_lines: &Numbers,
     entry_lines: &Numbers,
     lines: &mut Derivation,
-) -> Mem<u64> {
+) -> Mem<u64>
+    requires lawful { AreGroundEntries (map clause_of source.form.now) source.atoms.now source.entries.now }
+    requires is_next { IsNext (map clause_of source.form.now) source.atoms.now source.entries.now index
+        lines.old clause_lines.now entry_lines.now }
+    ensures { IfOk result
+        (AddsEntry (map clause_of source.entry.form.now) source.entry.atoms.now source.entry.entries.now index
+        lines.old lines.new) }
+{
     match source.entries[index].origin {
         Origin::Clause(number) => {
             push_merges(alloc, lines, clause_lines.as_slice()[number as usize])
