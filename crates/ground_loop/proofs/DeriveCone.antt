@@ -1,13 +1,13 @@
 -- Facts about the marks of what the last entry needs.
-use Rattle.std.proofs.Common.{◌≡◌, ℕ, zero, suc, ◌+◌, ◌-◌, ◌<◌, ◌≤◌, Bool, true, false, List, [], ◌∷◌, length, get_or, set, refl, ap, sym, ◌∙◌, subst, arith, inl, inr, true≢false, Some}
-use Rattle.std.specs.Prelude.{slice_get, IsTrue}
+use Rattle.std.proofs.Common.{◌≡◌, ℕ, zero, suc, ◌+◌, ◌-◌, ◌<◌, ◌≤◌, Bool, true, false, List, [], ◌∷◌, length, set, refl, ap, sym, ◌∙◌, subst, arith, inl, inr, true≢false, Some}
+use Rattle.std.specs.Prelude.{slice_get}
 use Rattle.std.proofs.lemmas.Bool.{cases_eq}
 use Rattle.std.proofs.lemmas.List.{length-set, get_or-set_same, get_or-set_other}
 use Rattle.fol_base.specs.Clause.{TreeClause}
 use Rattle.ground_loop.specs.declared.entry.Entry.{Entry}
 use Rattle.ground_loop.specs.declared.entry.Origin.{Origin}
 use Rattle.ground_loop.specs.declared.entry.Origin.TheVariants.{Clause, Resolvent}
-use Rattle.ground_loop.specs.Lines.{IsOrigin, HasOrigins, is_marked, HasMarks, entries_with, clauses_with, HasPlaces, IsCone}
+use Rattle.ground_loop.specs.Lines.{IsOrigin, is_marked, HasMarks, entries_with, clauses_with, HasPlaces, IsCone}
 
 -- what was marked stays marked
 is_marked-set : (marks : List Bool) (k n : ℕ) → is_marked marks n ≡ true → is_marked (set marks k true) n ≡ true

@@ -1,11 +1,12 @@
 -- Facts about the lines of clauses and entries, for the derivation.
-use Rattle.std.proofs.Common.{◌≡◌, ℕ, zero, suc, ◌+◌, ◌<◌, ◌≤◌, Bool, true, false, ◌||◌, ◌&&◌, not, List, [], ◌∷◌, ◌++◌, length, map, take, get_or, refl, ap, ap₂, sym, ◌∙◌, subst, arith, inl, inr, ◌⊎◌, true≢false, Some}
-use Rattle.std.specs.Prelude.{slice_get, slice_index, IsTrue}
+use Rattle.std.proofs.Common.{◌≡◌, ℕ, zero, suc, ◌+◌, ◌-◌, ◌<◌, ◌≤◌, Bool, true, false, ◌&&◌, not, List, [], ◌∷◌, ◌++◌, length, map, take, get_or, refl, ap, ap₂, sym, ◌∙◌, subst, arith, inl, inr, true≢false, Some}
+use Rattle.std.specs.Prelude.{slice_get, slice_index}
 use Rattle.std.specs.List.{list_all}
-use Rattle.std.proofs.lemmas.Bool.{cases_eq, or_cases, and_parts, and_from, false_from_ne_true}
-use Rattle.std.proofs.lemmas.List.{length-take-le, length-append, length-map, take-take, get_or_append_left, get_or_push, get_or-map, get_or_default, get_or_read}
+use Rattle.std.proofs.lemmas.Bool.{cases_eq, or_cases, and_parts, and_from}
+use Rattle.std.proofs.lemmas.List.{length-append, get_or_append_left, get_or_push, get_or-map, get_or_read}
 use Rattle.std.proofs.lemmas.List.Elements.{All-head, All-tail}
 use Rattle.std.proofs.lemmas.Option.{slice_get_within, slice_get-get_or, get_or_from_slice_get}
+use Rattle.plain_types.specs.declared.sequence.NameLit.{NameLit}
 use Rattle.fol_base.specs.Tree.{Tree}
 use Rattle.fol_base.specs.Term.{tree_of}
 use Rattle.fol_base.specs.declared.term.Term.{Term}
@@ -17,15 +18,15 @@ use Rattle.kernel_steps.specs.declared.step.Step.{Step}
 use Rattle.kernel_steps.specs.declared.step.Step.TheVariants.{Clausify}
 use Rattle.kernel_steps.specs.Conclusion.{empty_clause, line_clause, IsGroundLine}
 use Rattle.kernel_steps.specs.Derivation.{is_clause_step, ComesBy, IsDerivation, IsRefutation}
-use Rattle.ground_loop.specs.Resolution.{LiteralSet, has_literal, same_set, atom_literal, can_resolve, resolvent}
-use Rattle.ground_loop.specs.Entries.{atom_at, coded_set, entry_set, ComesFrom, IsEntry, AreEntries}
+use Rattle.ground_loop.specs.Resolution.{LiteralSet, has_literal, atom_literal, can_resolve, resolvent}
+use Rattle.ground_loop.specs.Entries.{atom_at, coded_set, entry_set, ComesFrom, AreEntries}
 use Rattle.ground_loop.specs.Search.{ReachesEmpty}
 use Rattle.ground_loop.specs.declared.entry.Entry.{Entry}
 use Rattle.ground_loop.specs.declared.entry.Origin.{Origin}
 use Rattle.ground_loop.specs.declared.entry.Origin.TheVariants.{Clause, Resolvent}
-use Rattle.ground_loop.specs.Lines.{are_different, SameElements, form_has, line_literals, Continues, IsLastLine, IsSetLine, IsMerged, IsResolvent, IsOrigin, HasOrigins, is_marked, HasMarks, IsClosedUnder, IsClauseLine, IsLineOf, HasClauseLine, HasEntryLine, AddsClause, AddsClauses, HasOriginLines, AreGroundEntries, IsNext, AddsEntry, IsPrepared, AddsEntries}
+use Rattle.ground_loop.specs.Lines.{are_different, SameElements, form_has, line_literals, Continues, IsLastLine, IsSetLine, IsMerged, IsResolvent, IsOrigin, HasOrigins, is_marked, HasMarks, IsCone, IsClauseLine, IsLineOf, HasClauseLine, HasEntryLine, AddsClause, AddsClauses, HasOriginLines, AreGroundEntries, IsNext, AddsEntry, IsPrepared, EndsWith, AddsEntries}
 use Rattle.ground_loop.proofs.DeriveLemmas.{SameElements-from_same_set, has_literal-resolvent, resolvent-same, empty_set, member_holds, holds_of_members, size-of_form, size-of_clause, form_has-clause, no_names-of_form, atoms-of_form, no_variables-atoms}
-use Rattle.ground_loop.proofs.DeriveLines.{line_clause-end, Continues-none, Continues-then, Continues-push, Continues-keeps, IsLastLine-there}
+use Rattle.ground_loop.proofs.DeriveLines.{slice_get-end, line_clause-end, Continues-none, Continues-then, Continues-push, Continues-keeps, IsLastLine-there}
 
 same_some : {X : Type 0} {x y : X} → Some x ≡ Some y → x ≡ y
 same_some e = cc
@@ -165,14 +166,6 @@ origin_before form atoms entries n s (Resolvent first second atom) comes = (
 pub HasOrigins-from : (form : List TreeClause) (atoms : List Tree) (entries : List Entry) → AreEntries form atoms entries → HasOrigins form entries
 HasOrigins-from form atoms entries lawful = λ n e there. origin_before form atoms entries n (entry_set atoms e) e.origin (lawful n e there).comes
 
-pub AreEntries-take :
-    (form : List TreeClause) (atoms : List Tree) (entries : List Entry) (k : ℕ)
-    → AreEntries form atoms entries → AreEntries form atoms (take k entries)
-AreEntries-take form atoms entries k lawful = λ n e there.
-    let below : n < k = omega (arith, slice_get_within (take k entries) n e there, length-take-below k entries) in
-    let P : List Entry → Type 0 = λ earlier. IsEntry form atoms earlier e in
-    subst P (sym (take-take n k entries (omega arith))) (lawful n e (sym (slice_get-take k entries n below) ∙ there))
-
 -- ---- the lines of an entry
 
 -- an entry that is a clause of the form
@@ -223,10 +216,10 @@ ComesFromClause-from form atoms entries index lines clause_lines entry_lines num
 pub AddsEntry-from_clause :
     (form : List TreeClause) (atoms : List Tree) (entries : List Entry) (index : ℕ) (old : List Line) (numbers : List ℕ) (d : Entry) (n : ℕ)
     (new : List Line) (left : ℕ)
-    → index < length entries
+    → (get_or entries index d).origin ≡ Clause n
     → ComesFromClause form old numbers n (entry_set atoms (get_or entries index d)) → IsMerged old (slice_index numbers n) new left
     → AddsEntry form atoms entries index old new left
-AddsEntry-from_clause form atoms entries index old numbers d n new left within from merged = record {
+AddsEntry-from_clause form atoms entries index old numbers d n new left origin from merged = record {
   continues = merged.continues form;
   has_line = λ e there.
       let P : Entry → Type 0 = λ b. IsLineOf form new left (entry_set atoms b) in
@@ -239,8 +232,13 @@ AddsEntry-from_clause form atoms entries index old numbers d n new left within f
             (λ l has. form_has-clause form n from.clause l from.at_form (sym (as_clause l) ∙ has));
         same = λ l. as_clause l ∙ sym (from.same l);
       });
+  is_last = λ e first second atom there other.
+      absurd (no_clause first second atom n (sym other ∙ ap (λ b. b.origin) (sym (get_or_from_slice_get entries index e d there)) ∙ origin));
 }
   where
+    no_clause : (first second atom k : ℕ) → Resolvent first second atom ≡ Clause k → ⊥
+    no_clause first second atom k h = cc
+
     as_clause : (l : TreeLiteral) → has_literal l (line_literals new left) ≡ has_literal l from.clause.literals
     as_clause l = merged.same l ∙ ap (λ c. has_literal l c.literals) from.is
 
@@ -355,6 +353,7 @@ AddsEntry-from_two form atoms entries index old numbers d first second atom new 
       let P : Entry → Type 0 = λ b. IsLineOf form new number (entry_set atoms b) in
       subst P (get_or_from_slice_get entries index e d there)
       (IsLineOf-resolvent form atoms old numbers first second atom (entry_set atoms (get_or entries index d)) new number from made);
+  is_last = λ e k m a there origin. made.is_last;
 }
 
 -- ---- all entries
@@ -364,6 +363,10 @@ pub record EntriesSoFar (form : List TreeClause) (atoms : List Tree) (entries : 
   pub continues : Continues form old new
   pub counted : length numbers ≡ i
   pub has_lines : (n : ℕ) → n < i → is_marked marks n ≡ true → HasEntryLine form atoms entries new numbers n
+  pub last_line :
+      (n : ℕ) (e : Entry) (first second atom : ℕ)
+      → n + 1 ≡ i → slice_get entries n ≡ Some e → is_marked marks n ≡ true → e.origin ≡ Resolvent first second atom
+      → IsLastLine new (slice_index numbers n)
 
 pub EntriesSoFar-none :
     (form : List TreeClause) (atoms : List Tree) (entries : List Entry) (marks : List Bool) (lines : List Line) (numbers : List ℕ)
@@ -372,6 +375,7 @@ EntriesSoFar-none form atoms entries marks lines numbers none = record {
   continues = Continues-none form lines;
   counted = ap length none;
   has_lines = λ n h marked. absurd (omega arith);
+  last_line = λ n e first second atom h there marked origin. absurd (omega arith);
 }
 
 kept_entry_lines :
@@ -397,6 +401,9 @@ EntriesSoFar-passed form atoms entries marks old new numbers more number i so_fa
         | inr other ↦
             kept_entry_lines form atoms entries marks old new new numbers number i so_far (Continues-none form new) n (omega arith) marked
       ];
+      last_line = λ n e first second atom h there marked origin.
+          let here : n ≡ i = omega arith in
+          absurd (true≢false (sym marked ∙ ap (is_marked marks) here ∙ free));
     })
 
 pub EntriesSoFar-pushed :
@@ -419,15 +426,25 @@ EntriesSoFar-pushed form atoms entries marks old mid new numbers more number i s
         | inr other ↦
             kept_entry_lines form atoms entries marks old mid new numbers number i so_far added.continues n (omega arith) marked
       ];
+      last_line = λ n e first second atom h there marked origin.
+          let here : n ≡ i = omega arith in
+          let R : ℕ → Type 0 = λ k. IsLastLine new k in
+          subst R (sym (ap (slice_index (numbers ++ number ∷ [])) here ∙ get_or_push numbers number 0 i so_far.counted))
+          (added.is_last e first second atom (ap (slice_get entries) (sym here) ∙ there) origin);
     })
 
 pub EntriesSoFar-all :
     (form : List TreeClause) (atoms : List Tree) (entries : List Entry) (marks : List Bool) (old new : List Line) (numbers : List ℕ) (i : ℕ)
-    → EntriesSoFar form atoms entries marks old new numbers i → i ≡ length entries → AddsEntries form atoms entries marks old new numbers
+    → EntriesSoFar form atoms entries marks old new numbers i → i ≡ length entries → AddsEntries form atoms entries marks old new
 EntriesSoFar-all form atoms entries marks old new numbers i so_far ended = record {
   continues = so_far.continues;
-  counted = so_far.counted ∙ ended;
-  has_lines = λ n marked e there. so_far.has_lines n (omega (arith, slice_get_within entries n e there)) marked e there;
+  ends = λ e first second atom there marked origin.
+      let within : length entries - 1 < length entries = slice_get_within entries (length entries - 1) e there in
+      record {
+        number = slice_index numbers (length entries - 1);
+        is_last = so_far.last_line (length entries - 1) e first second atom (omega arith) there marked origin;
+        is_line = so_far.has_lines (length entries - 1) (omega arith) marked e there;
+      };
 }
 
 -- a marked origin has its lines
@@ -458,3 +475,113 @@ IsNext-from form atoms entries entry_marks clause_marks old lines clause_lines n
       (λ n is. HasClauseLine-keeps form old lines clause_lines n so_far.continues (prepared.has_lines n is))
       so_far.has_lines (HasOrigins-from form atoms entries lawful i e there) (prepared.is_closed i e there marked);
 }
+
+-- ---- the whole
+
+pub IsDerivation-none : (form : List TreeClause) → IsDerivation form []
+IsDerivation-none form n line h = cc
+
+-- a derivation whose last line is a clause line and empty is a refutation
+pub IsRefutation-from :
+    (form : List TreeClause) (lines : List Line) (number : ℕ)
+    → IsDerivation form lines → IsLastLine lines number → line_clause lines number ≡ empty_clause → IsRefutation form lines
+IsRefutation-from form lines number derived last empty = record {
+  derived = derived;
+  before = last.before;
+  last = last.line;
+  ends = last.ends;
+  is_clause = last.is_clause;
+  is_empty =
+      sym (line_clause-end last.before last.line [])
+      ∙ ap₂ line_clause (sym last.ends) (sym last.counted)
+      ∙ empty;
+}
+
+-- the last entry stands at the end, and its set is empty
+pub last_there : (entries before : List Entry) (last : Entry) → entries ≡ before ++ last ∷ [] → slice_get entries (length entries - 1) ≡ Some last
+last_there entries before last ends =
+    let place : length entries - 1 ≡ length before = omega (arith, ap length ends, length-append before (last ∷ [])) in
+    ap₂ slice_get ends place ∙ slice_get-end before last []
+
+pub entries_there : (entries before : List Entry) (last : Entry) → entries ≡ before ++ last ∷ [] → 0 < length entries
+entries_there entries before last ends = omega (arith, ap length ends, length-append before (last ∷ []))
+
+-- the last entry as it is read
+pub last_is :
+    (form : List TreeClause) (atoms : List Tree) (entries : List Entry) (d : Entry) (reaches : ReachesEmpty form atoms entries)
+    → get_or entries (length entries - 1) d ≡ reaches.last
+last_is form atoms entries d reaches =
+    get_or_from_slice_get entries (length entries - 1) reaches.last d (last_there entries reaches.before reaches.last reaches.ends)
+
+pub last_empty :
+    (form : List TreeClause) (atoms : List Tree) (entries : List Entry) (d : Entry) (reaches : ReachesEmpty form atoms entries)
+    → entry_set atoms (get_or entries (length entries - 1) d) ≡ []
+last_empty form atoms entries d reaches =
+    ap (entry_set atoms) (last_is form atoms entries d reaches) ∙ ap (coded_set atoms) reaches.is_empty
+
+pub clause_parts : (c : TreeClause) → c.literals ≡ [] → c.names ≡ [] → c ≡ empty_clause
+clause_parts c none no_names =
+    let F : List TreeLiteral → List NameLit → TreeClause = λ ls ns. record { literals = ls; names = ns } in
+    ap (λ ls. F ls c.names) none ∙ ap (F []) no_names
+
+-- the last entry is a clause of the form: it is there, and empty
+pub record IsEmptyClause (form : List TreeClause) (n : ℕ) : Type 0 where
+  pub in_form : n < length form
+  pub is_empty : slice_get form n ≡ Some empty_clause
+
+pub IsEmptyClause-from :
+    (form : List TreeClause) (atoms : List Tree) (entries : List Entry) (d : Entry) (n : ℕ)
+    → IsGroundForm form → ReachesEmpty form atoms entries
+    → (get_or entries (length entries - 1) d).origin ≡ Clause n
+    → IsEmptyClause form n
+IsEmptyClause-from form atoms entries d n ground reaches origin =
+    let last : ℕ = length entries - 1 in
+    let e : Entry = get_or entries last d in
+    let within : last < length entries = omega (arith, entries_there entries reaches.before reaches.last reaches.ends) in
+    let P : Origin → Type 0 = λ o. ComesFrom form atoms (take last entries) (entry_set atoms e) o in
+    let comes = subst P origin (reaches.are_entries last e (slice_get-get_or entries last d within)).comes in
+    let c : TreeClause = comes.0 in
+    let none : c.literals ≡ [] =
+    empty_set c.literals
+    (λ l. sym (SameElements-from_same_set (entry_set atoms e) c.literals comes.2 l)
+    ∙ ap (has_literal l) (last_empty form atoms entries d reaches)) in
+    let no_names : c.names ≡ [] = no_names-of_form form n c ground comes.1 in
+    record {
+      in_form = slice_get_within form n c comes.1;
+      is_empty = comes.1 ∙ ap (λ b. Some b) (clause_parts c none no_names);
+    }
+
+pub IsRefutation-from_clause :
+    (form : List TreeClause) (n : ℕ) (lines : List Line) → IsEmptyClause form n → AddsClause form n [] lines → IsRefutation form lines
+IsRefutation-from_clause form n lines empty added =
+    IsRefutation-from form lines 0 (added.continues.derived (IsDerivation-none form)) added.is_last (added.has_clause empty_clause empty.is_empty)
+
+-- the last entry is the resolvent of two others
+pub IsPrepared-from :
+    (form : List TreeClause) (entries : List Entry) (entry_marks clause_marks : List Bool) (old lines : List Line) (numbers : List ℕ)
+    → IsCone form entries entry_marks clause_marks → AddsClauses form clause_marks old lines numbers
+    → IsPrepared form entries entry_marks clause_marks lines numbers
+IsPrepared-from form entries entry_marks clause_marks old lines numbers cone added = record {
+  entries_counted = cone.entries_counted;
+  is_closed = cone.is_closed;
+  clauses_counted = added.counted;
+  has_lines = added.has_lines;
+}
+
+pub IsRefutation-from_two :
+    (form : List TreeClause) (atoms : List Tree) (entries : List Entry) (d : Entry) (first second atom : ℕ) (entry_marks clause_marks : List Bool)
+    (mid lines : List Line) (clause_lines : List ℕ)
+    → ReachesEmpty form atoms entries → (get_or entries (length entries - 1) d).origin ≡ Resolvent first second atom
+    → IsCone form entries entry_marks clause_marks → AddsClauses form clause_marks [] mid clause_lines
+    → AddsEntries form atoms entries entry_marks mid lines
+    → IsRefutation form lines
+IsRefutation-from_two form atoms entries d first second atom entry_marks clause_marks mid lines clause_lines reaches origin cone clauses added =
+    let within : length entries - 1 < length entries = omega (arith, entries_there entries reaches.before reaches.last reaches.ends) in
+    let ends : EndsWith form lines (entry_set atoms (get_or entries (length entries - 1) d)) =
+    added.ends (get_or entries (length entries - 1) d) first second atom (slice_get-get_or entries (length entries - 1) d within) cone.has_last origin in
+    IsRefutation-from form lines ends.number
+    (added.continues.derived (clauses.continues.derived (IsDerivation-none form)))
+    ends.is_last
+    (clause_parts (line_clause lines ends.number)
+    (empty_set (line_literals lines ends.number) (λ l. ends.is_line.same l ∙ ap (has_literal l) (last_empty form atoms entries d reaches)))
+    ends.is_line.no_names)

@@ -1,14 +1,14 @@
 -- Facts about sets of literals as lists, for the lines of a derivation.
 use mathlib.Core.Bool.{beq}
-use Rattle.std.proofs.Common.{◌≡◌, ℕ, zero, suc, ◌+◌, ◌<◌, ◌≤◌, Bool, true, false, not, cond, ◌&&◌, ◌||◌, List, [], ◌∷◌, ◌++◌, length, get_or, take, drop, set, refl, ap, sym, ◌∙◌, subst, arith, inl, inr, true≢false, Option, Some, None, eqb}
-use Rattle.std.specs.Prelude.{All, slice_get, slice_set, remove, sum_by, IsTrue, IsFalse}
-use Rattle.std.specs.List.{list_any, list_all, flat_map}
+use Rattle.std.proofs.Common.{◌≡◌, ℕ, zero, suc, ◌+◌, ◌<◌, ◌≤◌, Bool, true, false, not, cond, ◌&&◌, ◌||◌, List, [], ◌∷◌, ◌++◌, refl, ap, sym, ◌∙◌, arith, inl, inr, true≢false, Some, eqb}
+use Rattle.std.specs.Prelude.{slice_get, slice_set, remove, sum_by}
+use Rattle.std.specs.List.{list_all, flat_map}
 use Rattle.std.proofs.lemmas.Bool.{cases_Bool, or_cases, or_left, or_right, or_from, and_parts, and_from, not-true}
 use Rattle.std.proofs.lemmas.List.Folds.{list_any-append}
 use Rattle.std.proofs.lemmas.List.Elements.{All-head, All-tail}
 use Rattle.std.proofs.lemmas.Grind.{flat_map-append}
 use Rattle.std.proofs.lemmas.List.Sums.{sum_by-cons, sum_by-append}
-use Rattle.fol_base.specs.Tree.{Tree, variable, application, Trees, no_trees, tree_then, tree_eq, trees_eq, tree_size, tree_variables, trees_variables}
+use Rattle.fol_base.specs.Tree.{Tree, variable, application, Trees, no_trees, tree_then, tree_eq, trees_eq, tree_variables, trees_variables}
 use Rattle.fol_base.specs.Clause.{TreeLiteral, TreeClause, literal_eq, literal_size, clause_size, literal_variables}
 use Rattle.fol_base.specs.Ground.{is_ground, are_ground}
 use Rattle.fol_base.specs.GroundForm.{is_ground_atom, is_atom_literal, IsGroundClause, IsGroundForm, form_size}
@@ -210,6 +210,7 @@ has_literal-remove_different (m ∷ ms) zero k l different h =
     and_no : (b : Bool) → (b && false) ≡ false
     and_no true = refl
     and_no false = refl
+
     and_yes : (b : Bool) → (b && true) ≡ b
     and_yes true = refl
     and_yes false = refl

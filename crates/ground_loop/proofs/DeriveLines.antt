@@ -1,30 +1,17 @@
 -- Facts about lines and steps, for the derivation.
-use Rattle.std.proofs.Common.{◌≡◌, ℕ, zero, suc, ◌+◌, ◌-◌, ◌^◌, ◌<◌, ◌≤◌, min, Bool, true, false, not, ◌&&◌, ◌||◌, ◌==◌, List, [], ◌∷◌, ◌++◌, length, map, take, drop, refl, ap, ap₂, sym, ◌∙◌, subst, arith, inl, inr, Option, Some, None}
-use Rattle.std.specs.Prelude.{slice_get, slice_set, remove, sum_by, option_map, option_and_then, if◌then◌else◌, IsTrue, IsFalse}
-use Rattle.std.specs.List.{list_all, flat_map}
-use Rattle.std.proofs.lemmas.Bool.{cases_lt, cases_eq, le-leb, ne_eqb, and_parts, and_from, or_left}
-use Rattle.std.proofs.lemmas.List.{append_assoc, append-nil, take-append-le, take_at, length-append, length-take-le, length-set, take_more}
-use Rattle.std.proofs.lemmas.List.Edits.{length-remove}
-use Rattle.std.proofs.lemmas.List.Sums.{sum_by-append}
-use Rattle.std.proofs.lemmas.Option.{slice_get_past, slice_get_within, slice_get-get_or}
-use Rattle.fol_base.specs.Tree.{Tree, tree_eq, tree_size}
-use Rattle.fol_base.specs.Clause.{TreeLiteral, TreeClause, literal_size, clause_size, literal_variables, clause_variables}
+use Rattle.std.proofs.Common.{◌≡◌, ℕ, zero, suc, ◌<◌, true, List, [], ◌∷◌, ◌++◌, length, refl, ap, ap₂, sym, ◌∙◌, subst, arith, inl, inr, Some}
+use Rattle.std.specs.Prelude.{slice_get}
+use Rattle.std.proofs.lemmas.Bool.{cases_lt}
+use Rattle.std.proofs.lemmas.List.{append_assoc, append-nil, take-append-le, take_at, length-append}
+use Rattle.std.proofs.lemmas.Option.{slice_get_within}
+use Rattle.fol_base.specs.Clause.{TreeClause}
 use Rattle.fol_base.specs.Literal.{clause_of}
-use Rattle.fol_base.specs.GroundForm.{is_atom_literal, IsGroundForm, form_size}
-use Rattle.fol_base.specs.Interpretation.{true_tree}
-use Rattle.fol_base.specs.Order.{equivalent_literals}
-use Rattle.fol_base.specs.declared.clause.Side.TheVariants.{Left}
-use Rattle.fol_base.proofs.TreeLemmas.{tree_eq-refl, tree_size-positive}
 use Rattle.kernel_steps.specs.declared.step.Step.{Step}
 use Rattle.kernel_steps.specs.declared.step.Step.TheVariants.{Input, Negate, Clausify, Para, Refl, Factor, Merge, Component, Split, Chain}
 use Rattle.kernel_steps.specs.declared.step.Line.{Line}
-use Rattle.kernel_steps.specs.Rules.{para_literals, refl_literals, merge_literals}
-use Rattle.kernel_steps.specs.Conclusion.{Verdict, verdict, verdict_of, verdict_if, concludes, binds, bound_literals, line_clause, IsGroundLine, HasGroundParents}
+use Rattle.kernel_steps.specs.Conclusion.{verdict, concludes, line_clause, HasGroundParents}
 use Rattle.kernel_steps.specs.Derivation.{is_clause_step, ComesBy, IsDerivation}
-use Rattle.kernel_steps.proofs.KernelLemmas.{binds-ground, bound_literals-ground}
-use Rattle.ground_loop.specs.Resolution.{LiteralSet, has_literal, atom_literal, can_resolve, resolvent}
-use Rattle.ground_loop.specs.Lines.{are_different, SameElements, IsRepeat, IsNew, line_literals, Continues, IsLastLine, AddsLine, IsSetLine, IsMerged, IsResolved, IsResolvent}
-use Rattle.ground_loop.proofs.DeriveLemmas.{has_literal-append, has_literal-resolvent, has_literal-at, has_literal-remove_repeat, has_literal-remove_different, are_different-push, size-remove, size-set, no_variables-atoms, no_variables-remove, no_variables-set, no_variables-append, IsAtom, atom_sides, member_holds}
+use Rattle.ground_loop.specs.Lines.{Continues, IsLastLine, AddsLine}
 
 -- ---- lists
 
@@ -33,7 +20,7 @@ slice_get-append [] ys n h = absurd (omega arith)
 slice_get-append (x ∷ xs) ys zero h = refl
 slice_get-append (x ∷ xs) ys (suc n) h = slice_get-append xs ys n (omega arith)
 
-slice_get-end : {X : Type 0} (xs : List X) (x : X) (ys : List X) → slice_get (xs ++ x ∷ ys) (length xs) ≡ Some x
+pub slice_get-end : {X : Type 0} (xs : List X) (x : X) (ys : List X) → slice_get (xs ++ x ∷ ys) (length xs) ≡ Some x
 slice_get-end [] x ys = refl
 slice_get-end (y ∷ xs) x ys = slice_get-end xs x ys
 

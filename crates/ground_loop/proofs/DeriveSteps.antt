@@ -1,16 +1,16 @@
 -- What the steps of merging and resolution conclude from lines that are sets, for the derivation.
 use mathlib.Core.Bool.{beq}
-use Rattle.std.proofs.Common.{◌≡◌, ℕ, zero, suc, ◌+◌, ◌-◌, ◌^◌, ◌<◌, ◌≤◌, min, Bool, true, false, not, ◌&&◌, ◌||◌, ◌==◌, List, [], ◌∷◌, ◌++◌, length, map, take, drop, get_or, refl, ap, ap₂, sym, ◌∙◌, subst, arith, Option, Some, None}
-use Rattle.std.specs.Prelude.{slice_get, slice_set, remove, sum_by, option_map, option_and_then, if◌then◌else◌, IsTrue, IsFalse}
-use Rattle.std.specs.List.{list_all, flat_map}
-use Rattle.std.proofs.lemmas.Bool.{le-leb, ne_eqb, and_parts, and_from, or_left}
+use Rattle.std.proofs.Common.{◌≡◌, ℕ, zero, suc, ◌+◌, ◌-◌, ◌^◌, ◌<◌, ◌≤◌, min, Bool, true, false, not, ◌&&◌, ◌||◌, List, [], ◌∷◌, ◌++◌, length, take, drop, get_or, refl, ap, sym, ◌∙◌, arith, Some, None}
+use Rattle.std.specs.Prelude.{slice_get, slice_set, remove, option_map, option_and_then, if◌then◌else◌}
+use Rattle.std.specs.List.{list_all}
+use Rattle.std.proofs.lemmas.Bool.{le-leb, ne_eqb, and_from, or_left}
 use Rattle.std.proofs.lemmas.List.{length-set, take_all, take_at, length-take-le, take_more}
 use Rattle.std.proofs.lemmas.List.Edits.{length-remove, remove-append_left}
 use Rattle.std.proofs.lemmas.List.Sums.{sum_by-append}
 use Rattle.std.proofs.lemmas.List.Folds.{list_any_more}
 use Rattle.std.proofs.lemmas.Option.{slice_get_within, slice_get-get_or, get_or_from_slice_get}
-use Rattle.fol_base.specs.Tree.{Tree, tree_eq, tree_size}
-use Rattle.fol_base.specs.Clause.{TreeLiteral, TreeClause, literal_eq, literal_size, clause_size, literal_variables, clause_variables}
+use Rattle.fol_base.specs.Tree.{Tree, tree_eq}
+use Rattle.fol_base.specs.Clause.{TreeLiteral, TreeClause, literal_eq, literal_size, clause_size, clause_variables}
 use Rattle.fol_base.specs.GroundForm.{is_atom_literal}
 use Rattle.fol_base.specs.Interpretation.{true_tree}
 use Rattle.fol_base.specs.Order.{equivalent_literals}
@@ -21,9 +21,9 @@ use Rattle.kernel_steps.specs.declared.step.Line.{Line}
 use Rattle.kernel_steps.specs.Rules.{is_truth, superposed, para_literals, refl_literals, merge_literals}
 use Rattle.kernel_steps.specs.Conclusion.{Verdict, verdict, verdict_of, verdict_if, concludes, binds, bound_literals, line_clause, IsGroundLine}
 use Rattle.kernel_steps.proofs.KernelLemmas.{binds-ground, bound_literals-ground}
-use Rattle.ground_loop.specs.Resolution.{LiteralSet, has_literal, atom_literal, can_resolve, resolvent}
+use Rattle.ground_loop.specs.Resolution.{LiteralSet, has_literal, atom_literal}
 use Rattle.ground_loop.specs.Lines.{are_different, SameElements, IsRepeat, IsNew, line_literals, Continues, IsLastLine, AddsLine, IsSetLine, IsMerged, IsResolved, IsResolvent}
-use Rattle.ground_loop.proofs.DeriveLemmas.{beq-refl, literal_eq-true, literal_eq-sym, has_literal-append, has_literal-resolvent, has_literal-at, has_literal-remove_repeat, has_literal-remove_different, are_different-push, size-remove, size-set, no_variables-atoms, no_variables-remove, no_variables-set, no_variables-append, IsAtom, atom_sides, member_holds}
+use Rattle.ground_loop.proofs.DeriveLemmas.{beq-refl, literal_eq-true, literal_eq-sym, has_literal-append, has_literal-resolvent, has_literal-at, has_literal-remove_repeat, has_literal-remove_different, are_different-push, size-remove, size-set, no_variables-atoms, no_variables-remove, no_variables-set, no_variables-append, atom_sides, member_holds}
 use Rattle.ground_loop.proofs.DeriveLines.{slice_get-append, Continues-none, Continues-then, IsLastLine-there}
 
 -- the clause of literals alone
@@ -259,15 +259,22 @@ IsSuperposed-from lines first second i j t place bind bind_too new number pair r
       is_ground = (
         IsLastLine-there new number added.is_last,
         ap clause_variables is
-        ∙ no_variables-append (slice_set ks j trivial) (remove ls i)
-        (no_variables-set ks j trivial (no_variables-atoms ks pair.second_set.of_atoms) refl)
-        (no_variables-remove ls i (atom_literal true t) pair.at_first (no_variables-atoms ls pair.first_set.of_atoms)),
+            ∙ no_variables-append (slice_set ks j trivial) (remove ls i)
+            (no_variables-set ks j trivial (no_variables-atoms ks pair.second_set.of_atoms) refl)
+            (no_variables-remove ls i (atom_literal true t) pair.at_first (no_variables-atoms ls pair.first_set.of_atoms)),
         ap (λ c. c.names) is,
       );
       small =
-          omega (arith, ap clause_size is, sum_by-append literal_size (slice_set ks j trivial) (remove ls i),
-          size-set ks j (atom_literal false t) trivial pair.at_second, size-remove ls i (atom_literal true t) pair.at_first,
-          tree_size-positive t, pair.first_set.small, pair.second_set.small);
+          omega (
+            arith,
+            ap clause_size is,
+            sum_by-append literal_size (slice_set ks j trivial) (remove ls i),
+            size-set ks j (atom_literal false t) trivial pair.at_second,
+            size-remove ls i (atom_literal true t) pair.at_first,
+            tree_size-positive t,
+            pair.first_set.small,
+            pair.second_set.small,
+          );
     }
 
 refl_literals-trivial : (ls : LiteralSet) (j : ℕ) → slice_get ls j ≡ Some trivial → refl_literals ls j ≡ Some (remove ls j)
@@ -325,7 +332,7 @@ IsResolved-from lines first second i j t place bind bind_too bind_last mid numbe
       is_ground = (
         IsLastLine-there new last then_added.is_last,
         ap clause_variables is
-        ∙ no_variables-remove made j trivial there (ap clause_variables (sym superposed.is) ∙ superposed.is_ground.1),
+            ∙ no_variables-remove made j trivial there (ap clause_variables (sym superposed.is) ∙ superposed.is_ground.1),
         ap (λ c. c.names) is,
       );
       small = omega (arith, ap clause_size is, size-remove made j trivial there, ap clause_size superposed.is, superposed.small);

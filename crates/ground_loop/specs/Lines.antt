@@ -1,5 +1,5 @@
 -- Lines of a derivation as sets of literals, and how lines are added.
-use Rattle.std.specs.Prelude.{◌≡◌, ℕ, ◌+◌, ◌-◌, ◌<◌, ◌≤◌, Bool, true, false, not, ◌&&◌, List, [], ◌∷◌, ◌++◌, length, Some, slice_get, slice_set, slice_index, slice_index_or, take, IsTrue, IsFalse}
+use Rattle.std.specs.Prelude.{◌≡◌, ℕ, ◌-◌, ◌<◌, ◌≤◌, Bool, true, false, not, ◌&&◌, List, [], ◌∷◌, ◌++◌, length, Some, slice_get, slice_set, slice_index, slice_index_or, take, IsTrue, IsFalse}
 use Rattle.std.specs.List.{list_any, list_all}
 use Rattle.fol_base.specs.Tree.{Tree}
 use Rattle.fol_base.specs.Clause.{TreeLiteral, TreeClause, clause_size}
@@ -197,20 +197,31 @@ pub record IsNext (form : List TreeClause) (atoms : List Tree) (entries : List E
   pub has_origin :
       (e : Entry) → slice_get entries index ≡ Some e → HasOriginLines form atoms entries lines clause_lines entry_lines e.origin
 
--- the lines of an entry are added
+-- the lines of an entry are added, and that of a resolvent is the last
 pub record AddsEntry (form : List TreeClause) (atoms : List Tree) (entries : List Entry) (index : ℕ) (old new : List Line) (number : ℕ) : Type 0 where
   pub continues : Continues form old new
   pub has_line : (e : Entry) → slice_get entries index ≡ Some e → IsLineOf form new number (entry_set atoms e)
+  pub is_last :
+      (e : Entry) (first second atom : ℕ)
+      → slice_get entries index ≡ Some e → e.origin ≡ Resolvent first second atom → IsLastLine new number
 
 -- the marks of entries and clauses are closed, and the lines of the marked clauses are there
 pub record IsPrepared (form : List TreeClause) (entries : List Entry) (entry_marks clause_marks : List Bool) (lines : List Line) (clause_lines : List ℕ) : Type 0 where
-  pub entries_counted : length entries ≤ length entry_marks
+  pub entries_counted : length entry_marks ≡ length entries
   pub is_closed : IsClosedUnder entries entry_marks clause_marks
   pub clauses_counted : length clause_lines ≡ length form
   pub has_lines : (n : ℕ) → IsTrue (is_marked clause_marks n) → HasClauseLine form lines clause_lines n
 
--- the lines of the marked entries are added
-pub record AddsEntries (form : List TreeClause) (atoms : List Tree) (entries : List Entry) (marks : List Bool) (old new : List Line) (numbers : List ℕ) : Type 0 where
+-- the last line is that of a set
+pub record EndsWith (form : List TreeClause) (lines : List Line) (s : LiteralSet) : Type 0 where
+  pub number : ℕ
+  pub is_last : IsLastLine lines number
+  pub is_line : IsLineOf form lines number s
+
+-- the lines of the marked entries are added; where the last entry is one of them and a resolvent, its line is the last
+pub record AddsEntries (form : List TreeClause) (atoms : List Tree) (entries : List Entry) (marks : List Bool) (old new : List Line) : Type 0 where
   pub continues : Continues form old new
-  pub counted : length numbers ≡ length entries
-  pub has_lines : (n : ℕ) → IsTrue (is_marked marks n) → HasEntryLine form atoms entries new numbers n
+  pub ends :
+      (e : Entry) (first second atom : ℕ)
+      → slice_get entries (length entries - 1) ≡ Some e → IsTrue (is_marked marks (length entries - 1))
+      → e.origin ≡ Resolvent first second atom → EndsWith form new (entry_set atoms e)

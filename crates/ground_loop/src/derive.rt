@@ -29,18 +29,15 @@ pub fn derive(alloc: Global, form: &Clauses, atoms: &Terms, entries: &Entries) -
     let mut lines = Derivation::new(alloc);
     match entries[last].origin {
         Origin::Clause(number) => push_clause(alloc, form, number as usize, &mut lines)?,
-        Origin::Resolvent(first, second, atom) => {
+        Origin::Resolvent(..) => {
             let cone = cone_of_last(alloc, form, entries)?;
             let clause_lines = push_clauses(alloc, form, &cone, &mut lines)?;
             let source = Source {
                 form,
                 atoms,
-                entries: &entries[..last],
+                entries,
             };
-            let entry_lines = push_entries(alloc, source, &cone, &clause_lines, &mut lines)?;
-            let numbers = entry_lines.as_slice();
-            let atom = &atoms.as_slice()[atom as usize];
-            push_resolvent(alloc, &mut lines, numbers[first as usize], numbers[second as usize], atom)?;
+            push_entries(alloc, source, &cone, &clause_lines, &mut lines)?;
         }
     }
     Ok(lines)
@@ -65,12 +62,7 @@ fn push_clause(alloc: Global, form: &Clauses, number: usize, lines: &mut Derivat
 }
 
 /// Adds the lines of the clauses of a cone, and gives for each clause the number of its line where it has one.
-fn push_clauses(
-    alloc: Global,
-    form: &Clauses,
-    cone: &Cone,
-    lines: &mut Derivation,
-) -> Mem<Numbers>
+fn push_clauses(alloc: Global, form: &Clauses, cone: &Cone, lines: &mut Derivation) -> Mem<Numbers>
     requires { length cone.now.clauses.items ≡ length form.now }
     ensures { IfOk result (AddsClauses (map clause_of form.now) cone.now.clauses.items lines.old lines.new) }
 {
@@ -84,21 +76,22 @@ fn push_clauses(
     Ok(numbers)
 }
 
-/// Adds the lines of the entries of a cone, and gives for each entry the number of its line where it has one.
+/// Adds the lines of the entries of a cone, each after those that it comes from.
 fn push_entries(
     alloc: Global,
     source: Source<'_>,
     cone: &Cone,
     clause_lines: &Numbers,
     lines: &mut Derivation,
-) -> Mem<Numbers>
+) -> Mem<()>
     requires lawful { AreGroundEntries (map clause_of source.form.now) source.atoms.now source.entries.now }
     requires prepared { IsPrepared (map clause_of source.form.now) source.entries.now
         cone.now.entries.items cone.now.clauses.items lines.old clause_lines.now }
-    ensures { IfOk result
-        (AddsEntries (map clause_of source.entry.form.now) source.entry.atoms.now source.entry.entries.now
+    ensures { IfOk result (λ _.
+        AddsEntries (map clause_of source.entry.form.now) source.entry.atoms.now source.entry.entries.now
         cone.now.entries.items lines.old lines.new) }
 {
+    // The number of each entry's line, where it has one.
     let mut numbers = Numbers::new(alloc);
     for index in 0..source.entries.len() {
         let number = if cone.entries[index] {
@@ -108,7 +101,7 @@ fn push_entries(
         };
         numbers.push(number)?;
     }
-    Ok(numbers)
+    Ok(())
 }
 
 /// Adds the lines of an entry, and gives the number of the last.
@@ -134,89 +127,13 @@ fn push_entry(
         Origin::Resolvent(first, second, atom) => {
             let numbers = entry_lines.as_slice();
             let atom = &source.atoms.as_slice()[atom as usize];
-            push_resolvent(alloc, lines, numbers[first as usize], numbers[second as usize], atom)
+            push_resolvent(
+                alloc,
+                lines,
+                numbers[first as usize],
+                numbers[second as usize],
+                atom,
+            )
         }
-    }
-}
-
-#[cfg(test)]
-mod tests {
-    use super::*;
-    use crate::entry::Codes;
-    use fol_base::{Clause, Literal, Literals, Names, Term};
-    use std::test::Fail;
-
-    fn atom_literal(alloc: Global, positive: bool, symbol: u32) -> Literal {
-        Literal { positive, left: Term::App(symbol, Terms::new(alloc)), right: Term::App(0, Terms::new(alloc)) }
-    }
-
-    fn clause(alloc: Global, literals: &[i32]) -> Mem<Clause> {
-        let mut made = Literals::new(alloc);
-        for l in literals {
-            let symbol = l.unsigned_abs();
-            made.push(atom_literal(alloc, *l > 0, symbol))?;
-        }
-        Ok(Clause { literals: made, names: Names::new(alloc) })
-    }
-
-    fn print(rt: &impl Print, lines: &Derivation) -> std::io::Result<()> {
-        for (i, line) in lines.as_slice().iter().enumerate() {
-            print!(rt; "{i}: ")?;
-            match &line.step {
-                Step::Clausify(n) => print!(rt; "clausify {n}")?,
-                Step::Para(a, b, i, _, j, _, p, x, y) => print!(rt; "para {a} {b} {i} {j} {} {} {}", p.len(), x.len(), y.len())?,
-                Step::Refl(a, i, x) => print!(rt; "refl {a} {i} {}", x.len())?,
-                Step::Merge(a, i, j, x) => print!(rt; "merge {a} {i} {j} {}", x.len())?,
-                _ => print!(rt; "other")?,
-            }
-            for l in line.clause.literals.as_slice() {
-                let s = if l.positive { "" } else { "~" };
-                match &l.left {
-                    Term::App(f, _) => print!(rt; " {s}{f}")?,
-                    Term::Var(_) => print!(rt; " var")?,
-                }
-            }
-            println!(rt; "")?;
-        }
-        Ok(())
-    }
-
-    fn entry(alloc: Global, codes: &[u32], origin: Origin) -> Mem<Entry> {
-        Ok(Entry { codes: Codes::from_slice(alloc, codes)?, origin })
-    }
-
-    #[test]
-    fn tries(rt: HostRuntime) -> Result<(), Fail> {
-        let alloc = rt.alloc();
-        let mut atoms = Terms::new(alloc);
-        atoms.push(Term::App(1, Terms::new(alloc)))?;
-        atoms.push(Term::App(2, Terms::new(alloc)))?;
-        let mut form = Clauses::new(alloc);
-        form.push(clause(alloc, &[1])?)?;
-        form.push(clause(alloc, &[-1])?)?;
-        let mut entries = Entries::new(alloc);
-        entries.push(entry(alloc, &[0], Origin::Clause(0))?)?;
-        entries.push(entry(alloc, &[1], Origin::Clause(1))?)?;
-        entries.push(entry(alloc, &[], Origin::Resolvent(0, 1, 0))?)?;
-        let lines = derive(alloc, &form, &atoms, &entries)?;
-        print(&rt, &lines)?;
-        println!(rt; "")?;
-        let mut form = Clauses::new(alloc);
-        form.push(clause(alloc, &[1, 2, 1, 1])?)?;
-        form.push(clause(alloc, &[-1, 2])?)?;
-        form.push(clause(alloc, &[1, -2])?)?;
-        form.push(clause(alloc, &[-1, -2, -2])?)?;
-        let mut entries = Entries::new(alloc);
-        entries.push(entry(alloc, &[0, 2], Origin::Clause(0))?)?;
-        entries.push(entry(alloc, &[1, 2], Origin::Clause(1))?)?;
-        entries.push(entry(alloc, &[0, 3], Origin::Clause(2))?)?;
-        entries.push(entry(alloc, &[1, 3], Origin::Clause(3))?)?;
-        entries.push(entry(alloc, &[2], Origin::Resolvent(0, 1, 0))?)?;
-        entries.push(entry(alloc, &[0], Origin::Resolvent(0, 2, 1))?)?;
-        entries.push(entry(alloc, &[3], Origin::Resolvent(2, 3, 0))?)?;
-        entries.push(entry(alloc, &[], Origin::Resolvent(4, 6, 1))?)?;
-        let lines = derive(alloc, &form, &atoms, &entries)?;
-        print(&rt, &lines)?;
-        Ok(())
     }
 }

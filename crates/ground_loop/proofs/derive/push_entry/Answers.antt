@@ -1,12 +1,10 @@
-use Rattle.std.proofs.Common.{◌≡◌, ◌<◌, ℕ, List, length, map, ap, sym, ◌∙◌, subst, arith}
+use Rattle.std.proofs.Common.{◌<◌, length, ap, ◌∙◌, subst, arith}
 use Rattle.std.specs.Prelude.{slice_index}
 use Rattle.std.proofs.lemmas.List.{length-map}
 use Rattle.fol_base.specs.Tree.{Tree}
 use Rattle.fol_base.specs.Term.{tree_of}
-use Rattle.fol_base.specs.Literal.{clause_of}
 use Rattle.kernel_steps.proofs.KernelLemmas.{IfOk-change}
 use Rattle.ground_loop.specs.Resolution.{can_resolve}
-use Rattle.ground_loop.specs.Entries.{atom_at}
 use Rattle.ground_loop.specs.Lines.{line_literals, IsResolvent}
 use Rattle.ground_loop.proofs.DeriveEntries.{ComesFromClause-from, ComesFromTwo-from, AddsEntry-from_clause, AddsEntry-from_two, atom_at-read}
 use Rattle.ground_loop.proofs.derive.push_entry.Goals as goal
@@ -27,7 +25,7 @@ pub returns-in-Clause : goal.returns-in-Clause
 returns-in-Clause c =
     IfOk-change c.push_merges.result _ _
     (λ left merged.
-    AddsEntry-from_clause _ _ _ _ _ _ _ _ _ left c.requires.is_next.within
+    AddsEntry-from_clause _ _ _ _ _ _ _ _ _ left c.in-Clause.is
     (ComesFromClause-from _ _ _ _ _ _ _ _ _ _ c.requires.lawful c.requires.is_next c.as_slice.ensures c.in-Clause.is) merged)
     c.push_merges.ensures
 

@@ -1,5 +1,4 @@
-use Rattle.std.proofs.Common.{◌≡◌, ◌<◌, false, Some, map, length, ap, sym, ◌∙◌, arith}
-use Rattle.std.specs.Prelude.{slice_get}
+use Rattle.std.proofs.Common.{◌≡◌, ◌<◌, Some, map, length, ap, sym, ◌∙◌, arith}
 use Rattle.std.proofs.lemmas.Bool.{or_from}
 use Rattle.fol_base.specs.Clause.{TreeLiteral, literal_eq}
 use Rattle.fol_base.specs.Literal.{literal_of}
@@ -11,11 +10,13 @@ use Rattle.ground_loop.proofs.derive.steps.earlier_same.Goals as goal
 pub returns-then-same_literal-clause-found : goal.returns-then-same_literal-clause-found
 returns-then-same_literal-clause-found c =
     let xs = c.args.literals.now in
-    let here : c.loop-earlier.earlier < length xs = omega arith in
-    (c.loop-earlier-test.true, literal_of c.index-literals-earlier.result,
-    slice_get-item literal_of xs c.loop-earlier.earlier _ here c.index-literals-earlier.is,
-    slice_get-item literal_of xs c.args.place _ c.requires c.index-literals-place.is
-    ∙ ap (λ l. Some l) (sym (literal_eq-true _ _ (sym c.if-same_literal.ensures))))
+    let here : c.loop-earlier.earlier < length xs = omega arith in (
+      c.loop-earlier-test.true,
+      literal_of c.index-literals-earlier.result,
+      slice_get-item literal_of xs c.loop-earlier.earlier _ here c.index-literals-earlier.is,
+      slice_get-item literal_of xs c.args.place _ c.requires c.index-literals-place.is
+          ∙ ap (λ l. Some l) (sym (literal_eq-true _ _ (sym c.if-same_literal.ensures))),
+    )
 
 pub loop-earlier-preserved : goal.loop-earlier-preserved
 loop-earlier-preserved c = λ (k : TreeLiteral) h.

@@ -5,7 +5,7 @@ use Rattle.fol_base.specs.Tree.{tree_eq}
 use Rattle.fol_base.specs.Literal.{literal_of}
 use Rattle.fol_base.specs.Term.{tree_of}
 use Rattle.kernel_steps.proofs.KernelLemmas.{slice_get-item}
-use Rattle.ground_loop.specs.Resolution.{atom_literal, has_literal}
+use Rattle.ground_loop.specs.Resolution.{atom_literal}
 use Rattle.ground_loop.proofs.DeriveSteps.{has_literal-take_more, atom_literal-is, atom_literal-differs}
 use Rattle.ground_loop.proofs.derive.steps.place_of.Goals as goal
 use Rattle.ground_loop.proofs.derive.steps.place_of.Goals.{else-literal-positive-via-then-literal-positive+else-same_term, else-literal-positive-via-else-literal-positive}

@@ -1,4 +1,4 @@
-use Rattle.std.proofs.Common.{◌<◌, length, map, ap, sym, subst, arith}
+use Rattle.std.proofs.Common.{◌<◌, length, ap, subst, arith}
 use Rattle.std.proofs.lemmas.List.{length-map}
 use Rattle.fol_base.specs.Literal.{literal_of}
 use Rattle.ground_loop.specs.Resolution.{LiteralSet}
@@ -18,9 +18,11 @@ loop-goes-preserved-in-None c =
 
 pub push_step-requires-clause-concludes : goal.push_step-requires-clause-concludes
 push_step-requires-clause-concludes c =
-    let P : LiteralSet → Type 0 = λ ls. IsRepeat ls c.loop-goes.goes c.in-Some.stays in
-    (_, merge_concludes c.loop-goes.lines c.loop-goes.left c.in-Some.stays c.loop-goes.goes _ c.loop-goes.invariant.is_ground c.loop-goes.invariant.small c.new.ensures
-    (subst P c.literals_at-in-loop-goes.ensures c.in-Some.ensures.found))
+    let P : LiteralSet → Type 0 = λ ls. IsRepeat ls c.loop-goes.goes c.in-Some.stays in (
+      _,
+      merge_concludes c.loop-goes.lines c.loop-goes.left c.in-Some.stays c.loop-goes.goes _ c.loop-goes.invariant.is_ground c.loop-goes.invariant.small c.new.ensures
+          (subst P c.literals_at-in-loop-goes.ensures c.in-Some.ensures.found),
+    )
 
 pub loop-goes-preserved : goal.loop-goes-preserved
 loop-goes-preserved c =

@@ -1,14 +1,8 @@
-use Rattle.std.proofs.Common.{◌≡◌, Bool, true, false, List, Some, map, ap, sym, ◌∙◌, subst}
-use Rattle.std.specs.Prelude.{slice_get, IsTrue}
-use Rattle.std.specs.List.{list_all}
-use Rattle.std.proofs.lemmas.Bool.{and_parts}
-use Rattle.fol_base.specs.Literal.{literal_of}
+use Rattle.std.proofs.Common.{ap, sym, ◌∙◌}
+use Rattle.std.specs.Prelude.{slice_get}
 use Rattle.fol_base.specs.Term.{tree_of}
-use Rattle.fol_base.specs.GroundForm.{is_atom_literal}
 use Rattle.kernel_steps.proofs.KernelLemmas.{IfOk-change}
-use Rattle.ground_loop.specs.Resolution.{LiteralSet, atom_literal, has_literal}
-use Rattle.ground_loop.specs.Lines.{line_literals}
-use Rattle.ground_loop.proofs.DeriveSteps.{IsPair, IsSetLine-ground, IsSuperposed, IsSuperposed-from, para_concludes, refl_concludes, IsResolved-from}
+use Rattle.ground_loop.proofs.DeriveSteps.{IsPair, IsSetLine-ground, IsSuperposed-from, para_concludes, refl_concludes, IsResolved-from}
 use Rattle.ground_loop.proofs.derive.steps.push_resolution.Goals as goal
 
 pub push_step-requires-clause-parents : goal.push_step-requires-clause-parents
@@ -46,10 +40,12 @@ push_step-requires-2-clause-concludes c =
       second_set = c.requires.second;
       at_first = ap (λ ls. slice_get ls c.place_of-from.result) (sym c.literals_at.ensures) ∙ c.place_of-from.ensures;
       at_second = ap (λ ls. slice_get ls c.place_of-into.result) (sym c.literals_at-2.ensures) ∙ c.place_of-into.ensures;
-    } in
-    (_, refl_concludes c.args.lines.now c.args.first c.args.second c.place_of-from.result c.place_of-into.result t _ _ _ pair
-    (IsSuperposed-from c.args.lines.now c.args.first c.args.second c.place_of-from.result c.place_of-into.result t _ _ _ _ _ pair
-    c.new.ensures c.new-2.ensures c.new-3.ensures c.in_ok-superposed.ensures) c.new-4.ensures)
+    } in (
+      _,
+      refl_concludes c.args.lines.now c.args.first c.args.second c.place_of-from.result c.place_of-into.result t _ _ _ pair
+          (IsSuperposed-from c.args.lines.now c.args.first c.args.second c.place_of-from.result c.place_of-into.result t _ _ _ _ _ pair
+          c.new.ensures c.new-2.ensures c.new-3.ensures c.in_ok-superposed.ensures) c.new-4.ensures,
+    )
 
 pub returns : goal.returns
 returns c =
