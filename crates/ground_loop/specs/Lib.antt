@@ -3,3 +3,4 @@ pub mod Entries
 pub mod Answer
 pub mod Search
 pub mod Inputs
+pub mod Lines

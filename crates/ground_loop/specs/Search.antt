@@ -2,6 +2,8 @@
 use Rattle.std.specs.Prelude.{◌≡◌, ℕ, ◌∷◌, List, [], ◌++◌, AllPairs, IsFalse}
 use Rattle.fol_base.specs.Tree.{Tree, tree_eq}
 use Rattle.fol_base.specs.Clause.{TreeClause}
+use Rattle.kernel_steps.specs.Derivation.{IsRefutation, AreClauseLines}
+use Rattle.kernel_steps.specs.declared.step.Line.{Line}
 use Rattle.ground_loop.specs.Entries.{AreEntries}
 use Rattle.ground_loop.specs.Answer.{HasClosedSets, HasTriples}
 use Rattle.ground_loop.specs.declared.entry.Entry.{Entry}
@@ -21,3 +23,8 @@ abbrev pub IsFound : List TreeClause → ℕ → Found → Type 0
 IsFound form limit (Empty atoms entries) = ReachesEmpty form atoms entries
 IsFound form limit Closed = HasClosedSets form
 IsFound form limit (Spent count) = (count ≡ limit) × HasTriples form count
+
+-- a refutation of lines of clauses alone
+pub record IsClauseRefutation (form : List TreeClause) (lines : List Line) : Type 0 where
+  pub refutes : IsRefutation form lines
+  pub clause_lines : AreClauseLines lines

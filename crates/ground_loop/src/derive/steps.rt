@@ -1,0 +1,145 @@
+// Lines by steps of the kernel.
+
+ghost use Rattle.std.specs.Prelude.{◌≡◌, ◌<◌, ◌≤◌, List, map, length, take, Some, slice_get, IfOk, IfSome, IfNone, IsTrue, true, false};
+ghost use Rattle.std.specs.List.{list_all};
+ghost use Rattle.fol_base.specs.Term.{tree_of};
+ghost use Rattle.fol_base.specs.Clause.{clause_size};
+ghost use Rattle.fol_base.specs.Literal.{literal_of};
+ghost use Rattle.fol_base.specs.GroundForm.{is_atom_literal};
+ghost use Rattle.kernel_steps.specs.Conclusion.{verdict, line_clause, IsGroundLine, HasGroundParents};
+ghost use Rattle.ground_loop.specs.Resolution.{atom_literal, has_literal, can_resolve};
+ghost use Rattle.ground_loop.specs.Lines.{IsRepeat, IsNew, line_literals, Concludes, AddsLine, IsSetLine, IsMerged, IsResolved, IsResolvent};
+
+use fol_base::{Literal, Mem, NoMemory, Position, Side, Term, Terms, same_literal, same_term};
+use kernel_steps::{Derivation, Line, Step, StepFault, conclusion};
+use std::alloc::Global;
+
+/// Adds the lines of the resolvent of two lines without repeats, the first with the atom and the second with its
+/// negation, and gives the number of the last: superposition at the atom, the resolution of what it leaves there,
+/// and merges.
+pub fn push_resolvent(
+    alloc: Global,
+    lines: &mut Derivation,
+    first: u64,
+    second: u64,
+    atom: &Term,
+) -> Mem<u64>
+    requires first { IsSetLine lines.old first }
+    requires second { IsSetLine lines.old second }
+    requires resolves { IsTrue (can_resolve (tree_of atom.now) (line_literals lines.old first) (line_literals lines.old second)) }
+    ensures { IfOk result (IsResolvent lines.old first second (tree_of atom.now) lines.new) }
+{
+    let resolved = push_resolution(alloc, lines, first, second, atom)?;
+    push_merges(alloc, lines, resolved)
+}
+
+/// Adds the lines of superposition and resolution, and gives the number of the last.
+fn push_resolution(
+    alloc: Global,
+    lines: &mut Derivation,
+    first: u64,
+    second: u64,
+    atom: &Term,
+) -> Mem<u64>
+    requires first { IsSetLine lines.old first }
+    requires second { IsSetLine lines.old second }
+    requires resolves { IsTrue (can_resolve (tree_of atom.now) (line_literals lines.old first) (line_literals lines.old second)) }
+    ensures { IfOk result (IsResolved lines.old first second (tree_of atom.now) lines.new) }
+{
+    let from = place_of(literals_at(lines, first), true, atom) as u64;
+    let into = place_of(literals_at(lines, second), false, atom) as u64;
+    let superposed = push_step(
+        alloc,
+        lines,
+        Step::Para(
+            first,
+            second,
+            from,
+            Side::Left,
+            into,
+            Side::Left,
+            Position::new(alloc),
+            Terms::new(alloc),
+            Terms::new(alloc),
+        ),
+    )?;
+    push_step(
+        alloc,
+        lines,
+        Step::Refl(superposed, into, Terms::new(alloc)),
+    )
+}
+
+/// Adds merges of a line until no literal stands twice, and gives the number of the line that is left.
+pub fn push_merges(alloc: Global, lines: &mut Derivation, line: u64) -> Mem<u64>
+    requires is_ground { IsGroundLine lines.old line }
+    requires small { clause_size (line_clause lines.old line) ≤ 8000 }
+    ensures { IfOk result (IsMerged lines.old line lines.new) }
+{
+    let mut left = line;
+    let mut goes = 0;
+    while goes < literals_at(lines, left).len() {
+        match earlier_same(literals_at(lines, left), goes) {
+            None => goes += 1,
+            Some(stays) => {
+                let step = Step::Merge(left, stays as u64, goes as u64, Terms::new(alloc));
+                left = push_step(alloc, lines, step)?;
+            }
+        }
+    }
+    Ok(left)
+}
+
+/// Adds the line of a step that has a conclusion, and gives its number.
+fn push_step(alloc: Global, lines: &mut Derivation, step: Step) -> Mem<u64>
+    requires parents { HasGroundParents step lines.old }
+    requires concludes { Concludes (verdict step lines.old) }
+    ensures { IfOk result (AddsLine lines.old step lines.new) }
+{
+    let number = lines.len() as u64;
+    match conclusion(alloc, &step, lines) {
+        Ok(clause) => {
+            lines.push(Line { step, clause })?;
+            Ok(number)
+        }
+        Err(StepFault::NoMemory) => Err(NoMemory),
+        Err(_) => unreachable!(),
+    }
+}
+
+/// The literals of a line that is there.
+fn literals_at(lines: &Derivation, number: u64) -> &[Literal]
+    requires { number < length lines.now }
+    ensures { map literal_of result.now ≡ line_literals lines.entry.now number }
+{
+    lines.as_slice()[number as usize].clause.literals.as_slice()
+}
+
+/// The place of a literal that is there, among atoms and their negations.
+fn place_of(literals: &[Literal], positive: bool, atom: &Term) -> usize
+    requires of_atoms { IsTrue (list_all is_atom_literal (map literal_of literals.now)) }
+    requires there { IsTrue (has_literal (atom_literal positive (tree_of atom.now)) (map literal_of literals.now)) }
+    ensures { slice_get (map literal_of literals.now) result ≡ Some (atom_literal positive (tree_of atom.now)) }
+{
+    for place in 0..literals.len() {
+        let literal = &literals[place];
+        if literal.positive == positive && same_term(&literal.left, atom) {
+            return place;
+        }
+    }
+    unreachable!()
+}
+
+/// An earlier place of the literal at a place.
+fn earlier_same(literals: &[Literal], place: usize) -> Option<usize>
+    requires { place < length literals.now }
+    ensures found { IfSome result (IsRepeat (map literal_of literals.now) place) }
+    ensures none { IfNone result (IsNew (map literal_of literals.now) place) }
+{
+    for earlier in 0..place {
+        if same_literal(&literals[earlier], &literals[place]) {
+            return Some(earlier);
+        }
+    }
+    None
+}
