@@ -1,5 +1,5 @@
 -- What a run answers and prints, and why.
-use Rattle.std.specs.Prelude.{◌≡◌, ℕ, List, Option, None, Some, IfSome, IsSome, IsTrue}
+use Rattle.std.specs.Prelude.{◌≡◌, ℕ, ◌≤◌, length, List, Option, None, Some, IfSome, IsSome, IsTrue}
 use Rattle.fol_base.specs.Clause.{TreeClause}
 use Rattle.tptp_reader.specs.Syntax.{NamedFormula}
 use Rattle.tptp_reader.specs.GroundText.{IsGroundText, IsWithinLimits, IsReadAs}
@@ -71,9 +71,11 @@ pub record Outside : Type 0 where
   pub found_after : ℕ
   pub failed_after : Option (List ℕ)
 
--- The file was read: where the library tells, it has these bytes. Or it was too long, or the library failed on it.
+-- The file was read: where the library tells, it has these bytes, within the limit. Or it was too long, or the library failed on it.
 pub data IsDueFor (outside : Outside) (file : List ℕ) (status : ℕ) (text : List ℕ) : Type 0 where
-  read : (bytes : List ℕ) → HoldsExactly outside.told file bytes → IsDueOn bytes file status text → IsDueFor outside file status text
+  read :
+      (bytes : List ℕ) → HoldsExactly outside.told file bytes → length bytes ≤ most_file_bytes → IsDueOn bytes file status text
+      → IsDueFor outside file status text
   too_long :
       status ≡ 3 → FoundMore outside.told outside.found_after file most_file_bytes → text ≡ not_built_report file
       → IsDueFor outside file status text
