@@ -63,6 +63,11 @@ mutual
       let both = bound_of-append (tree_variables t) (trees_variables ts) in
       (VariablesBelow-bound n t (omega (arith, both)), AllVariablesBelow-bound n ts (omega (arith, both)))
 
+pub LiteralVariablesBelow-bound : (n : ℕ) (l : TreeLiteral) → bound_of (literal_variables l) ≤ n → LiteralVariablesBelow n l
+LiteralVariablesBelow-bound n l h =
+    let sides = bound_of-append (tree_variables l.left) (tree_variables l.right) in
+    (VariablesBelow-bound n l.left (omega (arith, sides)), VariablesBelow-bound n l.right (omega (arith, sides)))
+
 pub ClauseVariablesBelow-bound : (n : ℕ) (c : TreeClause) → bound_of (clause_variables c) ≤ n → ClauseVariablesBelow n c
 ClauseVariablesBelow-bound n c h = All-from_recursion (LiteralVariablesBelow n) c.literals (literals n c.literals h)
   where
@@ -71,7 +76,4 @@ ClauseVariablesBelow-bound n c h = All-from_recursion (LiteralVariablesBelow n) 
     literals n [] h = tt
     literals n (l ∷ ls) h =
         let whole = bound_of-append (literal_variables l) (flat_map literal_variables ls) in
-        let sides = bound_of-append (tree_variables l.left) (tree_variables l.right) in (
-          (VariablesBelow-bound n l.left (omega (arith, whole, sides)), VariablesBelow-bound n l.right (omega (arith, whole, sides))),
-          literals n ls (omega (arith, whole)),
-        )
+        (LiteralVariablesBelow-bound n l (omega (arith, whole)), literals n ls (omega (arith, whole)))

@@ -19,3 +19,5 @@ pub use substitution::{Subst, apply, apply_clause, apply_literal};
 pub use term::{Term, Terms};
 
 pub mod laws;
+#[cfg(test)]
+mod tests;
