@@ -5,18 +5,53 @@ ghost use Rattle.fol_base.specs.GroundForm.{IsGroundForm, form_size};
 ghost use Rattle.fol_base.specs.Literal.{clause_of};
 ghost use Rattle.ground_loop.specs.Search.{IsFound};
 
-use crate::entry::Found;
-use fol_base::{Clauses, Mem, NoMemory};
+mod atoms;
+mod codes;
+mod saturation;
+
+use crate::entry::{Found, Origin};
+use crate::search::atoms::Atoms;
+use crate::search::codes::clause_codes;
+use crate::search::saturation::{Progress, Saturation, Sets};
+use fol_base::{Clause, Clauses, Mem};
 use std::alloc::Global;
 
 /// Makes resolvents until one is empty, none is left to make, or `limit` inferences are counted.
-pub fn search(_alloc: Global, form: &Clauses, limit: u32) -> Mem<Found>
+pub fn search(alloc: Global, form: &Clauses, limit: u32) -> Mem<Found>
     requires ground { IsGroundForm (map clause_of form.now) }
     requires small { form_size (map clause_of form.now) ≤ 4000 }
     requires counted { 1 ≤ limit }
     ensures { IfOk result (IsFound (map clause_of form.now) limit) }
 {
-    let _ = form;
-    let _ = limit;
-    Err(NoMemory)
+    let mut atoms = Atoms::new(alloc);
+    let mut sets = Sets::new(alloc);
+    if add_clauses(alloc, &mut atoms, &mut sets, form.as_slice())? {
+        return Ok(Found::Empty(atoms.into_terms(), sets.into_entries()));
+    }
+    let mut saturation = Saturation::new(alloc, sets, atoms.len(), limit)?;
+    match saturation.run(alloc)? {
+        Progress::Empty => Ok(Found::Empty(
+            atoms.into_terms(),
+            saturation.into_sets().into_entries(),
+        )),
+        Progress::Spent => Ok(Found::Spent(limit)),
+        Progress::Open => Ok(Found::Closed),
+    }
 }
+
+/// Adds the sets of the clauses up to and with the first empty one, and says whether there is one.
+fn add_clauses(alloc: Global, atoms: &mut Atoms, sets: &mut Sets, clauses: &[Clause]) -> Mem<bool> {
+    for index in 0..clauses.len() {
+        let literals = clauses[index].literals.as_slice();
+        let codes = clause_codes(alloc, atoms, literals)?;
+        let is_empty = codes.is_empty();
+        sets.add(alloc, codes, Origin::Clause(index as u32))?;
+        if is_empty {
+            return Ok(true);
+        }
+    }
+    Ok(false)
+}
+
+#[cfg(test)]
+mod tests;
