@@ -6,13 +6,16 @@ ghost use Rattle.fol_base.specs.Literal.{clause_of};
 ghost use Rattle.ground_loop.specs.Search.{IsFound};
 
 mod atoms;
+mod clause;
 mod codes;
 mod saturation;
+mod sets;
 
 use crate::entry::{Found, Origin};
 use crate::search::atoms::Atoms;
-use crate::search::codes::clause_codes;
-use crate::search::saturation::{Progress, Saturation, Sets};
+use crate::search::clause::clause_codes;
+use crate::search::saturation::{Progress, Saturation};
+use crate::search::sets::Sets;
 use fol_base::{Clause, Clauses, Mem};
 use std::alloc::Global;
 
@@ -32,7 +35,7 @@ pub fn search(alloc: Global, form: &Clauses, limit: u32) -> Mem<Found>
     match saturation.run(alloc)? {
         Progress::Empty => Ok(Found::Empty(
             atoms.into_terms(),
-            saturation.into_sets().into_entries(),
+            saturation.sets.into_entries(),
         )),
         Progress::Spent => Ok(Found::Spent(limit)),
         Progress::Open => Ok(Found::Closed),

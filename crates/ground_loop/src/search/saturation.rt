@@ -1,13 +1,14 @@
 // The closure of sets of codes under resolution.
 
-ghost use Rattle.std.specs.Prelude.{◌≡◌, ◌*◌, ◌+◌, ◌<◌, ◌++◌, IfOk};
+ghost use Rattle.std.specs.Prelude.{◌≡◌, ℕ, ◌*◌, ◌+◌, ◌^◌, ◌<◌, [], length, IfOk};
+ghost use Rattle.ground_loop.specs.Sets.{codes_at, AreSets, IsBalanced};
+ghost use Rattle.ground_loop.specs.Saturation.{Meets, IsBetween, IsResolving, IsPopped, IsFinished, Resolves, Moves, Holds};
 
-use crate::entry::{Codes, Entries, Entry, Origin};
-use crate::search::codes::{is_tautology, resolvent_codes};
-use fol_base::{Mem, NoMemory};
+use crate::entry::{Codes, Origin};
+use crate::search::codes::resolvent_codes;
+use crate::search::sets::Sets;
+use fol_base::Mem;
 use std::alloc::Global;
-use std::cmp::Reverse;
-use std::collections::{BinaryHeap, HashSet};
 
 /// How far the search has come.
 #[derive(Clone, Copy, Debug, PartialEq, Eq)]
@@ -20,65 +21,10 @@ pub enum Progress {
     Open,
 }
 
-/// All sets found so far, and those of them that wait for being resolved.
-#[derive(Drop)]
-pub struct Sets {
-    entries: Vec<Entry>,
-    known: HashSet<Vec<u32>>,
-    /// The number of literals and the entry, lightest first.
-    waiting: BinaryHeap<Reverse<(usize, u32)>>,
-}
-
-impl Sets {
-    /// No sets.
-    pub fn new(alloc: Global) -> Sets {
-        Sets {
-            entries: Vec::new(alloc),
-            known: HashSet::new(alloc),
-            waiting: BinaryHeap::new(alloc),
-        }
-    }
-
-    /// The sets, in the order in which they were found.
-    pub fn into_entries(self) -> Entries {
-        Entries::from_vec(self.entries)
-    }
-
-    /// Adds a set, unless it is a tautology or stands there.
-    pub fn add(&mut self, alloc: Global, codes: Vec<u32>, origin: Origin) -> Mem<()> {
-        if is_tautology(codes.as_slice()) || self.known.contains(codes.as_slice()) {
-            return Ok(());
-        }
-        self.add_new(alloc, codes, origin)
-    }
-
-    /// Adds a set that doesn't stand there. More entries than numbers of entries count as want of memory.
-    fn add_new(&mut self, alloc: Global, codes: Vec<u32>, origin: Origin) -> Mem<()> {
-        let Ok(number) = u32::try_from(self.entries.len()) else {
-            return Err(NoMemory);
-        };
-        self.known.insert(Vec::from_slice(alloc, codes.as_slice())?)?;
-        self.waiting.push(Reverse((codes.len(), number)))?;
-        self.entries.push(Entry {
-            codes: Codes::from_vec(codes),
-            origin,
-        })?;
-        Ok(())
-    }
-
-    /// Takes out the lightest entry that waits.
-    fn next(&mut self) -> Option<u32> {
-        match self.waiting.pop() {
-            Some(Reverse((_, entry))) => Some(entry),
-            None => None,
-        }
-    }
-}
-
 /// The search after the clauses of the form.
 #[derive(Drop)]
 pub struct Saturation {
-    sets: Sets,
+    pub sets: Sets,
     /// For each code the resolved entries that have it.
     holders: Vec<Codes>,
     count: u32,
@@ -86,7 +32,16 @@ pub struct Saturation {
 }
 
 impl Saturation {
-    pub fn new(alloc: Global, sets: Sets, atoms: usize, limit: u32) -> Mem<Saturation> {
+    /// Nothing is resolved yet.
+    pub fn new(alloc: Global, sets: Sets, atoms: usize, limit: u32) -> Mem<Saturation>
+        requires counted { 0 < limit }
+        requires few { atoms < 2 ^ 31 }
+        requires sets { AreSets (2 * atoms) sets }
+        requires balanced { IsBalanced [] sets }
+        ensures starts { IfOk result (IsBetween limit) }
+        ensures sets { IfOk result (λ s. s.sets ≡ sets) }
+        ensures codes { IfOk result (λ s. length s.holders.items ≡ 2 * atoms) }
+    {
         let mut holders = Vec::new(alloc);
         for _ in 0..2 * atoms {
             holders.push(Codes::new(alloc))?;
@@ -99,19 +54,11 @@ impl Saturation {
         })
     }
 
-    pub fn into_sets(self) -> Sets {
-        let Saturation {
-            sets,
-            holders,
-            count: _,
-            limit: _,
-        } = self;
-        drop(holders);
-        sets
-    }
-
     /// Resolves until the empty set is found, the limit is reached, or nothing waits.
-    pub fn run(&mut self, alloc: Global) -> Mem<Progress> {
+    pub fn run(&mut self, alloc: Global) -> Mem<Progress>
+        requires { IsBetween self.old.limit self.old }
+        ensures { IfOk result (λ progress. Moves self.old.limit self.old self.new progress (IsFinished self.old.limit self.new)) }
+    {
         while let Some(given) = self.sets.next() {
             match self.process(alloc, given)? {
                 Progress::Open => {}
@@ -122,11 +69,13 @@ impl Saturation {
     }
 
     /// Makes all resolvents of an entry with the entries resolved before it.
-    fn process(&mut self, alloc: Global, given: u32) -> Mem<Progress> {
+    fn process(&mut self, alloc: Global, given: u32) -> Mem<Progress>
+        requires { IsPopped self.old.limit self.old given }
+        ensures { IfOk result (λ progress. Moves self.old.limit self.old self.new progress (IsBetween self.old.limit self.new)) }
+    {
         let length = self.sets.entries[given as usize].codes.len();
         for position in 0..length {
-            let code = self.sets.entries[given as usize].codes.as_slice()[position];
-            match self.process_code(alloc, given, code)? {
+            match self.process_code(alloc, given, position)? {
                 Progress::Open => {}
                 other => return Ok(other),
             }
@@ -136,16 +85,22 @@ impl Saturation {
     }
 
     /// Makes all resolvents of an entry on one of its literals.
-    fn process_code(&mut self, alloc: Global, given: u32, code: u32) -> Mem<Progress> {
-        let atom = code / 2;
-        let complement = if code % 2 == 0 { code + 1 } else { code - 1 };
+    fn process_code(&mut self, alloc: Global, given: u32, position: usize) -> Mem<Progress>
+        requires resolving { IsResolving self.old.limit self.old given position 0 }
+        requires position { position < length (codes_at self.old.sets.entries.items given) }
+        ensures { IfOk result (λ progress.
+            Moves self.old.limit self.old self.new progress (IsResolving self.old.limit self.new given (position + 1) 0)) }
+    {
+        let code = self.sets.entries[given as usize].codes.as_slice()[position];
+        let positive = code % 2 == 0;
+        let complement = if positive { code + 1 } else { code - 1 };
         let length = self.holders[complement as usize].len();
-        for position in 0..length {
-            let partner = self.holders[complement as usize].as_slice()[position];
-            let progress = if code % 2 == 0 {
-                self.resolve(alloc, given, partner, atom)?
+        for index in 0..length {
+            let partner = self.holders[complement as usize].as_slice()[index];
+            let progress = if positive {
+                self.resolve(alloc, given, partner, code / 2)?
             } else {
-                self.resolve(alloc, partner, given, atom)?
+                self.resolve(alloc, partner, given, code / 2)?
             };
             match progress {
                 Progress::Open => {}
@@ -156,7 +111,11 @@ impl Saturation {
     }
 
     /// Enters an entry with its literals.
-    fn hold(&mut self, given: u32) -> Mem<()> {
+    fn hold(&mut self, given: u32) -> Mem<()>
+        requires sets { AreSets (length self.old.holders.items) self.old.sets }
+        requires is_entry { given < length self.old.sets.entries.items }
+        ensures { IfOk result (λ _. Holds self.old self.new given) }
+    {
         let length = self.sets.entries[given as usize].codes.len();
         for position in 0..length {
             let code = self.sets.entries[given as usize].codes.as_slice()[position];
@@ -166,7 +125,13 @@ impl Saturation {
     }
 
     /// Makes one resolvent and counts it.
-    fn resolve(&mut self, alloc: Global, first: u32, second: u32, atom: u32) -> Mem<Progress> {
+    fn resolve(&mut self, alloc: Global, first: u32, second: u32, atom: u32) -> Mem<Progress>
+        requires sets { AreSets (length self.old.holders.items) self.old.sets }
+        requires meets { Meets self.old.sets.entries.items first second atom }
+        requires unspent { self.old.count < self.old.limit }
+        requires few { length self.old.holders.items < 2 ^ 32 }
+        ensures { IfOk result (λ progress. Resolves self.old self.new first second atom progress) }
+    {
         self.count += 1;
         let codes = resolvent_codes(
             alloc,

@@ -1,0 +1,2 @@
+pub mod SearchCodeLemmas
+pub mod SearchSetLemmas
