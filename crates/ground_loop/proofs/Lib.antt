@@ -1,2 +1,5 @@
 pub mod SearchCodeLemmas
 pub mod SearchSetLemmas
+pub mod SearchStepLemmas
+pub mod SearchPartnerLemmas
+pub mod SearchGivenLemmas

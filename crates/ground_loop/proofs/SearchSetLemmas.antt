@@ -9,7 +9,7 @@ use Rattle.std.proofs.lemmas.Bool.Decides.{nat_tests}
 use Rattle.std.proofs.lemmas.List.{length_push}
 use Rattle.std.proofs.lemmas.List.Folds.{list_any-append}
 use Rattle.std.proofs.lemmas.List.Sums.{sum_by-cons}
-use Rattle.std.proofs.lemmas.List.Sorted.{sum_by-IsPermutation, list_any-IsPermutation}
+use Rattle.std.proofs.lemmas.List.Sorted.{sum_by-IsPermutation, list_any-IsPermutation, length_permutation, IsPermutation-map}
 use Rattle.ground_loop.specs.declared.entry.Entry.{Entry}
 use Rattle.ground_loop.specs.declared.entry.Origin.{Origin}
 use Rattle.ground_loop.specs.declared.search.sets.Sets.{Sets}
@@ -146,6 +146,7 @@ Adds-nothing bound s codes origin sets stands = record {
   entries = inl refl;
   settled = stands;
   balanced = λ done b. b;
+  one_waits = omega arith;
 }
 
 -- a set that was neither
@@ -160,4 +161,10 @@ Adds-new bound old new codes origin sets rising some lacks fresh adds = record {
   entries = inr (lacks, adds.entries);
   settled = inr (subst (λ (es : List Entry). HasSet es codes) (sym adds.entries) (HasSet-pushed old.entries.items codes origin));
   balanced = λ done b. IsBalanced-pushed old new (record { codes = codes; origin = origin }) adds.entries adds.waits done b;
+  one_waits = adds.one_waits;
 }
+
+-- how many wait
+pub length_waiting :
+    {W : Type 0} (f : W → ℕ) (xs ys : List W) → IsPermutation xs ys → length (map f ys) ≡ length (map f xs)
+length_waiting f xs ys p = length_permutation (map f xs) (map f ys) (IsPermutation-map f xs ys p)

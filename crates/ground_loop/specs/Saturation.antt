@@ -1,5 +1,5 @@
 -- What stands while sets of codes are closed under resolution.
-use Rattle.std.specs.Prelude.{◌≡◌, ℕ, zero, suc, ◌+◌, ◌*◌, ◌^◌, ◌<◌, ◌≤◌, ◌⊎◌, ◌==◌, ◌&&◌, List, [], ◌∷◌, ◌++◌, length, take, All, AllPairs, Some, slice_get, slice_index, slice_index_or, IsTrue, if◌then◌else◌}
+use Rattle.std.specs.Prelude.{◌≡◌, ℕ, zero, suc, ◌+◌, ◌-◌, ◌*◌, ◌^◌, ◌<◌, ◌≤◌, ◌⊎◌, ◌==◌, ◌&&◌, List, [], ◌∷◌, ◌++◌, length, take, All, AllPairs, Some, slice_get, slice_index, slice_index_or, IsTrue, if◌then◌else◌}
 use Rattle.ground_loop.specs.declared.entry.Entry.{Entry}
 use Rattle.ground_loop.specs.declared.entry.Origin.TheVariants.{Resolvent}
 use Rattle.ground_loop.specs.declared.search.saturation.Saturation.{Saturation}
@@ -141,9 +141,14 @@ Reaches Empty limit Goes new = EndsEmpty new.sets.entries.items
 Reaches Spent limit Goes new = IsSpent limit new
 Reaches Open limit Goes new = Goes
 
+-- the entries that wait, and the resolutions that the limit still allows
+abbrev pub work : Saturation → ℕ
+work s = length (waiting_entries s.sets) + (s.limit - s.count)
+
 pub record Moves (limit : ℕ) (old new : Saturation) (progress : Progress) (Goes : Type 0) : Type 0 where
   pub same_holders : length new.holders.items ≡ length old.holders.items
   pub extends : Extends (length old.holders.items) old.sets.entries.items new.sets.entries.items
+  pub no_more_work : work new ≤ work old
   pub reaches : Reaches progress limit Goes new
 
 -- what one resolution leaves
@@ -160,6 +165,7 @@ pub record Resolves (old new : Saturation) (first second atom : ℕ) (progress :
   pub same_limit : new.limit ≡ old.limit
   pub counted : new.count ≡ old.count + 1
   pub extends : Extends (length old.holders.items) old.sets.entries.items new.sets.entries.items
+  pub one_waits : length (waiting_entries new.sets) ≤ length (waiting_entries old.sets) + 1
   pub leaves : ResolvesTo progress old new first second atom
 
 -- an entry was entered with its codes

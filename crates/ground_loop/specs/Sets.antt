@@ -1,5 +1,5 @@
 -- The sets that a search keeps.
-use Rattle.std.specs.Prelude.{◌≡◌, ℕ, zero, suc, ◌+◌, ◌<◌, ◌⊎◌, Bool, nat_eq, nat_lt, ◌==◌, ◌||◌, false, List, [], ◌∷◌, ◌++◌, map, length, IsTrue, if◌then◌else◌}
+use Rattle.std.specs.Prelude.{◌≡◌, ℕ, zero, suc, ◌+◌, ◌<◌, ◌≤◌, ◌⊎◌, Bool, nat_eq, nat_lt, ◌==◌, ◌||◌, false, List, [], ◌∷◌, ◌++◌, map, length, IsTrue, if◌then◌else◌}
 use Rattle.std.specs.List.{list_any}
 use Rattle.std.specs.List.Sorted.{IsStrictlyIncreasing}
 use Rattle.std.specs.Cmp.Lexicographic.{pointwise}
@@ -55,6 +55,7 @@ pub record AddsNew (old new : Sets) (codes : List ℕ) (origin : Origin) : Type 
       (n : ℕ)
       → occurrences n (waiting_entries new)
       ≡ (if n == length old.entries.items then 1 else 0) + occurrences n (waiting_entries old)
+  pub one_waits : length (waiting_entries new) ≤ length (waiting_entries old) + 1
 
 -- a set that was to be added to sets within a bound: it is a tautology or stands there, or one more entry waits
 pub record Adds (bound : ℕ) (old new : Sets) (codes : List ℕ) (origin : Origin) : Type 0 where
@@ -64,3 +65,4 @@ pub record Adds (bound : ℕ) (old new : Sets) (codes : List ℕ) (origin : Orig
       ⊎ (LacksBoth codes × (new.entries.items ≡ old.entries.items ++ (record { codes = codes; origin = origin }) ∷ []))
   pub settled : HasBoth codes ⊎ HasSet new.entries.items codes
   pub balanced : (done : List ℕ) → IsBalanced done old → IsBalanced done new
+  pub one_waits : length (waiting_entries new) ≤ length (waiting_entries old) + 1

@@ -3,10 +3,17 @@
 ghost use Rattle.std.specs.Prelude.{◌≡◌, ℕ, ◌*◌, ◌+◌, ◌^◌, ◌<◌, ◌++◌, ◌==◌, not, filter, IfOk};
 ghost use Rattle.std.specs.Bool.{MatchBool};
 ghost use Rattle.std.specs.List.Sorted.{IsStrictlyIncreasing};
-ghost use Rattle.ground_loop.specs.Codes.{has_number, HasBoth, LacksBoth, IsCodeResolvent};
+ghost use Rattle.ground_loop.specs.Codes.{has_number, complement_code, HasBoth, LacksBoth, IsCodeResolvent};
 
 use fol_base::Mem;
 use std::alloc::Global;
+
+/// The code of the negation.
+pub fn complement(code: u32) -> u32
+    ensures { result ≡ complement_code code }
+{
+    if code % 2 == 0 { code + 1 } else { code - 1 }
+}
 
 /// The codes of the resolvent of two sets on an atom, which stands in the first set and negated in the second.
 pub fn resolvent_codes(alloc: Global, first: &[u32], second: &[u32], atom: u32) -> Mem<Vec<u32>>

@@ -2,10 +2,10 @@
 
 ghost use Rattle.std.specs.Prelude.{◌≡◌, ℕ, ◌*◌, ◌+◌, ◌^◌, ◌<◌, [], length, IfOk};
 ghost use Rattle.ground_loop.specs.Sets.{codes_at, AreSets, IsBalanced};
-ghost use Rattle.ground_loop.specs.Saturation.{Meets, IsBetween, IsResolving, IsPopped, IsFinished, Resolves, Moves, Holds};
+ghost use Rattle.ground_loop.specs.Saturation.{Meets, code_at, IsBetween, IsResolving, IsPopped, IsFinished, Resolves, Moves, Holds};
 
 use crate::entry::{Codes, Origin};
-use crate::search::codes::resolvent_codes;
+use crate::search::codes::{complement, resolvent_codes};
 use crate::search::sets::Sets;
 use fol_base::Mem;
 use std::alloc::Global;
@@ -62,7 +62,7 @@ impl Saturation {
         while let Some(given) = self.sets.next() {
             match self.process(alloc, given)? {
                 Progress::Open => {}
-                other => return Ok(other),
+                end => return Ok(end),
             }
         }
         Ok(Progress::Open)
@@ -77,11 +77,20 @@ impl Saturation {
         for position in 0..length {
             match self.process_code(alloc, given, position)? {
                 Progress::Open => {}
-                other => return Ok(other),
+                end => return Ok(end),
             }
         }
         self.hold(given)?;
         Ok(Progress::Open)
+    }
+
+    /// The code of an entry at a place.
+    fn code(&self, given: u32, position: usize) -> u32
+        requires is_entry { given < length self.now.sets.entries.items }
+        requires position { position < length (codes_at self.now.sets.entries.items given) }
+        ensures { result ≡ code_at self.now given position }
+    {
+        self.sets.entries[given as usize].codes.as_slice()[position]
     }
 
     /// Makes all resolvents of an entry on one of its literals.
@@ -91,20 +100,19 @@ impl Saturation {
         ensures { IfOk result (λ progress.
             Moves self.old.limit self.old self.new progress (IsResolving self.old.limit self.new given (position + 1) 0)) }
     {
-        let code = self.sets.entries[given as usize].codes.as_slice()[position];
-        let positive = code % 2 == 0;
-        let complement = if positive { code + 1 } else { code - 1 };
-        let length = self.holders[complement as usize].len();
+        let code = self.code(given, position);
+        let other = complement(code);
+        let length = self.holders[other as usize].len();
         for index in 0..length {
-            let partner = self.holders[complement as usize].as_slice()[index];
-            let progress = if positive {
-                self.resolve(alloc, given, partner, code / 2)?
+            let partner = self.holders[other as usize].as_slice()[index];
+            let (first, second) = if code % 2 == 0 {
+                (given, partner)
             } else {
-                self.resolve(alloc, partner, given, code / 2)?
+                (partner, given)
             };
-            match progress {
+            match self.resolve(alloc, first, second, code / 2)? {
                 Progress::Open => {}
-                other => return Ok(other),
+                end => return Ok(end),
             }
         }
         Ok(Progress::Open)
@@ -118,7 +126,7 @@ impl Saturation {
     {
         let length = self.sets.entries[given as usize].codes.len();
         for position in 0..length {
-            let code = self.sets.entries[given as usize].codes.as_slice()[position];
+            let code = self.code(given, position);
             self.holders[code as usize].push(given)?;
         }
         Ok(())

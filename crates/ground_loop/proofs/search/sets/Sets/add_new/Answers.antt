@@ -1,11 +1,11 @@
-use Rattle.std.proofs.Common.{◌≡◌, ℕ, ◌+◌, ◌==◌, true, not, length, refl, ap, sym, ◌∙◌, map, rules, if◌then◌else◌}
+use Rattle.std.proofs.Common.{◌≡◌, ℕ, ◌+◌, ◌==◌, true, not, length, refl, ap, sym, ◌∙◌, map, rules, arith, if◌then◌else◌}
 use Rattle.std.specs.List.{list_any}
 use Rattle.std.specs.Cmp.Lexicographic.{pointwise}
 use Rattle.std.proofs.lemmas.Bool.{MatchBool-at_true}
 use Rattle.std.proofs.lemmas.List.Sorted.{IsPermutation-map}
 use Rattle.ground_loop.specs.Codes.{occurrences}
 use Rattle.ground_loop.specs.Sets.{waiting_entries}
-use Rattle.ground_loop.proofs.SearchSetLemmas.{occurrences-permutation, known-pushed}
+use Rattle.ground_loop.proofs.SearchSetLemmas.{occurrences-permutation, known-pushed, length_waiting}
 use Rattle.ground_loop.proofs.search.sets.Sets.add_new.Goals as goal
 
 pub returns : goal.returns
@@ -23,4 +23,5 @@ returns c = record {
     let e : c.in-Ok.number ≡ length c.args.self.now.entries.items = search rules in
     occurrences-permutation n _ _ (IsPermutation-map (λ w. w.0.1) _ _ c.in_ok-push.ensures.permutation)
     ∙ ap (λ k. (if n == k then 1 else 0) + occurrences n (waiting_entries c.args.self.now)) e;
+  one_waits = omega (arith, length_waiting (λ w. w.0.1) _ _ c.in_ok-push.ensures.permutation);
 }
