@@ -3,3 +3,4 @@ pub mod SearchSetLemmas
 pub mod SearchStepLemmas
 pub mod SearchPartnerLemmas
 pub mod SearchGivenLemmas
+pub mod SearchHoldLemmas

@@ -71,6 +71,7 @@ impl Sets {
         ensures sets { (bound : ℕ) → AreSets bound self.old → AreSets bound self.new }
         ensures entries { self.new.entries.items ≡ self.old.entries.items }
         ensures none { IfNone result (waiting_entries self.new ≡ []) }
+        ensures unchanged { IfNone result (waiting_entries self.new ≡ waiting_entries self.old) }
         ensures taken { IfSome result (λ entry. (n : ℕ)
             → occurrences n (waiting_entries self.old)
             ≡ (if n == entry then 1 else 0) + occurrences n (waiting_entries self.new)) }
