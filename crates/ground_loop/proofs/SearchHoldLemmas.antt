@@ -10,10 +10,12 @@ use Rattle.std.proofs.lemmas.List.Folds.{list_any-append}
 use Rattle.ground_loop.specs.declared.entry.Entry.{Entry}
 use Rattle.ground_loop.specs.declared.search.sets.Sets.{Sets}
 use Rattle.ground_loop.specs.declared.search.saturation.Saturation.{Saturation}
+use Rattle.ground_loop.specs.declared.search.saturation.Progress.{Progress}
+use Rattle.ground_loop.specs.declared.search.saturation.Progress.TheVariants.{Empty, Spent, Open}
 use Rattle.ground_loop.specs.Codes.{has_number, occurrences, complement_code}
 use Rattle.ground_loop.specs.Sets.{codes_at, AreSets, IsBalanced, waiting_entries}
-use Rattle.ground_loop.specs.Saturation.{Meets, Pairing, HasPairings, IsResolved, Among, Pairs, Partly, Stands, IsBetween, IsPopped, IsResolving, IsFinished, code_at, partners_at, Extends, AreHolders, Holds, Moves, work}
-use Rattle.ground_loop.proofs.SearchStepLemmas.{IsResolved-same}
+use Rattle.ground_loop.specs.Saturation.{Meets, Pairing, HasPairings, IsResolved, Among, Pairs, Partly, Stands, IsBetween, IsPopped, IsResolving, IsFinished, code_at, partners_at, Extends, AreHolders, Holds, Moves, Reaches, IsSpent, work}
+use Rattle.ground_loop.proofs.SearchStepLemmas.{IsResolved-same, Extends-trans}
 use Rattle.ground_loop.proofs.SearchPartnerLemmas.{occurrences-append, fresh_code}
 use Rattle.ground_loop.proofs.SearchGivenLemmas.{Stands-same}
 
@@ -280,3 +282,38 @@ holds_between limit s new g r holds = record {
 pub holds_none : (b : Bool) (o : ℕ) → o ≡ o + (if b && false then 1 else 0)
 holds_none true o = omega arith
 holds_none false o = omega arith
+
+-- ---- moves one after another
+
+-- a limit that stays, and what was reached before
+pub Moves-after :
+    (limit : ℕ) (old s new : Saturation) (progress : Progress) (Goes Goes' : Type 0)
+    → s.limit ≡ limit → length s.holders.items ≡ length old.holders.items
+    → Extends (length old.holders.items) old.sets.entries.items s.sets.entries.items → work s ≤ work old
+    → Moves s.limit s new progress Goes → (progress ≡ Open → ⊥) → Moves limit old new progress Goes'
+Moves-after limit old s new progress Goes Goes' limited holders ext less m not_open = record {
+  same_holders = m.same_holders ∙ holders;
+  extends =
+    Extends-trans (length old.holders.items) _ _ _ ext
+    (subst (λ n. Extends n s.sets.entries.items new.sets.entries.items) holders m.extends);
+  no_more_work = omega (arith, less, m.no_more_work);
+  reaches = by_progress progress m.reaches not_open;
+}
+  where
+    by_progress : (q : Progress) → Reaches q s.limit Goes new → (q ≡ Open → ⊥) → Reaches q limit Goes' new
+    by_progress Empty r n = r
+    by_progress Spent r n = subst (λ k. IsSpent k new) limited r
+    by_progress Open r n = absurd (n refl)
+
+pub goes_on : (limit : ℕ) (new : Saturation) (progress : Progress) (Goes : Type 0) → progress ≡ Open → Reaches progress limit Goes new → Goes
+goes_on limit new Empty Goes e r = cc
+goes_on limit new Spent Goes e r = cc
+goes_on limit new Open Goes e r = r
+
+-- entering an entry leaves the work as it is
+pub work_held : (s new : Saturation) (g : ℕ) → Holds s new g → work new ≤ work s
+work_held s new g h =
+    let limit = h.same_limit in
+    let count = h.same_count in
+    let waiting : length (waiting_entries new.sets) ≡ length (waiting_entries s.sets) = ap (λ (u : Sets). length (waiting_entries u)) h.same_sets in
+    omega arith
