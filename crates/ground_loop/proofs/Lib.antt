@@ -4,3 +4,4 @@ pub mod SearchStepLemmas
 pub mod SearchPartnerLemmas
 pub mod SearchGivenLemmas
 pub mod SearchHoldLemmas
+pub mod SearchTableLemmas

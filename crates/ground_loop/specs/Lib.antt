@@ -4,4 +4,5 @@ pub mod Answer
 pub mod Search
 pub mod Codes
 pub mod Sets
+pub mod Table
 pub mod Saturation

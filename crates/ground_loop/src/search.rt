@@ -29,12 +29,12 @@ pub fn search(alloc: Global, form: &Clauses, limit: u32) -> Mem<Found>
     let mut atoms = Atoms::new(alloc);
     let mut sets = Sets::new(alloc);
     if add_clauses(alloc, &mut atoms, &mut sets, form.as_slice())? {
-        return Ok(Found::Empty(atoms.into_terms(), sets.into_entries()));
+        return Ok(Found::Empty(atoms.terms, sets.into_entries()));
     }
-    let mut saturation = Saturation::new(alloc, sets, atoms.len(), limit)?;
+    let mut saturation = Saturation::new(alloc, sets, atoms.terms.len(), limit)?;
     match saturation.run(alloc)? {
         Progress::Empty => Ok(Found::Empty(
-            atoms.into_terms(),
+            atoms.terms,
             saturation.sets.into_entries(),
         )),
         Progress::Spent => Ok(Found::Spent(limit)),
