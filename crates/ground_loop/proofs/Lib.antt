@@ -5,3 +5,5 @@ pub mod SearchPartnerLemmas
 pub mod SearchGivenLemmas
 pub mod SearchHoldLemmas
 pub mod SearchTableLemmas
+pub mod SetLemmas
+pub mod SearchInputLemmas

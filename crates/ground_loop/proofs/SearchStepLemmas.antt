@@ -19,7 +19,7 @@ use Rattle.ground_loop.specs.declared.search.saturation.Progress.{Progress}
 use Rattle.ground_loop.specs.declared.search.saturation.Progress.TheVariants.{Empty, Spent, Open}
 use Rattle.ground_loop.specs.Codes.{has_number, occurrences, complement_code, HasBoth, LacksBoth, IsCodeResolvent, resolvent_has}
 use Rattle.ground_loop.specs.Sets.{codes_at, HasSet, IsProper, AreSets, Adds, AddsNew, IsBalanced, waiting_entries}
-use Rattle.ground_loop.specs.Saturation.{Meets, IsSettled, Pairing, HasPairings, IsResolved, Among, Pairs, Partly, IsMade, Extends, EndsEmpty, Resolves}
+use Rattle.ground_loop.specs.Saturation.{Meets, IsSettled, Pairing, HasPairings, IsResolved, Among, Pairs, Partly, IsMade, Extends, Resolves}
 use Rattle.ground_loop.proofs.SearchCodeLemmas.{number_place, number_at}
 use Rattle.ground_loop.proofs.SearchSetLemmas.{codes_at-append, codes_at-last}
 

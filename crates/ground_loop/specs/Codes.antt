@@ -12,6 +12,10 @@ abbrev pub occurrences : ℕ → List ℕ → ℕ
 occurrences n [] = 0
 occurrences n (k ∷ ks) = (if n == k then 1 else 0) + occurrences n ks
 
+-- the code of an atom or of its negation
+abbrev pub literal_code : ℕ → Bool → ℕ
+literal_code atom positive = if positive then 2 * atom else 2 * atom + 1
+
 -- the code of the negation
 abbrev pub complement_code : ℕ → ℕ
 complement_code code = if code % 2 == 0 then code + 1 else code - 1

@@ -6,7 +6,7 @@ use Rattle.ground_loop.specs.declared.search.saturation.Saturation.{Saturation}
 use Rattle.ground_loop.specs.declared.search.saturation.Progress.{Progress}
 use Rattle.ground_loop.specs.declared.search.saturation.Progress.TheVariants.{Empty, Spent, Open}
 use Rattle.ground_loop.specs.Codes.{has_number, occurrences, complement_code, HasBoth, LacksBoth, IsCodeResolvent}
-use Rattle.ground_loop.specs.Sets.{codes_at, HasSet, AreSets, IsBalanced, waiting_entries}
+use Rattle.ground_loop.specs.Sets.{codes_at, HasSet, AreSets, IsBalanced, EndsEmpty, waiting_entries}
 
 -- the first entry has the atom, the second its negation
 abbrev pub Meets : List Entry → ℕ → ℕ → ℕ → Type 0
@@ -115,12 +115,6 @@ pub record Extends (bound : ℕ) (old new : List Entry) : Type 0 where
   pub added : List Entry
   pub is_longer : new ≡ old ++ added
   pub are_made : (n : ℕ) (e : Entry) → length old ≤ n → slice_get new n ≡ Some e → IsMade bound (take n new) e
-
-pub record EndsEmpty (entries : List Entry) : Type 0 where
-  pub before : List Entry
-  pub last : Entry
-  pub ends : entries ≡ before ++ last ∷ []
-  pub is_empty : last.codes ≡ []
 
 abbrev pub AnyPairing : ℕ → ℕ → ℕ → Type 0
 AnyPairing i j a = Unit {0}

@@ -26,6 +26,13 @@ pub record IsProper (bound : ℕ) (codes : List ℕ) : Type 0 where
 abbrev pub HasSet : List Entry → List ℕ → Type 0
 HasSet entries codes = (n : ℕ) × (n < length entries) × (codes_at entries n ≡ codes)
 
+-- the last entry is the empty set
+pub record EndsEmpty (entries : List Entry) : Type 0 where
+  pub before : List Entry
+  pub last : Entry
+  pub ends : entries ≡ before ++ last ∷ []
+  pub is_empty : last.codes ≡ []
+
 -- the entries are proper sets, each once, and just they are known
 pub record AreSets (bound : ℕ) (s : Sets) : Type 0 where
   pub proper : (n : ℕ) → n < length s.entries.items → IsProper bound (codes_at s.entries.items n)

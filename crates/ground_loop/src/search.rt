@@ -11,12 +11,12 @@ mod codes;
 mod saturation;
 mod sets;
 
-use crate::entry::{Found, Origin};
+use crate::entry::Found;
 use crate::search::atoms::Atoms;
-use crate::search::clause::clause_codes;
+use crate::search::clause::add_clauses;
 use crate::search::saturation::{Progress, Saturation};
 use crate::search::sets::Sets;
-use fol_base::{Clause, Clauses, Mem};
+use fol_base::{Clauses, Mem};
 use std::alloc::Global;
 
 /// Makes resolvents until one is empty, none is left to make, or `limit` inferences are counted.
@@ -40,20 +40,6 @@ pub fn search(alloc: Global, form: &Clauses, limit: u32) -> Mem<Found>
         Progress::Spent => Ok(Found::Spent(limit)),
         Progress::Open => Ok(Found::Closed),
     }
-}
-
-/// Adds the sets of the clauses up to and with the first empty one, and says whether there is one.
-fn add_clauses(alloc: Global, atoms: &mut Atoms, sets: &mut Sets, clauses: &[Clause]) -> Mem<bool> {
-    for index in 0..clauses.len() {
-        let literals = clauses[index].literals.as_slice();
-        let codes = clause_codes(alloc, atoms, literals)?;
-        let is_empty = codes.is_empty();
-        sets.add(alloc, codes, Origin::Clause(index as u32))?;
-        if is_empty {
-            return Ok(true);
-        }
-    }
-    Ok(false)
 }
 
 #[cfg(test)]

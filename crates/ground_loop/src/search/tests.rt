@@ -1,5 +1,5 @@
 use super::*;
-use fol_base::{Literal, Literals, Names, NoMemory, Term, Terms};
+use fol_base::{Clause, Literal, Literals, Names, NoMemory, Term, Terms};
 use std::process::Abort;
 
 /// A literal, by the number of its predicate without arguments: negated below zero.
