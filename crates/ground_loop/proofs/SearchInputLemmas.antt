@@ -7,13 +7,15 @@ use Rattle.std.proofs.lemmas.Bool.{cases_Bool, cases_eq, both_ways, or_cases, or
 use Rattle.std.proofs.lemmas.List.{append_assoc, length_push, length-append, length-map, get_or_append_left, map-append, take_all}
 use Rattle.std.proofs.lemmas.List.Sums.{sum_by-cons, sum_by_more, sum_by-take-le}
 use Rattle.std.proofs.lemmas.List.Folds.{list_any-append}
-use Rattle.std.proofs.lemmas.Option.{slice_get_within, slice_get-get_or, get_or_from_slice_get, same_Some}
+use Rattle.std.proofs.lemmas.Option.{slice_get_within, slice_get-get_or, get_or_from_slice_get, same_Some, slice_get-map}
+use Rattle.std.specs.Option.{option_map}
 use Rattle.fol_base.specs.Tree.{Tree, tree_eq, tree_size}
 use Rattle.fol_base.specs.Clause.{TreeLiteral, TreeClause, literal_size, clause_size}
 use Rattle.fol_base.specs.Literal.{literal_of, clause_of}
 use Rattle.fol_base.specs.GroundForm.{is_ground_atom, is_atom_literal, IsGroundClause, IsGroundForm, form_size}
 use Rattle.fol_base.specs.Interpretation.{true_tree}
 use Rattle.fol_base.specs.declared.clause.Literal.{Literal}
+use Rattle.fol_base.specs.declared.clause.Clause as Clauses
 use Rattle.fol_base.proofs.TreeLemmas.{tree_eq-true, tree_size-positive}
 use Rattle.fol_base.proofs.ListLemmas.{map-take_more_item}
 use Rattle.ground_loop.specs.declared.entry.Entry.{Entry}
@@ -233,7 +235,7 @@ literals_of_codes : (terms : List Tree) (codes : List ℕ) (s : LiteralSet) → 
 literals_of_codes terms [] s same h = absurd (omega arith)
 literals_of_codes terms (c ∷ codes) [] same h =
     let l = coded_literal terms c in
-    absurd (both_ways _ (sym (same l)) (has_literal_here l (coded_set terms codes)))
+    absurd (both_ways _ (same l) (has_literal_here l (coded_set terms codes)))
 literals_of_codes terms (c ∷ codes) (l ∷ s) same h = omega arith
 
 below_cases : (n i : ℕ) → n < i + 1 → (n < i) ⊎ (n ≡ i)
@@ -325,3 +327,15 @@ clause_room form i atoms sets c has is_clause small =
     let literals = literals-le-size c.literals in
     let whole = sum_by-take-le clause_size form (i + 1) in
     (omega (arith, has.few_atoms, clause, literals, whole), omega (arith, has.few_clauses, clause, whole))
+
+-- the clause that was read
+pub clause_read :
+    (clauses : List Clauses.Clause) (i : ℕ) (c : Clauses.Clause)
+    → i < length clauses → c ≡ get_or clauses i c → slice_get (map clause_of clauses) i ≡ Some (clause_of c)
+clause_read clauses i c h is =
+    slice_get-map clause_of clauses i ∙ ap (option_map clause_of) (slice_get-get_or clauses i c h) ∙ ap (λ d. Some (clause_of d)) (sym is)
+
+pub clause_is_ground :
+    (form : List TreeClause) (i : ℕ) (c : TreeClause) → IsGroundForm form → slice_get form i ≡ Some c → IsGroundClause c
+clause_is_ground form i c ground h =
+    subst IsGroundClause (get_or_from_slice_get form i c c h) (ground i c (slice_get_within form i c h))
