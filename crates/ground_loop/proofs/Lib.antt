@@ -7,3 +7,4 @@ pub mod SearchHoldLemmas
 pub mod SearchTableLemmas
 pub mod SetLemmas
 pub mod SearchInputLemmas
+pub mod SearchFoundLemmas

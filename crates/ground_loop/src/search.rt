@@ -28,7 +28,8 @@ pub fn search(alloc: Global, form: &Clauses, limit: u32) -> Mem<Found>
 {
     let mut atoms = Atoms::new(alloc);
     let mut sets = Sets::new(alloc);
-    if add_clauses(alloc, &mut atoms, &mut sets, form.as_slice())? {
+    let has_empty_clause = add_clauses(alloc, &mut atoms, &mut sets, form.as_slice())?;
+    if has_empty_clause {
         return Ok(Found::Empty(atoms.terms, sets.into_entries()));
     }
     let mut saturation = Saturation::new(alloc, sets, atoms.terms.len(), limit)?;
