@@ -37,7 +37,7 @@ enum End {
     NoMemory,
 }
 
-fn end(alloc: Global, clauses: &[&[Number]], limit: u32) -> End {
+fn ended(alloc: Global, clauses: &[&[Number]], limit: u32) -> End {
     let Ok(form) = form(alloc, clauses) else {
         return End::NoMemory;
     };
@@ -53,13 +53,13 @@ fn end(alloc: Global, clauses: &[&[Number]], limit: u32) -> End {
 fn ends(rt: HostRuntime) {
     let alloc = rt.alloc();
     let four: &[&[Number]] = &[&[1, 2], &[-1, 2], &[1, -2], &[-1, -2]];
-    assert_eq!(rt; end(alloc, &[], 1), End::Closed);
-    assert_eq!(rt; end(alloc, &[&[1]], 1), End::Closed);
-    assert_eq!(rt; end(alloc, &[&[1, -1]], 1), End::Closed);
-    assert_eq!(rt; end(alloc, &[&[1], &[]], 1), End::Empty);
-    assert_eq!(rt; end(alloc, &[&[1], &[-1]], 1), End::Empty);
-    assert_eq!(rt; end(alloc, four, 1), End::Spent(1));
-    assert_eq!(rt; end(alloc, four, 1000), End::Empty);
+    assert_eq!(rt; ended(alloc, &[], 1), End::Closed);
+    assert_eq!(rt; ended(alloc, &[&[1]], 1), End::Closed);
+    assert_eq!(rt; ended(alloc, &[&[1, -1]], 1), End::Closed);
+    assert_eq!(rt; ended(alloc, &[&[1], &[]], 1), End::Empty);
+    assert_eq!(rt; ended(alloc, &[&[1], &[-1]], 1), End::Empty);
+    assert_eq!(rt; ended(alloc, four, 1), End::Spent(1));
+    assert_eq!(rt; ended(alloc, four, 1000), End::Empty);
 }
 
 /// Three pigeons in two holes: pigeon i in hole j is 2 i + j + 1.
@@ -76,5 +76,5 @@ fn pigeonholes(rt: HostRuntime) {
         &[-2, -6],
         &[-4, -6],
     ];
-    assert_eq!(rt; end(rt.alloc(), clauses, 100_000), End::Empty);
+    assert_eq!(rt; ended(rt.alloc(), clauses, 100_000), End::Empty);
 }
