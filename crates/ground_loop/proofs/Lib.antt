@@ -4,3 +4,4 @@ pub mod DeriveLines
 pub mod DeriveSteps
 pub mod DeriveCone
 pub mod DeriveEntries
+pub mod DeriveExamples

@@ -4,3 +4,4 @@ pub mod Answer
 pub mod Search
 pub mod Inputs
 pub mod Lines
+pub mod DeriveExamples
