@@ -14,3 +14,4 @@ pub mod SearchTableLemmas
 pub mod SetLemmas
 pub mod SearchInputLemmas
 pub mod SearchFoundLemmas
+pub mod DeriveExamples

@@ -8,3 +8,4 @@ pub mod Codes
 pub mod Sets
 pub mod Table
 pub mod Saturation
+pub mod DeriveExamples

@@ -2,6 +2,8 @@
 
 mod cone;
 mod steps;
+#[cfg(test)]
+mod tests;
 
 ghost use Rattle.std.specs.Prelude.{◌≡◌, ◌<◌, ◌≤◌, map, length, IfOk};
 ghost use Rattle.fol_base.specs.GroundForm.{IsGroundForm, form_size};
