@@ -1,11 +1,10 @@
 -- Terms and clauses that are built from symbols.
-use Rattle.std.proofs.Common.{◌≡◌, ℕ, zero, suc, ◌+◌, ◌-◌, ◌<◌, ◌≤◌, Bool, true, false, List, [], ◌∷◌, ◌++◌, length, map, take, drop, reverse, get_or, refl, ap, sym, ◌∙◌, subst, arith, length-append, append_assoc}
+use Rattle.std.proofs.Common.{◌≡◌, ℕ, suc, ◌+◌, Bool, true, false, List, [], ◌∷◌, ◌++◌, map, take, drop, refl, ap, sym, ◌∙◌, arith, append_assoc}
 use Rattle.std.specs.Prelude.{flat_map}
-use Rattle.fol_base.specs.Tree.{Tree, application, Trees, no_trees, tree_then, trees_of}
+use Rattle.fol_base.specs.Tree.{Tree, application, no_trees, tree_then, trees_of}
 use Rattle.tptp_reader.specs.Syntax.{NamedTerm, named, NamedTerms, no_terms, term_then, NamedLiteral, NamedFormula, literals_of, term_count}
 use Rattle.tptp_reader.specs.Numbering.{SymbolKey, true_symbol, term_symbols, terms_symbols, literal_symbols, formula_symbols, number_of, numbered_term, numbered_terms}
 use Rattle.tptp_reader.specs.Building.{trees_made, literal_sides, sides_of, formula_sides}
-use Rattle.tptp_reader.proofs.TokenLemmas.{append-nil}
 
 -- the trees of a list
 pub trees_listed : List SymbolKey → NamedTerms → List Tree

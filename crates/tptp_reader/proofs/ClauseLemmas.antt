@@ -1,11 +1,11 @@
 -- Steps of reading literals and clauses.
-use Rattle.std.proofs.Common.{◌≡◌, ℕ, zero, suc, ◌+◌, ◌<◌, ◌≤◌, max, Bool, true, false, List, [], ◌∷◌, ◌++◌, length, map, refl, ap, sym, ◌∙◌, subst, arith, length-append, append_assoc}
+use Rattle.std.proofs.Common.{◌≡◌, ◌+◌, ◌<◌, ◌≤◌, Bool, true, List, [], ◌∷◌, ◌++◌, length, refl, ap, sym, ◌∙◌, subst, arith, length-append, append_assoc}
 use Rattle.std.specs.Prelude.{flat_map}
 use Rattle.std.specs.List.{AllByRecursion}
 use Rattle.tptp_reader.specs.Token.{Token, word, left_bracket, right_bracket, comma, bar, negation, full_stop, unknown}
-use Rattle.tptp_reader.specs.Syntax.{NamedTerm, named, NamedTerms, no_terms, term_then, NamedLiteral, term_text, sign_text, literal_text, more_literals_text, nesting, nestings, arguments_of, AtomNestsWithin}
+use Rattle.tptp_reader.specs.Syntax.{NamedTerm, named, no_terms, term_then, NamedLiteral, sign_text, literal_text, more_literals_text, nesting, nestings, arguments_of, AtomNestsWithin}
 use Rattle.tptp_reader.specs.Numbering.{SymbolKey, true_symbol, term_symbols, literal_symbols}
-use Rattle.tptp_reader.specs.Script.{EndsTerm, EndsLiterals, EndsAfter, EndsClause, ReadsTerm, ReadsLiteral, HasLiteral, ReadsClause, HasClause, signs_of}
+use Rattle.tptp_reader.specs.Script.{EndsLiterals, EndsAfter, EndsClause, ReadsTerm, ReadsLiteral, HasLiteral, ReadsClause, HasClause, signs_of}
 use Rattle.tptp_reader.proofs.TokenLemmas.{append-nil}
 use Rattle.tptp_reader.proofs.SyntaxLemmas.{literal_text-same, ends-after}
 

@@ -1,5 +1,5 @@
 -- Clauses that are ground and have atoms alone.
-use Rattle.std.specs.Prelude.{◌≡◌, ◌≢◌, ℕ, List, [], All}
+use Rattle.std.specs.Prelude.{◌≡◌, ◌≢◌, List, [], All}
 use Rattle.fol_base.specs.Tree.{Tree, variable, application, no_trees}
 use Rattle.fol_base.specs.Clause.{TreeLiteral, TreeClause, LiteralVariablesBelow}
 

@@ -1,5 +1,5 @@
 -- The clauses that are read are ground clauses of atoms.
-use Rattle.std.proofs.Common.{◌≡◌, ◌≢◌, ℕ, suc, get_or, arith, Bool, true, false, not, ◌&&◌, ◌==◌, List, [], ◌∷◌, refl, ap, sym, ◌∙◌, subst}
+use Rattle.std.proofs.Common.{◌≡◌, suc, get_or, arith, true, not, ◌&&◌, List, [], ◌∷◌, refl, ap, ◌∙◌}
 use Rattle.std.specs.Prelude.{All}
 use Rattle.std.specs.List.{list_all}
 use Rattle.std.proofs.lemmas.Bool.{ne_eqb}
@@ -7,7 +7,7 @@ use Rattle.fol_base.specs.Tree.{Tree, variable, application, Trees, no_trees, tr
 use Rattle.fol_base.specs.Clause.{TreeLiteral, TreeClause}
 use Rattle.fol_base.specs.Ground.{is_ground, are_ground}
 use Rattle.fol_base.specs.GroundForm as base
-use Rattle.tptp_reader.proofs.GroundForm.{IsPredicateTerm, IsGroundLiteral, IsGroundClause, IsGroundForm}
+use Rattle.tptp_reader.proofs.GroundForm.{IsPredicateTerm, IsGroundLiteral, IsGroundForm}
 
 -- no variable below 0 is no variable
 mutual

@@ -1,12 +1,11 @@
 -- The numbers of symbols, as they are met.
-use Rattle.std.proofs.Common.{◌≡◌, ℕ, zero, suc, ◌+◌, ◌<◌, ◌≤◌, Bool, true, false, cond, List, [], ◌∷◌, ◌++◌, length, map, drop, get_or, refl, ap, sym, ◌∙◌, subst, arith, append_assoc, eq-eqb}
+use Rattle.std.proofs.Common.{◌≡◌, ℕ, zero, suc, ◌+◌, ◌<◌, ◌≤◌, Bool, true, false, cond, List, [], ◌∷◌, ◌++◌, length, map, drop, get_or, refl, ap, sym, ◌∙◌, arith, append_assoc, eq-eqb}
 use Rattle.std.specs.Prelude.{not, ◌&&◌, ◌||◌, ◌==◌, fold, if◌then◌else◌}
-use Rattle.std.specs.Str.{bytes_eq}
-use Rattle.std.specs.List.{list_any, position_or_len, prefix_len}
+use Rattle.std.specs.List.{list_any, position_or_len}
 use Rattle.std.proofs.lemmas.Slice.Eq.{bytes_eq-Decides}
 use mathlib.Core.Bool.{beq}
 use Rattle.tptp_reader.proofs.TokenLemmas.{append-nil}
-use Rattle.tptp_reader.specs.Numbering.{SymbolKey, same_symbol, true_symbol, with_symbol, number_of}
+use Rattle.tptp_reader.specs.Numbering.{SymbolKey, same_symbol, with_symbol, number_of}
 use Rattle.tptp_reader.specs.Script.{key_of, keys_of}
 use Rattle.tptp_reader.specs.declared.occurrence.Occurrence.{Occurrence}
 

@@ -1,31 +1,29 @@
 -- What a text says, and the problem that is read.
-use Rattle.std.proofs.Common.{◌≡◌, ◌≢◌, ℕ, zero, suc, ◌+◌, ◌<◌, ◌≤◌, Bool, true, false, cond, List, [], ◌∷◌, ◌++◌, length, map, reverse, refl, ap, sym, ◌∙◌, subst, arith, length-append}
-use Rattle.std.specs.Prelude.{not, flat_map, fold, All, sum_by, if◌then◌else◌}
-use Rattle.std.specs.List.{AllByRecursion, list_any, position_or_len}
+use Rattle.std.proofs.Common.{◌≡◌, ℕ, suc, ◌+◌, ◌≤◌, Bool, true, false, List, [], ◌∷◌, ◌++◌, length, map, reverse, refl, ap, sym, ◌∙◌, subst, arith, length-append}
+use Rattle.std.specs.Prelude.{flat_map, fold, sum_by, if◌then◌else◌}
+use Rattle.std.specs.List.{AllByRecursion, list_any}
 use Rattle.std.proofs.lemmas.List.{reverse-reverse}
 use Rattle.std.proofs.lemmas.List.Sums.{sum_by-cons}
 use Rattle.std.proofs.lemmas.List.Elements.{All-from_recursion}
-use Rattle.fol_base.specs.Tree.{Tree, application, no_trees, tree_then, tree_size, trees_size, VariablesBelow, AllVariablesBelow}
+use Rattle.fol_base.specs.Tree.{tree_size, trees_size, VariablesBelow, AllVariablesBelow}
 use Rattle.fol_base.specs.Term.{tree_of}
 use Rattle.fol_base.specs.Literal.{clause_of}
-use Rattle.fol_base.specs.Clause.{TreeLiteral, TreeClause, clause_size, literal_size}
+use Rattle.fol_base.specs.Clause.{clause_size, literal_size}
 use Rattle.fol_base.specs.declared.term.Term.{Term}
-use Rattle.fol_base.specs.declared.clause.Clause.{Clause}
-use Rattle.tptp_reader.specs.Token.{Token, word, left_bracket, right_bracket, comma, bar, negation, full_stop, unknown, IsLowerWord, IsSpelling, IsTokenText}
+use Rattle.tptp_reader.specs.Token.{Token, word, left_bracket, right_bracket, comma, bar, negation, full_stop, unknown, IsSpelling, IsTokenText}
 use Rattle.tptp_reader.specs.Reading.{tokens_of}
-use Rattle.tptp_reader.specs.Syntax.{NamedTerm, named, NamedTerms, no_terms, term_then, NamedLiteral, NamedFormula, literals_of, term_text, more_terms_text, sign_text, literal_text, more_literals_text, formula_end, clause_text, formula_text, formulas_text, NestsWithin, term_count}
+use Rattle.tptp_reader.specs.Syntax.{NamedTerm, named, NamedTerms, no_terms, term_then, NamedLiteral, NamedFormula, literals_of, term_text, more_terms_text, sign_text, literal_text, more_literals_text, formula_end, formulas_text, term_count}
 use Rattle.tptp_reader.specs.Numbering.{SymbolKey, same_symbol, true_symbol, term_symbols, terms_symbols, literal_symbols, formula_symbols, with_symbol, symbols_of, number_of, numbered_term, numbered_terms, numbered_literal, numbered_clause}
 use Rattle.tptp_reader.specs.Building.{trees_made, formula_sides}
-use Rattle.tptp_reader.specs.Script.{keys_of, IsOutline, AreOutlines, ReadsScript, HasScript}
+use Rattle.tptp_reader.specs.Script.{keys_of, AreOutlines, ReadsScript, HasScript}
 use Rattle.tptp_reader.proofs.GroundForm.{IsPredicateTerm, IsGroundLiteral, IsGroundClause, IsGroundForm}
-use Rattle.tptp_reader.specs.GroundText.{IsGroundText, IsWithinLimits, IsProblemOf, IsReadAs, symbol_total, symbol_key}
+use Rattle.tptp_reader.specs.GroundText.{IsGroundText, IsWithinLimits, IsReadAs, symbol_key}
 use Rattle.tptp_reader.specs.declared.occurrence.Occurrence.{Occurrence}
 use Rattle.tptp_reader.specs.declared.reading.Outline.{Outline}
 use Rattle.tptp_reader.specs.declared.reading.Script.{Script}
-use Rattle.tptp_reader.specs.declared.problem.GroundRole.{GroundRole}
 use Rattle.tptp_reader.specs.declared.problem.GroundProblem.{GroundProblem}
 use Rattle.tptp_reader.proofs.SyntaxLemmas.{formulas_text-same}
-use Rattle.tptp_reader.proofs.SpellingLemmas.{IsKnown, AreKnown, IsTokenText-tokens, IsTokenText-known}
+use Rattle.tptp_reader.proofs.SpellingLemmas.{AreKnown, IsTokenText-tokens, IsTokenText-known}
 use Rattle.tptp_reader.proofs.BuildLemmas.{made-formulas}
 
 -- a text has no byte that belongs to nothing

@@ -1,13 +1,13 @@
 -- Steps of reading formulas.
-use Rattle.std.proofs.Common.{◌≡◌, ℕ, zero, suc, ◌+◌, ◌<◌, ◌≤◌, Bool, List, [], ◌∷◌, ◌++◌, length, refl, ap, sym, ◌∙◌, subst, arith, length-append, append_assoc}
-use Rattle.std.specs.Prelude.{flat_map, codes}
+use Rattle.std.proofs.Common.{◌≡◌, ℕ, ◌+◌, ◌≤◌, Bool, List, [], ◌∷◌, ◌++◌, length, refl, ap, sym, ◌∙◌, subst, arith, length-append, append_assoc}
+use Rattle.std.specs.Prelude.{flat_map}
 use Rattle.std.specs.List.{AllByRecursion}
-use Rattle.tptp_reader.specs.Token.{Token, word}
-use Rattle.tptp_reader.specs.Syntax.{NamedLiteral, NamedFormula, literals_of, role_word, heading_text, formula_end, clause_text, formula_text, formulas_text, NestsWithin, literal_text, more_literals_text}
-use Rattle.tptp_reader.specs.Numbering.{SymbolKey, literal_symbols, formula_symbols}
+use Rattle.tptp_reader.specs.Token.{Token}
+use Rattle.tptp_reader.specs.Syntax.{NamedFormula, heading_text, formula_end, clause_text, formula_text, formulas_text, NestsWithin, literal_text, more_literals_text}
+use Rattle.tptp_reader.specs.Numbering.{SymbolKey, formula_symbols}
 use Rattle.tptp_reader.specs.Script.{ReadsClause, HasClause, IsOutline, ReadsFormula, HasFormula, AreOutlines, ReadsScript, HasScript, keys_of}
 use Rattle.tptp_reader.proofs.TokenLemmas.{append-nil}
-use Rattle.tptp_reader.proofs.SyntaxLemmas.{clause-same, formula_end-clause, formula_text-same, role_word-same}
+use Rattle.tptp_reader.proofs.SyntaxLemmas.{clause-same, formula_end-clause, formula_text-same}
 use Rattle.tptp_reader.specs.declared.problem.GroundRole.{GroundRole}
 use Rattle.tptp_reader.specs.declared.reading.Outline.{Outline}
 use Rattle.tptp_reader.specs.declared.reading.Script.{Script}

@@ -1,20 +1,19 @@
 -- Terms that are taken from the end of a list, and the clauses that they make.
-use Rattle.std.proofs.Common.{◌≡◌, ℕ, zero, suc, ◌+◌, ◌-◌, ◌<◌, ◌≤◌, Bool, true, false, List, [], ◌∷◌, ◌++◌, length, map, take, drop, reverse, get_or, refl, ap, sym, ◌∙◌, subst, arith, length-append, append_assoc, ⊎_elim}
-use Rattle.std.specs.Prelude.{flat_map, ◌⊎◌}
+use Rattle.std.proofs.Common.{◌≡◌, ℕ, zero, suc, ◌+◌, ◌-◌, ◌<◌, ◌≤◌, Bool, true, List, [], ◌∷◌, ◌++◌, length, map, take, drop, reverse, get_or, refl, ap, sym, ◌∙◌, arith, ⊎_elim}
+use Rattle.std.specs.Prelude.{flat_map}
 use Rattle.std.proofs.lemmas.List.{reverse-append, reverse-reverse, length-reverse, length-drop, length-map, take-append-drop, take_all, map-append}
 use Rattle.std.proofs.lemmas.Bool.{cases_lt}
-use Rattle.fol_base.specs.Tree.{Tree, application, Trees, no_trees, tree_then, trees_of}
+use Rattle.fol_base.specs.Tree.{Tree, application, no_trees, trees_of}
 use Rattle.fol_base.specs.Term.{tree_of}
 use Rattle.fol_base.specs.Literal.{literal_of, clause_of}
-use Rattle.fol_base.specs.Clause.{TreeLiteral, TreeClause}
+use Rattle.fol_base.specs.Clause.{TreeLiteral}
 use Rattle.fol_base.specs.declared.term.Term.{Term}
 use Rattle.fol_base.specs.declared.clause.Literal.{Literal}
 use Rattle.fol_base.specs.declared.clause.Clause.{Clause}
 use Rattle.tptp_reader.specs.Syntax.{NamedLiteral, NamedFormula, literals_of}
 use Rattle.tptp_reader.specs.Numbering.{SymbolKey, numbered_term, numbered_literal, numbered_clause}
-use Rattle.tptp_reader.specs.Building.{literal_sides, sides_of, formula_sides, trees_made}
+use Rattle.tptp_reader.specs.Building.{sides_of, formula_sides, trees_made}
 use Rattle.tptp_reader.specs.Script.{signs_of, IsOutline, AreOutlines}
-use Rattle.tptp_reader.proofs.TokenLemmas.{append-nil}
 use Rattle.tptp_reader.specs.declared.reading.Outline.{Outline}
 
 take-front : {X : Type 0} (p q : List X) (c : ℕ) → length p ≡ c → take c (p ++ q) ≡ p

@@ -1,11 +1,11 @@
 -- What a text spells are its tokens, read from its left end.
-use Rattle.std.proofs.Common.{◌≡◌, ℕ, suc, ◌+◌, ◌<◌, Bool, true, false, cond, List, [], ◌∷◌, ◌++◌, take, drop, length, refl, ap, sym, ◌∙◌, subst, inl, inr, ⊎_elim, arith, append_assoc}
+use Rattle.std.proofs.Common.{◌≡◌, ℕ, Bool, true, false, List, [], ◌∷◌, ◌++◌, refl, ap, sym, ◌∙◌, subst, inl, inr, ⊎_elim, append_assoc}
 use Rattle.std.proofs.lemmas.Bool.{eqb-true}
 use Rattle.std.specs.Prelude.{◌⊎◌, ◌==◌, IsTrue, if◌then◌else◌}
 use Rattle.std.specs.List.{AllByRecursion}
-use Rattle.tptp_reader.specs.Token.{Token, word, left_bracket, right_bracket, comma, bar, negation, full_stop, unknown, is_blank, is_lower, is_word_byte, IsLowerWord, IsSpelling, EndsWord, Ends, AreBlanks, IsTokenText}
+use Rattle.tptp_reader.specs.Token.{Token, word, left_bracket, right_bracket, comma, bar, negation, full_stop, unknown, is_blank, is_lower, is_word_byte, IsSpelling, EndsWord, Ends, AreBlanks, IsTokenText}
 use Rattle.tptp_reader.specs.Reading.{scanned, tokens_of, begun, marked, mark_of}
-use Rattle.tptp_reader.proofs.TokenLemmas.{append-nil, lower-not_blank, lower-word_byte}
+use Rattle.tptp_reader.proofs.TokenLemmas.{append-nil, lower-not_blank}
 
 -- blanks in front change nothing
 behind-blanks : (blanks rest : List ℕ) → AreBlanks blanks → tokens_of (blanks ++ rest) ≡ tokens_of rest

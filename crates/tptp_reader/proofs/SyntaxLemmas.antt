@@ -1,6 +1,6 @@
 -- A text spells at most one term, literal, clause and list of formulas.
-use Rattle.std.proofs.Common.{◌≡◌, ℕ, Bool, true, false, List, [], ◌∷◌, refl, ap, sym, ◌∙◌, subst, arith}
-use Rattle.tptp_reader.specs.Token.{Token, word, left_bracket, right_bracket, comma, bar, negation, full_stop, unknown}
+use Rattle.std.proofs.Common.{◌≡◌, ℕ, Bool, true, false, List, [], ◌∷◌, refl, ap, sym, ◌∙◌, subst}
+use Rattle.tptp_reader.specs.Token.{Token, word, left_bracket, bar}
 use Rattle.tptp_reader.specs.Syntax.{NamedTerm, named, NamedTerms, no_terms, term_then, NamedLiteral, NamedFormula, term_text, more_terms_text, sign_text, literal_text, more_literals_text, formula_end, clause_text, formula_text, formulas_text, role_word}
 use Rattle.tptp_reader.specs.Script.{EndsTerm, EndsLiterals, EndsAfter, EndsClause}
 use Rattle.tptp_reader.specs.declared.problem.GroundRole.{GroundRole}

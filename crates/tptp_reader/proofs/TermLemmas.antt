@@ -1,9 +1,9 @@
 -- Steps of reading terms and arguments.
-use Rattle.std.proofs.Common.{◌≡◌, ℕ, zero, suc, ◌+◌, ◌<◌, ◌≤◌, max, Bool, true, false, List, [], ◌∷◌, ◌++◌, length, refl, ap, sym, ◌∙◌, subst, arith, length-append, append_assoc}
+use Rattle.std.proofs.Common.{◌≡◌, ℕ, ◌+◌, ◌<◌, ◌≤◌, Bool, false, List, [], ◌∷◌, ◌++◌, length, refl, ap, sym, ◌∙◌, subst, arith, length-append, append_assoc}
 use Rattle.std.specs.Prelude.{flat_map}
 use Rattle.std.specs.List.{AllByRecursion}
 use Rattle.tptp_reader.specs.Token.{Token, word, left_bracket, right_bracket, comma, bar, negation, full_stop, unknown}
-use Rattle.tptp_reader.specs.Syntax.{NamedTerm, named, NamedTerms, no_terms, term_then, term_text, more_terms_text, nesting, nestings, term_count}
+use Rattle.tptp_reader.specs.Syntax.{NamedTerm, named, NamedTerms, no_terms, term_then, term_text, more_terms_text, nesting, nestings}
 use Rattle.tptp_reader.specs.Numbering.{SymbolKey, term_symbols, terms_symbols}
 use Rattle.tptp_reader.specs.Script.{EndsTerm, EndsAfter, ReadsTerm, HasTerm, ReadsArguments, HasArguments}
 use Rattle.tptp_reader.proofs.TokenLemmas.{append-nil}

@@ -1,10 +1,10 @@
 -- The tokens of a text from its left end.
-use Rattle.std.proofs.Common.{◌≡◌, ℕ, suc, ◌+◌, ◌<◌, ◌≤◌, None, Some, Bool, true, false, cond, List, [], ◌∷◌, ◌++◌, take, drop, length, refl, ap, sym, ◌∙◌, subst, arith, append_assoc}
-use Rattle.std.specs.Prelude.{◌⊎◌, ◌||◌, ◌&&◌, ◌==◌, nat_le, nat_lt, not, unwrap_or, position, if◌then◌else◌}
+use Rattle.std.proofs.Common.{◌≡◌, ℕ, suc, ◌+◌, ◌≤◌, None, Some, Bool, true, false, cond, List, [], ◌∷◌, ◌++◌, take, drop, length, refl, ap, sym, ◌∙◌, subst, arith, append_assoc}
+use Rattle.std.specs.Prelude.{◌||◌, ◌&&◌, ◌==◌, nat_le, nat_lt, not, unwrap_or, position, if◌then◌else◌}
 use Rattle.std.specs.List.{prefix_len}
 use Rattle.std.proofs.lemmas.List.Sums.{prefix_len-le-length}
 use borrow.Author.Tests.{ltb-false}
-use Rattle.tptp_reader.specs.Token.{Token, word, unknown, is_blank, is_lower, is_word_byte}
+use Rattle.tptp_reader.specs.Token.{Token, word, is_blank, is_lower, is_word_byte}
 use Rattle.tptp_reader.specs.Reading.{scanned, tokens_of, begun, marked, mark_of}
 
 pub append-nil : {A : Type 0} (xs : List A) → xs ++ [] ≡ xs

@@ -1,5 +1,5 @@
 -- The terms that symbols in reading order make.
-use Rattle.std.specs.Prelude.{ℕ, Bool, true, List, [], ◌∷◌, ◌++◌, take, drop, flat_map}
+use Rattle.std.specs.Prelude.{ℕ, true, List, [], ◌∷◌, take, drop, flat_map}
 use Rattle.fol_base.specs.Tree.{Tree, application, no_trees, trees_of}
 use Rattle.tptp_reader.specs.Syntax.{NamedLiteral, NamedFormula, literals_of}
 use Rattle.tptp_reader.specs.Numbering.{SymbolKey, numbered_term}

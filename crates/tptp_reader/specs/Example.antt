@@ -1,10 +1,9 @@
 -- The definitions on small rows.
-use Rattle.std.specs.Prelude.{◌≡◌, Bool, true, false, List, [], ◌∷◌, map, codes, refl}
-use Rattle.fol_base.specs.Tree.{application, no_trees, tree_then}
-use Rattle.fol_base.specs.Clause.{TreeLiteral, TreeClause}
+use Rattle.std.specs.Prelude.{◌≡◌, true, false, List, [], ◌∷◌, map, codes, refl}
+use Rattle.fol_base.specs.Tree.{application, no_trees}
 use Rattle.tptp_reader.specs.Token.{is_blank, is_lower, is_word_byte}
-use Rattle.tptp_reader.specs.Syntax.{named, no_terms, term_then, NamedTerm, NamedLiteral, NamedFormula}
-use Rattle.tptp_reader.specs.Numbering.{SymbolKey, true_symbol, symbols_of, numbered_clause}
+use Rattle.tptp_reader.specs.Syntax.{named, no_terms, term_then, NamedTerm, NamedFormula}
+use Rattle.tptp_reader.specs.Numbering.{true_symbol, symbols_of, numbered_clause}
 use Rattle.tptp_reader.specs.GroundText.{IsGroundText, symbol_total}
 use Rattle.tptp_reader.specs.declared.problem.GroundRole.TheVariants.{Axiom, NegatedConjecture}
 

@@ -1,5 +1,5 @@
 -- The tokens of a text, read from its left end. What the text says is apart from this: IsTokenText.
-use Rattle.std.specs.Prelude.{ℕ, Bool, true, false, ◌==◌, List, [], ◌∷◌, ◌++◌, if◌then◌else◌}
+use Rattle.std.specs.Prelude.{ℕ, ◌==◌, List, [], ◌∷◌, ◌++◌, if◌then◌else◌}
 use Rattle.tptp_reader.specs.Token.{Token, word, left_bracket, right_bracket, comma, bar, negation, full_stop, unknown, is_blank, is_lower, is_word_byte}
 
 -- the mark that a byte is

@@ -1,10 +1,9 @@
 -- What the functions that read say of the tokens before and after, and of the symbols that they add.
-use Rattle.std.specs.Prelude.{◌≡◌, ℕ, ◌+◌, ◌≤◌, max, Bool, List, [], ◌∷◌, ◌++◌, map, flat_map, length}
+use Rattle.std.specs.Prelude.{◌≡◌, ℕ, ◌+◌, ◌≤◌, Bool, List, [], ◌∷◌, ◌++◌, map, flat_map, length}
 use Rattle.std.specs.List.{AllByRecursion}
 use Rattle.tptp_reader.specs.Token.{Token, word, left_bracket, right_bracket, comma, bar, negation, full_stop, unknown}
-use Rattle.tptp_reader.specs.Syntax.{NamedTerm, named, NamedTerms, no_terms, term_then, NamedLiteral, NamedFormula, literals_of, term_text, more_terms_text, literal_text, more_literals_text, formula_end, formula_text, formulas_text, nesting, nestings, AtomNestsWithin, NestsWithin, term_count}
+use Rattle.tptp_reader.specs.Syntax.{NamedTerm, named, NamedTerms, no_terms, term_then, NamedLiteral, NamedFormula, literals_of, term_text, more_terms_text, literal_text, more_literals_text, formula_text, formulas_text, nesting, nestings, AtomNestsWithin, NestsWithin, term_count}
 use Rattle.tptp_reader.specs.Numbering.{SymbolKey, term_symbols, terms_symbols, literal_symbols, formula_symbols}
-use Rattle.tptp_reader.specs.declared.problem.GroundRole.{GroundRole}
 use Rattle.tptp_reader.specs.declared.occurrence.Occurrence.{Occurrence}
 use Rattle.tptp_reader.specs.declared.reading.Outline.{Outline}
 use Rattle.tptp_reader.specs.declared.reading.Script.{Script}

@@ -1,5 +1,5 @@
 -- Ground terms, literals and formulas over names, and their tokens.
-use Rattle.std.specs.Prelude.{◌≡◌, ℕ, ◌+◌, ◌≤◌, ◌-◌, max, Bool, true, false, List, [], ◌∷◌, ◌++◌, map, flat_map, sum_by, codes}
+use Rattle.std.specs.Prelude.{ℕ, ◌+◌, ◌≤◌, max, Bool, true, false, List, [], ◌∷◌, codes}
 use Rattle.std.specs.List.{AllByRecursion}
 use Rattle.tptp_reader.specs.Token.{Token, word, left_bracket, right_bracket, comma, bar, negation, full_stop}
 use Rattle.tptp_reader.specs.declared.problem.GroundRole.{GroundRole}

@@ -1,6 +1,4 @@
 use Rattle.std.proofs.Common.{◌≤◌, length, Err, ap, arith}
-use Rattle.tptp_reader.specs.GroundText.{IsReadAs}
-use Rattle.tptp_reader.specs.declared.problem.GroundProblem.{GroundProblem}
 use Rattle.tptp_reader.proofs.FaultLemmas.{passed-on}
 use Rattle.tptp_reader.proofs.ProblemLemmas.{lent-problem, script-within, IsReadAs-ground, IsReadAs-few}
 use Rattle.tptp_reader.proofs.GroundFormLemmas.{ground_form}

@@ -1,6 +1,5 @@
-use Rattle.std.proofs.Common.{◌≡◌, ◌+◌, ◌≤◌, Bool, true, false, refl, arith}
+use Rattle.std.proofs.Common.{◌≤◌, Bool, true, false, refl, arith}
 use Rattle.std.specs.Prelude.{if◌then◌else◌}
-use Rattle.indexmap.specs.IndexSet.{index_set_len}
 use Rattle.tptp_reader.specs.contracts.occurrence.OccurrencePartialEq.TheImpl.{eq-value}
 use Rattle.tptp_reader.proofs.NumberLemmas.{number-step, number-end}
 use Rattle.tptp_reader.proofs.numbering.number.Goals as goal

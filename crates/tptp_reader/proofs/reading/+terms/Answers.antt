@@ -1,4 +1,4 @@
-use Rattle.std.proofs.Common.{◌≡◌, Err, ◌+◌, ◌-◌, ap, sym, ◌∙◌, arith}
+use Rattle.std.proofs.Common.{◌≡◌, Err, ◌+◌, ◌-◌, ap, ◌∙◌, arith}
 use Rattle.tptp_reader.proofs.SymbolLemmas.{length-keys_of}
 use Rattle.tptp_reader.proofs.FaultLemmas.{passed-on}
 use Rattle.tptp_reader.proofs.TermLemmas.{word-read, application-read, arguments-inside, more-so_far, all-read, no_separator}

@@ -1,5 +1,4 @@
-use Rattle.std.proofs.Common.{◌≡◌, ◌≤◌, Err, ap, sym, ◌∙◌, length, arith}
-use Rattle.tptp_reader.specs.Script.{keys_of}
+use Rattle.std.proofs.Common.{Err, ap, arith}
 use Rattle.tptp_reader.proofs.FaultLemmas.{passed-on}
 use Rattle.tptp_reader.proofs.SymbolLemmas.{length-keys_of}
 use Rattle.tptp_reader.proofs.ClauseLemmas.{literal-read, full-no_literal}
