@@ -8,11 +8,11 @@ use Rattle.fol_base.specs.Ground.{GroundClause, GroundInstance, literals_instanc
 use Rattle.fol_base.specs.Interpretation.{Interpretation, literal_true, clause_true}
 use Rattle.fol_base.specs.Entails.{Entails}
 use Rattle.fol_base.specs.Order.{clause_greater}
-use Rattle.fol_base.specs.Selection.{select_nothing}
-use Rattle.fol_base.specs.GroundInference.{GroundSuperposition}
+use Rattle.fol_base.specs.Selection.{select_nothing, select_negative}
+use Rattle.fol_base.specs.GroundInference.{GroundSuperposition, GroundResolution, GroundFactoring}
 use Rattle.fol_base.specs.Covered.{InstanceOf, Covers}
 use Rattle.fol_base.specs.declared.clause.Side.TheVariants.{Left}
-use Rattle.fol_base.specs.Examples.{x, a, b, f, p, equation, clause, is_predicate, functions, all_a, p_of_a_alone}
+use Rattle.fol_base.specs.Examples.{x, a, b, f, p, equation, disequation, clause, is_predicate, functions, all_a, p_of_a_alone}
 
 -- p(a) is an instance of p(X0), and of itself
 pub instance_over_the_list : GroundInstance functions (clause (p (x 0) ∷ [])) (p a ∷ [])
@@ -49,6 +49,44 @@ inner_rewritten = record {
   old_there = refl;
   old_no_variable = refl;
   old_is_s = refl;
+  concludes = refl;
+}
+
+-- X0 != a is chosen, and dropped at X0 = a
+pub chosen_dropped : GroundResolution functions select_negative (clause (p (x 0) ∷ disequation (x 0) a ∷ [])) (p a ∷ [])
+chosen_dropped = record {
+  trees = all_a;
+  trees_ground = λ v. refl;
+  i = 1;
+  literal = disequation (x 0) a;
+  literal_there = refl;
+  literal_negative = refl;
+  sides_same = refl;
+  literal_eligible = refl;
+  concludes = refl;
+}
+
+-- f(X0) = a and f(a) = b: the second is greater, and becomes b != a at X0 = a
+pub greater_factored :
+    GroundFactoring functions select_nothing (clause (equation (f (x 0)) a ∷ equation (f a) b ∷ []))
+    (equation (f a) a ∷ disequation b a ∷ [])
+greater_factored = record {
+  trees = all_a;
+  trees_ground = λ v. refl;
+  i = 1;
+  side_i = Left;
+  literal_i = equation (f a) b;
+  i_there = refl;
+  i_positive = refl;
+  i_falls = refl;
+  i_eligible = record { nothing_chosen = refl; is_eligible = refl };
+  j = 0;
+  side_j = Left;
+  literal_j = equation (f (x 0)) a;
+  j_there = refl;
+  j_positive = refl;
+  different = λ e. absurd (omega (arith, e));
+  same_side = refl;
   concludes = refl;
 }
 

@@ -23,3 +23,4 @@ pub mod Spelling
 pub mod Examples
 pub mod GroundForm
 pub mod Renaming
+pub mod Kind

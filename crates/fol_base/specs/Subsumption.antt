@@ -5,6 +5,7 @@ use Rattle.plain_types.specs.declared.sequence.NameLit.{NameLit}
 use Rattle.fol_base.specs.Instance.{Substitution}
 use Rattle.fol_base.specs.Clause.{TreeLiteral, TreeClause, literal_instance}
 use Rattle.fol_base.specs.Order.{equivalent_literals}
+use Rattle.fol_base.specs.Kind.{PutsFunctionTerms}
 
 -- the numbers of the negative names: under them the ordinary part is asserted
 abbrev pub assertions : List NameLit → List ℕ
@@ -32,9 +33,11 @@ stand_at σ [] (k ∷ places) ds = false
 stand_at σ (l ∷ ls) [] ds = false
 stand_at σ (l ∷ ls) (k ∷ places) ds = is_there (literal_instance σ l) (slice_get ds k) && stand_at σ ls places ds
 
--- c subsumes d: a substitution maps its literals to different literals of d, and its assertions are among d's
-pub record Subsumes (c : TreeClause) (d : TreeClause) : Type 0 where
+-- c subsumes d: a substitution maps its literals to different literals of d, and its assertions are among d's. The variables
+-- become function terms: `X0 = X1` doesn't subsume `p(a) = $true`, which it doesn't entail.
+pub record Subsumes (is_predicate : ℕ → Bool) (c : TreeClause) (d : TreeClause) : Type 0 where
   pub matcher : Substitution
+  pub function_terms : PutsFunctionTerms is_predicate matcher
   pub places : List ℕ
   pub different : IsTrue (all_different places)
   pub mapped : IsTrue (stand_at matcher c.literals places d.literals)

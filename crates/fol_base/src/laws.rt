@@ -17,7 +17,7 @@ pub use instances::{
     variables_of_instances,
 };
 pub use matching_examples::{
-    compatible_examples, spelling_examples, subsumption_examples, unifier_examples,
+    compatible_examples, kind_examples, spelling_examples, subsumption_examples, unifier_examples,
 };
 pub use meaning::{
     congruence, empty_clause_entailed, entailment_cuts, entailment_of_members, entailment_of_more,

@@ -11,7 +11,7 @@ ghost use Rattle.fol_base.specs.Entails.{Entails};
 ghost use Rattle.fol_base.specs.Multiset.{greater, less, equal, unordered};
 ghost use Rattle.fol_base.specs.Order.{compare_trees, compare_literals, compare_clauses};
 ghost use Rattle.fol_base.specs.Selection.{select_nothing, select_negative, chosen, eligible};
-ghost use Rattle.fol_base.specs.GroundInference.{GroundSuperposition};
+ghost use Rattle.fol_base.specs.GroundInference.{GroundSuperposition, GroundResolution, GroundFactoring};
 ghost use Rattle.fol_base.specs.Covered.{Covers};
 ghost use Rattle.fol_base.specs.Examples.{x, a, b, c, f, f₂, g, p, q, q₂, equation, disequation, clause, is_predicate, functions, p_of_a_alone};
 
@@ -64,12 +64,16 @@ pub fn meaning_examples()
     ensures other_constant { Entails is_predicate ((p a ∷ []) ∷ []) (p b ∷ []) → ⊥ }
 {}
 
-/// A ground inference, and coverage.
+/// Ground inferences of each kind, and coverage.
 pub fn coverage_examples()
     ensures inference { GroundSuperposition functions select_nothing
         (clause (equation (f (x 0)) b ∷ []))
         (clause (p (f (f (x 0))) ∷ []))
         (p (f b) ∷ []) }
+    ensures resolution { GroundResolution functions select_negative (clause (p (x 0) ∷ disequation (x 0) a ∷ [])) (p a ∷ []) }
+    ensures factoring { GroundFactoring functions select_nothing
+        (clause (equation (f (x 0)) a ∷ equation (f a) b ∷ []))
+        (equation (f a) a ∷ disequation b a ∷ []) }
     ensures by_a_smaller { Covers is_predicate functions (clause (p a ∷ []) ∷ []) (p a ∷ p a ∷ []) }
     ensures not_by_a_greater { Covers is_predicate functions (clause (p a ∷ p a ∷ []) ∷ []) (p a ∷ []) → ⊥ }
 {}

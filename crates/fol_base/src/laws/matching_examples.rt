@@ -5,6 +5,8 @@ ghost use Rattle.fol_base.specs.Instance.{Substitution};
 ghost use Rattle.fol_base.specs.Compatible.{compatible, compatible_generalisation, compatible_instance};
 ghost use Rattle.fol_base.specs.Unifier.{IsUnifier, IsUnifierApart, IsMostGeneralUnifier, IsMatcher};
 ghost use Rattle.fol_base.specs.Subsumption.{Subsumes};
+ghost use Rattle.fol_base.specs.Kind.{is_literal};
+ghost use Rattle.fol_base.specs.Interpretation.{true_tree};
 ghost use Rattle.fol_base.specs.Spelling.{
   spells,
   lower_word,
@@ -17,16 +19,20 @@ ghost use Rattle.fol_base.specs.Spelling.{
   mark,
   other,
 };
-ghost use Rattle.fol_base.specs.Examples.{x, a, b, f, f₂, g, p, q, r, clause, all_a, all_b, first_is_a};
+ghost use Rattle.fol_base.specs.Examples.{x, a, b, f, f₂, g, p, q, r, equation, disequation, clause, is_predicate, all_a, all_b, first_is_a};
 
 /// Entries that may unify with a query, generalise it or be instances of it.
 pub fn compatible_examples()
     ensures left_variable { IsTrue (compatible (f₂ (x 0) a) (f₂ b a)) }
     ensures right_variable { IsTrue (compatible (f₂ b (x 0)) (f₂ b a)) }
     ensures other_head { IsFalse (compatible (g a) (f₂ b a)) }
+    ensures generalisation_on_the_right { IsTrue (compatible_generalisation (f₂ b (x 0)) (f₂ b a)) }
+    ensures other_head_no_generalisation { IsFalse (compatible_generalisation (g a) (f₂ b a)) }
     ensures generalisation { IsTrue (compatible_generalisation (f₂ (x 0) a) (f₂ b a)) }
     ensures no_generalisation { IsFalse (compatible_generalisation (f₂ b a) (f₂ (x 0) a)) }
     ensures instance_of_query { IsTrue (compatible_instance (f₂ (x 0) a) (f₂ (x 0) (x 1))) }
+    ensures instance_on_the_right { IsTrue (compatible_instance (f₂ b (x 0)) (f₂ (x 0) (x 1))) }
+    ensures other_head_no_instance { IsFalse (compatible_instance (g a) (f₂ (x 0) (x 1))) }
     ensures no_instance { IsFalse (compatible_instance (f₂ (x 0) a) (f₂ b a)) }
 {}
 
@@ -39,10 +45,20 @@ pub fn unifier_examples()
     ensures not_matched { (σ : Substitution) → IsMatcher (f₂ (x 0) (x 0)) (f₂ a b) σ → ⊥ }
 {}
 
+/// The literals that function terms, predicate terms and `$true` make.
+pub fn kind_examples()
+    ensures equation_of_function_terms { IsTrue (is_literal is_predicate (equation (f (x 0)) b)) }
+    ensures atom { IsTrue (is_literal is_predicate (p a)) }
+    ensures negated_truth { IsTrue (is_literal is_predicate (disequation true_tree true_tree)) }
+    ensures variable_and_truth { IsFalse (is_literal is_predicate (equation (x 0) true_tree)) }
+    ensures atom_below_a_function { IsFalse (is_literal is_predicate (equation (f (p a).left) b)) }
+{}
+
 /// Subsumption.
 pub fn subsumption_examples()
-    ensures in_other_order { Subsumes (clause (p (x 0) ∷ q (x 0) ∷ [])) (clause (q a ∷ p a ∷ r ∷ [])) }
-    ensures to_different_literals { Subsumes (clause (p (x 0) ∷ p (x 1) ∷ [])) (clause (p a ∷ [])) → ⊥ }
+    ensures in_other_order { Subsumes is_predicate (clause (p (x 0) ∷ q (x 0) ∷ [])) (clause (q a ∷ p a ∷ r ∷ [])) }
+    ensures to_different_literals { Subsumes is_predicate (clause (p (x 0) ∷ p (x 1) ∷ [])) (clause (p a ∷ [])) → ⊥ }
+    ensures to_function_terms { Subsumes is_predicate (clause (equation (x 0) (x 1) ∷ [])) (clause (p a ∷ [])) → ⊥ }
 {}
 
 /// The spelling of tokens.
