@@ -4,3 +4,13 @@ pub mod DeriveLines
 pub mod DeriveSteps
 pub mod DeriveCone
 pub mod DeriveEntries
+pub mod SearchCodeLemmas
+pub mod SearchSetLemmas
+pub mod SearchStepLemmas
+pub mod SearchPartnerLemmas
+pub mod SearchGivenLemmas
+pub mod SearchHoldLemmas
+pub mod SearchTableLemmas
+pub mod SetLemmas
+pub mod SearchInputLemmas
+pub mod SearchFoundLemmas

@@ -4,3 +4,7 @@ pub mod Answer
 pub mod Search
 pub mod Inputs
 pub mod Lines
+pub mod Codes
+pub mod Sets
+pub mod Table
+pub mod Saturation
