@@ -36,12 +36,13 @@ pub has_number-filter : (c d : ℕ) (xs : List ℕ) → has_number c (filter (λ
 has_number-filter c d [] = refl
 has_number-filter c d (x ∷ xs) =
     elim (cases_Bool (x == d)) [
-    inl e ↦ ap (λ b. has_number c (cond (not b) (x ∷ filter (λ k. not (k == d)) xs) (filter (λ k. not (k == d)) xs))) e
-    ∙ has_number-filter c d xs ∙ gone (c == x) (has_number c xs) (c == d) (λ h. eq-eqb c d (eqb-true c x h ∙ eqb-true x d e))
-    | inr e ↦ ap (λ b. has_number c (cond (not b) (x ∷ filter (λ k. not (k == d)) xs) (filter (λ k. not (k == d)) xs))) e
-    ∙ ap (λ b. (c == x) || b) (has_number-filter c d xs)
-    ∙ stays (c == x) (has_number c xs) (c == d)
-    (λ h. ap (λ v. v == d) (eqb-true c x h) ∙ e) ]
+      | inl e ↦ ap (λ b. has_number c (cond (not b) (x ∷ filter (λ k. not (k == d)) xs) (filter (λ k. not (k == d)) xs))) e
+          ∙ has_number-filter c d xs ∙ gone (c == x) (has_number c xs) (c == d) (λ h. eq-eqb c d (eqb-true c x h ∙ eqb-true x d e))
+      | inr e ↦ ap (λ b. has_number c (cond (not b) (x ∷ filter (λ k. not (k == d)) xs) (filter (λ k. not (k == d)) xs))) e
+          ∙ ap (λ b. (c == x) || b) (has_number-filter c d xs)
+          ∙ stays (c == x) (has_number c xs) (c == d)
+          (λ h. ap (λ v. v == d) (eqb-true c x h) ∙ e)
+    ]
   where
     gone : (a b e : Bool) → (a ≡ true → e ≡ true) → (b && not e) ≡ ((a || b) && not e)
     gone true true true f = refl
@@ -49,6 +50,7 @@ has_number-filter c d (x ∷ xs) =
     gone true false true f = refl
     gone true false false f = f refl
     gone false b e f = refl
+
     stays : (a b e : Bool) → (a ≡ true → e ≡ false) → (a || (b && not e)) ≡ ((a || b) && not e)
     stays true b true f = f refl
     stays true b false f = refl
@@ -83,10 +85,12 @@ LacksBoth-from_neighbours xs rising apart a h1 h2 =
     let pv : get_or xs p.0 0 ≡ 2 * a = p.2 0 in
     let qv : get_or xs q.0 0 ≡ 2 * a + 1 = q.2 0 in
     elim (cases_order p.0 q.0) [
-    inl e ↦ absurd (omega (arith, ap (λ k. get_or xs k 0) e))
-    | inr r ↦ elim r [
-      inl l ↦ near p.0 q.0 p.1 q.1 pv qv l pairs (cases_order (p.0 + 1) q.0)
-      | inr l ↦ absurd (omega (arith, pairs q.0 p.0 0 l p.1)) ] ]
+      | inl e ↦ absurd (omega (arith, ap (λ k. get_or xs k 0) e))
+      | inr r ↦ elim r [
+        | inl l ↦ near p.0 q.0 p.1 q.1 pv qv l pairs (cases_order (p.0 + 1) q.0)
+        | inr l ↦ absurd (omega (arith, pairs q.0 p.0 0 l p.1))
+      ]
+    ]
   where
     near :
         (i j : ℕ) → i < length xs → j < length xs → get_or xs i 0 ≡ 2 * a → get_or xs j 0 ≡ 2 * a + 1 → i < j

@@ -67,8 +67,8 @@ IsEntry-input form terms earlier e different i = record {
   in_table = in_table-all terms e.codes i.in_table;
   no_tautology = tautology_codes terms e.codes different i.in_table i.lacks_both;
   comes =
-    subst (ComesFrom form terms earlier (entry_set terms e)) (sym i.comes)
-    (i.clause, i.is_clause, same_set-from (entry_set terms e) i.clause.literals i.same);
+      subst (ComesFrom form terms earlier (entry_set terms e)) (sym i.comes)
+      (i.clause, i.is_clause, same_set-from (entry_set terms e) i.clause.literals i.same);
 }
 
 IsEntry-made :
@@ -83,23 +83,28 @@ IsEntry-made form terms bound earlier e different is_bound inside m =
     let negative = subst (λ cs. IsTrue (has_number (2 * m.atom + 1) cs)) (codes_at-slice earlier m.second second.0 second.1) m.meets.3 in
     let small = inside m.first first.0 first.1 (2 * m.atom) positive in
     let in_table : (c : ℕ) → IsTrue (has_number c e.codes) → c < 2 * length terms = λ c h.
-      subst (λ n. c < n) is_bound (m.in_range c h) in
+    subst (λ n. c < n) is_bound (m.in_range c h) in
     let low : m.atom < length terms = omega arith in
     record {
       rising = m.is_resolvent.rising;
       in_table = in_table-all terms e.codes in_table;
       no_tautology = tautology_codes terms e.codes different in_table m.lacks_both;
       comes =
-        subst (ComesFrom form terms earlier (entry_set terms e)) (sym m.comes)
-        (first.0, second.0, first.1, second.1, low,
-        and_from (has_literal (atom_literal true (atom_at terms m.atom)) (entry_set terms first.0))
-        (has_literal (atom_literal false (atom_at terms m.atom)) (entry_set terms second.0))
-        (positive_literal terms first.0.codes m.atom positive) (negative_literal terms second.0.codes m.atom negative),
-        resolvent_codes terms m.atom first.0.codes second.0.codes e.codes different low (inside m.first first.0 first.1)
-        (inside m.second second.0 second.1)
-        (subst (λ xs. IsCodeResolvent m.atom xs second.0.codes e.codes) (codes_at-slice earlier m.first first.0 first.1)
-        (subst (λ ys. IsCodeResolvent m.atom (codes_at earlier m.first) ys e.codes) (codes_at-slice earlier m.second second.0 second.1)
-        m.is_resolvent)));
+          subst (ComesFrom form terms earlier (entry_set terms e)) (sym m.comes) (
+            first.0,
+            second.0,
+            first.1,
+            second.1,
+            low,
+            and_from (has_literal (atom_literal true (atom_at terms m.atom)) (entry_set terms first.0))
+                (has_literal (atom_literal false (atom_at terms m.atom)) (entry_set terms second.0))
+                (positive_literal terms first.0.codes m.atom positive) (negative_literal terms second.0.codes m.atom negative),
+            resolvent_codes terms m.atom first.0.codes second.0.codes e.codes different low (inside m.first first.0 first.1)
+                (inside m.second second.0 second.1)
+                (subst (λ xs. IsCodeResolvent m.atom xs second.0.codes e.codes) (codes_at-slice earlier m.first first.0 first.1)
+                (subst (λ ys. IsCodeResolvent m.atom (codes_at earlier m.first) ys e.codes) (codes_at-slice earlier m.second second.0 second.1)
+                m.is_resolvent)),
+          );
     }
 
 -- entries of clauses, and resolvents after them
@@ -115,6 +120,7 @@ entries_lawful form terms bound kept entries different is_bound inputs ext n e h
   where
     old : (n : ℕ) (e : Entry) → n < length kept → slice_get entries n ≡ Some e → slice_get kept n ≡ Some e
     old n e k h = sym (slice_get-before kept ext.added n k) ∙ ap (λ es. slice_get es n) (sym ext.is_longer) ∙ h
+
     inside : (n : ℕ) (e : Entry) → slice_get entries n ≡ Some e → (c : ℕ) → IsTrue (has_number c e.codes) → c < 2 * length terms
     inside n e h c m =
         ⊎_elim (λ k. (inputs n e (old n e k h)).in_table c m)
@@ -165,13 +171,13 @@ Follows-from form terms earlier s (Resolvent first second a) before comes =
       by = resolved atom one.by two.by;
       set = resolvent atom one.set two.set;
       is_reached =
-        reached-resolved form atom one.by two.by one.set two.set one.is_reached two.is_reached
-        (same_can_resolve atom (entry_set terms comes.0) one.set (entry_set terms comes.1) two.set
-        (same_set-sym one.set (entry_set terms comes.0) one.is_same) (same_set-sym two.set (entry_set terms comes.1) two.is_same) comes.5);
+          reached-resolved form atom one.by two.by one.set two.set one.is_reached two.is_reached
+          (same_can_resolve atom (entry_set terms comes.0) one.set (entry_set terms comes.1) two.set
+          (same_set-sym one.set (entry_set terms comes.0) one.is_same) (same_set-sym two.set (entry_set terms comes.1) two.is_same) comes.5);
       is_same =
-        same_set-trans (resolvent atom one.set two.set) (resolvent atom (entry_set terms comes.0) (entry_set terms comes.1)) s
-        (same_resolvents atom one.set (entry_set terms comes.0) two.set (entry_set terms comes.1) one.is_same two.is_same)
-        (same_set-sym s (resolvent atom (entry_set terms comes.0) (entry_set terms comes.1)) comes.6);
+          same_set-trans (resolvent atom one.set two.set) (resolvent atom (entry_set terms comes.0) (entry_set terms comes.1)) s
+          (same_resolvents atom one.set (entry_set terms comes.0) two.set (entry_set terms comes.1) one.is_same two.is_same)
+          (same_set-sym s (resolvent atom (entry_set terms comes.0) (entry_set terms comes.1)) comes.6);
     }
 
 entries_follow :
@@ -212,7 +218,7 @@ head_below : (x : ℕ) (xs : List ℕ) → IsStrictlyIncreasing (x ∷ xs) → (
 head_below x xs rising c h =
     let p = number_place c xs h in
     let up : get_or (x ∷ xs) 0 0 < get_or (x ∷ xs) (suc p.0) 0 =
-      AllPairs-from_increasing (x ∷ xs) rising 0 (suc p.0) 0 (omega arith) (omega (arith, p.1)) in
+    AllPairs-from_increasing (x ∷ xs) rising 0 (suc p.0) 0 (omega arith) (omega (arith, p.1)) in
     subst (λ v. x < v) (p.2 0) up
 
 rising_same :
@@ -222,19 +228,21 @@ rising_same [] (y ∷ ys) a b f = absurd (both_ways _ (sym (f y)) (or_left (y ==
 rising_same (x ∷ xs) [] a b f = absurd (both_ways _ (f x) (or_left (x == x) (has_number x xs) (eq-eqb x x refl)))
 rising_same (x ∷ xs) (y ∷ ys) a b f =
     let heads : x ≡ y = first (or_cases (x == y) (has_number x ys) (sym (f x) ∙ or_left (x == x) (has_number x xs) (eq-eqb x x refl)))
-      (or_cases (y == x) (has_number y xs) (f y ∙ or_left (y == y) (has_number y ys) (eq-eqb y y refl))) in
+    (or_cases (y == x) (has_number y xs) (f y ∙ or_left (y == y) (has_number y ys) (eq-eqb y y refl))) in
     let tails : xs ≡ ys = rising_same xs ys (rising_tail x xs a) (rising_tail y ys b) (λ c.
-      same_tests (has_number c xs) (has_number c ys) (λ h. forth heads c h) (λ h. back heads c h)) in
+    same_tests (has_number c xs) (has_number c ys) (λ h. forth heads c h) (λ h. back heads c h)) in
     cc
   where
     first : ((x == y) ≡ true) ⊎ (has_number x ys ≡ true) → ((y == x) ≡ true) ⊎ (has_number y xs ≡ true) → x ≡ y
     first (inl e) g = eqb-true x y e
     first (inr h) (inl e) = sym (eqb-true y x e)
     first (inr h) (inr g) = absurd (let l = head_below y ys b x h in let m = head_below x xs a y g in omega arith)
+
     forth : x ≡ y → (c : ℕ) → IsTrue (has_number c xs) → IsTrue (has_number c ys)
     forth e c h =
         ⊎_elim (λ k. absurd (let l = head_below x xs a c h in let m : c ≡ y = eqb-true c y k in omega arith)) (λ k. k)
         (or_cases (c == y) (has_number c ys) (sym (f c) ∙ or_right (c == x) (has_number c xs) h))
+
     back : x ≡ y → (c : ℕ) → IsTrue (has_number c ys) → IsTrue (has_number c xs)
     back e c h =
         ⊎_elim (λ k. absurd (let l = head_below y ys b c h in let m : c ≡ x = eqb-true c x k in omega arith)) (λ k. k)
@@ -259,8 +267,9 @@ entries_same :
     → codes_at s.entries.items m ≡ codes_at s.entries.items n → m ≡ n
 entries_same bound m n s are hm hn e =
     elim (cases_order m n) [
-    inl same ↦ same
-    | inr r ↦ elim r [ inl l ↦ absurd (are.apart m n l hn e) | inr l ↦ absurd (are.apart n m l hm (sym e)) ] ]
+      | inl same ↦ same
+      | inr r ↦ elim r [ inl l ↦ absurd (are.apart m n l hn e) | inr l ↦ absurd (are.apart n m l hm (sym e)) ]
+    ]
 
 -- ---- as many triples as pairings
 
@@ -279,57 +288,59 @@ found_spent form terms limit s different lawful are has = record {
   triples = map (triple_of terms s.entries.items) has.pairings;
   counted = length-map has.pairings (triple_of terms s.entries.items) ∙ has.counted;
   lawful =
-    All-map (IsTripleOf form) (triple_of terms s.entries.items) has.pairings
-    (All-weaker (λ (p : Pairing). Meets s.entries.items p.first p.second p.atom × AnyPairing p.first p.second p.atom)
-    (λ p. IsTripleOf form (triple_of terms s.entries.items p))
-    (λ p h. record {
-      first_follows = follows_at form terms s.entries.items p.first lawful h.0.0;
-      second_follows = follows_at form terms s.entries.items p.second lawful h.0.1;
-      resolves =
-        and_from (has_literal (atom_literal true (atom_at terms p.atom)) (coded_set terms (codes_at s.entries.items p.first)))
-        (has_literal (atom_literal false (atom_at terms p.atom)) (coded_set terms (codes_at s.entries.items p.second)))
-        (positive_literal terms (codes_at s.entries.items p.first) p.atom h.0.2) (negative_literal terms (codes_at s.entries.items p.second) p.atom h.0.3);
-    }) has.pairings has.lawful);
+      All-map (IsTripleOf form) (triple_of terms s.entries.items) has.pairings
+      (All-weaker (λ (p : Pairing). Meets s.entries.items p.first p.second p.atom × AnyPairing p.first p.second p.atom)
+      (λ p. IsTripleOf form (triple_of terms s.entries.items p))
+      (λ p h. record {
+        first_follows = follows_at form terms s.entries.items p.first lawful h.0.0;
+        second_follows = follows_at form terms s.entries.items p.second lawful h.0.1;
+        resolves =
+            and_from (has_literal (atom_literal true (atom_at terms p.atom)) (coded_set terms (codes_at s.entries.items p.first)))
+            (has_literal (atom_literal false (atom_at terms p.atom)) (coded_set terms (codes_at s.entries.items p.second)))
+            (positive_literal terms (codes_at s.entries.items p.first) p.atom h.0.2) (negative_literal terms (codes_at s.entries.items p.second) p.atom h.0.3);
+      }) has.pairings has.lawful);
   different = λ i j d l h.
-    let hj : j < length has.pairings = omega (arith, length-map has.pairings (triple_of terms s.entries.items)) in
-    let hi : i < length has.pairings = omega arith in
-    let none : Pairing = record { first = 0; second = 0; atom = 0 } in
-    let p = get_or has.pairings i none in
-    let q = get_or has.pairings j none in
-    let at_i : get_or (map (triple_of terms s.entries.items) has.pairings) i d ≡ triple_of terms s.entries.items p =
+      let hj : j < length has.pairings = omega (arith, length-map has.pairings (triple_of terms s.entries.items)) in
+      let hi : i < length has.pairings = omega arith in
+      let none : Pairing = record { first = 0; second = 0; atom = 0 } in
+      let p = get_or has.pairings i none in
+      let q = get_or has.pairings j none in
+      let at_i : get_or (map (triple_of terms s.entries.items) has.pairings) i d ≡ triple_of terms s.entries.items p =
       get_or-map (triple_of terms s.entries.items) has.pairings i none d hi in
-    let at_j : get_or (map (triple_of terms s.entries.items) has.pairings) j d ≡ triple_of terms s.entries.items q =
+      let at_j : get_or (map (triple_of terms s.entries.items) has.pairings) j d ≡ triple_of terms s.entries.items q =
       get_or-map (triple_of terms s.entries.items) has.pairings j none d hj in
-    subst (λ (t : Triple). IsFalse (same_triple t (get_or (map (triple_of terms s.entries.items) has.pairings) j d))) (sym at_i)
-    (subst (λ (u : Triple). IsFalse (same_triple (triple_of terms s.entries.items p) u)) (sym at_j)
-    (false_from_ne_true (same_triple (triple_of terms s.entries.items p) (triple_of terms s.entries.items q)) (λ e.
-    has.different i j none l hj (same_pairing p q (has.lawful i none hi).0 (has.lawful j none hj).0 e))));
+      subst (λ (t : Triple). IsFalse (same_triple t (get_or (map (triple_of terms s.entries.items) has.pairings) j d))) (sym at_i)
+      (subst (λ (u : Triple). IsFalse (same_triple (triple_of terms s.entries.items p) u)) (sym at_j)
+      (false_from_ne_true (same_triple (triple_of terms s.entries.items p) (triple_of terms s.entries.items q)) (λ e.
+      has.different i j none l hj (same_pairing p q (has.lawful i none hi).0 (has.lawful j none hj).0 e))));
 }
   where
     low : (p : Pairing) → Meets s.entries.items p.first p.second p.atom → p.atom < length terms
     low p m = let small = (are.proper p.first m.0).in_range (2 * p.atom) m.2 in omega arith
+
     made :
         (i i' j j' a a' : ℕ) → i ≡ i' → j ≡ j' → a ≡ a'
         → ◌≡◌ {A = Pairing} (record { first = i; second = j; atom = a }) (record { first = i'; second = j'; atom = a' })
     made i i' j j' a a' e f g = cc
+
     same_pairing :
         (p q : Pairing) → Meets s.entries.items p.first p.second p.atom → Meets s.entries.items q.first q.second q.atom
         → same_triple (triple_of terms s.entries.items p) (triple_of terms s.entries.items q) ≡ true → p ≡ q
     same_pairing p q m n e =
         let parts = and_parts (tree_eq (atom_at terms p.atom) (atom_at terms q.atom))
-          (same_set (coded_set terms (codes_at s.entries.items p.first)) (coded_set terms (codes_at s.entries.items q.first))
-          && same_set (coded_set terms (codes_at s.entries.items p.second)) (coded_set terms (codes_at s.entries.items q.second))) e in
+        (same_set (coded_set terms (codes_at s.entries.items p.first)) (coded_set terms (codes_at s.entries.items q.first))
+        && same_set (coded_set terms (codes_at s.entries.items p.second)) (coded_set terms (codes_at s.entries.items q.second))) e in
         let sides = and_parts
-          (same_set (coded_set terms (codes_at s.entries.items p.first)) (coded_set terms (codes_at s.entries.items q.first)))
-          (same_set (coded_set terms (codes_at s.entries.items p.second)) (coded_set terms (codes_at s.entries.items q.second))) parts.1 in
+        (same_set (coded_set terms (codes_at s.entries.items p.first)) (coded_set terms (codes_at s.entries.items q.first)))
+        (same_set (coded_set terms (codes_at s.entries.items p.second)) (coded_set terms (codes_at s.entries.items q.second))) parts.1 in
         let atoms : p.atom ≡ q.atom =
-          atom_injective terms p.atom q.atom different (low p m) (low q n) (tree_eq-true (atom_at terms p.atom) (atom_at terms q.atom) parts.0) in
+        atom_injective terms p.atom q.atom different (low p m) (low q n) (tree_eq-true (atom_at terms p.atom) (atom_at terms q.atom) parts.0) in
         let firsts : p.first ≡ q.first =
-          entries_same (2 * length terms) p.first q.first s are m.0 n.0
-          (codes_same terms _ _ different (are.proper p.first m.0) (are.proper q.first n.0) sides.0) in
+        entries_same (2 * length terms) p.first q.first s are m.0 n.0
+        (codes_same terms _ _ different (are.proper p.first m.0) (are.proper q.first n.0) sides.0) in
         let seconds : p.second ≡ q.second =
-          entries_same (2 * length terms) p.second q.second s are m.1 n.1
-          (codes_same terms _ _ different (are.proper p.second m.1) (are.proper q.second n.1) sides.1) in
+        entries_same (2 * length terms) p.second q.second s are m.1 n.1
+        (codes_same terms _ _ different (are.proper p.second m.1) (are.proper q.second n.1) sides.1) in
         made p.first q.first p.second q.second p.atom q.atom firsts seconds atoms
 
 -- ---- all resolvents were made
@@ -379,33 +390,34 @@ found_closed form atoms limit kept s table is_bound covered ext finished = recor
   sets = map (entry_set atoms.terms) s.sets.entries.items;
   is_closed = record {
     has_clauses = λ c h not_tautology.
-      let in_form : slice_get form h.0 ≡ Some c = slice_get-get_or form h.0 c h.1 ∙ ap Some h.2 in
-      let old = covered h.0 c h.1 in_form not_tautology in
-      holds_entry atoms.terms s.sets.entries.items old.0 c.literals (omega (arith, old.1, length-kept ext))
-      (same_set-sym (coded_set atoms.terms (codes_at s.sets.entries.items old.0)) c.literals
-      (same_set-from (coded_set atoms.terms (codes_at s.sets.entries.items old.0)) c.literals
-      (λ l. ap (λ cs. has_literal l (coded_set atoms.terms cs)) (codes_at-kept ext old.0 old.1) ∙ old.2 l)));
+        let in_form : slice_get form h.0 ≡ Some c = slice_get-get_or form h.0 c h.1 ∙ ap Some h.2 in
+        let old = covered h.0 c h.1 in_form not_tautology in
+        holds_entry atoms.terms s.sets.entries.items old.0 c.literals (omega (arith, old.1, length-kept ext))
+        (same_set-sym (coded_set atoms.terms (codes_at s.sets.entries.items old.0)) c.literals
+        (same_set-from (coded_set atoms.terms (codes_at s.sets.entries.items old.0)) c.literals
+        (λ l. ap (λ cs. has_literal l (coded_set atoms.terms cs)) (codes_at-kept ext old.0 old.1) ∙ old.2 l)));
     has_resolvents = λ u v atom hu hv can not_tautology.
-      let i = entry_of atoms.terms s.sets.entries.items u hu in
-      let j = entry_of atoms.terms s.sets.entries.items v hv in
-      subst (λ (u : LiteralSet). IsTrue (holds_set (map (entry_set atoms.terms) s.sets.entries.items) (resolvent atom u v))) i.2
-      (subst (λ (v : LiteralSet). IsTrue (holds_set (map (entry_set atoms.terms) s.sets.entries.items)
-      (resolvent atom (coded_set atoms.terms (codes_at s.sets.entries.items i.0)) v))) j.2
-      (holds_resolvent i.0 j.0 atom i.1 j.1
-      (subst (λ (v : LiteralSet). IsTrue (can_resolve atom (coded_set atoms.terms (codes_at s.sets.entries.items i.0)) v)) (sym j.2)
-      (subst (λ (u : LiteralSet). IsTrue (can_resolve atom u v)) (sym i.2) can))
-      (subst (λ (v : LiteralSet). IsFalse (is_tautology (resolvent atom (coded_set atoms.terms (codes_at s.sets.entries.items i.0)) v))) (sym j.2)
-      (subst (λ (u : LiteralSet). IsFalse (is_tautology (resolvent atom u v))) (sym i.2) not_tautology))));
+        let i = entry_of atoms.terms s.sets.entries.items u hu in
+        let j = entry_of atoms.terms s.sets.entries.items v hv in
+        subst (λ (u : LiteralSet). IsTrue (holds_set (map (entry_set atoms.terms) s.sets.entries.items) (resolvent atom u v))) i.2
+        (subst (λ (v : LiteralSet). IsTrue (holds_set (map (entry_set atoms.terms) s.sets.entries.items)
+        (resolvent atom (coded_set atoms.terms (codes_at s.sets.entries.items i.0)) v))) j.2
+        (holds_resolvent i.0 j.0 atom i.1 j.1
+        (subst (λ (v : LiteralSet). IsTrue (can_resolve atom (coded_set atoms.terms (codes_at s.sets.entries.items i.0)) v)) (sym j.2)
+        (subst (λ (u : LiteralSet). IsTrue (can_resolve atom u v)) (sym i.2) can))
+        (subst (λ (v : LiteralSet). IsFalse (is_tautology (resolvent atom (coded_set atoms.terms (codes_at s.sets.entries.items i.0)) v))) (sym j.2)
+        (subst (λ (u : LiteralSet). IsFalse (is_tautology (resolvent atom u v))) (sym i.2) not_tautology))));
   };
   no_empty =
-    list_any_none (same_set []) (map (entry_set atoms.terms) s.sets.entries.items) (λ k d h.
-    let low : k < length s.sets.entries.items = omega (arith, length-map s.sets.entries.items (entry_set atoms.terms)) in
-    subst (λ (t : LiteralSet). same_set [] t ≡ false) (sym (sets_at atoms.terms s.sets.entries.items k d low))
-    (not_empty_set atoms.terms (codes_at s.sets.entries.items k) (are.proper k low).not_empty));
+      list_any_none (same_set []) (map (entry_set atoms.terms) s.sets.entries.items) (λ k d h.
+      let low : k < length s.sets.entries.items = omega (arith, length-map s.sets.entries.items (entry_set atoms.terms)) in
+      subst (λ (t : LiteralSet). same_set [] t ≡ false) (sym (sets_at atoms.terms s.sets.entries.items k d low))
+      (not_empty_set atoms.terms (codes_at s.sets.entries.items k) (are.proper k low).not_empty));
 }
   where
     are : AreSets (2 * length atoms.terms) s.sets
     are = subst (λ n. AreSets n s.sets) is_bound finished.between.stands.sets
+
     holds_resolvent :
         (i j : ℕ) (atom : Tree) → i < length s.sets.entries.items → j < length s.sets.entries.items
         → IsTrue (can_resolve atom (coded_set atoms.terms (codes_at s.sets.entries.items i)) (coded_set atoms.terms (codes_at s.sets.entries.items j)))
@@ -416,14 +428,14 @@ found_closed form atoms limit kept s table is_bound covered ext finished = recor
         let xs = codes_at s.sets.entries.items i in
         let ys = codes_at s.sets.entries.items j in
         let parts = and_parts (has_literal (atom_literal true atom) (coded_set atoms.terms xs))
-          (has_literal (atom_literal false atom) (coded_set atoms.terms ys)) can in
+        (has_literal (atom_literal false atom) (coded_set atoms.terms ys)) can in
         let a = atom_of_positive atoms.terms xs atom (are.proper i hi).in_range parts.0 in
         let negative = negative_number atoms.terms ys a.0 table.different a.1 (are.proper j hj).in_range
-          (subst (λ (t : Tree). IsTrue (has_literal (atom_literal false t) (coded_set atoms.terms ys))) a.2 parts.1) in
+        (subst (λ (t : Tree). IsTrue (has_literal (atom_literal false t) (coded_set atoms.terms ys))) a.2 parts.1) in
         let settled = finished.between.stands.resolved.settled i j a.0 (all_done limit s finished i hi, all_done limit s finished j hj)
-          (hi, hj, a.3, negative) in
+        (hi, hj, a.3, negative) in
         let same = resolvent_codes atoms.terms a.0 xs ys settled.codes table.different a.1 (are.proper i hi).in_range (are.proper j hj).in_range
-          settled.is_resolvent in
+        settled.is_resolvent in
         subst (λ (t : Tree). IsTrue (holds_set (map (entry_set atoms.terms) s.sets.entries.items) (resolvent t (coded_set atoms.terms xs) (coded_set atoms.terms ys))))
         (sym a.2)
         (⊎_elim

@@ -39,14 +39,16 @@ AreHolders-kept :
     → AreHolders done new holders
 AreHolders-kept {bound} {old} {new} done holders ext inside held c n =
     elim (cases_lt n (length old)) [
-    inl h ↦ held c n ∙ ap (λ cs. if has_number c cs then occurrences n done else 0) (sym (codes_at-kept ext n h))
-    | inr h ↦
-      let none : occurrences n done ≡ 0 = absent (occurrences n done) (λ l. omega (arith, inside n (stands_from_occurs n done l))) in
-      held c n ∙ both (has_number c (codes_at old n)) (has_number c (codes_at new n)) (occurrences n done) none ]
+      | inl h ↦ held c n ∙ ap (λ cs. if has_number c cs then occurrences n done else 0) (sym (codes_at-kept ext n h))
+      | inr h ↦
+          let none : occurrences n done ≡ 0 = absent (occurrences n done) (λ l. omega (arith, inside n (stands_from_occurs n done l))) in
+          held c n ∙ both (has_number c (codes_at old n)) (has_number c (codes_at new n)) (occurrences n done) none
+    ]
   where
     absent : (o : ℕ) → (1 ≤ o → ⊥) → o ≡ 0
     absent zero f = refl
     absent (suc o) f = absurd (f (omega arith))
+
     both : (a b : Bool) (o : ℕ) → o ≡ 0 → (if a then o else 0) ≡ (if b then o else 0)
     both true true o e = refl
     both true false o e = e
@@ -64,6 +66,7 @@ Partly-inside {limit} {s} {g} {k} {m} r x y z h =
   where
     is_in : (n : ℕ) → IsTrue (has_number n r.done) → n < length s.sets.entries.items
     is_in n d = done_in r.done (g ∷ []) s.sets n r.stands.balanced d
+
     paired :
         (c p : ℕ) → IsTrue (has_number p r.done) → Pairs g c p x y z
         → (x < length s.sets.entries.items) × (y < length s.sets.entries.items)
@@ -71,6 +74,7 @@ Partly-inside {limit} {s} {g} {k} {m} r x y z h =
         (subst (λ u. u < length s.sets.entries.items) (sym e.0) r.is_entry, subst (λ u. u < length s.sets.entries.items) (sym e.1) (is_in p d))
     paired c p d (inr e) =
         (subst (λ u. u < length s.sets.entries.items) (sym e.1) (is_in p d), subst (λ u. u < length s.sets.entries.items) (sym e.0) r.is_entry)
+
     inside :
         Partly r.done g (codes_at s.sets.entries.items g) k (partners_at s g k) m x y z
         → (x < length s.sets.entries.items) × (y < length s.sets.entries.items)
@@ -121,9 +125,12 @@ Partly-mine :
     → (t : StepIn limit s g k m p i j a)
     → Partly t.resolving.done g (codes_at s.sets.entries.items g) k (partners_at s g k) (m + 1) i j a
 Partly-mine {limit} {s} {g} {k} {m} {p} {i} {j} {a} t =
-    inr (inr (p,
-    subst (λ q. IsTrue (has_number q (take (m + 1) (partners_at s g k)))) (sym t.is_partner)
-    (stands_at_end m (partners_at s g k) t.in_partners), t.pairs))
+    inr (inr (
+      p,
+      subst (λ q. IsTrue (has_number q (take (m + 1) (partners_at s g k)))) (sym t.is_partner)
+          (stands_at_end m (partners_at s g k) t.in_partners),
+      t.pairs,
+    ))
 
 step_stands :
     {limit : ℕ} {s : Saturation} {g k m p i j a : ℕ} (new : Saturation)
@@ -138,20 +145,20 @@ step_stands {limit} {s} {g} {k} {m} {p} {i} {j} {a} new t res =
       few = subst (λ n. n < 2 ^ 32) (sym (ap length res.same_holders)) st.few;
       sets = subst (λ n. AreSets n new.sets) (sym (ap length res.same_holders)) res.leaves.1;
       held =
-        subst (AreHolders t.resolving.done new.sets.entries.items) (sym res.same_holders)
-        (AreHolders-kept t.resolving.done s.holders.items res.extends
-        (λ n d. done_in t.resolving.done (g ∷ []) s.sets n st.balanced d) st.held);
+          subst (AreHolders t.resolving.done new.sets.entries.items) (sym res.same_holders)
+          (AreHolders-kept t.resolving.done s.holders.items res.extends
+          (λ n d. done_in t.resolving.done (g ∷ []) s.sets n st.balanced d) st.held);
       balanced = res.leaves.3 ((g ∷ []) ++ t.resolving.done) st.balanced;
       limited = res.same_limit ∙ st.limited;
       unspent = subst (λ n. new.count < n) st.limited res.leaves.0;
       resolved =
-        subst (IsResolved new.sets.entries.items
-        (Partly t.resolving.done g (codes_at s.sets.entries.items g) k (partners_at s g k) (m + 1)))
-        (sym res.counted)
-        (IsResolved-more (Partly t.resolving.done g (codes_at s.sets.entries.items g) k (partners_at s g k) m)
-        (Partly t.resolving.done g (codes_at s.sets.entries.items g) k (partners_at s g k) (m + 1))
-        s.count i j a res.extends st.resolved (step_meets t) (step_fresh t) res.leaves.2 (Partly-inside t.resolving)
-        (Partly-more t) (Partly-wider t) (Partly-mine t));
+          subst (IsResolved new.sets.entries.items
+          (Partly t.resolving.done g (codes_at s.sets.entries.items g) k (partners_at s g k) (m + 1)))
+          (sym res.counted)
+          (IsResolved-more (Partly t.resolving.done g (codes_at s.sets.entries.items g) k (partners_at s g k) m)
+          (Partly t.resolving.done g (codes_at s.sets.entries.items g) k (partners_at s g k) (m + 1))
+          s.count i j a res.extends st.resolved (step_meets t) (step_fresh t) res.leaves.2 (Partly-inside t.resolving)
+          (Partly-more t) (Partly-wider t) (Partly-mine t));
     }
 
 pub step_open :
@@ -161,15 +168,15 @@ step_open {limit} {s} {g} {k} {m} {p} {i} {j} {a} new t res = record {
   done = t.resolving.done;
   is_entry = omega (arith, t.resolving.is_entry, length-kept res.extends);
   stands =
-    subst
-    (λ cs. Stands limit t.resolving.done (g ∷ [])
-    (Partly t.resolving.done g cs k (get_or new.holders.items (complement_code (get_or cs k 0)) []) (m + 1)) new)
-    (sym (codes_at-kept res.extends g t.resolving.is_entry))
-    (subst
-    (λ hs. Stands limit t.resolving.done (g ∷ [])
-    (Partly t.resolving.done g (codes_at s.sets.entries.items g) k
-    (get_or hs (complement_code (get_or (codes_at s.sets.entries.items g) k 0)) []) (m + 1)) new)
-    (sym res.same_holders) (step_stands new t res));
+      subst
+      (λ cs. Stands limit t.resolving.done (g ∷ [])
+      (Partly t.resolving.done g cs k (get_or new.holders.items (complement_code (get_or cs k 0)) []) (m + 1)) new)
+      (sym (codes_at-kept res.extends g t.resolving.is_entry))
+      (subst
+      (λ hs. Stands limit t.resolving.done (g ∷ [])
+      (Partly t.resolving.done g (codes_at s.sets.entries.items g) k
+      (get_or hs (complement_code (get_or (codes_at s.sets.entries.items g) k 0)) []) (m + 1)) new)
+      (sym res.same_holders) (step_stands new t res));
 }
 
 -- the limit is reached
@@ -180,12 +187,12 @@ step_spent {limit} {s} {g} {k} {m} {p} {i} {j} {a} new t res =
     let st = t.resolving.stands in
     record {
       sets =
-        subst (λ (u : Sets). AreSets (length new.holders.items) u) (sym res.leaves.0)
-        (subst (λ n. AreSets n s.sets) (sym (ap length res.same_holders)) st.sets);
+          subst (λ (u : Sets). AreSets (length new.holders.items) u) (sym res.leaves.0)
+          (subst (λ n. AreSets n s.sets) (sym (ap length res.same_holders)) st.sets);
       spent =
-        subst (HasPairings new.sets.entries.items AnyPairing) (sym res.counted ∙ res.leaves.1 ∙ st.limited)
-        (HasPairings-pushed (Partly t.resolving.done g (codes_at s.sets.entries.items g) k (partners_at s g k) m) AnyPairing
-        s.count i j a res.extends st.resolved.counted (step_meets t) (step_fresh t) (λ x y z h. tt) tt);
+          subst (HasPairings new.sets.entries.items AnyPairing) (sym res.counted ∙ res.leaves.1 ∙ st.limited)
+          (HasPairings-pushed (Partly t.resolving.done g (codes_at s.sets.entries.items g) k (partners_at s g k) m) AnyPairing
+          s.count i j a res.extends st.resolved.counted (step_meets t) (step_fresh t) (λ x y z h. tt) tt);
     }
 
 -- ---- where it ends
@@ -210,8 +217,8 @@ pub step_ends :
 step_ends {limit} {s} {g} {k} {m} {p} {i} {j} {a} old new progress Goes t res holders ext less not_open = record {
   same_holders = ap length (res.same_holders ∙ holders);
   extends =
-    Extends-trans (length old.holders.items) _ _ _ ext
-    (subst (λ n. Extends n s.sets.entries.items new.sets.entries.items) (ap length holders) res.extends);
+      Extends-trans (length old.holders.items) _ _ _ ext
+      (subst (λ n. Extends n s.sets.entries.items new.sets.entries.items) (ap length holders) res.extends);
   no_more_work = omega (arith, less, work_less s new i j a progress (unspent t.resolving) res);
   reaches = by_progress progress res not_open;
 }
@@ -232,10 +239,14 @@ Partly-next r h x y z (inl among) = inl among
 Partly-next {limit} {s} {g} {k} r h x y z (inr (inl a)) =
     inr (inl (a.0, a.1, stands_before_wider a.0 k (codes_at s.sets.entries.items g) h a.2, a.3, a.4))
 Partly-next {limit} {s} {g} {k} r h x y z (inr (inr a)) =
-    inr (inl (code_at s g k, a.0, stands_at_end k (codes_at s.sets.entries.items g) h,
-    (partner_from_holder r.done s.sets.entries.items s.holders.items (code_at s g k) a.0 r.stands.held
-    (subst (λ ps. IsTrue (has_number a.0 ps)) (take_all (length (partners_at s g k)) (partners_at s g k) (omega arith)) a.1)).is_done,
-    a.2))
+    inr (inl (
+      code_at s g k,
+      a.0,
+      stands_at_end k (codes_at s.sets.entries.items g) h,
+      (partner_from_holder r.done s.sets.entries.items s.holders.items (code_at s g k) a.0 r.stands.held
+          (subst (λ ps. IsTrue (has_number a.0 ps)) (take_all (length (partners_at s g k)) (partners_at s g k) (omega arith)) a.1)).is_done,
+      a.2,
+    ))
 
 Partly-next-back :
     {limit : ℕ} {s : Saturation} {g k : ℕ}
@@ -246,11 +257,13 @@ Partly-next-back :
 Partly-next-back r h x y z meets (inl among) = inl among
 Partly-next-back {limit} {s} {g} {k} r h x y z meets (inr (inl a)) =
     ⊎_elim (λ b. inr (inl (a.0, a.1, b, a.3, a.4)))
-    (λ e. inr (inr (a.1,
-    subst (λ ps. IsTrue (has_number a.1 ps)) (sym (take_all (length (partners_at s g k)) (partners_at s g k) (omega arith)))
-    (holder_from_partner r.done s.sets.entries.items s.holders.items (complement_code (code_at s g k)) a.1 r.stands.held a.3
-    (subst (λ c. IsTrue (has_number (complement_code c) (codes_at s.sets.entries.items a.1))) e (complement_there a.0 a.1 a.4))),
-    subst (λ c. Pairs g c a.1 x y z) e a.4)))
+    (λ e. inr (inr (
+      a.1,
+      subst (λ ps. IsTrue (has_number a.1 ps)) (sym (take_all (length (partners_at s g k)) (partners_at s g k) (omega arith)))
+          (holder_from_partner r.done s.sets.entries.items s.holders.items (complement_code (code_at s g k)) a.1 r.stands.held a.3
+          (subst (λ c. IsTrue (has_number (complement_code c) (codes_at s.sets.entries.items a.1))) e (complement_there a.0 a.1 a.4))),
+      subst (λ c. Pairs g c a.1 x y z) e a.4,
+    )))
     (stands_before_more a.0 k (codes_at s.sets.entries.items g) h a.2)
   where
     complement_there : (c p : ℕ) → Pairs g c p x y z → IsTrue (has_number (complement_code c) (codes_at s.sets.entries.items p))
@@ -270,9 +283,9 @@ next_code {limit} {s} {g} {k} r h = record {
   done = r.done;
   is_entry = r.is_entry;
   stands =
-    Stands-same (Partly r.done g (codes_at s.sets.entries.items g) k (partners_at s g k) (length (partners_at s g k)))
-    (Partly r.done g (codes_at s.sets.entries.items g) (k + 1) (partners_at s g (k + 1)) 0) r.stands
-    (λ x y z meets p. Partly-next r h x y z p) (Partly-next-back r h);
+      Stands-same (Partly r.done g (codes_at s.sets.entries.items g) k (partners_at s g k) (length (partners_at s g k)))
+      (Partly r.done g (codes_at s.sets.entries.items g) (k + 1) (partners_at s g (k + 1)) 0) r.stands
+      (λ x y z meets p. Partly-next r h x y z p) (Partly-next-back r h);
 }
 
 -- the complement of a code of the given entry has its holders
@@ -309,10 +322,10 @@ pub step_in :
     → Pairs g code (get_or partners m 0) i j a → StepIn limit s g k m (get_or partners m 0) i j a
 step_in limit s g k m code other i j a held partners r hk is_code is_other hm is_held is_partners pairs =
     let low : other < length s.holders.items =
-      subst (λ c. c < length s.holders.items) (sym (is_other ∙ ap complement_code is_code)) (code_in_range r hk) in
+    subst (λ c. c < length s.holders.items) (sym (is_other ∙ ap complement_code is_code)) (code_in_range r hk) in
     let same : partners ≡ partners_at s g k =
-      is_partners ∙ get_or_read s.holders.items other held low is_held []
-      ∙ ap (λ c. get_or s.holders.items c []) (is_other ∙ ap complement_code is_code) in
+    is_partners ∙ get_or_read s.holders.items other held low is_held []
+    ∙ ap (λ c. get_or s.holders.items c []) (is_other ∙ ap complement_code is_code) in
     record {
       resolving = r;
       in_codes = hk;

@@ -45,15 +45,15 @@ starts limit atoms sets s same limited none some few even free are balanced = re
     limited = limited;
     unspent = omega arith;
     resolved =
-      subst (IsResolved s.sets.entries.items (Among [])) (sym none) (record {
-        settled = λ i j a k m. cc;
-        counted = record {
-          pairings = [];
-          counted = refl;
-          lawful = All-nil (λ (p : Pairing). Meets s.sets.entries.items p.first p.second p.atom × Among [] p.first p.second p.atom);
-          different = λ i j d l h. absurd (omega arith);
-        };
-      });
+        subst (IsResolved s.sets.entries.items (Among [])) (sym none) (record {
+          settled = λ i j a k m. cc;
+          counted = record {
+            pairings = [];
+            counted = refl;
+            lawful = All-nil (λ (p : Pairing). Meets s.sets.entries.items p.first p.second p.atom × Among [] p.first p.second p.atom);
+            different = λ i j d l h. absurd (omega arith);
+          };
+        });
   };
 }
   where
@@ -80,22 +80,23 @@ pops limit s new given between same sets taken holders count limited =
         few = subst (λ n. n < 2 ^ 32) (sym (ap length holders)) st.few;
         sets = subst (λ n. AreSets n new.sets) (sym (ap length holders)) (sets (length s.holders.items) st.sets);
         held =
-          subst (λ es. AreHolders between.done es new.holders.items) (sym same)
-          (subst (AreHolders between.done s.sets.entries.items) (sym holders) st.held);
+            subst (λ es. AreHolders between.done es new.holders.items) (sym same)
+            (subst (AreHolders between.done s.sets.entries.items) (sym holders) st.held);
         balanced = λ n.
-          moved (if n == given then 1 else 0) _ _ _ _ (taken n) (st.balanced n)
-          ∙ ap (λ es. if nat_lt n (length es) then 1 else 0) (sym same);
+            moved (if n == given then 1 else 0) _ _ _ _ (taken n) (st.balanced n)
+            ∙ ap (λ es. if nat_lt n (length es) then 1 else 0) (sym same);
         limited = limited ∙ st.limited;
         unspent = subst (λ n. n < limit) (sym count) st.unspent;
         resolved =
-          subst (λ es. IsResolved es (Among between.done) new.count) (sym same)
-          (subst (IsResolved s.sets.entries.items (Among between.done)) (sym count) st.resolved);
+            subst (λ es. IsResolved es (Among between.done) new.count) (sym same)
+            (subst (IsResolved s.sets.entries.items (Among between.done)) (sym count) st.resolved);
       };
     }
   where
     is_in :
         (g len o w w' : ℕ) → w ≡ (if g == g then 1 else 0) + w' → o + w ≡ (if nat_lt g len then 1 else 0) → g < len
     is_in g len o w w' a b = grind (arith, nat_tests)
+
     moved : (h o w w' t : ℕ) → w ≡ h + w' → o + w ≡ t → (h + o) + w' ≡ t
     moved h o w w' t a b = omega arith
 
@@ -116,16 +117,16 @@ finishes limit s new between same sets waiting none holders count limited =
           few = subst (λ n. n < 2 ^ 32) (sym (ap length holders)) st.few;
           sets = subst (λ n. AreSets n new.sets) (sym (ap length holders)) (sets (length s.holders.items) st.sets);
           held =
-            subst (λ es. AreHolders between.done es new.holders.items) (sym same)
-            (subst (AreHolders between.done s.sets.entries.items) (sym holders) st.held);
+              subst (λ es. AreHolders between.done es new.holders.items) (sym same)
+              (subst (AreHolders between.done s.sets.entries.items) (sym holders) st.held);
           balanced = λ n.
-            ap (λ ws. occurrences n between.done + occurrences n ws) waiting ∙ st.balanced n
-            ∙ ap (λ es. if nat_lt n (length es) then 1 else 0) (sym same);
+              ap (λ ws. occurrences n between.done + occurrences n ws) waiting ∙ st.balanced n
+              ∙ ap (λ es. if nat_lt n (length es) then 1 else 0) (sym same);
           limited = limited ∙ st.limited;
           unspent = subst (λ n. n < limit) (sym count) st.unspent;
           resolved =
-            subst (λ es. IsResolved es (Among between.done) new.count) (sym same)
-            (subst (IsResolved s.sets.entries.items (Among between.done)) (sym count) st.resolved);
+              subst (λ es. IsResolved es (Among between.done) new.count) (sym same)
+              (subst (IsResolved s.sets.entries.items (Among between.done)) (sym count) st.resolved);
         };
       };
       none_waits = none;
@@ -136,8 +137,8 @@ popped_resolving limit s given popped = record {
   done = popped.done;
   is_entry = popped.is_entry;
   stands =
-    Stands-same (Among popped.done) (Partly popped.done given (codes_at s.sets.entries.items given) 0 (partners_at s given 0) 0)
-    popped.stands (λ i j a m h. inl h) (λ i j a m h. only i j a h);
+      Stands-same (Among popped.done) (Partly popped.done given (codes_at s.sets.entries.items given) 0 (partners_at s given 0) 0)
+      popped.stands (λ i j a m h. inl h) (λ i j a m h. only i j a h);
 }
   where
     only : (i j a : ℕ) → Partly popped.done given (codes_at s.sets.entries.items given) 0 (partners_at s given 0) 0 i j a → Among popped.done i j a
@@ -157,25 +158,26 @@ pub holds_more :
 holds_more hs codes k g before after held c n rising hk low is is_held is_after =
     let code = get_or codes k 0 in
     let target : has_number c (take (k + 1) codes) ≡ (has_number c (take k codes) || ((c == code) || false)) =
-      ap (has_number c) (take_more codes k 0 hk) ∙ list_any-append (λ x. c == x) (take k codes) (code ∷ []) in
+    ap (has_number c) (take_more codes k 0 hk) ∙ list_any-append (λ x. c == x) (take k codes) (code ∷ []) in
     elim (cases_eq c code) [
-    inl e ↦
-      ap (λ ls. occurrences n (get_or ls c [])) is_after
-      ∙ ap (λ d. occurrences n (get_or (set before code (held ++ g ∷ [])) d [])) e
-      ∙ ap (occurrences n) (get_or-set_same before code (held ++ g ∷ []) [] low)
-      ∙ occurrences-append n held (g ∷ [])
-      ∙ ap (λ ls. occurrences n ls + occurrences n (g ∷ [])) is_held
-      ∙ ap (λ o. o + occurrences n (g ∷ [])) (is code n)
-      ∙ here (n == g) (has_number code (take k codes)) (has_number c (take (k + 1) codes)) (occurrences n (get_or hs code []))
-      (false_from_ne_true (has_number code (take k codes)) (fresh_code codes k rising hk))
-      (target ∙ or_right (has_number c (take k codes)) ((c == code) || false) (or_left (c == code) false (eq-eqb c code e)))
-      ∙ ap (λ d. occurrences n (get_or hs d []) + (if (n == g) && has_number c (take (k + 1) codes) then 1 else 0)) (sym e)
-    | inr e ↦
-      ap (λ ls. occurrences n (get_or ls c [])) is_after
-      ∙ ap (occurrences n) (get_or-set_other before code c (held ++ g ∷ []) [] e)
-      ∙ is c n
-      ∙ ap (λ b. occurrences n (get_or hs c []) + (if (n == g) && b then 1 else 0))
-      (sym (target ∙ ap (λ b. has_number c (take k codes) || (b || false)) (ne_eqb c code e) ∙ or_false (has_number c (take k codes)))) ]
+      | inl e ↦
+          ap (λ ls. occurrences n (get_or ls c [])) is_after
+          ∙ ap (λ d. occurrences n (get_or (set before code (held ++ g ∷ [])) d [])) e
+          ∙ ap (occurrences n) (get_or-set_same before code (held ++ g ∷ []) [] low)
+          ∙ occurrences-append n held (g ∷ [])
+          ∙ ap (λ ls. occurrences n ls + occurrences n (g ∷ [])) is_held
+          ∙ ap (λ o. o + occurrences n (g ∷ [])) (is code n)
+          ∙ here (n == g) (has_number code (take k codes)) (has_number c (take (k + 1) codes)) (occurrences n (get_or hs code []))
+          (false_from_ne_true (has_number code (take k codes)) (fresh_code codes k rising hk))
+          (target ∙ or_right (has_number c (take k codes)) ((c == code) || false) (or_left (c == code) false (eq-eqb c code e)))
+          ∙ ap (λ d. occurrences n (get_or hs d []) + (if (n == g) && has_number c (take (k + 1) codes) then 1 else 0)) (sym e)
+      | inr e ↦
+          ap (λ ls. occurrences n (get_or ls c [])) is_after
+          ∙ ap (occurrences n) (get_or-set_other before code c (held ++ g ∷ []) [] e)
+          ∙ is c n
+          ∙ ap (λ b. occurrences n (get_or hs c []) + (if (n == g) && b then 1 else 0))
+          (sym (target ∙ ap (λ b. has_number c (take k codes) || (b || false)) (ne_eqb c code e) ∙ or_false (has_number c (take k codes))))
+    ]
   where
     here : (b old new : Bool) (o : ℕ) → old ≡ false → new ≡ true
         → (o + (if b && old then 1 else 0)) + ((if b then 1 else 0) + 0) ≡ o + (if b && new then 1 else 0)
@@ -183,6 +185,7 @@ holds_more hs codes k g before after held c n rising hk low is is_held is_after 
     here true false true o e f = omega arith
     here true false false o e f = cc
     here false old new o e f = omega arith
+
     or_false : (b : Bool) → (b || (false || false)) ≡ b
     or_false true = refl
     or_false false = refl
@@ -198,32 +201,34 @@ holds_between limit s new g r holds = record {
     even = holds.same_length ∙ r.stands.even;
     few = subst (λ n. n < 2 ^ 32) (sym holds.same_length) r.stands.few;
     sets =
-      subst (λ n. AreSets n new.sets) (sym holds.same_length)
-      (subst (λ (u : Sets). AreSets (length s.holders.items) u) (sym holds.same_sets) r.stands.sets);
+        subst (λ n. AreSets n new.sets) (sym holds.same_length)
+        (subst (λ (u : Sets). AreSets (length s.holders.items) u) (sym holds.same_sets) r.stands.sets);
     held =
-      subst (λ es. AreHolders (g ∷ r.done) es new.holders.items) (sym entries)
-      (λ c n. holds.holds c n ∙ ap (λ o. o + (if (n == g) && has_number c (codes_at s.sets.entries.items g) then 1 else 0)) (r.stands.held c n)
-      ∙ entered c n (cases_eq n g));
+        subst (λ es. AreHolders (g ∷ r.done) es new.holders.items) (sym entries)
+        (λ c n. holds.holds c n ∙ ap (λ o. o + (if (n == g) && has_number c (codes_at s.sets.entries.items g) then 1 else 0)) (r.stands.held c n)
+        ∙ entered c n (cases_eq n g));
     balanced = subst (λ (u : Sets). IsBalanced (g ∷ r.done) u) (sym holds.same_sets) r.stands.balanced;
     limited = holds.same_limit ∙ r.stands.limited;
     unspent = subst (λ n. n < limit) (sym holds.same_count) r.stands.unspent;
     resolved =
-      subst (λ es. IsResolved es (Among (g ∷ r.done)) new.count) (sym entries)
-      (subst (IsResolved s.sets.entries.items (Among (g ∷ r.done))) (sym holds.same_count)
-      (IsResolved-same
-      (Partly r.done g (codes_at s.sets.entries.items g) (length (codes_at s.sets.entries.items g))
-      (partners_at s g (length (codes_at s.sets.entries.items g))) 0)
-      (Among (g ∷ r.done)) r.stands.resolved (λ i j a m h. to i j a h) from));
+        subst (λ es. IsResolved es (Among (g ∷ r.done)) new.count) (sym entries)
+        (subst (IsResolved s.sets.entries.items (Among (g ∷ r.done))) (sym holds.same_count)
+        (IsResolved-same
+        (Partly r.done g (codes_at s.sets.entries.items g) (length (codes_at s.sets.entries.items g))
+        (partners_at s g (length (codes_at s.sets.entries.items g))) 0)
+        (Among (g ∷ r.done)) r.stands.resolved (λ i j a m h. to i j a h) from));
   };
 }
   where
     entries : new.sets.entries.items ≡ s.sets.entries.items
     entries = ap (λ (u : Sets). u.entries.items) holds.same_sets
+
     sum_up : (b h : Bool) (o : ℕ) → (if h then o else 0) + (if b && h then 1 else 0) ≡ (if h then (if b then 1 else 0) + o else 0)
     sum_up true true o = omega arith
     sum_up true false o = omega arith
     sum_up false true o = omega arith
     sum_up false false o = omega arith
+
     entered :
         (c n : ℕ) → (n ≡ g) ⊎ (n ≡ g → ⊥)
         → (if has_number c (codes_at s.sets.entries.items n) then occurrences n r.done else 0)
@@ -238,13 +243,17 @@ holds_between limit s new g r holds = record {
         + (if b && has_number c (codes_at s.sets.entries.items g) then 1 else 0)) (ne_eqb n g e)
         ∙ sum_up false (has_number c (codes_at s.sets.entries.items n)) (occurrences n r.done)
         ∙ ap (λ b. if has_number c (codes_at s.sets.entries.items n) then (if b then 1 else 0) + occurrences n r.done else 0) (sym (ne_eqb n g e))
+
     given_in : (n : ℕ) → n ≡ g → IsTrue (has_number n (g ∷ r.done))
     given_in n e = or_left (n == g) (has_number n r.done) (eq-eqb n g e)
+
     done_in' : (n : ℕ) → IsTrue (has_number n r.done) → IsTrue (has_number n (g ∷ r.done))
     done_in' n h = or_right (n == g) (has_number n r.done) h
+
     paired : (c p i j a : ℕ) → IsTrue (has_number p r.done) → Pairs g c p i j a → Among (g ∷ r.done) i j a
     paired c p i j a h (inl e) = (given_in i e.0, done_in' j (subst (λ q. IsTrue (has_number q r.done)) (sym e.1) h))
     paired c p i j a h (inr e) = (done_in' i (subst (λ q. IsTrue (has_number q r.done)) (sym e.1) h), given_in j e.0)
+
     to :
         (i j a : ℕ)
         → Partly r.done g (codes_at s.sets.entries.items g) (length (codes_at s.sets.entries.items g))
@@ -253,8 +262,10 @@ holds_between limit s new g r holds = record {
     to i j a (inl h) = (done_in' i h.0, done_in' j h.1)
     to i j a (inr (inl h)) = paired h.0 h.1 i j a h.3 h.4
     to i j a (inr (inr h)) = cc
+
     whole : take (length (codes_at s.sets.entries.items g)) (codes_at s.sets.entries.items g) ≡ codes_at s.sets.entries.items g
     whole = take_all (length (codes_at s.sets.entries.items g)) (codes_at s.sets.entries.items g) (omega arith)
+
     from :
         (i j a : ℕ) → Meets s.sets.entries.items i j a → Among (g ∷ r.done) i j a
         → Partly r.done g (codes_at s.sets.entries.items g) (length (codes_at s.sets.entries.items g))
@@ -266,6 +277,7 @@ holds_between limit s new g r holds = record {
             → IsTrue (has_number c (take (length (codes_at s.sets.entries.items g)) (codes_at s.sets.entries.items g)))
         codes_of n c e t =
             subst (λ cs. IsTrue (has_number c cs)) (sym whole) (subst (λ k. IsTrue (has_number c (codes_at s.sets.entries.items k))) e t)
+
         cases :
             ((i == g) ≡ true) ⊎ (has_number i r.done ≡ true) → ((j == g) ≡ true) ⊎ (has_number j r.done ≡ true)
             → Partly r.done g (codes_at s.sets.entries.items g) (length (codes_at s.sets.entries.items g))
@@ -294,8 +306,8 @@ pub Moves-after :
 Moves-after limit old s new progress Goes Goes' limited holders ext less m not_open = record {
   same_holders = m.same_holders ∙ holders;
   extends =
-    Extends-trans (length old.holders.items) _ _ _ ext
-    (subst (λ n. Extends n s.sets.entries.items new.sets.entries.items) holders m.extends);
+      Extends-trans (length old.holders.items) _ _ _ ext
+      (subst (λ n. Extends n s.sets.entries.items new.sets.entries.items) holders m.extends);
   no_more_work = omega (arith, less, m.no_more_work);
   reaches = by_progress progress m.reaches not_open;
 }

@@ -54,9 +54,9 @@ pub coded_set-grown :
 coded_set-grown g [] inside = refl
 coded_set-grown {old} {new} g (c ∷ codes) inside =
     let first : coded_literal new c ≡ coded_literal old c =
-      coded_literal-grown g c (inside c (or_left (c == c) (has_number c codes) (eq-eqb c c refl))) in
+    coded_literal-grown g c (inside c (or_left (c == c) (has_number c codes) (eq-eqb c c refl))) in
     let rest : coded_set new codes ≡ coded_set old codes =
-      coded_set-grown g codes (λ d h. inside d (or_right (d == c) (has_number d codes) h)) in
+    coded_set-grown g codes (λ d h. inside d (or_right (d == c) (has_number d codes) h)) in
     ap (λ l. l ∷ coded_set new codes) first ∙ ap (λ ls. coded_literal old c ∷ ls) rest
 
 -- ---- one literal more
@@ -76,6 +76,7 @@ coded_literal-code terms n l h atom =
   where
     is_true : l.right ≡ true_tree
     is_true = tree_eq-true l.right true_tree (and_parts (is_ground_atom l.left) (tree_eq l.right true_tree) atom).1
+
     by_sign : (b : Bool) → coded_literal terms (literal_code n b) ≡ atom_literal b (atom_at terms n)
     by_sign true = coded_literal-even terms n
     by_sign false = coded_literal-odd terms n
@@ -111,17 +112,17 @@ codes_more start old new codes codes' literals literals' count n l before number
   grows = Grows-trans start old.terms new.terms before.grows numbers.grows;
   few = omega (arith, before.few, numbers.at_most_one);
   in_table = λ c h.
-    ⊎_elim
-    (λ e. omega (arith, before.in_table c e, grown_longer numbers.grows))
-    (λ e. subst (λ d. d < 2 * length new.terms) (sym (alone c (literal_code n l.positive) e))
-    (literal_code-in_table n (length new.terms) l.positive (slice_get_within new.terms n l.left numbers.is_number)))
-    (or_cases (has_number c codes) (has_number c (literal_code n l.positive ∷ []))
-    (sym (ap (has_number c) pushed ∙ list_any-append (λ k. c == k) codes (literal_code n l.positive ∷ [])) ∙ h));
+      ⊎_elim
+      (λ e. omega (arith, before.in_table c e, grown_longer numbers.grows))
+      (λ e. subst (λ d. d < 2 * length new.terms) (sym (alone c (literal_code n l.positive) e))
+      (literal_code-in_table n (length new.terms) l.positive (slice_get_within new.terms n l.left numbers.is_number)))
+      (or_cases (has_number c codes) (has_number c (literal_code n l.positive ∷ []))
+      (sym (ap (has_number c) pushed ∙ list_any-append (λ k. c == k) codes (literal_code n l.positive ∷ [])) ∙ h));
   coded =
-    ap (coded_set new.terms) pushed ∙ map-append (coded_literal new.terms) codes (literal_code n l.positive ∷ [])
-    ∙ ap (λ ls. ls ++ coded_literal new.terms (literal_code n l.positive) ∷ [])
-    (coded_set-grown numbers.grows codes before.in_table ∙ before.coded)
-    ∙ ap (λ k. literals ++ k ∷ []) (coded_literal-code new.terms n l numbers.is_number atom) ∙ sym more;
+      ap (coded_set new.terms) pushed ∙ map-append (coded_literal new.terms) codes (literal_code n l.positive ∷ [])
+      ∙ ap (λ ls. ls ++ coded_literal new.terms (literal_code n l.positive) ∷ [])
+      (coded_set-grown numbers.grows codes before.in_table ∙ before.coded)
+      ∙ ap (λ k. literals ++ k ∷ []) (coded_literal-code new.terms n l numbers.is_number atom) ∙ sym more;
 }
   where
     alone : (c d : ℕ) → ((c == d) || false) ≡ true → c ≡ d
@@ -266,18 +267,18 @@ inputs_more form i atoms atoms' sets sets' codes c has is_clause coded some addi
       are_sets = adds.sets coded.in_table;
       balanced = adds.balanced [] has.balanced;
       inputs =
-        ⊎_elim
-        (λ e. subst (AreInputs form atoms'.terms) (sym e) (AreInputs-grown form atoms.terms atoms'.terms sets.entries.items coded.grows has.inputs))
-        (λ e. AreInputs-pushed form atoms.terms atoms'.terms sets.entries.items sets'.entries.items codes i c coded.grows has.inputs e.1
-        is_clause coded.rising coded.in_table e.0 coded.same)
-        adds.entries;
+          ⊎_elim
+          (λ e. subst (AreInputs form atoms'.terms) (sym e) (AreInputs-grown form atoms.terms atoms'.terms sets.entries.items coded.grows has.inputs))
+          (λ e. AreInputs-pushed form atoms.terms atoms'.terms sets.entries.items sets'.entries.items codes i c coded.grows has.inputs e.1
+          is_clause coded.rising coded.in_table e.0 coded.same)
+          adds.entries;
       covered = λ n d l h not_tautology.
-        ⊎_elim
-        (λ k. before n d k h not_tautology adds.entries)
-        (λ k. let same : c ≡ d = same_Some c d (sym is_clause ∙ ap (slice_get form) (sym k) ∙ h) in
-        subst (λ (d : TreeClause). HasLiterals atoms'.terms sets'.entries.items d.literals) same
-        (mine (subst (λ (d : TreeClause). IsFalse (is_tautology d.literals)) (sym same) not_tautology) adds.settled))
-        (below_cases n i l);
+          ⊎_elim
+          (λ k. before n d k h not_tautology adds.entries)
+          (λ k. let same : c ≡ d = same_Some c d (sym is_clause ∙ ap (slice_get form) (sym k) ∙ h) in
+          subst (λ (d : TreeClause). HasLiterals atoms'.terms sets'.entries.items d.literals) same
+          (mine (subst (λ (d : TreeClause). IsFalse (is_tautology d.literals)) (sym same) not_tautology) adds.settled))
+          (below_cases n i l);
     }
   where
     before :
@@ -288,10 +289,13 @@ inputs_more form i atoms atoms' sets sets' codes c has is_clause coded some addi
     before n d k h not_tautology entries =
         let old = has.covered n d k h not_tautology in
         let kept = kept_codes sets.entries.items sets'.entries.items (record { codes = codes; origin = Clause i })
-          (⊎_elim (λ e. inl e) (λ e. inr e.1) entries) old.0 old.1 in
-        (old.0, kept.0,
-        subst (λ cs. SameLiterals atoms'.terms cs d.literals) (sym kept.1)
-        (same_grown coded.grows (codes_at sets.entries.items old.0) d.literals (has.are_sets.proper old.0 old.1).in_range old.2))
+        (⊎_elim (λ e. inl e) (λ e. inr e.1) entries) old.0 old.1 in (
+          old.0,
+          kept.0,
+          subst (λ cs. SameLiterals atoms'.terms cs d.literals) (sym kept.1)
+              (same_grown coded.grows (codes_at sets.entries.items old.0) d.literals (has.are_sets.proper old.0 old.1).in_range old.2),
+        )
+
     mine :
         IsFalse (is_tautology c.literals) → HasBoth codes ⊎ HasSet sets'.entries.items codes
         → HasLiterals atoms'.terms sets'.entries.items c.literals
@@ -307,8 +311,8 @@ pub reaches_empty_clause :
 reaches_empty_clause form i atoms atoms' sets sets' codes c has is_clause coded none adds = record {
   table = coded.table;
   inputs =
-    AreInputs-pushed form atoms.terms atoms'.terms sets.entries.items sets'.entries.items codes i c coded.grows has.inputs adds.entries
-    is_clause coded.rising coded.in_table (LacksBoth-none codes none) coded.same;
+      AreInputs-pushed form atoms.terms atoms'.terms sets.entries.items sets'.entries.items codes i c coded.grows has.inputs adds.entries
+      is_clause coded.rising coded.in_table (LacksBoth-none codes none) coded.same;
   ends = record {
     before = sets.entries.items;
     last = record { codes = codes; origin = Clause i };

@@ -30,6 +30,7 @@ occurs n (x ∷ xs) h =
     here : (b : Bool) (o : ℕ) → b ≡ true → 1 ≤ (if b then 1 else 0) + o
     here true o e = omega arith
     here false o e = cc
+
     later : (b : Bool) (o : ℕ) → 1 ≤ o → 1 ≤ (if b then 1 else 0) + o
     later true o e = omega arith
     later false o e = omega arith
@@ -38,9 +39,10 @@ pub stands_from_occurs : (n : ℕ) (xs : List ℕ) → 1 ≤ occurrences n xs �
 stands_from_occurs n [] h = absurd (omega arith)
 stands_from_occurs n (x ∷ xs) h =
     elim (cases_Bool (n == x)) [
-    inl e ↦ or_left (n == x) (has_number n xs) e
-    | inr e ↦ or_right (n == x) (has_number n xs)
-    (stands_from_occurs n xs (less (n == x) (occurrences n xs) e h)) ]
+      | inl e ↦ or_left (n == x) (has_number n xs) e
+      | inr e ↦ or_right (n == x) (has_number n xs)
+          (stands_from_occurs n xs (less (n == x) (occurrences n xs) e h))
+    ]
   where
     less : (b : Bool) (o : ℕ) → b ≡ false → 1 ≤ (if b then 1 else 0) + o → 1 ≤ o
     less true o e h = cc
@@ -74,8 +76,13 @@ hit n = one (n == n) (eq-eqb n n refl)
 -- what stands at a place of a list that has it once doesn't stand before
 pub fresh_at : (xs : List ℕ) (k : ℕ) → k < length xs → occurrences (get_or xs k 0) xs ≤ 1 → IsTrue (has_number (get_or xs k 0) (take k xs)) → ⊥
 fresh_at xs k h once before =
-    omega (arith, occurs (get_or xs k 0) (take k xs) before, occurrences-take_more (get_or xs k 0) k xs h,
-    occurrences-take-le (get_or xs k 0) (k + 1) xs, hit (get_or xs k 0))
+    omega (
+      arith,
+      occurs (get_or xs k 0) (take k xs) before,
+      occurrences-take_more (get_or xs k 0) k xs h,
+      occurrences-take-le (get_or xs k 0) (k + 1) xs,
+      hit (get_or xs k 0),
+    )
 
 pub fresh_code : (xs : List ℕ) (k : ℕ) → IsStrictlyIncreasing xs → k < length xs → IsTrue (has_number (get_or xs k 0) (take k xs)) → ⊥
 fresh_code xs k rising h before =
@@ -97,7 +104,7 @@ pub stands_before_more :
     → k < length xs → IsTrue (has_number n (take (k + 1) xs)) → IsTrue (has_number n (take k xs)) ⊎ (n ≡ get_or xs k 0)
 stands_before_more n k xs h t =
     let r : (has_number n (take k xs) || ((n == get_or xs k 0) || false)) ≡ true =
-      sym (ap (has_number n) (take_more xs k 0 h) ∙ list_any-append (λ x. n == x) (take k xs) (get_or xs k 0 ∷ [])) ∙ t in
+    sym (ap (has_number n) (take_more xs k 0 h) ∙ list_any-append (λ x. n == x) (take k xs) (get_or xs k 0 ∷ [])) ∙ t in
     ⊎_elim (λ b. inl b)
     (λ b. inr (eqb-true n (get_or xs k 0) (⊎_elim (λ x. x) (λ x. cc) (or_cases (n == get_or xs k 0) false b))))
     (or_cases (has_number n (take k xs)) ((n == get_or xs k 0) || false) r)
@@ -130,13 +137,20 @@ done_in done out s n balanced h =
 
 pub done_once : (done out : List ℕ) (s : Sets) (n : ℕ) → IsBalanced (out ++ done) s → occurrences n done ≤ 1
 done_once done out s n balanced =
-    omega (arith, occurrences-append n out done,
-    balanced_once n (length s.entries.items) (occurrences n (out ++ done)) (occurrences n (waiting_entries s)) (balanced n))
+    omega (
+      arith,
+      occurrences-append n out done,
+      balanced_once n (length s.entries.items) (occurrences n (out ++ done)) (occurrences n (waiting_entries s)) (balanced n),
+    )
 
 pub given_not_done : (done : List ℕ) (s : Sets) (g : ℕ) → IsBalanced ((g ∷ []) ++ done) s → IsTrue (has_number g done) → ⊥
 given_not_done done s g balanced h =
-    omega (arith, occurs g done h, hit g,
-    balanced_once g (length s.entries.items) (occurrences g ((g ∷ []) ++ done)) (occurrences g (waiting_entries s)) (balanced g))
+    omega (
+      arith,
+      occurs g done h,
+      hit g,
+      balanced_once g (length s.entries.items) (occurrences g ((g ∷ []) ++ done)) (occurrences g (waiting_entries s)) (balanced g),
+    )
 
 -- ---- partners
 
@@ -193,14 +207,19 @@ pub Meets-pairing :
     → g < length es → p < length es → IsTrue (has_number code (codes_at es g)) → IsPartner es done code p
     → Pairs g code p i j a → Meets es i j a
 Meets-pairing es done g code p i j a hg hp has partner (inl e) =
-    subst (λ u. Meets es u j a) (sym e.0) (subst (λ u. Meets es g u a) (sym e.1)
-    (hg, hp, subst (λ c. IsTrue (has_number c (codes_at es g))) e.2 has,
-    subst (λ c. IsTrue (has_number c (codes_at es p))) (ap complement_code e.2 ∙ complement-even a) partner.has_code))
+    subst (λ u. Meets es u j a) (sym e.0) (subst (λ u. Meets es g u a) (sym e.1) (
+      hg,
+      hp,
+      subst (λ c. IsTrue (has_number c (codes_at es g))) e.2 has,
+      subst (λ c. IsTrue (has_number c (codes_at es p))) (ap complement_code e.2 ∙ complement-even a) partner.has_code,
+    ))
 Meets-pairing es done g code p i j a hg hp has partner (inr e) =
-    subst (λ u. Meets es i u a) (sym e.0) (subst (λ u. Meets es u g a) (sym e.1)
-    (hp, hg,
-    subst (λ c. IsTrue (has_number c (codes_at es p))) (ap complement_code e.2 ∙ complement-odd a) partner.has_code,
-    subst (λ c. IsTrue (has_number c (codes_at es g))) e.2 has))
+    subst (λ u. Meets es i u a) (sym e.0) (subst (λ u. Meets es u g a) (sym e.1) (
+      hp,
+      hg,
+      subst (λ c. IsTrue (has_number c (codes_at es p))) (ap complement_code e.2 ∙ complement-odd a) partner.has_code,
+      subst (λ c. IsTrue (has_number c (codes_at es g))) e.2 has,
+    ))
 
 -- ---- one more pairing of the given entry
 
@@ -238,40 +257,52 @@ step_fresh {limit} {s} {g} {k} {m} {p} {i} {j} {a} t =
   where
     done : List ℕ
     done = t.resolving.done
+
     code : ℕ
     code = code_at s g k
+
     codes : List ℕ
     codes = codes_at s.sets.entries.items g
+
     partners : List ℕ
     partners = partners_at s g k
+
     out : IsTrue (has_number g t.resolving.done) → ⊥
     out = given_not_done t.resolving.done s.sets g t.resolving.stands.balanced
+
     new_code : IsTrue (has_number (code_at s g k) (take k (codes_at s.sets.entries.items g))) → ⊥
     new_code =
         fresh_code (codes_at s.sets.entries.items g) k
         (t.resolving.stands.sets.proper g t.resolving.is_entry).rising t.in_codes
+
     new_partner : IsTrue (has_number p (take m (partners_at s g k))) → ⊥
     new_partner h =
         fresh_at (partners_at s g k) m t.in_partners
         (holder_once t.resolving.done s.sets.entries.items s.holders.items (complement_code (code_at s g k)) _ t.resolving.stands.held
         (done_once t.resolving.done (g ∷ []) s.sets _ t.resolving.stands.balanced))
         (subst (λ q. IsTrue (has_number q (take m (partners_at s g k)))) t.is_partner h)
+
     is_done : IsTrue (has_number p t.resolving.done)
     is_done = (step_partner t).is_done
+
     fresh :
         Pairs g (code_at s g k) p i j a
         → Partly t.resolving.done g (codes_at s.sets.entries.items g) k (partners_at s g k) m i j a → ⊥
     fresh (inl e) (inl among) = out (subst (λ x. IsTrue (has_number x t.resolving.done)) e.0 among.0)
     fresh (inr e) (inl among) = out (subst (λ x. IsTrue (has_number x t.resolving.done)) e.0 among.1)
     fresh (inl e) (inr (inl h)) = elim h.4 [
-      inl d ↦ new_code (subst (λ c. IsTrue (has_number c (take k (codes_at s.sets.entries.items g)))) (d.2 ∙ sym e.2) h.2)
-      | inr d ↦ out (subst (λ x. IsTrue (has_number x t.resolving.done)) (sym d.1 ∙ e.0) h.3) ]
+      | inl d ↦ new_code (subst (λ c. IsTrue (has_number c (take k (codes_at s.sets.entries.items g)))) (d.2 ∙ sym e.2) h.2)
+      | inr d ↦ out (subst (λ x. IsTrue (has_number x t.resolving.done)) (sym d.1 ∙ e.0) h.3)
+    ]
     fresh (inr e) (inr (inl h)) = elim h.4 [
-      inl d ↦ out (subst (λ x. IsTrue (has_number x t.resolving.done)) (sym d.1 ∙ e.0) h.3)
-      | inr d ↦ new_code (subst (λ c. IsTrue (has_number c (take k (codes_at s.sets.entries.items g)))) (d.2 ∙ sym e.2) h.2) ]
+      | inl d ↦ out (subst (λ x. IsTrue (has_number x t.resolving.done)) (sym d.1 ∙ e.0) h.3)
+      | inr d ↦ new_code (subst (λ c. IsTrue (has_number c (take k (codes_at s.sets.entries.items g)))) (d.2 ∙ sym e.2) h.2)
+    ]
     fresh (inl e) (inr (inr h)) = elim h.2 [
-      inl d ↦ new_partner (subst (λ x. IsTrue (has_number x (take m (partners_at s g k)))) (sym d.1 ∙ e.1) h.1)
-      | inr d ↦ out (subst (λ x. IsTrue (has_number x t.resolving.done)) (sym e.1 ∙ d.0) is_done) ]
+      | inl d ↦ new_partner (subst (λ x. IsTrue (has_number x (take m (partners_at s g k)))) (sym d.1 ∙ e.1) h.1)
+      | inr d ↦ out (subst (λ x. IsTrue (has_number x t.resolving.done)) (sym e.1 ∙ d.0) is_done)
+    ]
     fresh (inr e) (inr (inr h)) = elim h.2 [
-      inl d ↦ out (subst (λ x. IsTrue (has_number x t.resolving.done)) (sym e.1 ∙ d.0) is_done)
-      | inr d ↦ new_partner (subst (λ x. IsTrue (has_number x (take m (partners_at s g k)))) (sym d.1 ∙ e.1) h.1) ]
+      | inl d ↦ out (subst (λ x. IsTrue (has_number x t.resolving.done)) (sym e.1 ∙ d.0) is_done)
+      | inr d ↦ new_partner (subst (λ x. IsTrue (has_number x (take m (partners_at s g k)))) (sym d.1 ∙ e.1) h.1)
+    ]

@@ -88,22 +88,24 @@ AreSets-pushed bound old new codes origin sets proper fresh grown known =
     let e : Entry = record { codes = codes; origin = origin } in
     let more : length new.entries.items ≡ length es + 1 = ap length grown ∙ length_push es e in
     let before : (n : ℕ) → n < length es → codes_at new.entries.items n ≡ codes_at es n = λ n h.
-      ap (λ us. codes_at us n) grown ∙ codes_at-append es (e ∷ []) n h in
+    ap (λ us. codes_at us n) grown ∙ codes_at-append es (e ∷ []) n h in
     let last : codes_at new.entries.items (length es) ≡ codes = ap (λ us. codes_at us (length es)) grown ∙ codes_at-last es e in
     record {
       proper = λ n h. elim (last_or_before n (length es) (omega arith)) [
-        inl l ↦ subst (IsProper bound) (sym (before n l)) (sets.proper n l)
-        | inr i ↦ subst (IsProper bound) (sym (ap (codes_at new.entries.items) i ∙ last)) proper ];
+        | inl l ↦ subst (IsProper bound) (sym (before n l)) (sets.proper n l)
+        | inr i ↦ subst (IsProper bound) (sym (ap (codes_at new.entries.items) i ∙ last)) proper
+      ];
       apart = λ m n l h same. elim (last_or_before n (length es) (omega arith)) [
-        inl k ↦ sets.apart m n l k (sym (before m (omega arith)) ∙ same ∙ before n k)
+        | inl k ↦ sets.apart m n l k (sym (before m (omega arith)) ∙ same ∙ before n k)
         | inr i ↦ let lm : m < length es = omega arith in
-        both_ways _ fresh (sets.known codes ∙ known_from_HasSet es codes m lm
-        (sym (before m lm) ∙ same ∙ ap (codes_at new.entries.items) i ∙ last)) ];
+            both_ways _ fresh (sets.known codes ∙ known_from_HasSet es codes m lm
+            (sym (before m lm) ∙ same ∙ ap (codes_at new.entries.items) i ∙ last))
+      ];
       known = λ q. known q
-      ∙ ap (λ b. pointwise nat_eq q codes || b) (sets.known q)
-      ∙ turned (pointwise nat_eq q codes) (list_any (λ d. pointwise nat_eq q d.codes) es)
-      ∙ sym (list_any-append (λ d. pointwise nat_eq q d.codes) es (e ∷ []))
-      ∙ ap (list_any (λ d. pointwise nat_eq q d.codes)) (sym grown);
+          ∙ ap (λ b. pointwise nat_eq q codes || b) (sets.known q)
+          ∙ turned (pointwise nat_eq q codes) (list_any (λ d. pointwise nat_eq q d.codes) es)
+          ∙ sym (list_any-append (λ d. pointwise nat_eq q d.codes) es (e ∷ []))
+          ∙ ap (list_any (λ d. pointwise nat_eq q d.codes)) (sym grown);
     }
   where
     turned : (a b : Bool) → (a || b) ≡ (b || (a || false))
@@ -157,7 +159,7 @@ pub Adds-new :
     → AddsNew old new codes origin → Adds bound old new codes origin
 Adds-new bound old new codes origin sets rising some lacks fresh adds = record {
   sets = λ h. AreSets-pushed bound old new codes origin sets
-    (record { rising = rising; in_range = h; lacks_both = lacks; not_empty = some }) fresh adds.entries (adds.known fresh);
+      (record { rising = rising; in_range = h; lacks_both = lacks; not_empty = some }) fresh adds.entries (adds.known fresh);
   entries = inr (lacks, adds.entries);
   settled = inr (subst (λ (es : List Entry). HasSet es codes) (sym adds.entries) (HasSet-pushed old.entries.items codes origin));
   balanced = λ done b. IsBalanced-pushed old new (record { codes = codes; origin = origin }) adds.entries adds.waits done b;

@@ -51,10 +51,11 @@ Extends-trans bound first second third one two = record {
   added = one.added ++ two.added;
   is_longer = two.is_longer ∙ ap (λ es. es ++ two.added) one.is_longer ∙ append_assoc first one.added two.added;
   are_made = λ n e l h. elim (cases_lt n (length second)) [
-    inl k ↦
-      subst (λ es. IsMade bound es e) (sym (ap (take n) two.is_longer ∙ take-append-le n second two.added (omega arith)))
-      (one.are_made n e l (sym (slice_get-append second two.added n k) ∙ ap (λ es. slice_get es n) (sym two.is_longer) ∙ h))
-    | inr k ↦ two.are_made n e k h ];
+    | inl k ↦
+        subst (λ es. IsMade bound es e) (sym (ap (take n) two.is_longer ∙ take-append-le n second two.added (omega arith)))
+        (one.are_made n e l (sym (slice_get-append second two.added n k) ∙ ap (λ es. slice_get es n) (sym two.is_longer) ∙ h))
+    | inr k ↦ two.are_made n e k h
+  ];
 }
 
 pub Extends-one :
@@ -63,13 +64,13 @@ Extends-one bound es new e grown made = record {
   added = e ∷ [];
   is_longer = grown;
   are_made = λ n d l h.
-    let within : n < length new = slice_get_within new n d h in
-    let more : length new ≡ length es + 1 = ap length grown ∙ length_push es e in
-    let here : n ≡ length es = omega arith in
-    let same : Some d ≡ Some e = sym h ∙ ap (λ us. slice_get us n) grown ∙ ap (slice_get (es ++ e ∷ [])) here ∙ slice_get-last es e in
-    let front : es ≡ take n new = sym (ap (take n) grown ∙ take_at es (e ∷ []) n (sym here)) in
-    let is : e ≡ d = cc in
-    subst (IsMade bound (take n new)) is (subst (λ us. IsMade bound us e) front made);
+      let within : n < length new = slice_get_within new n d h in
+      let more : length new ≡ length es + 1 = ap length grown ∙ length_push es e in
+      let here : n ≡ length es = omega arith in
+      let same : Some d ≡ Some e = sym h ∙ ap (λ us. slice_get us n) grown ∙ ap (slice_get (es ++ e ∷ [])) here ∙ slice_get-last es e in
+      let front : es ≡ take n new = sym (ap (take n) grown ∙ take_at es (e ∷ []) n (sym here)) in
+      let is : e ≡ d = cc in
+      subst (IsMade bound (take n new)) is (subst (λ us. IsMade bound us e) front made);
 }
 
 -- ---- what stays where entries are added
@@ -83,18 +84,22 @@ codes_at-kept {bound} {old} {new} ext n h = ap (λ es. codes_at es n) ext.is_lon
 pub Meets-kept :
     {bound : ℕ} {old new : List Entry} → Extends bound old new → (i j a : ℕ) → Meets old i j a → Meets new i j a
 Meets-kept ext i j a m =
-    let longer = length-kept ext in
-    (omega (arith, m.0), omega (arith, m.1),
-    subst (λ cs. IsTrue (has_number (2 * a) cs)) (sym (codes_at-kept ext i m.0)) m.2,
-    subst (λ cs. IsTrue (has_number (2 * a + 1) cs)) (sym (codes_at-kept ext j m.1)) m.3)
+    let longer = length-kept ext in (
+      omega (arith, m.0),
+      omega (arith, m.1),
+      subst (λ cs. IsTrue (has_number (2 * a) cs)) (sym (codes_at-kept ext i m.0)) m.2,
+      subst (λ cs. IsTrue (has_number (2 * a + 1) cs)) (sym (codes_at-kept ext j m.1)) m.3,
+    )
 
 pub Meets-back :
     {bound : ℕ} {old new : List Entry}
     → Extends bound old new → (i j a : ℕ) → i < length old → j < length old → Meets new i j a → Meets old i j a
-Meets-back ext i j a hi hj m =
-    (hi, hj,
-    subst (λ cs. IsTrue (has_number (2 * a) cs)) (codes_at-kept ext i hi) m.2,
-    subst (λ cs. IsTrue (has_number (2 * a + 1) cs)) (codes_at-kept ext j hj) m.3)
+Meets-back ext i j a hi hj m = (
+  hi,
+  hj,
+  subst (λ cs. IsTrue (has_number (2 * a) cs)) (codes_at-kept ext i hi) m.2,
+  subst (λ cs. IsTrue (has_number (2 * a + 1) cs)) (codes_at-kept ext j hj) m.3,
+)
 
 HasSet-kept : {bound : ℕ} {old new : List Entry} → Extends bound old new → (q : List ℕ) → HasSet old q → HasSet new q
 HasSet-kept ext q h =
@@ -107,8 +112,8 @@ IsSettled-kept :
 IsSettled-kept {bound} {old} {new} ext i j a hi hj s = record {
   codes = s.codes;
   is_resolvent =
-    subst (λ xs. IsCodeResolvent a xs (codes_at new j) s.codes) (sym (codes_at-kept ext i hi))
-    (subst (λ ys. IsCodeResolvent a (codes_at old i) ys s.codes) (sym (codes_at-kept ext j hj)) s.is_resolvent);
+      subst (λ xs. IsCodeResolvent a xs (codes_at new j) s.codes) (sym (codes_at-kept ext i hi))
+      (subst (λ ys. IsCodeResolvent a (codes_at old i) ys s.codes) (sym (codes_at-kept ext j hj)) s.is_resolvent);
   stands = ⊎_elim (λ b. inl b) (λ h. inr (HasSet-kept ext s.codes h)) s.stands;
 }
 
@@ -124,14 +129,14 @@ HasPairings-pushed {bound} {old} {new} Kind Kind' count i j a ext has meets fres
       pairings = has.pairings ++ it ∷ [];
       counted = length_push has.pairings it ∙ ap (λ n. n + 1) has.counted;
       lawful =
-        All-push (λ (p : Pairing). Meets new p.first p.second p.atom × Kind' p.first p.second p.atom) has.pairings it
-        (All-weaker (λ (p : Pairing). Meets old p.first p.second p.atom × Kind p.first p.second p.atom)
-        (λ (p : Pairing). Meets new p.first p.second p.atom × Kind' p.first p.second p.atom)
-        (λ p h. (Meets-kept ext p.first p.second p.atom h.0, wider p.first p.second p.atom h.1)) has.pairings has.lawful)
-        (Meets-kept ext i j a meets, mine);
+          All-push (λ (p : Pairing). Meets new p.first p.second p.atom × Kind' p.first p.second p.atom) has.pairings it
+          (All-weaker (λ (p : Pairing). Meets old p.first p.second p.atom × Kind p.first p.second p.atom)
+          (λ (p : Pairing). Meets new p.first p.second p.atom × Kind' p.first p.second p.atom)
+          (λ p h. (Meets-kept ext p.first p.second p.atom h.0, wider p.first p.second p.atom h.1)) has.pairings has.lawful)
+          (Meets-kept ext i j a meets, mine);
       different =
-        all_pairs_push (λ (p q : Pairing). p ≡ q → ⊥) has.pairings it has.different
-        (λ k d h e. fresh (subst (λ (p : Pairing). Kind p.first p.second p.atom) e (has.lawful k d h).1));
+          all_pairs_push (λ (p q : Pairing). p ≡ q → ⊥) has.pairings it has.different
+          (λ k d h e. fresh (subst (λ (p : Pairing). Kind p.first p.second p.atom) e (has.lawful k d h).1));
     }
 
 pub IsResolved-more :
@@ -142,12 +147,13 @@ pub IsResolved-more :
     → ((x y z : ℕ) → Kind x y z → Kind' x y z) → Kind' i j a → IsResolved new Kind' (count + 1)
 IsResolved-more {bound} {old} {new} Kind Kind' count i j a ext has meets fresh settled inside narrower wider mine = record {
   settled = λ x y z k m. elim (narrower x y z k) [
-    inl before ↦
-      let within = inside x y z before in
-      IsSettled-kept ext x y z within.0 within.1 (has.settled x y z before (Meets-back ext x y z within.0 within.1 m))
+    | inl before ↦
+        let within = inside x y z before in
+        IsSettled-kept ext x y z within.0 within.1 (has.settled x y z before (Meets-back ext x y z within.0 within.1 m))
     | inr here ↦
-      subst (λ u. IsSettled new u y z) (sym here.0)
-      (subst (λ u. IsSettled new i u z) (sym here.1) (subst (λ u. IsSettled new i j u) (sym here.2) settled)) ];
+        subst (λ u. IsSettled new u y z) (sym here.0)
+        (subst (λ u. IsSettled new i u z) (sym here.1) (subst (λ u. IsSettled new i j u) (sym here.2) settled))
+  ];
   counted = HasPairings-pushed Kind Kind' count i j a ext has.counted meets fresh wider mine;
 }
 
@@ -162,9 +168,9 @@ IsResolved-same {es} Kind Kind' has to from = record {
     pairings = has.counted.pairings;
     counted = has.counted.counted;
     lawful =
-      All-weaker (λ (p : Pairing). Meets es p.first p.second p.atom × Kind p.first p.second p.atom)
-      (λ (p : Pairing). Meets es p.first p.second p.atom × Kind' p.first p.second p.atom)
-      (λ p h. (h.0, to p.first p.second p.atom h.0 h.1)) has.counted.pairings has.counted.lawful;
+        All-weaker (λ (p : Pairing). Meets es p.first p.second p.atom × Kind p.first p.second p.atom)
+        (λ (p : Pairing). Meets es p.first p.second p.atom × Kind' p.first p.second p.atom)
+        (λ p h. (h.0, to p.first p.second p.atom h.0 h.1)) has.counted.pairings has.counted.lawful;
     different = has.counted.different;
   };
 }
@@ -230,8 +236,8 @@ Resolves-empty old new i j a codes sets meets r none adds holders limit count = 
   same_limit = limit;
   counted = count;
   extends =
-    Extends-one (length old.holders.items) _ _ _ adds.entries
-    (IsMade-resolvent (length old.holders.items) old.sets i j a codes sets meets r (LacksBoth-none codes none));
+      Extends-one (length old.holders.items) _ _ _ adds.entries
+      (IsMade-resolvent (length old.holders.items) old.sets i j a codes sets meets r (LacksBoth-none codes none));
   one_waits = adds.one_waits;
   leaves = record {
     before = old.sets.entries.items;
@@ -262,17 +268,20 @@ Resolves-open old new i j a codes sets meets r adds holders limit count open' = 
     in_range =
         resolvent_in_range (length old.holders.items) a _ _ codes
         (sets.proper i meets.0).in_range (sets.proper j meets.1).in_range r
+
     extends : Extends (length old.holders.items) old.sets.entries.items new.sets.entries.items
     extends = elim adds.entries [
-      inl same ↦ subst (Extends (length old.holders.items) old.sets.entries.items) (sym same) (Extends-none (length old.holders.items) _)
+      | inl same ↦ subst (Extends (length old.holders.items) old.sets.entries.items) (sym same) (Extends-none (length old.holders.items) _)
       | inr more ↦ Extends-one (length old.holders.items) _ _ _ more.1
-      (IsMade-resolvent (length old.holders.items) old.sets i j a codes sets meets r more.0) ]
+          (IsMade-resolvent (length old.holders.items) old.sets i j a codes sets meets r more.0)
+    ]
+
     settled : IsSettled new.sets.entries.items i j a
     settled = record {
       codes = codes;
       is_resolvent =
-        subst (λ xs. IsCodeResolvent a xs (codes_at new.sets.entries.items j) codes) (sym (codes_at-kept extends i meets.0))
-        (subst (λ ys. IsCodeResolvent a (codes_at old.sets.entries.items i) ys codes) (sym (codes_at-kept extends j meets.1)) r);
+          subst (λ xs. IsCodeResolvent a xs (codes_at new.sets.entries.items j) codes) (sym (codes_at-kept extends i meets.0))
+          (subst (λ ys. IsCodeResolvent a (codes_at old.sets.entries.items i) ys codes) (sym (codes_at-kept extends j meets.1)) r);
       stands = adds.settled;
     }
 
@@ -286,10 +295,10 @@ Resolves-spent old new i j a same holders limit count reached = record {
   same_limit = limit;
   counted = count;
   extends =
-    subst (λ (s : Sets). Extends (length old.holders.items) old.sets.entries.items s.entries.items) (sym same)
-    (Extends-none (length old.holders.items) old.sets.entries.items);
+      subst (λ (s : Sets). Extends (length old.holders.items) old.sets.entries.items s.entries.items) (sym same)
+      (Extends-none (length old.holders.items) old.sets.entries.items);
   one_waits =
-    subst (λ (s : Sets). length (waiting_entries s) ≤ length (waiting_entries old.sets) + 1) (sym same) (omega arith);
+      subst (λ (s : Sets). length (waiting_entries s) ≤ length (waiting_entries old.sets) + 1) (sym same) (omega arith);
   leaves = (same, reached);
 }
 

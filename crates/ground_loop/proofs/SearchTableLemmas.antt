@@ -91,7 +91,7 @@ mutual
   keys_injective (tree_then t ts) no_trees xs ys c h = absurd (omega arith)
   keys_injective (tree_then t ts) (tree_then u us) xs ys c h =
       let first = key_injective t u (keys_of ts ++ xs) (keys_of us ++ ys)
-        (sym (append_assoc (key_of t) (keys_of ts) xs) ∙ h ∙ append_assoc (key_of u) (keys_of us) ys) in
+      (sym (append_assoc (key_of t) (keys_of ts) xs) ∙ h ∙ append_assoc (key_of u) (keys_of us) ys) in
       let count : trees_count ts ≡ trees_count us = omega arith in
       let rest = keys_injective ts us xs ys count first.1 in
       let one : t ≡ u = first.0 in
@@ -130,10 +130,10 @@ pub Numbers-found :
 Numbers-found a t key number table is_key found =
     let place = place_from_lookup (λ k. pointwise nat_eq key k.items) a.numbers.entries number found in
     let sound =
-      entry_at (λ e. (u : Tree) × (slice_get a.terms e.1 ≡ Some u) × (e.0.items ≡ key_of u)) a.numbers.entries place.0
-      (place.1, number) place.2 table.sound in
+    entry_at (λ e. (u : Tree) × (slice_get a.terms e.1 ≡ Some u) × (e.0.items ≡ key_of u)) a.numbers.entries place.0
+    (place.1, number) place.2 table.sound in
     let same : sound.0 ≡ t =
-      same_tree_from_keys sound.0 t (sym sound.2 ∙ sym ((bytes_decides key place.1.items).0 place.3) ∙ is_key) in
+    same_tree_from_keys sound.0 t (sym sound.2 ∙ sym ((bytes_decides key place.1.items).0 place.3) ∙ is_key) in
     record {
       table = table;
       grows = Grows-none a.terms;
@@ -167,28 +167,28 @@ pub Numbers-new :
 Numbers-new a new t key number table is_key absent is_last grown permuted = record {
   table = record {
     sound =
-      All-permutation (λ e. (u : Tree) × (slice_get new.terms e.1 ≡ Some u) × (e.0.items ≡ key_of u)) _ _ permuted
-      (All-cons (λ e. (u : Tree) × (slice_get new.terms e.1 ≡ Some u) × (e.0.items ≡ key_of u)) (key, number) a.numbers.entries
-      (t, here, is_key)
-      (All-weaker (λ e. (u : Tree) × (slice_get a.terms e.1 ≡ Some u) × (e.0.items ≡ key_of u))
-      (λ e. (u : Tree) × (slice_get new.terms e.1 ≡ Some u) × (e.0.items ≡ key_of u))
-      (λ e h. (h.0, kept e.1 h.0 h.1, h.2)) a.numbers.entries table.sound));
+        All-permutation (λ e. (u : Tree) × (slice_get new.terms e.1 ≡ Some u) × (e.0.items ≡ key_of u)) _ _ permuted
+        (All-cons (λ e. (u : Tree) × (slice_get new.terms e.1 ≡ Some u) × (e.0.items ≡ key_of u)) (key, number) a.numbers.entries
+        (t, here, is_key)
+        (All-weaker (λ e. (u : Tree) × (slice_get a.terms e.1 ≡ Some u) × (e.0.items ≡ key_of u))
+        (λ e. (u : Tree) × (slice_get new.terms e.1 ≡ Some u) × (e.0.items ≡ key_of u))
+        (λ e h. (h.0, kept e.1 h.0 h.1, h.2)) a.numbers.entries table.sound));
     complete = λ n u h.
-      sym (list_any-IsPermutation (λ e. pointwise nat_eq (key_of u) e.0.items) _ _ permuted)
-      ∙ ⊎_elim
-      (λ old. or_right (pointwise nat_eq (key_of u) key.items) (list_any (λ e. pointwise nat_eq (key_of u) e.0.items) a.numbers.entries)
-      (table.complete n u old))
-      (λ mine. or_left (pointwise nat_eq (key_of u) key.items) (list_any (λ e. pointwise nat_eq (key_of u) e.0.items) a.numbers.entries)
-      ((bytes_decides (key_of u) key.items).1 (ap key_of mine ∙ sym is_key)))
-      (pushed_cases a.terms t n u (ap (λ ts. slice_get ts n) (sym grown) ∙ h));
+        sym (list_any-IsPermutation (λ e. pointwise nat_eq (key_of u) e.0.items) _ _ permuted)
+        ∙ ⊎_elim
+        (λ old. or_right (pointwise nat_eq (key_of u) key.items) (list_any (λ e. pointwise nat_eq (key_of u) e.0.items) a.numbers.entries)
+        (table.complete n u old))
+        (λ mine. or_left (pointwise nat_eq (key_of u) key.items) (list_any (λ e. pointwise nat_eq (key_of u) e.0.items) a.numbers.entries)
+        ((bytes_decides (key_of u) key.items).1 (ap key_of mine ∙ sym is_key)))
+        (pushed_cases a.terms t n u (ap (λ ts. slice_get ts n) (sym grown) ∙ h));
     different =
-      subst (AllPairs (λ t u. IsFalse (tree_eq t u))) (sym grown)
-      (all_pairs_push (λ t u. IsFalse (tree_eq t u)) a.terms t table.different
-      (λ k d l. false_from_ne_true (tree_eq (get_or a.terms k d) t)
-      (λ same. both_ways _
-      (ap (λ q. list_any (λ e. pointwise nat_eq q e.0.items) a.numbers.entries) (sym is_key)
-      ∙ lookup-none_any (λ k. pointwise nat_eq key.items k.items) a.numbers.entries absent)
-      (table.complete k t (slice_get-get_or a.terms k d l ∙ ap Some (tree_eq-true (get_or a.terms k d) t same))))));
+        subst (AllPairs (λ t u. IsFalse (tree_eq t u))) (sym grown)
+        (all_pairs_push (λ t u. IsFalse (tree_eq t u)) a.terms t table.different
+        (λ k d l. false_from_ne_true (tree_eq (get_or a.terms k d) t)
+        (λ same. both_ways _
+        (ap (λ q. list_any (λ e. pointwise nat_eq q e.0.items) a.numbers.entries) (sym is_key)
+        ∙ lookup-none_any (λ k. pointwise nat_eq key.items k.items) a.numbers.entries absent)
+        (table.complete k t (slice_get-get_or a.terms k d l ∙ ap Some (tree_eq-true (get_or a.terms k d) t same))))));
   };
   grows = record { more = t ∷ []; is_longer = grown };
   at_most_one = omega (arith, ap length grown, length_push a.terms t);
@@ -197,5 +197,6 @@ Numbers-new a new t key number table is_key absent is_last grown permuted = reco
   where
     here : slice_get new.terms number ≡ Some t
     here = ap (λ ts. slice_get ts number) grown ∙ ap (slice_get (a.terms ++ t ∷ [])) is_last ∙ slice_get-last a.terms t
+
     kept : (n : ℕ) (u : Tree) → slice_get a.terms n ≡ Some u → slice_get new.terms n ≡ Some u
     kept n u h = ap (λ ts. slice_get ts n) grown ∙ slice_get-kept a.terms (t ∷ []) n u h

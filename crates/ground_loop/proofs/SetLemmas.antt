@@ -39,6 +39,7 @@ literal_eq-true l k h =
     sign true false e = cc
     sign false true e = cc
     sign false false e = refl
+
     same :
         (p q : Bool) (a b c d : Tree) → p ≡ q → a ≡ b → c ≡ d
         → ◌≡◌ {A = TreeLiteral} (record { positive = p; left = a; right = c }) (record { positive = q; left = b; right = d })
@@ -89,19 +90,21 @@ pub has_literal-without :
 has_literal-without k l [] = refl
 has_literal-without k l (m ∷ s) =
     elim (cases_Bool (literal_eq k m)) [
-    inl e ↦ ap (λ b. has_literal l (cond (not b) (m ∷ without k s) (without k s))) e ∙ has_literal-without k l s
-    ∙ gone (literal_eq l m) (has_literal l s) (literal_eq k l)
-    (λ h. ap (literal_eq k) (literal_eq-true l m h) ∙ e)
-    | inr e ↦ ap (λ b. has_literal l (cond (not b) (m ∷ without k s) (without k s))) e
-    ∙ ap (λ b. literal_eq l m || b) (has_literal-without k l s)
-    ∙ stays (literal_eq l m) (has_literal l s) (literal_eq k l)
-    (λ h. ap (literal_eq k) (literal_eq-true l m h) ∙ e) ]
+      | inl e ↦ ap (λ b. has_literal l (cond (not b) (m ∷ without k s) (without k s))) e ∙ has_literal-without k l s
+          ∙ gone (literal_eq l m) (has_literal l s) (literal_eq k l)
+          (λ h. ap (literal_eq k) (literal_eq-true l m h) ∙ e)
+      | inr e ↦ ap (λ b. has_literal l (cond (not b) (m ∷ without k s) (without k s))) e
+          ∙ ap (λ b. literal_eq l m || b) (has_literal-without k l s)
+          ∙ stays (literal_eq l m) (has_literal l s) (literal_eq k l)
+          (λ h. ap (literal_eq k) (literal_eq-true l m h) ∙ e)
+    ]
   where
     gone : (a b e : Bool) → (a ≡ true → e ≡ true) → (b && not e) ≡ ((a || b) && not e)
     gone true true e f = refl
     gone true false true f = refl
     gone true false false f = f refl
     gone false b e f = refl
+
     stays : (a b e : Bool) → (a ≡ true → e ≡ false) → (a || (b && not e)) ≡ ((a || b) && not e)
     stays true b true f = f refl
     stays true b false f = refl
@@ -226,10 +229,12 @@ pub atom_injective :
     → AllPairs (λ t u. IsFalse (tree_eq t u)) terms → a < length terms → b < length terms → atom_at terms a ≡ atom_at terms b → a ≡ b
 atom_injective terms a b different ha hb e =
     elim (cases_order a b) [
-    inl same ↦ same
-    | inr r ↦ elim r [
-      inl l ↦ absurd (both_ways _ (different a b true_tree l hb) (ap (tree_eq (atom_at terms a)) (sym e) ∙ tree_eq-refl (atom_at terms a)))
-      | inr l ↦ absurd (both_ways _ (different b a true_tree l ha) (ap (tree_eq (atom_at terms b)) e ∙ tree_eq-refl (atom_at terms b))) ] ]
+      | inl same ↦ same
+      | inr r ↦ elim r [
+        | inl l ↦ absurd (both_ways _ (different a b true_tree l hb) (ap (tree_eq (atom_at terms a)) (sym e) ∙ tree_eq-refl (atom_at terms a)))
+        | inr l ↦ absurd (both_ways _ (different b a true_tree l ha) (ap (tree_eq (atom_at terms b)) e ∙ tree_eq-refl (atom_at terms b)))
+      ]
+    ]
 
 pub code_injective :
     (terms : List Tree) (c d : ℕ)
@@ -237,7 +242,7 @@ pub code_injective :
     → coded_literal terms c ≡ coded_literal terms d → c ≡ d
 code_injective terms c d different hc hd e =
     let atoms : c / 2 ≡ d / 2 =
-      atom_injective terms (c / 2) (d / 2) different (omega arith) (omega arith) (ap (λ (l : TreeLiteral). l.left) e) in
+    atom_injective terms (c / 2) (d / 2) different (omega arith) (omega arith) (ap (λ (l : TreeLiteral). l.left) e) in
     let signs : (c % 2 == 0) ≡ (d % 2 == 0) = ap (λ (l : TreeLiteral). l.positive) e in
     split (c % 2) (d % 2) refl refl signs atoms
   where
@@ -302,8 +307,9 @@ atom_of_positive terms codes atom inside h =
     let p = literal_member (coded_literal terms) codes (atom_literal true atom) h in
     let small = inside p.0 p.1 in
     elim (code_cases p.0) [
-    inl e ↦ (p.0 / 2, omega arith, ap (λ (l : TreeLiteral). l.left) p.2, subst (λ d. IsTrue (has_number d codes)) e p.1)
-    | inr e ↦ absurd (odd p.0 (p.0 / 2) e (ap (λ (l : TreeLiteral). l.positive) p.2)) ]
+      | inl e ↦ (p.0 / 2, omega arith, ap (λ (l : TreeLiteral). l.left) p.2, subst (λ d. IsTrue (has_number d codes)) e p.1)
+      | inr e ↦ absurd (odd p.0 (p.0 / 2) e (ap (λ (l : TreeLiteral). l.positive) p.2))
+    ]
   where
     odd : (c a : ℕ) → c ≡ 2 * a + 1 → true ≡ (c % 2 == 0) → ⊥
     odd c a e h = let x : true ≡ false = h ∙ ne_eqb (c % 2) 0 (λ z. omega arith) in cc
@@ -318,17 +324,18 @@ tautology_codes terms codes different inside lacks =
     let c = literal_member (coded_literal terms) codes p.0 p.1 in
     let small = inside c.0 c.1 in
     elim (code_cases c.0) [
-    inl e ↦
-      lacks (c.0 / 2) (subst (λ d. IsTrue (has_number d codes)) e c.1)
-      (negative_number terms codes (c.0 / 2) different (omega arith) inside
-      (subst (λ (l : TreeLiteral). IsTrue (has_literal l (coded_set terms codes)))
-      (ap complement (c.2 ∙ ap (coded_literal terms) e ∙ coded_literal-even terms (c.0 / 2))) p.2))
-    | inr e ↦
-      lacks (c.0 / 2)
-      (positive_number terms codes (c.0 / 2) different (omega arith) inside
-      (subst (λ (l : TreeLiteral). IsTrue (has_literal l (coded_set terms codes)))
-      (ap complement (c.2 ∙ ap (coded_literal terms) e ∙ coded_literal-odd terms (c.0 / 2))) p.2))
-      (subst (λ d. IsTrue (has_number d codes)) e c.1) ])
+      | inl e ↦
+          lacks (c.0 / 2) (subst (λ d. IsTrue (has_number d codes)) e c.1)
+          (negative_number terms codes (c.0 / 2) different (omega arith) inside
+          (subst (λ (l : TreeLiteral). IsTrue (has_literal l (coded_set terms codes)))
+          (ap complement (c.2 ∙ ap (coded_literal terms) e ∙ coded_literal-even terms (c.0 / 2))) p.2))
+      | inr e ↦
+          lacks (c.0 / 2)
+          (positive_number terms codes (c.0 / 2) different (omega arith) inside
+          (subst (λ (l : TreeLiteral). IsTrue (has_literal l (coded_set terms codes)))
+          (ap complement (c.2 ∙ ap (coded_literal terms) e ∙ coded_literal-odd terms (c.0 / 2))) p.2))
+          (subst (λ d. IsTrue (has_number d codes)) e c.1)
+    ])
 
 pub tautology_both : (terms : List Tree) (codes : List ℕ) → HasBoth codes → IsTrue (is_tautology (coded_set terms codes))
 tautology_both terms codes both =
@@ -374,6 +381,7 @@ resolvent_codes terms a xs ys zs different ha inside1 inside2 r =
             (false_from_ne_true (literal_eq k l) (λ e.
             both_ways _ (not-true (c == d) other)
             (eq-eqb c d (sym (code_injective terms d c different hd hc (is_k ∙ literal_eq-true k l e ∙ is_l)))))))
+
     back :
         (l : TreeLiteral)
         → ((has_literal l (coded_set terms xs) && not (literal_eq (atom_literal true (atom_at terms a)) l))
@@ -400,6 +408,7 @@ resolvent_codes terms a xs ys zs different ha inside1 inside2 r =
         found l c is_l has =
             subst (λ (m : TreeLiteral). IsTrue (has_literal m (coded_set terms zs))) (sym is_l)
             (member_literal (coded_literal terms) zs c (r.members c ∙ has))
+
         apart :
             (l : TreeLiteral) (c d : ℕ) (k : TreeLiteral)
             → l ≡ coded_literal terms c → coded_literal terms d ≡ k → not (literal_eq k l) ≡ true → not (c == d) ≡ true

@@ -34,10 +34,7 @@ pub fn search(alloc: Global, form: &Clauses, limit: u32) -> Mem<Found>
     }
     let mut saturation = Saturation::new(alloc, sets, atoms.terms.len(), limit)?;
     match saturation.run(alloc)? {
-        Progress::Empty => Ok(Found::Empty(
-            atoms.terms,
-            saturation.sets.into_entries(),
-        )),
+        Progress::Empty => Ok(Found::Empty(atoms.terms, saturation.sets.into_entries())),
         Progress::Spent => Ok(Found::Spent(limit)),
         Progress::Open => Ok(Found::Closed),
     }

@@ -57,7 +57,8 @@ impl Sets {
         let Ok(number) = u32::try_from(self.entries.len()) else {
             return Err(NoMemory);
         };
-        self.known.insert(Vec::from_slice(alloc, codes.as_slice())?)?;
+        self.known
+            .insert(Vec::from_slice(alloc, codes.as_slice())?)?;
         self.waiting.push(Reverse((codes.len(), number)))?;
         self.entries.push(Entry {
             codes: Codes::from_vec(codes),

@@ -1,34 +1,54 @@
+ghost use Rattle.std.specs.Prelude.{◌≡◌, ◌≤◌, length, map, IfOk, IsTrue};
+ghost use Rattle.fol_base.specs.Clause.{literal_size, clause_size};
+ghost use Rattle.fol_base.specs.GroundForm.{is_atom_literal, IsGroundClause, IsGroundForm, form_size};
+ghost use Rattle.fol_base.specs.Literal.{literal_of, clause_of};
+
 use super::*;
 use fol_base::{Clause, Literal, Literals, Names, NoMemory, Term, Terms};
-use std::process::Abort;
 
-/// A literal, by the number of its predicate without arguments: negated below zero.
-type Number = i32;
-
-fn literal(alloc: Global, number: Number) -> Literal {
+/// A predicate without arguments by its number, negated below zero.
+fn literal(alloc: Global, number: i8) -> Literal
+    ensures atom { IsTrue (is_atom_literal (literal_of result)) }
+    ensures size { literal_size (literal_of result) ≡ 2 }
+{
     Literal {
         positive: number > 0,
-        left: Term::App(number.unsigned_abs(), Terms::new(alloc)),
+        left: Term::App(u32::from(number.unsigned_abs()) + 1, Terms::new(alloc)),
         right: Term::App(0, Terms::new(alloc)),
     }
 }
 
-fn form(alloc: Global, clauses: &[&[Number]]) -> Mem<Clauses> {
-    let mut made = Clauses::new(alloc);
-    for numbers in clauses {
-        let mut literals = Literals::new(alloc);
-        for number in *numbers {
-            literals.push(literal(alloc, *number))?;
-        }
-        made.push(Clause {
-            literals,
-            names: Names::new(alloc),
-        })?;
+fn clause(alloc: Global, numbers: &[i8]) -> Mem<Clause>
+    requires { length numbers.now ≤ 10 }
+    ensures ground { IfOk result (λ clause. IsGroundClause (clause_of clause)) }
+    ensures small { IfOk result (λ clause. clause_size (clause_of clause) ≤ 20) }
+{
+    let mut literals = Vec::new(alloc);
+    for number in numbers {
+        literals.push(literal(alloc, *number))?;
     }
-    Ok(made)
+    Ok(Clause {
+        literals: Literals::from_vec(literals),
+        names: Names::new(alloc),
+    })
 }
 
-/// How the search ended, and with how many entries or inferences.
+/// A form of few short clauses; longer ones count as want of memory.
+fn form(alloc: Global, clauses: &[&[i8]]) -> Mem<Clauses>
+    ensures ground { IfOk result (λ form. IsGroundForm (map clause_of form)) }
+    ensures small { IfOk result (λ form. form_size (map clause_of form) ≤ 4000) }
+{
+    let mut made = Vec::new(alloc);
+    for numbers in clauses {
+        if numbers.len() > 10 || made.len() >= 100 {
+            return Err(NoMemory);
+        }
+        made.push(clause(alloc, numbers)?)?;
+    }
+    Ok(Clauses::from_vec(made))
+}
+
+/// How the search ended.
 #[derive(Clone, Copy, Debug, PartialEq, Eq)]
 enum End {
     Empty,
@@ -37,7 +57,9 @@ enum End {
     NoMemory,
 }
 
-fn ended(alloc: Global, clauses: &[&[Number]], limit: u32) -> End {
+fn ended(alloc: Global, clauses: &[&[i8]], limit: u32) -> End
+    requires { 1 ≤ limit }
+{
     let Ok(form) = form(alloc, clauses) else {
         return End::NoMemory;
     };
@@ -50,14 +72,14 @@ fn ended(alloc: Global, clauses: &[&[Number]], limit: u32) -> End {
 }
 
 #[test]
-fn ends(rt: HostRuntime) {
+fn small_forms(rt: HostRuntime) {
     let alloc = rt.alloc();
-    let four: &[&[Number]] = &[&[1, 2], &[-1, 2], &[1, -2], &[-1, -2]];
+    let four: &[&[i8]] = &[&[1, 2], &[-1, 2], &[1, -2], &[-1, -2]];
     assert_eq!(rt; ended(alloc, &[], 1), End::Closed);
     assert_eq!(rt; ended(alloc, &[&[1]], 1), End::Closed);
     assert_eq!(rt; ended(alloc, &[&[1, -1]], 1), End::Closed);
     assert_eq!(rt; ended(alloc, &[&[1], &[]], 1), End::Empty);
-    assert_eq!(rt; ended(alloc, &[&[1], &[-1]], 1), End::Empty);
+    assert_eq!(rt; ended(alloc, &[&[1, 1], &[-1]], 1), End::Empty);
     assert_eq!(rt; ended(alloc, four, 1), End::Spent(1));
     assert_eq!(rt; ended(alloc, four, 1000), End::Empty);
 }
@@ -65,7 +87,7 @@ fn ends(rt: HostRuntime) {
 /// Three pigeons in two holes: pigeon i in hole j is 2 i + j + 1.
 #[test]
 fn pigeonholes(rt: HostRuntime) {
-    let clauses: &[&[Number]] = &[
+    let clauses: &[&[i8]] = &[
         &[1, 2],
         &[3, 4],
         &[5, 6],
@@ -77,4 +99,5 @@ fn pigeonholes(rt: HostRuntime) {
         &[-4, -6],
     ];
     assert_eq!(rt; ended(rt.alloc(), clauses, 100_000), End::Empty);
+    assert_eq!(rt; ended(rt.alloc(), &clauses[1..], 100_000), End::Closed);
 }

@@ -23,7 +23,7 @@ clause_codes-requires-clause-room c =
     let read = clause_read c.args.clauses.now c.loop-index.index clause c.loop-index-test.true c.index-clauses-index.is in
     let literals = c.as_slice-literals.ensures ∙ ap (λ (d : Clause). d.literals) (sym c.index-clauses-index.is) in
     let room = clause_room (map clause_of c.args.clauses.now) c.loop-index.index c.loop-index.atoms c.loop-index.sets (clause_of clause)
-      c.loop-index.invariant read c.requires.small in
+    c.loop-index.invariant read c.requires.small in
     let few : length c.loop-index.atoms.terms + length clause.literals < 4001 = omega (arith, room.0, length-map clause.literals literal_of) in
     let same = ap length literals in
     omega (arith, few, same)

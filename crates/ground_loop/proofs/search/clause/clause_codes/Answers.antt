@@ -13,9 +13,9 @@ pub loop-literal-preserved : goal.loop-literal-preserved
 loop-literal-preserved c = record {
   table = c.in_ok-atom.ensures.table;
   so_far =
-    codes_more _ _ _ _ _ _ _ _ c.in_ok-atom.atom (literal_of c.literal-item.result) c.loop-literal.invariant.so_far c.in_ok-atom.ensures
-    (literal_there c.args.literals.now c.loop-literal.literal-index c.literal-item.result c.requires.atoms_alone c.loop-literal-test.true c.literal-item.is)
-    (c.in_ok-push.ensures.items ∙ ap (λ k. c.loop-literal.codes.items ++ k ∷ []) c.code_of.ensures) (map-take_more_item literal_of _ _ _ c.loop-literal-test.true c.literal-item.is);
+      codes_more _ _ _ _ _ _ _ _ c.in_ok-atom.atom (literal_of c.literal-item.result) c.loop-literal.invariant.so_far c.in_ok-atom.ensures
+      (literal_there c.args.literals.now c.loop-literal.literal-index c.literal-item.result c.requires.atoms_alone c.loop-literal-test.true c.literal-item.is)
+      (c.in_ok-push.ensures.items ∙ ap (λ k. c.loop-literal.codes.items ++ k ∷ []) c.code_of.ensures) (map-take_more_item literal_of _ _ _ c.loop-literal-test.true c.literal-item.is);
 }
 
 pub returns : goal.returns

@@ -8,5 +8,5 @@ abbrev pub invariant-loop-literal : goal.invariant-loop-literal
 invariant-loop-literal l = record {
   table : IsTable l.atoms;
   so_far :
-    CodesSoFar l.initial.atoms.terms l.atoms.terms l.codes.items (map literal_of (take l.literal-index l.literals)) l.literal-index;
+      CodesSoFar l.initial.atoms.terms l.atoms.terms l.codes.items (map literal_of (take l.literal-index l.literals)) l.literal-index;
 }

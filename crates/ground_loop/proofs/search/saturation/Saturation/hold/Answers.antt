@@ -22,11 +22,16 @@ index_mut-requires c =
     let codes = codes_at c.args.self.now.sets.entries.items c.args.given in
     let inside : c.loop-position.position < length codes = omega (arith, c.loop-position.invariant.is_length) in
     let code : c.code-code.result ≡ get_or codes c.loop-position.position 0 =
-      c.code-code.ensures
-      ∙ ap (λ (u : Sets). get_or (codes_at u.entries.items c.args.given) c.loop-position.position 0) c.loop-position.invariant.same_sets in
-    omega (arith, code, c.loop-position.self.holders.ok.0, c.loop-position.invariant.same_length,
-    (c.requires.sets.proper c.args.given c.requires.is_entry).in_range (get_or codes c.loop-position.position 0)
-    (number_at _ codes c.loop-position.position 0 inside refl))
+    c.code-code.ensures
+    ∙ ap (λ (u : Sets). get_or (codes_at u.entries.items c.args.given) c.loop-position.position 0) c.loop-position.invariant.same_sets in
+    omega (
+      arith,
+      code,
+      c.loop-position.self.holders.ok.0,
+      c.loop-position.invariant.same_length,
+      (c.requires.sets.proper c.args.given c.requires.is_entry).in_range (get_or codes c.loop-position.position 0)
+          (number_at _ codes c.loop-position.position 0 inside refl),
+    )
 
 pub loop-position-preserved : goal.loop-position-preserved
 loop-position-preserved c =
@@ -34,12 +39,15 @@ loop-position-preserved c =
     let codes = codes_at c.args.self.now.sets.entries.items c.args.given in
     let inside : c.loop-position.position < length codes = omega (arith, c.loop-position.invariant.is_length) in
     let code : c.code-code.result ≡ get_or codes c.loop-position.position 0 =
-      c.code-code.ensures
-      ∙ ap (λ (u : Sets). get_or (codes_at u.entries.items c.args.given) c.loop-position.position 0) c.loop-position.invariant.same_sets in
+    c.code-code.ensures
+    ∙ ap (λ (u : Sets). get_or (codes_at u.entries.items c.args.given) c.loop-position.position 0) c.loop-position.invariant.same_sets in
     let low : get_or codes c.loop-position.position 0 < length hs =
-      omega (arith, c.loop-position.invariant.same_length,
+    omega (
+      arith,
+      c.loop-position.invariant.same_length,
       (c.requires.sets.proper c.args.given c.requires.is_entry).in_range (get_or codes c.loop-position.position 0)
-      (number_at _ codes c.loop-position.position 0 inside refl)) in
+          (number_at _ codes c.loop-position.position 0 inside refl),
+    ) in
     record {
       same_sets = c.loop-position.invariant.same_sets;
       same_count = c.loop-position.invariant.same_count;
@@ -47,10 +55,10 @@ loop-position-preserved c =
       same_length = length-set hs c.code-code.result c.push.new.self ∙ c.loop-position.invariant.same_length;
       is_length = c.loop-position.invariant.is_length;
       holds = λ d n.
-        holds_more c.args.self.now.holders.items codes c.loop-position.position c.args.given hs
-        (set hs c.code-code.result c.push.new.self) c.index_mut.result.now d n
-        (c.requires.sets.proper c.args.given c.requires.is_entry).rising inside low c.loop-position.invariant.holds
-        (get_or_read hs c.code-code.result c.index_mut.result.now (omega (arith, code, low)) c.index_mut.ensures.value []
-        ∙ ap (λ k. get_or hs k []) code)
-        (ap (set hs c.code-code.result) c.in_ok-push.ensures.ok ∙ ap (λ k. set hs k (c.index_mut.result.now ++ c.args.given ∷ [])) code);
+          holds_more c.args.self.now.holders.items codes c.loop-position.position c.args.given hs
+          (set hs c.code-code.result c.push.new.self) c.index_mut.result.now d n
+          (c.requires.sets.proper c.args.given c.requires.is_entry).rising inside low c.loop-position.invariant.holds
+          (get_or_read hs c.code-code.result c.index_mut.result.now (omega (arith, code, low)) c.index_mut.ensures.value []
+          ∙ ap (λ k. get_or hs k []) code)
+          (ap (set hs c.code-code.result) c.in_ok-push.ensures.ok ∙ ap (λ k. set hs k (c.index_mut.result.now ++ c.args.given ∷ [])) code);
     }

@@ -11,7 +11,7 @@ invariant-loop-position l = record {
   same_length : length l.self.holders.items ≡ length l.initial.self.holders.items;
   is_length : l.length ≡ length (codes_at l.initial.self.sets.entries.items l.given);
   holds :
-    (c n : ℕ) → occurrences n (get_or l.self.holders.items c [])
-    ≡ occurrences n (get_or l.initial.self.holders.items c [])
-    + (if (n == l.given) && has_number c (take l.position (codes_at l.initial.self.sets.entries.items l.given)) then 1 else 0);
+      (c n : ℕ) → occurrences n (get_or l.self.holders.items c [])
+      ≡ occurrences n (get_or l.initial.self.holders.items c [])
+      + (if (n == l.given) && has_number c (take l.position (codes_at l.initial.self.sets.entries.items l.given)) then 1 else 0);
 }

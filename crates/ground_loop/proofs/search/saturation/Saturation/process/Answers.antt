@@ -32,16 +32,16 @@ loop-position-preserved c =
     let moves = c.in_ok-end.ensures in
     record {
       resolving =
-        subst (λ n. IsResolving n new c.args.given (c.loop-position.position + 1) 0) limited
-        (goes_on old.limit new c.in_ok-end.end _ c.in-Open.is moves.reaches);
+          subst (λ n. IsResolving n new c.args.given (c.loop-position.position + 1) 0) limited
+          (goes_on old.limit new c.in_ok-end.end _ c.in-Open.is moves.reaches);
       same_holders = moves.same_holders ∙ c.loop-position.invariant.same_holders;
       extends =
-        Extends-trans _ _ _ _ c.loop-position.invariant.extends
-        (subst (λ n. Extends n old.sets.entries.items new.sets.entries.items) c.loop-position.invariant.same_holders moves.extends);
+          Extends-trans _ _ _ _ c.loop-position.invariant.extends
+          (subst (λ n. Extends n old.sets.entries.items new.sets.entries.items) c.loop-position.invariant.same_holders moves.extends);
       no_more_work = omega (arith, c.loop-position.invariant.no_more_work, moves.no_more_work);
       is_length =
-        c.loop-position.invariant.is_length
-        ∙ ap length (sym (codes_at-kept moves.extends c.args.given c.loop-position.invariant.resolving.is_entry));
+          c.loop-position.invariant.is_length
+          ∙ ap length (sym (codes_at-kept moves.extends c.args.given c.loop-position.invariant.resolving.is_entry));
     }
 
 pub returns-in_default : goal.returns-in_default
@@ -56,14 +56,14 @@ returns c =
     let new = c.hold.new.self in
     let holds = c.in_ok-hold.ensures in
     let top : c.loop-position.position ≡ length (codes_at old.sets.entries.items c.args.given) =
-      omega (arith, c.loop-position.invariant.is_length) in
+    omega (arith, c.loop-position.invariant.is_length) in
     record {
       same_holders = holds.same_length ∙ c.loop-position.invariant.same_holders;
       extends =
-        subst (λ (u : Sets). Extends (length c.args.self.now.holders.items) c.args.self.now.sets.entries.items u.entries.items)
-        (sym holds.same_sets) c.loop-position.invariant.extends;
+          subst (λ (u : Sets). Extends (length c.args.self.now.holders.items) c.args.self.now.sets.entries.items u.entries.items)
+          (sym holds.same_sets) c.loop-position.invariant.extends;
       no_more_work = omega (arith, c.loop-position.invariant.no_more_work, work_held old new c.args.given holds);
       reaches =
-        holds_between c.args.self.now.limit old new c.args.given
-        (subst (λ k. IsResolving c.args.self.now.limit old c.args.given k 0) top c.loop-position.invariant.resolving) holds;
+          holds_between c.args.self.now.limit old new c.args.given
+          (subst (λ k. IsResolving c.args.self.now.limit old c.args.given k 0) top c.loop-position.invariant.resolving) holds;
     }

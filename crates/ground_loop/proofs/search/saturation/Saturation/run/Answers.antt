@@ -30,13 +30,13 @@ loop-given-preserved c =
     let moves : Moves s.limit popped new c.in_ok-end.end (IsBetween s.limit new) = c.in_ok-end.ensures in
     record {
       between =
-        subst (λ n. IsBetween n new) c.loop-given.invariant.between.stands.limited
-        (goes_on s.limit new c.in_ok-end.end _ c.in-Open.is moves.reaches);
+          subst (λ n. IsBetween n new) c.loop-given.invariant.between.stands.limited
+          (goes_on s.limit new c.in_ok-end.end _ c.in-Open.is moves.reaches);
       same_holders = moves.same_holders ∙ c.loop-given.invariant.same_holders;
       extends =
-        Extends-trans _ _ _ _ c.loop-given.invariant.extends
-        (subst (λ n. Extends n s.sets.entries.items new.sets.entries.items) c.loop-given.invariant.same_holders
-        (subst (λ es. Extends (length s.holders.items) es new.sets.entries.items) c.in-Some.ensures.entries moves.extends));
+          Extends-trans _ _ _ _ c.loop-given.invariant.extends
+          (subst (λ n. Extends n s.sets.entries.items new.sets.entries.items) c.loop-given.invariant.same_holders
+          (subst (λ es. Extends (length s.holders.items) es new.sets.entries.items) c.in-Some.ensures.entries moves.extends));
       no_more_work = omega (arith, c.loop-given.invariant.no_more_work, moves.no_more_work, c.in-Some.ensures.fewer);
     }
 
@@ -64,10 +64,10 @@ returns c =
     record {
       same_holders = c.loop-given.invariant.same_holders;
       extends =
-        subst (λ es. Extends (length c.args.self.now.holders.items) c.args.self.now.sets.entries.items es)
-        (sym c.in_default.ensures.entries) c.loop-given.invariant.extends;
+          subst (λ es. Extends (length c.args.self.now.holders.items) c.args.self.now.sets.entries.items es)
+          (sym c.in_default.ensures.entries) c.loop-given.invariant.extends;
       no_more_work = omega (arith, c.loop-given.invariant.no_more_work, ap length c.in_default.ensures.unchanged);
       reaches =
-        finishes c.args.self.now.limit s new c.loop-given.invariant.between c.in_default.ensures.entries
-        c.in_default.ensures.sets c.in_default.ensures.unchanged c.in_default.ensures.none refl refl refl;
+          finishes c.args.self.now.limit s new c.loop-given.invariant.between c.in_default.ensures.entries
+          c.in_default.ensures.sets c.in_default.ensures.unchanged c.in_default.ensures.none refl refl refl;
     }

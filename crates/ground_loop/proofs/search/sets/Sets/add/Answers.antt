@@ -11,14 +11,15 @@ use Rattle.ground_loop.proofs.search.sets.Sets.add.Goals.{then-is_tautology-via-
 pub returns-then-is_tautology : goal.returns-then-is_tautology
 returns-then-is_tautology c = λ bound sets.
     elim c.then-is_tautology.branch [
-    then-is_tautology-via-then-is_tautology w ↦
-      Adds-nothing bound _ _ _ sets (inl (subst HasBoth c.as_slice.ensures.value (w.if-is_tautology.ensures)))
-    | then-is_tautology-via-else-is_tautology+then-contains w ↦
-      Adds-nothing bound _ _ _ sets
-      (inr (HasSet-from_known _ _
-      (sym (sets.known c.args.codes.items)
-      ∙ ap (λ q. list_any (λ k. pointwise nat_eq q k.items) c.args.self.now.known.keys) (sym w.as_slice-else-is_tautology.ensures.value)
-      ∙ sym (w.if-contains.ensures)))) ]
+      | then-is_tautology-via-then-is_tautology w ↦
+          Adds-nothing bound _ _ _ sets (inl (subst HasBoth c.as_slice.ensures.value (w.if-is_tautology.ensures)))
+      | then-is_tautology-via-else-is_tautology+then-contains w ↦
+          Adds-nothing bound _ _ _ sets
+          (inr (HasSet-from_known _ _
+          (sym (sets.known c.args.codes.items)
+          ∙ ap (λ q. list_any (λ k. pointwise nat_eq q k.items) c.args.self.now.known.keys) (sym w.as_slice-else-is_tautology.ensures.value)
+          ∙ sym (w.if-contains.ensures))))
+    ]
 
 pub returns : goal.returns
 returns c =

@@ -12,16 +12,16 @@ pub returns : goal.returns
 returns c = record {
   entries = search rules;
   known = λ fresh q.
-    let same : c.in_ok-from_slice.field-0.items ≡ c.args.codes.items = c.in_ok-from_slice.ensures.items ∙ c.as_slice.ensures.value in
-    known-pushed (λ k. k.items) _ _ c.in_ok-from_slice.field-0 _ same
-    (MatchBool-at_true _ _
-    (c.in_ok-insert.ensures.added
-    ∙ ap not (ap (λ ks. list_any (λ k. pointwise ◌==◌ ks k.items) c.args.self.now.known.keys) same ∙ fresh))
-    c.in_ok-insert.ensures.keys)
-    q;
+      let same : c.in_ok-from_slice.field-0.items ≡ c.args.codes.items = c.in_ok-from_slice.ensures.items ∙ c.as_slice.ensures.value in
+      known-pushed (λ k. k.items) _ _ c.in_ok-from_slice.field-0 _ same
+      (MatchBool-at_true _ _
+      (c.in_ok-insert.ensures.added
+      ∙ ap not (ap (λ ks. list_any (λ k. pointwise ◌==◌ ks k.items) c.args.self.now.known.keys) same ∙ fresh))
+      c.in_ok-insert.ensures.keys)
+      q;
   waits = λ n.
-    let e : c.in-Ok.number ≡ length c.args.self.now.entries.items = search rules in
-    occurrences-permutation n _ _ (IsPermutation-map (λ w. w.0.1) _ _ c.in_ok-push.ensures.permutation)
-    ∙ ap (λ k. (if n == k then 1 else 0) + occurrences n (waiting_entries c.args.self.now)) e;
+      let e : c.in-Ok.number ≡ length c.args.self.now.entries.items = search rules in
+      occurrences-permutation n _ _ (IsPermutation-map (λ w. w.0.1) _ _ c.in_ok-push.ensures.permutation)
+      ∙ ap (λ k. (if n == k then 1 else 0) + occurrences n (waiting_entries c.args.self.now)) e;
   one_waits = omega (arith, length_waiting (λ w. w.0.1) _ _ c.in_ok-push.ensures.permutation);
 }
