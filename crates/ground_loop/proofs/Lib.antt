@@ -3,5 +3,7 @@ pub mod DeriveLemmas
 pub mod DeriveLines
 pub mod DeriveSteps
 pub mod DeriveCone
+pub mod DeriveClauses
 pub mod DeriveEntries
+pub mod DeriveWhole
 pub mod DeriveExamples
