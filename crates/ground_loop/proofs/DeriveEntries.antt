@@ -1,156 +1,27 @@
--- Facts about the lines of clauses and entries, for the derivation.
-use Rattle.std.proofs.Common.{◌≡◌, ℕ, zero, suc, ◌+◌, ◌-◌, ◌<◌, ◌≤◌, Bool, true, false, ◌&&◌, not, List, [], ◌∷◌, ◌++◌, length, map, take, get_or, refl, ap, ap₂, sym, ◌∙◌, subst, arith, inl, inr, true≢false, Some}
+-- Facts about the lines of entries, for the derivation.
+use Rattle.std.proofs.Common.{◌≡◌, ℕ, zero, suc, ◌+◌, ◌-◌, ◌<◌, ◌≤◌, Bool, true, false, ◌&&◌, not, List, [], ◌∷◌, ◌++◌, length, map, take, get_or, ap, sym, ◌∙◌, subst, arith, inl, inr, true≢false, Some}
 use Rattle.std.specs.Prelude.{slice_get, slice_index}
 use Rattle.std.specs.List.{list_all}
 use Rattle.std.proofs.lemmas.Bool.{cases_eq, or_cases, and_parts, and_from}
-use Rattle.std.proofs.lemmas.List.{length-append, get_or_append_left, get_or_push, get_or-map, get_or_read}
+use Rattle.std.proofs.lemmas.List.{length-append, get_or_push, get_or-map}
 use Rattle.std.proofs.lemmas.List.Elements.{All-head, All-tail}
 use Rattle.std.proofs.lemmas.Option.{slice_get_within, slice_get-get_or, get_or_from_slice_get}
-use Rattle.plain_types.specs.declared.sequence.NameLit.{NameLit}
 use Rattle.fol_base.specs.Tree.{Tree}
 use Rattle.fol_base.specs.Term.{tree_of}
 use Rattle.fol_base.specs.declared.term.Term.{Term}
 use Rattle.fol_base.specs.Clause.{TreeLiteral, TreeClause, literal_eq, clause_size, clause_variables}
-use Rattle.fol_base.specs.Literal.{clause_of}
 use Rattle.fol_base.specs.GroundForm.{is_atom_literal, IsGroundClause, IsGroundForm, form_size}
 use Rattle.kernel_steps.specs.declared.step.Line.{Line}
-use Rattle.kernel_steps.specs.declared.step.Step.{Step}
-use Rattle.kernel_steps.specs.declared.step.Step.TheVariants.{Clausify}
-use Rattle.kernel_steps.specs.Conclusion.{empty_clause, line_clause, IsGroundLine}
-use Rattle.kernel_steps.specs.Derivation.{AreClauseLines, is_clause_step, ComesBy, IsDerivation, IsRefutation}
+use Rattle.kernel_steps.specs.Conclusion.{line_clause, IsGroundLine}
 use Rattle.ground_loop.specs.Resolution.{LiteralSet, has_literal, atom_literal, can_resolve, resolvent}
-use Rattle.ground_loop.specs.Entries.{atom_at, coded_set, entry_set, ComesFrom, AreEntries}
-use Rattle.ground_loop.specs.Search.{ReachesEmpty, IsClauseRefutation}
+use Rattle.ground_loop.specs.Entries.{atom_at, entry_set, ComesFrom, AreEntries}
 use Rattle.ground_loop.specs.declared.entry.Entry.{Entry}
 use Rattle.ground_loop.specs.declared.entry.Origin.{Origin}
 use Rattle.ground_loop.specs.declared.entry.Origin.TheVariants.{Clause, Resolvent}
-use Rattle.ground_loop.specs.Lines.{are_different, SameElements, form_has, line_literals, Continues, IsLastLine, IsSetLine, IsMerged, IsResolvent, IsOrigin, HasOrigins, is_marked, HasMarks, IsCone, IsClauseLine, IsLineOf, HasClauseLine, HasEntryLine, AddsClause, AddsClauses, HasOriginLines, AreGroundEntries, IsNext, AddsEntry, IsPrepared, EndsWith, AddsEntries}
-use Rattle.ground_loop.proofs.DeriveLemmas.{SameElements-from_same_set, has_literal-resolvent, resolvent-same, empty_set, member_holds, holds_of_members, size-of_form, size-of_clause, form_has-clause, no_names-of_form, atoms-of_form, no_variables-atoms}
-use Rattle.ground_loop.proofs.DeriveLines.{slice_get-end, line_clause-end, Continues-none, Continues-then, Continues-push, Continues-keeps, IsLastLine-there}
-
-same_some : {X : Type 0} {x y : X} → Some x ≡ Some y → x ≡ y
-same_some e = cc
-
-slice_get-take : {X : Type 0} (k : ℕ) (xs : List X) (n : ℕ) → n < k → slice_get (take k xs) n ≡ slice_get xs n
-slice_get-take zero xs n h = absurd (omega arith)
-slice_get-take (suc k) [] n h = refl
-slice_get-take (suc k) (x ∷ xs) zero h = refl
-slice_get-take (suc k) (x ∷ xs) (suc n) h = slice_get-take k xs n (omega arith)
-
-length-take-below : {X : Type 0} (k : ℕ) (xs : List X) → length (take k xs) ≤ k
-length-take-below zero xs = omega arith
-length-take-below (suc k) [] = omega arith
-length-take-below (suc k) (x ∷ xs) = omega (arith, length-take-below k xs)
-
--- a mark as it is read
-pub is_marked-read : (marks : List Bool) (i : ℕ) (b : Bool) → i < length marks → b ≡ get_or marks i b → is_marked marks i ≡ b
-is_marked-read marks i b h read = sym (get_or_read marks i b h read false)
-
--- ---- lines stay
-
-pub HasClauseLine-keeps :
-    (form : List TreeClause) (old new : List Line) (numbers : List ℕ) (n : ℕ)
-    → Continues form old new → HasClauseLine form old numbers n → HasClauseLine form new numbers n
-HasClauseLine-keeps form old new numbers n continues h = λ c there.
-    let line = h c there in
-    let kept = Continues-keeps form old new (slice_index numbers n) continues line.0 in
-    (kept.0, kept.1 ∙ line.1)
-
-pub IsLineOf-keeps :
-    (form : List TreeClause) (old new : List Line) (n : ℕ) (s : LiteralSet)
-    → Continues form old new → IsLineOf form old n s → IsLineOf form new n s
-IsLineOf-keeps form old new n s continues line =
-    let kept = Continues-keeps form old new n continues line.there in
-    record {
-      there = kept.0;
-      no_names = ap (λ c. c.names) kept.1 ∙ line.no_names;
-      different = ap (λ c. are_different c.literals) kept.1 ∙ line.different;
-      of_form = ap (λ c. list_all (form_has form) c.literals) kept.1 ∙ line.of_form;
-      same = λ l. ap (λ c. has_literal l c.literals) kept.1 ∙ line.same l;
-    }
-
--- a table with one more number
-slice_index-more : (numbers : List ℕ) (number n : ℕ) → n < length numbers → slice_index (numbers ++ number ∷ []) n ≡ slice_index numbers n
-slice_index-more numbers number n h = get_or_append_left numbers (number ∷ []) 0 n h
-
--- ---- clauses of the form
-
-pub AddsClause-from :
-    (form : List TreeClause) (n : ℕ) (old new : List Line) (line : Line)
-    → line.step ≡ Clausify n → slice_get form n ≡ Some (clause_of line.clause) → new ≡ old ++ line ∷ [] → AddsClause form n old new
-AddsClause-from form n old new line step there grown =
-    let P : Step → Type 0 = λ s. ComesBy s form old (clause_of line.clause) in
-    record {
-      continues = Continues-push form old new line grown (ap is_clause_step step) (subst P (sym step) there);
-      is_last = record { before = old; line = line; ends = grown; counted = refl; is_clause = ap is_clause_step step };
-      has_clause = λ c is. ap (λ ls. line_clause ls (length old)) grown ∙ line_clause-end old line [] ∙ same_some (sym there ∙ is);
-    }
-
--- the lines of the marked clauses below i are there
-pub record ClausesSoFar (form : List TreeClause) (marks : List Bool) (old new : List Line) (numbers : List ℕ) (i : ℕ) : Type 0 where
-  pub continues : Continues form old new
-  pub counted : length numbers ≡ i
-  pub has_lines : (n : ℕ) → n < i → is_marked marks n ≡ true → HasClauseLine form new numbers n
-
-pub ClausesSoFar-none : (form : List TreeClause) (marks : List Bool) (lines : List Line) (numbers : List ℕ) → numbers ≡ [] → ClausesSoFar form marks lines lines numbers 0
-ClausesSoFar-none form marks lines numbers none = record {
-  continues = Continues-none form lines;
-  counted = ap length none;
-  has_lines = λ n h marked. absurd (omega arith);
-}
-
-kept_lines :
-    (form : List TreeClause) (marks : List Bool) (old mid new : List Line) (numbers : List ℕ) (number i : ℕ)
-    → ClausesSoFar form marks old mid numbers i → Continues form mid new
-    → (n : ℕ) → n < i → is_marked marks n ≡ true → HasClauseLine form new (numbers ++ number ∷ []) n
-kept_lines form marks old mid new numbers number i so_far continues n h marked =
-    let P : ℕ → Type 0 = λ k. (c : TreeClause) → slice_get form n ≡ Some c → IsClauseLine new k c in
-    subst P (sym (slice_index-more numbers number n (omega (arith, so_far.counted))))
-    (HasClauseLine-keeps form mid new numbers n continues (so_far.has_lines n h marked))
-
-pub ClausesSoFar-passed :
-    (form : List TreeClause) (marks : List Bool) (old new : List Line) (numbers more : List ℕ) (number i : ℕ)
-    → ClausesSoFar form marks old new numbers i → more ≡ numbers ++ number ∷ [] → is_marked marks i ≡ false
-    → ClausesSoFar form marks old new more (i + 1)
-ClausesSoFar-passed form marks old new numbers more number i so_far is free =
-    let P : List ℕ → Type 0 = λ ns. ClausesSoFar form marks old new ns (i + 1) in
-    subst P (sym is) (record {
-      continues = so_far.continues;
-      counted = omega (arith, length-append numbers (number ∷ []), so_far.counted);
-      has_lines = λ n h marked. elim (cases_eq n i) [
-        | inl here ↦ absurd (true≢false (sym marked ∙ ap (is_marked marks) here ∙ free))
-        | inr other ↦ kept_lines form marks old new new numbers number i so_far (Continues-none form new) n (omega arith) marked
-      ];
-    })
-
-pub ClausesSoFar-pushed :
-    (form : List TreeClause) (marks : List Bool) (old mid new : List Line) (numbers more : List ℕ) (number i : ℕ)
-    → ClausesSoFar form marks old mid numbers i → more ≡ numbers ++ number ∷ [] → number ≡ length mid → AddsClause form i mid new
-    → ClausesSoFar form marks old new more (i + 1)
-ClausesSoFar-pushed form marks old mid new numbers more number i so_far is counted added =
-    let P : List ℕ → Type 0 = λ ns. ClausesSoFar form marks old new ns (i + 1) in
-    subst P (sym is) (record {
-      continues = Continues-then form old mid new so_far.continues added.continues;
-      counted = omega (arith, length-append numbers (number ∷ []), so_far.counted);
-      has_lines = λ n h marked. elim (cases_eq n i) [
-        | inl here ↦
-            let Q : ℕ → Type 0 = λ k. HasClauseLine form new (numbers ++ number ∷ []) k in
-            let R : ℕ → Type 0 = λ k. (c : TreeClause) → slice_get form i ≡ Some c → IsClauseLine new k c in
-            subst Q (sym here)
-            (subst R (sym (get_or_push numbers number 0 i so_far.counted ∙ counted))
-            (λ c there. (IsLastLine-there new (length mid) added.is_last, added.has_clause c there)))
-        | inr other ↦ kept_lines form marks old mid new numbers number i so_far added.continues n (omega arith) marked
-      ];
-    })
-
-pub ClausesSoFar-all :
-    (form : List TreeClause) (marks : List Bool) (old new : List Line) (numbers : List ℕ) (i : ℕ)
-    → ClausesSoFar form marks old new numbers i → i ≡ length form → AddsClauses form marks old new numbers
-ClausesSoFar-all form marks old new numbers i so_far ended = record {
-  continues = so_far.continues;
-  counted = so_far.counted ∙ ended;
-  has_lines = λ n marked c there. so_far.has_lines n (omega (arith, slice_get_within form n c there)) marked c there;
-}
+use Rattle.ground_loop.specs.Lines.{SameElements, form_has, line_literals, Continues, IsLastLine, IsSetLine, IsMerged, IsResolvent, IsOrigin, HasOrigins, is_marked, HasMarks, IsClauseLine, IsLineOf, HasClauseLine, HasEntryLine, HasOriginLines, AreGroundEntries, IsNext, AddsEntry, IsPrepared, AddsEntries}
+use Rattle.ground_loop.proofs.DeriveLemmas.{SameElements-from_same_set, has_literal-resolvent, resolvent-same, member_holds, holds_of_members, size-of_form, size-of_clause, form_has-clause, no_names-of_form, atoms-of_form, no_variables-atoms}
+use Rattle.ground_loop.proofs.DeriveLines.{Continues-none, Continues-then, IsLastLine-there}
+use Rattle.ground_loop.proofs.DeriveClauses.{slice_get-take, length-take-below, HasClauseLine-keeps, IsLineOf-keeps, slice_index-more}
 
 -- ---- origins
 
@@ -475,123 +346,3 @@ IsNext-from form atoms entries entry_marks clause_marks old lines clause_lines n
       (λ n is. HasClauseLine-keeps form old lines clause_lines n so_far.continues (prepared.has_lines n is))
       so_far.has_lines (HasOrigins-from form atoms entries lawful i e there) (prepared.is_closed i e there marked);
 }
-
--- ---- the whole
-
-pub IsDerivation-none : (form : List TreeClause) → IsDerivation form []
-IsDerivation-none form n line h = cc
-
-AreClauseLines-none : AreClauseLines []
-AreClauseLines-none n line h = cc
-
--- a derivation whose last line is a clause line and empty is a refutation
-pub IsRefutation-from :
-    (form : List TreeClause) (lines : List Line) (number : ℕ)
-    → IsDerivation form lines → IsLastLine lines number → line_clause lines number ≡ empty_clause → IsRefutation form lines
-IsRefutation-from form lines number derived last empty = record {
-  derived = derived;
-  before = last.before;
-  last = last.line;
-  ends = last.ends;
-  is_clause = last.is_clause;
-  is_empty =
-      sym (line_clause-end last.before last.line [])
-      ∙ ap₂ line_clause (sym last.ends) (sym last.counted)
-      ∙ empty;
-}
-
--- the last entry stands at the end, and its set is empty
-pub last_there : (entries before : List Entry) (last : Entry) → entries ≡ before ++ last ∷ [] → slice_get entries (length entries - 1) ≡ Some last
-last_there entries before last ends =
-    let place : length entries - 1 ≡ length before = omega (arith, ap length ends, length-append before (last ∷ [])) in
-    ap₂ slice_get ends place ∙ slice_get-end before last []
-
-pub entries_there : (entries before : List Entry) (last : Entry) → entries ≡ before ++ last ∷ [] → 0 < length entries
-entries_there entries before last ends = omega (arith, ap length ends, length-append before (last ∷ []))
-
--- the last entry as it is read
-pub last_is :
-    (form : List TreeClause) (atoms : List Tree) (entries : List Entry) (d : Entry) (reaches : ReachesEmpty form atoms entries)
-    → get_or entries (length entries - 1) d ≡ reaches.last
-last_is form atoms entries d reaches =
-    get_or_from_slice_get entries (length entries - 1) reaches.last d (last_there entries reaches.before reaches.last reaches.ends)
-
-pub last_empty :
-    (form : List TreeClause) (atoms : List Tree) (entries : List Entry) (d : Entry) (reaches : ReachesEmpty form atoms entries)
-    → entry_set atoms (get_or entries (length entries - 1) d) ≡ []
-last_empty form atoms entries d reaches =
-    ap (entry_set atoms) (last_is form atoms entries d reaches) ∙ ap (coded_set atoms) reaches.is_empty
-
-pub clause_parts : (c : TreeClause) → c.literals ≡ [] → c.names ≡ [] → c ≡ empty_clause
-clause_parts c none no_names =
-    let F : List TreeLiteral → List NameLit → TreeClause = λ ls ns. record { literals = ls; names = ns } in
-    ap (λ ls. F ls c.names) none ∙ ap (F []) no_names
-
--- the last entry is a clause of the form: it is there, and empty
-pub record IsEmptyClause (form : List TreeClause) (n : ℕ) : Type 0 where
-  pub in_form : n < length form
-  pub is_empty : slice_get form n ≡ Some empty_clause
-
-pub IsEmptyClause-from :
-    (form : List TreeClause) (atoms : List Tree) (entries : List Entry) (d : Entry) (n : ℕ)
-    → IsGroundForm form → ReachesEmpty form atoms entries
-    → (get_or entries (length entries - 1) d).origin ≡ Clause n
-    → IsEmptyClause form n
-IsEmptyClause-from form atoms entries d n ground reaches origin =
-    let last : ℕ = length entries - 1 in
-    let e : Entry = get_or entries last d in
-    let within : last < length entries = omega (arith, entries_there entries reaches.before reaches.last reaches.ends) in
-    let P : Origin → Type 0 = λ o. ComesFrom form atoms (take last entries) (entry_set atoms e) o in
-    let comes = subst P origin (reaches.are_entries last e (slice_get-get_or entries last d within)).comes in
-    let c : TreeClause = comes.0 in
-    let none : c.literals ≡ [] =
-    empty_set c.literals
-    (λ l. sym (SameElements-from_same_set (entry_set atoms e) c.literals comes.2 l)
-    ∙ ap (has_literal l) (last_empty form atoms entries d reaches)) in
-    let no_names : c.names ≡ [] = no_names-of_form form n c ground comes.1 in
-    record {
-      in_form = slice_get_within form n c comes.1;
-      is_empty = comes.1 ∙ ap (λ b. Some b) (clause_parts c none no_names);
-    }
-
-pub IsRefutation-from_clause :
-    (form : List TreeClause) (n : ℕ) (lines : List Line) → IsEmptyClause form n → AddsClause form n [] lines → IsClauseRefutation form lines
-IsRefutation-from_clause form n lines empty added = record {
-  refutes =
-      IsRefutation-from form lines 0 (added.continues.derived (IsDerivation-none form)) added.is_last (added.has_clause empty_clause empty.is_empty);
-  clause_lines = added.continues.clause_lines AreClauseLines-none;
-}
-
--- the last entry is the resolvent of two others
-pub IsPrepared-from :
-    (form : List TreeClause) (entries : List Entry) (entry_marks clause_marks : List Bool) (old lines : List Line) (numbers : List ℕ)
-    → IsCone form entries entry_marks clause_marks → AddsClauses form clause_marks old lines numbers
-    → IsPrepared form entries entry_marks clause_marks lines numbers
-IsPrepared-from form entries entry_marks clause_marks old lines numbers cone added = record {
-  entries_counted = cone.entries_counted;
-  is_closed = cone.is_closed;
-  clauses_counted = added.counted;
-  has_lines = added.has_lines;
-}
-
-pub IsRefutation-from_two :
-    (form : List TreeClause) (atoms : List Tree) (entries : List Entry) (d : Entry) (first second atom : ℕ) (entry_marks clause_marks : List Bool)
-    (mid lines : List Line) (clause_lines : List ℕ)
-    → ReachesEmpty form atoms entries → (get_or entries (length entries - 1) d).origin ≡ Resolvent first second atom
-    → IsCone form entries entry_marks clause_marks → AddsClauses form clause_marks [] mid clause_lines
-    → AddsEntries form atoms entries entry_marks mid lines
-    → IsClauseRefutation form lines
-IsRefutation-from_two form atoms entries d first second atom entry_marks clause_marks mid lines clause_lines reaches origin cone clauses added =
-    let within : length entries - 1 < length entries = omega (arith, entries_there entries reaches.before reaches.last reaches.ends) in
-    let ends : EndsWith form lines (entry_set atoms (get_or entries (length entries - 1) d)) =
-    added.ends (get_or entries (length entries - 1) d) first second atom (slice_get-get_or entries (length entries - 1) d within) cone.has_last origin in
-    record {
-      refutes =
-          IsRefutation-from form lines ends.number
-          (added.continues.derived (clauses.continues.derived (IsDerivation-none form)))
-          ends.is_last
-          (clause_parts (line_clause lines ends.number)
-          (empty_set (line_literals lines ends.number) (λ l. ends.is_line.same l ∙ ap (has_literal l) (last_empty form atoms entries d reaches)))
-          ends.is_line.no_names);
-      clause_lines = added.continues.clause_lines (clauses.continues.clause_lines AreClauseLines-none);
-    }

@@ -1,5 +1,5 @@
 -- The tests of examples mean what they say.
-use Rattle.std.proofs.Common.{◌≡◌, ℕ, zero, suc, ◌+◌, ◌/◌, ◌<◌, ◌≤◌, Bool, true, false, not, List, [], ◌∷◌, ◌++◌, length, get_or, take, refl, ap, sym, ◌∙◌, subst, arith, true≢false, Option, None, Some, ltb, leb, ◌&&◌}
+use Rattle.std.proofs.Common.{◌≡◌, ℕ, zero, suc, ◌+◌, ◌/◌, ◌<◌, ◌≤◌, true, not, List, [], ◌∷◌, ◌++◌, length, get_or, take, refl, ap, sym, ◌∙◌, subst, arith, true≢false, Option, None, Some, ltb, leb, ◌&&◌}
 use Rattle.std.specs.Prelude.{All, AllPairs, slice_get, slice_index, IsFalse}
 use Rattle.std.specs.List.{list_any, list_all}
 use Rattle.std.specs.List.Sorted.{IsStrictlyIncreasing}
@@ -11,7 +11,7 @@ use Rattle.fol_base.specs.Tree.{Tree, tree_eq}
 use Rattle.fol_base.specs.Clause.{TreeClause}
 use Rattle.fol_base.specs.GroundForm.{is_atom_literal, IsGroundClause, IsGroundForm, form_size}
 use Rattle.ground_loop.specs.Resolution.{LiteralSet, same_set, can_resolve, resolvent, is_tautology}
-use Rattle.ground_loop.specs.Entries.{atom_at, entry_set, ComesFrom, IsEntry, AreEntries}
+use Rattle.ground_loop.specs.Entries.{atom_at, entry_set, ComesFrom, IsEntry}
 use Rattle.ground_loop.specs.Search.{ReachesEmpty}
 use Rattle.ground_loop.specs.declared.entry.Entry.{Entry}
 use Rattle.ground_loop.specs.declared.entry.Origin.{Origin}

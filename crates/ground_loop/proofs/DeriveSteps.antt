@@ -206,6 +206,20 @@ pub record IsPair (lines : List Line) (first second i j : ℕ) (t : Tree) : Type
   pub at_first : slice_get (line_literals lines first) i ≡ Some (atom_literal true t)
   pub at_second : slice_get (line_literals lines second) j ≡ Some (atom_literal false t)
 
+-- from the places where the literals were found
+pub IsPair-from :
+    (lines : List Line) (first second i j : ℕ) (t : Tree) (ls ks : LiteralSet)
+    → IsSetLine lines first → IsSetLine lines second
+    → ls ≡ line_literals lines first → slice_get ls i ≡ Some (atom_literal true t)
+    → ks ≡ line_literals lines second → slice_get ks j ≡ Some (atom_literal false t)
+    → IsPair lines first second i j t
+IsPair-from lines first second i j t ls ks first_set second_set is at_first is_too at_second = record {
+  first_set = first_set;
+  second_set = second_set;
+  at_first = ap (λ us. slice_get us i) (sym is) ∙ at_first;
+  at_second = ap (λ us. slice_get us j) (sym is_too) ∙ at_second;
+}
+
 pub IsSetLine-ground : (lines : List Line) (n : ℕ) → IsSetLine lines n → IsGroundLine lines n
 IsSetLine-ground lines n line = (line.there, no_variables-atoms (line_literals lines n) line.of_atoms, line.no_names)
 

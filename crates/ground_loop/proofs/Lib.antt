@@ -3,6 +3,7 @@ pub mod DeriveLemmas
 pub mod DeriveLines
 pub mod DeriveSteps
 pub mod DeriveCone
+pub mod DeriveClauses
 pub mod DeriveEntries
 pub mod SearchCodeLemmas
 pub mod SearchSetLemmas
@@ -14,4 +15,5 @@ pub mod SearchTableLemmas
 pub mod SetLemmas
 pub mod SearchInputLemmas
 pub mod SearchFoundLemmas
+pub mod DeriveWhole
 pub mod DeriveExamples

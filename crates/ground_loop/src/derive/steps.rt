@@ -15,8 +15,7 @@ use kernel_steps::{Derivation, Line, Step, StepFault, conclusion};
 use std::alloc::Global;
 
 /// Adds the lines of the resolvent of two lines without repeats, the first with the atom and the second with its
-/// negation, and gives the number of the last: superposition at the atom, the resolution of what it leaves there,
-/// and merges.
+/// negation: superposition and resolution, then merges. Gives the number of the last.
 pub fn push_resolvent(
     alloc: Global,
     lines: &mut Derivation,
@@ -33,7 +32,8 @@ pub fn push_resolvent(
     push_merges(alloc, lines, resolved)
 }
 
-/// Adds the lines of superposition and resolution, and gives the number of the last.
+/// Adds the superposition of the atom into its negation, which leaves `$true != $true` in its place, and then the
+/// line without that literal. Gives the number of the last.
 fn push_resolution(
     alloc: Global,
     lines: &mut Derivation,

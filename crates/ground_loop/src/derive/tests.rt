@@ -121,7 +121,10 @@ fn two_units(rt: HostRuntime) -> Result<(), Fail> {
             (&[], Origin::Resolvent(0, 1, 0)),
         ],
     )?;
-    assert_eq!(rt; text.as_str(), "clausify 0: 1\nclausify 1: ~1\npara 0 1 0 0: ~0\nrefl 2 0:\n");
+    assert_eq!(rt;
+        text.as_str(),
+        "clausify 0: 1\nclausify 1: ~1\npara 0 1 0 0: ~0\nrefl 2 0:\n"
+    );
     Ok(())
 }
 

@@ -5,7 +5,8 @@ use Rattle.kernel_steps.specs.declared.step.Line.{Line}
 use Rattle.ground_loop.specs.Search.{ReachesEmpty, IsClauseRefutation}
 use Rattle.ground_loop.specs.Lines.{AddsClause, AddsClauses}
 use Rattle.ground_loop.specs.declared.entry.Entry.{Entry}
-use Rattle.ground_loop.proofs.DeriveEntries.{HasOrigins-from, IsEmptyClause-from, IsRefutation-from_clause, IsRefutation-from_two}
+use Rattle.ground_loop.proofs.DeriveEntries.{HasOrigins-from}
+use Rattle.ground_loop.proofs.DeriveWhole.{IsEmptyClause-from, IsRefutation-from_clause, IsRefutation-from_two}
 use Rattle.ground_loop.proofs.derive.derive.Goals as goal
 use Rattle.ground_loop.proofs.derive.derive.Goals.{in-Clause+in_ok-push_clause-in-Clause, in-Resolvent+in_ok-cone-in-Resolvent+in_ok-clause_lines-in-Resolvent+in_ok-push_entries-in-Resolvent}
 

@@ -3,7 +3,7 @@ use Rattle.std.specs.Prelude.{slice_get}
 use Rattle.fol_base.specs.Literal.{clause_of}
 use Rattle.kernel_steps.specs.declared.step.Step.TheVariants.{Clausify}
 use Rattle.kernel_steps.proofs.KernelLemmas.{IfOk-change, slice_get-item}
-use Rattle.ground_loop.proofs.DeriveEntries.{AddsClause-from}
+use Rattle.ground_loop.proofs.DeriveClauses.{AddsClause-from}
 use Rattle.ground_loop.proofs.derive.push_clause.Goals as goal
 
 pub returns : goal.returns

@@ -2,7 +2,7 @@ use Rattle.std.proofs.Common.{◌+◌, ◌≡◌, List, length, map, sym, ◌∙
 use Rattle.std.proofs.lemmas.List.{length-map}
 use Rattle.fol_base.specs.Literal.{clause_of}
 use Rattle.kernel_steps.specs.declared.step.Line.{Line}
-use Rattle.ground_loop.proofs.DeriveEntries.{is_marked-read, ClausesSoFar, ClausesSoFar-passed, ClausesSoFar-pushed, ClausesSoFar-all}
+use Rattle.ground_loop.proofs.DeriveClauses.{is_marked-read, ClausesSoFar, ClausesSoFar-passed, ClausesSoFar-pushed, ClausesSoFar-all}
 use Rattle.ground_loop.proofs.derive.push_clauses.Goals as goal
 use Rattle.ground_loop.proofs.derive.push_clauses.Goals.{then-index+in_ok-push_clause, else-index}
 

@@ -1,7 +1,8 @@
 use Rattle.std.proofs.Common.{◌+◌, ◌<◌, List, ◌∷◌, ◌++◌, [], length, map, ap, sym, ◌∙◌, subst, arith}
 use Rattle.fol_base.specs.Literal.{clause_of}
 use Rattle.kernel_steps.specs.declared.step.Line.{Line}
-use Rattle.ground_loop.proofs.DeriveEntries.{is_marked-read, EntriesSoFar, EntriesSoFar-passed, EntriesSoFar-pushed, EntriesSoFar-all, IsNext-from}
+use Rattle.ground_loop.proofs.DeriveClauses.{is_marked-read}
+use Rattle.ground_loop.proofs.DeriveEntries.{EntriesSoFar, EntriesSoFar-passed, EntriesSoFar-pushed, EntriesSoFar-all, IsNext-from}
 use Rattle.ground_loop.proofs.derive.push_entries.Goals as goal
 use Rattle.ground_loop.proofs.derive.push_entries.Goals.{then-index+in_ok-number, else-index}
 
