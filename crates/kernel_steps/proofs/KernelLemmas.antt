@@ -7,7 +7,7 @@ use Rattle.fol_base.proofs.TreeLemmas.{and_left}
 use Rattle.fol_base.specs.declared.clause.Literal.{Literal}
 use Rattle.fol_base.specs.Order.{equivalent_literals}
 use Rattle.kernel_steps.specs.Rules.{merge_literals}
-use Rattle.fol_base.specs.Tree.{Tree, variable, application, Trees, no_trees, tree_then, trees_of}
+use Rattle.fol_base.specs.Tree.{Tree, variable, application, Trees, no_trees, tree_then}
 use Rattle.fol_base.specs.Instance.{substitution, instance, instances}
 use Rattle.fol_base.specs.Clause.{TreeLiteral, TreeClause, literal_instance, literal_size, clause_size, clause_variables}
 use Rattle.fol_base.specs.Literal.{literal_of, clause_of}

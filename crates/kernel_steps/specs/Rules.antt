@@ -1,7 +1,7 @@
 -- The rules of the kernel on bound clauses: superposition, equality resolution and factoring, merging
 -- (Bachmair and Ganzinger 1994, without conditions of order). None: the condition of the rule fails.
-use Rattle.std.specs.Prelude.{ℕ, Bool, not, ◌&&◌, ◌==◌, List, ◌++◌, remove, Option, None, Some, option_and_then, option_map, slice_get, slice_set, if◌then◌else◌}
-use Rattle.fol_base.specs.Tree.{Tree, tree_eq}
+use Rattle.std.specs.Prelude.{ℕ, not, ◌&&◌, ◌==◌, List, ◌++◌, remove, Option, None, Some, option_and_then, option_map, slice_get, slice_set, if◌then◌else◌}
+use Rattle.fol_base.specs.Tree.{tree_eq}
 use Rattle.fol_base.specs.Place.{subterm, replaced}
 use Rattle.fol_base.specs.Clause.{TreeLiteral}
 use Rattle.fol_base.specs.declared.clause.Side.{Side}

@@ -4,6 +4,8 @@
 mod conclude;
 mod rules;
 mod step;
+#[cfg(test)]
+mod tests;
 
 pub use conclude::conclusion;
 pub use step::{Derivation, Line, Step, StepFault};
