@@ -17,3 +17,4 @@ pub mod SearchInputLemmas
 pub mod SearchFoundLemmas
 pub mod DeriveWhole
 pub mod DeriveExamples
+pub mod ClosedLemmas

@@ -50,7 +50,7 @@ has_literal_here l s = or_left (literal_eq l l) (has_literal l s) (literal_eq-re
 
 -- ---- the same sets
 
-is_subset-from : (s t : LiteralSet) → ((l : TreeLiteral) → IsTrue (has_literal l s) → IsTrue (has_literal l t)) → IsTrue (is_subset s t)
+pub is_subset-from : (s t : LiteralSet) → ((l : TreeLiteral) → IsTrue (has_literal l s) → IsTrue (has_literal l t)) → IsTrue (is_subset s t)
 is_subset-from [] t f = refl
 is_subset-from (l ∷ s) t f =
     and_from (has_literal l t) (is_subset s t) (f l (has_literal_here l s))
@@ -141,7 +141,7 @@ same_can_resolve atom s s' t t' h k can =
 
 -- ---- tautologies
 
-tautology_parts : (s r : LiteralSet) → list_any (λ l. has_literal (complement l) s) r ≡ true
+pub tautology_parts : (s r : LiteralSet) → list_any (λ l. has_literal (complement l) s) r ≡ true
     → (l : TreeLiteral) × IsTrue (has_literal l r) × IsTrue (has_literal (complement l) s)
 tautology_parts s [] h = cc
 tautology_parts s (k ∷ r) h =
@@ -150,7 +150,7 @@ tautology_parts s (k ∷ r) h =
     (λ e. let p = tautology_parts s r e in (p.0, or_right (literal_eq p.0 k) (has_literal p.0 r) p.1, p.2))
     (or_cases (has_literal (complement k) s) (list_any (λ l. has_literal (complement l) s) r) h)
 
-tautology_from : (s r : LiteralSet) (l : TreeLiteral) → IsTrue (has_literal l r) → IsTrue (has_literal (complement l) s)
+pub tautology_from : (s r : LiteralSet) (l : TreeLiteral) → IsTrue (has_literal l r) → IsTrue (has_literal (complement l) s)
     → list_any (λ l. has_literal (complement l) s) r ≡ true
 tautology_from s [] l h k = cc
 tautology_from s (m ∷ r) l h k =

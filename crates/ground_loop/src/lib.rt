@@ -5,8 +5,10 @@ mod answer;
 mod derive;
 mod entry;
 mod inputs;
+mod laws;
 mod prove;
 mod search;
 
 pub use answer::Ground;
+pub use laws::closed_lists_refute_nothing;
 pub use prove::prove_ground;

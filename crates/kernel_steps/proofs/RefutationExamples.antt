@@ -1,11 +1,11 @@
 -- The worked refutations.
-use Rattle.std.proofs.Common.{◌≡◌, ℕ, zero, suc, ◌<◌, Bool, true, false, ◌&&◌, ◌||◌, [], ◌∷◌, length, get_or, None, refl, ap, sym, ◌∙◌, subst, arith, true≢false}
+use Rattle.std.proofs.Common.{◌≡◌, ℕ, zero, suc, ◌<◌, Bool, true, false, ◌&&◌, ◌||◌, List, [], ◌∷◌, length, get_or, None, refl, ap, sym, ◌∙◌, subst, arith, true≢false}
 use Rattle.std.specs.Prelude.{not, Contains, slice_get, take}
 use Rattle.std.proofs.lemmas.List.{length_push}
 use Rattle.std.proofs.lemmas.Option.{same_Some, none-some}
 use Rattle.std.proofs.lemmas.List.Elements.{All-nil, All-cons}
 use Rattle.std.proofs.lemmas.List.Sums.{list_all-from_AllPass}
-use Rattle.fol_base.specs.Clause.{TreeClause}
+use Rattle.fol_base.specs.Clause.{TreeLiteral, TreeClause}
 use Rattle.fol_base.specs.Instance.{Substitution}
 use Rattle.fol_base.specs.Literal.{literal_of, clause_of}
 use Rattle.fol_base.specs.Ground.{GroundClause, literals_instance}
@@ -18,7 +18,7 @@ use Rattle.kernel_steps.specs.declared.step.Line.{Line}
 use Rattle.kernel_steps.specs.Conclusion.{empty_clause}
 use Rattle.kernel_steps.specs.Derivation.{ComesBy, IsDerivation, IsRefutation}
 use Rattle.kernel_steps.specs.Soundness.{HerbrandRefuted}
-use Rattle.kernel_steps.specs.Examples.{not_p, line, p_of_a, not_true, opposites, unrelated, general, opposites_lines}
+use Rattle.kernel_steps.specs.Examples.{not_p, line, p_of_a, not_true, opposites, unrelated, general, opposites_lines, opposites_with}
 use Rattle.kernel_steps.proofs.SoundLemmas.{verdict_if-concludes, slice_get-last}
 
 -- ---- derivations
@@ -49,6 +49,26 @@ opposites_refuted = record {
 -- the negation of p(a) has sides that differ
 pub other_parent : IsRefutation opposites (opposites_lines 2) → ⊥
 other_parent refutation = none-some [] (verdict_if-concludes true None empty_clause (refutation.derived 4 (line (Refl 2 0 []) []) refl).1)
+
+-- clause number 0 is p(a)
+pub other_index : IsRefutation opposites (opposites_with (line (Clausify 0) (p_of_a false ∷ [])) 3) → ⊥
+other_index refutation =
+    true≢false
+    (ap first_sign (same_Some (clause (p a ∷ [])) (clause (not_p a ∷ [])) (refutation.derived 2 (line (Clausify 0) (p_of_a false ∷ [])) refl)))
+  where
+    sign : List TreeLiteral → Bool
+    sign [] = true
+    sign (l ∷ ls) = l.positive
+
+    first_sign : TreeClause → Bool
+    first_sign c = sign c.literals
+
+-- clause number 1 has a literal
+pub one_literal_fewer : IsRefutation opposites (opposites_with (line (Clausify 1) []) 3) → ⊥
+one_literal_fewer refutation =
+    none-some (not_p a)
+    (ap (λ (c : TreeClause). slice_get c.literals 0)
+    (sym (same_Some (clause (not_p a ∷ [])) empty_clause (refutation.derived 2 (line (Clausify 1) []) refl))))
 
 -- the last line is then the negation of `$true`
 pub last_line_left_out : IsRefutation opposites (take 4 (opposites_lines 3)) → ⊥

@@ -36,12 +36,16 @@ unrelated = clause (p a ∷ []) ∷ clause (not_p b ∷ []) ∷ []
 abbrev pub general : List TreeClause
 general = clause (p (x 0) ∷ []) ∷ clause (not_p a ∷ []) ∷ []
 
--- the clauses, p(a) = $true put into the negation of p(a), and the empty clause, from the third parent given
-abbrev pub opposites_lines : ℕ → List Line
-opposites_lines parent =
+-- the clauses, p(a) = $true put into the third line, and the empty clause, from the parent given
+abbrev pub opposites_with : Line → ℕ → List Line
+opposites_with negation parent =
     line (Input 0) []
     ∷ line (Clausify 0) (p_of_a true ∷ [])
-    ∷ line (Clausify 1) (p_of_a false ∷ [])
+    ∷ negation
     ∷ line (Para 1 2 0 Left 0 Left [] [] []) (not_true ∷ [])
     ∷ line (Refl parent 0 []) []
     ∷ []
+
+-- where the third line is the negation of p(a)
+abbrev pub opposites_lines : ℕ → List Line
+opposites_lines = opposites_with (line (Clausify 1) (p_of_a false ∷ []))

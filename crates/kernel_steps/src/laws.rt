@@ -1,9 +1,10 @@
 // The laws of derivations: each is the contract of a function without arguments and with an empty body.
 
-ghost use Rattle.std.specs.Prelude.{take};
+ghost use Rattle.std.specs.Prelude.{take, false, [], ◌∷◌};
 ghost use Rattle.fol_base.specs.Examples.{is_predicate, functions};
 ghost use Rattle.kernel_steps.specs.Derivation.{IsRefutation};
-ghost use Rattle.kernel_steps.specs.Examples.{opposites, unrelated, general, opposites_lines};
+ghost use Rattle.kernel_steps.specs.Examples.{line, p_of_a, opposites, unrelated, general, opposites_lines, opposites_with};
+ghost use Rattle.kernel_steps.specs.declared.step.Step.TheVariants.{Clausify};
 ghost use Rattle.kernel_steps.specs.Soundness.{HerbrandRefuted, ParaIsSound, ReflIsSound, MergeIsSound, DerivationsAreSound, LinesAreGrounded, GroundLinesAreGrounded, RefutationsRefute, RefutationsHerbrandRefute, GroundRefutationsHerbrandRefute};
 
 /// What a rule gives is true where the clauses that it is given are, under the same values of variables.
@@ -37,6 +38,8 @@ pub fn refutations_refute()
 pub fn refutation_examples()
     ensures refutation { IsRefutation opposites (opposites_lines 3) }
     ensures other_parent { IsRefutation opposites (opposites_lines 2) → ⊥ }
+    ensures other_index { IsRefutation opposites (opposites_with (line (Clausify 0) (p_of_a false ∷ [])) 3) → ⊥ }
+    ensures one_literal_fewer { IsRefutation opposites (opposites_with (line (Clausify 1) []) 3) → ⊥ }
     ensures last_line_left_out { IsRefutation opposites (take 4 (opposites_lines 3)) → ⊥ }
     ensures by_instances { HerbrandRefuted is_predicate functions general }
     ensures true_somewhere { HerbrandRefuted is_predicate functions unrelated → ⊥ }
