@@ -1,10 +1,11 @@
 -- The symbols of the worked examples. Their numbers rise in the order a, b, c, f, g, p, q, r; the last three are predicates.
 use Rattle.std.specs.Prelude.{ℕ, zero, suc, Bool, true, false, ◌||◌, ◌==◌, List, [], ◌∷◌}
+use Rattle.plain_types.specs.declared.sequence.NameLit.{NameLit}
 use Rattle.fol_base.specs.Tree.{Tree, variable, application, no_trees, tree_then}
 use Rattle.fol_base.specs.Instance.{Substitution}
 use Rattle.fol_base.specs.Clause.{TreeLiteral, TreeClause}
 use Rattle.fol_base.specs.Ground.{FunctionSymbol}
-use Rattle.fol_base.specs.Interpretation.{Interpretation, true_tree}
+use Rattle.fol_base.specs.Interpretation.{Interpretation, Row, true_tree}
 
 abbrev pub x : ℕ → Tree
 x v = variable v
@@ -57,6 +58,20 @@ functions =
     ∷ record { number = 2; arity = 0 }
     ∷ record { number = 4; arity = 1 }
     ∷ []
+
+-- a predicate among them
+abbrev pub with_predicate : List FunctionSymbol
+with_predicate = record { number = 6; arity = 1 } ∷ functions
+
+-- a row at the value 0
+abbrev pub row : ℕ → ℕ → Row
+row symbol value = record { symbol = symbol; arguments = 0 ∷ []; value = value }
+
+abbrev pub positive_name : ℕ → NameLit
+positive_name n = record { positive = true; name = n }
+
+abbrev pub negative_name : ℕ → NameLit
+negative_name n = record { positive = false; name = n }
 
 -- each variable becomes a
 abbrev pub all_a : Substitution

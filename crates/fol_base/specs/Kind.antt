@@ -1,8 +1,10 @@
 -- The kinds of terms: function terms, predicate terms and `$true`; and the literals that they make.
-use Rattle.std.specs.Prelude.{ℕ, Bool, true, false, not, ◌&&◌, ◌||◌, ◌==◌, IsTrue}
+use Rattle.std.specs.Prelude.{ℕ, Bool, true, false, not, ◌&&◌, ◌||◌, ◌==◌, List, IsTrue}
+use Rattle.std.specs.List.{list_all}
 use Rattle.fol_base.specs.Tree.{Tree, variable, application, Trees, no_trees, tree_then}
 use Rattle.fol_base.specs.Instance.{Substitution}
 use Rattle.fol_base.specs.Clause.{TreeLiteral}
+use Rattle.fol_base.specs.Ground.{FunctionSymbol}
 use Rattle.fol_base.specs.Interpretation.{true_symbol}
 use Rattle.fol_base.specs.GroundForm.{is_truth}
 
@@ -32,3 +34,7 @@ is_literal is_predicate l =
 -- each variable becomes a function term
 abbrev pub PutsFunctionTerms : (ℕ → Bool) → Substitution → Type 0
 PutsFunctionTerms is_predicate σ = (v : ℕ) → IsTrue (is_function_term is_predicate (σ v))
+
+-- a list of function symbols has neither a predicate nor `$true`
+abbrev pub are_function_symbols : (ℕ → Bool) → List FunctionSymbol → Bool
+are_function_symbols is_predicate functions = list_all (λ s. not (s.number == true_symbol) && not (is_predicate s.number)) functions

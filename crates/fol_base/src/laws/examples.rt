@@ -6,14 +6,14 @@ ghost use Rattle.fol_base.specs.Instance.{instance, substitution};
 ghost use Rattle.fol_base.specs.Place.{replaced, subterm};
 ghost use Rattle.fol_base.specs.Canonical.{canonical_clause};
 ghost use Rattle.fol_base.specs.Ground.{ground_over, GroundInstance};
-ghost use Rattle.fol_base.specs.Interpretation.{clause_true, tree_value, no_values};
+ghost use Rattle.fol_base.specs.Interpretation.{clause_true, tree_value, no_values, row_in_range, table_value};
 ghost use Rattle.fol_base.specs.Entails.{Entails};
 ghost use Rattle.fol_base.specs.Multiset.{greater, less, equal, unordered};
 ghost use Rattle.fol_base.specs.Order.{compare_trees, compare_literals, compare_clauses};
 ghost use Rattle.fol_base.specs.Selection.{select_nothing, select_negative, chosen, eligible};
 ghost use Rattle.fol_base.specs.GroundInference.{GroundSuperposition, GroundResolution, GroundFactoring};
 ghost use Rattle.fol_base.specs.Covered.{Covers};
-ghost use Rattle.fol_base.specs.Examples.{x, a, b, c, f, f₂, g, p, q, q₂, equation, disequation, clause, is_predicate, functions, p_of_a_alone};
+ghost use Rattle.fol_base.specs.Examples.{x, a, b, c, f, f₂, g, p, q, q₂, equation, disequation, clause, is_predicate, functions, row, p_of_a_alone};
 
 /// Instances, replacement and canonical form.
 pub fn tree_examples()
@@ -58,6 +58,10 @@ pub fn meaning_examples()
     ensures wrong_number_of_arguments { IsFalse (ground_over functions (f₂ a b)) }
     ensures not_of_the_list { IsFalse (ground_over functions (g a)) }
     ensures first_row { tree_value p_of_a_alone no_values b ≡ 1 }
+    ensures first_of_two_rows { table_value (row 4 1 ∷ row 4 0 ∷ []) 4 (0 ∷ []) ≡ 1 }
+    ensures predicate_is_true { IsTrue (row_in_range is_predicate 1 (row 6 1)) }
+    ensures predicate_out_of_range { IsFalse (row_in_range is_predicate 3 (row 6 2)) }
+    ensures function_out_of_range { IsFalse (row_in_range is_predicate 1 (row 4 1)) }
     ensures no_row { tree_value p_of_a_alone no_values a ≡ 0 }
     ensures instance_over_the_list { GroundInstance functions (clause (p (x 0) ∷ [])) (p a ∷ []) }
     ensures rewritten { Entails is_predicate ((equation a b ∷ []) ∷ (equation (f a) c ∷ []) ∷ []) (equation (f b) c ∷ []) }

@@ -4,8 +4,8 @@ ghost use Rattle.std.specs.Prelude.{◌≡◌, [], ◌∷◌, true, false, IsTru
 ghost use Rattle.fol_base.specs.Instance.{Substitution};
 ghost use Rattle.fol_base.specs.Compatible.{compatible, compatible_generalisation, compatible_instance};
 ghost use Rattle.fol_base.specs.Unifier.{IsUnifier, IsUnifierApart, IsMostGeneralUnifier, IsMatcher};
-ghost use Rattle.fol_base.specs.Subsumption.{Subsumes};
-ghost use Rattle.fol_base.specs.Kind.{is_literal};
+ghost use Rattle.fol_base.specs.Subsumption.{Subsumes, assertions, is_among};
+ghost use Rattle.fol_base.specs.Kind.{is_literal, are_function_symbols};
 ghost use Rattle.fol_base.specs.Interpretation.{true_tree};
 ghost use Rattle.fol_base.specs.Spelling.{
   spells,
@@ -19,7 +19,7 @@ ghost use Rattle.fol_base.specs.Spelling.{
   mark,
   other,
 };
-ghost use Rattle.fol_base.specs.Examples.{x, a, b, f, f₂, g, p, q, r, equation, disequation, clause, is_predicate, all_a, all_b, first_is_a};
+ghost use Rattle.fol_base.specs.Examples.{x, a, b, f, f₂, g, p, q, r, equation, disequation, clause, is_predicate, functions, with_predicate, positive_name, negative_name, all_a, all_b, first_is_a};
 
 /// Entries that may unify with a query, generalise it or be instances of it.
 pub fn compatible_examples()
@@ -52,10 +52,14 @@ pub fn kind_examples()
     ensures negated_truth { IsTrue (is_literal is_predicate (disequation true_tree true_tree)) }
     ensures variable_and_truth { IsFalse (is_literal is_predicate (equation (x 0) true_tree)) }
     ensures atom_below_a_function { IsFalse (is_literal is_predicate (equation (f (p a).left) b)) }
+    ensures function_symbols { IsTrue (are_function_symbols is_predicate functions) }
+    ensures no_function_symbol { IsFalse (are_function_symbols is_predicate with_predicate) }
 {}
 
 /// Subsumption.
 pub fn subsumption_examples()
+    ensures asserted { assertions (positive_name 1 ∷ negative_name 2 ∷ []) ≡ 2 ∷ [] }
+    ensures not_among { IsFalse (is_among (1 ∷ 2 ∷ []) (2 ∷ 3 ∷ [])) }
     ensures in_other_order { Subsumes is_predicate (clause (p (x 0) ∷ q (x 0) ∷ [])) (clause (q a ∷ p a ∷ r ∷ [])) }
     ensures to_different_literals { Subsumes is_predicate (clause (p (x 0) ∷ p (x 1) ∷ [])) (clause (p a ∷ [])) → ⊥ }
     ensures to_function_terms { Subsumes is_predicate (clause (equation (x 0) (x 1) ∷ [])) (clause (p a ∷ [])) → ⊥ }
