@@ -1,3 +1,4 @@
 mod Delivered
 mod Front
+mod Rows
 mod Untold

@@ -2,7 +2,7 @@
 ghost use Rattle.std.specs.Prelude.{◌≡◌, ◌<◌, ◌≤◌, None, refl, IfOk, IsErrOf, vec_len};
 ghost use Rattle.outside.specs.declared.fault.LoadFault.TheVariants.{Failed, TooLong};
 ghost use Rattle.outside.specs.Faults.{Rose};
-ghost use Rattle.outside.specs.Read.{ReadsFront, IsReadFrom};
+ghost use Rattle.outside.specs.Read.{ReadsFront, IsReadFrom, IsReadBeyond};
 
 use crate::fault::LoadFault;
 use crate::library::Library;
@@ -55,8 +55,11 @@ impl<R: Files> Library for FileLibrary<'_, R> {
 
     fn load(&mut self, alloc: Global, name: &str, limit: usize) -> Result<Vec<u8>, LoadFault>
         ensures count { file_faults self.new ≡ faults_after result (file_faults self.old) }
-        // What is given was read from a file, to its end.
+        // What is given was read from a file, to its end: of which, and from where in it, no clause says.
         ensures read { IfOk result (λ bytes. IsReadFrom R.File.remaining limit bytes.items) }
+        // What was too long was read from a file too, up to a byte more than the limit.
+        ensures beyond { IsErrOf result TooLong →
+            IsReadBeyond R.File.remaining limit (file_found self.new) }
         // The clauses of the trait that are not of what is told.
         ensures within { IfOk result (λ bytes. vec_len bytes ≤ limit) }
         ensures too_long { IsErrOf result TooLong → limit < file_found self.new }

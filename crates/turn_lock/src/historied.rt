@@ -10,12 +10,13 @@ pub trait Historied {
     /// What stays as it was when the lock was made.
     type Origin;
 
-    // The entries, the oldest first.
+    /// The entries, the oldest first.
     ghost history: { Self → List Self.Entry };
 
+    /// What stays.
     ghost origin: { Self → Self.Origin };
 
-    // Entries that belong together have one key.
+    /// Entries that belong together have one key.
     ghost key: { Self.Entry → ℕ };
 
     /// How many entries the history has.
