@@ -45,7 +45,7 @@ covered-more sets s t f (inr it) = inr (it.0, it.1, λ l h. f l (it.2 l h))
 -- ---- a covered set, beside a literal on which it resolves
 
 -- a pair of complements that a resolution on the literal leaves
-PairBeside : TreeLiteral → LiteralSet → Type 0
+abbrev PairBeside : TreeLiteral → LiteralSet → Type 0
 PairBeside k s =
     (l : TreeLiteral) × IsTrue (has_literal l s) × IsTrue (has_literal (complement l) s)
     × IsFalse (literal_eq k l) × IsFalse (literal_eq k (complement l))
@@ -141,9 +141,9 @@ covered_members :
     → (atom : Tree) (s t m n : LiteralSet) → Contains sets m → Contains sets n → IsIn m s → IsIn n t → IsCovered sets (resolvent atom s t)
 covered_members form sets closed atom s t m n hm hn f g =
     elim (cases_Bool (has_literal (atom_literal true atom) m)) [
-      | inr e ↦ inr (m, hm, left_in atom s t m f (λ h. absurd (both_ways _ h e)))
+      | inr e ↦ inr (m, hm, left_in atom s t m f (λ h. absurd (both_ways _ e h)))
       | inl e ↦ elim (cases_Bool (has_literal (atom_literal false atom) n)) [
-        | inr d ↦ inr (n, hn, right_in atom s t n g (λ h. absurd (both_ways _ h d)))
+        | inr d ↦ inr (n, hn, right_in atom s t n g (λ h. absurd (both_ways _ d h)))
         | inl d ↦ covered-more sets (resolvent atom m n) (resolvent atom s t) (resolvent_in atom s t m n f g)
           (covered-from sets (resolvent atom m n)
           (closed.has_resolvents m n atom hm hn (and_from (has_literal (atom_literal true atom) m) (has_literal (atom_literal false atom) n) e d)))
@@ -214,13 +214,12 @@ pub none_reaches_empty : (form : List TreeClause) → HasClosedSets form → Fol
 none_reaches_empty form it follows = at (reached-covered form it.sets it.is_closed follows.by follows.set follows.is_reached)
   where
     nothing : (l : TreeLiteral) → IsTrue (has_literal l follows.set) → ⊥
-    nothing l h = both_ways _ (sym (same_set-to follows.set [] follows.is_same l) ∙ h) refl
+    nothing l h = both_ways (has_literal l []) refl (sym (same_set-to follows.set [] follows.is_same l) ∙ h)
 
     at : IsCovered it.sets follows.set → ⊥
     at (inl h) = let p = tautology_parts follows.set follows.set h in nothing p.0 p.1
     at (inr m) =
-        both_ways _
+        both_ways (holds_set it.sets []) it.no_empty
         (list_any_at (same_set []) it.sets m.1.0 m.0 m.1.1
         (subst (λ (t : LiteralSet). same_set [] t ≡ true) (sym m.1.2)
         (same_set-from [] m.0 (λ l. sym (false_from_ne_true (has_literal l m.0) (λ h. nothing l (m.2 l h)))))))
-        it.no_empty
