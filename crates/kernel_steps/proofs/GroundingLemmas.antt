@@ -183,7 +183,8 @@ lines_are_grounded is_predicate functions form lines over derived n line at is_c
 
 -- the empty clause is its own ground instance, so what grounds it is refuted
 pub refutations_herbrand_refute : RefutationsHerbrandRefute
-refutations_herbrand_refute is_predicate functions form lines constant over refutation = record {
+refutations_herbrand_refute is_predicate functions form lines functions_alone constant over refutation = record {
+  functions_alone = functions_alone;
   constant = constant;
   by = grounds.by;
   instances = grounds.instances;

@@ -222,7 +222,8 @@ refutations_refute is_predicate form lines ground refutation i ok =
         ap (λ ls. slice_get ls (length refutation.before)) refutation.ends ∙ slice_get-last refutation.before refutation.last
 
 pub ground_refutations_herbrand_refute : GroundRefutationsHerbrandRefute
-ground_refutations_herbrand_refute is_predicate functions form lines constant ground refutation = record {
+ground_refutations_herbrand_refute is_predicate functions form lines functions_alone constant ground refutation = record {
+  functions_alone = functions_alone;
   constant = constant;
   by = ground_clauses form;
   instances = form-instances functions form constant ground;

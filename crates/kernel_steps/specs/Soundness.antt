@@ -4,6 +4,7 @@ use Rattle.std.specs.Prelude.{◌≡◌, ℕ, Bool, List, [], ◌∷◌, map, So
 use Rattle.std.specs.List.{list_all}
 use Rattle.fol_base.specs.Tree.{Tree}
 use Rattle.fol_base.specs.Clause.{TreeLiteral, TreeClause}
+use Rattle.fol_base.specs.Kind.{are_function_symbols}
 use Rattle.fol_base.specs.Ground.{FunctionSymbol, has_constant, is_over, GroundClause, GroundInstance}
 use Rattle.fol_base.specs.GroundForm.{IsGroundForm}
 use Rattle.fol_base.specs.Interpretation.{Interpretation, Assignment, literals_true_under}
@@ -36,8 +37,10 @@ abbrev pub IsGrounded : (ℕ → Bool) → List FunctionSymbol → List TreeClau
 IsGrounded is_predicate functions form c =
     (g : GroundClause) → GroundInstance functions c g → Grounds is_predicate functions form g
 
--- Finitely many ground instances of the form, over function symbols that have a constant, are true in no interpretation.
+-- Finitely many ground instances of the form, over function symbols that have a constant, are true in no interpretation. Over a
+-- predicate they could be: then `X0 = a` would say that an atom equals a.
 pub record HerbrandRefuted (is_predicate : ℕ → Bool) (functions : List FunctionSymbol) (form : List TreeClause) : Type 0 where
+  pub functions_alone : IsTrue (are_function_symbols is_predicate functions)
   pub constant : IsTrue (has_constant functions)
   pub by : List GroundClause
   pub instances : All (InstanceOf functions (Contains form)) by
@@ -116,12 +119,14 @@ RefutationsRefute =
 abbrev pub RefutationsHerbrandRefute : Type 0
 RefutationsHerbrandRefute =
     (is_predicate : ℕ → Bool) (functions : List FunctionSymbol) (form : List TreeClause) (lines : List Line)
-    → IsTrue (has_constant functions) → BindsOver functions lines → IsRefutation form lines
+    → IsTrue (are_function_symbols is_predicate functions) → IsTrue (has_constant functions)
+    → BindsOver functions lines → IsRefutation form lines
     → HerbrandRefuted is_predicate functions form
 
 -- and a ground form over every list that has a constant
 abbrev pub GroundRefutationsHerbrandRefute : Type 0
 GroundRefutationsHerbrandRefute =
     (is_predicate : ℕ → Bool) (functions : List FunctionSymbol) (form : List TreeClause) (lines : List Line)
-    → IsTrue (has_constant functions) → IsGroundForm form → IsRefutation form lines
+    → IsTrue (are_function_symbols is_predicate functions) → IsTrue (has_constant functions)
+    → IsGroundForm form → IsRefutation form lines
     → HerbrandRefuted is_predicate functions form

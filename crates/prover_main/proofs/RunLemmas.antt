@@ -51,8 +51,8 @@ due_refuted bytes file text problem answer lines read ground is e printed =
       is_read = read;
       derivation = lines_text (source_of file problem) lines;
       accepted = record { lines = lines; spells = refl; refutes = sourced };
-      herbrand = λ functions constant.
-          ground_refutations_herbrand_refute (is_predicate_of problem) functions (form_of problem) lines constant ground sourced.refutes;
+      herbrand = λ functions functions_alone constant.
+          ground_refutations_herbrand_refute (is_predicate_of problem) functions (form_of problem) lines functions_alone constant ground sourced.refutes;
       prints = printed;
     })
 
