@@ -5,6 +5,8 @@ mod lines;
 mod names;
 mod page;
 mod terms;
+#[cfg(test)]
+mod tests;
 
 pub use lines::{Source, push_derivation};
 pub use names::{is_lower_word, push_name, push_problem_name, push_shown};

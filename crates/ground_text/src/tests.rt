@@ -1,0 +1,233 @@
+// What no clause says: texts written by hand, and that calls succeed.
+
+use super::*;
+use fol_base::{Clause, Literal, Literals, Mem, Names, Position, Side, Term, Terms, Text};
+use kernel_steps::{Derivation, Line, Step};
+use std::alloc::Global;
+use std::test::Fail;
+use tptp_reader::{GroundSymbol, GroundSymbols, read_ground};
+
+const TWO_UNITS: &[u8] = b"cnf(a,axiom,p). cnf(b,negated_conjecture,~p).";
+
+const REFUTATION: &[u8] = b"cnf(c0,axiom,p,file('r1.p',a)).\n\
+cnf(c1,negated_conjecture,~p,file('r1.p',b)).\n\
+cnf(c2,plain,p,inference(clausify,[status(esa),index(0)],[c0])).\n\
+cnf(c3,plain,~p,inference(clausify,[status(esa),index(1)],[c1])).\n\
+cnf(c4,plain,~$true,inference(para,[status(thm),from(0,left),into(0,left,[]),bind([]),bind([])],[c2,c3])).\n\
+cnf(c5,plain,$false,inference(refl,[status(thm),lit(0),bind([])],[c4])).\n";
+
+const OTHER_STEPS: &[u8] =
+    b"cnf(c0,plain,p,inference(para,[status(thm),from(2,right),into(1,left,[0,12]),bind([p]),bind([])],[c3,c4])).\n\
+cnf(c1,plain,~p,inference(merge,[status(thm),lit(1),lit(0),bind([p,X7])],[c5])).\n";
+
+fn constant(alloc: Global, symbol: u32) -> Term {
+    Term::App(symbol, Terms::new(alloc))
+}
+
+fn applied(alloc: Global, symbol: u32, first: Term, second: Term) -> Mem<Term> {
+    let mut arguments = Terms::new(alloc);
+    arguments.push(first)?;
+    arguments.push(second)?;
+    Ok(Term::App(symbol, arguments))
+}
+
+fn no_terms(alloc: Global) -> Terms {
+    Terms::new(alloc)
+}
+
+/// A line whose clause is the symbol's atom or its negation.
+fn unit(alloc: Global, step: Step, positive: bool, symbol: u32) -> Mem<Line> {
+    let mut literals = Literals::new(alloc);
+    literals.push(Literal {
+        positive,
+        left: constant(alloc, symbol),
+        right: constant(alloc, 0),
+    })?;
+    Ok(line(alloc, step, literals))
+}
+
+fn line(alloc: Global, step: Step, literals: Literals) -> Line {
+    Line {
+        step,
+        clause: Clause {
+            literals,
+            names: Names::new(alloc),
+        },
+    }
+}
+
+fn para_of_units(alloc: Global) -> Step {
+    Step::Para(
+        2,
+        3,
+        0,
+        Side::Left,
+        0,
+        Side::Left,
+        Position::new(alloc),
+        no_terms(alloc),
+        no_terms(alloc),
+    )
+}
+
+fn refutation(alloc: Global) -> Mem<Derivation> {
+    let mut lines = Derivation::new(alloc);
+    lines.push(line(alloc, Step::Input(0), Literals::new(alloc)))?;
+    lines.push(line(alloc, Step::Input(1), Literals::new(alloc)))?;
+    lines.push(unit(alloc, Step::Clausify(0), true, 1)?)?;
+    lines.push(unit(alloc, Step::Clausify(1), false, 1)?)?;
+    lines.push(unit(alloc, para_of_units(alloc), false, 0)?)?;
+    lines.push(line(
+        alloc,
+        Step::Refl(4, 0, no_terms(alloc)),
+        Literals::new(alloc),
+    ))?;
+    Ok(lines)
+}
+
+/// Lines that show what the refutation doesn't; the printer compares no line with its parents.
+fn other_steps(alloc: Global) -> Mem<Derivation> {
+    let mut first = Terms::new(alloc);
+    first.push(constant(alloc, 1))?;
+    let mut both = Terms::new(alloc);
+    both.push(constant(alloc, 1))?;
+    both.push(Term::Var(7))?;
+    let place = Position::from_slice(alloc, &[0, 12])?;
+    let para = Step::Para(
+        3,
+        4,
+        2,
+        Side::Right,
+        1,
+        Side::Left,
+        place,
+        first,
+        no_terms(alloc),
+    );
+    let mut lines = Derivation::new(alloc);
+    lines.push(unit(alloc, para, true, 1)?)?;
+    lines.push(unit(alloc, Step::Merge(5, 1, 0, both), false, 1)?)?;
+    Ok(lines)
+}
+
+#[test]
+fn prints_derivations(rt: HostRuntime) -> Result<(), Fail> {
+    let alloc = rt.alloc();
+    let problem = read_ground(alloc, TWO_UNITS)?;
+    let source = Source {
+        file: "r1.p",
+        problem: &problem,
+    };
+    let mut page = Page::new(alloc);
+    push_derivation(alloc, &mut page, source, &refutation(alloc)?)?;
+    let text = page.into_text();
+    assert!(rt; text.as_slice() == REFUTATION);
+    let mut page = Page::new(alloc);
+    push_derivation(alloc, &mut page, source, &other_steps(alloc)?)?;
+    let text = page.into_text();
+    assert!(rt; text.as_slice() == OTHER_STEPS);
+    Ok(())
+}
+
+#[test]
+fn prints_names(rt: HostRuntime) -> Result<(), Fail> {
+    for (name, want) in [
+        (b"a1".as_slice(), b"a1".as_slice()),
+        (b"p_Q9".as_slice(), b"p_Q9".as_slice()),
+        (b"it's".as_slice(), b"'it\\'s'".as_slice()),
+        (b"a\\b".as_slice(), b"'a\\\\b'".as_slice()),
+        (b"".as_slice(), b"''".as_slice()),
+        (b"A".as_slice(), b"'A'".as_slice()),
+        (b"a b".as_slice(), b"'a b'".as_slice()),
+    ] {
+        let mut page = Page::new(rt.alloc());
+        push_name(&mut page, name)?;
+        let text = page.into_text();
+        assert!(rt; text.as_slice() == want);
+        assert_eq!(rt; is_lower_word(name), name == want);
+    }
+    Ok(())
+}
+
+#[test]
+fn prints_problem_names(rt: HostRuntime) -> Result<(), Fail> {
+    for (file, want) in [
+        ("r1.p", b"r1".as_slice()),
+        ("dir/r1.p", b"r1".as_slice()),
+        ("/a.p/b/x.p.p", b"x.p".as_slice()),
+        (".p", b"".as_slice()),
+        ("p", b"p".as_slice()),
+        ("dir/", b"".as_slice()),
+        ("\u{e9}~\u{7f}", b"??~?".as_slice()),
+    ] {
+        let mut page = Page::new(rt.alloc());
+        push_problem_name(&mut page, file)?;
+        let text = page.into_text();
+        assert!(rt; text.as_slice() == want, "of {file}");
+    }
+    let mut page = Page::new(rt.alloc());
+    push_shown(&mut page, b"\x1f ~\x7f\xff")?;
+    let text = page.into_text();
+    assert!(rt; text.as_slice() == b"? ~??".as_slice());
+    Ok(())
+}
+
+fn symbols(alloc: Global) -> Mem<GroundSymbols> {
+    let mut symbols = GroundSymbols::new(alloc);
+    for (name, arity) in [
+        (b"".as_slice(), 0),
+        (b"f".as_slice(), 2),
+        (b"c".as_slice(), 0),
+        (b"P".as_slice(), 2),
+    ] {
+        symbols.push(GroundSymbol {
+            name: Text::from_slice(alloc, name)?,
+            predicate: arity == 0,
+            arity,
+        })?;
+    }
+    Ok(symbols)
+}
+
+/// f(c,X10)
+fn compound(alloc: Global) -> Mem<Term> {
+    applied(alloc, 1, constant(alloc, 2), Term::Var(10))
+}
+
+/// An equation, its negation, and the negation of an atom.
+fn three_literals(alloc: Global) -> Mem<Vec<Literal>> {
+    let mut literals = Vec::new(alloc);
+    for positive in [true, false] {
+        literals.push(Literal {
+            positive,
+            left: compound(alloc)?,
+            right: constant(alloc, 2),
+        })?;
+    }
+    let atom = applied(alloc, 3, compound(alloc)?, constant(alloc, 2))?;
+    literals.push(Literal {
+        positive: false,
+        left: atom,
+        right: constant(alloc, 0),
+    })?;
+    Ok(literals)
+}
+
+#[test]
+fn prints_terms_and_literals(rt: HostRuntime) -> Result<(), Fail> {
+    let alloc = rt.alloc();
+    let symbols = symbols(alloc)?;
+    let literals = three_literals(alloc)?;
+    let mut page = Page::new(alloc);
+    push_term(&mut page, symbols.as_slice(), &compound(alloc)?)?;
+    page.bytes(b"; ")?;
+    page.number(120)?;
+    page.bytes(b"; ")?;
+    push_literals(&mut page, symbols.as_slice(), literals.as_slice())?;
+    page.bytes(b"; ")?;
+    push_literals(&mut page, symbols.as_slice(), &literals[..0])?;
+    let text = page.into_text();
+    let want = b"f(c,X10); 120; f(c,X10) = c | f(c,X10) != c | ~'P'(f(c,X10),c); $false".as_slice();
+    assert!(rt; text.as_slice() == want);
+    Ok(())
+}
