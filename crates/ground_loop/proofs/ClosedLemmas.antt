@@ -74,7 +74,7 @@ beside sets k s (inl h) = inr (at (tautology_parts s s h))
           | inl e ↦ inl (subst (λ (x : TreeLiteral). IsTrue (has_literal (complement x) s)) (sym (literal_eq-true k p.0 e)) p.2)
           | inr e ↦ elim (cases_Bool (literal_eq k (complement p.0))) [
             | inl g ↦ inl (subst (λ (x : TreeLiteral). IsTrue (has_literal x s))
-              (sym (ap complement (literal_eq-true k (complement p.0) g) ∙ complement-twice p.0)) p.1)
+                (sym (ap complement (literal_eq-true k (complement p.0) g) ∙ complement-twice p.0)) p.1)
             | inr g ↦ inr (p.0, p.1, p.2, e, g)
           ]
         ]
@@ -104,8 +104,8 @@ left_in :
 left_in atom s t m f g l h =
     elim (cases_Bool (literal_eq (atom_literal true atom) l)) [
       | inl e ↦ let same = literal_eq-true (atom_literal true atom) l e in
-        subst (λ (x : TreeLiteral). IsTrue (has_literal x (resolvent atom s t))) same
-        (in_right atom s t (atom_literal true atom) (g (subst (λ (x : TreeLiteral). IsTrue (has_literal x m)) (sym same) h)) refl)
+          subst (λ (x : TreeLiteral). IsTrue (has_literal x (resolvent atom s t))) same
+          (in_right atom s t (atom_literal true atom) (g (subst (λ (x : TreeLiteral). IsTrue (has_literal x m)) (sym same) h)) refl)
       | inr e ↦ in_left atom s t l (f l h) e
     ]
 
@@ -115,8 +115,8 @@ right_in :
 right_in atom s t n f g l h =
     elim (cases_Bool (literal_eq (atom_literal false atom) l)) [
       | inl e ↦ let same = literal_eq-true (atom_literal false atom) l e in
-        subst (λ (x : TreeLiteral). IsTrue (has_literal x (resolvent atom s t))) same
-        (in_left atom s t (atom_literal false atom) (g (subst (λ (x : TreeLiteral). IsTrue (has_literal x n)) (sym same) h)) refl)
+          subst (λ (x : TreeLiteral). IsTrue (has_literal x (resolvent atom s t))) same
+          (in_left atom s t (atom_literal false atom) (g (subst (λ (x : TreeLiteral). IsTrue (has_literal x n)) (sym same) h)) refl)
       | inr e ↦ in_right atom s t l (f l h) e
     ]
 
@@ -126,9 +126,9 @@ resolvent_in :
 resolvent_in atom s t m n f g l h =
     ⊎_elim
     (λ e. let p = and_parts (has_literal l m) (not (literal_eq (atom_literal true atom) l)) e in
-      in_left atom s t l (f l p.0) (not-false (literal_eq (atom_literal true atom) l) p.1))
+    in_left atom s t l (f l p.0) (not-false (literal_eq (atom_literal true atom) l) p.1))
     (λ e. let p = and_parts (has_literal l n) (not (literal_eq (atom_literal false atom) l)) e in
-      in_right atom s t l (g l p.0) (not-false (literal_eq (atom_literal false atom) l) p.1))
+    in_right atom s t l (g l p.0) (not-false (literal_eq (atom_literal false atom) l) p.1))
     (or_cases (has_literal l m && not (literal_eq (atom_literal true atom) l)) (has_literal l n && not (literal_eq (atom_literal false atom) l))
     (sym (has_literal-resolvent atom m n l) ∙ h))
   where
@@ -145,8 +145,8 @@ covered_members form sets closed atom s t m n hm hn f g =
       | inl e ↦ elim (cases_Bool (has_literal (atom_literal false atom) n)) [
         | inr d ↦ inr (n, hn, right_in atom s t n g (λ h. absurd (both_ways _ d h)))
         | inl d ↦ covered-more sets (resolvent atom m n) (resolvent atom s t) (resolvent_in atom s t m n f g)
-          (covered-from sets (resolvent atom m n)
-          (closed.has_resolvents m n atom hm hn (and_from (has_literal (atom_literal true atom) m) (has_literal (atom_literal false atom) n) e d)))
+            (covered-from sets (resolvent atom m n)
+            (closed.has_resolvents m n atom hm hn (and_from (has_literal (atom_literal true atom) m) (has_literal (atom_literal false atom) n) e d)))
       ]
     ]
 
@@ -205,8 +205,8 @@ reached-covered form sets closed (resolved atom a b) s e =
     step (Some x) (Some y) f g e =
         elim (cases_Bool (can_resolve atom x y)) [
           | inl can ↦ subst (IsCovered sets)
-            (same_Some (resolvent atom x y) s (ap (λ b. cond b (Some (resolvent atom x y)) None) (sym can) ∙ e))
-            (covered_resolvent form sets closed atom x y (f x refl) (g y refl))
+              (same_Some (resolvent atom x y) s (ap (λ b. cond b (Some (resolvent atom x y)) None) (sym can) ∙ e))
+              (covered_resolvent form sets closed atom x y (f x refl) (g y refl))
           | inr can ↦ absurd (none-some s (ap (λ b. cond b (Some (resolvent atom x y)) None) (sym can) ∙ e))
         ]
 

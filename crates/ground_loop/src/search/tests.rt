@@ -4,6 +4,8 @@ ghost use Rattle.fol_base.specs.GroundForm.{is_atom_literal, IsGroundClause, IsG
 ghost use Rattle.fol_base.specs.Literal.{literal_of, clause_of};
 
 use super::*;
+use crate::answer::Ground;
+use crate::prove::prove_ground;
 use fol_base::{Clause, Literal, Literals, Names, NoMemory, Term, Terms};
 
 /// A predicate without arguments by its number, negated below zero.
@@ -69,6 +71,29 @@ fn ended(alloc: Global, clauses: &[&[i8]], limit: u32) -> End
         Ok(Found::Spent(count)) => End::Spent(count),
         Err(NoMemory) => End::NoMemory,
     }
+}
+
+fn answered(alloc: Global, clauses: &[&[i8]], limit: u32) -> End
+    requires { 1 ≤ limit }
+{
+    let Ok(form) = form(alloc, clauses) else {
+        return End::NoMemory;
+    };
+    match prove_ground(alloc, &form, limit) {
+        Ok(Ground::Refuted(_)) => End::Empty,
+        Ok(Ground::Closed) => End::Closed,
+        Ok(Ground::Spent(count)) => End::Spent(count),
+        Err(NoMemory) => End::NoMemory,
+    }
+}
+
+#[test]
+fn answers_of_the_loop(rt: HostRuntime) {
+    let alloc = rt.alloc();
+    let four: &[&[i8]] = &[&[1, 2], &[-1, 2], &[1, -2], &[-1, -2]];
+    assert_eq!(rt; answered(alloc, four, 1), End::Spent(1));
+    assert_eq!(rt; answered(alloc, four, 1000), End::Empty);
+    assert_eq!(rt; answered(alloc, &[&[1]], 1000), End::Closed);
 }
 
 #[test]
