@@ -1,15 +1,15 @@
 -- The worked examples that don't just compute.
-use Rattle.std.proofs.Common.{◌≡◌, ℕ, zero, suc, ◌<◌, true, false, List, [], ◌∷◌, refl, ap, sym, ◌∙◌, inr, arith, true≢false, get_or}
+use Rattle.std.proofs.Common.{◌≡◌, ℕ, zero, suc, ◌<◌, Bool, true, false, ◌&&◌, ◌||◌, not, List, [], ◌∷◌, refl, ap, sym, ◌∙◌, inl, inr, arith, true≢false, get_or}
 use Rattle.std.specs.Prelude.{All, Contains}
 use Rattle.std.proofs.lemmas.Bool.{and_parts, or_right}
 use Rattle.std.proofs.lemmas.List.Elements.{All-head, All-cons, All-nil}
 use Rattle.fol_base.specs.Clause.{TreeClause}
 use Rattle.fol_base.specs.Ground.{GroundClause, GroundInstance, literals_instance}
-use Rattle.fol_base.specs.Interpretation.{Interpretation, literal_true, clause_true}
-use Rattle.fol_base.specs.Entails.{Entails}
+use Rattle.fol_base.specs.Interpretation.{Interpretation, true_tree, literal_true, clause_true}
+use Rattle.fol_base.specs.Entails.{Entails, IsRefuted}
 use Rattle.fol_base.specs.Order.{clause_greater}
 use Rattle.fol_base.specs.Selection.{select_nothing, select_negative}
-use Rattle.fol_base.specs.GroundInference.{GroundSuperposition, GroundResolution, GroundFactoring}
+use Rattle.fol_base.specs.GroundInference.{GroundSuperposition, GroundResolution, GroundFactoring, GroundConclusion}
 use Rattle.fol_base.specs.Covered.{InstanceOf, Covers}
 use Rattle.fol_base.specs.declared.clause.Side.TheVariants.{Left}
 use Rattle.fol_base.specs.Examples.{x, a, b, f, p, equation, disequation, clause, is_predicate, functions, all_a, p_of_a_alone}
@@ -22,6 +22,19 @@ instance_over_the_list = record { trees = all_a; trees_ground = λ v. refl; lite
 pub p_of_a_without_p_of_b : Entails is_predicate ((p a ∷ []) ∷ []) (p b ∷ []) → ⊥
 p_of_a_without_p_of_b entails =
     true≢false (sym (entails p_of_a_alone (record { has_value = omega arith; rows_in_range = refl }) refl))
+
+never_both : (b : Bool) → ((b || false) && ((not b || false) && true)) ≡ false
+never_both true = refl
+never_both false = refl
+
+-- p(a) and its negation
+pub contradiction : IsRefuted is_predicate ((p a ∷ []) ∷ (disequation (p a).left true_tree ∷ []) ∷ [])
+contradiction i ok = never_both (literal_true i (p a))
+
+-- p(a) alone is true in the interpretation
+pub no_contradiction : IsRefuted is_predicate ((p a ∷ []) ∷ []) → ⊥
+no_contradiction refuted =
+    true≢false (refuted p_of_a_alone (record { has_value = omega arith; rows_in_range = refl }))
 
 -- f(X0) = b rewrites the inner f(X0) of p(f(f(X0))), both at X0 = a
 pub inner_rewritten :
@@ -51,6 +64,20 @@ inner_rewritten = record {
   old_is_s = refl;
   concludes = refl;
 }
+
+abbrev rewriting : List TreeClause
+rewriting = clause (equation (f (x 0)) b ∷ []) ∷ clause (p (f (f (x 0))) ∷ []) ∷ []
+
+-- both clauses are members of the list
+pub listed_rewritten : GroundConclusion functions select_nothing (Contains rewriting) (p (f b) ∷ [])
+listed_rewritten =
+    inl (
+      clause (equation (f (x 0)) b ∷ []),
+      clause (p (f (f (x 0))) ∷ []),
+      (0, omega arith, refl),
+      (1, omega arith, refl),
+      inner_rewritten,
+    )
 
 -- X0 != a is chosen, and dropped at X0 = a
 pub chosen_dropped : GroundResolution functions select_negative (clause (p (x 0) ∷ disequation (x 0) a ∷ [])) (p a ∷ [])

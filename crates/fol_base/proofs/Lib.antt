@@ -20,3 +20,4 @@ pub mod MatchingExamples
 pub mod VariableLemmas
 pub mod NumberingLemmas
 pub mod CanonicalLemmas
+pub mod EqualityLemmas

@@ -1,6 +1,6 @@
 -- Literals and clauses over trees.
 use mathlib.Core.Bool.{beq}
-use Rattle.std.specs.Prelude.{ℕ, ◌+◌, Bool, true, false, ◌&&◌, List, [], ◌∷◌, ◌++◌, map, flat_map, sum_by, All}
+use Rattle.std.specs.Prelude.{ℕ, ◌+◌, Bool, true, false, ◌&&◌, ◌==◌, List, [], ◌∷◌, ◌++◌, map, flat_map, sum_by, All}
 use Rattle.plain_types.specs.declared.sequence.NameLit.{NameLit}
 use Rattle.fol_base.specs.Tree.{Tree, tree_size, tree_eq, tree_variables, VariablesBelow}
 use Rattle.fol_base.specs.Instance.{Substitution, instance}
@@ -32,6 +32,19 @@ literals_eq [] [] = true
 literals_eq [] (k ∷ ks) = false
 literals_eq (l ∷ ls) [] = false
 literals_eq (l ∷ ls) (k ∷ ks) = literal_eq l k && literals_eq ls ks
+
+abbrev pub name_eq : NameLit → NameLit → Bool
+name_eq n m = beq n.positive m.positive && (n.name == m.name)
+
+abbrev pub names_eq : List NameLit → List NameLit → Bool
+names_eq [] [] = true
+names_eq [] (m ∷ ms) = false
+names_eq (n ∷ ns) [] = false
+names_eq (n ∷ ns) (m ∷ ms) = name_eq n m && names_eq ns ms
+
+-- the same literals and the same names, in the same order
+abbrev pub clause_eq : TreeClause → TreeClause → Bool
+clause_eq c d = literals_eq c.literals d.literals && names_eq c.names d.names
 
 abbrev pub literal_size : TreeLiteral → ℕ
 literal_size l = tree_size l.left + tree_size l.right

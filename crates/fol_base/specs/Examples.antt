@@ -80,6 +80,23 @@ all_a v = a
 abbrev pub all_b : Substitution
 all_b v = b
 
+-- each variable becomes f(f(a))
+abbrev pub all_towers : Substitution
+all_towers v = f (f a)
+
+-- two renamings whose variables differ
+abbrev pub even : ℕ → ℕ
+even zero = zero
+even (suc v) = suc (suc (even v))
+
+abbrev pub odd : ℕ → ℕ
+odd v = suc (even v)
+
+-- the variable 0 becomes that tree, and the others are renamed
+abbrev pub first_is : Tree → (ℕ → ℕ) → Substitution
+first_is t rename zero = t
+first_is t rename (suc v) = variable (rename v)
+
 -- the variable 0 becomes a, and the others stay
 abbrev pub first_is_a : Substitution
 first_is_a zero = a

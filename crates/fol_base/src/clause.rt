@@ -1,6 +1,6 @@
 // Literals and clauses.
 
-ghost use Rattle.std.specs.Prelude.{◌≡◌, ◌++◌, map, IfOk};
+ghost use Rattle.std.specs.Prelude.{◌≡◌, [], ◌∷◌, ◌++◌, map, take, length, IfOk, OnErr};
 ghost use Rattle.fol_base.specs.Literal.{literal_of, clause_of};
 
 use crate::term::Term;
@@ -66,12 +66,25 @@ impl Clause {
     }
 }
 
-/// Adds copies of the literals at the end.
+/// Adds copies of the literals at the end; after want of memory none is added.
 pub fn push_literal_copies(alloc: Global, made: &mut Vec<Literal>, literals: &[Literal]) -> Mem<()>
-    ensures { IfOk result (λ _. map literal_of made.new.items ≡ map literal_of made.old.items ++ map literal_of literals.now) }
+    ensures added { IfOk result (λ _. map literal_of made.new.items ≡ map literal_of made.old.items ++ map literal_of literals.now) }
+    ensures unchanged { OnErr result (made.new.items ≡ made.old.items) }
 {
+    let before = made.len();
     for literal in literals {
-        made.push(literal.copy(alloc)?)?;
+        if let Err(error) = push_literal_copy(alloc, made, literal) {
+            made.truncate(before);
+            return Err(error);
+        }
     }
+    Ok(())
+}
+
+fn push_literal_copy(alloc: Global, made: &mut Vec<Literal>, literal: &Literal) -> Mem<()>
+    ensures added { IfOk result (λ _. map literal_of made.new.items ≡ map literal_of made.old.items ++ (literal_of literal.now ∷ [])) }
+    ensures kept { take (length made.old.items) made.new.items ≡ made.old.items }
+{
+    made.push(literal.copy(alloc)?)?;
     Ok(())
 }

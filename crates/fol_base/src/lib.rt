@@ -12,7 +12,7 @@ mod variables;
 
 pub use canonical_form::canonical;
 pub use clause::{Clause, Clauses, Literal, Literals, Side, push_literal_copies};
-pub use equality::{same_literal, same_term, same_terms};
+pub use equality::{same_clause, same_literal, same_literals, same_term, same_terms};
 pub use place::{Position, at, replace_at};
 pub use plain_types::{Mem, NameLit, Names, NoMemory, Numbers, Parts, Sequence, Text, Texts};
 pub use substitution::{Subst, apply, apply_clause, apply_literal};

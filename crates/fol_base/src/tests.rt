@@ -52,16 +52,6 @@ fn two_atoms(alloc: Global, x: u32, y: u32) -> Mem<Clause> {
     Ok(Clause { literals, names })
 }
 
-fn same_clause(left: &Clause, right: &Clause) -> bool {
-    let (ones, others) = (left.literals.as_slice(), right.literals.as_slice());
-    ones.len() == others.len()
-        && ones
-            .iter()
-            .zip(others)
-            .all(|(one, other)| same_literal(one, other))
-        && left.names.as_slice() == right.names.as_slice()
-}
-
 #[test]
 fn terms_are_measured(rt: HostRuntime) -> Result<(), Fail> {
     let alloc = rt.alloc();
@@ -153,6 +143,26 @@ fn copies_are_equal(rt: HostRuntime) -> Result<(), Fail> {
     assert_eq!(rt; literals.len(), 2);
     assert!(rt; same_literal(&literals[0].copy(alloc)?, &literals[0]));
     assert!(rt; !same_literal(&literals[0], &literals[1]));
+    assert!(rt; same_literals(literals.as_slice(), clause.literals.as_slice()));
+    Ok(())
+}
+
+#[test]
+fn clauses_are_compared(rt: HostRuntime) -> Result<(), Fail> {
+    let alloc = rt.alloc();
+    let clause = two_atoms(alloc, 3, 1)?;
+    let renamed = two_atoms(alloc, 1, 3)?;
+    let mut nameless = clause.copy(alloc)?;
+    nameless.names = Names::new(alloc);
+    let mut prefix = clause.copy(alloc)?;
+    prefix.literals = Literals::from_vec(vec![in alloc;
+        clause.literals.as_slice()[0].copy(alloc)?,
+    ]?);
+    assert!(rt; same_clause(&clause, &clause));
+    for other in [&renamed, &nameless, &prefix] {
+        assert!(rt; !same_clause(&clause, other));
+        assert!(rt; !same_clause(other, &clause));
+    }
     Ok(())
 }
 

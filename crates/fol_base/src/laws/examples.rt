@@ -1,19 +1,19 @@
 // Worked examples of the definitions. The symbols a, b, c, f, g, p, q rise in precedence in this order.
 
-ghost use Rattle.std.specs.Prelude.{◌≡◌, [], ◌∷◌, Some, None, true, false, IsTrue, IsFalse};
+ghost use Rattle.std.specs.Prelude.{◌≡◌, [], ◌∷◌, Some, None, true, false, IsTrue, IsFalse, Contains};
 ghost use Rattle.fol_base.specs.Tree.{variable, tree_size};
 ghost use Rattle.fol_base.specs.Instance.{instance, substitution};
 ghost use Rattle.fol_base.specs.Place.{replaced, subterm};
 ghost use Rattle.fol_base.specs.Canonical.{canonical_clause};
 ghost use Rattle.fol_base.specs.Ground.{ground_over, GroundInstance};
-ghost use Rattle.fol_base.specs.Interpretation.{clause_true, tree_value, no_values, row_in_range, table_value};
-ghost use Rattle.fol_base.specs.Entails.{Entails};
+ghost use Rattle.fol_base.specs.Interpretation.{true_tree, clause_true, tree_value, no_values, row_in_range, table_value};
+ghost use Rattle.fol_base.specs.Entails.{Entails, IsRefuted};
 ghost use Rattle.fol_base.specs.Multiset.{greater, less, equal, unordered};
 ghost use Rattle.fol_base.specs.Order.{compare_trees, compare_literals, compare_clauses};
-ghost use Rattle.fol_base.specs.Selection.{select_nothing, select_negative, chosen, eligible};
-ghost use Rattle.fol_base.specs.GroundInference.{GroundSuperposition, GroundResolution, GroundFactoring};
+ghost use Rattle.fol_base.specs.Selection.{select_nothing, select_negative, chosen, eligible, eligible_in_instance};
+ghost use Rattle.fol_base.specs.GroundInference.{GroundSuperposition, GroundResolution, GroundFactoring, GroundConclusion};
 ghost use Rattle.fol_base.specs.Covered.{Covers};
-ghost use Rattle.fol_base.specs.Examples.{x, a, b, c, f, f₂, g, p, q, q₂, equation, disequation, clause, is_predicate, functions, row, p_of_a_alone};
+ghost use Rattle.fol_base.specs.Examples.{x, a, b, c, f, f₂, g, p, q, q₂, equation, disequation, clause, is_predicate, functions, row, all_a, all_towers, p_of_a_alone};
 
 /// Instances, replacement and canonical form.
 pub fn tree_examples()
@@ -50,6 +50,11 @@ pub fn selection_examples()
     ensures repeated { IsTrue (eligible (p a ∷ p a ∷ []) 0 None false) }
     ensures repeated_strictly { IsFalse (eligible (p a ∷ p a ∷ []) 0 None true) }
     ensures not_chosen { IsFalse (eligible (p a ∷ disequation a b ∷ []) 0 (Some 1) false) }
+    ensures choice_stays { IsTrue (eligible_in_instance select_negative (disequation (x 0) a ∷ disequation (f a) b ∷ []) all_towers 1 false) }
+    ensures no_later_choice { IsFalse (eligible_in_instance select_negative (disequation (x 0) a ∷ disequation (f a) b ∷ []) all_towers 0 false) }
+    ensures maximal_in_instance { IsTrue (eligible_in_instance select_nothing (p (x 0) ∷ p a ∷ []) all_towers 0 true) }
+    ensures smaller_in_instance { IsFalse (eligible_in_instance select_nothing (p (x 0) ∷ p a ∷ []) all_towers 1 false) }
+    ensures same_in_instance { IsFalse (eligible_in_instance select_nothing (p (x 0) ∷ p a ∷ []) all_a 0 true) }
 {}
 
 /// Ground trees, values, and what ground clauses entail.
@@ -66,6 +71,8 @@ pub fn meaning_examples()
     ensures instance_over_the_list { GroundInstance functions (clause (p (x 0) ∷ [])) (p a ∷ []) }
     ensures rewritten { Entails is_predicate ((equation a b ∷ []) ∷ (equation (f a) c ∷ []) ∷ []) (equation (f b) c ∷ []) }
     ensures other_constant { Entails is_predicate ((p a ∷ []) ∷ []) (p b ∷ []) → ⊥ }
+    ensures contradiction { IsRefuted is_predicate ((p a ∷ []) ∷ (disequation (p a).left true_tree ∷ []) ∷ []) }
+    ensures no_contradiction { IsRefuted is_predicate ((p a ∷ []) ∷ []) → ⊥ }
 {}
 
 /// Ground inferences of each kind, and coverage.
@@ -73,6 +80,9 @@ pub fn coverage_examples()
     ensures inference { GroundSuperposition functions select_nothing
         (clause (equation (f (x 0)) b ∷ []))
         (clause (p (f (f (x 0))) ∷ []))
+        (p (f b) ∷ []) }
+    ensures inference_between_listed { GroundConclusion functions select_nothing
+        (Contains (clause (equation (f (x 0)) b ∷ []) ∷ clause (p (f (f (x 0))) ∷ []) ∷ []))
         (p (f b) ∷ []) }
     ensures resolution { GroundResolution functions select_negative (clause (p (x 0) ∷ disequation (x 0) a ∷ [])) (p a ∷ []) }
     ensures factoring { GroundFactoring functions select_nothing

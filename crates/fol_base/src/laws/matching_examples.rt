@@ -3,10 +3,11 @@
 ghost use Rattle.std.specs.Prelude.{◌≡◌, [], ◌∷◌, true, false, IsTrue, IsFalse, codes};
 ghost use Rattle.fol_base.specs.Instance.{Substitution};
 ghost use Rattle.fol_base.specs.Compatible.{compatible, compatible_generalisation, compatible_instance};
-ghost use Rattle.fol_base.specs.Unifier.{IsUnifier, IsUnifierApart, IsMostGeneralUnifier, IsMatcher};
+ghost use Rattle.fol_base.specs.Unifier.{IsUnifier, IsUnifierApart, IsMostGeneralUnifier, IsMostGeneralUnifierApart, IsMatcher};
 ghost use Rattle.fol_base.specs.Subsumption.{Subsumes, assertions, is_among};
 ghost use Rattle.fol_base.specs.Kind.{is_literal, are_function_symbols};
 ghost use Rattle.fol_base.specs.Interpretation.{true_tree};
+ghost use Rattle.fol_base.specs.GroundForm.{is_atom_literal, IsGroundForm, form_size};
 ghost use Rattle.fol_base.specs.Spelling.{
   spells,
   lower_word,
@@ -19,7 +20,7 @@ ghost use Rattle.fol_base.specs.Spelling.{
   mark,
   other,
 };
-ghost use Rattle.fol_base.specs.Examples.{x, a, b, f, f₂, g, p, q, r, equation, disequation, clause, is_predicate, functions, with_predicate, positive_name, negative_name, all_a, all_b, first_is_a};
+ghost use Rattle.fol_base.specs.Examples.{x, a, b, f, f₂, g, p, q, r, equation, disequation, clause, is_predicate, functions, with_predicate, positive_name, negative_name, all_a, all_b, first_is, even, odd, first_is_a};
 
 /// Entries that may unify with a query, generalise it or be instances of it.
 pub fn compatible_examples()
@@ -39,6 +40,7 @@ pub fn compatible_examples()
 /// Unifiers and matchers.
 pub fn unifier_examples()
     ensures apart { IsUnifierApart (f₂ (x 0) b) (f₂ a (x 0)) all_a all_b }
+    ensures most_general_apart { IsMostGeneralUnifierApart (f₂ (x 0) b) (f₂ a (x 0)) (first_is a even) (first_is b odd) }
     ensures occurs { (σ : Substitution) → IsUnifier (x 0) (f (x 0)) σ → ⊥ }
     ensures most_general { IsMostGeneralUnifier (x 0) a first_is_a }
     ensures matched { IsMatcher (f₂ (x 0) (x 0)) (f₂ a a) all_a }
@@ -54,6 +56,15 @@ pub fn kind_examples()
     ensures atom_below_a_function { IsFalse (is_literal is_predicate (equation (f (p a).left) b)) }
     ensures function_symbols { IsTrue (are_function_symbols is_predicate functions) }
     ensures no_function_symbol { IsFalse (are_function_symbols is_predicate with_predicate) }
+{}
+
+/// Ground clauses without equality.
+pub fn ground_form_examples()
+    ensures atoms { IsGroundForm (clause (p a ∷ disequation (q (f b)).left true_tree ∷ []) ∷ clause (r ∷ []) ∷ []) }
+    ensures equation_of_terms { IsFalse (is_atom_literal (equation (f a) b)) }
+    ensures truth_alone { IsFalse (is_atom_literal (equation true_tree true_tree)) }
+    ensures with_variable { IsFalse (is_atom_literal (p (x 0))) }
+    ensures symbols { form_size (clause (p a ∷ disequation (q (f b)).left true_tree ∷ []) ∷ clause (r ∷ []) ∷ []) ≡ 9 }
 {}
 
 /// Subsumption.
