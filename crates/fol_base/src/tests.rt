@@ -156,7 +156,7 @@ fn clauses_are_compared(rt: HostRuntime) -> Result<(), Fail> {
     nameless.names = Names::new(alloc);
     let mut prefix = clause.copy(alloc)?;
     prefix.literals = Literals::from_vec(vec![in alloc;
-        clause.literals.as_slice()[0].copy(alloc)?,
+        atom(alloc, unary(alloc, P, Term::Var(3))?),
     ]?);
     assert!(rt; same_clause(&clause, &clause));
     for other in [&renamed, &nameless, &prefix] {

@@ -1,4 +1,4 @@
-use Rattle.std.proofs.Common.{◌≡◌, map, sym, ◌∙◌}
+use Rattle.std.proofs.Common.{map, sym, ◌∙◌}
 use Rattle.std.proofs.lemmas.List.{length-map}
 use Rattle.fol_base.specs.Literal.{literal_of}
 use Rattle.fol_base.proofs.EqualityLemmas.{literals_eq-lengths}
