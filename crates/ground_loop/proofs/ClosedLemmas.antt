@@ -1,7 +1,6 @@
 -- A closed list without the empty set: no resolutions from the form reach the empty set.
-use Rattle.std.proofs.Common.{◌≡◌, ℕ, zero, suc, ◌<◌, Bool, true, false, not, ◌&&◌, ◌||◌, List, [], ◌∷◌, length, get_or, refl, ap, sym, ◌∙◌, subst, arith, ◌⊎◌, inl, inr, ⊎_elim, Option, Some, None, cond}
+use Rattle.std.proofs.Common.{◌≡◌, suc, Bool, true, false, not, ◌&&◌, List, [], ◌∷◌, refl, ap, sym, ◌∙◌, subst, arith, ◌⊎◌, inl, inr, ⊎_elim, Option, Some, None, cond}
 use Rattle.std.specs.Prelude.{IsTrue, IsFalse, Contains, slice_get, option_map}
-use Rattle.std.specs.List.{list_any}
 use Rattle.std.proofs.lemmas.Bool.{cases_Bool, both_ways, or_cases, or_left, or_right, and_parts, and_from, false_from_ne_true, not_from_false}
 use Rattle.std.proofs.lemmas.List.Folds.{list_any_at}
 use Rattle.std.proofs.lemmas.Option.{same_Some, none-some, slice_get_within, get_or_from_slice_get}
@@ -9,7 +8,7 @@ use Rattle.fol_base.specs.Tree.{Tree}
 use Rattle.fol_base.specs.Clause.{TreeLiteral, TreeClause, literal_eq}
 use Rattle.ground_loop.specs.Resolution.{LiteralSet, has_literal, same_set, atom_literal, complement, is_tautology, can_resolve, resolvent, Resolution, clause_number, resolved, resolvent_of, reached, Follows}
 use Rattle.ground_loop.specs.Answer.{holds_set, IsClosedFor, HasClosedSets}
-use Rattle.ground_loop.proofs.SetLemmas.{literal_eq-refl, literal_eq-true, has_literal_here, same_set-to, same_set-from, has_literal-resolvent, tautology_parts, tautology_from}
+use Rattle.ground_loop.proofs.SetLemmas.{literal_eq-true, same_set-to, same_set-from, has_literal-resolvent, tautology_parts, tautology_from}
 
 -- each literal of the first set is in the second
 abbrev IsIn : LiteralSet → LiteralSet → Type 0

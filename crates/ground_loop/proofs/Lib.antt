@@ -18,3 +18,4 @@ pub mod SearchFoundLemmas
 pub mod DeriveWhole
 pub mod DeriveExamples
 pub mod ClosedLemmas
+pub mod ResolutionExamples

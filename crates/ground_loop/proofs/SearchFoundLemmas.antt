@@ -1,17 +1,16 @@
 -- What the codes of a search say of the form.
-use Rattle.std.proofs.Common.{◌≡◌, ℕ, zero, suc, ◌+◌, ◌-◌, ◌*◌, ◌/◌, ◌%◌, ◌<◌, ◌≤◌, Bool, true, false, not, ◌&&◌, ◌||◌, ◌==◌, List, [], ◌∷◌, ◌++◌, length, map, take, get_or, refl, ap, sym, ◌∙◌, subst, arith, ◌⊎◌, inl, inr, ⊎_elim, Option, Some, None, if◌then◌else◌, nat_lt}
+use Rattle.std.proofs.Common.{◌≡◌, ℕ, zero, suc, ◌+◌, ◌*◌, ◌/◌, ◌<◌, ◌≤◌, Bool, true, false, ◌&&◌, ◌==◌, List, [], ◌∷◌, ◌++◌, length, map, take, get_or, refl, ap, sym, ◌∙◌, subst, arith, ◌⊎◌, inl, inr, ⊎_elim, Some, None, if◌then◌else◌, nat_lt}
 use Rattle.std.specs.Prelude.{IsTrue, IsFalse, All, AllPairs, Contains, slice_get}
-use Rattle.std.specs.List.{list_any, list_all}
-use Rattle.std.specs.Option.{option_map, option_and_then}
+use Rattle.std.specs.Option.{option_map}
 use Rattle.std.specs.List.Sorted.{IsStrictlyIncreasing}
 use Rattle.std.proofs.lemmas.Bool.{cases_lt, cases_order, both_ways, or_cases, or_left, or_right, and_parts, and_from, eq-eqb, eqb-true, false_from_ne_true, lt-ltb}
 use Rattle.std.proofs.lemmas.List.{length-map, length-take-le, get_or-map}
 use Rattle.std.proofs.lemmas.List.Elements.{All-map, All-weaker}
 use Rattle.std.proofs.lemmas.List.Folds.{list_any_at, list_any_none}
 use Rattle.std.proofs.lemmas.List.Kept.{AllPairs-from_increasing}
-use Rattle.std.proofs.lemmas.Option.{slice_get_within, slice_get-get_or, get_or_from_slice_get, same_Some}
+use Rattle.std.proofs.lemmas.Option.{slice_get_within, slice_get-get_or, same_Some}
 use Rattle.fol_base.specs.Tree.{Tree, tree_eq}
-use Rattle.fol_base.specs.Clause.{TreeLiteral, TreeClause}
+use Rattle.fol_base.specs.Clause.{TreeClause}
 use Rattle.fol_base.proofs.TreeLemmas.{tree_eq-true}
 use Rattle.ground_loop.specs.declared.entry.Entry.{Entry}
 use Rattle.ground_loop.specs.declared.entry.Origin.{Origin}
@@ -21,16 +20,16 @@ use Rattle.ground_loop.specs.declared.search.sets.Sets.{Sets}
 use Rattle.ground_loop.specs.declared.search.saturation.Saturation.{Saturation}
 use Rattle.ground_loop.specs.Resolution.{LiteralSet, has_literal, same_set, atom_literal, can_resolve, resolvent, resolvent_of, is_tautology, Resolution, clause_number, resolved, reached, Follows}
 use Rattle.ground_loop.specs.Entries.{atom_at, coded_literal, coded_set, entry_set, ComesFrom, IsEntry, AreEntries}
-use Rattle.ground_loop.specs.Answer.{holds_set, IsClosedFor, HasClosedSets, Triple, IsTripleOf, same_triple, HasTriples}
+use Rattle.ground_loop.specs.Answer.{holds_set, HasClosedSets, Triple, IsTripleOf, same_triple, HasTriples}
 use Rattle.ground_loop.specs.Search.{ReachesEmpty}
-use Rattle.ground_loop.specs.Codes.{has_number, occurrences, HasBoth, LacksBoth, IsCodeResolvent}
-use Rattle.ground_loop.specs.Sets.{codes_at, HasSet, IsProper, AreSets, EndsEmpty, waiting_entries}
-use Rattle.ground_loop.specs.Saturation.{Meets, IsSettled, Pairing, HasPairings, AnyPairing, IsResolved, Among, IsBetween, IsFinished, IsSpent, IsMade, Extends}
-use Rattle.ground_loop.specs.Table.{IsTable, SameLiterals, IsInput, AreInputs, HasLiterals, HasInputs, ReachesEmptyClause}
+use Rattle.ground_loop.specs.Codes.{has_number, occurrences, IsCodeResolvent}
+use Rattle.ground_loop.specs.Sets.{codes_at, IsProper, AreSets, EndsEmpty, waiting_entries}
+use Rattle.ground_loop.specs.Saturation.{Meets, Pairing, HasPairings, AnyPairing, IsFinished, IsMade, Extends}
+use Rattle.ground_loop.specs.Table.{IsTable, IsInput, AreInputs, HasLiterals}
 use Rattle.ground_loop.proofs.SearchCodeLemmas.{same_tests, number_at, number_place}
 use Rattle.ground_loop.proofs.SearchStepLemmas.{codes_at-kept, length-kept}
 use Rattle.ground_loop.proofs.SearchPartnerLemmas.{stands_from_occurs}
-use Rattle.ground_loop.proofs.SetLemmas.{same_set-from, same_set-to, same_set-sym, same_set-trans, same_resolvents, same_can_resolve, same_tautologies, tautology_codes, tautology_both, resolvent_codes, positive_literal, negative_literal, negative_number, atom_of_positive, atom_injective, number_from_literal, member_literal, literal_eq-refl}
+use Rattle.ground_loop.proofs.SetLemmas.{same_set-from, same_set-to, same_set-sym, same_set-trans, same_resolvents, same_can_resolve, same_tautologies, tautology_codes, tautology_both, resolvent_codes, positive_literal, negative_literal, negative_number, atom_of_positive, atom_injective, number_from_literal, member_literal}
 
 -- ---- lawful entries
 

@@ -1,7 +1,7 @@
 -- What stands while an entry is resolved with the entries that are done.
-use Rattle.std.proofs.Common.{◌≡◌, ℕ, zero, suc, ◌+◌, ◌-◌, ◌*◌, ◌/◌, ◌%◌, ◌^◌, ◌<◌, ◌≤◌, Bool, true, false, not, ◌&&◌, ◌||◌, ◌==◌, cond, eqb, ltb, nat_lt, List, [], ◌∷◌, ◌++◌, length, map, get_or, take, refl, ap, sym, ◌∙◌, subst, arith, ◌⊎◌, inl, inr, ⊎_elim, if◌then◌else◌}
-use Rattle.std.specs.Prelude.{IsTrue, All, AllPairs}
-use Rattle.std.proofs.lemmas.Bool.{cases_lt, cases_Bool, eqb-true, ne_eqb}
+use Rattle.std.proofs.Common.{◌≡◌, ℕ, zero, suc, ◌+◌, ◌-◌, ◌*◌, ◌/◌, ◌%◌, ◌^◌, ◌<◌, ◌≤◌, Bool, true, false, ◌==◌, List, [], ◌∷◌, ◌++◌, length, get_or, take, refl, ap, sym, ◌∙◌, subst, arith, ◌⊎◌, inl, inr, ⊎_elim, if◌then◌else◌}
+use Rattle.std.specs.Prelude.{IsTrue}
+use Rattle.std.proofs.lemmas.Bool.{cases_lt, ne_eqb}
 use Rattle.std.proofs.lemmas.List.{take_all, get_or_read}
 use Rattle.ground_loop.specs.declared.entry.Entry.{Entry}
 use Rattle.ground_loop.specs.declared.search.sets.Sets.{Sets}
@@ -9,11 +9,11 @@ use Rattle.ground_loop.specs.declared.search.saturation.Saturation.{Saturation}
 use Rattle.ground_loop.specs.declared.search.saturation.Progress.{Progress}
 use Rattle.ground_loop.specs.declared.search.saturation.Progress.TheVariants.{Empty, Spent, Open}
 use Rattle.ground_loop.specs.Codes.{has_number, occurrences, complement_code}
-use Rattle.ground_loop.specs.Sets.{codes_at, AreSets, IsBalanced, waiting_entries}
-use Rattle.ground_loop.specs.Saturation.{Meets, IsSettled, HasPairings, IsResolved, Among, Pairs, Partly, Stands, IsBetween, IsPopped, IsResolving, code_at, partners_at, AnyPairing, IsSpent, Extends, Resolves, AreHolders, Holds, Moves, Reaches, work}
+use Rattle.ground_loop.specs.Sets.{codes_at, AreSets}
+use Rattle.ground_loop.specs.Saturation.{Meets, HasPairings, IsResolved, Pairs, Partly, Stands, IsResolving, code_at, partners_at, AnyPairing, IsSpent, Extends, Resolves, AreHolders, Moves, Reaches, work}
 use Rattle.ground_loop.proofs.SearchCodeLemmas.{number_at}
-use Rattle.ground_loop.proofs.SearchStepLemmas.{length-kept, codes_at-kept, Extends-none, Extends-trans, HasPairings-pushed, IsResolved-more, IsResolved-same}
-use Rattle.ground_loop.proofs.SearchPartnerLemmas.{occurs, stands_from_occurs, occurrences-append, occurrences-take-le, stands_before_more, stands_before_wider, stands_at_end, done_in, complement-even, complement-odd, IsPartner, partner_from_holder, holder_from_partner, StepIn, step_meets, step_fresh}
+use Rattle.ground_loop.proofs.SearchStepLemmas.{length-kept, codes_at-kept, Extends-trans, HasPairings-pushed, IsResolved-more, IsResolved-same}
+use Rattle.ground_loop.proofs.SearchPartnerLemmas.{occurs, stands_from_occurs, occurrences-take-le, stands_before_more, stands_before_wider, stands_at_end, done_in, complement-even, complement-odd, partner_from_holder, holder_from_partner, StepIn, step_meets, step_fresh}
 
 -- the same pairings under another name
 pub Stands-same :

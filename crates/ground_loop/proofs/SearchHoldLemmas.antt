@@ -1,20 +1,19 @@
 -- What stands where an entry is taken out, and where it was entered with its codes.
-use Rattle.std.proofs.Common.{◌≡◌, ℕ, zero, suc, ◌+◌, ◌-◌, ◌*◌, ◌^◌, ◌<◌, ◌≤◌, Bool, true, false, not, ◌&&◌, ◌||◌, ◌==◌, cond, eqb, nat_lt, List, [], ◌∷◌, ◌++◌, length, get_or, set, take, refl, ap, sym, ◌∙◌, subst, arith, ◌⊎◌, inl, inr, ⊎_elim, if◌then◌else◌}
+use Rattle.std.proofs.Common.{◌≡◌, ℕ, zero, suc, ◌+◌, ◌*◌, ◌^◌, ◌<◌, ◌≤◌, Bool, true, false, ◌&&◌, ◌||◌, ◌==◌, nat_lt, List, [], ◌∷◌, ◌++◌, length, get_or, set, take, refl, ap, sym, ◌∙◌, subst, arith, ◌⊎◌, inl, inr, if◌then◌else◌}
 use Rattle.std.specs.Prelude.{IsTrue}
 use Rattle.std.specs.List.Sorted.{IsStrictlyIncreasing}
-use Rattle.std.proofs.lemmas.Bool.{cases_Bool, cases_eq, eqb-true, eq-eqb, ne_eqb, or_cases, or_left, or_right, false_from_ne_true}
+use Rattle.std.proofs.lemmas.Bool.{cases_eq, eqb-true, eq-eqb, ne_eqb, or_cases, or_left, or_right, false_from_ne_true}
 use Rattle.std.proofs.lemmas.Bool.Decides.{nat_tests}
-use Rattle.std.proofs.lemmas.List.{take_all, take_more, length_push, get_or_append_left, get_or_push, get_or_past, get_or-set_same, get_or-set_other}
+use Rattle.std.proofs.lemmas.List.{take_all, take_more, get_or-set_same, get_or-set_other}
 use Rattle.std.proofs.lemmas.List.Elements.{All-nil}
 use Rattle.std.proofs.lemmas.List.Folds.{list_any-append}
-use Rattle.ground_loop.specs.declared.entry.Entry.{Entry}
 use Rattle.ground_loop.specs.declared.search.sets.Sets.{Sets}
 use Rattle.ground_loop.specs.declared.search.saturation.Saturation.{Saturation}
 use Rattle.ground_loop.specs.declared.search.saturation.Progress.{Progress}
 use Rattle.ground_loop.specs.declared.search.saturation.Progress.TheVariants.{Empty, Spent, Open}
-use Rattle.ground_loop.specs.Codes.{has_number, occurrences, complement_code}
+use Rattle.ground_loop.specs.Codes.{has_number, occurrences}
 use Rattle.ground_loop.specs.Sets.{codes_at, AreSets, IsBalanced, waiting_entries}
-use Rattle.ground_loop.specs.Saturation.{Meets, Pairing, HasPairings, IsResolved, Among, Pairs, Partly, Stands, IsBetween, IsPopped, IsResolving, IsFinished, code_at, partners_at, Extends, AreHolders, Holds, Moves, Reaches, IsSpent, work}
+use Rattle.ground_loop.specs.Saturation.{Meets, Pairing, IsResolved, Among, Pairs, Partly, IsBetween, IsPopped, IsResolving, IsFinished, partners_at, Extends, AreHolders, Holds, Moves, Reaches, IsSpent, work}
 use Rattle.ground_loop.proofs.SearchStepLemmas.{IsResolved-same, Extends-trans}
 use Rattle.ground_loop.proofs.SearchPartnerLemmas.{occurrences-append, fresh_code}
 use Rattle.ground_loop.proofs.SearchGivenLemmas.{Stands-same}

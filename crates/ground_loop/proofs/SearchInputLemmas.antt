@@ -1,15 +1,15 @@
 -- Facts about the codes of clauses.
-use Rattle.std.proofs.Common.{◌≡◌, ℕ, zero, suc, ◌+◌, ◌-◌, ◌*◌, ◌/◌, ◌%◌, ◌^◌, ◌<◌, ◌≤◌, Bool, true, false, not, ◌&&◌, ◌||◌, ◌==◌, List, [], ◌∷◌, ◌++◌, length, map, take, get_or, refl, ap, sym, ◌∙◌, subst, arith, ◌⊎◌, inl, inr, ⊎_elim, Option, Some, None}
-use Rattle.std.specs.Prelude.{IsTrue, IsFalse, All, AllPairs, slice_get, sum_by}
-use Rattle.std.specs.List.{list_any, list_all}
+use Rattle.std.proofs.Common.{◌≡◌, ℕ, zero, suc, ◌+◌, ◌*◌, ◌/◌, ◌%◌, ◌<◌, ◌≤◌, Bool, true, false, ◌||◌, ◌==◌, List, [], ◌∷◌, ◌++◌, length, map, take, get_or, refl, ap, sym, ◌∙◌, subst, arith, ◌⊎◌, inl, inr, ⊎_elim, Option, Some}
+use Rattle.std.specs.Prelude.{IsTrue, IsFalse, slice_get, sum_by}
+use Rattle.std.specs.List.{list_all}
 use Rattle.std.specs.List.Sorted.{IsStrictlyIncreasing}
-use Rattle.std.proofs.lemmas.Bool.{cases_Bool, cases_eq, both_ways, or_cases, or_left, or_right, and_parts, and_from, eq-eqb, eqb-true, ne_eqb}
-use Rattle.std.proofs.lemmas.List.{append_assoc, length_push, length-append, length-map, get_or_append_left, map-append, take_all}
+use Rattle.std.proofs.lemmas.Bool.{cases_eq, both_ways, or_cases, or_left, or_right, and_parts, eq-eqb, eqb-true}
+use Rattle.std.proofs.lemmas.List.{append_assoc, length_push, length-append, get_or_append_left, map-append}
 use Rattle.std.proofs.lemmas.List.Sums.{sum_by-cons, sum_by_more, sum_by-take-le}
 use Rattle.std.proofs.lemmas.List.Folds.{list_any-append}
 use Rattle.std.proofs.lemmas.Option.{slice_get_within, slice_get-get_or, get_or_from_slice_get, same_Some, slice_get-map}
 use Rattle.std.specs.Option.{option_map}
-use Rattle.fol_base.specs.Tree.{Tree, tree_eq, tree_size}
+use Rattle.fol_base.specs.Tree.{Tree, tree_eq}
 use Rattle.fol_base.specs.Clause.{TreeLiteral, TreeClause, literal_size, clause_size}
 use Rattle.fol_base.specs.Literal.{literal_of, clause_of}
 use Rattle.fol_base.specs.GroundForm.{is_ground_atom, is_atom_literal, IsGroundClause, IsGroundForm, form_size}
@@ -17,7 +17,6 @@ use Rattle.fol_base.specs.Interpretation.{true_tree}
 use Rattle.fol_base.specs.declared.clause.Literal.{Literal}
 use Rattle.fol_base.specs.declared.clause.Clause as Clauses
 use Rattle.fol_base.proofs.TreeLemmas.{tree_eq-true, tree_size-positive}
-use Rattle.fol_base.proofs.ListLemmas.{map-take_more_item}
 use Rattle.ground_loop.specs.declared.entry.Entry.{Entry}
 use Rattle.ground_loop.specs.declared.entry.Origin.TheVariants.{Clause}
 use Rattle.ground_loop.specs.declared.search.atoms.Atoms.{Atoms}
@@ -25,8 +24,8 @@ use Rattle.ground_loop.specs.declared.search.sets.Sets.{Sets}
 use Rattle.ground_loop.specs.Resolution.{LiteralSet, has_literal, atom_literal, is_tautology}
 use Rattle.ground_loop.specs.Entries.{atom_at, coded_literal, coded_set}
 use Rattle.ground_loop.specs.Codes.{has_number, literal_code, HasBoth, LacksBoth}
-use Rattle.ground_loop.specs.Sets.{codes_at, HasSet, IsProper, AreSets, Adds, AddsNew, IsBalanced, EndsEmpty}
-use Rattle.ground_loop.specs.Table.{IsTable, Grows, Numbers, SameLiterals, Codes, IsInput, AreInputs, HasLiterals, HasInputs, ReachesEmptyClause, AddsClauses}
+use Rattle.ground_loop.specs.Sets.{codes_at, HasSet, AreSets, Adds, AddsNew}
+use Rattle.ground_loop.specs.Table.{IsTable, Grows, Numbers, SameLiterals, Codes, IsInput, AreInputs, HasLiterals, HasInputs, ReachesEmptyClause}
 use Rattle.ground_loop.proofs.SetLemmas.{coded_literal-even, coded_literal-odd, same_codes_literals, same_tautologies, tautology_both, has_literal_here}
 use Rattle.ground_loop.proofs.SearchSetLemmas.{codes_at-append}
 use Rattle.ground_loop.proofs.SearchStepLemmas.{LacksBoth-none}

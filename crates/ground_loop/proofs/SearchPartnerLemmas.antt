@@ -1,23 +1,19 @@
 -- The pairings of a given entry.
-use Rattle.std.proofs.Common.{◌≡◌, ℕ, zero, suc, ◌+◌, ◌-◌, ◌*◌, ◌/◌, ◌%◌, ◌<◌, ◌≤◌, Bool, true, false, not, ◌&&◌, ◌||◌, ◌==◌, cond, eqb, ltb, nat_lt, List, [], ◌∷◌, ◌++◌, length, map, get_or, take, refl, ap, sym, ◌∙◌, subst, arith, ◌⊎◌, inl, inr, ⊎_elim, if◌then◌else◌, Option, Some, None}
-use Rattle.std.specs.Prelude.{IsTrue, All, AllPairs, slice_get, slice_index}
-use Rattle.std.specs.List.{list_any}
+use Rattle.std.proofs.Common.{◌≡◌, ℕ, zero, suc, ◌+◌, ◌-◌, ◌*◌, ◌%◌, ◌<◌, ◌≤◌, Bool, true, false, ◌||◌, ◌==◌, nat_lt, List, [], ◌∷◌, ◌++◌, length, get_or, take, refl, ap, sym, ◌∙◌, subst, arith, ◌⊎◌, inl, inr, ⊎_elim, if◌then◌else◌}
+use Rattle.std.specs.Prelude.{IsTrue}
 use Rattle.std.specs.List.Sorted.{IsStrictlyIncreasing}
-use Rattle.std.proofs.lemmas.Bool.{eqb-true, eqb-false, eq-eqb, ne_eqb, cases_Bool, cases_eq, cases_lt, or_cases, and_parts, and_from, both_ways, cases_order, or_left, or_right}
+use Rattle.std.proofs.lemmas.Bool.{eqb-true, eq-eqb, cases_Bool, or_cases, or_left, or_right}
 use Rattle.std.proofs.lemmas.Bool.Decides.{nat_tests}
-use Rattle.std.proofs.lemmas.List.{length_push, take_all, take_more, length-take-le}
+use Rattle.std.proofs.lemmas.List.{take_more, length-take-le}
 use Rattle.std.proofs.lemmas.List.Kept.{AllPairs-from_increasing}
 use Rattle.std.proofs.lemmas.List.Folds.{list_any-append}
 use Rattle.ground_loop.specs.declared.entry.Entry.{Entry}
 use Rattle.ground_loop.specs.declared.search.sets.Sets.{Sets}
 use Rattle.ground_loop.specs.declared.search.saturation.Saturation.{Saturation}
-use Rattle.ground_loop.specs.declared.search.saturation.Progress.{Progress}
-use Rattle.ground_loop.specs.declared.search.saturation.Progress.TheVariants.{Empty, Spent, Open}
 use Rattle.ground_loop.specs.Codes.{has_number, occurrences, complement_code}
-use Rattle.ground_loop.specs.Sets.{codes_at, IsProper, AreSets, IsBalanced, waiting_entries}
-use Rattle.ground_loop.specs.Saturation.{Meets, IsSettled, Pairing, HasPairings, IsResolved, Among, Pairs, Partly, Stands, IsPopped, IsResolving, code_at, partners_at, AnyPairing, IsSpent, Extends, Resolves, AreHolders}
+use Rattle.ground_loop.specs.Sets.{codes_at, IsBalanced, waiting_entries}
+use Rattle.ground_loop.specs.Saturation.{Meets, Pairs, Partly, IsResolving, code_at, partners_at, AreHolders}
 use Rattle.ground_loop.proofs.SearchCodeLemmas.{number_place, number_at}
-use Rattle.ground_loop.proofs.SearchStepLemmas.{length-kept, codes_at-kept, Meets-kept, HasPairings-pushed, IsResolved-more, IsResolved-same}
 
 -- ---- occurrences
 

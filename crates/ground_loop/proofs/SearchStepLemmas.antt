@@ -1,27 +1,20 @@
 -- Steps of the closure under resolution.
-use Rattle.std.proofs.Common.{◌≡◌, ℕ, zero, suc, ◌+◌, ◌-◌, ◌*◌, ◌/◌, ◌%◌, ◌<◌, ◌≤◌, Bool, true, false, not, ◌&&◌, ◌||◌, ◌==◌, cond, eqb, ltb, nat_lt, List, [], ◌∷◌, ◌++◌, length, map, get_or, take, refl, ap, sym, ◌∙◌, subst, arith, ◌⊎◌, inl, inr, ⊎_elim, if◌then◌else◌, Option, Some, None}
-use Rattle.std.specs.Prelude.{IsTrue, All, AllPairs, slice_get, slice_index}
-use Rattle.std.specs.List.{list_any}
-use Rattle.std.specs.List.Sorted.{IsStrictlyIncreasing}
-use Rattle.std.proofs.lemmas.Bool.{eqb-true, eq-eqb, ne_eqb, cases_Bool, cases_eq, cases_lt, or_cases, and_parts, and_from, both_ways, cases_order}
-use Rattle.std.proofs.lemmas.Bool.Decides.{nat_tests}
-use Rattle.std.proofs.lemmas.List.{length_push, length-append, append_assoc, take_at, take-append-le, take_all, take_more}
+use Rattle.std.proofs.Common.{◌≡◌, ℕ, zero, suc, ◌+◌, ◌*◌, ◌<◌, ◌≤◌, not, ◌&&◌, ◌==◌, List, [], ◌∷◌, ◌++◌, length, get_or, take, refl, ap, sym, ◌∙◌, subst, arith, ◌⊎◌, inl, inr, ⊎_elim, Some}
+use Rattle.std.specs.Prelude.{IsTrue, slice_get}
+use Rattle.std.proofs.lemmas.Bool.{cases_lt, or_cases, and_parts}
+use Rattle.std.proofs.lemmas.List.{length_push, length-append, append_assoc, take_at, take-append-le}
 use Rattle.std.proofs.lemmas.List.Elements.{All-push, All-weaker}
 use Rattle.std.proofs.lemmas.List.Quantifiers.{all_pairs_push}
-use Rattle.std.proofs.lemmas.List.Folds.{list_any-append}
-use Rattle.std.proofs.lemmas.Option.{slice_get_within, slice_get-get_or, get_or_from_slice_get}
+use Rattle.std.proofs.lemmas.Option.{slice_get_within}
 use Rattle.ground_loop.specs.declared.entry.Entry.{Entry}
-use Rattle.ground_loop.specs.declared.entry.Origin.{Origin}
 use Rattle.ground_loop.specs.declared.entry.Origin.TheVariants.{Resolvent}
 use Rattle.ground_loop.specs.declared.search.sets.Sets.{Sets}
 use Rattle.ground_loop.specs.declared.search.saturation.Saturation.{Saturation}
-use Rattle.ground_loop.specs.declared.search.saturation.Progress.{Progress}
 use Rattle.ground_loop.specs.declared.search.saturation.Progress.TheVariants.{Empty, Spent, Open}
-use Rattle.ground_loop.specs.Codes.{has_number, occurrences, complement_code, HasBoth, LacksBoth, IsCodeResolvent, resolvent_has}
-use Rattle.ground_loop.specs.Sets.{codes_at, HasSet, IsProper, AreSets, Adds, AddsNew, IsBalanced, waiting_entries}
-use Rattle.ground_loop.specs.Saturation.{Meets, IsSettled, Pairing, HasPairings, IsResolved, Among, Pairs, Partly, IsMade, Extends, Resolves}
-use Rattle.ground_loop.proofs.SearchCodeLemmas.{number_place, number_at}
-use Rattle.ground_loop.proofs.SearchSetLemmas.{codes_at-append, codes_at-last}
+use Rattle.ground_loop.specs.Codes.{has_number, LacksBoth, IsCodeResolvent}
+use Rattle.ground_loop.specs.Sets.{codes_at, HasSet, AreSets, Adds, AddsNew, waiting_entries}
+use Rattle.ground_loop.specs.Saturation.{Meets, IsSettled, Pairing, HasPairings, IsResolved, IsMade, Extends, Resolves}
+use Rattle.ground_loop.proofs.SearchSetLemmas.{codes_at-append}
 
 -- ---- how entries grow
 

@@ -1,22 +1,22 @@
 -- Facts about keys and the table of atoms.
-use Rattle.std.proofs.Common.{◌≡◌, ℕ, zero, suc, ◌+◌, ◌-◌, ◌*◌, ◌<◌, ◌≤◌, Bool, true, false, ◌||◌, ◌==◌, cond, eqb, nat_eq, List, [], ◌∷◌, ◌++◌, length, map, get_or, take, refl, ap, sym, ◌∙◌, subst, arith, ◌⊎◌, inl, inr, ⊎_elim, Option, Some, None, Vec, Global}
-use Rattle.std.specs.Prelude.{IsTrue, IsFalse, All, AllPairs, slice_get}
+use Rattle.std.proofs.Common.{◌≡◌, ℕ, zero, suc, ◌+◌, ◌*◌, ◌<◌, Bool, true, false, ◌||◌, cond, nat_eq, List, [], ◌∷◌, ◌++◌, length, map, get_or, take, refl, ap, sym, ◌∙◌, subst, arith, ◌⊎◌, inl, inr, ⊎_elim, Some, None, Vec, Global}
+use Rattle.std.specs.Prelude.{IsFalse, All, AllPairs, slice_get}
 use Rattle.std.specs.List.{list_any}
 use Rattle.std.specs.List.Sorted.{IsPermutation}
 use Rattle.std.specs.Map.{lookup}
 use Rattle.std.specs.Cmp.Lexicographic.{pointwise, bytes_decides}
-use Rattle.std.proofs.lemmas.Bool.{cases_Bool, cases_order, both_ways, or_right, or_left, eq-eqb, false_from_ne_true}
-use Rattle.std.proofs.lemmas.List.{append_assoc, length_push, length-append, get_or_push}
+use Rattle.std.proofs.lemmas.Bool.{both_ways, or_right, or_left, false_from_ne_true}
+use Rattle.std.proofs.lemmas.List.{append_assoc, length_push}
 use Rattle.std.proofs.lemmas.List.Elements.{All-cons, All-weaker}
 use Rattle.std.proofs.lemmas.List.Sorted.{All-permutation, list_any-IsPermutation}
 use Rattle.std.proofs.lemmas.List.Quantifiers.{all_pairs_push}
-use Rattle.std.proofs.lemmas.Option.{slice_get_within, slice_get-get_or, get_or_from_slice_get, same_Some}
+use Rattle.std.proofs.lemmas.Option.{slice_get_within, slice_get-get_or, get_or_from_slice_get}
 use Rattle.std.proofs.lemmas.Map.Entries.{place_from_lookup}
-use Rattle.fol_base.specs.Tree.{Tree, variable, application, Trees, no_trees, tree_then, trees_of, tree_eq, trees_size, tree_size}
+use Rattle.fol_base.specs.Tree.{Tree, variable, application, Trees, no_trees, tree_then, trees_of, tree_eq}
 use Rattle.fol_base.specs.Ground.{trees_count}
 use Rattle.fol_base.specs.Term.{tree_of}
 use Rattle.fol_base.specs.declared.term.Term.{Term}
-use Rattle.fol_base.proofs.TreeLemmas.{tree_eq-true, tree_eq-refl}
+use Rattle.fol_base.proofs.TreeLemmas.{tree_eq-true}
 use Rattle.fol_base.proofs.ListLemmas.{map-take_more_item}
 use Rattle.ground_loop.specs.declared.search.atoms.Atoms.{Atoms}
 use Rattle.ground_loop.specs.Table.{key_of, keys_of, IsTable, Grows, Numbers}

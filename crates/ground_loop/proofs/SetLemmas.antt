@@ -1,18 +1,17 @@
 -- Facts about sets of literals, and about the sets of codes over a table of different atoms.
-use Rattle.std.proofs.Common.{◌≡◌, ℕ, zero, suc, ◌+◌, ◌-◌, ◌*◌, ◌/◌, ◌%◌, ◌<◌, ◌≤◌, Bool, true, false, not, ◌&&◌, ◌||◌, ◌==◌, cond, List, [], ◌∷◌, ◌++◌, length, map, get_or, refl, ap, sym, ◌∙◌, subst, arith, ◌⊎◌, inl, inr, ⊎_elim, Some, None}
+use Rattle.std.proofs.Common.{◌≡◌, ℕ, zero, suc, ◌+◌, ◌*◌, ◌/◌, ◌%◌, ◌<◌, Bool, true, false, not, ◌&&◌, ◌||◌, ◌==◌, cond, List, [], ◌∷◌, length, map, refl, ap, sym, ◌∙◌, subst, arith, ◌⊎◌, inl, inr, ⊎_elim}
 use mathlib.Core.Bool.{beq}
-use Rattle.std.specs.Prelude.{IsTrue, IsFalse, All, AllPairs, filter, slice_get}
-use Rattle.std.specs.List.{list_any, list_all}
+use Rattle.std.specs.Prelude.{IsTrue, IsFalse, AllPairs}
+use Rattle.std.specs.List.{list_any}
 use Rattle.std.proofs.lemmas.Bool.{cases_Bool, cases_order, both_ways, or_cases, or_left, or_right, and_parts, and_from, eq-eqb, ne_eqb, eqb-true, false_from_ne_true, not-true, not_from_false}
 use Rattle.std.proofs.lemmas.List.Folds.{list_any-append}
-use Rattle.std.proofs.lemmas.Option.{slice_get_within, get_or_from_slice_get}
 use Rattle.fol_base.specs.Tree.{Tree, tree_eq}
 use Rattle.fol_base.specs.Clause.{TreeLiteral, literal_eq}
 use Rattle.fol_base.specs.Interpretation.{true_tree}
 use Rattle.fol_base.proofs.TreeLemmas.{tree_eq-true, tree_eq-refl}
 use Rattle.ground_loop.specs.Resolution.{LiteralSet, has_literal, is_subset, same_set, atom_literal, complement, is_tautology, without, can_resolve, resolvent}
 use Rattle.ground_loop.specs.Entries.{atom_at, coded_literal, coded_set}
-use Rattle.ground_loop.specs.Codes.{has_number, literal_code, HasBoth, LacksBoth, IsCodeResolvent, resolvent_has}
+use Rattle.ground_loop.specs.Codes.{has_number, HasBoth, LacksBoth, IsCodeResolvent, resolvent_has}
 use Rattle.ground_loop.proofs.SearchCodeLemmas.{same_tests}
 
 -- ---- literals

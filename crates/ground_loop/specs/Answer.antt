@@ -1,5 +1,5 @@
 -- What the answers of the loop mean.
-use Rattle.std.specs.Prelude.{◌≡◌, ℕ, ◌≤◌, ◌⊎◌, Bool, false, not, ◌&&◌, List, [], length, All, AllPairs, Contains, Some, slice_get, IsTrue, IsFalse}
+use Rattle.std.specs.Prelude.{◌≡◌, ℕ, Bool, ◌&&◌, List, [], length, All, AllPairs, Contains, IsTrue, IsFalse}
 use Rattle.std.specs.List.{list_any}
 use Rattle.fol_base.specs.Tree.{Tree, tree_eq}
 use Rattle.fol_base.specs.Clause.{TreeClause}

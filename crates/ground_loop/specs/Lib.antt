@@ -9,3 +9,4 @@ pub mod Sets
 pub mod Table
 pub mod Saturation
 pub mod DeriveExamples
+pub mod ResolutionExamples

@@ -1,5 +1,5 @@
 -- What stands while sets of codes are closed under resolution.
-use Rattle.std.specs.Prelude.{◌≡◌, ℕ, zero, suc, ◌+◌, ◌-◌, ◌*◌, ◌^◌, ◌<◌, ◌≤◌, ◌⊎◌, ◌==◌, ◌&&◌, List, [], ◌∷◌, ◌++◌, length, take, All, AllPairs, Some, slice_get, slice_index, slice_index_or, IsTrue, if◌then◌else◌}
+use Rattle.std.specs.Prelude.{◌≡◌, ℕ, ◌+◌, ◌-◌, ◌*◌, ◌^◌, ◌<◌, ◌≤◌, ◌⊎◌, ◌==◌, ◌&&◌, List, [], ◌∷◌, ◌++◌, length, take, All, AllPairs, Some, slice_get, slice_index, slice_index_or, IsTrue, if◌then◌else◌}
 use Rattle.ground_loop.specs.declared.entry.Entry.{Entry}
 use Rattle.ground_loop.specs.declared.entry.Origin.TheVariants.{Resolvent}
 use Rattle.ground_loop.specs.declared.search.saturation.Saturation.{Saturation}

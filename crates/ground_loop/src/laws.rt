@@ -1,12 +1,28 @@
 // The laws of the loop's answers: each is the contract of a function without arguments and with an empty body.
 
-ghost use Rattle.std.specs.Prelude.{List, []};
+ghost use Rattle.std.specs.Prelude.{List, [], ◌∷◌, IsTrue, IsFalse};
 ghost use Rattle.fol_base.specs.Clause.{TreeClause};
-ghost use Rattle.ground_loop.specs.Resolution.{Follows};
-ghost use Rattle.ground_loop.specs.Answer.{HasClosedSets};
+ghost use Rattle.ground_loop.specs.Resolution.{Follows, is_tautology, same_set, can_resolve, resolvent};
+ghost use Rattle.ground_loop.specs.Answer.{HasClosedSets, HasTriples, IsClosedFor};
+ghost use Rattle.ground_loop.specs.ResolutionExamples.{p, q, is, is_not, units, implication, implied_sets};
 
 /// A form that has a closed list without the empty set: no resolutions from it reach the empty set, and so
 /// it has no refutation by resolution (Robinson 1965).
 pub fn closed_lists_refute_nothing()
     ensures none_reaches_empty { (form : List TreeClause) → HasClosedSets form → Follows form [] → ⊥ }
+{}
+
+/// Sets, resolvents, closed lists and triples on small forms: `p | p` and `~p`; and `p`, `~p | q` and the
+/// tautology `q | ~q`.
+pub fn resolution_examples()
+    ensures repeated { IsTrue (same_set (is p ∷ is p ∷ []) (is p ∷ [])) }
+    ensures other_sign { IsFalse (same_set (is p ∷ []) (is_not p ∷ [])) }
+    ensures tautology { IsTrue (is_tautology (is q ∷ is_not q ∷ [])) }
+    ensures no_tautology { IsFalse (is_tautology (is_not p ∷ is q ∷ [])) }
+    ensures sides { IsFalse (can_resolve p (is_not p ∷ is q ∷ []) (is p ∷ [])) }
+    ensures made { IsTrue (same_set (resolvent p (is p ∷ []) (is_not p ∷ is q ∷ [])) (is q ∷ [])) }
+    ensures closed { IsClosedFor implication implied_sets }
+    ensures not_closed { IsClosedFor implication ((is p ∷ []) ∷ (is_not p ∷ is q ∷ []) ∷ []) → ⊥ }
+    ensures refuted { HasClosedSets units → ⊥ }
+    ensures one_triple { HasTriples units 1 }
 {}

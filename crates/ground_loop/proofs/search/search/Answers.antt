@@ -1,8 +1,6 @@
-use Rattle.std.proofs.Common.{◌≡◌, ◌*◌, ◌∙◌, Bool, true, false, List, refl, map, ap, sym, subst, length}
+use Rattle.std.proofs.Common.{◌≡◌, ◌*◌, ◌∙◌, refl, map, ap, sym, subst, length}
 use Rattle.fol_base.specs.Literal.{clause_of}
-use Rattle.ground_loop.specs.declared.entry.Entry.{Entry}
 use Rattle.ground_loop.specs.declared.search.sets.Sets.{Sets}
-use Rattle.ground_loop.specs.declared.search.saturation.Progress.TheVariants.{Empty, Spent, Open}
 use Rattle.ground_loop.specs.Entries.{AreEntries}
 use Rattle.ground_loop.specs.Answer.{HasTriples}
 use Rattle.ground_loop.specs.Search.{ReachesEmpty}

@@ -1,7 +1,6 @@
-use Rattle.std.proofs.Common.{◌≡◌, ◌++◌, ◌∷◌, [], ℕ, List, length, map, take, refl, ap, sym, ◌∙◌, subst, arith}
+use Rattle.std.proofs.Common.{◌≡◌, ◌++◌, ◌∷◌, [], length, map, ap, sym, ◌∙◌, subst, arith}
 use Rattle.std.proofs.lemmas.List.{take_all, length-map}
 use Rattle.fol_base.specs.Literal.{literal_of}
-use Rattle.fol_base.specs.Clause.{TreeLiteral}
 use Rattle.fol_base.proofs.ListLemmas.{map-take_more_item}
 use Rattle.ground_loop.proofs.SearchInputLemmas.{CodesSoFar, codes_none, codes_more, codes_done, literal_there}
 use Rattle.ground_loop.proofs.search.clause.clause_codes.Goals as goal

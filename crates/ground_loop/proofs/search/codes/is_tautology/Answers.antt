@@ -1,4 +1,4 @@
-use Rattle.std.proofs.Common.{◌≡◌, ℕ, ◌+◌, ◌-◌, ◌/◌, ◌<◌, get_or, length, arith}
+use Rattle.std.proofs.Common.{arith}
 use Rattle.ground_loop.proofs.SearchCodeLemmas.{HasBoth-before, LacksBoth-from_neighbours}
 use Rattle.ground_loop.proofs.search.codes.is_tautology.Goals as goal
 

@@ -1,4 +1,3 @@
-use Rattle.std.proofs.Common.{refl}
 use Rattle.ground_loop.proofs.SearchCodeLemmas.{resolvent_members}
 use Rattle.ground_loop.proofs.search.codes.resolvent_codes.Goals as goal
 

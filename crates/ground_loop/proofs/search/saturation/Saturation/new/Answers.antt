@@ -1,5 +1,5 @@
-use Rattle.std.proofs.Common.{refl, arith, ◌≡◌, ◌*◌, length, ◌∙◌}
-use Rattle.ground_loop.proofs.SearchHoldLemmas.{starts, no_holders_more}
+use Rattle.std.proofs.Common.{refl, arith, ◌≡◌, ◌*◌, length}
+use Rattle.ground_loop.proofs.SearchHoldLemmas.{starts}
 use Rattle.ground_loop.proofs.search.saturation.Saturation.new.Goals as goal
 
 pub returns-clause-starts : goal.returns-clause-starts

@@ -1,8 +1,7 @@
-use Rattle.std.proofs.Common.{refl, ◌+◌, ap, sym, ◌∙◌, subst, arith, length, ◌≡◌, ◌<◌}
-use Rattle.ground_loop.specs.declared.search.saturation.Progress.TheVariants.{Open}
+use Rattle.std.proofs.Common.{refl, ◌+◌, ap, sym, ◌∙◌, subst, arith, length, ◌≡◌}
 use Rattle.ground_loop.specs.declared.search.sets.Sets.{Sets}
 use Rattle.ground_loop.specs.Sets.{codes_at}
-use Rattle.ground_loop.specs.Saturation.{IsResolving, IsBetween, Extends, Moves}
+use Rattle.ground_loop.specs.Saturation.{IsResolving, Extends}
 use Rattle.ground_loop.proofs.SearchStepLemmas.{codes_read, Extends-none, Extends-trans, codes_at-kept}
 use Rattle.ground_loop.proofs.SearchHoldLemmas.{popped_resolving, holds_between, Moves-after, goes_on, work_held}
 use Rattle.ground_loop.proofs.search.saturation.Saturation.process.Goals as goal

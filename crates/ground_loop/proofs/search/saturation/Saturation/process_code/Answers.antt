@@ -1,10 +1,9 @@
-use Rattle.std.proofs.Common.{◌≡◌, ℕ, ◌+◌, ◌/◌, ◌<◌, ◌≤◌, length, get_or, refl, ap, sym, ◌∙◌, subst, arith, rules}
+use Rattle.std.proofs.Common.{◌≡◌, ℕ, ◌/◌, ◌<◌, length, get_or, refl, ap, sym, ◌∙◌, subst, arith}
 use Rattle.ground_loop.specs.declared.search.saturation.Progress.TheVariants.{Open}
 use Rattle.ground_loop.specs.Codes.{complement_code}
-use Rattle.ground_loop.specs.Sets.{codes_at}
-use Rattle.ground_loop.specs.Saturation.{IsResolving, Resolves, Extends, Pairs, code_at, partners_at}
+use Rattle.ground_loop.specs.Saturation.{IsResolving, Resolves, Extends, Pairs}
 use Rattle.ground_loop.proofs.SearchStepLemmas.{Extends-none, Extends-trans, codes_at-kept}
-use Rattle.ground_loop.proofs.SearchPartnerLemmas.{StepIn, step_meets}
+use Rattle.ground_loop.proofs.SearchPartnerLemmas.{step_meets}
 use Rattle.ground_loop.proofs.SearchGivenLemmas.{step_open, step_ends, next_code, code_in_range, Pairs-positive, Pairs-negative, step_in, length_read, code_kept, partners_kept, work_less, unspent}
 use Rattle.ground_loop.proofs.search.saturation.Saturation.process_code.Goals as goal
 use Rattle.ground_loop.proofs.search.saturation.Saturation.process_code.Goals.{then-code-eq0, else-code-eq0}

@@ -1,4 +1,4 @@
-use Rattle.std.proofs.Common.{◌≡◌, ◌+◌, ◌<◌, ◌≤◌, length}
+use Rattle.std.proofs.Common.{◌≡◌, ◌<◌, ◌≤◌, length}
 use Rattle.ground_loop.specs.Sets.{codes_at}
 use Rattle.ground_loop.specs.Saturation.{IsResolving, Extends, work, code_at, partners_at}
 use Rattle.ground_loop.proofs.search.saturation.Saturation.process_code.Given as goal

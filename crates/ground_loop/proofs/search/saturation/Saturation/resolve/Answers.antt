@@ -1,7 +1,5 @@
-use Rattle.std.proofs.Common.{◌≡◌, ℕ, ◌+◌, ◌*◌, ◌<◌, List, [], length, rules, refl, ap, sym, ◌∙◌, arith}
+use Rattle.std.proofs.Common.{◌≡◌, [], rules, refl, arith}
 use Rattle.std.proofs.lemmas.List.{nil_from_length}
-use Rattle.ground_loop.specs.Codes.{IsCodeResolvent}
-use Rattle.ground_loop.specs.Sets.{codes_at}
 use Rattle.ground_loop.proofs.SearchStepLemmas.{resolvent_read, Resolves-empty, Resolves-open, Resolves-spent}
 use Rattle.ground_loop.proofs.search.saturation.Saturation.resolve.Goals as goal
 

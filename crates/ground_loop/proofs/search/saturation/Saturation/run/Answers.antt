@@ -1,7 +1,6 @@
-use Rattle.std.proofs.Common.{◌≡◌, ◌+◌, ◌≤◌, refl, ap, sym, ◌∙◌, subst, arith, length}
+use Rattle.std.proofs.Common.{refl, ap, sym, ◌∙◌, subst, arith, length}
 use Rattle.ground_loop.specs.declared.search.saturation.Saturation.{Saturation}
-use Rattle.ground_loop.specs.declared.search.saturation.Progress.TheVariants.{Open}
-use Rattle.ground_loop.specs.Saturation.{IsBetween, IsPopped, Extends, Moves, work}
+use Rattle.ground_loop.specs.Saturation.{IsBetween, IsPopped, Extends, Moves}
 use Rattle.ground_loop.proofs.SearchStepLemmas.{Extends-none, Extends-trans}
 use Rattle.ground_loop.proofs.SearchHoldLemmas.{pops, finishes, Moves-after, goes_on}
 use Rattle.ground_loop.proofs.search.saturation.Saturation.run.Goals as goal

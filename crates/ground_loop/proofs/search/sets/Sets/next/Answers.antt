@@ -1,5 +1,4 @@
-use Rattle.std.proofs.Common.{ap, sym, ◌∙◌, map}
-use Rattle.std.specs.BinaryHeap.{heap_items}
+use Rattle.std.proofs.Common.{sym}
 use Rattle.std.proofs.lemmas.List.Sorted.{IsPermutation-map}
 use Rattle.ground_loop.proofs.SearchSetLemmas.{occurrences-permutation}
 use Rattle.ground_loop.proofs.search.sets.Sets.next.Goals as goal

@@ -1,0 +1,33 @@
+-- Small forms for the examples of resolution: p and q are propositions.
+use Rattle.std.specs.Prelude.{true, false, List, [], ◌∷◌, map}
+use Rattle.fol_base.specs.Tree.{Tree}
+use Rattle.fol_base.specs.Clause.{TreeLiteral, TreeClause}
+use Rattle.ground_loop.specs.Resolution.{LiteralSet, atom_literal}
+use Rattle.ground_loop.specs.DeriveExamples.{proposition}
+
+abbrev pub p : Tree
+p = proposition 1
+
+abbrev pub q : Tree
+q = proposition 2
+
+abbrev pub is : Tree → TreeLiteral
+is atom = atom_literal true atom
+
+abbrev pub is_not : Tree → TreeLiteral
+is_not atom = atom_literal false atom
+
+abbrev clause : LiteralSet → TreeClause
+clause s = record { literals = s; names = [] }
+
+-- p | p, and ~p
+abbrev pub units : List TreeClause
+units = map clause ((is p ∷ is p ∷ []) ∷ (is_not p ∷ []) ∷ [])
+
+-- p, ~p | q, and the tautology q | ~q
+abbrev pub implication : List TreeClause
+implication = map clause ((is p ∷ []) ∷ (is_not p ∷ is q ∷ []) ∷ (is q ∷ is_not q ∷ []) ∷ [])
+
+-- p, ~p | q and q
+abbrev pub implied_sets : List LiteralSet
+implied_sets = (is p ∷ []) ∷ (is_not p ∷ is q ∷ []) ∷ (is q ∷ []) ∷ []
