@@ -1,5 +1,5 @@
 -- How the lines of a derivation are printed.
-use Rattle.std.specs.Prelude.{ℕ, zero, suc, ◌+◌, Bool, true, false, ◌==◌, List, [], ◌∷◌, ◌++◌, map, Option, None, Some, unwrap_or, slice_get, if◌then◌else◌, codes}
+use Rattle.std.specs.Prelude.{ℕ, suc, List, [], ◌∷◌, ◌++◌, map, Option, None, Some, unwrap_or, slice_get, if◌then◌else◌, codes}
 use Rattle.std.specs.Fmt.{decimal}
 use Rattle.fol_base.specs.Tree.{Tree}
 use Rattle.fol_base.specs.Clause.{TreeLiteral, TreeClause}
@@ -7,10 +7,11 @@ use Rattle.fol_base.specs.Literal.{clause_of}
 use Rattle.fol_base.specs.declared.clause.Side.{Side}
 use Rattle.fol_base.specs.declared.clause.Side.TheVariants.{Left, Right}
 use Rattle.kernel_steps.specs.declared.step.Step.{Step}
-use Rattle.kernel_steps.specs.declared.step.Step.TheVariants.{Input, Negate, Clausify, Para, Refl, Factor, Merge, Component, Split, Chain}
+use Rattle.kernel_steps.specs.declared.step.Step.TheVariants.{Input, Negate, Clausify, Para, Refl, Merge}
 use Rattle.kernel_steps.specs.declared.step.Line.{Line}
+use Rattle.kernel_steps.specs.Derivation.{is_input_of}
 use Rattle.tptp_reader.specs.declared.problem.GroundRole.{GroundRole}
-use Rattle.tptp_reader.specs.declared.problem.GroundRole.TheVariants.{Axiom, NegatedConjecture}
+use Rattle.tptp_reader.specs.Syntax.{role_word}
 use Rattle.tptp_reader.specs.declared.problem.GroundProblem.{GroundProblem}
 use Rattle.ground_text.specs.Names.{name_text, shown}
 use Rattle.ground_text.specs.Terms.{SymbolNames, name_at, symbol_names, term_text, literals_text}
@@ -26,10 +27,6 @@ pub record Source : Type 0 where
 abbrev pub source_of : List ℕ → GroundProblem → Source
 source_of file p =
     record { file = shown file; names = p.names; roles = p.roles; clauses = map clause_of p.clauses; symbols = symbol_names p.symbols }
-
-abbrev pub role_word : GroundRole → List ℕ
-role_word Axiom = codes "axiom"
-role_word NegatedConjecture = codes "negated_conjecture"
 
 -- of the formula with that number, empty where there is none
 abbrev pub role_text : Option GroundRole → List ℕ
@@ -69,15 +66,10 @@ bind_text names ts = codes "bind(" ++ bracketed (map (term_text names) ts) ++ co
 abbrev pub chosen_text : ℕ → Side → List ℕ
 chosen_text i s = decimal i ++ codes "," ++ side_text s
 
--- whether a line is the input line of that formula
-abbrev pub is_input : ℕ → Step → Bool
-is_input place (Input p) = p == place
-is_input place _ = false
-
 -- the number of the first input line of a formula; how many lines there are where there is none
 abbrev pub input_line : List Line → ℕ → ℕ
 input_line [] place = 0
-input_line (l ∷ ls) place = if is_input place l.step then 0 else suc (input_line ls place)
+input_line (l ∷ ls) place = if is_input_of place l.step then 0 else suc (input_line ls place)
 
 -- a formula of the problem, with its file and its name there
 abbrev pub formula_head : Source → ℕ → ℕ → List ℕ

@@ -1,19 +1,7 @@
 -- How names are printed, and the names that a report shows of a file.
-use Rattle.std.specs.Prelude.{ℕ, Bool, true, false, not, ◌&&◌, ◌||◌, ◌==◌, nat_le, List, [], ◌∷◌, ◌++◌, map, flat_map, take, length, ◌-◌, nat_eq, if◌then◌else◌, codes}
-use Rattle.std.specs.List.{list_all, ends_with}
-
--- a small letter
-abbrev pub is_small : ℕ → Bool
-is_small b = nat_le 97 b && nat_le b 122
-
--- a letter, a digit or an underscore
-abbrev pub is_letter_or_digit : ℕ → Bool
-is_letter_or_digit b = is_small b || (nat_le 65 b && nat_le b 90 || (nat_le 48 b && nat_le b 57 || b == 95))
-
--- a small letter, and then letters, digits and underscores
-abbrev pub is_lower_word : List ℕ → Bool
-is_lower_word [] = false
-is_lower_word (b ∷ bs) = is_small b && list_all is_letter_or_digit bs
+use Rattle.std.specs.Prelude.{ℕ, Bool, false, ◌&&◌, ◌||◌, ◌==◌, nat_le, List, [], ◌∷◌, ◌++◌, map, flat_map, take, length, ◌-◌, nat_eq, if◌then◌else◌, codes}
+use Rattle.std.specs.List.{ends_with}
+use Rattle.fol_base.specs.Spelling.{is_lower_word}
 
 -- between quotes, a quote and a backslash stand behind a backslash
 abbrev pub escaped_byte : ℕ → List ℕ

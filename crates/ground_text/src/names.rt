@@ -2,7 +2,8 @@
 
 ghost use Rattle.std.specs.Prelude.{◌≡◌, ◌++◌, flat_map, IfOk};
 ghost use Rattle.std.specs.List.{list_all};
-ghost use Rattle.ground_text.specs.Names.{is_lower_word as lower_word, is_small as small, is_letter_or_digit as letter_or_digit, escaped_byte, name_text, shown_byte as shown_as, shown, problem_name, after_last_slash as behind_slash, without_suffix as before_suffix};
+ghost use Rattle.fol_base.specs.Spelling.{is_lower_word as lower_word, is_lower as small, is_word_byte as letter_or_digit};
+ghost use Rattle.ground_text.specs.Names.{escaped_byte, name_text, shown_byte as shown_as, shown, problem_name, after_last_slash as behind_slash, without_suffix as before_suffix};
 
 use crate::page::Page;
 use fol_base::Mem;

@@ -13,3 +13,4 @@ pub mod SideLemmas
 pub mod ProblemLemmas
 pub mod GroundForm
 pub mod GroundFormLemmas
+pub mod Examples

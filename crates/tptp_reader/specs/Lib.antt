@@ -6,4 +6,5 @@ pub mod Numbering
 pub mod Script
 pub mod Building
 pub mod GroundText
-pub mod Example
+pub mod Examples
+pub mod Messages

@@ -15,6 +15,11 @@ pub enum GroundFault {
 }
 
 impl fmt::Display for GroundFault {
+    ghost use Rattle.std.specs.Prelude.{Some};
+    ghost use Rattle.tptp_reader.specs.Messages.{ground_fault_text};
+
+    ghost output = { λ fault. Some (ground_fault_text fault) };
+
     fn fmt<W: fmt::Write>(&self, f: &mut fmt::Formatter<W>) -> fmt::Result {
         match self {
             GroundFault::NotBuilt => write!(f, "not a ground problem"),

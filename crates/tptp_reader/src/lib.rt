@@ -1,13 +1,15 @@
 // Ground problems, read from the bytes of a text.
 #![tactic(auto)]
 
-ghost use Rattle.std.specs.Prelude.{◌≡◌, ◌≤◌, IfOk, List, ℕ, map, sum_by};
+ghost use Rattle.std.specs.Prelude.{◌≡◌, ◌≤◌, IfOk, true, false, List, [], ◌∷◌, ℕ, map, sum_by, codes};
 ghost use Rattle.fol_base.specs.Clause.{clause_size};
 ghost use Rattle.fol_base.specs.Literal.{clause_of};
 ghost use Rattle.tptp_reader.specs.Syntax.{NamedFormula};
 ghost use Rattle.tptp_reader.specs.Script.{AreOutlines};
 ghost use Rattle.fol_base.specs.GroundForm.{IsGroundForm, form_size};
-ghost use Rattle.tptp_reader.specs.GroundText.{IsGroundText, IsWithinLimits, IsReadAs};
+ghost use Rattle.tptp_reader.specs.GroundText.{IsGroundText, IsWithinLimits, IsReadAs, symbol_total};
+ghost use Rattle.tptp_reader.specs.Numbering.{true_symbol, symbols_of, numbered_clause};
+ghost use Rattle.tptp_reader.specs.Examples.{two_units, two_units_clauses, applied, symbol, negated};
 
 mod building;
 mod fault;
@@ -70,6 +72,15 @@ pub fn read_ground(alloc: Global, bytes: &[u8]) -> Result<GroundProblem, GroundF
 /// A text spells at most one list of formulas, so that each answer is the only right one.
 pub fn one_reading()
     ensures { (bytes : List ℕ) (fs gs : List NamedFormula) → IsGroundText bytes fs → IsGroundText bytes gs → fs ≡ gs }
+{}
+
+/// What small texts spell: symbols by first occurrence, a name used in two ways as two symbols, and sizes.
+pub fn reading_examples()
+    ensures spelled { IsGroundText (codes "cnf(b,axiom,~p).") negated }
+    ensures symbols { symbols_of two_units ≡ true_symbol ∷ symbol (codes "p") true 0 ∷ [] }
+    ensures total { symbol_total two_units ≡ 4 }
+    ensures clauses { map (numbered_clause (symbols_of two_units)) two_units ≡ two_units_clauses }
+    ensures two_ways { symbols_of applied ≡ true_symbol ∷ symbol (codes "f") true 1 ∷ symbol (codes "f") false 0 ∷ [] }
 {}
 
 /// The names of the formulas.
