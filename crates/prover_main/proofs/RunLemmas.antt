@@ -1,6 +1,5 @@
 -- From what was delivered to what a run answers.
 use Rattle.std.proofs.Common.{◌≡◌, ℕ, Option, None, Some, List, refl, subst, sym}
-use Rattle.fol_base.specs.Clause.{TreeClause}
 use Rattle.ground_loop.specs.Answer.{IsGroundAnswer}
 use Rattle.ground_loop.specs.declared.answer.Ground.{Ground}
 use Rattle.ground_loop.specs.declared.answer.Ground.TheVariants.{Refuted}

@@ -1,5 +1,5 @@
 -- The reports, as texts.
-use Rattle.std.specs.Prelude.{ℕ, List, [], ◌++◌, codes}
+use Rattle.std.specs.Prelude.{ℕ, List, ◌++◌, codes}
 use Rattle.std.specs.Fmt.{decimal}
 use Rattle.ground_text.specs.Names.{problem_name, shown}
 

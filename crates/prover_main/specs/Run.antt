@@ -1,6 +1,5 @@
 -- What a run answers and prints, and why.
 use Rattle.std.specs.Prelude.{◌≡◌, ℕ, ◌≤◌, length, List, Option, None, Some, IfSome, IsSome, IsTrue}
-use Rattle.fol_base.specs.Clause.{TreeClause}
 use Rattle.tptp_reader.specs.Syntax.{NamedFormula}
 use Rattle.tptp_reader.specs.GroundText.{IsGroundText, IsWithinLimits, IsReadAs}
 use Rattle.tptp_reader.specs.declared.problem.GroundProblem.{GroundProblem}

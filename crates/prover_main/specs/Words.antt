@@ -1,5 +1,5 @@
 -- The rule on the words of the command line.
-use Rattle.std.specs.Prelude.{ℕ, Bool, true, false, not, ◌&&◌, ◌==◌, List, [], ◌∷◌, Option, None, Some, bytes_eq, if◌then◌else◌, codes}
+use Rattle.std.specs.Prelude.{ℕ, Bool, false, not, ◌&&◌, ◌==◌, List, [], ◌∷◌, Option, None, Some, bytes_eq, if◌then◌else◌, codes}
 
 -- a file word isn't empty and doesn't begin with `-`
 abbrev pub is_file_word : List ℕ → Bool

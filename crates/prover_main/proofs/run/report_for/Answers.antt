@@ -1,4 +1,4 @@
-use Rattle.std.proofs.Common.{◌≤◌, ℕ, List, length, ap, sym, subst, arith}
+use Rattle.std.proofs.Common.{◌≤◌, ℕ, List, length, sym, subst, arith}
 use Rattle.outside.specs.Library.{HoldsExactly}
 use Rattle.kernel_steps.proofs.KernelLemmas.{IfOk-change}
 use Rattle.prover_main.specs.Run.{most_file_bytes, read}
