@@ -2,3 +2,4 @@ pub mod Words
 pub mod Accepted
 pub mod Report
 pub mod Run
+pub mod AcceptedExamples

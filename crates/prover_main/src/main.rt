@@ -1,6 +1,7 @@
 // The prover: a problem in, a report out.
 #![tactic(auto)]
 
+mod laws;
 mod report;
 mod run;
 mod words;
