@@ -19,3 +19,5 @@ pub mod DeriveWhole
 pub mod DeriveExamples
 pub mod ClosedLemmas
 pub mod ResolutionExamples
+pub mod ValuationLemmas
+pub mod HerbrandModel

@@ -10,3 +10,4 @@ pub mod Table
 pub mod Saturation
 pub mod DeriveExamples
 pub mod ResolutionExamples
+pub mod Satisfaction

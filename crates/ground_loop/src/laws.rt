@@ -4,12 +4,19 @@ ghost use Rattle.std.specs.Prelude.{List, [], ◌∷◌, IsTrue, IsFalse};
 ghost use Rattle.fol_base.specs.Clause.{TreeClause};
 ghost use Rattle.ground_loop.specs.Resolution.{Follows, is_tautology, same_set, can_resolve, resolvent};
 ghost use Rattle.ground_loop.specs.Answer.{HasClosedSets, HasTriples, IsClosedFor};
+ghost use Rattle.ground_loop.specs.Satisfaction.{ClosedFormsAreSatisfied};
 ghost use Rattle.ground_loop.specs.ResolutionExamples.{p, q, is, is_not, units, implication, implied_sets};
 
 /// A form that has a closed list without the empty set: no resolutions from it reach the empty set, and so
 /// it has no refutation by resolution (Robinson 1965).
 pub fn closed_lists_refute_nothing()
     ensures none_reaches_empty { (form : List TreeClause) → HasClosedSets form → Follows form [] → ⊥ }
+{}
+
+/// A form that has a closed list without the empty set is true in a finite interpretation, whatever its predicates:
+/// ground resolution is complete (Robinson 1965).
+pub fn closed_forms_are_satisfied()
+    ensures { ClosedFormsAreSatisfied }
 {}
 
 /// Sets, resolvents, closed lists and triples on small forms: `p | p` and `~p`; and `p`, `~p | q` and the

@@ -1,0 +1,25 @@
+-- What a closed list without the empty set means: the form is true somewhere (completeness of ground resolution, Robinson 1965).
+use Rattle.std.specs.Prelude.{ℕ, Bool, List, IsTrue}
+use Rattle.std.specs.List.{list_all}
+use Rattle.fol_base.specs.Clause.{TreeClause}
+use Rattle.fol_base.specs.Kind.{is_predicate_term}
+use Rattle.fol_base.specs.GroundForm.{IsGroundForm}
+use Rattle.fol_base.specs.Interpretation.{Interpretation, IsInterpretation, clauses_true}
+use Rattle.kernel_steps.specs.Soundness.{ground_clauses}
+use Rattle.ground_loop.specs.Answer.{HasClosedSets}
+
+-- each atom is a predicate applied to function terms
+abbrev pub are_predicate_atoms : (ℕ → Bool) → List TreeClause → Bool
+are_predicate_atoms is_predicate form =
+    list_all (λ (c : TreeClause). list_all (λ l. is_predicate_term is_predicate l.left) c.literals) form
+
+-- a finite interpretation makes the whole form true
+pub record Satisfied (is_predicate : ℕ → Bool) (form : List TreeClause) : Type 0 where
+  pub interpretation : Interpretation
+  pub is_one : IsInterpretation is_predicate interpretation
+  pub makes_true : IsTrue (clauses_true interpretation (ground_clauses form))
+
+abbrev pub ClosedFormsAreSatisfied : Type 0
+ClosedFormsAreSatisfied =
+    (is_predicate : ℕ → Bool) (form : List TreeClause)
+    → IsGroundForm form → IsTrue (are_predicate_atoms is_predicate form) → HasClosedSets form → Satisfied is_predicate form
