@@ -1,8 +1,10 @@
 -- From what was delivered to what a run answers.
 use Rattle.std.proofs.Common.{◌≡◌, ℕ, Option, None, Some, List, refl, subst, sym}
-use Rattle.ground_loop.specs.Answer.{IsGroundAnswer}
+use Rattle.ground_loop.specs.Answer.{HasClosedSets, IsGroundAnswer}
+use Rattle.ground_loop.proofs.HerbrandModel.{closed_forms_are_satisfied}
+use Rattle.tptp_reader.proofs.KindLemmas.{IsReadAs-kinds}
 use Rattle.ground_loop.specs.declared.answer.Ground.{Ground}
-use Rattle.ground_loop.specs.declared.answer.Ground.TheVariants.{Refuted}
+use Rattle.ground_loop.specs.declared.answer.Ground.TheVariants.{Refuted, Closed}
 use Rattle.kernel_steps.specs.Derivation.{IsSourcedRefutation}
 use Rattle.kernel_steps.specs.declared.step.Line.{Line}
 use Rattle.tptp_reader.specs.GroundText.{IsReadAs}
@@ -12,8 +14,8 @@ use Rattle.prover_main.specs.Words.{proved_file}
 use Rattle.fol_base.specs.GroundForm.{IsGroundForm}
 use Rattle.kernel_steps.proofs.SoundLemmas.{ground_refutations_herbrand_refute}
 use Rattle.prover_main.specs.Accepted.{form_of, is_predicate_of}
-use Rattle.prover_main.specs.Report.{usage_report, refuted_report}
-use Rattle.prover_main.specs.Run.{most_inferences, IsDueOn, refuted, IsDueFor, Outside, IsDue, Taken, Delivered, all_taken, prefix_taken, IsRun, whole, cut_off}
+use Rattle.prover_main.specs.Report.{usage_report, refuted_report, closed_report}
+use Rattle.prover_main.specs.Run.{most_inferences, IsDueOn, refuted, closed, IsDueFor, Outside, IsDue, Taken, Delivered, all_taken, prefix_taken, IsRun, whole, cut_off}
 
 pub run_usage :
     (words : List (List ℕ)) (outside : Outside) (taken : Taken) (status : ℕ)
@@ -52,6 +54,23 @@ due_refuted bytes file text problem answer lines read ground is e printed =
       accepted = record { lines = lines; spells = refl; refutes = sourced };
       herbrand = λ functions functions_alone constant.
           ground_refutations_herbrand_refute (is_predicate_of problem) functions (form_of problem) lines functions_alone constant ground sourced.refutes;
+      prints = printed;
+    })
+
+pub due_closed :
+    (bytes file text : List ℕ) (problem : GroundProblem) (answer : Ground)
+    → IsReadAs bytes problem → IsGroundForm (form_of problem)
+    → IsGroundAnswer (form_of problem) most_inferences answer → answer ≡ Closed
+    → text ≡ closed_report file → IsDueOn bytes file 10 text
+due_closed bytes file text problem answer read ground is e printed =
+    let P : Ground → Type 0 = IsGroundAnswer (form_of problem) most_inferences in
+    let sets : HasClosedSets (form_of problem) = subst P e is in
+    closed refl (record {
+      problem = problem;
+      is_read = read;
+      closed_sets = sets;
+      satisfied =
+          closed_forms_are_satisfied (is_predicate_of problem) (form_of problem) ground (IsReadAs-kinds bytes problem read) sets;
       prints = printed;
     })
 

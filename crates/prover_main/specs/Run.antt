@@ -7,6 +7,7 @@ use Rattle.outside.specs.Faults.{Rose}
 use Rattle.outside.specs.Library.{Holdings, HoldsExactly, FoundMore}
 use Rattle.outside.specs.Sink.{with_bytes, HasPrefixAfter}
 use Rattle.ground_loop.specs.Answer.{HasClosedSets, HasTriples}
+use Rattle.ground_loop.specs.Satisfaction.{Satisfied}
 use Rattle.prover_main.specs.Words.{proved_file}
 use Rattle.fol_base.specs.Ground.{FunctionSymbol, has_constant}
 use Rattle.fol_base.specs.Kind.{are_function_symbols}
@@ -48,11 +49,12 @@ pub record IsSpentBy (bytes file text : List ℕ) : Type 0 where
   pub triples : HasTriples (form_of problem) most_inferences
   pub prints : text ≡ spent_report file most_inferences
 
--- a closed list of sets without the empty set
+-- a closed list of sets without the empty set, and so a finite interpretation that makes all clauses true
 pub record IsClosedBy (bytes file text : List ℕ) : Type 0 where
   pub problem : GroundProblem
   pub is_read : IsReadAs bytes problem
   pub closed_sets : HasClosedSets (form_of problem)
+  pub satisfied : Satisfied (is_predicate_of problem) (form_of problem)
   pub prints : text ≡ closed_report file
 
 -- the status, the report and their cause, for a file with these bytes

@@ -14,3 +14,4 @@ pub mod ProblemLemmas
 pub mod GroundForm
 pub mod GroundFormLemmas
 pub mod Examples
+pub mod KindLemmas

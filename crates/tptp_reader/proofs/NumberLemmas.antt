@@ -66,7 +66,7 @@ any-end p (k ∷ known) s e = by (p k) (any-end p known s e)
     by false h = h
 
 -- a symbol that was added is there, at the place that it was given
-with_symbol-there : (known : List SymbolKey) (s : SymbolKey) → list_any (same_symbol s) (with_symbol known s) ≡ true
+pub with_symbol-there : (known : List SymbolKey) (s : SymbolKey) → list_any (same_symbol s) (with_symbol known s) ≡ true
 with_symbol-there known s = by (list_any (same_symbol s) known) refl
   where
     by : (t : Bool) → list_any (same_symbol s) known ≡ t → list_any (same_symbol s) (if t then known else known ++ s ∷ []) ≡ true
@@ -81,7 +81,7 @@ with_symbol-number known s = by (list_any (same_symbol s) known) refl
     by false e = place-end (same_symbol s) known s (same_symbol-refl s) e
 
 -- and stays there
-with_symbol-keeps :
+pub with_symbol-keeps :
     (known : List SymbolKey) (s u : SymbolKey)
     → list_any (same_symbol u) known ≡ true
     → (list_any (same_symbol u) (with_symbol known s) ≡ true) × (number_of (with_symbol known s) u ≡ number_of known u)

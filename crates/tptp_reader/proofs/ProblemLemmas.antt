@@ -77,11 +77,11 @@ ground_text-same bytes fs gs h k =
     (sym (IsTokenText-tokens bytes (formulas_text fs []) h) ∙ IsTokenText-tokens bytes (formulas_text gs []) k)
 
 -- words have letters
-abbrev IsNamed : List ℕ → Type 0
+abbrev pub IsNamed : List ℕ → Type 0
 IsNamed [] = ⊥
 IsNamed (b ∷ bs) = Unit {0}
 
-abbrev HasLetters : Token → Type 0
+abbrev pub HasLetters : Token → Type 0
 HasLetters (word w) = IsNamed w
 HasLetters left_bracket = Unit {0}
 HasLetters right_bracket = Unit {0}
@@ -91,7 +91,7 @@ HasLetters negation = Unit {0}
 HasLetters full_stop = Unit {0}
 HasLetters unknown = Unit {0}
 
-abbrev AllLetters : List Token → Type 0
+abbrev pub AllLetters : List Token → Type 0
 AllLetters = AllByRecursion HasLetters
 
 spelled-letters : (t : Token) (bs : List ℕ) → IsSpelling t bs → HasLetters t
@@ -105,7 +105,7 @@ spelled-letters negation bs h = tt
 spelled-letters full_stop bs h = tt
 spelled-letters unknown bs h = tt
 
-text-letters : (bytes : List ℕ) (ts : List Token) → IsTokenText bytes ts → AllLetters ts
+pub text-letters : (bytes : List ℕ) (ts : List Token) → IsTokenText bytes ts → AllLetters ts
 text-letters bytes [] h = tt
 text-letters bytes (t ∷ ts) (blanks, spelling, rest, b, s, e, ends, inner) = (spelled-letters t spelling s, text-letters rest ts inner)
 
@@ -122,7 +122,7 @@ mutual
   more_terms-letters no_terms r h = h.1
   more_terms-letters (term_then t ts) r h = more_terms-letters ts r (term-letters t (more_terms_text ts r) h.1).1
 
-sign-letters : (b : Bool) (r : List Token) → AllLetters (sign_text b r) → AllLetters r
+pub sign-letters : (b : Bool) (r : List Token) → AllLetters (sign_text b r) → AllLetters r
 sign-letters true r h = h
 sign-letters false r h = h.1
 
@@ -150,9 +150,9 @@ formulas-letters (f ∷ fs) h =
     ((first.0, others.0), formulas-letters fs others.1.1.1)
 
 -- the first symbol stays the first
-record StartsWith (s : SymbolKey) (known : List SymbolKey) : Type 0 where
-  others : List SymbolKey
-  whole : known ≡ s ∷ others
+pub record StartsWith (s : SymbolKey) (known : List SymbolKey) : Type 0 where
+  pub others : List SymbolKey
+  pub whole : known ≡ s ∷ others
 
 starts : (s : SymbolKey) (known ss : List SymbolKey) → StartsWith s (fold with_symbol (s ∷ known) ss)
 starts s known [] = record { others = known; whole = refl }
@@ -169,7 +169,7 @@ true-zero : (known : List SymbolKey) → StartsWith true_symbol known → number
 true-zero known s = ap (λ ks. number_of ks true_symbol) s.whole
 
 -- and a symbol with letters has not
-named-positive :
+pub named-positive :
     (known : List SymbolKey) (s : SymbolKey) → StartsWith true_symbol known → IsNamed s.name → number_of known s ≡ 0 → ⊥
 named-positive known s k h e = by s.name h refl
   where
@@ -218,7 +218,7 @@ clauses-ground known (f ∷ fs) k h = (
   clauses-ground known fs k h.1,
 )
 
-symbols-start : (fs : List NamedFormula) → StartsWith true_symbol (symbols_of fs)
+pub symbols-start : (fs : List NamedFormula) → StartsWith true_symbol (symbols_of fs)
 symbols-start fs = starts true_symbol [] (flat_map formula_symbols fs)
 
 -- the clauses that are read are ground
