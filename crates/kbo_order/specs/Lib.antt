@@ -1,0 +1,2 @@
+pub mod Cmp
+pub mod Tally

@@ -1,0 +1,7 @@
+// The Knuth-Bendix order on terms, and its extension to literals and clauses.
+#![tactic(auto)]
+
+mod cmp;
+mod tally;
+
+pub use cmp::Cmp;
