@@ -1,1 +1,4 @@
 pub mod TallyLemmas
+pub mod AddedLemmas
+pub mod BlockLemmas
+pub mod BalanceLemmas

@@ -1,2 +1,4 @@
 pub mod Cmp
 pub mod Tally
+pub mod Block
+pub mod Balance

@@ -1,6 +1,7 @@
 // The Knuth-Bendix order on terms, and its extension to literals and clauses.
 #![tactic(auto)]
 
+mod balance;
 mod cmp;
 mod tally;
 

@@ -3,7 +3,7 @@
 ghost use Rattle.std.specs.Prelude.{◌≡◌, ◌+◌, ◌<◌, ◌≤◌, ◌^◌, [], ◌∷◌, drop, map, length};
 ghost use Rattle.fol_base.specs.Tree.{tree_size, trees_size, tree_variables, trees_variables, trees_of};
 ghost use Rattle.fol_base.specs.Term.{tree_of};
-ghost use Rattle.kbo_order.specs.Tally.{IsEmpty, Consistent, Added, Kept};
+ghost use Rattle.kbo_order.specs.Tally.{IsEmpty, Consistent, Added, Kept, rest_of};
 
 use fol_base::Term;
 
@@ -57,5 +57,37 @@ impl Tally {
         self.ahead += u64::from(mine == theirs);
         other.ahead -= u64::from(mine + 1 == theirs);
         self.counts[index] = mine + 1;
+    }
+
+    /// Counts the occurrences in a term on this side.
+    #[cycle(add)]
+    pub fn add(&mut self, other: &mut Tally, start: u64, term: &Term)
+        requires consistent { Consistent self.old other.old }
+        requires room { self.old.size + tree_size (tree_of term.now) < 2 ^ 63 }
+        ensures consistent { Consistent self.new other.new }
+        ensures added { Added start self.old self.new (tree_variables (tree_of term.now)) (tree_size (tree_of term.now)) }
+        ensures kept { Kept other.old other.new }
+    {
+        match term {
+            Term::Var(variable) => self.count(other, start, *variable),
+            Term::App(_, arguments) => {
+                self.size += 1;
+                self.add_from(other, start, arguments.as_slice(), 0);
+            }
+        }
+    }
+
+    /// Counts the occurrences in the terms from an index on, on this side.
+    #[cycle(add)]
+    pub fn add_from(&mut self, other: &mut Tally, start: u64, terms: &[Term], from: usize)
+        requires consistent { Consistent self.old other.old }
+        requires room { self.old.size + trees_size (rest_of terms.now from) < 2 ^ 63 }
+        ensures consistent { Consistent self.new other.new }
+        ensures added { Added start self.old self.new (trees_variables (rest_of terms.now from)) (trees_size (rest_of terms.now from)) }
+        ensures kept { Kept other.old other.new }
+    {
+        for index in from..terms.len() {
+            self.add(other, start, &terms[index]);
+        }
     }
 }

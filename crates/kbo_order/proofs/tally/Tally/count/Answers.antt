@@ -1,4 +1,5 @@
-use Rattle.std.proofs.Common.{◌==◌, ◌+◌, ◌-◌, get_or, ap, sym, ◌∙◌, arith}
+use Rattle.std.proofs.Common.{ℕ, ◌==◌, ◌+◌, ◌-◌, get_or, ap, sym, ◌∙◌, arith}
+use Rattle.std.proofs.Math.ListN.{length-set}
 use Rattle.kbo_order.proofs.TallyLemmas.{byte-bit, bit-most, excess-raised, excess-lowered, excess-bound, raised-within}
 use Rattle.kbo_order.proofs.tally.Tally.count.Goals as goal
 
@@ -20,6 +21,8 @@ returns-clause-consistent c =
     let mine = c.args.self.now.counts in
     let theirs = c.args.other.now.counts in
     record {
+      mine_width = omega (arith, length-set {A = ℕ});
+      other_width = omega arith;
       mine_ahead = omega (arith, excess-raised mine theirs i (omega arith) (omega arith), byte-bit (get_or mine i 0 == get_or theirs i 0));
       other_ahead = omega (arith, excess-lowered mine theirs i (omega arith) (omega arith), byte-bit (get_or mine i 0 + 1 == get_or theirs i 0));
       mine_within = raised-within mine i c.args.self.now.size (omega arith) c.requires.consistent.mine_within;

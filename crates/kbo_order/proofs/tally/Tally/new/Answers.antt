@@ -8,4 +8,4 @@ zeros : (d k : ℕ) → get_or (replicate 64 d) k d ≡ d
 zeros d k = ⊎_elim (λ h. get_or-replicate 64 k d d h) (λ h. get_or_past (replicate 64 d) k d (omega (arith, length-replicate 64 d))) (cases_lt k 64)
 
 pub returns : goal.returns
-returns c = record { no_size = refl; none_ahead = refl; no_counts = zeros 0; none_past = refl }
+returns c = record { no_size = refl; none_ahead = refl; width = refl; no_counts = zeros 0; none_past = refl }
