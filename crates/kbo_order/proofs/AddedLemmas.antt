@@ -1,5 +1,6 @@
 -- One walk after another, and the terms of a list from an index on.
-use Rattle.std.proofs.Common.{◌≡◌, ℕ, suc, ◌+◌, ◌<◌, ◌≤◌, ◌==◌, List, [], ◌∷◌, ◌++◌, length, map, drop, get_or, refl, ap, sym, ◌∙◌, subst, drop-cons, arith}
+use Rattle.std.proofs.Common.{◌≡◌, ℕ, zero, suc, ◌+◌, ◌<◌, ◌≤◌, ◌==◌, ◌⊎◌, min, List, [], ◌∷◌, ◌++◌, length, map, drop, get_or, refl, ap, sym, ◌∙◌, subst, inl, inr, ⊎_elim, drop-cons, arith}
+use Rattle.std.proofs.lemmas.Bool.{cases_lt}
 use Rattle.std.proofs.lemmas.List.{drop_all}
 use Rattle.fol_base.specs.Tree.{Tree, application, Trees, no_trees, tree_then, trees_of, tree_size, trees_size, tree_variables, trees_variables}
 use Rattle.fol_base.specs.Term.{tree_of}
@@ -24,6 +25,25 @@ rest_of-more xs i x h e =
 
 pub rest_of-all : (xs : List Term) (i : ℕ) → length xs ≤ i → rest_of xs i ≡ no_trees
 rest_of-all xs i h = ap (λ (ys : List Term). trees_of (map tree_of ys)) (drop_all i xs h)
+
+pub rest_of-none : (xs : List Term) (i : ℕ) → rest_of xs i ≡ no_trees → length xs ≤ i
+rest_of-none [] i h = omega arith
+rest_of-none (x ∷ xs) zero h = absurd (cc)
+rest_of-none (x ∷ xs) (suc i) h = omega (arith, rest_of-none xs i h)
+
+-- at the end of the shorter of two lists of different lengths
+pub rest_of-ended :
+    (xs ys : List Term) (i : ℕ) → min (length xs) (length ys) ≤ i → i ≤ length xs → i ≤ length ys → (length xs ≡ length ys → ⊥)
+    → ((rest_of xs i ≡ no_trees) ⊎ (rest_of ys i ≡ no_trees)) × (rest_of xs i ≡ rest_of ys i → ⊥)
+rest_of-ended xs ys i h left right differ =
+    ⊎_elim
+    (λ longer.
+    let ended : rest_of ys i ≡ no_trees = rest_of-all ys i (omega arith) in
+    (inr ended, λ e. differ (omega (arith, rest_of-none xs i (e ∙ ended)))))
+    (λ shorter.
+    let ended : rest_of xs i ≡ no_trees = rest_of-all xs i (omega arith) in
+    (inl ended, λ e. differ (omega (arith, rest_of-none ys i (sym e ∙ ended)))))
+    (cases_lt (length ys) (length xs))
 
 -- an application is its symbol and what stands below it
 application-is :

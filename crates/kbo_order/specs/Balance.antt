@@ -1,5 +1,5 @@
 -- What a walk down two terms has met on both sides.
-use Rattle.std.specs.Prelude.{◌≡◌, ℕ, ◌<◌, ◌==◌, nat_lt, if◌then◌else◌, List}
+use Rattle.std.specs.Prelude.{◌≡◌, ℕ, ◌<◌, ◌==◌, nat_lt, if◌then◌else◌, List, slice_index}
 use Rattle.kbo_order.specs.declared.cmp.Cmp.{Cmp}
 use Rattle.kbo_order.specs.declared.cmp.Cmp.TheVariants.{Greater, Less, Equal, Unordered}
 use Rattle.kbo_order.specs.declared.balance.Balance.{Balance}
@@ -8,7 +8,7 @@ use Rattle.kbo_order.specs.Tally.{Consistent, Added}
 -- the same was met on both sides, so far as it counts
 pub record IsLevel (balance : Balance) : Type 0 where
   pub consistent : Consistent balance.left balance.right
-  pub counts : balance.left.counts ≡ balance.right.counts
+  pub counts : (k : ℕ) → slice_index balance.left.counts k ≡ slice_index balance.right.counts k
   pub size : balance.left.size ≡ balance.right.size
 
 -- after variables and so many occurrences were met on the left, and others on the right
