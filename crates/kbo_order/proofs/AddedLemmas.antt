@@ -62,6 +62,7 @@ pub Added-none : (start : ℕ) (a : Tally) → Added start a a [] 0
 Added-none start a = record {
   size = omega arith;
   counts = λ k h. omega arith;
+  numbers = λ v h. refl;
   next_falls = omega arith;
   next_past = λ h. h;
   next_least = λ v h k. refl;
@@ -75,6 +76,10 @@ Added-then start a b c vs ws n m h k =
     record {
       size = omega (arith, h.size, k.size);
       counts = λ j in_block. omega (arith, h.counts j in_block, k.counts j in_block, both (start + j));
+      numbers = λ v past.
+          let first : times ◌==◌ v vs ≡ 0 = h.numbers v past in
+          let second : times ◌==◌ v ws ≡ 0 = k.numbers v past in
+          omega (arith, both v);
       next_falls = omega (arith, h.next_falls, k.next_falls);
       next_past = λ past. k.next_past (h.next_past past);
       next_least = λ v past below.
@@ -90,6 +95,7 @@ pub Added-symbol :
 Added-symbol start a c vs n h = record {
   size = omega (arith, h.size);
   counts = h.counts;
+  numbers = h.numbers;
   next_falls = h.next_falls;
   next_past = h.next_past;
   next_least = h.next_least;
@@ -101,6 +107,7 @@ pub Added-kept :
 Added-kept start a b c vs n h k = record {
   size = k.size ∙ h.size;
   counts = λ j in_block. ap (λ (xs : List ℕ). get_or xs j 0) k.counts ∙ h.counts j in_block;
+  numbers = h.numbers;
   next_falls = omega (arith, h.next_falls, k.next);
   next_past = λ past. omega (arith, h.next_past past, k.next);
   next_least = λ v past below. h.next_least v past (omega (arith, k.next));
@@ -111,6 +118,7 @@ pub kept-Added :
 kept-Added start a b c vs n k h = record {
   size = h.size ∙ ap (λ (s : ℕ). s + n) k.size;
   counts = λ j in_block. h.counts j in_block ∙ ap (λ (xs : List ℕ). get_or xs j 0 + times ◌==◌ (start + j) vs) k.counts;
+  numbers = h.numbers;
   next_falls = omega (arith, h.next_falls, k.next);
   next_past = λ past. h.next_past (omega (arith, k.next));
   next_least = h.next_least;

@@ -1,7 +1,9 @@
 -- The order on a block of variables: irreflexive, asymmetric, and decided by size, variables and what decides at equal sizes.
-use Rattle.std.proofs.Common.{◌≡◌, ℕ, ◌+◌, ◌<◌, ◌≤◌, ◌⊎◌, Bool, true, false, ◌==◌, cond, nat_lt, refl, ap, ap₂, sym, ◌∙◌, subst, inl, inr, ⊎_elim, arith}
+use Rattle.std.proofs.Common.{◌≡◌, ℕ, ◌+◌, ◌<◌, ◌≤◌, ◌⊎◌, Bool, true, false, ◌==◌, cond, nat_lt, refl, ap, ap₂, sym, ◌∙◌, subst, inl, inr, ⊎_elim, arith, rules}
 use Rattle.std.proofs.lemmas.Bool.{cases_order, lt-ltb, le-ltb, eqb-true, eqb-false}
 use Rattle.fol_base.specs.Tree.{Tree, variable, application, Trees, no_trees, tree_then, tree_size}
+use denote.Enum.Bare.{sameb, same_true}
+use Rattle.kbo_order.specs.contracts.cmp.Cmp.{the_type}
 use Rattle.kbo_order.specs.declared.cmp.Cmp.{Cmp}
 use Rattle.kbo_order.specs.declared.cmp.Cmp.TheVariants.{Greater, Less, Equal, Unordered}
 use Rattle.kbo_order.specs.Block.{Answers, HasVariablesOn, ExceedsOn, GreaterOn, AllGreaterOn, TieOn}
@@ -212,3 +214,14 @@ decided C s t tie base n m la ra answer left right rs rf ls lf =
     (settle_greater C s t (ra == 0) parts.0 parts.1 (λ e. absurd (omega (arith, ap tree_size e))) (size-not_greater C s t size)))
     e)
     (cases_order n m)
+
+-- ---- the answers' own equality
+
+pub sameb-itself : (c : Cmp) → sameb the_type c c ≡ true
+sameb-itself Greater = refl
+sameb-itself Less = refl
+sameb-itself Equal = refl
+sameb-itself Unordered = refl
+
+pub sameb-says : (c d : Cmp) → sameb the_type c d ≡ true → c ≡ d
+sameb-says c d h = same_true the_type (search rules) c d h

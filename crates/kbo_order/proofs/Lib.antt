@@ -2,3 +2,4 @@ pub mod TallyLemmas
 pub mod AddedLemmas
 pub mod BlockLemmas
 pub mod BalanceLemmas
+pub mod FurtherLemmas

@@ -17,6 +17,17 @@ Answers Exceeds Unordered x y = (x ≡ y → ⊥) × (Exceeds x y → ⊥) × (E
 abbrev pub InBlock : ℕ → ℕ → Type 0
 InBlock start v = (start ≤ v) × (v < start + 64)
 
+-- the variables before start
+abbrev pub Below : ℕ → ℕ → Type 0
+Below start v = v < start
+
+-- one is greater
+abbrev pub IsStrict : Cmp → Type 0
+IsStrict Greater = Unit {0}
+IsStrict Less = Unit {0}
+IsStrict Equal = ⊥
+IsStrict Unordered = ⊥
+
 abbrev pub HasVariablesOn : (ℕ → Type 0) → Tree → Tree → Type 0
 HasVariablesOn Counted s t = (v : ℕ) → Counted v → occurrences v t ≤ occurrences v s
 

@@ -2,3 +2,4 @@ pub mod Cmp
 pub mod Tally
 pub mod Block
 pub mod Balance
+pub mod Further

@@ -37,6 +37,7 @@ pub record Consistent (mine other : Tally) : Type 0 where
 pub record Added (start : ℕ) (before after : Tally) (variables : List ℕ) (n : ℕ) : Type 0 where
   pub size : after.size ≡ before.size + n
   pub counts : (k : ℕ) → k < 64 → slice_index after.counts k ≡ slice_index before.counts k + times ◌==◌ (start + k) variables
+  pub numbers : (v : ℕ) → 2 ^ 32 ≤ v → times ◌==◌ v variables ≡ 0
   pub next_falls : after.next ≤ before.next
   pub next_past : start + 64 ≤ before.next → start + 64 ≤ after.next
   pub next_least : (v : ℕ) → start + 64 ≤ v → v < after.next → times ◌==◌ v variables ≡ 0

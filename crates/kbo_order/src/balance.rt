@@ -11,6 +11,7 @@ use fol_base::Term;
 use std::cmp::Ordering;
 
 /// What was met on both sides. Where the same terms were met it is level.
+#[derive(Drop)]
 pub struct Balance {
     /// The first variable of the block.
     pub start: u64,

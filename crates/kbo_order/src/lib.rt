@@ -4,5 +4,7 @@
 mod balance;
 mod cmp;
 mod tally;
+mod terms;
 
 pub use cmp::Cmp;
+pub use terms::compare;

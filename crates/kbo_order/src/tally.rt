@@ -11,6 +11,7 @@ use fol_base::Term;
 pub const BLOCK: usize = 64;
 
 /// What was met on one side: all occurrences together, and those of each variable of a block.
+#[derive(Drop)]
 pub struct Tally {
     /// The occurrences of symbols and variables.
     pub size: u64,
