@@ -3,3 +3,5 @@ pub mod Tally
 pub mod Block
 pub mod Balance
 pub mod Further
+pub mod StrictOrder
+pub mod Laws

@@ -6,5 +6,7 @@ mod cmp;
 mod tally;
 mod terms;
 
+pub mod laws;
+
 pub use cmp::Cmp;
 pub use terms::compare;
