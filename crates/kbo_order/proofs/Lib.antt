@@ -6,3 +6,6 @@ pub mod FurtherLemmas
 pub mod MemberLemmas
 pub mod MultisetLemmas
 pub mod StrictOrderLemmas
+pub mod StableLemmas
+pub mod SubtermLemmas
+pub mod GroundLemmas

@@ -39,7 +39,7 @@ module _ {X : Type 0} (same exceeds : X → X → Bool) (laws : IsStrictOrder sa
 
   -- ---- counts
 
-  times-in : (z x : X) (xs : List X) → In x xs → same z x ≡ true → 0 < times same z xs
+  pub times-in : (z x : X) (xs : List X) → In x xs → same z x ≡ true → 0 < times same z xs
   times-in z x [] there e = absurd there
   times-in z x (y ∷ ys) there e =
       ⊎_elim
@@ -278,7 +278,7 @@ module _ {X : Type 0} (same exceeds : X → X → Bool) (laws : IsStrictOrder sa
 
   -- ---- two lists apart
 
-  Fits-times : (z : X) → Fits same (λ y. bit (same z y))
+  pub Fits-times : (z : X) → Fits same (λ y. bit (same z y))
   Fits-times z x y e =
       ap bit (laws.is_equivalence.symm z x ∙ laws.is_equivalence.congr x y z e ∙ laws.is_equivalence.symm y z)
 
