@@ -176,17 +176,17 @@ answer-whole P Unordered s t strict left right h = absurd strict
 
 -- ---- the comparison
 
-tree-both : (s t : Tree) → TreeGreater s t → TreeGreater t s → ⊥
+pub tree-both : (s t : Tree) → TreeGreater s t → TreeGreater t s → ⊥
 tree-both s t h k = GreaterOn-both Every s t (TreeGreater-on Every s t h) (TreeGreater-on Every t s k)
 
-tree-itself : (t : Tree) → TreeGreater t t → ⊥
+pub tree-itself : (t : Tree) → TreeGreater t t → ⊥
 tree-itself t h = GreaterOn-itself Every t (TreeGreater-on Every t t h)
 
 -- the comparison by its three tests
-abbrev by_tests : Bool → Bool → Bool → Comparison
+abbrev pub by_tests : Bool → Bool → Bool → Comparison
 by_tests a b c = if a then equal else (if b then greater else (if c then less else unordered))
 
-tests-agree :
+pub tests-agree :
     (a b c a' b' c' : Bool) → a ≡ a' → b ≡ b' → c ≡ c' → by_tests a b c ≡ by_tests a' b' c'
 tests-agree a b c a' b' c' e d k =
     ap (λ (x : Bool). by_tests x b c) e ∙ ap (λ (x : Bool). by_tests a' x c) d ∙ ap (λ (x : Bool). by_tests a' b' x) k

@@ -9,3 +9,5 @@ pub mod StrictOrderLemmas
 pub mod StableLemmas
 pub mod SubtermLemmas
 pub mod GroundLemmas
+pub mod AnswerLemmas
+pub mod SideLemmas

@@ -61,14 +61,14 @@ module _ {X : Type 0} (same exceeds : X → X → Bool) (laws : IsStrictOrder sa
       (cases_Bool (same z y))
 
   -- a member that stands for z
-  listed : (xs ys : List X) (z : X) → Over same xs ys z → (x : X) × In x xs × (same z x ≡ true) × Over same xs ys x
+  pub listed : (xs ys : List X) (z : X) → Over same xs ys z → (x : X) × In x xs × (same z x ≡ true) × Over same xs ys x
   listed xs ys z over =
       let found = times-found z xs (omega arith) in
       let a : times same z xs ≡ times same found.0 xs = times-same same laws.is_equivalence z found.0 found.2 xs in
       let b : times same z ys ≡ times same found.0 ys = times-same same laws.is_equivalence z found.0 found.2 ys in
       (found.0, found.1, found.2, omega arith)
 
-  outdoing : (xs ys : List X) (y x : X) → Over same xs ys x → exceeds x y ≡ true → Outdoing same exceeds xs ys y
+  pub outdoing : (xs ys : List X) (y x : X) → Over same xs ys x → exceeds x y ≡ true → Outdoing same exceeds xs ys y
   outdoing xs ys y x over above =
       let found = listed xs ys x over in
       record {
@@ -90,7 +90,7 @@ module _ {X : Type 0} (same exceeds : X → X → Bool) (laws : IsStrictOrder sa
       (λ o. (o.by, contains-In o.by xs o.there, o.more, laws.same_right found.0 z o.by (same-back z found.0 found.2) o.exceeds_it))
       (All-contains (λ y. (times same y ys ≤ times same y xs) ⊎ Outdoing same exceeds xs ys y) ys found.0 greater.each_outdone there)
 
-  make :
+  pub make :
       (xs ys : List X) → (same_multiset same xs ys ≡ true → ⊥)
       → ((z : X) → Over same ys xs z → Outdoing same exceeds xs ys z) → MultisetGreater same exceeds xs ys
   make xs ys differ outdone = record {
@@ -249,7 +249,7 @@ module _ {X : Type 0} (same exceeds : X → X → Bool) (laws : IsStrictOrder sa
       let b : times same found.0 xs ≡ times same found.0 ys = counts found.0 in
       outdoing ys zs z found.0 (omega (arith, found.2)) found.3)
 
-  level-right :
+  pub level-right :
       (xs ys zs : List X) → same_multiset same xs ys ≡ true → MultisetGreater same exceeds zs xs → MultisetGreater same exceeds zs ys
   level-right xs ys zs e greater =
       let counts : (z : X) → times same z xs ≡ times same z ys = same_multiset-counts same laws.is_equivalence xs ys e in

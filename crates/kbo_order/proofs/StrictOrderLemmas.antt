@@ -22,10 +22,10 @@ trees_ordered = record {
 
 -- ---- literals, by their sides
 
-abbrev sides : Bool → Tree → Tree → List Tree
+abbrev pub sides : Bool → Tree → Tree → List Tree
 sides positive t u = if positive then (t ∷ u ∷ []) else (t ∷ t ∷ u ∷ u ∷ [])
 
-sides-swapped : (positive : Bool) (t u z : Tree) → times tree_eq z (sides positive t u) ≡ times tree_eq z (sides positive u t)
+pub sides-swapped : (positive : Bool) (t u z : Tree) → times tree_eq z (sides positive t u) ≡ times tree_eq z (sides positive u t)
 sides-swapped true t u z = omega arith
 sides-swapped false t u z = omega arith
 

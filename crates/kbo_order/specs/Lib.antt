@@ -5,3 +5,4 @@ pub mod Balance
 pub mod Further
 pub mod StrictOrder
 pub mod Laws
+pub mod Sides
