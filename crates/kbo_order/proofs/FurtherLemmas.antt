@@ -1,7 +1,7 @@
 -- The answers for blocks of variables, together, are the answer for all of them.
-use Rattle.std.proofs.Common.{◌≡◌, ℕ, ◌+◌, ◌<◌, ◌≤◌, ◌^◌, ◌⊎◌, Bool, true, false, ◌==◌, if◌then◌else◌, List, ◌++◌, refl, ap, ap₂, sym, ◌∙◌, subst, inl, inr, ⊎_elim, arith}
+use Rattle.std.proofs.Common.{◌≡◌, ℕ, ◌+◌, ◌≤◌, ◌^◌, ◌⊎◌, Bool, true, false, ◌==◌, if◌then◌else◌, List, ◌++◌, refl, ap, sym, ◌∙◌, subst, inl, inr, ⊎_elim, arith}
 use Rattle.std.proofs.lemmas.Bool.{cases_lt, false_from_ne_true}
-use Rattle.fol_base.specs.Tree.{Tree, variable, application, Trees, no_trees, tree_then, tree_size, tree_eq, tree_variables, trees_variables}
+use Rattle.fol_base.specs.Tree.{Tree, variable, application, Trees, no_trees, tree_then, tree_eq, tree_variables, trees_variables}
 use Rattle.fol_base.specs.Multiset.{Comparison, greater, less, equal, unordered, times}
 use Rattle.fol_base.specs.Order.{occurrences, tree_greater, compare_trees, TreeGreater, TreesGreater}
 use Rattle.fol_base.proofs.CountLemmas.{times-append}

@@ -2,7 +2,7 @@
 use Rattle.std.proofs.Common.{◌≡◌, ◌⊎◌, Bool, true, false, if◌then◌else◌, sym, ◌∙◌, inl, inr, ⊎_elim}
 use Rattle.std.proofs.lemmas.Bool.{cases_Bool, false_from_ne_true, true≢false}
 use Rattle.fol_base.specs.Tree.{tree_eq}
-use Rattle.fol_base.specs.Multiset.{Comparison, greater, less, equal, unordered, compared, IsTotalOrderOn}
+use Rattle.fol_base.specs.Multiset.{greater, less, equal, unordered, IsTotalOrderOn}
 use Rattle.fol_base.specs.Order.{tree_greater, equivalent_literals, literal_greater, equivalent_clauses, clause_greater}
 use Rattle.fol_base.proofs.TreeOrderLemmas.{trees_totally_ordered}
 use Rattle.fol_base.proofs.ClauseOrderLemmas.{literals_totally_ordered, clauses_totally_ordered}

@@ -11,3 +11,4 @@ pub mod SubtermLemmas
 pub mod GroundLemmas
 pub mod AnswerLemmas
 pub mod SideLemmas
+pub mod ClauseLoops

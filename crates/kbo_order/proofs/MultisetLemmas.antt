@@ -1,7 +1,6 @@
 -- The extension of a strict order to multisets is a strict order, and is kept by maps that keep the order (Dershowitz and Manna 1979).
-use Rattle.std.proofs.Common.{◌≡◌, ℕ, zero, suc, ◌+◌, ◌<◌, ◌≤◌, ◌⊎◌, Bool, true, false, cond, List, [], ◌∷◌, ◌++◌, get_or, map, refl, ap, sym, ◌∙◌, inl, inr, ⊎_elim, arith}
+use Rattle.std.proofs.Common.{◌≡◌, ℕ, zero, suc, ◌+◌, ◌<◌, ◌≤◌, ◌⊎◌, Bool, true, List, [], ◌∷◌, ◌++◌, get_or, map, refl, ap, sym, ◌∙◌, inl, inr, ⊎_elim, arith}
 use Rattle.std.specs.Prelude.{sum_by}
-use Rattle.std.specs.Cmp.{IsEquivalence}
 use Rattle.std.specs.List.{list_any}
 use Rattle.std.proofs.lemmas.Bool.{cases_Bool, cases_lt, lt-ltb, ltb-true, false_from_ne_true, true≢false}
 use Rattle.std.proofs.lemmas.List.Sums.{sum_by-cons}
@@ -10,7 +9,7 @@ use Rattle.fol_base.specs.Multiset.{times, same_multiset, more_often, multiset_g
 use Rattle.fol_base.proofs.CountLemmas.{times-cons, times-same, same_multiset-counts, same_multiset-from, same_multiset-equivalence, multiset_greater-itself, multiset_greater-decided}
 use Rattle.kbo_order.specs.StrictOrder.{IsStrictOrder}
 use Rattle.kbo_order.proofs.TallyLemmas.{bit}
-use Rattle.kbo_order.proofs.MemberLemmas.{In, In-at, In-contains, contains-In, In-left, In-right, In-map, map-In, any-In, none-In, sum_by-map}
+use Rattle.kbo_order.proofs.MemberLemmas.{In, In-contains, contains-In, In-left, In-right, In-map, map-In, any-In, none-In, sum_by-map}
 
 -- a function of what is the same up to sameness
 abbrev pub Fits : {X : Type 0} → (X → X → Bool) → (X → ℕ) → Type 0

@@ -2,15 +2,14 @@
 use mathlib.Core.Bool.{beq}
 use Rattle.std.proofs.Common.{◌≡◌, ℕ, ◌+◌, ◌*◌, ◌<◌, ◌≤◌, ◌⊎◌, Bool, true, false, ◌&&◌, ◌||◌, List, [], ◌∷◌, if◌then◌else◌, refl, ap, sym, ◌∙◌, subst, inl, inr, ⊎_elim, arith}
 use Rattle.std.specs.Bool.{Decides}
-use Rattle.std.specs.Cmp.{booleans_Decides}
 use Rattle.std.proofs.lemmas.Bool.{cases_Bool, cases_lt, false_from_ne_true, true≢false}
 use Rattle.std.proofs.lemmas.Bool.Decides.{same_from_decides}
 use Rattle.fol_base.specs.Tree.{Tree, tree_eq}
 use Rattle.fol_base.specs.Clause.{TreeLiteral}
-use Rattle.fol_base.specs.Multiset.{times, same_multiset, multiset_greater, Outdoing, MultisetGreater}
-use Rattle.fol_base.specs.Order.{tree_greater, TreeGreater, equivalent_literals, literal_greater, sides_multiset, LiteralGreater}
+use Rattle.fol_base.specs.Multiset.{times, same_multiset, Outdoing, MultisetGreater}
+use Rattle.fol_base.specs.Order.{tree_greater, TreeGreater, equivalent_literals, literal_greater, LiteralGreater}
 use Rattle.fol_base.proofs.CountLemmas.{same_multiset-counts, same_multiset-from}
-use Rattle.fol_base.proofs.OrderLemmas.{tree_equality_decided, tree_greater_decided, trees_equivalence, SameSides, SameLiteral, equivalent_literals-decided, literal_greater_decided}
+use Rattle.fol_base.proofs.OrderLemmas.{tree_equality_decided, tree_greater_decided, trees_equivalence, equivalent_literals-decided, literal_greater_decided}
 use Rattle.kbo_order.specs.declared.cmp.Cmp.{Cmp}
 use Rattle.kbo_order.specs.declared.sides.SidePairs.{SidePairs}
 use Rattle.kbo_order.specs.Cmp.{comparison_of, is_greater, is_equal, reversed}
@@ -18,7 +17,7 @@ use Rattle.kbo_order.specs.Block.{Answers}
 use Rattle.kbo_order.specs.Sides.{ComparesSides, all_below, all_reached, exceeds_beside_equals, sides_exceed, sides_same}
 use Rattle.kbo_order.proofs.TallyLemmas.{bit, bit-most}
 use Rattle.kbo_order.proofs.MemberLemmas.{In}
-use Rattle.kbo_order.proofs.MultisetLemmas.{Over, Dominates, above, make, listed, outdoing, dominating-greater, level-right}
+use Rattle.kbo_order.proofs.MultisetLemmas.{Over, above, make, listed, outdoing, dominating-greater, level-right}
 use Rattle.kbo_order.proofs.StrictOrderLemmas.{sides, sides-swapped, trees_ordered}
 use Rattle.kbo_order.proofs.AnswerLemmas.{and-decides, or-decides, choice-decides, Decides-same, compared-answer, compared-reversed, greater-decides, equal-decides}
 

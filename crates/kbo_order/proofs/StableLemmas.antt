@@ -1,8 +1,7 @@
 -- Greater is kept by every substitution.
 use Rattle.std.proofs.Common.{◌≡◌, ℕ, ◌+◌, ◌-◌, ◌<◌, ◌≤◌, ◌⊎◌, Bool, true, false, ◌==◌, List, [], ◌∷◌, map, refl, ap, sym, ◌∙◌, inl, inr, ⊎_elim, if◌then◌else◌, arith}
 use Rattle.std.specs.Prelude.{sum_by}
-use Rattle.std.specs.Cmp.{IsEquivalence}
-use Rattle.std.proofs.lemmas.Bool.{cases_lt, eqb-true, true≢false}
+use Rattle.std.proofs.lemmas.Bool.{cases_lt, eqb-true}
 use Rattle.std.proofs.lemmas.Bool.Decides.{Decides-eqb}
 use Rattle.std.proofs.lemmas.List.Sums.{sum_by-append, sum_by-cons}
 use Rattle.fol_base.specs.Tree.{Tree, variable, application, Trees, no_trees, tree_then, tree_size, trees_size, tree_eq, tree_variables, trees_variables}
@@ -18,7 +17,7 @@ use Rattle.kbo_order.specs.StrictOrder.{IsStrictOrder}
 use Rattle.kbo_order.specs.Laws.{TreesStable, LiteralsStable, ClausesStable}
 use Rattle.kbo_order.proofs.MemberLemmas.{In}
 use Rattle.kbo_order.proofs.MultisetLemmas.{split, times-in, Fits-times, multiset-stable}
-use Rattle.kbo_order.proofs.StrictOrderLemmas.{trees_ordered, literals_ordered, clauses_ordered}
+use Rattle.kbo_order.proofs.StrictOrderLemmas.{trees_ordered, literals_ordered}
 
 -- ---- sums over a part of a multiset
 
@@ -109,9 +108,9 @@ mutual
       (λ no_larger. (
         variables,
         inr (
-            omega (arith, instance-sizes σ s t h.0),
-            ⊎_elim (λ k. inl k) (λ k. inr (k.0, trees-stable σ ts us k.1)) e.1,
-          ),
+          omega (arith, instance-sizes σ s t h.0),
+          ⊎_elim (λ k. inl k) (λ k. inr (k.0, trees-stable σ ts us k.1)) e.1,
+        ),
       ))
       (cases_lt (tree_size (instance σ t)) (tree_size (instance σ s))))
       h.1
@@ -152,8 +151,7 @@ pub equivalent_stable :
     → equivalent_literals l m ≡ true → equivalent_literals (literal_instance σ l) (literal_instance σ m) ≡ true
 equivalent_stable σ l m e =
     let same : SameLiteral l m = (equivalent_literals-decided l m).0 e in
-    (equivalent_literals-decided (literal_instance σ l) (literal_instance σ m)).1
-    (
+    (equivalent_literals-decided (literal_instance σ l) (literal_instance σ m)).1 (
       same.0,
       ⊎_elim
           (λ k. inl (ap (instance σ) k.0, ap (instance σ) k.1))

@@ -3,7 +3,7 @@ use Rattle.std.proofs.Common.{◌≡◌, Bool, List, [], ◌∷◌, if◌then◌
 use Rattle.fol_base.specs.Tree.{Tree, tree_eq}
 use Rattle.fol_base.specs.Clause.{TreeLiteral}
 use Rattle.fol_base.specs.Multiset.{times, same_multiset, multiset_greater}
-use Rattle.fol_base.specs.Order.{tree_greater, sides_multiset, equivalent_literals, literal_greater, equivalent_clauses, clause_greater}
+use Rattle.fol_base.specs.Order.{tree_greater, sides_multiset, equivalent_literals, literal_greater}
 use Rattle.fol_base.proofs.CountLemmas.{same_multiset-from}
 use Rattle.fol_base.proofs.OrderLemmas.{tree_eq-says, trees_equivalence, SameLiteral, equivalent_literals-decided, literals_equivalence}
 use Rattle.fol_base.proofs.TreeOrderLemmas.{tree_greater-itself, tree_greater-trans}

@@ -1,5 +1,5 @@
 -- A proper subterm is smaller, and a smaller subterm makes the term smaller.
-use Rattle.std.proofs.Common.{◌≡◌, ℕ, zero, suc, ◌+◌, ◌<◌, ◌≤◌, ◌==◌, List, [], ◌∷◌, ◌++◌, Option, Some, refl, ap, sym, ◌∙◌, subst, inl, inr, ⊎_elim, arith}
+use Rattle.std.proofs.Common.{◌≡◌, ℕ, zero, suc, ◌<◌, ◌≤◌, ◌==◌, List, [], ◌∷◌, Some, refl, ap, sym, ◌∙◌, subst, inl, inr, ⊎_elim, arith}
 use Rattle.std.specs.Prelude.{slice_get, slice_set, option_map}
 use Rattle.std.proofs.lemmas.Bool.{cases_lt}
 use Rattle.std.proofs.lemmas.Option.{option_and_then_some, same_Some}
@@ -8,7 +8,7 @@ use Rattle.fol_base.specs.Place.{argument, with_argument, subterm, replaced}
 use Rattle.fol_base.specs.Multiset.{times}
 use Rattle.fol_base.specs.Order.{HasVariablesOf, TreeGreater, TreesGreater}
 use Rattle.fol_base.proofs.CountLemmas.{times-append}
-use Rattle.fol_base.proofs.TreeLemmas.{trees_of-list_of, tree_size-positive}
+use Rattle.fol_base.proofs.TreeLemmas.{trees_of-list_of}
 use Rattle.fol_base.proofs.TestLemmas.{option_map-some}
 use Rattle.fol_base.proofs.OrderLemmas.{tree_greater_decided}
 use Rattle.kbo_order.specs.Laws.{ProperSubtermsAreSmaller, SmallerSubtermsMakeSmaller}

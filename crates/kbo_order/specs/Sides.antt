@@ -1,10 +1,7 @@
 -- Two literals by the comparisons of their sides.
-use mathlib.Core.Bool.{beq}
 use Rattle.std.specs.Prelude.{◌≡◌, Bool, true, false, ◌&&◌, ◌||◌, if◌then◌else◌}
 use Rattle.fol_base.specs.Clause.{TreeLiteral}
 use Rattle.fol_base.specs.Order.{compare_trees}
-use Rattle.kbo_order.specs.declared.cmp.Cmp.{Cmp}
-use Rattle.kbo_order.specs.declared.cmp.Cmp.TheVariants.{Greater, Less, Equal, Unordered}
 use Rattle.kbo_order.specs.declared.sides.SidePairs.{SidePairs}
 use Rattle.kbo_order.specs.Cmp.{comparison_of, is_greater, is_equal}
 

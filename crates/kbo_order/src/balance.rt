@@ -154,10 +154,8 @@ impl Balance {
             (trees_variables (rest_of left.now from)) (trees_size (rest_of left.now from))
             (trees_variables (rest_of right.now from)) (trees_size (rest_of right.now from)) }
     {
-        self.left
-            .add_from(&mut self.right, self.start, left, from);
-        self.right
-            .add_from(&mut self.left, self.start, right, from);
+        self.left.add_from(&mut self.right, self.start, left, from);
+        self.right.add_from(&mut self.left, self.start, right, from);
     }
 
     /// The answer for two terms that were met, once it is known what decides at equal sizes.

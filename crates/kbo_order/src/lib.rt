@@ -2,14 +2,15 @@
 #![tactic(auto)]
 
 mod balance;
+mod clauses;
 mod cmp;
+pub mod laws;
 mod literals;
 mod sides;
 mod tally;
 mod terms;
 
-pub mod laws;
-
+pub use clauses::compare_clauses;
 pub use cmp::Cmp;
 pub use literals::compare_literals;
 pub use terms::compare;

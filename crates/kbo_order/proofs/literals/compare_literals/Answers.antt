@@ -1,4 +1,4 @@
-use Rattle.std.proofs.Common.{◌≡◌, true, false, refl, sym, ◌∙◌}
+use Rattle.std.proofs.Common.{true, false, refl, sym, ◌∙◌}
 use Rattle.fol_base.specs.Literal.{literal_of}
 use Rattle.fol_base.specs.Order.{equivalent_literals, literal_greater}
 use Rattle.fol_base.proofs.OrderLemmas.{literals_equivalence}

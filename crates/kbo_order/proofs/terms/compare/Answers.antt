@@ -1,6 +1,5 @@
 use Rattle.std.proofs.Common.{sym, subst, ⊎_elim}
 use Rattle.fol_base.specs.Term.{tree_of}
-use Rattle.kbo_order.specs.declared.cmp.Cmp.{Cmp}
 use Rattle.kbo_order.specs.Block.{IsStrict, InBlock}
 use Rattle.kbo_order.proofs.FurtherLemmas.{answer-plain, answer-compared, answer-first}
 use Rattle.kbo_order.proofs.terms.compare.Goals as goal

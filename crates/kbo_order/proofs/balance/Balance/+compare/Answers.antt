@@ -32,8 +32,7 @@ pub tie-compare_lists-requires : goal.tie-compare_lists-requires
 tie-compare_lists-requires t c =
     let left_size = application-size c.args.left.now c.in-App.first c.in-App.ones c.as_slice.result.now c.in-App.is c.as_slice.ensures in
     let right_size =
-    application-size c.args.right.now c.in-App-right.second c.in-App-right.others c.as_slice-then-first-second.result.now c.in-App-right.is c.as_slice-then-first-second.ensures in
-    (
+    application-size c.args.right.now c.in-App-right.second c.in-App-right.others c.as_slice-then-first-second.result.now c.in-App-right.is c.as_slice-then-first-second.ensures in (
       omega (arith, left_size, c.decreases),
       (
         level-symbol c.args.self.now c.requires.level,
@@ -51,8 +50,7 @@ pub compare_lists-compare-found-requires : goal.compare_lists-compare-found-requ
 compare_lists-compare-found-requires t c =
     let i = c.loop-index.index in
     let left_size = rest_of-size c.args.left.now i c.index-left-index.result (omega arith) c.index-left-index.is in
-    let right_size = rest_of-size c.args.right.now i c.index-right-index.result (omega arith) c.index-right-index.is in
-    (
+    let right_size = rest_of-size c.args.right.now i c.index-right-index.result (omega arith) c.index-right-index.is in (
       omega (arith, left_size, c.loop-index.invariant.falls, c.decreases),
       (
         c.loop-index.invariant.level,

@@ -1,4 +1,4 @@
-use Rattle.std.proofs.Common.{ℕ, ◌==◌, ◌+◌, ◌-◌, get_or, ap, sym, ◌∙◌, arith}
+use Rattle.std.proofs.Common.{ℕ, ◌==◌, ◌+◌, ◌-◌, get_or, arith}
 use Rattle.std.proofs.Math.ListN.{length-set}
 use Rattle.kbo_order.proofs.TallyLemmas.{byte-bit, bit-most, excess-raised, excess-lowered, excess-bound, raised-within}
 use Rattle.kbo_order.proofs.tally.Tally.count.Goals as goal
