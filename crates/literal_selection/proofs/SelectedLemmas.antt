@@ -1,11 +1,15 @@
 -- The first negative literal of greatest size, as literals are read one by one.
-use Rattle.std.proofs.Common.{◌≡◌, ℕ, suc, ◌+◌, ◌<◌, ◌≤◌, max, Bool, true, false, not, ◌&&◌, ◌==◌, if◌then◌else◌, List, [], ◌∷◌, ◌++◌, length, map, take, Option, None, Some, refl, ap, sym, ◌∙◌, inl, inr, ⊎_elim, arith}
+use Rattle.std.proofs.Common.{◌≡◌, ℕ, suc, ◌+◌, ◌<◌, ◌≤◌, max, Bool, true, false, not, ◌&&◌, ◌==◌, if◌then◌else◌, List, [], ◌∷◌, ◌++◌, length, length-take-le, map, take, get_or, Option, None, Some, refl, ap, sym, ◌∙◌, inl, inr, ⊎_elim, arith}
 use Rattle.std.specs.Prelude.{option_map}
 use Rattle.std.proofs.lemmas.Bool.{cases_Bool, cases_lt, cond-true, cond-false, false_from_ne_true, eq-eqb, ne_eqb, eqb-true, or_cases}
+use Rattle.std.proofs.lemmas.List.{length-map}
 use Rattle.fol_base.specs.Tree.{tree_size}
 use Rattle.fol_base.specs.Clause.{TreeLiteral, literal_size}
 use Rattle.fol_base.specs.Selection.{SelectionMode, select_negative, greatest_negative_size, first_index, chosen}
 use Rattle.fol_base.proofs.TreeLemmas.{tree_size-positive}
+use Rattle.fol_base.specs.Literal.{literal_of}
+use Rattle.fol_base.specs.declared.clause.Literal.{Literal}
+use Rattle.fol_base.proofs.ListLemmas.{map-take_more_item}
 use Rattle.kbo_order.proofs.MemberLemmas.{In}
 use Rattle.literal_selection.specs.Mode.{negative_size}
 
@@ -124,3 +128,29 @@ chosen-no_larger ls l no_larger =
   where
     same_size : greatest_negative_size (ls ++ l ∷ []) ≡ greatest_negative_size ls
     same_size = omega (arith, greatest-more ls l)
+
+-- ---- steps of the loop
+
+pub step-larger :
+    (xs : List Literal) (i : ℕ) (x : Literal) → i < length xs → x ≡ get_or xs i x
+    → greatest_negative_size (map literal_of (take i xs)) < negative_size (literal_of x)
+    → (greatest_negative_size (map literal_of (take (i + 1) xs)) ≡ negative_size (literal_of x))
+    × (chosen select_negative (map literal_of (take (i + 1) xs)) ≡ Some i)
+step-larger xs i x h e larger =
+    let more = map-take_more_item literal_of xs i x h e in (
+      ap greatest_negative_size more ∙ omega (arith, greatest-more (map literal_of (take i xs)) (literal_of x)),
+      ap (chosen select_negative) more
+          ∙ chosen-larger (map literal_of (take i xs)) (literal_of x) larger
+          ∙ ap (λ (n : ℕ). Some n) (length-map (take i xs) literal_of ∙ length-take-le i xs (omega arith)),
+    )
+
+pub step-no_larger :
+    (xs : List Literal) (i : ℕ) (x : Literal) → i < length xs → x ≡ get_or xs i x
+    → negative_size (literal_of x) ≤ greatest_negative_size (map literal_of (take i xs))
+    → (greatest_negative_size (map literal_of (take (i + 1) xs)) ≡ greatest_negative_size (map literal_of (take i xs)))
+    × (chosen select_negative (map literal_of (take (i + 1) xs)) ≡ chosen select_negative (map literal_of (take i xs)))
+step-no_larger xs i x h e no_larger =
+    let more = map-take_more_item literal_of xs i x h e in (
+      ap greatest_negative_size more ∙ omega (arith, greatest-more (map literal_of (take i xs)) (literal_of x)),
+      ap (chosen select_negative) more ∙ chosen-no_larger (map literal_of (take i xs)) (literal_of x) no_larger,
+    )

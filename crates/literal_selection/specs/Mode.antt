@@ -2,8 +2,8 @@
 use Rattle.std.specs.Prelude.{ℕ, if◌then◌else◌}
 use Rattle.fol_base.specs.Clause.{TreeLiteral, literal_size}
 use Rattle.fol_base.specs.Selection.{SelectionMode, select_nothing, select_negative}
-use Rattle.literal_selection.specs.declared.selected.Selection.{Selection}
-use Rattle.literal_selection.specs.declared.selected.Selection.TheVariants.{Nothing, Negative}
+use Rattle.literal_selection.specs.declared.choice.Selection.{Selection}
+use Rattle.literal_selection.specs.declared.choice.Selection.TheVariants.{Nothing, Negative}
 
 abbrev pub mode_of : Selection → SelectionMode
 mode_of Nothing = select_nothing

@@ -1,10 +1,10 @@
 // The literals of a clause that inferences use: the chosen literal and the eligible ones.
 #![tactic(auto)]
 
-mod eligible;
-mod selected;
+mod choice;
+mod eligibility;
 
 pub mod laws;
 
-pub use eligible::eligible;
-pub use selected::{Selection, selected};
+pub use choice::{Selection, selected};
+pub use eligibility::eligible;
