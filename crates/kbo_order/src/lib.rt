@@ -14,3 +14,6 @@ pub use clauses::compare_clauses;
 pub use cmp::Cmp;
 pub use literals::compare_literals;
 pub use terms::compare;
+
+#[cfg(test)]
+mod tests;

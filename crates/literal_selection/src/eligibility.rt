@@ -13,12 +13,7 @@ use kbo_order::{Cmp, compare_literals};
 /// Whether the literal of that index is eligible for inferences (Bachmair and Ganzinger 1994): it is the
 /// chosen one; or none is chosen and no other literal is greater, nor equal where strictness is asked. It
 /// takes no memory.
-pub fn eligible(
-    literals: &[Literal],
-    index: usize,
-    chosen: Option<usize>,
-    strict: bool,
-) -> bool
+pub fn eligible(literals: &[Literal], index: usize, chosen: Option<usize>, strict: bool) -> bool
     requires in_range { index < length literals.now }
     requires size { sum_by literal_size (map literal_of literals.now) < 2 ^ 62 }
     ensures { result ≡ eligible (map literal_of literals.now) index chosen strict }

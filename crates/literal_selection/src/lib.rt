@@ -3,8 +3,10 @@
 
 mod choice;
 mod eligibility;
-
 pub mod laws;
 
 pub use choice::{Selection, selected};
 pub use eligibility::eligible;
+
+#[cfg(test)]
+mod tests;

@@ -17,7 +17,7 @@ pub loop-index-preserved : goal.loop-index-preserved
 loop-index-preserved c =
     let x = c.index-literals-index.result in
     elim c.if-size-largest.branch [
-      then-size-largest w ↦
+      | then-size-largest w ↦
           let step =
           step-larger c.args.literals.now c.loop-index.index x c.loop-index-test.true c.index-literals-index.is
           (omega (arith, w.if-size-largest.true, c.negative_size-size.ensures, c.loop-index.invariant.largest)) in
