@@ -1,7 +1,6 @@
 -- What is eligible in an instance is eligible in the clause.
-use Rattle.std.proofs.Common.{◌≡◌, ℕ, suc, Bool, true, false, not, ◌&&◌, List, [], ◌∷◌, ◌++◌, length, map, take, drop, get_or, ◌+◌, ◌-◌, ◌<◌, ◌≤◌, Option, None, Some, refl, ap, ap₂, sym, ◌∙◌, arith}
+use Rattle.std.proofs.Common.{◌≡◌, ℕ, suc, Bool, true, false, not, ◌&&◌, List, ◌++◌, length, map, take, drop, get_or, ◌+◌, ◌-◌, ◌<◌, ◌≤◌, Option, None, Some, refl, ap, ap₂, sym, ◌∙◌, arith}
 use Rattle.std.specs.Prelude.{option_map, slice_get, remove, sum_by}
-use Rattle.std.specs.List.{list_all}
 use Rattle.std.proofs.lemmas.Bool.{and_parts, and_from, not-true, false_from_ne_true, true≢false}
 use Rattle.std.proofs.lemmas.List.{take-map, drop-map, map-append, take-append-drop}
 use Rattle.std.proofs.lemmas.List.Folds.{list_all-append}
@@ -11,7 +10,7 @@ use Rattle.fol_base.specs.Instance.{Substitution}
 use Rattle.fol_base.specs.Clause.{TreeLiteral, literal_instance, literal_size}
 use Rattle.fol_base.specs.Ground.{literals_instance}
 use Rattle.fol_base.specs.Order.{literal_greater, equivalent_literals, compare_literals}
-use Rattle.fol_base.specs.Selection.{SelectionMode, chosen, is_maximal, is_maximal_at, eligible}
+use Rattle.fol_base.specs.Selection.{chosen, is_maximal, is_maximal_at, eligible}
 use Rattle.fol_base.specs.Literal.{literal_of}
 use Rattle.fol_base.specs.declared.clause.Literal.{Literal}
 use Rattle.fol_base.proofs.ListLemmas.{remove-parts, rest_after}
@@ -20,7 +19,7 @@ use Rattle.kbo_order.specs.declared.cmp.Cmp.TheVariants.{Greater, Less, Equal, U
 use Rattle.kbo_order.specs.Cmp.{comparison_of, is_greater, is_equal}
 use Rattle.kbo_order.proofs.FurtherLemmas.{by_tests}
 use Rattle.kbo_order.proofs.ClauseLoops.{greater-is}
-use Rattle.kbo_order.proofs.MemberLemmas.{In, In-map, all-In, In-all}
+use Rattle.kbo_order.proofs.MemberLemmas.{In-map, all-In, In-all}
 use Rattle.kbo_order.proofs.StableLemmas.{literals_stable, equivalent_stable}
 use Rattle.literal_selection.specs.Laws.{EligibleLifts}
 

@@ -1,11 +1,10 @@
 -- The first negative literal of greatest size, as literals are read one by one.
 use Rattle.std.proofs.Common.{◌≡◌, ℕ, suc, ◌+◌, ◌<◌, ◌≤◌, max, Bool, true, false, not, ◌&&◌, ◌==◌, if◌then◌else◌, List, [], ◌∷◌, ◌++◌, length, length-take-le, map, take, get_or, Option, None, Some, refl, ap, sym, ◌∙◌, inl, inr, ⊎_elim, arith}
 use Rattle.std.specs.Prelude.{option_map}
-use Rattle.std.proofs.lemmas.Bool.{cases_Bool, cases_lt, cond-true, cond-false, false_from_ne_true, eq-eqb, ne_eqb, eqb-true, or_cases}
+use Rattle.std.proofs.lemmas.Bool.{cases_lt, cond-true, cond-false, false_from_ne_true, eq-eqb, eqb-true}
 use Rattle.std.proofs.lemmas.List.{length-map}
-use Rattle.fol_base.specs.Tree.{tree_size}
 use Rattle.fol_base.specs.Clause.{TreeLiteral, literal_size}
-use Rattle.fol_base.specs.Selection.{SelectionMode, select_negative, greatest_negative_size, first_index, chosen}
+use Rattle.fol_base.specs.Selection.{select_negative, greatest_negative_size, first_index, chosen}
 use Rattle.fol_base.proofs.TreeLemmas.{tree_size-positive}
 use Rattle.fol_base.specs.Literal.{literal_of}
 use Rattle.fol_base.specs.declared.clause.Literal.{Literal}
