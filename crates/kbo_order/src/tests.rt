@@ -1,55 +1,77 @@
-// The comparisons on rows worked out by hand. The symbols' numbers rise in the order a, b, f, g, p, q.
+// The comparisons on rows worked out by hand.
 
 use super::*;
-use fol_base::{Literal, Mem, Term, Terms};
+use fol_base::{Clause, Literal, Literals, Names, Term, Terms};
 use std::alloc::Global;
 use std::test::Fail;
 
-const A: u32 = 1;
+/// The bound on sizes that the comparisons ask for.
+const LIMIT: u64 = 1 << 62;
 
-const B: u32 = 2;
-
-const F: u32 = 3;
-
-const G: u32 = 4;
-
-const P: u32 = 5;
-
-const Q: u32 = 6;
-
-fn constant(alloc: Global, symbol: u32) -> Term {
-    Term::App(symbol, Terms::new(alloc))
-}
-
-fn unary(alloc: Global, symbol: u32, argument: Term) -> Mem<Term> {
-    let mut arguments = Terms::new(alloc);
-    arguments.push(argument)?;
-    Ok(Term::App(symbol, arguments))
-}
-
-fn binary(alloc: Global, symbol: u32, first: Term, second: Term) -> Mem<Term> {
-    let mut arguments = Terms::new(alloc);
-    arguments.push(first)?;
-    arguments.push(second)?;
-    Ok(Term::App(symbol, arguments))
-}
-
-fn equation(positive: bool, left: Term, right: Term) -> Literal {
-    Literal {
-        positive,
-        left,
-        right,
+/// The number of a symbol: they rise in the order a, b, f, g, p, q.
+fn symbol(letter: u8) -> u32 {
+    match letter {
+        b't' => 0,
+        b'a' => 1,
+        b'b' => 2,
+        b'f' | b'F' => 3,
+        b'g' | b'G' => 4,
+        b'p' => 5,
+        _ => 6,
     }
 }
 
-/// The literal `p(t)`, or its like with another predicate.
-fn atom(alloc: Global, predicate: u32, argument: Term) -> Mem<Literal> {
-    let left = unary(alloc, predicate, argument)?;
-    Ok(equation(true, left, constant(alloc, 0)))
+/// A term in postfix notation: a digit is a variable, `t` is `$true`, `a` and `b` are constants, `F` and `G` are f and g
+/// with two arguments, and any other letter is a symbol with one.
+fn term(alloc: Global, text: &str) -> Result<Term, Fail> {
+    let mut stack = Vec::new(alloc);
+    for letter in text.bytes() {
+        let made = match letter {
+            b'0'..=b'9' => Term::Var(u32::from(letter - b'0')),
+            b't' | b'a' | b'b' => Term::App(symbol(letter), Terms::new(alloc)),
+            b'F' | b'G' => {
+                let second = stack.pop().ok_or("no argument")?;
+                let first = stack.pop().ok_or("no argument")?;
+                let arguments = vec![in alloc; first, second]?;
+                Term::App(symbol(letter), Terms::from_vec(arguments))
+            }
+            _ => {
+                let argument = stack.pop().ok_or("no argument")?;
+                let arguments = vec![in alloc; argument]?;
+                Term::App(symbol(letter), Terms::from_vec(arguments))
+            }
+        };
+        stack.push(made)?;
+    }
+    Ok(stack.pop().ok_or("no term")?)
+}
+
+fn literal(alloc: Global, positive: bool, left: &str, right: &str) -> Result<Literal, Fail> {
+    let left = term(alloc, left)?;
+    let right = term(alloc, right)?;
+    Ok(Literal {
+        positive,
+        left,
+        right,
+    })
+}
+
+/// A clause of atoms, each by its predicate term; the empty text is none.
+fn clause(alloc: Global, atoms: [&str; 2]) -> Result<Clause, Fail> {
+    let mut literals = Literals::new(alloc);
+    for atom in atoms {
+        if !atom.is_empty() {
+            literals.push(literal(alloc, true, atom, "t")?)?;
+        }
+    }
+    Ok(Clause {
+        literals,
+        names: Names::new(alloc),
+    })
 }
 
 /// A symbol applied to the variables of a range.
-fn row(alloc: Global, symbol: u32, from: u32, to: u32) -> Mem<Term> {
+fn row(alloc: Global, symbol: u32, from: u32, to: u32) -> Result<Term, Fail> {
     let mut arguments = Terms::new(alloc);
     for variable in from..to {
         arguments.push(Term::Var(variable))?;
@@ -57,67 +79,73 @@ fn row(alloc: Global, symbol: u32, from: u32, to: u32) -> Mem<Term> {
     Ok(Term::App(symbol, arguments))
 }
 
+fn compared(left: &Term, right: &Term) -> Option<Cmp> {
+    if left.size() < LIMIT && right.size() < LIMIT {
+        return Some(compare(left, right));
+    }
+    None
+}
+
+fn compared_literals(left: &Literal, right: &Literal) -> Option<Cmp> {
+    if left.size() < LIMIT && right.size() < LIMIT {
+        return Some(compare_literals(left, right));
+    }
+    None
+}
+
+fn compared_clauses(left: &Clause, right: &Clause) -> Option<Cmp> {
+    if left.size() < LIMIT && right.size() < LIMIT {
+        return Some(compare_clauses(left.literals.as_slice(), right.literals.as_slice()));
+    }
+    None
+}
+
 #[test]
 fn terms_are_compared(rt: HostRuntime) -> Result<(), Fail> {
     let alloc = rt.alloc();
-    let (a, b) = (constant(alloc, A), constant(alloc, B));
-    let (f_x, f_y) = (
-        unary(alloc, F, Term::Var(0))?,
-        unary(alloc, F, Term::Var(1))?,
-    );
-    let f_a = unary(alloc, F, constant(alloc, A))?;
-    let g_a = unary(alloc, G, constant(alloc, A))?;
-    let f_ab = binary(alloc, F, constant(alloc, A), constant(alloc, B))?;
-    let f_ba = binary(alloc, F, constant(alloc, B), constant(alloc, A))?;
-    let f_gx_y = binary(alloc, F, unary(alloc, G, Term::Var(0))?, Term::Var(1))?;
-    let f_gy_x = binary(alloc, F, unary(alloc, G, Term::Var(1))?, Term::Var(0))?;
-    let x = Term::Var(0);
-    let rows = vec![in alloc;
-        (&f_x, &x, Cmp::Greater),
-        (&x, &f_x, Cmp::Less),
-        (&f_x, &f_y, Cmp::Unordered),
-        (&x, &a, Cmp::Unordered),
-        (&g_a, &f_a, Cmp::Greater),
-        (&f_ab, &f_ba, Cmp::Less),
-        (&f_ba, &f_ab, Cmp::Greater),
-        (&a, &b, Cmp::Less),
-        (&f_a, &b, Cmp::Greater),
-        (&f_gx_y, &f_gy_x, Cmp::Unordered),
-        (&f_ab, &f_ab, Cmp::Equal),
-        (&x, &x, Cmp::Equal),
-    ]?;
-    for (left, right, answer) in &rows {
-        assert_eq!(rt; compare(left, right), *answer);
+    let rows = [
+        ("0f", "0", Cmp::Greater),
+        ("0", "0f", Cmp::Less),
+        ("0f", "1f", Cmp::Unordered),
+        ("0", "a", Cmp::Unordered),
+        ("ag", "af", Cmp::Greater),
+        ("abF", "baF", Cmp::Less),
+        ("baF", "abF", Cmp::Greater),
+        ("af", "b", Cmp::Greater),
+        ("0g1F", "1g0F", Cmp::Unordered),
+        ("0g1F", "0g1F", Cmp::Equal),
+    ];
+    for (left, right, answer) in rows {
+        let left = term(alloc, left)?;
+        let right = term(alloc, right)?;
+        assert_eq!(rt; compared(&left, &right), Some(answer));
     }
     Ok(())
 }
 
-/// Variables in several blocks, and the highest number that there is.
+/// Variables in several blocks, and the highest numbers that there are.
 #[test]
 fn many_variables_are_compared(rt: HostRuntime) -> Result<(), Fail> {
     let alloc = rt.alloc();
-    let (low, high) = (row(alloc, F, 0, 200)?, row(alloc, G, 0, 200)?);
-    let (shifted, longer) = (row(alloc, G, 1, 201)?, row(alloc, F, 0, 201)?);
-    let (last, last_above) = (
-        row(alloc, F, 4_294_967_290, 4_294_967_295)?,
-        row(alloc, G, 4_294_967_290, 4_294_967_295)?,
-    );
-    let spread = binary(alloc, F, Term::Var(0), Term::Var(4_294_967_295))?;
-    let spread_above = binary(alloc, G, Term::Var(0), Term::Var(4_294_967_295))?;
-    let spread_other = binary(alloc, G, Term::Var(0), Term::Var(4_294_967_294))?;
-    let rows = vec![in alloc;
-        (&high, &low, Cmp::Greater),
-        (&low, &high, Cmp::Less),
-        (&low, &low, Cmp::Equal),
-        (&shifted, &low, Cmp::Unordered),
-        (&longer, &high, Cmp::Greater),
-        (&high, &longer, Cmp::Less),
-        (&last_above, &last, Cmp::Greater),
-        (&spread, &spread_above, Cmp::Less),
-        (&spread_other, &spread, Cmp::Unordered),
-    ]?;
-    for (left, right, answer) in &rows {
-        assert_eq!(rt; compare(left, right), *answer);
+    let rows = [
+        (4, 0, 200, 3, 0, 200, Cmp::Greater),
+        (3, 0, 200, 3, 0, 200, Cmp::Equal),
+        (4, 1, 201, 3, 0, 200, Cmp::Unordered),
+        (4, 0, 200, 3, 0, 201, Cmp::Less),
+        (
+            3,
+            4_294_967_293,
+            4_294_967_295,
+            4,
+            4_294_967_293,
+            4_294_967_295,
+            Cmp::Less,
+        ),
+    ];
+    for (head, from, to, other, other_from, other_to, answer) in rows {
+        let left = row(alloc, head, from, to)?;
+        let right = row(alloc, other, other_from, other_to)?;
+        assert_eq!(rt; compared(&left, &right), Some(answer));
     }
     Ok(())
 }
@@ -126,58 +154,31 @@ fn many_variables_are_compared(rt: HostRuntime) -> Result<(), Fail> {
 #[test]
 fn tall_terms_are_compared(rt: HostRuntime) -> Result<(), Fail> {
     let alloc = rt.alloc();
-    let (mut left, mut right) = (constant(alloc, B), constant(alloc, A));
+    let (mut left, mut right) = (term(alloc, "b")?, term(alloc, "a")?);
     for _ in 0..4_000 {
-        left = unary(alloc, F, left)?;
-        right = unary(alloc, F, right)?;
+        left = Term::App(3, Terms::from_vec(vec![in alloc; left]?));
+        right = Term::App(3, Terms::from_vec(vec![in alloc; right]?));
     }
-    assert_eq!(rt; compare(&left, &right), Cmp::Greater);
-    assert_eq!(rt; compare(&right, &left), Cmp::Less);
-    assert_eq!(rt; compare(&left, &left), Cmp::Equal);
+    assert_eq!(rt; compared(&left, &right), Some(Cmp::Greater));
     Ok(())
 }
 
 #[test]
 fn literals_are_compared(rt: HostRuntime) -> Result<(), Fail> {
     let alloc = rt.alloc();
-    let f_a_is_b = equation(
-        true,
-        unary(alloc, F, constant(alloc, A))?,
-        constant(alloc, B),
-    );
-    let b_is_f_a = equation(
-        true,
-        constant(alloc, B),
-        unary(alloc, F, constant(alloc, A))?,
-    );
-    let f_a_not_b = equation(
-        false,
-        unary(alloc, F, constant(alloc, A))?,
-        constant(alloc, B),
-    );
-    let f_a_is_a = equation(
-        true,
-        unary(alloc, F, constant(alloc, A))?,
-        constant(alloc, A),
-    );
-    let a_not_b = equation(false, constant(alloc, A), constant(alloc, B));
-    let (p_a, q_a) = (
-        atom(alloc, P, constant(alloc, A))?,
-        atom(alloc, Q, constant(alloc, A))?,
-    );
-    let p_x = atom(alloc, P, Term::Var(0))?;
-    let rows = vec![in alloc;
-        (&f_a_is_b, &f_a_not_b, Cmp::Less),
-        (&f_a_not_b, &f_a_is_b, Cmp::Greater),
-        (&f_a_is_b, &b_is_f_a, Cmp::Equal),
-        (&f_a_is_b, &f_a_is_a, Cmp::Greater),
-        (&f_a_is_b, &a_not_b, Cmp::Greater),
-        (&a_not_b, &f_a_not_b, Cmp::Less),
-        (&p_a, &q_a, Cmp::Less),
-        (&p_x, &p_a, Cmp::Unordered),
-    ]?;
-    for (left, right, answer) in &rows {
-        assert_eq!(rt; compare_literals(left, right), *answer);
+    let rows = [
+        (true, "af", "b", false, "af", "b", Cmp::Less),
+        (false, "af", "b", true, "af", "b", Cmp::Greater),
+        (true, "af", "b", true, "b", "af", Cmp::Equal),
+        (true, "af", "b", true, "af", "a", Cmp::Greater),
+        (true, "af", "b", false, "a", "b", Cmp::Greater),
+        (false, "a", "b", false, "af", "b", Cmp::Less),
+        (true, "0f", "a", true, "1f", "a", Cmp::Unordered),
+    ];
+    for (positive, left, right, other_positive, other_left, other_right, answer) in rows {
+        let first = literal(alloc, positive, left, right)?;
+        let second = literal(alloc, other_positive, other_left, other_right)?;
+        assert_eq!(rt; compared_literals(&first, &second), Some(answer));
     }
     Ok(())
 }
@@ -185,29 +186,17 @@ fn literals_are_compared(rt: HostRuntime) -> Result<(), Fail> {
 #[test]
 fn clauses_are_compared(rt: HostRuntime) -> Result<(), Fail> {
     let alloc = rt.alloc();
-    let p_a = vec![in alloc; atom(alloc, P, constant(alloc, A))?]?;
-    let p_x = vec![in alloc; atom(alloc, P, Term::Var(0))?]?;
-    let p_q = vec![in alloc;
-        atom(alloc, P, constant(alloc, A))?,
-        atom(alloc, Q, constant(alloc, A))?,
-    ]?;
-    let q_p = vec![in alloc;
-        atom(alloc, Q, constant(alloc, A))?,
-        atom(alloc, P, constant(alloc, A))?,
-    ]?;
-    let p_p = vec![in alloc;
-        atom(alloc, P, constant(alloc, A))?,
-        atom(alloc, P, constant(alloc, A))?,
-    ]?;
-    let rows = vec![in alloc;
-        (&p_a, &p_q, Cmp::Less),
-        (&p_q, &q_p, Cmp::Equal),
-        (&p_p, &p_a, Cmp::Greater),
-        (&p_p, &p_q, Cmp::Less),
-        (&p_x, &p_a, Cmp::Unordered),
-    ]?;
-    for (left, right, answer) in &rows {
-        assert_eq!(rt; compare_clauses(left.as_slice(), right.as_slice()), *answer);
+    let rows = [
+        (["ap", ""], ["ap", "aq"], Cmp::Less),
+        (["ap", "aq"], ["aq", "ap"], Cmp::Equal),
+        (["ap", "ap"], ["ap", ""], Cmp::Greater),
+        (["ap", "ap"], ["ap", "aq"], Cmp::Less),
+        (["0p", ""], ["ap", ""], Cmp::Unordered),
+    ];
+    for (left, right, answer) in rows {
+        let left = clause(alloc, left)?;
+        let right = clause(alloc, right)?;
+        assert_eq!(rt; compared_clauses(&left, &right), Some(answer));
     }
     Ok(())
 }
