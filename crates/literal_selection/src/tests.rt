@@ -1,67 +1,81 @@
 // Chosen and eligible literals on rows worked out by hand.
 
 use super::*;
-use fol_base::{Literal, Mem, Term, Terms};
+use fol_base::{Clause, Literal, Literals, Names, Term, Terms};
 use std::alloc::Global;
 use std::test::Fail;
 
-const A: u32 = 1;
+/// The bound on sizes that the calls ask for.
+const LIMIT: u64 = 1 << 62;
 
-const B: u32 = 2;
-
-const F: u32 = 3;
-
-const P: u32 = 4;
-
-const Q: u32 = 5;
-
-fn constant(alloc: Global, symbol: u32) -> Term {
-    Term::App(symbol, Terms::new(alloc))
+/// A term in postfix notation: `0` is a variable, `a`, `b` and `t` are constants, t being `$true`, and
+/// any other letter is a symbol with one argument. The symbols rise in the order t, a, b, f, p, q.
+fn term(alloc: Global, text: &str) -> Result<Term, Fail> {
+    let mut made = Term::Var(0);
+    for letter in text.bytes() {
+        made = match letter {
+            b'0' => Term::Var(0),
+            b't' => Term::App(0, Terms::new(alloc)),
+            b'a' => Term::App(1, Terms::new(alloc)),
+            b'b' => Term::App(2, Terms::new(alloc)),
+            _ => Term::App(u32::from(letter), Terms::from_vec(vec![in alloc; made]?)),
+        };
+    }
+    Ok(made)
 }
 
-fn unary(alloc: Global, symbol: u32, argument: Term) -> Mem<Term> {
-    let mut arguments = Terms::new(alloc);
-    arguments.push(argument)?;
-    Ok(Term::App(symbol, arguments))
-}
-
-fn atom(alloc: Global, predicate: u32, argument: Term) -> Mem<Literal> {
-    Ok(Literal {
-        positive: true,
-        left: unary(alloc, predicate, argument)?,
-        right: constant(alloc, 0),
+/// A clause of equations and their negations; the empty text is none.
+fn clause(alloc: Global, equations: [(bool, &str, &str); 3]) -> Result<Clause, Fail> {
+    let mut literals = Literals::new(alloc);
+    for (positive, left, right) in equations {
+        if !left.is_empty() {
+            let left = term(alloc, left)?;
+            let right = term(alloc, right)?;
+            literals.push(Literal {
+                positive,
+                left,
+                right,
+            })?;
+        }
+    }
+    Ok(Clause {
+        literals,
+        names: Names::new(alloc),
     })
 }
 
-fn unequal(left: Term, right: Term) -> Literal {
-    Literal {
-        positive: false,
-        left,
-        right,
+fn chosen(clause: &Clause, mode: Selection) -> Option<usize> {
+    if clause.size() < LIMIT {
+        return selected(clause.literals.as_slice(), mode);
     }
+    None
 }
+
+fn is_eligible(clause: &Clause, index: usize, chosen: Option<usize>, strict: bool) -> Option<bool> {
+    if clause.size() < LIMIT && index < clause.literals.len() {
+        let literals = clause.literals.as_slice();
+        return Some(eligible(literals, index, chosen, strict));
+    }
+    None
+}
+
+const NONE: (bool, &str, &str) = (true, "", "");
 
 #[test]
 fn literals_are_chosen(rt: HostRuntime) -> Result<(), Fail> {
     let alloc = rt.alloc();
-    let mixed = vec![in alloc;
-        atom(alloc, P, constant(alloc, A))?,
-        unequal(unary(alloc, F, constant(alloc, A))?, constant(alloc, B)),
-        unequal(constant(alloc, A), constant(alloc, B)),
-    ]?;
-    let alike = vec![in alloc;
-        unequal(constant(alloc, A), constant(alloc, B)),
-        unequal(constant(alloc, B), constant(alloc, A)),
-    ]?;
-    let positive = vec![in alloc; atom(alloc, P, constant(alloc, A))?]?;
-    let rows = vec![in alloc;
-        (&mixed, Selection::Negative, Some(1)),
-        (&mixed, Selection::Nothing, None),
-        (&alike, Selection::Negative, Some(0)),
-        (&positive, Selection::Negative, None),
-    ]?;
-    for (literals, mode, answer) in &rows {
-        assert_eq!(rt; selected(literals.as_slice(), *mode), *answer);
+    let mixed = [(true, "ap", "t"), (false, "af", "b"), (false, "a", "b")];
+    let alike = [(false, "a", "b"), (false, "b", "a"), NONE];
+    let positive = [(true, "ap", "t"), NONE, NONE];
+    let rows = [
+        (mixed, Selection::Negative, Some(1)),
+        (mixed, Selection::Nothing, None),
+        (alike, Selection::Negative, Some(0)),
+        (positive, Selection::Negative, None),
+    ];
+    for (equations, mode, answer) in rows {
+        let clause = clause(alloc, equations)?;
+        assert_eq!(rt; chosen(&clause, mode), answer);
     }
     Ok(())
 }
@@ -69,33 +83,22 @@ fn literals_are_chosen(rt: HostRuntime) -> Result<(), Fail> {
 #[test]
 fn eligible_literals_are_told(rt: HostRuntime) -> Result<(), Fail> {
     let alloc = rt.alloc();
-    let unordered = vec![in alloc;
-        atom(alloc, P, Term::Var(0))?,
-        atom(alloc, P, constant(alloc, A))?,
-    ]?;
-    let repeated = vec![in alloc;
-        atom(alloc, P, constant(alloc, A))?,
-        atom(alloc, P, constant(alloc, A))?,
-    ]?;
-    let rising = vec![in alloc;
-        atom(alloc, P, constant(alloc, A))?,
-        atom(alloc, Q, constant(alloc, A))?,
-    ]?;
-    let rows = vec![in alloc;
-        (&unordered, 0, None, true, true),
-        (&unordered, 1, None, true, true),
-        (&repeated, 0, None, true, false),
-        (&repeated, 1, None, false, true),
-        (&rising, 0, None, false, false),
-        (&rising, 1, None, true, true),
-        (&rising, 0, Some(0), true, true),
-        (&rising, 1, Some(0), false, false),
-    ]?;
-    for (literals, index, chosen, strict, answer) in &rows {
-        let literals = literals.as_slice();
-        if *index < literals.len() {
-            assert_eq!(rt; eligible(literals, *index, *chosen, *strict), *answer);
-        }
+    let unordered = [(true, "0p", "t"), (true, "ap", "t"), NONE];
+    let repeated = [(true, "ap", "t"), (true, "ap", "t"), NONE];
+    let rising = [(true, "ap", "t"), (true, "aq", "t"), NONE];
+    let rows = [
+        (unordered, 0, None, true, true),
+        (unordered, 1, None, true, true),
+        (repeated, 0, None, true, false),
+        (repeated, 1, None, false, true),
+        (rising, 0, None, false, false),
+        (rising, 1, None, true, true),
+        (rising, 0, Some(0), true, true),
+        (rising, 1, Some(0), false, false),
+    ];
+    for (equations, index, chosen, strict, answer) in rows {
+        let clause = clause(alloc, equations)?;
+        assert_eq!(rt; is_eligible(&clause, index, chosen, strict), Some(answer));
     }
     Ok(())
 }
