@@ -1,0 +1,98 @@
+-- Steps of loops over the literals of a clause.
+use Rattle.std.proofs.Common.{◌≡◌, ℕ, ◌+◌, ◌<◌, ◌≤◌, Bool, true, false, ◌&&◌, ◌||◌, List, [], ◌∷◌, length, map, take, get_or, refl, ap, sym, ◌∙◌, subst, ⊎_elim, arith}
+use Rattle.std.specs.Prelude.{sum_by}
+use Rattle.std.specs.List.{list_any, list_all}
+use Rattle.std.proofs.lemmas.Bool.{and_from, or_from, or_left, or_right, false_from_ne_true, true≢false}
+use Rattle.std.proofs.lemmas.List.Folds.{list_all-append, list_any-append}
+use Rattle.std.proofs.lemmas.List.Sums.{sum_by-cons}
+use Rattle.fol_base.proofs.ListLemmas.{map-take_more_item}
+use Rattle.fol_base.specs.Clause.{TreeLiteral, literal_size}
+use Rattle.fol_base.specs.Order.{equivalent_literals, literal_greater, compare_literals}
+use Rattle.kbo_order.specs.declared.cmp.Cmp.{Cmp}
+use Rattle.kbo_order.specs.declared.cmp.Cmp.TheVariants.{Greater, Less, Equal, Unordered}
+use Rattle.kbo_order.specs.Cmp.{comparison_of, is_greater}
+use Rattle.kbo_order.proofs.MemberLemmas.{In, In-at, In-map, all-In}
+use Rattle.kbo_order.proofs.FurtherLemmas.{by_tests}
+use Rattle.kbo_order.proofs.StrictOrderLemmas.{literals_ordered}
+
+item-In : {X Y : Type 0} (f : X → Y) (xs : List X) (i : ℕ) (x : X) → i < length xs → x ≡ get_or xs i x → In (f x) (map f xs)
+item-In f xs i x h e = In-map f x xs (subst (λ y. In y xs) (sym e) (In-at xs i x h))
+
+pub all-more :
+    {X Y : Type 0} (p : Y → Bool) (f : X → Y) (xs : List X) (i : ℕ) (x : X) → i < length xs → x ≡ get_or xs i x
+    → list_all p (map f (take i xs)) ≡ true → p (f x) ≡ true → list_all p (map f (take (i + 1) xs)) ≡ true
+all-more p f xs i x h e before here =
+    ap (list_all p) (map-take_more_item f xs i x h e)
+    ∙ list_all-append p (map f (take i xs)) (f x ∷ [])
+    ∙ and_from (list_all p (map f (take i xs))) (p (f x) && true) before (and_from (p (f x)) true here refl)
+
+pub all-stop :
+    {X Y : Type 0} (p : Y → Bool) (f : X → Y) (xs : List X) (i : ℕ) (x : X) → i < length xs → x ≡ get_or xs i x
+    → p (f x) ≡ false → false ≡ list_all p (map f xs)
+all-stop p f xs i x h e here =
+    sym (false_from_ne_true (list_all p (map f xs)) (λ all.
+    true≢false (sym (all-In p (map f xs) all (f x) (item-In f xs i x h e)) ∙ here)))
+
+pub any-more :
+    {X Y : Type 0} (p : Y → Bool) (f : X → Y) (xs : List X) (i : ℕ) (x : X) → i < length xs → x ≡ get_or xs i x
+    → list_any p (map f (take i xs)) ≡ false → p (f x) ≡ false → list_any p (map f (take (i + 1) xs)) ≡ false
+any-more p f xs i x h e before here =
+    ap (list_any p) (map-take_more_item f xs i x h e)
+    ∙ list_any-append p (map f (take i xs)) (f x ∷ [])
+    ∙ or_from (list_any p (map f (take i xs))) (p (f x) || false) before (or_from (p (f x)) false here refl)
+
+In-any : {X : Type 0} (p : X → Bool) (xs : List X) (x : X) → In x xs → p x ≡ true → list_any p xs ≡ true
+In-any p [] x there h = absurd there
+In-any p (y ∷ ys) x there h =
+    ⊎_elim
+    (λ e. or_left (p y) (list_any p ys) (ap p (sym e) ∙ h))
+    (λ later. or_right (p y) (list_any p ys) (In-any p ys x later h))
+    there
+
+pub any-stop :
+    {X Y : Type 0} (p : Y → Bool) (f : X → Y) (xs : List X) (i : ℕ) (x : X) → i < length xs → x ≡ get_or xs i x
+    → p (f x) ≡ true → true ≡ list_any p (map f xs)
+any-stop p f xs i x h e here = sym (In-any p (map f xs) (f x) (item-In f xs i x h e) here)
+
+-- a literal is no larger than its clause
+In-size : (ls : List TreeLiteral) (l : TreeLiteral) → In l ls → literal_size l ≤ sum_by literal_size ls
+In-size [] l there = absurd there
+In-size (m ∷ ls) l there =
+    ⊎_elim
+    (λ e. omega (arith, sum_by-cons literal_size m ls, ap literal_size e))
+    (λ later. omega (arith, sum_by-cons literal_size m ls, In-size ls l later))
+    there
+
+pub item-size :
+    {X : Type 0} (f : X → TreeLiteral) (xs : List X) (i : ℕ) (x : X)
+    → i < length xs → x ≡ get_or xs i x → literal_size (f x) ≤ sum_by literal_size (map f xs)
+item-size f xs i x h e = In-size (map f xs) (f x) (item-In f xs i x h e)
+
+pub and-swap : (a b : Bool) → (a && b) ≡ (b && a)
+and-swap true true = refl
+and-swap true false = refl
+and-swap false true = refl
+and-swap false false = refl
+
+-- ---- greater, by the answer
+
+tests-greater : (c : Cmp) (a b d : Bool) → comparison_of c ≡ by_tests a b d → (a ≡ true → b ≡ false) → is_greater c ≡ b
+tests-greater Greater true b d e h = absurd (cc)
+tests-greater Greater false true d e h = refl
+tests-greater Greater false false true e h = absurd (cc)
+tests-greater Greater false false false e h = absurd (cc)
+tests-greater Less true b d e h = sym (h refl)
+tests-greater Less false true d e h = absurd (cc)
+tests-greater Less false false d e h = refl
+tests-greater Equal true b d e h = sym (h refl)
+tests-greater Equal false true d e h = absurd (cc)
+tests-greater Equal false false d e h = refl
+tests-greater Unordered true b d e h = sym (h refl)
+tests-greater Unordered false true d e h = absurd (cc)
+tests-greater Unordered false false d e h = refl
+
+pub greater-is : (c : Cmp) (l m : TreeLiteral) → comparison_of c ≡ compare_literals l m → is_greater c ≡ literal_greater l m
+greater-is c l m e =
+    tests-greater c (equivalent_literals l m) (literal_greater l m) (literal_greater m l) e
+    (λ same. false_from_ne_true (literal_greater l m) (λ g.
+    true≢false (sym (literals_ordered.same_left l m m same g) ∙ literals_ordered.is_irreflexive m)))

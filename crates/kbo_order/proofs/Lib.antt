@@ -1,0 +1,14 @@
+pub mod TallyLemmas
+pub mod AddedLemmas
+pub mod BlockLemmas
+pub mod BalanceLemmas
+pub mod FurtherLemmas
+pub mod MemberLemmas
+pub mod MultisetLemmas
+pub mod StrictOrderLemmas
+pub mod StableLemmas
+pub mod SubtermLemmas
+pub mod GroundLemmas
+pub mod AnswerLemmas
+pub mod SideLemmas
+pub mod ClauseLoops

@@ -1,0 +1,8 @@
+pub mod Cmp
+pub mod Tally
+pub mod Block
+pub mod Balance
+pub mod Further
+pub mod StrictOrder
+pub mod Laws
+pub mod Sides

@@ -1,0 +1,19 @@
+// The Knuth-Bendix order on terms, and its extension to literals and clauses.
+#![tactic(auto)]
+
+mod balance;
+mod clauses;
+mod cmp;
+pub mod laws;
+mod literals;
+mod sides;
+mod tally;
+mod terms;
+
+pub use clauses::compare_clauses;
+pub use cmp::Cmp;
+pub use literals::compare_literals;
+pub use terms::compare;
+
+#[cfg(test)]
+mod tests;

@@ -1,0 +1,81 @@
+// The comparison of two terms.
+
+ghost use Rattle.std.specs.Prelude.{◌≡◌, ◌+◌, ◌<◌, ◌≤◌, ◌^◌};
+ghost use Rattle.fol_base.specs.Tree.{tree_size};
+ghost use Rattle.fol_base.specs.Term.{tree_of};
+ghost use Rattle.fol_base.specs.Order.{compare_trees};
+ghost use Rattle.kbo_order.specs.Cmp.{comparison_of};
+ghost use Rattle.kbo_order.specs.Block.{Answers, InBlock, Below, IsStrict, GreaterOn};
+ghost use Rattle.kbo_order.specs.Further.{IsNumbered, IsClear};
+
+use crate::balance::Balance;
+use crate::cmp::Cmp;
+use fol_base::Term;
+
+/// The end of the variables' numbers.
+const VARIABLES: u64 = 1 << 32;
+
+/// What two terms are to each other in the Knuth-Bendix order with weight 1 for each occurrence of a
+/// symbol or variable, and the symbols' numbers as precedence (Knuth and Bendix 1970). It takes no memory.
+///
+/// One walk down both terms, as in Löchner (2006), for each block of 64 variables that has one of theirs.
+pub fn compare(left: &Term, right: &Term) -> Cmp
+    requires left_size { tree_size (tree_of left.now) < 2 ^ 62 }
+    requires right_size { tree_size (tree_of right.now) < 2 ^ 62 }
+    ensures { comparison_of result ≡ compare_trees (tree_of left.now) (tree_of right.now) }
+{
+    let first = compare_in_block(left, right, 0);
+    match first.answer {
+        Cmp::Greater | Cmp::Less => compare_in_blocks(left, right, first.answer, first.next),
+        Cmp::Equal | Cmp::Unordered => first.answer,
+    }
+}
+
+/// The answer that the blocks before `from` gave, where those from there on give it too. Else the terms
+/// are unordered.
+fn compare_in_blocks(left: &Term, right: &Term, answer: Cmp, from: u64) -> Cmp
+    requires left_size { tree_size (tree_of left.now) < 2 ^ 62 }
+    requires right_size { tree_size (tree_of right.now) < 2 ^ 62 }
+    requires strict { IsStrict answer }
+    requires answered { Answers (GreaterOn (Below from)) answer (tree_of left.now) (tree_of right.now) }
+    requires left_numbers { IsNumbered (tree_of left.now) }
+    requires right_numbers { IsNumbered (tree_of right.now) }
+    ensures { comparison_of result ≡ compare_trees (tree_of left.now) (tree_of right.now) }
+{
+    let mut start = from;
+    while start < VARIABLES {
+        let block = compare_in_block(left, right, start);
+        if block.answer != answer {
+            return Cmp::Unordered;
+        }
+        start = block.next;
+    }
+    answer
+}
+
+/// The answer for one block of variables, and where the next block begins.
+#[derive(Drop)]
+struct BlockAnswer {
+    answer: Cmp,
+    next: u64,
+}
+
+/// Compares two terms with the variable condition for the variables of one block alone.
+fn compare_in_block(left: &Term, right: &Term, start: u64) -> BlockAnswer
+    requires left_size { tree_size (tree_of left.now) < 2 ^ 62 }
+    requires right_size { tree_size (tree_of right.now) < 2 ^ 62 }
+    requires start { start < 2 ^ 32 }
+    ensures answer { Answers (GreaterOn (InBlock start)) result.answer (tree_of left.now) (tree_of right.now) }
+    ensures next { start + 64 ≤ result.next }
+    ensures left_numbers { IsNumbered (tree_of left.now) }
+    ensures right_numbers { IsNumbered (tree_of right.now) }
+    ensures left_clear { IsClear start result.next (tree_of left.now) }
+    ensures right_clear { IsClear start result.next (tree_of right.now) }
+{
+    let mut balance = Balance::starting_at(start);
+    let answer = balance.compare(left, right);
+    BlockAnswer {
+        answer,
+        next: balance.left.next.min(balance.right.next),
+    }
+}

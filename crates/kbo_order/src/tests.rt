@@ -1,0 +1,202 @@
+// The comparisons on rows worked out by hand.
+
+use super::*;
+use fol_base::{Clause, Literal, Literals, Names, Term, Terms};
+use std::alloc::Global;
+use std::test::Fail;
+
+/// The bound on sizes that the comparisons ask for.
+const LIMIT: u64 = 1 << 62;
+
+/// The number of a symbol: they rise in the order a, b, f, g, p, q.
+fn symbol(letter: u8) -> u32 {
+    match letter {
+        b't' => 0,
+        b'a' => 1,
+        b'b' => 2,
+        b'f' | b'F' => 3,
+        b'g' | b'G' => 4,
+        b'p' => 5,
+        _ => 6,
+    }
+}
+
+/// A term in postfix notation: a digit is a variable, `t` is `$true`, `a` and `b` are constants, `F` and `G` are f and g
+/// with two arguments, and any other letter is a symbol with one.
+fn term(alloc: Global, text: &str) -> Result<Term, Fail> {
+    let mut stack = Vec::new(alloc);
+    for letter in text.bytes() {
+        let made = match letter {
+            b'0'..=b'9' => Term::Var(u32::from(letter - b'0')),
+            b't' | b'a' | b'b' => Term::App(symbol(letter), Terms::new(alloc)),
+            b'F' | b'G' => {
+                let second = stack.pop().ok_or("no argument")?;
+                let first = stack.pop().ok_or("no argument")?;
+                let arguments = vec![in alloc; first, second]?;
+                Term::App(symbol(letter), Terms::from_vec(arguments))
+            }
+            _ => {
+                let argument = stack.pop().ok_or("no argument")?;
+                let arguments = vec![in alloc; argument]?;
+                Term::App(symbol(letter), Terms::from_vec(arguments))
+            }
+        };
+        stack.push(made)?;
+    }
+    Ok(stack.pop().ok_or("no term")?)
+}
+
+fn literal(alloc: Global, positive: bool, left: &str, right: &str) -> Result<Literal, Fail> {
+    let left = term(alloc, left)?;
+    let right = term(alloc, right)?;
+    Ok(Literal {
+        positive,
+        left,
+        right,
+    })
+}
+
+/// A clause of atoms, each by its predicate term; the empty text is none.
+fn clause(alloc: Global, atoms: [&str; 2]) -> Result<Clause, Fail> {
+    let mut literals = Literals::new(alloc);
+    for atom in atoms {
+        if !atom.is_empty() {
+            literals.push(literal(alloc, true, atom, "t")?)?;
+        }
+    }
+    Ok(Clause {
+        literals,
+        names: Names::new(alloc),
+    })
+}
+
+/// A symbol applied to the variables of a range.
+fn row(alloc: Global, symbol: u32, from: u32, to: u32) -> Result<Term, Fail> {
+    let mut arguments = Terms::new(alloc);
+    for variable in from..to {
+        arguments.push(Term::Var(variable))?;
+    }
+    Ok(Term::App(symbol, arguments))
+}
+
+fn compared(left: &Term, right: &Term) -> Option<Cmp> {
+    if left.size() < LIMIT && right.size() < LIMIT {
+        return Some(compare(left, right));
+    }
+    None
+}
+
+fn compared_literals(left: &Literal, right: &Literal) -> Option<Cmp> {
+    if left.size() < LIMIT && right.size() < LIMIT {
+        return Some(compare_literals(left, right));
+    }
+    None
+}
+
+fn compared_clauses(left: &Clause, right: &Clause) -> Option<Cmp> {
+    if left.size() < LIMIT && right.size() < LIMIT {
+        return Some(compare_clauses(left.literals.as_slice(), right.literals.as_slice()));
+    }
+    None
+}
+
+#[test]
+fn terms_are_compared(rt: HostRuntime) -> Result<(), Fail> {
+    let alloc = rt.alloc();
+    let rows = [
+        ("0f", "0", Cmp::Greater),
+        ("0", "0f", Cmp::Less),
+        ("0f", "1f", Cmp::Unordered),
+        ("0", "a", Cmp::Unordered),
+        ("ag", "af", Cmp::Greater),
+        ("abF", "baF", Cmp::Less),
+        ("baF", "abF", Cmp::Greater),
+        ("af", "b", Cmp::Greater),
+        ("0g1F", "1g0F", Cmp::Unordered),
+        ("0g1F", "0g1F", Cmp::Equal),
+    ];
+    for (left, right, answer) in rows {
+        let left = term(alloc, left)?;
+        let right = term(alloc, right)?;
+        assert_eq!(rt; compared(&left, &right), Some(answer));
+    }
+    Ok(())
+}
+
+/// Variables in several blocks, and the highest numbers that there are.
+#[test]
+fn many_variables_are_compared(rt: HostRuntime) -> Result<(), Fail> {
+    let alloc = rt.alloc();
+    let rows = [
+        (4, 0, 200, 3, 0, 200, Cmp::Greater),
+        (3, 0, 200, 3, 0, 200, Cmp::Equal),
+        (4, 1, 201, 3, 0, 200, Cmp::Unordered),
+        (4, 0, 200, 3, 0, 201, Cmp::Less),
+        (
+            3,
+            4_294_967_293,
+            4_294_967_295,
+            4,
+            4_294_967_293,
+            4_294_967_295,
+            Cmp::Less,
+        ),
+    ];
+    for (head, from, to, other, other_from, other_to, answer) in rows {
+        let left = row(alloc, head, from, to)?;
+        let right = row(alloc, other, other_from, other_to)?;
+        assert_eq!(rt; compared(&left, &right), Some(answer));
+    }
+    Ok(())
+}
+
+/// The depth that the recursion has to stand.
+#[test]
+fn tall_terms_are_compared(rt: HostRuntime) -> Result<(), Fail> {
+    let alloc = rt.alloc();
+    let (mut left, mut right) = (term(alloc, "b")?, term(alloc, "a")?);
+    for _ in 0..4_000 {
+        left = Term::App(3, Terms::from_vec(vec![in alloc; left]?));
+        right = Term::App(3, Terms::from_vec(vec![in alloc; right]?));
+    }
+    assert_eq!(rt; compared(&left, &right), Some(Cmp::Greater));
+    Ok(())
+}
+
+#[test]
+fn literals_are_compared(rt: HostRuntime) -> Result<(), Fail> {
+    let alloc = rt.alloc();
+    let rows = [
+        (true, "af", "b", false, "af", "b", Cmp::Less),
+        (false, "af", "b", true, "af", "b", Cmp::Greater),
+        (true, "af", "b", true, "b", "af", Cmp::Equal),
+        (true, "af", "b", true, "af", "a", Cmp::Greater),
+        (true, "af", "b", false, "a", "b", Cmp::Greater),
+        (false, "a", "b", false, "af", "b", Cmp::Less),
+        (true, "0f", "a", true, "1f", "a", Cmp::Unordered),
+    ];
+    for (positive, left, right, other_positive, other_left, other_right, answer) in rows {
+        let first = literal(alloc, positive, left, right)?;
+        let second = literal(alloc, other_positive, other_left, other_right)?;
+        assert_eq!(rt; compared_literals(&first, &second), Some(answer));
+    }
+    Ok(())
+}
+
+#[test]
+fn clauses_are_compared(rt: HostRuntime) -> Result<(), Fail> {
+    let alloc = rt.alloc();
+    let rows = [
+        (["ap", ""], ["ap", "aq"], Cmp::Less),
+        (["ap", "aq"], ["aq", "ap"], Cmp::Equal),
+        (["ap", "ap"], ["ap", ""], Cmp::Greater),
+        (["ap", "ap"], ["ap", "aq"], Cmp::Less),
+        (["0p", ""], ["ap", ""], Cmp::Unordered),
+    ];
+    for (left, right, answer) in rows {
+        let left = clause(alloc, left)?;
+        let right = clause(alloc, right)?;
+        assert_eq!(rt; compared_clauses(&left, &right), Some(answer));
+    }
+    Ok(())
+}

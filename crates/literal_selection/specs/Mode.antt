@@ -1,0 +1,14 @@
+-- Which literal of a clause is chosen.
+use Rattle.std.specs.Prelude.{ℕ, if◌then◌else◌}
+use Rattle.fol_base.specs.Clause.{TreeLiteral, literal_size}
+use Rattle.fol_base.specs.Selection.{SelectionMode, select_nothing, select_negative}
+use Rattle.literal_selection.specs.declared.choice.Selection.{Selection}
+use Rattle.literal_selection.specs.declared.choice.Selection.TheVariants.{Nothing, Negative}
+
+abbrev pub mode_of : Selection → SelectionMode
+mode_of Nothing = select_nothing
+mode_of Negative = select_negative
+
+-- the size of a negative literal, and 0 for a positive one
+abbrev pub negative_size : TreeLiteral → ℕ
+negative_size l = if l.positive then 0 else literal_size l
