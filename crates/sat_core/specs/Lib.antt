@@ -1,0 +1,4 @@
+pub mod Clause
+pub mod Resolution
+pub mod Answer
+pub mod Examples

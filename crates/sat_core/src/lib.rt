@@ -1,0 +1,9 @@
+// The propositional solver: clause learning, with a model or a log of resolutions as its answer.
+#![tactic(auto)]
+
+mod answer;
+
+pub use answer::{Answer, Chain, Link, Links, Log, PropClauses, Truths};
+pub use plain_types::{Mem, NameLit, Names, NoMemory, Sequence};
+
+pub mod laws;
