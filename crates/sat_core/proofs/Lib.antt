@@ -1,3 +1,3 @@
 pub mod LiteralLemmas
 pub mod TruthLemmas
-
+pub mod TrailLemmas

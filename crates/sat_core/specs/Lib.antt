@@ -2,3 +2,4 @@ pub mod Clause
 pub mod Resolution
 pub mod Answer
 pub mod Examples
+pub mod Trail

@@ -2,6 +2,7 @@
 #![tactic(auto)]
 
 mod answer;
+mod trail;
 
 pub use answer::{Answer, Chain, Link, Links, Log, PropClauses, Truths};
 pub use plain_types::{Mem, NameLit, Names, NoMemory, Sequence};
