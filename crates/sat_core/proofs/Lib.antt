@@ -1,3 +1,4 @@
 pub mod LiteralLemmas
 pub mod TruthLemmas
 pub mod TrailLemmas
+pub mod MarkLemmas

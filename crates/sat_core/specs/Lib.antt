@@ -3,3 +3,4 @@ pub mod Resolution
 pub mod Answer
 pub mod Examples
 pub mod Trail
+pub mod State

@@ -2,6 +2,7 @@
 #![tactic(auto)]
 
 mod answer;
+mod marks;
 mod trail;
 
 pub use answer::{Answer, Chain, Link, Links, Log, PropClauses, Truths};
