@@ -2,3 +2,5 @@ pub mod LiteralLemmas
 pub mod TruthLemmas
 pub mod TrailLemmas
 pub mod MarkLemmas
+pub mod LogLemmas
+pub mod AnalysisLemmas

@@ -4,3 +4,4 @@ pub mod Answer
 pub mod Examples
 pub mod Trail
 pub mod State
+pub mod Conflict

@@ -1,14 +1,13 @@
 -- What the solver keeps: clauses that are derived, a trail whose entries are decisions or implied, and marks.
-use Rattle.std.specs.Prelude.{◌≡◌, ℕ, ◌+◌, ◌<◌, ◌≤◌, Bool, false, ◌&&◌, ◌==◌, nat_le, List, [], ◌∷◌, ◌++◌, length, take, Option, None, Some, slice_index_or, IsTrue, IsFalse, MatchOption}
+use Rattle.std.specs.Prelude.{◌≡◌, ℕ, ◌+◌, ◌<◌, ◌≤◌, Bool, false, ◌==◌, List, [], ◌++◌, length, take, Some, slice_index_or, IsTrue, IsFalse}
 use Rattle.std.specs.List.{list_any}
 use Rattle.plain_types.specs.declared.sequence.NameLit.{NameLit}
-use Rattle.sat_core.specs.declared.answer.Link.{Link}
 use Rattle.sat_core.specs.declared.answer.Chain.{Chain}
 use Rattle.sat_core.specs.declared.trail.Assigned.{Assigned}
 use Rattle.sat_core.specs.declared.trail.Slot.{Slot}
 use Rattle.sat_core.specs.Clause.{PropClause, same_literal, has_literal}
-use Rattle.sat_core.specs.Resolution.{without, links_clause, log_clauses}
-use Rattle.sat_core.specs.Trail.{IsTrail, entry_at, slot_at, place_of, is_false, is_false_within}
+use Rattle.sat_core.specs.Resolution.{chain_clause, log_clauses}
+use Rattle.sat_core.specs.Trail.{IsTrail, entry_at, is_false, is_false_within}
 
 -- the empty clause where there is none
 abbrev pub clause_at : List PropClause → ℕ → PropClause
@@ -31,6 +30,13 @@ pub record AreDerived (inputs : ℕ) (clauses : List PropClause) (log : List Cha
   pub lawful : log_clauses (take inputs clauses) log ≡ Some made
   pub same : SameClauses clauses (take inputs clauses ++ made)
 
+-- the chain's clause is, as a set, the clause
+pub record Derives (clauses : List PropClause) (chain : Chain) (clause : PropClause) : Type 0 where
+  pub made : PropClause
+  pub lawful : chain_clause clauses chain ≡ Some made
+  pub same : SameLiterals clause made
+
+-- each name is below the bound
 abbrev pub AreNamed : ℕ → List PropClause → Type 0
 AreNamed names clauses = (n : ℕ) (l : NameLit) → IsTrue (has_literal l (clause_at clauses n)) → l.name < names
 
@@ -67,24 +73,3 @@ has_name v c = list_any (λ (l : NameLit). l.name == v) c
 -- the marked names are those of the literals
 abbrev pub AreMarks : List Bool → PropClause → Type 0
 AreMarks marked literals = (v : ℕ) → slice_index_or marked v false ≡ has_name v literals
-
--- all literals but one
-abbrev pub others : Option NameLit → PropClause → PropClause
-others None c = c
-others (Some l) c = without l c
-
--- ---- conflicts
-
--- the clause that the links make of a false clause, with the marked literals: those within the bound are what is left of it
-pub record IsResolved (clauses : List PropClause) (slots : List Slot) (start : ℕ) (links : List Link) (literals : PropClause) (bound : ℕ) : Type 0 where
-  pub clause : PropClause
-  pub lawful : links_clause clauses (clause_at clauses start) links ≡ Some clause
-  pub left : (l : NameLit) → has_literal l clause ≡ (has_literal l literals && nat_le (place_of slots l) bound)
-
--- A decision that is to be turned. Below it the clause's other literals are false, and its literal has no value.
-pub record IsTurn (entries : List Assigned) (slots : List Slot) (clause : PropClause) (literal : NameLit) (cut : ℕ) : Type 0 where
-  pub member : IsTrue (has_literal literal clause)
-  pub within : cut < length entries
-  pub decision : (entry_at entries cut).reason ≡ None
-  pub later : cut < place_of slots literal
-  pub others : (k : NameLit) → IsTrue (has_literal k clause) → IsFalse (same_literal literal k) → IsTrue (is_false_within slots cut k)

@@ -1,7 +1,10 @@
 // The propositional solver: clause learning, with a model or a log of resolutions as its answer.
 #![tactic(auto)]
 
+mod analysis;
 mod answer;
+mod clauses;
+mod literals;
 mod marks;
 mod trail;
 
