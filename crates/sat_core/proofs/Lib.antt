@@ -4,3 +4,4 @@ pub mod TrailLemmas
 pub mod MarkLemmas
 pub mod LogLemmas
 pub mod AnalysisLemmas
+pub mod ResolveLemmas

@@ -1,12 +1,12 @@
 -- What the analysis of a conflict keeps, and what it ends in.
-use Rattle.std.specs.Prelude.{◌≡◌, ℕ, ◌+◌, ◌<◌, ◌≤◌, Bool, true, not, ◌&&◌, ◌||◌, nat_le, List, [], Option, None, Some, length, IsTrue, IsFalse, MatchOption}
+use Rattle.std.specs.Prelude.{◌≡◌, ℕ, ◌-◌, ◌<◌, ◌≤◌, Bool, true, not, ◌&&◌, ◌||◌, nat_le, List, [], Option, None, Some, length, IsTrue, IsFalse, MatchOption}
 use Rattle.plain_types.specs.declared.sequence.NameLit.{NameLit}
 use Rattle.sat_core.specs.declared.answer.Link.{Link}
 use Rattle.sat_core.specs.declared.trail.Assigned.{Assigned}
 use Rattle.sat_core.specs.declared.trail.Slot.{Slot}
 use Rattle.sat_core.specs.declared.analysis.Turn.{Turn}
 use Rattle.sat_core.specs.declared.analysis.Analysis.{Analysis}
-use Rattle.sat_core.specs.Clause.{PropClause, same_literal, has_literal}
+use Rattle.sat_core.specs.Clause.{PropClause, same_literal, has_literal, opposite}
 use Rattle.sat_core.specs.Resolution.{links_clause}
 use Rattle.sat_core.specs.Trail.{entry_at, place_of, is_false, is_false_within}
 use Rattle.sat_core.specs.State.{clause_at, SameLiterals, AreFalse, AreMarks}
@@ -41,6 +41,18 @@ pub record IsResolving (clauses : List PropClause) (slots : List Slot) (start : 
   pub false_literals : AreFalse slots literals
   pub reached : IsReached clauses slots start links literals bound
 
+-- the decision that the entry below a bound turns: the literals below the bound are below the decision
+pub record TurnsAt (entries : List Assigned) (slots : List Slot) (literals : PropClause) (entry : Assigned) (bound : ℕ) (turn : Turn) : Type 0 where
+  pub literal : turn.literal ≡ opposite entry.literal
+  pub within : turn.cut < bound
+  pub decision : (entry_at entries turn.cut).reason ≡ None
+  pub below : (l : NameLit) → IsTrue (has_literal l literals) → place_of slots l < bound → place_of slots l ≤ turn.cut
+
+-- with a marked literal that stands there
+pub record IsTurnOf (entries : List Assigned) (slots : List Slot) (literals : PropClause) (bound : ℕ) (turn : Turn) : Type 0 where
+  pub turns : TurnsAt entries slots literals (entry_at entries (bound - 1)) bound turn
+  pub marked : IsTrue (has_literal turn.literal literals)
+
 -- A decision that is to be turned: before it the clause's other literals are false, and its literal has no value.
 pub record IsTurn (entries : List Assigned) (slots : List Slot) (clause : PropClause) (turn : Turn) : Type 0 where
   pub member : IsTrue (has_literal turn.literal clause)
@@ -52,6 +64,7 @@ pub record IsTurn (entries : List Assigned) (slots : List Slot) (clause : PropCl
 -- a clause derived from a false one by the links: it turns a decision, or is empty
 pub record IsAnalysis (clauses : List PropClause) (entries : List Assigned) (slots : List Slot) (start : ℕ) (analysis : Analysis) : Type 0 where
   pub made : PropClause
-  pub lawful : links_clause clauses (clause_at clauses start) analysis.links ≡ Some made
+  pub starts : analysis.chain.start ≡ start
+  pub lawful : links_clause clauses (clause_at clauses start) analysis.chain.links ≡ Some made
   pub same : SameLiterals analysis.clause made
   pub turn : MatchOption analysis.turn (analysis.clause ≡ []) (IsTurn entries slots analysis.clause)
