@@ -4,6 +4,7 @@ use mathlib.Core.Bool.{beq}
 use Rattle.std.specs.Prelude.{IsTrue, IsFalse, nat_le}
 use Rattle.std.specs.List.{list_any}
 use Rattle.std.proofs.lemmas.Bool.{cases_Bool, cases_eq, cases_lt, or_cases, or_left, or_right, and_parts, and_from, le-leb, lt-leb, leb-true, leb-false}
+use Rattle.std.proofs.lemmas.List.{get_or_default}
 use Rattle.std.proofs.lemmas.List.Folds.{list_any_at, list_any_more}
 use Rattle.plain_types.specs.declared.sequence.NameLit.{NameLit}
 use Rattle.sat_core.specs.declared.trail.Assigned.{Assigned}
@@ -22,6 +23,13 @@ no_literal = record { positive = false; name = 0 }
 -- a literal that is read from a list stands in it
 pub has_literal_read : (xs : PropClause) (i : ℕ) (x : NameLit) → i < length xs → x ≡ get_or xs i x → IsTrue (has_literal x xs)
 has_literal_read xs i x h e = list_any_at (same_literal x) xs i x h (ap (same_literal x) (sym e) ∙ same_literal-refl x)
+
+pub has_literal_at : (xs : PropClause) (i : ℕ) → i < length xs → IsTrue (has_literal (get_or xs i no_literal) xs)
+has_literal_at xs i h = has_literal_read xs i _ h (get_or_default xs i no_literal _ h)
+
+-- so its name has a slot
+pub named_at : (names : ℕ) (xs : PropClause) (i : ℕ) → AreWithin names xs → i < length xs → (get_or xs i no_literal).name < names
+named_at names xs i within h = within _ (has_literal_at xs i h)
 
 pub has_literal_more :
     (xs : PropClause) (i : ℕ) (x k : NameLit) → i < length xs → x ≡ get_or xs i x

@@ -5,3 +5,6 @@ pub mod MarkLemmas
 pub mod LogLemmas
 pub mod AnalysisLemmas
 pub mod ResolveLemmas
+pub mod MeasureLemmas
+pub mod SoundLemmas
+pub mod PropagationLemmas

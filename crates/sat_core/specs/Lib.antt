@@ -5,3 +5,4 @@ pub mod Examples
 pub mod Trail
 pub mod State
 pub mod Conflict
+pub mod Search

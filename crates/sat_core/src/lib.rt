@@ -6,6 +6,7 @@ mod answer;
 mod clauses;
 mod literals;
 mod marks;
+mod watches;
 mod trail;
 
 pub use answer::{Answer, Chain, Link, Links, Log, PropClauses, Truths};

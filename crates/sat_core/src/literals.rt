@@ -1,6 +1,6 @@
 // Literals of names.
 
-ghost use Rattle.std.specs.Prelude.{◌≡◌};
+ghost use Rattle.std.specs.Prelude.{◌≡◌, ◌+◌, ◌*◌, ◌<◌};
 ghost use Rattle.sat_core.specs.Clause.{same_literal, opposite};
 ghost use Rattle.sat_core.specs.Conflict.{is_other};
 
@@ -31,4 +31,11 @@ pub fn is_other(implied: Option<NameLit>, literal: NameLit) -> bool
         Some(implied) => !same_literal(implied, literal),
         None => true,
     }
+}
+
+/// A number of its own for each literal.
+pub fn code(literal: NameLit) -> usize
+    ensures { result < 2 * literal.name + 2 }
+{
+    2 * literal.name as usize + usize::from(literal.positive)
 }
