@@ -132,6 +132,7 @@ impl Watches {
         requires { IsSound clauses.now.all.items trail.now.entries.items trail.now.slots.items }
         ensures found { IsFoundAt clauses.now.all.items trail.now.slots.items number result }
         ensures lists { self.new.lists.items ≡ self.old.lists.items }
+        ensures seen { self.new.seen ≡ self.old.seen }
     {
         if number >= clauses.all.len() || number >= self.pairs.len() {
             return Visit::Kept;
@@ -160,7 +161,8 @@ impl Watches {
     fn move_watch(&mut self, list: usize, index: usize, literal: NameLit) -> Mem<()>
         requires list { list < length self.old.lists.items }
         requires literal { 2 * literal.name + 2 ≤ length self.old.lists.items }
-        ensures { IfOk result (λ _. length self.new.lists.items ≡ length self.old.lists.items) }
+        ensures lists { IfOk result (λ _. length self.new.lists.items ≡ length self.old.lists.items) }
+        ensures seen { IfOk result (λ _. self.new.seen ≡ self.old.seen) }
     {
         let from = &mut self.lists[list];
         if index < from.len() {
@@ -185,6 +187,7 @@ impl Watches {
             trail.new.entries.items trail.new.slots.items) }
         ensures conflict { IfOk result (λ found. IfSome found (IsConflict clauses.now.all.items trail.new.slots.items)) }
         ensures lists { IfOk result (λ _. length self.new.lists.items ≡ length self.old.lists.items) }
+        ensures seen { IfOk result (λ _. self.new.seen ≡ self.old.seen) }
     {
         let list = code(falsified);
         let mut index = 0;
@@ -208,4 +211,149 @@ impl Watches {
         }
         Ok(None)
     }
+
+    /// Looks at the clauses without two different literals.
+    fn settle_units(&mut self, clauses: &Clauses, trail: &mut Trail) -> Mem<Option<usize>>
+        requires sound { IsSound clauses.now.all.items trail.old.entries.items trail.old.slots.items }
+        ensures propagates { IfOk result (λ _. Propagates clauses.now.all.items trail.old.entries.items trail.old.slots.items
+            trail.new.entries.items trail.new.slots.items) }
+        ensures conflict { IfOk result (λ found. IfSome found (IsConflict clauses.now.all.items trail.new.slots.items)) }
+        ensures lists { IfOk result (λ _. length self.new.lists.items ≡ length self.old.lists.items) }
+    {
+        while let Some(number) = self.units.pop() {
+            if let Some(conflict) = settle(clauses, trail, number)? {
+                return Ok(Some(conflict));
+            }
+        }
+        Ok(None)
+    }
+
+    /// Makes true what is implied, until nothing more is or all literals of some clause are false.
+    pub fn propagate(&mut self, clauses: &Clauses, trail: &mut Trail) -> Mem<Option<usize>>
+        requires sound { IsSound clauses.now.all.items trail.old.entries.items trail.old.slots.items }
+        requires lists { length self.old.lists.items ≡ 2 * length trail.old.slots.items }
+        ensures propagates { IfOk result (λ _. Propagates clauses.now.all.items trail.old.entries.items trail.old.slots.items
+            trail.new.entries.items trail.new.slots.items) }
+        ensures conflict { IfOk result (λ found. IfSome found (IsConflict clauses.now.all.items trail.new.slots.items)) }
+        ensures lists { IfOk result (λ _. length self.new.lists.items ≡ length self.old.lists.items) }
+    {
+        if let Some(conflict) = self.settle_units(clauses, trail)? {
+            return Ok(Some(conflict));
+        }
+        while self.seen < trail.entries.len() {
+            let falsified = opposite(trail.entries[self.seen].literal);
+            self.seen += 1;
+            if let Some(conflict) = self.visit_list(clauses, trail, falsified)? {
+                return Ok(Some(conflict));
+            }
+        }
+        Ok(None)
+    }
+
+    /// Watches the next of the clauses that are handed in.
+    pub fn add_input(&mut self, literals: &[NameLit]) -> Mem<()>
+        requires { HaveLists (length self.old.lists.items) literals.now }
+        ensures { IfOk result (λ _. length self.new.lists.items ≡ length self.old.lists.items) }
+    {
+        match different_literal(literals) {
+            Some(second) => self.watch(literals, 0, second),
+            None => {
+                self.units.push(self.pairs.len())?;
+                self.watch_nothing()
+            }
+        }
+    }
+
+    /// Watches the next clause, which has been learned, by its implied literal and the last of its false ones.
+    pub fn add_learned(&mut self, trail: &Trail, literals: &[NameLit], implied: NameLit) -> Mem<()>
+        requires within { AreWithin (length trail.now.slots.items) literals.now }
+        requires lists { HaveLists (length self.old.lists.items) literals.now }
+        requires some { 0 < length literals.now }
+        ensures { IfOk result (λ _. length self.new.lists.items ≡ length self.old.lists.items) }
+    {
+        let Pair { first, second } = learned_pair(trail, literals, implied);
+        if first == second {
+            self.watch_nothing()
+        } else {
+            self.watch(literals, first, second)
+        }
+    }
+
+    /// Lets the next clause watch nothing.
+    fn watch_nothing(&mut self) -> Mem<()>
+        ensures { IfOk result (λ _. length self.new.lists.items ≡ length self.old.lists.items) }
+    {
+        let (first, second) = (0, 0);
+        self.pairs.push(Pair { first, second })?;
+        Ok(())
+    }
+
+    /// The entries from a place on have been taken back.
+    pub fn cut(&mut self, count: usize)
+        ensures { length self.new.lists.items ≡ length self.old.lists.items }
+    {
+        self.seen = self.seen.min(count);
+    }
+}
+
+/// Looks at a clause without two different literals.
+fn settle(clauses: &Clauses, trail: &mut Trail, number: usize) -> Mem<Option<usize>>
+    requires sound { IsSound clauses.now.all.items trail.old.entries.items trail.old.slots.items }
+    ensures propagates { IfOk result (λ _. Propagates clauses.now.all.items trail.old.entries.items trail.old.slots.items
+        trail.new.entries.items trail.new.slots.items) }
+    ensures conflict { IfOk result (λ found. IfSome found (IsConflict clauses.now.all.items trail.new.slots.items)) }
+{
+    if number >= clauses.all.len() {
+        return Ok(None);
+    }
+    let literals = clauses.literals(number);
+    if literals.is_empty() {
+        return Ok(Some(number));
+    }
+    match examine(trail, literals, 0) {
+        Visit::Implied(literal) => {
+            let reason = Some(number);
+            trail.push(Assigned { literal, reason })?;
+            Ok(None)
+        }
+        Visit::False => Ok(Some(number)),
+        _ => Ok(None),
+    }
+}
+
+/// The index of a literal that differs from the first one.
+fn different_literal(literals: &[NameLit]) -> Option<usize>
+    ensures { IfSome result (λ i. i < length literals.now) }
+{
+    let first = *literals.first()?;
+    for (index, literal) in literals.iter().enumerate() {
+        if !same_literal(first, *literal) {
+            return Some(index);
+        }
+    }
+    None
+}
+
+/// The indices of the implied literal and of the false one that stands last on the trail; one index twice, where
+/// there is no other.
+fn learned_pair(trail: &Trail, literals: &[NameLit], implied: NameLit) -> Pair
+    requires within { AreWithin (length trail.now.slots.items) literals.now }
+    requires some { 0 < length literals.now }
+    ensures first { result.first < length literals.now }
+    ensures second { result.second < length literals.now }
+{
+    let mut pair = Pair {
+        first: 0,
+        second: 0,
+    };
+    let mut highest = 0;
+    for (index, literal) in literals.iter().enumerate() {
+        if same_literal(implied, *literal) {
+            pair.first = index;
+        } else if trail.place(*literal) > highest {
+            highest = trail.place(*literal);
+            pair.second = index;
+        }
+    }
+    pair
 }

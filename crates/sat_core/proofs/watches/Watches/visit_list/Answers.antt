@@ -9,11 +9,13 @@ loop-preserved c =
       | in-Kept w ↦ rw (w.self-is, w.trail-is, w.index-is) (record {
           propagates = c.loop.invariant.propagates;
           lists = ap length w.in-Kept.ensures.lists ∙ c.loop.invariant.lists;
+          seen = w.in-Kept.ensures.seen ∙ c.loop.invariant.seen;
           index = omega (arith, c.loop.invariant.index);
         })
       | in-Moved+in_ok-move_watch-in-Moved w ↦ rw (w.self-is, w.trail-is, w.index-is) (record {
           propagates = c.loop.invariant.propagates;
-          lists = w.in_ok-move_watch-in-Moved.ensures ∙ ap length w.in-Moved.ensures.lists ∙ c.loop.invariant.lists;
+          lists = w.in_ok-move_watch-in-Moved.ensures.lists ∙ ap length w.in-Moved.ensures.lists ∙ c.loop.invariant.lists;
+          seen = w.in_ok-move_watch-in-Moved.ensures.seen ∙ w.in-Moved.ensures.seen ∙ c.loop.invariant.seen;
           index = omega (arith, c.loop.invariant.index);
         })
       | in-Implied+in_ok-push-in-Implied w ↦ rw (w.self-is, w.trail-is, w.index-is) (record {
@@ -23,6 +25,7 @@ loop-preserved c =
               w.in-Implied.ensures.found.0 w.in-Implied.ensures.found.1
               w.in_ok-push-in-Implied.ensures.trail w.in_ok-push-in-Implied.ensures.entries w.in_ok-push-in-Implied.ensures.slots);
           lists = ap length w.in-Implied.ensures.lists ∙ c.loop.invariant.lists;
+          seen = w.in-Implied.ensures.seen ∙ c.loop.invariant.seen;
           index = omega (arith, c.loop.invariant.index);
         })
     ]

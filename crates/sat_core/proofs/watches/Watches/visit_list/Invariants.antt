@@ -6,5 +6,6 @@ abbrev pub invariant-loop : goal.invariant-loop
 invariant-loop l = record {
   propagates : Propagates l.clauses.all.items l.initial.trail.entries.items l.initial.trail.slots.items l.trail.entries.items l.trail.slots.items;
   lists : length l.self.lists.items ≡ length l.initial.self.lists.items;
+  seen : l.self.seen ≡ l.initial.self.seen;
   index : l.index ≤ l.counter;
 }
