@@ -8,3 +8,4 @@ pub mod ResolveLemmas
 pub mod MeasureLemmas
 pub mod SoundLemmas
 pub mod PropagationLemmas
+pub mod SolverLemmas

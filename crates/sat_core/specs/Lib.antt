@@ -6,3 +6,4 @@ pub mod Trail
 pub mod State
 pub mod Conflict
 pub mod Search
+pub mod Solver

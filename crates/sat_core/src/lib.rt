@@ -6,6 +6,8 @@ mod answer;
 mod clauses;
 mod literals;
 mod marks;
+mod order;
+mod solver;
 mod watches;
 mod trail;
 
