@@ -6,7 +6,7 @@ use Rattle.plain_types.specs.declared.sequence.NameLit.{NameLit}
 use Rattle.sat_core.specs.declared.watches.Visit.{Visit}
 use Rattle.sat_core.specs.declared.watches.Visit.TheVariants.{Kept, Moved, Implied, False}
 use Rattle.sat_core.specs.Clause.{PropClause, same_literal, has_literal}
-use Rattle.sat_core.specs.Trail.{has_place, place_of, is_false}
+use Rattle.sat_core.specs.Trail.{has_place, place_of, is_true, is_false}
 use Rattle.sat_core.specs.State.{IsSound, AreFalse, clause_at}
 
 abbrev pub is_decision : Assigned → Bool
@@ -66,3 +66,11 @@ IsFoundAt clauses slots n Kept = Unit {0}
 IsFoundAt clauses slots n (Moved index literal) = IsTrue (has_literal literal (clause_at clauses n))
 IsFoundAt clauses slots n (Implied literal) = (n < length clauses) × IsUnit slots (clause_at clauses n) literal
 IsFoundAt clauses slots n False = IsConflict clauses slots n
+
+-- none of the clause's literals is true
+abbrev pub HasNoTrue : List Slot → PropClause → Type 0
+HasNoTrue slots c = (k : NameLit) → IsTrue (has_literal k c) → IsFalse (is_true slots k)
+
+-- each of them has a value
+abbrev pub AreAssigned : List Slot → PropClause → Type 0
+AreAssigned slots c = (k : NameLit) → IsTrue (has_literal k c) → 0 < place_of slots k

@@ -18,6 +18,12 @@ pub record IsState (s : Solver) : Type 0 where
 abbrev pub inputs_of : Solver → List PropClause
 inputs_of s = take s.clauses.inputs s.clauses.all.items
 
+-- the state over the inputs and so many names
+pub record IsBegun (names : ℕ) (inputs : List PropClause) (s : Solver) : Type 0 where
+  pub state : IsState s
+  pub inputs_are : inputs_of s ≡ inputs
+  pub names_are : length s.trail.slots.items ≡ names
+
 -- another state over the same inputs and names, with less left to try
 pub record Advances (old new : Solver) : Type 0 where
   pub state : IsState new
@@ -25,12 +31,29 @@ pub record Advances (old new : Solver) : Type 0 where
   pub names : length new.trail.slots.items ≡ length old.trail.slots.items
   pub fewer : remaining (length old.trail.slots.items) new.trail.entries.items < remaining (length old.trail.slots.items) old.trail.entries.items
 
--- the clauses are as before, and the chain derives the empty one from them
+-- the same, but for what is left to try
+pub record Keeps (old new : Solver) : Type 0 where
+  pub state : IsState new
+  pub inputs : inputs_of new ≡ inputs_of old
+  pub names : length new.trail.slots.items ≡ length old.trail.slots.items
+  pub no_more : remaining (length old.trail.slots.items) new.trail.entries.items ≤ remaining (length old.trail.slots.items) old.trail.entries.items
+
+-- the chain derives the empty clause
 pub record Refutes (old new : Solver) (chain : Chain) : Type 0 where
-  pub same : new.clauses ≡ old.clauses
+  pub inputs : inputs_of new ≡ inputs_of old
   pub derived : AreDerived new.clauses.inputs new.clauses.all.items new.clauses.log.items
   pub derives : Derives new.clauses.all.items chain []
 
 abbrev pub Turns : Solver → Solver → Option Chain → Type 0
 Turns old new None = Advances old new
 Turns old new (Some chain) = Refutes old new chain
+
+-- the values of the trail make each input clause true
+pub record Satisfies (old new : Solver) : Type 0 where
+  pub names : length new.trail.slots.items ≡ length old.trail.slots.items
+  pub makes_true : IsTrue (clauses_true (valuation_of (values_of new.trail.slots.items)) (inputs_of old))
+
+abbrev pub Steps : Solver → Solver → Step → Type 0
+Steps old new Going = Advances old new
+Steps old new Satisfied = Satisfies old new
+Steps old new (Refuted chain) = Refutes old new chain

@@ -12,6 +12,7 @@ mod watches;
 mod trail;
 
 pub use answer::{Answer, Chain, Link, Links, Log, PropClauses, Truths};
+pub use solver::solve;
 pub use plain_types::{Mem, NameLit, Names, NoMemory, Sequence};
 
 pub mod laws;
