@@ -21,8 +21,11 @@ abbrev pub opposite : NameLit → NameLit
 opposite l = record { positive = not l.positive; name = l.name }
 
 -- each name is below the bound
+abbrev pub is_below : ℕ → NameLit → Bool
+is_below bound l = nat_lt l.name bound
+
 abbrev pub names_below : ℕ → List PropClause → Bool
-names_below bound clauses = list_all (λ c. list_all (λ (l : NameLit). nat_lt l.name bound) c) clauses
+names_below bound clauses = list_all (λ (c : PropClause). list_all (is_below bound) c) clauses
 
 -- ---- truth
 

@@ -1,5 +1,9 @@
 // What is handed to the solver, and what it answers.
 
+ghost use Rattle.std.specs.Prelude.{◌≡◌};
+ghost use Rattle.std.specs.List.{list_all};
+ghost use Rattle.sat_core.specs.Clause.{is_below, names_below};
+
 use plain_types::{NameLit, Names, Sequence};
 
 /// Propositional clauses, in order. Each is a disjunction of signed names, read as a set; the empty
@@ -40,4 +44,27 @@ pub enum Answer {
     Model(Truths),
     /// A derivation of the empty clause.
     Refuted(Log),
+}
+
+/// Whether each name of the clauses is below a bound.
+pub fn names_are_below(clauses: &PropClauses, bound: u32) -> bool
+    ensures { result ≡ names_below bound clauses.now }
+{
+    for clause in clauses.as_slice() {
+        if !is_clause_below(clause.as_slice(), bound) {
+            return false;
+        }
+    }
+    true
+}
+
+fn is_clause_below(clause: &[NameLit], bound: u32) -> bool
+    ensures { result ≡ list_all (is_below bound) clause.now }
+{
+    for literal in clause {
+        if literal.name >= bound {
+            return false;
+        }
+    }
+    true
 }

@@ -11,8 +11,10 @@ mod solver;
 mod watches;
 mod trail;
 
-pub use answer::{Answer, Chain, Link, Links, Log, PropClauses, Truths};
+pub use answer::{Answer, Chain, Link, Links, Log, PropClauses, Truths, names_are_below};
 pub use solver::solve;
 pub use plain_types::{Mem, NameLit, Names, NoMemory, Sequence};
 
 pub mod laws;
+#[cfg(test)]
+mod tests;

@@ -56,7 +56,7 @@ impl Solver {
             trail: Trail::new(alloc, names as usize)?,
             marks: Marks::new(alloc, names as usize)?,
             watches,
-            order: Order {},
+            order: Order::new(alloc, names)?,
         })
     }
 
@@ -70,6 +70,8 @@ impl Solver {
         let Some(turn) = analysis.turn else {
             return Ok(Some(analysis.chain));
         };
+        self.order.bump(self.marks.literals.as_slice());
+        self.order.put_back(&self.trail.entries[turn.cut..])?;
         self.trail.cut(turn.cut);
         self.watches.cut(turn.cut);
         let number = self.clauses.all.len();

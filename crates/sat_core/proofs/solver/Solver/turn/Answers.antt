@@ -7,12 +7,12 @@ use Rattle.sat_core.proofs.solver.Solver.turn.Goals as goal
 pub add_learned-requires-clause-within : goal.add_learned-requires-clause-within
 add_learned-requires-clause-within c =
     let is = turn_of _ _ _ _ c.in_ok-analysis.analysis c.in-Some.turn c.in_ok-analysis.ensures.analysis c.in-Some.is in
-    learned_within _ _ c.cut.new.self.slots.items _ c.as_slice.result.now c.in-Some.turn is c.cut.ensures.same_length c.as_slice.ensures
+    learned_within _ _ c.cut.new.self.slots.items _ c.as_slice-2.result.now c.in-Some.turn is c.cut.ensures.same_length c.as_slice-2.ensures
 
 pub add_learned-requires-clause-lists : goal.add_learned-requires-clause-lists
 add_learned-requires-clause-lists c =
     let is = turn_of _ _ _ _ c.in_ok-analysis.analysis c.in-Some.turn c.in_ok-analysis.ensures.analysis c.in-Some.is in
-    learned_lists _ _ _ c.as_slice.result.now c.in-Some.turn _ is (c.cut-2.ensures ∙ c.requires.state.lists) c.as_slice.ensures
+    learned_lists _ _ _ c.as_slice-2.result.now c.in-Some.turn _ is (c.cut-2.ensures ∙ c.requires.state.lists) c.as_slice-2.ensures
 
 pub learn-requires-clause-chain : goal.learn-requires-clause-chain
 learn-requires-clause-chain c = derives_of _ _ _ c.args.conflict c.in_ok-analysis.analysis c.requires.conflict.within c.in_ok-analysis.ensures.analysis
