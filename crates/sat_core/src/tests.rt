@@ -1,31 +1,41 @@
 // What no clause says: that the calls succeed, which answer comes, and that the solver learns.
 
-ghost use Rattle.std.specs.Prelude.{◌<◌, ◌≤ℤ◌, pos};
+ghost use Rattle.std.specs.Prelude.{◌<◌, ◌≤◌};
 
 use crate::*;
 use std::alloc::Global;
 use std::process::Abort;
 
+fn yes(name: u32) -> NameLit {
+    let positive = true;
+    NameLit { positive, name }
+}
+
+fn no(name: u32) -> NameLit {
+    let positive = false;
+    NameLit { positive, name }
+}
+
+fn push_clause(alloc: Global, clauses: &mut PropClauses, literals: &[NameLit]) -> Mem<()> {
+    clauses.push(Names::from_slice(alloc, literals)?)
+}
+
 /// A literal by its name, counted from one and negated below zero.
-fn literal(number: i32) -> NameLit {
+fn literal(number: i8) -> NameLit {
     NameLit {
         positive: number > 0,
-        name: number.unsigned_abs().saturating_sub(1),
+        name: u32::from(number.unsigned_abs()).saturating_sub(1),
     }
 }
 
-fn push_clause(alloc: Global, clauses: &mut PropClauses, numbers: &[i32]) -> Mem<()> {
-    let mut clause = Names::new(alloc);
-    for number in numbers {
-        clause.push(literal(*number))?;
-    }
-    clauses.push(clause)
-}
-
-fn clauses_of(alloc: Global, table: &[&[i32]]) -> Mem<PropClauses> {
+fn clauses_of(alloc: Global, table: &[&[i8]]) -> Mem<PropClauses> {
     let mut clauses = PropClauses::new(alloc);
     for numbers in table {
-        push_clause(alloc, &mut clauses, numbers)?;
+        let mut clause = Names::new(alloc);
+        for number in numbers.iter() {
+            clause.push(literal(*number))?;
+        }
+        clauses.push(clause)?;
     }
     Ok(clauses)
 }
@@ -118,46 +128,60 @@ fn checked_answer(rt: &impl Abort, alloc: Global, clauses: &PropClauses, names: 
     }
 }
 
-#[test]
-fn answers_the_small_rows(rt: HostRuntime) {
-    let alloc = rt.alloc();
-    let rows: [(&[&[i32]], u32, Outcome); 12] = [
-        (&[&[1, 2], &[-1], &[-2]], 2, Outcome::Refuted),
-        (&[&[1, 2]], 2, Outcome::Satisfied),
-        (&[], 2, Outcome::Satisfied),
-        (&[], 0, Outcome::Satisfied),
-        (&[&[]], 0, Outcome::Refuted),
-        (&[&[1], &[]], 1, Outcome::Refuted),
-        (&[&[1, 1], &[-1, -1, -1]], 1, Outcome::Refuted),
-        (&[&[1, -1]], 1, Outcome::Satisfied),
-        (&[&[1, -1], &[2, -2, 2], &[-2]], 3, Outcome::Satisfied),
-        (&[&[1, 2], &[-1, 2], &[1, -2], &[-1, -2]], 5, Outcome::Refuted),
-        (&[&[1, 2, 3], &[-1, 2, 3], &[-2, 3], &[-3, 4]], 4, Outcome::Satisfied),
-        (&[&[-1, 2], &[-2, 3], &[-3, -1], &[1]], 3, Outcome::Refuted),
-    ];
-    for (table, names, expected) in &rows {
-        let clauses = clauses_of(alloc, table).expect(&rt, "memory");
-        assert_eq!(rt; checked_answer(&rt, alloc, &clauses, *names), *expected);
-    }
+fn row(rt: &impl Abort, alloc: Global, table: &[&[i8]], names: u32) -> Outcome {
+    let clauses = clauses_of(alloc, table).expect(rt, "memory");
+    checked_answer(rt, alloc, &clauses, names)
 }
 
-/// Pigeon i is in hole j.
-fn place(pigeon: u8, hole: u8) -> i32 {
-    1 + i32::from(pigeon) * 16 + i32::from(hole % 16)
+#[test]
+fn refutes_small_rows(rt: HostRuntime) {
+    let alloc = rt.alloc();
+    let refuted = Outcome::Refuted;
+    assert_eq!(rt; row(&rt, alloc, &[&[1, 2], &[-1], &[-2]], 2), refuted);
+    assert_eq!(rt; row(&rt, alloc, &[&[]], 0), refuted);
+    assert_eq!(rt; row(&rt, alloc, &[&[1], &[]], 1), refuted);
+    assert_eq!(rt; row(&rt, alloc, &[&[1, 1], &[-1, -1, -1]], 1), refuted);
+    assert_eq!(rt; row(&rt, alloc, &[&[1, 2], &[-1, 2], &[1, -2], &[-1, -2]], 5), refuted);
+    assert_eq!(rt; row(&rt, alloc, &[&[-1, 2], &[-2, 3], &[-3, -1], &[1]], 3), refuted);
+}
+
+#[test]
+fn satisfies_small_rows(rt: HostRuntime) {
+    let alloc = rt.alloc();
+    let satisfied = Outcome::Satisfied;
+    assert_eq!(rt; row(&rt, alloc, &[&[1, 2]], 2), satisfied);
+    assert_eq!(rt; row(&rt, alloc, &[], 2), satisfied);
+    assert_eq!(rt; row(&rt, alloc, &[], 0), satisfied);
+    assert_eq!(rt; row(&rt, alloc, &[&[1, -1]], 1), satisfied);
+    assert_eq!(rt; row(&rt, alloc, &[&[1, -1], &[2, -2, 2], &[-2]], 3), satisfied);
+    assert_eq!(rt; row(&rt, alloc, &[&[1, 2, 3], &[-1, 2, 3], &[-2, 3], &[-3, 4]], 4), satisfied);
+}
+
+/// The name that says that a pigeon is in a hole.
+fn place(holes: u32, pigeon: u32, hole: u32) -> u32
+    requires holes { holes < 100 }
+    requires pigeon { pigeon < 100 }
+    requires hole { hole < 100 }
+{
+    holes * pigeon + hole
 }
 
 /// Each pigeon is in a hole, and no two pigeons are in one.
-fn pigeons(alloc: Global, pigeons: u8, holes: u8) -> Mem<PropClauses> {
+fn pigeons(alloc: Global, pigeons: u32, holes: u32) -> Mem<PropClauses>
+    requires pigeons { pigeons ≤ 100 }
+    requires holes { holes < 100 }
+{
     let mut clauses = PropClauses::new(alloc);
     for pigeon in 0..pigeons {
         let mut somewhere = Vec::new(alloc);
         for hole in 0..holes {
-            somewhere.push(place(pigeon, hole))?;
+            somewhere.push(yes(place(holes, pigeon, hole)))?;
         }
         push_clause(alloc, &mut clauses, somewhere.as_slice())?;
         for other in 0..pigeon {
             for hole in 0..holes {
-                push_clause(alloc, &mut clauses, &[-place(pigeon, hole), -place(other, hole)])?;
+                let both = [no(place(holes, pigeon, hole)), no(place(holes, other, hole))];
+                push_clause(alloc, &mut clauses, &both)?;
             }
         }
     }
@@ -166,44 +190,31 @@ fn pigeons(alloc: Global, pigeons: u8, holes: u8) -> Mem<PropClauses> {
 
 #[test]
 fn refutes_four_pigeons_in_three_holes(rt: HostRuntime) {
-    let alloc = rt.alloc();
-    // Names 3 * pigeon + hole, counted from one.
-    let mut clauses = PropClauses::new(alloc);
-    for pigeon in 0..4 {
-        let first = 3 * pigeon + 1;
-        push_clause(alloc, &mut clauses, &[first, first + 1, first + 2]).expect(&rt, "memory");
-        for other in 0..pigeon {
-            for hole in 1..4 {
-                let both = [-(3 * pigeon + hole), -(3 * other + hole)];
-                push_clause(alloc, &mut clauses, &both).expect(&rt, "memory");
-            }
-        }
-    }
+    let clauses = pigeons(rt.alloc(), 4, 3).expect(&rt, "memory");
     assert_eq!(rt; clauses.len(), 22);
-    assert_eq!(rt; checked_answer(&rt, alloc, &clauses, 12), Outcome::Refuted);
+    assert_eq!(rt; checked_answer(&rt, rt.alloc(), &clauses, 12), Outcome::Refuted);
 }
 
 #[test]
-fn refutes_pigeonholes(rt: HostRuntime) {
+fn answers_pigeonholes(rt: HostRuntime) {
     let alloc = rt.alloc();
-    for holes in 1..7u8 {
+    for holes in 1..7u32 {
         let clauses = pigeons(alloc, holes + 1, holes).expect(&rt, "memory");
-        assert_eq!(rt; checked_answer(&rt, alloc, &clauses, 128), Outcome::Refuted);
+        assert_eq!(rt; checked_answer(&rt, alloc, &clauses, 42), Outcome::Refuted);
         let clauses = pigeons(alloc, holes, holes).expect(&rt, "memory");
-        assert_eq!(rt; checked_answer(&rt, alloc, &clauses, 128), Outcome::Satisfied);
+        assert_eq!(rt; checked_answer(&rt, alloc, &clauses, 42), Outcome::Satisfied);
     }
 }
 
-/// Of three names an even number is true, and not all are false without reason: x, y and z as in the row of triples.
-fn push_triple(alloc: Global, clauses: &mut PropClauses, x: i32) -> Mem<()>
-    requires low { pos 0 ≤ℤ x }
-    requires high { x ≤ℤ pos 1000 }
+/// Of three names none is true, or two are.
+fn push_triple(alloc: Global, clauses: &mut PropClauses, x: u32) -> Mem<()>
+    requires { x < 1000 }
 {
     let (y, z) = (x + 1, x + 2);
-    push_clause(alloc, clauses, &[-x, y, z])?;
-    push_clause(alloc, clauses, &[x, -y, z])?;
-    push_clause(alloc, clauses, &[x, y, -z])?;
-    push_clause(alloc, clauses, &[-x, -y, -z])
+    push_clause(alloc, clauses, &[no(x), yes(y), yes(z)])?;
+    push_clause(alloc, clauses, &[yes(x), no(y), yes(z)])?;
+    push_clause(alloc, clauses, &[yes(x), yes(y), no(z)])?;
+    push_clause(alloc, clauses, &[no(x), no(y), no(z)])
 }
 
 // A solver that takes the names in rising or falling order and only flips its latest decision goes through 2^40
@@ -212,12 +223,17 @@ fn push_triple(alloc: Global, clauses: &mut PropClauses, x: i32) -> Mem<()>
 fn learns_from_the_triples(rt: HostRuntime) {
     let alloc = rt.alloc();
     let mut clauses = PropClauses::new(alloc);
-    for i in 0..20 {
-        push_triple(alloc, &mut clauses, 3 * i + 1).expect(&rt, "memory");
-        push_triple(alloc, &mut clauses, 3 * i + 63).expect(&rt, "memory");
+    for i in 0..20u32 {
+        push_triple(alloc, &mut clauses, 3 * i).expect(&rt, "memory");
+        push_triple(alloc, &mut clauses, 3 * i + 62).expect(&rt, "memory");
     }
-    for numbers in [[61, 62], [-61, 62], [61, -62], [-61, -62]] {
-        push_clause(alloc, &mut clauses, &numbers).expect(&rt, "memory");
+    for both in [
+        [yes(60), yes(61)],
+        [no(60), yes(61)],
+        [yes(60), no(61)],
+        [no(60), no(61)],
+    ] {
+        push_clause(alloc, &mut clauses, &both).expect(&rt, "memory");
     }
     assert_eq!(rt; clauses.len(), 164);
     assert_eq!(rt; checked_answer(&rt, alloc, &clauses, 122), Outcome::Refuted);
@@ -301,12 +317,12 @@ fn answers_random_clauses(rt: HostRuntime) {
 fn follows_a_long_chain(rt: HostRuntime) {
     let alloc = rt.alloc();
     let mut clauses = PropClauses::new(alloc);
-    for i in 1..100_000 {
-        push_clause(alloc, &mut clauses, &[-i, i + 1]).expect(&rt, "memory");
+    for i in 1..100_000u32 {
+        push_clause(alloc, &mut clauses, &[no(i - 1), yes(i)]).expect(&rt, "memory");
     }
     assert_eq!(rt; checked_answer(&rt, alloc, &clauses, 100_000), Outcome::Satisfied);
-    push_clause(alloc, &mut clauses, &[1]).expect(&rt, "memory");
-    push_clause(alloc, &mut clauses, &[-100_000]).expect(&rt, "memory");
+    push_clause(alloc, &mut clauses, &[yes(0)]).expect(&rt, "memory");
+    push_clause(alloc, &mut clauses, &[no(99_999)]).expect(&rt, "memory");
     assert!(rt; names_are_below(&clauses, 100_000));
     let answer = solve(alloc, &clauses, 100_000).expect(&rt, "memory");
     assert!(rt; matches!(answer, Answer::Refuted(_)));
