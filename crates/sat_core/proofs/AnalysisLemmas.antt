@@ -1,20 +1,17 @@
 -- Steps of the analysis of a conflict.
-use Rattle.std.proofs.Common.{◌≡◌, ℕ, zero, suc, ◌+◌, ◌-◌, ◌<◌, ◌≤◌, max, Bool, true, false, not, ◌&&◌, ◌||◌, ◌==◌, cond, List, [], ◌∷◌, ◌++◌, length, get_or, take, Option, Some, None, refl, ap, sym, ◌∙◌, subst, arith, ◌⊎◌, inl, inr, ⊎_elim}
+use Rattle.std.proofs.Common.{◌≡◌, ℕ, zero, suc, ◌+◌, ◌<◌, ◌≤◌, Bool, true, false, not, ◌&&◌, ◌||◌, List, [], ◌∷◌, length, get_or, take, Option, refl, ap, sym, ◌∙◌, arith, ⊎_elim}
 use mathlib.Core.Bool.{beq}
-use Rattle.std.specs.Prelude.{IsTrue, IsFalse, nat_le}
-use Rattle.std.specs.List.{list_any}
-use Rattle.std.proofs.lemmas.Bool.{cases_Bool, cases_eq, cases_lt, or_cases, or_left, or_right, and_parts, and_from, le-leb, lt-leb, leb-true, leb-false}
+use Rattle.std.specs.Prelude.{IsTrue, nat_le}
+use Rattle.std.proofs.lemmas.Bool.{or_cases, or_left, or_right, and_parts, le-leb, lt-leb}
 use Rattle.std.proofs.lemmas.List.{get_or_default}
 use Rattle.std.proofs.lemmas.List.Folds.{list_any_at, list_any_more}
 use Rattle.plain_types.specs.declared.sequence.NameLit.{NameLit}
-use Rattle.sat_core.specs.declared.trail.Assigned.{Assigned}
 use Rattle.sat_core.specs.declared.trail.Slot.{Slot}
-use Rattle.sat_core.specs.Clause.{PropClause, same_literal, has_literal, opposite}
+use Rattle.sat_core.specs.Clause.{PropClause, same_literal, has_literal}
 use Rattle.sat_core.specs.Trail.{slot_at, place_of, has_place, is_false}
-use Rattle.sat_core.specs.State.{AreFalse, AreMarks, SameLiterals}
-use Rattle.sat_core.specs.Conflict.{is_other, OthersAreFalse, AddsOthers, AreWithin}
-use Rattle.sat_core.proofs.LiteralLemmas.{same_literal-refl, same_literal-true, has_literal_here}
-use Rattle.sat_core.proofs.MarkLemmas.{same_tests}
+use Rattle.sat_core.specs.State.{AreFalse, SameLiterals}
+use Rattle.sat_core.specs.Conflict.{is_other, OthersAreFalse, AreWithin}
+use Rattle.sat_core.proofs.LiteralLemmas.{same_literal-refl, same_literal-true}
 
 -- what code reads past the end of a list
 abbrev pub no_literal : NameLit

@@ -1,9 +1,9 @@
 -- Chains over clauses that are the same as sets, and logs that grow by a chain.
-use Rattle.std.proofs.Common.{◌≡◌, ℕ, zero, suc, ◌+◌, ◌-◌, ◌<◌, ◌≤◌, Bool, true, false, not, ◌&&◌, ◌||◌, cond, List, [], ◌∷◌, ◌++◌, length, get_or, take, Option, Some, None, refl, ap, sym, ◌∙◌, subst, arith, ◌⊎◌, inl, inr, ⊎_elim}
-use Rattle.std.specs.Prelude.{IsTrue, slice_get, option_and_then}
+use Rattle.std.proofs.Common.{◌≡◌, ℕ, ◌+◌, ◌<◌, ◌≤◌, Bool, true, not, ◌&&◌, ◌||◌, cond, List, [], ◌∷◌, ◌++◌, length, take, Option, Some, None, refl, ap, sym, ◌∙◌, subst, arith, ◌⊎◌, inl, inr, ⊎_elim}
+use Rattle.std.specs.Prelude.{slice_get, option_and_then}
 use Rattle.std.specs.Option.{option_map}
 use Rattle.std.proofs.lemmas.Bool.{cases_lt, cond-true}
-use Rattle.std.proofs.lemmas.List.{append_assoc, append-nil, length-append, length_push, length-take-le, take-append-le, get_or_append_left, get_or_push, get_or_past}
+use Rattle.std.proofs.lemmas.List.{append_assoc, append-nil, length_push, take-append-le, get_or_append_left, get_or_push, get_or_past}
 use Rattle.std.proofs.lemmas.Option.{option_and_then_some, cond_some, same_Some, slice_get_within, slice_get-get_or, get_or_from_slice_get}
 use Rattle.plain_types.specs.declared.sequence.NameLit.{NameLit}
 use Rattle.sat_core.specs.declared.answer.Link.{Link}
@@ -43,11 +43,12 @@ same_link cs ds c d e link same h made =
     let y = clause_at ds link.number in
     let xy : SameLiterals x y = λ l. ap (has_literal l) (sym (get_or_from_slice_get cs link.number x [] at)) ∙ same.same_literals link.number l in
     let can : can_resolve link.pivot d y ≡ true =
-        ap (λ (b : Bool). b && has_literal (opposite link.pivot) y) (sym (h link.pivot))
-        ∙ ap (λ (b : Bool). has_literal link.pivot c && b) (sym (xy (opposite link.pivot))) ∙ parts.0 in
-    (resolvent link.pivot d y,
-    link_clause_at ds d y link (slice_get-get_or ds link.number [] within) can,
-    λ l. ap (has_literal l) (sym parts.1) ∙ same_resolvent link.pivot c d x y h xy l))
+    ap (λ (b : Bool). b && has_literal (opposite link.pivot) y) (sym (h link.pivot))
+    ∙ ap (λ (b : Bool). has_literal link.pivot c && b) (sym (xy (opposite link.pivot))) ∙ parts.0 in (
+      resolvent link.pivot d y,
+      link_clause_at ds d y link (slice_get-get_or ds link.number [] within) can,
+      λ l. ap (has_literal l) (sym parts.1) ∙ same_resolvent link.pivot c d x y h xy l,
+    ))
 
 same_links :
     (cs ds : List PropClause) (c d e : PropClause) (links : List Link)
@@ -86,7 +87,7 @@ pub log_clauses_push :
 log_clauses_push known made [] chain c h k =
     let none : made ≡ [] = sym (same_Some [] made h) in
     let here : chain_clause known chain ≡ Some c =
-        ap (λ (cs : List PropClause). chain_clause cs chain) (sym (ap (λ (cs : List PropClause). known ++ cs) none ∙ append-nil known)) ∙ k in
+    ap (λ (cs : List PropClause). chain_clause cs chain) (sym (ap (λ (cs : List PropClause). known ++ cs) none ∙ append-nil known)) ∙ k in
     ap (λ (o : Option PropClause). option_and_then
     (λ (c : PropClause). option_map (λ (more : List PropClause). c ∷ more) (log_clauses (known ++ c ∷ []) [])) o) here
     ∙ ap (λ (cs : List PropClause). Some (cs ++ c ∷ [])) (sym none)

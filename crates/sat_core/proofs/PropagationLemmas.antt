@@ -1,19 +1,18 @@
 -- Steps of propagation.
-use Rattle.std.proofs.Common.{◌≡◌, ℕ, zero, suc, ◌+◌, ◌-◌, ◌*◌, ◌<◌, ◌≤◌, Bool, true, false, not, ◌&&◌, ◌||◌, cond, List, [], ◌∷◌, ◌++◌, length, get_or, set, take, Option, Some, None, refl, ap, sym, ◌∙◌, subst, arith, ◌⊎◌, inl, inr, ⊎_elim}
+use Rattle.std.proofs.Common.{◌≡◌, ℕ, zero, suc, ◌+◌, ◌<◌, ◌≤◌, Bool, true, false, not, ◌&&◌, List, [], ◌∷◌, ◌++◌, length, get_or, set, take, Some, refl, ap, sym, ◌∙◌, subst, arith, ⊎_elim}
 use mathlib.Core.Bool.{beq}
-use Rattle.std.specs.Prelude.{IsTrue, IsFalse, nat_lt, nat_le}
-use Rattle.std.proofs.lemmas.Bool.{cases_Bool, cases_lt, or_cases, and_parts, and_from, and_cases, not-false, lt-ltb, le-leb, false_from_ne_true}
-use Rattle.std.proofs.lemmas.List.{length_push, length-set}
+use Rattle.std.specs.Prelude.{IsTrue, nat_le}
+use Rattle.std.proofs.lemmas.Bool.{cases_Bool, cases_lt, or_cases, and_from, and_cases, not-false, lt-ltb, le-leb}
+use Rattle.std.proofs.lemmas.List.{length-set}
 use Rattle.plain_types.specs.declared.sequence.NameLit.{NameLit}
 use Rattle.sat_core.specs.declared.trail.Assigned.{Assigned}
 use Rattle.sat_core.specs.declared.trail.Slot.{Slot}
 use Rattle.sat_core.specs.Clause.{PropClause, same_literal, has_literal}
-use Rattle.sat_core.specs.Trail.{IsTrail, slot_at, slot_of, place_of, has_place, is_true, is_false, is_false_within}
+use Rattle.sat_core.specs.Trail.{IsTrail, slot_at, slot_of, place_of, has_place, is_true, is_false}
 use Rattle.sat_core.specs.State.{IsSound, IsImplied, AreFalse, clause_at}
-use Rattle.sat_core.specs.Search.{OthersFalse, IsUnit, IsConflict, Propagates, remaining}
+use Rattle.sat_core.specs.Search.{OthersFalse, IsUnit, Propagates, remaining}
 use Rattle.sat_core.proofs.LiteralLemmas.{same_literal-true}
 use Rattle.sat_core.proofs.AnalysisLemmas.{has_literal_more}
-use Rattle.sat_core.proofs.ResolveLemmas.{false_has_place}
 use Rattle.sat_core.proofs.SoundLemmas.{pushed_sound, pushed_remaining}
 
 -- the literals looked at so far

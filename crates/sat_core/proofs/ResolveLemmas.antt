@@ -1,8 +1,8 @@
 -- One step back along the trail.
-use Rattle.std.proofs.Common.{◌≡◌, ℕ, zero, suc, ◌+◌, ◌-◌, ◌<◌, ◌≤◌, Bool, true, false, not, ◌&&◌, ◌||◌, cond, List, [], ◌∷◌, ◌++◌, length, get_or, Option, Some, None, refl, ap, sym, ◌∙◌, subst, arith, ◌⊎◌, inl, inr, ⊎_elim}
+use Rattle.std.proofs.Common.{◌≡◌, ℕ, zero, suc, ◌+◌, ◌-◌, ◌<◌, ◌≤◌, Bool, true, false, not, ◌&&◌, ◌||◌, List, [], ◌∷◌, ◌++◌, length, get_or, Option, Some, None, refl, ap, sym, ◌∙◌, subst, arith, ⊎_elim}
 use mathlib.Core.Bool.{beq}
-use Rattle.std.specs.Prelude.{IsTrue, IsFalse, nat_le, nat_lt, slice_get, option_and_then, MatchOption}
-use Rattle.std.proofs.lemmas.Bool.{cases_Bool, cases_eq, cases_lt, or_cases, or_left, or_right, and_parts, and_from, le-leb, lt-leb, leb-true, leb-false, ltb-true}
+use Rattle.std.specs.Prelude.{IsTrue, nat_le, nat_lt, option_and_then, MatchOption}
+use Rattle.std.proofs.lemmas.Bool.{cases_Bool, cases_eq, cases_lt, or_cases, and_parts, and_from, le-leb, lt-leb, leb-true, ltb-true}
 use Rattle.std.proofs.lemmas.List.{get_or_read}
 use Rattle.std.proofs.lemmas.Option.{slice_get-get_or, option_and_then_some}
 use Rattle.plain_types.specs.declared.sequence.NameLit.{NameLit}
@@ -13,9 +13,9 @@ use Rattle.sat_core.specs.declared.analysis.Turn.{Turn}
 use Rattle.sat_core.specs.declared.analysis.Analysis.{Analysis}
 use Rattle.sat_core.specs.Clause.{PropClause, same_literal, has_literal, opposite}
 use Rattle.sat_core.specs.Resolution.{can_resolve, resolvent, link_clause, links_clause}
-use Rattle.sat_core.specs.Trail.{IsTrail, entry_at, slot_at, slot_of, place_of, has_place, is_false, is_false_within}
+use Rattle.sat_core.specs.Trail.{IsTrail, entry_at, slot_at, place_of, has_place, is_false}
 use Rattle.sat_core.specs.State.{IsSound, IsImplied, AreFalse, AreMarks, SameLiterals, clause_at, has_name}
-use Rattle.sat_core.specs.Conflict.{is_other, OthersAreFalse, AddsOthers, IsReached, IsResolving, TurnsAt, IsTurnOf, IsTurn, IsAnalysis}
+use Rattle.sat_core.specs.Conflict.{is_other, OthersAreFalse, AddsOthers, IsResolving, TurnsAt, IsTurnOf, IsTurn, IsAnalysis}
 use Rattle.sat_core.proofs.LiteralLemmas.{same_literal-refl, same_literal-true, opposite-opposite, has_literal-resolvent}
 use Rattle.sat_core.proofs.MarkLemmas.{same_tests, has_name_of, literal_of_name}
 use Rattle.sat_core.proofs.TrailLemmas.{slot_within}
@@ -64,7 +64,7 @@ pub marked_at :
 marked_at entries slots i marked literals t h marks wrong is =
     let found = literal_of_name (entry_at entries i).literal.name literals (sym (marks (entry_at entries i).literal.name) ∙ is) in
     let same : found.0 ≡ opposite (entry_at entries i).literal =
-        false_of_one_name slots (opposite (entry_at entries i).literal) found.0 (false_at_entry entries slots i t h) (wrong found.0 found.2) found.1 in
+    false_of_one_name slots (opposite (entry_at entries i).literal) found.0 (false_at_entry entries slots i t h) (wrong found.0 found.2) found.1 in
     ap (λ (x : NameLit). has_literal x literals) (sym same) ∙ found.2
 
 -- ---- an entry that isn't marked
@@ -315,11 +315,11 @@ resolved_entry clauses entries slots start bound reason links links' marked mark
     let in_trail : bound - 1 < length entries = omega (arith, some, within) in
     let implied = sound.implied (bound - 1) reason in_trail (sym (ap (λ (x : Assigned). x.reason) read) ∙ because) in
     let there = marked_at entries slots (bound - 1) marked literals sound.trail in_trail r.marks r.false_literals
-        (ap (λ (x : Assigned). get_or marked x.literal.name false) (sym read) ∙ is) in
+    (ap (λ (x : Assigned). get_or marked x.literal.name false) (sym read) ∙ is) in
     let same_pivot : p ≡ opposite (entry_at entries (bound - 1)).literal = pivot ∙ ap (λ (x : Assigned). opposite x.literal) read in
     let adds' : AddsOthers (clause_at clauses reason) (Some (entry_at entries (bound - 1)).literal) literals literals' =
-        subst (λ (x : Assigned). AddsOthers (clause_at clauses reason) (Some x.literal) literals literals') read
-        (subst (λ (x : PropClause). AddsOthers x (Some e.literal) literals literals') clause adds) in
+    subst (λ (x : Assigned). AddsOthers (clause_at clauses reason) (Some x.literal) literals literals') read
+    (subst (λ (x : PropClause). AddsOthers x (Some e.literal) literals literals') clause adds) in
     subst (λ (ls : List Link). IsResolving clauses slots start ls marked' literals' (bound - 1))
     (ap (λ (x : NameLit). links ++ record { pivot = x; number = reason } ∷ []) (sym same_pivot) ∙ sym more)
     (resolved clauses entries slots start (bound - 1) bound reason links marked marked' literals literals' sound (omega arith) within r there implied marks names adds')
@@ -365,7 +365,7 @@ pub nothing_left :
     (clauses : List PropClause) (slots : List Slot) (start bound : ℕ) (links : List Link) (marked : List Bool) (literals : PropClause)
     → bound ≡ 0 → (r : IsResolving clauses slots start links marked literals bound) → SameLiterals [] r.reached.clause
 nothing_left clauses slots start bound links marked literals none r l =
-    sym (r.reached.left l ∙ no_place (has_literal l literals) (nat_le (place_of slots l) bound) (λ h. 
+    sym (r.reached.left l ∙ no_place (has_literal l literals) (nat_le (place_of slots l) bound) (λ h.
     let p = false_has_place slots l (r.false_literals l h) in lt-leb (place_of slots l) bound (omega (arith, p, none))))
   where
     no_place : (a b : Bool) → (a ≡ true → b ≡ false) → (a && b) ≡ false
@@ -389,12 +389,12 @@ turned clauses entries slots start bound links marked literals clause turn t som
       let wrong = r.false_literals k parts.0 in
       let low = leb-true (place_of slots k) bound parts.1 in
       let below : place_of slots k < bound =
-          ⊎_elim (λ (x : place_of slots k < bound). x)
-          (λ (x : bound ≤ place_of slots k).
-          let same : k ≡ turn.literal =
-              false_literal_at entries slots (bound - 1) k t (omega (arith, some, within)) wrong (omega (arith, low, x, some)) ∙ sym of.turns.literal in
-          absurd (differ (same_literal turn.literal k) (ap (same_literal turn.literal) same ∙ same_literal-refl turn.literal) o))
-          (cases_lt (place_of slots k) bound) in
+      ⊎_elim (λ (x : place_of slots k < bound). x)
+      (λ (x : bound ≤ place_of slots k).
+      let same : k ≡ turn.literal =
+      false_literal_at entries slots (bound - 1) k t (omega (arith, some, within)) wrong (omega (arith, low, x, some)) ∙ sym of.turns.literal in
+      absurd (differ (same_literal turn.literal k) (ap (same_literal turn.literal) same ∙ same_literal-refl turn.literal) o))
+      (cases_lt (place_of slots k) bound) in
       let under = of.turns.below k parts.0 below in
       and_from (is_false slots k) (nat_le (place_of slots k) turn.cut) wrong (le-leb (place_of slots k) turn.cut under);
 }

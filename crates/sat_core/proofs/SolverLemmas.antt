@@ -1,14 +1,13 @@
 -- Steps of the solver.
-use Rattle.std.proofs.Common.{◌≡◌, ℕ, zero, suc, ◌+◌, ◌-◌, ◌*◌, ◌<◌, ◌≤◌, Bool, true, false, not, ◌&&◌, ◌||◌, cond, List, [], ◌∷◌, ◌++◌, length, get_or, set, take, map, Option, Some, None, refl, ap, sym, ◌∙◌, subst, arith, ◌⊎◌, inl, inr, ⊎_elim}
+use Rattle.std.proofs.Common.{◌≡◌, ℕ, zero, suc, ◌+◌, ◌*◌, ◌<◌, ◌≤◌, Bool, true, false, not, ◌&&◌, List, [], ◌∷◌, ◌++◌, length, get_or, set, take, Option, Some, None, refl, ap, sym, ◌∙◌, subst, arith, ⊎_elim}
 use mathlib.Core.Bool.{beq}
-use Rattle.std.specs.Prelude.{IsTrue, IsFalse, slice_get, option_and_then, MatchOption, nat_lt}
+use Rattle.std.specs.Prelude.{IsTrue, slice_get, option_and_then, MatchOption, nat_lt}
 use Rattle.std.specs.List.{list_any, list_all}
 use Rattle.std.proofs.lemmas.Bool.{cases_lt, or_cases, or_left, or_right, or_parts, and_parts, and_from, lt-ltb, ltb-true}
-use Rattle.std.proofs.lemmas.List.{get_or_push, get_or_past, get_or-map, length_push, length-set, length-map, take-append-le, take_all, append-nil}
+use Rattle.std.proofs.lemmas.List.{get_or_push, get_or_past, get_or-map, length_push, length-map, take-append-le, take_all, append-nil}
 use Rattle.std.proofs.lemmas.List.Folds.{list_all_more}
 use Rattle.std.proofs.lemmas.Option.{slice_get-get_or}
 use Rattle.plain_types.specs.declared.sequence.NameLit.{NameLit}
-use Rattle.sat_core.specs.declared.answer.Chain.{Chain}
 use Rattle.sat_core.specs.declared.trail.Assigned.{Assigned}
 use Rattle.sat_core.specs.declared.trail.Slot.{Slot}
 use Rattle.sat_core.specs.declared.analysis.Turn.{Turn}
@@ -17,15 +16,14 @@ use Rattle.sat_core.specs.declared.solver.Solver.{Solver}
 use Rattle.sat_core.specs.declared.solver.Step.{Step}
 use Rattle.sat_core.specs.declared.solver.Step.TheVariants.{Going, Satisfied, Refuted}
 use Rattle.sat_core.specs.Clause.{PropClause, has_literal, same_literal, literal_true, clause_true, clauses_true, valuation_of, names_below}
-use Rattle.sat_core.specs.Resolution.{links_clause, chain_clause}
-use Rattle.sat_core.specs.Trail.{IsTrail, IsNewTrail, Cuts, entry_at, slot_at, slot_of, place_of, has_place, is_true}
+use Rattle.sat_core.specs.Resolution.{links_clause}
+use Rattle.sat_core.specs.Trail.{IsTrail, IsNewTrail, Cuts, slot_at, slot_of, place_of, has_place, is_true}
 use Rattle.sat_core.specs.State.{IsSound, IsImplied, SameLiterals, SameClauses, clause_at, Derives, AreDerived, AreNamed, AreFalse}
 use Rattle.sat_core.specs.Conflict.{IsTurn, IsAnalysis, AreWithin}
 use Rattle.sat_core.specs.Search.{HaveLists, HasNoTrue, AreAssigned, remaining, value_of, values_of}
 use Rattle.sat_core.specs.Solver.{IsState, Keeps, Advances, Steps}
 use Rattle.sat_core.proofs.LiteralLemmas.{same_literal-true}
 use Rattle.sat_core.proofs.AnalysisLemmas.{has_literal_more}
-use Rattle.sat_core.proofs.TrailLemmas.{cut_length}
 use Rattle.sat_core.proofs.SoundLemmas.{grown, pushed_sound, cut_sound, turn_named, turn_free, turn_implied}
 
 pub derives_of :
@@ -77,11 +75,11 @@ pub turn_sound :
 turn_sound clauses clauses' entries entries' entries'' slots slots' slots'' clause turn n sound is cuts learned number t more written =
     let low : turn.cut ≤ length entries = let w = is.within in omega (arith, w) in
     let more_clauses : IsSound clauses' entries slots =
-        subst (λ (cs : List PropClause). IsSound cs entries slots) (sym learned) (grown clauses entries slots clause sound (turn_named entries slots clause turn is)) in
+    subst (λ (cs : List PropClause). IsSound cs entries slots) (sym learned) (grown clauses entries slots clause sound (turn_named entries slots clause turn is)) in
     let after : IsSound clauses' entries' slots' = cut_sound clauses' entries entries' slots slots' turn.cut more_clauses low cuts in
     let within : n < length clauses' = let c = ap length learned ∙ length_push clauses clause in omega (arith, c, number) in
     let same : SameLiterals clause (clause_at clauses' n) =
-        λ l. sym (ap (λ (cs : List PropClause). has_literal l (clause_at cs n)) learned ∙ ap (has_literal l) (get_or_push clauses clause [] n (sym number))) in
+    λ l. sym (ap (λ (cs : List PropClause). has_literal l (clause_at cs n)) learned ∙ ap (has_literal l) (get_or_push clauses clause [] n (sym number))) in
     pushed_sound clauses' entries' entries'' slots' slots'' (record { literal = turn.literal; reason = Some n }) after
     (turn_free entries entries' slots slots' clause turn is cuts)
     (λ reason because. subst (λ (m : ℕ). IsImplied clauses' slots' (length entries') turn.literal m) (same_number n reason because)
@@ -167,9 +165,9 @@ advances_after old mid new first second = record {
       let a = first.no_more in
       let b = second.fewer in
       let c : remaining (length mid.trail.slots.items) new.trail.entries.items ≡ remaining (length old.trail.slots.items) new.trail.entries.items =
-          ap (λ (n : ℕ). remaining n new.trail.entries.items) first.names in
+      ap (λ (n : ℕ). remaining n new.trail.entries.items) first.names in
       let d : remaining (length mid.trail.slots.items) mid.trail.entries.items ≡ remaining (length old.trail.slots.items) mid.trail.entries.items =
-          ap (λ (n : ℕ). remaining n mid.trail.entries.items) first.names in
+      ap (λ (n : ℕ). remaining n mid.trail.entries.items) first.names in
       omega (arith, a, b, c, d);
 }
 

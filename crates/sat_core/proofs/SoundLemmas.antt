@@ -1,9 +1,9 @@
 -- What the search does keeps the trail sound.
-use Rattle.std.proofs.Common.{◌≡◌, ℕ, zero, suc, ◌+◌, ◌-◌, ◌<◌, ◌≤◌, Bool, true, false, not, ◌&&◌, ◌||◌, cond, List, [], ◌∷◌, ◌++◌, length, get_or, set, take, Option, Some, None, refl, ap, sym, ◌∙◌, subst, arith, ◌⊎◌, inl, inr, ⊎_elim}
+use Rattle.std.proofs.Common.{◌≡◌, ℕ, ◌+◌, ◌<◌, ◌≤◌, true, false, not, ◌&&◌, List, [], ◌∷◌, ◌++◌, length, set, take, Option, Some, ap, sym, ◌∙◌, subst, arith, ◌⊎◌, inl, inr, ⊎_elim}
 use mathlib.Core.Bool.{beq}
-use Rattle.std.specs.Prelude.{IsTrue, IsFalse, nat_le, nat_lt, is_none}
-use Rattle.std.proofs.lemmas.Bool.{cases_Bool, cases_eq, cases_lt, and_parts, and_from, le-leb, leb-true, lt-leb, cond-true, cond-false}
-use Rattle.std.proofs.lemmas.List.{get_or_append_left, get_or_push, get_or-take, get_or-set_other, get_or_past, length_push, length-set, length-take-le}
+use Rattle.std.specs.Prelude.{IsTrue, nat_le, is_none}
+use Rattle.std.proofs.lemmas.Bool.{cases_Bool, cases_lt, and_parts, le-leb, leb-true, lt-leb, cond-true, cond-false}
+use Rattle.std.proofs.lemmas.List.{get_or_append_left, get_or_push, get_or-take, get_or-set_other, get_or_past, length_push, length-set}
 use Rattle.std.proofs.lemmas.List.Sums.{count_by-le-length}
 use Rattle.plain_types.specs.declared.sequence.NameLit.{NameLit}
 use Rattle.sat_core.specs.declared.trail.Assigned.{Assigned}
@@ -11,7 +11,7 @@ use Rattle.sat_core.specs.declared.trail.Slot.{Slot}
 use Rattle.sat_core.specs.declared.analysis.Turn.{Turn}
 use Rattle.sat_core.specs.Clause.{PropClause, same_literal, has_literal}
 use Rattle.sat_core.specs.Trail.{IsTrail, Cuts, entry_at, slot_at, slot_of, place_of, has_place, is_false, is_false_within, cut_slot}
-use Rattle.sat_core.specs.State.{IsSound, IsImplied, AreImplied, AreNamed, SameLiterals, clause_at}
+use Rattle.sat_core.specs.State.{IsSound, IsImplied, SameLiterals, clause_at}
 use Rattle.sat_core.specs.Conflict.{IsTurn}
 use Rattle.sat_core.specs.Search.{is_decision, remaining}
 use Rattle.sat_core.proofs.LiteralLemmas.{same_literal-true}
@@ -67,7 +67,7 @@ false_kept slots v s count k free h =
     let parts = and_parts (is_false slots k) (nat_le (place_of slots k) count) h in
     let used = false_has_place slots k parts.0 in
     let other : slot_at (set slots v s) k.name ≡ slot_at slots k.name =
-        get_or-set_other slots v k.name s _ (λ e. let z : (slot_at slots k.name).place ≡ 0 = ap (λ (n : ℕ). (slot_at slots n).place) e ∙ free in omega (arith, z, used)) in
+    get_or-set_other slots v k.name s _ (λ e. let z : (slot_at slots k.name).place ≡ 0 = ap (λ (n : ℕ). (slot_at slots n).place) e ∙ free in omega (arith, z, used)) in
     ap (λ (x : Slot). (has_place x && not (beq x.positive k.positive)) && nat_le x.place count) other ∙ h
 
 pub pushed_sound :
@@ -128,8 +128,8 @@ cut_false slots slots' cut count k left low h =
     let parts = and_parts (is_false slots k) (nat_le (place_of slots k) count) h in
     let within = leb-true (place_of slots k) count parts.1 in
     let same : slot_at slots' k.name ≡ slot_at slots k.name =
-        left k.name ∙ ap (λ (p : ℕ). record { place = p; positive = (slot_at slots k.name).positive })
-        (cond-true (nat_le (place_of slots k) cut) (place_of slots k) 0 (le-leb (place_of slots k) cut (omega (arith, within, low)))) in
+    left k.name ∙ ap (λ (p : ℕ). record { place = p; positive = (slot_at slots k.name).positive })
+    (cond-true (nat_le (place_of slots k) cut) (place_of slots k) 0 (le-leb (place_of slots k) cut (omega (arith, within, low)))) in
     ap (λ (x : Slot). (has_place x && not (beq x.positive k.positive)) && nat_le x.place count) same ∙ h
 
 pub cut_sound :

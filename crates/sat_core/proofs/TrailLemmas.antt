@@ -1,8 +1,8 @@
 -- Steps of the trail.
-use Rattle.std.proofs.Common.{◌≡◌, ℕ, zero, suc, ◌+◌, ◌-◌, ◌<◌, ◌≤◌, Bool, true, false, cond, List, [], ◌∷◌, ◌++◌, length, get_or, set, take, refl, ap, sym, ◌∙◌, subst, arith, ◌⊎◌, inl, inr, ⊎_elim}
+use Rattle.std.proofs.Common.{◌≡◌, ℕ, zero, suc, ◌+◌, ◌-◌, ◌<◌, ◌≤◌, Bool, false, cond, List, [], ◌∷◌, ◌++◌, length, get_or, set, take, refl, ap, sym, ◌∙◌, subst, arith, ◌⊎◌, inl, inr, ⊎_elim}
 use Rattle.std.specs.Prelude.{count_by, nat_le, nat_lt}
 use Rattle.std.proofs.lemmas.Bool.{cases_eq, cases_lt, lt-ltb, le-leb, lt-leb, cond-true, cond-false}
-use Rattle.std.proofs.lemmas.List.{get_or_append_left, get_or_push, get_or-set_same, get_or-set_other, get_or_past, length-append, length_push, length-set, length-take-le, take_at, take-take, get_or_default}
+use Rattle.std.proofs.lemmas.List.{get_or_append_left, get_or_push, get_or-set_same, get_or-set_other, get_or_past, length_push, length-set, length-take-le, take_at, take-take, get_or_default}
 use Rattle.std.proofs.lemmas.List.Sums.{sum_by-set}
 use Rattle.plain_types.specs.declared.sequence.NameLit.{NameLit}
 use Rattle.sat_core.specs.declared.trail.Assigned.{Assigned}
@@ -93,9 +93,10 @@ pushed entries slots e t named free = record {
         → (i < length (entries ++ e ∷ [])) × ((entry_at (entries ++ e ∷ []) i).literal ≡ record { positive = (slot_at slots' v).positive; name = v })
     known_new v i h q =
         let s : slot_at slots' v ≡ slot_of (length entries) e = ap (slot_at slots') q ∙ same in
-        let at : i ≡ length entries = let p = ap (λ (s : Slot). s.place) s in omega (arith, p, h) in
-        (omega (arith, length_push entries e),
-        ap (λ (x : Assigned). x.literal) (last i at) ∙ literal_is e.literal.positive (slot_at slots' v).positive v (sym (ap (λ (s : Slot). s.positive) s)) q)
+        let at : i ≡ length entries = let p = ap (λ (s : Slot). s.place) s in omega (arith, p, h) in (
+          omega (arith, length_push entries e),
+          ap (λ (x : Assigned). x.literal) (last i at) ∙ literal_is e.literal.positive (slot_at slots' v).positive v (sym (ap (λ (s : Slot). s.positive) s)) q,
+        )
       where
         literal_is : (a b : Bool) (v : ℕ) → a ≡ b → v ≡ e.literal.name → ◌≡◌ {A = NameLit} (record { positive = a; name = e.literal.name }) (record { positive = b; name = v })
         literal_is a b v f g = cc
@@ -104,10 +105,11 @@ pushed entries slots e t named free = record {
         (v i : ℕ) → (slot_at slots' v).place ≡ i + 1 → (v ≡ e.literal.name → ⊥)
         → (i < length (entries ++ e ∷ [])) × ((entry_at (entries ++ e ∷ []) i).literal ≡ record { positive = (slot_at slots' v).positive; name = v })
     known_old v i h q =
-        let k = t.known v i (sym (ap (λ (s : Slot). s.place) (other v q)) ∙ h) in
-        (omega (arith, length_push entries e, k.0),
-        ap (λ (x : Assigned). x.literal) (earlier i k.0) ∙ k.1
-        ∙ ap (λ (s : Slot). record { positive = s.positive; name = v }) (sym (other v q)))
+        let k = t.known v i (sym (ap (λ (s : Slot). s.place) (other v q)) ∙ h) in (
+          omega (arith, length_push entries e, k.0),
+          ap (λ (x : Assigned). x.literal) (earlier i k.0) ∙ k.1
+              ∙ ap (λ (s : Slot). record { positive = s.positive; name = v }) (sym (other v q)),
+        )
 
 -- as the code does it
 pub pushed_at :
@@ -173,7 +175,7 @@ popped entries es slots slots' e t split written = record {
     differ i h q =
         let p = placed_place entries slots i t (omega (arith, count, h)) in
         let z : (slot_at slots (entry_at entries i).literal.name).place ≡ length es + 1 =
-            ap (λ (v : ℕ). (slot_at slots v).place) q ∙ ap (λ (s : Slot). s.place) at_last in
+        ap (λ (v : ℕ). (slot_at slots v).place) q ∙ ap (λ (s : Slot). s.place) at_last in
         omega (arith, p, z, h)
 
     known_left :
@@ -184,10 +186,11 @@ popped entries es slots slots' e t split written = record {
     known_left v i h (inr q) =
         let k = t.known v i (sym (ap (λ (s : Slot). s.place) (other v q)) ∙ h) in
         let apart : i ≡ length es → ⊥ = λ at. q (sym (ap (λ (l : NameLit). l.name) k.1) ∙ ap (λ (n : ℕ). (entry_at entries n).literal.name) at ∙ ap (λ (x : Assigned). x.literal.name) last) in
-        let within : i < length es = ⊎_elim (λ (l : i < length es). l) (λ (l : length es ≤ i). absurd (apart (omega (arith, k.0, count, l)))) (cases_lt i (length es)) in
-        (within,
-        sym (ap (λ (x : Assigned). x.literal) (earlier i within)) ∙ k.1
-        ∙ ap (λ (s : Slot). record { positive = s.positive; name = v }) (sym (other v q)))
+        let within : i < length es = ⊎_elim (λ (l : i < length es). l) (λ (l : length es ≤ i). absurd (apart (omega (arith, k.0, count, l)))) (cases_lt i (length es)) in (
+          within,
+          sym (ap (λ (x : Assigned). x.literal) (earlier i within)) ∙ k.1
+              ∙ ap (λ (s : Slot). record { positive = s.positive; name = v }) (sym (other v q)),
+        )
 
     left : (v : ℕ) → (v ≡ e.literal.name) ⊎ (v ≡ e.literal.name → ⊥) → slot_at slots' v ≡ cut_slot (length entries - 1) (slot_at slots v)
     left v (inl q) =

@@ -1,10 +1,9 @@
 -- Resolution keeps truth, so what is derived by a right log is true wherever the clauses are.
-use Rattle.std.proofs.Common.{◌≡◌, ℕ, zero, suc, Bool, true, false, not, ◌&&◌, ◌||◌, cond, List, [], ◌∷◌, ◌++◌, refl, ap, sym, ◌∙◌, ◌⊎◌, inl, inr, ⊎_elim, Option, Some, None}
+use Rattle.std.proofs.Common.{◌≡◌, ℕ, zero, suc, Bool, true, false, not, ◌||◌, cond, List, [], ◌∷◌, ◌++◌, refl, ap, sym, ◌∙◌, inl, inr, Option, Some, None}
 use mathlib.Core.Bool.{beq}
-use Rattle.std.specs.Prelude.{IsTrue, IsFalse, slice_get, option_and_then}
+use Rattle.std.specs.Prelude.{IsTrue, slice_get}
 use Rattle.std.specs.Option.{option_map}
-use Rattle.std.specs.List.{list_any, list_all}
-use Rattle.std.proofs.lemmas.Bool.{cases_Bool, or_cases, or_left, or_right, and_parts, and_from, false_from_ne_true}
+use Rattle.std.proofs.lemmas.Bool.{cases_Bool, or_left, or_right, and_parts, and_from, false_from_ne_true}
 use Rattle.std.proofs.lemmas.List.Folds.{list_any-append, list_all-append}
 use Rattle.std.proofs.lemmas.Option.{option_and_then_some, cond_some, same_Some}
 use Rattle.plain_types.specs.declared.sequence.NameLit.{NameLit}
@@ -12,7 +11,7 @@ use Rattle.sat_core.specs.declared.answer.Link.{Link}
 use Rattle.sat_core.specs.declared.answer.Chain.{Chain}
 use Rattle.sat_core.specs.Clause.{PropClause, Valuation, literal_true, clause_true, clauses_true, same_literal, opposite, valuation_of}
 use Rattle.sat_core.specs.Resolution.{without, can_resolve, resolvent, link_clause, links_clause, chain_clause, log_clauses, ends_empty}
-use Rattle.sat_core.specs.Answer.{IsRightModel, IsRightLog, RightLogsRefute, AnswersExclude}
+use Rattle.sat_core.specs.Answer.{RightLogsRefute, AnswersExclude}
 use Rattle.sat_core.proofs.LiteralLemmas.{same_literal-true}
 
 literal_true-opposite : (v : Valuation) (p : NameLit) → literal_true v (opposite p) ≡ not (literal_true v p)
@@ -99,8 +98,8 @@ clauses_true-log v known made (chain ∷ log) k h =
     (λ c first rest.
     let here : IsTrue (clause_true v c) = clause_true-chain v known c chain k first in
     let grown : IsTrue (clauses_true v (known ++ c ∷ [])) =
-        list_all-append (clause_true v) known (c ∷ [])
-        ∙ and_from (clauses_true v known) (clauses_true v (c ∷ [])) k (and_from (clause_true v c) true here refl) in
+    list_all-append (clause_true v) known (c ∷ [])
+    ∙ and_from (clauses_true v known) (clauses_true v (c ∷ [])) k (and_from (clause_true v c) true here refl) in
     after c here (log_clauses (known ++ c ∷ []) log) (λ more e. clauses_true-log v (known ++ c ∷ []) more log grown e) rest)
   where
     after :

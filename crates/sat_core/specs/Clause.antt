@@ -1,6 +1,6 @@
 -- Propositional clauses and their truth.
 use mathlib.Core.Bool.{beq}
-use Rattle.std.specs.Prelude.{ℕ, Bool, false, not, ◌&&◌, ◌==◌, nat_lt, List, [], ◌∷◌, slice_index_or}
+use Rattle.std.specs.Prelude.{ℕ, Bool, false, not, ◌&&◌, ◌==◌, nat_lt, List, slice_index_or}
 use Rattle.std.specs.List.{list_any, list_all}
 use Rattle.plain_types.specs.declared.sequence.NameLit.{NameLit}
 

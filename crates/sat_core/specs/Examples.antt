@@ -1,5 +1,5 @@
 -- The clauses and logs of the worked examples, over the names 0 and 1.
-use Rattle.std.specs.Prelude.{ℕ, Bool, true, false, List, [], ◌∷◌}
+use Rattle.std.specs.Prelude.{ℕ, true, false, List, [], ◌∷◌}
 use Rattle.plain_types.specs.declared.sequence.NameLit.{NameLit}
 use Rattle.sat_core.specs.declared.answer.Link.{Link}
 use Rattle.sat_core.specs.declared.answer.Chain.{Chain}

@@ -1,5 +1,5 @@
 -- Resolution of propositional clauses (Robinson 1965), and logs of resolutions.
-use Rattle.std.specs.Prelude.{◌≡◌, ℕ, Bool, true, false, not, ◌&&◌, List, [], ◌∷◌, ◌++◌, filter, Option, None, Some, slice_get, option_and_then, if◌then◌else◌, IsTrue}
+use Rattle.std.specs.Prelude.{Bool, true, false, not, ◌&&◌, List, [], ◌∷◌, ◌++◌, filter, Option, None, Some, slice_get, option_and_then, if◌then◌else◌}
 use Rattle.std.specs.Option.{option_map}
 use Rattle.plain_types.specs.declared.sequence.NameLit.{NameLit}
 use Rattle.sat_core.specs.declared.answer.Link.{Link}

@@ -62,8 +62,8 @@ impl Clauses {
         requires chain { Derives self.all.items chain [] }
         ensures { IfOk result (IsRightLog (take self.inputs self.all.items)) }
     {
-        let mut log = self.log;
-        log.push(chain)?;
-        Ok(Log::from_vec(log))
+        let mut chains = self.log;
+        chains.push(chain)?;
+        Ok(Log::from_vec(chains))
     }
 }

@@ -8,12 +8,12 @@ mod literals;
 mod marks;
 mod order;
 mod solver;
-mod watches;
 mod trail;
+mod watches;
 
 pub use answer::{Answer, Chain, Link, Links, Log, PropClauses, Truths, names_are_below};
-pub use solver::solve;
 pub use plain_types::{Mem, NameLit, Names, NoMemory, Sequence};
+pub use solver::solve;
 
 pub mod laws;
 #[cfg(test)]

@@ -93,9 +93,7 @@ fn is_right_log(alloc: Global, clauses: &PropClauses, log: &Log) -> Mem<bool> {
 }
 
 fn is_true(truths: &[bool], clause: &[NameLit]) -> bool {
-    clause
-        .iter()
-        .any(|l| truths.get(l.name as usize).copied().unwrap_or(false) == l.positive)
+    clause.iter().any(|l| truths.get(l.name as usize).copied().unwrap_or(false) == l.positive)
 }
 
 fn is_right_model(clauses: &PropClauses, names: u32, truths: &Truths) -> bool {
@@ -141,8 +139,14 @@ fn refutes_small_rows(rt: HostRuntime) {
     assert_eq!(rt; row(&rt, alloc, &[&[]], 0), refuted);
     assert_eq!(rt; row(&rt, alloc, &[&[1], &[]], 1), refuted);
     assert_eq!(rt; row(&rt, alloc, &[&[1, 1], &[-1, -1, -1]], 1), refuted);
-    assert_eq!(rt; row(&rt, alloc, &[&[1, 2], &[-1, 2], &[1, -2], &[-1, -2]], 5), refuted);
-    assert_eq!(rt; row(&rt, alloc, &[&[-1, 2], &[-2, 3], &[-3, -1], &[1]], 3), refuted);
+    assert_eq!(rt;
+        row(&rt, alloc, &[&[1, 2], &[-1, 2], &[1, -2], &[-1, -2]], 5),
+        refuted
+    );
+    assert_eq!(rt;
+        row(&rt, alloc, &[&[-1, 2], &[-2, 3], &[-3, -1], &[1]], 3),
+        refuted
+    );
 }
 
 #[test]
@@ -153,8 +157,19 @@ fn satisfies_small_rows(rt: HostRuntime) {
     assert_eq!(rt; row(&rt, alloc, &[], 2), satisfied);
     assert_eq!(rt; row(&rt, alloc, &[], 0), satisfied);
     assert_eq!(rt; row(&rt, alloc, &[&[1, -1]], 1), satisfied);
-    assert_eq!(rt; row(&rt, alloc, &[&[1, -1], &[2, -2, 2], &[-2]], 3), satisfied);
-    assert_eq!(rt; row(&rt, alloc, &[&[1, 2, 3], &[-1, 2, 3], &[-2, 3], &[-3, 4]], 4), satisfied);
+    assert_eq!(rt;
+        row(&rt, alloc, &[&[1, -1], &[2, -2, 2], &[-2]], 3),
+        satisfied
+    );
+    assert_eq!(rt;
+        row(
+            &rt,
+            alloc,
+            &[&[1, 2, 3], &[-1, 2, 3], &[-2, 3], &[-3, 4]],
+            4
+        ),
+        satisfied
+    );
 }
 
 /// The name that says that a pigeon is in a hole.
@@ -180,7 +195,10 @@ fn pigeons(alloc: Global, pigeons: u32, holes: u32) -> Mem<PropClauses>
         push_clause(alloc, &mut clauses, somewhere.as_slice())?;
         for other in 0..pigeon {
             for hole in 0..holes {
-                let both = [no(place(holes, pigeon, hole)), no(place(holes, other, hole))];
+                let both = [
+                    no(place(holes, pigeon, hole)),
+                    no(place(holes, other, hole)),
+                ];
                 push_clause(alloc, &mut clauses, &both)?;
             }
         }
@@ -192,7 +210,10 @@ fn pigeons(alloc: Global, pigeons: u32, holes: u32) -> Mem<PropClauses>
 fn refutes_four_pigeons_in_three_holes(rt: HostRuntime) {
     let clauses = pigeons(rt.alloc(), 4, 3).expect(&rt, "memory");
     assert_eq!(rt; clauses.len(), 22);
-    assert_eq!(rt; checked_answer(&rt, rt.alloc(), &clauses, 12), Outcome::Refuted);
+    assert_eq!(rt;
+        checked_answer(&rt, rt.alloc(), &clauses, 12),
+        Outcome::Refuted
+    );
 }
 
 #[test]
@@ -202,7 +223,10 @@ fn answers_pigeonholes(rt: HostRuntime) {
         let clauses = pigeons(alloc, holes + 1, holes).expect(&rt, "memory");
         assert_eq!(rt; checked_answer(&rt, alloc, &clauses, 42), Outcome::Refuted);
         let clauses = pigeons(alloc, holes, holes).expect(&rt, "memory");
-        assert_eq!(rt; checked_answer(&rt, alloc, &clauses, 42), Outcome::Satisfied);
+        assert_eq!(rt;
+            checked_answer(&rt, alloc, &clauses, 42),
+            Outcome::Satisfied
+        );
     }
 }
 
@@ -320,7 +344,10 @@ fn follows_a_long_chain(rt: HostRuntime) {
     for i in 1..100_000u32 {
         push_clause(alloc, &mut clauses, &[no(i - 1), yes(i)]).expect(&rt, "memory");
     }
-    assert_eq!(rt; checked_answer(&rt, alloc, &clauses, 100_000), Outcome::Satisfied);
+    assert_eq!(rt;
+        checked_answer(&rt, alloc, &clauses, 100_000),
+        Outcome::Satisfied
+    );
     push_clause(alloc, &mut clauses, &[yes(0)]).expect(&rt, "memory");
     push_clause(alloc, &mut clauses, &[no(99_999)]).expect(&rt, "memory");
     assert!(rt; names_are_below(&clauses, 100_000));

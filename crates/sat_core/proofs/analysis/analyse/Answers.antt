@@ -1,8 +1,4 @@
-use Rattle.std.proofs.Common.{◌≡◌, ◌&&◌, refl, ap, sym, ◌∙◌, arith}
-use Rattle.std.specs.Prelude.{nat_le}
-use Rattle.plain_types.specs.declared.sequence.NameLit.{NameLit}
-use Rattle.sat_core.specs.Clause.{has_literal}
-use Rattle.sat_core.specs.Trail.{place_of}
+use Rattle.std.proofs.Common.{◌∙◌, arith}
 use Rattle.sat_core.proofs.ResolveLemmas.{analysis_of_turn, analysis_of_none}
 use Rattle.sat_core.proofs.analysis.analyse.Goals as goal
 

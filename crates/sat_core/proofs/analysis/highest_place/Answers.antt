@@ -12,18 +12,18 @@ loop-literal-preserved c =
     let literal = get_or c.args.literals.now c.loop-literal.literal-index no_literal in
     elim c.if-highest-place.branch [
       | then-highest-place+then-place-bound w ↦ rw w.highest-is (record {
-          below = w.if-place-bound.true;
-          highest = highest_more c.args.trail.now.slots.items c.args.literals.now c.loop-literal.literal-index c.args.bound c.loop-literal.highest c.place-place.result literal
-              c.loop-literal-test.true (get_or_default c.args.literals.now _ _ _ c.loop-literal-test.true) c.loop-literal.invariant.highest
-              (omega (arith, w.if-highest-place.true)) (λ p. omega (arith, c.place-place.ensures));
-        })
+        below = w.if-place-bound.true;
+        highest = highest_more c.args.trail.now.slots.items c.args.literals.now c.loop-literal.literal-index c.args.bound c.loop-literal.highest c.place-place.result literal
+            c.loop-literal-test.true (get_or_default c.args.literals.now _ _ _ c.loop-literal-test.true) c.loop-literal.invariant.highest
+            (omega (arith, w.if-highest-place.true)) (λ p. omega (arith, c.place-place.ensures));
+      })
       | else-highest-place w ↦ rw w.highest-is (record {
-          below = c.loop-literal.invariant.below;
-          highest = highest_more c.args.trail.now.slots.items c.args.literals.now c.loop-literal.literal-index c.args.bound c.loop-literal.highest c.loop-literal.highest literal
-              c.loop-literal-test.true (get_or_default c.args.literals.now _ _ _ c.loop-literal-test.true) c.loop-literal.invariant.highest
-              (omega arith) (λ p. elim w.else-highest-place.branch [
-                | else-highest-place-via-then-highest-place+else-place-bound w' ↦ absurd (omega (arith, p, c.place-place.ensures, w'.if-place-bound.false))
-                | else-highest-place-via-else-highest-place w' ↦ omega (arith, c.place-place.ensures, w'.if-highest-place.false)
-              ]);
-        })
+        below = c.loop-literal.invariant.below;
+        highest = highest_more c.args.trail.now.slots.items c.args.literals.now c.loop-literal.literal-index c.args.bound c.loop-literal.highest c.loop-literal.highest literal
+            c.loop-literal-test.true (get_or_default c.args.literals.now _ _ _ c.loop-literal-test.true) c.loop-literal.invariant.highest
+            (omega arith) (λ p. elim w.else-highest-place.branch [
+              | else-highest-place-via-then-highest-place+else-place-bound w' ↦ absurd (omega (arith, p, c.place-place.ensures, w'.if-place-bound.false))
+              | else-highest-place-via-else-highest-place w' ↦ omega (arith, c.place-place.ensures, w'.if-highest-place.false)
+            ]);
+      })
     ]

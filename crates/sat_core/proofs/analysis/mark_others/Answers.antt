@@ -1,4 +1,4 @@
-use Rattle.std.proofs.Common.{arith, refl, sym, ◌∙◌, ap, take}
+use Rattle.std.proofs.Common.{arith, sym, ◌∙◌}
 use Rattle.std.proofs.lemmas.List.{get_or_default}
 use Rattle.sat_core.proofs.AnalysisLemmas.{has_literal_read, false_of_one_name, adds_false, adds_one, adds_no}
 use Rattle.sat_core.proofs.analysis.mark_others.Goals as goal
@@ -16,17 +16,17 @@ pub loop-literal-preserved : goal.loop-literal-preserved
 loop-literal-preserved c =
     elim c.if-is_other.branch [
       | then-is_other+in_ok-mark w ↦ rw w.marks-is (record {
-          marks = w.in_ok-mark.ensures.marks;
-          names = w.in_ok-mark.ensures.names ∙ c.loop-literal.invariant.names;
-          adds = adds_one c.args.literals.now _ _ _ _ c.args.implied _
-              c.loop-literal-test.true (get_or_default c.args.literals.now _ _ _ c.loop-literal-test.true)
-              (sym c.is_other.ensures ∙ w.if-is_other.true) c.loop-literal.invariant.adds w.in_ok-mark.ensures.literals;
-        })
+        marks = w.in_ok-mark.ensures.marks;
+        names = w.in_ok-mark.ensures.names ∙ c.loop-literal.invariant.names;
+        adds = adds_one c.args.literals.now _ _ _ _ c.args.implied _
+            c.loop-literal-test.true (get_or_default c.args.literals.now _ _ _ c.loop-literal-test.true)
+            (sym c.is_other.ensures ∙ w.if-is_other.true) c.loop-literal.invariant.adds w.in_ok-mark.ensures.literals;
+      })
       | else-is_other w ↦ rw w.marks-is (record {
-          marks = c.loop-literal.invariant.marks;
-          names = c.loop-literal.invariant.names;
-          adds = adds_no c.args.literals.now _ _ _ c.args.implied _
-              c.loop-literal-test.true (get_or_default c.args.literals.now _ _ _ c.loop-literal-test.true)
-              (sym c.is_other.ensures ∙ w.if-is_other.false) c.loop-literal.invariant.adds;
-        })
+        marks = c.loop-literal.invariant.marks;
+        names = c.loop-literal.invariant.names;
+        adds = adds_no c.args.literals.now _ _ _ c.args.implied _
+            c.loop-literal-test.true (get_or_default c.args.literals.now _ _ _ c.loop-literal-test.true)
+            (sym c.is_other.ensures ∙ w.if-is_other.false) c.loop-literal.invariant.adds;
+      })
     ]

@@ -1,5 +1,4 @@
-use Rattle.std.proofs.Common.{get_or, sym, ◌∙◌}
-use Rattle.sat_core.proofs.AnalysisLemmas.{no_literal, named_at}
+use Rattle.sat_core.proofs.AnalysisLemmas.{named_at}
 use Rattle.sat_core.proofs.watches.examine.Goals as goal
 
 pub is_true-requires : goal.is_true-requires

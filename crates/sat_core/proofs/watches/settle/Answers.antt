@@ -1,4 +1,4 @@
-use Rattle.std.proofs.Common.{◌≡◌, subst, arith}
+use Rattle.std.proofs.Common.{subst, arith}
 use Rattle.sat_core.specs.Clause.{PropClause}
 use Rattle.sat_core.specs.Search.{IsUnit}
 use Rattle.sat_core.proofs.PropagationLemmas.{propagates_one}

@@ -1,4 +1,4 @@
-use Rattle.std.proofs.Common.{◌≡◌, List, [], subst, sym, ◌∙◌}
+use Rattle.std.proofs.Common.{subst, ◌∙◌}
 use Rattle.sat_core.specs.Clause.{PropClause}
 use Rattle.sat_core.specs.Conflict.{AddsOthers}
 use Rattle.std.specs.Prelude.{None}

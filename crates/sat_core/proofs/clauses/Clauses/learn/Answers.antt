@@ -1,4 +1,3 @@
-use Rattle.std.proofs.Common.{◌≡◌, List, ap, sym, ◌∙◌, subst}
 use Rattle.sat_core.proofs.LogLemmas.{learned}
 use Rattle.sat_core.proofs.clauses.Clauses.learn.Goals as goal
 

@@ -7,7 +7,7 @@ use Rattle.sat_core.proofs.solver.Solver.decide.Goals as goal
 pub returns : goal.returns
 returns c =
     let names : length c.push.new.self.slots.items ≡ length c.args.self.now.trail.slots.items =
-        ap length c.in_ok-push.ensures.slots ∙ length-set c.args.self.now.trail.slots.items _ _ in
+    ap length c.in_ok-push.ensures.slots ∙ length-set c.args.self.now.trail.slots.items _ _ in
     record {
       state = record {
         derived = c.requires.state.derived;

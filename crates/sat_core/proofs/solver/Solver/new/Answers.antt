@@ -1,4 +1,4 @@
-use Rattle.std.proofs.Common.{◌≡◌, List, length, ap, sym, ◌∙◌, subst, take, arith}
+use Rattle.std.proofs.Common.{List, length, ap, sym, ◌∙◌, subst, arith}
 use Rattle.std.proofs.lemmas.List.{get_or_read, take_all}
 use Rattle.sat_core.specs.Clause.{PropClause}
 use Rattle.sat_core.specs.State.{clause_at}

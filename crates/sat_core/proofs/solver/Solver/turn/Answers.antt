@@ -1,7 +1,7 @@
 use Rattle.std.proofs.Common.{◌≡◌, length, refl, ap, sym, ◌∙◌, arith}
 use Rattle.std.proofs.lemmas.List.{length-set}
 use Rattle.sat_core.proofs.SoundLemmas.{turn_remaining}
-use Rattle.sat_core.proofs.SolverLemmas.{derives_of, turn_of, refutes_of, learned_within, learned_lists, turn_sound, same_inputs}
+use Rattle.sat_core.proofs.SolverLemmas.{derives_of, turn_of, learned_within, learned_lists, turn_sound, same_inputs}
 use Rattle.sat_core.proofs.solver.Solver.turn.Goals as goal
 
 pub add_learned-requires-clause-within : goal.add_learned-requires-clause-within
@@ -21,7 +21,7 @@ pub returns : goal.returns
 returns c =
     let is = turn_of _ _ _ _ c.in_ok-analysis.analysis c.in-Some.turn c.in_ok-analysis.ensures.analysis c.in-Some.is in
     let names : length c.push.new.self.slots.items ≡ length c.args.self.now.trail.slots.items =
-        ap length c.in_ok-push.ensures.slots ∙ length-set c.cut.new.self.slots.items _ _ ∙ c.cut.ensures.same_length in
+    ap length c.in_ok-push.ensures.slots ∙ length-set c.cut.new.self.slots.items _ _ ∙ c.cut.ensures.same_length in
     record {
       state = record {
         derived = c.in_ok-learn.ensures.derived;

@@ -1,4 +1,3 @@
-use Rattle.std.proofs.Common.{refl, ◌∙◌, ap}
 use Rattle.sat_core.proofs.TrailLemmas.{popped_at}
 use Rattle.sat_core.proofs.trail.Trail.pop.Goals as goal
 
