@@ -1,0 +1,11 @@
+pub mod LiteralLemmas
+pub mod TruthLemmas
+pub mod TrailLemmas
+pub mod MarkLemmas
+pub mod LogLemmas
+pub mod AnalysisLemmas
+pub mod ResolveLemmas
+pub mod MeasureLemmas
+pub mod SoundLemmas
+pub mod PropagationLemmas
+pub mod SolverLemmas

@@ -1,0 +1,75 @@
+-- What the solver keeps: clauses that are derived, a trail whose entries are decisions or implied, and marks.
+use Rattle.std.specs.Prelude.{◌≡◌, ℕ, ◌<◌, ◌≤◌, Bool, false, ◌==◌, List, [], ◌++◌, length, take, Some, slice_index_or, IsTrue, IsFalse}
+use Rattle.std.specs.List.{list_any}
+use Rattle.plain_types.specs.declared.sequence.NameLit.{NameLit}
+use Rattle.sat_core.specs.declared.answer.Chain.{Chain}
+use Rattle.sat_core.specs.declared.trail.Assigned.{Assigned}
+use Rattle.sat_core.specs.declared.trail.Slot.{Slot}
+use Rattle.sat_core.specs.Clause.{PropClause, same_literal, has_literal}
+use Rattle.sat_core.specs.Resolution.{chain_clause, log_clauses}
+use Rattle.sat_core.specs.Trail.{IsTrail, entry_at, is_false, is_false_within}
+
+-- the empty clause where there is none
+abbrev pub clause_at : List PropClause → ℕ → PropClause
+clause_at clauses n = slice_index_or clauses n []
+
+-- one set of literals
+abbrev pub SameLiterals : PropClause → PropClause → Type 0
+SameLiterals c d = (l : NameLit) → has_literal l c ≡ has_literal l d
+
+pub record SameClauses (cs ds : List PropClause) : Type 0 where
+  pub same_count : length cs ≡ length ds
+  pub same_literals : (n : ℕ) → SameLiterals (clause_at cs n) (clause_at ds n)
+
+-- ---- clauses
+
+-- the clauses after the first so many are, as sets, those of the log over these
+pub record AreDerived (inputs : ℕ) (clauses : List PropClause) (log : List Chain) : Type 0 where
+  pub within : inputs ≤ length clauses
+  pub made : List PropClause
+  pub lawful : log_clauses (take inputs clauses) log ≡ Some made
+  pub same : SameClauses clauses (take inputs clauses ++ made)
+
+-- the chain's clause is, as a set, the clause
+pub record Derives (clauses : List PropClause) (chain : Chain) (clause : PropClause) : Type 0 where
+  pub made : PropClause
+  pub lawful : chain_clause clauses chain ≡ Some made
+  pub same : SameLiterals clause made
+
+-- each name is below the bound
+abbrev pub AreNamed : ℕ → List PropClause → Type 0
+AreNamed names clauses = (n : ℕ) (l : NameLit) → IsTrue (has_literal l (clause_at clauses n)) → l.name < names
+
+-- ---- the trail
+
+-- the literal stands in the clause, and the clause's other literals are false within the first so many entries
+pub record IsImplied (clauses : List PropClause) (slots : List Slot) (count : ℕ) (l : NameLit) (reason : ℕ) : Type 0 where
+  pub within : reason < length clauses
+  pub member : IsTrue (has_literal l (clause_at clauses reason))
+  pub others :
+      (k : NameLit) → IsTrue (has_literal k (clause_at clauses reason)) → IsFalse (same_literal l k)
+      → IsTrue (is_false_within slots count k)
+
+-- each entry that is no decision is implied by what stands before it
+abbrev pub AreImplied : List PropClause → List Assigned → List Slot → Type 0
+AreImplied clauses entries slots =
+    (i reason : ℕ) → i < length entries → (entry_at entries i).reason ≡ Some reason
+    → IsImplied clauses slots i (entry_at entries i).literal reason
+
+pub record IsSound (clauses : List PropClause) (entries : List Assigned) (slots : List Slot) : Type 0 where
+  pub trail : IsTrail entries slots
+  pub implied : AreImplied clauses entries slots
+  pub named : AreNamed (length slots) clauses
+
+-- each literal of the clause is false
+abbrev pub AreFalse : List Slot → PropClause → Type 0
+AreFalse slots c = (l : NameLit) → IsTrue (has_literal l c) → IsTrue (is_false slots l)
+
+-- ---- marks
+
+abbrev pub has_name : ℕ → PropClause → Bool
+has_name v c = list_any (λ (l : NameLit). l.name == v) c
+
+-- the marked names are those of the literals
+abbrev pub AreMarks : List Bool → PropClause → Type 0
+AreMarks marked literals = (v : ℕ) → slice_index_or marked v false ≡ has_name v literals

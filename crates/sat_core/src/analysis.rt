@@ -1,0 +1,286 @@
+// The analysis of a conflict: from a false clause, the trail is walked backwards and each marked literal is
+// resolved away with the reason of its opposite, until one decision can be turned by what is left.
+
+ghost use Rattle.std.specs.Prelude.{◌≡◌, ℕ, ◌-◌, ◌<◌, ◌≤◌, ◌&&◌, nat_le, length, None, IfOk, IfSome, IfNone, IsSome, IsTrue};
+ghost use Rattle.plain_types.specs.declared.sequence.NameLit.{NameLit as Literal};
+ghost use Rattle.sat_core.specs.Clause.{has_literal};
+ghost use Rattle.sat_core.specs.Trail.{IsTrail, entry_at, place_of};
+ghost use Rattle.sat_core.specs.State.{IsSound, AreMarks, AreFalse, clause_at};
+ghost use Rattle.sat_core.specs.Conflict.{AddsOthers, OthersAreFalse, AreWithin, IsAnalysis, IsResolving, TurnsAt, IsTurnOf};
+
+use crate::answer::{Chain, Link, Links};
+use crate::clauses::Clauses;
+use crate::literals::{is_other, opposite};
+use crate::marks::Marks;
+use crate::trail::{Assigned, Trail};
+use plain_types::{Mem, NameLit, Names};
+use std::alloc::Global;
+
+/// A decision that is to be turned.
+#[derive(Clone, Copy)]
+pub struct Turn {
+    /// The literal that is implied once the decision and what follows it is taken back.
+    pub literal: NameLit,
+    /// The decision's index on the trail.
+    pub cut: usize,
+}
+
+/// What a false clause comes to.
+#[derive(Drop)]
+pub struct Analysis {
+    /// The resolutions that begin with the false clause.
+    pub chain: Chain,
+    /// The clause that they derive.
+    pub clause: Names,
+    /// The decision that it turns; none where it is empty.
+    pub turn: Option<Turn>,
+}
+
+/// A false clause, and the resolutions so far. The last two fields are hints, on which no answer rests.
+#[derive(Drop)]
+pub struct Conflict {
+    pub start: usize,
+    pub links: Vec<Link>,
+    /// The index of the last decision before the conflict.
+    pub level: usize,
+    /// The least place above it of a marked literal.
+    pub lowest: usize,
+}
+
+/// Marks the literals of a clause but for the one that it implies.
+fn mark_others(
+    marks: &mut Marks,
+    trail: &Trail,
+    literals: &[NameLit],
+    implied: Option<NameLit>,
+) -> Mem<()>
+    requires marks { AreMarks marks.old.marked.items marks.old.literals.items }
+    requires names { length marks.old.marked.items ≡ length trail.now.slots.items }
+    requires within { AreWithin (length trail.now.slots.items) literals.now }
+    requires marked_false { AreFalse trail.now.slots.items marks.old.literals.items }
+    requires others_false { OthersAreFalse trail.now.slots.items literals.now implied }
+    ensures marks { IfOk result (λ _. AreMarks marks.new.marked.items marks.new.literals.items) }
+    ensures names { IfOk result (λ _. length marks.new.marked.items ≡ length marks.old.marked.items) }
+    ensures adds { IfOk result (λ _. AddsOthers literals.now implied marks.old.literals.items marks.new.literals.items) }
+{
+    for literal in literals {
+        if is_other(implied, *literal) {
+            marks.mark(*literal)?;
+        }
+    }
+    Ok(())
+}
+
+/// The highest place below a bound of one of the literals, or 0.
+fn highest_place(trail: &Trail, literals: &[NameLit], bound: usize) -> usize
+    requires within { AreWithin (length trail.now.slots.items) literals.now }
+    requires some { 0 < bound }
+    ensures below { result < bound }
+    ensures highest { (l : Literal) → IsTrue (has_literal l literals.now) → place_of trail.now.slots.items l < bound
+        → place_of trail.now.slots.items l ≤ result }
+{
+    let mut highest = 0;
+    for literal in literals {
+        let place = trail.place(*literal);
+        if highest < place && place < bound {
+            highest = place;
+        }
+    }
+    highest
+}
+
+/// The first decision from an index on, below a bound.
+fn decision_from(trail: &Trail, low: usize, bound: usize) -> Option<usize>
+    requires { bound ≤ length trail.now.entries.items }
+    ensures some { IfSome result (λ i. (low ≤ i) × (i < bound) × ((entry_at trail.now.entries.items i).reason ≡ None)) }
+    ensures none { IfNone result ((i : ℕ) → low ≤ i → i < bound → IsSome (entry_at trail.now.entries.items i).reason) }
+{
+    for index in low..bound {
+        if trail.entries[index].reason.is_none() {
+            return Some(index);
+        }
+    }
+    None
+}
+
+/// The last decision below a bound, or the greatest number where there is none.
+fn last_decision(trail: &Trail, bound: usize) -> usize
+    requires { bound ≤ length trail.now.entries.items }
+{
+    for index in (0..bound).rev() {
+        if trail.entries[index].reason.is_none() {
+            return index;
+        }
+    }
+    usize::MAX
+}
+
+/// The literals whose places are within a bound.
+fn literals_within(alloc: Global, trail: &Trail, literals: &[NameLit], bound: usize) -> Mem<Names>
+    requires { AreWithin (length trail.now.slots.items) literals.now }
+    ensures { IfOk result (λ kept. (l : Literal) → has_literal l kept
+        ≡ (has_literal l literals.now && nat_le (place_of trail.now.slots.items l) bound)) }
+{
+    let mut kept = Vec::new(alloc);
+    for literal in literals {
+        if trail.place(*literal) <= bound {
+            kept.push(*literal)?;
+        }
+    }
+    Ok(Names::from_vec(kept))
+}
+
+impl Conflict {
+    /// The false clause, with its literals marked.
+    fn of(
+        alloc: Global,
+        clauses: &Clauses,
+        trail: &Trail,
+        marks: &mut Marks,
+        start: usize,
+    ) -> Mem<Conflict>
+        requires sound { IsSound clauses.now.all.items trail.now.entries.items trail.now.slots.items }
+        requires marks { AreMarks marks.old.marked.items marks.old.literals.items }
+        requires names { length marks.old.marked.items ≡ length trail.now.slots.items }
+        requires start { start < length clauses.now.all.items }
+        requires false_clause { AreFalse trail.now.slots.items (clause_at clauses.now.all.items start) }
+        ensures start { IfOk result (λ conflict. conflict.start ≡ start) }
+        ensures resolving { IfOk result (λ conflict. IsResolving clauses.now.all.items trail.now.slots.items start conflict.links.items
+            marks.new.marked.items marks.new.literals.items (length trail.now.entries.items)) }
+    {
+        marks.clear();
+        let literals = clauses.literals(start);
+        mark_others(marks, trail, literals, None)?;
+        let top = highest_place(trail, literals, trail.entries.len() + 1);
+        let mut conflict = Conflict {
+            start,
+            links: Vec::new(alloc),
+            level: last_decision(trail, top),
+            lowest: usize::MAX,
+        };
+        conflict.see(trail, literals);
+        Ok(conflict)
+    }
+
+    /// The chain so far, with its clause and the decision that it turns.
+    fn into_analysis(self, clause: Names, turn: Option<Turn>) -> Analysis
+        ensures chain { (result.chain.start ≡ self.start) × (result.chain.links ≡ self.links.items) }
+        ensures clause { result.clause ≡ clause }
+        ensures turn { result.turn ≡ turn }
+    {
+        let start = self.start as u64;
+        let links = Links::from_vec(self.links);
+        Analysis {
+            chain: Chain { start, links },
+            clause,
+            turn,
+        }
+    }
+
+    /// Sees the places of literals, for the hint.
+    fn see(&mut self, trail: &Trail, literals: &[NameLit])
+        requires { AreWithin (length trail.now.slots.items) literals.now }
+        ensures start { self.new.start ≡ self.old.start }
+        ensures links { self.new.links.items ≡ self.old.links.items }
+    {
+        for literal in literals {
+            let place = trail.place(*literal);
+            if self.level < place && place < self.lowest {
+                self.lowest = place;
+            }
+        }
+    }
+
+    /// The decision that the marked literals below a bound turn, where the entry below the bound is the only one
+    /// since that decision.
+    fn turn_at(
+        &self,
+        trail: &Trail,
+        literals: &[NameLit],
+        entry: Assigned,
+        bound: usize,
+    ) -> Option<Turn>
+        requires within { AreWithin (length trail.now.slots.items) literals.now }
+        requires some { 0 < bound }
+        requires bound { bound ≤ length trail.now.entries.items }
+        requires entry { entry ≡ entry_at trail.now.entries.items (bound - 1) }
+        ensures some { IfSome result (TurnsAt trail.now.entries.items trail.now.slots.items literals.now entry bound) }
+        ensures none { IfNone result (IsSome entry.reason) }
+    {
+        if bound != self.lowest && entry.reason.is_some() {
+            return None;
+        }
+        let low = highest_place(trail, literals, bound);
+        let cut = decision_from(trail, low, bound)?;
+        Some(Turn {
+            literal: opposite(entry.literal),
+            cut,
+        })
+    }
+
+    /// Resolves the literal away that the entry below a bound makes false, unless a decision can be turned.
+    fn step_back(
+        &mut self,
+        marks: &mut Marks,
+        clauses: &Clauses,
+        trail: &Trail,
+        bound: usize,
+    ) -> Mem<Option<Turn>>
+        requires sound { IsSound clauses.now.all.items trail.now.entries.items trail.now.slots.items }
+        requires some { 0 < bound }
+        requires bound { bound ≤ length trail.now.entries.items }
+        requires resolving { IsResolving clauses.now.all.items trail.now.slots.items self.old.start self.old.links.items
+            marks.old.marked.items marks.old.literals.items bound }
+        ensures start { IfOk result (λ _. self.new.start ≡ self.old.start) }
+        ensures none { IfOk result (λ turn. IfNone turn (IsResolving clauses.now.all.items trail.now.slots.items self.new.start self.new.links.items
+            marks.new.marked.items marks.new.literals.items (bound - 1))) }
+        ensures some { IfOk result (λ turn. IfSome turn (λ t. IsResolving clauses.now.all.items trail.now.slots.items self.new.start self.new.links.items
+            marks.new.marked.items marks.new.literals.items bound × IsTurnOf trail.now.entries.items trail.now.slots.items marks.new.literals.items bound t)) }
+    {
+        let entry = trail.entries[bound - 1];
+        if !marks.marked[entry.literal.name as usize] {
+            return Ok(None);
+        }
+        if let Some(turn) = self.turn_at(trail, marks.literals.as_slice(), entry, bound) {
+            return Ok(Some(turn));
+        }
+        if let Some(reason) = entry.reason {
+            let pivot = opposite(entry.literal);
+            let number = reason as u64;
+            self.links.push(Link { pivot, number })?;
+            let literals = clauses.literals(reason);
+            self.see(trail, literals);
+            mark_others(marks, trail, literals, Some(entry.literal))?;
+        }
+        Ok(None)
+    }
+}
+
+/// Resolves a false clause backwards along the trail, until a decision can be turned or nothing is left.
+pub fn analyse(
+    alloc: Global,
+    clauses: &Clauses,
+    trail: &Trail,
+    marks: &mut Marks,
+    start: usize,
+) -> Mem<Analysis>
+    requires sound { IsSound clauses.now.all.items trail.now.entries.items trail.now.slots.items }
+    requires marks { AreMarks marks.old.marked.items marks.old.literals.items }
+    requires names { length marks.old.marked.items ≡ length trail.now.slots.items }
+    requires start { start < length clauses.now.all.items }
+    requires false_clause { AreFalse trail.now.slots.items (clause_at clauses.now.all.items start) }
+    ensures marks { IfOk result (λ _. AreMarks marks.new.marked.items marks.new.literals.items) }
+    ensures names { IfOk result (λ _. length marks.new.marked.items ≡ length marks.old.marked.items) }
+    ensures analysis { IfOk result (IsAnalysis clauses.now.all.items trail.now.entries.items trail.now.slots.items start) }
+{
+    let mut conflict = Conflict::of(alloc, clauses, trail, marks, start)?;
+    let mut bound = trail.entries.len();
+    while bound > 0 {
+        if let Some(turn) = conflict.step_back(marks, clauses, trail, bound)? {
+            let clause = literals_within(alloc, trail, marks.literals.as_slice(), bound)?;
+            return Ok(conflict.into_analysis(clause, Some(turn)));
+        }
+        bound -= 1;
+    }
+    Ok(conflict.into_analysis(Names::new(alloc), None))
+}

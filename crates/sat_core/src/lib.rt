@@ -1,0 +1,20 @@
+// The propositional solver: clause learning, with a model or a log of resolutions as its answer.
+#![tactic(auto)]
+
+mod analysis;
+mod answer;
+mod clauses;
+mod literals;
+mod marks;
+mod order;
+mod solver;
+mod trail;
+mod watches;
+
+pub use answer::{Answer, Chain, Link, Links, Log, PropClauses, Truths, names_are_below};
+pub use plain_types::{Mem, NameLit, Names, NoMemory, Sequence};
+pub use solver::solve;
+
+pub mod laws;
+#[cfg(test)]
+mod tests;

@@ -1,0 +1,41 @@
+// Literals of names.
+
+ghost use Rattle.std.specs.Prelude.{◌≡◌, ◌+◌, ◌*◌, ◌<◌};
+ghost use Rattle.sat_core.specs.Clause.{same_literal, opposite};
+ghost use Rattle.sat_core.specs.Conflict.{is_other};
+
+use plain_types::NameLit;
+
+/// The name with the other sign.
+pub fn opposite(literal: NameLit) -> NameLit
+    ensures { result ≡ opposite literal }
+{
+    NameLit {
+        positive: !literal.positive,
+        name: literal.name,
+    }
+}
+
+/// Whether the two are equal.
+pub fn same_literal(left: NameLit, right: NameLit) -> bool
+    ensures { result ≡ same_literal left right }
+{
+    left.positive == right.positive && left.name == right.name
+}
+
+/// Whether the literal isn't the one that a clause implies.
+pub fn is_other(implied: Option<NameLit>, literal: NameLit) -> bool
+    ensures { result ≡ is_other implied literal }
+{
+    match implied {
+        Some(implied) => !same_literal(implied, literal),
+        None => true,
+    }
+}
+
+/// A number of its own for each literal.
+pub fn code(literal: NameLit) -> usize
+    ensures { result < 2 * literal.name + 2 }
+{
+    2 * literal.name as usize + usize::from(literal.positive)
+}

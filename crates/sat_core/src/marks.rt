@@ -1,0 +1,57 @@
+// The literals that a conflict has met so far.
+
+ghost use Rattle.std.specs.Prelude.{◌≡◌, ℕ, ◌<◌, [], ◌∷◌, ◌++◌, length, replicate, false, IfOk, IsTrue};
+ghost use Rattle.plain_types.specs.declared.sequence.NameLit.{NameLit as Literal};
+ghost use Rattle.sat_core.specs.Clause.{has_literal};
+ghost use Rattle.sat_core.specs.State.{AreMarks, SameLiterals};
+
+use plain_types::{Mem, NameLit};
+use std::alloc::Global;
+
+/// Literals of different names, and for each name whether it is among them.
+#[derive(Drop)]
+pub struct Marks {
+    pub marked: Vec<bool>,
+    pub literals: Vec<NameLit>,
+}
+
+impl Marks {
+    /// Nothing is marked.
+    pub fn new(alloc: Global, names: usize) -> Mem<Marks>
+        ensures marks { IfOk result (λ marks. AreMarks marks.marked.items marks.literals.items) }
+        ensures names { IfOk result (λ marks. length marks.marked.items ≡ names) }
+    {
+        Ok(Marks {
+            marked: vec![in alloc; false; names]?,
+            literals: Vec::new(alloc),
+        })
+    }
+
+    /// Takes all marks away.
+    pub fn clear(&mut self)
+        requires { AreMarks self.old.marked.items self.old.literals.items }
+        ensures marks { AreMarks self.new.marked.items self.new.literals.items }
+        ensures empty { self.new.literals.items ≡ [] }
+        ensures names { length self.new.marked.items ≡ length self.old.marked.items }
+    {
+        while let Some(literal) = self.literals.pop() {
+            self.marked[literal.name as usize] = false;
+        }
+    }
+
+    /// Marks a literal, where none of its name is marked.
+    pub fn mark(&mut self, literal: NameLit) -> Mem<()>
+        requires marks { AreMarks self.old.marked.items self.old.literals.items }
+        requires named { literal.name < length self.old.marked.items }
+        requires one_sign { (k : Literal) → IsTrue (has_literal k self.old.literals.items) → k.name ≡ literal.name → k ≡ literal }
+        ensures marks { IfOk result (λ _. AreMarks self.new.marked.items self.new.literals.items) }
+        ensures literals { IfOk result (λ _. SameLiterals self.new.literals.items (literal ∷ self.old.literals.items)) }
+        ensures names { IfOk result (λ _. length self.new.marked.items ≡ length self.old.marked.items) }
+    {
+        if !self.marked[literal.name as usize] {
+            self.literals.push(literal)?;
+            self.marked[literal.name as usize] = true;
+        }
+        Ok(())
+    }
+}

@@ -1,0 +1,243 @@
+// The solver: decisions, propagation and learning, until a model or a refutation is found.
+
+ghost use Rattle.std.specs.Prelude.{◌≡◌, ◌*◌, ◌<◌, ◌≤◌, [], length, map, take, IfOk, IfSome, IfNone, MatchOption, IsTrue};
+ghost use Rattle.std.specs.List.{list_any};
+ghost use Rattle.sat_core.specs.Clause.{names_below, clauses_true, valuation_of};
+ghost use Rattle.sat_core.specs.Answer.{IsRightAnswer};
+ghost use Rattle.sat_core.specs.Trail.{is_true, place_of};
+ghost use Rattle.sat_core.specs.State.{clause_at};
+ghost use Rattle.sat_core.specs.Conflict.{AreWithin};
+ghost use Rattle.sat_core.specs.Search.{IsConflict, HasNoTrue, AreAssigned, values_of};
+ghost use Rattle.sat_core.specs.Solver.{IsState, Turns, Keeps, Advances, Steps, IsBegun, inputs_of};
+
+use crate::analysis::analyse;
+use crate::answer::{Answer, Chain, PropClauses, Truths};
+use crate::clauses::Clauses;
+use crate::marks::Marks;
+use crate::order::Order;
+use crate::trail::{Assigned, Trail};
+use crate::watches::Watches;
+use plain_types::{Mem, NameLit};
+use std::alloc::Global;
+
+/// What the solver has come to.
+#[derive(Drop)]
+pub enum Step {
+    /// Something was decided or learned.
+    Going,
+    /// Each clause has a true literal.
+    Satisfied,
+    /// The chain derives the empty clause.
+    Refuted(Chain),
+}
+
+/// The state of the search.
+#[derive(Drop)]
+pub struct Solver {
+    pub clauses: Clauses,
+    pub trail: Trail,
+    pub marks: Marks,
+    pub watches: Watches,
+    pub order: Order,
+}
+
+impl Solver {
+    /// Nothing is decided yet.
+    fn new(alloc: Global, inputs: &PropClauses, names: u32) -> Mem<Solver>
+        requires { IsTrue (names_below names inputs.now) }
+        ensures { IfOk result (IsBegun names inputs.now) }
+    {
+        let mut watches = Watches::new(alloc, names)?;
+        for clause in inputs.as_slice() {
+            watches.add_input(clause.as_slice())?;
+        }
+        Ok(Solver {
+            clauses: Clauses::new(alloc, inputs)?,
+            trail: Trail::new(alloc, names as usize)?,
+            marks: Marks::new(alloc, names as usize)?,
+            watches,
+            order: Order::new(alloc, names)?,
+        })
+    }
+
+    /// Turns a decision by what a false clause comes to, or gives a chain that derives the empty clause.
+    fn turn(&mut self, alloc: Global, conflict: usize) -> Mem<Option<Chain>>
+        requires state { IsState self.old }
+        requires conflict { IsConflict self.old.clauses.all.items self.old.trail.slots.items conflict }
+        ensures { IfOk result (Turns self.old self.new) }
+    {
+        let analysis = analyse(alloc, &self.clauses, &self.trail, &mut self.marks, conflict)?;
+        let Some(turn) = analysis.turn else {
+            return Ok(Some(analysis.chain));
+        };
+        self.order.bump(self.marks.literals.as_slice());
+        self.order.put_back(&self.trail.entries[turn.cut..])?;
+        self.trail.cut(turn.cut);
+        self.watches.cut(turn.cut);
+        let number = self.clauses.all.len();
+        self.watches
+            .add_learned(&self.trail, analysis.clause.as_slice(), turn.literal)?;
+        self.clauses.learn(analysis.chain, analysis.clause)?;
+        let (literal, reason) = (turn.literal, Some(number));
+        self.trail.push(Assigned { literal, reason })?;
+        Ok(None)
+    }
+
+    /// Makes true what is implied; gives a clause all of whose literals are false, where there is one.
+    fn propagate(&mut self) -> Mem<Option<usize>>
+        requires { IsState self.old }
+        ensures keeps { IfOk result (λ _. Keeps self.old self.new) }
+        ensures conflict { IfOk result (λ found. IfSome found (IsConflict self.new.clauses.all.items self.new.trail.slots.items)) }
+    {
+        self.watches.propagate(&self.clauses, &mut self.trail)
+    }
+
+    /// Decides a literal without a value.
+    fn decide(&mut self, literal: NameLit) -> Mem<()>
+        requires state { IsState self.old }
+        requires named { literal.name < length self.old.trail.slots.items }
+        requires free { place_of self.old.trail.slots.items literal ≡ 0 }
+        ensures { IfOk result (λ _. Advances self.old self.new) }
+    {
+        let reason = None;
+        self.trail.push(Assigned { literal, reason })?;
+        Ok(())
+    }
+
+    /// The number of an input clause that has no true literal.
+    fn unsatisfied(&self) -> Option<usize>
+        requires { IsState self.now }
+        ensures none { IfNone result (IsTrue (clauses_true (valuation_of (values_of self.now.trail.slots.items)) (inputs_of self.now))) }
+        ensures within { IfSome result (λ n. n < length self.now.clauses.all.items) }
+        ensures no_true { IfSome result (λ n. HasNoTrue self.now.trail.slots.items (clause_at self.now.clauses.all.items n)) }
+    {
+        for number in 0..self.clauses.inputs {
+            if !has_true_literal(&self.trail, self.clauses.literals(number)) {
+                return Some(number);
+            }
+        }
+        None
+    }
+
+    /// Goes on with a clause that has no true literal: decides one of its literals, or turns a decision where all
+    /// of them are false.
+    fn resume(&mut self, alloc: Global, number: usize) -> Mem<Step>
+        requires state { IsState self.old }
+        requires within { number < length self.old.clauses.all.items }
+        requires no_true { HasNoTrue self.old.trail.slots.items (clause_at self.old.clauses.all.items number) }
+        ensures { IfOk result (Steps self.old self.new) }
+    {
+        match free_literal(&self.trail, self.clauses.literals(number)) {
+            Some(literal) => {
+                self.decide(literal)?;
+                Ok(Step::Going)
+            }
+            None => self.turn_step(alloc, number),
+        }
+    }
+
+    fn turn_step(&mut self, alloc: Global, conflict: usize) -> Mem<Step>
+        requires state { IsState self.old }
+        requires conflict { IsConflict self.old.clauses.all.items self.old.trail.slots.items conflict }
+        ensures { IfOk result (Steps self.old self.new) }
+    {
+        match self.turn(alloc, conflict)? {
+            Some(chain) => Ok(Step::Refuted(chain)),
+            None => Ok(Step::Going),
+        }
+    }
+
+    /// The next literal to be decided.
+    fn next(&mut self) -> Option<NameLit>
+        requires { IsState self.old }
+        ensures keeps { Keeps self.old self.new }
+        ensures named { IfSome result (λ l. l.name < length self.new.trail.slots.items) }
+        ensures free { IfSome result (λ l. place_of self.new.trail.slots.items l ≡ 0) }
+    {
+        self.order.next(&self.trail)
+    }
+
+    /// Decides the next literal; where none is left, looks whether each input clause is true.
+    fn choose(&mut self, alloc: Global) -> Mem<Step>
+        requires { IsState self.old }
+        ensures { IfOk result (Steps self.old self.new) }
+    {
+        if let Some(literal) = self.next() {
+            self.decide(literal)?;
+            return Ok(Step::Going);
+        }
+        match self.unsatisfied() {
+            Some(number) => self.resume(alloc, number),
+            None => Ok(Step::Satisfied),
+        }
+    }
+
+    /// Makes true what is implied, and then decides a literal or turns a decision.
+    fn step(&mut self, alloc: Global) -> Mem<Step>
+        requires { IsState self.old }
+        ensures { IfOk result (Steps self.old self.new) }
+    {
+        match self.propagate()? {
+            Some(conflict) => self.turn_step(alloc, conflict),
+            None => self.choose(alloc),
+        }
+    }
+
+    /// The values that the trail gives.
+    fn truths(&self, alloc: Global) -> Mem<Truths>
+        ensures { IfOk result (λ truths. truths ≡ values_of self.now.trail.slots.items) }
+    {
+        let mut truths = Vec::with_capacity(alloc, self.trail.slots.len())?;
+        for slot in &self.trail.slots {
+            truths.push(slot.place > 0 && slot.positive)?;
+        }
+        Ok(Truths::from_vec(truths))
+    }
+}
+
+/// Whether one of the literals is true.
+fn has_true_literal(trail: &Trail, literals: &[NameLit]) -> bool
+    requires { AreWithin (length trail.now.slots.items) literals.now }
+    ensures { result ≡ list_any (is_true trail.now.slots.items) literals.now }
+{
+    for literal in literals {
+        if trail.is_true(*literal) {
+            return true;
+        }
+    }
+    false
+}
+
+/// A literal without a value.
+fn free_literal(trail: &Trail, literals: &[NameLit]) -> Option<NameLit>
+    requires { AreWithin (length trail.now.slots.items) literals.now }
+    ensures named { IfSome result (λ l. l.name < length trail.now.slots.items) }
+    ensures free { IfSome result (λ l. place_of trail.now.slots.items l ≡ 0) }
+    ensures none { IfNone result (AreAssigned trail.now.slots.items literals.now) }
+{
+    for literal in literals {
+        if trail.place(*literal) == 0 {
+            return Some(*literal);
+        }
+    }
+    None
+}
+
+/// Finds truth values that make every clause true, or a log of resolutions that derives the empty clause. It
+/// learns clauses (Marques-Silva and Sakallah 1996) at the first unique implication point (Zhang and others
+/// 2001), watches two literals of each clause, doesn't restart, and always ends.
+pub fn solve(alloc: Global, clauses: &PropClauses, names: u32) -> Mem<Answer>
+    requires { IsTrue (names_below names clauses.now) }
+    ensures { IfOk result (IsRightAnswer names clauses.now) }
+{
+    let mut solver = Solver::new(alloc, clauses, names)?;
+    loop {
+        match solver.step(alloc)? {
+            Step::Going => {}
+            Step::Satisfied => return Ok(Answer::Model(solver.truths(alloc)?)),
+            Step::Refuted(chain) => {
+                return Ok(Answer::Refuted(solver.clauses.into_log(chain)?));
+            }
+        }
+    }
+}

@@ -1,0 +1,356 @@
+// What no clause says: that the calls succeed, which answer comes, and that the solver learns.
+
+ghost use Rattle.std.specs.Prelude.{◌<◌, ◌≤◌};
+
+use crate::*;
+use std::alloc::Global;
+use std::process::Abort;
+
+fn yes(name: u32) -> NameLit {
+    let positive = true;
+    NameLit { positive, name }
+}
+
+fn no(name: u32) -> NameLit {
+    let positive = false;
+    NameLit { positive, name }
+}
+
+fn push_clause(alloc: Global, clauses: &mut PropClauses, literals: &[NameLit]) -> Mem<()> {
+    clauses.push(Names::from_slice(alloc, literals)?)
+}
+
+/// A literal by its name, counted from one and negated below zero.
+fn literal(number: i8) -> NameLit {
+    NameLit {
+        positive: number > 0,
+        name: u32::from(number.unsigned_abs()).saturating_sub(1),
+    }
+}
+
+fn clauses_of(alloc: Global, table: &[&[i8]]) -> Mem<PropClauses> {
+    let mut clauses = PropClauses::new(alloc);
+    for numbers in table {
+        let mut clause = Names::new(alloc);
+        for number in numbers.iter() {
+            clause.push(literal(*number))?;
+        }
+        clauses.push(clause)?;
+    }
+    Ok(clauses)
+}
+
+/// Resolves, with no name twice; false where it is no resolution.
+fn resolve(clause: &mut Vec<NameLit>, other: &[NameLit], pivot: NameLit) -> Mem<bool> {
+    let opposite = NameLit {
+        positive: !pivot.positive,
+        name: pivot.name,
+    };
+    if !clause.contains(&pivot) || !other.contains(&opposite) {
+        return Ok(false);
+    }
+    clause.retain(|l| *l != pivot);
+    for l in other {
+        if *l != opposite && !clause.contains(l) {
+            clause.push(*l)?;
+        }
+    }
+    Ok(true)
+}
+
+/// The clause of a chain, or none where a link is no resolution.
+fn replay(alloc: Global, known: &[Vec<NameLit>], chain: &Chain) -> Mem<Option<Vec<NameLit>>> {
+    let Some(start) = known.get(chain.start as usize) else {
+        return Ok(None);
+    };
+    let mut clause = Vec::from_slice(alloc, start.as_slice())?;
+    for link in chain.links.as_slice() {
+        let Some(other) = known.get(link.number as usize) else {
+            return Ok(None);
+        };
+        if !resolve(&mut clause, other.as_slice(), link.pivot)? {
+            return Ok(None);
+        }
+    }
+    Ok(Some(clause))
+}
+
+/// Whether each link of a log is a resolution, and the last chain ends in the empty clause.
+fn is_right_log(alloc: Global, clauses: &PropClauses, log: &Log) -> Mem<bool> {
+    let mut known = Vec::new(alloc);
+    for clause in clauses.as_slice() {
+        known.push(Vec::from_slice(alloc, clause.as_slice())?)?;
+    }
+    let mut ends_empty = false;
+    for chain in log.as_slice() {
+        let Some(clause) = replay(alloc, known.as_slice(), chain)? else {
+            return Ok(false);
+        };
+        ends_empty = clause.is_empty();
+        known.push(clause)?;
+    }
+    Ok(ends_empty)
+}
+
+fn is_true(truths: &[bool], clause: &[NameLit]) -> bool {
+    clause.iter().any(|l| truths.get(l.name as usize).copied().unwrap_or(false) == l.positive)
+}
+
+fn is_right_model(clauses: &PropClauses, names: u32, truths: &Truths) -> bool {
+    truths.len() == names as usize
+        && clauses
+            .as_slice()
+            .iter()
+            .all(|clause| is_true(truths.as_slice(), clause.as_slice()))
+}
+
+/// The kind of an answer.
+#[derive(Clone, Copy, Debug, PartialEq, Eq)]
+enum Outcome {
+    Satisfied,
+    Refuted,
+}
+
+/// The answer's kind, once a plain program has found it right.
+fn checked_answer(rt: &impl Abort, alloc: Global, clauses: &PropClauses, names: u32) -> Outcome {
+    assert!(rt; names_are_below(clauses, names));
+    match solve(alloc, clauses, names).expect(rt, "memory") {
+        Answer::Model(truths) => {
+            assert!(rt; is_right_model(clauses, names, &truths));
+            Outcome::Satisfied
+        }
+        Answer::Refuted(log) => {
+            assert!(rt; is_right_log(alloc, clauses, &log).expect(rt, "memory"));
+            Outcome::Refuted
+        }
+    }
+}
+
+fn row(rt: &impl Abort, alloc: Global, table: &[&[i8]], names: u32) -> Outcome {
+    let clauses = clauses_of(alloc, table).expect(rt, "memory");
+    checked_answer(rt, alloc, &clauses, names)
+}
+
+#[test]
+fn refutes_small_rows(rt: HostRuntime) {
+    let alloc = rt.alloc();
+    let refuted = Outcome::Refuted;
+    assert_eq!(rt; row(&rt, alloc, &[&[1, 2], &[-1], &[-2]], 2), refuted);
+    assert_eq!(rt; row(&rt, alloc, &[&[]], 0), refuted);
+    assert_eq!(rt; row(&rt, alloc, &[&[1], &[]], 1), refuted);
+    assert_eq!(rt; row(&rt, alloc, &[&[1, 1], &[-1, -1, -1]], 1), refuted);
+    assert_eq!(rt;
+        row(&rt, alloc, &[&[1, 2], &[-1, 2], &[1, -2], &[-1, -2]], 5),
+        refuted
+    );
+    assert_eq!(rt;
+        row(&rt, alloc, &[&[-1, 2], &[-2, 3], &[-3, -1], &[1]], 3),
+        refuted
+    );
+}
+
+#[test]
+fn satisfies_small_rows(rt: HostRuntime) {
+    let alloc = rt.alloc();
+    let satisfied = Outcome::Satisfied;
+    assert_eq!(rt; row(&rt, alloc, &[&[1, 2]], 2), satisfied);
+    assert_eq!(rt; row(&rt, alloc, &[], 2), satisfied);
+    assert_eq!(rt; row(&rt, alloc, &[], 0), satisfied);
+    assert_eq!(rt; row(&rt, alloc, &[&[1, -1]], 1), satisfied);
+    assert_eq!(rt;
+        row(&rt, alloc, &[&[1, -1], &[2, -2, 2], &[-2]], 3),
+        satisfied
+    );
+    assert_eq!(rt;
+        row(
+            &rt,
+            alloc,
+            &[&[1, 2, 3], &[-1, 2, 3], &[-2, 3], &[-3, 4]],
+            4
+        ),
+        satisfied
+    );
+}
+
+/// The name that says that a pigeon is in a hole.
+fn place(holes: u32, pigeon: u32, hole: u32) -> u32
+    requires holes { holes < 100 }
+    requires pigeon { pigeon < 100 }
+    requires hole { hole < 100 }
+{
+    holes * pigeon + hole
+}
+
+/// Each pigeon is in a hole, and no two pigeons are in one.
+fn pigeons(alloc: Global, pigeons: u32, holes: u32) -> Mem<PropClauses>
+    requires pigeons { pigeons ≤ 100 }
+    requires holes { holes < 100 }
+{
+    let mut clauses = PropClauses::new(alloc);
+    for pigeon in 0..pigeons {
+        let mut somewhere = Vec::new(alloc);
+        for hole in 0..holes {
+            somewhere.push(yes(place(holes, pigeon, hole)))?;
+        }
+        push_clause(alloc, &mut clauses, somewhere.as_slice())?;
+        for other in 0..pigeon {
+            for hole in 0..holes {
+                let both = [
+                    no(place(holes, pigeon, hole)),
+                    no(place(holes, other, hole)),
+                ];
+                push_clause(alloc, &mut clauses, &both)?;
+            }
+        }
+    }
+    Ok(clauses)
+}
+
+#[test]
+fn refutes_four_pigeons_in_three_holes(rt: HostRuntime) {
+    let clauses = pigeons(rt.alloc(), 4, 3).expect(&rt, "memory");
+    assert_eq!(rt; clauses.len(), 22);
+    assert_eq!(rt;
+        checked_answer(&rt, rt.alloc(), &clauses, 12),
+        Outcome::Refuted
+    );
+}
+
+#[test]
+fn answers_pigeonholes(rt: HostRuntime) {
+    let alloc = rt.alloc();
+    for holes in 1..7u32 {
+        let clauses = pigeons(alloc, holes + 1, holes).expect(&rt, "memory");
+        assert_eq!(rt; checked_answer(&rt, alloc, &clauses, 42), Outcome::Refuted);
+        let clauses = pigeons(alloc, holes, holes).expect(&rt, "memory");
+        assert_eq!(rt;
+            checked_answer(&rt, alloc, &clauses, 42),
+            Outcome::Satisfied
+        );
+    }
+}
+
+/// Of three names none is true, or two are.
+fn push_triple(alloc: Global, clauses: &mut PropClauses, x: u32) -> Mem<()>
+    requires { x < 1000 }
+{
+    let (y, z) = (x + 1, x + 2);
+    push_clause(alloc, clauses, &[no(x), yes(y), yes(z)])?;
+    push_clause(alloc, clauses, &[yes(x), no(y), yes(z)])?;
+    push_clause(alloc, clauses, &[yes(x), yes(y), no(z)])?;
+    push_clause(alloc, clauses, &[no(x), no(y), no(z)])
+}
+
+// A solver that takes the names in rising or falling order and only flips its latest decision goes through 2^40
+// branches here.
+#[test]
+fn learns_from_the_triples(rt: HostRuntime) {
+    let alloc = rt.alloc();
+    let mut clauses = PropClauses::new(alloc);
+    for i in 0..20u32 {
+        push_triple(alloc, &mut clauses, 3 * i).expect(&rt, "memory");
+        push_triple(alloc, &mut clauses, 3 * i + 62).expect(&rt, "memory");
+    }
+    for both in [
+        [yes(60), yes(61)],
+        [no(60), yes(61)],
+        [yes(60), no(61)],
+        [no(60), no(61)],
+    ] {
+        push_clause(alloc, &mut clauses, &both).expect(&rt, "memory");
+    }
+    assert_eq!(rt; clauses.len(), 164);
+    assert_eq!(rt; checked_answer(&rt, alloc, &clauses, 122), Outcome::Refuted);
+}
+
+// Numbers that look random (xorshift, Marsaglia 2003).
+#[derive(Drop)]
+struct Random(u64);
+
+impl Random {
+    fn below(&mut self, bound: u32) -> u32
+        requires { 0 < bound }
+        ensures { result < bound }
+    {
+        self.0 ^= self.0 << 13;
+        self.0 ^= self.0 >> 7;
+        self.0 ^= self.0 << 17;
+        (self.0 % u64::from(bound)) as u32
+    }
+
+    fn literal(&mut self, names: u32) -> NameLit
+        requires { 0 < names }
+    {
+        NameLit {
+            positive: self.below(2) == 0,
+            name: self.below(names),
+        }
+    }
+}
+
+/// Random clauses of three literals.
+fn random_clauses(alloc: Global, seed: u64, names: u32, count: u32) -> Mem<PropClauses>
+    requires { 0 < names }
+{
+    let mut random = Random(seed);
+    let mut clauses = PropClauses::new(alloc);
+    for _ in 0..count {
+        let mut clause = Names::new(alloc);
+        for _ in 0..3 {
+            clause.push(random.literal(names))?;
+        }
+        clauses.push(clause)?;
+    }
+    Ok(clauses)
+}
+
+/// Whether the values that the bits of a number give make every clause true.
+fn is_model(bits: u32, clauses: &PropClauses) -> bool {
+    clauses.as_slice().iter().all(|clause| {
+        clause
+            .as_slice()
+            .iter()
+            .any(|l| ((bits >> (l.name % 32)) & 1 == 1) == l.positive)
+    })
+}
+
+#[test]
+fn agrees_with_all_valuations(rt: HostRuntime) {
+    let alloc = rt.alloc();
+    for seed in 1..120u64 {
+        let clauses = random_clauses(alloc, seed * 7919, 7, 30).expect(&rt, "memory");
+        let expected = if (0..128u32).any(|bits| is_model(bits, &clauses)) {
+            Outcome::Satisfied
+        } else {
+            Outcome::Refuted
+        };
+        assert_eq!(rt; checked_answer(&rt, alloc, &clauses, 7), expected);
+    }
+}
+
+#[test]
+fn answers_random_clauses(rt: HostRuntime) {
+    let alloc = rt.alloc();
+    for seed in 1..20u64 {
+        let clauses = random_clauses(alloc, seed * 104729, 50, 213).expect(&rt, "memory");
+        let _ = checked_answer(&rt, alloc, &clauses, 50);
+    }
+}
+
+#[test]
+fn follows_a_long_chain(rt: HostRuntime) {
+    let alloc = rt.alloc();
+    let mut clauses = PropClauses::new(alloc);
+    for i in 1..100_000u32 {
+        push_clause(alloc, &mut clauses, &[no(i - 1), yes(i)]).expect(&rt, "memory");
+    }
+    assert_eq!(rt;
+        checked_answer(&rt, alloc, &clauses, 100_000),
+        Outcome::Satisfied
+    );
+    push_clause(alloc, &mut clauses, &[yes(0)]).expect(&rt, "memory");
+    push_clause(alloc, &mut clauses, &[no(99_999)]).expect(&rt, "memory");
+    assert!(rt; names_are_below(&clauses, 100_000));
+    let answer = solve(alloc, &clauses, 100_000).expect(&rt, "memory");
+    assert!(rt; matches!(answer, Answer::Refuted(_)));
+}
