@@ -11,12 +11,16 @@ use Rattle.fol_base.specs.Tree.{Tree, variable, application, Trees, no_trees, tr
 use Rattle.fol_base.specs.Clause.{TreeLiteral, TreeClause, literal_eq}
 use Rattle.fol_base.specs.Kind.{is_function_term, are_function_terms, is_predicate_term}
 use Rattle.fol_base.specs.Ground.{is_ground, are_ground}
-use Rattle.fol_base.specs.GroundForm.{is_ground_atom, is_atom_literal, IsGroundClause}
+use Rattle.fol_base.specs.GroundForm.{is_ground_atom, is_atom_literal, IsGroundClause, IsGroundForm}
 use Rattle.fol_base.specs.Interpretation.{Row, Interpretation, IsInterpretation, row_in_range, is_row_of, table_value, symbol_value, tree_value, trees_values, no_values, sides_true, literal_true, clause_true, true_tree}
 use Rattle.fol_base.proofs.TreeLemmas.{tree_eq-true, tree_eq-refl}
 use Rattle.kernel_steps.specs.Soundness.{ground_clauses}
 use Rattle.ground_loop.specs.Resolution.{has_literal}
-use Rattle.ground_loop.specs.Satisfaction.{ClosedFormsAreSatisfied}
+use Rattle.kernel_steps.proofs.SoundLemmas.{ground_refutations_herbrand_refute}
+use Rattle.ground_loop.specs.Answer.{IsGroundAnswer}
+use Rattle.ground_loop.specs.Satisfaction.{ClosedFormsAreSatisfied, HasMeaning}
+use Rattle.ground_loop.specs.declared.answer.Ground.{Ground}
+use Rattle.ground_loop.specs.declared.answer.Ground.TheVariants.{Refuted, Closed, Spent}
 use Rattle.ground_loop.proofs.SetLemmas.{literal_eq-true, has_literal_here}
 use Rattle.ground_loop.proofs.ValuationLemmas.{has_tree, is_true, Decided, decided_form, some_true}
 
@@ -382,3 +386,11 @@ closed_forms_are_satisfied is_predicate form ground predicates closed = record {
 
         in_form : (l : TreeLiteral) → has_literal l c.literals ≡ true → has_tree l.left (form_atoms form) ≡ true
         in_form l h = clause-atom form there.0 c l.left there.1 there.2 (literal-atom c.literals l h)
+
+-- the loop's answers mean what they say
+pub answer_meaning : (form : List TreeClause) (limit : ℕ) (answer : Ground) → IsGroundForm form → IsGroundAnswer form limit answer → HasMeaning form answer
+answer_meaning form limit (Refuted lines) ground is =
+    λ is_predicate functions functions_alone constant.
+    ground_refutations_herbrand_refute is_predicate functions form lines functions_alone constant ground is.refutes
+answer_meaning form limit Closed ground is = λ is_predicate predicates. closed_forms_are_satisfied is_predicate form ground predicates is
+answer_meaning form limit (Spent count) ground is = tt

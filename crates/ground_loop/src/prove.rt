@@ -4,6 +4,7 @@ ghost use Rattle.std.specs.Prelude.{◌≤◌, map, IfOk};
 ghost use Rattle.fol_base.specs.GroundForm.{IsGroundForm, form_size};
 ghost use Rattle.fol_base.specs.Literal.{clause_of};
 ghost use Rattle.ground_loop.specs.Answer.{IsGroundAnswer};
+ghost use Rattle.ground_loop.specs.Satisfaction.{HasMeaning};
 
 use crate::answer::Ground;
 use crate::derive::derive;
@@ -14,8 +15,18 @@ use fol_base::{Clauses, Mem};
 use std::alloc::Global;
 
 /// Resolves ground clauses without equality until the empty clause is derived, nothing is left to resolve, or
-/// `limit` inferences are counted.
+/// `limit` inferences are counted (resolution, Robinson 1965).
 pub fn prove_ground(alloc: Global, form: &Clauses, limit: u32) -> Mem<Ground>
+    requires ground { IsGroundForm (map clause_of form.now) }
+    requires small { form_size (map clause_of form.now) ≤ 4000 }
+    requires counted { 1 ≤ limit }
+    ensures answer { IfOk result (IsGroundAnswer (map clause_of form.now) limit) }
+    ensures meaning { IfOk result (HasMeaning (map clause_of form.now)) }
+{
+    resolve(alloc, form, limit)
+}
+
+fn resolve(alloc: Global, form: &Clauses, limit: u32) -> Mem<Ground>
     requires ground { IsGroundForm (map clause_of form.now) }
     requires small { form_size (map clause_of form.now) ≤ 4000 }
     requires counted { 1 ≤ limit }

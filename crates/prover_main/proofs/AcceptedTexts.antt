@@ -1,10 +1,10 @@
 -- Which texts may be accepted derivations, by a search of all steps that known lines allow. It says yes where a line has
 -- more than one literal, variables or arguments, so that what it refuses is refused.
-use Rattle.std.proofs.Common.{◌≡◌, ℕ, zero, suc, ◌<◌, Bool, true, false, ◌&&◌, ◌||◌, ◌==◌, List, [], ◌∷◌, ◌++◌, map, length, take, drop, Option, Some, None, refl, ap, sym, ◌∙◌, subst, arith, true≢false}
+use Rattle.std.proofs.Common.{◌≡◌, ℕ, zero, suc, ◌<◌, Bool, true, false, ◌&&◌, ◌||◌, ◌==◌, List, [], ◌∷◌, ◌++◌, map, length, take, drop, Option, Some, None, refl, ap, sym, ◌∙◌, subst, arith, true≢false, ⊎_elim}
 use Rattle.std.specs.Prelude.{not, slice_get, option_and_then, option_map, slice_set, remove, if◌then◌else◌, codes}
 use Rattle.std.specs.Fmt.{digits}
 use Rattle.std.specs.List.{list_any}
-use Rattle.std.proofs.lemmas.Bool.{eqb-true, eq-eqb, and_parts, and_from, or_left, or_right}
+use Rattle.std.proofs.lemmas.Bool.{eqb-true, eq-eqb, and_parts, and_from, or_cases, or_left, or_right}
 use Rattle.std.proofs.lemmas.Option.{none-some, same_Some, slice_get_within}
 use Rattle.std.proofs.lemmas.List.{length-map}
 use Rattle.std.proofs.Math.Seq.{take-append_seam}
@@ -35,9 +35,9 @@ use Rattle.ground_text.specs.Lines.{Source, source_of, input_line, clause_head, 
 -- ---- known lines
 
 -- what a text and a verdict know of a line
-record Known : Type 0 where
-  step : Step
-  clause : TreeClause
+pub record Known : Type 0 where
+  pub step : Step
+  pub clause : TreeClause
 
 abbrev known_of : Line → Known
 known_of l = record { step = l.step; clause = clause_of l.clause }
@@ -176,11 +176,24 @@ may_refl test a c =
 abbrev may_merge : TreeClause → Bool
 may_merge c = if is_simple c then false else true
 
+-- whether an input line of the formula is known
+abbrev has_input : List Known → ℕ → Bool
+has_input ks place = list_any (λ (k : Known). is_input_of place k.step) ks
+
+has_input-known :
+    (ls : List Line) (place : ℕ)
+    → list_any (λ (l : Line). is_input_of place l.step) ls ≡ true → has_input (map known_of ls) place ≡ true
+has_input-known [] place h = h
+has_input-known (l ∷ ls) place h =
+    ⊎_elim (λ here. or_left (is_input_of place l.step) _ here)
+    (λ later. or_right (is_input_of place l.step) _ (has_input-known ls place later))
+    (or_cases (is_input_of place l.step) (list_any (λ (k : Line). is_input_of place k.step) ls) h)
+
 -- whether some step from known lines passes
 abbrev may_follow : List TreeClause → List Known → Test → Bool
 may_follow form ks test =
     any_below (length form) (λ place. test (Input place) empty_clause)
-    || (any_below (length form) (λ i. passes (test (Clausify i)) (slice_get form i))
+    || (any_below (length form) (λ i. has_input ks i && passes (test (Clausify i)) (slice_get form i))
     || (any_below (length ks) (λ a. any_below (length ks) (λ b. may_para test a (clause_at ks a) b (clause_at ks b)))
     || (any_below (length ks) (λ a. may_refl test a (clause_at ks a))
     || any_below (length ks) (λ a. may_merge (clause_at ks a)))))
@@ -354,12 +367,12 @@ follow-from form earlier test (Input place) c comes it tested =
 follow-from form earlier test (Negate place) c comes it tested = absurd it
 follow-from form earlier test (Clausify i) c comes it tested =
     or_right (any_below (length form) (λ m. test (Input m) empty_clause)) _
-    (or_left (any_below (length form) (λ k. passes (test (Clausify k)) (slice_get form k))) _
-    (any_below-from (length form) (λ k. passes (test (Clausify k)) (slice_get form k)) i (slice_get_within form i c comes)
-    (ap (passes (test (Clausify i))) comes ∙ tested)))
+    (or_left (any_below (length form) (λ k. has_input (map known_of earlier) k && passes (test (Clausify k)) (slice_get form k))) _
+    (any_below-from (length form) (λ k. has_input (map known_of earlier) k && passes (test (Clausify k)) (slice_get form k)) i (slice_get_within form i c comes)
+    (and_from (has_input (map known_of earlier) i) _ (has_input-known earlier i it) (ap (passes (test (Clausify i))) comes ∙ tested))))
 follow-from form earlier test (Para a b i s j z place first second) c comes it tested =
     or_right (any_below (length form) (λ m. test (Input m) empty_clause)) _
-    (or_right (any_below (length form) (λ k. passes (test (Clausify k)) (slice_get form k))) _
+    (or_right (any_below (length form) (λ k. has_input (map known_of earlier) k && passes (test (Clausify k)) (slice_get form k))) _
     (or_left (any_below (length (map known_of earlier)) (λ m. any_below (length (map known_of earlier)) (λ n. may_para test m (clause_at (map known_of earlier) m) n (clause_at (map known_of earlier) n)))) _
     (any_below-from (length (map known_of earlier)) (λ m. any_below (length (map known_of earlier)) (λ n. may_para test m (clause_at (map known_of earlier) m) n (clause_at (map known_of earlier) n))) a
     (omega (arith, comes.0, length-map earlier known_of))
@@ -374,7 +387,7 @@ follow-from form earlier test (Para a b i s j z place first second) c comes it t
     tested)))))
 follow-from form earlier test (Refl a i bind) c comes it tested =
     or_right (any_below (length form) (λ m. test (Input m) empty_clause)) _
-    (or_right (any_below (length form) (λ k. passes (test (Clausify k)) (slice_get form k))) _
+    (or_right (any_below (length form) (λ k. has_input (map known_of earlier) k && passes (test (Clausify k)) (slice_get form k))) _
     (or_right (any_below (length (map known_of earlier)) (λ m. any_below (length (map known_of earlier)) (λ n. may_para test m (clause_at (map known_of earlier) m) n (clause_at (map known_of earlier) n)))) _
     (or_left (any_below (length (map known_of earlier)) (λ m. may_refl test m (clause_at (map known_of earlier) m))) _
     (any_below-from (length (map known_of earlier)) (λ m. may_refl test m (clause_at (map known_of earlier) m)) a
@@ -384,7 +397,7 @@ follow-from form earlier test (Refl a i bind) c comes it tested =
     tested)))))
 follow-from form earlier test (Merge a i j bind) c comes it tested =
     or_right (any_below (length form) (λ m. test (Input m) empty_clause)) _
-    (or_right (any_below (length form) (λ k. passes (test (Clausify k)) (slice_get form k))) _
+    (or_right (any_below (length form) (λ k. has_input (map known_of earlier) k && passes (test (Clausify k)) (slice_get form k))) _
     (or_right (any_below (length (map known_of earlier)) (λ m. any_below (length (map known_of earlier)) (λ n. may_para test m (clause_at (map known_of earlier) m) n (clause_at (map known_of earlier) n)))) _
     (or_right (any_below (length (map known_of earlier)) (λ m. may_refl test m (clause_at (map known_of earlier) m))) _
     (any_below-from (length (map known_of earlier)) (λ m. may_merge (clause_at (map known_of earlier) m)) a

@@ -1,7 +1,7 @@
 -- From what was delivered to what a run answers.
 use Rattle.std.proofs.Common.{◌≡◌, ℕ, Option, None, Some, List, refl, subst, sym}
 use Rattle.ground_loop.specs.Answer.{HasClosedSets, IsGroundAnswer}
-use Rattle.ground_loop.proofs.HerbrandModel.{closed_forms_are_satisfied}
+use Rattle.ground_loop.specs.Satisfaction.{HasMeaning}
 use Rattle.tptp_reader.proofs.KindLemmas.{IsReadAs-kinds}
 use Rattle.ground_loop.specs.declared.answer.Ground.{Ground}
 use Rattle.ground_loop.specs.declared.answer.Ground.TheVariants.{Refuted, Closed}
@@ -11,21 +11,20 @@ use Rattle.tptp_reader.specs.GroundText.{IsReadAs}
 use Rattle.tptp_reader.specs.declared.problem.GroundProblem.{GroundProblem}
 use Rattle.ground_text.specs.Lines.{source_of, lines_text}
 use Rattle.prover_main.specs.Words.{proved_file}
-use Rattle.fol_base.specs.GroundForm.{IsGroundForm}
-use Rattle.kernel_steps.proofs.SoundLemmas.{ground_refutations_herbrand_refute}
 use Rattle.prover_main.specs.Accepted.{form_of, is_predicate_of}
 use Rattle.prover_main.specs.Report.{usage_report, refuted_report, closed_report}
 use Rattle.prover_main.specs.Run.{most_inferences, IsDueOn, refuted, closed, IsDueFor, Outside, IsDue, Taken, Delivered, all_taken, prefix_taken, IsRun, whole, cut_off}
 
 pub run_usage :
     (words : List (List ℕ)) (outside : Outside) (taken : Taken) (status : ℕ)
-    → None ≡ proved_file words → Delivered taken 6 usage_report status → IsRun words outside taken status
-run_usage words outside taken status e (all_taken s t) =
+    → None ≡ proved_file words → outside.faults_after ≡ outside.faults_before → Delivered taken 6 usage_report status
+    → IsRun words outside taken status
+run_usage words outside taken status e calm (all_taken s t) =
     let P : Option (List ℕ) → Type 0 = λ f. IsDue f outside status usage_report in
-    whole usage_report (subst P e (s, refl)) t
-run_usage words outside taken status e (prefix_taken s r p) =
+    whole usage_report (subst P e (s, refl, calm)) t
+run_usage words outside taken status e calm (prefix_taken s r p) =
     let P : Option (List ℕ) → Type 0 = λ f. IsDue f outside 6 usage_report in
-    cut_off s 6 usage_report (subst P e (refl, refl)) r p
+    cut_off s 6 usage_report (subst P e (refl, refl, calm)) r p
 
 pub run_due :
     (words : List (List ℕ)) (outside : Outside) (taken : Taken) (file : List ℕ) (due : ℕ) (text : List ℕ) (status : ℕ)
@@ -41,10 +40,10 @@ run_due words outside taken file due text status e cause (prefix_taken s r p) =
 
 pub due_refuted :
     (bytes file text : List ℕ) (problem : GroundProblem) (answer : Ground) (lines : List Line)
-    → IsReadAs bytes problem → IsGroundForm (form_of problem)
-    → IsGroundAnswer (form_of problem) most_inferences answer → answer ≡ Refuted lines
+    → IsReadAs bytes problem → IsGroundAnswer (form_of problem) most_inferences answer → HasMeaning (form_of problem) answer
+    → answer ≡ Refuted lines
     → text ≡ refuted_report file (lines_text (source_of file problem) lines) → IsDueOn bytes file 0 text
-due_refuted bytes file text problem answer lines read ground is e printed =
+due_refuted bytes file text problem answer lines read is means e printed =
     let P : Ground → Type 0 = IsGroundAnswer (form_of problem) most_inferences in
     let sourced : IsSourcedRefutation (form_of problem) lines = subst P e is in
     refuted refl (record {
@@ -52,25 +51,23 @@ due_refuted bytes file text problem answer lines read ground is e printed =
       is_read = read;
       derivation = lines_text (source_of file problem) lines;
       accepted = record { lines = lines; spells = refl; refutes = sourced };
-      herbrand = λ functions functions_alone constant.
-          ground_refutations_herbrand_refute (is_predicate_of problem) functions (form_of problem) lines functions_alone constant ground sourced.refutes;
+      herbrand = subst (HasMeaning (form_of problem)) e means (is_predicate_of problem);
       prints = printed;
     })
 
 pub due_closed :
     (bytes file text : List ℕ) (problem : GroundProblem) (answer : Ground)
-    → IsReadAs bytes problem → IsGroundForm (form_of problem)
-    → IsGroundAnswer (form_of problem) most_inferences answer → answer ≡ Closed
+    → IsReadAs bytes problem → IsGroundAnswer (form_of problem) most_inferences answer → HasMeaning (form_of problem) answer
+    → answer ≡ Closed
     → text ≡ closed_report file → IsDueOn bytes file 10 text
-due_closed bytes file text problem answer read ground is e printed =
+due_closed bytes file text problem answer read is means e printed =
     let P : Ground → Type 0 = IsGroundAnswer (form_of problem) most_inferences in
     let sets : HasClosedSets (form_of problem) = subst P e is in
     closed refl (record {
       problem = problem;
       is_read = read;
       closed_sets = sets;
-      satisfied =
-          closed_forms_are_satisfied (is_predicate_of problem) (form_of problem) ground (IsReadAs-kinds bytes problem read) sets;
+      satisfied = subst (HasMeaning (form_of problem)) e means (is_predicate_of problem) (IsReadAs-kinds bytes problem read);
       prints = printed;
     })
 

@@ -41,3 +41,11 @@ derivation_with third fifth last =
     ++ codes "cnf(c3,plain,~p,inference(clausify,[status(esa),index(1)],[c1])).\n"
     ++ fifth
     ++ last
+
+-- the printed text of its clause lines alone
+abbrev pub unsourced_derivation : List ℕ
+unsourced_derivation =
+    codes "cnf(c0,plain,p,inference(clausify,[status(esa),index(0)],[c4])).\n"
+    ++ codes "cnf(c1,plain,~p,inference(clausify,[status(esa),index(1)],[c4])).\n"
+    ++ codes "cnf(c2,plain,~$true,inference(para,[status(thm),from(0,left),into(0,left,[]),bind([]),bind([])],[c0,c1])).\n"
+    ++ codes "cnf(c3,plain,$false,inference(refl,[status(thm),lit(0),bind([])],[c2])).\n"

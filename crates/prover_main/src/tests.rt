@@ -175,3 +175,40 @@ fn a_sink_that_fails_ends_the_report(rt: HostRuntime) -> Result<(), Fail> {
     assert!(rt; sink.bytes() == b"% SZS status Unk".as_slice());
     Ok(())
 }
+
+fn push_repeated(text: &mut Vec<u8>, piece: &[u8], count: usize) -> Result<(), Fail> {
+    for _ in 0..count {
+        text.extend_from_slice(piece)?;
+    }
+    Ok(())
+}
+
+// A unit clause with so many levels of brackets in its atom's, and so many further arguments.
+fn unit_clause(alloc: Global, levels: usize, arguments: usize) -> Result<Vec<u8>, Fail> {
+    let mut text = Vec::new(alloc);
+    text.extend_from_slice(b"cnf(a,axiom,p(")?;
+    push_repeated(&mut text, b"f(", levels)?;
+    text.extend_from_slice(b"c")?;
+    push_repeated(&mut text, b")", levels)?;
+    push_repeated(&mut text, b",c", arguments)?;
+    text.extend_from_slice(b")).")?;
+    Ok(text)
+}
+
+// 500 levels and 4,000 symbols are read, `p`, `c` and `$true` among them; more is no want of memory.
+#[test]
+fn limits_of_a_problem_are_told(rt: HostRuntime) -> Result<(), Fail> {
+    let alloc = rt.alloc();
+    let words = words_of(alloc, ["prove", "w.p"].as_slice())?;
+    for (levels, arguments, status) in [(500, 0, 10), (501, 0, 3), (0, 3997, 10), (0, 3998, 3)] {
+        let text = unit_clause(alloc, levels, arguments)?;
+        let mut library = library_of(alloc, "w.p", text.as_slice())?;
+        let mut sink = MemSink::new(alloc, 64, 100, Numbers::new(alloc))?;
+        assert_eq!(rt;
+            run(alloc, &words, &mut library, &mut sink),
+            status,
+            "{levels} {arguments}"
+        );
+    }
+    Ok(())
+}

@@ -1,6 +1,6 @@
 // The words of the command line, and the rule on them.
 
-ghost use Rattle.std.specs.Prelude.{◌≡◌, [], ◌∷◌, ◌++◌, IfOk, string_bytes};
+ghost use Rattle.std.specs.Prelude.{◌≡◌, [], ◌∷◌, ◌++◌, IfOk, OnErr, string_bytes};
 ghost use Rattle.std.specs.Option.{option_map};
 ghost use Rattle.prover_main.specs.Words.{proved_file, is_file_word as file_word};
 
@@ -32,9 +32,10 @@ impl Words {
         }
     }
 
-    /// Adds a word at the end.
+    /// Adds a word at the end. After want of memory the words are as before.
     pub fn push(&mut self, word: String) -> Mem<()>
-        ensures { IfOk result (λ _. self.new ≡ self.old ++ string_bytes word ∷ []) }
+        ensures ok { IfOk result (λ _. self.new ≡ self.old ++ string_bytes word ∷ []) }
+        ensures err { OnErr result (self.new ≡ self.old) }
     {
         self.words.push(word)?;
         Ok(())

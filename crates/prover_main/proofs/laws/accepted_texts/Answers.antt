@@ -21,3 +21,7 @@ returns-clause-one_literal_fewer c = refused 8 _ _ _ refl
 pub returns-clause-last_line_left_out : goal.returns-clause-last_line_left_out
 unfolding digits
 returns-clause-last_line_left_out c = refused 8 _ _ _ refl
+
+pub returns-clause-input_lines_left_out : goal.returns-clause-input_lines_left_out
+unfolding digits
+returns-clause-input_lines_left_out c = refused 8 _ _ _ refl

@@ -1,9 +1,9 @@
-use Rattle.std.proofs.Common.{sym}
+use Rattle.std.proofs.Common.{refl, sym}
 use Rattle.prover_main.proofs.RunLemmas.{run_usage, run_due, due_text}
 use Rattle.prover_main.proofs.run.run.Goals as goal
 
 pub returns-in-None : goal.returns-in-None
-returns-in-None g c = run_usage _ _ _ _ c.in-None.ensures c.deliver_report.ensures
+returns-in-None g c = run_usage _ _ _ _ c.in-None.ensures refl c.deliver_report.ensures
 
 pub returns-in-Ok : goal.returns-in-Ok
 returns-in-Ok g c =

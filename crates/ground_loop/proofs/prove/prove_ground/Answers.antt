@@ -1,0 +1,7 @@
+use Rattle.kernel_steps.proofs.KernelLemmas.{IfOk-change}
+use Rattle.ground_loop.proofs.HerbrandModel.{answer_meaning}
+use Rattle.ground_loop.proofs.prove.prove_ground.Goals as goal
+
+pub returns-clause-meaning : goal.returns-clause-meaning
+returns-clause-meaning c =
+    IfOk-change c.resolve.result _ _ (λ answer is. answer_meaning _ _ answer c.requires.ground is) c.resolve.ensures
