@@ -1,0 +1,5 @@
+pub mod Longest
+pub mod Kinds
+pub mod Pieces
+pub mod Lexing
+pub mod Examples
