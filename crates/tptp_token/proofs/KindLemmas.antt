@@ -2,12 +2,11 @@
 use Rattle.std.proofs.Common.{◌≡◌, ℕ, ◌<◌, Bool, true, false, ◌&&◌, ◌||◌, not, ◌==◌, List, [], ◌∷◌, ◌++◌, codes, refl, ap, sym, ◌∙◌, ⊎_elim}
 use Rattle.std.specs.Prelude.{bytes_eq, if◌then◌else◌}
 use Rattle.std.specs.List.{list_any, list_all}
-use Rattle.std.proofs.lemmas.Bool.{cases_Bool, agree_below_at, and_left}
+use Rattle.std.proofs.lemmas.Bool.{agree_below, agree_below_at, and_left, or_parts}
 use Rattle.fol_base.specs.Spelling.{spells, is_lower, is_upper, is_digit, is_word_byte, is_number, is_end, marks, other_signs, connectives, is_one_of, is_single}
 use Rattle.tptp_token.specs.Kinds.{spelled_kind, all_kinds, first_kind, is_token, kind_of}
 use Rattle.tptp_token.specs.declared.token.Kind.{Kind}
 use Rattle.tptp_token.specs.declared.token.Kind.TheVariants.{Lower, Variable, Quoted, Distinct, Dollar, Number, Connective, Mark, Other}
-use Rattle.tptp_token.proofs.LongestLemmas
 
 -- the first bytes of a kind
 abbrev pub starts : Kind → ℕ → Bool
@@ -21,14 +20,6 @@ starts Connective byte = list_any (λ sign. byte == sign) (codes "~&|=<!?")
 starts Mark byte = list_any (λ sign. byte == sign) marks
 starts Other byte = list_any (λ sign. byte == sign) other_signs
 
-or-parts : (a b : Bool) → (a || b) ≡ false → (a ≡ false) × (b ≡ false)
-or-parts true b h = absurd (let t : true ≡ false = h in cc)
-or-parts false b h = (refl, h)
-
--- every number has another first digit
-digits-start : (rest : List ℕ → Bool) (b : ℕ) (w : List ℕ) → is_digit b ≡ false → is_number (b ∷ w) ≡ false
-digits-start rest b w e = and_left (is_digit b) _ e
-
 not_started : (kind : Kind) (b : ℕ) (w : List ℕ) → starts kind b ≡ false → spells (spelled_kind kind) (b ∷ w) ≡ false
 not_started Lower b w e = and_left (is_lower b) _ e
 not_started Variable b w e = and_left (is_upper b) _ e
@@ -37,13 +28,13 @@ not_started Distinct b w e = and_left (b == 34) _ e
 not_started Dollar b w e = and_left (b == 36) _ e
 not_started Number b w e = and_left (is_digit b) _ e
 not_started Connective b w e =
-    let h1 = or-parts (b == 126) _ e in
-    let h2 = or-parts (b == 38) _ h1.1 in
-    let h3 = or-parts (b == 124) _ h2.1 in
-    let h4 = or-parts (b == 61) _ h3.1 in
-    let h5 = or-parts (b == 60) _ h4.1 in
-    let h6 = or-parts (b == 33) _ h5.1 in
-    let h7 = or-parts (b == 63) _ h6.1 in
+    let h1 = or_parts (b == 126) _ e in
+    let h2 = or_parts (b == 38) _ h1.1 in
+    let h3 = or_parts (b == 124) _ h2.1 in
+    let h4 = or_parts (b == 61) _ h3.1 in
+    let h5 = or_parts (b == 60) _ h4.1 in
+    let h6 = or_parts (b == 33) _ h5.1 in
+    let h7 = or_parts (b == 63) _ h6.1 in
     simp (h1.0, h2.0, h3.0, h4.0, h5.0, h6.0, h7.0)
 not_started Mark b w e = and_left (list_any (λ sign. b == sign) marks) _ e
 not_started Other b w e = and_left (list_any (λ sign. b == sign) other_signs) _ e
@@ -53,7 +44,7 @@ none_started :
     → list_any (λ kind. starts kind b) kinds ≡ false → list_any (λ kind. spells (spelled_kind kind) (b ∷ w)) kinds ≡ false
 none_started [] b w e = refl
 none_started (kind ∷ kinds) b w e =
-    let h = or-parts (starts kind b) _ e in
+    let h = or_parts (starts kind b) _ e in
     ap (λ t. t || list_any (λ k. spells (spelled_kind k) (b ∷ w)) kinds) (not_started kind b w h.0) ∙ none_started kinds b w h.1
 
 or-false : (a : Bool) → (a || false) ≡ a
@@ -65,7 +56,7 @@ any-only :
     → list_any p before ≡ false → list_any p after ≡ false → list_any p (before ++ kind ∷ after) ≡ p kind
 any-only p [] after kind h k = ap (λ t. p kind || t) k ∙ or-false (p kind)
 any-only p (j ∷ before) after kind h k =
-    let e = or-parts (p j) _ h in
+    let e = or_parts (p j) _ h in
     ap (λ t. t || list_any p (before ++ kind ∷ after)) e.0 ∙ any-only p before after kind e.1 k
 
 kind-only :
@@ -74,7 +65,7 @@ kind-only :
     → first_kind (before ++ kind ∷ after) bytes ≡ kind
 kind-only bytes [] after kind h k = ap (λ t. if t then kind else first_kind after bytes) k
 kind-only bytes (j ∷ before) after kind h k =
-    let e = or-parts (spells (spelled_kind j) bytes) _ h in
+    let e = or_parts (spells (spelled_kind j) bytes) _ h in
     ap (λ t. if t then j else first_kind (before ++ kind ∷ after) bytes) e.0 ∙ kind-only bytes before after kind e.1 k
 
 -- a byte that begins one kind alone
@@ -97,18 +88,15 @@ unfolding kind_of
 kind_of-only before after kind b w e h k =
     ap (λ kinds. first_kind kinds (b ∷ w)) (sym e) ∙ kind-only (b ∷ w) before after kind (none_started before b w h) k
 
--- of the bytes that begin a kind, none begins one of the others
-alone : (Kind → Bool) → Kind → List Kind → Type 0
-alone p kind kinds = p kind ≡ true → list_any p kinds ≡ false
-
 and-false : (a b : Bool) → (a && b) ≡ false → a ≡ true → b ≡ false
 and-false true b h e = h
 and-false false b h e = absurd (let t : false ≡ true = e in cc)
 
-apart : (kind : Kind) (others : List Kind) → Type 0
-apart kind others = (b : ℕ) → b < 256 → starts kind b ≡ true → list_any (λ k. starts k b) others ≡ false
-
-pub after_lower : (b : ℕ) → b < 256 → is_lower b ≡ true → list_any (λ k. starts k b) (Variable ∷ Quoted ∷ Distinct ∷ Dollar ∷ Number ∷ Connective ∷ Mark ∷ Other ∷ []) ≡ false
-after_lower b h e =
-    and-false (is_lower b) _
-    (agree_below_at (λ x. is_lower x && list_any (λ k. starts k x) (Variable ∷ Quoted ∷ Distinct ∷ Dollar ∷ Number ∷ Connective ∷ Mark ∷ Other ∷ [])) (λ x. false) 256 b refl h) e
+-- what begins one kind begins none of the others: a table of all bytes
+pub others_apart :
+    (kind : Kind) (others : List Kind) (b : ℕ)
+    → agree_below (λ x. starts kind x && list_any (λ k. starts k x) others) (λ x. false) 256 ≡ true
+    → b < 256 → starts kind b ≡ true → list_any (λ k. starts k b) others ≡ false
+others_apart kind others b table small h =
+    and-false (starts kind b) (list_any (λ k. starts k b) others)
+    (agree_below_at (λ x. starts kind x && list_any (λ k. starts k x) others) (λ x. false) 256 b table small) h

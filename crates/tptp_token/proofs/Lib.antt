@@ -1,2 +1,6 @@
 pub mod LongestLemmas
 pub mod KindLemmas
+pub mod CountLemmas
+pub mod WordLemmas
+pub mod NumberLemmas
+pub mod SignLemmas

@@ -2,9 +2,10 @@
 use Rattle.std.proofs.Common.{◌≡◌, ℕ, zero, suc, ◌+◌, ◌-◌, ◌<◌, ◌≤◌, Bool, true, false, cond, ◌&&◌, List, [], ◌∷◌, ◌++◌, take, drop, length, refl, ap, sym, ◌∙◌, subst, ⊎_elim, arith, length-append, append-nil, one-add}
 use Rattle.std.specs.Prelude.{if◌then◌else◌}
 use Rattle.std.specs.List.{prefix_len, list_all}
-use Rattle.std.proofs.lemmas.Bool.{cases_eq}
+use Rattle.std.proofs.lemmas.Bool.{cases_eq, cases_lt}
+use Rattle.std.proofs.lemmas.List.{take-append-le}
 use Rattle.std.proofs.Math.Seq.{take-append-add}
-use Rattle.tptp_token.specs.Longest.{greatest, longest}
+use Rattle.tptp_token.specs.Longest.{greatest, longest, behind}
 
 -- ---- the greatest number
 
@@ -124,6 +125,40 @@ longest-after test inner front rest whole h =
         ∙ ap test (take-append-add front rest j)
         ∙ h j (omega arith) (omega (arith, length-append front rest))
         ∙ longest-beyond inner rest j (omega arith) (omega (arith, length-append front rest))
+
+-- A front of which nothing passes, and a test of what follows it.
+pub longest-behind :
+    (test inner : List ℕ → Bool) (front rest : List ℕ)
+    → ((m : ℕ) → 0 < m → m ≤ length front → test (take m front) ≡ false)
+    → ((m : ℕ) → 0 < m → m ≤ length rest → test (front ++ take m rest) ≡ inner (take m rest))
+    → longest test (front ++ rest) ≡ behind (length front) (longest inner rest)
+longest-behind test inner front rest none h = by (longest inner rest) refl
+  where
+    beyond : (n m j : ℕ) → longest inner rest ≡ n → n < j → m ≡ length front + j → m ≤ length (front ++ rest) → test (take m (front ++ rest)) ≡ false
+    beyond n m j e l same w =
+        ap (λ k. test (take k (front ++ rest))) same
+        ∙ ap test (take-append-add front rest j)
+        ∙ h j (omega arith) (omega (arith, length-append front rest))
+        ∙ longest-beyond inner rest j (omega arith) (omega (arith, length-append front rest))
+
+    within : (m : ℕ) → 0 < m → m ≤ length front → test (take m (front ++ rest)) ≡ false
+    within m l w = ap test (take-append-le m front rest w) ∙ none m l w
+
+    by : (n : ℕ) → longest inner rest ≡ n → longest test (front ++ rest) ≡ behind (length front) n
+    by zero e =
+        longest-none test (front ++ rest)
+        (λ m l w.
+        ⊎_elim (λ inside. within m l (omega arith)) (λ outside. beyond 0 m (m - length front) e (omega arith) (omega arith) w)
+        (cases_lt m (length front + 1)))
+    by (suc n) e =
+        longest-is test (front ++ rest) (length front + suc n)
+        (omega (arith, longest-within inner rest, length-append front rest))
+        (λ l.
+        ap test (take-append-add front rest (suc n))
+        ∙ h (suc n) (omega arith) (omega (arith, longest-within inner rest))
+        ∙ ap (λ k. inner (take k rest)) (sym e)
+        ∙ longest-passes inner rest (omega arith))
+        (λ m l w. beyond (suc n) m (m - length front) e (omega arith) (omega arith) w)
 
 -- the longest front of bytes that all pass
 pub longest-all : (p : ℕ → Bool) (bytes : List ℕ) → longest (list_all p) bytes ≡ prefix_len p bytes

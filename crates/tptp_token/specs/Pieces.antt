@@ -17,6 +17,10 @@ is_blank byte = is_between 9 13 byte || (byte == 32)
 abbrev pub starts_with : ℕ → List ℕ → Bool
 starts_with byte = begins (λ first. first == byte) (λ rest. true)
 
+-- the first byte is one of two
+abbrev pub starts_with_either : ℕ → ℕ → List ℕ → Bool
+starts_with_either one other = begins (λ first. (first == one) || (first == other)) (λ rest. true)
+
 -- `%` opens a comment up to the end of the line, which is a line feed or the end of the text
 unfoldable pub line_length : List ℕ → ℕ
 line_length bytes = prefix_len (λ byte. not (byte == 10)) bytes

@@ -6,7 +6,7 @@ ghost use Rattle.fol_base.specs.Spelling.{is_number, is_exponent, is_digit as di
 ghost use Rattle.tptp_token.specs.Longest.{longest, behind};
 ghost use Rattle.tptp_token.specs.Kinds.{follows_digits};
 
-use crate::piece::starts_with;
+use crate::piece::starts_with_either;
 use crate::word::digit_count;
 
 /// How long a number is, by its first digit and the bytes behind it.
@@ -26,7 +26,7 @@ fn fraction_length(bytes: &[u8]) -> usize
     ensures within { result ≤ length bytes.now }
     ensures length { longest follows_digits bytes.now ≡ result + longest is_exponent (drop result bytes.now) }
 {
-    if starts_with(bytes, b'.') || starts_with(bytes, b'/') {
+    if starts_with_either(bytes, b'.', b'/') {
         counted(1, &bytes[1..])
     } else {
         0
@@ -38,11 +38,11 @@ fn exponent_length(bytes: &[u8]) -> usize
     ensures length { result ≡ longest is_exponent bytes.now }
     ensures within { result ≤ length bytes.now }
 {
-    if !starts_with(bytes, b'E') && !starts_with(bytes, b'e') {
+    if !starts_with_either(bytes, b'E', b'e') {
         return 0;
     }
     let rest = &bytes[1..];
-    if starts_with(rest, b'+') || starts_with(rest, b'-') {
+    if starts_with_either(rest, b'+', b'-') {
         counted(2, &rest[1..])
     } else {
         counted(1, rest)

@@ -1,7 +1,7 @@
 // What stands at the beginning of a text.
 
 ghost use Rattle.std.specs.Prelude.{◌≡◌, ◌<◌};
-ghost use Rattle.tptp_token.specs.Pieces.{piece_of, plain_piece, starts_with as begins_with, block_piece as piece_of_block, block_end as end_of_block};
+ghost use Rattle.tptp_token.specs.Pieces.{piece_of, plain_piece, starts_with as begins_with, starts_with_either as begins_with_either, block_piece as piece_of_block, block_end as end_of_block};
 
 use crate::byte::{is_blank, is_digit, is_lower, is_mark, is_upper};
 use crate::comment::{block_end, line_length};
@@ -44,6 +44,16 @@ pub fn starts_with(bytes: &[u8], byte: u8) -> bool
     ensures { result ≡ begins_with byte bytes.now }
 {
     bytes.first() == Some(&byte)
+}
+
+/// Whether the first byte is one of two.
+pub fn starts_with_either(bytes: &[u8], one: u8, other: u8) -> bool
+    ensures { result ≡ begins_with_either one other bytes.now }
+{
+    match bytes.first() {
+        Some(first) => *first == one || *first == other,
+        None => false,
+    }
 }
 
 /// A block comment, by what stands behind its `/*`.

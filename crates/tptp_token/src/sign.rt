@@ -1,6 +1,8 @@
 // Connectives and signs that stand alone.
 
-ghost use Rattle.std.specs.Prelude.{◌≡◌};
+ghost use Rattle.std.specs.Prelude.{◌≡◌, if◌then◌else◌};
+ghost use Rattle.tptp_token.specs.declared.piece.Piece.{Piece};
+ghost use Rattle.tptp_token.specs.declared.token.Kind.{Kind};
 ghost use Rattle.tptp_token.specs.Pieces.{plain_piece, IsSignStart};
 
 use crate::byte::is_other_sign;
@@ -14,16 +16,20 @@ pub fn sign_piece(first: u8, rest: &[u8]) -> Piece
 {
     match first {
         b'<' => arrow_piece(rest),
-        b'~' if starts_with(rest, b'|') || starts_with(rest, b'&') => Piece::Token(
-            Kind::Connective,
-            2,
-        ),
-        b'=' if starts_with(rest, b'>') => Piece::Token(Kind::Connective, 2),
-        b'!' if starts_with(rest, b'=') => Piece::Token(Kind::Connective, 2),
-        b'~' | b'=' | b'!' | b'&' | b'|' | b'?' => Piece::Token(Kind::Connective, 1),
+        b'~' => connective(starts_with(rest, b'|') || starts_with(rest, b'&')),
+        b'=' => connective(starts_with(rest, b'>')),
+        b'!' => connective(starts_with(rest, b'=')),
+        b'&' | b'|' | b'?' => connective(false),
         _ if is_other_sign(first) => Piece::Token(Kind::Other, 1),
         _ => Piece::Bad(0),
     }
+}
+
+/// A connective of one byte or of two.
+fn connective(has_second: bool) -> Piece
+    ensures { result ≡ Piece.Token Kind.Connective (if has_second then 2 else 1) }
+{
+    Piece::Token(Kind::Connective, if has_second { 2 } else { 1 })
 }
 
 /// `<=>`, `<~>`, `<=` or `<`, by what stands behind the `<`.
