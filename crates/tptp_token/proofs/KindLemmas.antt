@@ -88,6 +88,19 @@ unfolding kind_of
 kind_of-only before after kind b w e h k =
     ap (λ kinds. first_kind kinds (b ∷ w)) (sym e) ∙ kind-only (b ∷ w) before after kind (none_started before b w h) k
 
+-- a byte that begins no kind
+pub token-none : (b : ℕ) (w : List ℕ) → list_any (λ k. starts k b) all_kinds ≡ false → is_token (b ∷ w) ≡ false
+unfolding is_token
+token-none b w h = none_started all_kinds b w h
+
+pub list_any-end :
+    (p : Kind → Bool) (kinds : List Kind) (kind : Kind)
+    → list_any p kinds ≡ false → p kind ≡ false → list_any p (kinds ++ kind ∷ []) ≡ false
+list_any-end p [] kind h k = ap (λ t. t || false) k
+list_any-end p (j ∷ kinds) kind h k =
+    let e = or_parts (p j) (list_any p kinds) h in
+    ap (λ t. t || list_any p (kinds ++ kind ∷ [])) e.0 ∙ list_any-end p kinds kind e.1 k
+
 and-false : (a b : Bool) → (a && b) ≡ false → a ≡ true → b ≡ false
 and-false true b h e = h
 and-false false b h e = absurd (let t : false ≡ true = e in cc)

@@ -4,3 +4,5 @@ pub mod CountLemmas
 pub mod WordLemmas
 pub mod NumberLemmas
 pub mod SignLemmas
+pub mod QuoteLemmas
+pub mod PieceLemmas

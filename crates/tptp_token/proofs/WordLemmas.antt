@@ -214,3 +214,6 @@ two_dollars-bad (b ∷ bs) inner h i e =
 -- what `&bytes[i..]` holds
 pub suffix : (bs : List ℕ) (i : ℕ) → take (length bs - i) (drop i bs) ≡ drop i bs
 suffix bs i = take_all (length bs - i) (drop i bs) (omega (arith, length-drop i bs))
+
+pub length-suffix : (bs : List ℕ) (i : ℕ) → length (take (length bs - i) (drop i bs)) ≡ length bs - i
+length-suffix bs i = ap length (suffix bs i) ∙ length-drop i bs

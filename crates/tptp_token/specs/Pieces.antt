@@ -1,5 +1,5 @@
 -- What stands at the beginning of a text: a token, a blank or a comment, or a fault.
-use Rattle.std.specs.Prelude.{◌≡◌, ◌≢◌, ℕ, zero, suc, ◌+◌, ◌==◌, Bool, true, false, ◌&&◌, ◌||◌, not, Option, None, Some, List, [], ◌∷◌, ◌++◌, take, drop, option_map, if◌then◌else◌, bytes_eq}
+use Rattle.std.specs.Prelude.{◌≡◌, ◌≢◌, ◌<◌, ◌≤◌, ℕ, zero, suc, ◌+◌, ◌==◌, Bool, true, false, ◌&&◌, ◌||◌, not, Option, None, Some, List, [], ◌∷◌, ◌++◌, take, drop, option_map, if◌then◌else◌, bytes_eq}
 use Rattle.std.specs.List.{prefix_len, list_any}
 use Rattle.fol_base.specs.Spelling.{is_between, is_lower, is_upper, is_digit, marks, is_end, begins, is_quoted_rest}
 use Rattle.tptp_token.specs.Longest.{longest}
@@ -94,3 +94,10 @@ piece_of byte bytes =
     else if byte == 37 then Space (line_length bytes + 1)
     else if (byte == 47) && starts_with 42 bytes then block_piece (block_end (drop 1 bytes))
     else plain_piece byte bytes
+
+-- a token or a space takes up some of so many bytes, and a bad byte is one of them
+abbrev pub StaysWithin : ℕ → Piece → Type 0
+StaysWithin limit (Token kind length) = (0 < length) × (length ≤ limit)
+StaysWithin limit (Space length) = (0 < length) × (length ≤ limit)
+StaysWithin limit (Bad offset) = offset ≤ limit
+StaysWithin limit Unclosed = Unit {0}

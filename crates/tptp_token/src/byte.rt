@@ -1,8 +1,7 @@
 // Tests of single bytes.
 
-ghost use Rattle.std.specs.Prelude.{◌≡◌};
+ghost use Rattle.std.specs.Prelude.{◌≡◌, ◌==◌, codes};
 ghost use Rattle.std.specs.List.{list_any};
-ghost use Rattle.std.specs.Prelude.{◌==◌};
 ghost use Rattle.fol_base.specs.Spelling.{is_lower as lower, is_upper as upper, is_digit as digit, is_word_byte as word_byte, is_printable as printable, marks, other_signs};
 ghost use Rattle.tptp_token.specs.Pieces.{is_blank as blank};
 
@@ -50,6 +49,13 @@ pub fn is_mark(byte: u8) -> bool
     ensures { result ≡ list_any (λ sign. byte == sign) marks }
 {
     matches!(byte, b'(' | b')' | b'[' | b']' | b',' | b'.' | b':')
+}
+
+/// A connective that no other one begins with, and that begins with no other one.
+pub fn is_lone_connective(byte: u8) -> bool
+    ensures { result ≡ list_any (λ sign. byte == sign) (codes "&|?") }
+{
+    matches!(byte, b'&' | b'|' | b'?')
 }
 
 /// A sign that stands alone.

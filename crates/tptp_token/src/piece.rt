@@ -1,7 +1,7 @@
 // What stands at the beginning of a text.
 
-ghost use Rattle.std.specs.Prelude.{◌≡◌, ◌<◌};
-ghost use Rattle.tptp_token.specs.Pieces.{piece_of, plain_piece, starts_with as begins_with, starts_with_either as begins_with_either, block_piece as piece_of_block, block_end as end_of_block};
+ghost use Rattle.std.specs.Prelude.{◌≡◌, ◌+◌, length};
+ghost use Rattle.tptp_token.specs.Pieces.{piece_of, plain_piece, StaysWithin, starts_with as begins_with, starts_with_either as begins_with_either, block_piece as piece_of_block, block_end as end_of_block};
 
 use crate::byte::{is_blank, is_digit, is_lower, is_mark, is_upper};
 use crate::comment::{block_end, line_length};
@@ -25,7 +25,8 @@ pub enum Piece {
 
 /// The piece at the beginning of a text, by the text's first byte and the others.
 pub fn piece_at(first: u8, rest: &[u8]) -> Piece
-    ensures { result ≡ piece_of first rest.now }
+    ensures piece { result ≡ piece_of first rest.now }
+    ensures within { StaysWithin (length rest.now + 1) result }
 {
     if is_blank(first) {
         return Piece::Space(1);

@@ -1,10 +1,11 @@
 // Quoted words and distinct objects.
 
-ghost use Rattle.std.specs.Prelude.{◌≡◌, ◌≤◌, ◌<◌, ℕ, true, false, length, take};
+ghost use Rattle.std.specs.Prelude.{◌≡◌, ◌≤◌, ◌<◌, ◌||◌, ◌∷◌, [], ℕ, true, false, length, take, bytes_eq};
+ghost use Rattle.fol_base.specs.Spelling.{is_end};
 ghost use Rattle.tptp_token.specs.Pieces.{plain_piece, is_quote, fills, filled_length as length_filled, IsQuoteKind};
 
 use crate::byte::is_printable;
-use crate::piece::{Piece, starts_with};
+use crate::piece::{Piece, starts_with, starts_with_either};
 use crate::token::Kind;
 
 /// The piece of a quote, by its first byte and what stands behind it.
@@ -14,13 +15,24 @@ pub fn quote_piece(kind: Kind, quote: u8, inside: &[u8]) -> Piece
 {
     let filled = filled_length(quote, inside);
     let left = &inside[filled..];
-    if left.is_empty() || left == b"\\".as_slice() {
+    if is_cut_off(left) {
         return Piece::Unclosed;
     }
-    if starts_with(left, quote) && (filled > 0 || quote == b'"') {
-        return Piece::Token(kind, filled + 2);
+    if !starts_with(left, quote) {
+        return Piece::Bad(filled + 1);
     }
-    Piece::Bad(filled + 1)
+    // A distinct object may be empty, and a quoted word may not.
+    if filled == 0 && quote == b'\'' {
+        return Piece::Bad(1);
+    }
+    Piece::Token(kind, filled + 2)
+}
+
+/// Whether the text ends here, or behind a `\`.
+fn is_cut_off(left: &[u8]) -> bool
+    ensures { result ≡ (is_end left.now || bytes_eq left.now (92 ∷ [])) }
+{
+    left.is_empty() || left == b"\\".as_slice()
 }
 
 /// How many bytes are right so far: printable ones but for the quote and `\`, and pairs of `\` and one of these two.
@@ -46,15 +58,18 @@ fn unit_length(quote: u8, bytes: &[u8]) -> usize
     ensures right { 0 < result → fills quote (take result bytes.now) ≡ true }
     ensures stopped { result ≡ 0 → (n : ℕ) → 0 < n → n ≤ length bytes.now → fills quote (take n bytes.now) ≡ false }
 {
-    match bytes.split_first() {
-        None => 0,
-        Some((first, rest)) if *first == b'\\' => {
-            if starts_with(rest, quote) || starts_with(rest, b'\\') {
-                2
-            } else {
-                0
-            }
-        }
-        Some((first, _)) => usize::from(*first != quote && is_printable(*first)),
+    let Some((first, rest)) = bytes.split_first() else {
+        return 0;
+    };
+    if *first == b'\\' {
+        return if starts_with_either(rest, quote, b'\\') {
+            2
+        } else {
+            0
+        };
     }
+    if *first == quote {
+        return 0;
+    }
+    if is_printable(*first) { 1 } else { 0 }
 }

@@ -5,8 +5,8 @@ ghost use Rattle.tptp_token.specs.declared.piece.Piece.{Piece};
 ghost use Rattle.tptp_token.specs.declared.token.Kind.{Kind};
 ghost use Rattle.tptp_token.specs.Pieces.{plain_piece, IsSignStart};
 
-use crate::byte::is_other_sign;
-use crate::piece::{Piece, starts_with};
+use crate::byte::{is_lone_connective, is_other_sign};
+use crate::piece::{Piece, starts_with, starts_with_either};
 use crate::token::Kind;
 
 /// The piece of a sign, by its first byte and the bytes behind it.
@@ -16,10 +16,10 @@ pub fn sign_piece(first: u8, rest: &[u8]) -> Piece
 {
     match first {
         b'<' => arrow_piece(rest),
-        b'~' => connective(starts_with(rest, b'|') || starts_with(rest, b'&')),
+        b'~' => connective(starts_with_either(rest, b'|', b'&')),
         b'=' => connective(starts_with(rest, b'>')),
         b'!' => connective(starts_with(rest, b'=')),
-        b'&' | b'|' | b'?' => connective(false),
+        _ if is_lone_connective(first) => connective(false),
         _ if is_other_sign(first) => Piece::Token(Kind::Other, 1),
         _ => Piece::Bad(0),
     }
@@ -36,12 +36,14 @@ fn connective(has_second: bool) -> Piece
 fn arrow_piece(rest: &[u8]) -> Piece
     ensures { result ≡ plain_piece 60 rest.now }
 {
-    let equal = starts_with(rest, b'=');
-    if (equal || starts_with(rest, b'~')) && starts_with(&rest[1..], b'>') {
-        Piece::Token(Kind::Connective, 3)
-    } else if equal {
-        Piece::Token(Kind::Connective, 2)
-    } else {
-        Piece::Token(Kind::Other, 1)
+    if !starts_with_either(rest, b'=', b'~') {
+        return Piece::Token(Kind::Other, 1);
     }
+    if starts_with(&rest[1..], b'>') {
+        return Piece::Token(Kind::Connective, 3);
+    }
+    if starts_with(rest, b'=') {
+        return Piece::Token(Kind::Connective, 2);
+    }
+    Piece::Token(Kind::Other, 1)
 }

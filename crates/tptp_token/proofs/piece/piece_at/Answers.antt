@@ -1,0 +1,1 @@
+use Rattle.tptp_token.proofs.PieceLemmas.{piece-within}
