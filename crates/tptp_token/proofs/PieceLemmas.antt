@@ -1,5 +1,5 @@
 -- Pieces of a text, and the loop over them.
-use Rattle.std.proofs.Common.{◌≡◌, ℕ, zero, suc, ◌+◌, ◌-◌, ◌<◌, ◌≤◌, None, Some, Option, Bool, true, false, ◌&&◌, ◌||◌, ◌==◌, List, [], ◌∷◌, ◌++◌, take, drop, length, get_or, option_map, not, bytes_eq, refl, ap, sym, ◌∙◌, arith, one-add, add-one, length-drop, append_assoc, eq-eqb, ne_eqb}
+use Rattle.std.proofs.Common.{◌≡◌, ℕ, zero, suc, ◌+◌, ◌-◌, ◌<◌, ◌≤◌, None, Some, Option, Bool, true, false, ◌&&◌, ◌||◌, ◌==◌, List, [], ◌∷◌, ◌++◌, take, drop, length, get_or, option_map, not, bytes_eq, refl, ap, sym, ◌∙◌, arith, one-add, add-one, length-drop, append_assoc, append-nil, eq-eqb, ne_eqb}
 use Rattle.std.specs.Prelude.{if◌then◌else◌}
 use Rattle.std.specs.List.{prefix_len}
 use Rattle.std.proofs.lemmas.Bool.{cond_both, and_parts, and_from}
@@ -11,6 +11,7 @@ use Rattle.tptp_token.specs.Pieces.{is_blank, is_quote, starts_with, line_length
 use Rattle.tptp_token.specs.Lexing.{with_piece, piece_length, lexed_from, lexed_of}
 use Rattle.tptp_token.specs.declared.token.Kind.{Kind}
 use Rattle.tptp_token.specs.declared.token.Token.{Token as TokenRecord}
+use Rattle.tptp_token.specs.declared.token.LexFault.TheVariants.{BadByte, Unclosed as UnclosedAt}
 use Rattle.tptp_token.specs.declared.token.Lexed.{Lexed}
 use Rattle.tptp_token.specs.declared.piece.Piece.{Piece}
 use Rattle.tptp_token.specs.declared.piece.Piece.TheVariants.{Token, Space, Bad, Unclosed}
@@ -164,3 +165,96 @@ pub other-piece-of :
     → is_blank b ≡ false → (b ≡ 37 → ⊥) → ((b == 47) && starts_with 42 bs) ≡ false → plain_piece b bs ≡ piece_of b bs
 unfolding piece_of
 other-piece-of b bs h n g = let f = ne_eqb b 37 n in simp (h, f, g)
+
+-- ---- the loop
+
+-- tokens before those of what is left
+abbrev pub after : List TokenRecord → Lexed → Lexed
+after tokens lexed = record { tokens = tokens ++ lexed.tokens; fault = lexed.fault }
+
+skipped : (place k : ℕ) (bs : List ℕ) → k ≤ length bs → lexed_from place k bs ≡ lexed_from (place + k) 0 (drop k bs)
+unfolding lexed_from
+skipped place zero bs h = let e : place ≡ place + 0 = omega arith in ap (λ p. lexed_from p 0 bs) e
+skipped place (suc k) [] h = absurd (omega arith)
+skipped place (suc k) (b ∷ bs) h =
+    let e : place + 1 + k ≡ place + suc k = omega arith in
+    skipped (place + 1) k bs (omega arith) ∙ ap (λ p. lexed_from p 0 (drop k bs)) e
+
+behind_piece :
+    (place n : ℕ) (b : ℕ) (bs : List ℕ)
+    → 0 < n → n ≤ length bs + 1 → lexed_from (place + 1) (n - 1) bs ≡ lexed_from (place + n) 0 (drop n (b ∷ bs))
+behind_piece place zero b bs h w = absurd (omega arith)
+behind_piece place (suc n) b bs h w =
+    let d : suc n - 1 ≡ n = omega arith in
+    let e : place + 1 + n ≡ place + suc n = omega arith in
+    ap (λ k. lexed_from (place + 1) k bs) d ∙ skipped (place + 1) n bs (omega arith) ∙ ap (λ p. lexed_from p 0 (drop n bs)) e
+
+at_piece :
+    (place : ℕ) (b : ℕ) (bs : List ℕ) (piece : Piece)
+    → piece ≡ piece_of b bs
+    → lexed_from place 0 (b ∷ bs) ≡ with_piece place piece (lexed_from (place + 1) (piece_length piece - 1) bs)
+unfolding lexed_from
+at_piece place b bs piece e =
+    ap (λ x. with_piece place x (lexed_from (place + 1) (piece_length x - 1) bs)) (sym e)
+
+pub token-next :
+    (whole : Lexed) (tokens more : List TokenRecord) (place next : ℕ) (rest left : List ℕ) (b : ℕ) (bs : List ℕ) (kind : Kind) (n : ℕ)
+    → whole ≡ after tokens (lexed_from place 0 rest) → rest ≡ b ∷ bs → Token kind n ≡ piece_of b bs
+    → 0 < n → n ≤ length bs + 1
+    → more ≡ tokens ++ record { kind = kind; start = place; end = place + n } ∷ [] → left ≡ drop n rest → next ≡ place + n
+    → whole ≡ after more (lexed_from next 0 left)
+token-next whole tokens more place next rest left b bs kind n h e f l w g i j =
+    h
+    ∙ ap (λ us. after tokens (lexed_from place 0 us)) e
+    ∙ ap (after tokens) (at_piece place b bs (Token kind n) f)
+    ∙ ap (λ x. after tokens (with_piece place (Token kind n) x)) (behind_piece place n b bs l w)
+    ∙ append-token tokens (record { kind = kind; start = place; end = place + n }) (lexed_from (place + n) 0 (drop n (b ∷ bs)))
+    ∙ ap (λ ts. after ts (lexed_from (place + n) 0 (drop n (b ∷ bs)))) (sym g)
+    ∙ ap (λ us. after more (lexed_from (place + n) 0 us)) (ap (drop n) (sym e) ∙ sym i)
+    ∙ ap (λ p. after more (lexed_from p 0 left)) (sym j)
+  where
+    append-token : (ts : List TokenRecord) (t : TokenRecord) (x : Lexed) → after ts (after (t ∷ []) x) ≡ after (ts ++ t ∷ []) x
+    append-token ts t x = ap (λ us. record { tokens = us; fault = x.fault }) (sym (append_assoc ts (t ∷ []) x.tokens))
+
+pub space-next :
+    (whole : Lexed) (tokens : List TokenRecord) (place next : ℕ) (rest left : List ℕ) (b : ℕ) (bs : List ℕ) (n : ℕ)
+    → whole ≡ after tokens (lexed_from place 0 rest) → rest ≡ b ∷ bs → Space n ≡ piece_of b bs
+    → 0 < n → n ≤ length bs + 1 → left ≡ drop n rest → next ≡ place + n
+    → whole ≡ after tokens (lexed_from next 0 left)
+space-next whole tokens place next rest left b bs n h e f l w i j =
+    h
+    ∙ ap (λ us. after tokens (lexed_from place 0 us)) e
+    ∙ ap (after tokens) (at_piece place b bs (Space n) f ∙ behind_piece place n b bs l w)
+    ∙ ap (λ us. after tokens (lexed_from (place + n) 0 us)) (ap (drop n) (sym e) ∙ sym i)
+    ∙ ap (λ p. after tokens (lexed_from p 0 left)) (sym j)
+
+pub bad-last :
+    (whole : Lexed) (tokens : List TokenRecord) (place : ℕ) (rest : List ℕ) (b : ℕ) (bs : List ℕ) (offset : ℕ)
+    → whole ≡ after tokens (lexed_from place 0 rest) → rest ≡ b ∷ bs → Bad offset ≡ piece_of b bs
+    → record { tokens = tokens; fault = Some (BadByte (place + offset)) } ≡ whole
+bad-last whole tokens place rest b bs offset h e f =
+    sym (h
+    ∙ ap (λ us. after tokens (lexed_from place 0 us)) e
+    ∙ ap (after tokens) (at_piece place b bs (Bad offset) f)
+    ∙ ap (λ ts. record { tokens = ts; fault = Some (BadByte (place + offset)) }) (append-nil tokens))
+
+pub unclosed-last :
+    (whole : Lexed) (tokens : List TokenRecord) (place : ℕ) (rest : List ℕ) (b : ℕ) (bs : List ℕ)
+    → whole ≡ after tokens (lexed_from place 0 rest) → rest ≡ b ∷ bs → Unclosed ≡ piece_of b bs
+    → record { tokens = tokens; fault = Some (UnclosedAt place) } ≡ whole
+unclosed-last whole tokens place rest b bs h e f =
+    sym (h
+    ∙ ap (λ us. after tokens (lexed_from place 0 us)) e
+    ∙ ap (after tokens) (at_piece place b bs Unclosed f)
+    ∙ ap (λ ts. record { tokens = ts; fault = Some (UnclosedAt place) }) (append-nil tokens))
+
+pub end-last :
+    (whole : Lexed) (tokens : List TokenRecord) (place : ℕ) (rest : List ℕ)
+    → whole ≡ after tokens (lexed_from place 0 rest) → length rest ≡ 0 → record { tokens = tokens; fault = None } ≡ whole
+unfolding lexed_from
+end-last whole tokens place [] h e = sym (h ∙ ap (λ ts. record { tokens = ts; fault = None }) (append-nil tokens))
+end-last whole tokens place (b ∷ bs) h e = absurd (omega arith)
+
+pub start : (bytes : List ℕ) → lexed_of bytes ≡ after [] (lexed_from 0 0 bytes)
+unfolding lexed_of
+start bytes = refl
