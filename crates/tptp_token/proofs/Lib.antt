@@ -6,3 +6,4 @@ pub mod NumberLemmas
 pub mod SignLemmas
 pub mod QuoteLemmas
 pub mod PieceLemmas
+pub mod LexemeLemmas

@@ -180,7 +180,7 @@ skipped place (suc k) (b ∷ bs) h =
     let e : place + 1 + k ≡ place + suc k = omega arith in
     skipped (place + 1) k bs (omega arith) ∙ ap (λ p. lexed_from p 0 (drop k bs)) e
 
-behind_piece :
+pub behind_piece :
     (place n : ℕ) (b : ℕ) (bs : List ℕ)
     → 0 < n → n ≤ length bs + 1 → lexed_from (place + 1) (n - 1) bs ≡ lexed_from (place + n) 0 (drop n (b ∷ bs))
 behind_piece place zero b bs h w = absurd (omega arith)
@@ -189,7 +189,7 @@ behind_piece place (suc n) b bs h w =
     let e : place + 1 + n ≡ place + suc n = omega arith in
     ap (λ k. lexed_from (place + 1) k bs) d ∙ skipped (place + 1) n bs (omega arith) ∙ ap (λ p. lexed_from p 0 (drop n bs)) e
 
-at_piece :
+pub at_piece :
     (place : ℕ) (b : ℕ) (bs : List ℕ) (piece : Piece)
     → piece ≡ piece_of b bs
     → lexed_from place 0 (b ∷ bs) ≡ with_piece place piece (lexed_from (place + 1) (piece_length piece - 1) bs)

@@ -61,7 +61,7 @@ impl Model for FormulaBox {
 impl FormulaBox {
     /// The formula in a box.
     pub fn new(alloc: Global, formula: Formula) -> Mem<FormulaBox>
-        ensures { IfOk result (λ boxed. boxed ≡ formula_of formula.entry) }
+        ensures { IfOk result (λ boxed. boxed ≡ formula_of formula) }
     {
         Ok(FormulaBox {
             formula: Box::new(alloc, formula)?,

@@ -2,7 +2,9 @@
 #![tactic(auto)]
 
 mod formula;
+mod print;
 mod term;
 
-pub use formula::{Formula, Formulas};
+pub use formula::{Formula, FormulaBox, Formulas};
+pub use print::{print_formula, print_name};
 pub use term::{TreeTerm, TreeTerms};
