@@ -4,3 +4,4 @@ pub mod Codes
 pub mod Shape
 pub mod Falls
 pub mod Printing
+pub mod Spelling
