@@ -7,3 +7,4 @@ pub mod SignLemmas
 pub mod QuoteLemmas
 pub mod PieceLemmas
 pub mod LexemeLemmas
+pub mod FrontLemmas

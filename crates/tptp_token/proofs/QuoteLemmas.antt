@@ -57,7 +57,7 @@ rest-plain quote b w e f =
     ap (λ t. if t then is_end w else (if b == 92 then is_quoted_rest quote true w else (is_printable b && is_quoted_rest quote false w))) e
     ∙ ap (λ t. if t then is_quoted_rest quote true w else (is_printable b && is_quoted_rest quote false w)) f
 
-rest-quote : (quote : ℕ) (w : List ℕ) → is_quoted_rest quote false (quote ∷ w) ≡ is_end w
+pub rest-quote : (quote : ℕ) (w : List ℕ) → is_quoted_rest quote false (quote ∷ w) ≡ is_end w
 rest-quote quote w =
     ap (λ t. if t then is_end w else (if quote == 92 then is_quoted_rest quote true w else (is_printable quote && is_quoted_rest quote false w))) (eq-eqb quote quote refl)
 
@@ -92,7 +92,7 @@ inside-open quote false (b ∷ bs) (suc m) h =
     (λ e f g. rest-escaped quote b (take m bs) e f ∙ inside-open quote true bs m g)
     (λ e f p g. rest-plain quote b (take m bs) e f ∙ and_right (is_printable b) _ (inside-open quote false bs m g))
 
-fills-then : (quote : ℕ) (front w : List ℕ) → fills quote front ≡ true → fills quote (front ++ w) ≡ fills quote w
+pub fills-then : (quote : ℕ) (front w : List ℕ) → fills quote front ≡ true → fills quote (front ++ w) ≡ fills quote w
 unfolding fills
 fills-then quote front w h =
     ap (is_quoted_rest quote false) (append_assoc front w (quote ∷ [])) ∙ inside-then quote false front (w ++ quote ∷ []) h
@@ -142,7 +142,7 @@ fills-inside : (quote : ℕ) (v : List ℕ) → fills quote v ≡ true → is_qu
 unfolding fills
 fills-inside quote v h = h
 
-fills-nothing : (quote : ℕ) → fills quote [] ≡ true
+pub fills-nothing : (quote : ℕ) → fills quote [] ≡ true
 unfolding fills
 fills-nothing quote = rest-quote quote []
 
