@@ -1,1 +1,5 @@
 pub mod SizeLemmas
+pub mod NameLemmas
+pub mod CanonicalLemmas
+pub mod LexingLemmas
+pub mod WellLemmas
