@@ -3,3 +3,4 @@ pub mod NameLemmas
 pub mod CanonicalLemmas
 pub mod LexingLemmas
 pub mod WellLemmas
+pub mod AgainLemmas

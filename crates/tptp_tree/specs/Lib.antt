@@ -5,3 +5,4 @@ pub mod Shape
 pub mod Falls
 pub mod Printing
 pub mod Spelling
+pub mod Examples

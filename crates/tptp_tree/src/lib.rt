@@ -2,8 +2,11 @@
 #![tactic(auto)]
 
 mod formula;
+pub mod laws;
 mod print;
 mod term;
+#[cfg(test)]
+mod tests;
 
 pub use formula::{Formula, FormulaBox, Formulas};
 pub use print::{print_formula, print_name};

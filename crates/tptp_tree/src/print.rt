@@ -1,11 +1,12 @@
 // How names and formulas are printed.
 
-ghost use Rattle.std.specs.Prelude.{◌≡◌, ◌++◌, flat_map, map, IfOk, codes};
+ghost use Rattle.std.specs.Prelude.{◌≡◌, ℕ, List, ◌++◌, flat_map, map, IfOk, codes};
 ghost use Rattle.std.specs.List.{list_all};
 ghost use Rattle.fol_base.specs.Spelling.{is_lower as lower, is_word_byte as word_byte, is_lower_word as lower_word};
 ghost use Rattle.tptp_tree.specs.Term.{terms_of};
 ghost use Rattle.tptp_tree.specs.Formula.{negation, formulas_of};
 ghost use Rattle.tptp_tree.specs.Shape.{term_of, formula_of};
+ghost use Rattle.tptp_tree.specs.Spelling.{SpellsName, SpellsFormula};
 ghost use Rattle.tptp_tree.specs.Printing.{escaped_byte, name_text, term_text, arguments_text, more_arguments_text, variables_text, more_variables_text, is_joined as joined, is_bare as bare, in_parentheses, formula_text, operand_text, operands_text, more_operands_text};
 
 use crate::formula::Formula;
@@ -14,9 +15,10 @@ use plain_types::{Mem, Text};
 use std::alloc::Global;
 
 /// The text of a name: bare where it is a lower word, else between single quotes, with a `\` before a quote and a `\`.
-/// Read again it is the same name.
+/// Where some text spells the name, this one does.
 pub fn print_name(alloc: Global, name: &Text) -> Mem<Text>
-    ensures { IfOk result (λ text. text ≡ name_text name.now) }
+    ensures printed { IfOk result (λ text. text ≡ name_text name.now) }
+    ensures read_again { IfOk result (λ text. (other : List ℕ) → SpellsName other name.now → SpellsName text name.now) }
 {
     let mut page = Vec::new(alloc);
     push_name(&mut page, name.as_slice())?;
@@ -26,9 +28,11 @@ pub fn print_name(alloc: Global, name: &Text) -> Mem<Text>
 /// The text of a formula. Arguments are separated by `,`, the signs of connectives and equations stand between single
 /// blanks, a quantifier is `! [X,Y] : ` before its body. An operand of a connective and the body of a quantifier stand in
 /// parentheses exactly where they are made by a connective of two or more operands, what is negated where it is no atom
-/// without equality and no negation. Read again it is the same formula.
+/// without equality and no negation. Where some text spells the formula, this one does.
 pub fn print_formula(alloc: Global, formula: &Formula) -> Mem<Text>
-    ensures { IfOk result (λ text. text ≡ formula_text (formula_of formula.now)) }
+    ensures printed { IfOk result (λ text. text ≡ formula_text (formula_of formula.now)) }
+    ensures read_again { IfOk result (λ text.
+        (other : List ℕ) → SpellsFormula other (formula_of formula.now) → SpellsFormula text (formula_of formula.now)) }
 {
     let mut page = Vec::new(alloc);
     push_formula(&mut page, formula)?;
