@@ -4,3 +4,4 @@ pub mod CanonicalLemmas
 pub mod LexingLemmas
 pub mod WellLemmas
 pub mod AgainLemmas
+pub mod UniqueLemmas

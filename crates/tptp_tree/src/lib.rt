@@ -4,10 +4,12 @@
 mod formula;
 pub mod laws;
 mod print;
+mod problem;
 mod term;
 #[cfg(test)]
 mod tests;
 
 pub use formula::{Formula, FormulaBox, Formulas};
 pub use print::{print_formula, print_name};
+pub use problem::{Annotated, AnnotatedList, Problem, Role};
 pub use term::{TreeTerm, TreeTerms};
