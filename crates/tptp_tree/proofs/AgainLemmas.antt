@@ -8,6 +8,7 @@ use Rattle.tptp_tree.specs.Spelling.{word_lexeme, name_of, phrase_lexemes, meant
 use Rattle.tptp_tree.proofs.NameLemmas.{WellName, word_of, name_of-word_of, name-lexes}
 use Rattle.tptp_tree.proofs.CanonicalLemmas.{WellFormula, phrase_of, formula-meant}
 use Rattle.tptp_tree.proofs.LexingLemmas.{formula-lexes}
+use Rattle.tptp_tree.proofs.UniqueLemmas.{one_phrase, one_word}
 use Rattle.tptp_tree.proofs.WellLemmas.{text-spelled, word-well, spelled-well}
 
 pub name-again : (printed other name : List ℕ) → printed ≡ name_text name → SpellsName other name → SpellsName printed name
@@ -30,3 +31,10 @@ formula-again printed other f e s =
           (lexes-whole (formula_text f ++ []) (phrase_lexemes (phrase_of f) []) lexes),
       formula-meant f well,
     )
+
+-- two formulas that one text spells are one
+pub one_formula : (text : List ℕ) (f g : FormulaTree) → SpellsFormula text f → SpellsFormula text g → f ≡ g
+one_formula text f g s t = sym s.2 ∙ ap meant (one_phrase s.0 t.0 (sym s.1.tokens ∙ t.1.tokens)) ∙ t.2
+
+pub one_name : (text name other : List ℕ) → SpellsName text name → SpellsName text other → name ≡ other
+one_name text name other s t = sym s.2 ∙ ap name_of (one_word s.0 t.0 (sym s.1.tokens ∙ t.1.tokens)) ∙ t.2
