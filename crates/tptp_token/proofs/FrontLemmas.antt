@@ -1,16 +1,16 @@
 -- Texts that begin with a token, by what the token is.
-use Rattle.std.proofs.Common.{◌≡◌, ◌⊎◌, ℕ, zero, suc, ◌+◌, ◌-◌, ◌<◌, ◌≤◌, Bool, true, false, cond, ◌&&◌, ◌||◌, ◌==◌, List, [], ◌∷◌, ◌++◌, take, drop, length, refl, ap, sym, ◌∙◌, inl, subst, arith, one-add, append_assoc, length-append, leb-true}
+use Rattle.std.proofs.Common.{◌≡◌, ℕ, ◌+◌, ◌<◌, ◌≤◌, Bool, true, false, cond, ◌&&◌, ◌||◌, ◌==◌, List, [], ◌∷◌, ◌++◌, length, refl, ap, sym, ◌∙◌, inl, subst, arith, append_assoc, length-append, leb-true}
 use Rattle.std.specs.Prelude.{nat_le}
 use Rattle.std.specs.List.{prefix_len, list_any, list_all}
 use Rattle.std.proofs.lemmas.Bool.{and_parts, and_left, or_parts, agree_below_at, eqb-false}
 use Rattle.std.proofs.Math.Seq.{take-append_seam, drop-append_seam}
 use Rattle.fol_base.specs.Spelling.{is_lower, is_upper, is_word_byte, is_lower_word, is_variable_word, marks}
 use Rattle.tptp_token.specs.Longest.{longest}
-use Rattle.tptp_token.specs.Pieces.{is_blank, fills, starts_with, plain_piece, piece_of}
+use Rattle.tptp_token.specs.Pieces.{is_blank, fills, starts_with, plain_piece}
 use Rattle.tptp_token.specs.Lexemes.{Lexeme}
 use Rattle.tptp_token.specs.declared.token.Kind.{Kind}
-use Rattle.tptp_token.specs.declared.token.Kind.TheVariants.{Lower, Variable, Quoted, Distinct, Dollar, Number, Connective, Mark, Other}
-use Rattle.tptp_token.specs.declared.piece.Piece.TheVariants.{Token, Space}
+use Rattle.tptp_token.specs.declared.token.Kind.TheVariants.{Lower, Variable, Quoted, Dollar, Mark}
+use Rattle.tptp_token.specs.declared.piece.Piece.TheVariants.{Token}
 use Rattle.tptp_token.proofs.LongestLemmas.{longest-none}
 use Rattle.tptp_token.proofs.WordLemmas.{lower-piece, variable-piece, mark-piece, one_dollar-piece, lower_word-length}
 use Rattle.tptp_token.proofs.QuoteLemmas.{fills-step, quote-stopped, quote-closed}

@@ -1,9 +1,9 @@
 -- Which kinds a first byte begins.
-use Rattle.std.proofs.Common.{◌≡◌, ℕ, ◌<◌, Bool, true, false, ◌&&◌, ◌||◌, not, ◌==◌, List, [], ◌∷◌, ◌++◌, codes, refl, ap, sym, ◌∙◌, ⊎_elim}
-use Rattle.std.specs.Prelude.{bytes_eq, if◌then◌else◌}
-use Rattle.std.specs.List.{list_any, list_all}
+use Rattle.std.proofs.Common.{◌≡◌, ℕ, ◌<◌, Bool, true, false, ◌&&◌, ◌||◌, ◌==◌, List, [], ◌∷◌, ◌++◌, codes, refl, ap, sym, ◌∙◌}
+use Rattle.std.specs.Prelude.{if◌then◌else◌}
+use Rattle.std.specs.List.{list_any}
 use Rattle.std.proofs.lemmas.Bool.{agree_below, agree_below_at, and_left, or_parts}
-use Rattle.fol_base.specs.Spelling.{spells, is_lower, is_upper, is_digit, is_word_byte, is_number, is_end, marks, other_signs, connectives, is_one_of, is_single}
+use Rattle.fol_base.specs.Spelling.{spells, is_lower, is_upper, is_digit, marks, other_signs}
 use Rattle.tptp_token.specs.Kinds.{spelled_kind, all_kinds, first_kind, is_token, kind_of}
 use Rattle.tptp_token.specs.declared.token.Kind.{Kind}
 use Rattle.tptp_token.specs.declared.token.Kind.TheVariants.{Lower, Variable, Quoted, Distinct, Dollar, Number, Connective, Mark, Other}

@@ -1,21 +1,20 @@
 -- The tokens of a text by their kinds and bytes, and of texts that stand one behind the other.
-use Rattle.std.proofs.Common.{◌≡◌, ℕ, zero, suc, ◌+◌, ◌-◌, ◌<◌, ◌≤◌, None, Some, Bool, true, false, ◌&&◌, ◌||◌, ◌==◌, List, [], ◌∷◌, ◌++◌, map, take, drop, length, refl, ap, ap₂, sym, ◌∙◌, subst₂, arith, one-add, append_assoc, append-nil, length-append}
+use Rattle.std.proofs.Common.{◌≡◌, ℕ, zero, suc, ◌+◌, ◌-◌, None, Some, Bool, true, false, ◌&&◌, ◌||◌, ◌==◌, List, [], ◌∷◌, ◌++◌, map, take, drop, length, refl, ap, ap₂, sym, ◌∙◌, subst₂, arith, append_assoc, length-append}
 use Rattle.std.specs.Prelude.{if◌then◌else◌}
 use Rattle.std.specs.List.{list_any, AllByRecursion}
 use Rattle.std.proofs.Math.Seq.{take-append_seam, drop-append_seam}
 use Rattle.fol_base.specs.Spelling.{spells}
 use Rattle.tptp_token.specs.Longest.{longest}
 use Rattle.tptp_token.specs.Kinds.{spelled_kind, all_kinds, first_kind, is_token, kind_of}
-use Rattle.tptp_token.specs.Pieces.{is_blank, starts_with, token_piece, plain_piece, fault_piece, quote_fault, is_quote, filled_length, block_end, block_piece, line_length, piece_of}
+use Rattle.tptp_token.specs.Pieces.{is_blank, starts_with, token_piece, plain_piece, quote_fault, is_quote, filled_length, block_end, block_piece, line_length, piece_of}
 use Rattle.tptp_token.specs.Lexing.{with_piece, piece_length, lexed_from, lexed_of}
 use Rattle.tptp_token.specs.Lexemes.{Lexeme, lexeme_at, IsLexedAs}
 use Rattle.tptp_token.specs.declared.token.Kind.{Kind}
-use Rattle.tptp_token.specs.declared.token.Kind.TheVariants.{Lower, Variable, Quoted, Distinct, Dollar, Number, Connective, Mark, Other}
 use Rattle.tptp_token.specs.declared.token.Token.{Token as TokenRecord}
 use Rattle.tptp_token.specs.declared.token.Lexed.{Lexed}
 use Rattle.tptp_token.specs.declared.piece.Piece.{Piece}
 use Rattle.tptp_token.specs.declared.piece.Piece.TheVariants.{Token, Space, Bad, Unclosed}
-use Rattle.tptp_token.proofs.LongestLemmas.{longest-passes, longest-after, longest-none}
+use Rattle.tptp_token.proofs.LongestLemmas.{longest-passes}
 use Rattle.tptp_token.proofs.PieceLemmas.{behind_piece, at_piece}
 
 -- ---- tokens are spelled

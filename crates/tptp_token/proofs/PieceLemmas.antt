@@ -1,12 +1,12 @@
 -- Pieces of a text, and the loop over them.
-use Rattle.std.proofs.Common.{◌≡◌, ℕ, zero, suc, ◌+◌, ◌-◌, ◌<◌, ◌≤◌, None, Some, Option, Bool, true, false, ◌&&◌, ◌||◌, ◌==◌, List, [], ◌∷◌, ◌++◌, take, drop, length, get_or, option_map, not, bytes_eq, refl, ap, sym, ◌∙◌, arith, one-add, add-one, length-drop, append_assoc, append-nil, eq-eqb, ne_eqb}
+use Rattle.std.proofs.Common.{◌≡◌, ℕ, zero, suc, ◌+◌, ◌-◌, ◌<◌, ◌≤◌, None, Some, Option, Bool, true, false, ◌&&◌, ◌||◌, ◌==◌, List, [], ◌∷◌, ◌++◌, drop, length, get_or, option_map, not, bytes_eq, refl, ap, sym, ◌∙◌, arith, append_assoc, append-nil, eq-eqb, ne_eqb}
 use Rattle.std.specs.Prelude.{if◌then◌else◌}
 use Rattle.std.specs.List.{prefix_len}
 use Rattle.std.proofs.lemmas.Bool.{cond_both, and_parts, and_from}
 use Rattle.fol_base.specs.Spelling.{is_end}
 use Rattle.std.proofs.lemmas.List.Sums.{prefix_len-le-length}
 use Rattle.tptp_token.specs.Longest.{longest}
-use Rattle.tptp_token.specs.Kinds.{is_token, kind_of}
+use Rattle.tptp_token.specs.Kinds.{is_token}
 use Rattle.tptp_token.specs.Pieces.{is_blank, is_quote, starts_with, line_length, block_end, block_piece, quote_fault, fault_piece, token_piece, plain_piece, piece_of, fills, filled_length, StaysWithin}
 use Rattle.tptp_token.specs.Lexing.{with_piece, piece_length, lexed_from, lexed_of}
 use Rattle.tptp_token.specs.declared.token.Kind.{Kind}

@@ -1,18 +1,17 @@
 -- Quoted words and distinct objects.
-use Rattle.std.proofs.Common.{◌≡◌, ◌⊎◌, ℕ, zero, suc, ◌+◌, ◌-◌, ◌<◌, ◌≤◌, Bool, true, false, not, ◌&&◌, ◌||◌, ◌==◌, List, [], ◌∷◌, ◌++◌, take, drop, length, refl, ap, sym, ◌∙◌, arith, one-add, add-one, eqb-true, ne_eqb, eq-eqb, inl, inr, ⊎_elim, append_assoc, append-nil, take-append-drop, length-append, length-drop, length-take-le, drop-drop, bytes_eq}
+use Rattle.std.proofs.Common.{◌≡◌, ◌⊎◌, ℕ, zero, suc, ◌+◌, ◌-◌, ◌<◌, ◌≤◌, Bool, true, false, not, ◌&&◌, ◌||◌, ◌==◌, List, [], ◌∷◌, ◌++◌, take, drop, length, refl, ap, sym, ◌∙◌, arith, eqb-true, ne_eqb, eq-eqb, inl, inr, ⊎_elim, append_assoc, take-append-drop, length-append, length-drop, length-take-le, drop-drop, bytes_eq}
 use Rattle.std.specs.Prelude.{if◌then◌else◌}
-use Rattle.std.proofs.lemmas.Bool.{cases_Bool, cases_lt, and_left, and_right, and_parts, or_cases}
+use Rattle.std.proofs.lemmas.Bool.{cases_lt, and_left, and_right, and_parts, or_cases}
 use Rattle.std.proofs.Math.Seq.{take-append-add, take-append_seam}
 use Rattle.std.proofs.lemmas.List.{take-append-le}
 use Rattle.fol_base.specs.Spelling.{is_printable, is_end, begins, is_quoted_rest}
 use Rattle.tptp_token.specs.Longest.{longest}
-use Rattle.tptp_token.specs.Kinds.{is_token, kind_of}
-use Rattle.tptp_token.specs.Pieces.{plain_piece, fault_piece, quote_fault, filled_length, fills, is_quote, starts_with, starts_with_either, IsQuoteKind}
+use Rattle.tptp_token.specs.Kinds.{is_token}
+use Rattle.tptp_token.specs.Pieces.{plain_piece, quote_fault, filled_length, fills, is_quote, starts_with, starts_with_either, IsQuoteKind}
 use Rattle.tptp_token.specs.declared.token.Kind.{Kind}
 use Rattle.tptp_token.specs.declared.token.Kind.TheVariants.{Lower, Variable, Quoted, Distinct, Dollar, Number, Connective, Mark, Other}
-use Rattle.tptp_token.specs.declared.piece.Piece.{Piece}
 use Rattle.tptp_token.specs.declared.piece.Piece.TheVariants.{Token, Bad, Unclosed}
-use Rattle.tptp_token.proofs.LongestLemmas.{longest-passes, longest-beyond, longest-within, longest-is, longest-none, longest-after}
+use Rattle.tptp_token.proofs.LongestLemmas.{longest-passes, longest-beyond, longest-within, longest-none, longest-after}
 use Rattle.tptp_token.proofs.KindLemmas.{token-only}
 use Rattle.tptp_token.proofs.WordLemmas.{only-piece, no_token, and-true}
 

@@ -1,13 +1,11 @@
 -- Pieces that begin with signs.
-use Rattle.std.proofs.Common.{◌≡◌, ◌≢◌, ◌⊎◌, ℕ, zero, suc, ◌+◌, ◌<◌, ◌≤◌, Bool, true, false, ◌&&◌, ◌||◌, ◌==◌, List, [], ◌∷◌, ◌++◌, take, drop, length, codes, refl, ap, sym, ◌∙◌, arith, eqb-true, ne_eqb, ⊎_elim}
+use Rattle.std.proofs.Common.{◌≡◌, ◌≢◌, ℕ, zero, suc, ◌<◌, ◌≤◌, Bool, true, false, ◌&&◌, ◌||◌, ◌==◌, List, [], ◌∷◌, take, drop, length, codes, refl, ap, sym, ◌∙◌, arith, eqb-true, ne_eqb, ⊎_elim}
 use Rattle.std.specs.Prelude.{if◌then◌else◌}
 use Rattle.std.specs.List.{list_any}
 use Rattle.std.proofs.lemmas.Bool.{or_cases, or_parts, and_left, and_right}
 use Rattle.fol_base.specs.Spelling.{other_signs}
-use Rattle.tptp_token.specs.Longest.{longest}
 use Rattle.tptp_token.specs.Kinds.{is_token, kind_of}
 use Rattle.tptp_token.specs.Pieces.{plain_piece, starts_with, starts_with_either, quote_fault, filled_length, IsSignStart}
-use Rattle.tptp_token.specs.declared.token.Kind.{Kind}
 use Rattle.tptp_token.specs.declared.token.Kind.TheVariants.{Lower, Variable, Quoted, Distinct, Dollar, Number, Connective, Mark, Other}
 use Rattle.tptp_token.specs.declared.piece.Piece.TheVariants.{Token, Bad}
 use Rattle.tptp_token.proofs.LongestLemmas.{longest-is, longest-none}

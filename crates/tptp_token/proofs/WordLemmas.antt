@@ -2,14 +2,14 @@
 use Rattle.std.proofs.Common.{◌≡◌, ℕ, zero, suc, ◌+◌, ◌-◌, ◌<◌, ◌≤◌, Bool, true, false, ◌&&◌, ◌||◌, ◌==◌, List, [], ◌∷◌, ◌++◌, take, drop, length, refl, ap, sym, ◌∙◌, arith, one-add, add-one, eqb-true, take_all, length-drop}
 use Rattle.std.specs.List.{prefix_len, list_any, list_all}
 use Rattle.std.proofs.lemmas.Bool.{and_left, and_parts}
-use Rattle.fol_base.specs.Spelling.{spells, is_lower, is_upper, is_digit, is_word_byte, is_lower_word, begins, is_end, marks, other_signs}
+use Rattle.fol_base.specs.Spelling.{spells, is_lower, is_upper, is_word_byte, is_lower_word, begins, is_end, marks, other_signs}
 use Rattle.tptp_token.specs.Longest.{longest, behind}
 use Rattle.tptp_token.specs.Kinds.{spelled_kind, all_kinds, is_token, kind_of}
-use Rattle.tptp_token.specs.Pieces.{plain_piece, token_piece, fault_piece, starts_with, IsSignStart}
+use Rattle.tptp_token.specs.Pieces.{plain_piece, token_piece, fault_piece, starts_with}
 use Rattle.tptp_token.specs.declared.token.Kind.{Kind}
 use Rattle.tptp_token.specs.declared.token.Kind.TheVariants.{Lower, Variable, Quoted, Distinct, Dollar, Number, Connective, Mark, Other}
 use Rattle.tptp_token.specs.declared.piece.Piece.TheVariants.{Token, Bad}
-use Rattle.tptp_token.proofs.LongestLemmas.{longest-passes, longest-beyond, longest-within, longest-is, longest-none, longest-same, longest-after, longest-behind, longest-all}
+use Rattle.tptp_token.proofs.LongestLemmas.{longest-passes, longest-none, longest-after, longest-behind, longest-all}
 use Rattle.tptp_token.proofs.KindLemmas.{starts, token-only, kind_of-only, others_apart}
 
 -- a token of a known length

@@ -1,11 +1,8 @@
 -- The definitions on small texts.
-use Rattle.std.specs.Prelude.{◌≡◌, ℕ, None, Some, List, [], ◌∷◌, ◌++◌, codes, refl}
-use Rattle.tptp_token.specs.Longest.{longest}
-use Rattle.tptp_token.specs.Kinds.{is_token, kind_of}
-use Rattle.tptp_token.specs.Pieces.{line_length, block_end, piece_of}
-use Rattle.tptp_token.specs.Lexing.{lexed_from, lexed_of}
+use Rattle.std.specs.Prelude.{◌≡◌, ℕ, None, Some, [], ◌∷◌, codes}
+use Rattle.tptp_token.specs.Lexing.{lexed_of}
 use Rattle.tptp_token.specs.declared.token.Kind.{Kind}
-use Rattle.tptp_token.specs.declared.token.Kind.TheVariants.{Lower, Variable, Quoted, Distinct, Dollar, Number, Connective, Mark, Other}
+use Rattle.tptp_token.specs.declared.token.Kind.TheVariants.{Lower, Variable, Number, Connective, Mark}
 use Rattle.tptp_token.specs.declared.token.LexFault.TheVariants.{BadByte, Unclosed}
 use Rattle.tptp_token.specs.declared.token.Token.{Token}
 

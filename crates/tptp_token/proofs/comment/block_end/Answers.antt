@@ -1,4 +1,4 @@
-use Rattle.std.proofs.Common.{◌≡◌, ◌+◌, ◌-◌, ◌≤◌, ◌==◌, None, Some, suc, get_or, length, drop, sym, ap, subst, ◌∙◌, arith, eq-eqb, ne_eqb}
+use Rattle.std.proofs.Common.{◌≡◌, ◌+◌, ◌-◌, ◌==◌, Some, suc, get_or, drop, sym, ap, ◌∙◌, arith, eq-eqb, ne_eqb}
 use Rattle.std.proofs.lemmas.Bool.{and_left, and_right}
 use Rattle.tptp_token.specs.Pieces.{block_end}
 use Rattle.tptp_token.proofs.PieceLemmas.{later, later-none, block-found, block-later, block-last}

@@ -1,10 +1,8 @@
 use Rattle.std.proofs.Common.{refl}
-use Rattle.fol_base.specs.Spelling.{is_word_byte}
 use Rattle.tptp_token.specs.Longest.{longest}
 use Rattle.tptp_token.specs.Kinds.{is_token, kind_of}
 use Rattle.tptp_token.specs.Pieces.{line_length, block_end, fills, piece_of}
 use Rattle.tptp_token.specs.Lexing.{lexed_from, lexed_of}
-use Rattle.tptp_token.proofs.KindLemmas
 use Rattle.tptp_token.proofs.laws.lexing_examples.Goals as goal
 
 pub returns : goal.returns

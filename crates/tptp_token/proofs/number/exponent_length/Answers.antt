@@ -1,4 +1,4 @@
-use Rattle.std.proofs.Common.{◌≡◌, ◌-◌, length, take, drop, sym, ◌∙◌}
+use Rattle.std.proofs.Common.{◌-◌, length, take, drop, sym, ◌∙◌}
 use Rattle.tptp_token.proofs.NumberLemmas.{no_exponent, exponent-signed, exponent-plain}
 use Rattle.tptp_token.proofs.WordLemmas.{suffix}
 use Rattle.tptp_token.proofs.number.exponent_length.Goals as goal

@@ -1,4 +1,4 @@
-use Rattle.std.proofs.Common.{◌≡◌, sym, ◌∙◌}
+use Rattle.std.proofs.Common.{sym, ◌∙◌}
 use Rattle.tptp_token.proofs.NumberLemmas.{fraction, fraction-none}
 use Rattle.tptp_token.proofs.WordLemmas.{suffix}
 use Rattle.tptp_token.proofs.number.fraction_length.Goals as goal

@@ -1,4 +1,3 @@
-use Rattle.std.proofs.Common.{◌≡◌, sym, ◌∙◌}
 use Rattle.tptp_token.proofs.NumberLemmas.{number-length}
 use Rattle.tptp_token.proofs.WordLemmas.{suffix}
 use Rattle.tptp_token.proofs.number.number_length.Goals as goal

@@ -1,6 +1,6 @@
-use Rattle.std.proofs.Common.{◌≡◌, ◌+◌, Bool, true, false, ◌&&◌, ◌==◌, length, sym, ap, subst, ◌∙◌, ne_eqb}
+use Rattle.std.proofs.Common.{◌+◌, ◌==◌, length, sym, ap, subst, ◌∙◌, ne_eqb}
 use Rattle.std.proofs.lemmas.Bool.{and_left, and_right}
-use Rattle.tptp_token.specs.Pieces.{starts_with, piece_of, StaysWithin}
+use Rattle.tptp_token.specs.Pieces.{StaysWithin}
 use Rattle.tptp_token.specs.declared.piece.Piece.TheVariants.{Space}
 use Rattle.tptp_token.proofs.PieceLemmas.{blank-piece, line-piece, comment-piece, other-piece-of, piece-within}
 use Rattle.tptp_token.proofs.WordLemmas.{suffix}

@@ -1,4 +1,4 @@
-use Rattle.std.proofs.Common.{◌≡◌, sym, ◌∙◌, arith}
+use Rattle.std.proofs.Common.{sym, ◌∙◌}
 use Rattle.tptp_token.proofs.WordLemmas.{lower-piece, variable-piece, mark-piece}
 use Rattle.tptp_token.proofs.NumberLemmas.{number-piece}
 use Rattle.tptp_token.proofs.piece.token_at.Goals as goal

@@ -1,4 +1,4 @@
-use Rattle.std.proofs.Common.{◌≡◌, ◌+◌, ◌<◌, inl, inr, sym, ap, ◌∙◌, arith}
+use Rattle.std.proofs.Common.{◌+◌, inl, inr, sym, ap, ◌∙◌, arith}
 use Rattle.tptp_token.specs.declared.piece.Piece.TheVariants.{Bad}
 use Rattle.tptp_token.proofs.QuoteLemmas.{quote-open, quote-bad, quote-closed, closing}
 use Rattle.tptp_token.proofs.WordLemmas.{suffix}

@@ -1,4 +1,4 @@
-use Rattle.std.proofs.Common.{◌≡◌, sym, ◌∙◌}
+use Rattle.std.proofs.Common.{sym, ◌∙◌}
 use Rattle.tptp_token.proofs.QuoteLemmas.{pair-right, pair-stopped, byte-right, byte-stopped, quote-stopped}
 use Rattle.tptp_token.proofs.quote.unit_length.Goals as goal
 

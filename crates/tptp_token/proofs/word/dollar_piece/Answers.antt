@@ -1,4 +1,4 @@
-use Rattle.std.proofs.Common.{◌≡◌, sym, ◌∙◌, arith}
+use Rattle.std.proofs.Common.{sym, ◌∙◌, arith}
 use Rattle.tptp_token.proofs.WordLemmas.{one_dollar-piece, one_dollar-bad, two_dollars-piece, two_dollars-bad, suffix}
 use Rattle.tptp_token.proofs.word.dollar_piece.Goals as goal
 

@@ -1,4 +1,4 @@
-use Rattle.std.proofs.Common.{◌≡◌, ap, sym, ◌∙◌}
+use Rattle.std.proofs.Common.{ap, sym, ◌∙◌}
 use Rattle.std.proofs.lemmas.Bool.{and_left}
 use Rattle.fol_base.specs.Spelling.{is_lower, is_lower_word}
 use Rattle.tptp_token.specs.Longest.{longest}
