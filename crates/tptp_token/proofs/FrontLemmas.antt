@@ -11,6 +11,7 @@ use Rattle.tptp_token.specs.Lexemes.{Lexeme}
 use Rattle.tptp_token.specs.declared.token.Kind.{Kind}
 use Rattle.tptp_token.specs.declared.token.Kind.TheVariants.{Lower, Variable, Quoted, Dollar, Mark}
 use Rattle.tptp_token.specs.declared.piece.Piece.TheVariants.{Token}
+use Rattle.tptp_token.proofs.TestLemmas.{second-false}
 use Rattle.tptp_token.proofs.LongestLemmas.{longest-none}
 use Rattle.tptp_token.proofs.WordLemmas.{lower-piece, variable-piece, mark-piece, one_dollar-piece, lower_word-length}
 use Rattle.tptp_token.proofs.QuoteLemmas.{fills-step, quote-stopped, quote-closed}
@@ -56,10 +57,6 @@ lower-small b h = let parts = and_parts (nat_le 97 b) (nat_le b 122) h in omega 
 
 upper-small : (b : ℕ) → is_upper b ≡ true → b < 256
 upper-small b h = let parts = and_parts (nat_le 65 b) (nat_le b 90) h in omega (arith, leb-true b 90 parts.1)
-
-second-false : (a b : Bool) → (a && b) ≡ false → a ≡ true → b ≡ false
-second-false true b h e = h
-second-false false b h e = absurd (let t : false ≡ true = e in cc)
 
 lower-no_space : (b : ℕ) → is_lower b ≡ true → may_be_space b ≡ false
 lower-no_space b h =

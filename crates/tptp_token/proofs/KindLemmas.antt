@@ -7,6 +7,7 @@ use Rattle.fol_base.specs.Spelling.{spells, is_lower, is_upper, is_digit, marks,
 use Rattle.tptp_token.specs.Kinds.{spelled_kind, all_kinds, first_kind, is_token, kind_of}
 use Rattle.tptp_token.specs.declared.token.Kind.{Kind}
 use Rattle.tptp_token.specs.declared.token.Kind.TheVariants.{Lower, Variable, Quoted, Distinct, Dollar, Number, Connective, Mark, Other}
+use Rattle.tptp_token.proofs.TestLemmas.{second-false}
 
 -- the first bytes of a kind
 abbrev pub starts : Kind → ℕ → Bool
@@ -101,15 +102,11 @@ list_any-end p (j ∷ kinds) kind h k =
     let e = or_parts (p j) (list_any p kinds) h in
     ap (λ t. t || list_any p (kinds ++ kind ∷ [])) e.0 ∙ list_any-end p kinds kind e.1 k
 
-and-false : (a b : Bool) → (a && b) ≡ false → a ≡ true → b ≡ false
-and-false true b h e = h
-and-false false b h e = absurd (let t : false ≡ true = e in cc)
-
 -- what begins one kind begins none of the others: a table of all bytes
 pub others_apart :
     (kind : Kind) (others : List Kind) (b : ℕ)
     → agree_below (λ x. starts kind x && list_any (λ k. starts k x) others) (λ x. false) 256 ≡ true
     → b < 256 → starts kind b ≡ true → list_any (λ k. starts k b) others ≡ false
 others_apart kind others b table small h =
-    and-false (starts kind b) (list_any (λ k. starts k b) others)
+    second-false (starts kind b) (list_any (λ k. starts k b) others)
     (agree_below_at (λ x. starts kind x && list_any (λ k. starts k x) others) (λ x. false) 256 b table small) h

@@ -1,3 +1,4 @@
+pub mod TestLemmas
 pub mod LongestLemmas
 pub mod KindLemmas
 pub mod CountLemmas

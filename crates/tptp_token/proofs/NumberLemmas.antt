@@ -10,6 +10,7 @@ use Rattle.tptp_token.specs.Kinds.{is_token, follows_digits}
 use Rattle.tptp_token.specs.Pieces.{plain_piece, starts_with_either}
 use Rattle.tptp_token.specs.declared.token.Kind.TheVariants.{Lower, Variable, Quoted, Distinct, Dollar, Number, Connective, Mark, Other}
 use Rattle.tptp_token.specs.declared.piece.Piece.TheVariants.{Token}
+use Rattle.tptp_token.proofs.TestLemmas.{first_passes, first_fails}
 use Rattle.tptp_token.proofs.LongestLemmas.{longest-passes, longest-beyond, longest-none, longest-same, longest-after, longest-behind, longest-all}
 use Rattle.tptp_token.proofs.KindLemmas.{token-only, others_apart}
 use Rattle.tptp_token.proofs.WordLemmas.{only-piece, and-true, or_false, none_begins, no_bytes}
@@ -145,14 +146,6 @@ digits-length bs = by (prefix_len is_digit bs) refl
 -- behind the `E`
 exponent-inside : (e : ℕ) (u : List ℕ) → ((e == 69) || (e == 101)) ≡ true → is_exponent (e ∷ u) ≡ (digits_then is_end u || begins (λ byte. (byte == 43) || (byte == 45)) (digits_then is_end) u)
 exponent-inside e u h = and-true ((e == 69) || (e == 101)) _ h
-
-first_passes : (t : Bool) → (t && true) ≡ true → t ≡ true
-first_passes true h = refl
-first_passes false h = h
-
-first_fails : (t : Bool) → (t && true) ≡ false → t ≡ false
-first_fails true h = h
-first_fails false h = refl
 
 sign-no_digits : (s : ℕ) (u : List ℕ) → ((s == 43) || (s == 45)) ≡ true → digits_then is_end (s ∷ u) ≡ false
 sign-no_digits s u h = and_left (is_digit s) _ (by (is_digit s) refl)

@@ -24,9 +24,6 @@ abbrev pub later : ℕ → Option ℕ → Option ℕ
 later k None = None
 later k (Some n) = Some (n + k)
 
-first_passes : (t : Bool) → t ≡ true → (t && true) ≡ true
-first_passes t e = ap (λ u. u && true) e
-
 pub block-found :
     (bs : List ℕ) (k : ℕ)
     → suc k < length bs → (get_or bs k 0 == 42) ≡ true → (get_or bs (suc k) 0 == 47) ≡ true → block_end (drop k bs) ≡ Some 2

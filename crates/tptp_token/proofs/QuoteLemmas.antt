@@ -11,6 +11,7 @@ use Rattle.tptp_token.specs.Pieces.{plain_piece, quote_fault, filled_length, fil
 use Rattle.tptp_token.specs.declared.token.Kind.{Kind}
 use Rattle.tptp_token.specs.declared.token.Kind.TheVariants.{Lower, Variable, Quoted, Distinct, Dollar, Number, Connective, Mark, Other}
 use Rattle.tptp_token.specs.declared.piece.Piece.TheVariants.{Token, Bad, Unclosed}
+use Rattle.tptp_token.proofs.TestLemmas.{first_passes, first_fails}
 use Rattle.tptp_token.proofs.LongestLemmas.{longest-passes, longest-beyond, longest-within, longest-none, longest-after}
 use Rattle.tptp_token.proofs.KindLemmas.{token-only}
 use Rattle.tptp_token.proofs.WordLemmas.{only-piece, no_token, and-true}
@@ -184,14 +185,6 @@ is_quote-cases quote h =
 no_escape : (quote : ℕ) → is_quote quote ≡ true → (92 == quote) ≡ false
 no_escape quote h =
     ⊎_elim (λ e. ap (λ q. 92 == q) e) (λ e. ap (λ q. 92 == q) e) (is_quote-cases quote h)
-
-first_fails : (t : Bool) → (t && true) ≡ false → t ≡ false
-first_fails true h = h
-first_fails false h = refl
-
-first_passes : (t : Bool) → (t && true) ≡ true → t ≡ true
-first_passes true h = refl
-first_passes false h = h
 
 -- a `\` and the quote, or two `\`
 pub pair-right :

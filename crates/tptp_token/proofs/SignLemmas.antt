@@ -8,17 +8,10 @@ use Rattle.tptp_token.specs.Kinds.{is_token, kind_of}
 use Rattle.tptp_token.specs.Pieces.{plain_piece, starts_with, starts_with_either, quote_fault, filled_length, IsSignStart}
 use Rattle.tptp_token.specs.declared.token.Kind.TheVariants.{Lower, Variable, Quoted, Distinct, Dollar, Number, Connective, Mark, Other}
 use Rattle.tptp_token.specs.declared.piece.Piece.TheVariants.{Token, Bad}
+use Rattle.tptp_token.proofs.TestLemmas.{first_passes, first_fails}
 use Rattle.tptp_token.proofs.LongestLemmas.{longest-is, longest-none}
 use Rattle.tptp_token.proofs.KindLemmas.{starts, token-none, list_any-end}
 use Rattle.tptp_token.proofs.WordLemmas.{token_known, no_token, other-piece}
-
-first_fails : (t : Bool) → (t && true) ≡ false → t ≡ false
-first_fails true h = h
-first_fails false h = refl
-
-first_passes : (t : Bool) → (t && true) ≡ true → t ≡ true
-first_passes true h = refl
-first_passes false h = h
 
 -- one sign that goes on with none that follows it, and is a connective by itself
 one_sign :
