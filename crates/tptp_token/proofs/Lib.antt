@@ -1,0 +1,11 @@
+pub mod TestLemmas
+pub mod LongestLemmas
+pub mod KindLemmas
+pub mod CountLemmas
+pub mod WordLemmas
+pub mod NumberLemmas
+pub mod SignLemmas
+pub mod QuoteLemmas
+pub mod PieceLemmas
+pub mod LexemeLemmas
+pub mod FrontLemmas

@@ -1,0 +1,13 @@
+use Rattle.std.proofs.Common.{sym, ◌∙◌}
+use Rattle.tptp_token.proofs.NumberLemmas.{fraction, fraction-none}
+use Rattle.tptp_token.proofs.WordLemmas.{suffix}
+use Rattle.tptp_token.proofs.number.fraction_length.Goals as goal
+
+pub returns-then-starts_with_either-clause-length : goal.returns-then-starts_with_either-clause-length
+returns-then-starts_with_either-clause-length c =
+    fraction _ _ _ (sym c.starts_with_either.ensures ∙ c.if-starts_with_either.true) (suffix c.args.bytes.now 1)
+    c.counted.ensures.length
+
+pub returns-else-starts_with_either-clause-length : goal.returns-else-starts_with_either-clause-length
+returns-else-starts_with_either-clause-length c =
+    fraction-none _ (sym c.starts_with_either.ensures ∙ c.if-starts_with_either.false)

@@ -1,0 +1,8 @@
+use Rattle.tptp_token.proofs.NumberLemmas.{number-length}
+use Rattle.tptp_token.proofs.WordLemmas.{suffix}
+use Rattle.tptp_token.proofs.number.number_length.Goals as goal
+
+pub returns-clause-length : goal.returns-clause-length
+returns-clause-length c =
+    number-length _ _ _ _ _ _ _ c.requires c.digit_count-whole.ensures.length (suffix c.args.rest.now c.digit_count-whole.result)
+    c.fraction_length-part.ensures.length (suffix _ c.fraction_length-part.result) c.exponent_length.ensures.length

@@ -1,0 +1,14 @@
+use Rattle.std.proofs.Common.{rules, tests, ◌∙◌, ap, length, not, unwrap_or}
+use Rattle.std.proofs.lemmas.Iterator.{YieldsList-from_slice}
+use Rattle.std.proofs.lemmas.Iterator.Search.{position_from_yields_List}
+use Rattle.fol_base.specs.Spelling.{is_digit}
+use Rattle.tptp_token.proofs.CountLemmas.{unwrap_or-position, not-not}
+use Rattle.tptp_token.proofs.word.digit_count.Goals as goal
+
+pub returns-clause-length : goal.returns-clause-length
+returns-clause-length c =
+    c.unwrap_or.ensures
+    ∙ ap (λ o. unwrap_or o (length c.args.bytes.now))
+    (position_from_yields_List (λ b. not (is_digit b)) _ _ _ c.position.ensures.ran (YieldsList-from_slice c.args.bytes.now cc)
+    (λ x b q k. search (rules, tests)))
+    ∙ unwrap_or-position (λ b. not (is_digit b)) is_digit c.args.bytes.now (λ x. not-not (is_digit x))

@@ -1,0 +1,22 @@
+// The tokens of TPTP's texts, up to the first fault.
+#![tactic(auto)]
+
+mod byte;
+mod comment;
+pub mod laws;
+mod number;
+mod piece;
+mod quote;
+mod scan;
+mod sign;
+#[cfg(test)]
+mod tests;
+mod token;
+mod word;
+
+#[cfg(test)]
+use plain_types::Mem;
+pub use scan::tokens;
+#[cfg(test)]
+use std::alloc::Global;
+pub use token::{Kind, LexFault, Lexed, Token, Tokens};

@@ -1,0 +1,40 @@
+-- A printed text spells again what some text spells.
+use Rattle.std.proofs.Common.{◌≡◌, ℕ, List, [], ◌∷◌, ◌++◌, ap, sym, ◌∙◌, subst, append-nil}
+use Rattle.tptp_token.specs.Lexemes.{Lexeme, IsLexedAs}
+use Rattle.tptp_token.proofs.LexemeLemmas.{Lexes, lexes-whole, lexes-nothing}
+use Rattle.tptp_tree.specs.Formula.{FormulaTree}
+use Rattle.tptp_tree.specs.Printing.{name_text, formula_text}
+use Rattle.tptp_tree.specs.Spelling.{word_lexeme, name_of, phrase_lexemes, meant, SpellsName, SpellsFormula}
+use Rattle.tptp_tree.proofs.NameLemmas.{WellName, word_of, name_of-word_of, name-lexes}
+use Rattle.tptp_tree.proofs.CanonicalLemmas.{WellFormula, phrase_of, formula-meant}
+use Rattle.tptp_tree.proofs.LexingLemmas.{formula-lexes}
+use Rattle.tptp_tree.proofs.UniqueLemmas.{one_phrase, one_word}
+use Rattle.tptp_tree.proofs.WellLemmas.{text-spelled, word-well, spelled-well}
+
+pub name-again : (printed other name : List ℕ) → printed ≡ name_text name → SpellsName other name → SpellsName printed name
+name-again printed other name e s =
+    let well : WellName name = subst WellName s.2 (word-well s.0 (text-spelled other (word_lexeme s.0 ∷ []) s.1).0) in
+    let lexes = name-lexes name [] [] well tt lexes-nothing in (
+      word_of name,
+      subst (λ us. IsLexedAs us (word_lexeme (word_of name) ∷ [])) (append-nil (name_text name) ∙ sym e)
+          (lexes-whole (name_text name ++ []) (word_lexeme (word_of name) ∷ []) lexes),
+      name_of-word_of name,
+    )
+
+pub formula-again :
+    (printed other : List ℕ) (f : FormulaTree) → printed ≡ formula_text f → SpellsFormula other f → SpellsFormula printed f
+formula-again printed other f e s =
+    let well : WellFormula f = subst WellFormula s.2 (spelled-well other s.0 s.1) in
+    let lexes = formula-lexes f well [] [] tt lexes-nothing in (
+      phrase_of f,
+      subst (λ us. IsLexedAs us (phrase_lexemes (phrase_of f) [])) (append-nil (formula_text f) ∙ sym e)
+          (lexes-whole (formula_text f ++ []) (phrase_lexemes (phrase_of f) []) lexes),
+      formula-meant f well,
+    )
+
+-- two formulas that one text spells are one
+pub one_formula : (text : List ℕ) (f g : FormulaTree) → SpellsFormula text f → SpellsFormula text g → f ≡ g
+one_formula text f g s t = sym s.2 ∙ ap meant (one_phrase s.0 t.0 (sym s.1.tokens ∙ t.1.tokens)) ∙ t.2
+
+pub one_name : (text name other : List ℕ) → SpellsName text name → SpellsName text other → name ≡ other
+one_name text name other s t = sym s.2 ∙ ap name_of (one_word s.0 t.0 (sym s.1.tokens ∙ t.1.tokens)) ∙ t.2

@@ -1,0 +1,550 @@
+-- A list of tokens is that of at most one phrase.
+use Rattle.std.proofs.Common.{◌≡◌, ℕ, None, Some, Option, Bool, true, false, ◌&&◌, List, [], ◌∷◌, codes, refl, ap, ap₂, sym, ◌∙◌, subst, bytes_eq}
+use Rattle.std.specs.Prelude.{if◌then◌else◌}
+use Rattle.tptp_token.specs.Lexemes.{Lexeme}
+use Rattle.tptp_token.specs.declared.token.Kind.{Kind}
+use Rattle.tptp_token.specs.declared.token.Kind.TheVariants.{Lower, Variable, Quoted, Distinct, Dollar, Number, Connective, Mark, Other}
+use Rattle.tptp_tree.specs.Formula.{BinaryConnective, implies, implied, equivalent, different, nor, nand, Quantifier, for_all, exists_some}
+use Rattle.tptp_tree.specs.Spelling.{Word, bare, quoted, lexeme, word_lexeme, TermPhrase, variable_word, word_with, TermPhrases, no_phrases, phrase_then, term_lexemes, arguments_lexemes, more_arguments_lexemes, Atom, true_atom, false_atom, predicate_atom, equation_atom, equals_lexeme, atom_lexemes, Variables, UnitPhrase, negated, bound, in_brackets, atomic, UnitPhrases, no_units, unit_then, Phrase, alone, all_of, some_of, joined_by, connective_lexeme, quantifier_lexeme, more_variables_lexemes, variables_lexemes, unit_lexemes, units_lexemes, phrase_lexemes}
+
+-- ---- what the first token tells
+
+tail-same : (l m : Lexeme) (ls ms : List Lexeme) → l ∷ ls ≡ m ∷ ms → ls ≡ ms
+tail-same l m ls ms e = cc
+
+head-same : (l m : Lexeme) (ls ms : List Lexeme) → l ∷ ls ≡ m ∷ ms → l ≡ m
+head-same l m ls ms e = cc
+
+-- the first token has these bytes
+abbrev first_is : List ℕ → List Lexeme → Bool
+first_is bytes [] = false
+first_is bytes (l ∷ ls) = bytes_eq l.bytes bytes
+
+-- the sign of an equation
+abbrev first_equals : List Lexeme → Option Bool
+first_equals ls = if first_is (codes "=") ls then Some true else (if first_is (codes "!=") ls then Some false else None)
+
+data Joint : Type 0 where
+  nothing : Joint
+  ands : Joint
+  ors : Joint
+  two_by : BinaryConnective → Joint
+
+-- the connective between operands
+abbrev first_joint : List Lexeme → Joint
+first_joint ls =
+    if first_is (codes "&") ls then ands
+    else (if first_is (codes "|") ls then ors
+    else (if first_is (codes "=>") ls then two_by implies
+    else (if first_is (codes "<=") ls then two_by implied
+    else (if first_is (codes "<=>") ls then two_by equivalent
+    else (if first_is (codes "<~>") ls then two_by different
+    else (if first_is (codes "~|") ls then two_by nor else (if first_is (codes "~&") ls then two_by nand else nothing)))))))
+
+record EndsUnit (ls : List Lexeme) : Type 0 where
+  flat : first_is (codes "(") ls ≡ false
+  alone_here : first_equals ls ≡ None
+
+record EndsPhrase (ls : List Lexeme) : Type 0 where
+  unit : EndsUnit ls
+  last : first_joint ls ≡ nothing
+
+-- ---- words and terms
+
+word-same : (w v : Word) → word_lexeme w ≡ word_lexeme v → w ≡ v
+word-same (bare x) (bare y) e = ap (λ (l : Lexeme). bare l.bytes) e
+word-same (bare x) (quoted y) e = absurd (let k : Lower ≡ Quoted = ap (λ (l : Lexeme). l.kind) e in cc)
+word-same (quoted x) (bare y) e = absurd (let k : Quoted ≡ Lower = ap (λ (l : Lexeme). l.kind) e in cc)
+word-same (quoted x) (quoted y) e = ap (λ (l : Lexeme). quoted l.bytes) e
+
+word-no_variable : (w : Word) (x : List ℕ) → word_lexeme w ≡ lexeme Variable x → ⊥
+word-no_variable (bare y) x e = let k : Lower ≡ Variable = ap (λ (l : Lexeme). l.kind) e in cc
+word-no_variable (quoted y) x e = let k : Quoted ≡ Variable = ap (λ (l : Lexeme). l.kind) e in cc
+
+more_arguments-flat : (ts : TermPhrases) (ls : List Lexeme) → first_is (codes "(") (more_arguments_lexemes ts ls) ≡ false
+more_arguments-flat no_phrases ls = refl
+more_arguments-flat (phrase_then t ts) ls = refl
+
+mutual
+  term-same :
+      (t u : TermPhrase) (ls ms : List Lexeme)
+      → first_is (codes "(") ls ≡ false → first_is (codes "(") ms ≡ false → term_lexemes t ls ≡ term_lexemes u ms
+      → (t ≡ u) × (ls ≡ ms)
+  term-same (variable_word x) (variable_word y) ls ms h k e = (
+    ap (λ (l : Lexeme). variable_word l.bytes) (head-same (lexeme Variable x) (lexeme Variable y) ls ms e),
+    tail-same (lexeme Variable x) (lexeme Variable y) ls ms e,
+  )
+  term-same (variable_word x) (word_with v us) ls ms h k e =
+      absurd (word-no_variable v x (sym (head-same (lexeme Variable x) (word_lexeme v) ls (arguments_lexemes us ms) e)))
+  term-same (word_with w ts) (variable_word y) ls ms h k e =
+      absurd (word-no_variable w y (head-same (word_lexeme w) (lexeme Variable y) (arguments_lexemes ts ls) ms e))
+  term-same (word_with w ts) (word_with v us) ls ms h k e =
+      let word = word-same w v (head-same (word_lexeme w) (word_lexeme v) (arguments_lexemes ts ls) (arguments_lexemes us ms) e) in
+      let more = arguments-same ts us ls ms h k (tail-same (word_lexeme w) (word_lexeme v) (arguments_lexemes ts ls) (arguments_lexemes us ms) e) in
+      (ap₂ word_with word more.0, more.1)
+
+  arguments-same :
+      (ts us : TermPhrases) (ls ms : List Lexeme)
+      → first_is (codes "(") ls ≡ false → first_is (codes "(") ms ≡ false → arguments_lexemes ts ls ≡ arguments_lexemes us ms
+      → (ts ≡ us) × (ls ≡ ms)
+  arguments-same no_phrases no_phrases ls ms h k e = (refl, e)
+  arguments-same no_phrases (phrase_then u us) ls ms h k e =
+      absurd (let t : false ≡ true = sym h ∙ ap (first_is (codes "(")) e in cc)
+  arguments-same (phrase_then t ts) no_phrases ls ms h k e =
+      absurd (let f : true ≡ false = ap (first_is (codes "(")) e ∙ k in cc)
+  arguments-same (phrase_then t ts) (phrase_then u us) ls ms h k e =
+      let first =
+      term-same t u (more_arguments_lexemes ts ls) (more_arguments_lexemes us ms) (more_arguments-flat ts ls) (more_arguments-flat us ms)
+      (tail-same (lexeme Mark (codes "(")) (lexeme Mark (codes "(")) (term_lexemes t (more_arguments_lexemes ts ls)) (term_lexemes u (more_arguments_lexemes us ms)) e) in
+      let more = more_arguments-same ts us ls ms first.1 in
+      (ap₂ phrase_then first.0 more.0, more.1)
+
+  more_arguments-same :
+      (ts us : TermPhrases) (ls ms : List Lexeme)
+      → more_arguments_lexemes ts ls ≡ more_arguments_lexemes us ms → (ts ≡ us) × (ls ≡ ms)
+  more_arguments-same no_phrases no_phrases ls ms e =
+      (refl, tail-same (lexeme Mark (codes ")")) (lexeme Mark (codes ")")) ls ms e)
+  more_arguments-same no_phrases (phrase_then u us) ls ms e =
+      absurd (let t : false ≡ true = ap (first_is (codes ",")) e in cc)
+  more_arguments-same (phrase_then t ts) no_phrases ls ms e =
+      absurd (let f : true ≡ false = ap (first_is (codes ",")) e in cc)
+  more_arguments-same (phrase_then t ts) (phrase_then u us) ls ms e =
+      let first =
+      term-same t u (more_arguments_lexemes ts ls) (more_arguments_lexemes us ms) (more_arguments-flat ts ls) (more_arguments-flat us ms)
+      (tail-same (lexeme Mark (codes ",")) (lexeme Mark (codes ",")) (term_lexemes t (more_arguments_lexemes ts ls)) (term_lexemes u (more_arguments_lexemes us ms)) e) in
+      let more = more_arguments-same ts us ls ms first.1 in
+      (ap₂ phrase_then first.0 more.0, more.1)
+
+-- ---- atoms
+
+-- `$true`, `$false`, or a word or a variable
+data Start : Type 0 where
+  true_start : Start
+  false_start : Start
+  other_start : Start
+
+abbrev dollar_start : List ℕ → Start
+dollar_start bytes = if bytes_eq bytes (codes "$true") then true_start else false_start
+
+abbrev kind_start : Kind → List ℕ → Start
+kind_start Lower bytes = other_start
+kind_start Variable bytes = other_start
+kind_start Quoted bytes = other_start
+kind_start Distinct bytes = other_start
+kind_start Dollar bytes = dollar_start bytes
+kind_start Number bytes = other_start
+kind_start Connective bytes = other_start
+kind_start Mark bytes = other_start
+kind_start Other bytes = other_start
+
+abbrev first_start : List Lexeme → Start
+first_start [] = other_start
+first_start (l ∷ ls) = kind_start l.kind l.bytes
+
+abbrev atom_start : Atom → Start
+atom_start true_atom = true_start
+atom_start false_atom = false_start
+atom_start (predicate_atom w ts) = other_start
+atom_start (equation_atom positive s t) = other_start
+
+word-start : (w : Word) (ls : List Lexeme) → first_start (word_lexeme w ∷ ls) ≡ other_start
+word-start (bare x) ls = refl
+word-start (quoted x) ls = refl
+
+term-start : (t : TermPhrase) (ls : List Lexeme) → first_start (term_lexemes t ls) ≡ other_start
+term-start (variable_word x) ls = refl
+term-start (word_with w ts) ls = word-start w (arguments_lexemes ts ls)
+
+atom-start : (a : Atom) (ls : List Lexeme) → first_start (atom_lexemes a ls) ≡ atom_start a
+atom-start true_atom ls = refl
+atom-start false_atom ls = refl
+atom-start (predicate_atom w ts) ls = word-start w (arguments_lexemes ts ls)
+atom-start (equation_atom positive s t) ls = term-start s (equals_lexeme positive ∷ term_lexemes t ls)
+
+equals-flat : (positive : Bool) (ls : List Lexeme) → first_is (codes "(") (equals_lexeme positive ∷ ls) ≡ false
+equals-flat true ls = refl
+equals-flat false ls = refl
+
+equals-first : (positive : Bool) (ls : List Lexeme) → first_equals (equals_lexeme positive ∷ ls) ≡ Some positive
+equals-first true ls = refl
+equals-first false ls = refl
+
+-- an atom of a predicate is no equation
+mixed :
+    (w : Word) (ts : TermPhrases) (positive : Bool) (s t : TermPhrase) (ls ms : List Lexeme)
+    → EndsUnit ls → word_lexeme w ∷ arguments_lexemes ts ls ≡ term_lexemes s (equals_lexeme positive ∷ term_lexemes t ms) → ⊥
+mixed w ts positive (variable_word x) t ls ms h e =
+    word-no_variable w x (head-same (word_lexeme w) (lexeme Variable x) (arguments_lexemes ts ls) (equals_lexeme positive ∷ term_lexemes t ms) e)
+mixed w ts positive (word_with v us) t ls ms h e =
+    let same =
+    arguments-same ts us ls (equals_lexeme positive ∷ term_lexemes t ms) h.flat (equals-flat positive (term_lexemes t ms))
+    (tail-same (word_lexeme w) (word_lexeme v) (arguments_lexemes ts ls) (arguments_lexemes us (equals_lexeme positive ∷ term_lexemes t ms)) e) in
+    let x : None ≡ Some positive = sym h.alone_here ∙ ap first_equals same.1 ∙ equals-first positive (term_lexemes t ms) in
+    cc
+
+atom-same :
+    (a b : Atom) (ls ms : List Lexeme)
+    → EndsUnit ls → EndsUnit ms → atom_start a ≡ atom_start b → atom_lexemes a ls ≡ atom_lexemes b ms → (a ≡ b) × (ls ≡ ms)
+atom-same true_atom true_atom ls ms h k s e = (refl, tail-same (lexeme Dollar (codes "$true")) (lexeme Dollar (codes "$true")) ls ms e)
+atom-same true_atom false_atom ls ms h k s e = absurd (cc)
+atom-same true_atom (predicate_atom v us) ls ms h k s e = absurd (cc)
+atom-same true_atom (equation_atom n p q) ls ms h k s e = absurd (cc)
+atom-same false_atom true_atom ls ms h k s e = absurd (cc)
+atom-same false_atom false_atom ls ms h k s e = (refl, tail-same (lexeme Dollar (codes "$false")) (lexeme Dollar (codes "$false")) ls ms e)
+atom-same false_atom (predicate_atom v us) ls ms h k s e = absurd (cc)
+atom-same false_atom (equation_atom n p q) ls ms h k s e = absurd (cc)
+atom-same (predicate_atom w ts) true_atom ls ms h k s e = absurd (cc)
+atom-same (predicate_atom w ts) false_atom ls ms h k s e = absurd (cc)
+atom-same (predicate_atom w ts) (predicate_atom v us) ls ms h k s e =
+    let word = word-same w v (head-same (word_lexeme w) (word_lexeme v) (arguments_lexemes ts ls) (arguments_lexemes us ms) e) in
+    let more = arguments-same ts us ls ms h.flat k.flat (tail-same (word_lexeme w) (word_lexeme v) (arguments_lexemes ts ls) (arguments_lexemes us ms) e) in
+    (ap₂ predicate_atom word more.0, more.1)
+atom-same (predicate_atom w ts) (equation_atom n p q) ls ms h k s e = absurd (mixed w ts n p q ls ms h e)
+atom-same (equation_atom m x y) true_atom ls ms h k s e = absurd (cc)
+atom-same (equation_atom m x y) false_atom ls ms h k s e = absurd (cc)
+atom-same (equation_atom m x y) (predicate_atom v us) ls ms h k s e = absurd (mixed v us m x y ms ls k (sym e))
+atom-same (equation_atom m x y) (equation_atom n p q) ls ms h k s e =
+    let left =
+    term-same x p (equals_lexeme m ∷ term_lexemes y ls) (equals_lexeme n ∷ term_lexemes q ms) (equals-flat m (term_lexemes y ls)) (equals-flat n (term_lexemes q ms)) e in
+    let sign : Some m ≡ Some n = sym (equals-first m (term_lexemes y ls)) ∙ ap first_equals left.1 ∙ equals-first n (term_lexemes q ms) in
+    let right = term-same y q ls ms h.flat k.flat (tail-same (equals_lexeme m) (equals_lexeme n) (term_lexemes y ls) (term_lexemes q ms) left.1) in
+    let signs : m ≡ n = cc in
+    (ap (λ b. equation_atom b x y) signs ∙ ap₂ (equation_atom n) left.0 right.0, right.1)
+
+-- ---- variables
+
+more_variables-same :
+    (xs ys : List (List ℕ)) (ls ms : List Lexeme)
+    → more_variables_lexemes xs (lexeme Mark (codes "]") ∷ ls) ≡ more_variables_lexemes ys (lexeme Mark (codes "]") ∷ ms)
+    → (xs ≡ ys) × (ls ≡ ms)
+more_variables-same [] [] ls ms e = (refl, tail-same (lexeme Mark (codes "]")) (lexeme Mark (codes "]")) ls ms e)
+more_variables-same [] (y ∷ ys) ls ms e = absurd (let t : false ≡ true = ap (first_is (codes ",")) e in cc)
+more_variables-same (x ∷ xs) [] ls ms e = absurd (let t : true ≡ false = ap (first_is (codes ",")) e in cc)
+more_variables-same (x ∷ xs) (y ∷ ys) ls ms e =
+    let inner =
+    tail-same (lexeme Mark (codes ",")) (lexeme Mark (codes ",")) (lexeme Variable x ∷ more_variables_lexemes xs (lexeme Mark (codes "]") ∷ ls))
+    (lexeme Variable y ∷ more_variables_lexemes ys (lexeme Mark (codes "]") ∷ ms)) e in
+    let first =
+    head-same (lexeme Variable x) (lexeme Variable y) (more_variables_lexemes xs (lexeme Mark (codes "]") ∷ ls))
+    (more_variables_lexemes ys (lexeme Mark (codes "]") ∷ ms)) inner in
+    let more =
+    more_variables-same xs ys ls ms
+    (tail-same (lexeme Variable x) (lexeme Variable y) (more_variables_lexemes xs (lexeme Mark (codes "]") ∷ ls))
+    (more_variables_lexemes ys (lexeme Mark (codes "]") ∷ ms)) inner) in
+    (ap₂ (λ z zs. z ∷ zs) (ap (λ (l : Lexeme). l.bytes) first) more.0, more.1)
+
+variables-same :
+    (xs ys : Variables) (ls ms : List Lexeme)
+    → variables_lexemes xs (lexeme Mark (codes "]") ∷ ls) ≡ variables_lexemes ys (lexeme Mark (codes "]") ∷ ms)
+    → (xs ≡ ys) × (ls ≡ ms)
+variables-same xs ys ls ms e =
+    let first =
+    head-same (lexeme Variable xs.first) (lexeme Variable ys.first) (more_variables_lexemes xs.others (lexeme Mark (codes "]") ∷ ls))
+    (more_variables_lexemes ys.others (lexeme Mark (codes "]") ∷ ms)) e in
+    let more =
+    more_variables-same xs.others ys.others ls ms
+    (tail-same (lexeme Variable xs.first) (lexeme Variable ys.first) (more_variables_lexemes xs.others (lexeme Mark (codes "]") ∷ ls))
+    (more_variables_lexemes ys.others (lexeme Mark (codes "]") ∷ ms)) e) in
+    (ap₂ (λ z zs. record { first = z; others = zs }) (ap (λ (l : Lexeme). l.bytes) first) more.0, more.1)
+
+-- ---- units
+
+data UnitStart : Type 0 where
+  tilde : UnitStart
+  quantifier : Quantifier → UnitStart
+  bracket : UnitStart
+  atom_of : Start → UnitStart
+
+abbrev sign_start : List ℕ → UnitStart
+sign_start bytes =
+    if bytes_eq bytes (codes "~") then tilde else (if bytes_eq bytes (codes "!") then quantifier for_all else quantifier exists_some)
+
+abbrev lexeme_start : Kind → List ℕ → UnitStart
+lexeme_start Lower bytes = atom_of other_start
+lexeme_start Variable bytes = atom_of other_start
+lexeme_start Quoted bytes = atom_of other_start
+lexeme_start Distinct bytes = atom_of other_start
+lexeme_start Dollar bytes = atom_of (dollar_start bytes)
+lexeme_start Number bytes = atom_of other_start
+lexeme_start Connective bytes = sign_start bytes
+lexeme_start Mark bytes = bracket
+lexeme_start Other bytes = atom_of other_start
+
+abbrev first_unit : List Lexeme → UnitStart
+first_unit [] = bracket
+first_unit (l ∷ ls) = lexeme_start l.kind l.bytes
+
+abbrev unit_start : UnitPhrase → UnitStart
+unit_start (negated u) = tilde
+unit_start (bound q xs u) = quantifier q
+unit_start (in_brackets p) = bracket
+unit_start (atomic a) = atom_of (atom_start a)
+
+word-unit : (w : Word) (ls : List Lexeme) → first_unit (word_lexeme w ∷ ls) ≡ atom_of other_start
+word-unit (bare x) ls = refl
+word-unit (quoted x) ls = refl
+
+term-unit : (t : TermPhrase) (ls : List Lexeme) → first_unit (term_lexemes t ls) ≡ atom_of other_start
+term-unit (variable_word x) ls = refl
+term-unit (word_with w ts) ls = word-unit w (arguments_lexemes ts ls)
+
+unit-start : (u : UnitPhrase) (ls : List Lexeme) → first_unit (unit_lexemes u ls) ≡ unit_start u
+unit-start (negated u) ls = refl
+unit-start (bound for_all xs u) ls = refl
+unit-start (bound exists_some xs u) ls = refl
+unit-start (in_brackets p) ls = refl
+unit-start (atomic true_atom) ls = refl
+unit-start (atomic false_atom) ls = refl
+unit-start (atomic (predicate_atom w ts)) ls = word-unit w (arguments_lexemes ts ls)
+unit-start (atomic (equation_atom positive s t)) ls = term-unit s (equals_lexeme positive ∷ term_lexemes t ls)
+
+starts-same :
+    (u v : UnitPhrase) (ls ms : List Lexeme) → unit_lexemes u ls ≡ unit_lexemes v ms → unit_start u ≡ unit_start v
+starts-same u v ls ms e = sym (unit-start u ls) ∙ ap first_unit e ∙ unit-start v ms
+
+-- ---- what stands behind an operand
+
+abbrev joint_lexeme : Joint → Lexeme
+joint_lexeme nothing = lexeme Mark []
+joint_lexeme ands = lexeme Connective (codes "&")
+joint_lexeme ors = lexeme Connective (codes "|")
+joint_lexeme (two_by c) = connective_lexeme c
+
+joint-first : (c : BinaryConnective) (ls : List Lexeme) → first_joint (connective_lexeme c ∷ ls) ≡ two_by c
+joint-first implies ls = refl
+joint-first implied ls = refl
+joint-first equivalent ls = refl
+joint-first different ls = refl
+joint-first nor ls = refl
+joint-first nand ls = refl
+
+connective-ends : (c : BinaryConnective) (ls : List Lexeme) → EndsUnit (connective_lexeme c ∷ ls)
+connective-ends implies ls = record { flat = refl; alone_here = refl }
+connective-ends implied ls = record { flat = refl; alone_here = refl }
+connective-ends equivalent ls = record { flat = refl; alone_here = refl }
+connective-ends different ls = record { flat = refl; alone_here = refl }
+connective-ends nor ls = record { flat = refl; alone_here = refl }
+connective-ends nand ls = record { flat = refl; alone_here = refl }
+
+and-ends : (ls : List Lexeme) → EndsUnit (lexeme Connective (codes "&") ∷ ls)
+and-ends ls = record { flat = refl; alone_here = refl }
+
+or-ends : (ls : List Lexeme) → EndsUnit (lexeme Connective (codes "|") ∷ ls)
+or-ends ls = record { flat = refl; alone_here = refl }
+
+closed-ends : (ls : List Lexeme) → EndsPhrase (lexeme Mark (codes ")") ∷ ls)
+closed-ends ls = record { unit = record { flat = refl; alone_here = refl }; last = refl }
+
+-- the operand before the rest of a phrase
+abbrev first_operand : Phrase → UnitPhrase
+first_operand (alone u) = u
+first_operand (all_of u v us) = u
+first_operand (some_of u v us) = u
+first_operand (joined_by c u v) = u
+
+abbrev joint_of : Phrase → Joint
+joint_of (alone u) = nothing
+joint_of (all_of u v us) = ands
+joint_of (some_of u v us) = ors
+joint_of (joined_by c u v) = two_by c
+
+abbrev rest_lexemes : Phrase → List Lexeme → List Lexeme
+rest_lexemes (alone u) ls = ls
+rest_lexemes (all_of u v us) ls = units_lexemes (lexeme Connective (codes "&")) (unit_then v us) ls
+rest_lexemes (some_of u v us) ls = units_lexemes (lexeme Connective (codes "|")) (unit_then v us) ls
+rest_lexemes (joined_by c u v) ls = connective_lexeme c ∷ unit_lexemes v ls
+
+split-phrase : (p : Phrase) (ls : List Lexeme) → phrase_lexemes p ls ≡ unit_lexemes (first_operand p) (rest_lexemes p ls)
+split-phrase (alone u) ls = refl
+split-phrase (all_of u v us) ls = refl
+split-phrase (some_of u v us) ls = refl
+split-phrase (joined_by c u v) ls = refl
+
+rest-ends : (p : Phrase) (ls : List Lexeme) → EndsPhrase ls → EndsUnit (rest_lexemes p ls)
+rest-ends (alone u) ls h = h.unit
+rest-ends (all_of u v us) ls h = and-ends _
+rest-ends (some_of u v us) ls h = or-ends _
+rest-ends (joined_by c u v) ls h = connective-ends c _
+
+rest-joint : (p : Phrase) (ls : List Lexeme) → EndsPhrase ls → first_joint (rest_lexemes p ls) ≡ joint_of p
+rest-joint (alone u) ls h = h.last
+rest-joint (all_of u v us) ls h = refl
+rest-joint (some_of u v us) ls h = refl
+rest-joint (joined_by c u v) ls h = joint-first c (unit_lexemes v ls)
+
+-- operands each with one sign before it
+units-ends :
+    (one : Lexeme) (us : UnitPhrases) (ls : List Lexeme)
+    → ((ms : List Lexeme) → EndsUnit (one ∷ ms)) → EndsUnit ls → EndsUnit (units_lexemes one us ls)
+units-ends one no_units ls s h = h
+units-ends one (unit_then u us) ls s h = s (unit_lexemes u (units_lexemes one us ls))
+
+joints :
+    (p q : Phrase) (ls ms : List Lexeme)
+    → EndsPhrase ls → EndsPhrase ms → rest_lexemes p ls ≡ rest_lexemes q ms → joint_of p ≡ joint_of q
+joints p q ls ms h k e = sym (rest-joint p ls h) ∙ ap first_joint e ∙ rest-joint q ms k
+
+ands-some : ands ≡ nothing → ⊥
+ands-some e = cc
+
+ors-some : ors ≡ nothing → ⊥
+ors-some e = cc
+
+pair-same : (u v u2 v2 : UnitPhrase) → u ≡ v → u2 ≡ v2 → (let x : UnitPhrase × UnitPhrase = (u, u2) in x) ≡ (v, v2)
+pair-same u v u2 v2 e f = ap₂ (λ x y. let z : UnitPhrase × UnitPhrase = (x, y) in z) e f
+
+mutual
+  unit-same :
+      (u v : UnitPhrase) (ls ms : List Lexeme)
+      → EndsUnit ls → EndsUnit ms → unit_start u ≡ unit_start v → unit_lexemes u ls ≡ unit_lexemes v ms → (u ≡ v) × (ls ≡ ms)
+  unit-same (negated u) (negated v) ls ms h k s e =
+      let inner = tail-same (lexeme Connective (codes "~")) (lexeme Connective (codes "~")) (unit_lexemes u ls) (unit_lexemes v ms) e in
+      let same = unit-same u v ls ms h k (starts-same u v ls ms inner) inner in (ap negated same.0, same.1)
+  unit-same (negated u) (bound r ys v) ls ms h k s e = absurd (cc)
+  unit-same (negated u) (in_brackets q) ls ms h k s e = absurd (cc)
+  unit-same (negated u) (atomic b) ls ms h k s e = absurd (cc)
+  unit-same (bound q xs u) (negated v) ls ms h k s e = absurd (cc)
+  unit-same (bound q xs u) (bound r ys v) ls ms h k s e =
+      let quantifiers : q ≡ r = cc in
+      let after_quantifier = tail-same (quantifier_lexeme q) (quantifier_lexeme r) _ _ e in
+      let inside = tail-same (lexeme Mark (codes "[")) (lexeme Mark (codes "[")) _ _ after_quantifier in
+      let variables =
+      variables-same xs ys (lexeme Mark (codes ":") ∷ unit_lexemes u ls) (lexeme Mark (codes ":") ∷ unit_lexemes v ms) inside in
+      let body = tail-same (lexeme Mark (codes ":")) (lexeme Mark (codes ":")) (unit_lexemes u ls) (unit_lexemes v ms) variables.1 in
+      let same = unit-same u v ls ms h k (starts-same u v ls ms body) body in
+      (ap (λ x. bound x xs u) quantifiers ∙ ap₂ (bound r) variables.0 same.0, same.1)
+  unit-same (bound q xs u) (in_brackets p) ls ms h k s e = absurd (cc)
+  unit-same (bound q xs u) (atomic b) ls ms h k s e = absurd (cc)
+  unit-same (in_brackets p) (negated v) ls ms h k s e = absurd (cc)
+  unit-same (in_brackets p) (bound r ys v) ls ms h k s e = absurd (cc)
+  unit-same (in_brackets p) (in_brackets q) ls ms h k s e =
+      let inner = tail-same (lexeme Mark (codes "(")) (lexeme Mark (codes "(")) _ _ e in
+      let same =
+      phrase-same p q (lexeme Mark (codes ")") ∷ ls) (lexeme Mark (codes ")") ∷ ms) (closed-ends ls) (closed-ends ms) inner in
+      (ap in_brackets same.0, tail-same (lexeme Mark (codes ")")) (lexeme Mark (codes ")")) ls ms same.1)
+  unit-same (in_brackets p) (atomic b) ls ms h k s e = absurd (cc)
+  unit-same (atomic a) (negated v) ls ms h k s e = absurd (cc)
+  unit-same (atomic a) (bound r ys v) ls ms h k s e = absurd (cc)
+  unit-same (atomic a) (in_brackets q) ls ms h k s e = absurd (cc)
+  unit-same (atomic a) (atomic b) ls ms h k s e =
+      let starts : atom_start a ≡ atom_start b = cc in
+      let same = atom-same a b ls ms h k starts e in (ap atomic same.0, same.1)
+
+  units-same :
+      (one : Lexeme) (joint : Joint) (us vs : UnitPhrases) (ls ms : List Lexeme)
+      → ((ns : List Lexeme) → EndsUnit (one ∷ ns)) → ((ns : List Lexeme) → first_joint (one ∷ ns) ≡ joint) → (joint ≡ nothing → ⊥)
+      → EndsPhrase ls → EndsPhrase ms → units_lexemes one us ls ≡ units_lexemes one vs ms → (us ≡ vs) × (ls ≡ ms)
+  units-same one joint no_units no_units ls ms f j n h k e = (refl, e)
+  units-same one joint no_units (unit_then v vs) ls ms f j n h k e =
+      absurd (n (sym (j (unit_lexemes v (units_lexemes one vs ms))) ∙ ap first_joint (sym e) ∙ h.last))
+  units-same one joint (unit_then u us) no_units ls ms f j n h k e =
+      absurd (n (sym (j (unit_lexemes u (units_lexemes one us ls))) ∙ ap first_joint e ∙ k.last))
+  units-same one joint (unit_then u us) (unit_then v vs) ls ms f j n h k e =
+      let inner = tail-same one one (unit_lexemes u (units_lexemes one us ls)) (unit_lexemes v (units_lexemes one vs ms)) e in
+      let first =
+      unit-same u v (units_lexemes one us ls) (units_lexemes one vs ms) (units-ends one us ls f h.unit) (units-ends one vs ms f k.unit)
+      (starts-same u v (units_lexemes one us ls) (units_lexemes one vs ms) inner) inner in
+      let more = units-same one joint us vs ls ms f j n h k first.1 in (ap₂ unit_then first.0 more.0, more.1)
+
+  phrase-same :
+      (p q : Phrase) (ls ms : List Lexeme)
+      → EndsPhrase ls → EndsPhrase ms → phrase_lexemes p ls ≡ phrase_lexemes q ms → (p ≡ q) × (ls ≡ ms)
+  phrase-same (alone u) (alone v) ls ms h k e =
+      let same = unit-same u v ls ms h.unit k.unit (starts-same u v ls ms e) e in (ap alone same.0, same.1)
+  phrase-same (alone u) (all_of v v2 vs) ls ms h k e =
+      let first =
+      unit-same u v (rest_lexemes (alone u) ls) (rest_lexemes (all_of v v2 vs) ms) (rest-ends (alone u) ls h) (rest-ends (all_of v v2 vs) ms k)
+      (starts-same u v (rest_lexemes (alone u) ls) (rest_lexemes (all_of v v2 vs) ms) e) e in
+      let joint : nothing ≡ ands = joints (alone u) (all_of v v2 vs) ls ms h k first.1 in absurd (cc)
+  phrase-same (alone u) (some_of v v2 vs) ls ms h k e =
+      let first =
+      unit-same u v (rest_lexemes (alone u) ls) (rest_lexemes (some_of v v2 vs) ms) (rest-ends (alone u) ls h) (rest-ends (some_of v v2 vs) ms k)
+      (starts-same u v (rest_lexemes (alone u) ls) (rest_lexemes (some_of v v2 vs) ms) e) e in
+      let joint : nothing ≡ ors = joints (alone u) (some_of v v2 vs) ls ms h k first.1 in absurd (cc)
+  phrase-same (alone u) (joined_by d v v2) ls ms h k e =
+      let first =
+      unit-same u v (rest_lexemes (alone u) ls) (rest_lexemes (joined_by d v v2) ms) (rest-ends (alone u) ls h) (rest-ends (joined_by d v v2) ms k)
+      (starts-same u v (rest_lexemes (alone u) ls) (rest_lexemes (joined_by d v v2) ms) e) e in
+      let joint : nothing ≡ two_by d = joints (alone u) (joined_by d v v2) ls ms h k first.1 in absurd (cc)
+  phrase-same (all_of u u2 us) (alone v) ls ms h k e =
+      let first =
+      unit-same u v (rest_lexemes (all_of u u2 us) ls) (rest_lexemes (alone v) ms) (rest-ends (all_of u u2 us) ls h) (rest-ends (alone v) ms k)
+      (starts-same u v (rest_lexemes (all_of u u2 us) ls) (rest_lexemes (alone v) ms) e) e in
+      let joint : ands ≡ nothing = joints (all_of u u2 us) (alone v) ls ms h k first.1 in absurd (cc)
+  phrase-same (all_of u u2 us) (all_of v v2 vs) ls ms h k e =
+      let first =
+      unit-same u v (rest_lexemes (all_of u u2 us) ls) (rest_lexemes (all_of v v2 vs) ms) (rest-ends (all_of u u2 us) ls h) (rest-ends (all_of v v2 vs) ms k)
+      (starts-same u v (rest_lexemes (all_of u u2 us) ls) (rest_lexemes (all_of v v2 vs) ms) e) e in
+      let inner = tail-same (lexeme Connective (codes "&")) (lexeme Connective (codes "&")) _ _ first.1 in
+      let second =
+      unit-same u2 v2 (units_lexemes (lexeme Connective (codes "&")) us ls) (units_lexemes (lexeme Connective (codes "&")) vs ms) (units-ends (lexeme Connective (codes "&")) us ls and-ends h.unit)
+      (units-ends (lexeme Connective (codes "&")) vs ms and-ends k.unit) (starts-same u2 v2 (units_lexemes (lexeme Connective (codes "&")) us ls) (units_lexemes (lexeme Connective (codes "&")) vs ms) inner) inner in
+      let more = units-same (lexeme Connective (codes "&")) ands us vs ls ms and-ends (λ ns. refl) ands-some h k second.1 in
+      (ap₂ (λ (x : UnitPhrase × UnitPhrase) xs. all_of x.0 x.1 xs) (pair-same u v u2 v2 first.0 second.0) more.0, more.1)
+  phrase-same (all_of u u2 us) (some_of v v2 vs) ls ms h k e =
+      let first =
+      unit-same u v (rest_lexemes (all_of u u2 us) ls) (rest_lexemes (some_of v v2 vs) ms) (rest-ends (all_of u u2 us) ls h) (rest-ends (some_of v v2 vs) ms k)
+      (starts-same u v (rest_lexemes (all_of u u2 us) ls) (rest_lexemes (some_of v v2 vs) ms) e) e in
+      let joint : ands ≡ ors = joints (all_of u u2 us) (some_of v v2 vs) ls ms h k first.1 in absurd (cc)
+  phrase-same (all_of u u2 us) (joined_by d v v2) ls ms h k e =
+      let first =
+      unit-same u v (rest_lexemes (all_of u u2 us) ls) (rest_lexemes (joined_by d v v2) ms) (rest-ends (all_of u u2 us) ls h) (rest-ends (joined_by d v v2) ms k)
+      (starts-same u v (rest_lexemes (all_of u u2 us) ls) (rest_lexemes (joined_by d v v2) ms) e) e in
+      let joint : ands ≡ two_by d = joints (all_of u u2 us) (joined_by d v v2) ls ms h k first.1 in absurd (cc)
+  phrase-same (some_of u u2 us) (alone v) ls ms h k e =
+      let first =
+      unit-same u v (rest_lexemes (some_of u u2 us) ls) (rest_lexemes (alone v) ms) (rest-ends (some_of u u2 us) ls h) (rest-ends (alone v) ms k)
+      (starts-same u v (rest_lexemes (some_of u u2 us) ls) (rest_lexemes (alone v) ms) e) e in
+      let joint : ors ≡ nothing = joints (some_of u u2 us) (alone v) ls ms h k first.1 in absurd (cc)
+  phrase-same (some_of u u2 us) (all_of v v2 vs) ls ms h k e =
+      let first =
+      unit-same u v (rest_lexemes (some_of u u2 us) ls) (rest_lexemes (all_of v v2 vs) ms) (rest-ends (some_of u u2 us) ls h) (rest-ends (all_of v v2 vs) ms k)
+      (starts-same u v (rest_lexemes (some_of u u2 us) ls) (rest_lexemes (all_of v v2 vs) ms) e) e in
+      let joint : ors ≡ ands = joints (some_of u u2 us) (all_of v v2 vs) ls ms h k first.1 in absurd (cc)
+  phrase-same (some_of u u2 us) (some_of v v2 vs) ls ms h k e =
+      let first =
+      unit-same u v (rest_lexemes (some_of u u2 us) ls) (rest_lexemes (some_of v v2 vs) ms) (rest-ends (some_of u u2 us) ls h) (rest-ends (some_of v v2 vs) ms k)
+      (starts-same u v (rest_lexemes (some_of u u2 us) ls) (rest_lexemes (some_of v v2 vs) ms) e) e in
+      let inner = tail-same (lexeme Connective (codes "|")) (lexeme Connective (codes "|")) _ _ first.1 in
+      let second =
+      unit-same u2 v2 (units_lexemes (lexeme Connective (codes "|")) us ls) (units_lexemes (lexeme Connective (codes "|")) vs ms) (units-ends (lexeme Connective (codes "|")) us ls or-ends h.unit)
+      (units-ends (lexeme Connective (codes "|")) vs ms or-ends k.unit) (starts-same u2 v2 (units_lexemes (lexeme Connective (codes "|")) us ls) (units_lexemes (lexeme Connective (codes "|")) vs ms) inner) inner in
+      let more = units-same (lexeme Connective (codes "|")) ors us vs ls ms or-ends (λ ns. refl) ors-some h k second.1 in
+      (ap₂ (λ (x : UnitPhrase × UnitPhrase) xs. some_of x.0 x.1 xs) (pair-same u v u2 v2 first.0 second.0) more.0, more.1)
+  phrase-same (some_of u u2 us) (joined_by d v v2) ls ms h k e =
+      let first =
+      unit-same u v (rest_lexemes (some_of u u2 us) ls) (rest_lexemes (joined_by d v v2) ms) (rest-ends (some_of u u2 us) ls h) (rest-ends (joined_by d v v2) ms k)
+      (starts-same u v (rest_lexemes (some_of u u2 us) ls) (rest_lexemes (joined_by d v v2) ms) e) e in
+      let joint : ors ≡ two_by d = joints (some_of u u2 us) (joined_by d v v2) ls ms h k first.1 in absurd (cc)
+  phrase-same (joined_by c u u2) (alone v) ls ms h k e =
+      let first =
+      unit-same u v (rest_lexemes (joined_by c u u2) ls) (rest_lexemes (alone v) ms) (rest-ends (joined_by c u u2) ls h) (rest-ends (alone v) ms k)
+      (starts-same u v (rest_lexemes (joined_by c u u2) ls) (rest_lexemes (alone v) ms) e) e in
+      let joint : two_by c ≡ nothing = joints (joined_by c u u2) (alone v) ls ms h k first.1 in absurd (cc)
+  phrase-same (joined_by c u u2) (all_of v v2 vs) ls ms h k e =
+      let first =
+      unit-same u v (rest_lexemes (joined_by c u u2) ls) (rest_lexemes (all_of v v2 vs) ms) (rest-ends (joined_by c u u2) ls h) (rest-ends (all_of v v2 vs) ms k)
+      (starts-same u v (rest_lexemes (joined_by c u u2) ls) (rest_lexemes (all_of v v2 vs) ms) e) e in
+      let joint : two_by c ≡ ands = joints (joined_by c u u2) (all_of v v2 vs) ls ms h k first.1 in absurd (cc)
+  phrase-same (joined_by c u u2) (some_of v v2 vs) ls ms h k e =
+      let first =
+      unit-same u v (rest_lexemes (joined_by c u u2) ls) (rest_lexemes (some_of v v2 vs) ms) (rest-ends (joined_by c u u2) ls h) (rest-ends (some_of v v2 vs) ms k)
+      (starts-same u v (rest_lexemes (joined_by c u u2) ls) (rest_lexemes (some_of v v2 vs) ms) e) e in
+      let joint : two_by c ≡ ors = joints (joined_by c u u2) (some_of v v2 vs) ls ms h k first.1 in absurd (cc)
+  phrase-same (joined_by c u u2) (joined_by d v v2) ls ms h k e =
+      let first =
+      unit-same u v (rest_lexemes (joined_by c u u2) ls) (rest_lexemes (joined_by d v v2) ms) (rest-ends (joined_by c u u2) ls h) (rest-ends (joined_by d v v2) ms k)
+      (starts-same u v (rest_lexemes (joined_by c u u2) ls) (rest_lexemes (joined_by d v v2) ms) e) e in
+      let joint : two_by c ≡ two_by d = joints (joined_by c u u2) (joined_by d v v2) ls ms h k first.1 in
+      let connectives : c ≡ d = cc in
+      let inner = tail-same (connective_lexeme c) (connective_lexeme d) (unit_lexemes u2 ls) (unit_lexemes v2 ms) first.1 in
+      let second = unit-same u2 v2 ls ms h.unit k.unit (starts-same u2 v2 ls ms inner) inner in
+      (ap (λ x. joined_by x u u2) connectives ∙ ap₂ (joined_by d) first.0 second.0, second.1)
+
+pub one_phrase : (p q : Phrase) → phrase_lexemes p [] ≡ phrase_lexemes q [] → p ≡ q
+one_phrase p q e =
+    let nothing_left : EndsPhrase [] = record { unit = record { flat = refl; alone_here = refl }; last = refl } in
+    (phrase-same p q [] [] nothing_left nothing_left e).0
+
+pub one_word : (w v : Word) → word_lexeme w ∷ [] ≡ word_lexeme v ∷ [] → w ≡ v
+one_word w v e = word-same w v (head-same (word_lexeme w) (word_lexeme v) [] [] e)

@@ -1,0 +1,8 @@
+use Rattle.std.proofs.Common.{rules}
+use Rattle.tptp_tree.specs.Shape.{formula_of}
+use Rattle.tptp_tree.proofs.AgainLemmas.{formula-again}
+use Rattle.tptp_tree.proofs.print.print_formula.Goals as goal
+
+pub returns-clause-read_again : goal.returns-clause-read_again
+returns-clause-read_again c =
+    λ other s. formula-again c.from_vec.result other (formula_of c.args.formula.now) (search rules) s

@@ -1,0 +1,41 @@
+-- The printing on small formulas.
+use Rattle.std.specs.Prelude.{◌≡◌, true, false, List, [], ◌∷◌, codes}
+use Rattle.tptp_tree.specs.Term.{TermTree, variable, application, no_terms, term_then}
+use Rattle.tptp_tree.specs.Formula.{implies, for_all, FormulaTree, truth, predicate, equation, negation, conjunction, disjunction, connected, quantified, no_formulas, formula_then}
+use Rattle.tptp_tree.specs.Printing.{name_text, formula_text}
+
+abbrev p : FormulaTree
+p = predicate (codes "p") no_terms
+
+abbrev q : FormulaTree
+q = predicate (codes "q") no_terms
+
+abbrev a : TermTree
+a = application (codes "a") no_terms
+
+-- the body of a quantifier in parentheses
+abbrev pub BoundImplication : Type 0
+BoundImplication =
+    formula_text (quantified for_all (codes "X" ∷ []) (connected implies (predicate (codes "p") (term_then (variable (codes "X")) no_terms)) q))
+    ≡ codes "! [X] : (p(X) => q)"
+
+-- what is negated in parentheses
+abbrev pub NegatedConjunction : Type 0
+NegatedConjunction = formula_text (negation (conjunction (formula_then p (formula_then q no_formulas)))) ≡ codes "~(p & q)"
+
+-- a negated equation is no inequation
+abbrev pub NegatedEquation : Type 0
+NegatedEquation = formula_text (negation (equation true a a)) ≡ codes "~(a = a)"
+
+-- operands that are negations or quantified stand bare
+abbrev pub BareOperands : Type 0
+BareOperands =
+    formula_text
+    (disjunction (formula_then (negation (negation truth)) (formula_then (quantified for_all (codes "X" ∷ codes "Y" ∷ []) p) (formula_then (conjunction (formula_then p (formula_then q no_formulas))) no_formulas))))
+    ≡ codes "~~$true | ! [X,Y] : p | (p & q)"
+
+abbrev pub QuotedName : Type 0
+QuotedName = name_text (codes "it's") ≡ codes "'it\\'s'"
+
+abbrev pub BareName : Type 0
+BareName = name_text (codes "a1") ≡ codes "a1"

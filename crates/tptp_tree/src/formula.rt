@@ -1,0 +1,161 @@
+// Formulas over names.
+
+ghost use Rattle.std.specs.Prelude.{◌≡◌, ◌++◌, [], ◌∷◌, length, map, IfOk, OnErr};
+ghost use Rattle.tptp_tree.specs.Shape.{formula_of};
+
+use crate::term::{TreeTerm, TreeTerms};
+use plain_types::{Mem, Text, Texts};
+use std::alloc::Global;
+use std::marker::Model;
+
+/// A first-order formula (Sutcliffe 2017). `And` and `Or` hold at least two formulas where a text spells them, `All` and
+/// `Ex` at least one variable's name.
+#[derive(Drop)]
+#[cycle(formulas)]
+pub enum Formula {
+    True,
+    False,
+    Pred(Text, TreeTerms),
+    Equal(TreeTerm, TreeTerm),
+    NotEqual(TreeTerm, TreeTerm),
+    Not(FormulaBox),
+    And(Formulas),
+    Or(Formulas),
+    Implies(FormulaBox, FormulaBox),
+    Implied(FormulaBox, FormulaBox),
+    Iff(FormulaBox, FormulaBox),
+    Xor(FormulaBox, FormulaBox),
+    Nor(FormulaBox, FormulaBox),
+    Nand(FormulaBox, FormulaBox),
+    All(Texts, FormulaBox),
+    Ex(Texts, FormulaBox),
+}
+
+/// A formula of its own, in a box, which contracts see as its tree.
+#[derive(Drop)]
+#[cycle(formulas)]
+pub struct FormulaBox {
+    formula: Box<Formula>,
+}
+
+impl Model for FormulaBox {
+    ghost use Rattle.tptp_tree.specs.Formula.{FormulaTree, formula_size};
+    ghost use Rattle.tptp_tree.specs.Codes.{formula_code};
+
+    ghost Value = { FormulaTree };
+
+    ghost coded = { formula_code };
+
+    ghost use Rattle.tptp_tree.specs.Shape.{formula_of};
+
+    ghost view = { λ a. formula_of a.formula.value };
+
+    ghost size = { formula_size };
+
+    ghost use Rattle.std.proofs.Common.{arith};
+    ghost use Rattle.tptp_tree.specs.Falls.{deep-Formula-≤};
+
+    ghost size_decreases = { λ a h. Prim.omega (arith, deep-Formula-≤ a.formula.value) };
+}
+
+impl FormulaBox {
+    /// The formula in a box.
+    pub fn new(alloc: Global, formula: Formula) -> Mem<FormulaBox>
+        ensures { IfOk result (λ boxed. boxed ≡ formula_of formula) }
+    {
+        Ok(FormulaBox {
+            formula: Box::new(alloc, formula)?,
+        })
+    }
+
+    /// The formula, lent.
+    pub fn get(&self) -> &Formula
+        ensures { formula_of result.now ≡ self.now }
+    {
+        &self.formula
+    }
+
+    /// The formula, out of its box.
+    pub fn into_inner(self) -> Formula
+        ensures { formula_of result ≡ self }
+    {
+        Box::into_inner(self.formula)
+    }
+}
+
+/// A list of formulas, which contracts see as the list of their trees.
+#[derive(Drop)]
+#[cycle(formulas)]
+pub struct Formulas {
+    items: Vec<Formula>,
+}
+
+impl Model for Formulas {
+    ghost use Rattle.std.specs.Prelude.{List, map};
+    ghost use Rattle.std.specs.Coded.{coded_list};
+    ghost use Rattle.tptp_tree.specs.Formula.{FormulaTree, formulas_size, formulas_of};
+    ghost use Rattle.tptp_tree.specs.Codes.{formula_code};
+
+    ghost Value = { List FormulaTree };
+
+    ghost coded = { coded_list formula_code };
+
+    ghost use Rattle.tptp_tree.specs.Shape.{formula_of};
+
+    ghost view = { λ a. map formula_of a.items.items };
+
+    ghost size = { λ fs. formulas_size (formulas_of fs) };
+
+    ghost use Rattle.std.proofs.Common.{arith};
+    ghost use Rattle.tptp_tree.specs.Falls.{most-deep-Formula-≤};
+
+    ghost size_decreases = { λ a h. Prim.omega (arith, most-deep-Formula-≤ a.items.items) };
+}
+
+impl Formulas {
+    /// The empty list. It takes no memory.
+    pub fn new(alloc: Global) -> Formulas
+        ensures { result ≡ [] }
+    {
+        Formulas {
+            items: Vec::new(alloc),
+        }
+    }
+
+    /// The list of a vector's formulas. It takes no memory.
+    pub fn from_vec(items: Vec<Formula>) -> Formulas
+        ensures { result ≡ map formula_of items.items }
+    {
+        Formulas { items }
+    }
+
+    /// The vector of the list's formulas. It takes no memory.
+    pub fn into_vec(self) -> Vec<Formula>
+        ensures { map formula_of result.items ≡ self }
+    {
+        self.items
+    }
+
+    /// The formulas, lent.
+    pub fn as_slice(&self) -> &[Formula]
+        ensures { map formula_of result.now ≡ self.now }
+    {
+        self.items.as_slice()
+    }
+
+    /// How many formulas there are.
+    pub fn len(&self) -> usize
+        ensures { result ≡ length self.now }
+    {
+        self.items.len()
+    }
+
+    /// Adds a formula at the end. After want of memory the list is as before.
+    pub fn push(&mut self, formula: Formula) -> Mem<()>
+        ensures ok { IfOk result (λ _. self.new ≡ self.old ++ formula_of formula ∷ []) }
+        ensures err { OnErr result (self.new ≡ self.old) }
+    {
+        self.items.push(formula)?;
+        Ok(())
+    }
+}

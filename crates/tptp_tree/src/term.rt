@@ -1,0 +1,93 @@
+// Terms over names.
+
+ghost use Rattle.std.specs.Prelude.{◌≡◌, ◌++◌, [], ◌∷◌, length, map, IfOk, OnErr};
+ghost use Rattle.tptp_tree.specs.Shape.{term_of};
+
+use plain_types::{Mem, Text};
+use std::alloc::Global;
+use std::marker::Model;
+
+/// A term: a variable by its name, or a name applied to terms.
+#[derive(Drop)]
+#[cycle(terms)]
+pub enum TreeTerm {
+    Var(Text),
+    App(Text, TreeTerms),
+}
+
+/// A list of terms, which contracts see as the list of their trees.
+#[derive(Drop)]
+#[cycle(terms)]
+pub struct TreeTerms {
+    items: Vec<TreeTerm>,
+}
+
+impl Model for TreeTerms {
+    ghost use Rattle.std.specs.Prelude.{List, map};
+    ghost use Rattle.std.specs.Coded.{coded_list};
+    ghost use Rattle.tptp_tree.specs.Term.{TermTree, terms_size, terms_of};
+    ghost use Rattle.tptp_tree.specs.Codes.{term_code};
+
+    ghost Value = { List TermTree };
+
+    ghost coded = { coded_list term_code };
+
+    ghost use Rattle.tptp_tree.specs.Shape.{term_of};
+
+    ghost view = { λ a. map term_of a.items.items };
+
+    ghost size = { λ ts. terms_size (terms_of ts) };
+
+    ghost use Rattle.std.proofs.Common.{arith};
+    ghost use Rattle.tptp_tree.specs.Falls.{most-deep-TreeTerm-≤};
+
+    ghost size_decreases = { λ a h. Prim.omega (arith, most-deep-TreeTerm-≤ a.items.items) };
+}
+
+impl TreeTerms {
+    /// The empty list. It takes no memory.
+    pub fn new(alloc: Global) -> TreeTerms
+        ensures { result ≡ [] }
+    {
+        TreeTerms {
+            items: Vec::new(alloc),
+        }
+    }
+
+    /// The list of a vector's terms. It takes no memory.
+    pub fn from_vec(items: Vec<TreeTerm>) -> TreeTerms
+        ensures { result ≡ map term_of items.items }
+    {
+        TreeTerms { items }
+    }
+
+    /// The vector of the list's terms. It takes no memory.
+    pub fn into_vec(self) -> Vec<TreeTerm>
+        ensures { map term_of result.items ≡ self }
+    {
+        self.items
+    }
+
+    /// The terms, lent.
+    pub fn as_slice(&self) -> &[TreeTerm]
+        ensures { map term_of result.now ≡ self.now }
+    {
+        self.items.as_slice()
+    }
+
+    /// How many terms there are.
+    pub fn len(&self) -> usize
+        ensures { result ≡ length self.now }
+    {
+        self.items.len()
+    }
+
+    /// Adds a term at the end. After want of memory the list is as before.
+    pub fn push(&mut self, term: TreeTerm) -> Mem<()>
+        ensures ok { IfOk result (λ _. self.new ≡ self.old ++ term_of term ∷ []) }
+        ensures err { OnErr result (self.new ≡ self.old) }
+    {
+        self.items.push(term)?;
+        Ok(())
+    }
+}
