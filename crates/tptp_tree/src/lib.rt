@@ -6,6 +6,8 @@ pub mod laws;
 mod print;
 mod problem;
 mod term;
+#[cfg(test)]
+mod tests;
 
 pub use formula::{Formula, FormulaBox, Formulas};
 pub use print::{print_formula, print_name};

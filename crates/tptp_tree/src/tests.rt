@@ -1,0 +1,137 @@
+// What no clause says: outside rows, and that calls succeed.
+
+use super::*;
+use plain_types::{Mem, Text, Texts};
+use std::alloc::Global;
+use std::test::Fail;
+
+fn atom(alloc: Global, name: &[u8]) -> Mem<Formula> {
+    Ok(Formula::Pred(Text::from_slice(alloc, name)?, TreeTerms::new(alloc)))
+}
+
+#[test]
+fn prints_names(rt: HostRuntime) -> Result<(), Fail> {
+    for (name, wanted) in [
+        (b"it's".as_slice(), b"'it\\'s'".as_slice()),
+        (b"a1", b"a1"),
+        (b"A", b"'A'"),
+        (b"\\", b"'\\\\'"),
+        (b"a b", b"'a b'"),
+        (b"12", b"'12'"),
+    ] {
+        let name = Text::from_slice(rt.alloc(), name)?;
+        let text = print_name(rt.alloc(), &name)?;
+        assert!(rt; text.as_slice() == wanted);
+    }
+    Ok(())
+}
+
+#[test]
+fn prints_a_bound_implication(rt: HostRuntime) -> Result<(), Fail> {
+    let alloc = rt.alloc();
+    let mut arguments = TreeTerms::new(alloc);
+    arguments.push(TreeTerm::Var(Text::from_slice(alloc, b"X")?))?;
+    let left = Formula::Pred(Text::from_slice(alloc, b"p")?, arguments);
+    let body = Formula::Implies(
+        FormulaBox::new(alloc, left)?,
+        FormulaBox::new(alloc, atom(alloc, b"q")?)?,
+    );
+    let mut variables = Texts::new(alloc);
+    variables.push(Text::from_slice(alloc, b"X")?)?;
+    let formula = Formula::All(variables, FormulaBox::new(alloc, body)?);
+    let text = print_formula(alloc, &formula)?;
+    assert!(rt; text.as_slice() == b"! [X] : (p(X) => q)".as_slice());
+    Ok(())
+}
+
+#[test]
+fn prints_a_negated_conjunction(rt: HostRuntime) -> Result<(), Fail> {
+    let alloc = rt.alloc();
+    let mut operands = Formulas::new(alloc);
+    operands.push(atom(alloc, b"p")?)?;
+    operands.push(atom(alloc, b"q")?)?;
+    let formula = Formula::Not(FormulaBox::new(alloc, Formula::And(operands))?);
+    let text = print_formula(alloc, &formula)?;
+    assert!(rt; text.as_slice() == b"~(p & q)".as_slice());
+    Ok(())
+}
+
+/// Each constructor of formulas, in text.
+#[test]
+fn prints_each_connective(rt: HostRuntime) -> Result<(), Fail> {
+    let alloc = rt.alloc();
+    for (number, wanted) in [
+        (0, b"p => q".as_slice()),
+        (1, b"p <= q"),
+        (2, b"p <=> q"),
+        (3, b"p <~> q"),
+        (4, b"p ~| q"),
+        (5, b"p ~& q"),
+    ] {
+        let left = FormulaBox::new(alloc, atom(alloc, b"p")?)?;
+        let right = FormulaBox::new(alloc, atom(alloc, b"q")?)?;
+        let formula = match number {
+            0 => Formula::Implies(left, right),
+            1 => Formula::Implied(left, right),
+            2 => Formula::Iff(left, right),
+            3 => Formula::Xor(left, right),
+            4 => Formula::Nor(left, right),
+            _ => Formula::Nand(left, right),
+        };
+        let text = print_formula(alloc, &formula)?;
+        assert!(rt; text.as_slice() == wanted);
+    }
+    Ok(())
+}
+
+#[test]
+fn prints_equations(rt: HostRuntime) -> Result<(), Fail> {
+    let alloc = rt.alloc();
+    let left = TreeTerm::Var(Text::from_slice(alloc, b"X")?);
+    let right = TreeTerm::App(Text::from_slice(alloc, b"A b")?, TreeTerms::new(alloc));
+    let text = print_formula(alloc, &Formula::NotEqual(left, right))?;
+    assert!(rt; text.as_slice() == b"X != 'A b'".as_slice());
+    let left = TreeTerm::Var(Text::from_slice(alloc, b"X")?);
+    let right = TreeTerm::Var(Text::from_slice(alloc, b"Y")?);
+    let formula = Formula::Not(FormulaBox::new(alloc, Formula::Equal(left, right))?);
+    let text = print_formula(alloc, &formula)?;
+    assert!(rt; text.as_slice() == b"~(X = Y)".as_slice());
+    Ok(())
+}
+
+/// So many negations of `$true`.
+fn negations(alloc: Global, count: usize) -> Mem<Formula> {
+    let mut formula = Formula::True;
+    for _ in 0..count {
+        formula = Formula::Not(FormulaBox::new(alloc, formula)?);
+    }
+    Ok(formula)
+}
+
+#[test]
+fn prints_deep_formulas(rt: HostRuntime) -> Result<(), Fail> {
+    let formula = negations(rt.alloc(), 5_000)?;
+    let text = print_formula(rt.alloc(), &formula)?;
+    assert_eq!(rt; text.len(), 5_005);
+    Ok(())
+}
+
+#[test]
+fn keeps_annotated_formulas(rt: HostRuntime) -> Result<(), Fail> {
+    let alloc = rt.alloc();
+    let mut formulas = AnnotatedList::new(alloc);
+    formulas.push(Annotated {
+        name: Text::from_slice(alloc, b"a")?,
+        role: Role::Axiom,
+        clause: true,
+        formula: Formula::False,
+        file: Text::new(alloc),
+        place: 3,
+    })?;
+    let problem = Problem { formulas };
+    let first = problem.formulas.as_slice().first();
+    assert!(rt;
+        first.is_some_and(|annotated| annotated.role == Role::Axiom && annotated.place == 3)
+    );
+    Ok(())
+}
