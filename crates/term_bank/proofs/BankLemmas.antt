@@ -1,5 +1,5 @@
 -- Facts about the entries of a table and the trees of a bank that grows.
-use Rattle.std.proofs.Common.{◌≡◌, ℕ, ◌<◌, Bool, true, false, cond, List, [], ◌∷◌, ◌++◌, length, map, get_or, Option, None, Some, is_some, option_map, unwrap_or, refl, sym, ap, subst, ◌∙◌, true≢false, arith, append_assoc, if◌then◌else◌, Result, Ok, Err, IsOk, OnOk}
+use Rattle.std.proofs.Common.{◌≡◌, ℕ, Bool, true, false, cond, List, [], ◌∷◌, ◌++◌, length, map, get_or, None, Some, is_some, option_map, unwrap_or, refl, sym, ap, subst, ◌∙◌, true≢false, arith, if◌then◌else◌, Result, Ok, Err, IsOk, OnOk}
 use Rattle.std.proofs.lemmas.List.{get_or_append_left, length-append, map-append}
 use Rattle.std.proofs.lemmas.List.Elements.{All-head, All-tail, All-push}
 use Rattle.std.specs.List.{All}

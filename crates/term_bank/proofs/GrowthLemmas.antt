@@ -1,8 +1,7 @@
 -- A bank that grows keeps what was said of it.
-use Rattle.std.proofs.Common.{◌≡◌, List, [], ◌++◌, append_assoc, append-nil, refl, sym, ap, ◌∙◌, subst}
+use Rattle.std.proofs.Common.{[], ◌++◌, append_assoc, append-nil, refl, sym, ap, ◌∙◌, subst}
 use Rattle.std.specs.List.{All}
-use Rattle.fol_base.specs.Tree.{Tree}
-use Rattle.term_bank.specs.Bank.{entries, IsEntryIn, NoTreeTwice, tree_in}
+use Rattle.term_bank.specs.Bank.{entries, IsEntryIn, tree_in}
 use Rattle.term_bank.specs.Laws.{GrowsToItself, GrowsOnward, KeepsReferences, KeepsLists, KeepsTables}
 use Rattle.term_bank.proofs.BankLemmas.{IsEntryIn-append, entries-append}
 

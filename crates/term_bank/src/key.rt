@@ -1,7 +1,7 @@
 // The keys of a table: terms, compared and hashed as trees.
 
 ghost use Rattle.std.specs.Prelude.{◌≡◌, map};
-ghost use Rattle.std.specs.Cmp.{on_per, on_equiv, partial_equiv_from_equiv};
+ghost use Rattle.std.specs.Cmp.{on_equiv, partial_equiv_from_equiv};
 ghost use Rattle.std.specs.Hash as fed;
 ghost use Rattle.std.specs.Ordering.{on};
 ghost use Rattle.fol_base.specs.Tree.{tree_eq, trees_of};
@@ -20,7 +20,7 @@ pub struct TermKey {
 
 /// A term that is looked for. It is borrowed, so that a look-up copies nothing.
 #[derive(Clone, Copy)]
-pub struct Wanted<'a> {
+pub(crate) struct Wanted<'a> {
     pub(crate) term: &'a Term,
 }
 
@@ -113,5 +113,6 @@ fn terms_hash(hash: u64, terms: &[Term]) -> u64
 fn mix(hash: u64, value: u64) -> u64
     ensures { result ≡ mixed hash value }
 {
-    hash.wrapping_mul(6_364_136_223_846_793_005).wrapping_add(value)
+    hash.wrapping_mul(6_364_136_223_846_793_005)
+        .wrapping_add(value)
 }

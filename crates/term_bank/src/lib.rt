@@ -7,7 +7,7 @@ mod reference;
 
 pub use bank::{Bank, Table};
 #[doc(hidden)]
-pub use key::{TermKey, Wanted};
+pub use key::TermKey;
 pub use reference::TermRef;
 
 pub mod laws;

@@ -1,4 +1,4 @@
-use Rattle.std.proofs.Common.{◌≡◌, ◌∙◌, arith, ap, sym, map}
+use Rattle.std.proofs.Common.{◌∙◌, arith, ap, sym}
 use Rattle.std.specs.Map.{lookup}
 use Rattle.fol_base.specs.Tree.{Tree, tree_eq}
 use Rattle.fol_base.specs.Term.{tree_of}
