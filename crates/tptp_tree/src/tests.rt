@@ -26,19 +26,31 @@ fn prints_names(rt: HostRuntime) -> Result<(), Fail> {
     Ok(())
 }
 
+/// The atom `p(X)`.
+fn p_of_x(alloc: Global) -> Mem<Formula> {
+    let mut arguments = TreeTerms::new(alloc);
+    arguments.push(TreeTerm::Var(Text::from_slice(alloc, b"X")?))?;
+    Ok(Formula::Pred(Text::from_slice(alloc, b"p")?, arguments))
+}
+
+/// The implication of `q` by `p(X)`.
+fn implication(alloc: Global) -> Mem<FormulaBox> {
+    let left = FormulaBox::new(alloc, p_of_x(alloc)?)?;
+    let right = FormulaBox::new(alloc, atom(alloc, b"q")?)?;
+    FormulaBox::new(alloc, Formula::Implies(left, right))
+}
+
+fn one_variable(alloc: Global) -> Mem<Texts> {
+    let mut variables = Texts::new(alloc);
+    variables.push(Text::from_slice(alloc, b"X")?)?;
+    Ok(variables)
+}
+
 #[test]
 fn prints_a_bound_implication(rt: HostRuntime) -> Result<(), Fail> {
     let alloc = rt.alloc();
-    let mut arguments = TreeTerms::new(alloc);
-    arguments.push(TreeTerm::Var(Text::from_slice(alloc, b"X")?))?;
-    let left = Formula::Pred(Text::from_slice(alloc, b"p")?, arguments);
-    let body = Formula::Implies(
-        FormulaBox::new(alloc, left)?,
-        FormulaBox::new(alloc, atom(alloc, b"q")?)?,
-    );
-    let mut variables = Texts::new(alloc);
-    variables.push(Text::from_slice(alloc, b"X")?)?;
-    let formula = Formula::All(variables, FormulaBox::new(alloc, body)?);
+    let variables = one_variable(alloc)?;
+    let formula = Formula::All(variables, implication(alloc)?);
     let text = print_formula(alloc, &formula)?;
     assert!(rt; text.as_slice() == b"! [X] : (p(X) => q)".as_slice());
     Ok(())

@@ -1,0 +1,26 @@
+-- Laws of the words on banks: what callers may use without a look into a bank.
+use Rattle.std.specs.Prelude.{◌≡◌, List}
+use Rattle.term_bank.specs.Bank.{IsOf, AreOf, IsTableOf, Grows, tree_in}
+use Rattle.term_bank.specs.declared.reference.TermRef.{TermRef}
+use Rattle.term_bank.specs.declared.bank.Bank.{Bank}
+use Rattle.term_bank.specs.declared.bank.Table.{Table}
+
+-- a bank grows to itself
+abbrev pub GrowsToItself : Type 0
+GrowsToItself = (bank : Bank) → Grows bank bank
+
+-- growing twice is growing
+abbrev pub GrowsOnward : Type 0
+GrowsOnward = (first second third : Bank) → Grows first second → Grows second third → Grows first third
+
+-- a bank that grows keeps its references, and each stands for the tree for which it stood
+abbrev pub KeepsReferences : Type 0
+KeepsReferences = (old new : Bank) (r : TermRef) → Grows old new → IsOf old r → IsOf new r × (tree_in new r ≡ tree_in old r)
+
+-- so with lists of references
+abbrev pub KeepsLists : Type 0
+KeepsLists = (old new : Bank) (rs : List TermRef) → Grows old new → AreOf old rs → AreOf new rs
+
+-- and with tables
+abbrev pub KeepsTables : Type 0
+KeepsTables = (old new : Bank) (table : Table) → Grows old new → IsTableOf old table → IsTableOf new table

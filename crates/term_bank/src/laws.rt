@@ -1,0 +1,18 @@
+// The laws of the words on banks: the contract of a function without arguments and with an empty body.
+
+ghost use Rattle.term_bank.specs.Laws.{
+  GrowsToItself,
+  GrowsOnward,
+  KeepsReferences,
+  KeepsLists,
+  KeepsTables,
+};
+
+/// A bank grows to itself and onward, and keeps its references, what they stand for, and its tables.
+pub fn growing_banks()
+    ensures itself { GrowsToItself }
+    ensures onward { GrowsOnward }
+    ensures references { KeepsReferences }
+    ensures lists { KeepsLists }
+    ensures tables { KeepsTables }
+{}
