@@ -1,5 +1,5 @@
 -- The examples of closed lists and triples that don't just compute.
-use Rattle.std.proofs.Common.{◌≡◌, zero, suc, true, [], ◌∷◌, refl, sym, ap, ◌∙◌, subst, arith, ◌⊎◌, inl, inr, true≢false}
+use Rattle.std.proofs.Common.{◌≡◌, Bool, zero, suc, true, [], ◌∷◌, refl, sym, ap, ◌∙◌, subst, arith, ◌⊎◌, inl, inr, true≢false, not, false, ◌||◌, ◌&&◌}
 use Rattle.std.specs.Prelude.{IsTrue, IsFalse, Contains}
 use Rattle.std.proofs.lemmas.Bool.{and_parts, or_cases}
 use Rattle.std.proofs.lemmas.List.Elements.{All-cons, All-nil}
@@ -8,7 +8,9 @@ use Rattle.fol_base.specs.Clause.{TreeClause, literal_eq}
 use Rattle.fol_base.proofs.OrderLemmas.{tree_eq-says}
 use Rattle.ground_loop.specs.Resolution.{LiteralSet, has_literal, is_tautology, resolvent, clause_number, resolved}
 use Rattle.ground_loop.specs.Answer.{holds_set, IsClosedFor, HasClosedSets, Triple, IsTripleOf, HasTriples}
-use Rattle.ground_loop.specs.ResolutionExamples.{p, q, is, is_not, units, implication, implied_sets}
+use Rattle.fol_base.specs.Interpretation.{literal_true}
+use Rattle.ground_loop.specs.Satisfaction.{Satisfied}
+use Rattle.ground_loop.specs.ResolutionExamples.{p, q, is, is_not, units, implication, implied_sets, all_predicates, both_true}
 use Rattle.ground_loop.proofs.ClosedLemmas.{none_reaches_empty}
 
 -- ---- the implication's sets are closed
@@ -89,3 +91,19 @@ units_meet = record {
       (All-nil (IsTripleOf units));
   different = λ i j d h k. absurd (omega (arith, h, k));
 }
+
+-- ---- truth
+
+pub implication_satisfied : Satisfied all_predicates implication
+implication_satisfied = record {
+  interpretation = both_true;
+  is_one = record { has_value = omega arith; rows_in_range = refl };
+  makes_true = refl;
+}
+
+never_both : (b : Bool) → ((b || (b || false)) && ((not b || false) && true)) ≡ true → ⊥
+never_both true h = true≢false (sym h)
+never_both false h = true≢false (sym h)
+
+pub units_not_satisfied : Satisfied all_predicates units → ⊥
+units_not_satisfied it = never_both (literal_true it.interpretation (is p)) it.makes_true

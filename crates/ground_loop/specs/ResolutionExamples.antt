@@ -1,7 +1,8 @@
 -- Small forms for the examples of resolution: p and q are propositions.
-use Rattle.std.specs.Prelude.{true, false, List, [], ◌∷◌, map}
+use Rattle.std.specs.Prelude.{ℕ, Bool, true, false, List, [], ◌∷◌, map}
 use Rattle.fol_base.specs.Tree.{Tree}
 use Rattle.fol_base.specs.Clause.{TreeLiteral, TreeClause}
+use Rattle.fol_base.specs.Interpretation.{Interpretation}
 use Rattle.ground_loop.specs.Resolution.{LiteralSet, atom_literal}
 use Rattle.ground_loop.specs.DeriveExamples.{proposition}
 
@@ -31,3 +32,17 @@ implication = map clause ((is p ∷ []) ∷ (is_not p ∷ is q ∷ []) ∷ (is q
 -- p, ~p | q and q
 abbrev pub implied_sets : List LiteralSet
 implied_sets = (is p ∷ []) ∷ (is_not p ∷ is q ∷ []) ∷ (is q ∷ []) ∷ []
+
+-- each symbol a predicate, and none
+abbrev pub all_predicates : ℕ → Bool
+all_predicates symbol = true
+
+abbrev pub no_predicates : ℕ → Bool
+no_predicates symbol = false
+
+-- one value; p and q are true
+abbrev pub both_true : Interpretation
+both_true = record {
+  size = 1;
+  rows = record { symbol = 1; arguments = []; value = 1 } ∷ record { symbol = 2; arguments = []; value = 1 } ∷ [];
+}

@@ -4,8 +4,8 @@ ghost use Rattle.std.specs.Prelude.{List, [], ◌∷◌, IsTrue, IsFalse};
 ghost use Rattle.fol_base.specs.Clause.{TreeClause};
 ghost use Rattle.ground_loop.specs.Resolution.{Follows, is_tautology, same_set, can_resolve, resolvent};
 ghost use Rattle.ground_loop.specs.Answer.{HasClosedSets, HasTriples, IsClosedFor};
-ghost use Rattle.ground_loop.specs.Satisfaction.{ClosedFormsAreSatisfied};
-ghost use Rattle.ground_loop.specs.ResolutionExamples.{p, q, is, is_not, units, implication, implied_sets};
+ghost use Rattle.ground_loop.specs.Satisfaction.{ClosedFormsAreSatisfied, Satisfied, are_predicate_atoms};
+ghost use Rattle.ground_loop.specs.ResolutionExamples.{p, q, is, is_not, units, implication, implied_sets, all_predicates, no_predicates};
 
 /// A form that has a closed list without the empty set: no resolutions from it reach the empty set, and so
 /// it has no refutation by resolution (Robinson 1965).
@@ -13,8 +13,8 @@ pub fn closed_lists_refute_nothing()
     ensures none_reaches_empty { (form : List TreeClause) → HasClosedSets form → Follows form [] → ⊥ }
 {}
 
-/// A form that has a closed list without the empty set is true in a finite interpretation, whatever its predicates:
-/// ground resolution is complete (Robinson 1965).
+/// A ground form whose atoms are predicates applied to function terms, and which has a closed list without the
+/// empty set, is true in a finite interpretation: ground resolution is complete (Robinson 1965).
 pub fn closed_forms_are_satisfied()
     ensures { ClosedFormsAreSatisfied }
 {}
@@ -32,4 +32,8 @@ pub fn resolution_examples()
     ensures not_closed { IsClosedFor implication ((is p ∷ []) ∷ (is_not p ∷ is q ∷ []) ∷ []) → ⊥ }
     ensures refuted { HasClosedSets units → ⊥ }
     ensures one_triple { HasTriples units 1 }
+    ensures predicates { IsTrue (are_predicate_atoms all_predicates implication) }
+    ensures no_predicates { IsFalse (are_predicate_atoms no_predicates implication) }
+    ensures satisfied { Satisfied all_predicates implication }
+    ensures not_satisfied { Satisfied all_predicates units → ⊥ }
 {}

@@ -23,10 +23,11 @@ pub fn prove_ground(alloc: Global, form: &Clauses, limit: u32) -> Mem<Ground>
     ensures answer { IfOk result (IsGroundAnswer (map clause_of form.now) limit) }
     ensures meaning { IfOk result (HasMeaning (map clause_of form.now)) }
 {
-    resolve(alloc, form, limit)
+    answer(alloc, form, limit)
 }
 
-fn resolve(alloc: Global, form: &Clauses, limit: u32) -> Mem<Ground>
+/// The loop's answer; what it means follows from it.
+fn answer(alloc: Global, form: &Clauses, limit: u32) -> Mem<Ground>
     requires ground { IsGroundForm (map clause_of form.now) }
     requires small { form_size (map clause_of form.now) ≤ 4000 }
     requires counted { 1 ≤ limit }

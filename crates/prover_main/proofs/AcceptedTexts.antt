@@ -29,7 +29,7 @@ use Rattle.kernel_steps.specs.Derivation.{is_clause_step, is_input_of, ComesBy, 
 use Rattle.kernel_steps.proofs.TestLemmas.{else_some}
 use Rattle.tptp_reader.specs.declared.problem.GroundProblem.{GroundProblem}
 use Rattle.prover_main.specs.Accepted.{form_of, IsAcceptedDerivation}
-use Rattle.prover_main.specs.AcceptedExamples.{unit_clause, two_units, clausified_line, superposed_line, resolved_line, derivation_with}
+use Rattle.prover_main.specs.AcceptedExamples.{unit_clause, two_units, third_line, fifth_line, last_line, derivation_with}
 use Rattle.ground_text.specs.Lines.{Source, source_of, input_line, clause_head, clausify_text, line_text_of, lines_text_from}
 
 -- ---- known lines
@@ -571,7 +571,7 @@ printed-sourced (suc (suc (suc (suc zero)))) l at =
 printed-sourced (suc (suc (suc (suc (suc zero))))) l at = subst (Sourced 5) (same_Some (line (Refl 4 0 []) []) l at) tt
 printed-sourced (suc (suc (suc (suc (suc (suc n)))))) l at = absurd (none-some l at)
 
-pub printed_accepted : IsAcceptedDerivation (codes "r1.p") two_units (derivation_with clausified_line superposed_line resolved_line)
+pub printed_accepted : IsAcceptedDerivation (codes "r1.p") two_units (derivation_with third_line fifth_line last_line)
 unfolding digits
 printed_accepted = record {
   lines = printed_lines;

@@ -4,6 +4,7 @@ use Rattle.fol_base.specs.declared.term.Term.TheVariants.{App}
 use Rattle.fol_base.specs.declared.clause.Clause.{Clause}
 use Rattle.tptp_reader.specs.declared.problem.GroundRole.TheVariants.{Axiom, NegatedConjecture}
 use Rattle.tptp_reader.specs.declared.problem.GroundProblem.{GroundProblem}
+use Rattle.prover_main.specs.Accepted.{IsAcceptedDerivation}
 
 -- the atom of symbol 1, or its negation
 abbrev pub unit_clause : Bool → Clause
@@ -22,15 +23,15 @@ two_units = record {
       ∷ [];
 }
 
-abbrev pub clausified_line : List ℕ
-clausified_line = codes "cnf(c2,plain,p,inference(clausify,[status(esa),index(0)],[c0])).\n"
+abbrev pub third_line : List ℕ
+third_line = codes "cnf(c2,plain,p,inference(clausify,[status(esa),index(0)],[c0])).\n"
 
-abbrev pub superposed_line : List ℕ
-superposed_line =
+abbrev pub fifth_line : List ℕ
+fifth_line =
     codes "cnf(c4,plain,~$true,inference(para,[status(thm),from(0,left),into(0,left,[]),bind([]),bind([])],[c2,c3])).\n"
 
-abbrev pub resolved_line : List ℕ
-resolved_line = codes "cnf(c5,plain,$false,inference(refl,[status(thm),lit(0),bind([])],[c4])).\n"
+abbrev pub last_line : List ℕ
+last_line = codes "cnf(c5,plain,$false,inference(refl,[status(thm),lit(0),bind([])],[c4])).\n"
 
 -- the derivation with these lines as its third, fifth and last
 abbrev pub derivation_with : List ℕ → List ℕ → List ℕ → List ℕ
@@ -49,3 +50,7 @@ unsourced_derivation =
     ++ codes "cnf(c1,plain,~p,inference(clausify,[status(esa),index(1)],[c4])).\n"
     ++ codes "cnf(c2,plain,~$true,inference(para,[status(thm),from(0,left),into(0,left,[]),bind([]),bind([])],[c0,c1])).\n"
     ++ codes "cnf(c3,plain,$false,inference(refl,[status(thm),lit(0),bind([])],[c2])).\n"
+
+-- the text is an accepted derivation of the problem in a file r1.p
+abbrev pub Accepts : List ℕ → Type 0
+Accepts text = IsAcceptedDerivation (codes "r1.p") two_units text

@@ -86,7 +86,7 @@ pub data IsDueFor (outside : Outside) (file : List ℕ) (status : ℕ) (text : L
       status ≡ 4 → Rose outside.faults_before outside.faults_after → IfSome outside.failed_after (λ name. name ≡ file)
       → text ≡ load_failed_report file → IsDueFor outside file status text
 
--- 6 exactly where the words are usage, and then the library has met no fault
+-- 6 exactly where the words are usage, and then the library's count of faults is as it was
 abbrev pub IsDue : Option (List ℕ) → Outside → ℕ → List ℕ → Type 0
 IsDue None outside status text = (status ≡ 6) × (text ≡ usage_report) × (outside.faults_after ≡ outside.faults_before)
 IsDue (Some file) outside status text = IsDueFor outside file status text

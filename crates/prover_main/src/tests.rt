@@ -183,8 +183,8 @@ fn push_repeated(text: &mut Vec<u8>, piece: &[u8], count: usize) -> Result<(), F
     Ok(())
 }
 
-// A unit clause with so many levels of brackets in its atom's, and so many further arguments.
-fn unit_clause(alloc: Global, levels: usize, arguments: usize) -> Result<Vec<u8>, Fail> {
+// The text of a unit clause whose atom's first argument nests so many levels, with so many further arguments.
+fn unit_text(alloc: Global, levels: usize, arguments: usize) -> Result<Vec<u8>, Fail> {
     let mut text = Vec::new(alloc);
     text.extend_from_slice(b"cnf(a,axiom,p(")?;
     push_repeated(&mut text, b"f(", levels)?;
@@ -195,13 +195,13 @@ fn unit_clause(alloc: Global, levels: usize, arguments: usize) -> Result<Vec<u8>
     Ok(text)
 }
 
-// 500 levels and 4,000 symbols are read, `p`, `c` and `$true` among them; more is no want of memory.
+// 500 levels and 4,000 symbols are read, `p`, `c` and `$true` among them; beyond either limit the answer is 3, not 7.
 #[test]
 fn limits_of_a_problem_are_told(rt: HostRuntime) -> Result<(), Fail> {
     let alloc = rt.alloc();
     let words = words_of(alloc, ["prove", "w.p"].as_slice())?;
     for (levels, arguments, status) in [(500, 0, 10), (501, 0, 3), (0, 3997, 10), (0, 3998, 3)] {
-        let text = unit_clause(alloc, levels, arguments)?;
+        let text = unit_text(alloc, levels, arguments)?;
         let mut library = library_of(alloc, "w.p", text.as_slice())?;
         let mut sink = MemSink::new(alloc, 64, 100, Numbers::new(alloc))?;
         assert_eq!(rt;

@@ -4,4 +4,4 @@ use Rattle.ground_loop.proofs.prove.prove_ground.Goals as goal
 
 pub returns-clause-meaning : goal.returns-clause-meaning
 returns-clause-meaning c =
-    IfOk-change c.resolve.result _ _ (λ answer is. answer_meaning _ _ answer c.requires.ground is) c.resolve.ensures
+    IfOk-change c.answer.result _ _ (λ answer is. answer_meaning _ _ answer c.requires.ground is) c.answer.ensures

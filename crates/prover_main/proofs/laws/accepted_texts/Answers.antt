@@ -25,3 +25,7 @@ returns-clause-last_line_left_out c = refused 8 _ _ _ refl
 pub returns-clause-input_lines_left_out : goal.returns-clause-input_lines_left_out
 unfolding digits
 returns-clause-input_lines_left_out c = refused 8 _ _ _ refl
+
+pub returns-clause-other_clause : goal.returns-clause-other_clause
+unfolding digits
+returns-clause-other_clause c = refused 8 _ _ _ refl
