@@ -22,6 +22,13 @@ fn unary(alloc: Global, symbol: u32, argument: Term) -> Mem<Term> {
     Ok(Term::App(symbol, arguments))
 }
 
+fn binary(alloc: Global, symbol: u32, first: Term, second: Term) -> Mem<Term> {
+    let mut arguments = Terms::new(alloc);
+    arguments.push(first)?;
+    arguments.push(second)?;
+    Ok(Term::App(symbol, arguments))
+}
+
 #[test]
 fn a_known_term_keeps_its_number(rt: HostRuntime) -> Result<(), Fail> {
     let alloc = rt.alloc();
@@ -42,6 +49,34 @@ fn a_known_term_keeps_its_number(rt: HostRuntime) -> Result<(), Fail> {
     }
     assert_eq!(rt; first.copy().number(), first.number());
     assert_eq!(rt; TermRef::default().number(), u64::MAX);
+    Ok(())
+}
+
+#[test]
+fn terms_that_differ_have_numbers_that_differ(rt: HostRuntime) -> Result<(), Fail> {
+    let alloc = rt.alloc();
+    let rows = vec![in alloc;
+        Term::Var(0),
+        Term::Var(1),
+        constant(alloc, 0),
+        constant(alloc, 1),
+        unary(alloc, F, Term::Var(0))?,
+        binary(alloc, F, Term::Var(0), constant(alloc, A))?,
+        binary(alloc, F, constant(alloc, A), Term::Var(0))?,
+        unary(alloc, F, unary(alloc, F, Term::Var(0))?)?,
+    ]?;
+    let (mut bank, mut table) = Bank::new(alloc)?;
+    let mut numbers = Vec::new(alloc);
+    for term in &rows {
+        let number = bank.intern(alloc, &mut table, term)?.number();
+        assert!(rt; !numbers.contains(&number));
+        numbers.push(number)?;
+    }
+    let mut again = Vec::new(alloc);
+    for term in &rows {
+        again.push(bank.intern(alloc, &mut table, term)?.number())?;
+    }
+    assert!(rt; numbers.as_slice() == again.as_slice());
     Ok(())
 }
 
