@@ -123,13 +123,16 @@ fn terms_are_compared(rt: HostRuntime) -> Result<(), Fail> {
     Ok(())
 }
 
-/// Variables in several blocks, and the highest numbers that there are.
+/// Variables in several blocks, and numbers near the end of u32. In the third and the fourth row the first block alone
+/// would answer Greater and Less.
 #[test]
 fn many_variables_are_compared(rt: HostRuntime) -> Result<(), Fail> {
     let alloc = rt.alloc();
     let rows = [
         (4, 0, 200, 3, 0, 200, Cmp::Greater),
         (3, 0, 200, 3, 0, 200, Cmp::Equal),
+        (4, 0, 200, 3, 1, 201, Cmp::Unordered),
+        (3, 1, 201, 4, 0, 200, Cmp::Unordered),
         (4, 1, 201, 3, 0, 200, Cmp::Unordered),
         (4, 0, 200, 3, 0, 201, Cmp::Less),
         (
@@ -160,6 +163,103 @@ fn tall_terms_are_compared(rt: HostRuntime) -> Result<(), Fail> {
         right = Term::App(3, Terms::from_vec(vec![in alloc; right]?));
     }
     assert_eq!(rt; compared(&left, &right), Some(Cmp::Greater));
+    Ok(())
+}
+
+/// How often each pair of large terms is compared. The benchmark raises it.
+const COMPARISONS: u32 = 1;
+
+/// How large terms are built.
+#[derive(Clone, Copy)]
+enum Shape {
+    /// Unary symbols over a constant.
+    Tower,
+    /// A binary symbol, so many levels deep.
+    Balanced,
+    /// One symbol over constants.
+    Wide,
+    /// One symbol over so many different variables in turn.
+    Variables(u32),
+}
+
+fn applied(alloc: Global, symbol: u32, argument: Term) -> Result<Term, Fail> {
+    Ok(Term::App(symbol, Terms::from_vec(vec![in alloc; argument]?)))
+}
+
+fn tower(alloc: Global, height: u32, last: u32) -> Result<Term, Fail> {
+    let mut made = Term::App(last, Terms::new(alloc));
+    for _ in 0..height {
+        made = applied(alloc, 3, made)?;
+    }
+    Ok(made)
+}
+
+fn pair(alloc: Global, first: Term, second: Term) -> Result<Term, Fail> {
+    Ok(Term::App(3, Terms::from_vec(vec![in alloc; first, second]?)))
+}
+
+/// A full binary tree of that depth, the last leaf of which is given.
+fn balanced(alloc: Global, depth: u32, last: u32) -> Result<Term, Fail> {
+    let mut whole = Term::App(1, Terms::new(alloc));
+    let mut edge = Term::App(last, Terms::new(alloc));
+    for _ in 0..depth {
+        edge = pair(alloc, whole.copy(alloc)?, edge)?;
+        whole = pair(alloc, whole.copy(alloc)?, whole)?;
+    }
+    Ok(edge)
+}
+
+fn wide(alloc: Global, count: u32, last: u32) -> Result<Term, Fail> {
+    let mut arguments = Terms::new(alloc);
+    for _ in 1..count {
+        arguments.push(Term::App(1, Terms::new(alloc)))?;
+    }
+    arguments.push(Term::App(last, Terms::new(alloc)))?;
+    Ok(Term::App(3, arguments))
+}
+
+/// A symbol over that many occurrences of different variables in turn.
+fn over_variables(alloc: Global, head: u32, count: u32, different: u32) -> Result<Term, Fail> {
+    let mut arguments = Terms::new(alloc);
+    for index in 0..count {
+        arguments.push(Term::Var(index.checked_rem(different).unwrap_or(0)))?;
+    }
+    Ok(Term::App(head, arguments))
+}
+
+/// Two terms of a shape, the first of which is greater.
+fn large_pair(alloc: Global, shape: Shape, measure: u32) -> Result<(Term, Term), Fail> {
+    Ok(match shape {
+        Shape::Tower => (tower(alloc, measure, 2)?, tower(alloc, measure, 1)?),
+        Shape::Balanced => (balanced(alloc, measure, 2)?, balanced(alloc, measure, 1)?),
+        Shape::Wide => (wide(alloc, measure, 2)?, wide(alloc, measure, 1)?),
+        Shape::Variables(different) => {
+            let greater = over_variables(alloc, 4, measure, different)?;
+            (greater, over_variables(alloc, 3, measure, different)?)
+        }
+    })
+}
+
+/// Terms of some 100, 1,000 and 4,000 symbols that differ in their last symbol, or in their head over many variables.
+#[test]
+fn large_terms_are_compared(rt: HostRuntime) -> Result<(), Fail> {
+    let alloc = rt.alloc();
+    let rows = [
+        (Shape::Tower, [99, 999, 3_999]),
+        (Shape::Balanced, [6, 9, 11]),
+        (Shape::Wide, [99, 999, 3_999]),
+        (Shape::Variables(64), [99, 999, 3_999]),
+        (Shape::Variables(3_999), [99, 999, 3_999]),
+    ];
+    for (shape, measures) in rows {
+        for measure in measures {
+            let (greater, less) = large_pair(alloc, shape, measure)?;
+            for _ in 0..COMPARISONS {
+                assert_eq!(rt; compared(&greater, &less), Some(Cmp::Greater));
+            }
+            assert_eq!(rt; compared(&less, &less), Some(Cmp::Equal));
+        }
+    }
     Ok(())
 }
 

@@ -1,6 +1,7 @@
 -- The first negative literal of greatest size, as literals are read one by one.
 use Rattle.std.proofs.Common.{◌≡◌, ℕ, suc, ◌+◌, ◌<◌, ◌≤◌, max, Bool, true, false, not, ◌&&◌, ◌==◌, if◌then◌else◌, List, [], ◌∷◌, ◌++◌, length, length-take-le, map, take, get_or, Option, None, Some, refl, ap, sym, ◌∙◌, inl, inr, ⊎_elim, arith}
 use Rattle.std.specs.Prelude.{option_map}
+use Rattle.std.specs.List.{AllByRecursion}
 use Rattle.std.proofs.lemmas.Bool.{cases_lt, cond-true, cond-false, false_from_ne_true, eq-eqb, eqb-true}
 use Rattle.std.proofs.lemmas.List.{length-map}
 use Rattle.fol_base.specs.Clause.{TreeLiteral, literal_size}
@@ -98,6 +99,63 @@ first-found p (k ∷ ls) more l there here =
     ∙ sym (cond-true (p k) (Some 0) (option_map suc (first_index p ls)) first))
     (λ later. ap (λ (o : Option ℕ). if p k then Some 0 else option_map suc o) (first-found p ls more l later here))
     there
+
+mapped-none : (o : Option ℕ) → option_map suc o ≡ None → o ≡ None
+mapped-none None e = refl
+mapped-none (Some n) e = absurd (cc)
+
+not-found :
+    (b : Bool) (o : Option ℕ) → (if b then Some 0 else option_map suc o) ≡ None → b ≡ false × (o ≡ None)
+not-found true o e = absurd (cc)
+not-found false o e = (refl, mapped-none o e)
+
+first-some : (p : TreeLiteral → Bool) (ls : List TreeLiteral) (l : TreeLiteral) → In l ls → p l ≡ true → first_index p ls ≡ None → ⊥
+first-some p [] l there here none = absurd there
+first-some p (k ∷ ls) l there here none =
+    let found = not-found (p k) (first_index p ls) none in
+    ⊎_elim
+    (λ same. let no : true ≡ false = sym (ap p (sym same) ∙ here) ∙ found.0 in absurd (cc))
+    (λ later. first-some p ls l later here found.1)
+    there
+
+-- ---- where nothing is chosen
+
+abbrev pub AllPositive : List TreeLiteral → Type 0
+AllPositive ls = AllByRecursion (λ (l : TreeLiteral). l.positive ≡ true) ls
+
+positive-of_size : (l : TreeLiteral) → negative_size l ≡ 0 → l.positive ≡ true
+positive-of_size l e = by_sign_of l.positive (literal_size l) (literal_size-positive l) e
+  where
+    by_sign_of : (b : Bool) (s : ℕ) → 0 < s → (if b then 0 else s) ≡ 0 → b ≡ true
+    by_sign_of true s h e = refl
+    by_sign_of false s h e = absurd (omega (arith, h, e))
+
+all-positive : (ls : List TreeLiteral) → greatest_negative_size ls ≡ 0 → AllPositive ls
+all-positive [] e = tt
+all-positive (l ∷ ls) e =
+    let split = greatest-cons l ls in
+    (positive-of_size l (omega (arith, split, e)), all-positive ls (omega (arith, split, e)))
+
+positive-not_chosen : (size : ℕ) (ls : List TreeLiteral) → AllPositive ls → (l : TreeLiteral) → In l ls → is_chosen size l ≡ false
+positive-not_chosen size [] all l there = absurd there
+positive-not_chosen size (k ∷ ls) all l there =
+    ⊎_elim
+    (λ same. ap (λ (b : Bool). not b && (literal_size l == size)) (ap (λ (m : TreeLiteral). m.positive) same ∙ all.0))
+    (λ later. positive-not_chosen size ls all.1 l later)
+    there
+
+pub chosen-none : (ls : List TreeLiteral) → chosen select_negative ls ≡ None → AllPositive ls
+chosen-none ls none =
+    ⊎_elim
+    (λ some.
+    let top = greatest-attained ls some in
+    absurd (first-some (is_chosen (greatest_negative_size ls)) ls top.0 top.1 (is_chosen-from (greatest_negative_size ls) top.0 some top.2) none))
+    (λ zero. all-positive ls (omega arith))
+    (cases_lt 0 (greatest_negative_size ls))
+
+pub none-chosen : (ls : List TreeLiteral) → AllPositive ls → chosen select_negative ls ≡ None
+none-chosen ls all =
+    first-none (is_chosen (greatest_negative_size ls)) ls (positive-not_chosen (greatest_negative_size ls) ls all)
 
 -- ---- one more literal
 

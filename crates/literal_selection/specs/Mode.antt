@@ -1,5 +1,6 @@
 -- Which literal of a clause is chosen.
-use Rattle.std.specs.Prelude.{ℕ, if◌then◌else◌}
+use Rattle.std.specs.Prelude.{◌≡◌, ⊤, ℕ, true, List, if◌then◌else◌}
+use Rattle.std.specs.List.{AllByRecursion}
 use Rattle.fol_base.specs.Clause.{TreeLiteral, literal_size}
 use Rattle.fol_base.specs.Selection.{SelectionMode, select_nothing, select_negative}
 use Rattle.literal_selection.specs.declared.choice.Selection.{Selection}
@@ -12,3 +13,8 @@ mode_of Negative = select_negative
 -- the size of a negative literal, and 0 for a positive one
 abbrev pub negative_size : TreeLiteral → ℕ
 negative_size l = if l.positive then 0 else literal_size l
+
+-- nothing is to be chosen: the mode says so, or no literal is negative
+abbrev pub HasNoChoice : Selection → List TreeLiteral → Type 0
+HasNoChoice Nothing ls = ⊤
+HasNoChoice Negative ls = AllByRecursion (λ (l : TreeLiteral). l.positive ≡ true) ls

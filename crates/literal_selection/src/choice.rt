@@ -1,10 +1,10 @@
 // The chosen literal of a clause.
 
-ghost use Rattle.std.specs.Prelude.{◌≡◌, ◌<◌, ◌^◌, map, sum_by};
+ghost use Rattle.std.specs.Prelude.{◌≡◌, ◌<◌, ◌^◌, ◌↔◌, None, map, sum_by};
 ghost use Rattle.fol_base.specs.Clause.{literal_size};
 ghost use Rattle.fol_base.specs.Literal.{literal_of};
 ghost use Rattle.fol_base.specs.Selection.{chosen, select_negative};
-ghost use Rattle.literal_selection.specs.Mode.{mode_of, negative_size};
+ghost use Rattle.literal_selection.specs.Mode.{mode_of, negative_size, HasNoChoice};
 
 use fol_base::Literal;
 
@@ -21,7 +21,8 @@ pub enum Selection {
 /// `Nothing` or no literal is negative. It takes no memory.
 pub fn selected(literals: &[Literal], mode: Selection) -> Option<usize>
     requires { sum_by literal_size (map literal_of literals.now) < 2 ^ 62 }
-    ensures { result ≡ chosen (mode_of mode) (map literal_of literals.now) }
+    ensures chosen { result ≡ chosen (mode_of mode) (map literal_of literals.now) }
+    ensures none { (result ≡ None) ↔ HasNoChoice mode (map literal_of literals.now) }
 {
     match mode {
         Selection::Nothing => None,
