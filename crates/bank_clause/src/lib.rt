@@ -1,4 +1,13 @@
 // Clauses whose literals' sides are terms of a bank.
 #![tactic(auto)]
 
+mod clause;
+mod literals;
+mod member;
+mod names;
+
+pub use clause::BankClause;
+pub use member::{Member, Members};
 pub use term_bank::BankLit;
+
+pub mod laws;

@@ -1,0 +1,3 @@
+pub mod LearningLemmas
+pub mod GrowthLemmas
+pub mod ClauseLemmas
