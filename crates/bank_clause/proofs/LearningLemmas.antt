@@ -81,9 +81,10 @@ pub known-literals-kept :
     (old new : Bank) (trees : List Tree) (before after : Table) (ls : List BankLit)
     → Grows old new → AreLiteralsOf old ls → Learns trees before after
     → All (IsKnown old before) ls → All (IsKnown new after) ls
-known-literals-kept old new trees before after ls grown are_of learned known k d below =
-    (known-kept old new trees before after _ _ grown (are_of k d below).0 learned refl (known k d below).0,
-    known-kept old new trees before after _ _ grown (are_of k d below).1 learned refl (known k d below).1)
+known-literals-kept old new trees before after ls grown are_of learned known k d below = (
+  known-kept old new trees before after _ _ grown (are_of k d below).0 learned refl (known k d below).0,
+  known-kept old new trees before after _ _ grown (are_of k d below).1 learned refl (known k d below).1,
+)
 
 -- one more literal, in a bank that has grown for it
 pub literals-push :
@@ -93,10 +94,11 @@ pub literals-push :
     → IsLiteralOf new l → literal_in new l ≡ t → IsKnown new after l
     → AreLiteralsOf new (ls ++ l ∷ []) × (literals_in new (ls ++ l ∷ []) ≡ made ++ t ∷ []) × All (IsKnown new after) (ls ++ l ∷ [])
 literals-push old new trees before after ls l made t grown learned are_of same known is_of stands has =
-    let kept : AreLiteralsOf new ls × (literals_in new ls ≡ literals_in old ls) = keeps_literals old new ls grown are_of in
-    (All-push (IsLiteralOf new) ls l kept.0 is_of,
-    map-append (literal_in new) ls (l ∷ []) ∙ (λ j. (kept.1 ∙ same) j ++ stands j ∷ []),
-    All-push (IsKnown new after) ls l (known-literals-kept old new trees before after ls grown are_of learned known) has)
+    let kept : AreLiteralsOf new ls × (literals_in new ls ≡ literals_in old ls) = keeps_literals old new ls grown are_of in (
+      All-push (IsLiteralOf new) ls l kept.0 is_of,
+      map-append (literal_in new) ls (l ∷ []) ∙ (λ j. (kept.1 ∙ same) j ++ stands j ∷ []),
+      All-push (IsKnown new after) ls l (known-literals-kept old new trees before after ls grown are_of learned known) has,
+    )
 
 -- ---- the sides of a literal are among those of all
 

@@ -17,12 +17,16 @@ ghost use Rattle.bank_clause.specs.Clause.{
   sides,
 };
 
-use crate::literals::{BankLits, copied_literals, intern_literals, tree_literals};
-use crate::names::{bare_names, negative_names};
+use crate::interning::{bare_names, intern_literals};
+use crate::trees::{negative_names, tree_literals};
 use fol_base::{Clause, Literals, Mem, Names};
+use smallvec::SmallVec;
 use std::alloc::Global;
 use std::marker::Model;
 use term_bank::{Bank, BankLit, Table};
+
+/// Few clauses have more literals, so most lists of them take no allocation of their own.
+pub(crate) type BankLits = SmallVec<BankLit, 4>;
 
 /// A clause whose literals' sides are terms of a bank, with the names of the split-off parts that it
 /// asserts. Its variables are numbered by first occurrence.
@@ -101,7 +105,7 @@ impl BankClause {
         ensures names { result.now ≡ self.now.names }
         ensures rise { IsStrictlyIncreasing result.now }
     {
-        self.names.as_slice()
+        &self.names
     }
 
     /// The sizes of both sides of all literals together. Names count nothing.
@@ -127,4 +131,15 @@ impl BankClause {
             symbols: self.symbols,
         })
     }
+}
+
+/// Equal literals.
+fn copied_literals(alloc: Global, literals: &[BankLit]) -> Mem<BankLits>
+    ensures { IfOk result (λ made. made.items ≡ literals.now) }
+{
+    let mut made = SmallVec::with_capacity(alloc, literals.len())?;
+    for literal in literals {
+        made.push(literal.copy())?;
+    }
+    Ok(made)
 }

@@ -2,9 +2,9 @@
 #![tactic(auto)]
 
 mod clause;
-mod literals;
+mod interning;
 mod member;
-mod names;
+mod trees;
 
 pub use clause::BankClause;
 pub use member::{Member, Members};

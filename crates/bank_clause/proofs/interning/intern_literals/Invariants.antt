@@ -4,7 +4,7 @@ use Rattle.fol_base.specs.Literal.{literal_of}
 use Rattle.term_bank.specs.Bank.{IsTableOf, Grows}
 use Rattle.term_bank.specs.Literal.{AreLiteralsOf, literals_in}
 use Rattle.bank_clause.specs.Clause.{Learns, IsKnown, sides}
-use Rattle.bank_clause.proofs.literals.intern_literals.Given as goal
+use Rattle.bank_clause.proofs.interning.intern_literals.Given as goal
 
 abbrev pub invariant-loop-literal : goal.invariant-loop-literal
 invariant-loop-literal l =

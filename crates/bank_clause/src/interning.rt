@@ -1,19 +1,17 @@
-// Literals to and from a bank.
+// Literals and names of a clause as a bank clause keeps them.
 
-ghost use Rattle.std.specs.Prelude.{◌≡◌, ◌∷◌, map, IfOk};
+ghost use Rattle.std.specs.Prelude.{◌≡◌, map, IfOk};
 ghost use Rattle.std.specs.List.{All};
 ghost use Rattle.fol_base.specs.Literal.{literal_of};
 ghost use Rattle.term_bank.specs.Bank.{IsTableOf, Grows};
 ghost use Rattle.term_bank.specs.Literal.{IsLiteralOf, AreLiteralsOf, literal_in, literals_in};
 ghost use Rattle.bank_clause.specs.Clause.{Learns, IsKnown, literal_sides, sides};
 
-use fol_base::{Literal, Mem};
+use crate::clause::BankLits;
+use fol_base::{Literal, Mem, NameLit};
 use smallvec::SmallVec;
 use std::alloc::Global;
 use term_bank::{Bank, BankLit, Table};
-
-/// Few clauses have more literals, so that most lists of them take no allocation of their own.
-pub(crate) type BankLits = SmallVec<BankLit, 4>;
 
 /// The literals with their sides interned. After want of memory the table may know further sides.
 pub(crate) fn intern_literals(
@@ -61,39 +59,13 @@ fn intern_literal(
     })
 }
 
-/// Equal literals.
-pub(crate) fn copied_literals(alloc: Global, literals: &[BankLit]) -> Mem<BankLits>
-    ensures { IfOk result (λ made. made.items ≡ literals.now) }
+/// The names without their signs.
+pub(crate) fn bare_names(alloc: Global, names: &[NameLit]) -> Mem<Vec<u32>>
+    ensures { IfOk result (λ bare. bare.items ≡ map (λ n. n.name) names.now) }
 {
-    let mut made = SmallVec::with_capacity(alloc, literals.len())?;
-    for literal in literals {
-        made.push(literal.copy())?;
+    let mut bare = Vec::with_capacity(alloc, names.len())?;
+    for name in names {
+        bare.push(name.name)?;
     }
-    Ok(made)
-}
-
-/// The literals as trees.
-pub(crate) fn tree_literals(alloc: Global, bank: &Bank, literals: &[BankLit]) -> Mem<Vec<Literal>>
-    requires { AreLiteralsOf bank.now literals.now }
-    ensures { IfOk result (λ made. map literal_of made.items ≡ literals_in bank.now literals.now) }
-{
-    let mut made = Vec::with_capacity(alloc, literals.len())?;
-    for literal in literals {
-        made.push(tree_literal(alloc, bank, literal)?)?;
-    }
-    Ok(made)
-}
-
-/// The literal as trees.
-fn tree_literal(alloc: Global, bank: &Bank, literal: &BankLit) -> Mem<Literal>
-    requires { IsLiteralOf bank.now literal.now }
-    ensures { IfOk result (λ made. literal_of made ≡ literal_in bank.now literal.now) }
-{
-    let left = bank.tree(&literal.left).copy(alloc)?;
-    let right = bank.tree(&literal.right).copy(alloc)?;
-    Ok(Literal {
-        positive: literal.positive,
-        left,
-        right,
-    })
+    Ok(bare)
 }
