@@ -27,8 +27,9 @@ abbrev pub IsCanonical : TreeClause → Type 0
 IsCanonical c = canonical_clause c ≡ c
 
 -- the names are negative, and their numbers rise
-abbrev pub AreAssertions : List NameLit → Type 0
-AreAssertions ns = All (λ n. n.positive ≡ false) ns × IsStrictlyIncreasing (map (λ n. n.name) ns)
+pub record AreAssertions (ns : List NameLit) : Type 0 where
+  pub negative : All (λ n. n.positive ≡ false) ns
+  pub rise : IsStrictlyIncreasing (map (λ n. n.name) ns)
 
 -- the clause is of the bank: its references are, its variables are canonical, and its size is that of its trees
 pub record IsClauseOf (bank : Bank) (c : BankClause) : Type 0 where
