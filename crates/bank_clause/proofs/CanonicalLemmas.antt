@@ -1,5 +1,5 @@
 -- A canonical form is canonical: numbering by first occurrence does nothing to what is so numbered.
-use Rattle.std.proofs.Common.{◌≡◌, ℕ, zero, suc, ◌+◌, Bool, true, false, not, ◌||◌, ◌==◌, cond, Option, None, Some, List, [], ◌∷◌, ◌++◌, length, map, get_or, refl, ap, ap₂, sym, ◌∙◌, ⊎_elim, arith}
+use Rattle.std.proofs.Common.{◌≡◌, ℕ, suc, ◌+◌, Bool, true, false, not, ◌||◌, ◌==◌, cond, Some, List, [], ◌∷◌, ◌++◌, map, get_or, refl, ap, ap₂, sym, ◌∙◌, ⊎_elim}
 use Rattle.std.specs.Prelude.{filter, flat_map, option_map, unwrap_or, sum_by}
 use Rattle.std.specs.List.{AllByRecursion, list_any}
 use Rattle.std.proofs.lemmas.Bool.{or_left, or_right, cond_both, eqb-true, eq-eqb, true≢false, cond-true, cond-false, cases_Bool}
@@ -9,8 +9,8 @@ use Rattle.std.proofs.lemmas.Map.Views.{any-filter_same}
 use Rattle.fol_base.specs.Tree.{Tree, variable, application, Trees, no_trees, tree_then, tree_variables, trees_variables, tree_size, trees_size}
 use Rattle.fol_base.specs.Instance.{Substitution, instance, instances}
 use Rattle.fol_base.specs.InstanceLaws.{after}
-use Rattle.fol_base.specs.Clause.{TreeLiteral, TreeClause, literal_instance, literal_variables, literal_size, clause_variables, clause_instance, clause_size}
-use Rattle.fol_base.specs.Canonical.{distinct, place_of, renaming, canonical_clause}
+use Rattle.fol_base.specs.Clause.{TreeLiteral, TreeClause, literal_instance, literal_variables, literal_size, clause_variables, clause_instance}
+use Rattle.fol_base.specs.Canonical.{distinct, place_of, renaming}
 use Rattle.fol_base.proofs.InstanceLemmas.{Agree, literals-agree, clause_instances_of_instances}
 use Rattle.bank_clause.specs.Laws.{CanonicalFormsAreCanonical, CanonicalFormsKeepSizes}
 

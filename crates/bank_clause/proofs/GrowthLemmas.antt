@@ -1,10 +1,9 @@
 -- A bank that grows keeps its clauses and members.
-use Rattle.std.proofs.Common.{◌≡◌, List, ◌∷◌, map, sym, ap, ◌∙◌, subst}
-use Rattle.fol_base.specs.Clause.{TreeClause, clause_size}
+use Rattle.std.proofs.Common.{◌≡◌, map, sym, ap, ◌∙◌, subst}
+use Rattle.fol_base.specs.Clause.{clause_size}
 use Rattle.term_bank.specs.Literal.{AreLiteralsOf, literals_in}
-use Rattle.term_bank.specs.declared.bank.Bank.{Bank}
 use Rattle.term_bank.proofs.GrowthLemmas.{keeps_literals}
-use Rattle.bank_clause.specs.Clause.{assertion, clause_in, IsCanonical, IsClauseOf}
+use Rattle.bank_clause.specs.Clause.{assertion, clause_in, IsCanonical}
 use Rattle.bank_clause.specs.Laws.{KeepsClauses, KeepsMembers}
 
 pub keeps_clauses : KeepsClauses

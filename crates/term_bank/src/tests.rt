@@ -1,6 +1,6 @@
 // Each public call once, with ample memory, on rows worked out by hand.
 
-ghost use Rattle.std.specs.Prelude.{◌≡◌, ◌<◌, ◌≤◌, ◌^◌};
+ghost use Rattle.std.specs.Prelude.{◌<◌};
 ghost use Rattle.term_bank.specs.Bank.{IsTableOf};
 
 use super::*;

@@ -1,9 +1,9 @@
-use Rattle.std.proofs.Common.{◌∷◌, [], List, ap, ◌∙◌, refl}
+use Rattle.std.proofs.Common.{List, ap, ◌∙◌}
 use Rattle.fol_base.specs.Tree.{Tree}
 use Rattle.fol_base.specs.Literal.{literal_of}
 use Rattle.term_bank.specs.Bank.{number_in}
 use Rattle.bank_clause.specs.Clause.{Learns, literal_sides}
-use Rattle.bank_clause.proofs.LearningLemmas.{learns_nothing, learns_interned, learns_onward, known-kept, Contains-first, Contains-second}
+use Rattle.bank_clause.proofs.LearningLemmas.{learns_interned, learns_onward, known-kept, Contains-first, Contains-second}
 use Rattle.bank_clause.proofs.interning.intern_literal.Goals as goal
 
 pub returns-clause-known : goal.returns-clause-known

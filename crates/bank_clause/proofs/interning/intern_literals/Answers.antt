@@ -1,4 +1,4 @@
-use Rattle.std.proofs.Common.{◌≡◌, ◌+◌, ◌∷◌, ◌++◌, [], List, map, take, sym, ap, ◌∙◌, subst, arith}
+use Rattle.std.proofs.Common.{◌≡◌, ◌∷◌, ◌++◌, [], List, map, take, sym, ap, ◌∙◌, subst, arith}
 use Rattle.fol_base.specs.Clause.{TreeLiteral}
 use Rattle.std.specs.List.{All}
 use Rattle.fol_base.specs.Literal.{literal_of}
@@ -8,7 +8,7 @@ use Rattle.term_bank.specs.declared.bank.Bank.{Bank}
 use Rattle.term_bank.specs.declared.bank.Table.{Table}
 use Rattle.term_bank.specs.declared.literal.BankLit.{BankLit}
 use Rattle.term_bank.proofs.GrowthLemmas.{grows_onward}
-use Rattle.bank_clause.specs.Clause.{IsKnown, literal_sides}
+use Rattle.bank_clause.specs.Clause.{IsKnown}
 use Rattle.bank_clause.proofs.LearningLemmas.{learns_step, literals-push}
 use Rattle.bank_clause.proofs.interning.intern_literals.Goals as goal
 
