@@ -1,7 +1,7 @@
 -- Worked examples: the clause p(X0) | X0 != a with the assertion of the name 3, in a bank of its four sides.
 use Rattle.std.specs.Prelude.{ℕ, true, false, [], ◌∷◌}
 use Rattle.fol_base.specs.Interpretation.{true_tree}
-use Rattle.fol_base.specs.Clause.{TreeClause, TreeLiteral}
+use Rattle.fol_base.specs.Clause.{TreeClause}
 use Rattle.fol_base.specs.Examples.{x, a, p, disequation}
 use Rattle.term_bank.specs.declared.bank.Bank.{Bank}
 use Rattle.term_bank.specs.declared.literal.BankLit.{BankLit}
