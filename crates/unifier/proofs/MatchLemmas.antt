@@ -1,13 +1,14 @@
 -- The walk finds exactly the matchers that have the pairs handed in.
-use Rattle.std.proofs.Common.{◌≡◌, ◌↔◌, ℕ, suc, Bool, true, false, ◌||◌, ◌==◌, cond, Option, None, Some, List, [], ◌∷◌, ◌++◌, length, map, append-nil, append_assoc, refl, ap, ap₂, sym, ◌∙◌, subst, ⊎_elim, arith, eq-eqb}
-use Rattle.std.specs.Prelude.{option_and_then, if◌then◌else◌}
+use Rattle.std.proofs.Common.{◌≡◌, ◌↔◌, ℕ, zero, suc, ◌+◌, ◌<◌, get_or, Bool, true, false, ◌||◌, ◌==◌, cond, Option, None, Some, List, [], ◌∷◌, ◌++◌, length, map, append-nil, append_assoc, refl, ap, ap₂, sym, ◌∙◌, subst, ⊎_elim, arith, eq-eqb}
+use Rattle.std.specs.Prelude.{option_and_then, unwrap_or, if◌then◌else◌}
 use Rattle.std.specs.List.{AllByRecursion, list_any}
 use Rattle.std.proofs.lemmas.List.{map-append}
 use Rattle.std.proofs.lemmas.Bool.{cond-true, cond-false, cases_Bool, eqb-true, true≢false}
 use Rattle.fol_base.specs.Tree.{Tree, variable, application, Trees, no_trees, tree_then, trees_of, tree_eq, tree_variables, trees_variables}
-use Rattle.fol_base.specs.Instance.{Substitution, instance, instances}
+use Rattle.fol_base.specs.Instance.{Substitution, instance, instances, substitution}
+use Rattle.fol_base.specs.Canonical.{terms_from}
 use Rattle.fol_base.proofs.TreeLemmas.{tree_eq-refl, tree_eq-true}
-use Rattle.unifier.specs.Matching.{variables_of, term_for, NoVariableTwice, HasPairs, with_further, IsMatched, NoMatcher}
+use Rattle.unifier.specs.Matching.{variables_of, term_for, by_pairs, PairsBelow, NoVariableTwice, HasPairs, with_further, IsMatched, NoMatcher}
 use Rattle.fol_base.specs.Term.{tree_of}
 use Rattle.unifier.specs.declared.matched.Pair.{Pair}
 use Rattle.unifier.specs.Walk.{pair_of, met, walk, walk_all}
@@ -307,3 +308,52 @@ pub answer-none :
     → ps ≡ so_far → walk ps t u ≡ (if fits then Some qs else None) → fits ≡ false → NoMatcher so_far t u
 answer-none ps so_far qs t u false e w h = subst (λ (rs : Pairs). NoMatcher rs t u) e (walk-none ps t u w)
 answer-none ps so_far qs t u true e w h = absurd (true≢false h)
+
+-- ---- the substitution of the pairs
+
+unwrapped : (v : ℕ) (o : Option Tree) (t : Tree) → o ≡ Some t → unwrap_or o (variable v) ≡ t
+unwrapped v None t e = cc
+unwrapped v (Some u) t e = cc
+
+terms_from-at : (first n v : ℕ) (σ : Substitution) (d : Tree) → v < n → get_or (terms_from first n σ) v d ≡ σ (first + v)
+terms_from-at first zero v σ d h = absurd (omega arith)
+terms_from-at first (suc n) zero σ d h = let e : first ≡ first + 0 = omega arith in ap σ e
+terms_from-at first (suc n) (suc v) σ d h =
+    let e : suc first + v ≡ first + suc v = omega arith in terms_from-at (suc first) n v σ d (omega arith) ∙ ap σ e
+
+below : (n : ℕ) (ps : Pairs) (v : ℕ) (t : Tree) → PairsBelow n ps → term_for v ps ≡ Some t → v < n
+below n [] v t h e = cc
+below n (p ∷ ps) v t h e =
+    ⊎_elim
+    (λ same. let P : ℕ → Type 0 = λ u. u < n in subst P (sym (eqb-true v p.0 same)) h.0)
+    (λ other. below n ps v t h.1 (sym (cond-false (v == p.0) (Some p.1) (term_for v ps) other) ∙ e))
+    (cases_Bool (v == p.0))
+
+-- each pair is its variable's, where no variable has two
+own-terms :
+    (ps : Pairs) (σ : Substitution)
+    → NoVariableTwice ps → ((v : ℕ) (t : Tree) → term_for v ps ≡ Some t → σ v ≡ t) → HasPairs ps σ
+own-terms [] σ n h = tt
+own-terms (p ∷ ps) σ n h = (
+  h p.0 p.1 (cond-true (p.0 == p.0) (Some p.1) (term_for p.0 ps) (eq-eqb p.0 p.0 refl)),
+  own-terms ps σ n.1
+  (λ v t e.
+  ⊎_elim
+  (λ same.
+  let wrong : None ≡ Some t = sym (ap (λ w. term_for w ps) (eqb-true v p.0 same) ∙ n.0) ∙ e in
+  absurd cc)
+  (λ other. h v t (cond-false (v == p.0) (Some p.1) (term_for v ps) other ∙ e))
+  (cases_Bool (v == p.0))),
+)
+
+pub HasPairs-subst :
+    (n : ℕ) (ps : Pairs) (terms : List Tree)
+    → NoVariableTwice ps → PairsBelow n ps → terms ≡ terms_from 0 n (by_pairs ps) → HasPairs ps (substitution terms)
+HasPairs-subst n ps terms twice less e =
+    own-terms ps (substitution terms) twice
+    (λ v t found.
+    let plus : 0 + v ≡ v = omega arith in
+    ap (λ (ts : List Tree). get_or ts v (variable v)) e
+    ∙ terms_from-at 0 n v (by_pairs ps) (variable v) (below n ps v t less found)
+    ∙ ap (by_pairs ps) plus
+    ∙ unwrapped v (term_for v ps) t found)

@@ -1,7 +1,7 @@
 -- Matchers that have given pairs, each a variable and its term.
-use Rattle.std.specs.Prelude.{◌≡◌, ◌↔◌, ℕ, ◌==◌, List, [], ◌∷◌, ◌++◌, map, Option, None, Some, if◌then◌else◌, ⊤}
+use Rattle.std.specs.Prelude.{◌≡◌, ◌↔◌, ℕ, ◌<◌, ◌==◌, List, [], ◌∷◌, ◌++◌, map, Option, None, Some, unwrap_or, if◌then◌else◌, ⊤}
 use Rattle.std.specs.List.{AllByRecursion, list_any}
-use Rattle.fol_base.specs.Tree.{Tree, tree_variables}
+use Rattle.fol_base.specs.Tree.{Tree, variable, tree_variables}
 use Rattle.fol_base.specs.Instance.{Substitution}
 use Rattle.fol_base.specs.Unifier.{IsMatcher}
 
@@ -13,6 +13,14 @@ variables_of pairs = map (λ (p : ℕ × Tree). p.0) pairs
 abbrev pub term_for : ℕ → List (ℕ × Tree) → Option Tree
 term_for v [] = None
 term_for v (p ∷ ps) = if v == p.0 then Some p.1 else term_for v ps
+
+-- the substitution of the pairs: a variable without one stands for itself
+abbrev pub by_pairs : List (ℕ × Tree) → Substitution
+by_pairs pairs v = unwrap_or (term_for v pairs) (variable v)
+
+-- each variable that has a pair has a number below n
+abbrev pub PairsBelow : ℕ → List (ℕ × Tree) → Type 0
+PairsBelow n pairs = AllByRecursion (λ v. v < n) (variables_of pairs)
 
 -- no variable has two pairs
 abbrev pub NoVariableTwice : List (ℕ × Tree) → Type 0

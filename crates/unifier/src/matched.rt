@@ -2,9 +2,11 @@
 
 ghost use Rattle.std.specs.Prelude.{◌≡◌, [], ◌∷◌, ◌++◌, None, option_map, IfOk, OnErr, OnOk};
 ghost use Rattle.fol_base.specs.Term.{tree_of};
-ghost use Rattle.unifier.specs.Matching.{term_for};
+ghost use Rattle.fol_base.specs.Instance.{substitution};
+ghost use Rattle.fol_base.specs.Canonical.{terms_from};
+ghost use Rattle.unifier.specs.Matching.{HasPairs, PairsBelow, by_pairs, term_for};
 
-use fol_base::{Mem, Term};
+use fol_base::{Mem, Subst, Term, Terms};
 use std::alloc::Global;
 use std::marker::Model;
 
@@ -70,6 +72,31 @@ impl<'a> Matched<'a> {
     {
         self.pairs.push(Pair { variable, term })?;
         Ok(())
+    }
+
+    /// The substitution of that length. A variable without a pair stands for itself. The condition is that
+    /// each variable of a pair has a number below `count`.
+    pub fn subst(&self, alloc: Global, count: u32) -> Mem<Subst>
+        requires { PairsBelow count self.now }
+        ensures terms { IfOk result (λ made. made ≡ terms_from 0 count (by_pairs self.now)) }
+        ensures pairs { IfOk result (λ made. HasPairs self.now (substitution made)) }
+    {
+        let _ = &self.pairs;
+        let mut items = Vec::with_capacity(alloc, count as usize)?;
+        for variable in 0..count {
+            items.push(self.term_or_variable(alloc, variable)?)?;
+        }
+        Ok(Terms::from_vec(items))
+    }
+
+    /// A copy of the variable's term, or the variable.
+    fn term_or_variable(&self, alloc: Global, variable: u32) -> Mem<Term>
+        ensures { IfOk result (λ term. tree_of term ≡ by_pairs self.now variable) }
+    {
+        match self.term_for(variable) {
+            Some(term) => term.copy(alloc),
+            None => Ok(Term::Var(variable)),
+        }
     }
 
     /// An equal list.
