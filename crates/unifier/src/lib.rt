@@ -1,8 +1,17 @@
 // Unifying and matching of terms (Robinson 1965).
 #![tactic(auto)]
 
+mod bindings;
+mod cells;
+mod classes;
+mod layout;
 mod matched;
 mod matching;
+mod placing;
+mod solving;
+mod unifying;
 
+pub use bindings::Bindings;
 pub use matched::Matched;
 pub use matching::match_onto;
+pub use unifying::unify;

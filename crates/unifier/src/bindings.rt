@@ -1,0 +1,13 @@
+// What a unification finds.
+
+use crate::cells::Cell;
+use crate::layout::Place;
+
+/// A most general unifier. It shares the common parts of its terms, so it is no larger than the two terms
+/// together.
+#[derive(Drop)]
+pub struct Bindings {
+    pub(crate) apart: bool,
+    pub(crate) cells: Vec<Cell>,
+    pub(crate) places: Vec<Place>,
+}
