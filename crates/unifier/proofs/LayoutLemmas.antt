@@ -23,10 +23,10 @@ length-push : (cs : List Cell) (c : Cell) → length (cs ++ c ∷ []) ≡ length
 length-push cs c = length-append cs (c ∷ [])
 
 pub cell_at-front : (cs more : List Cell) (i : ℕ) → i < length cs → cell_at (cs ++ more) i ≡ cell_at cs i
-cell_at-front cs more i h = get_or-append cs more NoTrees i h
+cell_at-front cs more i h = get_or-append cs more (Variable 0) i h
 
 pub cell_at-last : (cs : List Cell) (c : Cell) → cell_at (cs ++ c ∷ []) (length cs) ≡ c
-cell_at-last cs c = get_or-append_seam cs c [] NoTrees
+cell_at-last cs c = get_or-append_seam cs c [] (Variable 0)
 
 split : (i n : ℕ) → i < n + 1 → (i < n) ⊎ (i ≡ n)
 split i n h = ⊎_elim inl (λ ge. inr (omega arith)) (cases_lt i n)

@@ -1,2 +1,3 @@
 pub mod MatchLemmas
 pub mod LayoutLemmas
+pub mod ClassLemmas

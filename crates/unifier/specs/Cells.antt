@@ -21,7 +21,7 @@ as_trees (tree t) = no_trees
 as_trees (trees ts) = ts
 
 abbrev pub cell_at : List Cell → ℕ → Cell
-cell_at cells i = slice_index_or cells i NoTrees
+cell_at cells i = slice_index_or cells i (Variable 0)
 
 -- the value of a cell, from what stands for the variables and from the values of its parts
 abbrev pub value_of : Substitution → (ℕ → Value) → Cell → Value

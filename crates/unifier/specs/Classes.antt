@@ -96,6 +96,12 @@ pub record AreClosed (cells : List Cell) (old : Classes) (new : Classes) : Type 
 abbrev pub IsDiscrete : ℕ → Classes → Type 0
 IsDiscrete n c = (i : ℕ) → i < n → (parent c i ≡ i) × (schema c i ≡ i)
 
+-- a cell on the way up to its class's smallest cell
+pub record IsOnTheWay (c : Classes) (i : ℕ) (at : ℕ) : Type 0 where
+  pub below : at ≤ i
+  pub same : (f : ℕ → Value) → ((j : ℕ) → j < length c.parents.items → f (parent c j) ≡ f j) → f at ≡ f i
+  pub flat : IsFlat (length c.parents.items) c → parent c at ≡ parent c i
+
 -- the smallest cell of a class
 pub record HasFound (c : Classes) (i : ℕ) (root : ℕ) : Type 0 where
   pub below : root ≤ i
