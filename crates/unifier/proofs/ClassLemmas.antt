@@ -208,3 +208,246 @@ step-refuted cells old cell root s h found inside e clash =
       clash = sym clash;
       forced = λ f congruent constant. schema-same (length cells) old cell root s f h found root_in e constant;
     }
+
+-- ---- a round
+
+-- how far a round has come down
+abbrev pub RoundSoFar : List Cell → Classes → Classes → ℕ → Bool → Type 0
+RoundSoFar cells old new from joined =
+    MatchBool joined (total new.parents.items < total old.parents.items)
+    ((new ≡ old) × (IsFlat (length cells) old → (i : ℕ) → from ≤ i → i < length cells → IsClosedAt cells old i))
+
+pub round-joined :
+    (cells : List Cell) (old mid new : Classes) (from next : ℕ) (joined : Bool)
+    → RoundSoFar cells old mid from joined → total new.parents.items < total mid.parents.items → RoundSoFar cells old new next true
+round-joined cells old mid new from next true h less = omega arith
+round-joined cells old mid new from next false h less =
+    let P : Classes → Type 0 = λ c. total new.parents.items < total c.parents.items in
+    subst P h.0 less
+
+pub round-unchanged :
+    (cells : List Cell) (old mid new : Classes) (from : ℕ) (joined : Bool)
+    → 0 < from → RoundSoFar cells old mid from joined
+    → (new ≡ mid) × (IsFlat (length cells) mid → IsClosedAt cells mid (from - 1)) → RoundSoFar cells old new (from - 1) joined
+round-unchanged cells old mid new from true pos h step =
+    let P : Classes → Type 0 = λ c. total c.parents.items < total old.parents.items in
+    subst P (sym step.0) h
+round-unchanged cells old mid new from false pos h step = (
+  step.0 ∙ h.0,
+  λ flat i le inside.
+  ⊎_elim
+  (λ less. h.1 flat i (omega arith) inside)
+  (λ ge.
+  let here : from - 1 ≡ i = omega arith in
+  let P : Classes → Type 0 = λ c. IsFlat (length cells) c → IsClosedAt cells c (from - 1) in
+  subst (IsClosedAt cells old) here (subst P h.0 step.1 flat))
+  (cases_lt (from - 1) i),
+)
+
+-- ---- flattening
+
+pub record IsFlattening (n : ℕ) (old : Classes) (new : Classes) (i : ℕ) : Type 0 where
+  pub classes : AreClasses n new
+  pub sound : (f : ℕ → Value) → IsConstantOn n old f → IsConstantOn n new f
+  pub falls : total new.parents.items ≤ total old.parents.items
+  pub so_far : (j : ℕ) → j < i → parent new (parent new j) ≡ parent new j
+
+pub flattening-starts : (n : ℕ) (c : Classes) → AreClasses n c → IsFlattening n c c 0
+flattening-starts n c h = record { classes = h; sound = λ f constant. constant; falls = omega arith; so_far = λ j less. absurd (omega arith) }
+
+pub flattening-step :
+    (n : ℕ) (old mid new : Classes) (i up top : ℕ)
+    → IsFlattening n old mid i → i < n → up ≡ parent mid i → top ≡ parent mid up
+    → new.parents.items ≡ set mid.parents.items i top → new.schemas.items ≡ mid.schemas.items → IsFlattening n old new (i + 1)
+flattening-step n old mid new i up top h inside up_is top_is pe se =
+    let ps : List ℕ = mid.parents.items in
+    let in_ps : i < length ps = omega (arith, h.classes.parents) in
+    let up_le : up ≤ i = omega (arith, h.classes.down i inside) in
+    let top_le : top ≤ up = omega (arith, h.classes.down up (omega arith)) in
+    let top_is_top : parent mid top ≡ top =
+    ⊎_elim
+    (λ less. ap (parent mid) top_is ∙ h.so_far up less ∙ sym top_is)
+    (λ ge.
+    let up_i : up ≡ i = omega arith in
+    let top_i : top ≡ up = top_is ∙ ap (parent mid) up_i ∙ sym up_is in
+    ap (parent mid) top_i ∙ sym top_is)
+    (cases_lt up i) in
+    let new_top : parent new top ≡ top =
+    let Q : ℕ → Type 0 = λ v. v ≡ top in
+    set-read Q ps new.parents.items i top top 0 pe in_ps (λ e. refl) (λ _. top_is_top) in
+    record {
+      classes = record {
+        parents = length-put ps new.parents.items i top pe ∙ h.classes.parents;
+        schemas = ap length se ∙ h.classes.schemas;
+        down = λ j less.
+            let Q : ℕ → Type 0 = λ v. v ≤ j in
+            set-read Q ps new.parents.items i top j 0 pe in_ps (λ e. omega arith) (λ _. h.classes.down j less);
+        inside = λ j less. let P : List ℕ → Type 0 = λ ss. get_or ss j 0 < n in subst P (sym se) (h.classes.inside j less);
+      };
+      sound = λ f constant j less.
+          let before : IsConstantOn n mid f = h.sound f constant in
+          let Q : ℕ → Type 0 = λ v. f v ≡ f j in
+          (set-read Q ps new.parents.items i top j 0 pe in_ps
+          (λ e. ap f top_is ∙ (before up (omega arith)).0 ∙ ap f up_is ∙ (before i inside).0 ∙ ap f (sym e))
+          (λ _. (before j less).0),
+          ap (λ ss. f (get_or ss j 0)) se ∙ (before j less).1);
+      falls =
+          omega (arith, h.falls, total-put ps new.parents.items i top pe in_ps, up_is);
+      so_far = λ j less.
+          let Q : ℕ → Type 0 = λ v. parent new v ≡ v in
+          set-read Q ps new.parents.items i top j 0 pe in_ps
+          (λ e. new_top)
+          (λ differs.
+          let before : j < i = omega arith in
+          let Q₂ : ℕ → Type 0 = λ v. v ≡ parent mid j in
+          let le : parent mid j ≤ j = h.classes.down j (omega arith) in
+          set-read Q₂ ps new.parents.items i top (parent mid j) 0 pe in_ps
+          (λ e. absurd (omega arith))
+          (λ _. h.so_far j before));
+    }
+
+pub flattened : (n : ℕ) (old new : Classes) (i : ℕ) → n ≤ i → IsFlattening n old new i → IsFlattened n old new
+flattened n old new i le h = record { classes = h.classes; sound = h.sound; falls = h.falls; flat = λ j less. h.so_far j (omega arith) }
+
+-- ---- schemas
+
+pub record AreChosen (cells : List Cell) (c : Classes) (i : ℕ) : Type 0 where
+  pub classes : AreClasses (length cells) c
+  pub flat : IsFlat (length cells) c
+  pub own : (j : ℕ) → j < i → parent c (schema c j) ≡ parent c j
+  pub telling : (j : ℕ) → j < i → is_variable (cell_at cells j) ≡ false → is_variable (cell_at cells (schema c (parent c j))) ≡ false
+
+pub chosen-starts : (cells : List Cell) (c : Classes) → AreClasses (length cells) c → IsFlat (length cells) c → AreChosen cells c 0
+chosen-starts cells c h flat = record { classes = h; flat = flat; own = λ j less. absurd (omega arith); telling = λ j less. absurd (omega arith) }
+
+-- a schema is put in, at a cell of its class that is no further than i
+put-schema :
+    (cells : List Cell) (old new : Classes) (i at s : ℕ) (which : (i ≡ at) ⊎ (is_variable (cell_at cells s) ≡ false))
+    → AreChosen cells old i → i < length cells → at ≤ i → s < length cells → parent old s ≡ parent old at
+    → new.parents.items ≡ old.parents.items → new.schemas.items ≡ set old.schemas.items at s → AreChosen cells new i
+put-schema cells old new i at s which h inside at_le s_in class pe se =
+    let n : ℕ = length cells in
+    let ss : List ℕ = old.schemas.items in
+    let in_ss : at < length ss = omega (arith, h.classes.schemas) in
+    let up : (j : ℕ) → parent new j ≡ parent old j = λ j. ap (λ ps. get_or ps j 0) pe in
+    record {
+      classes = record {
+        parents = ap length pe ∙ h.classes.parents;
+        schemas = length-put ss new.schemas.items at s se ∙ h.classes.schemas;
+        down = λ j less. omega (arith, up j, h.classes.down j less);
+        inside = λ j less.
+            let Q : ℕ → Type 0 = λ v. v < n in
+            set-read Q ss new.schemas.items at s j 0 se in_ss (λ e. s_in) (λ _. h.classes.inside j less);
+      };
+      flat = λ j less. up (parent new j) ∙ ap (parent old) (up j) ∙ h.flat j less ∙ sym (up j);
+      own = λ j less.
+          let Q : ℕ → Type 0 = λ v. parent new v ≡ parent new j in
+          set-read Q ss new.schemas.items at s j 0 se in_ss
+          (λ e. up s ∙ class ∙ ap (parent old) (sym e) ∙ sym (up j))
+          (λ _. up (get_or ss j 0) ∙ h.own j less ∙ sym (up j));
+      telling = λ j less tells.
+          let Q : ℕ → Type 0 = λ v. is_variable (cell_at cells v) ≡ false in
+          let le : parent old j ≤ j = h.classes.down j (omega arith) in
+          let P : ℕ → Type 0 = λ k. Q (schema new k) in
+          subst P (sym (up j))
+          (set-read Q ss new.schemas.items at s (parent old j) 0 se in_ss
+          (λ e. ⊎_elim (λ same. absurd (omega arith)) (λ is. is) which)
+          (λ _. h.telling j less tells));
+    }
+
+one-more-chosen :
+    (cells : List Cell) (c : Classes) (i : ℕ)
+    → AreChosen cells c i → parent c (schema c i) ≡ parent c i
+    → (is_variable (cell_at cells i) ≡ false → is_variable (cell_at cells (schema c (parent c i))) ≡ false) → AreChosen cells c (i + 1)
+one-more-chosen cells c i h own telling = record {
+  classes = h.classes;
+  flat = h.flat;
+  own = λ j less.
+      ⊎_elim (λ before. h.own j before) (λ ge. let e : j ≡ i = omega arith in let P : ℕ → Type 0 = λ k. parent c (schema c k) ≡ parent c k in subst P (sym e) own) (cases_lt j i);
+  telling = λ j less tells.
+      ⊎_elim
+      (λ before. h.telling j before tells)
+      (λ ge.
+      let e : j ≡ i = omega arith in
+      let P : ℕ → Type 0 = λ k. is_variable (cell_at cells k) ≡ false → is_variable (cell_at cells (schema c (parent c k))) ≡ false in
+      subst P (sym e) telling tells)
+      (cases_lt j i);
+}
+
+read-back : (xs new : List ℕ) (i y : ℕ) → new ≡ set xs i y → i < length xs → get_or new i 0 ≡ y
+read-back xs new i y e h = ap (λ ys. get_or ys i 0) e ∙ get_or-set_same xs i y 0 h
+
+pub chosen-variable :
+    (cells : List Cell) (old new : Classes) (i : ℕ)
+    → AreChosen cells old i → i < length cells → is_variable (cell_at cells i) ≡ true
+    → new.parents.items ≡ old.parents.items → new.schemas.items ≡ set old.schemas.items i i → AreChosen cells new (i + 1)
+chosen-variable cells old new i h inside variable pe se =
+    let mid : AreChosen cells new i = put-schema cells old new i i i (inl refl) h inside (omega arith) inside refl pe se in
+    one-more-chosen cells new i mid
+    (ap (parent new) (read-back old.schemas.items new.schemas.items i i se (omega (arith, h.classes.schemas))))
+    (λ tells. let wrong : true ≡ false = sym variable ∙ tells in absurd cc)
+
+pub chosen-other :
+    (cells : List Cell) (old mid new : Classes) (i up : ℕ)
+    → AreChosen cells old i → i < length cells → is_variable (cell_at cells i) ≡ false → up ≡ parent mid i
+    → mid.parents.items ≡ old.parents.items → mid.schemas.items ≡ set old.schemas.items i i
+    → new.parents.items ≡ mid.parents.items → new.schemas.items ≡ set mid.schemas.items up i → AreChosen cells new (i + 1)
+chosen-other cells old mid new i up h inside tells up_is pe se pe₂ se₂ =
+    let first : AreChosen cells mid i = put-schema cells old mid i i i (inl refl) h inside (omega arith) inside refl pe se in
+    let up_le : up ≤ i = omega (arith, first.classes.down i inside) in
+    let same_class : parent mid i ≡ parent mid up = sym (ap (parent mid) up_is ∙ first.flat i inside) in
+    let second : AreChosen cells new i = put-schema cells mid new i up i (inr tells) first inside up_le inside same_class pe₂ se₂ in
+    let ups : (j : ℕ) → parent new j ≡ parent mid j = λ j. ap (λ ps. get_or ps j 0) pe₂ in
+    let own_mid : schema mid i ≡ i = read-back old.schemas.items mid.schemas.items i i se (omega (arith, h.classes.schemas)) in
+    let Q : ℕ → Type 0 = λ v. parent new v ≡ parent new i in
+    let in_ss : up < length mid.schemas.items = omega (arith, first.classes.schemas) in
+    one-more-chosen cells new i second
+    (set-read Q mid.schemas.items new.schemas.items up i i 0 se₂ in_ss (λ e. refl) (λ _. ap (parent new) own_mid))
+    (λ _.
+    ap (λ k. is_variable (cell_at cells (schema new k))) (ups i ∙ sym up_is)
+    ∙ ap (λ k. is_variable (cell_at cells k)) (read-back mid.schemas.items new.schemas.items up i se₂ in_ss)
+    ∙ tells)
+
+pub chosen-settled : (cells : List Cell) (c : Classes) (i : ℕ) → length cells ≤ i → AreChosen cells c i → AreSettled cells c
+chosen-settled cells c i le h = record {
+  flat = h.flat;
+  own = λ j less. h.own j (omega arith);
+  telling = λ j less. h.telling j (omega arith);
+}
+
+-- flattened, and with schemas of their own
+pub settled-follows :
+    (cells : List Cell) (old mid new : Classes)
+    → IsFlattened (length cells) old mid → AreClasses (length cells) new → new.parents.items ≡ mid.parents.items → AreSettled cells new
+    → Follows cells old new
+settled-follows cells old mid new h classes pe settled =
+    let up : (j : ℕ) → parent new j ≡ parent mid j = λ j. ap (λ ps. get_or ps j 0) pe in
+    record {
+      classes = classes;
+      sound = λ f congruent constant i inside.
+          let before : IsConstantOn (length cells) mid f = h.sound f constant in
+          let along : (j : ℕ) → j < length cells → f (parent new j) ≡ f j = λ j less. ap f (up j) ∙ (before j less).0 in
+          (along i inside,
+          sym (along (schema new i) (classes.inside i inside)) ∙ ap f (settled.own i inside) ∙ along i inside);
+      falls = omega (arith, h.falls, ap total pe);
+    }
+
+-- a round that changes nothing shows that the classes are closed
+pub closed-at-last :
+    (cells : List Cell) (old mid settled new : Classes)
+    → Follows cells old mid → Follows cells mid settled → AreSettled cells settled → Follows cells settled new
+    → (new ≡ settled) × (IsFlat (length cells) settled → (i : ℕ) → i < length cells → IsClosedAt cells settled i)
+    → AreClosed cells old new
+closed-at-last cells old mid settled new first second is_settled third done =
+    let P : Classes → Type 0 = λ c. AreSettled cells c in
+    let Q : Classes → Type 0 = λ c. (i : ℕ) → i < length cells → IsClosedAt cells c i in
+    record {
+      follows = follows-on cells old settled new (follows-on cells old mid settled first second) third;
+      settled = subst P (sym done.0) is_settled;
+      closed = subst Q (sym done.0) (done.1 is_settled.flat);
+    }
+
+pub refuted-at-last :
+    (cells : List Cell) (old mid settled : Classes)
+    → Follows cells old mid → Follows cells mid settled → IsRefuted cells settled → IsRefuted cells old
+refuted-at-last cells old mid settled first second h = refuted-before cells old settled (follows-on cells old mid settled first second) h

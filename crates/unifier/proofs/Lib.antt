@@ -1,3 +1,4 @@
 pub mod MatchLemmas
 pub mod LayoutLemmas
 pub mod ClassLemmas
+pub mod PlacingLemmas

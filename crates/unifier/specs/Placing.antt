@@ -1,9 +1,11 @@
 -- One cell for each class, in an order in which parts come first.
-use Rattle.std.specs.Prelude.{◌≡◌, ◌⊎◌, ℕ, Bool, true, false, ◌+◌, ◌<◌, ◌≤◌, List, [], ◌∷◌, Option, None, Some, length, slice_index_or, ⊤}
+use Rattle.std.specs.Prelude.{◌≡◌, ◌⊎◌, ℕ, ◌+◌, ◌<◌, ◌≤◌, List, [], ◌∷◌, Option, None, Some, length, slice_index_or, ⊤}
 use Rattle.unifier.specs.declared.cells.Cell.{Cell}
 use Rattle.unifier.specs.declared.cells.Cell.TheVariants.{Variable, Application, NoTrees, TreeThen}
 use Rattle.unifier.specs.declared.classes.Classes.{Classes}
 use Rattle.unifier.specs.declared.placing.Placing.{Placing}
+use Rattle.unifier.specs.declared.placing.Visit.{Visit}
+use Rattle.unifier.specs.declared.placing.Visit.TheVariants.{Placed, Waiting, Kept}
 use Rattle.unifier.specs.declared.placing.Sweep.{Sweep}
 use Rattle.unifier.specs.declared.placing.Sweep.TheVariants.{Complete, Further, Stuck}
 use Rattle.unifier.specs.Cells.{cell_at, AreOrdered, IsAfterParts}
@@ -65,13 +67,15 @@ PartsInside c p (Application f l) = HasLookUp c p l
 PartsInside c p NoTrees = ⊤
 PartsInside c p (TreeThen a b) = HasLookUp c p a × HasLookUp c p b
 
--- a class has got its place, and the others keep theirs; or it waits, and all is as it was
-abbrev pub HasNext : List Cell → Classes → Placing → Placing → ℕ → Bool → Type 0
-HasNext cells c old new i true =
+-- what a visit to a cell has done: a class has got its place, and the others keep theirs; or it waits; or nothing was to do
+abbrev pub VisitDone : List Cell → Classes → Placing → Placing → ℕ → Visit → Type 0
+VisitDone cells c old new i Placed =
     IsPlaced new i
     × ((j : ℕ) → (j ≡ i → ⊥) → place new j ≡ place old j)
     × (waiting new.places.items < waiting old.places.items)
-HasNext cells c old new i false = (new ≡ old) × Waits c old (cell_at cells (schema c i))
+VisitDone cells c old new i Waiting =
+    (new ≡ old) × (parent c i ≡ i) × (place old i ≡ None) × Waits c old (cell_at cells (schema c i))
+VisitDone cells c old new i Kept = (new ≡ old) × (parent c i ≡ i → IsPlaced old i)
 
 -- the classes are in order: each has its place; or some contain each other
 abbrev pub IsOrdering : List Cell → Classes → Option Placing → Type 0

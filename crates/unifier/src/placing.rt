@@ -25,24 +25,35 @@ pub enum Sweep {
     Stuck,
 }
 
+/// What a visit to a cell has done.
+#[derive(Clone, Copy)]
+pub enum Visit {
+    /// Its class got its place.
+    Placed,
+    /// Its class waits for the place of a part.
+    Waiting,
+    /// Its class has its place, or it isn't its class's smallest cell.
+    Kept,
+}
+
 impl Placing {
-    ghost use Rattle.unifier.specs.Cells.{AreOrdered, IsAfterParts, cell_at};
-    ghost use Rattle.unifier.specs.Classes.{parent, schema, AreClasses};
+    ghost use Rattle.unifier.specs.Cells.{AreOrdered};
+    ghost use Rattle.unifier.specs.Classes.{parent, AreClasses};
     ghost use Rattle.unifier.specs.Placing.{
       place,
-      waiting,
-      HasNext,
       IsOrdering,
       IsPlacedAs,
       IsPlacing,
       PartsInside,
       SweepDone,
+      VisitDone,
       Waits,
     };
 
     /// The classes in an order in which parts come first. None where some contain each other.
     pub fn order(alloc: Global, cells: &[Cell], classes: &Classes) -> Mem<Option<Placing>>
-        requires { AreClasses (length cells.now) classes.now }
+        requires classes { AreClasses (length cells.now) classes.now }
+        requires parts { AreOrdered cells.now }
         ensures { IfOk result (IsOrdering cells.now classes.now) }
     {
         let mut placing = Placing {
@@ -61,6 +72,7 @@ impl Placing {
     /// Gives a place to each class whose parts have places.
     fn sweep(&mut self, cells: &[Cell], classes: &Classes) -> Mem<Sweep>
         requires classes { AreClasses (length cells.now) classes.now }
+        requires parts { AreOrdered cells.now }
         requires placing { IsPlacing cells.now classes.now self.old }
         ensures placing { OnOk result (IsPlacing cells.now classes.now self.new) }
         ensures done { IfOk result (SweepDone cells.now classes.now self.old self.new) }
@@ -68,12 +80,10 @@ impl Placing {
         let mut placed = false;
         let mut waiting = false;
         for cell in 0..cells.len() {
-            if classes.parents[cell] == cell && self.places[cell].is_none() {
-                if self.place(cells, classes, cell)? {
-                    placed = true;
-                } else {
-                    waiting = true;
-                }
+            match self.visit(cells, classes, cell)? {
+                Visit::Placed => placed = true,
+                Visit::Waiting => waiting = true,
+                Visit::Kept => {}
             }
         }
         if !waiting {
@@ -82,24 +92,26 @@ impl Placing {
         Ok(if placed { Sweep::Further } else { Sweep::Stuck })
     }
 
-    /// Gives a class its place where its parts have theirs, and says whether it could.
-    fn place(&mut self, cells: &[Cell], classes: &Classes, cell: usize) -> Mem<bool>
+    /// Gives a class its place where it has none and its parts have theirs.
+    fn visit(&mut self, cells: &[Cell], classes: &Classes, cell: usize) -> Mem<Visit>
         requires classes { AreClasses (length cells.now) classes.now }
+        requires parts { AreOrdered cells.now }
         requires placing { IsPlacing cells.now classes.now self.old }
         requires inside { cell < length cells.now }
-        requires smallest { parent classes.now cell ≡ cell }
-        requires none { place self.old cell ≡ None }
         ensures placing { OnOk result (IsPlacing cells.now classes.now self.new) }
-        ensures done { IfOk result (HasNext cells.now classes.now self.old self.new cell) }
+        ensures done { IfOk result (VisitDone cells.now classes.now self.old self.new cell) }
     {
+        if classes.parents[cell] != cell || self.places[cell].is_some() {
+            return Ok(Visit::Kept);
+        }
         match self.node(classes, cells[classes.schemas[cell]]) {
             Some(node) => {
                 let place = self.cells.len();
                 self.cells.push(node)?;
                 self.set_place(cell, place);
-                Ok(true)
+                Ok(Visit::Placed)
             }
-            None => Ok(false),
+            None => Ok(Visit::Waiting),
         }
     }
 
