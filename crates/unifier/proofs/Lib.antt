@@ -2,3 +2,5 @@ pub mod MatchLemmas
 pub mod LayoutLemmas
 pub mod ClassLemmas
 pub mod PlacingLemmas
+pub mod ValueLemmas
+pub mod SolveLemmas

@@ -1,16 +1,18 @@
 -- Classes in an order in which parts come first.
-use Rattle.std.proofs.Common.{◌≡◌, ◌⊎◌, inl, inr, ℕ, zero, suc, ◌+◌, ◌<◌, ◌≤◌, Bool, true, false, Option, None, Some, List, [], ◌∷◌, ◌++◌, length, get_or, set, refl, ap, sym, ◌∙◌, subst, ⊎_elim, arith}
+use Rattle.std.proofs.Common.{◌≡◌, ◌⊎◌, inl, inr, ℕ, zero, suc, ◌+◌, ◌<◌, ◌≤◌, Bool, true, false, Option, None, Some, List, [], ◌∷◌, ◌++◌, length, get_or, set, replicate, refl, ap, sym, ◌∙◌, subst, ⊎_elim, arith}
 use Rattle.std.specs.Prelude.{MatchBool}
 use Rattle.std.proofs.lemmas.Bool.{cases_lt}
-use Rattle.std.proofs.lemmas.List.{length-append}
+use Rattle.std.specs.Option.{is_some}
+use Rattle.std.proofs.lemmas.List.{length-append, get_or_default}
 use Rattle.unifier.specs.declared.cells.Cell.{Cell}
 use Rattle.unifier.specs.declared.cells.Cell.TheVariants.{Variable, Application, NoTrees, TreeThen}
 use Rattle.unifier.specs.declared.classes.Classes.{Classes}
 use Rattle.unifier.specs.declared.placing.Placing.{Placing}
+use Rattle.unifier.specs.declared.placing.Sweep.TheVariants.{Stuck}
 use Rattle.unifier.specs.declared.placing.Visit.TheVariants.{Placed, Waiting, Kept}
 use Rattle.unifier.specs.Cells.{cell_at, AreOrdered, IsAfterParts}
 use Rattle.unifier.specs.Classes.{parent, schema, AreClasses}
-use Rattle.unifier.specs.Placing.{place, IsPlacedAs, Waits, HasPlace, IsPlacing, waiting, IsPlaced, HasLookUp, PartsInside, VisitDone}
+use Rattle.unifier.specs.Placing.{place, IsPlacedAs, Waits, HasPlace, IsPlacing, waiting, IsPlaced, HasLookUp, PartsInside, VisitDone, SweepDone, IsOrdering}
 use Rattle.unifier.proofs.LayoutLemmas.{ordered-push, cell_at-front, cell_at-last}
 use Rattle.unifier.proofs.ClassLemmas.{set-read, length-put, eq_or}
 
@@ -68,15 +70,15 @@ pub record NextPlace (cells : List Cell) (c : Classes) (old : Placing) (new : Pl
   pub none : place old i ≡ None
   pub parts : PartsInside c old (cell_at cells (schema c i))
   pub is : IsPlacedAs c old (cell_at cells (schema c i)) node
-  pub cells : new.cells.items ≡ old.cells.items ++ node ∷ []
-  pub places : new.places.items ≡ set old.places.items i (Some (length old.cells.items))
+  pub new_cells : new.cells.items ≡ old.cells.items ++ node ∷ []
+  pub new_places : new.places.items ≡ set old.places.items i (Some (length old.cells.items))
 
 next-kept :
     (cells : List Cell) (c : Classes) (old new : Placing) (i : ℕ) (node : Cell)
     → NextPlace cells c old new i node → (m k : ℕ) → place old m ≡ Some k → place new m ≡ Some k
 next-kept cells c old new i node h m k found =
     let P : Option ℕ → Type 0 = λ o. o ≡ Some k in
-    set-read P old.places.items new.places.items i (Some (length old.cells.items)) m None h.places (omega (arith, h.inside, h.before.places))
+    set-read P old.places.items new.places.items i (Some (length old.cells.items)) m None h.new_places (omega (arith, h.inside, h.before.places))
     (λ e. let wrong : None ≡ Some k = sym (ap (place old) e ∙ h.none) ∙ found in absurd cc)
     (λ _. found)
 
@@ -85,7 +87,7 @@ next-here :
     → NextPlace cells c old new i node → place new i ≡ Some (length old.cells.items)
 next-here cells c old new i node h =
     let P : Option ℕ → Type 0 = λ o. o ≡ Some (length old.cells.items) in
-    set-read P old.places.items new.places.items i (Some (length old.cells.items)) i None h.places (omega (arith, h.inside, h.before.places))
+    set-read P old.places.items new.places.items i (Some (length old.cells.items)) i None h.new_places (omega (arith, h.inside, h.before.places))
     (λ e. refl) (λ differs. absurd (differs refl))
 
 length-one : (cs : List Cell) (q : Cell) → length (cs ++ q ∷ []) ≡ length cs + 1
@@ -98,13 +100,13 @@ placing-next cells c old new i node h =
     let cs : List Cell = old.cells.items in
     let n : ℕ = length cs in
     let keep = next-kept cells c old new i node h in
-    let longer : length new.cells.items ≡ n + 1 = ap length h.cells ∙ length-one cs node in
+    let longer : length new.cells.items ≡ n + 1 = ap length h.new_cells ∙ length-one cs node in
     record {
-      places = length-put old.places.items new.places.items i (Some n) h.places ∙ h.before.places;
-      ordered = subst AreOrdered (sym h.cells) (ordered-push cs node h.before.ordered (node-after cells c old (cell_at cells (schema c i)) node h.before h.parts h.is));
+      places = length-put old.places.items new.places.items i (Some n) h.new_places ∙ h.before.places;
+      ordered = subst AreOrdered (sym h.new_cells) (ordered-push cs node h.before.ordered (node-after cells c old (cell_at cells (schema c i)) node h.before h.parts h.is));
       placed = λ j k less found.
           let P : Option ℕ → Type 0 = λ o. o ≡ Some k → HasPlace cells c new j k in
-          set-read P old.places.items new.places.items i (Some n) j None h.places (omega (arith, h.inside, h.before.places))
+          set-read P old.places.items new.places.items i (Some n) j None h.new_places (omega (arith, h.inside, h.before.places))
           (λ e same.
           let k_is : n ≡ k = cc in
           record {
@@ -113,7 +115,7 @@ placing-next cells c old new i node h =
             as_schema =
                 let Q : ℕ → ℕ → Type 0 = λ a b. IsPlacedAs c new (cell_at cells (schema c a)) (cell_at new.cells.items b) in
                 let here : Q i n =
-                subst (IsPlacedAs c new (cell_at cells (schema c i))) (sym (ap (λ ds. cell_at ds n) h.cells ∙ cell_at-last cs node))
+                subst (IsPlacedAs c new (cell_at cells (schema c i))) (sym (ap (λ ds. cell_at ds n) h.new_cells ∙ cell_at-last cs node))
                 (placed-kept c old new keep (cell_at cells (schema c i)) node h.is) in
                 subst (λ a. Q a k) (sym e) (subst (Q i) k_is here);
           })
@@ -123,7 +125,7 @@ placing-next cells c old new i node h =
             smallest = there.smallest;
             inside = omega (arith, longer, there.inside);
             as_schema =
-                subst (IsPlacedAs c new (cell_at cells (schema c j))) (sym (ap (λ ds. cell_at ds k) h.cells ∙ cell_at-front cs (node ∷ []) k there.inside))
+                subst (IsPlacedAs c new (cell_at cells (schema c j))) (sym (ap (λ ds. cell_at ds k) h.new_cells ∙ cell_at-front cs (node ∷ []) k there.inside))
                 (placed-kept c old new keep (cell_at cells (schema c j)) (cell_at cs k) there.as_schema);
           })
           found;
@@ -141,10 +143,10 @@ visit-placed cells c old new i node h = (
   (length old.cells.items, next-here cells c old new i node h),
   (λ j differs.
   let P : Option ℕ → Type 0 = λ o. o ≡ place old j in
-  set-read P old.places.items new.places.items i (Some (length old.cells.items)) j None h.places (omega (arith, h.inside, h.before.places))
+  set-read P old.places.items new.places.items i (Some (length old.cells.items)) j None h.new_places (omega (arith, h.inside, h.before.places))
   (λ e. absurd (differs e)) (λ _. refl)),
   (let P : List (Option ℕ) → Type 0 = λ os. waiting os < waiting old.places.items in
-  subst P (sym h.places) (waiting-set old.places.items i (length old.cells.items) (omega (arith, h.inside, h.before.places)) h.none)),
+  subst P (sym h.new_places) (waiting-set old.places.items i (length old.cells.items) (omega (arith, h.inside, h.before.places)) h.none)),
 )
 
 -- ---- a sweep
@@ -248,3 +250,56 @@ sweep-kept cells c old mid new i placed waits h done =
       stuck = stuck-kept cells c old mid i placed (λ smallest none. let there = done.1 smallest in let wrong : None ≡ Some there.0 = sym none ∙ there.1 in absurd cc) h.stuck;
       left = left-kept c mid i waits done.1 h.left;
     })
+
+-- ---- as the code has them
+
+-- a place that was read
+pub place-read : (p : Placing) (i : ℕ) (o : Option ℕ) → i < length p.places.items → o ≡ get_or p.places.items i o → place p i ≡ o
+place-read p i o h e = get_or_default p.places.items i None o h ∙ sym e
+
+pub read-some : (p : Placing) (i : ℕ) (o : Option ℕ) → place p i ≡ o → is_some o ≡ true → IsPlaced p i
+read-some p i None e h = cc
+read-some p i (Some k) e h = (k, e)
+
+pub read-none : (p : Placing) (i : ℕ) (o : Option ℕ) → place p i ≡ o → is_some o ≡ false → place p i ≡ None
+read-none p i None e h = e
+read-none p i (Some k) e h = cc
+
+pub visit-from :
+    (cells : List Cell) (c : Classes) (old new : Placing) (i s k : ℕ) (x node : Cell)
+    → AreClasses (length cells) c → AreOrdered cells → IsPlacing cells c old → i < length cells → parent c i ≡ i → place old i ≡ None
+    → s ≡ schema c i → x ≡ cell_at cells s → IsPlacedAs c old x node
+    → k ≡ length old.cells.items → new.cells.items ≡ old.cells.items ++ node ∷ [] → new.places.items ≡ set old.places.items i (Some k)
+    → NextPlace cells c old new i node
+visit-from cells c old new i s k x node h ordered placing inside smallest none s_is x_is is k_is new_cells new_places = record {
+  before = placing;
+  inside = inside;
+  smallest = smallest;
+  none = none;
+  parts = schema-parts cells c old i (schema c i) h ordered placing inside refl;
+  is = subst (λ y. IsPlacedAs c old y node) (x_is ∙ ap (cell_at cells) s_is) is;
+  new_cells = new_cells;
+  new_places = new_places ∙ ap (λ m. set old.places.items i (Some m)) k_is;
+}
+
+-- no places yet
+none-replicate : (n i : ℕ) → get_or (replicate n (let o : Option ℕ = None in o)) i None ≡ None
+none-replicate zero i = refl
+none-replicate (suc n) zero = refl
+none-replicate (suc n) (suc i) = none-replicate n i
+
+pub placing-starts :
+    (cells : List Cell) (c : Classes) (p : Placing) (n : ℕ)
+    → p.cells.items ≡ [] → n ≡ length cells → p.places.items ≡ replicate n None → length p.places.items ≡ n → IsPlacing cells c p
+placing-starts cells c p n no_cells n_is no_places len = record {
+  places = len ∙ n_is;
+  ordered = λ i less. let P : List Cell → Type 0 = λ cs. i < length cs in absurd (omega (arith, subst P no_cells less));
+  placed = λ i k less found.
+      let wrong : None ≡ Some k = sym (ap (λ os. get_or os i None) no_places ∙ none-replicate n i) ∙ found in absurd cc;
+  origin = λ k less. let P : List Cell → Type 0 = λ cs. k < length cs in absurd (omega (arith, subst P no_cells less));
+}
+
+pub stuck-at-last :
+    (cells : List Cell) (c : Classes) (old new : Placing)
+    → IsPlacing cells c new → SweepDone cells c old new Stuck → IsOrdering cells c None
+stuck-at-last cells c old new h done = (new, h, done.0, done.1)

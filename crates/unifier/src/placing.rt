@@ -101,10 +101,14 @@ impl Placing {
         ensures placing { OnOk result (IsPlacing cells.now classes.now self.new) }
         ensures done { IfOk result (VisitDone cells.now classes.now self.old self.new cell) }
     {
-        if classes.parents[cell] != cell || self.places[cell].is_some() {
+        if classes.parents[cell] != cell {
             return Ok(Visit::Kept);
         }
-        match self.node(classes, cells[classes.schemas[cell]]) {
+        if self.places[cell].is_some() {
+            return Ok(Visit::Kept);
+        }
+        let schema = classes.schemas[cell];
+        match self.node(classes, cells[schema]) {
             Some(node) => {
                 let place = self.cells.len();
                 self.cells.push(node)?;
