@@ -11,7 +11,7 @@ use Rattle.unifier.specs.declared.cells.Relation.{Relation}
 use Rattle.unifier.specs.declared.cells.Relation.TheVariants.{Same, Clash, Parts}
 use Rattle.unifier.specs.declared.classes.Classes.{Classes}
 use Rattle.unifier.specs.Cells.{Value, cell_at, is_variable, relate}
-use Rattle.unifier.specs.Classes.{parent, schema, total, AreClasses, IsConstantOn, IsDiscrete, IsCongruent, Follows, IsRefuted, IsFlat, IsClosedAt, AreSettled, AreClosed, IsOnTheWay, HasFound, IsLinked, IsFlattened, PartsAgree, ArePartsJoined}
+use Rattle.unifier.specs.Classes.{parent, schema, total, AreClasses, IsConstantOn, IsDiscrete, IsCongruent, Follows, IsRefuted, IsFlat, IsClosedAt, AreSettled, AreClosed, FollowsFrom, CannotFollow, IsOnTheWay, HasFound, IsLinked, IsFlattened, PartsAgree, ArePartsJoined}
 
 -- ---- lists of numbers
 
@@ -432,22 +432,74 @@ settled-follows cells old mid new h classes pe settled =
       falls = omega (arith, h.falls, ap total pe);
     }
 
--- a round that changes nothing shows that the classes are closed
+-- ---- closing
+
+pub from-itself : (cells : List Cell) (first second : ℕ) (c : Classes) → AreClasses (length cells) c → FollowsFrom cells first second c c
+from-itself cells first second c h = record { classes = h; sound = λ f congruent same constant. constant }
+
+-- settled, then the two joined, then a round
+pub from-on :
+    (cells : List Cell) (first second : ℕ) (old mid settled joined new : Classes)
+    → FollowsFrom cells first second old mid → Follows cells mid settled
+    → ((f : ℕ → Value) → IsConstantOn (length cells) settled f → f first ≡ f second → IsConstantOn (length cells) joined f)
+    → Follows cells joined new → FollowsFrom cells first second old new
+from-on cells first second old mid settled joined new h g join r = record {
+  classes = r.classes;
+  sound = λ f congruent same constant.
+      r.sound f congruent (join f (g.sound f congruent (h.sound f congruent same constant)) same);
+}
+
+-- the number that falls
+pub closing-falls :
+    (X : Type 0) (cells : List Cell) (mid settled joined new : Classes) (r : Bool)
+    → Follows cells mid settled
+    → MatchBool r (total joined.parents.items < total settled.parents.items) ((joined ≡ settled) × X)
+    → total new.parents.items < total joined.parents.items
+    → total new.parents.items < total mid.parents.items
+closing-falls X cells mid settled joined new r h join less = omega (arith, h.falls, fell X r settled joined join)
+
+pub closing-falls-joined :
+    (X : Type 0) (cells : List Cell) (mid settled joined new : Classes) (r : Bool)
+    → Follows cells mid settled
+    → MatchBool r (total joined.parents.items < total settled.parents.items) ((joined ≡ settled) × X)
+    → r ≡ true → total new.parents.items ≤ total joined.parents.items
+    → total new.parents.items < total mid.parents.items
+closing-falls-joined X cells mid settled joined new true h join e le = omega (arith, h.falls)
+closing-falls-joined X cells mid settled joined new false h join e le = cc
+
+-- a round that changes nothing, after a join that changes nothing, shows that the classes are closed
 pub closed-at-last :
-    (cells : List Cell) (old mid settled new : Classes)
-    → Follows cells old mid → Follows cells mid settled → AreSettled cells settled → Follows cells settled new
-    → (new ≡ settled) × (IsFlat (length cells) settled → (i : ℕ) → i < length cells → IsClosedAt cells settled i)
-    → AreClosed cells old new
-closed-at-last cells old mid settled new first second is_settled third done =
+    (cells : List Cell) (first second : ℕ) (old mid settled joined new : Classes) (r : Bool)
+    → FollowsFrom cells first second old mid → Follows cells mid settled → AreSettled cells settled
+    → ((f : ℕ → Value) → IsConstantOn (length cells) settled f → f first ≡ f second → IsConstantOn (length cells) joined f)
+    → MatchBool r (total joined.parents.items < total settled.parents.items)
+    ((joined ≡ settled) × (IsFlat (length cells) settled → parent settled first ≡ parent settled second))
+    → Follows cells joined new
+    → (new ≡ joined) × (IsFlat (length cells) joined → (i : ℕ) → i < length cells → IsClosedAt cells joined i)
+    → r ≡ false → AreClosed cells first second old new
+closed-at-last cells first second old mid settled joined new true h g is_settled join done third round e = cc
+closed-at-last cells first second old mid settled joined new false h g is_settled join done third round e =
     let P : Classes → Type 0 = λ c. AreSettled cells c in
     let Q : Classes → Type 0 = λ c. (i : ℕ) → i < length cells → IsClosedAt cells c i in
+    let R : Classes → Type 0 = λ c. parent c first ≡ parent c second in
+    let joined_settled : AreSettled cells joined = subst P (sym done.0) is_settled in
     record {
-      follows = follows-on cells old settled new (follows-on cells old mid settled first second) third;
-      settled = subst P (sym done.0) is_settled;
-      closed = subst Q (sym done.0) (done.1 is_settled.flat);
+      follows = from-on cells first second old mid settled joined new h g join third;
+      settled = subst P (sym round.0) joined_settled;
+      closed = subst Q (sym round.0) (round.1 joined_settled.flat);
+      same = subst R (sym (round.0 ∙ done.0)) (done.1 is_settled.flat);
     }
 
 pub refuted-at-last :
-    (cells : List Cell) (old mid settled : Classes)
-    → Follows cells old mid → Follows cells mid settled → IsRefuted cells settled → IsRefuted cells old
-refuted-at-last cells old mid settled first second h = refuted-before cells old settled (follows-on cells old mid settled first second) h
+    (cells : List Cell) (first second : ℕ) (old mid settled joined : Classes)
+    → FollowsFrom cells first second old mid → Follows cells mid settled
+    → ((f : ℕ → Value) → IsConstantOn (length cells) settled f → f first ≡ f second → IsConstantOn (length cells) joined f)
+    → IsRefuted cells joined → CannotFollow cells first second old
+refuted-at-last cells first second old mid settled joined h g join r = record {
+  one = r.first;
+  other = r.second;
+  one_inside = r.first_inside;
+  other_inside = r.second_inside;
+  clash = r.clash;
+  forced = λ f congruent same constant. r.forced f congruent (join f (g.sound f congruent (h.sound f congruent same constant)) same);
+}

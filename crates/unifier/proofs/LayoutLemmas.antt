@@ -1,6 +1,6 @@
 -- Layouts, as cells are added.
 use Rattle.std.proofs.Common.{◌≡◌, ◌⊎◌, inl, inr, ℕ, zero, suc, ◌+◌, ◌-◌, ◌<◌, ◌≤◌, drop-cons, Bool, true, false, ◌==◌, Option, None, Some, List, [], ◌∷◌, ◌++◌, length, map, drop, get_or, refl, ap, ap₂, sym, ◌∙◌, subst, ⊎_elim, arith, eq-eqb, append_assoc}
-use Rattle.std.specs.Prelude.{Result, Ok, Err, IfOk}
+use Rattle.std.specs.Prelude.{Result, Ok, Err, IfOk, All}
 use Rattle.std.proofs.lemmas.Bool.{cases_lt, cond-true, cond-false, cases_Bool, eqb-true, true≢false}
 use Rattle.std.proofs.Math.ListN.{get_or-append}
 use Rattle.std.proofs.Math.Seq.{get_or-append_seam}
@@ -104,6 +104,20 @@ grows-on first second third g h =
 grows-itself : (l : Layout) → Grows l l
 grows-itself l = ([], sym (append-nil l.cells.items))
 
+known-longer : (n m : ℕ) (ps : List Place) → n ≤ m → All (λ (p : Place). p.cell < n) ps → All (λ (p : Place). p.cell < m) ps
+known-longer n m ps le h k d less = omega (arith, h k d less)
+
+known-push : (n : ℕ) (ps : List Place) (p : Place) → All (λ (q : Place). q.cell < n) ps → p.cell < n → All (λ (q : Place). q.cell < n) (ps ++ p ∷ [])
+known-push n ps p h here k d less =
+    let P : Place → Type 0 = λ q. q.cell < n in
+    ⊎_elim
+    (λ front. subst P (sym (get_or-append ps (p ∷ []) d k front)) (h k d front))
+    (λ ge.
+    let last : k ≡ length ps = omega (arith, length-append ps (p ∷ [])) in
+    let Q : ℕ → Type 0 = λ j. P (get_or (ps ++ p ∷ []) j d) in
+    subst Q (sym last) (subst P (sym (get_or-append_seam ps p [] d)) here))
+    (cases_lt k (length ps))
+
 -- ---- a cell that is no variable
 
 pub layout-push :
@@ -129,6 +143,10 @@ layout-push old new c h after kinds no_variable e same =
           let there = h.places w i (ap (cell_of w) (sym same) ∙ found) in
           (let P : List Cell → Type 0 = λ ds. i < length ds in subst P (sym e) (omega (arith, there.0, length-push cs c)),
           ap (λ ds. cell_at ds i) e ∙ cell_at-front cs (c ∷ []) i there.0 ∙ there.1);
+      known =
+          let longer : length cs ≤ length new.cells.items = omega (arith, ap length e, length-push cs c) in
+          let P : List Place → Type 0 = λ ps. All (λ (p : Place). p.cell < length new.cells.items) ps in
+          subst P (sym same) (known-longer (length cs) (length new.cells.items) old.places.items longer h.known);
     }
 
 -- ---- a variable
@@ -160,6 +178,12 @@ layout-variable old new w p h none code cell e places_e =
           ∙ cond-true (v == p.code) (Some p.cell) None (eq-eqb v p.code (sym v_is ∙ sym code))
           ∙ ap Some (cell ∙ sym last));
       places = λ v i found. look v i (cell_of v ps) refl (sym (ap (cell_of v) places_e) ∙ found);
+      known =
+          let len : length new.cells.items ≡ length cs + 1 = ap length e ∙ length-push cs c in
+          let longer : length cs ≤ length new.cells.items = omega (arith, len) in
+          let P : List Place → Type 0 = λ qs. All (λ (q : Place). q.cell < length new.cells.items) qs in
+          subst P (sym places_e)
+          (known-push (length new.cells.items) ps p (known-longer (length cs) (length new.cells.items) ps longer h.known) (omega (arith, len, cell)));
     }
   where
     look :

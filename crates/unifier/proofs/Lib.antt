@@ -4,3 +4,4 @@ pub mod ClassLemmas
 pub mod PlacingLemmas
 pub mod ValueLemmas
 pub mod SolveLemmas
+pub mod UnifyLemmas

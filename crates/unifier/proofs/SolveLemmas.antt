@@ -15,7 +15,7 @@ use Rattle.unifier.specs.declared.placing.Placing.{Placing}
 use Rattle.unifier.specs.declared.bindings.Bindings.{Bindings}
 use Rattle.unifier.specs.Cells.{Value, tree, trees, as_tree, as_trees, cell_at, value_of, is_list, is_variable, relate, IsAfterParts, AreOrdered, HasKinds, AreKinded, IsValuation}
 use Rattle.unifier.specs.Layout.{cell_of, IsLayout}
-use Rattle.unifier.specs.Classes.{parent, schema, AreClasses, IsConstantOn, IsCongruent, IsDiscrete, IsRefuted, AreClosed, PartsAgree, ArePartsJoined}
+use Rattle.unifier.specs.Classes.{parent, schema, AreClasses, IsConstantOn, IsCongruent, IsDiscrete, CannotFollow, AreClosed, PartsAgree, ArePartsJoined}
 use Rattle.unifier.specs.Placing.{place, IsPlacedAs, Waits, IsPlacing, IsPlaced, IsOrdering}
 use Rattle.unifier.specs.Bindings.{value_at, bound, joint, CannotMeet, Meets, IsMeeting}
 use Rattle.unifier.specs.Solving.{relocated, IsRelocated}
@@ -129,8 +129,8 @@ values-congruent θ cells val ordered kinded h i j i_in j_in same =
     (sym (h i i_in) ∙ same ∙ h j j_in)
 
 clash-parts : (test : Bool) (r : Relation) → cond test r Clash ≡ Clash → (r ≡ Clash → ⊥) → test ≡ false
-clash-parts true r e no = absurd (no e)
-clash-parts false r e no = refl
+clash-parts true r e differs = absurd (differs e)
+clash-parts false r e differs = refl
 
 -- values of cells that clash differ
 clash-differ : (θ : Substitution) (val : ℕ → Value) (x y : Cell) → relate x y ≡ Clash → value_of θ val x ≡ value_of θ val y → ⊥
@@ -156,29 +156,20 @@ clash-differ θ val (TreeThen a b) (TreeThen d k) r e = let wrong : Parts a d b 
 
 -- ---- the start
 
--- what has one value on the two cells has one on each class of the start
-pub record Starts (cells : List Cell) (first : ℕ) (second : ℕ) (c : Classes) : Type 0 where
-  pub constant : (f : ℕ → Value) → f first ≡ f second → IsConstantOn (length cells) c f
-
-pub starts :
-    (cells : List Cell) (first second : ℕ) (old new : Classes)
-    → IsDiscrete (length cells) old
-    → ((f : ℕ → Value) → IsConstantOn (length cells) old f → f first ≡ f second → IsConstantOn (length cells) new f)
-    → Starts cells first second new
-starts cells first second old new discrete sound = record {
-  constant = λ f same. sound f (λ i inside. (ap f (discrete i inside).0, ap f (discrete i inside).1)) same;
-}
+discrete-constant : (n : ℕ) (c : Classes) (f : ℕ → Value) → IsDiscrete n c → IsConstantOn n c f
+discrete-constant n c f discrete i inside = (ap f (discrete i inside).0, ap f (discrete i inside).1)
 
 pub refuted-cannot-meet :
     (layout : Layout) (first second : ℕ) (c : Classes)
-    → IsLayout layout → Starts layout.cells.items first second c → IsRefuted layout.cells.items c
+    → IsLayout layout → IsDiscrete (length layout.cells.items) c → CannotFollow layout.cells.items first second c
     → CannotMeet layout.cells.items first second
-refuted-cannot-meet layout first second c h start refuted θ val valuation same =
+refuted-cannot-meet layout first second c h discrete refuted θ val valuation same =
     let cells : List Cell = layout.cells.items in
     let congruent : IsCongruent cells val = values-congruent θ cells val h.ordered h.kinded valuation in
-    let forced : val refuted.first ≡ val refuted.second = refuted.forced val congruent (start.constant val same) in
-    clash-differ θ val (cell_at cells refuted.first) (cell_at cells refuted.second) refuted.clash
-    (sym (valuation refuted.first refuted.first_inside) ∙ forced ∙ valuation refuted.second refuted.second_inside)
+    let forced : val refuted.one ≡ val refuted.other =
+    refuted.forced val congruent same (discrete-constant (length cells) c val discrete) in
+    clash-differ θ val (cell_at cells refuted.one) (cell_at cells refuted.other) refuted.clash
+    (sym (valuation refuted.one refuted.one_inside) ∙ forced ∙ valuation refuted.other refuted.other_inside)
 
 -- ---- classes that contain each other
 
@@ -208,8 +199,8 @@ pub record Stands (layout : Layout) (first : ℕ) (second : ℕ) (start : Classe
   pub kinds : is_list (cell_at layout.cells.items first) ≡ is_list (cell_at layout.cells.items second)
   pub first_inside : first < length layout.cells.items
   pub second_inside : second < length layout.cells.items
-  pub started : Starts layout.cells.items first second start
-  pub closed : AreClosed layout.cells.items start c
+  pub discrete : IsDiscrete (length layout.cells.items) start
+  pub closed : AreClosed layout.cells.items first second start c
 
 abbrev cells_of : Layout → List Cell
 cells_of layout = layout.cells.items
@@ -218,7 +209,8 @@ cells_of layout = layout.cells.items
 constant-on :
     (layout : Layout) (first second : ℕ) (start c : Classes) (f : ℕ → Value)
     → Stands layout first second start c → IsCongruent (cells_of layout) f → f first ≡ f second → IsConstantOn (length (cells_of layout)) c f
-constant-on layout first second start c f h congruent same = h.closed.follows.sound f congruent (h.started.constant f same)
+constant-on layout first second start c f h congruent same = 
+    h.closed.follows.sound f congruent same (discrete-constant (length (cells_of layout)) start f h.discrete)
 
 valuation-constant :
     (layout : Layout) (first second : ℕ) (start c : Classes) (θ : Substitution) (val : ℕ → Value)
@@ -500,11 +492,68 @@ after-joint layout first second start c p b θ val w (Some i) h solved valuation
 
 pub solved-meets :
     (layout : Layout) (first second : ℕ) (start c : Classes) (p : Placing) (b : Bindings)
-    → Stands layout first second start c → IsSolved layout c p b → parent c first ≡ parent c second
-    → Meets (cells_of layout) first second b
-solved-meets layout first second start c p b h solved same = record {
+    → Stands layout first second start c → IsSolved layout c p b → Meets (cells_of layout) first second b
+solved-meets layout first second start c p b h solved = record {
   val = λ i. own_value p (spot c p i);
   valuation = solved-valuation layout first second start c p b h solved;
-  same = ap (λ j. own_value p (unwrap_or (place p j) 0)) same;
+  same = ap (λ j. own_value p (unwrap_or (place p j) 0)) h.closed.same;
   general = λ θ other valuation meets w. after-joint layout first second start c p b θ other w (cell_of w layout.places.items) h solved valuation meets refl;
 }
+
+-- ---- as the code has them: the cells are borrowed as a slice
+
+pub record Given (layout : Layout) (first : ℕ) (second : ℕ) (xs : List Cell) (n : ℕ) (start : Classes) : Type 0 where
+  pub is_layout : IsLayout layout
+  pub kinds : is_list (cell_at layout.cells.items first) ≡ is_list (cell_at layout.cells.items second)
+  pub first_inside : first < length layout.cells.items
+  pub second_inside : second < length layout.cells.items
+  pub slice : xs ≡ layout.cells.items
+  pub count : n ≡ length xs
+  pub discrete : IsDiscrete n start
+
+given-discrete :
+    (layout : Layout) (first second : ℕ) (xs : List Cell) (n : ℕ) (start : Classes)
+    → Given layout first second xs n start → IsDiscrete (length layout.cells.items) start
+given-discrete layout first second xs n start g = subst (λ m. IsDiscrete m start) (g.count ∙ ap length g.slice) g.discrete
+
+pub given-refuted :
+    (layout : Layout) (first second : ℕ) (xs : List Cell) (n : ℕ) (start : Classes)
+    → Given layout first second xs n start → CannotFollow xs first second start → CannotMeet layout.cells.items first second
+given-refuted layout first second xs n start g h =
+    refuted-cannot-meet layout first second start g.is_layout (given-discrete layout first second xs n start g)
+    (subst (λ cells. CannotFollow cells first second start) g.slice h)
+
+given-stands :
+    (layout : Layout) (first second : ℕ) (xs : List Cell) (n : ℕ) (start c : Classes)
+    → Given layout first second xs n start → AreClosed xs first second start c → Stands layout first second start c
+given-stands layout first second xs n start c g h = record {
+  is_layout = g.is_layout;
+  kinds = g.kinds;
+  first_inside = g.first_inside;
+  second_inside = g.second_inside;
+  discrete = given-discrete layout first second xs n start g;
+  closed = subst (λ cells. AreClosed cells first second start c) g.slice h;
+}
+
+pub given-stuck :
+    (layout : Layout) (first second : ℕ) (xs : List Cell) (n : ℕ) (start c : Classes)
+    → Given layout first second xs n start → AreClosed xs first second start c → IsOrdering xs c None
+    → CannotMeet layout.cells.items first second
+given-stuck layout first second xs n start c g h o =
+    stuck-cannot-meet layout first second start c (given-stands layout first second xs n start c g h)
+    (subst (λ cells. IsOrdering cells c None) g.slice o)
+
+pub given-solved :
+    (layout : Layout) (first second : ℕ) (xs : List Cell) (n : ℕ) (start c : Classes) (p : Placing) (b : Bindings) (ps : List Place)
+    → Given layout first second xs n start → AreClosed xs first second start c → IsOrdering xs c (Some p)
+    → b.cells.items ≡ p.cells.items → ps ≡ layout.places.items → IsRelocated c p ps b.places.items
+    → Meets layout.cells.items first second b
+given-solved layout first second xs n start c p b ps g h o cells places relocated =
+    let ordering = subst (λ ds. IsOrdering ds c (Some p)) g.slice o in
+    solved-meets layout first second start c p b (given-stands layout first second xs n start c g h)
+    (record {
+      placing = ordering.0;
+      all_placed = ordering.1;
+      cells = cells;
+      places = subst (λ es. IsRelocated c p es b.places.items) places relocated;
+    })

@@ -86,11 +86,27 @@ pub record AreSettled (cells : List Cell) (c : Classes) : Type 0 where
   pub telling :
       (i : ℕ) → i < length cells → is_variable (cell_at cells i) ≡ false → is_variable (cell_at cells (schema c (parent c i))) ≡ false
 
--- settled and closed
-pub record AreClosed (cells : List Cell) (old : Classes) (new : Classes) : Type 0 where
-  pub follows : Follows cells old new
+-- the same where two cells must have one value
+pub record FollowsFrom (cells : List Cell) (first : ℕ) (second : ℕ) (old : Classes) (new : Classes) : Type 0 where
+  pub classes : AreClasses (length cells) new
+  pub sound :
+      (f : ℕ → Value) → IsCongruent cells f → f first ≡ f second → IsConstantOn (length cells) old f → IsConstantOn (length cells) new f
+
+-- some cells that can't have one value would have to, where the two do
+pub record CannotFollow (cells : List Cell) (first : ℕ) (second : ℕ) (old : Classes) : Type 0 where
+  pub one : ℕ
+  pub other : ℕ
+  pub one_inside : one < length cells
+  pub other_inside : other < length cells
+  pub clash : relate (cell_at cells one) (cell_at cells other) ≡ Clash
+  pub forced : (f : ℕ → Value) → IsCongruent cells f → f first ≡ f second → IsConstantOn (length cells) old f → f one ≡ f other
+
+-- settled and closed, with the two cells in one class
+pub record AreClosed (cells : List Cell) (first : ℕ) (second : ℕ) (old : Classes) (new : Classes) : Type 0 where
+  pub follows : FollowsFrom cells first second old new
   pub settled : AreSettled cells new
   pub closed : (i : ℕ) → i < length cells → IsClosedAt cells new i
+  pub same : parent new first ≡ parent new second
 
 -- each cell is in a class of its own
 abbrev pub IsDiscrete : ℕ → Classes → Type 0

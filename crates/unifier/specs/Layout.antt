@@ -1,5 +1,5 @@
 -- The cells of two terms, with one cell for each variable.
-use Rattle.std.specs.Prelude.{◌≡◌, ℕ, ◌+◌, ◌*◌, ◌<◌, Bool, true, false, ◌==◌, List, [], ◌∷◌, ◌++◌, Option, None, Some, length, if◌then◌else◌}
+use Rattle.std.specs.Prelude.{◌≡◌, ℕ, ◌+◌, ◌*◌, ◌<◌, Bool, true, false, ◌==◌, List, [], ◌∷◌, ◌++◌, Option, None, Some, length, if◌then◌else◌, All}
 use Rattle.fol_base.specs.Tree.{Tree, Trees}
 use Rattle.fol_base.specs.Instance.{Substitution, instance, instances}
 use Rattle.fol_base.specs.declared.clause.Side.{Side}
@@ -36,6 +36,7 @@ pub record IsLayout (layout : Layout) : Type 0 where
   pub places :
       (w i : ℕ) → cell_of w layout.places.items ≡ Some i
       → (i < length layout.cells.items) × (cell_at layout.cells.items i ≡ Variable w)
+  pub known : All (λ (p : Place). p.cell < length layout.cells.items) layout.places.items
 
 -- cells are added behind those that are there
 abbrev pub Grows : Layout → Layout → Type 0

@@ -33,6 +33,7 @@ impl Classes {
       AreClasses,
       AreClosed,
       AreSettled,
+      CannotFollow,
       Follows,
       HasFound,
       IsConstantOn,
@@ -153,17 +154,27 @@ impl Classes {
         if joined { Step::Joined } else { Step::Unchanged }
     }
 
-    /// Joins what must be joined. False where two cells of one class can't have one value.
-    pub fn close(&mut self, cells: &[Cell]) -> bool
+    /// Joins the classes of two cells, and whatever must be joined then. False where two cells of one class
+    /// can't have one value.
+    pub fn close(&mut self, cells: &[Cell], first: usize, second: usize) -> bool
         requires classes { AreClasses (length cells.now) self.old }
         requires parts { AreOrdered cells.now }
-        ensures { MatchBool result (AreClosed cells.now self.old self.new) (IsRefuted cells.now self.old) }
+        requires first { first < length cells.now }
+        requires second { second < length cells.now }
+        ensures { MatchBool result
+            (AreClosed cells.now first second self.old self.new)
+            (CannotFollow cells.now first second self.old) }
     {
         loop {
             self.settle(cells);
+            let joined = self.join(cells, first, second);
             match self.round(cells) {
                 Step::Joined => {}
-                Step::Unchanged => return true,
+                Step::Unchanged => {
+                    if !joined {
+                        return true;
+                    }
+                }
                 Step::Refuted => return false,
             }
         }

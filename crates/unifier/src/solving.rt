@@ -32,8 +32,7 @@ pub fn solve(
 {
     let cells = layout.cells.as_slice();
     let mut classes = Classes::new(alloc, cells.len())?;
-    classes.join(cells, first, second);
-    if !classes.close(cells) {
+    if !classes.close(cells, first, second) {
         return Ok(None);
     }
     match Placing::order(alloc, cells, &classes)? {
