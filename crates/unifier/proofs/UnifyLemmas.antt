@@ -117,13 +117,13 @@ unified :
     → AreBoth layout apart first second s t
     → MatchOption found (CannotMeet layout.cells.items first second) (IsMeeting layout apart first second)
     → IsUnified apart s t found
-unified layout true first second s t None both h σ τ e =
+unified layout true first second s t None both h = λ σ τ e.
     h (joint_of σ τ) (value_at (joint_of σ τ) layout.cells.items) (value_at-valuation (joint_of σ τ) layout.cells.items both.ordered)
     (meet-apart layout first second s t σ τ both e)
 unified layout true first second s t (Some b) both h =
     let P : Bool → Type 0 = λ a. IsMostGeneralUnifierApart s t (of_side a Left (joint b)) (of_side a Right (joint b)) in
     subst P (sym h.0) (unify-apart layout first second s t b both h.1)
-unified layout false first second s t None both h σ e =
+unified layout false first second s t None both h = λ σ e.
     h σ (value_at σ layout.cells.items) (value_at-valuation σ layout.cells.items both.ordered) (meet-together layout first second s t σ both e)
 unified layout false first second s t (Some b) both h =
     let P : Bool → Type 0 =
