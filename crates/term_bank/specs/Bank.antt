@@ -21,6 +21,10 @@ IsOf bank r = r.number < length bank.terms
 abbrev pub tree_in : Bank → TermRef → Tree
 tree_in bank r = get_or bank.terms r.number (variable 0)
 
+-- the bank is empty: no reference is of it
+abbrev pub IsEmpty : Bank → Type 0
+IsEmpty bank = (r : TermRef) → ¬ IsOf bank r
+
 -- all references of a list are of the bank
 abbrev pub AreOf : Bank → List TermRef → Type 0
 AreOf bank rs = All (IsOf bank) rs

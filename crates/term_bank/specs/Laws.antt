@@ -1,6 +1,8 @@
 -- Laws of the words on banks: what callers may use without a look into a bank.
 use Rattle.std.specs.Prelude.{◌≡◌, List}
 use Rattle.term_bank.specs.Bank.{IsOf, AreOf, IsTableOf, Grows, tree_in}
+use Rattle.term_bank.specs.Literal.{AreLiteralsOf, literals_in}
+use Rattle.term_bank.specs.declared.literal.BankLit.{BankLit}
 use Rattle.term_bank.specs.declared.reference.TermRef.{TermRef}
 use Rattle.term_bank.specs.declared.bank.Bank.{Bank}
 use Rattle.term_bank.specs.declared.bank.Table.{Table}
@@ -24,3 +26,9 @@ KeepsLists = (old new : Bank) (rs : List TermRef) → Grows old new → AreOf ol
 -- and with tables
 abbrev pub KeepsTables : Type 0
 KeepsTables = (old new : Bank) (table : Table) → Grows old new → IsTableOf old table → IsTableOf new table
+
+-- and with literals, which stand for what they stood for
+abbrev pub KeepsLiterals : Type 0
+KeepsLiterals =
+    (old new : Bank) (ls : List BankLit) → Grows old new → AreLiteralsOf old ls
+    → AreLiteralsOf new ls × (literals_in new ls ≡ literals_in old ls)

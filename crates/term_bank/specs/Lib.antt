@@ -1,3 +1,4 @@
 pub mod Key
 pub mod Bank
+pub mod Literal
 pub mod Laws

@@ -2,7 +2,7 @@
 
 ghost use Rattle.std.specs.Prelude.{◌≡◌, [], ◌∷◌, ◌++◌, length, IfOk, OnOk, OnErr, Some};
 ghost use Rattle.fol_base.specs.Term.{tree_of};
-ghost use Rattle.term_bank.specs.Bank.{number, tree_in, entries, number_in, interned, IsOf, IsTableOf, Grows, IsSame};
+ghost use Rattle.term_bank.specs.Bank.{number, tree_in, entries, number_in, interned, IsOf, IsEmpty, IsTableOf, Grows, IsSame};
 
 use crate::key::{TermKey, Wanted};
 use crate::reference::TermRef;
@@ -26,7 +26,8 @@ impl Bank {
     /// An empty bank and an empty table of it.
     pub fn new(alloc: Global) -> Mem<(Bank, Table)>
         ensures table { IfOk result (λ made. IsTableOf made.0 made.1) }
-        ensures empty { IfOk result (λ made. entries made.1 ≡ []) }
+        ensures empty_bank { IfOk result (λ made. IsEmpty made.0) }
+        ensures empty_table { IfOk result (λ made. entries made.1 ≡ []) }
     {
         let bank = Bank {
             terms: Terms::new(alloc),

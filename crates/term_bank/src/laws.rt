@@ -5,14 +5,17 @@ ghost use Rattle.term_bank.specs.Laws.{
   GrowsOnward,
   KeepsReferences,
   KeepsLists,
+  KeepsLiterals,
   KeepsTables,
 };
 
-/// A bank grows to itself and onward, and keeps its references, what they stand for, and its tables.
+/// A bank grows to itself and onward, and keeps its references and literals, what they stand for, and
+/// its tables.
 pub fn growing_banks()
     ensures itself { GrowsToItself }
     ensures onward { GrowsOnward }
     ensures references { KeepsReferences }
     ensures lists { KeepsLists }
+    ensures literals { KeepsLiterals }
     ensures tables { KeepsTables }
 {}

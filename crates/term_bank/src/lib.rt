@@ -3,11 +3,13 @@
 
 mod bank;
 mod key;
+mod literal;
 mod reference;
 
 pub use bank::{Bank, Table};
 #[doc(hidden)]
 pub use key::TermKey;
+pub use literal::BankLit;
 pub use reference::TermRef;
 
 pub mod laws;

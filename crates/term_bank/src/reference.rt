@@ -30,10 +30,10 @@ impl TermRef {
 }
 
 impl Default for TermRef {
+    ghost is_default = { λ r. number r ≡ 2 ^ 64 - 1 };
+
     /// A reference of no bank, to fill places that aren't used yet.
-    fn default() -> TermRef
-        ensures { number result ≡ 2 ^ 64 - 1 }
-    {
+    fn default() -> TermRef {
         TermRef { number: u64::MAX }
     }
 }

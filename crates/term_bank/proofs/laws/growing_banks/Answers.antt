@@ -1,4 +1,4 @@
-use Rattle.term_bank.proofs.GrowthLemmas.{grows_to_itself, grows_onward, keeps_references, keeps_lists, keeps_tables}
+use Rattle.term_bank.proofs.GrowthLemmas.{grows_to_itself, grows_onward, keeps_references, keeps_lists, keeps_literals, keeps_tables}
 use Rattle.term_bank.proofs.laws.growing_banks.Goals as goal
 
 pub returns : goal.returns
@@ -7,5 +7,6 @@ returns c = record {
   onward = grows_onward;
   references = keeps_references;
   lists = keeps_lists;
+  literals = keeps_literals;
   tables = keeps_tables;
 }

@@ -1,0 +1,45 @@
+-- A clause whose names are assertions is the same after its names are stripped of their signs.
+use Rattle.std.proofs.Common.{◌≡◌, ℕ, false, List, [], ◌∷◌, map, refl, sym, ap, ◌∙◌, subst}
+use Rattle.std.proofs.lemmas.List.Elements.{All-nil, All-cons, All-head, All-tail}
+use Rattle.std.specs.List.{All}
+use Rattle.std.specs.List.Sorted.{IsStrictlyIncreasing}
+use Rattle.plain_types.specs.declared.sequence.NameLit.{NameLit}
+use Rattle.fol_base.specs.Clause.{TreeLiteral}
+use Rattle.fol_base.specs.Literal.{literal_of, clause_of}
+use Rattle.fol_base.specs.declared.clause.Literal.{Literal}
+use Rattle.fol_base.specs.declared.clause.Clause.{Clause}
+use Rattle.bank_clause.specs.Clause.{assertion, AreAssertions}
+
+pub assertions-back : (ns : List NameLit) → All (λ n. n.positive ≡ false) ns → map assertion (map (λ n. n.name) ns) ≡ ns
+assertions-back [] negative = refl
+assertions-back (n ∷ ns) negative =
+    let here : n.positive ≡ false = All-head (λ m. m.positive ≡ false) n ns negative in
+    let rest : map assertion (map (λ m. m.name) ns) ≡ ns = assertions-back ns (All-tail (λ m. m.positive ≡ false) n ns negative) in
+    (λ j. record { positive = sym here j; name = n.name } ∷ rest j)
+
+-- rising numbers become assertions
+pub assertions-are : (ns : List ℕ) → IsStrictlyIncreasing ns → AreAssertions (map assertion ns)
+assertions-are ns rising = record {
+  negative = all ns;
+  rise = subst IsStrictlyIncreasing (sym (bare ns)) rising;
+}
+  where
+    all : (ms : List ℕ) → All (λ n. n.positive ≡ false) (map assertion ms)
+    all [] = All-nil (λ n. n.positive ≡ false)
+    all (m ∷ ms) = All-cons (λ n. n.positive ≡ false) (assertion m) (map assertion ms) refl (all ms)
+
+    bare : (ms : List ℕ) → map (λ n. n.name) (map assertion ms) ≡ ms
+    bare [] = refl
+    bare (m ∷ ms) = ap (λ ks. m ∷ ks) (bare ms)
+
+-- the clause of the literals and the bare names
+pub clause-back :
+    (c : Clause) (literals : List TreeLiteral) (lent : List Literal) (names : List ℕ) (signed : List NameLit)
+    → AreAssertions c.names → literals ≡ map literal_of lent → lent ≡ c.literals
+    → names ≡ map (λ n. n.name) signed → signed ≡ c.names
+    → record { literals = literals; names = map assertion names } ≡ clause_of c
+clause-back c literals lent names signed asserted same of_literals bare of_names =
+    let all : literals ≡ map literal_of c.literals = same ∙ ap (map literal_of) of_literals in
+    let numbers : names ≡ map (λ n. n.name) c.names = bare ∙ ap (map (λ n. n.name)) of_names in
+    let back : map assertion names ≡ c.names = ap (map assertion) numbers ∙ assertions-back c.names asserted.negative in
+    (λ j. record { literals = all j; names = back j })

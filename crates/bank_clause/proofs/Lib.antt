@@ -1,0 +1,4 @@
+pub mod LearningLemmas
+pub mod GrowthLemmas
+pub mod ClauseLemmas
+pub mod CanonicalLemmas

@@ -1,0 +1,49 @@
+use Rattle.std.proofs.Common.{◌≡◌, ◌∷◌, ◌++◌, [], List, map, take, sym, ap, ◌∙◌, subst, arith}
+use Rattle.fol_base.specs.Clause.{TreeLiteral}
+use Rattle.std.specs.List.{All}
+use Rattle.fol_base.specs.Literal.{literal_of}
+use Rattle.fol_base.proofs.ListLemmas.{map-take_more_item}
+use Rattle.term_bank.specs.Literal.{AreLiteralsOf, literals_in}
+use Rattle.term_bank.specs.declared.bank.Bank.{Bank}
+use Rattle.term_bank.specs.declared.bank.Table.{Table}
+use Rattle.term_bank.specs.declared.literal.BankLit.{BankLit}
+use Rattle.term_bank.proofs.GrowthLemmas.{grows_onward}
+use Rattle.bank_clause.specs.Clause.{IsKnown}
+use Rattle.bank_clause.proofs.LearningLemmas.{learns_step, literals-push}
+use Rattle.bank_clause.proofs.interning.intern_literals.Goals as goal
+
+pub returns-in_err-intern_literal-clause-learns : goal.returns-in_err-intern_literal-clause-learns
+returns-in_err-intern_literal-clause-learns c =
+    learns_step c.args.literals.now c.loop-literal.literal-index c.literal-item.result _ _ _
+    (omega (arith, c.loop-literal-test.true)) c.literal-item.is c.loop-literal.invariant.5 c.intern_literal.ensures.learns
+
+pub returns-in_err-push-clause-learns : goal.returns-in_err-push-clause-learns
+returns-in_err-push-clause-learns c =
+    learns_step c.args.literals.now c.loop-literal.literal-index c.literal-item.result _ _ _
+    (omega (arith, c.loop-literal-test.true)) c.literal-item.is c.loop-literal.invariant.5 c.intern_literal.ensures.learns
+
+pub loop-literal-preserved : goal.loop-literal-preserved
+loop-literal-preserved c =
+    let bank : Bank = c.intern_literal.new.bank in
+    let table : Table = c.intern_literal.new.table in
+    let before : List BankLit = c.loop-literal.made.items in
+    let l : BankLit = c.in_ok-intern_literal.field-0 in
+    let made : List TreeLiteral = map literal_of (take c.loop-literal.literal-index c.args.literals.now) in
+    let pushed : c.push.new.self.items ≡ before ++ l ∷ [] = c.in_ok-push.ensures.ok in
+    let all :
+    AreLiteralsOf bank (before ++ l ∷ [])
+    × (literals_in bank (before ++ l ∷ []) ≡ made ++ literal_of c.literal-item.result ∷ [])
+    × All (IsKnown bank table) (before ++ l ∷ []) =
+    literals-push c.loop-literal.bank bank _ c.loop-literal.table table before l made (literal_of c.literal-item.result)
+    c.intern_literal.ensures.grows c.intern_literal.ensures.learns
+    c.loop-literal.invariant.0 c.loop-literal.invariant.1 c.loop-literal.invariant.2
+    c.in_ok-intern_literal.ensures.references c.in_ok-intern_literal.ensures.same c.in_ok-intern_literal.ensures.known in (
+      subst (AreLiteralsOf bank) (sym pushed) all.0,
+      ap (literals_in bank) pushed ∙ all.1
+          ∙ sym (map-take_more_item literal_of c.args.literals.now c.loop-literal.literal-index c.literal-item.result (omega (arith, c.loop-literal-test.true)) c.literal-item.is),
+      subst (λ ls. All (IsKnown bank table) ls) (sym pushed) all.2,
+      c.intern_literal.ensures.table,
+      grows_onward _ _ _ c.loop-literal.invariant.4 c.intern_literal.ensures.grows,
+      learns_step c.args.literals.now c.loop-literal.literal-index c.literal-item.result _ _ _
+          (omega (arith, c.loop-literal-test.true)) c.literal-item.is c.loop-literal.invariant.5 c.intern_literal.ensures.learns,
+    )

@@ -1,0 +1,14 @@
+use Rattle.std.proofs.Common.{◌∙◌, ap, sym, subst}
+use Rattle.bank_clause.specs.Clause.{AreAssertions, IsCanonical}
+use Rattle.bank_clause.proofs.CanonicalLemmas.{canonical_forms_are_canonical}
+use Rattle.bank_clause.proofs.ClauseLemmas.{assertions-are}
+use Rattle.bank_clause.proofs.tests.form_of.Goals as goal
+
+pub returns-clause-canonical : goal.returns-clause-canonical
+returns-clause-canonical c = subst IsCanonical (sym c.in_ok-form.ensures.form) (canonical_forms_are_canonical _)
+
+pub returns-clause-names : goal.returns-clause-names
+returns-clause-names c =
+    subst AreAssertions
+    (sym (ap (λ d. d.names) c.in_ok-form.ensures.form ∙ c.from_vec-2.ensures ∙ c.in_ok-negative_names.ensures))
+    (assertions-are c.args.names.now c.requires)

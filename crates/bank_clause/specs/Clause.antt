@@ -1,0 +1,64 @@
+-- Clauses in a bank: what they stand for, and what holds of each that is of the bank.
+use Rattle.std.specs.Prelude.{◌≡◌, ℕ, false, List, [], ◌∷◌, ◌++◌, map, flat_map, Some, Contains}
+use Rattle.std.specs.List.{All}
+use Rattle.std.specs.List.Sorted.{IsStrictlyIncreasing}
+use Rattle.plain_types.specs.declared.sequence.NameLit.{NameLit}
+use Rattle.fol_base.specs.Tree.{Tree}
+use Rattle.fol_base.specs.Clause.{TreeLiteral, TreeClause, clause_size}
+use Rattle.fol_base.specs.Canonical.{canonical_clause}
+use Rattle.term_bank.specs.Bank.{number, tree_in, entries, number_in}
+use Rattle.term_bank.specs.Literal.{AreLiteralsOf, literals_in}
+use Rattle.term_bank.specs.declared.literal.BankLit.{BankLit}
+use Rattle.term_bank.specs.declared.bank.Bank.{Bank}
+use Rattle.term_bank.specs.declared.bank.Table.{Table}
+use Rattle.bank_clause.specs.declared.clause.BankClause.{BankClause}
+use Rattle.bank_clause.specs.declared.member.Member.{Member}
+
+-- an asserted name, as it stands in a clause: negative
+abbrev pub assertion : ℕ → NameLit
+assertion n = record { positive = false; name = n }
+
+-- the clause for which a clause of the bank stands
+abbrev pub clause_in : Bank → BankClause → TreeClause
+clause_in bank c = record { literals = literals_in bank c.literals; names = map assertion c.names }
+
+-- the variables are numbered by their first occurrences
+abbrev pub IsCanonical : TreeClause → Type 0
+IsCanonical c = canonical_clause c ≡ c
+
+-- the names are negative, and their numbers rise
+pub record AreAssertions (ns : List NameLit) : Type 0 where
+  pub negative : All (λ n. n.positive ≡ false) ns
+  pub rise : IsStrictlyIncreasing (map (λ n. n.name) ns)
+
+-- the clause is of the bank: its references are, its variables are canonical, and its size is that of its trees
+pub record IsClauseOf (bank : Bank) (c : BankClause) : Type 0 where
+  pub references : AreLiteralsOf bank c.literals
+  pub canonical : IsCanonical (clause_in bank c)
+  pub size : c.size ≡ clause_size (clause_in bank c)
+
+-- the member's clause is of the bank
+abbrev pub IsMemberOf : Bank → Member → Type 0
+IsMemberOf bank m = IsClauseOf bank m.clause
+
+-- the clauses of all members of a list are
+abbrev pub AreMembersOf : Bank → List Member → Type 0
+AreMembersOf bank ms = All (IsMemberOf bank) ms
+
+-- the sides of literals, from left to right
+abbrev pub literal_sides : TreeLiteral → List Tree
+literal_sides l = l.left ∷ l.right ∷ []
+
+abbrev pub sides : List TreeLiteral → List Tree
+sides ls = flat_map literal_sides ls
+
+-- what the table has learned: further entries at its end, each for one of these trees
+pub record Learns (trees : List Tree) (old new : Table) : Type 0 where
+  pub more : List (Tree × ℕ)
+  pub added : entries new ≡ entries old ++ more
+  pub among : All (λ e. Contains trees e.0) more
+
+-- the references of a literal are those that the table has for its sides
+abbrev pub IsKnown : Bank → Table → BankLit → Type 0
+IsKnown bank table l =
+    (number_in table (tree_in bank l.left) ≡ Some (number l.left)) × (number_in table (tree_in bank l.right) ≡ Some (number l.right))

@@ -1,0 +1,27 @@
+-- Laws of clauses in banks: what growth keeps, and which clauses can be taken in.
+use Rattle.std.specs.Prelude.{◌≡◌, List}
+use Rattle.fol_base.specs.Clause.{TreeClause, clause_size}
+use Rattle.fol_base.specs.Canonical.{canonical_clause}
+use Rattle.term_bank.specs.Bank.{Grows}
+use Rattle.term_bank.specs.declared.bank.Bank.{Bank}
+use Rattle.bank_clause.specs.Clause.{clause_in, IsCanonical, IsClauseOf, AreMembersOf}
+use Rattle.bank_clause.specs.declared.clause.BankClause.{BankClause}
+use Rattle.bank_clause.specs.declared.member.Member.{Member}
+
+-- a bank that grows keeps its clauses, and each stands for the clause for which it stood
+abbrev pub KeepsClauses : Type 0
+KeepsClauses =
+    (old new : Bank) (c : BankClause) → Grows old new → IsClauseOf old c
+    → IsClauseOf new c × (clause_in new c ≡ clause_in old c)
+
+-- and its members
+abbrev pub KeepsMembers : Type 0
+KeepsMembers = (old new : Bank) (ms : List Member) → Grows old new → AreMembersOf old ms → AreMembersOf new ms
+
+-- the canonical form of a clause is canonical
+abbrev pub CanonicalFormsAreCanonical : Type 0
+CanonicalFormsAreCanonical = (c : TreeClause) → IsCanonical (canonical_clause c)
+
+-- and of the same size
+abbrev pub CanonicalFormsKeepSizes : Type 0
+CanonicalFormsKeepSizes = (c : TreeClause) → clause_size (canonical_clause c) ≡ clause_size c

@@ -1,0 +1,4 @@
+pub mod Parts
+pub mod Clause
+pub mod Laws
+pub mod Examples

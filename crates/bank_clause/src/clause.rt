@@ -1,0 +1,145 @@
+// Clauses in a bank.
+
+ghost use Rattle.std.specs.Prelude.{◌≡◌, ◌<◌, ◌^◌, map, IfOk};
+ghost use Rattle.std.specs.List.{All};
+ghost use Rattle.std.specs.List.Sorted.{IsStrictlyIncreasing};
+ghost use Rattle.fol_base.specs.Clause.{clause_size};
+ghost use Rattle.fol_base.specs.Literal.{clause_of};
+ghost use Rattle.term_bank.specs.Bank.{IsTableOf, Grows};
+ghost use Rattle.term_bank.specs.declared.bank.Bank.{Bank as ABank};
+ghost use Rattle.bank_clause.specs.Clause.{
+  AreAssertions,
+  IsCanonical,
+  IsClauseOf,
+  IsKnown,
+  Learns,
+  clause_in,
+  sides,
+};
+
+use crate::interning::{bare_names, intern_literals};
+use crate::trees::{negative_names, tree_literals};
+use fol_base::{Clause, Literals, Mem, Names};
+use smallvec::SmallVec;
+use std::alloc::Global;
+use std::marker::Model;
+use term_bank::{Bank, BankLit, Table};
+
+/// Few clauses have more literals, so most lists of them take no allocation of their own.
+pub(crate) type BankLits = SmallVec<BankLit, 4>;
+
+/// A clause whose literals' sides are terms of a bank, with the names of the split-off parts that it
+/// asserts. Its variables are numbered by first occurrence.
+#[derive(Drop)]
+pub struct BankClause {
+    literals: BankLits,
+    names: Vec<u32>,
+    symbols: u32,
+}
+
+impl Model for BankClause {
+    ghost use Rattle.bank_clause.specs.Parts.{ClauseParts};
+
+    ghost Value = { ClauseParts };
+
+    ghost view = { λ c. record { literals = c.literals.items; names = c.names.items; size = c.symbols } };
+
+    ghost use Rattle.std.specs.Prelude.{◌<◌, ◌^◌};
+    ghost use Rattle.std.specs.List.Sorted.{IsStrictlyIncreasing};
+
+    ghost invariant = { λ c. IsStrictlyIncreasing c.names.items × (c.symbols < 2 ^ 31) };
+}
+
+impl BankClause {
+    /// The clause with its literals' sides interned. After want of memory the table may know further
+    /// terms.
+    pub fn of_clause(
+        alloc: Global,
+        bank: &mut Bank,
+        table: &mut Table,
+        clause: &Clause,
+    ) -> Mem<BankClause>
+        requires table { IsTableOf bank.old table.old }
+        requires canonical { IsCanonical (clause_of clause.now) }
+        requires names { AreAssertions clause.now.names }
+        requires size { clause_size (clause_of clause.now) < 2 ^ 31 }
+        ensures of_bank { IfOk result (IsClauseOf bank.new) }
+        ensures same { IfOk result (λ made. clause_in bank.new made ≡ clause_of clause.now) }
+        ensures known { IfOk result (λ made. All (IsKnown bank.new table.new) made.literals) }
+        ensures table { IsTableOf bank.new table.new }
+        ensures grows { Grows bank.old bank.new }
+        ensures learns { Learns (sides (clause_of clause.now).literals) table.old table.new }
+    {
+        let names = bare_names(alloc, clause.names.as_slice())?;
+        let literals = intern_literals(alloc, bank, table, clause.literals.as_slice())?;
+        Ok(BankClause {
+            literals,
+            names,
+            symbols: clause.size() as u32,
+        })
+    }
+
+    /// The same clause as trees.
+    pub fn to_clause(&self, bank: &Bank) -> Mem<Clause>
+        requires { IsClauseOf bank.now self.now }
+        ensures { IfOk result (λ clause. clause_of clause ≡ clause_in bank.now self.now) }
+    {
+        let alloc = *self.literals.allocator();
+        let literals = tree_literals(alloc, bank, self.literals.as_slice())?;
+        let names = negative_names(alloc, self.names.as_slice())?;
+        Ok(Clause {
+            literals: Literals::from_vec(literals),
+            names: Names::from_vec(names),
+        })
+    }
+
+    /// The literals, lent.
+    pub fn literals(&self) -> &[BankLit]
+        ensures { result.now ≡ self.now.literals }
+    {
+        self.literals.as_slice()
+    }
+
+    /// The names of the split-off parts that the clause asserts, rising.
+    pub fn names(&self) -> &[u32]
+        ensures names { result.now ≡ self.now.names }
+        ensures rise { IsStrictlyIncreasing result.now }
+    {
+        &self.names
+    }
+
+    /// The sizes of both sides of all literals together. Names count nothing.
+    pub fn size(&self) -> u32
+        ensures size { (bank : ABank) → IsClauseOf bank self.now → result ≡ clause_size (clause_in bank self.now) }
+        ensures kept { result ≡ self.now.size }
+        ensures limit { result < 2 ^ 31 }
+    {
+        self.symbols
+    }
+
+    /// An equal clause.
+    pub fn copied(&self) -> Mem<BankClause>
+        ensures { IfOk result (λ made. made ≡ self.now) }
+    {
+        let alloc = *self.literals.allocator();
+        let literals = copied_literals(alloc, self.literals.as_slice())?;
+        let mut names = Vec::new(alloc);
+        names.extend_from_slice(self.names.as_slice())?;
+        Ok(BankClause {
+            literals,
+            names,
+            symbols: self.symbols,
+        })
+    }
+}
+
+/// Equal literals.
+fn copied_literals(alloc: Global, literals: &[BankLit]) -> Mem<BankLits>
+    ensures { IfOk result (λ made. made.items ≡ literals.now) }
+{
+    let mut made = SmallVec::with_capacity(alloc, literals.len())?;
+    for literal in literals {
+        made.push(literal.copy())?;
+    }
+    Ok(made)
+}

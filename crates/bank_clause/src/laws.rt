@@ -1,0 +1,39 @@
+// The laws of clauses in banks, and worked examples of their definitions: the contracts of functions
+// without arguments and with empty bodies.
+
+ghost use Rattle.std.specs.Prelude.{◌≡◌, [], ◌∷◌};
+ghost use Rattle.fol_base.specs.Interpretation.{true_tree};
+ghost use Rattle.fol_base.specs.Examples.{x, a, p, positive_name};
+ghost use Rattle.bank_clause.specs.Clause.{assertion, clause_in, IsCanonical, IsClauseOf, AreAssertions, sides};
+ghost use Rattle.bank_clause.specs.Examples.{four_sides, of_size, row, row_of_another};
+ghost use Rattle.bank_clause.specs.Laws.{
+  CanonicalFormsAreCanonical,
+  CanonicalFormsKeepSizes,
+  KeepsClauses,
+  KeepsMembers,
+};
+
+/// A bank that grows keeps its clauses and members, and what they stand for.
+pub fn kept_clauses()
+    ensures clauses { KeepsClauses }
+    ensures members { KeepsMembers }
+{}
+
+/// The canonical form of a clause can be taken into a bank: it is canonical, and of the clause's size.
+pub fn canonical_forms()
+    ensures canonical { CanonicalFormsAreCanonical }
+    ensures sizes { CanonicalFormsKeepSizes }
+{}
+
+/// What a bank clause stands for, and which clauses are of a bank.
+pub fn examples()
+    ensures stands_for { clause_in four_sides (of_size 5) ≡ row }
+    ensures of_bank { IsClauseOf four_sides (of_size 5) }
+    ensures names_not_counted { ¬ IsClauseOf four_sides (of_size 6) }
+    ensures numbered_by_first_occurrence { ¬ IsCanonical row_of_another }
+    ensures sides_in_order { sides row.literals ≡ (p (x 0)).left ∷ true_tree ∷ x 0 ∷ a ∷ [] }
+    ensures rising { AreAssertions (assertion 3 ∷ assertion 5 ∷ []) }
+    ensures falling { ¬ AreAssertions (assertion 5 ∷ assertion 3 ∷ []) }
+    ensures twice { ¬ AreAssertions (assertion 3 ∷ assertion 3 ∷ []) }
+    ensures positive { ¬ AreAssertions (positive_name 3 ∷ []) }
+{}

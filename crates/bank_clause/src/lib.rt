@@ -1,0 +1,15 @@
+// Clauses whose literals' sides are terms of a bank.
+#![tactic(auto)]
+
+mod clause;
+mod interning;
+mod member;
+mod trees;
+
+pub use clause::BankClause;
+pub use member::{Member, Members};
+pub use term_bank::BankLit;
+
+pub mod laws;
+#[cfg(test)]
+mod tests;

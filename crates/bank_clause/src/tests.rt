@@ -1,0 +1,194 @@
+// Each public call with ample memory, on rows worked out by hand.
+
+ghost use Rattle.std.specs.Prelude.{◌<◌, ◌^◌, IfOk};
+ghost use Rattle.std.specs.List.Sorted.{IsStrictlyIncreasing};
+ghost use Rattle.fol_base.specs.Clause.{clause_size};
+ghost use Rattle.fol_base.specs.Literal.{clause_of};
+ghost use Rattle.term_bank.specs.Bank.{IsTableOf, Grows};
+ghost use Rattle.bank_clause.specs.Clause.{AreAssertions, IsCanonical, IsClauseOf};
+
+use super::*;
+use crate::trees::negative_names;
+use fol_base::{
+    Clause, Literal, Literals, Mem, Names, NoMemory, Term, Terms, canonical, same_clause, same_term,
+};
+use std::alloc::Global;
+use std::test::Fail;
+use term_bank::{Bank, Table};
+
+const A: u32 = 1;
+
+const F: u32 = 2;
+
+const P: u32 = 3;
+
+fn constant(alloc: Global, symbol: u32) -> Term {
+    Term::App(symbol, Terms::new(alloc))
+}
+
+fn unary(alloc: Global, symbol: u32, argument: Term) -> Mem<Term> {
+    let mut arguments = Terms::new(alloc);
+    arguments.push(argument)?;
+    Ok(Term::App(symbol, arguments))
+}
+
+fn atom(alloc: Global, argument: Term) -> Mem<Literal> {
+    Ok(Literal {
+        positive: true,
+        left: unary(alloc, P, argument)?,
+        right: constant(alloc, 0),
+    })
+}
+
+/// The literals `p(X) | X != a`, for the variable X with this number.
+fn atom_and_disequation(alloc: Global, variable: u32) -> Mem<Vec<Literal>> {
+    let mut literals = Vec::new(alloc);
+    literals.push(atom(alloc, Term::Var(variable))?)?;
+    literals.push(Literal {
+        positive: false,
+        left: Term::Var(variable),
+        right: constant(alloc, A),
+    })?;
+    Ok(literals)
+}
+
+/// Atoms `p(X), p(f(Y)), p(X), p(f(Y)), ..`, more of them than stand inline.
+fn many_atoms(alloc: Global, count: u32) -> Mem<Vec<Literal>> {
+    let mut literals = Vec::new(alloc);
+    for number in 0..count {
+        let argument = if number % 2 == 0 {
+            Term::Var(9)
+        } else {
+            unary(alloc, F, Term::Var(4))?
+        };
+        literals.push(atom(alloc, argument)?)?;
+    }
+    Ok(literals)
+}
+
+/// The canonical clause of these literals and of assertions with these names; none that is too large.
+fn form_of(alloc: Global, literals: Vec<Literal>, names: &[u32]) -> Mem<Clause>
+    requires { IsStrictlyIncreasing names.now }
+    ensures canonical { IfOk result (λ form. IsCanonical (clause_of form)) }
+    ensures names { IfOk result (λ form. AreAssertions form.names) }
+    ensures size { IfOk result (λ form. clause_size (clause_of form) < 2 ^ 31) }
+{
+    let clause = Clause {
+        literals: Literals::from_vec(literals),
+        names: Names::from_vec(negative_names(alloc, names)?),
+    };
+    let (form, _) = canonical(alloc, &clause)?;
+    if form.size() >= 1 << 31 {
+        return Err(NoMemory);
+    }
+    Ok(form)
+}
+
+/// That canonical clause, taken into the bank.
+fn taken_in(
+    alloc: Global,
+    bank: &mut Bank,
+    table: &mut Table,
+    literals: Vec<Literal>,
+    names: &[u32],
+) -> Mem<(Clause, BankClause)>
+    requires table { IsTableOf bank.old table.old }
+    requires rising { IsStrictlyIncreasing names.now }
+    ensures of_bank { IfOk result (λ made. IsClauseOf bank.new made.1) }
+    ensures table { IsTableOf bank.new table.new }
+    ensures grows { Grows bank.old bank.new }
+{
+    let form = form_of(alloc, literals, names)?;
+    let made = BankClause::of_clause(alloc, bank, table, &form)?;
+    Ok((form, made))
+}
+
+/// Whether the bank clause and its copy give the clause back, with its names and its size.
+fn comes_back(bank: &Bank, form: &Clause, made: &BankClause) -> Mem<bool>
+    requires { IsClauseOf bank.now made.now }
+{
+    let copied = made.copied()?;
+    let back = made.to_clause(bank)?;
+    let from_copy = copied.to_clause(bank)?;
+    Ok(
+        same_clause(&back, form)
+            && same_clause(&from_copy, form)
+            && u64::from(made.size()) == form.size()
+            && made.literals().len() == form.literals.len()
+            && made.names().len() == form.names.len()
+            && copied.names() == made.names(),
+    )
+}
+
+#[test]
+fn a_clause_comes_back(rt: HostRuntime) -> Result<(), Fail> {
+    let alloc = rt.alloc();
+    let (mut bank, mut table) = Bank::new(alloc)?;
+    let literals = atom_and_disequation(alloc, 5)?;
+    let (form, made) = taken_in(alloc, &mut bank, &mut table, literals, &[3])?;
+    assert!(rt; comes_back(&bank, &form, &made)?);
+    assert_eq!(rt; made.size(), 5);
+    assert!(rt; made.names() == [3].as_slice());
+    Ok(())
+}
+
+/// Clauses of many literals come back too, from a bank that knows some of their terms.
+#[test]
+fn clauses_come_back_from_one_bank(rt: HostRuntime) -> Result<(), Fail> {
+    let alloc = rt.alloc();
+    let (mut bank, mut table) = Bank::new(alloc)?;
+    for count in [0, 1, 4, 5, 9] {
+        let literals = many_atoms(alloc, count)?;
+        let (form, made) = taken_in(alloc, &mut bank, &mut table, literals, &[])?;
+        assert!(rt; comes_back(&bank, &form, &made)?);
+        assert!(rt; made.names().is_empty());
+        let literals = many_atoms(alloc, count)?;
+        let (form, made) = taken_in(alloc, &mut bank, &mut table, literals, &[0, 7])?;
+        assert!(rt; comes_back(&bank, &form, &made)?);
+        assert!(rt; made.names() == [0, 7].as_slice());
+    }
+    Ok(())
+}
+
+/// The references of a literal are those that the table has.
+#[test]
+fn equal_sides_have_equal_numbers(rt: HostRuntime) -> Result<(), Fail> {
+    let alloc = rt.alloc();
+    let (mut bank, mut table) = Bank::new(alloc)?;
+    let (_, made) = taken_in(alloc, &mut bank, &mut table, many_atoms(alloc, 6)?, &[])?;
+    let even = bank.intern(alloc, &mut table, &unary(alloc, P, Term::Var(0))?)?;
+    let odd = bank.intern(
+        alloc,
+        &mut table,
+        &unary(alloc, P, unary(alloc, F, Term::Var(1))?)?,
+    )?;
+    let truth = bank.intern(alloc, &mut table, &constant(alloc, 0))?;
+    for (index, literal) in made.literals().iter().enumerate() {
+        let wanted = if index % 2 == 0 {
+            even.number()
+        } else {
+            odd.number()
+        };
+        assert!(rt; literal.positive);
+        assert_eq!(rt; literal.left.number(), wanted);
+        assert_eq!(rt; literal.right.number(), truth.number());
+    }
+    Ok(())
+}
+
+#[test]
+fn members_outlive_growth(rt: HostRuntime) -> Result<(), Fail> {
+    let alloc = rt.alloc();
+    let (mut bank, mut table) = Bank::new(alloc)?;
+    let literals = atom_and_disequation(alloc, 0)?;
+    let (form, clause) = taken_in(alloc, &mut bank, &mut table, literals, &[])?;
+    let (_, _later) = taken_in(alloc, &mut bank, &mut table, many_atoms(alloc, 2)?, &[])?;
+    assert!(rt; comes_back(&bank, &form, &clause)?);
+    let mut members = Members::new(alloc);
+    members.push(Member { number: 4, clause })?;
+    for member in members.as_slice() {
+        assert_eq!(rt; member.number, 4);
+        assert_eq!(rt; member.clause.size(), 5);
+    }
+    Ok(())
+}

@@ -1,0 +1,26 @@
+-- Literals in a bank, and the literals over trees for which they stand.
+use Rattle.std.specs.Prelude.{◌≡◌, ◌-◌, ◌^◌, false, List, map}
+use Rattle.std.specs.List.{All}
+use Rattle.fol_base.specs.Clause.{TreeLiteral}
+use Rattle.term_bank.specs.Bank.{number, tree_in, IsOf}
+use Rattle.term_bank.specs.declared.bank.Bank.{Bank}
+use Rattle.term_bank.specs.declared.literal.BankLit.{BankLit}
+
+-- both sides are of the bank
+abbrev pub IsLiteralOf : Bank → BankLit → Type 0
+IsLiteralOf bank l = IsOf bank l.left × IsOf bank l.right
+
+-- all literals of a list are of the bank
+abbrev pub AreLiteralsOf : Bank → List BankLit → Type 0
+AreLiteralsOf bank ls = All (IsLiteralOf bank) ls
+
+-- the literal for which a literal of the bank stands: the same sign, and the trees of its sides
+abbrev pub literal_in : Bank → BankLit → TreeLiteral
+literal_in bank l = record { positive = l.positive; left = tree_in bank l.left; right = tree_in bank l.right }
+
+abbrev pub literals_in : Bank → List BankLit → List TreeLiteral
+literals_in bank ls = map (literal_in bank) ls
+
+-- the literal that fills places which aren't used yet: its sides are of no bank
+abbrev pub IsDefaultLiteral : BankLit → Type 0
+IsDefaultLiteral l = (l.positive ≡ false) × (number l.left ≡ 2 ^ 64 - 1) × (number l.right ≡ 2 ^ 64 - 1)
