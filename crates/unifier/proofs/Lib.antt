@@ -5,3 +5,4 @@ pub mod PlacingLemmas
 pub mod ValueLemmas
 pub mod SolveLemmas
 pub mod UnifyLemmas
+pub mod SizeLemmas

@@ -12,12 +12,12 @@ use Rattle.unifier.specs.declared.layout.Place.{Place}
 use Rattle.unifier.specs.declared.layout.Layout.{Layout}
 use Rattle.unifier.specs.declared.classes.Classes.{Classes}
 use Rattle.unifier.specs.declared.placing.Placing.{Placing}
-use Rattle.unifier.specs.declared.bindings.Bindings.{Bindings}
 use Rattle.unifier.specs.Cells.{Value, tree, trees, as_tree, as_trees, cell_at, value_of, is_list, is_variable, relate, IsAfterParts, AreOrdered, HasKinds, AreKinded, IsValuation}
 use Rattle.unifier.specs.Layout.{cell_of, IsLayout}
+use Rattle.unifier.specs.InOrder.{InOrder}
 use Rattle.unifier.specs.Classes.{parent, schema, AreClasses, IsConstantOn, IsCongruent, IsDiscrete, CannotFollow, AreClosed, PartsAgree, ArePartsJoined}
 use Rattle.unifier.specs.Placing.{place, IsPlacedAs, Waits, IsPlacing, IsPlaced, IsOrdering}
-use Rattle.unifier.specs.Bindings.{value_at, bound, joint, CannotMeet, Meets, IsMeeting}
+use Rattle.unifier.specs.Bindings.{value_at, bound, joint_by, CannotMeet, Meets}
 use Rattle.unifier.specs.Solving.{relocated, IsRelocated}
 use Rattle.unifier.proofs.ValueLemmas.{value_at-valuation, instance_value, valuation-instance, tree-instance}
 
@@ -77,14 +77,14 @@ made-tree θ f (Application s l) h = refl
 made-tree θ f NoTrees h = cc
 made-tree θ f (TreeThen a b) h = cc
 
-list-value :
+pub list-value :
     (θ : Substitution) (cells : List Cell) (val : ℕ → Value) (i : ℕ)
     → IsValuation θ cells val → i < length cells → is_list (cell_at cells i) ≡ true → val i ≡ trees (as_trees (val i))
 list-value θ cells val i h inside list =
     let e = h i inside in
     e ∙ made-list θ val (cell_at cells i) list ∙ ap (λ v. trees (as_trees v)) (sym e)
 
-tree-value :
+pub tree-value :
     (θ : Substitution) (cells : List Cell) (val : ℕ → Value) (i : ℕ)
     → IsValuation θ cells val → i < length cells → is_list (cell_at cells i) ≡ false → val i ≡ tree (as_tree (val i))
 tree-value θ cells val i h inside list =
@@ -305,11 +305,10 @@ spot-is : (c : Classes) (p : Placing) (i k : ℕ) → place p (parent c i) ≡ S
 spot-is c p i k e = ap (λ o. unwrap_or o 0) e
 
 -- the cells in order, with the places of the variables
-pub record IsSolved (layout : Layout) (c : Classes) (p : Placing) (b : Bindings) : Type 0 where
+pub record IsSolved (layout : Layout) (c : Classes) (p : Placing) (ps : List Place) : Type 0 where
   pub placing : IsPlacing layout.cells.items c p
   pub all_placed : (i : ℕ) → i < length layout.cells.items → parent c i ≡ i → IsPlaced p i
-  pub cells : b.cells.items ≡ p.cells.items
-  pub places : IsRelocated c p layout.places.items b.places.items
+  pub places : IsRelocated c p layout.places.items ps
 
 cell_of-relocated : (c : Classes) (p : Placing) (w : ℕ) (es : List Place) → cell_of w (map (relocated c p) es) ≡ option_map (spot c p) (cell_of w es)
 cell_of-relocated c p w [] = refl
@@ -325,9 +324,9 @@ cell_of-relocated c p w (e ∷ es) =
     (cases_Bool (w == e.code))
 
 bound-place :
-    (layout : Layout) (c : Classes) (p : Placing) (b : Bindings) (w i : ℕ)
-    → IsSolved layout c p b → cell_of w layout.places.items ≡ Some i → cell_of w b.places.items ≡ Some (spot c p i)
-bound-place layout c p b w i solved found =
+    (layout : Layout) (c : Classes) (p : Placing) (ps : List Place) (w i : ℕ)
+    → IsSolved layout c p ps → cell_of w layout.places.items ≡ Some i → cell_of w ps ≡ Some (spot c p i)
+bound-place layout c p ps w i solved found =
     ap (cell_of w) solved.places ∙ cell_of-relocated c p w layout.places.items ∙ ap (option_map (spot c p)) found
 
 placed-kind : (c : Classes) (p : Placing) (x q : Cell) → IsPlacedAs c p x q → is_list q ≡ is_list x
@@ -338,10 +337,10 @@ placed-kind c p (TreeThen a d) q h = ap is_list h.4
 
 -- a cell's class has its place
 spot-placed :
-    (layout : Layout) (first second : ℕ) (start c : Classes) (p : Placing) (b : Bindings) (i : ℕ)
-    → Stands layout first second start c → IsSolved layout c p b → i < length (cells_of layout)
+    (layout : Layout) (first second : ℕ) (start c : Classes) (p : Placing) (ps : List Place) (i : ℕ)
+    → Stands layout first second start c → IsSolved layout c p ps → i < length (cells_of layout)
     → (k : ℕ) × (place p (parent c i) ≡ Some k) × (k < length p.cells.items) × IsPlacedAs c p (cell_at (cells_of layout) (schema c (parent c i))) (cell_at p.cells.items k)
-spot-placed layout first second start c p b i h solved inside =
+spot-placed layout first second start c p ps i h solved inside =
     let up : parent c i < length (cells_of layout) = omega (arith, h.closed.follows.classes.down i inside) in
     let placed = solved.all_placed (parent c i) up (h.closed.settled.flat i inside) in
     let there = solved.placing.placed (parent c i) placed.0 up placed.1 in
@@ -388,33 +387,32 @@ abbrev own_value : Placing → ℕ → Value
 own_value p = value_at variable p.cells.items
 
 joint-is :
-    (layout : Layout) (c : Classes) (p : Placing) (b : Bindings) (w i : ℕ)
-    → IsSolved layout c p b → cell_of w layout.places.items ≡ Some i → joint b w ≡ as_tree (own_value p (spot c p i))
-joint-is layout c p b w i solved found =
-    ap (λ o. bound b.cells.items o w) (bound-place layout c p b w i solved found)
-    ∙ ap (λ cs. as_tree (value_at variable cs (spot c p i))) solved.cells
+    (layout : Layout) (c : Classes) (p : Placing) (ps : List Place) (w i : ℕ)
+    → IsSolved layout c p ps → cell_of w layout.places.items ≡ Some i → joint_by p.cells.items ps w ≡ as_tree (own_value p (spot c p i))
+joint-is layout c p ps w i solved found =
+    ap (λ o. bound p.cells.items o w) (bound-place layout c p ps w i solved found)
 
 solved-valuation :
-    (layout : Layout) (first second : ℕ) (start c : Classes) (p : Placing) (b : Bindings)
-    → Stands layout first second start c → IsSolved layout c p b
-    → IsValuation (joint b) (cells_of layout) (λ i. own_value p (spot c p i))
-solved-valuation layout first second start c p b h solved i inside =
+    (layout : Layout) (first second : ℕ) (start c : Classes) (p : Placing) (ps : List Place)
+    → Stands layout first second start c → IsSolved layout c p ps
+    → IsValuation (joint_by p.cells.items ps) (cells_of layout) (λ i. own_value p (spot c p i))
+solved-valuation layout first second start c p ps h solved i inside =
     let cells : List Cell = cells_of layout in
     let v : ℕ → Value = own_value p in
-    let there = spot-placed layout first second start c p b i h solved inside in
+    let there = spot-placed layout first second start c p ps i h solved inside in
     let k : ℕ = there.0 in
     let at : spot c p i ≡ k = spot-is c p i k there.1 in
     let q : Cell = cell_at p.cells.items k in
     let y : Cell = cell_at cells (schema c (parent c i)) in
     let made : v k ≡ value_of variable v q = value_at-valuation variable p.cells.items solved.placing.ordered k there.2 in
-    let here : (w : ℕ) → cell_at cells i ≡ Variable w → v k ≡ tree (joint b w) = λ w is.
+    let here : (w : ℕ) → cell_at cells i ≡ Variable w → v k ≡ tree (joint_by p.cells.items ps w) = λ w is.
     let kind_q : is_list q ≡ false =
     placed-kind c p y q there.3 ∙ schema-kind layout first second start c i h inside ∙ ap is_list is in
     made ∙ made-tree variable v q kind_q ∙ ap (λ u. tree (as_tree u)) (sym made)
     ∙ ap (λ j. tree (as_tree (v j))) (sym at)
-    ∙ ap tree (sym (joint-is layout c p b w i solved (h.is_layout.placed i w inside is))) in
+    ∙ ap tree (sym (joint-is layout c p ps w i solved (h.is_layout.placed i w inside is))) in
     ap v at
-    ∙ made-at c p (joint b) v (cell_at cells i) y q k (h.closed.settled.telling i inside) (h.closed.closed i inside) there.3 made here
+    ∙ made-at c p (joint_by p.cells.items ps) v (cell_at cells i) y q k (h.closed.settled.telling i inside) (h.closed.closed i inside) there.3 made here
 
 -- ---- and are most general
 
@@ -463,14 +461,14 @@ all-follow layout c p θ val other (suc bound) is_layout classes placing constan
     ∙ sym (made k there.inside)
 
 after-joint :
-    (layout : Layout) (first second : ℕ) (start c : Classes) (p : Placing) (b : Bindings) (θ : Substitution) (val : ℕ → Value) (w : ℕ) (o : Option ℕ)
-    → Stands layout first second start c → IsSolved layout c p b → IsValuation θ (cells_of layout) val → val first ≡ val second
-    → cell_of w layout.places.items ≡ o → θ w ≡ instance θ (joint b w)
-after-joint layout first second start c p b θ val w None h solved valuation same e =
-    let absent : cell_of w b.places.items ≡ None =
+    (layout : Layout) (first second : ℕ) (start c : Classes) (p : Placing) (ps : List Place) (θ : Substitution) (val : ℕ → Value) (w : ℕ) (o : Option ℕ)
+    → Stands layout first second start c → IsSolved layout c p ps → IsValuation θ (cells_of layout) val → val first ≡ val second
+    → cell_of w layout.places.items ≡ o → θ w ≡ instance θ (joint_by p.cells.items ps w)
+after-joint layout first second start c p ps θ val w None h solved valuation same e =
+    let absent : cell_of w ps ≡ None =
     ap (cell_of w) solved.places ∙ cell_of-relocated c p w layout.places.items ∙ ap (option_map (spot c p)) e in
-    ap (instance θ) (sym (ap (λ o. bound b.cells.items o w) absent))
-after-joint layout first second start c p b θ val w (Some i) h solved valuation same e =
+    ap (instance θ) (sym (ap (λ o. bound p.cells.items o w) absent))
+after-joint layout first second start c p ps θ val w (Some i) h solved valuation same e =
     let cells : List Cell = cells_of layout in
     let variable_at = h.is_layout.places w i e in
     let inside : i < length cells = variable_at.0 in
@@ -479,7 +477,7 @@ after-joint layout first second start c p b θ val w (Some i) h solved valuation
     let other : ℕ → Value = λ k. instance_value θ (v k) in
     let made : IsValuation θ p.cells.items other =
     valuation-instance θ p.cells.items v (value_at-valuation variable p.cells.items solved.placing.ordered) in
-    let there = spot-placed layout first second start c p b i h solved inside in
+    let there = spot-placed layout first second start c p ps i h solved inside in
     let k : ℕ = there.0 in
     let up : parent c i < length cells = omega (arith, h.closed.follows.classes.down i inside) in
     let here : tree (θ w) ≡ instance_value θ (v k) =
@@ -488,17 +486,93 @@ after-joint layout first second start c p b θ val w (Some i) h solved valuation
     ∙ all-follow layout c p θ val other (suc k) h.is_layout h.closed.follows.classes solved.placing constant valuation made (parent c i) k (omega arith) up there.1 in
     tree-instance θ (θ w) (v k) here
     ∙ ap (λ j. instance θ (as_tree (v j))) (sym (spot-is c p i k there.1))
-    ∙ ap (instance θ) (sym (joint-is layout c p b w i solved e))
+    ∙ ap (instance θ) (sym (joint-is layout c p ps w i solved e))
 
 pub solved-meets :
-    (layout : Layout) (first second : ℕ) (start c : Classes) (p : Placing) (b : Bindings)
-    → Stands layout first second start c → IsSolved layout c p b → Meets (cells_of layout) first second b
-solved-meets layout first second start c p b h solved = record {
+    (layout : Layout) (first second : ℕ) (start c : Classes) (p : Placing) (ps : List Place)
+    → Stands layout first second start c → IsSolved layout c p ps → Meets (cells_of layout) first second (joint_by p.cells.items ps)
+solved-meets layout first second start c p ps h solved = record {
   val = λ i. own_value p (spot c p i);
-  valuation = solved-valuation layout first second start c p b h solved;
+  valuation = solved-valuation layout first second start c p ps h solved;
   same = ap (λ j. own_value p (unwrap_or (place p j) 0)) h.closed.same;
-  general = λ θ other valuation meets w. after-joint layout first second start c p b θ other w (cell_of w layout.places.items) h solved valuation meets refl;
+  general = λ θ other valuation meets w. after-joint layout first second start c p ps θ other w (cell_of w layout.places.items) h solved valuation meets refl;
 }
+
+-- ---- the bindings are in order
+
+placed-kinds :
+    (layout : Layout) (first second : ℕ) (start c : Classes) (p : Placing) (ps : List Place) (s : ℕ) (x q : Cell)
+    → Stands layout first second start c → IsSolved layout c p ps → s < length (cells_of layout) → IsAfterParts s x
+    → HasKinds (cells_of layout) x → IsPlacedAs c p x q → HasKinds p.cells.items q
+placed-kinds layout first second start c p ps s (Variable w) q h solved inside after kinds placed = subst (HasKinds p.cells.items) (sym placed) tt
+placed-kinds layout first second start c p ps s (Application f l) q h solved inside after kinds placed =
+    let there = spot-placed layout first second start c p ps l h solved (omega (arith, after)) in
+    let at : there.0 ≡ placed.0 = let e : Some there.0 ≡ Some placed.0 = sym there.1 ∙ placed.1 in cc in
+    subst (HasKinds p.cells.items) (sym placed.2)
+    (ap (λ k. is_list (cell_at p.cells.items k)) (sym at)
+    ∙ placed-kind c p (cell_at (cells_of layout) (schema c (parent c l))) (cell_at p.cells.items there.0) there.3
+    ∙ schema-kind layout first second start c l h (omega (arith, after)) ∙ kinds)
+placed-kinds layout first second start c p ps s NoTrees q h solved inside after kinds placed = subst (HasKinds p.cells.items) (sym placed) tt
+placed-kinds layout first second start c p ps s (TreeThen a d) q h solved inside after kinds placed =
+    let one = spot-placed layout first second start c p ps a h solved (omega (arith, after.0)) in
+    let other = spot-placed layout first second start c p ps d h solved (omega (arith, after.1)) in
+    let one_at : one.0 ≡ placed.0 = let e : Some one.0 ≡ Some placed.0 = sym one.1 ∙ placed.2 in cc in
+    let other_at : other.0 ≡ placed.1 = let e : Some other.0 ≡ Some placed.1 = sym other.1 ∙ placed.3 in cc in
+    subst (HasKinds p.cells.items) (sym placed.4)
+    (ap (λ k. is_list (cell_at p.cells.items k)) (sym one_at)
+    ∙ placed-kind c p (cell_at (cells_of layout) (schema c (parent c a))) (cell_at p.cells.items one.0) one.3
+    ∙ schema-kind layout first second start c a h (omega (arith, after.0)) ∙ kinds.0,
+    ap (λ k. is_list (cell_at p.cells.items k)) (sym other_at)
+    ∙ placed-kind c p (cell_at (cells_of layout) (schema c (parent c d))) (cell_at p.cells.items other.0) other.3
+    ∙ schema-kind layout first second start c d h (omega (arith, after.1)) ∙ kinds.1)
+
+placed-variable : (c : Classes) (p : Placing) (x q : Cell) (w : ℕ) → IsPlacedAs c p x q → q ≡ Variable w → x ≡ Variable w
+placed-variable c p (Variable v) q w placed e = sym placed ∙ e
+placed-variable c p (Application f l) q w placed e = let wrong : Application f placed.0 ≡ Variable w = sym placed.2 ∙ e in cc
+placed-variable c p NoTrees q w placed e = let wrong : NoTrees ≡ Variable w = sym placed ∙ e in cc
+placed-variable c p (TreeThen a d) q w placed e = let wrong : TreeThen placed.0 placed.1 ≡ Variable w = sym placed.4 ∙ e in cc
+
+solved-terms :
+    (layout : Layout) (first second : ℕ) (start c : Classes) (p : Placing) (ps : List Place) (w k : ℕ) (o : Option ℕ)
+    → Stands layout first second start c → IsSolved layout c p ps → cell_of w layout.places.items ≡ o → option_map (spot c p) o ≡ Some k
+    → (k < length p.cells.items) × (is_list (cell_at p.cells.items k) ≡ false)
+solved-terms layout first second start c p ps w k None h solved e found = cc
+solved-terms layout first second start c p ps w k (Some i) h solved e found =
+    let variable_at = h.is_layout.places w i e in
+    let there = spot-placed layout first second start c p ps i h solved variable_at.0 in
+    let at : there.0 ≡ k = let same : Some (spot c p i) ≡ Some k = found in sym (spot-is c p i there.0 there.1) ∙ cc in
+    let P : ℕ → Type 0 = λ m. (m < length p.cells.items) × (is_list (cell_at p.cells.items m) ≡ false) in
+    subst P at
+    (there.2,
+    placed-kind c p (cell_at (cells_of layout) (schema c (parent c i))) (cell_at p.cells.items there.0) there.3
+    ∙ schema-kind layout first second start c i h variable_at.0 ∙ ap is_list variable_at.1)
+
+pub solved-in-order :
+    (layout : Layout) (first second : ℕ) (start c : Classes) (p : Placing) (ps : List Place)
+    → Stands layout first second start c → IsSolved layout c p ps → InOrder p.cells.items ps
+solved-in-order layout first second start c p ps h solved =
+    let cells : List Cell = cells_of layout in
+    record {
+      ordered = solved.placing.ordered;
+      kinded = λ k inside.
+          let from = solved.placing.origin k inside in
+          let there = solved.placing.placed from.0 k from.1 from.2 in
+          let s : ℕ = schema c from.0 in
+          let s_in : s < length cells = h.closed.follows.classes.inside from.0 from.1 in
+          placed-kinds layout first second start c p ps s (cell_at cells s) (cell_at p.cells.items k) h solved s_in
+          (h.is_layout.ordered s s_in) (h.is_layout.kinded s s_in) there.as_schema;
+      terms = λ w k found.
+          solved-terms layout first second start c p ps w k (cell_of w layout.places.items) h solved refl
+          (sym (ap (cell_of w) solved.places ∙ cell_of-relocated c p w layout.places.items) ∙ found);
+      own = λ k w inside is.
+          let from = solved.placing.origin k inside in
+          let there = solved.placing.placed from.0 k from.1 from.2 in
+          let s : ℕ = schema c from.0 in
+          let s_in : s < length cells = h.closed.follows.classes.inside from.0 from.1 in
+          let s_is : cell_at cells s ≡ Variable w = placed-variable c p (cell_at cells s) (cell_at p.cells.items k) w there.as_schema is in
+          bound-place layout c p ps w s solved (h.is_layout.placed s w s_in s_is)
+          ∙ ap Some (spot-is c p s k (ap (place p) (h.closed.settled.own from.0 from.1 ∙ there.smallest) ∙ from.2));
+    }
 
 -- ---- as the code has them: the cells are borrowed as a slice
 
@@ -543,17 +617,31 @@ given-stuck layout first second xs n start c g h o =
     stuck-cannot-meet layout first second start c (given-stands layout first second xs n start c g h)
     (subst (λ cells. IsOrdering cells c None) g.slice o)
 
-pub given-solved :
-    (layout : Layout) (first second : ℕ) (xs : List Cell) (n : ℕ) (start c : Classes) (p : Placing) (b : Bindings) (ps : List Place)
-    → Given layout first second xs n start → AreClosed xs first second start c → IsOrdering xs c (Some p)
-    → b.cells.items ≡ p.cells.items → ps ≡ layout.places.items → IsRelocated c p ps b.places.items
-    → Meets layout.cells.items first second b
-given-solved layout first second xs n start c p b ps g h o cells places relocated =
+given-is-solved :
+    (layout : Layout) (first second : ℕ) (xs : List Cell) (n : ℕ) (start c : Classes) (p : Placing) (made es : List Place)
+    → Given layout first second xs n start → IsOrdering xs c (Some p) → es ≡ layout.places.items → IsRelocated c p es made
+    → IsSolved layout c p made
+given-is-solved layout first second xs n start c p made es g o places relocated =
     let ordering = subst (λ ds. IsOrdering ds c (Some p)) g.slice o in
-    solved-meets layout first second start c p b (given-stands layout first second xs n start c g h)
-    (record {
+    record {
       placing = ordering.0;
       all_placed = ordering.1;
-      cells = cells;
-      places = subst (λ es. IsRelocated c p es b.places.items) places relocated;
-    })
+      places = subst (λ ps. IsRelocated c p ps made) places relocated;
+    }
+
+pub given-solved :
+    (layout : Layout) (first second : ℕ) (xs : List Cell) (n : ℕ) (start c : Classes) (p : Placing) (made es : List Place)
+    → Given layout first second xs n start → AreClosed xs first second start c → IsOrdering xs c (Some p)
+    → es ≡ layout.places.items → IsRelocated c p es made
+    → Meets layout.cells.items first second (joint_by p.cells.items made)
+given-solved layout first second xs n start c p made es g h o places relocated =
+    solved-meets layout first second start c p made (given-stands layout first second xs n start c g h)
+    (given-is-solved layout first second xs n start c p made es g o places relocated)
+
+pub given-in-order :
+    (layout : Layout) (first second : ℕ) (xs : List Cell) (n : ℕ) (start c : Classes) (p : Placing) (made es : List Place)
+    → Given layout first second xs n start → AreClosed xs first second start c → IsOrdering xs c (Some p)
+    → es ≡ layout.places.items → IsRelocated c p es made → InOrder p.cells.items made
+given-in-order layout first second xs n start c p made es g h o places relocated =
+    solved-in-order layout first second start c p made (given-stands layout first second xs n start c g h)
+    (given-is-solved layout first second xs n start c p made es g o places relocated)

@@ -81,7 +81,7 @@ meet-together layout first second s t σ both e =
 
 unify-apart :
     (layout : Layout) (first second : ℕ) (s t : Tree) (b : Bindings)
-    → AreBoth layout true first second s t → Meets layout.cells.items first second b
+    → AreBoth layout true first second s t → Meets layout.cells.items first second (joint b)
     → IsMostGeneralUnifierApart s t (of_side true Left (joint b)) (of_side true Right (joint b))
 unify-apart layout first second s t b both m = record {
   unifies =
@@ -99,7 +99,7 @@ unify-apart layout first second s t b both m = record {
 
 unify-together :
     (layout : Layout) (first second : ℕ) (s t : Tree) (b : Bindings)
-    → AreBoth layout false first second s t → Meets layout.cells.items first second b
+    → AreBoth layout false first second s t → Meets layout.cells.items first second (joint b)
     → IsMostGeneralUnifier s t (of_side false Left (joint b))
 unify-together layout first second s t b both m = record {
   unifies =

@@ -7,6 +7,7 @@ use Rattle.fol_base.specs.declared.clause.Side.{Side}
 use Rattle.fol_base.specs.declared.clause.Side.TheVariants.{Left, Right}
 use Rattle.unifier.specs.declared.cells.Cell.{Cell}
 use Rattle.unifier.specs.declared.layout.Layout.{Layout}
+use Rattle.unifier.specs.declared.layout.Place.{Place}
 use Rattle.unifier.specs.declared.bindings.Bindings.{Bindings}
 use Rattle.unifier.specs.Cells.{Value, trees, as_tree, value_of, IsValuation}
 use Rattle.unifier.specs.Layout.{cell_of, of_side}
@@ -29,8 +30,11 @@ abbrev pub bound : List Cell → Option ℕ → ℕ → Tree
 bound cells None w = variable w
 bound cells (Some k) w = as_tree (value_at variable cells k)
 
+abbrev pub joint_by : List Cell → List Place → Substitution
+joint_by cells places w = bound cells (cell_of w places) w
+
 abbrev pub joint : Bindings → Substitution
-joint b w = bound b.cells.items (cell_of w b.places.items) w
+joint b = joint_by b.cells.items b.places.items
 
 -- what stands for a side's variables
 abbrev pub substitution_of : Bindings → Side → Substitution
@@ -48,15 +52,15 @@ IsUnified false s t (Some b) =
 abbrev pub CannotMeet : List Cell → ℕ → ℕ → Type 0
 CannotMeet cells first second = (θ : Substitution) (val : ℕ → Value) → IsValuation θ cells val → val first ≡ val second → ⊥
 
--- the bindings give the two cells one value, and every substitution that does is itself after them
-pub record Meets (cells : List Cell) (first : ℕ) (second : ℕ) (b : Bindings) : Type 0 where
+-- the substitution gives the two cells one value, and every substitution that does is itself after it
+pub record Meets (cells : List Cell) (first : ℕ) (second : ℕ) (σ : Substitution) : Type 0 where
   pub val : ℕ → Value
-  pub valuation : IsValuation (joint b) cells val
+  pub valuation : IsValuation σ cells val
   pub same : val first ≡ val second
   pub general :
       (θ : Substitution) (other : ℕ → Value) → IsValuation θ cells other → other first ≡ other second
-      → (w : ℕ) → θ w ≡ instance θ (joint b w)
+      → (w : ℕ) → θ w ≡ instance θ (σ w)
 
 -- the bindings found, with the sides apart or not
 abbrev pub IsMeeting : Layout → Bool → ℕ → ℕ → Bindings → Type 0
-IsMeeting layout apart first second b = (b.apart ≡ apart) × Meets layout.cells.items first second b
+IsMeeting layout apart first second b = (b.apart ≡ apart) × Meets layout.cells.items first second (joint b)

@@ -1,5 +1,7 @@
 // What a unification finds.
 
+ghost use Rattle.unifier.specs.InOrder.{InOrder, in-order-prop};
+
 use crate::cells::Cell;
 use crate::layout::Place;
 
@@ -10,4 +12,5 @@ pub struct Bindings {
     pub(crate) apart: bool,
     pub(crate) cells: Vec<Cell>,
     pub(crate) places: Vec<Place>,
+    ghost in_order: { InOrder cells.items places.items } by { in-order-prop cells.items places.items },
 }

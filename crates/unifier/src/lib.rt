@@ -8,6 +8,7 @@ mod layout;
 mod matched;
 mod matching;
 mod placing;
+mod sizes;
 mod solving;
 mod unifying;
 
