@@ -6,3 +6,4 @@ pub mod ValueLemmas
 pub mod SolveLemmas
 pub mod UnifyLemmas
 pub mod SizeLemmas
+pub mod RenameLemmas

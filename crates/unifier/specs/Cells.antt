@@ -1,5 +1,5 @@
 -- Terms laid out as cells. A cell is a term or a list of terms, and names the cells of its parts, which come before it.
-use Rattle.std.specs.Prelude.{◌≡◌, ℕ, ◌<◌, Bool, true, false, ◌==◌, List, length, slice_index_or, if◌then◌else◌, ⊤}
+use Rattle.std.specs.Prelude.{◌≡◌, ℕ, ◌<◌, Bool, true, false, ◌==◌, Option, None, Some, List, length, slice_index_or, if◌then◌else◌, ⊤}
 use Rattle.fol_base.specs.Tree.{Tree, variable, application, Trees, no_trees, tree_then}
 use Rattle.fol_base.specs.Instance.{Substitution}
 use Rattle.unifier.specs.declared.cells.Cell.{Cell}
@@ -56,6 +56,19 @@ is_variable (Variable w) = true
 is_variable (Application f l) = false
 is_variable NoTrees = false
 is_variable (TreeThen a b) = false
+
+abbrev pub is_variable_of : ℕ → Cell → Bool
+is_variable_of w (Variable v) = v == w
+is_variable_of w (Application f l) = false
+is_variable_of w NoTrees = false
+is_variable_of w (TreeThen a b) = false
+
+-- the first term and the rest of a list that isn't empty
+abbrev pub list_parts : Cell → Option (ℕ × ℕ)
+list_parts (Variable w) = None
+list_parts (Application f l) = None
+list_parts NoTrees = None
+list_parts (TreeThen a b) = Some (a, b)
 
 -- a cell's parts are terms and lists where they are to be
 abbrev pub HasKinds : List Cell → Cell → Type 0

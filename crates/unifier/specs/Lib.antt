@@ -8,3 +8,4 @@ pub mod Placing
 pub mod Bindings
 pub mod Solving
 pub mod Sizes
+pub mod Renaming

@@ -1,7 +1,7 @@
 // The cells of terms that are laid out in one list.
 
 ghost use Rattle.std.specs.Prelude.{◌≡◌};
-ghost use Rattle.unifier.specs.Cells.{is_variable, relate};
+ghost use Rattle.unifier.specs.Cells.{is_variable, is_variable_of, list_parts, relate};
 
 /// A term or a list of terms, by the numbers of the cells of its parts, which come before it.
 #[derive(Clone, Copy)]
@@ -35,6 +35,26 @@ impl Cell {
         match self {
             Cell::Variable(_) => true,
             Cell::Application(_, _) | Cell::NoTrees | Cell::TreeThen(_, _) => false,
+        }
+    }
+
+    /// Whether this is the variable of a number.
+    pub fn is_variable_of(self, code: u64) -> bool
+        ensures { result ≡ is_variable_of code self }
+    {
+        match self {
+            Cell::Variable(other) => other == code,
+            Cell::Application(_, _) | Cell::NoTrees | Cell::TreeThen(_, _) => false,
+        }
+    }
+
+    /// The first term and the rest of a list that isn't empty.
+    pub fn list_parts(self) -> Option<(usize, usize)>
+        ensures { result ≡ list_parts self }
+    {
+        match self {
+            Cell::TreeThen(first, rest) => Some((first, rest)),
+            Cell::Variable(_) | Cell::Application(_, _) | Cell::NoTrees => None,
         }
     }
 

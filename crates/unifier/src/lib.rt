@@ -10,6 +10,7 @@ mod matching;
 mod placing;
 mod sizes;
 mod solving;
+mod substs;
 mod unifying;
 
 pub use bindings::Bindings;
