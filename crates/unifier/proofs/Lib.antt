@@ -7,3 +7,5 @@ pub mod SolveLemmas
 pub mod UnifyLemmas
 pub mod SizeLemmas
 pub mod RenameLemmas
+pub mod KindLemmas
+pub mod ClashLemmas

@@ -9,3 +9,5 @@ pub mod Bindings
 pub mod Solving
 pub mod Sizes
 pub mod Renaming
+pub mod Clashing
+pub mod Laws

@@ -3,6 +3,7 @@
 
 mod bindings;
 mod cells;
+mod clash;
 mod classes;
 mod layout;
 mod matched;
@@ -17,3 +18,5 @@ pub use bindings::Bindings;
 pub use matched::Matched;
 pub use matching::match_onto;
 pub use unifying::unify;
+
+pub mod laws;
