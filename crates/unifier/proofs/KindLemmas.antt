@@ -1,16 +1,17 @@
 -- Function terms in give function terms out.
 use Rattle.std.proofs.Common.{◌≡◌, ℕ, Bool, true, false, not, ◌&&◌, ◌||◌, ◌==◌, cond, Option, None, Some, List, [], ◌∷◌, ◌++◌, refl, ap, ap₂, sym, ◌∙◌, subst, ⊎_elim, IsTrue}
-use Rattle.std.specs.Prelude.{option_and_then}
-use Rattle.std.specs.List.{AllByRecursion}
+use Rattle.std.specs.Prelude.{option_and_then, if◌then◌else◌}
 use Rattle.std.proofs.lemmas.Bool.{cond-true, cond-false, cases_Bool, or_cases, true≢false}
-use Rattle.fol_base.specs.Tree.{Tree, variable, application, Trees, no_trees, tree_then}
+use Rattle.fol_base.specs.Tree.{Tree, variable, application, Trees, no_trees, tree_then, tree_eq}
 use Rattle.fol_base.specs.Instance.{Substitution, instance, instances}
 use Rattle.fol_base.specs.Interpretation.{true_symbol}
 use Rattle.fol_base.specs.GroundForm.{is_truth}
 use Rattle.fol_base.specs.Kind.{is_function_term, are_function_terms, is_predicate_term}
 use Rattle.fol_base.specs.Unifier.{IsUnifierApart}
 use Rattle.fol_base.proofs.TreeLemmas.{and_left, and_right}
-use Rattle.unifier.specs.Laws.{are_of_one_kind, UnifiersPutFunctionTerms, UnifiersApartPutFunctionTerms}
+use Rattle.unifier.specs.Matching.{term_for}
+use Rattle.unifier.specs.Walk.{met, walk, walk_all}
+use Rattle.unifier.specs.Laws.{are_of_one_kind, AreFunctionPairs, UnifiersPutFunctionTerms, UnifiersApartPutFunctionTerms}
 
 and-both : (a b : Bool) → a ≡ true → b ≡ true → (a && b) ≡ true
 and-both true b h k = k
@@ -152,3 +153,92 @@ unifiers_apart_put_function_terms p s t σ τ kind h =
     let other = h.is_general (λ w. cleaned p (σ w)) (λ w. cleaned p (τ w)) (cleaned-unify p σ τ s t kind h.unifies) in
     ((λ v. instance-function p other.0 (σ v) (ap (is_function_term p) (sym (other.1 v)) ∙ cleaned-function p (σ v))),
     (λ v. instance-function p other.0 (τ v) (ap (is_function_term p) (sym (other.2 v)) ∙ cleaned-function p (τ v))))
+
+-- ---- matching
+
+abbrev Pairs : Type 0
+Pairs = List (ℕ × Tree)
+
+pairs-append : (p : ℕ → Bool) (ps qs : Pairs) → AreFunctionPairs p ps → AreFunctionPairs p qs → AreFunctionPairs p (ps ++ qs)
+pairs-append p [] qs h k = k
+pairs-append p (q ∷ ps) qs h k = (h.0, pairs-append p ps qs h.1 k)
+
+met-functions :
+    (p : ℕ → Bool) (o : Option Tree) (ps qs : Pairs) (v : ℕ) (u : Tree)
+    → met o ps v u ≡ Some qs → is_function_term p u ≡ true → AreFunctionPairs p ps → AreFunctionPairs p qs
+met-functions p None ps qs v u e h all =
+    let is : ps ++ (v, u) ∷ [] ≡ qs = cc in
+    subst (AreFunctionPairs p) is (pairs-append p ps ((v, u) ∷ []) all (h, tt))
+met-functions p (Some t) ps qs v u e h all =
+    ⊎_elim
+    (λ same.
+    let same_list : Some ps ≡ Some qs = sym (cond-true (tree_eq t u) (Some ps) None same) ∙ e in
+    let is : ps ≡ qs = cc in
+    subst (AreFunctionPairs p) is all)
+    (λ other. let wrong : None ≡ Some qs = sym (cond-false (tree_eq t u) (Some ps) None other) ∙ e in absurd cc)
+    (cases_Bool (tree_eq t u))
+
+then-functions :
+    (p : ℕ → Bool) (qs : Pairs) (ts us : Trees) (o : Option Pairs)
+    → ((rs : Pairs) → o ≡ Some rs → AreFunctionPairs p rs)
+    → ((rs : Pairs) → walk_all rs ts us ≡ Some qs → AreFunctionPairs p rs → AreFunctionPairs p qs)
+    → option_and_then {T = Pairs} {U = Pairs} (λ found. walk_all found ts us) o ≡ Some qs → AreFunctionPairs p qs
+then-functions p qs ts us None first rest e = cc
+then-functions p qs ts us (Some rs) first rest e = rest rs e (first rs refl)
+
+mutual
+  walk-functions :
+      (p : ℕ → Bool) (ps : Pairs) (t u : Tree) (qs : Pairs)
+      → walk ps t u ≡ Some qs → is_function_term p u ≡ true → AreFunctionPairs p ps → AreFunctionPairs p qs
+  walk-functions p ps (variable v) u qs e h all = met-functions p (term_for v ps) ps qs v u e h all
+  walk-functions p ps (application f ts) (variable w) qs e h all = cc
+  walk-functions p ps (application f ts) (application g us) qs e h all =
+      ⊎_elim
+      (λ same.
+      walk_all-functions p ps ts us qs (sym (cond-true (f == g) (walk_all ps ts us) None same) ∙ e)
+      (and_right (is_function p g) (are_function_terms p us) (sym (head-and-arguments p g us) ∙ h)) all)
+      (λ other. let wrong : None ≡ Some qs = sym (cond-false (f == g) (walk_all ps ts us) None other) ∙ e in absurd cc)
+      (cases_Bool (f == g))
+
+  walk_all-functions :
+      (p : ℕ → Bool) (ps : Pairs) (ts us : Trees) (qs : Pairs)
+      → walk_all ps ts us ≡ Some qs → are_function_terms p us ≡ true → AreFunctionPairs p ps → AreFunctionPairs p qs
+  walk_all-functions p ps no_trees no_trees qs e h all = let is : ps ≡ qs = cc in subst (AreFunctionPairs p) is all
+  walk_all-functions p ps no_trees (tree_then u us) qs e h all = cc
+  walk_all-functions p ps (tree_then t ts) no_trees qs e h all = cc
+  walk_all-functions p ps (tree_then t ts) (tree_then u us) qs e h all =
+      then-functions p qs ts us (walk ps t u)
+      (λ rs k. walk-functions p ps t u rs k (and_left (is_function_term p u) (are_function_terms p us) h) all)
+      (λ rs k found. walk_all-functions p rs ts us qs k (and_right (is_function_term p u) (are_function_terms p us) h) found)
+      e
+
+walk-atoms :
+    (p : ℕ → Bool) (ps : Pairs) (t u : Tree) (qs : Pairs)
+    → walk ps t u ≡ Some qs → (is_predicate_term p t || is_truth t) ≡ true → (is_predicate_term p u || is_truth u) ≡ true
+    → AreFunctionPairs p ps → AreFunctionPairs p qs
+walk-atoms p ps (variable v) u qs e ht hu all = let wrong : false ≡ true = ht in cc
+walk-atoms p ps (application f ts) (variable w) qs e ht hu all = cc
+walk-atoms p ps (application f ts) (application g us) qs e ht hu all =
+    ⊎_elim
+    (λ same.
+    walk_all-functions p ps ts us qs (sym (cond-true (f == g) (walk_all ps ts us) None same) ∙ e) (atom-arguments p g us hu) all)
+    (λ other. let wrong : None ≡ Some qs = sym (cond-false (f == g) (walk_all ps ts us) None other) ∙ e in absurd cc)
+    (cases_Bool (f == g))
+
+-- the walk's answer, from a copy of the pairs handed in
+pub answer-functions :
+    (ps so_far qs : Pairs) (t u : Tree) (fits : Bool)
+    → ps ≡ so_far → walk ps t u ≡ (if fits then Some qs else None) → fits ≡ true
+    → (p : ℕ → Bool) → are_of_one_kind p t u ≡ true → AreFunctionPairs p so_far → AreFunctionPairs p qs
+answer-functions ps so_far qs t u true same e h p kind all =
+    let functions : Bool = is_function_term p t && is_function_term p u in
+    let atoms : Bool = (is_predicate_term p t || is_truth t) && (is_predicate_term p u || is_truth u) in
+    let from : AreFunctionPairs p ps = subst (AreFunctionPairs p) (sym same) all in
+    ⊎_elim
+    (λ k. walk-functions p ps t u qs e (and_right (is_function_term p t) (is_function_term p u) k) from)
+    (λ k.
+    walk-atoms p ps t u qs e
+    (and_left (is_predicate_term p t || is_truth t) (is_predicate_term p u || is_truth u) k)
+    (and_right (is_predicate_term p t || is_truth t) (is_predicate_term p u || is_truth u) k) from)
+    (or_cases functions atoms kind)
+answer-functions ps so_far qs t u false same e h p kind all = absurd (true≢false (sym h))

@@ -1,9 +1,10 @@
 // Matching: what turns a pattern into a target.
 
-ghost use Rattle.std.specs.Prelude.{◌≡◌, None, Some, map, IfOk, MatchOption, if◌then◌else◌};
+ghost use Rattle.std.specs.Prelude.{◌≡◌, ℕ, Bool, None, Some, map, IfOk, IfSome, IsTrue, MatchOption, if◌then◌else◌};
 ghost use Rattle.fol_base.specs.Tree.{trees_of};
 ghost use Rattle.fol_base.specs.Term.{tree_of};
 ghost use Rattle.unifier.specs.Matching.{IsMatched, NoMatcher, term_for};
+ghost use Rattle.unifier.specs.Laws.{AreFunctionPairs, are_of_one_kind};
 ghost use Rattle.unifier.specs.Walk.{met, walk, walk_all};
 
 use crate::matched::Matched;
@@ -12,15 +13,19 @@ use std::alloc::Global;
 
 /// The matcher that has the pairs of `so_far` and one pair for each further variable of the pattern.
 /// None exactly where no matcher has all of them. The target's subterms are borrowed, not copied.
+/// Function terms in give function terms out.
 pub fn match_onto<'a>(
     alloc: Global,
     pattern: &Term,
     target: &'a Term,
     so_far: &Matched<'a>,
 ) -> Mem<Option<Matched<'a>>>
-    ensures { IfOk result (λ found. MatchOption found
+    ensures found { IfOk result (λ found. MatchOption found
         (NoMatcher so_far.now (tree_of pattern.now) (tree_of target.now))
         (IsMatched so_far.now (tree_of pattern.now) (tree_of target.now))) }
+    ensures function_terms { IfOk result (λ found. (is_predicate : ℕ → Bool)
+        → IsTrue (are_of_one_kind is_predicate (tree_of pattern.now) (tree_of target.now))
+        → AreFunctionPairs is_predicate so_far.now → IfSome found (AreFunctionPairs is_predicate)) }
 {
     let mut found = so_far.copied(alloc)?;
     if found.extend(pattern, target)? {

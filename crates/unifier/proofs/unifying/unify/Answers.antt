@@ -1,6 +1,10 @@
 use Rattle.fol_base.specs.Term.{tree_of}
+use Rattle.unifier.proofs.ClashLemmas.{clash-answer}
 use Rattle.unifier.proofs.UnifyLemmas.{unified-answer}
 use Rattle.unifier.proofs.unifying.unify.Goals as goal
+
+pub returns-then-clash : goal.returns-then-clash
+returns-then-clash c = clash-answer c.args.apart (tree_of c.args.left.now) (tree_of c.args.right.now) c.if-clash.ensures
 
 pub returns : goal.returns
 returns c =
