@@ -52,13 +52,13 @@ pub identity-push : (xs new : List ℕ) (n : ℕ) → IsIdentity xs n → new �
 identity-push xs new n h e = (
   ap length e ∙ omega (arith, length-append xs (n ∷ []), h.0),
   λ j less.
-  ap (λ ys. get_or ys j 0) e
-  ∙ ⊎_elim
-  (λ front. get_or-append xs (n ∷ []) 0 j (omega (arith, h.0)) ∙ h.1 j front)
-  (λ back.
-  let last : j ≡ length xs = omega (arith, h.0) in
-  ap (λ k. get_or (xs ++ n ∷ []) k 0) last ∙ get_or-append_seam xs n [] 0 ∙ sym h.0 ∙ sym last)
-  (cases_lt j n),
+      ap (λ ys. get_or ys j 0) e
+      ∙ ⊎_elim
+      (λ front. get_or-append xs (n ∷ []) 0 j (omega (arith, h.0)) ∙ h.1 j front)
+      (λ back.
+      let last : j ≡ length xs = omega (arith, h.0) in
+      ap (λ k. get_or (xs ++ n ∷ []) k 0) last ∙ get_or-append_seam xs n [] 0 ∙ sym h.0 ∙ sym last)
+      (cases_lt j n),
 )
 
 pub discrete-classes : (n : ℕ) (c : Classes) → IsIdentity c.parents.items n → IsIdentity c.schemas.items n → AreClasses n c
@@ -94,15 +94,16 @@ linked n old new low high s h less inside smallest pe se which =
         inside = λ i i_in. set-read P ss new.schemas.items low s i 0 se in_ss (λ e. s_in) (λ _. h.inside i i_in);
       };
       sound = λ f constant same i i_in.
-          let Q : ℕ → Type 0 = λ v. f v ≡ f i in
-          (set-read Q ps new.parents.items high low i 0 pe in_ps (λ e. same ∙ ap f (sym e)) (λ _. (constant i i_in).0),
-          set-read Q ss new.schemas.items low s i 0 se in_ss
-          (λ e.
-          ⊎_elim
-          (λ is. ap f is ∙ (constant low low_in).1 ∙ ap f (sym e))
-          (λ is. ap f is ∙ (constant high inside).1 ∙ sym same ∙ ap f (sym e))
-          which)
-          (λ _. (constant i i_in).1));
+          let Q : ℕ → Type 0 = λ v. f v ≡ f i in (
+            set-read Q ps new.parents.items high low i 0 pe in_ps (λ e. same ∙ ap f (sym e)) (λ _. (constant i i_in).0),
+            set-read Q ss new.schemas.items low s i 0 se in_ss
+                (λ e.
+                ⊎_elim
+                (λ is. ap f is ∙ (constant low low_in).1 ∙ ap f (sym e))
+                (λ is. ap f is ∙ (constant high inside).1 ∙ sym same ∙ ap f (sym e))
+                which)
+                (λ _. (constant i i_in).1),
+          );
       falls = omega (arith, total-put ps new.parents.items high low pe in_ps, smallest);
     }
 
@@ -235,13 +236,13 @@ round-unchanged cells old mid new from true pos h step =
 round-unchanged cells old mid new from false pos h step = (
   step.0 ∙ h.0,
   λ flat i le inside.
-  ⊎_elim
-  (λ less. h.1 flat i (omega arith) inside)
-  (λ ge.
-  let here : from - 1 ≡ i = omega arith in
-  let P : Classes → Type 0 = λ c. IsFlat (length cells) c → IsClosedAt cells c (from - 1) in
-  subst (IsClosedAt cells old) here (subst P h.0 step.1 flat))
-  (cases_lt (from - 1) i),
+      ⊎_elim
+      (λ less. h.1 flat i (omega arith) inside)
+      (λ ge.
+      let here : from - 1 ≡ i = omega arith in
+      let P : Classes → Type 0 = λ c. IsFlat (length cells) c → IsClosedAt cells c (from - 1) in
+      subst (IsClosedAt cells old) here (subst P h.0 step.1 flat))
+      (cases_lt (from - 1) i),
 )
 
 -- ---- flattening
@@ -286,11 +287,12 @@ flattening-step n old mid new i up top h inside up_is top_is pe se =
       };
       sound = λ f constant j less.
           let before : IsConstantOn n mid f = h.sound f constant in
-          let Q : ℕ → Type 0 = λ v. f v ≡ f j in
-          (set-read Q ps new.parents.items i top j 0 pe in_ps
-          (λ e. ap f top_is ∙ (before up (omega arith)).0 ∙ ap f up_is ∙ (before i inside).0 ∙ ap f (sym e))
-          (λ _. (before j less).0),
-          ap (λ ss. f (get_or ss j 0)) se ∙ (before j less).1);
+          let Q : ℕ → Type 0 = λ v. f v ≡ f j in (
+            set-read Q ps new.parents.items i top j 0 pe in_ps
+                (λ e. ap f top_is ∙ (before up (omega arith)).0 ∙ ap f up_is ∙ (before i inside).0 ∙ ap f (sym e))
+                (λ _. (before j less).0),
+            ap (λ ss. f (get_or ss j 0)) se ∙ (before j less).1,
+          );
       falls =
           omega (arith, h.falls, total-put ps new.parents.items i top pe in_ps, up_is);
       so_far = λ j less.
@@ -426,9 +428,10 @@ settled-follows cells old mid new h classes pe settled =
       classes = classes;
       sound = λ f congruent constant i inside.
           let before : IsConstantOn (length cells) mid f = h.sound f constant in
-          let along : (j : ℕ) → j < length cells → f (parent new j) ≡ f j = λ j less. ap f (up j) ∙ (before j less).0 in
-          (along i inside,
-          sym (along (schema new i) (classes.inside i inside)) ∙ ap f (settled.own i inside) ∙ along i inside);
+          let along : (j : ℕ) → j < length cells → f (parent new j) ≡ f j = λ j less. ap f (up j) ∙ (before j less).0 in (
+            along i inside,
+            sym (along (schema new i) (classes.inside i inside)) ∙ ap f (settled.own i inside) ∙ along i inside,
+          );
       falls = omega (arith, h.falls, ap total pe);
     }
 

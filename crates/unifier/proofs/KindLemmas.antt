@@ -150,9 +150,10 @@ unifiers_put_function_terms p s t σ kind h v =
 
 pub unifiers_apart_put_function_terms : UnifiersApartPutFunctionTerms
 unifiers_apart_put_function_terms p s t σ τ kind h =
-    let other = h.is_general (λ w. cleaned p (σ w)) (λ w. cleaned p (τ w)) (cleaned-unify p σ τ s t kind h.unifies) in
-    ((λ v. instance-function p other.0 (σ v) (ap (is_function_term p) (sym (other.1 v)) ∙ cleaned-function p (σ v))),
-    (λ v. instance-function p other.0 (τ v) (ap (is_function_term p) (sym (other.2 v)) ∙ cleaned-function p (τ v))))
+    let other = h.is_general (λ w. cleaned p (σ w)) (λ w. cleaned p (τ w)) (cleaned-unify p σ τ s t kind h.unifies) in (
+      (λ v. instance-function p other.0 (σ v) (ap (is_function_term p) (sym (other.1 v)) ∙ cleaned-function p (σ v))),
+      (λ v. instance-function p other.0 (τ v) (ap (is_function_term p) (sym (other.2 v)) ∙ cleaned-function p (τ v))),
+    )
 
 -- ---- matching
 

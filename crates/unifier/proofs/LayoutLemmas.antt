@@ -140,9 +140,10 @@ layout-push old new c h after kinds no_variable e same =
           let c_is : c ≡ Variable w = sym (cell_at-last cs c) ∙ ap (cell_at (cs ++ c ∷ [])) (sym last) ∙ ap (λ ds. cell_at ds i) (sym e) ∙ is in
           absurd (true≢false (sym (ap is_variable c_is) ∙ no_variable)));
       places = λ w i found.
-          let there = h.places w i (ap (cell_of w) (sym same) ∙ found) in
-          (let P : List Cell → Type 0 = λ ds. i < length ds in subst P (sym e) (omega (arith, there.0, length-push cs c)),
-          ap (λ ds. cell_at ds i) e ∙ cell_at-front cs (c ∷ []) i there.0 ∙ there.1);
+          let there = h.places w i (ap (cell_of w) (sym same) ∙ found) in (
+            let P : List Cell → Type 0 = λ ds. i < length ds in subst P (sym e) (omega (arith, there.0, length-push cs c)),
+            ap (λ ds. cell_at ds i) e ∙ cell_at-front cs (c ∷ []) i there.0 ∙ there.1,
+          );
       known =
           let longer : length cs ≤ length new.cells.items = omega (arith, ap length e, length-push cs c) in
           let P : List Place → Type 0 = λ ps. All (λ (p : Place). p.cell < length new.cells.items) ps in
@@ -192,9 +193,10 @@ layout-variable old new w p h none code cell e places_e =
     look v i (Some j) is found =
         let same : Some j ≡ Some i = sym (cell_of-front v j old.places.items (p ∷ []) is) ∙ found in
         let j_is : j ≡ i = cc in
-        let there = h.places v i (is ∙ same) in
-        (let P : List Cell → Type 0 = λ ds. i < length ds in subst P (sym e) (omega (arith, there.0, length-push old.cells.items (Variable w))),
-        ap (λ ds. cell_at ds i) e ∙ cell_at-front old.cells.items (Variable w ∷ []) i there.0 ∙ there.1)
+        let there = h.places v i (is ∙ same) in (
+          let P : List Cell → Type 0 = λ ds. i < length ds in subst P (sym e) (omega (arith, there.0, length-push old.cells.items (Variable w))),
+          ap (λ ds. cell_at ds i) e ∙ cell_at-front old.cells.items (Variable w ∷ []) i there.0 ∙ there.1,
+        )
     look v i None is found =
         let late : cell_of v (p ∷ []) ≡ Some i = sym (cell_of-back v old.places.items (p ∷ []) is) ∙ found in
         ⊎_elim
@@ -202,12 +204,13 @@ layout-variable old new w p h none code cell e places_e =
         let here : Some p.cell ≡ Some i = sym (cond-true (v == p.code) (Some p.cell) None same) ∙ late in
         let cell_is : p.cell ≡ i = cc in
         let i_is : i ≡ length old.cells.items = sym cell_is ∙ cell in
-        let v_is : v ≡ w = eqb-true v p.code same ∙ code in
-        (let P : List Cell → Type 0 = λ ds. i < length ds in subst P (sym e) (omega (arith, i_is, length-push old.cells.items (Variable w))),
-        ap (λ ds. cell_at ds i) e
-        ∙ ap (cell_at (old.cells.items ++ Variable w ∷ [])) i_is
-        ∙ cell_at-last old.cells.items (Variable w)
-        ∙ ap Variable (sym v_is)))
+        let v_is : v ≡ w = eqb-true v p.code same ∙ code in (
+          let P : List Cell → Type 0 = λ ds. i < length ds in subst P (sym e) (omega (arith, i_is, length-push old.cells.items (Variable w))),
+          ap (λ ds. cell_at ds i) e
+              ∙ ap (cell_at (old.cells.items ++ Variable w ∷ [])) i_is
+              ∙ cell_at-last old.cells.items (Variable w)
+              ∙ ap Variable (sym v_is),
+        ))
         (λ other. let wrong : None ≡ Some i = sym (cond-false (v == p.code) (Some p.cell) None other) ∙ late in absurd cc)
         (cases_Bool (v == p.code))
 

@@ -169,14 +169,14 @@ joined ps qs rs t u ts us first rest = record {
       ∙ sym (with_further-append (variables_of ps) (tree_variables t) (trees_variables ts));
   exact = λ σ. (
     (λ h.
-    let later = (rest.exact σ).0 h in
-    let earlier = (first.exact σ).0 later.0 in
-    (earlier.0, ap₂ tree_then earlier.1 later.1)),
+        let later = (rest.exact σ).0 h in
+        let earlier = (first.exact σ).0 later.0 in
+        (earlier.0, ap₂ tree_then earlier.1 later.1)),
     (λ h.
-    let both : tree_then (instance σ t) (instances σ ts) ≡ tree_then u us = h.1 in
-    let here : instance σ t ≡ u = cc in
-    let there : instances σ ts ≡ us = cc in
-    (rest.exact σ).1 ((first.exact σ).1 (h.0, here), there)),
+        let both : tree_then (instance σ t) (instances σ ts) ≡ tree_then u us = h.1 in
+        let here : instance σ t ≡ u = cc in
+        let there : instances σ ts ≡ us = cc in
+        (rest.exact σ).1 ((first.exact σ).1 (h.0, here), there)),
   );
 }
 
@@ -221,9 +221,9 @@ mutual
         exact = λ σ. (
           (λ h. let both = (all.exact σ).0 h in (both.0, ap₂ application (eqb-true f g same) both.1)),
           (λ h.
-          let one : application f (instances σ ts) ≡ application g us = h.1 in
-          let arguments : instances σ ts ≡ us = cc in
-          (all.exact σ).1 (h.0, arguments)),
+              let one : application f (instances σ ts) ≡ application g us = h.1 in
+              let arguments : instances σ ts ≡ us = cc in
+              (all.exact σ).1 (h.0, arguments)),
         );
       })
       (λ other. let wrong : None ≡ Some qs = sym (cond-false (f == g) (walk_all ps ts us) None other) ∙ e in absurd cc)
@@ -337,13 +337,13 @@ own-terms [] σ n h = tt
 own-terms (p ∷ ps) σ n h = (
   h p.0 p.1 (cond-true (p.0 == p.0) (Some p.1) (term_for p.0 ps) (eq-eqb p.0 p.0 refl)),
   own-terms ps σ n.1
-  (λ v t e.
-  ⊎_elim
-  (λ same.
-  let wrong : None ≡ Some t = sym (ap (λ w. term_for w ps) (eqb-true v p.0 same) ∙ n.0) ∙ e in
-  absurd cc)
-  (λ other. h v t (cond-false (v == p.0) (Some p.1) (term_for v ps) other ∙ e))
-  (cases_Bool (v == p.0))),
+      (λ v t e.
+      ⊎_elim
+      (λ same.
+      let wrong : None ≡ Some t = sym (ap (λ w. term_for w ps) (eqb-true v p.0 same) ∙ n.0) ∙ e in
+      absurd cc)
+      (λ other. h v t (cond-false (v == p.0) (Some p.1) (term_for v ps) other ∙ e))
+      (cases_Bool (v == p.0))),
 )
 
 pub HasPairs-subst :

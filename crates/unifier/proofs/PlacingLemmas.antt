@@ -59,9 +59,10 @@ node-after cells c p (Application f l) q h inside is =
     subst (IsAfterParts (length p.cells.items)) (sym is.2) (h.placed (parent c l) is.0 (omega (arith, inside.1, h.places)) is.1).inside
 node-after cells c p NoTrees q h inside is = subst (IsAfterParts (length p.cells.items)) (sym is) tt
 node-after cells c p (TreeThen a b) q h inside is =
-    subst (IsAfterParts (length p.cells.items)) (sym is.4)
-    ((h.placed (parent c a) is.0 (omega (arith, inside.0.1, h.places)) is.2).inside,
-    (h.placed (parent c b) is.1 (omega (arith, inside.1.1, h.places)) is.3).inside)
+    subst (IsAfterParts (length p.cells.items)) (sym is.4) (
+      (h.placed (parent c a) is.0 (omega (arith, inside.0.1, h.places)) is.2).inside,
+      (h.placed (parent c b) is.1 (omega (arith, inside.1.1, h.places)) is.3).inside,
+    )
 
 pub record NextPlace (cells : List Cell) (c : Classes) (old : Placing) (new : Placing) (i : ℕ) (node : Cell) : Type 0 where
   pub before : IsPlacing cells c old
@@ -142,11 +143,11 @@ pub visit-placed :
 visit-placed cells c old new i node h = (
   (length old.cells.items, next-here cells c old new i node h),
   (λ j differs.
-  let P : Option ℕ → Type 0 = λ o. o ≡ place old j in
-  set-read P old.places.items new.places.items i (Some (length old.cells.items)) j None h.new_places (omega (arith, h.inside, h.before.places))
-  (λ e. absurd (differs e)) (λ _. refl)),
+      let P : Option ℕ → Type 0 = λ o. o ≡ place old j in
+      set-read P old.places.items new.places.items i (Some (length old.cells.items)) j None h.new_places (omega (arith, h.inside, h.before.places))
+      (λ e. absurd (differs e)) (λ _. refl)),
   (let P : List (Option ℕ) → Type 0 = λ os. waiting os < waiting old.places.items in
-  subst P (sym h.new_places) (waiting-set old.places.items i (length old.cells.items) (omega (arith, h.inside, h.before.places)) h.none)),
+      subst P (sym h.new_places) (waiting-set old.places.items i (length old.cells.items) (omega (arith, h.inside, h.before.places)) h.none)),
 )
 
 -- ---- a sweep

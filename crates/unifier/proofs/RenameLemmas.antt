@@ -310,9 +310,10 @@ bound-used :
 bound-used b l r w k one other found =
     let there = side-of b.apart w in
     let less : there.1 < side_count l r there.0 =
-    bound-side b l r there.0 one other there.1 k (ap (λ u. cell_of u b.places.items) there.2 ∙ found) in
-    (ap (is_used b.apart l r) (sym there.2) ∙ code-used b.apart l r there.0 there.1 less,
-    let P : ℕ → Type 0 = λ u. u < code_count b.apart l r in subst P there.2 (code-inside b.apart l r there.0 there.1 less))
+    bound-side b l r there.0 one other there.1 k (ap (λ u. cell_of u b.places.items) there.2 ∙ found) in (
+      ap (is_used b.apart l r) (sym there.2) ∙ code-used b.apart l r there.0 there.1 less,
+      let P : ℕ → Type 0 = λ u. u < code_count b.apart l r in subst P there.2 (code-inside b.apart l r there.0 there.1 less),
+    )
 
 pub has-names :
     (b : Bindings) (l r : ℕ) (names : List ℕ) → BoundBelow b Left l → BoundBelow b Right r → AreNames b l r names → HasNames b names
@@ -353,9 +354,10 @@ shared-name :
     → (back_of b l r (slice_index names w) ≡ w) × (slice_index names w < count_of b l r)
 unfolding back_of
 shared-name b l r names w h inside shared =
-    let e : slice_index names w ≡ rank (is_shared b l r) w = h.are.each w (omega (arith, h.are.many)) in
-    (back_by-is b l r (slice_index names w) w (cases_lt (slice_index names w) (count_of b l r)) inside shared (sym e),
-    omega (arith, e, rank-below (is_shared b l r) w (code_count b.apart l r) inside shared))
+    let e : slice_index names w ≡ rank (is_shared b l r) w = h.are.each w (omega (arith, h.are.many)) in (
+      back_by-is b l r (slice_index names w) w (cases_lt (slice_index names w) (count_of b l r)) inside shared (sym e),
+      omega (arith, e, rank-below (is_shared b l r) w (code_count b.apart l r) inside shared),
+    )
 
 and-true : (a b : Bool) → a ≡ true → b ≡ true → (a && b) ≡ true
 and-true true b h k = k
@@ -369,9 +371,10 @@ cell-shared b l r names k w h inside is =
     let found : cell_of w b.places.items ≡ Some k = h.order.own k w inside (sym is) in
     let used = bound-used b l r w k h.left h.right found in
     let itself : joint b w ≡ variable w =
-    ap (λ o. bound b.cells.items o w) found ∙ ap as_tree (own-is b.cells.items k (Variable w) h.order.ordered inside is) in
-    (and-true (is_used b.apart l r w) (tree_eq (joint b w) (variable w)) used.0 (ap (λ t. tree_eq t (variable w)) itself ∙ tree_eq-refl (variable w)),
-    used.1)
+    ap (λ o. bound b.cells.items o w) found ∙ ap as_tree (own-is b.cells.items k (Variable w) h.order.ordered inside is) in (
+      and-true (is_used b.apart l r w) (tree_eq (joint b w) (variable w)) used.0 (ap (λ t. tree_eq t (variable w)) itself ∙ tree_eq-refl (variable w)),
+      used.1,
+    )
 
 -- what is renamed leads back, and has its variables below the count
 abbrev Undone : Bindings → ℕ → ℕ → List ℕ → Value → Type 0
@@ -442,9 +445,12 @@ no-gaps b l r names k h less =
     let used : is_used b.apart l r m ≡ true = and_left (is_used b.apart l r m) (tree_eq (joint b m) (variable m)) there.2 in
     let itself : joint b m ≡ variable m = tree_eq-true (joint b m) (variable m) (and_right (is_used b.apart l r m) (tree_eq (joint b m) (variable m)) there.2) in
     let at = used-side b.apart l r m used in
-    let name : slice_index names m ≡ k = h.are.each m (omega (arith, h.are.many, there.1)) ∙ there.3 in
-    (at.0, at.1, at.2,
-    ap (λ u. renamed (slice_index names) (joint b u)) at.3 ∙ ap (renamed (slice_index names)) itself ∙ ap variable name)
+    let name : slice_index names m ≡ k = h.are.each m (omega (arith, h.are.many, there.1)) ∙ there.3 in (
+      at.0,
+      at.1,
+      at.2,
+      ap (λ u. renamed (slice_index names) (joint b u)) at.3 ∙ ap (renamed (slice_index names)) itself ∙ ap variable name,
+    )
 
 by-side :
     (b : Bindings) (l r : ℕ) (names : ℕ → ℕ) (k : ℕ)

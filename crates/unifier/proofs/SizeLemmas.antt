@@ -141,7 +141,7 @@ size-literal σ bank ls i l total left right new less is h one other made =
     let parts : literals_instance σ (literals_in bank (take (i + 1) ls)) ≡ literals_instance σ done ++ literal_instance σ m ∷ [] =
     ap (literals_instance σ) (map-take_more_item (literal_in bank) ls i l less is) ∙ map-append (literal_instance σ) done (m ∷ []) in
     let all : sum_by literal_size (literals_instance σ (literals_in bank (take (i + 1) ls)))
-        ≡ sum_by literal_size (literals_instance σ done) + sum_by literal_size (literal_instance σ m ∷ []) =
+    ≡ sum_by literal_size (literals_instance σ done) + sum_by literal_size (literal_instance σ m ∷ []) =
     ap (sum_by literal_size) parts ∙ sum_by-append literal_size (literals_instance σ done) (literal_instance σ m ∷ []) in
     let single : sum_by literal_size (literal_instance σ m ∷ []) ≡ tree_size (instance σ m.left) + tree_size (instance σ m.right) =
     omega (arith, sum_by-cons literal_size (literal_instance σ m) []) in

@@ -117,9 +117,10 @@ values-agree θ cells val i j (TreeThen a b) NoTrees h i_in j_in ax ay hx hy e =
 values-agree θ cells val i j (TreeThen a b) (TreeThen d k) h i_in j_in ax ay hx hy e =
     let parts : trees (tree_then (as_tree (val a)) (as_trees (val b))) ≡ trees (tree_then (as_tree (val d)) (as_trees (val k))) = e in
     let firsts : as_tree (val a) ≡ as_tree (val d) = cc in
-    let rests : as_trees (val b) ≡ as_trees (val k) = cc in
-    (tree-value θ cells val a h (omega (arith, ax.0)) hx.0 ∙ ap tree firsts ∙ sym (tree-value θ cells val d h (omega (arith, ay.0)) hy.0),
-    list-value θ cells val b h (omega (arith, ax.1)) hx.1 ∙ ap trees rests ∙ sym (list-value θ cells val k h (omega (arith, ay.1)) hy.1))
+    let rests : as_trees (val b) ≡ as_trees (val k) = cc in (
+      tree-value θ cells val a h (omega (arith, ax.0)) hx.0 ∙ ap tree firsts ∙ sym (tree-value θ cells val d h (omega (arith, ay.0)) hy.0),
+      list-value θ cells val b h (omega (arith, ax.1)) hx.1 ∙ ap trees rests ∙ sym (list-value θ cells val k h (omega (arith, ay.1)) hy.1),
+    )
 
 pub values-congruent :
     (θ : Substitution) (cells : List Cell) (val : ℕ → Value)
@@ -209,7 +210,7 @@ cells_of layout = layout.cells.items
 constant-on :
     (layout : Layout) (first second : ℕ) (start c : Classes) (f : ℕ → Value)
     → Stands layout first second start c → IsCongruent (cells_of layout) f → f first ≡ f second → IsConstantOn (length (cells_of layout)) c f
-constant-on layout first second start c f h congruent same = 
+constant-on layout first second start c f h congruent same =
     h.closed.follows.sound f congruent same (discrete-constant (length (cells_of layout)) start f h.discrete)
 
 valuation-constant :
@@ -518,13 +519,14 @@ placed-kinds layout first second start c p ps s (TreeThen a d) q h solved inside
     let other = spot-placed layout first second start c p ps d h solved (omega (arith, after.1)) in
     let one_at : one.0 ≡ placed.0 = let e : Some one.0 ≡ Some placed.0 = sym one.1 ∙ placed.2 in cc in
     let other_at : other.0 ≡ placed.1 = let e : Some other.0 ≡ Some placed.1 = sym other.1 ∙ placed.3 in cc in
-    subst (HasKinds p.cells.items) (sym placed.4)
-    (ap (λ k. is_list (cell_at p.cells.items k)) (sym one_at)
-    ∙ placed-kind c p (cell_at (cells_of layout) (schema c (parent c a))) (cell_at p.cells.items one.0) one.3
-    ∙ schema-kind layout first second start c a h (omega (arith, after.0)) ∙ kinds.0,
-    ap (λ k. is_list (cell_at p.cells.items k)) (sym other_at)
-    ∙ placed-kind c p (cell_at (cells_of layout) (schema c (parent c d))) (cell_at p.cells.items other.0) other.3
-    ∙ schema-kind layout first second start c d h (omega (arith, after.1)) ∙ kinds.1)
+    subst (HasKinds p.cells.items) (sym placed.4) (
+      ap (λ k. is_list (cell_at p.cells.items k)) (sym one_at)
+          ∙ placed-kind c p (cell_at (cells_of layout) (schema c (parent c a))) (cell_at p.cells.items one.0) one.3
+          ∙ schema-kind layout first second start c a h (omega (arith, after.0)) ∙ kinds.0,
+      ap (λ k. is_list (cell_at p.cells.items k)) (sym other_at)
+          ∙ placed-kind c p (cell_at (cells_of layout) (schema c (parent c d))) (cell_at p.cells.items other.0) other.3
+          ∙ schema-kind layout first second start c d h (omega (arith, after.1)) ∙ kinds.1,
+    )
 
 placed-variable : (c : Classes) (p : Placing) (x q : Cell) (w : ℕ) → IsPlacedAs c p x q → q ≡ Variable w → x ≡ Variable w
 placed-variable c p (Variable v) q w placed e = sym placed ∙ e
@@ -542,10 +544,11 @@ solved-terms layout first second start c p ps w k (Some i) h solved e found =
     let there = spot-placed layout first second start c p ps i h solved variable_at.0 in
     let at : there.0 ≡ k = let same : Some (spot c p i) ≡ Some k = found in sym (spot-is c p i there.0 there.1) ∙ cc in
     let P : ℕ → Type 0 = λ m. (m < length p.cells.items) × (is_list (cell_at p.cells.items m) ≡ false) in
-    subst P at
-    (there.2,
-    placed-kind c p (cell_at (cells_of layout) (schema c (parent c i))) (cell_at p.cells.items there.0) there.3
-    ∙ schema-kind layout first second start c i h variable_at.0 ∙ ap is_list variable_at.1)
+    subst P at (
+      there.2,
+      placed-kind c p (cell_at (cells_of layout) (schema c (parent c i))) (cell_at p.cells.items there.0) there.3
+          ∙ schema-kind layout first second start c i h variable_at.0 ∙ ap is_list variable_at.1,
+    )
 
 pub solved-in-order :
     (layout : Layout) (first second : ℕ) (start c : Classes) (p : Placing) (ps : List Place)

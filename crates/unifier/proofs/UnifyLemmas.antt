@@ -91,10 +91,11 @@ unify-apart layout first second s t b both m = record {
   is_general = λ ρ π e.
       let θ : Substitution = joint_of ρ π in
       let all : (w : ℕ) → θ w ≡ instance θ (joint b w) =
-      m.general θ (value_at θ layout.cells.items) (value_at-valuation θ layout.cells.items both.ordered) (meet-apart layout first second s t ρ π both e) in
-      (θ,
-      (λ v. sym (joint_of-left ρ π v) ∙ all (2 * v)),
-      (λ v. sym (joint_of-right ρ π v) ∙ all (2 * v + 1)));
+      m.general θ (value_at θ layout.cells.items) (value_at-valuation θ layout.cells.items both.ordered) (meet-apart layout first second s t ρ π both e) in (
+        θ,
+        (λ v. sym (joint_of-left ρ π v) ∙ all (2 * v)),
+        (λ v. sym (joint_of-right ρ π v) ∙ all (2 * v + 1)),
+      );
 }
 
 unify-together :

@@ -151,7 +151,11 @@ impl Classes {
                 Step::Refuted => return Step::Refuted,
             }
         }
-        if joined { Step::Joined } else { Step::Unchanged }
+        if joined {
+            Step::Joined
+        } else {
+            Step::Unchanged
+        }
     }
 
     /// Joins the classes of two cells, and whatever must be joined then. False where two cells of one class

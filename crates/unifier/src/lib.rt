@@ -20,3 +20,5 @@ pub use matching::match_onto;
 pub use unifying::unify;
 
 pub mod laws;
+#[cfg(test)]
+mod tests;

@@ -63,7 +63,8 @@ impl Bindings {
         match term {
             Term::Var(variable) => self.variable_size(sizes, side, *variable),
             Term::App(_, arguments) => {
-                self.terms_size(sizes, side, arguments.as_slice()).saturating_add(1)
+                self.terms_size(sizes, side, arguments.as_slice())
+                    .saturating_add(1)
             }
         }
     }

@@ -45,10 +45,11 @@ returns c =
       count = refl;
       discrete = c.in_ok-classes.ensures.discrete;
     } in
-    let P : Option Placing → Type 0 = λ o. IsOrdering c.as_slice-cells.result.now c.close.new.self o in
-    (refl,
-    given-solved c.args.layout.now c.args.first c.args.second _ _ _ c.close.new.self c.in-Some.placing _ _ given c.if-not-close.ensures
-    (subst P c.in-Some.is c.in_ok-order.ensures) c.as_slice.ensures.value c.in_ok-places-in-Some.ensures)
+    let P : Option Placing → Type 0 = λ o. IsOrdering c.as_slice-cells.result.now c.close.new.self o in (
+      refl,
+      given-solved c.args.layout.now c.args.first c.args.second _ _ _ c.close.new.self c.in-Some.placing _ _ given c.if-not-close.ensures
+          (subst P c.in-Some.is c.in_ok-order.ensures) c.as_slice.ensures.value c.in_ok-places-in-Some.ensures,
+    )
 
 pub invariant_of-result : goal.invariant_of-result
 invariant_of-result c =

@@ -7,7 +7,7 @@ use Rattle.unifier.proofs.LayoutLemmas.{application-answer, more-terms-laid_out,
 use Rattle.unifier.proofs.layout.Layout.+lay.Goals as goal
 
 pub lay_term-returns-in_ok-list-in-App : goal.lay_term-returns-in_ok-list-in-App
-lay_term-returns-in_ok-list-in-App t c = 
+lay_term-returns-in_ok-list-in-App t c =
     application-answer _ c.args.self.now c.lay_terms.new.self c.push.new.self c.args.apart c.args.side c.in-App.symbol c.in_ok-list-in-App.list _ _ _
     (ap tree_of c.in-App.is) c.as_slice.ensures c.in_ok-list-in-App.ensures c.push.ensures
 

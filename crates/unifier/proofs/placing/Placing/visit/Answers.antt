@@ -10,9 +10,9 @@ pub returns-then-is_some-clause-done : goal.returns-then-is_some-clause-done
 returns-then-is_some-clause-done c = (
   refl,
   λ _.
-  read-some c.args.self.now c.args.cell _
-  (place-read c.args.self.now c.args.cell _ (omega (arith, c.requires.inside, c.requires.placing.places)) c.index-2.ensures)
-  (sym c.is_some.ensures ∙ c.if-is_some.true),
+      read-some c.args.self.now c.args.cell _
+      (place-read c.args.self.now c.args.cell _ (omega (arith, c.requires.inside, c.requires.placing.places)) c.index-2.ensures)
+      (sym c.is_some.ensures ∙ c.if-is_some.true),
 )
 
 pub returns-in_ok-push-in-Some-clause-placing : goal.returns-in_ok-push-in-Some-clause-placing
