@@ -1,0 +1,480 @@
+-- The two sides' substitutions into shared variables.
+use Rattle.std.proofs.Common.{◌≡◌, ◌⊎◌, inl, inr, ℕ, zero, suc, ◌+◌, ◌-◌, ◌*◌, ◌/◌, ◌%◌, ◌<◌, ◌≤◌, max, Bool, true, false, ◌&&◌, ◌==◌, cond, Option, None, Some, List, [], ◌∷◌, ◌++◌, length, map, take, get_or, slice_index, refl, ap, ap₂, sym, ◌∙◌, subst, ⊎_elim, arith, eq-eqb}
+use Rattle.std.specs.Prelude.{nat_lt}
+use Rattle.std.proofs.lemmas.Bool.Decides.{nat_tests}
+use Rattle.std.proofs.lemmas.Bool.{cases_lt, cond-true, cond-false, cases_Bool, eqb-true, true≢false}
+use Rattle.std.proofs.lemmas.List.{length-append, map-append, append_assoc, append-nil}
+use Rattle.std.proofs.Math.ListN.{get_or-append}
+use Rattle.std.proofs.Math.Seq.{get_or-append_seam}
+use Rattle.fol_base.specs.Tree.{Tree, variable, application, Trees, no_trees, tree_then, trees_of, list_of, tree_eq, VariablesBelow, AllVariablesBelow}
+use Rattle.fol_base.specs.Instance.{Substitution, instance, instances}
+use Rattle.fol_base.specs.Term.{tree_of}
+use Rattle.fol_base.specs.declared.term.Term.{Term}
+use Rattle.fol_base.proofs.TreeLemmas.{tree_eq-refl, tree_eq-true, and_left, and_right, trees_of-list_of}
+use Rattle.unifier.specs.declared.cells.Cell.{Cell}
+use Rattle.unifier.specs.declared.cells.Cell.TheVariants.{Variable, Application, NoTrees, TreeThen}
+use Rattle.fol_base.specs.declared.clause.Side.{Side}
+use Rattle.fol_base.specs.declared.clause.Side.TheVariants.{Left, Right}
+use Rattle.unifier.specs.declared.bindings.Bindings.{Bindings}
+use Rattle.unifier.specs.Cells.{Value, tree, trees, as_tree, as_trees, cell_at, value_of, is_list, is_variable_of, list_parts, IsAfterParts, AreOrdered, IsValuation}
+use Rattle.unifier.specs.InOrder.{InOrder}
+use Rattle.unifier.specs.Layout.{cell_of, code_of}
+use Rattle.unifier.specs.Bindings.{value_at, bound, joint, substitution_of}
+use Rattle.unifier.specs.Renaming.{renamed, renamed_trees, side_terms, BoundBelow, AreRenamed, code_count, is_shared, is_used, rank, AreNames, HasNames}
+use Rattle.unifier.proofs.ValueLemmas.{value_at-valuation}
+
+abbrev side_count : ℕ → ℕ → Side → ℕ
+side_count l r Left = l
+side_count l r Right = r
+
+abbrev own : List Cell → ℕ → Value
+own cells = value_at variable cells
+
+-- ---- variables that stand for themselves
+
+variable-of : (f : ℕ → Value) (w : ℕ) (q : Cell) → is_variable_of w q ≡ tree_eq (as_tree (value_of variable f q)) (variable w)
+variable-of f w (Variable v) = refl
+variable-of f w (Application s l) = refl
+variable-of f w NoTrees = refl
+variable-of f w (TreeThen a b) = refl
+
+pub itself-bound :
+    (b : Bindings) (w k : ℕ) (q : Cell)
+    → InOrder b.cells.items b.places.items → cell_of w b.places.items ≡ Some k → q ≡ cell_at b.cells.items k
+    → is_variable_of w q ≡ tree_eq (joint b w) (variable w)
+itself-bound b w k q order found is =
+    let cells : List Cell = b.cells.items in
+    ap (is_variable_of w) is
+    ∙ variable-of (own cells) w (cell_at cells k)
+    ∙ ap (λ v. tree_eq (as_tree v) (variable w)) (sym (value_at-valuation variable cells order.ordered k (order.terms w k found).0))
+    ∙ ap (λ o. tree_eq (bound cells o w) (variable w)) (sym found)
+
+pub itself-free : (b : Bindings) (w : ℕ) → cell_of w b.places.items ≡ None → true ≡ tree_eq (joint b w) (variable w)
+itself-free b w none = sym (ap (λ o. tree_eq (bound b.cells.items o w) (variable w)) none ∙ tree_eq-refl (variable w))
+
+-- ---- ranks
+
+abbrev number_of : Bool → ℕ
+number_of b = cond b 1 0
+
+pub rank-more : (test : ℕ → Bool) (n new : ℕ) (passes : Bool) → passes ≡ test n → new ≡ rank test n + cond passes 1 0 → new ≡ rank test (n + 1)
+rank-more test n new passes is e =
+    let next : suc n ≡ n + 1 = omega arith in
+    e ∙ ap (λ b. rank test n + cond b 1 0) is ∙ ap (rank test) next
+
+rank-up : (test : ℕ → Bool) (n m : ℕ) → rank test n ≤ rank test (n + m)
+rank-up test n zero = let e : n + zero ≡ n = omega arith in let P : ℕ → Type 0 = λ k. rank test n ≤ rank test k in subst P (sym e) (omega arith)
+rank-up test n (suc m) =
+    let e : n + suc m ≡ suc (n + m) = omega arith in
+    let P : ℕ → Type 0 = λ k. rank test n ≤ rank test k in
+    subst P (sym e) (omega (arith, rank-up test n m))
+
+rank-below : (test : ℕ → Bool) (n m : ℕ) → n < m → test n ≡ true → rank test n < rank test m
+rank-below test n m less passes =
+    let e : suc n + (m - suc n) ≡ m = omega arith in
+    let one : number_of (test n) ≡ 1 = cond-true (test n) 1 0 passes in
+    let up : rank test (suc n) ≤ rank test m = let P : ℕ → Type 0 = λ k. rank test (suc n) ≤ rank test k in subst P e (rank-up test (suc n) (m - suc n)) in
+    omega (arith, one, up)
+
+rank-same : (test : ℕ → Bool) (n m : ℕ) → test n ≡ true → test m ≡ true → rank test n ≡ rank test m → n ≡ m
+rank-same test n m one other e =
+    ⊎_elim
+    (λ less. absurd (omega (arith, rank-below test n m less one)))
+    (λ ge. ⊎_elim (λ less. absurd (omega (arith, rank-below test m n less other))) (λ le. omega arith) (cases_lt m n))
+    (cases_lt n m)
+
+-- each number below the rank is one's
+rank-of : (test : ℕ → Bool) (n k : ℕ) → k < rank test n → (m : ℕ) × (m < n) × (test m ≡ true) × (rank test m ≡ k)
+rank-of test zero k less = absurd (omega arith)
+rank-of test (suc n) k less =
+    ⊎_elim
+    (λ before. let there = rank-of test n k before in (there.0, omega (arith, there.1), there.2, there.3))
+    (λ ge.
+    ⊎_elim
+    (λ passes. let one : number_of (test n) ≡ 1 = cond-true (test n) 1 0 passes in (n, omega arith, passes, omega (arith, one)))
+    (λ fails. let none : number_of (test n) ≡ 0 = cond-false (test n) 1 0 fails in absurd (omega (arith, none)))
+    (cases_Bool (test n)))
+    (cases_lt k (rank test n))
+
+-- ---- the names
+
+pub record SoFar (test : ℕ → Bool) (names : List ℕ) (next : ℕ) (n : ℕ) : Type 0 where
+  pub next_is : next ≡ rank test n
+  pub below : next ≤ n
+  pub many : length names ≡ n
+  pub each : (w : ℕ) → w < n → get_or names w 0 ≡ rank test w
+
+pub names-start : (test : ℕ → Bool) (names : List ℕ) → names ≡ [] → SoFar test names 0 0
+names-start test names e = record { next_is = refl; below = omega arith; many = ap length e; each = λ w less. absurd (omega arith) }
+
+pub names-push :
+    (test : ℕ → Bool) (names new : List ℕ) (next given later n : ℕ) (passes : Bool)
+    → SoFar test names next n → given ≡ next → new ≡ names ++ given ∷ [] → passes ≡ test n → later ≡ next + cond passes 1 0
+    → SoFar test new later (n + 1)
+names-push test names new next given later n passes h g e is l =
+    let small : cond passes 1 0 ≤ 1 = at_most passes in
+    record {
+      next_is = rank-more test n later passes is (l ∙ ap (λ m. m + cond passes 1 0) h.next_is);
+      below = omega (arith, h.below, small, l);
+      many = ap length e ∙ omega (arith, length-append names (given ∷ []), h.many);
+      each = λ w less.
+          ap (λ ys. get_or ys w 0) e
+          ∙ ⊎_elim
+          (λ front. get_or-append names (given ∷ []) 0 w (omega (arith, h.many)) ∙ h.each w front)
+          (λ ge.
+          let last : w ≡ length names = omega (arith, h.many) in
+          let same : n ≡ w = omega (arith, h.many) in
+          ap (λ j. get_or (names ++ given ∷ []) j 0) last ∙ get_or-append_seam names given [] 0 ∙ g ∙ h.next_is ∙ ap (rank test) same)
+          (cases_lt w n);
+    }
+  where
+    at_most : (b : Bool) → cond b 1 0 ≤ 1
+    at_most true = omega arith
+    at_most false = omega arith
+
+pub names-done :
+    (b : Bindings) (l r : ℕ) (names : List ℕ) (next n count : ℕ)
+    → SoFar (is_shared b l r) names next n → n ≡ count → count ≡ code_count b.apart l r → AreNames b l r names
+names-done b l r names next n count h all is = record { many = h.many ∙ all ∙ is; each = λ w less. h.each w (omega (arith, h.many)) }
+
+-- ---- the terms of cells
+
+own-is : (cells : List Cell) (k : ℕ) (q : Cell) → AreOrdered cells → k < length cells → q ≡ cell_at cells k → own cells k ≡ value_of variable (own cells) q
+own-is cells k q ordered inside e = value_at-valuation variable cells ordered k inside ∙ ap (value_of variable (own cells)) (sym e)
+
+pub renamed-variable :
+    (cells : List Cell) (names : ℕ → ℕ) (k w : ℕ) (t : Tree)
+    → AreOrdered cells → k < length cells → Variable w ≡ cell_at cells k → t ≡ variable (names w) → t ≡ renamed names (as_tree (own cells k))
+renamed-variable cells names k w t ordered inside e is = is ∙ sym (ap (λ v. renamed names (as_tree v)) (own-is cells k (Variable w) ordered inside e))
+
+pub renamed-application :
+    (cells : List Cell) (names : ℕ → ℕ) (k f l : ℕ) (ts : Trees)
+    → AreOrdered cells → k < length cells → Application f l ≡ cell_at cells k → ts ≡ renamed_trees names (as_trees (own cells l))
+    → application f ts ≡ renamed names (as_tree (own cells k))
+renamed-application cells names k f l ts ordered inside e is =
+    ap (application f) is ∙ sym (ap (λ v. renamed names (as_tree v)) (own-is cells k (Application f l) ordered inside e))
+
+pub renamed-nothing :
+    (cells : List Cell) (names : ℕ → ℕ) (k : ℕ) (q : Cell) (t : Tree)
+    → AreOrdered cells → k < length cells → q ≡ cell_at cells k → is_list q ≡ true → t ≡ application 0 no_trees → t ≡ renamed names (as_tree (own cells k))
+renamed-nothing cells names k q t ordered inside e list is =
+    is ∙ by q list ∙ sym (ap (λ v. renamed names (as_tree v)) (own-is cells k q ordered inside e))
+  where
+    by : (x : Cell) → is_list x ≡ true → application 0 no_trees ≡ renamed names (as_tree (value_of variable (own cells) x))
+    by (Variable w) h = cc
+    by (Application s m) h = cc
+    by NoTrees h = refl
+    by (TreeThen a b) h = refl
+
+no-parts : (a b : ℕ) → (let o : Option (ℕ × ℕ) = None in o) ≡ Some (a, b) → ⊥
+no-parts a b h = cc
+
+-- the parts of a list
+list-more : (f : ℕ → Value) (q : Cell) (a b : ℕ) → list_parts q ≡ Some (a, b) → as_trees (value_of variable f q) ≡ tree_then (as_tree (f a)) (as_trees (f b))
+list-more f (Variable w) a b h = absurd (no-parts a b h)
+list-more f (Application s m) a b h = absurd (no-parts a b h)
+list-more f NoTrees a b h = absurd (no-parts a b h)
+list-more f (TreeThen c d) a b h =
+    let both : (c, d) ≡ (a, b) = cc in
+    ap (λ (p : ℕ × ℕ). tree_then (as_tree (f p.0)) (as_trees (f p.1))) both
+
+list-end : (f : ℕ → Value) (q : Cell) → list_parts q ≡ None → as_trees (value_of variable f q) ≡ no_trees
+list-end f (Variable w) h = refl
+list-end f (Application s m) h = refl
+list-end f NoTrees h = refl
+list-end f (TreeThen c d) h = absurd (no-parts c d (sym h))
+
+pub parts-after : (i : ℕ) (q : Cell) (a b : ℕ) → IsAfterParts i q → list_parts q ≡ Some (a, b) → (a < i) × (b < i)
+parts-after i (Variable w) a b after h = absurd (no-parts a b h)
+parts-after i (Application s m) a b after h = absurd (no-parts a b h)
+parts-after i NoTrees a b after h = absurd (no-parts a b h)
+parts-after i (TreeThen c d) a b after h =
+    let both : (c, d) ≡ (a, b) = cc in
+    subst (λ (p : ℕ × ℕ). (p.0 < i) × (p.1 < i)) both after
+
+-- how far a list is built
+pub record Building (cells : List Cell) (names : ℕ → ℕ) (items : List Term) (at : ℕ) (list : ℕ) : Type 0 where
+  pub below : at ≤ list
+  pub parts :
+      trees_of (map tree_of items ++ list_of (renamed_trees names (as_trees (own cells at)))) ≡ renamed_trees names (as_trees (own cells list))
+
+pub building-starts : (cells : List Cell) (names : ℕ → ℕ) (items : List Term) (list : ℕ) → items ≡ [] → Building cells names items list list
+building-starts cells names items list e = record {
+  below = omega arith;
+  parts =
+      ap (λ (xs : List Term). trees_of (map tree_of xs ++ list_of (renamed_trees names (as_trees (own cells list))))) e
+      ∙ trees_of-list_of (renamed_trees names (as_trees (own cells list)));
+}
+
+pub building-more :
+    (cells : List Cell) (names : ℕ → ℕ) (items new : List Term) (at list a b : ℕ) (x : Term)
+    → AreOrdered cells → at < length cells → Building cells names items at list
+    → Some (a, b) ≡ list_parts (cell_at cells at) → tree_of x ≡ renamed names (as_tree (own cells a)) → new ≡ items ++ x ∷ []
+    → Building cells names new b list
+building-more cells names items new at list a b x ordered inside h parts is e =
+    let rest : List Tree = list_of (renamed_trees names (as_trees (own cells b))) in
+    record {
+      below = omega (arith, h.below, parts-after at (cell_at cells at) a b (ordered at inside) (sym parts));
+      parts =
+          ap (λ (xs : List Term). trees_of (map tree_of xs ++ rest)) e
+          ∙ ap (λ (ts : List Tree). trees_of (ts ++ rest)) (map-append tree_of items (x ∷ []))
+          ∙ ap trees_of (append_assoc (map tree_of items) (tree_of x ∷ []) rest)
+          ∙ ap (λ (t : Tree). trees_of (map tree_of items ++ t ∷ rest)) is
+          ∙ ap (λ (us : Trees). trees_of (map tree_of items ++ list_of (renamed_trees names us)))
+          (sym (ap as_trees (own-is cells at (cell_at cells at) ordered inside refl) ∙ list-more (own cells) (cell_at cells at) a b (sym parts)))
+          ∙ h.parts;
+    }
+
+pub building-done :
+    (cells : List Cell) (names : ℕ → ℕ) (items : List Term) (terms : List Tree) (at list : ℕ)
+    → AreOrdered cells → at < length cells → Building cells names items at list
+    → None ≡ list_parts (cell_at cells at) → terms ≡ map tree_of items → trees_of terms ≡ renamed_trees names (as_trees (own cells list))
+building-done cells names items terms at list ordered inside h parts is =
+    ap trees_of (is ∙ sym (append-nil (map tree_of items)))
+    ∙ ap (λ (us : Trees). trees_of (map tree_of items ++ list_of (renamed_trees names us)))
+    (sym (ap as_trees (own-is cells at (cell_at cells at) ordered inside refl) ∙ list-end (own cells) (cell_at cells at) (sym parts)))
+    ∙ h.parts
+
+-- ---- what stands for a variable
+
+pub renamed-bound :
+    (b : Bindings) (names : ℕ → ℕ) (w k : ℕ) (t : Tree)
+    → cell_of w b.places.items ≡ Some k → t ≡ renamed names (as_tree (own b.cells.items k)) → t ≡ renamed names (joint b w)
+renamed-bound b names w k t found is = is ∙ ap (λ o. renamed names (bound b.cells.items o w)) (sym found)
+
+pub renamed-free : (b : Bindings) (names : ℕ → ℕ) (w : ℕ) (t : Tree) → cell_of w b.places.items ≡ None → t ≡ variable (names w) → t ≡ renamed names (joint b w)
+renamed-free b names w t none is = is ∙ ap (λ o. renamed names (bound b.cells.items o w)) (sym none)
+
+-- ---- numbers that are used
+
+halves : (w : ℕ) → ((w % 2 ≡ 0) × (2 * (w / 2) ≡ w)) ⊎ ((w % 2 ≡ 1) × (2 * (w / 2) + 1 ≡ w))
+halves w = ⊎_elim (λ less. inl (omega arith, omega arith)) (λ ge. inr (omega arith, omega arith)) (cases_lt (w % 2) 1)
+
+ltb-is : (a b : ℕ) → a < b → nat_lt a b ≡ true
+ltb-is a b h = grind (arith, nat_tests)
+
+ltb-less : (a b : ℕ) → nat_lt a b ≡ true → a < b
+ltb-less a b h = grind (arith, nat_tests)
+
+-- a side's variable below its count is used
+code-used :
+    (apart : Bool) (l r : ℕ) (side : Side) (v : ℕ) → v < side_count l r side → is_used apart l r (code_of apart side v) ≡ true
+code-used true l r Left v h =
+    let e : (2 * v) % 2 ≡ 0 = omega arith in
+    let half : (2 * v) / 2 ≡ v = omega arith in
+    cond-true ((2 * v) % 2 == 0) (nat_lt ((2 * v) / 2) l) (nat_lt ((2 * v) / 2) r) (eq-eqb ((2 * v) % 2) 0 e)
+    ∙ ltb-is ((2 * v) / 2) l (omega (arith, half, h))
+code-used true l r Right v h =
+    let e : (2 * v + 1) % 2 ≡ 1 = omega arith in
+    let half : (2 * v + 1) / 2 ≡ v = omega arith in
+    cond-false ((2 * v + 1) % 2 == 0) (nat_lt ((2 * v + 1) / 2) l) (nat_lt ((2 * v + 1) / 2) r) (ap (λ m. m == 0) e)
+    ∙ ltb-is ((2 * v + 1) / 2) r (omega (arith, half, h))
+code-used false l r Left v h = ltb-is v (max l r) (omega (arith, h))
+code-used false l r Right v h = ltb-is v (max l r) (omega (arith, h))
+
+-- and has a number below the count of numbers
+pub code-inside : (apart : Bool) (l r : ℕ) (side : Side) (v : ℕ) → v < side_count l r side → code_of apart side v < code_count apart l r
+code-inside true l r Left v h = omega (arith, h)
+code-inside true l r Right v h = omega (arith, h)
+code-inside false l r Left v h = omega (arith, h)
+code-inside false l r Right v h = omega (arith, h)
+
+-- each number is some side's variable's
+side-of : (apart : Bool) (w : ℕ) → (side : Side) × (v : ℕ) × (code_of apart side v ≡ w)
+side-of true w = ⊎_elim (λ h. (Left, w / 2, h.1)) (λ h. (Right, w / 2, h.1)) (halves w)
+side-of false w = (Left, w, refl)
+
+-- a used number is that of a side's variable below its count
+used-side :
+    (apart : Bool) (l r w : ℕ) → is_used apart l r w ≡ true
+    → (side : Side) × (v : ℕ) × (v < side_count l r side) × (code_of apart side v ≡ w)
+used-side true l r w h =
+    ⊎_elim
+    (λ p. (Left, w / 2, ltb-less (w / 2) l (sym (cond-true (w % 2 == 0) (nat_lt (w / 2) l) (nat_lt (w / 2) r) (eq-eqb (w % 2) 0 p.0)) ∙ h), p.1))
+    (λ p. (Right, w / 2, ltb-less (w / 2) r (sym (cond-false (w % 2 == 0) (nat_lt (w / 2) l) (nat_lt (w / 2) r) (ap (λ m. m == 0) p.0)) ∙ h), p.1))
+    (halves w)
+used-side false l r w h =
+    let less : w < max l r = ltb-less w (max l r) h in
+    ⊎_elim (λ in_left. (Left, w, in_left, refl)) (λ ge. (Right, w, omega arith, refl)) (cases_lt w l)
+
+bound-side :
+    (b : Bindings) (l r : ℕ) (side : Side)
+    → BoundBelow b Left l → BoundBelow b Right r → BoundBelow b side (side_count l r side)
+bound-side b l r Left one other = one
+bound-side b l r Right one other = other
+
+-- a variable that has a cell is used
+bound-used :
+    (b : Bindings) (l r w k : ℕ) → BoundBelow b Left l → BoundBelow b Right r → cell_of w b.places.items ≡ Some k
+    → (is_used b.apart l r w ≡ true) × (w < code_count b.apart l r)
+bound-used b l r w k one other found =
+    let there = side-of b.apart w in
+    let less : there.1 < side_count l r there.0 =
+    bound-side b l r there.0 one other there.1 k (ap (λ u. cell_of u b.places.items) there.2 ∙ found) in (
+      ap (is_used b.apart l r) (sym there.2) ∙ code-used b.apart l r there.0 there.1 less,
+      let P : ℕ → Type 0 = λ u. u < code_count b.apart l r in subst P there.2 (code-inside b.apart l r there.0 there.1 less),
+    )
+
+pub has-names :
+    (b : Bindings) (l r : ℕ) (names : List ℕ) → BoundBelow b Left l → BoundBelow b Right r → AreNames b l r names → HasNames b names
+has-names b l r names one other h w k found = omega (arith, (bound-used b l r w k one other found).1, h.many)
+
+-- ---- the renaming can be undone
+
+pub record Naming (b : Bindings) (l : ℕ) (r : ℕ) (names : List ℕ) : Type 0 where
+  pub order : InOrder b.cells.items b.places.items
+  pub left : BoundBelow b Left l
+  pub right : BoundBelow b Right r
+  pub are : AreNames b l r names
+
+abbrev count_of : Bindings → ℕ → ℕ → ℕ
+count_of b l r = rank (is_shared b l r) (code_count b.apart l r)
+
+back_by : (b : Bindings) (l r k : ℕ) → (k < count_of b l r) ⊎ (count_of b l r ≤ k) → ℕ
+back_by b l r k (inl less) = (rank-of (is_shared b l r) (code_count b.apart l r) k less).0
+back_by b l r k (inr ge) = 0
+
+back_of : Bindings → ℕ → ℕ → ℕ → ℕ
+back_of b l r k = back_by b l r k (cases_lt k (count_of b l r))
+
+back_by-is :
+    (b : Bindings) (l r k m : ℕ) (o : (k < count_of b l r) ⊎ (count_of b l r ≤ k))
+    → m < code_count b.apart l r → is_shared b l r m ≡ true → rank (is_shared b l r) m ≡ k → back_by b l r k o ≡ m
+unfolding back_by
+back_by-is b l r k m (inl less) inside shared e =
+    let there = rank-of (is_shared b l r) (code_count b.apart l r) k less in
+    rank-same (is_shared b l r) there.0 m there.2 shared (there.3 ∙ sym e)
+back_by-is b l r k m (inr ge) inside shared e =
+    absurd (omega (arith, rank-below (is_shared b l r) m (code_count b.apart l r) inside shared))
+
+-- a shared variable's name is below the count, and leads back
+shared-name :
+    (b : Bindings) (l r : ℕ) (names : List ℕ) (w : ℕ)
+    → Naming b l r names → w < code_count b.apart l r → is_shared b l r w ≡ true
+    → (back_of b l r (slice_index names w) ≡ w) × (slice_index names w < count_of b l r)
+unfolding back_of
+shared-name b l r names w h inside shared =
+    let e : slice_index names w ≡ rank (is_shared b l r) w = h.are.each w (omega (arith, h.are.many)) in (
+      back_by-is b l r (slice_index names w) w (cases_lt (slice_index names w) (count_of b l r)) inside shared (sym e),
+      omega (arith, e, rank-below (is_shared b l r) w (code_count b.apart l r) inside shared),
+    )
+
+and-true : (a b : Bool) → a ≡ true → b ≡ true → (a && b) ≡ true
+and-true true b h k = k
+and-true false b h k = cc
+
+cell-shared :
+    (b : Bindings) (l r : ℕ) (names : List ℕ) (k w : ℕ)
+    → Naming b l r names → k < length b.cells.items → Variable w ≡ cell_at b.cells.items k
+    → (is_shared b l r w ≡ true) × (w < code_count b.apart l r)
+cell-shared b l r names k w h inside is =
+    let found : cell_of w b.places.items ≡ Some k = h.order.own k w inside (sym is) in
+    let used = bound-used b l r w k h.left h.right found in
+    let itself : joint b w ≡ variable w =
+    ap (λ o. bound b.cells.items o w) found ∙ ap as_tree (own-is b.cells.items k (Variable w) h.order.ordered inside is) in (
+      and-true (is_used b.apart l r w) (tree_eq (joint b w) (variable w)) used.0 (ap (λ t. tree_eq t (variable w)) itself ∙ tree_eq-refl (variable w)),
+      used.1,
+    )
+
+-- what is renamed leads back, and has its variables below the count
+abbrev Undone : Bindings → ℕ → ℕ → List ℕ → Value → Type 0
+Undone b l r names v =
+    (renamed (back_of b l r) (renamed (slice_index names) (as_tree v)) ≡ as_tree v)
+    × (renamed_trees (back_of b l r) (renamed_trees (slice_index names) (as_trees v)) ≡ as_trees v)
+    × VariablesBelow (count_of b l r) (renamed (slice_index names) (as_tree v))
+    × AllVariablesBelow (count_of b l r) (renamed_trees (slice_index names) (as_trees v))
+
+undone-by :
+    (b : Bindings) (l r : ℕ) (names : List ℕ) (k : ℕ) (q : Cell)
+    → Naming b l r names → k < length b.cells.items → q ≡ cell_at b.cells.items k → IsAfterParts k q
+    → ((j : ℕ) → j < k → Undone b l r names (own b.cells.items j)) → Undone b l r names (value_of variable (own b.cells.items) q)
+undone-by b l r names k (Variable w) h inside is after parts =
+    let shared = cell-shared b l r names k w h inside is in
+    let name = shared-name b l r names w h shared.1 shared.0 in
+    (ap variable name.0, refl, name.1, tt)
+undone-by b l r names k (Application f m) h inside is after parts =
+    let list = parts m after in
+    (ap (application f) list.1, refl, list.3, tt)
+undone-by b l r names k NoTrees h inside is after parts = (refl, refl, tt, tt)
+undone-by b l r names k (TreeThen a d) h inside is after parts =
+    let first = parts a after.0 in
+    let rest = parts d after.1 in
+    (refl, ap₂ tree_then first.0 rest.1, tt, (first.2, rest.3))
+
+undone :
+    (b : Bindings) (l r : ℕ) (names : List ℕ) (limit k : ℕ)
+    → Naming b l r names → k < limit → k < length b.cells.items → Undone b l r names (own b.cells.items k)
+undone b l r names zero k h less inside = absurd (omega arith)
+undone b l r names (suc limit) k h less inside =
+    let q : Cell = cell_at b.cells.items k in
+    let P : Value → Type 0 = λ v. Undone b l r names v in
+    subst P (sym (own-is b.cells.items k q h.order.ordered inside refl))
+    (undone-by b l r names k q h inside refl (h.order.ordered k inside)
+    (λ j before. undone b l r names limit j h (omega arith) (omega arith)))
+
+undone-joint :
+    (b : Bindings) (l r : ℕ) (names : List ℕ) (w : ℕ) (o : Option ℕ)
+    → Naming b l r names → cell_of w b.places.items ≡ o → is_used b.apart l r w ≡ true → w < code_count b.apart l r
+    → (renamed (back_of b l r) (renamed (slice_index names) (bound b.cells.items o w)) ≡ bound b.cells.items o w)
+    × VariablesBelow (count_of b l r) (renamed (slice_index names) (bound b.cells.items o w))
+undone-joint b l r names w None h e used inside =
+    let shared : is_shared b l r w ≡ true =
+    and-true (is_used b.apart l r w) (tree_eq (joint b w) (variable w)) used (sym (itself-free b w e)) in
+    let name = shared-name b l r names w h inside shared in
+    (ap variable name.0, name.1)
+undone-joint b l r names w (Some k) h e used inside =
+    let all = undone b l r names (suc k) k h (omega arith) (h.order.terms w k e).0 in
+    (all.0, all.2)
+
+undone-side :
+    (b : Bindings) (l r : ℕ) (names : List ℕ) (side : Side) (v : ℕ)
+    → Naming b l r names → v < side_count l r side
+    → (renamed (back_of b l r) (renamed (slice_index names) (substitution_of b side v)) ≡ substitution_of b side v)
+    × VariablesBelow (count_of b l r) (renamed (slice_index names) (substitution_of b side v))
+undone-side b l r names side v h less =
+    undone-joint b l r names (code_of b.apart side v) (cell_of (code_of b.apart side v) b.places.items) h refl
+    (code-used b.apart l r side v less) (code-inside b.apart l r side v less)
+
+no-gaps :
+    (b : Bindings) (l r : ℕ) (names : List ℕ) (k : ℕ)
+    → Naming b l r names → k < count_of b l r
+    → (side : Side) × (v : ℕ) × (v < side_count l r side) × (renamed (slice_index names) (substitution_of b side v) ≡ variable k)
+no-gaps b l r names k h less =
+    let there = rank-of (is_shared b l r) (code_count b.apart l r) k less in
+    let m : ℕ = there.0 in
+    let used : is_used b.apart l r m ≡ true = and_left (is_used b.apart l r m) (tree_eq (joint b m) (variable m)) there.2 in
+    let itself : joint b m ≡ variable m = tree_eq-true (joint b m) (variable m) (and_right (is_used b.apart l r m) (tree_eq (joint b m) (variable m)) there.2) in
+    let at = used-side b.apart l r m used in
+    let name : slice_index names m ≡ k = h.are.each m (omega (arith, h.are.many, there.1)) ∙ there.3 in (
+      at.0,
+      at.1,
+      at.2,
+      ap (λ u. renamed (slice_index names) (joint b u)) at.3 ∙ ap (renamed (slice_index names)) itself ∙ ap variable name,
+    )
+
+by-side :
+    (b : Bindings) (l r : ℕ) (names : ℕ → ℕ) (k : ℕ)
+    → (side : Side) → (v : ℕ) → v < side_count l r side → renamed names (substitution_of b side v) ≡ variable k
+    → ((v : ℕ) × (v < l) × (renamed names (substitution_of b Left v) ≡ variable k))
+    ⊎ ((v : ℕ) × (v < r) × (renamed names (substitution_of b Right v) ≡ variable k))
+by-side b l r names k Left v less e = inl (v, less, e)
+by-side b l r names k Right v less e = inr (v, less, e)
+
+pub are-renamed :
+    (b : Bindings) (l r : ℕ) (names : List ℕ) (left right : List Tree)
+    → InOrder b.cells.items b.places.items → BoundBelow b Left l → BoundBelow b Right r → AreNames b l r names
+    → left ≡ side_terms b (slice_index names) Left l → right ≡ side_terms b (slice_index names) Right r → AreRenamed b l r left right
+are-renamed b l r names left right order one other are left_is right_is =
+    let h : Naming b l r names = record { order = order; left = one; right = other; are = are } in
+    record {
+      names = slice_index names;
+      back = back_of b l r;
+      count = count_of b l r;
+      left_terms = left_is;
+      right_terms = right_is;
+      left_back = λ v less. (undone-side b l r names Left v h less).0;
+      right_back = λ v less. (undone-side b l r names Right v h less).0;
+      left_below = λ v less. (undone-side b l r names Left v h less).1;
+      right_below = λ v less. (undone-side b l r names Right v h less).1;
+      no_gaps = λ k less. let at = no-gaps b l r names k h less in by-side b l r (slice_index names) k at.0 at.1 at.2 at.3;
+    }

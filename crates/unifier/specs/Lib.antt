@@ -1,0 +1,13 @@
+pub mod Matching
+pub mod Walk
+pub mod Cells
+pub mod Layout
+pub mod InOrder
+pub mod Classes
+pub mod Placing
+pub mod Bindings
+pub mod Solving
+pub mod Sizes
+pub mod Renaming
+pub mod Clashing
+pub mod Laws

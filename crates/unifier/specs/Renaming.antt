@@ -1,0 +1,72 @@
+-- The substitutions of the two sides into shared variables, which are numbered from 0 without gaps.
+use Rattle.std.specs.Prelude.{◌≡◌, ◌⊎◌, ℕ, zero, suc, ◌+◌, ◌*◌, ◌/◌, ◌%◌, ◌<◌, max, Bool, true, false, ◌&&◌, ◌==◌, nat_lt, List, length, slice_index, Some, if◌then◌else◌}
+use Rattle.fol_base.specs.Tree.{Tree, Trees, variable, tree_eq, VariablesBelow}
+use Rattle.fol_base.specs.Instance.{instance, instances}
+use Rattle.fol_base.specs.Canonical.{terms_from}
+use Rattle.fol_base.specs.declared.clause.Side.{Side}
+use Rattle.fol_base.specs.declared.clause.Side.TheVariants.{Left, Right}
+use Rattle.unifier.specs.declared.bindings.Bindings.{Bindings}
+use Rattle.unifier.specs.Layout.{cell_of, code_of}
+use Rattle.unifier.specs.Bindings.{joint, substitution_of}
+
+-- each of a side's variables that is bound has a number below the side's count
+abbrev pub BoundBelow : Bindings → Side → ℕ → Type 0
+BoundBelow b side count = (v k : ℕ) → cell_of (code_of b.apart side v) b.places.items ≡ Some k → v < count
+
+-- each variable becomes the variable of another number
+abbrev pub renamed : (ℕ → ℕ) → Tree → Tree
+renamed names = instance (λ w. variable (names w))
+
+-- the terms for the first variables of a side, with the shared variables renamed
+abbrev pub side_terms : Bindings → (ℕ → ℕ) → Side → ℕ → List Tree
+side_terms b names side count = terms_from 0 count (λ v. renamed names (substitution_of b side v))
+
+-- two substitutions of a unifier's sides: the shared variables are renamed to the numbers from 0 on, each of which some
+-- variable of a side stands for, and the renaming can be undone
+pub record AreRenamed (b : Bindings) (left_count : ℕ) (right_count : ℕ) (left : List Tree) (right : List Tree) : Type 0 where
+  pub names : ℕ → ℕ
+  pub back : ℕ → ℕ
+  pub count : ℕ
+  pub left_terms : left ≡ side_terms b names Left left_count
+  pub right_terms : right ≡ side_terms b names Right right_count
+  pub left_back : (v : ℕ) → v < left_count → renamed back (renamed names (substitution_of b Left v)) ≡ substitution_of b Left v
+  pub right_back : (v : ℕ) → v < right_count → renamed back (renamed names (substitution_of b Right v)) ≡ substitution_of b Right v
+  pub left_below : (v : ℕ) → v < left_count → VariablesBelow count (renamed names (substitution_of b Left v))
+  pub right_below : (v : ℕ) → v < right_count → VariablesBelow count (renamed names (substitution_of b Right v))
+  pub no_gaps :
+      (k : ℕ) → k < count
+      → ((v : ℕ) × (v < left_count) × (renamed names (substitution_of b Left v) ≡ variable k))
+      ⊎ ((v : ℕ) × (v < right_count) × (renamed names (substitution_of b Right v) ≡ variable k))
+
+-- ---- how the numbers are given
+
+-- how many numbers there are for variables of both sides
+abbrev pub code_count : Bool → ℕ → ℕ → ℕ
+code_count true left_count right_count = 2 * max left_count right_count
+code_count false left_count right_count = max left_count right_count
+
+-- the variable of that number is one of the first ones of its side
+abbrev pub is_used : Bool → ℕ → ℕ → ℕ → Bool
+is_used true left_count right_count w = if w % 2 == 0 then nat_lt (w / 2) left_count else nat_lt (w / 2) right_count
+is_used false left_count right_count w = nat_lt w (max left_count right_count)
+
+-- a variable that is used and stands for itself is shared
+abbrev pub is_shared : Bindings → ℕ → ℕ → ℕ → Bool
+is_shared b left_count right_count w = is_used b.apart left_count right_count w && tree_eq (joint b w) (variable w)
+
+-- how many numbers below n pass the test
+abbrev pub rank : (ℕ → Bool) → ℕ → ℕ
+rank test zero = 0
+rank test (suc n) = rank test n + (if test n then 1 else 0)
+
+-- the new names
+pub record AreNames (b : Bindings) (left_count : ℕ) (right_count : ℕ) (names : List ℕ) : Type 0 where
+  pub many : length names ≡ code_count b.apart left_count right_count
+  pub each : (w : ℕ) → w < length names → slice_index names w ≡ rank (is_shared b left_count right_count) w
+
+-- each variable that has a cell of its own has a name
+abbrev pub HasNames : Bindings → List ℕ → Type 0
+HasNames b names = (w k : ℕ) → cell_of w b.places.items ≡ Some k → w < length names
+
+abbrev pub renamed_trees : (ℕ → ℕ) → Trees → Trees
+renamed_trees names = instances (λ w. variable (names w))

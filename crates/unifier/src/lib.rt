@@ -1,0 +1,24 @@
+// Unifying and matching of terms (Robinson 1965).
+#![tactic(auto)]
+
+mod bindings;
+mod cells;
+mod clash;
+mod classes;
+mod layout;
+mod matched;
+mod matching;
+mod placing;
+mod sizes;
+mod solving;
+mod substs;
+mod unifying;
+
+pub use bindings::Bindings;
+pub use matched::Matched;
+pub use matching::match_onto;
+pub use unifying::unify;
+
+pub mod laws;
+#[cfg(test)]
+mod tests;

@@ -1,0 +1,91 @@
+// Matching: what turns a pattern into a target.
+
+ghost use Rattle.std.specs.Prelude.{◌≡◌, ℕ, Bool, None, Some, map, IfOk, IfSome, IsTrue, MatchOption, if◌then◌else◌};
+ghost use Rattle.fol_base.specs.Tree.{trees_of};
+ghost use Rattle.fol_base.specs.Term.{tree_of};
+ghost use Rattle.unifier.specs.Matching.{IsMatched, NoMatcher, term_for};
+ghost use Rattle.unifier.specs.Laws.{AreFunctionPairs, are_of_one_kind};
+ghost use Rattle.unifier.specs.Walk.{met, walk, walk_all};
+
+use crate::matched::Matched;
+use fol_base::{Mem, Term, same_term};
+use std::alloc::Global;
+
+/// The matcher that has the pairs of `so_far` and one pair for each further variable of the pattern.
+/// None exactly where no matcher has all of them. The target's subterms are borrowed, not copied.
+/// Function terms in give function terms out.
+pub fn match_onto<'a>(
+    alloc: Global,
+    pattern: &Term,
+    target: &'a Term,
+    so_far: &Matched<'a>,
+) -> Mem<Option<Matched<'a>>>
+    ensures found { IfOk result (λ found. MatchOption found
+        (NoMatcher so_far.now (tree_of pattern.now) (tree_of target.now))
+        (IsMatched so_far.now (tree_of pattern.now) (tree_of target.now))) }
+    ensures function_terms { IfOk result (λ found. (is_predicate : ℕ → Bool)
+        → IsTrue (are_of_one_kind is_predicate (tree_of pattern.now) (tree_of target.now))
+        → AreFunctionPairs is_predicate so_far.now → IfSome found (AreFunctionPairs is_predicate)) }
+{
+    let mut found = so_far.copied(alloc)?;
+    if found.extend(pattern, target)? {
+        Ok(Some(found))
+    } else {
+        Ok(None)
+    }
+}
+
+impl<'a> Matched<'a> {
+    /// Adds what turns the pattern into the target, and says whether it can.
+    #[cycle(extend)]
+    fn extend(&mut self, pattern: &Term, target: &'a Term) -> Mem<bool>
+        ensures { IfOk result (λ fits.
+            walk self.old (tree_of pattern.now) (tree_of target.now) ≡ (if fits then Some self.new else None)) }
+    {
+        match pattern {
+            Term::Var(variable) => self.meet(*variable, target),
+            Term::App(symbol, arguments) => match target {
+                Term::Var(_) => Ok(false),
+                Term::App(other, others) => {
+                    if *symbol == *other {
+                        self.extend_all(arguments.as_slice(), others.as_slice())
+                    } else {
+                        Ok(false)
+                    }
+                }
+            },
+        }
+    }
+
+    /// Adds what turns each term of a list into the one at its place.
+    #[cycle(extend)]
+    fn extend_all(&mut self, patterns: &[Term], targets: &'a [Term]) -> Mem<bool>
+        ensures { IfOk result (λ fits.
+            walk_all self.old (trees_of (map tree_of patterns.now)) (trees_of (map tree_of targets.now))
+            ≡ (if fits then Some self.new else None)) }
+    {
+        if patterns.len() != targets.len() {
+            return Ok(false);
+        }
+        for index in 0..patterns.len() {
+            if !self.extend(&patterns[index], &targets[index])? {
+                return Ok(false);
+            }
+        }
+        Ok(true)
+    }
+
+    /// A variable that has a term must have this one; one that has none gets it.
+    fn meet(&mut self, variable: u32, target: &'a Term) -> Mem<bool>
+        ensures { IfOk result (λ fits.
+            met (term_for variable self.old) self.old variable (tree_of target.now) ≡ (if fits then Some self.new else None)) }
+    {
+        match self.term_for(variable) {
+            Some(term) => Ok(same_term(term, target)),
+            None => {
+                self.push(variable, target)?;
+                Ok(true)
+            }
+        }
+    }
+}

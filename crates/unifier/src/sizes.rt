@@ -1,0 +1,116 @@
+// The size of an instance, without building it.
+
+ghost use Rattle.std.specs.Prelude.{◌≡◌, ◌<◌, length, map, slice_index, sum_by, IfOk};
+ghost use Rattle.fol_base.specs.Tree.{tree_size, trees_size, trees_of};
+ghost use Rattle.fol_base.specs.Instance.{instance, instances};
+ghost use Rattle.fol_base.specs.Clause.{literal_size};
+ghost use Rattle.fol_base.specs.Ground.{literals_instance};
+ghost use Rattle.fol_base.specs.Term.{tree_of};
+ghost use Rattle.term_bank.specs.Literal.{AreLiteralsOf, literals_in};
+ghost use Rattle.unifier.specs.Cells.{IsAfterParts};
+ghost use Rattle.unifier.specs.Bindings.{substitution_of};
+ghost use Rattle.unifier.specs.Sizes.{AreSizes, size_by, stopped};
+
+use crate::bindings::Bindings;
+use crate::cells::Cell;
+use crate::layout::{code, find_place};
+use fol_base::{Mem, Side, Term};
+use std::alloc::Global;
+use term_bank::{Bank, BankLit};
+
+impl Bindings {
+    /// The size of a side's literals after the unifier: the occurrences of symbols and variables in both
+    /// sides of each, stopping at u64's last value. The instance isn't built.
+    pub fn instance_size(
+        &self,
+        alloc: Global,
+        bank: &Bank,
+        side: Side,
+        literals: &[BankLit],
+    ) -> Mem<u64>
+        requires { AreLiteralsOf bank.now literals.now }
+        ensures { IfOk result (λ size. size
+            ≡ stopped (sum_by literal_size (literals_instance (substitution_of self.now side) (literals_in bank.now literals.now)))) }
+    {
+        let sizes = self.cell_sizes(alloc)?;
+        let mut total: u64 = 0;
+        for literal in literals {
+            let left = self.term_size(sizes.as_slice(), side, bank.tree(&literal.left));
+            let right = self.term_size(sizes.as_slice(), side, bank.tree(&literal.right));
+            total = total.saturating_add(left.saturating_add(right));
+        }
+        Ok(total)
+    }
+
+    /// The sizes of the cells, each from those of its parts.
+    fn cell_sizes(&self, alloc: Global) -> Mem<Vec<u64>>
+        ensures { IfOk result (λ sizes. AreSizes self.now.cells.items sizes.items (length self.now.cells.items)) }
+    {
+        let mut sizes = Vec::with_capacity(alloc, self.cells.len())?;
+        for cell in 0..self.cells.len() {
+            let size = size_from_parts(self.cells[cell], sizes.as_slice());
+            sizes.push(size)?;
+        }
+        Ok(sizes)
+    }
+
+    /// The size of a side's term after the unifier.
+    #[cycle(instance)]
+    fn term_size(&self, sizes: &[u64], side: Side, term: &Term) -> u64
+        requires { AreSizes self.now.cells.items sizes.now (length self.now.cells.items) }
+        ensures { result ≡ stopped (tree_size (instance (substitution_of self.now side) (tree_of term.now))) }
+    {
+        match term {
+            Term::Var(variable) => self.variable_size(sizes, side, *variable),
+            Term::App(_, arguments) => {
+                self.terms_size(sizes, side, arguments.as_slice())
+                    .saturating_add(1)
+            }
+        }
+    }
+
+    /// The sizes of a side's terms after the unifier, together.
+    #[cycle(instance)]
+    fn terms_size(&self, sizes: &[u64], side: Side, terms: &[Term]) -> u64
+        requires { AreSizes self.now.cells.items sizes.now (length self.now.cells.items) }
+        ensures { result ≡ stopped (trees_size (instances (substitution_of self.now side) (trees_of (map tree_of terms.now)))) }
+    {
+        let mut total: u64 = 0;
+        for term in terms {
+            total = total.saturating_add(self.term_size(sizes, side, term));
+        }
+        total
+    }
+
+    /// The size of what stands for a side's variable.
+    fn variable_size(&self, sizes: &[u64], side: Side, variable: u32) -> u64
+        requires { AreSizes self.now.cells.items sizes.now (length self.now.cells.items) }
+        ensures { result ≡ stopped (tree_size (substitution_of self.now side variable)) }
+    {
+        match find_place(self.places.as_slice(), code(self.apart, side, variable)) {
+            Some(cell) => size_at(sizes, cell),
+            None => 1,
+        }
+    }
+}
+
+/// The size of a cell that has one.
+fn size_at(sizes: &[u64], cell: usize) -> u64
+    requires { cell < length sizes.now }
+    ensures { result ≡ slice_index sizes.now cell }
+{
+    sizes[cell]
+}
+
+/// The size of a cell from those of its parts.
+fn size_from_parts(cell: Cell, sizes: &[u64]) -> u64
+    requires { IsAfterParts (length sizes.now) cell }
+    ensures { result ≡ size_by sizes.now cell }
+{
+    match cell {
+        Cell::Variable(_) => 1,
+        Cell::Application(_, list) => sizes[list].saturating_add(1),
+        Cell::NoTrees => 0,
+        Cell::TreeThen(first, rest) => sizes[first].saturating_add(sizes[rest]),
+    }
+}

@@ -1,0 +1,183 @@
+// The substitutions of the two sides into shared variables.
+
+ghost use Rattle.std.specs.Prelude.{◌≡◌, ℕ, ◌≤◌, ◌<◌, ◌^◌, length, slice_index, IfOk};
+ghost use Rattle.fol_base.specs.Tree.{variable, application, no_trees, tree_eq, trees_of};
+ghost use Rattle.fol_base.specs.Term.{tree_of};
+ghost use Rattle.fol_base.specs.declared.clause.Side.TheVariants.{Left, Right};
+ghost use Rattle.unifier.specs.Cells.{as_tree, as_trees, cell_at};
+ghost use Rattle.unifier.specs.Layout.{code_of};
+ghost use Rattle.unifier.specs.Bindings.{joint, value_at};
+ghost use Rattle.unifier.specs.Renaming.{
+  AreNames,
+  AreRenamed,
+  BoundBelow,
+  HasNames,
+  code_count,
+  is_shared,
+  is_used,
+  renamed,
+  renamed_trees,
+  side_terms,
+};
+
+use crate::bindings::Bindings;
+use crate::cells::Cell;
+use crate::layout::{code, find_place};
+use fol_base::{Mem, Side, Subst, Term, Terms};
+use std::alloc::Global;
+
+impl Bindings {
+    /// The two substitutions into shared variables, for the first `left_vars` variables of the left side
+    /// and the first `right_vars` of the right one. The shared variables have the numbers from 0 on,
+    /// without gaps. The condition is that each variable that is bound has a number below its side's count.
+    pub fn substs(&self, alloc: Global, left_vars: u32, right_vars: u32) -> Mem<(Subst, Subst)>
+        requires left { BoundBelow self.now Left left_vars }
+        requires right { BoundBelow self.now Right right_vars }
+        requires left_room { left_vars ≤ 2 ^ 31 }
+        requires right_room { right_vars ≤ 2 ^ 31 }
+        ensures { IfOk result (λ made. AreRenamed self.now left_vars right_vars made.0 made.1) }
+    {
+        let names = self.names(alloc, left_vars, right_vars)?;
+        let left = self.side(alloc, names.as_slice(), Side::Left, left_vars)?;
+        let right = self.side(alloc, names.as_slice(), Side::Right, right_vars)?;
+        Ok((left, right))
+    }
+
+    /// The new number of each shared variable: how many shared ones come before it.
+    fn names(&self, alloc: Global, left_vars: u32, right_vars: u32) -> Mem<Vec<u32>>
+        requires left_room { left_vars ≤ 2 ^ 31 }
+        requires right_room { right_vars ≤ 2 ^ 31 }
+        ensures { IfOk result (λ names. AreNames self.now left_vars right_vars names.items) }
+    {
+        let count = self.code_count(left_vars, right_vars);
+        let mut names = Vec::with_capacity(alloc, count as usize)?;
+        let mut next: u64 = 0;
+        for code in 0..count {
+            names.push(next as u32)?;
+            next += u64::from(self.is_shared(code, left_vars, right_vars));
+        }
+        Ok(names)
+    }
+
+    /// How many numbers there are for variables of both sides.
+    fn code_count(&self, left_vars: u32, right_vars: u32) -> u64
+        ensures { result ≡ code_count self.now.apart left_vars right_vars }
+    {
+        let most = u64::from(left_vars.max(right_vars));
+        if self.apart { 2 * most } else { most }
+    }
+
+    /// Whether a variable is used and stands for itself.
+    fn is_shared(&self, code: u64, left_vars: u32, right_vars: u32) -> bool
+        ensures { result ≡ is_shared self.now left_vars right_vars code }
+    {
+        is_used(self.apart, code, left_vars, right_vars) && self.stands_for_itself(code)
+    }
+
+    /// Whether a variable stands for itself.
+    fn stands_for_itself(&self, code: u64) -> bool
+        ensures { result ≡ tree_eq (joint self.now code) (variable code) }
+    {
+        match find_place(self.places.as_slice(), code) {
+            None => true,
+            Some(cell) => self.cell(cell).is_variable_of(code),
+        }
+    }
+
+    /// The cell of a number.
+    fn cell(&self, cell: usize) -> Cell
+        requires { cell < length self.now.cells.items }
+        ensures { result ≡ cell_at self.now.cells.items cell }
+    {
+        self.cells[cell]
+    }
+
+    /// The terms for the first variables of a side.
+    fn side(&self, alloc: Global, names: &[u32], side: Side, count: u32) -> Mem<Subst>
+        requires names { HasNames self.now names.now }
+        requires all { (v : ℕ) → v < count → code_of self.now.apart side v < length names.now }
+        ensures { IfOk result (λ terms. terms ≡ side_terms self.now (slice_index names.now) side count) }
+    {
+        let mut items = Vec::with_capacity(alloc, count as usize)?;
+        for variable in 0..count {
+            items.push(self.named(alloc, names, code(self.apart, side, variable))?)?;
+        }
+        Ok(Terms::from_vec(items))
+    }
+
+    /// What stands for a variable, with the shared variables renamed.
+    fn named(&self, alloc: Global, names: &[u32], code: u64) -> Mem<Term>
+        requires names { HasNames self.now names.now }
+        requires inside { code < length names.now }
+        ensures { IfOk result (λ term. tree_of term ≡ renamed (slice_index names.now) (joint self.now code)) }
+    {
+        match find_place(self.places.as_slice(), code) {
+            Some(cell) => self.term_at(alloc, names, cell),
+            None => Ok(renamed_variable(names, code)),
+        }
+    }
+
+    /// The term of a cell, with the shared variables renamed.
+    #[cycle(build)]
+    fn term_at(&self, alloc: Global, names: &[u32], cell: usize) -> Mem<Term>
+        requires names { HasNames self.now names.now }
+        requires inside { cell < length self.now.cells.items }
+        ensures { IfOk result (λ term.
+            tree_of term ≡ renamed (slice_index names.now) (as_tree (value_at variable self.now.cells.items cell))) }
+    {
+        match self.cell(cell) {
+            Cell::Variable(code) => Ok(renamed_variable(names, code)),
+            Cell::Application(symbol, list) => {
+                Ok(Term::App(symbol, self.terms_at(alloc, names, list)?))
+            }
+            Cell::NoTrees => Ok(no_term(alloc)),
+            Cell::TreeThen(_, _) => Ok(no_term(alloc)),
+        }
+    }
+
+    /// The terms of a list's cell, with the shared variables renamed.
+    #[cycle(build)]
+    fn terms_at(&self, alloc: Global, names: &[u32], list: usize) -> Mem<Terms>
+        requires names { HasNames self.now names.now }
+        requires inside { list < length self.now.cells.items }
+        ensures { IfOk result (λ terms.
+            trees_of terms ≡ renamed_trees (slice_index names.now) (as_trees (value_at variable self.now.cells.items list))) }
+    {
+        let mut items = Vec::new(alloc);
+        let mut at = list;
+        while let Some((first, rest)) = self.cell(at).list_parts() {
+            items.push(self.term_at(alloc, names, first)?)?;
+            at = rest;
+        }
+        Ok(Terms::from_vec(items))
+    }
+}
+
+/// The variable of a new name.
+fn renamed_variable(names: &[u32], code: u64) -> Term
+    requires { code < length names.now }
+    ensures { tree_of result ≡ variable (slice_index names.now code) }
+{
+    Term::Var(names[code as usize])
+}
+
+/// What stands where no term can stand.
+fn no_term(alloc: Global) -> Term
+    ensures { tree_of result ≡ application 0 no_trees }
+{
+    Term::App(0, Terms::new(alloc))
+}
+
+/// Whether the variable of a number is one of the first ones of its side.
+fn is_used(apart: bool, code: u64, left_vars: u32, right_vars: u32) -> bool
+    ensures { result ≡ is_used apart left_vars right_vars code }
+{
+    if !apart {
+        return code < u64::from(left_vars.max(right_vars));
+    }
+    if code % 2 == 0 {
+        code / 2 < u64::from(left_vars)
+    } else {
+        code / 2 < u64::from(right_vars)
+    }
+}

@@ -1,0 +1,281 @@
+// Rows worked out by hand, and a table of small pairs against a plain unifier.
+
+use super::*;
+use fol_base::{Mem, Side, Subst, Term, Terms, same_term};
+use std::alloc::Global;
+use std::test::Fail;
+use term_bank::{Bank, BankLit, Table};
+
+const A: u32 = 1;
+
+const B: u32 = 2;
+
+const F: u32 = 3;
+
+const G: u32 = 4;
+
+fn constant(alloc: Global, symbol: u32) -> Term {
+    Term::App(symbol, Terms::new(alloc))
+}
+
+fn unary(alloc: Global, symbol: u32, argument: Term) -> Mem<Term> {
+    let mut arguments = Terms::new(alloc);
+    arguments.push(argument)?;
+    Ok(Term::App(symbol, arguments))
+}
+
+fn binary(alloc: Global, symbol: u32, first: Term, second: Term) -> Mem<Term> {
+    let mut arguments = Terms::new(alloc);
+    arguments.push(first)?;
+    arguments.push(second)?;
+    Ok(Term::App(symbol, arguments))
+}
+
+/// The literal of a term and a constant, in a bank.
+fn equation(
+    alloc: Global,
+    bank: &mut Bank,
+    table: &mut Table,
+    left: &Term,
+    right: &Term,
+) -> Mem<BankLit> {
+    let left = bank.intern(alloc, table, left)?;
+    let right = bank.intern(alloc, table, right)?;
+    Ok(BankLit {
+        positive: true,
+        left,
+        right,
+    })
+}
+
+/// Whether two lists of terms are the same.
+fn are(terms: &Subst, wanted: &[Term]) -> bool {
+    let terms = terms.as_slice();
+    if terms.len() != wanted.len() {
+        return false;
+    }
+    for index in 0..terms.len() {
+        if !same_term(&terms[index], &wanted[index]) {
+            return false;
+        }
+    }
+    true
+}
+
+#[test]
+fn variables_apart_are_different_ones(rt: HostRuntime) -> Result<(), Fail> {
+    let alloc = rt.alloc();
+    let left = binary(alloc, F, Term::Var(0), constant(alloc, B))?;
+    let right = binary(alloc, F, constant(alloc, A), Term::Var(0))?;
+    assert!(rt; unify(alloc, &left, &right, false)?.is_none());
+    if let Some(found) = unify(alloc, &left, &right, true)? {
+        let (first, second) = found.substs(alloc, 1, 1)?;
+        assert!(rt; are(&first, &[constant(alloc, A)]));
+        assert!(rt; are(&second, &[constant(alloc, B)]));
+    } else {
+        assert!(rt; false);
+    }
+    Ok(())
+}
+
+#[test]
+fn the_size_of_an_instance(rt: HostRuntime) -> Result<(), Fail> {
+    let alloc = rt.alloc();
+    let left = binary(alloc, F, Term::Var(0), constant(alloc, B))?;
+    let right = binary(alloc, F, constant(alloc, A), Term::Var(0))?;
+    let (mut bank, mut table) = Bank::new(alloc)?;
+    let literal = equation(alloc, &mut bank, &mut table, &left, &constant(alloc, B))?;
+    let literals = vec![in alloc; literal]?;
+    if let Some(found) = unify(alloc, &left, &right, true)? {
+        let size = found.instance_size(alloc, &bank, Side::Left, literals.as_slice())?;
+        assert_eq!(rt; size, 4);
+    } else {
+        assert!(rt; false);
+    }
+    Ok(())
+}
+
+#[test]
+fn no_variable_contains_itself(rt: HostRuntime) -> Result<(), Fail> {
+    let alloc = rt.alloc();
+    let left = Term::Var(0);
+    let right = unary(alloc, F, Term::Var(0))?;
+    assert!(rt; unify(alloc, &left, &right, false)?.is_none());
+    if let Some(found) = unify(alloc, &left, &right, true)? {
+        let (first, second) = found.substs(alloc, 1, 1)?;
+        assert!(rt; are(&first, &[unary(alloc, F, Term::Var(0))?]));
+        assert!(rt; are(&second, &[Term::Var(0)]));
+    } else {
+        assert!(rt; false);
+    }
+    Ok(())
+}
+
+/// `f(X0, f(X1, .. f(Xn, a)))` and `f(f(X1, X1), f(f(X2, X2), ..))`: the instance doubles with each level.
+fn family(alloc: Global, depth: u32, doubled: bool) -> Mem<Term> {
+    let mut made = constant(alloc, A);
+    for back in 0..depth {
+        let variable = depth - back;
+        let first = if doubled {
+            binary(alloc, F, Term::Var(variable), Term::Var(variable))?
+        } else {
+            Term::Var(variable - 1)
+        };
+        made = binary(alloc, F, first, made)?;
+    }
+    Ok(made)
+}
+
+#[test]
+fn shared_bindings_do_not_blow_up(rt: HostRuntime) -> Result<(), Fail> {
+    let alloc = rt.alloc();
+    let left = family(alloc, 200, false)?;
+    let right = family(alloc, 200, true)?;
+    assert!(rt; unify(alloc, &left, &right, true)?.is_some());
+    let (mut bank, mut table) = Bank::new(alloc)?;
+    let literal = equation(alloc, &mut bank, &mut table, &Term::Var(0), &Term::Var(1))?;
+    let literals = vec![in alloc; literal]?;
+    if let Some(found) = unify(alloc, &left, &right, false)? {
+        let size = found.instance_size(alloc, &bank, Side::Left, literals.as_slice())?;
+        assert_eq!(rt; size, u64::MAX);
+    } else {
+        assert!(rt; false);
+    }
+    Ok(())
+}
+
+#[test]
+fn a_pattern_is_matched(rt: HostRuntime) -> Result<(), Fail> {
+    let alloc = rt.alloc();
+    let pattern = binary(alloc, F, Term::Var(0), Term::Var(0))?;
+    let differs = binary(alloc, F, constant(alloc, A), constant(alloc, B))?;
+    let fits = binary(alloc, F, constant(alloc, A), constant(alloc, A))?;
+    let empty = Matched::empty(alloc);
+    assert!(rt; match_onto(alloc, &pattern, &differs, &empty)?.is_none());
+    if let Some(found) = match_onto(alloc, &pattern, &fits, &empty)? {
+        assert!(rt; are(&found.subst(alloc, 1)?, &[constant(alloc, A)]));
+        assert!(rt; are(&found.subst(alloc, 2)?, &[constant(alloc, A), Term::Var(1)]));
+        let b = constant(alloc, B);
+        assert!(rt; match_onto(alloc, &Term::Var(0), &b, &found)?.is_none());
+        assert!(rt; match_onto(alloc, &Term::Var(1), &b, &found)?.is_some());
+    } else {
+        assert!(rt; false);
+    }
+    Ok(())
+}
+
+/// Pairs of terms, by a stack: x, y, z are variables and a, b constants, f takes one term from the stack
+/// and g two. Then a letter says what is known of the two: p where they unify, q where they do apart
+/// alone, r where they don't; small where the second one is an instance of the first. A plain unifier
+/// outside the repository made the answers.
+const TABLE: [&str; 30] = [
+    "yxfyfgfqxbzgffpafffyffPaxagzgRbxagfRaxgffxQbaabggxgRyafpzzgyyggfxPazagRyffxffxagfgR",
+    "yfzfgaffxfxggRzbfxgfpbfxPzyyggyffgxygxfgyzgxggRyagygxfxgfRyfxfgagyygRbyzfgbgRxxyyggzgq",
+    "bfygafgyxgfxgRbxzgffRxabgffpzfxfffpyygagfxPyyxgyygggaxgQaazggzQbbxfgfRbbgzfgxgxQxyzgfp",
+    "bfzgxfRxyzgpaffzfPxyyggybagggyyyzgggRxyxggzxgaggzQzfygaRzbfpyagzfRxxfxygggyQ",
+    "xfbyygggxxgxgxgRaafffRaxfafgxgRyxgxxgffRyffxPbagzPybaggbfRxabgpzygxPyxfpaygaRxzgxQyagyQ",
+    "zagafzygggzfzgRzxbfxfggpbxfyzgggzQxagyfgbfRzfyyfggxPxazxggqxffzagffpxygxfyggyffR",
+    "ybxgfxyfggqyffxPyfagfxxgRyfxzyggzgRyfygaRybyfgqbagfxPxaxxgggyzfzagggRxyaxggfqafzP",
+    "xffxxfggxQzxgxfxyggzgqaygxzagggyQyffxPafffxagyagfgRxygbzggfyygRyyfqaaazxgggRyybgfqyxzffgp",
+    "xxzzggqxxfbygzggqzxbgpxyagxggyQxfygbyzggfRyazxgxxgggpxybyggfpbffzPybxxggagpaffyPbfafxgR",
+    "byxgRxbfpxxgyaggygyyyggRzyafgpzzfqyygzfgxfbagggayfyggRxbxgqxxgzgbfgxQyxfpbfxyyfggR",
+    "zyzggbffgxbgRbyxgfgzxgffRxyagxgqxfxQzxbgbzggbzgfgqyayggygabgayggfRyfbRbyyxxgggRbyyagfgR",
+    "yyxfgygqzzgzQyzgxffagpbxbgRyafygqyaxgpabzgfgyxgbfzagggRxygagxfagRbzfafgazgafggR",
+    "yfyyggfyfygRxxagqyyxgagqyfafzgxfgRxygffyffQxffazaggxffgRxagzyggzbgafggaagffRbxgaR",
+    "zfbyggfyfygRyfffxPzyzggxzggyfygaxggRyyfgbfRxaygfgaRxbygfgaRxzgfygaRzbfgxgxxffgQxxfaxgggyP",
+    "xxxagggafygPxxgffxQzfyzbgggyfxgPxzfafgpyfxPyfffyQyxbgpxbxgzxggfqxyfpyxbygbxgggqyyffq",
+    "ayzggzQzygxgxygQxybgyyggxgqxzfaagggyzgfxgQyxybfggqxygffyfQbfyPybfpzyfpxxgbgxygxxgggyQyzfp",
+    "xzfabgbggpxyfgfyQyffxPyfygxPyagfzgzQzafpyygzPaxgyxggzPbffzfbxgggyPzaxgbyggygpxyfyfzygggp",
+    "xxxaggqyfafpyxgygyQyxygfbgqyyfqxxzgqyyfqzffxxgffpyxfgyQxyfxgxygfgqyffyQyabgpbxygfgyQ",
+    "zffyzzgggbffxzggQyfzgygyQxyxgzfgfqxfyPazxfggxQxygyQzbgbbfgxgPxfyPbygyxggyxgxggyQyfyQ",
+    "yxxygfgqyyzggxzgxggyQxyxgbbggxgqyxygzggxQxxbgfqxbffpybgffyQyazgpxzxxggfqxygyQyxzgyfgyfgq",
+    "xfyPyxygqyzagpyzgxyyggxfgqxyfpxbagyxgggyzgfbygxxgggQzyygpxxfgyPxzgygfyygxxggfqxxzgbaggfq",
+    "yyafzfggqzyffagpayfgyQxzagxgfqbfxyggygxfxzggxgPzbygzygggxPyxfpyxgyxxggxagyggqxfxgfzP",
+    "xxxyggygqzfyfzygggxPyxygyxggbgqyffzgxPybaffgpybyagfgqxygbbgpxfxxggxfgyPzzgbyfggxP",
+    "xaffyfxxgggqabaggygzPaagxPyffybggyQyfyQbxyggfxQzyzgqxxgxgfxQxfxQyffaxgfgxQyfygyzygggxP",
+    "xzygpzyzggfyQaxgxgzPxbffpxaxgfgzPyfbfpxfafgzyggxxyggQyzyxggqybzgbagggxPbxzggfxfQbfygxP",
+    "xaygyzggfpxxygyygggzPxybgzfgfpxxxgqxzgbgzQyabgpyxagyfgyzfggqxffxQyxfyxggxfgqxxfqxyfp",
+    "axgxxggfxfQyyxfgxgqxfyxbgggyQxxxgfygqyaygxygggxQxzxgqyfyfpxfxfzxggfqaxgygfzPbbgyfgxgzP",
+    "zyxgfyfyfggpxxxgxyggfqxzfbfgygpybgzgyQyxffagpzfagxPzxgxQbxgyxggxygfgyQxxgxQaygzPyagagxP",
+    "xfyxggfxQxzgffxQxxgbbggxfxfggyPxzbggbzyggxgQxaxfgbyggqbfbgzzgfgxPyfzxggfyQyxafgpyygygfyQ",
+    "yyagqxyxffgqaxgfzPaygaxgpxxgxbgPzbxyxgggpafxgxxgyxgggxQ",
+];
+
+#[test]
+fn a_table_of_small_pairs(rt: HostRuntime) -> Result<(), Fail> {
+    let alloc = rt.alloc();
+    let mut stack = Vec::new(alloc);
+    let mut rows = 0;
+    for line in TABLE {
+        for byte in line.bytes() {
+            if is_answer(byte) {
+                assert!(rt; row(alloc, &mut stack)? == Some(wanted(byte)));
+                rows += 1;
+            } else {
+                step(alloc, &mut stack, byte)?;
+            }
+        }
+    }
+    assert_eq!(rt; rows, 300);
+    Ok(())
+}
+
+/// Whether two terms unify, whether they do apart, and whether the first one matches the second.
+type Row = (bool, bool, bool);
+
+fn is_answer(byte: u8) -> bool {
+    matches!(byte, b'p' | b'q' | b'r' | b'P' | b'Q' | b'R')
+}
+
+fn wanted(byte: u8) -> Row {
+    match byte {
+        b'p' => (true, true, true),
+        b'q' => (false, true, true),
+        b'P' => (true, true, false),
+        b'Q' => (false, true, false),
+        _ => (false, false, false),
+    }
+}
+
+/// Takes the pair from the stack.
+fn row(alloc: Global, stack: &mut Vec<Term>) -> Mem<Option<Row>> {
+    let Some(right) = stack.pop() else {
+        return Ok(None);
+    };
+    let Some(left) = stack.pop() else {
+        return Ok(None);
+    };
+    let together = unify(alloc, &left, &right, false)?.is_some();
+    let apart = unify(alloc, &left, &right, true)?.is_some();
+    let empty = Matched::empty(alloc);
+    let matched = match_onto(alloc, &left, &right, &empty)?.is_some();
+    Ok(Some((together, apart, matched)))
+}
+
+fn step(alloc: Global, stack: &mut Vec<Term>, byte: u8) -> Mem<()> {
+    match byte {
+        b'x' => Ok(stack.push(Term::Var(0))?),
+        b'y' => Ok(stack.push(Term::Var(1))?),
+        b'z' => Ok(stack.push(Term::Var(2))?),
+        b'a' => Ok(stack.push(constant(alloc, A))?),
+        b'b' => Ok(stack.push(constant(alloc, B))?),
+        b'f' => push_unary(alloc, stack),
+        _ => push_binary(alloc, stack),
+    }
+}
+
+fn push_unary(alloc: Global, stack: &mut Vec<Term>) -> Mem<()> {
+    if let Some(argument) = stack.pop() {
+        stack.push(unary(alloc, F, argument)?)?;
+    }
+    Ok(())
+}
+
+fn push_binary(alloc: Global, stack: &mut Vec<Term>) -> Mem<()> {
+    if let Some(second) = stack.pop() {
+        if let Some(first) = stack.pop() {
+            stack.push(binary(alloc, G, first, second)?)?;
+        }
+    }
+    Ok(())
+}

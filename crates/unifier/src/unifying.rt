@@ -1,0 +1,30 @@
+// Unifying: the most general instance that two terms have in common.
+
+ghost use Rattle.std.specs.Prelude.{IfOk};
+ghost use Rattle.fol_base.specs.Term.{tree_of};
+ghost use Rattle.unifier.specs.Bindings.{IsUnified};
+
+use crate::bindings::Bindings;
+use crate::clash::clash;
+use crate::layout::Layout;
+use crate::solving::solve;
+use fol_base::{Mem, Side, Term};
+use std::alloc::Global;
+
+/// A most general unifier (Robinson 1965). None exactly where no unifier exists. With `apart` the
+/// variables of the two sides are different ones, whatever their numbers.
+///
+/// Terms with different symbols at one place are told first. Else both are laid out as cells; classes of cells that must be equal are closed under their parts
+/// (as in unification closure, Huet 1976); the classes are then put into an order in which parts come
+/// first, which fails exactly where a variable would have to contain itself.
+pub fn unify(alloc: Global, left: &Term, right: &Term, apart: bool) -> Mem<Option<Bindings>>
+    ensures { IfOk result (IsUnified apart (tree_of left.now) (tree_of right.now)) }
+{
+    if clash(left, right) {
+        return Ok(None);
+    }
+    let mut layout = Layout::new(alloc)?;
+    let first = layout.lay_term(apart, Side::Left, left)?;
+    let second = layout.lay_term(apart, Side::Right, right)?;
+    solve(alloc, &layout, apart, first, second)
+}
