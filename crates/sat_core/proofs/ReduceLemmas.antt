@@ -14,8 +14,8 @@ use Rattle.sat_core.specs.declared.analysis.Analysis.{Analysis}
 use Rattle.sat_core.specs.Clause.{PropClause, same_literal, has_literal, opposite}
 use Rattle.sat_core.specs.Resolution.{can_resolve, resolvent, links_clause}
 use Rattle.sat_core.specs.Trail.{IsTrail, entry_at, slot_at, place_of, is_false}
-use Rattle.sat_core.specs.State.{IsSound, IsImplied, AreFalse, AreMarks, AreCovered, SameLiterals, clause_at, has_name}
-use Rattle.sat_core.specs.Conflict.{IsResolving, IsReduced, TurnsAt, IsTurnOf, IsTurn, IsAnalysis, is_covered, is_left}
+use Rattle.sat_core.specs.State.{IsSound, IsImplied, AreFalse, AreMarks, AreCovered, clause_at, has_name}
+use Rattle.sat_core.specs.Conflict.{IsResolving, IsReduced, IsTurnOf, IsTurn, IsAnalysis, is_covered, is_left}
 use Rattle.sat_core.proofs.LiteralLemmas.{same_literal-refl, same_literal-true, opposite-opposite, has_literal-resolvent}
 use Rattle.sat_core.proofs.MarkLemmas.{has_name_of, literal_of_name, left_of_marks}
 use Rattle.sat_core.proofs.LogLemmas.{link_clause_at}

@@ -1,7 +1,6 @@
 use Rattle.std.proofs.Common.{subst, sym, ◌∙◌, arith}
 use Rattle.sat_core.specs.Clause.{PropClause}
 use Rattle.sat_core.specs.Conflict.{IsTurnOf}
-use Rattle.sat_core.proofs.MarkLemmas.{left_of_marks}
 use Rattle.sat_core.proofs.ResolveLemmas.{analysis_of_none}
 use Rattle.sat_core.proofs.ReduceLemmas.{last_marked, analysis_of_turn}
 use Rattle.sat_core.proofs.analysis.analyse.Goals as goal
