@@ -1,8 +1,8 @@
 -- Steps of the analysis of a conflict.
 use Rattle.std.proofs.Common.{◌≡◌, ℕ, zero, suc, ◌+◌, ◌<◌, ◌≤◌, Bool, true, false, not, ◌&&◌, ◌||◌, List, [], ◌∷◌, length, get_or, take, Option, refl, ap, sym, ◌∙◌, arith, ⊎_elim}
 use mathlib.Core.Bool.{beq}
-use Rattle.std.specs.Prelude.{IsTrue, nat_le}
-use Rattle.std.proofs.lemmas.Bool.{or_cases, or_left, or_right, and_parts, le-leb, lt-leb}
+use Rattle.std.specs.Prelude.{IsTrue}
+use Rattle.std.proofs.lemmas.Bool.{or_cases, or_left, or_right, and_parts}
 use Rattle.std.proofs.lemmas.List.{get_or_default}
 use Rattle.std.proofs.lemmas.List.Folds.{list_any_at, list_any_more}
 use Rattle.plain_types.specs.declared.sequence.NameLit.{NameLit}
@@ -138,18 +138,18 @@ highest_more slots xs i bound highest new x h e before le at k there low =
     let p = at (omega (arith, q, low)) in omega (arith, p, q))
     (or_cases (has_literal k (take i xs)) (same_literal k x) (sym (has_literal_more xs i x k h e) ∙ there))
 
-abbrev pub Keeps : List Slot → ℕ → PropClause → PropClause → Type 0
-Keeps slots bound front kept = (l : NameLit) → has_literal l kept ≡ (has_literal l front && nat_le (place_of slots l) bound)
+-- the literals of the front that pass a test are kept
+abbrev pub Keeps : (NameLit → Bool) → PropClause → PropClause → Type 0
+Keeps test front kept = (l : NameLit) → has_literal l kept ≡ (has_literal l front && test l)
 
 pub keeps_one :
-    (slots : List Slot) (xs kept kept' : PropClause) (i bound : ℕ) (x : NameLit)
-    → i < length xs → x ≡ get_or xs i x → place_of slots x ≤ bound
-    → Keeps slots bound (take i xs) kept → SameLiterals kept' (x ∷ kept) → Keeps slots bound (take (i + 1) xs) kept'
-keeps_one slots xs kept kept' i bound x h e low keeps one k =
+    (test : NameLit → Bool) (xs kept kept' : PropClause) (i : ℕ) (x : NameLit)
+    → i < length xs → x ≡ get_or xs i x → test x ≡ true
+    → Keeps test (take i xs) kept → SameLiterals kept' (x ∷ kept) → Keeps test (take (i + 1) xs) kept'
+keeps_one test xs kept kept' i x h e passes keeps one k =
     one k ∙ ap (λ (b : Bool). same_literal k x || b) (keeps k)
-    ∙ joined (same_literal k x) (has_literal k (take i xs)) (nat_le (place_of slots k) bound)
-    (λ s. ap (λ (y : NameLit). nat_le (place_of slots y) bound) (same_literal-true k x s) ∙ le-leb (place_of slots x) bound low)
-    ∙ ap (λ (b : Bool). b && nat_le (place_of slots k) bound) (sym (has_literal_more xs i x k h e))
+    ∙ joined (same_literal k x) (has_literal k (take i xs)) (test k) (λ s. ap test (same_literal-true k x s) ∙ passes)
+    ∙ ap (λ (b : Bool). b && test k) (sym (has_literal_more xs i x k h e))
   where
     joined : (s b o : Bool) → (s ≡ true → o ≡ true) → (s || (b && o)) ≡ ((b || s) && o)
     joined true true true f = refl
@@ -162,14 +162,13 @@ keeps_one slots xs kept kept' i bound x h e low keeps one k =
     joined false false o f = refl
 
 pub keeps_no :
-    (slots : List Slot) (xs kept : PropClause) (i bound : ℕ) (x : NameLit)
-    → i < length xs → x ≡ get_or xs i x → bound < place_of slots x
-    → Keeps slots bound (take i xs) kept → Keeps slots bound (take (i + 1) xs) kept
-keeps_no slots xs kept i bound x h e high keeps k =
+    (test : NameLit → Bool) (xs kept : PropClause) (i : ℕ) (x : NameLit)
+    → i < length xs → x ≡ get_or xs i x → test x ≡ false
+    → Keeps test (take i xs) kept → Keeps test (take (i + 1) xs) kept
+keeps_no test xs kept i x h e fails keeps k =
     keeps k
-    ∙ joined (same_literal k x) (has_literal k (take i xs)) (nat_le (place_of slots k) bound)
-    (λ s. ap (λ (y : NameLit). nat_le (place_of slots y) bound) (same_literal-true k x s) ∙ lt-leb (place_of slots x) bound high)
-    ∙ ap (λ (b : Bool). b && nat_le (place_of slots k) bound) (sym (has_literal_more xs i x k h e))
+    ∙ joined (same_literal k x) (has_literal k (take i xs)) (test k) (λ s. ap test (same_literal-true k x s) ∙ fails)
+    ∙ ap (λ (b : Bool). b && test k) (sym (has_literal_more xs i x k h e))
   where
     joined : (s b o : Bool) → (s ≡ true → o ≡ false) → (b && o) ≡ ((b || s) && o)
     joined true true o f = refl

@@ -5,6 +5,7 @@ pub mod MarkLemmas
 pub mod LogLemmas
 pub mod AnalysisLemmas
 pub mod ResolveLemmas
+pub mod ReduceLemmas
 pub mod MeasureLemmas
 pub mod SoundLemmas
 pub mod PropagationLemmas

@@ -6,7 +6,7 @@ use Rattle.std.proofs.lemmas.List.{get_or-set_same, get_or-set_other, get_or_pas
 use Rattle.std.proofs.lemmas.List.Folds.{list_any-append}
 use Rattle.plain_types.specs.declared.sequence.NameLit.{NameLit}
 use Rattle.sat_core.specs.Clause.{PropClause, same_literal, has_literal}
-use Rattle.sat_core.specs.State.{AreMarks, SameLiterals, has_name}
+use Rattle.sat_core.specs.State.{AreMarks, AreCovered, SameLiterals, has_name}
 use Rattle.sat_core.proofs.LiteralLemmas.{same_literal-true, has_literal-append, has_literal_here}
 
 pub same_tests : (a b : Bool) → (a ≡ true → b ≡ true) → (b ≡ true → a ≡ true) → a ≡ b
@@ -39,11 +39,7 @@ literal_of_name v (k ∷ c) h =
 
 -- ---- marks are taken away one by one
 
-pub record AreLeft (marked : List Bool) (literals : PropClause) : Type 0 where
-  pub covered : (v : ℕ) → IsTrue (get_or marked v false) → IsTrue (has_name v literals)
-  pub within : (l : NameLit) → IsTrue (has_literal l literals) → l.name < length marked
-
-pub left_of_marks : (marked : List Bool) (literals : PropClause) → AreMarks marked literals → AreLeft marked literals
+pub left_of_marks : (marked : List Bool) (literals : PropClause) → AreMarks marked literals → AreCovered marked literals
 left_of_marks marked literals marks = record {
   covered = λ v h. sym (marks v) ∙ h;
   within = λ l h.
@@ -55,13 +51,13 @@ left_of_marks marked literals marks = record {
     wrong : (b : Bool) → b ≡ true → b ≡ false → ⊥
     wrong b e f = cc
 
-pub last_within : (marked : List Bool) (literals rest : PropClause) (l : NameLit) → AreLeft marked literals → literals ≡ rest ++ l ∷ [] → l.name < length marked
+pub last_within : (marked : List Bool) (literals rest : PropClause) (l : NameLit) → AreCovered marked literals → literals ≡ rest ++ l ∷ [] → l.name < length marked
 last_within marked literals rest l left split =
     left.within l (ap (has_literal l) split ∙ has_literal-append l rest (l ∷ []) ∙ or_right (has_literal l rest) (has_literal l (l ∷ [])) (has_literal_here l []))
 
 pub left_after :
     (marked : List Bool) (literals rest : PropClause) (l : NameLit)
-    → AreLeft marked literals → literals ≡ rest ++ l ∷ [] → AreLeft (set marked l.name false) rest
+    → AreCovered marked literals → literals ≡ rest ++ l ∷ [] → AreCovered (set marked l.name false) rest
 left_after marked literals rest l left split = record {
   covered = λ v h. covers v h (cases_eq v l.name);
   within = λ k h.
@@ -88,7 +84,7 @@ left_after marked literals rest l left split = record {
         (or_cases (l.name == v) false x))
         (or_cases (has_name v rest) (has_name v (l ∷ [])) (sym (has_name-append v rest (l ∷ [])) ∙ ap (has_name v) (sym split) ∙ was))
 
-pub no_marks : (marked : List Bool) (literals : PropClause) → AreLeft marked literals → literals ≡ [] → AreMarks marked literals
+pub no_marks : (marked : List Bool) (literals : PropClause) → AreCovered marked literals → literals ≡ [] → AreMarks marked literals
 no_marks marked literals left none v =
     false_from_ne_true (get_or marked v false)
     (λ h. wrong (has_name v literals) (left.covered v h) (ap (has_name v) none))

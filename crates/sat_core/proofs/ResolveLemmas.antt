@@ -372,59 +372,7 @@ nothing_left clauses slots start bound links marked literals none r l =
     no_place true b f = f refl
     no_place false b f = refl
 
--- a decision is turned
-pub turned :
-    (clauses : List PropClause) (entries : List Assigned) (slots : List Slot) (start bound : ℕ) (links : List Link) (marked : List Bool) (literals clause : PropClause) (turn : Turn)
-    → IsTrail entries slots → 0 < bound → bound ≤ length entries
-    → IsResolving clauses slots start links marked literals bound → IsTurnOf entries slots literals bound turn
-    → ((l : NameLit) → has_literal l clause ≡ (has_literal l literals && nat_le (place_of slots l) bound))
-    → IsTurn entries slots clause turn
-turned clauses entries slots start bound links marked literals clause turn t some within r of kept = record {
-  member = kept turn.literal ∙ and_from (has_literal turn.literal literals) (nat_le (place_of slots turn.literal) bound) of.marked (le-leb _ _ (omega (arith, top)));
-  within = omega (arith, of.turns.within, within);
-  decision = of.turns.decision;
-  later = omega (arith, top, of.turns.within);
-  others = λ k h o.
-      let parts = and_parts (has_literal k literals) (nat_le (place_of slots k) bound) (sym (kept k) ∙ h) in
-      let wrong = r.false_literals k parts.0 in
-      let low = leb-true (place_of slots k) bound parts.1 in
-      let below : place_of slots k < bound =
-      ⊎_elim (λ (x : place_of slots k < bound). x)
-      (λ (x : bound ≤ place_of slots k).
-      let same : k ≡ turn.literal =
-      false_literal_at entries slots (bound - 1) k t (omega (arith, some, within)) wrong (omega (arith, low, x, some)) ∙ sym of.turns.literal in
-      absurd (differ (same_literal turn.literal k) (ap (same_literal turn.literal) same ∙ same_literal-refl turn.literal) o))
-      (cases_lt (place_of slots k) bound) in
-      let under = of.turns.below k parts.0 below in
-      and_from (is_false slots k) (nat_le (place_of slots k) turn.cut) wrong (le-leb (place_of slots k) turn.cut under);
-}
-  where
-    differ : (b : Bool) → b ≡ true → b ≡ false → ⊥
-    differ b e f = cc
-
-    top : place_of slots turn.literal ≡ bound
-    top =
-        let p = place_at_entry entries slots (bound - 1) t (omega (arith, some, within)) in
-        let q = ap (place_of slots) of.turns.literal in
-        omega (arith, p, q, some)
-
 -- ---- the analysis as a whole
-
-pub analysis_of_turn :
-    (clauses : List PropClause) (entries : List Assigned) (slots : List Slot) (start bound : ℕ) (links : List Link) (marked : List Bool) (literals clause : PropClause) (turn : Turn) (analysis : Analysis)
-    → IsTrail entries slots → 0 < bound → bound ≤ length entries
-    → IsResolving clauses slots start links marked literals bound → IsTurnOf entries slots literals bound turn
-    → ((l : NameLit) → has_literal l clause ≡ (has_literal l literals && nat_le (place_of slots l) bound))
-    → analysis.chain.start ≡ start → analysis.chain.links ≡ links → analysis.clause ≡ clause → analysis.turn ≡ Some turn
-    → IsAnalysis clauses entries slots start analysis
-analysis_of_turn clauses entries slots start bound links marked literals clause turn analysis t some within r of kept starts chain same turns = record {
-  made = r.reached.clause;
-  starts = starts;
-  lawful = ap (links_clause clauses (clause_at clauses start)) chain ∙ r.reached.lawful;
-  same = λ l. ap (has_literal l) same ∙ kept l ∙ sym (r.reached.left l);
-  turn = subst (λ (o : Option Turn). MatchOption o (analysis.clause ≡ []) (IsTurn entries slots analysis.clause)) (sym turns)
-      (subst (λ (c : PropClause). IsTurn entries slots c turn) (sym same) (turned clauses entries slots start bound links marked literals clause turn t some within r of kept));
-}
 
 pub analysis_of_none :
     (clauses : List PropClause) (entries : List Assigned) (slots : List Slot) (start bound : ℕ) (links : List Link) (marked : List Bool) (literals : PropClause) (analysis : Analysis)

@@ -1,5 +1,5 @@
 -- What the analysis of a conflict keeps, and what it ends in.
-use Rattle.std.specs.Prelude.{◌≡◌, ℕ, ◌-◌, ◌<◌, ◌≤◌, Bool, true, not, ◌&&◌, ◌||◌, nat_le, List, [], Option, None, Some, length, IsTrue, IsFalse, MatchOption}
+use Rattle.std.specs.Prelude.{◌≡◌, ℕ, ◌-◌, ◌<◌, ◌≤◌, Bool, true, false, not, ◌&&◌, ◌||◌, nat_le, List, [], Option, None, Some, length, slice_index_or, IsTrue, IsFalse, MatchOption}
 use Rattle.plain_types.specs.declared.sequence.NameLit.{NameLit}
 use Rattle.sat_core.specs.declared.answer.Link.{Link}
 use Rattle.sat_core.specs.declared.trail.Assigned.{Assigned}
@@ -9,7 +9,7 @@ use Rattle.sat_core.specs.declared.analysis.Analysis.{Analysis}
 use Rattle.sat_core.specs.Clause.{PropClause, same_literal, has_literal, opposite}
 use Rattle.sat_core.specs.Resolution.{links_clause}
 use Rattle.sat_core.specs.Trail.{entry_at, place_of, is_false, is_false_within}
-use Rattle.sat_core.specs.State.{clause_at, SameLiterals, AreFalse, AreMarks}
+use Rattle.sat_core.specs.State.{clause_at, SameLiterals, AreFalse, AreMarks, AreCovered}
 
 -- not the literal that a clause implies
 abbrev pub is_other : Option NameLit → NameLit → Bool
@@ -40,6 +40,29 @@ pub record IsResolving (clauses : List PropClause) (slots : List Slot) (start : 
   pub names : length marked ≡ length slots
   pub false_literals : AreFalse slots literals
   pub reached : IsReached clauses slots start links literals bound
+
+-- ---- the clause made smaller
+
+-- the literal of a clause is marked, or the one that the clause implies
+abbrev pub is_covered : List Bool → NameLit → NameLit → Bool
+is_covered marked implied l = same_literal implied l || slice_index_or marked l.name false
+
+-- still marked, and within a bound
+abbrev pub is_left : List Slot → List Bool → ℕ → NameLit → Bool
+is_left slots marked bound l = slice_index_or marked l.name false && nat_le (place_of slots l) bound
+
+-- The clause that links make of a clause, from whose literals within a bound some were resolved away and lost their
+-- marks; the literal at the bound has its mark.
+pub record IsReduced (clauses : List PropClause) (entries : List Assigned) (slots : List Slot) (start : ℕ) (links : List Link) (marked : List Bool) (literals : PropClause) (bound : ℕ) : Type 0 where
+  pub marks : AreCovered marked literals
+  pub names : length marked ≡ length slots
+  pub false_literals : AreFalse slots literals
+  pub last : IsTrue (slice_index_or marked (entry_at entries (bound - 1)).literal.name false)
+  pub clause : PropClause
+  pub lawful : links_clause clauses (clause_at clauses start) links ≡ Some clause
+  pub left : (l : NameLit) → has_literal l clause ≡ (has_literal l literals && is_left slots marked bound l)
+
+-- ---- the decision that is turned
 
 -- the decision that the entry below a bound turns: the literals below the bound are below the decision
 pub record TurnsAt (entries : List Assigned) (slots : List Slot) (literals : PropClause) (entry : Assigned) (bound : ℕ) (turn : Turn) : Type 0 where

@@ -5,13 +5,13 @@ use Rattle.sat_core.specs.declared.solver.Solver.{Solver}
 use Rattle.sat_core.specs.declared.solver.Step.{Step}
 use Rattle.sat_core.specs.declared.solver.Step.TheVariants.{Going, Satisfied, Refuted}
 use Rattle.sat_core.specs.Clause.{PropClause, clauses_true, valuation_of}
-use Rattle.sat_core.specs.State.{AreDerived, AreMarks, IsSound, Derives}
+use Rattle.sat_core.specs.State.{AreDerived, AreCovered, IsSound, Derives}
 use Rattle.sat_core.specs.Search.{remaining, values_of}
 
 pub record IsState (s : Solver) : Type 0 where
   pub derived : AreDerived s.clauses.inputs s.clauses.all.items s.clauses.log.items
   pub sound : IsSound s.clauses.all.items s.trail.entries.items s.trail.slots.items
-  pub marks : AreMarks s.marks.marked.items s.marks.literals.items
+  pub marks : AreCovered s.marks.marked.items s.marks.literals.items
   pub marked_names : length s.marks.marked.items ≡ length s.trail.slots.items
   pub lists : length s.watches.lists.items ≡ 2 * length s.trail.slots.items
 

@@ -70,6 +70,11 @@ AreFalse slots c = (l : NameLit) → IsTrue (has_literal l c) → IsTrue (is_fal
 abbrev pub has_name : ℕ → PropClause → Bool
 has_name v c = list_any (λ (l : NameLit). l.name == v) c
 
+-- each marked name is that of a literal
+pub record AreCovered (marked : List Bool) (literals : PropClause) : Type 0 where
+  pub covered : (v : ℕ) → IsTrue (slice_index_or marked v false) → IsTrue (has_name v literals)
+  pub within : (l : NameLit) → IsTrue (has_literal l literals) → l.name < length marked
+
 -- the marked names are those of the literals
 abbrev pub AreMarks : List Bool → PropClause → Type 0
 AreMarks marked literals = (v : ℕ) → slice_index_or marked v false ≡ has_name v literals

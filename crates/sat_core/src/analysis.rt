@@ -1,17 +1,18 @@
 // The analysis of a conflict: from a false clause, the trail is walked backwards and each marked literal is
 // resolved away with the reason of its opposite, until one decision can be turned by what is left.
 
-ghost use Rattle.std.specs.Prelude.{◌≡◌, ℕ, ◌-◌, ◌<◌, ◌≤◌, ◌&&◌, nat_le, length, None, IfOk, IfSome, IfNone, IsSome, IsTrue};
+ghost use Rattle.std.specs.Prelude.{◌≡◌, ℕ, ◌-◌, ◌<◌, ◌≤◌, length, None, IfOk, IfSome, IfNone, IsSome, IsTrue};
 ghost use Rattle.plain_types.specs.declared.sequence.NameLit.{NameLit as Literal};
 ghost use Rattle.sat_core.specs.Clause.{has_literal};
 ghost use Rattle.sat_core.specs.Trail.{IsTrail, entry_at, place_of};
-ghost use Rattle.sat_core.specs.State.{IsSound, AreMarks, AreFalse, clause_at};
+ghost use Rattle.sat_core.specs.State.{IsSound, AreMarks, AreCovered, AreFalse, clause_at};
 ghost use Rattle.sat_core.specs.Conflict.{AddsOthers, OthersAreFalse, AreWithin, IsAnalysis, IsResolving, TurnsAt, IsTurnOf};
 
 use crate::answer::{Chain, Link, Links};
 use crate::clauses::Clauses;
 use crate::literals::{is_other, opposite};
 use crate::marks::Marks;
+use crate::minimise::marked_within;
 use crate::trail::{Assigned, Trail};
 use plain_types::{Mem, NameLit, Names};
 use std::alloc::Global;
@@ -115,21 +116,6 @@ fn last_decision(trail: &Trail, bound: usize) -> usize
     usize::MAX
 }
 
-/// The literals whose places are within a bound.
-fn literals_within(alloc: Global, trail: &Trail, literals: &[NameLit], bound: usize) -> Mem<Names>
-    requires { AreWithin (length trail.now.slots.items) literals.now }
-    ensures { IfOk result (λ kept. (l : Literal) → has_literal l kept
-        ≡ (has_literal l literals.now && nat_le (place_of trail.now.slots.items l) bound)) }
-{
-    let mut kept = Vec::new(alloc);
-    for literal in literals {
-        if trail.place(*literal) <= bound {
-            kept.push(*literal)?;
-        }
-    }
-    Ok(Names::from_vec(kept))
-}
-
 impl Conflict {
     /// The false clause, with its literals marked.
     fn of(
@@ -140,7 +126,7 @@ impl Conflict {
         start: usize,
     ) -> Mem<Conflict>
         requires sound { IsSound clauses.now.all.items trail.now.entries.items trail.now.slots.items }
-        requires marks { AreMarks marks.old.marked.items marks.old.literals.items }
+        requires marks { AreCovered marks.old.marked.items marks.old.literals.items }
         requires names { length marks.old.marked.items ≡ length trail.now.slots.items }
         requires start { start < length clauses.now.all.items }
         requires false_clause { AreFalse trail.now.slots.items (clause_at clauses.now.all.items start) }
@@ -256,7 +242,8 @@ impl Conflict {
     }
 }
 
-/// Resolves a false clause backwards along the trail, until a decision can be turned or nothing is left.
+/// Resolves a false clause backwards along the trail, until a decision can be turned or nothing is left, and
+/// makes the clause that turns a decision smaller.
 pub fn analyse(
     alloc: Global,
     clauses: &Clauses,
@@ -265,11 +252,11 @@ pub fn analyse(
     start: usize,
 ) -> Mem<Analysis>
     requires sound { IsSound clauses.now.all.items trail.now.entries.items trail.now.slots.items }
-    requires marks { AreMarks marks.old.marked.items marks.old.literals.items }
+    requires marks { AreCovered marks.old.marked.items marks.old.literals.items }
     requires names { length marks.old.marked.items ≡ length trail.now.slots.items }
     requires start { start < length clauses.now.all.items }
     requires false_clause { AreFalse trail.now.slots.items (clause_at clauses.now.all.items start) }
-    ensures marks { IfOk result (λ _. AreMarks marks.new.marked.items marks.new.literals.items) }
+    ensures marks { IfOk result (λ _. AreCovered marks.new.marked.items marks.new.literals.items) }
     ensures names { IfOk result (λ _. length marks.new.marked.items ≡ length marks.old.marked.items) }
     ensures analysis { IfOk result (IsAnalysis clauses.now.all.items trail.now.entries.items trail.now.slots.items start) }
 {
@@ -277,7 +264,8 @@ pub fn analyse(
     let mut bound = trail.entries.len();
     while bound > 0 {
         if let Some(turn) = conflict.step_back(marks, clauses, trail, bound)? {
-            let clause = literals_within(alloc, trail, marks.literals.as_slice(), bound)?;
+            conflict.minimise(alloc, marks, clauses, trail, bound)?;
+            let clause = marked_within(alloc, trail, marks, bound)?;
             return Ok(conflict.into_analysis(clause, Some(turn)));
         }
         bound -= 1;

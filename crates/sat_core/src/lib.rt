@@ -6,6 +6,7 @@ mod answer;
 mod clauses;
 mod literals;
 mod marks;
+mod minimise;
 mod order;
 mod solver;
 mod trail;

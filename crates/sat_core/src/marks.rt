@@ -1,10 +1,13 @@
 // The literals that a conflict has met so far.
 
-ghost use Rattle.std.specs.Prelude.{◌≡◌, ℕ, ◌<◌, [], ◌∷◌, ◌++◌, length, replicate, false, IfOk, IsTrue};
+ghost use Rattle.std.specs.Prelude.{◌≡◌, ℕ, ◌<◌, [], ◌∷◌, ◌++◌, length, replicate, false, slice_index_or, slice_set, IfOk, IsTrue};
+ghost use Rattle.std.specs.List.{list_all};
 ghost use Rattle.plain_types.specs.declared.sequence.NameLit.{NameLit as Literal};
 ghost use Rattle.sat_core.specs.Clause.{has_literal};
-ghost use Rattle.sat_core.specs.State.{AreMarks, SameLiterals};
+ghost use Rattle.sat_core.specs.State.{AreMarks, AreCovered, SameLiterals};
+ghost use Rattle.sat_core.specs.Conflict.{AreWithin, is_covered};
 
+use crate::literals::same_literal;
 use plain_types::{Mem, NameLit};
 use std::alloc::Global;
 
@@ -29,7 +32,7 @@ impl Marks {
 
     /// Takes all marks away.
     pub fn clear(&mut self)
-        requires { AreMarks self.old.marked.items self.old.literals.items }
+        requires { AreCovered self.old.marked.items self.old.literals.items }
         ensures marks { AreMarks self.new.marked.items self.new.literals.items }
         ensures empty { self.new.literals.items ≡ [] }
         ensures names { length self.new.marked.items ≡ length self.old.marked.items }
@@ -53,5 +56,42 @@ impl Marks {
             self.marked[literal.name as usize] = true;
         }
         Ok(())
+    }
+
+    /// Whether the literal's name is marked.
+    pub fn is_marked(&self, literal: NameLit) -> bool
+        requires { literal.name < length self.now.marked.items }
+        ensures { result ≡ slice_index_or self.now.marked.items literal.name false }
+    {
+        self.marked[literal.name as usize]
+    }
+
+    /// Takes the mark of a literal's name away, and leaves the list of literals.
+    pub fn unmark(&mut self, literal: NameLit)
+        requires { literal.name < length self.old.marked.items }
+        ensures marked { self.new.marked.items ≡ slice_set self.old.marked.items literal.name false }
+        ensures literals { self.new.literals.items ≡ self.old.literals.items }
+    {
+        self.marked[literal.name as usize] = false;
+    }
+
+    /// Whether the literals of a clause but for the one that it implies are marked.
+    pub fn have_others(&self, literals: &[NameLit], implied: NameLit) -> bool
+        requires { AreWithin (length self.now.marked.items) literals.now }
+        ensures { result ≡ list_all (is_covered self.now.marked.items implied) literals.now }
+    {
+        for literal in literals {
+            if !self.is_covered(implied, *literal) {
+                return false;
+            }
+        }
+        true
+    }
+
+    fn is_covered(&self, implied: NameLit, literal: NameLit) -> bool
+        requires { literal.name < length self.now.marked.items }
+        ensures { result ≡ is_covered self.now.marked.items implied literal }
+    {
+        same_literal(implied, literal) || self.is_marked(literal)
     }
 }

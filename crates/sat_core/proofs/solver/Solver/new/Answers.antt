@@ -3,6 +3,7 @@ use Rattle.std.proofs.lemmas.List.{get_or_read, take_all}
 use Rattle.sat_core.specs.Clause.{PropClause}
 use Rattle.sat_core.specs.State.{clause_at}
 use Rattle.sat_core.specs.Search.{HaveLists}
+use Rattle.sat_core.proofs.MarkLemmas.{left_of_marks}
 use Rattle.sat_core.proofs.SolverLemmas.{lists_of, begun_derived, begun_sound}
 use Rattle.sat_core.proofs.solver.Solver.new.Goals as goal
 
@@ -19,7 +20,7 @@ returns c = record {
   state = record {
     derived = rw (c.in_ok-new.ensures.all, c.in_ok-new.ensures.log, c.in_ok-new.ensures.inputs) (begun_derived c.args.inputs.now);
     sound = rw c.in_ok-new.ensures.all (begun_sound c.args.names _ _ _ c.requires c.in_ok-new-2.ensures);
-    marks = c.in_ok-new-3.ensures.marks;
+    marks = left_of_marks _ _ c.in_ok-new-3.ensures.marks;
     marked_names = c.in_ok-new-3.ensures.names ∙ sym c.in_ok-new-2.ensures.length;
     lists = omega (arith, c.loop-clause.invariant, c.in_ok-new-2.ensures.length);
   };
