@@ -1,10 +1,12 @@
 // Rows worked out by hand, and a table of small pairs against a plain unifier.
 
+ghost use Rattle.term_bank.specs.Bank.{IsOf};
+
 use super::*;
 use fol_base::{Mem, Side, Subst, Term, Terms, same_term};
 use std::alloc::Global;
 use std::test::Fail;
-use term_bank::{Bank, BankLit, Table};
+use term_bank::{Bank, BankLit, TermRef};
 
 const A: u32 = 1;
 
@@ -31,23 +33,6 @@ fn binary(alloc: Global, symbol: u32, first: Term, second: Term) -> Mem<Term> {
     Ok(Term::App(symbol, arguments))
 }
 
-/// The literal of a term and a constant, in a bank.
-fn equation(
-    alloc: Global,
-    bank: &mut Bank,
-    table: &mut Table,
-    left: &Term,
-    right: &Term,
-) -> Mem<BankLit> {
-    let left = bank.intern(alloc, table, left)?;
-    let right = bank.intern(alloc, table, right)?;
-    Ok(BankLit {
-        positive: true,
-        left,
-        right,
-    })
-}
-
 /// Whether two lists of terms are the same.
 fn are(terms: &Subst, wanted: &[Term]) -> bool {
     let terms = terms.as_slice();
@@ -69,13 +54,34 @@ fn variables_apart_are_different_ones(rt: HostRuntime) -> Result<(), Fail> {
     let right = binary(alloc, F, constant(alloc, A), Term::Var(0))?;
     assert!(rt; unify(alloc, &left, &right, false)?.is_none());
     if let Some(found) = unify(alloc, &left, &right, true)? {
-        let (first, second) = found.substs(alloc, 1, 1)?;
-        assert!(rt; are(&first, &[constant(alloc, A)]));
-        assert!(rt; are(&second, &[constant(alloc, B)]));
+        assert!(rt; found.fits(1, 1) && !found.fits(0, 1) && !found.fits(1, 0));
+        if found.fits(1, 1) {
+            let (first, second) = found.substs(alloc, 1, 1)?;
+            assert!(rt; are(&first, &[constant(alloc, A)]));
+            assert!(rt; are(&second, &[constant(alloc, B)]));
+        }
     } else {
         assert!(rt; false);
     }
     Ok(())
+}
+
+/// The size of an equation of a term with itself, after a unifier.
+fn size_of_both(
+    alloc: Global,
+    found: &Bindings,
+    bank: &Bank,
+    side: Side,
+    reference: &TermRef,
+) -> Mem<u64>
+    requires { IsOf bank.now reference.now }
+{
+    let literal = BankLit {
+        positive: true,
+        left: reference.copy(),
+        right: reference.copy(),
+    };
+    found.instance_size(alloc, bank, side, &[literal])
 }
 
 #[test]
@@ -84,11 +90,10 @@ fn the_size_of_an_instance(rt: HostRuntime) -> Result<(), Fail> {
     let left = binary(alloc, F, Term::Var(0), constant(alloc, B))?;
     let right = binary(alloc, F, constant(alloc, A), Term::Var(0))?;
     let (mut bank, mut table) = Bank::new(alloc)?;
-    let literal = equation(alloc, &mut bank, &mut table, &left, &constant(alloc, B))?;
-    let literals = vec![in alloc; literal]?;
+    let reference = bank.intern(alloc, &mut table, &left)?;
     if let Some(found) = unify(alloc, &left, &right, true)? {
-        let size = found.instance_size(alloc, &bank, Side::Left, literals.as_slice())?;
-        assert_eq!(rt; size, 4);
+        assert_eq!(rt; size_of_both(alloc, &found, &bank, Side::Left, &reference)?, 6);
+        assert_eq!(rt; size_of_both(alloc, &found, &bank, Side::Right, &reference)?, 6);
     } else {
         assert!(rt; false);
     }
@@ -102,9 +107,12 @@ fn no_variable_contains_itself(rt: HostRuntime) -> Result<(), Fail> {
     let right = unary(alloc, F, Term::Var(0))?;
     assert!(rt; unify(alloc, &left, &right, false)?.is_none());
     if let Some(found) = unify(alloc, &left, &right, true)? {
-        let (first, second) = found.substs(alloc, 1, 1)?;
-        assert!(rt; are(&first, &[unary(alloc, F, Term::Var(0))?]));
-        assert!(rt; are(&second, &[Term::Var(0)]));
+        assert!(rt; found.fits(1, 1));
+        if found.fits(1, 1) {
+            let (first, second) = found.substs(alloc, 1, 1)?;
+            assert!(rt; are(&first, &[unary(alloc, F, Term::Var(0))?]));
+            assert!(rt; are(&second, &[Term::Var(0)]));
+        }
     } else {
         assert!(rt; false);
     }
@@ -133,11 +141,9 @@ fn shared_bindings_do_not_blow_up(rt: HostRuntime) -> Result<(), Fail> {
     let right = family(alloc, 200, true)?;
     assert!(rt; unify(alloc, &left, &right, true)?.is_some());
     let (mut bank, mut table) = Bank::new(alloc)?;
-    let literal = equation(alloc, &mut bank, &mut table, &Term::Var(0), &Term::Var(1))?;
-    let literals = vec![in alloc; literal]?;
+    let reference = bank.intern(alloc, &mut table, &Term::Var(0))?;
     if let Some(found) = unify(alloc, &left, &right, false)? {
-        let size = found.instance_size(alloc, &bank, Side::Left, literals.as_slice())?;
-        assert_eq!(rt; size, u64::MAX);
+        assert_eq!(rt; size_of_both(alloc, &found, &bank, Side::Left, &reference)?, u64::MAX);
     } else {
         assert!(rt; false);
     }
