@@ -150,23 +150,58 @@ fn shared_bindings_do_not_blow_up(rt: HostRuntime) -> Result<(), Fail> {
     Ok(())
 }
 
+/// The terms for the first variables that turn a pattern into a target.
+fn matched_terms(alloc: Global, pattern: &Term, target: &Term, count: u32) -> Mem<Option<Subst>> {
+    let empty = Matched::empty(alloc);
+    let found = match_onto(alloc, pattern, target, &empty)?;
+    match found {
+        Some(pairs) => {
+            if pairs.fits(count) {
+                Ok(Some(pairs.subst(alloc, count)?))
+            } else {
+                Ok(None)
+            }
+        }
+        None => Ok(None),
+    }
+}
+
+/// Whether a further pattern can be turned into a further target with the same variables.
+fn can_go_on<'a>(
+    alloc: Global,
+    patterns: (&Term, &Term),
+    target: &'a Term,
+    further: &'a Term,
+) -> Mem<bool> {
+    let empty = Matched::empty(alloc);
+    let found = match_onto(alloc, patterns.0, target, &empty)?;
+    match found {
+        Some(pairs) => {
+            let more = match_onto(alloc, patterns.1, further, &pairs)?;
+            Ok(more.is_some())
+        }
+        None => Ok(false),
+    }
+}
+
 #[test]
 fn a_pattern_is_matched(rt: HostRuntime) -> Result<(), Fail> {
     let alloc = rt.alloc();
     let pattern = binary(alloc, F, Term::Var(0), Term::Var(0))?;
     let differs = binary(alloc, F, constant(alloc, A), constant(alloc, B))?;
-    let fits = binary(alloc, F, constant(alloc, A), constant(alloc, A))?;
-    let empty = Matched::empty(alloc);
-    assert!(rt; match_onto(alloc, &pattern, &differs, &empty)?.is_none());
-    if let Some(found) = match_onto(alloc, &pattern, &fits, &empty)? {
-        assert!(rt; are(&found.subst(alloc, 1)?, &[constant(alloc, A)]));
-        assert!(rt; are(&found.subst(alloc, 2)?, &[constant(alloc, A), Term::Var(1)]));
-        let b = constant(alloc, B);
-        assert!(rt; match_onto(alloc, &Term::Var(0), &b, &found)?.is_none());
-        assert!(rt; match_onto(alloc, &Term::Var(1), &b, &found)?.is_some());
+    let same = binary(alloc, F, constant(alloc, A), constant(alloc, A))?;
+    let b = constant(alloc, B);
+    let known = Term::Var(0);
+    let further = Term::Var(1);
+    assert!(rt; matched_terms(alloc, &pattern, &differs, 1)?.is_none());
+    assert!(rt; matched_terms(alloc, &pattern, &same, 0)?.is_none());
+    if let Some(terms) = matched_terms(alloc, &pattern, &same, 1)? {
+        assert!(rt; are(&terms, &[constant(alloc, A)]));
     } else {
         assert!(rt; false);
     }
+    assert!(rt; !can_go_on(alloc, (&pattern, &known), &same, &b)?);
+    assert!(rt; can_go_on(alloc, (&pattern, &further), &same, &b)?);
     Ok(())
 }
 
@@ -245,17 +280,21 @@ fn wanted(byte: u8) -> Row {
 
 /// Takes the pair from the stack.
 fn row(alloc: Global, stack: &mut Vec<Term>) -> Mem<Option<Row>> {
-    let Some(right) = stack.pop() else {
-        return Ok(None);
-    };
-    let Some(left) = stack.pop() else {
-        return Ok(None);
-    };
-    let together = unify(alloc, &left, &right, false)?.is_some();
-    let apart = unify(alloc, &left, &right, true)?.is_some();
+    match stack.pop() {
+        Some(right) => match stack.pop() {
+            Some(left) => Ok(Some(row_of(alloc, &left, &right)?)),
+            None => Ok(None),
+        },
+        None => Ok(None),
+    }
+}
+
+fn row_of(alloc: Global, left: &Term, right: &Term) -> Mem<Row> {
+    let together = unify(alloc, left, right, false)?;
+    let apart = unify(alloc, left, right, true)?;
     let empty = Matched::empty(alloc);
-    let matched = match_onto(alloc, &left, &right, &empty)?.is_some();
-    Ok(Some((together, apart, matched)))
+    let matched = match_onto(alloc, left, right, &empty)?;
+    Ok((together.is_some(), apart.is_some(), matched.is_some()))
 }
 
 fn step(alloc: Global, stack: &mut Vec<Term>, byte: u8) -> Mem<()> {
