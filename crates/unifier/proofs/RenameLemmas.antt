@@ -504,7 +504,7 @@ within-left true l r v h =
       arith,
       half,
       ltb-less ((2 * v) / 2) l
-      (sym (cond-true ((2 * v) % 2 == 0) (nat_lt ((2 * v) / 2) l) (nat_lt ((2 * v) / 2) r) (eq-eqb ((2 * v) % 2) 0 e)) ∙ h),
+          (sym (cond-true ((2 * v) % 2 == 0) (nat_lt ((2 * v) / 2) l) (nat_lt ((2 * v) / 2) r) (eq-eqb ((2 * v) % 2) 0 e)) ∙ h),
     )
 within-left false l r v h = ltb-less v l (and_left (nat_lt v l) (nat_lt v r) h)
 
@@ -516,7 +516,7 @@ within-right true l r v h =
       arith,
       half,
       ltb-less ((2 * v + 1) / 2) r
-      (sym (cond-false ((2 * v + 1) % 2 == 0) (nat_lt ((2 * v + 1) / 2) l) (nat_lt ((2 * v + 1) / 2) r) (ap (λ m. m == 0) e)) ∙ h),
+          (sym (cond-false ((2 * v + 1) % 2 == 0) (nat_lt ((2 * v + 1) / 2) l) (nat_lt ((2 * v + 1) / 2) r) (ap (λ m. m == 0) e)) ∙ h),
     )
 within-right false l r v h = ltb-less v r (and_right (nat_lt v l) (nat_lt v r) h)
 

@@ -92,8 +92,14 @@ fn the_size_of_an_instance(rt: HostRuntime) -> Result<(), Fail> {
     let (mut bank, mut table) = Bank::new(alloc)?;
     let reference = bank.intern(alloc, &mut table, &left)?;
     if let Some(found) = unify(alloc, &left, &right, true)? {
-        assert_eq!(rt; size_of_both(alloc, &found, &bank, Side::Left, &reference)?, 6);
-        assert_eq!(rt; size_of_both(alloc, &found, &bank, Side::Right, &reference)?, 6);
+        assert_eq!(rt;
+            size_of_both(alloc, &found, &bank, Side::Left, &reference)?,
+            6
+        );
+        assert_eq!(rt;
+            size_of_both(alloc, &found, &bank, Side::Right, &reference)?,
+            6
+        );
     } else {
         assert!(rt; false);
     }
@@ -143,7 +149,10 @@ fn shared_bindings_do_not_blow_up(rt: HostRuntime) -> Result<(), Fail> {
     let (mut bank, mut table) = Bank::new(alloc)?;
     let reference = bank.intern(alloc, &mut table, &Term::Var(0))?;
     if let Some(found) = unify(alloc, &left, &right, false)? {
-        assert_eq!(rt; size_of_both(alloc, &found, &bank, Side::Left, &reference)?, u64::MAX);
+        assert_eq!(rt;
+            size_of_both(alloc, &found, &bank, Side::Left, &reference)?,
+            u64::MAX
+        );
     } else {
         assert!(rt; false);
     }
@@ -246,14 +255,14 @@ const TABLE: [&str; 30] = [
 fn a_table_of_small_pairs(rt: HostRuntime) -> Result<(), Fail> {
     let alloc = rt.alloc();
     let mut stack = Vec::new(alloc);
-    let mut rows = 0;
+    let mut rows: u64 = 0;
     for line in TABLE {
-        for byte in line.bytes() {
-            if is_answer(byte) {
-                assert!(rt; row(alloc, &mut stack)? == Some(wanted(byte)));
-                rows += 1;
+        for byte in line.as_bytes() {
+            if is_answer(*byte) {
+                assert!(rt; row(alloc, &mut stack)? == Some(wanted(*byte)));
+                rows = rows.saturating_add(1);
             } else {
-                step(alloc, &mut stack, byte)?;
+                step(alloc, &mut stack, *byte)?;
             }
         }
     }
