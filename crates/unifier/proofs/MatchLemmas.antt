@@ -1,14 +1,15 @@
 -- The walk finds exactly the matchers that have the pairs handed in.
 use Rattle.std.proofs.Common.{◌≡◌, ◌↔◌, ℕ, zero, suc, ◌+◌, ◌<◌, get_or, Bool, true, false, ◌||◌, ◌==◌, cond, Option, None, Some, List, [], ◌∷◌, ◌++◌, length, map, append-nil, append_assoc, refl, ap, ap₂, sym, ◌∙◌, subst, ⊎_elim, arith, eq-eqb}
-use Rattle.std.specs.Prelude.{option_and_then, unwrap_or, if◌then◌else◌}
+use Rattle.std.proofs.lemmas.Bool.Decides.{nat_tests}
+use Rattle.std.specs.Prelude.{nat_lt, option_and_then, unwrap_or, if◌then◌else◌}
 use Rattle.std.specs.List.{AllByRecursion, list_any}
 use Rattle.std.proofs.lemmas.List.{map-append}
 use Rattle.std.proofs.lemmas.Bool.{cond-true, cond-false, cases_Bool, eqb-true, true≢false}
 use Rattle.fol_base.specs.Tree.{Tree, variable, application, Trees, no_trees, tree_then, trees_of, tree_eq, tree_variables, trees_variables}
 use Rattle.fol_base.specs.Instance.{Substitution, instance, instances, substitution}
 use Rattle.fol_base.specs.Canonical.{terms_from}
-use Rattle.fol_base.proofs.TreeLemmas.{tree_eq-refl, tree_eq-true}
-use Rattle.unifier.specs.Matching.{variables_of, term_for, by_pairs, PairsBelow, NoVariableTwice, HasPairs, with_further, IsMatched, NoMatcher}
+use Rattle.fol_base.proofs.TreeLemmas.{tree_eq-refl, tree_eq-true, and_left, and_right}
+use Rattle.unifier.specs.Matching.{variables_of, term_for, by_pairs, are_below, NoVariableTwice, HasPairs, with_further, IsMatched, NoMatcher}
 use Rattle.fol_base.specs.Term.{tree_of}
 use Rattle.unifier.specs.declared.matched.Pair.{Pair}
 use Rattle.unifier.specs.Walk.{pair_of, met, walk, walk_all}
@@ -321,12 +322,18 @@ terms_from-at first (suc n) zero σ d h = let e : first ≡ first + 0 = omega ar
 terms_from-at first (suc n) (suc v) σ d h =
     let e : suc first + v ≡ first + suc v = omega arith in terms_from-at (suc first) n v σ d (omega arith) ∙ ap σ e
 
-below : (n : ℕ) (ps : Pairs) (v : ℕ) (t : Tree) → PairsBelow n ps → term_for v ps ≡ Some t → v < n
+ltb-less : (a b : ℕ) → nat_lt a b ≡ true → a < b
+ltb-less a b h = grind (arith, nat_tests)
+
+below : (n : ℕ) (ps : Pairs) (v : ℕ) (t : Tree) → are_below n ps ≡ true → term_for v ps ≡ Some t → v < n
 below n [] v t h e = cc
 below n (p ∷ ps) v t h e =
     ⊎_elim
-    (λ same. let P : ℕ → Type 0 = λ u. u < n in subst P (sym (eqb-true v p.0 same)) h.0)
-    (λ other. below n ps v t h.1 (sym (cond-false (v == p.0) (Some p.1) (term_for v ps) other) ∙ e))
+    (λ same.
+    let P : ℕ → Type 0 = λ u. u < n in
+    subst P (sym (eqb-true v p.0 same)) (ltb-less p.0 n (and_left (nat_lt p.0 n) (are_below n ps) h)))
+    (λ other.
+    below n ps v t (and_right (nat_lt p.0 n) (are_below n ps) h) (sym (cond-false (v == p.0) (Some p.1) (term_for v ps) other) ∙ e))
     (cases_Bool (v == p.0))
 
 -- each pair is its variable's, where no variable has two
@@ -348,7 +355,7 @@ own-terms (p ∷ ps) σ n h = (
 
 pub HasPairs-subst :
     (n : ℕ) (ps : Pairs) (terms : List Tree)
-    → NoVariableTwice ps → PairsBelow n ps → terms ≡ terms_from 0 n (by_pairs ps) → HasPairs ps (substitution terms)
+    → NoVariableTwice ps → are_below n ps ≡ true → terms ≡ terms_from 0 n (by_pairs ps) → HasPairs ps (substitution terms)
 HasPairs-subst n ps terms twice less e =
     own-terms ps (substitution terms) twice
     (λ v t found.

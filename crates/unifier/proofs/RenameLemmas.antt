@@ -1,6 +1,8 @@
 -- The two sides' substitutions into shared variables.
 use Rattle.std.proofs.Common.{◌≡◌, ◌⊎◌, inl, inr, ℕ, zero, suc, ◌+◌, ◌-◌, ◌*◌, ◌/◌, ◌%◌, ◌<◌, ◌≤◌, max, Bool, true, false, ◌&&◌, ◌==◌, cond, Option, None, Some, List, [], ◌∷◌, ◌++◌, length, map, take, get_or, slice_index, refl, ap, ap₂, sym, ◌∙◌, subst, ⊎_elim, arith, eq-eqb}
 use Rattle.std.specs.Prelude.{nat_lt}
+use Rattle.std.specs.List.{list_all}
+use Rattle.unifier.specs.declared.layout.Place.{Place}
 use Rattle.std.proofs.lemmas.Bool.Decides.{nat_tests}
 use Rattle.std.proofs.lemmas.Bool.{cases_lt, cond-true, cond-false, cases_Bool, eqb-true, true≢false}
 use Rattle.std.proofs.lemmas.List.{length-append, map-append, append_assoc, append-nil}
@@ -20,7 +22,7 @@ use Rattle.unifier.specs.Cells.{Value, tree, trees, as_tree, as_trees, cell_at, 
 use Rattle.unifier.specs.InOrder.{InOrder}
 use Rattle.unifier.specs.Layout.{cell_of, code_of}
 use Rattle.unifier.specs.Bindings.{value_at, bound, joint, substitution_of}
-use Rattle.unifier.specs.Renaming.{renamed, renamed_trees, side_terms, BoundBelow, AreRenamed, code_count, is_shared, is_used, rank, AreNames, HasNames}
+use Rattle.unifier.specs.Renaming.{renamed, renamed_trees, side_terms, BoundBelow, AreRenamed, code_count, is_within, fits, is_shared, is_used, rank, AreNames, HasNames}
 use Rattle.unifier.proofs.ValueLemmas.{value_at-valuation}
 
 abbrev side_count : ℕ → ℕ → Side → ℕ
@@ -478,3 +480,48 @@ are-renamed b l r names left right order one other are left_is right_is =
       right_below = λ v less. (undone-side b l r names Right v h less).1;
       no_gaps = λ k less. let at = no-gaps b l r names k h less in by-side b l r (slice_index names) k at.0 at.1 at.2 at.3;
     }
+
+-- ---- what `fits` tells
+
+found-within :
+    (apart : Bool) (l r w k : ℕ) (ps : List Place)
+    → cell_of w ps ≡ Some k → list_all (λ (e : Place). is_within apart l r e.code) ps ≡ true → is_within apart l r w ≡ true
+found-within apart l r w k [] found all = cc
+found-within apart l r w k (p ∷ ps) found all =
+    let rest : Bool = list_all (λ (e : Place). is_within apart l r e.code) ps in
+    ⊎_elim
+    (λ same. ap (is_within apart l r) (eqb-true w p.code same) ∙ and_left (is_within apart l r p.code) rest all)
+    (λ other.
+    found-within apart l r w k ps (sym (cond-false (w == p.code) (Some p.cell) (cell_of w ps) other) ∙ found)
+    (and_right (is_within apart l r p.code) rest all))
+    (cases_Bool (w == p.code))
+
+within-left : (apart : Bool) (l r v : ℕ) → is_within apart l r (code_of apart Left v) ≡ true → v < l
+within-left true l r v h =
+    let e : (2 * v) % 2 ≡ 0 = omega arith in
+    let half : (2 * v) / 2 ≡ v = omega arith in
+    omega (
+      arith,
+      half,
+      ltb-less ((2 * v) / 2) l
+          (sym (cond-true ((2 * v) % 2 == 0) (nat_lt ((2 * v) / 2) l) (nat_lt ((2 * v) / 2) r) (eq-eqb ((2 * v) % 2) 0 e)) ∙ h),
+    )
+within-left false l r v h = ltb-less v l (and_left (nat_lt v l) (nat_lt v r) h)
+
+within-right : (apart : Bool) (l r v : ℕ) → is_within apart l r (code_of apart Right v) ≡ true → v < r
+within-right true l r v h =
+    let e : (2 * v + 1) % 2 ≡ 1 = omega arith in
+    let half : (2 * v + 1) / 2 ≡ v = omega arith in
+    omega (
+      arith,
+      half,
+      ltb-less ((2 * v + 1) / 2) r
+          (sym (cond-false ((2 * v + 1) % 2 == 0) (nat_lt ((2 * v + 1) / 2) l) (nat_lt ((2 * v + 1) / 2) r) (ap (λ m. m == 0) e)) ∙ h),
+    )
+within-right false l r v h = ltb-less v r (and_right (nat_lt v l) (nat_lt v r) h)
+
+pub fits-left : (b : Bindings) (l r : ℕ) → fits b l r ≡ true → BoundBelow b Left l
+fits-left b l r h v k found = within-left b.apart l r v (found-within b.apart l r (code_of b.apart Left v) k b.places.items found h)
+
+pub fits-right : (b : Bindings) (l r : ℕ) → fits b l r ≡ true → BoundBelow b Right r
+fits-right b l r h v k found = within-right b.apart l r v (found-within b.apart l r (code_of b.apart Right v) k b.places.items found h)

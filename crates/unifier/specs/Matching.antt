@@ -1,6 +1,6 @@
 -- Matchers that have given pairs, each a variable and its term.
-use Rattle.std.specs.Prelude.{◌≡◌, ◌↔◌, ℕ, ◌<◌, ◌==◌, List, [], ◌∷◌, ◌++◌, map, Option, None, Some, unwrap_or, if◌then◌else◌, ⊤}
-use Rattle.std.specs.List.{AllByRecursion, list_any}
+use Rattle.std.specs.Prelude.{◌≡◌, ◌↔◌, ℕ, Bool, ◌==◌, nat_lt, List, [], ◌∷◌, ◌++◌, map, Option, None, Some, unwrap_or, if◌then◌else◌, ⊤}
+use Rattle.std.specs.List.{AllByRecursion, list_all, list_any}
 use Rattle.fol_base.specs.Tree.{Tree, variable, tree_variables}
 use Rattle.fol_base.specs.Instance.{Substitution}
 use Rattle.fol_base.specs.Unifier.{IsMatcher}
@@ -19,8 +19,8 @@ abbrev pub by_pairs : List (ℕ × Tree) → Substitution
 by_pairs pairs v = unwrap_or (term_for v pairs) (variable v)
 
 -- each variable that has a pair has a number below n
-abbrev pub PairsBelow : ℕ → List (ℕ × Tree) → Type 0
-PairsBelow n pairs = AllByRecursion (λ v. v < n) (variables_of pairs)
+abbrev pub are_below : ℕ → List (ℕ × Tree) → Bool
+are_below n pairs = list_all (λ (p : ℕ × Tree). nat_lt p.0 n) pairs
 
 -- no variable has two pairs
 abbrev pub NoVariableTwice : List (ℕ × Tree) → Type 0

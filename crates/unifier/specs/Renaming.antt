@@ -5,6 +5,8 @@ use Rattle.fol_base.specs.Instance.{instance, instances}
 use Rattle.fol_base.specs.Canonical.{terms_from}
 use Rattle.fol_base.specs.declared.clause.Side.{Side}
 use Rattle.fol_base.specs.declared.clause.Side.TheVariants.{Left, Right}
+use Rattle.std.specs.List.{list_all}
+use Rattle.unifier.specs.declared.layout.Place.{Place}
 use Rattle.unifier.specs.declared.bindings.Bindings.{Bindings}
 use Rattle.unifier.specs.Layout.{cell_of, code_of}
 use Rattle.unifier.specs.Bindings.{joint, substitution_of}
@@ -12,6 +14,15 @@ use Rattle.unifier.specs.Bindings.{joint, substitution_of}
 -- each of a side's variables that is bound has a number below the side's count
 abbrev pub BoundBelow : Bindings → Side → ℕ → Type 0
 BoundBelow b side count = (v k : ℕ) → cell_of (code_of b.apart side v) b.places.items ≡ Some k → v < count
+
+-- the variable of that number is below its side's count; where the sides aren't apart, it is a variable of both
+abbrev pub is_within : Bool → ℕ → ℕ → ℕ → Bool
+is_within true left_count right_count w = if w % 2 == 0 then nat_lt (w / 2) left_count else nat_lt (w / 2) right_count
+is_within false left_count right_count w = nat_lt w left_count && nat_lt w right_count
+
+-- all variables that are bound are
+abbrev pub fits : Bindings → ℕ → ℕ → Bool
+fits b left_count right_count = list_all (λ (e : Place). is_within b.apart left_count right_count e.code) b.places.items
 
 -- each variable becomes the variable of another number
 abbrev pub renamed : (ℕ → ℕ) → Tree → Tree

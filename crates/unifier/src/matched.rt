@@ -1,10 +1,10 @@
 // The pairs of a matcher.
 
-ghost use Rattle.std.specs.Prelude.{◌≡◌, [], ◌∷◌, ◌++◌, None, option_map, IfOk, OnErr, OnOk};
+ghost use Rattle.std.specs.Prelude.{◌≡◌, [], ◌∷◌, ◌++◌, true, None, option_map, IfOk, OnErr, OnOk};
 ghost use Rattle.fol_base.specs.Term.{tree_of};
 ghost use Rattle.fol_base.specs.Instance.{substitution};
 ghost use Rattle.fol_base.specs.Canonical.{terms_from};
-ghost use Rattle.unifier.specs.Matching.{HasPairs, PairsBelow, by_pairs, term_for};
+ghost use Rattle.unifier.specs.Matching.{HasPairs, are_below, by_pairs, term_for};
 
 use fol_base::{Mem, Subst, Term, Terms};
 use std::alloc::Global;
@@ -75,9 +75,9 @@ impl<'a> Matched<'a> {
     }
 
     /// The substitution of that length. A variable without a pair stands for itself. The condition is that
-    /// each variable of a pair has a number below `count`.
+    /// each variable of a pair has a number below `count`, as `fits` tells.
     pub fn subst(&self, alloc: Global, count: u32) -> Mem<Subst>
-        requires { PairsBelow count self.now }
+        requires { are_below count self.now ≡ true }
         ensures terms { IfOk result (λ made. made ≡ terms_from 0 count (by_pairs self.now)) }
         ensures pairs { IfOk result (λ made. HasPairs self.now (substitution made)) }
     {
@@ -87,6 +87,18 @@ impl<'a> Matched<'a> {
             items.push(self.term_or_variable(alloc, variable)?)?;
         }
         Ok(Terms::from_vec(items))
+    }
+
+    /// Whether each variable of a pair has a number below `count`.
+    pub fn fits(&self, count: u32) -> bool
+        ensures { result ≡ are_below count self.now }
+    {
+        for pair in self.pairs.as_slice() {
+            if pair.variable >= count {
+                return false;
+            }
+        }
+        true
     }
 
     /// A copy of the variable's term, or the variable.

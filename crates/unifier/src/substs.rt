@@ -1,20 +1,20 @@
 // The substitutions of the two sides into shared variables.
 
-ghost use Rattle.std.specs.Prelude.{◌≡◌, ℕ, ◌≤◌, ◌<◌, ◌^◌, length, slice_index, IfOk};
+ghost use Rattle.std.specs.Prelude.{◌≡◌, ℕ, true, ◌≤◌, ◌<◌, ◌^◌, length, slice_index, IfOk};
 ghost use Rattle.fol_base.specs.Tree.{variable, application, no_trees, tree_eq, trees_of};
 ghost use Rattle.fol_base.specs.Term.{tree_of};
-ghost use Rattle.fol_base.specs.declared.clause.Side.TheVariants.{Left, Right};
 ghost use Rattle.unifier.specs.Cells.{as_tree, as_trees, cell_at};
 ghost use Rattle.unifier.specs.Layout.{code_of};
 ghost use Rattle.unifier.specs.Bindings.{joint, value_at};
 ghost use Rattle.unifier.specs.Renaming.{
   AreNames,
   AreRenamed,
-  BoundBelow,
   HasNames,
   code_count,
+  fits,
   is_shared,
   is_used,
+  is_within,
   renamed,
   renamed_trees,
   side_terms,
@@ -29,10 +29,10 @@ use std::alloc::Global;
 impl Bindings {
     /// The two substitutions into shared variables, for the first `left_vars` variables of the left side
     /// and the first `right_vars` of the right one. The shared variables have the numbers from 0 on,
-    /// without gaps. The condition is that each variable that is bound has a number below its side's count.
+    /// without gaps. The condition is that each variable that is bound has a number below its side's count,
+    /// as `fits` tells.
     pub fn substs(&self, alloc: Global, left_vars: u32, right_vars: u32) -> Mem<(Subst, Subst)>
-        requires left { BoundBelow self.now Left left_vars }
-        requires right { BoundBelow self.now Right right_vars }
+        requires fits { fits self.now left_vars right_vars ≡ true }
         requires left_room { left_vars ≤ 2 ^ 31 }
         requires right_room { right_vars ≤ 2 ^ 31 }
         ensures { IfOk result (λ made. AreRenamed self.now left_vars right_vars made.0 made.1) }
@@ -41,6 +41,19 @@ impl Bindings {
         let left = self.side(alloc, names.as_slice(), Side::Left, left_vars)?;
         let right = self.side(alloc, names.as_slice(), Side::Right, right_vars)?;
         Ok((left, right))
+    }
+
+    /// Whether each variable that is bound has a number below its side's count; below both counts where
+    /// the sides aren't taken apart.
+    pub fn fits(&self, left_vars: u32, right_vars: u32) -> bool
+        ensures { result ≡ fits self.now left_vars right_vars }
+    {
+        for place in self.places.as_slice() {
+            if !is_within(self.apart, place.code, left_vars, right_vars) {
+                return false;
+            }
+        }
+        true
     }
 
     /// The new number of each shared variable: how many shared ones come before it.
@@ -166,6 +179,20 @@ fn no_term(alloc: Global) -> Term
     ensures { tree_of result ≡ application 0 no_trees }
 {
     Term::App(0, Terms::new(alloc))
+}
+
+/// Whether the variable of a number is below its side's count, or below both where the sides aren't apart.
+fn is_within(apart: bool, code: u64, left_vars: u32, right_vars: u32) -> bool
+    ensures { result ≡ is_within apart left_vars right_vars code }
+{
+    if !apart {
+        return code < u64::from(left_vars) && code < u64::from(right_vars);
+    }
+    if code % 2 == 0 {
+        code / 2 < u64::from(left_vars)
+    } else {
+        code / 2 < u64::from(right_vars)
+    }
 }
 
 /// Whether the variable of a number is one of the first ones of its side.

@@ -1,10 +1,12 @@
 // Rows worked out by hand, and a table of small pairs against a plain unifier.
 
+ghost use Rattle.term_bank.specs.Bank.{IsOf};
+
 use super::*;
 use fol_base::{Mem, Side, Subst, Term, Terms, same_term};
 use std::alloc::Global;
 use std::test::Fail;
-use term_bank::{Bank, BankLit, Table};
+use term_bank::{Bank, BankLit, TermRef};
 
 const A: u32 = 1;
 
@@ -31,23 +33,6 @@ fn binary(alloc: Global, symbol: u32, first: Term, second: Term) -> Mem<Term> {
     Ok(Term::App(symbol, arguments))
 }
 
-/// The literal of a term and a constant, in a bank.
-fn equation(
-    alloc: Global,
-    bank: &mut Bank,
-    table: &mut Table,
-    left: &Term,
-    right: &Term,
-) -> Mem<BankLit> {
-    let left = bank.intern(alloc, table, left)?;
-    let right = bank.intern(alloc, table, right)?;
-    Ok(BankLit {
-        positive: true,
-        left,
-        right,
-    })
-}
-
 /// Whether two lists of terms are the same.
 fn are(terms: &Subst, wanted: &[Term]) -> bool {
     let terms = terms.as_slice();
@@ -69,13 +54,34 @@ fn variables_apart_are_different_ones(rt: HostRuntime) -> Result<(), Fail> {
     let right = binary(alloc, F, constant(alloc, A), Term::Var(0))?;
     assert!(rt; unify(alloc, &left, &right, false)?.is_none());
     if let Some(found) = unify(alloc, &left, &right, true)? {
-        let (first, second) = found.substs(alloc, 1, 1)?;
-        assert!(rt; are(&first, &[constant(alloc, A)]));
-        assert!(rt; are(&second, &[constant(alloc, B)]));
+        assert!(rt; found.fits(1, 1) && !found.fits(0, 1) && !found.fits(1, 0));
+        if found.fits(1, 1) {
+            let (first, second) = found.substs(alloc, 1, 1)?;
+            assert!(rt; are(&first, &[constant(alloc, A)]));
+            assert!(rt; are(&second, &[constant(alloc, B)]));
+        }
     } else {
         assert!(rt; false);
     }
     Ok(())
+}
+
+/// The size of an equation of a term with itself, after a unifier.
+fn size_of_both(
+    alloc: Global,
+    found: &Bindings,
+    bank: &Bank,
+    side: Side,
+    reference: &TermRef,
+) -> Mem<u64>
+    requires { IsOf bank.now reference.now }
+{
+    let literal = BankLit {
+        positive: true,
+        left: reference.copy(),
+        right: reference.copy(),
+    };
+    found.instance_size(alloc, bank, side, &[literal])
 }
 
 #[test]
@@ -84,11 +90,16 @@ fn the_size_of_an_instance(rt: HostRuntime) -> Result<(), Fail> {
     let left = binary(alloc, F, Term::Var(0), constant(alloc, B))?;
     let right = binary(alloc, F, constant(alloc, A), Term::Var(0))?;
     let (mut bank, mut table) = Bank::new(alloc)?;
-    let literal = equation(alloc, &mut bank, &mut table, &left, &constant(alloc, B))?;
-    let literals = vec![in alloc; literal]?;
+    let reference = bank.intern(alloc, &mut table, &left)?;
     if let Some(found) = unify(alloc, &left, &right, true)? {
-        let size = found.instance_size(alloc, &bank, Side::Left, literals.as_slice())?;
-        assert_eq!(rt; size, 4);
+        assert_eq!(rt;
+            size_of_both(alloc, &found, &bank, Side::Left, &reference)?,
+            6
+        );
+        assert_eq!(rt;
+            size_of_both(alloc, &found, &bank, Side::Right, &reference)?,
+            6
+        );
     } else {
         assert!(rt; false);
     }
@@ -102,9 +113,12 @@ fn no_variable_contains_itself(rt: HostRuntime) -> Result<(), Fail> {
     let right = unary(alloc, F, Term::Var(0))?;
     assert!(rt; unify(alloc, &left, &right, false)?.is_none());
     if let Some(found) = unify(alloc, &left, &right, true)? {
-        let (first, second) = found.substs(alloc, 1, 1)?;
-        assert!(rt; are(&first, &[unary(alloc, F, Term::Var(0))?]));
-        assert!(rt; are(&second, &[Term::Var(0)]));
+        assert!(rt; found.fits(1, 1));
+        if found.fits(1, 1) {
+            let (first, second) = found.substs(alloc, 1, 1)?;
+            assert!(rt; are(&first, &[unary(alloc, F, Term::Var(0))?]));
+            assert!(rt; are(&second, &[Term::Var(0)]));
+        }
     } else {
         assert!(rt; false);
     }
@@ -133,15 +147,50 @@ fn shared_bindings_do_not_blow_up(rt: HostRuntime) -> Result<(), Fail> {
     let right = family(alloc, 200, true)?;
     assert!(rt; unify(alloc, &left, &right, true)?.is_some());
     let (mut bank, mut table) = Bank::new(alloc)?;
-    let literal = equation(alloc, &mut bank, &mut table, &Term::Var(0), &Term::Var(1))?;
-    let literals = vec![in alloc; literal]?;
+    let reference = bank.intern(alloc, &mut table, &Term::Var(0))?;
     if let Some(found) = unify(alloc, &left, &right, false)? {
-        let size = found.instance_size(alloc, &bank, Side::Left, literals.as_slice())?;
-        assert_eq!(rt; size, u64::MAX);
+        assert_eq!(rt;
+            size_of_both(alloc, &found, &bank, Side::Left, &reference)?,
+            u64::MAX
+        );
     } else {
         assert!(rt; false);
     }
     Ok(())
+}
+
+/// The terms for the first variables that turn a pattern into a target.
+fn matched_terms(alloc: Global, pattern: &Term, target: &Term, count: u32) -> Mem<Option<Subst>> {
+    let empty = Matched::empty(alloc);
+    let found = match_onto(alloc, pattern, target, &empty)?;
+    match found {
+        Some(pairs) => {
+            if pairs.fits(count) {
+                Ok(Some(pairs.subst(alloc, count)?))
+            } else {
+                Ok(None)
+            }
+        }
+        None => Ok(None),
+    }
+}
+
+/// Whether a further pattern can be turned into a further target with the same variables.
+fn can_go_on<'a>(
+    alloc: Global,
+    patterns: (&Term, &Term),
+    target: &'a Term,
+    further: &'a Term,
+) -> Mem<bool> {
+    let empty = Matched::empty(alloc);
+    let found = match_onto(alloc, patterns.0, target, &empty)?;
+    match found {
+        Some(pairs) => {
+            let more = match_onto(alloc, patterns.1, further, &pairs)?;
+            Ok(more.is_some())
+        }
+        None => Ok(false),
+    }
 }
 
 #[test]
@@ -149,18 +198,19 @@ fn a_pattern_is_matched(rt: HostRuntime) -> Result<(), Fail> {
     let alloc = rt.alloc();
     let pattern = binary(alloc, F, Term::Var(0), Term::Var(0))?;
     let differs = binary(alloc, F, constant(alloc, A), constant(alloc, B))?;
-    let fits = binary(alloc, F, constant(alloc, A), constant(alloc, A))?;
-    let empty = Matched::empty(alloc);
-    assert!(rt; match_onto(alloc, &pattern, &differs, &empty)?.is_none());
-    if let Some(found) = match_onto(alloc, &pattern, &fits, &empty)? {
-        assert!(rt; are(&found.subst(alloc, 1)?, &[constant(alloc, A)]));
-        assert!(rt; are(&found.subst(alloc, 2)?, &[constant(alloc, A), Term::Var(1)]));
-        let b = constant(alloc, B);
-        assert!(rt; match_onto(alloc, &Term::Var(0), &b, &found)?.is_none());
-        assert!(rt; match_onto(alloc, &Term::Var(1), &b, &found)?.is_some());
+    let same = binary(alloc, F, constant(alloc, A), constant(alloc, A))?;
+    let b = constant(alloc, B);
+    let known = Term::Var(0);
+    let further = Term::Var(1);
+    assert!(rt; matched_terms(alloc, &pattern, &differs, 1)?.is_none());
+    assert!(rt; matched_terms(alloc, &pattern, &same, 0)?.is_none());
+    if let Some(terms) = matched_terms(alloc, &pattern, &same, 1)? {
+        assert!(rt; are(&terms, &[constant(alloc, A)]));
     } else {
         assert!(rt; false);
     }
+    assert!(rt; !can_go_on(alloc, (&pattern, &known), &same, &b)?);
+    assert!(rt; can_go_on(alloc, (&pattern, &further), &same, &b)?);
     Ok(())
 }
 
@@ -205,14 +255,14 @@ const TABLE: [&str; 30] = [
 fn a_table_of_small_pairs(rt: HostRuntime) -> Result<(), Fail> {
     let alloc = rt.alloc();
     let mut stack = Vec::new(alloc);
-    let mut rows = 0;
+    let mut rows: u64 = 0;
     for line in TABLE {
-        for byte in line.bytes() {
-            if is_answer(byte) {
-                assert!(rt; row(alloc, &mut stack)? == Some(wanted(byte)));
-                rows += 1;
+        for byte in line.as_bytes() {
+            if is_answer(*byte) {
+                assert!(rt; row(alloc, &mut stack)? == Some(wanted(*byte)));
+                rows = rows.saturating_add(1);
             } else {
-                step(alloc, &mut stack, byte)?;
+                step(alloc, &mut stack, *byte)?;
             }
         }
     }
@@ -239,17 +289,21 @@ fn wanted(byte: u8) -> Row {
 
 /// Takes the pair from the stack.
 fn row(alloc: Global, stack: &mut Vec<Term>) -> Mem<Option<Row>> {
-    let Some(right) = stack.pop() else {
-        return Ok(None);
-    };
-    let Some(left) = stack.pop() else {
-        return Ok(None);
-    };
-    let together = unify(alloc, &left, &right, false)?.is_some();
-    let apart = unify(alloc, &left, &right, true)?.is_some();
+    match stack.pop() {
+        Some(right) => match stack.pop() {
+            Some(left) => Ok(Some(row_of(alloc, &left, &right)?)),
+            None => Ok(None),
+        },
+        None => Ok(None),
+    }
+}
+
+fn row_of(alloc: Global, left: &Term, right: &Term) -> Mem<Row> {
+    let together = unify(alloc, left, right, false)?;
+    let apart = unify(alloc, left, right, true)?;
     let empty = Matched::empty(alloc);
-    let matched = match_onto(alloc, &left, &right, &empty)?.is_some();
-    Ok(Some((together, apart, matched)))
+    let matched = match_onto(alloc, left, right, &empty)?;
+    Ok((together.is_some(), apart.is_some(), matched.is_some()))
 }
 
 fn step(alloc: Global, stack: &mut Vec<Term>, byte: u8) -> Mem<()> {
