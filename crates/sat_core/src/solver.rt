@@ -13,6 +13,7 @@ ghost use Rattle.sat_core.specs.Solver.{IsState, Turns, Keeps, Advances, Steps, 
 use crate::analysis::analyse;
 use crate::answer::{Answer, Chain, PropClauses, Truths};
 use crate::clauses::Clauses;
+use crate::forgetting::Forgetting;
 use crate::marks::Marks;
 use crate::order::Order;
 use crate::trail::{Assigned, Trail};
@@ -39,6 +40,7 @@ pub struct Solver {
     pub marks: Marks,
     pub watches: Watches,
     pub order: Order,
+    pub forgetting: Forgetting,
 }
 
 impl Solver {
@@ -57,6 +59,7 @@ impl Solver {
             marks: Marks::new(alloc, names as usize)?,
             watches,
             order: Order::new(alloc, names)?,
+            forgetting: Forgetting::new(alloc, inputs.len())?,
         })
     }
 
@@ -77,6 +80,8 @@ impl Solver {
         let number = self.clauses.all.len();
         self.watches
             .add_learned(&self.trail, analysis.clause.as_slice(), turn.literal)?;
+        self.forgetting
+            .note(alloc, &self.clauses, &mut self.watches, &analysis.chain)?;
         self.clauses.learn(analysis.chain, analysis.clause)?;
         let (literal, reason) = (turn.literal, Some(number));
         self.trail.push(Assigned { literal, reason })?;

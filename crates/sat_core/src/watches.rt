@@ -10,6 +10,7 @@ ghost use Rattle.sat_core.specs.Conflict.{AreWithin};
 ghost use Rattle.sat_core.specs.Search.{OthersFalse, HaveLists, IsFound, IsFoundAt, IsConflict, Propagates};
 
 use crate::clauses::Clauses;
+use crate::forgetting::is_kept;
 use crate::literals::{code, opposite, same_literal};
 use crate::trail::{Assigned, Trail};
 use plain_types::{Mem, NameLit};
@@ -286,6 +287,15 @@ impl Watches {
         let (first, second) = (0, 0);
         self.pairs.push(Pair { first, second })?;
         Ok(())
+    }
+
+    /// Watches only the clauses that are kept on.
+    pub fn keep(&mut self, kept: &[bool])
+        ensures { length self.new.lists.items ≡ length self.old.lists.items }
+    {
+        for list in 0..self.lists.len() {
+            self.lists[list].retain(|number| is_kept(kept, *number));
+        }
     }
 
     /// The entries from a place on have been taken back.

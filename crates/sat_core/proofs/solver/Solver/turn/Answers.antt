@@ -30,7 +30,7 @@ returns c =
             c.in_ok-push.ensures.trail c.in_ok-push.ensures.entries c.in_ok-push.ensures.slots;
         marks = c.in_ok-analysis.ensures.marks;
         marked_names = c.in_ok-analysis.ensures.names ∙ c.requires.state.marked_names ∙ sym names;
-        lists = omega (arith, c.in_ok-add_learned.ensures, c.cut-2.ensures, c.requires.state.lists, names);
+        lists = omega (arith, c.in_ok-note.ensures, c.in_ok-add_learned.ensures, c.cut-2.ensures, c.requires.state.lists, names);
       };
       inputs = same_inputs c.args.self.now.clauses.all.items _ c.args.self.now.clauses.inputs _ _ c.requires.state.derived.within c.in_ok-learn.ensures.all c.in_ok-learn.ensures.inputs;
       names = names;
