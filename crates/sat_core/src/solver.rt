@@ -230,7 +230,8 @@ fn free_literal(trail: &Trail, literals: &[NameLit]) -> Option<NameLit>
 
 /// Finds truth values that make every clause true, or a log of resolutions that derives the empty clause. It
 /// learns clauses (Marques-Silva and Sakallah 1996) at the first unique implication point (Zhang and others
-/// 2001), watches two literals of each clause, doesn't restart, and always ends.
+/// 2001) and makes them smaller (Sörensson and Biere 2009), watches two literals of each clause, forgets learned
+/// clauses that it hasn't used for long, doesn't restart, and always ends.
 pub fn solve(alloc: Global, clauses: &PropClauses, names: u32) -> Mem<Answer>
     requires { IsTrue (names_below names clauses.now) }
     ensures { IfOk result (IsRightAnswer names clauses.now) }

@@ -300,7 +300,8 @@ impl Watches {
 
     /// The entries from a place on have been taken back.
     pub fn cut(&mut self, count: usize)
-        ensures { length self.new.lists.items ≡ length self.old.lists.items }
+        ensures lists { length self.new.lists.items ≡ length self.old.lists.items }
+        ensures seen { (self.new.seen ≤ count) × (self.new.seen ≤ self.old.seen) }
     {
         self.seen = self.seen.min(count);
     }
