@@ -59,7 +59,8 @@ impl Forgetting {
         }
         self.limit = self.limit.saturating_add(LIMIT_STEP);
         let kept = self.kept(alloc, clauses)?;
-        self.watched.retain(|number| is_kept(kept.as_slice(), *number));
+        self.watched
+            .retain(|number| is_kept(kept.as_slice(), *number));
         watches.keep(kept.as_slice());
         Ok(())
     }

@@ -304,7 +304,10 @@ fn refutes_differing_sums(rt: HostRuntime) {
     let alloc = rt.alloc();
     for (inputs, falling) in [(20, false), (80, false), (8, true), (12, true)] {
         let clauses = differing_sums(alloc, inputs, falling).expect(&rt, "memory");
-        assert_eq!(rt; checked_answer(&rt, alloc, &clauses, 3 * inputs), Outcome::Refuted);
+        assert_eq!(rt;
+            checked_answer(&rt, alloc, &clauses, 3 * inputs),
+            Outcome::Refuted
+        );
     }
 }
 
@@ -338,17 +341,13 @@ fn first_unit(alloc: Global, clauses: &PropClauses, names: u32) -> Mem<Option<u3
 #[test]
 fn learns_at_the_first_unique_implication_point(rt: HostRuntime) {
     let alloc = rt.alloc();
-    let table: &[&[i8]] = &[
-        &[-3, 1],
-        &[-3, 2],
-        &[-1, -2],
-        &[3, 4],
-        &[3, 5],
-        &[-4, -5],
-    ];
+    let table: &[&[i8]] = &[&[-3, 1], &[-3, 2], &[-1, -2], &[3, 4], &[3, 5], &[-4, -5]];
     let clauses = clauses_of(alloc, table).expect(&rt, "memory");
     assert_eq!(rt; checked_answer(&rt, alloc, &clauses, 5), Outcome::Refuted);
-    assert_eq!(rt; first_unit(alloc, &clauses, 5).expect(&rt, "memory"), Some(2));
+    assert_eq!(rt;
+        first_unit(alloc, &clauses, 5).expect(&rt, "memory"),
+        Some(2)
+    );
 }
 
 // Numbers that look random (xorshift, Marsaglia 2003).
