@@ -4,6 +4,7 @@
 mod analysis;
 mod answer;
 mod clauses;
+mod forgetting;
 mod literals;
 mod marks;
 mod minimise;

@@ -1,6 +1,6 @@
 // Literals of names.
 
-ghost use Rattle.std.specs.Prelude.{◌≡◌, ◌+◌, ◌*◌, ◌<◌};
+ghost use Rattle.std.specs.Prelude.{◌≡◌, ◌+◌, ◌*◌, ◌<◌, if◌then◌else◌};
 ghost use Rattle.sat_core.specs.Clause.{same_literal, opposite};
 ghost use Rattle.sat_core.specs.Conflict.{is_other};
 
@@ -35,7 +35,8 @@ pub fn is_other(implied: Option<NameLit>, literal: NameLit) -> bool
 
 /// A number of its own for each literal.
 pub fn code(literal: NameLit) -> usize
-    ensures { result < 2 * literal.name + 2 }
+    ensures below { result < 2 * literal.name + 2 }
+    ensures number { result ≡ 2 * literal.name + (if literal.positive then 1 else 0) }
 {
     2 * literal.name as usize + usize::from(literal.positive)
 }

@@ -116,7 +116,9 @@ impl Conflict {
         let Some(reason) = entry.reason else {
             return Ok(());
         };
-        if marks.is_marked(entry.literal) && marks.have_others(clauses.literals(reason), entry.literal) {
+        if marks.is_marked(entry.literal)
+            && marks.have_others(clauses.literals(reason), entry.literal)
+        {
             let pivot = opposite(entry.literal);
             let number = reason as u64;
             self.links.push(Link { pivot, number })?;

@@ -1,8 +1,8 @@
 // Which name is decided next: the one that stood in most conflicts of late, by a heap over activities
 // (Moskewicz and others 2001; the heap as in MiniSat, Eén and Sörensson 2003). No answer rests on it.
 
-ghost use Rattle.std.specs.Prelude.{◌≡◌, ◌+◌, ◌<◌, length, vec_len, IfSome};
-ghost use Rattle.sat_core.specs.Trail.{place_of};
+ghost use Rattle.std.specs.Prelude.{◌≡◌, ◌+◌, ◌<◌, length, vec_len, IfSome, IfNone};
+ghost use Rattle.sat_core.specs.Trail.{place_of, slot_at};
 
 use crate::trail::{Assigned, Trail};
 use plain_types::{Mem, NameLit};
@@ -43,6 +43,8 @@ impl Order {
     pub fn next(&mut self, trail: &Trail) -> Option<NameLit>
         ensures named { IfSome result (λ l. l.name < length trail.now.slots.items) }
         ensures free { IfSome result (λ l. place_of trail.now.slots.items l ≡ 0) }
+        ensures sign { IfSome result (λ l. l.positive ≡ (slot_at trail.now.slots.items l.name).positive) }
+        ensures none { IfNone result (vec_len self.new.heap ≡ 0) }
     {
         while let Some(name) = self.pop() {
             if (name as usize) < trail.slots.len() {
@@ -105,7 +107,8 @@ impl Order {
 
     /// Takes the most active name out.
     fn pop(&mut self) -> Option<u32>
-        ensures { IfSome result (λ _. vec_len self.new.heap + 1 ≡ vec_len self.old.heap) }
+        ensures fewer { IfSome result (λ _. vec_len self.new.heap + 1 ≡ vec_len self.old.heap) }
+        ensures none { IfNone result (vec_len self.new.heap ≡ 0) }
     {
         if self.heap.is_empty() {
             return None;

@@ -13,6 +13,7 @@ ghost use Rattle.sat_core.specs.Solver.{IsState, Turns, Keeps, Advances, Steps, 
 use crate::analysis::analyse;
 use crate::answer::{Answer, Chain, PropClauses, Truths};
 use crate::clauses::Clauses;
+use crate::forgetting::Forgetting;
 use crate::marks::Marks;
 use crate::order::Order;
 use crate::trail::{Assigned, Trail};
@@ -39,6 +40,7 @@ pub struct Solver {
     pub marks: Marks,
     pub watches: Watches,
     pub order: Order,
+    pub forgetting: Forgetting,
 }
 
 impl Solver {
@@ -57,6 +59,7 @@ impl Solver {
             marks: Marks::new(alloc, names as usize)?,
             watches,
             order: Order::new(alloc, names)?,
+            forgetting: Forgetting::new(alloc, inputs.len())?,
         })
     }
 
@@ -77,6 +80,8 @@ impl Solver {
         let number = self.clauses.all.len();
         self.watches
             .add_learned(&self.trail, analysis.clause.as_slice(), turn.literal)?;
+        self.forgetting
+            .note(alloc, &self.clauses, &mut self.watches, &analysis.chain)?;
         self.clauses.learn(analysis.chain, analysis.clause)?;
         let (literal, reason) = (turn.literal, Some(number));
         self.trail.push(Assigned { literal, reason })?;
@@ -225,7 +230,8 @@ fn free_literal(trail: &Trail, literals: &[NameLit]) -> Option<NameLit>
 
 /// Finds truth values that make every clause true, or a log of resolutions that derives the empty clause. It
 /// learns clauses (Marques-Silva and Sakallah 1996) at the first unique implication point (Zhang and others
-/// 2001), watches two literals of each clause, doesn't restart, and always ends.
+/// 2001) and makes them smaller (Sörensson and Biere 2009), watches two literals of each clause, forgets learned
+/// clauses that it hasn't used for long, doesn't restart, and always ends.
 pub fn solve(alloc: Global, clauses: &PropClauses, names: u32) -> Mem<Answer>
     requires { IsTrue (names_below names clauses.now) }
     ensures { IfOk result (IsRightAnswer names clauses.now) }

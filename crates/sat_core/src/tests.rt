@@ -231,10 +231,7 @@ fn answers_pigeonholes(rt: HostRuntime) {
 }
 
 /// Of three names none is true, or two are.
-fn push_triple(alloc: Global, clauses: &mut PropClauses, x: u32) -> Mem<()>
-    requires { x < 1000 }
-{
-    let (y, z) = (x + 1, x + 2);
+fn push_triple(alloc: Global, clauses: &mut PropClauses, x: u32, y: u32, z: u32) -> Mem<()> {
     push_clause(alloc, clauses, &[no(x), yes(y), yes(z)])?;
     push_clause(alloc, clauses, &[yes(x), no(y), yes(z)])?;
     push_clause(alloc, clauses, &[yes(x), yes(y), no(z)])?;
@@ -248,8 +245,9 @@ fn learns_from_the_triples(rt: HostRuntime) {
     let alloc = rt.alloc();
     let mut clauses = PropClauses::new(alloc);
     for i in 0..20u32 {
-        push_triple(alloc, &mut clauses, 3 * i).expect(&rt, "memory");
-        push_triple(alloc, &mut clauses, 3 * i + 62).expect(&rt, "memory");
+        for x in [3 * i, 3 * i + 62] {
+            push_triple(alloc, &mut clauses, x, x + 1, x + 2).expect(&rt, "memory");
+        }
     }
     for both in [
         [yes(60), yes(61)],
@@ -261,6 +259,95 @@ fn learns_from_the_triples(rt: HostRuntime) {
     }
     assert_eq!(rt; clauses.len(), 164);
     assert_eq!(rt; checked_answer(&rt, alloc, &clauses, 122), Outcome::Refuted);
+}
+
+/// For each input i the name `base + i` is the sum modulo 2 of the inputs so far, in rising or falling order.
+fn push_sums(
+    alloc: Global,
+    clauses: &mut PropClauses,
+    inputs: u32,
+    base: u32,
+    falling: bool,
+) -> Mem<()>
+    requires inputs { inputs ≤ 100 }
+    requires base { base ≤ 1000 }
+{
+    for i in 0..inputs {
+        let input = if falling { inputs - 1 - i } else { i };
+        let sum = base + i;
+        if i == 0 {
+            push_clause(alloc, clauses, &[no(sum), yes(input)])?;
+            push_clause(alloc, clauses, &[yes(sum), no(input)])?;
+        } else {
+            push_triple(alloc, clauses, input, sum - 1, sum)?;
+        }
+    }
+    Ok(())
+}
+
+/// Two sums of the same inputs are told to differ.
+fn differing_sums(alloc: Global, inputs: u32, falling: bool) -> Mem<PropClauses>
+    requires some { 0 < inputs }
+    requires inputs { inputs ≤ 100 }
+{
+    let mut clauses = PropClauses::new(alloc);
+    push_sums(alloc, &mut clauses, inputs, inputs, false)?;
+    push_sums(alloc, &mut clauses, inputs, 2 * inputs, falling)?;
+    let (first, second) = (2 * inputs - 1, 3 * inputs - 1);
+    push_clause(alloc, &mut clauses, &[yes(first), yes(second)])?;
+    push_clause(alloc, &mut clauses, &[no(first), no(second)])?;
+    Ok(clauses)
+}
+
+#[test]
+fn refutes_differing_sums(rt: HostRuntime) {
+    let alloc = rt.alloc();
+    for (inputs, falling) in [(20, false), (80, false), (8, true), (12, true)] {
+        let clauses = differing_sums(alloc, inputs, falling).expect(&rt, "memory");
+        assert_eq!(rt;
+            checked_answer(&rt, alloc, &clauses, 3 * inputs),
+            Outcome::Refuted
+        );
+    }
+}
+
+/// The name of a unit clause that is learned first.
+fn first_unit(alloc: Global, clauses: &PropClauses, names: u32) -> Mem<Option<u32>> {
+    if !names_are_below(clauses, names) {
+        return Ok(None);
+    }
+    let Answer::Refuted(log) = solve(alloc, clauses, names)? else {
+        return Ok(None);
+    };
+    let mut known = Vec::new(alloc);
+    for clause in clauses.as_slice() {
+        known.push(Vec::from_slice(alloc, clause.as_slice())?)?;
+    }
+    let Some(chain) = log.as_slice().first() else {
+        return Ok(None);
+    };
+    let Some(clause) = replay(alloc, known.as_slice(), chain)? else {
+        return Ok(None);
+    };
+    match clause.as_slice() {
+        [literal] => Ok(Some(literal.name)),
+        _ => Ok(None),
+    }
+}
+
+// Either value of the middle name is refuted by way of two of the other four. Whichever name is decided first, and
+// with whichever sign, the first unique implication point is the middle name; a solver that turns its decision
+// learns a literal of the name that it decided.
+#[test]
+fn learns_at_the_first_unique_implication_point(rt: HostRuntime) {
+    let alloc = rt.alloc();
+    let table: &[&[i8]] = &[&[-3, 1], &[-3, 2], &[-1, -2], &[3, 4], &[3, 5], &[-4, -5]];
+    let clauses = clauses_of(alloc, table).expect(&rt, "memory");
+    assert_eq!(rt; checked_answer(&rt, alloc, &clauses, 5), Outcome::Refuted);
+    assert_eq!(rt;
+        first_unit(alloc, &clauses, 5).expect(&rt, "memory"),
+        Some(2)
+    );
 }
 
 // Numbers that look random (xorshift, Marsaglia 2003).
@@ -335,6 +422,10 @@ fn answers_random_clauses(rt: HostRuntime) {
         let clauses = random_clauses(alloc, seed * 104729, 50, 213).expect(&rt, "memory");
         let _ = checked_answer(&rt, alloc, &clauses, 50);
     }
+    for seed in 1..4u64 {
+        let clauses = random_clauses(alloc, seed * 104729, 100, 426).expect(&rt, "memory");
+        let _ = checked_answer(&rt, alloc, &clauses, 100);
+    }
 }
 
 #[test]
@@ -350,7 +441,8 @@ fn follows_a_long_chain(rt: HostRuntime) {
     );
     push_clause(alloc, &mut clauses, &[yes(0)]).expect(&rt, "memory");
     push_clause(alloc, &mut clauses, &[no(99_999)]).expect(&rt, "memory");
-    assert!(rt; names_are_below(&clauses, 100_000));
-    let answer = solve(alloc, &clauses, 100_000).expect(&rt, "memory");
-    assert!(rt; matches!(answer, Answer::Refuted(_)));
+    assert_eq!(rt;
+        checked_answer(&rt, alloc, &clauses, 100_000),
+        Outcome::Refuted
+    );
 }

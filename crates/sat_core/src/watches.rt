@@ -10,6 +10,7 @@ ghost use Rattle.sat_core.specs.Conflict.{AreWithin};
 ghost use Rattle.sat_core.specs.Search.{OthersFalse, HaveLists, IsFound, IsFoundAt, IsConflict, Propagates};
 
 use crate::clauses::Clauses;
+use crate::forgetting::is_kept;
 use crate::literals::{code, opposite, same_literal};
 use crate::trail::{Assigned, Trail};
 use plain_types::{Mem, NameLit};
@@ -288,9 +289,19 @@ impl Watches {
         Ok(())
     }
 
+    /// Watches only the clauses that are kept on.
+    pub fn keep(&mut self, kept: &[bool])
+        ensures { length self.new.lists.items ≡ length self.old.lists.items }
+    {
+        for list in 0..self.lists.len() {
+            self.lists[list].retain(|number| is_kept(kept, *number));
+        }
+    }
+
     /// The entries from a place on have been taken back.
     pub fn cut(&mut self, count: usize)
-        ensures { length self.new.lists.items ≡ length self.old.lists.items }
+        ensures lists { length self.new.lists.items ≡ length self.old.lists.items }
+        ensures seen { (self.new.seen ≤ count) × (self.new.seen ≤ self.old.seen) }
     {
         self.seen = self.seen.min(count);
     }

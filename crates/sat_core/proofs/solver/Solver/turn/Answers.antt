@@ -12,7 +12,7 @@ add_learned-requires-clause-within c =
 pub add_learned-requires-clause-lists : goal.add_learned-requires-clause-lists
 add_learned-requires-clause-lists c =
     let is = turn_of _ _ _ _ c.in_ok-analysis.analysis c.in-Some.turn c.in_ok-analysis.ensures.analysis c.in-Some.is in
-    learned_lists _ _ _ c.as_slice-2.result.now c.in-Some.turn _ is (c.cut-2.ensures ∙ c.requires.state.lists) c.as_slice-2.ensures
+    learned_lists _ _ _ c.as_slice-2.result.now c.in-Some.turn _ is (c.cut-2.ensures.lists ∙ c.requires.state.lists) c.as_slice-2.ensures
 
 pub learn-requires-clause-chain : goal.learn-requires-clause-chain
 learn-requires-clause-chain c = derives_of _ _ _ c.args.conflict c.in_ok-analysis.analysis c.requires.conflict.within c.in_ok-analysis.ensures.analysis
@@ -30,7 +30,7 @@ returns c =
             c.in_ok-push.ensures.trail c.in_ok-push.ensures.entries c.in_ok-push.ensures.slots;
         marks = c.in_ok-analysis.ensures.marks;
         marked_names = c.in_ok-analysis.ensures.names ∙ c.requires.state.marked_names ∙ sym names;
-        lists = omega (arith, c.in_ok-add_learned.ensures, c.cut-2.ensures, c.requires.state.lists, names);
+        lists = omega (arith, c.in_ok-note.ensures, c.in_ok-add_learned.ensures, c.cut-2.ensures.lists, c.requires.state.lists, names);
       };
       inputs = same_inputs c.args.self.now.clauses.all.items _ c.args.self.now.clauses.inputs _ _ c.requires.state.derived.within c.in_ok-learn.ensures.all c.in_ok-learn.ensures.inputs;
       names = names;
