@@ -80,13 +80,14 @@ IsOutOfPlace before token too_deep = ⊥
 
 -- ---- the answers
 
--- The token behind the tokens before it ends the reading, for that reason.
-abbrev pub IsRefusedAt : ℕ → List Lexeme → Lexeme → Refusal → Type 0
-IsRefusedAt limit before token refusal =
-    IsFault limit before token refusal
-    ⊎ BeginsFaultless limit before × (MayBegin (before ++ token ∷ []) → ⊥) × IsOutOfPlace before token refusal
-
 -- The tokens end before the formula does.
 abbrev pub RunsOut : ℕ → List Lexeme → Type 0
 RunsOut limit tokens =
     BeginsFaultless limit tokens × ((p : AnnotatedPhrase) → (rest : List Lexeme) → IsReadAs limit tokens p rest → ⊥)
+
+-- The token behind the tokens before it ends the reading, for that reason: it is at fault itself, or the formula isn't ended
+-- before it and no formula goes on with it.
+abbrev pub IsRefusedAt : ℕ → List Lexeme → Lexeme → Refusal → Type 0
+IsRefusedAt limit before token refusal =
+    IsFault limit before token refusal
+    ⊎ RunsOut limit before × (MayBegin (before ++ token ∷ []) → ⊥) × IsOutOfPlace before token refusal

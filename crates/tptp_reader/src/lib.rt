@@ -13,6 +13,7 @@ ghost use Rattle.tptp_reader.specs.Examples.{two_units, two_units_clauses, appli
 
 mod building;
 mod fault;
+pub mod laws;
 mod numbering;
 mod occurrence;
 mod problem;
