@@ -172,6 +172,11 @@ pub record IsAnnotatedOf (p : AnnotatedPhrase) (tree : AnnotatedTree) : Type 0 w
   pub is_clause : tree.is_clause ≡ is_clause_body p.body
   pub formula : tree.formula ≡ body_meant p.body
 
+-- the text spells the annotated formula
+abbrev pub SpellsAnnotated : List ℕ → AnnotatedTree → Type 0
+SpellsAnnotated text tree =
+    (p : AnnotatedPhrase) × (is_right_annotated p ≡ true) × IsLexedAs text (annotated_lexemes p []) × IsAnnotatedOf p tree
+
 -- ---- includes, and problems
 
 -- the names of a selection, of which there is at least one

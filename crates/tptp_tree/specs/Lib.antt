@@ -9,3 +9,4 @@ pub mod Brackets
 pub mod Entries
 pub mod Causes
 pub mod Examples
+pub mod EntryExamples
