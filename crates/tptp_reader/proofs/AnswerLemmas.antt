@@ -69,8 +69,8 @@ begun limit ts cs end r =
     let right : is_right_annotated phrase ≡ true = all.1.1 in
     let spelled : ts ++ rest.0 ≡ annotated_lexemes phrase [] = all.1.2 ∙ ap (annotated_lexemes phrase) all.2 in
     let run : marks cs (trace rest.0 end) ≡ marks (annotated_causes limit phrase) (done []) =
-      sym (reached-trace (an_annotated limit ∷ []) ts cs end r rest.0)
-      ∙ ap (λ x. trace x (an_annotated limit ∷ [])) spelled ∙ annotated-runs limit phrase [] right in
+    sym (reached-trace (an_annotated limit ∷ []) ts cs end r rest.0)
+    ∙ ap (λ x. trace x (an_annotated limit ∷ [])) spelled ∙ annotated-runs limit phrase [] right in
     record {
       phrase = phrase;
       more = rest.0;
@@ -115,5 +115,5 @@ read-of-run limit ts cs rest h e =
     let phrase = all.1.0 in
     let spelled : ts ≡ annotated_lexemes phrase rest = all.1.2 ∙ ap (annotated_lexemes phrase) all.2 in
     let same : marks cs (done rest) ≡ marks (annotated_causes limit phrase) (done rest) =
-      sym e ∙ ap (λ x. trace x (an_annotated limit ∷ [])) spelled ∙ annotated-runs limit phrase rest all.1.1 in
+    sym e ∙ ap (λ x. trace x (an_annotated limit ∷ [])) spelled ∙ annotated-runs limit phrase rest all.1.1 in
     (phrase, record { right = all.1.1; spelled = spelled; faultless = subst AreFaultless (marks-same cs (annotated_causes limit phrase) rest rest same) h })

@@ -85,7 +85,7 @@ connected-pass s t h =
     three :
         (x y z : Bool) → x ≡ false → y ≡ false → z ≡ false
         → (if x then taken (a_unit s ∷ maybe_more_units (codes "&") s ∷ [])
-          else if y then taken (a_unit s ∷ maybe_more_units (codes "|") s ∷ []) else if z then taken (a_unit s ∷ []) else passes)
+        else if y then taken (a_unit s ∷ maybe_more_units (codes "|") s ∷ []) else if z then taken (a_unit s ∷ []) else passes)
         ≡ passes
     three true y z h k l = absurd (cc)
     three false true z h k l = absurd (cc)

@@ -32,7 +32,7 @@ more_notes-run limit unclosed (n ∷ ns) rest h =
   where
     by :
         ((behind : List Bracket) → is_nothing_open (open_behind (Some behind) ns) ≡ true
-          → trace (ns ++ entry_end rest) (more_notes limit behind ∷ []) ≡ marks (notes_causes limit (Some behind) ns ++ None ∷ None ∷ []) (done rest))
+        → trace (ns ++ entry_end rest) (more_notes limit behind ∷ []) ≡ marks (notes_causes limit (Some behind) ns ++ None ∷ None ∷ []) (done rest))
         → (o : Option (List Bracket)) → is_nothing_open (open_behind o ns) ≡ true
         → by_move (λ next. trace (ns ++ entry_end rest) next) (n ∷ ns ++ entry_end rest)
         (moved_by (note_step limit unclosed o (end_of_notes_step unclosed n) n) [] emptied)

@@ -83,12 +83,16 @@ heading-of :
 heading-of is_clause more ts rest h =
     let name = h.2.1 in
     let role = h.2.2.2.1 in
-    let last = h.2.2.2.2 in
-    (name.0, role.0, last.0, name.1,
-    h.1 ∙ ap (λ xs. lexeme Mark (codes "(") ∷ xs)
-    (name.2 ∙ ap (λ xs. name_lexeme name.0 ∷ xs)
-    (h.2.2.1 ∙ ap (λ xs. lexeme Mark (codes ",") ∷ xs) (role.1 ∙ ap (λ xs. lexeme Lower role.0 ∷ xs) last.1))),
-    last.2)
+    let last = h.2.2.2.2 in (
+      name.0,
+      role.0,
+      last.0,
+      name.1,
+      h.1 ∙ ap (λ xs. lexeme Mark (codes "(") ∷ xs)
+          (name.2 ∙ ap (λ xs. name_lexeme name.0 ∷ xs)
+          (h.2.2.1 ∙ ap (λ xs. lexeme Mark (codes ",") ∷ xs) (role.1 ∙ ap (λ xs. lexeme Lower role.0 ∷ xs) last.1))),
+      last.2,
+    )
 
 -- an entry from its parts
 entry-of :
@@ -98,26 +102,27 @@ entry-of :
     → ts ≡ lexeme Mark (codes "(") ∷ name_lexeme n ∷ lexeme Mark (codes ",") ∷ lexeme Lower role ∷ lexeme Mark (codes ",") ∷ between
     → between ≡ body_lexemes body last → SpellAll (end_of_body limit ∷ []) last rest
     → Spells (an_annotated limit) (lexeme Lower bytes ∷ ts) rest
-entry-of limit body n role bytes ts between rest last right word e f h =
-    (record { name = n; role = role; body = body; notes = h.1.0 },
-    ap₂ (λ x y. x && y) right h.1.1,
-    ap₂ (λ x xs. lexeme Lower x ∷ xs) word
-    (e ∙ ap (λ xs. lexeme Mark (codes "(") ∷ name_lexeme n ∷ lexeme Mark (codes ",") ∷ lexeme Lower role ∷ lexeme Mark (codes ",") ∷ xs)
-    (f ∙ ap (body_lexemes body) (h.1.2 ∙ ap (λ xs. notes_lexemes h.1.0 (entry_end xs)) h.2))))
+entry-of limit body n role bytes ts between rest last right word e f h = (
+  record { name = n; role = role; body = body; notes = h.1.0 },
+  ap₂ (λ x y. x && y) right h.1.1,
+  ap₂ (λ x xs. lexeme Lower x ∷ xs) word
+      (e ∙ ap (λ xs. lexeme Mark (codes "(") ∷ name_lexeme n ∷ lexeme Mark (codes ",") ∷ lexeme Lower role ∷ lexeme Mark (codes ",") ∷ xs)
+      (f ∙ ap (body_lexemes body) (h.1.2 ∙ ap (λ xs. notes_lexemes h.1.0 (entry_end xs)) h.2))),
+)
 
 language-right : (limit : ℕ) (bytes : List ℕ) → IsStepOf (an_annotated limit) (lexeme Lower bytes) (language_step limit bytes)
 language-right limit bytes =
     choose (IsStepOf (an_annotated limit) (lexeme Lower bytes)) (bytes_eq bytes (codes "fof"))
     (taken (before_body false ++ formula_symbols (outermost limit false) ++ end_of_body limit ∷ [])) _
     (λ e ts rest h.
-      let head = heading-of false (a_unit (outermost limit false) ∷ maybe_connected (outermost limit false) ∷ end_of_body limit ∷ []) ts rest h in
-      let p = formula-of (outermost limit false) (end_of_body limit ∷ []) head.2 rest head.5 in
-      entry-of limit (formula_body p.0) head.0 head.1 bytes ts head.2 rest p.1 head.3 ((bytes_eq-Decides bytes (codes "fof")).0 e) head.4 p.2 p.3)
+    let head = heading-of false (a_unit (outermost limit false) ∷ maybe_connected (outermost limit false) ∷ end_of_body limit ∷ []) ts rest h in
+    let p = formula-of (outermost limit false) (end_of_body limit ∷ []) head.2 rest head.5 in
+    entry-of limit (formula_body p.0) head.0 head.1 bytes ts head.2 rest p.1 head.3 ((bytes_eq-Decides bytes (codes "fof")).0 e) head.4 p.2 p.3)
     (λ e. choose (IsStepOf (an_annotated limit) (lexeme Lower bytes)) (bytes_eq bytes (codes "cnf"))
     (taken (before_body true ++ a_clause (outermost limit true) ∷ end_of_body limit ∷ [])) (stops (if is_one_of typed_words bytes then left_out typed else syntax))
     (λ f ts rest h.
-      let head = heading-of true (a_clause (outermost limit true) ∷ end_of_body limit ∷ []) ts rest h in
-      entry-of limit (clause_body head.5.1.0) head.0 head.1 bytes ts head.2 rest head.5.0 head.3 ((bytes_eq-Decides bytes (codes "cnf")).0 f) head.4 head.5.1.1 head.5.2)
+    let head = heading-of true (a_clause (outermost limit true) ∷ end_of_body limit ∷ []) ts rest h in
+    entry-of limit (clause_body head.5.1.0) head.0 head.1 bytes ts head.2 rest head.5.0 head.3 ((bytes_eq-Decides bytes (codes "cnf")).0 f) head.4 head.5.1.1 head.5.2)
     (λ f. tt))
 
 annotated-right : (limit : ℕ) (k : Kind) (bytes : List ℕ) → IsStepOf (an_annotated limit) (lexeme k bytes) (annotated_step limit k bytes)

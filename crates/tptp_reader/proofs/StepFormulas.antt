@@ -24,10 +24,11 @@ quantifier-same t (inr e) = (exists_some, connective-same (codes "?") t e)
 bound-unit :
     (s : Surroundings) (t : Lexeme) (q : Quantifier) → t ≡ quantifier_lexeme q → (ts rest : List Lexeme)
     → SpellAll (variables_bracket s ∷ []) ts rest → (u : UnitPhrase) × (t ∷ ts ≡ unit_lexemes u rest)
-bound-unit s t q e ts rest h =
-    (bound q h.1.0 h.1.1,
-    ap₂ (λ x xs. x ∷ xs) e
-    (h.1.2 ∙ ap (λ xs. lexeme Mark (codes "[") ∷ variables_lexemes h.1.0 (colon_and (unit_lexemes h.1.1 xs))) h.2))
+bound-unit s t q e ts rest h = (
+  bound q h.1.0 h.1.1,
+  ap₂ (λ x xs. x ∷ xs) e
+      (h.1.2 ∙ ap (λ xs. lexeme Mark (codes "[") ∷ variables_lexemes h.1.0 (colon_and (unit_lexemes h.1.1 xs))) h.2),
+)
 
 -- a unit and what is connected with it is a formula
 pub formula-of :
@@ -82,14 +83,20 @@ units-right sign s t =
 pub bracket-right : (s : Surroundings) (t : Lexeme) → IsStepOf (variables_bracket s) t (step (variables_bracket s) t)
 bracket-right s t =
     choose (IsStepOf (variables_bracket s) t) (is_mark (codes "[") t) (takes (next_variable [] s ∷ []) (begun s)) (stops syntax)
-    (λ e ts rest h. (h.1.0, h.1.1,
-      ap₂ (λ x xs. x ∷ xs) (mark-same (codes "[") t e) (h.1.2 ∙ ap (λ xs. variables_lexemes h.1.0 (colon_and (unit_lexemes h.1.1 xs))) h.2)))
+    (λ e ts rest h. (
+      h.1.0,
+      h.1.1,
+      ap₂ (λ x xs. x ∷ xs) (mark-same (codes "[") t e) (h.1.2 ∙ ap (λ xs. variables_lexemes h.1.0 (colon_and (unit_lexemes h.1.1 xs))) h.2),
+    ))
     (λ e. tt)
 
 pub variable-right : (xs : List (List ℕ)) (s : Surroundings) (k : Kind) (bytes : List ℕ) → IsStepOf (next_variable xs s) (lexeme k bytes) (variable_step xs s k bytes)
 variable-right xs s Variable bytes =
-    λ ts rest h. (record { first = bytes; others = h.1.0 }, h.1.1,
-    ap (λ ys. lexeme Variable bytes ∷ ys) (h.1.2 ∙ ap (λ ys. more_variables_lexemes h.1.0 (colon_and (unit_lexemes h.1.1 ys))) h.2))
+    λ ts rest h. (
+      record { first = bytes; others = h.1.0 },
+      h.1.1,
+      ap (λ ys. lexeme Variable bytes ∷ ys) (h.1.2 ∙ ap (λ ys. more_variables_lexemes h.1.0 (colon_and (unit_lexemes h.1.1 ys))) h.2),
+    )
 variable-right xs s Lower bytes = tt
 variable-right xs s Quoted bytes = tt
 variable-right xs s Distinct bytes = tt
@@ -102,11 +109,17 @@ variable-right xs s Other bytes = tt
 pub more_variables-right : (xs : List (List ℕ)) (s : Surroundings) (t : Lexeme) → IsStepOf (more_variables xs s) t (step (more_variables xs s) t)
 more_variables-right xs s t =
     choose (IsStepOf (more_variables xs s) t) (is_mark (codes ",") t) (taken (next_variable xs s ∷ [])) _
-    (λ e ts rest h. (h.1.0.first ∷ h.1.0.others, h.1.1,
-      ap₂ (λ x ys. x ∷ ys) (mark-same (codes ",") t e) (h.1.2 ∙ ap (λ ys. variables_lexemes h.1.0 (colon_and (unit_lexemes h.1.1 ys))) h.2)))
+    (λ e ts rest h. (
+      h.1.0.first ∷ h.1.0.others,
+      h.1.1,
+      ap₂ (λ x ys. x ∷ ys) (mark-same (codes ",") t e) (h.1.2 ∙ ap (λ ys. variables_lexemes h.1.0 (colon_and (unit_lexemes h.1.1 ys))) h.2),
+    ))
     (λ e. choose (IsStepOf (more_variables xs s) t) (is_mark (codes "]") t) (taken (mark (codes ":") ∷ a_unit (binding xs s) ∷ [])) (stops syntax)
-    (λ f ts rest h. ([], h.2.1.0,
-      ap₂ (λ x ys. x ∷ ys) (mark-same (codes "]") t f) (h.1 ∙ ap (λ ys. lexeme Mark (codes ":") ∷ ys) (h.2.1.1 ∙ ap (unit_lexemes h.2.1.0) h.2.2))))
+    (λ f ts rest h. (
+      [],
+      h.2.1.0,
+      ap₂ (λ x ys. x ∷ ys) (mark-same (codes "]") t f) (h.1 ∙ ap (λ ys. lexeme Mark (codes ":") ∷ ys) (h.2.1.1 ∙ ap (unit_lexemes h.2.1.0) h.2.2)),
+    ))
     (λ f. tt))
 
 -- ---- literals and clauses
@@ -120,18 +133,22 @@ literal-right s t =
 pub plain-right : (s : Surroundings) (t : Lexeme) → IsStepOf (a_plain_literal s) t (step (a_plain_literal s) t)
 plain-right s t =
     choose (IsStepOf (a_plain_literal s) t) (is_mark (codes "(") t) (takes (an_atom false (deeper s) ∷ mark (codes ")") ∷ []) (begun s)) (atom_step false s t.kind t.bytes)
-    (λ e ts rest h. (negated_in_brackets h.1.0,
+    (λ e ts rest h. (
+      negated_in_brackets h.1.0,
       ap (λ xs. lexeme Connective (codes "~") ∷ xs)
-      (ap₂ (λ x xs. x ∷ xs) (mark-same (codes "(") t e)
-      (h.1.1 ∙ ap (atom_lexemes (atom_of h.1.0)) (h.2.1 ∙ ap (λ xs. lexeme Mark (codes ")") ∷ xs) h.2.2)))))
+          (ap₂ (λ x xs. x ∷ xs) (mark-same (codes "(") t e)
+          (h.1.1 ∙ ap (atom_lexemes (atom_of h.1.0)) (h.2.1 ∙ ap (λ xs. lexeme Mark (codes ")") ∷ xs) h.2.2))),
+    ))
     (λ e. mapped (an_atom false s) (a_plain_literal s) t (atom_step false s t.kind t.bytes)
-      (λ ts rest h. (negated_literal h.0, ap (λ xs. lexeme Connective (codes "~") ∷ xs) h.1)) (atom-right false s t.kind t.bytes))
+    (λ ts rest h. (negated_literal h.0, ap (λ xs. lexeme Connective (codes "~") ∷ xs) h.1)) (atom-right false s t.kind t.bytes))
 
 pub literals-right : (s : Surroundings) (t : Lexeme) → IsStepOf (maybe_more_literals s) t (step (maybe_more_literals s) t)
 literals-right s t =
     choose (IsStepOf (maybe_more_literals s) t) (is_connective (codes "|") t) (taken (a_literal s ∷ maybe_more_literals s ∷ [])) passes
-    (λ e ts rest h. (h.1.0 ∷ h.2.1.0,
-      ap₂ (λ x xs. x ∷ xs) (connective-same (codes "|") t e) (h.1.1 ∙ ap (literal_lexemes h.1.0) (h.2.1.1 ∙ ap (more_literals_lexemes h.2.1.0) h.2.2))))
+    (λ e ts rest h. (
+      h.1.0 ∷ h.2.1.0,
+      ap₂ (λ x xs. x ∷ xs) (connective-same (codes "|") t e) (h.1.1 ∙ ap (literal_lexemes h.1.0) (h.2.1.1 ∙ ap (more_literals_lexemes h.2.1.0) h.2.2)),
+    ))
     (λ e ts. ([], refl))
 
 -- a literal and those behind it are a clause
@@ -146,6 +163,8 @@ literal-clause s t (stops refusal) h = tt
 pub clause-right : (s : Surroundings) (t : Lexeme) → IsStepOf (a_clause s) t (step (a_clause s) t)
 clause-right s t =
     choose (IsStepOf (a_clause s) t) (is_mark (codes "(") t) (takes (a_clause (deeper s) ∷ mark (codes ")") ∷ []) (begun s)) (followed_by (maybe_more_literals s ∷ []) (literal_step s t))
-    (λ e ts rest h. (clause_in_brackets h.1.0,
-      ap₂ (λ x xs. x ∷ xs) (mark-same (codes "(") t e) (h.1.1 ∙ ap (clause_lexemes h.1.0) (h.2.1 ∙ ap (λ xs. lexeme Mark (codes ")") ∷ xs) h.2.2))))
+    (λ e ts rest h. (
+      clause_in_brackets h.1.0,
+      ap₂ (λ x xs. x ∷ xs) (mark-same (codes "(") t e) (h.1.1 ∙ ap (clause_lexemes h.1.0) (h.2.1 ∙ ap (λ xs. lexeme Mark (codes ")") ∷ xs) h.2.2)),
+    ))
     (λ e. literal-clause s t (literal_step s t) (literal-right s t))

@@ -73,12 +73,14 @@ pub applied-right : (b : Bool) (s : Surroundings) (t : Lexeme) → IsStepOf (may
 applied-right b s t =
     choose (IsStepOf (maybe_applied b s) t) (is_mark (codes "(") t)
     (takes (a_term (deeper s) ∷ more_arguments (deeper s) ∷ maybe_equation b s ∷ []) (begun s)) (equation_step b s passes t)
-    (λ e ts rest h.
-      (phrase_then h.1.0 h.2.1.0, h.2.2.1.0,
+    (λ e ts rest h. (
+      phrase_then h.1.0 h.2.1.0,
+      h.2.2.1.0,
       ap₂ (λ x xs. x ∷ xs) (mark-same (codes "(") t e)
-      (h.1.1 ∙ ap (term_lexemes h.1.0) (h.2.1.1 ∙ ap (more_arguments_lexemes h.2.1.0) (h.2.2.1.1 ∙ ap (equation_lexemes b h.2.2.1.0) h.2.2.2)))))
+          (h.1.1 ∙ ap (term_lexemes h.1.0) (h.2.1.1 ∙ ap (more_arguments_lexemes h.2.1.0) (h.2.2.1.1 ∙ ap (equation_lexemes b h.2.2.1.0) h.2.2.2))),
+    ))
     (λ e. choose (IsStepOf (maybe_applied b s) t) (is_sign_of_equation b t) (taken (a_term s ∷ [])) passes
-      (λ f ts rest h. let r = right-side b s t f ts rest h in (no_phrases, equation_with r.0 r.1, r.2)) (λ f ts. (no_phrases, no_equation, refl)))
+    (λ f ts rest h. let r = right-side b s t f ts rest h in (no_phrases, equation_with r.0 r.1, r.2)) (λ f ts. (no_phrases, no_equation, refl)))
 
 applied_atom : (b : Bool) → Word → TermPhrases → EquationEnd b → AtomFor b
 applied_atom true w us no_equation = predicate_atom w us
@@ -99,20 +101,23 @@ applied-lexemes false w us (equation_with sign t) rest = refl
 word-atom :
     (b : Bool) (s : Surroundings) (w : Word) (ts rest : List Lexeme) → SpellAll (maybe_applied b s ∷ []) ts rest
     → (a : AtomFor b) × (word_lexeme w ∷ ts ≡ atom_lexemes (atom_for b a) rest)
-word-atom b s w ts rest h =
-    (applied_atom b w h.1.0 h.1.1,
-    ap (λ xs. word_lexeme w ∷ xs) (h.1.2 ∙ ap (λ xs. arguments_lexemes h.1.0 (equation_lexemes b h.1.1 xs)) h.2)
-    ∙ applied-lexemes b w h.1.0 h.1.1 rest)
+word-atom b s w ts rest h = (
+  applied_atom b w h.1.0 h.1.1,
+  ap (λ xs. word_lexeme w ∷ xs) (h.1.2 ∙ ap (λ xs. arguments_lexemes h.1.0 (equation_lexemes b h.1.1 xs)) h.2)
+      ∙ applied-lexemes b w h.1.0 h.1.1 rest,
+)
 
 variable-atom :
     (b : Bool) (s : Surroundings) (x : List ℕ) (ts rest : List Lexeme) → SpellAll (an_equation b s ∷ []) ts rest
     → (a : AtomFor b) × (lexeme Variable x ∷ ts ≡ atom_lexemes (atom_for b a) rest)
-variable-atom true s x ts rest h =
-    (equation_atom h.1.0 (variable_word x) h.1.1,
-    ap (λ xs. lexeme Variable x ∷ xs) (h.1.2 ∙ ap (λ xs. equals_lexeme h.1.0 ∷ term_lexemes h.1.1 xs) h.2))
-variable-atom false s x ts rest h =
-    (plain_equation (variable_word x) h.1.1,
-    ap (λ xs. lexeme Variable x ∷ xs) (h.1.2 ∙ ap (λ xs. equals_lexeme true ∷ term_lexemes h.1.1 xs) h.2))
+variable-atom true s x ts rest h = (
+  equation_atom h.1.0 (variable_word x) h.1.1,
+  ap (λ xs. lexeme Variable x ∷ xs) (h.1.2 ∙ ap (λ xs. equals_lexeme h.1.0 ∷ term_lexemes h.1.1 xs) h.2),
+)
+variable-atom false s x ts rest h = (
+  plain_equation (variable_word x) h.1.1,
+  ap (λ xs. lexeme Variable x ∷ xs) (h.1.2 ∙ ap (λ xs. equals_lexeme true ∷ term_lexemes h.1.1 xs) h.2),
+)
 
 truth-atom :
     (b : Bool) (bytes : List ℕ) (ts rest : List Lexeme) → is_truth_word bytes ≡ true → ts ≡ rest

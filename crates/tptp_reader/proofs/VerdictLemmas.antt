@@ -35,9 +35,13 @@ Ended place ts s ran_out = (end : List Symbol) × Reaches s ts (nones ts) end ×
 one-more-token :
     (place : ℕ) (t : Lexeme) (ts : List Lexeme) (a : Symbol) (s next : List Symbol) (v : Verdict)
     → moved (a ∷ s) t ≡ to None next → Ended (suc place) ts next v → Ended place (t ∷ ts) (a ∷ s) v
-one-more-token place t ts a s next (read_up_to n) i h =
-    (t ∷ h.0, h.1, ap (λ xs. t ∷ xs) h.2, omega (arith, h.3),
-    ap (by_move (λ x. trace ts x) (t ∷ ts)) i ∙ ap (marked None) h.4)
+one-more-token place t ts a s next (read_up_to n) i h = (
+  t ∷ h.0,
+  h.1,
+  ap (λ xs. t ∷ xs) h.2,
+  omega (arith, h.3),
+  ap (by_move (λ x. trace ts x) (t ∷ ts)) i ∙ ap (marked None) h.4,
+)
 one-more-token place t ts a s next (refused_at n refusal) i h =
     (t ∷ h.0, h.1, h.2, h.3, ap (λ xs. t ∷ xs) h.4, omega (arith, h.5), (next, i, h.6), h.7)
 one-more-token place t ts a s next ran_out i h = (h.0, (next, i, h.1), h.2)
@@ -145,7 +149,7 @@ refused-right :
     → IsRefusedAt limit front t refusal
 refused-right limit front t end refusal r (inl h) =
     let b = begun limit (front ++ t ∷ []) (nones front ++ Some refusal ∷ []) h.0
-      (reached-more (an_annotated limit ∷ []) front (nones front) end t (Some refusal) h.0 r h.1) in
+    (reached-more (an_annotated limit ∷ []) front (nones front) end t (Some refusal) h.0 r h.1) in
     let n : suc (length front) ≡ length (front ++ t ∷ []) = omega (arith, length-append front (t ∷ [])) in
     inl (b.phrase, b.more, b.begins, ap (λ k. take k (annotated_causes limit b.phrase)) n ∙ b.causes)
 refused-right limit front t end refusal r (inr h) =
@@ -167,7 +171,7 @@ answer-of limit ts (refused_at n refusal) h =
     let here : h.1 ∷ h.2 ≡ drop n ts = sym (drop-append_seam h.0 (h.1 ∷ h.2)) ∙ ap₂ drop count (sym h.4) in
     let more : length (h.0 ++ h.1 ∷ []) ≡ suc n = omega (arith, length-append h.0 (h.1 ∷ []), count) in
     let behind : h.2 ≡ drop (suc n) ts =
-      sym (drop-append_seam (h.0 ++ h.1 ∷ []) h.2) ∙ ap₂ drop more (append_assoc h.0 (h.1 ∷ []) h.2 ∙ sym h.4) in
+    sym (drop-append_seam (h.0 ++ h.1 ∷ []) h.2) ∙ ap₂ drop more (append_assoc h.0 (h.1 ∷ []) h.2 ∙ sym h.4) in
     (h.1, sym here ∙ ap (λ x. h.1 ∷ x) behind, subst (λ x. IsRefusedAt limit x h.1 refusal) front (refused-right limit h.0 h.1 h.3 refusal h.6 h.7))
 answer-of limit ts ran_out h = runs-out limit ts h.0 h.1 h.2
 
@@ -243,11 +247,11 @@ fault-trace limit before t after refusal h =
     let all = taken limit (before ++ t ∷ []) p h.1 h.2 in
     let n : length (before ++ t ∷ []) ≡ suc (length before) = omega (arith, length-append before (t ∷ [])) in
     let causes : take (length (before ++ t ∷ [])) (annotated_causes limit p) ≡ nones before ++ Some refusal ∷ [] =
-      ap (λ k. take k (annotated_causes limit p)) n ∙ h.3 in
+    ap (λ k. take k (annotated_causes limit p)) n ∙ h.3 in
     let run : trace (before ++ t ∷ after) (an_annotated limit ∷ []) ≡ marks (nones before) (marked (Some refusal) (trace after all.0)) =
-      ap (λ x. trace x (an_annotated limit ∷ [])) (sym (append_assoc before (t ∷ []) after))
-      ∙ reached-trace (an_annotated limit ∷ []) (before ++ t ∷ []) (take (length (before ++ t ∷ [])) (annotated_causes limit p)) all.0 all.1 after
-      ∙ ap (λ cs. marks cs (trace after all.0)) causes ∙ marks-append (nones before) (Some refusal ∷ []) (trace after all.0) in
+    ap (λ x. trace x (an_annotated limit ∷ [])) (sym (append_assoc before (t ∷ []) after))
+    ∙ reached-trace (an_annotated limit ∷ []) (before ++ t ∷ []) (take (length (before ++ t ∷ [])) (annotated_causes limit p)) all.0 all.1 after
+    ∙ ap (λ cs. marks cs (trace after all.0)) causes ∙ marks-append (nones before) (Some refusal ∷ []) (trace after all.0) in
     ap (verdict_of 0) run ∙ verdict-faultless 0 (nones before) (marked (Some refusal) (trace after all.0)) (nones-faultless before)
     ∙ ap (λ k. refused_at k refusal) (let k : 0 + length (nones before) ≡ length before = omega (arith, length-nones before) in k)
 
@@ -258,7 +262,7 @@ begun-run :
     → Reaches (an_annotated limit ∷ []) before cs end → trace [] end ≡ cut_off
 begun-run limit before cs [] f n r =
     let read = read-of-run limit before cs [] f
-      (ap (λ x. trace x (an_annotated limit ∷ [])) (sym (append-nil before)) ∙ reached-trace (an_annotated limit ∷ []) before cs [] r []) in
+    (ap (λ x. trace x (an_annotated limit ∷ [])) (sym (append-nil before)) ∙ reached-trace (an_annotated limit ∷ []) before cs [] r []) in
     absurd (n read.0 [] read.1)
 begun-run limit before cs (a ∷ s) f n r = refl
 
@@ -303,7 +307,7 @@ only-read : (limit n : ℕ) (ts : List Lexeme) → IsAnswer limit ts (read_up_to
 only-read limit n ts h =
     let run = run-of-read limit ts h.0 (drop n ts) h.1 in
     let count : n ≡ 0 + length (annotated_causes limit h.0) =
-      omega (arith, h.2, length-drop n ts, trace-length ts (an_annotated limit ∷ []) (annotated_causes limit h.0) (drop n ts) run) in
+    omega (arith, h.2, length-drop n ts, trace-length ts (an_annotated limit ∷ []) (annotated_causes limit h.0) (drop n ts) run) in
     ap read_up_to count
     ∙ sym (ap (verdict_of 0) run ∙ verdict-faultless 0 (annotated_causes limit h.0) (done (drop n ts)) h.1.faultless)
 

@@ -11,3 +11,4 @@ pub mod Messages
 pub mod Machine
 pub mod Answers
 pub mod Verdicts
+pub mod AnswerExamples

@@ -1,7 +1,7 @@
 -- A printed text spells again what some text spells.
 use Rattle.std.proofs.Common.{◌≡◌, ℕ, List, [], ◌∷◌, ◌++◌, ap, sym, ◌∙◌, subst, append-nil}
-use Rattle.tptp_token.specs.Lexemes.{Lexeme, IsLexedAs}
-use Rattle.tptp_token.proofs.LexemeLemmas.{Lexes, lexes-whole, lexes-nothing}
+use Rattle.tptp_token.specs.Lexemes.{IsLexedAs}
+use Rattle.tptp_token.proofs.LexemeLemmas.{lexes-whole, lexes-nothing}
 use Rattle.tptp_tree.specs.Formula.{FormulaTree}
 use Rattle.tptp_tree.specs.Printing.{name_text, formula_text}
 use Rattle.tptp_tree.specs.Spelling.{word_lexeme, name_of, phrase_lexemes, meant, SpellsName, SpellsFormula}

@@ -1,11 +1,11 @@
 -- A list of tokens is that of at most one atom, with what follows it.
-use Rattle.std.proofs.Common.{◌≡◌, ℕ, None, Some, Option, Bool, true, false, ◌&&◌, List, [], ◌∷◌, codes, refl, ap, ap₂, sym, ◌∙◌, subst, bytes_eq}
+use Rattle.std.proofs.Common.{◌≡◌, ℕ, None, Some, Option, Bool, true, false, List, [], ◌∷◌, codes, refl, ap, ap₂, sym, ◌∙◌, bytes_eq}
 use Rattle.std.specs.Prelude.{if◌then◌else◌}
 use Rattle.tptp_token.specs.Lexemes.{Lexeme}
 use Rattle.tptp_token.specs.declared.token.Kind.{Kind}
 use Rattle.tptp_token.specs.declared.token.Kind.TheVariants.{Lower, Variable, Quoted, Distinct, Dollar, Number, Connective, Mark, Other}
-use Rattle.tptp_tree.specs.Formula.{BinaryConnective, implies, implied, equivalent, different, nor, nand, Quantifier, for_all, exists_some}
-use Rattle.tptp_tree.specs.Spelling.{Word, bare, quoted, lexeme, word_lexeme, TermPhrase, variable_word, word_with, TermPhrases, no_phrases, phrase_then, term_lexemes, arguments_lexemes, more_arguments_lexemes, Atom, true_atom, false_atom, predicate_atom, equation_atom, equals_lexeme, atom_lexemes, Variables, UnitPhrase, negated, bound, in_brackets, atomic, UnitPhrases, no_units, unit_then, Phrase, alone, all_of, some_of, joined_by, connective_lexeme, quantifier_lexeme, more_variables_lexemes, variables_lexemes, unit_lexemes, units_lexemes, phrase_lexemes}
+use Rattle.tptp_tree.specs.Formula.{BinaryConnective, implies, implied, equivalent, different, nor, nand}
+use Rattle.tptp_tree.specs.Spelling.{Word, bare, quoted, lexeme, word_lexeme, TermPhrase, variable_word, word_with, TermPhrases, no_phrases, phrase_then, term_lexemes, arguments_lexemes, more_arguments_lexemes, Atom, true_atom, false_atom, predicate_atom, equation_atom, equals_lexeme, atom_lexemes}
 
 -- ---- what the first token tells
 

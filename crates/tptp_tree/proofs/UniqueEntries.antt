@@ -1,17 +1,16 @@
 -- A list of tokens is that of at most one annotated formula, with what follows it, and of at most one list of entries.
-use Rattle.std.proofs.Common.{◌≡◌, ℕ, Option, None, Some, Bool, true, false, ◌&&◌, List, [], ◌∷◌, ◌++◌, codes, refl, ap, ap₂, sym, ◌∙◌, subst, bytes_eq}
+use Rattle.std.proofs.Common.{◌≡◌, ℕ, Option, None, Some, Bool, true, false, List, [], ◌∷◌, ◌++◌, codes, refl, ap, ap₂, sym, ◌∙◌, subst, bytes_eq}
 use Rattle.std.specs.List.{list_all}
 use Rattle.std.proofs.lemmas.Bool.{and_parts}
 use Rattle.tptp_token.specs.Lexemes.{Lexeme}
-use Rattle.tptp_token.specs.declared.token.Kind.{Kind}
 use Rattle.tptp_token.specs.declared.token.Kind.TheVariants.{Lower, Quoted, Number, Connective, Mark}
 use Rattle.tptp_tree.specs.declared.problem.Role.{Role}
 use Rattle.tptp_tree.specs.Formula.{FormulaTree}
-use Rattle.tptp_tree.specs.Spelling.{Word, bare, quoted, name_of, lexeme, word_lexeme, Atom, true_atom, false_atom, predicate_atom, equation_atom, atom_lexemes, atomic}
+use Rattle.tptp_tree.specs.Spelling.{bare, quoted, lexeme, Atom, atom_lexemes, atomic}
 use Rattle.tptp_tree.specs.Brackets.{Bracket, open_after, open_behind, is_nothing_open, are_balanced}
-use Rattle.tptp_tree.specs.Entries.{PlainAtom, plain_true, plain_false, plain_predicate, plain_equation, atom_of, LiteralPhrase, positive_literal, negated_literal, negated_in_brackets, ClausePhrase, literals, clause_in_brackets, literal_lexemes, more_literals_lexemes, clause_lexemes, NamePhrase, word_name, digits_name, name_lexeme, name_meant, is_right_name, role_of, Body, formula_body, clause_body, is_clause_body, body_lexemes, body_meant, language_word, AnnotatedPhrase, is_right_annotated, notes_lexemes, annotated_lexemes, AnnotatedTree, IsAnnotatedOf, Selection, EntryPhrase, annotated_entry, whole_include, selected_include, is_right_entry, more_names_lexemes, include_end, entry_lexemes, problem_lexemes, EntryTree, annotated_tree, include_tree, names_meant, IsEntryOf, AreEntriesOf}
-use Rattle.tptp_tree.proofs.UniqueAtoms.{tail-same, head-same, first_is, first_equals, first_joint, nothing, ors, EndsUnit, EndsPhrase, word-same, first_start, atom_start, atom-start, atom-same}
-use Rattle.tptp_tree.proofs.UniqueLemmas.{UnitStart, tilde, bracket, atom_of as atom_unit, first_unit, unit-start, or-ends, closed-ends, phrase-same}
+use Rattle.tptp_tree.specs.Entries.{PlainAtom, plain_true, plain_false, plain_predicate, plain_equation, atom_of, LiteralPhrase, positive_literal, negated_literal, negated_in_brackets, ClausePhrase, literals, clause_in_brackets, literal_lexemes, more_literals_lexemes, clause_lexemes, NamePhrase, word_name, digits_name, name_lexeme, is_right_name, Body, formula_body, clause_body, is_clause_body, body_lexemes, language_word, AnnotatedPhrase, is_right_annotated, notes_lexemes, annotated_lexemes, AnnotatedTree, IsAnnotatedOf, Selection, EntryPhrase, annotated_entry, whole_include, selected_include, is_right_entry, more_names_lexemes, include_end, entry_lexemes, problem_lexemes, EntryTree, annotated_tree, IsEntryOf, AreEntriesOf}
+use Rattle.tptp_tree.proofs.UniqueAtoms.{tail-same, head-same, first_is, first_joint, nothing, ors, EndsUnit, EndsPhrase, word-same, first_start, atom_start, atom-start, atom-same}
+use Rattle.tptp_tree.proofs.UniqueLemmas.{tilde, bracket, atom_of as atom_unit, first_unit, unit-start, or-ends, closed-ends, phrase-same}
 
 -- ---- literals and clauses
 
@@ -123,8 +122,8 @@ balanced-same bs (n ∷ ns) [] rs ss h k e =
 balanced-same bs (n ∷ ns) (m ∷ ms) rs ss h k e =
     let first = head-same _ _ _ _ e in
     let more =
-      by (λ behind i j. balanced-same behind ns ms rs ss i j (tail-same _ _ _ _ e)) (open_after bs n) h
-      (subst (λ t. is_nothing_open (open_behind (open_after bs t) ms) ≡ true) (sym first) k) in
+    by (λ behind i j. balanced-same behind ns ms rs ss i j (tail-same _ _ _ _ e)) (open_after bs n) h
+    (subst (λ t. is_nothing_open (open_behind (open_after bs t) ms) ≡ true) (sym first) k) in
     (ap₂ (λ x xs. x ∷ xs) first more.0, more.1)
   where
     by :
@@ -178,11 +177,10 @@ annotated-same p q rs ss h k e =
     let role : p.role ≡ q.role = ap (λ (l : Lexeme). l.bytes) (head-same _ _ _ _ from_role) in
     let from_body = tail-same _ _ _ _ (tail-same _ _ _ _ from_role) in
     let body =
-      body-same p.body q.body (notes_lexemes p.notes (lexeme Mark (codes ")") ∷ lexeme Mark (codes ".") ∷ rs))
-      (notes_lexemes q.notes (lexeme Mark (codes ")") ∷ lexeme Mark (codes ".") ∷ ss)) language
-      (notes-end p.notes (lexeme Mark (codes ".") ∷ rs)) (notes-end q.notes (lexeme Mark (codes ".") ∷ ss)) from_body in
-    let notes = notes-same p.notes q.notes (lexeme Mark (codes ".") ∷ rs) (lexeme Mark (codes ".") ∷ ss) right_p.1 right_q.1 body.1 in
-    (
+    body-same p.body q.body (notes_lexemes p.notes (lexeme Mark (codes ")") ∷ lexeme Mark (codes ".") ∷ rs))
+    (notes_lexemes q.notes (lexeme Mark (codes ")") ∷ lexeme Mark (codes ".") ∷ ss)) language
+    (notes-end p.notes (lexeme Mark (codes ".") ∷ rs)) (notes-end q.notes (lexeme Mark (codes ".") ∷ ss)) from_body in
+    let notes = notes-same p.notes q.notes (lexeme Mark (codes ".") ∷ rs) (lexeme Mark (codes ".") ∷ ss) right_p.1 right_q.1 body.1 in (
       ap₂ (λ n r. phrase-of n r p.body p.notes) name role ∙ ap₂ (λ b ns. phrase-of q.name q.role b ns) body.0 notes.0,
       tail-same _ _ _ _ notes.1,
     )
@@ -226,10 +224,9 @@ entry-same (selected_include f ns) (whole_include g) rs ss h k e =
 entry-same (selected_include f ns) (selected_include g ms) rs ss h k e =
     let from_file = tail-same _ _ _ _ (tail-same _ _ _ _ e) in
     let from_first = tail-same _ _ _ _ (tail-same _ _ _ _ (tail-same _ _ _ _ from_file)) in
-    let more = names-same ns.others ms.others (include_end rs) (include_end ss) (tail-same _ _ _ _ from_first) in
-    (
+    let more = names-same ns.others ms.others (include_end rs) (include_end ss) (tail-same _ _ _ _ from_first) in (
       ap₂ selected_include (word-same f g (head-same _ _ _ _ from_file))
-      (ap₂ selection-of (name-same ns.first ms.first (head-same _ _ _ _ from_first)) more.0),
+          (ap₂ selection-of (name-same ns.first ms.first (head-same _ _ _ _ from_first)) more.0),
       tail-same _ _ _ _ (tail-same _ _ _ _ more.1),
     )
 
