@@ -150,9 +150,6 @@ followed-halts s t (takes new cause) n h = inner-more new s h
 followed-halts s t passes n h = absurd (n refl)
 followed-halts s t (stops refusal) n h = h
 
-never-passes : Step → Type 0
-never-passes x = (x ≡ passes) → ⊥
-
 atom-never-passes : (b : Bool) (s : Surroundings) (k : Kind) (bytes : List ℕ) → (atom_step b s k bytes ≡ passes) → ⊥
 atom-never-passes b s Dollar bytes e = by (is_truth_word bytes) e
   where

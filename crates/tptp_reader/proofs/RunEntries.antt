@@ -13,11 +13,8 @@ use Rattle.tptp_tree.specs.Causes.{Refusal, syntax, role_cause, outermost, body_
 use Rattle.tptp_reader.specs.Machine.{Symbol, stops, taken, mark, a_unit, maybe_connected, a_clause, a_name, a_role, end_of_body, first_note, more_notes, an_annotated, note_step, end_of_notes_step}
 use Rattle.tptp_reader.proofs.TraceLemmas.{Trace, done, marked, moved_by, moved, by_move, emptied, trace, marks}
 use Rattle.tptp_reader.proofs.FollowLemmas.{Follows, EndsFormula, EndsClause}
+use Rattle.tptp_reader.proofs.Spelled.{entry_end}
 use Rattle.tptp_reader.proofs.RunFormulas.{phrase-runs, clause-runs}
-
--- the closing bracket of an entry, and its full stop
-abbrev entry_end : List Lexeme → List Lexeme
-entry_end rest = lexeme Mark (codes ")") ∷ lexeme Mark (codes ".") ∷ rest
 
 -- ---- notes
 

@@ -64,9 +64,11 @@ with_end-lexemes u (and_joined c v) rest = refl
 
 -- ---- symbols
 
+-- the end of a quantifier's variables
 abbrev pub colon_and : List Lexeme → List Lexeme
 colon_and rest = lexeme Mark (codes "]") ∷ lexeme Mark (codes ":") ∷ rest
 
+-- the closing bracket of an entry, and its full stop
 abbrev pub entry_end : List Lexeme → List Lexeme
 entry_end rest = lexeme Mark (codes ")") ∷ lexeme Mark (codes ".") ∷ rest
 

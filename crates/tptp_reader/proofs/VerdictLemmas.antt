@@ -346,3 +346,7 @@ the-answer limit ts =
       right = subst (IsAnswer limit ts) (sym traced) (answer-of limit ts (verdict_of 0 (trace ts (an_annotated limit ∷ []))) (ending 0 ts (an_annotated limit ∷ [])));
       only = λ v h. only-answer limit ts v h ∙ sym traced;
     }
+
+-- what a known verdict says
+pub answer-is : (limit : ℕ) (ts : List Lexeme) (v : Verdict) → verdict_on limit ts ≡ v → IsAnswer limit ts v
+answer-is limit ts v e = subst (IsAnswer limit ts) e (the-answer limit ts).right
