@@ -1,14 +1,14 @@
 -- The tokens that the machine takes, and what stacks spell behind them.
-use Rattle.std.proofs.Common.{◌≡◌, ◌⊎◌, inl, inr, ℕ, suc, ◌+◌, Bool, true, false, ◌&&◌, Option, None, Some, List, [], ◌∷◌, ◌++◌, length, take, codes, refl, ap, ap₂, sym, ◌∙◌, subst, append-nil}
+use Rattle.std.proofs.Common.{◌≡◌, suc, Bool, true, false, Option, Some, List, [], ◌∷◌, ◌++◌, length, take, codes, refl, ap, sym, ◌∙◌, subst}
 use Rattle.tptp_token.specs.Lexemes.{Lexeme}
-use Rattle.tptp_token.specs.declared.token.Kind.TheVariants.{Lower, Number, Mark, Other}
-use Rattle.tptp_tree.specs.Spelling.{bare, lexeme, TermPhrase, word_with, no_phrases, Atom, true_atom, UnitPhrase, atomic, no_units, alone, term_lexemes, equals_lexeme, unit_lexemes, phrase_lexemes, variables_lexemes, more_variables_lexemes}
-use Rattle.tptp_tree.specs.Brackets.{Bracket, round, square, curly, closes, open_after, open_behind, is_nothing_open}
-use Rattle.tptp_tree.specs.Entries.{plain_true, positive_literal, negated_literal, ClausePhrase, literals, clause_lexemes, literal_lexemes, word_name, AnnotatedPhrase, clause_body, annotated_lexemes}
+use Rattle.tptp_token.specs.declared.token.Kind.TheVariants.{Lower, Mark, Other}
+use Rattle.tptp_tree.specs.Spelling.{bare, lexeme, TermPhrase, word_with, no_phrases, true_atom, UnitPhrase, atomic, no_units}
+use Rattle.tptp_tree.specs.Brackets.{Bracket, round, square, curly, open_after, open_behind, is_nothing_open}
+use Rattle.tptp_tree.specs.Entries.{plain_true, positive_literal, negated_literal, ClausePhrase, literals, word_name, AnnotatedPhrase, clause_body}
 use Rattle.tptp_tree.specs.Causes.{Refusal}
 use Rattle.tptp_reader.specs.Machine.{Symbol, mark, a_term, maybe_arguments, more_arguments, an_atom, maybe_applied, maybe_equation, an_equation, a_unit, maybe_connected, maybe_more_units, variables_bracket, next_variable, more_variables, a_clause, a_literal, a_plain_literal, maybe_more_literals, a_name, a_role, end_of_body, first_note, more_notes, an_annotated, Step, takes, passes, stops, step}
-use Rattle.tptp_reader.proofs.TraceLemmas.{Move, to, halted, emptied, moved_by, moved, Trace, done, cut_off, halted_by, marked, by_move, trace, marks}
-use Rattle.tptp_reader.proofs.Spelled.{SignFor, AtomFor, no_equation, ended, colon_and, entry_end, Spells, SpellAll, IsStepOf, all-split}
+use Rattle.tptp_reader.proofs.TraceLemmas.{Move, to, halted, emptied, moved_by, moved, done, cut_off, halted_by, marked, by_move, trace, marks}
+use Rattle.tptp_reader.proofs.Spelled.{SignFor, AtomFor, no_equation, ended, Spells, SpellAll, IsStepOf, all-split}
 use Rattle.tptp_reader.proofs.StepEntries.{step-right}
 
 -- ---- what is spelled with one token more before it

@@ -1,15 +1,13 @@
 -- The machine runs over the tokens of an annotated formula.
-use Rattle.std.proofs.Common.{◌≡◌, ℕ, Bool, true, false, ◌&&◌, Option, None, Some, List, [], ◌∷◌, ◌++◌, length, codes, refl, ap, sym, ◌∙◌}
+use Rattle.std.proofs.Common.{◌≡◌, ℕ, Bool, true, false, Option, None, Some, List, [], ◌∷◌, ◌++◌, length, codes, refl, ap, ◌∙◌}
 use Rattle.std.specs.Prelude.{if◌then◌else◌}
-use Rattle.std.specs.List.{list_all}
 use Rattle.std.proofs.lemmas.Bool.{and_parts}
-use Rattle.fol_base.specs.Spelling.{is_digit}
 use Rattle.tptp_token.specs.Lexemes.{Lexeme}
 use Rattle.tptp_token.specs.declared.token.Kind.TheVariants.{Lower, Number, Mark}
 use Rattle.tptp_tree.specs.Spelling.{bare, quoted, lexeme}
 use Rattle.tptp_tree.specs.Brackets.{Bracket, opened, open_after, open_behind, is_nothing_open, are_balanced}
-use Rattle.tptp_tree.specs.Entries.{NamePhrase, word_name, digits_name, name_lexeme, is_right_name, Body, formula_body, clause_body, is_clause_body, body_lexemes, AnnotatedPhrase, is_right_annotated, notes_lexemes, annotated_lexemes}
-use Rattle.tptp_tree.specs.Causes.{Refusal, syntax, role_cause, outermost, body_causes, note_cause, notes_causes, notes_part_causes, annotated_causes}
+use Rattle.tptp_tree.specs.Entries.{NamePhrase, word_name, digits_name, name_lexeme, is_right_name, Body, formula_body, clause_body, body_lexemes, AnnotatedPhrase, is_right_annotated, notes_lexemes, annotated_lexemes}
+use Rattle.tptp_tree.specs.Causes.{syntax, role_cause, outermost, body_causes, note_cause, notes_causes, notes_part_causes, annotated_causes}
 use Rattle.tptp_reader.specs.Machine.{Symbol, stops, taken, mark, a_unit, maybe_connected, a_clause, a_name, a_role, end_of_body, first_note, more_notes, an_annotated, note_step, end_of_notes_step}
 use Rattle.tptp_reader.proofs.TraceLemmas.{Trace, done, marked, moved_by, moved, by_move, emptied, trace, marks}
 use Rattle.tptp_reader.proofs.FollowLemmas.{Follows, EndsFormula, EndsClause}

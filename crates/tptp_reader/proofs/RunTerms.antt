@@ -1,12 +1,11 @@
 -- The machine runs over the tokens of terms and atoms.
-use Rattle.std.proofs.Common.{◌≡◌, ℕ, Bool, true, false, Option, None, Some, List, [], ◌∷◌, codes, refl, ap, ◌∙◌}
+use Rattle.std.proofs.Common.{◌≡◌, ℕ, Bool, true, false, Option, None, List, ◌∷◌, refl, ap, ◌∙◌}
 use Rattle.tptp_token.specs.Lexemes.{Lexeme}
-use Rattle.tptp_token.specs.declared.token.Kind.TheVariants.{Mark}
-use Rattle.tptp_tree.specs.Spelling.{bare, quoted, lexeme, TermPhrase, variable_word, word_with, TermPhrases, no_phrases, phrase_then, term_lexemes, arguments_lexemes, more_arguments_lexemes, Atom, true_atom, false_atom, predicate_atom, equation_atom, equals_lexeme, atom_lexemes}
+use Rattle.tptp_tree.specs.Spelling.{bare, quoted, TermPhrase, variable_word, word_with, TermPhrases, no_phrases, phrase_then, term_lexemes, arguments_lexemes, more_arguments_lexemes, Atom, true_atom, false_atom, predicate_atom, equation_atom, equals_lexeme, atom_lexemes}
 use Rattle.tptp_tree.specs.Causes.{Refusal, Surroundings, deeper, begun, variable_cause, term_causes, arguments_causes, more_arguments_causes, atom_causes}
 use Rattle.tptp_reader.specs.Machine.{Symbol, a_term, maybe_arguments, more_arguments, an_atom, maybe_applied, maybe_equation, an_equation}
 use Rattle.tptp_reader.proofs.TraceLemmas.{Trace, marked, trace, marks}
-use Rattle.tptp_reader.proofs.FollowLemmas.{Follows, EndsTerm, EndsAtom, weaker, under, skipped, atom-term, arguments-pass, equation-pass, applied-pass}
+use Rattle.tptp_reader.proofs.FollowLemmas.{Follows, EndsTerm, EndsAtom, weaker, skipped, atom-term, arguments-pass, equation-pass, applied-pass}
 
 more_arguments-follow :
     (s : Surroundings) (ts : TermPhrases) (rest : List Lexeme) (below : List Symbol)

@@ -1,5 +1,5 @@
 -- Each step of the machine on names, roles, notes and annotated formulas is right, and so is each step.
-use Rattle.std.proofs.Common.{◌≡◌, ℕ, Bool, true, false, ◌&&◌, Option, None, Some, List, [], ◌∷◌, ◌++◌, codes, refl, ap, ap₂, sym, ◌∙◌, subst, bytes_eq}
+use Rattle.std.proofs.Common.{◌≡◌, ℕ, Bool, true, false, ◌&&◌, Option, None, Some, List, [], ◌∷◌, ◌++◌, codes, refl, ap, ap₂, ◌∙◌, bytes_eq}
 use Rattle.std.specs.Prelude.{if◌then◌else◌}
 use Rattle.std.specs.List.{list_all}
 use Rattle.std.proofs.lemmas.Slice.Eq.{bytes_eq-Decides}
@@ -8,10 +8,10 @@ use Rattle.tptp_token.specs.Lexemes.{Lexeme}
 use Rattle.tptp_token.specs.declared.token.Kind.{Kind}
 use Rattle.tptp_token.specs.declared.token.Kind.TheVariants.{Lower, Variable, Quoted, Distinct, Dollar, Number, Connective, Mark, Other}
 use Rattle.tptp_tree.specs.Spelling.{bare, quoted, lexeme}
-use Rattle.tptp_tree.specs.Brackets.{is_mark, Bracket, opened, open_after, open_behind, is_nothing_open, are_balanced}
-use Rattle.tptp_tree.specs.Entries.{NamePhrase, word_name, digits_name, name_lexeme, is_right_name, formula_body, clause_body, Body, is_clause_body, body_lexemes, language_word, AnnotatedPhrase, notes_lexemes, clause_lexemes}
-use Rattle.tptp_tree.specs.Causes.{Surroundings, syntax, left_out, typed, role_cause, outermost}
-use Rattle.tptp_reader.specs.Machine.{Symbol, mark, a_term, maybe_arguments, more_arguments, an_atom, maybe_applied, maybe_equation, an_equation, a_unit, maybe_connected, maybe_more_units, variables_bracket, next_variable, more_variables, a_clause, a_literal, a_plain_literal, maybe_more_literals, a_name, a_role, end_of_body, first_note, more_notes, an_annotated, Step, takes, passes, stops, taken, step, name_step, role_step, note_step, end_of_notes_step, before_body, formula_symbols, typed_words, language_step, annotated_step}
+use Rattle.tptp_tree.specs.Brackets.{is_mark, Bracket, open_after, open_behind, is_nothing_open}
+use Rattle.tptp_tree.specs.Entries.{NamePhrase, word_name, digits_name, name_lexeme, is_right_name, formula_body, clause_body, Body, is_clause_body, body_lexemes, language_word, notes_lexemes}
+use Rattle.tptp_tree.specs.Causes.{syntax, left_out, typed, outermost}
+use Rattle.tptp_reader.specs.Machine.{Symbol, mark, a_term, maybe_arguments, more_arguments, an_atom, maybe_applied, maybe_equation, an_equation, a_unit, maybe_connected, maybe_more_units, variables_bracket, next_variable, more_variables, a_clause, a_literal, a_plain_literal, maybe_more_literals, a_name, a_role, end_of_body, first_note, more_notes, an_annotated, stops, taken, step, name_step, role_step, note_step, end_of_notes_step, before_body, formula_symbols, typed_words, language_step, annotated_step}
 use Rattle.tptp_reader.proofs.Spelled.{entry_end, Spells, SpellAll, IsStepOf}
 use Rattle.tptp_reader.proofs.TokenTests.{choose, mark-same}
 use Rattle.tptp_reader.proofs.StepTerms.{term-right, arguments-right, more_arguments-right, atom-right, applied-right, equation-right, sign-right}

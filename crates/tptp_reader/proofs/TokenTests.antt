@@ -1,5 +1,5 @@
 -- What the tests of tokens say.
-use Rattle.std.proofs.Common.{◌≡◌, ◌⊎◌, inl, inr, ℕ, Bool, true, false, ◌==◌, ◌&&◌, ◌||◌, Option, None, Some, List, [], ◌∷◌, codes, refl, ap, ap₂, sym, ◌∙◌, bytes_eq}
+use Rattle.std.proofs.Common.{◌≡◌, ◌⊎◌, inl, inr, ℕ, Bool, true, false, ◌==◌, ◌||◌, List, [], ◌∷◌, codes, refl, ap₂, sym, bytes_eq}
 use Rattle.std.specs.Prelude.{if◌then◌else◌}
 use Rattle.std.specs.List.{list_any}
 use Rattle.std.proofs.lemmas.Bool.{and_parts}
@@ -9,9 +9,9 @@ use Rattle.tptp_token.specs.Lexemes.{Lexeme}
 use Rattle.tptp_token.specs.declared.token.Kind.{Kind}
 use Rattle.tptp_token.specs.declared.token.Kind.TheVariants.{Lower, Variable, Quoted, Distinct, Dollar, Number, Connective, Mark, Other}
 use Rattle.tptp_tree.specs.Formula.{BinaryConnective, implies, implied, equivalent, different, nor, nand}
-use Rattle.tptp_tree.specs.Spelling.{lexeme, connective_lexeme, equals_lexeme}
+use Rattle.tptp_tree.specs.Spelling.{lexeme, connective_lexeme}
 use Rattle.tptp_tree.specs.Brackets.{kind_place, is_lexeme, is_mark}
-use Rattle.tptp_reader.specs.Machine.{Step, is_connective, is_sign_of_equation, is_binary_connective, is_truth_word}
+use Rattle.tptp_reader.specs.Machine.{Step, is_connective, is_binary_connective, is_truth_word}
 
 -- both ways of a test
 pub choose : (P : Step → Type 0) (b : Bool) (x y : Step) → (b ≡ true → P x) → (b ≡ false → P y) → P (if b then x else y)

@@ -1,6 +1,6 @@
 -- Runs of the stack machine: what it tells of each token. A token that is wrong doesn't end a run here, so that what can
 -- stand behind it is seen.
-use Rattle.std.proofs.Common.{◌≡◌, ℕ, suc, Option, None, Some, List, [], ◌∷◌, ◌++◌, refl, ap, sym, ◌∙◌}
+use Rattle.std.proofs.Common.{◌≡◌, ℕ, suc, Option, None, Some, List, [], ◌∷◌, ◌++◌, refl, ap, ◌∙◌}
 use Rattle.tptp_token.specs.Lexemes.{Lexeme}
 use Rattle.tptp_tree.specs.Causes.{Refusal}
 use Rattle.tptp_reader.specs.Machine.{Symbol, Step, takes, passes, stops, step, Run, going, over, refused, stepped, after_token, Verdict, read_up_to, refused_at, ran_out, verdict}

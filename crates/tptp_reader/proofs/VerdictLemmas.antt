@@ -1,21 +1,18 @@
 -- The verdict of the machine is the one answer.
-use Rattle.std.proofs.Common.{◌≡◌, ◌⊎◌, inl, inr, ℕ, zero, suc, ◌+◌, ◌≤◌, Bool, true, false, Option, None, Some, List, [], ◌∷◌, ◌++◌, map, length, take, drop, codes, refl, ap, ap₂, sym, ◌∙◌, subst, append-nil, append_assoc, length-append, arith}
-use Rattle.std.specs.Prelude.{if◌then◌else◌}
-use Rattle.std.specs.List.{list_all}
+use Rattle.std.proofs.Common.{◌≡◌, ◌⊎◌, inl, inr, ℕ, suc, ◌+◌, ◌≤◌, true, Option, None, Some, List, [], ◌∷◌, ◌++◌, length, take, drop, codes, refl, ap, ap₂, sym, ◌∙◌, subst, append-nil, append_assoc, length-append, arith}
 use Rattle.std.proofs.Math.Seq.{drop-append_seam, take-append_seam}
 use Rattle.std.proofs.lemmas.List.{length-drop, length-take-le, take-append-drop}
 use Rattle.fol_base.specs.Spelling.{is_one_of}
 use Rattle.tptp_token.specs.Lexemes.{Lexeme}
 use Rattle.tptp_token.specs.declared.token.Kind.TheVariants.{Lower, Variable}
 use Rattle.tptp_tree.specs.Spelling.{lexeme}
-use Rattle.tptp_tree.specs.Entries.{AnnotatedPhrase, is_right_annotated, annotated_lexemes}
+use Rattle.tptp_tree.specs.Entries.{AnnotatedPhrase, annotated_lexemes}
 use Rattle.tptp_tree.specs.Causes.{Form, typed, role_form, number_form, distinct_form, dollar_form, Refusal, syntax, free_variable, role_not_taken, too_deep, left_out, annotated_causes}
-use Rattle.tptp_reader.specs.Machine.{Symbol, an_annotated, Verdict, read_up_to, refused_at, ran_out, verdict, going, typed_words}
-use Rattle.tptp_reader.specs.Answers.{AreFaultless, IsReadAs, Begins, MayBegin, BeginsFaultless, IsFault, TermMayStand, form_of, IsTypedWord, IsLeftOut, IsOutOfPlace, IsRefusedAt, RunsOut}
+use Rattle.tptp_reader.specs.Machine.{Symbol, an_annotated, Verdict, read_up_to, refused_at, ran_out, typed_words}
+use Rattle.tptp_reader.specs.Answers.{AreFaultless, IsReadAs, MayBegin, IsFault, TermMayStand, form_of, IsLeftOut, IsOutOfPlace, IsRefusedAt, RunsOut}
 use Rattle.tptp_reader.specs.Verdicts.{IsAnswer, IsTheAnswer, verdict_on}
 use Rattle.tptp_reader.proofs.TraceLemmas.{Move, to, halted, emptied, moved, Trace, done, cut_off, halted_by, marked, by_move, trace, marks, verdict_of, verdict-traced}
 use Rattle.tptp_reader.proofs.TokenTests.{one-more, none}
-use Rattle.tptp_reader.proofs.HaltLemmas.{is_inner}
 use Rattle.tptp_reader.proofs.ReachLemmas.{Reaches, emptied-spells, reached-spells, reached-trace, reached-length, reached-more}
 use Rattle.tptp_reader.proofs.StopLemmas.{Takes, HaltIsRight, halted-right, begun-first}
 use Rattle.tptp_reader.proofs.RunEntries.{annotated-runs}
