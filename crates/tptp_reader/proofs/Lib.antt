@@ -30,3 +30,4 @@ pub mod HaltLemmas
 pub mod StopLemmas
 pub mod AnswerLemmas
 pub mod VerdictLemmas
+pub mod PlacedLemmas

@@ -12,3 +12,4 @@ pub mod Machine
 pub mod Answers
 pub mod Verdicts
 pub mod AnswerExamples
+pub mod Placed
