@@ -1,5 +1,10 @@
 // Tokens of a text, by what they are for the grammar.
 
+ghost use Rattle.std.specs.Prelude.{◌≡◌, ◌+◌, ◌-◌, ◌<◌, ◌≤◌, IfOk, length, take, drop, Err, ℕ, List, Ok};
+ghost use Rattle.tptp_reader.specs.Signs.{sign_of as sign_meant, dollar_sign as dollar_meant, connective_sign as connective_meant, mark_sign as mark_meant, other_sign as other_meant};
+ghost use Rattle.tptp_reader.specs.Draft.{IsAt, lexemes_of};
+ghost use Rattle.tptp_reader.specs.declared.cause.Halt.TheVariants.{Ended};
+
 use crate::cause::{Halt, ReadCause};
 use tptp_token::{Kind, Token};
 
@@ -53,7 +58,10 @@ pub struct Reader<'a> {
 
 impl<'a> Reader<'a> {
     /// What the token at an index is, and its bytes.
-    pub fn look(&self, at: usize) -> Result<(Sign, &'a [u8]), Halt> {
+    pub fn look(&self, at: usize) -> Result<(Sign, &'a [u8]), Halt>
+        ensures found { IfOk result (λ found. IsAt (lexemes_of self.now.bytes.now self.now.tokens.now) at found.0 found.1.now) }
+        ensures ended { (halt : Halt) → result ≡ Err halt → (halt ≡ Ended) × (length self.now.tokens.now ≤ at) }
+    {
         match self.tokens.get(at) {
             None => Err(Halt::Ended),
             Some(token) => {
@@ -82,15 +90,19 @@ impl<'a> Reader<'a> {
     }
 
     /// The bytes of a token.
-    fn bytes_of(&self, token: Token) -> &'a [u8] {
-        self.bytes
-            .get(token.start as usize..token.end as usize)
-            .unwrap_or(b"".as_slice())
+    fn bytes_of(&self, token: Token) -> &'a [u8]
+        ensures { result.now ≡ take (token.end - token.start) (drop token.start self.now.bytes.now) }
+    {
+        let end = self.bytes.len().min(token.end as usize);
+        let start = end.min(token.start as usize);
+        &self.bytes[start..end]
     }
 }
 
 /// What a token of this kind and these bytes is.
-fn sign_of(kind: Kind, bytes: &[u8]) -> Sign {
+fn sign_of(kind: Kind, bytes: &[u8]) -> Sign
+    ensures { result ≡ sign_meant kind bytes.now }
+{
     match kind {
         Kind::Lower => Sign::Lower,
         Kind::Variable => Sign::Variable,
@@ -104,7 +116,9 @@ fn sign_of(kind: Kind, bytes: &[u8]) -> Sign {
     }
 }
 
-fn dollar_sign(bytes: &[u8]) -> Sign {
+fn dollar_sign(bytes: &[u8]) -> Sign
+    ensures { result ≡ dollar_meant bytes.now }
+{
     if bytes == b"$true".as_slice() {
         Sign::True
     } else if bytes == b"$false".as_slice() {
@@ -114,7 +128,9 @@ fn dollar_sign(bytes: &[u8]) -> Sign {
     }
 }
 
-fn connective_sign(bytes: &[u8]) -> Sign {
+fn connective_sign(bytes: &[u8]) -> Sign
+    ensures { result ≡ connective_meant bytes.now }
+{
     if bytes == b"~".as_slice() {
         Sign::Not
     } else if bytes == b"&".as_slice() {
@@ -146,7 +162,9 @@ fn connective_sign(bytes: &[u8]) -> Sign {
     }
 }
 
-fn mark_sign(bytes: &[u8]) -> Sign {
+fn mark_sign(bytes: &[u8]) -> Sign
+    ensures { result ≡ mark_meant bytes.now }
+{
     if bytes == b"(".as_slice() {
         Sign::LeftBracket
     } else if bytes == b")".as_slice() {
@@ -166,7 +184,9 @@ fn mark_sign(bytes: &[u8]) -> Sign {
     }
 }
 
-fn other_sign(bytes: &[u8]) -> Sign {
+fn other_sign(bytes: &[u8]) -> Sign
+    ensures { result ≡ other_meant bytes.now }
+{
     if bytes == b"{".as_slice() {
         Sign::LeftBrace
     } else if bytes == b"}".as_slice() {
