@@ -8,5 +8,5 @@ pub mod Building
 pub mod GroundText
 pub mod Examples
 pub mod Messages
-pub mod Signs
-pub mod Draft
+pub mod Machine
+pub mod Answers
