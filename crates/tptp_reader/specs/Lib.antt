@@ -10,3 +10,4 @@ pub mod Examples
 pub mod Messages
 pub mod Machine
 pub mod Answers
+pub mod Telling

@@ -56,12 +56,22 @@ pub enum ReadFault {
     At(ReadCause, Text, u32),
 }
 
+/// Why a token ends the reading of an annotated formula.
+#[derive(Clone, Copy, Debug, PartialEq, Eq)]
+pub enum Refusal {
+    Syntax,
+    FreeVariable,
+    Role,
+    Nesting,
+    Inappropriate(Form),
+}
+
 /// Why reading stops before the end of a phrase.
 #[derive(Clone, Copy, Debug, PartialEq, Eq)]
 pub enum Halt {
     NoMemory,
-    /// A cause, at a token by its index.
-    At(ReadCause, usize),
+    /// The token of that index is refused.
+    At(Refusal, usize),
     /// There are no more tokens.
     Ended,
 }

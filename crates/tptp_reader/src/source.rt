@@ -1,92 +1,198 @@
-// Tokens of a text, by what they are for the grammar.
+// The tokens of a text, as a reader sees them.
 
-ghost use Rattle.std.specs.Prelude.{◌≡◌, ◌+◌, ◌-◌, ◌<◌, ◌≤◌, IfOk, length, take, drop, Err, ℕ, List, Ok};
-ghost use Rattle.tptp_reader.specs.Signs.{sign_of as sign_meant, dollar_sign as dollar_meant, connective_sign as connective_meant, mark_sign as mark_meant, other_sign as other_meant};
-ghost use Rattle.tptp_reader.specs.Draft.{IsAt, lexemes_of};
-ghost use Rattle.tptp_reader.specs.declared.cause.Halt.TheVariants.{Ended};
+ghost use Rattle.std.specs.Prelude.{◌≡◌, ◌+◌, ◌-◌, ◌^◌, ◌<◌, ◌≤◌, IfOk, IfErr, take, drop, true, false, List, ℕ, [], ◌∷◌, length};
+ghost use Rattle.tptp_tree.specs.Spelling.{lexeme};
+ghost use Rattle.tptp_tree.specs.Brackets.{is_mark as mark_is};
+ghost use Rattle.tptp_reader.specs.Machine.{Symbol, mark, is_connective as connective_is, is_sign_of_equation as equation_sign_is};
+ghost use Rattle.tptp_tree.specs.Spelling.{name_of, unescaped};
+ghost use Rattle.tptp_reader.specs.Telling.{lexeme_of, lexemes, IsNext, Leads, Ends, is_word as word_is, word_of, is_variable as variable_is, term_refusal, is_among as among, is_free_among};
+ghost use Rattle.tptp_token.specs.declared.token.Kind.TheVariants.{Mark, Dollar};
+ghost use Rattle.tptp_reader.specs.declared.cause.Halt.TheVariants.{At};
+ghost use Rattle.tptp_reader.specs.declared.cause.Refusal.TheVariants.{Nesting};
 
-use crate::cause::{Halt, ReadCause};
+use crate::cause::{Form, Halt, Refusal};
+use plain_types::{Mem, Text};
+use std::alloc::Global;
 use tptp_token::{Kind, Token};
 
-/// What a token is for the grammar of annotated formulas.
-#[derive(Clone, Copy, Debug, PartialEq, Eq)]
-pub enum Sign {
-    Lower,
-    Quoted,
-    Variable,
-    Number,
-    Distinct,
-    /// `$true`
-    True,
-    /// `$false`
-    False,
-    /// Any other dollar word.
-    Dollar,
-    Not,
-    And,
-    Or,
-    Implies,
-    Implied,
-    Iff,
-    Xor,
-    Nor,
-    Nand,
-    All,
-    Ex,
-    Equal,
-    NotEqual,
-    LeftBracket,
-    RightBracket,
-    LeftSquare,
-    RightSquare,
-    LeftBrace,
-    RightBrace,
-    Comma,
-    FullStop,
-    Colon,
-    /// A sign that stands in notes alone.
-    Other,
+/// A token by its kind and its bytes.
+#[derive(Clone, Copy)]
+pub struct TextToken<'a> {
+    pub kind: Kind,
+    pub bytes: &'a [u8],
 }
 
-/// The tokens of a text, and the limit of nesting.
+impl TextToken<'_> {
+    /// Whether it is this bracket, comma, full stop or colon.
+    pub fn is_mark(&self, bytes: &[u8]) -> bool
+        ensures { result ≡ mark_is bytes.now (lexeme_of self.now) }
+    {
+        match self.kind {
+            Kind::Mark => bytes == self.bytes,
+            _ => false,
+        }
+    }
+
+    /// Whether it is this connective.
+    pub fn is_connective(&self, bytes: &[u8]) -> bool
+        ensures { result ≡ connective_is bytes.now (lexeme_of self.now) }
+    {
+        match self.kind {
+            Kind::Connective => bytes == self.bytes,
+            _ => false,
+        }
+    }
+
+    /// Whether it stands between the sides of an equation: `=`, or `!=` where the sides may differ.
+    pub fn is_sign_of_equation(&self, may_differ: bool) -> bool
+        ensures { result ≡ equation_sign_is may_differ (lexeme_of self.now) }
+    {
+        self.is_connective(b"=") || may_differ && self.is_connective(b"!=")
+    }
+
+    /// Whether it is a lower word or a quoted word.
+    pub fn is_word(&self) -> bool
+        ensures { result ≡ word_is self.now.kind }
+    {
+        matches!(self.kind, Kind::Lower | Kind::Quoted)
+    }
+
+    pub fn is_variable(&self) -> bool
+        ensures { result ≡ variable_is self.now.kind }
+    {
+        matches!(self.kind, Kind::Variable)
+    }
+
+    /// The name of a word: `abc` and `'abc'` are one name.
+    pub fn name(&self, alloc: Global) -> Mem<Text>
+        ensures { IfOk result (λ name. name ≡ name_of (word_of self.now.kind self.now.bytes.now)) }
+    {
+        match self.kind {
+            Kind::Quoted => unquoted(alloc, self.bytes),
+            _ => Text::from_slice(alloc, self.bytes),
+        }
+    }
+
+    /// Why it can't stand where a term may, if it is neither a word nor a variable.
+    pub fn refusal_as_term(&self) -> Refusal
+        ensures { result ≡ term_refusal self.now.kind self.now.bytes.now }
+    {
+        match self.kind {
+            Kind::Number => Refusal::Inappropriate(Form::Number),
+            Kind::Distinct => Refusal::Inappropriate(Form::Distinct),
+            Kind::Dollar => dollar_refusal(self.bytes),
+            _ => Refusal::Syntax,
+        }
+    }
+}
+
+/// Why a dollar word can't stand where a term has to.
+fn dollar_refusal(bytes: &[u8]) -> Refusal
+    ensures { result ≡ term_refusal Dollar bytes.now }
+{
+    if bytes == b"$true".as_slice() || bytes == b"$false".as_slice() {
+        Refusal::Syntax
+    } else {
+        Refusal::Inappropriate(Form::Dollar)
+    }
+}
+
+/// What stands between the quotes of a quoted word, with each escaping `\` left out.
+fn unquoted(alloc: Global, bytes: &[u8]) -> Mem<Text>
+    ensures { IfOk result (λ name. name ≡ unescaped false (drop 1 bytes.now)) }
+{
+    match bytes.split_first() {
+        None => Ok(Text::new(alloc)),
+        Some((_, inside)) => unescaped_text(alloc, inside),
+    }
+}
+
+/// What stands up to the closing quote, with each escaping `\` left out.
+fn unescaped_text(alloc: Global, inside: &[u8]) -> Mem<Text>
+    ensures { IfOk result (λ name. name ≡ unescaped false inside.now) }
+{
+    let mut name = Vec::new(alloc);
+    let mut escaped = false;
+    for byte in inside {
+        if escaped {
+            name.push(*byte)?;
+            escaped = false;
+        } else if *byte == 39 {
+            return Ok(Text::from_vec(name));
+        } else if *byte == 92 {
+            escaped = true;
+        } else {
+            name.push(*byte)?;
+        }
+    }
+    Ok(Text::from_vec(name))
+}
+
+/// A variable's name, as it stands in the text.
+#[derive(Clone, Copy)]
+pub struct Name<'a> {
+    pub bytes: &'a [u8],
+}
+
+/// The tokens of a text, with what holds throughout an annotated formula.
 #[derive(Clone, Copy)]
 pub struct Reader<'a> {
     pub bytes: &'a [u8],
     pub tokens: &'a [Token],
+    /// How many levels may be begun.
     pub limit: u32,
+    /// Whether each variable has to be bound by a quantifier.
+    pub closed: bool,
 }
 
 impl<'a> Reader<'a> {
-    /// What the token at an index is, and its bytes.
-    pub fn look(&self, at: usize) -> Result<(Sign, &'a [u8]), Halt>
-        ensures found { IfOk result (λ found. IsAt (lexemes_of self.now.bytes.now self.now.tokens.now) at found.0 found.1.now) }
-        ensures ended { (halt : Halt) → result ≡ Err halt → (halt ≡ Ended) × (length self.now.tokens.now ≤ at) }
+    /// The token at an index.
+    pub fn look(&self, at: usize) -> Result<TextToken<'a>, Halt>
+        ensures found { IfOk result (λ token. IsNext self.now at (lexeme_of token)) }
+        ensures fits { IfOk result (λ _. at + 1 < 2 ^ 64) }
+        ensures ended { IfErr result (λ halt. (x : Symbol) → Ends self.now (x ∷ []) at halt) }
     {
-        match self.tokens.get(at) {
-            None => Err(Halt::Ended),
-            Some(token) => {
-                let bytes = self.bytes_of(*token);
-                Ok((sign_of(token.kind, bytes), bytes))
-            }
+        if at >= self.tokens.len() {
+            return Err(Halt::Ended);
         }
+        let token = self.tokens[at];
+        let bytes = self.bytes_of(token);
+        Ok(TextToken {
+            kind: token.kind,
+            bytes,
+        })
     }
 
-    /// The index behind a token that has to be this one.
-    pub fn after(&self, at: usize, wanted: Sign) -> Result<usize, Halt> {
-        let (sign, _) = self.look(at)?;
-        if sign == wanted {
+    /// The index behind a mark that has to stand here.
+    pub fn after(&self, at: usize, bytes: &[u8]) -> Result<usize, Halt>
+        ensures found { IfOk result (λ next. (next ≡ at + 1) × IsNext self.now at (lexeme Mark bytes.now)) }
+        ensures leads { IfOk result (λ next. Leads self.now (mark bytes.now ∷ []) at [] next) }
+        ensures ends { IfErr result (λ halt. Ends self.now (mark bytes.now ∷ []) at halt) }
+    {
+        let token = self.look(at)?;
+        if token.is_mark(bytes) {
             Ok(at + 1)
         } else {
-            Err(Halt::At(ReadCause::Syntax, at))
+            Err(Halt::At(Refusal::Syntax, at))
         }
     }
 
-    /// The level that a token begins.
-    pub fn deeper(&self, at: usize, level: u32) -> Result<u32, Halt> {
+    /// The level that a token at this level begins.
+    pub fn deeper(&self, at: usize, level: u32) -> Result<u32, Halt>
+        ensures ok { IfOk result (λ deep. (deep ≡ level + 1) × (level < self.now.limit)) }
+        ensures refused { IfErr result (λ halt. (halt ≡ At Nesting at) × (self.now.limit ≤ level)) }
+    {
         if level >= self.limit {
-            return Err(Halt::At(ReadCause::Nesting, at));
+            return Err(Halt::At(Refusal::Nesting, at));
         }
         Ok(level + 1)
+    }
+
+    /// Whether a variable has to be bound and is none of these.
+    pub fn is_free(&self, bound: &[Name<'a>], bytes: &[u8]) -> bool
+        ensures { result ≡ is_free_among self.now.closed bound.now bytes.now }
+    {
+        self.closed && !is_among(bound, bytes)
     }
 
     /// The bytes of a token.
@@ -99,99 +205,9 @@ impl<'a> Reader<'a> {
     }
 }
 
-/// What a token of this kind and these bytes is.
-fn sign_of(kind: Kind, bytes: &[u8]) -> Sign
-    ensures { result ≡ sign_meant kind bytes.now }
+/// Whether the bytes are one of the names. The time is linear in the names.
+fn is_among(names: &[Name<'_>], bytes: &[u8]) -> bool
+    ensures { result ≡ among names.now bytes.now }
 {
-    match kind {
-        Kind::Lower => Sign::Lower,
-        Kind::Variable => Sign::Variable,
-        Kind::Quoted => Sign::Quoted,
-        Kind::Distinct => Sign::Distinct,
-        Kind::Dollar => dollar_sign(bytes),
-        Kind::Number => Sign::Number,
-        Kind::Connective => connective_sign(bytes),
-        Kind::Mark => mark_sign(bytes),
-        Kind::Other => other_sign(bytes),
-    }
-}
-
-fn dollar_sign(bytes: &[u8]) -> Sign
-    ensures { result ≡ dollar_meant bytes.now }
-{
-    if bytes == b"$true".as_slice() {
-        Sign::True
-    } else if bytes == b"$false".as_slice() {
-        Sign::False
-    } else {
-        Sign::Dollar
-    }
-}
-
-fn connective_sign(bytes: &[u8]) -> Sign
-    ensures { result ≡ connective_meant bytes.now }
-{
-    if bytes == b"~".as_slice() {
-        Sign::Not
-    } else if bytes == b"&".as_slice() {
-        Sign::And
-    } else if bytes == b"|".as_slice() {
-        Sign::Or
-    } else if bytes == b"=>".as_slice() {
-        Sign::Implies
-    } else if bytes == b"<=".as_slice() {
-        Sign::Implied
-    } else if bytes == b"<=>".as_slice() {
-        Sign::Iff
-    } else if bytes == b"<~>".as_slice() {
-        Sign::Xor
-    } else if bytes == b"~|".as_slice() {
-        Sign::Nor
-    } else if bytes == b"~&".as_slice() {
-        Sign::Nand
-    } else if bytes == b"!".as_slice() {
-        Sign::All
-    } else if bytes == b"?".as_slice() {
-        Sign::Ex
-    } else if bytes == b"=".as_slice() {
-        Sign::Equal
-    } else if bytes == b"!=".as_slice() {
-        Sign::NotEqual
-    } else {
-        Sign::Other
-    }
-}
-
-fn mark_sign(bytes: &[u8]) -> Sign
-    ensures { result ≡ mark_meant bytes.now }
-{
-    if bytes == b"(".as_slice() {
-        Sign::LeftBracket
-    } else if bytes == b")".as_slice() {
-        Sign::RightBracket
-    } else if bytes == b"[".as_slice() {
-        Sign::LeftSquare
-    } else if bytes == b"]".as_slice() {
-        Sign::RightSquare
-    } else if bytes == b",".as_slice() {
-        Sign::Comma
-    } else if bytes == b".".as_slice() {
-        Sign::FullStop
-    } else if bytes == b":".as_slice() {
-        Sign::Colon
-    } else {
-        Sign::Other
-    }
-}
-
-fn other_sign(bytes: &[u8]) -> Sign
-    ensures { result ≡ other_meant bytes.now }
-{
-    if bytes == b"{".as_slice() {
-        Sign::LeftBrace
-    } else if bytes == b"}".as_slice() {
-        Sign::RightBrace
-    } else {
-        Sign::Other
-    }
+    names.iter().any(|name| bytes == name.bytes)
 }

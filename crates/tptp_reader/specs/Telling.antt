@@ -1,0 +1,188 @@
+-- What the functions that read an annotated formula say of the tokens before and after, told by the stack machine.
+use Rattle.std.specs.Prelude.{◌≡◌, ◌<◌, ◌≤◌, ◌+◌, ⊤, ℕ, Bool, true, false, List, [], ◌∷◌, ◌++◌, map, drop, length, codes, bytes_eq, Option, None, Some, not, if◌then◌else◌}
+use Rattle.std.specs.List.{list_any}
+use Rattle.tptp_token.specs.Lexemes.{Lexeme, lexeme_at}
+use Rattle.tptp_token.specs.declared.token.Kind.{Kind}
+use Rattle.tptp_token.specs.declared.token.Kind.TheVariants.{Lower, Variable, Quoted, Distinct, Dollar, Number, Connective, Mark, Other}
+use Rattle.tptp_tree.specs.Term.{TermTree, TermTrees}
+use Rattle.tptp_tree.specs.Spelling.{Word, bare, quoted, lexeme, TermPhrase, TermPhrases, term_lexemes, arguments_lexemes, term_meant, terms_meant}
+use Rattle.tptp_tree.specs.Causes.{Refusal, syntax, free_variable, role_not_taken, too_deep, left_out, Form, typed, role_form, number_form, distinct_form, dollar_form, Surroundings, variable_cause}
+use Rattle.tptp_reader.specs.Machine.{Symbol, a_term, maybe_arguments, arguments, is_truth_word, Verdict, refused_at, ran_out, verdict, going}
+use Rattle.tptp_reader.specs.declared.source.TextToken.{TextToken}
+use Rattle.tptp_reader.specs.declared.source.Reader.{Reader}
+use Rattle.tptp_reader.specs.declared.source.Name.{Name}
+use Rattle.tptp_reader.specs.declared.cause.Halt.{Halt}
+use Rattle.tptp_reader.specs.declared.cause.Halt.TheVariants.{NoMemory, At, Ended}
+use Rattle.tptp_reader.specs.declared.cause.Refusal.{Refusal as ToldRefusal}
+use Rattle.tptp_reader.specs.declared.cause.Refusal.TheVariants.{Syntax, FreeVariable, Role, Nesting, Inappropriate}
+use Rattle.tptp_reader.specs.declared.cause.Form.{Form as ToldForm}
+use Rattle.tptp_reader.specs.declared.cause.Form.TheVariants.{Typed, RoleForm, Number as NumberForm, Distinct as DistinctForm, Dollar as DollarForm}
+
+-- ---- tokens
+
+-- a token as the definitions have it
+abbrev pub lexeme_of : TextToken → Lexeme
+lexeme_of t = record { kind = t.kind; bytes = t.bytes.now }
+
+-- all tokens of a text
+abbrev pub lexemes : Reader → List Lexeme
+lexemes r = map (lexeme_at r.bytes.now) r.tokens.now
+
+-- the token at an index
+pub record IsNext (r : Reader) (at : ℕ) (token : Lexeme) : Type 0 where
+  pub here : drop at (lexemes r) ≡ token ∷ drop (at + 1) (lexemes r)
+  pub within : at < length r.tokens.now
+
+-- a lower word or a quoted word
+abbrev pub is_word : Kind → Bool
+is_word Lower = true
+is_word Variable = false
+is_word Quoted = true
+is_word Distinct = false
+is_word Dollar = false
+is_word Number = false
+is_word Connective = false
+is_word Mark = false
+is_word Other = false
+
+abbrev pub word_of : Kind → List ℕ → Word
+word_of Lower bytes = bare bytes
+word_of Variable bytes = bare bytes
+word_of Quoted bytes = quoted bytes
+word_of Distinct bytes = bare bytes
+word_of Dollar bytes = bare bytes
+word_of Number bytes = bare bytes
+word_of Connective bytes = bare bytes
+word_of Mark bytes = bare bytes
+word_of Other bytes = bare bytes
+
+-- ---- refusals
+
+abbrev pub form_of : ToldForm → Form
+form_of Typed = typed
+form_of RoleForm = role_form
+form_of NumberForm = number_form
+form_of DistinctForm = distinct_form
+form_of DollarForm = dollar_form
+
+abbrev pub refusal_of : ToldRefusal → Refusal
+refusal_of Syntax = syntax
+refusal_of FreeVariable = free_variable
+refusal_of Role = role_not_taken
+refusal_of Nesting = too_deep
+refusal_of (Inappropriate form) = left_out (form_of form)
+
+-- Reading halts as the machine does; for want of memory it may halt anywhere.
+abbrev pub IsEnd : Halt → Verdict → Type 0
+IsEnd NoMemory v = ⊤
+IsEnd (At refusal index) v = v ≡ refused_at index (refusal_of refusal)
+IsEnd Ended v = v ≡ ran_out
+
+-- ---- the machine from an index on
+
+-- the verdict where these symbols have still to come at the token of that index
+unfoldable pub told : Reader → List Symbol → ℕ → Verdict
+told r symbols at = verdict at (going symbols) (drop at (lexemes r))
+
+-- the first symbols at one token lead to the others at the other
+pub record Leads (r : Reader) (first : List Symbol) (at : ℕ) (others : List Symbol) (next : ℕ) : Type 0 where
+  pub by : (below : List Symbol) → told r (first ++ below) at ≡ told r (others ++ below) next
+
+-- the symbols at a token lead to that end
+pub record Ends (r : Reader) (symbols : List Symbol) (at : ℕ) (halt : Halt) : Type 0 where
+  pub by : (below : List Symbol) → IsEnd halt (told r (symbols ++ below) at)
+
+-- ---- variables
+
+abbrev pub is_among : List Name → List ℕ → Bool
+is_among names x = list_any (λ (n : Name). bytes_eq x n.bytes.now) names
+
+-- a variable that none of the names binds, where one has to
+abbrev pub is_free_among : Bool → List Name → List ℕ → Bool
+is_free_among false names x = false
+is_free_among true names x = not (is_among names x)
+
+abbrev pub free_cause : Bool → Option Refusal
+free_cause true = Some free_variable
+free_cause false = None
+
+-- the surroundings of a token, as the reader has them
+pub record Suits (r : Reader) (names : List Name) (level : ℕ) (s : Surroundings) : Type 0 where
+  pub limit_is : s.limit ≡ r.limit
+  pub level_is : s.level ≡ level
+  pub scope_is : (x : List ℕ) → variable_cause s.scope x ≡ free_cause (is_free_among r.closed names x)
+
+-- ---- what a function that reads says
+
+-- where the names are bound, at that level
+pub record Starts (r : Reader) (start : Surroundings → List Symbol) (names : List Name) (level at next : ℕ) : Type 0 where
+  pub by : (s : Surroundings) → Suits r names level s → Leads r (start s) at [] next
+  pub onward : at ≤ next
+
+-- The tokens between are a phrase with the value, which the machine takes.
+pub record Reads {P M : Type 0} (spell : P → List Lexeme → List Lexeme) (meaning : P → M) (r : Reader) (start : Surroundings → List Symbol) (names : List Name) (level at next : ℕ) (value : M) : Type 0 where
+  pub phrase : P
+  pub spelled : drop at (lexemes r) ≡ spell phrase (drop next (lexemes r))
+  pub meant : meaning phrase ≡ value
+  pub leads : Starts r start names level at next
+
+pub record Halts (r : Reader) (start : Surroundings → List Symbol) (names : List Name) (level at : ℕ) (halt : Halt) : Type 0 where
+  pub by : (s : Surroundings) → Suits r names level s → Ends r (start s) at halt
+
+abbrev pub one : (Surroundings → Symbol) → Surroundings → List Symbol
+one symbol s = symbol s ∷ []
+
+-- items from the second on, each with the token before it
+abbrev pub further : {A : Type 0} → (A → List Lexeme → List Lexeme) → Lexeme → List A → List Lexeme → List Lexeme
+further spell between [] rest = rest
+further spell between (x ∷ xs) rest = between ∷ spell x (further spell between xs rest)
+
+-- at least one item
+pub record Listed (A : Type 0) : Type 0 where
+  pub first : A
+  pub others : List A
+
+abbrev pub listed : {A : Type 0} → (A → List Lexeme → List Lexeme) → Lexeme → Listed A → List Lexeme → List Lexeme
+listed spell between items rest = spell items.first (further spell between items.others rest)
+
+abbrev pub items_meant : {A M : Type 0} → (A → M) → Listed A → List M
+items_meant meaning items = map meaning (items.first ∷ items.others)
+
+-- ---- terms
+
+abbrev pub ReadsTerm : Reader → List Name → ℕ → ℕ → ℕ → TermTree → Type 0
+ReadsTerm r names level at next t = Reads term_lexemes term_meant r (one a_term) names level at next t
+
+abbrev pub ReadsArguments : Reader → List Name → ℕ → ℕ → ℕ → TermTrees → Type 0
+ReadsArguments r names level at next ts = Reads arguments_lexemes terms_meant r (one maybe_arguments) names level at next ts
+
+-- terms between commas, and the bracket behind them
+abbrev pub bracketed_lexemes : Listed TermPhrase → List Lexeme → List Lexeme
+bracketed_lexemes ts rest = listed term_lexemes (lexeme Mark (codes ",")) ts (lexeme Mark (codes ")") ∷ rest)
+
+abbrev pub ReadsBracketed : Reader → List Name → ℕ → ℕ → ℕ → List TermTree → Type 0
+ReadsBracketed r names level at next ts =
+    Reads bracketed_lexemes (items_meant term_meant) r arguments names level at next ts
+
+-- why a token that is neither a word nor a variable can't stand where a term may
+abbrev pub term_refusal : Kind → List ℕ → ToldRefusal
+term_refusal Lower bytes = Syntax
+term_refusal Variable bytes = Syntax
+term_refusal Quoted bytes = Syntax
+term_refusal Distinct bytes = Inappropriate DistinctForm
+term_refusal Dollar bytes = if is_truth_word bytes then Syntax else Inappropriate DollarForm
+term_refusal Number bytes = Inappropriate NumberForm
+term_refusal Connective bytes = Syntax
+term_refusal Mark bytes = Syntax
+term_refusal Other bytes = Syntax
+
+abbrev pub is_variable : Kind → Bool
+is_variable Lower = false
+is_variable Variable = true
+is_variable Quoted = false
+is_variable Distinct = false
+is_variable Dollar = false
+is_variable Number = false
+is_variable Connective = false
+is_variable Mark = false
+is_variable Other = false
