@@ -99,7 +99,7 @@ pub sofar-ended :
     (start : Surroundings → List Symbol) (pending : Surroundings → Symbol) (names : List Name) (level at next : ℕ) (before values : List M)
     → SoFar spell meaning between r start (one pending) names level at next before values
     → ((s : Surroundings) → Suits r names level s → Leads r (pending s ∷ []) next [] next)
-    → Reads (listed spell between) (λ items. before ++ items_meant meaning items) r start names level at next before values
+    → Reads (listed spell between) (λ items. before ++ items_meant meaning items) r start names level at next values
 sofar-ended spell meaning between r start pending names level at next before values g step =
     record {
       phrase = g.items;

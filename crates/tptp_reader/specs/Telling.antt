@@ -5,12 +5,15 @@ use Rattle.tptp_token.specs.Lexemes.{Lexeme, lexeme_at}
 use Rattle.tptp_token.specs.declared.token.Kind.{Kind}
 use Rattle.tptp_token.specs.declared.token.Kind.TheVariants.{Lower, Variable, Quoted, Distinct, Dollar, Number, Connective, Mark, Other}
 use Rattle.tptp_tree.specs.Term.{TermTree, TermTrees}
-use Rattle.tptp_tree.specs.Spelling.{Word, bare, quoted, lexeme, TermPhrase, TermPhrases, term_lexemes, arguments_lexemes, term_meant, terms_meant}
-use Rattle.tptp_tree.specs.Causes.{Refusal, syntax, free_variable, role_not_taken, too_deep, left_out, Form, typed, role_form, number_form, distinct_form, dollar_form, Surroundings, variable_cause}
-use Rattle.tptp_reader.specs.Machine.{Symbol, a_term, maybe_arguments, arguments, is_truth_word, Verdict, refused_at, ran_out, verdict, going}
+use Rattle.tptp_tree.specs.Formula.{FormulaTree, quantified, Quantifier, for_all, exists_some, BinaryConnective, implies, implied, equivalent, different, nor, nand}
+use Rattle.tptp_tree.specs.Spelling.{Atom, true_atom, false_atom, predicate_atom, equation_atom, atom_lexemes, atom_meant, UnitPhrase, unit_lexemes, unit_meant, Phrase, phrase_lexemes, meant, Variables, variables_lexemes, Word, bare, quoted, lexeme, TermPhrase, TermPhrases, term_lexemes, arguments_lexemes, term_meant, terms_meant}
+use Rattle.tptp_tree.specs.Causes.{Refusal, syntax, free_variable, role_not_taken, too_deep, left_out, Form, typed, role_form, number_form, distinct_form, dollar_form, Surroundings, binding, variable_cause}
+use Rattle.tptp_reader.specs.Machine.{Symbol, mark, an_atom, a_unit, maybe_more_units, formula_symbols, variables_bracket, a_term, maybe_arguments, arguments, is_truth_word, Verdict, refused_at, ran_out, verdict, going}
 use Rattle.tptp_reader.specs.declared.source.TextToken.{TextToken}
 use Rattle.tptp_reader.specs.declared.source.Reader.{Reader}
 use Rattle.tptp_reader.specs.declared.source.Name.{Name}
+use Rattle.tptp_reader.specs.declared.source.Binary.{Binary}
+use Rattle.tptp_reader.specs.declared.source.Binary.TheVariants.{Implies, Implied, Iff, Xor, Nor, Nand}
 use Rattle.tptp_reader.specs.declared.cause.Halt.{Halt}
 use Rattle.tptp_reader.specs.declared.cause.Halt.TheVariants.{NoMemory, At, Ended}
 use Rattle.tptp_reader.specs.declared.cause.Refusal.{Refusal as ToldRefusal}
@@ -186,3 +189,92 @@ is_variable Number = false
 is_variable Connective = false
 is_variable Mark = false
 is_variable Other = false
+
+-- ---- atoms
+
+-- without `!=` unless that may stand
+abbrev pub is_allowed : Bool → Atom → Bool
+is_allowed true a = true
+is_allowed false true_atom = true
+is_allowed false false_atom = true
+is_allowed false (predicate_atom w ts) = true
+is_allowed false (equation_atom positive s t) = positive
+
+pub record AllowedAtom (may_differ : Bool) : Type 0 where
+  pub atom : Atom
+  pub allowed : is_allowed may_differ atom ≡ true
+
+abbrev pub allowed_lexemes : (may_differ : Bool) → AllowedAtom may_differ → List Lexeme → List Lexeme
+allowed_lexemes may_differ a rest = atom_lexemes a.atom rest
+
+abbrev pub allowed_meant : (may_differ : Bool) → AllowedAtom may_differ → FormulaTree
+allowed_meant may_differ a = atom_meant a.atom
+
+abbrev pub ReadsAtom : Bool → Reader → List Name → ℕ → ℕ → ℕ → FormulaTree → Type 0
+ReadsAtom may_differ r names level at next f =
+    Reads (allowed_lexemes may_differ) (allowed_meant may_differ) r (one (an_atom may_differ)) names level at next f
+
+-- ---- formulas
+
+abbrev pub ReadsUnit : Reader → List Name → ℕ → ℕ → ℕ → FormulaTree → Type 0
+ReadsUnit r names level at next f = Reads unit_lexemes unit_meant r (one a_unit) names level at next f
+
+abbrev pub ReadsFormula : Reader → List Name → ℕ → ℕ → ℕ → FormulaTree → Type 0
+ReadsFormula r names level at next f = Reads phrase_lexemes meant r formula_symbols names level at next f
+
+-- further units behind the first one and a sign, with that sign between them
+abbrev pub further_units : List ℕ → Surroundings → List Symbol
+further_units sign s = a_unit s ∷ maybe_more_units sign s ∷ []
+
+abbrev pub ReadsUnits : List ℕ → FormulaTree → Reader → List Name → ℕ → ℕ → ℕ → List FormulaTree → Type 0
+ReadsUnits sign first r names level at next fs =
+    Reads (listed unit_lexemes (lexeme Connective sign)) (λ us. (first ∷ []) ++ items_meant unit_meant us) r (further_units sign) names level at next fs
+
+-- the variables of a quantifier, and its unit
+pub record BoundPhrase : Type 0 where
+  pub variables : Variables
+  pub unit : UnitPhrase
+
+abbrev pub texts_of : Variables → List (List ℕ)
+texts_of xs = xs.first ∷ xs.others
+
+abbrev pub bound_lexemes : BoundPhrase → List Lexeme → List Lexeme
+bound_lexemes b rest =
+    lexeme Mark (codes "[") ∷ variables_lexemes b.variables (lexeme Mark (codes "]") ∷ lexeme Mark (codes ":") ∷ unit_lexemes b.unit rest)
+
+abbrev pub bound_meant : Quantifier → BoundPhrase → FormulaTree
+bound_meant q b = quantified q (texts_of b.variables) (unit_meant b.unit)
+
+-- `!` where it is true, else `?`
+abbrev pub quantifier_of : Bool → Quantifier
+quantifier_of true = for_all
+quantifier_of false = exists_some
+
+abbrev pub ReadsBound : Bool → Reader → List Name → ℕ → ℕ → ℕ → FormulaTree → Type 0
+ReadsBound all r names level at next f =
+    Reads bound_lexemes (bound_meant (quantifier_of all)) r (one variables_bracket) names level at next f
+
+-- the names of variables in brackets, which are bound in the unit that follows
+pub record ReadsVariables (r : Reader) (names : List Name) (level at next : ℕ) (texts : List (List ℕ)) : Type 0 where
+  pub variables : Variables
+  pub are : texts_of variables ≡ texts
+  pub spelled : drop at (lexemes r) ≡ lexeme Mark (codes "[") ∷ variables_lexemes variables (lexeme Mark (codes "]") ∷ drop next (lexemes r))
+  pub leads :
+      (s : Surroundings) → Suits r names level s
+      → Leads r (variables_bracket s ∷ []) at (mark (codes ":") ∷ a_unit (binding texts s) ∷ []) next
+  pub onward : at ≤ next
+
+-- the names that are bound are the old ones and those
+pub record Binds (old new : List Name) (texts : List (List ℕ)) : Type 0 where
+  pub added : List Name
+  pub grown : new ≡ old ++ added
+  pub named : map (λ (n : Name). n.bytes.now) added ≡ texts
+
+-- a connective of two operands
+abbrev pub binary_of : Binary → BinaryConnective
+binary_of Implies = implies
+binary_of Implied = implied
+binary_of Iff = equivalent
+binary_of Xor = different
+binary_of Nor = nor
+binary_of Nand = nand

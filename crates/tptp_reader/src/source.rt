@@ -1,11 +1,11 @@
 // The tokens of a text, as a reader sees them.
 
-ghost use Rattle.std.specs.Prelude.{◌≡◌, ◌+◌, ◌-◌, ◌^◌, ◌<◌, ◌≤◌, IfOk, IfErr, take, drop, true, false, List, ℕ, [], ◌∷◌, length};
+ghost use Rattle.std.specs.Prelude.{◌≡◌, ◌+◌, ◌-◌, ◌^◌, ◌<◌, ◌≤◌, IfOk, IfErr, IfSome, IfNone, take, drop, true, false, List, ℕ, [], ◌∷◌, length};
 ghost use Rattle.tptp_tree.specs.Spelling.{lexeme};
-ghost use Rattle.tptp_tree.specs.Brackets.{is_mark as mark_is};
-ghost use Rattle.tptp_reader.specs.Machine.{Symbol, mark, is_connective as connective_is, is_sign_of_equation as equation_sign_is};
-ghost use Rattle.tptp_tree.specs.Spelling.{name_of, unescaped};
-ghost use Rattle.tptp_reader.specs.Telling.{lexeme_of, lexemes, IsNext, Leads, Ends, is_word as word_is, word_of, is_variable as variable_is, term_refusal, is_among as among, is_free_among};
+ghost use Rattle.tptp_tree.specs.Brackets.{is_lexeme, is_mark as mark_is};
+ghost use Rattle.tptp_reader.specs.Machine.{Symbol, mark, is_connective as connective_is, is_sign_of_equation as equation_sign_is, is_binary_connective};
+ghost use Rattle.tptp_tree.specs.Spelling.{name_of, unescaped, connective_lexeme};
+ghost use Rattle.tptp_reader.specs.Telling.{lexeme_of, lexemes, IsNext, Leads, Ends, is_word as word_is, word_of, is_variable as variable_is, term_refusal, is_among as among, is_free_among, binary_of};
 ghost use Rattle.tptp_token.specs.declared.token.Kind.TheVariants.{Mark, Dollar};
 ghost use Rattle.tptp_reader.specs.declared.cause.Halt.TheVariants.{At};
 ghost use Rattle.tptp_reader.specs.declared.cause.Refusal.TheVariants.{Nesting};
@@ -48,6 +48,38 @@ impl TextToken<'_> {
         ensures { result ≡ equation_sign_is may_differ (lexeme_of self.now) }
     {
         self.is_connective(b"=") || may_differ && self.is_connective(b"!=")
+    }
+
+    /// Whether it is this dollar word.
+    pub fn is_dollar(&self, bytes: &[u8]) -> bool
+        ensures { result ≡ is_lexeme Dollar bytes.now (lexeme_of self.now) }
+    {
+        match self.kind {
+            Kind::Dollar => bytes == self.bytes,
+            _ => false,
+        }
+    }
+
+    /// The connective of two operands that it is.
+    pub fn binary_connective(&self) -> Option<Binary>
+        ensures found { IfSome result (λ binary. lexeme_of self.now ≡ connective_lexeme (binary_of binary)) }
+        ensures none { IfNone result (is_binary_connective (lexeme_of self.now) ≡ false) }
+    {
+        if self.is_connective(b"=>") {
+            Some(Binary::Implies)
+        } else if self.is_connective(b"<=") {
+            Some(Binary::Implied)
+        } else if self.is_connective(b"<=>") {
+            Some(Binary::Iff)
+        } else if self.is_connective(b"<~>") {
+            Some(Binary::Xor)
+        } else if self.is_connective(b"~|") {
+            Some(Binary::Nor)
+        } else if self.is_connective(b"~&") {
+            Some(Binary::Nand)
+        } else {
+            None
+        }
     }
 
     /// Whether it is a lower word or a quoted word.
@@ -126,6 +158,17 @@ fn unescaped_text(alloc: Global, inside: &[u8]) -> Mem<Text>
         }
     }
     Ok(Text::from_vec(name))
+}
+
+/// A connective of two operands other than `&` and `|`.
+#[derive(Clone, Copy, Debug, PartialEq, Eq)]
+pub enum Binary {
+    Implies,
+    Implied,
+    Iff,
+    Xor,
+    Nor,
+    Nand,
 }
 
 /// A variable's name, as it stands in the text.
