@@ -194,3 +194,16 @@ next-is r at t u n e = record { here = n.here ∙ ap (λ v. v ∷ drop (at + 1) 
 
 pub next-mark : (r : Reader) (at : ℕ) (bytes : List ℕ) (t : Lexeme) → IsNext r at t → is_mark bytes t ≡ true → IsNext r at (lexeme Mark bytes)
 next-mark r at bytes t n h = next-is r at t (lexeme Mark bytes) n (mark-is bytes t h)
+
+-- ---- the names that are bound stay
+
+pub kept-reads :
+    {P M : Type 0} (spell : P → List Lexeme → List Lexeme) (meaning : P → M) (r : Reader) (start : Surroundings → List Symbol) (a b : List Name) (level at next : ℕ) (value : M)
+    → a ≡ b → Reads spell meaning r start a level at next value → Reads spell meaning r start b level at next value
+kept-reads spell meaning r start a b level at next value e h =
+    subst (λ (ns : List Name). Reads spell meaning r start ns level at next value) e h
+
+pub kept-halts :
+    (r : Reader) (start : Surroundings → List Symbol) (a b : List Name) (level at : ℕ) (halt : Halt)
+    → a ≡ b → Halts r start a level at halt → Halts r start b level at halt
+kept-halts r start a b level at halt e h = subst (λ (ns : List Name). Halts r start ns level at halt) e h

@@ -8,7 +8,7 @@ use Rattle.tptp_tree.specs.Term.{TermTree, TermTrees}
 use Rattle.tptp_tree.specs.Formula.{FormulaTree, quantified, Quantifier, for_all, exists_some, BinaryConnective, implies, implied, equivalent, different, nor, nand}
 use Rattle.tptp_tree.specs.Spelling.{Atom, true_atom, false_atom, predicate_atom, equation_atom, atom_lexemes, atom_meant, UnitPhrase, unit_lexemes, unit_meant, Phrase, phrase_lexemes, meant, Variables, variables_lexemes, Word, bare, quoted, lexeme, TermPhrase, TermPhrases, term_lexemes, arguments_lexemes, term_meant, terms_meant}
 use Rattle.tptp_tree.specs.Causes.{Refusal, syntax, free_variable, role_not_taken, too_deep, left_out, Form, typed, role_form, number_form, distinct_form, dollar_form, Surroundings, binding, variable_cause}
-use Rattle.tptp_reader.specs.Machine.{Symbol, mark, an_atom, a_unit, maybe_more_units, formula_symbols, variables_bracket, a_term, maybe_arguments, arguments, is_truth_word, Verdict, refused_at, ran_out, verdict, going}
+use Rattle.tptp_reader.specs.Machine.{Symbol, mark, an_atom, a_unit, maybe_more_units, formula_symbols, variables_bracket, next_variable, more_variables, a_term, maybe_arguments, arguments, is_truth_word, Verdict, refused_at, ran_out, verdict, going}
 use Rattle.tptp_reader.specs.declared.source.TextToken.{TextToken}
 use Rattle.tptp_reader.specs.declared.source.Reader.{Reader}
 use Rattle.tptp_reader.specs.declared.source.Name.{Name}
@@ -278,3 +278,20 @@ binary_of Iff = equivalent
 binary_of Xor = different
 binary_of Nor = nor
 binary_of Nand = nand
+
+-- one variable of a quantifier, behind those read before it
+pub record ReadsVariable (r : Reader) (at next : ℕ) (before behind : List (List ℕ)) : Type 0 where
+  pub name : List ℕ
+  pub here : IsNext r at (lexeme Variable name)
+  pub grown : behind ≡ before ++ name ∷ []
+  pub leads : (s : Surroundings) → Leads r (next_variable before s ∷ []) at (more_variables behind s ∷ []) next
+  pub next_is : next ≡ at + 1
+
+pub record HaltsVariable (r : Reader) (at : ℕ) (before : List (List ℕ)) (halt : Halt) : Type 0 where
+  pub by : (s : Surroundings) → Ends r (next_variable before s ∷ []) at halt
+
+-- one more name is bound
+pub record BindsOne (old new : List Name) (before behind : List (List ℕ)) : Type 0 where
+  pub name : Name
+  pub grown : new ≡ old ++ name ∷ []
+  pub named : behind ≡ before ++ name.bytes.now ∷ []

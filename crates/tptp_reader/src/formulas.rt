@@ -1,11 +1,16 @@
-// Formulas, read from tokens.
+// Formulas of `fof` entries, read from tokens.
 
-use crate::cause::{Halt, ReadCause};
-use crate::source::{Reader, Sign};
-use crate::terms::{Scope, cause_in_term, word_name};
-use plain_types::{Mem, Texts};
+ghost use Rattle.std.specs.Prelude.{◌≡◌, IfOk, IfErr};
+ghost use Rattle.tptp_tree.specs.Formula.{connected as connected_tree, quantified as quantified_tree};
+ghost use Rattle.tptp_tree.specs.Shape.{formula_of};
+ghost use Rattle.tptp_reader.specs.Machine.{a_unit, formula_symbols, variables_bracket};
+ghost use Rattle.tptp_reader.specs.Telling.{one, Halts, ReadsFormula, ReadsUnit, ReadsUnits, further_units, ReadsBound, ReadsVariables, ReadsVariable, HaltsVariable, Binds, BindsOne, quantifier_of, binary_of};
+
+use crate::cause::{Halt, Refusal};
+use crate::source::{Binary, Name, Reader};
+use plain_types::{Mem, Text, Texts};
 use std::alloc::Global;
-use tptp_tree::{Formula, FormulaBox, Formulas, TreeTerm};
+use tptp_tree::{Formula, FormulaBox, Formulas};
 
 impl<'a> Reader<'a> {
     /// Reads a formula: a unit; or at least two units between `&`, or between `|`; or two units with another connective.
@@ -13,42 +18,59 @@ impl<'a> Reader<'a> {
     pub fn formula(
         &self,
         alloc: Global,
-        scope: &mut Scope<'a>,
+        bound: &mut Vec<Name<'a>>,
         at: usize,
         level: u32,
-    ) -> Result<(Formula, usize), Halt> {
-        let (first, after) = self.unit(alloc, scope, at, level)?;
-        let (sign, _) = self.look(after)?;
-        match sign {
-            Sign::And | Sign::Or => self.operands(alloc, scope, first, sign, after, level),
-            Sign::Implies | Sign::Implied | Sign::Iff | Sign::Xor | Sign::Nor | Sign::Nand => {
-                let (second, next) = self.unit(alloc, scope, after + 1, level)?;
-                Ok((connected(alloc, sign, first, second)?, next))
+    ) -> Result<(Formula, usize), Halt>
+        ensures read { IfOk result (λ read. ReadsFormula self.now bound.old.items level at read.1 (formula_of read.0)) }
+        ensures kept { IfOk result (λ _. bound.new.items ≡ bound.old.items) }
+        ensures halted { IfErr result (λ halt. Halts self.now formula_symbols bound.old.items level at halt) }
+    {
+        let (first, after) = self.unit(alloc, bound, at, level)?;
+        let sign = self.look(after)?;
+        if sign.is_connective(b"&") {
+            let (all, next) = self.operands(alloc, bound, first, b"&", after + 1, level)?;
+            return Ok((Formula::And(all), next));
+        }
+        if sign.is_connective(b"|") {
+            let (some, next) = self.operands(alloc, bound, first, b"|", after + 1, level)?;
+            return Ok((Formula::Or(some), next));
+        }
+        match sign.binary_connective() {
+            None => Ok((first, after)),
+            Some(connective) => {
+                let (second, end) = self.unit(alloc, bound, after + 1, level)?;
+                let both = connected(alloc, connective, first, second)?;
+                Ok((both, end))
             }
-            _ => Ok((first, after)),
         }
     }
 
-    /// Reads the operands from the second on, each behind the same connective.
+    /// Reads the units behind the first one and a connective, with the same connective between them.
     #[cycle(formulas)]
     fn operands(
         &self,
         alloc: Global,
-        scope: &mut Scope<'a>,
+        bound: &mut Vec<Name<'a>>,
         first: Formula,
-        connective: Sign,
+        sign: &[u8],
         at: usize,
         level: u32,
-    ) -> Result<(Formula, usize), Halt> {
+    ) -> Result<(Formulas, usize), Halt>
+        ensures read { IfOk result (λ read. ReadsUnits sign.now (formula_of first) self.now bound.old.items level at read.1 read.0) }
+        ensures kept { IfOk result (λ _. bound.new.items ≡ bound.old.items) }
+        ensures halted { IfErr result (λ halt. Halts self.now (further_units sign.now) bound.old.items level at halt) }
+    {
         let mut operands = Formulas::new(alloc);
         operands.push(first)?;
-        let mut next = at;
+        let (second, mut next) = self.unit(alloc, bound, at, level)?;
+        operands.push(second)?;
         loop {
-            let (sign, _) = self.look(next)?;
-            if sign != connective {
-                return Ok((joined(connective, operands), next));
+            let token = self.look(next)?;
+            if !token.is_connective(sign) {
+                return Ok((operands, next));
             }
-            let (operand, after) = self.unit(alloc, scope, next + 1, level)?;
+            let (operand, after) = self.unit(alloc, bound, next + 1, level)?;
             operands.push(operand)?;
             next = after;
         }
@@ -59,28 +81,35 @@ impl<'a> Reader<'a> {
     fn unit(
         &self,
         alloc: Global,
-        scope: &mut Scope<'a>,
+        bound: &mut Vec<Name<'a>>,
         at: usize,
         level: u32,
-    ) -> Result<(Formula, usize), Halt> {
-        let (sign, _) = self.look(at)?;
-        match sign {
-            Sign::Not => {
-                let level = self.deeper(at, level)?;
-                let (inner, next) = self.unit(alloc, scope, at + 1, level)?;
-                Ok((Formula::Not(FormulaBox::new(alloc, inner)?), next))
-            }
-            Sign::All | Sign::Ex => {
-                let level = self.deeper(at, level)?;
-                self.quantified(alloc, scope, sign, at + 1, level)
-            }
-            Sign::LeftBracket => {
-                let level = self.deeper(at, level)?;
-                let (inner, next) = self.formula(alloc, scope, at + 1, level)?;
-                Ok((inner, self.after(next, Sign::RightBracket)?))
-            }
-            _ => self.atom(alloc, scope, at, level, false),
+    ) -> Result<(Formula, usize), Halt>
+        ensures read { IfOk result (λ read. ReadsUnit self.now bound.old.items level at read.1 (formula_of read.0)) }
+        ensures kept { IfOk result (λ _. bound.new.items ≡ bound.old.items) }
+        ensures halted { IfErr result (λ halt. Halts self.now (one a_unit) bound.old.items level at halt) }
+    {
+        let token = self.look(at)?;
+        if token.is_connective(b"~") {
+            let under = self.deeper(at, level)?;
+            let (negated, next) = self.unit(alloc, bound, at + 1, under)?;
+            let boxed = FormulaBox::new(alloc, negated)?;
+            return Ok((Formula::Not(boxed), next));
         }
+        if token.is_quantifier() {
+            let scope = self.deeper(at, level)?;
+            let for_all = token.is_connective(b"!");
+            let (quantified, end) = self.quantified(alloc, bound, for_all, at + 1, scope)?;
+            return Ok((quantified, end));
+        }
+        if token.is_mark(b"(") {
+            let inside = self.deeper(at, level)?;
+            let (grouped, close) = self.formula(alloc, bound, at + 1, inside)?;
+            let behind = self.after(close, b")")?;
+            return Ok((grouped, behind));
+        }
+        let (plain, last) = self.atom(alloc, bound.as_slice(), at, level, true)?;
+        Ok((plain, last))
     }
 
     /// Reads the variables of a quantifier and its unit, in which they are bound.
@@ -88,129 +117,100 @@ impl<'a> Reader<'a> {
     fn quantified(
         &self,
         alloc: Global,
-        scope: &mut Scope<'a>,
-        quantifier: Sign,
+        bound: &mut Vec<Name<'a>>,
+        for_all: bool,
         at: usize,
         level: u32,
-    ) -> Result<(Formula, usize), Halt> {
-        let outer = scope.bound.len();
-        let (variables, next) = self.variables(alloc, scope, at, level)?;
-        let next = self.after(next, Sign::Colon)?;
-        let (inner, next) = self.unit(alloc, scope, next, level)?;
-        scope.bound.truncate(outer);
+    ) -> Result<(Formula, usize), Halt>
+        ensures read { IfOk result (λ read. ReadsBound for_all self.now bound.old.items level at read.1 (formula_of read.0)) }
+        ensures kept { IfOk result (λ _. bound.new.items ≡ bound.old.items) }
+        ensures halted { IfErr result (λ halt. Halts self.now (one variables_bracket) bound.old.items level at halt) }
+    {
+        let outer = bound.len();
+        let (variables, next) = self.variables(alloc, bound, at, level)?;
+        let colon = self.after(next, b":")?;
+        let (inner, end) = self.unit(alloc, bound, colon, level)?;
+        bound.truncate(outer);
         let body = FormulaBox::new(alloc, inner)?;
-        if quantifier == Sign::All {
-            Ok((Formula::All(variables, body), next))
-        } else {
-            Ok((Formula::Ex(variables, body), next))
-        }
+        Ok((quantified_by(for_all, variables, body), end))
     }
 
     /// Reads variables in square brackets, and binds them.
     fn variables(
         &self,
         alloc: Global,
-        scope: &mut Scope<'a>,
+        bound: &mut Vec<Name<'a>>,
         at: usize,
         level: u32,
-    ) -> Result<(Texts, usize), Halt> {
-        let mut next = self.after(at, Sign::LeftSquare)?;
+    ) -> Result<(Texts, usize), Halt>
+        ensures read { IfOk result (λ read. ReadsVariables self.now bound.old.items level at read.1 read.0) }
+        ensures binds { IfOk result (λ read. Binds bound.old.items bound.new.items read.0) }
+        ensures halted { IfErr result (λ halt. Halts self.now (one variables_bracket) bound.old.items level at halt) }
+    {
+        let open = self.look(at)?;
+        if !open.is_mark(b"[") {
+            return Err(Halt::At(Refusal::Syntax, at));
+        }
         self.deeper(at, level)?;
         let mut variables = Texts::new(alloc);
+        let mut next = self.next_variable(alloc, bound, &mut variables, at + 1)?;
         loop {
-            let (sign, name) = self.look(next)?;
-            if sign != Sign::Variable {
-                return Err(Halt::At(ReadCause::Syntax, next));
+            let token = self.look(next)?;
+            if token.is_mark(b"]") {
+                return Ok((variables, next + 1));
             }
-            variables.push(plain_types::Text::from_slice(alloc, name)?)?;
-            scope.bound.push(name)?;
-            let (sign, _) = self.look(next + 1)?;
-            match sign {
-                Sign::Comma => next += 2,
-                Sign::RightSquare => return Ok((variables, next + 2)),
-                _ => return Err(Halt::At(ReadCause::Syntax, next + 1)),
+            if !token.is_mark(b",") {
+                return Err(Halt::At(Refusal::Syntax, next));
             }
+            next = self.next_variable(alloc, bound, &mut variables, next + 1)?;
         }
     }
 
-    /// Reads an atom, which may be written with `!=` where it isn't to be plain.
-    pub fn atom(
+    /// Reads one variable of a quantifier, adds its name to those before it, and binds it.
+    fn next_variable(
         &self,
         alloc: Global,
-        scope: &Scope<'a>,
+        bound: &mut Vec<Name<'a>>,
+        variables: &mut Texts,
         at: usize,
-        level: u32,
-        plain: bool,
-    ) -> Result<(Formula, usize), Halt> {
-        let (sign, bytes) = self.look(at)?;
-        match sign {
-            Sign::True => Ok((Formula::True, at + 1)),
-            Sign::False => Ok((Formula::False, at + 1)),
-            Sign::Variable => {
-                let name = self.variable(alloc, scope, at, bytes)?;
-                let (sign, _) = self.look(at + 1)?;
-                if !is_equals(sign, plain) {
-                    return Err(Halt::At(ReadCause::Syntax, at + 1));
-                }
-                self.equation(alloc, scope, TreeTerm::Var(name), sign, at + 2, level)
-            }
-            Sign::Lower | Sign::Quoted => {
-                let name = word_name(alloc, sign, bytes)?;
-                let (arguments, next) = self.arguments(alloc, scope, at + 1, level)?;
-                let (sign, _) = self.look(next)?;
-                if is_equals(sign, plain) {
-                    let left = TreeTerm::App(name, arguments);
-                    return self.equation(alloc, scope, left, sign, next + 1, level);
-                }
-                Ok((Formula::Pred(name, arguments), next))
-            }
-            _ => Err(Halt::At(cause_in_term(sign), at)),
+    ) -> Result<usize, Halt>
+        ensures read { IfOk result (λ next. ReadsVariable self.now at next variables.old variables.new) }
+        ensures binds { IfOk result (λ _. BindsOne bound.old.items bound.new.items variables.old variables.new) }
+        ensures halted { IfErr result (λ halt. HaltsVariable self.now at variables.old halt) }
+    {
+        let token = self.look(at)?;
+        if !token.is_variable() {
+            return Err(Halt::At(Refusal::Syntax, at));
         }
-    }
-
-    /// Reads the right side of an equation.
-    fn equation(
-        &self,
-        alloc: Global,
-        scope: &Scope<'a>,
-        left: TreeTerm,
-        sign: Sign,
-        at: usize,
-        level: u32,
-    ) -> Result<(Formula, usize), Halt> {
-        let (right, next) = self.term(alloc, scope, at, level)?;
-        if sign == Sign::Equal {
-            Ok((Formula::Equal(left, right), next))
-        } else {
-            Ok((Formula::NotEqual(left, right), next))
-        }
+        variables.push(Text::from_slice(alloc, token.bytes)?)?;
+        bound.push(Name { bytes: token.bytes })?;
+        Ok(at + 1)
     }
 }
 
-/// Whether a sign stands between the sides of an equation, which is `=` alone where the atom is to be plain.
-fn is_equals(sign: Sign, plain: bool) -> bool {
-    sign == Sign::Equal || sign == Sign::NotEqual && !plain
-}
-
-/// The conjunction or disjunction of operands.
-pub fn joined(connective: Sign, operands: Formulas) -> Formula {
-    if connective == Sign::And {
-        Formula::And(operands)
+/// A formula with a quantifier: `!` or `?`.
+fn quantified_by(for_all: bool, variables: Texts, body: FormulaBox) -> Formula
+    ensures { formula_of result ≡ quantified_tree (quantifier_of for_all) variables body }
+{
+    if for_all {
+        Formula::All(variables, body)
     } else {
-        Formula::Or(operands)
+        Formula::Ex(variables, body)
     }
 }
 
 /// Two formulas with a connective of two operands.
-fn connected(alloc: Global, connective: Sign, left: Formula, right: Formula) -> Mem<Formula> {
+fn connected(alloc: Global, connective: Binary, left: Formula, right: Formula) -> Mem<Formula>
+    ensures { IfOk result (λ both. formula_of both ≡ connected_tree (binary_of connective) (formula_of left) (formula_of right)) }
+{
     let left = FormulaBox::new(alloc, left)?;
     let right = FormulaBox::new(alloc, right)?;
     Ok(match connective {
-        Sign::Implies => Formula::Implies(left, right),
-        Sign::Implied => Formula::Implied(left, right),
-        Sign::Iff => Formula::Iff(left, right),
-        Sign::Xor => Formula::Xor(left, right),
-        Sign::Nor => Formula::Nor(left, right),
-        _ => Formula::Nand(left, right),
+        Binary::Implies => Formula::Implies(left, right),
+        Binary::Implied => Formula::Implied(left, right),
+        Binary::Iff => Formula::Iff(left, right),
+        Binary::Xor => Formula::Xor(left, right),
+        Binary::Nor => Formula::Nor(left, right),
+        Binary::Nand => Formula::Nand(left, right),
     })
 }

@@ -1,6 +1,6 @@
 // The tokens of a text, as a reader sees them.
 
-ghost use Rattle.std.specs.Prelude.{◌≡◌, ◌+◌, ◌-◌, ◌^◌, ◌<◌, ◌≤◌, IfOk, IfErr, IfSome, IfNone, take, drop, true, false, List, ℕ, [], ◌∷◌, length};
+ghost use Rattle.std.specs.Prelude.{◌≡◌, ◌+◌, ◌-◌, ◌^◌, ◌<◌, ◌≤◌, ◌||◌, codes, IfOk, IfErr, IfSome, IfNone, take, drop, true, false, List, ℕ, [], ◌∷◌, length};
 ghost use Rattle.tptp_tree.specs.Spelling.{lexeme};
 ghost use Rattle.tptp_tree.specs.Brackets.{is_lexeme, is_mark as mark_is};
 ghost use Rattle.tptp_reader.specs.Machine.{Symbol, mark, is_connective as connective_is, is_sign_of_equation as equation_sign_is, is_binary_connective};
@@ -48,6 +48,12 @@ impl TextToken<'_> {
         ensures { result ≡ equation_sign_is may_differ (lexeme_of self.now) }
     {
         self.is_connective(b"=") || may_differ && self.is_connective(b"!=")
+    }
+
+    pub fn is_quantifier(&self) -> bool
+        ensures { result ≡ (connective_is (codes "!") (lexeme_of self.now) || connective_is (codes "?") (lexeme_of self.now)) }
+    {
+        self.is_connective(b"!") || self.is_connective(b"?")
     }
 
     /// Whether it is this dollar word.
