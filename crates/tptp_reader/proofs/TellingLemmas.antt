@@ -6,7 +6,7 @@ use Rattle.tptp_token.specs.Lexemes.{Lexeme, lexeme_at}
 use Rattle.tptp_token.specs.declared.token.Token.{Token}
 use Rattle.tptp_tree.specs.Spelling.{lexeme}
 use Rattle.tptp_tree.specs.Causes.{Refusal, too_deep, Surroundings, deeper, begun}
-use Rattle.tptp_reader.specs.Machine.{Symbol, Step, takes, passes, stops, step, stepped, after_token, Run, going, over, refused, Verdict, read_up_to, refused_at, ran_out, verdict}
+use Rattle.tptp_reader.specs.Machine.{Symbol, Step, takes, passes, stops, followed_by, step, stepped, after_token, Run, going, over, refused, Verdict, read_up_to, refused_at, ran_out, verdict}
 use Rattle.tptp_reader.specs.Telling.{lexeme_of, lexemes, IsNext, IsEnd, refusal_of, told, Leads, Ends, Suits, Starts, Halts}
 use Rattle.tptp_reader.specs.declared.source.Reader.{Reader}
 use Rattle.tptp_reader.specs.declared.source.Name.{Name}
@@ -40,7 +40,7 @@ verdict-refused : (place index : ℕ) (q : Refusal) (ts : List Lexeme) → verdi
 verdict-refused place index q [] = refl
 verdict-refused place index q (t ∷ ts) = refl
 
-verdict-done : (place : ℕ) (ts : List Lexeme) → verdict place (going []) ts ≡ read_up_to place
+pub verdict-done : (place : ℕ) (ts : List Lexeme) → verdict place (going []) ts ≡ read_up_to place
 verdict-done place [] = refl
 verdict-done place (t ∷ ts) = refl
 
@@ -157,3 +157,59 @@ begun-deep r names level s f h = rw (le-ltb s.level s.limit (omega (arith, f.lev
 
 pub halt-is : (r : Reader) (a : List Symbol) (i : ℕ) (halt other : Halt) → halt ≡ other → Ends r a i other → Ends r a i halt
 halt-is r a i halt other e h = subst (λ (g : Halt). Ends r a i g) (sym e) h
+
+-- ---- a symbol that does what another does, with more behind it
+
+abbrev pub NeverPasses : Step → Type 0
+NeverPasses (takes new cause) = Unit {0}
+NeverPasses passes = ⊥
+NeverPasses (stops refusal) = Unit {0}
+
+followed-as :
+    (r : Reader) (at : ℕ) (more below : List Symbol) (t : Lexeme) (st : Step)
+    → NeverPasses st → behind r at below t (followed_by more st) ≡ behind r at (more ++ below) t st
+followed-as r at more below t (takes new None) h =
+    ap (λ ss. verdict (suc at) (going ss) (drop (at + 1) (lexemes r))) (append_assoc new more below)
+followed-as r at more below t (takes new (Some q)) h =
+    verdict-refused (suc at) at q (drop (at + 1) (lexemes r)) ∙ sym (verdict-refused (suc at) at q (drop (at + 1) (lexemes r)))
+followed-as r at more below t passes h = absurd h
+followed-as r at more below t (stops q) h =
+    verdict-refused (suc at) at q (drop (at + 1) (lexemes r)) ∙ sym (verdict-refused (suc at) at q (drop (at + 1) (lexemes r)))
+
+pub followed-leads :
+    (r : Reader) (at : ℕ) (x y : Symbol) (more : List Symbol) (t : Lexeme)
+    → IsNext r at t → step x t ≡ followed_by more (step y t) → NeverPasses (step y t) → Leads r (x ∷ []) at (y ∷ more) at
+followed-leads r at x y more t n e h =
+    record {
+      by = λ below.
+          told-as r at x below t n ∙ ap (behind r at below t) e ∙ followed-as r at more below t (step y t) h
+          ∙ sym (told-as r at y (more ++ below) t n);
+    }
+
+-- ---- more symbols below a list
+
+pub leads-append : (r : Reader) (a more : List Symbol) (i j : ℕ) → Leads r a i [] j → Leads r (a ++ more) i more j
+leads-append r a more i j h =
+    record { by = λ below. ap (λ ss. told r ss i) (append_assoc a more below) ∙ h.by (more ++ below) }
+
+pub ends-append : (r : Reader) (a more : List Symbol) (i : ℕ) (halt : Halt) → Ends r a i halt → Ends r (a ++ more) i halt
+ends-append r a more i halt h =
+    record { by = λ below. subst (λ (ss : List Symbol). IsEnd halt (told r ss i)) (sym (append_assoc a more below)) (h.by (more ++ below)) }
+
+pub told-end : (r : Reader) (a : List Symbol) (i j : ℕ) → Leads r a i [] j → told r (a ++ []) i ≡ read_up_to j
+unfolding told
+told-end r a i j h = h.by [] ∙ verdict-done j (drop j (lexemes r))
+
+-- the tokens alone matter
+pub told-alike : (q r : Reader) (ss : List Symbol) (i : ℕ) → lexemes q ≡ lexemes r → told q ss i ≡ told r ss i
+unfolding told
+told-alike q r ss i e = ap (λ ts. verdict i (going ss) (drop i ts)) e
+
+pub leads-alike :
+    (q r : Reader) (a b : List Symbol) (i j : ℕ) → lexemes q ≡ lexemes r → Leads q a i b j → Leads r a i b j
+leads-alike q r a b i j e h =
+    record { by = λ below. sym (told-alike q r (a ++ below) i e) ∙ h.by below ∙ told-alike q r (b ++ below) j e }
+
+pub ends-alike : (q r : Reader) (a : List Symbol) (i : ℕ) (halt : Halt) → lexemes q ≡ lexemes r → Ends q a i halt → Ends r a i halt
+ends-alike q r a i halt e h =
+    record { by = λ below. subst (IsEnd halt) (told-alike q r (a ++ below) i e) (h.by below) }

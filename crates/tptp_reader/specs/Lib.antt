@@ -11,3 +11,5 @@ pub mod Messages
 pub mod Machine
 pub mod Answers
 pub mod Telling
+pub mod TellingNotes
+pub mod TellingEntries

@@ -1,14 +1,16 @@
 -- What the functions that read an annotated formula say of the tokens before and after, told by the stack machine.
 use Rattle.std.specs.Prelude.{◌≡◌, ◌<◌, ◌≤◌, ◌+◌, ⊤, ℕ, Bool, true, false, List, [], ◌∷◌, ◌++◌, map, drop, length, codes, bytes_eq, Option, None, Some, not, if◌then◌else◌}
-use Rattle.std.specs.List.{list_any}
+use Rattle.std.specs.List.{list_any, list_all}
+use Rattle.fol_base.specs.Spelling.{is_digit}
 use Rattle.tptp_token.specs.Lexemes.{Lexeme, lexeme_at}
 use Rattle.tptp_token.specs.declared.token.Kind.{Kind}
 use Rattle.tptp_token.specs.declared.token.Kind.TheVariants.{Lower, Variable, Quoted, Distinct, Dollar, Number, Connective, Mark, Other}
 use Rattle.tptp_tree.specs.Term.{TermTree, TermTrees}
 use Rattle.tptp_tree.specs.Formula.{FormulaTree, quantified, Quantifier, for_all, exists_some, BinaryConnective, implies, implied, equivalent, different, nor, nand}
 use Rattle.tptp_tree.specs.Spelling.{Atom, true_atom, false_atom, predicate_atom, equation_atom, atom_lexemes, atom_meant, UnitPhrase, unit_lexemes, unit_meant, Phrase, phrase_lexemes, meant, Variables, variables_lexemes, Word, bare, quoted, lexeme, TermPhrase, TermPhrases, term_lexemes, arguments_lexemes, term_meant, terms_meant}
+use Rattle.tptp_tree.specs.Entries.{LiteralPhrase, literal_lexemes, literal_meant, ClausePhrase, literals, clause_lexemes, clause_meant}
 use Rattle.tptp_tree.specs.Causes.{Refusal, syntax, free_variable, role_not_taken, too_deep, left_out, Form, typed, role_form, number_form, distinct_form, dollar_form, Surroundings, binding, variable_cause}
-use Rattle.tptp_reader.specs.Machine.{Symbol, mark, an_atom, a_unit, maybe_more_units, formula_symbols, variables_bracket, next_variable, more_variables, a_term, maybe_arguments, arguments, is_truth_word, Verdict, refused_at, ran_out, verdict, going}
+use Rattle.tptp_reader.specs.Machine.{Symbol, mark, a_clause, a_literal, a_plain_literal, maybe_more_literals, an_atom, a_unit, maybe_more_units, formula_symbols, variables_bracket, next_variable, more_variables, a_term, maybe_arguments, arguments, is_truth_word, Verdict, refused_at, ran_out, verdict, going}
 use Rattle.tptp_reader.specs.declared.source.TextToken.{TextToken}
 use Rattle.tptp_reader.specs.declared.source.Reader.{Reader}
 use Rattle.tptp_reader.specs.declared.source.Name.{Name}
@@ -17,7 +19,7 @@ use Rattle.tptp_reader.specs.declared.source.Binary.TheVariants.{Implies, Implie
 use Rattle.tptp_reader.specs.declared.cause.Halt.{Halt}
 use Rattle.tptp_reader.specs.declared.cause.Halt.TheVariants.{NoMemory, At, Ended}
 use Rattle.tptp_reader.specs.declared.cause.Refusal.{Refusal as ToldRefusal}
-use Rattle.tptp_reader.specs.declared.cause.Refusal.TheVariants.{Syntax, FreeVariable, Role, Nesting, Inappropriate}
+use Rattle.tptp_reader.specs.declared.cause.Refusal.TheVariants.{Syntax, FreeVariable, Role as RoleRefusal, Nesting, Inappropriate}
 use Rattle.tptp_reader.specs.declared.cause.Form.{Form as ToldForm}
 use Rattle.tptp_reader.specs.declared.cause.Form.TheVariants.{Typed, RoleForm, Number as NumberForm, Distinct as DistinctForm, Dollar as DollarForm}
 
@@ -71,7 +73,7 @@ form_of DollarForm = dollar_form
 abbrev pub refusal_of : ToldRefusal → Refusal
 refusal_of Syntax = syntax
 refusal_of FreeVariable = free_variable
-refusal_of Role = role_not_taken
+refusal_of RoleRefusal = role_not_taken
 refusal_of Nesting = too_deep
 refusal_of (Inappropriate form) = left_out (form_of form)
 
@@ -295,3 +297,75 @@ pub record BindsOne (old new : List Name) (before behind : List (List ℕ)) : Ty
   pub name : Name
   pub grown : new ≡ old ++ name ∷ []
   pub named : behind ≡ before ++ name.bytes.now ∷ []
+
+-- ---- clauses
+
+-- literals with `|` between them
+abbrev pub further_literals : Surroundings → List Symbol
+further_literals s = a_literal s ∷ maybe_more_literals s ∷ []
+
+abbrev pub ReadsLiteral : Reader → List Name → ℕ → ℕ → ℕ → FormulaTree → Type 0
+ReadsLiteral r names level at next f = Reads literal_lexemes literal_meant r (one a_literal) names level at next f
+
+-- behind `~`
+pub record NegatedPhrase : Type 0 where
+  pub bracketed : Bool
+  pub atom : AllowedAtom false
+
+abbrev pub negated_lexemes_by : Bool → Atom → List Lexeme → List Lexeme
+negated_lexemes_by true a rest = lexeme Mark (codes "(") ∷ atom_lexemes a (lexeme Mark (codes ")") ∷ rest)
+negated_lexemes_by false a rest = atom_lexemes a rest
+
+abbrev pub negated_lexemes : NegatedPhrase → List Lexeme → List Lexeme
+negated_lexemes p rest = negated_lexemes_by p.bracketed p.atom.atom rest
+
+abbrev pub negated_meant : NegatedPhrase → FormulaTree
+negated_meant p = atom_meant p.atom.atom
+
+abbrev pub ReadsNegated : Reader → List Name → ℕ → ℕ → ℕ → FormulaTree → Type 0
+ReadsNegated r names level at next f = Reads negated_lexemes negated_meant r (one a_plain_literal) names level at next f
+
+abbrev pub ReadsLiterals : FormulaTree → Reader → List Name → ℕ → ℕ → ℕ → List FormulaTree → Type 0
+ReadsLiterals first r names level at next fs =
+    Reads (listed literal_lexemes (lexeme Connective (codes "|"))) (λ ls. (first ∷ []) ++ items_meant literal_meant ls) r further_literals names level at next fs
+
+-- a clause without brackets
+abbrev pub plain_clause : Listed LiteralPhrase → ClausePhrase
+plain_clause ls = literals ls.first ls.others
+
+abbrev pub plain_clause_lexemes : Listed LiteralPhrase → List Lexeme → List Lexeme
+plain_clause_lexemes ls rest = clause_lexemes (plain_clause ls) rest
+
+abbrev pub plain_clause_meant : Listed LiteralPhrase → FormulaTree
+plain_clause_meant ls = clause_meant (plain_clause ls)
+
+abbrev pub ReadsPlainClause : Reader → List Name → ℕ → ℕ → ℕ → FormulaTree → Type 0
+ReadsPlainClause r names level at next f = Reads plain_clause_lexemes plain_clause_meant r further_literals names level at next f
+
+abbrev pub ReadsClause : Reader → List Name → ℕ → ℕ → ℕ → FormulaTree → Type 0
+ReadsClause r names level at next f = Reads clause_lexemes clause_meant r (one a_clause) names level at next f
+
+-- ---- kinds
+
+abbrev pub is_lower_kind : Kind → Bool
+is_lower_kind Lower = true
+is_lower_kind Variable = false
+is_lower_kind Quoted = false
+is_lower_kind Distinct = false
+is_lower_kind Dollar = false
+is_lower_kind Number = false
+is_lower_kind Connective = false
+is_lower_kind Mark = false
+is_lower_kind Other = false
+
+-- a number of digits alone
+abbrev pub is_digits : Kind → List ℕ → Bool
+is_digits Lower bytes = false
+is_digits Variable bytes = false
+is_digits Quoted bytes = false
+is_digits Distinct bytes = false
+is_digits Dollar bytes = false
+is_digits Number bytes = list_all is_digit bytes
+is_digits Connective bytes = false
+is_digits Mark bytes = false
+is_digits Other bytes = false

@@ -1,11 +1,13 @@
 // The tokens of a text, as a reader sees them.
 
 ghost use Rattle.std.specs.Prelude.{◌≡◌, ◌+◌, ◌-◌, ◌^◌, ◌<◌, ◌≤◌, ◌||◌, codes, IfOk, IfErr, IfSome, IfNone, take, drop, true, false, List, ℕ, [], ◌∷◌, length};
+ghost use Rattle.std.specs.List.{list_all};
+ghost use Rattle.fol_base.specs.Spelling.{is_digit as digit};
 ghost use Rattle.tptp_tree.specs.Spelling.{lexeme};
 ghost use Rattle.tptp_tree.specs.Brackets.{is_lexeme, is_mark as mark_is};
 ghost use Rattle.tptp_reader.specs.Machine.{Symbol, mark, is_connective as connective_is, is_sign_of_equation as equation_sign_is, is_binary_connective};
 ghost use Rattle.tptp_tree.specs.Spelling.{name_of, unescaped, connective_lexeme};
-ghost use Rattle.tptp_reader.specs.Telling.{lexeme_of, lexemes, IsNext, Leads, Ends, is_word as word_is, word_of, is_variable as variable_is, term_refusal, is_among as among, is_free_among, binary_of};
+ghost use Rattle.tptp_reader.specs.Telling.{lexeme_of, lexemes, IsNext, Leads, Ends, is_word as word_is, word_of, is_variable as variable_is, term_refusal, is_lower_kind, is_digits as digits_are, is_among as among, is_free_among, binary_of};
 ghost use Rattle.tptp_token.specs.declared.token.Kind.TheVariants.{Mark, Dollar};
 ghost use Rattle.tptp_reader.specs.declared.cause.Halt.TheVariants.{At};
 ghost use Rattle.tptp_reader.specs.declared.cause.Refusal.TheVariants.{Nesting};
@@ -95,6 +97,22 @@ impl TextToken<'_> {
         matches!(self.kind, Kind::Lower | Kind::Quoted)
     }
 
+    pub fn is_lower(&self) -> bool
+        ensures { result ≡ is_lower_kind self.now.kind }
+    {
+        matches!(self.kind, Kind::Lower)
+    }
+
+    /// Whether it is a number of digits alone.
+    pub fn is_digits(&self) -> bool
+        ensures { result ≡ digits_are self.now.kind self.now.bytes.now }
+    {
+        match self.kind {
+            Kind::Number => are_digits(self.bytes),
+            _ => false,
+        }
+    }
+
     pub fn is_variable(&self) -> bool
         ensures { result ≡ variable_is self.now.kind }
     {
@@ -122,6 +140,18 @@ impl TextToken<'_> {
             _ => Refusal::Syntax,
         }
     }
+}
+
+fn are_digits(bytes: &[u8]) -> bool
+    ensures { result ≡ list_all digit bytes.now }
+{
+    bytes.iter().all(|byte| is_digit(*byte))
+}
+
+fn is_digit(byte: u8) -> bool
+    ensures { result ≡ digit byte }
+{
+    byte.is_ascii_digit()
 }
 
 /// Why a dollar word can't stand where a term has to.
