@@ -83,7 +83,8 @@ impl<'a> Reader<'a> {
             let token = self.look(next)?;
             let goes_on = self.note(&mut open, &token, next)?;
             if !goes_on {
-                if ends_notes(open.as_slice(), &token) {
+                let ended = ends_notes(open.as_slice(), &token);
+                if ended {
                     return Ok(next);
                 }
                 return Err(Halt::At(Refusal::Syntax, next));
@@ -127,7 +128,8 @@ impl<'a> Reader<'a> {
         match token.opened() {
             None => Ok(!token.is_closing()),
             Some(bracket) => {
-                if open.len() >= self.limit as usize {
+                let full = open.len() >= self.limit as usize;
+                if full {
                     return Err(Halt::At(Refusal::Nesting, at));
                 }
                 open.push(bracket)?;

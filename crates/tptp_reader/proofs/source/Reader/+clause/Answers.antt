@@ -1,7 +1,7 @@
 use Rattle.std.proofs.Common.{sym, ◌∙◌}
 use Rattle.tptp_reader.proofs.LoopLemmas.{passed}
 use Rattle.tptp_reader.proofs.ClauseReads.{clause-too_deep, clause-inside-halted, clause-unclosed, clause-bracketed-read, clause-plain-read, clause-plain-halted}
-use Rattle.tptp_reader.proofs.source.Reader.clause.Goals as goal
+use Rattle.tptp_reader.proofs.source.Reader.+clause.Goals as goal
 
 pub returns-in_err-inside-clause-halted : goal.returns-in_err-inside-clause-halted
 returns-in_err-inside-clause-halted t c =
