@@ -13,3 +13,6 @@ pub mod Answers
 pub mod Verdicts
 pub mod AnswerExamples
 pub mod Placed
+pub mod Telling
+pub mod TellingNotes
+pub mod TellingEntries

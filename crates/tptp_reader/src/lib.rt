@@ -12,17 +12,28 @@ ghost use Rattle.tptp_reader.specs.Numbering.{true_symbol, symbols_of, numbered_
 ghost use Rattle.tptp_reader.specs.Examples.{two_units, two_units_clauses, applied, symbol, negated};
 
 mod building;
+mod cause;
+mod clauses;
+mod entry;
 mod fault;
+mod formulas;
+mod notes;
 pub mod laws;
 mod numbering;
 mod occurrence;
 mod problem;
 mod reading;
+mod source;
+mod terms;
+#[cfg(test)]
+mod entry_tests;
 #[cfg(test)]
 mod tests;
 mod token;
 
+pub use entry::{Read, annotated};
 use building::{build_clauses, build_terms};
+pub use cause::{Form, ReadCause, ReadFault};
 pub use fault::GroundFault;
 use fol_base::{Mem, Text, Texts};
 use numbering::{number, owned_symbols};
