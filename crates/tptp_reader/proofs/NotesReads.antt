@@ -1,7 +1,7 @@
 -- Steps of reading notes.
-use Rattle.std.proofs.Common.{◌≡◌, ◌<◌, ◌≤◌, ℕ, ◌+◌, Bool, true, false, not, List, [], ◌∷◌, ◌++◌, map, drop, length, reverse, codes, Option, None, Some, if◌then◌else◌, refl, sym, ap, ap₂, ◌∙◌, arith, subst, append_assoc, length-append}
+use Rattle.std.proofs.Common.{◌≡◌, ◌<◌, ◌≤◌, ℕ, ◌+◌, Bool, true, false, not, List, [], ◌∷◌, ◌++◌, map, drop, length, take, ◌-◌, nat_lt, reverse, codes, Option, None, Some, if◌then◌else◌, refl, sym, ap, ap₂, ◌∙◌, arith, subst, append_assoc, length-append}
 use Rattle.std.proofs.lemmas.List.{map-append, reverse-append, length-reverse, length-map}
-use Rattle.std.proofs.lemmas.Bool.{lt-ltb, le-ltb, false≢true}
+use Rattle.std.proofs.lemmas.Bool.{false≢true}
 use Rattle.tptp_token.specs.Lexemes.{Lexeme}
 use Rattle.tptp_token.specs.declared.token.Kind.TheVariants.{Mark, Other}
 use Rattle.tptp_tree.specs.Brackets.{is_mark, is_lexeme, Bracket, round, square, curly, closes, opened, is_closing, with_opened, open_after, open_behind, is_nothing_open, are_balanced}
@@ -9,7 +9,7 @@ use Rattle.tptp_tree.specs.Spelling.{lexeme}
 use Rattle.tptp_tree.specs.Causes.{Refusal, syntax, too_deep, note_cause}
 use Rattle.tptp_reader.specs.Machine.{Symbol, mark, first_note, more_notes, note_step, end_of_notes_step, Step, takes, stops, taken, step}
 use Rattle.tptp_reader.specs.Telling.{lexemes, IsNext, Leads, Ends}
-use Rattle.tptp_reader.specs.TellingNotes.{bracket_of, stack_of, told_bracket, GoesOn, TooDeep, IsTooDeep, is_end_of_notes, ReadsNotes, EntersWith, EntersTooDeep}
+use Rattle.tptp_reader.specs.TellingNotes.{bracket_of, stack_of, told_bracket, closes_first, GoesOn, TooDeep, IsTooDeep, is_end_of_notes, ReadsNotes, EntersWith, EntersTooDeep}
 use Rattle.tptp_reader.specs.declared.source.Reader.{Reader}
 use Rattle.tptp_reader.specs.declared.cause.Halt.{Halt}
 use Rattle.tptp_reader.specs.declared.cause.Halt.TheVariants.{NoMemory, At, Ended}
@@ -31,69 +31,82 @@ stack-length xs = length-reverse (map bracket_of xs) ∙ length-map xs bracket_o
 
 -- ---- a token that doesn't close the innermost bracket
 
-told-none : (o : Option ToldBracket) (p : Option Bracket) → o ≡ None → told_bracket o ≡ p → p ≡ None
-told-none o p e h = sym h ∙ ap told_bracket e
-
 pub enters-none :
     (limit : ℕ) (unclosed behind : List Bracket) (t : Lexeme) (b : Bool)
     → None ≡ opened t → b ≡ is_closing t → behind ≡ unclosed → EntersWith limit unclosed t (not b) behind
 enters-none limit unclosed behind t true o c e = (rw (sym o, sym c) refl, e)
 enters-none limit unclosed behind t false o c e = (rw (sym o, sym c) (ap Some (sym e)), rw (sym o) refl)
 
+room-stack :
+    (limit : ℕ) (items lent : List ToldBracket) (room : Bool)
+    → lent ≡ items → room ≡ nat_lt (length lent) limit → nat_lt (length (stack_of items)) limit ≡ room
+room-stack limit items lent room e h = ap (λ n. nat_lt n limit) (stack-length items ∙ ap length (sym e)) ∙ sym h
+
 pub enters-some :
-    (limit : ℕ) (unclosed behind : List Bracket) (t : Lexeme) (b : Bracket)
-    → Some b ≡ opened t → length unclosed < limit → behind ≡ b ∷ unclosed → EntersWith limit unclosed t true behind
-enters-some limit unclosed behind t b o low e =
-    (rw (sym o) (ap Some (sym e)), rw (sym o) (rw (lt-ltb (length unclosed) limit low) refl))
+    (limit : ℕ) (items lent new : List ToldBracket) (t : Lexeme) (b : ToldBracket) (room : Bool)
+    → Some (bracket_of b) ≡ opened t → lent ≡ items → room ≡ nat_lt (length lent) limit → room ≡ true
+    → new ≡ items ++ b ∷ [] → EntersWith limit (stack_of items) t true (stack_of new)
+enters-some limit items lent new t b room o e h v g =
+    (rw (sym o) (ap Some (sym (ap stack_of g ∙ stack-push items b))), rw (sym o) (rw (room-stack limit items lent room e h ∙ v) refl))
 
 pub enters-too_deep :
-    (limit : ℕ) (unclosed : List Bracket) (t : Lexeme) (b : Bracket) (index : ℕ)
-    → Some b ≡ opened t → limit ≤ length unclosed → EntersTooDeep limit unclosed t index (At Nesting index)
-enters-too_deep limit unclosed t b index o high =
-    (refl, refl, (b ∷ unclosed, rw (sym o) refl, rw (sym o) (rw (le-ltb (length unclosed) limit high) refl)))
+    (limit : ℕ) (items lent : List ToldBracket) (t : Lexeme) (b : ToldBracket) (index : ℕ) (room : Bool)
+    → Some (bracket_of b) ≡ opened t → lent ≡ items → room ≡ nat_lt (length lent) limit → room ≡ false
+    → EntersTooDeep limit (stack_of items) t index (At Nesting index)
+enters-too_deep limit items lent t b index room o e h v =
+    (refl, refl, (bracket_of b ∷ stack_of items, rw (sym o) refl, rw (sym o) (rw (room-stack limit items lent room e h ∙ v) refl)))
 
 -- ---- a token of notes
 
-pub empty-goes_on :
+pub entered-goes_on :
     (limit : ℕ) (unclosed behind : List Bracket) (t : Lexeme) (goes : Bool)
-    → unclosed ≡ [] → EntersWith limit unclosed t goes behind → GoesOn limit unclosed t goes behind
-empty-goes_on limit unclosed behind t true e h = (subst (λ (u : List Bracket). open_after u t ≡ Some behind) (sym e) (ap (with_opened (opened t) (is_closing t)) (sym e) ∙ h.0), h.1)
-empty-goes_on limit unclosed behind t false e h = (subst (λ (u : List Bracket). open_after u t ≡ None) (sym e) (ap (with_opened (opened t) (is_closing t)) (sym e) ∙ h.0), h.1)
+    → closes_first unclosed t ≡ false → EntersWith limit unclosed t goes behind → GoesOn limit unclosed t goes behind
+entered-goes_on limit [] behind t true c h = h
+entered-goes_on limit [] behind t false c h = h
+entered-goes_on limit (b ∷ bs) behind t true c h = (rw c h.0, h.1)
+entered-goes_on limit (b ∷ bs) behind t false c h = (rw c h.0, h.1)
 
-pub open-goes_on :
-    (limit : ℕ) (unclosed behind bs : List Bracket) (b : Bracket) (t : Lexeme) (goes : Bool)
-    → unclosed ≡ b ∷ bs → closes b t ≡ false → EntersWith limit unclosed t goes behind → GoesOn limit unclosed t goes behind
-open-goes_on limit unclosed behind bs b t true e c h =
-    (subst (λ (u : List Bracket). open_after u t ≡ Some behind) (sym e) (rw c (ap (with_opened (opened t) (is_closing t)) (sym e) ∙ h.0)), h.1)
-open-goes_on limit unclosed behind bs b t false e c h =
-    (subst (λ (u : List Bracket). open_after u t ≡ None) (sym e) (rw c (ap (with_opened (opened t) (is_closing t)) (sym e) ∙ h.0)), h.1)
-
-pub empty-too_deep :
+pub entered-too_deep :
     (limit : ℕ) (unclosed : List Bracket) (t : Lexeme) (index : ℕ) (halt : Halt)
-    → unclosed ≡ [] → EntersTooDeep limit unclosed t index halt → IsTooDeep limit unclosed t index halt
-empty-too_deep limit unclosed t index NoMemory e h = tt
-empty-too_deep limit unclosed t index (At refusal place) e h =
-    (h.0, h.1, (h.2.0, subst (λ (u : List Bracket). open_after u t ≡ Some h.2.0) (sym e) (ap (with_opened (opened t) (is_closing t)) (sym e) ∙ h.2.1), h.2.2))
-empty-too_deep limit unclosed t index Ended e h = h
-
-pub open-too_deep :
-    (limit : ℕ) (unclosed bs : List Bracket) (b : Bracket) (t : Lexeme) (index : ℕ) (halt : Halt)
-    → unclosed ≡ b ∷ bs → closes b t ≡ false → EntersTooDeep limit unclosed t index halt → IsTooDeep limit unclosed t index halt
-open-too_deep limit unclosed bs b t index NoMemory e c h = tt
-open-too_deep limit unclosed bs b t index (At refusal place) e c h =
-    (h.0, h.1, (h.2.0, subst (λ (u : List Bracket). open_after u t ≡ Some h.2.0) (sym e) (rw c (ap (with_opened (opened t) (is_closing t)) (sym e) ∙ h.2.1)), h.2.2))
-open-too_deep limit unclosed bs b t index Ended e c h = h
+    → closes_first unclosed t ≡ false → EntersTooDeep limit unclosed t index halt → IsTooDeep limit unclosed t index halt
+entered-too_deep limit [] t index NoMemory c h = tt
+entered-too_deep limit [] t index (At refusal place) c h = h
+entered-too_deep limit [] t index Ended c h = h
+entered-too_deep limit (b ∷ bs) t index NoMemory c h = tt
+entered-too_deep limit (b ∷ bs) t index (At refusal place) c h = (h.0, h.1, (h.2.0, rw c h.2.1, h.2.2))
+entered-too_deep limit (b ∷ bs) t index Ended c h = h
 
 closing-opens_none : (b : Bracket) (t : Lexeme) → closes b t ≡ true → opened t ≡ None
 closing-opens_none round t h = ap opened (lexeme-is Mark (codes ")") t h)
 closing-opens_none square t h = ap opened (lexeme-is Mark (codes "]") t h)
 closing-opens_none curly t h = ap opened (lexeme-is Other (codes "}") t h)
 
-pub closed-goes_on :
-    (limit : ℕ) (unclosed bs : List Bracket) (b : Bracket) (t : Lexeme)
-    → unclosed ≡ b ∷ bs → closes b t ≡ true → GoesOn limit unclosed t true bs
-closed-goes_on limit unclosed bs b t e c =
-    (subst (λ (u : List Bracket). open_after u t ≡ Some bs) (sym e) (rw c refl), rw (closing-opens_none b t c) refl)
+closed-goes_on :
+    (limit : ℕ) (bs : List Bracket) (b : Bracket) (t : Lexeme) → closes b t ≡ true → GoesOn limit (b ∷ bs) t true bs
+closed-goes_on limit bs b t c = (rw c refl, rw (closing-opens_none b t c) refl)
+
+-- the innermost bracket is closed, and taken off
+pub popped-goes_on :
+    (limit : ℕ) (old new : List ToldBracket) (x : ToldBracket) (t : Lexeme)
+    → old ≡ new ++ x ∷ [] → closes_first (stack_of old) t ≡ true → GoesOn limit (stack_of old) t true (stack_of new)
+popped-goes_on limit old new x t e h =
+    let same : stack_of old ≡ bracket_of x ∷ stack_of new = ap stack_of e ∙ stack-push new x in
+    subst (λ (u : List Bracket). GoesOn limit u t true (stack_of new)) (sym same)
+    (closed-goes_on limit (stack_of new) (bracket_of x) t (ap (λ u. closes_first u t) (sym same) ∙ h))
+
+pub nothing-popped :
+    (limit n : ℕ) (old new : List ToldBracket) (t : Lexeme)
+    → n ≡ 0 → new ≡ take (n - 1) old → old ≡ new ++ [] → closes_first (stack_of old) t ≡ true
+    → GoesOn limit (stack_of old) t true (stack_of new)
+nothing-popped limit n old new t e g k h =
+    let none : new ≡ [] = g ∙ ap (λ m. take (m - 1) old) e in
+    let empty : old ≡ [] = k ∙ ap (λ (xs : List ToldBracket). xs ++ []) none in
+    absurd (false≢true (ap (λ xs. closes_first (stack_of xs) t) (sym empty) ∙ h))
+
+pub last-closes :
+    (open rest : List ToldBracket) (x : ToldBracket) (t : Lexeme) (b : Bool)
+    → open ≡ rest ++ x ∷ [] → b ≡ closes (bracket_of x) t → b ≡ closes_first (stack_of open) t
+last-closes open rest x t b e h = h ∙ ap (λ u. closes_first u t) (sym (ap stack_of e ∙ stack-push rest x))
 
 -- ---- the end of notes
 
@@ -248,3 +261,16 @@ first-refused r at t none behind n e g =
 -- by whether a token goes on
 pub goes : (limit : ℕ) (unclosed behind : List Bracket) (t : Lexeme) (b v : Bool) → b ≡ v → GoesOn limit unclosed t b behind → GoesOn limit unclosed t v behind
 goes limit unclosed behind t b v e h = subst (λ (w : Bool). GoesOn limit unclosed t w behind) e h
+
+-- ---- slices of brackets
+
+pub none-closes : (open : List ToldBracket) (t : Lexeme) → length open ≡ 0 → false ≡ closes_first (stack_of open) t
+none-closes [] t h = refl
+none-closes (x ∷ xs) t h = absurd (omega (arith, h))
+
+pub none-end : (open : List ToldBracket) (t : Lexeme) (b : Bool) → length open ≡ 0 → b ≡ is_mark (codes ")") t → b ≡ is_end_of_notes (stack_of open) t
+none-end [] t b h g = g
+none-end (x ∷ xs) t b h g = absurd (omega (arith, h))
+
+pub some-end : (open rest : List ToldBracket) (x : ToldBracket) (t : Lexeme) → open ≡ x ∷ rest → false ≡ is_end_of_notes (stack_of open) t
+some-end open rest x t e = sym (ap (λ xs. is_end_of_notes (stack_of xs) t) e ∙ some-no_end x rest t)

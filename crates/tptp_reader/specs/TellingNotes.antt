@@ -2,7 +2,7 @@
 use Rattle.std.specs.Prelude.{◌≡◌, ◌+◌, ⊤, ℕ, Bool, true, false, List, [], ◌∷◌, ◌++◌, map, drop, length, reverse, codes, Option, None, Some}
 use Rattle.tptp_token.specs.Lexemes.{Lexeme}
 use Rattle.tptp_token.specs.declared.token.Kind.TheVariants.{Mark}
-use Rattle.tptp_tree.specs.Brackets.{is_mark, Bracket, round, square, curly, opened, is_closing, with_opened, open_after, are_balanced}
+use Rattle.tptp_tree.specs.Brackets.{is_mark, Bracket, round, square, curly, closes, opened, is_closing, with_opened, open_after, are_balanced}
 use Rattle.tptp_tree.specs.Spelling.{lexeme}
 use Rattle.tptp_tree.specs.Causes.{too_deep, note_cause}
 use Rattle.tptp_reader.specs.Machine.{mark, first_note}
@@ -26,6 +26,11 @@ stack_of brackets = reverse (map bracket_of brackets)
 abbrev pub told_bracket : Option ToldBracket → Option Bracket
 told_bracket None = None
 told_bracket (Some b) = Some (bracket_of b)
+
+-- the token closes the innermost bracket
+abbrev pub closes_first : List Bracket → Lexeme → Bool
+closes_first [] token = false
+closes_first (b ∷ bs) token = closes b token
 
 -- a token of notes: whether it goes on with them, and the brackets that are open behind it
 abbrev pub GoesOn : ℕ → List Bracket → Lexeme → Bool → List Bracket → Type 0

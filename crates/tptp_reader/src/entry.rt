@@ -140,10 +140,10 @@ impl<'a> Reader<'a> {
         if !token.is_lower() {
             return Err(Halt::At(Refusal::Syntax, at));
         }
-        if token.bytes == b"fof".as_slice() {
+        if token.has_bytes(b"fof") {
             return Ok(false);
         }
-        if token.bytes == b"cnf".as_slice() {
+        if token.has_bytes(b"cnf") {
             return Ok(true);
         }
         if is_typed(token.bytes) {

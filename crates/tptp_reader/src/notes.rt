@@ -1,11 +1,11 @@
 // Notes of an entry, whose tokens are free but for their brackets.
 
-ghost use Rattle.std.specs.Prelude.{◌≡◌, [], ◌∷◌, IfOk, IfErr, Some, None, map, codes};
+ghost use Rattle.std.specs.Prelude.{◌≡◌, [], ◌∷◌, IfOk, IfErr, Some, None, map, codes, length, nat_lt};
 ghost use Rattle.tptp_tree.specs.Brackets.{closes as bracket_closes, opened as bracket_opened, is_closing as closing_is, is_lexeme};
 ghost use Rattle.tptp_token.specs.declared.token.Kind.TheVariants.{Other};
 ghost use Rattle.tptp_reader.specs.Machine.{first_note};
 ghost use Rattle.tptp_reader.specs.Telling.{lexeme_of, Ends};
-ghost use Rattle.tptp_reader.specs.TellingNotes.{bracket_of, stack_of, told_bracket, GoesOn, IsTooDeep, EntersWith, EntersTooDeep, is_end_of_notes, ReadsNotes};
+ghost use Rattle.tptp_reader.specs.TellingNotes.{bracket_of, stack_of, told_bracket, closes_first, GoesOn, IsTooDeep, EntersWith, EntersTooDeep, is_end_of_notes, ReadsNotes};
 
 use crate::cause::{Halt, Refusal};
 use crate::source::{Reader, TextToken};
@@ -80,10 +80,10 @@ impl<'a> Reader<'a> {
         }
         let mut next = at + 1;
         loop {
-            let token = self.look(next)?;
-            let goes_on = self.note(&mut open, &token, next)?;
+            let sign = self.look(next)?;
+            let goes_on = self.note(&mut open, &sign, next)?;
             if !goes_on {
-                let ended = ends_notes(open.as_slice(), &token);
+                let ended = ends_notes(open.as_slice(), &sign);
                 if ended {
                     return Ok(next);
                 }
@@ -103,16 +103,20 @@ impl<'a> Reader<'a> {
         ensures goes_on { IfOk result (λ goes. GoesOn self.now.limit (stack_of open.old.items) (lexeme_of token.now) goes (stack_of open.new.items)) }
         ensures halted { IfErr result (IsTooDeep self.now.limit (stack_of open.old.items) (lexeme_of token.now) at) }
     {
-        match open.pop() {
-            None => self.enter(open, token, at),
-            Some(innermost) => {
-                if token.closes(innermost) {
-                    return Ok(true);
-                }
-                open.push(innermost)?;
-                self.enter(open, token, at)
-            }
+        if !closes_innermost(open.as_slice(), token) {
+            return self.enter(open, token, at);
         }
+        match open.pop() {
+            None => Ok(true),
+            Some(_) => Ok(true),
+        }
+    }
+
+    /// Whether one more bracket may be open.
+    fn has_room(&self, open: &[Bracket]) -> bool
+        ensures { result ≡ nat_lt (length open.now) self.now.limit }
+    {
+        open.len() < self.limit as usize
     }
 
     /// The same, where the token doesn't close the innermost bracket.
@@ -128,14 +132,23 @@ impl<'a> Reader<'a> {
         match token.opened() {
             None => Ok(!token.is_closing()),
             Some(bracket) => {
-                let full = open.len() >= self.limit as usize;
-                if full {
+                if !self.has_room(open.as_slice()) {
                     return Err(Halt::At(Refusal::Nesting, at));
                 }
                 open.push(bracket)?;
                 Ok(true)
             }
         }
+    }
+}
+
+/// Whether a token closes the innermost bracket, which is the last one.
+fn closes_innermost(open: &[Bracket], token: &TextToken<'_>) -> bool
+    ensures { result ≡ closes_first (stack_of open.now) (lexeme_of token.now) }
+{
+    match open.split_last() {
+        None => false,
+        Some((innermost, _)) => token.closes(*innermost),
     }
 }
 

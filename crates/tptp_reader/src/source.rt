@@ -1,6 +1,6 @@
 // The tokens of a text, as a reader sees them.
 
-ghost use Rattle.std.specs.Prelude.{◌≡◌, ◌+◌, ◌-◌, ◌^◌, ◌<◌, ◌≤◌, ◌||◌, codes, IfOk, IfErr, IfSome, IfNone, take, drop, true, false, List, ℕ, [], ◌∷◌, length};
+ghost use Rattle.std.specs.Prelude.{◌≡◌, ◌+◌, ◌-◌, ◌^◌, ◌<◌, ◌≤◌, ◌||◌, codes, bytes_eq, IfOk, IfErr, IfSome, IfNone, take, drop, true, false, List, ℕ, [], ◌∷◌, length};
 ghost use Rattle.std.specs.List.{list_all};
 ghost use Rattle.fol_base.specs.Spelling.{is_digit as digit};
 ghost use Rattle.tptp_tree.specs.Spelling.{lexeme};
@@ -101,6 +101,13 @@ impl TextToken<'_> {
         ensures { result ≡ is_lower_kind self.now.kind }
     {
         matches!(self.kind, Kind::Lower)
+    }
+
+    /// Whether it has these bytes.
+    pub fn has_bytes(&self, bytes: &[u8]) -> bool
+        ensures { result ≡ bytes_eq self.now.bytes.now bytes.now }
+    {
+        self.bytes == bytes
     }
 
     /// Whether it is a number of digits alone.

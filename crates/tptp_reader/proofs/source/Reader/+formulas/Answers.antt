@@ -1,4 +1,4 @@
-use Rattle.std.proofs.Common.{refl, sym, ◌∙◌}
+use Rattle.std.proofs.Common.{refl, sym, ap, take, arith, ◌∙◌}
 use Rattle.tptp_reader.specs.Machine.{a_unit, maybe_more_units}
 use Rattle.tptp_reader.proofs.LoopLemmas.{passed, first-halts, kept-reads, kept-halts}
 use Rattle.tptp_reader.proofs.FormulaSteps.{quantifier-is}
@@ -199,4 +199,7 @@ quantified-returns-clause-read t c =
     c.in_ok-body.ensures c.quantified_by.ensures
 
 pub quantified-returns-clause-kept : goal.quantified-returns-clause-kept
-quantified-returns-clause-kept t c = ?
+quantified-returns-clause-kept t c =
+    c.truncate.ensures.items
+    ∙ ap (λ n. take n c.unit.new.bound.items) (omega (arith, c.len-outer.ensures, c.args.bound.now.ok.0))
+    ∙ cut_back _ _ _ _ c.in_ok-variables.ensures.binds c.in_ok-inner.ensures.kept
