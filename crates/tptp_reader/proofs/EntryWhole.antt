@@ -1,5 +1,5 @@
 -- An entry from its parts.
-use Rattle.std.proofs.Common.{◌≡◌, ℕ, ◌+◌, Bool, true, false, ◌&&◌, List, [], ◌∷◌, ◌++◌, drop, codes, Some, refl, sym, ap, ap₂, ◌∙◌}
+use Rattle.std.proofs.Common.{subst, ◌≡◌, ℕ, ◌+◌, Bool, true, false, ◌&&◌, List, [], ◌∷◌, ◌++◌, drop, codes, Some, refl, sym, ap, ap₂, ◌∙◌}
 use Rattle.tptp_token.specs.Lexemes.{Lexeme}
 use Rattle.tptp_token.specs.declared.token.Kind.TheVariants.{Lower, Mark}
 use Rattle.tptp_tree.specs.Formula.{FormulaTree}
@@ -8,10 +8,13 @@ use Rattle.tptp_tree.specs.Spelling.{lexeme}
 use Rattle.tptp_tree.specs.Entries.{NamePhrase, name_lexeme, name_meant, Body, is_clause_body, body_lexemes, body_meant, language_word, role_of, notes_lexemes, AnnotatedPhrase, annotated_lexemes}
 use Rattle.tptp_tree.specs.declared.problem.Role.{Role}
 use Rattle.tptp_reader.specs.Machine.{Symbol, mark, an_annotated, a_name, a_role, end_of_body}
-use Rattle.tptp_reader.specs.Telling.{lexemes, IsNext, Leads, Ends}
-use Rattle.tptp_reader.specs.TellingEntries.{body_symbols, ReadsLanguage, ReadsName, ReadsRole, ReadsBody, ReadsEnding, ReadsEntry}
+use Rattle.tptp_reader.specs.Telling.{lexemes, IsNext, Leads, Ends, IsEnd, told}
+use Rattle.tptp_reader.specs.TellingEntries.{body_symbols, ReadsLanguage, ReadsName, ReadsRole, ReadsBody, ReadsEnding, ReadsEntry, IsAnnotatedRead, entry_verdict, IsFaultBy, HasFault}
 use Rattle.tptp_reader.specs.declared.source.Reader.{Reader}
 use Rattle.tptp_reader.specs.declared.cause.Halt.{Halt}
+use Rattle.tptp_token.specs.declared.token.Token.{Token}
+use Rattle.tptp_token.specs.declared.token.Lexed.{Lexed}
+use Rattle.tptp_reader.specs.declared.cause.ReadFault.{ReadFault}
 use Rattle.tptp_reader.specs.declared.entry.Read.{Read}
 use Rattle.tptp_reader.proofs.TellingLemmas.{leads-then, leads-under, leads-append, ends-under, ends-append, ends-after, told-end}
 
@@ -164,3 +167,21 @@ entry-read r first open comma body after b name role f read o k e is_name is_rol
           (leads-then r (whole r) (end_of_body r.limit ∷ []) [] first after read.next (ended r first open comma body after b name role f o k) e.leads);
       range = e.range;
     }
+
+-- ---- the answers
+
+pub answer-read :
+    (r : Reader) (tokens : List Token) (first : ℕ) (read : Read)
+    → r.tokens.now ≡ tokens → ReadsEntry r first read → IsAnnotatedRead r.limit r.bytes.now tokens first read
+unfolding told
+answer-read r tokens first read e h =
+    subst (λ (ts : List Token). IsAnnotatedRead r.limit r.bytes.now ts first read) e
+    (record { phrase = h.phrase; right = h.right; spelled = h.spelled; meant = h.meant; taken_so = h.told_so; range = h.range })
+
+pub answer-fault :
+    (r : Reader) (lexed : Lexed) (first : ℕ) (halt : Halt) (fault : ReadFault)
+    → r.tokens.now ≡ lexed.tokens → Ends r (an_annotated r.limit ∷ []) first halt → IsFaultBy r.bytes.now lexed halt fault
+    → HasFault r.limit r.bytes.now lexed first fault
+unfolding told
+answer-fault r lexed first halt fault e h f =
+    (halt, subst (λ (ts : List Token). IsEnd halt (entry_verdict r.limit r.bytes.now ts first)) e (h.by []), f)

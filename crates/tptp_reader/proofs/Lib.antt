@@ -15,3 +15,17 @@ pub mod GroundForm
 pub mod GroundFormLemmas
 pub mod Examples
 pub mod KindLemmas
+pub mod TellingLemmas
+pub mod StepLemmas
+pub mod LoopLemmas
+pub mod TermReads
+pub mod AtomSteps
+pub mod AtomReads
+pub mod FormulaSteps
+pub mod VariableReads
+pub mod FormulaReads
+pub mod ClauseSteps
+pub mod ClauseReads
+pub mod NotesReads
+pub mod EntryReads
+pub mod EntryWhole
