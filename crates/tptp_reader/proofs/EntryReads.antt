@@ -9,19 +9,20 @@ use Rattle.tptp_token.specs.declared.token.Kind.TheVariants.{Lower, Variable, Qu
 use Rattle.tptp_tree.specs.Formula.{FormulaTree}
 use Rattle.tptp_tree.specs.Brackets.{is_mark}
 use Rattle.tptp_tree.specs.Spelling.{lexeme, word_lexeme, name_of}
-use Rattle.tptp_tree.specs.Causes.{Refusal, syntax, Surroundings, outermost, roles_left_out, role_cause, untaken_role_cause}
-use Rattle.tptp_tree.specs.Entries.{NamePhrase, word_name, digits_name, Body, formula_body, clause_body, is_clause_body, body_lexemes, notes_lexemes, language_word, role_of}
+use Rattle.tptp_tree.specs.Causes.{Refusal, syntax, Surroundings, outermost, untaken_role_cause}
+use Rattle.tptp_tree.specs.Entries.{NamePhrase, word_name, digits_name, Body, formula_body, clause_body, is_clause_body, body_lexemes, notes_lexemes, language_word, role_word, role_among, role_of}
 use Rattle.tptp_tree.specs.declared.problem.Role.{Role}
 use Rattle.tptp_reader.specs.Machine.{Symbol, mark, an_annotated, a_name, a_role, a_clause, end_of_body, first_note, formula_symbols, typed_words, Step, takes, stops, step}
-use Rattle.tptp_reader.specs.Telling.{lexemes, IsNext, Leads, Ends, Suits, Halts, one, is_word, word_of, is_lower_kind, is_digits, ReadsFormula, ReadsClause}
+use Rattle.tptp_reader.specs.Telling.{lexemes, IsNext, Leads, Ends, Suits, Halts, one, is_word, word_of, is_lower_kind, is_digits, refusal_of, ReadsFormula, ReadsClause}
 use Rattle.tptp_reader.specs.TellingNotes.{ReadsNotes}
 use Rattle.tptp_reader.specs.TellingEntries.{entry_symbols, body_symbols, ReadsLanguage, ReadsName, ReadsRole, ReadsBody, ReadsEnding}
 use Rattle.tptp_reader.specs.declared.source.Reader.{Reader}
 use Rattle.tptp_reader.specs.declared.source.Name.{Name}
 use Rattle.tptp_reader.specs.declared.cause.Halt.{Halt}
 use Rattle.tptp_reader.specs.declared.cause.Halt.TheVariants.{At}
-use Rattle.tptp_reader.specs.declared.cause.Refusal.TheVariants.{Syntax, Role as RoleRefusal, Inappropriate}
-use Rattle.tptp_reader.specs.declared.cause.Form.TheVariants.{Typed, RoleForm}
+use Rattle.tptp_reader.specs.declared.cause.Refusal.{Refusal as ToldRefusal}
+use Rattle.tptp_reader.specs.declared.cause.Refusal.TheVariants.{Syntax, Inappropriate}
+use Rattle.tptp_reader.specs.declared.cause.Form.TheVariants.{Typed}
 use Rattle.tptp_reader.proofs.TellingLemmas.{takes-leads, fault-ends, stop-ends, leads-then, leads-under, ends-after, leads-alike, ends-alike}
 use Rattle.tptp_reader.proofs.StepLemmas.{word-spelled}
 use Rattle.tptp_reader.proofs.LoopLemmas.{mark-is, next-is}
@@ -203,21 +204,34 @@ pub no_role-ends :
     (r : Reader) (at : ℕ) (b : Bool) (t : Lexeme) → IsNext r at t → is_lower_kind t.kind ≡ false → Ends r (a_role b ∷ []) at (At Syntax at)
 no_role-ends r at b t n h = stop-ends r at (a_role b) t Syntax n (no_role-step b t.kind t.bytes h)
 
-pub role_form-ends :
-    (r : Reader) (at : ℕ) (b : Bool) (t : Lexeme)
-    → IsNext r at t → is_lower_kind t.kind ≡ true → None ≡ role_of b t.bytes → is_one_of roles_left_out t.bytes ≡ true
-    → Ends r (a_role b ∷ []) at (At (Inappropriate RoleForm) at)
-role_form-ends r at b t n h e g =
-    fault-ends r at (a_role b) t [] (Inappropriate RoleForm) n
-    (ap (step (a_role b)) (lower-is t h) ∙ ap (λ o. takes [] (untaken_role_cause o t.bytes)) (sym e) ∙ rw g refl)
-
 pub untaken-ends :
-    (r : Reader) (at : ℕ) (b : Bool) (t : Lexeme)
-    → IsNext r at t → is_lower_kind t.kind ≡ true → None ≡ role_of b t.bytes → is_one_of roles_left_out t.bytes ≡ false
-    → Ends r (a_role b ∷ []) at (At RoleRefusal at)
-untaken-ends r at b t n h e g =
-    fault-ends r at (a_role b) t [] RoleRefusal n
-    (ap (step (a_role b)) (lower-is t h) ∙ ap (λ o. takes [] (untaken_role_cause o t.bytes)) (sym e) ∙ rw g refl)
+    (r : Reader) (at : ℕ) (b : Bool) (t : Lexeme) (f : ToldRefusal)
+    → IsNext r at t → is_lower_kind t.kind ≡ true → None ≡ role_of b t.bytes → Some (refusal_of f) ≡ untaken_role_cause None t.bytes
+    → Ends r (a_role b ∷ []) at (At f at)
+untaken-ends r at b t f n h e g =
+    fault-ends r at (a_role b) t [] f n
+    (ap (step (a_role b)) (lower-is t h) ∙ ap (λ o. takes [] (untaken_role_cause o t.bytes)) (sym e) ∙ ap (takes []) (sym g))
+
+-- a role of a longer list
+pub role-some :
+    (rs ss : List Role) (word : List ℕ) (role : Role) → Some role ≡ role_among rs word → Some role ≡ role_among (rs ++ ss) word
+role-some [] ss word role h = cc
+role-some (r ∷ rs) ss word role h = by (bytes_eq (role_word r) word) h
+  where
+    by :
+        (v : Bool) → Some role ≡ (if v then Some r else role_among rs word) → Some role ≡ (if v then Some r else role_among (rs ++ ss) word)
+    by true k = k
+    by false k = role-some rs ss word role k
+
+pub role-none :
+    (rs ss : List Role) (word : List ℕ) → None ≡ role_among rs word → role_among ss word ≡ role_among (rs ++ ss) word
+role-none [] ss word h = refl
+role-none (r ∷ rs) ss word h = by (bytes_eq (role_word r) word) h
+  where
+    by :
+        (v : Bool) → None ≡ (if v then Some r else role_among rs word) → role_among ss word ≡ (if v then Some r else role_among (rs ++ ss) word)
+    by true k = cc
+    by false k = role-none rs ss word k
 
 -- ---- the formula
 

@@ -31,3 +31,17 @@ pub mod StopLemmas
 pub mod AnswerLemmas
 pub mod VerdictLemmas
 pub mod PlacedLemmas
+pub mod TellingLemmas
+pub mod StepLemmas
+pub mod LoopLemmas
+pub mod TermReads
+pub mod AtomSteps
+pub mod AtomReads
+pub mod FormulaSteps
+pub mod VariableReads
+pub mod FormulaReads
+pub mod ClauseSteps
+pub mod ClauseReads
+pub mod NotesReads
+pub mod EntryReads
+pub mod EntryWhole

@@ -104,9 +104,9 @@ nothing-popped limit n old new t e g k h =
     absurd (false≢true (ap (λ xs. closes_first (stack_of xs) t) (sym empty) ∙ h))
 
 pub last-closes :
-    (open rest : List ToldBracket) (x : ToldBracket) (t : Lexeme) (b : Bool)
-    → open ≡ rest ++ x ∷ [] → b ≡ closes (bracket_of x) t → b ≡ closes_first (stack_of open) t
-last-closes open rest x t b e h = h ∙ ap (λ u. closes_first u t) (sym (ap stack_of e ∙ stack-push rest x))
+    (lent rest : List ToldBracket) (x : ToldBracket) (t : Lexeme) (b : Bool)
+    → lent ≡ rest ++ x ∷ [] → b ≡ closes (bracket_of x) t → b ≡ closes_first (stack_of lent) t
+last-closes lent rest x t b e h = h ∙ ap (λ u. closes_first u t) (sym (ap stack_of e ∙ stack-push rest x))
 
 -- ---- the end of notes
 
@@ -264,13 +264,13 @@ goes limit unclosed behind t b v e h = subst (λ (w : Bool). GoesOn limit unclos
 
 -- ---- slices of brackets
 
-pub none-closes : (open : List ToldBracket) (t : Lexeme) → length open ≡ 0 → false ≡ closes_first (stack_of open) t
+pub none-closes : (lent : List ToldBracket) (t : Lexeme) → length lent ≡ 0 → false ≡ closes_first (stack_of lent) t
 none-closes [] t h = refl
 none-closes (x ∷ xs) t h = absurd (omega (arith, h))
 
-pub none-end : (open : List ToldBracket) (t : Lexeme) (b : Bool) → length open ≡ 0 → b ≡ is_mark (codes ")") t → b ≡ is_end_of_notes (stack_of open) t
+pub none-end : (lent : List ToldBracket) (t : Lexeme) (b : Bool) → length lent ≡ 0 → b ≡ is_mark (codes ")") t → b ≡ is_end_of_notes (stack_of lent) t
 none-end [] t b h g = g
 none-end (x ∷ xs) t b h g = absurd (omega (arith, h))
 
-pub some-end : (open rest : List ToldBracket) (x : ToldBracket) (t : Lexeme) → open ≡ x ∷ rest → false ≡ is_end_of_notes (stack_of open) t
-some-end open rest x t e = sym (ap (λ xs. is_end_of_notes (stack_of xs) t) e ∙ some-no_end x rest t)
+pub some-end : (lent rest : List ToldBracket) (x : ToldBracket) (t : Lexeme) → lent ≡ x ∷ rest → false ≡ is_end_of_notes (stack_of lent) t
+some-end lent rest x t e = sym (ap (λ xs. is_end_of_notes (stack_of xs) t) e ∙ some-no_end x rest t)

@@ -1,14 +1,16 @@
 // Annotated formulas, read from tokens.
 
-ghost use Rattle.std.specs.Prelude.{◌≡◌, ◌+◌, ◌<◌, ◌^◌, [], ◌∷◌, IfOk, IfErr, true, IfSome, Some, None};
+ghost use Rattle.std.specs.Prelude.{◌≡◌, ◌+◌, ◌<◌, ◌≤◌, ◌^◌, [], ◌∷◌, IfOk, IfErr, true, false, length, Some, None};
 ghost use Rattle.std.specs.List.{list_all};
 ghost use Rattle.fol_base.specs.Spelling.{is_digit, is_one_of};
 ghost use Rattle.tptp_tree.specs.Shape.{formula_of};
-ghost use Rattle.tptp_tree.specs.Causes.{roles_left_out};
-ghost use Rattle.tptp_tree.specs.Entries.{role_of as role_meant};
+ghost use Rattle.tptp_tree.specs.Causes.{roles_left_out, untaken_role_cause};
+ghost use Rattle.tptp_tree.specs.Entries.{role_of as role_meant, role_among};
 ghost use Rattle.tptp_reader.specs.Machine.{an_annotated, a_name, a_role, end_of_body, before_body, typed_words};
-ghost use Rattle.tptp_reader.specs.Telling.{Ends};
-ghost use Rattle.tptp_reader.specs.TellingEntries.{body_symbols, ReadsLanguage, ReadsName, ReadsRole, ReadsBody, ReadsEnding, ReadsEntry};
+ghost use Rattle.tptp_reader.specs.Telling.{Ends, refusal_of};
+ghost use Rattle.tptp_tree.specs.declared.problem.Role.TheVariants.{Conjecture};
+ghost use Rattle.tptp_token.specs.Lexing.{lexed_of};
+ghost use Rattle.tptp_reader.specs.TellingEntries.{IsAnnotatedRead, HasFault, IsFaultBy, cause_told, body_symbols, ReadsLanguage, ReadsName, ReadsRole, ReadsBody, ReadsEnding, ReadsEntry};
 
 use crate::cause::{Form, Halt, ReadCause, ReadFault, Refusal};
 use crate::source::Reader;
@@ -53,7 +55,13 @@ pub fn annotated(
     lexed: &Lexed,
     first: usize,
     nesting: u32,
-) -> Result<Read, ReadFault> {
+) -> Result<Read, ReadFault>
+    requires lexed { lexed.now ≡ lexed_of bytes.now }
+    requires small { length bytes.now ≤ 67108864 }
+    requires first { first < length lexed.now.tokens }
+    ensures read { IfOk result (IsAnnotatedRead nesting bytes.now lexed.now.tokens first) }
+    ensures fault { IfErr result (HasFault nesting bytes.now lexed.now first) }
+{
     let reader = Reader {
         bytes,
         tokens: lexed.tokens.as_slice(),
@@ -67,7 +75,10 @@ pub fn annotated(
 }
 
 /// The fault of a text that isn't read, by the token or the end of tokens where reading stopped.
-fn fault_of(alloc: Global, bytes: &[u8], lexed: &Lexed, halt: Halt) -> ReadFault {
+fn fault_of(alloc: Global, bytes: &[u8], lexed: &Lexed, halt: Halt) -> ReadFault
+    requires { length bytes.now ≤ 67108864 }
+    ensures { IsFaultBy bytes.now lexed.now halt result }
+{
     let none = Text::new(alloc);
     match halt {
         Halt::NoMemory => ReadFault::NoMemory,
@@ -83,7 +94,9 @@ fn fault_of(alloc: Global, bytes: &[u8], lexed: &Lexed, halt: Halt) -> ReadFault
     }
 }
 
-fn cause_of(refusal: Refusal) -> ReadCause {
+fn cause_of(refusal: Refusal) -> ReadCause
+    ensures { result ≡ cause_told refusal }
+{
     match refusal {
         Refusal::Syntax => ReadCause::Syntax,
         Refusal::FreeVariable => ReadCause::FreeVariable,
@@ -180,12 +193,7 @@ impl<'a> Reader<'a> {
         }
         match role_of(clause, token.bytes) {
             Some(role) => Ok(role),
-            None => {
-                if is_role_form(token.bytes) {
-                    return Err(Halt::At(Refusal::Inappropriate(Form::RoleForm), at));
-                }
-                Err(Halt::At(Refusal::Role, at))
-            }
+            None => Err(Halt::At(untaken_role(token.bytes), at)),
         }
     }
 
@@ -250,15 +258,30 @@ fn is_typed(word: &[u8]) -> bool
 fn role_of(clause: bool, word: &[u8]) -> Option<Role>
     ensures { result ≡ role_meant clause word.now }
 {
+    if clause {
+        clause_role(word)
+    } else {
+        formula_role(word)
+    }
+}
+
+/// The role that a word names in `fof`.
+fn formula_role(word: &[u8]) -> Option<Role>
+    ensures { result ≡ role_meant false word.now }
+{
     match clause_role(word) {
         Some(role) => Some(role),
-        None => {
-            if !clause && b"conjecture".as_slice() == word {
-                Some(Role::Conjecture)
-            } else {
-                None
-            }
-        }
+        None => conjecture_role(word),
+    }
+}
+
+fn conjecture_role(word: &[u8]) -> Option<Role>
+    ensures { result ≡ role_among (Conjecture ∷ []) word.now }
+{
+    if b"conjecture".as_slice() == word {
+        Some(Role::Conjecture)
+    } else {
+        None
     }
 }
 
@@ -286,6 +309,17 @@ fn clause_role(word: &[u8]) -> Option<Role>
         Some(Role::Plain)
     } else {
         None
+    }
+}
+
+/// Why a role that isn't taken is refused.
+fn untaken_role(word: &[u8]) -> Refusal
+    ensures { Some (refusal_of result) ≡ untaken_role_cause None word.now }
+{
+    if is_role_form(word) {
+        Refusal::Inappropriate(Form::RoleForm)
+    } else {
+        Refusal::Role
     }
 }
 

@@ -11,6 +11,7 @@ ghost use Rattle.tptp_reader.specs.GroundText.{IsGroundText, IsWithinLimits, IsR
 ghost use Rattle.tptp_reader.specs.Numbering.{true_symbol, symbols_of, numbered_clause};
 ghost use Rattle.tptp_reader.specs.Examples.{two_units, two_units_clauses, applied, symbol, negated};
 
+mod atoms;
 mod building;
 mod cause;
 mod clauses;
@@ -31,9 +32,9 @@ mod entry_tests;
 mod tests;
 mod token;
 
-pub use entry::{Read, annotated};
 use building::{build_clauses, build_terms};
 pub use cause::{Form, ReadCause, ReadFault};
+pub use entry::{Read, annotated};
 pub use fault::GroundFault;
 use fol_base::{Mem, Text, Texts};
 use numbering::{number, owned_symbols};

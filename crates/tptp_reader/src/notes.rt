@@ -72,18 +72,18 @@ impl<'a> Reader<'a> {
         ensures read { IfOk result (λ next. ReadsNotes self.now at next) }
         ensures halted { IfErr result (λ halt. Ends self.now (first_note self.now.limit ∷ []) at halt) }
     {
-        let mut open = Vec::new(alloc);
+        let mut unclosed = Vec::new(alloc);
         let token = self.look(at)?;
-        let begins = self.note(&mut open, &token, at)?;
+        let begins = self.note(&mut unclosed, &token, at)?;
         if !begins {
             return Err(Halt::At(Refusal::Syntax, at));
         }
         let mut next = at + 1;
         loop {
             let sign = self.look(next)?;
-            let goes_on = self.note(&mut open, &sign, next)?;
+            let goes_on = self.note(&mut unclosed, &sign, next)?;
             if !goes_on {
-                let ended = ends_notes(open.as_slice(), &sign);
+                let ended = ends_notes(unclosed.as_slice(), &sign);
                 if ended {
                     return Ok(next);
                 }
@@ -93,49 +93,49 @@ impl<'a> Reader<'a> {
         }
     }
 
-    /// Whether a token goes on with notes, where these brackets are open before it, and with those open behind it.
+    /// Whether a token goes on with notes, where these brackets are unclosed before it, and with those unclosed behind it.
     fn note(
         &self,
-        open: &mut Vec<Bracket>,
+        unclosed: &mut Vec<Bracket>,
         token: &TextToken<'a>,
         at: usize,
     ) -> Result<bool, Halt>
-        ensures goes_on { IfOk result (λ goes. GoesOn self.now.limit (stack_of open.old.items) (lexeme_of token.now) goes (stack_of open.new.items)) }
-        ensures halted { IfErr result (IsTooDeep self.now.limit (stack_of open.old.items) (lexeme_of token.now) at) }
+        ensures goes_on { IfOk result (λ goes. GoesOn self.now.limit (stack_of unclosed.old.items) (lexeme_of token.now) goes (stack_of unclosed.new.items)) }
+        ensures halted { IfErr result (IsTooDeep self.now.limit (stack_of unclosed.old.items) (lexeme_of token.now) at) }
     {
-        if !closes_innermost(open.as_slice(), token) {
-            return self.enter(open, token, at);
+        if !closes_innermost(unclosed.as_slice(), token) {
+            return self.enter(unclosed, token, at);
         }
-        match open.pop() {
+        match unclosed.pop() {
             None => Ok(true),
             Some(_) => Ok(true),
         }
     }
 
-    /// Whether one more bracket may be open.
-    fn has_room(&self, open: &[Bracket]) -> bool
-        ensures { result ≡ nat_lt (length open.now) self.now.limit }
+    /// Whether one more bracket may be unclosed.
+    fn has_room(&self, unclosed: &[Bracket]) -> bool
+        ensures { result ≡ nat_lt (length unclosed.now) self.now.limit }
     {
-        open.len() < self.limit as usize
+        unclosed.len() < self.limit as usize
     }
 
     /// The same, where the token doesn't close the innermost bracket.
     fn enter(
         &self,
-        open: &mut Vec<Bracket>,
+        unclosed: &mut Vec<Bracket>,
         token: &TextToken<'a>,
         at: usize,
     ) -> Result<bool, Halt>
-        ensures goes_on { IfOk result (λ goes. EntersWith self.now.limit (stack_of open.old.items) (lexeme_of token.now) goes (stack_of open.new.items)) }
-        ensures halted { IfErr result (EntersTooDeep self.now.limit (stack_of open.old.items) (lexeme_of token.now) at) }
+        ensures goes_on { IfOk result (λ goes. EntersWith self.now.limit (stack_of unclosed.old.items) (lexeme_of token.now) goes (stack_of unclosed.new.items)) }
+        ensures halted { IfErr result (EntersTooDeep self.now.limit (stack_of unclosed.old.items) (lexeme_of token.now) at) }
     {
         match token.opened() {
             None => Ok(!token.is_closing()),
             Some(bracket) => {
-                if !self.has_room(open.as_slice()) {
+                if !self.has_room(unclosed.as_slice()) {
                     return Err(Halt::At(Refusal::Nesting, at));
                 }
-                open.push(bracket)?;
+                unclosed.push(bracket)?;
                 Ok(true)
             }
         }
@@ -143,20 +143,20 @@ impl<'a> Reader<'a> {
 }
 
 /// Whether a token closes the innermost bracket, which is the last one.
-fn closes_innermost(open: &[Bracket], token: &TextToken<'_>) -> bool
-    ensures { result ≡ closes_first (stack_of open.now) (lexeme_of token.now) }
+fn closes_innermost(unclosed: &[Bracket], token: &TextToken<'_>) -> bool
+    ensures { result ≡ closes_first (stack_of unclosed.now) (lexeme_of token.now) }
 {
-    match open.split_last() {
+    match unclosed.split_last() {
         None => false,
         Some((innermost, _)) => token.closes(*innermost),
     }
 }
 
-/// Whether a token is the bracket that closes the entry, where no bracket of the notes is open.
-fn ends_notes(open: &[Bracket], token: &TextToken<'_>) -> bool
-    ensures { result ≡ is_end_of_notes (stack_of open.now) (lexeme_of token.now) }
+/// Whether a token is the bracket that closes the entry, where no bracket of the notes is unclosed.
+fn ends_notes(unclosed: &[Bracket], token: &TextToken<'_>) -> bool
+    ensures { result ≡ is_end_of_notes (stack_of unclosed.now) (lexeme_of token.now) }
 {
-    match open.split_first() {
+    match unclosed.split_first() {
         None => token.is_mark(b")"),
         Some(_) => false,
     }

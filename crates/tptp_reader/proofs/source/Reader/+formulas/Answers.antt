@@ -49,16 +49,16 @@ formula-returns-in-None-clause-read t c =
     (sym c.is_connective.ensures ∙ c.if-is_connective.false) (sym c.is_connective-2.ensures ∙ c.if-is_connective-2.false)
     c.in-None.ensures.none
 
-pub formula-returns-in_err-second-clause-halted : goal.formula-returns-in_err-second-clause-halted
-formula-returns-in_err-second-clause-halted t c =
-    passed _ _ _ c.from_residual-in_err-second.ensures.1
+pub formula-returns-in_err-second-in-Some-clause-halted : goal.formula-returns-in_err-second-in-Some-clause-halted
+formula-returns-in_err-second-in-Some-clause-halted t c =
+    passed _ _ _ c.from_residual-in_err-second-in-Some.ensures.1
     (connected-halted _ _ _ _ _ _ _ _ _ c.in_ok-first.ensures.read c.in_ok-sign.ensures.found c.in-Some.ensures.found
-    (kept-halts _ _ _ _ _ _ _ c.in_ok-first.ensures.kept c.in_err-second.ensures.halted))
+    (kept-halts _ _ _ _ _ _ _ c.in_ok-first.ensures.kept c.in_err-second-in-Some.ensures.halted))
 
-pub formula-returns-in-Some-clause-read : goal.formula-returns-in-Some-clause-read
-formula-returns-in-Some-clause-read t c =
+pub formula-returns-in_ok-both-in-Some-clause-read : goal.formula-returns-in_ok-both-in-Some-clause-read
+formula-returns-in_ok-both-in-Some-clause-read t c =
     connected-read _ _ _ _ _ _ _ _ _ _ _ c.in_ok-first.ensures.read c.in_ok-sign.ensures.found c.in-Some.ensures.found
-    (kept-reads _ _ _ _ _ _ _ _ _ _ c.in_ok-first.ensures.kept c.in_ok-second.ensures.read) c.in_ok-both.ensures
+    (kept-reads _ _ _ _ _ _ _ _ _ _ c.in_ok-first.ensures.kept c.in_ok-second-in-Some.ensures.read) c.in_ok-both-in-Some.ensures
 
 -- ---- operands
 

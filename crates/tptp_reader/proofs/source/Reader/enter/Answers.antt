@@ -12,7 +12,7 @@ returns-then-not-has_room-clause-halted c =
     enters-too_deep _ _ _ _ _ _ _ (sym (ap told_bracket c.in-Some.is) ∙ c.opened.ensures) c.as_slice.ensures.value
     c.has_room.ensures c.if-not-has_room.true
 
-pub returns-in-Some-clause-goes_on : goal.returns-in-Some-clause-goes_on
-returns-in-Some-clause-goes_on c =
+pub returns-in_ok-push-in-Some-clause-goes_on : goal.returns-in_ok-push-in-Some-clause-goes_on
+returns-in_ok-push-in-Some-clause-goes_on c =
     enters-some _ _ _ _ _ _ _ (sym (ap told_bracket c.in-Some.is) ∙ c.opened.ensures) c.as_slice.ensures.value
-    c.has_room.ensures c.if-not-has_room.false c.in_ok-push.ensures.items
+    c.has_room.ensures c.if-not-has_room.false c.in_ok-push-in-Some.ensures.items

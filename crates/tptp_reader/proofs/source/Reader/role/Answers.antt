@@ -1,5 +1,5 @@
-use Rattle.std.proofs.Common.{sym, ap, ◌∙◌}
-use Rattle.tptp_reader.proofs.EntryReads.{role-read, no_role-ends, role_form-ends, untaken-ends}
+use Rattle.std.proofs.Common.{sym, ◌∙◌}
+use Rattle.tptp_reader.proofs.EntryReads.{role-read, no_role-ends, untaken-ends}
 use Rattle.tptp_reader.proofs.source.Reader.role.Goals as goal
 
 pub returns-then-not-is_lower-clause-halted : goal.returns-then-not-is_lower-clause-halted
@@ -11,12 +11,7 @@ returns-in-Some-clause-read c =
     role-read _ _ _ _ _ c.in_ok-token.ensures.found (sym c.is_lower.ensures ∙ c.if-not-is_lower.false)
     (sym c.in-Some.is ∙ c.role_of.ensures)
 
-pub returns-then-is_role_form-clause-halted : goal.returns-then-is_role_form-clause-halted
-returns-then-is_role_form-clause-halted c =
-    role_form-ends _ _ _ _ c.in_ok-token.ensures.found (sym c.is_lower.ensures ∙ c.if-not-is_lower.false)
-    (sym c.in-None.is ∙ c.role_of.ensures) (sym c.is_role_form.ensures ∙ c.if-is_role_form.true)
-
 pub returns-in-None-clause-halted : goal.returns-in-None-clause-halted
 returns-in-None-clause-halted c =
-    untaken-ends _ _ _ _ c.in_ok-token.ensures.found (sym c.is_lower.ensures ∙ c.if-not-is_lower.false)
-    (sym c.in-None.is ∙ c.role_of.ensures) (sym c.is_role_form.ensures ∙ c.if-is_role_form.false)
+    untaken-ends _ _ _ _ _ c.in_ok-token.ensures.found (sym c.is_lower.ensures ∙ c.if-not-is_lower.false)
+    (sym c.in-None.is ∙ c.role_of.ensures) c.untaken_role.ensures
