@@ -45,3 +45,4 @@ pub mod ClauseReads
 pub mod NotesReads
 pub mod EntryReads
 pub mod EntryWhole
+pub mod AnnotatingLemmas

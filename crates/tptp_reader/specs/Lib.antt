@@ -16,3 +16,4 @@ pub mod Placed
 pub mod Telling
 pub mod TellingNotes
 pub mod TellingEntries
+pub mod Annotating

@@ -10,7 +10,8 @@ ghost use Rattle.tptp_reader.specs.Machine.{an_annotated, a_name, a_role, end_of
 ghost use Rattle.tptp_reader.specs.Telling.{Ends, refusal_of};
 ghost use Rattle.tptp_tree.specs.declared.problem.Role.TheVariants.{Conjecture};
 ghost use Rattle.tptp_token.specs.Lexing.{lexed_of};
-ghost use Rattle.tptp_reader.specs.TellingEntries.{IsAnnotatedRead, HasFault, IsFaultBy, cause_told, body_symbols, ReadsLanguage, ReadsName, ReadsRole, ReadsBody, ReadsEnding, ReadsEntry};
+ghost use Rattle.tptp_reader.specs.Annotating.{IsReading, IsFaultOf};
+ghost use Rattle.tptp_reader.specs.TellingEntries.{IsFaultBy, cause_told, body_symbols, ReadsLanguage, ReadsName, ReadsRole, ReadsBody, ReadsEnding, ReadsEntry};
 
 use crate::cause::{Form, Halt, ReadCause, ReadFault, Refusal};
 use crate::source::Reader;
@@ -59,8 +60,8 @@ pub fn annotated(
     requires lexed { lexed.now ≡ lexed_of bytes.now }
     requires small { length bytes.now ≤ 67108864 }
     requires first { first < length lexed.now.tokens }
-    ensures read { IfOk result (IsAnnotatedRead nesting bytes.now lexed.now.tokens first) }
-    ensures fault { IfErr result (HasFault nesting bytes.now lexed.now first) }
+    ensures read { IfOk result (IsReading nesting bytes.now lexed.now.tokens first) }
+    ensures fault { IfErr result (IsFaultOf nesting bytes.now lexed.now first) }
 {
     let reader = Reader {
         bytes,

@@ -16,18 +16,18 @@ mod building;
 mod cause;
 mod clauses;
 mod entry;
+#[cfg(test)]
+mod entry_tests;
 mod fault;
 mod formulas;
-mod notes;
 pub mod laws;
+mod notes;
 mod numbering;
 mod occurrence;
 mod problem;
 mod reading;
 mod source;
 mod terms;
-#[cfg(test)]
-mod entry_tests;
 #[cfg(test)]
 mod tests;
 mod token;
