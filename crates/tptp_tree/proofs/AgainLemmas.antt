@@ -1,7 +1,7 @@
 -- A printed text spells again what some text spells.
 use Rattle.std.proofs.Common.{◌≡◌, ℕ, List, [], ◌∷◌, ◌++◌, ap, sym, ◌∙◌, subst, append-nil}
-use Rattle.tptp_token.specs.Lexemes.{Lexeme, IsLexedAs}
-use Rattle.tptp_token.proofs.LexemeLemmas.{Lexes, lexes-whole, lexes-nothing}
+use Rattle.tptp_token.specs.Lexemes.{IsLexedAs}
+use Rattle.tptp_token.proofs.LexemeLemmas.{lexes-whole, lexes-nothing}
 use Rattle.tptp_tree.specs.Formula.{FormulaTree}
 use Rattle.tptp_tree.specs.Printing.{name_text, formula_text}
 use Rattle.tptp_tree.specs.Spelling.{word_lexeme, name_of, phrase_lexemes, meant, SpellsName, SpellsFormula}
@@ -9,6 +9,8 @@ use Rattle.tptp_tree.proofs.NameLemmas.{WellName, word_of, name_of-word_of, name
 use Rattle.tptp_tree.proofs.CanonicalLemmas.{WellFormula, phrase_of, formula-meant}
 use Rattle.tptp_tree.proofs.LexingLemmas.{formula-lexes}
 use Rattle.tptp_tree.proofs.UniqueLemmas.{one_phrase, one_word}
+use Rattle.tptp_tree.specs.Entries.{AnnotatedTree, EntryTree, AreEntriesOf, IsAnnotatedOf, SpellsAnnotated, SpellsEntries}
+use Rattle.tptp_tree.proofs.UniqueEntries.{annotated-same, tree-same, entries-same, trees-same}
 use Rattle.tptp_tree.proofs.WellLemmas.{text-spelled, word-well, spelled-well}
 
 pub name-again : (printed other name : List ℕ) → printed ≡ name_text name → SpellsName other name → SpellsName printed name
@@ -38,3 +40,13 @@ one_formula text f g s t = sym s.2 ∙ ap meant (one_phrase s.0 t.0 (sym s.1.tok
 
 pub one_name : (text name other : List ℕ) → SpellsName text name → SpellsName text other → name ≡ other
 one_name text name other s t = sym s.2 ∙ ap name_of (one_word s.0 t.0 (sym s.1.tokens ∙ t.1.tokens)) ∙ t.2
+
+pub one_annotated : (text : List ℕ) (a b : AnnotatedTree) → SpellsAnnotated text a → SpellsAnnotated text b → a ≡ b
+one_annotated text a b s t =
+    let same = annotated-same s.0 t.0 [] [] s.1 t.1 (sym s.2.tokens ∙ t.2.tokens) in
+    tree-same t.0 a b (subst (λ p. IsAnnotatedOf p a) same.0 s.3) t.3
+
+pub one_entries : (text : List ℕ) (es fs : List EntryTree) → SpellsEntries text es → SpellsEntries text fs → es ≡ fs
+one_entries text es fs s t =
+    let same = entries-same s.0 t.0 s.1 t.1 (sym s.2.tokens ∙ t.2.tokens) in
+    trees-same t.0 es fs (subst (λ ps. AreEntriesOf ps es) same s.3) t.3

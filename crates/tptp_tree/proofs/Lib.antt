@@ -4,4 +4,6 @@ pub mod CanonicalLemmas
 pub mod LexingLemmas
 pub mod WellLemmas
 pub mod AgainLemmas
+pub mod UniqueAtoms
 pub mod UniqueLemmas
+pub mod UniqueEntries

@@ -1,8 +1,8 @@
 -- Names, and the words that spell them.
-use Rattle.std.proofs.Common.{◌≡◌, ◌⊎◌, ℕ, zero, suc, ◌+◌, ◌<◌, ◌≤◌, Bool, true, false, not, ◌&&◌, ◌||◌, ◌==◌, List, [], ◌∷◌, ◌++◌, codes, length, flat_map, refl, ap, sym, ◌∙◌, subst, arith, eqb-true, ⊎_elim, append_assoc, length-append, leb-true, le-leb}
+use Rattle.std.proofs.Common.{◌≡◌, ℕ, ◌<◌, ◌≤◌, Bool, true, false, not, ◌&&◌, ◌||◌, ◌==◌, List, [], ◌∷◌, ◌++◌, length, flat_map, refl, ap, sym, ◌∙◌, subst, arith, eqb-true, ⊎_elim, append_assoc, length-append, leb-true, le-leb}
 use Rattle.std.specs.Prelude.{if◌then◌else◌, nat_le}
 use Rattle.std.specs.List.{list_all}
-use Rattle.std.proofs.lemmas.Bool.{and_parts, and_from, or_cases, or_parts, eqb-false}
+use Rattle.std.proofs.lemmas.Bool.{and_parts, and_from, or_cases, eqb-false}
 use Rattle.fol_base.specs.Spelling.{is_between, is_lower, is_upper, is_digit, is_word_byte, is_printable, is_end, begins, is_lower_word, is_quoted_rest, is_quoted_word}
 use Rattle.tptp_token.specs.Pieces.{fills}
 use Rattle.tptp_token.specs.Lexemes.{Lexeme}

@@ -1,5 +1,5 @@
 -- A member of a list is no larger than the list.
-use Rattle.std.proofs.Common.{◌≡◌, ℕ, zero, suc, ◌<◌, ◌≤◌, List, [], ◌∷◌, length, map, get_or, sym, ap, subst, arith}
+use Rattle.std.proofs.Common.{◌≡◌, ℕ, zero, suc, ◌<◌, ◌≤◌, List, [], ◌∷◌, length, map, get_or, ap, arith}
 use Rattle.tptp_tree.specs.Term.{term_size, terms_size, terms_of}
 use Rattle.tptp_tree.specs.Formula.{formula_size, formulas_size, formulas_of}
 use Rattle.tptp_tree.specs.Shape.{term_of, formula_of}

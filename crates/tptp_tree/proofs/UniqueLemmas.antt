@@ -1,215 +1,12 @@
 -- A list of tokens is that of at most one phrase.
-use Rattle.std.proofs.Common.{◌≡◌, ℕ, None, Some, Option, Bool, true, false, ◌&&◌, List, [], ◌∷◌, codes, refl, ap, ap₂, sym, ◌∙◌, subst, bytes_eq}
+use Rattle.std.proofs.Common.{◌≡◌, ℕ, true, false, List, [], ◌∷◌, codes, refl, ap, ap₂, sym, ◌∙◌, bytes_eq}
 use Rattle.std.specs.Prelude.{if◌then◌else◌}
 use Rattle.tptp_token.specs.Lexemes.{Lexeme}
 use Rattle.tptp_token.specs.declared.token.Kind.{Kind}
 use Rattle.tptp_token.specs.declared.token.Kind.TheVariants.{Lower, Variable, Quoted, Distinct, Dollar, Number, Connective, Mark, Other}
 use Rattle.tptp_tree.specs.Formula.{BinaryConnective, implies, implied, equivalent, different, nor, nand, Quantifier, for_all, exists_some}
-use Rattle.tptp_tree.specs.Spelling.{Word, bare, quoted, lexeme, word_lexeme, TermPhrase, variable_word, word_with, TermPhrases, no_phrases, phrase_then, term_lexemes, arguments_lexemes, more_arguments_lexemes, Atom, true_atom, false_atom, predicate_atom, equation_atom, equals_lexeme, atom_lexemes, Variables, UnitPhrase, negated, bound, in_brackets, atomic, UnitPhrases, no_units, unit_then, Phrase, alone, all_of, some_of, joined_by, connective_lexeme, quantifier_lexeme, more_variables_lexemes, variables_lexemes, unit_lexemes, units_lexemes, phrase_lexemes}
-
--- ---- what the first token tells
-
-tail-same : (l m : Lexeme) (ls ms : List Lexeme) → l ∷ ls ≡ m ∷ ms → ls ≡ ms
-tail-same l m ls ms e = cc
-
-head-same : (l m : Lexeme) (ls ms : List Lexeme) → l ∷ ls ≡ m ∷ ms → l ≡ m
-head-same l m ls ms e = cc
-
--- the first token has these bytes
-abbrev first_is : List ℕ → List Lexeme → Bool
-first_is bytes [] = false
-first_is bytes (l ∷ ls) = bytes_eq l.bytes bytes
-
--- the sign of an equation
-abbrev first_equals : List Lexeme → Option Bool
-first_equals ls = if first_is (codes "=") ls then Some true else (if first_is (codes "!=") ls then Some false else None)
-
-data Joint : Type 0 where
-  nothing : Joint
-  ands : Joint
-  ors : Joint
-  two_by : BinaryConnective → Joint
-
--- the connective between operands
-abbrev first_joint : List Lexeme → Joint
-first_joint ls =
-    if first_is (codes "&") ls then ands
-    else (if first_is (codes "|") ls then ors
-    else (if first_is (codes "=>") ls then two_by implies
-    else (if first_is (codes "<=") ls then two_by implied
-    else (if first_is (codes "<=>") ls then two_by equivalent
-    else (if first_is (codes "<~>") ls then two_by different
-    else (if first_is (codes "~|") ls then two_by nor else (if first_is (codes "~&") ls then two_by nand else nothing)))))))
-
-record EndsUnit (ls : List Lexeme) : Type 0 where
-  flat : first_is (codes "(") ls ≡ false
-  alone_here : first_equals ls ≡ None
-
-record EndsPhrase (ls : List Lexeme) : Type 0 where
-  unit : EndsUnit ls
-  last : first_joint ls ≡ nothing
-
--- ---- words and terms
-
-word-same : (w v : Word) → word_lexeme w ≡ word_lexeme v → w ≡ v
-word-same (bare x) (bare y) e = ap (λ (l : Lexeme). bare l.bytes) e
-word-same (bare x) (quoted y) e = absurd (let k : Lower ≡ Quoted = ap (λ (l : Lexeme). l.kind) e in cc)
-word-same (quoted x) (bare y) e = absurd (let k : Quoted ≡ Lower = ap (λ (l : Lexeme). l.kind) e in cc)
-word-same (quoted x) (quoted y) e = ap (λ (l : Lexeme). quoted l.bytes) e
-
-word-no_variable : (w : Word) (x : List ℕ) → word_lexeme w ≡ lexeme Variable x → ⊥
-word-no_variable (bare y) x e = let k : Lower ≡ Variable = ap (λ (l : Lexeme). l.kind) e in cc
-word-no_variable (quoted y) x e = let k : Quoted ≡ Variable = ap (λ (l : Lexeme). l.kind) e in cc
-
-more_arguments-flat : (ts : TermPhrases) (ls : List Lexeme) → first_is (codes "(") (more_arguments_lexemes ts ls) ≡ false
-more_arguments-flat no_phrases ls = refl
-more_arguments-flat (phrase_then t ts) ls = refl
-
-mutual
-  term-same :
-      (t u : TermPhrase) (ls ms : List Lexeme)
-      → first_is (codes "(") ls ≡ false → first_is (codes "(") ms ≡ false → term_lexemes t ls ≡ term_lexemes u ms
-      → (t ≡ u) × (ls ≡ ms)
-  term-same (variable_word x) (variable_word y) ls ms h k e = (
-    ap (λ (l : Lexeme). variable_word l.bytes) (head-same (lexeme Variable x) (lexeme Variable y) ls ms e),
-    tail-same (lexeme Variable x) (lexeme Variable y) ls ms e,
-  )
-  term-same (variable_word x) (word_with v us) ls ms h k e =
-      absurd (word-no_variable v x (sym (head-same (lexeme Variable x) (word_lexeme v) ls (arguments_lexemes us ms) e)))
-  term-same (word_with w ts) (variable_word y) ls ms h k e =
-      absurd (word-no_variable w y (head-same (word_lexeme w) (lexeme Variable y) (arguments_lexemes ts ls) ms e))
-  term-same (word_with w ts) (word_with v us) ls ms h k e =
-      let word = word-same w v (head-same (word_lexeme w) (word_lexeme v) (arguments_lexemes ts ls) (arguments_lexemes us ms) e) in
-      let more = arguments-same ts us ls ms h k (tail-same (word_lexeme w) (word_lexeme v) (arguments_lexemes ts ls) (arguments_lexemes us ms) e) in
-      (ap₂ word_with word more.0, more.1)
-
-  arguments-same :
-      (ts us : TermPhrases) (ls ms : List Lexeme)
-      → first_is (codes "(") ls ≡ false → first_is (codes "(") ms ≡ false → arguments_lexemes ts ls ≡ arguments_lexemes us ms
-      → (ts ≡ us) × (ls ≡ ms)
-  arguments-same no_phrases no_phrases ls ms h k e = (refl, e)
-  arguments-same no_phrases (phrase_then u us) ls ms h k e =
-      absurd (let t : false ≡ true = sym h ∙ ap (first_is (codes "(")) e in cc)
-  arguments-same (phrase_then t ts) no_phrases ls ms h k e =
-      absurd (let f : true ≡ false = ap (first_is (codes "(")) e ∙ k in cc)
-  arguments-same (phrase_then t ts) (phrase_then u us) ls ms h k e =
-      let first =
-      term-same t u (more_arguments_lexemes ts ls) (more_arguments_lexemes us ms) (more_arguments-flat ts ls) (more_arguments-flat us ms)
-      (tail-same (lexeme Mark (codes "(")) (lexeme Mark (codes "(")) (term_lexemes t (more_arguments_lexemes ts ls)) (term_lexemes u (more_arguments_lexemes us ms)) e) in
-      let more = more_arguments-same ts us ls ms first.1 in
-      (ap₂ phrase_then first.0 more.0, more.1)
-
-  more_arguments-same :
-      (ts us : TermPhrases) (ls ms : List Lexeme)
-      → more_arguments_lexemes ts ls ≡ more_arguments_lexemes us ms → (ts ≡ us) × (ls ≡ ms)
-  more_arguments-same no_phrases no_phrases ls ms e =
-      (refl, tail-same (lexeme Mark (codes ")")) (lexeme Mark (codes ")")) ls ms e)
-  more_arguments-same no_phrases (phrase_then u us) ls ms e =
-      absurd (let t : false ≡ true = ap (first_is (codes ",")) e in cc)
-  more_arguments-same (phrase_then t ts) no_phrases ls ms e =
-      absurd (let f : true ≡ false = ap (first_is (codes ",")) e in cc)
-  more_arguments-same (phrase_then t ts) (phrase_then u us) ls ms e =
-      let first =
-      term-same t u (more_arguments_lexemes ts ls) (more_arguments_lexemes us ms) (more_arguments-flat ts ls) (more_arguments-flat us ms)
-      (tail-same (lexeme Mark (codes ",")) (lexeme Mark (codes ",")) (term_lexemes t (more_arguments_lexemes ts ls)) (term_lexemes u (more_arguments_lexemes us ms)) e) in
-      let more = more_arguments-same ts us ls ms first.1 in
-      (ap₂ phrase_then first.0 more.0, more.1)
-
--- ---- atoms
-
--- `$true`, `$false`, or a word or a variable
-data Start : Type 0 where
-  true_start : Start
-  false_start : Start
-  other_start : Start
-
-abbrev dollar_start : List ℕ → Start
-dollar_start bytes = if bytes_eq bytes (codes "$true") then true_start else false_start
-
-abbrev kind_start : Kind → List ℕ → Start
-kind_start Lower bytes = other_start
-kind_start Variable bytes = other_start
-kind_start Quoted bytes = other_start
-kind_start Distinct bytes = other_start
-kind_start Dollar bytes = dollar_start bytes
-kind_start Number bytes = other_start
-kind_start Connective bytes = other_start
-kind_start Mark bytes = other_start
-kind_start Other bytes = other_start
-
-abbrev first_start : List Lexeme → Start
-first_start [] = other_start
-first_start (l ∷ ls) = kind_start l.kind l.bytes
-
-abbrev atom_start : Atom → Start
-atom_start true_atom = true_start
-atom_start false_atom = false_start
-atom_start (predicate_atom w ts) = other_start
-atom_start (equation_atom positive s t) = other_start
-
-word-start : (w : Word) (ls : List Lexeme) → first_start (word_lexeme w ∷ ls) ≡ other_start
-word-start (bare x) ls = refl
-word-start (quoted x) ls = refl
-
-term-start : (t : TermPhrase) (ls : List Lexeme) → first_start (term_lexemes t ls) ≡ other_start
-term-start (variable_word x) ls = refl
-term-start (word_with w ts) ls = word-start w (arguments_lexemes ts ls)
-
-atom-start : (a : Atom) (ls : List Lexeme) → first_start (atom_lexemes a ls) ≡ atom_start a
-atom-start true_atom ls = refl
-atom-start false_atom ls = refl
-atom-start (predicate_atom w ts) ls = word-start w (arguments_lexemes ts ls)
-atom-start (equation_atom positive s t) ls = term-start s (equals_lexeme positive ∷ term_lexemes t ls)
-
-equals-flat : (positive : Bool) (ls : List Lexeme) → first_is (codes "(") (equals_lexeme positive ∷ ls) ≡ false
-equals-flat true ls = refl
-equals-flat false ls = refl
-
-equals-first : (positive : Bool) (ls : List Lexeme) → first_equals (equals_lexeme positive ∷ ls) ≡ Some positive
-equals-first true ls = refl
-equals-first false ls = refl
-
--- an atom of a predicate is no equation
-mixed :
-    (w : Word) (ts : TermPhrases) (positive : Bool) (s t : TermPhrase) (ls ms : List Lexeme)
-    → EndsUnit ls → word_lexeme w ∷ arguments_lexemes ts ls ≡ term_lexemes s (equals_lexeme positive ∷ term_lexemes t ms) → ⊥
-mixed w ts positive (variable_word x) t ls ms h e =
-    word-no_variable w x (head-same (word_lexeme w) (lexeme Variable x) (arguments_lexemes ts ls) (equals_lexeme positive ∷ term_lexemes t ms) e)
-mixed w ts positive (word_with v us) t ls ms h e =
-    let same =
-    arguments-same ts us ls (equals_lexeme positive ∷ term_lexemes t ms) h.flat (equals-flat positive (term_lexemes t ms))
-    (tail-same (word_lexeme w) (word_lexeme v) (arguments_lexemes ts ls) (arguments_lexemes us (equals_lexeme positive ∷ term_lexemes t ms)) e) in
-    let x : None ≡ Some positive = sym h.alone_here ∙ ap first_equals same.1 ∙ equals-first positive (term_lexemes t ms) in
-    cc
-
-atom-same :
-    (a b : Atom) (ls ms : List Lexeme)
-    → EndsUnit ls → EndsUnit ms → atom_start a ≡ atom_start b → atom_lexemes a ls ≡ atom_lexemes b ms → (a ≡ b) × (ls ≡ ms)
-atom-same true_atom true_atom ls ms h k s e = (refl, tail-same (lexeme Dollar (codes "$true")) (lexeme Dollar (codes "$true")) ls ms e)
-atom-same true_atom false_atom ls ms h k s e = absurd (cc)
-atom-same true_atom (predicate_atom v us) ls ms h k s e = absurd (cc)
-atom-same true_atom (equation_atom n p q) ls ms h k s e = absurd (cc)
-atom-same false_atom true_atom ls ms h k s e = absurd (cc)
-atom-same false_atom false_atom ls ms h k s e = (refl, tail-same (lexeme Dollar (codes "$false")) (lexeme Dollar (codes "$false")) ls ms e)
-atom-same false_atom (predicate_atom v us) ls ms h k s e = absurd (cc)
-atom-same false_atom (equation_atom n p q) ls ms h k s e = absurd (cc)
-atom-same (predicate_atom w ts) true_atom ls ms h k s e = absurd (cc)
-atom-same (predicate_atom w ts) false_atom ls ms h k s e = absurd (cc)
-atom-same (predicate_atom w ts) (predicate_atom v us) ls ms h k s e =
-    let word = word-same w v (head-same (word_lexeme w) (word_lexeme v) (arguments_lexemes ts ls) (arguments_lexemes us ms) e) in
-    let more = arguments-same ts us ls ms h.flat k.flat (tail-same (word_lexeme w) (word_lexeme v) (arguments_lexemes ts ls) (arguments_lexemes us ms) e) in
-    (ap₂ predicate_atom word more.0, more.1)
-atom-same (predicate_atom w ts) (equation_atom n p q) ls ms h k s e = absurd (mixed w ts n p q ls ms h e)
-atom-same (equation_atom m x y) true_atom ls ms h k s e = absurd (cc)
-atom-same (equation_atom m x y) false_atom ls ms h k s e = absurd (cc)
-atom-same (equation_atom m x y) (predicate_atom v us) ls ms h k s e = absurd (mixed v us m x y ms ls k (sym e))
-atom-same (equation_atom m x y) (equation_atom n p q) ls ms h k s e =
-    let left =
-    term-same x p (equals_lexeme m ∷ term_lexemes y ls) (equals_lexeme n ∷ term_lexemes q ms) (equals-flat m (term_lexemes y ls)) (equals-flat n (term_lexemes q ms)) e in
-    let sign : Some m ≡ Some n = sym (equals-first m (term_lexemes y ls)) ∙ ap first_equals left.1 ∙ equals-first n (term_lexemes q ms) in
-    let right = term-same y q ls ms h.flat k.flat (tail-same (equals_lexeme m) (equals_lexeme n) (term_lexemes y ls) (term_lexemes q ms) left.1) in
-    let signs : m ≡ n = cc in
-    (ap (λ b. equation_atom b x y) signs ∙ ap₂ (equation_atom n) left.0 right.0, right.1)
+use Rattle.tptp_tree.specs.Spelling.{Word, bare, quoted, lexeme, word_lexeme, TermPhrase, variable_word, word_with, term_lexemes, arguments_lexemes, true_atom, false_atom, predicate_atom, equation_atom, equals_lexeme, Variables, UnitPhrase, negated, bound, in_brackets, atomic, UnitPhrases, no_units, unit_then, Phrase, alone, all_of, some_of, joined_by, connective_lexeme, quantifier_lexeme, more_variables_lexemes, variables_lexemes, unit_lexemes, units_lexemes, phrase_lexemes}
+use Rattle.tptp_tree.proofs.UniqueAtoms.{tail-same, head-same, first_is, Joint, nothing, ands, ors, two_by, first_joint, EndsUnit, EndsPhrase, word-same, Start, other_start, dollar_start, atom_start, atom-same}
 
 -- ---- variables
 
@@ -249,17 +46,17 @@ variables-same xs ys ls ms e =
 
 -- ---- units
 
-data UnitStart : Type 0 where
+pub data UnitStart : Type 0 where
   tilde : UnitStart
   quantifier : Quantifier → UnitStart
   bracket : UnitStart
   atom_of : Start → UnitStart
 
-abbrev sign_start : List ℕ → UnitStart
+abbrev pub sign_start : List ℕ → UnitStart
 sign_start bytes =
     if bytes_eq bytes (codes "~") then tilde else (if bytes_eq bytes (codes "!") then quantifier for_all else quantifier exists_some)
 
-abbrev lexeme_start : Kind → List ℕ → UnitStart
+abbrev pub lexeme_start : Kind → List ℕ → UnitStart
 lexeme_start Lower bytes = atom_of other_start
 lexeme_start Variable bytes = atom_of other_start
 lexeme_start Quoted bytes = atom_of other_start
@@ -270,11 +67,11 @@ lexeme_start Connective bytes = sign_start bytes
 lexeme_start Mark bytes = bracket
 lexeme_start Other bytes = atom_of other_start
 
-abbrev first_unit : List Lexeme → UnitStart
+abbrev pub first_unit : List Lexeme → UnitStart
 first_unit [] = bracket
 first_unit (l ∷ ls) = lexeme_start l.kind l.bytes
 
-abbrev unit_start : UnitPhrase → UnitStart
+abbrev pub unit_start : UnitPhrase → UnitStart
 unit_start (negated u) = tilde
 unit_start (bound q xs u) = quantifier q
 unit_start (in_brackets p) = bracket
@@ -288,7 +85,7 @@ term-unit : (t : TermPhrase) (ls : List Lexeme) → first_unit (term_lexemes t l
 term-unit (variable_word x) ls = refl
 term-unit (word_with w ts) ls = word-unit w (arguments_lexemes ts ls)
 
-unit-start : (u : UnitPhrase) (ls : List Lexeme) → first_unit (unit_lexemes u ls) ≡ unit_start u
+pub unit-start : (u : UnitPhrase) (ls : List Lexeme) → first_unit (unit_lexemes u ls) ≡ unit_start u
 unit-start (negated u) ls = refl
 unit-start (bound for_all xs u) ls = refl
 unit-start (bound exists_some xs u) ls = refl
@@ -329,10 +126,10 @@ connective-ends nand ls = record { flat = refl; alone_here = refl }
 and-ends : (ls : List Lexeme) → EndsUnit (lexeme Connective (codes "&") ∷ ls)
 and-ends ls = record { flat = refl; alone_here = refl }
 
-or-ends : (ls : List Lexeme) → EndsUnit (lexeme Connective (codes "|") ∷ ls)
+pub or-ends : (ls : List Lexeme) → EndsUnit (lexeme Connective (codes "|") ∷ ls)
 or-ends ls = record { flat = refl; alone_here = refl }
 
-closed-ends : (ls : List Lexeme) → EndsPhrase (lexeme Mark (codes ")") ∷ ls)
+pub closed-ends : (ls : List Lexeme) → EndsPhrase (lexeme Mark (codes ")") ∷ ls)
 closed-ends ls = record { unit = record { flat = refl; alone_here = refl }; last = refl }
 
 -- the operand before the rest of a phrase
@@ -446,7 +243,7 @@ mutual
       (starts-same u v (units_lexemes one us ls) (units_lexemes one vs ms) inner) inner in
       let more = units-same one joint us vs ls ms f j n h k first.1 in (ap₂ unit_then first.0 more.0, more.1)
 
-  phrase-same :
+  pub phrase-same :
       (p q : Phrase) (ls ms : List Lexeme)
       → EndsPhrase ls → EndsPhrase ms → phrase_lexemes p ls ≡ phrase_lexemes q ms → (p ≡ q) × (ls ≡ ms)
   phrase-same (alone u) (alone v) ls ms h k e =

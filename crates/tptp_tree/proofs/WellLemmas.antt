@@ -1,16 +1,13 @@
 -- What a text spells has names that can be printed.
-use Rattle.std.proofs.Common.{◌≡◌, ℕ, Bool, true, false, List, [], ◌∷◌, map, refl, ap, sym, ◌∙◌, subst}
+use Rattle.std.proofs.Common.{◌≡◌, ℕ, true, false, List, [], ◌∷◌, map, subst}
 use Rattle.std.specs.List.{AllByRecursion}
 use Rattle.fol_base.specs.Spelling.{spells, is_variable_word}
 use Rattle.tptp_token.specs.Kinds.{spelled_kind}
 use Rattle.tptp_token.specs.Lexing.{lexed_of}
 use Rattle.tptp_token.specs.Lexemes.{Lexeme, lexeme_at, IsLexedAs}
 use Rattle.tptp_token.specs.declared.token.Token.{Token as TokenRecord}
-use Rattle.tptp_token.specs.declared.token.Kind.TheVariants.{Lower, Variable, Quoted, Dollar, Connective, Mark}
 use Rattle.tptp_token.proofs.LexemeLemmas.{tokens-spelled}
-use Rattle.tptp_tree.specs.Term.{TermTree}
-use Rattle.tptp_tree.specs.Formula.{FormulaTree, FormulaTrees}
-use Rattle.tptp_tree.specs.Spelling.{Word, bare, quoted, name_of, word_lexeme, TermPhrase, variable_word, word_with, TermPhrases, no_phrases, phrase_then, term_lexemes, arguments_lexemes, more_arguments_lexemes, term_meant, terms_meant, Atom, true_atom, false_atom, predicate_atom, equation_atom, atom_lexemes, atom_meant, Variables, UnitPhrase, negated, bound, in_brackets, atomic, UnitPhrases, no_units, unit_then, Phrase, alone, all_of, some_of, joined_by, more_variables_lexemes, variables_lexemes, unit_lexemes, units_lexemes, phrase_lexemes, unit_meant, units_meant, meant}
+use Rattle.tptp_tree.specs.Spelling.{Word, bare, quoted, name_of, word_lexeme, TermPhrase, variable_word, word_with, TermPhrases, no_phrases, phrase_then, term_lexemes, arguments_lexemes, more_arguments_lexemes, term_meant, terms_meant, Atom, true_atom, false_atom, predicate_atom, equation_atom, atom_lexemes, atom_meant, UnitPhrase, negated, bound, in_brackets, atomic, UnitPhrases, no_units, unit_then, Phrase, alone, all_of, some_of, joined_by, more_variables_lexemes, unit_lexemes, units_lexemes, phrase_lexemes, unit_meant, units_meant, meant}
 use Rattle.tptp_tree.proofs.NameLemmas.{WellName, lower-well, quoted-well}
 use Rattle.tptp_tree.proofs.CanonicalLemmas.{WellTerm, WellTerms, WellFormula, WellFormulas}
 

@@ -1,6 +1,6 @@
 -- Codes for terms and formulas over names: trees whose leaves are bytes.
 use Rattle.std.specs.Prelude.{◌≡◌, ℕ, zero, suc, Bool, true, false, List, [], ◌∷◌, refl}
-use Rattle.std.specs.Coded.{Coded, code_by, coded_list}
+use Rattle.std.specs.Coded.{Coded, code_by}
 use Rattle.std.proofs.Common.{◌∙◌, ap, ap₂}
 use Rattle.fol_base.specs.Tree.{Tree, variable as leaf, application as node, Trees, no_trees, tree_then}
 use Rattle.fol_base.specs.TreeCode.{tree_code}

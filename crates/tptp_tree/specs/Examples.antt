@@ -1,5 +1,5 @@
 -- The printing on small formulas.
-use Rattle.std.specs.Prelude.{◌≡◌, true, false, List, [], ◌∷◌, codes}
+use Rattle.std.specs.Prelude.{◌≡◌, true, [], ◌∷◌, codes}
 use Rattle.tptp_tree.specs.Term.{TermTree, variable, application, no_terms, term_then}
 use Rattle.tptp_tree.specs.Formula.{implies, for_all, FormulaTree, truth, predicate, equation, negation, conjunction, disjunction, connected, quantified, no_formulas, formula_then}
 use Rattle.tptp_tree.specs.Printing.{name_text, formula_text}

@@ -5,4 +5,8 @@ pub mod Shape
 pub mod Falls
 pub mod Printing
 pub mod Spelling
+pub mod Brackets
+pub mod Entries
+pub mod Causes
 pub mod Examples
+pub mod EntryExamples

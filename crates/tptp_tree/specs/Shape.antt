@@ -1,7 +1,7 @@
 -- What the program's terms and formulas are: trees over names.
 use Rattle.std.specs.Prelude.{true, false}
 use Rattle.tptp_tree.specs.Term.{TermTree, variable, application, terms_of}
-use Rattle.tptp_tree.specs.Formula.{BinaryConnective, implies, implied, equivalent, different, nor, nand, Quantifier, for_all, exists_some, FormulaTree, truth, falsity, predicate, equation, negation, conjunction, disjunction, connected, quantified, formulas_of}
+use Rattle.tptp_tree.specs.Formula.{implies, implied, equivalent, different, nor, nand, for_all, exists_some, FormulaTree, truth, falsity, predicate, equation, negation, conjunction, disjunction, connected, quantified, formulas_of}
 use Rattle.tptp_tree.specs.declared.term.TreeTerm.{TreeTerm}
 use Rattle.tptp_tree.specs.declared.term.TreeTerm.TheVariants.{Var, App}
 use Rattle.tptp_tree.specs.declared.formula.Formula.{Formula}

@@ -1,9 +1,12 @@
 // The laws of the definitions: each is the contract of a function without arguments and with an empty body.
 
 ghost use Rattle.tptp_tree.specs.Examples.{BoundImplication, NegatedConjunction, NegatedEquation, BareOperands, QuotedName, BareName};
-ghost use Rattle.std.specs.Prelude.{◌≡◌, ℕ, List};
+ghost use Rattle.tptp_tree.specs.EntryExamples.{ClauseTokens, ClauseMeaning, OneLiteral, ClauseLevels, OpenTokens, OpenCauses, OneName, Roles, FormulaRoles, UnknownRole, LeftOutRole, Balanced, Crossed};
+ghost use Rattle.std.specs.Prelude.{◌≡◌, ℕ, true, List};
+ghost use Rattle.tptp_token.specs.Lexemes.{Lexeme};
 ghost use Rattle.tptp_tree.specs.Formula.{FormulaTree};
 ghost use Rattle.tptp_tree.specs.Spelling.{SpellsName, SpellsFormula};
+ghost use Rattle.tptp_tree.specs.Entries.{AnnotatedPhrase, is_right_annotated, annotated_lexemes, AnnotatedTree, SpellsAnnotated, EntryTree, SpellsEntries};
 
 /// Worked examples of printed names and formulas.
 pub fn printing_examples()
@@ -23,4 +26,37 @@ pub fn one_formula()
 /// A text spells at most one name.
 pub fn one_name()
     ensures { (text name other : List ℕ) → SpellsName text name → SpellsName text other → name ≡ other }
+{}
+
+/// Worked examples of entries: their tokens, what they say, and what is wrong with their tokens.
+pub fn entry_examples()
+    ensures clause_tokens { ClauseTokens }
+    ensures clause_meaning { ClauseMeaning }
+    ensures one_literal { OneLiteral }
+    ensures clause_levels { ClauseLevels }
+    ensures open_tokens { OpenTokens }
+    ensures open_causes { OpenCauses }
+    ensures one_name { OneName }
+    ensures roles { Roles }
+    ensures formula_roles { FormulaRoles }
+    ensures unknown_role { UnknownRole }
+    ensures left_out_role { LeftOutRole }
+    ensures balanced { Balanced }
+    ensures crossed { Crossed }
+{}
+
+/// Tokens begin with at most one annotated formula.
+pub fn one_phrase()
+    ensures { (p q : AnnotatedPhrase) (rest more : List Lexeme) → is_right_annotated p ≡ true → is_right_annotated q ≡ true
+        → annotated_lexemes p rest ≡ annotated_lexemes q more → (p ≡ q) × (rest ≡ more) }
+{}
+
+/// A text spells at most one annotated formula.
+pub fn one_annotated()
+    ensures { (text : List ℕ) (a b : AnnotatedTree) → SpellsAnnotated text a → SpellsAnnotated text b → a ≡ b }
+{}
+
+/// A text spells at most one list of annotated formulas and includes.
+pub fn one_problem()
+    ensures { (text : List ℕ) (es fs : List EntryTree) → SpellsEntries text es → SpellsEntries text fs → es ≡ fs }
 {}

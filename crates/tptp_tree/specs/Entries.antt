@@ -1,0 +1,242 @@
+-- The entries of a problem and the tokens that spell them: annotated formulas and includes (Sutcliffe 2017, this product's
+-- profile).
+use Rattle.std.specs.Prelude.{◌≡◌, ⊤, ℕ, Bool, true, false, ◌&&◌, List, [], ◌∷◌, ◌++◌, codes, bytes_eq, Option, None, Some, if◌then◌else◌}
+use Rattle.std.specs.List.{list_all}
+use Rattle.fol_base.specs.Spelling.{is_digit}
+use Rattle.tptp_token.specs.Lexemes.{Lexeme, IsLexedAs}
+use Rattle.tptp_token.specs.declared.token.Kind.TheVariants.{Lower, Number, Connective, Mark}
+use Rattle.tptp_tree.specs.declared.problem.Role.{Role}
+use Rattle.tptp_tree.specs.declared.problem.Role.TheVariants.{Axiom, Hypothesis, Definition, Assumption, Lemma, Theorem, Corollary, NegatedConjecture, Plain, Conjecture}
+use Rattle.tptp_tree.specs.Formula.{FormulaTree, negation, disjunction, FormulaTrees, no_formulas, formula_then}
+use Rattle.tptp_tree.specs.Brackets.{are_balanced}
+use Rattle.tptp_tree.specs.Spelling.{Word, name_of, lexeme, word_lexeme, TermPhrase, TermPhrases, Atom, true_atom, false_atom, predicate_atom, equation_atom, atom_lexemes, atom_meant, Phrase, phrase_lexemes, meant}
+
+-- ---- clauses
+
+-- an atom that isn't written with `!=`
+pub data PlainAtom : Type 0 where
+  plain_true : PlainAtom
+  plain_false : PlainAtom
+  plain_predicate : Word → TermPhrases → PlainAtom
+  plain_equation : TermPhrase → TermPhrase → PlainAtom
+
+abbrev pub atom_of : PlainAtom → Atom
+atom_of plain_true = true_atom
+atom_of plain_false = false_atom
+atom_of (plain_predicate w ts) = predicate_atom w ts
+atom_of (plain_equation s t) = equation_atom true s t
+
+-- `~` stands before a plain atom, in brackets or not
+pub data LiteralPhrase : Type 0 where
+  positive_literal : Atom → LiteralPhrase
+  negated_literal : PlainAtom → LiteralPhrase
+  negated_in_brackets : PlainAtom → LiteralPhrase
+
+-- literals between `|`; the brackets stand round the whole clause
+pub data ClausePhrase : Type 0 where
+  literals : LiteralPhrase → List LiteralPhrase → ClausePhrase
+  clause_in_brackets : ClausePhrase → ClausePhrase
+
+abbrev pub literal_lexemes : LiteralPhrase → List Lexeme → List Lexeme
+literal_lexemes (positive_literal a) rest = atom_lexemes a rest
+literal_lexemes (negated_literal a) rest = lexeme Connective (codes "~") ∷ atom_lexemes (atom_of a) rest
+literal_lexemes (negated_in_brackets a) rest =
+    lexeme Connective (codes "~") ∷ lexeme Mark (codes "(") ∷ atom_lexemes (atom_of a) (lexeme Mark (codes ")") ∷ rest)
+
+-- each with the sign before it
+abbrev pub more_literals_lexemes : List LiteralPhrase → List Lexeme → List Lexeme
+more_literals_lexemes [] rest = rest
+more_literals_lexemes (l ∷ ls) rest = lexeme Connective (codes "|") ∷ literal_lexemes l (more_literals_lexemes ls rest)
+
+abbrev pub clause_lexemes : ClausePhrase → List Lexeme → List Lexeme
+clause_lexemes (literals l ls) rest = literal_lexemes l (more_literals_lexemes ls rest)
+clause_lexemes (clause_in_brackets c) rest = lexeme Mark (codes "(") ∷ clause_lexemes c (lexeme Mark (codes ")") ∷ rest)
+
+abbrev pub literal_meant : LiteralPhrase → FormulaTree
+literal_meant (positive_literal a) = atom_meant a
+literal_meant (negated_literal a) = negation (atom_meant (atom_of a))
+literal_meant (negated_in_brackets a) = negation (atom_meant (atom_of a))
+
+abbrev pub literals_meant : List LiteralPhrase → FormulaTrees
+literals_meant [] = no_formulas
+literals_meant (l ∷ ls) = formula_then (literal_meant l) (literals_meant ls)
+
+-- one literal is itself, more are a disjunction
+abbrev pub clause_meant : ClausePhrase → FormulaTree
+clause_meant (literals l []) = literal_meant l
+clause_meant (literals l (m ∷ ls)) = disjunction (literals_meant (l ∷ m ∷ ls))
+clause_meant (clause_in_brackets c) = clause_meant c
+
+-- ---- names and roles
+
+-- A formula's name may be of digits alone.
+pub data NamePhrase : Type 0 where
+  word_name : Word → NamePhrase
+  digits_name : List ℕ → NamePhrase
+
+abbrev pub name_lexeme : NamePhrase → Lexeme
+name_lexeme (word_name w) = word_lexeme w
+name_lexeme (digits_name ds) = lexeme Number ds
+
+abbrev pub name_meant : NamePhrase → List ℕ
+name_meant (word_name w) = name_of w
+name_meant (digits_name ds) = ds
+
+abbrev pub is_right_name : NamePhrase → Bool
+is_right_name (word_name w) = true
+is_right_name (digits_name ds) = list_all is_digit ds
+
+abbrev pub role_word : Role → List ℕ
+role_word Axiom = codes "axiom"
+role_word Hypothesis = codes "hypothesis"
+role_word Definition = codes "definition"
+role_word Assumption = codes "assumption"
+role_word Lemma = codes "lemma"
+role_word Theorem = codes "theorem"
+role_word Corollary = codes "corollary"
+role_word NegatedConjecture = codes "negated_conjecture"
+role_word Plain = codes "plain"
+role_word Conjecture = codes "conjecture"
+
+-- a conjecture is no clause
+abbrev pub clause_roles : List Role
+clause_roles =
+    Axiom ∷ Hypothesis ∷ Definition ∷ Assumption ∷ Lemma ∷ Theorem ∷ Corollary ∷ NegatedConjecture ∷ Plain ∷ []
+
+abbrev pub formula_roles : List Role
+formula_roles = clause_roles ++ Conjecture ∷ []
+
+-- the first role of the list with that word
+abbrev pub role_among : List Role → List ℕ → Option Role
+role_among [] word = None
+role_among (r ∷ rs) word = if bytes_eq (role_word r) word then Some r else role_among rs word
+
+-- the role of a word in `cnf` (true) or in `fof` (false), if it is taken there
+abbrev pub role_of : Bool → List ℕ → Option Role
+role_of is_clause word = role_among (if is_clause then clause_roles else formula_roles) word
+
+-- ---- annotated formulas
+
+pub data Body : Type 0 where
+  formula_body : Phrase → Body
+  clause_body : ClausePhrase → Body
+
+abbrev pub is_clause_body : Body → Bool
+is_clause_body (formula_body p) = false
+is_clause_body (clause_body c) = true
+
+-- `fof` or `cnf`
+abbrev pub language_word : Bool → List ℕ
+language_word true = codes "cnf"
+language_word false = codes "fof"
+
+abbrev pub body_lexemes : Body → List Lexeme → List Lexeme
+body_lexemes (formula_body p) rest = phrase_lexemes p rest
+body_lexemes (clause_body c) rest = clause_lexemes c rest
+
+abbrev pub body_meant : Body → FormulaTree
+body_meant (formula_body p) = meant p
+body_meant (clause_body c) = clause_meant c
+
+-- The role is any lower word here. No notes are an empty list.
+pub record AnnotatedPhrase : Type 0 where
+  pub name : NamePhrase
+  pub role : List ℕ
+  pub body : Body
+  pub notes : List Lexeme
+
+abbrev pub is_right_annotated : AnnotatedPhrase → Bool
+is_right_annotated p = is_right_name p.name && are_balanced p.notes
+
+abbrev pub notes_lexemes : List Lexeme → List Lexeme → List Lexeme
+notes_lexemes [] rest = rest
+notes_lexemes (n ∷ ns) rest = lexeme Mark (codes ",") ∷ n ∷ ns ++ rest
+
+abbrev pub annotated_lexemes : AnnotatedPhrase → List Lexeme → List Lexeme
+annotated_lexemes p rest =
+    lexeme Lower (language_word (is_clause_body p.body)) ∷ lexeme Mark (codes "(") ∷ name_lexeme p.name
+    ∷ lexeme Mark (codes ",") ∷ lexeme Lower p.role ∷ lexeme Mark (codes ",")
+    ∷ body_lexemes p.body (notes_lexemes p.notes (lexeme Mark (codes ")") ∷ lexeme Mark (codes ".") ∷ rest))
+
+-- what an annotated formula says
+pub record AnnotatedTree : Type 0 where
+  pub name : List ℕ
+  pub role : Role
+  pub is_clause : Bool
+  pub formula : FormulaTree
+
+-- the annotated formula of a phrase, with the role that its word names
+pub record IsAnnotatedOf (p : AnnotatedPhrase) (tree : AnnotatedTree) : Type 0 where
+  pub name : tree.name ≡ name_meant p.name
+  pub role : role_of (is_clause_body p.body) p.role ≡ Some tree.role
+  pub is_clause : tree.is_clause ≡ is_clause_body p.body
+  pub formula : tree.formula ≡ body_meant p.body
+
+-- the text spells the annotated formula
+abbrev pub SpellsAnnotated : List ℕ → AnnotatedTree → Type 0
+SpellsAnnotated text tree =
+    (p : AnnotatedPhrase) × (is_right_annotated p ≡ true) × IsLexedAs text (annotated_lexemes p []) × IsAnnotatedOf p tree
+
+-- ---- includes, and problems
+
+-- the names of a selection, of which there is at least one
+pub record Selection : Type 0 where
+  pub first : NamePhrase
+  pub others : List NamePhrase
+
+pub data EntryPhrase : Type 0 where
+  annotated_entry : AnnotatedPhrase → EntryPhrase
+  whole_include : Word → EntryPhrase
+  selected_include : Word → Selection → EntryPhrase
+
+abbrev pub is_right_entry : EntryPhrase → Bool
+is_right_entry (annotated_entry p) = is_right_annotated p
+is_right_entry (whole_include file) = true
+is_right_entry (selected_include file names) = is_right_name names.first && list_all is_right_name names.others
+
+abbrev pub more_names_lexemes : List NamePhrase → List Lexeme → List Lexeme
+more_names_lexemes [] rest = rest
+more_names_lexemes (n ∷ ns) rest = lexeme Mark (codes ",") ∷ name_lexeme n ∷ more_names_lexemes ns rest
+
+abbrev pub include_end : List Lexeme → List Lexeme
+include_end rest = lexeme Mark (codes ")") ∷ lexeme Mark (codes ".") ∷ rest
+
+abbrev pub entry_lexemes : EntryPhrase → List Lexeme → List Lexeme
+entry_lexemes (annotated_entry p) rest = annotated_lexemes p rest
+entry_lexemes (whole_include file) rest =
+    lexeme Lower (codes "include") ∷ lexeme Mark (codes "(") ∷ word_lexeme file ∷ include_end rest
+entry_lexemes (selected_include file names) rest =
+    lexeme Lower (codes "include") ∷ lexeme Mark (codes "(") ∷ word_lexeme file ∷ lexeme Mark (codes ",")
+    ∷ lexeme Mark (codes "[") ∷ name_lexeme names.first
+    ∷ more_names_lexemes names.others (lexeme Mark (codes "]") ∷ include_end rest)
+
+abbrev pub problem_lexemes : List EntryPhrase → List Lexeme
+problem_lexemes [] = []
+problem_lexemes (e ∷ es) = entry_lexemes e (problem_lexemes es)
+
+-- What an entry says; an include names a file, and the formulas that are taken from it where not all are.
+pub data EntryTree : Type 0 where
+  annotated_tree : AnnotatedTree → EntryTree
+  include_tree : List ℕ → Option (List (List ℕ)) → EntryTree
+
+abbrev pub names_meant : List NamePhrase → List (List ℕ)
+names_meant [] = []
+names_meant (n ∷ ns) = name_meant n ∷ names_meant ns
+
+abbrev pub IsEntryOf : EntryPhrase → EntryTree → Type 0
+IsEntryOf (annotated_entry p) entry = (tree : AnnotatedTree) × IsAnnotatedOf p tree × (entry ≡ annotated_tree tree)
+IsEntryOf (whole_include file) entry = entry ≡ include_tree (name_of file) None
+IsEntryOf (selected_include file names) entry =
+    entry ≡ include_tree (name_of file) (Some (name_meant names.first ∷ names_meant names.others))
+
+abbrev pub AreEntriesOf : List EntryPhrase → List EntryTree → Type 0
+AreEntriesOf [] [] = ⊤
+AreEntriesOf [] (t ∷ ts) = ⊥
+AreEntriesOf (e ∷ es) [] = ⊥
+AreEntriesOf (e ∷ es) (t ∷ ts) = IsEntryOf e t × AreEntriesOf es ts
+
+-- the text spells the entries
+abbrev pub SpellsEntries : List ℕ → List EntryTree → Type 0
+SpellsEntries text entries =
+    (phrases : List EntryPhrase) × (list_all is_right_entry phrases ≡ true) × IsLexedAs text (problem_lexemes phrases)
+    × AreEntriesOf phrases entries
