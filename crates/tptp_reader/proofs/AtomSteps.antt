@@ -186,8 +186,10 @@ false-leads r at d s t n h = takes-leads r at (an_atom d s) t [] n (ap (step (an
 
 no_truth : (bytes : List ℕ) → bytes_eq (codes "$true") bytes ≡ false → bytes_eq (codes "$false") bytes ≡ false → is_truth_word bytes ≡ false
 no_truth bytes h g =
-    rw (bytes_eq-turned (codes "$true") bytes (bytes_eq bytes (codes "$true")) h refl,
-    bytes_eq-turned (codes "$false") bytes (bytes_eq bytes (codes "$false")) g refl) refl
+    rw (
+      bytes_eq-turned (codes "$true") bytes (bytes_eq bytes (codes "$true")) h refl,
+      bytes_eq-turned (codes "$false") bytes (bytes_eq bytes (codes "$false")) g refl,
+    ) refl
 
 other-step :
     (d : Bool) (s : Surroundings) (k : Kind) (bytes : List ℕ)

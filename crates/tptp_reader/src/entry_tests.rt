@@ -87,7 +87,10 @@ fn reads_formulas(rt: HostRuntime) -> Result<(), Fail> {
         (b"fof(a,axiom,p).".as_slice(), b"p".as_slice()),
         (b"fof(a,axiom,a=b).", b"a = b"),
         (b"fof(a,axiom,![X]:X!=a).", b"! [X] : X != a"),
-        (b"fof(a,axiom,! [X,Y] : ? [X] : r(X,Y)).", b"! [X,Y] : ? [X] : r(X,Y)"),
+        (
+            b"fof(a,axiom,! [X,Y] : ? [X] : r(X,Y)).",
+            b"! [X,Y] : ? [X] : r(X,Y)",
+        ),
         (b"fof(a,axiom,p&q&r).", b"p & q & r"),
         (b"fof(a,axiom,(p&q)&r).", b"(p & q) & r"),
         (b"fof(a,axiom,p|q&r).", b"Syntax@15"),
@@ -103,7 +106,10 @@ fn reads_formulas(rt: HostRuntime) -> Result<(), Fail> {
         (b"fof(a,axiom,![X]:p(X)&q).", b"! [X] : p(X) & q"),
         (b"fof(a,axiom,$true|$false).", b"$true | $false"),
         (b"fof(a,axiom,'p'('\\'','\\\\',b)).", b"p('\\'','\\\\',b)"),
-        (b"fof(a,conjecture,f(g(a,b),c)!='A').", b"f(g(a,b),c) != 'A'"),
+        (
+            b"fof(a,conjecture,f(g(a,b),c)!='A').",
+            b"f(g(a,b),c) != 'A'",
+        ),
         (b"fof(a,axiom,'$true').", b"'$true'"),
         (b"fof(a,axiom,p)./*x*/%", b"p"),
     ];
@@ -200,7 +206,13 @@ fn limits_levels(rt: HostRuntime) -> Result<(), Fail> {
 }
 
 /// An entry whose formula is this text so many times and then another one.
-fn repeated(alloc: Global, before: &[u8], count: usize, behind: &[u8], close: &[u8]) -> Mem<Vec<u8>> {
+fn repeated(
+    alloc: Global,
+    before: &[u8],
+    count: usize,
+    behind: &[u8],
+    close: &[u8],
+) -> Mem<Vec<u8>> {
     let mut text = Vec::new(alloc);
     text.extend_from_slice(b"fof(a,axiom,".as_slice())?;
     for _ in 0..count {

@@ -16,6 +16,8 @@ mod building;
 mod cause;
 mod clauses;
 mod entry;
+#[cfg(test)]
+mod entry_tests;
 mod fault;
 mod formulas;
 mod notes;
@@ -25,8 +27,6 @@ mod problem;
 mod reading;
 mod source;
 mod terms;
-#[cfg(test)]
-mod entry_tests;
 #[cfg(test)]
 mod tests;
 mod token;
