@@ -213,25 +213,28 @@ untaken-ends r at b t f n h e g =
     (ap (step (a_role b)) (lower-is t h) ∙ ap (λ o. takes [] (untaken_role_cause o t.bytes)) (sym e) ∙ ap (takes []) (sym g))
 
 -- a role of a longer list
+either-some :
+    (v : Bool) (r role : Role) (o p : Option Role)
+    → (Some role ≡ o → Some role ≡ p) → Some role ≡ (if v then Some r else o) → Some role ≡ (if v then Some r else p)
+either-some true r role o p f h = h
+either-some false r role o p f h = f h
+
 pub role-some :
     (rs ss : List Role) (word : List ℕ) (role : Role) → Some role ≡ role_among rs word → Some role ≡ role_among (rs ++ ss) word
 role-some [] ss word role h = cc
-role-some (r ∷ rs) ss word role h = by (bytes_eq (role_word r) word) h
-  where
-    by :
-        (v : Bool) → Some role ≡ (if v then Some r else role_among rs word) → Some role ≡ (if v then Some r else role_among (rs ++ ss) word)
-    by true k = k
-    by false k = role-some rs ss word role k
+role-some (r ∷ rs) ss word role h =
+    either-some (bytes_eq (role_word r) word) r role (role_among rs word) (role_among (rs ++ ss) word) (role-some rs ss word role) h
+
+either-none :
+    (v : Bool) (r : Role) (q o p : Option Role) → (None ≡ o → q ≡ p) → None ≡ (if v then Some r else o) → q ≡ (if v then Some r else p)
+either-none true r q o p f h = cc
+either-none false r q o p f h = f h
 
 pub role-none :
     (rs ss : List Role) (word : List ℕ) → None ≡ role_among rs word → role_among ss word ≡ role_among (rs ++ ss) word
 role-none [] ss word h = refl
-role-none (r ∷ rs) ss word h = by (bytes_eq (role_word r) word) h
-  where
-    by :
-        (v : Bool) → None ≡ (if v then Some r else role_among rs word) → role_among ss word ≡ (if v then Some r else role_among (rs ++ ss) word)
-    by true k = cc
-    by false k = role-none rs ss word k
+role-none (r ∷ rs) ss word h =
+    either-none (bytes_eq (role_word r) word) r (role_among ss word) (role_among rs word) (role_among (rs ++ ss) word) (role-none rs ss word) h
 
 -- ---- the formula
 

@@ -274,3 +274,14 @@ none-end (x ∷ xs) t b h g = absurd (omega (arith, h))
 
 pub some-end : (lent rest : List ToldBracket) (x : ToldBracket) (t : Lexeme) → lent ≡ x ∷ rest → false ≡ is_end_of_notes (stack_of lent) t
 some-end lent rest x t e = sym (ap (λ xs. is_end_of_notes (stack_of xs) t) e ∙ some-no_end x rest t)
+
+-- a test of the brackets that a vector lends
+pub lent-closes :
+    (items lent : List ToldBracket) (t : Lexeme) (b v : Bool)
+    → lent ≡ items → b ≡ closes_first (stack_of lent) t → b ≡ v → closes_first (stack_of items) t ≡ v
+lent-closes items lent t b v e h g = ap (λ xs. closes_first (stack_of xs) t) (sym e) ∙ sym h ∙ g
+
+pub lent-ends :
+    (items lent : List ToldBracket) (t : Lexeme) (b v : Bool)
+    → lent ≡ items → b ≡ is_end_of_notes (stack_of lent) t → b ≡ v → is_end_of_notes (stack_of items) t ≡ v
+lent-ends items lent t b v e h g = ap (λ xs. is_end_of_notes (stack_of xs) t) (sym e) ∙ sym h ∙ g

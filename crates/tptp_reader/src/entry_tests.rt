@@ -53,16 +53,16 @@ fn form_name(form: Form) -> &'static [u8] {
     }
 }
 
-/// A place behind an `@`, in decimal digits.
+/// A place below 1,000 behind an `@`, in decimal digits.
 fn push_place(page: &mut Vec<u8>, place: u32) -> Mem<()> {
     page.push(b'@')?;
-    let mut power = 1_000_000_000u32;
-    for _ in 0..10 {
-        if place >= power || power == 1 {
-            page.push(b'0' + (place / power % 10) as u8)?;
-        }
-        power = (power / 10).max(1);
+    if place >= 100 {
+        page.push(b'0' + (place / 100 % 10) as u8)?;
     }
+    if place >= 10 {
+        page.push(b'0' + (place / 10 % 10) as u8)?;
+    }
+    page.push(b'0' + (place % 10) as u8)?;
     Ok(())
 }
 
