@@ -1,6 +1,6 @@
 -- The answers of the reader, which are told by the machine's verdict, are right.
 use Rattle.std.proofs.Common.{◌≡◌, ◌⊎◌, inl, inr, ℕ, List, [], length, Option, Some, None, refl, ap, sym, ◌∙◌, subst}
-use Rattle.std.specs.Prelude.{slice_get}
+use Rattle.std.specs.Prelude.{◌+◌, ◌≤◌, IfSome, slice_get}
 use Rattle.tptp_token.specs.declared.token.Token.{Token}
 use Rattle.tptp_token.specs.declared.token.Lexed.{Lexed}
 use Rattle.tptp_token.specs.declared.token.LexFault.{LexFault}
@@ -9,7 +9,7 @@ use Rattle.tptp_tree.specs.Causes.{Refusal}
 use Rattle.tptp_reader.specs.Machine.{refused_at, ran_out}
 use Rattle.tptp_reader.specs.Annotating.{lexemes_of, IsReading, StandsAt, TokensRunOut, IsFaultAt, IsFaultOf}
 use Rattle.tptp_reader.specs.Telling.{refusal_of, IsEnd}
-use Rattle.tptp_reader.specs.TellingEntries.{IsAnnotatedRead, entry_verdict, cause_told, IsEndFault, IsCauseBy, IsFaultBy, HasFault}
+use Rattle.tptp_reader.specs.TellingEntries.{IsAnnotatedRead, entry_verdict, cause_told, IsEndFault, IsCauseBy, IsFaultBy, HasFault, ReadsEntry}
 use Rattle.tptp_reader.specs.declared.cause.Halt.{Halt}
 use Rattle.tptp_reader.specs.declared.cause.Halt.TheVariants.{NoMemory as HaltMemory, At as HaltAt, Ended}
 use Rattle.tptp_reader.specs.declared.cause.Refusal.{Refusal as ToldRefusal}
@@ -18,18 +18,37 @@ use Rattle.tptp_reader.specs.declared.cause.ReadCause.{ReadCause}
 use Rattle.tptp_reader.specs.declared.cause.ReadFault.{ReadFault}
 use Rattle.tptp_reader.specs.declared.cause.ReadFault.TheVariants.{NoMemory, At}
 use Rattle.tptp_reader.specs.declared.entry.Read.{Read}
+use Rattle.tptp_reader.specs.declared.source.Reader.{Reader}
+use Rattle.tptp_reader.proofs.EntryWhole.{answer-read}
 use Rattle.tptp_reader.proofs.PlacedLemmas.{refused-from, read-from, runs-out-from}
 
 pub reading-of :
     (limit : ℕ) (bytes : List ℕ) (tokens : List Token) (first : ℕ) (read : Read)
-    → IsAnnotatedRead limit bytes tokens first read → IsReading limit bytes tokens first read
-reading-of limit bytes tokens first read h =
+    → IsAnnotatedRead limit bytes tokens first read → read.next ≤ length tokens → read.notes_end + 2 ≡ read.next
+    → IfSome (slice_get tokens first) (λ t. read.annotated.place ≡ t.start) → read.annotated.file ≡ []
+    → IsReading limit bytes tokens first read
+reading-of limit bytes tokens first read h within close place file =
     record {
       phrase = h.phrase;
       spelled = read-from limit (lexemes_of bytes tokens) first read.next h.phrase h.right h.spelled h.taken_so;
       meant = h.meant;
+      within = within;
       notes = h.range;
+      close = close;
+      place = place;
+      file = file;
     }
+
+-- what an entry's reader tells, over the tokens of the text
+pub reading-by :
+    (r : Reader) (tokens : List Token) (first : ℕ) (read : Read)
+    → r.tokens.now ≡ tokens → ReadsEntry r first read → read.next ≤ length r.tokens.now → read.notes_end + 2 ≡ read.next
+    → IfSome (slice_get r.tokens.now first) (λ t. read.annotated.place ≡ t.start) → read.annotated.file ≡ []
+    → IsReading r.limit r.bytes.now tokens first read
+reading-by r tokens first read e h within close place file =
+    reading-of r.limit r.bytes.now tokens first read (answer-read r tokens first read e h)
+    (subst (λ (ts : List Token). read.next ≤ length ts) e within) close
+    (subst (λ (ts : List Token). IfSome (slice_get ts first) (λ t. read.annotated.place ≡ t.start)) e place) file
 
 stands-at :
     (limit : ℕ) (bytes : List ℕ) (tokens : List Token) (first index place : ℕ) (token : Token) (refusal : Refusal)

@@ -1,5 +1,5 @@
 -- What reading an annotated formula from a text's tokens answers.
-use Rattle.std.specs.Prelude.{◌≡◌, ◌⊎◌, ⊤, ℕ, ◌++◌, List, [], map, drop, length, Some, None, slice_get}
+use Rattle.std.specs.Prelude.{◌≡◌, ◌⊎◌, ⊤, ℕ, ◌+◌, ◌≤◌, ◌++◌, List, [], map, drop, length, Some, None, IfSome, slice_get}
 use Rattle.tptp_token.specs.Lexemes.{Lexeme, lexeme_at}
 use Rattle.tptp_token.specs.declared.token.Token.{Token}
 use Rattle.tptp_token.specs.declared.token.Lexed.{Lexed}
@@ -19,12 +19,17 @@ use Rattle.tptp_reader.specs.declared.entry.Read.{Read}
 abbrev pub lexemes_of : List ℕ → List Token → List Lexeme
 lexemes_of bytes tokens = map (lexeme_at bytes) tokens
 
--- The formula that begins at the token `first` is read, within that limit of nesting.
+-- The formula that begins at the token `first` is read, within that limit of nesting. It is followed by the token `next`; its
+-- notes stand before the bracket and the full stop that close it; its place is that of its first byte.
 pub record IsReading (limit : ℕ) (bytes : List ℕ) (tokens : List Token) (first : ℕ) (read : Read) : Type 0 where
   pub phrase : AnnotatedPhrase
   pub spelled : IsReadFrom limit (lexemes_of bytes tokens) first phrase read.next
   pub meant : IsAnnotatedOf phrase (tree_of read.annotated)
+  pub within : read.next ≤ length tokens
   pub notes : drop read.notes_start (lexemes_of bytes tokens) ≡ phrase.notes ++ drop read.notes_end (lexemes_of bytes tokens)
+  pub close : read.notes_end + 2 ≡ read.next
+  pub place : IfSome (slice_get tokens first) (λ t. read.annotated.place ≡ t.start)
+  pub file : read.annotated.file ≡ []
 
 -- The token that begins at that place ends the reading.
 pub record StandsAt (limit : ℕ) (bytes : List ℕ) (tokens : List Token) (first : ℕ) (refusal : Refusal) (place : ℕ) : Type 0 where

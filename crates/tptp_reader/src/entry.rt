@@ -1,6 +1,6 @@
 // Annotated formulas, read from tokens.
 
-ghost use Rattle.std.specs.Prelude.{◌≡◌, ◌+◌, ◌<◌, ◌≤◌, ◌^◌, [], ◌∷◌, IfOk, IfErr, true, false, length, Some, None};
+ghost use Rattle.std.specs.Prelude.{◌≡◌, ◌+◌, ◌<◌, ◌≤◌, ◌^◌, [], ◌∷◌, IfOk, IfErr, IfSome, true, false, length, slice_get, Some, None};
 ghost use Rattle.std.specs.List.{list_all};
 ghost use Rattle.fol_base.specs.Spelling.{is_digit, is_one_of};
 ghost use Rattle.tptp_tree.specs.Shape.{formula_of};
@@ -111,6 +111,10 @@ impl<'a> Reader<'a> {
     /// Reads an entry.
     fn entry(&self, alloc: Global, first: usize) -> Result<Read, Halt>
         ensures read { IfOk result (ReadsEntry self.now first) }
+        ensures close { IfOk result (λ read. read.notes_end + 2 ≡ read.next) }
+        ensures within { IfOk result (λ read. read.next ≤ length self.now.tokens.now) }
+        ensures place { IfOk result (λ read. IfSome (slice_get self.now.tokens.now first) (λ t. read.annotated.place ≡ t.start)) }
+        ensures file { IfOk result (λ read. read.annotated.file ≡ []) }
         ensures halted { IfErr result (λ halt. Ends self.now (an_annotated self.now.limit ∷ []) first halt) }
     {
         let clause = self.language(first)?;
@@ -137,7 +141,9 @@ impl<'a> Reader<'a> {
     }
 
     /// Where a token begins in the text; 0 behind the last token.
-    fn place_of(&self, at: usize) -> u32 {
+    fn place_of(&self, at: usize) -> u32
+        ensures { IfSome (slice_get self.now.tokens.now at) (λ t. result ≡ t.start) }
+    {
         match self.tokens.get(at) {
             Some(token) => token.start,
             None => 0,
@@ -221,6 +227,8 @@ impl<'a> Reader<'a> {
     /// Reads notes behind a comma, or none, and the bracket and the full stop that close the entry.
     fn ending(&self, alloc: Global, at: usize) -> Result<Ending, Halt>
         ensures read { IfOk result (λ ending. ReadsEnding self.now at ending.start ending.end ending.next) }
+        ensures close { IfOk result (λ ending. ending.end + 2 ≡ ending.next) }
+        ensures within { IfOk result (λ ending. ending.next ≤ length self.now.tokens.now) }
         ensures halted { IfErr result (λ halt. Ends self.now (end_of_body self.now.limit ∷ []) at halt) }
     {
         let token = self.look(at)?;
