@@ -1,10 +1,12 @@
 // Formulas of `fof` entries, read from tokens.
 
-ghost use Rattle.std.specs.Prelude.{◌≡◌, IfOk, IfErr};
+ghost use Rattle.std.specs.Prelude.{◌≡◌, IfOk, IfErr, codes};
+ghost use Rattle.tptp_token.specs.declared.token.Kind.TheVariants.{Connective, Mark};
+ghost use Rattle.tptp_tree.specs.Spelling.{lexeme};
 ghost use Rattle.tptp_tree.specs.Formula.{connected as connected_tree, quantified as quantified_tree};
 ghost use Rattle.tptp_tree.specs.Shape.{formula_of};
 ghost use Rattle.tptp_reader.specs.Machine.{a_unit, formula_symbols, variables_bracket};
-ghost use Rattle.tptp_reader.specs.Telling.{one, Halts, ReadsFormula, ReadsUnit, ReadsUnits, further_units, ReadsBound, ReadsVariables, ReadsVariable, HaltsVariable, Binds, BindsOne, quantifier_of, binary_of};
+ghost use Rattle.tptp_reader.specs.Telling.{one, IsNext, Halts, ReadsFormula, ReadsUnit, ReadsUnits, further_units, ReadsBound, ReadsVariables, ReadsVariable, HaltsVariable, Binds, BindsOne, quantifier_of, binary_of};
 
 use crate::cause::{Halt, Refusal};
 use crate::source::{Binary, Name, Reader};
@@ -27,6 +29,27 @@ impl<'a> Reader<'a> {
         ensures halted { IfErr result (λ halt. Halts self.now formula_symbols bound.old.items level at halt) }
     {
         let (first, after) = self.unit(alloc, bound, at, level)?;
+        self.after_unit(alloc, bound, at, first, after, level)
+    }
+
+    /// Reads what follows a formula's first unit, which begins at an index and ends before another one. It stands apart, and
+    /// out of the way of the recursion, so that a level of brackets takes little stack.
+    #[cycle(formulas)]
+    #[inline(never)]
+    fn after_unit(
+        &self,
+        alloc: Global,
+        bound: &mut Vec<Name<'a>>,
+        at: usize,
+        first: Formula,
+        after: usize,
+        level: u32,
+    ) -> Result<(Formula, usize), Halt>
+        requires { ReadsUnit self.now bound.old.items level at after (formula_of first) }
+        ensures read { IfOk result (λ read. ReadsFormula self.now bound.old.items level at read.1 (formula_of read.0)) }
+        ensures kept { IfOk result (λ _. bound.new.items ≡ bound.old.items) }
+        ensures halted { IfErr result (λ halt. Halts self.now formula_symbols bound.old.items level at halt) }
+    {
         let sign = self.look(after)?;
         if sign.is_connective(b"&") {
             let (all, next) = self.operands(alloc, bound, first, b"&", after + 1, level)?;
@@ -48,6 +71,7 @@ impl<'a> Reader<'a> {
 
     /// Reads the units behind the first one and a connective, with the same connective between them.
     #[cycle(formulas)]
+    #[inline(never)]
     fn operands(
         &self,
         alloc: Global,
@@ -91,10 +115,7 @@ impl<'a> Reader<'a> {
     {
         let token = self.look(at)?;
         if token.is_connective(b"~") {
-            let under = self.deeper(at, level)?;
-            let (negated, next) = self.unit(alloc, bound, at + 1, under)?;
-            let boxed = FormulaBox::new(alloc, negated)?;
-            return Ok((Formula::Not(boxed), next));
+            return self.negated(alloc, bound, at, level);
         }
         if token.is_quantifier() {
             let scope = self.deeper(at, level)?;
@@ -103,17 +124,57 @@ impl<'a> Reader<'a> {
             return Ok((quantified, end));
         }
         if token.is_mark(b"(") {
-            let inside = self.deeper(at, level)?;
-            let (grouped, close) = self.formula(alloc, bound, at + 1, inside)?;
-            let behind = self.after(close, b")")?;
-            return Ok((grouped, behind));
+            return self.in_brackets(alloc, bound, at, level);
         }
         let (plain, last) = self.atom(alloc, bound.as_slice(), at, level, true)?;
         Ok((plain, last))
     }
 
+    /// Reads a negation, from its `~` on.
+    #[cycle(formulas)]
+    #[inline(never)]
+    fn negated(
+        &self,
+        alloc: Global,
+        bound: &mut Vec<Name<'a>>,
+        at: usize,
+        level: u32,
+    ) -> Result<(Formula, usize), Halt>
+        requires { IsNext self.now at (lexeme Connective (codes "~")) }
+        ensures read { IfOk result (λ read. ReadsUnit self.now bound.old.items level at read.1 (formula_of read.0)) }
+        ensures kept { IfOk result (λ _. bound.new.items ≡ bound.old.items) }
+        ensures halted { IfErr result (λ halt. Halts self.now (one a_unit) bound.old.items level at halt) }
+    {
+        let under = self.deeper(at, level)?;
+        let (negated, next) = self.unit(alloc, bound, at + 1, under)?;
+        let boxed = FormulaBox::new(alloc, negated)?;
+        Ok((Formula::Not(boxed), next))
+    }
+
+    /// Reads a formula in brackets, from the first of them on.
+    #[cycle(formulas)]
+    #[inline(never)]
+    fn in_brackets(
+        &self,
+        alloc: Global,
+        bound: &mut Vec<Name<'a>>,
+        at: usize,
+        level: u32,
+    ) -> Result<(Formula, usize), Halt>
+        requires { IsNext self.now at (lexeme Mark (codes "(")) }
+        ensures read { IfOk result (λ read. ReadsUnit self.now bound.old.items level at read.1 (formula_of read.0)) }
+        ensures kept { IfOk result (λ _. bound.new.items ≡ bound.old.items) }
+        ensures halted { IfErr result (λ halt. Halts self.now (one a_unit) bound.old.items level at halt) }
+    {
+        let inside = self.deeper(at, level)?;
+        let (grouped, close) = self.formula(alloc, bound, at + 1, inside)?;
+        let behind = self.after(close, b")")?;
+        Ok((grouped, behind))
+    }
+
     /// Reads the variables of a quantifier and its unit, in which they are bound.
     #[cycle(formulas)]
+    #[inline(never)]
     fn quantified(
         &self,
         alloc: Global,
@@ -136,6 +197,7 @@ impl<'a> Reader<'a> {
     }
 
     /// Reads variables in square brackets, and binds them.
+    #[inline(never)]
     fn variables(
         &self,
         alloc: Global,
@@ -189,6 +251,7 @@ impl<'a> Reader<'a> {
 }
 
 /// A formula with a quantifier: `!` or `?`.
+#[inline(never)]
 fn quantified_by(for_all: bool, variables: Texts, body: FormulaBox) -> Formula
     ensures { formula_of result ≡ quantified_tree (quantifier_of for_all) variables body }
 {
@@ -200,6 +263,7 @@ fn quantified_by(for_all: bool, variables: Texts, body: FormulaBox) -> Formula
 }
 
 /// Two formulas with a connective of two operands.
+#[inline(never)]
 fn connected(alloc: Global, connective: Binary, left: Formula, right: Formula) -> Mem<Formula>
     ensures { IfOk result (λ both. formula_of both ≡ connected_tree (binary_of connective) (formula_of left) (formula_of right)) }
 {

@@ -12,53 +12,55 @@ pub formula-returns-in_err-first-clause-halted : goal.formula-returns-in_err-fir
 formula-returns-in_err-first-clause-halted t c =
     passed _ _ _ c.from_residual.ensures.1 (unit_first-halted _ _ _ _ _ c.in_err-first.ensures.halted)
 
-pub formula-returns-in_err-sign-clause-halted : goal.formula-returns-in_err-sign-clause-halted
-formula-returns-in_err-sign-clause-halted t c =
-    passed _ _ _ c.from_residual-in_err-sign.ensures.1
-    (formula-cut_off _ _ _ _ _ _ _ c.in_ok-first.ensures.read c.in_err-sign.ensures.ended)
+-- ---- after_unit
 
-pub formula-returns-in_err-all-clause-halted : goal.formula-returns-in_err-all-clause-halted
-formula-returns-in_err-all-clause-halted t c =
+pub after_unit-returns-in_err-sign-clause-halted : goal.after_unit-returns-in_err-sign-clause-halted
+after_unit-returns-in_err-sign-clause-halted t c =
+    passed _ _ _ c.from_residual.ensures.1
+    (formula-cut_off _ _ _ _ _ _ _ c.requires c.in_err-sign.ensures.ended)
+
+pub after_unit-returns-in_err-all-clause-halted : goal.after_unit-returns-in_err-all-clause-halted
+after_unit-returns-in_err-all-clause-halted t c =
     passed _ _ _ c.from_residual-in_err-all.ensures.1
-    (conjunction-halted _ _ _ _ _ _ _ _ c.in_ok-first.ensures.read c.in_ok-sign.ensures.found
+    (conjunction-halted _ _ _ _ _ _ _ _ c.requires c.in_ok-sign.ensures.found
     (sym c.is_connective.ensures ∙ c.if-is_connective.true)
-    (kept-halts _ _ _ _ _ _ _ c.in_ok-first.ensures.kept c.in_err-all.ensures.halted))
+    c.in_err-all.ensures.halted)
 
-pub formula-returns-then-is_connective-clause-read : goal.formula-returns-then-is_connective-clause-read
-formula-returns-then-is_connective-clause-read t c =
-    conjunction-read _ _ _ _ _ _ _ _ _ c.in_ok-first.ensures.read c.in_ok-sign.ensures.found
+pub after_unit-returns-then-is_connective-clause-read : goal.after_unit-returns-then-is_connective-clause-read
+after_unit-returns-then-is_connective-clause-read t c =
+    conjunction-read _ _ _ _ _ _ _ _ _ c.requires c.in_ok-sign.ensures.found
     (sym c.is_connective.ensures ∙ c.if-is_connective.true)
-    (kept-reads _ _ _ _ _ _ _ _ _ _ c.in_ok-first.ensures.kept c.in_ok-all.ensures.read)
+    c.in_ok-all.ensures.read
 
-pub formula-returns-in_err-some-clause-halted : goal.formula-returns-in_err-some-clause-halted
-formula-returns-in_err-some-clause-halted t c =
+pub after_unit-returns-in_err-some-clause-halted : goal.after_unit-returns-in_err-some-clause-halted
+after_unit-returns-in_err-some-clause-halted t c =
     passed _ _ _ c.from_residual-in_err-some.ensures.1
-    (disjunction-halted _ _ _ _ _ _ _ _ c.in_ok-first.ensures.read c.in_ok-sign.ensures.found
+    (disjunction-halted _ _ _ _ _ _ _ _ c.requires c.in_ok-sign.ensures.found
     (sym c.is_connective-2.ensures ∙ c.if-is_connective-2.true)
-    (kept-halts _ _ _ _ _ _ _ c.in_ok-first.ensures.kept c.in_err-some.ensures.halted))
+    c.in_err-some.ensures.halted)
 
-pub formula-returns-then-is_connective-2-clause-read : goal.formula-returns-then-is_connective-2-clause-read
-formula-returns-then-is_connective-2-clause-read t c =
-    disjunction-read _ _ _ _ _ _ _ _ _ c.in_ok-first.ensures.read c.in_ok-sign.ensures.found
+pub after_unit-returns-then-is_connective-2-clause-read : goal.after_unit-returns-then-is_connective-2-clause-read
+after_unit-returns-then-is_connective-2-clause-read t c =
+    disjunction-read _ _ _ _ _ _ _ _ _ c.requires c.in_ok-sign.ensures.found
     (sym c.is_connective-2.ensures ∙ c.if-is_connective-2.true)
-    (kept-reads _ _ _ _ _ _ _ _ _ _ c.in_ok-first.ensures.kept c.in_ok-some.ensures.read)
+    c.in_ok-some.ensures.read
 
-pub formula-returns-in-None-clause-read : goal.formula-returns-in-None-clause-read
-formula-returns-in-None-clause-read t c =
-    alone-read _ _ _ _ _ _ _ c.in_ok-first.ensures.read c.in_ok-sign.ensures.found
+pub after_unit-returns-in-None-clause-read : goal.after_unit-returns-in-None-clause-read
+after_unit-returns-in-None-clause-read t c =
+    alone-read _ _ _ _ _ _ _ c.requires c.in_ok-sign.ensures.found
     (sym c.is_connective.ensures ∙ c.if-is_connective.false) (sym c.is_connective-2.ensures ∙ c.if-is_connective-2.false)
     c.in-None.ensures.none
 
-pub formula-returns-in_err-second-in-Some-clause-halted : goal.formula-returns-in_err-second-in-Some-clause-halted
-formula-returns-in_err-second-in-Some-clause-halted t c =
+pub after_unit-returns-in_err-second-in-Some-clause-halted : goal.after_unit-returns-in_err-second-in-Some-clause-halted
+after_unit-returns-in_err-second-in-Some-clause-halted t c =
     passed _ _ _ c.from_residual-in_err-second-in-Some.ensures.1
-    (connected-halted _ _ _ _ _ _ _ _ _ c.in_ok-first.ensures.read c.in_ok-sign.ensures.found c.in-Some.ensures.found
-    (kept-halts _ _ _ _ _ _ _ c.in_ok-first.ensures.kept c.in_err-second-in-Some.ensures.halted))
+    (connected-halted _ _ _ _ _ _ _ _ _ c.requires c.in_ok-sign.ensures.found c.in-Some.ensures.found
+    c.in_err-second-in-Some.ensures.halted)
 
-pub formula-returns-in_ok-both-in-Some-clause-read : goal.formula-returns-in_ok-both-in-Some-clause-read
-formula-returns-in_ok-both-in-Some-clause-read t c =
-    connected-read _ _ _ _ _ _ _ _ _ _ _ c.in_ok-first.ensures.read c.in_ok-sign.ensures.found c.in-Some.ensures.found
-    (kept-reads _ _ _ _ _ _ _ _ _ _ c.in_ok-first.ensures.kept c.in_ok-second-in-Some.ensures.read) c.in_ok-both-in-Some.ensures
+pub after_unit-returns-in_ok-both-in-Some-clause-read : goal.after_unit-returns-in_ok-both-in-Some-clause-read
+after_unit-returns-in_ok-both-in-Some-clause-read t c =
+    connected-read _ _ _ _ _ _ _ _ _ _ _ c.requires c.in_ok-sign.ensures.found c.in-Some.ensures.found
+    c.in_ok-second-in-Some.ensures.read c.in_ok-both-in-Some.ensures
 
 -- ---- operands
 
@@ -105,23 +107,6 @@ operands-loop-operands-preserved t c =
 
 -- ---- unit
 
-pub unit-returns-in_err-under-clause-halted : goal.unit-returns-in_err-under-clause-halted
-unit-returns-in_err-under-clause-halted t c =
-    passed _ _ _ c.from_residual-in_err-under.ensures.1
-    (negation-too_deep _ _ _ _ _ _ c.in_ok-token.ensures.found (sym c.is_connective.ensures ∙ c.if-is_connective.true)
-    c.in_err-under.ensures.refused.0 c.in_err-under.ensures.refused.1)
-
-pub unit-returns-in_err-negated-clause-halted : goal.unit-returns-in_err-negated-clause-halted
-unit-returns-in_err-negated-clause-halted t c =
-    passed _ _ _ c.from_residual-in_err-negated.ensures.1
-    (negation-halted _ _ _ _ _ _ _ c.in_ok-token.ensures.found (sym c.is_connective.ensures ∙ c.if-is_connective.true)
-    c.in_ok-under.ensures.ok.0 c.in_ok-under.ensures.ok.1 c.in_err-negated.ensures.halted)
-
-pub unit-returns-then-is_connective-clause-read : goal.unit-returns-then-is_connective-clause-read
-unit-returns-then-is_connective-clause-read t c =
-    negation-read _ _ _ _ _ _ _ _ _ c.in_ok-token.ensures.found (sym c.is_connective.ensures ∙ c.if-is_connective.true)
-    c.in_ok-under.ensures.ok.0 c.in_ok-under.ensures.ok.1 c.in_ok-negated.ensures.read c.in_ok-boxed.ensures
-
 pub unit-returns-in_err-scope-clause-halted : goal.unit-returns-in_err-scope-clause-halted
 unit-returns-in_err-scope-clause-halted t c =
     passed _ _ _ c.from_residual-in_err-scope.ensures.1
@@ -142,30 +127,6 @@ unit-returns-then-is_quantifier-clause-read t c =
     (quantifier-is _ _ (sym c.is_quantifier.ensures ∙ c.if-is_quantifier.true) c.is_connective-for_all.ensures)
     c.in_ok-scope.ensures.ok.0 c.in_ok-scope.ensures.ok.1 c.in_ok-quantified.ensures.read
 
-pub unit-returns-in_err-inside-clause-halted : goal.unit-returns-in_err-inside-clause-halted
-unit-returns-in_err-inside-clause-halted t c =
-    passed _ _ _ c.from_residual-in_err-inside.ensures.1
-    (brackets-too_deep _ _ _ _ _ _ c.in_ok-token.ensures.found (sym c.is_mark.ensures ∙ c.if-is_mark.true)
-    c.in_err-inside.ensures.refused.0 c.in_err-inside.ensures.refused.1)
-
-pub unit-returns-in_err-grouped-clause-halted : goal.unit-returns-in_err-grouped-clause-halted
-unit-returns-in_err-grouped-clause-halted t c =
-    passed _ _ _ c.from_residual-in_err-grouped.ensures.1
-    (brackets-halted _ _ _ _ _ _ _ c.in_ok-token.ensures.found (sym c.is_mark.ensures ∙ c.if-is_mark.true)
-    c.in_ok-inside.ensures.ok.0 c.in_ok-inside.ensures.ok.1 c.in_err-grouped.ensures.halted)
-
-pub unit-returns-in_err-behind-clause-halted : goal.unit-returns-in_err-behind-clause-halted
-unit-returns-in_err-behind-clause-halted t c =
-    passed _ _ _ c.from_residual-in_err-behind.ensures.1
-    (brackets-open _ _ _ _ _ _ _ _ _ c.in_ok-token.ensures.found (sym c.is_mark.ensures ∙ c.if-is_mark.true)
-    c.in_ok-inside.ensures.ok.0 c.in_ok-inside.ensures.ok.1 c.in_ok-grouped.ensures.read c.in_err-behind.ensures.ends)
-
-pub unit-returns-then-is_mark-clause-read : goal.unit-returns-then-is_mark-clause-read
-unit-returns-then-is_mark-clause-read t c =
-    brackets-read _ _ _ _ _ _ _ _ _ c.in_ok-token.ensures.found (sym c.is_mark.ensures ∙ c.if-is_mark.true)
-    c.in_ok-inside.ensures.ok.0 c.in_ok-inside.ensures.ok.1 c.in_ok-grouped.ensures.read
-    c.in_ok-behind.ensures.found.0 c.in_ok-behind.ensures.found.1 c.in_ok-behind.ensures.leads
-
 pub unit-returns-in_err-plain-clause-halted : goal.unit-returns-in_err-plain-clause-halted
 unit-returns-in_err-plain-clause-halted t c =
     passed _ _ _ c.from_residual-in_err-plain.ensures.1
@@ -178,6 +139,53 @@ unit-returns-clause-read t c =
     atom_unit-read _ _ _ _ _ _ _ c.in_ok-token.ensures.found (sym c.is_connective.ensures ∙ c.if-is_connective.false)
     (sym c.is_quantifier.ensures ∙ c.if-is_quantifier.false) (sym c.is_mark.ensures ∙ c.if-is_mark.false)
     (kept-reads _ _ _ _ _ _ _ _ _ _ c.as_slice.ensures.value c.in_ok-plain.ensures.read)
+
+-- ---- negated
+
+pub negated-returns-in_err-under-clause-halted : goal.negated-returns-in_err-under-clause-halted
+negated-returns-in_err-under-clause-halted t c =
+    passed _ _ _ c.from_residual.ensures.1
+    (negation-too_deep _ _ _ _ _ _ c.requires refl
+    c.in_err-under.ensures.refused.0 c.in_err-under.ensures.refused.1)
+
+pub negated-returns-in_err-negated-clause-halted : goal.negated-returns-in_err-negated-clause-halted
+negated-returns-in_err-negated-clause-halted t c =
+    passed _ _ _ c.from_residual-in_err-negated.ensures.1
+    (negation-halted _ _ _ _ _ _ _ c.requires refl
+    c.in_ok-under.ensures.ok.0 c.in_ok-under.ensures.ok.1 c.in_err-negated.ensures.halted)
+
+pub negated-returns-clause-read : goal.negated-returns-clause-read
+negated-returns-clause-read t c =
+    negation-read _ _ _ _ _ _ _ _ _ c.requires refl
+    c.in_ok-under.ensures.ok.0 c.in_ok-under.ensures.ok.1 c.in_ok-negated.ensures.read c.in_ok-boxed.ensures
+
+
+-- ---- in_brackets
+
+pub in_brackets-returns-in_err-inside-clause-halted : goal.in_brackets-returns-in_err-inside-clause-halted
+in_brackets-returns-in_err-inside-clause-halted t c =
+    passed _ _ _ c.from_residual.ensures.1
+    (brackets-too_deep _ _ _ _ _ _ c.requires refl
+    c.in_err-inside.ensures.refused.0 c.in_err-inside.ensures.refused.1)
+
+pub in_brackets-returns-in_err-grouped-clause-halted : goal.in_brackets-returns-in_err-grouped-clause-halted
+in_brackets-returns-in_err-grouped-clause-halted t c =
+    passed _ _ _ c.from_residual-in_err-grouped.ensures.1
+    (brackets-halted _ _ _ _ _ _ _ c.requires refl
+    c.in_ok-inside.ensures.ok.0 c.in_ok-inside.ensures.ok.1 c.in_err-grouped.ensures.halted)
+
+pub in_brackets-returns-in_err-behind-clause-halted : goal.in_brackets-returns-in_err-behind-clause-halted
+in_brackets-returns-in_err-behind-clause-halted t c =
+    passed _ _ _ c.from_residual-in_err-behind.ensures.1
+    (brackets-open _ _ _ _ _ _ _ _ _ c.requires refl
+    c.in_ok-inside.ensures.ok.0 c.in_ok-inside.ensures.ok.1 c.in_ok-grouped.ensures.read c.in_err-behind.ensures.ends)
+
+pub in_brackets-returns-clause-read : goal.in_brackets-returns-clause-read
+in_brackets-returns-clause-read t c =
+    brackets-read _ _ _ _ _ _ _ _ _ c.requires refl
+    c.in_ok-inside.ensures.ok.0 c.in_ok-inside.ensures.ok.1 c.in_ok-grouped.ensures.read
+    c.in_ok-behind.ensures.found.0 c.in_ok-behind.ensures.found.1 c.in_ok-behind.ensures.leads
+
 
 -- ---- quantified
 

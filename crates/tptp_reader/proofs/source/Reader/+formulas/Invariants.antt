@@ -8,16 +8,25 @@ use Rattle.tptp_reader.proofs.LoopLemmas.{SoFar}
 use Rattle.tptp_reader.proofs.source.Reader.+formulas.Given as goal
 
 abbrev pub decreases-formula : goal.decreases-formula
-decreases-formula l = 2 * (length l.self.now.tokens.now - l.at) + 1
+decreases-formula l = 4 * (length l.self.now.tokens.now - l.at) + 2
+
+abbrev pub decreases-after_unit : goal.decreases-after_unit
+decreases-after_unit l = 4 * (length l.self.now.tokens.now - l.after) + 1
 
 abbrev pub decreases-operands : goal.decreases-operands
-decreases-operands l = 2 * (length l.self.now.tokens.now - l.at) + 1
+decreases-operands l = 4 * (length l.self.now.tokens.now - l.at) + 1
 
 abbrev pub decreases-unit : goal.decreases-unit
-decreases-unit l = 2 * (length l.self.now.tokens.now - l.at)
+decreases-unit l = 4 * (length l.self.now.tokens.now - l.at)
+
+abbrev pub decreases-negated : goal.decreases-negated
+decreases-negated l = 4 * (length l.self.now.tokens.now - l.at) - 1
+
+abbrev pub decreases-in_brackets : goal.decreases-in_brackets
+decreases-in_brackets l = 4 * (length l.self.now.tokens.now - l.at) - 1
 
 abbrev pub decreases-quantified : goal.decreases-quantified
-decreases-quantified l = 2 * (length l.self.now.tokens.now - l.at) + 1
+decreases-quantified l = 4 * (length l.self.now.tokens.now - l.at) + 1
 
 abbrev pub invariant-operands-loop-operands : goal.invariant-operands-loop-operands
 invariant-operands-loop-operands l =
