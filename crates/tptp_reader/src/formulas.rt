@@ -48,6 +48,7 @@ impl<'a> Reader<'a> {
 
     /// Reads the units behind the first one and a connective, with the same connective between them.
     #[cycle(formulas)]
+    #[inline(never)]
     fn operands(
         &self,
         alloc: Global,
@@ -114,6 +115,7 @@ impl<'a> Reader<'a> {
 
     /// Reads the variables of a quantifier and its unit, in which they are bound.
     #[cycle(formulas)]
+    #[inline(never)]
     fn quantified(
         &self,
         alloc: Global,
@@ -136,6 +138,7 @@ impl<'a> Reader<'a> {
     }
 
     /// Reads variables in square brackets, and binds them.
+    #[inline(never)]
     fn variables(
         &self,
         alloc: Global,
@@ -189,6 +192,7 @@ impl<'a> Reader<'a> {
 }
 
 /// A formula with a quantifier: `!` or `?`.
+#[inline(never)]
 fn quantified_by(for_all: bool, variables: Texts, body: FormulaBox) -> Formula
     ensures { formula_of result ≡ quantified_tree (quantifier_of for_all) variables body }
 {
@@ -200,6 +204,7 @@ fn quantified_by(for_all: bool, variables: Texts, body: FormulaBox) -> Formula
 }
 
 /// Two formulas with a connective of two operands.
+#[inline(never)]
 fn connected(alloc: Global, connective: Binary, left: Formula, right: Formula) -> Mem<Formula>
     ensures { IfOk result (λ both. formula_of both ≡ connected_tree (binary_of connective) (formula_of left) (formula_of right)) }
 {
