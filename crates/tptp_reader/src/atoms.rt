@@ -14,6 +14,7 @@ use tptp_tree::{Formula, TreeTerm};
 
 impl<'a> Reader<'a> {
     /// Reads an atom, which may be written with `!=` where its sides may differ.
+    #[inline(never)]
     pub fn atom(
         &self,
         alloc: Global,
