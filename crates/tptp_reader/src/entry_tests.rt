@@ -232,19 +232,40 @@ fn repeated(
     Ok(text)
 }
 
-/// Negations and quantifiers at 5,000 levels; a quantifier's bracket is a level more.
+/// Brackets, negations and quantifiers at 5,000 levels, and at a limit of 500 the token that begins the level above it. A
+/// quantifier's bracket is a level more.
 #[test]
 fn reads_deep_formulas(rt: HostRuntime) -> Result<(), Fail> {
     let alloc = rt.alloc();
-    for (before, close, limit, length) in [
-        (b"~".as_slice(), b"".as_slice(), 5_000u32, 5_001usize),
-        (b"![X]:".as_slice(), b"".as_slice(), 5_001, 40_001),
+    let (none, close) = (b"".as_slice(), b")".as_slice());
+    for (before, behind, limit, length, wanted) in [
+        (
+            b"(".as_slice(),
+            close,
+            5_000u32,
+            1usize,
+            b"Nesting@512".as_slice(),
+        ),
+        (
+            b"~".as_slice(),
+            none,
+            5_000,
+            5_001,
+            b"Nesting@512".as_slice(),
+        ),
+        (
+            b"![X]:".as_slice(),
+            none,
+            5_001,
+            40_001,
+            b"Nesting@2508".as_slice(),
+        ),
     ] {
-        let text = repeated(alloc, before, 5_000, b"p".as_slice(), close)?;
+        let text = repeated(alloc, before, 5_000, b"p".as_slice(), behind)?;
         let found = outcome(alloc, text.as_slice(), limit)?;
         assert_eq!(rt; found.len(), length);
         let refused = outcome(alloc, text.as_slice(), 500)?;
-        assert!(rt; refused.as_slice().starts_with(b"Nesting@".as_slice()));
+        assert!(rt; refused.as_slice() == wanted);
     }
     Ok(())
 }

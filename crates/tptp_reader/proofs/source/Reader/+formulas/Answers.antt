@@ -159,7 +159,6 @@ negated-returns-clause-read t c =
     negation-read _ _ _ _ _ _ _ _ _ c.requires refl
     c.in_ok-under.ensures.ok.0 c.in_ok-under.ensures.ok.1 c.in_ok-negated.ensures.read c.in_ok-boxed.ensures
 
-
 -- ---- in_brackets
 
 pub in_brackets-returns-in_err-inside-clause-halted : goal.in_brackets-returns-in_err-inside-clause-halted
@@ -185,7 +184,6 @@ in_brackets-returns-clause-read t c =
     brackets-read _ _ _ _ _ _ _ _ _ c.requires refl
     c.in_ok-inside.ensures.ok.0 c.in_ok-inside.ensures.ok.1 c.in_ok-grouped.ensures.read
     c.in_ok-behind.ensures.found.0 c.in_ok-behind.ensures.found.1 c.in_ok-behind.ensures.leads
-
 
 -- ---- quantified
 
