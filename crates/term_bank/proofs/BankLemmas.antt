@@ -30,6 +30,16 @@ module _ {K X : Type 0} (test : K → Bool) where
       let both = lookup-none x es h in
       ap (λ b. cond b (Some x.1) (lookup test (es ++ e ∷ []))) both.0 ∙ lookup-push es e both.1
 
+  -- entries behind them change nothing for one that is found
+  pub lookup-more : (es fs : List (K × X)) (x : X) → lookup test es ≡ Some x → lookup test (es ++ fs) ≡ Some x
+  lookup-more [] fs x h = absurd (true≢false (sym (ap is_some h)))
+  lookup-more (e ∷ es) fs x h = by (lookup-more es fs x) (test e.0) h
+    where
+      by : (lookup test es ≡ Some x → lookup test (es ++ fs) ≡ Some x)
+          → (b : Bool) → cond b (Some e.1) (lookup test es) ≡ Some x → cond b (Some e.1) (lookup test (es ++ fs)) ≡ Some x
+      by rest true found = found
+      by rest false found = rest found
+
 -- a look-up by a term is one by its tree
 pub lookup-entries : (t : Tree) (es : List (TermKey × TermRef)) → lookup (tree_eq t) (map entry_of es) ≡ option_map number (lookup (λ k. tree_eq t (tree_of k.term)) es)
 lookup-entries t [] = refl
@@ -84,7 +94,28 @@ found-number t es found copy h same = lookup-entries t es ∙ sym (ap (option_ma
 pub interned-known : (es : List (Tree × ℕ)) (t : Tree) (n : ℕ) → lookup (tree_eq t) es ≡ Some n → es ≡ interned es t n
 interned-known es t n h = ap (λ o. if is_some o then es else es ++ (t, n) ∷ []) (sym h)
 
+-- and leaves the bank
+pub interns-known :
+    (trees : List Tree) (es : List (Tree × ℕ)) (t : Tree) (n : ℕ)
+    → lookup (tree_eq t) es ≡ Some n → trees ≡ (if is_some (lookup (tree_eq t) es) then trees else trees ++ t ∷ [])
+interns-known trees es t n h = ap (λ o. if is_some o then trees else trees ++ t ∷ []) (sym h)
+
+-- a number that the table has stays
+pub number-kept :
+    (es fs : List (Tree × ℕ)) (t u : Tree) (n m : ℕ)
+    → fs ≡ interned es t n → lookup (tree_eq u) es ≡ Some m → lookup (tree_eq u) fs ≡ Some m
+number-kept es fs t u n m e h = ap (lookup (tree_eq u)) e ∙ by (is_some (lookup (tree_eq t) es))
+  where
+    by : (b : Bool) → lookup (tree_eq u) (if b then es else es ++ (t, n) ∷ []) ≡ Some m
+    by true = h
+    by false = lookup-more (tree_eq u) es ((t, n) ∷ []) m h
+
 -- ---- a tree that is new
+
+pub interns-new :
+    (old new : List Tree) (es : List (Tree × ℕ)) (t : Tree)
+    → lookup (tree_eq t) es ≡ None → new ≡ old ++ t ∷ [] → new ≡ (if is_some (lookup (tree_eq t) es) then old else old ++ t ∷ [])
+interns-new old new es t h e = e ∙ ap (λ o. if is_some o then old else old ++ t ∷ []) (sym h)
 
 pub absent-entries : (t : Tree) (es : List (TermKey × TermRef)) → lookup (λ k. tree_eq t (tree_of k.term)) es ≡ None → lookup (tree_eq t) (map entry_of es) ≡ None
 absent-entries t es h = lookup-entries t es ∙ ap (option_map number) h

@@ -52,6 +52,10 @@ number_in table t = lookup (tree_eq t) (entries table)
 abbrev pub interned : List (Tree × ℕ) → Tree → ℕ → List (Tree × ℕ)
 interned known t n = if is_some (lookup (tree_eq t) known) then known else known ++ (t, n) ∷ []
 
+-- The bank after a tree is interned through a table: one that the table has leaves it as it is, another goes last.
+abbrev pub Interns : Table → Tree → Bank → Bank → Type 0
+Interns table t old new = new.terms ≡ (if is_some (number_in table t) then old.terms else old.terms ++ t ∷ [])
+
 -- no tree stands twice in a list of entries
 abbrev pub NoTreeTwice : List (Tree × ℕ) → Type 0
 NoTreeTwice [] = ⊤

@@ -1,6 +1,7 @@
 -- Laws of the words on banks: what callers may use without a look into a bank.
-use Rattle.std.specs.Prelude.{◌≡◌, List}
-use Rattle.term_bank.specs.Bank.{IsOf, AreOf, IsTableOf, Grows, tree_in}
+use Rattle.std.specs.Prelude.{◌≡◌, ℕ, List, Some}
+use Rattle.fol_base.specs.Tree.{Tree}
+use Rattle.term_bank.specs.Bank.{IsOf, AreOf, IsTableOf, Grows, entries, interned, number_in, tree_in}
 use Rattle.term_bank.specs.Literal.{AreLiteralsOf, literals_in}
 use Rattle.term_bank.specs.declared.literal.BankLit.{BankLit}
 use Rattle.term_bank.specs.declared.reference.TermRef.{TermRef}
@@ -27,7 +28,13 @@ KeepsLists = (old new : Bank) (rs : List TermRef) → Grows old new → AreOf ol
 abbrev pub KeepsTables : Type 0
 KeepsTables = (old new : Bank) (table : Table) → Grows old new → IsTableOf old table → IsTableOf new table
 
--- and with literals, which stand for what they stood for
+-- a table keeps its numbers when a tree is interned
+abbrev pub KeepsNumbers : Type 0
+KeepsNumbers =
+    (old new : Table) (t u : Tree) (n m : ℕ) → entries new ≡ interned (entries old) t n
+    → number_in old u ≡ Some m → number_in new u ≡ Some m
+
+-- a bank that grows keeps literals, which stand for what they stood for
 abbrev pub KeepsLiterals : Type 0
 KeepsLiterals =
     (old new : Bank) (ls : List BankLit) → Grows old new → AreLiteralsOf old ls

@@ -2,7 +2,7 @@
 
 ghost use Rattle.std.specs.Prelude.{◌≡◌, [], ◌∷◌, ◌++◌, length, IfOk, OnOk, OnErr, Some};
 ghost use Rattle.fol_base.specs.Term.{tree_of};
-ghost use Rattle.term_bank.specs.Bank.{number, tree_in, entries, number_in, interned, IsOf, IsEmpty, IsTableOf, Grows, IsSame};
+ghost use Rattle.term_bank.specs.Bank.{number, tree_in, entries, number_in, interned, IsOf, IsEmpty, IsTableOf, Interns, Grows, IsSame};
 
 use crate::key::{TermKey, Wanted};
 use crate::reference::TermRef;
@@ -50,6 +50,7 @@ impl Bank {
         ensures entries { IfOk result (λ reference.
             entries table.new ≡ interned (entries table.old) (tree_of term.now) (number reference)) }
         ensures table { IsTableOf self.new table.new }
+        ensures bank { IfOk result (λ _. Interns table.old (tree_of term.now) self.old self.new) }
         ensures grows { Grows self.old self.new }
         ensures bank_unchanged { OnErr result (IsSame self.old self.new) }
         ensures table_unchanged { OnErr result (entries table.new ≡ entries table.old) }

@@ -7,6 +7,7 @@ ghost use Rattle.term_bank.specs.Laws.{
   KeepsLists,
   KeepsLiterals,
   KeepsTables,
+  KeepsNumbers,
 };
 
 /// A bank grows to itself and onward, and keeps its references and literals, what they stand for, and
@@ -18,4 +19,10 @@ pub fn growing_banks()
     ensures lists { KeepsLists }
     ensures literals { KeepsLiterals }
     ensures tables { KeepsTables }
+{}
+
+/// A table keeps its numbers when a tree is interned, so equal trees that one table interned have equal
+/// numbers.
+pub fn kept_numbers()
+    ensures { KeepsNumbers }
 {}

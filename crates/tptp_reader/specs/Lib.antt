@@ -8,3 +8,12 @@ pub mod Building
 pub mod GroundText
 pub mod Examples
 pub mod Messages
+pub mod Machine
+pub mod Answers
+pub mod Verdicts
+pub mod AnswerExamples
+pub mod Placed
+pub mod Telling
+pub mod TellingNotes
+pub mod TellingEntries
+pub mod Annotating

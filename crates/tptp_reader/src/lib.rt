@@ -1,4 +1,4 @@
-// Ground problems, read from the bytes of a text.
+// Problems, read from the bytes of a text.
 #![tactic(auto)]
 
 ghost use Rattle.std.specs.Prelude.{◌≡◌, ◌≤◌, IfOk, true, false, List, [], ◌∷◌, ℕ, map, sum_by, codes};
@@ -11,17 +11,30 @@ ghost use Rattle.tptp_reader.specs.GroundText.{IsGroundText, IsWithinLimits, IsR
 ghost use Rattle.tptp_reader.specs.Numbering.{true_symbol, symbols_of, numbered_clause};
 ghost use Rattle.tptp_reader.specs.Examples.{two_units, two_units_clauses, applied, symbol, negated};
 
+mod atoms;
 mod building;
+mod cause;
+mod clauses;
+mod entry;
+#[cfg(test)]
+mod entry_tests;
 mod fault;
+mod formulas;
+pub mod laws;
+mod notes;
 mod numbering;
 mod occurrence;
 mod problem;
 mod reading;
+mod source;
+mod terms;
 #[cfg(test)]
 mod tests;
 mod token;
 
 use building::{build_clauses, build_terms};
+pub use cause::{Form, ReadCause, ReadFault};
+pub use entry::{Read, annotated};
 pub use fault::GroundFault;
 use fol_base::{Mem, Text, Texts};
 use numbering::{number, owned_symbols};

@@ -3,7 +3,7 @@ use Rattle.std.specs.Map.{lookup}
 use Rattle.fol_base.specs.Tree.{Tree, tree_eq}
 use Rattle.fol_base.specs.Term.{tree_of}
 use Rattle.term_bank.specs.Bank.{number, entries, IsEntryIn}
-use Rattle.term_bank.proofs.BankLemmas.{lookup-holds, found-number, interned-known, absent-entries, number-interned, inserted-entries, table-interned, on-ok}
+use Rattle.term_bank.proofs.BankLemmas.{lookup-holds, found-number, interned-known, absent-entries, interns-known, interns-new, number-interned, inserted-entries, table-interned, on-ok}
 use Rattle.term_bank.proofs.bank.Bank.intern.Goals as goal
 
 pub returns-in-Some-clause-known : goal.returns-in-Some-clause-known
@@ -12,6 +12,16 @@ returns-in-Some-clause-known c = found-number (tree_of c.args.term.now) _ _ _ c.
 pub returns-in-Some-clause-entries : goal.returns-in-Some-clause-entries
 returns-in-Some-clause-entries c =
     interned-known _ (tree_of c.args.term.now) _ (found-number (tree_of c.args.term.now) _ _ _ c.in-Some.ensures.value c.copy.ensures)
+
+pub returns-in-Some-clause-bank : goal.returns-in-Some-clause-bank
+returns-in-Some-clause-bank c =
+    interns-known c.args.self.now.terms (entries c.args.table.now) (tree_of c.args.term.now) _
+    (found-number (tree_of c.args.term.now) _ _ _ c.in-Some.ensures.value c.copy.ensures)
+
+pub returns-clause-bank : goal.returns-clause-bank
+returns-clause-bank c =
+    interns-new c.args.self.now.terms c.add.new.self.terms (entries c.args.table.now) (tree_of c.args.term.now)
+    (absent-entries (tree_of c.args.term.now) c.args.table.now.references.entries (sym c.in_default.ensures.value)) c.in_ok-reference.ensures.added
 
 pub returns-in-Some-clause-reference : goal.returns-in-Some-clause-reference
 returns-in-Some-clause-reference c =

@@ -1,0 +1,5 @@
+use Rattle.tptp_reader.proofs.VerdictLemmas.{the-answer}
+use Rattle.tptp_reader.proofs.laws.one_answer.Goals as goal
+
+pub returns : goal.returns
+returns c = the-answer

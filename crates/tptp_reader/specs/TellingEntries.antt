@@ -1,0 +1,127 @@
+-- What the functions that read an entry say of the tokens before and after.
+use Rattle.std.specs.Prelude.{◌≡◌, ◌+◌, ⊤, ℕ, Bool, true, false, List, [], ◌∷◌, ◌++◌, map, drop, length, codes, Option, None, Some, slice_get}
+use Rattle.tptp_token.specs.Lexemes.{Lexeme, lexeme_at}
+use Rattle.tptp_token.specs.declared.token.Kind.TheVariants.{Lower, Mark}
+use Rattle.tptp_tree.specs.Formula.{FormulaTree}
+use Rattle.tptp_tree.specs.Shape.{formula_of}
+use Rattle.tptp_tree.specs.Brackets.{are_balanced}
+use Rattle.tptp_tree.specs.Spelling.{lexeme}
+use Rattle.tptp_tree.specs.Entries.{NamePhrase, name_lexeme, name_meant, is_right_name, role_of, language_word, Body, is_clause_body, body_lexemes, body_meant, AnnotatedPhrase, is_right_annotated, notes_lexemes, annotated_lexemes, AnnotatedTree, IsAnnotatedOf}
+use Rattle.tptp_tree.specs.Causes.{outermost}
+use Rattle.tptp_tree.specs.declared.problem.Annotated.{Annotated}
+use Rattle.tptp_tree.specs.declared.problem.Role.{Role}
+use Rattle.tptp_reader.specs.Machine.{Symbol, mark, a_name, a_role, a_clause, an_annotated, end_of_body, before_body, formula_symbols, Verdict, read_up_to, verdict, going}
+use Rattle.tptp_reader.specs.Telling.{lexemes, IsNext, Leads, IsEnd, told}
+use Rattle.tptp_reader.specs.declared.source.Reader.{Reader}
+use Rattle.tptp_reader.specs.declared.entry.Read.{Read}
+use Rattle.tptp_token.specs.declared.token.Token.{Token}
+use Rattle.tptp_token.specs.declared.token.Lexed.{Lexed}
+use Rattle.tptp_token.specs.declared.token.LexFault.{LexFault}
+use Rattle.tptp_token.specs.declared.token.LexFault.TheVariants.{BadByte, Unclosed}
+use Rattle.tptp_reader.specs.declared.cause.Halt.{Halt}
+use Rattle.tptp_reader.specs.declared.cause.Halt.TheVariants.{NoMemory, At, Ended}
+use Rattle.tptp_reader.specs.declared.cause.Refusal.{Refusal as ToldRefusal}
+use Rattle.tptp_reader.specs.declared.cause.Refusal.TheVariants.{Syntax, FreeVariable, Role as RoleRefusal, Nesting, Inappropriate}
+use Rattle.tptp_reader.specs.declared.cause.ReadCause.{ReadCause}
+use Rattle.tptp_reader.specs.declared.cause.ReadCause.TheVariants.{BadByte as BadByteCause, Unclosed as UnclosedCause, Syntax as SyntaxCause, FreeVariable as FreeVariableCause, Role as RoleCause, Nesting as NestingCause, Inappropriate as InappropriateCause}
+use Rattle.tptp_reader.specs.declared.cause.ReadFault.{ReadFault}
+use Rattle.tptp_reader.specs.declared.cause.ReadFault.TheVariants.{NoMemory as NoFaultMemory, At as FaultAt}
+
+-- what an annotated formula says, but for where it stands
+abbrev pub tree_of : Annotated → AnnotatedTree
+tree_of a = record { name = a.name; role = a.role; is_clause = a.clause; formula = formula_of a.formula }
+
+abbrev pub body_symbols : ℕ → Bool → List Symbol
+body_symbols limit true = a_clause (outermost limit true) ∷ []
+body_symbols limit false = formula_symbols (outermost limit false)
+
+-- the word of an entry, `cnf` (true) or `fof` (false)
+abbrev pub entry_symbols : ℕ → Bool → List Symbol
+entry_symbols limit is_clause = before_body is_clause ++ body_symbols limit is_clause ++ end_of_body limit ∷ []
+
+pub record ReadsLanguage (r : Reader) (at : ℕ) (is_clause : Bool) : Type 0 where
+  pub here : IsNext r at (lexeme Lower (language_word is_clause))
+  pub leads : Leads r (an_annotated r.limit ∷ []) at (entry_symbols r.limit is_clause) (at + 1)
+
+pub record ReadsName (r : Reader) (at : ℕ) (name : List ℕ) : Type 0 where
+  pub phrase : NamePhrase
+  pub right : is_right_name phrase ≡ true
+  pub here : IsNext r at (name_lexeme phrase)
+  pub meant : name_meant phrase ≡ name
+  pub leads : Leads r (a_name ∷ []) at [] (at + 1)
+
+pub record ReadsRole (r : Reader) (at : ℕ) (is_clause : Bool) (role : Role) : Type 0 where
+  pub word : List ℕ
+  pub here : IsNext r at (lexeme Lower word)
+  pub meant : role_of is_clause word ≡ Some role
+  pub leads : Leads r (a_role is_clause ∷ []) at [] (at + 1)
+
+pub record ReadsBody (r : Reader) (at next : ℕ) (is_clause : Bool) (f : FormulaTree) : Type 0 where
+  pub body : Body
+  pub kind : is_clause_body body ≡ is_clause
+  pub spelled : drop at (lexemes r) ≡ body_lexemes body (drop next (lexemes r))
+  pub meant : body_meant body ≡ f
+  pub leads : Leads r (body_symbols r.limit is_clause) at [] next
+
+-- notes, or none, and the end of the entry
+pub record ReadsEnding (r : Reader) (at start end next : ℕ) : Type 0 where
+  pub notes : List Lexeme
+  pub balanced : are_balanced notes ≡ true
+  pub spelled : drop at (lexemes r) ≡ notes_lexemes notes (lexeme Mark (codes ")") ∷ lexeme Mark (codes ".") ∷ drop next (lexemes r))
+  pub leads : Leads r (end_of_body r.limit ∷ []) at [] next
+  pub range : drop start (lexemes r) ≡ notes ++ drop end (lexemes r)
+
+pub record ReadsEntry (r : Reader) (first : ℕ) (read : Read) : Type 0 where
+  pub phrase : AnnotatedPhrase
+  pub right : is_right_annotated phrase ≡ true
+  pub spelled : drop first (lexemes r) ≡ annotated_lexemes phrase (drop read.next (lexemes r))
+  pub meant : IsAnnotatedOf phrase (tree_of read.annotated)
+  pub told_so : told r (an_annotated r.limit ∷ []) first ≡ read_up_to read.next
+  pub range : drop read.notes_start (lexemes r) ≡ phrase.notes ++ drop read.notes_end (lexemes r)
+
+-- ---- the answers, by the machine's verdict
+
+abbrev pub entry_verdict : ℕ → List ℕ → List Token → ℕ → Verdict
+entry_verdict limit bytes tokens first =
+    verdict first (going (an_annotated limit ∷ [])) (drop first (map (lexeme_at bytes) tokens))
+
+-- The tokens from the first one on are an annotated formula, up to the next one, and the machine takes them.
+pub record IsAnnotatedRead (limit : ℕ) (bytes : List ℕ) (tokens : List Token) (first : ℕ) (read : Read) : Type 0 where
+  pub phrase : AnnotatedPhrase
+  pub right : is_right_annotated phrase ≡ true
+  pub spelled :
+      drop first (map (lexeme_at bytes) tokens) ≡ annotated_lexemes phrase (drop read.next (map (lexeme_at bytes) tokens))
+  pub meant : IsAnnotatedOf phrase (tree_of read.annotated)
+  pub taken_so : entry_verdict limit bytes tokens first ≡ read_up_to read.next
+  pub range :
+      drop read.notes_start (map (lexeme_at bytes) tokens) ≡ phrase.notes ++ drop read.notes_end (map (lexeme_at bytes) tokens)
+
+abbrev pub cause_told : ToldRefusal → ReadCause
+cause_told Syntax = SyntaxCause
+cause_told FreeVariable = FreeVariableCause
+cause_told RoleRefusal = RoleCause
+cause_told Nesting = NestingCause
+cause_told (Inappropriate form) = InappropriateCause form
+
+-- at the end of the tokens: the fault of the tokens, or else the end of the text
+abbrev pub IsEndFault : Option LexFault → ℕ → ReadCause → ℕ → Type 0
+IsEndFault None end cause place = (cause ≡ SyntaxCause) × (place ≡ end)
+IsEndFault (Some (BadByte n)) end cause place = (cause ≡ BadByteCause) × (place ≡ n)
+IsEndFault (Some (Unclosed n)) end cause place = (cause ≡ UnclosedCause) × (place ≡ n)
+
+-- the cause and the place by where and why reading halted
+abbrev pub IsCauseBy : List ℕ → Lexed → Halt → ReadCause → ℕ → Type 0
+IsCauseBy bytes lexed NoMemory cause place = ⊥
+IsCauseBy bytes lexed (At refusal index) cause place =
+    (cause ≡ cause_told refusal)
+    × ((token : Token) × (slice_get lexed.tokens index ≡ Some token) × (place ≡ token.start))
+IsCauseBy bytes lexed Ended cause place = IsEndFault lexed.fault (length bytes) cause place
+
+abbrev pub IsFaultBy : List ℕ → Lexed → Halt → ReadFault → Type 0
+IsFaultBy bytes lexed halt NoFaultMemory = ⊤
+IsFaultBy bytes lexed halt (FaultAt cause file place) = (file ≡ []) × IsCauseBy bytes lexed halt cause place
+
+-- the machine refuses a token, or the tokens run out
+abbrev pub HasFault : ℕ → List ℕ → Lexed → ℕ → ReadFault → Type 0
+HasFault limit bytes lexed first fault =
+    (halt : Halt) × IsEnd halt (entry_verdict limit bytes lexed.tokens first) × IsFaultBy bytes lexed halt fault
