@@ -1,16 +1,16 @@
 -- Facts about printed texts.
 use Rattle.fol_base.specs.Literal.{literal_of, clause_of}
 use Rattle.fol_base.specs.declared.clause.Clause.{Clause}
-use Rattle.tptp_reader.specs.declared.problem.GroundRole.{GroundRole}
+use Rattle.ground_reader.specs.declared.problem.GroundRole.{GroundRole}
 use Rattle.ground_text.specs.Lines.{literals_at, role_at, role_text}
-use Rattle.tptp_reader.specs.Syntax.{role_word}
+use Rattle.ground_reader.specs.Syntax.{role_word}
 use Rattle.std.proofs.Common.{Result, Ok, Err, IfOk, ◌≡◌, ℕ, zero, suc, ◌<◌, ◌≤◌, Option, Some, None, List, [], ◌∷◌, ◌++◌, length, map, get_or, refl, ap, sym, ◌∙◌, arith}
 use Rattle.std.specs.Prelude.{slice_get, unwrap_or, if◌then◌else◌, codes}
 use Rattle.std.proofs.lemmas.Bool.{ne_eqb}
 use Rattle.std.proofs.lemmas.Option.{slice_get_past}
 use Rattle.std.proofs.lemmas.List.{length-map, append_assoc}
 use Rattle.kernel_steps.proofs.KernelLemmas.{slice_get-item, IfOk-change}
-use Rattle.tptp_reader.specs.declared.problem.GroundSymbol.{GroundSymbol}
+use Rattle.ground_reader.specs.declared.problem.GroundSymbol.{GroundSymbol}
 use Rattle.ground_text.specs.Names.{name_text}
 use Rattle.ground_text.specs.Terms.{name_at, symbol_names, symbol_text}
 

@@ -10,9 +10,9 @@ use Rattle.kernel_steps.specs.declared.step.Step.{Step}
 use Rattle.kernel_steps.specs.declared.step.Step.TheVariants.{Input, Negate, Clausify, Para, Refl, Merge}
 use Rattle.kernel_steps.specs.declared.step.Line.{Line}
 use Rattle.kernel_steps.specs.Derivation.{is_input_of}
-use Rattle.tptp_reader.specs.declared.problem.GroundRole.{GroundRole}
-use Rattle.tptp_reader.specs.Syntax.{role_word}
-use Rattle.tptp_reader.specs.declared.problem.GroundProblem.{GroundProblem}
+use Rattle.ground_reader.specs.declared.problem.GroundRole.{GroundRole}
+use Rattle.ground_reader.specs.Syntax.{role_word}
+use Rattle.ground_reader.specs.declared.problem.GroundProblem.{GroundProblem}
 use Rattle.ground_text.specs.Names.{name_text, shown}
 use Rattle.ground_text.specs.Terms.{SymbolNames, name_at, symbol_names, term_text, literals_text}
 

@@ -15,7 +15,7 @@ use crate::terms::{push_literals, push_term};
 use fol_base::{Clause, Mem, Side, Term, Text};
 use kernel_steps::{Derivation, Line, Step};
 use std::alloc::Global;
-use tptp_reader::{GroundProblem, GroundRole, GroundSymbol};
+use ground_reader::{GroundProblem, GroundRole, GroundSymbol};
 
 /// Adds the name of a line.
 fn push_line_name(page: &mut Page, number: u64) -> Mem<()>

@@ -27,7 +27,7 @@ use Rattle.kernel_steps.specs.Rules.{para_literals, refl_literals, merge_literal
 use Rattle.kernel_steps.specs.Conclusion.{empty_clause, line_clause, binds, bound_literals, Verdict, binding_fault, rule_fault, concludes, verdict_if}
 use Rattle.kernel_steps.specs.Derivation.{is_clause_step, is_input_of, ComesBy, IsDerivation, IsSourced, IsSourcedRefutation}
 use Rattle.kernel_steps.proofs.TestLemmas.{else_some}
-use Rattle.tptp_reader.specs.declared.problem.GroundProblem.{GroundProblem}
+use Rattle.ground_reader.specs.declared.problem.GroundProblem.{GroundProblem}
 use Rattle.prover_main.specs.Accepted.{form_of, IsAcceptedDerivation}
 use Rattle.prover_main.specs.AcceptedExamples.{unit_clause, two_units, third_line, fifth_line, last_line, derivation_with}
 use Rattle.ground_text.specs.Lines.{Source, source_of, input_line, clause_head, clausify_text, line_text_of, lines_text_from}

@@ -2,13 +2,13 @@
 use Rattle.std.proofs.Common.{◌≡◌, ℕ, Option, None, Some, List, refl, subst, sym}
 use Rattle.ground_loop.specs.Answer.{HasClosedSets, IsGroundAnswer}
 use Rattle.ground_loop.specs.Satisfaction.{HasMeaning}
-use Rattle.tptp_reader.proofs.KindLemmas.{IsReadAs-kinds}
+use Rattle.ground_reader.proofs.KindLemmas.{IsReadAs-kinds}
 use Rattle.ground_loop.specs.declared.answer.Ground.{Ground}
 use Rattle.ground_loop.specs.declared.answer.Ground.TheVariants.{Refuted, Closed}
 use Rattle.kernel_steps.specs.Derivation.{IsSourcedRefutation}
 use Rattle.kernel_steps.specs.declared.step.Line.{Line}
-use Rattle.tptp_reader.specs.GroundText.{IsReadAs}
-use Rattle.tptp_reader.specs.declared.problem.GroundProblem.{GroundProblem}
+use Rattle.ground_reader.specs.GroundText.{IsReadAs}
+use Rattle.ground_reader.specs.declared.problem.GroundProblem.{GroundProblem}
 use Rattle.ground_text.specs.Lines.{source_of, lines_text}
 use Rattle.prover_main.specs.Words.{proved_file}
 use Rattle.prover_main.specs.Accepted.{form_of, is_predicate_of}

@@ -4,8 +4,8 @@ use Rattle.fol_base.specs.Clause.{TreeClause}
 use Rattle.fol_base.specs.Literal.{clause_of}
 use Rattle.kernel_steps.specs.Derivation.{IsSourcedRefutation}
 use Rattle.kernel_steps.specs.declared.step.Line.{Line}
-use Rattle.tptp_reader.specs.declared.problem.GroundProblem.{GroundProblem}
-use Rattle.tptp_reader.specs.declared.problem.GroundSymbol.{GroundSymbol}
+use Rattle.ground_reader.specs.declared.problem.GroundProblem.{GroundProblem}
+use Rattle.ground_reader.specs.declared.problem.GroundSymbol.{GroundSymbol}
 use Rattle.ground_text.specs.Lines.{source_of, lines_text}
 
 -- the clausal form of a problem of ground clauses: clause number i comes from formula i

@@ -2,8 +2,8 @@
 use Rattle.std.specs.Prelude.{ℕ, Bool, true, false, List, [], ◌∷◌, ◌++◌, codes}
 use Rattle.fol_base.specs.declared.term.Term.TheVariants.{App}
 use Rattle.fol_base.specs.declared.clause.Clause.{Clause}
-use Rattle.tptp_reader.specs.declared.problem.GroundRole.TheVariants.{Axiom, NegatedConjecture}
-use Rattle.tptp_reader.specs.declared.problem.GroundProblem.{GroundProblem}
+use Rattle.ground_reader.specs.declared.problem.GroundRole.TheVariants.{Axiom, NegatedConjecture}
+use Rattle.ground_reader.specs.declared.problem.GroundProblem.{GroundProblem}
 use Rattle.prover_main.specs.Accepted.{IsAcceptedDerivation}
 
 -- the atom of symbol 1, or its negation

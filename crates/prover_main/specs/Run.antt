@@ -1,8 +1,8 @@
 -- What a run answers and prints, and why.
 use Rattle.std.specs.Prelude.{◌≡◌, ℕ, ◌≤◌, length, List, Option, None, Some, IfSome, IsSome, IsTrue}
-use Rattle.tptp_reader.specs.Syntax.{NamedFormula}
-use Rattle.tptp_reader.specs.GroundText.{IsGroundText, IsWithinLimits, IsReadAs}
-use Rattle.tptp_reader.specs.declared.problem.GroundProblem.{GroundProblem}
+use Rattle.ground_reader.specs.Syntax.{NamedFormula}
+use Rattle.ground_reader.specs.GroundText.{IsGroundText, IsWithinLimits, IsReadAs}
+use Rattle.ground_reader.specs.declared.problem.GroundProblem.{GroundProblem}
 use Rattle.outside.specs.Faults.{Rose}
 use Rattle.outside.specs.Library.{Holdings, HoldsExactly, FoundMore}
 use Rattle.outside.specs.Sink.{with_bytes, HasPrefixAfter}

@@ -8,7 +8,7 @@ use fol_base::{Mem, Text};
 use ground_text::{Page, Source, push_derivation, push_problem_name, push_shown};
 use kernel_steps::Derivation;
 use std::alloc::Global;
-use tptp_reader::GroundProblem;
+use ground_reader::GroundProblem;
 
 /// Adds the end of a line that names the problem.
 fn push_for(page: &mut Page, file: &str) -> Mem<()>

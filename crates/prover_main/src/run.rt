@@ -2,7 +2,7 @@
 
 ghost use Rattle.std.specs.Prelude.{◌≡◌, ◌≤◌, IfOk};
 ghost use Rattle.fol_base.specs.GroundForm.{IsGroundForm, form_size};
-ghost use Rattle.tptp_reader.specs.GroundText.{IsReadAs};
+ghost use Rattle.ground_reader.specs.GroundText.{IsReadAs};
 ghost use Rattle.prover_main.specs.Accepted.{form_of};
 ghost use Rattle.prover_main.specs.Report.{usage_report};
 ghost use Rattle.prover_main.specs.Run.{IsDueOn, IsDueFor, Outside, IsRun, Delivered};
@@ -13,7 +13,7 @@ use fol_base::{Mem, NoMemory, Text};
 use ground_loop::{Ground, prove_ground};
 use outside::{Library, LoadFault, Sink, deliver};
 use std::alloc::Global;
-use tptp_reader::{GroundFault, GroundProblem, read_ground};
+use ground_reader::{GroundFault, GroundProblem, read_ground};
 
 /// The most bytes of a file.
 const MOST_FILE_BYTES: usize = 67_108_864;

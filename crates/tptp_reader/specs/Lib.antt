@@ -1,13 +1,3 @@
-pub mod Token
-pub mod Reading
-pub mod Lexeme
-pub mod Syntax
-pub mod Numbering
-pub mod Script
-pub mod Building
-pub mod GroundText
-pub mod Examples
-pub mod Messages
 pub mod Machine
 pub mod Answers
 pub mod Verdicts

@@ -1,132 +1,306 @@
-// What no clause says: outside rows, and that calls succeed.
+// What no clause says of annotated formulas: outside rows, and that calls succeed.
 
 use super::*;
 use std::test::Fail;
+use tptp_token::tokens;
+use tptp_tree::print_formula;
 
-const FIRST: &[u8] = b"cnf(a,axiom,p). cnf(b,negated_conjecture,~p).";
-
-#[test]
-fn reads_two_units(rt: HostRuntime) -> Result<(), Fail> {
-    let problem = read_ground(rt.alloc(), FIRST)?;
-    let names = problem.names.as_slice();
-    let roles = problem.roles.as_slice();
-    assert_eq!(rt; names.len(), 2);
-    assert!(rt; names[0].as_slice() == b"a".as_slice());
-    assert!(rt; names[1].as_slice() == b"b".as_slice());
-    assert!(rt; roles == [GroundRole::Axiom, GroundRole::NegatedConjecture].as_slice());
-    assert_eq!(rt; problem.symbols.len(), 2);
-    assert_eq!(rt; problem.clauses.len(), 2);
-    for (clause, positive) in problem
-        .clauses
-        .as_slice()
-        .iter()
-        .zip([true, false].as_slice())
-    {
-        let literals = clause.literals.as_slice();
-        assert_eq!(rt; literals.len(), 1);
-        assert_eq!(rt; literals[0].positive, *positive);
-        assert_eq!(rt; head_of(&literals[0].left), Some(1));
-        assert_eq!(rt; head_of(&literals[0].right), Some(0));
+/// The formula of the text's first entry as it is printed, or the cause that it isn't read for and its place.
+fn outcome(alloc: Global, text: &[u8], nesting: u32) -> Mem<Vec<u8>> {
+    if text.len() > 100_000 {
+        return Ok(Vec::new(alloc));
     }
-    Ok(())
+    let lexed = tokens(alloc, text)?;
+    if lexed.tokens.len() == 0 {
+        return Ok(Vec::new(alloc));
+    }
+    let answer = annotated(alloc, text, &lexed, 0, nesting);
+    shown(alloc, &answer)
 }
 
-fn head_of(term: &fol_base::Term) -> Option<u32> {
-    match term {
-        fol_base::Term::App(symbol, _) => Some(*symbol),
-        fol_base::Term::Var(_) => None,
-    }
-}
-
-fn is_not_built(answer: &Result<GroundProblem, GroundFault>) -> bool {
+/// What is shown of an answer.
+fn shown(alloc: Global, answer: &Result<Read, ReadFault>) -> Mem<Vec<u8>> {
     match answer {
-        Err(GroundFault::NotBuilt) => true,
-        Ok(_) | Err(GroundFault::NoMemory) => false,
+        Ok(read) => Ok(print_formula(alloc, &read.annotated.formula)?.into_vec()),
+        Err(fault) => shown_fault(alloc, fault),
     }
 }
 
-#[test]
-fn refuses_what_is_cut_off(rt: HostRuntime) {
-    for end in 0..FIRST.len() + 1 {
-        let whole = end == 0 || end == 15 || end == 16 || end == FIRST.len();
-        let result = read_ground(rt.alloc(), &FIRST[..end]);
-        assert_eq!(rt; result.is_ok(), whole, "cut at {end}");
-        assert_eq!(rt; is_not_built(&result), !whole, "cut at {end}");
+fn shown_fault(alloc: Global, fault: &ReadFault) -> Mem<Vec<u8>> {
+    let mut page = Vec::new(alloc);
+    if let ReadFault::At(cause, _, place) = fault {
+        page.extend_from_slice(cause_name(*cause))?;
+        push_place(&mut page, *place)?;
+    }
+    Ok(page)
+}
+
+/// What is shown of a cause.
+fn cause_name(cause: ReadCause) -> &'static [u8] {
+    match cause {
+        ReadCause::BadByte => b"BadByte".as_slice(),
+        ReadCause::Unclosed => b"Unclosed".as_slice(),
+        ReadCause::Syntax => b"Syntax".as_slice(),
+        ReadCause::FreeVariable => b"FreeVariable".as_slice(),
+        ReadCause::Role => b"Role".as_slice(),
+        ReadCause::Nesting => b"Nesting".as_slice(),
+        ReadCause::Inappropriate(form) => form_name(form),
+        _ => b"other".as_slice(),
     }
 }
 
+fn form_name(form: Form) -> &'static [u8] {
+    match form {
+        Form::Typed => b"Typed".as_slice(),
+        Form::RoleForm => b"RoleForm".as_slice(),
+        Form::Number => b"Number".as_slice(),
+        Form::Distinct => b"Distinct".as_slice(),
+        Form::Dollar => b"Dollar".as_slice(),
+    }
+}
+
+/// A place below 1,000 behind an `@`, in decimal digits.
+fn push_place(page: &mut Vec<u8>, place: u32) -> Mem<()> {
+    page.push(b'@')?;
+    if place >= 1000 {
+        page.push(b'0' + (place / 1000 % 10) as u8)?;
+    }
+    if place >= 100 {
+        page.push(b'0' + (place / 100 % 10) as u8)?;
+    }
+    if place >= 10 {
+        page.push(b'0' + (place / 10 % 10) as u8)?;
+    }
+    page.push(b'0' + (place % 10) as u8)?;
+    Ok(())
+}
+
+/// A text, and its outcome.
+type Row = (&'static [u8], &'static [u8]);
+
+/// The index of the first row whose text has another outcome; the number of rows where there is none.
+fn first_failure(alloc: Global, rows: &[Row]) -> Mem<usize> {
+    for (index, (text, wanted)) in rows.iter().enumerate() {
+        let found = outcome(alloc, text, 500)?;
+        if found.as_slice() != *wanted {
+            return Ok(index);
+        }
+    }
+    Ok(rows.len())
+}
+
+/// How formulas are read, and at which connective they can't go on.
 #[test]
-fn tells_texts_apart(rt: HostRuntime) {
-    for (text, count) in [
-        (b"".as_slice(), Some(1)),
-        (b" \t\n\x0b\x0c\r".as_slice(), Some(1)),
+fn reads_formulas(rt: HostRuntime) -> Result<(), Fail> {
+    let rows = [
+        (b"fof(a,axiom,p).".as_slice(), b"p".as_slice()),
+        (b"fof(a,axiom,a=b).", b"a = b"),
+        (b"fof(a,axiom,![X]:X!=a).", b"! [X] : X != a"),
         (
-            b"cnf(a,axiom,p(f(c,d),c)|~q(f(c)) | f).".as_slice(),
-            Some(8),
+            b"fof(a,axiom,! [X,Y] : ? [X] : r(X,Y)).",
+            b"! [X,Y] : ? [X] : r(X,Y)",
+        ),
+        (b"fof(a,axiom,p&q&r).", b"p & q & r"),
+        (b"fof(a,axiom,(p&q)&r).", b"(p & q) & r"),
+        (b"fof(a,axiom,p|q&r).", b"Syntax@15"),
+        (b"fof(a,axiom,p&q|r).", b"Syntax@15"),
+        (b"fof(a,axiom,p=>q=>r).", b"Syntax@16"),
+        (b"fof(a,axiom,p~|q).", b"p ~| q"),
+        (b"fof(a,axiom,p~&q).", b"p ~& q"),
+        (b"fof(a,axiom,p<~>(q<=r)).", b"p <~> (q <= r)"),
+        (b"fof(a,axiom,p<=>q).", b"p <=> q"),
+        (b"fof(a,axiom,(((p)))).", b"p"),
+        (b"fof(a,axiom,~~ ~p).", b"~~~p"),
+        (b"fof(a,axiom,~a=b).", b"~(a = b)"),
+        (b"fof(a,axiom,![X]:p(X)&q).", b"! [X] : p(X) & q"),
+        (b"fof(a,axiom,$true|$false).", b"$true | $false"),
+        (b"fof(a,axiom,'p'('\\'','\\\\',b)).", b"p('\\'','\\\\',b)"),
+        (
+            b"fof(a,conjecture,f(g(a,b),c)!='A').",
+            b"f(g(a,b),c) != 'A'",
+        ),
+        (b"fof(a,axiom,'$true').", b"'$true'"),
+        (b"fof(a,axiom,p)./*x*/%", b"p"),
+    ];
+    assert_eq!(rt; first_failure(rt.alloc(), rows.as_slice())?, rows.len());
+    Ok(())
+}
+
+/// What can't be read of a formula, a role or a name, with its first place.
+#[test]
+fn tells_faults(rt: HostRuntime) -> Result<(), Fail> {
+    let rows = [
+        (b"fof(a,axiom,X).".as_slice(), b"FreeVariable@12".as_slice()),
+        (b"fof(a,axiom,(![X]:p(X))&q(X)).", b"FreeVariable@26"),
+        (b"fof(a,axiom,![X]:X).", b"Syntax@18"),
+        (b"fof(a,axiom,![]:p).", b"Syntax@14"),
+        (b"fof(a,axiom,![X,]:p).", b"Syntax@16"),
+        (b"fof(a,axiom,p()).", b"Syntax@14"),
+        (b"fof(a,axiom,p(a,)).", b"Syntax@16"),
+        (b"fof(a,axiom,3=a).", b"Number@12"),
+        (b"fof(a,axiom,p(3.)).", b"Number@14"),
+        (b"fof(a,axiom,a=\"b\").", b"Distinct@14"),
+        (b"fof(a,axiom,$less(a,b)).", b"Dollar@12"),
+        (b"fof(a,axiom,p($$x)).", b"Dollar@14"),
+        (b"fof(a,axiom,p($true)).", b"Syntax@14"),
+        (b"fof(a,axiom,$true=a).", b"Syntax@17"),
+        (b"fof(a,axiom,''=a).", b"BadByte@13"),
+        (b"fof(a,axiom,'a).", b"Unclosed@12"),
+        (b"fof(a,axiom,p)", b"Syntax@14"),
+        (b"fof(a,question,p).", b"RoleForm@6"),
+        (b"fof(a,unknown,p).", b"Role@6"),
+        (b"fof(a,axiom-x,p).", b"Syntax@11"),
+        (b"tff(a,axiom,p).", b"Typed@0"),
+        (b"include(a).", b"Syntax@0"),
+        (b"fof(1.5,axiom,p).", b"Syntax@4"),
+        (b"fof(X,axiom,p).", b"Syntax@4"),
+        (b"fof(a,axiom,[p] --> [q]).", b"Syntax@12"),
+    ];
+    assert_eq!(rt; first_failure(rt.alloc(), rows.as_slice())?, rows.len());
+    Ok(())
+}
+
+/// Clauses and notes.
+#[test]
+fn reads_clauses_and_notes(rt: HostRuntime) -> Result<(), Fail> {
+    let rows = [
+        (
+            b"cnf(12,hypothesis,( ~ p(X) | X != 'A b' ), inference(res,[status(thm)],[c_1,\"x\",$fof(p),-3.5e2])).".as_slice(),
+            b"~p(X) | X != 'A b'".as_slice(),
+        ),
+        (b"cnf(12,unknown,p).", b"Role@7"),
+        (b"cnf(a,conjecture,p).", b"Role@6"),
+        (b"cnf(a,plain,((p|q))).", b"p | q"),
+        (b"cnf(a,plain,(p)|q).", b"Syntax@15"),
+        (b"cnf(a,plain,p|(q)).", b"Syntax@14"),
+        (b"cnf(a,plain,~(a=b)|~q).", b"~(a = b) | ~q"),
+        (b"cnf(a,plain,~a!=b).", b"Syntax@14"),
+        (b"cnf(a,plain,~(X!=b)).", b"Syntax@15"),
+        (b"cnf(a,plain,~~p).", b"Syntax@13"),
+        (b"cnf(a,plain,p&q).", b"Syntax@13"),
+        (b"cnf(a,plain,$false).", b"$false"),
+        (b"cnf(a,plain,p,{[(a)],}).", b"p"),
+        (b"cnf(a,plain,p,).", b"Syntax@14"),
+        (b"cnf(a,plain,p,[a)).", b"Syntax@16"),
+        (b"cnf(a,plain,p,a]).", b"Syntax@15"),
+        (b"cnf(a,plain,p,#.;X).", b"p"),
+        (b"cnf('1',plain,p).", b"p"),
+    ];
+    assert_eq!(rt; first_failure(rt.alloc(), rows.as_slice())?, rows.len());
+    Ok(())
+}
+
+/// The answer at a limit of nesting of two.
+#[test]
+fn limits_levels(rt: HostRuntime) -> Result<(), Fail> {
+    let rows = [
+        (b"fof(a,axiom,~~p).".as_slice(), b"~~p".as_slice()),
+        (b"fof(a,axiom,~~~p).", b"Nesting@14"),
+        (b"fof(a,axiom,((p))).", b"p"),
+        (b"fof(a,axiom,(((p)))).", b"Nesting@14"),
+        (b"fof(a,axiom,![X]:p(X)).", b"! [X] : p(X)"),
+        (b"fof(a,axiom,~![X]:p).", b"Nesting@14"),
+        (b"fof(a,axiom,p(f(a))).", b"p(f(a))"),
+        (b"fof(a,axiom,p(f(g(a)))).", b"Nesting@17"),
+        (b"cnf(a,plain,~(p)).", b"~p"),
+        (b"cnf(a,plain,(~(p))).", b"Nesting@14"),
+        (b"cnf(a,plain,p,([])).", b"p"),
+        (b"cnf(a,plain,p,([{}])).", b"Nesting@16"),
+    ];
+    for (text, wanted) in rows {
+        let found = outcome(rt.alloc(), text, 2)?;
+        assert!(rt; found.as_slice() == wanted);
+    }
+    Ok(())
+}
+
+/// An entry whose formula is this text so many times and then another one.
+fn repeated(
+    alloc: Global,
+    before: &[u8],
+    count: usize,
+    behind: &[u8],
+    close: &[u8],
+) -> Mem<Vec<u8>> {
+    let mut text = Vec::new(alloc);
+    text.extend_from_slice(b"fof(a,axiom,".as_slice())?;
+    for _ in 0..count {
+        text.extend_from_slice(before)?;
+    }
+    text.extend_from_slice(behind)?;
+    for _ in 0..count {
+        text.extend_from_slice(close)?;
+    }
+    text.extend_from_slice(b").".as_slice())?;
+    Ok(text)
+}
+
+/// Brackets, negations and quantifiers at 5,000 levels, and at a limit of 500 the token that begins the level above it. A
+/// quantifier's bracket is a level more.
+#[test]
+fn reads_deep_formulas(rt: HostRuntime) -> Result<(), Fail> {
+    let alloc = rt.alloc();
+    let (none, close) = (b"".as_slice(), b")".as_slice());
+    for (before, behind, limit, length, wanted) in [
+        (
+            b"(".as_slice(),
+            close,
+            5_000u32,
+            1usize,
+            b"Nesting@512".as_slice(),
         ),
         (
-            b"\x0bcnf\t(\na\x0c,\raxiom , p ( c ) ) .".as_slice(),
-            Some(3),
+            b"~".as_slice(),
+            none,
+            5_000,
+            5_001,
+            b"Nesting@512".as_slice(),
         ),
-        (b"cnf(a,axiom,p). % a comment".as_slice(), None),
-        (b"cnf(a,axiom,/**/p).".as_slice(), None),
-        (b"cnf(a,axiom,$true).".as_slice(), None),
-        (b"cnf(a,axiom,p(X)).".as_slice(), None),
-        (b"cnf(a,axiom,p()).".as_slice(), None),
-        (b"cnf(a,axiom,(p)).".as_slice(), None),
-        (b"cnf(A,axiom,p).".as_slice(), None),
-        (b"cnf(a,lemma,p).".as_slice(), None),
-        (b"fof(a,axiom,p).".as_slice(), None),
-        (b"cnf(a,axiom,~~p).".as_slice(), None),
-        (b"cnf(a,axiom,).".as_slice(), None),
+        (
+            b"![X]:".as_slice(),
+            none,
+            5_001,
+            40_001,
+            b"Nesting@2508".as_slice(),
+        ),
     ] {
-        let symbols = match read_ground(rt.alloc(), text) {
-            Ok(problem) => Some(problem.symbols.len()),
-            Err(GroundFault::NotBuilt) => None,
-            Err(GroundFault::NoMemory) => Some(0),
-        };
-        assert_eq!(rt; symbols, count);
+        let text = repeated(alloc, before, 5_000, b"p".as_slice(), behind)?;
+        let found = outcome(alloc, text.as_slice(), limit)?;
+        assert_eq!(rt; found.len(), length);
+        let refused = outcome(alloc, text.as_slice(), 500)?;
+        assert!(rt; refused.as_slice() == wanted);
     }
-}
-
-fn nested(alloc: Global, depth: usize) -> Result<Vec<u8>, std::alloc::AllocError> {
-    let mut text = Vec::new(alloc);
-    text.extend_from_slice(b"cnf(a,axiom,p(")?;
-    for _ in 0..depth {
-        text.extend_from_slice(b"f(")?;
-    }
-    text.extend_from_slice(b"c")?;
-    for _ in 0..depth {
-        text.extend_from_slice(b")")?;
-    }
-    text.extend_from_slice(b")).")?;
-    Ok(text)
-}
-
-#[test]
-fn limits_nesting(rt: HostRuntime) -> Result<(), Fail> {
-    let text = nested(rt.alloc(), 500)?;
-    assert!(rt; read_ground(rt.alloc(), text.as_slice()).is_ok());
-    let text = nested(rt.alloc(), 501)?;
-    assert!(rt; is_not_built(&read_ground(rt.alloc(), text.as_slice())));
     Ok(())
 }
 
-fn wide(alloc: Global, count: usize) -> Result<Vec<u8>, std::alloc::AllocError> {
-    let mut text = Vec::new(alloc);
-    text.extend_from_slice(b"cnf(a,axiom,p(c")?;
-    for _ in 3..count {
-        text.extend_from_slice(b",c")?;
-    }
-    text.extend_from_slice(b")).")?;
-    Ok(text)
+/// The parts of an entry besides its formula.
+#[test]
+fn keeps_names_roles_and_ranges(rt: HostRuntime) -> Result<(), Fail> {
+    let alloc = rt.alloc();
+    let text = b"cnf(a,axiom,p). cnf(012,negated_conjecture,q,b(c)).".as_slice();
+    let lexed = tokens(alloc, text)?;
+    assert_eq!(rt; lexed.tokens.len(), 23);
+    let refused = annotated(alloc, text, &lexed, 9, 0);
+    assert!(rt; shown(alloc, &refused)?.as_slice() == b"Nesting@46".as_slice());
+    let answer = annotated(alloc, text, &lexed, 9, 1);
+    assert!(rt; is_second(&answer));
+    Ok(())
 }
 
-#[test]
-fn limits_symbols(rt: HostRuntime) -> Result<(), Fail> {
-    let text = wide(rt.alloc(), 4000)?;
-    assert!(rt; read_ground(rt.alloc(), text.as_slice()).is_ok());
-    let text = wide(rt.alloc(), 4001)?;
-    assert!(rt; is_not_built(&read_ground(rt.alloc(), text.as_slice())));
-    Ok(())
+/// Whether the second formula was read, with its notes.
+fn is_second(answer: &Result<Read, ReadFault>) -> bool {
+    match answer {
+        Ok(read) => {
+            let annotated = &read.annotated;
+            annotated.name.as_slice() == b"012".as_slice()
+                && annotated.role == tptp_tree::Role::NegatedConjecture
+                && annotated.clause
+                && annotated.place == 16
+                && annotated.file.len() == 0
+                && read.notes_start == 17
+                && read.notes_end == 21
+                && read.next == 23
+        }
+        Err(_) => false,
+    }
 }

@@ -1,6 +1,6 @@
 use Rattle.std.proofs.Common.{ap, ◌++◌, sym, ◌∙◌}
 use Rattle.std.proofs.lemmas.List.{append-nil}
-use Rattle.tptp_reader.specs.declared.problem.GroundRole.TheVariants.{Axiom, NegatedConjecture}
+use Rattle.ground_reader.specs.declared.problem.GroundRole.TheVariants.{Axiom, NegatedConjecture}
 use Rattle.ground_text.proofs.TextLemmas.{added, role_at-there, role_at-past}
 use Rattle.ground_text.proofs.lines.push_role.Goals as goal
 

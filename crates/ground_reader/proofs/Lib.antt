@@ -1,0 +1,17 @@
+pub mod TokenLemmas
+pub mod SyntaxLemmas
+pub mod SpellingLemmas
+pub mod FrontLemmas
+pub mod SymbolLemmas
+pub mod TermLemmas
+pub mod FaultLemmas
+pub mod ClauseLemmas
+pub mod ScriptLemmas
+pub mod BuildLemmas
+pub mod NumberLemmas
+pub mod SideLemmas
+pub mod ProblemLemmas
+pub mod GroundForm
+pub mod GroundFormLemmas
+pub mod Examples
+pub mod KindLemmas
