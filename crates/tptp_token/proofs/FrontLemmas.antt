@@ -14,7 +14,8 @@ use Rattle.tptp_token.specs.declared.piece.Piece.TheVariants.{Token}
 use Rattle.tptp_token.proofs.TestLemmas.{second-false}
 use Rattle.tptp_token.proofs.LongestLemmas.{longest-none}
 use Rattle.tptp_token.proofs.WordLemmas.{lower-piece, variable-piece, mark-piece, one_dollar-piece, lower_word-length}
-use Rattle.tptp_token.proofs.QuoteLemmas.{fills-step, quote-stopped, quote-closed}
+use Rattle.tptp_token.proofs.FillLemmas.{fills-step, quote-stopped}
+use Rattle.tptp_token.proofs.QuoteLemmas.{quote-closed}
 use Rattle.tptp_token.proofs.PieceLemmas.{blank-piece, other-piece-of}
 use Rattle.tptp_token.proofs.LexemeLemmas.{Lexes, lexes-blank, lexes-token}
 

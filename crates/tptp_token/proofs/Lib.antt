@@ -5,6 +5,7 @@ pub mod CountLemmas
 pub mod WordLemmas
 pub mod NumberLemmas
 pub mod SignLemmas
+pub mod FillLemmas
 pub mod QuoteLemmas
 pub mod PieceLemmas
 pub mod LexemeLemmas

@@ -1,5 +1,5 @@
 use Rattle.std.proofs.Common.{arith}
-use Rattle.tptp_token.proofs.QuoteLemmas.{fills-more, fills-end}
+use Rattle.tptp_token.proofs.FillLemmas.{fills-more, fills-end}
 use Rattle.tptp_token.proofs.WordLemmas.{suffix, length-suffix}
 use Rattle.tptp_token.proofs.quote.filled_length.Goals as goal
 
