@@ -52,12 +52,6 @@ literal_sides l = l.left ∷ l.right ∷ []
 abbrev pub sides : List TreeLiteral → List Tree
 sides ls = flat_map literal_sides ls
 
--- what the table has learned: further entries at its end, each for one of these trees
-pub record Learns (trees : List Tree) (old new : Table) : Type 0 where
-  pub more : List (Tree × ℕ)
-  pub added : entries new ≡ entries old ++ more
-  pub among : All (λ e. Contains trees e.0) more
-
 -- the references of a literal are those that the table has for its sides
 abbrev pub IsKnown : Bank → Table → BankLit → Type 0
 IsKnown bank table l =
