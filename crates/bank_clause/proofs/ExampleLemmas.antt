@@ -1,5 +1,5 @@
 -- The worked examples in a bank.
-use Rattle.std.proofs.Common.{◌≡◌, ◌<◌, ℕ, true, false, [], ◌∷◌, refl, sym, ap, ◌∙◌, subst, arith}
+use Rattle.std.proofs.Common.{◌≡◌, true, false, [], ◌∷◌, refl, sym, ap, ◌∙◌, subst, arith}
 use Rattle.std.proofs.lemmas.List.Elements.{All-nil, All-cons}
 use Rattle.fol_base.specs.Clause.{clause_size}
 use Rattle.term_bank.specs.Literal.{IsLiteralOf}
@@ -10,8 +10,8 @@ use Rattle.bank_clause.specs.Examples.{CountsNoNames, IsOfItsBank, StandsForRow,
 pub stands_for_row : StandsForRow
 stands_for_row bank first second third fourth symbols has = λ j. record {
   literals =
-    record { positive = true; left = has.atom j; right = has.truth j }
-    ∷ record { positive = false; left = has.unknown j; right = has.constant j } ∷ [];
+      record { positive = true; left = has.atom j; right = has.truth j }
+      ∷ record { positive = false; left = has.unknown j; right = has.constant j } ∷ [];
   names = assertion 3 ∷ [];
 }
 
@@ -21,8 +21,8 @@ is_of_its_bank bank first second third fourth has =
     let atom : BankLit = record { positive = true; left = first; right = second } in
     let other_than_a : BankLit = record { positive = false; left = third; right = fourth } in record {
       references =
-        All-cons (IsLiteralOf bank) atom (other_than_a ∷ []) (has.are_of 0 first (omega arith), has.are_of 1 first (omega arith))
-        (All-cons (IsLiteralOf bank) other_than_a [] (has.are_of 2 first (omega arith), has.are_of 3 first (omega arith)) (All-nil (IsLiteralOf bank)));
+          All-cons (IsLiteralOf bank) atom (other_than_a ∷ []) (has.are_of 0 first (omega arith), has.are_of 1 first (omega arith))
+          (All-cons (IsLiteralOf bank) other_than_a [] (has.are_of 2 first (omega arith), has.are_of 3 first (omega arith)) (All-nil (IsLiteralOf bank)));
       canonical = subst IsCanonical (sym stands) refl;
       size = ap clause_size (sym stands);
     }

@@ -71,7 +71,7 @@ sides-take ls i l below is =
 sides-split :
     (ls : List Literal) (i : ℕ) (l : Literal) → i < length ls → l ≡ get_or ls i l
     → sides (map literal_of ls)
-        ≡ sides (map literal_of (take i ls)) ++ (literal_sides (literal_of l) ++ sides (map literal_of (drop (suc i) ls)))
+    ≡ sides (map literal_of (take i ls)) ++ (literal_sides (literal_of l) ++ sides (map literal_of (drop (suc i) ls)))
 sides-split [] i l below is = absurd (omega (arith, below))
 sides-split (x ∷ xs) zero l below is = ap (λ y. literal_sides (literal_of y) ++ sides (map literal_of xs)) (sym is)
 sides-split (x ∷ xs) (suc i) l below is =

@@ -50,6 +50,7 @@ fn a_known_term_keeps_its_number(rt: HostRuntime) -> Result<(), Fail> {
     if first.number() == third.number() {
         bank.agree(&first, &third);
     }
+    bank.lacks_defaults();
     assert_eq!(rt; first.copy().number(), first.number());
     assert_eq!(rt; TermRef::default().number(), u64::MAX);
     Ok(())

@@ -1,5 +1,4 @@
-use Rattle.std.proofs.Common.{List, [], ◌∷◌, refl, ap, ◌∙◌}
-use Rattle.fol_base.specs.Tree.{Tree}
+use Rattle.std.proofs.Common.{[], ◌∷◌, refl, ap, ◌∙◌}
 use Rattle.fol_base.specs.Literal.{literal_of}
 use Rattle.fol_base.specs.Clause.{TreeLiteral}
 use Rattle.term_bank.specs.Bank.{number_in}

@@ -40,11 +40,11 @@ pub returns-in_err-intern_literal-clause-interned_first : goal.returns-in_err-in
 returns-in_err-intern_literal-clause-interned_first c =
     on-err c.from_residual-in_err-intern_literal.result
     (interned-part c.args.literals.now c.loop-literal.literal-index c.literal-item.result _ _ _ _ _ _
-        (omega (arith, c.loop-literal-test.true)) c.literal-item.is c.loop-literal.invariant.4 c.in_err-intern_literal.ensures.interned_first)
+    (omega (arith, c.loop-literal-test.true)) c.literal-item.is c.loop-literal.invariant.4 c.in_err-intern_literal.ensures.interned_first)
 
 pub returns-in_err-push-clause-interned_first : goal.returns-in_err-push-clause-interned_first
 returns-in_err-push-clause-interned_first c =
     on-err c.from_residual-in_err-push.result
     (interned-part c.args.literals.now c.loop-literal.literal-index c.literal-item.result _ _ _ _ _ _
-        (omega (arith, c.loop-literal-test.true)) c.literal-item.is c.loop-literal.invariant.4
-        (interned-whole _ _ _ _ _ c.in_ok-intern_literal.ensures.interned))
+    (omega (arith, c.loop-literal-test.true)) c.literal-item.is c.loop-literal.invariant.4
+    (interned-whole _ _ _ _ _ c.in_ok-intern_literal.ensures.interned))
