@@ -1,4 +1,5 @@
-pub mod LearningLemmas
+pub mod SidesLemmas
 pub mod GrowthLemmas
 pub mod ClauseLemmas
 pub mod CanonicalLemmas
+pub mod ExampleLemmas

@@ -1,12 +1,12 @@
 -- Clauses in a bank: what they stand for, and what holds of each that is of the bank.
-use Rattle.std.specs.Prelude.{◌≡◌, ℕ, false, List, [], ◌∷◌, ◌++◌, map, flat_map, Some, Contains}
+use Rattle.std.specs.Prelude.{◌≡◌, ℕ, false, List, [], ◌∷◌, map, flat_map, Some}
 use Rattle.std.specs.List.{All}
 use Rattle.std.specs.List.Sorted.{IsStrictlyIncreasing}
 use Rattle.plain_types.specs.declared.sequence.NameLit.{NameLit}
 use Rattle.fol_base.specs.Tree.{Tree}
 use Rattle.fol_base.specs.Clause.{TreeLiteral, TreeClause, clause_size}
 use Rattle.fol_base.specs.Canonical.{canonical_clause}
-use Rattle.term_bank.specs.Bank.{number, tree_in, entries, number_in}
+use Rattle.term_bank.specs.Bank.{number, tree_in, number_in}
 use Rattle.term_bank.specs.Literal.{AreLiteralsOf, literals_in}
 use Rattle.term_bank.specs.declared.literal.BankLit.{BankLit}
 use Rattle.term_bank.specs.declared.bank.Bank.{Bank}
@@ -51,12 +51,6 @@ literal_sides l = l.left ∷ l.right ∷ []
 
 abbrev pub sides : List TreeLiteral → List Tree
 sides ls = flat_map literal_sides ls
-
--- what the table has learned: further entries at its end, each for one of these trees
-pub record Learns (trees : List Tree) (old new : Table) : Type 0 where
-  pub more : List (Tree × ℕ)
-  pub added : entries new ≡ entries old ++ more
-  pub among : All (λ e. Contains trees e.0) more
 
 -- the references of a literal are those that the table has for its sides
 abbrev pub IsKnown : Bank → Table → BankLit → Type 0

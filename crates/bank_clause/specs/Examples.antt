@@ -1,25 +1,14 @@
--- Worked examples: the clause p(X0) | X0 != a with the assertion of the name 3, in a bank of its four sides.
-use Rattle.std.specs.Prelude.{ℕ, true, false, [], ◌∷◌}
+-- Worked examples: the clause p(X0) | X0 != a with the assertion of the name 3, in a bank that has its four sides.
+use Rattle.std.specs.Prelude.{◌≡◌, ℕ, true, false, [], ◌∷◌}
 use Rattle.fol_base.specs.Interpretation.{true_tree}
 use Rattle.fol_base.specs.Clause.{TreeClause}
 use Rattle.fol_base.specs.Examples.{x, a, p, disequation}
+use Rattle.term_bank.specs.Bank.{tree_in, AreOf}
 use Rattle.term_bank.specs.declared.bank.Bank.{Bank}
 use Rattle.term_bank.specs.declared.literal.BankLit.{BankLit}
-use Rattle.bank_clause.specs.Clause.{assertion}
+use Rattle.term_bank.specs.declared.reference.TermRef.{TermRef}
+use Rattle.bank_clause.specs.Clause.{assertion, clause_in, IsClauseOf}
 use Rattle.bank_clause.specs.declared.clause.BankClause.{BankClause}
-
--- the bank of p(X0), $true, X0 and a
-abbrev pub four_sides : Bank
-four_sides = record { terms = (p (x 0)).left ∷ true_tree ∷ x 0 ∷ a ∷ [] }
-
-abbrev pub atom : BankLit
-atom = record { positive = true; left = record { number = 0 }; right = record { number = 1 } }
-
-abbrev pub other_than_a : BankLit
-other_than_a = record { positive = false; left = record { number = 2 }; right = record { number = 3 } }
-
-abbrev pub of_size : ℕ → BankClause
-of_size size = record { literals = atom ∷ other_than_a ∷ []; names = 3 ∷ []; size = size }
 
 abbrev pub row : TreeClause
 row = record { literals = p (x 0) ∷ disequation (x 0) a ∷ []; names = assertion 3 ∷ [] }
@@ -27,3 +16,33 @@ row = record { literals = p (x 0) ∷ disequation (x 0) a ∷ []; names = assert
 -- the same with another variable
 abbrev pub row_of_another : TreeClause
 row_of_another = record { literals = p (x 1) ∷ disequation (x 1) a ∷ []; names = assertion 3 ∷ [] }
+
+-- the bank has p(X0), $true, X0 and a, under these references
+pub record HasSides (bank : Bank) (first second third fourth : TermRef) : Type 0 where
+  pub are_of : AreOf bank (first ∷ second ∷ third ∷ fourth ∷ [])
+  pub atom : tree_in bank first ≡ (p (x 0)).left
+  pub truth : tree_in bank second ≡ true_tree
+  pub unknown : tree_in bank third ≡ x 0
+  pub constant : tree_in bank fourth ≡ a
+
+-- the bank clause of these references
+abbrev pub over : TermRef → TermRef → TermRef → TermRef → ℕ → BankClause
+over first second third fourth symbols =
+    let atom : BankLit = record { positive = true; left = first; right = second } in
+    let other_than_a : BankLit = record { positive = false; left = third; right = fourth } in
+    record { literals = atom ∷ other_than_a ∷ []; names = 3 ∷ []; size = symbols }
+
+abbrev pub StandsForRow : Type 0
+StandsForRow =
+    (bank : Bank) (first second third fourth : TermRef) (symbols : ℕ)
+    → HasSides bank first second third fourth → clause_in bank (over first second third fourth symbols) ≡ row
+
+abbrev pub IsOfItsBank : Type 0
+IsOfItsBank =
+    (bank : Bank) (first second third fourth : TermRef)
+    → HasSides bank first second third fourth → IsClauseOf bank (over first second third fourth 5)
+
+abbrev pub CountsNoNames : Type 0
+CountsNoNames =
+    (bank : Bank) (first second third fourth : TermRef)
+    → HasSides bank first second third fourth → ¬ IsClauseOf bank (over first second third fourth 6)

@@ -1,18 +1,18 @@
 // Clauses in a bank.
 
-ghost use Rattle.std.specs.Prelude.{◌≡◌, ◌<◌, ◌^◌, map, IfOk};
+ghost use Rattle.std.specs.Prelude.{◌≡◌, ◌<◌, ◌^◌, map, IfOk, OnOk, OnErr};
 ghost use Rattle.std.specs.List.{All};
 ghost use Rattle.std.specs.List.Sorted.{IsStrictlyIncreasing};
 ghost use Rattle.fol_base.specs.Clause.{clause_size};
 ghost use Rattle.fol_base.specs.Literal.{clause_of};
 ghost use Rattle.term_bank.specs.Bank.{IsTableOf, Grows};
+ghost use Rattle.term_bank.specs.Interning.{InternsAll, InternsFirst};
 ghost use Rattle.term_bank.specs.declared.bank.Bank.{Bank as ABank};
 ghost use Rattle.bank_clause.specs.Clause.{
   AreAssertions,
   IsCanonical,
   IsClauseOf,
   IsKnown,
-  Learns,
   clause_in,
   sides,
 };
@@ -51,8 +51,8 @@ impl Model for BankClause {
 }
 
 impl BankClause {
-    /// The clause with its literals' sides interned. After want of memory the table may know further
-    /// terms.
+    /// The clause with its literals' sides interned, from left to right; nothing else is done to the bank
+    /// and the table. After want of memory some first ones of the sides have been interned.
     pub fn of_clause(
         alloc: Global,
         bank: &mut Bank,
@@ -68,7 +68,10 @@ impl BankClause {
         ensures known { IfOk result (λ made. All (IsKnown bank.new table.new) made.literals) }
         ensures table { IsTableOf bank.new table.new }
         ensures grows { Grows bank.old bank.new }
-        ensures learns { Learns (sides (clause_of clause.now).literals) table.old table.new }
+        ensures interned { OnOk result
+            (InternsAll (sides (clause_of clause.now).literals) table.old table.new bank.old bank.new) }
+        ensures interned_first { OnErr result
+            (InternsFirst (sides (clause_of clause.now).literals) table.old table.new bank.old bank.new) }
     {
         let names = bare_names(alloc, clause.names.as_slice())?;
         let literals = intern_literals(alloc, bank, table, clause.literals.as_slice())?;

@@ -1,11 +1,12 @@
 // Literals and names of a clause as a bank clause keeps them.
 
-ghost use Rattle.std.specs.Prelude.{◌≡◌, map, IfOk};
+ghost use Rattle.std.specs.Prelude.{◌≡◌, map, IfOk, OnOk, OnErr};
 ghost use Rattle.std.specs.List.{All};
 ghost use Rattle.fol_base.specs.Literal.{literal_of};
 ghost use Rattle.term_bank.specs.Bank.{IsTableOf, Grows};
 ghost use Rattle.term_bank.specs.Literal.{IsLiteralOf, AreLiteralsOf, literal_in, literals_in};
-ghost use Rattle.bank_clause.specs.Clause.{Learns, IsKnown, literal_sides, sides};
+ghost use Rattle.term_bank.specs.Interning.{InternsAll, InternsFirst};
+ghost use Rattle.bank_clause.specs.Clause.{IsKnown, literal_sides, sides};
 
 use crate::clause::BankLits;
 use fol_base::{Literal, Mem, NameLit};
@@ -13,7 +14,8 @@ use smallvec::SmallVec;
 use std::alloc::Global;
 use term_bank::{Bank, BankLit, Table};
 
-/// The literals with their sides interned. After want of memory the table may know further sides.
+/// The literals with their sides interned, from left to right. After want of memory some first ones of the
+/// sides have been interned.
 pub(crate) fn intern_literals(
     alloc: Global,
     bank: &mut Bank,
@@ -26,32 +28,31 @@ pub(crate) fn intern_literals(
     ensures known { IfOk result (λ made. All (IsKnown bank.new table.new) made.items) }
     ensures table { IsTableOf bank.new table.new }
     ensures grows { Grows bank.old bank.new }
-    ensures learns { Learns (sides (map literal_of literals.now)) table.old table.new }
+    ensures interned { OnOk result (InternsAll (sides (map literal_of literals.now)) table.old table.new bank.old bank.new) }
+    ensures interned_first { OnErr result
+        (InternsFirst (sides (map literal_of literals.now)) table.old table.new bank.old bank.new) }
 {
     let mut made = SmallVec::with_capacity(alloc, literals.len())?;
     for literal in literals {
-        made.push(intern_literal(alloc, bank, table, literal)?)?;
+        made.push(intern_literal(bank, table, literal)?)?;
     }
     Ok(made)
 }
 
-/// The literal with its sides interned. After want of memory the table may know its left side.
-fn intern_literal(
-    alloc: Global,
-    bank: &mut Bank,
-    table: &mut Table,
-    literal: &Literal,
-) -> Mem<BankLit>
+/// The literal with its sides interned. After want of memory its left side may have been interned.
+fn intern_literal(bank: &mut Bank, table: &mut Table, literal: &Literal) -> Mem<BankLit>
     requires { IsTableOf bank.old table.old }
     ensures references { IfOk result (IsLiteralOf bank.new) }
     ensures same { IfOk result (λ made. literal_in bank.new made ≡ literal_of literal.now) }
     ensures known { IfOk result (IsKnown bank.new table.new) }
     ensures table { IsTableOf bank.new table.new }
     ensures grows { Grows bank.old bank.new }
-    ensures learns { Learns (literal_sides (literal_of literal.now)) table.old table.new }
+    ensures interned { OnOk result (InternsAll (literal_sides (literal_of literal.now)) table.old table.new bank.old bank.new) }
+    ensures interned_first { OnErr result
+        (InternsFirst (literal_sides (literal_of literal.now)) table.old table.new bank.old bank.new) }
 {
-    let left = bank.intern(alloc, table, &literal.left)?;
-    let right = bank.intern(alloc, table, &literal.right)?;
+    let left = bank.intern(table, &literal.left)?;
+    let right = bank.intern(table, &literal.right)?;
     Ok(BankLit {
         positive: literal.positive,
         left,

@@ -4,8 +4,8 @@
 ghost use Rattle.std.specs.Prelude.{◌≡◌, [], ◌∷◌};
 ghost use Rattle.fol_base.specs.Interpretation.{true_tree};
 ghost use Rattle.fol_base.specs.Examples.{x, a, p, positive_name};
-ghost use Rattle.bank_clause.specs.Clause.{assertion, clause_in, IsCanonical, IsClauseOf, AreAssertions, sides};
-ghost use Rattle.bank_clause.specs.Examples.{four_sides, of_size, row, row_of_another};
+ghost use Rattle.bank_clause.specs.Clause.{assertion, IsCanonical, AreAssertions, sides};
+ghost use Rattle.bank_clause.specs.Examples.{CountsNoNames, IsOfItsBank, StandsForRow, row, row_of_another};
 ghost use Rattle.bank_clause.specs.Laws.{
   CanonicalFormsAreCanonical,
   CanonicalFormsKeepSizes,
@@ -27,9 +27,9 @@ pub fn canonical_forms()
 
 /// What a bank clause stands for, and which clauses are of a bank.
 pub fn examples()
-    ensures stands_for { clause_in four_sides (of_size 5) ≡ row }
-    ensures of_bank { IsClauseOf four_sides (of_size 5) }
-    ensures names_not_counted { ¬ IsClauseOf four_sides (of_size 6) }
+    ensures stands_for { StandsForRow }
+    ensures of_bank { IsOfItsBank }
+    ensures names_not_counted { CountsNoNames }
     ensures numbered_by_first_occurrence { ¬ IsCanonical row_of_another }
     ensures sides_in_order { sides row.literals ≡ (p (x 0)).left ∷ true_tree ∷ x 0 ∷ a ∷ [] }
     ensures rising { AreAssertions (assertion 3 ∷ assertion 5 ∷ []) }

@@ -156,13 +156,12 @@ fn equal_sides_have_equal_numbers(rt: HostRuntime) -> Result<(), Fail> {
     let alloc = rt.alloc();
     let (mut bank, mut table) = Bank::new(alloc)?;
     let (_, made) = taken_in(alloc, &mut bank, &mut table, many_atoms(alloc, 6)?, &[])?;
-    let even = bank.intern(alloc, &mut table, &unary(alloc, P, Term::Var(0))?)?;
+    let even = bank.intern(&mut table, &unary(alloc, P, Term::Var(0))?)?;
     let odd = bank.intern(
-        alloc,
         &mut table,
         &unary(alloc, P, unary(alloc, F, Term::Var(1))?)?,
     )?;
-    let truth = bank.intern(alloc, &mut table, &constant(alloc, 0))?;
+    let truth = bank.intern(&mut table, &constant(alloc, 0))?;
     for (index, literal) in made.literals().iter().enumerate() {
         let wanted = if index % 2 == 0 {
             even.number()

@@ -1,2 +1,3 @@
 pub mod BankLemmas
 pub mod GrowthLemmas
+pub mod InterningLemmas

@@ -1,5 +1,5 @@
 -- The words by which callers speak of a bank, its references and its tables.
-use Rattle.std.specs.Prelude.{◌≡◌, ℕ, ◌<◌, List, [], ◌∷◌, ◌++◌, length, map, get_or, Option, None, is_some, if◌then◌else◌, ⊤}
+use Rattle.std.specs.Prelude.{◌≡◌, ℕ, ◌<◌, ◌-◌, ◌^◌, List, [], ◌∷◌, ◌++◌, length, map, get_or, Option, None, is_some, if◌then◌else◌, ⊤}
 use Rattle.std.specs.List.{All}
 use Rattle.std.specs.Map.{lookup}
 use Rattle.fol_base.specs.Tree.{Tree, variable, tree_eq}
@@ -16,6 +16,10 @@ number r = r.number
 -- the reference is of the bank
 abbrev pub IsOf : Bank → TermRef → Type 0
 IsOf bank r = r.number < length bank.terms
+
+-- the reference that fills places which aren't used yet; no bank has so many terms that it is of one
+abbrev pub IsDefault : TermRef → Type 0
+IsDefault r = number r ≡ 2 ^ 64 - 1
 
 -- the tree for which a reference of the bank stands
 abbrev pub tree_in : Bank → TermRef → Tree

@@ -1,7 +1,9 @@
 -- Laws of the words on banks: what callers may use without a look into a bank.
-use Rattle.std.specs.Prelude.{◌≡◌, ℕ, List, Some}
+use Rattle.std.specs.Prelude.{◌≡◌, ℕ, List, [], ◌∷◌, ◌++◌, Some, Contains}
+use Rattle.std.specs.List.{All}
 use Rattle.fol_base.specs.Tree.{Tree}
-use Rattle.term_bank.specs.Bank.{IsOf, AreOf, IsTableOf, Grows, entries, interned, number_in, tree_in}
+use Rattle.term_bank.specs.Bank.{IsOf, AreOf, IsTableOf, Interns, Grows, IsSame, entries, interned, number_in, tree_in}
+use Rattle.term_bank.specs.Interning.{trees_in, InternsAll}
 use Rattle.term_bank.specs.Literal.{AreLiteralsOf, literals_in}
 use Rattle.term_bank.specs.declared.literal.BankLit.{BankLit}
 use Rattle.term_bank.specs.declared.reference.TermRef.{TermRef}
@@ -39,3 +41,34 @@ abbrev pub KeepsLiterals : Type 0
 KeepsLiterals =
     (old new : Bank) (ls : List BankLit) → Grows old new → AreLiteralsOf old ls
     → AreLiteralsOf new ls × (literals_in new ls ≡ literals_in old ls)
+
+-- a tree that is interned is a list of one
+abbrev pub InternsOne : Type 0
+InternsOne =
+    (known learned : Table) (old new : Bank) (t : Tree) (n : ℕ) → entries learned ≡ interned (entries known) t n
+    → Interns known t old new → InternsAll (t ∷ []) known learned old new
+
+-- interning a list of trees and then a further one is interning both as one list
+abbrev pub InternsOnward : Type 0
+InternsOnward =
+    (trees further : List Tree) (first second third : Table) (old middle new : Bank)
+    → InternsAll trees first second old middle → InternsAll further second third middle new
+    → InternsAll (trees ++ further) first third old new
+
+-- the bank grows
+abbrev pub InternsAndGrows : Type 0
+InternsAndGrows =
+    (trees : List Tree) (known learned : Table) (old new : Bank) → InternsAll trees known learned old new → Grows old new
+
+-- the table learns none but these trees
+abbrev pub LearnsOnlyThese : Type 0
+LearnsOnlyThese =
+    (trees : List Tree) (known learned : Table) (old new : Bank) (all : InternsAll trees known learned old new)
+    → All (Contains trees) (trees_in all.more)
+
+-- interning the same trees again changes nothing
+abbrev pub InternedAgain : Type 0
+InternedAgain =
+    (trees : List Tree) (first second third : Table) (old middle new : Bank)
+    → InternsAll trees first second old middle → InternsAll trees second third middle new
+    → (entries third ≡ entries second) × IsSame middle new

@@ -1,8 +1,8 @@
 -- Literals in a bank, and the literals over trees for which they stand.
-use Rattle.std.specs.Prelude.{◌≡◌, ◌-◌, ◌^◌, false, List, map}
+use Rattle.std.specs.Prelude.{◌≡◌, false, List, map}
 use Rattle.std.specs.List.{All}
 use Rattle.fol_base.specs.Clause.{TreeLiteral}
-use Rattle.term_bank.specs.Bank.{number, tree_in, IsOf}
+use Rattle.term_bank.specs.Bank.{tree_in, IsOf, IsDefault}
 use Rattle.term_bank.specs.declared.bank.Bank.{Bank}
 use Rattle.term_bank.specs.declared.literal.BankLit.{BankLit}
 
@@ -23,4 +23,4 @@ literals_in bank ls = map (literal_in bank) ls
 
 -- the literal that fills places which aren't used yet: its sides are of no bank
 abbrev pub IsDefaultLiteral : BankLit → Type 0
-IsDefaultLiteral l = (l.positive ≡ false) × (number l.left ≡ 2 ^ 64 - 1) × (number l.right ≡ 2 ^ 64 - 1)
+IsDefaultLiteral l = (l.positive ≡ false) × IsDefault l.left × IsDefault l.right

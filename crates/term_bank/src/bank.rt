@@ -2,7 +2,8 @@
 
 ghost use Rattle.std.specs.Prelude.{◌≡◌, [], ◌∷◌, ◌++◌, length, IfOk, OnOk, OnErr, Some};
 ghost use Rattle.fol_base.specs.Term.{tree_of};
-ghost use Rattle.term_bank.specs.Bank.{number, tree_in, entries, number_in, interned, IsOf, IsEmpty, IsTableOf, Interns, Grows, IsSame};
+ghost use Rattle.term_bank.specs.Bank.{number, tree_in, entries, number_in, interned, IsOf, IsDefault, IsEmpty, IsTableOf, Interns, Grows, IsSame};
+ghost use Rattle.term_bank.specs.declared.reference.TermRef.{TermRef as AReference};
 
 use crate::key::{TermKey, Wanted};
 use crate::reference::TermRef;
@@ -14,6 +15,7 @@ use std::alloc::Global;
 #[derive(Drop)]
 pub struct Bank {
     terms: Terms,
+    alloc: Global,
 }
 
 /// The terms that were interned through it, each with its reference. No tree stands in it twice.
@@ -31,6 +33,7 @@ impl Bank {
     {
         let bank = Bank {
             terms: Terms::new(alloc),
+            alloc,
         };
         let table = Table {
             references: IndexMap::new(alloc),
@@ -42,7 +45,7 @@ impl Bank {
     /// doesn't have is added. After want of memory the bank and the table are as before.
     ///
     /// A term that is there is read once, and a new one is copied for the bank and for the table.
-    pub fn intern(&mut self, alloc: Global, table: &mut Table, term: &Term) -> Mem<TermRef>
+    pub fn intern(&mut self, table: &mut Table, term: &Term) -> Mem<TermRef>
         requires { IsTableOf self.old table.old }
         ensures reference { IfOk result (IsOf self.new) }
         ensures tree { IfOk result (λ reference. tree_in self.new reference ≡ tree_of term.now) }
@@ -60,21 +63,21 @@ impl Bank {
         }
         table.references.reserve(1)?;
         let key = TermKey {
-            term: term.copy(alloc)?,
+            term: term.copy(self.alloc)?,
         };
-        let reference = self.add(alloc, term)?;
+        let reference = self.add(term)?;
         table.references.insert(key, reference.copy()).unwrap();
         Ok(reference)
     }
 
     /// Adds a copy of a term at the end.
-    fn add(&mut self, alloc: Global, term: &Term) -> Mem<TermRef>
+    fn add(&mut self, term: &Term) -> Mem<TermRef>
         ensures added { OnOk result (self.new.terms ≡ self.old.terms ++ tree_of term.now ∷ []) }
         ensures number { IfOk result (λ reference. number reference ≡ length self.old.terms) }
         ensures unchanged { OnErr result (IsSame self.old self.new) }
     {
         let number = self.terms.len() as u64;
-        self.terms.push(term.copy(alloc)?)?;
+        self.terms.push(term.copy(self.alloc)?)?;
         Ok(TermRef { number })
     }
 
@@ -93,4 +96,11 @@ impl Bank {
         requires numbers { number first.now ≡ number second.now }
         ensures { tree_in self.now first.now ≡ tree_in self.now second.now }
     {}
+
+    /// Shows that a default reference is not of this bank. It does nothing.
+    pub fn lacks_defaults(&self)
+        ensures { (r : AReference) → IsDefault r → ¬ IsOf self.now r }
+    {
+        let _length = self.terms.len();
+    }
 }

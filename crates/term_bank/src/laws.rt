@@ -1,5 +1,9 @@
-// The laws of the words on banks: the contract of a function without arguments and with an empty body.
+// The laws of the words on banks, and worked examples: the contracts of functions without arguments and
+// with empty bodies.
 
+ghost use Rattle.std.specs.Prelude.{◌≡◌, [], ◌∷◌};
+ghost use Rattle.fol_base.specs.Examples.{x, a, f};
+ghost use Rattle.term_bank.specs.Interning.{first_seen};
 ghost use Rattle.term_bank.specs.Laws.{
   GrowsToItself,
   GrowsOnward,
@@ -8,6 +12,11 @@ ghost use Rattle.term_bank.specs.Laws.{
   KeepsLiterals,
   KeepsTables,
   KeepsNumbers,
+  InternsOne,
+  InternsOnward,
+  InternsAndGrows,
+  LearnsOnlyThese,
+  InternedAgain,
 };
 
 /// A bank grows to itself and onward, and keeps its references and literals, what they stand for, and
@@ -25,4 +34,22 @@ pub fn growing_banks()
 /// numbers.
 pub fn kept_numbers()
     ensures { KeepsNumbers }
+{}
+
+/// Interning several trees, one after another: a table learns none but these trees, the bank grows by what
+/// it learns, and the same trees again change nothing.
+pub fn several_trees()
+    ensures one { InternsOne }
+    ensures onward { InternsOnward }
+    ensures grows { InternsAndGrows }
+    ensures only_these { LearnsOnlyThese }
+    ensures again { InternedAgain }
+{}
+
+/// Which of several trees a table learns, in which order.
+pub fn examples()
+    ensures none { first_seen (a ∷ []) [] ≡ [] }
+    ensures known { first_seen (a ∷ []) (f a ∷ a ∷ []) ≡ f a ∷ [] }
+    ensures repeated { first_seen [] (f a ∷ a ∷ f a ∷ x 0 ∷ a ∷ []) ≡ f a ∷ a ∷ x 0 ∷ [] }
+    ensures both_known { first_seen (a ∷ x 0 ∷ []) (x 0 ∷ a ∷ x 0 ∷ []) ≡ [] }
 {}

@@ -1,7 +1,7 @@
 // References to the terms of a bank.
 
-ghost use Rattle.std.specs.Prelude.{◌≡◌, ◌-◌, ◌^◌};
-ghost use Rattle.term_bank.specs.Bank.{number};
+ghost use Rattle.std.specs.Prelude.{◌≡◌};
+ghost use Rattle.term_bank.specs.Bank.{number, IsDefault};
 
 use std::default::Default;
 
@@ -30,9 +30,9 @@ impl TermRef {
 }
 
 impl Default for TermRef {
-    ghost is_default = { λ r. number r ≡ 2 ^ 64 - 1 };
+    ghost is_default = { IsDefault };
 
-    /// A reference of no bank, to fill places that aren't used yet.
+    /// A reference of no bank (see `Bank::lacks_defaults`), to fill places that aren't used yet.
     fn default() -> TermRef {
         TermRef { number: u64::MAX }
     }

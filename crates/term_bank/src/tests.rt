@@ -38,18 +38,19 @@ fn a_known_term_keeps_its_number(rt: HostRuntime) -> Result<(), Fail> {
     let fa = unary(alloc, F, constant(alloc, A))?;
     let ga = unary(alloc, G, constant(alloc, A))?;
     let (mut bank, mut table) = Bank::new(alloc)?;
-    let first = bank.intern(alloc, &mut table, &fa)?;
+    let first = bank.intern(&mut table, &fa)?;
     assert!(rt; same_term(bank.tree(&first), &fa));
-    let second = bank.intern(alloc, &mut table, &ga)?;
+    let second = bank.intern(&mut table, &ga)?;
     assert!(rt; same_term(bank.tree(&second), &ga));
     assert!(rt; same_term(bank.tree(&first), &fa));
-    let third = bank.intern(alloc, &mut table, &fa)?;
+    let third = bank.intern(&mut table, &fa)?;
     assert!(rt; same_term(bank.tree(&third), &fa));
     assert_eq!(rt; third.number(), first.number());
     assert!(rt; second.number() != first.number());
     if first.number() == third.number() {
         bank.agree(&first, &third);
     }
+    bank.lacks_defaults();
     assert_eq!(rt; first.copy().number(), first.number());
     assert_eq!(rt; TermRef::default().number(), u64::MAX);
     Ok(())
@@ -67,7 +68,7 @@ fn interned_numbers(
 {
     let mut numbers = Vec::with_capacity(alloc, terms.len())?;
     for term in terms {
-        numbers.push(bank.intern(alloc, table, term)?.number())?;
+        numbers.push(bank.intern(table, term)?.number())?;
     }
     Ok(numbers)
 }
@@ -167,8 +168,8 @@ fn a_tall_term_is_interned(rt: HostRuntime) -> Result<(), Fail> {
         tower = unary(alloc, F, tower)?;
     }
     let (mut bank, mut table) = Bank::new(alloc)?;
-    let first = bank.intern(alloc, &mut table, &tower)?;
-    let again = bank.intern(alloc, &mut table, &tower)?;
+    let first = bank.intern(&mut table, &tower)?;
+    let again = bank.intern(&mut table, &tower)?;
     assert_eq!(rt; again.number(), first.number());
     Ok(())
 }

@@ -1,24 +1,41 @@
-use Rattle.std.proofs.Common.{List, ap, ◌∙◌}
-use Rattle.fol_base.specs.Tree.{Tree}
+use Rattle.std.proofs.Common.{[], ◌∷◌, refl, ap, ◌∙◌}
 use Rattle.fol_base.specs.Literal.{literal_of}
+use Rattle.fol_base.specs.Clause.{TreeLiteral}
 use Rattle.term_bank.specs.Bank.{number_in}
-use Rattle.bank_clause.specs.Clause.{Learns, literal_sides}
-use Rattle.bank_clause.proofs.LearningLemmas.{learns_interned, learns_onward, known-kept, Contains-first, Contains-second}
+use Rattle.term_bank.specs.Interning.{InternsAll}
+use Rattle.term_bank.proofs.InterningLemmas.{interns_one, interns-nothing, interns_onward}
+use Rattle.bank_clause.proofs.SidesLemmas.{known-kept, on-err}
 use Rattle.bank_clause.proofs.interning.intern_literal.Goals as goal
 
 pub returns-clause-known : goal.returns-clause-known
 returns-clause-known c =
-    let both : List Tree = literal_sides (literal_of c.args.literal.now) in
-    let learned : Learns both c.intern.new.table c.intern-2.new.table =
-    learns_interned both _ _ _ _ (Contains-second _ _) c.in_ok-right.ensures.entries in (
-      known-kept c.intern.new.self c.intern-2.new.self both c.intern.new.table c.intern-2.new.table c.in_ok-left.left _
-          c.intern-2.ensures.grows c.in_ok-left.ensures.reference learned c.in_ok-left.ensures.tree c.in_ok-left.ensures.known,
+    let l : TreeLiteral = literal_of c.args.literal.now in
+    let far : InternsAll (l.right ∷ []) c.intern.new.table c.intern-2.new.table c.intern.new.self c.intern-2.new.self =
+    interns_one _ _ _ _ _ _ c.in_ok-right.ensures.entries c.in_ok-right.ensures.bank in (
+      known-kept (l.right ∷ []) c.intern.new.table c.intern-2.new.table c.intern.new.self c.intern-2.new.self c.in_ok-left.left _
+          far c.in_ok-left.ensures.reference c.in_ok-left.ensures.tree c.in_ok-left.ensures.known,
       ap (number_in c.intern-2.new.table) c.in_ok-right.ensures.tree ∙ c.in_ok-right.ensures.known,
     )
 
-pub returns-clause-learns : goal.returns-clause-learns
-returns-clause-learns c =
-    let both : List Tree = literal_sides (literal_of c.args.literal.now) in
-    learns_onward both c.args.table.now c.intern.new.table c.intern-2.new.table
-    (learns_interned both _ _ _ _ (Contains-first _ _) c.in_ok-left.ensures.entries)
-    (learns_interned both _ _ _ _ (Contains-second _ _) c.in_ok-right.ensures.entries)
+pub returns-clause-interned : goal.returns-clause-interned
+returns-clause-interned c =
+    let l : TreeLiteral = literal_of c.args.literal.now in
+    interns_onward (l.left ∷ []) (l.right ∷ []) c.args.table.now c.intern.new.table c.intern-2.new.table c.args.bank.now c.intern.new.self c.intern-2.new.self
+    (interns_one _ _ _ _ _ _ c.in_ok-left.ensures.entries c.in_ok-left.ensures.bank)
+    (interns_one _ _ _ _ _ _ c.in_ok-right.ensures.entries c.in_ok-right.ensures.bank)
+
+pub returns-in_err-left-clause-interned_first : goal.returns-in_err-left-clause-interned_first
+returns-in_err-left-clause-interned_first c =
+    let l : TreeLiteral = literal_of c.args.literal.now in
+    on-err c.from_residual.result
+    ([], l.left ∷ l.right ∷ [], refl, interns-nothing _ _ _ _ c.in_err-left.ensures.table_unchanged c.in_err-left.ensures.bank_unchanged)
+
+pub returns-in_err-right-clause-interned_first : goal.returns-in_err-right-clause-interned_first
+returns-in_err-right-clause-interned_first c =
+    let l : TreeLiteral = literal_of c.args.literal.now in
+    let near : InternsAll (l.left ∷ []) c.args.table.now c.intern.new.table c.args.bank.now c.intern.new.self =
+    interns_one _ _ _ _ _ _ c.in_ok-left.ensures.entries c.in_ok-left.ensures.bank in
+    let far : InternsAll [] c.intern.new.table c.intern-2.new.table c.intern.new.self c.intern-2.new.self =
+    interns-nothing _ _ _ _ c.in_err-right.ensures.table_unchanged c.in_err-right.ensures.bank_unchanged in
+    on-err c.from_residual-in_err-right.result
+    (l.left ∷ [], l.right ∷ [], refl, interns_onward (l.left ∷ []) [] _ _ _ _ _ _ near far)

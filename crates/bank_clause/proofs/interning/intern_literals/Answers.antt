@@ -7,20 +7,9 @@ use Rattle.term_bank.specs.Literal.{AreLiteralsOf, literals_in}
 use Rattle.term_bank.specs.declared.bank.Bank.{Bank}
 use Rattle.term_bank.specs.declared.bank.Table.{Table}
 use Rattle.term_bank.specs.declared.literal.BankLit.{BankLit}
-use Rattle.term_bank.proofs.GrowthLemmas.{grows_onward}
 use Rattle.bank_clause.specs.Clause.{IsKnown}
-use Rattle.bank_clause.proofs.LearningLemmas.{learns_step, literals-push}
+use Rattle.bank_clause.proofs.SidesLemmas.{interned-literal, interned-part, interned-whole, literals-push, on-err}
 use Rattle.bank_clause.proofs.interning.intern_literals.Goals as goal
-
-pub returns-in_err-intern_literal-clause-learns : goal.returns-in_err-intern_literal-clause-learns
-returns-in_err-intern_literal-clause-learns c =
-    learns_step c.args.literals.now c.loop-literal.literal-index c.literal-item.result _ _ _
-    (omega (arith, c.loop-literal-test.true)) c.literal-item.is c.loop-literal.invariant.5 c.intern_literal.ensures.learns
-
-pub returns-in_err-push-clause-learns : goal.returns-in_err-push-clause-learns
-returns-in_err-push-clause-learns c =
-    learns_step c.args.literals.now c.loop-literal.literal-index c.literal-item.result _ _ _
-    (omega (arith, c.loop-literal-test.true)) c.literal-item.is c.loop-literal.invariant.5 c.intern_literal.ensures.learns
 
 pub loop-literal-preserved : goal.loop-literal-preserved
 loop-literal-preserved c =
@@ -34,8 +23,8 @@ loop-literal-preserved c =
     AreLiteralsOf bank (before ++ l ∷ [])
     × (literals_in bank (before ++ l ∷ []) ≡ made ++ literal_of c.literal-item.result ∷ [])
     × All (IsKnown bank table) (before ++ l ∷ []) =
-    literals-push c.loop-literal.bank bank _ c.loop-literal.table table before l made (literal_of c.literal-item.result)
-    c.intern_literal.ensures.grows c.intern_literal.ensures.learns
+    literals-push _ c.loop-literal.table table c.loop-literal.bank bank before l made (literal_of c.literal-item.result)
+    c.in_ok-intern_literal.ensures.interned
     c.loop-literal.invariant.0 c.loop-literal.invariant.1 c.loop-literal.invariant.2
     c.in_ok-intern_literal.ensures.references c.in_ok-intern_literal.ensures.same c.in_ok-intern_literal.ensures.known in (
       subst (AreLiteralsOf bank) (sym pushed) all.0,
@@ -43,7 +32,19 @@ loop-literal-preserved c =
           ∙ sym (map-take_more_item literal_of c.args.literals.now c.loop-literal.literal-index c.literal-item.result (omega (arith, c.loop-literal-test.true)) c.literal-item.is),
       subst (λ ls. All (IsKnown bank table) ls) (sym pushed) all.2,
       c.intern_literal.ensures.table,
-      grows_onward _ _ _ c.loop-literal.invariant.4 c.intern_literal.ensures.grows,
-      learns_step c.args.literals.now c.loop-literal.literal-index c.literal-item.result _ _ _
-          (omega (arith, c.loop-literal-test.true)) c.literal-item.is c.loop-literal.invariant.5 c.intern_literal.ensures.learns,
+      interned-literal c.args.literals.now c.loop-literal.literal-index c.literal-item.result _ _ _ _ _ _
+          (omega (arith, c.loop-literal-test.true)) c.literal-item.is c.loop-literal.invariant.4 c.in_ok-intern_literal.ensures.interned,
     )
+
+pub returns-in_err-intern_literal-clause-interned_first : goal.returns-in_err-intern_literal-clause-interned_first
+returns-in_err-intern_literal-clause-interned_first c =
+    on-err c.from_residual-in_err-intern_literal.result
+    (interned-part c.args.literals.now c.loop-literal.literal-index c.literal-item.result _ _ _ _ _ _
+    (omega (arith, c.loop-literal-test.true)) c.literal-item.is c.loop-literal.invariant.4 c.in_err-intern_literal.ensures.interned_first)
+
+pub returns-in_err-push-clause-interned_first : goal.returns-in_err-push-clause-interned_first
+returns-in_err-push-clause-interned_first c =
+    on-err c.from_residual-in_err-push.result
+    (interned-part c.args.literals.now c.loop-literal.literal-index c.literal-item.result _ _ _ _ _ _
+    (omega (arith, c.loop-literal-test.true)) c.literal-item.is c.loop-literal.invariant.4
+    (interned-whole _ _ _ _ _ c.in_ok-intern_literal.ensures.interned))

@@ -1,9 +1,10 @@
 use Rattle.std.proofs.Common.{◌≡◌, map, take}
 use Rattle.std.specs.List.{All}
 use Rattle.fol_base.specs.Literal.{literal_of}
-use Rattle.term_bank.specs.Bank.{IsTableOf, Grows}
+use Rattle.term_bank.specs.Bank.{IsTableOf}
+use Rattle.term_bank.specs.Interning.{InternsAll}
 use Rattle.term_bank.specs.Literal.{AreLiteralsOf, literals_in}
-use Rattle.bank_clause.specs.Clause.{Learns, IsKnown, sides}
+use Rattle.bank_clause.specs.Clause.{IsKnown, sides}
 use Rattle.bank_clause.proofs.interning.intern_literals.Given as goal
 
 abbrev pub invariant-loop-literal : goal.invariant-loop-literal
@@ -12,5 +13,4 @@ invariant-loop-literal l =
     × (literals_in l.bank l.made.items ≡ map literal_of (take l.literal-index l.literals))
     × All (IsKnown l.bank l.table) l.made.items
     × IsTableOf l.bank l.table
-    × Grows l.initial.bank l.bank
-    × Learns (sides (map literal_of l.literals)) l.initial.table l.table
+    × InternsAll (sides (map literal_of (take l.literal-index l.literals))) l.initial.table l.table l.initial.bank l.bank

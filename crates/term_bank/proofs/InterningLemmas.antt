@@ -1,0 +1,160 @@
+-- Interning several trees, one after another.
+use Rattle.std.proofs.Common.{◌≡◌, ℕ, Bool, true, false, cond, ◌||◌, List, [], ◌∷◌, ◌++◌, Some, is_some, if◌then◌else◌, refl, sym, ap, subst, ◌∙◌, append_assoc, append-nil, arith}
+use Rattle.std.proofs.lemmas.List.{map-append}
+use Rattle.std.proofs.lemmas.List.Elements.{All-nil, All-cons, All-head, All-tail, Contains-append_right}
+use Rattle.std.specs.Prelude.{Contains}
+use Rattle.std.proofs.lemmas.List.Folds.{list_any-append}
+use Rattle.std.specs.List.{All, list_any}
+use Rattle.std.specs.Map.{lookup}
+use Rattle.fol_base.specs.Tree.{Tree, tree_eq}
+use Rattle.fol_base.proofs.TreeLemmas.{tree_eq-refl}
+use Rattle.term_bank.specs.Bank.{IsSame, entries}
+use Rattle.term_bank.specs.Laws.{InternsOne, InternsOnward, InternsAndGrows, LearnsOnlyThese, InternedAgain}
+use Rattle.term_bank.specs.Interning.{first_seen, trees_in, InternsAll}
+use Rattle.term_bank.specs.declared.bank.Bank.{Bank}
+use Rattle.term_bank.specs.declared.bank.Table.{Table}
+
+-- ---- the trees that are seen first
+
+first_seen-append :
+    (known ts us : List Tree)
+    → first_seen known (ts ++ us) ≡ first_seen known ts ++ first_seen (known ++ first_seen known ts) us
+first_seen-append known [] us = ap (λ ks. first_seen ks us) (sym (append-nil known))
+first_seen-append known (t ∷ ts) us =
+    by (list_any (tree_eq t) known) (first_seen-append known ts us) (first_seen-append (known ++ t ∷ []) ts us)
+  where
+    by : (b : Bool)
+        → first_seen known (ts ++ us) ≡ first_seen known ts ++ first_seen (known ++ first_seen known ts) us
+        → first_seen (known ++ t ∷ []) (ts ++ us) ≡ first_seen (known ++ t ∷ []) ts ++ first_seen ((known ++ t ∷ []) ++ first_seen (known ++ t ∷ []) ts) us
+        → (if b then first_seen known (ts ++ us) else t ∷ first_seen (known ++ t ∷ []) (ts ++ us))
+        ≡ (if b then first_seen known ts else t ∷ first_seen (known ++ t ∷ []) ts)
+        ++ first_seen (known ++ (if b then first_seen known ts else t ∷ first_seen (known ++ t ∷ []) ts)) us
+    by true there new = there
+    by false there new =
+        ap (λ rest. t ∷ rest) new
+        ∙ ap (λ ks. t ∷ first_seen (known ++ t ∷ []) ts ++ first_seen ks us) (append_assoc known (t ∷ []) (first_seen (known ++ t ∷ []) ts))
+
+-- known trees are not seen first
+first_seen-known : (known ts : List Tree) → All (λ t. list_any (tree_eq t) known ≡ true) ts → first_seen known ts ≡ []
+first_seen-known known [] all = refl
+first_seen-known known (t ∷ ts) all =
+    ap (λ b. if b then first_seen known ts else t ∷ first_seen (known ++ t ∷ []) ts) (All-head (λ u. list_any (tree_eq u) known ≡ true) t ts all)
+    ∙ first_seen-known known ts (All-tail (λ u. list_any (tree_eq u) known ≡ true) t ts all)
+
+-- each of the trees is known in the end
+all-seen : (known ts : List Tree) → All (λ u. list_any (tree_eq u) (known ++ first_seen known ts) ≡ true) ts
+all-seen known [] = All-nil (λ u. list_any (tree_eq u) (known ++ []) ≡ true)
+all-seen known (t ∷ ts) = by (list_any (tree_eq t) known) refl (all-seen known ts) (all-seen (known ++ t ∷ []) ts)
+  where
+    by : (b : Bool) → list_any (tree_eq t) known ≡ b
+        → All (λ u. list_any (tree_eq u) (known ++ first_seen known ts) ≡ true) ts
+        → All (λ u. list_any (tree_eq u) ((known ++ t ∷ []) ++ first_seen (known ++ t ∷ []) ts) ≡ true) ts
+        → All (λ u. list_any (tree_eq u) (known ++ (if b then first_seen known ts else t ∷ first_seen (known ++ t ∷ []) ts)) ≡ true) (t ∷ ts)
+    by true is there new =
+        All-cons (λ u. list_any (tree_eq u) (known ++ first_seen known ts) ≡ true) t ts
+        (list_any-append (tree_eq t) known (first_seen known ts) ∙ ap (λ b. b || list_any (tree_eq t) (first_seen known ts)) is)
+        there
+    by false is there new =
+        let rest : List Tree = first_seen (known ++ t ∷ []) ts in
+        All-cons (λ u. list_any (tree_eq u) (known ++ t ∷ rest) ≡ true) t ts
+        (list_any-append (tree_eq t) known (t ∷ rest)
+        ∙ ap (λ b. b || (tree_eq t t || list_any (tree_eq t) rest)) is
+        ∙ ap (λ b. b || list_any (tree_eq t) rest) (tree_eq-refl t))
+        (subst (λ ks. All (λ u. list_any (tree_eq u) ks ≡ true) ts) (append_assoc known (t ∷ []) rest) new)
+
+-- and none but these is seen
+first_seen-among : (known ts : List Tree) → All (Contains ts) (first_seen known ts)
+first_seen-among known [] = All-nil (Contains [])
+first_seen-among known (t ∷ ts) = by (list_any (tree_eq t) known) (first_seen-among known ts) (first_seen-among (known ++ t ∷ []) ts)
+  where
+    wider : (us : List Tree) → All (Contains ts) us → All (Contains (t ∷ ts)) us
+    wider us all k d below = Contains-append_right (t ∷ []) ts _ (all k d below)
+
+    by : (b : Bool) → All (Contains ts) (first_seen known ts) → All (Contains ts) (first_seen (known ++ t ∷ []) ts)
+        → All (Contains (t ∷ ts)) (if b then first_seen known ts else t ∷ first_seen (known ++ t ∷ []) ts)
+    by true there new = wider (first_seen known ts) there
+    by false there new =
+        All-cons (Contains (t ∷ ts)) t (first_seen (known ++ t ∷ []) ts) (0, omega arith, refl) (wider (first_seen (known ++ t ∷ []) ts) new)
+
+-- ---- one tree
+
+-- a table has a number for a tree where its entries have the tree
+is-known : (t : Tree) (es : List (Tree × ℕ)) → is_some (lookup (tree_eq t) es) ≡ list_any (tree_eq t) (trees_in es)
+is-known t [] = refl
+is-known t (e ∷ es) = by (tree_eq t e.0) (is-known t es)
+  where
+    by : (b : Bool) → is_some (lookup (tree_eq t) es) ≡ list_any (tree_eq t) (trees_in es)
+        → is_some (cond b (Some e.1) (lookup (tree_eq t) es)) ≡ (b || list_any (tree_eq t) (trees_in es))
+    by true rest = refl
+    by false rest = rest
+
+pub interns_one : InternsOne
+interns_one known learned old new t n table bank =
+    by (is_some (lookup (tree_eq t) (entries known))) (is-known t (entries known)) table bank
+  where
+    by : (b : Bool) → b ≡ list_any (tree_eq t) (trees_in (entries known))
+        → entries learned ≡ (if b then entries known else entries known ++ (t, n) ∷ [])
+        → new.terms ≡ (if b then old.terms else old.terms ++ t ∷ [])
+        → InternsAll (t ∷ []) known learned old new
+    by true is same_table same_bank = record {
+      more = [];
+      table = same_table ∙ sym (append-nil (entries known));
+      first = ap (λ b. if b then [] else t ∷ []) is;
+      bank = same_bank ∙ sym (append-nil old.terms);
+    }
+    by false is longer_table longer_bank = record {
+      more = (t, n) ∷ [];
+      table = longer_table;
+      first = ap (λ b. if b then [] else t ∷ []) is;
+      bank = longer_bank;
+    }
+
+-- ---- no tree, and several
+
+pub interns-nothing : (known learned : Table) (old new : Bank) → entries learned ≡ entries known → IsSame old new → InternsAll [] known learned old new
+interns-nothing known learned old new table bank = record {
+  more = [];
+  table = table ∙ sym (append-nil (entries known));
+  first = refl;
+  bank = bank ∙ sym (append-nil old.terms);
+}
+
+-- the trees of the table afterwards
+trees-learned :
+    (trees : List Tree) (known learned : Table) (old new : Bank) → InternsAll trees known learned old new
+    → trees_in (entries learned) ≡ trees_in (entries known) ++ first_seen (trees_in (entries known)) trees
+trees-learned trees known learned old new all =
+    ap trees_in all.table ∙ map-append (λ e. e.0) (entries known) all.more ∙ ap (λ us. trees_in (entries known) ++ us) all.first
+
+pub interns_onward : InternsOnward
+interns_onward trees further first second third old middle new near far = record {
+  more = near.more ++ far.more;
+  table = far.table ∙ ap (λ es. es ++ far.more) near.table ∙ append_assoc (entries first) near.more far.more;
+  first =
+      map-append (λ e. e.0) near.more far.more
+      ∙ (λ j. near.first j ++ (far.first ∙ ap (λ ks. first_seen ks further) (trees-learned trees first second old middle near)) j)
+      ∙ sym (first_seen-append (trees_in (entries first)) trees further);
+  bank =
+      far.bank ∙ ap (λ us. us ++ trees_in far.more) near.bank ∙ append_assoc old.terms (trees_in near.more) (trees_in far.more)
+      ∙ ap (λ us. old.terms ++ us) (sym (map-append (λ e. e.0) near.more far.more));
+}
+
+pub interns_and_grows : InternsAndGrows
+interns_and_grows trees known learned old new all = (trees_in all.more, all.bank)
+
+pub learns_only_these : LearnsOnlyThese
+learns_only_these trees known learned old new all =
+    subst (λ us. All (Contains trees) us) (sym all.first) (first_seen-among (trees_in (entries known)) trees)
+
+pub interned_again : InternedAgain
+interned_again trees first second third old middle new once again =
+    let none : trees_in again.more ≡ [] =
+    again.first ∙ ap (λ ks. first_seen ks trees) (trees-learned trees first second old middle once)
+    ∙ first_seen-known (trees_in (entries first) ++ first_seen (trees_in (entries first)) trees) trees (all-seen (trees_in (entries first)) trees) in (
+      again.table ∙ ap (λ es. entries second ++ es) (nothing again.more none) ∙ append-nil (entries second),
+      again.bank ∙ ap (λ us. middle.terms ++ us) none ∙ append-nil middle.terms,
+    )
+  where
+    nothing : (es : List (Tree × ℕ)) → trees_in es ≡ [] → es ≡ []
+    nothing [] h = refl
+    nothing (e ∷ es) h = absurd (cc)
