@@ -7,5 +7,6 @@ pub mod SolveLemmas
 pub mod UnifyLemmas
 pub mod SizeLemmas
 pub mod RenameLemmas
+pub mod BoundLemmas
 pub mod KindLemmas
 pub mod ClashLemmas

@@ -2,6 +2,7 @@ use Rattle.std.proofs.Common.{◌≡◌, Option, None, Some, length, refl, subst
 use Rattle.unifier.specs.declared.placing.Placing.{Placing}
 use Rattle.unifier.specs.Placing.{IsOrdering}
 use Rattle.unifier.proofs.SolveLemmas.{Given, given-refuted, given-stuck, given-solved, given-in-order}
+use Rattle.unifier.proofs.BoundLemmas.{relocated-passes}
 use Rattle.unifier.proofs.solving.solve.Goals as goal
 
 pub returns-then-not-close : goal.returns-then-not-close
@@ -49,6 +50,7 @@ returns c =
       refl,
       given-solved c.args.layout.now c.args.first c.args.second _ _ _ c.close.new.self c.in-Some.placing _ _ given c.if-not-close.ensures
           (subst P c.in-Some.is c.in_ok-order.ensures) c.as_slice.ensures.value c.in_ok-places-in-Some.ensures,
+      relocated-passes c.close.new.self c.in-Some.placing _ _ _ c.as_slice.ensures.value c.in_ok-places-in-Some.ensures,
     )
 
 pub invariant_of-result : goal.invariant_of-result
