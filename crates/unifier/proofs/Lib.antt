@@ -9,4 +9,5 @@ pub mod SizeLemmas
 pub mod RenameLemmas
 pub mod BoundLemmas
 pub mod KindLemmas
+pub mod SharedLemmas
 pub mod ClashLemmas

@@ -352,7 +352,7 @@ unwrapped : (v : ℕ) (o : Option Tree) (t : Tree) → o ≡ Some t → unwrap_o
 unwrapped v None t e = cc
 unwrapped v (Some u) t e = cc
 
-terms_from-at : (first n v : ℕ) (σ : Substitution) (d : Tree) → v < n → get_or (terms_from first n σ) v d ≡ σ (first + v)
+pub terms_from-at : (first n v : ℕ) (σ : Substitution) (d : Tree) → v < n → get_or (terms_from first n σ) v d ≡ σ (first + v)
 terms_from-at first zero v σ d h = absurd (omega arith)
 terms_from-at first (suc n) zero σ d h = let e : first ≡ first + 0 = omega arith in ap σ e
 terms_from-at first (suc n) (suc v) σ d h =

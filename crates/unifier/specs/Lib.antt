@@ -11,3 +11,4 @@ pub mod Sizes
 pub mod Renaming
 pub mod Clashing
 pub mod Laws
+pub mod SharedLaws
