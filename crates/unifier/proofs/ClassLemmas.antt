@@ -13,6 +13,14 @@ use Rattle.unifier.specs.declared.classes.Classes.{Classes}
 use Rattle.unifier.specs.Cells.{Value, cell_at, is_variable, relate}
 use Rattle.unifier.specs.Classes.{parent, schema, total, AreClasses, IsConstantOn, IsDiscrete, IsCongruent, Follows, IsRefuted, IsFlat, IsClosedAt, AreSettled, AreClosed, FollowsFrom, CannotFollow, IsOnTheWay, HasFound, IsLinked, IsFlattened, PartsAgree, ArePartsJoined}
 
+pub when-true : (test : Bool) (A B : Type 0) → MatchBool test A B → test ≡ true → A
+when-true true A B h e = h
+when-true false A B h e = cc
+
+pub when-false : (test : Bool) (A B : Type 0) → MatchBool test A B → test ≡ false → B
+when-false true A B h e = cc
+when-false false A B h e = h
+
 -- ---- lists of numbers
 
 pub eq_or : (i j : ℕ) → (i ≡ j) ⊎ (i ≡ j → ⊥)
@@ -245,6 +253,41 @@ round-unchanged cells old mid new from false pos h step = (
       (cases_lt (from - 1) i),
 )
 
+-- ---- a cell below its parent's parent
+
+pub record IsLifted (n : ℕ) (old : Classes) (new : Classes) : Type 0 where
+  pub classes : AreClasses n new
+  pub sound : (f : ℕ → Value) → IsConstantOn n old f → IsConstantOn n new f
+  pub falls : total new.parents.items ≤ total old.parents.items
+
+pub lifted :
+    (n : ℕ) (old new : Classes) (i up top : ℕ)
+    → AreClasses n old → i < n → up ≡ parent old i → top ≡ parent old up
+    → new.parents.items ≡ set old.parents.items i top → new.schemas.items ≡ old.schemas.items → IsLifted n old new
+lifted n old new i up top h inside up_is top_is pe se =
+    let ps : List ℕ = old.parents.items in
+    let in_ps : i < length ps = omega (arith, h.parents) in
+    let up_le : up ≤ i = omega (arith, h.down i inside) in
+    let top_le : top ≤ up = omega (arith, h.down up (omega arith)) in
+    record {
+      classes = record {
+        parents = length-put ps new.parents.items i top pe ∙ h.parents;
+        schemas = ap length se ∙ h.schemas;
+        down = λ j less.
+            let Q : ℕ → Type 0 = λ v. v ≤ j in
+            set-read Q ps new.parents.items i top j 0 pe in_ps (λ e. omega arith) (λ _. h.down j less);
+        inside = λ j less. let P : List ℕ → Type 0 = λ ss. get_or ss j 0 < n in subst P (sym se) (h.inside j less);
+      };
+      sound = λ f before j less.
+          let Q : ℕ → Type 0 = λ v. f v ≡ f j in (
+            set-read Q ps new.parents.items i top j 0 pe in_ps
+                (λ e. ap f top_is ∙ (before up (omega arith)).0 ∙ ap f up_is ∙ (before i inside).0 ∙ ap f (sym e))
+                (λ _. (before j less).0),
+            ap (λ ss. f (get_or ss j 0)) se ∙ (before j less).1,
+          );
+      falls = omega (arith, total-put ps new.parents.items i top pe in_ps, up_is);
+    }
+
 -- ---- flattening
 
 pub record IsFlattening (n : ℕ) (old : Classes) (new : Classes) (i : ℕ) : Type 0 where
@@ -276,25 +319,11 @@ flattening-step n old mid new i up top h inside up_is top_is pe se =
     let new_top : parent new top ≡ top =
     let Q : ℕ → Type 0 = λ v. v ≡ top in
     set-read Q ps new.parents.items i top top 0 pe in_ps (λ e. refl) (λ _. top_is_top) in
+    let one : IsLifted n mid new = lifted n mid new i up top h.classes inside up_is top_is pe se in
     record {
-      classes = record {
-        parents = length-put ps new.parents.items i top pe ∙ h.classes.parents;
-        schemas = ap length se ∙ h.classes.schemas;
-        down = λ j less.
-            let Q : ℕ → Type 0 = λ v. v ≤ j in
-            set-read Q ps new.parents.items i top j 0 pe in_ps (λ e. omega arith) (λ _. h.classes.down j less);
-        inside = λ j less. let P : List ℕ → Type 0 = λ ss. get_or ss j 0 < n in subst P (sym se) (h.classes.inside j less);
-      };
-      sound = λ f constant j less.
-          let before : IsConstantOn n mid f = h.sound f constant in
-          let Q : ℕ → Type 0 = λ v. f v ≡ f j in (
-            set-read Q ps new.parents.items i top j 0 pe in_ps
-                (λ e. ap f top_is ∙ (before up (omega arith)).0 ∙ ap f up_is ∙ (before i inside).0 ∙ ap f (sym e))
-                (λ _. (before j less).0),
-            ap (λ ss. f (get_or ss j 0)) se ∙ (before j less).1,
-          );
-      falls =
-          omega (arith, h.falls, total-put ps new.parents.items i top pe in_ps, up_is);
+      classes = one.classes;
+      sound = λ f constant. one.sound f (h.sound f constant);
+      falls = omega (arith, h.falls, one.falls);
       so_far = λ j less.
           let Q : ℕ → Type 0 = λ v. parent new v ≡ v in
           set-read Q ps new.parents.items i top j 0 pe in_ps
@@ -505,4 +534,30 @@ refuted-at-last cells first second old mid settled joined h g join r = record {
   other_inside = r.second_inside;
   clash = r.clash;
   forced = λ f congruent same constant. r.forced f congruent (join f (g.sound f congruent (h.sound f congruent same constant)) same);
+}
+
+-- what follows, or can't, from joined classes does from those before
+pub closed-before :
+    (cells : List Cell) (first second : ℕ) (old mid new : Classes)
+    → FollowsFrom cells first second old mid → AreClosed cells first second mid new → AreClosed cells first second old new
+closed-before cells first second old mid new h k = record {
+  follows = record {
+    classes = k.follows.classes;
+    sound = λ f congruent same constant. k.follows.sound f congruent same (h.sound f congruent same constant);
+  };
+  settled = k.settled;
+  closed = k.closed;
+  same = k.same;
+}
+
+pub cannot-before :
+    (cells : List Cell) (first second : ℕ) (old mid : Classes)
+    → FollowsFrom cells first second old mid → CannotFollow cells first second mid → CannotFollow cells first second old
+cannot-before cells first second old mid h r = record {
+  one = r.one;
+  other = r.other;
+  one_inside = r.one_inside;
+  other_inside = r.other_inside;
+  clash = r.clash;
+  forced = λ f congruent same constant. r.forced f congruent same (h.sound f congruent same constant);
 }

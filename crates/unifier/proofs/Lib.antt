@@ -1,6 +1,7 @@
 pub mod MatchLemmas
 pub mod LayoutLemmas
 pub mod ClassLemmas
+pub mod JoiningLemmas
 pub mod PlacingLemmas
 pub mod ValueLemmas
 pub mod SolveLemmas

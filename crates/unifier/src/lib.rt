@@ -5,6 +5,7 @@ mod bindings;
 mod cells;
 mod clash;
 mod classes;
+mod joining;
 mod layout;
 mod matched;
 mod matching;
