@@ -78,7 +78,7 @@ pub fits-answer :
     → start.places.items ≡ [] → TermLaidOut start mid apart Left s first → TermLaidOut mid layout apart Right t second
     → IfOk r (λ found. MatchOption found (CannotMeet layout.cells.items first second) (IsMeeting layout apart first second))
     → IfOk r (λ found. (left_count right_count : ℕ) → VariablesBelow left_count s → VariablesBelow right_count t
-        → IfSome found (λ b. fits b left_count right_count ≡ true))
+    → IfSome found (λ b. fits b left_count right_count ≡ true))
 fits-answer (Err e) start mid layout apart first second s t none one other h = tt
 fits-answer (Ok found) start mid layout apart first second s t none one other h =
     λ left_count right_count. fits-by start mid layout apart first second left_count right_count s t found none one other h

@@ -88,13 +88,13 @@ shared_unify_apart s t b left_count right_count left right unified s_below t_bel
       ∙ ap (renamed h.names) unified.unifies
       ∙ sym (named-instance h.names right right_count (substitution_of b Right) t h.right_terms t_below),
   (λ ρ π e.
-  let general = unified.is_general ρ π e in (
-    (λ w. general.0 (h.back w)),
-    record {
-      on_left = λ v less. named-general h.names h.back left left_count v (substitution_of b Left) ρ general.0 h.left_terms less (h.left_back v less) (general.1 v);
-      on_right = λ v less. named-general h.names h.back right right_count v (substitution_of b Right) π general.0 h.right_terms less (h.right_back v less) (general.2 v);
-    },
-  )),
+      let general = unified.is_general ρ π e in (
+        (λ w. general.0 (h.back w)),
+        record {
+          on_left = λ v less. named-general h.names h.back left left_count v (substitution_of b Left) ρ general.0 h.left_terms less (h.left_back v less) (general.1 v);
+          on_right = λ v less. named-general h.names h.back right right_count v (substitution_of b Right) π general.0 h.right_terms less (h.right_back v less) (general.2 v);
+        },
+      )),
 )
 
 pub shared_unify : SharedUnify
@@ -105,19 +105,19 @@ shared_unify s t b left_count right_count left right unified s_below t_below h =
           (unified.0.unifies ∙ sym (instances_agree_below right_count (substitution_of b Right) (substitution_of b Left) t t_below (λ v less. same v)))
           ∙ sym (named-instance h.names right right_count (substitution_of b Right) t h.right_terms t_below),
       (λ ρ e.
-      let general = unified.0.is_general ρ e in (
-        (λ w. general.0 (h.back w)),
-        record {
-          on_left = λ v less. named-general h.names h.back left left_count v (substitution_of b Left) ρ general.0 h.left_terms less (h.left_back v less) (general.1 v);
-          on_right = λ v less.
-              named-general h.names h.back right right_count v (substitution_of b Right) ρ general.0 h.right_terms less (h.right_back v less)
-              (general.1 v ∙ ap (instance general.0) (sym (same v)));
-        },
-      )),
+          let general = unified.0.is_general ρ e in (
+            (λ w. general.0 (h.back w)),
+            record {
+              on_left = λ v less. named-general h.names h.back left left_count v (substitution_of b Left) ρ general.0 h.left_terms less (h.left_back v less) (general.1 v);
+              on_right = λ v less.
+                  named-general h.names h.back right right_count v (substitution_of b Right) ρ general.0 h.right_terms less (h.right_back v less)
+                  (general.1 v ∙ ap (instance general.0) (sym (same v)));
+            },
+          )),
       (λ v in_left in_right.
-      named-at h.names left left_count v (substitution_of b Left) h.left_terms in_left
-      ∙ ap (renamed h.names) (sym (same v))
-      ∙ sym (named-at h.names right right_count v (substitution_of b Right) h.right_terms in_right)),
+          named-at h.names left left_count v (substitution_of b Left) h.left_terms in_left
+          ∙ ap (renamed h.names) (sym (same v))
+          ∙ sym (named-at h.names right right_count v (substitution_of b Right) h.right_terms in_right)),
     )
 
 -- ---- sizes

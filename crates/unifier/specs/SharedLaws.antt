@@ -28,7 +28,7 @@ SharedUnifyApart =
     → AreRenamed b left_count right_count left right
     → IsUnifierApart s t (substitution left) (substitution right)
     × ((ρ π : Substitution) → IsUnifierApart s t ρ π
-      → (another : Substitution) × IsAfterBoth left right another left_count right_count ρ π)
+    → (another : Substitution) × IsAfterBoth left right another left_count right_count ρ π)
 
 -- not apart, likewise, and a variable that both lists have becomes the same in both
 abbrev pub SharedUnify : Type 0
@@ -38,7 +38,7 @@ SharedUnify =
     → AreRenamed b left_count right_count left right
     → (instance (substitution left) s ≡ instance (substitution right) t)
     × ((ρ : Substitution) → IsUnifier s t ρ
-      → (another : Substitution) × IsAfterBoth left right another left_count right_count ρ ρ)
+    → (another : Substitution) × IsAfterBoth left right another left_count right_count ρ ρ)
     × ((v : ℕ) → v < left_count → v < right_count → substitution left v ≡ substitution right v)
 
 -- their instances of literals in the variables asked for have the sizes of the unifier's

@@ -160,13 +160,7 @@ impl Classes {
 
     /// Joins the classes of two cells, and whatever must be joined then. False where two cells of one class
     /// can't have one value. A round that changes nothing shows that all is joined; it is the first one.
-    pub fn close(
-        &mut self,
-        alloc: Global,
-        cells: &[Cell],
-        first: usize,
-        second: usize,
-    ) -> Mem<bool>
+    pub fn close(&mut self, alloc: Global, cells: &[Cell], first: usize, second: usize) -> Mem<bool>
         requires classes { AreClasses (length cells.now) self.old }
         requires parts { AreOrdered cells.now }
         requires first { first < length cells.now }

@@ -22,4 +22,6 @@ pub use unifying::unify;
 
 pub mod laws;
 #[cfg(test)]
+mod pair_tests;
+#[cfg(test)]
 mod tests;

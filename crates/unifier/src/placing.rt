@@ -113,12 +113,7 @@ impl Placing {
     }
 
     /// Walks from each class to its parts, and gives those that wait for none a place on the way back.
-    fn place_parts_first(
-        &mut self,
-        alloc: Global,
-        cells: &[Cell],
-        classes: &Classes,
-    ) -> Mem<()>
+    fn place_parts_first(&mut self, alloc: Global, cells: &[Cell], classes: &Classes) -> Mem<()>
         requires classes { AreClasses (length cells.now) classes.now }
         requires parts { AreOrdered cells.now }
         requires placing { IsPlacing cells.now classes.now self.old }

@@ -1,5 +1,6 @@
 // Rows worked out by hand, and a table of small pairs against a plain unifier.
 
+ghost use Rattle.std.specs.Prelude.{◌≤◌, ◌^◌};
 ghost use Rattle.term_bank.specs.Bank.{IsOf};
 
 use super::*;
@@ -16,17 +17,17 @@ const F: u32 = 3;
 
 const G: u32 = 4;
 
-fn constant(alloc: Global, symbol: u32) -> Term {
+pub fn constant(alloc: Global, symbol: u32) -> Term {
     Term::App(symbol, Terms::new(alloc))
 }
 
-fn unary(alloc: Global, symbol: u32, argument: Term) -> Mem<Term> {
+pub fn unary(alloc: Global, symbol: u32, argument: Term) -> Mem<Term> {
     let mut arguments = Terms::new(alloc);
     arguments.push(argument)?;
     Ok(Term::App(symbol, arguments))
 }
 
-fn binary(alloc: Global, symbol: u32, first: Term, second: Term) -> Mem<Term> {
+pub fn binary(alloc: Global, symbol: u32, first: Term, second: Term) -> Mem<Term> {
     let mut arguments = Terms::new(alloc);
     arguments.push(first)?;
     arguments.push(second)?;
@@ -119,7 +120,8 @@ fn are_swapped(first: &Subst, second: &Subst) -> bool {
 /// Whether one term is X0 and the other X1.
 fn are_both_variables(first: &Term, second: &Term) -> bool {
     match (first, second) {
-        (Term::Var(one), Term::Var(other)) => (*one == 0 && *other == 1) || (*one == 1 && *other == 0),
+        (Term::Var(one), Term::Var(other)) => (*one == 0 && *other == 1)
+            || (*one == 1 && *other == 0),
         _ => false,
     }
 }
@@ -187,9 +189,18 @@ fn the_size_of_an_instance(rt: HostRuntime) -> Result<(), Fail> {
     let term = bank.intern(alloc, &mut table, &left)?;
     let b = bank.intern(alloc, &mut table, &constant(alloc, B))?;
     if let Some(found) = unify(alloc, &left, &right, true)? {
-        assert_eq!(rt; size_of_equation(&found, &bank, Side::Left, (&term, &b))?, 4);
-        assert_eq!(rt; size_of_equation(&found, &bank, Side::Left, (&term, &term))?, 6);
-        assert_eq!(rt; size_of_equation(&found, &bank, Side::Right, (&b, &term))?, 4);
+        assert_eq!(rt;
+            size_of_equation(&found, &bank, Side::Left, (&term, &b))?,
+            4
+        );
+        assert_eq!(rt;
+            size_of_equation(&found, &bank, Side::Left, (&term, &term))?,
+            6
+        );
+        assert_eq!(rt;
+            size_of_equation(&found, &bank, Side::Right, (&b, &term))?,
+            4
+        );
     } else {
         assert!(rt; false);
     }
