@@ -10,5 +10,6 @@ pub mod SizeLemmas
 pub mod RenameLemmas
 pub mod BoundLemmas
 pub mod KindLemmas
+pub mod ExampleLemmas
 pub mod SharedLemmas
 pub mod ClashLemmas

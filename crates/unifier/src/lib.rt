@@ -20,6 +20,7 @@ pub use matched::Matched;
 pub use matching::match_onto;
 pub use unifying::unify;
 
+pub mod examples;
 pub mod laws;
 #[cfg(test)]
 mod pair_tests;

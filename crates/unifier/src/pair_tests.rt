@@ -2,6 +2,8 @@
 // (benchmarks/unifying). Of ten pairs five have different constants at one place, and one has a variable
 // that would contain itself.
 
+ghost use Rattle.std.specs.Prelude.{◌<◌};
+
 use super::tests::{binary, constant, unary};
 use super::*;
 use fol_base::{Mem, Term};
