@@ -1,11 +1,15 @@
 -- The examples of matchers.
-use Rattle.std.proofs.Common.{◌≡◌, ℕ, List, [], ◌∷◌, refl, ap, sym, ◌∙◌, arith}
-use Rattle.fol_base.specs.Tree.{Tree, application, no_trees, tree_then}
+use Rattle.std.proofs.Common.{◌≡◌, ℕ, [], ◌∷◌, refl, ap, sym, ◌∙◌, arith}
+use Rattle.fol_base.specs.Tree.{Tree, variable, application}
 use Rattle.fol_base.specs.Examples.{x, a, b, f₂}
 use Rattle.unifier.specs.Matching.{IsMatched, NoMatcher}
 
+abbrev symbol : Tree → ℕ
+symbol (variable v) = 0
+symbol (application f ts) = f
+
 a-is-not-b : a ≡ b → ⊥
-a-is-not-b e = let symbols : 1 ≡ 2 = cc in absurd (omega arith)
+a-is-not-b e = let symbols : symbol a ≡ symbol b = ap symbol e in absurd (omega (arith, symbols))
 
 pub matched : IsMatched [] (f₂ (x 0) (x 0)) (f₂ a a) ((0, a) ∷ [])
 matched = record {

@@ -1,8 +1,8 @@
 -- Classes as they are joined from a list of pairs that are due.
-use Rattle.std.proofs.Common.{◌≡◌, ℕ, suc, ◌+◌, ◌*◌, ◌<◌, ◌≤◌, Bool, true, false, ◌==◌, cond, Option, None, Some, List, [], ◌∷◌, ◌++◌, length, get_or, set, refl, ap, sym, ◌∙◌, subst, arith}
-use Rattle.std.specs.Prelude.{All, IfSome, option_to_list}
+use Rattle.std.proofs.Common.{◌≡◌, ℕ, ◌+◌, ◌*◌, ◌<◌, ◌≤◌, Bool, true, false, ◌==◌, cond, Some, List, [], ◌∷◌, ◌++◌, length, set, refl, ap, sym, ◌∙◌, subst, arith}
+use Rattle.std.specs.Prelude.{All}
 use Rattle.std.proofs.lemmas.List.{length-append}
-use Rattle.std.proofs.lemmas.List.Elements.{All-append, All-nil, All-from_recursion, All-pop}
+use Rattle.std.proofs.lemmas.List.Elements.{All-append, All-from_recursion, All-pop}
 use Rattle.unifier.specs.declared.cells.Cell.{Cell}
 use Rattle.unifier.specs.declared.cells.Cell.TheVariants.{Variable, Application, NoTrees, TreeThen}
 use Rattle.unifier.specs.declared.cells.Relation.{Relation}
@@ -10,8 +10,9 @@ use Rattle.unifier.specs.declared.cells.Relation.TheVariants.{Same, Clash, Parts
 use Rattle.unifier.specs.declared.classes.Classes.{Classes}
 use Rattle.unifier.specs.Cells.{Value, cell_at, relate, IsAfterParts, AreOrdered}
 use Rattle.unifier.specs.Classes.{parent, schema, total, AreClasses, IsConstantOn, IsCongruent, PartsAgree, FollowsFrom, CannotFollow, IsLinked}
-use Rattle.unifier.specs.Joining.{IsOnShorterWay, IsShortened, ArePartsBelow, HasFallen, ClashAfter, IsMerged}
-use Rattle.unifier.proofs.ClassLemmas.{IsLifted, lifted, set-read}
+use Rattle.unifier.specs.Joining.{IsOnShorterWay, IsShortened, ArePartsBelow, HasFallen, IsMerged}
+use Rattle.unifier.proofs.ClosingLemmas.{IsLifted, lifted}
+use Rattle.unifier.proofs.ClassLemmas.{set-read}
 
 -- ---- the way up
 

@@ -1,10 +1,14 @@
 pub mod MatchLemmas
 pub mod LayoutLemmas
 pub mod ClassLemmas
+pub mod ClosingLemmas
 pub mod JoiningLemmas
 pub mod PlacingLemmas
 pub mod ValueLemmas
+pub mod CellLemmas
+pub mod OccursLemmas
 pub mod SolveLemmas
+pub mod SolvedLemmas
 pub mod UnifyLemmas
 pub mod SizeLemmas
 pub mod RenameLemmas

@@ -1,5 +1,5 @@
 -- Classes in an order in which parts come first.
-use Rattle.std.proofs.Common.{◌≡◌, ◌⊎◌, inl, inr, ℕ, zero, suc, ◌+◌, ◌<◌, ◌≤◌, Bool, true, false, Option, None, Some, List, [], ◌∷◌, ◌++◌, length, get_or, set, replicate, refl, ap, sym, ◌∙◌, subst, ⊎_elim, arith}
+use Rattle.std.proofs.Common.{◌≡◌, ℕ, zero, suc, ◌+◌, ◌<◌, ◌≤◌, Bool, true, false, Option, None, Some, List, [], ◌∷◌, ◌++◌, length, get_or, set, replicate, refl, ap, sym, ◌∙◌, subst, ⊎_elim, arith}
 use Rattle.std.specs.Prelude.{MatchBool, All}
 use Rattle.std.proofs.lemmas.List.Elements.{All-append, All-nil, All-from_recursion, All-pop}
 use Rattle.unifier.specs.declared.placing.Visit.{Visit}
@@ -14,7 +14,7 @@ use Rattle.unifier.specs.declared.placing.Sweep.TheVariants.{Stuck}
 use Rattle.unifier.specs.declared.placing.Visit.TheVariants.{Placed, Waiting, Kept}
 use Rattle.unifier.specs.Cells.{cell_at, AreOrdered, IsAfterParts}
 use Rattle.unifier.specs.Classes.{parent, schema, AreClasses}
-use Rattle.unifier.specs.Placing.{place, IsPlacedAs, Waits, HasPlace, IsPlacing, waiting, IsPlaced, HasLookUp, PartsInside, PartsBelow, parts_of, AddsParts, VisitDone, SweepDone, IsOrdering}
+use Rattle.unifier.specs.Placing.{place, IsPlacedAs, Waits, HasPlace, IsPlacing, waiting, IsPlaced, PartsInside, PartsBelow, parts_of, AddsParts, VisitDone, SweepDone, IsOrdering}
 use Rattle.unifier.proofs.LayoutLemmas.{ordered-push, cell_at-front, cell_at-last}
 use Rattle.unifier.proofs.ClassLemmas.{set-read, length-put, eq_or}
 

@@ -1,26 +1,22 @@
 -- Proofs of the laws of the substitutions into shared variables.
-use Rattle.std.proofs.Common.{◌≡◌, ◌⊎◌, ℕ, zero, suc, ◌+◌, ◌<◌, ◌≤◌, Bool, true, false, ◌&&◌, ◌==◌, not, List, [], ◌∷◌, length, map, get_or, refl, ap, ap₂, sym, ◌∙◌, subst, ⊎_elim, arith}
-use Rattle.std.specs.Prelude.{sum_by, All, IsTrue}
+use Rattle.std.proofs.Common.{◌≡◌, ℕ, zero, suc, ◌+◌, ◌<◌, ◌≤◌, Bool, true, false, ◌&&◌, ◌==◌, not, List, [], ◌∷◌, length, get_or, refl, ap, ap₂, sym, ◌∙◌, ⊎_elim, arith}
+use Rattle.std.specs.Prelude.{sum_by}
 use Rattle.std.specs.List.{AllByRecursion}
 use Rattle.std.proofs.lemmas.Bool.{cases_lt}
 use Rattle.std.proofs.lemmas.List.Sums.{sum_by-cons}
 use Rattle.std.proofs.lemmas.List.Elements.{recursion_from_All}
 use Rattle.fol_base.specs.Tree.{Tree, variable, application, Trees, no_trees, tree_then, tree_size, trees_size, VariablesBelow}
-use Rattle.fol_base.specs.Instance.{Substitution, instance, instances, substitution}
-use Rattle.fol_base.specs.InstanceLaws.{after}
+use Rattle.fol_base.specs.Instance.{Substitution, instance, substitution}
 use Rattle.fol_base.specs.Canonical.{terms_from}
 use Rattle.fol_base.specs.Clause.{TreeLiteral, LiteralVariablesBelow, literal_instance, literal_size}
 use Rattle.fol_base.specs.Ground.{literals_instance}
 use Rattle.fol_base.specs.Interpretation.{true_symbol}
 use Rattle.fol_base.specs.Kind.{is_function_term, are_function_terms, PutsFunctionTerms}
-use Rattle.fol_base.specs.Unifier.{IsUnifier, IsUnifierApart}
 use Rattle.fol_base.specs.declared.clause.Side.TheVariants.{Left, Right}
 use Rattle.fol_base.proofs.InstanceLemmas.{instances_of_instances, instances_agree_below}
-use Rattle.unifier.specs.declared.bindings.Bindings.{Bindings}
-use Rattle.unifier.specs.Bindings.{substitution_of, IsUnified}
-use Rattle.unifier.specs.Renaming.{renamed, renamed_trees, AreRenamed}
-use Rattle.unifier.specs.Laws.{are_of_one_kind}
-use Rattle.unifier.specs.SharedLaws.{IsAfterBoth, HasSizesOf, SharedUnifyApart, SharedUnify, SharedKeepSizes, SharedPutFunctionTerms}
+use Rattle.unifier.specs.Bindings.{substitution_of}
+use Rattle.unifier.specs.Renaming.{renamed, renamed_trees}
+use Rattle.unifier.specs.SharedLaws.{HasSizesOf, SharedUnifyApart, SharedUnify, SharedKeepSizes, SharedPutFunctionTerms}
 use Rattle.unifier.proofs.MatchLemmas.{terms_from-at}
 use Rattle.unifier.proofs.KindLemmas.{unifiers_put_function_terms, unifiers_apart_put_function_terms}
 

@@ -1,5 +1,5 @@
 -- One cell for each class, in an order in which parts come first.
-use Rattle.std.specs.Prelude.{◌≡◌, ◌⊎◌, ℕ, ◌+◌, ◌<◌, ◌≤◌, List, [], ◌∷◌, ◌++◌, Option, None, Some, length, slice_index_or, ⊤}
+use Rattle.std.specs.Prelude.{◌≡◌, ◌⊎◌, ℕ, ◌+◌, ◌<◌, List, [], ◌∷◌, ◌++◌, Option, None, Some, length, slice_index_or, ⊤}
 use Rattle.unifier.specs.declared.cells.Cell.{Cell}
 use Rattle.unifier.specs.declared.cells.Cell.TheVariants.{Variable, Application, NoTrees, TreeThen}
 use Rattle.unifier.specs.declared.classes.Classes.{Classes}
@@ -8,7 +8,7 @@ use Rattle.unifier.specs.declared.placing.Visit.{Visit}
 use Rattle.unifier.specs.declared.placing.Visit.TheVariants.{Placed, Waiting, Kept}
 use Rattle.unifier.specs.declared.placing.Sweep.{Sweep}
 use Rattle.unifier.specs.declared.placing.Sweep.TheVariants.{Complete, Further, Stuck}
-use Rattle.unifier.specs.Cells.{cell_at, AreOrdered, IsAfterParts}
+use Rattle.unifier.specs.Cells.{cell_at, AreOrdered}
 use Rattle.unifier.specs.Classes.{parent, schema}
 
 -- the place of a class, by its smallest cell

@@ -7,7 +7,6 @@ use Rattle.fol_base.specs.Clause.{TreeLiteral, LiteralVariablesBelow, literal_si
 use Rattle.fol_base.specs.Ground.{literals_instance}
 use Rattle.fol_base.specs.Kind.{PutsFunctionTerms}
 use Rattle.fol_base.specs.Unifier.{IsUnifier, IsUnifierApart}
-use Rattle.fol_base.specs.declared.clause.Side.{Side}
 use Rattle.fol_base.specs.declared.clause.Side.TheVariants.{Left, Right}
 use Rattle.unifier.specs.declared.bindings.Bindings.{Bindings}
 use Rattle.unifier.specs.Bindings.{substitution_of, IsUnified}

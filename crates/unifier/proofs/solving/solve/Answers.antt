@@ -1,8 +1,8 @@
-use Rattle.std.proofs.Common.{◌≡◌, Option, None, Some, length, refl, subst}
+use Rattle.std.proofs.Common.{Option, length, refl, subst}
 use Rattle.unifier.specs.declared.placing.Placing.{Placing}
 use Rattle.unifier.specs.Placing.{IsOrdering}
 use Rattle.unifier.proofs.ClassLemmas.{when-true, when-false}
-use Rattle.unifier.proofs.SolveLemmas.{Given, given-refuted, given-stuck, given-solved, given-in-order}
+use Rattle.unifier.proofs.SolvedLemmas.{Given, given-refuted, given-stuck, given-solved, given-in-order}
 use Rattle.unifier.proofs.BoundLemmas.{relocated-passes}
 use Rattle.unifier.proofs.solving.solve.Goals as goal
 

@@ -1,4 +1,4 @@
-use Rattle.std.proofs.Common.{ℕ, ◌+◌, ◌*◌, length}
+use Rattle.std.proofs.Common.{◌+◌, ◌*◌, length}
 use Rattle.unifier.specs.Classes.{total}
 use Rattle.unifier.proofs.JoiningLemmas.{AreDue}
 use Rattle.unifier.proofs.classes.Classes.join_with_parts.Given as goal

@@ -1,4 +1,4 @@
-use Rattle.std.proofs.Common.{◌≡◌, ◌<◌, length, refl, sym, subst, arith}
+use Rattle.std.proofs.Common.{length, refl, sym, subst, arith}
 use Rattle.unifier.specs.Joining.{IsMerged}
 use Rattle.unifier.specs.declared.classes.Classes.{Classes}
 use Rattle.unifier.proofs.ClassLemmas.{read}

@@ -1,4 +1,4 @@
-use Rattle.std.proofs.Common.{ℕ, ◌<◌, length}
+use Rattle.std.proofs.Common.{◌<◌, length}
 use Rattle.std.specs.Prelude.{All}
 use Rattle.unifier.proofs.PlacingLemmas.{IsWalk}
 use Rattle.unifier.proofs.placing.Placing.place_parts_first.Given as goal
