@@ -1,8 +1,8 @@
 -- Terms with different symbols at one place don't unify.
-use Rattle.std.proofs.Common.{◌≡◌, ℕ, zero, suc, ◌<◌, Bool, true, false, Option, None, List, [], ◌∷◌, length, map, get_or, refl, ap, sym, ◌∙◌, subst, arith}
+use Rattle.std.proofs.Common.{◌≡◌, ℕ, zero, suc, ◌<◌, Bool, true, false, None, List, [], ◌∷◌, length, map, get_or, refl, ap, sym, ◌∙◌, arith}
 use Rattle.std.specs.Prelude.{MatchBool, ⊤}
-use Rattle.fol_base.specs.Tree.{Tree, variable, application, Trees, no_trees, tree_then, trees_of}
-use Rattle.fol_base.specs.Instance.{Substitution, instance, instances}
+use Rattle.fol_base.specs.Tree.{Tree, application, Trees, no_trees, tree_then, trees_of}
+use Rattle.fol_base.specs.Instance.{instance, instances}
 use Rattle.fol_base.specs.Term.{tree_of}
 use Rattle.fol_base.specs.declared.term.Term.{Term}
 use Rattle.unifier.specs.Clashing.{CannotUnify, CannotUnifyAll}

@@ -1,21 +1,24 @@
 -- Layouts, as cells are added.
-use Rattle.std.proofs.Common.{◌≡◌, ◌⊎◌, inl, inr, ℕ, zero, suc, ◌+◌, ◌-◌, ◌<◌, ◌≤◌, drop-cons, Bool, true, false, ◌==◌, Option, None, Some, List, [], ◌∷◌, ◌++◌, length, map, drop, get_or, refl, ap, ap₂, sym, ◌∙◌, subst, ⊎_elim, arith, eq-eqb, append_assoc}
+use Rattle.std.proofs.Common.{◌≡◌, ◌⊎◌, inl, inr, ℕ, suc, ◌+◌, ◌-◌, ◌<◌, ◌≤◌, drop-cons, Bool, true, false, ◌&&◌, ◌==◌, Option, None, Some, List, [], ◌∷◌, ◌++◌, length, map, drop, get_or, refl, ap, ap₂, sym, ◌∙◌, subst, ⊎_elim, arith, eq-eqb, append_assoc}
 use Rattle.std.specs.Prelude.{Result, Ok, Err, IfOk, All}
-use Rattle.std.proofs.lemmas.Bool.{cases_lt, cond-true, cond-false, cases_Bool, eqb-true, true≢false}
+use Rattle.std.proofs.lemmas.Bool.{and_parts, and_from, cases_lt, cond-true, cond-false, cases_Bool, eqb-true, true≢false}
 use Rattle.std.proofs.Math.ListN.{get_or-append}
 use Rattle.std.proofs.Math.Seq.{get_or-append_seam}
 use Rattle.std.proofs.lemmas.List.{length-append, append-nil}
-use Rattle.fol_base.specs.Tree.{Tree, variable, application, Trees, no_trees, tree_then, trees_of}
+use Rattle.std.proofs.lemmas.List.Folds.{list_all-append}
+use Rattle.std.specs.List.{list_all}
+use Rattle.fol_base.specs.Tree.{Tree, variable, application, Trees, no_trees, tree_then, trees_of, tree_variables, trees_variables}
+use Rattle.fol_base.proofs.TreeLemmas.{and_left}
 use Rattle.fol_base.specs.Term.{tree_of}
 use Rattle.fol_base.specs.declared.term.Term.{Term}
-use Rattle.fol_base.specs.Instance.{Substitution, instance, instances}
+use Rattle.fol_base.specs.Instance.{Substitution, instance}
 use Rattle.fol_base.specs.declared.clause.Side.{Side}
 use Rattle.unifier.specs.declared.cells.Cell.{Cell}
 use Rattle.unifier.specs.declared.cells.Cell.TheVariants.{Variable, Application, NoTrees, TreeThen}
 use Rattle.unifier.specs.declared.layout.Place.{Place}
 use Rattle.unifier.specs.declared.layout.Layout.{Layout}
 use Rattle.unifier.specs.Cells.{Value, tree, trees, as_tree, as_trees, cell_at, value_of, is_list, is_variable, IsAfterParts, AreOrdered, HasKinds, AreKinded, IsValuation}
-use Rattle.unifier.specs.Layout.{code_of, of_side, cell_of, IsLayout, Grows, TermLaidOut, TermsLaidOut, VariableLaidOut, IsPushed}
+use Rattle.unifier.specs.Layout.{code_of, of_side, cell_of, all_pass, IsLayout, Grows, TermLaidOut, TermsLaidOut, VariableLaidOut, IsPushed}
 
 -- ---- cells
 
@@ -95,6 +98,17 @@ cell_of-back w (p ∷ ps) qs h =
     (λ other.
     cond-false (w == p.code) (Some p.cell) (cell_of w (ps ++ qs)) other
     ∙ cell_of-back w ps qs (sym (cond-false (w == p.code) (Some p.cell) (cell_of w ps) other) ∙ h))
+    (cases_Bool (w == p.code))
+
+-- a variable that has a place passes what all pass
+pub found-passes :
+    (test : ℕ → Bool) (w k : ℕ) (ps : List Place) → all_pass test ps ≡ true → cell_of w ps ≡ Some k → test w ≡ true
+found-passes test w k [] all found = cc
+found-passes test w k (p ∷ ps) all found =
+    let both = and_parts (test p.code) (all_pass test ps) all in
+    ⊎_elim
+    (λ same. ap test (eqb-true w p.code same) ∙ both.0)
+    (λ other. found-passes test w k ps both.1 (sym (cond-false (w == p.code) (Some p.cell) (cell_of w ps) other) ∙ found))
     (cases_Bool (w == p.code))
 
 grows-on : (first second third : Layout) → Grows first second → Grows second third → Grows first third
@@ -214,12 +228,18 @@ layout-variable old new w p h none code cell e places_e =
         (λ other. let wrong : None ≡ Some i = sym (cond-false (v == p.code) (Some p.cell) None other) ∙ late in absurd cc)
         (cases_Bool (v == p.code))
 
+all_pass-push :
+    (test : ℕ → Bool) (ps : List Place) (p : Place) → all_pass test ps ≡ true → test p.code ≡ true → all_pass test (ps ++ p ∷ []) ≡ true
+all_pass-push test ps p h here =
+    list_all-append (λ (q : Place). test q.code) ps (p ∷ []) ∙ and_from (all_pass test ps) (test p.code && true) h (and_from (test p.code) true here refl)
+
 pub known-variable : (l : Layout) (w k : ℕ) → IsLayout l → cell_of w l.places.items ≡ Some k → VariableLaidOut l l w k
 known-variable l w k h found = record {
   layout = h;
   grows = grows-itself l;
   inside = (h.places w k found).0;
   is_variable = (h.places w k found).1;
+  adds = λ test all here. all;
 }
 
 pub new-variable :
@@ -237,6 +257,8 @@ new-variable old new w p h none code cell e places_e = record {
       ap (λ cs. cell_at cs p.cell) e
       ∙ ap (cell_at (old.cells.items ++ Variable w ∷ [])) cell
       ∙ cell_at-last old.cells.items (Variable w);
+  adds = λ test all here.
+      ap (all_pass test) places_e ∙ all_pass-push test old.places.items p all (ap test code ∙ here);
 }
 
 -- ---- terms
@@ -256,6 +278,7 @@ variable-laid_out old new apart side v w k code h = record {
   inside = h.inside;
   kind = ap is_list h.is_variable;
   denotes = λ θ val valuation. valuation k h.inside ∙ ap (value_of θ val) h.is_variable ∙ ap (λ u. tree (θ u)) code;
+  adds = λ test all here. h.adds test all (ap test code ∙ and_left (test (code_of apart side v)) true here);
 }
 
 pushed-inside : (mid new : Layout) (c : Cell) (k : ℕ) → IsPushed mid new c k → k < length new.cells.items
@@ -282,6 +305,7 @@ application-laid_out old mid new apart side f l k ts list pushed =
           valuation k (pushed-inside mid new (Application f l) k pushed)
           ∙ ap (value_of θ val) (pushed-cell mid new (Application f l) k pushed)
           ∙ ap (λ u. tree (application f (as_trees u))) (list.denotes θ val (valuation-before θ mid new val step valuation));
+      adds = λ test all here. ap (all_pass test) pushed.places ∙ list.adds test all here;
     }
 
 -- as the code has it
@@ -302,6 +326,7 @@ no-terms-laid_out l apart side h = record {
   inside = h.filled;
   kind = ap is_list h.empty;
   denotes = λ θ val valuation. valuation 0 h.filled ∙ ap (value_of θ val) h.empty;
+  adds = λ test all here. all;
 }
 
 pub more-terms-laid_out :
@@ -322,6 +347,11 @@ more-terms-laid_out old first_old mid new apart side t ts rest first k list one 
           ∙ ap₂ (λ u v. trees (tree_then (as_tree u) (as_trees v)))
           (one.denotes θ val (valuation-before θ mid new val step valuation))
           (list.denotes θ val (valuation-before θ first_old new val steps valuation));
+      adds = λ test all here.
+          let own : ℕ → Bool = λ v. test (code_of apart side v) in
+          let both = and_parts (list_all own (tree_variables t)) (list_all own (trees_variables ts))
+          (sym (list_all-append own (tree_variables t) (trees_variables ts)) ∙ here) in
+          ap (all_pass test) pushed.places ∙ one.adds test (list.adds test all both.1) both.0;
     }
 
 -- what a cell of a smaller layout is in the larger one

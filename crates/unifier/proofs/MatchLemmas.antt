@@ -1,11 +1,12 @@
 -- The walk finds exactly the matchers that have the pairs handed in.
-use Rattle.std.proofs.Common.{◌≡◌, ◌↔◌, ℕ, zero, suc, ◌+◌, ◌<◌, get_or, Bool, true, false, ◌||◌, ◌==◌, cond, Option, None, Some, List, [], ◌∷◌, ◌++◌, length, map, append-nil, append_assoc, refl, ap, ap₂, sym, ◌∙◌, subst, ⊎_elim, arith, eq-eqb}
+use Rattle.std.proofs.Common.{◌≡◌, ◌↔◌, ℕ, zero, suc, ◌+◌, ◌<◌, get_or, Bool, true, false, ◌&&◌, ◌||◌, ◌==◌, cond, Option, None, Some, List, [], ◌∷◌, ◌++◌, length, map, append-nil, append_assoc, refl, ap, ap₂, sym, ◌∙◌, subst, ⊎_elim, arith, eq-eqb}
 use Rattle.std.proofs.lemmas.Bool.Decides.{nat_tests}
 use Rattle.std.specs.Prelude.{nat_lt, option_and_then, unwrap_or, if◌then◌else◌}
-use Rattle.std.specs.List.{AllByRecursion, list_any}
+use Rattle.std.specs.List.{list_any, list_all}
 use Rattle.std.proofs.lemmas.List.{map-append}
-use Rattle.std.proofs.lemmas.Bool.{cond-true, cond-false, cases_Bool, eqb-true, true≢false}
-use Rattle.fol_base.specs.Tree.{Tree, variable, application, Trees, no_trees, tree_then, trees_of, tree_eq, tree_variables, trees_variables}
+use Rattle.std.proofs.lemmas.List.Folds.{list_all-append, list_all-map}
+use Rattle.std.proofs.lemmas.Bool.{and_parts, and_from, cond-true, cond-false, cases_Bool, eqb-true, true≢false}
+use Rattle.fol_base.specs.Tree.{Tree, variable, application, Trees, no_trees, tree_then, trees_of, tree_eq, tree_variables, trees_variables, VariablesBelow}
 use Rattle.fol_base.specs.Instance.{Substitution, instance, instances, substitution}
 use Rattle.fol_base.specs.Canonical.{terms_from}
 use Rattle.fol_base.proofs.TreeLemmas.{tree_eq-refl, tree_eq-true, and_left, and_right}
@@ -13,6 +14,8 @@ use Rattle.unifier.specs.Matching.{variables_of, term_for, by_pairs, are_below, 
 use Rattle.fol_base.specs.Term.{tree_of}
 use Rattle.unifier.specs.declared.matched.Pair.{Pair}
 use Rattle.unifier.specs.Walk.{pair_of, met, walk, walk_all}
+use Rattle.unifier.proofs.RenameLemmas.{ltb-is}
+use Rattle.unifier.proofs.BoundLemmas.{below-pass}
 
 abbrev pub Pairs : Type 0
 Pairs = List (ℕ × Tree)
@@ -310,13 +313,46 @@ pub answer-none :
 answer-none ps so_far qs t u false e w h = subst (λ (rs : Pairs). NoMatcher rs t u) e (walk-none ps t u w)
 answer-none ps so_far qs t u true e w h = absurd (true≢false h)
 
+-- ---- counts above the variables
+
+further-pass :
+    (test : ℕ → Bool) (vs ws : List ℕ)
+    → list_all test vs ≡ true → list_all test ws ≡ true → list_all test (with_further vs ws) ≡ true
+further-pass test vs [] h k = h
+further-pass test vs (w ∷ ws) h k =
+    let both = and_parts (test w) (list_all test ws) k in
+    further-pass test (if has_pair vs w then vs else vs ++ w ∷ []) ws (either (has_pair vs w) both.0) both.1
+  where
+    either : (known : Bool) → test w ≡ true → list_all test (if known then vs else vs ++ w ∷ []) ≡ true
+    either true here = h
+    either false here =
+        list_all-append test vs (w ∷ []) ∙ and_from (list_all test vs) (test w && true) h (and_from (test w) true here refl)
+
+matched-below :
+    (n : ℕ) (so_far found : Pairs) (t u : Tree)
+    → IsMatched so_far t u found → VariablesBelow n t → are_below n so_far ≡ true → are_below n found ≡ true
+matched-below n so_far found t u h below all =
+    let test : ℕ → Bool = λ v. nat_lt v n in
+    let number : ℕ × Tree → ℕ = λ (p : ℕ × Tree). p.0 in
+    sym (list_all-map test number found)
+    ∙ ap (list_all test) h.covers
+    ∙ further-pass test (variables_of so_far) (tree_variables t) (list_all-map test number so_far ∙ all)
+    (below-pass test n t (λ v less. ltb-is v n less) below)
+
+pub answer-below :
+    (ps so_far qs : Pairs) (t u : Tree) (fits : Bool)
+    → ps ≡ so_far → walk ps t u ≡ (if fits then Some qs else None) → fits ≡ true
+    → (n : ℕ) → VariablesBelow n t → are_below n so_far ≡ true → are_below n qs ≡ true
+answer-below ps so_far qs t u fits e w h n below all =
+    matched-below n so_far qs t u (answer-found ps so_far qs t u fits e w h) below all
+
 -- ---- the substitution of the pairs
 
 unwrapped : (v : ℕ) (o : Option Tree) (t : Tree) → o ≡ Some t → unwrap_or o (variable v) ≡ t
 unwrapped v None t e = cc
 unwrapped v (Some u) t e = cc
 
-terms_from-at : (first n v : ℕ) (σ : Substitution) (d : Tree) → v < n → get_or (terms_from first n σ) v d ≡ σ (first + v)
+pub terms_from-at : (first n v : ℕ) (σ : Substitution) (d : Tree) → v < n → get_or (terms_from first n σ) v d ≡ σ (first + v)
 terms_from-at first zero v σ d h = absurd (omega arith)
 terms_from-at first (suc n) zero σ d h = let e : first ≡ first + 0 = omega arith in ap σ e
 terms_from-at first (suc n) (suc v) σ d h =

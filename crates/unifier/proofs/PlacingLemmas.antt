@@ -1,6 +1,8 @@
 -- Classes in an order in which parts come first.
-use Rattle.std.proofs.Common.{◌≡◌, ◌⊎◌, inl, inr, ℕ, zero, suc, ◌+◌, ◌<◌, ◌≤◌, Bool, true, false, Option, None, Some, List, [], ◌∷◌, ◌++◌, length, get_or, set, replicate, refl, ap, sym, ◌∙◌, subst, ⊎_elim, arith}
-use Rattle.std.specs.Prelude.{MatchBool}
+use Rattle.std.proofs.Common.{◌≡◌, ℕ, zero, suc, ◌+◌, ◌<◌, ◌≤◌, Bool, true, false, Option, None, Some, List, [], ◌∷◌, ◌++◌, length, get_or, set, replicate, refl, ap, sym, ◌∙◌, subst, ⊎_elim, arith}
+use Rattle.std.specs.Prelude.{MatchBool, All}
+use Rattle.std.proofs.lemmas.List.Elements.{All-append, All-nil, All-from_recursion, All-pop}
+use Rattle.unifier.specs.declared.placing.Visit.{Visit}
 use Rattle.std.proofs.lemmas.Bool.{cases_lt}
 use Rattle.std.specs.Option.{is_some}
 use Rattle.std.proofs.lemmas.List.{length-append, get_or_default}
@@ -12,7 +14,7 @@ use Rattle.unifier.specs.declared.placing.Sweep.TheVariants.{Stuck}
 use Rattle.unifier.specs.declared.placing.Visit.TheVariants.{Placed, Waiting, Kept}
 use Rattle.unifier.specs.Cells.{cell_at, AreOrdered, IsAfterParts}
 use Rattle.unifier.specs.Classes.{parent, schema, AreClasses}
-use Rattle.unifier.specs.Placing.{place, IsPlacedAs, Waits, HasPlace, IsPlacing, waiting, IsPlaced, HasLookUp, PartsInside, VisitDone, SweepDone, IsOrdering}
+use Rattle.unifier.specs.Placing.{place, IsPlacedAs, Waits, HasPlace, IsPlacing, waiting, IsPlaced, PartsInside, PartsBelow, parts_of, AddsParts, VisitDone, SweepDone, IsOrdering}
 use Rattle.unifier.proofs.LayoutLemmas.{ordered-push, cell_at-front, cell_at-last}
 use Rattle.unifier.proofs.ClassLemmas.{set-read, length-put, eq_or}
 
@@ -304,3 +306,76 @@ pub stuck-at-last :
     (cells : List Cell) (c : Classes) (old new : Placing)
     → IsPlacing cells c new → SweepDone cells c old new Stuck → IsOrdering cells c None
 stuck-at-last cells c old new h done = (new, h, done.0, done.1)
+
+-- ---- the walk to the parts
+
+pub record IsWalk (cells : List Cell) (c : Classes) (old : Placing) (now : Placing) (due : List ℕ) (entered : List Bool) : Type 0 where
+  pub placing : IsPlacing cells c now
+  pub falls : waiting now.places.items ≤ waiting old.places.items
+  pub below : All (λ i. i < length cells) due
+  pub marks : length entered ≡ length cells
+
+-- a visit leaves no more classes waiting
+visit-falls :
+    (cells : List Cell) (c : Classes) (old new : Placing) (i : ℕ) (v : Visit)
+    → VisitDone cells c old new i v → waiting new.places.items ≤ waiting old.places.items
+visit-falls cells c old new i Placed h = omega (arith, h.2)
+visit-falls cells c old new i Waiting h = let P : Placing → Type 0 = λ p. waiting new.places.items ≤ waiting p.places.items in subst P h.0 (omega arith)
+visit-falls cells c old new i Kept h = let P : Placing → Type 0 = λ p. waiting new.places.items ≤ waiting p.places.items in subst P h.0 (omega arith)
+
+pub walk-visits :
+    (cells : List Cell) (c : Classes) (old now new : Placing) (i : ℕ) (v : Visit) (due rest : List ℕ) (entered : List Bool)
+    → IsWalk cells c old now due entered → due ≡ rest ++ i ∷ [] → IsPlacing cells c new → VisitDone cells c now new i v
+    → IsWalk cells c old new rest entered × (i < length cells)
+walk-visits cells c old now new i v due rest entered h e placing done =
+    let both = All-pop (λ j. j < length cells) due rest (Some i) e h.below in (
+      record { placing = placing; falls = omega (arith, h.falls, visit-falls cells c now new i v done); below = both.0; marks = h.marks },
+      both.1,
+    )
+
+parts-of-below : (n : ℕ) (c : Classes) (x : Cell) → AreClasses n c → PartsBelow n x → All (λ i. i < n) (parts_of c x)
+parts-of-below n c (Variable w) h below = All-nil (λ i. i < n)
+parts-of-below n c (Application f l) h below =
+    All-from_recursion (λ i. i < n) (parent c l ∷ []) (omega (arith, h.down l below, below), tt)
+parts-of-below n c NoTrees h below = All-nil (λ i. i < n)
+parts-of-below n c (TreeThen a b) h below =
+    All-from_recursion (λ i. i < n) (parent c a ∷ parent c b ∷ [])
+    (omega (arith, h.down a below.0, below.0), (omega (arith, h.down b below.1, below.1), tt))
+
+pub below-push : (n : ℕ) (xs new : List ℕ) (i : ℕ) → All (λ j. j < n) xs → i < n → new ≡ xs ++ i ∷ [] → All (λ j. j < n) new
+below-push n xs new i h inside e =
+    let P : ℕ → Type 0 = λ j. j < n in
+    subst (All P) (sym e) (All-append P xs (i ∷ []) h (All-from_recursion P (i ∷ []) (inside, tt)))
+
+pub below-last : (n : ℕ) (xs rest : List ℕ) (i : ℕ) → All (λ j. j < n) xs → xs ≡ rest ++ i ∷ [] → i < n
+below-last n xs rest i h e = (All-pop (λ j. j < n) xs rest (Some i) e h).1
+
+after-below : (n s : ℕ) (x : Cell) → s < n → IsAfterParts s x → PartsBelow n x
+after-below n s (Variable w) inside after = tt
+after-below n s (Application f l) inside after = omega (arith, after)
+after-below n s NoTrees inside after = tt
+after-below n s (TreeThen a b) inside after = (omega (arith, after.0), omega (arith, after.1))
+
+pub schema-below :
+    (cells : List Cell) (c : Classes) (i s : ℕ)
+    → AreClasses (length cells) c → AreOrdered cells → i < length cells → s ≡ schema c i → PartsBelow (length cells) (cell_at cells s)
+schema-below cells c i s h ordered inside e =
+    let P : ℕ → Type 0 = λ k. k < length cells in
+    let s_in : s < length cells = subst P (sym e) (h.inside i inside) in
+    after-below (length cells) s (cell_at cells s) s_in (ordered s s_in)
+
+pub walk-enters :
+    (cells : List Cell) (c : Classes) (old now : Placing) (i s : ℕ) (rest again due : List ℕ) (entered marked : List Bool)
+    → AreClasses (length cells) c → AreOrdered cells → IsWalk cells c old now rest entered → i < length cells → s ≡ schema c i
+    → again ≡ rest ++ i ∷ [] → AddsParts c (cell_at cells s) again due → length marked ≡ length entered → IsWalk cells c old now due marked
+walk-enters cells c old now i s rest again due entered marked classes ordered h inside s_is e e₂ marks =
+    let P : ℕ → Type 0 = λ j. j < length cells in
+    record {
+      placing = h.placing;
+      falls = h.falls;
+      below =
+          subst (All P) (sym e₂)
+          (All-append P again (parts_of c (cell_at cells s)) (below-push (length cells) rest again i h.below inside e)
+          (parts-of-below (length cells) c (cell_at cells s) classes (schema-below cells c i s classes ordered inside s_is)));
+      marks = marks ∙ h.marks;
+    }

@@ -1,15 +1,12 @@
 -- The two sides' substitutions into shared variables.
-use Rattle.std.proofs.Common.{◌≡◌, ◌⊎◌, inl, inr, ℕ, zero, suc, ◌+◌, ◌-◌, ◌*◌, ◌/◌, ◌%◌, ◌<◌, ◌≤◌, max, Bool, true, false, ◌&&◌, ◌==◌, cond, Option, None, Some, List, [], ◌∷◌, ◌++◌, length, map, take, get_or, slice_index, refl, ap, ap₂, sym, ◌∙◌, subst, ⊎_elim, arith, eq-eqb}
+use Rattle.std.proofs.Common.{◌≡◌, ◌⊎◌, inl, inr, ℕ, zero, suc, ◌+◌, ◌-◌, ◌*◌, ◌/◌, ◌%◌, ◌<◌, ◌≤◌, max, Bool, true, false, ◌&&◌, ◌==◌, cond, Option, None, Some, List, [], ◌∷◌, ◌++◌, length, map, get_or, slice_index, refl, ap, ap₂, sym, ◌∙◌, subst, ⊎_elim, arith, eq-eqb}
 use Rattle.std.specs.Prelude.{nat_lt}
-use Rattle.std.specs.List.{list_all}
-use Rattle.unifier.specs.declared.layout.Place.{Place}
 use Rattle.std.proofs.lemmas.Bool.Decides.{nat_tests}
-use Rattle.std.proofs.lemmas.Bool.{cases_lt, cond-true, cond-false, cases_Bool, eqb-true, true≢false}
+use Rattle.std.proofs.lemmas.Bool.{cases_lt, cond-true, cond-false, cases_Bool}
 use Rattle.std.proofs.lemmas.List.{length-append, map-append, append_assoc, append-nil}
 use Rattle.std.proofs.Math.ListN.{get_or-append}
 use Rattle.std.proofs.Math.Seq.{get_or-append_seam}
 use Rattle.fol_base.specs.Tree.{Tree, variable, application, Trees, no_trees, tree_then, trees_of, list_of, tree_eq, VariablesBelow, AllVariablesBelow}
-use Rattle.fol_base.specs.Instance.{Substitution, instance, instances}
 use Rattle.fol_base.specs.Term.{tree_of}
 use Rattle.fol_base.specs.declared.term.Term.{Term}
 use Rattle.fol_base.proofs.TreeLemmas.{tree_eq-refl, tree_eq-true, and_left, and_right, trees_of-list_of}
@@ -18,14 +15,15 @@ use Rattle.unifier.specs.declared.cells.Cell.TheVariants.{Variable, Application,
 use Rattle.fol_base.specs.declared.clause.Side.{Side}
 use Rattle.fol_base.specs.declared.clause.Side.TheVariants.{Left, Right}
 use Rattle.unifier.specs.declared.bindings.Bindings.{Bindings}
-use Rattle.unifier.specs.Cells.{Value, tree, trees, as_tree, as_trees, cell_at, value_of, is_list, is_variable_of, list_parts, IsAfterParts, AreOrdered, IsValuation}
+use Rattle.unifier.specs.Cells.{Value, as_tree, as_trees, cell_at, value_of, is_list, is_variable_of, list_parts, IsAfterParts, AreOrdered}
 use Rattle.unifier.specs.InOrder.{InOrder}
 use Rattle.unifier.specs.Layout.{cell_of, code_of}
 use Rattle.unifier.specs.Bindings.{value_at, bound, joint, substitution_of}
-use Rattle.unifier.specs.Renaming.{renamed, renamed_trees, side_terms, BoundBelow, AreRenamed, code_count, is_within, fits, is_shared, is_used, rank, AreNames, HasNames}
+use Rattle.unifier.specs.Renaming.{renamed, renamed_trees, side_terms, AreRenamed, code_count, is_within, fits, is_shared, rank, AreNames, HasNames}
 use Rattle.unifier.proofs.ValueLemmas.{value_at-valuation}
+use Rattle.unifier.proofs.LayoutLemmas.{found-passes}
 
-abbrev side_count : ℕ → ℕ → Side → ℕ
+abbrev pub side_count : ℕ → ℕ → Side → ℕ
 side_count l r Left = l
 side_count l r Right = r
 
@@ -252,27 +250,27 @@ renamed-free b names w t none is = is ∙ ap (λ o. renamed names (bound b.cells
 halves : (w : ℕ) → ((w % 2 ≡ 0) × (2 * (w / 2) ≡ w)) ⊎ ((w % 2 ≡ 1) × (2 * (w / 2) + 1 ≡ w))
 halves w = ⊎_elim (λ less. inl (omega arith, omega arith)) (λ ge. inr (omega arith, omega arith)) (cases_lt (w % 2) 1)
 
-ltb-is : (a b : ℕ) → a < b → nat_lt a b ≡ true
+pub ltb-is : (a b : ℕ) → a < b → nat_lt a b ≡ true
 ltb-is a b h = grind (arith, nat_tests)
 
 ltb-less : (a b : ℕ) → nat_lt a b ≡ true → a < b
 ltb-less a b h = grind (arith, nat_tests)
 
 -- a side's variable below its count is used
-code-used :
-    (apart : Bool) (l r : ℕ) (side : Side) (v : ℕ) → v < side_count l r side → is_used apart l r (code_of apart side v) ≡ true
-code-used true l r Left v h =
+pub code-within :
+    (apart : Bool) (l r : ℕ) (side : Side) (v : ℕ) → v < side_count l r side → is_within apart l r (code_of apart side v) ≡ true
+code-within true l r Left v h =
     let e : (2 * v) % 2 ≡ 0 = omega arith in
     let half : (2 * v) / 2 ≡ v = omega arith in
     cond-true ((2 * v) % 2 == 0) (nat_lt ((2 * v) / 2) l) (nat_lt ((2 * v) / 2) r) (eq-eqb ((2 * v) % 2) 0 e)
     ∙ ltb-is ((2 * v) / 2) l (omega (arith, half, h))
-code-used true l r Right v h =
+code-within true l r Right v h =
     let e : (2 * v + 1) % 2 ≡ 1 = omega arith in
     let half : (2 * v + 1) / 2 ≡ v = omega arith in
     cond-false ((2 * v + 1) % 2 == 0) (nat_lt ((2 * v + 1) / 2) l) (nat_lt ((2 * v + 1) / 2) r) (ap (λ m. m == 0) e)
     ∙ ltb-is ((2 * v + 1) / 2) r (omega (arith, half, h))
-code-used false l r Left v h = ltb-is v (max l r) (omega (arith, h))
-code-used false l r Right v h = ltb-is v (max l r) (omega (arith, h))
+code-within false l r Left v h = ltb-is v (max l r) (omega (arith, h))
+code-within false l r Right v h = ltb-is v (max l r) (omega (arith, h))
 
 -- and has a number below the count of numbers
 pub code-inside : (apart : Bool) (l r : ℕ) (side : Side) (v : ℕ) → v < side_count l r side → code_of apart side v < code_count apart l r
@@ -281,52 +279,43 @@ code-inside true l r Right v h = omega (arith, h)
 code-inside false l r Left v h = omega (arith, h)
 code-inside false l r Right v h = omega (arith, h)
 
--- each number is some side's variable's
-side-of : (apart : Bool) (w : ℕ) → (side : Side) × (v : ℕ) × (code_of apart side v ≡ w)
-side-of true w = ⊎_elim (λ h. (Left, w / 2, h.1)) (λ h. (Right, w / 2, h.1)) (halves w)
-side-of false w = (Left, w, refl)
-
 -- a used number is that of a side's variable below its count
-used-side :
-    (apart : Bool) (l r w : ℕ) → is_used apart l r w ≡ true
+within-side :
+    (apart : Bool) (l r w : ℕ) → is_within apart l r w ≡ true
     → (side : Side) × (v : ℕ) × (v < side_count l r side) × (code_of apart side v ≡ w)
-used-side true l r w h =
+within-side true l r w h =
     ⊎_elim
     (λ p. (Left, w / 2, ltb-less (w / 2) l (sym (cond-true (w % 2 == 0) (nat_lt (w / 2) l) (nat_lt (w / 2) r) (eq-eqb (w % 2) 0 p.0)) ∙ h), p.1))
     (λ p. (Right, w / 2, ltb-less (w / 2) r (sym (cond-false (w % 2 == 0) (nat_lt (w / 2) l) (nat_lt (w / 2) r) (ap (λ m. m == 0) p.0)) ∙ h), p.1))
     (halves w)
-used-side false l r w h =
+within-side false l r w h =
     let less : w < max l r = ltb-less w (max l r) h in
     ⊎_elim (λ in_left. (Left, w, in_left, refl)) (λ ge. (Right, w, omega arith, refl)) (cases_lt w l)
 
-bound-side :
-    (b : Bindings) (l r : ℕ) (side : Side)
-    → BoundBelow b Left l → BoundBelow b Right r → BoundBelow b side (side_count l r side)
-bound-side b l r Left one other = one
-bound-side b l r Right one other = other
+-- and is below the count of numbers
+within-inside : (apart : Bool) (l r w : ℕ) → is_within apart l r w ≡ true → w < code_count apart l r
+within-inside apart l r w h =
+    let at = within-side apart l r w h in
+    let P : ℕ → Type 0 = λ u. u < code_count apart l r in
+    subst P at.3 (code-inside apart l r at.0 at.1 at.2)
 
--- a variable that has a cell is used
-bound-used :
-    (b : Bindings) (l r w k : ℕ) → BoundBelow b Left l → BoundBelow b Right r → cell_of w b.places.items ≡ Some k
-    → (is_used b.apart l r w ≡ true) × (w < code_count b.apart l r)
-bound-used b l r w k one other found =
-    let there = side-of b.apart w in
-    let less : there.1 < side_count l r there.0 =
-    bound-side b l r there.0 one other there.1 k (ap (λ u. cell_of u b.places.items) there.2 ∙ found) in (
-      ap (is_used b.apart l r) (sym there.2) ∙ code-used b.apart l r there.0 there.1 less,
-      let P : ℕ → Type 0 = λ u. u < code_count b.apart l r in subst P there.2 (code-inside b.apart l r there.0 there.1 less),
-    )
+-- so is a variable that has a cell
+bound-within :
+    (b : Bindings) (l r w k : ℕ) → fits b l r ≡ true → cell_of w b.places.items ≡ Some k
+    → (is_within b.apart l r w ≡ true) × (w < code_count b.apart l r)
+bound-within b l r w k h found =
+    let within : is_within b.apart l r w ≡ true = found-passes (is_within b.apart l r) w k b.places.items h found in
+    (within, within-inside b.apart l r w within)
 
 pub has-names :
-    (b : Bindings) (l r : ℕ) (names : List ℕ) → BoundBelow b Left l → BoundBelow b Right r → AreNames b l r names → HasNames b names
-has-names b l r names one other h w k found = omega (arith, (bound-used b l r w k one other found).1, h.many)
+    (b : Bindings) (l r : ℕ) (names : List ℕ) → fits b l r ≡ true → AreNames b l r names → HasNames b names
+has-names b l r names h are w k found = omega (arith, (bound-within b l r w k h found).1, are.many)
 
 -- ---- the renaming can be undone
 
 pub record Naming (b : Bindings) (l : ℕ) (r : ℕ) (names : List ℕ) : Type 0 where
   pub order : InOrder b.cells.items b.places.items
-  pub left : BoundBelow b Left l
-  pub right : BoundBelow b Right r
+  pub counts : fits b l r ≡ true
   pub are : AreNames b l r names
 
 abbrev count_of : Bindings → ℕ → ℕ → ℕ
@@ -371,11 +360,11 @@ cell-shared :
     → (is_shared b l r w ≡ true) × (w < code_count b.apart l r)
 cell-shared b l r names k w h inside is =
     let found : cell_of w b.places.items ≡ Some k = h.order.own k w inside (sym is) in
-    let used = bound-used b l r w k h.left h.right found in
+    let within = bound-within b l r w k h.counts found in
     let itself : joint b w ≡ variable w =
     ap (λ o. bound b.cells.items o w) found ∙ ap as_tree (own-is b.cells.items k (Variable w) h.order.ordered inside is) in (
-      and-true (is_used b.apart l r w) (tree_eq (joint b w) (variable w)) used.0 (ap (λ t. tree_eq t (variable w)) itself ∙ tree_eq-refl (variable w)),
-      used.1,
+      and-true (is_within b.apart l r w) (tree_eq (joint b w) (variable w)) within.0 (ap (λ t. tree_eq t (variable w)) itself ∙ tree_eq-refl (variable w)),
+      within.1,
     )
 
 -- what is renamed leads back, and has its variables below the count
@@ -416,15 +405,15 @@ undone b l r names (suc limit) k h less inside =
 
 undone-joint :
     (b : Bindings) (l r : ℕ) (names : List ℕ) (w : ℕ) (o : Option ℕ)
-    → Naming b l r names → cell_of w b.places.items ≡ o → is_used b.apart l r w ≡ true → w < code_count b.apart l r
+    → Naming b l r names → cell_of w b.places.items ≡ o → is_within b.apart l r w ≡ true → w < code_count b.apart l r
     → (renamed (back_of b l r) (renamed (slice_index names) (bound b.cells.items o w)) ≡ bound b.cells.items o w)
     × VariablesBelow (count_of b l r) (renamed (slice_index names) (bound b.cells.items o w))
-undone-joint b l r names w None h e used inside =
+undone-joint b l r names w None h e within inside =
     let shared : is_shared b l r w ≡ true =
-    and-true (is_used b.apart l r w) (tree_eq (joint b w) (variable w)) used (sym (itself-free b w e)) in
+    and-true (is_within b.apart l r w) (tree_eq (joint b w) (variable w)) within (sym (itself-free b w e)) in
     let name = shared-name b l r names w h inside shared in
     (ap variable name.0, name.1)
-undone-joint b l r names w (Some k) h e used inside =
+undone-joint b l r names w (Some k) h e within inside =
     let all = undone b l r names (suc k) k h (omega arith) (h.order.terms w k e).0 in
     (all.0, all.2)
 
@@ -435,7 +424,7 @@ undone-side :
     × VariablesBelow (count_of b l r) (renamed (slice_index names) (substitution_of b side v))
 undone-side b l r names side v h less =
     undone-joint b l r names (code_of b.apart side v) (cell_of (code_of b.apart side v) b.places.items) h refl
-    (code-used b.apart l r side v less) (code-inside b.apart l r side v less)
+    (code-within b.apart l r side v less) (code-inside b.apart l r side v less)
 
 no-gaps :
     (b : Bindings) (l r : ℕ) (names : List ℕ) (k : ℕ)
@@ -444,9 +433,9 @@ no-gaps :
 no-gaps b l r names k h less =
     let there = rank-of (is_shared b l r) (code_count b.apart l r) k less in
     let m : ℕ = there.0 in
-    let used : is_used b.apart l r m ≡ true = and_left (is_used b.apart l r m) (tree_eq (joint b m) (variable m)) there.2 in
-    let itself : joint b m ≡ variable m = tree_eq-true (joint b m) (variable m) (and_right (is_used b.apart l r m) (tree_eq (joint b m) (variable m)) there.2) in
-    let at = used-side b.apart l r m used in
+    let within : is_within b.apart l r m ≡ true = and_left (is_within b.apart l r m) (tree_eq (joint b m) (variable m)) there.2 in
+    let itself : joint b m ≡ variable m = tree_eq-true (joint b m) (variable m) (and_right (is_within b.apart l r m) (tree_eq (joint b m) (variable m)) there.2) in
+    let at = within-side b.apart l r m within in
     let name : slice_index names m ≡ k = h.are.each m (omega (arith, h.are.many, there.1)) ∙ there.3 in (
       at.0,
       at.1,
@@ -464,10 +453,10 @@ by-side b l r names k Right v less e = inr (v, less, e)
 
 pub are-renamed :
     (b : Bindings) (l r : ℕ) (names : List ℕ) (left right : List Tree)
-    → InOrder b.cells.items b.places.items → BoundBelow b Left l → BoundBelow b Right r → AreNames b l r names
+    → InOrder b.cells.items b.places.items → fits b l r ≡ true → AreNames b l r names
     → left ≡ side_terms b (slice_index names) Left l → right ≡ side_terms b (slice_index names) Right r → AreRenamed b l r left right
-are-renamed b l r names left right order one other are left_is right_is =
-    let h : Naming b l r names = record { order = order; left = one; right = other; are = are } in
+are-renamed b l r names left right order h are left_is right_is =
+    let h : Naming b l r names = record { order = order; counts = h; are = are } in
     record {
       names = slice_index names;
       back = back_of b l r;
@@ -480,48 +469,3 @@ are-renamed b l r names left right order one other are left_is right_is =
       right_below = λ v less. (undone-side b l r names Right v h less).1;
       no_gaps = λ k less. let at = no-gaps b l r names k h less in by-side b l r (slice_index names) k at.0 at.1 at.2 at.3;
     }
-
--- ---- what `fits` tells
-
-found-within :
-    (apart : Bool) (l r w k : ℕ) (ps : List Place)
-    → cell_of w ps ≡ Some k → list_all (λ (e : Place). is_within apart l r e.code) ps ≡ true → is_within apart l r w ≡ true
-found-within apart l r w k [] found all = cc
-found-within apart l r w k (p ∷ ps) found all =
-    let rest : Bool = list_all (λ (e : Place). is_within apart l r e.code) ps in
-    ⊎_elim
-    (λ same. ap (is_within apart l r) (eqb-true w p.code same) ∙ and_left (is_within apart l r p.code) rest all)
-    (λ other.
-    found-within apart l r w k ps (sym (cond-false (w == p.code) (Some p.cell) (cell_of w ps) other) ∙ found)
-    (and_right (is_within apart l r p.code) rest all))
-    (cases_Bool (w == p.code))
-
-within-left : (apart : Bool) (l r v : ℕ) → is_within apart l r (code_of apart Left v) ≡ true → v < l
-within-left true l r v h =
-    let e : (2 * v) % 2 ≡ 0 = omega arith in
-    let half : (2 * v) / 2 ≡ v = omega arith in
-    omega (
-      arith,
-      half,
-      ltb-less ((2 * v) / 2) l
-          (sym (cond-true ((2 * v) % 2 == 0) (nat_lt ((2 * v) / 2) l) (nat_lt ((2 * v) / 2) r) (eq-eqb ((2 * v) % 2) 0 e)) ∙ h),
-    )
-within-left false l r v h = ltb-less v l (and_left (nat_lt v l) (nat_lt v r) h)
-
-within-right : (apart : Bool) (l r v : ℕ) → is_within apart l r (code_of apart Right v) ≡ true → v < r
-within-right true l r v h =
-    let e : (2 * v + 1) % 2 ≡ 1 = omega arith in
-    let half : (2 * v + 1) / 2 ≡ v = omega arith in
-    omega (
-      arith,
-      half,
-      ltb-less ((2 * v + 1) / 2) r
-          (sym (cond-false ((2 * v + 1) % 2 == 0) (nat_lt ((2 * v + 1) / 2) l) (nat_lt ((2 * v + 1) / 2) r) (ap (λ m. m == 0) e)) ∙ h),
-    )
-within-right false l r v h = ltb-less v r (and_right (nat_lt v l) (nat_lt v r) h)
-
-pub fits-left : (b : Bindings) (l r : ℕ) → fits b l r ≡ true → BoundBelow b Left l
-fits-left b l r h v k found = within-left b.apart l r v (found-within b.apart l r (code_of b.apart Left v) k b.places.items found h)
-
-pub fits-right : (b : Bindings) (l r : ℕ) → fits b l r ≡ true → BoundBelow b Right r
-fits-right b l r h v k found = within-right b.apart l r v (found-within b.apart l r (code_of b.apart Right v) k b.places.items found h)

@@ -1,18 +1,18 @@
 -- Sizes of cells and of instances, which stop at a greatest number.
-use Rattle.std.proofs.Common.{◌≡◌, ◌⊎◌, ℕ, zero, suc, ◌+◌, ◌-◌, ◌^◌, ◌<◌, ◌≤◌, min, Bool, true, false, Option, None, Some, List, [], ◌∷◌, ◌++◌, length, map, take, get_or, refl, ap, ap₂, sym, ◌∙◌, subst, ⊎_elim, arith}
+use Rattle.std.proofs.Common.{◌≡◌, ℕ, ◌+◌, ◌<◌, None, Some, List, [], ◌∷◌, ◌++◌, length, map, take, get_or, refl, ap, sym, ◌∙◌, subst, ⊎_elim, arith}
 use Rattle.std.specs.Prelude.{sum_by}
 use Rattle.std.proofs.lemmas.Bool.{cases_lt}
 use Rattle.std.proofs.lemmas.List.{length-append, map-append, get_or_default}
 use Rattle.std.proofs.lemmas.List.Sums.{sum_by-append, sum_by-cons}
 use Rattle.std.proofs.Math.ListN.{get_or-append}
 use Rattle.std.proofs.Math.Seq.{get_or-append_seam}
-use Rattle.fol_base.specs.Tree.{Tree, variable, application, Trees, no_trees, tree_then, tree_size, trees_size, trees_of}
+use Rattle.fol_base.specs.Tree.{Tree, variable, tree_size, trees_size, trees_of}
 use Rattle.fol_base.specs.Instance.{Substitution, instance, instances}
 use Rattle.fol_base.specs.Clause.{TreeLiteral, literal_size, literal_instance}
 use Rattle.fol_base.specs.Ground.{literals_instance}
 use Rattle.fol_base.specs.Term.{tree_of}
 use Rattle.fol_base.specs.declared.term.Term.{Term}
-use Rattle.fol_base.proofs.ListLemmas.{map-take_more_item, take_more_item}
+use Rattle.fol_base.proofs.ListLemmas.{map-take_more_item}
 use Rattle.fol_base.proofs.TreeLemmas.{trees_size-push, instances-trees_of}
 use Rattle.term_bank.specs.declared.bank.Bank.{Bank}
 use Rattle.term_bank.specs.declared.literal.BankLit.{BankLit}
@@ -21,13 +21,13 @@ use Rattle.unifier.specs.declared.cells.Cell.{Cell}
 use Rattle.unifier.specs.declared.cells.Cell.TheVariants.{Variable, Application, NoTrees, TreeThen}
 use Rattle.unifier.specs.declared.layout.Place.{Place}
 use Rattle.unifier.specs.declared.bindings.Bindings.{Bindings}
-use Rattle.unifier.specs.Cells.{Value, tree, trees, as_tree, as_trees, cell_at, value_of, is_list, IsAfterParts, AreOrdered, HasKinds, AreKinded, IsValuation}
+use Rattle.unifier.specs.Cells.{Value, tree, trees, as_tree, as_trees, cell_at, value_of, IsAfterParts, AreOrdered, HasKinds, AreKinded, IsValuation}
 use Rattle.unifier.specs.InOrder.{InOrder}
 use Rattle.unifier.specs.Layout.{cell_of}
 use Rattle.unifier.specs.Bindings.{value_at, bound, joint}
 use Rattle.unifier.specs.Sizes.{value_size, stopped, AreSizes, size_by}
 use Rattle.unifier.proofs.ValueLemmas.{value_at-valuation}
-use Rattle.unifier.proofs.SolveLemmas.{list-value, tree-value}
+use Rattle.unifier.proofs.CellLemmas.{list-value, tree-value}
 
 -- ---- sizes that stop
 

@@ -5,13 +5,12 @@ use Rattle.std.proofs.lemmas.Bool.{cond-true, cond-false}
 use Rattle.fol_base.specs.Tree.{Tree, variable, application, Trees, no_trees, tree_then}
 use Rattle.fol_base.specs.Instance.{Substitution, instance, instances}
 use Rattle.fol_base.specs.Unifier.{IsUnifier, IsUnifierApart, IsMostGeneralUnifier, IsMostGeneralUnifierApart}
-use Rattle.fol_base.specs.declared.clause.Side.{Side}
 use Rattle.fol_base.specs.declared.clause.Side.TheVariants.{Left, Right}
 use Rattle.unifier.specs.declared.layout.Layout.{Layout}
 use Rattle.unifier.specs.declared.bindings.Bindings.{Bindings}
-use Rattle.unifier.specs.Cells.{Value, tree, trees, AreOrdered, IsValuation}
-use Rattle.unifier.specs.Layout.{code_of, of_side, Grows, IsLayout, TermLaidOut}
-use Rattle.unifier.specs.Bindings.{value_at, joint, substitution_of, IsUnified, CannotMeet, Meets, IsMeeting}
+use Rattle.unifier.specs.Cells.{Value, tree, AreOrdered, IsValuation}
+use Rattle.unifier.specs.Layout.{of_side, TermLaidOut}
+use Rattle.unifier.specs.Bindings.{value_at, joint, IsUnified, CannotMeet, Meets, IsMeeting}
 use Rattle.unifier.proofs.ValueLemmas.{value_at-valuation}
 use Rattle.unifier.proofs.LayoutLemmas.{denotes-kept}
 

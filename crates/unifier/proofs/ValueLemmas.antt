@@ -1,15 +1,13 @@
 -- Values of cells, and the theorem: what is closed and in order is a most general unifier.
-use Rattle.std.proofs.Common.{◌≡◌, ◌⊎◌, inl, inr, ℕ, zero, suc, ◌+◌, ◌<◌, ◌≤◌, Bool, true, false, ◌==◌, Option, None, Some, List, [], ◌∷◌, ◌++◌, length, map, get_or, refl, ap, ap₂, sym, ◌∙◌, subst, ⊎_elim, arith}
-use Rattle.std.specs.Prelude.{unwrap_or}
-use Rattle.std.proofs.lemmas.Bool.{cases_lt, cond-true, cond-false, cases_Bool, eqb-true, true≢false}
-use Rattle.std.proofs.lemmas.List.{length-append, append-nil, append_assoc}
+use Rattle.std.proofs.Common.{◌≡◌, ℕ, zero, suc, ◌+◌, ◌<◌, List, [], ◌∷◌, ◌++◌, length, refl, ap, ap₂, sym, ◌∙◌, subst, arith}
+use Rattle.std.proofs.lemmas.List.{length-append}
 use Rattle.std.proofs.Math.ListN.{get_or-append}
 use Rattle.std.proofs.Math.Seq.{get_or-append_seam}
-use Rattle.fol_base.specs.Tree.{Tree, variable, application, Trees, no_trees, tree_then}
+use Rattle.fol_base.specs.Tree.{Tree, variable, application, no_trees, tree_then}
 use Rattle.fol_base.specs.Instance.{Substitution, instance, instances}
 use Rattle.unifier.specs.declared.cells.Cell.{Cell}
 use Rattle.unifier.specs.declared.cells.Cell.TheVariants.{Variable, Application, NoTrees, TreeThen}
-use Rattle.unifier.specs.Cells.{Value, tree, trees, as_tree, as_trees, cell_at, value_of, is_list, IsAfterParts, AreOrdered, IsValuation}
+use Rattle.unifier.specs.Cells.{Value, tree, trees, as_tree, as_trees, cell_at, value_of, IsAfterParts, AreOrdered, IsValuation}
 use Rattle.unifier.specs.Bindings.{value_in, values_after, value_at}
 
 -- ---- the values of cells, one after another

@@ -1,6 +1,7 @@
 -- What a unifier is: the substitutions that its cells stand for.
-use Rattle.std.specs.Prelude.{◌≡◌, ℕ, Bool, true, false, List, [], ◌∷◌, ◌++◌, Option, None, Some, slice_index_or}
-use Rattle.fol_base.specs.Tree.{Tree, variable, no_trees}
+use Rattle.std.specs.Prelude.{◌≡◌, ℕ, Bool, true, false, ◌==◌, List, [], ◌∷◌, ◌++◌, Option, None, Some, slice_index_or}
+use Rattle.std.specs.List.{list_any}
+use Rattle.fol_base.specs.Tree.{Tree, variable, no_trees, tree_variables}
 use Rattle.fol_base.specs.Instance.{Substitution, instance}
 use Rattle.fol_base.specs.Unifier.{IsUnifier, IsUnifierApart, IsMostGeneralUnifier, IsMostGeneralUnifierApart}
 use Rattle.fol_base.specs.declared.clause.Side.{Side}
@@ -10,7 +11,7 @@ use Rattle.unifier.specs.declared.layout.Layout.{Layout}
 use Rattle.unifier.specs.declared.layout.Place.{Place}
 use Rattle.unifier.specs.declared.bindings.Bindings.{Bindings}
 use Rattle.unifier.specs.Cells.{Value, trees, as_tree, value_of, IsValuation}
-use Rattle.unifier.specs.Layout.{cell_of, of_side}
+use Rattle.unifier.specs.Layout.{cell_of, code_of, of_side, all_pass}
 
 -- the value at a place of a list
 abbrev pub value_in : List Value → ℕ → Value
@@ -48,6 +49,18 @@ IsUnified false s t None = (σ : Substitution) → IsUnifier s t σ → ⊥
 IsUnified false s t (Some b) =
     IsMostGeneralUnifier s t (substitution_of b Left) × ((v : ℕ) → substitution_of b Right v ≡ substitution_of b Left v)
 
+-- a variable that stands in the tree
+abbrev pub occurs : ℕ → Tree → Bool
+occurs v t = list_any (λ w. w == v) (tree_variables t)
+
+-- a variable that doesn't stand in its side's tree stands for itself, by its number among the variables of both sides; where
+-- the sides aren't apart, one that stands in neither tree
+abbrev pub LeavesOthers : Bool → Tree → Tree → Bindings → Type 0
+LeavesOthers true s t b =
+    ((v : ℕ) → occurs v s ≡ false → substitution_of b Left v ≡ variable (code_of true Left v))
+    × ((v : ℕ) → occurs v t ≡ false → substitution_of b Right v ≡ variable (code_of true Right v))
+LeavesOthers false s t b = (v : ℕ) → occurs v s ≡ false → occurs v t ≡ false → substitution_of b Left v ≡ variable v
+
 -- no substitution gives the two cells one value
 abbrev pub CannotMeet : List Cell → ℕ → ℕ → Type 0
 CannotMeet cells first second = (θ : Substitution) (val : ℕ → Value) → IsValuation θ cells val → val first ≡ val second → ⊥
@@ -61,6 +74,9 @@ pub record Meets (cells : List Cell) (first : ℕ) (second : ℕ) (σ : Substitu
       (θ : Substitution) (other : ℕ → Value) → IsValuation θ cells other → other first ≡ other second
       → (w : ℕ) → θ w ≡ instance θ (σ w)
 
--- the bindings found, with the sides apart or not
+-- the bindings found, with the sides apart or not; the variables that have places are those laid out
 abbrev pub IsMeeting : Layout → Bool → ℕ → ℕ → Bindings → Type 0
-IsMeeting layout apart first second b = (b.apart ≡ apart) × Meets layout.cells.items first second (joint b)
+IsMeeting layout apart first second b =
+    (b.apart ≡ apart)
+    × Meets layout.cells.items first second (joint b)
+    × ((test : ℕ → Bool) → all_pass test b.places.items ≡ all_pass test layout.places.items)

@@ -1,6 +1,6 @@
 -- Terms laid out as cells. A cell is a term or a list of terms, and names the cells of its parts, which come before it.
 use Rattle.std.specs.Prelude.{◌≡◌, ℕ, ◌<◌, Bool, true, false, ◌==◌, Option, None, Some, List, length, slice_index_or, if◌then◌else◌, ⊤}
-use Rattle.fol_base.specs.Tree.{Tree, variable, application, Trees, no_trees, tree_then}
+use Rattle.fol_base.specs.Tree.{Tree, application, Trees, no_trees, tree_then}
 use Rattle.fol_base.specs.Instance.{Substitution}
 use Rattle.unifier.specs.declared.cells.Cell.{Cell}
 use Rattle.unifier.specs.declared.cells.Cell.TheVariants.{Variable, Application, NoTrees, TreeThen}

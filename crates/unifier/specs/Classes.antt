@@ -1,5 +1,5 @@
 -- Classes of cells that must have one value, closed under parts.
-use Rattle.std.specs.Prelude.{◌≡◌, ℕ, ◌+◌, ◌<◌, ◌≤◌, Bool, true, false, List, [], ◌∷◌, length, slice_index, ⊤}
+use Rattle.std.specs.Prelude.{◌≡◌, ℕ, ◌+◌, ◌<◌, ◌≤◌, false, List, [], ◌∷◌, length, slice_index, ⊤}
 use Rattle.unifier.specs.declared.cells.Cell.{Cell}
 use Rattle.unifier.specs.declared.cells.Relation.{Relation}
 use Rattle.unifier.specs.declared.cells.Relation.TheVariants.{Same, Clash, Parts}

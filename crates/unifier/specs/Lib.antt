@@ -4,6 +4,7 @@ pub mod Cells
 pub mod Layout
 pub mod InOrder
 pub mod Classes
+pub mod Joining
 pub mod Placing
 pub mod Bindings
 pub mod Solving
@@ -11,3 +12,4 @@ pub mod Sizes
 pub mod Renaming
 pub mod Clashing
 pub mod Laws
+pub mod SharedLaws

@@ -1,5 +1,5 @@
 -- One cell for each class, in an order in which parts come first.
-use Rattle.std.specs.Prelude.{◌≡◌, ◌⊎◌, ℕ, ◌+◌, ◌<◌, ◌≤◌, List, [], ◌∷◌, Option, None, Some, length, slice_index_or, ⊤}
+use Rattle.std.specs.Prelude.{◌≡◌, ◌⊎◌, ℕ, ◌+◌, ◌<◌, List, [], ◌∷◌, ◌++◌, Option, None, Some, length, slice_index_or, ⊤}
 use Rattle.unifier.specs.declared.cells.Cell.{Cell}
 use Rattle.unifier.specs.declared.cells.Cell.TheVariants.{Variable, Application, NoTrees, TreeThen}
 use Rattle.unifier.specs.declared.classes.Classes.{Classes}
@@ -8,7 +8,7 @@ use Rattle.unifier.specs.declared.placing.Visit.{Visit}
 use Rattle.unifier.specs.declared.placing.Visit.TheVariants.{Placed, Waiting, Kept}
 use Rattle.unifier.specs.declared.placing.Sweep.{Sweep}
 use Rattle.unifier.specs.declared.placing.Sweep.TheVariants.{Complete, Further, Stuck}
-use Rattle.unifier.specs.Cells.{cell_at, AreOrdered, IsAfterParts}
+use Rattle.unifier.specs.Cells.{cell_at, AreOrdered}
 use Rattle.unifier.specs.Classes.{parent, schema}
 
 -- the place of a class, by its smallest cell
@@ -66,6 +66,23 @@ PartsInside c p (Variable w) = ⊤
 PartsInside c p (Application f l) = HasLookUp c p l
 PartsInside c p NoTrees = ⊤
 PartsInside c p (TreeThen a b) = HasLookUp c p a × HasLookUp c p b
+
+-- a cell's parts are below a number
+abbrev pub PartsBelow : ℕ → Cell → Type 0
+PartsBelow n (Variable w) = ⊤
+PartsBelow n (Application f l) = l < n
+PartsBelow n NoTrees = ⊤
+PartsBelow n (TreeThen a b) = (a < n) × (b < n)
+
+-- the smallest cells of a cell's parts' classes
+abbrev pub parts_of : Classes → Cell → List ℕ
+parts_of c (Variable w) = []
+parts_of c (Application f l) = parent c l ∷ []
+parts_of c NoTrees = []
+parts_of c (TreeThen a b) = parent c a ∷ parent c b ∷ []
+
+abbrev pub AddsParts : Classes → Cell → List ℕ → List ℕ → Type 0
+AddsParts c x old new = new ≡ old ++ parts_of c x
 
 -- what a visit to a cell has done: a class has got its place, and the others keep theirs; or it waits; or nothing was to do
 abbrev pub VisitDone : List Cell → Classes → Placing → Placing → ℕ → Visit → Type 0

@@ -5,24 +5,19 @@ use Rattle.fol_base.specs.Instance.{instance, instances}
 use Rattle.fol_base.specs.Canonical.{terms_from}
 use Rattle.fol_base.specs.declared.clause.Side.{Side}
 use Rattle.fol_base.specs.declared.clause.Side.TheVariants.{Left, Right}
-use Rattle.std.specs.List.{list_all}
-use Rattle.unifier.specs.declared.layout.Place.{Place}
 use Rattle.unifier.specs.declared.bindings.Bindings.{Bindings}
-use Rattle.unifier.specs.Layout.{cell_of, code_of}
+use Rattle.unifier.specs.Layout.{cell_of, all_pass}
 use Rattle.unifier.specs.Bindings.{joint, substitution_of}
 
--- each of a side's variables that is bound has a number below the side's count
-abbrev pub BoundBelow : Bindings → Side → ℕ → Type 0
-BoundBelow b side count = (v k : ℕ) → cell_of (code_of b.apart side v) b.places.items ≡ Some k → v < count
-
--- the variable of that number is below its side's count; where the sides aren't apart, it is a variable of both
+-- the variable of that number is below its side's count; where the sides aren't apart, it is a variable of both, and below
+-- one of the counts
 abbrev pub is_within : Bool → ℕ → ℕ → ℕ → Bool
 is_within true left_count right_count w = if w % 2 == 0 then nat_lt (w / 2) left_count else nat_lt (w / 2) right_count
-is_within false left_count right_count w = nat_lt w left_count && nat_lt w right_count
+is_within false left_count right_count w = nat_lt w (max left_count right_count)
 
 -- all variables that are bound are
 abbrev pub fits : Bindings → ℕ → ℕ → Bool
-fits b left_count right_count = list_all (λ (e : Place). is_within b.apart left_count right_count e.code) b.places.items
+fits b left_count right_count = all_pass (is_within b.apart left_count right_count) b.places.items
 
 -- each variable becomes the variable of another number
 abbrev pub renamed : (ℕ → ℕ) → Tree → Tree
@@ -56,14 +51,9 @@ abbrev pub code_count : Bool → ℕ → ℕ → ℕ
 code_count true left_count right_count = 2 * max left_count right_count
 code_count false left_count right_count = max left_count right_count
 
--- the variable of that number is one of the first ones of its side
-abbrev pub is_used : Bool → ℕ → ℕ → ℕ → Bool
-is_used true left_count right_count w = if w % 2 == 0 then nat_lt (w / 2) left_count else nat_lt (w / 2) right_count
-is_used false left_count right_count w = nat_lt w (max left_count right_count)
-
--- a variable that is used and stands for itself is shared
+-- a variable below its count that stands for itself is shared
 abbrev pub is_shared : Bindings → ℕ → ℕ → ℕ → Bool
-is_shared b left_count right_count w = is_used b.apart left_count right_count w && tree_eq (joint b w) (variable w)
+is_shared b left_count right_count w = is_within b.apart left_count right_count w && tree_eq (joint b w) (variable w)
 
 -- how many numbers below n pass the test
 abbrev pub rank : (ℕ → Bool) → ℕ → ℕ

@@ -1,5 +1,5 @@
 -- The variables' cells, at the places of their classes.
-use Rattle.std.specs.Prelude.{◌≡◌, ℕ, List, map, unwrap_or, All}
+use Rattle.std.specs.Prelude.{◌≡◌, List, map, unwrap_or, All}
 use Rattle.unifier.specs.declared.layout.Place.{Place}
 use Rattle.unifier.specs.declared.classes.Classes.{Classes}
 use Rattle.unifier.specs.declared.placing.Placing.{Placing}

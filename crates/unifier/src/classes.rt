@@ -99,7 +99,7 @@ impl Classes {
     }
 
     /// Puts a class below a smaller one.
-    fn link(&mut self, cells: &[Cell], low: usize, high: usize)
+    pub(crate) fn link(&mut self, cells: &[Cell], low: usize, high: usize)
         requires classes { AreClasses (length cells.now) self.old }
         requires order { low < high }
         requires inside { high < length cells.now }
@@ -159,16 +159,19 @@ impl Classes {
     }
 
     /// Joins the classes of two cells, and whatever must be joined then. False where two cells of one class
-    /// can't have one value.
-    pub fn close(&mut self, cells: &[Cell], first: usize, second: usize) -> bool
+    /// can't have one value. A round that changes nothing shows that all is joined; it is the first one.
+    pub fn close(&mut self, alloc: Global, cells: &[Cell], first: usize, second: usize) -> Mem<bool>
         requires classes { AreClasses (length cells.now) self.old }
         requires parts { AreOrdered cells.now }
         requires first { first < length cells.now }
         requires second { second < length cells.now }
-        ensures { MatchBool result
+        ensures { IfOk result (λ closed. MatchBool closed
             (AreClosed cells.now first second self.old self.new)
-            (CannotFollow cells.now first second self.old) }
+            (CannotFollow cells.now first second self.old)) }
     {
+        if !self.join_with_parts(alloc, cells, first, second)? {
+            return Ok(false);
+        }
         loop {
             self.settle(cells);
             let joined = self.join(cells, first, second);
@@ -176,10 +179,10 @@ impl Classes {
                 Step::Joined => {}
                 Step::Unchanged => {
                     if !joined {
-                        return true;
+                        return Ok(true);
                     }
                 }
-                Step::Refuted => return false,
+                Step::Refuted => return Ok(false),
             }
         }
     }

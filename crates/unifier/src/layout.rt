@@ -1,6 +1,6 @@
 // Laying terms out as cells.
 
-ghost use Rattle.std.specs.Prelude.{◌≡◌, ℕ, ◌≤◌, ◌<◌, ◌-◌, length, map, IfOk, false};
+ghost use Rattle.std.specs.Prelude.{◌≡◌, ℕ, ◌≤◌, ◌<◌, ◌-◌, [], length, map, IfOk, false};
 ghost use Rattle.fol_base.specs.Tree.{trees_of};
 ghost use Rattle.fol_base.specs.Term.{tree_of};
 ghost use Rattle.unifier.specs.Layout.{cell_of, code_of};
@@ -29,7 +29,8 @@ impl Layout {
 
     /// The empty list alone.
     pub fn new(alloc: Global) -> Mem<Layout>
-        ensures { IfOk result IsLayout }
+        ensures layout { IfOk result IsLayout }
+        ensures no_places { IfOk result (λ layout. layout.places.items ≡ []) }
     {
         let mut cells = Vec::new(alloc);
         cells.push(Cell::NoTrees)?;

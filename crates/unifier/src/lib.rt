@@ -5,6 +5,7 @@ mod bindings;
 mod cells;
 mod clash;
 mod classes;
+mod joining;
 mod layout;
 mod matched;
 mod matching;
@@ -19,6 +20,9 @@ pub use matched::Matched;
 pub use matching::match_onto;
 pub use unifying::unify;
 
+pub mod examples;
 pub mod laws;
+#[cfg(test)]
+mod pair_tests;
 #[cfg(test)]
 mod tests;

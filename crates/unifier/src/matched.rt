@@ -75,30 +75,19 @@ impl<'a> Matched<'a> {
     }
 
     /// The substitution of that length. A variable without a pair stands for itself. The condition is that
-    /// each variable of a pair has a number below `count`, as `fits` tells.
-    pub fn subst(&self, alloc: Global, count: u32) -> Mem<Subst>
+    /// each variable of a pair has a number below `count`, as it has after `match_onto` where `count` is
+    /// above the variables of the pattern and of the pairs handed in.
+    pub fn subst(&self, count: u32) -> Mem<Subst>
         requires { are_below count self.now ≡ true }
         ensures terms { IfOk result (λ made. made ≡ terms_from 0 count (by_pairs self.now)) }
         ensures pairs { IfOk result (λ made. HasPairs self.now (substitution made)) }
     {
-        let _ = &self.pairs;
+        let alloc = *self.pairs.allocator();
         let mut items = Vec::with_capacity(alloc, count as usize)?;
         for variable in 0..count {
             items.push(self.term_or_variable(alloc, variable)?)?;
         }
         Ok(Terms::from_vec(items))
-    }
-
-    /// Whether each variable of a pair has a number below `count`.
-    pub fn fits(&self, count: u32) -> bool
-        ensures { result ≡ are_below count self.now }
-    {
-        for pair in self.pairs.as_slice() {
-            if pair.variable >= count {
-                return false;
-            }
-        }
-        true
     }
 
     /// A copy of the variable's term, or the variable.

@@ -1,9 +1,9 @@
 // Matching: what turns a pattern into a target.
 
-ghost use Rattle.std.specs.Prelude.{◌≡◌, ℕ, Bool, None, Some, map, IfOk, IfSome, IsTrue, MatchOption, if◌then◌else◌};
-ghost use Rattle.fol_base.specs.Tree.{trees_of};
+ghost use Rattle.std.specs.Prelude.{◌≡◌, ℕ, Bool, true, None, Some, map, IfOk, IfSome, IsTrue, MatchOption, if◌then◌else◌};
+ghost use Rattle.fol_base.specs.Tree.{trees_of, VariablesBelow};
 ghost use Rattle.fol_base.specs.Term.{tree_of};
-ghost use Rattle.unifier.specs.Matching.{IsMatched, NoMatcher, term_for};
+ghost use Rattle.unifier.specs.Matching.{IsMatched, NoMatcher, are_below, term_for};
 ghost use Rattle.unifier.specs.Laws.{AreFunctionPairs, are_of_one_kind};
 ghost use Rattle.unifier.specs.Walk.{met, walk, walk_all};
 
@@ -13,7 +13,8 @@ use std::alloc::Global;
 
 /// The matcher that has the pairs of `so_far` and one pair for each further variable of the pattern.
 /// None exactly where no matcher has all of them. The target's subterms are borrowed, not copied.
-/// Function terms in give function terms out.
+/// Function terms in give function terms out, and a number above the variables of the pattern and of the
+/// pairs handed in is above those of the pairs found.
 pub fn match_onto<'a>(
     alloc: Global,
     pattern: &Term,
@@ -23,6 +24,8 @@ pub fn match_onto<'a>(
     ensures found { IfOk result (λ found. MatchOption found
         (NoMatcher so_far.now (tree_of pattern.now) (tree_of target.now))
         (IsMatched so_far.now (tree_of pattern.now) (tree_of target.now))) }
+    ensures below { IfOk result (λ found. (count : ℕ) → VariablesBelow count (tree_of pattern.now)
+        → are_below count so_far.now ≡ true → IfSome found (λ pairs. are_below count pairs ≡ true)) }
     ensures function_terms { IfOk result (λ found. (is_predicate : ℕ → Bool)
         → IsTrue (are_of_one_kind is_predicate (tree_of pattern.now) (tree_of target.now))
         → AreFunctionPairs is_predicate so_far.now → IfSome found (AreFunctionPairs is_predicate)) }

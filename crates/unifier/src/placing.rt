@@ -1,6 +1,7 @@
 // Putting the classes into an order in which parts come first.
 
-ghost use Rattle.std.specs.Prelude.{◌≡◌, ℕ, ◌<◌, None, Some, true, length, IfOk, OnOk, MatchOption, slice_set};
+ghost use Rattle.std.specs.Prelude.{◌≡◌, ℕ, ◌<◌, ◌≤◌, None, Some, true, length, IfOk, OnOk, MatchOption, slice_set};
+ghost use Rattle.unifier.specs.Placing.{AddsParts, PartsBelow};
 
 use crate::cells::Cell;
 use crate::classes::Classes;
@@ -36,6 +37,22 @@ pub enum Visit {
     Kept,
 }
 
+/// Adds the smallest cells of a cell's parts' classes.
+fn push_parts(due: &mut Vec<usize>, classes: &Classes, cell: Cell) -> Mem<()>
+    requires parts { PartsBelow (length classes.now.parents.items) cell }
+    ensures { OnOk result (AddsParts classes.now cell due.old.items due.new.items) }
+{
+    match cell {
+        Cell::Variable(_) | Cell::NoTrees => {}
+        Cell::Application(_, list) => due.push(classes.parents[list])?,
+        Cell::TreeThen(first, rest) => {
+            due.push(classes.parents[first])?;
+            due.push(classes.parents[rest])?;
+        }
+    }
+    Ok(())
+}
+
 impl Placing {
     ghost use Rattle.unifier.specs.Cells.{AreOrdered};
     ghost use Rattle.unifier.specs.Classes.{parent, AreClasses};
@@ -48,9 +65,12 @@ impl Placing {
       SweepDone,
       VisitDone,
       Waits,
+      waiting,
     };
 
-    /// The classes in an order in which parts come first. None where some contain each other.
+    /// The classes in an order in which parts come first. None where some contain each other. One sweep in
+    /// the order of the cells is enough for many terms. Else the walk from each class to its parts places
+    /// all that can be placed, and a last sweep tells which it is.
     pub fn order(alloc: Global, cells: &[Cell], classes: &Classes) -> Mem<Option<Placing>>
         requires classes { AreClasses (length cells.now) classes.now }
         requires parts { AreOrdered cells.now }
@@ -63,7 +83,7 @@ impl Placing {
         loop {
             match placing.sweep(cells, classes)? {
                 Sweep::Complete => return Ok(Some(placing)),
-                Sweep::Further => {}
+                Sweep::Further => placing.place_parts_first(alloc, cells, classes)?,
                 Sweep::Stuck => return Ok(None),
             }
         }
@@ -90,6 +110,34 @@ impl Placing {
             return Ok(Sweep::Complete);
         }
         Ok(if placed { Sweep::Further } else { Sweep::Stuck })
+    }
+
+    /// Walks from each class to its parts, and gives those that wait for none a place on the way back.
+    fn place_parts_first(&mut self, alloc: Global, cells: &[Cell], classes: &Classes) -> Mem<()>
+        requires classes { AreClasses (length cells.now) classes.now }
+        requires parts { AreOrdered cells.now }
+        requires placing { IsPlacing cells.now classes.now self.old }
+        ensures placing { OnOk result (IsPlacing cells.now classes.now self.new) }
+        ensures falls { OnOk result (waiting self.new.places.items ≤ waiting self.old.places.items) }
+    {
+        let mut entered = vec![in alloc; false; cells.len()]?;
+        let mut due = Vec::with_capacity(alloc, cells.len())?;
+        for cell in 0..cells.len() {
+            due.push(cell)?;
+        }
+        // A class is entered once: then it is due again, behind its parts, of which there are at most two.
+        for _ in 0..cells.len().saturating_mul(4) {
+            let Some(cell) = due.pop() else {
+                return Ok(());
+            };
+            let visit = self.visit(cells, classes, cell)?;
+            if matches!(visit, Visit::Waiting) && !entered[cell] {
+                entered[cell] = true;
+                due.push(cell)?;
+                push_parts(&mut due, classes, cells[classes.schemas[cell]])?;
+            }
+        }
+        Ok(())
     }
 
     /// Gives a class its place where it has none and its parts have theirs.

@@ -15,24 +15,17 @@ use crate::bindings::Bindings;
 use crate::cells::Cell;
 use crate::layout::{code, find_place};
 use fol_base::{Mem, Side, Term};
-use std::alloc::Global;
 use term_bank::{Bank, BankLit};
 
 impl Bindings {
     /// The size of a side's literals after the unifier: the occurrences of symbols and variables in both
     /// sides of each, stopping at u64's last value. The instance isn't built.
-    pub fn instance_size(
-        &self,
-        alloc: Global,
-        bank: &Bank,
-        side: Side,
-        literals: &[BankLit],
-    ) -> Mem<u64>
+    pub fn instance_size(&self, bank: &Bank, side: Side, literals: &[BankLit]) -> Mem<u64>
         requires { AreLiteralsOf bank.now literals.now }
         ensures { IfOk result (λ size. size
             ≡ stopped (sum_by literal_size (literals_instance (substitution_of self.now side) (literals_in bank.now literals.now)))) }
     {
-        let sizes = self.cell_sizes(alloc)?;
+        let sizes = self.cell_sizes()?;
         let mut total: u64 = 0;
         for literal in literals {
             let left = self.term_size(sizes.as_slice(), side, bank.tree(&literal.left));
@@ -43,10 +36,10 @@ impl Bindings {
     }
 
     /// The sizes of the cells, each from those of its parts.
-    fn cell_sizes(&self, alloc: Global) -> Mem<Vec<u64>>
+    fn cell_sizes(&self) -> Mem<Vec<u64>>
         ensures { IfOk result (λ sizes. AreSizes self.now.cells.items sizes.items (length self.now.cells.items)) }
     {
-        let mut sizes = Vec::with_capacity(alloc, self.cells.len())?;
+        let mut sizes = Vec::with_capacity(*self.cells.allocator(), self.cells.len())?;
         for cell in 0..self.cells.len() {
             let size = size_from_parts(self.cells[cell], sizes.as_slice());
             sizes.push(size)?;

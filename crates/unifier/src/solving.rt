@@ -32,7 +32,7 @@ pub fn solve(
 {
     let cells = layout.cells.as_slice();
     let mut classes = Classes::new(alloc, cells.len())?;
-    if !classes.close(cells, first, second) {
+    if !classes.close(alloc, cells, first, second)? {
         return Ok(None);
     }
     match Placing::order(alloc, cells, &classes)? {

@@ -13,7 +13,6 @@ ghost use Rattle.unifier.specs.Renaming.{
   code_count,
   fits,
   is_shared,
-  is_used,
   is_within,
   renamed,
   renamed_trees,
@@ -30,21 +29,22 @@ impl Bindings {
     /// The two substitutions into shared variables, for the first `left_vars` variables of the left side
     /// and the first `right_vars` of the right one. The shared variables have the numbers from 0 on,
     /// without gaps. The condition is that each variable that is bound has a number below its side's count,
-    /// as `fits` tells.
-    pub fn substs(&self, alloc: Global, left_vars: u32, right_vars: u32) -> Mem<(Subst, Subst)>
+    /// as it has after `unify` where the counts are above the variables of its terms; `fits` tells it too.
+    pub fn substs(&self, left_vars: u32, right_vars: u32) -> Mem<(Subst, Subst)>
         requires fits { fits self.now left_vars right_vars ≡ true }
         requires left_room { left_vars ≤ 2 ^ 31 }
         requires right_room { right_vars ≤ 2 ^ 31 }
         ensures { IfOk result (λ made. AreRenamed self.now left_vars right_vars made.0 made.1) }
     {
+        let alloc = *self.cells.allocator();
         let names = self.names(alloc, left_vars, right_vars)?;
         let left = self.side(alloc, names.as_slice(), Side::Left, left_vars)?;
         let right = self.side(alloc, names.as_slice(), Side::Right, right_vars)?;
         Ok((left, right))
     }
 
-    /// Whether each variable that is bound has a number below its side's count; below both counts where
-    /// the sides aren't taken apart.
+    /// Whether each variable that is bound has a number below its side's count; below one of both counts
+    /// where the sides aren't taken apart, since a variable is one of both sides then.
     pub fn fits(&self, left_vars: u32, right_vars: u32) -> bool
         ensures { result ≡ fits self.now left_vars right_vars }
     {
@@ -80,11 +80,11 @@ impl Bindings {
         if self.apart { 2 * most } else { most }
     }
 
-    /// Whether a variable is used and stands for itself.
+    /// Whether a variable below its count stands for itself.
     fn is_shared(&self, code: u64, left_vars: u32, right_vars: u32) -> bool
         ensures { result ≡ is_shared self.now left_vars right_vars code }
     {
-        is_used(self.apart, code, left_vars, right_vars) && self.stands_for_itself(code)
+        is_within(self.apart, code, left_vars, right_vars) && self.stands_for_itself(code)
     }
 
     /// Whether a variable stands for itself.
@@ -181,23 +181,10 @@ fn no_term(alloc: Global) -> Term
     Term::App(0, Terms::new(alloc))
 }
 
-/// Whether the variable of a number is below its side's count, or below both where the sides aren't apart.
+/// Whether the variable of a number is below its side's count, or below one of both where the sides aren't
+/// apart.
 fn is_within(apart: bool, code: u64, left_vars: u32, right_vars: u32) -> bool
     ensures { result ≡ is_within apart left_vars right_vars code }
-{
-    if !apart {
-        return code < u64::from(left_vars) && code < u64::from(right_vars);
-    }
-    if code % 2 == 0 {
-        code / 2 < u64::from(left_vars)
-    } else {
-        code / 2 < u64::from(right_vars)
-    }
-}
-
-/// Whether the variable of a number is one of the first ones of its side.
-fn is_used(apart: bool, code: u64, left_vars: u32, right_vars: u32) -> bool
-    ensures { result ≡ is_used apart left_vars right_vars code }
 {
     if !apart {
         return code < u64::from(left_vars.max(right_vars));

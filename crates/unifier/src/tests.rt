@@ -1,5 +1,6 @@
 // Rows worked out by hand, and a table of small pairs against a plain unifier.
 
+ghost use Rattle.std.specs.Prelude.{◌≤◌, ◌^◌};
 ghost use Rattle.term_bank.specs.Bank.{IsOf};
 
 use super::*;
@@ -16,17 +17,17 @@ const F: u32 = 3;
 
 const G: u32 = 4;
 
-fn constant(alloc: Global, symbol: u32) -> Term {
+pub fn constant(alloc: Global, symbol: u32) -> Term {
     Term::App(symbol, Terms::new(alloc))
 }
 
-fn unary(alloc: Global, symbol: u32, argument: Term) -> Mem<Term> {
+pub fn unary(alloc: Global, symbol: u32, argument: Term) -> Mem<Term> {
     let mut arguments = Terms::new(alloc);
     arguments.push(argument)?;
     Ok(Term::App(symbol, arguments))
 }
 
-fn binary(alloc: Global, symbol: u32, first: Term, second: Term) -> Mem<Term> {
+pub fn binary(alloc: Global, symbol: u32, first: Term, second: Term) -> Mem<Term> {
     let mut arguments = Terms::new(alloc);
     arguments.push(first)?;
     arguments.push(second)?;
@@ -47,41 +48,136 @@ fn are(terms: &Subst, wanted: &[Term]) -> bool {
     true
 }
 
+/// The two substitutions of a most general unifier, for counts above the variables of the terms. None
+/// where no unifier exists, or a count is too small.
+fn unified_terms(
+    alloc: Global,
+    terms: (&Term, &Term),
+    apart: bool,
+    counts: (u32, u32),
+) -> Mem<Option<(Subst, Subst)>>
+    requires left { counts.0 ≤ 2 ^ 31 }
+    requires right { counts.1 ≤ 2 ^ 31 }
+{
+    let (left, right) = terms;
+    let (left_vars, right_vars) = counts;
+    if left.variable_bound() > u64::from(left_vars) {
+        return Ok(None);
+    }
+    if right.variable_bound() > u64::from(right_vars) {
+        return Ok(None);
+    }
+    match unify(alloc, left, right, apart)? {
+        Some(found) => Ok(Some(found.substs(left_vars, right_vars)?)),
+        None => Ok(None),
+    }
+}
+
 #[test]
 fn variables_apart_are_different_ones(rt: HostRuntime) -> Result<(), Fail> {
     let alloc = rt.alloc();
     let left = binary(alloc, F, Term::Var(0), constant(alloc, B))?;
     let right = binary(alloc, F, constant(alloc, A), Term::Var(0))?;
     assert!(rt; unify(alloc, &left, &right, false)?.is_none());
-    if let Some(found) = unify(alloc, &left, &right, true)? {
-        assert!(rt; found.fits(1, 1) && !found.fits(0, 1) && !found.fits(1, 0));
-        if found.fits(1, 1) {
-            let (first, second) = found.substs(alloc, 1, 1)?;
-            assert!(rt; are(&first, &[constant(alloc, A)]));
-            assert!(rt; are(&second, &[constant(alloc, B)]));
-        }
+    if let Some((first, second)) = unified_terms(alloc, (&left, &right), true, (1, 1))? {
+        assert!(rt; are(&first, &[constant(alloc, A)]));
+        assert!(rt; are(&second, &[constant(alloc, B)]));
     } else {
         assert!(rt; false);
     }
     Ok(())
 }
 
-/// The size of an equation of a term with itself, after a unifier.
-fn size_of_both(
-    alloc: Global,
+#[test]
+fn counts_that_fit(rt: HostRuntime) -> Result<(), Fail> {
+    let alloc = rt.alloc();
+    let left = binary(alloc, F, Term::Var(0), Term::Var(2))?;
+    let right = binary(alloc, F, constant(alloc, A), Term::Var(1))?;
+    if let Some(found) = unify(alloc, &left, &right, true)? {
+        assert!(rt; found.fits(3, 2) && !found.fits(2, 2) && !found.fits(3, 1));
+    } else {
+        assert!(rt; false);
+    }
+    if let Some(found) = unify(alloc, &left, &right, false)? {
+        assert!(rt; found.fits(3, 0) && found.fits(0, 3) && !found.fits(2, 2));
+    } else {
+        assert!(rt; false);
+    }
+    Ok(())
+}
+
+/// Whether two lists of two terms are two different variables and the same two in the other order.
+fn are_swapped(first: &Subst, second: &Subst) -> bool {
+    let first = first.as_slice();
+    let second = second.as_slice();
+    if first.len() != 2 || second.len() != 2 {
+        return false;
+    }
+    let crossed = same_term(&first[0], &second[1]) && same_term(&first[1], &second[0]);
+    crossed && are_both_variables(&first[0], &first[1])
+}
+
+/// Whether one term is X0 and the other X1.
+fn are_both_variables(first: &Term, second: &Term) -> bool {
+    match (first, second) {
+        (Term::Var(one), Term::Var(other)) => (*one == 0 && *other == 1)
+            || (*one == 1 && *other == 0),
+        _ => false,
+    }
+}
+
+#[test]
+fn two_variables_are_shared(rt: HostRuntime) -> Result<(), Fail> {
+    let alloc = rt.alloc();
+    let left = binary(alloc, F, Term::Var(0), Term::Var(1))?;
+    let right = binary(alloc, F, Term::Var(1), Term::Var(0))?;
+    if let Some((first, second)) = unified_terms(alloc, (&left, &right), true, (2, 2))? {
+        assert!(rt; are_swapped(&first, &second));
+    } else {
+        assert!(rt; false);
+    }
+    Ok(())
+}
+
+#[test]
+fn variables_together_are_the_same(rt: HostRuntime) -> Result<(), Fail> {
+    let alloc = rt.alloc();
+    let left = binary(alloc, F, Term::Var(0), Term::Var(1))?;
+    let right = binary(alloc, F, Term::Var(1), constant(alloc, A))?;
+    if let Some((first, second)) = unified_terms(alloc, (&left, &right), false, (2, 2))? {
+        let wanted = [constant(alloc, A), constant(alloc, A)];
+        assert!(rt; are(&first, &wanted) && are(&second, &wanted));
+    } else {
+        assert!(rt; false);
+    }
+    let left = binary(alloc, F, Term::Var(0), Term::Var(2))?;
+    let right = binary(alloc, F, Term::Var(2), Term::Var(0))?;
+    if let Some((first, second)) = unified_terms(alloc, (&left, &right), false, (3, 3))? {
+        let first = first.as_slice();
+        assert!(rt; first.len() == 3 && are(&second, first));
+        assert!(rt; same_term(&first[0], &first[2]) && are_both_variables(&first[0], &first[1]));
+    } else {
+        assert!(rt; false);
+    }
+    Ok(())
+}
+
+/// The size of an equation after a unifier.
+fn size_of_equation(
     found: &Bindings,
     bank: &Bank,
     side: Side,
-    reference: &TermRef,
+    terms: (&TermRef, &TermRef),
 ) -> Mem<u64>
-    requires { IsOf bank.now reference.now }
+    requires left { IsOf bank.now terms.0.now }
+    requires right { IsOf bank.now terms.1.now }
 {
     let literal = BankLit {
         positive: true,
-        left: reference.copy(),
-        right: reference.copy(),
+        left: terms.0.copy(),
+        right: terms.1.copy(),
     };
-    found.instance_size(alloc, bank, side, &[literal])
+    found.instance_size(bank, side, &[literal])
 }
 
 #[test]
@@ -90,15 +186,20 @@ fn the_size_of_an_instance(rt: HostRuntime) -> Result<(), Fail> {
     let left = binary(alloc, F, Term::Var(0), constant(alloc, B))?;
     let right = binary(alloc, F, constant(alloc, A), Term::Var(0))?;
     let (mut bank, mut table) = Bank::new(alloc)?;
-    let reference = bank.intern(alloc, &mut table, &left)?;
+    let term = bank.intern(alloc, &mut table, &left)?;
+    let b = bank.intern(alloc, &mut table, &constant(alloc, B))?;
     if let Some(found) = unify(alloc, &left, &right, true)? {
         assert_eq!(rt;
-            size_of_both(alloc, &found, &bank, Side::Left, &reference)?,
+            size_of_equation(&found, &bank, Side::Left, (&term, &b))?,
+            4
+        );
+        assert_eq!(rt;
+            size_of_equation(&found, &bank, Side::Left, (&term, &term))?,
             6
         );
         assert_eq!(rt;
-            size_of_both(alloc, &found, &bank, Side::Right, &reference)?,
-            6
+            size_of_equation(&found, &bank, Side::Right, (&b, &term))?,
+            4
         );
     } else {
         assert!(rt; false);
@@ -112,13 +213,9 @@ fn no_variable_contains_itself(rt: HostRuntime) -> Result<(), Fail> {
     let left = Term::Var(0);
     let right = unary(alloc, F, Term::Var(0))?;
     assert!(rt; unify(alloc, &left, &right, false)?.is_none());
-    if let Some(found) = unify(alloc, &left, &right, true)? {
-        assert!(rt; found.fits(1, 1));
-        if found.fits(1, 1) {
-            let (first, second) = found.substs(alloc, 1, 1)?;
-            assert!(rt; are(&first, &[unary(alloc, F, Term::Var(0))?]));
-            assert!(rt; are(&second, &[Term::Var(0)]));
-        }
+    if let Some((first, second)) = unified_terms(alloc, (&left, &right), true, (1, 1))? {
+        assert!(rt; are(&first, &[unary(alloc, F, Term::Var(0))?]));
+        assert!(rt; are(&second, &[Term::Var(0)]));
     } else {
         assert!(rt; false);
     }
@@ -150,7 +247,7 @@ fn shared_bindings_do_not_blow_up(rt: HostRuntime) -> Result<(), Fail> {
     let reference = bank.intern(alloc, &mut table, &Term::Var(0))?;
     if let Some(found) = unify(alloc, &left, &right, false)? {
         assert_eq!(rt;
-            size_of_both(alloc, &found, &bank, Side::Left, &reference)?,
+            size_of_equation(&found, &bank, Side::Left, (&reference, &reference))?,
             u64::MAX
         );
     } else {
@@ -159,18 +256,36 @@ fn shared_bindings_do_not_blow_up(rt: HostRuntime) -> Result<(), Fail> {
     Ok(())
 }
 
-/// The terms for the first variables that turn a pattern into a target.
+/// `f(Xv, f(Xv, .. f(Xv, Xv)))`, with this many symbols.
+fn nested(alloc: Global, depth: u32, variable: u32) -> Mem<Term> {
+    let mut made = Term::Var(variable);
+    for _ in 0..depth {
+        made = binary(alloc, F, Term::Var(variable), made)?;
+    }
+    Ok(made)
+}
+
+#[test]
+fn deep_terms_unify_with_a_renamed_copy(rt: HostRuntime) -> Result<(), Fail> {
+    let alloc = rt.alloc();
+    let left = nested(alloc, 200, 0)?;
+    let right = nested(alloc, 200, 1)?;
+    let deeper = nested(alloc, 201, 1)?;
+    assert!(rt; unify(alloc, &left, &right, true)?.is_some());
+    assert!(rt; unify(alloc, &left, &right, false)?.is_some());
+    assert!(rt; unify(alloc, &left, &deeper, true)?.is_none());
+    Ok(())
+}
+
+/// The terms for the first variables that turn a pattern into a target. None where there are none, or the
+/// count isn't above the pattern's variables.
 fn matched_terms(alloc: Global, pattern: &Term, target: &Term, count: u32) -> Mem<Option<Subst>> {
+    if pattern.variable_bound() > u64::from(count) {
+        return Ok(None);
+    }
     let empty = Matched::empty(alloc);
-    let found = match_onto(alloc, pattern, target, &empty)?;
-    match found {
-        Some(pairs) => {
-            if pairs.fits(count) {
-                Ok(Some(pairs.subst(alloc, count)?))
-            } else {
-                Ok(None)
-            }
-        }
+    match match_onto(alloc, pattern, target, &empty)? {
+        Some(pairs) => Ok(Some(pairs.subst(count)?)),
         None => Ok(None),
     }
 }

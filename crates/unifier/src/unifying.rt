@@ -1,8 +1,10 @@
 // Unifying: the most general instance that two terms have in common.
 
-ghost use Rattle.std.specs.Prelude.{IfOk};
+ghost use Rattle.std.specs.Prelude.{◌≡◌, ℕ, true, IfOk, IfSome};
+ghost use Rattle.fol_base.specs.Tree.{VariablesBelow};
 ghost use Rattle.fol_base.specs.Term.{tree_of};
-ghost use Rattle.unifier.specs.Bindings.{IsUnified};
+ghost use Rattle.unifier.specs.Bindings.{IsUnified, LeavesOthers};
+ghost use Rattle.unifier.specs.Renaming.{fits};
 
 use crate::bindings::Bindings;
 use crate::clash::clash;
@@ -12,13 +14,18 @@ use fol_base::{Mem, Side, Term};
 use std::alloc::Global;
 
 /// A most general unifier (Robinson 1965). None exactly where no unifier exists. With `apart` the
-/// variables of the two sides are different ones, whatever their numbers.
+/// variables of the two sides are different ones, whatever their numbers. Only variables of the two terms
+/// are bound, so counts above these meet the condition of `Bindings::substs`.
 ///
-/// Terms with different symbols at one place are told first. Else both are laid out as cells; classes of cells that must be equal are closed under their parts
-/// (as in unification closure, Huet 1976); the classes are then put into an order in which parts come
-/// first, which fails exactly where a variable would have to contain itself.
+/// Terms with different symbols at one place are told first. Else both are laid out as cells; classes of
+/// cells that must be equal are closed under their parts (as in unification closure, Huet 1976); the
+/// classes are then put into an order in which parts come first, which fails exactly where a variable
+/// would have to contain itself.
 pub fn unify(alloc: Global, left: &Term, right: &Term, apart: bool) -> Mem<Option<Bindings>>
-    ensures { IfOk result (IsUnified apart (tree_of left.now) (tree_of right.now)) }
+    ensures unified { IfOk result (IsUnified apart (tree_of left.now) (tree_of right.now)) }
+    ensures others { IfOk result (λ found. IfSome found (LeavesOthers apart (tree_of left.now) (tree_of right.now))) }
+    ensures fits { IfOk result (λ found. (left_vars right_vars : ℕ) → VariablesBelow left_vars (tree_of left.now)
+        → VariablesBelow right_vars (tree_of right.now) → IfSome found (λ b. fits b left_vars right_vars ≡ true)) }
 {
     if clash(left, right) {
         return Ok(None);

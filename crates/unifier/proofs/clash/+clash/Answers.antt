@@ -1,8 +1,7 @@
-use Rattle.std.proofs.Common.{◌≡◌, ◌<◌, length, map, refl, ap, sym, ◌∙◌, arith}
-use Rattle.fol_base.specs.Tree.{trees_of, application}
+use Rattle.std.proofs.Common.{◌≡◌, map, refl, sym, ◌∙◌, arith}
 use Rattle.fol_base.specs.Term.{tree_of}
 use Rattle.fol_base.proofs.TermLemmas.{tree_size-item, length-trees}
-use Rattle.unifier.proofs.ClashLemmas.{heads-clash, arguments-clash, lengths-clash, item-clash}
+use Rattle.unifier.proofs.ClashLemmas.{lengths-clash, item-clash}
 use Rattle.unifier.proofs.clash.+clash.Goals as goal
 
 pub clash_in-clash-requires : goal.clash_in-clash-requires

@@ -1,5 +1,5 @@
 use Rattle.fol_base.specs.Term.{tree_of}
-use Rattle.unifier.proofs.MatchLemmas.{answer-found, answer-none}
+use Rattle.unifier.proofs.MatchLemmas.{answer-found, answer-none, answer-below}
 use Rattle.unifier.proofs.KindLemmas.{answer-functions}
 use Rattle.unifier.proofs.matching.match_onto.Goals as goal
 
@@ -12,3 +12,6 @@ returns-then-branch-clause-function_terms c =
 
 pub returns-clause-found : goal.returns-clause-found
 returns-clause-found c = answer-none _ _ _ _ _ _ c.in_ok-found.ensures c.in_ok-extend.ensures c.if-branch.false
+
+pub returns-then-branch-clause-below : goal.returns-then-branch-clause-below
+returns-then-branch-clause-below c = answer-below _ _ _ _ (tree_of c.args.target.now) _ c.in_ok-found.ensures c.in_ok-extend.ensures c.if-branch.true

@@ -1,11 +1,13 @@
-use Rattle.std.proofs.Common.{◌≡◌, Option, None, Some, length, refl, subst}
+use Rattle.std.proofs.Common.{Option, length, refl, subst}
 use Rattle.unifier.specs.declared.placing.Placing.{Placing}
 use Rattle.unifier.specs.Placing.{IsOrdering}
-use Rattle.unifier.proofs.SolveLemmas.{Given, given-refuted, given-stuck, given-solved, given-in-order}
+use Rattle.unifier.proofs.ClassLemmas.{when-true, when-false}
+use Rattle.unifier.proofs.SolvedLemmas.{Given, given-refuted, given-stuck, given-solved, given-in-order}
+use Rattle.unifier.proofs.BoundLemmas.{relocated-passes}
 use Rattle.unifier.proofs.solving.solve.Goals as goal
 
-pub returns-then-not-close : goal.returns-then-not-close
-returns-then-not-close c =
+pub returns-then-not-branch : goal.returns-then-not-branch
+returns-then-not-branch c =
     let given : Given c.args.layout.now c.args.first c.args.second c.as_slice-cells.result.now (length c.as_slice-cells.result.now) c.in_ok-classes.classes =
     record {
       is_layout = c.requires.layout;
@@ -16,7 +18,7 @@ returns-then-not-close c =
       count = refl;
       discrete = c.in_ok-classes.ensures.discrete;
     } in
-    given-refuted c.args.layout.now c.args.first c.args.second _ _ _ given c.if-not-close.ensures
+    given-refuted c.args.layout.now c.args.first c.args.second _ _ _ given (when-false _ _ _ c.in_ok-close.ensures c.if-not-branch.true)
 
 pub returns-in-None : goal.returns-in-None
 returns-in-None c =
@@ -31,7 +33,7 @@ returns-in-None c =
       discrete = c.in_ok-classes.ensures.discrete;
     } in
     let P : Option Placing → Type 0 = λ o. IsOrdering c.as_slice-cells.result.now c.close.new.self o in
-    given-stuck c.args.layout.now c.args.first c.args.second _ _ _ c.close.new.self given c.if-not-close.ensures (subst P c.in-None.is c.in_ok-order.ensures)
+    given-stuck c.args.layout.now c.args.first c.args.second _ _ _ c.close.new.self given (when-true _ _ _ c.in_ok-close.ensures c.if-not-branch.false) (subst P c.in-None.is c.in_ok-order.ensures)
 
 pub returns : goal.returns
 returns c =
@@ -47,8 +49,9 @@ returns c =
     } in
     let P : Option Placing → Type 0 = λ o. IsOrdering c.as_slice-cells.result.now c.close.new.self o in (
       refl,
-      given-solved c.args.layout.now c.args.first c.args.second _ _ _ c.close.new.self c.in-Some.placing _ _ given c.if-not-close.ensures
+      given-solved c.args.layout.now c.args.first c.args.second _ _ _ c.close.new.self c.in-Some.placing _ _ given (when-true _ _ _ c.in_ok-close.ensures c.if-not-branch.false)
           (subst P c.in-Some.is c.in_ok-order.ensures) c.as_slice.ensures.value c.in_ok-places-in-Some.ensures,
+      relocated-passes c.close.new.self c.in-Some.placing _ _ _ c.as_slice.ensures.value c.in_ok-places-in-Some.ensures,
     )
 
 pub invariant_of-result : goal.invariant_of-result
@@ -66,6 +69,6 @@ invariant_of-result c =
     let P : Option Placing → Type 0 = λ o. IsOrdering c.as_slice-cells.result.now c.close.new.self o in
     record {
       in_order =
-          given-in-order c.args.layout.now c.args.first c.args.second _ _ _ c.close.new.self c.in-Some.placing _ _ given c.if-not-close.ensures
+          given-in-order c.args.layout.now c.args.first c.args.second _ _ _ c.close.new.self c.in-Some.placing _ _ given (when-true _ _ _ c.in_ok-close.ensures c.if-not-branch.false)
           (subst P c.in-Some.is c.in_ok-order.ensures) c.as_slice.ensures.value c.in_ok-places-in-Some.ensures;
     }

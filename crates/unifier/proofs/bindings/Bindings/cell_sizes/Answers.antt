@@ -1,5 +1,4 @@
-use Rattle.std.proofs.Common.{◌≡◌, ◌<◌, List, ℕ, length, ap, sym, ◌∙◌, arith}
-use Rattle.unifier.specs.Cells.{cell_at}
+use Rattle.std.proofs.Common.{◌<◌, List, ℕ, length, ap, ◌∙◌, arith}
 use Rattle.unifier.specs.Sizes.{size_by}
 use Rattle.unifier.proofs.SizeLemmas.{sizes-push, cell-read, after-parts}
 use Rattle.unifier.proofs.bindings.Bindings.cell_sizes.Goals as goal

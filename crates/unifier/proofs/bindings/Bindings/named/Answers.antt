@@ -1,6 +1,5 @@
-use Rattle.std.proofs.Common.{◌≡◌, Some, slice_index, ap, sym, ◌∙◌}
+use Rattle.std.proofs.Common.{ap, sym, ◌∙◌}
 use Rattle.unifier.specs.Layout.{cell_of}
-use Rattle.unifier.proofs.RenameLemmas.{renamed-bound, renamed-free}
 use Rattle.unifier.proofs.bindings.Bindings.named.Goals as goal
 
 pub term_at-requires-clause-inside : goal.term_at-requires-clause-inside

@@ -1,4 +1,4 @@
-use Rattle.std.proofs.Common.{◌≡◌, Some, ap, sym, ◌∙◌, arith}
+use Rattle.std.proofs.Common.{ap, sym, ◌∙◌}
 use Rattle.unifier.specs.Layout.{cell_of}
 use Rattle.unifier.proofs.RenameLemmas.{itself-bound, itself-free}
 use Rattle.unifier.proofs.bindings.Bindings.stands_for_itself.Goals as goal

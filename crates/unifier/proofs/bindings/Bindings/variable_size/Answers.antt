@@ -1,4 +1,4 @@
-use Rattle.std.proofs.Common.{◌≡◌, Some, ap, ap₂, sym, ◌∙◌, arith}
+use Rattle.std.proofs.Common.{ap₂, sym, ◌∙◌, arith}
 use Rattle.unifier.specs.Layout.{cell_of, code_of}
 use Rattle.unifier.proofs.SizeLemmas.{size-bound, size-free}
 use Rattle.unifier.proofs.bindings.Bindings.variable_size.Goals as goal

@@ -1,5 +1,4 @@
-use Rattle.std.proofs.Common.{◌≡◌, ◌<◌, length, sym, ◌∙◌, arith}
-use Rattle.unifier.specs.Classes.{parent}
+use Rattle.std.proofs.Common.{◌<◌, length, arith}
 use Rattle.unifier.proofs.ClassLemmas.{read, one-up}
 use Rattle.unifier.proofs.classes.Classes.find.Goals as goal
 

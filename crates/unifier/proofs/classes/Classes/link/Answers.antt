@@ -1,4 +1,4 @@
-use Rattle.std.proofs.Common.{◌<◌, length, set, inl, inr, refl, ap, ◌∙◌, arith}
+use Rattle.std.proofs.Common.{length, set, inl, inr, refl, ap, ◌∙◌, arith}
 use Rattle.unifier.specs.Classes.{schema}
 use Rattle.unifier.specs.declared.classes.Classes.{Classes}
 use Rattle.unifier.proofs.ClassLemmas.{linked, read, set-itself}

@@ -1,4 +1,4 @@
-use Rattle.std.proofs.Common.{◌≡◌, ℕ, subst, arith}
+use Rattle.std.proofs.Common.{◌≡◌, subst, arith}
 use Rattle.unifier.proofs.ClassLemmas.{IsIdentity, identity-push, discrete-classes}
 use Rattle.unifier.proofs.classes.Classes.new.Goals as goal
 

@@ -1,4 +1,4 @@
-use Rattle.std.proofs.Common.{◌≡◌, ◌<◌, length, arith}
+use Rattle.std.proofs.Common.{◌≡◌, arith}
 use Rattle.unifier.specs.Classes.{schema}
 use Rattle.unifier.proofs.ClassLemmas.{read, both-joined, step-refuted}
 use Rattle.unifier.proofs.classes.Classes.step.Goals as goal

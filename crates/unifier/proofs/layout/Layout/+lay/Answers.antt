@@ -1,8 +1,8 @@
-use Rattle.std.proofs.Common.{◌≡◌, ◌-◌, ℕ, map, drop, refl, ap, sym, ◌∙◌, subst, arith}
-use Rattle.fol_base.specs.Tree.{Tree, Trees, trees_of}
+use Rattle.std.proofs.Common.{◌≡◌, ℕ, map, drop, refl, ap, sym, subst, arith}
+use Rattle.fol_base.specs.Tree.{Trees, trees_of}
 use Rattle.fol_base.specs.Term.{tree_of}
 use Rattle.fol_base.proofs.TermLemmas.{tree_size-item}
-use Rattle.unifier.specs.Layout.{TermLaidOut, TermsLaidOut}
+use Rattle.unifier.specs.Layout.{TermsLaidOut}
 use Rattle.unifier.proofs.LayoutLemmas.{application-answer, more-terms-laid_out, drop-before}
 use Rattle.unifier.proofs.layout.Layout.+lay.Goals as goal
 

@@ -8,4 +8,5 @@ returns c = record {
       layout-push c.args.self.now _ c.args.cell c.requires.layout c.requires.parts c.requires.kinds c.requires.no_variable c.in_ok-push.ensures.items refl;
   number = omega (arith, c.len-number.ensures, c.args.self.now.cells.ok.0);
   cells = c.in_ok-push.ensures.items;
+  places = refl;
 }

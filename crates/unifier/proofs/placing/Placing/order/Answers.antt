@@ -1,6 +1,5 @@
 use Rattle.std.proofs.Common.{length, rules, refl, subst, arith}
 use Rattle.unifier.specs.declared.placing.Sweep.{Sweep}
-use Rattle.unifier.specs.declared.placing.Sweep.TheVariants.{Stuck}
 use Rattle.unifier.specs.Placing.{SweepDone}
 use Rattle.unifier.proofs.PlacingLemmas.{placing-starts, stuck-at-last}
 use Rattle.unifier.proofs.placing.Placing.order.Goals as goal

@@ -1,4 +1,4 @@
-use Rattle.std.proofs.Common.{◌+◌, ℕ, Bool, true, subst, sym}
+use Rattle.std.proofs.Common.{◌+◌, Bool, true, subst, sym}
 use Rattle.unifier.specs.declared.placing.Visit.{Visit}
 use Rattle.unifier.specs.Placing.{VisitDone}
 use Rattle.unifier.proofs.PlacingLemmas.{SweepSoFar, sweep-placed, sweep-waits, sweep-kept}

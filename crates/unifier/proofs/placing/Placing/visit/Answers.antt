@@ -1,4 +1,4 @@
-use Rattle.std.proofs.Common.{◌≡◌, ◌<◌, None, Vec, Global, length, refl, ap, sym, ◌∙◌, arith}
+use Rattle.std.proofs.Common.{◌≡◌, None, Vec, Global, refl, ap, sym, ◌∙◌, arith}
 use Rattle.unifier.specs.declared.cells.Cell.{Cell}
 use Rattle.unifier.specs.Placing.{place}
 use Rattle.unifier.specs.Classes.{parent, schema}

@@ -1,0 +1,157 @@
+-- Which variables `unify` binds: those of its terms alone.
+use Rattle.std.proofs.Common.{◌≡◌, ℕ, ◌+◌, ◌*◌, ◌/◌, ◌%◌, ◌<◌, Bool, true, false, ◌||◌, ◌==◌, cond, Option, None, Some, List, [], ◌∷◌, refl, ap, sym, ◌∙◌, arith, eq-eqb}
+use Rattle.std.specs.Prelude.{Result, Ok, Err, IfOk, IfSome, MatchOption}
+use Rattle.std.specs.List.{list_any, list_all}
+use Rattle.std.proofs.lemmas.Bool.{and_from, or_left, or_right, cond-true, cond-false, true≢false}
+use Rattle.std.proofs.lemmas.List.Folds.{list_all-append, list_all-map}
+use Rattle.fol_base.specs.Tree.{Tree, variable, application, Trees, no_trees, tree_then, tree_variables, trees_variables, VariablesBelow, AllVariablesBelow}
+use Rattle.fol_base.specs.declared.clause.Side.TheVariants.{Left, Right}
+use Rattle.unifier.specs.declared.layout.Place.{Place}
+use Rattle.unifier.specs.declared.layout.Layout.{Layout}
+use Rattle.unifier.specs.declared.bindings.Bindings.{Bindings}
+use Rattle.unifier.specs.declared.classes.Classes.{Classes}
+use Rattle.unifier.specs.declared.placing.Placing.{Placing}
+use Rattle.unifier.specs.Layout.{cell_of, code_of, all_pass, TermLaidOut}
+use Rattle.unifier.specs.Bindings.{bound, joint, occurs, LeavesOthers, CannotMeet, IsMeeting}
+use Rattle.unifier.specs.Renaming.{is_within, fits}
+use Rattle.unifier.specs.Solving.{relocated, IsRelocated}
+use Rattle.unifier.proofs.LayoutLemmas.{found-passes}
+use Rattle.unifier.proofs.RenameLemmas.{code-within}
+
+-- ---- places and tests
+
+-- the places that are found have the variables of those laid out
+pub relocated-passes :
+    (c : Classes) (p : Placing) (es old made : List Place)
+    → es ≡ old → IsRelocated c p es made → (test : ℕ → Bool) → all_pass test made ≡ all_pass test old
+relocated-passes c p es old made same is test =
+    ap (all_pass test) is ∙ list_all-map (λ (q : Place). test q.code) (relocated c p) es ∙ ap (all_pass test) same
+
+not-found : (test : ℕ → Bool) (w : ℕ) (ps : List Place) (o : Option ℕ) → all_pass test ps ≡ true → test w ≡ false → cell_of w ps ≡ o → o ≡ None
+not-found test w ps None all fails e = refl
+not-found test w ps (Some k) all fails e = absurd (true≢false (sym (found-passes test w k ps all e) ∙ fails))
+
+-- what all variables of both terms pass, all bound ones pass
+passes-at-last :
+    (start mid layout : Layout) (apart : Bool) (first second : ℕ) (s t : Tree) (b : Bindings) (test : ℕ → Bool)
+    → start.places.items ≡ [] → TermLaidOut start mid apart Left s first → TermLaidOut mid layout apart Right t second
+    → IsMeeting layout apart first second b
+    → list_all (λ v. test (code_of apart Left v)) (tree_variables s) ≡ true
+    → list_all (λ v. test (code_of apart Right v)) (tree_variables t) ≡ true → all_pass test b.places.items ≡ true
+passes-at-last start mid layout apart first second s t b test none one other met left right =
+    met.2 test ∙ other.adds test (one.adds test (ap (all_pass test) none) left) right
+
+-- ---- counts above the variables
+
+mutual
+  pub below-pass :
+      (test : ℕ → Bool) (n : ℕ) (t : Tree)
+      → ((v : ℕ) → v < n → test v ≡ true) → VariablesBelow n t → list_all test (tree_variables t) ≡ true
+  below-pass test n (variable v) h below = and_from (test v) true (h v below) refl
+  below-pass test n (application f ts) h below = all-below-pass test n ts h below
+
+  all-below-pass :
+      (test : ℕ → Bool) (n : ℕ) (ts : Trees)
+      → ((v : ℕ) → v < n → test v ≡ true) → AllVariablesBelow n ts → list_all test (trees_variables ts) ≡ true
+  all-below-pass test n no_trees h below = refl
+  all-below-pass test n (tree_then t ts) h below =
+      list_all-append test (tree_variables t) (trees_variables ts)
+      ∙ and_from (list_all test (tree_variables t)) (list_all test (trees_variables ts)) (below-pass test n t h below.0)
+      (all-below-pass test n ts h below.1)
+
+fits-by :
+    (start mid layout : Layout) (apart : Bool) (first second l r : ℕ) (s t : Tree) (found : Option Bindings)
+    → start.places.items ≡ [] → TermLaidOut start mid apart Left s first → TermLaidOut mid layout apart Right t second
+    → MatchOption found (CannotMeet layout.cells.items first second) (IsMeeting layout apart first second)
+    → VariablesBelow l s → VariablesBelow r t → IfSome found (λ b. fits b l r ≡ true)
+fits-by start mid layout apart first second l r s t None none one other h left right = tt
+fits-by start mid layout apart first second l r s t (Some b) none one other h left right =
+    ap (λ a. all_pass (is_within a l r) b.places.items) h.0
+    ∙ passes-at-last start mid layout apart first second s t b (is_within apart l r) none one other h
+    (below-pass (λ v. is_within apart l r (code_of apart Left v)) l s (code-within apart l r Left) left)
+    (below-pass (λ v. is_within apart l r (code_of apart Right v)) r t (code-within apart l r Right) right)
+
+-- as the code has it
+pub fits-answer :
+    {E : Type 0} (r : Result (Option Bindings) E) (start mid layout : Layout) (apart : Bool) (first second : ℕ) (s t : Tree)
+    → start.places.items ≡ [] → TermLaidOut start mid apart Left s first → TermLaidOut mid layout apart Right t second
+    → IfOk r (λ found. MatchOption found (CannotMeet layout.cells.items first second) (IsMeeting layout apart first second))
+    → IfOk r (λ found. (left_count right_count : ℕ) → VariablesBelow left_count s → VariablesBelow right_count t
+    → IfSome found (λ b. fits b left_count right_count ≡ true))
+fits-answer (Err e) start mid layout apart first second s t none one other h = tt
+fits-answer (Ok found) start mid layout apart first second s t none one other h =
+    λ left_count right_count. fits-by start mid layout apart first second left_count right_count s t found none one other h
+
+-- ---- variables that stand in neither term
+
+members-pass : (test : ℕ → Bool) (vs : List ℕ) → ((v : ℕ) → list_any (λ w. w == v) vs ≡ true → test v ≡ true) → list_all test vs ≡ true
+members-pass test [] h = refl
+members-pass test (u ∷ us) h =
+    and_from (test u) (list_all test us) (h u (or_left (u == u) (list_any (λ w. w == u) us) (eq-eqb u u refl)))
+    (members-pass test us (λ v there. h v (or_right (u == v) (list_any (λ w. w == v) us) there)))
+
+stands : Bool → Tree → Tree → ℕ → Bool
+stands true s t w = cond (w % 2 == 0) (occurs (w / 2) s) (occurs (w / 2) t)
+stands false s t w = occurs w s || occurs w t
+
+stands-left : (s t : Tree) (v : ℕ) → stands true s t (2 * v) ≡ occurs v s
+unfolding stands
+stands-left s t v =
+    let even : (2 * v) % 2 ≡ 0 = omega arith in
+    let half : (2 * v) / 2 ≡ v = omega arith in
+    cond-true ((2 * v) % 2 == 0) (occurs ((2 * v) / 2) s) (occurs ((2 * v) / 2) t) (eq-eqb ((2 * v) % 2) 0 even) ∙ ap (λ u. occurs u s) half
+
+stands-right : (s t : Tree) (v : ℕ) → stands true s t (2 * v + 1) ≡ occurs v t
+unfolding stands
+stands-right s t v =
+    let odd : (2 * v + 1) % 2 ≡ 1 = omega arith in
+    let half : (2 * v + 1) / 2 ≡ v = omega arith in
+    cond-false ((2 * v + 1) % 2 == 0) (occurs ((2 * v + 1) / 2) s) (occurs ((2 * v + 1) / 2) t) (ap (λ m. m == 0) odd) ∙ ap (λ u. occurs u t) half
+
+of-left : (apart : Bool) (s t : Tree) (v : ℕ) → occurs v s ≡ true → stands apart s t (code_of apart Left v) ≡ true
+unfolding stands
+of-left true s t v h = stands-left s t v ∙ h
+of-left false s t v h = or_left (occurs v s) (occurs v t) h
+
+of-right : (apart : Bool) (s t : Tree) (v : ℕ) → occurs v t ≡ true → stands apart s t (code_of apart Right v) ≡ true
+unfolding stands
+of-right true s t v h = stands-right s t v ∙ h
+of-right false s t v h = or_right (occurs v s) (occurs v t) h
+
+itself : (b : Bindings) (apart : Bool) (s t : Tree) (w : ℕ) → all_pass (stands apart s t) b.places.items ≡ true → stands apart s t w ≡ false → joint b w ≡ variable w
+itself b apart s t w all fails =
+    ap (λ o. bound b.cells.items o w) (not-found (stands apart s t) w b.places.items (cell_of w b.places.items) all fails refl)
+
+neither : (s t : Tree) (v : ℕ) → occurs v s ≡ false → occurs v t ≡ false → stands false s t v ≡ false
+unfolding stands
+neither s t v left right = ap (λ b. b || occurs v t) left ∙ right
+
+leaves :
+    (apart : Bool) (s t : Tree) (b : Bindings) → b.apart ≡ apart → all_pass (stands apart s t) b.places.items ≡ true → LeavesOthers apart s t b
+leaves true s t b is all = (
+  (λ v absent. ap (λ a. joint b (code_of a Left v)) is ∙ itself b true s t (2 * v) all (stands-left s t v ∙ absent)),
+  (λ v absent. ap (λ a. joint b (code_of a Right v)) is ∙ itself b true s t (2 * v + 1) all (stands-right s t v ∙ absent)),
+)
+leaves false s t b is all = λ v left right. ap (λ a. joint b (code_of a Left v)) is ∙ itself b false s t v all (neither s t v left right)
+
+leaves-by :
+    (start mid layout : Layout) (apart : Bool) (first second : ℕ) (s t : Tree) (found : Option Bindings)
+    → start.places.items ≡ [] → TermLaidOut start mid apart Left s first → TermLaidOut mid layout apart Right t second
+    → MatchOption found (CannotMeet layout.cells.items first second) (IsMeeting layout apart first second)
+    → IfSome found (LeavesOthers apart s t)
+leaves-by start mid layout apart first second s t None none one other h = tt
+leaves-by start mid layout apart first second s t (Some b) none one other h =
+    leaves apart s t b h.0
+    (passes-at-last start mid layout apart first second s t b (stands apart s t) none one other h
+    (members-pass (λ v. stands apart s t (code_of apart Left v)) (tree_variables s) (of-left apart s t))
+    (members-pass (λ v. stands apart s t (code_of apart Right v)) (tree_variables t) (of-right apart s t)))
+
+-- as the code has it
+pub leaves-answer :
+    {E : Type 0} (r : Result (Option Bindings) E) (start mid layout : Layout) (apart : Bool) (first second : ℕ) (s t : Tree)
+    → start.places.items ≡ [] → TermLaidOut start mid apart Left s first → TermLaidOut mid layout apart Right t second
+    → IfOk r (λ found. MatchOption found (CannotMeet layout.cells.items first second) (IsMeeting layout apart first second))
+    → IfOk r (λ found. IfSome found (LeavesOthers apart s t))
+leaves-answer (Err e) start mid layout apart first second s t none one other h = tt
+leaves-answer (Ok found) start mid layout apart first second s t none one other h =
+    leaves-by start mid layout apart first second s t found none one other h

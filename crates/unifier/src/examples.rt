@@ -1,0 +1,47 @@
+// Worked examples of the definitions: each is a clause of a function with an empty body.
+
+ghost use Rattle.std.specs.Prelude.{◌≡◌, ◌+◌, ◌-◌, ◌/◌, ◌^◌, [], ◌∷◌, true, false, IsTrue, IsFalse};
+ghost use Rattle.fol_base.specs.Clause.{literal_instance, literal_size};
+ghost use Rattle.fol_base.specs.declared.clause.Side.TheVariants.{Left, Right};
+ghost use Rattle.fol_base.specs.Examples.{x, a, b, f₂, p, equation, is_predicate, all_a};
+ghost use Rattle.unifier.specs.Layout.{code_of};
+ghost use Rattle.unifier.specs.Bindings.{occurs};
+ghost use Rattle.unifier.specs.Matching.{IsMatched, NoMatcher, are_below, with_further};
+ghost use Rattle.unifier.specs.Renaming.{is_within, renamed};
+ghost use Rattle.unifier.specs.Sizes.{stopped};
+ghost use Rattle.unifier.specs.Laws.{are_of_one_kind};
+
+/// Variables of two sides, and what is below their counts.
+pub fn variable_examples()
+    ensures left_code { code_of true Left 3 ≡ 6 }
+    ensures right_code { code_of true Right 3 ≡ 7 }
+    ensures code_of_both { code_of false Right 3 ≡ 3 }
+    ensures left_is_within { IsTrue (is_within true 1 0 0) }
+    ensures right_is_not { IsFalse (is_within true 1 0 1) }
+    ensures within_one_count { IsTrue (is_within false 3 0 2) }
+    ensures within_neither { IsFalse (is_within false 2 2 2) }
+    ensures occurs_in { IsTrue (occurs 0 (f₂ (x 0) b)) }
+    ensures does_not_occur { IsFalse (occurs 1 (f₂ (x 0) b)) }
+    ensures renamed_to_halves { renamed (λ v. v / 2) (f₂ (x 0) (x 2)) ≡ f₂ (x 0) (x 1) }
+{}
+
+/// Matchers that have given pairs.
+pub fn matcher_examples()
+    ensures matched { IsMatched [] (f₂ (x 0) (x 0)) (f₂ a a) ((0, a) ∷ []) }
+    ensures two_terms { NoMatcher [] (f₂ (x 0) (x 0)) (f₂ a b) }
+    ensures other_pair { NoMatcher ((0, b) ∷ []) (x 0) a }
+    ensures further_variables { with_further (0 ∷ 2 ∷ []) (2 ∷ 1 ∷ 1 ∷ []) ≡ 0 ∷ 2 ∷ 1 ∷ [] }
+    ensures pairs_below { IsTrue (are_below 1 ((0, a) ∷ [])) }
+    ensures pairs_not_below { IsFalse (are_below 1 ((0, a) ∷ (1, b) ∷ [])) }
+{}
+
+/// Sizes of instances, and kinds of terms.
+pub fn size_examples()
+    ensures instance_of_literal { literal_size (literal_instance all_a (equation (f₂ (x 0) b) b)) ≡ 4 }
+    ensures small_size { stopped 4 ≡ 4 }
+    ensures large_size { stopped (2 ^ 64) ≡ 2 ^ 64 - 1 }
+    ensures function_terms { IsTrue (are_of_one_kind is_predicate (x 0) a) }
+    ensures predicate_terms { IsTrue (are_of_one_kind is_predicate (p a).left (p b).left) }
+    ensures predicate_and_truth { IsTrue (are_of_one_kind is_predicate (p a).left (p b).right) }
+    ensures other_kinds { IsFalse (are_of_one_kind is_predicate (x 0) (p a).left) }
+{}
