@@ -3,7 +3,7 @@
 // `generated_pairs`, and prints how many unify apart and together, and the nanoseconds a symbol.
 //
 //     rustc -O robinson.rs && ./robinson pairs 1000 1000
-//     ./robinson doubling 12 1
+//     ./robinson classical 20 1
 
 use std::time::Instant;
 
@@ -176,11 +176,30 @@ fn family(depth: u32, doubled: bool) -> Term {
     })
 }
 
+/// The family on which binding terms as they stand is exponential: `X1 .. Xn, f(Y0,Y0) .. f(Yn-1,Yn-1), Yn` against
+/// `f(X0,X0) .. f(Xn-1,Xn-1), Y1 .. Yn, Xn`, as lists.
+fn classical(depth: u32) -> (Term, Term) {
+    let twice = |variable| binary(Var(variable), Var(variable));
+    let y = |index| depth + 1 + index;
+    let mut left: Vec<Term> = (1..=depth).map(Var).collect();
+    left.extend((0..depth).map(|index| twice(y(index))));
+    left.push(Var(y(depth)));
+    let mut right: Vec<Term> = (0..depth).map(twice).collect();
+    right.extend((1..=depth).map(|index| Var(y(index))));
+    right.push(Var(depth));
+    let list = |terms: Vec<Term>| terms.into_iter().rev().fold(constant(1), |rest, first| binary(first, rest));
+    (list(left), list(right))
+}
+
 fn main() {
     let arguments: Vec<String> = std::env::args().collect();
     let number: u32 = arguments[2].parse().unwrap();
     let rounds: u64 = arguments[3].parse().unwrap();
-    let made = if arguments[1] == "pairs" { pairs(number) } else { vec![(family(number, false), family(number, true))] };
+    let made = match arguments[1].as_str() {
+        "pairs" => pairs(number),
+        "classical" => vec![classical(number)],
+        _ => vec![(family(number, false), family(number, true))],
+    };
     let symbols: u64 = made.iter().map(|(left, right)| size(left) + size(right)).sum();
     for apart in [true, false] {
         let start = Instant::now();
