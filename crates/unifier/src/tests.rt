@@ -186,8 +186,8 @@ fn the_size_of_an_instance(rt: HostRuntime) -> Result<(), Fail> {
     let left = binary(alloc, F, Term::Var(0), constant(alloc, B))?;
     let right = binary(alloc, F, constant(alloc, A), Term::Var(0))?;
     let (mut bank, mut table) = Bank::new(alloc)?;
-    let term = bank.intern(alloc, &mut table, &left)?;
-    let b = bank.intern(alloc, &mut table, &constant(alloc, B))?;
+    let term = bank.intern(&mut table, &left)?;
+    let b = bank.intern(&mut table, &constant(alloc, B))?;
     if let Some(found) = unify(alloc, &left, &right, true)? {
         assert_eq!(rt;
             size_of_equation(&found, &bank, Side::Left, (&term, &b))?,
@@ -244,7 +244,7 @@ fn shared_bindings_do_not_blow_up(rt: HostRuntime) -> Result<(), Fail> {
     let right = family(alloc, 200, true)?;
     assert!(rt; unify(alloc, &left, &right, true)?.is_some());
     let (mut bank, mut table) = Bank::new(alloc)?;
-    let reference = bank.intern(alloc, &mut table, &Term::Var(0))?;
+    let reference = bank.intern(&mut table, &Term::Var(0))?;
     if let Some(found) = unify(alloc, &left, &right, false)? {
         assert_eq!(rt;
             size_of_equation(&found, &bank, Side::Left, (&reference, &reference))?,
