@@ -1,0 +1,5 @@
+pub mod LabelLemmas
+pub mod SlotLemmas
+pub mod PathLemmas
+pub mod FoundLemmas
+pub mod EditLemmas
