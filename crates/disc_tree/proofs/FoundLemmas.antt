@@ -148,7 +148,10 @@ found-variable e w ts xs cs =
 
 -- ---- a head that is looked up: the star's child first, and then the symbol's
 
-if-none : (b : Bool) → (if b then [] else []) ≡ ([] : List ℕ)
+abbrev nothing : List ℕ
+nothing = []
+
+if-none : (b : Bool) → (if b then nothing else nothing) ≡ nothing
 if-none true = refl
 if-none false = refl
 

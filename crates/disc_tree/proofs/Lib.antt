@@ -2,4 +2,5 @@ pub mod LabelLemmas
 pub mod SlotLemmas
 pub mod PathLemmas
 pub mod FoundLemmas
+pub mod FrontLemmas
 pub mod EditLemmas

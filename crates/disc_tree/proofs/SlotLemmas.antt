@@ -53,13 +53,14 @@ pub at-slot :
 at-slot l [] i c h e n b = absurd (omega arith)
 at-slot l (d ∷ cs) zero c h e n b =
     let is : d.0 ≡ l = before-total d.0 l n.0 (ap (λ (x : Child). comes_before l x.0) (sym e) ∙ b) in
-    record { front = []; back = cs; child_rows = d.1; parts = ap (λ k. let x : Child = (k, d.1) in x ∷ cs) is; place = refl }
+    record { front = []; back = cs; child_rows = d.1; in_range = h; parts = ap (λ k. let x : Child = (k, d.1) in x ∷ cs) is; place = refl }
 at-slot l (d ∷ cs) (suc i) c h e n b =
     let later : IsAt l cs i = at-slot l cs i c (omega arith) e n b in
     record {
       front = d ∷ later.front;
       back = later.back;
       child_rows = later.child_rows;
+      in_range = h;
       parts = ap (λ ds. d ∷ ds) later.parts;
       place = ap suc later.place;
     }

@@ -73,6 +73,7 @@ pub record IsAt (l : Label) (cs : List Child) (i : ℕ) : Type 0 where
   pub front : List Child
   pub back : List Child
   pub child_rows : List Row
+  pub in_range : i < length cs
   pub parts : cs ≡ front ++ (l, child_rows) ∷ back
   pub place : length front ≡ i
 

@@ -127,7 +127,10 @@ impl Node {
         let next = Rest::of(arguments_of(first), &after);
         let label = Label::of(first);
         match slot(&self.branches, label) {
-            Ok(at) => self.branches[at].node.insert(alloc, &next, entry),
+            Ok(at) => {
+                self.branches[at].node.insert(alloc, &next, entry)?;
+                Ok(())
+            }
             Err(at) => {
                 let node = Node::chain(alloc, &next, entry)?;
                 self.branches.insert(at, Branch { label, node })?;

@@ -89,8 +89,8 @@ fn collect_children(
 {
     for index in 0..node.width() {
         let (label, child) = node.child_at(index);
-        let inner = Skipped::of(label.arity(), skipped);
-        collect(child, &inner, rest, varying, found)?;
+        let inner = Skipped::of(label.arity(), &*skipped);
+        collect(child, &inner, &*rest, varying, found)?;
     }
     Ok(())
 }
