@@ -2,5 +2,6 @@ pub mod LabelLemmas
 pub mod SlotLemmas
 pub mod PathLemmas
 pub mod FoundLemmas
+pub mod RemoveLemmas
 pub mod FrontLemmas
 pub mod EditLemmas
