@@ -1,17 +1,20 @@
 -- What a query finds among the rows of a node.
-use Rattle.std.proofs.Common.{◌≡◌, ◌⊎◌, ℕ, zero, suc, ◌+◌, ◌<◌, ◌≤◌, Bool, true, false, ◌&&◌, ◌||◌, ◌==◌, List, [], ◌∷◌, ◌++◌, length, append-nil, append_assoc, refl, ap, ap₂, sym, subst, ◌∙◌, arith, ⊎_elim, inl, inr, if◌then◌else◌}
+use Rattle.std.proofs.Common.{◌≡◌, ◌⊎◌, ℕ, zero, suc, ◌+◌, ◌<◌, ◌≤◌, Bool, true, false, ◌&&◌, ◌||◌, ◌==◌, List, [], ◌∷◌, ◌++◌, length, append-nil, append_assoc, refl, ap, ap₂, sym, subst, ◌∙◌, arith, ⊎_elim, inl, inr, if◌then◌else◌, take, IfOk, Result, Ok, Err}
 use Rattle.std.proofs.lemmas.Bool.{cases_Bool, cond-true, cond-false}
 use Rattle.std.proofs.lemmas.Bool.Decides.{nat_tests}
-use Rattle.fol_base.specs.Tree.{Tree, variable, application, Trees, list_of}
+use Rattle.std.proofs.lemmas.List.{take_more}
+use Rattle.fol_base.specs.Tree.{Tree, variable, application, Trees, trees_of, list_of}
+use Rattle.fol_base.proofs.TreeLemmas.{list_of-trees_of}
 use Rattle.fol_base.specs.Compatible.{compatible_by}
 use Rattle.disc_tree.specs.declared.label.Label.{Label}
 use Rattle.disc_tree.specs.declared.label.Label.TheVariants.{Star, Symbol}
-use Rattle.disc_tree.specs.Path.{path, arity, fits, comes_before, same_label}
+use Rattle.disc_tree.specs.Path.{path, head, arity, fits, comes_before, same_label}
 use Rattle.disc_tree.specs.Entries.{numbers_where}
-use Rattle.disc_tree.specs.Rows.{Row, Child, here, below, all_below, rows, rows_at, found_in, numbers_of, IsBefore, Rise, entries_of, HavePaths}
+use Rattle.disc_tree.specs.Rows.{Row, Child, here, below, all_below, rows, rows_at, found_in, numbers_of, IsBefore, Rise, IsChildAt, entries_of, HavePaths}
 use Rattle.disc_tree.proofs.LabelLemmas.{same-label-refl, same-label-is, before-not-same, after-not-same, before-trans}
 use Rattle.disc_tree.proofs.SlotLemmas.{is_before-weaker}
 use Rattle.disc_tree.proofs.PathLemmas.{fits-path}
+use Rattle.disc_tree.proofs.EditLemmas.{all_below-append}
 
 -- ---- one step of a scan
 
@@ -270,6 +273,80 @@ variable-read e w ts xs cs r =
     found-append e false 0 (variable w ∷ ts) (here xs) (all_below cs)
     ∙ ap (λ ns. ns ++ found_in e false 0 (variable w ∷ ts) (all_below cs)) (found-here-more e false (variable w) ts xs)
     ∙ variable-read-below e w ts cs r
+
+neither-read : (w : ℕ) (ts : List Tree) (cs : List Child) → found_in false false 0 (variable w ∷ ts) (all_below cs) ≡ []
+neither-read w ts [] = refl
+neither-read w ts ((Star, rs) ∷ cs) =
+    found-append false false 0 (variable w ∷ ts) (below Star rs) (all_below cs)
+    ∙ ap₂ ◌++◌ (found-below false false 0 (variable w ∷ ts) 0 ts false Star rs (λ p. refl)) (neither-read w ts cs)
+neither-read w ts ((Symbol f n, rs) ∷ cs) =
+    found-append false false 0 (variable w ∷ ts) (below (Symbol f n) rs) (all_below cs)
+    ∙ ap₂ ◌++◌ (found-below false false 0 (variable w ∷ ts) n ts false (Symbol f n) rs (λ p. refl)) (neither-read w ts cs)
+
+-- ---- the steps of a query
+
+pub if_ok-map : {X E A B : Type 0} (r : Result X E) → (A → B) → IfOk r (λ _. A) → IfOk r (λ _. B)
+if_ok-map (Ok x) f h = f h
+if_ok-map (Err e) f h = tt
+
+-- where nothing is passed over and nothing is left
+pub end-step :
+    (e q : Bool) (k : ℕ) (ts : List Tree) (xs : List (Tree × ℕ)) (cs : List Child)
+    → k ≡ 0 → ts ≡ [] → found_in e q k ts (rows (xs, cs)) ≡ numbers_of xs
+end-step e q k ts xs cs h t =
+    ap (λ n. found_in e q n ts (rows (xs, cs))) h ∙ ap (λ us. found_in e q 0 us (rows (xs, cs))) t ∙ found-at-end e q xs cs
+
+-- a variable that stands for terms
+pub variable-step :
+    (e q : Bool) (k w : ℕ) (ts ms after : List Tree) (t : Tree) (xs : List (Tree × ℕ)) (cs : List Child)
+    → k ≡ 0 → ts ≡ t ∷ ms → after ≡ ms → t ≡ variable w → q ≡ true
+    → found_in e q k ts (rows (xs, cs)) ≡ found_in e q 1 after (rows (xs, cs))
+variable-step e false k w ts ms after t xs cs h i a v q = absurd cc
+variable-step e true k w ts ms after t xs cs h i a v q =
+    ap (λ n. found_in e true n ts (rows (xs, cs))) h ∙ ap (λ us. found_in e true 0 us (rows (xs, cs))) (i ∙ ap (λ u. u ∷ ms) v)
+    ∙ found-variable e w ms xs cs ∙ ap (λ us. found_in e true 1 us (rows (xs, cs))) (sym a)
+
+-- a variable that doesn't
+pub star-step :
+    (e q : Bool) (k w : ℕ) (ts ms after : List Tree) (t : Tree) (xs : List (Tree × ℕ)) (cs : List Child)
+    → k ≡ 0 → ts ≡ t ∷ ms → after ≡ ms → t ≡ variable w → q ≡ false → (e ≡ true → Rise cs)
+    → found_in e q k ts (rows (xs, cs)) ≡ (if e then found_in e q 0 after (rows_at Star cs) else [])
+star-step e true k w ts ms after t xs cs h i a v q r = absurd cc
+star-step true false k w ts ms after t xs cs h i a v q r =
+    ap (λ n. found_in true false n ts (rows (xs, cs))) h ∙ ap (λ us. found_in true false 0 us (rows (xs, cs))) (i ∙ ap (λ u. u ∷ ms) v)
+    ∙ variable-read true w ms xs cs (r refl) ∙ ap (λ us. found_in true false 0 us (rows_at Star cs)) (sym a)
+star-step false false k w ts ms after t xs cs h i a v q r =
+    ap (λ n. found_in false false n ts (rows (xs, cs))) h ∙ ap (λ us. found_in false false 0 us (rows (xs, cs))) (i ∙ ap (λ u. u ∷ ms) v)
+    ∙ found-append false false 0 (variable w ∷ ms) (here xs) (all_below cs)
+    ∙ ap₂ ◌++◌ (found-here-more false false (variable w) ms xs) (neither-read w ms cs)
+
+-- a term with a symbol
+pub application-step :
+    (e q : Bool) (k g : ℕ) (ts ms after next us : List Tree) (t : Tree) (l : Label) (xs : List (Tree × ℕ)) (cs : List Child)
+    → k ≡ 0 → ts ≡ t ∷ ms → after ≡ ms → t ≡ application g (trees_of us) → next ≡ us ++ after → l ≡ head t → Rise cs
+    → found_in e q k ts (rows (xs, cs))
+    ≡ (if e then found_in e q 0 after (rows_at Star cs) else []) ++ found_in e q 0 next (rows_at l cs)
+application-step e q k g ts ms after next us t l xs cs h i a v n m r =
+    ap (λ j. found_in e q j ts (rows (xs, cs))) h
+    ∙ ap (λ zs. found_in e q 0 zs (rows (xs, cs))) (i ∙ ap (λ u. u ∷ ms) v ∙ ap (λ zs. application g (trees_of us) ∷ zs) (sym a))
+    ∙ application-read e q g (trees_of us) after xs cs r
+    ∙ ap (λ ns. (if e then found_in e q 0 after (rows_at Star cs) else []) ++ ns)
+    (ap (λ zs. found_in e q 0 zs (rows_at (Symbol g (length (list_of (trees_of us)))) cs)) (ap (λ zs. zs ++ after) (list_of-trees_of us) ∙ sym n)
+    ∙ ap (λ j. found_in e q 0 next (rows_at j cs)) (sym (m ∙ ap head v)))
+
+-- one more child, where terms are passed over
+pub children-more :
+    (e q : Bool) (k : ℕ) (ts : List Tree) (cs : List Child) (i : ℕ) (l : Label) (rs : List Row)
+    → i < length cs → IsChildAt l rs cs i
+    → found_in e q (suc k) ts (all_below (take (i + 1) cs))
+    ≡ found_in e q (suc k) ts (all_below (take i cs)) ++ found_in e q (arity l + k) ts rs
+children-more e q k ts cs i l rs h at_i =
+    ap (λ ds. found_in e q (suc k) ts (all_below ds))
+    (take_more cs i (l, rs) h ∙ ap (λ c. take i cs ++ c ∷ []) (at_i (l, rs)))
+    ∙ ap (found_in e q (suc k) ts) (all_below-append (take i cs) ((l, rs) ∷ []))
+    ∙ found-append e q (suc k) ts (all_below (take i cs)) (all_below ((l, rs) ∷ []))
+    ∙ ap (λ ns. found_in e q (suc k) ts (all_below (take i cs)) ++ ns)
+    (found-passing-one e q k ts (l, rs) [] ∙ append-nil (found_in e q (arity l + k) ts rs))
 
 -- ---- the answer of a query
 

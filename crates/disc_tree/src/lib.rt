@@ -5,4 +5,7 @@ mod entry;
 mod label;
 mod node;
 mod query;
+mod tree;
 mod work;
+
+pub use tree::DiscTree;

@@ -1,8 +1,9 @@
 // What a query finds.
 
-ghost use Rattle.std.specs.Prelude.{◌≡◌, ◌++◌, [], suc, true, IfOk};
+ghost use Rattle.std.specs.Prelude.{◌≡◌, ◌++◌, [], suc, true, IfOk, if◌then◌else◌};
 ghost use Rattle.disc_tree.specs.Work.{trees_left, terms_left};
 ghost use Rattle.disc_tree.specs.Rows.{rows, rows_at, found_in, numbers_of, Rise};
+ghost use Rattle.disc_tree.specs.declared.label.Label.TheVariants.{Star};
 
 use crate::label::Label;
 use crate::node::Node;
@@ -39,20 +40,37 @@ pub(crate) fn collect(
     match first {
         Term::Var(_) => {
             if varying.query {
-                return collect_children(node, &Skipped::Closed, &after, varying, found);
+                collect_children(node, &Skipped::Closed, &after, varying, found)
+            } else {
+                collect_star(node, &after, varying, found)
             }
-            if varying.entry {
-                return collect_child(node, Label::Star, &after, varying, found);
-            }
-            Ok(())
         }
         Term::App(_, arguments) => {
-            if varying.entry {
-                collect_child(node, Label::Star, &after, varying, found)?;
-            }
+            collect_star(node, &after, varying, found)?;
             let next = Rest::of(arguments.as_slice(), &after);
-            collect_child(node, Label::of(first), &next, varying, found)
+            collect_child(node, Label::of(first), &next, varying, found)?;
+            Ok(())
         }
+    }
+}
+
+/// The same for the star's child, where the entries' variables may stand for terms.
+#[cycle(collect)]
+fn collect_star(
+    node: &Node,
+    rest: &Rest<'_>,
+    varying: Varying,
+    found: &mut Vec<u64>,
+) -> Mem<()>
+    ensures found { IfOk result (λ _. found.new.items
+        ≡ found.old.items
+        ++ (if varying.entry then found_in varying.entry varying.query 0 (trees_left rest.now) (rows_at Star node.now.1) else [])) }
+    ensures order { varying.entry ≡ true → Rise node.now.1 }
+{
+    if varying.entry {
+        collect_child(node, Label::Star, rest, varying, found)
+    } else {
+        Ok(())
     }
 }
 
