@@ -12,7 +12,6 @@ use crate::work::{Rest, Skipped};
 use fol_base::{Mem, Numbers, Term};
 use std::alloc::Global;
 use std::marker::Model;
-use std::slice;
 
 /// An index of terms, which contracts see as the list of its entries, each a term and a number, in the order in which queries find them.
 /// Where a new entry stands in that order is not said.
@@ -59,7 +58,7 @@ impl DiscTree {
         ensures err { OnErr result (self.new ≡ self.old) }
     {
         let made = Entry::new(self.alloc, term, entry)?;
-        let rest = Rest::of(slice::from_ref(term), &Rest::Nothing);
+        let rest = Rest::Then(term, &[], &Rest::Nothing);
         self.root.insert(self.alloc, &rest, made)?;
         Ok(())
     }
@@ -70,7 +69,7 @@ impl DiscTree {
         ensures removed { IsTrue result → IsWith (tree_of term.now, entry) self.new self.old }
         ensures unchanged { result ≡ false → self.new ≡ self.old }
     {
-        let rest = Rest::of(slice::from_ref(term), &Rest::Nothing);
+        let rest = Rest::Then(term, &[], &Rest::Nothing);
         self.root.remove(&rest, term, entry)
     }
 
@@ -121,7 +120,7 @@ impl DiscTree {
             numbers ≡ numbers_where (λ term. compatible_by varying.entry varying.query term (tree_of query.now)) self.now) }
     {
         let mut found = Vec::new(self.alloc);
-        let rest = Rest::of(slice::from_ref(query), &Rest::Nothing);
+        let rest = Rest::Then(query, &[], &Rest::Nothing);
         collect(&self.root, &Skipped::Closed, &rest, varying, &mut found)?;
         Ok(Numbers::from_vec(found))
     }
