@@ -309,7 +309,7 @@ rows-with-more xs l bs i b n r a e w =
     subst (λ cs. IsWith (l ∷ r.0, r.1) (rows (xs, children_of bs)) (rows (xs, cs))) (sym (children-edited l bs i b n a e))
     (subst (λ cs. IsWith (l ∷ r.0, r.1) (rows (xs, cs)) (rows (xs, a.front ++ (l, rows n) ∷ a.back))) (sym a.parts)
     (with-exchanged xs l r a.child_rows (rows n) a.front a.back
-      (subst (λ rs. IsWith r rs (rows n)) (ap (λ (c : Child). c.1) (at-branch l bs i b a e)) w)))
+    (subst (λ rs. IsWith r rs (rows n)) (ap (λ (c : Child). c.1) (at-branch l bs i b a e)) w)))
 
 rows-with-fewer-parts :
     (xs : List (Tree × ℕ)) (l : Label) (bs : List Branch) (i : ℕ) (b : Branch) (n : Content) (r : Row) (a : IsAt l (children_of bs) i)
@@ -318,7 +318,7 @@ rows-with-fewer-parts :
 rows-with-fewer-parts xs l bs i b n r a e w =
     subst (λ cs. IsWith (l ∷ r.0, r.1) (rows (xs, a.front ++ (l, rows n) ∷ a.back)) (rows (xs, cs))) (sym a.parts)
     (with-exchanged xs l r (rows n) a.child_rows a.front a.back
-      (subst (λ rs. IsWith r (rows n) rs) (ap (λ (c : Child). c.1) (at-branch l bs i b a e)) w))
+    (subst (λ rs. IsWith r (rows n) rs) (ap (λ (c : Child). c.1) (at-branch l bs i b a e)) w))
 
 pub rows-with-fewer :
     (xs : List (Tree × ℕ)) (l : Label) (bs : List Branch) (i : ℕ) (b : Branch) (n : Content) (r : Row) (a : IsAt l (children_of bs) i)
@@ -422,7 +422,7 @@ not-in-front l p x (c ∷ cs) b h =
     ⊎_elim
     (λ first.
     let same : comes_before c.0 l ≡ comes_before l l =
-      ap (λ k. comes_before k l) (sym (in-below-label c.0 l p x c.1 first)) in
+    ap (λ k. comes_before k l) (sym (in-below-label c.0 l p x c.1 first)) in
     let wrong : true ≡ false = sym b.0 ∙ same ∙ before-irreflexive l in absurd cc)
     (λ later. not-in-front l p x cs b.1 later) (is_in-append (l ∷ p, x) (below c.0 c.1) (all_below cs) h)
 
@@ -442,7 +442,7 @@ none-in-gap xs l p cs i vs n g x h named =
     ⊎_elim (not-here l p x xs)
     (λ below.
     let parts : IsIn (l ∷ p, x) (all_below (take i cs) ++ all_below (drop i cs)) =
-      subst (IsIn (l ∷ p, x)) (ap all_below (sym (take-append-drop i cs)) ∙ all_below-append (take i cs) (drop i cs)) below in
+    subst (IsIn (l ∷ p, x)) (ap all_below (sym (take-append-drop i cs)) ∙ all_below-append (take i cs) (drop i cs)) below in
     ⊎_elim (not-in-front l p x (take i cs) g.smaller) (not-behind l p x (drop i cs) g.greater)
     (is_in-append (l ∷ p, x) (all_below (take i cs)) (all_below (drop i cs)) parts))
     (is_in-append (l ∷ p, x) (here xs) (all_below cs) h)
@@ -457,7 +457,7 @@ none-in-child xs l p bs i b vs n a e r none x h named =
     ⊎_elim (not-here l p x xs)
     (λ in_children.
     let parts : IsIn (l ∷ p, x) (all_below a.front ++ (below l a.child_rows ++ all_below a.back)) =
-      subst (IsIn (l ∷ p, x)) (ap all_below a.parts ∙ all_below-append a.front ((l, a.child_rows) ∷ a.back)) in_children in
+    subst (IsIn (l ∷ p, x)) (ap all_below a.parts ∙ all_below-append a.front ((l, a.child_rows) ∷ a.back)) in_children in
     ⊎_elim (not-in-front l p x a.front (front-of (l, a.child_rows) a.front a.back rise))
     (λ later.
     ⊎_elim

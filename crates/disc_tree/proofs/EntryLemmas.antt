@@ -42,11 +42,11 @@ mutual
   read-trees (tree_then t ts) no_trees p q vs ws n h k = absurd cc
   read-trees (tree_then t ts) (tree_then u us) p q vs ws n h k =
       let first : Read (t ≡ u) (paths ts ++ p ≡ paths us ++ q) (trees_variables ts ++ vs ≡ trees_variables us ++ ws) =
-        read-tree t u (paths ts ++ p) (paths us ++ q) (trees_variables ts ++ vs) (trees_variables us ++ ws)
-        (sym (append_assoc (path t) (paths ts) p) ∙ h ∙ append_assoc (path u) (paths us) q)
-        (sym (append_assoc (tree_variables t) (trees_variables ts) vs) ∙ k ∙ append_assoc (tree_variables u) (trees_variables us) ws) in
+      read-tree t u (paths ts ++ p) (paths us ++ q) (trees_variables ts ++ vs) (trees_variables us ++ ws)
+      (sym (append_assoc (path t) (paths ts) p) ∙ h ∙ append_assoc (path u) (paths us) q)
+      (sym (append_assoc (tree_variables t) (trees_variables ts) vs) ∙ k ∙ append_assoc (tree_variables u) (trees_variables us) ws) in
       let others : Read (ts ≡ us) (p ≡ q) (vs ≡ ws) =
-        read-trees ts us p q vs ws (suc-same (length (list_of ts)) (length (list_of us)) n) first.1 first.2 in
+      read-trees ts us p q vs ws (suc-same (length (list_of ts)) (length (list_of us)) n) first.1 first.2 in
       (ap₂ tree_then first.0 others.0, others.1, others.2)
 
 pub same-tree : (t u : Tree) → path t ≡ path u → tree_variables t ≡ tree_variables u → t ≡ u
@@ -109,7 +109,7 @@ in-rows e (r ∷ rs) h is_in =
     ⊎_elim
     (λ same.
     let row : (path e.0, e) ≡ r =
-      ap (λ (x : Tree × ℕ). let s : Row = (path x.0, x) in s) same ∙ ap (λ p. let s : Row = (p, r.1) in s) (sym h.0) in
+    ap (λ (x : Tree × ℕ). let s : Row = (path x.0, x) in s) same ∙ ap (λ p. let s : Row = (p, r.1) in s) (sym h.0) in
     inl row)
     (λ later. inr (in-rows e rs h.1 later)) is_in
 
@@ -131,7 +131,7 @@ taken-entry t n ts old new h paths_ok taken =
     let tree : e.0 ≡ t = same-tree e.0 t (sym p ∙ row-path t ts h) taken.1.0 in
     let entry : e ≡ (t, n) = ap₂ (λ a b. let x : Tree × ℕ = (a, b) in x) tree taken.1.1 in
     let row : (path_of_all ts, e) ≡ (path t, (t, n)) =
-      ap₂ (λ a b. let r : Row = (a, b) in r) (row-path t ts h) entry in
+    ap₂ (λ a b. let r : Row = (a, b) in r) (row-path t ts h) entry in
     subst (λ r. IsWith r new old) row taken.2
 
 -- where no row was there, the entry wasn't

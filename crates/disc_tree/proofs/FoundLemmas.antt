@@ -168,7 +168,7 @@ none-behind e q g us ts ((Symbol f n, rs) ∷ cs) b =
     found-append e q 0 (application g us ∷ ts) (below (Symbol f n) rs) (all_below cs)
     ∙ ap₂ ◌++◌
     (found-below e q 0 (application g us ∷ ts) 0 (list_of us ++ ts) false (Symbol f n) rs
-      (λ p. ap (λ t. t && fits e q 0 (list_of us ++ ts) p) (after-not-same (Symbol f n) (Symbol g (length (list_of us))) b.0)))
+    (λ p. ap (λ t. t && fits e q 0 (list_of us ++ ts) p) (after-not-same (Symbol f n) (Symbol g (length (list_of us))) b.0)))
     (none-behind e q g us ts cs b.1)
 
 symbol-read :
@@ -184,7 +184,7 @@ symbol-read e q g us ts ((Symbol f n, rs) ∷ cs) b r =
     found-append e q 0 (application g us ∷ ts) (below (Symbol f n) rs) (all_below cs)
     ∙ ap₂ ◌++◌
     (found-below e q 0 (application g us ∷ ts) 0 (list_of us ++ ts) true (Symbol f n) rs
-      (λ p. ap (λ t. t && fits e q 0 (list_of us ++ ts) p) same))
+    (λ p. ap (λ t. t && fits e q 0 (list_of us ++ ts) p) same))
     (none-behind e q g us ts cs (subst (λ l. IsBefore l cs) (same-label-is (Symbol f n) (Symbol g (length (list_of us))) same) r.0))
     ∙ append-nil (found_in e q 0 (list_of us ++ ts) rs)
     ∙ ap (λ ss. found_in e q 0 (list_of us ++ ts) ss)
@@ -193,7 +193,7 @@ symbol-read e q g us ts ((Symbol f n, rs) ∷ cs) b r =
     found-append e q 0 (application g us ∷ ts) (below (Symbol f n) rs) (all_below cs)
     ∙ ap₂ ◌++◌
     (found-below e q 0 (application g us ∷ ts) 0 (list_of us ++ ts) false (Symbol f n) rs
-      (λ p. ap (λ t. t && fits e q 0 (list_of us ++ ts) p) other))
+    (λ p. ap (λ t. t && fits e q 0 (list_of us ++ ts) p) other))
     (symbol-read e q g us ts cs b.1 r.1)
     ∙ ap (λ ss. found_in e q 0 (list_of us ++ ts) ss)
     (sym (cond-false (same_label (Symbol f n) (Symbol g (length (list_of us)))) rs (rows_at (Symbol g (length (list_of us))) cs) other)))

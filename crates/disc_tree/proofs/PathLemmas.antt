@@ -2,7 +2,7 @@
 use Rattle.std.proofs.Common.{◌≡◌, ℕ, zero, suc, ◌+◌, Bool, true, false, ◌&&◌, ◌||◌, ◌==◌, List, [], ◌∷◌, ◌++◌, length, append-nil, append_assoc, refl, ap, ap₂, sym, subst, ◌∙◌, arith, ⊎_elim}
 use Rattle.std.proofs.lemmas.Bool.{cases_Bool}
 use Rattle.std.proofs.lemmas.Bool.Decides.{nat_tests}
-use Rattle.fol_base.specs.Tree.{Tree, variable, application, Trees, no_trees, tree_then, list_of}
+use Rattle.fol_base.specs.Tree.{Tree, variable, application, Trees, no_trees, tree_then, trees_of, list_of}
 use Rattle.fol_base.specs.Compatible.{compatible_by, all_compatible_by}
 use Rattle.disc_tree.specs.declared.label.Label.{Label}
 use Rattle.disc_tree.specs.declared.label.Label.TheVariants.{Star, Symbol}
@@ -105,3 +105,17 @@ path-front (application f us) ts = ap (λ p. Symbol f (length (list_of us)) ∷ 
     all : (us : Trees) (ts : List Tree) → paths us ++ path_of_all ts ≡ path_of_all (list_of us ++ ts)
     all no_trees ts = refl
     all (tree_then u us) ts = append_assoc (path u) (paths us) (path_of_all ts) ∙ ap (λ p. path u ++ p) (all us ts)
+
+-- lists of different lengths aren't compatible
+pub lists-of-lengths :
+    (e q : Bool) (ts us : List Tree)
+    → (length ts ≡ length us → ⊥) → false ≡ all_compatible_by e q (trees_of ts) (trees_of us)
+lists-of-lengths e q [] [] h = absurd (h refl)
+lists-of-lengths e q [] (u ∷ us) h = refl
+lists-of-lengths e q (t ∷ ts) [] h = refl
+lists-of-lengths e q (t ∷ ts) (u ∷ us) h =
+    and_false (compatible_by e q t u) ∙ ap (λ b. compatible_by e q t u && b) (lists-of-lengths e q ts us (λ n. h (ap suc n)))
+  where
+    and_false : (b : Bool) → false ≡ (b && false)
+    and_false true = refl
+    and_false false = refl

@@ -6,7 +6,6 @@ use Rattle.fol_base.specs.Tree.{Tree}
 use Rattle.disc_tree.specs.Entries.{IsIn, IsWith}
 use Rattle.disc_tree.specs.Rows.{IsNamed, IsNoEntry}
 
-
 pub no-entry-more :
     (vs : List ℕ) (n : ℕ) (xs : List (Tree × ℕ)) (i : ℕ) (x : Tree × ℕ)
     → IsNoEntry vs n (take i xs) → (IsNamed vs n x → ⊥) → i < length xs → x ≡ get_or xs i x → IsNoEntry vs n (take (i + 1) xs)

@@ -5,7 +5,12 @@ mod entry;
 mod label;
 mod node;
 mod query;
+mod scan;
 mod tree;
 mod work;
 
+pub use scan::is_compatible;
 pub use tree::DiscTree;
+
+#[cfg(test)]
+mod tests;

@@ -56,12 +56,7 @@ pub(crate) fn collect(
 
 /// The same for the star's child, where the entries' variables may stand for terms.
 #[cycle(collect)]
-fn collect_star(
-    node: &Node,
-    rest: &Rest<'_>,
-    varying: Varying,
-    found: &mut Vec<u64>,
-) -> Mem<()>
+fn collect_star(node: &Node, rest: &Rest<'_>, varying: Varying, found: &mut Vec<u64>) -> Mem<()>
     ensures found { IfOk result (λ _. found.new.items
         ≡ found.old.items
         ++ (if varying.entry then found_in varying.entry varying.query 0 (trees_left rest.now) (rows_at Star node.now.1) else [])) }

@@ -20,7 +20,7 @@ returns-clause-ok c =
     let t : Tree = tree_of c.args.term.now in
     let row : Row = (path_of_all (t ∷ []), c.in_ok-made.made) in
     let entries : IsWith c.in_ok-made.made (entries_of (rows c.self.inside.root)) (entries_of (rows c.insert.new.self)) =
-      entries-with row (rows c.self.inside.root) (rows c.insert.new.self) c.in_ok-insert.ensures.ok in
+    entries-with row (rows c.self.inside.root) (rows c.insert.new.self) c.in_ok-insert.ensures.ok in
     let closed : IsWith c.in_ok-made.made c.args.self.now (entries_of (rows c.insert.new.self)) =
-      subst (λ (es : List (Tree × ℕ)). IsWith c.in_ok-made.made es (entries_of (rows c.insert.new.self))) c.self.view_is entries in
+    subst (λ (es : List (Tree × ℕ)). IsWith c.in_ok-made.made es (entries_of (rows c.insert.new.self))) c.self.view_is entries in
     subst (λ (e : Tree × ℕ). IsWith e c.args.self.now (entries_of (rows c.insert.new.self))) c.in_ok-made.ensures closed

@@ -25,18 +25,17 @@ returns-clause-removed c gone =
     let row : Row = (path t, (t, c.args.entry)) in
     subst (λ (es : List (Tree × ℕ)). IsWith (t, c.args.entry) (entries_of (rows c.remove.new.self)) es) c.self.view_is
     (entries-with row (rows c.remove.new.self) (rows c.self.inside.root)
-      (taken-entry t c.args.entry (t ∷ []) (rows c.self.inside.root) (rows c.remove.new.self) refl c.self.invariant (c.remove.ensures.removed gone)))
+    (taken-entry t c.args.entry (t ∷ []) (rows c.self.inside.root) (rows c.remove.new.self) refl c.self.invariant (c.remove.ensures.removed gone)))
 
 pub returns-clause-there : goal.returns-clause-there
 returns-clause-there c =
-    let t : Tree = tree_of c.args.term.now in
-    (
+    let t : Tree = tree_of c.args.term.now in (
       λ gone. in-with (t, c.args.entry) (entries_of (rows c.remove.new.self)) c.args.self.now (returns-clause-removed c gone),
       λ is_in.
-        ⊎_elim (λ gone. gone)
-        (λ kept.
-        absurd
-        (none-there t c.args.entry (t ∷ []) (rows c.self.inside.root) refl c.self.invariant (c.remove.ensures.absent kept)
+          ⊎_elim (λ gone. gone)
+          (λ kept.
+          absurd
+          (none-there t c.args.entry (t ∷ []) (rows c.self.inside.root) refl c.self.invariant (c.remove.ensures.absent kept)
           (subst (λ (es : List (Tree × ℕ)). IsIn (t, c.args.entry) es) (sym c.self.view_is) is_in)))
-        (cases_Bool c.remove.result),
+          (cases_Bool c.remove.result),
     )
