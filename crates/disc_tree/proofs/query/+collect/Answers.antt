@@ -1,0 +1,78 @@
+use Rattle.std.proofs.Common.{◌≡◌, ◌++◌, ◌∷◌, [], ℕ, Bool, suc, ◌+◌, List, true, false, map, take, length, refl, ap, sym, ◌∙◌, append_assoc, arith, IfOk, if◌then◌else◌}
+use Rattle.std.proofs.lemmas.List.{take_all}
+use Rattle.fol_base.specs.Tree.{Tree}
+use Rattle.fol_base.specs.Term.{tree_of}
+use Rattle.disc_tree.specs.declared.label.Label.TheVariants.{Star}
+use Rattle.disc_tree.specs.Path.{arity}
+use Rattle.disc_tree.specs.Work.{trees_left, terms_left}
+use Rattle.disc_tree.specs.Rows.{Row, Child, rows, rows_at, found_in, all_below}
+use Rattle.disc_tree.proofs.FoundLemmas.{if_ok-map, end-step, variable-step, star-step, application-step, children-more, found-passing}
+use Rattle.disc_tree.proofs.query.+collect.Goals as goal
+
+pub collect-returns-in_default-rest : goal.collect-returns-in_default-rest
+collect-returns-in_default-rest t c =
+    if_ok-map c.push_numbers.result
+    (λ e. e ∙ ap (λ ns. c.args.found.now.items ++ ns)
+    (sym (end-step c.args.varying.entry c.args.varying.query (terms_left c.args.skipped.now) (trees_left c.args.rest.now) c.args.node.now.0
+    c.args.node.now.1 (ap terms_left c.in_default.is) (ap trees_left c.in_default-rest.is))))
+    c.push_numbers.ensures
+
+pub collect-returns-else-varying : goal.collect-returns-else-varying
+collect-returns-else-varying t c =
+    if_ok-map c.collect_star.result
+    (λ e. e ∙ ap (λ ns. c.args.found.now.items ++ ns)
+    (sym (star-step c.args.varying.entry c.args.varying.query (terms_left c.args.skipped.now) c.in-Var.field-0 (trees_left c.args.rest.now)
+    (map tree_of c.in-Then.more.now ++ trees_left c.in-Then.below.now) (trees_left c.of-after.result) (tree_of c.in-Then.first.now)
+    c.args.node.now.0 c.args.node.now.1 (ap terms_left c.in_default.is) (ap trees_left c.in-Then.is) c.of-after.ensures
+    (ap tree_of c.in-Var.is) c.if-varying.false c.collect_star.ensures.order)))
+    c.collect_star.ensures.found
+
+pub collect-returns-in_ok-collect_child-in-App : goal.collect-returns-in_ok-collect_child-in-App
+collect-returns-in_ok-collect_child-in-App t c =
+    let star : List ℕ =
+    if c.args.varying.entry
+    then found_in c.args.varying.entry c.args.varying.query 0 (trees_left c.of-after.result) (rows_at Star c.args.node.now.1)
+    else [] in
+    let symbol : List ℕ =
+    found_in c.args.varying.entry c.args.varying.query 0 (trees_left c.of-next.result) (rows_at c.of.result c.args.node.now.1) in
+    c.in_ok-collect_child-in-App.ensures.found ∙ ap (λ ns. ns ++ symbol) c.in_ok-collect_star-in-App.ensures.found
+    ∙ append_assoc c.args.found.now.items star symbol
+    ∙ ap (λ ns. c.args.found.now.items ++ ns)
+    (sym (application-step c.args.varying.entry c.args.varying.query (terms_left c.args.skipped.now) c.in-App.field-0
+    (trees_left c.args.rest.now) (map tree_of c.in-Then.more.now ++ trees_left c.in-Then.below.now) (trees_left c.of-after.result)
+    (trees_left c.of-next.result) c.in-App.arguments (tree_of c.in-Then.first.now) c.of.result c.args.node.now.0 c.args.node.now.1
+    (ap terms_left c.in_default.is) (ap trees_left c.in-Then.is) c.of-after.ensures (ap tree_of c.in-App.is)
+    (c.of-next.ensures ∙ ap (λ ts. ts ++ trees_left c.of-after.result) c.as_slice.ensures) c.of.ensures
+    c.in_ok-collect_child-in-App.ensures.order))
+
+pub collect_child-collect-requires : goal.collect_child-collect-requires
+collect_child-collect-requires t c = (omega (arith, c.in-Some.ensures.smaller, c.decreases), tt)
+
+pub collect_children-loop-index-preserved : goal.collect_children-loop-index-preserved
+collect_children-loop-index-preserved t c =
+    let e : Bool = c.args.varying.entry in
+    let q : Bool = c.args.varying.query in
+    let k : ℕ = terms_left c.args.skipped.now in
+    let ts : List Tree = trees_left c.args.rest.now in
+    let before : List ℕ = found_in e q (suc k) ts (all_below (take c.loop-index.index c.args.node.now.1)) in
+    let inner : terms_left c.of-inner.result ≡ arity c.child_at-label.result.0 + k =
+    c.of-inner.ensures ∙ ap (λ n. n + k) c.arity.ensures in
+    c.in_ok-collect.ensures
+    ∙ ap (λ n. c.loop-index.found.items ++ found_in e q n ts (rows c.child_at-label.result.1.now)) inner
+    ∙ ap (λ ns. ns ++ found_in e q (arity c.child_at-label.result.0 + k) ts (rows c.child_at-label.result.1.now)) c.loop-index.invariant
+    ∙ append_assoc c.args.found.now.items before (found_in e q (arity c.child_at-label.result.0 + k) ts (rows c.child_at-label.result.1.now))
+    ∙ ap (λ ns. c.args.found.now.items ++ ns)
+    (sym (children-more e q k ts c.args.node.now.1 c.loop-index.index c.child_at-label.result.0 (rows c.child_at-label.result.1.now)
+    (omega (arith, c.loop-index-test.true, c.width-index-end.ensures)) c.child_at-label.ensures.child))
+
+pub collect_children-returns : goal.collect_children-returns
+collect_children-returns t c =
+    let e : Bool = c.args.varying.entry in
+    let q : Bool = c.args.varying.query in
+    let k : ℕ = terms_left c.args.skipped.now in
+    let ts : List Tree = trees_left c.args.rest.now in
+    c.loop-index.invariant
+    ∙ ap (λ ns. c.args.found.now.items ++ ns)
+    (ap (λ cs. found_in e q (suc k) ts (all_below cs))
+    (take_all c.loop-index.index c.args.node.now.1 (omega (arith, c.loop-index-test.false, c.width-index-end.ensures)))
+    ∙ sym (found-passing e q k ts c.args.node.now.0 c.args.node.now.1))

@@ -1,0 +1,7 @@
+pub mod Entries
+pub mod Path
+pub mod LabelCode
+pub mod Work
+pub mod Rows
+pub mod Children
+pub mod Falls

@@ -1,0 +1,16 @@
+// An index of terms that finds the unifiable ones, generalisations and instances by their heads (McCune 1992; Graf, Term Indexing, 1996).
+#![tactic(auto)]
+
+mod entry;
+mod label;
+mod node;
+mod query;
+mod scan;
+mod tree;
+mod work;
+
+pub use scan::is_compatible;
+pub use tree::DiscTree;
+
+#[cfg(test)]
+mod tests;

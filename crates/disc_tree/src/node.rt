@@ -1,0 +1,231 @@
+// The nodes of a tree.
+
+ghost use Rattle.std.specs.Prelude.{◌≡◌, ◌↔◌, ◌<◌, [], ◌∷◌, IfOk, IfErr, OnErr, IfSome, MatchOption, IsTrue, false, length};
+ghost use Rattle.fol_base.specs.Tree.{tree_variables};
+ghost use Rattle.fol_base.specs.Term.{tree_of};
+ghost use Rattle.disc_tree.specs.Entries.{IsWith};
+ghost use Rattle.disc_tree.specs.Path.{path_of_all};
+ghost use Rattle.disc_tree.specs.Work.{trees_left};
+ghost use Rattle.disc_tree.specs.Rows.{rows, rows_at, weight, IsSound, IsAt, IsGap, IsChildAt, Rise, IsTaken, IsNone, IsEntryTaken, IsNoEntry};
+ghost use Rattle.disc_tree.specs.Children.{children_of};
+
+use crate::entry::Entry;
+use crate::label::Label;
+use crate::work::{Rest, arguments_of};
+use fol_base::{Mem, Term};
+use std::alloc::Global;
+use std::marker::Model;
+
+/// What lies below a beginning of paths: the entries whose path ends here, and the children, in the order of their labels.
+#[derive(Drop)]
+#[cycle(nodes)]
+pub(crate) struct Node {
+    entries: Vec<Entry>,
+    branches: Vec<Branch>,
+}
+
+/// A child with its label.
+#[derive(Drop)]
+#[cycle(nodes)]
+struct Branch {
+    label: Label,
+    node: Node,
+}
+
+impl Model for Node {
+    ghost use Rattle.std.specs.Prelude.{List, ℕ, ◌++◌};
+    ghost use Rattle.std.specs.Coded.{coded×, coded_ℕ, coded_list};
+    ghost use Rattle.fol_base.specs.Tree.{Tree};
+    ghost use Rattle.fol_base.specs.TreeCode.{tree_code};
+    ghost use Rattle.disc_tree.specs.declared.label.Label.{Label};
+    ghost use Rattle.disc_tree.specs.LabelCode.{label_code};
+
+    ghost Value = { List (Tree × ℕ) × List (Label × List (List Label × (Tree × ℕ))) };
+
+    ghost coded = { coded× (coded_list (coded× tree_code coded_ℕ)) (coded_list (coded× label_code (coded_list (coded× (coded_list label_code) (coded× tree_code coded_ℕ))))) };
+
+    ghost use Rattle.disc_tree.specs.Rows.{rows, weight, IsSound};
+    ghost use Rattle.disc_tree.specs.Children.{children_of};
+
+    ghost view = { λ a. (a.entries.items, children_of a.branches.items) };
+
+    ghost invariant = { λ a. IsSound (children_of a.branches.items) };
+
+    ghost size = { λ v. weight (rows v) };
+
+    ghost use Rattle.std.proofs.Common.{arith};
+    ghost use Rattle.disc_tree.specs.Falls.{most-deep-rows-≤};
+
+    ghost size_decreases = { λ a h. Prim.omega (arith, most-deep-rows-≤ a.entries.items a.branches.items h.none_is_empty) };
+}
+
+impl Node {
+    /// A node without entries.
+    pub(crate) fn new(alloc: Global) -> Node
+        ensures { result ≡ ([], []) }
+    {
+        Node {
+            entries: Vec::new(alloc),
+            branches: Vec::new(alloc),
+        }
+    }
+
+    /// The entries whose path ends here.
+    pub(crate) fn entries(&self) -> &[Entry]
+        ensures { result.now ≡ self.now.0 }
+    {
+        self.entries.as_slice()
+    }
+
+    /// The child with a label.
+    pub(crate) fn child(&self, label: Label) -> Option<&Node>
+        ensures child { MatchOption result (rows_at label self.now.1 ≡ [])
+            (λ child. rows child.now ≡ rows_at label self.now.1) }
+        ensures smaller { IfSome result (λ child. weight (rows child.now) < weight (rows self.now)) }
+        ensures order { Rise self.now.1 }
+    {
+        match slot(&self.branches, label) {
+            Ok(at) => Some(&self.branches[at].node),
+            Err(_) => None,
+        }
+    }
+
+    /// How many children there are.
+    pub(crate) fn width(&self) -> usize
+        ensures { result ≡ length self.now.1 }
+    {
+        self.branches.len()
+    }
+
+    /// The child at a place in the order of labels, with its label.
+    pub(crate) fn child_at(&self, index: usize) -> (Label, &Node)
+        requires { index < length self.now.1 }
+        ensures child { IsChildAt result.0 (rows result.1.now) self.now.1 index }
+        ensures smaller { weight (rows result.1.now) < weight (rows self.now) }
+    {
+        let branch = &self.branches[index];
+        (branch.label, &branch.node)
+    }
+
+    /// Whether no entry is here or below.
+    pub(crate) fn is_empty(&self) -> bool
+        ensures { IsTrue result ↔ (rows self.now ≡ []) }
+    {
+        self.entries.is_empty() && self.branches.is_empty()
+    }
+
+    /// Puts an entry at the end of the path of what is left. After want of memory the node is as before.
+    pub(crate) fn insert(&mut self, alloc: Global, rest: &Rest<'_>, entry: Entry) -> Mem<()>
+        ensures ok { IfOk result (λ _. IsWith (path_of_all (trees_left rest.now), entry) (rows self.old) (rows self.new)) }
+        ensures err { OnErr result (self.new ≡ self.old) }
+    {
+        let Rest::Then(first, more, below) = rest else {
+            self.entries.push(entry)?;
+            return Ok(());
+        };
+        let after = Rest::of(more, below);
+        let next = Rest::of(arguments_of(first), &after);
+        let label = Label::of(first);
+        match slot(&self.branches, label) {
+            Ok(at) => {
+                self.branches[at].node.insert(alloc, &next, entry)?;
+                Ok(())
+            }
+            Err(at) => {
+                let node = Node::chain(alloc, &next, entry)?;
+                self.branches.insert(at, Branch { label, node })?;
+                Ok(())
+            }
+        }
+    }
+
+    /// A node with one entry, at the end of the path of what is left.
+    fn chain(alloc: Global, rest: &Rest<'_>, entry: Entry) -> Mem<Node>
+        ensures { IfOk result (λ node. rows node ≡ (path_of_all (trees_left rest.now), entry) ∷ []) }
+    {
+        let Rest::Then(first, more, below) = rest else {
+            let mut entries = Vec::with_capacity(alloc, 1)?;
+            entries.push(entry)?;
+            return Ok(Node {
+                entries,
+                branches: Vec::new(alloc),
+            });
+        };
+        let after = Rest::of(more, below);
+        let next = Rest::of(arguments_of(first), &after);
+        let node = Node::chain(alloc, &next, entry)?;
+        let mut branches = Vec::with_capacity(alloc, 1)?;
+        branches.push(Branch {
+            label: Label::of(first),
+            node,
+        })?;
+        Ok(Node {
+            entries: Vec::new(alloc),
+            branches,
+        })
+    }
+
+    /// Takes away the entry with a number and a term's variables, at the end of the path of what is left, and the branches that are empty
+    /// without it. It says whether the entry was there.
+    pub(crate) fn remove(&mut self, rest: &Rest<'_>, term: &Term, number: u64) -> bool
+        ensures removed { IsTrue result → IsTaken (path_of_all (trees_left rest.now)) (tree_variables (tree_of term.now)) number
+            (rows self.old) (rows self.new) }
+        ensures absent { result ≡ false → IsNone (path_of_all (trees_left rest.now)) (tree_variables (tree_of term.now)) number
+            (rows self.old) }
+        ensures unchanged { result ≡ false → self.new ≡ self.old }
+    {
+        let Rest::Then(first, more, below) = rest else {
+            return remove_entry(&mut self.entries, term, number);
+        };
+        let after = Rest::of(more, below);
+        let next = Rest::of(arguments_of(first), &after);
+        let Ok(at) = slot(&self.branches, Label::of(first)) else {
+            return false;
+        };
+        if !self.branches[at].node.remove(&next, term, number) {
+            return false;
+        }
+        if self.branches[at].node.is_empty() {
+            let _ = self.branches.remove(at);
+        }
+        true
+    }
+}
+
+/// Takes the first entry with a number and a term's variables out of a list, and says whether there was one.
+fn remove_entry(entries: &mut Vec<Entry>, term: &Term, number: u64) -> bool
+    ensures removed { IsTrue result → IsEntryTaken (tree_variables (tree_of term.now)) number entries.old.items entries.new.items }
+    ensures absent { result ≡ false → IsNoEntry (tree_variables (tree_of term.now)) number entries.old.items }
+    ensures unchanged { result ≡ false → entries.new.items ≡ entries.old.items }
+{
+    for index in 0..entries.len() {
+        if entries[index].is_for(term, number) {
+            let _ = entries.remove(index);
+            return true;
+        }
+    }
+    false
+}
+
+/// Where the child with a label stands, or would go, by halving.
+fn slot(branches: &[Branch], label: Label) -> Result<usize, usize>
+    requires { Rise (children_of branches.now) }
+    ensures found { IfOk result (IsAt label (children_of branches.now)) }
+    ensures absent { IfErr result (IsGap label (children_of branches.now)) }
+{
+    let mut low = 0;
+    let mut high = branches.len();
+    while low < high {
+        let middle = low + (high - low) / 2;
+        if branches[middle].label.comes_before(label) {
+            low = middle + 1;
+        } else {
+            high = middle;
+        }
+    }
+    if low < branches.len() && !label.comes_before(branches[low].label) {
+        Ok(low)
+    } else {
+        Err(low)
+    }
+}

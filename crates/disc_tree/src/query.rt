@@ -1,0 +1,119 @@
+// What a query finds.
+
+ghost use Rattle.std.specs.Prelude.{◌≡◌, ◌++◌, [], suc, true, IfOk, if◌then◌else◌};
+ghost use Rattle.disc_tree.specs.Work.{trees_left, terms_left};
+ghost use Rattle.disc_tree.specs.Rows.{rows, rows_at, found_in, numbers_of, Rise};
+ghost use Rattle.disc_tree.specs.declared.label.Label.TheVariants.{Star};
+
+use crate::label::Label;
+use crate::node::Node;
+use crate::work::{Rest, Skipped};
+use fol_base::{Mem, Term};
+
+/// Whose variables may stand for terms.
+#[derive(Clone, Copy)]
+pub(crate) struct Varying {
+    pub(crate) entry: bool,
+    pub(crate) query: bool,
+}
+
+/// Adds the numbers of the node's entries whose paths fit what is left, in the tree's order.
+#[cycle(collect)]
+pub(crate) fn collect(
+    node: &Node,
+    skipped: &Skipped<'_>,
+    rest: &Rest<'_>,
+    varying: Varying,
+    found: &mut Vec<u64>,
+) -> Mem<()>
+    ensures { IfOk result (λ _. found.new.items
+        ≡ found.old.items ++ found_in varying.entry varying.query (terms_left skipped.now) (trees_left rest.now) (rows node.now)) }
+{
+    if let Skipped::More(count, below) = skipped {
+        let fewer = Skipped::of(*count, below);
+        return collect_children(node, &fewer, rest, varying, found);
+    }
+    let Rest::Then(first, more, below) = rest else {
+        return push_numbers(node, found);
+    };
+    let after = Rest::of(more, below);
+    match first {
+        Term::Var(_) => {
+            if varying.query {
+                collect_children(node, &Skipped::Closed, &after, varying, found)
+            } else {
+                collect_star(node, &after, varying, found)
+            }
+        }
+        Term::App(_, arguments) => {
+            collect_star(node, &after, varying, found)?;
+            let next = Rest::of(arguments.as_slice(), &after);
+            collect_child(node, Label::of(first), &next, varying, found)?;
+            Ok(())
+        }
+    }
+}
+
+/// The same for the star's child, where the entries' variables may stand for terms.
+#[cycle(collect)]
+fn collect_star(node: &Node, rest: &Rest<'_>, varying: Varying, found: &mut Vec<u64>) -> Mem<()>
+    ensures found { IfOk result (λ _. found.new.items
+        ≡ found.old.items
+        ++ (if varying.entry then found_in varying.entry varying.query 0 (trees_left rest.now) (rows_at Star node.now.1) else [])) }
+    ensures order { varying.entry ≡ true → Rise node.now.1 }
+{
+    if varying.entry {
+        collect_child(node, Label::Star, rest, varying, found)
+    } else {
+        Ok(())
+    }
+}
+
+/// The same for the child with a label, if there is one.
+#[cycle(collect)]
+fn collect_child(
+    node: &Node,
+    label: Label,
+    rest: &Rest<'_>,
+    varying: Varying,
+    found: &mut Vec<u64>,
+) -> Mem<()>
+    ensures found { IfOk result (λ _. found.new.items
+        ≡ found.old.items ++ found_in varying.entry varying.query 0 (trees_left rest.now) (rows_at label node.now.1)) }
+    ensures order { Rise node.now.1 }
+{
+    match node.child(label) {
+        Some(child) => collect(child, &Skipped::Closed, rest, varying, found),
+        None => Ok(()),
+    }
+}
+
+/// The same for all children, where one term of the paths is passed over, and then so many more.
+#[cycle(collect)]
+fn collect_children(
+    node: &Node,
+    skipped: &Skipped<'_>,
+    rest: &Rest<'_>,
+    varying: Varying,
+    found: &mut Vec<u64>,
+) -> Mem<()>
+    ensures { IfOk result (λ _. found.new.items
+        ≡ found.old.items ++ found_in varying.entry varying.query (suc (terms_left skipped.now)) (trees_left rest.now) (rows node.now)) }
+{
+    for index in 0..node.width() {
+        let (label, child) = node.child_at(index);
+        let inner = Skipped::of(label.arity(), &*skipped);
+        collect(child, &inner, &*rest, varying, found)?;
+    }
+    Ok(())
+}
+
+/// Adds the numbers of the entries at the node itself.
+fn push_numbers(node: &Node, found: &mut Vec<u64>) -> Mem<()>
+    ensures { IfOk result (λ _. found.new.items ≡ found.old.items ++ numbers_of node.now.0) }
+{
+    for entry in node.entries() {
+        found.push(entry.number())?;
+    }
+    Ok(())
+}

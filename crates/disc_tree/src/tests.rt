@@ -1,0 +1,206 @@
+// Rows worked out by hand, and a thousand steps beside a plain list.
+
+use super::*;
+use fol_base::{Mem, Numbers, Term, Terms};
+use std::alloc::Global;
+use std::test::Fail;
+
+const A: u32 = 1;
+
+const B: u32 = 2;
+
+const F: u32 = 3;
+
+const G: u32 = 4;
+
+fn constant(alloc: Global, symbol: u32) -> Term {
+    Term::App(symbol, Terms::new(alloc))
+}
+
+fn unary(alloc: Global, symbol: u32, argument: Term) -> Mem<Term> {
+    let mut arguments = Terms::new(alloc);
+    arguments.push(argument)?;
+    Ok(Term::App(symbol, arguments))
+}
+
+fn binary(alloc: Global, symbol: u32, first: Term, second: Term) -> Mem<Term> {
+    let mut arguments = Terms::new(alloc);
+    arguments.push(first)?;
+    arguments.push(second)?;
+    Ok(Term::App(symbol, arguments))
+}
+
+fn added(tree: &mut DiscTree, term: Mem<Term>, entry: u64) -> Mem<()> {
+    tree.insert(&term?, entry)
+}
+
+/// 1 at `f(X0,a)`, 2 at `f(b,X0)` and 3 at `g(a)`.
+fn three_entries(alloc: Global) -> Mem<DiscTree> {
+    let mut tree = DiscTree::new(alloc)?;
+    added(
+        &mut tree,
+        binary(alloc, F, Term::Var(0), constant(alloc, A)),
+        1,
+    )?;
+    added(
+        &mut tree,
+        binary(alloc, F, constant(alloc, B), Term::Var(0)),
+        2,
+    )?;
+    added(&mut tree, unary(alloc, G, constant(alloc, A)), 3)?;
+    Ok(tree)
+}
+
+fn are(numbers: Mem<Numbers>, wanted: &[u64]) -> bool {
+    match numbers {
+        Ok(numbers) => numbers.as_slice() == wanted,
+        Err(_) => false,
+    }
+}
+
+#[test]
+fn a_ground_query_finds_entries_by_their_heads(rt: HostRuntime) -> Result<(), Fail> {
+    let tree = three_entries(rt.alloc())?;
+    let query = binary(
+        rt.alloc(),
+        F,
+        constant(rt.alloc(), B),
+        constant(rt.alloc(), A),
+    )?;
+    assert!(rt; are(tree.unifiable(&query), &[1, 2]));
+    assert!(rt; are(tree.generalisations(&query), &[1, 2]));
+    assert!(rt; are(tree.instances(&query), &[]));
+    Ok(())
+}
+
+#[test]
+fn an_open_query_finds_entries_by_their_heads(rt: HostRuntime) -> Result<(), Fail> {
+    let tree = three_entries(rt.alloc())?;
+    let query = binary(rt.alloc(), F, Term::Var(0), Term::Var(1))?;
+    assert!(rt; are(tree.instances(&query), &[1, 2]));
+    assert!(rt; are(tree.generalisations(&query), &[]));
+    assert!(rt; are(tree.unifiable(&Term::Var(0)), &[1, 2, 3]));
+    Ok(())
+}
+
+#[test]
+fn an_entry_is_removed_once(rt: HostRuntime) -> Result<(), Fail> {
+    let mut tree = three_entries(rt.alloc())?;
+    let term = unary(rt.alloc(), G, constant(rt.alloc(), A))?;
+    assert!(rt; !tree.remove(&term, 4));
+    assert!(rt; tree.remove(&term, 3));
+    assert!(rt; !tree.remove(&term, 3));
+    assert!(rt; are(tree.unifiable(&Term::Var(0)), &[1, 2]));
+    Ok(())
+}
+
+/// The next number of a linear congruence (Knuth, 1999).
+fn next(seed: &mut u64) -> u64 {
+    *seed = seed
+        .wrapping_mul(6_364_136_223_846_793_005)
+        .wrapping_add(1_442_695_040_888_963_407);
+    *seed >> 33
+}
+
+/// A term of up to so many levels below its head.
+fn random_term(alloc: Global, seed: &mut u64, depth: u32) -> Mem<Term> {
+    let kind = next(seed) % 6;
+    if kind == 0 || (depth == 0 && kind < 3) {
+        return Ok(Term::Var(if next(seed) % 2 == 0 { 0 } else { 1 }));
+    }
+    if kind == 1 || depth == 0 {
+        return Ok(constant(alloc, if next(seed) % 2 == 0 { A } else { B }));
+    }
+    let first = random_term(alloc, seed, depth - 1)?;
+    if kind == 2 {
+        return unary(alloc, G, first);
+    }
+    binary(alloc, F, first, random_term(alloc, seed, depth - 1)?)
+}
+
+/// What a scan of all entries finds, in rising order.
+fn scanned(
+    alloc: Global,
+    list: &[(Term, u64)],
+    query: &Term,
+    entry_varies: bool,
+    query_varies: bool,
+) -> Mem<Vec<u64>> {
+    let mut found = Vec::new(alloc);
+    for entry in list {
+        if is_compatible(&entry.0, query, entry_varies, query_varies) {
+            found.push(entry.1)?;
+        }
+    }
+    found.sort()?;
+    Ok(found)
+}
+
+fn alike(numbers: Mem<Numbers>, wanted: &[u64]) -> Mem<bool> {
+    let mut found = numbers?.into_vec();
+    found.sort()?;
+    Ok(found.as_slice() == wanted)
+}
+
+/// Whether the three queries find what a scan finds.
+fn finds_alike(alloc: Global, tree: &DiscTree, list: &[(Term, u64)], query: &Term) -> Mem<bool> {
+    if !alike(
+        tree.unifiable(query),
+        &scanned(alloc, list, query, true, true)?,
+    )? {
+        return Ok(false);
+    }
+    if !alike(
+        tree.generalisations(query),
+        &scanned(alloc, list, query, true, false)?,
+    )? {
+        return Ok(false);
+    }
+    alike(
+        tree.instances(query),
+        &scanned(alloc, list, query, false, true)?,
+    )
+}
+
+/// Removes an entry of the list from both, and says whether the tree had it once.
+fn removes_alike(tree: &mut DiscTree, list: &mut Vec<(Term, u64)>, number: u64) -> bool {
+    if list.is_empty() {
+        return true;
+    }
+    let at = number as usize % list.len();
+    let (term, entry) = list.swap_remove(at);
+    tree.remove(&term, entry) && !tree.remove(&term, entry)
+}
+
+/// One random step on both: half of them add an entry, the others remove or look for one.
+fn step_alike(
+    alloc: Global,
+    tree: &mut DiscTree,
+    list: &mut Vec<(Term, u64)>,
+    seed: &mut u64,
+    number: u64,
+) -> Mem<bool> {
+    let term = random_term(alloc, seed, 3)?;
+    let kind = next(seed) % 4;
+    if kind < 2 {
+        tree.insert(&term, number)?;
+        list.push((term, number))?;
+        return Ok(true);
+    }
+    if kind == 2 {
+        return Ok(removes_alike(tree, list, next(seed)));
+    }
+    finds_alike(alloc, &*tree, list.as_slice(), &term)
+}
+
+#[test]
+fn a_thousand_steps_agree_with_a_plain_list(rt: HostRuntime) -> Result<(), Fail> {
+    let mut seed = 1;
+    let mut tree = DiscTree::new(rt.alloc())?;
+    let mut list: Vec<(Term, u64)> = Vec::new(rt.alloc());
+    for number in 0..1000u64 {
+        let alike = step_alike(rt.alloc(), &mut tree, &mut list, &mut seed, number)?;
+        assert!(rt; alike);
+    }
+    Ok(())
+}

@@ -1,0 +1,127 @@
+// The tree: a list of entries, each a term and a number.
+
+ghost use Rattle.std.specs.Prelude.{◌≡◌, ◌↔◌, [], IfOk, OnErr, IsTrue, false};
+ghost use Rattle.fol_base.specs.Term.{tree_of};
+ghost use Rattle.fol_base.specs.Compatible.{compatible, compatible_generalisation, compatible_instance, compatible_by};
+ghost use Rattle.disc_tree.specs.Entries.{IsIn, IsWith, numbers_where};
+
+use crate::entry::Entry;
+use crate::node::Node;
+use crate::query::{Varying, collect};
+use crate::work::{Rest, Skipped};
+use fol_base::{Mem, Numbers, Term};
+use std::alloc::Global;
+use std::marker::Model;
+
+/// An index of terms, which contracts see as the list of its entries, each a term and a number, in the order in which queries find them.
+/// Where a new entry stands in that order is not said.
+#[derive(Drop)]
+pub struct DiscTree {
+    alloc: Global,
+    root: Node,
+}
+
+impl Model for DiscTree {
+    ghost use Rattle.std.specs.Prelude.{List, ℕ};
+    ghost use Rattle.std.specs.Coded.{coded×, coded_ℕ, coded_list};
+    ghost use Rattle.fol_base.specs.Tree.{Tree};
+    ghost use Rattle.fol_base.specs.TreeCode.{tree_code};
+
+    ghost Value = { List (Tree × ℕ) };
+
+    ghost coded = { coded_list (coded× tree_code coded_ℕ) };
+
+    ghost use Rattle.disc_tree.specs.Rows.{rows, entries_of, HavePaths};
+
+    ghost view = { λ a. entries_of (rows a.root) };
+
+    ghost invariant = { λ a. HavePaths (rows a.root) };
+}
+
+impl DiscTree {
+    /// The empty tree. It keeps the allocator for its later calls.
+    pub fn new(alloc: Global) -> Mem<DiscTree>
+        ensures { IfOk result (λ tree. tree ≡ []) }
+    {
+        Ok(DiscTree {
+            alloc,
+            root: Node::new(alloc),
+        })
+    }
+
+    /// Adds an entry. After want of memory the tree is as before.
+    ///
+    /// It takes steps in proportion to the term's symbols and variables, each with a search by halving among the children of one node, and
+    /// moves the children behind a new one.
+    pub fn insert(&mut self, term: &Term, entry: u64) -> Mem<()>
+        ensures ok { IfOk result (λ _. IsWith (tree_of term.now, entry) self.old self.new) }
+        ensures err { OnErr result (self.new ≡ self.old) }
+    {
+        let made = Entry::new(self.alloc, term, entry)?;
+        let rest = Rest::Then(term, &[], &Rest::Nothing);
+        self.root.insert(self.alloc, &rest, made)?;
+        Ok(())
+    }
+
+    /// Takes away an entry, and the branches that are empty without it. True exactly where it was there. It takes no memory.
+    pub fn remove(&mut self, term: &Term, entry: u64) -> bool
+        ensures there { IsTrue result ↔ IsIn (tree_of term.now, entry) self.old }
+        ensures removed { IsTrue result → IsWith (tree_of term.now, entry) self.new self.old }
+        ensures unchanged { result ≡ false → self.new ≡ self.old }
+    {
+        let rest = Rest::Then(term, &[], &Rest::Nothing);
+        self.root.remove(&rest, term, entry)
+    }
+
+    /// The numbers of exactly the entries whose term is compatible with the query: of those that may unify with it.
+    pub fn unifiable(&self, query: &Term) -> Mem<Numbers>
+        ensures { IfOk result (λ numbers. numbers ≡ numbers_where (λ term. compatible term (tree_of query.now)) self.now) }
+    {
+        self.find(
+            query,
+            Varying {
+                entry: true,
+                query: true,
+            },
+        )
+    }
+
+    /// The same where only a variable of the entry stands for another term: of those that may be generalisations of the query.
+    pub fn generalisations(&self, query: &Term) -> Mem<Numbers>
+        ensures { IfOk result (λ numbers.
+            numbers ≡ numbers_where (λ term. compatible_generalisation term (tree_of query.now)) self.now) }
+    {
+        self.find(
+            query,
+            Varying {
+                entry: true,
+                query: false,
+            },
+        )
+    }
+
+    /// The same where only a variable of the query does: of those that may be instances of it.
+    pub fn instances(&self, query: &Term) -> Mem<Numbers>
+        ensures { IfOk result (λ numbers.
+            numbers ≡ numbers_where (λ term. compatible_instance term (tree_of query.now)) self.now) }
+    {
+        self.find(
+            query,
+            Varying {
+                entry: false,
+                query: true,
+            },
+        )
+    }
+
+    /// The numbers of the entries whose term is compatible with the query, where these variables may stand for terms.
+    fn find(&self, query: &Term, varying: Varying) -> Mem<Numbers>
+        ensures { IfOk result (λ numbers.
+            numbers ≡ numbers_where (λ term. compatible_by varying.entry varying.query term (tree_of query.now)) self.now) }
+    {
+        let mut found = Vec::new(self.alloc);
+        let rest = Rest::Then(query, &[], &Rest::Nothing);
+        collect(&self.root, &Skipped::Closed, &rest, varying, &mut found)?;
+        Ok(Numbers::from_vec(found))
+    }
+}
