@@ -94,9 +94,9 @@ read-from limit ts first next p right spelled e = by (verdict_on limit (drop fir
 
 -- ---- the answers have one verdict
 
--- A formula that is read has at least one token.
-some-causes : (c : Option Refusal) (cs : List (Option Refusal)) → 0 < length (c ∷ cs)
-some-causes c cs = omega arith
+-- an annotated formula has at least one token
+some-causes : (limit : ℕ) (p : AnnotatedPhrase) → 0 < length (annotated_causes limit p)
+some-causes limit p = omega arith
 
 pub read-verdict :
     (limit : ℕ) (ts : List Lexeme) (first next : ℕ) (p : AnnotatedPhrase)
@@ -112,7 +112,7 @@ read-verdict limit ts first next p h within =
     let answer = answer-is limit (drop first ts) (read_up_to n) v in
     let read = answer.1 in
     let same = annotated-same answer.0 p (drop n (drop first ts)) (drop next ts) read.right h.right (sym read.spelled ∙ h.spelled) in
-    let some : 0 < n = some-causes _ _ in
+    let some : 0 < n = some-causes limit p in
     let place : first + n ≡ next =
     omega (arith, some, ap length same.1, length-drop n (drop first ts), length-drop first ts, length-drop next ts, answer.2, within) in
     verdict-shifted limit ts first ∙ ap (shifted first) v ∙ ap read_up_to place
