@@ -1,6 +1,8 @@
 // What no clause says of annotated formulas: outside rows, and that calls succeed.
 
 use super::*;
+use plain_types::Mem;
+use std::alloc::Global;
 use std::test::Fail;
 use tptp_token::tokens;
 use tptp_tree::print_formula;
