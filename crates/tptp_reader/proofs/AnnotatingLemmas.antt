@@ -1,15 +1,17 @@
 -- The answers of the reader, which are told by the machine's verdict, are right.
-use Rattle.std.proofs.Common.{◌≡◌, ◌⊎◌, inl, inr, ℕ, List, [], length, Option, Some, None, refl, ap, sym, ◌∙◌, subst}
-use Rattle.std.specs.Prelude.{◌+◌, ◌≤◌, IfSome, slice_get}
+use Rattle.std.proofs.Common.{◌≡◌, ◌⊎◌, inl, inr, ℕ, suc, List, [], ◌∷◌, length, drop, Option, Some, None, refl, ap, sym, ◌∙◌, subst, arith}
+use Rattle.std.specs.Prelude.{◌+◌, ◌<◌, ◌≤◌, IfSome, slice_get}
+use Rattle.std.proofs.lemmas.List.{length-map, length-drop}
+use Rattle.tptp_token.specs.Lexemes.{Lexeme, lexeme_at}
 use Rattle.tptp_token.specs.declared.token.Token.{Token}
 use Rattle.tptp_token.specs.declared.token.Lexed.{Lexed}
 use Rattle.tptp_token.specs.declared.token.LexFault.{LexFault}
 use Rattle.tptp_token.specs.declared.token.LexFault.TheVariants.{BadByte, Unclosed}
 use Rattle.tptp_tree.specs.Causes.{Refusal}
-use Rattle.tptp_reader.specs.Machine.{refused_at, ran_out}
+use Rattle.tptp_reader.specs.Machine.{refused_at, ran_out, an_annotated}
 use Rattle.tptp_reader.specs.Annotating.{lexemes_of, IsReading, StandsAt, TokensRunOut, IsFaultAt, IsFaultOf}
-use Rattle.tptp_reader.specs.Telling.{refusal_of, IsEnd}
-use Rattle.tptp_reader.specs.TellingEntries.{IsAnnotatedRead, entry_verdict, cause_told, IsEndFault, IsCauseBy, IsFaultBy, HasFault, ReadsEntry}
+use Rattle.tptp_reader.specs.Telling.{lexemes, refusal_of, IsEnd, Ends, told}
+use Rattle.tptp_reader.specs.TellingEntries.{IsAnnotatedRead, entry_verdict, cause_told, IsEndFault, IsCauseBy, IsWithin, IsFaultBy, HasFault, ReadsEntry}
 use Rattle.tptp_reader.specs.declared.cause.Halt.{Halt}
 use Rattle.tptp_reader.specs.declared.cause.Halt.TheVariants.{NoMemory as HaltMemory, At as HaltAt, Ended}
 use Rattle.tptp_reader.specs.declared.cause.Refusal.{Refusal as ToldRefusal}
@@ -92,6 +94,20 @@ cause-of limit bytes lexed first place cause (HaltAt refusal index) e h =
     (cause-at limit bytes lexed first index place h.1.0 refusal h.1.1 h.1.2 e)
 cause-of limit bytes lexed first place cause Ended e h =
     end-at limit bytes lexed first place cause lexed.fault refl (runs-out-from limit (lexemes_of bytes lexed.tokens) first e) h
+
+-- the token at which reading halts is one of the text's
+pub halt-within :
+    (r : Reader) (tokens : List Token) (first : ℕ) (halt : Halt)
+    → r.tokens.now ≡ tokens → Ends r (an_annotated r.limit ∷ []) first halt → IsWithin (length tokens) halt
+unfolding told
+halt-within r tokens first HaltMemory e h = tt
+halt-within r tokens first (HaltAt refusal index) e h =
+    let told_there = refused-from r.limit (lexemes r) first index (refusal_of refusal) (h.by []) in
+    let behind : List Lexeme = drop (suc index) (lexemes r) in
+    let long : length (told_there.token ∷ behind) ≡ length behind + 1 = omega arith in
+    subst (λ (ts : List Token). index < length ts) e
+    (omega (arith, long, ap length told_there.here, length-drop index (lexemes r), length-map r.tokens.now (lexeme_at r.bytes.now)))
+halt-within r tokens first Ended e h = tt
 
 pub fault-of :
     (limit : ℕ) (bytes : List ℕ) (lexed : Lexed) (first : ℕ) (fault : ReadFault)

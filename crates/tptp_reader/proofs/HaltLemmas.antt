@@ -12,7 +12,7 @@ use Rattle.tptp_tree.specs.Spelling.{lexeme}
 use Rattle.tptp_tree.specs.Brackets.{is_mark, Bracket, round, square, curly, closes, opened, is_closing, with_opened, open_after}
 use Rattle.tptp_tree.specs.Causes.{typed, role_form, number_form, distinct_form, dollar_form, Refusal, syntax, free_variable, role_not_taken, too_deep, left_out, Surroundings, deeper, binding, begun, outermost}
 use Rattle.tptp_reader.specs.Machine.{Symbol, mark, a_term, maybe_arguments, more_arguments, an_atom, maybe_applied, maybe_equation, an_equation, a_unit, maybe_connected, maybe_more_units, variables_bracket, next_variable, more_variables, a_clause, a_literal, a_plain_literal, maybe_more_literals, a_name, a_role, end_of_body, first_note, more_notes, an_annotated, Step, takes, passes, stops, taken, followed_by, arguments, step, term_step, atom_step, equation_step, unit_step, connected_step, variable_step, literal_step, name_step, role_step, note_step, end_of_notes_step, before_body, formula_symbols, typed_words, annotated_step, is_connective, is_binary_connective, is_sign_of_equation, is_truth_word}
-use Rattle.tptp_reader.specs.Answers.{form_of}
+use Rattle.tptp_reader.specs.Answers.{form_of_token}
 use Rattle.tptp_reader.proofs.TokenTests.{choose, lexeme-same, either}
 
 -- a variable and a word
@@ -36,12 +36,12 @@ TermAt a = TakenBy a a_variable × TakenBy a a_word
 
 -- the reason is right
 abbrev pub StopIsRight : Symbol → Lexeme → Refusal → Type 0
-StopIsRight a t syntax = TakenBy a a_variable → TakenBy a a_word → form_of t.kind t.bytes ≡ None
+StopIsRight a t syntax = TakenBy a a_variable → TakenBy a a_word → form_of_token t.kind t.bytes ≡ None
 StopIsRight a t (left_out typed) = (is_inner a ≡ false) × (t.kind ≡ Lower) × (is_one_of typed_words t.bytes ≡ true)
 StopIsRight a t (left_out role_form) = ⊥
-StopIsRight a t (left_out number_form) = TermAt a × (form_of t.kind t.bytes ≡ Some number_form)
-StopIsRight a t (left_out distinct_form) = TermAt a × (form_of t.kind t.bytes ≡ Some distinct_form)
-StopIsRight a t (left_out dollar_form) = TermAt a × (form_of t.kind t.bytes ≡ Some dollar_form)
+StopIsRight a t (left_out number_form) = TermAt a × (form_of_token t.kind t.bytes ≡ Some number_form)
+StopIsRight a t (left_out distinct_form) = TermAt a × (form_of_token t.kind t.bytes ≡ Some distinct_form)
+StopIsRight a t (left_out dollar_form) = TermAt a × (form_of_token t.kind t.bytes ≡ Some dollar_form)
 StopIsRight a t free_variable = ⊥
 StopIsRight a t role_not_taken = ⊥
 StopIsRight a t too_deep = ⊥
@@ -176,17 +176,17 @@ plain-halts s t =
 
 -- ---- notes
 
-closing-formless : (t : Lexeme) → is_closing t ≡ true → form_of t.kind t.bytes ≡ None
+closing-formless : (t : Lexeme) → is_closing t ≡ true → form_of_token t.kind t.bytes ≡ None
 closing-formless t h = by (either (closes round t) (closes square t || closes curly t) h)
   where
-    of : (k : Kind) (bytes : List ℕ) → t ≡ lexeme k bytes → form_of k bytes ≡ None → form_of t.kind t.bytes ≡ None
-    of k bytes e f = ap (λ (x : Lexeme). form_of x.kind x.bytes) e ∙ f
+    of : (k : Kind) (bytes : List ℕ) → t ≡ lexeme k bytes → form_of_token k bytes ≡ None → form_of_token t.kind t.bytes ≡ None
+    of k bytes e f = ap (λ (x : Lexeme). form_of_token x.kind x.bytes) e ∙ f
 
-    last : (closes square t ≡ true) ⊎ (closes curly t ≡ true) → form_of t.kind t.bytes ≡ None
+    last : (closes square t ≡ true) ⊎ (closes curly t ≡ true) → form_of_token t.kind t.bytes ≡ None
     last (inl e) = of Mark (codes "]") (lexeme-same Mark (codes "]") t e) refl
     last (inr e) = of Other (codes "}") (lexeme-same Other (codes "}") t e) refl
 
-    by : (closes round t ≡ true) ⊎ ((closes square t || closes curly t) ≡ true) → form_of t.kind t.bytes ≡ None
+    by : (closes round t ≡ true) ⊎ ((closes square t || closes curly t) ≡ true) → form_of_token t.kind t.bytes ≡ None
     by (inl e) = of Mark (codes ")") (lexeme-same Mark (codes ")") t e) refl
     by (inr e) = last (either (closes square t) (closes curly t) e)
 

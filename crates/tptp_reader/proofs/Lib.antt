@@ -29,3 +29,5 @@ pub mod NotesReads
 pub mod EntryReads
 pub mod EntryWhole
 pub mod AnnotatingLemmas
+pub mod PrintedLemmas
+pub mod OutcomeLemmas

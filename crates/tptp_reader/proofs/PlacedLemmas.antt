@@ -1,16 +1,17 @@
 -- The answers on the annotated formula that begins at some token of a text.
-use Rattle.std.proofs.Common.{◌≡◌, ℕ, suc, ◌+◌, ◌-◌, ◌≤◌, true, None, Some, List, [], ◌∷◌, length, take, drop, refl, ap, ap₂, sym, ◌∙◌, subst, arith}
-use Rattle.std.proofs.lemmas.List.{drop-drop}
+use Rattle.std.proofs.Common.{◌≡◌, ℕ, suc, ◌+◌, ◌-◌, ◌<◌, ◌≤◌, true, Option, None, Some, List, [], ◌∷◌, length, take, drop, refl, ap, ap₂, sym, ◌∙◌, subst, arith}
+use Rattle.std.proofs.lemmas.List.{drop-drop, length-drop}
 use Rattle.tptp_token.specs.Lexemes.{Lexeme}
 use Rattle.tptp_tree.specs.Entries.{AnnotatedPhrase, is_right_annotated, annotated_lexemes}
-use Rattle.tptp_tree.specs.Causes.{Refusal}
+use Rattle.tptp_tree.specs.Causes.{Refusal, annotated_causes}
 use Rattle.tptp_tree.proofs.UniqueEntries.{annotated-same}
 use Rattle.tptp_reader.specs.Machine.{Symbol, Verdict, read_up_to, refused_at, ran_out, verdict, going, an_annotated}
 use Rattle.tptp_reader.specs.Answers.{IsReadAs, IsRefusedAt, RunsOut}
 use Rattle.tptp_reader.specs.Verdicts.{IsAnswer, verdict_on}
-use Rattle.tptp_reader.specs.Placed.{verdict_at, IsReadFrom, IsRefusedFrom, RunsOutFrom}
+use Rattle.tptp_reader.specs.Placed.{verdict_at, IsReadFrom, IsRefusedFrom, RunsOutFrom, IsAnswerFrom, IsTheAnswerFrom}
 use Rattle.tptp_reader.proofs.TraceLemmas.{Trace, done, cut_off, halted_by, marked, trace, verdict_of, verdict-traced}
-use Rattle.tptp_reader.proofs.VerdictLemmas.{answer-is}
+use Rattle.tptp_reader.proofs.AnswerLemmas.{verdict-faultless, run-of-read}
+use Rattle.tptp_reader.proofs.VerdictLemmas.{the-answer, answer-is}
 
 -- a verdict on tokens that stand behind others
 shifted : ℕ → Verdict → Verdict
@@ -90,3 +91,72 @@ read-from limit ts first next p right spelled e = by (verdict_on limit (drop fir
         (subst (IsReadAs limit (drop first ts) answer.0) same.1 read)
     by (refused_at n r) i f = absurd (let g : refused_at (first + n) r ≡ read_up_to next = f in cc)
     by ran_out i f = absurd (let g : ran_out ≡ read_up_to next = f in cc)
+
+-- ---- the answers have one verdict
+
+-- an annotated formula has at least one token
+some-causes : (limit : ℕ) (p : AnnotatedPhrase) → 0 < length (annotated_causes limit p)
+some-causes limit p = omega arith
+
+pub read-verdict :
+    (limit : ℕ) (ts : List Lexeme) (first next : ℕ) (p : AnnotatedPhrase)
+    → IsReadFrom limit ts first p next → next ≤ length ts → verdict_at limit ts first ≡ read_up_to next
+unfolding shifted
+read-verdict limit ts first next p h within =
+    let n : ℕ = length (annotated_causes limit p) in
+    let run : verdict_of 0 (trace (drop first ts) (an_annotated limit ∷ [])) ≡ verdict_of n (done (drop next ts)) =
+    ap (verdict_of 0) (run-of-read limit (drop first ts) p (drop next ts) h)
+    ∙ verdict-faultless 0 (annotated_causes limit p) (done (drop next ts)) h.faultless
+    ∙ ap (λ k. verdict_of k (done (drop next ts))) (let e : 0 + n ≡ n = omega arith in e) in
+    let v : verdict_on limit (drop first ts) ≡ read_up_to n = verdict-traced 0 (drop first ts) (an_annotated limit ∷ []) ∙ run in
+    let answer = answer-is limit (drop first ts) (read_up_to n) v in
+    let read = answer.1 in
+    let same = annotated-same answer.0 p (drop n (drop first ts)) (drop next ts) read.right h.right (sym read.spelled ∙ h.spelled) in
+    let some : 0 < n = some-causes limit p in
+    let place : first + n ≡ next =
+    omega (arith, some, ap length same.1, length-drop n (drop first ts), length-drop first ts, length-drop next ts, answer.2, within) in
+    verdict-shifted limit ts first ∙ ap (shifted first) v ∙ ap read_up_to place
+
+pub refused-verdict :
+    (limit : ℕ) (ts : List Lexeme) (first index : ℕ) (refusal : Refusal)
+    → IsRefusedFrom limit ts first index refusal → verdict_at limit ts first ≡ refused_at index refusal
+unfolding shifted
+refused-verdict limit ts first index refusal h =
+    let n : ℕ = index - first in
+    let place : first + n ≡ index = omega (arith, h.behind) in
+    let next : first + suc n ≡ suc index = omega (arith, h.behind) in
+    let here : drop n (drop first ts) ≡ h.token ∷ drop (suc n) (drop first ts) =
+    drop-drop n first ts ∙ ap (λ k. drop k ts) place ∙ h.here
+    ∙ ap (λ xs. h.token ∷ xs) (sym (drop-drop (suc n) first ts ∙ ap (λ k. drop k ts) next)) in
+    let answer : IsAnswer limit (drop first ts) (refused_at n refusal) = (h.token, here, h.refused) in
+    verdict-shifted limit ts first
+    ∙ ap (shifted first) (sym ((the-answer limit (drop first ts)).only (refused_at n refusal) answer))
+    ∙ ap (λ k. refused_at k refusal) place
+
+pub runs-out-verdict : (limit : ℕ) (ts : List Lexeme) (first : ℕ) → RunsOutFrom limit ts first → verdict_at limit ts first ≡ ran_out
+unfolding shifted
+runs-out-verdict limit ts first h =
+    verdict-shifted limit ts first ∙ ap (shifted first) (sym ((the-answer limit (drop first ts)).only ran_out h))
+
+only-from : (limit : ℕ) (ts : List Lexeme) (first : ℕ) (v : Verdict) → IsAnswerFrom limit ts first v → v ≡ verdict_at limit ts first
+only-from limit ts first (read_up_to next) h = sym (read-verdict limit ts first next h.0 h.1 h.2)
+only-from limit ts first (refused_at index refusal) h = sym (refused-verdict limit ts first index refusal h)
+only-from limit ts first ran_out h = sym (runs-out-verdict limit ts first h)
+
+pub the-answer-from : (limit : ℕ) (ts : List Lexeme) (first : ℕ) → first ≤ length ts → IsTheAnswerFrom limit ts first
+unfolding shifted
+the-answer-from limit ts first small =
+    record {
+      right = subst (IsAnswerFrom limit ts first) (sym (verdict-shifted limit ts first)) (by (verdict_on limit (drop first ts)) refl);
+      only = only-from limit ts first;
+    }
+  where
+    by : (v : Verdict) → verdict_on limit (drop first ts) ≡ v → IsAnswerFrom limit ts first (shifted first v)
+    by (read_up_to n) i =
+        let answer = answer-is limit (drop first ts) (read_up_to n) i in (
+          answer.0,
+          subst (IsReadAs limit (drop first ts) answer.0) (drop-drop n first ts) answer.1,
+          (let e : first + n ≤ length ts = omega (arith, length-drop first ts, answer.2, small) in e),
+        )
+    by (refused_at n r) i = refused-from limit ts first (first + n) r (verdict-shifted limit ts first ∙ ap (shifted first) i)
+    by ran_out i = runs-out-from limit ts first (verdict-shifted limit ts first ∙ ap (shifted first) i)

@@ -9,7 +9,7 @@ use Rattle.tptp_token.specs.declared.token.Kind.TheVariants.{Lower}
 use Rattle.tptp_tree.specs.Brackets.{is_mark, round, square, curly}
 use Rattle.tptp_tree.specs.Causes.{typed, role_form, number_form, distinct_form, dollar_form, Refusal, syntax, free_variable, role_not_taken, too_deep, left_out, begun, deeper}
 use Rattle.tptp_reader.specs.Machine.{Symbol, mark, a_term, maybe_arguments, more_arguments, maybe_applied, maybe_equation, an_equation, a_unit, maybe_connected, maybe_more_units, a_literal, maybe_more_literals, more_notes, an_annotated, Step, takes, passes, stops, taken, step, typed_words, arguments, equation_step, is_connective, is_binary_connective, is_sign_of_equation}
-use Rattle.tptp_reader.specs.Answers.{form_of}
+use Rattle.tptp_reader.specs.Answers.{form_of_token}
 use Rattle.tptp_reader.proofs.TraceLemmas.{to, halted, emptied, moved_by, moved}
 use Rattle.tptp_reader.proofs.TokenTests.{choose}
 use Rattle.tptp_reader.proofs.HaltLemmas.{a_variable, a_word, is_inner, TakenBy, StopIsRight, IsHaltOf, step-halts}
@@ -78,12 +78,12 @@ Takes s t = (next : List Symbol) × (c : Option Refusal) × (moved s t ≡ to c 
 
 -- the reason for which a stack refuses a token
 abbrev pub HaltIsRight : List Symbol → Lexeme → Refusal → Type 0
-HaltIsRight s t syntax = Takes s a_variable → Takes s a_word → form_of t.kind t.bytes ≡ None
+HaltIsRight s t syntax = Takes s a_variable → Takes s a_word → form_of_token t.kind t.bytes ≡ None
 HaltIsRight s t (left_out typed) = (list_all is_inner s ≡ true → ⊥) × (t.kind ≡ Lower) × (is_one_of typed_words t.bytes ≡ true)
 HaltIsRight s t (left_out role_form) = ⊥
-HaltIsRight s t (left_out number_form) = (Takes s a_variable × Takes s a_word) × (form_of t.kind t.bytes ≡ Some number_form)
-HaltIsRight s t (left_out distinct_form) = (Takes s a_variable × Takes s a_word) × (form_of t.kind t.bytes ≡ Some distinct_form)
-HaltIsRight s t (left_out dollar_form) = (Takes s a_variable × Takes s a_word) × (form_of t.kind t.bytes ≡ Some dollar_form)
+HaltIsRight s t (left_out number_form) = (Takes s a_variable × Takes s a_word) × (form_of_token t.kind t.bytes ≡ Some number_form)
+HaltIsRight s t (left_out distinct_form) = (Takes s a_variable × Takes s a_word) × (form_of_token t.kind t.bytes ≡ Some distinct_form)
+HaltIsRight s t (left_out dollar_form) = (Takes s a_variable × Takes s a_word) × (form_of_token t.kind t.bytes ≡ Some dollar_form)
 HaltIsRight s t free_variable = ⊥
 HaltIsRight s t role_not_taken = ⊥
 HaltIsRight s t too_deep = ⊥

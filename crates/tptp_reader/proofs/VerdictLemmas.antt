@@ -9,7 +9,7 @@ use Rattle.tptp_tree.specs.Spelling.{lexeme}
 use Rattle.tptp_tree.specs.Entries.{AnnotatedPhrase, annotated_lexemes}
 use Rattle.tptp_tree.specs.Causes.{Form, typed, role_form, number_form, distinct_form, dollar_form, Refusal, syntax, free_variable, role_not_taken, too_deep, left_out, annotated_causes}
 use Rattle.tptp_reader.specs.Machine.{Symbol, an_annotated, Verdict, read_up_to, refused_at, ran_out, typed_words}
-use Rattle.tptp_reader.specs.Answers.{AreFaultless, IsReadAs, MayBegin, IsFault, TermMayStand, form_of, IsLeftOut, IsOutOfPlace, IsRefusedAt, RunsOut}
+use Rattle.tptp_reader.specs.Answers.{AreFaultless, IsReadAs, MayBegin, IsFault, TermMayStand, form_of_token, IsLeftOut, IsOutOfPlace, IsRefusedAt, RunsOut}
 use Rattle.tptp_reader.specs.Verdicts.{IsAnswer, IsTheAnswer, verdict_on}
 use Rattle.tptp_reader.proofs.TraceLemmas.{Move, to, halted, emptied, moved, Trace, done, cut_off, halted_by, marked, by_move, trace, marks, verdict_of, verdict-traced}
 use Rattle.tptp_reader.proofs.TokenTests.{one-more, none}
@@ -72,7 +72,7 @@ stands-first limit t k w =
         → moved (an_annotated limit ∷ []) (lexeme Lower t.bytes) ≡ halted (left_out typed)
     word bytes e f = ap (λ x. moved (an_annotated limit ∷ []) (lexeme Lower x)) f ∙ e
 
-no-form : (t : Lexeme) (f : Form) (P : Type 0) → form_of t.kind t.bytes ≡ None → form_of t.kind t.bytes ≡ Some f → P
+no-form : (t : Lexeme) (f : Form) (P : Type 0) → form_of_token t.kind t.bytes ≡ None → form_of_token t.kind t.bytes ≡ Some f → P
 no-form t f P e g = absurd (let h : None ≡ Some f = sym e ∙ g in cc)
 
 -- a token that the machine refuses is out of place, for that reason
@@ -201,12 +201,12 @@ marks-append (c ∷ cs) ds r = ap (marked c) (marks-append cs ds r)
 -- two reasons for which no text goes on are one
 one-form : (before : List Lexeme) (t : Lexeme) (f g : Form) → IsLeftOut before t f → IsLeftOut before t g → f ≡ g
 one-form before t typed typed h k = refl
-one-form before t typed number_form h k = no-form t number_form _ (ap (λ x. form_of x t.bytes) h.1) k.1
-one-form before t typed distinct_form h k = no-form t distinct_form _ (ap (λ x. form_of x t.bytes) h.1) k.1
-one-form before t typed dollar_form h k = no-form t dollar_form _ (ap (λ x. form_of x t.bytes) h.1) k.1
-one-form before t number_form typed h k = no-form t number_form _ (ap (λ x. form_of x t.bytes) k.1) h.1
-one-form before t distinct_form typed h k = no-form t distinct_form _ (ap (λ x. form_of x t.bytes) k.1) h.1
-one-form before t dollar_form typed h k = no-form t dollar_form _ (ap (λ x. form_of x t.bytes) k.1) h.1
+one-form before t typed number_form h k = no-form t number_form _ (ap (λ x. form_of_token x t.bytes) h.1) k.1
+one-form before t typed distinct_form h k = no-form t distinct_form _ (ap (λ x. form_of_token x t.bytes) h.1) k.1
+one-form before t typed dollar_form h k = no-form t dollar_form _ (ap (λ x. form_of_token x t.bytes) h.1) k.1
+one-form before t number_form typed h k = no-form t number_form _ (ap (λ x. form_of_token x t.bytes) k.1) h.1
+one-form before t distinct_form typed h k = no-form t distinct_form _ (ap (λ x. form_of_token x t.bytes) k.1) h.1
+one-form before t dollar_form typed h k = no-form t dollar_form _ (ap (λ x. form_of_token x t.bytes) k.1) h.1
 one-form before t role_form g h k = absurd h
 one-form before t f role_form h k = absurd k
 one-form before t number_form number_form h k = refl

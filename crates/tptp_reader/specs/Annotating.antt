@@ -7,8 +7,7 @@ use Rattle.tptp_token.specs.declared.token.LexFault.TheVariants.{BadByte as BadB
 use Rattle.tptp_tree.specs.Entries.{AnnotatedPhrase, IsAnnotatedOf}
 use Rattle.tptp_tree.specs.Causes.{Refusal, syntax, free_variable, role_not_taken, too_deep, left_out}
 use Rattle.tptp_reader.specs.Placed.{IsReadFrom, IsRefusedFrom, RunsOutFrom}
-use Rattle.tptp_reader.specs.Telling.{form_of}
-use Rattle.tptp_reader.specs.TellingEntries.{tree_of}
+use Rattle.tptp_reader.specs.Shape.{form_of, tree_of}
 use Rattle.tptp_reader.specs.declared.cause.ReadCause.{ReadCause}
 use Rattle.tptp_reader.specs.declared.cause.ReadCause.TheVariants.{BadByte, Unclosed, Syntax, FreeVariable, Role, SecondConjecture, SelectionMissing, IncludeDepth, TooLong, Nesting, Inappropriate, Load}
 use Rattle.tptp_reader.specs.declared.cause.ReadFault.{ReadFault}
@@ -30,6 +29,15 @@ pub record IsReading (limit : ℕ) (bytes : List ℕ) (tokens : List Token) (fir
   pub close : read.notes_end + 2 ≡ read.next
   pub place : IfSome (slice_get tokens first) (λ t. read.annotated.place ≡ t.start)
   pub file : read.annotated.file ≡ []
+
+-- two answers of what is read say the same
+pub record IsSameReading (read other : Read) : Type 0 where
+  pub tree : tree_of read.annotated ≡ tree_of other.annotated
+  pub place : read.annotated.place ≡ other.annotated.place
+  pub file : read.annotated.file ≡ other.annotated.file
+  pub start : read.notes_start ≡ other.notes_start
+  pub end : read.notes_end ≡ other.notes_end
+  pub next : read.next ≡ other.next
 
 -- The token that begins at that place ends the reading.
 pub record StandsAt (limit : ℕ) (bytes : List ℕ) (tokens : List Token) (first : ℕ) (refusal : Refusal) (place : ℕ) : Type 0 where

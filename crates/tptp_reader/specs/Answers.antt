@@ -46,16 +46,16 @@ TermMayStand before =
     MayBegin (before ++ lexeme Variable (codes "X") ∷ []) × MayBegin (before ++ lexeme Lower (codes "a") ∷ [])
 
 -- the form of a token that is left out where a term may stand
-abbrev pub form_of : Kind → List ℕ → Option Form
-form_of Number bytes = Some number_form
-form_of Distinct bytes = Some distinct_form
-form_of Dollar bytes = if is_one_of (codes "$true" ∷ codes "$false" ∷ []) bytes then None else Some dollar_form
-form_of Lower bytes = None
-form_of Variable bytes = None
-form_of Quoted bytes = None
-form_of Connective bytes = None
-form_of Mark bytes = None
-form_of Other bytes = None
+abbrev pub form_of_token : Kind → List ℕ → Option Form
+form_of_token Number bytes = Some number_form
+form_of_token Distinct bytes = Some distinct_form
+form_of_token Dollar bytes = if is_one_of (codes "$true" ∷ codes "$false" ∷ []) bytes then None else Some dollar_form
+form_of_token Lower bytes = None
+form_of_token Variable bytes = None
+form_of_token Quoted bytes = None
+form_of_token Connective bytes = None
+form_of_token Mark bytes = None
+form_of_token Other bytes = None
 
 -- the first word of a typed formula or of TPTP's process instructions
 abbrev pub IsTypedWord : List Lexeme → Lexeme → Type 0
@@ -66,9 +66,9 @@ IsTypedWord before token =
 abbrev pub IsLeftOut : List Lexeme → Lexeme → Form → Type 0
 IsLeftOut before token typed = IsTypedWord before token
 IsLeftOut before token role_form = ⊥
-IsLeftOut before token number_form = TermMayStand before × (form_of token.kind token.bytes ≡ Some number_form)
-IsLeftOut before token distinct_form = TermMayStand before × (form_of token.kind token.bytes ≡ Some distinct_form)
-IsLeftOut before token dollar_form = TermMayStand before × (form_of token.kind token.bytes ≡ Some dollar_form)
+IsLeftOut before token number_form = TermMayStand before × (form_of_token token.kind token.bytes ≡ Some number_form)
+IsLeftOut before token distinct_form = TermMayStand before × (form_of_token token.kind token.bytes ≡ Some distinct_form)
+IsLeftOut before token dollar_form = TermMayStand before × (form_of_token token.kind token.bytes ≡ Some dollar_form)
 
 -- why no text goes on so: a form that is left out, or no such form and so the syntax
 abbrev pub IsOutOfPlace : List Lexeme → Lexeme → Refusal → Type 0

@@ -1,3 +1,4 @@
+pub mod Shape
 pub mod Machine
 pub mod Answers
 pub mod Verdicts
@@ -7,3 +8,4 @@ pub mod Telling
 pub mod TellingNotes
 pub mod TellingEntries
 pub mod Annotating
+pub mod Printed

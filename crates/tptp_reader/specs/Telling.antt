@@ -9,7 +9,8 @@ use Rattle.tptp_tree.specs.Term.{TermTree, TermTrees}
 use Rattle.tptp_tree.specs.Formula.{FormulaTree, quantified, Quantifier, for_all, exists_some, BinaryConnective, implies, implied, equivalent, different, nor, nand}
 use Rattle.tptp_tree.specs.Spelling.{Atom, true_atom, false_atom, predicate_atom, equation_atom, atom_lexemes, atom_meant, UnitPhrase, unit_lexemes, unit_meant, Phrase, phrase_lexemes, meant, Variables, variables_lexemes, Word, bare, quoted, lexeme, TermPhrase, TermPhrases, term_lexemes, arguments_lexemes, term_meant, terms_meant}
 use Rattle.tptp_tree.specs.Entries.{LiteralPhrase, literal_lexemes, literal_meant, ClausePhrase, literals, clause_lexemes, clause_meant}
-use Rattle.tptp_tree.specs.Causes.{Refusal, syntax, free_variable, role_not_taken, too_deep, left_out, Form, typed, role_form, number_form, distinct_form, dollar_form, Surroundings, binding, variable_cause}
+use Rattle.tptp_tree.specs.Causes.{Refusal, syntax, free_variable, role_not_taken, too_deep, left_out, Surroundings, binding, variable_cause}
+use Rattle.tptp_reader.specs.Shape.{form_of}
 use Rattle.tptp_reader.specs.Machine.{Symbol, mark, a_clause, a_literal, a_plain_literal, maybe_more_literals, an_atom, a_unit, maybe_more_units, formula_symbols, variables_bracket, next_variable, more_variables, a_term, maybe_arguments, arguments, is_truth_word, Verdict, refused_at, ran_out, verdict, going}
 use Rattle.tptp_reader.specs.declared.source.TextToken.{TextToken}
 use Rattle.tptp_reader.specs.declared.source.Reader.{Reader}
@@ -20,8 +21,7 @@ use Rattle.tptp_reader.specs.declared.cause.Halt.{Halt}
 use Rattle.tptp_reader.specs.declared.cause.Halt.TheVariants.{NoMemory, At, Ended}
 use Rattle.tptp_reader.specs.declared.cause.Refusal.{Refusal as ToldRefusal}
 use Rattle.tptp_reader.specs.declared.cause.Refusal.TheVariants.{Syntax, FreeVariable, Role as RoleRefusal, Nesting, Inappropriate}
-use Rattle.tptp_reader.specs.declared.cause.Form.{Form as ToldForm}
-use Rattle.tptp_reader.specs.declared.cause.Form.TheVariants.{Typed, RoleForm, Number as NumberForm, Distinct as DistinctForm, Dollar as DollarForm}
+use Rattle.tptp_reader.specs.declared.cause.Form.TheVariants.{Number as NumberForm, Distinct as DistinctForm, Dollar as DollarForm}
 
 -- ---- tokens
 
@@ -62,13 +62,6 @@ word_of Mark bytes = bare bytes
 word_of Other bytes = bare bytes
 
 -- ---- refusals
-
-abbrev pub form_of : ToldForm → Form
-form_of Typed = typed
-form_of RoleForm = role_form
-form_of NumberForm = number_form
-form_of DistinctForm = distinct_form
-form_of DollarForm = dollar_form
 
 abbrev pub refusal_of : ToldRefusal → Refusal
 refusal_of Syntax = syntax

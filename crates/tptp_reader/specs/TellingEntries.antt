@@ -1,15 +1,14 @@
 -- What the functions that read an entry say of the tokens before and after.
-use Rattle.std.specs.Prelude.{◌≡◌, ◌+◌, ⊤, ℕ, Bool, true, false, List, [], ◌∷◌, ◌++◌, map, drop, length, codes, Option, None, Some, slice_get}
+use Rattle.std.specs.Prelude.{◌≡◌, ◌<◌, ◌+◌, ⊤, ℕ, Bool, true, false, List, [], ◌∷◌, ◌++◌, map, drop, length, codes, Option, None, Some, slice_get}
 use Rattle.tptp_token.specs.Lexemes.{Lexeme, lexeme_at}
 use Rattle.tptp_token.specs.declared.token.Kind.TheVariants.{Lower, Mark}
 use Rattle.tptp_tree.specs.Formula.{FormulaTree}
-use Rattle.tptp_tree.specs.Shape.{formula_of}
 use Rattle.tptp_tree.specs.Brackets.{are_balanced}
 use Rattle.tptp_tree.specs.Spelling.{lexeme}
-use Rattle.tptp_tree.specs.Entries.{NamePhrase, name_lexeme, name_meant, is_right_name, role_of, language_word, Body, is_clause_body, body_lexemes, body_meant, AnnotatedPhrase, is_right_annotated, notes_lexemes, annotated_lexemes, AnnotatedTree, IsAnnotatedOf}
+use Rattle.tptp_tree.specs.Entries.{NamePhrase, name_lexeme, name_meant, is_right_name, role_of, language_word, Body, is_clause_body, body_lexemes, body_meant, AnnotatedPhrase, is_right_annotated, notes_lexemes, annotated_lexemes, IsAnnotatedOf}
 use Rattle.tptp_tree.specs.Causes.{outermost}
-use Rattle.tptp_tree.specs.declared.problem.Annotated.{Annotated}
 use Rattle.tptp_tree.specs.declared.problem.Role.{Role}
+use Rattle.tptp_reader.specs.Shape.{tree_of}
 use Rattle.tptp_reader.specs.Machine.{Symbol, mark, a_name, a_role, a_clause, an_annotated, end_of_body, before_body, formula_symbols, Verdict, read_up_to, verdict, going}
 use Rattle.tptp_reader.specs.Telling.{lexemes, IsNext, Leads, IsEnd, told}
 use Rattle.tptp_reader.specs.declared.source.Reader.{Reader}
@@ -26,10 +25,6 @@ use Rattle.tptp_reader.specs.declared.cause.ReadCause.{ReadCause}
 use Rattle.tptp_reader.specs.declared.cause.ReadCause.TheVariants.{BadByte as BadByteCause, Unclosed as UnclosedCause, Syntax as SyntaxCause, FreeVariable as FreeVariableCause, Role as RoleCause, Nesting as NestingCause, Inappropriate as InappropriateCause}
 use Rattle.tptp_reader.specs.declared.cause.ReadFault.{ReadFault}
 use Rattle.tptp_reader.specs.declared.cause.ReadFault.TheVariants.{NoMemory as NoFaultMemory, At as FaultAt}
-
--- what an annotated formula says, but for where it stands
-abbrev pub tree_of : Annotated → AnnotatedTree
-tree_of a = record { name = a.name; role = a.role; is_clause = a.clause; formula = formula_of a.formula }
 
 abbrev pub body_symbols : ℕ → Bool → List Symbol
 body_symbols limit true = a_clause (outermost limit true) ∷ []
@@ -117,8 +112,15 @@ IsCauseBy bytes lexed (At refusal index) cause place =
     × ((token : Token) × (slice_get lexed.tokens index ≡ Some token) × (place ≡ token.start))
 IsCauseBy bytes lexed Ended cause place = IsEndFault lexed.fault (length bytes) cause place
 
+-- the halt names a token, if any, that is one of so many
+abbrev pub IsWithin : ℕ → Halt → Type 0
+IsWithin count NoMemory = ⊤
+IsWithin count (At refusal index) = index < count
+IsWithin count Ended = ⊤
+
+-- want of memory is told exactly where reading halted for it
 abbrev pub IsFaultBy : List ℕ → Lexed → Halt → ReadFault → Type 0
-IsFaultBy bytes lexed halt NoFaultMemory = ⊤
+IsFaultBy bytes lexed halt NoFaultMemory = halt ≡ NoMemory
 IsFaultBy bytes lexed halt (FaultAt cause file place) = (file ≡ []) × IsCauseBy bytes lexed halt cause place
 
 -- the machine refuses a token, or the tokens run out

@@ -11,7 +11,7 @@ ghost use Rattle.tptp_reader.specs.Telling.{Ends, refusal_of};
 ghost use Rattle.tptp_tree.specs.declared.problem.Role.TheVariants.{Conjecture};
 ghost use Rattle.tptp_token.specs.Lexing.{lexed_of};
 ghost use Rattle.tptp_reader.specs.Annotating.{IsReading, IsFaultOf};
-ghost use Rattle.tptp_reader.specs.TellingEntries.{IsFaultBy, cause_told, body_symbols, ReadsLanguage, ReadsName, ReadsRole, ReadsBody, ReadsEnding, ReadsEntry};
+ghost use Rattle.tptp_reader.specs.TellingEntries.{IsFaultBy, IsWithin, cause_told, body_symbols, ReadsLanguage, ReadsName, ReadsRole, ReadsBody, ReadsEnding, ReadsEntry};
 
 use crate::cause::{Form, Halt, ReadCause, ReadFault, Refusal};
 use crate::source::Reader;
@@ -77,16 +77,17 @@ pub fn annotated(
 
 /// The fault of a text that isn't read, by the token or the end of tokens where reading stopped.
 fn fault_of(alloc: Global, bytes: &[u8], lexed: &Lexed, halt: Halt) -> ReadFault
-    requires { length bytes.now ≤ 67108864 }
+    requires small { length bytes.now ≤ 67108864 }
+    requires within { IsWithin (length lexed.now.tokens) halt }
     ensures { IsFaultBy bytes.now lexed.now halt result }
 {
     let none = Text::new(alloc);
     match halt {
         Halt::NoMemory => ReadFault::NoMemory,
-        Halt::At(refusal, index) => match lexed.tokens.as_slice().get(index) {
-            Some(token) => ReadFault::At(cause_of(refusal), none, token.start),
-            None => ReadFault::NoMemory,
-        },
+        Halt::At(refusal, index) => {
+            let token = lexed.tokens.as_slice()[index];
+            ReadFault::At(cause_of(refusal), none, token.start)
+        }
         Halt::Ended => match lexed.fault {
             Some(LexFault::BadByte(place)) => ReadFault::At(ReadCause::BadByte, none, place),
             Some(LexFault::Unclosed(place)) => ReadFault::At(ReadCause::Unclosed, none, place),

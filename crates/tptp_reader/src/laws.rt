@@ -1,12 +1,20 @@
 // The laws of the definitions: each is the contract of a function without arguments and with an empty body.
 
-ghost use Rattle.std.specs.Prelude.{◌≡◌, ℕ, true, List, drop};
+ghost use Rattle.std.specs.Prelude.{◌≡◌, ◌≤◌, ℕ, true, List, length, drop};
 ghost use Rattle.tptp_token.specs.Lexemes.{Lexeme};
-ghost use Rattle.tptp_tree.specs.Entries.{AnnotatedPhrase, is_right_annotated, annotated_lexemes};
+ghost use Rattle.tptp_token.specs.Lexing.{lexed_of};
+ghost use Rattle.tptp_tree.specs.Entries.{AnnotatedPhrase, is_right_annotated, annotated_lexemes, AnnotatedTree, SpellsAnnotated};
 ghost use Rattle.tptp_tree.specs.Causes.{Refusal};
 ghost use Rattle.tptp_reader.specs.Machine.{read_up_to, refused_at, ran_out};
-ghost use Rattle.tptp_reader.specs.Placed.{verdict_at, IsReadFrom, IsRefusedFrom, RunsOutFrom};
+ghost use Rattle.tptp_reader.specs.Placed.{verdict_at, IsReadFrom, IsRefusedFrom, RunsOutFrom, IsTheAnswerFrom};
 ghost use Rattle.tptp_reader.specs.Verdicts.{IsTheAnswer};
+ghost use Rattle.tptp_token.specs.declared.token.Token.{Token};
+ghost use Rattle.tptp_token.specs.declared.token.Lexed.{Lexed};
+ghost use Rattle.tptp_reader.specs.Annotating.{IsReading, IsFaultAt, IsSameReading};
+ghost use Rattle.tptp_reader.specs.declared.cause.ReadCause.{ReadCause};
+ghost use Rattle.tptp_reader.specs.Shape.{tree_of};
+ghost use Rattle.tptp_reader.specs.Printed.{IsPrintedAgain};
+ghost use Rattle.tptp_reader.specs.declared.entry.Read.{Read};
 ghost use Rattle.tptp_reader.specs.AnswerExamples.{WholeClause, MixedConnectives, NegatedInequality, TruthAsTerm, EmptyNotes, CrossedNotes, FreeVariable, Unbound, UnknownRole, ConjectureClause, TooDeep, TypedFormula, LeftOutRole, NumberTerm, DistinctTerm, DollarAtom, IncludeEntry, NumberRole, CutOff};
 
 /// Tokens have exactly one answer on the annotated formula that they begin with: that it is read, that a token ends the
@@ -25,6 +33,33 @@ pub fn placed_answers()
         → verdict_at limit tokens first ≡ refused_at index refusal → IsRefusedFrom limit tokens first index refusal }
     ensures runs_out { (limit : ℕ) (tokens : List Lexeme) (first : ℕ)
         → verdict_at limit tokens first ≡ ran_out → RunsOutFrom limit tokens first }
+{}
+
+/// Tokens have exactly one answer on the annotated formula that begins at a token, told by the places of tokens among all of
+/// them: that it is read up to another token, that a token ends the reading, or that the tokens end too early.
+pub fn one_placed_answer()
+    ensures { (limit : ℕ) (tokens : List Lexeme) (first : ℕ) → first ≤ length tokens → IsTheAnswerFrom limit tokens first }
+{}
+
+/// What `annotated` tells is told of the formula alone: what is read has no fault, there is at most one fault, and all that
+/// is told of a formula is determined by the text.
+pub fn one_outcome()
+    ensures read_or_fault { (limit : ℕ) (bytes : List ℕ) (lexed : Lexed) (first : ℕ) (read : Read) (cause : ReadCause) (place : ℕ)
+        → IsReading limit bytes lexed.tokens first read → IsFaultAt limit bytes lexed first cause place → ⊥ }
+    ensures one_fault { (limit : ℕ) (bytes : List ℕ) (lexed : Lexed) (first : ℕ) (cause other : ReadCause) (place elsewhere : ℕ)
+        → IsFaultAt limit bytes lexed first cause place → IsFaultAt limit bytes lexed first other elsewhere
+        → (cause ≡ other) × (place ≡ elsewhere) }
+    ensures one_reading { (limit : ℕ) (bytes : List ℕ) (tokens : List Token) (first : ℕ) (read other : Read)
+        → IsReading limit bytes tokens first read → IsReading limit bytes tokens first other → IsSameReading read other }
+{}
+
+/// What is spelled as an annotated formula is printed so that it is spelled again, and so is what `annotated` reads: the
+/// printed formula spells the same tree as a formula, and one that stood in `cnf` also as a clause.
+pub fn printed_again()
+    ensures spelled { (text : List ℕ) (a : AnnotatedTree) → SpellsAnnotated text a → IsPrintedAgain a.is_clause a.formula }
+    ensures read { (limit : ℕ) (bytes : List ℕ) (first : ℕ) (read : Read)
+        → IsReading limit bytes (lexed_of bytes).tokens first read
+        → IsPrintedAgain (tree_of read.annotated).is_clause (tree_of read.annotated).formula }
 {}
 
 /// The machine's verdict on small texts, one for each cause.

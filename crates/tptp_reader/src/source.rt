@@ -1,8 +1,6 @@
 // The tokens of a text, as a reader sees them.
 
 ghost use Rattle.std.specs.Prelude.{◌≡◌, ◌+◌, ◌-◌, ◌^◌, ◌<◌, ◌≤◌, ◌||◌, codes, bytes_eq, IfOk, IfErr, IfSome, IfNone, take, drop, true, false, List, ℕ, [], ◌∷◌, length};
-ghost use Rattle.std.specs.List.{list_all};
-ghost use Rattle.fol_base.specs.Spelling.{is_digit as digit};
 ghost use Rattle.tptp_tree.specs.Spelling.{lexeme};
 ghost use Rattle.tptp_tree.specs.Brackets.{is_lexeme, is_mark as mark_is};
 ghost use Rattle.tptp_reader.specs.Machine.{Symbol, mark, is_connective as connective_is, is_sign_of_equation as equation_sign_is, is_binary_connective};
@@ -15,7 +13,7 @@ ghost use Rattle.tptp_reader.specs.declared.cause.Refusal.TheVariants.{Nesting};
 use crate::cause::{Form, Halt, Refusal};
 use plain_types::{Mem, Text};
 use std::alloc::Global;
-use tptp_token::{Kind, Token};
+use tptp_token::{Kind, Token, are_digits};
 
 /// A token by its kind and its bytes.
 #[derive(Clone, Copy)]
@@ -147,18 +145,6 @@ impl TextToken<'_> {
             _ => Refusal::Syntax,
         }
     }
-}
-
-fn are_digits(bytes: &[u8]) -> bool
-    ensures { result ≡ list_all digit bytes.now }
-{
-    bytes.iter().all(|byte| is_digit(*byte))
-}
-
-fn is_digit(byte: u8) -> bool
-    ensures { result ≡ digit byte }
-{
-    byte.is_ascii_digit()
 }
 
 /// Why a dollar word can't stand where a term has to.

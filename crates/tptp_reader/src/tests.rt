@@ -1,6 +1,8 @@
 // What no clause says of annotated formulas: outside rows, and that calls succeed.
 
 use super::*;
+use plain_types::Mem;
+use std::alloc::Global;
 use std::test::Fail;
 use tptp_token::tokens;
 use tptp_tree::print_formula;
@@ -235,7 +237,7 @@ fn repeated(
     Ok(text)
 }
 
-/// Brackets, negations and quantifiers at 5,000 levels, and at a limit of 500 the token that begins the level above it. A
+/// Brackets, negations, quantifiers and terms at 5,000 levels, and at a limit of 500 the token that begins the level above it. A
 /// quantifier's bracket is a level more.
 #[test]
 fn reads_deep_formulas(rt: HostRuntime) -> Result<(), Fail> {
@@ -262,6 +264,13 @@ fn reads_deep_formulas(rt: HostRuntime) -> Result<(), Fail> {
             5_001,
             40_001,
             b"Nesting@2508".as_slice(),
+        ),
+        (
+            b"f(".as_slice(),
+            close,
+            5_000,
+            15_001,
+            b"Nesting@1013".as_slice(),
         ),
     ] {
         let text = repeated(alloc, before, 5_000, b"p".as_slice(), behind)?;

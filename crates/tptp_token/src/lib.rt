@@ -20,3 +20,4 @@ pub use scan::tokens;
 #[cfg(test)]
 use std::alloc::Global;
 pub use token::{Kind, LexFault, Lexed, Token, Tokens};
+pub use word::{are_digits, is_lower_word};

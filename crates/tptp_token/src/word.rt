@@ -1,8 +1,8 @@
 // Words and numbers of digits.
 
 ghost use Rattle.std.specs.Prelude.{◌≡◌, ◌≤◌, length};
-ghost use Rattle.std.specs.List.{prefix_len};
-ghost use Rattle.fol_base.specs.Spelling.{is_word_byte as word_byte, is_digit as digit, is_lower_word};
+ghost use Rattle.std.specs.List.{prefix_len, list_all};
+ghost use Rattle.fol_base.specs.Spelling.{is_word_byte as word_byte, is_digit as digit, is_lower_word as lower_word};
 ghost use Rattle.tptp_token.specs.Longest.{longest};
 ghost use Rattle.tptp_token.specs.Pieces.{plain_piece};
 
@@ -32,9 +32,32 @@ pub fn digit_count(bytes: &[u8]) -> usize
         .unwrap_or(bytes.len())
 }
 
+/// Whether bytes are a lower word: a small letter, and then letters, digits and underscores.
+pub fn is_lower_word(word: &[u8]) -> bool
+    ensures { result ≡ lower_word word.now }
+{
+    match word.split_first() {
+        None => false,
+        Some((first, rest)) => is_lower(*first) && are_word_bytes(rest),
+    }
+}
+
+fn are_word_bytes(bytes: &[u8]) -> bool
+    ensures { result ≡ list_all word_byte bytes.now }
+{
+    bytes.iter().all(|byte| is_word_byte(*byte))
+}
+
+/// Whether bytes are digits alone.
+pub fn are_digits(bytes: &[u8]) -> bool
+    ensures { result ≡ list_all digit bytes.now }
+{
+    bytes.iter().all(|byte| is_digit(*byte))
+}
+
 /// How long the lower word at the front is; 0 where there is none.
 fn lower_word_length(bytes: &[u8]) -> usize
-    ensures length { result ≡ longest is_lower_word bytes.now }
+    ensures length { result ≡ longest lower_word bytes.now }
     ensures within { result ≤ length bytes.now }
 {
     match bytes.split_first() {

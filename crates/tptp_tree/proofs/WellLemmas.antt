@@ -18,7 +18,7 @@ IsSpelled l = spells (spelled_kind l.kind) l.bytes ≡ true
 abbrev pub AreSpelled : List Lexeme → Type 0
 AreSpelled = AllByRecursion IsSpelled
 
-lexemes-spelled :
+pub lexemes-spelled :
     (text : List ℕ) (tokens : List TokenRecord)
     → AllByRecursion (λ (t : TokenRecord). spells (spelled_kind t.kind) (lexeme_at text t).bytes ≡ true) tokens
     → AreSpelled (map (lexeme_at text) tokens)
@@ -84,7 +84,7 @@ mutual
       let first = unit-well u (units_lexemes one us ls) h.1 in
       let more = units-well one us ls first.1 in ((first.0, more.0), more.1)
 
-  phrase-well : (p : Phrase) (ls : List Lexeme) → AreSpelled (phrase_lexemes p ls) → WellFormula (meant p) × AreSpelled ls
+  pub phrase-well : (p : Phrase) (ls : List Lexeme) → AreSpelled (phrase_lexemes p ls) → WellFormula (meant p) × AreSpelled ls
   phrase-well (alone u) ls h = unit-well u ls h
   phrase-well (all_of u v us) ls h =
       let first = unit-well u _ h in

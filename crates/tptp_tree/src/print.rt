@@ -1,8 +1,6 @@
 // How names and formulas are printed.
 
 ghost use Rattle.std.specs.Prelude.{◌≡◌, ℕ, List, ◌++◌, flat_map, map, IfOk, codes};
-ghost use Rattle.std.specs.List.{list_all};
-ghost use Rattle.fol_base.specs.Spelling.{is_lower as lower, is_word_byte as word_byte, is_lower_word as lower_word};
 ghost use Rattle.tptp_tree.specs.Term.{terms_of};
 ghost use Rattle.tptp_tree.specs.Formula.{negation, formulas_of};
 ghost use Rattle.tptp_tree.specs.Shape.{term_of, formula_of};
@@ -13,6 +11,7 @@ use crate::formula::Formula;
 use crate::term::TreeTerm;
 use plain_types::{Mem, Text};
 use std::alloc::Global;
+use tptp_token::is_lower_word;
 
 /// The text of a name: bare where it is a lower word, else between single quotes, with a `\` before a quote and a `\`.
 /// Where some text spells the name, this one does.
@@ -45,29 +44,6 @@ fn push_bytes(page: &mut Vec<u8>, bytes: &[u8]) -> Mem<()>
 {
     page.extend_from_slice(bytes)?;
     Ok(())
-}
-
-/// Whether a name is a small letter and then letters, digits and underscores.
-fn is_lower_word(name: &[u8]) -> bool
-    ensures { result ≡ lower_word name.now }
-{
-    match name.split_first() {
-        None => false,
-        Some((first, rest)) => first.is_ascii_lowercase() && are_word_bytes(rest),
-    }
-}
-
-fn are_word_bytes(bytes: &[u8]) -> bool
-    ensures { result ≡ list_all word_byte bytes.now }
-{
-    bytes.iter().all(|byte| is_word_byte(*byte))
-}
-
-/// A letter, a digit or an underscore.
-fn is_word_byte(byte: u8) -> bool
-    ensures { result ≡ word_byte byte }
-{
-    byte.is_ascii_alphanumeric() || byte == b'_'
 }
 
 /// Adds a name: bare where it is a lower word, else quoted.

@@ -1,4 +1,4 @@
-use Rattle.tptp_reader.proofs.AnnotatingLemmas.{reading-by, fault-of}
+use Rattle.tptp_reader.proofs.AnnotatingLemmas.{reading-by, halt-within, fault-of}
 use Rattle.tptp_reader.proofs.EntryWhole.{answer-fault}
 use Rattle.tptp_reader.proofs.entry.annotated.Goals as goal
 
@@ -9,3 +9,6 @@ returns-in-Ok-clause-read c =
 pub returns-in-Err-clause-fault : goal.returns-in-Err-clause-fault
 returns-in-Err-clause-fault c =
     fault-of _ _ _ _ _ (answer-fault _ _ _ _ _ c.as_slice.ensures c.in-Err.ensures.halted c.fault_of.ensures)
+
+pub fault_of-requires-clause-within : goal.fault_of-requires-clause-within
+fault_of-requires-clause-within c = halt-within _ _ _ _ c.as_slice.ensures c.in-Err.ensures.halted

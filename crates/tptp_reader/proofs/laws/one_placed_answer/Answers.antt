@@ -1,0 +1,5 @@
+use Rattle.tptp_reader.proofs.PlacedLemmas.{the-answer-from}
+use Rattle.tptp_reader.proofs.laws.one_placed_answer.Goals as goal
+
+pub returns : goal.returns
+returns c = the-answer-from

@@ -1,0 +1,5 @@
+use Rattle.tptp_reader.proofs.PrintedLemmas.{text-again, reading-again}
+use Rattle.tptp_reader.proofs.laws.printed_again.Goals as goal
+
+pub returns : goal.returns
+returns c = record { spelled = text-again; read = reading-again }
