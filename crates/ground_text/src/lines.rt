@@ -13,9 +13,9 @@ use crate::names::{push_file, push_name};
 use crate::page::Page;
 use crate::terms::{push_literals, push_term};
 use fol_base::{Clause, Mem, Side, Term, Text};
+use ground_reader::{GroundProblem, GroundRole, GroundSymbol};
 use kernel_steps::{Derivation, Line, Step};
 use std::alloc::Global;
-use ground_reader::{GroundProblem, GroundRole, GroundSymbol};
 
 /// Adds the name of a line.
 fn push_line_name(page: &mut Page, number: u64) -> Mem<()>

@@ -2,10 +2,10 @@
 
 use super::*;
 use fol_base::{Clause, Literal, Literals, Mem, Names, Position, Side, Term, Terms, Text};
+use ground_reader::{GroundSymbol, GroundSymbols, read_ground};
 use kernel_steps::{Derivation, Line, Step};
 use std::alloc::Global;
 use std::test::Fail;
-use ground_reader::{GroundSymbol, GroundSymbols, read_ground};
 
 const TWO_UNITS: &[u8] = b"cnf(a,axiom,p). cnf(b,negated_conjecture,~p).";
 

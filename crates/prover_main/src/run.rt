@@ -11,9 +11,9 @@ use crate::report;
 use crate::words::Words;
 use fol_base::{Mem, NoMemory, Text};
 use ground_loop::{Ground, prove_ground};
+use ground_reader::{GroundFault, GroundProblem, read_ground};
 use outside::{Library, LoadFault, Sink, deliver};
 use std::alloc::Global;
-use ground_reader::{GroundFault, GroundProblem, read_ground};
 
 /// The most bytes of a file.
 const MOST_FILE_BYTES: usize = 67_108_864;
