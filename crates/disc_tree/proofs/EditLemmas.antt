@@ -1,20 +1,20 @@
 -- What an edit of a node does to its rows.
-use Rattle.std.proofs.Common.{◌≡◌, ◌⊎◌, ℕ, zero, suc, ◌+◌, ◌<◌, ◌≤◌, Bool, true, false, List, [], ◌∷◌, ◌++◌, length, take, drop, get_or, append_assoc, refl, ap, ap₂, sym, subst, ◌∙◌, arith, ⊎_elim, inl, inr}
+use Rattle.std.proofs.Common.{◌≡◌, ◌⊎◌, ℕ, zero, suc, ◌<◌, ◌≤◌, true, false, List, [], ◌∷◌, ◌++◌, length, take, drop, get_or, append_assoc, refl, ap, sym, subst, ◌∙◌, arith, ⊎_elim, inl, inr}
 use Rattle.std.specs.Prelude.{slice_set, insert, remove}
-use Rattle.std.proofs.lemmas.Bool.{cases_Bool, cond-true, cond-false}
+use Rattle.std.proofs.lemmas.Bool.{cond-true, cond-false}
 use Rattle.std.proofs.lemmas.List.{take-append-drop}
-use Rattle.fol_base.specs.Tree.{Tree, variable, application, tree_variables, trees_of, list_of, trees_size}
+use Rattle.fol_base.specs.Tree.{Tree, variable, application, trees_of, list_of, trees_size}
 use Rattle.fol_base.proofs.TreeLemmas.{trees_size-append, trees_of-list_of}
 use Rattle.disc_tree.specs.declared.label.Label.{Label}
 use Rattle.disc_tree.specs.declared.node.Branch.{Branch}
 use Rattle.disc_tree.specs.Path.{comes_before, same_label, head, arguments, path_of_all}
 use Rattle.disc_tree.specs.Entries.{IsIn, IsWith}
-use Rattle.disc_tree.specs.Rows.{Row, Child, here, below, all_below, rows, rows_at, weight, IsBefore, AreBefore, Rise, NoneIsEmpty, IsSound, IsAt, IsGap, IsNamed, IsTaken, IsNone, IsEntryTaken, IsNoEntry}
+use Rattle.disc_tree.specs.Rows.{Row, Child, here, below, all_below, rows, rows_at, weight, IsBefore, AreBefore, Rise, NoneIsEmpty, IsSound, IsAt, IsGap, IsNone, IsNoEntry}
 use Rattle.disc_tree.specs.Children.{child_of, children_of}
 use Rattle.disc_tree.specs.Falls.{weight-append, weight-below}
 use Rattle.disc_tree.proofs.SlotLemmas.{child-get, children-length}
 use Rattle.disc_tree.proofs.PathLemmas.{path-front}
-use Rattle.disc_tree.proofs.LabelLemmas.{before-irreflexive, before-not-same, after-not-same, same-label-refl, before-trans}
+use Rattle.disc_tree.proofs.LabelLemmas.{before-irreflexive, before-not-same, after-not-same, same-label-refl}
 
 -- ---- lists with one more
 

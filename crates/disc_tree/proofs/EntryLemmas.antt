@@ -1,11 +1,10 @@
 -- The entries of a tree, from the rows of its root.
-use Rattle.std.proofs.Common.{◌≡◌, ◌⊎◌, ℕ, zero, suc, Bool, true, false, List, [], ◌∷◌, ◌++◌, length, append-nil, append_assoc, refl, ap, ap₂, sym, subst, ◌∙◌, ⊎_elim, inl, inr}
+use Rattle.std.proofs.Common.{◌≡◌, ℕ, suc, List, [], ◌∷◌, ◌++◌, length, append-nil, append_assoc, refl, ap, ap₂, sym, subst, ◌∙◌, ⊎_elim, inl, inr}
 use Rattle.fol_base.specs.Tree.{Tree, variable, application, Trees, no_trees, tree_then, list_of, tree_variables, trees_variables}
 use Rattle.disc_tree.specs.declared.label.Label.{Label}
-use Rattle.disc_tree.specs.declared.label.Label.TheVariants.{Star, Symbol}
 use Rattle.disc_tree.specs.Path.{path, paths, path_of_all}
 use Rattle.disc_tree.specs.Entries.{IsIn, IsWith}
-use Rattle.disc_tree.specs.Rows.{Row, IsNamed, IsTaken, IsNone, entries_of, HavePaths}
+use Rattle.disc_tree.specs.Rows.{Row, IsTaken, IsNone, entries_of, HavePaths}
 
 -- ---- a path and its variables make the term
 

@@ -1,17 +1,16 @@
 -- What a query finds among the rows of a node.
-use Rattle.std.proofs.Common.{◌≡◌, ◌⊎◌, ℕ, zero, suc, ◌+◌, ◌<◌, ◌≤◌, Bool, true, false, ◌&&◌, ◌||◌, ◌==◌, List, [], ◌∷◌, ◌++◌, length, append-nil, append_assoc, refl, ap, ap₂, sym, subst, ◌∙◌, arith, ⊎_elim, inl, inr, if◌then◌else◌, take, IfOk, Result, Ok, Err}
+use Rattle.std.proofs.Common.{◌≡◌, ℕ, suc, ◌+◌, ◌<◌, Bool, true, false, ◌&&◌, ◌||◌, List, [], ◌∷◌, ◌++◌, length, append-nil, refl, ap, ap₂, sym, subst, ◌∙◌, arith, ⊎_elim, if◌then◌else◌, take, IfOk, Result, Ok, Err}
 use Rattle.std.proofs.lemmas.Bool.{cases_Bool, cond-true, cond-false}
-use Rattle.std.proofs.lemmas.Bool.Decides.{nat_tests}
 use Rattle.std.proofs.lemmas.List.{take_more}
 use Rattle.fol_base.specs.Tree.{Tree, variable, application, Trees, trees_of, list_of}
 use Rattle.fol_base.proofs.TreeLemmas.{list_of-trees_of}
 use Rattle.fol_base.specs.Compatible.{compatible_by}
 use Rattle.disc_tree.specs.declared.label.Label.{Label}
 use Rattle.disc_tree.specs.declared.label.Label.TheVariants.{Star, Symbol}
-use Rattle.disc_tree.specs.Path.{path, head, arity, fits, comes_before, same_label}
+use Rattle.disc_tree.specs.Path.{head, arity, fits, same_label}
 use Rattle.disc_tree.specs.Entries.{numbers_where}
 use Rattle.disc_tree.specs.Rows.{Row, Child, here, below, all_below, rows, rows_at, found_in, numbers_of, IsBefore, Rise, IsChildAt, entries_of, HavePaths}
-use Rattle.disc_tree.proofs.LabelLemmas.{same-label-refl, same-label-is, before-not-same, after-not-same, before-trans}
+use Rattle.disc_tree.proofs.LabelLemmas.{same-label-is, after-not-same}
 use Rattle.disc_tree.proofs.SlotLemmas.{is_before-weaker}
 use Rattle.disc_tree.proofs.PathLemmas.{fits-path}
 use Rattle.disc_tree.proofs.EditLemmas.{all_below-append}

@@ -1,12 +1,12 @@
 -- What a list has behind another one.
-use Rattle.std.proofs.Common.{◌≡◌, ℕ, zero, suc, ◌+◌, ◌<◌, Bool, true, false, ◌==◌, List, [], ◌∷◌, ◌++◌, length, map, take, drop, get_or, Option, None, Some, append_assoc, refl, ap, ap₂, sym, subst, ◌∙◌, arith, ⊎_elim, eq-eqb}
+use Rattle.std.proofs.Common.{◌≡◌, ℕ, ◌+◌, ◌<◌, ◌==◌, List, [], ◌∷◌, ◌++◌, length, map, take, drop, get_or, Option, None, Some, append_assoc, refl, ap, ap₂, sym, ◌∙◌, ⊎_elim, eq-eqb}
 use Rattle.std.proofs.lemmas.Bool.{cases_Bool, cond-true, cond-false, eqb-true}
 use Rattle.std.proofs.lemmas.List.{take-append-drop}
 use Rattle.fol_base.specs.Tree.{Tree, trees_of, tree_variables, trees_variables}
 use Rattle.fol_base.specs.Term.{tree_of}
 use Rattle.fol_base.specs.declared.term.Term.{Term}
 use Rattle.fol_base.proofs.VariableLemmas.{trees_variables-take_more}
-use Rattle.disc_tree.specs.Entries.{without_front, IsIn}
+use Rattle.disc_tree.specs.Entries.{without_front}
 
 pub front-then :
     (xs ys zs ws : List ℕ) (o : Option (List ℕ))

@@ -1,5 +1,5 @@
 -- The order of labels is a strict one in which any two different labels stand.
-use Rattle.std.proofs.Common.{◌≡◌, ℕ, Bool, true, false, ◌&&◌, ◌||◌, ◌==◌, nat_lt, refl, ap, ap₂, sym, ◌∙◌, arith}
+use Rattle.std.proofs.Common.{◌≡◌, true, false, refl, ap₂, arith}
 use Rattle.std.proofs.lemmas.Bool.Decides.{nat_tests}
 use Rattle.disc_tree.specs.declared.label.Label.{Label}
 use Rattle.disc_tree.specs.declared.label.Label.TheVariants.{Star, Symbol}

@@ -1,11 +1,11 @@
 -- A path can be read along a query exactly where the two terms are compatible.
-use Rattle.std.proofs.Common.{◌≡◌, ℕ, zero, suc, ◌+◌, Bool, true, false, ◌&&◌, ◌||◌, ◌==◌, List, [], ◌∷◌, ◌++◌, length, append-nil, append_assoc, refl, ap, ap₂, sym, subst, ◌∙◌, arith, ⊎_elim}
+use Rattle.std.proofs.Common.{◌≡◌, ℕ, suc, ◌+◌, Bool, true, false, ◌&&◌, ◌==◌, List, [], ◌∷◌, ◌++◌, length, append-nil, append_assoc, refl, ap, sym, ◌∙◌, arith, ⊎_elim}
 use Rattle.std.proofs.lemmas.Bool.{cases_Bool}
 use Rattle.std.proofs.lemmas.Bool.Decides.{nat_tests}
 use Rattle.fol_base.specs.Tree.{Tree, variable, application, Trees, no_trees, tree_then, trees_of, list_of}
 use Rattle.fol_base.specs.Compatible.{compatible_by, all_compatible_by}
 use Rattle.disc_tree.specs.declared.label.Label.{Label}
-use Rattle.disc_tree.specs.declared.label.Label.TheVariants.{Star, Symbol}
+use Rattle.disc_tree.specs.declared.label.Label.TheVariants.{Symbol}
 use Rattle.disc_tree.specs.Path.{path, paths, head, arguments, path_of_all, fits}
 
 -- what stands against nothing is passed over

@@ -1,12 +1,12 @@
 -- What a search by halving finds among children whose labels rise.
-use Rattle.std.proofs.Common.{◌≡◌, ℕ, zero, suc, ◌+◌, ◌<◌, ◌≤◌, Bool, true, false, List, [], ◌∷◌, ◌++◌, length, take, drop, get_or, map, refl, ap, sym, subst, ◌∙◌, arith, ⊎_elim}
+use Rattle.std.proofs.Common.{◌≡◌, ℕ, zero, suc, ◌+◌, ◌<◌, ◌≤◌, true, false, List, [], ◌∷◌, length, take, drop, get_or, refl, ap, sym, subst, ◌∙◌, arith, ⊎_elim}
 use Rattle.std.proofs.lemmas.Bool.{cases_Bool}
 use Rattle.disc_tree.specs.declared.label.Label.{Label}
 use Rattle.disc_tree.specs.Path.{comes_before}
 use Rattle.disc_tree.specs.declared.node.Branch.{Branch}
-use Rattle.disc_tree.specs.Rows.{Child, Row, IsBefore, AreBefore, AreNotBefore, Rise, IsAt, IsGap}
+use Rattle.disc_tree.specs.Rows.{Child, IsBefore, AreBefore, AreNotBefore, Rise, IsAt}
 use Rattle.disc_tree.specs.Children.{child_of, children_of}
-use Rattle.disc_tree.proofs.LabelLemmas.{before-trans, before-irreflexive, before-total}
+use Rattle.disc_tree.proofs.LabelLemmas.{before-trans, before-total}
 
 is_before-get : (l : Label) (cs : List Child) (i : ℕ) (c : Child) → i < length cs → c ≡ get_or cs i c → IsBefore l cs → comes_before l c.0 ≡ true
 is_before-get l [] i c h e b = absurd (omega arith)

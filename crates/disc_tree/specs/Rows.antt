@@ -1,5 +1,5 @@
 -- A node as the list of its rows, each the rest of a path and the entry at its end.
-use Rattle.std.specs.Prelude.{◌≡◌, ◌⊎◌, ℕ, ◌+◌, ◌≤◌, ◌<◌, Bool, true, false, List, [], ◌∷◌, ◌++◌, length, ⊤, if◌then◌else◌, take, drop, get_or}
+use Rattle.std.specs.Prelude.{◌≡◌, ℕ, ◌+◌, ◌≤◌, ◌<◌, Bool, true, false, List, [], ◌∷◌, ◌++◌, length, ⊤, if◌then◌else◌, take, drop, get_or}
 use Rattle.fol_base.specs.Tree.{Tree, tree_variables}
 use Rattle.disc_tree.specs.declared.label.Label.{Label}
 use Rattle.disc_tree.specs.Path.{comes_before, same_label, fits, path}

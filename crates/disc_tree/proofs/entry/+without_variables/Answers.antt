@@ -1,4 +1,4 @@
-use Rattle.std.proofs.Common.{◌++◌, map, take, arith, ap, sym, ◌∙◌, Some, None}
+use Rattle.std.proofs.Common.{map, take, arith, ap, sym, ◌∙◌, Some}
 use Rattle.fol_base.specs.Tree.{trees_of, tree_variables, trees_variables}
 use Rattle.fol_base.specs.Term.{tree_of}
 use Rattle.fol_base.proofs.TermLemmas.{tree_size-item}

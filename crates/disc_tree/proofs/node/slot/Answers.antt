@@ -1,7 +1,7 @@
-use Rattle.std.proofs.Common.{◌≡◌, ℕ, ◌+◌, ◌-◌, ◌<◌, ◌≤◌, ◌/◌, length, sym, ap, ◌∙◌, subst, arith, drop, take}
+use Rattle.std.proofs.Common.{◌≡◌, ℕ, ◌+◌, ◌-◌, ◌<◌, ◌/◌, length, sym, ap, ◌∙◌, subst, arith, drop}
 use Rattle.disc_tree.specs.declared.node.Branch.{Branch}
 use Rattle.disc_tree.specs.Path.{comes_before}
-use Rattle.disc_tree.specs.Rows.{AreNotBefore, AreBefore, IsBefore}
+use Rattle.disc_tree.specs.Rows.{AreNotBefore, IsBefore}
 use Rattle.disc_tree.specs.Children.{child_of, children_of}
 use Rattle.disc_tree.proofs.SlotLemmas.{front-before, back-not-before, at-slot, gap-before, gap-at-end, child-get, children-length}
 use Rattle.disc_tree.proofs.node.slot.Goals as goal

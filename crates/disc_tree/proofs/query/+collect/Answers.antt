@@ -1,12 +1,12 @@
-use Rattle.std.proofs.Common.{◌≡◌, ◌++◌, ◌∷◌, [], ℕ, Bool, suc, ◌+◌, List, true, false, map, take, length, refl, ap, sym, ◌∙◌, append_assoc, arith, IfOk, if◌then◌else◌}
+use Rattle.std.proofs.Common.{◌≡◌, ◌++◌, [], ℕ, Bool, suc, ◌+◌, List, map, take, ap, sym, ◌∙◌, append_assoc, arith, if◌then◌else◌}
 use Rattle.std.proofs.lemmas.List.{take_all}
 use Rattle.fol_base.specs.Tree.{Tree}
 use Rattle.fol_base.specs.Term.{tree_of}
 use Rattle.disc_tree.specs.declared.label.Label.TheVariants.{Star}
 use Rattle.disc_tree.specs.Path.{arity}
 use Rattle.disc_tree.specs.Work.{trees_left, terms_left}
-use Rattle.disc_tree.specs.Rows.{Row, Child, rows, rows_at, found_in, all_below}
-use Rattle.disc_tree.proofs.FoundLemmas.{if_ok-map, end-step, variable-step, star-step, application-step, children-more, found-passing}
+use Rattle.disc_tree.specs.Rows.{rows, rows_at, found_in, all_below}
+use Rattle.disc_tree.proofs.FoundLemmas.{if_ok-map, end-step, star-step, application-step, children-more, found-passing}
 use Rattle.disc_tree.proofs.query.+collect.Goals as goal
 
 pub collect-returns-in_default-rest : goal.collect-returns-in_default-rest

@@ -1,4 +1,4 @@
-use Rattle.std.proofs.Common.{◌≡◌, ap, sym, ◌∙◌}
+use Rattle.std.proofs.Common.{ap, sym, ◌∙◌}
 use Rattle.fol_base.specs.Term.{tree_of}
 use Rattle.fol_base.proofs.TreeLemmas.{list_of-trees_of}
 use Rattle.disc_tree.specs.Path.{arguments}

@@ -1,5 +1,4 @@
 use Rattle.std.proofs.Common.{◌≡◌, ◌++◌, ◌∷◌, [], List, map, refl, ap, sym, ◌∙◌, arith}
-use Rattle.fol_base.specs.Tree.{Tree, trees_size, trees_of}
 use Rattle.fol_base.specs.Term.{tree_of}
 use Rattle.disc_tree.specs.declared.label.Label.{Label}
 use Rattle.disc_tree.specs.Path.{path_of_all}

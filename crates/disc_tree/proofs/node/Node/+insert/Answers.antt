@@ -1,4 +1,4 @@
-use Rattle.std.proofs.Common.{◌≡◌, ◌<◌, ◌++◌, ◌∷◌, [], ℕ, List, map, refl, ap, sym, subst, ◌∙◌, arith, rules}
+use Rattle.std.proofs.Common.{◌≡◌, ◌<◌, ◌++◌, ◌∷◌, [], ℕ, List, map, ap, sym, subst, arith, rules}
 use Rattle.std.specs.Prelude.{slice_set}
 use Rattle.fol_base.specs.Tree.{Tree}
 use Rattle.fol_base.specs.Term.{tree_of}

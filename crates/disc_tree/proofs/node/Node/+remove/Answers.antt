@@ -1,16 +1,16 @@
 use Rattle.std.proofs.Common.{◌≡◌, ◌<◌, ◌≤◌, ◌++◌, ◌∷◌, [], ℕ, List, map, length, true, false, refl, ap, sym, subst, ◌∙◌, arith}
-use Rattle.std.specs.Prelude.{slice_set, remove}
+use Rattle.std.specs.Prelude.{slice_set}
 use Rattle.fol_base.specs.Tree.{Tree, tree_variables}
 use Rattle.fol_base.specs.Term.{tree_of}
 use Rattle.disc_tree.specs.declared.label.Label.{Label}
 use Rattle.disc_tree.specs.declared.node.Branch.{Branch}
 use Rattle.disc_tree.specs.Entries.{IsWith}
 use Rattle.disc_tree.specs.Path.{path_of_all}
-use Rattle.disc_tree.specs.Rows.{Row, Child, IsNamed, rows, weight, IsAt, IsGap, IsSound, IsTaken, IsNone, IsEntryTaken, IsNoEntry}
+use Rattle.disc_tree.specs.Rows.{Row, Child, IsNamed, rows, weight, IsAt, IsGap, IsSound, IsTaken, IsNone, IsEntryTaken}
 use Rattle.disc_tree.specs.Children.{child_of, children_of}
 use Rattle.disc_tree.specs.Work.{trees_left}
 use Rattle.disc_tree.proofs.SlotLemmas.{child-get, children-length}
-use Rattle.disc_tree.proofs.RemoveLemmas.{read-set, set-length}
+use Rattle.disc_tree.proofs.RemoveLemmas.{read-set}
 use Rattle.disc_tree.proofs.EditLemmas.{path-step, child-lighter, sound-edited, sound-pruned, rows-with-fewer, rows-with-branch, rows-with-entry, none-in-gap, none-in-child, none-at-end}
 use Rattle.disc_tree.proofs.node.Node.+remove.Goals as goal
 

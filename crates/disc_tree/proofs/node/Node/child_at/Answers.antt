@@ -1,4 +1,4 @@
-use Rattle.std.proofs.Common.{◌≡◌, ◌<◌, List, length, ap, sym, subst, ◌∙◌, arith}
+use Rattle.std.proofs.Common.{◌<◌, List, length, sym, subst, arith}
 use Rattle.fol_base.specs.Tree.{Tree}
 use Rattle.disc_tree.specs.Rows.{Child, rows, weight}
 use Rattle.disc_tree.specs.Children.{child_of, children_of}

@@ -1,7 +1,6 @@
-use Rattle.std.proofs.Common.{◌≡◌, ◌++◌, ◌∷◌, [], ℕ, List, refl, ap, sym, subst, ◌∙◌}
+use Rattle.std.proofs.Common.{◌∷◌, [], ℕ, List, refl, ap, sym, subst, ◌∙◌}
 use Rattle.fol_base.specs.Tree.{Tree}
 use Rattle.fol_base.specs.Term.{tree_of}
-use Rattle.disc_tree.specs.declared.label.Label.{Label}
 use Rattle.disc_tree.specs.Path.{path, path_of_all}
 use Rattle.disc_tree.specs.Entries.{IsWith}
 use Rattle.disc_tree.specs.Rows.{Row, rows, entries_of}

@@ -1,6 +1,6 @@
-use Rattle.std.proofs.Common.{◌≡◌, ◌++◌, ◌∷◌, [], ℕ, List, Bool, true, false, refl, ap, sym, subst, ◌∙◌, ⊎_elim}
+use Rattle.std.proofs.Common.{◌∷◌, [], ℕ, List, refl, sym, subst, ⊎_elim}
 use Rattle.std.proofs.lemmas.Bool.{cases_Bool}
-use Rattle.fol_base.specs.Tree.{Tree, tree_variables}
+use Rattle.fol_base.specs.Tree.{Tree}
 use Rattle.fol_base.specs.Term.{tree_of}
 use Rattle.disc_tree.specs.Path.{path}
 use Rattle.disc_tree.specs.Entries.{IsIn, IsWith}
