@@ -35,7 +35,7 @@ known-kept trees known learned old new r t all is_of tree has =
     (λ j. lookup (tree_eq (same j)) (all.table j)) ∙ lookup-more (tree_eq t) (entries known) all.more (number r) has
 
 -- and so do those of literals
-known-literals-kept :
+pub known-literals-kept :
     (trees : List Tree) (known learned : Table) (old new : Bank) (ls : List BankLit)
     → InternsAll trees known learned old new → AreLiteralsOf old ls
     → All (IsKnown old known) ls → All (IsKnown new learned) ls

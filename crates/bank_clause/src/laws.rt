@@ -10,13 +10,16 @@ ghost use Rattle.bank_clause.specs.Laws.{
   CanonicalFormsAreCanonical,
   CanonicalFormsKeepSizes,
   KeepsClauses,
+  KeepsKnownLiterals,
   KeepsMembers,
 };
 
-/// A bank that grows keeps its clauses and members, and what they stand for.
+/// A bank that grows keeps its clauses and members, and what they stand for; literals keep the references that
+/// the table has for their sides.
 pub fn kept_clauses()
     ensures clauses { KeepsClauses }
     ensures members { KeepsMembers }
+    ensures known_literals { KeepsKnownLiterals }
 {}
 
 /// The canonical form of a clause can be taken into a bank: it is canonical, and of the clause's size.

@@ -1,5 +1,5 @@
 -- Interning several trees, one after another.
-use Rattle.std.proofs.Common.{◌≡◌, ℕ, Bool, true, false, cond, ◌||◌, List, [], ◌∷◌, ◌++◌, Some, is_some, if◌then◌else◌, refl, sym, ap, subst, ◌∙◌, append_assoc, append-nil, arith}
+use Rattle.std.proofs.Common.{◌≡◌, ℕ, Bool, true, false, cond, ◌||◌, List, [], ◌∷◌, ◌++◌, Some, is_some, if◌then◌else◌, refl, sym, ap, subst, ◌∙◌, append_assoc, append-nil, get_or, arith}
 use Rattle.std.proofs.lemmas.List.{map-append}
 use Rattle.std.proofs.lemmas.List.Elements.{All-nil, All-cons, All-head, All-tail, Contains-append_right}
 use Rattle.std.specs.Prelude.{Contains}
@@ -9,7 +9,8 @@ use Rattle.std.specs.Map.{lookup}
 use Rattle.fol_base.specs.Tree.{Tree, tree_eq}
 use Rattle.fol_base.proofs.TreeLemmas.{tree_eq-refl}
 use Rattle.term_bank.specs.Bank.{IsSame, entries}
-use Rattle.term_bank.specs.Laws.{InternsOne, InternsOnward, InternsAndGrows, LearnsOnlyThese, InternedAgain}
+use Rattle.term_bank.proofs.BankLemmas.{lookup-more}
+use Rattle.term_bank.specs.Laws.{InternsOne, InternsOnward, InternsAndGrows, LearnsOnlyThese, InternedAgain, KeepsAllNumbers, NumbersThese, InternsAfterFirst}
 use Rattle.term_bank.specs.Interning.{first_seen, trees_in, InternsAll}
 use Rattle.term_bank.specs.declared.bank.Bank.{Bank}
 use Rattle.term_bank.specs.declared.bank.Table.{Table}
@@ -40,6 +41,15 @@ first_seen-known known [] all = refl
 first_seen-known known (t ∷ ts) all =
     ap (λ b. if b then first_seen known ts else t ∷ first_seen (known ++ t ∷ []) ts) (All-head (λ u. list_any (tree_eq u) known ≡ true) t ts all)
     ∙ first_seen-known known ts (All-tail (λ u. list_any (tree_eq u) known ≡ true) t ts all)
+
+-- so they may be left out in front
+seen-before :
+    (known ts us : List Tree)
+    → All (λ t. list_any (tree_eq t) known ≡ true) ts → first_seen known (ts ++ us) ≡ first_seen known us
+seen-before known ts us all =
+    first_seen-append known ts us
+    ∙ ap (λ fs. fs ++ first_seen (known ++ fs) us) (first_seen-known known ts all)
+    ∙ ap (λ ks. first_seen ks us) (append-nil known)
 
 -- each of the trees is known in the end
 all-seen : (known ts : List Tree) → All (λ u. list_any (tree_eq u) (known ++ first_seen known ts) ≡ true) ts
@@ -158,3 +168,30 @@ interned_again trees first second third old middle new once again =
     nothing : (es : List (Tree × ℕ)) → trees_in es ≡ [] → es ≡ []
     nothing [] h = refl
     nothing (e ∷ es) h = absurd (cc)
+
+pub keeps_all_numbers : KeepsAllNumbers
+keeps_all_numbers trees known learned old new u m all has =
+    ap (lookup (tree_eq u)) all.table ∙ lookup-more (tree_eq u) (entries known) all.more m has
+
+pub numbers_these : NumbersThese
+numbers_these trees known learned old new all k d below =
+    is-known (get_or trees k d) (entries learned)
+    ∙ ap (list_any (tree_eq (get_or trees k d))) (trees-learned trees known learned old new all)
+    ∙ all-seen (trees_in (entries known)) trees k d below
+
+pub interns_after_first : InternsAfterFirst
+interns_after_first trees first second third old middle new part all =
+    let done : List Tree = part.0 in
+    let rest : List Tree = part.1 in
+    let near : InternsAll done first second old middle = part.3 in
+    let seen : All (λ t. list_any (tree_eq t) (trees_in (entries second)) ≡ true) done =
+    subst (λ ks. All (λ t. list_any (tree_eq t) ks ≡ true) done) (sym (trees-learned done first second old middle near))
+    (all-seen (trees_in (entries first)) done) in
+    let far : InternsAll rest second third middle new = record {
+      more = all.more;
+      table = all.table;
+      first = all.first ∙ ap (first_seen (trees_in (entries second))) part.2 ∙ seen-before (trees_in (entries second)) done rest seen;
+      bank = all.bank;
+    } in
+    subst (λ ts. InternsAll ts first third old new) (sym part.2)
+    (interns_onward done rest first second third old middle new near far)

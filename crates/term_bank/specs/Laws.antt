@@ -1,9 +1,9 @@
 -- Laws of the words on banks: what callers may use without a look into a bank.
-use Rattle.std.specs.Prelude.{◌≡◌, ℕ, List, [], ◌∷◌, ◌++◌, Some, Contains}
+use Rattle.std.specs.Prelude.{◌≡◌, ℕ, true, List, [], ◌∷◌, ◌++◌, Some, is_some, Contains}
 use Rattle.std.specs.List.{All}
 use Rattle.fol_base.specs.Tree.{Tree}
 use Rattle.term_bank.specs.Bank.{IsOf, AreOf, IsTableOf, Interns, Grows, IsSame, entries, interned, number_in, tree_in}
-use Rattle.term_bank.specs.Interning.{trees_in, InternsAll}
+use Rattle.term_bank.specs.Interning.{trees_in, InternsAll, InternsFirst}
 use Rattle.term_bank.specs.Literal.{AreLiteralsOf, literals_in}
 use Rattle.term_bank.specs.declared.literal.BankLit.{BankLit}
 use Rattle.term_bank.specs.declared.reference.TermRef.{TermRef}
@@ -35,6 +35,12 @@ abbrev pub KeepsNumbers : Type 0
 KeepsNumbers =
     (old new : Table) (t u : Tree) (n m : ℕ) → entries new ≡ interned (entries old) t n
     → number_in old u ≡ Some m → number_in new u ≡ Some m
+
+-- and when several trees are
+abbrev pub KeepsAllNumbers : Type 0
+KeepsAllNumbers =
+    (trees : List Tree) (known learned : Table) (old new : Bank) (u : Tree) (m : ℕ)
+    → InternsAll trees known learned old new → number_in known u ≡ Some m → number_in learned u ≡ Some m
 
 -- a bank that grows keeps literals, which stand for what they stood for
 abbrev pub KeepsLiterals : Type 0
@@ -72,3 +78,16 @@ InternedAgain =
     (trees : List Tree) (first second third : Table) (old middle new : Bank)
     → InternsAll trees first second old middle → InternsAll trees second third middle new
     → (entries third ≡ entries second) × IsSame middle new
+
+-- the table has a number for each of the trees afterwards
+abbrev pub NumbersThese : Type 0
+NumbersThese =
+    (trees : List Tree) (known learned : Table) (old new : Bank)
+    → InternsAll trees known learned old new → All (λ t. is_some (number_in learned t) ≡ true) trees
+
+-- where some first ones were interned, interning all of them does what it would have done at once
+abbrev pub InternsAfterFirst : Type 0
+InternsAfterFirst =
+    (trees : List Tree) (first second third : Table) (old middle new : Bank)
+    → InternsFirst trees first second old middle → InternsAll trees second third middle new
+    → InternsAll trees first third old new

@@ -1,4 +1,4 @@
-use Rattle.term_bank.proofs.InterningLemmas.{interns_one, interns_onward, interns_and_grows, learns_only_these, interned_again}
+use Rattle.term_bank.proofs.InterningLemmas.{interns_one, interns_onward, interns_and_grows, learns_only_these, interned_again, numbers_these, interns_after_first}
 use Rattle.term_bank.proofs.laws.several_trees.Goals as goal
 
 pub returns : goal.returns
@@ -8,4 +8,6 @@ returns c = record {
   grows = interns_and_grows;
   only_these = learns_only_these;
   again = interned_again;
+  numbers = numbers_these;
+  after_first = interns_after_first;
 }
