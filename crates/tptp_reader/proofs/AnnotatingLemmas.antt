@@ -1,5 +1,5 @@
 -- The answers of the reader, which are told by the machine's verdict, are right.
-use Rattle.std.proofs.Common.{◌≡◌, ◌⊎◌, inl, inr, ℕ, suc, List, [], ◌∷◌, length, drop, Option, Some, None, refl, ap, sym, ◌∙◌, subst, arith}
+use Rattle.std.proofs.Common.{◌≡◌, inl, inr, ℕ, suc, List, [], ◌∷◌, length, drop, Option, Some, None, refl, ap, sym, ◌∙◌, subst, arith}
 use Rattle.std.specs.Prelude.{◌+◌, ◌<◌, ◌≤◌, IfSome, slice_get}
 use Rattle.std.proofs.lemmas.List.{length-map, length-drop}
 use Rattle.tptp_token.specs.Lexemes.{Lexeme, lexeme_at}
@@ -8,10 +8,10 @@ use Rattle.tptp_token.specs.declared.token.Lexed.{Lexed}
 use Rattle.tptp_token.specs.declared.token.LexFault.{LexFault}
 use Rattle.tptp_token.specs.declared.token.LexFault.TheVariants.{BadByte, Unclosed}
 use Rattle.tptp_tree.specs.Causes.{Refusal}
-use Rattle.tptp_reader.specs.Machine.{refused_at, ran_out, an_annotated}
+use Rattle.tptp_reader.specs.Machine.{refused_at, an_annotated}
 use Rattle.tptp_reader.specs.Annotating.{lexemes_of, IsReading, StandsAt, TokensRunOut, IsFaultAt, IsFaultOf}
 use Rattle.tptp_reader.specs.Telling.{lexemes, refusal_of, IsEnd, Ends, told}
-use Rattle.tptp_reader.specs.TellingEntries.{IsAnnotatedRead, entry_verdict, cause_told, IsEndFault, IsCauseBy, IsWithin, IsFaultBy, HasFault, ReadsEntry}
+use Rattle.tptp_reader.specs.TellingEntries.{IsAnnotatedRead, entry_verdict, cause_told, IsEndFault, IsCauseBy, IsWithin, HasFault, ReadsEntry}
 use Rattle.tptp_reader.specs.declared.cause.Halt.{Halt}
 use Rattle.tptp_reader.specs.declared.cause.Halt.TheVariants.{NoMemory as HaltMemory, At as HaltAt, Ended}
 use Rattle.tptp_reader.specs.declared.cause.Refusal.{Refusal as ToldRefusal}

@@ -1,5 +1,5 @@
 -- Steps of reading an entry but for its notes.
-use Rattle.std.proofs.Common.{◌≡◌, ◌<◌, ◌≤◌, ℕ, ◌+◌, Bool, true, false, not, ◌&&◌, List, [], ◌∷◌, ◌++◌, drop, codes, bytes_eq, Option, None, Some, if◌then◌else◌, refl, sym, ap, ap₂, ◌∙◌, arith, subst, append_assoc}
+use Rattle.std.proofs.Common.{◌≡◌, ℕ, ◌+◌, Bool, true, false, not, List, [], ◌∷◌, ◌++◌, drop, codes, bytes_eq, Option, None, Some, if◌then◌else◌, refl, sym, ap, ◌∙◌, subst}
 use Rattle.std.specs.List.{list_all}
 use Rattle.std.proofs.lemmas.Slice.Eq.{bytes_eq-Decides}
 use Rattle.fol_base.specs.Spelling.{is_digit, is_one_of}
@@ -9,10 +9,10 @@ use Rattle.tptp_token.specs.declared.token.Kind.TheVariants.{Lower, Variable, Qu
 use Rattle.tptp_tree.specs.Formula.{FormulaTree}
 use Rattle.tptp_tree.specs.Brackets.{is_mark}
 use Rattle.tptp_tree.specs.Spelling.{lexeme, word_lexeme, name_of}
-use Rattle.tptp_tree.specs.Causes.{Refusal, syntax, Surroundings, outermost, untaken_role_cause}
-use Rattle.tptp_tree.specs.Entries.{NamePhrase, word_name, digits_name, Body, formula_body, clause_body, is_clause_body, body_lexemes, notes_lexemes, language_word, role_word, role_among, role_of}
+use Rattle.tptp_tree.specs.Causes.{syntax, outermost, untaken_role_cause}
+use Rattle.tptp_tree.specs.Entries.{word_name, digits_name, formula_body, clause_body, body_lexemes, language_word, role_word, role_among, role_of}
 use Rattle.tptp_tree.specs.declared.problem.Role.{Role}
-use Rattle.tptp_reader.specs.Machine.{Symbol, mark, an_annotated, a_name, a_role, a_clause, end_of_body, first_note, formula_symbols, typed_words, Step, takes, stops, step}
+use Rattle.tptp_reader.specs.Machine.{mark, an_annotated, a_name, a_role, a_clause, end_of_body, first_note, formula_symbols, typed_words, takes, stops, step}
 use Rattle.tptp_reader.specs.Telling.{lexemes, IsNext, Leads, Ends, Suits, Halts, one, is_word, word_of, is_lower_kind, is_digits, refusal_of, ReadsFormula, ReadsClause}
 use Rattle.tptp_reader.specs.TellingNotes.{ReadsNotes}
 use Rattle.tptp_reader.specs.TellingEntries.{entry_symbols, body_symbols, ReadsLanguage, ReadsName, ReadsRole, ReadsBody, ReadsEnding}
@@ -23,7 +23,7 @@ use Rattle.tptp_reader.specs.declared.cause.Halt.TheVariants.{At}
 use Rattle.tptp_reader.specs.declared.cause.Refusal.{Refusal as ToldRefusal}
 use Rattle.tptp_reader.specs.declared.cause.Refusal.TheVariants.{Syntax, Inappropriate}
 use Rattle.tptp_reader.specs.declared.cause.Form.TheVariants.{Typed}
-use Rattle.tptp_reader.proofs.TellingLemmas.{takes-leads, fault-ends, stop-ends, leads-then, leads-under, ends-after, leads-alike, ends-alike}
+use Rattle.tptp_reader.proofs.TellingLemmas.{takes-leads, fault-ends, stop-ends, leads-then, ends-after, leads-alike, ends-alike}
 use Rattle.tptp_reader.proofs.StepLemmas.{word-spelled}
 use Rattle.tptp_reader.proofs.LoopLemmas.{mark-is, next-is}
 

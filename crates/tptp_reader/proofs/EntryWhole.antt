@@ -1,11 +1,10 @@
 -- An entry from its parts.
-use Rattle.std.proofs.Common.{subst, ◌≡◌, ℕ, ◌+◌, Bool, true, false, ◌&&◌, List, [], ◌∷◌, ◌++◌, drop, codes, Some, refl, sym, ap, ap₂, ◌∙◌}
-use Rattle.tptp_token.specs.Lexemes.{Lexeme}
+use Rattle.std.proofs.Common.{subst, ◌≡◌, ℕ, ◌+◌, Bool, ◌&&◌, List, [], ◌∷◌, ◌++◌, drop, codes, Some, sym, ap, ap₂, ◌∙◌}
 use Rattle.tptp_token.specs.declared.token.Kind.TheVariants.{Lower, Mark}
 use Rattle.tptp_tree.specs.Formula.{FormulaTree}
 use Rattle.tptp_tree.specs.Shape.{formula_of}
 use Rattle.tptp_tree.specs.Spelling.{lexeme}
-use Rattle.tptp_tree.specs.Entries.{NamePhrase, name_lexeme, name_meant, Body, is_clause_body, body_lexemes, body_meant, language_word, role_of, notes_lexemes, AnnotatedPhrase, annotated_lexemes}
+use Rattle.tptp_tree.specs.Entries.{name_lexeme, is_clause_body, body_lexemes, language_word, role_of, annotated_lexemes}
 use Rattle.tptp_tree.specs.declared.problem.Role.{Role}
 use Rattle.tptp_reader.specs.Machine.{Symbol, mark, an_annotated, a_name, a_role, end_of_body}
 use Rattle.tptp_reader.specs.Telling.{lexemes, IsNext, Leads, Ends, IsEnd, told}

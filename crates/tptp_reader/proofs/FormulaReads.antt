@@ -1,21 +1,21 @@
 -- Steps of reading formulas.
-use Rattle.std.proofs.Common.{◌≡◌, ◌<◌, ◌≤◌, ℕ, ◌+◌, Bool, true, false, ◌||◌, List, [], ◌∷◌, ◌++◌, map, drop, refl, sym, ap, ap₂, ◌∙◌, arith, subst, codes}
+use Rattle.std.proofs.Common.{◌≡◌, ◌<◌, ◌≤◌, ℕ, ◌+◌, Bool, true, false, ◌||◌, List, [], ◌∷◌, ◌++◌, map, drop, refl, sym, ap, ap₂, ◌∙◌, arith, codes}
 use Rattle.tptp_token.specs.Lexemes.{Lexeme}
 use Rattle.tptp_token.specs.declared.token.Kind.TheVariants.{Connective, Mark}
-use Rattle.tptp_tree.specs.Formula.{FormulaTree, negation, conjunction, disjunction, connected, quantified, Quantifier, BinaryConnective, FormulaTrees, no_formulas, formula_then, formulas_of}
+use Rattle.tptp_tree.specs.Formula.{FormulaTree, negation, conjunction, disjunction, connected, BinaryConnective, formula_then, formulas_of}
 use Rattle.tptp_tree.specs.Brackets.{is_mark}
-use Rattle.tptp_tree.specs.Spelling.{lexeme, connective_lexeme, quantifier_lexeme, UnitPhrase, negated, bound, in_brackets, atomic, UnitPhrases, no_units, unit_then, Phrase, alone, all_of, some_of, joined_by, unit_lexemes, units_lexemes, phrase_lexemes, unit_meant, units_meant}
-use Rattle.tptp_tree.specs.Causes.{Surroundings, deeper, binding}
+use Rattle.tptp_tree.specs.Spelling.{lexeme, connective_lexeme, quantifier_lexeme, UnitPhrase, negated, bound, in_brackets, atomic, UnitPhrases, no_units, unit_then, alone, all_of, some_of, joined_by, unit_lexemes, units_lexemes, phrase_lexemes, unit_meant, units_meant}
+use Rattle.tptp_tree.specs.Causes.{Surroundings, deeper}
 use Rattle.tptp_reader.specs.Machine.{Symbol, mark, an_atom, a_unit, maybe_connected, maybe_more_units, formula_symbols, variables_bracket, is_connective, is_binary_connective}
-use Rattle.tptp_reader.specs.Telling.{lexemes, IsNext, Leads, Ends, Suits, Starts, Reads, Halts, one, further, Listed, listed, items_meant, ReadsAtom, ReadsUnit, ReadsFormula, further_units, ReadsUnits, bound_lexemes, bound_meant, texts_of, quantifier_of, ReadsBound, ReadsVariables, Binds}
+use Rattle.tptp_reader.specs.Telling.{lexemes, IsNext, Leads, Ends, Suits, Starts, Halts, one, further, ReadsAtom, ReadsUnit, ReadsFormula, further_units, ReadsUnits, quantifier_of, ReadsBound}
 use Rattle.tptp_reader.specs.declared.source.Reader.{Reader}
 use Rattle.tptp_reader.specs.declared.source.Name.{Name}
 use Rattle.tptp_reader.specs.declared.cause.Halt.{Halt}
 use Rattle.tptp_reader.specs.declared.cause.Halt.TheVariants.{At}
-use Rattle.tptp_reader.specs.declared.cause.Refusal.TheVariants.{Syntax, Nesting}
-use Rattle.tptp_reader.proofs.TellingLemmas.{leads-then, leads-under, ends-under, ends-after, halt-is, Suits-deeper}
+use Rattle.tptp_reader.specs.declared.cause.Refusal.TheVariants.{Nesting}
+use Rattle.tptp_reader.proofs.TellingLemmas.{leads-then, leads-under, ends-after, halt-is, Suits-deeper}
 use Rattle.tptp_reader.proofs.AtomSteps.{lexeme-is}
-use Rattle.tptp_reader.proofs.FormulaSteps.{unit-leads, unit-too_deep, quantifier-step, unit-as_atom, and-leads, or-leads, binary-leads, alone-leads, more_units-leads, no_more_units-leads, Suits-binding}
+use Rattle.tptp_reader.proofs.FormulaSteps.{unit-leads, unit-too_deep, quantifier-step, unit-as_atom, and-leads, or-leads, binary-leads, alone-leads, more_units-leads, no_more_units-leads}
 use Rattle.tptp_reader.proofs.LoopLemmas.{SoFar, sofar-first, sofar-more, sofar-ended, sofar-halts, sofar-item-halts, first-halts, next-is}
 
 -- ---- units

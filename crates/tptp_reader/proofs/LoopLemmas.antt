@@ -1,5 +1,5 @@
 -- Items that are read one after the other, with a token between two of them.
-use Rattle.std.proofs.Common.{append_assoc, ◌≡◌, ◌<◌, ◌≤◌, ℕ, ◌+◌, Bool, true, false, ◌&&◌, List, [], ◌∷◌, ◌++◌, map, drop, refl, sym, ap, ◌∙◌, arith, codes, bytes_eq, subst, Result, Ok, Err}
+use Rattle.std.proofs.Common.{append_assoc, ◌≡◌, ◌≤◌, ℕ, ◌+◌, true, List, [], ◌∷◌, ◌++◌, drop, refl, sym, ap, ◌∙◌, arith, bytes_eq, subst, Result, Ok, Err}
 use Rattle.std.specs.Result.{IsErrAnd}
 use Rattle.std.specs.Prelude.{IfOk, IfErr}
 use Rattle.std.proofs.lemmas.List.{map-append}
@@ -7,11 +7,11 @@ use Rattle.std.proofs.lemmas.Slice.Eq.{bytes_eq-Decides}
 use Rattle.tptp_token.specs.Lexemes.{Lexeme}
 use Rattle.tptp_token.specs.declared.token.Kind.{Kind}
 use Rattle.tptp_token.specs.declared.token.Kind.TheVariants.{Lower, Variable, Quoted, Distinct, Dollar, Number, Connective, Mark, Other}
-use Rattle.tptp_tree.specs.Brackets.{is_lexeme, is_mark}
+use Rattle.tptp_tree.specs.Brackets.{is_mark}
 use Rattle.tptp_tree.specs.Spelling.{lexeme}
 use Rattle.tptp_tree.specs.Causes.{Surroundings}
 use Rattle.tptp_reader.specs.Machine.{Symbol}
-use Rattle.tptp_reader.specs.Telling.{lexemes, IsNext, Leads, Ends, Suits, Starts, Reads, Halts, one, further, Listed, listed, items_meant}
+use Rattle.tptp_reader.specs.Telling.{lexemes, IsNext, Leads, Ends, Suits, Reads, Halts, one, further, Listed, listed, items_meant}
 use Rattle.tptp_reader.specs.declared.source.Reader.{Reader}
 use Rattle.tptp_reader.specs.declared.source.Name.{Name}
 use Rattle.tptp_reader.specs.declared.cause.Halt.{Halt}

@@ -1,15 +1,15 @@
 -- Steps of reading notes.
-use Rattle.std.proofs.Common.{◌≡◌, ◌<◌, ◌≤◌, ℕ, ◌+◌, Bool, true, false, not, List, [], ◌∷◌, ◌++◌, map, drop, length, take, ◌-◌, nat_lt, reverse, codes, Option, None, Some, if◌then◌else◌, refl, sym, ap, ap₂, ◌∙◌, arith, subst, append_assoc, length-append}
+use Rattle.std.proofs.Common.{◌≡◌, ℕ, ◌+◌, Bool, true, false, not, List, [], ◌∷◌, ◌++◌, map, drop, length, take, ◌-◌, nat_lt, reverse, codes, Option, None, Some, refl, sym, ap, ap₂, ◌∙◌, arith, subst, append_assoc}
 use Rattle.std.proofs.lemmas.List.{map-append, reverse-append, length-reverse, length-map}
 use Rattle.std.proofs.lemmas.Bool.{false≢true}
 use Rattle.tptp_token.specs.Lexemes.{Lexeme}
 use Rattle.tptp_token.specs.declared.token.Kind.TheVariants.{Mark, Other}
-use Rattle.tptp_tree.specs.Brackets.{is_mark, is_lexeme, Bracket, round, square, curly, closes, opened, is_closing, with_opened, open_after, open_behind, is_nothing_open, are_balanced}
+use Rattle.tptp_tree.specs.Brackets.{is_mark, Bracket, round, square, curly, closes, opened, is_closing, open_after, open_behind, is_nothing_open}
 use Rattle.tptp_tree.specs.Spelling.{lexeme}
-use Rattle.tptp_tree.specs.Causes.{Refusal, syntax, too_deep, note_cause}
-use Rattle.tptp_reader.specs.Machine.{Symbol, mark, first_note, more_notes, note_step, end_of_notes_step, Step, takes, stops, taken, step}
+use Rattle.tptp_tree.specs.Causes.{syntax}
+use Rattle.tptp_reader.specs.Machine.{Symbol, mark, first_note, more_notes, note_step, end_of_notes_step, Step, takes, stops, step}
 use Rattle.tptp_reader.specs.Telling.{lexemes, IsNext, Leads, Ends}
-use Rattle.tptp_reader.specs.TellingNotes.{bracket_of, stack_of, told_bracket, closes_first, GoesOn, TooDeep, IsTooDeep, is_end_of_notes, ReadsNotes, EntersWith, EntersTooDeep}
+use Rattle.tptp_reader.specs.TellingNotes.{bracket_of, stack_of, closes_first, GoesOn, IsTooDeep, is_end_of_notes, ReadsNotes, EntersWith, EntersTooDeep}
 use Rattle.tptp_reader.specs.declared.source.Reader.{Reader}
 use Rattle.tptp_reader.specs.declared.cause.Halt.{Halt}
 use Rattle.tptp_reader.specs.declared.cause.Halt.TheVariants.{NoMemory, At, Ended}

@@ -1,5 +1,5 @@
 -- What is told of an annotated formula is told of it alone: it is read or has a fault, and either has one value.
-use Rattle.std.proofs.Common.{◌≡◌, ◌⊎◌, ⊎_elim, ℕ, ◌+◌, ◌-◌, ◌<◌, ◌≤◌, List, [], ◌∷◌, ◌++◌, length, drop, Option, None, Some, refl, ap, sym, ◌∙◌, subst, arith, length-append}
+use Rattle.std.proofs.Common.{◌≡◌, ⊎_elim, ℕ, ◌+◌, ◌<◌, ◌≤◌, List, ◌∷◌, ◌++◌, length, drop, Option, None, Some, refl, ap, sym, ◌∙◌, subst, arith, length-append}
 use Rattle.std.specs.Prelude.{IfSome, slice_get}
 use Rattle.std.proofs.lemmas.List.{length-map, length-drop}
 use Rattle.std.proofs.lemmas.Option.{slice_get_cases}
@@ -8,11 +8,11 @@ use Rattle.tptp_token.specs.declared.token.Token.{Token}
 use Rattle.tptp_token.specs.declared.token.Lexed.{Lexed}
 use Rattle.tptp_token.specs.declared.token.LexFault.{LexFault}
 use Rattle.tptp_token.specs.declared.token.LexFault.TheVariants.{BadByte as BadByteAt, Unclosed as UnclosedAt}
-use Rattle.tptp_tree.specs.Entries.{AnnotatedPhrase, annotated_lexemes, IsAnnotatedOf}
+use Rattle.tptp_tree.specs.Entries.{AnnotatedPhrase, IsAnnotatedOf}
 use Rattle.tptp_tree.specs.Causes.{Refusal, syntax, free_variable, role_not_taken, too_deep, left_out, Form, typed, role_form, number_form, distinct_form, dollar_form}
 use Rattle.tptp_tree.proofs.UniqueEntries.{annotated-same, tree-same}
 use Rattle.tptp_reader.specs.Machine.{Verdict, read_up_to, refused_at, ran_out}
-use Rattle.tptp_reader.specs.Placed.{verdict_at, IsReadFrom}
+use Rattle.tptp_reader.specs.Placed.{verdict_at}
 use Rattle.tptp_reader.specs.Shape.{form_of, tree_of}
 use Rattle.tptp_reader.specs.Annotating.{lexemes_of, IsReading, StandsAt, TokensRunOut, IsFaultAt, IsSameReading}
 use Rattle.tptp_reader.specs.TellingEntries.{IsEndFault}

@@ -1,12 +1,12 @@
 -- The answers on the annotated formula that begins at some token of a text.
-use Rattle.std.proofs.Common.{◌≡◌, ℕ, suc, ◌+◌, ◌-◌, ◌<◌, ◌≤◌, true, Option, None, Some, List, [], ◌∷◌, length, take, drop, refl, ap, ap₂, sym, ◌∙◌, subst, arith}
+use Rattle.std.proofs.Common.{◌≡◌, ℕ, suc, ◌+◌, ◌-◌, ◌<◌, ◌≤◌, true, None, Some, List, [], ◌∷◌, length, take, drop, refl, ap, sym, ◌∙◌, subst, arith}
 use Rattle.std.proofs.lemmas.List.{drop-drop, length-drop}
 use Rattle.tptp_token.specs.Lexemes.{Lexeme}
 use Rattle.tptp_tree.specs.Entries.{AnnotatedPhrase, is_right_annotated, annotated_lexemes}
 use Rattle.tptp_tree.specs.Causes.{Refusal, annotated_causes}
 use Rattle.tptp_tree.proofs.UniqueEntries.{annotated-same}
-use Rattle.tptp_reader.specs.Machine.{Symbol, Verdict, read_up_to, refused_at, ran_out, verdict, going, an_annotated}
-use Rattle.tptp_reader.specs.Answers.{IsReadAs, IsRefusedAt, RunsOut}
+use Rattle.tptp_reader.specs.Machine.{Verdict, read_up_to, refused_at, ran_out, an_annotated}
+use Rattle.tptp_reader.specs.Answers.{IsReadAs, IsRefusedAt}
 use Rattle.tptp_reader.specs.Verdicts.{IsAnswer, verdict_on}
 use Rattle.tptp_reader.specs.Placed.{verdict_at, IsReadFrom, IsRefusedFrom, RunsOutFrom, IsAnswerFrom, IsTheAnswerFrom}
 use Rattle.tptp_reader.proofs.TraceLemmas.{Trace, done, cut_off, halted_by, marked, trace, verdict_of, verdict-traced}

@@ -1,5 +1,5 @@
 -- The answers on the annotated formula that begins at some token of a text, told by the places of tokens in the whole text.
-use Rattle.std.specs.Prelude.{◌≡◌, ◌≤◌, ℕ, suc, ◌+◌, ◌-◌, List, [], ◌∷◌, length, take, drop}
+use Rattle.std.specs.Prelude.{◌≡◌, ◌≤◌, ℕ, suc, ◌-◌, List, [], ◌∷◌, length, take, drop}
 use Rattle.tptp_token.specs.Lexemes.{Lexeme}
 use Rattle.tptp_tree.specs.Entries.{AnnotatedPhrase}
 use Rattle.tptp_tree.specs.Causes.{Refusal}

@@ -9,7 +9,7 @@ use Rattle.tptp_tree.specs.Entries.{NamePhrase, name_lexeme, name_meant, is_righ
 use Rattle.tptp_tree.specs.Causes.{outermost}
 use Rattle.tptp_tree.specs.declared.problem.Role.{Role}
 use Rattle.tptp_reader.specs.Shape.{tree_of}
-use Rattle.tptp_reader.specs.Machine.{Symbol, mark, a_name, a_role, a_clause, an_annotated, end_of_body, before_body, formula_symbols, Verdict, read_up_to, verdict, going}
+use Rattle.tptp_reader.specs.Machine.{Symbol, a_name, a_role, a_clause, an_annotated, end_of_body, before_body, formula_symbols, Verdict, read_up_to, verdict, going}
 use Rattle.tptp_reader.specs.Telling.{lexemes, IsNext, Leads, IsEnd, told}
 use Rattle.tptp_reader.specs.declared.source.Reader.{Reader}
 use Rattle.tptp_reader.specs.declared.entry.Read.{Read}

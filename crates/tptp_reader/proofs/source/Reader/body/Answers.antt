@@ -1,4 +1,4 @@
-use Rattle.std.proofs.Common.{refl, sym, ◌∙◌}
+use Rattle.std.proofs.Common.{refl}
 use Rattle.tptp_reader.proofs.LoopLemmas.{passed}
 use Rattle.tptp_reader.proofs.EntryReads.{formula_body-read, formula_body-halted, clause_body-read, clause_body-halted}
 use Rattle.tptp_reader.proofs.source.Reader.body.Goals as goal

@@ -1,8 +1,7 @@
-use Rattle.std.proofs.Common.{◌≡◌, List, Bool, true, false, refl, sym, ap, ◌∙◌}
+use Rattle.std.proofs.Common.{Bool, true, false}
 use Rattle.tptp_reader.specs.Telling.{lexeme_of}
-use Rattle.tptp_reader.specs.TellingNotes.{closes_first, stack_of, GoesOn, EntersWith, EntersTooDeep, IsTooDeep}
+use Rattle.tptp_reader.specs.TellingNotes.{stack_of, GoesOn, EntersWith, EntersTooDeep, IsTooDeep}
 use Rattle.tptp_reader.specs.declared.cause.Halt.{Halt}
-use Rattle.tptp_reader.specs.declared.notes.Bracket.{Bracket as ToldBracket}
 use Rattle.tptp_reader.proofs.LoopLemmas.{ok-then, err-then}
 use Rattle.tptp_reader.proofs.NotesReads.{entered-goes_on, entered-too_deep, popped-goes_on, nothing-popped, lent-closes}
 use Rattle.tptp_reader.proofs.source.Reader.note.Goals as goal
