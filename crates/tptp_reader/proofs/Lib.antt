@@ -30,4 +30,5 @@ pub mod EntryReads
 pub mod EntryWhole
 pub mod AnnotatingLemmas
 pub mod PrintedLemmas
+pub mod TextLemmas
 pub mod OutcomeLemmas

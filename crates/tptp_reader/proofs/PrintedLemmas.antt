@@ -155,7 +155,7 @@ phrase-again p rest a h m =
 pub text-again : (text : List ℕ) (a : AnnotatedTree) → SpellsAnnotated text a → IsPrintedAgain a.is_clause a.formula
 text-again text a s = phrase-again s.0 [] a (text-spelled text (annotated_lexemes s.0 []) s.2) s.3
 
-spelled-behind : (n : ℕ) (ls : List Lexeme) → AreSpelled ls → AreSpelled (drop n ls)
+pub spelled-behind : (n : ℕ) (ls : List Lexeme) → AreSpelled ls → AreSpelled (drop n ls)
 spelled-behind zero ls h = h
 spelled-behind (suc n) [] h = tt
 spelled-behind (suc n) (l ∷ ls) h = spelled-behind n ls h.1

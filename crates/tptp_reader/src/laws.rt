@@ -1,16 +1,19 @@
 // The laws of the definitions: each is the contract of a function without arguments and with an empty body.
 
-ghost use Rattle.std.specs.Prelude.{◌≡◌, ◌≤◌, ℕ, true, List, length, drop};
+ghost use Rattle.std.specs.Prelude.{◌≡◌, ◌≤◌, ℕ, true, List, None, length, drop};
 ghost use Rattle.tptp_token.specs.Lexemes.{Lexeme};
 ghost use Rattle.tptp_token.specs.Lexing.{lexed_of};
 ghost use Rattle.tptp_tree.specs.Entries.{AnnotatedPhrase, is_right_annotated, annotated_lexemes, AnnotatedTree, SpellsAnnotated};
-ghost use Rattle.tptp_tree.specs.Causes.{Refusal};
+ghost use Rattle.tptp_tree.specs.Causes.{Refusal, annotated_causes};
+ghost use Rattle.tptp_tree.specs.Printing.{name_text};
+ghost use Rattle.tptp_tree.specs.Spelling.{SpellsName};
 ghost use Rattle.tptp_reader.specs.Machine.{read_up_to, refused_at, ran_out};
 ghost use Rattle.tptp_reader.specs.Placed.{verdict_at, IsReadFrom, IsRefusedFrom, RunsOutFrom, IsTheAnswerFrom};
 ghost use Rattle.tptp_reader.specs.Verdicts.{IsTheAnswer};
 ghost use Rattle.tptp_token.specs.declared.token.Token.{Token};
 ghost use Rattle.tptp_token.specs.declared.token.Lexed.{Lexed};
-ghost use Rattle.tptp_reader.specs.Annotating.{IsReading, IsFaultAt, IsSameReading};
+ghost use Rattle.tptp_reader.specs.Annotating.{lexemes_of, IsReading, IsFaultAt, IsSameReading};
+ghost use Rattle.tptp_reader.specs.Answers.{AreFaultless};
 ghost use Rattle.tptp_reader.specs.declared.cause.ReadCause.{ReadCause};
 ghost use Rattle.tptp_reader.specs.Shape.{tree_of};
 ghost use Rattle.tptp_reader.specs.Printed.{IsPrintedAgain};
@@ -54,12 +57,29 @@ pub fn one_outcome()
 {}
 
 /// What is spelled as an annotated formula is printed so that it is spelled again, and so is what `annotated` reads: the
-/// printed formula spells the same tree as a formula, and one that stood in `cnf` also as a clause.
+/// printed formula spells the same tree as a formula, and one that stood in `cnf` also as a clause; the printed name, which
+/// may be of digits, spells the name.
 pub fn printed_again()
     ensures spelled { (text : List ℕ) (a : AnnotatedTree) → SpellsAnnotated text a → IsPrintedAgain a.is_clause a.formula }
     ensures read { (limit : ℕ) (bytes : List ℕ) (first : ℕ) (read : Read)
         → IsReading limit bytes (lexed_of bytes).tokens first read
         → IsPrintedAgain (tree_of read.annotated).is_clause (tree_of read.annotated).formula }
+    ensures spelled_name { (text : List ℕ) (a : AnnotatedTree) → SpellsAnnotated text a → SpellsName (name_text a.name) a.name }
+    ensures read_name { (limit : ℕ) (bytes : List ℕ) (first : ℕ) (read : Read)
+        → IsReading limit bytes (lexed_of bytes).tokens first read
+        → SpellsName (name_text (tree_of read.annotated).name) (tree_of read.annotated).name }
+{}
+
+/// Whole texts: what is read from the first token up to the end of all is what the text spells; and where nothing is wrong
+/// with any token of a text that spells an annotated formula, the answer is that it is read up to the end.
+pub fn whole_texts()
+    ensures read_is_spelled { (limit : ℕ) (bytes : List ℕ) (read : Read)
+        → IsReading limit bytes (lexed_of bytes).tokens 0 read
+        → read.next ≡ length (lexed_of bytes).tokens → (lexed_of bytes).fault ≡ None
+        → SpellsAnnotated bytes (tree_of read.annotated) }
+    ensures spelled_is_read { (limit : ℕ) (bytes : List ℕ) (a : AnnotatedTree) (s : SpellsAnnotated bytes a)
+        → AreFaultless (annotated_causes limit s.0)
+        → IsReadFrom limit (lexemes_of bytes (lexed_of bytes).tokens) 0 s.0 (length (lexed_of bytes).tokens) }
 {}
 
 /// The machine's verdict on small texts, one for each cause.

@@ -61,7 +61,7 @@ fn form_name(form: Form) -> &'static [u8] {
     }
 }
 
-/// A place below 1,000 behind an `@`, in decimal digits.
+/// A place below 10,000 behind an `@`, in decimal digits.
 fn push_place(page: &mut Vec<u8>, place: u32) -> Mem<()> {
     page.push(b'@')?;
     if place >= 1000 {
@@ -162,6 +162,20 @@ fn tells_faults(rt: HostRuntime) -> Result<(), Fail> {
     Ok(())
 }
 
+/// The same of the first word, the role, the arguments and the variables of a quantifier.
+#[test]
+fn tells_faults_of_parts(rt: HostRuntime) -> Result<(), Fail> {
+    let rows = [
+        (b"'fof'(a,axiom,p).".as_slice(), b"Syntax@0".as_slice()),
+        (b"fof(a,'axiom',p).", b"Syntax@6"),
+        (b"fof(a,axiom,p(a b)).", b"Syntax@16"),
+        (b"fof(a,axiom,!X:p).", b"Syntax@13"),
+        (b"fof(a,axiom,![X Y]:p).", b"Syntax@16"),
+    ];
+    assert_eq!(rt; first_failure(rt.alloc(), rows.as_slice())?, rows.len());
+    Ok(())
+}
+
 /// Clauses and notes.
 #[test]
 fn reads_clauses_and_notes(rt: HostRuntime) -> Result<(), Fail> {
@@ -237,48 +251,48 @@ fn repeated(
     Ok(text)
 }
 
-/// Brackets, negations, quantifiers and terms at 5,000 levels, and at a limit of 500 the token that begins the level above it. A
-/// quantifier's bracket is a level more.
+/// Whether `p` below 5,000 levels is read within a limit, and printed in so many bytes; and whether within 500
+/// levels the reading ends so.
+fn reads_deep(
+    alloc: Global,
+    before: &[u8],
+    close: &[u8],
+    limit: u32,
+    length: usize,
+    refused: &[u8],
+) -> Mem<bool> {
+    let text = repeated(alloc, before, 5_000, b"p".as_slice(), close)?;
+    let found = outcome(alloc, text.as_slice(), limit)?;
+    let stopped = outcome(alloc, text.as_slice(), 500)?;
+    Ok(found.len() == length && stopped.as_slice() == refused)
+}
+
 #[test]
-fn reads_deep_formulas(rt: HostRuntime) -> Result<(), Fail> {
-    let alloc = rt.alloc();
-    let (none, close) = (b"".as_slice(), b")".as_slice());
-    for (before, behind, limit, length, wanted) in [
-        (
-            b"(".as_slice(),
-            close,
-            5_000u32,
-            1usize,
-            b"Nesting@512".as_slice(),
-        ),
-        (
-            b"~".as_slice(),
-            none,
-            5_000,
-            5_001,
-            b"Nesting@512".as_slice(),
-        ),
-        (
-            b"![X]:".as_slice(),
-            none,
-            5_001,
-            40_001,
-            b"Nesting@2508".as_slice(),
-        ),
-        (
-            b"f(".as_slice(),
-            close,
-            5_000,
-            15_001,
-            b"Nesting@1013".as_slice(),
-        ),
-    ] {
-        let text = repeated(alloc, before, 5_000, b"p".as_slice(), behind)?;
-        let found = outcome(alloc, text.as_slice(), limit)?;
-        assert_eq!(rt; found.len(), length);
-        let refused = outcome(alloc, text.as_slice(), 500)?;
-        assert!(rt; refused.as_slice() == wanted);
-    }
+fn reads_deep_brackets(rt: HostRuntime) -> Result<(), Fail> {
+    let (open, close) = (b"(".as_slice(), b")".as_slice());
+    assert!(rt; reads_deep(rt.alloc(), open, close, 5_000, 1, b"Nesting@512".as_slice())?);
+    Ok(())
+}
+
+#[test]
+fn reads_deep_negations(rt: HostRuntime) -> Result<(), Fail> {
+    let (not, close) = (b"~".as_slice(), b"".as_slice());
+    assert!(rt; reads_deep(rt.alloc(), not, close, 5_000, 5_001, b"Nesting@512".as_slice())?);
+    Ok(())
+}
+
+/// A quantifier's bracket is a level more, so the last one needs 5,001.
+#[test]
+fn reads_deep_quantifiers(rt: HostRuntime) -> Result<(), Fail> {
+    let (all, close) = (b"![X]:".as_slice(), b"".as_slice());
+    assert!(rt; reads_deep(rt.alloc(), all, close, 5_001, 40_001, b"Nesting@2508".as_slice())?);
+    Ok(())
+}
+
+#[test]
+fn reads_deep_terms(rt: HostRuntime) -> Result<(), Fail> {
+    let (open, close) = (b"f(".as_slice(), b")".as_slice());
+    assert!(rt; reads_deep(rt.alloc(), open, close, 5_000, 15_001, b"Nesting@1013".as_slice())?);
     Ok(())
 }
 

@@ -1,5 +1,6 @@
 use Rattle.tptp_reader.proofs.PrintedLemmas.{text-again, reading-again}
+use Rattle.tptp_reader.proofs.TextLemmas.{spelled-name, read-name}
 use Rattle.tptp_reader.proofs.laws.printed_again.Goals as goal
 
 pub returns : goal.returns
-returns c = record { spelled = text-again; read = reading-again }
+returns c = record { spelled = text-again; read = reading-again; spelled_name = spelled-name; read_name = read-name }
