@@ -5,3 +5,4 @@ pub mod Work
 pub mod Rows
 pub mod Children
 pub mod Falls
+pub mod Examples

@@ -3,6 +3,7 @@
 
 mod entry;
 mod label;
+pub mod laws;
 mod node;
 mod query;
 mod scan;

@@ -94,6 +94,25 @@ fn an_entry_is_removed_once(rt: HostRuntime) -> Result<(), Fail> {
     Ok(())
 }
 
+#[test]
+fn an_entry_is_told_by_its_variables_too(rt: HostRuntime) -> Result<(), Fail> {
+    let mut tree = DiscTree::new(rt.alloc())?;
+    added(&mut tree, unary(rt.alloc(), G, Term::Var(0)), 1)?;
+    assert!(rt; !tree.remove(&unary(rt.alloc(), G, Term::Var(1))?, 1));
+    assert!(rt; are(tree.unifiable(&Term::Var(0)), &[1]));
+    assert!(rt; tree.remove(&unary(rt.alloc(), G, Term::Var(0))?, 1));
+    Ok(())
+}
+
+#[test]
+fn a_symbol_with_more_arguments_is_another(rt: HostRuntime) -> Result<(), Fail> {
+    let mut tree = three_entries(rt.alloc())?;
+    added(&mut tree, unary(rt.alloc(), F, Term::Var(0)), 4)?;
+    let query = unary(rt.alloc(), F, constant(rt.alloc(), B))?;
+    assert!(rt; are(tree.unifiable(&query), &[4]));
+    Ok(())
+}
+
 /// The next number of a linear congruence (Knuth, 1999).
 fn next(seed: &mut u64) -> u64 {
     *seed = seed

@@ -1,0 +1,24 @@
+// Worked examples: the contract of a function without arguments and with an empty body.
+
+ghost use Rattle.std.specs.Prelude.{◌≡◌, true, false, [], ◌∷◌};
+ghost use Rattle.fol_base.specs.Examples.{x, a, b, f, f₂, g};
+ghost use Rattle.fol_base.specs.Compatible.{compatible, compatible_generalisation, compatible_instance};
+ghost use Rattle.disc_tree.specs.Entries.{IsIn, numbers_where};
+ghost use Rattle.disc_tree.specs.Examples.{three};
+
+/// What is found among the entries 1 at `f(X0,a)`, 2 at `f(b,X0)` and 3 at `g(a)`, and which terms are compatible: a variable
+/// that stands twice is none that has to be the same twice, and a symbol with fewer arguments is another one.
+pub fn examples()
+    ensures unifiable { numbers_where (λ t. compatible t (f₂ b a)) three ≡ 1 ∷ 2 ∷ [] }
+    ensures generalisations { numbers_where (λ t. compatible_generalisation t (f₂ b a)) three ≡ 1 ∷ 2 ∷ [] }
+    ensures instances { numbers_where (λ t. compatible_instance t (f₂ (x 0) (x 1))) three ≡ 1 ∷ 2 ∷ [] }
+    ensures no_instances { numbers_where (λ t. compatible_instance t (f₂ b a)) three ≡ [] }
+    ensures all { numbers_where (λ t. compatible t (x 0)) three ≡ 1 ∷ 2 ∷ 3 ∷ [] }
+    ensures fewer_arguments { numbers_where (λ t. compatible t (f (x 0))) three ≡ [] }
+    ensures twice { compatible (f₂ (x 0) (x 0)) (f₂ a b) ≡ true }
+    ensures below { compatible (g (f a)) (g (f b)) ≡ false }
+    ensures variables { compatible_generalisation (x 0) (x 1) ≡ true }
+    ensures variables_too { compatible_instance (x 0) (x 1) ≡ true }
+    ensures there { IsIn (f₂ b (x 0), 2) three }
+    ensures not_there { ¬ IsIn (f₂ b (x 1), 2) three }
+{}
