@@ -6,3 +6,4 @@ pub mod EntryLemmas
 pub mod RemoveLemmas
 pub mod FrontLemmas
 pub mod EditLemmas
+pub mod UnifierLemmas

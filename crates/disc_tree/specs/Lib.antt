@@ -6,3 +6,4 @@ pub mod Rows
 pub mod Children
 pub mod Falls
 pub mod Examples
+pub mod Laws

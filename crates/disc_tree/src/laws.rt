@@ -1,10 +1,20 @@
-// Worked examples: the contract of a function without arguments and with an empty body.
+// The laws of compatible terms, and worked examples: the contracts of functions without arguments and with
+// empty bodies.
 
 ghost use Rattle.std.specs.Prelude.{◌≡◌, true, false, [], ◌∷◌};
 ghost use Rattle.fol_base.specs.Examples.{x, a, b, f, f₂, g};
 ghost use Rattle.fol_base.specs.Compatible.{compatible, compatible_generalisation, compatible_instance};
 ghost use Rattle.disc_tree.specs.Entries.{IsIn, numbers_where};
 ghost use Rattle.disc_tree.specs.Examples.{three};
+ghost use Rattle.disc_tree.specs.Laws.{UnifiableAreCompatible, GeneralisationsAreCompatible, InstancesAreCompatible};
+
+/// Terms with a common instance are compatible, and so are a term and its instance in either sense. So a query misses no
+/// entry that unifies with it, none that is more general and none that is an instance.
+pub fn retrieval_misses_none()
+    ensures unifiers { UnifiableAreCompatible }
+    ensures generalisations { GeneralisationsAreCompatible }
+    ensures instances { InstancesAreCompatible }
+{}
 
 /// What is found among the entries 1 at `f(X0,a)`, 2 at `f(b,X0)` and 3 at `g(a)`, and which terms are compatible: a variable
 /// that stands twice is none that has to be the same twice, and a symbol with fewer arguments is another one.
