@@ -270,14 +270,23 @@ fn reads_deep(
 #[test]
 fn reads_deep_brackets(rt: HostRuntime) -> Result<(), Fail> {
     let (open, close) = (b"(".as_slice(), b")".as_slice());
-    assert!(rt; reads_deep(rt.alloc(), open, close, 5_000, 1, b"Nesting@512".as_slice())?);
+    let read = reads_deep(rt.alloc(), open, close, 5_000, 1, b"Nesting@512".as_slice())?;
+    assert!(rt; read);
     Ok(())
 }
 
 #[test]
 fn reads_deep_negations(rt: HostRuntime) -> Result<(), Fail> {
     let (not, close) = (b"~".as_slice(), b"".as_slice());
-    assert!(rt; reads_deep(rt.alloc(), not, close, 5_000, 5_001, b"Nesting@512".as_slice())?);
+    let read = reads_deep(
+        rt.alloc(),
+        not,
+        close,
+        5_000,
+        5_001,
+        b"Nesting@512".as_slice(),
+    )?;
+    assert!(rt; read);
     Ok(())
 }
 
@@ -285,14 +294,30 @@ fn reads_deep_negations(rt: HostRuntime) -> Result<(), Fail> {
 #[test]
 fn reads_deep_quantifiers(rt: HostRuntime) -> Result<(), Fail> {
     let (all, close) = (b"![X]:".as_slice(), b"".as_slice());
-    assert!(rt; reads_deep(rt.alloc(), all, close, 5_001, 40_001, b"Nesting@2508".as_slice())?);
+    let read = reads_deep(
+        rt.alloc(),
+        all,
+        close,
+        5_001,
+        40_001,
+        b"Nesting@2508".as_slice(),
+    )?;
+    assert!(rt; read);
     Ok(())
 }
 
 #[test]
 fn reads_deep_terms(rt: HostRuntime) -> Result<(), Fail> {
     let (open, close) = (b"f(".as_slice(), b")".as_slice());
-    assert!(rt; reads_deep(rt.alloc(), open, close, 5_000, 15_001, b"Nesting@1013".as_slice())?);
+    let read = reads_deep(
+        rt.alloc(),
+        open,
+        close,
+        5_000,
+        15_001,
+        b"Nesting@1013".as_slice(),
+    )?;
+    assert!(rt; read);
     Ok(())
 }
 
