@@ -6,11 +6,14 @@ mod label;
 mod node;
 mod query;
 mod scan;
+mod steps;
 mod tree;
 mod work;
 
 pub use scan::is_compatible;
+pub use steps::Steps;
 pub use tree::DiscTree;
 
+pub mod examples;
 #[cfg(test)]
 mod tests;
