@@ -13,7 +13,7 @@ use Rattle.disc_tree.specs.Rows.{Row, Child, here, below, all_below, rows, rows_
 use Rattle.disc_tree.proofs.LabelLemmas.{same-label-is, after-not-same}
 use Rattle.disc_tree.proofs.SlotLemmas.{is_before-weaker}
 use Rattle.disc_tree.proofs.PathLemmas.{fits-path}
-use Rattle.disc_tree.proofs.EditLemmas.{all_below-append}
+use Rattle.disc_tree.proofs.ChildLemmas.{all_below-append}
 
 -- ---- one step of a scan
 

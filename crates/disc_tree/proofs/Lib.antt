@@ -1,9 +1,11 @@
 pub mod LabelLemmas
 pub mod SlotLemmas
 pub mod PathLemmas
+pub mod PrefixLemmas
 pub mod FoundLemmas
 pub mod EntryLemmas
 pub mod RemoveLemmas
 pub mod FrontLemmas
+pub mod ChildLemmas
 pub mod EditLemmas
 pub mod UnifierLemmas

@@ -4,7 +4,7 @@ use Rattle.std.proofs.lemmas.Bool.{cases_Bool}
 use Rattle.disc_tree.specs.declared.label.Label.{Label}
 use Rattle.disc_tree.specs.Path.{comes_before}
 use Rattle.disc_tree.specs.declared.node.Branch.{Branch}
-use Rattle.disc_tree.specs.Rows.{Child, IsBefore, AreBefore, AreNotBefore, Rise, IsAt}
+use Rattle.disc_tree.specs.Rows.{Child, IsBefore, AreBefore, AreNotBefore, Rise, NoneIsEmpty, IsAt}
 use Rattle.disc_tree.specs.Children.{child_of, children_of}
 use Rattle.disc_tree.proofs.LabelLemmas.{before-trans, before-total}
 
@@ -89,3 +89,9 @@ child-get (d ∷ bs) (suc i) b h e = child-get bs i b (omega arith) e
 pub children-length : (bs : List Branch) → length (children_of bs) ≡ length bs
 children-length [] = refl
 children-length (b ∷ bs) = ap suc (children-length bs)
+
+-- a child has rows, where no branch is empty
+pub some-rows-at : (cs : List Child) (i : ℕ) (c : Child) → NoneIsEmpty cs → i < length cs → c ≡ get_or cs i c → 1 ≤ length c.1
+some-rows-at [] i c n h e = absurd (omega arith)
+some-rows-at (d ∷ cs) zero c n h e = subst (λ (x : Child). 1 ≤ length x.1) (sym e) n.0
+some-rows-at (d ∷ cs) (suc i) c n h e = some-rows-at cs i c n.1 (omega arith) e

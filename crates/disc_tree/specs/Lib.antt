@@ -1,5 +1,6 @@
 pub mod Entries
 pub mod Path
+pub mod Prefixes
 pub mod LabelCode
 pub mod Work
 pub mod Rows

@@ -7,11 +7,14 @@ pub mod laws;
 mod node;
 mod query;
 mod scan;
+mod steps;
 mod tree;
 mod work;
 
 pub use scan::is_compatible;
+pub use steps::Steps;
 pub use tree::DiscTree;
 
+pub mod examples;
 #[cfg(test)]
 mod tests;

@@ -1,6 +1,6 @@
 // The nodes of a tree.
 
-ghost use Rattle.std.specs.Prelude.{◌≡◌, ◌↔◌, ◌<◌, [], ◌∷◌, IfOk, IfErr, OnErr, IfSome, MatchOption, IsTrue, false, length};
+ghost use Rattle.std.specs.Prelude.{◌≡◌, ◌↔◌, ◌<◌, ◌≤◌, ◌+◌, [], ◌∷◌, IfOk, IfErr, OnErr, IfSome, MatchOption, IsTrue, false, length};
 ghost use Rattle.fol_base.specs.Tree.{tree_variables};
 ghost use Rattle.fol_base.specs.Term.{tree_of};
 ghost use Rattle.disc_tree.specs.Entries.{IsWith};
@@ -11,10 +11,12 @@ ghost use Rattle.disc_tree.specs.Children.{children_of};
 
 use crate::entry::Entry;
 use crate::label::Label;
+use crate::steps::Steps;
 use crate::work::{Rest, arguments_of};
 use fol_base::{Mem, Term};
 use std::alloc::Global;
 use std::marker::Model;
+use std::sync::ledger::Ledger;
 
 /// What lies below a beginning of paths: the entries whose path ends here, and the children, in the order of their labels.
 #[derive(Drop)]
@@ -70,20 +72,25 @@ impl Node {
         }
     }
 
-    /// The entries whose path ends here.
-    pub(crate) fn entries(&self) -> &[Entry]
-        ensures { result.now ≡ self.now.0 }
+    /// The entries whose path ends here, at one step.
+    pub(crate) fn entries<L: Ledger>(&self, steps: &mut Steps<L>) -> &[Entry]
+        ensures entries { result.now ≡ self.now.0 }
+        ensures step { steps.new ≡ steps.old + 1 }
     {
+        steps.tick();
         self.entries.as_slice()
     }
 
-    /// The child with a label.
-    pub(crate) fn child(&self, label: Label) -> Option<&Node>
+    /// The child with a label, at one step.
+    pub(crate) fn child<L: Ledger>(&self, label: Label, steps: &mut Steps<L>) -> Option<&Node>
         ensures child { MatchOption result (rows_at label self.now.1 ≡ [])
             (λ child. rows child.now ≡ rows_at label self.now.1) }
         ensures smaller { IfSome result (λ child. weight (rows child.now) < weight (rows self.now)) }
+        ensures some { IfSome result (λ child. 1 ≤ length (rows child.now)) }
         ensures order { Rise self.now.1 }
+        ensures step { steps.new ≡ steps.old + 1 }
     {
+        steps.tick();
         match slot(&self.branches, label) {
             Ok(at) => Some(&self.branches[at].node),
             Err(_) => None,
@@ -97,12 +104,14 @@ impl Node {
         self.branches.len()
     }
 
-    /// The child at a place in the order of labels, with its label.
-    pub(crate) fn child_at(&self, index: usize) -> (Label, &Node)
+    /// The child at a place in the order of labels, with its label, at one step.
+    pub(crate) fn child_at<L: Ledger>(&self, index: usize, steps: &mut Steps<L>) -> (Label, &Node)
         requires { index < length self.now.1 }
         ensures child { IsChildAt result.0 (rows result.1.now) self.now.1 index }
         ensures smaller { weight (rows result.1.now) < weight (rows self.now) }
+        ensures step { steps.new ≡ steps.old + 1 }
     {
+        steps.tick();
         let branch = &self.branches[index];
         (branch.label, &branch.node)
     }

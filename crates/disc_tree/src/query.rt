@@ -1,14 +1,17 @@
 // What a query finds.
 
-ghost use Rattle.std.specs.Prelude.{◌≡◌, ◌++◌, [], suc, true, IfOk, if◌then◌else◌};
+ghost use Rattle.std.specs.Prelude.{◌≡◌, ◌+◌, ◌++◌, [], suc, true, IfOk, if◌then◌else◌};
 ghost use Rattle.disc_tree.specs.Work.{trees_left, terms_left};
 ghost use Rattle.disc_tree.specs.Rows.{rows, rows_at, found_in, numbers_of, Rise};
+ghost use Rattle.disc_tree.specs.Prefixes.{AreGround, StaysWithin, FollowsWithin};
 ghost use Rattle.disc_tree.specs.declared.label.Label.TheVariants.{Star};
 
 use crate::label::Label;
 use crate::node::Node;
+use crate::steps::Steps;
 use crate::work::{Rest, Skipped};
 use fol_base::{Mem, Term};
+use std::sync::ledger::Ledger;
 
 /// Whose variables may stand for terms.
 #[derive(Clone, Copy)]
@@ -19,36 +22,39 @@ pub(crate) struct Varying {
 
 /// Adds the numbers of the node's entries whose paths fit what is left, in the tree's order.
 #[cycle(collect)]
-pub(crate) fn collect(
+pub(crate) fn collect<L: Ledger>(
     node: &Node,
     skipped: &Skipped<'_>,
     rest: &Rest<'_>,
     varying: Varying,
     found: &mut Vec<u64>,
+    steps: &mut Steps<L>,
 ) -> Mem<()>
-    ensures { IfOk result (λ _. found.new.items
+    ensures found { IfOk result (λ _. found.new.items
         ≡ found.old.items ++ found_in varying.entry varying.query (terms_left skipped.now) (trees_left rest.now) (rows node.now)) }
+    ensures steps { terms_left skipped.now ≡ 0 → AreGround (trees_left rest.now)
+        → StaysWithin (trees_left rest.now) (rows node.now) steps.old steps.new }
 {
     if let Skipped::More(count, below) = skipped {
         let fewer = Skipped::of(*count, below);
-        return collect_children(node, &fewer, rest, varying, found);
+        return collect_children(node, &fewer, rest, varying, found, steps);
     }
     let Rest::Then(first, more, below) = rest else {
-        return push_numbers(node, found);
+        return push_numbers(node, found, steps);
     };
     let after = Rest::of(more, below);
     match first {
         Term::Var(_) => {
             if varying.query {
-                collect_children(node, &Skipped::Closed, &after, varying, found)
+                collect_children(node, &Skipped::Closed, &after, varying, found, steps)
             } else {
-                collect_star(node, &after, varying, found)
+                collect_star(node, &after, varying, found, steps)
             }
         }
         Term::App(_, arguments) => {
-            collect_star(node, &after, varying, found)?;
+            collect_star(node, &after, varying, found, steps)?;
             let next = Rest::of(arguments.as_slice(), &after);
-            collect_child(node, Label::of(first), &next, varying, found)?;
+            collect_child(node, Label::of(first), &next, varying, found, steps)?;
             Ok(())
         }
     }
@@ -56,14 +62,22 @@ pub(crate) fn collect(
 
 /// The same for the star's child, where the entries' variables may stand for terms.
 #[cycle(collect)]
-fn collect_star(node: &Node, rest: &Rest<'_>, varying: Varying, found: &mut Vec<u64>) -> Mem<()>
+fn collect_star<L: Ledger>(
+    node: &Node,
+    rest: &Rest<'_>,
+    varying: Varying,
+    found: &mut Vec<u64>,
+    steps: &mut Steps<L>,
+) -> Mem<()>
     ensures found { IfOk result (λ _. found.new.items
         ≡ found.old.items
         ++ (if varying.entry then found_in varying.entry varying.query 0 (trees_left rest.now) (rows_at Star node.now.1) else [])) }
     ensures order { varying.entry ≡ true → Rise node.now.1 }
+    ensures steps { AreGround (trees_left rest.now)
+        → FollowsWithin (trees_left rest.now) (rows_at Star node.now.1) steps.old steps.new }
 {
     if varying.entry {
-        collect_child(node, Label::Star, rest, varying, found)
+        collect_child(node, Label::Star, rest, varying, found, steps)
     } else {
         Ok(())
     }
@@ -71,48 +85,53 @@ fn collect_star(node: &Node, rest: &Rest<'_>, varying: Varying, found: &mut Vec<
 
 /// The same for the child with a label, if there is one.
 #[cycle(collect)]
-fn collect_child(
+fn collect_child<L: Ledger>(
     node: &Node,
     label: Label,
     rest: &Rest<'_>,
     varying: Varying,
     found: &mut Vec<u64>,
+    steps: &mut Steps<L>,
 ) -> Mem<()>
     ensures found { IfOk result (λ _. found.new.items
         ≡ found.old.items ++ found_in varying.entry varying.query 0 (trees_left rest.now) (rows_at label node.now.1)) }
     ensures order { Rise node.now.1 }
+    ensures steps { AreGround (trees_left rest.now)
+        → FollowsWithin (trees_left rest.now) (rows_at label node.now.1) steps.old steps.new }
 {
-    match node.child(label) {
-        Some(child) => collect(child, &Skipped::Closed, rest, varying, found),
+    match node.child(label, steps) {
+        Some(child) => collect(child, &Skipped::Closed, rest, varying, found, steps),
         None => Ok(()),
     }
 }
 
 /// The same for all children, where one term of the paths is passed over, and then so many more.
 #[cycle(collect)]
-fn collect_children(
+fn collect_children<L: Ledger>(
     node: &Node,
     skipped: &Skipped<'_>,
     rest: &Rest<'_>,
     varying: Varying,
     found: &mut Vec<u64>,
+    steps: &mut Steps<L>,
 ) -> Mem<()>
     ensures { IfOk result (λ _. found.new.items
         ≡ found.old.items ++ found_in varying.entry varying.query (suc (terms_left skipped.now)) (trees_left rest.now) (rows node.now)) }
 {
     for index in 0..node.width() {
-        let (label, child) = node.child_at(index);
+        let (label, child) = node.child_at(index, &mut *steps);
         let inner = Skipped::of(label.arity(), &*skipped);
-        collect(child, &inner, &*rest, varying, found)?;
+        collect(child, &inner, &*rest, varying, found, &mut *steps)?;
     }
     Ok(())
 }
 
 /// Adds the numbers of the entries at the node itself.
-fn push_numbers(node: &Node, found: &mut Vec<u64>) -> Mem<()>
-    ensures { IfOk result (λ _. found.new.items ≡ found.old.items ++ numbers_of node.now.0) }
+fn push_numbers<L: Ledger>(node: &Node, found: &mut Vec<u64>, steps: &mut Steps<L>) -> Mem<()>
+    ensures found { IfOk result (λ _. found.new.items ≡ found.old.items ++ numbers_of node.now.0) }
+    ensures step { steps.new ≡ steps.old + 1 }
 {
-    for entry in node.entries() {
+    for entry in node.entries(steps) {
         found.push(entry.number())?;
     }
     Ok(())

@@ -1,8 +1,12 @@
 // Rows worked out by hand, and a thousand steps beside a plain list.
 
+ghost use Rattle.std.specs.Prelude.{◌≡◌, ◌<◌};
+
 use super::*;
 use fol_base::{Mem, Numbers, Term, Terms};
 use std::alloc::Global;
+use std::marker::Brand;
+use std::sync::ledger::{Blank, Ledger};
 use std::test::Fail;
 
 const A: u32 = 1;
@@ -70,6 +74,28 @@ fn a_ground_query_finds_entries_by_their_heads(rt: HostRuntime) -> Result<(), Fa
     assert!(rt; are(tree.unifiable(&query), &[1, 2]));
     assert!(rt; are(tree.generalisations(&query), &[1, 2]));
     assert!(rt; are(tree.instances(&query), &[]));
+    Ok(())
+}
+
+/// Whether both counted calls find 1 and 2 with `f(b,a)`.
+fn counted_calls_agree<L: Ledger>(alloc: Global, blank: Blank) -> Mem<bool>
+    requires name { blank.name ≡ L.name }
+    requires parts { blank.parts ≡ L.parts }
+    requires some { 0 < blank.parts }
+{
+    let tree = three_entries(alloc)?;
+    let query = binary(alloc, F, constant(alloc, B), constant(alloc, A))?;
+    let mut steps = Steps::<L>::new(blank);
+    if !are(tree.unifiable_counted(&query, &mut steps), &[1, 2]) {
+        return Ok(false);
+    }
+    Ok(are(tree.generalisations_counted(&query, &mut steps), &[1, 2]))
+}
+
+#[test]
+fn counted_calls_find_the_same_entries(rt: HostRuntime) -> Result<(), Fail> {
+    let agree = counted_calls_agree::<Brand>(rt.alloc(), Blank::new(1))?;
+    assert!(rt; agree);
     Ok(())
 }
 

@@ -1,17 +1,21 @@
 // The tree: a list of entries, each a term and a number.
 
-ghost use Rattle.std.specs.Prelude.{◌≡◌, ◌↔◌, [], IfOk, OnErr, IsTrue, false};
+ghost use Rattle.std.specs.Prelude.{◌≡◌, ◌↔◌, ◌≤◌, ◌<◌, ◌+◌, ◌*◌, [], IfOk, OnErr, IsTrue, true, false};
 ghost use Rattle.fol_base.specs.Term.{tree_of};
 ghost use Rattle.fol_base.specs.Compatible.{compatible, compatible_generalisation, compatible_instance, compatible_by};
+ghost use Rattle.fol_base.specs.Ground.{is_ground};
 ghost use Rattle.disc_tree.specs.Entries.{IsIn, IsWith, numbers_where};
+ghost use Rattle.disc_tree.specs.Prefixes.{compatible_prefixes};
 
 use crate::entry::Entry;
 use crate::node::Node;
 use crate::query::{Varying, collect};
+use crate::steps::Steps;
 use crate::work::{Rest, Skipped};
 use fol_base::{Mem, Numbers, Term};
 use std::alloc::Global;
-use std::marker::Model;
+use std::marker::{Brand, Model};
+use std::sync::ledger::{Blank, Ledger};
 
 /// An index of terms, which contracts see as the list of its entries, each a term and a number, in the order in which queries find them.
 /// Where a new entry stands in that order is not said.
@@ -77,7 +81,7 @@ impl DiscTree {
     pub fn unifiable(&self, query: &Term) -> Mem<Numbers>
         ensures { IfOk result (λ numbers. numbers ≡ numbers_where (λ term. compatible term (tree_of query.now)) self.now) }
     {
-        self.find(
+        self.find_uncounted(
             query,
             Varying {
                 entry: true,
@@ -91,7 +95,7 @@ impl DiscTree {
         ensures { IfOk result (λ numbers.
             numbers ≡ numbers_where (λ term. compatible_generalisation term (tree_of query.now)) self.now) }
     {
-        self.find(
+        self.find_uncounted(
             query,
             Varying {
                 entry: true,
@@ -105,7 +109,7 @@ impl DiscTree {
         ensures { IfOk result (λ numbers.
             numbers ≡ numbers_where (λ term. compatible_instance term (tree_of query.now)) self.now) }
     {
-        self.find(
+        self.find_uncounted(
             query,
             Varying {
                 entry: false,
@@ -114,14 +118,81 @@ impl DiscTree {
         )
     }
 
+    /// What `unifiable` answers. Each read of a node, a child by its label or the entries of a node, is a step.
+    pub fn unifiable_counted<L: Ledger>(&self, query: &Term, steps: &mut Steps<L>) -> Mem<Numbers>
+        ensures found { IfOk result (λ numbers.
+            numbers ≡ numbers_where (λ term. compatible term (tree_of query.now)) self.now) }
+        ensures steps { is_ground (tree_of query.now) ≡ true
+            → steps.new ≤ steps.old + 2 * compatible_prefixes (tree_of query.now) self.now }
+    {
+        self.find(
+            query,
+            Varying {
+                entry: true,
+                query: true,
+            },
+            steps,
+        )
+    }
+
+    /// What `generalisations` answers, with a step for each read of a node.
+    pub fn generalisations_counted<L: Ledger>(
+        &self,
+        query: &Term,
+        steps: &mut Steps<L>,
+    ) -> Mem<Numbers>
+        ensures found { IfOk result (λ numbers.
+            numbers ≡ numbers_where (λ term. compatible_generalisation term (tree_of query.now)) self.now) }
+        ensures steps { is_ground (tree_of query.now) ≡ true
+            → steps.new ≤ steps.old + 2 * compatible_prefixes (tree_of query.now) self.now }
+    {
+        self.find(
+            query,
+            Varying {
+                entry: true,
+                query: false,
+            },
+            steps,
+        )
+    }
+
     /// The numbers of the entries whose term is compatible with the query, where these variables may stand for terms.
-    fn find(&self, query: &Term, varying: Varying) -> Mem<Numbers>
-        ensures { IfOk result (λ numbers.
+    fn find<L: Ledger>(&self, query: &Term, varying: Varying, steps: &mut Steps<L>) -> Mem<Numbers>
+        ensures found { IfOk result (λ numbers.
             numbers ≡ numbers_where (λ term. compatible_by varying.entry varying.query term (tree_of query.now)) self.now) }
+        ensures steps { is_ground (tree_of query.now) ≡ true
+            → steps.new ≤ steps.old + 2 * compatible_prefixes (tree_of query.now) self.now }
     {
         let mut found = Vec::new(self.alloc);
         let rest = Rest::Then(query, &[], &Rest::Nothing);
-        collect(&self.root, &Skipped::Closed, &rest, varying, &mut found)?;
+        collect(
+            &self.root,
+            &Skipped::Closed,
+            &rest,
+            varying,
+            &mut found,
+            steps,
+        )?;
         Ok(Numbers::from_vec(found))
+    }
+
+    /// The same for a caller that counts nothing.
+    fn find_uncounted(&self, query: &Term, varying: Varying) -> Mem<Numbers>
+        ensures { IfOk result (λ numbers.
+            numbers ≡ numbers_where (λ term. compatible_by varying.entry varying.query term (tree_of query.now)) self.now) }
+    {
+        self.find_from::<Brand>(query, varying, Blank::new(1))
+    }
+
+    /// The same on a new ledger, which nobody reads.
+    fn find_from<L: Ledger>(&self, query: &Term, varying: Varying, blank: Blank) -> Mem<Numbers>
+        requires name { blank.name ≡ L.name }
+        requires parts { blank.parts ≡ L.parts }
+        requires some { 0 < blank.parts }
+        ensures { IfOk result (λ numbers.
+            numbers ≡ numbers_where (λ term. compatible_by varying.entry varying.query term (tree_of query.now)) self.now) }
+    {
+        let mut steps = Steps::<L>::new(blank);
+        self.find(query, varying, &mut steps)
     }
 }

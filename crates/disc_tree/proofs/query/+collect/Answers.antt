@@ -1,24 +1,35 @@
-use Rattle.std.proofs.Common.{◌≡◌, ◌++◌, [], ℕ, Bool, suc, ◌+◌, List, map, take, ap, sym, ◌∙◌, append_assoc, arith, if◌then◌else◌}
+use Rattle.std.proofs.Common.{◌≡◌, ◌<◌, ◌*◌, ◌++◌, [], ℕ, Bool, suc, ◌+◌, List, map, take, ap, sym, ◌∙◌, append_assoc, arith, rules, refl, if◌then◌else◌}
 use Rattle.std.proofs.lemmas.List.{take_all}
 use Rattle.fol_base.specs.Tree.{Tree}
 use Rattle.fol_base.specs.Term.{tree_of}
 use Rattle.disc_tree.specs.declared.label.Label.TheVariants.{Star}
-use Rattle.disc_tree.specs.Path.{arity}
+use Rattle.disc_tree.specs.Path.{head, arity}
 use Rattle.disc_tree.specs.Work.{trees_left, terms_left}
-use Rattle.disc_tree.specs.Rows.{rows, rows_at, found_in, all_below}
-use Rattle.disc_tree.proofs.FoundLemmas.{if_ok-map, end-step, star-step, application-step, children-more, found-passing}
+use Rattle.disc_tree.specs.Rows.{rows, rows_at, weight, found_in, all_below}
+use Rattle.disc_tree.proofs.FoundLemmas.{if_ok-map, end-step, variable-step, star-step, application-step, children-more, found-passing}
+use Rattle.disc_tree.proofs.PrefixLemmas.{application-is, stays-star, stays-application, follows-child}
 use Rattle.disc_tree.proofs.query.+collect.Goals as goal
 
-pub collect-returns-in_default-rest : goal.collect-returns-in_default-rest
-collect-returns-in_default-rest t c =
+pub collect-returns-in_default-rest-clause-found : goal.collect-returns-in_default-rest-clause-found
+collect-returns-in_default-rest-clause-found g t c =
     if_ok-map c.push_numbers.result
     (λ e. e ∙ ap (λ ns. c.args.found.now.items ++ ns)
     (sym (end-step c.args.varying.entry c.args.varying.query (terms_left c.args.skipped.now) (trees_left c.args.rest.now) c.args.node.now.0
     c.args.node.now.1 (ap terms_left c.in_default.is) (ap trees_left c.in_default-rest.is))))
-    c.push_numbers.ensures
+    c.push_numbers.ensures.found
 
-pub collect-returns-else-varying : goal.collect-returns-else-varying
-collect-returns-else-varying t c =
+pub collect-returns-then-varying-clause-found : goal.collect-returns-then-varying-clause-found
+collect-returns-then-varying-clause-found g t c =
+    if_ok-map c.collect_children-then-varying.result
+    (λ e. e ∙ ap (λ ns. c.args.found.now.items ++ ns)
+    (sym (variable-step c.args.varying.entry c.args.varying.query (terms_left c.args.skipped.now) c.in-Var.field-0 (trees_left c.args.rest.now)
+    (map tree_of c.in-Then.more.now ++ trees_left c.in-Then.below.now) (trees_left c.of-after.result) (tree_of c.in-Then.first.now)
+    c.args.node.now.0 c.args.node.now.1 (ap terms_left c.in_default.is) (ap trees_left c.in-Then.is) c.of-after.ensures
+    (ap tree_of c.in-Var.is) c.if-varying.true)))
+    c.collect_children-then-varying.ensures
+
+pub collect-returns-else-varying-clause-found : goal.collect-returns-else-varying-clause-found
+collect-returns-else-varying-clause-found g t c =
     if_ok-map c.collect_star.result
     (λ e. e ∙ ap (λ ns. c.args.found.now.items ++ ns)
     (sym (star-step c.args.varying.entry c.args.varying.query (terms_left c.args.skipped.now) c.in-Var.field-0 (trees_left c.args.rest.now)
@@ -27,8 +38,8 @@ collect-returns-else-varying t c =
     (ap tree_of c.in-Var.is) c.if-varying.false c.collect_star.ensures.order)))
     c.collect_star.ensures.found
 
-pub collect-returns-in_ok-collect_child-in-App : goal.collect-returns-in_ok-collect_child-in-App
-collect-returns-in_ok-collect_child-in-App t c =
+pub collect-returns-in_ok-collect_child-in-App-clause-found : goal.collect-returns-in_ok-collect_child-in-App-clause-found
+collect-returns-in_ok-collect_child-in-App-clause-found g t c =
     let star : List ℕ =
     if c.args.varying.entry
     then found_in c.args.varying.entry c.args.varying.query 0 (trees_left c.of-after.result) (rows_at Star c.args.node.now.1)
@@ -45,11 +56,53 @@ collect-returns-in_ok-collect_child-in-App t c =
     (c.of-next.ensures ∙ ap (λ ts. ts ++ trees_left c.of-after.result) c.as_slice.ensures) c.of.ensures
     c.in_ok-collect_child-in-App.ensures.order))
 
+pub collect-returns-in_err-collect_star-in-App-clause-steps : goal.collect-returns-in_err-collect_star-in-App-clause-steps
+collect-returns-in_err-collect_star-in-App-clause-steps g t c none ground =
+    stays-star c.in-App.field-0 c.in-App.arguments (trees_left c.args.rest.now) (trees_left c.of-after.result) c.args.node.now.0
+    c.args.node.now.1 c.args.steps.now c.collect_star-in-App.new.steps
+    (application-is c.in-App.field-0 c.in-App.arguments (trees_left c.args.rest.now)
+    (map tree_of c.in-Then.more.now ++ trees_left c.in-Then.below.now) (trees_left c.of-after.result) (tree_of c.in-Then.first.now)
+    (ap trees_left c.in-Then.is) c.of-after.ensures (ap tree_of c.in-App.is))
+    c.in_err-collect_star-in-App.ensures.steps ground
+
+pub collect-returns-in_err-collect_child-in-App-clause-steps : goal.collect-returns-in_err-collect_child-in-App-clause-steps
+collect-returns-in_err-collect_child-in-App-clause-steps g t c none ground =
+    stays-application c.in-App.field-0 c.in-App.arguments (trees_left c.args.rest.now) (trees_left c.of-after.result)
+    (trees_left c.of-next.result) c.of.result c.args.node.now.0 c.args.node.now.1 c.args.steps.now c.collect_star-in-App.new.steps
+    c.collect_child.new.steps
+    (application-is c.in-App.field-0 c.in-App.arguments (trees_left c.args.rest.now)
+    (map tree_of c.in-Then.more.now ++ trees_left c.in-Then.below.now) (trees_left c.of-after.result) (tree_of c.in-Then.first.now)
+    (ap trees_left c.in-Then.is) c.of-after.ensures (ap tree_of c.in-App.is))
+    (c.of-next.ensures ∙ ap (λ ts. ts ++ trees_left c.of-after.result) c.as_slice.ensures)
+    (c.of.ensures ∙ ap (λ x. head (tree_of x)) c.in-App.is) c.in_ok-collect_star-in-App.ensures.steps
+    c.in_err-collect_child-in-App.ensures.steps ground
+
+pub collect-returns-in_ok-collect_child-in-App-clause-steps : goal.collect-returns-in_ok-collect_child-in-App-clause-steps
+collect-returns-in_ok-collect_child-in-App-clause-steps g t c none ground =
+    stays-application c.in-App.field-0 c.in-App.arguments (trees_left c.args.rest.now) (trees_left c.of-after.result)
+    (trees_left c.of-next.result) c.of.result c.args.node.now.0 c.args.node.now.1 c.args.steps.now c.collect_star-in-App.new.steps
+    c.collect_child.new.steps
+    (application-is c.in-App.field-0 c.in-App.arguments (trees_left c.args.rest.now)
+    (map tree_of c.in-Then.more.now ++ trees_left c.in-Then.below.now) (trees_left c.of-after.result) (tree_of c.in-Then.first.now)
+    (ap trees_left c.in-Then.is) c.of-after.ensures (ap tree_of c.in-App.is))
+    (c.of-next.ensures ∙ ap (λ ts. ts ++ trees_left c.of-after.result) c.as_slice.ensures)
+    (c.of.ensures ∙ ap (λ x. head (tree_of x)) c.in-App.is) c.in_ok-collect_star-in-App.ensures.steps
+    c.in_ok-collect_child-in-App.ensures.steps ground
+
+pub collect_child-returns-in-Some-clause-steps : goal.collect_child-returns-in-Some-clause-steps
+collect_child-returns-in-Some-clause-steps g t c ground =
+    follows-child (trees_left c.args.rest.now) (rows_at c.args.label c.args.node.now.1) (rows c.in-Some.child.now) c.args.steps.now
+    c.child.new.steps c.collect.new.steps c.in-Some.ensures.some c.in-Some.ensures.child c.in-Some.ensures.step
+    (c.collect.ensures.steps refl ground)
+
 pub collect_child-collect-requires : goal.collect_child-collect-requires
-collect_child-collect-requires t c = (omega (arith, c.in-Some.ensures.smaller, c.decreases), tt)
+collect_child-collect-requires g t c =
+    let smaller : 3 * weight (rows c.in-Some.child.now) + 2 < 3 * weight (rows c.args.node.now) =
+    omega (arith, c.in-Some.ensures.smaller) in
+    search rules
 
 pub collect_children-loop-index-preserved : goal.collect_children-loop-index-preserved
-collect_children-loop-index-preserved t c =
+collect_children-loop-index-preserved g t c =
     let e : Bool = c.args.varying.entry in
     let q : Bool = c.args.varying.query in
     let k : ℕ = terms_left c.args.skipped.now in
@@ -57,7 +110,7 @@ collect_children-loop-index-preserved t c =
     let before : List ℕ = found_in e q (suc k) ts (all_below (take c.loop-index.index c.args.node.now.1)) in
     let inner : terms_left c.of-inner.result ≡ arity c.child_at-label.result.0 + k =
     c.of-inner.ensures ∙ ap (λ n. n + k) c.arity.ensures in
-    c.in_ok-collect.ensures
+    c.in_ok-collect.ensures.found
     ∙ ap (λ n. c.loop-index.found.items ++ found_in e q n ts (rows c.child_at-label.result.1.now)) inner
     ∙ ap (λ ns. ns ++ found_in e q (arity c.child_at-label.result.0 + k) ts (rows c.child_at-label.result.1.now)) c.loop-index.invariant
     ∙ append_assoc c.args.found.now.items before (found_in e q (arity c.child_at-label.result.0 + k) ts (rows c.child_at-label.result.1.now))
@@ -66,7 +119,7 @@ collect_children-loop-index-preserved t c =
     (omega (arith, c.loop-index-test.true, c.width-index-end.ensures)) c.child_at-label.ensures.child))
 
 pub collect_children-returns : goal.collect_children-returns
-collect_children-returns t c =
+collect_children-returns g t c =
     let e : Bool = c.args.varying.entry in
     let q : Bool = c.args.varying.query in
     let k : ℕ = terms_left c.args.skipped.now in

@@ -4,19 +4,19 @@ use Rattle.disc_tree.specs.Work.{trees_left, terms_left}
 use Rattle.disc_tree.proofs.query.+collect.Given as goal
 
 abbrev pub decreases-collect : goal.decreases-collect
-decreases-collect l = 3 * weight (rows l.node.now) + 2
+decreases-collect g l = 3 * weight (rows l.node.now) + 2
 
 abbrev pub decreases-collect_child : goal.decreases-collect_child
-decreases-collect_child l = 3 * weight (rows l.node.now)
+decreases-collect_child g l = 3 * weight (rows l.node.now)
 
 abbrev pub decreases-collect_star : goal.decreases-collect_star
-decreases-collect_star l = 3 * weight (rows l.node.now) + 1
+decreases-collect_star g l = 3 * weight (rows l.node.now) + 1
 
 abbrev pub decreases-collect_children : goal.decreases-collect_children
-decreases-collect_children l = 3 * weight (rows l.node.now) + 1
+decreases-collect_children g l = 3 * weight (rows l.node.now) + 1
 
 abbrev pub invariant-collect_children-loop-index : goal.invariant-collect_children-loop-index
-invariant-collect_children-loop-index l =
+invariant-collect_children-loop-index g l =
     l.found.items
     ≡ l.initial.found.items
     ++ found_in l.varying.entry l.varying.query (suc (terms_left l.skipped)) (trees_left l.rest) (all_below (take l.index l.node.1))

@@ -9,7 +9,7 @@ numbers-append [] ys = refl
 numbers-append (x ∷ xs) ys = ap (λ ns. x.1 ∷ ns) (numbers-append xs ys)
 
 pub loop-entry-preserved : goal.loop-entry-preserved
-loop-entry-preserved c =
+loop-entry-preserved g c =
     let before : List (Tree × ℕ) = take c.loop-entry.entry-index c.entries-entry-items.result.now in
     c.in_ok-push.ensures.items ∙ ap (λ ns. ns ++ c.number.result ∷ []) c.loop-entry.invariant
     ∙ append_assoc c.args.found.now.items (numbers_of before) (c.number.result ∷ [])

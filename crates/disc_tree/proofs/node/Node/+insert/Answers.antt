@@ -11,7 +11,8 @@ use Rattle.disc_tree.specs.Rows.{Row, Child, rows, weight, IsAt, IsGap, IsSound}
 use Rattle.disc_tree.specs.Children.{child_of, children_of}
 use Rattle.disc_tree.specs.Work.{trees_left}
 use Rattle.disc_tree.proofs.SlotLemmas.{child-get, children-length}
-use Rattle.disc_tree.proofs.EditLemmas.{path-step, child-lighter, with-some, sound-edited, rows-with-more, sound-inserted, rows-inserted, rows-pushed}
+use Rattle.disc_tree.proofs.ChildLemmas.{child-lighter}
+use Rattle.disc_tree.proofs.EditLemmas.{path-step, with-some, sound-edited, rows-with-more, sound-inserted, rows-inserted, rows-pushed}
 use Rattle.disc_tree.proofs.node.Node.+insert.Goals as goal
 
 abbrev Content : Type 0

@@ -3,11 +3,11 @@ use Rattle.fol_base.specs.Tree.{Tree}
 use Rattle.disc_tree.specs.Rows.{Child, rows, weight}
 use Rattle.disc_tree.specs.Children.{child_of, children_of}
 use Rattle.disc_tree.proofs.SlotLemmas.{child-get, children-length}
-use Rattle.disc_tree.proofs.EditLemmas.{child-lighter}
+use Rattle.disc_tree.proofs.ChildLemmas.{child-lighter}
 use Rattle.disc_tree.proofs.node.Node.child_at.Goals as goal
 
 pub returns-clause-smaller : goal.returns-clause-smaller
-returns-clause-smaller c =
+returns-clause-smaller g c =
     let in_range : c.args.index < length (children_of c.self.inside.branches.items) =
     subst (λ (v : List (Tree × _) × List Child). c.args.index < length v.1) (sym c.self.view_is) c.requires in
     subst (λ (v : List (Tree × _) × List Child). weight (rows c.index-branch.result.now.node) < weight (rows v)) c.self.view_is
