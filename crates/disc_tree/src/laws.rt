@@ -1,11 +1,14 @@
 // The laws of compatible terms, and worked examples: the contracts of functions without arguments and with
 // empty bodies.
 
-ghost use Rattle.std.specs.Prelude.{◌≡◌, true, false, [], ◌∷◌};
+ghost use Rattle.std.specs.Prelude.{◌≡◌, true, false, [], ◌∷◌, IsTrue, IsFalse};
 ghost use Rattle.fol_base.specs.Examples.{x, a, b, f, f₂, g};
 ghost use Rattle.fol_base.specs.Compatible.{compatible, compatible_generalisation, compatible_instance};
 ghost use Rattle.disc_tree.specs.Entries.{IsIn, numbers_where};
 ghost use Rattle.disc_tree.specs.Examples.{three};
+ghost use Rattle.disc_tree.specs.declared.label.Label.TheVariants.{Star, Symbol};
+ghost use Rattle.disc_tree.specs.Path.{path};
+ghost use Rattle.disc_tree.specs.Prefixes.{can_read, prefixes, compatible_prefixes};
 ghost use Rattle.disc_tree.specs.Laws.{UnifiableAreCompatible, GeneralisationsAreCompatible, InstancesAreCompatible};
 
 /// Terms with a common instance are compatible, and so are a term and its instance in either sense. So a query misses no
@@ -31,4 +34,15 @@ pub fn examples()
     ensures variables_too { compatible_instance (x 0) (x 1) ≡ true }
     ensures there { IsIn (f₂ b (x 0), 2) three }
     ensures not_there { ¬ IsIn (f₂ b (x 1), 2) three }
+{}
+
+/// Prefixes of paths, and those that a query is compatible with.
+pub fn prefix_examples()
+    ensures prefixes_of_a_path { prefixes (path (f a)) ≡ [] ∷ (Symbol 4 1 ∷ []) ∷ (Symbol 4 1 ∷ Symbol 1 0 ∷ []) ∷ [] }
+    ensures star_passes_over_a_subterm { IsTrue (can_read (f₂ (g b) a ∷ []) (Symbol 4 2 ∷ Star ∷ Symbol 1 0 ∷ [])) }
+    ensures symbol_stands_at_its_place { IsFalse (can_read (f₂ (g b) a ∷ []) (Symbol 4 2 ∷ Symbol 5 1 ∷ Symbol 1 0 ∷ [])) }
+    ensures other_arity { IsFalse (can_read (f a ∷ []) (Symbol 4 2 ∷ [])) }
+    ensures six { compatible_prefixes (f₂ b a) three ≡ 6 }
+    ensures equal_paths_count_once { compatible_prefixes a ((x 0, 1) ∷ (x 1, 2) ∷ []) ≡ 2 }
+    ensures empty_one_alone { compatible_prefixes a [] ≡ 1 }
 {}

@@ -15,6 +15,5 @@ pub use scan::is_compatible;
 pub use steps::Steps;
 pub use tree::DiscTree;
 
-pub mod examples;
 #[cfg(test)]
 mod tests;
