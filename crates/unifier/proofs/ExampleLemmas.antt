@@ -162,6 +162,7 @@ after_both = record {
     on-left : (v : ℕ) → v < 1 → all_a v ≡ instance all_a (substitution (x 0 ∷ []) v)
     on-left zero less = refl
     on-left (suc v) less = absurd (omega arith)
+
     on-right : (v : ℕ) → v < 1 → f₂ a b ≡ instance all_a (substitution (f₂ (x 0) b ∷ []) v)
     on-right zero less = refl
     on-right (suc v) less = absurd (omega arith)
