@@ -153,7 +153,7 @@ fn same_shape(numbers: &mut Numbers, clashes: bool) -> (Term, Term) {
 }
 
 fn with_circle((left, right): (Term, Term)) -> (Term, Term) {
-    let circle = binary(Var(4), App(3, vec![Var(4)]));
+    let circle = binary(Var(4), App(4, vec![Var(4)]));
     (binary(binary(Var(4), Var(4)), left), binary(circle, right))
 }
 

@@ -1,5 +1,5 @@
 -- Which variables `unify` binds: those of its terms alone.
-use Rattle.std.proofs.Common.{◌≡◌, ℕ, ◌+◌, ◌*◌, ◌/◌, ◌%◌, ◌<◌, Bool, true, false, ◌||◌, ◌==◌, cond, Option, None, Some, List, [], ◌∷◌, refl, ap, sym, ◌∙◌, arith, eq-eqb}
+use Rattle.std.proofs.Common.{◌≡◌, ℕ, ◌+◌, ◌*◌, ◌/◌, ◌%◌, ◌<◌, ◌≤◌, max, Bool, true, false, ◌||◌, ◌==◌, cond, Option, None, Some, List, [], ◌∷◌, refl, ap, sym, ◌∙◌, arith, eq-eqb}
 use Rattle.std.specs.Prelude.{Result, Ok, Err, IfOk, IfSome, MatchOption}
 use Rattle.std.specs.List.{list_any, list_all}
 use Rattle.std.proofs.lemmas.Bool.{and_from, or_left, or_right, cond-true, cond-false, true≢false}
@@ -13,10 +13,10 @@ use Rattle.unifier.specs.declared.classes.Classes.{Classes}
 use Rattle.unifier.specs.declared.placing.Placing.{Placing}
 use Rattle.unifier.specs.Layout.{cell_of, code_of, all_pass, TermLaidOut}
 use Rattle.unifier.specs.Bindings.{bound, joint, occurs, LeavesOthers, CannotMeet, IsMeeting}
-use Rattle.unifier.specs.Renaming.{is_within, fits}
+use Rattle.unifier.specs.Renaming.{is_within, fits, FitLeavesOthers, FitLeavesOthersApart}
 use Rattle.unifier.specs.Solving.{relocated, IsRelocated}
 use Rattle.unifier.proofs.LayoutLemmas.{found-passes}
-use Rattle.unifier.proofs.RenameLemmas.{code-within}
+use Rattle.unifier.proofs.RenameLemmas.{code-within, ltb-is, ltb-not, within-left, within-right}
 
 -- ---- places and tests
 
@@ -82,6 +82,58 @@ fits-answer (Err e) start mid layout apart first second s t none one other h = t
 fits-answer (Ok found) start mid layout apart first second s t none one other h =
     λ left_count right_count. fits-by start mid layout apart first second left_count right_count s t found none one other h
 
+fits-together-by :
+    (start mid layout : Layout) (first second n : ℕ) (s t : Tree) (found : Option Bindings)
+    → start.places.items ≡ [] → TermLaidOut start mid false Left s first → TermLaidOut mid layout false Right t second
+    → MatchOption found (CannotMeet layout.cells.items first second) (IsMeeting layout false first second)
+    → VariablesBelow n s → VariablesBelow n t → IfSome found (λ b. (l r : ℕ) → n ≤ max l r → fits b l r ≡ true)
+fits-together-by start mid layout first second n s t None none one other h left right = tt
+fits-together-by start mid layout first second n s t (Some b) none one other h left right = λ l r most.
+    let within : (v : ℕ) → v < n → is_within false l r v ≡ true = λ v less. ltb-is v (max l r) (omega (arith, less, most)) in
+    ap (λ a. all_pass (is_within a l r) b.places.items) h.0
+    ∙ passes-at-last start mid layout false first second s t b (is_within false l r) none one other h
+    (below-pass (λ v. is_within false l r v) n s within left)
+    (below-pass (λ v. is_within false l r v) n t within right)
+
+-- as the code has it
+pub fits-together-answer :
+    {E : Type 0} (r : Result (Option Bindings) E) (start mid layout : Layout) (apart : Bool) (first second : ℕ) (s t : Tree)
+    → start.places.items ≡ [] → TermLaidOut start mid apart Left s first → TermLaidOut mid layout apart Right t second
+    → IfOk r (λ found. MatchOption found (CannotMeet layout.cells.items first second) (IsMeeting layout apart first second))
+    → IfOk r (λ found. apart ≡ false → (count : ℕ) → VariablesBelow count s → VariablesBelow count t
+    → IfSome found (λ b. (left_count right_count : ℕ) → count ≤ max left_count right_count → fits b left_count right_count ≡ true))
+fits-together-answer (Err e) start mid layout apart first second s t none one other h = tt
+fits-together-answer (Ok found) start mid layout true first second s t none one other h = λ is. absurd (true≢false is)
+fits-together-answer (Ok found) start mid layout false first second s t none one other h =
+    λ is count. fits-together-by start mid layout first second count s t found none one other h
+
+-- ---- variables without a place
+
+itself : (b : Bindings) (test : ℕ → Bool) (w : ℕ) → all_pass test b.places.items ≡ true → test w ≡ false → joint b w ≡ variable w
+itself b test w all fails =
+    ap (λ o. bound b.cells.items o w) (not-found test w b.places.items (cell_of w b.places.items) all fails refl)
+
+counted : (b : Bindings) (apart : Bool) (l r : ℕ) → b.apart ≡ apart → fits b l r ≡ true → all_pass (is_within apart l r) b.places.items ≡ true
+counted b apart l r is h = sym (ap (λ a. all_pass (is_within a l r) b.places.items) is) ∙ h
+
+-- those that aren't below their counts
+pub fit-leaves-others-apart : FitLeavesOthersApart
+fit-leaves-others-apart b l r is h = (
+  (λ v past.
+      ap (λ a. joint b (code_of a Left v)) is
+      ∙ itself b (is_within true l r) (2 * v) (counted b true l r is h) (within-left l r v ∙ ltb-not v l past)),
+  (λ v past.
+      ap (λ a. joint b (code_of a Right v)) is
+      ∙ itself b (is_within true l r) (2 * v + 1) (counted b true l r is h) (within-right l r v ∙ ltb-not v r past)),
+)
+
+pub fit-leaves-others : FitLeavesOthers
+fit-leaves-others b l r is h v past =
+    let free : joint b v ≡ variable v = itself b (is_within false l r) v (counted b false l r is h) (ltb-not v (max l r) past) in (
+      ap (λ a. joint b (code_of a Left v)) is ∙ free,
+      ap (λ a. joint b (code_of a Right v)) is ∙ free,
+    )
+
 -- ---- variables that stand in neither term
 
 members-pass : (test : ℕ → Bool) (vs : List ℕ) → ((v : ℕ) → list_any (λ w. w == v) vs ≡ true → test v ≡ true) → list_all test vs ≡ true
@@ -118,10 +170,6 @@ unfolding stands
 of-right true s t v h = stands-right s t v ∙ h
 of-right false s t v h = or_right (occurs v s) (occurs v t) h
 
-itself : (b : Bindings) (apart : Bool) (s t : Tree) (w : ℕ) → all_pass (stands apart s t) b.places.items ≡ true → stands apart s t w ≡ false → joint b w ≡ variable w
-itself b apart s t w all fails =
-    ap (λ o. bound b.cells.items o w) (not-found (stands apart s t) w b.places.items (cell_of w b.places.items) all fails refl)
-
 neither : (s t : Tree) (v : ℕ) → occurs v s ≡ false → occurs v t ≡ false → stands false s t v ≡ false
 unfolding stands
 neither s t v left right = ap (λ b. b || occurs v t) left ∙ right
@@ -129,10 +177,10 @@ neither s t v left right = ap (λ b. b || occurs v t) left ∙ right
 leaves :
     (apart : Bool) (s t : Tree) (b : Bindings) → b.apart ≡ apart → all_pass (stands apart s t) b.places.items ≡ true → LeavesOthers apart s t b
 leaves true s t b is all = (
-  (λ v absent. ap (λ a. joint b (code_of a Left v)) is ∙ itself b true s t (2 * v) all (stands-left s t v ∙ absent)),
-  (λ v absent. ap (λ a. joint b (code_of a Right v)) is ∙ itself b true s t (2 * v + 1) all (stands-right s t v ∙ absent)),
+  (λ v absent. ap (λ a. joint b (code_of a Left v)) is ∙ itself b (stands true s t) (2 * v) all (stands-left s t v ∙ absent)),
+  (λ v absent. ap (λ a. joint b (code_of a Right v)) is ∙ itself b (stands true s t) (2 * v + 1) all (stands-right s t v ∙ absent)),
 )
-leaves false s t b is all = λ v left right. ap (λ a. joint b (code_of a Left v)) is ∙ itself b false s t v all (neither s t v left right)
+leaves false s t b is all = λ v left right. ap (λ a. joint b (code_of a Left v)) is ∙ itself b (stands false s t) v all (neither s t v left right)
 
 leaves-by :
     (start mid layout : Layout) (apart : Bool) (first second : ℕ) (s t : Tree) (found : Option Bindings)

@@ -1,17 +1,19 @@
 -- Function terms in give function terms out.
-use Rattle.std.proofs.Common.{◌≡◌, ℕ, Bool, true, false, not, ◌&&◌, ◌||◌, ◌==◌, cond, Option, None, Some, List, [], ◌∷◌, ◌++◌, refl, ap, ap₂, sym, ◌∙◌, subst, ⊎_elim}
-use Rattle.std.specs.Prelude.{option_and_then, if◌then◌else◌}
-use Rattle.std.proofs.lemmas.Bool.{cond-true, cond-false, cases_Bool, or_cases, true≢false}
+use Rattle.std.proofs.Common.{◌≡◌, ℕ, zero, suc, ◌≤◌, get_or, length, arith, Bool, true, false, not, ◌&&◌, ◌||◌, ◌==◌, cond, Option, None, Some, List, [], ◌∷◌, ◌++◌, refl, ap, ap₂, sym, ◌∙◌, subst, ⊎_elim}
+use Rattle.std.specs.Prelude.{option_and_then, unwrap_or, if◌then◌else◌}
+use Rattle.std.proofs.lemmas.Bool.{cases_lt, cond-true, cond-false, cases_Bool, or_cases, true≢false}
 use Rattle.fol_base.specs.Tree.{Tree, variable, application, Trees, no_trees, tree_then, tree_eq}
-use Rattle.fol_base.specs.Instance.{Substitution, instance, instances}
+use Rattle.fol_base.specs.Instance.{Substitution, instance, instances, substitution}
+use Rattle.fol_base.specs.Canonical.{terms_from}
 use Rattle.fol_base.specs.Interpretation.{true_symbol}
 use Rattle.fol_base.specs.GroundForm.{is_truth}
-use Rattle.fol_base.specs.Kind.{is_function_term, are_function_terms, is_predicate_term}
+use Rattle.fol_base.specs.Kind.{is_function_term, are_function_terms, is_predicate_term, PutsFunctionTerms}
 use Rattle.fol_base.specs.Unifier.{IsUnifierApart}
 use Rattle.fol_base.proofs.TreeLemmas.{and_left, and_right}
-use Rattle.unifier.specs.Matching.{term_for}
+use Rattle.unifier.specs.Matching.{term_for, by_pairs}
 use Rattle.unifier.specs.Walk.{met, walk, walk_all}
-use Rattle.unifier.specs.Laws.{are_of_one_kind, AreFunctionPairs, UnifiersPutFunctionTerms, UnifiersApartPutFunctionTerms}
+use Rattle.unifier.specs.Laws.{are_of_one_kind, AreFunctionPairs, UnifiersPutFunctionTerms, UnifiersApartPutFunctionTerms, MatchersPutFunctionTerms}
+use Rattle.unifier.proofs.MatchLemmas.{listed-at}
 
 and-both : (a b : Bool) → a ≡ true → b ≡ true → (a && b) ≡ true
 and-both true b h k = k
@@ -243,3 +245,38 @@ answer-functions ps so_far qs t u true same e h p kind all =
     (and_right (is_predicate_term p t || is_truth t) (is_predicate_term p u || is_truth u) k) from)
     (or_cases functions atoms kind)
 answer-functions ps so_far qs t u false same e h p kind all = absurd (true≢false (sym h))
+
+-- ---- the substitution of pairs
+
+pair-function : (p : ℕ → Bool) (ps : Pairs) (v : ℕ) → AreFunctionPairs p ps → is_function_term p (by_pairs ps v) ≡ true
+pair-function p [] v all = refl
+pair-function p (q ∷ ps) v all =
+    let put_in : Option Tree → Bool = λ o. is_function_term p (unwrap_or o (variable v)) in
+    ⊎_elim
+    (λ same. ap put_in (cond-true (v == q.0) (Some q.1) (term_for v ps) same) ∙ all.0)
+    (λ other. ap put_in (cond-false (v == q.0) (Some q.1) (term_for v ps) other) ∙ pair-function p ps v all.1)
+    (cases_Bool (v == q.0))
+
+length-terms_from : (first n : ℕ) (σ : Substitution) → length (terms_from first n σ) ≡ n
+length-terms_from first zero σ = refl
+length-terms_from first (suc n) σ = ap suc (length-terms_from (suc first) n σ)
+
+past-end : {X : Type 0} (xs : List X) (i : ℕ) (d : X) → length xs ≤ i → get_or xs i d ≡ d
+past-end [] i d h = refl
+past-end (x ∷ xs) zero d h = absurd (omega arith)
+past-end (x ∷ xs) (suc i) d h = past-end xs i d (omega arith)
+
+-- the list of a substitution's terms for the first variables
+pub listed-functions :
+    (p : ℕ → Bool) (terms : List Tree) (count : ℕ) (σ : Substitution)
+    → terms ≡ terms_from 0 count σ → PutsFunctionTerms p σ → PutsFunctionTerms p (substitution terms)
+listed-functions p terms count σ h all v =
+    ⊎_elim
+    (λ less. ap (is_function_term p) (listed-at terms count v σ h less) ∙ all v)
+    (λ past. ap (is_function_term p) (past-end terms v (variable v) (omega (arith, past, ap length h, length-terms_from 0 count σ))))
+    (cases_lt v count)
+
+pub matchers_put_function_terms : MatchersPutFunctionTerms
+matchers_put_function_terms p pairs count all =
+    let each : PutsFunctionTerms p (by_pairs pairs) = λ v. pair-function p pairs v all in
+    (each, listed-functions p (terms_from 0 count (by_pairs pairs)) count (by_pairs pairs) refl each)

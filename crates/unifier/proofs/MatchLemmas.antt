@@ -352,11 +352,17 @@ unwrapped : (v : ℕ) (o : Option Tree) (t : Tree) → o ≡ Some t → unwrap_o
 unwrapped v None t e = cc
 unwrapped v (Some u) t e = cc
 
-pub terms_from-at : (first n v : ℕ) (σ : Substitution) (d : Tree) → v < n → get_or (terms_from first n σ) v d ≡ σ (first + v)
+terms_from-at : (first n v : ℕ) (σ : Substitution) (d : Tree) → v < n → get_or (terms_from first n σ) v d ≡ σ (first + v)
 terms_from-at first zero v σ d h = absurd (omega arith)
 terms_from-at first (suc n) zero σ d h = let e : first ≡ first + 0 = omega arith in ap σ e
 terms_from-at first (suc n) (suc v) σ d h =
     let e : suc first + v ≡ first + suc v = omega arith in terms_from-at (suc first) n v σ d (omega arith) ∙ ap σ e
+
+pub listed-at :
+    (terms : List Tree) (count v : ℕ) (σ : Substitution) → terms ≡ terms_from 0 count σ → v < count → substitution terms v ≡ σ v
+listed-at terms count v σ h less =
+    let plus : 0 + v ≡ v = omega arith in
+    ap (λ (ts : List Tree). get_or ts v (variable v)) h ∙ terms_from-at 0 count v σ (variable v) less ∙ ap σ plus
 
 ltb-less : (a b : ℕ) → nat_lt a b ≡ true → a < b
 ltb-less a b h = grind (arith, nat_tests)
@@ -395,8 +401,5 @@ pub HasPairs-subst :
 HasPairs-subst n ps terms twice less e =
     own-terms ps (substitution terms) twice
     (λ v t found.
-    let plus : 0 + v ≡ v = omega arith in
-    ap (λ (ts : List Tree). get_or ts v (variable v)) e
-    ∙ terms_from-at 0 n v (by_pairs ps) (variable v) (below n ps v t less found)
-    ∙ ap (by_pairs ps) plus
+    listed-at terms n v (by_pairs ps) e (below n ps v t less found)
     ∙ unwrapped v (term_for v ps) t found)

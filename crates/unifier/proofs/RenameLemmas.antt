@@ -256,19 +256,29 @@ ltb-is a b h = grind (arith, nat_tests)
 ltb-less : (a b : ℕ) → nat_lt a b ≡ true → a < b
 ltb-less a b h = grind (arith, nat_tests)
 
--- a side's variable below its count is used
-pub code-within :
-    (apart : Bool) (l r : ℕ) (side : Side) (v : ℕ) → v < side_count l r side → is_within apart l r (code_of apart side v) ≡ true
-code-within true l r Left v h =
+pub ltb-not : (a b : ℕ) → b ≤ a → nat_lt a b ≡ false
+ltb-not a b h = grind (arith, nat_tests)
+
+-- taken apart, a side's variable is within where it is below its side's count
+pub within-left : (l r v : ℕ) → is_within true l r (2 * v) ≡ nat_lt v l
+within-left l r v =
     let e : (2 * v) % 2 ≡ 0 = omega arith in
     let half : (2 * v) / 2 ≡ v = omega arith in
     cond-true ((2 * v) % 2 == 0) (nat_lt ((2 * v) / 2) l) (nat_lt ((2 * v) / 2) r) (eq-eqb ((2 * v) % 2) 0 e)
-    ∙ ltb-is ((2 * v) / 2) l (omega (arith, half, h))
-code-within true l r Right v h =
+    ∙ ap (λ n. nat_lt n l) half
+
+pub within-right : (l r v : ℕ) → is_within true l r (2 * v + 1) ≡ nat_lt v r
+within-right l r v =
     let e : (2 * v + 1) % 2 ≡ 1 = omega arith in
     let half : (2 * v + 1) / 2 ≡ v = omega arith in
     cond-false ((2 * v + 1) % 2 == 0) (nat_lt ((2 * v + 1) / 2) l) (nat_lt ((2 * v + 1) / 2) r) (ap (λ m. m == 0) e)
-    ∙ ltb-is ((2 * v + 1) / 2) r (omega (arith, half, h))
+    ∙ ap (λ n. nat_lt n r) half
+
+-- a side's variable below its count is used
+pub code-within :
+    (apart : Bool) (l r : ℕ) (side : Side) (v : ℕ) → v < side_count l r side → is_within apart l r (code_of apart side v) ≡ true
+code-within true l r Left v h = within-left l r v ∙ ltb-is v l h
+code-within true l r Right v h = within-right l r v ∙ ltb-is v r h
 code-within false l r Left v h = ltb-is v (max l r) (omega (arith, h))
 code-within false l r Right v h = ltb-is v (max l r) (omega (arith, h))
 

@@ -1,8 +1,7 @@
 -- Proofs of the laws of the substitutions into shared variables.
-use Rattle.std.proofs.Common.{◌≡◌, ℕ, zero, suc, ◌+◌, ◌<◌, ◌≤◌, Bool, true, false, ◌&&◌, ◌==◌, not, List, [], ◌∷◌, length, get_or, refl, ap, ap₂, sym, ◌∙◌, ⊎_elim, arith}
+use Rattle.std.proofs.Common.{◌≡◌, ℕ, ◌+◌, ◌<◌, Bool, true, false, ◌&&◌, ◌==◌, not, List, [], ◌∷◌, refl, ap, ap₂, sym, ◌∙◌}
 use Rattle.std.specs.Prelude.{sum_by}
 use Rattle.std.specs.List.{AllByRecursion}
-use Rattle.std.proofs.lemmas.Bool.{cases_lt}
 use Rattle.std.proofs.lemmas.List.Sums.{sum_by-cons}
 use Rattle.std.proofs.lemmas.List.Elements.{recursion_from_All}
 use Rattle.fol_base.specs.Tree.{Tree, variable, application, Trees, no_trees, tree_then, tree_size, trees_size, VariablesBelow}
@@ -16,9 +15,9 @@ use Rattle.fol_base.specs.declared.clause.Side.TheVariants.{Left, Right}
 use Rattle.fol_base.proofs.InstanceLemmas.{instances_of_instances, instances_agree_below}
 use Rattle.unifier.specs.Bindings.{substitution_of}
 use Rattle.unifier.specs.Renaming.{renamed, renamed_trees}
-use Rattle.unifier.specs.SharedLaws.{HasSizesOf, SharedUnifyApart, SharedUnify, SharedKeepSizes, SharedPutFunctionTerms}
-use Rattle.unifier.proofs.MatchLemmas.{terms_from-at}
-use Rattle.unifier.proofs.KindLemmas.{unifiers_put_function_terms, unifiers_apart_put_function_terms}
+use Rattle.unifier.specs.SharedLaws.{HasSizesOf, SharedUnifyApart, SharedUnify, SharedUnifyOne, SharedKeepSizes, SharedPutFunctionTerms}
+use Rattle.unifier.proofs.MatchLemmas.{listed-at}
+use Rattle.unifier.proofs.KindLemmas.{unifiers_put_function_terms, unifiers_apart_put_function_terms, listed-functions}
 
 -- ---- a renaming
 
@@ -51,11 +50,7 @@ abbrev AreNamed : Names → List Tree → ℕ → Substitution → Type 0
 AreNamed names terms count σ = terms ≡ terms_from 0 count (λ v. renamed names (σ v))
 
 named-at : (names : Names) (terms : List Tree) (count v : ℕ) (σ : Substitution) → AreNamed names terms count σ → v < count → substitution terms v ≡ renamed names (σ v)
-named-at names terms count v σ h less =
-    let plus : 0 + v ≡ v = omega arith in
-    ap (λ (ts : List Tree). get_or ts v (variable v)) h
-    ∙ terms_from-at 0 count v (λ w. renamed names (σ w)) (variable v) less
-    ∙ ap (λ w. renamed names (σ w)) plus
+named-at names terms count v σ h less = listed-at terms count v (λ w. renamed names (σ w)) h less
 
 -- their instances are those of σ, renamed
 named-instance :
@@ -116,6 +111,18 @@ shared_unify s t b left_count right_count left right unified s_below t_below h =
           ∙ sym (named-at h.names right right_count v (substitution_of b Right) h.right_terms in_right)),
     )
 
+pub shared_unify_one : SharedUnifyOne
+shared_unify_one s t b left_count right_count left right unified s_below t_below h = (
+  named-instance h.names left left_count (substitution_of b Left) s h.left_terms s_below
+      ∙ ap (renamed h.names) unified.0.unifies
+      ∙ sym (named-instance h.names left left_count (substitution_of b Left) t h.left_terms t_below),
+  (λ ρ e.
+      let general = unified.0.is_general ρ e in (
+        (λ w. general.0 (h.back w)),
+        (λ v less. named-general h.names h.back left left_count v (substitution_of b Left) ρ general.0 h.left_terms less (h.left_back v less) (general.1 v)),
+      )),
+)
+
 -- ---- sizes
 
 named-size :
@@ -148,25 +155,11 @@ shared_keep_sizes b left_count right_count left right h = (
 
 -- ---- function terms
 
-length-terms_from : (first n : ℕ) (σ : Substitution) → length (terms_from first n σ) ≡ n
-length-terms_from first zero σ = refl
-length-terms_from first (suc n) σ = ap suc (length-terms_from (suc first) n σ)
-
-past-end : {X : Type 0} (xs : List X) (i : ℕ) (d : X) → length xs ≤ i → get_or xs i d ≡ d
-past-end [] i d h = refl
-past-end (x ∷ xs) zero d h = absurd (omega arith)
-past-end (x ∷ xs) (suc i) d h = past-end xs i d (omega arith)
-
 named-functions :
     (p : ℕ → Bool) (names : Names) (terms : List Tree) (count : ℕ) (σ : Substitution)
     → AreNamed names terms count σ → PutsFunctionTerms p σ → PutsFunctionTerms p (substitution terms)
-named-functions p names terms count σ h all v =
-    ⊎_elim
-    (λ less. ap (is_function_term p) (named-at names terms count v σ h less) ∙ renamed-function p names (σ v) ∙ all v)
-    (λ past.
-    ap (is_function_term p)
-    (past-end terms v (variable v) (omega (arith, past, ap length h, length-terms_from 0 count (λ w. renamed names (σ w))))))
-    (cases_lt v count)
+named-functions p names terms count σ h all =
+    listed-functions p terms count (λ v. renamed names (σ v)) h (λ v. renamed-function p names (σ v) ∙ all v)
 
 pub shared_put_function_terms : SharedPutFunctionTerms
 shared_put_function_terms p true s t b left_count right_count left right kinds unified h =

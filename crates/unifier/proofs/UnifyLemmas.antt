@@ -17,7 +17,7 @@ use Rattle.unifier.proofs.LayoutLemmas.{denotes-kept}
 -- ---- a substitution of both sides
 
 -- the one whose sides are these
-joint_of : Substitution → Substitution → Substitution
+pub joint_of : Substitution → Substitution → Substitution
 joint_of σ τ w = cond (w % 2 == 0) (σ (w / 2)) (τ (w / 2))
 
 half-even : (v : ℕ) → (2 * v) / 2 ≡ v
@@ -32,12 +32,12 @@ even v = omega arith
 odd : (v : ℕ) → ((2 * v + 1) % 2 == 0) ≡ false
 odd v = let e : (2 * v + 1) % 2 ≡ 1 = omega arith in ap (λ r. r == 0) e
 
-joint_of-left : (σ τ : Substitution) (v : ℕ) → joint_of σ τ (2 * v) ≡ σ v
+pub joint_of-left : (σ τ : Substitution) (v : ℕ) → joint_of σ τ (2 * v) ≡ σ v
 unfolding joint_of
 joint_of-left σ τ v =
     cond-true ((2 * v) % 2 == 0) (σ ((2 * v) / 2)) (τ ((2 * v) / 2)) (eq-eqb ((2 * v) % 2) 0 (even v)) ∙ ap σ (half-even v)
 
-joint_of-right : (σ τ : Substitution) (v : ℕ) → joint_of σ τ (2 * v + 1) ≡ τ v
+pub joint_of-right : (σ τ : Substitution) (v : ℕ) → joint_of σ τ (2 * v + 1) ≡ τ v
 unfolding joint_of
 joint_of-right σ τ v =
     cond-false ((2 * v + 1) % 2 == 0) (σ ((2 * v + 1) / 2)) (τ ((2 * v + 1) / 2)) (odd v) ∙ ap τ (half-odd v)

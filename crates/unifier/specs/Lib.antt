@@ -13,3 +13,4 @@ pub mod Renaming
 pub mod Clashing
 pub mod Laws
 pub mod SharedLaws
+pub mod Examples

@@ -1,12 +1,12 @@
 -- The substitutions of the two sides into shared variables, which are numbered from 0 without gaps.
-use Rattle.std.specs.Prelude.{◌≡◌, ◌⊎◌, ℕ, zero, suc, ◌+◌, ◌*◌, ◌/◌, ◌%◌, ◌<◌, max, Bool, true, false, ◌&&◌, ◌==◌, nat_lt, List, length, slice_index, Some, if◌then◌else◌}
+use Rattle.std.specs.Prelude.{◌≡◌, ◌⊎◌, ℕ, zero, suc, ◌+◌, ◌*◌, ◌/◌, ◌%◌, ◌<◌, ◌≤◌, max, Bool, true, false, ◌&&◌, ◌==◌, nat_lt, List, length, slice_index, Some, if◌then◌else◌}
 use Rattle.fol_base.specs.Tree.{Tree, Trees, variable, tree_eq, VariablesBelow}
 use Rattle.fol_base.specs.Instance.{instance, instances}
 use Rattle.fol_base.specs.Canonical.{terms_from}
 use Rattle.fol_base.specs.declared.clause.Side.{Side}
 use Rattle.fol_base.specs.declared.clause.Side.TheVariants.{Left, Right}
 use Rattle.unifier.specs.declared.bindings.Bindings.{Bindings}
-use Rattle.unifier.specs.Layout.{cell_of, all_pass}
+use Rattle.unifier.specs.Layout.{cell_of, code_of, all_pass}
 use Rattle.unifier.specs.Bindings.{joint, substitution_of}
 
 -- the variable of that number is below its side's count; where the sides aren't apart, it is a variable of both, and below
@@ -15,9 +15,23 @@ abbrev pub is_within : Bool → ℕ → ℕ → ℕ → Bool
 is_within true left_count right_count w = if w % 2 == 0 then nat_lt (w / 2) left_count else nat_lt (w / 2) right_count
 is_within false left_count right_count w = nat_lt w (max left_count right_count)
 
--- all variables that are bound are
+-- all variables of the two terms are: each has a place, also where it stands for itself
 abbrev pub fits : Bindings → ℕ → ℕ → Bool
 fits b left_count right_count = all_pass (is_within b.apart left_count right_count) b.places.items
+
+-- so each variable that isn't below its side's count stands for itself, by its number among the variables of both sides
+abbrev pub FitLeavesOthersApart : Type 0
+FitLeavesOthersApart =
+    (b : Bindings) (left_count right_count : ℕ) → b.apart ≡ true → fits b left_count right_count ≡ true
+    → ((v : ℕ) → left_count ≤ v → substitution_of b Left v ≡ variable (code_of true Left v))
+    × ((v : ℕ) → right_count ≤ v → substitution_of b Right v ≡ variable (code_of true Right v))
+
+-- and, not apart, each that is below neither count
+abbrev pub FitLeavesOthers : Type 0
+FitLeavesOthers =
+    (b : Bindings) (left_count right_count : ℕ) → b.apart ≡ false → fits b left_count right_count ≡ true
+    → (v : ℕ) → max left_count right_count ≤ v
+    → (substitution_of b Left v ≡ variable v) × (substitution_of b Right v ≡ variable v)
 
 -- each variable becomes the variable of another number
 abbrev pub renamed : (ℕ → ℕ) → Tree → Tree

@@ -40,6 +40,17 @@ SharedUnify =
     → (another : Substitution) × IsAfterBoth left right another left_count right_count ρ ρ)
     × ((v : ℕ) → v < left_count → v < right_count → substitution left v ≡ substitution right v)
 
+-- not apart, the left list alone makes the two terms equal where its count is above the variables of both, and every
+-- substitution that does is another after it, on the variables that were asked for
+abbrev pub SharedUnifyOne : Type 0
+SharedUnifyOne =
+    (s t : Tree) (b : Bindings) (left_count right_count : ℕ) (left right : List Tree)
+    → IsUnified false s t (Some b) → VariablesBelow left_count s → VariablesBelow left_count t
+    → AreRenamed b left_count right_count left right
+    → IsUnifier s t (substitution left)
+    × ((ρ : Substitution) → IsUnifier s t ρ
+    → (another : Substitution) × ((v : ℕ) → v < left_count → ρ v ≡ instance another (substitution left v)))
+
 -- their instances of literals in the variables asked for have the sizes of the unifier's
 abbrev pub HasSizesOf : List Tree → ℕ → Substitution → Type 0
 HasSizesOf terms count σ =

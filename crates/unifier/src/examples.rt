@@ -1,15 +1,18 @@
 // Worked examples of the definitions: each is a clause of a function with an empty body.
 
-ghost use Rattle.std.specs.Prelude.{◌≡◌, ◌+◌, ◌-◌, ◌/◌, ◌^◌, [], ◌∷◌, true, false, IsTrue, IsFalse};
+ghost use Rattle.std.specs.Prelude.{◌≡◌, ◌+◌, ◌-◌, ◌/◌, ◌^◌, [], ◌∷◌, true, false, None, Some, IsTrue, IsFalse};
 ghost use Rattle.fol_base.specs.Clause.{literal_instance, literal_size};
 ghost use Rattle.fol_base.specs.declared.clause.Side.TheVariants.{Left, Right};
 ghost use Rattle.fol_base.specs.Examples.{x, a, b, f₂, p, equation, is_predicate, all_a};
 ghost use Rattle.unifier.specs.Layout.{code_of};
-ghost use Rattle.unifier.specs.Bindings.{occurs};
+ghost use Rattle.unifier.specs.Bindings.{IsUnified, LeavesOthers, occurs, substitution_of};
+ghost use Rattle.unifier.specs.declared.bindings.Bindings.{Bindings};
 ghost use Rattle.unifier.specs.Matching.{IsMatched, NoMatcher, are_below, with_further};
-ghost use Rattle.unifier.specs.Renaming.{is_within, renamed};
+ghost use Rattle.unifier.specs.Renaming.{AreRenamed, fits, is_within, renamed};
 ghost use Rattle.unifier.specs.Sizes.{stopped};
-ghost use Rattle.unifier.specs.Laws.{are_of_one_kind};
+ghost use Rattle.unifier.specs.Laws.{AreFunctionPairs, are_of_one_kind};
+ghost use Rattle.unifier.specs.SharedLaws.{IsAfterBoth};
+ghost use Rattle.unifier.specs.Examples.{AreExampleBindings};
 
 /// Variables of two sides, and what is below their counts.
 pub fn variable_examples()
@@ -44,4 +47,24 @@ pub fn size_examples()
     ensures predicate_terms { IsTrue (are_of_one_kind is_predicate (p a).left (p b).left) }
     ensures predicate_and_truth { IsTrue (are_of_one_kind is_predicate (p a).left (p b).right) }
     ensures other_kinds { IsFalse (are_of_one_kind is_predicate (x 0) (p a).left) }
+{}
+
+/// The answer of a unification of `f(X0,b)` and `f(a,X0)` apart, and its two substitutions.
+pub fn bindings_examples()
+    ensures left { (found : Bindings) → AreExampleBindings found → substitution_of found Left 0 ≡ a }
+    ensures right { (found : Bindings) → AreExampleBindings found → substitution_of found Right 0 ≡ b }
+    ensures unified { (found : Bindings) → AreExampleBindings found → IsUnified true (f₂ (x 0) b) (f₂ a (x 0)) (Some found) }
+    ensures others { (found : Bindings) → AreExampleBindings found → LeavesOthers true (f₂ (x 0) b) (f₂ a (x 0)) found }
+    ensures counts { (found : Bindings) → AreExampleBindings found → fits found 1 1 ≡ true }
+    ensures no_count { (found : Bindings) → AreExampleBindings found → fits found 0 1 ≡ false }
+    ensures lists { (found : Bindings) → AreExampleBindings found → AreRenamed found 1 1 (a ∷ []) (b ∷ []) }
+{}
+
+/// Pairs without a unifier, and substitutions after two lists; pairs of function terms.
+pub fn law_examples()
+    ensures contains_itself { IsUnified false (x 0) (f₂ (x 0) b) None }
+    ensures clash { IsUnified true a b None }
+    ensures after_both { IsAfterBoth (x 0 ∷ []) (f₂ (x 0) b ∷ []) all_a 1 1 all_a (λ v. f₂ a b) }
+    ensures function_pair { AreFunctionPairs is_predicate ((0, f₂ a (x 1)) ∷ []) }
+    ensures predicate_pair { AreFunctionPairs is_predicate ((0, (p a).left) ∷ []) → ⊥ }
 {}

@@ -1,11 +1,17 @@
 // The laws of unifiers: each is the contract of a function without arguments and with an empty body.
 
-ghost use Rattle.unifier.specs.Laws.{UnifiersPutFunctionTerms, UnifiersApartPutFunctionTerms};
+ghost use Rattle.unifier.specs.Laws.{
+  MatchersPutFunctionTerms,
+  UnifiersApartPutFunctionTerms,
+  UnifiersPutFunctionTerms,
+};
+ghost use Rattle.unifier.specs.Renaming.{FitLeavesOthers, FitLeavesOthersApart};
 ghost use Rattle.unifier.specs.SharedLaws.{
   SharedKeepSizes,
   SharedPutFunctionTerms,
   SharedUnify,
   SharedUnifyApart,
+  SharedUnifyOne,
 };
 
 /// A most general unifier of two function terms, or of two terms each of which is a predicate term or
@@ -15,11 +21,20 @@ pub fn unifiers_put_function_terms()
     ensures apart { UnifiersApartPutFunctionTerms }
 {}
 
+/// The substitution of pairs whose terms are function terms puts in function terms alone, and so does that of
+/// `Matched::subst`.
+pub fn matchers_put_function_terms()
+    ensures { MatchersPutFunctionTerms }
+{}
+
 /// After `unify`, the two substitutions of `Bindings::substs` make the terms equal, and all substitutions
-/// that do are another after them, on the variables that were asked for.
+/// that do are another after them, on the variables that were asked for. Where the sides aren't taken apart
+/// and the left count is above the variables of both terms, the left one alone does, as for
+/// `substs(count, 0)`.
 pub fn shared_substitutions_unify()
     ensures together { SharedUnify }
     ensures apart { SharedUnifyApart }
+    ensures one { SharedUnifyOne }
 {}
 
 /// The instances of literals under the substitutions of `Bindings::substs` have the size that
@@ -32,4 +47,11 @@ pub fn shared_substitutions_keep_sizes()
 /// terms, or two terms each of which is a predicate term or `$true`.
 pub fn shared_substitutions_put_function_terms()
     ensures { SharedPutFunctionTerms }
+{}
+
+/// What `Bindings::fits` tells: each variable that isn't below its side's count stands for itself; where the
+/// sides aren't taken apart, each that is below neither count.
+pub fn counts_that_fit()
+    ensures together { FitLeavesOthers }
+    ensures apart { FitLeavesOthersApart }
 {}

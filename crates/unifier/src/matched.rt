@@ -100,7 +100,7 @@ impl<'a> Matched<'a> {
         }
     }
 
-    /// An equal list.
+    /// An equal list, of the allocator that `match_onto` is handed.
     pub(crate) fn copied(&self, alloc: Global) -> Mem<Matched<'a>>
         ensures { IfOk result (λ pairs. pairs ≡ self.now) }
     {

@@ -16,6 +16,8 @@ const B: u32 = 2;
 
 const F: u32 = 3;
 
+const G: u32 = 4;
+
 const C: u32 = 5;
 
 const PAIRS: u32 = 200;
@@ -105,7 +107,7 @@ fn same_shape(alloc: Global, numbers: &mut Numbers, clashes: bool) -> Mem<Pair> 
 /// The pair behind `f(X4,X4)` and `f(X4,g(X4))`, which don't unify.
 fn with_circle(alloc: Global, pair: Pair) -> Mem<Pair> {
     let variables = binary(alloc, F, Term::Var(4), Term::Var(4))?;
-    let contained = unary(alloc, F, Term::Var(4))?;
+    let contained = unary(alloc, G, Term::Var(4))?;
     let circle = binary(alloc, F, Term::Var(4), contained)?;
     Ok(Pair {
         left: binary(alloc, F, variables, pair.left)?,

@@ -28,8 +28,9 @@ use std::alloc::Global;
 impl Bindings {
     /// The two substitutions into shared variables, for the first `left_vars` variables of the left side
     /// and the first `right_vars` of the right one. The shared variables have the numbers from 0 on,
-    /// without gaps. The condition is that each variable that is bound has a number below its side's count,
-    /// as it has after `unify` where the counts are above the variables of its terms; `fits` tells it too.
+    /// without gaps. The condition is that each variable of the two terms has a number below its side's count,
+    /// or below one of both counts where the sides aren't taken apart; `unify` says which counts meet it, and
+    /// `fits` tells it too.
     pub fn substs(&self, left_vars: u32, right_vars: u32) -> Mem<(Subst, Subst)>
         requires fits { fits self.now left_vars right_vars ≡ true }
         requires left_room { left_vars ≤ 2 ^ 31 }
@@ -43,8 +44,9 @@ impl Bindings {
         Ok((left, right))
     }
 
-    /// Whether each variable that is bound has a number below its side's count; below one of both counts
-    /// where the sides aren't taken apart, since a variable is one of both sides then.
+    /// Whether each variable of the two terms has a number below its side's count, also where it stands for
+    /// itself; below one of both counts where the sides aren't taken apart, since a variable is one of both
+    /// sides then.
     pub fn fits(&self, left_vars: u32, right_vars: u32) -> bool
         ensures { result ≡ fits self.now left_vars right_vars }
     {

@@ -1,6 +1,6 @@
 // Unifying: the most general instance that two terms have in common.
 
-ghost use Rattle.std.specs.Prelude.{◌≡◌, ℕ, true, IfOk, IfSome};
+ghost use Rattle.std.specs.Prelude.{◌≡◌, ◌≤◌, ℕ, max, true, false, IfOk, IfSome};
 ghost use Rattle.fol_base.specs.Tree.{VariablesBelow};
 ghost use Rattle.fol_base.specs.Term.{tree_of};
 ghost use Rattle.unifier.specs.Bindings.{IsUnified, LeavesOthers};
@@ -15,7 +15,9 @@ use std::alloc::Global;
 
 /// A most general unifier (Robinson 1965). None exactly where no unifier exists. With `apart` the
 /// variables of the two sides are different ones, whatever their numbers. Only variables of the two terms
-/// are bound, so counts above these meet the condition of `Bindings::substs`.
+/// are bound. A count for each side above its term's variables meets the condition of `Bindings::substs`;
+/// so does, where the sides aren't taken apart, one count above the variables of both terms, whatever the
+/// other is.
 ///
 /// Terms with different symbols at one place are told first. Else both are laid out as cells; classes of
 /// cells that must be equal are closed under their parts (as in unification closure, Huet 1976); the
@@ -26,6 +28,9 @@ pub fn unify(alloc: Global, left: &Term, right: &Term, apart: bool) -> Mem<Optio
     ensures others { IfOk result (λ found. IfSome found (LeavesOthers apart (tree_of left.now) (tree_of right.now))) }
     ensures fits { IfOk result (λ found. (left_vars right_vars : ℕ) → VariablesBelow left_vars (tree_of left.now)
         → VariablesBelow right_vars (tree_of right.now) → IfSome found (λ b. fits b left_vars right_vars ≡ true)) }
+    ensures fits_together { IfOk result (λ found. apart ≡ false → (count : ℕ) → VariablesBelow count (tree_of left.now)
+        → VariablesBelow count (tree_of right.now) → IfSome found (λ b. (left_vars right_vars : ℕ)
+        → count ≤ max left_vars right_vars → fits b left_vars right_vars ≡ true)) }
 {
     if clash(left, right) {
         return Ok(None);

@@ -1,7 +1,7 @@
 use Rattle.fol_base.specs.Term.{tree_of}
 use Rattle.unifier.proofs.ClashLemmas.{clash-answer}
 use Rattle.unifier.proofs.UnifyLemmas.{unified-answer}
-use Rattle.unifier.proofs.BoundLemmas.{leaves-answer, fits-answer}
+use Rattle.unifier.proofs.BoundLemmas.{leaves-answer, fits-answer, fits-together-answer}
 use Rattle.unifier.proofs.unifying.unify.Goals as goal
 
 pub returns-then-clash-clause-unified : goal.returns-then-clash-clause-unified
@@ -20,4 +20,9 @@ returns-clause-others c =
 pub returns-clause-fits : goal.returns-clause-fits
 returns-clause-fits c =
     fits-answer _ c.in_ok-layout.layout c.lay_term.new.self c.lay_term-2.new.self c.args.apart c.in_ok-first.first c.in_ok-second.second
+    (tree_of c.args.left.now) (tree_of c.args.right.now) c.in_ok-layout.ensures.no_places c.in_ok-first.ensures c.in_ok-second.ensures c.solve.ensures
+
+pub returns-clause-fits_together : goal.returns-clause-fits_together
+returns-clause-fits_together c =
+    fits-together-answer _ c.in_ok-layout.layout c.lay_term.new.self c.lay_term-2.new.self c.args.apart c.in_ok-first.first c.in_ok-second.second
     (tree_of c.args.left.now) (tree_of c.args.right.now) c.in_ok-layout.ensures.no_places c.in_ok-first.ensures c.in_ok-second.ensures c.solve.ensures

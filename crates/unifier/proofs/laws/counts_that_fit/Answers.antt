@@ -1,0 +1,8 @@
+use Rattle.unifier.proofs.BoundLemmas.{fit-leaves-others, fit-leaves-others-apart}
+use Rattle.unifier.proofs.laws.counts_that_fit.Goals as goal
+
+pub returns-clause-together : goal.returns-clause-together
+returns-clause-together c = fit-leaves-others
+
+pub returns-clause-apart : goal.returns-clause-apart
+returns-clause-apart c = fit-leaves-others-apart
