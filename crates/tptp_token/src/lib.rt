@@ -14,10 +14,6 @@ mod tests;
 mod token;
 mod word;
 
-#[cfg(test)]
-use plain_types::Mem;
 pub use scan::tokens;
-#[cfg(test)]
-use std::alloc::Global;
 pub use token::{Kind, LexFault, Lexed, Token, Tokens};
 pub use word::{are_digits, is_lower_word};
