@@ -199,12 +199,12 @@ rows-with-entry xs ys cs x w =
 
 -- ---- what isn't there
 
-is_in-append : {X : Type 0} (x : X) (xs ys : List X) → IsIn x (xs ++ ys) → IsIn x xs ⊎ IsIn x ys
+pub is_in-append : {X : Type 0} (x : X) (xs ys : List X) → IsIn x (xs ++ ys) → IsIn x xs ⊎ IsIn x ys
 is_in-append x [] ys h = inr h
 is_in-append x (z ∷ xs) ys h =
     ⊎_elim (λ e. inl (inl e)) (λ later. ⊎_elim (λ l. inl (inr l)) (λ r. inr r) (is_in-append x xs ys later)) h
 
-not-here : (l : Label) (p : List Label) (x : Tree × ℕ) (xs : List (Tree × ℕ)) → IsIn (l ∷ p, x) (here xs) → ⊥
+pub not-here : (l : Label) (p : List Label) (x : Tree × ℕ) (xs : List (Tree × ℕ)) → IsIn (l ∷ p, x) (here xs) → ⊥
 not-here l p x [] h = h
 not-here l p x (y ∷ xs) h =
     ⊎_elim (λ e. let wrong : l ∷ p ≡ [] = ap (λ (r : Row). r.0) e in absurd cc) (λ later. not-here l p x xs later) h
@@ -217,19 +217,19 @@ abbrev other_labels : List Label → List Label
 other_labels [] = []
 other_labels (l ∷ p) = p
 
-in-below-label : (k l : Label) (p : List Label) (x : Tree × ℕ) (rs : List Row) → IsIn (l ∷ p, x) (below k rs) → l ≡ k
+pub in-below-label : (k l : Label) (p : List Label) (x : Tree × ℕ) (rs : List Row) → IsIn (l ∷ p, x) (below k rs) → l ≡ k
 in-below-label k l p x [] h = absurd h
 in-below-label k l p x (r ∷ rs) h =
     ⊎_elim (λ e. ap (λ (q : Row). first_label k q.0) e) (λ later. in-below-label k l p x rs later) h
 
-in-below-row : (k l : Label) (p : List Label) (x : Tree × ℕ) (rs : List Row) → IsIn (l ∷ p, x) (below k rs) → IsIn (p, x) rs
+pub in-below-row : (k l : Label) (p : List Label) (x : Tree × ℕ) (rs : List Row) → IsIn (l ∷ p, x) (below k rs) → IsIn (p, x) rs
 in-below-row k l p x [] h = absurd h
 in-below-row k l p x (r ∷ rs) h =
     ⊎_elim
     (λ e. inl (ap (λ (q : Row). let s : Row = (other_labels q.0, q.1) in s) e))
     (λ later. inr (in-below-row k l p x rs later)) h
 
-not-behind : (l : Label) (p : List Label) (x : Tree × ℕ) (cs : List Child) → IsBefore l cs → IsIn (l ∷ p, x) (all_below cs) → ⊥
+pub not-behind : (l : Label) (p : List Label) (x : Tree × ℕ) (cs : List Child) → IsBefore l cs → IsIn (l ∷ p, x) (all_below cs) → ⊥
 not-behind l p x [] b h = h
 not-behind l p x (c ∷ cs) b h =
     ⊎_elim

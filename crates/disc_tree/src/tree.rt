@@ -124,6 +124,9 @@ impl DiscTree {
             numbers ≡ numbers_where (λ term. compatible term (tree_of query.now)) self.now) }
         ensures steps { is_ground (tree_of query.now) ≡ true
             → steps.new ≤ steps.old + 2 * compatible_prefixes (tree_of query.now) self.now }
+        ensures visits { IfOk result (λ _. is_ground (tree_of query.now) ≡ true
+            → steps.old + compatible_prefixes (tree_of query.now) self.now ≤ steps.new) }
+        ensures counter { steps.old ≤ steps.new }
     {
         self.find(
             query,
@@ -145,6 +148,9 @@ impl DiscTree {
             numbers ≡ numbers_where (λ term. compatible_generalisation term (tree_of query.now)) self.now) }
         ensures steps { is_ground (tree_of query.now) ≡ true
             → steps.new ≤ steps.old + 2 * compatible_prefixes (tree_of query.now) self.now }
+        ensures visits { IfOk result (λ _. is_ground (tree_of query.now) ≡ true
+            → steps.old + compatible_prefixes (tree_of query.now) self.now ≤ steps.new) }
+        ensures counter { steps.old ≤ steps.new }
     {
         self.find(
             query,
@@ -162,6 +168,9 @@ impl DiscTree {
             numbers ≡ numbers_where (λ term. compatible_by varying.entry varying.query term (tree_of query.now)) self.now) }
         ensures steps { is_ground (tree_of query.now) ≡ true
             → steps.new ≤ steps.old + 2 * compatible_prefixes (tree_of query.now) self.now }
+        ensures visits { IfOk result (λ _. varying.entry ≡ true → is_ground (tree_of query.now) ≡ true
+            → steps.old + compatible_prefixes (tree_of query.now) self.now ≤ steps.new) }
+        ensures counter { steps.old ≤ steps.new }
     {
         let mut found = Vec::new(self.alloc);
         let rest = Rest::Then(query, &[], &Rest::Nothing);
