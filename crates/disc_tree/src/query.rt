@@ -20,6 +20,26 @@ pub(crate) struct Varying {
     pub(crate) query: bool,
 }
 
+impl Varying {
+    /// For terms that unify.
+    pub(crate) const BOTH: Varying = Varying {
+        entry: true,
+        query: true,
+    };
+
+    /// For generalisations.
+    pub(crate) const ENTRIES: Varying = Varying {
+        entry: true,
+        query: false,
+    };
+
+    /// For instances.
+    pub(crate) const QUERIES: Varying = Varying {
+        entry: false,
+        query: true,
+    };
+}
+
 /// Adds the numbers of the node's entries whose paths fit what is left, in the tree's order.
 #[cycle(collect)]
 pub(crate) fn collect<L: Ledger>(
