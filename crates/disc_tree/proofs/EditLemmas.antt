@@ -82,18 +82,9 @@ rows-inserted xs l bs i b r e =
       with_it = ap all_below (children-insert bs i b ∙ ap (insert cs i) e) ∙ all_below-append (take i cs) ((l, r ∷ []) ∷ drop i cs);
     })
 
--- an entry at the end of the node's own
 here-append : (xs ys : List (Tree × ℕ)) → here (xs ++ ys) ≡ here xs ++ here ys
 here-append [] ys = refl
 here-append (x ∷ xs) ys = ap (λ zs. ([], x) ∷ zs) (here-append xs ys)
-
-pub rows-pushed : (xs : List (Tree × ℕ)) (cs : List Child) (x : Tree × ℕ) → IsWith ([], x) (rows (xs, cs)) (rows (xs ++ x ∷ [], cs))
-rows-pushed xs cs x = record {
-  front = here xs;
-  back = all_below cs;
-  without = refl;
-  with_it = ap (λ zs. zs ++ all_below cs) (here-append xs (x ∷ [])) ∙ append_assoc (here xs) (([], x) ∷ []) (all_below cs);
-}
 
 -- ---- a node's child edited in its place
 
@@ -312,13 +303,13 @@ none-at-end xs cs vs n none x h named =
 
 -- ---- an empty node
 
-pub rows-empty : (xs : List (Tree × ℕ)) (cs : List Child) → NoneIsEmpty cs → rows (xs, cs) ≡ [] → (length xs ≡ 0) × (length cs ≡ 0)
+pub rows-empty : (xs : List (Tree × ℕ)) (cs : List Child) → NoneIsEmpty cs → rows (xs, cs) ≡ [] → (xs ≡ []) × (length cs ≡ 0)
 rows-empty [] [] n h = (refl, refl)
 rows-empty (x ∷ xs) cs n h = absurd cc
 rows-empty [] ((l, []) ∷ cs) n h = absurd (omega (arith, n.0))
 rows-empty [] ((l, r ∷ rs) ∷ cs) n h = absurd cc
 
-pub rows-of-none : (xs : List (Tree × ℕ)) (cs : List Child) → length xs ≡ 0 → length cs ≡ 0 → rows (xs, cs) ≡ []
+pub rows-of-none : (xs : List (Tree × ℕ)) (cs : List Child) → xs ≡ [] → length cs ≡ 0 → rows (xs, cs) ≡ []
 rows-of-none [] [] h k = refl
 rows-of-none (x ∷ xs) cs h k = absurd cc
 rows-of-none [] (c ∷ cs) h k = absurd cc
@@ -354,9 +345,3 @@ pub rows-of-branch :
 rows-of-branch xs bs old b l r x o e h k =
     ap (λ ys. rows (ys, children_of bs)) x ∙ ap (λ cs. rows ([], children_of cs)) (e ∙ ap (λ cs. cs ++ b ∷ []) o)
     ∙ ap (λ m. below m (rows b.node) ++ []) h ∙ ap (λ rs. below l rs ++ []) k
-
-pub rows-of-leaf :
-    (xs old : List (Tree × ℕ)) (x : Tree × ℕ) (bs : List Branch)
-    → old ≡ [] → xs ≡ old ++ x ∷ [] → bs ≡ [] → rows (xs, children_of bs) ≡ ([], x) ∷ []
-rows-of-leaf xs old x bs o e h =
-    ap (λ ys. rows (ys, children_of bs)) (e ∙ ap (λ ys. ys ++ x ∷ []) o) ∙ ap (λ cs. rows (x ∷ [], children_of cs)) h
