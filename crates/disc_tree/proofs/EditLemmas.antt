@@ -1,5 +1,5 @@
 -- What an edit of a node does to its rows.
-use Rattle.std.proofs.Common.{◌≡◌, ◌⊎◌, ℕ, ◌<◌, ◌≤◌, true, false, List, [], ◌∷◌, ◌++◌, length, take, drop, get_or, append_assoc, refl, ap, sym, subst, ◌∙◌, arith, ⊎_elim, inl, inr}
+use Rattle.std.proofs.Common.{◌≡◌, ◌⊎◌, ℕ, ◌<◌, ◌≤◌, true, false, List, [], ◌∷◌, ◌++◌, length, take, drop, get_or, refl, ap, sym, subst, ◌∙◌, arith, ⊎_elim, inl, inr}
 use Rattle.std.specs.Prelude.{slice_set, insert, remove}
 use Rattle.std.proofs.lemmas.List.{take-append-drop}
 use Rattle.fol_base.specs.Tree.{Tree, variable, application, trees_of, list_of, trees_size}

@@ -1,12 +1,12 @@
 -- How many nodes a search along a query without variables can visit.
 use Rattle.std.proofs.Common.{◌≡◌, ℕ, ◌+◌, ◌*◌, ◌≤◌, Bool, true, false, ◌&&◌, ◌||◌, List, [], ◌∷◌, ◌++◌, length, refl, ap, ap₂, sym, subst, ◌∙◌, arith, ⊎_elim, inl, inr, if◌then◌else◌}
 use Rattle.std.proofs.lemmas.Bool.{cases_Bool, cond-true, cond-false}
-use Rattle.fol_base.specs.Tree.{Tree, variable, application, Trees, no_trees, tree_then, trees_of, list_of}
+use Rattle.fol_base.specs.Tree.{Tree, application, Trees, trees_of, list_of}
 use Rattle.fol_base.proofs.TreeLemmas.{list_of-trees_of}
 use Rattle.fol_base.specs.Ground.{is_ground, are_ground}
 use Rattle.disc_tree.specs.declared.label.Label.{Label}
 use Rattle.disc_tree.specs.declared.label.Label.TheVariants.{Star, Symbol}
-use Rattle.disc_tree.specs.Path.{head, arguments, path, same_label}
+use Rattle.disc_tree.specs.Path.{head, path, same_label}
 use Rattle.disc_tree.specs.Entries.{IsIn}
 use Rattle.disc_tree.specs.Rows.{Row, Child, here, below, all_below, rows, rows_at, entries_of, HavePaths}
 use Rattle.disc_tree.specs.Prefixes.{can_read, behind, prefixes, all_prefixes, readable, same_path, has_path, different, compatible_prefixes, AreGround, IsCompatible, HasCompatible, StaysWithin, FollowsWithin}

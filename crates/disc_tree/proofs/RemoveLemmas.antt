@@ -6,7 +6,7 @@ use Rattle.std.specs.List.Sorted.{IsNonDecreasingBy}
 use Rattle.std.proofs.lemmas.List.{take-append-drop, get_or_default}
 use Rattle.std.proofs.lemmas.List.Edits.{length-remove, get_or-remove_below, get_or-remove_above}
 use Rattle.fol_base.specs.Tree.{Tree}
-use Rattle.disc_tree.specs.Entries.{IsIn, IsWith}
+use Rattle.disc_tree.specs.Entries.{IsWith}
 use Rattle.disc_tree.specs.Rows.{number_of, IsNamed, IsNoEntry}
 
 below-or-not : (k i : ℕ) → (k < i) ⊎ (i ≤ k)

@@ -11,7 +11,7 @@ use Rattle.disc_tree.specs.Rows.{Row, Child, here, below, all_below, rows, rows_
 use Rattle.disc_tree.specs.Prefixes.{can_read, behind, prefixes, all_prefixes, readable, same_path, has_path, different, compatible_prefixes, AreGround, IsCompatible, AreDifferent, AreCompatible, VisitsEach, FollowsEach}
 use Rattle.disc_tree.proofs.LabelLemmas.{same-label-is, same-label-refl}
 use Rattle.disc_tree.proofs.EditLemmas.{is_in-append, not-here, in-below-label, in-below-row, not-behind}
-use Rattle.disc_tree.proofs.PrefixLemmas.{tails, and-left, and-right, all-ground, ground-append, same-path-is}
+use Rattle.disc_tree.proofs.PrefixLemmas.{tails, and-left, and-right, all-ground, ground-append}
 
 -- ---- the prefixes that begin with a label, without it
 
@@ -183,9 +183,9 @@ node-visits g us ms xs cs before between after rise star symbol ps d all =
       arith,
       star (tails Star ps) (tails-different Star ps d) (tails-are (application g us ∷ ms) ms Star xs cs ps rise (λ p h. h) all),
       symbol (tails l ps) (tails-different l ps d)
-      (tails-are (application g us ∷ ms) (list_of us ++ ms) l xs cs ps rise (read-symbol g us ms) all),
+          (tails-are (application g us ∷ ms) (list_of us ++ ms) l xs cs ps rise (read-symbol g us ms) all),
       tails-cover-more l ps d
-      (λ k p h. ⊎_elim (λ e. absurd cc) (λ c. read-first g us ms k p c.is_read) (all (k ∷ p) h)),
+          (λ k p h. ⊎_elim (λ e. absurd cc) (λ c. read-first g us ms k p c.is_read) (all (k ∷ p) h)),
     )
 
 pub visits-application :

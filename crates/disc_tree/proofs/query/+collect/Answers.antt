@@ -1,4 +1,4 @@
-use Rattle.std.proofs.Common.{◌≡◌, ◌<◌, ◌≤◌, ◌*◌, ◌++◌, [], ℕ, Bool, suc, ◌+◌, List, map, take, ap, sym, ◌∙◌, append_assoc, arith, rules, refl, if◌then◌else◌}
+use Rattle.std.proofs.Common.{◌≡◌, ◌<◌, ◌*◌, ◌++◌, [], ℕ, Bool, suc, ◌+◌, List, map, take, ap, sym, ◌∙◌, append_assoc, arith, rules, refl, if◌then◌else◌}
 use Rattle.std.proofs.lemmas.List.{take_all}
 use Rattle.fol_base.specs.Tree.{Tree}
 use Rattle.fol_base.specs.Term.{tree_of}
@@ -143,15 +143,16 @@ collect_children-loop-index-preserved g t c =
     let ts : List Tree = trees_left c.args.rest.now in
     let before : List ℕ = found_in e q (suc k) ts (all_below (take c.loop-index.index c.args.node.now.1)) in
     let inner : terms_left c.of-inner.result ≡ arity c.child_at-label.result.0 + k =
-    c.of-inner.ensures ∙ ap (λ n. n + k) c.arity.ensures in
-    (c.in_ok-collect.ensures.found
-    ∙ ap (λ n. c.loop-index.found.items ++ found_in e q n ts (rows c.child_at-label.result.1.now)) inner
-    ∙ ap (λ ns. ns ++ found_in e q (arity c.child_at-label.result.0 + k) ts (rows c.child_at-label.result.1.now)) c.loop-index.invariant.0
-    ∙ append_assoc c.args.found.now.items before (found_in e q (arity c.child_at-label.result.0 + k) ts (rows c.child_at-label.result.1.now))
-    ∙ ap (λ ns. c.args.found.now.items ++ ns)
-    (sym (children-more e q k ts c.args.node.now.1 c.loop-index.index c.child_at-label.result.0 (rows c.child_at-label.result.1.now)
-    (omega (arith, c.loop-index-test.true, c.width-index-end.ensures)) c.child_at-label.ensures.child)),
-    omega (arith, c.loop-index.invariant.1, c.child_at-label.ensures.step, c.in_ok-collect.ensures.counter))
+    c.of-inner.ensures ∙ ap (λ n. n + k) c.arity.ensures in (
+      c.in_ok-collect.ensures.found
+          ∙ ap (λ n. c.loop-index.found.items ++ found_in e q n ts (rows c.child_at-label.result.1.now)) inner
+          ∙ ap (λ ns. ns ++ found_in e q (arity c.child_at-label.result.0 + k) ts (rows c.child_at-label.result.1.now)) c.loop-index.invariant.0
+          ∙ append_assoc c.args.found.now.items before (found_in e q (arity c.child_at-label.result.0 + k) ts (rows c.child_at-label.result.1.now))
+          ∙ ap (λ ns. c.args.found.now.items ++ ns)
+          (sym (children-more e q k ts c.args.node.now.1 c.loop-index.index c.child_at-label.result.0 (rows c.child_at-label.result.1.now)
+          (omega (arith, c.loop-index-test.true, c.width-index-end.ensures)) c.child_at-label.ensures.child)),
+      omega (arith, c.loop-index.invariant.1, c.child_at-label.ensures.step, c.in_ok-collect.ensures.counter),
+    )
 
 pub collect_children-returns-clause-found : goal.collect_children-returns-clause-found
 collect_children-returns-clause-found g t c =

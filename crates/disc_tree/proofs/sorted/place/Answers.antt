@@ -1,9 +1,7 @@
-use Rattle.std.proofs.Common.{◌≡◌, ◌<◌, ℕ, List, length, true, false, refl, sym, ap, ◌∙◌, subst, arith, eq-eqb}
+use Rattle.std.proofs.Common.{◌∙◌, arith}
 use Rattle.fol_base.specs.Tree.{tree_variables}
 use Rattle.fol_base.specs.Term.{tree_of}
-use Rattle.std.specs.List.{AllWithin}
-use Rattle.disc_tree.specs.Rows.{number_of}
-use Rattle.disc_tree.proofs.RemoveLemmas.{IsOther, none-past, none-within}
+use Rattle.disc_tree.proofs.RemoveLemmas.{none-past, none-within}
 use Rattle.disc_tree.proofs.sorted.place.Goals as goal
 
 pub returns-then-number : goal.returns-then-number

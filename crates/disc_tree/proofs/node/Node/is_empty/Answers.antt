@@ -1,4 +1,4 @@
-use Rattle.std.proofs.Common.{◌≡◌, ℕ, List, [], length, true, false, ap, sym, subst, ◌∙◌, eq-eqb}
+use Rattle.std.proofs.Common.{◌≡◌, ℕ, List, [], length, true, false, sym, subst, ◌∙◌, eq-eqb}
 use Rattle.std.proofs.lemmas.Bool.{eqb-true}
 use Rattle.fol_base.specs.Tree.{Tree}
 use Rattle.disc_tree.specs.Rows.{Child, rows}
@@ -30,10 +30,10 @@ returns-then-is_empty c =
 
 pub returns-else-is_empty : goal.returns-else-is_empty
 returns-else-is_empty c = (
-      λ h. let wrong : true ≡ false = sym h ∙ c.if-is_empty.false in absurd cc,
-      λ h.
-          let inside : rows (c.self.inside.entries, children_of c.self.inside.branches.items) ≡ [] =
-          subst (λ (v : Content). rows v ≡ []) (sym c.self.view_is) h in
-          c.is_empty.ensures.1
-          (rows-empty c.self.inside.entries (children_of c.self.inside.branches.items) c.self.invariant.none_is_empty inside).0,
-    )
+  λ h. let wrong : true ≡ false = sym h ∙ c.if-is_empty.false in absurd cc,
+  λ h.
+      let inside : rows (c.self.inside.entries, children_of c.self.inside.branches.items) ≡ [] =
+      subst (λ (v : Content). rows v ≡ []) (sym c.self.view_is) h in
+      c.is_empty.ensures.1
+      (rows-empty c.self.inside.entries (children_of c.self.inside.branches.items) c.self.invariant.none_is_empty inside).0,
+)
