@@ -8,10 +8,10 @@ use std::alloc::Global;
 use std::test::Fail;
 
 /// How many entries there are.
-const ENTRIES: u64 = 300;
+const ENTRIES: u64 = 1000;
 
 /// How many queries of each kind.
-const QUERIES: u64 = 60;
+const QUERIES: u64 = 500;
 
 /// Whose variables may stand for terms: of both, of the entry or of the query.
 #[derive(Clone, Copy)]
@@ -122,6 +122,7 @@ fn queries_find_as_many_entries_as_a_scan(rt: HostRuntime) -> Result<(), Fail> {
     let tree = filled(rt.alloc(), entries.as_slice())?;
     for kind in [Kind::Unifiable, Kind::Generalisations, Kind::Instances] {
         let count = found(&tree, queries.as_slice(), kind)?;
+        assert!(rt; count > 0);
         assert!(rt; count == scanned(entries.as_slice(), queries.as_slice(), kind));
     }
     Ok(())
