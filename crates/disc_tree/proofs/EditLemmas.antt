@@ -1,5 +1,5 @@
 -- What an edit of a node does to its rows.
-use Rattle.std.proofs.Common.{◌≡◌, ◌⊎◌, ℕ, ◌<◌, ◌≤◌, true, false, List, [], ◌∷◌, ◌++◌, length, take, drop, get_or, append_assoc, refl, ap, sym, subst, ◌∙◌, arith, ⊎_elim, inl, inr}
+use Rattle.std.proofs.Common.{◌≡◌, ◌⊎◌, ℕ, ◌<◌, ◌≤◌, true, false, List, [], ◌∷◌, ◌++◌, length, take, drop, get_or, refl, ap, sym, subst, ◌∙◌, arith, ⊎_elim, inl, inr}
 use Rattle.std.specs.Prelude.{slice_set, insert, remove}
 use Rattle.std.proofs.lemmas.List.{take-append-drop}
 use Rattle.fol_base.specs.Tree.{Tree, variable, application, trees_of, list_of, trees_size}
@@ -82,18 +82,9 @@ rows-inserted xs l bs i b r e =
       with_it = ap all_below (children-insert bs i b ∙ ap (insert cs i) e) ∙ all_below-append (take i cs) ((l, r ∷ []) ∷ drop i cs);
     })
 
--- an entry at the end of the node's own
 here-append : (xs ys : List (Tree × ℕ)) → here (xs ++ ys) ≡ here xs ++ here ys
 here-append [] ys = refl
 here-append (x ∷ xs) ys = ap (λ zs. ([], x) ∷ zs) (here-append xs ys)
-
-pub rows-pushed : (xs : List (Tree × ℕ)) (cs : List Child) (x : Tree × ℕ) → IsWith ([], x) (rows (xs, cs)) (rows (xs ++ x ∷ [], cs))
-rows-pushed xs cs x = record {
-  front = here xs;
-  back = all_below cs;
-  without = refl;
-  with_it = ap (λ zs. zs ++ all_below cs) (here-append xs (x ∷ [])) ∙ append_assoc (here xs) (([], x) ∷ []) (all_below cs);
-}
 
 -- ---- a node's child edited in its place
 
@@ -199,12 +190,12 @@ rows-with-entry xs ys cs x w =
 
 -- ---- what isn't there
 
-is_in-append : {X : Type 0} (x : X) (xs ys : List X) → IsIn x (xs ++ ys) → IsIn x xs ⊎ IsIn x ys
+pub is_in-append : {X : Type 0} (x : X) (xs ys : List X) → IsIn x (xs ++ ys) → IsIn x xs ⊎ IsIn x ys
 is_in-append x [] ys h = inr h
 is_in-append x (z ∷ xs) ys h =
     ⊎_elim (λ e. inl (inl e)) (λ later. ⊎_elim (λ l. inl (inr l)) (λ r. inr r) (is_in-append x xs ys later)) h
 
-not-here : (l : Label) (p : List Label) (x : Tree × ℕ) (xs : List (Tree × ℕ)) → IsIn (l ∷ p, x) (here xs) → ⊥
+pub not-here : (l : Label) (p : List Label) (x : Tree × ℕ) (xs : List (Tree × ℕ)) → IsIn (l ∷ p, x) (here xs) → ⊥
 not-here l p x [] h = h
 not-here l p x (y ∷ xs) h =
     ⊎_elim (λ e. let wrong : l ∷ p ≡ [] = ap (λ (r : Row). r.0) e in absurd cc) (λ later. not-here l p x xs later) h
@@ -217,19 +208,19 @@ abbrev other_labels : List Label → List Label
 other_labels [] = []
 other_labels (l ∷ p) = p
 
-in-below-label : (k l : Label) (p : List Label) (x : Tree × ℕ) (rs : List Row) → IsIn (l ∷ p, x) (below k rs) → l ≡ k
+pub in-below-label : (k l : Label) (p : List Label) (x : Tree × ℕ) (rs : List Row) → IsIn (l ∷ p, x) (below k rs) → l ≡ k
 in-below-label k l p x [] h = absurd h
 in-below-label k l p x (r ∷ rs) h =
     ⊎_elim (λ e. ap (λ (q : Row). first_label k q.0) e) (λ later. in-below-label k l p x rs later) h
 
-in-below-row : (k l : Label) (p : List Label) (x : Tree × ℕ) (rs : List Row) → IsIn (l ∷ p, x) (below k rs) → IsIn (p, x) rs
+pub in-below-row : (k l : Label) (p : List Label) (x : Tree × ℕ) (rs : List Row) → IsIn (l ∷ p, x) (below k rs) → IsIn (p, x) rs
 in-below-row k l p x [] h = absurd h
 in-below-row k l p x (r ∷ rs) h =
     ⊎_elim
     (λ e. inl (ap (λ (q : Row). let s : Row = (other_labels q.0, q.1) in s) e))
     (λ later. inr (in-below-row k l p x rs later)) h
 
-not-behind : (l : Label) (p : List Label) (x : Tree × ℕ) (cs : List Child) → IsBefore l cs → IsIn (l ∷ p, x) (all_below cs) → ⊥
+pub not-behind : (l : Label) (p : List Label) (x : Tree × ℕ) (cs : List Child) → IsBefore l cs → IsIn (l ∷ p, x) (all_below cs) → ⊥
 not-behind l p x [] b h = h
 not-behind l p x (c ∷ cs) b h =
     ⊎_elim
@@ -312,13 +303,13 @@ none-at-end xs cs vs n none x h named =
 
 -- ---- an empty node
 
-pub rows-empty : (xs : List (Tree × ℕ)) (cs : List Child) → NoneIsEmpty cs → rows (xs, cs) ≡ [] → (length xs ≡ 0) × (length cs ≡ 0)
+pub rows-empty : (xs : List (Tree × ℕ)) (cs : List Child) → NoneIsEmpty cs → rows (xs, cs) ≡ [] → (xs ≡ []) × (length cs ≡ 0)
 rows-empty [] [] n h = (refl, refl)
 rows-empty (x ∷ xs) cs n h = absurd cc
 rows-empty [] ((l, []) ∷ cs) n h = absurd (omega (arith, n.0))
 rows-empty [] ((l, r ∷ rs) ∷ cs) n h = absurd cc
 
-pub rows-of-none : (xs : List (Tree × ℕ)) (cs : List Child) → length xs ≡ 0 → length cs ≡ 0 → rows (xs, cs) ≡ []
+pub rows-of-none : (xs : List (Tree × ℕ)) (cs : List Child) → xs ≡ [] → length cs ≡ 0 → rows (xs, cs) ≡ []
 rows-of-none [] [] h k = refl
 rows-of-none (x ∷ xs) cs h k = absurd cc
 rows-of-none [] (c ∷ cs) h k = absurd cc
@@ -354,9 +345,3 @@ pub rows-of-branch :
 rows-of-branch xs bs old b l r x o e h k =
     ap (λ ys. rows (ys, children_of bs)) x ∙ ap (λ cs. rows ([], children_of cs)) (e ∙ ap (λ cs. cs ++ b ∷ []) o)
     ∙ ap (λ m. below m (rows b.node) ++ []) h ∙ ap (λ rs. below l rs ++ []) k
-
-pub rows-of-leaf :
-    (xs old : List (Tree × ℕ)) (x : Tree × ℕ) (bs : List Branch)
-    → old ≡ [] → xs ≡ old ++ x ∷ [] → bs ≡ [] → rows (xs, children_of bs) ≡ ([], x) ∷ []
-rows-of-leaf xs old x bs o e h =
-    ap (λ ys. rows (ys, children_of bs)) (e ∙ ap (λ ys. ys ++ x ∷ []) o) ∙ ap (λ cs. rows (x ∷ [], children_of cs)) h

@@ -2,6 +2,7 @@ pub mod LabelLemmas
 pub mod SlotLemmas
 pub mod PathLemmas
 pub mod PrefixLemmas
+pub mod VisitLemmas
 pub mod FoundLemmas
 pub mod EntryLemmas
 pub mod RemoveLemmas

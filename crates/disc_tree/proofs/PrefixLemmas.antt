@@ -1,12 +1,12 @@
 -- How many nodes a search along a query without variables can visit.
 use Rattle.std.proofs.Common.{◌≡◌, ℕ, ◌+◌, ◌*◌, ◌≤◌, Bool, true, false, ◌&&◌, ◌||◌, List, [], ◌∷◌, ◌++◌, length, refl, ap, ap₂, sym, subst, ◌∙◌, arith, ⊎_elim, inl, inr, if◌then◌else◌}
 use Rattle.std.proofs.lemmas.Bool.{cases_Bool, cond-true, cond-false}
-use Rattle.fol_base.specs.Tree.{Tree, variable, application, Trees, no_trees, tree_then, trees_of, list_of}
+use Rattle.fol_base.specs.Tree.{Tree, application, Trees, trees_of, list_of}
 use Rattle.fol_base.proofs.TreeLemmas.{list_of-trees_of}
 use Rattle.fol_base.specs.Ground.{is_ground, are_ground}
 use Rattle.disc_tree.specs.declared.label.Label.{Label}
 use Rattle.disc_tree.specs.declared.label.Label.TheVariants.{Star, Symbol}
-use Rattle.disc_tree.specs.Path.{head, arguments, path, same_label}
+use Rattle.disc_tree.specs.Path.{head, path, same_label}
 use Rattle.disc_tree.specs.Entries.{IsIn}
 use Rattle.disc_tree.specs.Rows.{Row, Child, here, below, all_below, rows, rows_at, entries_of, HavePaths}
 use Rattle.disc_tree.specs.Prefixes.{can_read, behind, prefixes, all_prefixes, readable, same_path, has_path, different, compatible_prefixes, AreGround, IsCompatible, HasCompatible, StaysWithin, FollowsWithin}
@@ -24,7 +24,7 @@ in-right x (z ∷ xs) ys h = inr (in-right x xs ys h)
 
 -- ---- the prefixes that begin with a label, without it
 
-abbrev tails : Label → List (List Label) → List (List Label)
+abbrev pub tails : Label → List (List Label) → List (List Label)
 tails l [] = []
 tails l ([] ∷ ps) = tails l ps
 tails l ((k ∷ p) ∷ ps) = if same_label k l then p ∷ tails l ps else tails l ps
@@ -165,20 +165,20 @@ star-steps g us ms xs cs before after star ps empty has =
 
 -- ---- terms without variables
 
-and-left : (a b : Bool) → (a && b) ≡ true → a ≡ true
+pub and-left : (a b : Bool) → (a && b) ≡ true → a ≡ true
 and-left true b h = refl
 and-left false b h = cc
 
-and-right : (a b : Bool) → (a && b) ≡ true → b ≡ true
+pub and-right : (a b : Bool) → (a && b) ≡ true → b ≡ true
 and-right true b h = h
 and-right false b h = cc
 
-all-ground : (us : List Tree) → are_ground (trees_of us) ≡ true → AreGround us
+pub all-ground : (us : List Tree) → are_ground (trees_of us) ≡ true → AreGround us
 all-ground [] h = tt
 all-ground (u ∷ us) h =
     (and-left (is_ground u) (are_ground (trees_of us)) h, all-ground us (and-right (is_ground u) (are_ground (trees_of us)) h))
 
-ground-append : (us ts : List Tree) → AreGround us → AreGround ts → AreGround (us ++ ts)
+pub ground-append : (us ts : List Tree) → AreGround us → AreGround ts → AreGround (us ++ ts)
 ground-append [] ts g h = h
 ground-append (u ∷ us) ts g h = (g.0, ground-append us ts g.1 h)
 
@@ -251,7 +251,7 @@ in-readable ts p (q ∷ ps) read h =
     if-more true k = inr k
     if-more false k = k
 
-same-path-is : (p q : List Label) → same_path p q ≡ true → p ≡ q
+pub same-path-is : (p q : List Label) → same_path p q ≡ true → p ≡ q
 same-path-is [] [] h = refl
 same-path-is [] (l ∷ q) h = cc
 same-path-is (k ∷ p) [] h = cc

@@ -1,25 +1,60 @@
 -- An entry that is looked for in a list, and taken out of it.
-use Rattle.std.proofs.Common.{◌≡◌, ℕ, zero, suc, ◌+◌, ◌<◌, ◌≤◌, List, [], ◌∷◌, ◌++◌, length, take, drop, get_or, refl, ap, sym, subst, ◌∙◌, arith, ⊎_elim, inl, inr}
-use Rattle.std.specs.Prelude.{remove, slice_set}
-use Rattle.std.proofs.lemmas.List.{take_all}
+use Rattle.std.proofs.Common.{◌≡◌, ◌⊎◌, ℕ, zero, suc, ◌+◌, ◌<◌, ◌≤◌, List, [], ◌∷◌, ◌++◌, length, take, drop, get_or, refl, ap, sym, subst, ◌∙◌, arith, ⊎_elim, inl, inr}
+use Rattle.std.specs.Prelude.{remove, insert, slice_set}
+use Rattle.std.specs.List.{AllWithin}
+use Rattle.std.specs.List.Sorted.{IsNonDecreasingBy}
+use Rattle.std.proofs.lemmas.List.{take-append-drop, get_or_default}
+use Rattle.std.proofs.lemmas.List.Edits.{length-remove, get_or-remove_below, get_or-remove_above}
 use Rattle.fol_base.specs.Tree.{Tree}
-use Rattle.disc_tree.specs.Entries.{IsIn, IsWith}
-use Rattle.disc_tree.specs.Rows.{IsNamed, IsNoEntry}
+use Rattle.disc_tree.specs.Entries.{IsWith}
+use Rattle.disc_tree.specs.Rows.{number_of, IsNamed, IsNoEntry}
 
-pub no-entry-more :
+below-or-not : (k i : ℕ) → (k < i) ⊎ (i ≤ k)
+below-or-not k zero = inr (omega arith)
+below-or-not zero (suc i) = inl (omega arith)
+below-or-not (suc k) (suc i) = ⊎_elim (λ h. inl (omega (arith, h))) (λ h. inr (omega (arith, h))) (below-or-not k i)
+
+-- an entry with other variables or another number
+abbrev pub IsOther : List ℕ → ℕ → Tree × ℕ → Type 0
+IsOther vs n e = IsNamed vs n e → ⊥
+
+pub none-within : (vs : List ℕ) (n : ℕ) (xs : List (Tree × ℕ)) → AllWithin (IsOther vs n) xs 0 (length xs) → IsNoEntry vs n xs
+none-within vs n [] others e is_in named = is_in
+none-within vs n (x ∷ xs) others e is_in named =
+    ⊎_elim (λ same. others 0 x (omega arith) (omega arith) (subst (IsNamed vs n) same named))
+    (λ later. none-within vs n xs (λ k d low high. others (suc k) d (omega arith) (omega (arith, high))) e later named) is_in
+
+-- where the numbers rise and an entry has a greater one, none behind it has the number
+pub none-past :
     (vs : List ℕ) (n : ℕ) (xs : List (Tree × ℕ)) (i : ℕ) (x : Tree × ℕ)
-    → IsNoEntry vs n (take i xs) → (IsNamed vs n x → ⊥) → i < length xs → x ≡ get_or xs i x → IsNoEntry vs n (take (i + 1) xs)
-no-entry-more vs n [] i x none other h e z is_in named = absurd (omega arith)
-no-entry-more vs n (y ∷ xs) zero x none other h e z is_in named =
-    ⊎_elim (λ same. other (subst (IsNamed vs n) (same ∙ sym e) named)) (λ later. later) is_in
-no-entry-more vs n (y ∷ xs) (suc i) x none other h e z is_in named =
-    let step : suc i + 1 ≡ suc (i + 1) = omega arith in
-    ⊎_elim (λ same. none z (inl same) named)
-    (λ later. no-entry-more vs n xs i x (λ w in_front w_named. none w (inr in_front) w_named) other (omega arith) e z later named)
-    (subst (λ k. IsIn z (take k (y ∷ xs))) step is_in)
+    → IsNonDecreasingBy number_of xs → i < length xs → x ≡ get_or xs i x → (number_of x ≡ n → ⊥)
+    → AllWithin (IsOther vs n) xs 0 i → AllWithin (λ e. n ≤ number_of e) xs i (length xs) → IsNoEntry vs n xs
+none-past vs n xs i x sorted h e other before after =
+    none-within vs n xs
+    (λ k d low high.
+    ⊎_elim (λ front. before k d low front)
+    (λ back named.
+    let at : number_of (get_or xs i d) ≡ number_of x = ap number_of (get_or_default xs i d x h ∙ sym e) in
+    other (omega (arith, at, after i d (omega arith) h, sorted i k d back high, named.1)))
+    (below-or-not k i))
 
-pub no-entry-all : (vs : List ℕ) (n : ℕ) (xs : List (Tree × ℕ)) (i : ℕ) → length xs ≤ i → IsNoEntry vs n (take i xs) → IsNoEntry vs n xs
-no-entry-all vs n xs i h none = subst (IsNoEntry vs n) (take_all i xs h) none
+pub sorted-without :
+    (xs : List (Tree × ℕ)) (i : ℕ) → i < length xs → IsNonDecreasingBy number_of xs → IsNonDecreasingBy number_of (remove xs i)
+sorted-without xs i h sorted a b d le lt =
+    let shorter : length (remove xs i) + 1 ≡ length xs = length-remove xs i h in
+    let below = λ (k : ℕ) (low : k < i). ap number_of (get_or-remove_below xs i d k low h) in
+    let above = λ (k : ℕ) (high : i ≤ k). ap number_of (get_or-remove_above xs i d k high h) in
+    ⊎_elim (λ b_low. omega (arith, below a (omega (arith, le, b_low)), below b b_low, sorted a b d le (omega (arith, lt, shorter))))
+    (λ b_high.
+    ⊎_elim
+    (λ a_low. omega (arith, below a a_low, above b b_high, sorted a (b + 1) d (omega (arith, le)) (omega (arith, lt, shorter))))
+    (λ a_high.
+    omega (arith, above a a_high, above b b_high, sorted (a + 1) (b + 1) d (omega (arith, le)) (omega (arith, lt, shorter))))
+    (below-or-not a i))
+    (below-or-not b i)
+
+pub entry-put : (xs : List (Tree × ℕ)) (i : ℕ) (x : Tree × ℕ) → IsWith x xs (insert xs i x)
+entry-put xs i x = record { front = take i xs; back = drop i xs; without = sym (take-append-drop i xs); with_it = refl }
 
 pub entry-taken : (xs : List (Tree × ℕ)) (i : ℕ) (x : Tree × ℕ) → i < length xs → x ≡ get_or xs i x → IsWith x (remove xs i) xs
 entry-taken xs i x h e = record {

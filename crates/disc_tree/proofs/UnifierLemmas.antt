@@ -1,8 +1,8 @@
 -- Terms that unify or match are compatible.
-use Rattle.std.proofs.Common.{◌≡◌, ℕ, Bool, true, false, ◌&&◌, ◌==◌, refl, ap, sym, eq-eqb}
+use Rattle.std.proofs.Common.{◌≡◌, ℕ, true, false, ◌==◌, refl, ap, sym, eq-eqb}
 use Rattle.std.proofs.lemmas.Bool.{and_from}
 use Rattle.fol_base.specs.Tree.{Tree, variable, application, Trees, no_trees, tree_then}
-use Rattle.fol_base.specs.Instance.{Substitution, instance, instances}
+use Rattle.fol_base.specs.Instance.{Substitution, instances}
 use Rattle.fol_base.specs.Compatible.{compatible_by, all_compatible_by}
 use Rattle.disc_tree.specs.Laws.{UnifiableAreCompatible, GeneralisationsAreCompatible, InstancesAreCompatible}
 

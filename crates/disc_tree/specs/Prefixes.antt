@@ -1,5 +1,5 @@
 -- The compatible prefixes of a query without variables, by which the reads of a search are counted (McCune 1992).
-use Rattle.std.specs.Prelude.{◌≡◌, ℕ, ◌+◌, ◌*◌, ◌≤◌, Bool, true, false, ◌&&◌, ◌||◌, List, [], ◌∷◌, ◌++◌, length, ⊤, if◌then◌else◌}
+use Rattle.std.specs.Prelude.{◌≡◌, ◌⊎◌, ℕ, ◌+◌, ◌*◌, ◌≤◌, Bool, true, false, ◌&&◌, ◌||◌, List, [], ◌∷◌, ◌++◌, length, ⊤, if◌then◌else◌}
 use Rattle.fol_base.specs.Tree.{Tree}
 use Rattle.fol_base.specs.Ground.{is_ground}
 use Rattle.disc_tree.specs.declared.label.Label.{Label}
@@ -79,3 +79,23 @@ StaysWithin ts rs before after = (ps : List (List Label)) → IsIn [] ps → Has
 -- the same with one step for the look-up by which the node is reached, if there is one
 abbrev pub FollowsWithin : List Tree → List Row → ℕ → ℕ → Type 0
 FollowsWithin ts rs before after = (ps : List (List Label)) → HasCompatible ts rs ps → after ≤ before + 1 + 2 * length ps
+
+-- no path stands in a list twice
+abbrev pub AreDifferent : List (List Label) → Type 0
+AreDifferent [] = ⊤
+AreDifferent (p ∷ ps) = (IsIn p ps → ⊥) × AreDifferent ps
+
+-- a list of some of them
+abbrev pub AreCompatible : List Tree → List Row → List (List Label) → Type 0
+AreCompatible ts rs ps = (p : List Label) → IsIn p ps → IsCompatible ts rs p
+
+-- at least one step for each of them and the empty one, from a node on
+abbrev pub VisitsEach : List Tree → List Row → ℕ → ℕ → Type 0
+VisitsEach ts rs before after =
+    (ps : List (List Label))
+    → AreDifferent ps → ((p : List Label) → IsIn p ps → (p ≡ []) ⊎ IsCompatible ts rs p) → before + length ps ≤ after
+
+-- the same, and one step for the look-up by which the node is reached, if there is one
+abbrev pub FollowsEach : List Tree → List Row → ℕ → ℕ → Type 0
+FollowsEach ts rs before after =
+    (ps : List (List Label)) → AreDifferent ps → AreCompatible ts rs ps → before + 1 + length ps ≤ after

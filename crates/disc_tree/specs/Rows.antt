@@ -95,6 +95,9 @@ found_in entry_varies query_varies k ts (r ∷ rs) =
     then r.1.1 ∷ found_in entry_varies query_varies k ts rs
     else found_in entry_varies query_varies k ts rs
 
+abbrev pub number_of : Tree × ℕ → ℕ
+number_of e = e.1
+
 -- the entries' numbers
 abbrev pub numbers_of : List (Tree × ℕ) → List ℕ
 numbers_of [] = []

@@ -7,6 +7,7 @@ pub mod laws;
 mod node;
 mod query;
 mod scan;
+mod sorted;
 mod steps;
 mod tree;
 mod work;
@@ -15,5 +16,7 @@ pub use scan::is_compatible;
 pub use steps::Steps;
 pub use tree::DiscTree;
 
+#[cfg(test)]
+mod many_tests;
 #[cfg(test)]
 mod tests;

@@ -6,11 +6,12 @@ ghost use Rattle.fol_base.specs.Term.{tree_of};
 ghost use Rattle.disc_tree.specs.Entries.{IsWith};
 ghost use Rattle.disc_tree.specs.Path.{path_of_all};
 ghost use Rattle.disc_tree.specs.Work.{trees_left};
-ghost use Rattle.disc_tree.specs.Rows.{rows, rows_at, weight, IsSound, IsAt, IsGap, IsChildAt, Rise, IsTaken, IsNone, IsEntryTaken, IsNoEntry};
+ghost use Rattle.disc_tree.specs.Rows.{rows, rows_at, weight, IsSound, IsAt, IsGap, IsChildAt, Rise, IsTaken, IsNone};
 ghost use Rattle.disc_tree.specs.Children.{children_of};
 
 use crate::entry::Entry;
 use crate::label::Label;
+use crate::sorted::SortedEntries;
 use crate::steps::Steps;
 use crate::work::{Rest, arguments_of};
 use fol_base::{Mem, Term};
@@ -22,7 +23,7 @@ use std::sync::ledger::Ledger;
 #[derive(Drop)]
 #[cycle(nodes)]
 pub(crate) struct Node {
-    entries: Vec<Entry>,
+    entries: SortedEntries,
     branches: Vec<Branch>,
 }
 
@@ -49,7 +50,7 @@ impl Model for Node {
     ghost use Rattle.disc_tree.specs.Rows.{rows, weight, IsSound};
     ghost use Rattle.disc_tree.specs.Children.{children_of};
 
-    ghost view = { λ a. (a.entries.items, children_of a.branches.items) };
+    ghost view = { λ a. (a.entries, children_of a.branches.items) };
 
     ghost invariant = { λ a. IsSound (children_of a.branches.items) };
 
@@ -58,7 +59,7 @@ impl Model for Node {
     ghost use Rattle.std.proofs.Common.{arith};
     ghost use Rattle.disc_tree.specs.Falls.{most-deep-rows-≤};
 
-    ghost size_decreases = { λ a h. Prim.omega (arith, most-deep-rows-≤ a.entries.items a.branches.items h.none_is_empty) };
+    ghost size_decreases = { λ a h. Prim.omega (arith, most-deep-rows-≤ a.entries a.branches.items h.none_is_empty) };
 }
 
 impl Node {
@@ -67,7 +68,7 @@ impl Node {
         ensures { result ≡ ([], []) }
     {
         Node {
-            entries: Vec::new(alloc),
+            entries: SortedEntries::new(alloc),
             branches: Vec::new(alloc),
         }
     }
@@ -129,8 +130,7 @@ impl Node {
         ensures err { OnErr result (self.new ≡ self.old) }
     {
         let Rest::Then(first, more, below) = rest else {
-            self.entries.push(entry)?;
-            return Ok(());
+            return self.entries.put(entry);
         };
         let after = Rest::of(more, below);
         let next = Rest::of(arguments_of(first), &after);
@@ -153,10 +153,8 @@ impl Node {
         ensures { IfOk result (λ node. rows node ≡ (path_of_all (trees_left rest.now), entry) ∷ []) }
     {
         let Rest::Then(first, more, below) = rest else {
-            let mut entries = Vec::with_capacity(alloc, 1)?;
-            entries.push(entry)?;
             return Ok(Node {
-                entries,
+                entries: SortedEntries::with_one(alloc, entry)?,
                 branches: Vec::new(alloc),
             });
         };
@@ -169,7 +167,7 @@ impl Node {
             node,
         })?;
         Ok(Node {
-            entries: Vec::new(alloc),
+            entries: SortedEntries::new(alloc),
             branches,
         })
     }
@@ -184,7 +182,7 @@ impl Node {
         ensures unchanged { result ≡ false → self.new ≡ self.old }
     {
         let Rest::Then(first, more, below) = rest else {
-            return remove_entry(&mut self.entries, term, number);
+            return self.entries.take(term, number);
         };
         let after = Rest::of(more, below);
         let next = Rest::of(arguments_of(first), &after);
@@ -199,21 +197,6 @@ impl Node {
         }
         true
     }
-}
-
-/// Takes the first entry with a number and a term's variables out of a list, and says whether there was one.
-fn remove_entry(entries: &mut Vec<Entry>, term: &Term, number: u64) -> bool
-    ensures removed { IsTrue result → IsEntryTaken (tree_variables (tree_of term.now)) number entries.old.items entries.new.items }
-    ensures absent { result ≡ false → IsNoEntry (tree_variables (tree_of term.now)) number entries.old.items }
-    ensures unchanged { result ≡ false → entries.new.items ≡ entries.old.items }
-{
-    for index in 0..entries.len() {
-        if entries[index].is_for(term, number) {
-            let _ = entries.remove(index);
-            return true;
-        }
-    }
-    false
 }
 
 /// Where the child with a label stands, or would go, by halving.

@@ -1,9 +1,9 @@
 // What a query finds.
 
-ghost use Rattle.std.specs.Prelude.{◌≡◌, ◌+◌, ◌++◌, [], suc, true, IfOk, if◌then◌else◌};
+ghost use Rattle.std.specs.Prelude.{◌≡◌, ◌≤◌, ◌+◌, ◌++◌, [], suc, true, IfOk, if◌then◌else◌};
 ghost use Rattle.disc_tree.specs.Work.{trees_left, terms_left};
 ghost use Rattle.disc_tree.specs.Rows.{rows, rows_at, found_in, numbers_of, Rise};
-ghost use Rattle.disc_tree.specs.Prefixes.{AreGround, StaysWithin, FollowsWithin};
+ghost use Rattle.disc_tree.specs.Prefixes.{AreGround, StaysWithin, FollowsWithin, VisitsEach, FollowsEach};
 ghost use Rattle.disc_tree.specs.declared.label.Label.TheVariants.{Star};
 
 use crate::label::Label;
@@ -20,6 +20,26 @@ pub(crate) struct Varying {
     pub(crate) query: bool,
 }
 
+impl Varying {
+    /// For terms that unify.
+    pub(crate) const BOTH: Varying = Varying {
+        entry: true,
+        query: true,
+    };
+
+    /// For generalisations.
+    pub(crate) const ENTRIES: Varying = Varying {
+        entry: true,
+        query: false,
+    };
+
+    /// For instances.
+    pub(crate) const QUERIES: Varying = Varying {
+        entry: false,
+        query: true,
+    };
+}
+
 /// Adds the numbers of the node's entries whose paths fit what is left, in the tree's order.
 #[cycle(collect)]
 pub(crate) fn collect<L: Ledger>(
@@ -34,6 +54,9 @@ pub(crate) fn collect<L: Ledger>(
         ≡ found.old.items ++ found_in varying.entry varying.query (terms_left skipped.now) (trees_left rest.now) (rows node.now)) }
     ensures steps { terms_left skipped.now ≡ 0 → AreGround (trees_left rest.now)
         → StaysWithin (trees_left rest.now) (rows node.now) steps.old steps.new }
+    ensures visits { IfOk result (λ _. varying.entry ≡ true → terms_left skipped.now ≡ 0 → AreGround (trees_left rest.now)
+        → VisitsEach (trees_left rest.now) (rows node.now) steps.old steps.new) }
+    ensures counter { steps.old ≤ steps.new }
 {
     if let Skipped::More(count, below) = skipped {
         let fewer = Skipped::of(*count, below);
@@ -75,6 +98,9 @@ fn collect_star<L: Ledger>(
     ensures order { varying.entry ≡ true → Rise node.now.1 }
     ensures steps { AreGround (trees_left rest.now)
         → FollowsWithin (trees_left rest.now) (rows_at Star node.now.1) steps.old steps.new }
+    ensures visits { IfOk result (λ _. varying.entry ≡ true → AreGround (trees_left rest.now)
+        → FollowsEach (trees_left rest.now) (rows_at Star node.now.1) steps.old steps.new) }
+    ensures counter { steps.old ≤ steps.new }
 {
     if varying.entry {
         collect_child(node, Label::Star, rest, varying, found, steps)
@@ -98,6 +124,9 @@ fn collect_child<L: Ledger>(
     ensures order { Rise node.now.1 }
     ensures steps { AreGround (trees_left rest.now)
         → FollowsWithin (trees_left rest.now) (rows_at label node.now.1) steps.old steps.new }
+    ensures visits { IfOk result (λ _. varying.entry ≡ true → AreGround (trees_left rest.now)
+        → FollowsEach (trees_left rest.now) (rows_at label node.now.1) steps.old steps.new) }
+    ensures counter { steps.old ≤ steps.new }
 {
     match node.child(label, steps) {
         Some(child) => collect(child, &Skipped::Closed, rest, varying, found, steps),
@@ -115,8 +144,9 @@ fn collect_children<L: Ledger>(
     found: &mut Vec<u64>,
     steps: &mut Steps<L>,
 ) -> Mem<()>
-    ensures { IfOk result (λ _. found.new.items
+    ensures found { IfOk result (λ _. found.new.items
         ≡ found.old.items ++ found_in varying.entry varying.query (suc (terms_left skipped.now)) (trees_left rest.now) (rows node.now)) }
+    ensures counter { steps.old ≤ steps.new }
 {
     for index in 0..node.width() {
         let (label, child) = node.child_at(index, &mut *steps);

@@ -17,17 +17,17 @@ const F: u32 = 3;
 
 const G: u32 = 4;
 
-fn constant(alloc: Global, symbol: u32) -> Term {
+pub(crate) fn constant(alloc: Global, symbol: u32) -> Term {
     Term::App(symbol, Terms::new(alloc))
 }
 
-fn unary(alloc: Global, symbol: u32, argument: Term) -> Mem<Term> {
+pub(crate) fn unary(alloc: Global, symbol: u32, argument: Term) -> Mem<Term> {
     let mut arguments = Terms::new(alloc);
     arguments.push(argument)?;
     Ok(Term::App(symbol, arguments))
 }
 
-fn binary(alloc: Global, symbol: u32, first: Term, second: Term) -> Mem<Term> {
+pub(crate) fn binary(alloc: Global, symbol: u32, first: Term, second: Term) -> Mem<Term> {
     let mut arguments = Terms::new(alloc);
     arguments.push(first)?;
     arguments.push(second)?;
@@ -140,7 +140,7 @@ fn a_symbol_with_more_arguments_is_another(rt: HostRuntime) -> Result<(), Fail> 
 }
 
 /// The next number of a linear congruence (Knuth, 1999).
-fn next(seed: &mut u64) -> u64 {
+pub(crate) fn next(seed: &mut u64) -> u64 {
     *seed = seed
         .wrapping_mul(6_364_136_223_846_793_005)
         .wrapping_add(1_442_695_040_888_963_407);

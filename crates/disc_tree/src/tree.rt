@@ -81,13 +81,7 @@ impl DiscTree {
     pub fn unifiable(&self, query: &Term) -> Mem<Numbers>
         ensures { IfOk result (λ numbers. numbers ≡ numbers_where (λ term. compatible term (tree_of query.now)) self.now) }
     {
-        self.find_uncounted(
-            query,
-            Varying {
-                entry: true,
-                query: true,
-            },
-        )
+        self.find_uncounted(query, Varying::BOTH)
     }
 
     /// The same where only a variable of the entry stands for another term: of those that may be generalisations of the query.
@@ -95,13 +89,7 @@ impl DiscTree {
         ensures { IfOk result (λ numbers.
             numbers ≡ numbers_where (λ term. compatible_generalisation term (tree_of query.now)) self.now) }
     {
-        self.find_uncounted(
-            query,
-            Varying {
-                entry: true,
-                query: false,
-            },
-        )
+        self.find_uncounted(query, Varying::ENTRIES)
     }
 
     /// The same where only a variable of the query does: of those that may be instances of it.
@@ -109,13 +97,7 @@ impl DiscTree {
         ensures { IfOk result (λ numbers.
             numbers ≡ numbers_where (λ term. compatible_instance term (tree_of query.now)) self.now) }
     {
-        self.find_uncounted(
-            query,
-            Varying {
-                entry: false,
-                query: true,
-            },
-        )
+        self.find_uncounted(query, Varying::QUERIES)
     }
 
     /// What `unifiable` answers. Each read of a node, a child by its label or the entries of a node, is a step.
@@ -124,15 +106,11 @@ impl DiscTree {
             numbers ≡ numbers_where (λ term. compatible term (tree_of query.now)) self.now) }
         ensures steps { is_ground (tree_of query.now) ≡ true
             → steps.new ≤ steps.old + 2 * compatible_prefixes (tree_of query.now) self.now }
+        ensures visits { IfOk result (λ _. is_ground (tree_of query.now) ≡ true
+            → steps.old + compatible_prefixes (tree_of query.now) self.now ≤ steps.new) }
+        ensures counter { steps.old ≤ steps.new }
     {
-        self.find(
-            query,
-            Varying {
-                entry: true,
-                query: true,
-            },
-            steps,
-        )
+        self.find(query, Varying::BOTH, steps)
     }
 
     /// What `generalisations` answers, with a step for each read of a node.
@@ -145,15 +123,11 @@ impl DiscTree {
             numbers ≡ numbers_where (λ term. compatible_generalisation term (tree_of query.now)) self.now) }
         ensures steps { is_ground (tree_of query.now) ≡ true
             → steps.new ≤ steps.old + 2 * compatible_prefixes (tree_of query.now) self.now }
+        ensures visits { IfOk result (λ _. is_ground (tree_of query.now) ≡ true
+            → steps.old + compatible_prefixes (tree_of query.now) self.now ≤ steps.new) }
+        ensures counter { steps.old ≤ steps.new }
     {
-        self.find(
-            query,
-            Varying {
-                entry: true,
-                query: false,
-            },
-            steps,
-        )
+        self.find(query, Varying::ENTRIES, steps)
     }
 
     /// The numbers of the entries whose term is compatible with the query, where these variables may stand for terms.
@@ -162,6 +136,9 @@ impl DiscTree {
             numbers ≡ numbers_where (λ term. compatible_by varying.entry varying.query term (tree_of query.now)) self.now) }
         ensures steps { is_ground (tree_of query.now) ≡ true
             → steps.new ≤ steps.old + 2 * compatible_prefixes (tree_of query.now) self.now }
+        ensures visits { IfOk result (λ _. varying.entry ≡ true → is_ground (tree_of query.now) ≡ true
+            → steps.old + compatible_prefixes (tree_of query.now) self.now ≤ steps.new) }
+        ensures counter { steps.old ≤ steps.new }
     {
         let mut found = Vec::new(self.alloc);
         let rest = Rest::Then(query, &[], &Rest::Nothing);

@@ -8,6 +8,7 @@ use Rattle.disc_tree.specs.Work.{trees_left, terms_left}
 use Rattle.disc_tree.specs.Rows.{rows, rows_at, weight, found_in, all_below}
 use Rattle.disc_tree.proofs.FoundLemmas.{if_ok-map, end-step, variable-step, star-step, application-step, children-more, found-passing}
 use Rattle.disc_tree.proofs.PrefixLemmas.{application-is, stays-star, stays-application, follows-child}
+use Rattle.disc_tree.proofs.VisitLemmas.{visits-application, visits-end, follows-each, follows-none}
 use Rattle.disc_tree.proofs.query.+collect.Goals as goal
 
 pub collect-returns-in_default-rest-clause-found : goal.collect-returns-in_default-rest-clause-found
@@ -26,7 +27,7 @@ collect-returns-then-varying-clause-found g t c =
     (map tree_of c.in-Then.more.now ++ trees_left c.in-Then.below.now) (trees_left c.of-after.result) (tree_of c.in-Then.first.now)
     c.args.node.now.0 c.args.node.now.1 (ap terms_left c.in_default.is) (ap trees_left c.in-Then.is) c.of-after.ensures
     (ap tree_of c.in-Var.is) c.if-varying.true)))
-    c.collect_children-then-varying.ensures
+    c.collect_children-then-varying.ensures.found
 
 pub collect-returns-else-varying-clause-found : goal.collect-returns-else-varying-clause-found
 collect-returns-else-varying-clause-found g t c =
@@ -89,6 +90,39 @@ collect-returns-in_ok-collect_child-in-App-clause-steps g t c none ground =
     (c.of.ensures ∙ ap (λ x. head (tree_of x)) c.in-App.is) c.in_ok-collect_star-in-App.ensures.steps
     c.in_ok-collect_child-in-App.ensures.steps ground
 
+pub collect-returns-in_default-rest-clause-visits : goal.collect-returns-in_default-rest-clause-visits
+collect-returns-in_default-rest-clause-visits g t c =
+    if_ok-map c.push_numbers.result
+    (λ e entry none ground.
+    visits-end (trees_left c.args.rest.now) (rows c.args.node.now) c.args.steps.now c.push_numbers.new.steps
+    (ap trees_left c.in_default-rest.is) c.push_numbers.ensures.step)
+    c.push_numbers.ensures.found
+
+pub collect-returns-in_ok-collect_child-in-App-clause-visits : goal.collect-returns-in_ok-collect_child-in-App-clause-visits
+collect-returns-in_ok-collect_child-in-App-clause-visits g t c entry none ground =
+    visits-application c.in-App.field-0 c.in-App.arguments (trees_left c.args.rest.now) (trees_left c.of-after.result)
+    (trees_left c.of-next.result) c.of.result c.args.node.now.0 c.args.node.now.1 c.args.steps.now c.collect_star-in-App.new.steps
+    c.collect_child.new.steps
+    (application-is c.in-App.field-0 c.in-App.arguments (trees_left c.args.rest.now)
+    (map tree_of c.in-Then.more.now ++ trees_left c.in-Then.below.now) (trees_left c.of-after.result) (tree_of c.in-Then.first.now)
+    (ap trees_left c.in-Then.is) c.of-after.ensures (ap tree_of c.in-App.is))
+    (c.of-next.ensures ∙ ap (λ ts. ts ++ trees_left c.of-after.result) c.as_slice.ensures)
+    (c.of.ensures ∙ ap (λ x. head (tree_of x)) c.in-App.is) c.in_ok-collect_child-in-App.ensures.order
+    (c.in_ok-collect_star-in-App.ensures.visits entry) (c.in_ok-collect_child-in-App.ensures.visits entry) ground
+
+pub collect_child-returns-in-Some-clause-visits : goal.collect_child-returns-in-Some-clause-visits
+collect_child-returns-in-Some-clause-visits g t c =
+    if_ok-map c.collect.result
+    (λ visits entry ground.
+    follows-each (trees_left c.args.rest.now) (rows_at c.args.label c.args.node.now.1) (rows c.in-Some.child.now) c.args.steps.now
+    c.child.new.steps c.collect.new.steps c.in-Some.ensures.child c.in-Some.ensures.step (visits entry refl ground))
+    c.collect.ensures.visits
+
+pub collect_child-returns-in-None-clause-visits : goal.collect_child-returns-in-None-clause-visits
+collect_child-returns-in-None-clause-visits g t c entry ground =
+    follows-none (trees_left c.args.rest.now) (rows_at c.args.label c.args.node.now.1) c.args.steps.now c.child.new.steps
+    c.in-None.ensures.child c.in-None.ensures.step
+
 pub collect_child-returns-in-Some-clause-steps : goal.collect_child-returns-in-Some-clause-steps
 collect_child-returns-in-Some-clause-steps g t c ground =
     follows-child (trees_left c.args.rest.now) (rows_at c.args.label c.args.node.now.1) (rows c.in-Some.child.now) c.args.steps.now
@@ -109,22 +143,24 @@ collect_children-loop-index-preserved g t c =
     let ts : List Tree = trees_left c.args.rest.now in
     let before : List ℕ = found_in e q (suc k) ts (all_below (take c.loop-index.index c.args.node.now.1)) in
     let inner : terms_left c.of-inner.result ≡ arity c.child_at-label.result.0 + k =
-    c.of-inner.ensures ∙ ap (λ n. n + k) c.arity.ensures in
-    c.in_ok-collect.ensures.found
-    ∙ ap (λ n. c.loop-index.found.items ++ found_in e q n ts (rows c.child_at-label.result.1.now)) inner
-    ∙ ap (λ ns. ns ++ found_in e q (arity c.child_at-label.result.0 + k) ts (rows c.child_at-label.result.1.now)) c.loop-index.invariant
-    ∙ append_assoc c.args.found.now.items before (found_in e q (arity c.child_at-label.result.0 + k) ts (rows c.child_at-label.result.1.now))
-    ∙ ap (λ ns. c.args.found.now.items ++ ns)
-    (sym (children-more e q k ts c.args.node.now.1 c.loop-index.index c.child_at-label.result.0 (rows c.child_at-label.result.1.now)
-    (omega (arith, c.loop-index-test.true, c.width-index-end.ensures)) c.child_at-label.ensures.child))
+    c.of-inner.ensures ∙ ap (λ n. n + k) c.arity.ensures in (
+      c.in_ok-collect.ensures.found
+          ∙ ap (λ n. c.loop-index.found.items ++ found_in e q n ts (rows c.child_at-label.result.1.now)) inner
+          ∙ ap (λ ns. ns ++ found_in e q (arity c.child_at-label.result.0 + k) ts (rows c.child_at-label.result.1.now)) c.loop-index.invariant.0
+          ∙ append_assoc c.args.found.now.items before (found_in e q (arity c.child_at-label.result.0 + k) ts (rows c.child_at-label.result.1.now))
+          ∙ ap (λ ns. c.args.found.now.items ++ ns)
+          (sym (children-more e q k ts c.args.node.now.1 c.loop-index.index c.child_at-label.result.0 (rows c.child_at-label.result.1.now)
+          (omega (arith, c.loop-index-test.true, c.width-index-end.ensures)) c.child_at-label.ensures.child)),
+      omega (arith, c.loop-index.invariant.1, c.child_at-label.ensures.step, c.in_ok-collect.ensures.counter),
+    )
 
-pub collect_children-returns : goal.collect_children-returns
-collect_children-returns g t c =
+pub collect_children-returns-clause-found : goal.collect_children-returns-clause-found
+collect_children-returns-clause-found g t c =
     let e : Bool = c.args.varying.entry in
     let q : Bool = c.args.varying.query in
     let k : ℕ = terms_left c.args.skipped.now in
     let ts : List Tree = trees_left c.args.rest.now in
-    c.loop-index.invariant
+    c.loop-index.invariant.0
     ∙ ap (λ ns. c.args.found.now.items ++ ns)
     (ap (λ cs. found_in e q (suc k) ts (all_below cs))
     (take_all c.loop-index.index c.args.node.now.1 (omega (arith, c.loop-index-test.false, c.width-index-end.ensures)))

@@ -1,4 +1,4 @@
-use Rattle.std.proofs.Common.{◌≡◌, ◌+◌, ◌*◌, ◌++◌, suc, take}
+use Rattle.std.proofs.Common.{◌≡◌, ◌≤◌, ◌+◌, ◌*◌, ◌++◌, suc, take}
 use Rattle.disc_tree.specs.Rows.{rows, weight, all_below, found_in}
 use Rattle.disc_tree.specs.Work.{trees_left, terms_left}
 use Rattle.disc_tree.proofs.query.+collect.Given as goal
@@ -17,6 +17,7 @@ decreases-collect_children g l = 3 * weight (rows l.node.now) + 1
 
 abbrev pub invariant-collect_children-loop-index : goal.invariant-collect_children-loop-index
 invariant-collect_children-loop-index g l =
-    l.found.items
+    (l.found.items
     ≡ l.initial.found.items
-    ++ found_in l.varying.entry l.varying.query (suc (terms_left l.skipped)) (trees_left l.rest) (all_below (take l.index l.node.1))
+    ++ found_in l.varying.entry l.varying.query (suc (terms_left l.skipped)) (trees_left l.rest) (all_below (take l.index l.node.1)))
+    × (l.initial.steps ≤ l.steps)

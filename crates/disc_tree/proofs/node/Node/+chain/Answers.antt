@@ -26,7 +26,7 @@ returns t c =
     path-step (trees_left c.args.rest.now) (map tree_of c.in-Then.more.now ++ trees_left c.in-Then.below.now)
     (trees_left c.of-after.result) (trees_left c.of-next.result) (map tree_of c.arguments_of.result.now) (tree_of c.in-Then.first.now)
     c.of.result (ap trees_left c.in-Then.is) c.of-after.ensures c.of-next.ensures c.arguments_of.ensures c.of.ensures in
-    rows-of-branch c.new-2.result.items c.push-2.new.self.items c.in_ok-branches.branches.items
+    rows-of-branch c.new-2.result c.push.new.self.items c.in_ok-branches.branches.items
     (record { label = c.of.result; node = c.in_ok-node.node }) c.of.result (p, c.args.entry)
-    c.new-2.ensures.items c.in_ok-branches.ensures.items c.in_ok-push-2.ensures.items refl c.in_ok-node.ensures
+    c.new-2.ensures c.in_ok-branches.ensures.items c.in_ok-push.ensures.items refl c.in_ok-node.ensures
     ∙ ap (λ q. let r : Row = (q, c.args.entry) in r ∷ []) (sym whole)

@@ -12,7 +12,8 @@ use Rattle.disc_tree.specs.Children.{child_of, children_of}
 use Rattle.disc_tree.specs.Work.{trees_left}
 use Rattle.disc_tree.proofs.SlotLemmas.{child-get, children-length}
 use Rattle.disc_tree.proofs.ChildLemmas.{child-lighter}
-use Rattle.disc_tree.proofs.EditLemmas.{path-step, with-some, sound-edited, rows-with-more, sound-inserted, rows-inserted, rows-pushed}
+use Rattle.disc_tree.proofs.EditLemmas.{path-step, with-some, sound-edited, rows-with-more, sound-inserted, rows-inserted, rows-with-entry}
+use Rattle.disc_tree.proofs.FoundLemmas.{if_ok-map}
 use Rattle.disc_tree.proofs.node.Node.+insert.Goals as goal
 
 abbrev Content : Type 0
@@ -22,12 +23,14 @@ pub returns-in_default-clause-ok : goal.returns-in_default-clause-ok
 returns-in_default-clause-ok t c =
     let nothing : trees_left c.args.rest.now ≡ [] = search rules in
     let cs : List Child = children_of c.self.inside.branches.items in
-    let pushed : IsWith ([], c.args.entry) (rows (c.self.inside.entries.items, cs)) (rows (c.push.new.self.items, cs)) =
-    subst (λ xs. IsWith ([], c.args.entry) (rows (c.self.inside.entries.items, cs)) (rows (xs, cs))) (sym c.in_ok-push.ensures.items)
-    (rows-pushed c.self.inside.entries.items cs c.args.entry) in
-    let closed : IsWith ([], c.args.entry) (rows c.args.self.now) (rows (c.push.new.self.items, cs)) =
-    subst (λ (v : Content). IsWith ([], c.args.entry) (rows v) (rows (c.push.new.self.items, cs))) c.self.view_is pushed in
-    subst (λ ts. IsWith (path_of_all ts, c.args.entry) (rows c.args.self.now) (rows (c.push.new.self.items, cs))) (sym nothing) closed
+    if_ok-map c.put.result
+    (λ put.
+    let inside : IsWith ([], c.args.entry) (rows (c.self.inside.entries, cs)) (rows (c.put.new.self, cs)) =
+    rows-with-entry c.put.new.self c.self.inside.entries cs c.args.entry put in
+    let closed : IsWith ([], c.args.entry) (rows c.args.self.now) (rows (c.put.new.self, cs)) =
+    subst (λ (v : Content). IsWith ([], c.args.entry) (rows v) (rows (c.put.new.self, cs))) c.self.view_is inside in
+    subst (λ ts. IsWith (path_of_all ts, c.args.entry) (rows c.args.self.now) (rows (c.put.new.self, cs))) (sym nothing) closed)
+    c.put.ensures.ok
 
 pub insert-requires : goal.insert-requires
 insert-requires t c =
@@ -35,7 +38,7 @@ insert-requires t c =
     subst (λ bs. IsAt c.of-label.result (children_of bs) c.in-Ok.at) c.deref.ensures.value c.in-Ok.ensures.found in
     let lighter : weight (rows c.index_mut.result.now.node) < weight (rows c.args.self.now) =
     subst (λ (v : Content). weight (rows c.index_mut.result.now.node) < weight (rows v)) c.self.view_is
-    (child-lighter c.self.inside.entries.items (children_of c.self.inside.branches.items) c.in-Ok.at (child_of c.index_mut.result.now)
+    (child-lighter c.self.inside.entries (children_of c.self.inside.branches.items) c.in-Ok.at (child_of c.index_mut.result.now)
     c.self.invariant.none_is_empty found.in_range
     (child-get c.self.inside.branches.items c.in-Ok.at c.index_mut.result.now
     (omega (arith, found.in_range, children-length c.self.inside.branches.items)) c.index_mut.ensures.value)) in
@@ -76,10 +79,10 @@ returns-in_ok-insert-in-Ok-clause-ok t c =
     let found : IsAt c.of-label.result (children_of c.self.inside.branches.items) c.in-Ok.at =
     subst (λ bs. IsAt c.of-label.result (children_of bs) c.in-Ok.at) c.deref.ensures.value c.in-Ok.ensures.found in
     let branch : Branch = record { label = c.index_mut.result.now.label; node = c.insert.new.self } in
-    let after : Content = (c.self.inside.entries.items, children_of (slice_set c.self.inside.branches.items c.in-Ok.at branch)) in
+    let after : Content = (c.self.inside.entries, children_of (slice_set c.self.inside.branches.items c.in-Ok.at branch)) in
     let row : Row = (path_of_all (trees_left c.of-next.result), c.args.entry) in
-    let inside : IsWith (c.of-label.result ∷ row.0, row.1) (rows (c.self.inside.entries.items, children_of c.self.inside.branches.items)) (rows after) =
-    rows-with-more c.self.inside.entries.items c.of-label.result c.self.inside.branches.items c.in-Ok.at c.index_mut.result.now
+    let inside : IsWith (c.of-label.result ∷ row.0, row.1) (rows (c.self.inside.entries, children_of c.self.inside.branches.items)) (rows after) =
+    rows-with-more c.self.inside.entries c.of-label.result c.self.inside.branches.items c.in-Ok.at c.index_mut.result.now
     c.insert.new.self row found c.index_mut.ensures.value c.in_ok-insert-in-Ok.ensures.ok in
     let closed : IsWith (c.of-label.result ∷ row.0, row.1) (rows c.args.self.now) (rows after) =
     subst (λ (v : Content). IsWith (c.of-label.result ∷ row.0, row.1) (rows v) (rows after)) c.self.view_is inside in
@@ -93,12 +96,12 @@ returns-in_ok-insert-in-Err-clause-ok t c =
     let row : Row = (path_of_all (trees_left c.of-next.result), c.args.entry) in
     let child : child_of branch ≡ (c.of-label.result, row ∷ []) =
     ap (λ rs. let k : Child = (c.of-label.result, rs) in k) c.in_ok-node-in-Err.ensures in
-    let after : Content = (c.self.inside.entries.items, children_of c.insert-in-Err.new.self.items) in
-    let inside : IsWith (c.of-label.result ∷ row.0, row.1) (rows (c.self.inside.entries.items, children_of c.self.inside.branches.items)) (rows after) =
+    let after : Content = (c.self.inside.entries, children_of c.insert-in-Err.new.self.items) in
+    let inside : IsWith (c.of-label.result ∷ row.0, row.1) (rows (c.self.inside.entries, children_of c.self.inside.branches.items)) (rows after) =
     subst
-    (λ bs. IsWith (c.of-label.result ∷ row.0, row.1) (rows (c.self.inside.entries.items, children_of c.self.inside.branches.items)) (rows (c.self.inside.entries.items, children_of bs)))
+    (λ bs. IsWith (c.of-label.result ∷ row.0, row.1) (rows (c.self.inside.entries, children_of c.self.inside.branches.items)) (rows (c.self.inside.entries, children_of bs)))
     (sym c.in_ok-insert-in-Err.ensures.items)
-    (rows-inserted c.self.inside.entries.items c.of-label.result c.self.inside.branches.items c.in-Err.at branch row child) in
+    (rows-inserted c.self.inside.entries c.of-label.result c.self.inside.branches.items c.in-Err.at branch row child) in
     let closed : IsWith (c.of-label.result ∷ row.0, row.1) (rows c.args.self.now) (rows after) =
     subst (λ (v : Content). IsWith (c.of-label.result ∷ row.0, row.1) (rows v) (rows after)) c.self.view_is inside in
     step c.args.rest.now c.of-after.result c.of-next.result (tree_of c.in-Then.first.now)

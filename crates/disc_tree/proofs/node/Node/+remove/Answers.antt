@@ -27,9 +27,9 @@ pub returns-in_default-clause-removed : goal.returns-in_default-clause-removed
 returns-in_default-clause-removed t c h =
     let vs : List ℕ = tree_variables (tree_of c.args.term.now) in
     let cs : List Child = children_of c.self.inside.branches.items in
-    let after : Content = (c.remove_entry.new.entries.items, cs) in
-    let inside : IsTaken [] vs c.args.number (rows (c.self.inside.entries.items, cs)) (rows after) =
-    taken-here c.self.inside.entries.items c.remove_entry.new.entries.items cs vs c.args.number (c.remove_entry.ensures.removed h) in
+    let after : Content = (c.take.new.self, cs) in
+    let inside : IsTaken [] vs c.args.number (rows (c.self.inside.entries, cs)) (rows after) =
+    taken-here c.self.inside.entries c.take.new.self cs vs c.args.number (c.take.ensures.removed h) in
     let closed : IsTaken [] vs c.args.number (rows c.args.self.now) (rows after) =
     subst (λ (v : Content). IsTaken [] vs c.args.number (rows v) (rows after)) c.self.view_is inside in
     subst (λ ts. IsTaken (path_of_all ts) vs c.args.number (rows c.args.self.now) (rows after)) (sym (ap trees_left c.in_default.is)) closed
@@ -38,8 +38,8 @@ pub returns-in_default-clause-absent : goal.returns-in_default-clause-absent
 returns-in_default-clause-absent t c h =
     let vs : List ℕ = tree_variables (tree_of c.args.term.now) in
     let cs : List Child = children_of c.self.inside.branches.items in
-    let inside : IsNone [] vs c.args.number (rows (c.self.inside.entries.items, cs)) =
-    none-at-end c.self.inside.entries.items cs vs c.args.number (c.remove_entry.ensures.absent h) in
+    let inside : IsNone [] vs c.args.number (rows (c.self.inside.entries, cs)) =
+    none-at-end c.self.inside.entries cs vs c.args.number (c.take.ensures.absent h) in
     let closed : IsNone [] vs c.args.number (rows c.args.self.now) =
     subst (λ (v : Content). IsNone [] vs c.args.number (rows v)) c.self.view_is inside in
     subst (λ ts. IsNone (path_of_all ts) vs c.args.number (rows c.args.self.now)) (sym (ap trees_left c.in_default.is)) closed
@@ -51,8 +51,8 @@ returns-in_default-slot-clause-absent t c h =
     let cs : List Child = children_of c.self.inside.branches.items in
     let gap : IsGap c.of.result cs c.in_default-slot.field-0 =
     subst (λ bs. IsGap c.of.result (children_of bs) c.in_default-slot.field-0) c.deref.ensures.value c.in_default-slot.ensures.absent in
-    let inside : IsNone (c.of.result ∷ p) vs c.args.number (rows (c.self.inside.entries.items, cs)) =
-    none-in-gap c.self.inside.entries.items c.of.result p cs c.in_default-slot.field-0 vs c.args.number gap in
+    let inside : IsNone (c.of.result ∷ p) vs c.args.number (rows (c.self.inside.entries, cs)) =
+    none-in-gap c.self.inside.entries c.of.result p cs c.in_default-slot.field-0 vs c.args.number gap in
     let closed : IsNone (c.of.result ∷ p) vs c.args.number (rows c.args.self.now) =
     subst (λ (v : Content). IsNone (c.of.result ∷ p) vs c.args.number (rows v)) c.self.view_is inside in
     subst (λ q. IsNone q vs c.args.number (rows c.args.self.now))
@@ -66,7 +66,7 @@ remove-requires t c =
     subst (λ bs. IsAt c.of.result (children_of bs) c.in-Ok.at) c.deref.ensures.value c.in-Ok.ensures.found in
     let lighter : weight (rows c.index_mut.result.now.node) < weight (rows c.args.self.now) =
     subst (λ (v : Content). weight (rows c.index_mut.result.now.node) < weight (rows v)) c.self.view_is
-    (child-lighter c.self.inside.entries.items (children_of c.self.inside.branches.items) c.in-Ok.at (child_of c.index_mut.result.now)
+    (child-lighter c.self.inside.entries (children_of c.self.inside.branches.items) c.in-Ok.at (child_of c.index_mut.result.now)
     c.self.invariant.none_is_empty found.in_range
     (child-get c.self.inside.branches.items c.in-Ok.at c.index_mut.result.now
     (omega (arith, found.in_range, children-length c.self.inside.branches.items)) c.index_mut.ensures.value)) in
@@ -78,8 +78,8 @@ returns-then-not-remove-clause-absent t c h =
     let p : List Label = path_of_all (trees_left c.of-next.result) in
     let found : IsAt c.of.result (children_of c.self.inside.branches.items) c.in-Ok.at =
     subst (λ bs. IsAt c.of.result (children_of bs) c.in-Ok.at) c.deref.ensures.value c.in-Ok.ensures.found in
-    let inside : IsNone (c.of.result ∷ p) vs c.args.number (rows (c.self.inside.entries.items, children_of c.self.inside.branches.items)) =
-    none-in-child c.self.inside.entries.items c.of.result p c.self.inside.branches.items c.in-Ok.at c.index_mut.result.now vs c.args.number
+    let inside : IsNone (c.of.result ∷ p) vs c.args.number (rows (c.self.inside.entries, children_of c.self.inside.branches.items)) =
+    none-in-child c.self.inside.entries c.of.result p c.self.inside.branches.items c.in-Ok.at c.index_mut.result.now vs c.args.number
     found c.index_mut.ensures.value c.self.invariant.rise (c.remove.ensures.absent c.if-not-remove.true) in
     let closed : IsNone (c.of.result ∷ p) vs c.args.number (rows c.args.self.now) =
     subst (λ (v : Content). IsNone (c.of.result ∷ p) vs c.args.number (rows v)) c.self.view_is inside in
@@ -142,12 +142,12 @@ returns-then-is_empty-clause-removed t c h =
     sym (ap (λ (b : Branch). rows b.node) read) ∙ c.is_empty.ensures.0 c.if-is_empty.true in
     let taken : IsTaken p vs c.args.number (rows c.index_mut.result.now.node) (rows c.remove.new.self) =
     c.remove.ensures.removed c.if-not-remove.false in
-    let before : Content = (c.self.inside.entries.items, children_of c.self.inside.branches.items) in
-    let after : Content = (c.self.inside.entries.items, children_of c.remove-then-is_empty.new.self.items) in
+    let before : Content = (c.self.inside.entries, children_of c.self.inside.branches.items) in
+    let after : Content = (c.self.inside.entries, children_of c.remove-then-is_empty.new.self.items) in
     let with_it : IsWith (c.of.result ∷ p, taken.0) (rows after) (rows before) =
-    subst (λ bs. IsWith (c.of.result ∷ p, taken.0) (rows (c.self.inside.entries.items, children_of bs)) (rows before))
+    subst (λ bs. IsWith (c.of.result ∷ p, taken.0) (rows (c.self.inside.entries, children_of bs)) (rows before))
     (sym c.remove-then-is_empty.ensures.items)
-    (rows-with-branch c.self.inside.entries.items c.of.result c.self.inside.branches.items c.in-Ok.at c.index_mut.result.now
+    (rows-with-branch c.self.inside.entries c.of.result c.self.inside.branches.items c.in-Ok.at c.index_mut.result.now
     c.remove.new.self (p, taken.0) found c.index_mut.ensures.value taken.2 none) in
     taken-below (path_of_all (trees_left c.args.rest.now)) p c.of.result vs c.args.number taken.0 c.args.self.now after (rows before)
     (path-step (trees_left c.args.rest.now) (map tree_of c.in-Then.more.now ++ trees_left c.in-Then.below.now)
@@ -164,10 +164,10 @@ returns-else-is_empty-clause-removed t c h =
     let branch : Branch = record { label = c.index_mut.result.now.label; node = c.remove.new.self } in
     let taken : IsTaken p vs c.args.number (rows c.index_mut.result.now.node) (rows c.remove.new.self) =
     c.remove.ensures.removed c.if-not-remove.false in
-    let before : Content = (c.self.inside.entries.items, children_of c.self.inside.branches.items) in
-    let after : Content = (c.self.inside.entries.items, children_of (slice_set c.self.inside.branches.items c.in-Ok.at branch)) in
+    let before : Content = (c.self.inside.entries, children_of c.self.inside.branches.items) in
+    let after : Content = (c.self.inside.entries, children_of (slice_set c.self.inside.branches.items c.in-Ok.at branch)) in
     let with_it : IsWith (c.of.result ∷ p, taken.0) (rows after) (rows before) =
-    rows-with-fewer c.self.inside.entries.items c.of.result c.self.inside.branches.items c.in-Ok.at c.index_mut.result.now
+    rows-with-fewer c.self.inside.entries c.of.result c.self.inside.branches.items c.in-Ok.at c.index_mut.result.now
     c.remove.new.self (p, taken.0) found c.index_mut.ensures.value taken.2 in
     taken-below (path_of_all (trees_left c.args.rest.now)) p c.of.result vs c.args.number taken.0 c.args.self.now after (rows before)
     (path-step (trees_left c.args.rest.now) (map tree_of c.in-Then.more.now ++ trees_left c.in-Then.below.now)

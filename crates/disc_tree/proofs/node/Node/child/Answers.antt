@@ -20,7 +20,7 @@ returns-in-Ok-clause-smaller g c =
     let found : IsAt c.args.label (children_of c.self.inside.branches.items) c.in-Ok.at =
     subst (λ bs. IsAt c.args.label (children_of bs) c.in-Ok.at) c.deref.ensures.value c.in-Ok.ensures.found in
     subst (λ (v : List (Tree × _) × List Child). weight (rows c.index.result.now.node) < weight (rows v)) c.self.view_is
-    (child-lighter c.self.inside.entries.items (children_of c.self.inside.branches.items) c.in-Ok.at (child_of c.index.result.now)
+    (child-lighter c.self.inside.entries (children_of c.self.inside.branches.items) c.in-Ok.at (child_of c.index.result.now)
     c.self.invariant.none_is_empty found.in_range
     (child-get c.self.inside.branches.items c.in-Ok.at c.index.result.now
     (omega (arith, found.in_range, children-length c.self.inside.branches.items)) c.index.ensures))

@@ -11,7 +11,7 @@ returns-clause-smaller g c =
     let in_range : c.args.index < length (children_of c.self.inside.branches.items) =
     subst (λ (v : List (Tree × _) × List Child). c.args.index < length v.1) (sym c.self.view_is) c.requires in
     subst (λ (v : List (Tree × _) × List Child). weight (rows c.index-branch.result.now.node) < weight (rows v)) c.self.view_is
-    (child-lighter c.self.inside.entries.items (children_of c.self.inside.branches.items) c.args.index (child_of c.index-branch.result.now)
+    (child-lighter c.self.inside.entries (children_of c.self.inside.branches.items) c.args.index (child_of c.index-branch.result.now)
     c.self.invariant.none_is_empty in_range
     (child-get c.self.inside.branches.items c.args.index c.index-branch.result.now
     (omega (arith, in_range, children-length c.self.inside.branches.items)) c.index-branch.ensures))

@@ -6,6 +6,7 @@ use Rattle.disc_tree.specs.Entries.{numbers_where}
 use Rattle.disc_tree.specs.Rows.{rows, found_in}
 use Rattle.disc_tree.specs.Prefixes.{compatible_prefixes}
 use Rattle.disc_tree.proofs.PrefixLemmas.{stays-counted}
+use Rattle.disc_tree.proofs.VisitLemmas.{visits-counted}
 use Rattle.disc_tree.proofs.FoundLemmas.{found-compatible}
 use Rattle.disc_tree.proofs.tree.DiscTree.find.Goals as goal
 
@@ -31,3 +32,10 @@ returns-clause-steps g c ground =
     subst (λ (es : List (Tree × ℕ)). c.collect.new.steps ≤ c.args.steps.now + 2 * compatible_prefixes query es) c.self.view_is
     (stays-counted query (rows c.self.inside.root) c.args.steps.now c.collect.new.steps c.self.invariant
     (c.in_ok-collect.ensures.steps refl (ground, tt)))
+
+pub returns-clause-visits : goal.returns-clause-visits
+returns-clause-visits g c entry ground =
+    let query : Tree = tree_of c.args.query.now in
+    subst (λ (es : List (Tree × ℕ)). c.args.steps.now + compatible_prefixes query es ≤ c.collect.new.steps) c.self.view_is
+    (visits-counted query (rows c.self.inside.root) c.args.steps.now c.collect.new.steps c.self.invariant
+    (c.in_ok-collect.ensures.visits entry refl (ground, tt)))
