@@ -1,5 +1,7 @@
 pub mod MatchLemmas
+pub mod PlaceLemmas
 pub mod LayoutLemmas
+pub mod CodeLemmas
 pub mod ClassLemmas
 pub mod ClosingLemmas
 pub mod JoiningLemmas
