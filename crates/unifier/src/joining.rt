@@ -10,6 +10,9 @@ use crate::classes::Classes;
 use fol_base::Mem;
 use std::alloc::Global;
 
+/// Room for the pairs that are due at once in terms of usual size.
+const USUAL_PAIRS: usize = 16;
+
 impl Classes {
     /// Joins the classes of two cells, and then those of parts that must have one value. False where two
     /// cells of one class can't have one.
@@ -28,7 +31,7 @@ impl Classes {
             (FollowsFrom cells.now first second self.old self.new)
             (CannotFollow cells.now first second self.old)) }
     {
-        let mut due = Vec::new(alloc);
+        let mut due = Vec::with_capacity(alloc, USUAL_PAIRS)?;
         due.push((first, second))?;
         while let Some((one, other)) = due.pop() {
             match self.merge(cells, one, other) {

@@ -11,7 +11,7 @@ use Rattle.unifier.proofs.BoundLemmas.{leaves-answer, fits-answer, fits-together
 use Rattle.unifier.proofs.unifying.unify.Goals as goal
 
 pub returns-then-clash-clause-unified : goal.returns-then-clash-clause-unified
-returns-then-clash-clause-unified c = clash-answer c.args.apart (tree_of c.args.left.now) (tree_of c.args.right.now) c.if-clash.ensures
+returns-then-clash-clause-unified c = clash-answer c.args.apart (tree_of c.args.left.now) (tree_of c.args.right.now) (sym c.if-clash.ensures)
 
 pub lay_term-requires-clause-places : goal.lay_term-requires-clause-places
 lay_term-requires-clause-places c =

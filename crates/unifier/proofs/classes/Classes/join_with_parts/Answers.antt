@@ -5,7 +5,7 @@ use Rattle.unifier.proofs.classes.Classes.join_with_parts.Goals as goal
 pub loop-one-init : goal.loop-one-init
 loop-one-init c =
     due-starts c.args.cells.now c.args.first c.args.second c.args.self.now c.push.new.self.items c.requires.classes c.requires.first c.requires.second
-    (c.in_ok-push.ensures.items ∙ ap (λ (xs : List (ℕ × ℕ)). xs ++ (c.args.first, c.args.second) ∷ []) c.new-due.ensures.items)
+    (c.in_ok-push.ensures.items ∙ ap (λ (xs : List (ℕ × ℕ)). xs ++ (c.args.first, c.args.second) ∷ []) c.in_ok-due.ensures.items)
 
 pub merge-requires-clause-classes : goal.merge-requires-clause-classes
 merge-requires-clause-classes c = c.loop-one.invariant.follows.classes
