@@ -2,7 +2,7 @@
 use Rattle.std.proofs.Common.{◌≡◌, ℕ, ◌+◌, ◌*◌, ◌/◌, ◌%◌, ◌<◌, ◌≤◌, max, Bool, true, false, ◌||◌, ◌==◌, cond, Option, None, Some, List, [], ◌∷◌, map, refl, ap, sym, ◌∙◌, arith, eq-eqb}
 use Rattle.std.specs.Prelude.{Result, Ok, Err, IfOk, IfSome, MatchOption}
 use Rattle.std.specs.List.{list_any, list_all}
-use Rattle.std.proofs.lemmas.Bool.{and_from, or_left, or_right, cond-true, cond-false, true≢false}
+use Rattle.std.proofs.lemmas.Bool.{and_from, or_left, or_right, true≢false}
 use Rattle.std.proofs.lemmas.List.Folds.{list_all-append, list_all-map}
 use Rattle.fol_base.specs.Tree.{Tree, variable, application, Trees, no_trees, tree_then, tree_variables, trees_variables, VariablesBelow, AllVariablesBelow}
 use Rattle.fol_base.specs.declared.clause.Side.TheVariants.{Left, Right}
@@ -15,6 +15,7 @@ use Rattle.unifier.specs.Layout.{cell_of, code_of, codes_of, all_pass, HasVariab
 use Rattle.unifier.specs.Bindings.{bound, joint, occurs, LeavesOthers, CannotMeet, IsMeeting}
 use Rattle.unifier.specs.Renaming.{is_within, fits, FitLeavesOthers, FitLeavesOthersApart}
 use Rattle.unifier.specs.Solving.{relocated, IsRelocated}
+use Rattle.unifier.proofs.ParityLemmas.{even-half, odd-half}
 use Rattle.unifier.proofs.PlaceLemmas.{ltb-is, ltb-not, not-found}
 use Rattle.unifier.proofs.RenameLemmas.{code-within, within-left, within-right}
 
@@ -150,17 +151,11 @@ stands false s t w = occurs w s || occurs w t
 
 stands-left : (s t : Tree) (v : ℕ) → stands true s t (2 * v) ≡ occurs v s
 unfolding stands
-stands-left s t v =
-    let even : (2 * v) % 2 ≡ 0 = omega arith in
-    let half : (2 * v) / 2 ≡ v = omega arith in
-    cond-true ((2 * v) % 2 == 0) (occurs ((2 * v) / 2) s) (occurs ((2 * v) / 2) t) (eq-eqb ((2 * v) % 2) 0 even) ∙ ap (λ u. occurs u s) half
+stands-left s t v = even-half (λ u. occurs u s) (λ u. occurs u t) v
 
 stands-right : (s t : Tree) (v : ℕ) → stands true s t (2 * v + 1) ≡ occurs v t
 unfolding stands
-stands-right s t v =
-    let odd : (2 * v + 1) % 2 ≡ 1 = omega arith in
-    let half : (2 * v + 1) / 2 ≡ v = omega arith in
-    cond-false ((2 * v + 1) % 2 == 0) (occurs ((2 * v + 1) / 2) s) (occurs ((2 * v + 1) / 2) t) (ap (λ m. m == 0) odd) ∙ ap (λ u. occurs u t) half
+stands-right s t v = odd-half (λ u. occurs u s) (λ u. occurs u t) v
 
 of-left : (apart : Bool) (s t : Tree) (v : ℕ) → occurs v s ≡ true → stands apart s t (code_of apart Left v) ≡ true
 unfolding stands

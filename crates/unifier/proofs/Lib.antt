@@ -1,3 +1,4 @@
+pub mod ParityLemmas
 pub mod MatchLemmas
 pub mod PlaceLemmas
 pub mod LayoutLemmas

@@ -20,6 +20,7 @@ use Rattle.unifier.specs.Layout.{cell_of, code_of}
 use Rattle.unifier.specs.Bindings.{value_at, bound, joint, substitution_of}
 use Rattle.unifier.specs.Renaming.{renamed, renamed_trees, side_terms, AreRenamed, code_count, is_within, fits, is_shared, rank, AreNames, HasNames}
 use Rattle.unifier.proofs.ValueLemmas.{value_at-valuation}
+use Rattle.unifier.proofs.ParityLemmas.{even-half, odd-half}
 use Rattle.unifier.proofs.PlaceLemmas.{found-passes, ltb-is, ltb-less}
 
 abbrev pub side_count : ℕ → ℕ → Side → ℕ
@@ -251,18 +252,10 @@ halves w = ⊎_elim (λ less. inl (omega arith, omega arith)) (λ ge. inr (omega
 
 -- taken apart, a side's variable is within where it is below its side's count
 pub within-left : (l r v : ℕ) → is_within true l r (2 * v) ≡ nat_lt v l
-within-left l r v =
-    let e : (2 * v) % 2 ≡ 0 = omega arith in
-    let half : (2 * v) / 2 ≡ v = omega arith in
-    cond-true ((2 * v) % 2 == 0) (nat_lt ((2 * v) / 2) l) (nat_lt ((2 * v) / 2) r) (eq-eqb ((2 * v) % 2) 0 e)
-    ∙ ap (λ n. nat_lt n l) half
+within-left l r v = even-half (λ n. nat_lt n l) (λ n. nat_lt n r) v
 
 pub within-right : (l r v : ℕ) → is_within true l r (2 * v + 1) ≡ nat_lt v r
-within-right l r v =
-    let e : (2 * v + 1) % 2 ≡ 1 = omega arith in
-    let half : (2 * v + 1) / 2 ≡ v = omega arith in
-    cond-false ((2 * v + 1) % 2 == 0) (nat_lt ((2 * v + 1) / 2) l) (nat_lt ((2 * v + 1) / 2) r) (ap (λ m. m == 0) e)
-    ∙ ap (λ n. nat_lt n r) half
+within-right l r v = odd-half (λ n. nat_lt n l) (λ n. nat_lt n r) v
 
 -- a side's variable below its count is used
 pub code-within :

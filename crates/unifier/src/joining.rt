@@ -1,8 +1,8 @@
 // Joining classes: two cells, their parts, the parts of these, and so on.
 
-ghost use Rattle.std.specs.Prelude.{◌<◌, length, IfOk, MatchBool};
+ghost use Rattle.std.specs.Prelude.{◌≡◌, ◌<◌, true, length, IfOk, MatchBool};
 ghost use Rattle.unifier.specs.Cells.{AreOrdered};
-ghost use Rattle.unifier.specs.Classes.{AreClasses, CannotFollow, FollowsFrom};
+ghost use Rattle.unifier.specs.Classes.{AreClasses, AreTogether, CannotFollow, FollowsFrom};
 ghost use Rattle.unifier.specs.Joining.{IsMerged, IsShortened};
 
 use crate::cells::{Cell, Relation};
@@ -27,9 +27,10 @@ impl Classes {
         requires parts { AreOrdered cells.now }
         requires first { first < length cells.now }
         requires second { second < length cells.now }
-        ensures { IfOk result (λ joined. MatchBool joined
+        ensures follows { IfOk result (λ joined. MatchBool joined
             (FollowsFrom cells.now first second self.old self.new)
             (CannotFollow cells.now first second self.old)) }
+        ensures together { IfOk result (λ joined. joined ≡ true → AreTogether (length cells.now) self.new first second) }
     {
         let mut due = Vec::with_capacity(alloc, USUAL_PAIRS)?;
         due.push((first, second))?;
