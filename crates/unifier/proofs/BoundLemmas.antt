@@ -1,8 +1,8 @@
 -- Which variables `unify` binds: those of its terms alone.
-use Rattle.std.proofs.Common.{◌≡◌, ℕ, ◌+◌, ◌*◌, ◌/◌, ◌%◌, ◌<◌, ◌≤◌, max, Bool, true, false, ◌||◌, ◌==◌, cond, Option, None, Some, List, [], ◌∷◌, refl, ap, sym, ◌∙◌, arith, eq-eqb}
+use Rattle.std.proofs.Common.{◌≡◌, ℕ, ◌+◌, ◌*◌, ◌/◌, ◌%◌, ◌<◌, ◌≤◌, max, Bool, true, false, ◌||◌, ◌==◌, cond, Option, None, Some, List, [], ◌∷◌, map, refl, ap, sym, ◌∙◌, arith, eq-eqb}
 use Rattle.std.specs.Prelude.{Result, Ok, Err, IfOk, IfSome, MatchOption}
 use Rattle.std.specs.List.{list_any, list_all}
-use Rattle.std.proofs.lemmas.Bool.{and_from, or_left, or_right, cond-true, cond-false, true≢false}
+use Rattle.std.proofs.lemmas.Bool.{and_from, or_left, or_right, true≢false}
 use Rattle.std.proofs.lemmas.List.Folds.{list_all-append, list_all-map}
 use Rattle.fol_base.specs.Tree.{Tree, variable, application, Trees, no_trees, tree_then, tree_variables, trees_variables, VariablesBelow, AllVariablesBelow}
 use Rattle.fol_base.specs.declared.clause.Side.TheVariants.{Left, Right}
@@ -11,12 +11,13 @@ use Rattle.unifier.specs.declared.layout.Layout.{Layout}
 use Rattle.unifier.specs.declared.bindings.Bindings.{Bindings}
 use Rattle.unifier.specs.declared.classes.Classes.{Classes}
 use Rattle.unifier.specs.declared.placing.Placing.{Placing}
-use Rattle.unifier.specs.Layout.{cell_of, code_of, all_pass, TermLaidOut}
+use Rattle.unifier.specs.Layout.{cell_of, code_of, codes_of, all_pass, HasVariables, TermLaidOut}
 use Rattle.unifier.specs.Bindings.{bound, joint, occurs, LeavesOthers, CannotMeet, IsMeeting}
 use Rattle.unifier.specs.Renaming.{is_within, fits, FitLeavesOthers, FitLeavesOthersApart}
 use Rattle.unifier.specs.Solving.{relocated, IsRelocated}
-use Rattle.unifier.proofs.LayoutLemmas.{found-passes}
-use Rattle.unifier.proofs.RenameLemmas.{code-within, ltb-is, ltb-not, within-left, within-right}
+use Rattle.unifier.proofs.ParityLemmas.{even-half, odd-half}
+use Rattle.unifier.proofs.PlaceLemmas.{ltb-is, ltb-not, not-found}
+use Rattle.unifier.proofs.RenameLemmas.{code-within, within-left, within-right}
 
 -- ---- places and tests
 
@@ -27,19 +28,21 @@ pub relocated-passes :
 relocated-passes c p es old made same is test =
     ap (all_pass test) is ∙ list_all-map (λ (q : Place). test q.code) (relocated c p) es ∙ ap (all_pass test) same
 
-not-found : (test : ℕ → Bool) (w : ℕ) (ps : List Place) (o : Option ℕ) → all_pass test ps ≡ true → test w ≡ false → cell_of w ps ≡ o → o ≡ None
-not-found test w ps None all fails e = refl
-not-found test w ps (Some k) all fails e = absurd (true≢false (sym (found-passes test w k ps all e) ∙ fails))
-
 -- what all variables of both terms pass, all bound ones pass
 passes-at-last :
     (start mid layout : Layout) (apart : Bool) (first second : ℕ) (s t : Tree) (b : Bindings) (test : ℕ → Bool)
-    → start.places.items ≡ [] → TermLaidOut start mid apart Left s first → TermLaidOut mid layout apart Right t second
+    → HasVariables (codes_of apart s t) start → TermLaidOut start mid apart Left s first → TermLaidOut mid layout apart Right t second
     → IsMeeting layout apart first second b
     → list_all (λ v. test (code_of apart Left v)) (tree_variables s) ≡ true
     → list_all (λ v. test (code_of apart Right v)) (tree_variables t) ≡ true → all_pass test b.places.items ≡ true
-passes-at-last start mid layout apart first second s t b test none one other met left right =
-    met.2 test ∙ other.adds test (one.adds test (ap (all_pass test) none) left) right
+passes-at-last start mid layout apart first second s t b test laid one other met left right =
+    met.2 test
+    ∙ ap (all_pass test) (other.places ∙ one.places)
+    ∙ laid.exactly test
+    ∙ list_all-append test (map (code_of apart Left) (tree_variables s)) (map (code_of apart Right) (tree_variables t))
+    ∙ and_from (list_all test (map (code_of apart Left) (tree_variables s))) (list_all test (map (code_of apart Right) (tree_variables t)))
+    (list_all-map test (code_of apart Left) (tree_variables s) ∙ left)
+    (list_all-map test (code_of apart Right) (tree_variables t) ∙ right)
 
 -- ---- counts above the variables
 
@@ -61,51 +64,51 @@ mutual
 
 fits-by :
     (start mid layout : Layout) (apart : Bool) (first second l r : ℕ) (s t : Tree) (found : Option Bindings)
-    → start.places.items ≡ [] → TermLaidOut start mid apart Left s first → TermLaidOut mid layout apart Right t second
+    → HasVariables (codes_of apart s t) start → TermLaidOut start mid apart Left s first → TermLaidOut mid layout apart Right t second
     → MatchOption found (CannotMeet layout.cells.items first second) (IsMeeting layout apart first second)
     → VariablesBelow l s → VariablesBelow r t → IfSome found (λ b. fits b l r ≡ true)
-fits-by start mid layout apart first second l r s t None none one other h left right = tt
-fits-by start mid layout apart first second l r s t (Some b) none one other h left right =
+fits-by start mid layout apart first second l r s t None laid one other h left right = tt
+fits-by start mid layout apart first second l r s t (Some b) laid one other h left right =
     ap (λ a. all_pass (is_within a l r) b.places.items) h.0
-    ∙ passes-at-last start mid layout apart first second s t b (is_within apart l r) none one other h
+    ∙ passes-at-last start mid layout apart first second s t b (is_within apart l r) laid one other h
     (below-pass (λ v. is_within apart l r (code_of apart Left v)) l s (code-within apart l r Left) left)
     (below-pass (λ v. is_within apart l r (code_of apart Right v)) r t (code-within apart l r Right) right)
 
 -- as the code has it
 pub fits-answer :
     {E : Type 0} (r : Result (Option Bindings) E) (start mid layout : Layout) (apart : Bool) (first second : ℕ) (s t : Tree)
-    → start.places.items ≡ [] → TermLaidOut start mid apart Left s first → TermLaidOut mid layout apart Right t second
+    → HasVariables (codes_of apart s t) start → TermLaidOut start mid apart Left s first → TermLaidOut mid layout apart Right t second
     → IfOk r (λ found. MatchOption found (CannotMeet layout.cells.items first second) (IsMeeting layout apart first second))
     → IfOk r (λ found. (left_count right_count : ℕ) → VariablesBelow left_count s → VariablesBelow right_count t
     → IfSome found (λ b. fits b left_count right_count ≡ true))
-fits-answer (Err e) start mid layout apart first second s t none one other h = tt
-fits-answer (Ok found) start mid layout apart first second s t none one other h =
-    λ left_count right_count. fits-by start mid layout apart first second left_count right_count s t found none one other h
+fits-answer (Err e) start mid layout apart first second s t laid one other h = tt
+fits-answer (Ok found) start mid layout apart first second s t laid one other h =
+    λ left_count right_count. fits-by start mid layout apart first second left_count right_count s t found laid one other h
 
 fits-together-by :
     (start mid layout : Layout) (first second n : ℕ) (s t : Tree) (found : Option Bindings)
-    → start.places.items ≡ [] → TermLaidOut start mid false Left s first → TermLaidOut mid layout false Right t second
+    → HasVariables (codes_of false s t) start → TermLaidOut start mid false Left s first → TermLaidOut mid layout false Right t second
     → MatchOption found (CannotMeet layout.cells.items first second) (IsMeeting layout false first second)
     → VariablesBelow n s → VariablesBelow n t → IfSome found (λ b. (l r : ℕ) → n ≤ max l r → fits b l r ≡ true)
-fits-together-by start mid layout first second n s t None none one other h left right = tt
-fits-together-by start mid layout first second n s t (Some b) none one other h left right = λ l r most.
+fits-together-by start mid layout first second n s t None laid one other h left right = tt
+fits-together-by start mid layout first second n s t (Some b) laid one other h left right = λ l r most.
     let within : (v : ℕ) → v < n → is_within false l r v ≡ true = λ v less. ltb-is v (max l r) (omega (arith, less, most)) in
     ap (λ a. all_pass (is_within a l r) b.places.items) h.0
-    ∙ passes-at-last start mid layout false first second s t b (is_within false l r) none one other h
+    ∙ passes-at-last start mid layout false first second s t b (is_within false l r) laid one other h
     (below-pass (λ v. is_within false l r v) n s within left)
     (below-pass (λ v. is_within false l r v) n t within right)
 
 -- as the code has it
 pub fits-together-answer :
     {E : Type 0} (r : Result (Option Bindings) E) (start mid layout : Layout) (apart : Bool) (first second : ℕ) (s t : Tree)
-    → start.places.items ≡ [] → TermLaidOut start mid apart Left s first → TermLaidOut mid layout apart Right t second
+    → HasVariables (codes_of apart s t) start → TermLaidOut start mid apart Left s first → TermLaidOut mid layout apart Right t second
     → IfOk r (λ found. MatchOption found (CannotMeet layout.cells.items first second) (IsMeeting layout apart first second))
     → IfOk r (λ found. apart ≡ false → (count : ℕ) → VariablesBelow count s → VariablesBelow count t
     → IfSome found (λ b. (left_count right_count : ℕ) → count ≤ max left_count right_count → fits b left_count right_count ≡ true))
-fits-together-answer (Err e) start mid layout apart first second s t none one other h = tt
-fits-together-answer (Ok found) start mid layout true first second s t none one other h = λ is. absurd (true≢false is)
-fits-together-answer (Ok found) start mid layout false first second s t none one other h =
-    λ is count. fits-together-by start mid layout first second count s t found none one other h
+fits-together-answer (Err e) start mid layout apart first second s t laid one other h = tt
+fits-together-answer (Ok found) start mid layout true first second s t laid one other h = λ is. absurd (true≢false is)
+fits-together-answer (Ok found) start mid layout false first second s t laid one other h =
+    λ is count. fits-together-by start mid layout first second count s t found laid one other h
 
 -- ---- variables without a place
 
@@ -148,17 +151,11 @@ stands false s t w = occurs w s || occurs w t
 
 stands-left : (s t : Tree) (v : ℕ) → stands true s t (2 * v) ≡ occurs v s
 unfolding stands
-stands-left s t v =
-    let even : (2 * v) % 2 ≡ 0 = omega arith in
-    let half : (2 * v) / 2 ≡ v = omega arith in
-    cond-true ((2 * v) % 2 == 0) (occurs ((2 * v) / 2) s) (occurs ((2 * v) / 2) t) (eq-eqb ((2 * v) % 2) 0 even) ∙ ap (λ u. occurs u s) half
+stands-left s t v = even-half (λ u. occurs u s) (λ u. occurs u t) v
 
 stands-right : (s t : Tree) (v : ℕ) → stands true s t (2 * v + 1) ≡ occurs v t
 unfolding stands
-stands-right s t v =
-    let odd : (2 * v + 1) % 2 ≡ 1 = omega arith in
-    let half : (2 * v + 1) / 2 ≡ v = omega arith in
-    cond-false ((2 * v + 1) % 2 == 0) (occurs ((2 * v + 1) / 2) s) (occurs ((2 * v + 1) / 2) t) (ap (λ m. m == 0) odd) ∙ ap (λ u. occurs u t) half
+stands-right s t v = odd-half (λ u. occurs u s) (λ u. occurs u t) v
 
 of-left : (apart : Bool) (s t : Tree) (v : ℕ) → occurs v s ≡ true → stands apart s t (code_of apart Left v) ≡ true
 unfolding stands
@@ -184,22 +181,22 @@ leaves false s t b is all = λ v left right. ap (λ a. joint b (code_of a Left v
 
 leaves-by :
     (start mid layout : Layout) (apart : Bool) (first second : ℕ) (s t : Tree) (found : Option Bindings)
-    → start.places.items ≡ [] → TermLaidOut start mid apart Left s first → TermLaidOut mid layout apart Right t second
+    → HasVariables (codes_of apart s t) start → TermLaidOut start mid apart Left s first → TermLaidOut mid layout apart Right t second
     → MatchOption found (CannotMeet layout.cells.items first second) (IsMeeting layout apart first second)
     → IfSome found (LeavesOthers apart s t)
-leaves-by start mid layout apart first second s t None none one other h = tt
-leaves-by start mid layout apart first second s t (Some b) none one other h =
+leaves-by start mid layout apart first second s t None laid one other h = tt
+leaves-by start mid layout apart first second s t (Some b) laid one other h =
     leaves apart s t b h.0
-    (passes-at-last start mid layout apart first second s t b (stands apart s t) none one other h
+    (passes-at-last start mid layout apart first second s t b (stands apart s t) laid one other h
     (members-pass (λ v. stands apart s t (code_of apart Left v)) (tree_variables s) (of-left apart s t))
     (members-pass (λ v. stands apart s t (code_of apart Right v)) (tree_variables t) (of-right apart s t)))
 
 -- as the code has it
 pub leaves-answer :
     {E : Type 0} (r : Result (Option Bindings) E) (start mid layout : Layout) (apart : Bool) (first second : ℕ) (s t : Tree)
-    → start.places.items ≡ [] → TermLaidOut start mid apart Left s first → TermLaidOut mid layout apart Right t second
+    → HasVariables (codes_of apart s t) start → TermLaidOut start mid apart Left s first → TermLaidOut mid layout apart Right t second
     → IfOk r (λ found. MatchOption found (CannotMeet layout.cells.items first second) (IsMeeting layout apart first second))
     → IfOk r (λ found. IfSome found (LeavesOthers apart s t))
-leaves-answer (Err e) start mid layout apart first second s t none one other h = tt
-leaves-answer (Ok found) start mid layout apart first second s t none one other h =
-    leaves-by start mid layout apart first second s t found none one other h
+leaves-answer (Err e) start mid layout apart first second s t laid one other h = tt
+leaves-answer (Ok found) start mid layout apart first second s t laid one other h =
+    leaves-by start mid layout apart first second s t found laid one other h

@@ -1,52 +1,47 @@
 -- Terms with different symbols at one place don't unify.
-use Rattle.std.proofs.Common.{◌≡◌, ℕ, zero, suc, ◌<◌, Bool, true, false, None, List, [], ◌∷◌, length, map, get_or, refl, ap, sym, ◌∙◌, arith}
-use Rattle.std.specs.Prelude.{MatchBool, ⊤}
-use Rattle.fol_base.specs.Tree.{Tree, application, Trees, no_trees, tree_then, trees_of}
+use Rattle.std.proofs.Common.{◌≡◌, ℕ, suc, Bool, true, false, ◌||◌, ◌==◌, cond, None, List, [], ◌∷◌, length, refl, ap, sym, ◌∙◌, ⊎_elim, eq-eqb}
+use Rattle.std.proofs.lemmas.Bool.{or_cases, true≢false}
+use Rattle.fol_base.specs.Tree.{Tree, variable, application, Trees, no_trees, tree_then, trees_of}
 use Rattle.fol_base.specs.Instance.{instance, instances}
-use Rattle.fol_base.specs.Term.{tree_of}
-use Rattle.fol_base.specs.declared.term.Term.{Term}
-use Rattle.unifier.specs.Clashing.{CannotUnify, CannotUnifyAll}
+use Rattle.unifier.specs.Clashing.{clash, clash_in, CannotUnify, CannotUnifyAll}
 use Rattle.unifier.specs.Bindings.{IsUnified}
 
-pub heads-clash : (f g : ℕ) (ts us : Trees) (s t : Tree) → s ≡ application f ts → t ≡ application g us → (f ≡ g → ⊥) → CannotUnify s t
-heads-clash f g ts us s t s_is t_is differ σ τ e =
-    let both : application f (instances σ ts) ≡ application g (instances τ us) = ap (instance σ) (sym s_is) ∙ e ∙ ap (instance τ) t_is in
-    let heads : f ≡ g = cc in
-    differ heads
+-- lists of different lengths clash
+pub clash_in-lengths : (ts us : List Tree) → (length ts ≡ length us → ⊥) → true ≡ clash_in (trees_of ts) (trees_of us)
+clash_in-lengths [] [] h = absurd (h refl)
+clash_in-lengths [] (u ∷ us) h = refl
+clash_in-lengths (t ∷ ts) [] h = refl
+clash_in-lengths (t ∷ ts) (u ∷ us) h = later (clash t u) (clash_in-lengths ts us (λ same. h (ap suc same)))
+  where
+    later : (b : Bool) → true ≡ clash_in (trees_of ts) (trees_of us) → true ≡ (b || clash_in (trees_of ts) (trees_of us))
+    later true rest = refl
+    later false rest = rest
 
-pub arguments-clash :
-    (r : Bool) (f g : ℕ) (ts us : Trees) (s t : Tree)
-    → s ≡ application f ts → t ≡ application g us → MatchBool r (CannotUnifyAll ts us) ⊤ → MatchBool r (CannotUnify s t) ⊤
-arguments-clash true f g ts us s t s_is t_is h = λ σ τ e.
-    let both : application f (instances σ ts) ≡ application g (instances τ us) = ap (instance σ) (sym s_is) ∙ e ∙ ap (instance τ) t_is in
-    let arguments : instances σ ts ≡ instances τ us = cc in
-    h σ τ arguments
-arguments-clash false f g ts us s t s_is t_is h = h
+heads : (f g : ℕ) (b : Bool) → f ≡ g → cond (f == g) b true ≡ true → b ≡ true
+heads f g b same h = sym (ap (λ test. cond test b true) (eq-eqb f g same)) ∙ h
 
-pub lengths-clash : (ts us : List Tree) → (length ts ≡ length us → ⊥) → CannotUnifyAll (trees_of ts) (trees_of us)
-lengths-clash [] [] h σ τ e = h refl
-lengths-clash [] (u ∷ us) h σ τ e = let wrong : no_trees ≡ tree_then (instance τ u) (instances τ (trees_of us)) = e in cc
-lengths-clash (t ∷ ts) [] h σ τ e = let wrong : tree_then (instance σ t) (instances σ (trees_of ts)) ≡ no_trees = e in cc
-lengths-clash (t ∷ ts) (u ∷ us) h σ τ e =
-    let both : tree_then (instance σ t) (instances σ (trees_of ts)) ≡ tree_then (instance τ u) (instances τ (trees_of us)) = e in
-    let rest : instances σ (trees_of ts) ≡ instances τ (trees_of us) = cc in
-    lengths-clash ts us (λ same. h (ap suc same)) σ τ rest
+mutual
+  clash-sound : (s t : Tree) → clash s t ≡ true → CannotUnify s t
+  clash-sound (variable v) t h σ τ e = absurd (true≢false (sym h))
+  clash-sound (application f ts) (variable w) h σ τ e = absurd (true≢false (sym h))
+  clash-sound (application f ts) (application g us) h σ τ e =
+      let both : application f (instances σ ts) ≡ application g (instances τ us) = e in
+      let symbols : f ≡ g = cc in
+      let arguments : instances σ ts ≡ instances τ us = cc in
+      clash_in-sound ts us (heads f g (clash_in ts us) symbols h) σ τ arguments
 
-pub item-clash :
-    (xs ys : List Term) (i : ℕ) (x y : Term)
-    → i < length xs → i < length ys → x ≡ get_or xs i x → y ≡ get_or ys i y → CannotUnify (tree_of x) (tree_of y)
-    → CannotUnifyAll (trees_of (map tree_of xs)) (trees_of (map tree_of ys))
-item-clash [] ys i x y h k xe ye c σ τ e = omega arith
-item-clash (a ∷ xs) [] i x y h k xe ye c σ τ e = omega arith
-item-clash (a ∷ xs) (b ∷ ys) zero x y h k xe ye c σ τ e =
-    let both : tree_then (instance σ (tree_of a)) (instances σ (trees_of (map tree_of xs))) ≡ tree_then (instance τ (tree_of b)) (instances τ (trees_of (map tree_of ys))) = e in
-    let firsts : instance σ (tree_of a) ≡ instance τ (tree_of b) = cc in
-    c σ τ (ap (λ u. instance σ (tree_of u)) xe ∙ firsts ∙ sym (ap (λ u. instance τ (tree_of u)) ye))
-item-clash (a ∷ xs) (b ∷ ys) (suc i) x y h k xe ye c σ τ e =
-    let both : tree_then (instance σ (tree_of a)) (instances σ (trees_of (map tree_of xs))) ≡ tree_then (instance τ (tree_of b)) (instances τ (trees_of (map tree_of ys))) = e in
-    let rest : instances σ (trees_of (map tree_of xs)) ≡ instances τ (trees_of (map tree_of ys)) = cc in
-    item-clash xs ys i x y (omega arith) (omega arith) xe ye c σ τ rest
+  clash_in-sound : (ts us : Trees) → clash_in ts us ≡ true → CannotUnifyAll ts us
+  clash_in-sound no_trees no_trees h σ τ e = absurd (true≢false (sym h))
+  clash_in-sound no_trees (tree_then u us) h σ τ e =
+      let wrong : no_trees ≡ tree_then (instance τ u) (instances τ us) = e in cc
+  clash_in-sound (tree_then t ts) no_trees h σ τ e =
+      let wrong : tree_then (instance σ t) (instances σ ts) ≡ no_trees = e in cc
+  clash_in-sound (tree_then t ts) (tree_then u us) h σ τ e =
+      let both : tree_then (instance σ t) (instances σ ts) ≡ tree_then (instance τ u) (instances τ us) = e in
+      let firsts : instance σ t ≡ instance τ u = cc in
+      let rest : instances σ ts ≡ instances τ us = cc in
+      ⊎_elim (λ one. clash-sound t u one σ τ firsts) (λ other. clash_in-sound ts us other σ τ rest) (or_cases (clash t u) (clash_in ts us) h)
 
-pub clash-answer : (apart : Bool) (s t : Tree) → CannotUnify s t → IsUnified apart s t None
-clash-answer true s t h = h
-clash-answer false s t h = λ σ e. h σ σ e
+pub clash-answer : (apart : Bool) (s t : Tree) → clash s t ≡ true → IsUnified apart s t None
+clash-answer true s t h = clash-sound s t h
+clash-answer false s t h = λ σ e. clash-sound s t h σ σ e

@@ -1,5 +1,5 @@
 -- Classes of cells, as they are joined.
-use Rattle.std.proofs.Common.{◌≡◌, ◌⊎◌, inl, inr, ℕ, zero, suc, ◌+◌, ◌-◌, ◌<◌, ◌≤◌, Bool, true, false, List, [], ◌∷◌, ◌++◌, length, get_or, set, ap, sym, ◌∙◌, subst, ⊎_elim, arith}
+use Rattle.std.proofs.Common.{◌≡◌, ◌⊎◌, inl, inr, ℕ, zero, suc, ◌+◌, ◌-◌, ◌<◌, ◌≤◌, Bool, true, false, List, [], ◌∷◌, ◌++◌, length, get_or, set, refl, ap, sym, ◌∙◌, subst, ⊎_elim, arith}
 use Rattle.std.specs.Prelude.{MatchBool}
 use Rattle.std.proofs.lemmas.Bool.{cases_lt}
 use Rattle.std.proofs.lemmas.Grind.{get_or_default_zero}
@@ -39,6 +39,12 @@ set-read P xs new i y j d e h same other =
     (λ is. subst P (sym (ap (λ k. get_or (set xs i y) k d) is ∙ get_or-set_same xs i y d h)) (same is))
     (λ differs. subst P (sym (get_or-set_other xs i j y d differs)) (other differs))
     (eq_or j i))
+
+pub others-stay :
+    (xs new : List ℕ) (i y j : ℕ)
+    → new ≡ set xs i y → i < length xs → (j ≡ i → ⊥) → get_or new j 0 ≡ get_or xs j 0
+others-stay xs new i y j e h differs =
+    set-read (λ v. v ≡ get_or xs j 0) xs new i y j 0 e h (λ same. absurd (differs same)) (λ _. refl)
 
 total-set : (xs : List ℕ) (i y : ℕ) → i < length xs → total (set xs i y) + get_or xs i 0 ≡ total xs + y
 total-set [] i y h = absurd (omega arith)
@@ -91,6 +97,7 @@ linked n old new low high s h less inside smallest pe se which =
     let low_in : low < n = omega arith in
     let P : ℕ → Type 0 = λ v. v < n in
     let s_in : s < n = ⊎_elim (λ e. subst P (sym e) (h.inside low low_in)) (λ e. subst P (sym e) (h.inside high inside)) which in
+    let at_high : parent new high ≡ low = set-read (λ v. v ≡ low) ps new.parents.items high low high 0 pe in_ps (λ e. refl) (λ differs. absurd (differs refl)) in
     record {
       classes = record {
         parents = length-put ps new.parents.items high low pe ∙ h.parents;
@@ -112,6 +119,12 @@ linked n old new low high s h less inside smallest pe se which =
                 (λ _. (constant i i_in).1),
           );
       falls = omega (arith, total-put ps new.parents.items high low pe in_ps, smallest);
+      kept = λ f agrees i i_in.
+          ⊎_elim
+          (λ e. ap (λ k. f (parent old k)) e ∙ ap f smallest ∙ ap f (sym e))
+          (λ differs. ap f (sym (others-stay ps new.parents.items high low i pe in_ps differs)) ∙ agrees i i_in)
+          (eq_or i high);
+      together = λ f agrees. ap f (sym at_high) ∙ agrees high inside;
     }
 
 -- nothing changes where an item is put in its own place

@@ -6,8 +6,8 @@ use Rattle.std.proofs.lemmas.List.{get_or-set_same}
 use Rattle.unifier.specs.declared.cells.Cell.{Cell}
 use Rattle.unifier.specs.declared.classes.Classes.{Classes}
 use Rattle.unifier.specs.Cells.{Value, cell_at, is_variable}
-use Rattle.unifier.specs.Classes.{parent, schema, total, AreClasses, IsConstantOn, Follows, IsRefuted, IsFlat, IsClosedAt, AreSettled, AreClosed, FollowsFrom, CannotFollow, IsFlattened}
-use Rattle.unifier.proofs.ClassLemmas.{set-read, total-put, length-put, fell}
+use Rattle.unifier.specs.Classes.{parent, schema, total, AreClasses, IsConstantOn, Follows, IsRefuted, IsFlat, IsClosedAt, AreSettled, AreClosed, FollowsFrom, CannotFollow, IsFlattened, AgreesWithParents, KeepsJoined}
+use Rattle.unifier.proofs.ClassLemmas.{eq_or, set-read, others-stay, total-put, length-put, fell}
 
 -- ---- a cell below its parent's parent
 
@@ -15,6 +15,7 @@ pub record IsLifted (n : ℕ) (old : Classes) (new : Classes) : Type 0 where
   pub classes : AreClasses n new
   pub sound : (f : ℕ → Value) → IsConstantOn n old f → IsConstantOn n new f
   pub falls : total new.parents.items ≤ total old.parents.items
+  pub kept : KeepsJoined n old new
 
 pub lifted :
     (n : ℕ) (old new : Classes) (i up top : ℕ)
@@ -25,6 +26,15 @@ lifted n old new i up top h inside up_is top_is pe se =
     let in_ps : i < length ps = omega (arith, h.parents) in
     let up_le : up ≤ i = omega (arith, h.down i inside) in
     let top_le : top ≤ up = omega (arith, h.down up (omega arith)) in
+    let at_i : parent new i ≡ top = set-read (λ v. v ≡ top) ps new.parents.items i top i 0 pe in_ps (λ e. refl) (λ differs. absurd (differs refl)) in
+    let step : (f : ℕ → Value) → AgreesWithParents n new f → f up ≡ f i = λ f agrees.
+    ⊎_elim
+    (λ e. ap f e)
+    (λ differs.
+    sym (agrees up (omega arith))
+    ∙ ap f (others-stay ps new.parents.items i top up pe in_ps differs ∙ sym top_is ∙ sym at_i)
+    ∙ agrees i inside)
+    (eq_or up i) in
     record {
       classes = record {
         parents = length-put ps new.parents.items i top pe ∙ h.parents;
@@ -42,6 +52,11 @@ lifted n old new i up top h inside up_is top_is pe se =
             ap (λ ss. f (get_or ss j 0)) se ∙ (before j less).1,
           );
       falls = omega (arith, total-put ps new.parents.items i top pe in_ps, up_is);
+      kept = λ f agrees j less.
+          ⊎_elim
+          (λ e. ap (λ k. f (parent old k)) e ∙ ap f (sym up_is) ∙ step f agrees ∙ ap f (sym e))
+          (λ differs. ap f (sym (others-stay ps new.parents.items i top j pe in_ps differs)) ∙ agrees j less)
+          (eq_or j i);
     }
 
 -- ---- flattening

@@ -9,7 +9,7 @@ use Rattle.unifier.specs.declared.cells.Relation.{Relation}
 use Rattle.unifier.specs.declared.cells.Relation.TheVariants.{Same, Clash, Parts}
 use Rattle.unifier.specs.declared.classes.Classes.{Classes}
 use Rattle.unifier.specs.Cells.{Value, cell_at, relate, IsAfterParts, AreOrdered}
-use Rattle.unifier.specs.Classes.{parent, schema, total, AreClasses, IsConstantOn, IsCongruent, PartsAgree, FollowsFrom, CannotFollow, IsLinked}
+use Rattle.unifier.specs.Classes.{parent, schema, total, AreClasses, IsConstantOn, IsCongruent, PartsAgree, FollowsFrom, CannotFollow, IsLinked, AgreesWithParents, KeepsJoined, AreTogether}
 use Rattle.unifier.specs.Joining.{IsOnShorterWay, IsShortened, ArePartsBelow, HasFallen, IsMerged}
 use Rattle.unifier.proofs.ClosingLemmas.{IsLifted, lifted}
 use Rattle.unifier.proofs.ClassLemmas.{set-read}
@@ -24,6 +24,8 @@ way-starts n c cell h = record {
   below = omega arith;
   same = λ f constant. refl;
   others = λ i smallest. smallest;
+  kept = λ f agrees. agrees;
+  together = λ f agrees. refl;
 }
 
 pub way-on :
@@ -48,6 +50,10 @@ way-on n old mid new cell at up top h inside differs up_is top_is pe se =
           set-read Q mid.parents.items new.parents.items at top i 0 pe in_ps
           (λ e. absurd (differs (up_is ∙ ap (parent mid) (sym e) ∙ before ∙ e)))
           (λ _. before);
+      kept = λ f agrees. h.kept f (one.kept f agrees);
+      together = λ f agrees.
+          let before : AgreesWithParents n mid f = one.kept f agrees in
+          ap f top_is ∙ before up (omega arith) ∙ ap f up_is ∙ before at inside ∙ h.together f before;
     }
 
 -- ---- two classes
@@ -62,6 +68,9 @@ pub record AreFound (n : ℕ) (old : Classes) (new : Classes) (first : ℕ) (sec
   pub one_smallest : parent new one ≡ one
   pub other_smallest : parent new other ≡ other
   pub meet : (f : ℕ → Value) → IsConstantOn n old f → f first ≡ f second → f one ≡ f other
+  pub kept : KeepsJoined n old new
+  pub with_first : AreTogether n new one first
+  pub with_second : AreTogether n new other second
 
 pub both-found :
     (n : ℕ) (old mid new : Classes) (first second one other : ℕ)
@@ -75,18 +84,23 @@ both-found n old mid new first second one other first_in second_in h k = record 
   one_smallest = k.way.others one h.smallest;
   other_smallest = k.smallest;
   meet = λ f constant same. h.way.same f constant ∙ same ∙ sym (k.way.same f (h.way.sound f constant));
+  kept = λ f agrees. h.way.kept f (k.way.kept f agrees);
+  with_first = λ f agrees. h.way.together f (k.way.kept f agrees);
+  with_second = λ f agrees. k.way.together f agrees;
 }
 
 pub same-class :
     (cells : List Cell) (old new : Classes) (first second one other : ℕ)
-    → AreFound (length cells) old new first second one other → IsMerged cells old new first second Same
-same-class cells old new first second one other h = record {
+    → AreFound (length cells) old new first second one other → one ≡ other → IsMerged cells old new first second Same
+same-class cells old new first second one other h is = record {
   classes = h.classes;
   sound = λ f constant same. h.sound f constant;
   falls = h.falls;
   inside = tt;
   forced = λ f congruent constant same. tt;
   refuted = λ e. cc;
+  kept = h.kept;
+  together = λ f agrees. sym (h.with_first f agrees) ∙ ap f is ∙ h.with_second f agrees;
 }
 
 parts-below : (n i j : ℕ) (x y : Cell) → i < n → j < n → IsAfterParts i x → IsAfterParts j y → ArePartsBelow n (relate x y)
@@ -119,8 +133,8 @@ pub classes-merged :
     → AreOrdered cells → AreFound (length cells) old mid first second one other
     → s ≡ schema mid one → t ≡ schema mid other → told ≡ relate (cell_at cells s) (cell_at cells t)
     → IsLinked (length cells) mid new low high → ((f : ℕ → Value) → f one ≡ f other → f low ≡ f high)
-    → IsMerged cells old new first second told
-classes-merged cells old mid new first second one other s t low high told ordered h s_is t_is is linked ends =
+    → ((f : ℕ → Value) → f low ≡ f high → f one ≡ f other) → IsMerged cells old new first second told
+classes-merged cells old mid new first second one other s t low high told ordered h s_is t_is is linked ends back =
     let n : ℕ = length cells in
     let P : ℕ → Type 0 = λ k. k < n in
     let s_in : s < n = subst P (sym s_is) (h.classes.inside one h.one_inside) in
@@ -135,6 +149,10 @@ classes-merged cells old mid new first second one other s t low high told ordere
       inside = subst (ArePartsBelow n) (sym is) (parts-below n s t (cell_at cells s) (cell_at cells t) s_in t_in (ordered s s_in) (ordered t t_in));
       forced = λ f congruent constant same. subst (PartsAgree f) (sym is) (congruent s t s_in t_in (schemas f constant same));
       refuted = λ clash. record { one = s; other = t; one_inside = s_in; other_inside = t_in; clash = sym is ∙ clash; forced = schemas };
+      kept = λ f agrees. h.kept f (linked.kept f agrees);
+      together = λ f agrees.
+          let before : AgreesWithParents n mid f = linked.kept f agrees in
+          sym (h.with_first f before) ∙ back f (linked.together f agrees) ∙ h.with_second f before;
     }
 
 -- ---- pairs that are due
@@ -146,9 +164,14 @@ pub record IsDue (cells : List Cell) (first : ℕ) (second : ℕ) (old : Classes
   pub forced :
       (f : ℕ → Value) → IsCongruent cells f → f first ≡ f second → IsConstantOn (length cells) old f → f pair.0 ≡ f pair.1
 
+-- the cells of all pairs have one value
+abbrev AllAgree : (ℕ → Value) → List (ℕ × ℕ) → Type 0
+AllAgree f due = All (λ (pair : ℕ × ℕ). f pair.0 ≡ f pair.1) due
+
 pub record AreDue (cells : List Cell) (first : ℕ) (second : ℕ) (old : Classes) (new : Classes) (due : List (ℕ × ℕ)) : Type 0 where
   pub follows : FollowsFrom cells first second old new
   pub all : All (IsDue cells first second old) due
+  pub joined : (f : ℕ → Value) → AgreesWithParents (length cells) new f → AllAgree f due → f first ≡ f second
 
 one-due : (cells : List Cell) (first second : ℕ) (old : Classes) (pair : ℕ × ℕ) → IsDue cells first second old pair → All (IsDue cells first second old) (pair ∷ [])
 one-due cells first second old pair h = All-from_recursion (IsDue cells first second old) (pair ∷ []) (h, tt)
@@ -163,19 +186,30 @@ due-starts cells first second c due h first_in second_in e = record {
       subst (All (IsDue cells first second c)) (sym e)
       (one-due cells first second c (first, second)
       (record { one_inside = first_in; other_inside = second_in; forced = λ f congruent same constant. same }));
+  joined = λ f agrees all. (All-pop (λ (pair : ℕ × ℕ). f pair.0 ≡ f pair.1) due [] (Some (first, second)) e all).1;
 }
 
 -- the last pair is taken
 pub record IsTaken (cells : List Cell) (first : ℕ) (second : ℕ) (old : Classes) (now : Classes) (rest : List (ℕ × ℕ)) (pair : ℕ × ℕ) : Type 0 where
-  pub due : AreDue cells first second old now rest
+  pub follows : FollowsFrom cells first second old now
+  pub all : All (IsDue cells first second old) rest
   pub is_due : IsDue cells first second old pair
+  pub joined :
+      (f : ℕ → Value) → AgreesWithParents (length cells) now f → AllAgree f rest → f pair.0 ≡ f pair.1 → f first ≡ f second
 
 pub due-taken :
     (cells : List Cell) (first second : ℕ) (old now : Classes) (due rest : List (ℕ × ℕ)) (pair : ℕ × ℕ)
     → AreDue cells first second old now due → due ≡ rest ++ pair ∷ [] → IsTaken cells first second old now rest pair
 due-taken cells first second old now due rest pair h e =
     let both = All-pop (IsDue cells first second old) due rest (Some pair) e h.all in
-    record { due = record { follows = h.follows; all = both.0 }; is_due = both.1 }
+    record {
+      follows = h.follows;
+      all = both.0;
+      is_due = both.1;
+      joined = λ f agrees all same.
+          let Q : ℕ × ℕ → Type 0 = λ p. f p.0 ≡ f p.1 in
+          h.joined f agrees (subst (All Q) (sym e) (All-append Q rest (pair ∷ []) all (All-from_recursion Q (pair ∷ []) (same, tt))));
+    }
 
 merged-follows :
     (cells : List Cell) (first second : ℕ) (old now new : Classes) (rest : List (ℕ × ℕ)) (pair : ℕ × ℕ) (told : Relation)
@@ -183,14 +217,18 @@ merged-follows :
 merged-follows cells first second old now new rest pair told h m = record {
   classes = m.classes;
   sound = λ f congruent same constant.
-      m.sound f (h.due.follows.sound f congruent same constant) (h.is_due.forced f congruent same constant);
+      m.sound f (h.follows.sound f congruent same constant) (h.is_due.forced f congruent same constant);
 }
 
 pub due-same :
     (cells : List Cell) (first second : ℕ) (old now new : Classes) (rest : List (ℕ × ℕ)) (pair : ℕ × ℕ) (told : Relation)
     → IsTaken cells first second old now rest pair → IsMerged cells now new pair.0 pair.1 told → AreDue cells first second old new rest
 due-same cells first second old now new rest pair told h m =
-    record { follows = merged-follows cells first second old now new rest pair told h m; all = h.due.all }
+    record {
+      follows = merged-follows cells first second old now new rest pair told h m;
+      all = h.all;
+      joined = λ f agrees all. h.joined f (m.kept f agrees) all (m.together f agrees);
+    }
 
 pub due-parts :
     (cells : List Cell) (first second : ℕ) (old now new : Classes) (rest one two : List (ℕ × ℕ)) (pair : ℕ × ℕ) (a c b d : ℕ)
@@ -199,13 +237,18 @@ pub due-parts :
 due-parts cells first second old now new rest one two pair a c b d h m e e₂ =
     let P : ℕ × ℕ → Type 0 = IsDue cells first second old in
     let agree : (f : ℕ → Value) → IsCongruent cells f → f first ≡ f second → IsConstantOn (length cells) old f → (f a ≡ f c) × (f b ≡ f d) = λ f congruent same constant.
-    m.forced f congruent (h.due.follows.sound f congruent same constant) (h.is_due.forced f congruent same constant) in
+    m.forced f congruent (h.follows.sound f congruent same constant) (h.is_due.forced f congruent same constant) in
     let firsts : P (a, c) = record { one_inside = m.inside.0; other_inside = m.inside.1; forced = λ f congruent same constant. (agree f congruent same constant).0 } in
     let rests : P (b, d) = record { one_inside = m.inside.2; other_inside = m.inside.3; forced = λ f congruent same constant. (agree f congruent same constant).1 } in
-    let with_first : All P one = subst (All P) (sym e) (All-append P rest ((a, c) ∷ []) h.due.all (one-due cells first second old (a, c) firsts)) in
+    let with_first : All P one = subst (All P) (sym e) (All-append P rest ((a, c) ∷ []) h.all (one-due cells first second old (a, c) firsts)) in
     record {
       follows = merged-follows cells first second old now new rest pair (Parts a c b d) h m;
       all = subst (All P) (sym e₂) (All-append P one ((b, d) ∷ []) with_first (one-due cells first second old (b, d) rests));
+      joined = λ f agrees all.
+          let Q : ℕ × ℕ → Type 0 = λ p. f p.0 ≡ f p.1 in
+          h.joined f (m.kept f agrees)
+          (All-pop Q one rest (Some (a, c)) e (All-pop Q two one (Some (b, d)) e₂ all).0).0
+          (m.together f agrees);
     }
 
 pub due-clash :
@@ -220,7 +263,7 @@ due-clash cells first second old now new rest pair told h m is =
       other_inside = r.other_inside;
       clash = r.clash;
       forced = λ f congruent same constant.
-          r.forced f (h.due.follows.sound f congruent same constant) (h.is_due.forced f congruent same constant);
+          r.forced f (h.follows.sound f congruent same constant) (h.is_due.forced f congruent same constant);
     }
 
 -- ---- as the code has it

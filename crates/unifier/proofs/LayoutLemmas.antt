@@ -1,14 +1,11 @@
 -- Layouts, as cells are added.
 use Rattle.std.proofs.Common.{◌≡◌, ◌⊎◌, inl, inr, ℕ, suc, ◌+◌, ◌-◌, ◌<◌, ◌≤◌, drop-cons, Bool, true, false, ◌&&◌, ◌==◌, Option, None, Some, List, [], ◌∷◌, ◌++◌, length, map, drop, get_or, refl, ap, ap₂, sym, ◌∙◌, subst, ⊎_elim, arith, eq-eqb, append_assoc}
-use Rattle.std.specs.Prelude.{Result, Ok, Err, IfOk, All}
-use Rattle.std.proofs.lemmas.Bool.{and_parts, and_from, cases_lt, cond-true, cond-false, cases_Bool, eqb-true, true≢false}
+use Rattle.std.specs.Prelude.{Result, Ok, Err, IfOk, All, nat_lt}
+use Rattle.std.proofs.lemmas.Bool.{cases_lt, cond-true, cond-false, cases_Bool, eqb-true, true≢false}
 use Rattle.std.proofs.Math.ListN.{get_or-append}
 use Rattle.std.proofs.Math.Seq.{get_or-append_seam}
 use Rattle.std.proofs.lemmas.List.{length-append, append-nil}
-use Rattle.std.proofs.lemmas.List.Folds.{list_all-append}
-use Rattle.std.specs.List.{list_all}
-use Rattle.fol_base.specs.Tree.{Tree, variable, application, Trees, no_trees, tree_then, trees_of, tree_variables, trees_variables}
-use Rattle.fol_base.proofs.TreeLemmas.{and_left}
+use Rattle.fol_base.specs.Tree.{Tree, variable, application, Trees, no_trees, tree_then, trees_of}
 use Rattle.fol_base.specs.Term.{tree_of}
 use Rattle.fol_base.specs.declared.term.Term.{Term}
 use Rattle.fol_base.specs.Instance.{Substitution, instance}
@@ -18,7 +15,8 @@ use Rattle.unifier.specs.declared.cells.Cell.TheVariants.{Variable, Application,
 use Rattle.unifier.specs.declared.layout.Place.{Place}
 use Rattle.unifier.specs.declared.layout.Layout.{Layout}
 use Rattle.unifier.specs.Cells.{Value, tree, trees, as_tree, as_trees, cell_at, value_of, is_list, is_variable, IsAfterParts, AreOrdered, HasKinds, AreKinded, IsValuation}
-use Rattle.unifier.specs.Layout.{code_of, of_side, cell_of, all_pass, IsLayout, Grows, TermLaidOut, TermsLaidOut, VariableLaidOut, IsPushed}
+use Rattle.unifier.specs.Layout.{code_of, of_side, cell_of, all_pass, AreRising, IsLayout, Grows, IsWithVariable, TermLaidOut, TermsLaidOut, IsPushed}
+use Rattle.unifier.proofs.PlaceLemmas.{ltb-not, cell_of-front, cell_of-back, not-found, all_pass-push, rising-push}
 
 -- ---- cells
 
@@ -77,40 +75,6 @@ valuation-last θ cs c val h =
 
 -- ---- places
 
-cell_of-front : (w i : ℕ) (ps qs : List Place) → cell_of w ps ≡ Some i → cell_of w (ps ++ qs) ≡ Some i
-cell_of-front w i [] qs h = cc
-cell_of-front w i (p ∷ ps) qs h =
-    ⊎_elim
-    (λ same.
-    cond-true (w == p.code) (Some p.cell) (cell_of w (ps ++ qs)) same
-    ∙ sym (cond-true (w == p.code) (Some p.cell) (cell_of w ps) same)
-    ∙ h)
-    (λ other.
-    cond-false (w == p.code) (Some p.cell) (cell_of w (ps ++ qs)) other
-    ∙ cell_of-front w i ps qs (sym (cond-false (w == p.code) (Some p.cell) (cell_of w ps) other) ∙ h))
-    (cases_Bool (w == p.code))
-
-cell_of-back : (w : ℕ) (ps qs : List Place) → cell_of w ps ≡ None → cell_of w (ps ++ qs) ≡ cell_of w qs
-cell_of-back w [] qs h = refl
-cell_of-back w (p ∷ ps) qs h =
-    ⊎_elim
-    (λ same. let wrong : Some p.cell ≡ None = sym (cond-true (w == p.code) (Some p.cell) (cell_of w ps) same) ∙ h in absurd cc)
-    (λ other.
-    cond-false (w == p.code) (Some p.cell) (cell_of w (ps ++ qs)) other
-    ∙ cell_of-back w ps qs (sym (cond-false (w == p.code) (Some p.cell) (cell_of w ps) other) ∙ h))
-    (cases_Bool (w == p.code))
-
--- a variable that has a place passes what all pass
-pub found-passes :
-    (test : ℕ → Bool) (w k : ℕ) (ps : List Place) → all_pass test ps ≡ true → cell_of w ps ≡ Some k → test w ≡ true
-found-passes test w k [] all found = cc
-found-passes test w k (p ∷ ps) all found =
-    let both = and_parts (test p.code) (all_pass test ps) all in
-    ⊎_elim
-    (λ same. ap test (eqb-true w p.code same) ∙ both.0)
-    (λ other. found-passes test w k ps both.1 (sym (cond-false (w == p.code) (Some p.cell) (cell_of w ps) other) ∙ found))
-    (cases_Bool (w == p.code))
-
 grows-on : (first second third : Layout) → Grows first second → Grows second third → Grows first third
 grows-on first second third g h =
     (g.0 ++ h.0, h.1 ∙ ap (λ cs. cs ++ h.0) g.1 ∙ append_assoc first.cells.items g.0 h.0)
@@ -162,15 +126,18 @@ layout-push old new c h after kinds no_variable e same =
           let longer : length cs ≤ length new.cells.items = omega (arith, ap length e, length-push cs c) in
           let P : List Place → Type 0 = λ ps. All (λ (p : Place). p.cell < length new.cells.items) ps in
           subst P (sym same) (known-longer (length cs) (length new.cells.items) old.places.items longer h.known);
+      rising = subst AreRising (sym same) h.rising;
     }
 
 -- ---- a variable
 
 pub layout-variable :
     (old new : Layout) (w : ℕ) (p : Place)
-    → IsLayout old → cell_of w old.places.items ≡ None → p.code ≡ w → p.cell ≡ length old.cells.items
+    → IsLayout old → all_pass (λ v. nat_lt v w) old.places.items ≡ true → p.code ≡ w → p.cell ≡ length old.cells.items
     → new.cells.items ≡ old.cells.items ++ Variable w ∷ [] → new.places.items ≡ old.places.items ++ p ∷ [] → IsLayout new
-layout-variable old new w p h none code cell e places_e =
+layout-variable old new w p h below code cell e places_e =
+    let none : cell_of w old.places.items ≡ None =
+    not-found (λ v. nat_lt v w) w old.places.items (cell_of w old.places.items) below (ltb-not w w (omega arith)) refl in
     let cs : List Cell = old.cells.items in
     let c : Cell = Variable w in
     let ps : List Place = old.places.items in
@@ -199,6 +166,9 @@ layout-variable old new w p h none code cell e places_e =
           let P : List Place → Type 0 = λ qs. All (λ (q : Place). q.cell < length new.cells.items) qs in
           subst P (sym places_e)
           (known-push (length new.cells.items) ps p (known-longer (length cs) (length new.cells.items) ps longer h.known) (omega (arith, len, cell)));
+      rising =
+          let under : all_pass (λ v. nat_lt v p.code) ps ≡ true = subst (λ u. all_pass (λ v. nat_lt v u) ps ≡ true) (sym code) below in
+          subst AreRising (sym places_e) (rising-push ps p h.rising under);
     }
   where
     look :
@@ -228,37 +198,15 @@ layout-variable old new w p h none code cell e places_e =
         (λ other. let wrong : None ≡ Some i = sym (cond-false (v == p.code) (Some p.cell) None other) ∙ late in absurd cc)
         (cases_Bool (v == p.code))
 
-all_pass-push :
-    (test : ℕ → Bool) (ps : List Place) (p : Place) → all_pass test ps ≡ true → test p.code ≡ true → all_pass test (ps ++ p ∷ []) ≡ true
-all_pass-push test ps p h here =
-    list_all-append (λ (q : Place). test q.code) ps (p ∷ []) ∙ and_from (all_pass test ps) (test p.code && true) h (and_from (test p.code) true here refl)
-
-pub known-variable : (l : Layout) (w k : ℕ) → IsLayout l → cell_of w l.places.items ≡ Some k → VariableLaidOut l l w k
-known-variable l w k h found = record {
-  layout = h;
-  grows = grows-itself l;
-  inside = (h.places w k found).0;
-  is_variable = (h.places w k found).1;
-  adds = λ test all here. all;
-}
-
-pub new-variable :
+-- as the code has it
+pub with-variable :
     (old new : Layout) (w : ℕ) (p : Place)
-    → IsLayout old → cell_of w old.places.items ≡ None → p.code ≡ w → p.cell ≡ length old.cells.items
+    → IsLayout old → all_pass (λ v. nat_lt v w) old.places.items ≡ true → p.code ≡ w → p.cell ≡ length old.cells.items
     → new.cells.items ≡ old.cells.items ++ Variable w ∷ [] → new.places.items ≡ old.places.items ++ p ∷ []
-    → VariableLaidOut old new w p.cell
-new-variable old new w p h none code cell e places_e = record {
-  layout = layout-variable old new w p h none code cell e places_e;
-  grows = (Variable w ∷ [], e);
-  inside =
-      let P : List Cell → Type 0 = λ cs. p.cell < length cs in
-      subst P (sym e) (omega (arith, cell, length-push old.cells.items (Variable w)));
-  is_variable =
-      ap (λ cs. cell_at cs p.cell) e
-      ∙ ap (cell_at (old.cells.items ++ Variable w ∷ [])) cell
-      ∙ cell_at-last old.cells.items (Variable w);
-  adds = λ test all here.
-      ap (all_pass test) places_e ∙ all_pass-push test old.places.items p all (ap test code ∙ here);
+    → IsWithVariable old new w
+with-variable old new w p h below code cell e places_e = record {
+  layout = layout-variable old new w p h below code cell e places_e;
+  also = λ test. ap (all_pass test) places_e ∙ all_pass-push test old.places.items p ∙ ap (λ v. all_pass test old.places.items && test v) code;
 }
 
 -- ---- terms
@@ -270,16 +218,18 @@ valuation-before θ old new val g h =
     valuation-front θ old.cells.items g.0 val (let P : List Cell → Type 0 = λ cs. IsValuation θ cs val in subst P g.1 h)
 
 pub variable-laid_out :
-    (old new : Layout) (apart : Bool) (side : Side) (v w k : ℕ)
-    → w ≡ code_of apart side v → VariableLaidOut old new w k → TermLaidOut old new apart side (variable v) k
-variable-laid_out old new apart side v w k code h = record {
-  layout = h.layout;
-  grows = h.grows;
-  inside = h.inside;
-  kind = ap is_list h.is_variable;
-  denotes = λ θ val valuation. valuation k h.inside ∙ ap (value_of θ val) h.is_variable ∙ ap (λ u. tree (θ u)) code;
-  adds = λ test all here. h.adds test all (ap test code ∙ and_left (test (code_of apart side v)) true here);
-}
+    (l : Layout) (apart : Bool) (side : Side) (v w k : ℕ)
+    → IsLayout l → w ≡ code_of apart side v → cell_of w l.places.items ≡ Some k → TermLaidOut l l apart side (variable v) k
+variable-laid_out l apart side v w k h code found =
+    let there = h.places w k found in
+    record {
+      layout = h;
+      grows = grows-itself l;
+      inside = there.0;
+      kind = ap is_list there.1;
+      denotes = λ θ val valuation. valuation k there.0 ∙ ap (value_of θ val) there.1 ∙ ap (λ u. tree (θ u)) code;
+      places = refl;
+    }
 
 pushed-inside : (mid new : Layout) (c : Cell) (k : ℕ) → IsPushed mid new c k → k < length new.cells.items
 pushed-inside mid new c k h =
@@ -305,7 +255,7 @@ application-laid_out old mid new apart side f l k ts list pushed =
           valuation k (pushed-inside mid new (Application f l) k pushed)
           ∙ ap (value_of θ val) (pushed-cell mid new (Application f l) k pushed)
           ∙ ap (λ u. tree (application f (as_trees u))) (list.denotes θ val (valuation-before θ mid new val step valuation));
-      adds = λ test all here. ap (all_pass test) pushed.places ∙ list.adds test all here;
+      places = pushed.places ∙ list.places;
     }
 
 -- as the code has it
@@ -326,7 +276,7 @@ no-terms-laid_out l apart side h = record {
   inside = h.filled;
   kind = ap is_list h.empty;
   denotes = λ θ val valuation. valuation 0 h.filled ∙ ap (value_of θ val) h.empty;
-  adds = λ test all here. all;
+  places = refl;
 }
 
 pub more-terms-laid_out :
@@ -347,11 +297,7 @@ more-terms-laid_out old first_old mid new apart side t ts rest first k list one 
           ∙ ap₂ (λ u v. trees (tree_then (as_tree u) (as_trees v)))
           (one.denotes θ val (valuation-before θ mid new val step valuation))
           (list.denotes θ val (valuation-before θ first_old new val steps valuation));
-      adds = λ test all here.
-          let own : ℕ → Bool = λ v. test (code_of apart side v) in
-          let both = and_parts (list_all own (tree_variables t)) (list_all own (trees_variables ts))
-          (sym (list_all-append own (tree_variables t) (trees_variables ts)) ∙ here) in
-          ap (all_pass test) pushed.places ∙ one.adds test (list.adds test all both.1) both.0;
+      places = pushed.places ∙ one.places ∙ list.places;
     }
 
 -- what a cell of a smaller layout is in the larger one

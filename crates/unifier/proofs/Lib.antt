@@ -1,5 +1,8 @@
+pub mod ParityLemmas
 pub mod MatchLemmas
+pub mod PlaceLemmas
 pub mod LayoutLemmas
+pub mod CodeLemmas
 pub mod ClassLemmas
 pub mod ClosingLemmas
 pub mod JoiningLemmas

@@ -14,7 +14,7 @@ use Rattle.unifier.specs.Matching.{variables_of, term_for, by_pairs, are_below, 
 use Rattle.fol_base.specs.Term.{tree_of}
 use Rattle.unifier.specs.declared.matched.Pair.{Pair}
 use Rattle.unifier.specs.Walk.{pair_of, met, walk, walk_all}
-use Rattle.unifier.proofs.RenameLemmas.{ltb-is}
+use Rattle.unifier.proofs.PlaceLemmas.{ltb-is}
 use Rattle.unifier.proofs.BoundLemmas.{below-pass}
 
 abbrev pub Pairs : Type 0

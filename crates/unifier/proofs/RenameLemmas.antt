@@ -1,7 +1,6 @@
 -- The two sides' substitutions into shared variables.
 use Rattle.std.proofs.Common.{◌≡◌, ◌⊎◌, inl, inr, ℕ, zero, suc, ◌+◌, ◌-◌, ◌*◌, ◌/◌, ◌%◌, ◌<◌, ◌≤◌, max, Bool, true, false, ◌&&◌, ◌==◌, cond, Option, None, Some, List, [], ◌∷◌, ◌++◌, length, map, get_or, slice_index, refl, ap, ap₂, sym, ◌∙◌, subst, ⊎_elim, arith, eq-eqb}
 use Rattle.std.specs.Prelude.{nat_lt}
-use Rattle.std.proofs.lemmas.Bool.Decides.{nat_tests}
 use Rattle.std.proofs.lemmas.Bool.{cases_lt, cond-true, cond-false, cases_Bool}
 use Rattle.std.proofs.lemmas.List.{length-append, map-append, append_assoc, append-nil}
 use Rattle.std.proofs.Math.ListN.{get_or-append}
@@ -21,7 +20,8 @@ use Rattle.unifier.specs.Layout.{cell_of, code_of}
 use Rattle.unifier.specs.Bindings.{value_at, bound, joint, substitution_of}
 use Rattle.unifier.specs.Renaming.{renamed, renamed_trees, side_terms, AreRenamed, code_count, is_within, fits, is_shared, rank, AreNames, HasNames}
 use Rattle.unifier.proofs.ValueLemmas.{value_at-valuation}
-use Rattle.unifier.proofs.LayoutLemmas.{found-passes}
+use Rattle.unifier.proofs.ParityLemmas.{even-half, odd-half}
+use Rattle.unifier.proofs.PlaceLemmas.{found-passes, ltb-is, ltb-less}
 
 abbrev pub side_count : ℕ → ℕ → Side → ℕ
 side_count l r Left = l
@@ -250,29 +250,12 @@ renamed-free b names w t none is = is ∙ ap (λ o. renamed names (bound b.cells
 halves : (w : ℕ) → ((w % 2 ≡ 0) × (2 * (w / 2) ≡ w)) ⊎ ((w % 2 ≡ 1) × (2 * (w / 2) + 1 ≡ w))
 halves w = ⊎_elim (λ less. inl (omega arith, omega arith)) (λ ge. inr (omega arith, omega arith)) (cases_lt (w % 2) 1)
 
-pub ltb-is : (a b : ℕ) → a < b → nat_lt a b ≡ true
-ltb-is a b h = grind (arith, nat_tests)
-
-ltb-less : (a b : ℕ) → nat_lt a b ≡ true → a < b
-ltb-less a b h = grind (arith, nat_tests)
-
-pub ltb-not : (a b : ℕ) → b ≤ a → nat_lt a b ≡ false
-ltb-not a b h = grind (arith, nat_tests)
-
 -- taken apart, a side's variable is within where it is below its side's count
 pub within-left : (l r v : ℕ) → is_within true l r (2 * v) ≡ nat_lt v l
-within-left l r v =
-    let e : (2 * v) % 2 ≡ 0 = omega arith in
-    let half : (2 * v) / 2 ≡ v = omega arith in
-    cond-true ((2 * v) % 2 == 0) (nat_lt ((2 * v) / 2) l) (nat_lt ((2 * v) / 2) r) (eq-eqb ((2 * v) % 2) 0 e)
-    ∙ ap (λ n. nat_lt n l) half
+within-left l r v = even-half (λ n. nat_lt n l) (λ n. nat_lt n r) v
 
 pub within-right : (l r v : ℕ) → is_within true l r (2 * v + 1) ≡ nat_lt v r
-within-right l r v =
-    let e : (2 * v + 1) % 2 ≡ 1 = omega arith in
-    let half : (2 * v + 1) / 2 ≡ v = omega arith in
-    cond-false ((2 * v + 1) % 2 == 0) (nat_lt ((2 * v + 1) / 2) l) (nat_lt ((2 * v + 1) / 2) r) (ap (λ m. m == 0) e)
-    ∙ ap (λ n. nat_lt n r) half
+within-right l r v = odd-half (λ n. nat_lt n l) (λ n. nat_lt n r) v
 
 -- a side's variable below its count is used
 pub code-within :

@@ -1,6 +1,7 @@
 -- The cells of a unifier are in order; and all of it as the code has it.
-use Rattle.std.proofs.Common.{◌≡◌, ℕ, ◌<◌, false, Option, None, Some, List, length, refl, ap, sym, ◌∙◌, subst, arith}
+use Rattle.std.proofs.Common.{◌≡◌, ℕ, ◌<◌, false, Option, None, Some, List, length, map, get_or, refl, ap, sym, ◌∙◌, subst, arith}
 use Rattle.std.specs.Prelude.{option_map}
+use Rattle.std.proofs.lemmas.List.{get_or-map, length-map}
 use Rattle.unifier.specs.declared.cells.Cell.{Cell}
 use Rattle.unifier.specs.declared.cells.Cell.TheVariants.{Variable, Application, NoTrees, TreeThen}
 use Rattle.unifier.specs.declared.layout.Place.{Place}
@@ -8,7 +9,7 @@ use Rattle.unifier.specs.declared.layout.Layout.{Layout}
 use Rattle.unifier.specs.declared.classes.Classes.{Classes}
 use Rattle.unifier.specs.declared.placing.Placing.{Placing}
 use Rattle.unifier.specs.Cells.{cell_at, is_list, IsAfterParts, HasKinds}
-use Rattle.unifier.specs.Layout.{cell_of, IsLayout}
+use Rattle.unifier.specs.Layout.{cell_of, AreRising, IsLayout}
 use Rattle.unifier.specs.InOrder.{InOrder}
 use Rattle.unifier.specs.Classes.{parent, schema, IsDiscrete, CannotFollow, AreClosed}
 use Rattle.unifier.specs.Placing.{place, IsPlacedAs, IsOrdering}
@@ -69,6 +70,15 @@ solved-terms layout first second start c p ps w k (Some i) h solved e found =
           ∙ schema-kind layout first second start c i h variable_at.0 ∙ ap is_list variable_at.1,
     )
 
+relocated-rising : (c : Classes) (p : Placing) (es : List Place) → AreRising es → AreRising (map (relocated c p) es)
+relocated-rising c p es rising i j d less inside =
+    let len : length (map (relocated c p) es) ≡ length es = length-map es (relocated c p) in
+    let code_at : (k : ℕ) → k < length es → (get_or (map (relocated c p) es) k d).code ≡ (get_or es k d).code =
+    λ k within. ap (λ (e : Place). e.code) (get_or-map (relocated c p) es k d d within) in
+    let j_in : j < length es = omega arith in
+    let i_in : i < length es = omega arith in
+    omega (arith, code_at i i_in, code_at j j_in, rising i j d less j_in)
+
 pub solved-in-order :
     (layout : Layout) (first second : ℕ) (start c : Classes) (p : Placing) (ps : List Place)
     → Stands layout first second start c → IsSolved layout c p ps → InOrder p.cells.items ps
@@ -94,6 +104,7 @@ solved-in-order layout first second start c p ps h solved =
           let s_is : cell_at cells s ≡ Variable w = placed-variable c p (cell_at cells s) (cell_at p.cells.items k) w there.as_schema is in
           bound-place layout c p ps w s solved (h.is_layout.placed s w s_in s_is)
           ∙ ap Some (spot-is c p s k (ap (place p) (h.closed.settled.own from.0 from.1 ∙ there.smallest) ∙ from.2));
+      rising = subst AreRising (sym solved.places) (relocated-rising c p layout.places.items h.is_layout.rising);
     }
 
 -- ---- as the code has them: the cells are borrowed as a slice

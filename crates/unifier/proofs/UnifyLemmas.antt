@@ -1,7 +1,6 @@
 -- The answer of `unify`, from what was laid out and solved.
-use Rattle.std.proofs.Common.{◌≡◌, ℕ, ◌+◌, ◌*◌, ◌/◌, ◌%◌, Bool, true, false, ◌==◌, cond, Option, None, Some, refl, ap, ap₂, sym, ◌∙◌, subst, arith, eq-eqb}
+use Rattle.std.proofs.Common.{◌≡◌, ℕ, ◌+◌, ◌*◌, ◌/◌, ◌%◌, Bool, true, false, ◌==◌, cond, Option, None, Some, refl, ap, ap₂, sym, ◌∙◌, subst}
 use Rattle.std.specs.Prelude.{Result, Ok, Err, IfOk, MatchOption}
-use Rattle.std.proofs.lemmas.Bool.{cond-true, cond-false}
 use Rattle.fol_base.specs.Tree.{Tree, variable, application, Trees, no_trees, tree_then}
 use Rattle.fol_base.specs.Instance.{Substitution, instance, instances}
 use Rattle.fol_base.specs.Unifier.{IsUnifier, IsUnifierApart, IsMostGeneralUnifier, IsMostGeneralUnifierApart}
@@ -11,6 +10,7 @@ use Rattle.unifier.specs.declared.bindings.Bindings.{Bindings}
 use Rattle.unifier.specs.Cells.{Value, tree, AreOrdered, IsValuation}
 use Rattle.unifier.specs.Layout.{of_side, TermLaidOut}
 use Rattle.unifier.specs.Bindings.{value_at, joint, IsUnified, CannotMeet, Meets, IsMeeting}
+use Rattle.unifier.proofs.ParityLemmas.{even-half, odd-half}
 use Rattle.unifier.proofs.ValueLemmas.{value_at-valuation}
 use Rattle.unifier.proofs.LayoutLemmas.{denotes-kept}
 
@@ -20,27 +20,13 @@ use Rattle.unifier.proofs.LayoutLemmas.{denotes-kept}
 pub joint_of : Substitution → Substitution → Substitution
 joint_of σ τ w = cond (w % 2 == 0) (σ (w / 2)) (τ (w / 2))
 
-half-even : (v : ℕ) → (2 * v) / 2 ≡ v
-half-even v = omega arith
-
-half-odd : (v : ℕ) → (2 * v + 1) / 2 ≡ v
-half-odd v = omega arith
-
-even : (v : ℕ) → (2 * v) % 2 ≡ 0
-even v = omega arith
-
-odd : (v : ℕ) → ((2 * v + 1) % 2 == 0) ≡ false
-odd v = let e : (2 * v + 1) % 2 ≡ 1 = omega arith in ap (λ r. r == 0) e
-
 pub joint_of-left : (σ τ : Substitution) (v : ℕ) → joint_of σ τ (2 * v) ≡ σ v
 unfolding joint_of
-joint_of-left σ τ v =
-    cond-true ((2 * v) % 2 == 0) (σ ((2 * v) / 2)) (τ ((2 * v) / 2)) (eq-eqb ((2 * v) % 2) 0 (even v)) ∙ ap σ (half-even v)
+joint_of-left σ τ v = even-half σ τ v
 
 pub joint_of-right : (σ τ : Substitution) (v : ℕ) → joint_of σ τ (2 * v + 1) ≡ τ v
 unfolding joint_of
-joint_of-right σ τ v =
-    cond-false ((2 * v + 1) % 2 == 0) (σ ((2 * v + 1) / 2)) (τ ((2 * v + 1) / 2)) (odd v) ∙ ap τ (half-odd v)
+joint_of-right σ τ v = odd-half σ τ v
 
 mutual
   pub instance-same : (σ τ : Substitution) (t : Tree) → ((v : ℕ) → σ v ≡ τ v) → instance σ t ≡ instance τ t

@@ -30,6 +30,18 @@ pub record AreClasses (n : ℕ) (c : Classes) : Type 0 where
 abbrev pub IsConstantOn : ℕ → Classes → (ℕ → Value) → Type 0
 IsConstantOn n c f = (i : ℕ) → i < n → (f (parent c i) ≡ f i) × (f (schema c i) ≡ f i)
 
+-- f has one value on each class, as the parents alone tell
+abbrev pub AgreesWithParents : ℕ → Classes → (ℕ → Value) → Type 0
+AgreesWithParents n c f = (i : ℕ) → i < n → f (parent c i) ≡ f i
+
+-- cells that are in one class stay in one
+abbrev pub KeepsJoined : ℕ → Classes → Classes → Type 0
+KeepsJoined n old new = (f : ℕ → Value) → AgreesWithParents n new f → AgreesWithParents n old f
+
+-- two cells are in one class
+abbrev pub AreTogether : ℕ → Classes → ℕ → ℕ → Type 0
+AreTogether n c i j = (f : ℕ → Value) → AgreesWithParents n c f → f i ≡ f j
+
 -- parts that must have one value have one under f
 abbrev pub PartsAgree : (ℕ → Value) → Relation → Type 0
 PartsAgree f Same = ⊤
@@ -130,6 +142,8 @@ pub record IsLinked (n : ℕ) (old : Classes) (new : Classes) (low : ℕ) (high 
   pub classes : AreClasses n new
   pub sound : (f : ℕ → Value) → IsConstantOn n old f → f low ≡ f high → IsConstantOn n new f
   pub falls : total new.parents.items < total old.parents.items
+  pub kept : KeepsJoined n old new
+  pub together : AreTogether n new low high
 
 -- each cell's parent is made its class's smallest cell
 pub record IsFlattened (n : ℕ) (old : Classes) (new : Classes) : Type 0 where

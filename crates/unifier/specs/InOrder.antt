@@ -5,14 +5,16 @@ use Rattle.unifier.specs.declared.cells.Cell.{Cell}
 use Rattle.unifier.specs.declared.cells.Cell.TheVariants.{Variable, Application, NoTrees, TreeThen}
 use Rattle.unifier.specs.declared.layout.Place.{Place}
 use Rattle.unifier.specs.Cells.{cell_at, is_list, IsAfterParts, AreOrdered, HasKinds, AreKinded}
-use Rattle.unifier.specs.Layout.{cell_of}
+use Rattle.unifier.specs.Layout.{cell_of, AreRising}
 
--- cells in an order in which parts come first, each of its kind; the places are cells of terms, and a variable's cell is its place
+-- cells in an order in which parts come first, each of its kind; the places are cells of terms, and a variable's cell is its place;
+-- the places are in the order of the variables' numbers
 pub record InOrder (cells : List Cell) (places : List Place) : Type 0 where
   pub ordered : AreOrdered cells
   pub kinded : AreKinded cells
   pub terms : (w k : ℕ) → cell_of w places ≡ Some k → (k < length cells) × (is_list (cell_at cells k) ≡ false)
   pub own : (k w : ℕ) → k < length cells → cell_at cells k ≡ Variable w → cell_of w places ≡ Some k
+  pub rising : AreRising places
 
 -- such facts have at most one proof
 

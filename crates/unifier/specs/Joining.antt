@@ -5,7 +5,7 @@ use Rattle.unifier.specs.declared.cells.Relation.{Relation}
 use Rattle.unifier.specs.declared.cells.Relation.TheVariants.{Same, Clash, Parts}
 use Rattle.unifier.specs.declared.classes.Classes.{Classes}
 use Rattle.unifier.specs.Cells.{Value, cell_at, relate}
-use Rattle.unifier.specs.Classes.{parent, total, AreClasses, IsConstantOn, IsCongruent, PartsAgree}
+use Rattle.unifier.specs.Classes.{parent, total, AreClasses, IsConstantOn, IsCongruent, PartsAgree, KeepsJoined, AreTogether}
 
 -- a cell on the way to its class's smallest one, and cells put below their parents' parents
 pub record IsOnShorterWay (n : ℕ) (old : Classes) (new : Classes) (cell : ℕ) (at : ℕ) : Type 0 where
@@ -15,6 +15,8 @@ pub record IsOnShorterWay (n : ℕ) (old : Classes) (new : Classes) (cell : ℕ)
   pub below : at ≤ cell
   pub same : (f : ℕ → Value) → IsConstantOn n old f → f at ≡ f cell
   pub others : (i : ℕ) → parent old i ≡ i → parent new i ≡ i
+  pub kept : KeepsJoined n old new
+  pub together : AreTogether n new at cell
 
 -- the way to a class's smallest cell got shorter
 pub record IsShortened (n : ℕ) (old : Classes) (new : Classes) (cell : ℕ) (root : ℕ) : Type 0 where
@@ -51,3 +53,5 @@ pub record IsMerged (cells : List Cell) (old : Classes) (new : Classes) (first :
   pub forced :
       (f : ℕ → Value) → IsCongruent cells f → IsConstantOn (length cells) old f → f first ≡ f second → PartsAgree f told
   pub refuted : told ≡ Clash → ClashAfter cells old first second
+  pub kept : KeepsJoined (length cells) old new
+  pub together : AreTogether (length cells) new first second

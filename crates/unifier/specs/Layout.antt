@@ -1,7 +1,7 @@
 -- The cells of two terms, with one cell for each variable.
-use Rattle.std.specs.Prelude.{◌≡◌, ℕ, ◌+◌, ◌*◌, ◌<◌, Bool, true, false, ◌==◌, List, [], ◌∷◌, ◌++◌, Option, None, Some, length, if◌then◌else◌, All}
+use Rattle.std.specs.Prelude.{◌≡◌, ℕ, ◌+◌, ◌*◌, ◌<◌, Bool, true, false, ◌&&◌, ◌==◌, List, [], ◌∷◌, ◌++◌, Option, None, Some, is_some, length, map, slice_index_or, if◌then◌else◌, All}
 use Rattle.std.specs.List.{list_all}
-use Rattle.fol_base.specs.Tree.{Tree, Trees, tree_variables, trees_variables}
+use Rattle.fol_base.specs.Tree.{Tree, Trees, tree_variables}
 use Rattle.fol_base.specs.Instance.{Substitution, instance, instances}
 use Rattle.fol_base.specs.declared.clause.Side.{Side}
 use Rattle.fol_base.specs.declared.clause.Side.TheVariants.{Left, Right}
@@ -27,9 +27,21 @@ abbrev pub cell_of : ℕ → List Place → Option ℕ
 cell_of w [] = None
 cell_of w (p ∷ ps) = if w == p.code then Some p.cell else cell_of w ps
 
+-- a variable has a place
+abbrev pub has_place : List Place → ℕ → Bool
+has_place ps w = is_some (cell_of w ps)
+
+-- each of a side's variables of a list has one
+abbrev pub HavePlaces : List Place → Bool → Side → List ℕ → Type 0
+HavePlaces ps apart side vs = list_all (λ v. has_place ps (code_of apart side v)) vs ≡ true
+
 -- the variables that have places all pass a test of their numbers
 abbrev pub all_pass : (ℕ → Bool) → List Place → Bool
 all_pass test ps = list_all (λ (p : Place). test p.code) ps
+
+-- the numbers of the places' variables rise
+abbrev pub AreRising : List Place → Type 0
+AreRising ps = (i j : ℕ) (d : Place) → i < j → j < length ps → (slice_index_or ps i d).code < (slice_index_or ps j d).code
 
 -- the empty list is cell 0, and the places are the variables' cells
 pub record IsLayout (layout : Layout) : Type 0 where
@@ -42,17 +54,25 @@ pub record IsLayout (layout : Layout) : Type 0 where
       (w i : ℕ) → cell_of w layout.places.items ≡ Some i
       → (i < length layout.cells.items) × (cell_at layout.cells.items i ≡ Variable w)
   pub known : All (λ (p : Place). p.cell < length layout.cells.items) layout.places.items
+  pub rising : AreRising layout.places.items
+
+-- the numbers of the variables of two terms, with repetitions
+abbrev pub codes_of : Bool → Tree → Tree → List ℕ
+codes_of apart s t = map (code_of apart Left) (tree_variables s) ++ map (code_of apart Right) (tree_variables t)
+
+-- the variables that have places are those of a list: what all of one pass, all of the other pass
+pub record HasVariables (codes : List ℕ) (layout : Layout) : Type 0 where
+  pub is_layout : IsLayout layout
+  pub exactly : (test : ℕ → Bool) → all_pass test layout.places.items ≡ list_all test codes
+
+-- a variable has got a place
+pub record IsWithVariable (old : Layout) (new : Layout) (w : ℕ) : Type 0 where
+  pub layout : IsLayout new
+  pub also : (test : ℕ → Bool) → all_pass test new.places.items ≡ (all_pass test old.places.items && test w)
 
 -- cells are added behind those that are there
 abbrev pub Grows : Layout → Layout → Type 0
 Grows old new = (more : List Cell) × (new.cells.items ≡ old.cells.items ++ more)
-
--- places are added for a side's variables of a list alone: a test that they pass, all pass who are there afterwards, if
--- those did who were there before
-abbrev pub AddsPlacesOf : Layout → Layout → Bool → Side → List ℕ → Type 0
-AddsPlacesOf old new apart side vs =
-    (test : ℕ → Bool) → all_pass test old.places.items ≡ true → list_all (λ v. test (code_of apart side v)) vs ≡ true
-    → all_pass test new.places.items ≡ true
 
 -- a term is laid out: the cell has its tree
 pub record TermLaidOut (old : Layout) (new : Layout) (apart : Bool) (side : Side) (t : Tree) (k : ℕ) : Type 0 where
@@ -62,7 +82,7 @@ pub record TermLaidOut (old : Layout) (new : Layout) (apart : Bool) (side : Side
   pub kind : is_list (cell_at new.cells.items k) ≡ false
   pub denotes :
       (θ : Substitution) (val : ℕ → Value) → IsValuation θ new.cells.items val → val k ≡ tree (instance (of_side apart side θ) t)
-  pub adds : AddsPlacesOf old new apart side (tree_variables t)
+  pub places : new.places.items ≡ old.places.items
 
 -- the same for a list of terms
 pub record TermsLaidOut (old : Layout) (new : Layout) (apart : Bool) (side : Side) (ts : Trees) (k : ℕ) : Type 0 where
@@ -72,16 +92,7 @@ pub record TermsLaidOut (old : Layout) (new : Layout) (apart : Bool) (side : Sid
   pub kind : is_list (cell_at new.cells.items k) ≡ true
   pub denotes :
       (θ : Substitution) (val : ℕ → Value) → IsValuation θ new.cells.items val → val k ≡ trees (instances (of_side apart side θ) ts)
-  pub adds : AddsPlacesOf old new apart side (trees_variables ts)
-
--- a variable has its cell
-pub record VariableLaidOut (old : Layout) (new : Layout) (w : ℕ) (k : ℕ) : Type 0 where
-  pub layout : IsLayout new
-  pub grows : Grows old new
-  pub inside : k < length new.cells.items
-  pub is_variable : cell_at new.cells.items k ≡ Variable w
-  pub adds :
-      (test : ℕ → Bool) → all_pass test old.places.items ≡ true → test w ≡ true → all_pass test new.places.items ≡ true
+  pub places : new.places.items ≡ old.places.items
 
 -- a cell is added
 pub record IsPushed (old : Layout) (new : Layout) (c : Cell) (k : ℕ) : Type 0 where

@@ -1,9 +1,9 @@
 // An early no: two terms with different symbols at one place.
 
-ghost use Rattle.std.specs.Prelude.{MatchBool, map, ⊤};
+ghost use Rattle.std.specs.Prelude.{◌≡◌, map};
 ghost use Rattle.fol_base.specs.Tree.{trees_of};
 ghost use Rattle.fol_base.specs.Term.{tree_of};
-ghost use Rattle.unifier.specs.Clashing.{CannotUnify, CannotUnifyAll};
+ghost use Rattle.unifier.specs.Clashing.{clash, clash_in};
 
 use fol_base::Term;
 
@@ -11,7 +11,7 @@ use fol_base::Term;
 /// substitutions make them equal, with the sides apart or not. It takes no memory.
 #[cycle(clash)]
 pub fn clash(left: &Term, right: &Term) -> bool
-    ensures { MatchBool result (CannotUnify (tree_of left.now) (tree_of right.now)) ⊤ }
+    ensures { result ≡ clash (tree_of left.now) (tree_of right.now) }
 {
     match left {
         Term::Var(_) => false,
@@ -30,7 +30,7 @@ pub fn clash(left: &Term, right: &Term) -> bool
 /// Whether two lists of terms have different lengths, or terms that clash at one place.
 #[cycle(clash)]
 fn clash_in(left: &[Term], right: &[Term]) -> bool
-    ensures { MatchBool result (CannotUnifyAll (trees_of (map tree_of left.now)) (trees_of (map tree_of right.now))) ⊤ }
+    ensures { result ≡ clash_in (trees_of (map tree_of left.now)) (trees_of (map tree_of right.now)) }
 {
     if left.len() != right.len() {
         return true;

@@ -1,14 +1,17 @@
 // Joining classes: two cells, their parts, the parts of these, and so on.
 
-ghost use Rattle.std.specs.Prelude.{◌<◌, length, IfOk, MatchBool};
+ghost use Rattle.std.specs.Prelude.{◌≡◌, ◌<◌, true, length, IfOk, MatchBool};
 ghost use Rattle.unifier.specs.Cells.{AreOrdered};
-ghost use Rattle.unifier.specs.Classes.{AreClasses, CannotFollow, FollowsFrom};
+ghost use Rattle.unifier.specs.Classes.{AreClasses, AreTogether, CannotFollow, FollowsFrom};
 ghost use Rattle.unifier.specs.Joining.{IsMerged, IsShortened};
 
 use crate::cells::{Cell, Relation};
 use crate::classes::Classes;
 use fol_base::Mem;
 use std::alloc::Global;
+
+/// Room for the pairs that are due at once in terms of usual size.
+const USUAL_PAIRS: usize = 16;
 
 impl Classes {
     /// Joins the classes of two cells, and then those of parts that must have one value. False where two
@@ -24,11 +27,12 @@ impl Classes {
         requires parts { AreOrdered cells.now }
         requires first { first < length cells.now }
         requires second { second < length cells.now }
-        ensures { IfOk result (λ joined. MatchBool joined
+        ensures follows { IfOk result (λ joined. MatchBool joined
             (FollowsFrom cells.now first second self.old self.new)
             (CannotFollow cells.now first second self.old)) }
+        ensures together { IfOk result (λ joined. joined ≡ true → AreTogether (length cells.now) self.new first second) }
     {
-        let mut due = Vec::new(alloc);
+        let mut due = Vec::with_capacity(alloc, USUAL_PAIRS)?;
         due.push((first, second))?;
         while let Some((one, other)) = due.pop() {
             match self.merge(cells, one, other) {

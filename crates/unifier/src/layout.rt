@@ -1,20 +1,32 @@
 // Laying terms out as cells.
 
-ghost use Rattle.std.specs.Prelude.{◌≡◌, ℕ, ◌≤◌, ◌<◌, ◌-◌, [], length, map, IfOk, false};
-ghost use Rattle.fol_base.specs.Tree.{trees_of};
+ghost use Rattle.std.specs.Prelude.{◌≡◌, ◌++◌, ℕ, ◌≤◌, ◌<◌, ◌-◌, [], Some, length, map, nat_lt, not, slice_index, take, ◌==◌, IfOk, OnOk, true, false};
+ghost use Rattle.std.specs.List.{list_any};
+ghost use Rattle.std.specs.List.Sorted.{IsNonDecreasing};
+ghost use Rattle.fol_base.specs.Tree.{tree_variables, trees_variables, trees_of};
 ghost use Rattle.fol_base.specs.Term.{tree_of};
-ghost use Rattle.unifier.specs.Layout.{cell_of, code_of};
+ghost use Rattle.unifier.specs.Layout.{AreRising, HavePlaces, all_pass, cell_of, code_of, has_place};
 
 use crate::cells::Cell;
 use fol_base::{Mem, Side, Term};
 use std::alloc::Global;
 
-/// The cells of two terms, with one cell for each variable.
+/// The cells of two terms, with one cell for each variable. The places are in the order of the variables'
+/// numbers.
 #[derive(Drop)]
 pub struct Layout {
     pub cells: Vec<Cell>,
     pub places: Vec<Place>,
 }
+
+/// Room for the occurrences of variables in two terms of usual size, so that their list need not grow.
+const USUAL_OCCURRENCES: usize = 32;
+
+/// Room for different variables.
+const USUAL_VARIABLES: usize = 8;
+
+/// Room for cells.
+const USUAL_CELLS: usize = 64;
 
 /// A variable, by its number among those of both sides, and its cell.
 #[derive(Clone, Copy)]
@@ -25,29 +37,74 @@ pub struct Place {
 
 impl Layout {
     ghost use Rattle.unifier.specs.Cells.{HasKinds, IsAfterParts, cell_at, is_list, is_variable};
-    ghost use Rattle.unifier.specs.Layout.{IsLayout, TermLaidOut, TermsLaidOut, VariableLaidOut, IsPushed};
+    ghost use Rattle.unifier.specs.Layout.{
+      codes_of,
+      HasVariables,
+      IsLayout,
+      IsPushed,
+      IsWithVariable,
+      TermLaidOut,
+      TermsLaidOut,
+    };
+
+    /// The empty list, and a cell for each variable of two terms.
+    pub fn new(alloc: Global, apart: bool, left: &Term, right: &Term) -> Mem<Layout>
+        ensures { IfOk result (HasVariables (codes_of apart (tree_of left.now) (tree_of right.now))) }
+    {
+        let mut codes = Vec::with_capacity(alloc, USUAL_OCCURRENCES)?;
+        push_codes(&mut codes, apart, Side::Left, left)?;
+        push_codes(&mut codes, apart, Side::Right, right)?;
+        codes.sort_unstable();
+        Layout::with_variables(alloc, codes.as_slice())
+    }
+
+    /// The empty list, and a cell for each of the variables, whose numbers are in order.
+    fn with_variables(alloc: Global, codes: &[u64]) -> Mem<Layout>
+        requires { IsNonDecreasing codes.now }
+        ensures { IfOk result (HasVariables codes.now) }
+    {
+        let mut layout = Layout::without_variables(alloc)?;
+        for index in 0..codes.len() {
+            if is_first(codes, index) {
+                layout.add_variable(codes[index])?;
+            }
+        }
+        Ok(layout)
+    }
 
     /// The empty list alone.
-    pub fn new(alloc: Global) -> Mem<Layout>
-        ensures layout { IfOk result IsLayout }
-        ensures no_places { IfOk result (λ layout. layout.places.items ≡ []) }
+    fn without_variables(alloc: Global) -> Mem<Layout>
+        ensures { IfOk result (HasVariables []) }
     {
-        let mut cells = Vec::new(alloc);
+        let mut cells = Vec::with_capacity(alloc, USUAL_CELLS)?;
         cells.push(Cell::NoTrees)?;
         Ok(Layout {
             cells,
-            places: Vec::new(alloc),
+            places: Vec::with_capacity(alloc, USUAL_VARIABLES)?,
         })
     }
 
-    /// Lays a term of a side out, and gives the number of its cell.
+    /// Adds a variable that comes after those which have places.
+    fn add_variable(&mut self, code: u64) -> Mem<()>
+        requires layout { IsLayout self.old }
+        requires after { all_pass (λ w. nat_lt w code) self.old.places.items ≡ true }
+        ensures { OnOk result (IsWithVariable self.old self.new code) }
+    {
+        let cell = self.cells.len();
+        self.cells.push(Cell::Variable(code))?;
+        self.places.push(Place { code, cell })?;
+        Ok(())
+    }
+
+    /// Lays a term of a side out, whose variables have places, and gives the number of its cell.
     #[cycle(lay)]
     pub fn lay_term(&mut self, apart: bool, side: Side, term: &Term) -> Mem<usize>
-        requires { IsLayout self.old }
+        requires layout { IsLayout self.old }
+        requires places { HavePlaces self.old.places.items apart side (tree_variables (tree_of term.now)) }
         ensures { IfOk result (TermLaidOut self.old self.new apart side (tree_of term.now)) }
     {
         match term {
-            Term::Var(variable) => self.lay_variable(code(apart, side, *variable)),
+            Term::Var(variable) => Ok(self.variable_cell(code(apart, side, *variable))),
             Term::App(symbol, arguments) => {
                 let list = self.lay_terms(apart, side, arguments.as_slice())?;
                 self.push(Cell::Application(*symbol, list))
@@ -58,7 +115,8 @@ impl Layout {
     /// Lays a list of terms out, the last one first, and gives the number of the list's cell.
     #[cycle(lay)]
     fn lay_terms(&mut self, apart: bool, side: Side, terms: &[Term]) -> Mem<usize>
-        requires { IsLayout self.old }
+        requires layout { IsLayout self.old }
+        requires places { HavePlaces self.old.places.items apart side (trees_variables (trees_of (map tree_of terms.now))) }
         ensures { IfOk result (TermsLaidOut self.old self.new apart side (trees_of (map tree_of terms.now))) }
     {
         let mut list = 0;
@@ -69,18 +127,13 @@ impl Layout {
         Ok(list)
     }
 
-    /// The cell of a variable, which is added where there is none.
-    fn lay_variable(&mut self, code: u64) -> Mem<usize>
-        requires { IsLayout self.old }
-        ensures { IfOk result (VariableLaidOut self.old self.new code) }
+    /// The cell of a variable that has a place.
+    fn variable_cell(&self, code: u64) -> usize
+        requires layout { IsLayout self.now }
+        requires place { has_place self.now.places.items code ≡ true }
+        ensures { cell_of code self.now.places.items ≡ Some result }
     {
-        if let Some(cell) = find_place(self.places.as_slice(), code) {
-            return Ok(cell);
-        }
-        let cell = self.cells.len();
-        self.cells.push(Cell::Variable(code))?;
-        self.places.push(Place { code, cell })?;
-        Ok(cell)
+        find_place(self.places.as_slice(), code).unwrap_or(0)
     }
 
     /// Adds a cell that is no variable.
@@ -97,16 +150,49 @@ impl Layout {
     }
 }
 
-/// The cell of a variable.
+/// The cell of a variable, found by halving.
 pub fn find_place(places: &[Place], code: u64) -> Option<usize>
+    requires { AreRising places.now }
     ensures { result ≡ cell_of code places.now }
 {
-    for place in places {
-        if place.code == code {
-            return Some(place.cell);
-        }
+    match places.binary_search_by_key(&code, |place| place.code) {
+        Ok(at) => Some(places[at].cell),
+        Err(_) => None,
     }
-    None
+}
+
+/// Whether a number of a list in order stands there for the first time.
+fn is_first(codes: &[u64], index: usize) -> bool
+    requires order { IsNonDecreasing codes.now }
+    requires inside { index < length codes.now }
+    ensures { result ≡ not (list_any (λ w. w == slice_index codes.now index) (take index codes.now)) }
+{
+    if index == 0 {
+        return true;
+    }
+    codes[index - 1] < codes[index]
+}
+
+/// Adds the numbers of a side's term's variables, with repetitions.
+#[cycle(push_codes)]
+fn push_codes(codes: &mut Vec<u64>, apart: bool, side: Side, term: &Term) -> Mem<()>
+    ensures { OnOk result (codes.new.items ≡ codes.old.items ++ map (code_of apart side) (tree_variables (tree_of term.now))) }
+{
+    match term {
+        Term::Var(variable) => Ok(codes.push(code(apart, side, *variable))?),
+        Term::App(_, arguments) => push_all_codes(codes, apart, side, arguments.as_slice()),
+    }
+}
+
+#[cycle(push_codes)]
+fn push_all_codes(codes: &mut Vec<u64>, apart: bool, side: Side, terms: &[Term]) -> Mem<()>
+    ensures { OnOk result (codes.new.items
+        ≡ codes.old.items ++ map (code_of apart side) (trees_variables (trees_of (map tree_of terms.now)))) }
+{
+    for term in terms {
+        push_codes(codes, apart, side, term)?;
+    }
+    Ok(())
 }
 
 /// The number of a side's variable among the variables of both sides. Where the sides are taken apart,

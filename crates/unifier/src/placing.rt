@@ -77,7 +77,7 @@ impl Placing {
         ensures { IfOk result (IsOrdering cells.now classes.now) }
     {
         let mut placing = Placing {
-            cells: Vec::new(alloc),
+            cells: Vec::with_capacity(alloc, cells.len())?,
             places: vec![in alloc; None; cells.len()]?,
         };
         loop {

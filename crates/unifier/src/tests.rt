@@ -212,7 +212,7 @@ fn variables_together_are_the_same(rt: HostRuntime) -> Result<(), Fail> {
 }
 
 /// The size of an equation after a unifier.
-fn size_of_equation(
+pub fn size_of_equation(
     found: &Bindings,
     bank: &Bank,
     side: Side,
@@ -268,61 +268,6 @@ fn no_variable_contains_itself(rt: HostRuntime) -> Result<(), Fail> {
     } else {
         assert!(rt; false);
     }
-    Ok(())
-}
-
-/// `f(X0, f(X1, .. f(Xn, a)))` and `f(f(X1, X1), f(f(X2, X2), ..))`: the instance doubles with each level.
-fn family(alloc: Global, depth: u32, doubled: bool) -> Mem<Term> {
-    let mut made = constant(alloc, A);
-    for back in 0..depth {
-        let variable = depth - back;
-        let first = if doubled {
-            binary(alloc, F, Term::Var(variable), Term::Var(variable))?
-        } else {
-            Term::Var(variable - 1)
-        };
-        made = binary(alloc, F, first, made)?;
-    }
-    Ok(made)
-}
-
-#[test]
-fn shared_bindings_do_not_blow_up(rt: HostRuntime) -> Result<(), Fail> {
-    let alloc = rt.alloc();
-    let left = family(alloc, 200, false)?;
-    let right = family(alloc, 200, true)?;
-    assert!(rt; unify(alloc, &left, &right, true)?.is_some());
-    let (mut bank, mut table) = Bank::new(alloc)?;
-    let reference = bank.intern(&mut table, &Term::Var(0))?;
-    if let Some(found) = unify(alloc, &left, &right, false)? {
-        assert_eq!(rt;
-            size_of_equation(&found, &bank, Side::Left, (&reference, &reference))?,
-            u64::MAX
-        );
-    } else {
-        assert!(rt; false);
-    }
-    Ok(())
-}
-
-/// `f(Xv, f(Xv, .. f(Xv, Xv)))`, with this many symbols.
-fn nested(alloc: Global, depth: u32, variable: u32) -> Mem<Term> {
-    let mut made = Term::Var(variable);
-    for _ in 0..depth {
-        made = binary(alloc, F, Term::Var(variable), made)?;
-    }
-    Ok(made)
-}
-
-#[test]
-fn deep_terms_unify_with_a_renamed_copy(rt: HostRuntime) -> Result<(), Fail> {
-    let alloc = rt.alloc();
-    let left = nested(alloc, 200, 0)?;
-    let right = nested(alloc, 200, 1)?;
-    let deeper = nested(alloc, 201, 1)?;
-    assert!(rt; unify(alloc, &left, &right, true)?.is_some());
-    assert!(rt; unify(alloc, &left, &right, false)?.is_some());
-    assert!(rt; unify(alloc, &left, &deeper, true)?.is_none());
     Ok(())
 }
 

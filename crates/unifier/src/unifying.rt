@@ -19,10 +19,10 @@ use std::alloc::Global;
 /// so does, where the sides aren't taken apart, one count above the variables of both terms, whatever the
 /// other is.
 ///
-/// Terms with different symbols at one place are told first. Else both are laid out as cells; classes of
-/// cells that must be equal are closed under their parts (as in unification closure, Huet 1976); the
-/// classes are then put into an order in which parts come first, which fails exactly where a variable
-/// would have to contain itself.
+/// Terms with different symbols at one place are told first. Else both are laid out as cells, with one for
+/// each variable; classes of cells that must be equal are closed under their parts (as in unification
+/// closure, Huet 1976); the classes are then put into an order in which parts come first, which fails
+/// exactly where a variable would have to contain itself.
 pub fn unify(alloc: Global, left: &Term, right: &Term, apart: bool) -> Mem<Option<Bindings>>
     ensures unified { IfOk result (IsUnified apart (tree_of left.now) (tree_of right.now)) }
     ensures others { IfOk result (λ found. IfSome found (LeavesOthers apart (tree_of left.now) (tree_of right.now))) }
@@ -35,7 +35,7 @@ pub fn unify(alloc: Global, left: &Term, right: &Term, apart: bool) -> Mem<Optio
     if clash(left, right) {
         return Ok(None);
     }
-    let mut layout = Layout::new(alloc)?;
+    let mut layout = Layout::new(alloc, apart, left, right)?;
     let first = layout.lay_term(apart, Side::Left, left)?;
     let second = layout.lay_term(apart, Side::Right, right)?;
     solve(alloc, &layout, apart, first, second)

@@ -4,7 +4,7 @@ use Rattle.unifier.proofs.ClosingLemmas.{from-itself, from-on, closed-at-last, r
 use Rattle.unifier.proofs.classes.Classes.close.Goals as goal
 
 pub loop-init : goal.loop-init
-loop-init c = from-itself c.args.cells.now c.args.first c.args.second c.join_with_parts.new.self (when-true _ _ _ c.in_ok-join_with_parts.ensures c.if-not-branch.false).classes
+loop-init c = from-itself c.args.cells.now c.args.first c.args.second c.join_with_parts.new.self (when-true _ _ _ c.in_ok-join_with_parts.ensures.follows c.if-not-branch.false).classes
 
 pub loop-preserved-in-Joined : goal.loop-preserved-in-Joined
 loop-preserved-in-Joined c =
@@ -21,7 +21,7 @@ loop-preserved c =
 pub returns-then-not-joined : goal.returns-then-not-joined
 returns-then-not-joined c =
     let start : Classes = c.join_with_parts.new.self in
-    closed-before c.args.cells.now c.args.first c.args.second c.args.self.now start c.round.new.self (when-true _ _ _ c.in_ok-join_with_parts.ensures c.if-not-branch.false)
+    closed-before c.args.cells.now c.args.first c.args.second c.args.self.now start c.round.new.self (when-true _ _ _ c.in_ok-join_with_parts.ensures.follows c.if-not-branch.false)
     (closed-at-last c.args.cells.now c.args.first c.args.second start c.loop.self c.settle.new.self c.join-joined.new.self c.round.new.self
     c.join-joined.result c.loop.invariant c.settle.ensures.follows c.settle.ensures.settled c.join-joined.ensures.sound c.join-joined.ensures.joined
     c.in-Unchanged.ensures.follows c.in-Unchanged.ensures.done c.if-not-joined.true)
@@ -29,6 +29,6 @@ returns-then-not-joined c =
 pub returns-in-Refuted : goal.returns-in-Refuted
 returns-in-Refuted c =
     let start : Classes = c.join_with_parts.new.self in
-    cannot-before c.args.cells.now c.args.first c.args.second c.args.self.now start (when-true _ _ _ c.in_ok-join_with_parts.ensures c.if-not-branch.false)
+    cannot-before c.args.cells.now c.args.first c.args.second c.args.self.now start (when-true _ _ _ c.in_ok-join_with_parts.ensures.follows c.if-not-branch.false)
     (refuted-at-last c.args.cells.now c.args.first c.args.second start c.loop.self c.settle.new.self c.join-joined.new.self
     c.loop.invariant c.settle.ensures.follows c.join-joined.ensures.sound c.in-Refuted.ensures.done)

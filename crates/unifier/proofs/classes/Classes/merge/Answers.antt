@@ -11,6 +11,7 @@ returns-then-first_root-second_root c =
     same-class c.args.cells.now c.args.self.now c.shorten-second_root.new.self c.args.first c.args.second _ _
     (found-by (length c.args.cells.now) _ _ c.args.self.now c.shorten-first_root.new.self c.shorten-second_root.new.self c.args.first c.args.second _ _
     c.requires.classes refl refl c.requires.first c.requires.second c.shorten-first_root.ensures c.shorten-second_root.ensures)
+    c.if-first_root-second_root.true
 
 pub offset_bounds-cells-first_schema : goal.offset_bounds-cells-first_schema
 offset_bounds-cells-first_schema c =
@@ -46,9 +47,9 @@ returns c =
       | then-first_root-second_root-2 w ↦
           subst P (sym w.self-is)
           (classes-merged c.args.cells.now c.args.self.now mid w.link.new.self c.args.first c.args.second _ _ _ _ _ _ c.relation.result c.requires.parts found
-          first_is second_is c.relation.ensures w.link.ensures (λ f same. same))
+          first_is second_is c.relation.ensures w.link.ensures (λ f same. same) (λ f same. same))
       | else-first_root-second_root-2 w ↦
           subst P (sym w.self-is)
           (classes-merged c.args.cells.now c.args.self.now mid w.link-else-first_root-second_root-2.new.self c.args.first c.args.second _ _ _ _ _ _ c.relation.result c.requires.parts found
-          first_is second_is c.relation.ensures w.link-else-first_root-second_root-2.ensures (λ f same. sym same))
+          first_is second_is c.relation.ensures w.link-else-first_root-second_root-2.ensures (λ f same. sym same) (λ f same. sym same))
     ]

@@ -6,7 +6,7 @@ use Rattle.unifier.proofs.placing.Placing.order.Goals as goal
 
 pub loop-placing-init : goal.loop-placing-init
 loop-placing-init c =
-    placing-starts c.args.cells.now c.args.classes.now _ (length c.args.cells.now) c.new.ensures.items refl
+    placing-starts c.args.cells.now c.args.classes.now _ (length c.args.cells.now) c.in_ok-with_capacity.ensures.items refl
     (c.in_ok-vec.ensures.items_if_clones_equal (λ y h. search rules)) (omega (arith, c.in_ok-vec.ensures.len, c.in_ok-vec.field-0.ok.0))
 
 pub returns-in-Stuck : goal.returns-in-Stuck

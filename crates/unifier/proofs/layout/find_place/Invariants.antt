@@ -1,6 +1,0 @@
-use Rattle.std.proofs.Common.{◌≡◌, drop}
-use Rattle.unifier.specs.Layout.{cell_of}
-use Rattle.unifier.proofs.layout.find_place.Given as goal
-
-abbrev pub invariant-loop-place : goal.invariant-loop-place
-invariant-loop-place l = cell_of l.code (drop l.place-index l.places) ≡ cell_of l.code l.places
