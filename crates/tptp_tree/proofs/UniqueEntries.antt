@@ -198,7 +198,7 @@ names-same (n ∷ ns) (m ∷ ms) rs ss e =
     let more = names-same ns ms rs ss (tail-same _ _ _ _ inner) in
     (ap₂ (λ x xs. x ∷ xs) (name-same n m (head-same _ _ _ _ inner)) more.0, more.1)
 
-no-include : (b : Bool) → lexeme Lower (language_word b) ≡ lexeme Lower (codes "include") → ⊥
+pub no-include : (b : Bool) → lexeme Lower (language_word b) ≡ lexeme Lower (codes "include") → ⊥
 no-include true e = let f : false ≡ true = ap (λ (l : Lexeme). bytes_eq l.bytes (codes "include")) e in cc
 no-include false e = let f : false ≡ true = ap (λ (l : Lexeme). bytes_eq l.bytes (codes "include")) e in cc
 

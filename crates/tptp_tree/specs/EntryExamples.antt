@@ -1,12 +1,12 @@
 -- The definitions of entries and of the causes of their tokens, on small ones.
-use Rattle.std.specs.Prelude.{◌≡◌, true, false, [], ◌∷◌, codes, None, Some}
+use Rattle.std.specs.Prelude.{◌≡◌, true, false, List, [], ◌∷◌, codes, None, Some}
 use Rattle.tptp_token.specs.declared.token.Kind.TheVariants.{Lower, Variable, Quoted, Number, Connective, Mark, Other}
-use Rattle.tptp_tree.specs.declared.problem.Role.TheVariants.{Conjecture}
+use Rattle.tptp_tree.specs.declared.problem.Role.TheVariants.{Plain, Conjecture}
 use Rattle.tptp_tree.specs.Term.{variable, application, no_terms, term_then}
 use Rattle.tptp_tree.specs.Formula.{for_all, predicate, equation, negation, disjunction, no_formulas, formula_then}
 use Rattle.tptp_tree.specs.Spelling.{bare, quoted, lexeme, variable_word, word_with, no_phrases, phrase_then, predicate_atom, equation_atom, bound, atomic, alone}
 use Rattle.tptp_tree.specs.Brackets.{are_balanced}
-use Rattle.tptp_tree.specs.Entries.{plain_predicate, positive_literal, negated_literal, negated_in_brackets, ClausePhrase, literals, clause_in_brackets, clause_lexemes, clause_meant, word_name, digits_name, name_meant, role_of, formula_body, AnnotatedPhrase, annotated_lexemes}
+use Rattle.tptp_tree.specs.Entries.{plain_predicate, positive_literal, negated_literal, negated_in_brackets, ClausePhrase, literals, clause_in_brackets, clause_lexemes, clause_meant, word_name, digits_name, name_meant, role_of, formula_body, AnnotatedPhrase, annotated_lexemes, EntryTree, annotated_tree, include_tree, SpellsEntries}
 use Rattle.tptp_tree.specs.Causes.{free_variable, too_deep, role_not_taken, left_out, role_form, role_cause, outermost, clause_causes, annotated_causes}
 
 -- the clause `( ~ p(X) | X != 'A b' )`
@@ -97,3 +97,30 @@ Balanced =
 
 abbrev pub Crossed : Type 0
 Crossed = are_balanced (lexeme Mark (codes "(") ∷ lexeme Mark (codes "[") ∷ lexeme Mark (codes ")") ∷ lexeme Mark (codes "]") ∷ []) ≡ false
+
+-- ---- includes, from texts
+
+-- all formulas of a file, whose name may be quoted
+abbrev pub WholeInclude : Type 0
+WholeInclude = SpellsEntries (codes "include('f.ax').") (include_tree (codes "f.ax") None ∷ [])
+
+-- the formulas with these names, one of digits
+abbrev pub SelectedInclude : Type 0
+SelectedInclude =
+    SpellsEntries (codes "include(f,[a,'B c',012]).")
+    (include_tree (codes "f") (Some (codes "a" ∷ codes "B c" ∷ codes "012" ∷ [])) ∷ [])
+
+-- an include and an annotated formula, in order
+abbrev pub TwoEntries : Type 0
+TwoEntries =
+    SpellsEntries (codes "include(f).cnf(a,plain,p).")
+    (include_tree (codes "f") None
+    ∷ annotated_tree (record { name = codes "a"; role = Plain; is_clause = true; formula = predicate (codes "p") no_terms }) ∷ [])
+
+-- the empty text has no entries
+abbrev pub NoEntries : Type 0
+NoEntries = SpellsEntries [] []
+
+-- the brackets of a selection aren't empty
+abbrev pub EmptySelection : Type 0
+EmptySelection = (entries : List EntryTree) → SpellsEntries (codes "include(f,[]).") entries → ⊥

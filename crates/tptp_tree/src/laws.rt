@@ -1,7 +1,7 @@
 // The laws of the definitions: each is the contract of a function without arguments and with an empty body.
 
 ghost use Rattle.tptp_tree.specs.Examples.{BoundImplication, NegatedConjunction, NegatedEquation, BareOperands, QuotedName, BareName};
-ghost use Rattle.tptp_tree.specs.EntryExamples.{ClauseTokens, ClauseMeaning, OneLiteral, ClauseLevels, OpenTokens, OpenCauses, OneName, Roles, FormulaRoles, UnknownRole, LeftOutRole, Balanced, Crossed};
+ghost use Rattle.tptp_tree.specs.EntryExamples.{ClauseTokens, ClauseMeaning, OneLiteral, ClauseLevels, OpenTokens, OpenCauses, OneName, Roles, FormulaRoles, UnknownRole, LeftOutRole, Balanced, Crossed, WholeInclude, SelectedInclude, TwoEntries, NoEntries, EmptySelection};
 ghost use Rattle.std.specs.Prelude.{◌≡◌, ℕ, true, List};
 ghost use Rattle.tptp_token.specs.Lexemes.{Lexeme};
 ghost use Rattle.tptp_tree.specs.Formula.{FormulaTree};
@@ -43,6 +43,15 @@ pub fn entry_examples()
     ensures left_out_role { LeftOutRole }
     ensures balanced { Balanced }
     ensures crossed { Crossed }
+{}
+
+/// Worked examples of what texts spell, with includes.
+pub fn include_examples()
+    ensures whole_include { WholeInclude }
+    ensures selected_include { SelectedInclude }
+    ensures two_entries { TwoEntries }
+    ensures no_entries { NoEntries }
+    ensures empty_selection { EmptySelection }
 {}
 
 /// Tokens begin with at most one annotated formula.
