@@ -11,7 +11,8 @@ use Rattle.tptp_tree.specs.Causes.{Refusal}
 use Rattle.tptp_reader.specs.Machine.{refused_at, an_annotated}
 use Rattle.tptp_reader.specs.Annotating.{lexemes_of, IsReading, StandsAt, TokensRunOut, IsFaultAt, IsFaultOf}
 use Rattle.tptp_reader.specs.Telling.{lexemes, refusal_of, IsEnd, Ends, told}
-use Rattle.tptp_reader.specs.TellingEntries.{IsAnnotatedRead, entry_verdict, cause_told, IsEndFault, IsCauseBy, IsWithin, HasFault, ReadsEntry}
+use Rattle.tptp_reader.specs.Placed.{verdict_at}
+use Rattle.tptp_reader.specs.TellingEntries.{cause_told, IsEndFault, IsCauseBy, IsWithin, ReadsEntry}
 use Rattle.tptp_reader.specs.declared.cause.Halt.{Halt}
 use Rattle.tptp_reader.specs.declared.cause.Halt.TheVariants.{NoMemory as HaltMemory, At as HaltAt, Ended}
 use Rattle.tptp_reader.specs.declared.cause.Refusal.{Refusal as ToldRefusal}
@@ -21,7 +22,7 @@ use Rattle.tptp_reader.specs.declared.cause.ReadFault.{ReadFault}
 use Rattle.tptp_reader.specs.declared.cause.ReadFault.TheVariants.{NoMemory, At}
 use Rattle.tptp_reader.specs.declared.entry.Read.{Read}
 use Rattle.tptp_reader.specs.declared.source.Reader.{Reader}
-use Rattle.tptp_reader.proofs.EntryWhole.{answer-read}
+use Rattle.tptp_reader.proofs.EntryWhole.{IsAnnotatedRead, HasFault, answer-read}
 use Rattle.tptp_reader.proofs.PlacedLemmas.{refused-from, read-from, runs-out-from}
 
 pub reading-of :
@@ -54,7 +55,7 @@ reading-by r tokens first read e h within close place file =
 
 stands-at :
     (limit : ℕ) (bytes : List ℕ) (tokens : List Token) (first index place : ℕ) (token : Token) (refusal : Refusal)
-    → slice_get tokens index ≡ Some token → place ≡ token.start → entry_verdict limit bytes tokens first ≡ refused_at index refusal
+    → slice_get tokens index ≡ Some token → place ≡ token.start → verdict_at limit (lexemes_of bytes tokens) first ≡ refused_at index refusal
     → StandsAt limit bytes tokens first refusal place
 stands-at limit bytes tokens first index place token refusal here starts e =
     record { index = index; token = token; here = here; starts = starts; refused = refused-from limit (lexemes_of bytes tokens) first index refusal e }
@@ -63,7 +64,7 @@ stands-at limit bytes tokens first index place token refusal here starts e =
 cause-at :
     (limit : ℕ) (bytes : List ℕ) (lexed : Lexed) (first index place : ℕ) (token : Token) (refusal : ToldRefusal)
     → slice_get lexed.tokens index ≡ Some token → place ≡ token.start
-    → entry_verdict limit bytes lexed.tokens first ≡ refused_at index (refusal_of refusal)
+    → verdict_at limit (lexemes_of bytes lexed.tokens) first ≡ refused_at index (refusal_of refusal)
     → IsFaultAt limit bytes lexed first (cause_told refusal) place
 cause-at limit bytes lexed first index place token Syntax here s e = inl (stands-at limit bytes lexed.tokens first index place token _ here s e)
 cause-at limit bytes lexed first index place token FreeVariable here s e = stands-at limit bytes lexed.tokens first index place token _ here s e
@@ -86,7 +87,7 @@ end-at limit bytes lexed first place cause (Some (Unclosed n)) e r h =
 
 cause-of :
     (limit : ℕ) (bytes : List ℕ) (lexed : Lexed) (first place : ℕ) (cause : ReadCause) (halt : Halt)
-    → IsEnd halt (entry_verdict limit bytes lexed.tokens first) → IsCauseBy bytes lexed halt cause place
+    → IsEnd halt (verdict_at limit (lexemes_of bytes lexed.tokens) first) → IsCauseBy bytes lexed halt cause place
     → IsFaultAt limit bytes lexed first cause place
 cause-of limit bytes lexed first place cause HaltMemory e h = absurd h
 cause-of limit bytes lexed first place cause (HaltAt refusal index) e h =

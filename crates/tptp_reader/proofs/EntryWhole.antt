@@ -1,14 +1,17 @@
 -- An entry from its parts.
-use Rattle.std.proofs.Common.{subst, ◌≡◌, ℕ, ◌+◌, Bool, ◌&&◌, List, [], ◌∷◌, ◌++◌, drop, codes, Some, sym, ap, ap₂, ◌∙◌}
+use Rattle.std.proofs.Common.{subst, ◌≡◌, true, ℕ, ◌+◌, Bool, ◌&&◌, List, [], ◌∷◌, ◌++◌, drop, codes, Some, sym, ap, ap₂, ◌∙◌}
 use Rattle.tptp_token.specs.declared.token.Kind.TheVariants.{Lower, Mark}
 use Rattle.tptp_tree.specs.Formula.{FormulaTree}
 use Rattle.tptp_tree.specs.Shape.{formula_of}
 use Rattle.tptp_tree.specs.Spelling.{lexeme}
-use Rattle.tptp_tree.specs.Entries.{name_lexeme, is_clause_body, body_lexemes, language_word, role_of, annotated_lexemes}
+use Rattle.tptp_tree.specs.Entries.{name_lexeme, is_clause_body, body_lexemes, language_word, role_of, AnnotatedPhrase, is_right_annotated, annotated_lexemes, IsAnnotatedOf}
 use Rattle.tptp_tree.specs.declared.problem.Role.{Role}
-use Rattle.tptp_reader.specs.Machine.{Symbol, mark, an_annotated, a_name, a_role, end_of_body}
+use Rattle.tptp_reader.specs.Machine.{Symbol, mark, an_annotated, a_name, a_role, end_of_body, read_up_to}
+use Rattle.tptp_reader.specs.Placed.{verdict_at}
+use Rattle.tptp_reader.specs.Annotating.{lexemes_of}
+use Rattle.tptp_reader.specs.Shape.{tree_of}
 use Rattle.tptp_reader.specs.Telling.{lexemes, IsNext, Leads, Ends, IsEnd, told}
-use Rattle.tptp_reader.specs.TellingEntries.{body_symbols, ReadsLanguage, ReadsName, ReadsRole, ReadsBody, ReadsEnding, ReadsEntry, IsAnnotatedRead, entry_verdict, IsFaultBy, HasFault}
+use Rattle.tptp_reader.specs.TellingEntries.{body_symbols, ReadsLanguage, ReadsName, ReadsRole, ReadsBody, ReadsEnding, ReadsEntry, IsFaultBy}
 use Rattle.tptp_reader.specs.declared.source.Reader.{Reader}
 use Rattle.tptp_reader.specs.declared.cause.Halt.{Halt}
 use Rattle.tptp_token.specs.declared.token.Token.{Token}
@@ -167,7 +170,21 @@ entry-read r first inner comma body after b name role f read o k e is_name is_ro
       range = e.range;
     }
 
--- ---- the answers
+-- ---- the answers, by the machine's verdict
+
+-- The tokens from the first one on are an annotated formula, up to the next one, and the machine takes them.
+pub record IsAnnotatedRead (limit : ℕ) (bytes : List ℕ) (tokens : List Token) (first : ℕ) (read : Read) : Type 0 where
+  pub phrase : AnnotatedPhrase
+  pub right : is_right_annotated phrase ≡ true
+  pub spelled : drop first (lexemes_of bytes tokens) ≡ annotated_lexemes phrase (drop read.next (lexemes_of bytes tokens))
+  pub meant : IsAnnotatedOf phrase (tree_of read.annotated)
+  pub taken_so : verdict_at limit (lexemes_of bytes tokens) first ≡ read_up_to read.next
+  pub range : drop read.notes_start (lexemes_of bytes tokens) ≡ phrase.notes ++ drop read.notes_end (lexemes_of bytes tokens)
+
+-- the machine refuses a token, or the tokens run out
+abbrev pub HasFault : ℕ → List ℕ → Lexed → ℕ → ReadFault → Type 0
+HasFault limit bytes lexed first fault =
+    (halt : Halt) × IsEnd halt (verdict_at limit (lexemes_of bytes lexed.tokens) first) × IsFaultBy bytes lexed halt fault
 
 pub answer-read :
     (r : Reader) (tokens : List Token) (first : ℕ) (read : Read)
@@ -183,4 +200,4 @@ pub answer-fault :
     → HasFault r.limit r.bytes.now lexed first fault
 unfolding told
 answer-fault r lexed first halt fault e h f =
-    (halt, subst (λ (ts : List Token). IsEnd halt (entry_verdict r.limit r.bytes.now ts first)) e (h.by []), f)
+    (halt, subst (λ (ts : List Token). IsEnd halt (verdict_at r.limit (lexemes_of r.bytes.now ts) first)) e (h.by []), f)

@@ -1,6 +1,6 @@
 -- What the functions that read an entry say of the tokens before and after.
-use Rattle.std.specs.Prelude.{◌≡◌, ◌<◌, ◌+◌, ⊤, ℕ, Bool, true, false, List, [], ◌∷◌, ◌++◌, map, drop, length, codes, Option, None, Some, slice_get}
-use Rattle.tptp_token.specs.Lexemes.{Lexeme, lexeme_at}
+use Rattle.std.specs.Prelude.{◌≡◌, ◌<◌, ◌+◌, ⊤, ℕ, Bool, true, false, List, [], ◌∷◌, ◌++◌, drop, length, codes, Option, None, Some, slice_get}
+use Rattle.tptp_token.specs.Lexemes.{Lexeme}
 use Rattle.tptp_token.specs.declared.token.Kind.TheVariants.{Lower, Mark}
 use Rattle.tptp_tree.specs.Formula.{FormulaTree}
 use Rattle.tptp_tree.specs.Brackets.{are_balanced}
@@ -9,8 +9,8 @@ use Rattle.tptp_tree.specs.Entries.{NamePhrase, name_lexeme, name_meant, is_righ
 use Rattle.tptp_tree.specs.Causes.{outermost}
 use Rattle.tptp_tree.specs.declared.problem.Role.{Role}
 use Rattle.tptp_reader.specs.Shape.{tree_of}
-use Rattle.tptp_reader.specs.Machine.{Symbol, a_name, a_role, a_clause, an_annotated, end_of_body, before_body, formula_symbols, Verdict, read_up_to, verdict, going}
-use Rattle.tptp_reader.specs.Telling.{lexemes, IsNext, Leads, IsEnd, told}
+use Rattle.tptp_reader.specs.Machine.{Symbol, a_name, a_role, a_clause, an_annotated, end_of_body, before_body, formula_symbols, read_up_to}
+use Rattle.tptp_reader.specs.Telling.{lexemes, IsNext, Leads, told}
 use Rattle.tptp_reader.specs.declared.source.Reader.{Reader}
 use Rattle.tptp_reader.specs.declared.entry.Read.{Read}
 use Rattle.tptp_token.specs.declared.token.Token.{Token}
@@ -74,22 +74,7 @@ pub record ReadsEntry (r : Reader) (first : ℕ) (read : Read) : Type 0 where
   pub told_so : told r (an_annotated r.limit ∷ []) first ≡ read_up_to read.next
   pub range : drop read.notes_start (lexemes r) ≡ phrase.notes ++ drop read.notes_end (lexemes r)
 
--- ---- the answers, by the machine's verdict
-
-abbrev pub entry_verdict : ℕ → List ℕ → List Token → ℕ → Verdict
-entry_verdict limit bytes tokens first =
-    verdict first (going (an_annotated limit ∷ [])) (drop first (map (lexeme_at bytes) tokens))
-
--- The tokens from the first one on are an annotated formula, up to the next one, and the machine takes them.
-pub record IsAnnotatedRead (limit : ℕ) (bytes : List ℕ) (tokens : List Token) (first : ℕ) (read : Read) : Type 0 where
-  pub phrase : AnnotatedPhrase
-  pub right : is_right_annotated phrase ≡ true
-  pub spelled :
-      drop first (map (lexeme_at bytes) tokens) ≡ annotated_lexemes phrase (drop read.next (map (lexeme_at bytes) tokens))
-  pub meant : IsAnnotatedOf phrase (tree_of read.annotated)
-  pub taken_so : entry_verdict limit bytes tokens first ≡ read_up_to read.next
-  pub range :
-      drop read.notes_start (map (lexeme_at bytes) tokens) ≡ phrase.notes ++ drop read.notes_end (map (lexeme_at bytes) tokens)
+-- ---- faults, by where reading halted
 
 abbrev pub cause_told : ToldRefusal → ReadCause
 cause_told Syntax = SyntaxCause
@@ -122,8 +107,3 @@ IsWithin count Ended = ⊤
 abbrev pub IsFaultBy : List ℕ → Lexed → Halt → ReadFault → Type 0
 IsFaultBy bytes lexed halt NoFaultMemory = halt ≡ NoMemory
 IsFaultBy bytes lexed halt (FaultAt cause file place) = (file ≡ []) × IsCauseBy bytes lexed halt cause place
-
--- the machine refuses a token, or the tokens run out
-abbrev pub HasFault : ℕ → List ℕ → Lexed → ℕ → ReadFault → Type 0
-HasFault limit bytes lexed first fault =
-    (halt : Halt) × IsEnd halt (entry_verdict limit bytes lexed.tokens first) × IsFaultBy bytes lexed halt fault

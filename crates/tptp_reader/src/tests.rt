@@ -1,22 +1,22 @@
 // What no clause says of annotated formulas: outside rows, and that calls succeed.
 
 use super::*;
-use plain_types::Mem;
+use plain_types::{Mem, NoMemory};
 use std::alloc::Global;
 use std::test::Fail;
 use tptp_token::tokens;
 use tptp_tree::print_formula;
 
-/// The formula of the text's first entry as it is printed, or the cause that it isn't read for and its place.
-fn outcome(alloc: Global, text: &[u8], nesting: u32) -> Mem<Vec<u8>> {
+/// The formula of the entry that begins at a token, as it is printed, or the cause that it isn't read for and its place.
+fn outcome(alloc: Global, text: &[u8], first: usize, nesting: u32) -> Mem<Vec<u8>> {
     if text.len() > 100_000 {
         return Ok(Vec::new(alloc));
     }
     let lexed = tokens(alloc, text)?;
-    if lexed.tokens.len() == 0 {
+    if lexed.tokens.len() <= first {
         return Ok(Vec::new(alloc));
     }
-    let answer = annotated(alloc, text, &lexed, 0, nesting);
+    let answer = annotated(alloc, text, &lexed, first, nesting);
     shown(alloc, &answer)
 }
 
@@ -28,13 +28,17 @@ fn shown(alloc: Global, answer: &Result<Read, ReadFault>) -> Mem<Vec<u8>> {
     }
 }
 
+/// A cause and its place. Want of memory is handed on, so that no row is taken for another answer.
 fn shown_fault(alloc: Global, fault: &ReadFault) -> Mem<Vec<u8>> {
     let mut page = Vec::new(alloc);
-    if let ReadFault::At(cause, _, place) = fault {
-        page.extend_from_slice(cause_name(*cause))?;
-        push_place(&mut page, *place)?;
+    match fault {
+        ReadFault::NoMemory => Err(NoMemory),
+        ReadFault::At(cause, _, place) => {
+            page.extend_from_slice(cause_name(*cause))?;
+            push_place(&mut page, *place)?;
+            Ok(page)
+        }
     }
-    Ok(page)
 }
 
 /// What is shown of a cause.
@@ -83,7 +87,7 @@ type Row = (&'static [u8], &'static [u8]);
 /// The index of the first row whose text has another outcome; the number of rows where there is none.
 fn first_failure(alloc: Global, rows: &[Row]) -> Mem<usize> {
     for (index, (text, wanted)) in rows.iter().enumerate() {
-        let found = outcome(alloc, text, 500)?;
+        let found = outcome(alloc, text, 0, 500)?;
         if found.as_slice() != *wanted {
             return Ok(index);
         }
@@ -224,7 +228,7 @@ fn limits_levels(rt: HostRuntime) -> Result<(), Fail> {
         (b"cnf(a,plain,p,([{}])).", b"Nesting@16"),
     ];
     for (text, wanted) in rows {
-        let found = outcome(rt.alloc(), text, 2)?;
+        let found = outcome(rt.alloc(), text, 0, 2)?;
         assert!(rt; found.as_slice() == wanted);
     }
     Ok(())
@@ -262,8 +266,8 @@ fn reads_deep(
     refused: &[u8],
 ) -> Mem<bool> {
     let text = repeated(alloc, before, 5_000, b"p".as_slice(), close)?;
-    let found = outcome(alloc, text.as_slice(), limit)?;
-    let stopped = outcome(alloc, text.as_slice(), 500)?;
+    let found = outcome(alloc, text.as_slice(), 0, limit)?;
+    let stopped = outcome(alloc, text.as_slice(), 0, 500)?;
     Ok(found.len() == length && stopped.as_slice() == refused)
 }
 
@@ -326,29 +330,42 @@ fn reads_deep_terms(rt: HostRuntime) -> Result<(), Fail> {
 fn keeps_names_roles_and_ranges(rt: HostRuntime) -> Result<(), Fail> {
     let alloc = rt.alloc();
     let text = b"cnf(a,axiom,p). cnf(012,negated_conjecture,q,b(c)).".as_slice();
-    let lexed = tokens(alloc, text)?;
-    assert_eq!(rt; lexed.tokens.len(), 23);
-    let refused = annotated(alloc, text, &lexed, 9, 0);
-    assert!(rt; shown(alloc, &refused)?.as_slice() == b"Nesting@46".as_slice());
-    let answer = annotated(alloc, text, &lexed, 9, 1);
-    assert!(rt; is_second(&answer));
+    let refused = outcome(alloc, text, 9, 0)?;
+    assert!(rt; refused.as_slice() == b"Nesting@46".as_slice());
+    assert!(rt; reads_second(alloc, text)?);
     Ok(())
 }
 
+/// Whether a text has 23 tokens, and the formula that begins at the tenth of them is read.
+fn reads_second(alloc: Global, text: &[u8]) -> Mem<bool> {
+    if text.len() > 100_000 {
+        return Ok(false);
+    }
+    let lexed = tokens(alloc, text)?;
+    if lexed.tokens.len() != 23 {
+        return Ok(false);
+    }
+    let answer = annotated(alloc, text, &lexed, 9, 1);
+    is_second(&answer)
+}
+
 /// Whether the second formula was read, with its notes.
-fn is_second(answer: &Result<Read, ReadFault>) -> bool {
+fn is_second(answer: &Result<Read, ReadFault>) -> Mem<bool> {
     match answer {
         Ok(read) => {
             let annotated = &read.annotated;
-            annotated.name.as_slice() == b"012".as_slice()
-                && annotated.role == tptp_tree::Role::NegatedConjecture
-                && annotated.clause
-                && annotated.place == 16
-                && annotated.file.len() == 0
-                && read.notes_start == 17
-                && read.notes_end == 21
-                && read.next == 23
+            Ok(
+                annotated.name.as_slice() == b"012".as_slice()
+                    && annotated.role == tptp_tree::Role::NegatedConjecture
+                    && annotated.clause
+                    && annotated.place == 16
+                    && annotated.file.len() == 0
+                    && read.notes_start == 17
+                    && read.notes_end == 21
+                    && read.next == 23,
+            )
         }
-        Err(_) => false,
+        Err(ReadFault::NoMemory) => Err(NoMemory),
+        Err(_) => Ok(false),
     }
 }
