@@ -13,7 +13,7 @@ use Rattle.unifier.specs.declared.classes.Classes.{Classes}
 use Rattle.unifier.specs.declared.placing.Placing.{Placing}
 use Rattle.unifier.specs.Layout.{cell_of, code_of, codes_of, all_pass, HasVariables, TermLaidOut}
 use Rattle.unifier.specs.Bindings.{bound, joint, occurs, LeavesOthers, CannotMeet, IsMeeting}
-use Rattle.unifier.specs.Renaming.{is_within, fits, FitLeavesOthers, FitLeavesOthersApart}
+use Rattle.unifier.specs.Renaming.{is_within, fits, CountsVariables, FitLeavesOthers, FitLeavesOthersApart}
 use Rattle.unifier.specs.Solving.{relocated, IsRelocated}
 use Rattle.unifier.proofs.ParityLemmas.{even-half, odd-half}
 use Rattle.unifier.proofs.PlaceLemmas.{ltb-is, ltb-not, not-found}
@@ -109,6 +109,34 @@ fits-together-answer (Err e) start mid layout apart first second s t laid one ot
 fits-together-answer (Ok found) start mid layout true first second s t laid one other h = λ is. absurd (true≢false is)
 fits-together-answer (Ok found) start mid layout false first second s t laid one other h =
     λ is count. fits-together-by start mid layout first second count s t found laid one other h
+
+-- ---- the counts that fit
+
+counts-by :
+    (start mid layout : Layout) (apart : Bool) (first second : ℕ) (s t : Tree) (found : Option Bindings)
+    → HasVariables (codes_of apart s t) start → TermLaidOut start mid apart Left s first → TermLaidOut mid layout apart Right t second
+    → MatchOption found (CannotMeet layout.cells.items first second) (IsMeeting layout apart first second)
+    → IfSome found (CountsVariables apart s t)
+counts-by start mid layout apart first second s t None laid one other h = tt
+counts-by start mid layout apart first second s t (Some b) laid one other h =
+    record {
+      sides = h.0;
+      counts = λ l r.
+          ap (λ a. all_pass (is_within a l r) b.places.items) h.0
+          ∙ h.2 (is_within apart l r)
+          ∙ ap (all_pass (is_within apart l r)) (other.places ∙ one.places)
+          ∙ laid.exactly (is_within apart l r);
+    }
+
+-- as the code has it
+pub counts-answer :
+    {E : Type 0} (r : Result (Option Bindings) E) (start mid layout : Layout) (apart : Bool) (first second : ℕ) (s t : Tree)
+    → HasVariables (codes_of apart s t) start → TermLaidOut start mid apart Left s first → TermLaidOut mid layout apart Right t second
+    → IfOk r (λ found. MatchOption found (CannotMeet layout.cells.items first second) (IsMeeting layout apart first second))
+    → IfOk r (λ found. IfSome found (CountsVariables apart s t))
+counts-answer (Err e) start mid layout apart first second s t laid one other h = tt
+counts-answer (Ok found) start mid layout apart first second s t laid one other h =
+    counts-by start mid layout apart first second s t found laid one other h
 
 -- ---- variables without a place
 

@@ -1,12 +1,13 @@
 -- The substitutions of the two sides into shared variables, which are numbered from 0 without gaps.
 use Rattle.std.specs.Prelude.{◌≡◌, ◌⊎◌, ℕ, zero, suc, ◌+◌, ◌*◌, ◌/◌, ◌%◌, ◌<◌, ◌≤◌, max, Bool, true, false, ◌&&◌, ◌==◌, nat_lt, List, length, slice_index, Some, if◌then◌else◌}
+use Rattle.std.specs.List.{list_all}
 use Rattle.fol_base.specs.Tree.{Tree, Trees, variable, tree_eq, VariablesBelow}
 use Rattle.fol_base.specs.Instance.{instance, instances}
 use Rattle.fol_base.specs.Canonical.{terms_from}
 use Rattle.fol_base.specs.declared.clause.Side.{Side}
 use Rattle.fol_base.specs.declared.clause.Side.TheVariants.{Left, Right}
 use Rattle.unifier.specs.declared.bindings.Bindings.{Bindings}
-use Rattle.unifier.specs.Layout.{cell_of, code_of, all_pass}
+use Rattle.unifier.specs.Layout.{cell_of, code_of, codes_of, all_pass}
 use Rattle.unifier.specs.Bindings.{joint, substitution_of}
 
 -- the variable of that number is below its side's count; where the sides aren't apart, it is a variable of both, and below
@@ -18,6 +19,13 @@ is_within false left_count right_count w = nat_lt w (max left_count right_count)
 -- all variables of the two terms are: each has a place, also where it stands for itself
 abbrev pub fits : Bindings → ℕ → ℕ → Bool
 fits b left_count right_count = all_pass (is_within b.apart left_count right_count) b.places.items
+
+-- the sides were taken apart or not, and the counts fit exactly where each variable of the two terms is below its side's
+pub record CountsVariables (apart : Bool) (s : Tree) (t : Tree) (b : Bindings) : Type 0 where
+  pub sides : b.apart ≡ apart
+  pub counts :
+      (left_count right_count : ℕ)
+      → fits b left_count right_count ≡ list_all (is_within apart left_count right_count) (codes_of apart s t)
 
 -- so each variable that isn't below its side's count stands for itself, by its number among the variables of both sides
 abbrev pub FitLeavesOthersApart : Type 0

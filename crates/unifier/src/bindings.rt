@@ -5,8 +5,8 @@ ghost use Rattle.unifier.specs.InOrder.{InOrder, in-order-prop};
 use crate::cells::Cell;
 use crate::layout::Place;
 
-/// A most general unifier. It shares the common parts of its terms, so it is no larger than the two terms
-/// together.
+/// A most general unifier. It shares the common parts of its terms, so it has at most as many cells as were laid
+/// out for them.
 #[derive(Drop)]
 pub struct Bindings {
     pub(crate) apart: bool,

@@ -28,9 +28,9 @@ use std::alloc::Global;
 impl Bindings {
     /// The two substitutions into shared variables, for the first `left_vars` variables of the left side
     /// and the first `right_vars` of the right one. The shared variables have the numbers from 0 on,
-    /// without gaps. The condition is that each variable of the two terms has a number below its side's count,
-    /// or below one of both counts where the sides aren't taken apart; `unify` says which counts meet it, and
-    /// `fits` tells it too.
+    /// without gaps. The condition is that neither count is above 2^31, and that each variable of the two terms
+    /// has a number below its side's count, or below one of both counts where the sides aren't taken apart;
+    /// `unify` says which counts meet that, and `fits` tells it too.
     pub fn substs(&self, left_vars: u32, right_vars: u32) -> Mem<(Subst, Subst)>
         requires fits { fits self.now left_vars right_vars ≡ true }
         requires left_room { left_vars ≤ 2 ^ 31 }

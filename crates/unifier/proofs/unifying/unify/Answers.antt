@@ -7,7 +7,7 @@ use Rattle.unifier.specs.Layout.{HavePlaces}
 use Rattle.unifier.proofs.CodeLemmas.{left-have-places, right-have-places}
 use Rattle.unifier.proofs.ClashLemmas.{clash-answer}
 use Rattle.unifier.proofs.UnifyLemmas.{unified-answer}
-use Rattle.unifier.proofs.BoundLemmas.{leaves-answer, fits-answer, fits-together-answer}
+use Rattle.unifier.proofs.BoundLemmas.{leaves-answer, counts-answer, fits-answer, fits-together-answer}
 use Rattle.unifier.proofs.unifying.unify.Goals as goal
 
 pub returns-then-clash-clause-unified : goal.returns-then-clash-clause-unified
@@ -41,4 +41,9 @@ returns-clause-fits c =
 pub returns-clause-fits_together : goal.returns-clause-fits_together
 returns-clause-fits_together c =
     fits-together-answer _ c.in_ok-layout.layout c.lay_term.new.self c.lay_term-2.new.self c.args.apart c.in_ok-first.first c.in_ok-second.second
+    (tree_of c.args.left.now) (tree_of c.args.right.now) c.in_ok-layout.ensures c.in_ok-first.ensures c.in_ok-second.ensures c.solve.ensures
+
+pub returns-clause-counted : goal.returns-clause-counted
+returns-clause-counted c =
+    counts-answer _ c.in_ok-layout.layout c.lay_term.new.self c.lay_term-2.new.self c.args.apart c.in_ok-first.first c.in_ok-second.second
     (tree_of c.args.left.now) (tree_of c.args.right.now) c.in_ok-layout.ensures c.in_ok-first.ensures c.in_ok-second.ensures c.solve.ensures
