@@ -1,0 +1,4 @@
+pub mod Files
+pub mod Includes
+pub mod Formulas
+pub mod Problem

@@ -1,0 +1,50 @@
+// The formulas that an include takes.
+
+use plain_types::{Mem, Text};
+use std::alloc::Global;
+use tptp_tree::Annotated;
+
+/// The names of the formulas that an include takes; where none are listed, it takes all.
+#[derive(Clone, Copy)]
+pub struct Selection<'a> {
+    pub names: &'a [Text],
+}
+
+impl<'a> Selection<'a> {
+    /// Whether it takes the formulas of that name. The time is linear in the names.
+    pub fn selects(&self, name: &[u8]) -> bool {
+        self.names.is_empty() || self.names.iter().any(|listed| name == listed.as_slice())
+    }
+
+    /// The index of its first name that none of the formulas has. The time is linear in the names times the formulas.
+    pub fn missing(&self, formulas: &[Annotated]) -> Option<usize> {
+        self.names
+            .iter()
+            .position(|name| !is_named(formulas, name.as_slice()))
+    }
+
+    /// Moves the formulas that it takes to the end of a list, in their order.
+    pub fn take(&self, formulas: Vec<Annotated>, list: &mut Vec<Annotated>) -> Mem<()> {
+        for formula in formulas {
+            if self.selects(formula.name.as_slice()) {
+                list.push(formula)?;
+            }
+        }
+        Ok(())
+    }
+
+    /// The selections, and this one inside them.
+    pub fn within(self, alloc: Global, around: &[Selection<'a>]) -> Mem<Vec<Selection<'a>>> {
+        let mut selections = Vec::new(alloc);
+        selections.extend_from_slice(around)?;
+        selections.push(self)?;
+        Ok(selections)
+    }
+}
+
+/// Whether one of the formulas has the name.
+fn is_named(formulas: &[Annotated], name: &[u8]) -> bool {
+    formulas
+        .iter()
+        .any(|formula| formula.name.as_slice() == name)
+}
