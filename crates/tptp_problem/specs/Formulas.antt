@@ -9,7 +9,7 @@ use Rattle.tptp_tree.specs.declared.problem.Annotated.{Annotated}
 use Rattle.tptp_tree.specs.declared.problem.Role.{Role}
 use Rattle.tptp_tree.specs.declared.problem.Role.TheVariants.{Axiom, Hypothesis, Definition, Assumption, Lemma, Theorem, Corollary, NegatedConjecture, Plain, Conjecture}
 use Rattle.tptp_tree.specs.Brackets.{is_lexeme, is_mark}
-use Rattle.tptp_tree.specs.Spelling.{bare, quoted, name_of}
+use Rattle.tptp_tree.specs.Spelling.{quoted, name_of}
 use Rattle.tptp_tree.specs.Entries.{AnnotatedTree}
 use Rattle.tptp_reader.specs.Shape.{tree_of}
 
@@ -61,17 +61,29 @@ is_conjecture Conjecture = true
 abbrev pub counts : List (List (List ℕ)) → List ℕ → Bool
 counts around name = list_all (λ names. selects names name) around
 
--- the name that a token is, if it is one
-abbrev pub name_of_token : Kind → List ℕ → Option (List ℕ)
-name_of_token Lower bytes = Some (name_of (bare bytes))
-name_of_token Quoted bytes = Some (name_of (quoted bytes))
-name_of_token Number bytes = if list_all is_digit bytes then Some bytes else None
-name_of_token Variable bytes = None
-name_of_token Distinct bytes = None
-name_of_token Dollar bytes = None
-name_of_token Connective bytes = None
-name_of_token Mark bytes = None
-name_of_token Other bytes = None
+-- a formula's name is a word, or a number of digits alone
+abbrev pub is_name : Kind → List ℕ → Bool
+is_name Lower bytes = true
+is_name Quoted bytes = true
+is_name Number bytes = list_all is_digit bytes
+is_name Variable bytes = false
+is_name Distinct bytes = false
+is_name Dollar bytes = false
+is_name Connective bytes = false
+is_name Mark bytes = false
+is_name Other bytes = false
+
+-- the name that such a token is
+abbrev pub token_name : Kind → List ℕ → List ℕ
+token_name Quoted bytes = name_of (quoted bytes)
+token_name Lower bytes = bytes
+token_name Number bytes = bytes
+token_name Variable bytes = bytes
+token_name Distinct bytes = bytes
+token_name Dollar bytes = bytes
+token_name Connective bytes = bytes
+token_name Mark bytes = bytes
+token_name Other bytes = bytes
 
 -- the name of the conjecture that the tokens begin: `fof ( NAME , conjecture`
 abbrev pub conjecture_begun : List Lexeme → Option (List ℕ)
@@ -81,8 +93,8 @@ conjecture_begun (a ∷ b ∷ []) = None
 conjecture_begun (a ∷ b ∷ c ∷ []) = None
 conjecture_begun (a ∷ b ∷ c ∷ d ∷ []) = None
 conjecture_begun (a ∷ b ∷ c ∷ d ∷ e ∷ tokens) =
-    if is_lexeme Lower (codes "fof") a && (is_mark (codes "(") b && (is_mark (codes ",") d && is_lexeme Lower (codes "conjecture") e))
-    then name_of_token c.kind c.bytes
+    if is_lexeme Lower (codes "fof") a && is_mark (codes "(") b && is_name c.kind c.bytes && is_mark (codes ",") d && is_lexeme Lower (codes "conjecture") e
+    then Some (token_name c.kind c.bytes)
     else None
 
 -- a conjecture of that name, if there is one, counts

@@ -39,9 +39,9 @@ pub record StopsInclude (tokens : List Lexeme) (first index : ℕ) : Type 0 wher
   pub within : index < length tokens
   pub before : BeginsInclude (take (index - first) (drop first tokens))
   pub stops : BeginsInclude (take (suc index - first) (drop first tokens)) → ⊥
-  pub open : HasNoInclude tokens first
+  pub none : HasNoInclude tokens first
 
 -- The tokens end before the include does.
 pub record CutsInclude (tokens : List Lexeme) (first : ℕ) : Type 0 where
   pub before : BeginsInclude (drop first tokens)
-  pub open : HasNoInclude tokens first
+  pub none : HasNoInclude tokens first

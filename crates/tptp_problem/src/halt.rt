@@ -1,6 +1,7 @@
 // Why the reading of a problem stops.
 
 ghost use Rattle.std.specs.Prelude.{◌≡◌};
+ghost use Rattle.tptp_problem.specs.Shape.{IsHaltBy, fault_of};
 
 use plain_types::{NoMemory, Text};
 use std::alloc::{AllocError, AllocFailed, Global};
@@ -15,7 +16,9 @@ pub enum Halt {
 
 impl Halt {
     /// A fault in the file of that name.
-    pub fn at(alloc: Global, cause: ReadCause, file: &str, place: u32) -> Halt {
+    pub fn at(alloc: Global, cause: ReadCause, file: &str, place: u32) -> Halt
+        ensures { IsHaltBy (λ c f p. (c ≡ cause) × (f ≡ file.now) × (p ≡ place)) result }
+    {
         match Text::from_slice(alloc, file.as_bytes()) {
             Ok(name) => Halt::At(cause, name, place),
             Err(_) => Halt::NoMemory,
@@ -23,7 +26,9 @@ impl Halt {
     }
 
     /// The fault that the caller is told.
-    pub fn into_fault(self) -> ReadFault {
+    pub fn into_fault(self) -> ReadFault
+        ensures { result ≡ fault_of self }
+    {
         match self {
             Halt::NoMemory => ReadFault::NoMemory,
             Halt::At(cause, file, place) => ReadFault::At(cause, file, place),

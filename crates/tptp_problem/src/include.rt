@@ -1,5 +1,14 @@
 // Includes, read from their tokens.
 
+ghost use Rattle.std.specs.Prelude.{◌≡◌, ◌≤◌, ◌+◌, ◌*◌, IfOk, IfErr, length, drop};
+ghost use Rattle.tptp_token.specs.Lexemes.{Lexeme};
+ghost use Rattle.tptp_problem.specs.Awaiting.{after as after_token, ending_from, StillReads};
+ghost use Rattle.tptp_problem.specs.Formulas.{token_name};
+ghost use Rattle.tptp_problem.specs.Problem.{IsIncludeSyntaxFault};
+ghost use Rattle.tptp_problem.specs.Shape.{IsHaltBy, IsLexed, lexeme_of, lexemes_told, file_of};
+ghost use Rattle.tptp_problem.specs.IncludeReads.{IsIncludeRead, ReadsNames, IsNameAt};
+ghost use Rattle.tptp_problem.specs.declared.include.Awaited.TheVariants.{Keyword as keyword};
+
 use crate::halt::Halt;
 use crate::source::{Source, TextToken};
 use plain_types::{Mem, Text, Texts};
@@ -32,7 +41,9 @@ enum Awaited {
 
 impl Awaited {
     /// What has to come behind a token, where it may stand here.
-    fn after(self, token: TextToken<'_>) -> Option<Awaited> {
+    fn after(self, token: TextToken<'_>) -> Option<Awaited>
+        ensures { result ≡ after_token self (lexeme_of token.entry) }
+    {
         match self {
             Awaited::Keyword if token.is_lower(b"include") => Some(Awaited::Open),
             Awaited::Open if token.is_mark(b"(") => Some(Awaited::File),
@@ -62,8 +73,12 @@ enum Ending {
 
 /// The include that begins at a token. It is `Syntax` at the first token with which no include goes on; where the tokens end
 /// too early, the fault is that of the tokens, or else `Syntax` at the end of the text.
-pub fn include(alloc: Global, source: Source<'_>, first: usize) -> Result<Include, Halt> {
-    match ending(source, first) {
+pub fn include_at(alloc: Global, source: Source<'_>, first: usize) -> Result<Include, Halt>
+    requires lexed { IsLexed source }
+    ensures read { IfOk result (IsIncludeRead source.entry first) }
+    ensures halted { IfErr result (IsHaltBy (IsIncludeSyntaxFault (file_of source.entry) first)) }
+{
+    match ending_of(source, first) {
         Ending::Stopped(index) => Err(source.fault(alloc, ReadCause::Syntax, index)),
         Ending::Cut => Err(source.end_fault(alloc)),
         Ending::Whole(next) => Ok(Include {
@@ -75,7 +90,9 @@ pub fn include(alloc: Global, source: Source<'_>, first: usize) -> Result<Includ
 }
 
 /// Where the include that begins at a token ends.
-fn ending(source: Source<'_>, first: usize) -> Ending {
+fn ending_of(source: Source<'_>, first: usize) -> Ending
+    ensures { result ≡ ending_from first keyword (drop first (lexemes_told source.entry)) }
+{
     let mut awaited = Awaited::Keyword;
     let mut at = first;
     while let Some(token) = source.token(at) {
@@ -90,7 +107,10 @@ fn ending(source: Source<'_>, first: usize) -> Ending {
 }
 
 /// The names of a selection, the first of which stands at a token; three tokens stand behind the last.
-fn names_between(alloc: Global, source: Source<'_>, first: usize, next: usize) -> Mem<Texts> {
+fn names_between(alloc: Global, source: Source<'_>, first: usize, next: usize) -> Mem<Texts>
+    requires { next ≤ length source.lexed.now.tokens }
+    ensures { IfOk result (ReadsNames source.entry first next) }
+{
     let mut names = Texts::new(alloc);
     let mut at = first;
     while at + 3 < next {
@@ -101,7 +121,9 @@ fn names_between(alloc: Global, source: Source<'_>, first: usize, next: usize) -
 }
 
 /// The name that a token is.
-fn name_at(alloc: Global, source: Source<'_>, at: usize) -> Mem<Text> {
+fn name_at(alloc: Global, source: Source<'_>, at: usize) -> Mem<Text>
+    ensures { IfOk result (IsNameAt source.entry at) }
+{
     match source.token(at) {
         Some(token) => token.name(alloc),
         None => Ok(Text::new(alloc)),

@@ -5,6 +5,7 @@ mod halt;
 mod include;
 mod name;
 mod problem;
+mod reading;
 mod selection;
 mod source;
 #[cfg(test)]

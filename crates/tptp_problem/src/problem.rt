@@ -1,8 +1,17 @@
 // Problems, read from the files of a library.
 
+ghost use Rattle.std.specs.Prelude.{◌≡◌, ◌≢◌, ◌<◌, ◌≤◌, suc, length, map, IfOk, IfErr};
+ghost use Rattle.std.specs.Option.{option_copied};
+ghost use Rattle.tptp_reader.specs.declared.cause.ReadCause.TheVariants.{Load};
+ghost use Rattle.tptp_problem.specs.Files.{MayGive};
+ghost use Rattle.tptp_problem.specs.Formulas.{placed};
+ghost use Rattle.tptp_problem.specs.Problem.{IsProblem, IsProblemFault, ReadsNamed, FaultsNamed, ReadsText, FaultsText, Adds, IsIncludeStep, IsFormulaStep, IsIncludeFault, IsFormulaFault, IsLoadFault, is_second, with_file};
+ghost use Rattle.tptp_problem.specs.Shape.{IsHaltBy, IsFaultBy, IsLoadTold, IsLexed, file_of, selections, progress_of};
+
 use crate::halt::Halt;
-use crate::include::include;
+use crate::include::include_at;
 use crate::name::{base_of, loaded_name};
+use crate::reading::Reading;
 use crate::selection::Selection;
 use crate::source::Source;
 use outside::{Library, LoadFault};
@@ -30,7 +39,16 @@ pub fn read_problem<L: Library>(
     library: &mut L,
     file: &str,
     root: Option<&str>,
-) -> Result<Problem, ReadFault> {
+) -> Result<Problem, ReadFault>
+    ensures read { IfOk result (λ problem.
+        IsProblem (L.told library.old) file.now (option_copied root.entry) (map placed problem.formulas)) }
+    ensures fault { IfErr result (IsFaultBy
+        (IsProblemFault (L.told library.old) (L.found library.new) file.now (option_copied root.entry))) }
+    ensures load { IfErr result (IsFaultBy
+        (IsLoadTold (L.faults library.old) (L.faults library.new) (L.failed library.new))) }
+    ensures told { L.told library.new ≡ L.told library.old }
+    ensures later { L.faults library.old ≤ L.faults library.new }
+{
     match problem(alloc, library, file, root) {
         Ok(problem) => Ok(problem),
         Err(halt) => Err(halt.into_fault()),
@@ -42,7 +60,16 @@ fn problem<L: Library>(
     library: &mut L,
     file: &str,
     root: Option<&str>,
-) -> Result<Problem, Halt> {
+) -> Result<Problem, Halt>
+    ensures read { IfOk result (λ problem.
+        IsProblem (L.told library.old) file.now (option_copied root.entry) (map placed problem.formulas)) }
+    ensures fault { IfErr result (IsHaltBy
+        (IsProblemFault (L.told library.old) (L.found library.new) file.now (option_copied root.entry))) }
+    ensures load { IfErr result (IsHaltBy
+        (IsLoadTold (L.faults library.old) (L.faults library.new) (L.failed library.new))) }
+    ensures told { L.told library.new ≡ L.told library.old }
+    ensures later { L.faults library.old ≤ L.faults library.new }
+{
     let base = base_of(alloc, file, root)?;
     let mut reading = Reading {
         base: base.as_str(),
@@ -55,17 +82,6 @@ fn problem<L: Library>(
     })
 }
 
-/// How far the reading of a problem has come.
-#[derive(Drop)]
-struct Reading<'a> {
-    /// What stands before the names of included files.
-    base: &'a str,
-    /// The bytes of the files loaded so far.
-    loaded: usize,
-    /// Whether a conjecture was met that no selection leaves out.
-    met: bool,
-}
-
 impl Reading<'_> {
     /// Reads the file of a name, with the selections around it, where includes may be nested so deep in it.
     #[cycle(reading)]
@@ -76,14 +92,24 @@ impl Reading<'_> {
         name: &str,
         around: &[Selection<'_>],
         depth: u32,
-    ) -> Result<Vec<Annotated>, Halt> {
+    ) -> Result<Vec<Annotated>, Halt>
+        ensures read { IfOk result (λ formulas. ReadsNamed (L.told library.old) self.old.base.now (suc depth)
+            name.now (selections around.now) (progress_of self.old) (map placed formulas.items) (progress_of self.new)) }
+        ensures fault { IfErr result (IsHaltBy (FaultsNamed (L.told library.old) self.old.base.now (L.found library.new)
+            (suc depth) name.now (selections around.now) (progress_of self.old))) }
+        ensures load { IfErr result (IsHaltBy
+            (IsLoadTold (L.faults library.old) (L.faults library.new) (L.failed library.new))) }
+        ensures told { L.told library.new ≡ L.told library.old }
+        ensures later { L.faults library.old ≤ L.faults library.new }
+        ensures base { self.new.base ≡ self.old.base }
+    {
         let bytes = self.load(alloc, library, name)?;
         let lexed = tokens(alloc, bytes.as_slice())?;
         let source = Source {
-            name,
+            name: &*name,
             bytes: bytes.as_slice(),
             lexed: &lexed,
-            around,
+            around: &*around,
         };
         self.text(alloc, library, source, depth)
     }
@@ -96,7 +122,20 @@ impl Reading<'_> {
         library: &mut L,
         source: Source<'_>,
         depth: u32,
-    ) -> Result<Vec<Annotated>, Halt> {
+    ) -> Result<Vec<Annotated>, Halt>
+        requires lexed { IsLexed source }
+        ensures read { IfOk result (λ formulas. ReadsText self.old.base.now (ReadsNamed (L.told library.old) self.old.base.now depth)
+            (file_of source.entry) (progress_of self.old) (map placed formulas.items) (progress_of self.new)) }
+        ensures fault { IfErr result (IsHaltBy (FaultsText depth self.old.base.now
+            (ReadsNamed (L.told library.old) self.old.base.now depth)
+            (FaultsNamed (L.told library.old) self.old.base.now (L.found library.new) depth)
+            (file_of source.entry) (progress_of self.old))) }
+        ensures load { IfErr result (IsHaltBy
+            (IsLoadTold (L.faults library.old) (L.faults library.new) (L.failed library.new))) }
+        ensures told { L.told library.new ≡ L.told library.old }
+        ensures later { L.faults library.old ≤ L.faults library.new }
+        ensures base { self.new.base ≡ self.old.base }
+    {
         let mut formulas = Vec::new(alloc);
         let mut next = 0;
         while next < source.lexed.tokens.len() {
@@ -122,11 +161,26 @@ impl Reading<'_> {
         first: usize,
         depth: u32,
         formulas: &mut Vec<Annotated>,
-    ) -> Result<usize, Halt> {
+    ) -> Result<usize, Halt>
+        requires lexed { IsLexed source }
+        ensures read { IfOk result (Adds (IsIncludeStep self.old.base.now
+            (ReadsNamed (L.told library.old) self.old.base.now depth) (file_of source.entry) first (progress_of self.old))
+            (map placed formulas.old.items) (map placed formulas.new.items) (progress_of self.new)) }
+        ensures onward { IfOk result (λ next. first < next) }
+        ensures fault { IfErr result (IsHaltBy (IsIncludeFault depth self.old.base.now
+            (ReadsNamed (L.told library.old) self.old.base.now depth)
+            (FaultsNamed (L.told library.old) self.old.base.now (L.found library.new) depth)
+            (file_of source.entry) first (progress_of self.old))) }
+        ensures load { IfErr result (IsHaltBy
+            (IsLoadTold (L.faults library.old) (L.faults library.new) (L.failed library.new))) }
+        ensures told { L.told library.new ≡ L.told library.old }
+        ensures later { L.faults library.old ≤ L.faults library.new }
+        ensures base { self.new.base ≡ self.old.base }
+    {
         if depth == 0 {
             return Err(source.fault(alloc, ReadCause::IncludeDepth, first));
         }
-        let include = include(alloc, source, first)?;
+        let include = include_at(alloc, source, first)?;
         let selection = Selection {
             names: include.names.as_slice(),
         };
@@ -147,7 +201,17 @@ impl Reading<'_> {
         source: Source<'_>,
         first: usize,
         formulas: &mut Vec<Annotated>,
-    ) -> Result<usize, Halt> {
+    ) -> Result<usize, Halt>
+        requires lexed { IsLexed source }
+        requires first { first < length source.lexed.now.tokens }
+        ensures read { IfOk result (Adds (IsFormulaStep (file_of source.entry) first (progress_of self.old))
+            (map placed formulas.old.items) (map placed formulas.new.items) (progress_of self.new)) }
+        ensures onward { IfOk result (λ next. first < next) }
+        ensures fault { IfErr result (IsHaltBy (IsFormulaFault (file_of source.entry)
+            (is_second (file_of source.entry) first (progress_of self.old)) first (progress_of self.old))) }
+        ensures no_load { IfErr result (IsHaltBy (λ c f p. c ≢ Load)) }
+        ensures base { self.new.base ≡ self.old.base }
+    {
         if self.met && source.begins_conjecture(alloc, first)? {
             return Err(source.fault(alloc, ReadCause::SecondConjecture, first + 4));
         }
@@ -175,8 +239,19 @@ impl Reading<'_> {
         alloc: Global,
         library: &mut L,
         name: &str,
-    ) -> Result<Vec<u8>, Halt> {
-        let room = MOST_FILE_BYTES.min(MOST_BYTES.saturating_sub(self.loaded));
+    ) -> Result<Vec<u8>, Halt>
+        ensures given { IfOk result (λ bytes. MayGive (L.told library.old) name.now self.old.loaded bytes.items) }
+        ensures small { IfOk result (λ bytes. length bytes.items ≤ 67108864) }
+        ensures progress { IfOk result (λ bytes. progress_of self.new ≡ with_file bytes.items (progress_of self.old)) }
+        ensures fault { IfErr result (IsHaltBy
+            (IsLoadFault (L.told library.old) (L.found library.new) name.now (progress_of self.old))) }
+        ensures load { IfErr result (IsHaltBy
+            (IsLoadTold (L.faults library.old) (L.faults library.new) (L.failed library.new))) }
+        ensures told { L.told library.new ≡ L.told library.old }
+        ensures later { L.faults library.old ≤ L.faults library.new }
+        ensures base { self.new.base ≡ self.old.base }
+    {
+        let room = MOST_FILE_BYTES.min(MOST_BYTES - self.loaded);
         match library.load(alloc, name, room) {
             Ok(bytes) => {
                 self.loaded += bytes.len();

@@ -1,5 +1,9 @@
 // The formulas that an include takes.
 
+ghost use Rattle.std.specs.Prelude.{◌≡◌, ◌++◌, [], ◌∷◌, map, IfOk};
+ghost use Rattle.tptp_problem.specs.Formulas.{placed, selects as selects_name, selected, is_named as named, missing as missing_among};
+ghost use Rattle.tptp_problem.specs.Shape.{selections};
+
 use plain_types::{Mem, Text};
 use std::alloc::Global;
 use tptp_tree::Annotated;
@@ -12,19 +16,26 @@ pub struct Selection<'a> {
 
 impl<'a> Selection<'a> {
     /// Whether it takes the formulas of that name. The time is linear in the names.
-    pub fn selects(&self, name: &[u8]) -> bool {
+    pub fn selects(&self, name: &[u8]) -> bool
+        ensures { result ≡ selects_name self.now.names.now name.now }
+    {
         self.names.is_empty() || self.names.iter().any(|listed| name == listed.as_slice())
     }
 
     /// The index of its first name that none of the formulas has. The time is linear in the names times the formulas.
-    pub fn missing(&self, formulas: &[Annotated]) -> Option<usize> {
+    pub fn missing(&self, formulas: &[Annotated]) -> Option<usize>
+        ensures { result ≡ missing_among self.now.names.now (map placed formulas.now) }
+    {
         self.names
             .iter()
             .position(|name| !is_named(formulas, name.as_slice()))
     }
 
     /// Moves the formulas that it takes to the end of a list, in their order.
-    pub fn take(&self, formulas: Vec<Annotated>, list: &mut Vec<Annotated>) -> Mem<()> {
+    pub fn take(&self, formulas: Vec<Annotated>, list: &mut Vec<Annotated>) -> Mem<()>
+        ensures { IfOk result (λ _. map placed list.new.items
+            ≡ map placed list.old.items ++ selected self.now.names.now (map placed formulas.items)) }
+    {
         for formula in formulas {
             if self.selects(formula.name.as_slice()) {
                 list.push(formula)?;
@@ -34,16 +45,20 @@ impl<'a> Selection<'a> {
     }
 
     /// The selections, and this one inside them.
-    pub fn within(self, alloc: Global, around: &[Selection<'a>]) -> Mem<Vec<Selection<'a>>> {
-        let mut selections = Vec::new(alloc);
-        selections.extend_from_slice(around)?;
-        selections.push(self)?;
-        Ok(selections)
+    pub fn within(self, alloc: Global, around: &[Selection<'a>]) -> Mem<Vec<Selection<'a>>>
+        ensures { IfOk result (λ all. selections all.items ≡ selections around.now ++ self.entry.names.now ∷ []) }
+    {
+        let mut all = Vec::new(alloc);
+        all.extend_from_slice(around)?;
+        all.push(self)?;
+        Ok(all)
     }
 }
 
 /// Whether one of the formulas has the name.
-fn is_named(formulas: &[Annotated], name: &[u8]) -> bool {
+fn is_named(formulas: &[Annotated], name: &[u8]) -> bool
+    ensures { result ≡ named (map placed formulas.now) name.now }
+{
     formulas
         .iter()
         .any(|formula| formula.name.as_slice() == name)

@@ -1,11 +1,22 @@
 // The text of a file, by its tokens.
 
+ghost use Rattle.std.specs.Prelude.{◌≡◌, ◌+◌, ◌-◌, ◌<◌, ◌≤◌, ◌^◌, false, [], ◌∷◌, codes, length, drop, take, true, IfOk, IsSome, MatchOption, slice_get, option_map, Some};
+ghost use Rattle.tptp_tree.specs.Brackets.{is_lexeme, is_mark as mark_is};
+ghost use Rattle.tptp_tree.specs.Spelling.{unescaped};
+ghost use Rattle.tptp_token.specs.declared.token.Kind.TheVariants.{Lower, Quoted};
+ghost use Rattle.tptp_reader.specs.TellingEntries.{IsEndFault};
+ghost use Rattle.tptp_problem.specs.Formulas.{is_name as name_is, token_name, counts as counts_within, conjecture_begun, begun_counts};
+ghost use Rattle.tptp_problem.specs.Awaiting.{is_word as word_is};
+ghost use Rattle.tptp_problem.specs.Includes.{is_include as include_is};
+ghost use Rattle.tptp_problem.specs.Problem.{start_of};
+ghost use Rattle.tptp_problem.specs.Shape.{IsHaltBy, lexeme_of, lexemes_told, selections};
+
 use crate::halt::Halt;
 use crate::selection::Selection;
 use plain_types::{Mem, Text};
 use std::alloc::Global;
 use tptp_reader::ReadCause;
-use tptp_token::{Kind, LexFault, Lexed, are_digits};
+use tptp_token::{Kind, LexFault, Lexed, Token, are_digits};
 
 /// A token by its kind and its bytes.
 #[derive(Clone, Copy)]
@@ -16,7 +27,9 @@ pub struct TextToken<'a> {
 
 impl TextToken<'_> {
     /// Whether it is this bracket, comma or full stop.
-    pub fn is_mark(&self, bytes: &[u8]) -> bool {
+    pub fn is_mark(&self, bytes: &[u8]) -> bool
+        ensures { result ≡ mark_is bytes.now (lexeme_of self.now) }
+    {
         match self.kind {
             Kind::Mark => bytes == self.bytes,
             _ => false,
@@ -24,7 +37,9 @@ impl TextToken<'_> {
     }
 
     /// Whether it is this lower word.
-    pub fn is_lower(&self, bytes: &[u8]) -> bool {
+    pub fn is_lower(&self, bytes: &[u8]) -> bool
+        ensures { result ≡ is_lexeme Lower bytes.now (lexeme_of self.now) }
+    {
         match self.kind {
             Kind::Lower => bytes == self.bytes,
             _ => false,
@@ -32,12 +47,16 @@ impl TextToken<'_> {
     }
 
     /// Whether it is a lower word or a quoted word.
-    pub fn is_word(&self) -> bool {
+    pub fn is_word(&self) -> bool
+        ensures { result ≡ word_is self.now.kind }
+    {
         matches!(self.kind, Kind::Lower | Kind::Quoted)
     }
 
     /// Whether it may be a formula's name: a word, or a number of digits alone.
-    pub fn is_name(&self) -> bool {
+    pub fn is_name(&self) -> bool
+        ensures { result ≡ name_is self.now.kind self.now.bytes.now }
+    {
         match self.kind {
             Kind::Number => are_digits(self.bytes),
             _ => self.is_word(),
@@ -45,7 +64,9 @@ impl TextToken<'_> {
     }
 
     /// The name that it is: `abc` and `'abc'` are one name.
-    pub fn name(&self, alloc: Global) -> Mem<Text> {
+    pub fn name(&self, alloc: Global) -> Mem<Text>
+        ensures { IfOk result (λ name. name ≡ token_name self.now.kind self.now.bytes.now) }
+    {
         match self.kind {
             Kind::Quoted => unquoted(alloc, self.bytes),
             _ => Text::from_slice(alloc, self.bytes),
@@ -54,15 +75,30 @@ impl TextToken<'_> {
 }
 
 /// What stands between the quotes of a quoted word, with each escaping `\` left out.
-fn unquoted(alloc: Global, bytes: &[u8]) -> Mem<Text> {
+fn unquoted(alloc: Global, bytes: &[u8]) -> Mem<Text>
+    ensures { IfOk result (λ name. name ≡ unescaped false (drop 1 bytes.now)) }
+{
+    match bytes.split_first() {
+        None => Ok(Text::new(alloc)),
+        Some((_, inside)) => unescaped_text(alloc, inside),
+    }
+}
+
+/// What stands up to the closing quote, with each escaping `\` left out.
+fn unescaped_text(alloc: Global, inside: &[u8]) -> Mem<Text>
+    ensures { IfOk result (λ name. name ≡ unescaped false inside.now) }
+{
     let mut name = Vec::new(alloc);
     let mut escaped = false;
-    for byte in bytes.iter().skip(1) {
-        if !escaped && *byte == b'\'' {
-            break;
-        }
-        escaped = !escaped && *byte == b'\\';
-        if !escaped {
+    for byte in inside {
+        if escaped {
+            name.push(*byte)?;
+            escaped = false;
+        } else if *byte == 39 {
+            return Ok(Text::from_vec(name));
+        } else if *byte == 92 {
+            escaped = true;
+        } else {
             name.push(*byte)?;
         }
     }
@@ -80,18 +116,36 @@ pub struct Source<'a> {
 
 impl<'a> Source<'a> {
     /// The token at an index, if there is one.
-    pub fn token(&self, at: usize) -> Option<TextToken<'a>> {
-        let token = self.lexed.tokens.as_slice().get(at).copied()?;
-        let end = self.bytes.len().min(token.end as usize);
-        let start = end.min(token.start as usize);
+    pub fn token(&self, at: usize) -> Option<TextToken<'a>>
+        ensures next { MatchOption result (drop at (lexemes_told self.now) ≡ [])
+            (λ t. drop at (lexemes_told self.now) ≡ lexeme_of t ∷ drop (at + 1) (lexemes_told self.now)) }
+        ensures within { IsSome result → at < length self.now.lexed.now.tokens }
+        ensures fits { IsSome result → at + 1 < 2 ^ 64 }
+    {
+        if at >= self.lexed.tokens.len() {
+            return None;
+        }
+        let token = self.lexed.tokens.as_slice()[at];
+        let bytes = self.bytes_of(token);
         Some(TextToken {
             kind: token.kind,
-            bytes: &self.bytes[start..end],
+            bytes,
         })
     }
 
+    /// The bytes of a token.
+    fn bytes_of(&self, token: Token) -> &'a [u8]
+        ensures { result.now ≡ take (token.end - token.start) (drop token.start self.now.bytes.now) }
+    {
+        let end = self.bytes.len().min(token.end as usize);
+        let start = end.min(token.start as usize);
+        &self.bytes[start..end]
+    }
+
     /// Whether the entry that begins at a token is an include.
-    pub fn is_include(&self, first: usize) -> bool {
+    pub fn is_include(&self, first: usize) -> bool
+        ensures { result ≡ include_is (drop first (lexemes_told self.now)) }
+    {
         match self.token(first) {
             Some(token) => token.is_lower(b"include"),
             None => false,
@@ -99,7 +153,11 @@ impl<'a> Source<'a> {
     }
 
     /// Whether a conjecture begins at a token, up to its role word, that each selection around it selects.
-    pub fn begins_conjecture(&self, alloc: Global, first: usize) -> Mem<bool> {
+    pub fn begins_conjecture(&self, alloc: Global, first: usize) -> Mem<bool>
+        ensures begins { IfOk result (λ begins. begins
+            ≡ begun_counts (selections self.now.around.now) (conjecture_begun (drop first (lexemes_told self.now)))) }
+        ensures within { IfOk result (λ begins. begins ≡ true → first + 4 < length self.now.lexed.now.tokens) }
+    {
         match self.conjecture_name(first) {
             Some(token) => {
                 let name = token.name(alloc)?;
@@ -110,12 +168,17 @@ impl<'a> Source<'a> {
     }
 
     /// Whether each selection around the file selects the name.
-    pub fn counts(&self, name: &[u8]) -> bool {
+    pub fn counts(&self, name: &[u8]) -> bool
+        ensures { result ≡ counts_within (selections self.now.around.now) name.now }
+    {
         self.around.iter().all(|selection| selection.selects(name))
     }
 
     /// The name in `fof ( NAME , conjecture`, where these tokens begin at one.
-    fn conjecture_name(&self, first: usize) -> Option<TextToken<'a>> {
+    fn conjecture_name(&self, first: usize) -> Option<TextToken<'a>>
+        ensures name { option_map (λ t. token_name t.kind t.bytes.now) result ≡ conjecture_begun (drop first (lexemes_told self.now)) }
+        ensures within { IsSome result → first + 4 < length self.now.lexed.now.tokens }
+    {
         let word = self.token(first)?;
         let open = self.token(first + 1)?;
         let name = self.token(first + 2)?;
@@ -130,12 +193,19 @@ impl<'a> Source<'a> {
     }
 
     /// A fault at a token.
-    pub fn fault(&self, alloc: Global, cause: ReadCause, at: usize) -> Halt {
+    pub fn fault(&self, alloc: Global, cause: ReadCause, at: usize) -> Halt
+        ensures { IsHaltBy
+            (λ c f p. (c ≡ cause) × (f ≡ self.now.name.now) × (p ≡ start_of (slice_get self.now.lexed.now.tokens at))) result }
+    {
         Halt::at(alloc, cause, self.name, self.place_of(at))
     }
 
     /// The fault behind the last token: that of the tokens, or else the end of the text.
-    pub fn end_fault(&self, alloc: Global) -> Halt {
+    pub fn end_fault(&self, alloc: Global) -> Halt
+        requires { length self.now.bytes.now ≤ 67108864 }
+        ensures { IsHaltBy
+            (λ c f p. (f ≡ self.now.name.now) × IsEndFault self.now.lexed.now.fault (length self.now.bytes.now) c p) result }
+    {
         match self.lexed.fault {
             Some(fault) => self.lexical_fault(alloc, fault),
             None => Halt::at(alloc, ReadCause::Syntax, self.name, self.bytes.len() as u32),
@@ -143,7 +213,10 @@ impl<'a> Source<'a> {
     }
 
     /// The fault of the tokens.
-    pub fn lexical_fault(&self, alloc: Global, fault: LexFault) -> Halt {
+    pub fn lexical_fault(&self, alloc: Global, fault: LexFault) -> Halt
+        ensures { IsHaltBy
+            (λ c f p. (f ≡ self.now.name.now) × IsEndFault (Some fault) (length self.now.bytes.now) c p) result }
+    {
         match fault {
             LexFault::BadByte(place) => Halt::at(alloc, ReadCause::BadByte, self.name, place),
             LexFault::Unclosed(place) => Halt::at(alloc, ReadCause::Unclosed, self.name, place),
@@ -151,7 +224,9 @@ impl<'a> Source<'a> {
     }
 
     /// Where a token begins in the text; 0 behind the last one.
-    fn place_of(&self, at: usize) -> u32 {
+    fn place_of(&self, at: usize) -> u32
+        ensures { result ≡ start_of (slice_get self.now.lexed.now.tokens at) }
+    {
         match self.lexed.tokens.as_slice().get(at) {
             Some(token) => token.start,
             None => 0,

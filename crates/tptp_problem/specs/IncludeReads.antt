@@ -1,0 +1,30 @@
+-- What reading an include says.
+use Rattle.std.specs.Prelude.{◌≡◌, ◌≤◌, ◌+◌, ◌*◌, ℕ, List, ◌∷◌, length, drop}
+use Rattle.std.specs.Str.{IsAscii}
+use Rattle.tptp_token.specs.Lexemes.{Lexeme}
+use Rattle.tptp_tree.specs.Spelling.{Word, name_of}
+use Rattle.tptp_tree.specs.Entries.{NamePhrase, names_meant}
+use Rattle.tptp_problem.specs.declared.include.Include.{Include}
+use Rattle.tptp_problem.specs.declared.source.Source.{Source}
+use Rattle.tptp_problem.specs.Awaiting.{AreNamesAt}
+use Rattle.tptp_problem.specs.Formulas.{token_name}
+use Rattle.tptp_problem.specs.Includes.{IsInclude}
+use Rattle.tptp_problem.specs.Shape.{lexemes_told}
+
+-- the include that begins at the token, with its file's word and its names
+pub record IsIncludeRead (source : Source) (first : ℕ) (include : Include) : Type 0 where
+  pub file : Word
+  pub names : List NamePhrase
+  pub spelled : IsInclude (lexemes_told source) first file names include.next
+  pub file_is : include.file ≡ name_of file
+  pub names_are : include.names ≡ names_meant names
+  pub ascii : IsAscii include.file
+  pub room : first + 5 + 2 * length include.names ≤ include.next
+
+-- the names that stand from a token on, three tokens before the other
+pub record ReadsNames (source : Source) (first next : ℕ) (names : List (List ℕ)) : Type 0 where
+  pub by : (all : List NamePhrase) → AreNamesAt (lexemes_told source) next first all → names ≡ names_meant all
+
+-- the name of the token at that index
+pub record IsNameAt (source : Source) (at : ℕ) (name : List ℕ) : Type 0 where
+  pub by : (t : Lexeme) → drop at (lexemes_told source) ≡ t ∷ drop (at + 1) (lexemes_told source) → name ≡ token_name t.kind t.bytes
