@@ -39,19 +39,22 @@ after Close t = when (is_mark (codes ")") t) Stop None
 after Stop t = when (is_mark (codes ".") t) Nothing None
 after Nothing t = None
 
+abbrev pub is_nothing : Awaited → Bool
+is_nothing Nothing = true
+is_nothing Keyword = false
+is_nothing Open = false
+is_nothing File = false
+is_nothing AfterFile = false
+is_nothing OpenList = false
+is_nothing Name = false
+is_nothing AfterName = false
+is_nothing Close = false
+is_nothing Stop = false
+
 -- behind the token of an index, with what follows where more has to come
 abbrev pub ended : ℕ → (Awaited → Ending) → Option Awaited → Ending
 ended at more None = Stopped at
-ended at more (Some Nothing) = Whole (suc at)
-ended at more (Some Keyword) = more Keyword
-ended at more (Some Open) = more Open
-ended at more (Some File) = more File
-ended at more (Some AfterFile) = more AfterFile
-ended at more (Some OpenList) = more OpenList
-ended at more (Some Name) = more Name
-ended at more (Some AfterName) = more AfterName
-ended at more (Some Close) = more Close
-ended at more (Some Stop) = more Stop
+ended at more (Some next) = if is_nothing next then Whole (suc at) else more next
 
 -- where the tokens end, the first of which has that index
 abbrev pub ending_from : ℕ → Awaited → List Lexeme → Ending
@@ -60,14 +63,15 @@ ending_from at awaited (t ∷ ts) = ended at (λ next. ending_from (suc at) next
 
 -- ---- the names of a selection
 
--- the names that have still to be read from a token on, three tokens before the end of the include
+-- the names that have still to be read from a token on, up to the bracket that closes the list
 abbrev pub AreNamesAt : List Lexeme → ℕ → ℕ → List NamePhrase → Type 0
-AreNamesAt tokens next at [] = next ≤ at + 3
-AreNamesAt tokens next at (n ∷ ns) =
-    drop at tokens ≡ name_lexeme n ∷ more_names_lexemes ns (lexeme Mark (codes "]") ∷ include_end (drop next tokens))
+AreNamesAt tokens end at [] = end ≤ at
+AreNamesAt tokens end at (n ∷ ns) =
+    (drop at tokens ≡ name_lexeme n ∷ more_names_lexemes ns (lexeme Mark (codes "]") ∷ include_end (drop (end + 3) tokens)))
+    × (end + 3 ≤ length tokens)
 
 -- the names so far and those that have still to be read are those at the beginning
-pub record StillReads (tokens : List Lexeme) (next first at : ℕ) (names : List (List ℕ)) : Type 0 where
+pub record StillReads (tokens : List Lexeme) (end first at : ℕ) (names : List (List ℕ)) : Type 0 where
   pub by :
-      (all : List NamePhrase) → AreNamesAt tokens next first all
-      → (rest : List NamePhrase) × AreNamesAt tokens next at rest × (names ++ names_meant rest ≡ names_meant all)
+      (all : List NamePhrase) → AreNamesAt tokens end first all
+      → (rest : List NamePhrase) × AreNamesAt tokens end at rest × (names ++ names_meant rest ≡ names_meant all)

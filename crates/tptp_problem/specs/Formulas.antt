@@ -1,5 +1,5 @@
 -- The formulas of a problem, the selections around them, and the conjectures that count.
-use Rattle.std.specs.Prelude.{ℕ, Bool, true, false, ◌&&◌, List, [], ◌∷◌, codes, bytes_eq, not, position, Option, None, Some, if◌then◌else◌}
+use Rattle.std.specs.Prelude.{ℕ, ◌+◌, ◌==◌, Bool, true, false, ◌&&◌, ◌||◌, List, [], ◌∷◌, length, codes, bytes_eq, Option, None, Some, if◌then◌else◌}
 use Rattle.std.specs.List.{list_any, list_all, filter}
 use Rattle.fol_base.specs.Spelling.{is_one_of, is_digit}
 use Rattle.tptp_token.specs.Lexemes.{Lexeme}
@@ -29,8 +29,7 @@ placed a = placed_in a.file a
 
 -- A list of names selects those in it, and the empty list all.
 abbrev pub selects : List (List ℕ) → List ℕ → Bool
-selects [] name = true
-selects (n ∷ ns) name = is_one_of (n ∷ ns) name
+selects names name = (length names == 0) || is_one_of names name
 
 -- the formulas that are selected, in their order
 abbrev pub selected : List (List ℕ) → List Placed → List Placed
@@ -40,8 +39,13 @@ abbrev pub is_named : List Placed → List ℕ → Bool
 is_named formulas name = list_any (λ (f : Placed). bytes_eq f.tree.name name) formulas
 
 -- the first of the names that no formula has, by its index
+abbrev pub missing_from : ℕ → List (List ℕ) → List Placed → Option ℕ
+missing_from index [] formulas = None
+missing_from index (name ∷ names) formulas =
+    if is_named formulas name then missing_from (index + 1) names formulas else Some index
+
 abbrev pub missing : List (List ℕ) → List Placed → Option ℕ
-missing names formulas = position (λ name. not (is_named formulas name)) names
+missing names formulas = missing_from 0 names formulas
 
 -- ---- conjectures
 

@@ -21,10 +21,10 @@ pub record IsIncludeRead (source : Source) (first : ℕ) (include : Include) : T
   pub ascii : IsAscii include.file
   pub room : first + 5 + 2 * length include.names ≤ include.next
 
--- the names that stand from a token on, three tokens before the other
-pub record ReadsNames (source : Source) (first next : ℕ) (names : List (List ℕ)) : Type 0 where
-  pub by : (all : List NamePhrase) → AreNamesAt (lexemes_told source) next first all → names ≡ names_meant all
+-- the names that stand from one token on, up to the bracket at the other
+pub record ReadsNames (source : Source) (first end : ℕ) (names : List (List ℕ)) : Type 0 where
+  pub by : (all : List NamePhrase) → AreNamesAt (lexemes_told source) end first all → names ≡ names_meant all
 
 -- the name of the token at that index
 pub record IsNameAt (source : Source) (at : ℕ) (name : List ℕ) : Type 0 where
-  pub by : (t : Lexeme) → drop at (lexemes_told source) ≡ t ∷ drop (at + 1) (lexemes_told source) → name ≡ token_name t.kind t.bytes
+  pub by : (t : Lexeme) (ts : List Lexeme) → drop at (lexemes_told source) ≡ t ∷ ts → name ≡ token_name t.kind t.bytes

@@ -1,9 +1,7 @@
 // Includes, read from their tokens.
 
-ghost use Rattle.std.specs.Prelude.{◌≡◌, ◌≤◌, ◌+◌, ◌*◌, IfOk, IfErr, length, drop};
-ghost use Rattle.tptp_token.specs.Lexemes.{Lexeme};
-ghost use Rattle.tptp_problem.specs.Awaiting.{after as after_token, ending_from, StillReads};
-ghost use Rattle.tptp_problem.specs.Formulas.{token_name};
+ghost use Rattle.std.specs.Prelude.{◌≡◌, ◌<◌, ◌+◌, ◌^◌, IfOk, IfErr, drop};
+ghost use Rattle.tptp_problem.specs.Awaiting.{after as after_token, is_nothing as nothing_is, ending_from};
 ghost use Rattle.tptp_problem.specs.Problem.{IsIncludeSyntaxFault};
 ghost use Rattle.tptp_problem.specs.Shape.{IsHaltBy, IsLexed, lexeme_of, lexemes_told, file_of};
 ghost use Rattle.tptp_problem.specs.IncludeReads.{IsIncludeRead, ReadsNames, IsNameAt};
@@ -59,6 +57,12 @@ impl Awaited {
             _ => None,
         }
     }
+
+    fn is_nothing(self) -> bool
+        ensures { result ≡ nothing_is self }
+    {
+        matches!(self, Awaited::Nothing)
+    }
 }
 
 /// Where the tokens of an include end.
@@ -83,7 +87,7 @@ pub fn include_at(alloc: Global, source: Source<'_>, first: usize) -> Result<Inc
         Ending::Cut => Err(source.end_fault(alloc)),
         Ending::Whole(next) => Ok(Include {
             file: name_at(alloc, source, first + 2)?,
-            names: names_between(alloc, source, first + 5, next)?,
+            names: names_between(alloc, source, first + 5, next - 3)?,
             next,
         }),
     }
@@ -96,24 +100,26 @@ fn ending_of(source: Source<'_>, first: usize) -> Ending
     let mut awaited = Awaited::Keyword;
     let mut at = first;
     while let Some(token) = source.token(at) {
-        match awaited.after(token) {
-            None => return Ending::Stopped(at),
-            Some(Awaited::Nothing) => return Ending::Whole(at + 1),
-            Some(next) => awaited = next,
+        let Some(next) = awaited.after(token) else {
+            return Ending::Stopped(at);
+        };
+        if next.is_nothing() {
+            return Ending::Whole(at + 1);
         }
+        awaited = next;
         at += 1;
     }
     Ending::Cut
 }
 
-/// The names of a selection, the first of which stands at a token; three tokens stand behind the last.
-fn names_between(alloc: Global, source: Source<'_>, first: usize, next: usize) -> Mem<Texts>
-    requires { next ≤ length source.lexed.now.tokens }
-    ensures { IfOk result (ReadsNames source.entry first next) }
+/// The names of a selection, the first of which stands at a token, up to the bracket that closes the list.
+fn names_between(alloc: Global, source: Source<'_>, first: usize, end: usize) -> Mem<Texts>
+    requires { end + 1 < 2 ^ 64 }
+    ensures { IfOk result (ReadsNames source.entry first end) }
 {
     let mut names = Texts::new(alloc);
     let mut at = first;
-    while at + 3 < next {
+    while at < end {
         names.push(name_at(alloc, source, at)?)?;
         at += 2;
     }

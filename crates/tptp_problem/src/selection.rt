@@ -1,6 +1,7 @@
 // The formulas that an include takes.
 
 ghost use Rattle.std.specs.Prelude.{◌≡◌, ◌++◌, [], ◌∷◌, map, IfOk};
+ghost use Rattle.fol_base.specs.Spelling.{is_one_of};
 ghost use Rattle.tptp_problem.specs.Formulas.{placed, selects as selects_name, selected, is_named as named, missing as missing_among};
 ghost use Rattle.tptp_problem.specs.Shape.{selections};
 
@@ -19,16 +20,19 @@ impl<'a> Selection<'a> {
     pub fn selects(&self, name: &[u8]) -> bool
         ensures { result ≡ selects_name self.now.names.now name.now }
     {
-        self.names.is_empty() || self.names.iter().any(|listed| name == listed.as_slice())
+        self.names.is_empty() || is_listed(self.names, name)
     }
 
     /// The index of its first name that none of the formulas has. The time is linear in the names times the formulas.
     pub fn missing(&self, formulas: &[Annotated]) -> Option<usize>
         ensures { result ≡ missing_among self.now.names.now (map placed formulas.now) }
     {
-        self.names
-            .iter()
-            .position(|name| !is_named(formulas, name.as_slice()))
+        for (index, name) in self.names.iter().enumerate() {
+            if !is_named(formulas, name.as_slice()) {
+                return Some(index);
+            }
+        }
+        None
     }
 
     /// Moves the formulas that it takes to the end of a list, in their order.
@@ -55,11 +59,26 @@ impl<'a> Selection<'a> {
     }
 }
 
+/// Whether the name is one of the names.
+fn is_listed(names: &[Text], name: &[u8]) -> bool
+    ensures { result ≡ is_one_of names.now name.now }
+{
+    for listed in names {
+        if name == listed.as_slice() {
+            return true;
+        }
+    }
+    false
+}
+
 /// Whether one of the formulas has the name.
 fn is_named(formulas: &[Annotated], name: &[u8]) -> bool
     ensures { result ≡ named (map placed formulas.now) name.now }
 {
-    formulas
-        .iter()
-        .any(|formula| formula.name.as_slice() == name)
+    for formula in formulas {
+        if formula.name.as_slice() == name {
+            return true;
+        }
+    }
+    false
 }

@@ -171,7 +171,12 @@ impl<'a> Source<'a> {
     pub fn counts(&self, name: &[u8]) -> bool
         ensures { result ≡ counts_within (selections self.now.around.now) name.now }
     {
-        self.around.iter().all(|selection| selection.selects(name))
+        for selection in self.around {
+            if !selection.selects(name) {
+                return false;
+            }
+        }
+        true
     }
 
     /// The name in `fof ( NAME , conjecture`, where these tokens begin at one.

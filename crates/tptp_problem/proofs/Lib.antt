@@ -1,0 +1,5 @@
+pub mod ListLemmas
+pub mod SourceLemmas
+pub mod NameLemmas
+pub mod AwaitLemmas
+pub mod IncludeLemmas
