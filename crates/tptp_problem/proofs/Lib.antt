@@ -3,3 +3,7 @@ pub mod SourceLemmas
 pub mod NameLemmas
 pub mod AwaitLemmas
 pub mod IncludeLemmas
+pub mod AsciiLemmas
+pub mod OnwardLemmas
+pub mod FaultLemmas
+pub mod ReadLemmas

@@ -1,10 +1,12 @@
 -- What reading an include says.
-use Rattle.std.specs.Prelude.{◌≡◌, ◌≤◌, ◌+◌, ◌*◌, ℕ, List, ◌∷◌, length, drop}
+use Rattle.std.specs.Prelude.{◌≡◌, ◌≤◌, ◌<◌, ◌+◌, ◌*◌, ◌^◌, ⊤, ℕ, List, ◌∷◌, length, drop}
 use Rattle.std.specs.Str.{IsAscii}
 use Rattle.tptp_token.specs.Lexemes.{Lexeme}
 use Rattle.tptp_tree.specs.Spelling.{Word, name_of}
 use Rattle.tptp_tree.specs.Entries.{NamePhrase, names_meant}
 use Rattle.tptp_problem.specs.declared.include.Include.{Include}
+use Rattle.tptp_problem.specs.declared.include.Ending.{Ending}
+use Rattle.tptp_problem.specs.declared.include.Ending.TheVariants.{Whole, Stopped, Cut}
 use Rattle.tptp_problem.specs.declared.source.Source.{Source}
 use Rattle.tptp_problem.specs.Awaiting.{AreNamesAt}
 use Rattle.tptp_problem.specs.Formulas.{token_name}
@@ -28,3 +30,9 @@ pub record ReadsNames (source : Source) (first end : ℕ) (names : List (List �
 -- the name of the token at that index
 pub record IsNameAt (source : Source) (at : ℕ) (name : List ℕ) : Type 0 where
   pub by : (t : Lexeme) (ts : List Lexeme) → drop at (lexemes_told source) ≡ t ∷ ts → name ≡ token_name t.kind t.bytes
+
+-- the index of a token is a `usize`
+abbrev pub FitsEnding : Ending → Type 0
+FitsEnding (Whole next) = next < 2 ^ 64
+FitsEnding (Stopped index) = ⊤
+FitsEnding Cut = ⊤

@@ -4,7 +4,7 @@ ghost use Rattle.std.specs.Prelude.{◌≡◌, ◌<◌, ◌+◌, ◌^◌, IfOk, 
 ghost use Rattle.tptp_problem.specs.Awaiting.{after as after_token, is_nothing as nothing_is, ending_from};
 ghost use Rattle.tptp_problem.specs.Problem.{IsIncludeSyntaxFault};
 ghost use Rattle.tptp_problem.specs.Shape.{IsHaltBy, IsLexed, lexeme_of, lexemes_told, file_of};
-ghost use Rattle.tptp_problem.specs.IncludeReads.{IsIncludeRead, ReadsNames, IsNameAt};
+ghost use Rattle.tptp_problem.specs.IncludeReads.{IsIncludeRead, ReadsNames, IsNameAt, FitsEnding};
 ghost use Rattle.tptp_problem.specs.declared.include.Awaited.TheVariants.{Keyword as keyword};
 
 use crate::halt::Halt;
@@ -95,7 +95,8 @@ pub fn include_at(alloc: Global, source: Source<'_>, first: usize) -> Result<Inc
 
 /// Where the include that begins at a token ends.
 fn ending_of(source: Source<'_>, first: usize) -> Ending
-    ensures { result ≡ ending_from first keyword (drop first (lexemes_told source.entry)) }
+    ensures end { result ≡ ending_from first keyword (drop first (lexemes_told source.entry)) }
+    ensures fits { FitsEnding result }
 {
     let mut awaited = Awaited::Keyword;
     let mut at = first;

@@ -19,7 +19,7 @@ use plain_types::Text;
 use std::alloc::Global;
 use tptp_reader::{ReadCause, ReadFault, annotated};
 use tptp_token::tokens;
-use tptp_tree::{Annotated, AnnotatedList, Problem, Role};
+use tptp_tree::{Annotated, AnnotatedList, Problem};
 
 /// How many bytes a file may have.
 const MOST_FILE_BYTES: usize = 67_108_864;
@@ -222,9 +222,7 @@ impl Reading<'_> {
                 let next = read.next;
                 let mut formula = read.annotated;
                 formula.file = Text::from_slice(alloc, source.name.as_bytes())?;
-                if matches!(formula.role, Role::Conjecture)
-                    && source.counts(formula.name.as_slice())
-                {
+                if source.counts_as_conjecture(&formula) {
                     self.met = true;
                 }
                 formulas.push(formula)?;

@@ -1,11 +1,11 @@
 // The text of a file, by its tokens.
 
-ghost use Rattle.std.specs.Prelude.{◌≡◌, ◌+◌, ◌-◌, ◌<◌, ◌≤◌, ◌^◌, false, [], ◌∷◌, codes, length, drop, take, true, IfOk, IsSome, MatchOption, slice_get, option_map, Some};
+ghost use Rattle.std.specs.Prelude.{◌≡◌, ◌+◌, ◌-◌, ◌<◌, ◌≤◌, ◌^◌, ◌&&◌, false, [], ◌∷◌, codes, length, drop, take, true, IfOk, IsSome, MatchOption, slice_get, option_map, Some};
 ghost use Rattle.tptp_tree.specs.Brackets.{is_lexeme, is_mark as mark_is};
 ghost use Rattle.tptp_tree.specs.Spelling.{unescaped};
 ghost use Rattle.tptp_token.specs.declared.token.Kind.TheVariants.{Lower, Quoted};
 ghost use Rattle.tptp_reader.specs.TellingEntries.{IsEndFault};
-ghost use Rattle.tptp_problem.specs.Formulas.{is_name as name_is, token_name, counts as counts_within, conjecture_begun, begun_counts};
+ghost use Rattle.tptp_problem.specs.Formulas.{is_name as name_is, token_name, is_conjecture as conjecture_is, counts as counts_within, conjecture_begun, begun_counts};
 ghost use Rattle.tptp_problem.specs.Awaiting.{is_word as word_is};
 ghost use Rattle.tptp_problem.specs.Includes.{is_include as include_is};
 ghost use Rattle.tptp_problem.specs.Problem.{start_of};
@@ -17,6 +17,7 @@ use plain_types::{Mem, Text};
 use std::alloc::Global;
 use tptp_reader::ReadCause;
 use tptp_token::{Kind, LexFault, Lexed, Token, are_digits};
+use tptp_tree::{Annotated, Role};
 
 /// A token by its kind and its bytes.
 #[derive(Clone, Copy)]
@@ -72,6 +73,12 @@ impl TextToken<'_> {
             _ => Text::from_slice(alloc, self.bytes),
         }
     }
+}
+
+fn is_conjecture(role: Role) -> bool
+    ensures { result ≡ conjecture_is role }
+{
+    matches!(role, Role::Conjecture)
 }
 
 /// What stands between the quotes of a quoted word, with each escaping `\` left out.
@@ -156,7 +163,7 @@ impl<'a> Source<'a> {
     pub fn begins_conjecture(&self, alloc: Global, first: usize) -> Mem<bool>
         ensures begins { IfOk result (λ begins. begins
             ≡ begun_counts (selections self.now.around.now) (conjecture_begun (drop first (lexemes_told self.now)))) }
-        ensures within { IfOk result (λ begins. begins ≡ true → first + 4 < length self.now.lexed.now.tokens) }
+        ensures fits { IfOk result (λ begins. begins ≡ true → first + 4 < 2 ^ 64) }
     {
         match self.conjecture_name(first) {
             Some(token) => {
@@ -179,10 +186,17 @@ impl<'a> Source<'a> {
         true
     }
 
+    /// Whether a formula of the file is a conjecture that each selection around the file selects.
+    pub fn counts_as_conjecture(&self, formula: &Annotated) -> bool
+        ensures { result ≡ (conjecture_is formula.now.role && counts_within (selections self.now.around.now) formula.now.name) }
+    {
+        is_conjecture(formula.role) && self.counts(formula.name.as_slice())
+    }
+
     /// The name in `fof ( NAME , conjecture`, where these tokens begin at one.
     fn conjecture_name(&self, first: usize) -> Option<TextToken<'a>>
         ensures name { option_map (λ t. token_name t.kind t.bytes.now) result ≡ conjecture_begun (drop first (lexemes_told self.now)) }
-        ensures within { IsSome result → first + 4 < length self.now.lexed.now.tokens }
+        ensures fits { IsSome result → first + 4 < 2 ^ 64 }
     {
         let word = self.token(first)?;
         let open = self.token(first + 1)?;
