@@ -7,3 +7,5 @@ pub mod AsciiLemmas
 pub mod OnwardLemmas
 pub mod FaultLemmas
 pub mod ReadLemmas
+pub mod FileLemmas
+pub mod HaltLemmas

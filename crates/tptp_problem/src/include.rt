@@ -80,6 +80,7 @@ enum Ending {
 pub fn include_at(alloc: Global, source: Source<'_>, first: usize) -> Result<Include, Halt>
     requires lexed { IsLexed source }
     ensures read { IfOk result (IsIncludeRead source.entry first) }
+    ensures fits { IfOk result (λ include. include.next < 2 ^ 64) }
     ensures halted { IfErr result (IsHaltBy (IsIncludeSyntaxFault (file_of source.entry) first)) }
 {
     match ending_of(source, first) {

@@ -187,11 +187,15 @@ impl Reading<'_> {
         let around = selection.within(alloc, source.around)?;
         let name = loaded_name(alloc, self.base, include.file.as_slice())?;
         let read = self.file(alloc, library, name.as_str(), around.as_slice(), depth - 1)?;
-        if let Some(index) = selection.missing(read.as_slice()) {
-            return Err(source.fault(alloc, ReadCause::SelectionMissing, first + 5 + 2 * index));
+        match selection.missing(read.as_slice()) {
+            Some(index) => {
+                Err(source.fault(alloc, ReadCause::SelectionMissing, first + 5 + 2 * index))
+            }
+            None => {
+                selection.take(read, formulas)?;
+                Ok(include.next)
+            }
         }
-        selection.take(read, formulas)?;
-        Ok(include.next)
     }
 
     /// Reads an annotated formula, adds it to the list, and tells the token behind it.

@@ -42,23 +42,23 @@ returns-clause-read c =
     let read = c.in-Ok.read in
     let single : is_second (file_of s) c.args.first start ≡ false =
     elim c.else-self.branch [
-      else-self-via-then-self+in_ok-begins_conjecture+else-branch w
-      ↦ second-none s c.args.first start w.in_ok-begins_conjecture.field-0 c.requires.lexed w.in_ok-begins_conjecture.ensures.begins w.if-branch.false
+      | else-self-via-then-self+in_ok-begins_conjecture+else-branch w
+          ↦ second-none s c.args.first start w.in_ok-begins_conjecture.field-0 c.requires.lexed w.in_ok-begins_conjecture.ensures.begins w.if-branch.false
       | else-self-via-else-self w ↦ second-clear s c.args.first start w.if-self.false
     ] in
     let kept : c.if-counts_as_conjecture.self.loaded ≡ c.args.self.now.loaded =
     elim c.if-counts_as_conjecture.branch [
-      then-counts_as_conjecture w ↦ ap (λ (r : Reading). r.loaded) w.self-is
+      | then-counts_as_conjecture w ↦ ap (λ (r : Reading). r.loaded) w.self-is
       | else-counts_as_conjecture w ↦ ap (λ (r : Reading). r.loaded) w.self-is
     ] in
     let counted : c.counts_as_conjecture.result ≡ true → c.if-counts_as_conjecture.self.met ≡ true =
     λ h. elim c.if-counts_as_conjecture.branch [
-      then-counts_as_conjecture w ↦ ap (λ (r : Reading). r.met) w.self-is
+      | then-counts_as_conjecture w ↦ ap (λ (r : Reading). r.met) w.self-is
       | else-counts_as_conjecture w ↦ absurd (let x : true ≡ false = sym h ∙ w.if-counts_as_conjecture.false in cc)
     ] in
     let uncounted : c.counts_as_conjecture.result ≡ false → c.if-counts_as_conjecture.self.met ≡ c.args.self.now.met =
     λ h. elim c.if-counts_as_conjecture.branch [
-      then-counts_as_conjecture w ↦ absurd (let x : true ≡ false = sym w.if-counts_as_conjecture.true ∙ h in cc)
+      | then-counts_as_conjecture w ↦ absurd (let x : true ≡ false = sym w.if-counts_as_conjecture.true ∙ h in cc)
       | else-counts_as_conjecture w ↦ ap (λ (r : Reading). r.met) w.self-is
     ] in
     record {
