@@ -88,7 +88,7 @@ pub wide : (names : List NamePhrase) → (5 ≤ width names) × (5 + 2 * length 
 wide [] = (omega arith, omega arith)
 wide (n ∷ ns) = (omega arith, omega arith)
 
-names-there :
+pub names-there :
     (tokens : List Lexeme) (first next : ℕ) (w : WholeThere tokens first next) → AreNamesAt tokens (next - 3) (first + 5) w.names
 names-there tokens first next w = by w.names w.next_is (drop-drop 5 first tokens) (w.spelled.spelled ∙ include-tail w.file w.names (drop next tokens)) w.spelled.within
   where
@@ -102,7 +102,7 @@ names-there tokens first next w = by w.names w.next_is (drop-drop 5 first tokens
         let far : next - 3 + 3 ≡ next = omega (arith, e) in
         (sym d ∙ ap (drop 5) s ∙ ap (λ k. drop 5 (lexeme Lower (codes "include") ∷ lexeme Mark (codes "(") ∷ word_lexeme w.file ∷ tail_lexemes (n ∷ ns) (drop k tokens))) (sym far), omega (arith, far, l))
 
-file-there : (tokens : List Lexeme) (first next : ℕ) (w : WholeThere tokens first next) → drop (first + 2) tokens ≡ word_lexeme w.file ∷ tail_lexemes w.names (drop next tokens)
+pub file-there : (tokens : List Lexeme) (first next : ℕ) (w : WholeThere tokens first next) → drop (first + 2) tokens ≡ word_lexeme w.file ∷ tail_lexemes w.names (drop next tokens)
 file-there tokens first next w =
     sym (drop-drop 2 first tokens) ∙ ap (drop 2) (w.spelled.spelled ∙ include-tail w.file w.names (drop next tokens))
 

@@ -56,7 +56,7 @@ names-length [] rest = omega arith
 names-length (n ∷ ns) rest = omega (arith, names-length ns rest)
 
 -- how far the last name stands before the bracket
-names-far :
+pub names-far :
     (tokens : List Lexeme) (end at : ℕ) (n : NamePhrase) (ns : List NamePhrase) → AreNamesAt tokens end at (n ∷ ns)
     → end ≡ at + 1 + 2 * length ns
 names-far tokens end at n ns h =
@@ -65,7 +65,7 @@ names-far tokens end at n ns h =
     ∙ (let l = names-length ns (drop (end + 3) tokens) in let m = length-drop (end + 3) tokens in omega (arith, l, m)) in
     omega (arith, long, h.1)
 
-next-names :
+pub next-names :
     (tokens : List Lexeme) (end at : ℕ) (n : NamePhrase) (ns : List NamePhrase) → AreNamesAt tokens end at (n ∷ ns)
     → AreNamesAt tokens end (at + 2) ns
 next-names tokens end at n [] h = let far = names-far tokens end at n [] h in omega (arith, far)

@@ -9,3 +9,4 @@ pub mod FaultLemmas
 pub mod ReadLemmas
 pub mod FileLemmas
 pub mod HaltLemmas
+pub mod OutcomeLemmas

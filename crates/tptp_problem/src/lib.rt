@@ -3,6 +3,7 @@
 
 mod halt;
 mod include;
+pub mod laws;
 mod name;
 mod problem;
 mod reading;

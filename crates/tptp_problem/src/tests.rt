@@ -248,12 +248,12 @@ fn selects_formulas(rt: HostRuntime) -> Result<(), Fail> {
         },
         Row {
             files: &[
-                ("r14.p", b"include('f.ax', [b, c])."),
-                ("f.ax", b"cnf(b,axiom,p)."),
+                ("r14.p", b"include('ax.ax',[one,two])."),
+                ("ax.ax", b"cnf(one,axiom,p)."),
             ],
             file: "r14.p",
             root: None,
-            answer: b"SelectionMissing@r14.p:20 ",
+            answer: b"SelectionMissing@r14.p:21 ",
         },
         Row {
             files: &[
