@@ -10,3 +10,4 @@ pub mod ReadLemmas
 pub mod FileLemmas
 pub mod HaltLemmas
 pub mod OutcomeLemmas
+pub mod ConjectureLemmas

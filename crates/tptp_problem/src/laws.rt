@@ -1,10 +1,11 @@
 // The laws of the definitions: each is the contract of a function without arguments and with an empty body.
 
-ghost use Rattle.std.specs.Prelude.{◌≡◌, ◌≢◌, ℕ, List, Option, Some};
+ghost use Rattle.std.specs.Prelude.{◌≡◌, ◌≢◌, ◌≤◌, ℕ, true, false, count_by, List, Option, Some};
 ghost use Rattle.outside.specs.Library.{Holdings};
 ghost use Rattle.tptp_reader.specs.declared.cause.ReadCause.{ReadCause};
 ghost use Rattle.tptp_reader.specs.declared.cause.ReadCause.TheVariants.{Load};
-ghost use Rattle.tptp_problem.specs.Formulas.{Placed};
+ghost use Rattle.std.specs.List.{AllByRecursion};
+ghost use Rattle.tptp_problem.specs.Formulas.{Placed, is_conjecture};
 ghost use Rattle.tptp_problem.specs.Problem.{IsProblem, IsProblemFault};
 
 /// Where a library tells what it holds, a file has one problem or one first fault, but that a load may fail: there is at most
@@ -20,4 +21,13 @@ pub fn one_outcome()
         → IsProblemFault (Some holds) found file root cause name place
         → IsProblemFault (Some holds) again file root other elsewhere behind
         → (cause ≡ other) × (name ≡ elsewhere) × (place ≡ behind) }
+{}
+
+/// A problem has at most one conjecture, and it is no clause.
+pub fn at_most_one_conjecture()
+    ensures one { (told : Option Holdings) (file : List ℕ) (root : Option (List ℕ)) (formulas : List Placed)
+        → IsProblem told file root formulas → count_by (λ (f : Placed). is_conjecture f.tree.role) formulas ≤ 1 }
+    ensures no_clause { (told : Option Holdings) (file : List ℕ) (root : Option (List ℕ)) (formulas : List Placed)
+        → IsProblem told file root formulas
+        → AllByRecursion (λ (f : Placed). f.tree.is_clause ≡ true → is_conjecture f.tree.role ≡ false) formulas }
 {}
