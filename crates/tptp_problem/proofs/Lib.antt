@@ -1,0 +1,13 @@
+pub mod ListLemmas
+pub mod SourceLemmas
+pub mod NameLemmas
+pub mod AwaitLemmas
+pub mod IncludeLemmas
+pub mod AsciiLemmas
+pub mod OnwardLemmas
+pub mod FaultLemmas
+pub mod ReadLemmas
+pub mod FileLemmas
+pub mod HaltLemmas
+pub mod OutcomeLemmas
+pub mod ConjectureLemmas

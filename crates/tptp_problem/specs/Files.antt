@@ -1,0 +1,30 @@
+-- Which files are loaded for a problem, and how many bytes they may have.
+use Rattle.std.specs.Prelude.{◌≤◌, ℕ, ◌-◌, ◌==◌, Bool, false, not, min, List, [], ◌∷◌, ◌++◌, length, take, Option, None, Some, codes, if◌then◌else◌}
+use Rattle.std.specs.List.{suffix_len}
+use Rattle.outside.specs.Library.{Holdings, HoldsExactly}
+
+-- what stands up to and with the last `/`
+abbrev pub folder_of : List ℕ → List ℕ
+folder_of path = take (length path - suffix_len (λ byte. not (byte == 47)) path) path
+
+-- what stands before the name of an included file: the root, where one is given, else the folder of the first file
+abbrev pub base_of : Option (List ℕ) → List ℕ → List ℕ
+base_of None file = folder_of file
+base_of (Some root) file = root ++ codes "/"
+
+abbrev pub is_absolute : List ℕ → Bool
+is_absolute [] = false
+is_absolute (byte ∷ bytes) = byte == 47
+
+-- the name under which an include's file is loaded
+abbrev pub loaded_name : List ℕ → List ℕ → List ℕ
+loaded_name base word = if is_absolute word then word else base ++ word
+
+-- how many bytes the next file may have, where so many were loaded before it
+abbrev pub room_after : ℕ → ℕ
+room_after loaded = min 67108864 (268435456 - loaded)
+
+-- A load of the name may give these bytes.
+pub record MayGive (told : Option Holdings) (name : List ℕ) (loaded : ℕ) (bytes : List ℕ) : Type 0 where
+  pub within : length bytes ≤ room_after loaded
+  pub held : HoldsExactly told name bytes

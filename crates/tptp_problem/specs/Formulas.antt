@@ -1,0 +1,107 @@
+-- The formulas of a problem, the selections around them, and the conjectures that count.
+use Rattle.std.specs.Prelude.{ℕ, ◌+◌, ◌==◌, Bool, true, false, ◌&&◌, ◌||◌, List, [], ◌∷◌, length, codes, bytes_eq, Option, None, Some, if◌then◌else◌}
+use Rattle.std.specs.List.{list_any, list_all, filter}
+use Rattle.fol_base.specs.Spelling.{is_one_of, is_digit}
+use Rattle.tptp_token.specs.Lexemes.{Lexeme}
+use Rattle.tptp_token.specs.declared.token.Kind.{Kind}
+use Rattle.tptp_token.specs.declared.token.Kind.TheVariants.{Lower, Variable, Quoted, Distinct, Dollar, Number, Connective, Mark, Other}
+use Rattle.tptp_tree.specs.declared.problem.Annotated.{Annotated}
+use Rattle.tptp_tree.specs.declared.problem.Role.{Role}
+use Rattle.tptp_tree.specs.declared.problem.Role.TheVariants.{Axiom, Hypothesis, Definition, Assumption, Lemma, Theorem, Corollary, NegatedConjecture, Plain, Conjecture}
+use Rattle.tptp_tree.specs.Brackets.{is_lexeme, is_mark}
+use Rattle.tptp_tree.specs.Spelling.{quoted, name_of}
+use Rattle.tptp_tree.specs.Entries.{AnnotatedTree}
+use Rattle.tptp_reader.specs.Shape.{tree_of}
+
+-- a formula, the name of its file and its place in it
+pub record Placed : Type 0 where
+  pub tree : AnnotatedTree
+  pub file : List ℕ
+  pub place : ℕ
+
+abbrev pub placed_in : List ℕ → Annotated → Placed
+placed_in file a = record { tree = tree_of a; file = file; place = a.place }
+
+abbrev pub placed : Annotated → Placed
+placed a = placed_in a.file a
+
+-- ---- selections
+
+-- A list of names selects those in it, and the empty list all.
+abbrev pub selects : List (List ℕ) → List ℕ → Bool
+selects names name = (length names == 0) || is_one_of names name
+
+-- the formulas that are selected, in their order
+abbrev pub selected : List (List ℕ) → List Placed → List Placed
+selected names formulas = filter (λ (f : Placed). selects names f.tree.name) formulas
+
+abbrev pub is_named : List Placed → List ℕ → Bool
+is_named formulas name = list_any (λ (f : Placed). bytes_eq f.tree.name name) formulas
+
+-- the first of the names that no formula has, by its index
+abbrev pub missing_from : ℕ → List (List ℕ) → List Placed → Option ℕ
+missing_from index [] formulas = None
+missing_from index (name ∷ names) formulas =
+    if is_named formulas name then missing_from (index + 1) names formulas else Some index
+
+abbrev pub missing : List (List ℕ) → List Placed → Option ℕ
+missing names formulas = missing_from 0 names formulas
+
+-- ---- conjectures
+
+abbrev pub is_conjecture : Role → Bool
+is_conjecture Axiom = false
+is_conjecture Hypothesis = false
+is_conjecture Definition = false
+is_conjecture Assumption = false
+is_conjecture Lemma = false
+is_conjecture Theorem = false
+is_conjecture Corollary = false
+is_conjecture NegatedConjecture = false
+is_conjecture Plain = false
+is_conjecture Conjecture = true
+
+-- A conjecture counts where each selection around it selects its name.
+abbrev pub counts : List (List (List ℕ)) → List ℕ → Bool
+counts around name = list_all (λ names. selects names name) around
+
+-- a formula's name is a word, or a number of digits alone
+abbrev pub is_name : Kind → List ℕ → Bool
+is_name Lower bytes = true
+is_name Quoted bytes = true
+is_name Number bytes = list_all is_digit bytes
+is_name Variable bytes = false
+is_name Distinct bytes = false
+is_name Dollar bytes = false
+is_name Connective bytes = false
+is_name Mark bytes = false
+is_name Other bytes = false
+
+-- the name that such a token is
+abbrev pub token_name : Kind → List ℕ → List ℕ
+token_name Quoted bytes = name_of (quoted bytes)
+token_name Lower bytes = bytes
+token_name Number bytes = bytes
+token_name Variable bytes = bytes
+token_name Distinct bytes = bytes
+token_name Dollar bytes = bytes
+token_name Connective bytes = bytes
+token_name Mark bytes = bytes
+token_name Other bytes = bytes
+
+-- the name of the conjecture that the tokens begin: `fof ( NAME , conjecture`
+abbrev pub conjecture_begun : List Lexeme → Option (List ℕ)
+conjecture_begun [] = None
+conjecture_begun (a ∷ []) = None
+conjecture_begun (a ∷ b ∷ []) = None
+conjecture_begun (a ∷ b ∷ c ∷ []) = None
+conjecture_begun (a ∷ b ∷ c ∷ d ∷ []) = None
+conjecture_begun (a ∷ b ∷ c ∷ d ∷ e ∷ tokens) =
+    if is_lexeme Lower (codes "fof") a && is_mark (codes "(") b && is_name c.kind c.bytes && is_mark (codes ",") d && is_lexeme Lower (codes "conjecture") e
+    then Some (token_name c.kind c.bytes)
+    else None
+
+-- a conjecture of that name, if there is one, counts
+abbrev pub begun_counts : List (List (List ℕ)) → Option (List ℕ) → Bool
+begun_counts around None = false
+begun_counts around (Some name) = counts around name

@@ -1,0 +1,7 @@
+pub mod Files
+pub mod Includes
+pub mod Formulas
+pub mod Problem
+pub mod Shape
+pub mod Awaiting
+pub mod IncludeReads

@@ -1,0 +1,33 @@
+// The laws of the definitions: each is the contract of a function without arguments and with an empty body.
+
+ghost use Rattle.std.specs.Prelude.{◌≡◌, ◌≢◌, ◌≤◌, ℕ, true, false, count_by, List, Option, Some};
+ghost use Rattle.outside.specs.Library.{Holdings};
+ghost use Rattle.tptp_reader.specs.declared.cause.ReadCause.{ReadCause};
+ghost use Rattle.tptp_reader.specs.declared.cause.ReadCause.TheVariants.{Load};
+ghost use Rattle.std.specs.List.{AllByRecursion};
+ghost use Rattle.tptp_problem.specs.Formulas.{Placed, is_conjecture};
+ghost use Rattle.tptp_problem.specs.Problem.{IsProblem, IsProblemFault};
+
+/// Where a library tells what it holds, a file has one problem or one first fault, but that a load may fail: there is at most
+/// one problem, no other fault beside it, and at most one other fault.
+pub fn one_outcome()
+    ensures one_problem { (holds : Holdings) (file : List ℕ) (root : Option (List ℕ)) (f g : List Placed)
+        → IsProblem (Some holds) file root f → IsProblem (Some holds) file root g → f ≡ g }
+    ensures problem_or_fault { (holds : Holdings) (file : List ℕ) (root : Option (List ℕ)) (found : ℕ) (f : List Placed)
+        (cause : ReadCause) (name : List ℕ) (place : ℕ) → cause ≢ Load
+        → IsProblem (Some holds) file root f → IsProblemFault (Some holds) found file root cause name place → ⊥ }
+    ensures one_fault { (holds : Holdings) (file : List ℕ) (root : Option (List ℕ)) (found again : ℕ)
+        (cause other : ReadCause) (name elsewhere : List ℕ) (place behind : ℕ) → cause ≢ Load → other ≢ Load
+        → IsProblemFault (Some holds) found file root cause name place
+        → IsProblemFault (Some holds) again file root other elsewhere behind
+        → (cause ≡ other) × (name ≡ elsewhere) × (place ≡ behind) }
+{}
+
+/// A problem has at most one conjecture, and it is no clause.
+pub fn at_most_one_conjecture()
+    ensures one { (told : Option Holdings) (file : List ℕ) (root : Option (List ℕ)) (formulas : List Placed)
+        → IsProblem told file root formulas → count_by (λ (f : Placed). is_conjecture f.tree.role) formulas ≤ 1 }
+    ensures no_clause { (told : Option Holdings) (file : List ℕ) (root : Option (List ℕ)) (formulas : List Placed)
+        → IsProblem told file root formulas
+        → AllByRecursion (λ (f : Placed). f.tree.is_clause ≡ true → is_conjecture f.tree.role ≡ false) formulas }
+{}

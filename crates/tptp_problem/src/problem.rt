@@ -1,0 +1,267 @@
+// Problems, read from the files of a library.
+
+ghost use Rattle.std.specs.Prelude.{◌≡◌, ◌≢◌, ◌<◌, ◌≤◌, suc, length, map, IfOk, IfErr};
+ghost use Rattle.std.specs.Option.{option_copied};
+ghost use Rattle.tptp_reader.specs.declared.cause.ReadCause.TheVariants.{Load};
+ghost use Rattle.tptp_problem.specs.Files.{MayGive};
+ghost use Rattle.tptp_problem.specs.Formulas.{placed};
+ghost use Rattle.tptp_problem.specs.Problem.{IsProblem, IsProblemFault, ReadsNamed, FaultsNamed, ReadsText, FaultsText, Adds, IsIncludeStep, IsFormulaStep, IsIncludeFault, IsFormulaFault, IsLoadFault, is_second, with_file};
+ghost use Rattle.tptp_problem.specs.Shape.{IsHaltBy, IsFaultBy, IsLoadTold, IsLexed, file_of, selections, progress_of};
+
+use crate::halt::Halt;
+use crate::include::include_at;
+use crate::name::{base_of, loaded_name};
+use crate::reading::Reading;
+use crate::selection::Selection;
+use crate::source::Source;
+use outside::{Library, LoadFault};
+use plain_types::Text;
+use std::alloc::Global;
+use tptp_reader::{ReadCause, ReadFault, annotated};
+use tptp_token::tokens;
+use tptp_tree::{Annotated, AnnotatedList, Problem};
+
+/// How many bytes a file may have.
+const MOST_FILE_BYTES: usize = 67_108_864;
+
+/// How many bytes all files may have together.
+const MOST_BYTES: usize = 268_435_456;
+
+/// How deep includes may be nested.
+const DEEPEST_INCLUDE: u32 = 16;
+
+/// How deep the levels of a formula may be nested.
+const MOST_NESTING: u32 = 500;
+
+/// Reads the problem of a file: its formulas after includes and selections, in reading order.
+pub fn read_problem<L: Library>(
+    alloc: Global,
+    library: &mut L,
+    file: &str,
+    root: Option<&str>,
+) -> Result<Problem, ReadFault>
+    ensures read { IfOk result (λ problem.
+        IsProblem (L.told library.old) file.now (option_copied root.entry) (map placed problem.formulas)) }
+    ensures fault { IfErr result (IsFaultBy
+        (IsProblemFault (L.told library.old) (L.found library.new) file.now (option_copied root.entry))) }
+    ensures load { IfErr result (IsFaultBy
+        (IsLoadTold (L.faults library.old) (L.faults library.new) (L.failed library.new))) }
+    ensures told { L.told library.new ≡ L.told library.old }
+    ensures later { L.faults library.old ≤ L.faults library.new }
+{
+    match problem(alloc, library, file, root) {
+        Ok(problem) => Ok(problem),
+        Err(halt) => Err(halt.into_fault()),
+    }
+}
+
+fn problem<L: Library>(
+    alloc: Global,
+    library: &mut L,
+    file: &str,
+    root: Option<&str>,
+) -> Result<Problem, Halt>
+    ensures read { IfOk result (λ problem.
+        IsProblem (L.told library.old) file.now (option_copied root.entry) (map placed problem.formulas)) }
+    ensures fault { IfErr result (IsHaltBy
+        (IsProblemFault (L.told library.old) (L.found library.new) file.now (option_copied root.entry))) }
+    ensures load { IfErr result (IsHaltBy
+        (IsLoadTold (L.faults library.old) (L.faults library.new) (L.failed library.new))) }
+    ensures told { L.told library.new ≡ L.told library.old }
+    ensures later { L.faults library.old ≤ L.faults library.new }
+{
+    let base = base_of(alloc, file, root)?;
+    let mut reading = Reading {
+        base: base.as_str(),
+        loaded: 0,
+        met: false,
+    };
+    let formulas = reading.file(alloc, library, file, &[], DEEPEST_INCLUDE)?;
+    Ok(Problem {
+        formulas: AnnotatedList::from_vec(formulas),
+    })
+}
+
+impl Reading<'_> {
+    /// Reads the file of a name, with the selections around it, where includes may be nested so deep in it.
+    #[cycle(reading)]
+    fn file<L: Library>(
+        &mut self,
+        alloc: Global,
+        library: &mut L,
+        name: &str,
+        around: &[Selection<'_>],
+        depth: u32,
+    ) -> Result<Vec<Annotated>, Halt>
+        ensures read { IfOk result (λ formulas. ReadsNamed (L.told library.old) self.old.base.now (suc depth)
+            name.now (selections around.now) (progress_of self.old) (map placed formulas.items) (progress_of self.new)) }
+        ensures fault { IfErr result (IsHaltBy (FaultsNamed (L.told library.old) self.old.base.now (L.found library.new)
+            (suc depth) name.now (selections around.now) (progress_of self.old))) }
+        ensures load { IfErr result (IsHaltBy
+            (IsLoadTold (L.faults library.old) (L.faults library.new) (L.failed library.new))) }
+        ensures told { L.told library.new ≡ L.told library.old }
+        ensures later { L.faults library.old ≤ L.faults library.new }
+        ensures base { self.new.base ≡ self.old.base }
+    {
+        let bytes = self.load(alloc, library, name)?;
+        let lexed = tokens(alloc, bytes.as_slice())?;
+        let source = Source {
+            name: &*name,
+            bytes: bytes.as_slice(),
+            lexed: &lexed,
+            around: &*around,
+        };
+        self.text(alloc, library, source, depth)
+    }
+
+    /// Reads the entries of a text.
+    #[cycle(reading)]
+    fn text<L: Library>(
+        &mut self,
+        alloc: Global,
+        library: &mut L,
+        source: Source<'_>,
+        depth: u32,
+    ) -> Result<Vec<Annotated>, Halt>
+        requires lexed { IsLexed source }
+        ensures read { IfOk result (λ formulas. ReadsText self.old.base.now (ReadsNamed (L.told library.old) self.old.base.now depth)
+            (file_of source.entry) (progress_of self.old) (map placed formulas.items) (progress_of self.new)) }
+        ensures fault { IfErr result (IsHaltBy (FaultsText depth self.old.base.now
+            (ReadsNamed (L.told library.old) self.old.base.now depth)
+            (FaultsNamed (L.told library.old) self.old.base.now (L.found library.new) depth)
+            (file_of source.entry) (progress_of self.old))) }
+        ensures load { IfErr result (IsHaltBy
+            (IsLoadTold (L.faults library.old) (L.faults library.new) (L.failed library.new))) }
+        ensures told { L.told library.new ≡ L.told library.old }
+        ensures later { L.faults library.old ≤ L.faults library.new }
+        ensures base { self.new.base ≡ self.old.base }
+    {
+        let mut formulas = Vec::new(alloc);
+        let mut next = 0;
+        while next < source.lexed.tokens.len() {
+            if source.is_include(next) {
+                next = self.include(alloc, library, source, next, depth, &mut formulas)?;
+            } else {
+                next = self.formula(alloc, source, next, &mut formulas)?;
+            }
+        }
+        match source.lexed.fault {
+            Some(fault) => Err(source.lexical_fault(alloc, fault)),
+            None => Ok(formulas),
+        }
+    }
+
+    /// Reads an include and its file, adds the formulas that it takes to the list, and tells the token behind it.
+    #[cycle(reading)]
+    fn include<L: Library>(
+        &mut self,
+        alloc: Global,
+        library: &mut L,
+        source: Source<'_>,
+        first: usize,
+        depth: u32,
+        formulas: &mut Vec<Annotated>,
+    ) -> Result<usize, Halt>
+        requires lexed { IsLexed source }
+        ensures read { IfOk result (Adds (IsIncludeStep self.old.base.now
+            (ReadsNamed (L.told library.old) self.old.base.now depth) (file_of source.entry) first (progress_of self.old))
+            (map placed formulas.old.items) (map placed formulas.new.items) (progress_of self.new)) }
+        ensures onward { IfOk result (λ next. first < next) }
+        ensures fault { IfErr result (IsHaltBy (IsIncludeFault depth self.old.base.now
+            (ReadsNamed (L.told library.old) self.old.base.now depth)
+            (FaultsNamed (L.told library.old) self.old.base.now (L.found library.new) depth)
+            (file_of source.entry) first (progress_of self.old))) }
+        ensures load { IfErr result (IsHaltBy
+            (IsLoadTold (L.faults library.old) (L.faults library.new) (L.failed library.new))) }
+        ensures told { L.told library.new ≡ L.told library.old }
+        ensures later { L.faults library.old ≤ L.faults library.new }
+        ensures base { self.new.base ≡ self.old.base }
+    {
+        if depth == 0 {
+            return Err(source.fault(alloc, ReadCause::IncludeDepth, first));
+        }
+        let include = include_at(alloc, source, first)?;
+        let selection = Selection {
+            names: include.names.as_slice(),
+        };
+        let around = selection.within(alloc, source.around)?;
+        let name = loaded_name(alloc, self.base, include.file.as_slice())?;
+        let read = self.file(alloc, library, name.as_str(), around.as_slice(), depth - 1)?;
+        match selection.missing(read.as_slice()) {
+            Some(index) => {
+                Err(source.fault(alloc, ReadCause::SelectionMissing, first + 5 + 2 * index))
+            }
+            None => {
+                selection.take(read, formulas)?;
+                Ok(include.next)
+            }
+        }
+    }
+
+    /// Reads an annotated formula, adds it to the list, and tells the token behind it.
+    fn formula(
+        &mut self,
+        alloc: Global,
+        source: Source<'_>,
+        first: usize,
+        formulas: &mut Vec<Annotated>,
+    ) -> Result<usize, Halt>
+        requires lexed { IsLexed source }
+        requires first { first < length source.lexed.now.tokens }
+        ensures read { IfOk result (Adds (IsFormulaStep (file_of source.entry) first (progress_of self.old))
+            (map placed formulas.old.items) (map placed formulas.new.items) (progress_of self.new)) }
+        ensures onward { IfOk result (λ next. first < next) }
+        ensures fault { IfErr result (IsHaltBy (IsFormulaFault (file_of source.entry)
+            (is_second (file_of source.entry) first (progress_of self.old)) first (progress_of self.old))) }
+        ensures no_load { IfErr result (IsHaltBy (λ c f p. c ≢ Load)) }
+        ensures base { self.new.base ≡ self.old.base }
+    {
+        if self.met && source.begins_conjecture(alloc, first)? {
+            return Err(source.fault(alloc, ReadCause::SecondConjecture, first + 4));
+        }
+        match annotated(alloc, source.bytes, source.lexed, first, MOST_NESTING) {
+            Err(ReadFault::NoMemory) => Err(Halt::NoMemory),
+            Err(ReadFault::At(cause, _, place)) => Err(Halt::at(alloc, cause, source.name, place)),
+            Ok(read) => {
+                let next = read.next;
+                let mut formula = read.annotated;
+                formula.file = Text::from_slice(alloc, source.name.as_bytes())?;
+                if source.counts_as_conjecture(&formula) {
+                    self.met = true;
+                }
+                formulas.push(formula)?;
+                Ok(next)
+            }
+        }
+    }
+
+    /// Loads a file, as long as it may be behind those that were loaded before.
+    fn load<L: Library>(
+        &mut self,
+        alloc: Global,
+        library: &mut L,
+        name: &str,
+    ) -> Result<Vec<u8>, Halt>
+        ensures given { IfOk result (λ bytes. MayGive (L.told library.old) name.now self.old.loaded bytes.items) }
+        ensures small { IfOk result (λ bytes. length bytes.items ≤ 67108864) }
+        ensures progress { IfOk result (λ bytes. progress_of self.new ≡ with_file bytes.items (progress_of self.old)) }
+        ensures fault { IfErr result (IsHaltBy
+            (IsLoadFault (L.told library.old) (L.found library.new) name.now (progress_of self.old))) }
+        ensures load { IfErr result (IsHaltBy
+            (IsLoadTold (L.faults library.old) (L.faults library.new) (L.failed library.new))) }
+        ensures told { L.told library.new ≡ L.told library.old }
+        ensures later { L.faults library.old ≤ L.faults library.new }
+        ensures base { self.new.base ≡ self.old.base }
+    {
+        let room = MOST_FILE_BYTES.min(MOST_BYTES - self.loaded);
+        match library.load(alloc, name, room) {
+            Ok(bytes) => {
+                self.loaded += bytes.len();
+                Ok(bytes)
+            }
+            Err(LoadFault::TooLong) => Err(Halt::at(alloc, ReadCause::TooLong, name, 0)),
+            Err(LoadFault::Failed) => Err(Halt::at(alloc, ReadCause::Load, name, 0)),
+            Err(LoadFault::NoMemory) => Err(Halt::NoMemory),
+        }
+    }
+}

@@ -1,0 +1,15 @@
+// How far the reading of a problem has come.
+
+ghost use Rattle.std.specs.Prelude.{◌≤◌};
+
+/// How far the reading of a problem has come.
+#[derive(Drop)]
+pub struct Reading<'a> {
+    /// What stands before the names of included files.
+    pub base: &'a str,
+    /// The bytes of the files loaded so far.
+    pub loaded: usize,
+    /// Whether a conjecture was met that no selection leaves out.
+    pub met: bool,
+    ghost in_limit: { loaded ≤ 268435456 },
+}

@@ -1,0 +1,388 @@
+// What no clause says of whole problems: outside rows, and that calls succeed.
+
+use super::*;
+use outside::{Files, MemFile, MemLibrary};
+use plain_types::{Mem, Numbers};
+use std::alloc::Global;
+use std::test::Fail;
+use tptp_reader::{Form, ReadCause, ReadFault};
+use tptp_tree::{AnnotatedList, Problem};
+
+/// A file's name and its bytes.
+type File = (&'static str, &'static [u8]);
+
+/// What reading a file of a library tells: for each formula its name, file and place, or the cause, file and place of the
+/// fault.
+#[derive(Clone, Copy)]
+struct Row {
+    files: &'static [File],
+    file: &'static str,
+    root: Option<&'static str>,
+    answer: &'static [u8],
+}
+
+/// The row of a first file alone.
+fn alone(text: &'static [u8], answer: &'static [u8]) -> (&'static [u8], &'static [u8]) {
+    (text, answer)
+}
+
+fn library_of(alloc: Global, files: &[File]) -> Mem<MemLibrary> {
+    let mut list = Files::new(alloc);
+    for (name, bytes) in files {
+        list.push(MemFile::new(alloc, name, bytes)?)?;
+    }
+    Ok(MemLibrary::new(alloc, list, Numbers::new(alloc)))
+}
+
+/// What is shown of an answer.
+fn shown(alloc: Global, answer: &Result<Problem, ReadFault>) -> Mem<Vec<u8>> {
+    match answer {
+        Ok(problem) => shown_formulas(alloc, &problem.formulas),
+        Err(fault) => shown_fault(alloc, fault),
+    }
+}
+
+fn shown_formulas(alloc: Global, formulas: &AnnotatedList) -> Mem<Vec<u8>> {
+    let mut page = Vec::new(alloc);
+    for formula in formulas.as_slice() {
+        page.extend_from_slice(formula.name.as_slice())?;
+        page.push(b'@')?;
+        page.extend_from_slice(formula.file.as_slice())?;
+        push_place(&mut page, formula.place)?;
+    }
+    Ok(page)
+}
+
+fn shown_fault(alloc: Global, fault: &ReadFault) -> Mem<Vec<u8>> {
+    let mut page = Vec::new(alloc);
+    if let ReadFault::At(cause, file, place) = fault {
+        page.extend_from_slice(cause_name(*cause))?;
+        page.push(b'@')?;
+        page.extend_from_slice(file.as_slice())?;
+        push_place(&mut page, *place)?;
+    }
+    Ok(page)
+}
+
+/// What is shown of a cause.
+fn cause_name(cause: ReadCause) -> &'static [u8] {
+    match cause {
+        ReadCause::BadByte => b"BadByte".as_slice(),
+        ReadCause::Unclosed => b"Unclosed".as_slice(),
+        ReadCause::Syntax => b"Syntax".as_slice(),
+        ReadCause::FreeVariable => b"FreeVariable".as_slice(),
+        ReadCause::Role => b"Role".as_slice(),
+        ReadCause::SecondConjecture => b"SecondConjecture".as_slice(),
+        ReadCause::SelectionMissing => b"SelectionMissing".as_slice(),
+        ReadCause::IncludeDepth => b"IncludeDepth".as_slice(),
+        ReadCause::TooLong => b"TooLong".as_slice(),
+        ReadCause::Nesting => b"Nesting".as_slice(),
+        ReadCause::Load => b"Load".as_slice(),
+        ReadCause::Inappropriate(Form::Typed) => b"Typed".as_slice(),
+        ReadCause::Inappropriate(_) => b"Inappropriate".as_slice(),
+    }
+}
+
+/// A place below 1,000 between a `:` and a blank, in decimal digits.
+fn push_place(page: &mut Vec<u8>, place: u32) -> Mem<()> {
+    page.push(b':')?;
+    if place >= 100 {
+        page.push(b'0' + (place / 100 % 10) as u8)?;
+    }
+    if place >= 10 {
+        page.push(b'0' + (place / 10 % 10) as u8)?;
+    }
+    page.push(b'0' + (place % 10) as u8)?;
+    page.push(b' ')?;
+    Ok(())
+}
+
+/// The index of the first row that is answered otherwise; the number of rows where there is none.
+fn first_failure(alloc: Global, rows: &[Row]) -> Mem<usize> {
+    for (index, row) in rows.iter().enumerate() {
+        let mut library = library_of(alloc, row.files)?;
+        let answer = read_problem(alloc, &mut library, row.file, row.root);
+        let found = shown(alloc, &answer)?;
+        if found.as_slice() != row.answer {
+            return Ok(index);
+        }
+    }
+    Ok(rows.len())
+}
+
+/// The same for texts of one file each, `a.p`.
+fn first_failure_alone(alloc: Global, rows: &[(&[u8], &[u8])]) -> Mem<usize> {
+    for (index, (text, wanted)) in rows.iter().enumerate() {
+        let mut files = Files::new(alloc);
+        files.push(MemFile::new(alloc, "a.p", text)?)?;
+        let mut library = MemLibrary::new(alloc, files, Numbers::new(alloc));
+        let answer = read_problem(alloc, &mut library, "a.p", None);
+        let found = shown(alloc, &answer)?;
+        if found.as_slice() != *wanted {
+            return Ok(index);
+        }
+    }
+    Ok(rows.len())
+}
+
+/// Problems of one file, and their faults.
+#[test]
+fn reads_one_file(rt: HostRuntime) -> Result<(), Fail> {
+    let rows = [
+        alone(b"", b""),
+        alone(b" % nothing\n/* here */", b""),
+        alone(b"fof(a,axiom,p).cnf('B',plain,q).", b"a@a.p:0 B@a.p:15 "),
+        alone(b"fof(a,axiom,p & q | r).", b"Syntax@a.p:18 "),
+        alone(b"fof(a,axiom,p(X)).", b"FreeVariable@a.p:14 "),
+        alone(b"tff(a,axiom,p).", b"Typed@a.p:0 "),
+        alone(b"fof(a,axiom,p).\xff", b"BadByte@a.p:15 "),
+        alone(b"fof(a,axiom,p). /*", b"Unclosed@a.p:16 "),
+        alone(
+            b"fof(a,axiom,p). fof(a,axiom,p & q | r). \xff",
+            b"Syntax@a.p:34 ",
+        ),
+        alone(b"fof(a,axiom,p", b"Syntax@a.p:13 "),
+        alone(b"fof(a,axiom,p). ,", b"Syntax@a.p:16 "),
+        alone(
+            b"fof(a,conjecture,p).fof(1,conjecture,p & q | r).",
+            b"SecondConjecture@a.p:26 ",
+        ),
+        alone(
+            b"fof(a,conjecture,p).fof('b',conjecture",
+            b"SecondConjecture@a.p:28 ",
+        ),
+        alone(b"fof(a,conjecture,p).cnf(b,conjecture,p).", b"Role@a.p:26 "),
+        alone(
+            b"fof(a,conjecture,p).fof(b:conjecture,p).",
+            b"Syntax@a.p:25 ",
+        ),
+    ];
+    assert_eq!(rt; first_failure_alone(rt.alloc(), &rows)?, rows.len());
+    Ok(())
+}
+
+/// Where the tokens of an include can't go on, before anything is loaded.
+#[test]
+fn refuses_includes(rt: HostRuntime) -> Result<(), Fail> {
+    let rows = [
+        alone(b"include('f.ax',*).", b"Syntax@a.p:15 "),
+        alone(b"include", b"Syntax@a.p:7 "),
+        alone(b"include(f)", b"Syntax@a.p:10 "),
+        alone(b"include(f) \xff", b"BadByte@a.p:11 "),
+        alone(b"include(f).", b"Load@f:0 "),
+        alone(b"include(F).", b"Syntax@a.p:8 "),
+        alone(b"include[f].", b"Syntax@a.p:7 "),
+        alone(b"include(f,[]).", b"Syntax@a.p:11 "),
+        alone(b"include(f,[1.5]).", b"Syntax@a.p:11 "),
+        alone(b"include(f,[a b]).", b"Syntax@a.p:13 "),
+        alone(b"include(f,[a,]).", b"Syntax@a.p:13 "),
+        alone(b"include(f,[a]]).", b"Syntax@a.p:13 "),
+        alone(b"include(f,[a,'b',7]),", b"Syntax@a.p:20 "),
+        alone(b"include(f,[a,'b',7]).", b"Load@f:0 "),
+        alone(b"include(f,a).", b"Syntax@a.p:10 "),
+        alone(b"'include'(f).", b"Syntax@a.p:0 "),
+    ];
+    assert_eq!(rt; first_failure_alone(rt.alloc(), &rows)?, rows.len());
+    Ok(())
+}
+
+/// Under which names included files are loaded.
+#[test]
+fn names_included_files(rt: HostRuntime) -> Result<(), Fail> {
+    let rows = [
+        Row {
+            files: &[
+                ("d/a.p", b"include('Ax/f.ax')."),
+                ("d/Ax/f.ax", b"include(g). cnf(f,axiom,p)."),
+                ("d/g", b"cnf(g,axiom,p)."),
+            ],
+            file: "d/a.p",
+            root: None,
+            answer: b"g@d/g:0 f@d/Ax/f.ax:12 ",
+        },
+        Row {
+            files: &[
+                ("d/a.p", b"include('Ax/f.ax')."),
+                ("r/Ax/f.ax", b"cnf(f,axiom,p)."),
+            ],
+            file: "d/a.p",
+            root: Some("r"),
+            answer: b"f@r/Ax/f.ax:0 ",
+        },
+        Row {
+            files: &[("d/a.p", b"include('/f').")],
+            file: "d/a.p",
+            root: Some("r"),
+            answer: b"Load@/f:0 ",
+        },
+        Row {
+            files: &[("d/a.p", b"include('it\\'s').")],
+            file: "d/a.p",
+            root: None,
+            answer: b"Load@d/it's:0 ",
+        },
+        Row {
+            files: &[],
+            file: "none.p",
+            root: None,
+            answer: b"Load@none.p:0 ",
+        },
+    ];
+    assert_eq!(rt; first_failure(rt.alloc(), &rows)?, rows.len());
+    Ok(())
+}
+
+/// Which formulas a selection takes, and which names it misses.
+#[test]
+fn selects_formulas(rt: HostRuntime) -> Result<(), Fail> {
+    let rows = [
+        Row {
+            files: &[
+                ("a.p", b"cnf(z,axiom,p).include(f,['1',b]).cnf(y,axiom,p)."),
+                ("f", b"cnf(b,axiom,p).cnf(c,axiom,p).include(g)."),
+                ("g", b"cnf(1,axiom,p).cnf(d,axiom,p).cnf(b,axiom,p)."),
+            ],
+            file: "a.p",
+            root: None,
+            answer: b"z@a.p:0 b@f:0 1@g:0 b@g:30 y@a.p:34 ",
+        },
+        Row {
+            files: &[
+                ("r14.p", b"include('ax.ax',[one,two])."),
+                ("ax.ax", b"cnf(one,axiom,p)."),
+            ],
+            file: "r14.p",
+            root: None,
+            answer: b"SelectionMissing@r14.p:21 ",
+        },
+        Row {
+            files: &[
+                ("a.p", b"include(f,[b])."),
+                ("f", b"include(g,[c])."),
+                ("g", b"cnf(b,axiom,p).cnf(c,axiom,p)."),
+            ],
+            file: "a.p",
+            root: None,
+            answer: b"SelectionMissing@a.p:11 ",
+        },
+        Row {
+            files: &[("a.p", b"include(f,[b]). ,"), ("f", b"cnf(b,axiom,p).\xff")],
+            file: "a.p",
+            root: None,
+            answer: b"BadByte@f:15 ",
+        },
+        Row {
+            files: &[("a.p", b"include(f,[c]). ,"), ("f", b"")],
+            file: "a.p",
+            root: None,
+            answer: b"SelectionMissing@a.p:11 ",
+        },
+        Row {
+            files: &[("a.p", b"include(f). ,"), ("f", b"% nothing")],
+            file: "a.p",
+            root: None,
+            answer: b"Syntax@a.p:12 ",
+        },
+    ];
+    assert_eq!(rt; first_failure(rt.alloc(), &rows)?, rows.len());
+    Ok(())
+}
+
+/// Which conjectures count.
+#[test]
+fn counts_conjectures(rt: HostRuntime) -> Result<(), Fail> {
+    let rows = [
+        Row {
+            files: &[
+                ("a.p", b"fof(a,conjecture,p).include(f,[b])."),
+                (
+                    "f",
+                    b"fof(b,axiom,p).fof(c,conjecture,p).fof(d,conjecture,p).",
+                ),
+            ],
+            file: "a.p",
+            root: None,
+            answer: b"a@a.p:0 b@f:0 ",
+        },
+        Row {
+            files: &[
+                ("a.p", b"include(f,[b]).fof(a,conjecture,p)."),
+                ("f", b"include(g,[c,b])."),
+                ("g", b"fof(c,conjecture,p).fof(b,axiom,p)."),
+            ],
+            file: "a.p",
+            root: None,
+            answer: b"b@g:20 a@a.p:15 ",
+        },
+        Row {
+            files: &[
+                ("a.p", b"include(f,[c]).fof(a,conjecture,p)."),
+                ("f", b"include(g,[c,b])."),
+                ("g", b"fof(c,conjecture,p).fof(b,axiom,p)."),
+            ],
+            file: "a.p",
+            root: None,
+            answer: b"SecondConjecture@a.p:21 ",
+        },
+        Row {
+            files: &[
+                ("a.p", b"include(f,[c]).include(f,[c])."),
+                ("f", b"fof(c,conjecture,p)."),
+            ],
+            file: "a.p",
+            root: None,
+            answer: b"SecondConjecture@f:6 ",
+        },
+    ];
+    assert_eq!(rt; first_failure(rt.alloc(), &rows)?, rows.len());
+    Ok(())
+}
+
+/// How deep includes may be nested: `0` to `g` are 17 files, each of which includes the next one.
+#[test]
+fn bounds_depth(rt: HostRuntime) -> Result<(), Fail> {
+    let rows = [
+        Row {
+            files: &[("loop.p", b"include('loop.p').")],
+            file: "loop.p",
+            root: None,
+            answer: b"IncludeDepth@loop.p:0 ",
+        },
+        Row {
+            files: &CHAIN,
+            file: "a",
+            root: None,
+            answer: b"end@q:0 ",
+        },
+        Row {
+            files: &CHAIN,
+            file: "first",
+            root: None,
+            answer: b"IncludeDepth@p:0 ",
+        },
+    ];
+    assert_eq!(rt; first_failure(rt.alloc(), &rows)?, rows.len());
+    Ok(())
+}
+
+/// Files from `a` to `q`, 16 includes deep, and one before them.
+const CHAIN: [File; 18] = [
+    ("first", b"include(a)."),
+    ("a", b"include(b)."),
+    ("b", b"include(c)."),
+    ("c", b"include(d)."),
+    ("d", b"include(e)."),
+    ("e", b"include(f)."),
+    ("f", b"include(g)."),
+    ("g", b"include(h)."),
+    ("h", b"include(i)."),
+    ("i", b"include(j)."),
+    ("j", b"include(k)."),
+    ("k", b"include(l)."),
+    ("l", b"include(m)."),
+    ("m", b"include(n)."),
+    ("n", b"include(o)."),
+    ("o", b"include(p)."),
+    ("p", b"include(q)."),
+    ("q", b"cnf(end,axiom,p)."),
+];
