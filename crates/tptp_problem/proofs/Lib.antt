@@ -11,3 +11,4 @@ pub mod FileLemmas
 pub mod HaltLemmas
 pub mod OutcomeLemmas
 pub mod ConjectureLemmas
+pub mod ClosedLemmas

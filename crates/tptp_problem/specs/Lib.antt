@@ -5,3 +5,4 @@ pub mod Problem
 pub mod Shape
 pub mod Awaiting
 pub mod IncludeReads
+pub mod Closed

@@ -1,11 +1,12 @@
 // The laws of the definitions: each is the contract of a function without arguments and with an empty body.
 
-ghost use Rattle.std.specs.Prelude.{◌≡◌, ◌≢◌, ◌≤◌, ℕ, true, false, count_by, List, Option, Some};
+ghost use Rattle.std.specs.Prelude.{◌≡◌, ◌≢◌, ◌≤◌, ℕ, true, false, count_by, List, [], Option, Some};
 ghost use Rattle.outside.specs.Library.{Holdings};
 ghost use Rattle.tptp_reader.specs.declared.cause.ReadCause.{ReadCause};
 ghost use Rattle.tptp_reader.specs.declared.cause.ReadCause.TheVariants.{Load};
 ghost use Rattle.std.specs.List.{AllByRecursion};
 ghost use Rattle.tptp_problem.specs.Formulas.{Placed, is_conjecture};
+ghost use Rattle.tptp_problem.specs.Closed.{closed_within};
 ghost use Rattle.tptp_problem.specs.Problem.{IsProblem, IsProblemFault};
 
 /// Where a library tells what it holds, a file has one problem or one first fault, but that a load may fail: there is at most
@@ -30,4 +31,11 @@ pub fn at_most_one_conjecture()
     ensures no_clause { (told : Option Holdings) (file : List ℕ) (root : Option (List ℕ)) (formulas : List Placed)
         → IsProblem told file root formulas
         → AllByRecursion (λ (f : Placed). f.tree.is_clause ≡ true → is_conjecture f.tree.role ≡ false) formulas }
+{}
+
+/// No formula of a problem but a clause has a free variable.
+pub fn closed_formulas()
+    ensures { (told : Option Holdings) (file : List ℕ) (root : Option (List ℕ)) (formulas : List Placed)
+        → IsProblem told file root formulas
+        → AllByRecursion (λ (f : Placed). f.tree.is_clause ≡ false → closed_within [] f.tree.formula ≡ true) formulas }
 {}
