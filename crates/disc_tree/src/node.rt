@@ -98,10 +98,12 @@ impl Node {
         }
     }
 
-    /// How many children there are.
-    pub(crate) fn width(&self) -> usize
-        ensures { result ≡ length self.now.1 }
+    /// How many children there are, at one step.
+    pub(crate) fn width<L: Ledger>(&self, steps: &mut Steps<L>) -> usize
+        ensures width { result ≡ length self.now.1 }
+        ensures step { steps.new ≡ steps.old + 1 }
     {
+        steps.tick();
         self.branches.len()
     }
 
@@ -118,7 +120,7 @@ impl Node {
     }
 
     /// Whether no entry is here or below.
-    pub(crate) fn is_empty(&self) -> bool
+    fn is_empty(&self) -> bool
         ensures { IsTrue result ↔ (rows self.now ≡ []) }
     {
         self.entries.is_empty() && self.branches.is_empty()

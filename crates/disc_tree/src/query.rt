@@ -148,7 +148,7 @@ fn collect_children<L: Ledger>(
         ≡ found.old.items ++ found_in varying.entry varying.query (suc (terms_left skipped.now)) (trees_left rest.now) (rows node.now)) }
     ensures counter { steps.old ≤ steps.new }
 {
-    for index in 0..node.width() {
+    for index in 0..node.width(&mut *steps) {
         let (label, child) = node.child_at(index, &mut *steps);
         let inner = Skipped::of(label.arity(), &*skipped);
         collect(child, &inner, &*rest, varying, found, &mut *steps)?;

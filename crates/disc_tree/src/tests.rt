@@ -249,3 +249,43 @@ fn a_thousand_steps_agree_with_a_plain_list(rt: HostRuntime) -> Result<(), Fail>
     }
     Ok(())
 }
+
+#[test]
+fn entries_at_one_path_stand_by_their_numbers(rt: HostRuntime) -> Result<(), Fail> {
+    let mut tree = DiscTree::new(rt.alloc())?;
+    for number in [5, 3, 4, 3] {
+        added(&mut tree, unary(rt.alloc(), G, Term::Var(0)), number)?;
+    }
+    added(&mut tree, unary(rt.alloc(), G, Term::Var(1)), 3)?;
+    assert!(rt; are(tree.unifiable(&Term::Var(0)), &[3, 3, 3, 4, 5]));
+    let first = unary(rt.alloc(), G, Term::Var(0))?;
+    let second = unary(rt.alloc(), G, Term::Var(1))?;
+    assert!(rt; tree.remove(&second, 3));
+    assert!(rt; !tree.remove(&second, 3));
+    assert!(rt; tree.remove(&first, 3));
+    assert!(rt; tree.remove(&first, 3));
+    assert!(rt; !tree.remove(&first, 3));
+    assert!(rt; are(tree.unifiable(&Term::Var(0)), &[4, 5]));
+    Ok(())
+}
+
+/// Run with an allocation made to fail, it goes on after the insertion that is refused.
+#[test]
+fn a_refused_insertion_changes_nothing(rt: HostRuntime) -> Result<(), Fail> {
+    let mut seed = 1;
+    let mut tree = DiscTree::new(rt.alloc())?;
+    let mut list: Vec<(Term, u64)> = Vec::new(rt.alloc());
+    for number in 0..12u64 {
+        let term = random_term(rt.alloc(), &mut seed, 2)?;
+        if tree.insert(&term, number).is_ok() {
+            list.push((term, number))?;
+        }
+        let alike = finds_alike(rt.alloc(), &tree, list.as_slice(), &Term::Var(0))?;
+        assert!(rt; alike);
+    }
+    for entry in list.as_slice() {
+        assert!(rt; tree.remove(&entry.0, entry.1));
+    }
+    assert!(rt; tree.unifiable(&Term::Var(0))?.as_slice().is_empty());
+    Ok(())
+}

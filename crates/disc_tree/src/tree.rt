@@ -55,8 +55,8 @@ impl DiscTree {
 
     /// Adds an entry. After want of memory the tree is as before.
     ///
-    /// It takes steps in proportion to the term's symbols and variables, each with a search by halving among the children of one node, and
-    /// moves the children behind a new one.
+    /// Its time is in proportion to the term's symbols and variables, with a search by halving among the children of each node on the way.
+    /// It moves the children behind a new one, and the entries with the same path that have higher numbers.
     pub fn insert(&mut self, term: &Term, entry: u64) -> Mem<()>
         ensures ok { IfOk result (λ _. IsWith (tree_of term.now, entry) self.old self.new) }
         ensures err { OnErr result (self.new ≡ self.old) }
@@ -100,7 +100,8 @@ impl DiscTree {
         self.find_uncounted(query, Varying::QUERIES)
     }
 
-    /// What `unifiable` answers. Each read of a node, a child by its label or the entries of a node, is a step.
+    /// What `unifiable` answers. Each read of a node is a step: a child by its label or by its place, how many children there are, or the
+    /// entries.
     pub fn unifiable_counted<L: Ledger>(&self, query: &Term, steps: &mut Steps<L>) -> Mem<Numbers>
         ensures found { IfOk result (λ numbers.
             numbers ≡ numbers_where (λ term. compatible term (tree_of query.now)) self.now) }
