@@ -1,23 +1,18 @@
 -- Includes, texts and files, by what the functions that read them say.
-use Rattle.std.proofs.Common.{◌≡◌, ◌≢◌, inl, inr, ⊎_elim, ℕ, zero, suc, ◌+◌, ◌*◌, ◌-◌, ◌≤◌, ◌<◌, Bool, true, false, None, Some, Option, List, [], ◌∷◌, ◌++◌, map, drop, length, refl, ap, sym, ◌∙◌, subst, arith}
+use Rattle.std.proofs.Common.{◌≡◌, inl, inr, ℕ, zero, suc, ◌+◌, ◌*◌, ◌-◌, ◌<◌, Bool, true, false, None, Some, Option, List, [], ◌∷◌, ◌++◌, drop, length, refl, ap, sym, ◌∙◌, subst, arith}
 use Rattle.std.specs.Prelude.{slice_get, if◌then◌else◌}
 use Rattle.outside.specs.Library.{Holdings}
-use Rattle.tptp_token.specs.Lexemes.{Lexeme}
-use Rattle.tptp_token.specs.Lexing.{lexed_of}
-use Rattle.tptp_token.specs.declared.token.Lexed.{Lexed}
-use Rattle.tptp_token.specs.declared.token.LexFault.{LexFault}
 use Rattle.tptp_tree.specs.Spelling.{name_of}
 use Rattle.tptp_tree.specs.Entries.{names_meant}
-use Rattle.tptp_reader.specs.TellingEntries.{IsEndFault}
 use Rattle.tptp_reader.specs.declared.cause.ReadCause.{ReadCause}
 use Rattle.tptp_reader.specs.declared.cause.ReadCause.TheVariants.{SelectionMissing}
 use Rattle.tptp_problem.specs.declared.include.Include.{Include}
 use Rattle.tptp_problem.specs.declared.source.Source.{Source}
-use Rattle.tptp_problem.specs.Files.{base_of, loaded_name, MayGive}
+use Rattle.tptp_problem.specs.Files.{base_of, loaded_name}
 use Rattle.tptp_problem.specs.Formulas.{Placed, selected, is_named, missing_from, missing}
 use Rattle.tptp_problem.specs.IncludeReads.{IsIncludeRead}
 use Rattle.tptp_problem.specs.Includes.{is_include, IsInclude}
-use Rattle.tptp_problem.specs.Problem.{LoadedFile, Progress, Step, Reads, Faults, tokens_of, lexemes, start_of, place_of, with_file, is_second, IsIncludeStep, IsFormulaStep, IsFormulaFault, IsIncludeFault, IsMissing, IsFaultBy, IsEntryFault, ReadsNamed, FaultsNamed, ReadsText, FaultsText, Loads, Adds, progress_behind, next_behind, IsProblem, IsProblemFault}
+use Rattle.tptp_problem.specs.Problem.{Progress, Reads, tokens_of, lexemes, start_of, IsIncludeStep, IsFormulaStep, IsIncludeFault, ReadsNamed, FaultsNamed, Adds, IsProblemFault}
 use Rattle.tptp_problem.specs.Shape.{IsLexed, file_of, lexemes_told, selections, IsHaltBy, IsFaultBy as IsToldBy, fault_of}
 use Rattle.tptp_problem.specs.declared.halt.Halt.{Halt}
 use Rattle.tptp_problem.specs.declared.halt.Halt.TheVariants.{NoMemory, At}
