@@ -1,5 +1,5 @@
 -- The machine that reads includes ends where the grammar says.
-use Rattle.std.proofs.Common.{◌≡◌, ◌⊎◌, inl, inr, ⊎_elim, ℕ, suc, ◌+◌, ◌*◌, ◌-◌, ◌≤◌, ◌<◌, Bool, true, false, ◌&&◌, Option, None, Some, List, [], ◌∷◌, ◌++◌, length, take, drop, codes, refl, ap, ap₂, sym, ◌∙◌, subst, arith, length-append, length-drop, append_assoc}
+use Rattle.std.proofs.Common.{◌≡◌, ◌⊎◌, inl, inr, ⊎_elim, ℕ, suc, ◌+◌, ◌*◌, ◌-◌, Bool, true, false, ◌&&◌, Option, None, Some, List, [], ◌∷◌, ◌++◌, length, take, drop, codes, refl, ap, ap₂, sym, ◌∙◌, subst, arith, length-append, length-drop, append_assoc}
 use Rattle.std.specs.Prelude.{if◌then◌else◌}
 use Rattle.std.specs.List.{list_all}
 use Rattle.std.proofs.Math.Seq.{drop-drop}
@@ -7,7 +7,7 @@ use Rattle.std.proofs.lemmas.Bool.{and_parts}
 use Rattle.std.proofs.lemmas.List.{take_at, drop_at}
 use Rattle.tptp_token.specs.Lexemes.{Lexeme}
 use Rattle.tptp_token.specs.declared.token.Kind.{Kind}
-use Rattle.tptp_token.specs.declared.token.Kind.TheVariants.{Lower, Variable, Quoted, Distinct, Dollar, Number, Connective, Mark, Other}
+use Rattle.tptp_token.specs.declared.token.Kind.TheVariants.{Lower, Quoted, Number, Mark}
 use Rattle.tptp_tree.specs.Spelling.{Word, bare, quoted, lexeme, word_lexeme}
 use Rattle.tptp_tree.specs.Brackets.{is_lexeme, is_mark}
 use Rattle.tptp_tree.specs.Entries.{NamePhrase, word_name, digits_name, name_lexeme, is_right_name, is_right_entry, more_names_lexemes, include_end, entry_lexemes}
@@ -17,7 +17,6 @@ use Rattle.tptp_problem.specs.Includes.{include_phrase, IsInclude, HasNoInclude,
 use Rattle.tptp_problem.specs.Awaiting.{is_word, when, after, is_nothing, ended, ending_from}
 use Rattle.tptp_problem.specs.declared.include.Awaited.{Awaited}
 use Rattle.tptp_problem.specs.declared.include.Awaited.TheVariants.{Keyword, Open, File, AfterFile, OpenList, Name, AfterName, Close, Stop, Nothing}
-use Rattle.tptp_problem.specs.declared.include.Ending.{Ending}
 use Rattle.tptp_problem.specs.declared.include.Ending.TheVariants.{Whole, Stopped, Cut}
 
 -- ---- the tokens of an include behind its file

@@ -1,14 +1,13 @@
 -- No formula of a problem but a clause has a free variable.
 use Rattle.std.proofs.Common.{◌≡◌, ℕ, Bool, true, false, ◌&&◌, None, Some, Option, List, [], ◌∷◌, ◌++◌, refl, ap, sym, ◌∙◌, subst}
 use Rattle.std.specs.Prelude.{if◌then◌else◌}
-use Rattle.std.specs.List.{AllByRecursion, list_any}
+use Rattle.std.specs.List.{AllByRecursion}
 use Rattle.fol_base.specs.Spelling.{is_one_of}
 use Rattle.outside.specs.Library.{Holdings}
-use Rattle.tptp_tree.specs.Formula.{FormulaTree}
 use Rattle.tptp_tree.specs.Shape.{formula_of}
 use Rattle.tptp_tree.specs.Spelling.{TermPhrase, variable_word, word_with, TermPhrases, no_phrases, phrase_then, term_meant, terms_meant, Atom, true_atom, false_atom, predicate_atom, equation_atom, atom_meant, UnitPhrase, negated, bound, in_brackets, atomic, UnitPhrases, no_units, unit_then, Phrase, alone, all_of, some_of, joined_by, unit_meant, units_meant, meant}
 use Rattle.tptp_tree.specs.Entries.{Body, formula_body, clause_body, is_clause_body, body_meant}
-use Rattle.tptp_tree.specs.Causes.{Refusal, free_variable, Scope, every_variable, bound_ones, scope_with, Surroundings, deeper, binding, variable_cause, term_causes, arguments_causes, more_arguments_causes, atom_causes, more_variables_causes, unit_causes, units_causes, phrase_causes, outermost, body_causes}
+use Rattle.tptp_tree.specs.Causes.{Refusal, free_variable, Scope, bound_ones, scope_with, Surroundings, deeper, binding, variable_cause, term_causes, arguments_causes, more_arguments_causes, atom_causes, more_variables_causes, unit_causes, units_causes, phrase_causes, outermost, body_causes}
 use Rattle.tptp_reader.specs.Annotating.{IsReading}
 use Rattle.tptp_reader.specs.Answers.{AreFaultless}
 use Rattle.tptp_reader.specs.declared.entry.Read.{Read}

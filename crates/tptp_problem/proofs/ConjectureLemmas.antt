@@ -1,6 +1,6 @@
 -- A problem has at most one conjecture, and it is no clause.
-use Rattle.std.proofs.Common.{◌≡◌, ◌⊎◌, inl, inr, ⊎_elim, ℕ, zero, suc, ◌+◌, ◌≤◌, ◌<◌, Bool, true, false, not, ◌&&◌, ◌||◌, cond, None, Some, Option, List, [], ◌∷◌, ◌++◌, codes, drop, length, filter, refl, ap, ap₂, sym, ◌∙◌, subst, arith, zero-add, bytes_eq}
-use Rattle.std.specs.Prelude.{count_by, sum_by, if◌then◌else◌}
+use Rattle.std.proofs.Common.{◌≡◌, ℕ, zero, suc, ◌+◌, ◌≤◌, Bool, true, false, not, ◌&&◌, ◌||◌, cond, None, Some, Option, List, [], ◌∷◌, ◌++◌, codes, drop, refl, ap, ap₂, sym, ◌∙◌, subst, arith, zero-add, bytes_eq}
+use Rattle.std.specs.Prelude.{count_by, if◌then◌else◌}
 use Rattle.std.specs.List.{AllByRecursion, list_all}
 use Rattle.std.proofs.lemmas.Bool.{and_parts}
 use Rattle.std.proofs.lemmas.List.Sums.{sum_by-cons}
@@ -12,14 +12,13 @@ use Rattle.tptp_tree.specs.declared.problem.Role.{Role}
 use Rattle.tptp_tree.specs.declared.problem.Role.TheVariants.{Axiom, Hypothesis, Definition, Assumption, Lemma, Theorem, Corollary, NegatedConjecture, Plain, Conjecture}
 use Rattle.tptp_tree.specs.Brackets.{are_balanced}
 use Rattle.tptp_tree.specs.Spelling.{bare, quoted, lexeme}
-use Rattle.tptp_tree.specs.Entries.{NamePhrase, word_name, digits_name, name_lexeme, name_meant, is_right_name, role_word, role_among, role_of, clause_roles, formula_roles, is_clause_body, AnnotatedPhrase, body_lexemes, notes_lexemes, names_meant, language_word}
+use Rattle.tptp_tree.specs.Entries.{NamePhrase, word_name, digits_name, name_lexeme, name_meant, is_right_name, role_word, role_among, role_of, clause_roles, formula_roles, is_clause_body, body_lexemes, notes_lexemes, names_meant, language_word}
 use Rattle.tptp_reader.specs.Annotating.{IsReading}
-use Rattle.tptp_reader.specs.Shape.{tree_of}
 use Rattle.tptp_reader.specs.declared.entry.Read.{Read}
 use Rattle.tptp_problem.specs.Formulas.{Placed, placed_in, selects, selected, is_conjecture, counts, is_name, token_name, conjecture_begun, begun_counts}
 use Rattle.tptp_problem.specs.Files.{base_of}
 use Rattle.tptp_problem.specs.Includes.{is_include}
-use Rattle.tptp_problem.specs.Problem.{LoadedFile, Progress, Step, Reads, tokens_of, lexemes, with_formula, with_file, is_second, IsStepBy, IsIncludeStep, IsFormulaStep, AreSteps, progress_behind, formulas_along, ReadsNamed, ReadsText, IsProblem}
+use Rattle.tptp_problem.specs.Problem.{LoadedFile, Progress, Step, Reads, tokens_of, lexemes, with_file, is_second, IsStepBy, IsIncludeStep, IsFormulaStep, AreSteps, progress_behind, formulas_along, ReadsNamed, IsProblem}
 use Rattle.tptp_problem.proofs.IncludeLemmas.{name-name}
 
 -- ---- the role of a conjecture

@@ -1,5 +1,5 @@
 -- Faults that are told, by what the functions below say of tokens.
-use Rattle.std.proofs.Common.{◌≡◌, inl, inr, ⊎_elim, ℕ, suc, ◌+◌, ◌-◌, ◌*◌, ◌≤◌, Bool, true, false, ◌&&◌, ◌||◌, ◌++◌, None, Some, Option, List, [], ◌∷◌, map, drop, length, codes, refl, ap, ap₂, sym, ◌∙◌, subst, arith}
+use Rattle.std.proofs.Common.{◌≡◌, inl, inr, ℕ, ◌+◌, ◌-◌, ◌*◌, ◌≤◌, Bool, true, false, ◌&&◌, ◌||◌, ◌++◌, List, [], ◌∷◌, map, drop, length, codes, refl, ap, ap₂, sym, ◌∙◌, subst, arith}
 use Rattle.std.specs.Prelude.{slice_get}
 use Rattle.std.proofs.Math.Seq.{drop-drop}
 use Rattle.std.proofs.lemmas.List.{length-map, map-append}
@@ -7,31 +7,29 @@ use Rattle.std.specs.Str.{IsAscii}
 use Rattle.tptp_token.specs.Lexemes.{Lexeme, lexeme_at}
 use Rattle.tptp_token.specs.Lexing.{lexed_of}
 use Rattle.tptp_token.specs.declared.token.Lexed.{Lexed}
-use Rattle.tptp_token.specs.declared.token.Token.{Token}
 use Rattle.tptp_token.specs.declared.token.Kind.TheVariants.{Lower, Mark}
-use Rattle.tptp_tree.specs.Spelling.{Word, lexeme, word_lexeme, name_of}
-use Rattle.tptp_tree.specs.Entries.{NamePhrase, names_meant, entry_lexemes}
+use Rattle.tptp_tree.specs.Spelling.{lexeme, word_lexeme, name_of}
+use Rattle.tptp_tree.specs.Entries.{NamePhrase, names_meant}
 use Rattle.tptp_reader.specs.Annotating.{IsReading, IsFaultAt}
 use Rattle.tptp_tree.specs.declared.problem.Annotated.{Annotated}
 use Rattle.tptp_reader.specs.Shape.{tree_of}
 use Rattle.tptp_reader.specs.declared.entry.Read.{Read}
 use Rattle.tptp_reader.specs.TellingEntries.{IsEndFault}
 use Rattle.tptp_reader.specs.declared.cause.ReadCause.{ReadCause}
-use Rattle.tptp_reader.specs.declared.cause.ReadCause.TheVariants.{Syntax, SecondConjecture, Load}
+use Rattle.tptp_reader.specs.declared.cause.ReadCause.TheVariants.{Syntax, SecondConjecture}
 use Rattle.tptp_problem.specs.declared.halt.Halt.{Halt}
 use Rattle.tptp_problem.specs.declared.halt.Halt.TheVariants.{NoMemory, At}
-use Rattle.tptp_problem.specs.declared.include.Include.{Include}
 use Rattle.tptp_problem.specs.declared.include.Awaited.TheVariants.{Keyword}
 use Rattle.tptp_problem.specs.declared.include.Ending.TheVariants.{Whole, Stopped, Cut}
 use Rattle.tptp_problem.specs.declared.source.Source.{Source}
 use Rattle.tptp_problem.specs.Awaiting.{ending_from, AreNamesAt}
-use Rattle.tptp_problem.specs.Formulas.{Placed, placed, placed_in, is_conjecture, counts, conjecture_begun, begun_counts}
+use Rattle.tptp_problem.specs.Formulas.{placed, placed_in, is_conjecture, counts, conjecture_begun, begun_counts}
 use Rattle.tptp_problem.specs.IncludeReads.{IsIncludeRead, ReadsNames, IsNameAt}
-use Rattle.tptp_problem.specs.Includes.{include_phrase, StopsInclude, CutsInclude}
-use Rattle.tptp_problem.specs.Problem.{LoadedFile, Progress, tokens_of, lexemes, start_of, place_of, is_second, with_formula, IsFormulaStep, IsFormulaFault, IsIncludeSyntaxFault}
+use Rattle.tptp_problem.specs.Includes.{StopsInclude, CutsInclude}
+use Rattle.tptp_problem.specs.Problem.{Progress, tokens_of, lexemes, start_of, place_of, is_second, with_formula, IsFormulaStep, IsFormulaFault, IsIncludeSyntaxFault}
 use Rattle.tptp_problem.specs.Shape.{IsHaltBy, IsLexed, file_of, lexemes_told, selections}
 use Rattle.tptp_problem.proofs.AsciiLemmas.{word-there}
-use Rattle.tptp_problem.proofs.AwaitLemmas.{WholeThere, whole-there, stopped-there, cut-there, include-tail, tail_lexemes, tail_width, width}
+use Rattle.tptp_problem.proofs.AwaitLemmas.{WholeThere, whole-there, stopped-there, cut-there, include-tail, tail_lexemes, width}
 use Rattle.tptp_problem.proofs.IncludeLemmas.{word-name}
 
 pub halt-then :

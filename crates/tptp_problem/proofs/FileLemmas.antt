@@ -1,23 +1,18 @@
 -- Includes, texts and files, by what the functions that read them say.
-use Rattle.std.proofs.Common.{◌≡◌, ◌≢◌, inl, inr, ⊎_elim, ℕ, zero, suc, ◌+◌, ◌*◌, ◌-◌, ◌≤◌, ◌<◌, Bool, true, false, None, Some, Option, List, [], ◌∷◌, ◌++◌, map, drop, length, refl, ap, sym, ◌∙◌, subst, arith}
+use Rattle.std.proofs.Common.{◌≡◌, inl, inr, ℕ, zero, suc, ◌+◌, ◌*◌, ◌-◌, ◌<◌, Bool, true, false, None, Some, Option, List, [], ◌∷◌, ◌++◌, drop, length, refl, ap, sym, ◌∙◌, subst, arith}
 use Rattle.std.specs.Prelude.{slice_get, if◌then◌else◌}
 use Rattle.outside.specs.Library.{Holdings}
-use Rattle.tptp_token.specs.Lexemes.{Lexeme}
-use Rattle.tptp_token.specs.Lexing.{lexed_of}
-use Rattle.tptp_token.specs.declared.token.Lexed.{Lexed}
-use Rattle.tptp_token.specs.declared.token.LexFault.{LexFault}
 use Rattle.tptp_tree.specs.Spelling.{name_of}
 use Rattle.tptp_tree.specs.Entries.{names_meant}
-use Rattle.tptp_reader.specs.TellingEntries.{IsEndFault}
 use Rattle.tptp_reader.specs.declared.cause.ReadCause.{ReadCause}
 use Rattle.tptp_reader.specs.declared.cause.ReadCause.TheVariants.{SelectionMissing}
 use Rattle.tptp_problem.specs.declared.include.Include.{Include}
 use Rattle.tptp_problem.specs.declared.source.Source.{Source}
-use Rattle.tptp_problem.specs.Files.{base_of, loaded_name, MayGive}
+use Rattle.tptp_problem.specs.Files.{base_of, loaded_name}
 use Rattle.tptp_problem.specs.Formulas.{Placed, selected, is_named, missing_from, missing}
 use Rattle.tptp_problem.specs.IncludeReads.{IsIncludeRead}
 use Rattle.tptp_problem.specs.Includes.{is_include, IsInclude}
-use Rattle.tptp_problem.specs.Problem.{LoadedFile, Progress, Step, Reads, Faults, tokens_of, lexemes, start_of, place_of, with_file, is_second, IsIncludeStep, IsFormulaStep, IsFormulaFault, IsIncludeFault, IsMissing, IsFaultBy, IsEntryFault, ReadsNamed, FaultsNamed, ReadsText, FaultsText, Loads, Adds, progress_behind, next_behind, IsProblem, IsProblemFault}
+use Rattle.tptp_problem.specs.Problem.{Progress, Reads, tokens_of, lexemes, start_of, IsIncludeStep, IsFormulaStep, IsIncludeFault, ReadsNamed, FaultsNamed, Adds, IsProblemFault}
 use Rattle.tptp_problem.specs.Shape.{IsLexed, file_of, lexemes_told, selections, IsHaltBy, IsFaultBy as IsToldBy, fault_of}
 use Rattle.tptp_problem.specs.declared.halt.Halt.{Halt}
 use Rattle.tptp_problem.specs.declared.halt.Halt.TheVariants.{NoMemory, At}
@@ -184,128 +179,6 @@ formula-on base reads s start at next before after old new h l e r a =
     reads-on base reads (file_of s) start at next before after old new r
     (step-by base reads (file_of s) at old new before after next false (small-there s at h l) (is-there s at false h e) a)
 
-pub text-read :
-    (base : List ℕ) (reads : Reads) (s : Source) (start : Progress) (at : ℕ) (formulas : List Placed) (now : Progress)
-    → IsLexed s → length s.lexed.now.tokens ≤ at → s.lexed.now.fault ≡ None → ReadsUpTo base reads (file_of s) start at formulas now
-    → ReadsText base reads (file_of s) start formulas now
-text-read base reads s start at formulas now h l f r =
-    record {
-      steps = r.steps;
-      are = r.are;
-      ended = subst (λ n. length (tokens_of (file_of s)) ≤ n) r.next_is (subst (λ ts. length ts ≤ at) (tokens-same s h) l);
-      clean = ap (λ (x : Lexed). x.fault) (sym h.lexed_is) ∙ f;
-      formulas_are = r.formulas_are;
-      progress_is = r.progress_is;
-    }
-
-pub text-end :
-    (depth : ℕ) (base : List ℕ) (reads : Reads) (faults : Faults) (s : Source) (start : Progress) (at : ℕ) (formulas : List Placed) (now : Progress) (fault : LexFault)
-    → IsLexed s → length s.lexed.now.tokens ≤ at → s.lexed.now.fault ≡ Some fault → ReadsUpTo base reads (file_of s) start at formulas now
-    → (c : ReadCause) (f : List ℕ) (p : ℕ) → (f ≡ s.name.now) × IsEndFault (Some fault) (length s.bytes.now) c p
-    → FaultsText depth base reads faults (file_of s) start c f p
-text-end depth base reads faults s start at formulas now fault h l e r c f p k =
-    record {
-      steps = r.steps;
-      are = r.are;
-      why =
-          inr
-          (record {
-            ended = subst (λ n. length (tokens_of (file_of s)) ≤ n) r.next_is (subst (λ ts. length ts ≤ at) (tokens-same s h) l);
-            fault = fault;
-            found = ap (λ (x : Lexed). x.fault) (sym h.lexed_is) ∙ e;
-            told = k.1;
-            file_is = k.0;
-          });
-    }
-
--- an entry at fault, behind those that were read
-entry-fault :
-    (depth : ℕ) (base : List ℕ) (reads : Reads) (faults : Faults) (file : LoadedFile) (start : Progress) (at : ℕ) (formulas : List Placed) (now : Progress)
-    → ReadsUpTo base reads file start at formulas now
-    → (c : ReadCause) (f : List ℕ) (p : ℕ) → IsEntryFault depth base reads faults file at now c f p → FaultsText depth base reads faults file start c f p
-entry-fault depth base reads faults file start at formulas now r c f p h =
-    record {
-      steps = r.steps;
-      are = r.are;
-      why =
-          inl
-          (subst (λ n. IsEntryFault depth base reads faults file (next_behind 0 r.steps) n c f p) r.progress_is
-          (subst (λ n. IsEntryFault depth base reads faults file n now c f p) r.next_is h));
-    }
-
-pub text-include :
-    (told other : Option Holdings) (base root : List ℕ) (found depth : ℕ) (s : Source) (start : Progress) (at : ℕ) (formulas : List Placed) (now : Progress)
-    → IsLexed s → at < length s.lexed.now.tokens → is_include (drop at (lexemes_told s)) ≡ true → other ≡ told → root ≡ base
-    → ReadsUpTo base (ReadsNamed told base depth) (file_of s) start at formulas now
-    → (c : ReadCause) (f : List ℕ) (p : ℕ)
-    → IsIncludeFault depth root (ReadsNamed other root depth) (FaultsNamed other root found depth) (file_of s) at now c f p
-    → FaultsText depth base (ReadsNamed told base depth) (FaultsNamed told base found depth) (file_of s) start c f p
-text-include told other base root found depth s start at formulas now h l e t b r c f p k =
-    let file = file_of s in
-    let same : IsIncludeFault depth base (ReadsNamed told base depth) (FaultsNamed told base found depth) file at now c f p =
-    subst (λ x. IsIncludeFault depth x (ReadsNamed told x depth) (FaultsNamed told x found depth) file at now c f p) b
-    (subst (λ x. IsIncludeFault depth root (ReadsNamed x root depth) (FaultsNamed x root found depth) file at now c f p) t k) in
-    entry-fault depth base (ReadsNamed told base depth) (FaultsNamed told base found depth) file start at formulas now r c f p (
-      small-there s at h l,
-      subst (λ x. IsFaultBy depth base (ReadsNamed told base depth) (FaultsNamed told base found depth) file x at now c f p)
-          (sym (is-there s at true h e)) same,
-    )
-
-pub text-formula :
-    (depth : ℕ) (base : List ℕ) (reads : Reads) (faults : Faults) (s : Source) (start : Progress) (at : ℕ) (formulas : List Placed) (now : Progress)
-    → IsLexed s → at < length s.lexed.now.tokens → is_include (drop at (lexemes_told s)) ≡ false
-    → ReadsUpTo base reads (file_of s) start at formulas now
-    → (c : ReadCause) (f : List ℕ) (p : ℕ) → IsFormulaFault (file_of s) (is_second (file_of s) at now) at now c f p
-    → FaultsText depth base reads faults (file_of s) start c f p
-text-formula depth base reads faults s start at formulas now h l e r c f p k =
-    entry-fault depth base reads faults (file_of s) start at formulas now r c f p (
-      small-there s at h l,
-      subst (λ x. IsFaultBy depth base reads faults (file_of s) x at now c f p) (sym (is-there s at false h e)) k,
-    )
-
--- ---- files
-
--- what is known once the bytes of a file are there
-pub record Given (told other : Option Holdings) (base root name : List ℕ) (around : List (List (List ℕ))) (bytes : List ℕ) (start mid : Progress) (file : LoadedFile) : Type 0 where
-  pub told_is : other ≡ told
-  pub base_is : root ≡ base
-  pub given : MayGive told name start.loaded bytes
-  pub mid_is : mid ≡ with_file bytes start
-  pub file_is : file ≡ (let f : LoadedFile = record { name = name; bytes = bytes; around = around } in f)
-
-pub file-read :
-    (told other : Option Holdings) (base root name : List ℕ) (around : List (List (List ℕ))) (bytes : List ℕ) (start mid now : Progress) (file : LoadedFile) (depth : ℕ) (formulas : List Placed)
-    → Given told other base root name around bytes start mid file → ReadsText root (ReadsNamed other root depth) file mid formulas now
-    → ReadsNamed told base (suc depth) name around start formulas now
-file-read told other base root name around bytes start mid now file depth formulas g h =
-    record {
-      bytes = bytes;
-      given = g.given;
-      text =
-          subst (λ x. ReadsText base (ReadsNamed told base depth) x (with_file bytes start) formulas now) g.file_is
-          (subst (λ x. ReadsText base (ReadsNamed told base depth) file x formulas now) g.mid_is
-          (subst (λ x. ReadsText x (ReadsNamed told x depth) file mid formulas now) g.base_is
-          (subst (λ x. ReadsText root (ReadsNamed x root depth) file mid formulas now) g.told_is h)));
-    }
-
-pub file-fault :
-    (told other : Option Holdings) (base root name : List ℕ) (around : List (List (List ℕ))) (bytes : List ℕ) (start mid : Progress) (file : LoadedFile) (found depth : ℕ)
-    → Given told other base root name around bytes start mid file
-    → (c : ReadCause) (f : List ℕ) (p : ℕ)
-    → FaultsText depth root (ReadsNamed other root depth) (FaultsNamed other root found depth) file mid c f p
-    → FaultsNamed told base found (suc depth) name around start c f p
-file-fault told other base root name around bytes start mid file found depth g c f p h =
-    inr
-    (record {
-      bytes = bytes;
-      given = g.given;
-      fault =
-          subst (λ x. FaultsText depth base (ReadsNamed told base depth) (FaultsNamed told base found depth) x (with_file bytes start) c f p) g.file_is
-          (subst (λ x. FaultsText depth base (ReadsNamed told base depth) (FaultsNamed told base found depth) file x c f p) g.mid_is
-          (subst (λ x. FaultsText depth x (ReadsNamed told x depth) (FaultsNamed told x found depth) file mid c f p) g.base_is
-          (subst (λ x. FaultsText depth root (ReadsNamed x root depth) (FaultsNamed x root found depth) file mid c f p) g.told_is h)));
-    })
-
 -- ---- problems
 
 pub problem-fault :
@@ -314,12 +187,6 @@ pub problem-fault :
     → IsProblemFault told found file root c f p
 problem-fault told found base file root e c f p h =
     subst (λ b. FaultsNamed told b found 17 file [] (record { loaded = 0; met = false }) c f p) e h
-
-pub problem-read :
-    (told : Option Holdings) (base file : List ℕ) (root : Option (List ℕ)) (formulas : List Placed) (now : Progress) → base ≡ base_of root file
-    → ReadsNamed told base 17 file [] (record { loaded = 0; met = false }) formulas now → IsProblem told file root formulas
-problem-read told base file root formulas now e h =
-    (now, subst (λ b. ReadsNamed told b 17 file [] (record { loaded = 0; met = false }) formulas now) e h)
 
 pub fault-told : (is : ReadCause → List ℕ → ℕ → Type 0) (halt : Halt) (fault : ReadFault) → fault ≡ fault_of halt → IsHaltBy is halt → IsToldBy is fault
 fault-told is NoMemory fault e h = subst (IsToldBy is) (sym e) tt

@@ -1,4 +1,3 @@
-pub mod ListLemmas
 pub mod SourceLemmas
 pub mod NameLemmas
 pub mod AwaitLemmas

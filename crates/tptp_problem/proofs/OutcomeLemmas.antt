@@ -1,5 +1,5 @@
 -- Where a library tells what it holds, reading a file has one outcome, failed loads aside.
-use Rattle.std.proofs.Common.{◌≡◌, ◌⊎◌, inl, inr, ⊎_elim, ℕ, zero, suc, ◌+◌, ◌*◌, ◌-◌, ◌≤◌, ◌<◌, Bool, true, false, None, Some, Option, List, [], ◌∷◌, ◌++◌, map, take, drop, length, refl, ap, ap₂, sym, ◌∙◌, subst, arith, append_assoc, length-drop}
+use Rattle.std.proofs.Common.{◌≡◌, ◌⊎◌, inl, inr, ⊎_elim, ℕ, zero, suc, ◌+◌, ◌*◌, ◌-◌, ◌≤◌, ◌<◌, Bool, true, false, None, Some, Option, List, [], ◌∷◌, ◌++◌, take, drop, length, refl, ap, ap₂, sym, ◌∙◌, subst, arith, append_assoc, length-drop}
 use Rattle.std.specs.Prelude.{IsSomeAnd}
 use Rattle.std.proofs.lemmas.List.{take-take, take-append-drop}
 use Rattle.outside.specs.Library.{Holdings, FoundMore}
@@ -8,8 +8,7 @@ use Rattle.tptp_token.specs.Lexing.{lexed_of}
 use Rattle.tptp_token.specs.declared.token.LexFault.{LexFault}
 use Rattle.tptp_token.specs.declared.token.LexFault.TheVariants.{BadByte as BadByteAt, Unclosed as UnclosedAt}
 use Rattle.tptp_tree.specs.Spelling.{Word, name_of, word_lexeme}
-use Rattle.tptp_tree.specs.Entries.{NamePhrase, name_lexeme, name_meant, names_meant, entry_lexemes}
-use Rattle.tptp_reader.specs.Annotating.{IsReading, IsFaultAt}
+use Rattle.tptp_tree.specs.Entries.{NamePhrase, name_lexeme, name_meant, names_meant}
 use Rattle.tptp_reader.specs.TellingEntries.{IsEndFault}
 use Rattle.tptp_reader.specs.declared.cause.ReadCause.{ReadCause}
 use Rattle.tptp_reader.specs.declared.cause.ReadCause.TheVariants.{TooLong, Load}
@@ -19,8 +18,8 @@ use Rattle.tptp_problem.specs.declared.include.Ending.TheVariants.{Whole}
 use Rattle.tptp_problem.specs.Awaiting.{ending_from, AreNamesAt}
 use Rattle.tptp_problem.specs.Files.{base_of, loaded_name, room_after, MayGive}
 use Rattle.tptp_problem.specs.Formulas.{Placed, placed_in, token_name, selected, missing}
-use Rattle.tptp_problem.specs.Includes.{include_phrase, is_include, IsInclude, BeginsInclude, StopsInclude, CutsInclude, HasNoInclude}
-use Rattle.tptp_problem.specs.Problem.{LoadedFile, Progress, Step, Reads, Faults, tokens_of, lexemes, place_of, with_file, with_formula, is_second, IsStep, IsStepBy, IsIncludeStep, IsFormulaStep, AreSteps, next_behind, progress_behind, formulas_along, IsFormulaFault, IsIncludeSyntaxFault, IsIncludedFault, IsIncludeFault, IsMissing, IsFaultBy, IsEntryFault, IsTextEndFault, IsLoadFault, IsTextFault, ReadsNamed, FaultsNamed, ReadsText, FaultsText, Loads, IsProblem, IsProblemFault}
+use Rattle.tptp_problem.specs.Includes.{is_include, IsInclude, BeginsInclude, StopsInclude, HasNoInclude}
+use Rattle.tptp_problem.specs.Problem.{LoadedFile, Progress, Step, Reads, Faults, tokens_of, lexemes, place_of, with_file, with_formula, is_second, IsStep, IsStepBy, IsIncludeStep, IsFormulaStep, AreSteps, next_behind, progress_behind, formulas_along, IsFormulaFault, IsIncludeSyntaxFault, IsIncludedFault, IsIncludeFault, IsMissing, IsFaultBy, IsEntryFault, IsTextEndFault, IsLoadFault, ReadsNamed, FaultsNamed, ReadsText, FaultsText, IsProblem, IsProblemFault}
 use Rattle.tptp_problem.proofs.AwaitLemmas.{WholeThere, include-ends, include-length, width}
 use Rattle.tptp_problem.proofs.FaultLemmas.{names-there, file-there}
 use Rattle.tptp_problem.proofs.IncludeLemmas.{word-name, name-name, names-far, next-names}

@@ -1,11 +1,8 @@
 -- A text that is read entry by entry.
-use Rattle.std.proofs.Common.{◌≡◌, inl, inr, ⊎_elim, ℕ, zero, suc, ◌+◌, ◌-◌, ◌≤◌, ◌<◌, Bool, true, false, None, Some, Option, List, [], ◌∷◌, ◌++◌, map, drop, length, refl, ap, ap₂, sym, ◌∙◌, subst, arith, append_assoc, append-nil}
-use Rattle.outside.specs.Library.{Holdings}
-use Rattle.tptp_problem.specs.declared.source.Source.{Source}
+use Rattle.std.proofs.Common.{◌≡◌, ℕ, ◌<◌, Bool, List, [], ◌∷◌, ◌++◌, drop, length, refl, ap, sym, ◌∙◌, subst, append_assoc, append-nil}
 use Rattle.tptp_problem.specs.Formulas.{Placed}
 use Rattle.tptp_problem.specs.Includes.{is_include}
-use Rattle.tptp_problem.specs.Problem.{LoadedFile, Progress, Step, Reads, AreSteps, IsStep, IsStepBy, IsIncludeStep, IsFormulaStep, next_behind, progress_behind, formulas_along, ReadsNamed, Adds, tokens_of, lexemes}
-use Rattle.tptp_problem.specs.Shape.{IsLexed, file_of, lexemes_told}
+use Rattle.tptp_problem.specs.Problem.{LoadedFile, Progress, Step, Reads, AreSteps, IsStep, IsStepBy, next_behind, progress_behind, formulas_along, Adds, tokens_of, lexemes}
 
 -- the entries up to a token are read
 pub record ReadsUpTo (base : List ℕ) (reads : Reads) (file : LoadedFile) (start : Progress) (next : ℕ) (formulas : List Placed) (progress : Progress) : Type 0 where

@@ -1,11 +1,10 @@
 -- The problem of a library: the formulas of a file after its includes and selections, in reading order, or the first fault.
 -- A file is read entry by entry; an include's file is loaded and read where the include stands.
-use Rattle.std.specs.Prelude.{◌≡◌, ◌≤◌, ◌<◌, ◌⊎◌, ⊤, ℕ, zero, suc, ◌+◌, ◌*◌, Bool, true, false, ◌&&◌, ◌||◌, List, [], ◌∷◌, ◌++◌, length, map, drop, Option, None, Some, slice_get}
+use Rattle.std.specs.Prelude.{◌≡◌, ◌≤◌, ◌<◌, ◌⊎◌, ⊤, ℕ, zero, suc, ◌+◌, ◌*◌, Bool, true, false, ◌&&◌, ◌||◌, List, [], ◌∷◌, ◌++◌, length, drop, Option, None, Some, slice_get}
 use Rattle.outside.specs.Library.{Holdings, FoundMore}
 use Rattle.tptp_token.specs.Lexemes.{Lexeme}
 use Rattle.tptp_token.specs.Lexing.{lexed_of}
 use Rattle.tptp_token.specs.declared.token.Token.{Token}
-use Rattle.tptp_token.specs.declared.token.Lexed.{Lexed}
 use Rattle.tptp_token.specs.declared.token.LexFault.{LexFault}
 use Rattle.tptp_tree.specs.Spelling.{Word, name_of}
 use Rattle.tptp_tree.specs.Entries.{NamePhrase, names_meant}

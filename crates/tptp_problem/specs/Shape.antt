@@ -1,5 +1,5 @@
 -- What the program's values are in the words of the definitions.
-use Rattle.std.specs.Prelude.{◌≡◌, ◌≤◌, ⊤, ℕ, List, map, length, drop}
+use Rattle.std.specs.Prelude.{◌≡◌, ◌≤◌, ⊤, ℕ, List, map, length}
 use Rattle.outside.specs.Faults.{Rose}
 use Rattle.std.specs.Prelude.{Option, IfSome}
 use Rattle.tptp_token.specs.Lexemes.{Lexeme, lexeme_at}

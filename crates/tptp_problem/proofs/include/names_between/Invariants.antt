@@ -1,4 +1,4 @@
-use Rattle.std.proofs.Common.{◌-◌, ◌≤◌, ◌+◌, ◌⊎◌}
+use Rattle.std.proofs.Common.{◌-◌}
 use Rattle.tptp_problem.specs.Awaiting.{StillReads}
 use Rattle.tptp_problem.specs.Shape.{lexemes_told}
 use Rattle.tptp_problem.proofs.include.names_between.Given as goal

@@ -1,5 +1,4 @@
-use Rattle.std.proofs.Common.{◌≡◌, ◌∙◌, ◌-◌, ◌<◌, ◌≤◌, ℕ, List, length, get_or, take, ap, subst, arith}
-use Rattle.std.proofs.lemmas.Str.{IsUtf8-had}
+use Rattle.std.proofs.Common.{◌≡◌, ◌∙◌, ◌-◌, ◌<◌, ◌≤◌, ℕ, List, get_or, take, ap, subst, arith}
 use Rattle.tptp_problem.proofs.NameLemmas.{folder-boundary, folder-is}
 use Rattle.tptp_problem.proofs.name.folder_of.Goals as goal
 

@@ -1,11 +1,10 @@
-use Rattle.std.proofs.Common.{◌≡◌, ◌++◌, ◌∷◌, [], List, ℕ, map, refl, ap, sym, ◌∙◌, subst, arith, length}
+use Rattle.std.proofs.Common.{◌++◌, ◌∷◌, [], List, ℕ, map, ap, sym, ◌∙◌, subst, arith, length}
 use Rattle.std.specs.Str.{IsAscii}
 use Rattle.std.proofs.lemmas.Str.{IsUtf8-from_ascii}
 use Rattle.tptp_tree.specs.declared.problem.Annotated.{Annotated}
 use Rattle.tptp_problem.specs.Files.{loaded_name}
 use Rattle.tptp_problem.specs.Formulas.{placed, missing, selected}
-use Rattle.tptp_problem.specs.Shape.{file_of, progress_of, selections}
-use Rattle.tptp_problem.specs.Problem.{ReadsNamed}
+use Rattle.tptp_problem.specs.Shape.{progress_of, selections}
 use Rattle.tptp_problem.proofs.FaultLemmas.{halt-then}
 use Rattle.tptp_problem.proofs.FileLemmas.{missing-within, Included, one-less, included-fault, missing-fault, include-step, include-on, formula-on}
 use Rattle.tptp_problem.proofs.HaltLemmas.{passed}
