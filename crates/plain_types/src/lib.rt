@@ -1,9 +1,12 @@
 // Small types that crates with and without trees share: want of memory, and plain lists.
 #![tactic(auto)]
 
+pub mod laws;
+mod limits;
 mod memory;
 mod sequence;
 
+pub use limits::{DEFAULT_INFERENCES, MOST_INFERENCES, MOST_WORKERS};
 pub use memory::{Mem, NoMemory};
 pub use sequence::{NameLit, Names, Numbers, Parts, Sequence, Text, Texts};
 
@@ -19,6 +22,10 @@ mod tests {
         }
         assert_eq!(rt; numbers.len(), 3);
         assert!(rt; numbers.as_slice() == [3, 1, 2].as_slice());
+        assert!(rt; !numbers.is_empty());
+        assert!(rt; numbers.iter().any(|number| *number == 1));
+        let copy = numbers.copy(rt.alloc()).expect(&rt, "memory");
+        assert!(rt; copy.as_slice() == numbers.as_slice());
         let text = Text::from_slice(rt.alloc(), b"abc").expect(&rt, "memory");
         let bytes = text.into_vec();
         assert!(rt; bytes.as_slice() == b"abc".as_slice());

@@ -1,10 +1,13 @@
 // Plain lists that contracts see as lists.
 
-ghost use Rattle.std.specs.Prelude.{◌≡◌, ◌<◌, List, [], ◌∷◌, ◌++◌, length, IfOk, OnErr, slice_get};
+ghost use Rattle.std.specs.Prelude.{◌≡◌, ◌<◌, ◌^◌, ◌↔◌, List, [], ◌∷◌, ◌++◌, length, IfOk, OnErr, IsTrue};
+ghost use Rattle.std.specs.Slice.Iter.{iter_rest};
+ghost use Rattle.std.specs.Iterator.Adapters.{IterYieldsInOrder, IterYieldsInReverse};
 
 use crate::memory::Mem;
 use std::alloc::Global;
 use std::marker::Model;
+use std::slice::Iter;
 
 /// A list of values of one kind, over a vector.
 #[derive(Drop)]
@@ -71,11 +74,29 @@ impl<T> Sequence<T> {
         self.items.as_slice()
     }
 
+    /// The elements, lent one after another.
+    pub fn iter(&self) -> Iter<'_, T>
+        ensures rest { iter_rest result ≡ self.now }
+        ensures len { length (iter_rest result) ≡ length self.now }
+        ensures bound { length (iter_rest result) < 2 ^ 64 }
+        ensures runs { IterYieldsInOrder T }
+        ensures runs_back { IterYieldsInReverse T }
+    {
+        self.items.iter()
+    }
+
     /// How many elements there are.
     pub fn len(&self) -> usize
         ensures { result ≡ length self.now }
     {
         self.items.len()
+    }
+
+    /// Whether there are none.
+    pub fn is_empty(&self) -> bool
+        ensures { IsTrue result ↔ (self.now ≡ []) }
+    {
+        self.items.is_empty()
     }
 }
 
@@ -98,5 +119,12 @@ impl<T: Copy> Sequence<T> {
         let mut list = Vec::new(alloc);
         list.extend_from_slice(items)?;
         Ok(Sequence { items: list })
+    }
+
+    /// An equal list.
+    pub fn copy(&self, alloc: Global) -> Mem<Sequence<T>>
+        ensures { IfOk result (λ list. list ≡ self.now) }
+    {
+        Sequence::from_slice(alloc, self.as_slice())
     }
 }
