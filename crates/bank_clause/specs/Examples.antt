@@ -1,6 +1,6 @@
 -- Worked examples: the clause p(X0) | X0 != a with the assertion of the name 3, in a bank that has its four sides.
 use Rattle.std.specs.Prelude.{◌≡◌, ℕ, true, false, [], ◌∷◌}
-use Rattle.fol_base.specs.Interpretation.{true_tree}
+use Rattle.fol_base.specs.Tree.{true_tree}
 use Rattle.fol_base.specs.Clause.{TreeClause}
 use Rattle.fol_base.specs.Examples.{x, a, p, disequation}
 use Rattle.term_bank.specs.Bank.{tree_in, AreOf}

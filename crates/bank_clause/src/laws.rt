@@ -2,8 +2,9 @@
 // without arguments and with empty bodies.
 
 ghost use Rattle.std.specs.Prelude.{◌≡◌, [], ◌∷◌};
-ghost use Rattle.fol_base.specs.Interpretation.{true_tree};
-ghost use Rattle.fol_base.specs.Examples.{x, a, p, positive_name};
+ghost use Rattle.fol_base.specs.Tree.{true_tree};
+ghost use Rattle.fol_base.specs.Examples.{x, a, p};
+ghost use Rattle.plain_types.specs.Examples.{positive_name};
 ghost use Rattle.bank_clause.specs.Clause.{assertion, IsCanonical, AreAssertions, sides};
 ghost use Rattle.bank_clause.specs.Examples.{CountsNoNames, IsOfItsBank, StandsForRow, row, row_of_another};
 ghost use Rattle.bank_clause.specs.Laws.{

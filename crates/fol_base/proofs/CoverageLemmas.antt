@@ -5,7 +5,8 @@ use Rattle.std.proofs.lemmas.Bool.{and_parts, and_from}
 use Rattle.std.proofs.lemmas.List.Folds.{list_all-append}
 use Rattle.std.proofs.lemmas.List.Elements.{All-nil, All-cons, All-head, All-tail, All-append, All-contains}
 use Rattle.fol_base.specs.Clause.{TreeClause}
-use Rattle.fol_base.specs.Ground.{FunctionSymbol, GroundClause, GroundInstance, is_ground_clause}
+use Rattle.fol_base.specs.Ground.{GroundClause, GroundInstance, is_ground_clause}
+use Rattle.fol_base.specs.Symbols.{FunctionSymbols}
 use Rattle.fol_base.specs.Interpretation.{Interpretation, IsInterpretation, clause_true, clauses_true}
 use Rattle.fol_base.specs.Order.{clause_greater}
 use Rattle.fol_base.specs.Covered.{InstanceOf, Covered, CoversInstances, CoversMore, CoversAcross}
@@ -15,8 +16,8 @@ use Rattle.fol_base.proofs.ClauseOrderLemmas.{not_greater_is_transitive}
 
 -- a clause covers its ground instances
 pub Covered-instance :
-    (is_predicate : ℕ → Bool) (functions : List FunctionSymbol) (Holds : TreeClause → Type 0) (c : TreeClause) (g : GroundClause)
-    → Holds c → GroundInstance functions c g → Covered is_predicate functions Holds g
+    (is_predicate : ℕ → Bool) (functions : FunctionSymbols is_predicate) (Holds : TreeClause → Type 0) (c : TreeClause) (g : GroundClause)
+    → Holds c → GroundInstance functions c g → Covered functions Holds g
 Covered-instance is_predicate functions Holds c g holds made = record {
   by = g ∷ [];
   instances = All-cons (InstanceOf functions Holds) g [] (record { clause = c; holds = holds; is_instance = made }) (All-nil (InstanceOf functions Holds));
@@ -26,8 +27,8 @@ Covered-instance is_predicate functions Holds c g holds made = record {
 
 -- more clauses cover no less
 pub Covered-more :
-    (is_predicate : ℕ → Bool) (functions : List FunctionSymbol) (Few Many : TreeClause → Type 0) (c : GroundClause)
-    → ((d : TreeClause) → Few d → Many d) → Covered is_predicate functions Few c → Covered is_predicate functions Many c
+    (is_predicate : ℕ → Bool) (functions : FunctionSymbols is_predicate) (Few Many : TreeClause → Type 0) (c : GroundClause)
+    → ((d : TreeClause) → Few d → Many d) → Covered functions Few c → Covered functions Many c
 Covered-more is_predicate functions Few Many c more covered = record {
   by = covered.by;
   instances = λ k d in_range.
@@ -38,24 +39,25 @@ Covered-more is_predicate functions Few Many c more covered = record {
 }
 
 InstanceOf-ground :
-    (functions : List FunctionSymbol) (Holds : TreeClause → Type 0) (g : GroundClause) → InstanceOf functions Holds g → is_ground_clause g ≡ true
-InstanceOf-ground functions Holds g it = ground_instances_are_ground functions it.clause g it.is_instance
+    (is_predicate : ℕ → Bool) (functions : FunctionSymbols is_predicate) (Holds : TreeClause → Type 0) (g : GroundClause)
+    → InstanceOf functions Holds g → is_ground_clause g ≡ true
+InstanceOf-ground is_predicate functions Holds g it = ground_instances_are_ground is_predicate functions it.clause g it.is_instance
 
 -- a clause below c that is covered
-record Below (is_predicate : ℕ → Bool) (functions : List FunctionSymbol) (Holds : TreeClause → Type 0) (c : GroundClause) (g : GroundClause) : Type 0 where
-  covered : Covered is_predicate functions Holds g
+record Below (is_predicate : ℕ → Bool) (functions : FunctionSymbols is_predicate) (Holds : TreeClause → Type 0) (c : GroundClause) (g : GroundClause) : Type 0 where
+  covered : Covered functions Holds g
   is_ground : is_ground_clause g ≡ true
   not_greater : clause_greater g c ≡ false
 
 -- what covers all clauses of a list
-record Together (is_predicate : ℕ → Bool) (functions : List FunctionSymbol) (Holds : TreeClause → Type 0) (c : GroundClause) (gs : List GroundClause) : Type 0 where
+record Together (is_predicate : ℕ → Bool) (functions : FunctionSymbols is_predicate) (Holds : TreeClause → Type 0) (c : GroundClause) (gs : List GroundClause) : Type 0 where
   by : List GroundClause
   instances : All (InstanceOf functions Holds) by
   none_greater : All (λ h. clause_greater h c ≡ false) by
   entail : (i : Interpretation) → IsInterpretation is_predicate i → clauses_true i by ≡ true → clauses_true i gs ≡ true
 
 together :
-    (is_predicate : ℕ → Bool) (functions : List FunctionSymbol) (Holds : TreeClause → Type 0) (c : GroundClause)
+    (is_predicate : ℕ → Bool) (functions : FunctionSymbols is_predicate) (Holds : TreeClause → Type 0) (c : GroundClause)
     → is_ground_clause c ≡ true
     → (gs : List GroundClause) → All (Below is_predicate functions Holds c) gs → Together is_predicate functions Holds c gs
 together is_predicate functions Holds c c_ground [] all = record {
@@ -71,7 +73,7 @@ together is_predicate functions Holds c c_ground (g ∷ gs) all =
     let front : List GroundClause = here.covered.by in
     let front_below : All (λ h. clause_greater h c ≡ false) front = λ k d in_range.
     not_greater_is_transitive (get_or front k d) g c
-    (InstanceOf-ground functions Holds (get_or front k d) (here.covered.instances k d in_range))
+    (InstanceOf-ground is_predicate functions Holds (get_or front k d) (here.covered.instances k d in_range))
     here.is_ground c_ground (here.covered.none_greater k d in_range) here.not_greater in
     record {
       by = front ++ rest.by;
@@ -84,18 +86,18 @@ together is_predicate functions Holds c c_ground (g ∷ gs) all =
 
 -- what is covered by clauses whose ground instances are covered is covered
 pub Covered-across :
-    (is_predicate : ℕ → Bool) (functions : List FunctionSymbol) (Middle Holds : TreeClause → Type 0) (c : GroundClause)
+    (is_predicate : ℕ → Bool) (functions : FunctionSymbols is_predicate) (Middle Holds : TreeClause → Type 0) (c : GroundClause)
     → IsTrue (is_ground_clause c)
-    → ((d : TreeClause) → Middle d → (g : GroundClause) → GroundInstance functions d g → Covered is_predicate functions Holds g)
-    → Covered is_predicate functions Middle c
-    → Covered is_predicate functions Holds c
+    → ((d : TreeClause) → Middle d → (g : GroundClause) → GroundInstance functions d g → Covered functions Holds g)
+    → Covered functions Middle c
+    → Covered functions Holds c
 Covered-across is_predicate functions Middle Holds c c_ground each covered =
     let all : Together is_predicate functions Holds c covered.by =
     together is_predicate functions Holds c c_ground covered.by (λ k d in_range.
     let it : InstanceOf functions Middle (get_or covered.by k d) = covered.instances k d in_range in
     record {
       covered = each it.clause it.holds (get_or covered.by k d) it.is_instance;
-      is_ground = InstanceOf-ground functions Middle (get_or covered.by k d) it;
+      is_ground = InstanceOf-ground is_predicate functions Middle (get_or covered.by k d) it;
       not_greater = covered.none_greater k d in_range;
     }) in
     record {

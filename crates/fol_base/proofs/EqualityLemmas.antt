@@ -1,7 +1,8 @@
 -- Lists of different lengths aren't equal.
 use Rattle.std.proofs.Common.{◌≡◌, suc, Bool, true, false, ◌&&◌, List, [], ◌∷◌, length, refl, ap, ◌∙◌}
 use Rattle.plain_types.specs.declared.sequence.NameLit.{NameLit}
-use Rattle.fol_base.specs.Clause.{TreeLiteral, literal_eq, literals_eq, name_eq, names_eq}
+use Rattle.fol_base.specs.Clause.{TreeLiteral, literal_eq, literals_eq, names_eq}
+use Rattle.plain_types.specs.Names.{same_name}
 
 and_false : (b : Bool) → false ≡ (b && false)
 and_false true = refl
@@ -19,4 +20,4 @@ names_eq-lengths [] [] h = absurd (h refl)
 names_eq-lengths [] (m ∷ ms) h = refl
 names_eq-lengths (n ∷ ns) [] h = refl
 names_eq-lengths (n ∷ ns) (m ∷ ms) h =
-    and_false (name_eq n m) ∙ ap (λ b. name_eq n m && b) (names_eq-lengths ns ms (λ e. h (ap suc e)))
+    and_false (same_name n m) ∙ ap (λ b. same_name n m && b) (names_eq-lengths ns ms (λ e. h (ap suc e)))

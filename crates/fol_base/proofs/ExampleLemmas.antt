@@ -5,7 +5,8 @@ use Rattle.std.proofs.lemmas.Bool.{and_parts, or_right}
 use Rattle.std.proofs.lemmas.List.Elements.{All-head, All-cons, All-nil}
 use Rattle.fol_base.specs.Clause.{TreeClause}
 use Rattle.fol_base.specs.Ground.{GroundClause, GroundInstance, literals_instance}
-use Rattle.fol_base.specs.Interpretation.{Interpretation, true_tree, literal_true, clause_true}
+use Rattle.fol_base.specs.Interpretation.{Interpretation, literal_true, clause_true}
+use Rattle.fol_base.specs.Tree.{true_tree}
 use Rattle.fol_base.specs.Entails.{Entails, IsRefuted}
 use Rattle.fol_base.specs.Order.{clause_greater}
 use Rattle.fol_base.specs.Selection.{select_nothing, select_negative}
@@ -48,7 +49,6 @@ inner_rewritten = record {
   from_side = Left;
   from = equation (f (x 0)) b;
   from_there = refl;
-  from_positive = refl;
   from_falls = refl;
   from_eligible = record { nothing_chosen = refl; is_eligible = refl };
   j = 0;
@@ -61,7 +61,6 @@ inner_rewritten = record {
   old = f (x 0);
   old_there = refl;
   old_no_variable = refl;
-  old_is_s = refl;
   concludes = refl;
 }
 
@@ -85,10 +84,6 @@ chosen_dropped = record {
   trees = all_a;
   trees_ground = λ v. refl;
   i = 1;
-  literal = disequation (x 0) a;
-  literal_there = refl;
-  literal_negative = refl;
-  sides_same = refl;
   literal_eligible = refl;
   concludes = refl;
 }
@@ -104,16 +99,10 @@ greater_factored = record {
   side_i = Left;
   literal_i = equation (f a) b;
   i_there = refl;
-  i_positive = refl;
   i_falls = refl;
   i_eligible = record { nothing_chosen = refl; is_eligible = refl };
   j = 0;
   side_j = Left;
-  literal_j = equation (f (x 0)) a;
-  j_there = refl;
-  j_positive = refl;
-  different = λ e. absurd (omega (arith, e));
-  same_side = refl;
   concludes = refl;
 }
 
@@ -131,7 +120,7 @@ InstanceOfListed listed g = InstanceOf functions (Contains (clause listed ∷ []
 abbrev NotGreater : GroundClause → GroundClause → Type 0
 NotGreater bound g = clause_greater g bound ≡ false
 
-pub repeated_by_single : Covers is_predicate functions (clause single ∷ []) repeated
+pub repeated_by_single : Covers functions (clause single ∷ []) repeated
 repeated_by_single = record {
   by = single ∷ [];
   instances =
@@ -161,7 +150,7 @@ instance_is_greater g it not_greater =
 abbrev nothing_true : Interpretation
 nothing_true = record { size = 1; rows = [] }
 
-pub single_not_by_repeated : Covers is_predicate functions (clause repeated ∷ []) single → ⊥
+pub single_not_by_repeated : Covers functions (clause repeated ∷ []) single → ⊥
 single_not_by_repeated covered = none covered.by covered.instances covered.none_greater covered.entailed
   where
     none : (by : List GroundClause) → All (InstanceOfListed repeated) by → All (NotGreater single) by → Entails is_predicate by single → ⊥

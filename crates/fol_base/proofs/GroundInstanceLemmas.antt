@@ -5,13 +5,14 @@ use Rattle.std.specs.List.{list_any, AllByRecursion}
 use Rattle.std.proofs.lemmas.Bool.{and_parts, and_from, or_left, or_right, eqb-true, true≢false, cond_both, cond-true, cond-false, cases_Bool, eq-eqb}
 use Rattle.std.proofs.lemmas.Map.Views.{any-filter_same}
 use Rattle.std.proofs.lemmas.List.Elements.{recursion_from_All}
-use Rattle.fol_base.specs.Tree.{Tree, variable, application, Trees, no_trees, tree_then}
+use Rattle.fol_base.specs.Tree.{Tree, variable, application, Trees, no_trees, tree_then, trees_count}
 use Rattle.fol_base.specs.Instance.{Substitution, instance, instances}
 use Rattle.fol_base.specs.Clause.{clause_variables}
 use Rattle.fol_base.specs.Canonical.{distinct, place_of, renaming}
-use Rattle.fol_base.specs.Ground.{FunctionSymbol, has_symbol, trees_count, is_ground, is_over, are_over, ground_over, IsGroundOver}
+use Rattle.fol_base.specs.Ground.{has_symbol, is_ground, is_over, are_over, ground_over}
+use Rattle.fol_base.specs.Symbols.{FunctionSymbol}
 use Rattle.fol_base.specs.InstanceLaws.{after, GroundInstancesOfInstances, GroundInstancesOfCanonical}
-use Rattle.fol_base.proofs.MeaningLemmas.{is_ground-instance}
+use Rattle.fol_base.proofs.MeaningLemmas.{PutsGround, is_ground-instance}
 use Rattle.fol_base.proofs.InstanceLemmas.{Agree, literals_instance-again, literals-agree}
 
 -- ---- over a list
@@ -22,7 +23,7 @@ trees_count-instances σ (tree_then t ts) = omega (arith, trees_count-instances 
 
 mutual
   pub is_over-instance :
-      (functions : List FunctionSymbol) (σ : Substitution) → IsGroundOver functions σ
+      (functions : List FunctionSymbol) (σ : Substitution) → PutsGround functions σ
       → (t : Tree) → is_over functions t ≡ true → is_over functions (instance σ t) ≡ true
   is_over-instance functions σ h (variable v) over = (and_parts (is_ground (σ v)) (is_over functions (σ v)) (h v)).1
   is_over-instance functions σ h (application f ts) over =
@@ -31,7 +32,7 @@ mutual
       (ap (has_symbol functions f) (trees_count-instances σ ts) ∙ parts.0) (are_over-instances functions σ h ts parts.1)
 
   are_over-instances :
-      (functions : List FunctionSymbol) (σ : Substitution) → IsGroundOver functions σ
+      (functions : List FunctionSymbol) (σ : Substitution) → PutsGround functions σ
       → (ts : Trees) → are_over functions ts ≡ true → are_over functions (instances σ ts) ≡ true
   are_over-instances functions σ h no_trees over = refl
   are_over-instances functions σ h (tree_then t ts) over =
@@ -40,7 +41,7 @@ mutual
       (is_over-instance functions σ h t parts.0) (are_over-instances functions σ h ts parts.1)
 
 pub ground_over-instance :
-    (functions : List FunctionSymbol) (σ : Substitution) → IsGroundOver functions σ
+    (functions : List FunctionSymbol) (σ : Substitution) → PutsGround functions σ
     → (t : Tree) → is_over functions t ≡ true → ground_over functions (instance σ t) ≡ true
 ground_over-instance functions σ h t over =
     and_from (is_ground (instance σ t)) (is_over functions (instance σ t)) (is_ground-instance functions σ h t) (is_over-instance functions σ h t over)
@@ -57,19 +58,19 @@ agree-everywhere σ τ P h [] all = tt
 agree-everywhere σ τ P h (v ∷ vs) all = (h v all.0, agree-everywhere σ τ P h vs all.1)
 
 pub ground_instances_of_instances : GroundInstancesOfInstances
-ground_instances_of_instances functions τ c g over made =
+ground_instances_of_instances is_predicate functions τ c g over made =
     let σ : Substitution = made.trees in record {
-      trees = put_in functions σ τ;
+      trees = put_in functions.symbols σ τ;
       trees_ground = λ v.
-          cond_both (is_over functions (τ v)) (instance σ (τ v)) (σ v) (λ t. ground_over functions t ≡ true)
-          (λ e. ground_over-instance functions σ made.trees_ground (τ v) e)
+          cond_both (is_over functions.symbols (τ v)) (instance σ (τ v)) (σ v) (λ t. ground_over functions.symbols t ≡ true)
+          (λ e. ground_over-instance functions.symbols σ made.trees_ground (τ v) e)
           (λ e. made.trees_ground v);
       literals =
           made.literals ∙ literals_instance-again σ τ c.literals
-          ∙ literals-agree (after σ τ) (put_in functions σ τ) c.literals
-          (agree-everywhere (after σ τ) (put_in functions σ τ) (λ v. is_over functions (τ v) ≡ true)
-          (λ v e. sym (cond-true (is_over functions (τ v)) (instance σ (τ v)) (σ v) e))
-          (clause_variables c) (recursion_from_All (λ v. is_over functions (τ v) ≡ true) (clause_variables c) over));
+          ∙ literals-agree (after σ τ) (put_in functions.symbols σ τ) c.literals
+          (agree-everywhere (after σ τ) (put_in functions.symbols σ τ) (λ v. is_over functions.symbols (τ v) ≡ true)
+          (λ v e. sym (cond-true (is_over functions.symbols (τ v)) (instance σ (τ v)) (σ v) e))
+          (clause_variables c) (recursion_from_All (λ v. is_over functions.symbols (τ v) ≡ true) (clause_variables c) over));
     }
 
 -- ---- canonical forms
@@ -123,7 +124,7 @@ by_place-renaming order σ v h =
     ap (λ o. by_place order σ (unwrap_or o v)) r.1 ∙ ap σ (r.2 r.0)
 
 pub ground_instances_of_canonical : GroundInstancesOfCanonical
-ground_instances_of_canonical functions c g =
+ground_instances_of_canonical is_predicate functions c g =
     let order : List ℕ = distinct (clause_variables c) in
     let ρ : Substitution = renaming order in (
       λ made.

@@ -7,7 +7,7 @@ use Rattle.fol_base.specs.Tree.{Tree}
 use Rattle.fol_base.specs.Instance.{Substitution, instance}
 use Rattle.fol_base.specs.Place.{replaced}
 use Rattle.fol_base.specs.Clause.{TreeLiteral, literal_instance}
-use Rattle.fol_base.specs.GroundInference.{side_of, other_side_of, with_side}
+use Rattle.fol_base.specs.Sides.{side_of, other_side_of, with_side}
 use Rattle.fol_base.specs.InstanceLaws.{SuperpositionsInInstances, FactoringsInInstances}
 use Rattle.fol_base.specs.declared.clause.Side.{Side}
 use Rattle.fol_base.specs.declared.clause.Side.TheVariants.{Left, Right}

@@ -2,11 +2,10 @@
 use Rattle.std.proofs.Common.{◌≡◌, ◌⊎◌, inl, inr, ℕ, zero, suc, true, List, [], ◌∷◌, refl, sym, ap, ◌∙◌, arith, true≢false}
 use Rattle.std.specs.Prelude.{Some, IsTrue, ◌&&◌}
 use Rattle.std.proofs.lemmas.Bool.{and_parts, or_cases}
-use Rattle.fol_base.specs.Tree.{Tree, application, tree_then, tree_size, tree_eq}
+use Rattle.fol_base.specs.Tree.{Tree, application, tree_then, tree_size, tree_eq, true_tree}
 use Rattle.fol_base.specs.Instance.{Substitution, instance}
 use Rattle.fol_base.specs.Unifier.{IsUnifier, IsUnifierApart, IsMostGeneralUnifier, IsMostGeneralUnifierApart}
 use Rattle.fol_base.specs.Subsumption.{Subsumes, is_there, stand_at}
-use Rattle.fol_base.specs.Interpretation.{true_tree}
 use Rattle.fol_base.specs.Kind.{is_function_term}
 use Rattle.fol_base.proofs.OrderLemmas.{tree_eq-says}
 use Rattle.fol_base.specs.Examples.{x, a, b, f, f₂, p, q, r, equation, clause, is_predicate, all_a, first_is, even, odd, first_is_a}

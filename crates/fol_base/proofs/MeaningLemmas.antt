@@ -5,17 +5,22 @@ use Rattle.std.proofs.lemmas.Bool.{and_parts, and_from, or_cases, or_left, or_ri
 use Rattle.std.proofs.lemmas.Option.{option_and_then_some, same_Some}
 use Rattle.std.proofs.lemmas.List.Elements.{All-contains}
 use Rattle.std.proofs.lemmas.List.Sums.{AllPass-from_list_all, list_all-from_AllPass}
-use Rattle.fol_base.specs.Tree.{Tree, variable, application, Trees, no_trees, tree_then, trees_of, list_of}
+use Rattle.fol_base.specs.Tree.{Tree, variable, application, Trees, no_trees, tree_then, trees_of, list_of, trees_count}
 use Rattle.fol_base.specs.Instance.{Substitution, instance, instances}
 use Rattle.fol_base.specs.Place.{argument, with_argument, subterm, replaced}
 use Rattle.fol_base.specs.Clause.{literal_instance}
-use Rattle.fol_base.specs.Ground.{FunctionSymbol, has_symbol, has_constant, trees_count, is_ground, are_ground, is_over, are_over, IsGroundOver, is_ground_literal, is_ground_clause, ConstantsGiveGroundTrees, GroundInstancesAreGround}
+use Rattle.fol_base.specs.Ground.{has_symbol, has_constant, is_ground, are_ground, is_over, are_over, ground_over, is_ground_literal, is_ground_clause, ConstantsGiveGroundTrees, GroundInstancesAreGround}
+use Rattle.fol_base.specs.Symbols.{FunctionSymbol}
 use Rattle.fol_base.specs.Interpretation.{Interpretation, symbol_value, Assignment, tree_value, trees_values, sides_true, literal_true_under, no_values, clause_true, CongruenceOfValues, ValuesOfInstances, TruthOfInstances, TruthOfGroundClauses}
 use Rattle.fol_base.specs.Entails.{EntailsMonotone, EntailsCut}
 use Rattle.fol_base.proofs.TreeLemmas.{trees_of-list_of}
 use Rattle.fol_base.proofs.TestLemmas.{list_any-weaker, list_any-agree, list_any-map, list_all-map_true, option_map-some}
 
 -- ---- ground trees
+
+-- each variable becomes a ground tree over the list, whatever symbols it has
+abbrev pub PutsGround : List FunctionSymbol → Substitution → Type 0
+PutsGround functions σ = (v : ℕ) → ground_over functions (σ v) ≡ true
 
 symbol-constant : (functions : List FunctionSymbol) (f : ℕ) → has_symbol functions f 0 ≡ true → has_constant functions ≡ true
 symbol-constant functions f h =
@@ -53,20 +58,20 @@ constants_give_ground_trees functions = (
 
 mutual
   pub is_ground-instance :
-      (functions : List FunctionSymbol) (σ : Substitution) → IsGroundOver functions σ → (t : Tree) → is_ground (instance σ t) ≡ true
+      (functions : List FunctionSymbol) (σ : Substitution) → PutsGround functions σ → (t : Tree) → is_ground (instance σ t) ≡ true
   is_ground-instance functions σ h (variable v) = (and_parts (is_ground (σ v)) (is_over functions (σ v)) (h v)).0
   is_ground-instance functions σ h (application f ts) = are_ground-instances functions σ h ts
 
   are_ground-instances :
-      (functions : List FunctionSymbol) (σ : Substitution) → IsGroundOver functions σ → (ts : Trees) → are_ground (instances σ ts) ≡ true
+      (functions : List FunctionSymbol) (σ : Substitution) → PutsGround functions σ → (ts : Trees) → are_ground (instances σ ts) ≡ true
   are_ground-instances functions σ h no_trees = refl
   are_ground-instances functions σ h (tree_then t ts) =
       and_from (is_ground (instance σ t)) _ (is_ground-instance functions σ h t) (are_ground-instances functions σ h ts)
 
 pub ground_instances_are_ground : GroundInstancesAreGround
-ground_instances_are_ground functions c g made =
+ground_instances_are_ground is_predicate functions c g made =
     let σ = made.trees in
-    let ground : (t : Tree) → is_ground (instance σ t) ≡ true = is_ground-instance functions σ made.trees_ground in
+    let ground : (t : Tree) → is_ground (instance σ t) ≡ true = is_ground-instance functions.symbols σ made.trees_ground in
     ap is_ground_clause made.literals
     ∙ list_all-map_true is_ground_literal (literal_instance σ)
     (λ l. and_from (is_ground (instance σ l.left)) _ (ground l.left) (ground l.right)) c.literals

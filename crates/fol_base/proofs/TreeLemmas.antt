@@ -2,8 +2,7 @@
 use Rattle.std.proofs.Common.{◌≡◌, ℕ, zero, suc, ◌+◌, ◌<◌, ◌≤◌, List, [], ◌∷◌, ◌++◌, Bool, true, false, ◌&&◌, ◌==◌, length, map, get_or, refl, ap, sym, ◌∙◌, arith, eq-eqb}
 use Rattle.std.proofs.lemmas.Bool.{eqb-true}
 use Rattle.std.proofs.Math.Dec.{eqb-suc-zero}
-use Rattle.fol_base.specs.GroundForm.{is_truth}
-use Rattle.fol_base.specs.Tree.{Tree, variable, application, Trees, no_trees, tree_then, trees_of, list_of, tree_size, trees_size, tree_eq, trees_eq}
+use Rattle.fol_base.specs.Tree.{is_truth, Tree, variable, application, Trees, no_trees, tree_then, trees_of, list_of, tree_size, trees_size, tree_eq, trees_eq}
 use Rattle.fol_base.specs.Instance.{Substitution, instance, instances}
 
 pub list_of-trees_of : (ts : List Tree) → list_of (trees_of ts) ≡ ts

@@ -2,6 +2,7 @@
 use mathlib.Core.Bool.{beq}
 use Rattle.std.specs.Prelude.{ℕ, ◌+◌, Bool, true, false, ◌&&◌, ◌==◌, List, [], ◌∷◌, ◌++◌, map, flat_map, sum_by, All}
 use Rattle.plain_types.specs.declared.sequence.NameLit.{NameLit}
+use Rattle.plain_types.specs.Names.{same_name}
 use Rattle.fol_base.specs.Tree.{Tree, tree_size, tree_eq, tree_variables, VariablesBelow}
 use Rattle.fol_base.specs.Instance.{Substitution, instance}
 
@@ -33,14 +34,11 @@ literals_eq [] (k ∷ ks) = false
 literals_eq (l ∷ ls) [] = false
 literals_eq (l ∷ ls) (k ∷ ks) = literal_eq l k && literals_eq ls ks
 
-abbrev pub name_eq : NameLit → NameLit → Bool
-name_eq n m = beq n.positive m.positive && (n.name == m.name)
-
 abbrev pub names_eq : List NameLit → List NameLit → Bool
 names_eq [] [] = true
 names_eq [] (m ∷ ms) = false
 names_eq (n ∷ ns) [] = false
-names_eq (n ∷ ns) (m ∷ ms) = name_eq n m && names_eq ns ms
+names_eq (n ∷ ns) (m ∷ ms) = same_name n m && names_eq ns ms
 
 -- the same literals and the same names, in the same order
 abbrev pub clause_eq : TreeClause → TreeClause → Bool

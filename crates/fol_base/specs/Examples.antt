@@ -1,11 +1,11 @@
 -- The symbols of the worked examples. Their numbers rise in the order a, b, c, f, g, p, q, r; the last three are predicates.
-use Rattle.std.specs.Prelude.{ℕ, zero, suc, Bool, true, false, ◌||◌, ◌==◌, List, [], ◌∷◌}
-use Rattle.plain_types.specs.declared.sequence.NameLit.{NameLit}
-use Rattle.fol_base.specs.Tree.{Tree, variable, application, no_trees, tree_then}
+use Rattle.std.specs.Prelude.{ℕ, zero, suc, Bool, true, false, ◌||◌, ◌==◌, nat_le, if◌then◌else◌, List, [], ◌∷◌, refl}
+use Rattle.fol_base.specs.Tree.{Tree, variable, application, no_trees, tree_then, true_tree}
 use Rattle.fol_base.specs.Instance.{Substitution}
 use Rattle.fol_base.specs.Clause.{TreeLiteral, TreeClause}
-use Rattle.fol_base.specs.Ground.{FunctionSymbol}
-use Rattle.fol_base.specs.Interpretation.{Interpretation, Row, true_tree}
+use Rattle.fol_base.specs.Symbols.{FunctionSymbol, FunctionSymbols}
+use Rattle.fol_base.specs.WellFormed.{SymbolUse}
+use Rattle.fol_base.specs.Interpretation.{Interpretation, Row}
 
 abbrev pub x : ℕ → Tree
 x v = variable v
@@ -52,8 +52,8 @@ abbrev pub is_predicate : ℕ → Bool
 is_predicate symbol = (symbol == 6) || ((symbol == 7) || (symbol == 8))
 
 -- a, b and f with one argument
-abbrev pub functions : List FunctionSymbol
-functions =
+abbrev pub symbols : List FunctionSymbol
+symbols =
     record { number = 1; arity = 0 }
     ∷ record { number = 2; arity = 0 }
     ∷ record { number = 4; arity = 1 }
@@ -61,17 +61,22 @@ functions =
 
 -- a predicate among them
 abbrev pub with_predicate : List FunctionSymbol
-with_predicate = record { number = 6; arity = 1 } ∷ functions
+with_predicate = record { number = 6; arity = 1 } ∷ symbols
+
+-- f with two numbers of arguments
+abbrev pub with_two_arities : List FunctionSymbol
+with_two_arities = record { number = 4; arity = 2 } ∷ symbols
+
+abbrev pub functions : FunctionSymbols is_predicate
+functions = record { symbols = symbols; functions_alone = refl; one_arity = refl }
+
+-- the examples' symbols as they are used: a, b and c have no argument, f, g, p and q one, r none
+abbrev pub use_of_symbols : SymbolUse
+use_of_symbols = record { is_predicate = is_predicate; arity = λ symbol. if (symbol == 0 || nat_le symbol 3) || symbol == 8 then 0 else 1 }
 
 -- a row at the value 0
 abbrev pub row : ℕ → ℕ → Row
 row symbol value = record { symbol = symbol; arguments = 0 ∷ []; value = value }
-
-abbrev pub positive_name : ℕ → NameLit
-positive_name n = record { positive = true; name = n }
-
-abbrev pub negative_name : ℕ → NameLit
-negative_name n = record { positive = false; name = n }
 
 -- each variable becomes a
 abbrev pub all_a : Substitution

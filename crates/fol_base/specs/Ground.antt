@@ -1,14 +1,10 @@
 -- Ground trees over a list of function symbols, and the ground instances of a clause (Herbrand 1930, Robinson 1965).
 use Rattle.std.specs.Prelude.{◌≡◌, ℕ, ◌+◌, Bool, true, false, ◌&&◌, ◌==◌, ◌↔◌, List, map, IsTrue}
 use Rattle.std.specs.List.{list_any, list_all}
-use Rattle.fol_base.specs.Tree.{Tree, variable, application, Trees, no_trees, tree_then}
+use Rattle.fol_base.specs.Tree.{Tree, variable, application, Trees, no_trees, tree_then, trees_count}
+use Rattle.fol_base.specs.Symbols.{FunctionSymbol, FunctionSymbols}
 use Rattle.fol_base.specs.Instance.{Substitution}
 use Rattle.fol_base.specs.Clause.{TreeLiteral, TreeClause, literal_instance}
-
--- a function symbol: its number, and how many arguments it takes
-pub record FunctionSymbol : Type 0 where
-  pub number : ℕ
-  pub arity : ℕ
 
 -- whether the list has this symbol with this number of arguments
 abbrev pub has_symbol : List FunctionSymbol → ℕ → ℕ → Bool
@@ -17,10 +13,6 @@ has_symbol functions f arity = list_any (λ s. (s.number == f) && (s.arity == ar
 -- whether it has a constant, a symbol without arguments: only then is any tree ground over it
 abbrev pub has_constant : List FunctionSymbol → Bool
 has_constant functions = list_any (λ s. s.arity == 0) functions
-
-abbrev pub trees_count : Trees → ℕ
-trees_count no_trees = 0
-trees_count (tree_then t ts) = 1 + trees_count ts
 
 -- no variables
 abbrev mutual
@@ -45,9 +37,9 @@ abbrev mutual
 abbrev pub ground_over : List FunctionSymbol → Tree → Bool
 ground_over functions t = is_ground t && is_over functions t
 
--- each variable becomes a ground tree over the list
-abbrev pub IsGroundOver : List FunctionSymbol → Substitution → Type 0
-IsGroundOver functions σ = (v : ℕ) → IsTrue (ground_over functions (σ v))
+-- each variable becomes a ground tree over the function symbols
+abbrev pub IsGroundOver : {is_predicate : ℕ → Bool} → FunctionSymbols is_predicate → Substitution → Type 0
+IsGroundOver functions σ = (v : ℕ) → IsTrue (ground_over functions.symbols (σ v))
 
 -- A ground clause is written as the list of its literals, a disjunction. The names of split-off parts are no part of it.
 abbrev pub GroundClause : Type 0
@@ -63,9 +55,9 @@ is_ground_clause c = list_all is_ground_literal c
 abbrev pub literals_instance : Substitution → List TreeLiteral → List TreeLiteral
 literals_instance σ ls = map (literal_instance σ) ls
 
--- g is an instance of c whose variables have become ground trees over the list. Only these trees have to be over it: the heads
--- of atoms are predicates, and the function symbols of c stay.
-pub record GroundInstance (functions : List FunctionSymbol) (c : TreeClause) (g : GroundClause) : Type 0 where
+-- g is an instance of c whose variables have become ground trees over the function symbols. Only these trees have to be over
+-- them: the heads of atoms are predicates, and the function symbols of c stay.
+pub record GroundInstance {is_predicate : ℕ → Bool} (functions : FunctionSymbols is_predicate) (c : TreeClause) (g : GroundClause) : Type 0 where
   pub trees : Substitution
   pub trees_ground : IsGroundOver functions trees
   pub literals : g ≡ literals_instance trees c.literals
@@ -80,4 +72,5 @@ ConstantsGiveGroundTrees =
 -- a ground instance has no variables
 abbrev pub GroundInstancesAreGround : Type 0
 GroundInstancesAreGround =
-    (functions : List FunctionSymbol) (c : TreeClause) (g : GroundClause) → GroundInstance functions c g → IsTrue (is_ground_clause g)
+    (is_predicate : ℕ → Bool) (functions : FunctionSymbols is_predicate) (c : TreeClause) (g : GroundClause)
+    → GroundInstance functions c g → IsTrue (is_ground_clause g)

@@ -1,19 +1,14 @@
 -- Ground clauses without equality.
 use Rattle.std.specs.Prelude.{◌≡◌, ℕ, Bool, false, not, ◌&&◌, ◌==◌, List, [], All, IsTrue, sum_by}
 use Rattle.std.specs.List.{list_all}
-use Rattle.fol_base.specs.Tree.{Tree, variable, application, tree_eq}
+use Rattle.fol_base.specs.Tree.{Tree, variable, application, true_symbol, is_truth}
 use Rattle.fol_base.specs.Clause.{TreeLiteral, TreeClause, clause_size}
 use Rattle.fol_base.specs.Ground.{are_ground}
-use Rattle.fol_base.specs.Interpretation.{true_tree}
-
--- whether a tree is `$true`
-abbrev pub is_truth : Tree → Bool
-is_truth t = tree_eq t true_tree
 
 -- a ground term whose head isn't `$true`
 abbrev pub is_ground_atom : Tree → Bool
 is_ground_atom (variable v) = false
-is_ground_atom (application f ts) = not (f == 0) && are_ground ts
+is_ground_atom (application f ts) = not (f == true_symbol) && are_ground ts
 
 -- an atom on the left and `$true` on the right
 abbrev pub is_atom_literal : TreeLiteral → Bool

@@ -1,13 +1,14 @@
 -- Laws of instances: one after another, their sizes and variables, their subterms, and the instances of canonical forms.
-use Rattle.std.specs.Prelude.{◌≡◌, ◌↔◌, ℕ, ◌+◌, ◌<◌, List, flat_map, sum_by, All, Some, IsTrue}
-use Rattle.fol_base.specs.Tree.{Tree, variable, application, Trees, no_trees, tree_then, tree_size, tree_variables, VariablesBelow}
+use Rattle.std.specs.Prelude.{◌≡◌, ◌↔◌, ◌⊎◌, ℕ, ◌+◌, ◌<◌, Bool, List, ◌++◌, flat_map, sum_by, All, Some, is_some, IsTrue, IsFalse}
+use Rattle.fol_base.specs.Tree.{Tree, variable, application, Trees, no_trees, tree_then, tree_size, tree_variables, VariablesBelow, is_variable, is_truth}
 use Rattle.fol_base.specs.Instance.{Substitution, instance}
 use Rattle.fol_base.specs.Place.{subterm, replaced}
 use Rattle.fol_base.specs.Clause.{TreeLiteral, TreeClause, clause_instance, clause_size, clause_variables}
 use Rattle.fol_base.specs.Canonical.{canonical_clause}
-use Rattle.fol_base.specs.Ground.{FunctionSymbol, is_over, GroundClause, GroundInstance, literals_instance}
+use Rattle.fol_base.specs.Ground.{is_over, GroundClause, GroundInstance, literals_instance}
+use Rattle.fol_base.specs.Symbols.{FunctionSymbols}
 use Rattle.fol_base.specs.Order.{occurrences}
-use Rattle.fol_base.specs.GroundInference.{superposed, factored}
+use Rattle.fol_base.specs.Rules.{superposed, resolved, factored, merged}
 use Rattle.fol_base.specs.declared.clause.Side.{Side}
 
 -- the second substitution after the first
@@ -40,8 +41,8 @@ ClauseInstancesOfInstances =
 -- a ground instance of an instance is one of the clause, where what was put in for its variables is over the list
 abbrev pub GroundInstancesOfInstances : Type 0
 GroundInstancesOfInstances =
-    (functions : List FunctionSymbol) (τ : Substitution) (c : TreeClause) (g : GroundClause)
-    → All (λ v. IsTrue (is_over functions (τ v))) (clause_variables c)
+    (is_predicate : ℕ → Bool) (functions : FunctionSymbols is_predicate) (τ : Substitution) (c : TreeClause) (g : GroundClause)
+    → All (λ v. IsTrue (is_over functions.symbols (τ v))) (clause_variables c)
     → GroundInstance functions (clause_instance τ c) g → GroundInstance functions c g
 
 -- what is put in for other variables doesn't count
@@ -86,21 +87,60 @@ ReplacementsInInstances =
     (σ : Substitution) (place : List ℕ) (new t made : Tree)
     → replaced place new t ≡ Some made → replaced place (instance σ new) (instance σ t) ≡ Some (instance σ made)
 
--- conclusions of instances are instances of conclusions
+-- A place of an instance is one of the term, with the instance of what stands there; or it is at a variable's place, or below one,
+-- and goes on in what is put in for the variable.
+pub record BelowVariable (σ : Substitution) (place : List ℕ) (t : Tree) (u : Tree) : Type 0 where
+  pub above : List ℕ
+  pub below : List ℕ
+  pub number : ℕ
+  pub whole : place ≡ above ++ below
+  pub variable_there : subterm above t ≡ Some (variable number)
+  pub goes_on : subterm below (σ number) ≡ Some u
+
+pub record AtPlaceOf (σ : Substitution) (place : List ℕ) (t : Tree) (u : Tree) : Type 0 where
+  pub old : Tree
+  pub there : subterm place t ≡ Some old
+  pub no_variable : IsFalse (is_variable old)
+  pub becomes : instance σ old ≡ u
+
+abbrev pub PlacesInInstances : Type 0
+PlacesInInstances =
+    (σ : Substitution) (place : List ℕ) (t u : Tree)
+    → subterm place (instance σ t) ≡ Some u → AtPlaceOf σ place t u ⊎ BelowVariable σ place t u
+
+-- a place has a subterm exactly where it can be replaced
+abbrev pub ReplacedWhereThere : Type 0
+ReplacedWhereThere = (place : List ℕ) (new t : Tree) → is_some (replaced place new t) ≡ is_some (subterm place t)
+
+-- no variable becomes `$true`
+abbrev pub PutsNoTruth : Substitution → Type 0
+PutsNoTruth σ = (v : ℕ) → IsFalse (is_truth (σ v))
+
+-- The conclusions of instances are the instances of conclusions. A side that is chosen has to stay one.
 abbrev pub SuperpositionsInInstances : Type 0
 SuperpositionsInInstances =
     (σ : Substitution) (first second made : List TreeLiteral) (i j : ℕ) (from_side into_side : Side) (place : List ℕ)
-    → superposed first i from_side second j into_side place ≡ Some made
+    → PutsNoTruth σ → superposed first i from_side second j into_side place ≡ Some made
     → superposed (literals_instance σ first) i from_side (literals_instance σ second) j into_side place ≡ Some (literals_instance σ made)
+
+abbrev pub ResolutionsInInstances : Type 0
+ResolutionsInInstances =
+    (σ : Substitution) (ls made : List TreeLiteral) (i : ℕ)
+    → resolved ls i ≡ Some made → resolved (literals_instance σ ls) i ≡ Some (literals_instance σ made)
 
 abbrev pub FactoringsInInstances : Type 0
 FactoringsInInstances =
     (σ : Substitution) (ls made : List TreeLiteral) (i j : ℕ) (side_i side_j : Side)
-    → factored ls i side_i j side_j ≡ Some made
+    → PutsNoTruth σ → factored ls i side_i j side_j ≡ Some made
     → factored (literals_instance σ ls) i side_i j side_j ≡ Some (literals_instance σ made)
+
+abbrev pub MergesInInstances : Type 0
+MergesInInstances =
+    (σ : Substitution) (ls made : List TreeLiteral) (i j : ℕ)
+    → merged ls i j ≡ Some made → merged (literals_instance σ ls) i j ≡ Some (literals_instance σ made)
 
 -- a clause's ground instances are those of its canonical form
 abbrev pub GroundInstancesOfCanonical : Type 0
 GroundInstancesOfCanonical =
-    (functions : List FunctionSymbol) (c : TreeClause) (g : GroundClause)
+    (is_predicate : ℕ → Bool) (functions : FunctionSymbols is_predicate) (c : TreeClause) (g : GroundClause)
     → GroundInstance functions c g ↔ GroundInstance functions (canonical_clause c) g

@@ -2,18 +2,11 @@
 use Rattle.std.specs.Prelude.{◌≡◌, ℕ, ◌≤◌, Bool, not, ◌&&◌, ◌==◌, nat_lt, if◌then◌else◌, List, [], ◌∷◌, Some, IsTrue}
 use Rattle.std.specs.List.{list_any, list_all}
 use lib.Pointwise.{pointwise}
-use Rattle.fol_base.specs.Tree.{Tree, variable, application, Trees, no_trees, tree_then}
+use Rattle.fol_base.specs.Tree.{Tree, variable, application, Trees, no_trees, tree_then, true_symbol}
 use Rattle.fol_base.specs.Instance.{Substitution, instance}
 use Rattle.fol_base.specs.Place.{subterm, replaced}
 use Rattle.fol_base.specs.Clause.{TreeLiteral}
 use Rattle.fol_base.specs.Ground.{GroundClause, is_ground_clause, literals_instance}
-
--- `$true`, the reserved symbol with which an atom is written as an equation
-abbrev pub true_symbol : ℕ
-true_symbol = 0
-
-abbrev pub true_tree : Tree
-true_tree = application true_symbol no_trees
 
 -- one entry of a table: what the symbol gives at these arguments
 pub record Row : Type 0 where

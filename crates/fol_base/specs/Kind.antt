@@ -1,12 +1,11 @@
 -- The kinds of terms: function terms, predicate terms and `$true`; and the literals that they make.
-use Rattle.std.specs.Prelude.{ℕ, Bool, true, false, not, ◌&&◌, ◌||◌, ◌==◌, List, IsTrue}
+use Rattle.std.specs.Prelude.{ℕ, Bool, true, false, not, ◌&&◌, ◌||◌, ◌==◌, List, slice_index_or, IsTrue}
 use Rattle.std.specs.List.{list_all}
-use Rattle.fol_base.specs.Tree.{Tree, variable, application, Trees, no_trees, tree_then}
+use Rattle.fol_base.specs.Tree.{Tree, variable, application, Trees, no_trees, tree_then, true_symbol, is_truth}
 use Rattle.fol_base.specs.Instance.{Substitution}
-use Rattle.fol_base.specs.Clause.{TreeLiteral}
-use Rattle.fol_base.specs.Ground.{FunctionSymbol}
-use Rattle.fol_base.specs.Interpretation.{true_symbol}
-use Rattle.fol_base.specs.GroundForm.{is_truth}
+use Rattle.fol_base.specs.Clause.{TreeLiteral, TreeClause}
+use Rattle.fol_base.specs.Symbols.{FunctionSymbols}
+use Rattle.fol_base.specs.Ground.{ground_over}
 
 -- function symbols and variables alone: no predicate and no `$true`
 abbrev mutual
@@ -35,6 +34,18 @@ is_literal is_predicate l =
 abbrev pub PutsFunctionTerms : (ℕ → Bool) → Substitution → Type 0
 PutsFunctionTerms is_predicate σ = (v : ℕ) → IsTrue (is_function_term is_predicate (σ v))
 
--- a list of function symbols has neither a predicate nor `$true`
-abbrev pub are_function_symbols : (ℕ → Bool) → List FunctionSymbol → Bool
-are_function_symbols is_predicate functions = list_all (λ s. not (s.number == true_symbol) && not (is_predicate s.number)) functions
+-- each literal of each clause has a predicate applied to function terms on its left
+abbrev pub are_predicate_atoms : (ℕ → Bool) → List TreeClause → Bool
+are_predicate_atoms is_predicate cs = list_all (λ (c : TreeClause). list_all (λ l. is_predicate_term is_predicate l.left) c.literals) cs
+
+-- the test that a list of answers gives, by the symbols' numbers; a number past its end is no predicate
+abbrev pub is_predicate_of : List Bool → ℕ → Bool
+is_predicate_of answers f = slice_index_or answers f false
+
+-- ---- law
+
+-- ground trees over function symbols are function terms
+abbrev pub GroundTreesAreFunctionTerms : Type 0
+GroundTreesAreFunctionTerms =
+    (is_predicate : ℕ → Bool) (functions : FunctionSymbols is_predicate) (t : Tree)
+    → IsTrue (ground_over functions.symbols t) → IsTrue (is_function_term is_predicate t)

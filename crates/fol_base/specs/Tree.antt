@@ -1,4 +1,4 @@
--- First-order terms as trees: a variable, or a symbol applied to a list of trees.
+-- First-order terms as trees: a variable, or a symbol applied to a list of trees; and `$true`.
 use Rattle.std.specs.Prelude.{ℕ, ◌+◌, ◌<◌, Bool, true, false, ◌&&◌, ◌==◌, List, [], ◌∷◌, ◌++◌}
 
 mutual
@@ -19,6 +19,15 @@ trees_of (t ∷ ts) = tree_then t (trees_of ts)
 abbrev pub list_of : Trees → List Tree
 list_of no_trees = []
 list_of (tree_then t ts) = t ∷ list_of ts
+
+-- how many there are
+abbrev pub trees_count : Trees → ℕ
+trees_count no_trees = 0
+trees_count (tree_then t ts) = 1 + trees_count ts
+
+abbrev pub is_variable : Tree → Bool
+is_variable (variable v) = true
+is_variable (application f ts) = false
 
 -- the occurrences of symbols and variables
 abbrev mutual
@@ -63,3 +72,16 @@ abbrev mutual
   pub AllVariablesBelow : ℕ → Trees → Type 0
   AllVariablesBelow n no_trees = Unit {0}
   AllVariablesBelow n (tree_then t ts) = VariablesBelow n t × AllVariablesBelow n ts
+
+-- ---- `$true`
+
+-- the reserved symbol with which an atom is written as an equation
+abbrev pub true_symbol : ℕ
+true_symbol = 0
+
+abbrev pub true_tree : Tree
+true_tree = application true_symbol no_trees
+
+-- whether a tree is `$true`
+abbrev pub is_truth : Tree → Bool
+is_truth t = tree_eq t true_tree

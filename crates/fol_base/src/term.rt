@@ -2,7 +2,7 @@
 
 ghost use Rattle.std.specs.Prelude.{◌≡◌, ◌<◌, ◌++◌, [], ◌∷◌, length, map, IfOk, OnErr};
 ghost use Rattle.fol_base.specs.Term.{tree_of};
-ghost use Rattle.fol_base.specs.GroundForm.{is_truth};
+ghost use Rattle.fol_base.specs.Tree.{is_truth};
 
 use plain_types::Mem;
 use std::alloc::Global;

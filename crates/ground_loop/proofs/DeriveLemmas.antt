@@ -8,11 +8,10 @@ use Rattle.std.proofs.lemmas.List.Folds.{list_any-append}
 use Rattle.std.proofs.lemmas.List.Elements.{All-head, All-tail}
 use Rattle.std.proofs.lemmas.Grind.{flat_map-append}
 use Rattle.std.proofs.lemmas.List.Sums.{sum_by-cons, sum_by-append}
-use Rattle.fol_base.specs.Tree.{Tree, variable, application, Trees, no_trees, tree_then, tree_eq, trees_eq, tree_variables, trees_variables}
+use Rattle.fol_base.specs.Tree.{Tree, variable, application, Trees, no_trees, tree_then, tree_eq, trees_eq, tree_variables, trees_variables, true_tree}
 use Rattle.fol_base.specs.Clause.{TreeLiteral, TreeClause, literal_eq, literal_size, clause_size, literal_variables}
 use Rattle.fol_base.specs.Ground.{is_ground, are_ground}
 use Rattle.fol_base.specs.GroundForm.{is_ground_atom, is_atom_literal, IsGroundClause, IsGroundForm, form_size}
-use Rattle.fol_base.specs.Interpretation.{true_tree}
 use Rattle.fol_base.proofs.TreeLemmas.{tree_eq-refl, tree_eq-true}
 use Rattle.ground_loop.specs.Resolution.{LiteralSet, has_literal, is_subset, same_set, without, resolvent, atom_literal}
 use Rattle.ground_loop.specs.Lines.{are_different, SameElements, form_has}

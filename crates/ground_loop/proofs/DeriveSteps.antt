@@ -9,16 +9,14 @@ use Rattle.std.proofs.lemmas.List.Edits.{length-remove, remove-append_left}
 use Rattle.std.proofs.lemmas.List.Sums.{sum_by-append}
 use Rattle.std.proofs.lemmas.List.Folds.{list_any_more}
 use Rattle.std.proofs.lemmas.Option.{slice_get_within, slice_get-get_or, get_or_from_slice_get}
-use Rattle.fol_base.specs.Tree.{Tree, tree_eq}
+use Rattle.fol_base.specs.Tree.{Tree, tree_eq, true_tree, is_truth}
 use Rattle.fol_base.specs.Clause.{TreeLiteral, TreeClause, literal_eq, literal_size, clause_size, clause_variables}
 use Rattle.fol_base.specs.GroundForm.{is_atom_literal}
-use Rattle.fol_base.specs.Interpretation.{true_tree}
 use Rattle.fol_base.specs.Order.{equivalent_literals}
 use Rattle.fol_base.specs.declared.clause.Side.TheVariants.{Left}
 use Rattle.fol_base.proofs.TreeLemmas.{tree_eq-refl, tree_size-positive}
 use Rattle.kernel_steps.specs.declared.step.Step.TheVariants.{Para, Refl, Merge}
 use Rattle.kernel_steps.specs.declared.step.Line.{Line}
-use Rattle.fol_base.specs.GroundForm.{is_truth}
 use Rattle.kernel_steps.specs.Rules.{superposed, para_literals, refl_literals, merge_literals}
 use Rattle.kernel_steps.specs.Conclusion.{Verdict, verdict, verdict_of, verdict_if, concludes, binds, bound_literals, line_clause, IsGroundLine}
 use Rattle.kernel_steps.proofs.KernelLemmas.{binds-ground, bound_literals-ground}

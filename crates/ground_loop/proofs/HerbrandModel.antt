@@ -7,12 +7,12 @@ use lib.Pointwise.{pointwise}
 use Rattle.std.proofs.lemmas.Bool.{cases_Bool, both_ways, or_cases, or_left, or_right, and_parts, and_from, true≢false, not-true, eqb-true, eq-eqb, lt-ltb}
 use Rattle.std.proofs.lemmas.List.Folds.{list_any-append}
 use Rattle.std.proofs.lemmas.List.Elements.{All-contains}
-use Rattle.fol_base.specs.Tree.{Tree, variable, application, Trees, no_trees, tree_then, tree_eq}
+use Rattle.fol_base.specs.Tree.{Tree, variable, application, Trees, no_trees, tree_then, tree_eq, true_tree}
 use Rattle.fol_base.specs.Clause.{TreeLiteral, TreeClause, literal_eq}
 use Rattle.fol_base.specs.Kind.{is_function_term, are_function_terms, is_predicate_term}
 use Rattle.fol_base.specs.Ground.{is_ground, are_ground}
 use Rattle.fol_base.specs.GroundForm.{is_ground_atom, is_atom_literal, IsGroundClause, IsGroundForm}
-use Rattle.fol_base.specs.Interpretation.{Row, Interpretation, IsInterpretation, row_in_range, is_row_of, table_value, symbol_value, tree_value, trees_values, no_values, sides_true, literal_true, clause_true, true_tree}
+use Rattle.fol_base.specs.Interpretation.{Row, Interpretation, IsInterpretation, row_in_range, is_row_of, table_value, symbol_value, tree_value, trees_values, no_values, sides_true, literal_true, clause_true}
 use Rattle.fol_base.proofs.TreeLemmas.{tree_eq-true, tree_eq-refl}
 use Rattle.kernel_steps.specs.Soundness.{ground_clauses}
 use Rattle.ground_loop.specs.Resolution.{has_literal}

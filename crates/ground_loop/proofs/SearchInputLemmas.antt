@@ -9,11 +9,10 @@ use Rattle.std.proofs.lemmas.List.Sums.{sum_by-cons, sum_by_more, sum_by-take-le
 use Rattle.std.proofs.lemmas.List.Folds.{list_any-append}
 use Rattle.std.proofs.lemmas.Option.{slice_get_within, slice_get-get_or, get_or_from_slice_get, same_Some, slice_get-map}
 use Rattle.std.specs.Option.{option_map}
-use Rattle.fol_base.specs.Tree.{Tree, tree_eq}
+use Rattle.fol_base.specs.Tree.{Tree, tree_eq, true_tree}
 use Rattle.fol_base.specs.Clause.{TreeLiteral, TreeClause, literal_size, clause_size}
 use Rattle.fol_base.specs.Literal.{literal_of, clause_of}
 use Rattle.fol_base.specs.GroundForm.{is_ground_atom, is_atom_literal, IsGroundClause, IsGroundForm, form_size}
-use Rattle.fol_base.specs.Interpretation.{true_tree}
 use Rattle.fol_base.specs.declared.clause.Literal.{Literal}
 use Rattle.fol_base.specs.declared.clause.Clause as Clauses
 use Rattle.fol_base.proofs.TreeLemmas.{tree_eq-true, tree_size-positive}

@@ -5,9 +5,8 @@ use Rattle.std.specs.Prelude.{IsTrue, IsFalse, AllPairs}
 use Rattle.std.specs.List.{list_any}
 use Rattle.std.proofs.lemmas.Bool.{cases_Bool, cases_order, both_ways, or_cases, or_left, or_right, and_parts, and_from, eq-eqb, ne_eqb, eqb-true, false_from_ne_true, not-true, not_from_false}
 use Rattle.std.proofs.lemmas.List.Folds.{list_any-append}
-use Rattle.fol_base.specs.Tree.{Tree, tree_eq}
+use Rattle.fol_base.specs.Tree.{Tree, tree_eq, true_tree}
 use Rattle.fol_base.specs.Clause.{TreeLiteral, literal_eq}
-use Rattle.fol_base.specs.Interpretation.{true_tree}
 use Rattle.fol_base.proofs.TreeLemmas.{tree_eq-true, tree_eq-refl}
 use Rattle.ground_loop.specs.Resolution.{LiteralSet, has_literal, is_subset, same_set, atom_literal, complement, is_tautology, without, can_resolve, resolvent}
 use Rattle.ground_loop.specs.Entries.{atom_at, coded_literal, coded_set}

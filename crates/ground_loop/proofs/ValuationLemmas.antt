@@ -5,9 +5,8 @@ use Rattle.std.specs.Prelude.{IsTrue, IsFalse, Contains, if◌then◌else◌}
 use Rattle.std.specs.List.{list_any, list_all}
 use Rattle.std.proofs.lemmas.Bool.{cases_Bool, both_ways, or_cases, or_left, or_right, and_parts, and_from, true≢false, false_from_ne_true, not-true}
 use Rattle.std.proofs.lemmas.List.Folds.{list_any_at}
-use Rattle.fol_base.specs.Tree.{Tree, tree_eq}
+use Rattle.fol_base.specs.Tree.{Tree, tree_eq, true_tree}
 use Rattle.fol_base.specs.Clause.{TreeLiteral, TreeClause, literal_eq}
-use Rattle.fol_base.specs.Interpretation.{true_tree}
 use Rattle.fol_base.proofs.TreeLemmas.{tree_eq-true, tree_eq-refl}
 use Rattle.ground_loop.specs.Resolution.{LiteralSet, has_literal, same_set, atom_literal, complement, is_tautology, can_resolve, resolvent}
 use Rattle.ground_loop.specs.Answer.{holds_set, IsClosedFor}

@@ -1,9 +1,8 @@
 -- Sets of ground literals as lists of codes over a table of atoms, and where each comes from.
 use Rattle.std.specs.Prelude.{◌≡◌, ℕ, ◌/◌, ◌%◌, ◌<◌, ◌==◌, List, map, length, take, All, Some, slice_get, slice_index_or, IsTrue, IsFalse}
 use Rattle.std.specs.List.Sorted.{IsStrictlyIncreasing}
-use Rattle.fol_base.specs.Tree.{Tree}
+use Rattle.fol_base.specs.Tree.{Tree, true_tree}
 use Rattle.fol_base.specs.Clause.{TreeLiteral, TreeClause}
-use Rattle.fol_base.specs.Interpretation.{true_tree}
 use Rattle.ground_loop.specs.Resolution.{LiteralSet, atom_literal, same_set, can_resolve, resolvent, is_tautology}
 use Rattle.ground_loop.specs.declared.entry.Entry.{Entry}
 use Rattle.ground_loop.specs.declared.entry.Origin.{Origin}

@@ -1,9 +1,8 @@
 -- Resolution on ground clauses without equality, as sets of literals (Robinson 1965).
 use Rattle.std.specs.Prelude.{◌≡◌, ℕ, Bool, true, false, not, ◌&&◌, List, ◌++◌, filter, Option, None, Some, option_map, option_and_then, slice_get, if◌then◌else◌, IsTrue}
 use Rattle.std.specs.List.{list_any, list_all}
-use Rattle.fol_base.specs.Tree.{Tree}
+use Rattle.fol_base.specs.Tree.{Tree, true_tree}
 use Rattle.fol_base.specs.Clause.{TreeLiteral, TreeClause, literal_eq}
-use Rattle.fol_base.specs.Interpretation.{true_tree}
 
 -- A set of literals is a list of them; how often and in which order they stand doesn't count.
 abbrev pub LiteralSet : Type 0

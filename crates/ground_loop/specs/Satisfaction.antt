@@ -1,9 +1,10 @@
 -- What a closed list without the empty set means: the form is true somewhere (completeness of ground resolution, Robinson 1965).
 use Rattle.std.specs.Prelude.{ℕ, Bool, List, IsTrue}
-use Rattle.fol_base.specs.Ground.{FunctionSymbol, has_constant}
+use Rattle.fol_base.specs.Ground.{has_constant}
+use Rattle.fol_base.specs.Symbols.{FunctionSymbol, are_function_symbols}
 use Rattle.std.specs.List.{list_all}
 use Rattle.fol_base.specs.Clause.{TreeClause}
-use Rattle.fol_base.specs.Kind.{is_predicate_term, are_function_symbols}
+use Rattle.fol_base.specs.Kind.{is_predicate_term}
 use Rattle.fol_base.specs.GroundForm.{IsGroundForm}
 use Rattle.fol_base.specs.Interpretation.{Interpretation, IsInterpretation, clauses_true}
 use Rattle.kernel_steps.specs.Soundness.{ground_clauses, HerbrandRefuted}

@@ -1,8 +1,7 @@
 -- How terms, literals and clauses are printed.
 use Rattle.std.specs.Prelude.{ℕ, Bool, ◌==◌, List, [], ◌∷◌, ◌++◌, map, unwrap_or, slice_get, if◌then◌else◌, codes}
 use Rattle.std.specs.Fmt.{decimal}
-use Rattle.fol_base.specs.Tree.{Tree, variable, application, Trees, no_trees, tree_then, tree_eq}
-use Rattle.fol_base.specs.Interpretation.{true_tree}
+use Rattle.fol_base.specs.Tree.{Tree, variable, application, Trees, no_trees, tree_then, tree_eq, true_tree}
 use Rattle.fol_base.specs.Clause.{TreeLiteral}
 use Rattle.ground_reader.specs.declared.problem.GroundSymbol.{GroundSymbol}
 use Rattle.ground_text.specs.Names.{name_text}

@@ -9,7 +9,8 @@ use Rattle.fol_base.specs.Tree.{Tree, variable}
 use Rattle.fol_base.specs.Instance.{Substitution, substitution}
 use Rattle.fol_base.specs.Clause.{TreeLiteral, TreeClause, clause_variables}
 use Rattle.fol_base.specs.Literal.{clause_of}
-use Rattle.fol_base.specs.Ground.{FunctionSymbol, ground_over, is_over, IsGroundOver, GroundClause, literals_instance}
+use Rattle.fol_base.specs.Ground.{ground_over, is_over, IsGroundOver, GroundClause, literals_instance}
+use Rattle.fol_base.specs.Symbols.{FunctionSymbol}
 use Rattle.fol_base.specs.Interpretation.{Interpretation, IsInterpretation, Assignment, tree_value, no_values, literals_true_under, clause_true, clauses_true}
 use Rattle.fol_base.specs.Covered.{InstanceOf}
 use Rattle.fol_base.proofs.MeaningLemmas.{constants_give_ground_trees, truth_of_instances}

@@ -5,11 +5,10 @@ use Rattle.std.specs.Prelude.{not, slice_get, slice_set, remove, option_map, opt
 use Rattle.std.proofs.lemmas.Bool.{and_parts, or_cases, or_left, or_right, cases_Bool, eqb-true, eq-eqb, true≢false}
 use Rattle.std.proofs.lemmas.Option.{option_and_then_some, same_Some}
 use Rattle.std.proofs.lemmas.List.Folds.{list_any-append}
-use Rattle.fol_base.specs.Tree.{Tree, tree_eq}
+use Rattle.fol_base.specs.Tree.{Tree, tree_eq, is_truth}
 use Rattle.fol_base.specs.Place.{subterm, replaced}
 use Rattle.fol_base.specs.Clause.{TreeLiteral}
-use Rattle.fol_base.specs.GroundForm.{is_truth}
-use Rattle.fol_base.specs.GroundInference.{side_of, other_side_of, with_side}
+use Rattle.fol_base.specs.Sides.{side_of, other_side_of, with_side}
 use Rattle.fol_base.specs.Interpretation.{Interpretation, Assignment, tree_value, sides_true, literal_true_under, literals_true_under}
 use Rattle.fol_base.specs.Order.{equivalent_literals}
 use Rattle.fol_base.specs.declared.clause.Side.{Side}

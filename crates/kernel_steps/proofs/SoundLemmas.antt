@@ -6,13 +6,14 @@ use Rattle.std.proofs.lemmas.Option.{none-some}
 use Rattle.std.proofs.lemmas.List.Elements.{All-contains, All-map, Contains-get_or}
 use Rattle.std.proofs.lemmas.List.Folds.{list_all-map}
 use Rattle.std.proofs.lemmas.List.Sums.{AllPass-from_list_all}
-use Rattle.fol_base.specs.Tree.{Tree, variable, application, Trees, no_trees, tree_then}
+use Rattle.fol_base.specs.Tree.{Tree, variable, application, Trees, no_trees, tree_then, true_tree, is_truth}
 use Rattle.fol_base.specs.Instance.{Substitution, substitution, instance, instances}
 use Rattle.fol_base.specs.Clause.{TreeLiteral, TreeClause}
 use Rattle.fol_base.specs.Literal.{clause_of}
-use Rattle.fol_base.specs.Ground.{FunctionSymbol, has_constant, ground_over, is_ground, are_ground, is_ground_literal, is_ground_clause, literals_instance}
-use Rattle.fol_base.specs.GroundForm.{is_truth, is_ground_atom, is_atom_literal, IsGroundClause, IsGroundForm}
-use Rattle.fol_base.specs.Interpretation.{Interpretation, Assignment, true_tree, tree_value, no_values, literals_true_under, clause_true, clauses_true}
+use Rattle.fol_base.specs.Ground.{has_constant, ground_over, is_ground, are_ground, is_ground_literal, is_ground_clause, literals_instance}
+use Rattle.fol_base.specs.Symbols.{FunctionSymbol}
+use Rattle.fol_base.specs.GroundForm.{is_ground_atom, is_atom_literal, IsGroundClause, IsGroundForm}
+use Rattle.fol_base.specs.Interpretation.{Interpretation, Assignment, tree_value, no_values, literals_true_under, clause_true, clauses_true}
 use Rattle.fol_base.specs.Covered.{InstanceOf}
 use Rattle.fol_base.proofs.MeaningLemmas.{constants_give_ground_trees, truth_of_instances, truth_of_ground_clauses}
 use Rattle.fol_base.proofs.TreeLemmas.{tree_eq-true}

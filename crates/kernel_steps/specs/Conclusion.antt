@@ -1,7 +1,7 @@
 -- What a step gives: its conclusion, or the first fault.
 use Rattle.std.specs.Prelude.{◌≡◌, ℕ, zero, suc, ◌<◌, Bool, not, ◌&&◌, ◌==◌, nat_le, List, [], ◌∷◌, length, Option, None, Some, Result, Ok, Err, if◌then◌else◌}
 use Rattle.std.specs.List.{list_all}
-use Rattle.fol_base.specs.Tree.{Tree}
+use Rattle.fol_base.specs.Tree.{Tree, is_truth}
 use Rattle.fol_base.specs.Instance.{substitution}
 use Rattle.fol_base.specs.Clause.{TreeLiteral, TreeClause, clause_instance, clause_size, clause_variables}
 use Rattle.fol_base.specs.Canonical.{bound_of}
@@ -12,7 +12,6 @@ use Rattle.kernel_steps.specs.declared.step.Step.TheVariants.{Para, Refl, Merge}
 use Rattle.kernel_steps.specs.declared.step.Line.{Line}
 use Rattle.kernel_steps.specs.declared.step.StepFault.{StepFault}
 use Rattle.kernel_steps.specs.declared.step.StepFault.TheVariants.{Binding, Rule, NoMemory}
-use Rattle.fol_base.specs.GroundForm.{is_truth}
 use Rattle.kernel_steps.specs.Rules.{para_literals, refl_literals, merge_literals}
 
 abbrev pub empty_clause : TreeClause

@@ -1,8 +1,7 @@
 -- A worked refutation: of p(a) and its negation. The symbols are those of the base's examples.
 use Rattle.std.specs.Prelude.{ℕ, Bool, true, false, List, [], ◌∷◌}
-use Rattle.fol_base.specs.Tree.{Tree}
+use Rattle.fol_base.specs.Tree.{Tree, true_tree}
 use Rattle.fol_base.specs.Clause.{TreeLiteral, TreeClause}
-use Rattle.fol_base.specs.Interpretation.{true_tree}
 use Rattle.fol_base.specs.Examples.{x, a, b, p, disequation, clause}
 use Rattle.fol_base.specs.declared.term.Term.TheVariants.{App}
 use Rattle.fol_base.specs.declared.clause.Literal.{Literal}

@@ -1,13 +1,12 @@
 -- The rules of the kernel on bound clauses: superposition, equality resolution and factoring, merging
 -- (Bachmair and Ganzinger 1994, without conditions of order). None: the condition of the rule fails.
 use Rattle.std.specs.Prelude.{ℕ, not, ◌&&◌, ◌==◌, List, ◌++◌, remove, Option, None, Some, option_and_then, option_map, slice_get, slice_set, if◌then◌else◌}
-use Rattle.fol_base.specs.Tree.{tree_eq}
+use Rattle.fol_base.specs.Tree.{tree_eq, is_truth}
 use Rattle.fol_base.specs.Place.{subterm, replaced}
 use Rattle.fol_base.specs.Clause.{TreeLiteral}
 use Rattle.fol_base.specs.declared.clause.Side.{Side}
-use Rattle.fol_base.specs.GroundForm.{is_truth}
 use Rattle.fol_base.specs.Order.{equivalent_literals}
-use Rattle.fol_base.specs.GroundInference.{side_of, other_side_of, with_side}
+use Rattle.fol_base.specs.Sides.{side_of, other_side_of, with_side}
 
 -- The second literal, where its term at the place is the chosen side of the first, a positive equation, with the other side of
 -- the first there. `$true` is never chosen, so an atom is chosen by its left side alone, and equal terms are of one kind.

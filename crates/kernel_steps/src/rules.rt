@@ -4,7 +4,7 @@ ghost use Rattle.std.specs.Prelude.{◌≡◌, ◌<◌, ◌++◌, map, length, I
 ghost use Rattle.std.specs.Option.{option_map};
 ghost use Rattle.fol_base.specs.Term.{tree_of};
 ghost use Rattle.fol_base.specs.Literal.{literal_of};
-ghost use Rattle.fol_base.specs.GroundInference.{side_of, other_side_of, with_side};
+ghost use Rattle.fol_base.specs.Sides.{side_of, other_side_of, with_side};
 ghost use Rattle.fol_base.specs.Order.{equivalent_literals};
 ghost use Rattle.kernel_steps.specs.Rules.{superposed, para_literals, refl_literals, merge_literals};
 

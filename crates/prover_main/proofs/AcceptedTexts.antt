@@ -8,14 +8,13 @@ use Rattle.std.proofs.lemmas.Bool.{eqb-true, eq-eqb, and_parts, and_from, or_cas
 use Rattle.std.proofs.lemmas.Option.{none-some, same_Some, slice_get_within}
 use Rattle.std.proofs.lemmas.List.{length-map}
 use Rattle.std.proofs.Math.Seq.{take-append_seam}
-use Rattle.fol_base.specs.Tree.{Tree, variable, application, no_trees, tree_then, tree_eq}
+use Rattle.fol_base.specs.Tree.{Tree, variable, application, no_trees, tree_then, tree_eq, is_truth}
 use Rattle.fol_base.specs.Canonical.{bound_of}
 use Rattle.fol_base.specs.Place.{subterm, replaced}
 use Rattle.fol_base.specs.Clause.{TreeLiteral, TreeClause, clause_variables}
 use Rattle.fol_base.specs.Literal.{clause_of}
-use Rattle.fol_base.specs.GroundForm.{is_truth}
 use Rattle.fol_base.specs.Order.{equivalent_literals}
-use Rattle.fol_base.specs.GroundInference.{side_of, other_side_of, with_side}
+use Rattle.fol_base.specs.Sides.{side_of, other_side_of, with_side}
 use Rattle.fol_base.specs.declared.term.Term.TheVariants.{App}
 use Rattle.fol_base.specs.declared.clause.Literal.{Literal}
 use Rattle.fol_base.specs.declared.clause.Side.{Side}

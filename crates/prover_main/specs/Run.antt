@@ -9,8 +9,8 @@ use Rattle.outside.specs.Sink.{with_bytes, HasPrefixAfter}
 use Rattle.ground_loop.specs.Answer.{HasClosedSets, HasTriples}
 use Rattle.ground_loop.specs.Satisfaction.{Satisfied}
 use Rattle.prover_main.specs.Words.{proved_file}
-use Rattle.fol_base.specs.Ground.{FunctionSymbol, has_constant}
-use Rattle.fol_base.specs.Kind.{are_function_symbols}
+use Rattle.fol_base.specs.Ground.{has_constant}
+use Rattle.fol_base.specs.Symbols.{FunctionSymbol, are_function_symbols}
 use Rattle.kernel_steps.specs.Soundness.{HerbrandRefuted}
 use Rattle.prover_main.specs.Accepted.{IsAcceptedDerivation, form_of, is_predicate_of}
 use Rattle.prover_main.specs.Report.{refuted_report, closed_report, spent_report, not_built_report, load_failed_report, usage_report}

@@ -2,11 +2,9 @@
 use Rattle.std.proofs.Common.{◌≡◌, ℕ, zero, suc, ◌≤◌, get_or, length, arith, Bool, true, false, not, ◌&&◌, ◌||◌, ◌==◌, cond, Option, None, Some, List, [], ◌∷◌, ◌++◌, refl, ap, ap₂, sym, ◌∙◌, subst, ⊎_elim}
 use Rattle.std.specs.Prelude.{option_and_then, unwrap_or, if◌then◌else◌}
 use Rattle.std.proofs.lemmas.Bool.{cases_lt, cond-true, cond-false, cases_Bool, or_cases, true≢false}
-use Rattle.fol_base.specs.Tree.{Tree, variable, application, Trees, no_trees, tree_then, tree_eq}
+use Rattle.fol_base.specs.Tree.{Tree, variable, application, Trees, no_trees, tree_then, tree_eq, true_symbol, is_truth}
 use Rattle.fol_base.specs.Instance.{Substitution, instance, instances, substitution}
 use Rattle.fol_base.specs.Canonical.{terms_from}
-use Rattle.fol_base.specs.Interpretation.{true_symbol}
-use Rattle.fol_base.specs.GroundForm.{is_truth}
 use Rattle.fol_base.specs.Kind.{is_function_term, are_function_terms, is_predicate_term, PutsFunctionTerms}
 use Rattle.fol_base.specs.Unifier.{IsUnifierApart}
 use Rattle.fol_base.proofs.TreeLemmas.{and_left, and_right}

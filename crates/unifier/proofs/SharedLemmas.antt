@@ -4,12 +4,11 @@ use Rattle.std.specs.Prelude.{sum_by}
 use Rattle.std.specs.List.{AllByRecursion}
 use Rattle.std.proofs.lemmas.List.Sums.{sum_by-cons}
 use Rattle.std.proofs.lemmas.List.Elements.{recursion_from_All}
-use Rattle.fol_base.specs.Tree.{Tree, variable, application, Trees, no_trees, tree_then, tree_size, trees_size, VariablesBelow}
+use Rattle.fol_base.specs.Tree.{Tree, variable, application, Trees, no_trees, tree_then, tree_size, trees_size, VariablesBelow, true_symbol}
 use Rattle.fol_base.specs.Instance.{Substitution, instance, substitution}
 use Rattle.fol_base.specs.Canonical.{terms_from}
 use Rattle.fol_base.specs.Clause.{TreeLiteral, LiteralVariablesBelow, literal_instance, literal_size}
 use Rattle.fol_base.specs.Ground.{literals_instance}
-use Rattle.fol_base.specs.Interpretation.{true_symbol}
 use Rattle.fol_base.specs.Kind.{is_function_term, are_function_terms, PutsFunctionTerms}
 use Rattle.fol_base.specs.declared.clause.Side.TheVariants.{Left, Right}
 use Rattle.fol_base.proofs.InstanceLemmas.{instances_of_instances, instances_agree_below}

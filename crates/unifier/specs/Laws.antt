@@ -1,11 +1,10 @@
 -- Laws of unifiers and matchers: function terms in give function terms out.
 use Rattle.std.specs.Prelude.{ℕ, Bool, ◌&&◌, ◌||◌, List, IsTrue}
 use Rattle.std.specs.List.{AllByRecursion}
-use Rattle.fol_base.specs.Tree.{Tree}
+use Rattle.fol_base.specs.Tree.{Tree, is_truth}
 use Rattle.fol_base.specs.Instance.{Substitution, substitution}
 use Rattle.fol_base.specs.Canonical.{terms_from}
 use Rattle.fol_base.specs.Kind.{is_function_term, is_predicate_term, PutsFunctionTerms}
-use Rattle.fol_base.specs.GroundForm.{is_truth}
 use Rattle.fol_base.specs.Unifier.{IsMostGeneralUnifier, IsMostGeneralUnifierApart}
 use Rattle.unifier.specs.Matching.{by_pairs}
 

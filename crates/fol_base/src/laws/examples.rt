@@ -1,19 +1,19 @@
 // Worked examples of the definitions. The symbols a, b, c, f, g, p, q rise in precedence in this order.
 
 ghost use Rattle.std.specs.Prelude.{◌≡◌, [], ◌∷◌, Some, None, true, false, IsTrue, IsFalse, Contains};
-ghost use Rattle.fol_base.specs.Tree.{variable, tree_size};
+ghost use Rattle.fol_base.specs.Tree.{variable, tree_size, true_tree};
 ghost use Rattle.fol_base.specs.Instance.{instance, substitution};
 ghost use Rattle.fol_base.specs.Place.{replaced, subterm};
 ghost use Rattle.fol_base.specs.Canonical.{canonical_clause};
 ghost use Rattle.fol_base.specs.Ground.{ground_over, GroundInstance};
-ghost use Rattle.fol_base.specs.Interpretation.{true_tree, clause_true, tree_value, no_values, row_in_range, table_value};
+ghost use Rattle.fol_base.specs.Interpretation.{clause_true, tree_value, no_values, row_in_range, table_value};
 ghost use Rattle.fol_base.specs.Entails.{Entails, IsRefuted};
 ghost use Rattle.fol_base.specs.Multiset.{greater, less, equal, unordered};
 ghost use Rattle.fol_base.specs.Order.{compare_trees, compare_literals, compare_clauses};
 ghost use Rattle.fol_base.specs.Selection.{select_nothing, select_negative, chosen, eligible, eligible_in_instance};
 ghost use Rattle.fol_base.specs.GroundInference.{GroundSuperposition, GroundResolution, GroundFactoring, GroundConclusion};
 ghost use Rattle.fol_base.specs.Covered.{Covers};
-ghost use Rattle.fol_base.specs.Examples.{x, a, b, c, f, f₂, g, p, q, q₂, equation, disequation, clause, is_predicate, functions, row, all_a, all_towers, p_of_a_alone};
+ghost use Rattle.fol_base.specs.Examples.{x, a, b, c, f, f₂, g, p, q, q₂, equation, disequation, clause, is_predicate, functions, symbols, row, all_a, all_towers, p_of_a_alone};
 
 /// Instances, replacement and canonical form.
 pub fn tree_examples()
@@ -59,9 +59,9 @@ pub fn selection_examples()
 
 /// Ground trees, values, and what ground clauses entail.
 pub fn meaning_examples()
-    ensures over_the_list { IsTrue (ground_over functions (f a)) }
-    ensures wrong_number_of_arguments { IsFalse (ground_over functions (f₂ a b)) }
-    ensures not_of_the_list { IsFalse (ground_over functions (g a)) }
+    ensures over_the_list { IsTrue (ground_over symbols (f a)) }
+    ensures wrong_number_of_arguments { IsFalse (ground_over symbols (f₂ a b)) }
+    ensures not_of_the_list { IsFalse (ground_over symbols (g a)) }
     ensures first_row { tree_value p_of_a_alone no_values b ≡ 1 }
     ensures first_of_two_rows { table_value (row 4 1 ∷ row 4 0 ∷ []) 4 (0 ∷ []) ≡ 1 }
     ensures predicate_is_true { IsTrue (row_in_range is_predicate 1 (row 6 1)) }
@@ -88,6 +88,6 @@ pub fn coverage_examples()
     ensures factoring { GroundFactoring functions select_nothing
         (clause (equation (f (x 0)) a ∷ equation (f a) b ∷ []))
         (equation (f a) a ∷ disequation b a ∷ []) }
-    ensures by_a_smaller { Covers is_predicate functions (clause (p a ∷ []) ∷ []) (p a ∷ p a ∷ []) }
-    ensures not_by_a_greater { Covers is_predicate functions (clause (p a ∷ p a ∷ []) ∷ []) (p a ∷ []) → ⊥ }
+    ensures by_a_smaller { Covers functions (clause (p a ∷ []) ∷ []) (p a ∷ p a ∷ []) }
+    ensures not_by_a_greater { Covers functions (clause (p a ∷ p a ∷ []) ∷ []) (p a ∷ []) → ⊥ }
 {}

@@ -11,9 +11,13 @@ ghost use Rattle.fol_base.specs.InstanceLaws.{
   VariablesOfInstances,
   OccurrencesInInstances,
   SubtermsOfInstances,
+  PlacesInInstances,
+  ReplacedWhereThere,
   ReplacementsInInstances,
   SuperpositionsInInstances,
+  ResolutionsInInstances,
   FactoringsInInstances,
+  MergesInInstances,
   GroundInstancesOfCanonical,
 };
 
@@ -41,10 +45,17 @@ pub fn variables_of_instances()
     ensures occurrences { OccurrencesInInstances }
 {}
 
-/// The subterms of an instance at the term's places, and replacements there.
+/// The subterms of an instance at the term's places, and replacements there; and each place of an instance is one of the term, or
+/// at or below a variable.
 pub fn places_in_instances()
     ensures subterms { SubtermsOfInstances }
     ensures replacements { ReplacementsInInstances }
+    ensures places { PlacesInInstances }
+{}
+
+/// A term can be replaced at a place exactly where it has a subterm there.
+pub fn replaced_where_there()
+    ensures { ReplacedWhereThere }
 {}
 
 /// A ground instance of an instance is one of the clause, where what was put in for its variables is over the function symbols.
@@ -57,8 +68,10 @@ pub fn ground_instances_of_canonical()
     ensures { GroundInstancesOfCanonical }
 {}
 
-/// The conclusions of instances by superposition and factoring are the instances of the conclusions.
+/// The conclusions of instances are the instances of the conclusions.
 pub fn conclusions_of_instances()
     ensures superposition { SuperpositionsInInstances }
+    ensures resolution { ResolutionsInInstances }
     ensures factoring { FactoringsInInstances }
+    ensures merging { MergesInInstances }
 {}

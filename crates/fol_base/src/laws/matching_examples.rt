@@ -1,26 +1,17 @@
-// Worked examples of compatible terms, unifiers, matchers, subsumption and the spelling of tokens.
+// Worked examples of compatible terms, unifiers, matchers, subsumption, kinds of terms and well-formed literals.
 
-ghost use Rattle.std.specs.Prelude.{◌≡◌, [], ◌∷◌, true, false, IsTrue, IsFalse, codes};
+ghost use Rattle.std.specs.Prelude.{◌≡◌, [], ◌∷◌, true, false, IsTrue, IsFalse};
 ghost use Rattle.fol_base.specs.Instance.{Substitution};
 ghost use Rattle.fol_base.specs.Compatible.{compatible, compatible_generalisation, compatible_instance};
 ghost use Rattle.fol_base.specs.Unifier.{IsUnifier, IsUnifierApart, IsMostGeneralUnifier, IsMostGeneralUnifierApart, IsMatcher};
 ghost use Rattle.fol_base.specs.Subsumption.{Subsumes, assertions, is_among};
-ghost use Rattle.fol_base.specs.Kind.{is_literal, are_function_symbols};
-ghost use Rattle.fol_base.specs.Interpretation.{true_tree};
+ghost use Rattle.fol_base.specs.Kind.{is_literal, are_predicate_atoms, is_predicate_of};
+ghost use Rattle.fol_base.specs.WellFormed.{is_literal_of, are_literals_of};
+ghost use Rattle.fol_base.specs.Symbols.{are_function_symbols, have_one_arity};
+ghost use Rattle.fol_base.specs.Tree.{true_tree};
 ghost use Rattle.fol_base.specs.GroundForm.{is_atom_literal, IsGroundForm, form_size};
-ghost use Rattle.fol_base.specs.Spelling.{
-  spells,
-  lower_word,
-  variable_word,
-  quoted_word,
-  distinct_object,
-  dollar_word,
-  number,
-  connective,
-  mark,
-  other,
-};
-ghost use Rattle.fol_base.specs.Examples.{x, a, b, f, f₂, g, p, q, r, equation, disequation, clause, is_predicate, functions, with_predicate, positive_name, negative_name, all_a, all_b, first_is, even, odd, first_is_a};
+ghost use Rattle.fol_base.specs.Examples.{x, a, b, f, f₂, g, p, q, r, equation, disequation, clause, is_predicate, symbols, with_predicate, with_two_arities, use_of_symbols, all_a, all_b, first_is, even, odd, first_is_a};
+ghost use Rattle.plain_types.specs.Examples.{positive_name, negative_name};
 
 /// Entries that may unify with a query, generalise it or be instances of it.
 pub fn compatible_examples()
@@ -54,8 +45,24 @@ pub fn kind_examples()
     ensures negated_truth { IsTrue (is_literal is_predicate (disequation true_tree true_tree)) }
     ensures variable_and_truth { IsFalse (is_literal is_predicate (equation (x 0) true_tree)) }
     ensures atom_below_a_function { IsFalse (is_literal is_predicate (equation (f (p a).left) b)) }
-    ensures function_symbols { IsTrue (are_function_symbols is_predicate functions) }
+    ensures function_symbols { IsTrue (are_function_symbols is_predicate symbols) }
     ensures no_function_symbol { IsFalse (are_function_symbols is_predicate with_predicate) }
+    ensures one_arity { IsTrue (have_one_arity symbols) }
+    ensures two_arities { IsFalse (have_one_arity with_two_arities) }
+    ensures atoms { IsTrue (are_predicate_atoms is_predicate (clause (p a ∷ []) ∷ clause (r ∷ disequation (q a).left true_tree ∷ []) ∷ [])) }
+    ensures no_atoms { IsFalse (are_predicate_atoms is_predicate (clause (p a ∷ equation a b ∷ []) ∷ [])) }
+    ensures listed_predicate { IsTrue (is_predicate_of (false ∷ true ∷ []) 1) }
+    ensures past_the_end { IsFalse (is_predicate_of (false ∷ true ∷ []) 2) }
+{}
+
+/// Well-formed literals.
+pub fn well_formed_examples()
+    ensures atom_and_equation { IsTrue (are_literals_of use_of_symbols (p (f (x 0)) ∷ equation (f a) b ∷ r ∷ [])) }
+    ensures negated_truth { IsTrue (is_literal_of use_of_symbols (disequation true_tree true_tree)) }
+    ensures other_number_of_arguments { IsFalse (is_literal_of use_of_symbols (equation (f₂ a b) b)) }
+    ensures predicate_as_function { IsFalse (is_literal_of use_of_symbols (equation (f (p a).left) b)) }
+    ensures truth_below_a_function { IsFalse (is_literal_of use_of_symbols (equation (f true_tree) b)) }
+    ensures truth_on_the_left { IsFalse (is_literal_of use_of_symbols (equation true_tree a)) }
 {}
 
 /// Ground clauses without equality.
@@ -74,22 +81,4 @@ pub fn subsumption_examples()
     ensures in_other_order { Subsumes is_predicate (clause (p (x 0) ∷ q (x 0) ∷ [])) (clause (q a ∷ p a ∷ r ∷ [])) }
     ensures to_different_literals { Subsumes is_predicate (clause (p (x 0) ∷ p (x 1) ∷ [])) (clause (p a ∷ [])) → ⊥ }
     ensures to_function_terms { Subsumes is_predicate (clause (equation (x 0) (x 1) ∷ [])) (clause (p a ∷ [])) → ⊥ }
-{}
-
-/// The spelling of tokens.
-pub fn spelling_examples()
-    ensures lower { IsTrue (spells lower_word (codes "aB_1")) }
-    ensures variable { IsTrue (spells variable_word (codes "X0")) }
-    ensures quoted { IsTrue (spells quoted_word (codes "'A \\' b'")) }
-    ensures quoted_empty { IsFalse (spells quoted_word (codes "''")) }
-    ensures quoted_unclosed { IsFalse (spells quoted_word (codes "'ab")) }
-    ensures distinct_empty { IsTrue (spells distinct_object (codes "\"\"")) }
-    ensures dollar { IsTrue (spells dollar_word (codes "$true")) }
-    ensures dollar_alone { IsFalse (spells dollar_word (codes "$$")) }
-    ensures real { IsTrue (spells number (codes "3.5e-2")) }
-    ensures fraction { IsTrue (spells number (codes "12/7")) }
-    ensures number_cut { IsFalse (spells number (codes "3.")) }
-    ensures arrow { IsTrue (spells connective (codes "<=>")) }
-    ensures bracket { IsTrue (spells mark (codes "[")) }
-    ensures other_sign { IsTrue (spells other (codes "*")) }
 {}

@@ -1,6 +1,6 @@
 use Rattle.std.proofs.Common.{◌&&◌, ◌==◌, length, ap, sym, ◌∙◌}
 use Rattle.fol_base.specs.Term.{tree_of}
-use Rattle.fol_base.specs.GroundForm.{is_truth}
+use Rattle.fol_base.specs.Tree.{is_truth}
 use Rattle.fol_base.proofs.TreeLemmas.{is_truth-application}
 use Rattle.fol_base.proofs.term.Term.is_truth.Goals as goal
 

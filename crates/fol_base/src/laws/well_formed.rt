@@ -1,0 +1,24 @@
+// Laws of well-formed literals.
+
+ghost use Rattle.fol_base.specs.WellFormed.{
+  WellFormedInstances,
+  WellFormedSuperpositions,
+  WellFormedResolutions,
+  WellFormedFactorings,
+  WellFormedMerges,
+};
+ghost use Rattle.fol_base.specs.Kind.{GroundTreesAreFunctionTerms};
+
+/// Instances under function terms, and what the rules conclude, stay well-formed, whatever the rules' other conditions.
+pub fn conclusions_are_well_formed()
+    ensures instances { WellFormedInstances }
+    ensures superpositions { WellFormedSuperpositions }
+    ensures resolutions { WellFormedResolutions }
+    ensures factorings { WellFormedFactorings }
+    ensures merges { WellFormedMerges }
+{}
+
+/// A ground tree over function symbols is a function term.
+pub fn ground_trees_are_function_terms()
+    ensures { GroundTreesAreFunctionTerms }
+{}
