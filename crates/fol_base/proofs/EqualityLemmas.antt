@@ -1,5 +1,6 @@
--- Lists of different lengths aren't equal.
-use Rattle.std.proofs.Common.{◌≡◌, suc, Bool, true, false, ◌&&◌, List, [], ◌∷◌, length, refl, ap, ◌∙◌}
+-- Equality of lists of literals and of names.
+use Rattle.std.proofs.Common.{◌≡◌, ℕ, zero, suc, ◌+◌, Bool, true, false, ◌&&◌, List, [], ◌∷◌, length, drop, Some, slice_get, refl, ap, ap₂, ◌∙◌, arith}
+use Rattle.std.proofs.lemmas.Option.{same_Some}
 use Rattle.plain_types.specs.declared.sequence.NameLit.{NameLit}
 use Rattle.fol_base.specs.Clause.{TreeLiteral, literal_eq, literals_eq, names_eq}
 use Rattle.plain_types.specs.Names.{same_name}
@@ -21,3 +22,16 @@ names_eq-lengths [] (m ∷ ms) h = refl
 names_eq-lengths (n ∷ ns) [] h = refl
 names_eq-lengths (n ∷ ns) (m ∷ ms) h =
     and_false (same_name n m) ∙ ap (λ b. same_name n m && b) (names_eq-lengths ns ms (λ e. h (ap suc e)))
+
+-- from an index on, the literals there decide, and then the rest
+pub literals_eq-drop :
+    (ls ks : List TreeLiteral) (i : ℕ) (l k : TreeLiteral)
+    → slice_get ls i ≡ Some l → slice_get ks i ≡ Some k
+    → literals_eq (drop i ls) (drop i ks) ≡ (literal_eq l k && literals_eq (drop (i + 1) ls) (drop (i + 1) ks))
+literals_eq-drop [] ks i l k l_at k_at = absurd (cc)
+literals_eq-drop (x ∷ ls) [] i l k l_at k_at = absurd (cc)
+literals_eq-drop (x ∷ ls) (y ∷ ks) zero l k l_at k_at =
+    ap₂ (λ a b. literal_eq a b && literals_eq ls ks) (same_Some x l l_at) (same_Some y k k_at)
+literals_eq-drop (x ∷ ls) (y ∷ ks) (suc i) l k l_at k_at =
+    literals_eq-drop ls ks i l k l_at k_at
+    ∙ ap (λ n. literal_eq l k && literals_eq (drop n (x ∷ ls)) (drop n (y ∷ ks))) (let e : suc (i + 1) ≡ suc i + 1 = omega arith in e)

@@ -21,3 +21,4 @@ pub mod VariableLemmas
 pub mod NumberingLemmas
 pub mod CanonicalLemmas
 pub mod EqualityLemmas
+pub mod InstanceSizes

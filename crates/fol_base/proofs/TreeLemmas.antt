@@ -1,8 +1,7 @@
 -- Facts about trees and lists of trees.
-use Rattle.std.proofs.Common.{◌≡◌, ℕ, zero, suc, ◌+◌, ◌<◌, ◌≤◌, List, [], ◌∷◌, ◌++◌, Bool, true, false, ◌&&◌, ◌==◌, length, map, get_or, refl, ap, sym, ◌∙◌, arith, eq-eqb}
-use Rattle.std.proofs.lemmas.Bool.{eqb-true}
-use Rattle.std.proofs.Math.Dec.{eqb-suc-zero}
-use Rattle.fol_base.specs.Tree.{is_truth, Tree, variable, application, Trees, no_trees, tree_then, trees_of, list_of, tree_size, trees_size, tree_eq, trees_eq}
+use Rattle.std.proofs.Common.{◌≡◌, ℕ, zero, suc, ◌+◌, ◌<◌, ◌≤◌, List, [], ◌∷◌, ◌++◌, Bool, true, false, ◌&&◌, ◌==◌, length, map, get_or, refl, ap, sym, ◌∙◌, ⊎_elim, arith, eq-eqb}
+use Rattle.std.proofs.lemmas.Bool.{eqb-true, true≢false, cases_Bool}
+use Rattle.fol_base.specs.Tree.{is_truth, true_symbol, Tree, variable, application, Trees, no_trees, tree_then, trees_of, list_of, tree_size, trees_size, tree_eq, trees_eq}
 use Rattle.fol_base.specs.Instance.{Substitution, instance, instances}
 
 pub list_of-trees_of : (ts : List Tree) → list_of (trees_of ts) ≡ ts
@@ -85,7 +84,19 @@ mutual
       let rest : ts ≡ us = trees_eq-true ts us (and_right (tree_eq t u) (trees_eq ts us) h) in
       cc
 
--- an application is `$true` where its symbol is 0 and it has no arguments
-pub is_truth-application : (f : ℕ) (ts : List Tree) → is_truth (application f (trees_of ts)) ≡ ((f == 0) && (length ts == 0))
-is_truth-application f [] = refl
-is_truth-application f (t ∷ ts) = ap (λ b. (f == 0) && b) (sym (eqb-suc-zero (length ts)))
+-- in either order
+pub tree_eq-sym : (t u : Tree) → tree_eq t u ≡ tree_eq u t
+tree_eq-sym t u =
+    ⊎_elim
+    (λ e. e ∙ sym (ap (λ w. tree_eq u w) (tree_eq-true t u e) ∙ tree_eq-refl u))
+    (λ e. ⊎_elim
+    (λ back. absurd (true≢false (sym (tree_eq-refl t) ∙ ap (tree_eq t) (sym (tree_eq-true u t back)) ∙ e)))
+    (λ back. e ∙ sym back)
+    (cases_Bool (tree_eq u t)))
+    (cases_Bool (tree_eq t u))
+
+-- the reserved symbol with arguments is `$true` exactly where the list of them is empty
+pub is_truth-arguments :
+    (b : Bool) (ts : List Tree) → (b ≡ true → ts ≡ []) × (ts ≡ [] → b ≡ true) → b ≡ is_truth (application true_symbol (trees_of ts))
+is_truth-arguments b [] h = h.1 refl
+is_truth-arguments b (t ∷ ts) h = ⊎_elim (λ e. let no : t ∷ ts ≡ [] = h.0 e in absurd (cc)) (λ e. e) (cases_Bool b)

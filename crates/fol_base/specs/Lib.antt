@@ -7,6 +7,7 @@ pub mod Place
 pub mod Clause
 pub mod Canonical
 pub mod Literal
+pub mod Lent
 pub mod Sides
 pub mod Symbols
 pub mod Ground

@@ -2,7 +2,9 @@
 
 ghost use Rattle.std.specs.Prelude.{◌≡◌, [], ◌∷◌, ◌++◌, map, take, length, IfOk, OnErr};
 ghost use Rattle.fol_base.specs.Literal.{literal_of, clause_of};
+ghost use Rattle.fol_base.specs.Lent.{lent_of};
 
+use crate::literal_ref::LiteralRef;
 use crate::term::Term;
 use plain_types::{Mem, Names, Sequence};
 use std::alloc::Global;
@@ -37,17 +39,22 @@ pub struct Clause {
 pub type Clauses = Sequence<Clause>;
 
 impl Literal {
+    /// The literal, lent.
+    pub fn lend(&self) -> LiteralRef<'_>
+        ensures { lent_of result ≡ literal_of self.now }
+    {
+        LiteralRef {
+            positive: self.positive,
+            left: &self.left,
+            right: &self.right,
+        }
+    }
+
     /// An equal literal.
     pub fn copy(&self, alloc: Global) -> Mem<Literal>
         ensures { IfOk result (λ literal. literal_of literal ≡ literal_of self.now) }
     {
-        let left = self.left.copy(alloc)?;
-        let right = self.right.copy(alloc)?;
-        Ok(Literal {
-            positive: self.positive,
-            left,
-            right,
-        })
+        self.lend().copy(alloc)
     }
 }
 

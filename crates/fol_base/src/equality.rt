@@ -2,11 +2,13 @@
 
 ghost use Rattle.std.specs.Prelude.{◌≡◌, map, length};
 ghost use Rattle.fol_base.specs.Tree.{tree_eq, trees_eq, trees_of};
-ghost use Rattle.fol_base.specs.Clause.{literal_eq, literals_eq, names_eq, clause_eq};
+ghost use Rattle.fol_base.specs.Clause.{literals_eq, names_eq, clause_eq};
 ghost use Rattle.fol_base.specs.Term.{tree_of};
-ghost use Rattle.fol_base.specs.Literal.{literal_of, clause_of};
+ghost use Rattle.fol_base.specs.Literal.{clause_of};
 
-use crate::clause::{Clause, Literal};
+use crate::clause::Clause;
+use crate::lending::LendsLiterals;
+use crate::literal_ref::same_literal;
 use crate::term::Term;
 use plain_types::NameLit;
 
@@ -44,33 +46,24 @@ pub fn same_terms(left: &[Term], right: &[Term]) -> bool
     true
 }
 
-/// Whether two literals have the same sign, the same left side and the same right side.
-pub fn same_literal(left: &Literal, right: &Literal) -> bool
-    ensures { result ≡ literal_eq (literal_of left.now) (literal_of right.now) }
-{
-    left.positive == right.positive
-        && same_term(&left.left, &right.left)
-        && same_term(&left.right, &right.right)
-}
-
 /// Whether two clauses have the same literals and the same names, in the same order.
 pub fn same_clause(left: &Clause, right: &Clause) -> bool
     ensures { result ≡ clause_eq (clause_of left.now) (clause_of right.now) }
 {
-    same_literals(left.literals.as_slice(), right.literals.as_slice())
+    same_literals(&left.literals, &right.literals)
         && same_names(left.names.as_slice(), right.names.as_slice())
 }
 
 /// Whether two lists have the same literals in the same order.
-pub fn same_literals(left: &[Literal], right: &[Literal]) -> bool
-    ensures { result ≡ literals_eq (map literal_of left.now) (map literal_of right.now) }
+pub fn same_literals<L: LendsLiterals, M: LendsLiterals>(left: &L, right: &M) -> bool
+    ensures { result ≡ literals_eq (L.meaning left.now) (M.meaning right.now) }
 {
-    let length = left.len();
-    if length != right.len() {
+    let count = left.count();
+    if count != right.count() {
         return false;
     }
-    for index in 0..length {
-        if !same_literal(&left[index], &right[index]) {
+    for index in 0..count {
+        if !same_literal(left.literal(index), right.literal(index)) {
             return false;
         }
     }

@@ -4,6 +4,10 @@
 mod canonical_form;
 mod clause;
 mod equality;
+mod instance;
+mod lending;
+mod limits;
+mod literal_ref;
 mod place;
 mod size;
 mod substitution;
@@ -12,11 +16,15 @@ mod variables;
 
 pub use canonical_form::canonical;
 pub use clause::{Clause, Clauses, Literal, Literals, Side, push_literal_copies};
-pub use equality::{same_clause, same_literal, same_literals, same_term, same_terms};
+pub use equality::{same_clause, same_literals, same_term, same_terms};
+pub use instance::{instance_size, is_instance, same_instance};
+pub use lending::{LendsLiterals, LendsTerms};
+pub use limits::{MOST_BOUND_SYMBOLS, MOST_FORM_SYMBOLS, MOST_SYMBOLS, SIZE_LIMIT};
+pub use literal_ref::{LiteralRef, equivalent_literals, same_literal};
 pub use place::{Position, at, replace_at};
-pub use plain_types::{Mem, NameLit, Names, NoMemory, Numbers, Parts, Sequence, Text, Texts};
 pub use substitution::{Subst, apply, apply_clause, apply_literal};
-pub use term::{Term, Terms};
+pub use term::{TRUE_SYMBOL, Term, Terms};
+pub use variables::push_variables;
 
 pub mod laws;
 #[cfg(test)]

@@ -41,7 +41,7 @@ impl Literal {
     pub fn size(&self) -> u64
         ensures { result ≡ min (literal_size (literal_of self.now)) (2 ^ 64 - 1) }
     {
-        self.left.size().saturating_add(self.right.size())
+        self.lend().size()
     }
 }
 

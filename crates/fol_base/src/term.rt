@@ -1,12 +1,18 @@
 // Terms, which contracts see as trees.
 
-ghost use Rattle.std.specs.Prelude.{◌≡◌, ◌<◌, ◌++◌, [], ◌∷◌, length, map, IfOk, OnErr};
+ghost use Rattle.std.specs.Prelude.{◌≡◌, ◌<◌, ◌^◌, ◌↔◌, ◌++◌, [], ◌∷◌, length, map, IfOk, OnErr, IsTrue};
+ghost use Rattle.std.specs.Slice.Iter.{iter_rest};
+ghost use Rattle.std.specs.Iterator.Adapters.{IterYieldsInOrder, IterYieldsInReverse};
 ghost use Rattle.fol_base.specs.Term.{tree_of};
-ghost use Rattle.fol_base.specs.Tree.{is_truth};
+ghost use Rattle.fol_base.specs.Tree.{is_truth, true_tree};
 
 use plain_types::Mem;
 use std::alloc::Global;
 use std::marker::Model;
+use std::slice::Iter;
+
+/// The number of the reserved symbol `$true`.
+pub const TRUE_SYMBOL: u32 = 0;
 
 /// A first-order term: a variable by its number, or a symbol by its number, applied to terms.
 #[derive(Drop)]
@@ -46,12 +52,19 @@ impl Model for Terms {
 }
 
 impl Term {
-    /// Whether this is `$true`, the symbol 0 without arguments.
+    /// `$true`. It takes no memory.
+    pub fn truth(alloc: Global) -> Term
+        ensures { tree_of result ≡ true_tree }
+    {
+        Term::App(TRUE_SYMBOL, Terms::new(alloc))
+    }
+
+    /// Whether this is `$true`, the reserved symbol without arguments.
     pub fn is_truth(&self) -> bool
         ensures { result ≡ is_truth (tree_of self.now) }
     {
         match self {
-            Term::App(symbol, arguments) => *symbol == 0 && arguments.len() == 0,
+            Term::App(symbol, arguments) => *symbol == TRUE_SYMBOL && arguments.is_empty(),
             Term::Var(_) => false,
         }
     }
@@ -97,6 +110,24 @@ impl Terms {
         ensures { map tree_of result.now ≡ self.now }
     {
         self.items.as_slice()
+    }
+
+    /// The terms, lent one after another.
+    pub fn iter(&self) -> Iter<'_, Term>
+        ensures rest { map tree_of (iter_rest result) ≡ self.now }
+        ensures len { length (iter_rest result) ≡ length self.now }
+        ensures bound { length (iter_rest result) < 2 ^ 64 }
+        ensures runs { IterYieldsInOrder Term }
+        ensures runs_back { IterYieldsInReverse Term }
+    {
+        self.items.iter()
+    }
+
+    /// Whether there are none.
+    pub fn is_empty(&self) -> bool
+        ensures { IsTrue result ↔ (self.now ≡ []) }
+    {
+        self.items.is_empty()
     }
 
     /// How many terms there are.

@@ -1,6 +1,7 @@
 // Each public call once, with ample memory, on rows worked out by hand.
 
 use super::*;
+use plain_types::{Mem, NameLit, Names};
 use std::alloc::Global;
 use std::test::Fail;
 
@@ -101,7 +102,12 @@ fn variables_are_put_in(rt: HostRuntime) -> Result<(), Fail> {
     let instance = apply(alloc, &subst, &term)?;
     assert!(rt; same_term(&instance, &unary(alloc, F, constant(alloc, A))?));
     let wanted = atom(alloc, unary(alloc, P, constant(alloc, A))?);
-    assert!(rt; same_literal(&apply_literal(alloc, &subst, &literal)?, &wanted));
+    assert!(rt;
+        same_literal(
+            apply_literal(alloc, &subst, &literal)?.lend(),
+            wanted.lend()
+        )
+    );
     Ok(())
 }
 
@@ -141,9 +147,9 @@ fn copies_are_equal(rt: HostRuntime) -> Result<(), Fail> {
     let mut literals = Vec::new(alloc);
     push_literal_copies(alloc, &mut literals, clause.literals.as_slice())?;
     assert_eq!(rt; literals.len(), 2);
-    assert!(rt; same_literal(&literals[0].copy(alloc)?, &literals[0]));
-    assert!(rt; !same_literal(&literals[0], &literals[1]));
-    assert!(rt; same_literals(literals.as_slice(), clause.literals.as_slice()));
+    assert!(rt; same_literal(literals[0].copy(alloc)?.lend(), literals[0].lend()));
+    assert!(rt; !same_literal(literals[0].lend(), literals[1].lend()));
+    assert!(rt; same_literals(&literals.as_slice(), &clause.literals));
     Ok(())
 }
 
@@ -190,5 +196,50 @@ fn a_tall_term_is_measured_and_dropped(rt: HostRuntime) -> Result<(), Fail> {
     assert_eq!(rt; tower.size(), 20_001);
     assert_eq!(rt; tower.variable_bound(), 1);
     assert!(rt; same_term(&tower.copy(alloc)?, &tower));
+    Ok(())
+}
+
+#[test]
+fn literals_are_lent(rt: HostRuntime) -> Result<(), Fail> {
+    let alloc = rt.alloc();
+    let clause = two_atoms(alloc, 3, 1)?;
+    assert_eq!(rt; clause.literals.count(), 2);
+    let first = clause.literals.literal(0);
+    let turned = first.exchanged();
+    assert!(rt; same_term(turned.side(Side::Left), first.other_side(Side::Left)));
+    assert!(rt; equivalent_literals(first, turned) && !same_literal(first, turned));
+    assert_eq!(rt; turned.size(), 3);
+    assert_eq!(rt; turned.variable_bound(), 4);
+    let slice = clause.literals.as_slice();
+    assert!(rt; same_literals(&clause.literals, &slice));
+    assert!(rt; same_literal(first.copy(alloc)?.lend(), slice.literal(0)));
+    Ok(())
+}
+
+#[test]
+fn instances_are_told_without_building(rt: HostRuntime) -> Result<(), Fail> {
+    let alloc = rt.alloc();
+    let mut subst = Subst::new(alloc);
+    subst.push(unary(alloc, F, Term::Var(1))?)?;
+    let term = binary(alloc, Q, Term::Var(0), Term::Var(2))?;
+    let instance = binary(alloc, Q, unary(alloc, F, Term::Var(1))?, Term::Var(2))?;
+    assert!(rt; subst.term(0).is_some() && subst.term(1).is_none());
+    assert_eq!(rt; instance_size(&term, &subst), 4);
+    assert!(rt; is_instance(&term, &subst, &instance));
+    assert!(rt; same_instance(&term, &subst, &instance, &Subst::new(alloc)));
+    assert!(rt; !same_instance(&term, &subst, &term, &Subst::new(alloc)));
+    Ok(())
+}
+
+#[test]
+fn lists_of_terms_are_walked(rt: HostRuntime) -> Result<(), Fail> {
+    let alloc = rt.alloc();
+    let mut terms = Terms::new(alloc);
+    assert!(rt; terms.is_empty());
+    terms.push(Term::truth(alloc))?;
+    assert!(rt; !terms.is_empty() && terms.iter().all(|term| term.is_truth()));
+    let mut found = Vec::new(alloc);
+    push_variables(&binary(alloc, F, Term::Var(3), Term::Var(1))?, &mut found)?;
+    assert!(rt; found.as_slice() == [3u32, 1].as_slice());
     Ok(())
 }

@@ -47,7 +47,7 @@ impl Literal {
         ensures value { result ≡ bound_of (literal_variables (literal_of self.now)) }
         ensures limit { result ≤ 2 ^ 32 }
     {
-        self.left.variable_bound().max(self.right.variable_bound())
+        self.lend().variable_bound()
     }
 }
 
@@ -77,9 +77,9 @@ impl Clause {
     }
 }
 
-/// Adds the numbers of a term's variables at the end.
+/// Adds the numbers of a term's variables at the end, with repetitions, from left to right.
 #[cycle(push_variables)]
-fn push_variables(term: &Term, found: &mut Vec<u32>) -> Mem<()>
+pub fn push_variables(term: &Term, found: &mut Vec<u32>) -> Mem<()>
     ensures { IfOk result (λ _. found.new.items ≡ found.old.items ++ tree_variables (tree_of term.now)) }
 {
     match term {

@@ -7,7 +7,7 @@ ghost use Rattle.fol_base.specs.Unifier.{IsUnifier, IsUnifierApart, IsMostGenera
 ghost use Rattle.fol_base.specs.Subsumption.{Subsumes, assertions, is_among};
 ghost use Rattle.fol_base.specs.Kind.{is_literal, are_predicate_atoms, is_predicate_of};
 ghost use Rattle.fol_base.specs.WellFormed.{is_literal_of, are_literals_of};
-ghost use Rattle.fol_base.specs.Symbols.{are_function_symbols, have_one_arity};
+ghost use Rattle.fol_base.specs.Symbols.{are_function_symbols, have_one_arity, FunctionSymbols};
 ghost use Rattle.fol_base.specs.Tree.{true_tree};
 ghost use Rattle.fol_base.specs.GroundForm.{is_atom_literal, IsGroundForm, form_size};
 ghost use Rattle.fol_base.specs.Examples.{x, a, b, f, f₂, g, p, q, r, equation, disequation, clause, is_predicate, symbols, with_predicate, with_two_arities, use_of_symbols, all_a, all_b, first_is, even, odd, first_is_a};
@@ -47,6 +47,7 @@ pub fn kind_examples()
     ensures atom_below_a_function { IsFalse (is_literal is_predicate (equation (f (p a).left) b)) }
     ensures function_symbols { IsTrue (are_function_symbols is_predicate symbols) }
     ensures no_function_symbol { IsFalse (are_function_symbols is_predicate with_predicate) }
+    ensures no_list_with_a_predicate { (functions : FunctionSymbols is_predicate) → functions.symbols ≡ with_predicate → ⊥ }
     ensures one_arity { IsTrue (have_one_arity symbols) }
     ensures two_arities { IsFalse (have_one_arity with_two_arities) }
     ensures atoms { IsTrue (are_predicate_atoms is_predicate (clause (p a ∷ []) ∷ clause (r ∷ disequation (q a).left true_tree ∷ []) ∷ [])) }

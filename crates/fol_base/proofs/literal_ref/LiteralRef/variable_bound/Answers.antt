@@ -2,8 +2,8 @@ use Rattle.std.proofs.Common.{arith}
 use Rattle.fol_base.specs.Tree.{tree_variables}
 use Rattle.fol_base.specs.Term.{tree_of}
 use Rattle.fol_base.proofs.VariableLemmas.{bound_of-append}
-use Rattle.fol_base.proofs.clause.Literal.variable_bound.Goals as goal
+use Rattle.fol_base.proofs.literal_ref.LiteralRef.variable_bound.Goals as goal
 
 pub returns-clause-value : goal.returns-clause-value
 returns-clause-value c =
-    omega (arith, bound_of-append (tree_variables (tree_of c.args.self.now.left)) (tree_variables (tree_of c.args.self.now.right)))
+    omega (arith, bound_of-append (tree_variables (tree_of c.args.self.left.now)) (tree_variables (tree_of c.args.self.right.now)))
