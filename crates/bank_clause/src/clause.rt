@@ -19,7 +19,8 @@ ghost use Rattle.bank_clause.specs.Clause.{
 
 use crate::interning::{bare_names, intern_literals};
 use crate::trees::{negative_names, tree_literals};
-use fol_base::{Clause, Literals, Mem, Names};
+use fol_base::{Clause, Literals};
+use plain_types::{Mem, Names};
 use smallvec::SmallVec;
 use std::alloc::Global;
 use std::marker::Model;

@@ -9,7 +9,8 @@ ghost use Rattle.term_bank.specs.Interning.{InternsAll, InternsFirst};
 ghost use Rattle.bank_clause.specs.Clause.{IsKnown, literal_sides, sides};
 
 use crate::clause::BankLits;
-use fol_base::{Literal, Mem, NameLit};
+use fol_base::Literal;
+use plain_types::{Mem, NameLit};
 use smallvec::SmallVec;
 use std::alloc::Global;
 use term_bank::{Bank, BankLit, Table};

@@ -9,9 +9,8 @@ ghost use Rattle.bank_clause.specs.Clause.{AreAssertions, IsCanonical, IsClauseO
 
 use super::*;
 use crate::trees::negative_names;
-use fol_base::{
-    Clause, Literal, Literals, Mem, Names, NoMemory, Term, Terms, canonical, same_clause, same_term,
-};
+use fol_base::{Clause, Literal, Literals, Term, Terms, canonical, same_clause, same_term};
+use plain_types::{Mem, Names, NoMemory};
 use std::alloc::Global;
 use std::test::Fail;
 use term_bank::{Bank, Table};

@@ -5,7 +5,8 @@ ghost use Rattle.fol_base.specs.Literal.{literal_of};
 ghost use Rattle.term_bank.specs.Literal.{IsLiteralOf, AreLiteralsOf, literal_in, literals_in};
 ghost use Rattle.bank_clause.specs.Clause.{assertion};
 
-use fol_base::{Literal, Mem, NameLit};
+use fol_base::Literal;
+use plain_types::{Mem, NameLit};
 use std::alloc::Global;
 use term_bank::{Bank, BankLit};
 

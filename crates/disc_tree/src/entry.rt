@@ -6,7 +6,8 @@ ghost use Rattle.fol_base.specs.Term.{tree_of};
 ghost use Rattle.disc_tree.specs.Entries.{without_front};
 ghost use Rattle.disc_tree.specs.Rows.{IsNamed};
 
-use fol_base::{Mem, Term, Terms};
+use fol_base::{Term, Terms};
+use plain_types::Mem;
 use std::alloc::Global;
 use std::marker::Model;
 use std::snapshot::Snapshot;

@@ -3,7 +3,8 @@
 
 use super::tests::{binary, constant, next, unary};
 use super::*;
-use fol_base::{Mem, Numbers, Term};
+use fol_base::Term;
+use plain_types::{Mem, Numbers};
 use std::alloc::Global;
 use std::test::Fail;
 

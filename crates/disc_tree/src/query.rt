@@ -10,7 +10,8 @@ use crate::label::Label;
 use crate::node::Node;
 use crate::steps::Steps;
 use crate::work::{Rest, Skipped};
-use fol_base::{Mem, Term};
+use fol_base::Term;
+use plain_types::Mem;
 use std::sync::ledger::Ledger;
 
 /// Whose variables may stand for terms.

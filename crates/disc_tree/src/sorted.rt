@@ -9,7 +9,8 @@ ghost use Rattle.disc_tree.specs.Entries.{IsWith};
 ghost use Rattle.disc_tree.specs.Rows.{number_of, IsNamed, IsEntryTaken, IsNoEntry};
 
 use crate::entry::Entry;
-use fol_base::{Mem, Term};
+use fol_base::Term;
+use plain_types::Mem;
 use std::alloc::Global;
 use std::marker::Model;
 

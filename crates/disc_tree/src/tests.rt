@@ -3,7 +3,8 @@
 ghost use Rattle.std.specs.Prelude.{◌≡◌, ◌<◌};
 
 use super::*;
-use fol_base::{Mem, Numbers, Term, Terms};
+use fol_base::{Term, Terms};
+use plain_types::{Mem, Numbers};
 use std::alloc::Global;
 use std::marker::Brand;
 use std::sync::ledger::{Blank, Ledger};

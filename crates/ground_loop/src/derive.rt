@@ -14,7 +14,8 @@ ghost use Rattle.ground_loop.specs.Lines.{AddsClause, AddsClauses, AreGroundEntr
 use crate::derive::cone::{Cone, cone_of_last};
 use crate::derive::steps::{push_merges, push_resolvent};
 use crate::entry::{Entries, Entry, Origin};
-use fol_base::{Clauses, Mem, Numbers, Terms};
+use fol_base::{Clauses, Terms};
+use plain_types::{Mem, Numbers};
 use kernel_steps::{Derivation, Line, Step};
 use std::alloc::Global;
 

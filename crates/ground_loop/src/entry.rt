@@ -1,6 +1,7 @@
 // Sets of ground literals as the search keeps them.
 
-use fol_base::{Sequence, Terms};
+use fol_base::Terms;
+use plain_types::Sequence;
 
 /// A set's literals, rising: twice the number of the atom, and one more for its negation.
 pub type Codes = Sequence<u32>;

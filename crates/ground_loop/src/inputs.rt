@@ -6,7 +6,8 @@ ghost use Rattle.kernel_steps.specs.Derivation.{IsSourcedRefutation};
 ghost use Rattle.ground_loop.specs.Search.{IsClauseRefutation};
 ghost use Rattle.ground_loop.specs.Inputs.{shifted_step, shifted_line, input_of, inputs_of, with_inputs_of};
 
-use fol_base::{Clause, Clauses, Literals, Mem, Names, NoMemory};
+use fol_base::{Clause, Clauses, Literals};
+use plain_types::{Mem, Names, NoMemory};
 use kernel_steps::{Derivation, Line, Step};
 use std::alloc::Global;
 

@@ -11,7 +11,8 @@ use crate::derive::derive;
 use crate::entry::Found;
 use crate::inputs::with_inputs;
 use crate::search::search;
-use fol_base::{Clauses, Mem};
+use fol_base::Clauses;
+use plain_types::Mem;
 use std::alloc::Global;
 
 /// Resolves ground clauses without equality until the empty clause is derived, nothing is left to resolve, or

@@ -16,7 +16,8 @@ use crate::search::atoms::Atoms;
 use crate::search::clause::add_clauses;
 use crate::search::saturation::{Progress, Saturation};
 use crate::search::sets::Sets;
-use fol_base::{Clauses, Mem};
+use fol_base::Clauses;
+use plain_types::Mem;
 use std::alloc::Global;
 
 /// Makes resolvents until one is empty, none is left to make, or `limit` inferences are counted.

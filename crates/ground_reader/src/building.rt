@@ -11,7 +11,8 @@ ghost use Rattle.ground_reader.specs.Building.{trees_made, sides_of, formula_sid
 
 use crate::occurrence::Occurrence;
 use crate::reading::Outline;
-use fol_base::{Clause, Clauses, Literal, Literals, Mem, Names, Term, Terms};
+use fol_base::{Clause, Clauses, Literal, Literals, Term, Terms};
+use plain_types::{Mem, Names};
 use std::alloc::Global;
 
 /// The terms that the symbols make, the first of them last. From the right, each symbol takes as

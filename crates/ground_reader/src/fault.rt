@@ -2,7 +2,7 @@
 
 ghost use Rattle.std.specs.Prelude.{◌≡◌};
 
-use fol_base::NoMemory;
+use plain_types::NoMemory;
 use std::alloc::{AllocError, AllocFailed};
 use std::error::Error;
 use std::fmt;

@@ -23,7 +23,7 @@ mod token;
 
 use building::{build_clauses, build_terms};
 pub use fault::GroundFault;
-use fol_base::{Mem, Text, Texts};
+use plain_types::{Mem, Text, Texts};
 use numbering::{number, owned_symbols};
 pub use problem::{GroundProblem, GroundRole, GroundRoles, GroundSymbol, GroundSymbols};
 use reading::{Outline, read_script};

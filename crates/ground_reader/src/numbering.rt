@@ -7,7 +7,7 @@ ghost use Rattle.ground_reader.specs.GroundText.{symbol_key};
 
 use crate::occurrence::{Occurrence, TRUE};
 use crate::problem::{GroundSymbol, GroundSymbols};
-use fol_base::{Mem, Text};
+use plain_types::{Mem, Text};
 use indexmap::IndexSet;
 use std::alloc::Global;
 

@@ -1,6 +1,7 @@
 // Ground problems.
 
-use fol_base::{Clauses, Sequence, Text, Texts};
+use fol_base::Clauses;
+use plain_types::{Sequence, Text, Texts};
 
 /// What a formula is for.
 #[derive(Clone, Copy, Debug, PartialEq, Eq)]

@@ -12,7 +12,8 @@ ghost use Rattle.ground_text.specs.Lines.{source_of, IsPara, line_text_of, role_
 use crate::names::{push_file, push_name};
 use crate::page::Page;
 use crate::terms::{push_literals, push_term};
-use fol_base::{Clause, Mem, Side, Term, Text};
+use fol_base::{Clause, Side, Term};
+use plain_types::{Mem, Text};
 use ground_reader::{GroundProblem, GroundRole, GroundSymbol};
 use kernel_steps::{Derivation, Line, Step};
 use std::alloc::Global;

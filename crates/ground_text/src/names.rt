@@ -6,7 +6,7 @@ ghost use Rattle.fol_base.specs.Spelling.{is_lower_word as lower_word, is_lower 
 ghost use Rattle.ground_text.specs.Names.{escaped_byte, name_text, shown_byte as shown_as, shown, problem_name, after_last_slash as behind_slash, without_suffix as before_suffix};
 
 use crate::page::Page;
-use fol_base::Mem;
+use plain_types::Mem;
 use std::alloc::Global;
 
 /// Whether a byte is a small letter.

@@ -3,7 +3,7 @@
 ghost use Rattle.std.specs.Prelude.{◌≡◌, [], ◌++◌, IfOk};
 ghost use Rattle.std.specs.Fmt.{decimal};
 
-use fol_base::{Mem, Text};
+use plain_types::{Mem, Text};
 use std::alloc::Global;
 use std::marker::Model;
 

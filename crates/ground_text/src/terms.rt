@@ -8,7 +8,8 @@ ghost use Rattle.ground_text.specs.Terms.{symbol_names, symbol_text, term_text, 
 
 use crate::names::push_name;
 use crate::page::Page;
-use fol_base::{Literal, Mem, Term};
+use fol_base::{Literal, Term};
+use plain_types::Mem;
 use ground_reader::GroundSymbol;
 
 /// Adds the name of a symbol, by its number.

@@ -1,7 +1,8 @@
 // What no clause says: texts written by hand, and that calls succeed.
 
 use super::*;
-use fol_base::{Clause, Literal, Literals, Mem, Names, Position, Side, Term, Terms, Text};
+use fol_base::{Clause, Literal, Literals, Position, Side, Term, Terms};
+use plain_types::{Mem, Names, Text};
 use ground_reader::{GroundSymbol, GroundSymbols, read_ground};
 use kernel_steps::{Derivation, Line, Step};
 use std::alloc::Global;

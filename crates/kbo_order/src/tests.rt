@@ -1,7 +1,8 @@
 // The comparisons on rows worked out by hand.
 
 use super::*;
-use fol_base::{Clause, Literal, Literals, Names, Term, Terms};
+use fol_base::{Clause, Literal, Literals, Term, Terms};
+use plain_types::Names;
 use std::alloc::Global;
 use std::test::Fail;
 

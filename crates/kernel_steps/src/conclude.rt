@@ -9,7 +9,8 @@ ghost use Rattle.kernel_steps.specs.Conclusion.{verdict, verdict_of, verdict_if,
 
 use crate::rules;
 use crate::step::{Derivation, Step, StepFault};
-use fol_base::{Clause, Literals, Names, Position, Side, Terms};
+use fol_base::{Clause, Literals, Position, Side, Terms};
+use plain_types::Names;
 use std::alloc::Global;
 
 const MOST_BOUND_SYMBOLS: u64 = 8000;

@@ -8,9 +8,8 @@ ghost use Rattle.fol_base.specs.Sides.{side_of, other_side_of, with_side};
 ghost use Rattle.fol_base.specs.Order.{equivalent_literals};
 ghost use Rattle.kernel_steps.specs.Rules.{superposed, para_literals, refl_literals, merge_literals};
 
-use fol_base::{
-    Literal, Literals, Mem, Position, Side, Term, at, push_literal_copies, replace_at, same_term,
-};
+use fol_base::{Literal, Literals, Position, Side, Term, at, push_literal_copies, replace_at, same_term};
+use plain_types::Mem;
 use std::alloc::Global;
 
 /// A side of a literal.

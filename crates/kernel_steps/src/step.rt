@@ -3,7 +3,8 @@
 ghost use Rattle.std.specs.Prelude.{◌≡◌};
 ghost use Rattle.kernel_steps.specs.declared.step.StepFault.TheVariants.{NoMemory};
 
-use fol_base::{Clause, Names, NoMemory, Numbers, Parts, Position, Sequence, Side, Terms};
+use fol_base::{Clause, Position, Side, Terms};
+use plain_types::{Names, NoMemory, Numbers, Parts, Sequence};
 
 /// A step of a derivation. Parents are line numbers and come first; literals and arguments count from 0,
 /// ordinary literals alone; a list of terms binds the variables of a parent, by number.

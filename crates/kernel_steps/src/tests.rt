@@ -6,7 +6,8 @@ ghost use Rattle.fol_base.specs.Literal.{literal_of};
 ghost use Rattle.kernel_steps.specs.Conclusion.{IsGroundLine, HasGroundParents};
 
 use super::*;
-use fol_base::{Clause, Literal, Literals, Mem, Names, Position, Side, Term, Terms};
+use fol_base::{Clause, Literal, Literals, Position, Side, Term, Terms};
+use plain_types::{Mem, Names};
 use std::alloc::Global;
 use std::process::Abort;
 use std::test::Fail;

@@ -6,7 +6,7 @@ mod report;
 mod run;
 mod words;
 
-use fol_base::{Mem, NoMemory};
+use plain_types::{Mem, NoMemory};
 use outside::{FileLibrary, StdoutSink};
 pub use run::run;
 use std::env;

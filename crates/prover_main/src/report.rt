@@ -4,7 +4,7 @@ ghost use Rattle.std.specs.Prelude.{◌≡◌, ◌++◌, IfOk};
 ghost use Rattle.ground_text.specs.Lines.{source_of, lines_text};
 ghost use Rattle.prover_main.specs.Report.{for_problem, status_line, output_line, refuted_report, closed_report, spent_line, spent_report, not_built_report, load_line, load_failed_report};
 
-use fol_base::{Mem, Text};
+use plain_types::{Mem, Text};
 use ground_reader::GroundProblem;
 use ground_text::{Page, Source, push_derivation, push_problem_name, push_shown};
 use kernel_steps::Derivation;

@@ -9,7 +9,7 @@ ghost use Rattle.prover_main.specs.Run.{IsDueOn, IsDueFor, Outside, IsRun, Deliv
 
 use crate::report;
 use crate::words::Words;
-use fol_base::{Mem, NoMemory, Text};
+use plain_types::{Mem, NoMemory, Text};
 use ground_loop::{Ground, prove_ground};
 use ground_reader::{GroundFault, GroundProblem, read_ground};
 use outside::{Library, LoadFault, Sink, deliver};

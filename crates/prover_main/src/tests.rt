@@ -1,6 +1,6 @@
 // What no clause says: that runs end with the report that they should, over memory.
 use super::*;
-use fol_base::Numbers;
+use plain_types::Numbers;
 use outside::{Files, MemFile, MemLibrary, MemSink};
 use std::alloc::Global;
 use std::test::Fail;

@@ -4,7 +4,7 @@ ghost use Rattle.std.specs.Prelude.{◌≡◌, [], ◌∷◌, ◌++◌, IfOk, On
 ghost use Rattle.std.specs.Option.{option_map};
 ghost use Rattle.prover_main.specs.Words.{proved_file, is_file_word as file_word};
 
-use fol_base::Mem;
+use plain_types::Mem;
 use std::alloc::Global;
 use std::marker::Model;
 

@@ -7,7 +7,8 @@ ghost use Rattle.term_bank.specs.declared.reference.TermRef.{TermRef as AReferen
 
 use crate::key::{TermKey, Wanted};
 use crate::reference::TermRef;
-use fol_base::{Mem, Term, Terms};
+use fol_base::{Term, Terms};
+use plain_types::Mem;
 use indexmap::IndexMap;
 use std::alloc::Global;
 

@@ -4,7 +4,8 @@ ghost use Rattle.std.specs.Prelude.{◌<◌};
 ghost use Rattle.term_bank.specs.Bank.{IsTableOf};
 
 use super::*;
-use fol_base::{Mem, Term, Terms, same_term};
+use fol_base::{Term, Terms, same_term};
+use plain_types::Mem;
 use std::alloc::Global;
 use std::default::Default;
 use std::test::Fail;

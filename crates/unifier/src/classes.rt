@@ -3,7 +3,7 @@
 ghost use Rattle.std.specs.Prelude.{◌≡◌, ℕ, ◌≤◌, ◌<◌, true, false, length, IfOk, MatchBool};
 
 use crate::cells::{Cell, Relation};
-use fol_base::Mem;
+use plain_types::Mem;
 use std::alloc::Global;
 
 /// The classes, as trees of parents, and for each a cell that tells most of it.

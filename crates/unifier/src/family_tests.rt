@@ -4,7 +4,8 @@ ghost use Rattle.std.specs.Prelude.{◌≤◌};
 
 use super::tests::{binary, constant, size_of_equation};
 use super::*;
-use fol_base::{Mem, Side, Term, Terms, same_term};
+use fol_base::{Side, Term, Terms, same_term};
+use plain_types::Mem;
 use std::alloc::Global;
 use std::test::Fail;
 use term_bank::Bank;

@@ -7,7 +7,7 @@ ghost use Rattle.unifier.specs.Joining.{IsMerged, IsShortened};
 
 use crate::cells::{Cell, Relation};
 use crate::classes::Classes;
-use fol_base::Mem;
+use plain_types::Mem;
 use std::alloc::Global;
 
 /// Room for the pairs that are due at once in terms of usual size.

@@ -8,7 +8,8 @@ ghost use Rattle.fol_base.specs.Term.{tree_of};
 ghost use Rattle.unifier.specs.Layout.{AreRising, HavePlaces, all_pass, cell_of, code_of, has_place};
 
 use crate::cells::Cell;
-use fol_base::{Mem, Side, Term};
+use fol_base::{Side, Term};
+use plain_types::Mem;
 use std::alloc::Global;
 
 /// The cells of two terms, with one cell for each variable. The places are in the order of the variables'

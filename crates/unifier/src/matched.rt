@@ -6,7 +6,8 @@ ghost use Rattle.fol_base.specs.Instance.{substitution};
 ghost use Rattle.fol_base.specs.Canonical.{terms_from};
 ghost use Rattle.unifier.specs.Matching.{HasPairs, are_below, by_pairs, term_for};
 
-use fol_base::{Mem, Subst, Term, Terms};
+use fol_base::{Subst, Term, Terms};
+use plain_types::Mem;
 use std::alloc::Global;
 use std::marker::Model;
 

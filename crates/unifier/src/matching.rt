@@ -8,7 +8,8 @@ ghost use Rattle.unifier.specs.Laws.{AreFunctionPairs, are_of_one_kind};
 ghost use Rattle.unifier.specs.Walk.{met, walk, walk_all};
 
 use crate::matched::Matched;
-use fol_base::{Mem, Term, same_term};
+use fol_base::{Term, same_term};
+use plain_types::Mem;
 use std::alloc::Global;
 
 /// The matcher that has the pairs of `so_far` and one pair for each further variable of the pattern.

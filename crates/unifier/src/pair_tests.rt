@@ -6,7 +6,8 @@ ghost use Rattle.std.specs.Prelude.{◌<◌};
 
 use super::tests::{binary, constant, unary};
 use super::*;
-use fol_base::{Mem, Term};
+use fol_base::Term;
+use plain_types::Mem;
 use std::alloc::Global;
 use std::test::Fail;
 

@@ -5,7 +5,7 @@ ghost use Rattle.unifier.specs.Placing.{AddsParts, PartsBelow};
 
 use crate::cells::Cell;
 use crate::classes::Classes;
-use fol_base::Mem;
+use plain_types::Mem;
 use std::alloc::Global;
 
 /// One cell for each class that was placed, and the places of the classes' smallest cells.

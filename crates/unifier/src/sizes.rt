@@ -14,7 +14,8 @@ ghost use Rattle.unifier.specs.Sizes.{AreSizes, size_by, stopped};
 use crate::bindings::Bindings;
 use crate::cells::Cell;
 use crate::layout::{code, find_place};
-use fol_base::{Mem, Side, Term};
+use fol_base::{Side, Term};
+use plain_types::Mem;
 use term_bank::{Bank, BankLit};
 
 impl Bindings {

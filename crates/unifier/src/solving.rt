@@ -11,7 +11,7 @@ use crate::cells::Cell;
 use crate::classes::Classes;
 use crate::layout::{Layout, Place};
 use crate::placing::Placing;
-use fol_base::Mem;
+use plain_types::Mem;
 use std::alloc::Global;
 
 /// The bindings that give two cells one value. None where nothing does.

@@ -22,7 +22,8 @@ ghost use Rattle.unifier.specs.Renaming.{
 use crate::bindings::Bindings;
 use crate::cells::Cell;
 use crate::layout::{code, find_place};
-use fol_base::{Mem, Side, Subst, Term, Terms};
+use fol_base::{Side, Subst, Term, Terms};
+use plain_types::Mem;
 use std::alloc::Global;
 
 impl Bindings {

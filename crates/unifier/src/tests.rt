@@ -4,7 +4,8 @@ ghost use Rattle.std.specs.Prelude.{◌≤◌, ◌^◌};
 ghost use Rattle.term_bank.specs.Bank.{IsOf};
 
 use super::*;
-use fol_base::{Mem, Side, Subst, Term, Terms, same_term};
+use fol_base::{Side, Subst, Term, Terms, same_term};
+use plain_types::Mem;
 use std::alloc::Global;
 use std::test::Fail;
 use term_bank::{Bank, BankLit, TermRef};

@@ -10,7 +10,8 @@ use crate::bindings::Bindings;
 use crate::clash::clash;
 use crate::layout::Layout;
 use crate::solving::solve;
-use fol_base::{Mem, Side, Term};
+use fol_base::{Side, Term};
+use plain_types::Mem;
 use std::alloc::Global;
 
 /// A most general unifier (Robinson 1965). None exactly where no unifier exists. With `apart` the

@@ -5,7 +5,8 @@ ghost use Rattle.fol_base.specs.Literal.{clause_of};
 ghost use Rattle.ground_loop.specs.Lines.{HasOrigins, HasPlaces, IsCone, entries_with, clauses_with};
 
 use crate::entry::{Entry, Origin};
-use fol_base::{Clauses, Mem};
+use fol_base::Clauses;
+use plain_types::Mem;
 use std::alloc::Global;
 
 /// Marks of entries and of clauses of the form, by number.

@@ -10,7 +10,8 @@ ghost use Rattle.kernel_steps.specs.Conclusion.{verdict, line_clause, IsGroundLi
 ghost use Rattle.ground_loop.specs.Resolution.{atom_literal, has_literal, can_resolve};
 ghost use Rattle.ground_loop.specs.Lines.{IsRepeat, IsNew, line_literals, Concludes, AddsLine, IsSetLine, IsMerged, IsResolved, IsResolvent};
 
-use fol_base::{Literal, Mem, NoMemory, Position, Side, Term, Terms, same_literal, same_term};
+use fol_base::{Literal, Position, Side, Term, Terms, same_literal, same_term};
+use plain_types::{Mem, NoMemory};
 use kernel_steps::{Derivation, Line, Step, StepFault, conclusion};
 use std::alloc::Global;
 

@@ -5,7 +5,8 @@ ghost use Rattle.fol_base.specs.Tree.{trees_of};
 ghost use Rattle.fol_base.specs.Term.{tree_of};
 ghost use Rattle.ground_loop.specs.Table.{key_of, keys_of, IsTable, Numbers};
 
-use fol_base::{Mem, Term, Terms};
+use fol_base::{Term, Terms};
+use plain_types::Mem;
 use std::alloc::Global;
 use std::collections::HashMap;
 

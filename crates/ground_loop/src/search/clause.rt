@@ -11,7 +11,8 @@ use crate::entry::Origin;
 use crate::search::atoms::Atoms;
 use crate::search::codes::make_rising;
 use crate::search::sets::Sets;
-use fol_base::{Clause, Literal, Mem};
+use fol_base::{Clause, Literal};
+use plain_types::Mem;
 use std::alloc::Global;
 
 /// Adds the sets of the clauses up to and with the first empty one, and says whether there is one.

@@ -5,7 +5,7 @@ ghost use Rattle.std.specs.Bool.{MatchBool};
 ghost use Rattle.std.specs.List.Sorted.{IsStrictlyIncreasing};
 ghost use Rattle.ground_loop.specs.Codes.{has_number, complement_code, HasBoth, LacksBoth, IsCodeResolvent};
 
-use fol_base::Mem;
+use plain_types::Mem;
 use std::alloc::Global;
 
 /// The code of the negation.

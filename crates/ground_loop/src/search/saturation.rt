@@ -7,7 +7,7 @@ ghost use Rattle.ground_loop.specs.Saturation.{Meets, code_at, IsBetween, IsReso
 use crate::entry::{Codes, Origin};
 use crate::search::codes::{complement, resolvent_codes};
 use crate::search::sets::Sets;
-use fol_base::Mem;
+use plain_types::Mem;
 use std::alloc::Global;
 
 /// How far the search has come.

@@ -10,7 +10,7 @@ ghost use Rattle.ground_loop.specs.Sets.{AreSets, Adds, AddsNew, IsBalanced, wai
 
 use crate::entry::{Codes, Entries, Entry, Origin};
 use crate::search::codes::is_tautology;
-use fol_base::{Mem, NoMemory};
+use plain_types::{Mem, NoMemory};
 use std::alloc::Global;
 use std::cmp::Reverse;
 use std::collections::{BinaryHeap, HashSet};

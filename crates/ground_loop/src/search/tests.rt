@@ -6,7 +6,8 @@ ghost use Rattle.fol_base.specs.Literal.{literal_of, clause_of};
 use super::*;
 use crate::answer::Ground;
 use crate::prove::prove_ground;
-use fol_base::{Clause, Literal, Literals, Names, NoMemory, Term, Terms};
+use fol_base::{Clause, Literal, Literals, Term, Terms};
+use plain_types::{Names, NoMemory};
 
 /// A predicate without arguments by its number, negated below zero.
 fn literal(alloc: Global, number: i8) -> Literal
