@@ -8,9 +8,9 @@ use Rattle.fol_base.specs.Instance.{Substitution, instance, instances}
 use Rattle.fol_base.specs.Place.{argument, with_argument, subterm, replaced}
 use Rattle.fol_base.specs.InstanceLaws.{SubtermsOfInstances, ReplacementsInInstances}
 use Rattle.fol_base.proofs.TreeLemmas.{instances-trees_of}
-use Rattle.fol_base.proofs.TestLemmas.{option_map-some}
+use Rattle.fol_base.proofs.PlaceLemmas.{replaced-parts}
 
-list_of-instances : (σ : Substitution) (ts : Trees) → list_of (instances σ ts) ≡ map (instance σ) (list_of ts)
+pub list_of-instances : (σ : Substitution) (ts : Trees) → list_of (instances σ ts) ≡ map (instance σ) (list_of ts)
 list_of-instances σ no_trees = refl
 list_of-instances σ (tree_then t ts) = ap (λ us. instance σ t ∷ us) (list_of-instances σ ts)
 
@@ -38,10 +38,8 @@ subterms_of_instances σ (k ∷ place) t u at =
 pub replacements_in_instances : ReplacementsInInstances
 replacements_in_instances σ [] new t made put = ap (λ w. let r : Option Tree = Some (instance σ w) in r) (same_Some new made put)
 replacements_in_instances σ (k ∷ place) new t made put =
-    let step : Tree → Option Tree = λ a. option_map (λ b. with_argument k b t) (replaced place new a) in
-    let step_σ : Tree → Option Tree = λ a. option_map (λ b. with_argument k b (instance σ t)) (replaced place (instance σ new) a) in
-    option_and_then_some step (argument k t) made put λ a a_is a_put.
-    option_map-some (λ b. with_argument k b t) (replaced place new a) made a_put λ b b_is b_made.
-    ap (option_and_then step_σ) (argument-instance σ k t a a_is)
+    let step : Tree → Option Tree = λ a. option_map (λ b. with_argument k b (instance σ t)) (replaced place (instance σ new) a) in
+    replaced-parts k place new t made put λ a b a_is b_is gives.
+    ap (option_and_then step) (argument-instance σ k t a a_is)
     ∙ ap (option_map (λ c. with_argument k c (instance σ t))) (replacements_in_instances σ place new a b b_is)
-    ∙ ap (λ w. let r : Option Tree = Some w in r) (with_argument-instance σ k t a b a_is ∙ ap (instance σ) b_made)
+    ∙ ap (λ w. let r : Option Tree = Some w in r) (with_argument-instance σ k t a b a_is ∙ ap (instance σ) gives)

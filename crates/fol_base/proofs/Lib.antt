@@ -12,7 +12,11 @@ pub mod TreeOrderLemmas
 pub mod ClauseOrderLemmas
 pub mod InstanceLemmas
 pub mod InstancePlaces
+pub mod RuleLemmas
 pub mod InferenceLemmas
+pub mod ConversePlaces
+pub mod KindLemmas
+pub mod WellFormedLemmas
 pub mod GroundInstanceLemmas
 pub mod CoverageLemmas
 pub mod ExampleLemmas

@@ -2,11 +2,13 @@
 use Rattle.std.proofs.Common.{◌≡◌, ℕ, zero, suc, ◌+◌, ◌<◌, ◌≤◌, Option, None, Some, List, [], ◌∷◌, length, map, drop, get_or, refl, ap, sym, ◌∙◌, arith}
 use Rattle.std.specs.Prelude.{slice_get, slice_set, option_and_then}
 use Rattle.std.specs.Option.{option_map}
+use Rattle.std.proofs.lemmas.Option.{option_and_then_some}
 use Rattle.fol_base.specs.Tree.{Tree, application, trees_of}
 use Rattle.fol_base.specs.Place.{argument, subterm, replaced, with_argument}
 use Rattle.fol_base.specs.Term.{tree_of}
 use Rattle.fol_base.specs.declared.term.Term.{Term}
 use Rattle.fol_base.proofs.TreeLemmas.{list_of-trees_of}
+use Rattle.fol_base.proofs.TestLemmas.{option_map-some}
 
 -- an argument that is there, as it is read from a slice
 pub argument-item :
@@ -88,3 +90,13 @@ replaced-made place i new a inner f arguments made h there below set_is =
     ∙ ap (option_map (λ b. with_argument (get_or place i 0) b (application f (trees_of arguments)))) below
     ∙ ap (λ us. Some (application f (trees_of (slice_set us (get_or place i 0) inner)))) (list_of-trees_of arguments)
     ∙ ap (λ us. Some (application f (trees_of us))) (sym set_is)
+
+-- a replacement below the head: an argument is exchanged
+pub replaced-parts :
+    {P : Type 0} (k : ℕ) (place : List ℕ) (new t made : Tree)
+    → replaced (k ∷ place) new t ≡ Some made
+    → ((a b : Tree) → argument k t ≡ Some a → replaced place new a ≡ Some b → with_argument k b t ≡ made → P) → P
+replaced-parts k place new t made put then =
+    option_and_then_some (λ a. option_map (λ b. with_argument k b t) (replaced place new a)) (argument k t) made put λ a a_is a_put.
+    option_map-some (λ b. with_argument k b t) (replaced place new a) made a_put λ b b_is gives.
+    then a b a_is b_is gives
