@@ -10,7 +10,7 @@ use Rattle.fol_base.specs.Instance.{Substitution, substitution}
 use Rattle.fol_base.specs.Clause.{TreeLiteral, TreeClause, clause_variables}
 use Rattle.fol_base.specs.Literal.{clause_of}
 use Rattle.fol_base.specs.Ground.{ground_over, is_over, IsGroundOver, GroundClause, literals_instance}
-use Rattle.fol_base.specs.Symbols.{FunctionSymbol}
+use Rattle.fol_base.specs.Symbols.{FunctionSymbols}
 use Rattle.fol_base.specs.Interpretation.{Interpretation, IsInterpretation, Assignment, tree_value, no_values, literals_true_under, clause_true, clauses_true}
 use Rattle.fol_base.specs.Covered.{InstanceOf}
 use Rattle.fol_base.proofs.MeaningLemmas.{constants_give_ground_trees, truth_of_instances}
@@ -33,22 +33,22 @@ values_of i σ v = tree_value i no_values (σ v)
 
 -- Ground instances of the form under which literals are true at ground trees for their variables, if the literal that a rule reads
 -- is there.
-record Support (is_predicate : ℕ → Bool) (functions : List FunctionSymbol) (form : List TreeClause) (σ : Substitution) (ls : List TreeLiteral) : Type 0 where
+record Support (is_predicate : ℕ → Bool) (functions : FunctionSymbols is_predicate) (form : List TreeClause) (σ : Substitution) (ls : List TreeLiteral) : Type 0 where
   by : List GroundClause
   instances : All (InstanceOf functions (Contains form)) by
   truth :
       (i : Interpretation) → IsInterpretation is_predicate i → clauses_true i by ≡ true → (k : ℕ) → TrueWith i (values_of i σ) ls k
 
 -- a line of a formula has no literals, and a clause line is grounded
-abbrev Stands : (ℕ → Bool) → List FunctionSymbol → List TreeClause → Step → TreeClause → Type 0
+abbrev Stands : (is_predicate : ℕ → Bool) → FunctionSymbols is_predicate → List TreeClause → Step → TreeClause → Type 0
 Stands is_predicate functions form step c =
     ((is_clause_step step ≡ false) × (c.literals ≡ [])) ⊎ IsGrounded is_predicate functions form c
 
 -- a parent under its binding
 bound-support :
-    (is_predicate : ℕ → Bool) (functions : List FunctionSymbol) (form : List TreeClause) (σ : Substitution) (bind : List Tree)
+    (is_predicate : ℕ → Bool) (functions : FunctionSymbols is_predicate) (form : List TreeClause) (σ : Substitution) (bind : List Tree)
     (step : Step) (c : TreeClause)
-    → IsGroundOver functions σ → list_all (is_over functions) bind ≡ true → Stands is_predicate functions form step c
+    → IsGroundOver functions σ → list_all (is_over functions.symbols) bind ≡ true → Stands is_predicate functions form step c
     → Support is_predicate functions form σ (bound_literals bind c)
 bound-support is_predicate functions form σ bind step c ground over (inl formula) = record {
   by = [];
@@ -67,19 +67,19 @@ bound-support is_predicate functions form σ bind step c ground over (inr ground
     grounds : Grounds is_predicate functions form g
     grounds =
         grounded g
-        (ground_instances_of_instances functions (substitution bind) c g
-        (λ k d within. get_or-passes (is_over functions) bind (get_or (clause_variables c) k d) (variable (get_or (clause_variables c) k d)) over refl)
+        (ground_instances_of_instances is_predicate functions (substitution bind) c g
+        (λ k d within. get_or-passes (is_over functions.symbols) bind (get_or (clause_variables c) k d) (variable (get_or (clause_variables c) k d)) over refl)
         (record { trees = σ; trees_ground = ground; literals = refl }))
 
-abbrev Before : (ℕ → Bool) → List FunctionSymbol → List TreeClause → List Line → ℕ → Type 0
+abbrev Before : (is_predicate : ℕ → Bool) → FunctionSymbols is_predicate → List TreeClause → List Line → ℕ → Type 0
 Before is_predicate functions form lines n =
     (m : ℕ) (line : Line) → m < n → slice_get lines m ≡ Some line → Stands is_predicate functions form line.step (clause_of line.clause)
 
 parent-support :
-    (is_predicate : ℕ → Bool) (functions : List FunctionSymbol) (form : List TreeClause) (lines : List Line) (n a : ℕ)
+    (is_predicate : ℕ → Bool) (functions : FunctionSymbols is_predicate) (form : List TreeClause) (lines : List Line) (n a : ℕ)
     (σ : Substitution) (bind : List Tree)
     → Before is_predicate functions form lines n → a < length (take n lines)
-    → IsGroundOver functions σ → list_all (is_over functions) bind ≡ true
+    → IsGroundOver functions σ → list_all (is_over functions.symbols) bind ≡ true
     → Support is_predicate functions form σ (bound_literals bind (line_clause (take n lines) a))
 parent-support is_predicate functions form lines n a σ bind earlier within ground over =
     subst (λ c. Support is_predicate functions form σ (bound_literals bind c)) (sym it.clause)
@@ -93,7 +93,7 @@ parent-support is_predicate functions form lines n a σ bind earlier within grou
 
 -- the conclusion of one parent, and of two
 one-grounds :
-    (is_predicate : ℕ → Bool) (functions : List FunctionSymbol) (form : List TreeClause) (σ : Substitution) (k : ℕ)
+    (is_predicate : ℕ → Bool) (functions : FunctionSymbols is_predicate) (form : List TreeClause) (σ : Substitution) (k : ℕ)
     (ls made : List TreeLiteral) (g : GroundClause)
     → g ≡ literals_instance σ made → Support is_predicate functions form σ ls
     → ((i : Interpretation) (ρ : Assignment) → TrueWith i ρ ls k → literals_true_under i ρ made ≡ true)
@@ -106,7 +106,7 @@ one-grounds is_predicate functions form σ k ls made g is support sound = record
 }
 
 two-grounds :
-    (is_predicate : ℕ → Bool) (functions : List FunctionSymbol) (form : List TreeClause) (σ : Substitution) (j k : ℕ)
+    (is_predicate : ℕ → Bool) (functions : FunctionSymbols is_predicate) (form : List TreeClause) (σ : Substitution) (j k : ℕ)
     (first second made : List TreeLiteral) (g : GroundClause)
     → g ≡ literals_instance σ made
     → Support is_predicate functions form σ first → Support is_predicate functions form σ second
@@ -123,9 +123,9 @@ two-grounds is_predicate functions form σ j k first second made g is one other 
 }
 
 step-stands :
-    (is_predicate : ℕ → Bool) (functions : List FunctionSymbol) (form : List TreeClause) (lines : List Line) (n : ℕ)
+    (is_predicate : ℕ → Bool) (functions : FunctionSymbols is_predicate) (form : List TreeClause) (lines : List Line) (n : ℕ)
     (step : Step) (c : TreeClause)
-    → Before is_predicate functions form lines n → list_all (list_all (is_over functions)) (bindings_of step) ≡ true
+    → Before is_predicate functions form lines n → list_all (list_all (is_over functions.symbols)) (bindings_of step) ≡ true
     → ComesBy step form (take n lines) c → Stands is_predicate functions form step c
 step-stands is_predicate functions form lines n (Input place) c earlier over comes = inl (refl, ap (λ (d : TreeClause). d.literals) comes)
 step-stands is_predicate functions form lines n (Negate place) c earlier over comes = inl (refl, ap (λ (d : TreeClause). d.literals) comes)
@@ -139,13 +139,13 @@ step-stands is_predicate functions form lines n (Clausify k) c earlier over come
       entailed = λ i ok all. (and_parts (clause_true i g) true all).0;
     }
 step-stands is_predicate functions form lines n (Para a b j s k z place first second) c earlier over comes =
-    let overs = and_parts (list_all (is_over functions) first) (list_all (is_over functions) second && true) over in
+    let overs = and_parts (list_all (is_over functions.symbols) first) (list_all (is_over functions.symbols) second && true) over in
     inr λ g made.
     two-grounds is_predicate functions form made.trees j k (bound_literals first (line_clause (take n lines) a))
     (bound_literals second (line_clause (take n lines) b)) c.literals g made.literals
     (parent-support is_predicate functions form lines n a made.trees first earlier comes.0 made.trees_ground overs.0)
     (parent-support is_predicate functions form lines n b made.trees second earlier comes.1 made.trees_ground
-    (and_parts (list_all (is_over functions) second) true overs.1).0)
+    (and_parts (list_all (is_over functions.symbols) second) true overs.1).0)
     (λ i ρ.
     para-truth i ρ (bound_literals first (line_clause (take n lines) a)) j s (bound_literals second (line_clause (take n lines) b)) k z
     place c.literals (verdict_if-concludes _ _ c comes.2))
@@ -153,13 +153,13 @@ step-stands is_predicate functions form lines n (Refl a k bind) c earlier over c
     inr λ g made.
     one-grounds is_predicate functions form made.trees k (bound_literals bind (line_clause (take n lines) a)) c.literals g made.literals
     (parent-support is_predicate functions form lines n a made.trees bind earlier comes.0 made.trees_ground
-    (and_parts (list_all (is_over functions) bind) true over).0)
+    (and_parts (list_all (is_over functions.symbols) bind) true over).0)
     (λ i ρ. refl-truth i ρ (bound_literals bind (line_clause (take n lines) a)) k c.literals (verdict_if-concludes _ _ c comes.1))
 step-stands is_predicate functions form lines n (Merge a j k bind) c earlier over comes =
     inr λ g made.
     one-grounds is_predicate functions form made.trees j (bound_literals bind (line_clause (take n lines) a)) c.literals g made.literals
     (parent-support is_predicate functions form lines n a made.trees bind earlier comes.0 made.trees_ground
-    (and_parts (list_all (is_over functions) bind) true over).0)
+    (and_parts (list_all (is_over functions.symbols) bind) true over).0)
     (λ i ρ. merge-truth i ρ (bound_literals bind (line_clause (take n lines) a)) j k c.literals (verdict_if-concludes _ _ c comes.1))
 step-stands is_predicate functions form lines n (Factor a j s k z bind) c earlier over comes = absurd comes
 step-stands is_predicate functions form lines n (Component name) c earlier over comes = absurd comes
@@ -169,13 +169,13 @@ step-stands is_predicate functions form lines n (Chain parents pivots) c earlier
 -- ---- derivations
 
 lines-stand :
-    (is_predicate : ℕ → Bool) (functions : List FunctionSymbol) (form : List TreeClause) (lines : List Line)
-    → BindsOver functions lines → IsDerivation form lines → (n : ℕ) → Before is_predicate functions form lines n
+    (is_predicate : ℕ → Bool) (functions : FunctionSymbols is_predicate) (form : List TreeClause) (lines : List Line)
+    → BindsOver functions.symbols lines → IsDerivation form lines → (n : ℕ) → Before is_predicate functions form lines n
 lines-stand is_predicate functions form lines over derived zero m line within at = absurd (omega arith)
 lines-stand is_predicate functions form lines over derived (suc n) m line within at =
     step-stands is_predicate functions form lines m line.step (clause_of line.clause)
     (λ a other before there. lines-stand is_predicate functions form lines over derived n a other (omega (arith, within, before)) there)
-    (slice_get-passes (binds_over functions) lines m line at over) (derived m line at)
+    (slice_get-passes (binds_over functions.symbols) lines m line at over) (derived m line at)
 
 pub lines_are_grounded : LinesAreGrounded
 lines_are_grounded is_predicate functions form lines over derived n line at is_clause =
@@ -184,16 +184,15 @@ lines_are_grounded is_predicate functions form lines over derived n line at is_c
 
 -- the empty clause is its own ground instance, so what grounds it is refuted
 pub refutations_herbrand_refute : RefutationsHerbrandRefute
-refutations_herbrand_refute is_predicate functions form lines functions_alone constant over refutation = record {
-  functions_alone = functions_alone;
+refutations_herbrand_refute is_predicate functions form lines constant over refutation = record {
   constant = constant;
   by = grounds.by;
   instances = grounds.instances;
   refuted = λ i ok. false_from_ne_true (clauses_true i grounds.by) (λ all. true≢false (sym (grounds.entailed i ok all)));
 }
   where
-    some_tree : (t : Tree) × (ground_over functions t ≡ true)
-    some_tree = (constants_give_ground_trees functions).1 constant
+    some_tree : (t : Tree) × (ground_over functions.symbols t ≡ true)
+    some_tree = (constants_give_ground_trees functions.symbols).1 constant
 
     is_last : slice_get lines (length refutation.before) ≡ Some refutation.last
     is_last = ap (λ ls. slice_get ls (length refutation.before)) refutation.ends ∙ slice_get-last refutation.before refutation.last

@@ -2,11 +2,12 @@
 use Rattle.std.proofs.Common.{◌≡◌, ℕ, zero, suc, ◌-◌, ◌^◌, ◌<◌, min, true, ◌&&◌, ◌==◌, List, [], ◌∷◌, length, map, get_or, refl, ap, sym, ◌∙◌, subst, arith, lit<, inl, inr, leb, Option, None, Some, Result, Ok, Err, IfOk}
 use Rattle.std.specs.Prelude.{slice_get, remove, option_and_then, sum_by, if◌then◌else◌}
 use Rattle.std.proofs.lemmas.Bool.{eqb-true, lt-leb, ne_eqb, cases_lt}
+use Rattle.fol_base.specs.declared.TheConstants.{MOST_BOUND_SYMBOLS}
 use Rattle.fol_base.specs.Canonical.{bound_of}
 use Rattle.fol_base.proofs.TreeLemmas.{and_left}
 use Rattle.fol_base.specs.declared.clause.Literal.{Literal}
 use Rattle.fol_base.specs.Order.{equivalent_literals}
-use Rattle.kernel_steps.specs.Rules.{merge_literals}
+use Rattle.fol_base.specs.Rules.{merged}
 use Rattle.fol_base.specs.Tree.{Tree, variable, application, Trees, no_trees, tree_then}
 use Rattle.fol_base.specs.Instance.{substitution, instance, instances}
 use Rattle.fol_base.specs.Clause.{TreeLiteral, TreeClause, literal_instance, literal_size, clause_size, clause_variables}
@@ -49,12 +50,12 @@ stopped_le n s most h e = elim (cases_lt most s) [
 
 pub binds-ground :
     (bind : List Tree) (c : TreeClause) (n : ℕ)
-    → length bind ≡ 0 → clause_variables c ≡ [] → n ≡ min (clause_size c) (2 ^ 64 - 1) → leb n 8000 ≡ binds bind c
+    → length bind ≡ 0 → clause_variables c ≡ [] → n ≡ min (clause_size c) (2 ^ 64 - 1) → leb n MOST_BOUND_SYMBOLS ≡ binds bind c
 binds-ground bind c n none ground size =
-    stopped_le n (clause_size c) 8000 (lit< tt) size
+    stopped_le n (clause_size c) MOST_BOUND_SYMBOLS (lit< tt) size
     ∙ sym (ap (λ b. binds b c) (length-zero bind none)
-    ∙ ap (λ vs. (0 == bound_of vs) && leb (clause_size (bound_clause [] c)) 8000) ground
-    ∙ ap (λ ls. leb (sum_by literal_size ls) 8000) (literals-none c.literals))
+    ∙ ap (λ vs. (0 == bound_of vs) && leb (clause_size (bound_clause [] c)) MOST_BOUND_SYMBOLS) ground
+    ∙ ap (λ ls. leb (sum_by literal_size ls) MOST_BOUND_SYMBOLS) (literals-none c.literals))
 
 -- a right binding of a ground clause changes nothing
 pub bound_literals-ground :
@@ -87,7 +88,7 @@ pub merge-made :
     (xs : List Literal) (i j : ℕ) (x y : Literal) (made : List TreeLiteral)
     → (i ≡ j → ⊥) → i < length xs → j < length xs → x ≡ get_or xs i x → y ≡ get_or xs j y
     → equivalent_literals (literal_of x) (literal_of y) ≡ true → made ≡ remove (map literal_of xs) j
-    → Some made ≡ merge_literals (map literal_of xs) i j
+    → Some made ≡ merged (map literal_of xs) i j
 merge-made xs i j x y made differ hi hj rx ry same is =
     sym
     (ap (λ b. if b then None else option_and_then (λ l. option_and_then (λ k. if equivalent_literals l k then Some (remove ls j) else None) (slice_get ls j)) (slice_get ls i))

@@ -16,7 +16,7 @@ use Rattle.fol_base.specs.declared.clause.Side.TheVariants.{Left, Right}
 use Rattle.fol_base.proofs.MeaningLemmas.{congruence_of_values}
 use Rattle.fol_base.proofs.TestLemmas.{option_map-some}
 use Rattle.fol_base.proofs.TreeLemmas.{tree_eq-true}
-use Rattle.kernel_steps.specs.Rules.{superposed, para_literals, refl_literals, merge_literals}
+use Rattle.fol_base.specs.Rules.{is_chosen, superposed_literal, superposed, resolved, merged}
 use Rattle.kernel_steps.specs.Soundness.{ParaIsSound, ReflIsSound, MergeIsSound}
 use Rattle.kernel_steps.proofs.TestLemmas.{list_any-remove, list_any-remove_other, list_any-set, if_some, else_some}
 
@@ -40,29 +40,29 @@ with_side-truth :
 with_side-truth i ρ Left new l e = ap (λ v. sides_true l.positive v (tree_value i ρ l.right)) e
 with_side-truth i ρ Right new l e = ap (λ v. sides_true l.positive (tree_value i ρ l.left) v) e
 
--- a superposed literal is true where the old one is, if the equation is
-superposed-truth :
+-- a superposed_literal literal is true where the old one is, if the equation is
+superposed_literal-truth :
     (i : Interpretation) (ρ : Assignment) (from into made : TreeLiteral) (s z : Side) (place : List ℕ)
-    → superposed from s into z place ≡ Some made → literal_true_under i ρ from ≡ true
+    → superposed_literal from s into z place ≡ Some made → literal_true_under i ρ from ≡ true
     → literal_true_under i ρ made ≡ literal_true_under i ρ into
-superposed-truth i ρ from into made s z place step holds =
+superposed_literal-truth i ρ from into made s z place step holds =
     option_and_then_some
-    (λ u. if from.positive && (not (is_truth (side_of s from)) && tree_eq u (side_of s from))
+    (λ u. if is_chosen from s && tree_eq u (side_of s from)
     then option_map (λ new. with_side z new into) (replaced place (other_side_of s from) (side_of z into))
     else None)
     (subterm place (side_of z into)) made step λ u u_is u_step.
     let chosen =
-    if_some (from.positive && (not (is_truth (side_of s from)) && tree_eq u (side_of s from)))
+    if_some (is_chosen from s && tree_eq u (side_of s from))
     (option_map (λ new. with_side z new into) (replaced place (other_side_of s from) (side_of z into))) made u_step in
-    let tests = and_parts from.positive (not (is_truth (side_of s from)) && tree_eq u (side_of s from)) chosen.0 in
-    let same : u ≡ side_of s from =
-    tree_eq-true u (side_of s from) (and_parts (not (is_truth (side_of s from))) (tree_eq u (side_of s from)) tests.1).1 in
+    let tests = and_parts (is_chosen from s) (tree_eq u (side_of s from)) chosen.0 in
+    let same : u ≡ side_of s from = tree_eq-true u (side_of s from) tests.1 in
+    let positive : from.positive ≡ true = (and_parts from.positive (not (is_truth (side_of s from))) tests.0).0 in
     option_map-some (λ new. with_side z new into) (replaced place (other_side_of s from) (side_of z into)) made chosen.1
     λ new new_is new_made.
     ap (literal_true_under i ρ) (sym new_made)
     ∙ with_side-truth i ρ z new into
     (congruence_of_values i ρ place (side_of z into) u (other_side_of s from) new u_is new_is
-    (other_value i ρ s from tests.0 holds ∙ ap (tree_value i ρ) (sym same)))
+    (other_value i ρ s from positive holds ∙ ap (tree_value i ρ) (sym same)))
 
 -- a disequation of equal sides is false
 disequation-false : (positive : Bool) (v : ℕ) → not positive ≡ true → sides_true positive v v ≡ false
@@ -119,24 +119,24 @@ TrueWith i ρ ls k = (l : TreeLiteral) → slice_get ls k ≡ Some l → literal
 pub para-truth :
     (i : Interpretation) (ρ : Assignment) (first : List TreeLiteral) (j : ℕ) (s : Side) (second : List TreeLiteral) (k : ℕ) (z : Side)
     (place : List ℕ) (made : List TreeLiteral)
-    → para_literals first j s second k z place ≡ Some made → TrueWith i ρ first j → TrueWith i ρ second k
+    → superposed first j s second k z place ≡ Some made → TrueWith i ρ first j → TrueWith i ρ second k
     → literals_true_under i ρ made ≡ true
 para-truth i ρ first j s second k z place made step first_true second_true =
     option_and_then_some
     (λ from. option_and_then
-    (λ into. option_map (λ new. slice_set second k new ++ remove first j) (superposed from s into z place))
+    (λ into. option_map (λ new. slice_set second k new ++ remove first j) (superposed_literal from s into z place))
     (slice_get second k))
     (slice_get first j) made step λ from from_at from_step.
-    option_and_then_some (λ into. option_map (λ new. slice_set second k new ++ remove first j) (superposed from s into z place))
+    option_and_then_some (λ into. option_map (λ new. slice_set second k new ++ remove first j) (superposed_literal from s into z place))
     (slice_get second k) made from_step λ into into_at into_step.
-    option_map-some (λ new. slice_set second k new ++ remove first j) (superposed from s into z place) made into_step
+    option_map-some (λ new. slice_set second k new ++ remove first j) (superposed_literal from s into z place) made into_step
     λ new new_is new_made.
     ap (literals_true_under i ρ) (sym new_made)
     ∙ list_any-append (literal_true_under i ρ) (slice_set second k new) (remove first j)
     ∙ ⊎_elim
     (λ holds.
     or_left (literals_true_under i ρ (slice_set second k new)) (literals_true_under i ρ (remove first j))
-    (list_any-set (literal_true_under i ρ) second k into new into_at (superposed-truth i ρ from into new s z place new_is holds)
+    (list_any-set (literal_true_under i ρ) second k into new into_at (superposed_literal-truth i ρ from into new s z place new_is holds)
     ∙ second_true into into_at))
     (λ fails.
     or_right (literals_true_under i ρ (slice_set second k new)) (literals_true_under i ρ (remove first j))
@@ -145,7 +145,7 @@ para-truth i ρ first j s second k z place made step first_true second_true =
 
 pub refl-truth :
     (i : Interpretation) (ρ : Assignment) (ls : List TreeLiteral) (k : ℕ) (made : List TreeLiteral)
-    → refl_literals ls k ≡ Some made → TrueWith i ρ ls k → literals_true_under i ρ made ≡ true
+    → resolved ls k ≡ Some made → TrueWith i ρ ls k → literals_true_under i ρ made ≡ true
 refl-truth i ρ ls k made step ls_true =
     option_and_then_some (λ l. if not l.positive && tree_eq l.left l.right then Some (remove ls k) else None) (slice_get ls k) made step
     λ l l_at l_step.
@@ -159,7 +159,7 @@ refl-truth i ρ ls k made step ls_true =
 
 pub merge-truth :
     (i : Interpretation) (ρ : Assignment) (ls : List TreeLiteral) (j k : ℕ) (made : List TreeLiteral)
-    → merge_literals ls j k ≡ Some made → TrueWith i ρ ls j → literals_true_under i ρ made ≡ true
+    → merged ls j k ≡ Some made → TrueWith i ρ ls j → literals_true_under i ρ made ≡ true
 merge-truth i ρ ls j k made step ls_true =
     option_and_then_some (λ l. option_and_then (λ m. if equivalent_literals l m then Some (remove ls k) else None) (slice_get ls k))
     (slice_get ls j) made apart.1 λ l l_at l_step.

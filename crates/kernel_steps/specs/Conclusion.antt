@@ -7,12 +7,13 @@ use Rattle.fol_base.specs.Clause.{TreeLiteral, TreeClause, clause_instance, clau
 use Rattle.fol_base.specs.Canonical.{bound_of}
 use Rattle.fol_base.specs.Literal.{clause_of}
 use Rattle.fol_base.specs.declared.clause.Clause.{Clause}
+use Rattle.fol_base.specs.declared.TheConstants.{MOST_BOUND_SYMBOLS}
 use Rattle.kernel_steps.specs.declared.step.Step.{Step}
 use Rattle.kernel_steps.specs.declared.step.Step.TheVariants.{Para, Refl, Merge}
 use Rattle.kernel_steps.specs.declared.step.Line.{Line}
 use Rattle.kernel_steps.specs.declared.step.StepFault.{StepFault}
 use Rattle.kernel_steps.specs.declared.step.StepFault.TheVariants.{Binding, Rule, NoMemory}
-use Rattle.kernel_steps.specs.Rules.{para_literals, refl_literals, merge_literals}
+use Rattle.fol_base.specs.Rules.{superposed, resolved, merged}
 
 abbrev pub empty_clause : TreeClause
 empty_clause = record { literals = []; names = [] }
@@ -23,10 +24,6 @@ line_clause [] n = empty_clause
 line_clause (l ∷ ls) zero = clause_of l.clause
 line_clause (l ∷ ls) (suc n) = line_clause ls n
 
--- the most symbols of a parent under its binding
-abbrev pub most_bound_symbols : ℕ
-most_bound_symbols = 8000
-
 -- a parent under a binding
 abbrev pub bound_clause : List Tree → TreeClause → TreeClause
 bound_clause bind c = clause_instance (substitution bind) c
@@ -36,7 +33,7 @@ bound_clause bind c = clause_instance (substitution bind) c
 abbrev pub binds : List Tree → TreeClause → Bool
 binds bind c =
     (length bind == bound_of (clause_variables c))
-    && (list_all (λ t. not (is_truth t)) bind && nat_le (clause_size (bound_clause bind c)) most_bound_symbols)
+    && (list_all (λ t. not (is_truth t)) bind && nat_le (clause_size (bound_clause bind c)) MOST_BOUND_SYMBOLS)
 
 pub data Verdict : Type 0 where
   binding_fault : Verdict
@@ -59,11 +56,11 @@ abbrev pub verdict : Step → List Line → Verdict
 verdict (Para a b i s j z place first second) lines =
     verdict_if
     (binds first (line_clause lines a) && binds second (line_clause lines b))
-    (para_literals (bound_literals first (line_clause lines a)) i s (bound_literals second (line_clause lines b)) j z place)
+    (superposed (bound_literals first (line_clause lines a)) i s (bound_literals second (line_clause lines b)) j z place)
 verdict (Refl a i bind) lines =
-    verdict_if (binds bind (line_clause lines a)) (refl_literals (bound_literals bind (line_clause lines a)) i)
+    verdict_if (binds bind (line_clause lines a)) (resolved (bound_literals bind (line_clause lines a)) i)
 verdict (Merge a i j bind) lines =
-    verdict_if (binds bind (line_clause lines a)) (merge_literals (bound_literals bind (line_clause lines a)) i j)
+    verdict_if (binds bind (line_clause lines a)) (merged (bound_literals bind (line_clause lines a)) i j)
 verdict _ lines = rule_fault
 
 -- a line that is there, without variables and names

@@ -1,4 +1,3 @@
-pub mod Rules
 pub mod Conclusion
 pub mod Derivation
 pub mod Soundness

@@ -15,7 +15,7 @@ use Rattle.fol_base.specs.declared.clause.Side.{Side}
 use Rattle.kernel_steps.specs.declared.step.Step.{Step}
 use Rattle.kernel_steps.specs.declared.step.Step.TheVariants.{Para, Refl, Factor, Merge}
 use Rattle.kernel_steps.specs.declared.step.Line.{Line}
-use Rattle.kernel_steps.specs.Rules.{para_literals, refl_literals, merge_literals}
+use Rattle.fol_base.specs.Rules.{superposed, resolved, merged}
 use Rattle.kernel_steps.specs.Derivation.{is_clause_step, IsDerivation, IsRefutation}
 
 -- a clause is true whatever numbers its variables stand for, also those that are no value of the interpretation
@@ -27,21 +27,19 @@ abbrev pub ground_clauses : List TreeClause → List GroundClause
 ground_clauses form = map (λ (c : TreeClause). c.literals) form
 
 -- Finitely many ground instances of the form entail a ground clause.
-pub record Grounds (is_predicate : ℕ → Bool) (functions : List FunctionSymbol) (form : List TreeClause) (g : GroundClause) : Type 0 where
+pub record Grounds (is_predicate : ℕ → Bool) (functions : FunctionSymbols is_predicate) (form : List TreeClause) (g : GroundClause) : Type 0 where
   pub by : List GroundClause
   pub instances : All (InstanceOf functions (Contains form)) by
   pub entailed : Entails is_predicate by g
 
 -- A clause without names is grounded where this holds of each of its ground instances.
-abbrev pub IsGrounded : (ℕ → Bool) → List FunctionSymbol → List TreeClause → TreeClause → Type 0
+abbrev pub IsGrounded : (is_predicate : ℕ → Bool) → FunctionSymbols is_predicate → List TreeClause → TreeClause → Type 0
 IsGrounded is_predicate functions form c =
     (g : GroundClause) → GroundInstance functions c g → Grounds is_predicate functions form g
 
--- Finitely many ground instances of the form, over function symbols that have a constant, are true in no interpretation. Over a
--- predicate they could be: then `X0 = a` would say that an atom equals a.
-pub record HerbrandRefuted (is_predicate : ℕ → Bool) (functions : List FunctionSymbol) (form : List TreeClause) : Type 0 where
-  pub functions_alone : IsTrue (are_function_symbols is_predicate functions)
-  pub constant : IsTrue (has_constant functions)
+-- Finitely many ground instances of the form, over function symbols that have a constant, are true in no interpretation.
+pub record HerbrandRefuted (is_predicate : ℕ → Bool) (functions : FunctionSymbols is_predicate) (form : List TreeClause) : Type 0 where
+  pub constant : IsTrue (has_constant functions.symbols)
   pub by : List GroundClause
   pub instances : All (InstanceOf functions (Contains form)) by
   pub refuted : IsRefuted is_predicate by
@@ -67,19 +65,19 @@ abbrev pub ParaIsSound : Type 0
 ParaIsSound =
     (i : Interpretation) (ρ : Assignment) (first : List TreeLiteral) (from : ℕ) (s : Side) (second : List TreeLiteral) (into : ℕ)
     (z : Side) (place : List ℕ) (made : List TreeLiteral)
-    → para_literals first from s second into z place ≡ Some made
+    → superposed first from s second into z place ≡ Some made
     → IsTrue (literals_true_under i ρ first) → IsTrue (literals_true_under i ρ second)
     → IsTrue (literals_true_under i ρ made)
 
 abbrev pub ReflIsSound : Type 0
 ReflIsSound =
     (i : Interpretation) (ρ : Assignment) (ls : List TreeLiteral) (k : ℕ) (made : List TreeLiteral)
-    → refl_literals ls k ≡ Some made → IsTrue (literals_true_under i ρ ls) → IsTrue (literals_true_under i ρ made)
+    → resolved ls k ≡ Some made → IsTrue (literals_true_under i ρ ls) → IsTrue (literals_true_under i ρ made)
 
 abbrev pub MergeIsSound : Type 0
 MergeIsSound =
     (i : Interpretation) (ρ : Assignment) (ls : List TreeLiteral) (stays goes : ℕ) (made : List TreeLiteral)
-    → merge_literals ls stays goes ≡ Some made → IsTrue (literals_true_under i ρ ls) → IsTrue (literals_true_under i ρ made)
+    → merged ls stays goes ≡ Some made → IsTrue (literals_true_under i ρ ls) → IsTrue (literals_true_under i ρ made)
 
 -- ---- laws of derivations
 
@@ -94,16 +92,16 @@ DerivationsAreSound =
 -- each clause line of a derivation is grounded, where its bindings are over the function symbols
 abbrev pub LinesAreGrounded : Type 0
 LinesAreGrounded =
-    (is_predicate : ℕ → Bool) (functions : List FunctionSymbol) (form : List TreeClause) (lines : List Line)
-    → BindsOver functions lines → IsDerivation form lines
+    (is_predicate : ℕ → Bool) (functions : FunctionSymbols is_predicate) (form : List TreeClause) (lines : List Line)
+    → BindsOver functions.symbols lines → IsDerivation form lines
     → (n : ℕ) (line : Line) → slice_get lines n ≡ Some line → IsTrue (is_clause_step line.step)
     → IsGrounded is_predicate functions form (clause_of line.clause)
 
 -- and from a ground form, which has nothing to bind
 abbrev pub GroundLinesAreGrounded : Type 0
 GroundLinesAreGrounded =
-    (is_predicate : ℕ → Bool) (functions : List FunctionSymbol) (form : List TreeClause) (lines : List Line)
-    → IsTrue (has_constant functions) → IsGroundForm form → IsDerivation form lines
+    (is_predicate : ℕ → Bool) (functions : FunctionSymbols is_predicate) (form : List TreeClause) (lines : List Line)
+    → IsTrue (has_constant functions.symbols) → IsGroundForm form → IsDerivation form lines
     → (n : ℕ) (line : Line) → slice_get lines n ≡ Some line → IsTrue (is_clause_step line.step)
     → IsGrounded is_predicate functions form (clause_of line.clause)
 
@@ -118,15 +116,15 @@ RefutationsRefute =
 -- a form that has a refutation is Herbrand-refuted over function symbols that have a constant, where its bindings are over them
 abbrev pub RefutationsHerbrandRefute : Type 0
 RefutationsHerbrandRefute =
-    (is_predicate : ℕ → Bool) (functions : List FunctionSymbol) (form : List TreeClause) (lines : List Line)
-    → IsTrue (are_function_symbols is_predicate functions) → IsTrue (has_constant functions)
-    → BindsOver functions lines → IsRefutation form lines
+    (is_predicate : ℕ → Bool) (functions : FunctionSymbols is_predicate) (form : List TreeClause) (lines : List Line)
+    → IsTrue (has_constant functions.symbols)
+    → BindsOver functions.symbols lines → IsRefutation form lines
     → HerbrandRefuted is_predicate functions form
 
 -- and a ground form over every list that has a constant
 abbrev pub GroundRefutationsHerbrandRefute : Type 0
 GroundRefutationsHerbrandRefute =
-    (is_predicate : ℕ → Bool) (functions : List FunctionSymbol) (form : List TreeClause) (lines : List Line)
-    → IsTrue (are_function_symbols is_predicate functions) → IsTrue (has_constant functions)
+    (is_predicate : ℕ → Bool) (functions : FunctionSymbols is_predicate) (form : List TreeClause) (lines : List Line)
+    → IsTrue (has_constant functions.symbols)
     → IsGroundForm form → IsRefutation form lines
     → HerbrandRefuted is_predicate functions form

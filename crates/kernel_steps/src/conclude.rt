@@ -4,16 +4,14 @@ ghost use Rattle.std.specs.Prelude.{◌≡◌, ◌&&◌, ◌<◌, [], length, ma
 ghost use Rattle.std.specs.Option.{option_map};
 ghost use Rattle.fol_base.specs.Clause.{clause_variables};
 ghost use Rattle.fol_base.specs.Literal.{literal_of, clause_of};
-ghost use Rattle.kernel_steps.specs.Rules.{para_literals, refl_literals, merge_literals};
+ghost use Rattle.fol_base.specs.Rules.{superposed, resolved, merged};
 ghost use Rattle.kernel_steps.specs.Conclusion.{verdict, verdict_of, verdict_if, binds, bound_literals, line_clause, HasGroundParents, IsAnswerTo};
 
 use crate::rules;
 use crate::step::{Derivation, Step, StepFault};
-use fol_base::{Clause, Literals, Position, Side, Terms};
+use fol_base::{Clause, Literals, MOST_BOUND_SYMBOLS, Position, Side, Terms};
 use plain_types::Names;
 use std::alloc::Global;
-
-const MOST_BOUND_SYMBOLS: u64 = 8000;
 
 /// What a step concludes from earlier lines, for para, refl and merge on ground lines without names. `Binding`
 /// exactly where a binding isn't right, else `Rule` exactly where the condition of the rule fails.
@@ -81,7 +79,7 @@ fn conclude_para(
         (verdict_if
         (binds first.entry.bind.now (clause_of first.entry.clause.now)
         && binds second.entry.bind.now (clause_of second.entry.clause.now))
-        (para_literals
+        (superposed
         (bound_literals first.entry.bind.now (clause_of first.entry.clause.now)) from from_side
         (bound_literals second.entry.bind.now (clause_of second.entry.clause.now)) into into_side place.now))
         result }
@@ -109,7 +107,7 @@ fn conclude_refl(
     requires { clause_variables (clause_of clause.now) ≡ [] }
     ensures { IsAnswerTo
         (verdict_if (binds bind.now (clause_of clause.now))
-        (refl_literals (bound_literals bind.now (clause_of clause.now)) index))
+        (resolved (bound_literals bind.now (clause_of clause.now)) index))
         result }
 {
     if !is_bound(bind, clause) {
@@ -131,7 +129,7 @@ fn conclude_merge(
     requires { clause_variables (clause_of clause.now) ≡ [] }
     ensures { IsAnswerTo
         (verdict_if (binds bind.now (clause_of clause.now))
-        (merge_literals (bound_literals bind.now (clause_of clause.now)) stays goes))
+        (merged (bound_literals bind.now (clause_of clause.now)) stays goes))
         result }
 {
     if !is_bound(bind, clause) {

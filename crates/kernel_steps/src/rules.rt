@@ -4,36 +4,18 @@ ghost use Rattle.std.specs.Prelude.{◌≡◌, ◌<◌, ◌++◌, map, length, I
 ghost use Rattle.std.specs.Option.{option_map};
 ghost use Rattle.fol_base.specs.Term.{tree_of};
 ghost use Rattle.fol_base.specs.Literal.{literal_of};
-ghost use Rattle.fol_base.specs.Sides.{side_of, other_side_of, with_side};
-ghost use Rattle.fol_base.specs.Order.{equivalent_literals};
-ghost use Rattle.kernel_steps.specs.Rules.{superposed, para_literals, refl_literals, merge_literals};
+ghost use Rattle.fol_base.specs.Sides.{with_side};
+ghost use Rattle.fol_base.specs.Rules.{superposed_literal, superposed, resolved, merged};
 
-use fol_base::{Literal, Literals, Position, Side, Term, at, push_literal_copies, replace_at, same_term};
+use fol_base::{
+    Literal, Literals, Position, Side, Term, at, equivalent_literals, push_literal_copies,
+    replace_at, same_term,
+};
 use plain_types::Mem;
 use std::alloc::Global;
 
-/// A side of a literal.
-fn side(literal: &Literal, side: Side) -> &Term
-    ensures { tree_of result.now ≡ side_of side (literal_of literal.entry.now) }
-{
-    match side {
-        Side::Left => &literal.left,
-        Side::Right => &literal.right,
-    }
-}
-
-/// The other side of a literal.
-fn other_side(literal: &Literal, side: Side) -> &Term
-    ensures { tree_of result.now ≡ other_side_of side (literal_of literal.entry.now) }
-{
-    match side {
-        Side::Left => &literal.right,
-        Side::Right => &literal.left,
-    }
-}
-
-/// The literal with one side exchanged.
-fn exchanged(alloc: Global, literal: &Literal, side: Side, new: Term) -> Mem<Literal>
+/// The literal with one side replaced.
+fn with_side(alloc: Global, literal: &Literal, side: Side, new: Term) -> Mem<Literal>
     ensures { IfOk result (λ made. literal_of made ≡ with_side side (tree_of new) (literal_of literal.now)) }
 {
     match side {
@@ -68,19 +50,19 @@ fn superpose(
 ) -> Mem<Option<Literal>>
     ensures { IfOk result (λ made.
         option_map literal_of made
-        ≡ superposed (literal_of from.now) from_side (literal_of into.now) into_side place.now) }
+        ≡ superposed_literal (literal_of from.now) from_side (literal_of into.now) into_side place.now) }
 {
-    let chosen = side(from, from_side);
-    let host = side(into, into_side);
+    let chosen = from.lend().side(from_side);
+    let host = into.lend().side(into_side);
     match at(host, place) {
         None => Ok(None),
         Some(found) => {
             if !(from.positive && !chosen.is_truth() && same_term(found, chosen)) {
                 return Ok(None);
             }
-            match replace_at(alloc, host, place, other_side(from, from_side))? {
+            match replace_at(alloc, host, place, from.lend().other_side(from_side))? {
                 None => Ok(None),
-                Some(new) => Ok(Some(exchanged(alloc, into, into_side, new)?)),
+                Some(new) => Ok(Some(with_side(alloc, into, into_side, new)?)),
             }
         }
     }
@@ -131,7 +113,7 @@ pub fn para(
 ) -> Mem<Option<Literals>>
     ensures { IfOk result (λ made.
         option_map (map literal_of) made
-        ≡ para_literals (map literal_of first.now) from from_side (map literal_of second.now) into into_side place.now) }
+        ≡ superposed (map literal_of first.now) from from_side (map literal_of second.now) into into_side place.now) }
 {
     let from = from as usize;
     let into = into as usize;
@@ -157,7 +139,7 @@ pub fn para(
 
 /// The literals without a negative one whose sides are equal.
 pub fn refl(alloc: Global, literals: &[Literal], index: u64) -> Mem<Option<Literals>>
-    ensures { IfOk result (λ made. option_map (map literal_of) made ≡ refl_literals (map literal_of literals.now) index) }
+    ensures { IfOk result (λ made. option_map (map literal_of) made ≡ resolved (map literal_of literals.now) index) }
 {
     let index = index as usize;
     if index >= literals.len() {
@@ -172,25 +154,16 @@ pub fn refl(alloc: Global, literals: &[Literal], index: u64) -> Mem<Option<Liter
     Ok(Some(Literals::from_vec(made)))
 }
 
-/// Whether two literals have the same sign and the same sides in either order.
-fn same_either_way(left: &Literal, right: &Literal) -> bool
-    ensures { result ≡ equivalent_literals (literal_of left.now) (literal_of right.now) }
-{
-    left.positive == right.positive
-        && ((same_term(&left.left, &right.left) && same_term(&left.right, &right.right))
-            || (same_term(&left.left, &right.right) && same_term(&left.right, &right.left)))
-}
-
 /// The literals without the second of two different ones that are the same.
 pub fn merge(alloc: Global, literals: &[Literal], stays: u64, goes: u64) -> Mem<Option<Literals>>
-    ensures { IfOk result (λ made. option_map (map literal_of) made ≡ merge_literals (map literal_of literals.now) stays goes) }
+    ensures { IfOk result (λ made. option_map (map literal_of) made ≡ merged (map literal_of literals.now) stays goes) }
 {
     let stays = stays as usize;
     let goes = goes as usize;
     if stays == goes || stays >= literals.len() || goes >= literals.len() {
         return Ok(None);
     }
-    if !same_either_way(&literals[stays], &literals[goes]) {
+    if !equivalent_literals(literals[stays].lend(), literals[goes].lend()) {
         return Ok(None);
     }
     let mut made = Vec::with_capacity(alloc, literals.len())?;

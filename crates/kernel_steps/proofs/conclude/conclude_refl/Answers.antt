@@ -1,10 +1,10 @@
 use Rattle.std.proofs.Common.{map, ap}
 use Rattle.fol_base.specs.Literal.{literal_of, clause_of}
-use Rattle.kernel_steps.specs.Rules.{refl_literals}
+use Rattle.fol_base.specs.Rules.{resolved}
 use Rattle.kernel_steps.proofs.KernelLemmas.{one_parent}
 use Rattle.kernel_steps.proofs.conclude.conclude_refl.Goals as goal
 
 pub returns : goal.returns
 returns c =
-    one_parent (λ ls. refl_literals ls c.args.index) _ (clause_of c.args.clause.now) _ _ _ c.if-not-is_bound.ensures c.requires
+    one_parent (λ ls. resolved ls c.args.index) _ (clause_of c.args.clause.now) _ _ _ c.if-not-is_bound.ensures c.requires
     (ap (map literal_of) c.as_slice.ensures) c.in_ok-refl.ensures c.concluded.ensures
