@@ -17,7 +17,7 @@ use Rattle.fol_base.specs.declared.clause.Side.TheVariants.{Left}
 use Rattle.fol_base.proofs.TreeLemmas.{tree_eq-refl, tree_size-positive}
 use Rattle.kernel_steps.specs.declared.step.Step.TheVariants.{Para, Refl, Merge}
 use Rattle.kernel_steps.specs.declared.step.Line.{Line}
-use Rattle.kernel_steps.specs.Rules.{superposed, para_literals, refl_literals, merge_literals}
+use Rattle.fol_base.specs.Rules.{superposed_literal, superposed, resolved, merged}
 use Rattle.kernel_steps.specs.Conclusion.{Verdict, verdict, verdict_of, verdict_if, concludes, binds, bound_literals, line_clause, IsGroundLine}
 use Rattle.kernel_steps.proofs.KernelLemmas.{binds-ground, bound_literals-ground}
 use Rattle.ground_loop.specs.Resolution.{LiteralSet, has_literal, atom_literal}
@@ -40,8 +40,8 @@ same_conclusion v c d h k = cc
 
 -- ---- merging
 
-merge_literals-repeat : (ls : LiteralSet) (i j : ℕ) → IsRepeat ls j i → merge_literals ls i j ≡ Some (remove ls j)
-merge_literals-repeat ls i j repeat =
+merged-repeat : (ls : LiteralSet) (i j : ℕ) → IsRepeat ls j i → merged ls i j ≡ Some (remove ls j)
+merged-repeat ls i j repeat =
     let l : TreeLiteral = repeat.1 in
     let differ : i ≡ j → ⊥ = λ e. omega (arith, repeat.0) in
     ap (λ b. if b then None else option_and_then (λ m. option_and_then (λ k. if equivalent_literals m k then Some (remove ls j) else None) (slice_get ls j)) (slice_get ls i))
@@ -63,9 +63,9 @@ pub merge_concludes :
 merge_concludes lines line i j bind ground small none repeat =
     let c : TreeClause = line_clause lines line in
     let bound : binds bind c ≡ true = binds-none bind c none ground.1 small in
-    ap (λ b. verdict_if b (merge_literals (bound_literals bind c) i j)) bound
-    ∙ ap (λ ls. verdict_of (merge_literals ls i j)) (bound_literals-ground bind c bound ground.1)
-    ∙ ap verdict_of (merge_literals-repeat c.literals i j repeat)
+    ap (λ b. verdict_if b (merged (bound_literals bind c) i j)) bound
+    ∙ ap (λ ls. verdict_of (merged ls i j)) (bound_literals-ground bind c bound ground.1)
+    ∙ ap verdict_of (merged-repeat c.literals i j repeat)
 
 -- the merges that are made while the places below `goes` are without repeats
 pub record MergesSoFar (old : List Line) (line : ℕ) (new : List Line) (left goes : ℕ) : Type 0 where
@@ -183,19 +183,19 @@ trivial = atom_literal false true_tree
 abbrev superposed_literals : LiteralSet → ℕ → LiteralSet → ℕ → LiteralSet
 superposed_literals first i second j = slice_set second j trivial ++ remove first i
 
-superposed-atom : (t : Tree) → is_truth t ≡ false → superposed (atom_literal true t) Left (atom_literal false t) Left [] ≡ Some trivial
-superposed-atom t other =
-    ap (λ b. if (true && (not b && tree_eq t t)) then Some trivial else None) other
-    ∙ ap (λ b. if (true && (not false && b)) then Some trivial else None) (tree_eq-refl t)
+superposed_literal-atom : (t : Tree) → is_truth t ≡ false → superposed_literal (atom_literal true t) Left (atom_literal false t) Left [] ≡ Some trivial
+superposed_literal-atom t other =
+    ap (λ b. if ((true && not b) && tree_eq t t) then Some trivial else None) other
+    ∙ ap (λ b. if ((true && not false) && b) then Some trivial else None) (tree_eq-refl t)
 
-para_literals-atom :
+superposed-atom :
     (first second : LiteralSet) (i j : ℕ) (t : Tree)
     → is_truth t ≡ false → slice_get first i ≡ Some (atom_literal true t) → slice_get second j ≡ Some (atom_literal false t)
-    → para_literals first i Left second j Left [] ≡ Some (superposed_literals first i second j)
-para_literals-atom first second i j t other at_first at_second =
-    ap (option_and_then (λ from. option_and_then (λ into. option_map (λ made. slice_set second j made ++ remove first i) (superposed from Left into Left [])) (slice_get second j))) at_first
-    ∙ ap (option_and_then (λ into. option_map (λ made. slice_set second j made ++ remove first i) (superposed (atom_literal true t) Left into Left []))) at_second
-    ∙ ap (option_map (λ made. slice_set second j made ++ remove first i)) (superposed-atom t other)
+    → superposed first i Left second j Left [] ≡ Some (superposed_literals first i second j)
+superposed-atom first second i j t other at_first at_second =
+    ap (option_and_then (λ from. option_and_then (λ into. option_map (λ made. slice_set second j made ++ remove first i) (superposed_literal from Left into Left [])) (slice_get second j))) at_first
+    ∙ ap (option_and_then (λ into. option_map (λ made. slice_set second j made ++ remove first i) (superposed_literal (atom_literal true t) Left into Left []))) at_second
+    ∙ ap (option_map (λ made. slice_set second j made ++ remove first i)) (superposed_literal-atom t other)
 
 -- two lines that are sets, the first with an atom at a place and the second with its negation
 pub record IsPair (lines : List Line) (first second i j : ℕ) (t : Tree) : Type 0 where
@@ -241,13 +241,13 @@ para_concludes lines first second i j t place bind bind_too pair root none none_
     let other : is_truth t ≡ false =
     (atom_sides (atom_literal true t)
     (member_holds is_atom_literal ls (atom_literal true t) pair.first_set.of_atoms (has_literal-at ls i (atom_literal true t) pair.at_first))).left_no_truth in
-    ap (λ b. verdict_if b (para_literals (bound_literals bind (line_clause lines first)) i Left (bound_literals bind_too (line_clause lines second)) j Left place))
+    ap (λ b. verdict_if b (superposed (bound_literals bind (line_clause lines first)) i Left (bound_literals bind_too (line_clause lines second)) j Left place))
     (and_from (binds bind (line_clause lines first)) (binds bind_too (line_clause lines second))
     (set_binds lines first bind pair.first_set none) (set_binds lines second bind_too pair.second_set none_too))
-    ∙ ap (λ us. verdict_of (para_literals us i Left (bound_literals bind_too (line_clause lines second)) j Left place)) (set_literals lines first bind pair.first_set none)
-    ∙ ap (λ us. verdict_of (para_literals ls i Left us j Left place)) (set_literals lines second bind_too pair.second_set none_too)
-    ∙ ap (λ p. verdict_of (para_literals ls i Left ks j Left p)) root
-    ∙ ap verdict_of (para_literals-atom ls ks i j t other pair.at_first pair.at_second)
+    ∙ ap (λ us. verdict_of (superposed us i Left (bound_literals bind_too (line_clause lines second)) j Left place)) (set_literals lines first bind pair.first_set none)
+    ∙ ap (λ us. verdict_of (superposed ls i Left us j Left place)) (set_literals lines second bind_too pair.second_set none_too)
+    ∙ ap (λ p. verdict_of (superposed ls i Left ks j Left p)) root
+    ∙ ap verdict_of (superposed-atom ls ks i j t other pair.at_first pair.at_second)
 
 -- the line of that superposition
 pub record IsSuperposed (lines : List Line) (first second i j : ℕ) (new : List Line) (number : ℕ) : Type 0 where
@@ -290,8 +290,8 @@ IsSuperposed-from lines first second i j t place bind bind_too new number pair r
           );
     }
 
-refl_literals-trivial : (ls : LiteralSet) (j : ℕ) → slice_get ls j ≡ Some trivial → refl_literals ls j ≡ Some (remove ls j)
-refl_literals-trivial ls j at_place =
+resolved-trivial : (ls : LiteralSet) (j : ℕ) → slice_get ls j ≡ Some trivial → resolved ls j ≡ Some (remove ls j)
+resolved-trivial ls j at_place =
     ap (option_and_then (λ l. if not l.positive && tree_eq l.left l.right then Some (remove ls j) else None)) at_place
 
 trivial-there :
@@ -309,11 +309,11 @@ refl_concludes lines first second i j t new number bind pair superposed none =
     let c : TreeClause = line_clause new number in
     let made : LiteralSet = superposed_literals (line_literals lines first) i (line_literals lines second) j in
     let bound : binds bind c ≡ true = binds-none bind c none superposed.is_ground.1 superposed.small in
-    ap (λ b. verdict_if b (refl_literals (bound_literals bind c) j)) bound
-    ∙ ap (λ us. verdict_of (refl_literals us j)) (bound_literals-ground bind c bound superposed.is_ground.1)
-    ∙ ap (λ d. verdict_of (refl_literals d.literals j)) superposed.is
+    ap (λ b. verdict_if b (resolved (bound_literals bind c) j)) bound
+    ∙ ap (λ us. verdict_of (resolved us j)) (bound_literals-ground bind c bound superposed.is_ground.1)
+    ∙ ap (λ d. verdict_of (resolved d.literals j)) superposed.is
     ∙ ap verdict_of
-    (refl_literals-trivial made j
+    (resolved-trivial made j
     (trivial-there (line_literals lines first) (line_literals lines second) i j (atom_literal false t) pair.at_second))
 
 -- both lines together

@@ -11,7 +11,7 @@ use Rattle.fol_base.specs.Literal.{clause_of}
 use Rattle.kernel_steps.specs.declared.step.Step.{Step}
 use Rattle.kernel_steps.specs.declared.step.Step.TheVariants.{Input, Negate, Clausify, Para, Refl, Factor, Merge, Component, Split, Chain}
 use Rattle.kernel_steps.specs.declared.step.Line.{Line}
-use Rattle.kernel_steps.specs.Rules.{para_literals, refl_literals, merge_literals}
+use Rattle.fol_base.specs.Rules.{superposed, resolved, merged}
 use Rattle.kernel_steps.specs.Conclusion.{empty_clause, line_clause, binds, bound_literals, Verdict, verdict_if}
 use Rattle.kernel_steps.specs.Derivation.{ComesBy, IsDerivation, IsRefutation, is_clause_step, AreClauseLines, is_input_of, IsSourced, IsSourcedRefutation}
 use Rattle.ground_loop.specs.Inputs.{shifted_step, shifted_line, input_of, inputs_of, no_clause, with_inputs_of}
@@ -52,14 +52,14 @@ ComesBy-below (Para a b i s j z place first second) form pre earlier k c e h = (
 )
   where
     V : TreeClause → TreeClause → Verdict
-    V d f = verdict_if (binds first d && binds second f) (para_literals (bound_literals first d) i s (bound_literals second f) j z place)
+    V d f = verdict_if (binds first d && binds second f) (superposed (bound_literals first d) i s (bound_literals second f) j z place)
 ComesBy-below (Refl a i bind) form pre earlier k c e h = (
   length-below pre earlier k a e h.0,
-  ap (λ (d : TreeClause). verdict_if (binds bind d) (refl_literals (bound_literals bind d) i)) (line_clause-moved pre earlier k a e) ∙ h.1,
+  ap (λ (d : TreeClause). verdict_if (binds bind d) (resolved (bound_literals bind d) i)) (line_clause-moved pre earlier k a e) ∙ h.1,
 )
 ComesBy-below (Merge a i j bind) form pre earlier k c e h = (
   length-below pre earlier k a e h.0,
-  ap (λ (d : TreeClause). verdict_if (binds bind d) (merge_literals (bound_literals bind d) i j)) (line_clause-moved pre earlier k a e) ∙ h.1,
+  ap (λ (d : TreeClause). verdict_if (binds bind d) (merged (bound_literals bind d) i j)) (line_clause-moved pre earlier k a e) ∙ h.1,
 )
 ComesBy-below (Factor a i s j z bind) form pre earlier k c e h = h
 ComesBy-below (Component n) form pre earlier k c e h = h

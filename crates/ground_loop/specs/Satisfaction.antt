@@ -1,21 +1,15 @@
 -- What a closed list without the empty set means: the form is true somewhere (completeness of ground resolution, Robinson 1965).
 use Rattle.std.specs.Prelude.{ℕ, Bool, List, IsTrue}
 use Rattle.fol_base.specs.Ground.{has_constant}
-use Rattle.fol_base.specs.Symbols.{FunctionSymbol, are_function_symbols}
-use Rattle.std.specs.List.{list_all}
+use Rattle.fol_base.specs.Symbols.{FunctionSymbols}
 use Rattle.fol_base.specs.Clause.{TreeClause}
-use Rattle.fol_base.specs.Kind.{is_predicate_term}
+use Rattle.fol_base.specs.Kind.{are_predicate_atoms}
 use Rattle.fol_base.specs.GroundForm.{IsGroundForm}
 use Rattle.fol_base.specs.Interpretation.{Interpretation, IsInterpretation, clauses_true}
 use Rattle.kernel_steps.specs.Soundness.{ground_clauses, HerbrandRefuted}
 use Rattle.ground_loop.specs.Answer.{HasClosedSets}
 use Rattle.ground_loop.specs.declared.answer.Ground.{Ground}
 use Rattle.ground_loop.specs.declared.answer.Ground.TheVariants.{Refuted, Closed, Spent}
-
--- each atom is a predicate applied to function terms
-abbrev pub are_predicate_atoms : (ℕ → Bool) → List TreeClause → Bool
-are_predicate_atoms is_predicate form =
-    list_all (λ (c : TreeClause). list_all (λ l. is_predicate_term is_predicate l.left) c.literals) form
 
 -- a finite interpretation makes the whole form true
 pub record Satisfied (is_predicate : ℕ → Bool) (form : List TreeClause) : Type 0 where
@@ -32,8 +26,7 @@ ClosedFormsAreSatisfied =
 -- it is true in a finite interpretation; or nothing.
 abbrev pub HasMeaning : List TreeClause → Ground → Type 0
 HasMeaning form (Refuted lines) =
-    (is_predicate : ℕ → Bool) (functions : List FunctionSymbol)
-    → IsTrue (are_function_symbols is_predicate functions) → IsTrue (has_constant functions)
+    (is_predicate : ℕ → Bool) (functions : FunctionSymbols is_predicate) → IsTrue (has_constant functions.symbols)
     → HerbrandRefuted is_predicate functions form
 HasMeaning form Closed = (is_predicate : ℕ → Bool) → IsTrue (are_predicate_atoms is_predicate form) → Satisfied is_predicate form
 HasMeaning form (Spent count) = Unit {0}

@@ -4,7 +4,8 @@ ghost use Rattle.std.specs.Prelude.{List, [], ◌∷◌, IsTrue, IsFalse};
 ghost use Rattle.fol_base.specs.Clause.{TreeClause};
 ghost use Rattle.ground_loop.specs.Resolution.{Follows, is_tautology, same_set, can_resolve, resolvent};
 ghost use Rattle.ground_loop.specs.Answer.{HasClosedSets, HasTriples, IsClosedFor};
-ghost use Rattle.ground_loop.specs.Satisfaction.{ClosedFormsAreSatisfied, Satisfied, are_predicate_atoms};
+ghost use Rattle.ground_loop.specs.Satisfaction.{ClosedFormsAreSatisfied, Satisfied};
+ghost use Rattle.fol_base.specs.Kind.{are_predicate_atoms};
 ghost use Rattle.ground_loop.specs.ResolutionExamples.{p, q, is, is_not, units, implication, implied_sets, all_predicates, no_predicates};
 
 /// A form that has a closed list without the empty set: no resolutions from it reach the empty set, and so

@@ -2,7 +2,7 @@
 use Rattle.std.proofs.Common.{◌≡◌, ℕ, zero, suc, ◌-◌, ◌^◌, ◌<◌, min, true, ◌&&◌, ◌==◌, List, [], ◌∷◌, length, map, get_or, refl, ap, sym, ◌∙◌, subst, arith, lit<, inl, inr, leb, Option, None, Some, Result, Ok, Err, IfOk}
 use Rattle.std.specs.Prelude.{slice_get, remove, option_and_then, sum_by, if◌then◌else◌}
 use Rattle.std.proofs.lemmas.Bool.{eqb-true, lt-leb, ne_eqb, cases_lt}
-use Rattle.fol_base.specs.declared.TheConstants.{MOST_BOUND_SYMBOLS}
+use Rattle.fol_base.specs.declared.limits.TheConstants.{MOST_BOUND_SYMBOLS}
 use Rattle.fol_base.specs.Canonical.{bound_of}
 use Rattle.fol_base.proofs.TreeLemmas.{and_left}
 use Rattle.fol_base.specs.declared.clause.Literal.{Literal}

@@ -7,7 +7,7 @@ use Rattle.fol_base.specs.Clause.{TreeLiteral, TreeClause, clause_instance, clau
 use Rattle.fol_base.specs.Canonical.{bound_of}
 use Rattle.fol_base.specs.Literal.{clause_of}
 use Rattle.fol_base.specs.declared.clause.Clause.{Clause}
-use Rattle.fol_base.specs.declared.TheConstants.{MOST_BOUND_SYMBOLS}
+use Rattle.fol_base.specs.declared.limits.TheConstants.{MOST_BOUND_SYMBOLS}
 use Rattle.kernel_steps.specs.declared.step.Step.{Step}
 use Rattle.kernel_steps.specs.declared.step.Step.TheVariants.{Para, Refl, Merge}
 use Rattle.kernel_steps.specs.declared.step.Line.{Line}

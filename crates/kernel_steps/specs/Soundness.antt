@@ -4,7 +4,7 @@ use Rattle.std.specs.Prelude.{◌≡◌, ℕ, Bool, List, [], ◌∷◌, map, So
 use Rattle.std.specs.List.{list_all}
 use Rattle.fol_base.specs.Tree.{Tree}
 use Rattle.fol_base.specs.Clause.{TreeLiteral, TreeClause}
-use Rattle.fol_base.specs.Symbols.{are_function_symbols, FunctionSymbol}
+use Rattle.fol_base.specs.Symbols.{FunctionSymbol, FunctionSymbols}
 use Rattle.fol_base.specs.Ground.{has_constant, is_over, GroundClause, GroundInstance}
 use Rattle.fol_base.specs.GroundForm.{IsGroundForm}
 use Rattle.fol_base.specs.Interpretation.{Interpretation, Assignment, literals_true_under}

@@ -22,7 +22,7 @@ use Rattle.fol_base.specs.declared.clause.Side.TheVariants.{Left, Right}
 use Rattle.kernel_steps.specs.declared.step.Step.{Step}
 use Rattle.kernel_steps.specs.declared.step.Step.TheVariants.{Input, Negate, Clausify, Para, Refl, Factor, Merge, Component, Split, Chain}
 use Rattle.kernel_steps.specs.declared.step.Line.{Line}
-use Rattle.kernel_steps.specs.Rules.{para_literals, refl_literals, merge_literals}
+use Rattle.fol_base.specs.Rules.{superposed, resolved, merged}
 use Rattle.kernel_steps.specs.Conclusion.{empty_clause, line_clause, binds, bound_literals, Verdict, binding_fault, rule_fault, concludes, verdict_if}
 use Rattle.kernel_steps.specs.Derivation.{is_clause_step, is_input_of, ComesBy, IsDerivation, IsSourced, IsSourcedRefutation}
 use Rattle.kernel_steps.proofs.TestLemmas.{else_some}
@@ -158,7 +158,7 @@ Test = Step → TreeClause → Bool
 abbrev para_found : Test → ℕ → TreeClause → ℕ → TreeClause → Side → Side → Bool
 para_found test a c b d s z =
     passes (λ ls. test (Para a b 0 s 0 z [] [] []) (nameless ls))
-    (para_literals (bound_literals [] c) 0 s (bound_literals [] d) 0 z [])
+    (superposed (bound_literals [] c) 0 s (bound_literals [] d) 0 z [])
 
 abbrev may_para : Test → ℕ → TreeClause → ℕ → TreeClause → Bool
 may_para test a c b d =
@@ -169,7 +169,7 @@ may_para test a c b d =
 abbrev may_refl : Test → ℕ → TreeClause → Bool
 may_refl test a c =
     if is_simple c
-    then passes (λ ls. test (Refl a 0 []) (nameless ls)) (refl_literals (bound_literals [] c) 0)
+    then passes (λ ls. test (Refl a 0 []) (nameless ls)) (resolved (bound_literals [] c) 0)
     else true
 
 abbrev may_merge : TreeClause → Bool
@@ -240,7 +240,7 @@ plain_side Right l h = (and_parts (is_plain l.left) (is_plain l.right) h).1
 -- superposition between plain literals is on the first ones, at the top
 para-plain :
     (ls ks : List TreeLiteral) (i : ℕ) (s : Side) (j : ℕ) (z : Side) (place : List ℕ) (made : List TreeLiteral)
-    → are_plain ls ≡ true → are_plain ks ≡ true → para_literals ls i s ks j z place ≡ Some made
+    → are_plain ls ≡ true → are_plain ks ≡ true → superposed ls i s ks j z place ≡ Some made
     → (i ≡ 0) × (j ≡ 0) × (place ≡ [])
 para-plain [] ks i s j z place made p q h = absurd (none-some made h)
 para-plain (l ∷ m ∷ ls) ks i s j z place made p q h = absurd (true≢false (sym p))
@@ -262,14 +262,14 @@ para-plain (l ∷ []) (k ∷ []) zero s zero z (n ∷ place) made p q h =
         else None
 
 refl-plain :
-    (ls : List TreeLiteral) (i : ℕ) (made : List TreeLiteral) → are_plain ls ≡ true → refl_literals ls i ≡ Some made → i ≡ 0
+    (ls : List TreeLiteral) (i : ℕ) (made : List TreeLiteral) → are_plain ls ≡ true → resolved ls i ≡ Some made → i ≡ 0
 refl-plain [] i made p h = absurd (none-some made h)
 refl-plain (l ∷ m ∷ ls) i made p h = absurd (true≢false (sym p))
 refl-plain (l ∷ []) zero made p h = refl
 refl-plain (l ∷ []) (suc i) made p h = absurd (none-some made h)
 
 merge-plain :
-    (ls : List TreeLiteral) (i j : ℕ) (made : List TreeLiteral) → are_plain ls ≡ true → merge_literals ls i j ≡ Some made → ⊥
+    (ls : List TreeLiteral) (i j : ℕ) (made : List TreeLiteral) → are_plain ls ≡ true → merged ls i j ≡ Some made → ⊥
 merge-plain ls i j made p h = at ls i j p (else_some (i == j) _ made h).0 (else_some (i == j) _ made h).1
   where
     at :
@@ -285,7 +285,7 @@ merge-plain ls i j made p h = at ls i j p (else_some (i == j) _ made h).0 (else_
 
 may_para-from :
     (test : Test) (a b i : ℕ) (s : Side) (j : ℕ) (z : Side) (place : List ℕ) (first second : List Tree) (c d e : TreeClause)
-    → verdict_if (binds first c && binds second d) (para_literals (bound_literals first c) i s (bound_literals second d) j z place) ≡ concludes e
+    → verdict_if (binds first c && binds second d) (superposed (bound_literals first c) i s (bound_literals second d) j z place) ≡ concludes e
     → test (Para a b i s j z place first second) e ≡ true
     → may_para test a c b d ≡ true
 may_para-from test a b i s j z place first second c d e comes tested =
@@ -298,7 +298,7 @@ may_para-from test a b i s j z place first second c d e comes tested =
     at :
         (i j : ℕ) (place : List ℕ) (first second : List Tree) (ls : List TreeLiteral)
         → is_simple c ≡ true → is_simple d ≡ true → binds first c ≡ true → binds second d ≡ true
-        → para_literals (bound_literals first c) i s (bound_literals second d) j z place ≡ Some ls → nameless ls ≡ e
+        → superposed (bound_literals first c) i s (bound_literals second d) j z place ≡ Some ls → nameless ls ≡ e
         → test (Para a b i s j z place first second) e ≡ true
         → either_side (λ s. either_side (para_found test a c b d s)) ≡ true
     at i j place (t ∷ ts) second ls p q l r made is tested = absurd (no_binding t ts c p l)
@@ -307,10 +307,10 @@ may_para-from test a b i s j z place first second c d e comes tested =
         let plain_c : are_plain (bound_literals [] c) ≡ true = (and_parts (bound_of (clause_variables c) == 0) _ p).1 in
         let plain_d : are_plain (bound_literals [] d) ≡ true = (and_parts (bound_of (clause_variables d) == 0) _ q).1 in
         let spot = para-plain (bound_literals [] c) (bound_literals [] d) i s j z place ls plain_c plain_d made in
-        let made_there : para_literals (bound_literals [] c) 0 s (bound_literals [] d) 0 z [] ≡ Some ls =
-        ap (λ k. para_literals (bound_literals [] c) k s (bound_literals [] d) 0 z []) (sym spot.0)
-        ∙ ap (λ k. para_literals (bound_literals [] c) i s (bound_literals [] d) k z []) (sym spot.1)
-        ∙ ap (para_literals (bound_literals [] c) i s (bound_literals [] d) j z) (sym spot.2)
+        let made_there : superposed (bound_literals [] c) 0 s (bound_literals [] d) 0 z [] ≡ Some ls =
+        ap (λ k. superposed (bound_literals [] c) k s (bound_literals [] d) 0 z []) (sym spot.0)
+        ∙ ap (λ k. superposed (bound_literals [] c) i s (bound_literals [] d) k z []) (sym spot.1)
+        ∙ ap (superposed (bound_literals [] c) i s (bound_literals [] d) j z) (sym spot.2)
         ∙ made in
         let tested_there : test (Para a b 0 s 0 z [] [] []) (nameless ls) ≡ true =
         ap (λ k. test (Para a b k s 0 z [] [] []) (nameless ls)) (sym spot.0)
@@ -323,7 +323,7 @@ may_para-from test a b i s j z place first second c d e comes tested =
 
 may_refl-from :
     (test : Test) (a i : ℕ) (bind : List Tree) (c e : TreeClause)
-    → verdict_if (binds bind c) (refl_literals (bound_literals bind c) i) ≡ concludes e → test (Refl a i bind) e ≡ true
+    → verdict_if (binds bind c) (resolved (bound_literals bind c) i) ≡ concludes e → test (Refl a i bind) e ≡ true
     → may_refl test a c ≡ true
 may_refl-from test a i bind c e comes tested =
     if_else-true (is_simple c) _ λ simple.
@@ -331,27 +331,27 @@ may_refl-from test a i bind c e comes tested =
   where
     at :
         (i : ℕ) (bind : List Tree) (ls : List TreeLiteral)
-        → is_simple c ≡ true → binds bind c ≡ true → refl_literals (bound_literals bind c) i ≡ Some ls → nameless ls ≡ e
+        → is_simple c ≡ true → binds bind c ≡ true → resolved (bound_literals bind c) i ≡ Some ls → nameless ls ≡ e
         → test (Refl a i bind) e ≡ true
-        → passes (λ ms. test (Refl a 0 []) (nameless ms)) (refl_literals (bound_literals [] c) 0) ≡ true
+        → passes (λ ms. test (Refl a 0 []) (nameless ms)) (resolved (bound_literals [] c) 0) ≡ true
     at i (t ∷ ts) ls p r made is tested = absurd (no_binding t ts c p r)
     at i [] ls p r made is tested =
         let first : i ≡ 0 = refl-plain (bound_literals [] c) i ls (and_parts (bound_of (clause_variables c) == 0) _ p).1 made in
-        ap (passes (λ ms. test (Refl a 0 []) (nameless ms))) (ap (refl_literals (bound_literals [] c)) (sym first) ∙ made)
+        ap (passes (λ ms. test (Refl a 0 []) (nameless ms))) (ap (resolved (bound_literals [] c)) (sym first) ∙ made)
         ∙ ap (λ k. test (Refl a k []) (nameless ls)) (sym first)
         ∙ ap (test (Refl a i [])) is
         ∙ tested
 
 may_merge-from :
     (i j : ℕ) (bind : List Tree) (c e : TreeClause)
-    → verdict_if (binds bind c) (merge_literals (bound_literals bind c) i j) ≡ concludes e → may_merge c ≡ true
+    → verdict_if (binds bind c) (merged (bound_literals bind c) i j) ≡ concludes e → may_merge c ≡ true
 may_merge-from i j bind c e comes =
     if_else-true (is_simple c) false λ simple.
     let result = concluded (binds bind c) _ e comes in absurd (at bind result.1 simple result.0 result.2)
   where
     at :
         (bind : List Tree) (ls : List TreeLiteral)
-        → is_simple c ≡ true → binds bind c ≡ true → merge_literals (bound_literals bind c) i j ≡ Some ls → ⊥
+        → is_simple c ≡ true → binds bind c ≡ true → merged (bound_literals bind c) i j ≡ Some ls → ⊥
     at (t ∷ ts) ls p r made = no_binding t ts c p r
     at [] ls p r made = merge-plain (bound_literals [] c) i j ls (and_parts (bound_of (clause_variables c) == 0) _ p).1 made
 
@@ -378,9 +378,9 @@ follow-from form earlier test (Para a b i s j z place first second) c comes it t
     (any_below-from (length (map known_of earlier)) (λ n. may_para test a (clause_at (map known_of earlier) a) n (clause_at (map known_of earlier) n)) b
     (omega (arith, comes.1, length-map earlier known_of))
     (may_para-from test a b i s j z place first second (clause_at (map known_of earlier) a) (clause_at (map known_of earlier) b) c
-    (ap (λ x. verdict_if (binds first x && binds second (clause_at (map known_of earlier) b)) (para_literals (bound_literals first x) i s (bound_literals second (clause_at (map known_of earlier) b)) j z place))
+    (ap (λ x. verdict_if (binds first x && binds second (clause_at (map known_of earlier) b)) (superposed (bound_literals first x) i s (bound_literals second (clause_at (map known_of earlier) b)) j z place))
     (sym (clause_at-known earlier a))
-    ∙ ap (λ y. verdict_if (binds first (line_clause earlier a) && binds second y) (para_literals (bound_literals first (line_clause earlier a)) i s (bound_literals second y) j z place))
+    ∙ ap (λ y. verdict_if (binds first (line_clause earlier a) && binds second y) (superposed (bound_literals first (line_clause earlier a)) i s (bound_literals second y) j z place))
     (sym (clause_at-known earlier b))
     ∙ comes.2)
     tested)))))
@@ -392,7 +392,7 @@ follow-from form earlier test (Refl a i bind) c comes it tested =
     (any_below-from (length (map known_of earlier)) (λ m. may_refl test m (clause_at (map known_of earlier) m)) a
     (omega (arith, comes.0, length-map earlier known_of))
     (may_refl-from test a i bind (clause_at (map known_of earlier) a) c
-    (ap (λ x. verdict_if (binds bind x) (refl_literals (bound_literals bind x) i)) (sym (clause_at-known earlier a)) ∙ comes.1)
+    (ap (λ x. verdict_if (binds bind x) (resolved (bound_literals bind x) i)) (sym (clause_at-known earlier a)) ∙ comes.1)
     tested)))))
 follow-from form earlier test (Merge a i j bind) c comes it tested =
     or_right (any_below (length form) (λ m. test (Input m) empty_clause)) _
@@ -402,7 +402,7 @@ follow-from form earlier test (Merge a i j bind) c comes it tested =
     (any_below-from (length (map known_of earlier)) (λ m. may_merge (clause_at (map known_of earlier) m)) a
     (omega (arith, comes.0, length-map earlier known_of))
     (may_merge-from i j bind (clause_at (map known_of earlier) a) c
-    (ap (λ x. verdict_if (binds bind x) (merge_literals (bound_literals bind x) i j)) (sym (clause_at-known earlier a)) ∙ comes.1))))))
+    (ap (λ x. verdict_if (binds bind x) (merged (bound_literals bind x) i j)) (sym (clause_at-known earlier a)) ∙ comes.1))))))
 follow-from form earlier test (Factor a i s j z bind) c comes it tested = absurd comes
 follow-from form earlier test (Component name) c comes it tested = absurd comes
 follow-from form earlier test (Split a components parts) c comes it tested = absurd comes

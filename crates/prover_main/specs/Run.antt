@@ -10,7 +10,7 @@ use Rattle.ground_loop.specs.Answer.{HasClosedSets, HasTriples}
 use Rattle.ground_loop.specs.Satisfaction.{Satisfied}
 use Rattle.prover_main.specs.Words.{proved_file}
 use Rattle.fol_base.specs.Ground.{has_constant}
-use Rattle.fol_base.specs.Symbols.{FunctionSymbol, are_function_symbols}
+use Rattle.fol_base.specs.Symbols.{FunctionSymbols}
 use Rattle.kernel_steps.specs.Soundness.{HerbrandRefuted}
 use Rattle.prover_main.specs.Accepted.{IsAcceptedDerivation, form_of, is_predicate_of}
 use Rattle.prover_main.specs.Report.{refuted_report, closed_report, spent_report, not_built_report, load_failed_report, usage_report}
@@ -37,8 +37,7 @@ pub record IsRefutedBy (bytes file text : List ℕ) : Type 0 where
   pub derivation : List ℕ
   pub accepted : IsAcceptedDerivation file problem derivation
   pub herbrand :
-      (functions : List FunctionSymbol)
-      → IsTrue (are_function_symbols (is_predicate_of problem) functions) → IsTrue (has_constant functions)
+      (functions : FunctionSymbols (is_predicate_of problem)) → IsTrue (has_constant functions.symbols)
       → HerbrandRefuted (is_predicate_of problem) functions (form_of problem)
   pub prints : text ≡ refuted_report file derivation
 
