@@ -1,4 +1,5 @@
 -- Facts about the lines of entries, for the derivation.
+use Rattle.fol_base.specs.declared.limits.TheConstants.{MOST_SYMBOLS, MOST_BOUND_SYMBOLS}
 use Rattle.std.proofs.Common.{◌≡◌, ℕ, zero, suc, ◌+◌, ◌-◌, ◌<◌, ◌≤◌, Bool, true, false, ◌&&◌, not, List, [], ◌∷◌, ◌++◌, length, map, take, get_or, ap, sym, ◌∙◌, subst, arith, inl, inr, true≢false, Some}
 use Rattle.std.specs.Prelude.{slice_get, slice_index}
 use Rattle.std.specs.List.{list_all}
@@ -46,7 +47,7 @@ pub record ComesFromClause (form : List TreeClause) (lines : List Line) (numbers
   pub at_form : slice_get form n ≡ Some clause
   pub is : line_clause lines (slice_index numbers n) ≡ clause
   pub is_ground : IsGroundLine lines (slice_index numbers n)
-  pub small : clause_size (line_clause lines (slice_index numbers n)) ≤ 8000
+  pub small : clause_size (line_clause lines (slice_index numbers n)) ≤ MOST_BOUND_SYMBOLS
   pub same : SameElements s clause.literals
 
 ground_literals : (form : List TreeClause) (n : ℕ) (c : TreeClause) → IsGroundForm form → slice_get form n ≡ Some c → list_all is_atom_literal c.literals ≡ true
@@ -133,7 +134,7 @@ pub record ComesFromTwo (form : List TreeClause) (atoms : List Tree) (lines : Li
 
 IsSetLine-from :
     (form : List TreeClause) (lines : List Line) (n : ℕ) (s : LiteralSet)
-    → IsGroundForm form → form_size form ≤ 4000 → IsLineOf form lines n s → IsSetLine lines n
+    → IsGroundForm form → form_size form ≤ MOST_SYMBOLS → IsLineOf form lines n s → IsSetLine lines n
 IsSetLine-from form lines n s ground small line = record {
   there = line.there;
   no_names = line.no_names;

@@ -1,4 +1,5 @@
 -- The tests of examples mean what they say.
+use Rattle.fol_base.specs.declared.limits.TheConstants.{MOST_SYMBOLS}
 use Rattle.std.proofs.Common.{◌≡◌, ℕ, zero, suc, ◌+◌, ◌/◌, ◌<◌, ◌≤◌, true, not, List, [], ◌∷◌, ◌++◌, length, get_or, take, refl, ap, sym, ◌∙◌, subst, arith, true≢false, Option, None, Some, ltb, leb, ◌&&◌}
 use Rattle.std.specs.Prelude.{All, AllPairs, slice_get, slice_index, IsFalse}
 use Rattle.std.specs.List.{list_any, list_all}
@@ -116,19 +117,19 @@ ends_from (e ∷ f ∷ es) h = let rest = ends_from (f ∷ es) h in (e ∷ rest.
 -- what a derivation asks for
 pub record IsExample (form : List TreeClause) (atoms : List Tree) (entries : List Entry) : Type 0 where
   pub ground : IsGroundForm form
-  pub small : form_size form ≤ 4000
+  pub small : form_size form ≤ MOST_SYMBOLS
   pub reaches : ReachesEmpty form atoms entries
 
 pub IsExample-from : (form : List TreeClause) (atoms : List Tree) (entries : List Entry) → is_example form atoms entries ≡ true → IsExample form atoms entries
 IsExample-from form atoms entries h =
     let one = and_parts (is_ground_form form) _ h in
-    let two = and_parts (leb (form_size form) 4000) _ one.1 in
+    let two = and_parts (leb (form_size form) MOST_SYMBOLS) _ one.1 in
     let three = and_parts (are_entries_after form atoms [] entries) _ two.1 in
     let four = and_parts (are_different_trees atoms) (ends_empty entries) three.1 in
     let ends = ends_from entries four.1 in
     record {
       ground = ground_from form one.0;
-      small = leb-true (form_size form) 4000 two.0;
+      small = leb-true (form_size form) MOST_SYMBOLS two.0;
       reaches = record {
         are_entries = entries_from form atoms [] entries three.0;
         different = different_from atoms four.0;

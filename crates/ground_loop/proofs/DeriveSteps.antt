@@ -1,5 +1,6 @@
 -- What the steps of merging and resolution conclude from lines that are sets, for the derivation.
 use mathlib.Core.Bool.{beq}
+use Rattle.fol_base.specs.declared.limits.TheConstants.{MOST_BOUND_SYMBOLS}
 use Rattle.std.proofs.Common.{◌≡◌, ℕ, zero, suc, ◌+◌, ◌-◌, ◌^◌, ◌<◌, ◌≤◌, min, Bool, true, false, not, ◌&&◌, ◌||◌, List, [], ◌∷◌, ◌++◌, length, take, drop, get_or, refl, ap, sym, ◌∙◌, arith, Some, None}
 use Rattle.std.specs.Prelude.{slice_get, slice_set, remove, option_map, option_and_then, if◌then◌else◌}
 use Rattle.std.specs.List.{list_all}
@@ -30,10 +31,10 @@ abbrev pub bare_clause : LiteralSet → TreeClause
 bare_clause ls = record { literals = ls; names = [] }
 
 -- the empty binding is right for a ground clause that isn't too large
-pub binds-none : (bind : List Tree) (c : TreeClause) → bind ≡ [] → clause_variables c ≡ [] → clause_size c ≤ 8000 → binds bind c ≡ true
+pub binds-none : (bind : List Tree) (c : TreeClause) → bind ≡ [] → clause_variables c ≡ [] → clause_size c ≤ MOST_BOUND_SYMBOLS → binds bind c ≡ true
 binds-none bind c none ground small =
     sym (binds-ground bind c (min (clause_size c) (2 ^ 64 - 1)) (ap length none) ground refl)
-    ∙ le-leb (min (clause_size c) (2 ^ 64 - 1)) 8000 (omega arith)
+    ∙ le-leb (min (clause_size c) (2 ^ 64 - 1)) MOST_BOUND_SYMBOLS (omega arith)
 
 same_conclusion : (v : Verdict) (c d : TreeClause) → v ≡ concludes c → v ≡ concludes d → c ≡ d
 same_conclusion v c d h k = cc
@@ -58,7 +59,7 @@ merged-repeat ls i j repeat =
 
 pub merge_concludes :
     (lines : List Line) (line i j : ℕ) (bind : List Tree)
-    → IsGroundLine lines line → clause_size (line_clause lines line) ≤ 8000 → bind ≡ [] → IsRepeat (line_literals lines line) j i
+    → IsGroundLine lines line → clause_size (line_clause lines line) ≤ MOST_BOUND_SYMBOLS → bind ≡ [] → IsRepeat (line_literals lines line) j i
     → verdict (Merge line i j bind) lines ≡ concludes (bare_clause (remove (line_literals lines line) j))
 merge_concludes lines line i j bind ground small none repeat =
     let c : TreeClause = line_clause lines line in
@@ -71,14 +72,14 @@ merge_concludes lines line i j bind ground small none repeat =
 pub record MergesSoFar (old : List Line) (line : ℕ) (new : List Line) (left goes : ℕ) : Type 0 where
   pub continues : (form : List TreeClause) → Continues form old new
   pub is_ground : IsGroundLine new left
-  pub small : clause_size (line_clause new left) ≤ 8000
+  pub small : clause_size (line_clause new left) ≤ MOST_BOUND_SYMBOLS
   pub within : goes ≤ length (line_literals new left)
   pub different : are_different (take goes (line_literals new left)) ≡ true
   pub same : SameElements (line_literals new left) (line_literals old line)
   pub is_last : IsLastLine old line → IsLastLine new left
 
 pub MergesSoFar-none :
-    (lines : List Line) (line : ℕ) → IsGroundLine lines line → clause_size (line_clause lines line) ≤ 8000 → MergesSoFar lines line lines line 0
+    (lines : List Line) (line : ℕ) → IsGroundLine lines line → clause_size (line_clause lines line) ≤ MOST_BOUND_SYMBOLS → MergesSoFar lines line lines line 0
 MergesSoFar-none lines line ground small = record {
   continues = λ form. Continues-none form lines;
   is_ground = ground;
@@ -141,7 +142,7 @@ MergesSoFar-merged old line mid left goes stays bind new number so_far none repe
 -- after a merge there is less to pass
 pub merge_smaller :
     (mid : List Line) (left goes stays : ℕ) (bind : List Tree) (new : List Line) (number : ℕ)
-    → IsGroundLine mid left → clause_size (line_clause mid left) ≤ 8000 → bind ≡ [] → IsRepeat (line_literals mid left) goes stays
+    → IsGroundLine mid left → clause_size (line_clause mid left) ≤ MOST_BOUND_SYMBOLS → bind ≡ [] → IsRepeat (line_literals mid left) goes stays
     → AddsLine mid (Merge left stays goes bind) new number
     → length (line_literals new number) - goes < length (line_literals mid left) - goes
 merge_smaller mid left goes stays bind new number ground small none repeat added =
@@ -253,7 +254,7 @@ para_concludes lines first second i j t place bind bind_too pair root none none_
 pub record IsSuperposed (lines : List Line) (first second i j : ℕ) (new : List Line) (number : ℕ) : Type 0 where
   pub is : line_clause new number ≡ bare_clause (superposed_literals (line_literals lines first) i (line_literals lines second) j)
   pub is_ground : IsGroundLine new number
-  pub small : clause_size (line_clause new number) ≤ 8000
+  pub small : clause_size (line_clause new number) ≤ MOST_BOUND_SYMBOLS
 
 pub IsSuperposed-from :
     (lines : List Line) (first second i j : ℕ) (t : Tree) (place : List ℕ) (bind bind_too : List Tree) (new : List Line) (number : ℕ)

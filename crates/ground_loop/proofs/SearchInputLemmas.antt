@@ -1,4 +1,5 @@
 -- Facts about the codes of clauses.
+use Rattle.fol_base.specs.declared.limits.TheConstants.{MOST_SYMBOLS}
 use Rattle.std.proofs.Common.{◌≡◌, ℕ, zero, suc, ◌+◌, ◌*◌, ◌/◌, ◌%◌, ◌<◌, ◌≤◌, Bool, true, false, ◌||◌, ◌==◌, List, [], ◌∷◌, ◌++◌, length, map, take, get_or, refl, ap, sym, ◌∙◌, subst, arith, ◌⊎◌, inl, inr, ⊎_elim, Option, Some}
 use Rattle.std.specs.Prelude.{IsTrue, IsFalse, slice_get, sum_by}
 use Rattle.std.specs.List.{list_all}
@@ -322,8 +323,8 @@ reaches_empty_clause form i atoms atoms' sets sets' codes c has is_clause coded 
 -- what the conditions of a form say of a clause
 pub clause_room :
     (form : List TreeClause) (i : ℕ) (atoms : Atoms) (sets : Sets) (c : TreeClause)
-    → HasInputs form i atoms sets → slice_get form i ≡ Some c → form_size form ≤ 4000
-    → (length atoms.terms + length c.literals ≤ 4000) × (i ≤ 4000)
+    → HasInputs form i atoms sets → slice_get form i ≡ Some c → form_size form ≤ MOST_SYMBOLS
+    → (length atoms.terms + length c.literals ≤ MOST_SYMBOLS) × (i ≤ MOST_SYMBOLS)
 clause_room form i atoms sets c has is_clause small =
     let clause = size_more form i c is_clause in
     let literals = literals-le-size c.literals in

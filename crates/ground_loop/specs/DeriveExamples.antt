@@ -1,4 +1,5 @@
 -- Tests of what a derivation is asked for, which compute: for the rows of tests.
+use Rattle.fol_base.specs.declared.limits.TheConstants.{MOST_SYMBOLS}
 use Rattle.std.specs.Prelude.{ℕ, ◌/◌, Bool, true, false, not, ◌&&◌, nat_lt, nat_le, List, [], ◌∷◌, ◌++◌, map, length, Option, None, Some, slice_get}
 use Rattle.std.specs.List.{list_any, list_all}
 use Rattle.fol_base.specs.Tree.{Tree, application, no_trees, tree_eq}
@@ -77,5 +78,5 @@ ends_empty (e ∷ f ∷ es) = ends_empty (f ∷ es)
 abbrev pub is_example : List TreeClause → List Tree → List Entry → Bool
 is_example form atoms entries =
     is_ground_form form
-    && (nat_le (form_size form) 4000
+    && (nat_le (form_size form) MOST_SYMBOLS
     && (are_entries_after form atoms [] entries && (are_different_trees atoms && ends_empty entries)))

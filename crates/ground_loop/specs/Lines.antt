@@ -1,4 +1,5 @@
 -- Lines of a derivation as sets of literals, and how lines are added.
+use Rattle.fol_base.specs.declared.limits.TheConstants.{MOST_SYMBOLS, MOST_BOUND_SYMBOLS}
 use Rattle.std.specs.Prelude.{◌≡◌, ℕ, ◌-◌, ◌<◌, ◌≤◌, Bool, true, false, not, ◌&&◌, List, [], ◌∷◌, ◌++◌, length, Some, slice_get, slice_set, slice_index, slice_index_or, take, IsTrue, IsFalse}
 use Rattle.std.specs.List.{list_any, list_all}
 use Rattle.fol_base.specs.Tree.{Tree}
@@ -73,7 +74,7 @@ pub record IsSetLine (lines : List Line) (number : ℕ) : Type 0 where
   pub no_names : (line_clause lines number).names ≡ []
   pub of_atoms : IsTrue (list_all is_atom_literal (line_literals lines number))
   pub different : IsTrue (are_different (line_literals lines number))
-  pub small : clause_size (line_clause lines number) ≤ 4000
+  pub small : clause_size (line_clause lines number) ≤ MOST_SYMBOLS
 
 -- a line is left that has the literals of the given one, each once
 pub record IsMerged (old : List Line) (line : ℕ) (new : List Line) (left : ℕ) : Type 0 where
@@ -89,7 +90,7 @@ pub record IsResolved (old : List Line) (first second : ℕ) (atom : Tree) (new 
   pub continues : (form : List TreeClause) → Continues form old new
   pub is_last : IsLastLine new number
   pub is_ground : IsGroundLine new number
-  pub small : clause_size (line_clause new number) ≤ 8000
+  pub small : clause_size (line_clause new number) ≤ MOST_BOUND_SYMBOLS
   pub same : SameElements (line_literals new number) (resolvent atom (line_literals old first) (line_literals old second))
 
 -- the last line has the literals of the resolvent of two lines, each once
@@ -187,7 +188,7 @@ HasOriginLines form atoms entries lines clause_lines entry_lines (Resolvent firs
 -- lawful entries from a small ground form
 pub record AreGroundEntries (form : List TreeClause) (atoms : List Tree) (entries : List Entry) : Type 0 where
   pub ground : IsGroundForm form
-  pub small : form_size form ≤ 4000
+  pub small : form_size form ≤ MOST_SYMBOLS
   pub are_entries : AreEntries form atoms entries
 
 -- the lines of what an entry comes from are there

@@ -14,15 +14,15 @@ ghost use Rattle.ground_loop.specs.Lines.{AddsClause, AddsClauses, AreGroundEntr
 use crate::derive::cone::{Cone, cone_of_last};
 use crate::derive::steps::{push_merges, push_resolvent};
 use crate::entry::{Entries, Entry, Origin};
-use fol_base::{Clauses, Terms};
-use plain_types::{Mem, Numbers};
+use fol_base::{Clauses, MOST_SYMBOLS, Terms};
 use kernel_steps::{Derivation, Line, Step};
+use plain_types::{Mem, Numbers};
 use std::alloc::Global;
 
 /// The lines that the last entry needs: clauses of the form, superpositions, resolutions and merges.
 pub fn derive(alloc: Global, form: &Clauses, atoms: &Terms, entries: &Entries) -> Mem<Derivation>
     requires ground { IsGroundForm (map clause_of form.now) }
-    requires small { form_size (map clause_of form.now) ≤ 4000 }
+    requires small { form_size (map clause_of form.now) ≤ MOST_SYMBOLS }
     requires reaches { ReachesEmpty (map clause_of form.now) atoms.now entries.now }
     ensures { IfOk result (IsClauseRefutation (map clause_of form.now)) }
 {

@@ -7,8 +7,8 @@ ghost use Rattle.ground_loop.specs.Search.{IsClauseRefutation};
 ghost use Rattle.ground_loop.specs.Inputs.{shifted_step, shifted_line, input_of, inputs_of, with_inputs_of};
 
 use fol_base::{Clause, Clauses, Literals};
-use plain_types::{Mem, Names, NoMemory};
 use kernel_steps::{Derivation, Line, Step};
+use plain_types::{Mem, Names, NoMemory};
 use std::alloc::Global;
 
 /// The derivation below the input lines of the formulas whose clauses it uses, where clause number i comes from

@@ -11,7 +11,7 @@ use crate::derive::derive;
 use crate::entry::Found;
 use crate::inputs::with_inputs;
 use crate::search::search;
-use fol_base::Clauses;
+use fol_base::{Clauses, MOST_SYMBOLS};
 use plain_types::Mem;
 use std::alloc::Global;
 
@@ -19,7 +19,7 @@ use std::alloc::Global;
 /// `limit` inferences are counted (resolution, Robinson 1965).
 pub fn prove_ground(alloc: Global, form: &Clauses, limit: u32) -> Mem<Ground>
     requires ground { IsGroundForm (map clause_of form.now) }
-    requires small { form_size (map clause_of form.now) ≤ 4000 }
+    requires small { form_size (map clause_of form.now) ≤ MOST_SYMBOLS }
     requires counted { 1 ≤ limit }
     ensures answer { IfOk result (IsGroundAnswer (map clause_of form.now) limit) }
     ensures meaning { IfOk result (HasMeaning (map clause_of form.now)) }
@@ -30,7 +30,7 @@ pub fn prove_ground(alloc: Global, form: &Clauses, limit: u32) -> Mem<Ground>
 /// The loop's answer; what it means follows from it.
 fn answer(alloc: Global, form: &Clauses, limit: u32) -> Mem<Ground>
     requires ground { IsGroundForm (map clause_of form.now) }
-    requires small { form_size (map clause_of form.now) ≤ 4000 }
+    requires small { form_size (map clause_of form.now) ≤ MOST_SYMBOLS }
     requires counted { 1 ≤ limit }
     ensures { IfOk result (IsGroundAnswer (map clause_of form.now) limit) }
 {

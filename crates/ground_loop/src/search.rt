@@ -16,14 +16,14 @@ use crate::search::atoms::Atoms;
 use crate::search::clause::add_clauses;
 use crate::search::saturation::{Progress, Saturation};
 use crate::search::sets::Sets;
-use fol_base::Clauses;
+use fol_base::{Clauses, MOST_SYMBOLS};
 use plain_types::Mem;
 use std::alloc::Global;
 
 /// Makes resolvents until one is empty, none is left to make, or `limit` inferences are counted.
 pub fn search(alloc: Global, form: &Clauses, limit: u32) -> Mem<Found>
     requires ground { IsGroundForm (map clause_of form.now) }
-    requires small { form_size (map clause_of form.now) ≤ 4000 }
+    requires small { form_size (map clause_of form.now) ≤ MOST_SYMBOLS }
     requires counted { 1 ≤ limit }
     ensures { IfOk result (IsFound (map clause_of form.now) limit) }
 {

@@ -3,16 +3,16 @@
 ghost use Rattle.std.specs.Prelude.{◌≡◌, ◌<◌, ◌≤◌, List, map, length, take, Some, slice_get, IfOk, IfSome, IfNone, IsTrue, true, false};
 ghost use Rattle.std.specs.List.{list_all};
 ghost use Rattle.fol_base.specs.Term.{tree_of};
-ghost use Rattle.fol_base.specs.Clause.{clause_size};
+ghost use Rattle.fol_base.specs.Clause.{clause_size, literal_eq};
 ghost use Rattle.fol_base.specs.Literal.{literal_of};
 ghost use Rattle.fol_base.specs.GroundForm.{is_atom_literal};
 ghost use Rattle.kernel_steps.specs.Conclusion.{verdict, line_clause, IsGroundLine, HasGroundParents};
 ghost use Rattle.ground_loop.specs.Resolution.{atom_literal, has_literal, can_resolve};
 ghost use Rattle.ground_loop.specs.Lines.{IsRepeat, IsNew, line_literals, Concludes, AddsLine, IsSetLine, IsMerged, IsResolved, IsResolvent};
 
-use fol_base::{Literal, Position, Side, Term, Terms, same_literal, same_term};
-use plain_types::{Mem, NoMemory};
+use fol_base::{Literal, MOST_BOUND_SYMBOLS, Position, Side, Term, Terms, same_literal, same_term};
 use kernel_steps::{Derivation, Line, Step, StepFault, conclusion};
+use plain_types::{Mem, NoMemory};
 use std::alloc::Global;
 
 /// Adds the lines of the resolvent of two lines without repeats, the first with the atom and the second with its
@@ -74,7 +74,7 @@ fn push_resolution(
 /// Adds merges of a line until no literal stands twice, and gives the number of the line that is left.
 pub fn push_merges(alloc: Global, lines: &mut Derivation, line: u64) -> Mem<u64>
     requires is_ground { IsGroundLine lines.old line }
-    requires small { clause_size (line_clause lines.old line) ≤ 8000 }
+    requires small { clause_size (line_clause lines.old line) ≤ MOST_BOUND_SYMBOLS }
     ensures { IfOk result (IsMerged lines.old line lines.new) }
 {
     let mut left = line;
@@ -138,9 +138,16 @@ fn earlier_same(literals: &[Literal], place: usize) -> Option<usize>
     ensures none { IfNone result (IsNew (map literal_of literals.now) place) }
 {
     for earlier in 0..place {
-        if same_literal(&literals[earlier], &literals[place]) {
+        if are_same(&literals[earlier], &literals[place]) {
             return Some(earlier);
         }
     }
     None
+}
+
+/// Whether two literals have the same sign and the same sides.
+fn are_same(left: &Literal, right: &Literal) -> bool
+    ensures { result ≡ literal_eq (literal_of left.now) (literal_of right.now) }
+{
+    same_literal(left.lend(), right.lend())
 }

@@ -7,8 +7,8 @@ ghost use Rattle.ground_loop.specs.DeriveExamples.{proposition, propositional_cl
 use crate::derive::derive;
 use crate::entry::{Codes, Entries, Entry, Origin};
 use fol_base::{Clause, Clauses, Literal, Literals, Term, Terms};
-use plain_types::{Mem, Names};
 use kernel_steps::{Derivation, Step};
+use plain_types::{Mem, Names};
 use std::alloc::{AllocError, Global};
 use std::test::Fail;
 

@@ -11,7 +11,7 @@ use crate::entry::Origin;
 use crate::search::atoms::Atoms;
 use crate::search::codes::make_rising;
 use crate::search::sets::Sets;
-use fol_base::{Clause, Literal};
+use fol_base::{Clause, Literal, MOST_SYMBOLS};
 use plain_types::Mem;
 use std::alloc::Global;
 
@@ -23,7 +23,7 @@ pub fn add_clauses(
     clauses: &[Clause],
 ) -> Mem<bool>
     requires ground { IsGroundForm (map clause_of clauses.now) }
-    requires small { form_size (map clause_of clauses.now) ≤ 4000 }
+    requires small { form_size (map clause_of clauses.now) ≤ MOST_SYMBOLS }
     requires starts { HasInputs (map clause_of clauses.now) 0 atoms.old sets.old }
     ensures { IfOk result (AddsClauses (map clause_of clauses.now) atoms.new sets.new) }
 {

@@ -6,7 +6,7 @@ ghost use Rattle.fol_base.specs.Literal.{literal_of, clause_of};
 use super::*;
 use crate::answer::Ground;
 use crate::prove::prove_ground;
-use fol_base::{Clause, Literal, Literals, Term, Terms};
+use fol_base::{Clause, Literal, Literals, MOST_SYMBOLS, Term, Terms};
 use plain_types::{Names, NoMemory};
 
 /// A predicate without arguments by its number, negated below zero.
@@ -39,7 +39,7 @@ fn clause(alloc: Global, numbers: &[i8]) -> Mem<Clause>
 /// A form of few short clauses; longer ones count as want of memory.
 fn form(alloc: Global, clauses: &[&[i8]]) -> Mem<Clauses>
     ensures ground { IfOk result (λ form. IsGroundForm (map clause_of form)) }
-    ensures small { IfOk result (λ form. form_size (map clause_of form) ≤ 4000) }
+    ensures small { IfOk result (λ form. form_size (map clause_of form) ≤ MOST_SYMBOLS) }
 {
     let mut made = Vec::new(alloc);
     for numbers in clauses {
