@@ -1,9 +1,41 @@
--- What a sink has taken after one more write of the rest of a text.
-use Rattle.std.proofs.Common.{◌≡◌, ◌≤◌, ◌+◌, ◌-◌, ℕ, List, ◌++◌, length, take, drop, Option, ap, sym, ◌∙◌, arith}
+-- What a sink has taken, and which writes are left, after one more write of the rest of a text.
+use Rattle.std.proofs.Common.{◌≡◌, ◌<◌, ◌≤◌, ◌+◌, ◌-◌, ℕ, List, ◌++◌, length, take, drop, Option, ap, sym, subst, ◌∙◌, arith}
+use Rattle.std.specs.Prelude.{Result, Ok, Err, IsErrAnd}
 use Rattle.std.specs.List.{slice_range}
-use Rattle.std.proofs.lemmas.List.{take_all, length-drop, drop-drop}
+use Rattle.std.proofs.lemmas.List.{take_all, length-drop, drop-drop, nil_from_length}
 use Rattle.std.proofs.Math.Seq.{take-add}
-use Rattle.outside.specs.Sink.{with_bytes, with_bytes_twice}
+use Rattle.outside.specs.Sink.{with_bytes, with_bytes_twice, Delivers, none_left, takes, fails}
+use Rattle.outside.specs.declared.fault.SinkFault.{SinkFault}
+
+-- the writes of the rest, from where the sink now stands, are the last of those of the text
+abbrev pub Completes : {S : Type 0} → (S → List ℕ → Result ℕ SinkFault → S → Type 0) → S → List ℕ → S → List ℕ → Type 0
+Completes {S} gives start text now rest =
+    (result : Result (Unit {0}) SinkFault) (after : S) → Delivers gives now rest result after → Delivers gives start text result after
+
+-- so are those of what is left after one more write
+pub next_completes :
+    {S : Type 0} (gives : S → List ℕ → Result ℕ SinkFault → S → Type 0) (start now next : S) (text rest left : List ℕ) (count : ℕ)
+    → Completes gives start text now rest → 0 < length rest → gives now rest (Ok count) next → left ≡ drop count rest
+    → Completes gives start text next left
+next_completes gives start now next text rest left count completes some given is_left result after delivers =
+    completes result after (takes some given (subst (λ xs. Delivers gives next xs result after) is_left delivers))
+
+-- where nothing is left, the text is delivered
+pub none_left_completes :
+    {S : Type 0} (gives : S → List ℕ → Result ℕ SinkFault → S → Type 0) (start now : S) (text rest : List ℕ)
+    → Completes gives start text now rest → length rest ≡ 0 → Delivers gives start text (Ok tt) now
+none_left_completes gives start now text rest completes empty =
+    completes (Ok tt) now (subst (λ xs. Delivers gives now xs (Ok tt) now) (sym (nil_from_length rest empty)) none_left)
+
+-- where a write failed, its fault is the answer
+pub fails_completes :
+    {S : Type 0} (gives : S → List ℕ → Result ℕ SinkFault → S → Type 0) (start now after : S) (text rest : List ℕ) (fault : SinkFault)
+    (result : Result (Unit {0}) SinkFault)
+    → Completes gives start text now rest → 0 < length rest → gives now rest (Err fault) after → IsErrAnd result (λ e. e ≡ fault)
+    → Delivers gives start text result after
+fails_completes gives start now after text rest fault (Ok done) completes some given is = absurd is
+fails_completes gives start now after text rest fault (Err e) completes some given is =
+    completes (Err e) after (fails some (subst (λ x. gives now rest (Err x) after) (sym is) given))
 
 -- a slice up to the end is what is left after its start
 pub range_to_end : (xs : List ℕ) (n : ℕ) → slice_range xs n (length xs) ≡ drop n xs

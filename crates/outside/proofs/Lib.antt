@@ -1,4 +1,4 @@
 mod Delivered
 mod Front
-mod Rows
+mod Scripted
 mod Untold

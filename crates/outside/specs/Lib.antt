@@ -1,3 +1,4 @@
+pub mod Examples
 pub mod Faults
 pub mod Library
 pub mod MemLibrary

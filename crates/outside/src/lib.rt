@@ -4,6 +4,7 @@
 mod delivery;
 mod fault;
 mod file;
+pub mod laws;
 mod library;
 mod memory;
 mod memory_sink;

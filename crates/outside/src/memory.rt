@@ -112,7 +112,7 @@ impl Library for MemLibrary {
         let found = if self.fail.as_slice().contains(&number) {
             None
         } else {
-            bytes_of(self.files.as_slice(), name.as_bytes())
+            bytes_of(&self.files, name.as_bytes())
         };
         match found {
             None => {
@@ -175,7 +175,7 @@ impl Library for SureLibrary {
         ensures too_long { IsErrOf result TooLong → IsSomeAnd
             (bytes_or_empty (sure_files self.old) name.now) (λ bytes. limit < length bytes) }
     {
-        let bytes = bytes_of(self.files.as_slice(), name.as_bytes()).unwrap_or(&[]);
+        let bytes = bytes_of(&self.files, name.as_bytes()).unwrap_or(&[]);
         if bytes.len() > limit {
             return Err(LoadFault::TooLong);
         }
@@ -186,10 +186,10 @@ impl Library for SureLibrary {
 }
 
 // The bytes of the first file of this name.
-fn bytes_of<'a>(files: &'a [MemFile], name: &[u8]) -> Option<&'a [u8]>
+fn bytes_of<'a>(files: &'a Files, name: &[u8]) -> Option<&'a [u8]>
     ensures { option_copied result ≡ bytes_listed files.now name.now }
 {
-    for file in files {
+    for file in files.iter() {
         if file.name.as_slice() == name {
             return Some(file.bytes.as_slice());
         }

@@ -62,28 +62,23 @@ impl MemSink {
 }
 
 impl Sink for MemSink {
-    ghost use Rattle.outside.specs.MemSink.{sink_bytes, sink_room, sink_most, sink_fail, sink_calls, sink_faults, numbered_write};
+    ghost use Rattle.outside.specs.MemSink.{sink_bytes, sink_faults, MemSinkGives};
 
     ghost taken = { λ sink. Some (sink_bytes sink) };
 
     ghost faults = { sink_faults };
 
+    ghost gives = { MemSinkGives };
+
     fn write(&mut self, bytes: &[u8]) -> Result<usize, SinkFault>
         requires { 0 < length bytes.now }
-        ensures answer { result ≡ numbered_write (sink_fail self.old)
-            (count_after (sink_calls self.old)) (sink_most self.old)
-            (sink_room self.old - length (sink_bytes self.old)) (length bytes.now) }
-        ensures ok { IfOk result (λ n. sink_bytes self.new ≡ sink_bytes self.old ++ take n bytes.now) }
-        ensures err { OnErr result (sink_bytes self.new ≡ sink_bytes self.old) }
-        ensures calls { sink_calls self.new ≡ count_after (sink_calls self.old) }
-        ensures right { OnOk result (sink_faults self.new ≡ sink_faults self.old) }
-        ensures counted { OnErr result (sink_faults self.new ≡ count_after (sink_faults self.old)) }
-        ensures room { sink_room self.new ≡ sink_room self.old }
-        ensures most { sink_most self.new ≡ sink_most self.old }
-        ensures fail { sink_fail self.new ≡ sink_fail self.old }
-        // The clauses of the trait that these give.
+        ensures given { MemSinkGives self.old bytes.now result self.new }
+        // The other clauses of the trait.
         ensures some { IfOk result (λ n. 0 < n) }
         ensures within { IfOk result (λ n. n ≤ length bytes.now) }
+        ensures taken { IfOk result (λ n. sink_bytes self.new ≡ sink_bytes self.old ++ take n bytes.now) }
+        ensures nothing { OnErr result (sink_bytes self.new ≡ sink_bytes self.old) }
+        ensures stays { OnOk result (sink_faults self.new ≡ sink_faults self.old) }
         ensures later { sink_faults self.old ≤ sink_faults self.new }
         ensures cause { OnErr result (Rose (sink_faults self.old) (sink_faults self.new)) }
     {

@@ -34,20 +34,20 @@ impl<'a, R> StdoutSink<'a, R> {
 }
 
 impl<R: Print> Sink for StdoutSink<'_, R> {
-    ghost use Rattle.outside.specs.Memory.{count_after};
-    ghost use Rattle.outside.specs.Real.{stdout_faults};
+    ghost use Rattle.outside.specs.Real.{stdout_faults, StdoutGives};
 
     ghost taken = { λ _. None };
 
     ghost faults = { stdout_faults };
 
+    ghost gives = { StdoutGives };
+
     fn write(&mut self, bytes: &[u8]) -> Result<usize, SinkFault>
-        ensures right { OnOk result (stdout_faults self.new ≡ stdout_faults self.old) }
-        ensures counted { OnErr result
-            (stdout_faults self.new ≡ count_after (stdout_faults self.old)) }
-        // The clauses of the trait that are not of what is told.
+        ensures given { StdoutGives self.old bytes.now result self.new }
+        // The other clauses of the trait that are not of what is told.
         ensures some { IfOk result (λ n. 0 < n) }
         ensures within { IfOk result (λ n. n ≤ length bytes.now) }
+        ensures stays { OnOk result (stdout_faults self.new ≡ stdout_faults self.old) }
         ensures later { stdout_faults self.old ≤ stdout_faults self.new }
         ensures cause { OnErr result (Rose (stdout_faults self.old) (stdout_faults self.new)) }
     {

@@ -19,9 +19,9 @@ pub run_usage :
     (words : List (List ℕ)) (outside : Outside) (taken : Taken) (status : ℕ)
     → None ≡ proved_file words → outside.faults_after ≡ outside.faults_before → Delivered taken 6 usage_report status
     → IsRun words outside taken status
-run_usage words outside taken status e calm (all_taken s t) =
+run_usage words outside taken status e calm (all_taken s t stays) =
     let P : Option (List ℕ) → Type 0 = λ f. IsDue f outside status usage_report in
-    whole usage_report (subst P e (s, refl, calm)) t
+    whole usage_report (subst P e (s, refl, calm)) t stays
 run_usage words outside taken status e calm (prefix_taken s r p) =
     let P : Option (List ℕ) → Type 0 = λ f. IsDue f outside 6 usage_report in
     cut_off s 6 usage_report (subst P e (refl, refl, calm)) r p
@@ -30,10 +30,10 @@ pub run_due :
     (words : List (List ℕ)) (outside : Outside) (taken : Taken) (file : List ℕ) (due : ℕ) (text : List ℕ) (status : ℕ)
     → Some file ≡ proved_file words → IsDueFor outside file due text → Delivered taken due text status
     → IsRun words outside taken status
-run_due words outside taken file due text status e cause (all_taken s t) =
+run_due words outside taken file due text status e cause (all_taken s t stays) =
     let P : Option (List ℕ) → Type 0 = λ f. IsDue f outside status text in
     let Q : ℕ → Type 0 = λ n. IsDueFor outside file n text in
-    whole text (subst P e (subst Q (sym s) cause)) t
+    whole text (subst P e (subst Q (sym s) cause)) t stays
 run_due words outside taken file due text status e cause (prefix_taken s r p) =
     let P : Option (List ℕ) → Type 0 = λ f. IsDue f outside due text in
     cut_off s due text (subst P e cause) r p

@@ -98,22 +98,26 @@ pub record Taken : Type 0 where
   pub faults_before : ℕ
   pub faults_after : ℕ
 
--- the sink took the text, or it failed and took a prefix
+-- the sink took the text and its count of faults stayed, or it failed and took a prefix
 pub data Delivered (taken : Taken) (due : ℕ) (text : List ℕ) (status : ℕ) : Type 0 where
-  all_taken : status ≡ due → taken.bytes_after ≡ with_bytes taken.bytes_before text → Delivered taken due text status
+  all_taken :
+      status ≡ due → taken.bytes_after ≡ with_bytes taken.bytes_before text → taken.faults_after ≡ taken.faults_before
+      → Delivered taken due text status
   prefix_taken :
       status ≡ 5 → Rose taken.faults_before taken.faults_after → HasPrefixAfter taken.bytes_before taken.bytes_after text
       → Delivered taken due text status
 
 -- The sink took the whole report that was due. Or it failed: then the status is 5, and it took a prefix of that report. Or memory
--- was wanted: then the status is 7, the words are no usage and the sink took nothing.
+-- was wanted: then the status is 7, the words are no usage and the sink took nothing. Where the status isn't 5 its count of faults
+-- is as it was.
 pub data IsRun (words : List (List ℕ)) (outside : Outside) (taken : Taken) (status : ℕ) : Type 0 where
   whole :
       (text : List ℕ) → IsDue (proved_file words) outside status text → taken.bytes_after ≡ with_bytes taken.bytes_before text
-      → IsRun words outside taken status
+      → taken.faults_after ≡ taken.faults_before → IsRun words outside taken status
   cut_off :
       status ≡ 5 → (due : ℕ) (text : List ℕ) → IsDue (proved_file words) outside due text
       → Rose taken.faults_before taken.faults_after → HasPrefixAfter taken.bytes_before taken.bytes_after text
       → IsRun words outside taken status
   no_memory :
-      status ≡ 7 → IsSome (proved_file words) → taken.bytes_after ≡ taken.bytes_before → IsRun words outside taken status
+      status ≡ 7 → IsSome (proved_file words) → taken.bytes_after ≡ taken.bytes_before → taken.faults_after ≡ taken.faults_before
+      → IsRun words outside taken status

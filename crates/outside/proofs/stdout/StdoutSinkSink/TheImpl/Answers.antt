@@ -5,10 +5,12 @@ use Rattle.outside.proofs.stdout.StdoutSinkSink.TheImpl.Goals as goal
 pub write-tells : goal.write-tells
 write-tells g c =
     record {
+      given = c.ensures.given;
       some = c.ensures.some;
       within = c.ensures.within;
       taken = ok_always c.result _ (λ _. refl);
       nothing = err_always c.result _ refl;
+      stays = c.ensures.stays;
       later = c.ensures.later;
       cause = c.ensures.cause;
     }
