@@ -5,7 +5,6 @@ use Rattle.fol_base.specs.Tree.{Tree, variable}
 use Rattle.fol_base.specs.Instance.{Substitution, substitution}
 use Rattle.fol_base.specs.Clause.{TreeLiteral, TreeClause, clause_variables, clause_instance, ClauseVariablesBelow}
 use Rattle.fol_base.specs.Canonical.{place_of, renaming, bound_of, terms_from, canonical_renaming, canonical_clause}
-use Rattle.fol_base.specs.Renaming.{by_table}
 use Rattle.fol_base.proofs.InstanceLemmas.{Agree, literals-agree}
 use Rattle.fol_base.proofs.VariableLemmas.{ClauseVariablesBelow-bound}
 
@@ -42,17 +41,6 @@ terms_from-agree :
 terms_from-agree first zero σ τ h = refl
 terms_from-agree first (suc n) σ τ h =
     ap₂ ◌∷◌ (h first (omega arith)) (terms_from-agree (suc first) n σ τ (λ v l. h v (omega arith)))
-
--- ---- the renaming of a table of places
-
-pub renaming_of_table :
-    (n : ℕ) (order : List ℕ) (table : List (Option ℕ))
-    → length table ≡ n → ((v : ℕ) → v < n → get_or table v None ≡ place_of v order)
-    → terms_from 0 (length table) (by_table table) ≡ terms_from 0 n (renaming order)
-renaming_of_table n order table len h =
-    ap (λ m. terms_from 0 m (by_table table)) len
-    ∙ terms_from-agree 0 n (by_table table) (renaming order)
-    (λ v l. ap (λ o. variable (unwrap_or o v)) (h v (omega arith)))
 
 -- ---- the instance by the terms below the bound
 

@@ -22,5 +22,5 @@ pub mod Subsumption
 pub mod Spelling
 pub mod Examples
 pub mod GroundForm
-pub mod Renaming
+pub mod Numbering
 pub mod Kind

@@ -4,13 +4,14 @@
 mod canonical_form;
 mod clause;
 mod equality;
+mod numbering;
 mod place;
 mod size;
 mod substitution;
 mod term;
 mod variables;
 
-pub use canonical_form::canonical;
+pub use canonical_form::{canonical, is_canonical, renumbered};
 pub use clause::{Clause, Clauses, Literal, Literals, Side, push_literal_copies};
 pub use equality::{same_clause, same_literal, same_literals, same_term, same_terms};
 pub use place::{Position, at, replace_at};
@@ -19,5 +20,7 @@ pub use substitution::{Subst, apply, apply_clause, apply_literal};
 pub use term::{Term, Terms};
 
 pub mod laws;
+#[cfg(test)]
+mod canonical_tests;
 #[cfg(test)]
 mod tests;
