@@ -19,5 +19,6 @@ pub mod ExampleLemmas
 pub mod MatchingExamples
 pub mod VariableLemmas
 pub mod NumberingLemmas
+pub mod WalkLemmas
 pub mod CanonicalLemmas
 pub mod EqualityLemmas

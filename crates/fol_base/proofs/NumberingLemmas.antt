@@ -1,6 +1,6 @@
 -- The numbers of variables that are met one after another.
-use Rattle.std.proofs.Common.{◌≡◌, ℕ, zero, suc, ◌+◌, ◌<◌, ◌≤◌, ◌^◌, max, Bool, true, false, not, ◌||◌, ◌==◌, cond, eqb, nat_eq, Option, None, Some, List, [], ◌∷◌, ◌++◌, length, take, drop, append-nil, append_assoc, refl, ap, sym, ◌∙◌, subst, ⊎_elim, arith}
-use Rattle.std.specs.Prelude.{filter, option_map, position}
+use Rattle.std.proofs.Common.{◌≡◌, ℕ, suc, ◌+◌, ◌<◌, ◌≤◌, ◌^◌, max, Bool, true, false, not, ◌||◌, ◌==◌, cond, nat_eq, Option, None, Some, List, [], ◌∷◌, ◌++◌, length, take, drop, append-nil, append_assoc, refl, ap, sym, ◌∙◌, ⊎_elim, arith}
+use Rattle.std.specs.Prelude.{filter, option_map, position, unwrap_or}
 use Rattle.std.specs.Cmp.{nat_eq_equiv}
 use Rattle.std.specs.HashMap.{HashMap, get, Updates}
 use Rattle.std.specs.List.{IsDistinct, AllByRecursion, list_any, position_from}
@@ -76,6 +76,22 @@ place_of-front v (w ∷ ws) us h =
     ∙ sym (place_of-behind v w ws e))
     (cases_Bool (v == w))
 
+-- a place is below the length
+pub place_of-below : (v : ℕ) (ws : List ℕ) → is_some (place_of v ws) ≡ true → unwrap_or (place_of v ws) v < length ws
+place_of-below v [] h = absurd (true≢false (sym h))
+place_of-below v (w ∷ ws) h =
+    ⊎_elim
+    (λ e. omega (arith, ap (λ o. unwrap_or o v) (place_of-here v w ws e)))
+    (λ e.
+    let there : is_some (place_of v ws) ≡ true =
+    sym (is_some-map suc (place_of v ws)) ∙ sym (ap is_some (place_of-behind v w ws e)) ∙ h in
+    omega (arith, ap (λ o. unwrap_or o v) (place_of-behind v w ws e) ∙ mapped (place_of v ws) there, place_of-below v ws there))
+    (cases_Bool (v == w))
+  where
+    mapped : (o : Option ℕ) → is_some o ≡ true → unwrap_or (option_map suc o) v ≡ suc (unwrap_or o v)
+    mapped None h = absurd (true≢false (sym h))
+    mapped (Some k) h = refl
+
 -- what isn't in a list stands behind it
 pub place_of-push : (v : ℕ) (ws : List ℕ) → is_some (place_of v ws) ≡ false → place_of v (ws ++ v ∷ []) ≡ Some (length ws)
 place_of-push v [] h = place_of-here v v [] (eq-eqb v v refl)
@@ -112,7 +128,7 @@ with_variable-keeps order v w h =
     (λ e. ap (place_of v) (with_variable-new order w e) ∙ place_of-front v order (w ∷ []) h)
     (cases_Bool (is_some (place_of w order)))
 
-with_variable-has : (order : List ℕ) (v : ℕ) → is_some (place_of v (with_variable order v)) ≡ true
+pub with_variable-has : (order : List ℕ) (v : ℕ) → is_some (place_of v (with_variable order v)) ≡ true
 with_variable-has order v =
     ⊎_elim
     (λ e. ap (λ o. is_some (place_of v o)) (with_variable-met order v e) ∙ e)
@@ -264,7 +280,7 @@ number_left order v once bounded fits new =
       arith,
       length_push order v,
       length-le_from_distinct_below (order ++ v ∷ []) (bound_of (order ++ v ∷ [])) more
-      (λ w h. bound_of-met w (order ++ v ∷ []) h),
+          (λ w h. bound_of-met w (order ++ v ∷ []) h),
       bound,
     )
 

@@ -6,6 +6,7 @@ pub mod Instance
 pub mod Place
 pub mod Clause
 pub mod Canonical
+pub mod CanonicalLaws
 pub mod Literal
 pub mod Ground
 pub mod Interpretation

@@ -115,10 +115,18 @@ fn count_in_clause(clause: &Clause) -> Option<u64>
 {
     let mut count = 0;
     for literal in clause.literals.as_slice() {
-        count = count_in_term(&literal.left, count)?;
-        count = count_in_term(&literal.right, count)?;
+        count = count_in_literal(literal, count)?;
     }
     Some(count)
+}
+
+fn count_in_literal(literal: &Literal, count: u64) -> Option<u64>
+    requires { count ≤ 2 ^ 32 }
+    ensures value { result ≡ count_after count (literal_variables (literal_of literal.now)) }
+    ensures limit { IfSome result (λ more. more ≤ 2 ^ 32) }
+{
+    let met = count_in_term(&literal.left, count)?;
+    count_in_term(&literal.right, met)
 }
 
 /// How many variables were met after those of the term, if each of them is one of the `count` that

@@ -19,8 +19,8 @@ pub use plain_types::{Mem, NameLit, Names, NoMemory, Numbers, Parts, Sequence, T
 pub use substitution::{Subst, apply, apply_clause, apply_literal};
 pub use term::{Term, Terms};
 
-pub mod laws;
 #[cfg(test)]
 mod canonical_tests;
+pub mod laws;
 #[cfg(test)]
 mod tests;

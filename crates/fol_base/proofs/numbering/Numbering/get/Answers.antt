@@ -1,4 +1,4 @@
-use Rattle.std.proofs.Common.{◌≡◌, ◌==◌, ℕ, Option, Some, None, take, position, ap, sym, ◌∙◌}
+use Rattle.std.proofs.Common.{◌≡◌, ◌==◌, Some, None, take, position, ap, sym, ◌∙◌}
 use Rattle.fol_base.specs.Canonical.{place_of}
 use Rattle.fol_base.specs.declared.numbering.TheConstants.{SCANNED}
 use Rattle.fol_base.proofs.NumberingLemmas.{position-place_of, scanned}
