@@ -23,6 +23,7 @@ pub mod ExampleLemmas
 pub mod MatchingExamples
 pub mod VariableLemmas
 pub mod NumberingLemmas
+pub mod WalkLemmas
 pub mod CanonicalLemmas
 pub mod EqualityLemmas
 pub mod InstanceSizes

@@ -1,109 +1,179 @@
--- The different numbers of a list in the order of their first places, as one more number is read.
-use Rattle.std.proofs.Common.{◌≡◌, ℕ, zero, suc, ◌+◌, ◌<◌, ◌≤◌, Bool, true, false, not, ◌||◌, ◌==◌, cond, eqb, Option, None, Some, List, [], ◌∷◌, ◌++◌, length, take, set, get_or, append-nil, refl, ap, sym, ◌∙◌, subst, ⊎_elim, arith}
-use Rattle.std.specs.Prelude.{filter, option_map}
-use Rattle.std.specs.List.{IsDistinct, AllByRecursion, list_any}
+-- The numbers of variables that are met one after another.
+use Rattle.std.proofs.Common.{◌≡◌, ℕ, suc, ◌+◌, ◌<◌, ◌≤◌, ◌^◌, max, Bool, true, false, not, ◌||◌, ◌==◌, cond, nat_eq, Option, None, Some, List, [], ◌∷◌, ◌++◌, length, take, drop, append-nil, append_assoc, refl, ap, sym, ◌∙◌, ⊎_elim, arith}
+use Rattle.std.specs.Prelude.{filter, option_map, position, unwrap_or}
+use Rattle.std.specs.Cmp.{nat_eq_equiv}
+use Rattle.std.specs.HashMap.{HashMap, get, Updates}
+use Rattle.std.specs.List.{IsDistinct, AllByRecursion, list_any, position_from}
 use Rattle.std.specs.Option.{is_some}
-use Rattle.std.proofs.lemmas.Bool.{or_cases, or_parts, not-true, cond_both, eqb-true, true≢false, cond-true, cond-false, cases_Bool, eq-eqb}
-use Rattle.std.proofs.lemmas.List.{take_more, get_or-set_same, get_or-set_other, get_or_default, length_push}
+use Rattle.std.specs.declared.hash.FoldHasher.{FoldHasher}
+use Rattle.std.specs.declared.hash.BuildHasherDefault.{BuildHasherDefault}
+use Rattle.std.proofs.lemmas.Bool.{or_cases, or_parts, eqb-true, true≢false, cond-true, cond-false, cases_Bool, eq-eqb}
+use Rattle.std.proofs.lemmas.Iterator.Adapters.{position_from-zero}
+use Rattle.std.proofs.lemmas.List.{length_push, take_all, take-append-drop, take-append-le}
 use Rattle.std.proofs.lemmas.List.Elements.{filter-append}
+use Rattle.std.proofs.lemmas.Map.Keys.{IsDistinct-push}
 use Rattle.std.proofs.lemmas.Map.Views.{any-filter_same}
 use Rattle.std.proofs.lemmas.Map.Steps.{length-le_from_distinct_below}
 use Rattle.fol_base.specs.Canonical.{distinct, place_of, bound_of}
-use Rattle.fol_base.proofs.VariableLemmas.{below-bound}
+use Rattle.fol_base.specs.Numbering.{with_variable, with_variables, IsNumbering}
+use Rattle.fol_base.specs.declared.numbering.TheConstants.{SCANNED}
+use Rattle.fol_base.proofs.VariableLemmas.{bound_of-append}
 
 abbrev listed : List ℕ → ℕ → Bool
 listed vs v = list_any (λ w. v == w) vs
 
--- ---- no more numbers than the bound of a list
+-- ---- where a number stands
 
-AllByRecursion-filter : (P : ℕ → Type 0) (p : ℕ → Bool) (xs : List ℕ) → AllByRecursion P xs → AllByRecursion P (filter p xs)
-AllByRecursion-filter P p [] h = tt
-AllByRecursion-filter P p (x ∷ xs) h =
-    let rest = AllByRecursion-filter P p xs h.1 in
-    cond_both (p x) (x ∷ filter p xs) (filter p xs) (AllByRecursion P) (λ e. (h.0, rest)) (λ e. rest)
-
-IsDistinct-filter : (p : ℕ → Bool) (xs : List ℕ) → IsDistinct eqb xs → IsDistinct eqb (filter p xs)
-unfolding IsDistinct
-IsDistinct-filter p [] h = h
-IsDistinct-filter p (x ∷ xs) h =
-    let rest = IsDistinct-filter p xs h.1 in
-    cond_both (p x) (x ∷ filter p xs) (filter p xs) (IsDistinct eqb)
-    (λ e. (AllByRecursion-filter (λ y. eqb x y ≡ false) p xs h.0, rest))
-    (λ e. rest)
-
-not-equal : (v w : ℕ) → (w == v) ≡ false → (v == w) ≡ false
-not-equal v w e = ⊎_elim (λ same. absurd (true≢false (sym (eq-eqb w v (sym (eqb-true v w same))) ∙ e))) (λ other. other) (cases_Bool (v == w))
-
--- what passes such a filter is another number
-others-differ : (v : ℕ) (xs : List ℕ) → AllByRecursion (λ y. eqb v y ≡ false) (filter (λ w. not (w == v)) xs)
-others-differ v [] = tt
-others-differ v (x ∷ xs) =
-    let rest = others-differ v xs in
-    cond_both (not (x == v)) (x ∷ filter (λ w. not (w == v)) xs) (filter (λ w. not (w == v)) xs)
-    (AllByRecursion (λ y. eqb v y ≡ false))
-    (λ e. (not-equal v x (not-true (x == v) e), rest))
-    (λ e. rest)
-
-IsDistinct-distinct : (vs : List ℕ) → IsDistinct eqb (distinct vs)
-unfolding IsDistinct
-IsDistinct-distinct [] = tt
-IsDistinct-distinct (v ∷ vs) =
-    (others-differ v (distinct vs), IsDistinct-filter (λ w. not (w == v)) (distinct vs) (IsDistinct-distinct vs))
-
-distinct-all : (P : ℕ → Type 0) (vs : List ℕ) → AllByRecursion P vs → AllByRecursion P (distinct vs)
-distinct-all P [] h = h
-distinct-all P (v ∷ vs) h = (h.0, AllByRecursion-filter P (λ w. not (w == v)) (distinct vs) (distinct-all P vs h.1))
-
-listed-below : (n : ℕ) (vs : List ℕ) (v : ℕ) → AllByRecursion (λ w. w < n) vs → listed vs v ≡ true → v < n
-listed-below n [] v all h = absurd (true≢false (sym h))
-listed-below n (w ∷ ws) v all h =
+same-test : (v w : ℕ) → (w == v) ≡ (v == w)
+same-test v w =
     ⊎_elim
-    (λ e. let P : ℕ → Type 0 = λ u. u < n in subst P (sym (eqb-true v w e)) all.0)
-    (λ e. listed-below n ws v all.1 e)
-    (or_cases (v == w) (listed ws v) h)
-
-length-distinct : (n : ℕ) (vs : List ℕ) → bound_of vs ≤ n → length (distinct vs) ≤ n
-length-distinct n vs h =
-    length-le_from_distinct_below (distinct vs) n (IsDistinct-distinct vs)
-    (λ v e. listed-below n (distinct vs) v (distinct-all (λ w. w < n) vs (below-bound n vs h)) e)
-
--- ---- one more number
-
-place_of-unlisted : (v : ℕ) (ws : List ℕ) → listed ws v ≡ false → place_of v ws ≡ None
-place_of-unlisted v [] h = refl
-place_of-unlisted v (w ∷ ws) h =
-    let parts = or_parts (v == w) (listed ws v) h in
-    cond-false (v == w) (Some 0) (option_map suc (place_of v ws)) parts.0 ∙ ap (option_map suc) (place_of-unlisted v ws parts.1)
-
-place_of-there : (v : ℕ) (ws : List ℕ) → is_some (place_of v ws) ≡ true → listed ws v ≡ true
-place_of-there v ws h =
-    ⊎_elim (λ e. e) (λ e. absurd (true≢false (sym h ∙ ap is_some (place_of-unlisted v ws e)))) (cases_Bool (listed ws v))
-
-place_of-absent : (v : ℕ) (ws : List ℕ) → is_some (place_of v ws) ≡ false → listed ws v ≡ false
-place_of-absent v [] h = refl
-place_of-absent v (w ∷ ws) h =
-    ⊎_elim
-    (λ e. absurd (true≢false (sym (ap is_some (cond-true (v == w) (Some 0) (option_map suc (place_of v ws)) e)) ∙ h)))
+    (λ e. e ∙ sym (eq-eqb v w (sym (eqb-true w v e))))
     (λ e.
-    ap (λ b. b || listed ws v) e
-    ∙ place_of-absent v ws
-    (sym (mapped (place_of v ws)) ∙ sym (ap is_some (cond-false (v == w) (Some 0) (option_map suc (place_of v ws)) e)) ∙ h))
+    ⊎_elim
+    (λ h. absurd (true≢false (sym (eq-eqb w v (sym (eqb-true v w h))) ∙ e)))
+    (λ h. e ∙ sym h)
+    (cases_Bool (v == w)))
+    (cases_Bool (w == v))
+
+place_of-here : (v w : ℕ) (ws : List ℕ) → (v == w) ≡ true → place_of v (w ∷ ws) ≡ Some 0
+place_of-here v w ws e = cond-true (v == w) (Some 0) (option_map suc (place_of v ws)) e
+
+place_of-behind : (v w : ℕ) (ws : List ℕ) → (v == w) ≡ false → place_of v (w ∷ ws) ≡ option_map suc (place_of v ws)
+place_of-behind v w ws e = cond-false (v == w) (Some 0) (option_map suc (place_of v ws)) e
+
+is_some-map : (f : ℕ → ℕ) (o : Option ℕ) → is_some (option_map f o) ≡ is_some o
+is_some-map f None = refl
+is_some-map f (Some k) = refl
+
+-- it stands somewhere exactly where the list has it
+is_some-place_of : (v : ℕ) (ws : List ℕ) → is_some (place_of v ws) ≡ listed ws v
+is_some-place_of v [] = refl
+is_some-place_of v (w ∷ ws) =
+    ⊎_elim
+    (λ e. ap is_some (place_of-here v w ws e) ∙ sym (ap (λ b. b || listed ws v) e))
+    (λ e.
+    ap is_some (place_of-behind v w ws e) ∙ is_some-map suc (place_of v ws) ∙ is_some-place_of v ws
+    ∙ sym (ap (λ b. b || listed ws v) e))
+    (cases_Bool (v == w))
+
+pub place_of-absent : (v : ℕ) (ws : List ℕ) → is_some (place_of v ws) ≡ false → place_of v ws ≡ None
+place_of-absent v ws h = none (place_of v ws) h
+  where
+    none : (o : Option ℕ) → is_some o ≡ false → o ≡ None
+    none None e = refl
+    none (Some k) e = absurd (true≢false e)
+
+-- what is behind a list doesn't move what stands in it
+pub place_of-front : (v : ℕ) (ws us : List ℕ) → is_some (place_of v ws) ≡ true → place_of v (ws ++ us) ≡ place_of v ws
+place_of-front v [] us h = absurd (true≢false (sym h))
+place_of-front v (w ∷ ws) us h =
+    ⊎_elim
+    (λ e. place_of-here v w (ws ++ us) e ∙ sym (place_of-here v w ws e))
+    (λ e.
+    place_of-behind v w (ws ++ us) e
+    ∙ ap (option_map suc)
+    (place_of-front v ws us (sym (is_some-map suc (place_of v ws)) ∙ sym (ap is_some (place_of-behind v w ws e)) ∙ h))
+    ∙ sym (place_of-behind v w ws e))
+    (cases_Bool (v == w))
+
+-- a place is below the length
+pub place_of-below : (v : ℕ) (ws : List ℕ) → is_some (place_of v ws) ≡ true → unwrap_or (place_of v ws) v < length ws
+place_of-below v [] h = absurd (true≢false (sym h))
+place_of-below v (w ∷ ws) h =
+    ⊎_elim
+    (λ e. omega (arith, ap (λ o. unwrap_or o v) (place_of-here v w ws e)))
+    (λ e.
+    let there : is_some (place_of v ws) ≡ true =
+    sym (is_some-map suc (place_of v ws)) ∙ sym (ap is_some (place_of-behind v w ws e)) ∙ h in
+    omega (arith, ap (λ o. unwrap_or o v) (place_of-behind v w ws e) ∙ mapped (place_of v ws) there, place_of-below v ws there))
     (cases_Bool (v == w))
   where
-    mapped : (o : Option ℕ) → is_some (option_map suc o) ≡ is_some o
-    mapped None = refl
-    mapped (Some k) = refl
+    mapped : (o : Option ℕ) → is_some o ≡ true → unwrap_or (option_map suc o) v ≡ suc (unwrap_or o v)
+    mapped None h = absurd (true≢false (sym h))
+    mapped (Some k) h = refl
 
-place_of-push_same : (v : ℕ) (ws : List ℕ) → listed ws v ≡ false → place_of v (ws ++ v ∷ []) ≡ Some (length ws)
-place_of-push_same v [] h = cond-true (v == v) (Some 0) None (eq-eqb v v refl)
-place_of-push_same v (w ∷ ws) h =
-    let parts = or_parts (v == w) (listed ws v) h in
-    cond-false (v == w) (Some 0) (option_map suc (place_of v (ws ++ v ∷ []))) parts.0
-    ∙ ap (option_map suc) (place_of-push_same v ws parts.1)
+-- what isn't in a list stands behind it
+pub place_of-push : (v : ℕ) (ws : List ℕ) → is_some (place_of v ws) ≡ false → place_of v (ws ++ v ∷ []) ≡ Some (length ws)
+place_of-push v [] h = place_of-here v v [] (eq-eqb v v refl)
+place_of-push v (w ∷ ws) h =
+    let parts = or_parts (v == w) (listed ws v) (sym (is_some-place_of v (w ∷ ws)) ∙ h) in
+    place_of-behind v w (ws ++ v ∷ []) parts.0
+    ∙ ap (option_map suc) (place_of-push v ws (is_some-place_of v ws ∙ parts.1))
+
+place_of-front_none : (v : ℕ) (ws us : List ℕ) → place_of v (ws ++ us) ≡ None → place_of v ws ≡ None
+place_of-front_none v ws us h =
+    ⊎_elim
+    (λ e. absurd (true≢false (sym e ∙ ap is_some (sym (place_of-front v ws us e) ∙ h))))
+    (λ e. place_of-absent v ws e)
+    (cases_Bool (is_some (place_of v ws)))
 
 place_of-push_other : (v w : ℕ) (ws : List ℕ) → (v == w) ≡ false → place_of v (ws ++ w ∷ []) ≡ place_of v ws
-place_of-push_other v w [] h = cond-false (v == w) (Some 0) None h
+place_of-push_other v w [] h = place_of-behind v w [] h
 place_of-push_other v w (u ∷ us) h = ap (λ o. cond (v == u) (Some 0) (option_map suc o)) (place_of-push_other v w us h)
+
+-- ---- one more variable
+
+module _ (order : List ℕ) (v : ℕ) where
+  pub with_variable-met : is_some (place_of v order) ≡ true → with_variable order v ≡ order
+  with_variable-met e = cond-true (is_some (place_of v order)) order (order ++ v ∷ []) e
+
+  pub with_variable-new : is_some (place_of v order) ≡ false → with_variable order v ≡ order ++ v ∷ []
+  with_variable-new e = cond-false (is_some (place_of v order)) order (order ++ v ∷ []) e
+
+with_variable-keeps :
+    (order : List ℕ) (v w : ℕ) → is_some (place_of v order) ≡ true → place_of v (with_variable order w) ≡ place_of v order
+with_variable-keeps order v w h =
+    ⊎_elim
+    (λ e. ap (place_of v) (with_variable-met order w e))
+    (λ e. ap (place_of v) (with_variable-new order w e) ∙ place_of-front v order (w ∷ []) h)
+    (cases_Bool (is_some (place_of w order)))
+
+pub with_variable-has : (order : List ℕ) (v : ℕ) → is_some (place_of v (with_variable order v)) ≡ true
+with_variable-has order v =
+    ⊎_elim
+    (λ e. ap (λ o. is_some (place_of v o)) (with_variable-met order v e) ∙ e)
+    (λ e. ap is_some (ap (place_of v) (with_variable-new order v e) ∙ place_of-push v order e))
+    (cases_Bool (is_some (place_of v order)))
+
+-- the numbers that were given stay
+pub with_variables-keep :
+    (order vs : List ℕ) (v : ℕ)
+    → is_some (place_of v order) ≡ true → place_of v (with_variables order vs) ≡ place_of v order
+with_variables-keep order [] v h = refl
+with_variables-keep order (w ∷ ws) v h =
+    let here = with_variable-keeps order v w h in
+    with_variables-keep (with_variable order w) ws v (ap is_some here ∙ h) ∙ here
+
+-- each variable that was met has one
+pub with_variables-have : (order vs : List ℕ) → AllByRecursion (λ v. is_some (place_of v (with_variables order vs)) ≡ true) vs
+with_variables-have order [] = tt
+with_variables-have order (v ∷ vs) =
+    let has = with_variable-has order v in (
+      ap is_some (with_variables-keep (with_variable order v) vs v has) ∙ has,
+      with_variables-have (with_variable order v) vs,
+    )
+
+bound_of-met : (v : ℕ) (ws : List ℕ) → listed ws v ≡ true → v < bound_of ws
+bound_of-met v [] h = absurd (true≢false (sym h))
+bound_of-met v (w ∷ ws) h =
+    ⊎_elim
+    (λ e. omega (arith, eqb-true v w e))
+    (λ e. omega (arith, bound_of-met v ws e))
+    (or_cases (v == w) (listed ws v) h)
+
+bound_of-with_variable : (order : List ℕ) (v : ℕ) → bound_of (with_variable order v) ≡ max (bound_of order) (v + 1)
+bound_of-with_variable order v =
+    ⊎_elim
+    (λ e. omega (arith, ap bound_of (with_variable-met order v e), bound_of-met v order (sym (is_some-place_of v order) ∙ e)))
+    (λ e. omega (arith, ap bound_of (with_variable-new order v e), bound_of-append order (v ∷ [])))
+    (cases_Bool (is_some (place_of v order)))
+
+bound_of-with_variables : (order vs : List ℕ) → bound_of (with_variables order vs) ≡ max (bound_of order) (bound_of vs)
+bound_of-with_variables order [] = omega arith
+bound_of-with_variables order (v ∷ vs) =
+    omega (arith, bound_of-with_variables (with_variable order v) vs, bound_of-with_variable order v)
+
+-- ---- the different numbers of a list
 
 -- a listed number that passes the filter is listed behind it
 listed-filter : (v w : ℕ) (xs : List ℕ) → (w == v) ≡ false → listed (filter (λ u. not (u == v)) xs) w ≡ listed xs w
@@ -142,102 +212,124 @@ distinct-again (v ∷ vs) w h =
     ∙ sym (ap (λ b. b || listed (filter p (distinct vs)) w) other) ∙ h)))
     (cases_Bool (w == v)))
 
--- ---- a table of places, as one more number is read
+distinct-push : (vs : List ℕ) (w : ℕ) → with_variable (distinct vs) w ≡ distinct (vs ++ w ∷ [])
+distinct-push vs w =
+    ⊎_elim
+    (λ e. with_variable-met (distinct vs) w e ∙ sym (distinct-again vs w (sym (is_some-place_of w (distinct vs)) ∙ e)))
+    (λ e. with_variable-new (distinct vs) w e ∙ sym (distinct-new vs w (sym (is_some-place_of w (distinct vs)) ∙ e)))
+    (cases_Bool (is_some (place_of w (distinct vs))))
 
--- the table has, for each number below a bound, its place among the different numbers of a list
-abbrev pub HasPlaces : ℕ → List (Option ℕ) → List ℕ → Type 0
-HasPlaces bound table vs = (v : ℕ) → v < bound → get_or table v None ≡ place_of v (distinct vs)
+distinct-append : (vs ws : List ℕ) → with_variables (distinct vs) ws ≡ distinct (vs ++ ws)
+distinct-append vs [] = sym (ap distinct (append-nil vs))
+distinct-append vs (w ∷ ws) =
+    ap (λ order. with_variables order ws) (distinct-push vs w)
+    ∙ distinct-append (vs ++ w ∷ []) ws
+    ∙ ap distinct (append_assoc vs (w ∷ []) ws)
 
--- what the table has for the number at a place, when those before it were read
-pub record Reads (bound : ℕ) (table : List (Option ℕ)) (vs : List ℕ) (i : ℕ) (found : Option ℕ) : Type 0 where
-  pub before : HasPlaces bound table (take i vs)
-  pub len : length table ≡ bound
-  pub bounded : bound_of vs ≤ bound
-  pub more : i < length vs
-  pub read : found ≡ get_or table (get_or vs i 0) found
+-- they are what is met from the beginning
+pub all_met : (vs : List ℕ) → with_variables [] vs ≡ distinct vs
+all_met vs = distinct-append [] vs
 
-pub get_or-bound : (n : ℕ) (vs : List ℕ) (i : ℕ) → bound_of vs ≤ n → i < length vs → get_or vs i 0 < n
-get_or-bound n [] i h l = absurd (omega arith)
-get_or-bound n (v ∷ vs) zero h l = omega arith
-get_or-bound n (v ∷ vs) (suc i) h l = get_or-bound n vs i (omega arith) (omega arith)
+pub bound_of-distinct : (vs : List ℕ) → bound_of (distinct vs) ≡ bound_of vs
+bound_of-distinct vs = omega (arith, ap bound_of (all_met vs), bound_of-with_variables [] vs)
 
-bound_of-take : (i : ℕ) (vs : List ℕ) → bound_of (take i vs) ≤ bound_of vs
-bound_of-take zero vs = omega arith
-bound_of-take (suc i) [] = omega arith
-bound_of-take (suc i) (v ∷ vs) = omega (arith, bound_of-take i vs)
+-- ---- the table
 
--- what was read is the number's place
-found-is :
-    (bound : ℕ) (table : List (Option ℕ)) (vs : List ℕ) (i : ℕ) (found : Option ℕ)
-    → Reads bound table vs i found → found ≡ place_of (get_or vs i 0) (distinct (take i vs))
-found-is bound table vs i found r =
-    let below : get_or vs i 0 < bound = get_or-bound bound vs i r.bounded r.more in
-    r.read ∙ get_or_default table (get_or vs i 0) found None (omega (arith, r.len)) ∙ r.before (get_or vs i 0) below
+pub position-place_of : (v : ℕ) (ws : List ℕ) → position (λ w. w == v) ws ≡ place_of v ws
+position-place_of v ws = position_from-zero (λ w. w == v) ws ∙ from 0 ws ∙ mapped (place_of v ws)
+  where
+    more : (i : ℕ) (o : Option ℕ) → option_map (λ k. i + 1 + k) o ≡ option_map (λ k. i + k) (option_map suc o)
+    more i None = refl
+    more i (Some k) = let e : i + 1 + k ≡ i + suc k = omega arith in ap Some e
 
--- the number stands there already
-pub distinct-read :
-    (bound : ℕ) (table : List (Option ℕ)) (vs : List ℕ) (i : ℕ) (found : Option ℕ)
-    → Reads bound table vs i found → is_some found ≡ true → distinct (take (i + 1) vs) ≡ distinct (take i vs)
-distinct-read bound table vs i found r some =
-    ap distinct (take_more vs i 0 r.more)
-    ∙ distinct-again (take i vs) (get_or vs i 0)
-    (place_of-there (get_or vs i 0) (distinct (take i vs)) (sym (ap is_some (found-is bound table vs i found r)) ∙ some))
+    from : (i : ℕ) (ws : List ℕ) → position_from (λ w. w == v) i ws ≡ option_map (λ k. i + k) (place_of v ws)
+    from i [] = refl
+    from i (w ∷ ws) =
+        ⊎_elim
+        (λ e.
+        let zero-more : i ≡ i + 0 = omega arith in
+        cond-true (w == v) (Some i) (position_from (λ u. u == v) (i + 1) ws) e
+        ∙ ap Some zero-more
+        ∙ sym (ap (option_map (λ k. i + k)) (place_of-here v w ws (sym (same-test v w) ∙ e))))
+        (λ e.
+        cond-false (w == v) (Some i) (position_from (λ u. u == v) (i + 1) ws) e
+        ∙ from (i + 1) ws ∙ more i (place_of v ws)
+        ∙ sym (ap (option_map (λ k. i + k)) (place_of-behind v w ws (sym (same-test v w) ∙ e))))
+        (cases_Bool (w == v))
 
--- it doesn't
-unlisted-read :
-    (bound : ℕ) (table : List (Option ℕ)) (vs : List ℕ) (i : ℕ) (found : Option ℕ)
-    → Reads bound table vs i found → is_some found ≡ false → listed (distinct (take i vs)) (get_or vs i 0) ≡ false
-unlisted-read bound table vs i found r none =
-    place_of-absent (get_or vs i 0) (distinct (take i vs)) (sym (ap is_some (found-is bound table vs i found r)) ∙ none)
+    mapped : (o : Option ℕ) → option_map (λ k. 0 + k) o ≡ o
+    mapped None = refl
+    mapped (Some k) = let e : 0 + k ≡ k = omega arith in ap Some e
 
-distinct-read_new :
-    (bound : ℕ) (table : List (Option ℕ)) (vs : List ℕ) (i : ℕ) (found : Option ℕ)
-    → Reads bound table vs i found → is_some found ≡ false
-    → distinct (take (i + 1) vs) ≡ distinct (take i vs) ++ get_or vs i 0 ∷ []
-distinct-read_new bound table vs i found r none =
-    ap distinct (take_more vs i 0 r.more)
-    ∙ distinct-new (take i vs) (get_or vs i 0) (unlisted-read bound table vs i found r none)
+-- what a scan finds, stands there
+pub scanned : (n v k : ℕ) (order : List ℕ) → place_of v (take n order) ≡ Some k → place_of v order ≡ Some k
+scanned n v k order h =
+    ap (place_of v) (sym (take-append-drop n order))
+    ∙ place_of-front v (take n order) (drop n order) (ap is_some h)
+    ∙ h
 
-pub count-read_new :
-    (bound : ℕ) (table : List (Option ℕ)) (vs : List ℕ) (i : ℕ) (found : Option ℕ)
-    → Reads bound table vs i found → is_some found ≡ false
-    → length (distinct (take (i + 1) vs)) ≡ length (distinct (take i vs)) + 1
-count-read_new bound table vs i found r none =
-    ap length (distinct-read_new bound table vs i found r none) ∙ length_push (distinct (take i vs)) (get_or vs i 0)
-
--- there are fewer numbers before it than the bound
-pub count-below :
-    (bound : ℕ) (table : List (Option ℕ)) (vs : List ℕ) (i : ℕ) (found : Option ℕ)
-    → Reads bound table vs i found → is_some found ≡ false → length (distinct (take i vs)) < bound
-count-below bound table vs i found r none =
+-- there is a number left for one more variable
+pub number_left :
+    (order : List ℕ) (v : ℕ)
+    → IsDistinct nat_eq order → bound_of order ≤ 2 ^ 32 → v < 2 ^ 32 → is_some (place_of v order) ≡ false
+    → length order < 2 ^ 32
+number_left order v once bounded fits new =
+    let more = IsDistinct-push nat_eq_equiv order v once (sym (is_some-place_of v order) ∙ new) in
+    let bound = bound_of-append order (v ∷ []) in
     omega (
       arith,
-      count-read_new bound table vs i found r none,
-      length-distinct bound (take (i + 1) vs) (omega (arith, bound_of-take (i + 1) vs, r.bounded)),
+      length_push order v,
+      length-le_from_distinct_below (order ++ v ∷ []) (bound_of (order ++ v ∷ [])) more
+          (λ w h. bound_of-met w (order ++ v ∷ []) h),
+      bound,
     )
 
-pub places-read :
-    (bound : ℕ) (table : List (Option ℕ)) (vs : List ℕ) (i : ℕ) (found : Option ℕ)
-    → Reads bound table vs i found → is_some found ≡ true → HasPlaces bound table (take (i + 1) vs)
-places-read bound table vs i found r some v below =
-    r.before v below ∙ ap (place_of v) (sym (distinct-read bound table vs i found r some))
+abbrev Map : Type 0
+Map = HashMap ℕ ℕ (BuildHasherDefault FoldHasher)
 
-pub places-read_new :
-    (bound : ℕ) (table : List (Option ℕ)) (vs : List ℕ) (i : ℕ) (found : Option ℕ)
-    → Reads bound table vs i found → is_some found ≡ false
-    → HasPlaces bound (set table (get_or vs i 0) (Some (length (distinct (take i vs))))) (take (i + 1) vs)
-places-read_new bound table vs i found r none v below =
-    let w : ℕ = get_or vs i 0 in
-    let order : List ℕ = distinct (take i vs) in
-    let there : w < length table = omega (arith, get_or-bound bound vs i r.bounded r.more, r.len) in
-    let P : ℕ → Type 0 = λ u. get_or (set table w (Some (length order))) u None ≡ place_of u (order ++ w ∷ []) in
-    ⊎_elim
-    (λ same.
-    subst P (sym (eqb-true v w same))
-    (get_or-set_same table w (Some (length order)) None there
-    ∙ sym (place_of-push_same w order (unlisted-read bound table vs i found r none))))
-    (λ other.
-    get_or-set_other table w v (Some (length order)) None (λ e. true≢false (sym (eq-eqb v w e) ∙ other))
-    ∙ r.before v below ∙ sym (place_of-push_other v w order other))
-    (cases_Bool (v == w))
-    ∙ ap (place_of v) (sym (distinct-read_new bound table vs i found r none))
+module _
+    (order : List ℕ) (v : ℕ) (later : Map) (is : IsNumbering order later) (fits : v < 2 ^ 32)
+    (new : is_some (place_of v order) ≡ false) where
+  once-more : IsDistinct nat_eq (order ++ v ∷ [])
+  once-more = IsDistinct-push nat_eq_equiv order v is.once (sym (is_some-place_of v order) ∙ new)
+
+  bounded-more : bound_of (order ++ v ∷ []) ≤ 2 ^ 32
+  bounded-more = omega (arith, bound_of-append order (v ∷ []), is.bounded)
+
+  -- one more variable among those that are scanned
+  pub numbering-scanned : length order < SCANNED → IsNumbering (order ++ v ∷ []) later
+  numbering-scanned room =
+      record {
+        once = once-more;
+        bounded = bounded-more;
+        places = λ w h.
+            let all : take SCANNED order ≡ order = take_all SCANNED order (omega arith) in
+            let all_more : take SCANNED (order ++ v ∷ []) ≡ order ++ v ∷ [] =
+            take_all SCANNED (order ++ v ∷ []) (omega (arith, length_push order v)) in
+            let none : place_of w (order ++ v ∷ []) ≡ None = ap (place_of w) (sym all_more) ∙ h in
+            let before : place_of w order ≡ None = place_of-front_none w order (v ∷ []) none in
+            is.places w (ap (place_of w) all ∙ before) ∙ before ∙ sym none;
+      }
+
+  -- one more variable in the map
+  pub numbering-mapped :
+      (more : Map) (number : ℕ)
+      → SCANNED ≤ length order → number ≡ length order → Updates nat_eq later more v (Some number)
+      → IsNumbering (order ++ v ∷ []) more
+  numbering-mapped more number full is_length updates =
+      record {
+        once = once-more;
+        bounded = bounded-more;
+        places = λ w h.
+            updates.0 w
+            ∙ ⊎_elim
+            (λ e.
+            cond-true (v == w) (Some number) (get nat_eq later w) e
+            ∙ ap Some is_length
+            ∙ sym (ap (λ u. place_of u (order ++ v ∷ [])) (sym (eqb-true v w e)) ∙ place_of-push v order new))
+            (λ e.
+            cond-false (v == w) (Some number) (get nat_eq later w) e
+            ∙ is.places w (sym (ap (place_of w) (take-append-le SCANNED order (v ∷ []) full)) ∙ h)
+            ∙ sym (place_of-push_other w v order (same-test v w ∙ e)))
+            (cases_Bool (v == w));
+      }

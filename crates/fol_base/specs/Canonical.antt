@@ -1,5 +1,5 @@
 -- The canonical form of a clause: its variables are numbered by first occurrence, left side before right.
-use Rattle.std.specs.Prelude.{ℕ, zero, suc, ◌+◌, max, not, ◌==◌, List, [], ◌∷◌, Option, None, Some, option_map, unwrap_or, filter, if◌then◌else◌}
+use Rattle.std.specs.Prelude.{◌≡◌, ℕ, zero, suc, ◌+◌, max, not, ◌==◌, List, [], ◌∷◌, length, Option, None, Some, option_map, unwrap_or, filter, if◌then◌else◌}
 use Rattle.fol_base.specs.Tree.{Tree, variable}
 use Rattle.fol_base.specs.Instance.{Substitution}
 use Rattle.fol_base.specs.Clause.{TreeClause, clause_variables, clause_instance}
@@ -24,6 +24,15 @@ canonical_renaming c = renaming (distinct (clause_variables c))
 
 abbrev pub canonical_clause : TreeClause → TreeClause
 canonical_clause c = clause_instance (canonical_renaming c) c
+
+-- the numbers from the first on, that many
+abbrev pub numbers_from : ℕ → ℕ → List ℕ
+numbers_from first zero = []
+numbers_from first (suc n) = first ∷ numbers_from (suc first) n
+
+-- the variables are numbered from 0 by first occurrence, without gaps: the different ones are 0, 1, 2 and so on, in this order
+abbrev pub IsCanonical : TreeClause → Type 0
+IsCanonical c = let order = distinct (clause_variables c) in order ≡ numbers_from 0 (length order)
 
 -- one more than the highest number of a list, 0 for the empty list
 abbrev pub bound_of : List ℕ → ℕ

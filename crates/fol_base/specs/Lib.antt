@@ -6,6 +6,7 @@ pub mod Instance
 pub mod Place
 pub mod Clause
 pub mod Canonical
+pub mod CanonicalLaws
 pub mod Literal
 pub mod Lent
 pub mod Sides
@@ -25,6 +26,6 @@ pub mod Unifier
 pub mod Subsumption
 pub mod Examples
 pub mod GroundForm
-pub mod Renaming
+pub mod Numbering
 pub mod Kind
 pub mod WellFormed

@@ -1,5 +1,6 @@
 // The laws of the definitions: each is the contract of a function without arguments and with an empty body.
 
+mod canonical;
 mod coverage;
 mod examples;
 mod instances;
@@ -9,6 +10,7 @@ mod order;
 mod rules;
 mod well_formed;
 
+pub use canonical::{canonical_examples, canonical_forms};
 pub use coverage::{coverage_by_more, coverage_composes, coverage_of_instances};
 pub use examples::{
     coverage_examples, meaning_examples, order_examples, selection_examples, tree_examples,

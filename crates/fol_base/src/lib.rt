@@ -8,13 +8,14 @@ mod instance;
 mod lending;
 mod limits;
 mod literal_ref;
+mod numbering;
 mod place;
 mod size;
 mod substitution;
 mod term;
 mod variables;
 
-pub use canonical_form::canonical;
+pub use canonical_form::{canonical, is_canonical, renumbered};
 pub use clause::{Clause, Clauses, Literal, Literals, Side, push_literal_copies};
 pub use equality::{same_clause, same_literals, same_term, same_terms};
 pub use instance::{instance_size, is_instance, same_instance};
@@ -26,6 +27,8 @@ pub use substitution::{Subst, apply, apply_clause, apply_literal};
 pub use term::{TRUE_SYMBOL, Term, Terms};
 pub use variables::push_variables;
 
+#[cfg(test)]
+mod canonical_tests;
 pub mod laws;
 #[cfg(test)]
 mod tests;
