@@ -5,8 +5,8 @@ use Rattle.std.specs.Prelude.{IsTrue}
 use Rattle.std.proofs.lemmas.Bool.{cases_Bool, or_left, and_parts, and_from, eq-eqb, eqb-true}
 use Rattle.std.proofs.lemmas.List.Folds.{list_any-append}
 use Rattle.plain_types.specs.declared.sequence.NameLit.{NameLit}
-use Rattle.sat_core.specs.Clause.{PropClause, same_literal, has_literal, opposite}
-use Rattle.sat_core.specs.Resolution.{without, resolvent}
+use Rattle.plain_types.specs.Names.{same_name, has_name, opposite, without, resolvent}
+use Rattle.sat_core.specs.Clause.{PropClause}
 
 pub beq-refl : (b : Bool) → beq b b ≡ true
 beq-refl true = refl
@@ -18,11 +18,11 @@ beq-true true false e = cc
 beq-true false true e = cc
 beq-true false false e = refl
 
-pub same_literal-refl : (l : NameLit) → same_literal l l ≡ true
-same_literal-refl l = and_from (beq l.positive l.positive) (l.name == l.name) (beq-refl l.positive) (eq-eqb l.name l.name refl)
+pub same_name-refl : (l : NameLit) → same_name l l ≡ true
+same_name-refl l = and_from (beq l.positive l.positive) (l.name == l.name) (beq-refl l.positive) (eq-eqb l.name l.name refl)
 
-pub same_literal-true : (l k : NameLit) → same_literal l k ≡ true → l ≡ k
-same_literal-true l k h =
+pub same_name-true : (l k : NameLit) → same_name l k ≡ true → l ≡ k
+same_name-true l k h =
     let parts = and_parts (beq l.positive k.positive) (l.name == k.name) h in
     same l.positive k.positive l.name k.name (beq-true l.positive k.positive parts.0) (eqb-true l.name k.name parts.1)
   where
@@ -38,24 +38,24 @@ opposite-opposite l = turned l.positive l.name
     turned true n = refl
     turned false n = refl
 
-pub has_literal_here : (l : NameLit) (c : PropClause) → IsTrue (has_literal l (l ∷ c))
-has_literal_here l c = or_left (same_literal l l) (has_literal l c) (same_literal-refl l)
+pub has_name_here : (l : NameLit) (c : PropClause) → IsTrue (has_name l (l ∷ c))
+has_name_here l c = or_left (same_name l l) (has_name l c) (same_name-refl l)
 
-pub has_literal-append : (l : NameLit) (c d : PropClause) → has_literal l (c ++ d) ≡ (has_literal l c || has_literal l d)
-has_literal-append l c d = list_any-append (same_literal l) c d
+pub has_name-append : (l : NameLit) (c d : PropClause) → has_name l (c ++ d) ≡ (has_name l c || has_name l d)
+has_name-append l c d = list_any-append (same_name l) c d
 
-pub has_literal-without :
-    (k l : NameLit) (c : PropClause) → has_literal l (without k c) ≡ (has_literal l c && not (same_literal k l))
-has_literal-without k l [] = refl
-has_literal-without k l (m ∷ c) =
-    elim (cases_Bool (same_literal k m)) [
-      | inl e ↦ ap (λ b. has_literal l (cond (not b) (m ∷ without k c) (without k c))) e ∙ has_literal-without k l c
-          ∙ gone (same_literal l m) (has_literal l c) (same_literal k l)
-          (λ h. ap (same_literal k) (same_literal-true l m h) ∙ e)
-      | inr e ↦ ap (λ b. has_literal l (cond (not b) (m ∷ without k c) (without k c))) e
-          ∙ ap (λ b. same_literal l m || b) (has_literal-without k l c)
-          ∙ stays (same_literal l m) (has_literal l c) (same_literal k l)
-          (λ h. ap (same_literal k) (same_literal-true l m h) ∙ e)
+pub has_name-without :
+    (k l : NameLit) (c : PropClause) → has_name l (without k c) ≡ (has_name l c && not (same_name k l))
+has_name-without k l [] = refl
+has_name-without k l (m ∷ c) =
+    elim (cases_Bool (same_name k m)) [
+      | inl e ↦ ap (λ b. has_name l (cond (not b) (m ∷ without k c) (without k c))) e ∙ has_name-without k l c
+          ∙ gone (same_name l m) (has_name l c) (same_name k l)
+          (λ h. ap (same_name k) (same_name-true l m h) ∙ e)
+      | inr e ↦ ap (λ b. has_name l (cond (not b) (m ∷ without k c) (without k c))) e
+          ∙ ap (λ b. same_name l m || b) (has_name-without k l c)
+          ∙ stays (same_name l m) (has_name l c) (same_name k l)
+          (λ h. ap (same_name k) (same_name-true l m h) ∙ e)
     ]
   where
     gone : (a b e : Bool) → (a ≡ true → e ≡ true) → (b && not e) ≡ ((a || b) && not e)
@@ -69,19 +69,19 @@ has_literal-without k l (m ∷ c) =
     stays true b false f = refl
     stays false b e f = refl
 
-pub has_literal-resolvent :
+pub has_name-resolvent :
     (p l : NameLit) (c d : PropClause)
-    → has_literal l (resolvent p c d)
-    ≡ ((has_literal l c && not (same_literal p l)) || (has_literal l d && not (same_literal (opposite p) l)))
-has_literal-resolvent p l c d =
-    has_literal-append l (without p c) (without (opposite p) d)
-    ∙ ap (λ b. b || has_literal l (without (opposite p) d)) (has_literal-without p l c)
-    ∙ ap (λ b. (has_literal l c && not (same_literal p l)) || b) (has_literal-without (opposite p) l d)
+    → has_name l (resolvent p c d)
+    ≡ ((has_name l c && not (same_name p l)) || (has_name l d && not (same_name (opposite p) l)))
+has_name-resolvent p l c d =
+    has_name-append l (without p c) (without (opposite p) d)
+    ∙ ap (λ b. b || has_name l (without (opposite p) d)) (has_name-without p l c)
+    ∙ ap (λ b. (has_name l c && not (same_name p l)) || b) (has_name-without (opposite p) l d)
 
 -- a clause that has no literal is empty
-pub no_literals : (c : PropClause) → ((l : NameLit) → has_literal l c ≡ false) → c ≡ []
+pub no_literals : (c : PropClause) → ((l : NameLit) → has_name l c ≡ false) → c ≡ []
 no_literals [] h = refl
-no_literals (l ∷ c) h = absurd (wrong (has_literal l (l ∷ c)) (has_literal_here l c) (h l))
+no_literals (l ∷ c) h = absurd (wrong (has_name l (l ∷ c)) (has_name_here l c) (h l))
   where
     wrong : (b : Bool) → b ≡ true → b ≡ false → ⊥
     wrong b e f = cc

@@ -5,30 +5,31 @@ use Rattle.std.specs.Prelude.{IsTrue, nat_le}
 use Rattle.std.proofs.lemmas.Bool.{cases_Bool, cases_lt, or_cases, and_from, and_cases, not-false, lt-ltb, le-leb}
 use Rattle.std.proofs.lemmas.List.{length-set}
 use Rattle.plain_types.specs.declared.sequence.NameLit.{NameLit}
+use Rattle.plain_types.specs.Names.{same_name, has_name}
 use Rattle.sat_core.specs.declared.trail.Assigned.{Assigned}
 use Rattle.sat_core.specs.declared.trail.Slot.{Slot}
-use Rattle.sat_core.specs.Clause.{PropClause, same_literal, has_literal}
+use Rattle.sat_core.specs.Clause.{PropClause}
 use Rattle.sat_core.specs.Trail.{IsTrail, slot_at, slot_of, place_of, has_place, is_true, is_false}
 use Rattle.sat_core.specs.State.{IsSound, IsImplied, AreFalse, clause_at}
 use Rattle.sat_core.specs.Search.{OthersFalse, IsUnit, Propagates, remaining}
-use Rattle.sat_core.proofs.LiteralLemmas.{same_literal-true}
-use Rattle.sat_core.proofs.AnalysisLemmas.{has_literal_more}
+use Rattle.sat_core.proofs.LiteralLemmas.{same_name-true}
+use Rattle.sat_core.proofs.AnalysisLemmas.{has_name_more}
 use Rattle.sat_core.proofs.SoundLemmas.{pushed_sound, pushed_remaining}
 
 -- the literals looked at so far
 pub others_more :
     (slots : List Slot) (xs : PropClause) (i : ℕ) (other x : NameLit)
     → i < length xs → x ≡ get_or xs i x → OthersFalse slots (take i xs) other
-    → (not (same_literal other x) && not (is_false slots x)) ≡ false → OthersFalse slots (take (i + 1) xs) other
+    → (not (same_name other x) && not (is_false slots x)) ≡ false → OthersFalse slots (take (i + 1) xs) other
 others_more slots xs i other x h e before closed k there o =
-    ⊎_elim (λ (f : has_literal k (take i xs) ≡ true). before k f o)
-    (λ (f : same_literal k x ≡ true).
-    let kx = same_literal-true k x f in
+    ⊎_elim (λ (f : has_name k (take i xs) ≡ true). before k f o)
+    (λ (f : same_name k x ≡ true).
+    let kx = same_name-true k x f in
     ⊎_elim
-    (λ (g : not (same_literal other x) ≡ false). absurd (differ (same_literal other k) (ap (same_literal other) kx ∙ not-false (same_literal other x) g) o))
+    (λ (g : not (same_name other x) ≡ false). absurd (differ (same_name other k) (ap (same_name other) kx ∙ not-false (same_name other x) g) o))
     (λ (g : not (is_false slots x) ≡ false). ap (is_false slots) kx ∙ not-false (is_false slots x) g)
-    (and_cases (not (same_literal other x)) (not (is_false slots x)) closed))
-    (or_cases (has_literal k (take i xs)) (same_literal k x) (sym (has_literal_more xs i x k h e) ∙ there))
+    (and_cases (not (same_name other x)) (not (is_false slots x)) closed))
+    (or_cases (has_name k (take i xs)) (same_name k x) (sym (has_name_more xs i x k h e) ∙ there))
   where
     differ : (b : Bool) → b ≡ true → b ≡ false → ⊥
     differ b e f = cc
@@ -37,8 +38,8 @@ others_more slots xs i other x h e before closed k there o =
 pub all_false :
     (slots : List Slot) (c : PropClause) (l : NameLit) → OthersFalse slots c l → IsTrue (is_false slots l) → AreFalse slots c
 all_false slots c l others wrong k h =
-    ⊎_elim (λ (e : same_literal l k ≡ true). ap (is_false slots) (sym (same_literal-true l k e)) ∙ wrong)
-    (λ (e : same_literal l k ≡ false). others k h e) (cases_Bool (same_literal l k))
+    ⊎_elim (λ (e : same_name l k ≡ true). ap (is_false slots) (sym (same_name-true l k e)) ∙ wrong)
+    (λ (e : same_name l k ≡ false). others k h e) (cases_Bool (same_name l k))
 
 -- a literal that is neither true nor false has no value
 pub no_value : (slots : List Slot) (l : NameLit) → is_true slots l ≡ false → is_false slots l ≡ false → place_of slots l ≡ 0

@@ -6,18 +6,19 @@ use Rattle.std.proofs.lemmas.Bool.{cases_Bool, cases_eq, cases_lt, or_cases, and
 use Rattle.std.proofs.lemmas.List.{get_or_read}
 use Rattle.std.proofs.lemmas.Option.{slice_get-get_or, option_and_then_some}
 use Rattle.plain_types.specs.declared.sequence.NameLit.{NameLit}
+use Rattle.plain_types.specs.Names.{same_name, has_name, opposite, can_resolve, resolvent}
 use Rattle.sat_core.specs.declared.answer.Link.{Link}
 use Rattle.sat_core.specs.declared.trail.Assigned.{Assigned}
 use Rattle.sat_core.specs.declared.trail.Slot.{Slot}
 use Rattle.sat_core.specs.declared.analysis.Turn.{Turn}
 use Rattle.sat_core.specs.declared.analysis.Analysis.{Analysis}
-use Rattle.sat_core.specs.Clause.{PropClause, same_literal, has_literal, opposite}
-use Rattle.sat_core.specs.Resolution.{can_resolve, resolvent, link_clause, links_clause}
+use Rattle.sat_core.specs.Clause.{PropClause}
+use Rattle.sat_core.specs.Resolution.{link_clause, links_clause}
 use Rattle.sat_core.specs.Trail.{IsTrail, entry_at, slot_at, place_of, has_place, is_false}
-use Rattle.sat_core.specs.State.{IsSound, IsImplied, AreFalse, AreMarks, SameLiterals, clause_at, has_name}
+use Rattle.sat_core.specs.State.{IsSound, IsImplied, AreFalse, AreMarks, SameLiterals, clause_at, mentions}
 use Rattle.sat_core.specs.Conflict.{is_other, OthersAreFalse, AddsOthers, IsResolving, TurnsAt, IsTurnOf, IsTurn, IsAnalysis}
-use Rattle.sat_core.proofs.LiteralLemmas.{same_literal-refl, same_literal-true, opposite-opposite, has_literal-resolvent}
-use Rattle.sat_core.proofs.MarkLemmas.{same_tests, has_name_of, literal_of_name}
+use Rattle.sat_core.proofs.LiteralLemmas.{same_name-refl, same_name-true, opposite-opposite, has_name-resolvent}
+use Rattle.sat_core.proofs.MarkLemmas.{same_tests, mentions_of, literal_of_name}
 use Rattle.sat_core.proofs.TrailLemmas.{slot_within}
 use Rattle.sat_core.proofs.LogLemmas.{link_clause_at}
 use Rattle.sat_core.proofs.AnalysisLemmas.{false_of_one_name}
@@ -60,12 +61,12 @@ place_at_entry entries slots i t h = ap (λ (s : Slot). s.place) (t.placed i h)
 pub marked_at :
     (entries : List Assigned) (slots : List Slot) (i : ℕ) (marked : List Bool) (literals : PropClause)
     → IsTrail entries slots → i < length entries → AreMarks marked literals → AreFalse slots literals
-    → IsTrue (get_or marked (entry_at entries i).literal.name false) → IsTrue (has_literal (opposite (entry_at entries i).literal) literals)
+    → IsTrue (get_or marked (entry_at entries i).literal.name false) → IsTrue (has_name (opposite (entry_at entries i).literal) literals)
 marked_at entries slots i marked literals t h marks wrong is =
     let found = literal_of_name (entry_at entries i).literal.name literals (sym (marks (entry_at entries i).literal.name) ∙ is) in
     let same : found.0 ≡ opposite (entry_at entries i).literal =
     false_of_one_name slots (opposite (entry_at entries i).literal) found.0 (false_at_entry entries slots i t h) (wrong found.0 found.2) found.1 in
-    ap (λ (x : NameLit). has_literal x literals) (sym same) ∙ found.2
+    ap (λ (x : NameLit). has_name x literals) (sym same) ∙ found.2
 
 -- ---- an entry that isn't marked
 
@@ -82,7 +83,7 @@ passed clauses entries slots start i bound links marked literals t step within r
   reached = record {
     clause = r.reached.clause;
     lawful = r.reached.lawful;
-    left = λ l. r.reached.left l ∙ same (has_literal l literals) (nat_le (place_of slots l) bound) (nat_le (place_of slots l) i) (lower l) (higher l);
+    left = λ l. r.reached.left l ∙ same (has_name l literals) (nat_le (place_of slots l) bound) (nat_le (place_of slots l) i) (lower l) (higher l);
   };
 }
   where
@@ -98,14 +99,14 @@ passed clauses entries slots start i bound links marked literals t step within r
     higher : (l : NameLit) → nat_le (place_of slots l) i ≡ true → nat_le (place_of slots l) bound ≡ true
     higher l e = let p = leb-true (place_of slots l) i e in le-leb (place_of slots l) bound (omega (arith, p, step))
 
-    lower : (l : NameLit) → has_literal l literals ≡ true → nat_le (place_of slots l) bound ≡ true → nat_le (place_of slots l) i ≡ true
+    lower : (l : NameLit) → has_name l literals ≡ true → nat_le (place_of slots l) bound ≡ true → nat_le (place_of slots l) i ≡ true
     lower l there e =
         let p = leb-true (place_of slots l) bound e in
         ⊎_elim
         (λ (q : place_of slots l ≡ i + 1).
-        let same_name : l.name ≡ (entry_at entries i).literal.name = sym (ap (λ (x : NameLit). x.name) (t.known l.name i q).1) in
+        let one_name : l.name ≡ (entry_at entries i).literal.name = sym (ap (λ (x : NameLit). x.name) (t.known l.name i q).1) in
         absurd (wrong (get_or marked (entry_at entries i).literal.name false)
-        (r.marks (entry_at entries i).literal.name ∙ ap (λ (v : ℕ). has_name v literals) (sym same_name) ∙ has_name_of literals l there) absent))
+        (r.marks (entry_at entries i).literal.name ∙ ap (λ (v : ℕ). mentions v literals) (sym one_name) ∙ mentions_of literals l there) absent))
         (λ (q : place_of slots l ≡ i + 1 → ⊥). le-leb (place_of slots l) i (not_at p q))
         (cases_eq (place_of slots l) (i + 1))
       where
@@ -135,7 +136,7 @@ pub resolved :
     (links : List Link) (marked marked' : List Bool) (literals literals' : PropClause)
     → IsSound clauses entries slots → bound ≡ i + 1 → bound ≤ length entries
     → IsResolving clauses slots start links marked literals bound
-    → IsTrue (has_literal (opposite (entry_at entries i).literal) literals)
+    → IsTrue (has_name (opposite (entry_at entries i).literal) literals)
     → IsImplied clauses slots i (entry_at entries i).literal reason
     → AreMarks marked' literals' → length marked' ≡ length marked
     → AddsOthers (clause_at clauses reason) (Some (entry_at entries i).literal) literals literals'
@@ -143,11 +144,11 @@ pub resolved :
 resolved clauses entries slots start i bound reason links marked marked' literals literals' sound step within r there implied marks names adds = record {
   marks = marks;
   names = names ∙ r.names;
-  false_literals = λ l h. ⊎_elim (λ (e : has_literal l literals ≡ true). r.false_literals l e)
-      (λ (e : (has_literal l d && is_other (Some t) l) ≡ true).
-      let parts = and_parts (has_literal l d) (is_other (Some t) l) e in
-      (and_parts (is_false slots l) (nat_le (place_of slots l) i) (implied.others l parts.0 (not_true (same_literal t l) parts.1))).0)
-      (or_cases (has_literal l literals) (has_literal l d && is_other (Some t) l) (sym (adds l) ∙ h));
+  false_literals = λ l h. ⊎_elim (λ (e : has_name l literals ≡ true). r.false_literals l e)
+      (λ (e : (has_name l d && is_other (Some t) l) ≡ true).
+      let parts = and_parts (has_name l d) (is_other (Some t) l) e in
+      (and_parts (is_false slots l) (nat_le (place_of slots l) i) (implied.others l parts.0 (not_true (same_name t l) parts.1))).0)
+      (or_cases (has_name l literals) (has_name l d && is_other (Some t) l) (sym (adds l) ∙ h));
   reached = record {
     clause = resolvent p r.reached.clause d;
     lawful = links_clause_push clauses (clause_at clauses start) r.reached.clause (resolvent p r.reached.clause d) links
@@ -180,37 +181,37 @@ resolved clauses entries slots start i bound reason links marked marked' literal
     top = place_at_entry entries slots i sound.trail in_trail
 
     can : can_resolve p r.reached.clause d ≡ true
-    can = and_from (has_literal p r.reached.clause) (has_literal (opposite p) d)
-        (r.reached.left p ∙ and_from (has_literal p literals) (nat_le (place_of slots p) bound) there (le-leb (place_of slots p) bound (omega (arith, top, step))))
-        (ap (λ (x : NameLit). has_literal x d) (opposite-opposite t) ∙ implied.member)
+    can = and_from (has_name p r.reached.clause) (has_name (opposite p) d)
+        (r.reached.left p ∙ and_from (has_name p literals) (nat_le (place_of slots p) bound) there (le-leb (place_of slots p) bound (omega (arith, top, step))))
+        (ap (λ (x : NameLit). has_name x d) (opposite-opposite t) ∙ implied.member)
 
     -- below the bound but for the pivot is below the entry
-    lower : (l : NameLit) → has_literal l literals ≡ true → (nat_le (place_of slots l) bound && not (same_literal p l)) ≡ nat_le (place_of slots l) i
-    lower l h = same_tests (nat_le (place_of slots l) bound && not (same_literal p l)) (nat_le (place_of slots l) i) down up
+    lower : (l : NameLit) → has_name l literals ≡ true → (nat_le (place_of slots l) bound && not (same_name p l)) ≡ nat_le (place_of slots l) i
+    lower l h = same_tests (nat_le (place_of slots l) bound && not (same_name p l)) (nat_le (place_of slots l) i) down up
       where
-        down : (nat_le (place_of slots l) bound && not (same_literal p l)) ≡ true → nat_le (place_of slots l) i ≡ true
+        down : (nat_le (place_of slots l) bound && not (same_name p l)) ≡ true → nat_le (place_of slots l) i ≡ true
         down e =
-            let parts = and_parts (nat_le (place_of slots l) bound) (not (same_literal p l)) e in
+            let parts = and_parts (nat_le (place_of slots l) bound) (not (same_name p l)) e in
             let low = leb-true (place_of slots l) bound parts.0 in
             ⊎_elim
             (λ (q : i < place_of slots l).
             let same : l ≡ p = false_literal_at entries slots i l sound.trail in_trail (r.false_literals l h) (omega (arith, low, q, step)) in
-            absurd (wrong (same_literal p l) (ap (same_literal p) same ∙ same_literal-refl p) (not_true (same_literal p l) parts.1)))
+            absurd (wrong (same_name p l) (ap (same_name p) same ∙ same_name-refl p) (not_true (same_name p l) parts.1)))
             (λ (q : place_of slots l ≤ i). le-leb (place_of slots l) i q)
             (cases_lt i (place_of slots l))
 
-        up : nat_le (place_of slots l) i ≡ true → (nat_le (place_of slots l) bound && not (same_literal p l)) ≡ true
+        up : nat_le (place_of slots l) i ≡ true → (nat_le (place_of slots l) bound && not (same_name p l)) ≡ true
         up e =
             let low = leb-true (place_of slots l) i e in
-            and_from (nat_le (place_of slots l) bound) (not (same_literal p l)) (le-leb (place_of slots l) bound (omega (arith, low, step)))
+            and_from (nat_le (place_of slots l) bound) (not (same_name p l)) (le-leb (place_of slots l) bound (omega (arith, low, step)))
             (⊎_elim
-            (λ (s : same_literal p l ≡ true).
-            let q : place_of slots p ≡ place_of slots l = ap (place_of slots) (same_literal-true p l s) in absurd (omega (arith, q, top, low)))
-            (λ (s : same_literal p l ≡ false). ap not s) (cases_Bool (same_literal p l)))
+            (λ (s : same_name p l ≡ true).
+            let q : place_of slots p ≡ place_of slots l = ap (place_of slots) (same_name-true p l s) in absurd (omega (arith, q, top, low)))
+            (λ (s : same_name p l ≡ false). ap not s) (cases_Bool (same_name p l)))
 
     -- the reason's other literals are below the entry
-    reason_low : (l : NameLit) → has_literal l d ≡ true → not (same_literal t l) ≡ true → nat_le (place_of slots l) i ≡ true
-    reason_low l h o = (and_parts (is_false slots l) (nat_le (place_of slots l) i) (implied.others l h (not_true (same_literal t l) o))).1
+    reason_low : (l : NameLit) → has_name l d ≡ true → not (same_name t l) ≡ true → nat_le (place_of slots l) i ≡ true
+    reason_low l h o = (and_parts (is_false slots l) (nat_le (place_of slots l) i) (implied.others l h (not_true (same_name t l) o))).1
 
     joined :
         (a b n h o c : Bool) → (a ≡ true → (b && n) ≡ c) → (h ≡ true → o ≡ true → c ≡ true)
@@ -230,12 +231,12 @@ resolved clauses entries slots start i bound reason links marked marked' literal
     joined false b n true false c f g = refl
     joined false b n false o c f g = refl
 
-    left : (l : NameLit) → has_literal l (resolvent p r.reached.clause d) ≡ (has_literal l literals' && nat_le (place_of slots l) i)
+    left : (l : NameLit) → has_name l (resolvent p r.reached.clause d) ≡ (has_name l literals' && nat_le (place_of slots l) i)
     left l =
-        has_literal-resolvent p l r.reached.clause d
-        ∙ ap (λ (b : Bool). (b && not (same_literal p l)) || (has_literal l d && not (same_literal (opposite p) l))) (r.reached.left l)
-        ∙ ap (λ (x : NameLit). ((has_literal l literals && nat_le (place_of slots l) bound) && not (same_literal p l)) || (has_literal l d && not (same_literal x l))) (opposite-opposite t)
-        ∙ joined (has_literal l literals) (nat_le (place_of slots l) bound) (not (same_literal p l)) (has_literal l d) (not (same_literal t l)) (nat_le (place_of slots l) i)
+        has_name-resolvent p l r.reached.clause d
+        ∙ ap (λ (b : Bool). (b && not (same_name p l)) || (has_name l d && not (same_name (opposite p) l))) (r.reached.left l)
+        ∙ ap (λ (x : NameLit). ((has_name l literals && nat_le (place_of slots l) bound) && not (same_name p l)) || (has_name l d && not (same_name x l))) (opposite-opposite t)
+        ∙ joined (has_name l literals) (nat_le (place_of slots l) bound) (not (same_name p l)) (has_name l d) (not (same_name t l)) (nat_le (place_of slots l) i)
         (lower l) (reason_low l)
         ∙ ap (λ (b : Bool). b && nat_le (place_of slots l) i) (sym (adds l))
 
@@ -277,7 +278,7 @@ pub turned_entry :
 turned_entry clauses entries slots start bound links marked literals e turn t some within r read is turns = record {
   turns = subst (λ (x : Assigned). TurnsAt entries slots literals x bound turn) read turns;
   marked =
-      ap (λ (x : NameLit). has_literal x literals) (turns.literal ∙ ap (λ (x : Assigned). opposite x.literal) read)
+      ap (λ (x : NameLit). has_name x literals) (turns.literal ∙ ap (λ (x : Assigned). opposite x.literal) read)
       ∙ marked_at entries slots (bound - 1) marked literals t (omega (arith, some, within)) r.marks r.false_literals
       (ap (λ (x : Assigned). get_or marked x.literal.name false) (sym read) ∙ is);
 }
@@ -295,7 +296,7 @@ pub others_false :
     → IsImplied clauses slots i l reason → c ≡ clause_at clauses reason → OthersAreFalse slots c (Some l)
 others_false clauses slots i reason l c implied same k h o =
     (and_parts (is_false slots k) (nat_le (place_of slots k) i)
-    (implied.others k (ap (has_literal k) (sym same) ∙ h) (not_true (same_literal l k) o))).0
+    (implied.others k (ap (has_name k) (sym same) ∙ h) (not_true (same_name l k) o))).0
   where
     not_true : (b : Bool) → not b ≡ true → b ≡ false
     not_true true e = cc
@@ -340,7 +341,7 @@ begun clauses entries slots start marked literals c t wrong marks names clause a
     clause = clause_at clauses start;
     lawful = refl;
     left = λ l. sym (same l)
-        ∙ kept (has_literal l literals) (nat_le (place_of slots l) (length entries))
+        ∙ kept (has_name l literals) (nat_le (place_of slots l) (length entries))
         (λ h. low l (place_of slots l) (wrong l (sym (same l) ∙ h)) refl);
   };
 }
@@ -349,8 +350,8 @@ begun clauses entries slots start marked literals c t wrong marks names clause a
     kept true b f = sym (f refl)
     kept false b f = refl
 
-    same : (l : NameLit) → has_literal l literals ≡ has_literal l (clause_at clauses start)
-    same l = adds l ∙ whole (has_literal l c) ∙ ap (has_literal l) clause
+    same : (l : NameLit) → has_name l literals ≡ has_name l (clause_at clauses start)
+    same l = adds l ∙ whole (has_name l c) ∙ ap (has_name l) clause
       where
         whole : (a : Bool) → (false || (a && true)) ≡ a
         whole true = refl
@@ -365,7 +366,7 @@ pub nothing_left :
     (clauses : List PropClause) (slots : List Slot) (start bound : ℕ) (links : List Link) (marked : List Bool) (literals : PropClause)
     → bound ≡ 0 → (r : IsResolving clauses slots start links marked literals bound) → SameLiterals [] r.reached.clause
 nothing_left clauses slots start bound links marked literals none r l =
-    sym (r.reached.left l ∙ no_place (has_literal l literals) (nat_le (place_of slots l) bound) (λ h.
+    sym (r.reached.left l ∙ no_place (has_name l literals) (nat_le (place_of slots l) bound) (λ h.
     let p = false_has_place slots l (r.false_literals l h) in lt-leb (place_of slots l) bound (omega (arith, p, none))))
   where
     no_place : (a b : Bool) → (a ≡ true → b ≡ false) → (a && b) ≡ false
@@ -383,6 +384,6 @@ analysis_of_none clauses entries slots start bound links marked literals analysi
   made = r.reached.clause;
   starts = starts;
   lawful = ap (links_clause clauses (clause_at clauses start)) chain ∙ r.reached.lawful;
-  same = λ l. ap (has_literal l) empty ∙ nothing_left clauses slots start bound links marked literals zero_bound r l;
+  same = λ l. ap (has_name l) empty ∙ nothing_left clauses slots start bound links marked literals zero_bound r l;
   turn = subst (λ (o : Option Turn). MatchOption o (analysis.clause ≡ []) (IsTurn entries slots analysis.clause)) (sym turns) empty;
 }
