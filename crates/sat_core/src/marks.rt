@@ -7,7 +7,6 @@ ghost use Rattle.plain_types.specs.Names.{has_name};
 ghost use Rattle.sat_core.specs.State.{AreMarks, AreCovered, SameLiterals};
 ghost use Rattle.sat_core.specs.Conflict.{AreWithin, is_covered};
 
-use crate::literals::same_name;
 use plain_types::{Mem, NameLit};
 use std::alloc::Global;
 
@@ -92,6 +91,6 @@ impl Marks {
         requires { literal.name < length self.now.marked.items }
         ensures { result ≡ is_covered self.now.marked.items implied literal }
     {
-        same_name(implied, literal) || self.is_marked(literal)
+        implied == literal || self.is_marked(literal)
     }
 }
