@@ -2,9 +2,10 @@
 use Rattle.std.proofs.Common.{◌≡◌, ℕ, zero, suc, ◌+◌, ◌<◌, ◌≤◌, Bool, true, false, not, ◌&&◌, ◌||◌, List, [], ◌∷◌, length, get_or, take, Option, refl, ap, sym, ◌∙◌, arith, ⊎_elim}
 use mathlib.Core.Bool.{beq}
 use Rattle.std.specs.Prelude.{IsTrue}
-use Rattle.std.proofs.lemmas.Bool.{or_cases, or_left, or_right, and_parts}
+use Rattle.std.proofs.lemmas.Bool.{or_cases, or_left, or_right, and_parts, false≢true}
 use Rattle.std.proofs.lemmas.List.{get_or_default}
 use Rattle.std.proofs.lemmas.List.Folds.{list_any_at, list_any_more}
+use Rattle.std.proofs.Math.Bool.{or-false}
 use Rattle.plain_types.specs.declared.sequence.NameLit.{NameLit}
 use Rattle.plain_types.specs.Names.{same_name, has_name}
 use Rattle.sat_core.specs.declared.trail.Slot.{Slot}
@@ -66,11 +67,7 @@ abbrev pub Adds : PropClause → Option NameLit → PropClause → PropClause �
 Adds front implied old new = (k : NameLit) → has_name k new ≡ (has_name k old || (has_name k front && is_other implied k))
 
 pub adds_none : (implied : Option NameLit) (old : PropClause) → Adds [] implied old old
-adds_none implied old k = none (has_name k old)
-  where
-    none : (a : Bool) → a ≡ (a || false)
-    none true = refl
-    none false = refl
+adds_none implied old k = sym (or-false (has_name k old))
 
 pub adds_one :
     (xs old new new' : PropClause) (i : ℕ) (implied : Option NameLit) (x : NameLit)
@@ -89,10 +86,7 @@ adds_one xs old new new' i implied x h e other adds one k =
         turned : (b : Bool) → true ≡ ((b || true) && true)
         turned true = refl
         turned false = refl
-    joined true false b false f = absurd (wrong false (f refl) refl)
-      where
-        wrong : (b : Bool) → b ≡ true → b ≡ false → ⊥
-        wrong b e f = cc
+    joined true false b false f = absurd (false≢true (f refl))
     joined false true b o f = refl
     joined false false true o f = refl
     joined false false false o f = refl
@@ -155,10 +149,7 @@ keeps_one test xs kept kept' i x h e passes keeps one k =
     joined : (s b o : Bool) → (s ≡ true → o ≡ true) → (s || (b && o)) ≡ ((b || s) && o)
     joined true true true f = refl
     joined true false true f = refl
-    joined true b false f = absurd (wrong false (f refl) refl)
-      where
-        wrong : (b : Bool) → b ≡ true → b ≡ false → ⊥
-        wrong b e f = cc
+    joined true b false f = absurd (false≢true (f refl))
     joined false true o f = refl
     joined false false o f = refl
 

@@ -1,7 +1,7 @@
 -- Facts about marked literals.
 use Rattle.std.proofs.Common.{◌≡◌, ℕ, ◌<◌, ◌≤◌, Bool, true, false, ◌||◌, ◌==◌, List, [], ◌∷◌, ◌++◌, length, get_or, set, refl, ap, sym, ◌∙◌, subst, ◌⊎◌, inl, inr, ⊎_elim}
 use Rattle.std.specs.Prelude.{IsTrue}
-use Rattle.std.proofs.lemmas.Bool.{cases_eq, cases_lt, or_cases, or_left, or_right, eq-eqb, eqb-true, ne_eqb, false_from_ne_true}
+use Rattle.std.proofs.lemmas.Bool.{cases_eq, cases_lt, or_cases, or_left, or_right, eq-eqb, eqb-true, ne_eqb, false_from_ne_true, both_ways, false≢true}
 use Rattle.std.proofs.lemmas.List.{get_or-set_same, get_or-set_other, get_or_past, length-set}
 use Rattle.std.proofs.lemmas.List.Folds.{list_any-append}
 use Rattle.plain_types.specs.declared.sequence.NameLit.{NameLit}
@@ -46,11 +46,8 @@ left_of_marks marked literals marks = record {
   within = λ l h.
       let e : get_or marked l.name false ≡ true = marks l.name ∙ mentions_of literals l h in
       ⊎_elim (λ (w : l.name < length marked). w)
-      (λ (w : length marked ≤ l.name). absurd (wrong (get_or marked l.name false) e (get_or_past marked l.name false w))) (cases_lt l.name (length marked));
+      (λ (w : length marked ≤ l.name). absurd (both_ways (get_or marked l.name false) (get_or_past marked l.name false w) e)) (cases_lt l.name (length marked));
 }
-  where
-    wrong : (b : Bool) → b ≡ true → b ≡ false → ⊥
-    wrong b e f = cc
 
 pub last_within : (marked : List Bool) (literals rest : PropClause) (l : NameLit) → AreCovered marked literals → literals ≡ rest ++ l ∷ [] → l.name < length marked
 last_within marked literals rest l left split =
@@ -63,36 +60,27 @@ left_after marked literals rest l left split = record {
   covered = λ v h. covers v h (cases_eq v l.name);
   within = λ k h.
       let w = left.within k (ap (has_name k) split ∙ has_name-append k rest (l ∷ []) ∙ or_left (has_name k rest) (has_name k (l ∷ [])) h) in
-      subst (λ (n : ℕ). k.name < n) (sym (same_length marked l.name false)) w;
+      subst (λ (n : ℕ). k.name < n) (sym (length-set marked l.name false)) w;
 }
   where
-    same_length : (xs : List Bool) (i : ℕ) (b : Bool) → length (set xs i b) ≡ length xs
-    same_length xs i b = length-set xs i b
-
-    wrong : (b : Bool) → b ≡ true → b ≡ false → ⊥
-    wrong b e f = cc
-
     covers : (v : ℕ) → IsTrue (get_or (set marked l.name false) v false) → (v ≡ l.name) ⊎ (v ≡ l.name → ⊥) → IsTrue (mentions v rest)
     covers v h (inl e) =
-        absurd (wrong (get_or (set marked l.name false) v false) h
+        absurd (both_ways (get_or (set marked l.name false) v false)
         (ap (λ (n : ℕ). get_or (set marked l.name false) n false) e
-        ∙ get_or-set_same marked l.name false false (last_within marked literals rest l left split)))
+        ∙ get_or-set_same marked l.name false false (last_within marked literals rest l left split)) h)
     covers v h (inr e) =
         let was = left.covered v (sym (get_or-set_other marked l.name v false false e) ∙ h) in
         ⊎_elim (λ (x : mentions v rest ≡ true). x)
         (λ (x : mentions v (l ∷ []) ≡ true).
-        ⊎_elim (λ (y : (l.name == v) ≡ true). absurd (e (sym (eqb-true l.name v y)))) (λ (y : false ≡ true). absurd (wrong false y refl))
+        ⊎_elim (λ (y : (l.name == v) ≡ true). absurd (e (sym (eqb-true l.name v y)))) (λ (y : false ≡ true). absurd (false≢true y))
         (or_cases (l.name == v) false x))
         (or_cases (mentions v rest) (mentions v (l ∷ [])) (sym (mentions-append v rest (l ∷ [])) ∙ ap (mentions v) (sym split) ∙ was))
 
 pub no_marks : (marked : List Bool) (literals : PropClause) → AreCovered marked literals → literals ≡ [] → AreMarks marked literals
 no_marks marked literals left none v =
     false_from_ne_true (get_or marked v false)
-    (λ h. wrong (mentions v literals) (left.covered v h) (ap (mentions v) none))
+    (λ h. both_ways (mentions v literals) (ap (mentions v) none) (left.covered v h))
     ∙ sym (ap (mentions v) none)
-  where
-    wrong : (b : Bool) → b ≡ true → b ≡ false → ⊥
-    wrong b e f = cc
 
 -- ---- one more mark
 

@@ -2,7 +2,7 @@
 use Rattle.std.proofs.Common.{◌≡◌, ℕ, ◌+◌, ◌-◌, ◌<◌, ◌≤◌, Bool, true, false, not, ◌&&◌, ◌||◌, List, [], ◌∷◌, ◌++◌, length, get_or, set, Option, Some, refl, ap, sym, ◌∙◌, subst, arith, ◌⊎◌, inl, inr, ⊎_elim}
 use Rattle.std.specs.Prelude.{IsTrue, nat_le, MatchOption}
 use Rattle.std.specs.List.{list_all}
-use Rattle.std.proofs.lemmas.Bool.{cases_Bool, cases_eq, cases_lt, or_cases, and_parts, and_from, le-leb, leb-true}
+use Rattle.std.proofs.lemmas.Bool.{cases_Bool, cases_eq, cases_lt, or_cases, and_parts, and_from, le-leb, leb-true, both_ways, not-true}
 use Rattle.std.proofs.lemmas.List.{get_or-set_same, get_or-set_other, length-set}
 use Rattle.std.proofs.lemmas.Option.{slice_get-get_or}
 use Rattle.plain_types.specs.declared.sequence.NameLit.{NameLit}
@@ -76,13 +76,10 @@ unmarked marked literals v named marks = record {
   within = λ l h. let p = marks.within l h in let q : length (set marked v false) ≡ length marked = length-set marked v false in omega (arith, p, q);
 }
   where
-    wrong : (b : Bool) → b ≡ true → b ≡ false → ⊥
-    wrong b e f = cc
-
     covers : (w : ℕ) → IsTrue (get_or (set marked v false) w false) → (w ≡ v) ⊎ (w ≡ v → ⊥) → IsTrue (mentions w literals)
     covers w h (inl e) =
-        absurd (wrong (get_or (set marked v false) w false) h
-        (ap (λ (n : ℕ). get_or (set marked v false) n false) e ∙ get_or-set_same marked v false false named))
+        absurd (both_ways (get_or (set marked v false) w false)
+        (ap (λ (n : ℕ). get_or (set marked v false) n false) e ∙ get_or-set_same marked v false false named) h)
     covers w h (inr e) = marks.covered w (sym (get_or-set_other marked v w false false e) ∙ h)
 
 pub implied_away :
@@ -118,13 +115,6 @@ implied_away clauses entries slots start i bound reason links marked literals so
     in_trail : i < length entries
     in_trail = omega (arith, below, within)
 
-    not_true : (b : Bool) → not b ≡ true → b ≡ false
-    not_true true e = cc
-    not_true false e = refl
-
-    wrong : (b : Bool) → b ≡ true → b ≡ false → ⊥
-    wrong b e f = cc
-
     top : place_of slots p ≡ i + 1
     top = place_at_entry entries slots i sound.trail in_trail
 
@@ -153,9 +143,9 @@ implied_away clauses entries slots start i bound reason links marked literals so
     -- the reason's other literals are in the clause
     other_in : (l : NameLit) → has_name l d ≡ true → not (same_name t l) ≡ true → has_name l r.clause ≡ true
     other_in l h o =
-        let parts = and_parts (is_false slots l) (nat_le (place_of slots l) i) (implied.others l h (not_true (same_name t l) o)) in
+        let parts = and_parts (is_false slots l) (nat_le (place_of slots l) i) (implied.others l h (not-true (same_name t l) o)) in
         let marked_l : get_or marked l.name false ≡ true =
-        ⊎_elim (λ (s : same_name t l ≡ true). absurd (wrong (same_name t l) s (not_true (same_name t l) o))) (λ (s : get_or marked l.name false ≡ true). s)
+        ⊎_elim (λ (s : same_name t l ≡ true). absurd (both_ways (same_name t l) (not-true (same_name t l) o) s)) (λ (s : get_or marked l.name false ≡ true). s)
         (or_cases (same_name t l) (get_or marked l.name false) (each_of (is_covered marked t) d l all h)) in
         let low = leb-true (place_of slots l) i parts.1 in
         r.left l
@@ -202,7 +192,7 @@ implied_away clauses entries slots start i bound reason links marked literals so
 
         not_there : has_name l d ≡ true → not (same_name t l) ≡ true → ⊥
         not_there h o =
-            let parts = and_parts (is_false slots l) (nat_le (place_of slots l) i) (implied.others l h (not_true (same_name t l) o)) in
+            let parts = and_parts (is_false slots l) (nat_le (place_of slots l) i) (implied.others l h (not-true (same_name t l) o)) in
             let low = leb-true (place_of slots l) i parts.1 in
             let s : place_of slots l ≡ place_of slots t = ap (λ (v : ℕ). (slot_at slots v).place) e in
             omega (arith, low, s, top)
@@ -279,15 +269,12 @@ turned clauses entries slots start bound links marked literals clause turn t som
       (λ (x : bound ≤ place_of slots k).
       let same : k ≡ turn.literal =
       false_literal_at entries slots (bound - 1) k t (omega (arith, some, within)) wrong (omega (arith, low, x, some)) ∙ sym of.turns.literal in
-      absurd (differ (same_name turn.literal k) (ap (same_name turn.literal) same ∙ same_name-refl turn.literal) o))
+      absurd (both_ways (same_name turn.literal k) o (ap (same_name turn.literal) same ∙ same_name-refl turn.literal)))
       (cases_lt (place_of slots k) bound) in
       let under = of.turns.below k parts.0 below in
       and_from (is_false slots k) (nat_le (place_of slots k) turn.cut) wrong (le-leb (place_of slots k) turn.cut under);
 }
   where
-    differ : (b : Bool) → b ≡ true → b ≡ false → ⊥
-    differ b e f = cc
-
     top : place_of slots turn.literal ≡ bound
     top =
         let p = place_at_entry entries slots (bound - 1) t (omega (arith, some, within)) in

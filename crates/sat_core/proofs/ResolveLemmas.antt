@@ -2,9 +2,10 @@
 use Rattle.std.proofs.Common.{◌≡◌, ℕ, zero, suc, ◌+◌, ◌-◌, ◌<◌, ◌≤◌, Bool, true, false, not, ◌&&◌, ◌||◌, List, [], ◌∷◌, ◌++◌, length, get_or, Option, Some, None, refl, ap, sym, ◌∙◌, subst, arith, ⊎_elim}
 use mathlib.Core.Bool.{beq}
 use Rattle.std.specs.Prelude.{IsTrue, nat_le, nat_lt, option_and_then, MatchOption}
-use Rattle.std.proofs.lemmas.Bool.{cases_Bool, cases_eq, cases_lt, or_cases, and_parts, and_from, le-leb, lt-leb, leb-true, ltb-true}
+use Rattle.std.proofs.lemmas.Bool.{cases_Bool, cases_eq, cases_lt, or_cases, and_parts, and_from, le-leb, lt-leb, leb-true, ltb-true, both_ways, not-true}
 use Rattle.std.proofs.lemmas.List.{get_or_read}
-use Rattle.std.proofs.lemmas.Option.{slice_get-get_or, option_and_then_some}
+use Rattle.std.proofs.lemmas.Option.{slice_get-get_or, option_and_then_some, same_Some}
+use Rattle.std.proofs.Math.Bool.{and-true, or-false}
 use Rattle.plain_types.specs.declared.sequence.NameLit.{NameLit}
 use Rattle.plain_types.specs.Names.{same_name, has_name, opposite, can_resolve, resolvent}
 use Rattle.sat_core.specs.declared.answer.Link.{Link}
@@ -87,9 +88,6 @@ passed clauses entries slots start i bound links marked literals t step within r
   };
 }
   where
-    wrong : (b : Bool) → b ≡ true → b ≡ false → ⊥
-    wrong b e f = cc
-
     same : (a b c : Bool) → (a ≡ true → b ≡ true → c ≡ true) → (c ≡ true → b ≡ true) → (a && b) ≡ (a && c)
     same false b c f g = refl
     same true true c f g = sym (f refl refl)
@@ -105,8 +103,8 @@ passed clauses entries slots start i bound links marked literals t step within r
         ⊎_elim
         (λ (q : place_of slots l ≡ i + 1).
         let one_name : l.name ≡ (entry_at entries i).literal.name = sym (ap (λ (x : NameLit). x.name) (t.known l.name i q).1) in
-        absurd (wrong (get_or marked (entry_at entries i).literal.name false)
-        (r.marks (entry_at entries i).literal.name ∙ ap (λ (v : ℕ). mentions v literals) (sym one_name) ∙ mentions_of literals l there) absent))
+        absurd (both_ways (get_or marked (entry_at entries i).literal.name false) absent
+        (r.marks (entry_at entries i).literal.name ∙ ap (λ (v : ℕ). mentions v literals) (sym one_name) ∙ mentions_of literals l there)))
         (λ (q : place_of slots l ≡ i + 1 → ⊥). le-leb (place_of slots l) i (not_at p q))
         (cases_eq (place_of slots l) (i + 1))
       where
@@ -119,12 +117,9 @@ pub links_clause_push :
     (known : List PropClause) (c d e : PropClause) (links : List Link) (link : Link)
     → links_clause known c links ≡ Some d → link_clause known d link ≡ Some e → links_clause known c (links ++ link ∷ []) ≡ Some e
 links_clause_push known c d e [] link h k =
-    let cd : c ≡ d = same c d h in
+    let cd : c ≡ d = same_Some c d h in
     ap (λ (x : PropClause). option_and_then (λ (y : PropClause). Some y) (link_clause known x link)) cd
     ∙ ap (λ (o : Option PropClause). option_and_then (λ (y : PropClause). Some y) o) k
-  where
-    same : (x y : PropClause) → Some x ≡ Some y → x ≡ y
-    same x y f = cc
 links_clause_push known c d e (first ∷ links) link h k =
     option_and_then_some (λ (x : PropClause). links_clause known x links) (link_clause known c first) d h
     (λ x at rest.
@@ -147,7 +142,7 @@ resolved clauses entries slots start i bound reason links marked marked' literal
   false_literals = λ l h. ⊎_elim (λ (e : has_name l literals ≡ true). r.false_literals l e)
       (λ (e : (has_name l d && is_other (Some t) l) ≡ true).
       let parts = and_parts (has_name l d) (is_other (Some t) l) e in
-      (and_parts (is_false slots l) (nat_le (place_of slots l) i) (implied.others l parts.0 (not_true (same_name t l) parts.1))).0)
+      (and_parts (is_false slots l) (nat_le (place_of slots l) i) (implied.others l parts.0 (not-true (same_name t l) parts.1))).0)
       (or_cases (has_name l literals) (has_name l d && is_other (Some t) l) (sym (adds l) ∙ h));
   reached = record {
     clause = resolvent p r.reached.clause d;
@@ -170,13 +165,6 @@ resolved clauses entries slots start i bound reason links marked marked' literal
     in_trail : i < length entries
     in_trail = omega (arith, step, within)
 
-    not_true : (b : Bool) → not b ≡ true → b ≡ false
-    not_true true e = cc
-    not_true false e = refl
-
-    wrong : (b : Bool) → b ≡ true → b ≡ false → ⊥
-    wrong b e f = cc
-
     top : place_of slots p ≡ i + 1
     top = place_at_entry entries slots i sound.trail in_trail
 
@@ -196,7 +184,7 @@ resolved clauses entries slots start i bound reason links marked marked' literal
             ⊎_elim
             (λ (q : i < place_of slots l).
             let same : l ≡ p = false_literal_at entries slots i l sound.trail in_trail (r.false_literals l h) (omega (arith, low, q, step)) in
-            absurd (wrong (same_name p l) (ap (same_name p) same ∙ same_name-refl p) (not_true (same_name p l) parts.1)))
+            absurd (both_ways (same_name p l) (not-true (same_name p l) parts.1) (ap (same_name p) same ∙ same_name-refl p)))
             (λ (q : place_of slots l ≤ i). le-leb (place_of slots l) i q)
             (cases_lt i (place_of slots l))
 
@@ -211,22 +199,14 @@ resolved clauses entries slots start i bound reason links marked marked' literal
 
     -- the reason's other literals are below the entry
     reason_low : (l : NameLit) → has_name l d ≡ true → not (same_name t l) ≡ true → nat_le (place_of slots l) i ≡ true
-    reason_low l h o = (and_parts (is_false slots l) (nat_le (place_of slots l) i) (implied.others l h (not_true (same_name t l) o))).1
+    reason_low l h o = (and_parts (is_false slots l) (nat_le (place_of slots l) i) (implied.others l h (not-true (same_name t l) o))).1
 
     joined :
         (a b n h o c : Bool) → (a ≡ true → (b && n) ≡ c) → (h ≡ true → o ≡ true → c ≡ true)
         → (((a && b) && n) || (h && o)) ≡ ((a || (h && o)) && c)
     joined true b n true true c f g = ap (λ (x : Bool). x || true) (f refl) ∙ ap (λ (x : Bool). x || true) (g refl refl) ∙ sym (g refl refl)
-    joined true b n true false c f g = or_false (b && n) ∙ f refl
-      where
-        or_false : (x : Bool) → (x || false) ≡ x
-        or_false true = refl
-        or_false false = refl
-    joined true b n false o c f g = or_false (b && n) ∙ f refl
-      where
-        or_false : (x : Bool) → (x || false) ≡ x
-        or_false true = refl
-        or_false false = refl
+    joined true b n true false c f g = or-false (b && n) ∙ f refl
+    joined true b n false o c f g = or-false (b && n) ∙ f refl
     joined false b n true true c f g = sym (g refl refl)
     joined false b n true false c f g = refl
     joined false b n false o c f g = refl
@@ -296,11 +276,7 @@ pub others_false :
     → IsImplied clauses slots i l reason → c ≡ clause_at clauses reason → OthersAreFalse slots c (Some l)
 others_false clauses slots i reason l c implied same k h o =
     (and_parts (is_false slots k) (nat_le (place_of slots k) i)
-    (implied.others k (ap (has_name k) (sym same) ∙ h) (not_true (same_name l k) o))).0
-  where
-    not_true : (b : Bool) → not b ≡ true → b ≡ false
-    not_true true e = cc
-    not_true false e = refl
+    (implied.others k (ap (has_name k) (sym same) ∙ h) (not-true (same_name l k) o))).0
 
 pub resolved_entry :
     (clauses : List PropClause) (entries : List Assigned) (slots : List Slot) (start bound reason : ℕ)
@@ -351,11 +327,7 @@ begun clauses entries slots start marked literals c t wrong marks names clause a
     kept false b f = refl
 
     same : (l : NameLit) → has_name l literals ≡ has_name l (clause_at clauses start)
-    same l = adds l ∙ whole (has_name l c) ∙ ap (has_name l) clause
-      where
-        whole : (a : Bool) → (false || (a && true)) ≡ a
-        whole true = refl
-        whole false = refl
+    same l = adds l ∙ and-true (has_name l c) ∙ ap (has_name l) clause
 
     low : (l : NameLit) (p : ℕ) → IsTrue (is_false slots l) → place_of slots l ≡ p → nat_le (place_of slots l) (length entries) ≡ true
     low l zero f e = le-leb (place_of slots l) (length entries) (omega (arith, e))

@@ -6,7 +6,7 @@ use Rattle.std.specs.List.{list_any, list_all}
 use Rattle.std.proofs.lemmas.Bool.{cases_lt, or_cases, or_left, or_right, or_parts, and_parts, and_from, lt-ltb, ltb-true}
 use Rattle.std.proofs.lemmas.List.{get_or_push, get_or_past, get_or-map, length_push, length-map, take-append-le, take_all, append-nil}
 use Rattle.std.proofs.lemmas.List.Folds.{list_all_more}
-use Rattle.std.proofs.lemmas.Option.{slice_get-get_or}
+use Rattle.std.proofs.lemmas.Option.{slice_get-get_or, same_Some, none-some}
 use Rattle.plain_types.specs.declared.sequence.NameLit.{NameLit}
 use Rattle.plain_types.specs.Names.{has_name, same_name}
 use Rattle.sat_core.specs.declared.trail.Assigned.{Assigned}
@@ -83,11 +83,8 @@ turn_sound clauses clauses' entries entries' entries'' slots slots' slots'' clau
     λ l. sym (ap (λ (cs : List PropClause). has_name l (clause_at cs n)) learned ∙ ap (has_name l) (get_or_push clauses clause [] n (sym number))) in
     pushed_sound clauses' entries' entries'' slots' slots'' (record { literal = turn.literal; reason = Some n }) after
     (turn_free entries entries' slots slots' clause turn is cuts)
-    (λ reason because. subst (λ (m : ℕ). IsImplied clauses' slots' (length entries') turn.literal m) (same_number n reason because)
+    (λ reason because. subst (λ (m : ℕ). IsImplied clauses' slots' (length entries') turn.literal m) (same_Some n reason because)
     (turn_implied clauses' entries entries' slots slots' clause turn n is cuts within same)) t more written
-  where
-    same_number : (a b : ℕ) → Some a ≡ Some b → a ≡ b
-    same_number a b e = cc
 
 pub same_inputs :
     (clauses clauses' : List PropClause) (inputs inputs' : ℕ) (c : PropClause)
@@ -230,7 +227,4 @@ pub decided :
     → slots' ≡ set slots l.name (slot_of (length entries) (record { literal = l; reason = None }))
     → IsSound clauses entries' slots'
 decided clauses entries entries' slots slots' l sound free t more written =
-    pushed_sound clauses entries entries' slots slots' (record { literal = l; reason = None }) sound free (λ reason is. absurd (wrong reason is)) t more written
-  where
-    wrong : (n : ℕ) → None ≡ Some n → ⊥
-    wrong n e = cc
+    pushed_sound clauses entries entries' slots slots' (record { literal = l; reason = None }) sound free (λ reason is. absurd (none-some reason is)) t more written

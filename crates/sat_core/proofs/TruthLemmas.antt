@@ -3,7 +3,7 @@ use Rattle.std.proofs.Common.{◌≡◌, ℕ, zero, suc, Bool, true, false, not,
 use mathlib.Core.Bool.{beq}
 use Rattle.std.specs.Prelude.{IsTrue, slice_get}
 use Rattle.std.specs.Option.{option_map}
-use Rattle.std.proofs.lemmas.Bool.{cases_Bool, or_left, or_right, and_parts, and_from, false_from_ne_true}
+use Rattle.std.proofs.lemmas.Bool.{cases_Bool, or_left, or_right, and_parts, and_from, false_from_ne_true, both_ways}
 use Rattle.std.proofs.lemmas.List.Folds.{list_any-append, list_all-append}
 use Rattle.std.proofs.lemmas.Option.{option_and_then_some, cond_some, same_Some}
 use Rattle.plain_types.specs.declared.sequence.NameLit.{NameLit}
@@ -126,7 +126,4 @@ right_logs_refute clauses log right v =
 
 pub answers_exclude : AnswersExclude
 answers_exclude names clauses truths log model right =
-    wrong (clauses_true (valuation_of truths) clauses) model.makes_true (right_logs_refute clauses log right (valuation_of truths))
-  where
-    wrong : (b : Bool) → b ≡ true → b ≡ false → ⊥
-    wrong b e f = cc
+    both_ways (clauses_true (valuation_of truths) clauses) (right_logs_refute clauses log right (valuation_of truths)) model.makes_true

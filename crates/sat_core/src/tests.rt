@@ -99,7 +99,9 @@ fn is_true(truths: &[bool], clause: &[NameLit]) -> bool {
 
 fn is_right_model(clauses: &PropClauses, names: u32, truths: &Truths) -> bool {
     truths.len() == names as usize
-        && clauses.iter().all(|clause| is_true(truths.as_slice(), clause.as_slice()))
+        && clauses
+            .iter()
+            .all(|clause| is_true(truths.as_slice(), clause.as_slice()))
 }
 
 /// The kind of an answer.
@@ -392,7 +394,9 @@ fn random_clauses(alloc: Global, seed: u64, names: u32, count: u32) -> Mem<PropC
 /// Whether the values that the bits of a number give make every clause true.
 fn is_model(bits: u32, clauses: &PropClauses) -> bool {
     clauses.iter().all(|clause| {
-        clause.iter().any(|l| ((bits >> (l.name % 32)) & 1 == 1) == l.positive)
+        clause
+            .iter()
+            .any(|l| ((bits >> (l.name % 32)) & 1 == 1) == l.positive)
     })
 }
 
