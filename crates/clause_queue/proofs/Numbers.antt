@@ -1,7 +1,7 @@
 -- Between what the pairs have and what the search tree knows of them.
 use Rattle.std.proofs.Common.{◌≡◌, ℕ, zero, suc, ◌<◌, ◌≤◌, List, [], ◌∷◌, length, get_or, Contains, refl, arith}
 use Rattle.std.specs.List.{AllByRecursion}
-use Rattle.std.proofs.lemmas.List.Elements.{All-from_recursion, All-contains, All-map}
+use Rattle.std.proofs.lemmas.List.Elements.{All-from_recursion, All-contains, All-map, Contains-append_right}
 use Rattle.clause_queue.specs.Order.{IsNoHeavier}
 use Rattle.clause_queue.specs.Pairs.{with_pair, numbers, IsAbsent}
 use Rattle.clause_queue.specs.Node.{MayStandBelow, IsTopOf}
@@ -10,13 +10,10 @@ use Rattle.clause_queue.specs.declared.choice.Choice.{Choice}
 use Rattle.clause_queue.specs.declared.choice.Choice.TheVariants.{Light, Old}
 use Rattle.clause_queue.proofs.PairsLemmas.{with_pair_cases, all-with_pair, all-weaker}
 
-contains_later : {X : Type 0} (x y : X) (xs : List X) → Contains xs x → Contains (y ∷ xs) x
-contains_later x y xs has = (suc has.0, omega (arith, has.1), has.2)
-
 pub absent_from : (n : ℕ) (ps : List (ℕ × ℕ)) → (Contains (numbers ps) n → ⊥) → IsAbsent n ps
 absent_from n [] lacks = tt
 absent_from n (p ∷ ps) lacks =
-    (λ same. lacks (0, omega arith, same), absent_from n ps (λ has. lacks (contains_later n p.0 (numbers ps) has)))
+    (λ same. lacks (0, omega arith, same), absent_from n ps (λ has. lacks (Contains-append_right (p.0 ∷ []) (numbers ps) n has)))
 
 lacks_at : (n : ℕ) (ps : List (ℕ × ℕ)) → IsAbsent n ps → (k : ℕ) → k < length (numbers ps) → get_or (numbers ps) k n ≡ n → ⊥
 lacks_at n [] absent k below at = absurd (omega arith)
@@ -29,13 +26,13 @@ lacks_from n ps absent has = lacks_at n ps absent has.0 has.1 has.2
 pub contains-with_pair : (p : ℕ × ℕ) (qs : List (ℕ × ℕ)) → Contains (with_pair p qs) p
 contains-with_pair p [] = (0, omega arith, refl)
 contains-with_pair p (q ∷ qs) =
-    with_pair_cases (λ l. Contains l p) p q qs (λ _. (0, omega arith, refl)) (λ _. contains_later p q (with_pair p qs) (contains-with_pair p qs))
+    with_pair_cases (λ l. Contains l p) p q qs (λ _. (0, omega arith, refl)) (λ _. Contains-append_right (q ∷ []) (with_pair p qs) p (contains-with_pair p qs))
 
 pub contains_number-with_pair : (p : ℕ × ℕ) (qs : List (ℕ × ℕ)) → Contains (numbers (with_pair p qs)) p.0
 contains_number-with_pair p [] = (0, omega arith, refl)
 contains_number-with_pair p (q ∷ qs) =
     with_pair_cases (λ l. Contains (numbers l) p.0) p q qs (λ _. (0, omega arith, refl))
-    (λ _. contains_later p.0 q.0 (numbers (with_pair p qs)) (contains_number-with_pair p qs))
+    (λ _. Contains-append_right (q.0 ∷ []) (numbers (with_pair p qs)) p.0 (contains_number-with_pair p qs))
 
 pub light_pick : (p : ℕ × ℕ) (rest : List (ℕ × ℕ)) → IsTopOf p rest → IsPick Light (with_pair p rest) p.0
 light_pick p rest top = (

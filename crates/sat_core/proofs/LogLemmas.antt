@@ -6,13 +6,14 @@ use Rattle.std.proofs.lemmas.Bool.{cases_lt, cond-true}
 use Rattle.std.proofs.lemmas.List.{append_assoc, append-nil, length_push, take-append-le, get_or_append_left, get_or_push, get_or_past}
 use Rattle.std.proofs.lemmas.Option.{option_and_then_some, cond_some, same_Some, slice_get_within, slice_get-get_or, get_or_from_slice_get}
 use Rattle.plain_types.specs.declared.sequence.NameLit.{NameLit}
+use Rattle.plain_types.specs.Names.{same_name, has_name, opposite, can_resolve, resolvent}
 use Rattle.sat_core.specs.declared.answer.Link.{Link}
 use Rattle.sat_core.specs.declared.answer.Chain.{Chain}
-use Rattle.sat_core.specs.Clause.{PropClause, same_literal, has_literal, opposite}
-use Rattle.sat_core.specs.Resolution.{can_resolve, resolvent, link_clause, links_clause, chain_clause, log_clauses, ends_empty}
+use Rattle.sat_core.specs.Clause.{PropClause}
+use Rattle.sat_core.specs.Resolution.{link_clause, links_clause, chain_clause, log_clauses, ends_empty}
 use Rattle.sat_core.specs.Answer.{IsRightLog}
 use Rattle.sat_core.specs.State.{clause_at, SameLiterals, SameClauses, AreDerived, Derives}
-use Rattle.sat_core.proofs.LiteralLemmas.{has_literal-resolvent, no_literals}
+use Rattle.sat_core.proofs.LiteralLemmas.{has_name-resolvent, no_literals}
 
 -- what a link makes where it is a resolution with that clause
 pub link_clause_at :
@@ -25,10 +26,10 @@ link_clause_at known c d link at can =
 same_resolvent :
     (p : NameLit) (c c' d d' : PropClause) → SameLiterals c c' → SameLiterals d d' → SameLiterals (resolvent p c d) (resolvent p c' d')
 same_resolvent p c c' d d' h k l =
-    has_literal-resolvent p l c d
-    ∙ ap (λ (b : Bool). (b && not (same_literal p l)) || (has_literal l d && not (same_literal (opposite p) l))) (h l)
-    ∙ ap (λ (b : Bool). (has_literal l c' && not (same_literal p l)) || (b && not (same_literal (opposite p) l))) (k l)
-    ∙ sym (has_literal-resolvent p l c' d')
+    has_name-resolvent p l c d
+    ∙ ap (λ (b : Bool). (b && not (same_name p l)) || (has_name l d && not (same_name (opposite p) l))) (h l)
+    ∙ ap (λ (b : Bool). (has_name l c' && not (same_name p l)) || (b && not (same_name (opposite p) l))) (k l)
+    ∙ sym (has_name-resolvent p l c' d')
 
 same_link :
     (cs ds : List PropClause) (c d e : PropClause) (link : Link)
@@ -41,20 +42,20 @@ same_link cs ds c d e link same h made =
     let parts = cond_some (can_resolve link.pivot c x) (resolvent link.pivot c x) e kept in
     let within : link.number < length ds = let w = slice_get_within cs link.number x at in omega (arith, w, same.same_count) in
     let y = clause_at ds link.number in
-    let xy : SameLiterals x y = λ l. ap (has_literal l) (sym (get_or_from_slice_get cs link.number x [] at)) ∙ same.same_literals link.number l in
+    let xy : SameLiterals x y = λ l. ap (has_name l) (sym (get_or_from_slice_get cs link.number x [] at)) ∙ same.same_literals link.number l in
     let can : can_resolve link.pivot d y ≡ true =
-    ap (λ (b : Bool). b && has_literal (opposite link.pivot) y) (sym (h link.pivot))
-    ∙ ap (λ (b : Bool). has_literal link.pivot c && b) (sym (xy (opposite link.pivot))) ∙ parts.0 in (
+    ap (λ (b : Bool). b && has_name (opposite link.pivot) y) (sym (h link.pivot))
+    ∙ ap (λ (b : Bool). has_name link.pivot c && b) (sym (xy (opposite link.pivot))) ∙ parts.0 in (
       resolvent link.pivot d y,
       link_clause_at ds d y link (slice_get-get_or ds link.number [] within) can,
-      λ l. ap (has_literal l) (sym parts.1) ∙ same_resolvent link.pivot c d x y h xy l,
+      λ l. ap (has_name l) (sym parts.1) ∙ same_resolvent link.pivot c d x y h xy l,
     ))
 
 same_links :
     (cs ds : List PropClause) (c d e : PropClause) (links : List Link)
     → SameClauses cs ds → SameLiterals c d → links_clause cs c links ≡ Some e
     → (f : PropClause) × (links_clause ds d links ≡ Some f) × SameLiterals e f
-same_links cs ds c d e [] same h made = (d, refl, λ l. ap (has_literal l) (sym (same_Some c e made)) ∙ h l)
+same_links cs ds c d e [] same h made = (d, refl, λ l. ap (has_name l) (sym (same_Some c e made)) ∙ h l)
 same_links cs ds c d e (link ∷ links) same h made =
     option_and_then_some (λ (x : PropClause). links_clause cs x links) (link_clause cs c link) e made
     (λ x first rest.
@@ -69,7 +70,7 @@ same_chain cs ds chain clause same derives =
     (λ x at made.
     let within : chain.start < length ds = let w = slice_get_within cs chain.start x at in omega (arith, w, same.same_count) in
     let y = clause_at ds chain.start in
-    let xy : SameLiterals x y = λ l. ap (has_literal l) (sym (get_or_from_slice_get cs chain.start x [] at)) ∙ same.same_literals chain.start l in
+    let xy : SameLiterals x y = λ l. ap (has_name l) (sym (get_or_from_slice_get cs chain.start x [] at)) ∙ same.same_literals chain.start l in
     let end = same_links cs ds x y derives.made chain.links same xy made in
     record {
       made = end.0;
@@ -120,17 +121,17 @@ same_clauses_push cs ds c d same h = record {
   same_literals = λ n l. at n l (cases_lt n (length cs));
 }
   where
-    last : (n : ℕ) (l : NameLit) → (length cs ≡ n) ⊎ (length cs < n) → has_literal l (clause_at (cs ++ c ∷ []) n) ≡ has_literal l (clause_at (ds ++ d ∷ []) n)
+    last : (n : ℕ) (l : NameLit) → (length cs ≡ n) ⊎ (length cs < n) → has_name l (clause_at (cs ++ c ∷ []) n) ≡ has_name l (clause_at (ds ++ d ∷ []) n)
     last n l (inl e) =
-        ap (has_literal l) (get_or_push cs c [] n e) ∙ h l ∙ sym (ap (has_literal l) (get_or_push ds d [] n (sym same.same_count ∙ e)))
+        ap (has_name l) (get_or_push cs c [] n e) ∙ h l ∙ sym (ap (has_name l) (get_or_push ds d [] n (sym same.same_count ∙ e)))
     last n l (inr e) =
-        ap (has_literal l) (get_or_past (cs ++ c ∷ []) n [] (omega (arith, length_push cs c)))
-        ∙ sym (ap (has_literal l) (get_or_past (ds ++ d ∷ []) n [] (omega (arith, length_push ds d, same.same_count))))
+        ap (has_name l) (get_or_past (cs ++ c ∷ []) n [] (omega (arith, length_push cs c)))
+        ∙ sym (ap (has_name l) (get_or_past (ds ++ d ∷ []) n [] (omega (arith, length_push ds d, same.same_count))))
 
-    at : (n : ℕ) (l : NameLit) → (n < length cs) ⊎ (length cs ≤ n) → has_literal l (clause_at (cs ++ c ∷ []) n) ≡ has_literal l (clause_at (ds ++ d ∷ []) n)
+    at : (n : ℕ) (l : NameLit) → (n < length cs) ⊎ (length cs ≤ n) → has_name l (clause_at (cs ++ c ∷ []) n) ≡ has_name l (clause_at (ds ++ d ∷ []) n)
     at n l (inl e) =
-        ap (has_literal l) (get_or_append_left cs (c ∷ []) [] n e) ∙ same.same_literals n l
-        ∙ sym (ap (has_literal l) (get_or_append_left ds (d ∷ []) [] n (omega (arith, same.same_count))))
+        ap (has_name l) (get_or_append_left cs (c ∷ []) [] n e) ∙ same.same_literals n l
+        ∙ sym (ap (has_name l) (get_or_append_left ds (d ∷ []) [] n (omega (arith, same.same_count))))
     at n l (inr e) = last n l (⊎_elim (λ (x : length cs < n). inr x) (λ (x : n ≤ length cs). inl (omega arith)) (cases_lt (length cs) n))
 
 pub learned :

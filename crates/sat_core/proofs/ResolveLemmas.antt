@@ -2,22 +2,24 @@
 use Rattle.std.proofs.Common.{◌≡◌, ℕ, zero, suc, ◌+◌, ◌-◌, ◌<◌, ◌≤◌, Bool, true, false, not, ◌&&◌, ◌||◌, List, [], ◌∷◌, ◌++◌, length, get_or, Option, Some, None, refl, ap, sym, ◌∙◌, subst, arith, ⊎_elim}
 use mathlib.Core.Bool.{beq}
 use Rattle.std.specs.Prelude.{IsTrue, nat_le, nat_lt, option_and_then, MatchOption}
-use Rattle.std.proofs.lemmas.Bool.{cases_Bool, cases_eq, cases_lt, or_cases, and_parts, and_from, le-leb, lt-leb, leb-true, ltb-true}
+use Rattle.std.proofs.lemmas.Bool.{cases_Bool, cases_eq, cases_lt, or_cases, and_parts, and_from, le-leb, lt-leb, leb-true, ltb-true, both_ways, not-true}
 use Rattle.std.proofs.lemmas.List.{get_or_read}
-use Rattle.std.proofs.lemmas.Option.{slice_get-get_or, option_and_then_some}
+use Rattle.std.proofs.lemmas.Option.{slice_get-get_or, option_and_then_some, same_Some}
+use Rattle.std.proofs.Math.Bool.{and-true, or-false}
 use Rattle.plain_types.specs.declared.sequence.NameLit.{NameLit}
+use Rattle.plain_types.specs.Names.{same_name, has_name, opposite, can_resolve, resolvent}
 use Rattle.sat_core.specs.declared.answer.Link.{Link}
 use Rattle.sat_core.specs.declared.trail.Assigned.{Assigned}
 use Rattle.sat_core.specs.declared.trail.Slot.{Slot}
 use Rattle.sat_core.specs.declared.analysis.Turn.{Turn}
 use Rattle.sat_core.specs.declared.analysis.Analysis.{Analysis}
-use Rattle.sat_core.specs.Clause.{PropClause, same_literal, has_literal, opposite}
-use Rattle.sat_core.specs.Resolution.{can_resolve, resolvent, link_clause, links_clause}
+use Rattle.sat_core.specs.Clause.{PropClause}
+use Rattle.sat_core.specs.Resolution.{link_clause, links_clause}
 use Rattle.sat_core.specs.Trail.{IsTrail, entry_at, slot_at, place_of, has_place, is_false}
-use Rattle.sat_core.specs.State.{IsSound, IsImplied, AreFalse, AreMarks, SameLiterals, clause_at, has_name}
+use Rattle.sat_core.specs.State.{IsSound, IsImplied, AreFalse, AreMarks, SameLiterals, clause_at, mentions}
 use Rattle.sat_core.specs.Conflict.{is_other, OthersAreFalse, AddsOthers, IsResolving, TurnsAt, IsTurnOf, IsTurn, IsAnalysis}
-use Rattle.sat_core.proofs.LiteralLemmas.{same_literal-refl, same_literal-true, opposite-opposite, has_literal-resolvent}
-use Rattle.sat_core.proofs.MarkLemmas.{same_tests, has_name_of, literal_of_name}
+use Rattle.sat_core.proofs.LiteralLemmas.{same_name-refl, same_name-true, opposite-opposite, has_name-resolvent}
+use Rattle.sat_core.proofs.MarkLemmas.{same_tests, mentions_of, literal_of_name}
 use Rattle.sat_core.proofs.TrailLemmas.{slot_within}
 use Rattle.sat_core.proofs.LogLemmas.{link_clause_at}
 use Rattle.sat_core.proofs.AnalysisLemmas.{false_of_one_name}
@@ -60,12 +62,12 @@ place_at_entry entries slots i t h = ap (λ (s : Slot). s.place) (t.placed i h)
 pub marked_at :
     (entries : List Assigned) (slots : List Slot) (i : ℕ) (marked : List Bool) (literals : PropClause)
     → IsTrail entries slots → i < length entries → AreMarks marked literals → AreFalse slots literals
-    → IsTrue (get_or marked (entry_at entries i).literal.name false) → IsTrue (has_literal (opposite (entry_at entries i).literal) literals)
+    → IsTrue (get_or marked (entry_at entries i).literal.name false) → IsTrue (has_name (opposite (entry_at entries i).literal) literals)
 marked_at entries slots i marked literals t h marks wrong is =
     let found = literal_of_name (entry_at entries i).literal.name literals (sym (marks (entry_at entries i).literal.name) ∙ is) in
     let same : found.0 ≡ opposite (entry_at entries i).literal =
     false_of_one_name slots (opposite (entry_at entries i).literal) found.0 (false_at_entry entries slots i t h) (wrong found.0 found.2) found.1 in
-    ap (λ (x : NameLit). has_literal x literals) (sym same) ∙ found.2
+    ap (λ (x : NameLit). has_name x literals) (sym same) ∙ found.2
 
 -- ---- an entry that isn't marked
 
@@ -82,13 +84,10 @@ passed clauses entries slots start i bound links marked literals t step within r
   reached = record {
     clause = r.reached.clause;
     lawful = r.reached.lawful;
-    left = λ l. r.reached.left l ∙ same (has_literal l literals) (nat_le (place_of slots l) bound) (nat_le (place_of slots l) i) (lower l) (higher l);
+    left = λ l. r.reached.left l ∙ same (has_name l literals) (nat_le (place_of slots l) bound) (nat_le (place_of slots l) i) (lower l) (higher l);
   };
 }
   where
-    wrong : (b : Bool) → b ≡ true → b ≡ false → ⊥
-    wrong b e f = cc
-
     same : (a b c : Bool) → (a ≡ true → b ≡ true → c ≡ true) → (c ≡ true → b ≡ true) → (a && b) ≡ (a && c)
     same false b c f g = refl
     same true true c f g = sym (f refl refl)
@@ -98,14 +97,14 @@ passed clauses entries slots start i bound links marked literals t step within r
     higher : (l : NameLit) → nat_le (place_of slots l) i ≡ true → nat_le (place_of slots l) bound ≡ true
     higher l e = let p = leb-true (place_of slots l) i e in le-leb (place_of slots l) bound (omega (arith, p, step))
 
-    lower : (l : NameLit) → has_literal l literals ≡ true → nat_le (place_of slots l) bound ≡ true → nat_le (place_of slots l) i ≡ true
+    lower : (l : NameLit) → has_name l literals ≡ true → nat_le (place_of slots l) bound ≡ true → nat_le (place_of slots l) i ≡ true
     lower l there e =
         let p = leb-true (place_of slots l) bound e in
         ⊎_elim
         (λ (q : place_of slots l ≡ i + 1).
-        let same_name : l.name ≡ (entry_at entries i).literal.name = sym (ap (λ (x : NameLit). x.name) (t.known l.name i q).1) in
-        absurd (wrong (get_or marked (entry_at entries i).literal.name false)
-        (r.marks (entry_at entries i).literal.name ∙ ap (λ (v : ℕ). has_name v literals) (sym same_name) ∙ has_name_of literals l there) absent))
+        let one_name : l.name ≡ (entry_at entries i).literal.name = sym (ap (λ (x : NameLit). x.name) (t.known l.name i q).1) in
+        absurd (both_ways (get_or marked (entry_at entries i).literal.name false) absent
+        (r.marks (entry_at entries i).literal.name ∙ ap (λ (v : ℕ). mentions v literals) (sym one_name) ∙ mentions_of literals l there)))
         (λ (q : place_of slots l ≡ i + 1 → ⊥). le-leb (place_of slots l) i (not_at p q))
         (cases_eq (place_of slots l) (i + 1))
       where
@@ -118,12 +117,9 @@ pub links_clause_push :
     (known : List PropClause) (c d e : PropClause) (links : List Link) (link : Link)
     → links_clause known c links ≡ Some d → link_clause known d link ≡ Some e → links_clause known c (links ++ link ∷ []) ≡ Some e
 links_clause_push known c d e [] link h k =
-    let cd : c ≡ d = same c d h in
+    let cd : c ≡ d = same_Some c d h in
     ap (λ (x : PropClause). option_and_then (λ (y : PropClause). Some y) (link_clause known x link)) cd
     ∙ ap (λ (o : Option PropClause). option_and_then (λ (y : PropClause). Some y) o) k
-  where
-    same : (x y : PropClause) → Some x ≡ Some y → x ≡ y
-    same x y f = cc
 links_clause_push known c d e (first ∷ links) link h k =
     option_and_then_some (λ (x : PropClause). links_clause known x links) (link_clause known c first) d h
     (λ x at rest.
@@ -135,7 +131,7 @@ pub resolved :
     (links : List Link) (marked marked' : List Bool) (literals literals' : PropClause)
     → IsSound clauses entries slots → bound ≡ i + 1 → bound ≤ length entries
     → IsResolving clauses slots start links marked literals bound
-    → IsTrue (has_literal (opposite (entry_at entries i).literal) literals)
+    → IsTrue (has_name (opposite (entry_at entries i).literal) literals)
     → IsImplied clauses slots i (entry_at entries i).literal reason
     → AreMarks marked' literals' → length marked' ≡ length marked
     → AddsOthers (clause_at clauses reason) (Some (entry_at entries i).literal) literals literals'
@@ -143,11 +139,11 @@ pub resolved :
 resolved clauses entries slots start i bound reason links marked marked' literals literals' sound step within r there implied marks names adds = record {
   marks = marks;
   names = names ∙ r.names;
-  false_literals = λ l h. ⊎_elim (λ (e : has_literal l literals ≡ true). r.false_literals l e)
-      (λ (e : (has_literal l d && is_other (Some t) l) ≡ true).
-      let parts = and_parts (has_literal l d) (is_other (Some t) l) e in
-      (and_parts (is_false slots l) (nat_le (place_of slots l) i) (implied.others l parts.0 (not_true (same_literal t l) parts.1))).0)
-      (or_cases (has_literal l literals) (has_literal l d && is_other (Some t) l) (sym (adds l) ∙ h));
+  false_literals = λ l h. ⊎_elim (λ (e : has_name l literals ≡ true). r.false_literals l e)
+      (λ (e : (has_name l d && is_other (Some t) l) ≡ true).
+      let parts = and_parts (has_name l d) (is_other (Some t) l) e in
+      (and_parts (is_false slots l) (nat_le (place_of slots l) i) (implied.others l parts.0 (not-true (same_name t l) parts.1))).0)
+      (or_cases (has_name l literals) (has_name l d && is_other (Some t) l) (sym (adds l) ∙ h));
   reached = record {
     clause = resolvent p r.reached.clause d;
     lawful = links_clause_push clauses (clause_at clauses start) r.reached.clause (resolvent p r.reached.clause d) links
@@ -169,73 +165,58 @@ resolved clauses entries slots start i bound reason links marked marked' literal
     in_trail : i < length entries
     in_trail = omega (arith, step, within)
 
-    not_true : (b : Bool) → not b ≡ true → b ≡ false
-    not_true true e = cc
-    not_true false e = refl
-
-    wrong : (b : Bool) → b ≡ true → b ≡ false → ⊥
-    wrong b e f = cc
-
     top : place_of slots p ≡ i + 1
     top = place_at_entry entries slots i sound.trail in_trail
 
     can : can_resolve p r.reached.clause d ≡ true
-    can = and_from (has_literal p r.reached.clause) (has_literal (opposite p) d)
-        (r.reached.left p ∙ and_from (has_literal p literals) (nat_le (place_of slots p) bound) there (le-leb (place_of slots p) bound (omega (arith, top, step))))
-        (ap (λ (x : NameLit). has_literal x d) (opposite-opposite t) ∙ implied.member)
+    can = and_from (has_name p r.reached.clause) (has_name (opposite p) d)
+        (r.reached.left p ∙ and_from (has_name p literals) (nat_le (place_of slots p) bound) there (le-leb (place_of slots p) bound (omega (arith, top, step))))
+        (ap (λ (x : NameLit). has_name x d) (opposite-opposite t) ∙ implied.member)
 
     -- below the bound but for the pivot is below the entry
-    lower : (l : NameLit) → has_literal l literals ≡ true → (nat_le (place_of slots l) bound && not (same_literal p l)) ≡ nat_le (place_of slots l) i
-    lower l h = same_tests (nat_le (place_of slots l) bound && not (same_literal p l)) (nat_le (place_of slots l) i) down up
+    lower : (l : NameLit) → has_name l literals ≡ true → (nat_le (place_of slots l) bound && not (same_name p l)) ≡ nat_le (place_of slots l) i
+    lower l h = same_tests (nat_le (place_of slots l) bound && not (same_name p l)) (nat_le (place_of slots l) i) down up
       where
-        down : (nat_le (place_of slots l) bound && not (same_literal p l)) ≡ true → nat_le (place_of slots l) i ≡ true
+        down : (nat_le (place_of slots l) bound && not (same_name p l)) ≡ true → nat_le (place_of slots l) i ≡ true
         down e =
-            let parts = and_parts (nat_le (place_of slots l) bound) (not (same_literal p l)) e in
+            let parts = and_parts (nat_le (place_of slots l) bound) (not (same_name p l)) e in
             let low = leb-true (place_of slots l) bound parts.0 in
             ⊎_elim
             (λ (q : i < place_of slots l).
             let same : l ≡ p = false_literal_at entries slots i l sound.trail in_trail (r.false_literals l h) (omega (arith, low, q, step)) in
-            absurd (wrong (same_literal p l) (ap (same_literal p) same ∙ same_literal-refl p) (not_true (same_literal p l) parts.1)))
+            absurd (both_ways (same_name p l) (not-true (same_name p l) parts.1) (ap (same_name p) same ∙ same_name-refl p)))
             (λ (q : place_of slots l ≤ i). le-leb (place_of slots l) i q)
             (cases_lt i (place_of slots l))
 
-        up : nat_le (place_of slots l) i ≡ true → (nat_le (place_of slots l) bound && not (same_literal p l)) ≡ true
+        up : nat_le (place_of slots l) i ≡ true → (nat_le (place_of slots l) bound && not (same_name p l)) ≡ true
         up e =
             let low = leb-true (place_of slots l) i e in
-            and_from (nat_le (place_of slots l) bound) (not (same_literal p l)) (le-leb (place_of slots l) bound (omega (arith, low, step)))
+            and_from (nat_le (place_of slots l) bound) (not (same_name p l)) (le-leb (place_of slots l) bound (omega (arith, low, step)))
             (⊎_elim
-            (λ (s : same_literal p l ≡ true).
-            let q : place_of slots p ≡ place_of slots l = ap (place_of slots) (same_literal-true p l s) in absurd (omega (arith, q, top, low)))
-            (λ (s : same_literal p l ≡ false). ap not s) (cases_Bool (same_literal p l)))
+            (λ (s : same_name p l ≡ true).
+            let q : place_of slots p ≡ place_of slots l = ap (place_of slots) (same_name-true p l s) in absurd (omega (arith, q, top, low)))
+            (λ (s : same_name p l ≡ false). ap not s) (cases_Bool (same_name p l)))
 
     -- the reason's other literals are below the entry
-    reason_low : (l : NameLit) → has_literal l d ≡ true → not (same_literal t l) ≡ true → nat_le (place_of slots l) i ≡ true
-    reason_low l h o = (and_parts (is_false slots l) (nat_le (place_of slots l) i) (implied.others l h (not_true (same_literal t l) o))).1
+    reason_low : (l : NameLit) → has_name l d ≡ true → not (same_name t l) ≡ true → nat_le (place_of slots l) i ≡ true
+    reason_low l h o = (and_parts (is_false slots l) (nat_le (place_of slots l) i) (implied.others l h (not-true (same_name t l) o))).1
 
     joined :
         (a b n h o c : Bool) → (a ≡ true → (b && n) ≡ c) → (h ≡ true → o ≡ true → c ≡ true)
         → (((a && b) && n) || (h && o)) ≡ ((a || (h && o)) && c)
     joined true b n true true c f g = ap (λ (x : Bool). x || true) (f refl) ∙ ap (λ (x : Bool). x || true) (g refl refl) ∙ sym (g refl refl)
-    joined true b n true false c f g = or_false (b && n) ∙ f refl
-      where
-        or_false : (x : Bool) → (x || false) ≡ x
-        or_false true = refl
-        or_false false = refl
-    joined true b n false o c f g = or_false (b && n) ∙ f refl
-      where
-        or_false : (x : Bool) → (x || false) ≡ x
-        or_false true = refl
-        or_false false = refl
+    joined true b n true false c f g = or-false (b && n) ∙ f refl
+    joined true b n false o c f g = or-false (b && n) ∙ f refl
     joined false b n true true c f g = sym (g refl refl)
     joined false b n true false c f g = refl
     joined false b n false o c f g = refl
 
-    left : (l : NameLit) → has_literal l (resolvent p r.reached.clause d) ≡ (has_literal l literals' && nat_le (place_of slots l) i)
+    left : (l : NameLit) → has_name l (resolvent p r.reached.clause d) ≡ (has_name l literals' && nat_le (place_of slots l) i)
     left l =
-        has_literal-resolvent p l r.reached.clause d
-        ∙ ap (λ (b : Bool). (b && not (same_literal p l)) || (has_literal l d && not (same_literal (opposite p) l))) (r.reached.left l)
-        ∙ ap (λ (x : NameLit). ((has_literal l literals && nat_le (place_of slots l) bound) && not (same_literal p l)) || (has_literal l d && not (same_literal x l))) (opposite-opposite t)
-        ∙ joined (has_literal l literals) (nat_le (place_of slots l) bound) (not (same_literal p l)) (has_literal l d) (not (same_literal t l)) (nat_le (place_of slots l) i)
+        has_name-resolvent p l r.reached.clause d
+        ∙ ap (λ (b : Bool). (b && not (same_name p l)) || (has_name l d && not (same_name (opposite p) l))) (r.reached.left l)
+        ∙ ap (λ (x : NameLit). ((has_name l literals && nat_le (place_of slots l) bound) && not (same_name p l)) || (has_name l d && not (same_name x l))) (opposite-opposite t)
+        ∙ joined (has_name l literals) (nat_le (place_of slots l) bound) (not (same_name p l)) (has_name l d) (not (same_name t l)) (nat_le (place_of slots l) i)
         (lower l) (reason_low l)
         ∙ ap (λ (b : Bool). b && nat_le (place_of slots l) i) (sym (adds l))
 
@@ -277,7 +258,7 @@ pub turned_entry :
 turned_entry clauses entries slots start bound links marked literals e turn t some within r read is turns = record {
   turns = subst (λ (x : Assigned). TurnsAt entries slots literals x bound turn) read turns;
   marked =
-      ap (λ (x : NameLit). has_literal x literals) (turns.literal ∙ ap (λ (x : Assigned). opposite x.literal) read)
+      ap (λ (x : NameLit). has_name x literals) (turns.literal ∙ ap (λ (x : Assigned). opposite x.literal) read)
       ∙ marked_at entries slots (bound - 1) marked literals t (omega (arith, some, within)) r.marks r.false_literals
       (ap (λ (x : Assigned). get_or marked x.literal.name false) (sym read) ∙ is);
 }
@@ -295,11 +276,7 @@ pub others_false :
     → IsImplied clauses slots i l reason → c ≡ clause_at clauses reason → OthersAreFalse slots c (Some l)
 others_false clauses slots i reason l c implied same k h o =
     (and_parts (is_false slots k) (nat_le (place_of slots k) i)
-    (implied.others k (ap (has_literal k) (sym same) ∙ h) (not_true (same_literal l k) o))).0
-  where
-    not_true : (b : Bool) → not b ≡ true → b ≡ false
-    not_true true e = cc
-    not_true false e = refl
+    (implied.others k (ap (has_name k) (sym same) ∙ h) (not-true (same_name l k) o))).0
 
 pub resolved_entry :
     (clauses : List PropClause) (entries : List Assigned) (slots : List Slot) (start bound reason : ℕ)
@@ -340,7 +317,7 @@ begun clauses entries slots start marked literals c t wrong marks names clause a
     clause = clause_at clauses start;
     lawful = refl;
     left = λ l. sym (same l)
-        ∙ kept (has_literal l literals) (nat_le (place_of slots l) (length entries))
+        ∙ kept (has_name l literals) (nat_le (place_of slots l) (length entries))
         (λ h. low l (place_of slots l) (wrong l (sym (same l) ∙ h)) refl);
   };
 }
@@ -349,12 +326,8 @@ begun clauses entries slots start marked literals c t wrong marks names clause a
     kept true b f = sym (f refl)
     kept false b f = refl
 
-    same : (l : NameLit) → has_literal l literals ≡ has_literal l (clause_at clauses start)
-    same l = adds l ∙ whole (has_literal l c) ∙ ap (has_literal l) clause
-      where
-        whole : (a : Bool) → (false || (a && true)) ≡ a
-        whole true = refl
-        whole false = refl
+    same : (l : NameLit) → has_name l literals ≡ has_name l (clause_at clauses start)
+    same l = adds l ∙ and-true (has_name l c) ∙ ap (has_name l) clause
 
     low : (l : NameLit) (p : ℕ) → IsTrue (is_false slots l) → place_of slots l ≡ p → nat_le (place_of slots l) (length entries) ≡ true
     low l zero f e = le-leb (place_of slots l) (length entries) (omega (arith, e))
@@ -365,7 +338,7 @@ pub nothing_left :
     (clauses : List PropClause) (slots : List Slot) (start bound : ℕ) (links : List Link) (marked : List Bool) (literals : PropClause)
     → bound ≡ 0 → (r : IsResolving clauses slots start links marked literals bound) → SameLiterals [] r.reached.clause
 nothing_left clauses slots start bound links marked literals none r l =
-    sym (r.reached.left l ∙ no_place (has_literal l literals) (nat_le (place_of slots l) bound) (λ h.
+    sym (r.reached.left l ∙ no_place (has_name l literals) (nat_le (place_of slots l) bound) (λ h.
     let p = false_has_place slots l (r.false_literals l h) in lt-leb (place_of slots l) bound (omega (arith, p, none))))
   where
     no_place : (a b : Bool) → (a ≡ true → b ≡ false) → (a && b) ≡ false
@@ -383,6 +356,6 @@ analysis_of_none clauses entries slots start bound links marked literals analysi
   made = r.reached.clause;
   starts = starts;
   lawful = ap (links_clause clauses (clause_at clauses start)) chain ∙ r.reached.lawful;
-  same = λ l. ap (has_literal l) empty ∙ nothing_left clauses slots start bound links marked literals zero_bound r l;
+  same = λ l. ap (has_name l) empty ∙ nothing_left clauses slots start bound links marked literals zero_bound r l;
   turn = subst (λ (o : Option Turn). MatchOption o (analysis.clause ≡ []) (IsTurn entries slots analysis.clause)) (sym turns) empty;
 }

@@ -6,8 +6,9 @@ use Rattle.std.specs.List.{list_any, list_all}
 use Rattle.std.proofs.lemmas.Bool.{cases_lt, or_cases, or_left, or_right, or_parts, and_parts, and_from, lt-ltb, ltb-true}
 use Rattle.std.proofs.lemmas.List.{get_or_push, get_or_past, get_or-map, length_push, length-map, take-append-le, take_all, append-nil}
 use Rattle.std.proofs.lemmas.List.Folds.{list_all_more}
-use Rattle.std.proofs.lemmas.Option.{slice_get-get_or}
+use Rattle.std.proofs.lemmas.Option.{slice_get-get_or, same_Some, none-some}
 use Rattle.plain_types.specs.declared.sequence.NameLit.{NameLit}
+use Rattle.plain_types.specs.Names.{has_name, same_name}
 use Rattle.sat_core.specs.declared.trail.Assigned.{Assigned}
 use Rattle.sat_core.specs.declared.trail.Slot.{Slot}
 use Rattle.sat_core.specs.declared.analysis.Turn.{Turn}
@@ -15,15 +16,15 @@ use Rattle.sat_core.specs.declared.analysis.Analysis.{Analysis}
 use Rattle.sat_core.specs.declared.solver.Solver.{Solver}
 use Rattle.sat_core.specs.declared.solver.Step.{Step}
 use Rattle.sat_core.specs.declared.solver.Step.TheVariants.{Going, Satisfied, Refuted}
-use Rattle.sat_core.specs.Clause.{PropClause, has_literal, same_literal, literal_true, clause_true, clauses_true, valuation_of, names_below}
+use Rattle.sat_core.specs.Clause.{PropClause, literal_true, clause_true, clauses_true, valuation_of, names_below}
 use Rattle.sat_core.specs.Resolution.{links_clause}
 use Rattle.sat_core.specs.Trail.{IsTrail, IsNewTrail, Cuts, slot_at, slot_of, place_of, has_place, is_true}
 use Rattle.sat_core.specs.State.{IsSound, IsImplied, SameLiterals, SameClauses, clause_at, Derives, AreDerived, AreNamed, AreFalse}
 use Rattle.sat_core.specs.Conflict.{IsTurn, IsAnalysis, AreWithin}
 use Rattle.sat_core.specs.Search.{HaveLists, HasNoTrue, AreAssigned, remaining, value_of, values_of}
 use Rattle.sat_core.specs.Solver.{IsState, Keeps, Advances, Steps}
-use Rattle.sat_core.proofs.LiteralLemmas.{same_literal-true}
-use Rattle.sat_core.proofs.AnalysisLemmas.{has_literal_more}
+use Rattle.sat_core.proofs.LiteralLemmas.{same_name-true}
+use Rattle.sat_core.proofs.AnalysisLemmas.{has_name_more}
 use Rattle.sat_core.proofs.SoundLemmas.{grown, pushed_sound, cut_sound, turn_named, turn_free, turn_implied}
 
 pub derives_of :
@@ -57,13 +58,13 @@ pub learned_within :
     (entries : List Assigned) (slots slots' : List Slot) (clause c : PropClause) (turn : Turn)
     → IsTurn entries slots clause turn → length slots' ≡ length slots → c ≡ clause → AreWithin (length slots') c
 learned_within entries slots slots' clause c turn is same at k h =
-    let w = turn_named entries slots clause turn is k (ap (has_literal k) (sym at) ∙ h) in omega (arith, w, same)
+    let w = turn_named entries slots clause turn is k (ap (has_name k) (sym at) ∙ h) in omega (arith, w, same)
 
 pub learned_lists :
     (entries : List Assigned) (slots : List Slot) (clause c : PropClause) (turn : Turn) (n : ℕ)
     → IsTurn entries slots clause turn → n ≡ 2 * length slots → c ≡ clause → HaveLists n c
 learned_lists entries slots clause c turn n is same at k h =
-    let w = turn_named entries slots clause turn is k (ap (has_literal k) (sym at) ∙ h) in omega (arith, w, same)
+    let w = turn_named entries slots clause turn is k (ap (has_name k) (sym at) ∙ h) in omega (arith, w, same)
 
 pub turn_sound :
     (clauses clauses' : List PropClause) (entries entries' entries'' : List Assigned) (slots slots' slots'' : List Slot) (clause : PropClause) (turn : Turn) (n : ℕ)
@@ -79,14 +80,11 @@ turn_sound clauses clauses' entries entries' entries'' slots slots' slots'' clau
     let after : IsSound clauses' entries' slots' = cut_sound clauses' entries entries' slots slots' turn.cut more_clauses low cuts in
     let within : n < length clauses' = let c = ap length learned ∙ length_push clauses clause in omega (arith, c, number) in
     let same : SameLiterals clause (clause_at clauses' n) =
-    λ l. sym (ap (λ (cs : List PropClause). has_literal l (clause_at cs n)) learned ∙ ap (has_literal l) (get_or_push clauses clause [] n (sym number))) in
+    λ l. sym (ap (λ (cs : List PropClause). has_name l (clause_at cs n)) learned ∙ ap (has_name l) (get_or_push clauses clause [] n (sym number))) in
     pushed_sound clauses' entries' entries'' slots' slots'' (record { literal = turn.literal; reason = Some n }) after
     (turn_free entries entries' slots slots' clause turn is cuts)
-    (λ reason because. subst (λ (m : ℕ). IsImplied clauses' slots' (length entries') turn.literal m) (same_number n reason because)
+    (λ reason because. subst (λ (m : ℕ). IsImplied clauses' slots' (length entries') turn.literal m) (same_Some n reason because)
     (turn_implied clauses' entries entries' slots slots' clause turn n is cuts within same)) t more written
-  where
-    same_number : (a b : ℕ) → Some a ≡ Some b → a ≡ b
-    same_number a b e = cc
 
 pub same_inputs :
     (clauses clauses' : List PropClause) (inputs inputs' : ℕ) (c : PropClause)
@@ -132,9 +130,9 @@ pub no_true_literal : (slots : List Slot) (c : PropClause) → list_any (is_true
 no_true_literal slots [] h k m = cc
 no_true_literal slots (l ∷ c) h k m =
     let parts = or_parts (is_true slots l) (list_any (is_true slots) c) h in
-    ⊎_elim (λ (e : same_literal k l ≡ true). ap (is_true slots) (same_literal-true k l e) ∙ parts.0)
-    (λ (e : has_literal k c ≡ true). no_true_literal slots c parts.1 k e)
-    (or_cases (same_literal k l) (has_literal k c) m)
+    ⊎_elim (λ (e : same_name k l ≡ true). ap (is_true slots) (same_name-true k l e) ∙ parts.0)
+    (λ (e : has_name k c ≡ true). no_true_literal slots c parts.1 k e)
+    (or_cases (same_name k l) (has_name k c) m)
 
 -- literals that have values and aren't true are false
 pub all_false_of : (slots : List Slot) (c : PropClause) → HasNoTrue slots c → AreAssigned slots c → AreFalse slots c
@@ -150,9 +148,9 @@ pub assigned_more :
     (slots : List Slot) (xs : PropClause) (i : ℕ) (x : NameLit)
     → i < length xs → x ≡ get_or xs i x → AreAssigned slots (take i xs) → 0 < place_of slots x → AreAssigned slots (take (i + 1) xs)
 assigned_more slots xs i x h e before at k there =
-    ⊎_elim (λ (f : has_literal k (take i xs) ≡ true). before k f)
-    (λ (f : same_literal k x ≡ true). let q : place_of slots k ≡ place_of slots x = ap (place_of slots) (same_literal-true k x f) in omega (arith, q, at))
-    (or_cases (has_literal k (take i xs)) (same_literal k x) (sym (has_literal_more xs i x k h e) ∙ there))
+    ⊎_elim (λ (f : has_name k (take i xs) ≡ true). before k f)
+    (λ (f : same_name k x ≡ true). let q : place_of slots k ≡ place_of slots x = ap (place_of slots) (same_name-true k x f) in omega (arith, q, at))
+    (or_cases (has_name k (take i xs)) (same_name k x) (sym (has_name_more xs i x k h e) ∙ there))
 
 -- ---- one step after another
 
@@ -193,12 +191,12 @@ all_named names [] h n l m = cc
 all_named names (c ∷ cs) h zero l m =
     below c (and_parts (list_all (λ (l : NameLit). nat_lt l.name names) c) (names_below names cs) h).0 m
   where
-    below : (c : PropClause) → list_all (λ (l : NameLit). nat_lt l.name names) c ≡ true → IsTrue (has_literal l c) → l.name < names
+    below : (c : PropClause) → list_all (λ (l : NameLit). nat_lt l.name names) c ≡ true → IsTrue (has_name l c) → l.name < names
     below [] e f = cc
     below (k ∷ ks) e f =
         let parts = and_parts (nat_lt k.name names) (list_all (λ (l : NameLit). nat_lt l.name names) ks) e in
-        ⊎_elim (λ (g : same_literal l k ≡ true). let q : l.name ≡ k.name = ap (λ (x : NameLit). x.name) (same_literal-true l k g) in let w = ltb-true k.name names parts.0 in omega (arith, q, w))
-        (λ (g : has_literal l ks ≡ true). below ks parts.1 g) (or_cases (same_literal l k) (has_literal l ks) f)
+        ⊎_elim (λ (g : same_name l k ≡ true). let q : l.name ≡ k.name = ap (λ (x : NameLit). x.name) (same_name-true l k g) in let w = ltb-true k.name names parts.0 in omega (arith, q, w))
+        (λ (g : has_name l ks ≡ true). below ks parts.1 g) (or_cases (same_name l k) (has_name l ks) f)
 all_named names (c ∷ cs) h (suc n) l m = all_named names cs (and_parts (list_all (λ (l : NameLit). nat_lt l.name names) c) (names_below names cs) h).1 n l m
 
 pub begun_derived : (clauses : List PropClause) → AreDerived (length clauses) clauses []
@@ -229,7 +227,4 @@ pub decided :
     → slots' ≡ set slots l.name (slot_of (length entries) (record { literal = l; reason = None }))
     → IsSound clauses entries' slots'
 decided clauses entries entries' slots slots' l sound free t more written =
-    pushed_sound clauses entries entries' slots slots' (record { literal = l; reason = None }) sound free (λ reason is. absurd (wrong reason is)) t more written
-  where
-    wrong : (n : ℕ) → None ≡ Some n → ⊥
-    wrong n e = cc
+    pushed_sound clauses entries entries' slots slots' (record { literal = l; reason = None }) sound free (λ reason is. absurd (none-some reason is)) t more written

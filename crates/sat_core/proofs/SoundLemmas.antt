@@ -6,15 +6,16 @@ use Rattle.std.proofs.lemmas.Bool.{cases_Bool, cases_lt, and_parts, le-leb, leb-
 use Rattle.std.proofs.lemmas.List.{get_or_append_left, get_or_push, get_or-take, get_or-set_other, get_or_past, length_push, length-set}
 use Rattle.std.proofs.lemmas.List.Sums.{count_by-le-length}
 use Rattle.plain_types.specs.declared.sequence.NameLit.{NameLit}
+use Rattle.plain_types.specs.Names.{same_name, has_name}
 use Rattle.sat_core.specs.declared.trail.Assigned.{Assigned}
 use Rattle.sat_core.specs.declared.trail.Slot.{Slot}
 use Rattle.sat_core.specs.declared.analysis.Turn.{Turn}
-use Rattle.sat_core.specs.Clause.{PropClause, same_literal, has_literal}
+use Rattle.sat_core.specs.Clause.{PropClause}
 use Rattle.sat_core.specs.Trail.{IsTrail, Cuts, entry_at, slot_at, slot_of, place_of, has_place, is_false, is_false_within, cut_slot}
 use Rattle.sat_core.specs.State.{IsSound, IsImplied, SameLiterals, clause_at}
 use Rattle.sat_core.specs.Conflict.{IsTurn}
 use Rattle.sat_core.specs.Search.{is_decision, remaining}
-use Rattle.sat_core.proofs.LiteralLemmas.{same_literal-true}
+use Rattle.sat_core.proofs.LiteralLemmas.{same_name-true}
 use Rattle.sat_core.proofs.TrailLemmas.{slot_within, cut_length}
 use Rattle.sat_core.proofs.ResolveLemmas.{false_has_place}
 use Rattle.sat_core.proofs.MeasureLemmas.{remaining_push, remaining_turn}
@@ -32,13 +33,13 @@ implied_grown clauses slots c i reason l implied =
     let same : clause_at (clauses ++ c ∷ []) reason ≡ clause_at clauses reason = get_or_append_left clauses (c ∷ []) [] reason implied.within in
     record {
       within = let w = implied.within in omega (arith, w, length_push clauses c);
-      member = ap (has_literal l) same ∙ implied.member;
-      others = λ k h o. implied.others k (sym (ap (has_literal k) same) ∙ h) o;
+      member = ap (has_name l) same ∙ implied.member;
+      others = λ k h o. implied.others k (sym (ap (has_name k) same) ∙ h) o;
     }
 
 pub grown :
     (clauses : List PropClause) (entries : List Assigned) (slots : List Slot) (c : PropClause)
-    → IsSound clauses entries slots → ((l : NameLit) → IsTrue (has_literal l c) → l.name < length slots)
+    → IsSound clauses entries slots → ((l : NameLit) → IsTrue (has_name l c) → l.name < length slots)
     → IsSound (clauses ++ c ∷ []) entries slots
 grown clauses entries slots c sound named = record {
   trail = sound.trail;
@@ -46,15 +47,15 @@ grown clauses entries slots c sound named = record {
   named = λ n l h. names n l h (cases_lt n (length clauses));
 }
   where
-    nothing : (l : NameLit) → IsTrue (has_literal l []) → l.name < length slots
+    nothing : (l : NameLit) → IsTrue (has_name l []) → l.name < length slots
     nothing l h = cc
 
-    past : (n : ℕ) (l : NameLit) → IsTrue (has_literal l (clause_at (clauses ++ c ∷ []) n)) → (length clauses ≡ n) ⊎ (length clauses < n) → l.name < length slots
-    past n l h (inl e) = named l (sym (ap (has_literal l) (get_or_push clauses c [] n e)) ∙ h)
-    past n l h (inr e) = nothing l (sym (ap (has_literal l) (get_or_past (clauses ++ c ∷ []) n [] (omega (arith, e, length_push clauses c)))) ∙ h)
+    past : (n : ℕ) (l : NameLit) → IsTrue (has_name l (clause_at (clauses ++ c ∷ []) n)) → (length clauses ≡ n) ⊎ (length clauses < n) → l.name < length slots
+    past n l h (inl e) = named l (sym (ap (has_name l) (get_or_push clauses c [] n e)) ∙ h)
+    past n l h (inr e) = nothing l (sym (ap (has_name l) (get_or_past (clauses ++ c ∷ []) n [] (omega (arith, e, length_push clauses c)))) ∙ h)
 
-    names : (n : ℕ) (l : NameLit) → IsTrue (has_literal l (clause_at (clauses ++ c ∷ []) n)) → (n < length clauses) ⊎ (length clauses ≤ n) → l.name < length slots
-    names n l h (inl e) = sound.named n l (sym (ap (has_literal l) (get_or_append_left clauses (c ∷ []) [] n e)) ∙ h)
+    names : (n : ℕ) (l : NameLit) → IsTrue (has_name l (clause_at (clauses ++ c ∷ []) n)) → (n < length clauses) ⊎ (length clauses ≤ n) → l.name < length slots
+    names n l h (inl e) = sound.named n l (sym (ap (has_name l) (get_or_append_left clauses (c ∷ []) [] n e)) ∙ h)
     names n l h (inr e) = past n l h (⊎_elim (λ (x : length clauses < n). inr x) (λ (x : n ≤ length clauses). inl (omega (arith, x, e))) (cases_lt (length clauses) n))
 
 -- ---- one more entry
@@ -144,9 +145,9 @@ cut_sound clauses entries entries' slots slots' cut sound within cuts = record {
       let was = sound.implied i reason (omega (arith, low, within)) (sym (ap (λ (x : Assigned). x.reason) at) ∙ is) in
       record {
         within = was.within;
-        member = ap (λ (x : Assigned). has_literal x.literal (clause_at clauses reason)) at ∙ was.member;
+        member = ap (λ (x : Assigned). has_name x.literal (clause_at clauses reason)) at ∙ was.member;
         others = λ k m o. cut_false slots slots' cut i k cuts.slots_left (omega arith)
-            (was.others k m (ap (λ (x : Assigned). same_literal x.literal k) (sym at) ∙ o));
+            (was.others k m (ap (λ (x : Assigned). same_name x.literal k) (sym at) ∙ o));
       };
   named = λ n l h. let w = sound.named n l h in omega (arith, w, cuts.same_length);
 }
@@ -156,16 +157,16 @@ cut_sound clauses entries entries' slots slots' cut sound within cuts = record {
 -- each name of the clause has a slot
 pub turn_named :
     (entries : List Assigned) (slots : List Slot) (clause : PropClause) (turn : Turn)
-    → IsTurn entries slots clause turn → (l : NameLit) → IsTrue (has_literal l clause) → l.name < length slots
+    → IsTurn entries slots clause turn → (l : NameLit) → IsTrue (has_name l clause) → l.name < length slots
 turn_named entries slots clause turn is l h =
     slot_within slots l.name
     (⊎_elim
-    (λ (e : same_literal turn.literal l ≡ true).
-    let q : place_of slots turn.literal ≡ place_of slots l = ap (place_of slots) (same_literal-true turn.literal l e) in
+    (λ (e : same_name turn.literal l ≡ true).
+    let q : place_of slots turn.literal ≡ place_of slots l = ap (place_of slots) (same_name-true turn.literal l e) in
     let p = is.later in omega (arith, p, q))
-    (λ (e : same_literal turn.literal l ≡ false).
+    (λ (e : same_name turn.literal l ≡ false).
     false_has_place slots l (and_parts (is_false slots l) (nat_le (place_of slots l) turn.cut) (is.others l h e)).0)
-    (cases_Bool (same_literal turn.literal l)))
+    (cases_Bool (same_name turn.literal l)))
 
 -- the turned literal has no value once the decision is taken back
 pub turn_free :

@@ -3,6 +3,7 @@ use Rattle.std.proofs.Common.{◌≡◌, ℕ, zero, suc, ◌+◌, ◌-◌, ◌<�
 use Rattle.std.specs.Prelude.{count_by, nat_le, nat_lt}
 use Rattle.std.proofs.lemmas.Bool.{cases_eq, cases_lt, lt-ltb, le-leb, lt-leb, cond-true, cond-false}
 use Rattle.std.proofs.lemmas.List.{get_or_append_left, get_or_push, get_or-set_same, get_or-set_other, get_or_past, length_push, length-set, length-take-le, take_at, take-take, get_or_default}
+use Rattle.std.proofs.Math.Seq.{take-length}
 use Rattle.std.proofs.lemmas.List.Sums.{sum_by-set}
 use Rattle.plain_types.specs.declared.sequence.NameLit.{NameLit}
 use Rattle.sat_core.specs.declared.trail.Assigned.{Assigned}
@@ -256,17 +257,13 @@ cut_again a b entries entries' entries'' slots slots' slots'' h first second = r
 pub cut_none : (entries : List Assigned) (slots : List Slot) → IsTrail entries slots → Cuts (length entries) entries slots entries slots
 cut_none entries slots t = record {
   trail = t;
-  entries_left = sym (whole entries);
+  entries_left = sym (take-length entries);
   slots_left = λ v. ap (λ (p : ℕ). record { place = p; positive = (slot_at slots v).positive })
       (sym (cond-true (nat_le (slot_at slots v).place (length entries)) (slot_at slots v).place 0
       (le-leb _ _ (low v (slot_at slots v).place refl))));
   same_length = refl;
 }
   where
-    whole : (xs : List Assigned) → take (length xs) xs ≡ xs
-    whole [] = refl
-    whole (x ∷ xs) = ap (λ (ys : List Assigned). x ∷ ys) (whole xs)
-
     low : (v p : ℕ) → (slot_at slots v).place ≡ p → (slot_at slots v).place ≤ length entries
     low v zero h = omega (arith, h)
     low v (suc i) h = let k = t.known v i (h ∙ omega arith) in omega (arith, h, k.0)

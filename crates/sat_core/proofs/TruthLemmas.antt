@@ -3,16 +3,17 @@ use Rattle.std.proofs.Common.{◌≡◌, ℕ, zero, suc, Bool, true, false, not,
 use mathlib.Core.Bool.{beq}
 use Rattle.std.specs.Prelude.{IsTrue, slice_get}
 use Rattle.std.specs.Option.{option_map}
-use Rattle.std.proofs.lemmas.Bool.{cases_Bool, or_left, or_right, and_parts, and_from, false_from_ne_true}
+use Rattle.std.proofs.lemmas.Bool.{cases_Bool, or_left, or_right, and_parts, and_from, false_from_ne_true, both_ways}
 use Rattle.std.proofs.lemmas.List.Folds.{list_any-append, list_all-append}
 use Rattle.std.proofs.lemmas.Option.{option_and_then_some, cond_some, same_Some}
 use Rattle.plain_types.specs.declared.sequence.NameLit.{NameLit}
+use Rattle.plain_types.specs.Names.{same_name, opposite, without, can_resolve, resolvent}
 use Rattle.sat_core.specs.declared.answer.Link.{Link}
 use Rattle.sat_core.specs.declared.answer.Chain.{Chain}
-use Rattle.sat_core.specs.Clause.{PropClause, Valuation, literal_true, clause_true, clauses_true, same_literal, opposite, valuation_of}
-use Rattle.sat_core.specs.Resolution.{without, can_resolve, resolvent, link_clause, links_clause, chain_clause, log_clauses, ends_empty}
+use Rattle.sat_core.specs.Clause.{PropClause, Valuation, literal_true, clause_true, clauses_true, valuation_of}
+use Rattle.sat_core.specs.Resolution.{link_clause, links_clause, chain_clause, log_clauses, ends_empty}
 use Rattle.sat_core.specs.Answer.{RightLogsRefute, AnswersExclude}
-use Rattle.sat_core.proofs.LiteralLemmas.{same_literal-true}
+use Rattle.sat_core.proofs.LiteralLemmas.{same_name-true}
 
 literal_true-opposite : (v : Valuation) (p : NameLit) → literal_true v (opposite p) ≡ not (literal_true v p)
 literal_true-opposite v p = turned (v p.name) p.positive
@@ -29,9 +30,9 @@ clause_true-without :
     → literal_true v p ≡ false → IsTrue (clause_true v c) → IsTrue (clause_true v (without p c))
 clause_true-without v p [] h t = t
 clause_true-without v p (l ∷ c) h t =
-    elim (cases_Bool (same_literal p l)) [
+    elim (cases_Bool (same_name p l)) [
       | inl e ↦ ap (λ b. clause_true v (cond (not b) (l ∷ without p c) (without p c))) e
-          ∙ clause_true-without v p c h (later (literal_true v l) (clause_true v c) t (sym (ap (literal_true v) (same_literal-true p l e)) ∙ h))
+          ∙ clause_true-without v p c h (later (literal_true v l) (clause_true v c) t (sym (ap (literal_true v) (same_name-true p l e)) ∙ h))
       | inr e ↦ ap (λ b. clause_true v (cond (not b) (l ∷ without p c) (without p c))) e
           ∙ either (literal_true v l) (clause_true v c) (clause_true v (without p c)) t (clause_true-without v p c h)
     ]
@@ -125,7 +126,4 @@ right_logs_refute clauses log right v =
 
 pub answers_exclude : AnswersExclude
 answers_exclude names clauses truths log model right =
-    wrong (clauses_true (valuation_of truths) clauses) model.makes_true (right_logs_refute clauses log right (valuation_of truths))
-  where
-    wrong : (b : Bool) → b ≡ true → b ≡ false → ⊥
-    wrong b e f = cc
+    both_ways (clauses_true (valuation_of truths) clauses) (right_logs_refute clauses log right (valuation_of truths)) model.makes_true

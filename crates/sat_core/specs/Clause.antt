@@ -1,4 +1,4 @@
--- Propositional clauses and their truth.
+-- Propositional clauses and their truth. Membership and resolution are those of signed names (`plain_types`).
 use mathlib.Core.Bool.{beq}
 use Rattle.std.specs.Prelude.{ℕ, Bool, false, not, ◌&&◌, ◌==◌, nat_lt, List, slice_index_or}
 use Rattle.std.specs.List.{list_any, list_all}
@@ -7,18 +7,6 @@ use Rattle.plain_types.specs.declared.sequence.NameLit.{NameLit}
 -- A disjunction of signed names. It is read as a set: neither order nor repetition counts.
 abbrev pub PropClause : Type 0
 PropClause = List NameLit
-
--- the same sign and the same name
-abbrev pub same_literal : NameLit → NameLit → Bool
-same_literal l k = beq l.positive k.positive && (l.name == k.name)
-
--- whether the literal stands in the clause
-abbrev pub has_literal : NameLit → PropClause → Bool
-has_literal l c = list_any (same_literal l) c
-
--- the name with the other sign
-abbrev pub opposite : NameLit → NameLit
-opposite l = record { positive = not l.positive; name = l.name }
 
 -- each name is below the bound
 abbrev pub is_below : ℕ → NameLit → Bool

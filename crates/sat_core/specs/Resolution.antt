@@ -1,21 +1,10 @@
--- Resolution of propositional clauses (Robinson 1965), and logs of resolutions.
+-- Logs of resolutions of propositional clauses (Robinson 1965).
 use Rattle.std.specs.Prelude.{Bool, true, false, not, ◌&&◌, List, [], ◌∷◌, ◌++◌, filter, Option, None, Some, slice_get, option_and_then, if◌then◌else◌}
 use Rattle.std.specs.Option.{option_map}
-use Rattle.plain_types.specs.declared.sequence.NameLit.{NameLit}
+use Rattle.plain_types.specs.Names.{can_resolve, resolvent}
 use Rattle.sat_core.specs.declared.answer.Link.{Link}
 use Rattle.sat_core.specs.declared.answer.Chain.{Chain}
-use Rattle.sat_core.specs.Clause.{PropClause, same_literal, has_literal, opposite}
-
-abbrev pub without : NameLit → PropClause → PropClause
-without l c = filter (λ k. not (same_literal l k)) c
-
--- the pivot stands in the first clause, and its opposite in the second
-abbrev pub can_resolve : NameLit → PropClause → PropClause → Bool
-can_resolve pivot c d = has_literal pivot c && has_literal (opposite pivot) d
-
--- the first clause without the pivot, together with the second without its opposite
-abbrev pub resolvent : NameLit → PropClause → PropClause → PropClause
-resolvent pivot c d = without pivot c ++ without (opposite pivot) d
+use Rattle.sat_core.specs.Clause.{PropClause}
 
 -- what a link makes of the clause that stands before it; None where it is no resolution
 abbrev pub link_clause : List PropClause → PropClause → Link → Option PropClause

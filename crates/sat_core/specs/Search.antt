@@ -3,9 +3,10 @@ use Rattle.std.specs.Prelude.{◌≡◌, ℕ, zero, suc, ◌+◌, ◌*◌, ◌^�
 use Rattle.sat_core.specs.declared.trail.Assigned.{Assigned}
 use Rattle.sat_core.specs.declared.trail.Slot.{Slot}
 use Rattle.plain_types.specs.declared.sequence.NameLit.{NameLit}
+use Rattle.plain_types.specs.Names.{same_name, has_name}
 use Rattle.sat_core.specs.declared.watches.Visit.{Visit}
 use Rattle.sat_core.specs.declared.watches.Visit.TheVariants.{Kept, Moved, Implied, False}
-use Rattle.sat_core.specs.Clause.{PropClause, same_literal, has_literal}
+use Rattle.sat_core.specs.Clause.{PropClause}
 use Rattle.sat_core.specs.Trail.{has_place, place_of, is_true, is_false}
 use Rattle.sat_core.specs.State.{IsSound, AreFalse, clause_at}
 
@@ -41,36 +42,36 @@ values_of slots = map value_of slots
 
 -- the clause's literals but for one are false
 abbrev pub OthersFalse : List Slot → PropClause → NameLit → Type 0
-OthersFalse slots c l = (k : NameLit) → IsTrue (has_literal k c) → IsFalse (same_literal l k) → IsTrue (is_false slots k)
+OthersFalse slots c l = (k : NameLit) → IsTrue (has_name k c) → IsFalse (same_name l k) → IsTrue (is_false slots k)
 
 -- there are two lists for each name of the clause
 abbrev pub HaveLists : ℕ → PropClause → Type 0
-HaveLists count c = (k : NameLit) → IsTrue (has_literal k c) → 2 * k.name + 2 ≤ count
+HaveLists count c = (k : NameLit) → IsTrue (has_name k c) → 2 * k.name + 2 ≤ count
 
 -- a literal without a value, the only one of the clause that isn't false
 pub record IsUnit (slots : List Slot) (c : PropClause) (l : NameLit) : Type 0 where
-  pub member : IsTrue (has_literal l c)
+  pub member : IsTrue (has_name l c)
   pub free : place_of slots l ≡ 0
   pub others : OthersFalse slots c l
 
 -- what the visit of a clause has found
 abbrev pub IsFound : List Slot → PropClause → Visit → Type 0
 IsFound slots c Kept = Unit {0}
-IsFound slots c (Moved index literal) = (index < length c) × IsTrue (has_literal literal c)
+IsFound slots c (Moved index literal) = (index < length c) × IsTrue (has_name literal c)
 IsFound slots c (Implied literal) = IsUnit slots c literal
 IsFound slots c False = AreFalse slots c
 
 -- and of a clause by its number
 abbrev pub IsFoundAt : List PropClause → List Slot → ℕ → Visit → Type 0
 IsFoundAt clauses slots n Kept = Unit {0}
-IsFoundAt clauses slots n (Moved index literal) = IsTrue (has_literal literal (clause_at clauses n))
+IsFoundAt clauses slots n (Moved index literal) = IsTrue (has_name literal (clause_at clauses n))
 IsFoundAt clauses slots n (Implied literal) = (n < length clauses) × IsUnit slots (clause_at clauses n) literal
 IsFoundAt clauses slots n False = IsConflict clauses slots n
 
 -- none of the clause's literals is true
 abbrev pub HasNoTrue : List Slot → PropClause → Type 0
-HasNoTrue slots c = (k : NameLit) → IsTrue (has_literal k c) → IsFalse (is_true slots k)
+HasNoTrue slots c = (k : NameLit) → IsTrue (has_name k c) → IsFalse (is_true slots k)
 
 -- each of them has a value
 abbrev pub AreAssigned : List Slot → PropClause → Type 0
-AreAssigned slots c = (k : NameLit) → IsTrue (has_literal k c) → 0 < place_of slots k
+AreAssigned slots c = (k : NameLit) → IsTrue (has_name k c) → 0 < place_of slots k

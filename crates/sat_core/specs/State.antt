@@ -2,10 +2,11 @@
 use Rattle.std.specs.Prelude.{◌≡◌, ℕ, ◌<◌, ◌≤◌, Bool, false, ◌==◌, List, [], ◌++◌, length, take, Some, slice_index_or, IsTrue, IsFalse}
 use Rattle.std.specs.List.{list_any}
 use Rattle.plain_types.specs.declared.sequence.NameLit.{NameLit}
+use Rattle.plain_types.specs.Names.{same_name, has_name}
 use Rattle.sat_core.specs.declared.answer.Chain.{Chain}
 use Rattle.sat_core.specs.declared.trail.Assigned.{Assigned}
 use Rattle.sat_core.specs.declared.trail.Slot.{Slot}
-use Rattle.sat_core.specs.Clause.{PropClause, same_literal, has_literal}
+use Rattle.sat_core.specs.Clause.{PropClause}
 use Rattle.sat_core.specs.Resolution.{chain_clause, log_clauses}
 use Rattle.sat_core.specs.Trail.{IsTrail, entry_at, is_false, is_false_within}
 
@@ -15,7 +16,7 @@ clause_at clauses n = slice_index_or clauses n []
 
 -- one set of literals
 abbrev pub SameLiterals : PropClause → PropClause → Type 0
-SameLiterals c d = (l : NameLit) → has_literal l c ≡ has_literal l d
+SameLiterals c d = (l : NameLit) → has_name l c ≡ has_name l d
 
 pub record SameClauses (cs ds : List PropClause) : Type 0 where
   pub same_count : length cs ≡ length ds
@@ -38,16 +39,16 @@ pub record Derives (clauses : List PropClause) (chain : Chain) (clause : PropCla
 
 -- each name is below the bound
 abbrev pub AreNamed : ℕ → List PropClause → Type 0
-AreNamed names clauses = (n : ℕ) (l : NameLit) → IsTrue (has_literal l (clause_at clauses n)) → l.name < names
+AreNamed names clauses = (n : ℕ) (l : NameLit) → IsTrue (has_name l (clause_at clauses n)) → l.name < names
 
 -- ---- the trail
 
 -- the literal stands in the clause, and the clause's other literals are false within the first so many entries
 pub record IsImplied (clauses : List PropClause) (slots : List Slot) (count : ℕ) (l : NameLit) (reason : ℕ) : Type 0 where
   pub within : reason < length clauses
-  pub member : IsTrue (has_literal l (clause_at clauses reason))
+  pub member : IsTrue (has_name l (clause_at clauses reason))
   pub others :
-      (k : NameLit) → IsTrue (has_literal k (clause_at clauses reason)) → IsFalse (same_literal l k)
+      (k : NameLit) → IsTrue (has_name k (clause_at clauses reason)) → IsFalse (same_name l k)
       → IsTrue (is_false_within slots count k)
 
 -- each entry that is no decision is implied by what stands before it
@@ -63,18 +64,19 @@ pub record IsSound (clauses : List PropClause) (entries : List Assigned) (slots 
 
 -- each literal of the clause is false
 abbrev pub AreFalse : List Slot → PropClause → Type 0
-AreFalse slots c = (l : NameLit) → IsTrue (has_literal l c) → IsTrue (is_false slots l)
+AreFalse slots c = (l : NameLit) → IsTrue (has_name l c) → IsTrue (is_false slots l)
 
 -- ---- marks
 
-abbrev pub has_name : ℕ → PropClause → Bool
-has_name v c = list_any (λ (l : NameLit). l.name == v) c
+-- a literal of the clause has this name, with either sign
+abbrev pub mentions : ℕ → PropClause → Bool
+mentions v c = list_any (λ (l : NameLit). l.name == v) c
 
 -- each marked name is that of a literal
 pub record AreCovered (marked : List Bool) (literals : PropClause) : Type 0 where
-  pub covered : (v : ℕ) → IsTrue (slice_index_or marked v false) → IsTrue (has_name v literals)
-  pub within : (l : NameLit) → IsTrue (has_literal l literals) → l.name < length marked
+  pub covered : (v : ℕ) → IsTrue (slice_index_or marked v false) → IsTrue (mentions v literals)
+  pub within : (l : NameLit) → IsTrue (has_name l literals) → l.name < length marked
 
 -- the marked names are those of the literals
 abbrev pub AreMarks : List Bool → PropClause → Type 0
-AreMarks marked literals = (v : ℕ) → slice_index_or marked v false ≡ has_name v literals
+AreMarks marked literals = (v : ℕ) → slice_index_or marked v false ≡ mentions v literals

@@ -3,7 +3,7 @@
 
 ghost use Rattle.std.specs.Prelude.{◌≡◌, ℕ, ◌-◌, ◌<◌, ◌≤◌, length, None, IfOk, IfSome, IfNone, IsSome, IsTrue};
 ghost use Rattle.plain_types.specs.declared.sequence.NameLit.{NameLit as Literal};
-ghost use Rattle.sat_core.specs.Clause.{has_literal};
+ghost use Rattle.plain_types.specs.Names.{has_name};
 ghost use Rattle.sat_core.specs.Trail.{IsTrail, entry_at, place_of};
 ghost use Rattle.sat_core.specs.State.{IsSound, AreMarks, AreCovered, AreFalse, clause_at};
 ghost use Rattle.sat_core.specs.Conflict.{AddsOthers, OthersAreFalse, AreWithin, IsAnalysis, IsResolving, TurnsAt, IsTurnOf};
@@ -77,7 +77,7 @@ fn highest_place(trail: &Trail, literals: &[NameLit], bound: usize) -> usize
     requires within { AreWithin (length trail.now.slots.items) literals.now }
     requires some { 0 < bound }
     ensures below { result < bound }
-    ensures highest { (l : Literal) → IsTrue (has_literal l literals.now) → place_of trail.now.slots.items l < bound
+    ensures highest { (l : Literal) → IsTrue (has_name l literals.now) → place_of trail.now.slots.items l < bound
         → place_of trail.now.slots.items l ≤ result }
 {
     let mut highest = 0;

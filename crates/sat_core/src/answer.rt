@@ -50,21 +50,11 @@ pub enum Answer {
 pub fn names_are_below(clauses: &PropClauses, bound: u32) -> bool
     ensures { result ≡ names_below bound clauses.now }
 {
-    for clause in clauses.as_slice() {
-        if !is_clause_below(clause.as_slice(), bound) {
-            return false;
-        }
-    }
-    true
+    clauses.iter().all(|clause| is_clause_below(clause, bound))
 }
 
-fn is_clause_below(clause: &[NameLit], bound: u32) -> bool
+fn is_clause_below(clause: &Names, bound: u32) -> bool
     ensures { result ≡ list_all (is_below bound) clause.now }
 {
-    for literal in clause {
-        if literal.name >= bound {
-            return false;
-        }
-    }
-    true
+    clause.iter().all(|literal| literal.name < bound)
 }

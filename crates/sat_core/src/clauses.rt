@@ -26,7 +26,7 @@ impl Clauses {
     {
         let mut all = Vec::with_capacity(alloc, inputs.len())?;
         for clause in inputs.as_slice() {
-            all.push(Names::from_slice(alloc, clause.as_slice())?)?;
+            all.push(clause.copy(alloc)?)?;
         }
         Ok(Clauses {
             inputs: inputs.len(),

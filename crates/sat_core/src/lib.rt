@@ -14,7 +14,6 @@ mod trail;
 mod watches;
 
 pub use answer::{Answer, Chain, Link, Links, Log, PropClauses, Truths, names_are_below};
-pub use plain_types::{Mem, NameLit, Names, NoMemory, Sequence};
 pub use solver::solve;
 
 pub mod laws;

@@ -1,7 +1,7 @@
 // Literals of names.
 
 ghost use Rattle.std.specs.Prelude.{◌≡◌, ◌+◌, ◌*◌, ◌<◌, if◌then◌else◌};
-ghost use Rattle.sat_core.specs.Clause.{same_literal, opposite};
+ghost use Rattle.plain_types.specs.Names.{opposite};
 ghost use Rattle.sat_core.specs.Conflict.{is_other};
 
 use plain_types::NameLit;
@@ -16,19 +16,12 @@ pub fn opposite(literal: NameLit) -> NameLit
     }
 }
 
-/// Whether the two are equal.
-pub fn same_literal(left: NameLit, right: NameLit) -> bool
-    ensures { result ≡ same_literal left right }
-{
-    left.positive == right.positive && left.name == right.name
-}
-
 /// Whether the literal isn't the one that a clause implies.
 pub fn is_other(implied: Option<NameLit>, literal: NameLit) -> bool
     ensures { result ≡ is_other implied literal }
 {
     match implied {
-        Some(implied) => !same_literal(implied, literal),
+        Some(implied) => implied != literal,
         None => true,
     }
 }

@@ -3,11 +3,10 @@
 ghost use Rattle.std.specs.Prelude.{◌≡◌, ℕ, ◌<◌, [], ◌∷◌, ◌++◌, length, replicate, false, slice_index_or, slice_set, IfOk, IsTrue};
 ghost use Rattle.std.specs.List.{list_all};
 ghost use Rattle.plain_types.specs.declared.sequence.NameLit.{NameLit as Literal};
-ghost use Rattle.sat_core.specs.Clause.{has_literal};
+ghost use Rattle.plain_types.specs.Names.{has_name};
 ghost use Rattle.sat_core.specs.State.{AreMarks, AreCovered, SameLiterals};
 ghost use Rattle.sat_core.specs.Conflict.{AreWithin, is_covered};
 
-use crate::literals::same_literal;
 use plain_types::{Mem, NameLit};
 use std::alloc::Global;
 
@@ -46,7 +45,7 @@ impl Marks {
     pub fn mark(&mut self, literal: NameLit) -> Mem<()>
         requires marks { AreMarks self.old.marked.items self.old.literals.items }
         requires named { literal.name < length self.old.marked.items }
-        requires one_sign { (k : Literal) → IsTrue (has_literal k self.old.literals.items) → k.name ≡ literal.name → k ≡ literal }
+        requires one_sign { (k : Literal) → IsTrue (has_name k self.old.literals.items) → k.name ≡ literal.name → k ≡ literal }
         ensures marks { IfOk result (λ _. AreMarks self.new.marked.items self.new.literals.items) }
         ensures literals { IfOk result (λ _. SameLiterals self.new.literals.items (literal ∷ self.old.literals.items)) }
         ensures names { IfOk result (λ _. length self.new.marked.items ≡ length self.old.marked.items) }
@@ -92,6 +91,6 @@ impl Marks {
         requires { literal.name < length self.now.marked.items }
         ensures { result ≡ is_covered self.now.marked.items implied literal }
     {
-        same_literal(implied, literal) || self.is_marked(literal)
+        implied == literal || self.is_marked(literal)
     }
 }

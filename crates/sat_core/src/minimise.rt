@@ -3,7 +3,7 @@
 
 ghost use Rattle.std.specs.Prelude.{◌≡◌, ◌+◌, ◌-◌, ◌<◌, ◌≤◌, false, ◌&&◌, length, slice_index_or, IfOk, IsTrue};
 ghost use Rattle.plain_types.specs.declared.sequence.NameLit.{NameLit as Literal};
-ghost use Rattle.sat_core.specs.Clause.{has_literal};
+ghost use Rattle.plain_types.specs.Names.{has_name};
 ghost use Rattle.sat_core.specs.Trail.{entry_at};
 ghost use Rattle.sat_core.specs.State.{IsSound};
 ghost use Rattle.sat_core.specs.Conflict.{AreWithin, IsResolving, IsReduced, is_left};
@@ -30,8 +30,8 @@ fn is_left(trail: &Trail, marks: &Marks, literal: NameLit, bound: usize) -> bool
 pub fn marked_within(alloc: Global, trail: &Trail, marks: &Marks, bound: usize) -> Mem<Names>
     requires within { AreWithin (length trail.now.slots.items) marks.now.literals.items }
     requires names { length marks.now.marked.items ≡ length trail.now.slots.items }
-    ensures { IfOk result (λ kept. (l : Literal) → has_literal l kept
-        ≡ (has_literal l marks.now.literals.items && is_left trail.now.slots.items marks.now.marked.items bound l)) }
+    ensures { IfOk result (λ kept. (l : Literal) → has_name l kept
+        ≡ (has_name l marks.now.literals.items && is_left trail.now.slots.items marks.now.marked.items bound l)) }
 {
     let mut kept = Vec::new(alloc);
     for literal in &marks.literals {

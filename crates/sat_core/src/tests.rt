@@ -3,6 +3,7 @@
 ghost use Rattle.std.specs.Prelude.{◌<◌, ◌≤◌};
 
 use crate::*;
+use plain_types::{Mem, NameLit, Names};
 use std::alloc::Global;
 use std::process::Abort;
 
@@ -99,7 +100,6 @@ fn is_true(truths: &[bool], clause: &[NameLit]) -> bool {
 fn is_right_model(clauses: &PropClauses, names: u32, truths: &Truths) -> bool {
     truths.len() == names as usize
         && clauses
-            .as_slice()
             .iter()
             .all(|clause| is_true(truths.as_slice(), clause.as_slice()))
 }
@@ -393,9 +393,8 @@ fn random_clauses(alloc: Global, seed: u64, names: u32, count: u32) -> Mem<PropC
 
 /// Whether the values that the bits of a number give make every clause true.
 fn is_model(bits: u32, clauses: &PropClauses) -> bool {
-    clauses.as_slice().iter().all(|clause| {
+    clauses.iter().all(|clause| {
         clause
-            .as_slice()
             .iter()
             .any(|l| ((bits >> (l.name % 32)) & 1 == 1) == l.positive)
     })

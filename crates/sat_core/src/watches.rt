@@ -3,7 +3,7 @@
 // from the clause itself, whose other literals are all looked at before.
 
 ghost use Rattle.std.specs.Prelude.{◌≡◌, ℕ, ◌+◌, ◌*◌, ◌<◌, ◌≤◌, not, ◌&&◌, length, IfOk, IfSome, IfNone, IsTrue};
-ghost use Rattle.sat_core.specs.Clause.{same_literal};
+ghost use Rattle.plain_types.specs.Names.{same_name};
 ghost use Rattle.sat_core.specs.Trail.{IsTrail, is_false};
 ghost use Rattle.sat_core.specs.State.{IsSound, clause_at};
 ghost use Rattle.sat_core.specs.Conflict.{AreWithin};
@@ -11,7 +11,7 @@ ghost use Rattle.sat_core.specs.Search.{OthersFalse, HaveLists, IsFound, IsFound
 
 use crate::clauses::Clauses;
 use crate::forgetting::is_kept;
-use crate::literals::{code, opposite, same_literal};
+use crate::literals::{code, opposite};
 use crate::trail::{Assigned, Trail};
 use plain_types::{Mem, NameLit};
 use std::alloc::Global;
@@ -39,9 +39,9 @@ pub struct Pair {
 /// Whether a literal isn't false, and isn't another one.
 fn is_open(trail: &Trail, other: NameLit, literal: NameLit) -> bool
     requires { literal.name < length trail.now.slots.items }
-    ensures { result ≡ (not (same_literal other literal) && not (is_false trail.now.slots.items literal)) }
+    ensures { result ≡ (not (same_name other literal) && not (is_false trail.now.slots.items literal)) }
 {
-    !same_literal(other, literal) && !trail.is_false(literal)
+    other != literal && !trail.is_false(literal)
 }
 
 /// The index of a literal that isn't false, another one left out.
@@ -143,7 +143,7 @@ impl Watches {
         if first >= literals.len() || second >= literals.len() {
             return Visit::Kept;
         }
-        let watched = if same_literal(literals[first], falsified) {
+        let watched = if literals[first] == falsified {
             second
         } else {
             first
@@ -338,7 +338,7 @@ fn different_literal(literals: &[NameLit]) -> Option<usize>
 {
     let first = *literals.first()?;
     for (index, literal) in literals.iter().enumerate() {
-        if !same_literal(first, *literal) {
+        if first != *literal {
             return Some(index);
         }
     }
@@ -359,7 +359,7 @@ fn learned_pair(trail: &Trail, literals: &[NameLit], implied: NameLit) -> Pair
     };
     let mut highest = 0;
     for (index, literal) in literals.iter().enumerate() {
-        if same_literal(implied, *literal) {
+        if implied == *literal {
             pair.first = index;
         } else if trail.place(*literal) > highest {
             highest = trail.place(*literal);

@@ -16,7 +16,7 @@ use Rattle.turn_lock.specs.declared.view.View.{View}
 use Rattle.turn_lock.specs.History.{AddsOwnKeys, OwnsKeys, AreBelow, added_places}
 use Rattle.turn_lock.specs.Rule.{IsLive, IsKnown, IsHome, IsHeldBy, Turns}
 use Rattle.turn_lock.specs.Steps.{first_view, holding, raised, released, planning, kept_part, given_part, joined, spent_view, Seizes, Raises, Releases, Plans, Looks}
-use Rattle.turn_lock.proofs.Lists.{prefix_itself, prefix_trans, prefix_length, set_there, same_at, single, contains_none, distinct_append, range_distinct, longer_prefix, both_lists, added_bounds, others_keys, own_keys, own_keys_none, both_keys, shares_set, shares_snoc, shares_two}
+use Rattle.turn_lock.proofs.Lists.{prefix_itself, prefix_trans, prefix_length, set_there, same_at, single, contains_none, distinct_none, distinct_append, range_distinct, longer_prefix, both_lists, added_bounds, others_keys, own_keys, own_keys_none, both_keys, shares_set, shares_snoc, shares_two}
 
 -- of two seats before a join that are one, the seats after it are one
 same_seat : (id other i j a b : ℕ) → (a ≡ i) ⊎ ((a ≡ other) × (i ≡ id)) → (b ≡ j) ⊎ ((b ≡ other) × (j ≡ id)) → i ≢ other → j ≢ other → a ≡ b → i ≡ j
@@ -336,7 +336,7 @@ module _ {S E O : Type 0} (history_of : S → List E) (origin_of : S → O) (key
   given_known : (id gate holder : ℕ) (v : V) (first : O) (log : List E) → 0 < v.planned → Live log first v → (j : ℕ) → Knows gate holder log first j (given_part v)
   given_known id gate holder v first log plenty l j = record {
     holds = λ h e. absurd (none-some h e);
-    live = λ _. record { begins = l.begins; shorter = l.shorter; below = λ n has. absurd (contains_none n has); keys = own_keys_none key_of log; once = tt; origin = l.origin };
+    live = λ _. record { begins = l.begins; shorter = l.shorter; below = λ n has. absurd (contains_none n has); keys = own_keys_none key_of log; once = distinct_none; origin = l.origin };
     spent = λ _. refl;
   }
 
@@ -443,7 +443,7 @@ module _ {S E O : Type 0} (history_of : S → List E) (origin_of : S → O) (key
     closed = λ shut. absurd (shut refl);
     each = λ j w e. subst (Knows 0 0 log first j) (only_one v j w e) record {
       holds = λ h t. absurd (none-some h t);
-      live = λ _. record { begins = prefix_itself log; shorter = (log, refl); below = λ k has. absurd (contains_none k has); keys = own_keys_none key_of log; once = tt; origin = refl };
+      live = λ _. record { begins = prefix_itself log; shorter = (log, refl); below = λ k has. absurd (contains_none k has); keys = own_keys_none key_of log; once = distinct_none; origin = refl };
       spent = λ _. refl;
     };
     apart = λ i j k v' w' e f has also. absurd (contains_none k (subst (λ (z : V). Contains z.own k) (sym (only_one v i v' e)) has));

@@ -1,12 +1,13 @@
 -- Lemmas on lists: beginnings, entries at places, lists of places, shares.
-use Rattle.std.proofs.Common.{◌≡◌, ◌≢◌, ℕ, zero, suc, ◌+◌, ◌-◌, ◌<◌, ◌≤◌, cond, leb, Bool, true, false, List, [], ◌∷◌, ◌++◌, length, get_or, drop, set, slice_get, Option, Some, None, IsSome, unwrap_or, sym, refl, ap, ◌∙◌, subst, inl, inr, ⊎_elim, arith, append_assoc, length-append, le-leb, true≢false}
+use Rattle.std.proofs.Common.{◌≡◌, ◌≢◌, ℕ, zero, suc, ◌+◌, ◌-◌, ◌<◌, ◌≤◌, cond, leb, Bool, true, false, List, [], ◌∷◌, ◌++◌, length, get_or, drop, set, slice_get, Option, Some, None, IsSome, unwrap_or, sym, refl, ap, ◌∙◌, subst, ⊎_elim, arith, append_assoc, length-append, le-leb, true≢false}
 use Rattle.std.specs.List.{Contains, range_with_len}
-use Rattle.std.proofs.lemmas.List.Elements.{Contains-append_left, Contains-append_right, Contains-append_cases}
-use Rattle.std.proofs.lemmas.Option.{slice_get_within, same_Some, none-some}
+use Rattle.std.proofs.lemmas.List.{append-nil, get_or_append_left, get_or-append-add}
+use Rattle.std.proofs.lemmas.List.Elements.{All-append, Contains-append_left, Contains-append_right, Contains-append_cases, Contains-get_or}
+use Rattle.std.proofs.lemmas.List.FromFn.{length-range_with_len, get_or-range_with_len}
+use Rattle.std.proofs.lemmas.List.Kept.{AllPairs-cons}
+use Rattle.std.proofs.lemmas.Option.{slice_get_within, none-some}
 use Rattle.std.proofs.lemmas.Bool.{cases_lt, lt-leb}
 use mathlib.Core.Option.{some, some-injective, some-ne-none}
-use mathlib.Core.Logic.{dite}
-use native.Mathlib.Decide.{ℕ_discrete}
 use mathlib.Core.List.{IsPrefix}
 use lib.ListN.{get_elem?}
 use Rattle.turn_lock.specs.declared.view.View.{View}
@@ -15,8 +16,7 @@ use Rattle.turn_lock.specs.Rule.{IsDistinct, all_shares}
 
 module _ {A : Type 0} where
   pub prefix_itself : (l : List A) → IsPrefix l l
-  prefix_itself [] = ([], refl)
-  prefix_itself (x ∷ xs) = let r = prefix_itself xs in (r.0, ap (λ m. x ∷ m) r.1)
+  prefix_itself l = ([], append-nil l)
 
   pub prefix_trans : (a b c : List A) → IsPrefix a b → IsPrefix b c → IsPrefix a c
   prefix_trans a b c p q = (p.0 ++ q.0, sym (append_assoc a p.0 q.0) ∙ ap (λ m. m ++ q.0) p.1 ∙ q.1)
@@ -70,36 +70,37 @@ pub one_place : (a k : ℕ) → Contains (a ∷ []) k → a ≡ k
 one_place a k c = let first : c.0 ≡ 0 = omega (arith, c.1) in ap (λ (n : ℕ). get_or (a ∷ []) n k) (sym first) ∙ c.2
 
 pub range_bounds : (a n k : ℕ) → Contains (range_with_len a n) k → (a ≤ k) × (k < a + n)
-range_bounds a zero k c = absurd (contains_none k c)
-range_bounds a (suc n) k c = ⊎_elim
-    (λ (h : Contains (a ∷ []) k). let e = one_place a k h in (omega (arith, e), omega (arith, e)))
-    (λ (h : Contains (range_with_len (a + 1) n) k). let r = range_bounds (a + 1) n k h in (omega (arith, r.0), omega (arith, r.1)))
-    (Contains-append_cases (a ∷ []) (range_with_len (a + 1) n) k c)
+range_bounds a n k c =
+    let long = length-range_with_len a n in
+    let at = get_or-range_with_len a n c.0 k (omega (arith, c.1, long)) in
+    (omega (arith, at, c.2), omega (arith, at, c.1, c.2, long))
 
 pub range_has : (a n k : ℕ) → a ≤ k → k < a + n → Contains (range_with_len a n) k
-range_has a zero k le lt = absurd (omega arith)
-range_has a (suc n) k le lt = dite (ℕ_discrete a k)
-    (λ e. (0, omega arith, e))
-    (λ ne. Contains-append_right (a ∷ []) (range_with_len (a + 1) n) k (range_has (a + 1) n k (omega arith) (omega arith)))
+range_has a n k le lt =
+    let long = length-range_with_len a n in
+    (k - a, omega (arith, long), get_or-range_with_len a n (k - a) k (omega arith) ∙ omega arith)
 
 pub range_distinct : (a n : ℕ) → IsDistinct (range_with_len a n)
-range_distinct a zero = tt
-range_distinct a (suc n) = ((λ c. let r = range_bounds (a + 1) n a c in omega (arith, r.0)), range_distinct (a + 1) n)
+range_distinct a n i j d less within same =
+    let long = length-range_with_len a n in
+    let first = get_or-range_with_len a n i d (omega (arith, long)) in
+    let second = get_or-range_with_len a n j d (omega (arith, long)) in
+    omega (arith, first, second, same)
+
+pub distinct_none : IsDistinct []
+distinct_none i j d less within = absurd (omega arith)
 
 pub distinct_append : (xs ys : List ℕ) → IsDistinct xs → IsDistinct ys → ((k : ℕ) → Contains xs k → Contains ys k → ⊥) → IsDistinct (xs ++ ys)
 distinct_append [] ys p q apart = q
-distinct_append (x ∷ xs) ys p q apart = (
-  (λ c. ⊎_elim p.0 (apart x (0, omega arith, refl)) (Contains-append_cases xs ys x c)),
-  distinct_append xs ys p.1 q (λ k c. apart k (Contains-append_right (x ∷ []) xs k c)),
-)
+distinct_append (x ∷ xs) ys p q apart = AllPairs-cons (λ i j. i ≢ j) x (xs ++ ys)
+    (All-append (λ k. x ≢ k) xs ys (λ k d lt. p 0 (suc k) d (omega arith) (omega arith))
+    (λ k d lt same. apart x (0, omega arith, refl) (subst (Contains ys) (sym same) (Contains-get_or ys k d lt))))
+    (distinct_append xs ys (λ i j d less within. p (suc i) (suc j) d (omega arith) (omega arith)) q (λ k c. apart k (Contains-append_right (x ∷ []) xs k c)))
 
 -- a list with each place once has two parts that are apart
 pub distinct_parts : (xs ys : List ℕ) → IsDistinct (xs ++ ys) → (k : ℕ) → Contains xs k → Contains ys k → ⊥
-distinct_parts [] ys d k c e = contains_none k c
-distinct_parts (x ∷ xs) ys d k c e = ⊎_elim
-    (λ (h : Contains (x ∷ []) k). d.0 (Contains-append_right xs ys x (subst (Contains ys) (sym (one_place x k h)) e)))
-    (λ (h : Contains xs k). distinct_parts xs ys d.1 k h e)
-    (Contains-append_cases (x ∷ []) xs k c)
+distinct_parts xs ys once k c e = once c.0 (length xs + e.0) k (omega (arith, c.1)) (omega (arith, e.1, length-append xs ys))
+    (get_or_append_left xs ys k c.0 c.1 ∙ c.2 ∙ sym (get_or-append-add xs ys e.0 k ∙ e.2))
 
 module _ {E : Type 0} where
   pub longer_prefix : (a b c : List E) → IsPrefix a c → IsPrefix b c → IsPrefix (longer a b) c
@@ -181,42 +182,3 @@ module _ {E O : Type 0} where
 pub some_held : {A : Type 0} (o : Option (List A)) → IsSome o → o ≡ Some (unwrap_or o [])
 some_held None h = absurd (true≢false (sym h))
 some_held (Some x) h = refl
-
--- Worked rows
-row_longer : longer {E = ℕ} (1 ∷ 2 ∷ []) (1 ∷ 2 ∷ 3 ∷ []) ≡ 1 ∷ 2 ∷ 3 ∷ []
-row_longer = refl
-
-row_equally_long : longer {E = ℕ} (1 ∷ []) (2 ∷ []) ≡ 1 ∷ []
-row_equally_long = refl
-
-row_added : added_places {E = ℕ} (7 ∷ 8 ∷ []) (7 ∷ 8 ∷ 9 ∷ 9 ∷ []) ≡ 2 ∷ 3 ∷ []
-row_added = refl
-
-row_none_added : added_places {E = ℕ} (7 ∷ 8 ∷ []) (7 ∷ 8 ∷ []) ≡ []
-row_none_added = refl
-
--- entries are their own keys: whoever owns the first 5 owns the other 5 too
-row_not_owned : OwnsKeys (λ n. n) (5 ∷ 6 ∷ 5 ∷ []) (0 ∷ []) → ⊥
-row_not_owned owns = let place = owns 0 2 5 5 (0, omega arith, refl) refl refl refl in omega (arith, one_place 0 2 place)
-
-row_own_keys : AddsOwnKeys (λ n. n) (5 ∷ 6 ∷ []) (0 ∷ []) (5 ∷ 6 ∷ 5 ∷ 7 ∷ [])
-row_own_keys zero b l is = absurd (omega arith)
-row_own_keys (suc zero) b l is = absurd (omega arith)
-row_own_keys (suc (suc zero)) b l is = inr (0, 5, (0, omega arith, refl), refl, same_Some 5 b is)
-row_own_keys (suc (suc (suc zero))) b l is = inl (λ i a at same. new i a at (same ∙ sym (same_Some 7 b is)))
-  where
-    new : (i a : ℕ) → slice_get (5 ∷ 6 ∷ []) i ≡ Some a → a ≡ 7 → ⊥
-    new zero a at same = let n = same_Some 5 a at in omega (arith, n, same)
-    new (suc zero) a at same = let n = same_Some 6 a at in omega (arith, n, same)
-    new (suc (suc i)) a at same = none-some a at
-row_own_keys (suc (suc (suc (suc j)))) b l is = absurd (none-some b is)
-
--- 6 is another's key
-row_not_own_keys : AddsOwnKeys (λ n. n) (5 ∷ 6 ∷ []) (0 ∷ []) (5 ∷ 6 ∷ 6 ∷ []) → ⊥
-row_not_own_keys adds = ⊎_elim
-    (λ fresh. fresh 1 6 refl refl)
-    (λ owned. owner owned.0 owned.1 (one_place 0 owned.0 owned.2) owned.3 owned.4)
-    (adds 2 6 (omega arith) refl)
-  where
-    owner : (i a : ℕ) → 0 ≡ i → slice_get (5 ∷ 6 ∷ []) i ≡ Some a → a ≡ 6 → ⊥
-    owner i a e at same = let n = same_Some 5 a (subst (λ (k : ℕ). slice_get (5 ∷ 6 ∷ []) k ≡ Some a) (sym e) at) in omega (arith, n, same)

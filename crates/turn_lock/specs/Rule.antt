@@ -1,7 +1,7 @@
 -- The rule of a lock: what holds between any two atomic steps, whichever passes take them.
 -- Word 0 is the gate, 0 while it is open. Word 1 is the length of the counted history. The one slot has the state, and is out with the pass that closed the gate.
 use Rattle.std.specs.Prelude.{◌≡◌, ◌≢◌, ℕ, ◌+◌, ◌<◌, List, [], ◌∷◌, Option, Some, length}
-use Rattle.std.specs.List.{Contains}
+use Rattle.std.specs.List.{AllPairs, Contains}
 use mathlib.Core.Option.{Option as Opt, some}
 use mathlib.Core.List.{IsPrefix}
 use lib.ListN.{get_elem?}
@@ -11,8 +11,7 @@ use Rattle.turn_lock.specs.History.{OwnsKeys, AreBelow}
 
 -- no place stands twice in the list
 abbrev pub IsDistinct : List ℕ → Type 0
-IsDistinct [] = Unit {0}
-IsDistinct (x ∷ xs) = (Contains xs x → ⊥) × IsDistinct xs
+IsDistinct places = AllPairs (λ p q. p ≢ q) places
 
 -- the shares of all views together
 abbrev pub all_shares : {E O : Type 0} → List (View E O) → ℕ

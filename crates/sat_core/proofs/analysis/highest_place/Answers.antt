@@ -1,11 +1,11 @@
 use Rattle.std.proofs.Common.{arith, get_or}
 use Rattle.std.proofs.lemmas.List.{get_or_default}
-use Rattle.sat_core.proofs.AnalysisLemmas.{no_literal, has_literal_read, highest_more}
+use Rattle.sat_core.proofs.AnalysisLemmas.{no_literal, has_name_read, highest_more}
 use Rattle.sat_core.proofs.analysis.highest_place.Goals as goal
 use Rattle.sat_core.proofs.analysis.highest_place.Goals.{then-highest-place+then-place-bound, else-highest-place, else-highest-place-via-then-highest-place+else-place-bound, else-highest-place-via-else-highest-place}
 
 pub place-place-requires : goal.place-place-requires
-place-place-requires c = c.requires.within _ (has_literal_read c.args.literals.now c.loop-literal.literal-index _ (omega arith) (get_or_default c.args.literals.now _ _ _ (omega arith)))
+place-place-requires c = c.requires.within _ (has_name_read c.args.literals.now c.loop-literal.literal-index _ (omega arith) (get_or_default c.args.literals.now _ _ _ (omega arith)))
 
 pub loop-literal-preserved : goal.loop-literal-preserved
 loop-literal-preserved c =

@@ -1,5 +1,5 @@
-use Rattle.std.proofs.Common.{rules, ◌≡◌, ◌≢◌, ℕ, ◌<◌, ◌≤◌, Bool, true, List, [], ◌∷◌, ◌++◌, length, refl, sym, ap, ◌∙◌, subst, arith}
-use Rattle.std.specs.Bool.{OnTrue}
+use Rattle.std.proofs.Common.{rules, ◌≡◌, ◌≢◌, ℕ, ◌<◌, ◌≤◌, List, [], ◌∷◌, ◌++◌, length, refl, sym, ap, ◌∙◌, subst, arith}
+use Rattle.std.proofs.lemmas.Bool.{OnTrue_at}
 use Rattle.std.specs.List.{Contains}
 use mathlib.Core.Logic.{dite}
 use native.Mathlib.Decide.{ℕ_discrete}
@@ -31,15 +31,12 @@ own_places left right own p q n is_left is_right is apart below two =
     let differ : p ≢ q = λ e. apart p (subst (λ (l : List ℕ). Contains l p) (sym is_left) (0, omega arith, refl)) (subst (λ (l : List ℕ). Contains l p) (sym is_right) (0, omega arith, sym e)) in
     subst (λ (l : List ℕ). Contains l 0 × Contains l 1) (sym all) (two_places p q differ (omega (arith, a, two)) (omega (arith, b, two)))
 
-on_true : {P : Type 0} (b : Bool) → b ≡ true → OnTrue b P → P
-on_true {P} b e h = subst (λ (t : Bool). OnTrue t P) e h
-
 pub returns-then-len-eq2-clause-own : goal.returns-then-len-eq2-clause-own
 returns-then-len-eq2-clause-own g c =
     let K = Known Note ℕ in
     let none_yet : c.in_ok-lock.pass.own ≡ [] = search rules in
-    let left : (p : ℕ) × (c.leave_note-left.result.0.own ≡ c.split_pass-left.result.0.own ++ p ∷ []) = on_true c.leave_note-left.result.1 c.if-first.true c.leave_note-left.ensures.own in
-    let right : (p : ℕ) × (c.leave_note-right.result.0.own ≡ c.split_pass-left.result.1.own ++ p ∷ []) = on_true c.leave_note-right.result.1 c.if-second.true c.leave_note-right.ensures.own in
+    let left : (p : ℕ) × (c.leave_note-left.result.0.own ≡ c.split_pass-left.result.0.own ++ p ∷ []) = OnTrue_at c.if-first.true c.leave_note-left.ensures.own in
+    let right : (p : ℕ) × (c.leave_note-right.result.0.own ≡ c.split_pass-left.result.1.own ++ p ∷ []) = OnTrue_at c.if-second.true c.leave_note-right.ensures.own in
     let kept : c.split_pass-left.result.0.own ≡ [] = ap (λ (k : K). k.own) c.split_pass-left.ensures.first ∙ none_yet in
     let given : c.split_pass-left.result.1.own ≡ [] = ap (λ (k : K). k.own) c.split_pass-left.ensures.second in
     let le = prefix_length c.join_pass-joined.result.seen c.close-notes.result.notes.items c.close-notes.ensures.seen in
