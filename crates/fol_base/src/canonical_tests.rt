@@ -1,6 +1,7 @@
 // The canonical forms of clauses.
 
 use super::*;
+use plain_types::{Mem, Names};
 use std::alloc::Global;
 use std::test::Fail;
 
