@@ -11,7 +11,7 @@ use Rattle.std.proofs.lemmas.Option.{slice_get_past}
 use Rattle.std.proofs.lemmas.List.{length-map, append_assoc}
 use Rattle.kernel_steps.proofs.KernelLemmas.{slice_get-item, IfOk-change}
 use Rattle.ground_reader.specs.declared.problem.GroundSymbol.{GroundSymbol}
-use Rattle.ground_text.specs.Names.{name_text}
+use Rattle.tptp_token.specs.Words.{name_text}
 use Rattle.ground_text.specs.Terms.{name_at, symbol_names, symbol_text}
 
 -- an item of a slice, and none past its end

@@ -13,7 +13,8 @@ use Rattle.kernel_steps.specs.Derivation.{is_input_of}
 use Rattle.ground_reader.specs.declared.problem.GroundRole.{GroundRole}
 use Rattle.ground_reader.specs.Syntax.{role_word}
 use Rattle.ground_reader.specs.declared.problem.GroundProblem.{GroundProblem}
-use Rattle.ground_text.specs.Names.{name_text, shown}
+use Rattle.ground_text.specs.Names.{shown}
+use Rattle.tptp_token.specs.Words.{name_text}
 use Rattle.ground_text.specs.Terms.{SymbolNames, name_at, symbol_names, term_text, literals_text}
 
 -- what a derivation is printed over: its file, the formulas of its problem by name, role and clause, and the names of the symbols

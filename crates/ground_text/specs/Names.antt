@@ -1,15 +1,6 @@
--- How names are printed, and the names that a report shows of a file.
+-- The names that a report shows of a file.
 use Rattle.std.specs.Prelude.{ℕ, Bool, false, ◌&&◌, ◌||◌, ◌==◌, nat_le, List, [], ◌∷◌, ◌++◌, map, flat_map, take, length, ◌-◌, nat_eq, if◌then◌else◌, codes}
 use Rattle.std.specs.List.{ends_with}
-use Rattle.fol_base.specs.Spelling.{is_lower_word}
-
--- between quotes, a quote and a backslash stand behind a backslash
-abbrev pub escaped_byte : ℕ → List ℕ
-escaped_byte b = if b == 39 || b == 92 then (92 ∷ b ∷ []) else (b ∷ [])
-
--- bare where it is a lower word, else quoted
-abbrev pub name_text : List ℕ → List ℕ
-name_text name = if is_lower_word name then name else (39 ∷ flat_map escaped_byte name) ++ 39 ∷ []
 
 -- a byte outside 32 to 126 is shown as a question mark
 abbrev pub shown_byte : ℕ → ℕ

@@ -4,7 +4,7 @@ use Rattle.std.specs.Fmt.{decimal}
 use Rattle.fol_base.specs.Tree.{Tree, variable, application, Trees, no_trees, tree_then, tree_eq, true_tree}
 use Rattle.fol_base.specs.Clause.{TreeLiteral}
 use Rattle.ground_reader.specs.declared.problem.GroundSymbol.{GroundSymbol}
-use Rattle.ground_text.specs.Names.{name_text}
+use Rattle.tptp_token.specs.Words.{name_text}
 
 -- the names of the symbols by number, of which 0 is `$true`
 abbrev pub SymbolNames : Type 0

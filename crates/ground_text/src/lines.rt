@@ -4,7 +4,7 @@ ghost use Rattle.std.specs.Prelude.{◌≡◌, ◌≤◌, ◌<◌, ◌^◌, ◌+
 ghost use Rattle.std.specs.Fmt.{decimal};
 ghost use Rattle.fol_base.specs.Term.{tree_of};
 ghost use Rattle.fol_base.specs.Literal.{literal_of, clause_of};
-ghost use Rattle.ground_text.specs.Names.{name_text};
+ghost use Rattle.tptp_token.specs.Words.{name_text};
 ghost use Rattle.ground_text.specs.Terms.{name_at, symbol_names, term_text, literals_text};
 ghost use Rattle.kernel_steps.specs.Derivation.{is_input_of};
 ghost use Rattle.ground_text.specs.Lines.{source_of, IsPara, line_text_of, role_at, literals_at, line_name, side_text, bracketed, more_listed, bind_text, chosen_text, formula_head, formula_tail, input_text, from_text, into_text, two_literals_text, clause_head, clause_text, para_text, one_parent_text, two_parents_text, clausify_text, spots_text, binds_text, refl_text, merge_text, bound_parent_text, step_text, line_text, lines_text_from, lines_text, input_line};

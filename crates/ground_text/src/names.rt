@@ -2,8 +2,9 @@
 
 ghost use Rattle.std.specs.Prelude.{◌≡◌, ◌++◌, flat_map, IfOk};
 ghost use Rattle.std.specs.List.{list_all};
-ghost use Rattle.fol_base.specs.Spelling.{is_lower_word as lower_word, is_lower as small, is_word_byte as letter_or_digit};
-ghost use Rattle.ground_text.specs.Names.{escaped_byte, name_text, shown_byte as shown_as, shown, problem_name, after_last_slash as behind_slash, without_suffix as before_suffix};
+ghost use Rattle.tptp_token.specs.Spelling.{is_lower_word as lower_word, is_lower as small, is_word_byte as letter_or_digit};
+ghost use Rattle.ground_text.specs.Names.{shown_byte as shown_as, shown, problem_name, after_last_slash as behind_slash, without_suffix as before_suffix};
+ghost use Rattle.tptp_token.specs.Words.{escaped_byte, name_text};
 
 use crate::page::Page;
 use plain_types::Mem;

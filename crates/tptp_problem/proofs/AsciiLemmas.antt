@@ -5,13 +5,12 @@ use Rattle.std.specs.List.{AllByRecursion, list_all}
 use Rattle.std.specs.Str.{IsAscii}
 use Rattle.std.proofs.lemmas.Bool.{and_parts}
 use Rattle.std.proofs.lemmas.Bool.Decides.{nat_tests}
-use Rattle.fol_base.specs.Spelling.{is_lower, is_word_byte, is_printable, is_end, is_lower_word, is_quoted_rest, is_quoted_word, spells}
-use Rattle.tptp_token.specs.Kinds.{spelled_kind}
-use Rattle.tptp_token.specs.Lexemes.{Lexeme, lexeme_at}
+use Rattle.tptp_token.specs.Spelling.{is_lower, is_word_byte, is_printable, is_end, is_lower_word, is_quoted_rest, is_quoted_word, spells}
+use Rattle.tptp_token.specs.Lexemes.{Lexeme, lexeme_at, word_lexeme}
 use Rattle.tptp_token.specs.Lexing.{lexed_of}
 use Rattle.tptp_token.specs.declared.token.Token.{Token}
 use Rattle.tptp_token.proofs.LexemeLemmas.{tokens-spelled}
-use Rattle.tptp_tree.specs.Spelling.{Word, bare, quoted, word_lexeme, name_of, unescaped}
+use Rattle.tptp_token.specs.Words.{Word, bare, quoted, name_of, unescaped}
 
 abbrev AreSmall : List ℕ → Type 0
 AreSmall = AllByRecursion (λ b. b < 128)
@@ -69,15 +68,15 @@ quoted-small : (bs : List ℕ) → is_quoted_word bs ≡ true → AreSmall (unes
 quoted-small [] h = tt
 quoted-small (b ∷ bs) h = unescaped-small false bs (and_parts (is_quoted_rest 39 false bs) _ (and_parts (b == 39) _ h).1).0
 
-word-ascii : (w : Word) → spells (spelled_kind (word_lexeme w).kind) (word_lexeme w).bytes ≡ true → IsAscii (name_of w)
+word-ascii : (w : Word) → spells (word_lexeme w).kind (word_lexeme w).bytes ≡ true → IsAscii (name_of w)
 word-ascii (bare bytes) h = small-ascii bytes (lower-word-small bytes h)
 word-ascii (quoted bytes) h = small-ascii (unescaped false (drop 1 bytes)) (quoted-small bytes h)
 
 abbrev AreSpelled : List Lexeme → Type 0
-AreSpelled = AllByRecursion (λ (l : Lexeme). spells (spelled_kind l.kind) l.bytes ≡ true)
+AreSpelled = AllByRecursion (λ (l : Lexeme). spells l.kind l.bytes ≡ true)
 
 all-spelled :
-    (bytes : List ℕ) (ts : List Token) → AllByRecursion (λ (t : Token). spells (spelled_kind t.kind) (lexeme_at bytes t).bytes ≡ true) ts
+    (bytes : List ℕ) (ts : List Token) → AllByRecursion (λ (t : Token). spells t.kind (lexeme_at bytes t).bytes ≡ true) ts
     → AreSpelled (map (lexeme_at bytes) ts)
 all-spelled bytes [] h = tt
 all-spelled bytes (t ∷ ts) h = (h.0, all-spelled bytes ts h.1)

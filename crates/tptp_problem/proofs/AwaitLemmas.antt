@@ -5,16 +5,14 @@ use Rattle.std.specs.List.{list_all}
 use Rattle.std.proofs.Math.Seq.{drop-drop}
 use Rattle.std.proofs.lemmas.Bool.{and_parts}
 use Rattle.std.proofs.lemmas.List.{take_at, drop_at}
-use Rattle.tptp_token.specs.Lexemes.{Lexeme}
+use Rattle.tptp_token.specs.Lexemes.{Lexeme, lexeme, word_lexeme, is_lexeme, is_mark}
 use Rattle.tptp_token.specs.declared.token.Kind.{Kind}
 use Rattle.tptp_token.specs.declared.token.Kind.TheVariants.{Lower, Quoted, Number, Mark}
-use Rattle.tptp_tree.specs.Spelling.{Word, bare, quoted, lexeme, word_lexeme}
-use Rattle.tptp_tree.specs.Brackets.{is_lexeme, is_mark}
+use Rattle.tptp_token.specs.Words.{Word, bare, quoted, is_name, is_word}
 use Rattle.tptp_tree.specs.Entries.{NamePhrase, word_name, digits_name, name_lexeme, is_right_name, is_right_entry, more_names_lexemes, include_end, entry_lexemes}
 use Rattle.tptp_reader.proofs.TokenTests.{lexeme-same, mark-same}
-use Rattle.tptp_problem.specs.Formulas.{is_name}
 use Rattle.tptp_problem.specs.Includes.{include_phrase, IsInclude, HasNoInclude, BeginsInclude, StopsInclude, CutsInclude}
-use Rattle.tptp_problem.specs.Awaiting.{is_word, when, after, is_nothing, ended, ending_from}
+use Rattle.tptp_problem.specs.Awaiting.{when, after, is_nothing, ended, ending_from}
 use Rattle.tptp_problem.specs.declared.include.Awaited.{Awaited}
 use Rattle.tptp_problem.specs.declared.include.Awaited.TheVariants.{Keyword, Open, File, AfterFile, OpenList, Name, AfterName, Close, Stop, Nothing}
 use Rattle.tptp_problem.specs.declared.include.Ending.TheVariants.{Whole, Stopped, Cut}

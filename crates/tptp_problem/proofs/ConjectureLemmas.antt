@@ -6,16 +6,16 @@ use Rattle.std.proofs.lemmas.Bool.{and_parts}
 use Rattle.std.proofs.lemmas.List.Sums.{sum_by-cons}
 use Rattle.std.proofs.lemmas.Slice.Eq.{bytes_eq-Decides}
 use Rattle.outside.specs.Library.{Holdings}
-use Rattle.tptp_token.specs.Lexemes.{Lexeme}
+use Rattle.tptp_token.specs.Lexemes.{Lexeme, lexeme}
 use Rattle.tptp_token.specs.declared.token.Kind.TheVariants.{Lower, Mark}
-use Rattle.tptp_tree.specs.declared.problem.Role.{Role}
-use Rattle.tptp_tree.specs.declared.problem.Role.TheVariants.{Axiom, Hypothesis, Definition, Assumption, Lemma, Theorem, Corollary, NegatedConjecture, Plain, Conjecture}
+use Rattle.tptp_tree.specs.declared.role.Role.{Role}
+use Rattle.tptp_tree.specs.declared.role.Role.TheVariants.{Axiom, Hypothesis, Definition, Assumption, Lemma, Theorem, Corollary, NegatedConjecture, Plain, Conjecture}
 use Rattle.tptp_tree.specs.Brackets.{are_balanced}
-use Rattle.tptp_tree.specs.Spelling.{bare, quoted, lexeme}
-use Rattle.tptp_tree.specs.Entries.{NamePhrase, word_name, digits_name, name_lexeme, name_meant, is_right_name, role_word, role_among, role_of, clause_roles, formula_roles, is_clause_body, body_lexemes, notes_lexemes, names_meant, language_word}
+use Rattle.tptp_token.specs.Words.{bare, quoted, is_name, token_name}
+use Rattle.tptp_tree.specs.Entries.{NamePhrase, word_name, digits_name, name_lexeme, name_meant, is_right_name, role_word, role_among, role_of, clause_roles, formula_roles, is_clause_body, body_lexemes, notes_lexemes, names_meant, language_word, is_conjecture}
 use Rattle.tptp_reader.specs.Annotating.{IsReading}
 use Rattle.tptp_reader.specs.declared.entry.Read.{Read}
-use Rattle.tptp_problem.specs.Formulas.{Placed, placed_in, selects, selected, is_conjecture, counts, is_name, token_name, conjecture_begun, begun_counts}
+use Rattle.tptp_problem.specs.Formulas.{Placed, placed_in, selects, selected, counts, conjecture_begun, begun_counts}
 use Rattle.tptp_problem.specs.Files.{base_of}
 use Rattle.tptp_problem.specs.Includes.{is_include}
 use Rattle.tptp_problem.specs.Problem.{LoadedFile, Progress, Step, Reads, tokens_of, lexemes, with_file, is_second, IsStepBy, IsIncludeStep, IsFormulaStep, AreSteps, progress_behind, formulas_along, ReadsNamed, IsProblem}

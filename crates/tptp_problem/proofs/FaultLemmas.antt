@@ -4,12 +4,12 @@ use Rattle.std.specs.Prelude.{slice_get}
 use Rattle.std.proofs.Math.Seq.{drop-drop}
 use Rattle.std.proofs.lemmas.List.{length-map, map-append}
 use Rattle.std.specs.Str.{IsAscii}
-use Rattle.tptp_token.specs.Lexemes.{Lexeme, lexeme_at}
+use Rattle.tptp_token.specs.Lexemes.{Lexeme, lexeme_at, lexeme, word_lexeme}
 use Rattle.tptp_token.specs.Lexing.{lexed_of}
 use Rattle.tptp_token.specs.declared.token.Lexed.{Lexed}
 use Rattle.tptp_token.specs.declared.token.Kind.TheVariants.{Lower, Mark}
-use Rattle.tptp_tree.specs.Spelling.{lexeme, word_lexeme, name_of}
-use Rattle.tptp_tree.specs.Entries.{NamePhrase, names_meant}
+use Rattle.tptp_token.specs.Words.{name_of}
+use Rattle.tptp_tree.specs.Entries.{NamePhrase, names_meant, is_conjecture}
 use Rattle.tptp_reader.specs.Annotating.{IsReading, IsFaultAt}
 use Rattle.tptp_tree.specs.declared.problem.Annotated.{Annotated}
 use Rattle.tptp_reader.specs.Shape.{tree_of}
@@ -23,7 +23,7 @@ use Rattle.tptp_problem.specs.declared.include.Awaited.TheVariants.{Keyword}
 use Rattle.tptp_problem.specs.declared.include.Ending.TheVariants.{Whole, Stopped, Cut}
 use Rattle.tptp_problem.specs.declared.source.Source.{Source}
 use Rattle.tptp_problem.specs.Awaiting.{ending_from, AreNamesAt}
-use Rattle.tptp_problem.specs.Formulas.{placed, placed_in, is_conjecture, counts, conjecture_begun, begun_counts}
+use Rattle.tptp_problem.specs.Formulas.{placed, placed_in, counts, conjecture_begun, begun_counts}
 use Rattle.tptp_problem.specs.IncludeReads.{IsIncludeRead, ReadsNames, IsNameAt}
 use Rattle.tptp_problem.specs.Includes.{StopsInclude, CutsInclude}
 use Rattle.tptp_problem.specs.Problem.{Progress, tokens_of, lexemes, start_of, place_of, is_second, with_formula, IsFormulaStep, IsFormulaFault, IsIncludeSyntaxFault}

@@ -2,7 +2,7 @@
 use Rattle.std.proofs.Common.{◌≡◌, inl, inr, ℕ, zero, suc, ◌+◌, ◌*◌, ◌-◌, ◌<◌, Bool, true, false, None, Some, Option, List, [], ◌∷◌, ◌++◌, drop, length, refl, ap, sym, ◌∙◌, subst, arith}
 use Rattle.std.specs.Prelude.{slice_get, if◌then◌else◌}
 use Rattle.outside.specs.Library.{Holdings}
-use Rattle.tptp_tree.specs.Spelling.{name_of}
+use Rattle.tptp_token.specs.Words.{name_of}
 use Rattle.tptp_tree.specs.Entries.{names_meant}
 use Rattle.tptp_reader.specs.declared.cause.ReadCause.{ReadCause}
 use Rattle.tptp_reader.specs.declared.cause.ReadCause.TheVariants.{SelectionMissing}

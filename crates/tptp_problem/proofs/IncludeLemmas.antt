@@ -2,11 +2,10 @@
 use Rattle.std.proofs.Common.{◌≡◌, ℕ, suc, ◌+◌, ◌*◌, ◌-◌, ◌≤◌, ◌<◌, Bool, true, false, None, Some, List, [], ◌∷◌, ◌++◌, length, drop, codes, refl, ap, sym, ◌∙◌, arith, length-drop, append_assoc, append-nil}
 use Rattle.std.specs.Prelude.{if◌then◌else◌}
 use Rattle.std.proofs.Math.Seq.{drop-drop}
-use Rattle.tptp_token.specs.Lexemes.{Lexeme}
+use Rattle.tptp_token.specs.Lexemes.{Lexeme, lexeme, word_lexeme}
 use Rattle.tptp_token.specs.declared.token.Kind.TheVariants.{Mark}
-use Rattle.tptp_tree.specs.Spelling.{Word, bare, quoted, lexeme, word_lexeme, name_of}
+use Rattle.tptp_token.specs.Words.{Word, bare, quoted, name_of, token_name}
 use Rattle.tptp_tree.specs.Entries.{NamePhrase, word_name, digits_name, name_lexeme, name_meant, names_meant, more_names_lexemes, include_end}
-use Rattle.tptp_problem.specs.Formulas.{token_name}
 use Rattle.tptp_problem.specs.Awaiting.{after, is_nothing, ended, ending_from, AreNamesAt, StillReads}
 use Rattle.tptp_problem.specs.declared.include.Awaited.{Awaited}
 use Rattle.tptp_problem.specs.declared.include.Ending.TheVariants.{Whole, Stopped, Cut}

@@ -3,11 +3,11 @@ use Rattle.std.proofs.Common.{◌≡◌, ◌⊎◌, inl, inr, ⊎_elim, ℕ, zer
 use Rattle.std.specs.Prelude.{IsSomeAnd}
 use Rattle.std.proofs.lemmas.List.{take-take, take-append-drop}
 use Rattle.outside.specs.Library.{Holdings, FoundMore}
-use Rattle.tptp_token.specs.Lexemes.{Lexeme}
+use Rattle.tptp_token.specs.Lexemes.{Lexeme, word_lexeme}
 use Rattle.tptp_token.specs.Lexing.{lexed_of}
 use Rattle.tptp_token.specs.declared.token.LexFault.{LexFault}
 use Rattle.tptp_token.specs.declared.token.LexFault.TheVariants.{BadByte as BadByteAt, Unclosed as UnclosedAt}
-use Rattle.tptp_tree.specs.Spelling.{Word, name_of, word_lexeme}
+use Rattle.tptp_token.specs.Words.{Word, name_of, token_name}
 use Rattle.tptp_tree.specs.Entries.{NamePhrase, name_lexeme, name_meant, names_meant}
 use Rattle.tptp_reader.specs.TellingEntries.{IsEndFault}
 use Rattle.tptp_reader.specs.declared.cause.ReadCause.{ReadCause}
@@ -17,7 +17,7 @@ use Rattle.tptp_problem.specs.declared.include.Awaited.TheVariants.{Keyword}
 use Rattle.tptp_problem.specs.declared.include.Ending.TheVariants.{Whole}
 use Rattle.tptp_problem.specs.Awaiting.{ending_from, AreNamesAt}
 use Rattle.tptp_problem.specs.Files.{base_of, loaded_name, room_after, MayGive}
-use Rattle.tptp_problem.specs.Formulas.{Placed, placed_in, token_name, selected, missing}
+use Rattle.tptp_problem.specs.Formulas.{Placed, placed_in, selected, missing}
 use Rattle.tptp_problem.specs.Includes.{is_include, IsInclude, BeginsInclude, StopsInclude, HasNoInclude}
 use Rattle.tptp_problem.specs.Problem.{LoadedFile, Progress, Step, Reads, Faults, tokens_of, lexemes, place_of, with_file, with_formula, is_second, IsStep, IsStepBy, IsIncludeStep, IsFormulaStep, AreSteps, next_behind, progress_behind, formulas_along, IsFormulaFault, IsIncludeSyntaxFault, IsIncludedFault, IsIncludeFault, IsMissing, IsFaultBy, IsEntryFault, IsTextEndFault, IsLoadFault, ReadsNamed, FaultsNamed, ReadsText, FaultsText, IsProblem, IsProblemFault}
 use Rattle.tptp_problem.proofs.AwaitLemmas.{WholeThere, include-ends, include-length, width}

@@ -1,10 +1,10 @@
 -- The tokens of a source, one by one.
 use Rattle.std.proofs.Common.{Bor, ◌≡◌, ℕ, suc, ◌+◌, ◌-◌, ◌<◌, List, ◌∷◌, length, take, drop, map, get_or, ap, sym, ◌∙◌, add-one, drop-cons}
 use Rattle.std.proofs.lemmas.List.{drop-map}
-use Rattle.tptp_token.specs.Lexemes.{Lexeme, lexeme_at}
+use Rattle.tptp_token.specs.Lexemes.{Lexeme, lexeme_at, lexeme}
 use Rattle.tptp_token.specs.declared.token.Token.{Token}
-use Rattle.tptp_tree.specs.Spelling.{lexeme}
-use Rattle.tptp_problem.specs.Shape.{lexeme_of, lexemes_told}
+use Rattle.tptp_token.specs.TextTokens.{lexeme_of}
+use Rattle.tptp_problem.specs.Shape.{lexemes_told}
 use Rattle.tptp_problem.specs.declared.source.Source.{Source}
 
 pub next-token :

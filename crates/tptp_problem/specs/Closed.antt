@@ -1,6 +1,6 @@
 -- Formulas without free variables.
 use Rattle.std.specs.Prelude.{ℕ, Bool, true, ◌&&◌, List, ◌++◌}
-use Rattle.fol_base.specs.Spelling.{is_one_of}
+use Rattle.tptp_token.specs.Spelling.{is_one_of}
 use Rattle.tptp_tree.specs.Term.{TermTree, variable, application, TermTrees, no_terms, term_then}
 use Rattle.tptp_tree.specs.Formula.{FormulaTree, truth, falsity, predicate, equation, negation, conjunction, disjunction, connected, quantified, FormulaTrees, no_formulas, formula_then}
 

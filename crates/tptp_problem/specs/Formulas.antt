@@ -1,15 +1,14 @@
 -- The formulas of a problem, the selections around them, and the conjectures that count.
 use Rattle.std.specs.Prelude.{ℕ, ◌+◌, ◌==◌, Bool, true, false, ◌&&◌, ◌||◌, List, [], ◌∷◌, length, codes, bytes_eq, Option, None, Some, if◌then◌else◌}
 use Rattle.std.specs.List.{list_any, list_all, filter}
-use Rattle.fol_base.specs.Spelling.{is_one_of, is_digit}
-use Rattle.tptp_token.specs.Lexemes.{Lexeme}
+use Rattle.tptp_token.specs.Spelling.{is_one_of, is_digit}
+use Rattle.tptp_token.specs.Lexemes.{Lexeme, is_lexeme, is_mark}
 use Rattle.tptp_token.specs.declared.token.Kind.{Kind}
 use Rattle.tptp_token.specs.declared.token.Kind.TheVariants.{Lower, Variable, Quoted, Distinct, Dollar, Number, Connective, Mark, Other}
 use Rattle.tptp_tree.specs.declared.problem.Annotated.{Annotated}
-use Rattle.tptp_tree.specs.declared.problem.Role.{Role}
-use Rattle.tptp_tree.specs.declared.problem.Role.TheVariants.{Axiom, Hypothesis, Definition, Assumption, Lemma, Theorem, Corollary, NegatedConjecture, Plain, Conjecture}
-use Rattle.tptp_tree.specs.Brackets.{is_lexeme, is_mark}
-use Rattle.tptp_tree.specs.Spelling.{quoted, name_of}
+use Rattle.tptp_tree.specs.declared.role.Role.{Role}
+use Rattle.tptp_tree.specs.declared.role.Role.TheVariants.{Axiom, Hypothesis, Definition, Assumption, Lemma, Theorem, Corollary, NegatedConjecture, Plain, Conjecture}
+use Rattle.tptp_token.specs.Words.{quoted, name_of}
 use Rattle.tptp_tree.specs.Entries.{AnnotatedTree}
 use Rattle.tptp_reader.specs.Shape.{tree_of}
 

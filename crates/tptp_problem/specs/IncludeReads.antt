@@ -2,14 +2,13 @@
 use Rattle.std.specs.Prelude.{◌≡◌, ◌≤◌, ◌<◌, ◌+◌, ◌*◌, ◌^◌, ⊤, ℕ, List, ◌∷◌, length, drop}
 use Rattle.std.specs.Str.{IsAscii}
 use Rattle.tptp_token.specs.Lexemes.{Lexeme}
-use Rattle.tptp_tree.specs.Spelling.{Word, name_of}
+use Rattle.tptp_token.specs.Words.{Word, name_of, token_name}
 use Rattle.tptp_tree.specs.Entries.{NamePhrase, names_meant}
 use Rattle.tptp_problem.specs.declared.include.Include.{Include}
 use Rattle.tptp_problem.specs.declared.include.Ending.{Ending}
 use Rattle.tptp_problem.specs.declared.include.Ending.TheVariants.{Whole, Stopped, Cut}
 use Rattle.tptp_problem.specs.declared.source.Source.{Source}
 use Rattle.tptp_problem.specs.Awaiting.{AreNamesAt}
-use Rattle.tptp_problem.specs.Formulas.{token_name}
 use Rattle.tptp_problem.specs.Includes.{IsInclude}
 use Rattle.tptp_problem.specs.Shape.{lexemes_told}
 

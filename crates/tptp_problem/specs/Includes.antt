@@ -1,9 +1,8 @@
 -- The includes among a text's tokens, and where a text stops to be one.
 use Rattle.std.specs.Prelude.{◌≡◌, ◌≤◌, ◌<◌, ℕ, suc, ◌-◌, Bool, true, false, List, [], ◌∷◌, ◌++◌, length, take, drop, codes}
-use Rattle.tptp_token.specs.Lexemes.{Lexeme}
+use Rattle.tptp_token.specs.Lexemes.{Lexeme, is_lexeme}
 use Rattle.tptp_token.specs.declared.token.Kind.TheVariants.{Lower}
-use Rattle.tptp_tree.specs.Brackets.{is_lexeme}
-use Rattle.tptp_tree.specs.Spelling.{Word}
+use Rattle.tptp_token.specs.Words.{Word}
 use Rattle.tptp_tree.specs.Entries.{NamePhrase, EntryPhrase, whole_include, selected_include, is_right_entry, entry_lexemes}
 
 -- an entry is an include by its first word

@@ -6,8 +6,8 @@ use Rattle.tptp_token.specs.Lexemes.{Lexeme}
 use Rattle.tptp_token.specs.Lexing.{lexed_of}
 use Rattle.tptp_token.specs.declared.token.Token.{Token}
 use Rattle.tptp_token.specs.declared.token.LexFault.{LexFault}
-use Rattle.tptp_tree.specs.Spelling.{Word, name_of}
-use Rattle.tptp_tree.specs.Entries.{NamePhrase, names_meant}
+use Rattle.tptp_token.specs.Words.{Word, name_of}
+use Rattle.tptp_tree.specs.Entries.{NamePhrase, names_meant, is_conjecture}
 use Rattle.tptp_reader.specs.Annotating.{lexemes_of, IsReading, IsFaultAt}
 use Rattle.tptp_reader.specs.TellingEntries.{IsEndFault}
 use Rattle.tptp_reader.specs.declared.cause.ReadCause.{ReadCause}
@@ -15,7 +15,7 @@ use Rattle.tptp_reader.specs.declared.cause.ReadCause.TheVariants.{Syntax, Secon
 use Rattle.tptp_reader.specs.declared.entry.Read.{Read}
 use Rattle.tptp_problem.specs.Files.{base_of, loaded_name, room_after, MayGive}
 use Rattle.tptp_problem.specs.Includes.{is_include, IsInclude, StopsInclude, CutsInclude}
-use Rattle.tptp_problem.specs.Formulas.{Placed, placed_in, selected, missing, is_conjecture, counts, conjecture_begun, begun_counts}
+use Rattle.tptp_problem.specs.Formulas.{Placed, placed_in, selected, missing, counts, conjecture_begun, begun_counts}
 
 -- ---- what is read
 

@@ -12,7 +12,7 @@ use Rattle.tptp_problem.specs.declared.halt.Halt.{Halt}
 use Rattle.tptp_problem.specs.declared.halt.Halt.TheVariants.{NoMemory as NoMemoryHalt, At as HaltAt}
 use Rattle.tptp_problem.specs.declared.selection.Selection.{Selection}
 use Rattle.tptp_problem.specs.declared.source.Source.{Source}
-use Rattle.tptp_problem.specs.declared.source.TextToken.{TextToken}
+use Rattle.tptp_token.specs.declared.text_token.TextToken.{TextToken}
 use Rattle.tptp_problem.specs.declared.reading.Reading.{Reading}
 use Rattle.tptp_problem.specs.Problem.{LoadedFile, Progress}
 

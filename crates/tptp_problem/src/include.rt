@@ -3,7 +3,8 @@
 ghost use Rattle.std.specs.Prelude.{◌≡◌, ◌<◌, ◌+◌, ◌^◌, IfOk, IfErr, drop};
 ghost use Rattle.tptp_problem.specs.Awaiting.{after as after_token, is_nothing as nothing_is, ending_from};
 ghost use Rattle.tptp_problem.specs.Problem.{IsIncludeSyntaxFault};
-ghost use Rattle.tptp_problem.specs.Shape.{IsHaltBy, IsLexed, lexeme_of, lexemes_told, file_of};
+ghost use Rattle.tptp_token.specs.TextTokens.{lexeme_of};
+ghost use Rattle.tptp_problem.specs.Shape.{IsHaltBy, IsLexed, lexemes_told, file_of};
 ghost use Rattle.tptp_problem.specs.IncludeReads.{IsIncludeRead, ReadsNames, IsNameAt, FitsEnding};
 ghost use Rattle.tptp_problem.specs.declared.include.Awaited.TheVariants.{Keyword as keyword};
 

@@ -5,7 +5,8 @@ ghost use Rattle.outside.specs.Library.{Holdings};
 ghost use Rattle.tptp_reader.specs.declared.cause.ReadCause.{ReadCause};
 ghost use Rattle.tptp_reader.specs.declared.cause.ReadCause.TheVariants.{Load};
 ghost use Rattle.std.specs.List.{AllByRecursion};
-ghost use Rattle.tptp_problem.specs.Formulas.{Placed, is_conjecture};
+ghost use Rattle.tptp_tree.specs.Entries.{is_conjecture};
+ghost use Rattle.tptp_problem.specs.Formulas.{Placed};
 ghost use Rattle.tptp_problem.specs.Closed.{closed_within};
 ghost use Rattle.tptp_problem.specs.Problem.{IsProblem, IsProblemFault};
 

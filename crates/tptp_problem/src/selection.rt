@@ -1,7 +1,7 @@
 // The formulas that an include takes.
 
 ghost use Rattle.std.specs.Prelude.{◌≡◌, ◌++◌, [], ◌∷◌, map, IfOk};
-ghost use Rattle.fol_base.specs.Spelling.{is_one_of};
+ghost use Rattle.tptp_token.specs.Spelling.{is_one_of};
 ghost use Rattle.tptp_problem.specs.Formulas.{placed, selects as selects_name, selected, is_named as named, missing as missing_among};
 ghost use Rattle.tptp_problem.specs.Shape.{selections};
 

@@ -1,15 +1,16 @@
 // The text of a file, by its tokens.
 
 ghost use Rattle.std.specs.Prelude.{◌≡◌, ◌+◌, ◌-◌, ◌<◌, ◌≤◌, ◌^◌, ◌&&◌, false, [], ◌∷◌, codes, length, drop, take, true, IfOk, IsSome, MatchOption, slice_get, option_map, Some};
-ghost use Rattle.tptp_tree.specs.Brackets.{is_lexeme, is_mark as mark_is};
-ghost use Rattle.tptp_tree.specs.Spelling.{unescaped};
+ghost use Rattle.tptp_token.specs.Lexemes.{is_lexeme, is_mark as mark_is};
+ghost use Rattle.tptp_token.specs.Words.{unescaped, is_name as name_is, token_name, is_word as word_is};
 ghost use Rattle.tptp_token.specs.declared.token.Kind.TheVariants.{Lower, Quoted};
 ghost use Rattle.tptp_reader.specs.TellingEntries.{IsEndFault};
-ghost use Rattle.tptp_problem.specs.Formulas.{is_name as name_is, token_name, is_conjecture as conjecture_is, counts as counts_within, conjecture_begun, begun_counts};
-ghost use Rattle.tptp_problem.specs.Awaiting.{is_word as word_is};
+ghost use Rattle.tptp_tree.specs.Entries.{is_conjecture as conjecture_is};
+ghost use Rattle.tptp_problem.specs.Formulas.{counts as counts_within, conjecture_begun, begun_counts};
 ghost use Rattle.tptp_problem.specs.Includes.{is_include as include_is};
 ghost use Rattle.tptp_problem.specs.Problem.{start_of};
-ghost use Rattle.tptp_problem.specs.Shape.{IsHaltBy, lexeme_of, lexemes_told, selections};
+ghost use Rattle.tptp_token.specs.TextTokens.{lexeme_of};
+ghost use Rattle.tptp_problem.specs.Shape.{IsHaltBy, lexemes_told, selections};
 
 use crate::halt::Halt;
 use crate::selection::Selection;

@@ -1,14 +1,14 @@
 -- Steps of reading atoms.
 use Rattle.std.proofs.Common.{◌≡◌, ℕ, ◌+◌, Bool, true, false, List, [], ◌∷◌, drop, refl, sym, ap, ap₂, ◌∙◌, arith, codes}
-use Rattle.tptp_token.specs.Lexemes.{Lexeme}
+use Rattle.tptp_token.specs.Lexemes.{Lexeme, is_lexeme, word_lexeme, is_connective}
 use Rattle.tptp_token.specs.declared.token.Kind.TheVariants.{Dollar}
 use Rattle.tptp_tree.specs.Term.{TermTree, variable, application, TermTrees}
 use Rattle.tptp_tree.specs.Formula.{FormulaTree, truth, falsity, predicate, equation}
-use Rattle.tptp_tree.specs.Brackets.{is_lexeme}
-use Rattle.tptp_tree.specs.Spelling.{word_lexeme, name_of, Word, TermPhrases, true_atom, false_atom, predicate_atom, equation_atom, equals_lexeme, term_lexemes}
+use Rattle.tptp_token.specs.Words.{name_of, Word, is_word, is_variable, word_of}
+use Rattle.tptp_tree.specs.Spelling.{TermPhrases, true_atom, false_atom, predicate_atom, equation_atom, equals_lexeme, term_lexemes}
 use Rattle.tptp_tree.specs.Causes.{Surroundings}
-use Rattle.tptp_reader.specs.Machine.{Symbol, a_term, maybe_arguments, an_atom, maybe_applied, maybe_equation, an_equation, is_connective, is_sign_of_equation}
-use Rattle.tptp_reader.specs.Telling.{lexemes, IsNext, Leads, Ends, Suits, Halts, one, is_word, is_variable, word_of, is_free_among, term_refusal, ReadsTerm, ReadsArguments, is_allowed, ReadsAtom}
+use Rattle.tptp_reader.specs.Machine.{Symbol, a_term, maybe_arguments, an_atom, maybe_applied, maybe_equation, an_equation, is_sign_of_equation}
+use Rattle.tptp_reader.specs.Telling.{lexemes, IsNext, Leads, Ends, Suits, Halts, one, is_free_among, term_refusal, ReadsTerm, ReadsArguments, is_allowed, ReadsAtom}
 use Rattle.tptp_reader.specs.declared.source.Reader.{Reader}
 use Rattle.tptp_reader.specs.declared.source.Name.{Name}
 use Rattle.tptp_reader.specs.declared.cause.Halt.{Halt}

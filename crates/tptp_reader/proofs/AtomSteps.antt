@@ -2,14 +2,14 @@
 use Rattle.std.proofs.Common.{◌≡◌, ℕ, zero, suc, ◌+◌, ◌==◌, Bool, true, false, ◌&&◌, ◌||◌, List, [], ◌∷◌, ◌++◌, drop, codes, bytes_eq, Option, None, Some, if◌then◌else◌, refl, sym, ap, ◌∙◌}
 use Rattle.std.proofs.lemmas.Bool.{eqb-true, false≢true}
 use Rattle.std.proofs.lemmas.Slice.Eq.{bytes_eq-Decides}
-use Rattle.tptp_token.specs.Lexemes.{Lexeme}
+use Rattle.tptp_token.specs.Lexemes.{Lexeme, kind_place, is_lexeme, is_mark, lexeme, is_connective}
 use Rattle.tptp_token.specs.declared.token.Kind.{Kind}
 use Rattle.tptp_token.specs.declared.token.Kind.TheVariants.{Lower, Variable, Quoted, Distinct, Dollar, Number, Connective, Mark, Other}
-use Rattle.tptp_tree.specs.Brackets.{kind_place, is_lexeme, is_mark}
-use Rattle.tptp_tree.specs.Spelling.{lexeme, equals_lexeme, TermPhrase, equation_atom}
+use Rattle.tptp_tree.specs.Spelling.{equals_lexeme, TermPhrase, equation_atom}
 use Rattle.tptp_tree.specs.Causes.{Refusal, Surroundings, deeper, begun}
-use Rattle.tptp_reader.specs.Machine.{Symbol, a_term, maybe_arguments, an_atom, maybe_applied, maybe_equation, an_equation, arguments, is_connective, is_sign_of_equation, equation_step, is_truth_word, takes, passes, stops, step, stepped, after_token, verdict, going}
-use Rattle.tptp_reader.specs.Telling.{IsNext, Leads, Ends, Suits, told, lexemes, is_free_among, is_word, is_variable, term_refusal, refusal_of, is_allowed}
+use Rattle.tptp_reader.specs.Machine.{Symbol, a_term, maybe_arguments, an_atom, maybe_applied, maybe_equation, an_equation, arguments, is_sign_of_equation, equation_step, is_truth_word, takes, passes, stops, step, stepped, after_token, verdict, going}
+use Rattle.tptp_token.specs.Words.{is_word, is_variable}
+use Rattle.tptp_reader.specs.Telling.{IsNext, Leads, Ends, Suits, told, lexemes, is_free_among, term_refusal, refusal_of, is_allowed}
 use Rattle.tptp_reader.specs.declared.source.Reader.{Reader}
 use Rattle.tptp_reader.specs.declared.source.Name.{Name}
 use Rattle.tptp_reader.specs.declared.cause.Halt.TheVariants.{At}

@@ -1,13 +1,12 @@
 -- Steps of reading clauses.
 use Rattle.std.proofs.Common.{◌≡◌, ◌<◌, ◌≤◌, ℕ, ◌+◌, Bool, true, false, List, [], ◌∷◌, ◌++◌, map, drop, refl, sym, ap, ap₂, ◌∙◌, arith, codes}
-use Rattle.tptp_token.specs.Lexemes.{Lexeme}
+use Rattle.tptp_token.specs.Lexemes.{Lexeme, is_mark, lexeme, is_connective}
 use Rattle.tptp_token.specs.declared.token.Kind.TheVariants.{Connective, Mark}
 use Rattle.tptp_tree.specs.Formula.{FormulaTree, negation, disjunction, formula_then, formulas_of}
-use Rattle.tptp_tree.specs.Brackets.{is_mark}
-use Rattle.tptp_tree.specs.Spelling.{lexeme, atom_lexemes, atom_meant}
+use Rattle.tptp_tree.specs.Spelling.{atom_lexemes, atom_meant}
 use Rattle.tptp_tree.specs.Entries.{LiteralPhrase, positive_literal, negated_literal, negated_in_brackets, clause_in_brackets, literal_lexemes, more_literals_lexemes, clause_lexemes, literal_meant, literals_meant}
 use Rattle.tptp_tree.specs.Causes.{Surroundings, deeper}
-use Rattle.tptp_reader.specs.Machine.{Symbol, mark, an_atom, a_clause, a_literal, a_plain_literal, maybe_more_literals, is_connective}
+use Rattle.tptp_reader.specs.Machine.{Symbol, mark, an_atom, a_clause, a_literal, a_plain_literal, maybe_more_literals}
 use Rattle.tptp_reader.specs.Telling.{lexemes, IsNext, Leads, Ends, Suits, Halts, one, further, AllowedAtom, ReadsAtom, further_literals, ReadsLiteral, negated_lexemes_by, ReadsNegated, ReadsLiterals, plain_clause, ReadsPlainClause, ReadsClause}
 use Rattle.tptp_reader.specs.declared.source.Reader.{Reader}
 use Rattle.tptp_reader.specs.declared.source.Name.{Name}

@@ -1,13 +1,12 @@
 -- What the symbols of clauses do with tokens.
 use Rattle.std.proofs.Common.{◌≡◌, ◌<◌, ◌≤◌, ℕ, ◌+◌, Bool, true, false, List, [], ◌∷◌, codes, if◌then◌else◌, refl, ap, ◌∙◌}
-use Rattle.tptp_token.specs.Lexemes.{Lexeme}
+use Rattle.tptp_token.specs.Lexemes.{Lexeme, is_mark, is_connective}
 use Rattle.tptp_token.specs.declared.token.Kind.{Kind}
 use Rattle.tptp_token.specs.declared.token.Kind.TheVariants.{Lower, Variable, Quoted, Distinct, Dollar, Number, Connective, Mark, Other}
-use Rattle.tptp_tree.specs.Brackets.{is_mark}
 use Rattle.tptp_tree.specs.Spelling.{Atom, true_atom, false_atom, predicate_atom, equation_atom}
 use Rattle.tptp_tree.specs.Entries.{PlainAtom, plain_true, plain_false, plain_predicate, plain_equation, atom_of}
 use Rattle.tptp_tree.specs.Causes.{left_out, dollar_form, Surroundings, deeper, begun}
-use Rattle.tptp_reader.specs.Machine.{Symbol, mark, an_atom, a_clause, a_literal, a_plain_literal, maybe_more_literals, is_connective, atom_step, is_truth_word, takes, stops, taken, step}
+use Rattle.tptp_reader.specs.Machine.{Symbol, mark, an_atom, a_clause, a_literal, a_plain_literal, maybe_more_literals, atom_step, is_truth_word, takes, stops, taken, step}
 use Rattle.tptp_reader.specs.Telling.{IsNext, Leads, Ends, Suits, is_allowed, further_literals}
 use Rattle.tptp_reader.specs.declared.source.Reader.{Reader}
 use Rattle.tptp_reader.specs.declared.source.Name.{Name}

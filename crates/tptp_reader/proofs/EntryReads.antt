@@ -2,18 +2,17 @@
 use Rattle.std.proofs.Common.{◌≡◌, ℕ, ◌+◌, Bool, true, false, not, List, [], ◌∷◌, ◌++◌, drop, codes, bytes_eq, Option, None, Some, if◌then◌else◌, refl, sym, ap, ◌∙◌, subst}
 use Rattle.std.specs.List.{list_all}
 use Rattle.std.proofs.lemmas.Slice.Eq.{bytes_eq-Decides}
-use Rattle.fol_base.specs.Spelling.{is_digit, is_one_of}
-use Rattle.tptp_token.specs.Lexemes.{Lexeme}
+use Rattle.tptp_token.specs.Spelling.{is_digit, is_one_of}
+use Rattle.tptp_token.specs.Lexemes.{Lexeme, is_mark, lexeme, word_lexeme}
 use Rattle.tptp_token.specs.declared.token.Kind.{Kind}
 use Rattle.tptp_token.specs.declared.token.Kind.TheVariants.{Lower, Variable, Quoted, Distinct, Dollar, Number, Connective, Mark, Other}
 use Rattle.tptp_tree.specs.Formula.{FormulaTree}
-use Rattle.tptp_tree.specs.Brackets.{is_mark}
-use Rattle.tptp_tree.specs.Spelling.{lexeme, word_lexeme, name_of}
+use Rattle.tptp_token.specs.Words.{name_of, is_word, word_of, is_lower_kind, is_digits}
 use Rattle.tptp_tree.specs.Causes.{syntax, outermost, untaken_role_cause}
 use Rattle.tptp_tree.specs.Entries.{word_name, digits_name, formula_body, clause_body, body_lexemes, language_word, role_word, role_among, role_of}
-use Rattle.tptp_tree.specs.declared.problem.Role.{Role}
+use Rattle.tptp_tree.specs.declared.role.Role.{Role}
 use Rattle.tptp_reader.specs.Machine.{mark, an_annotated, a_name, a_role, a_clause, end_of_body, first_note, formula_symbols, typed_words, takes, stops, step}
-use Rattle.tptp_reader.specs.Telling.{lexemes, IsNext, Leads, Ends, Suits, Halts, one, is_word, word_of, is_lower_kind, is_digits, refusal_of, ReadsFormula, ReadsClause}
+use Rattle.tptp_reader.specs.Telling.{lexemes, IsNext, Leads, Ends, Suits, Halts, one, refusal_of, ReadsFormula, ReadsClause}
 use Rattle.tptp_reader.specs.TellingNotes.{ReadsNotes}
 use Rattle.tptp_reader.specs.TellingEntries.{entry_symbols, body_symbols, ReadsLanguage, ReadsName, ReadsRole, ReadsBody, ReadsEnding}
 use Rattle.tptp_reader.specs.declared.source.Reader.{Reader}

@@ -3,9 +3,9 @@ use Rattle.std.proofs.Common.{subst, ◌≡◌, true, ℕ, ◌+◌, Bool, ◌&&�
 use Rattle.tptp_token.specs.declared.token.Kind.TheVariants.{Lower, Mark}
 use Rattle.tptp_tree.specs.Formula.{FormulaTree}
 use Rattle.tptp_tree.specs.Shape.{formula_of}
-use Rattle.tptp_tree.specs.Spelling.{lexeme}
+use Rattle.tptp_token.specs.Lexemes.{lexeme}
 use Rattle.tptp_tree.specs.Entries.{name_lexeme, is_clause_body, body_lexemes, language_word, role_of, AnnotatedPhrase, is_right_annotated, annotated_lexemes, IsAnnotatedOf}
-use Rattle.tptp_tree.specs.declared.problem.Role.{Role}
+use Rattle.tptp_tree.specs.declared.role.Role.{Role}
 use Rattle.tptp_reader.specs.Machine.{Symbol, mark, an_annotated, a_name, a_role, end_of_body, read_up_to}
 use Rattle.tptp_reader.specs.Placed.{verdict_at}
 use Rattle.tptp_reader.specs.Annotating.{lexemes_of}

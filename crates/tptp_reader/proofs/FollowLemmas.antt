@@ -1,10 +1,9 @@
 -- What stands behind a part that may be shorter or longer, so that it ends there.
 use Rattle.std.proofs.Common.{◌≡◌, ℕ, Bool, true, false, ◌||◌, List, [], ◌∷◌, codes, refl, ap, ◌∙◌}
 use Rattle.std.specs.Prelude.{if◌then◌else◌}
-use Rattle.tptp_token.specs.Lexemes.{Lexeme}
-use Rattle.tptp_tree.specs.Brackets.{is_mark}
+use Rattle.tptp_token.specs.Lexemes.{Lexeme, is_mark, is_connective}
 use Rattle.tptp_tree.specs.Causes.{Surroundings, deeper, begun}
-use Rattle.tptp_reader.specs.Machine.{Symbol, maybe_arguments, more_arguments, maybe_applied, maybe_equation, maybe_connected, maybe_more_units, maybe_more_literals, takes, passes, taken, step, arguments, equation_step, is_connective, is_sign_of_equation, is_binary_connective, a_term, a_unit, a_literal}
+use Rattle.tptp_reader.specs.Machine.{Symbol, maybe_arguments, more_arguments, maybe_applied, maybe_equation, maybe_connected, maybe_more_units, maybe_more_literals, takes, passes, taken, step, arguments, equation_step, is_sign_of_equation, is_binary_connective, a_term, a_unit, a_literal}
 use Rattle.tptp_reader.proofs.TraceLemmas.{moved_by, moved, by_move, trace}
 
 -- the next token passes the test, and something is to come

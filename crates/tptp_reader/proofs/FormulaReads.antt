@@ -1,12 +1,11 @@
 -- Steps of reading formulas.
 use Rattle.std.proofs.Common.{◌≡◌, ◌<◌, ◌≤◌, ℕ, ◌+◌, Bool, true, false, ◌||◌, List, [], ◌∷◌, ◌++◌, map, drop, refl, sym, ap, ap₂, ◌∙◌, arith, codes}
-use Rattle.tptp_token.specs.Lexemes.{Lexeme}
+use Rattle.tptp_token.specs.Lexemes.{Lexeme, is_mark, lexeme, is_connective}
 use Rattle.tptp_token.specs.declared.token.Kind.TheVariants.{Connective, Mark}
 use Rattle.tptp_tree.specs.Formula.{FormulaTree, negation, conjunction, disjunction, connected, BinaryConnective, formula_then, formulas_of}
-use Rattle.tptp_tree.specs.Brackets.{is_mark}
-use Rattle.tptp_tree.specs.Spelling.{lexeme, connective_lexeme, quantifier_lexeme, UnitPhrase, negated, bound, in_brackets, atomic, UnitPhrases, no_units, unit_then, alone, all_of, some_of, joined_by, unit_lexemes, units_lexemes, phrase_lexemes, unit_meant, units_meant}
+use Rattle.tptp_tree.specs.Spelling.{connective_lexeme, quantifier_lexeme, UnitPhrase, negated, bound, in_brackets, atomic, UnitPhrases, no_units, unit_then, alone, all_of, some_of, joined_by, unit_lexemes, units_lexemes, phrase_lexemes, unit_meant, units_meant}
 use Rattle.tptp_tree.specs.Causes.{Surroundings, deeper}
-use Rattle.tptp_reader.specs.Machine.{Symbol, mark, an_atom, a_unit, maybe_connected, maybe_more_units, formula_symbols, variables_bracket, is_connective, is_binary_connective}
+use Rattle.tptp_reader.specs.Machine.{Symbol, mark, an_atom, a_unit, maybe_connected, maybe_more_units, formula_symbols, variables_bracket, is_binary_connective}
 use Rattle.tptp_reader.specs.Telling.{lexemes, IsNext, Leads, Ends, Suits, Starts, Halts, one, further, ReadsAtom, ReadsUnit, ReadsFormula, further_units, ReadsUnits, quantifier_of, ReadsBound}
 use Rattle.tptp_reader.specs.declared.source.Reader.{Reader}
 use Rattle.tptp_reader.specs.declared.source.Name.{Name}

@@ -3,15 +3,15 @@ use Rattle.std.proofs.Common.{◌≡◌, ◌<◌, ◌≤◌, ℕ, ◌+◌, Bool,
 use Rattle.std.specs.List.{list_any}
 use Rattle.std.proofs.lemmas.List.Folds.{list_any-append}
 use Rattle.fol_base.proofs.TestLemmas.{list_any-map}
-use Rattle.tptp_token.specs.Lexemes.{Lexeme}
+use Rattle.tptp_token.specs.Lexemes.{Lexeme, is_mark, lexeme, is_connective}
 use Rattle.tptp_token.specs.declared.token.Kind.{Kind}
 use Rattle.tptp_token.specs.declared.token.Kind.TheVariants.{Lower, Variable, Quoted, Distinct, Dollar, Number, Connective, Mark, Other}
 use Rattle.tptp_tree.specs.Formula.{BinaryConnective, implies, implied, equivalent, different, nor, nand}
-use Rattle.tptp_tree.specs.Brackets.{is_mark}
-use Rattle.tptp_tree.specs.Spelling.{lexeme, connective_lexeme, quantifier_lexeme}
+use Rattle.tptp_tree.specs.Spelling.{connective_lexeme, quantifier_lexeme}
 use Rattle.tptp_tree.specs.Causes.{Refusal, syntax, free_variable, too_deep, Scope, every_variable, bound_ones, scope_with, Surroundings, deeper, binding, begun, variable_cause}
-use Rattle.tptp_reader.specs.Machine.{Symbol, mark, an_atom, a_unit, maybe_connected, maybe_more_units, variables_bracket, next_variable, more_variables, is_connective, is_binary_connective, takes, stops, step}
-use Rattle.tptp_reader.specs.Telling.{IsNext, Leads, Ends, Suits, is_among, is_free_among, free_cause, is_variable, further_units, quantifier_of, Binds}
+use Rattle.tptp_reader.specs.Machine.{Symbol, mark, an_atom, a_unit, maybe_connected, maybe_more_units, variables_bracket, next_variable, more_variables, is_binary_connective, takes, stops, step}
+use Rattle.tptp_token.specs.Words.{is_variable}
+use Rattle.tptp_reader.specs.Telling.{IsNext, Leads, Ends, Suits, is_among, is_free_among, free_cause, further_units, quantifier_of, Binds}
 use Rattle.tptp_reader.specs.declared.source.Reader.{Reader}
 use Rattle.tptp_reader.specs.declared.source.Name.{Name}
 use Rattle.tptp_reader.specs.declared.cause.Halt.TheVariants.{At}

@@ -4,14 +4,13 @@ use Rattle.std.proofs.Common.{◌≡◌, ◌⊎◌, inl, inr, ℕ, Bool, true, f
 use Rattle.std.specs.Prelude.{if◌then◌else◌}
 use Rattle.std.specs.List.{list_all}
 use Rattle.std.proofs.lemmas.Bool.{and_parts}
-use Rattle.fol_base.specs.Spelling.{is_digit, is_one_of}
-use Rattle.tptp_token.specs.Lexemes.{Lexeme}
+use Rattle.tptp_token.specs.Spelling.{is_digit, is_one_of}
+use Rattle.tptp_token.specs.Lexemes.{Lexeme, lexeme, is_mark, is_connective}
 use Rattle.tptp_token.specs.declared.token.Kind.{Kind}
 use Rattle.tptp_token.specs.declared.token.Kind.TheVariants.{Lower, Variable, Quoted, Distinct, Dollar, Number, Connective, Mark, Other}
-use Rattle.tptp_tree.specs.Spelling.{lexeme}
-use Rattle.tptp_tree.specs.Brackets.{is_mark, Bracket, round, square, curly, closes, opened, is_closing, with_opened, open_after}
+use Rattle.tptp_tree.specs.Brackets.{Bracket, round, square, curly, closes, opened, is_closing, with_opened, open_after}
 use Rattle.tptp_tree.specs.Causes.{typed, role_form, number_form, distinct_form, dollar_form, Refusal, syntax, free_variable, role_not_taken, too_deep, left_out, Surroundings, deeper, binding, begun, outermost}
-use Rattle.tptp_reader.specs.Machine.{Symbol, mark, a_term, maybe_arguments, more_arguments, an_atom, maybe_applied, maybe_equation, an_equation, a_unit, maybe_connected, maybe_more_units, variables_bracket, next_variable, more_variables, a_clause, a_literal, a_plain_literal, maybe_more_literals, a_name, a_role, end_of_body, first_note, more_notes, an_annotated, Step, takes, passes, stops, taken, followed_by, arguments, step, term_step, atom_step, equation_step, unit_step, connected_step, variable_step, literal_step, name_step, role_step, note_step, end_of_notes_step, before_body, formula_symbols, typed_words, annotated_step, is_connective, is_binary_connective, is_sign_of_equation, is_truth_word}
+use Rattle.tptp_reader.specs.Machine.{Symbol, mark, a_term, maybe_arguments, more_arguments, an_atom, maybe_applied, maybe_equation, an_equation, a_unit, maybe_connected, maybe_more_units, variables_bracket, next_variable, more_variables, a_clause, a_literal, a_plain_literal, maybe_more_literals, a_name, a_role, end_of_body, first_note, more_notes, an_annotated, Step, takes, passes, stops, taken, followed_by, arguments, step, term_step, atom_step, equation_step, unit_step, connected_step, variable_step, literal_step, name_step, role_step, note_step, end_of_notes_step, before_body, formula_symbols, typed_words, annotated_step, is_binary_connective, is_sign_of_equation, is_truth_word}
 use Rattle.tptp_reader.specs.Answers.{form_of_token}
 use Rattle.tptp_reader.proofs.TokenTests.{choose, lexeme-same, either}
 

@@ -4,11 +4,9 @@ use Rattle.std.specs.Result.{IsErrAnd}
 use Rattle.std.specs.Prelude.{IfOk, IfErr}
 use Rattle.std.proofs.lemmas.List.{map-append}
 use Rattle.std.proofs.lemmas.Slice.Eq.{bytes_eq-Decides}
-use Rattle.tptp_token.specs.Lexemes.{Lexeme}
+use Rattle.tptp_token.specs.Lexemes.{Lexeme, is_mark, lexeme}
 use Rattle.tptp_token.specs.declared.token.Kind.{Kind}
 use Rattle.tptp_token.specs.declared.token.Kind.TheVariants.{Lower, Variable, Quoted, Distinct, Dollar, Number, Connective, Mark, Other}
-use Rattle.tptp_tree.specs.Brackets.{is_mark}
-use Rattle.tptp_tree.specs.Spelling.{lexeme}
 use Rattle.tptp_tree.specs.Causes.{Surroundings}
 use Rattle.tptp_reader.specs.Machine.{Symbol}
 use Rattle.tptp_reader.specs.Telling.{lexemes, IsNext, Leads, Ends, Suits, Reads, Halts, one, further, Listed, listed, items_meant}

@@ -2,10 +2,9 @@
 use Rattle.std.proofs.Common.{◌≡◌, ℕ, ◌+◌, Bool, true, false, not, List, [], ◌∷◌, ◌++◌, map, drop, length, take, ◌-◌, nat_lt, reverse, codes, Option, None, Some, refl, sym, ap, ap₂, ◌∙◌, arith, subst, append_assoc}
 use Rattle.std.proofs.lemmas.List.{map-append, reverse-append, length-reverse, length-map}
 use Rattle.std.proofs.lemmas.Bool.{false≢true}
-use Rattle.tptp_token.specs.Lexemes.{Lexeme}
+use Rattle.tptp_token.specs.Lexemes.{Lexeme, is_mark, lexeme}
 use Rattle.tptp_token.specs.declared.token.Kind.TheVariants.{Mark, Other}
-use Rattle.tptp_tree.specs.Brackets.{is_mark, Bracket, round, square, curly, closes, opened, is_closing, open_after, open_behind, is_nothing_open}
-use Rattle.tptp_tree.specs.Spelling.{lexeme}
+use Rattle.tptp_tree.specs.Brackets.{Bracket, round, square, curly, closes, opened, is_closing, open_after, open_behind, is_nothing_open}
 use Rattle.tptp_tree.specs.Causes.{syntax}
 use Rattle.tptp_reader.specs.Machine.{Symbol, mark, first_note, more_notes, note_step, end_of_notes_step, Step, takes, stops, step}
 use Rattle.tptp_reader.specs.Telling.{lexemes, IsNext, Leads, Ends}

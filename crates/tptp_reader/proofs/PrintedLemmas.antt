@@ -1,12 +1,13 @@
 -- What is spelled as the body of an annotated formula is printed so that it is spelled again.
 use Rattle.std.proofs.Common.{◌≡◌, ℕ, true, false, List, [], ◌∷◌, ◌++◌, map, drop, codes, suc, zero, refl, ap, ap₂, sym, ◌∙◌, subst, append-nil}
-use Rattle.tptp_token.specs.Lexemes.{Lexeme, IsLexedAs}
+use Rattle.tptp_token.specs.Lexemes.{Lexeme, IsLexedAs, lexeme}
 use Rattle.tptp_token.specs.Lexing.{lexed_of}
 use Rattle.tptp_token.specs.declared.token.Kind.TheVariants.{Connective, Mark}
 use Rattle.tptp_token.proofs.LexemeLemmas.{tokens-spelled, lexes-whole, lexes-nothing}
 use Rattle.tptp_tree.specs.Formula.{FormulaTree, negation, disjunction, formula_then}
 use Rattle.tptp_tree.specs.Printing.{formula_text}
-use Rattle.tptp_tree.specs.Spelling.{lexeme, name_of, term_meant, terms_meant, Atom, true_atom, false_atom, predicate_atom, equation_atom, atom_meant, UnitPhrase, negated, in_brackets, atomic, unit_lexemes, unit_meant, UnitPhrases, no_units, unit_then, units_lexemes, units_meant, Phrase, alone, some_of, phrase_lexemes, meant}
+use Rattle.tptp_token.specs.Words.{name_of}
+use Rattle.tptp_tree.specs.Spelling.{term_meant, terms_meant, Atom, true_atom, false_atom, predicate_atom, equation_atom, atom_meant, UnitPhrase, negated, in_brackets, atomic, unit_lexemes, unit_meant, UnitPhrases, no_units, unit_then, units_lexemes, units_meant, Phrase, alone, some_of, phrase_lexemes, meant}
 use Rattle.tptp_tree.specs.Entries.{PlainAtom, plain_true, plain_false, plain_predicate, plain_equation, atom_of, LiteralPhrase, positive_literal, negated_literal, negated_in_brackets, ClausePhrase, literals, clause_in_brackets, literal_lexemes, more_literals_lexemes, clause_lexemes, literal_meant, literals_meant, clause_meant, Body, formula_body, clause_body, is_clause_body, body_lexemes, body_meant, AnnotatedPhrase, annotated_lexemes, AnnotatedTree, IsAnnotatedOf, SpellsAnnotated}
 use Rattle.tptp_tree.proofs.NameLemmas.{word_of}
 use Rattle.tptp_tree.proofs.CanonicalLemmas.{WellFormula, term_phrase, term_phrases, phrase_of, units_of, unit_of, some_from, formula-meant}

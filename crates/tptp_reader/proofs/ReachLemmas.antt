@@ -1,8 +1,9 @@
 -- The tokens that the machine takes, and what stacks spell behind them.
 use Rattle.std.proofs.Common.{◌≡◌, suc, Bool, true, false, Option, Some, List, [], ◌∷◌, ◌++◌, length, take, codes, refl, ap, sym, ◌∙◌, subst}
-use Rattle.tptp_token.specs.Lexemes.{Lexeme}
+use Rattle.tptp_token.specs.Lexemes.{Lexeme, lexeme}
 use Rattle.tptp_token.specs.declared.token.Kind.TheVariants.{Lower, Mark, Other}
-use Rattle.tptp_tree.specs.Spelling.{bare, lexeme, TermPhrase, word_with, no_phrases, true_atom, UnitPhrase, atomic, no_units}
+use Rattle.tptp_token.specs.Words.{bare}
+use Rattle.tptp_tree.specs.Spelling.{TermPhrase, word_with, no_phrases, true_atom, UnitPhrase, atomic, no_units}
 use Rattle.tptp_tree.specs.Brackets.{Bracket, round, square, curly, open_after, open_behind, is_nothing_open}
 use Rattle.tptp_tree.specs.Entries.{plain_true, positive_literal, negated_literal, ClausePhrase, literals, word_name, AnnotatedPhrase, clause_body}
 use Rattle.tptp_tree.specs.Causes.{Refusal}

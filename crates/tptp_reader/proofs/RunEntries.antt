@@ -2,9 +2,9 @@
 use Rattle.std.proofs.Common.{◌≡◌, ℕ, Bool, true, false, Option, None, Some, List, [], ◌∷◌, ◌++◌, length, codes, refl, ap, ◌∙◌}
 use Rattle.std.specs.Prelude.{if◌then◌else◌}
 use Rattle.std.proofs.lemmas.Bool.{and_parts}
-use Rattle.tptp_token.specs.Lexemes.{Lexeme}
+use Rattle.tptp_token.specs.Lexemes.{Lexeme, lexeme}
 use Rattle.tptp_token.specs.declared.token.Kind.TheVariants.{Lower, Number, Mark}
-use Rattle.tptp_tree.specs.Spelling.{bare, quoted, lexeme}
+use Rattle.tptp_token.specs.Words.{bare, quoted}
 use Rattle.tptp_tree.specs.Brackets.{Bracket, opened, open_after, open_behind, is_nothing_open, are_balanced}
 use Rattle.tptp_tree.specs.Entries.{NamePhrase, word_name, digits_name, name_lexeme, is_right_name, Body, formula_body, clause_body, body_lexemes, AnnotatedPhrase, is_right_annotated, notes_lexemes, annotated_lexemes}
 use Rattle.tptp_tree.specs.Causes.{syntax, role_cause, outermost, body_causes, note_cause, notes_causes, notes_part_causes, annotated_causes}

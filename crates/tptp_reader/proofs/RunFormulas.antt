@@ -1,12 +1,13 @@
 -- The machine runs over the tokens of formulas and clauses.
 use Rattle.std.proofs.Common.{◌≡◌, ℕ, true, false, Option, None, List, [], ◌∷◌, ◌++◌, codes, refl, ap, sym, ◌∙◌, append_assoc, append-nil}
-use Rattle.tptp_token.specs.Lexemes.{Lexeme}
+use Rattle.tptp_token.specs.Lexemes.{Lexeme, lexeme, is_connective}
 use Rattle.tptp_token.specs.declared.token.Kind.TheVariants.{Connective, Mark}
 use Rattle.tptp_tree.specs.Formula.{BinaryConnective, implies, implied, equivalent, different, nor, nand, for_all, exists_some}
-use Rattle.tptp_tree.specs.Spelling.{bare, quoted, lexeme, variable_word, word_with, Atom, true_atom, false_atom, predicate_atom, equation_atom, atom_lexemes, Variables, UnitPhrase, negated, bound, in_brackets, atomic, UnitPhrases, no_units, unit_then, Phrase, alone, all_of, some_of, joined_by, connective_lexeme, more_variables_lexemes, variables_lexemes, unit_lexemes, units_lexemes, phrase_lexemes}
+use Rattle.tptp_token.specs.Words.{bare, quoted}
+use Rattle.tptp_tree.specs.Spelling.{variable_word, word_with, Atom, true_atom, false_atom, predicate_atom, equation_atom, atom_lexemes, Variables, UnitPhrase, negated, bound, in_brackets, atomic, UnitPhrases, no_units, unit_then, Phrase, alone, all_of, some_of, joined_by, connective_lexeme, more_variables_lexemes, variables_lexemes, unit_lexemes, units_lexemes, phrase_lexemes}
 use Rattle.tptp_tree.specs.Entries.{PlainAtom, plain_true, plain_false, plain_predicate, plain_equation, atom_of, LiteralPhrase, positive_literal, negated_literal, negated_in_brackets, ClausePhrase, literals, clause_in_brackets, literal_lexemes, more_literals_lexemes, clause_lexemes}
 use Rattle.tptp_tree.specs.Causes.{Refusal, Surroundings, deeper, binding, begun, more_variables_causes, unit_causes, units_causes, phrase_causes, literal_causes, more_literals_causes, clause_causes}
-use Rattle.tptp_reader.specs.Machine.{Symbol, mark, an_atom, a_unit, maybe_connected, maybe_more_units, variables_bracket, more_variables, a_clause, a_literal, a_plain_literal, maybe_more_literals, is_connective}
+use Rattle.tptp_reader.specs.Machine.{Symbol, mark, an_atom, a_unit, maybe_connected, maybe_more_units, variables_bracket, more_variables, a_clause, a_literal, a_plain_literal, maybe_more_literals}
 use Rattle.tptp_reader.proofs.TraceLemmas.{Trace, marked, trace, marks}
 use Rattle.tptp_reader.proofs.FollowLemmas.{Follows, EndsAtom, EndsFormula, EndsClause, weaker, under, skipped, formula-atom, clause-atom, connected-pass, units-pass, literals-pass}
 use Rattle.tptp_reader.proofs.RunTerms.{MayBeAtom, atom-runs}

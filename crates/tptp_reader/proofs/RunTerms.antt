@@ -1,7 +1,8 @@
 -- The machine runs over the tokens of terms and atoms.
 use Rattle.std.proofs.Common.{◌≡◌, ℕ, Bool, true, false, Option, None, List, ◌∷◌, refl, ap, ◌∙◌}
 use Rattle.tptp_token.specs.Lexemes.{Lexeme}
-use Rattle.tptp_tree.specs.Spelling.{bare, quoted, TermPhrase, variable_word, word_with, TermPhrases, no_phrases, phrase_then, term_lexemes, arguments_lexemes, more_arguments_lexemes, Atom, true_atom, false_atom, predicate_atom, equation_atom, equals_lexeme, atom_lexemes}
+use Rattle.tptp_token.specs.Words.{bare, quoted}
+use Rattle.tptp_tree.specs.Spelling.{TermPhrase, variable_word, word_with, TermPhrases, no_phrases, phrase_then, term_lexemes, arguments_lexemes, more_arguments_lexemes, Atom, true_atom, false_atom, predicate_atom, equation_atom, equals_lexeme, atom_lexemes}
 use Rattle.tptp_tree.specs.Causes.{Refusal, Surroundings, deeper, begun, variable_cause, term_causes, arguments_causes, more_arguments_causes, atom_causes}
 use Rattle.tptp_reader.specs.Machine.{Symbol, a_term, maybe_arguments, more_arguments, an_atom, maybe_applied, maybe_equation, an_equation}
 use Rattle.tptp_reader.proofs.TraceLemmas.{Trace, marked, trace, marks}

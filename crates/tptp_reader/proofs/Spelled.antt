@@ -1,9 +1,9 @@
 -- What symbols spell: the parts of a text that may stand for them.
 use Rattle.std.proofs.Common.{◌≡◌, ℕ, Bool, true, false, Some, List, [], ◌∷◌, ◌++◌, codes, refl}
-use Rattle.tptp_token.specs.Lexemes.{Lexeme}
+use Rattle.tptp_token.specs.Lexemes.{Lexeme, lexeme}
 use Rattle.tptp_token.specs.declared.token.Kind.TheVariants.{Lower, Connective, Mark}
 use Rattle.tptp_tree.specs.Formula.{BinaryConnective}
-use Rattle.tptp_tree.specs.Spelling.{lexeme, TermPhrase, TermPhrases, term_lexemes, arguments_lexemes, more_arguments_lexemes, Atom, equals_lexeme, atom_lexemes, Variables, UnitPhrase, UnitPhrases, unit_then, Phrase, alone, all_of, some_of, joined_by, connective_lexeme, more_variables_lexemes, variables_lexemes, unit_lexemes, units_lexemes, phrase_lexemes}
+use Rattle.tptp_tree.specs.Spelling.{TermPhrase, TermPhrases, term_lexemes, arguments_lexemes, more_arguments_lexemes, Atom, equals_lexeme, atom_lexemes, Variables, UnitPhrase, UnitPhrases, unit_then, Phrase, alone, all_of, some_of, joined_by, connective_lexeme, more_variables_lexemes, variables_lexemes, unit_lexemes, units_lexemes, phrase_lexemes}
 use Rattle.tptp_tree.specs.Brackets.{open_behind, is_nothing_open, are_balanced}
 use Rattle.tptp_tree.specs.Entries.{PlainAtom, atom_of, LiteralPhrase, ClausePhrase, literal_lexemes, more_literals_lexemes, clause_lexemes, NamePhrase, name_lexeme, is_right_name, AnnotatedPhrase, is_right_annotated, notes_lexemes, annotated_lexemes}
 use Rattle.tptp_reader.specs.Machine.{Symbol, mark, a_term, maybe_arguments, more_arguments, an_atom, maybe_applied, maybe_equation, an_equation, a_unit, maybe_connected, maybe_more_units, variables_bracket, next_variable, more_variables, a_clause, a_literal, a_plain_literal, maybe_more_literals, a_name, a_role, end_of_body, first_note, more_notes, an_annotated, Step, takes, passes, stops}

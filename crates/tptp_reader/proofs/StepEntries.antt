@@ -3,12 +3,12 @@ use Rattle.std.proofs.Common.{◌≡◌, ℕ, Bool, true, false, ◌&&◌, Optio
 use Rattle.std.specs.Prelude.{if◌then◌else◌}
 use Rattle.std.specs.List.{list_all}
 use Rattle.std.proofs.lemmas.Slice.Eq.{bytes_eq-Decides}
-use Rattle.fol_base.specs.Spelling.{is_digit, is_one_of}
-use Rattle.tptp_token.specs.Lexemes.{Lexeme}
+use Rattle.tptp_token.specs.Spelling.{is_digit, is_one_of}
+use Rattle.tptp_token.specs.Lexemes.{Lexeme, lexeme, is_mark}
 use Rattle.tptp_token.specs.declared.token.Kind.{Kind}
 use Rattle.tptp_token.specs.declared.token.Kind.TheVariants.{Lower, Variable, Quoted, Distinct, Dollar, Number, Connective, Mark, Other}
-use Rattle.tptp_tree.specs.Spelling.{bare, quoted, lexeme}
-use Rattle.tptp_tree.specs.Brackets.{is_mark, Bracket, open_after, open_behind, is_nothing_open}
+use Rattle.tptp_token.specs.Words.{bare, quoted}
+use Rattle.tptp_tree.specs.Brackets.{Bracket, open_after, open_behind, is_nothing_open}
 use Rattle.tptp_tree.specs.Entries.{NamePhrase, word_name, digits_name, name_lexeme, is_right_name, formula_body, clause_body, Body, is_clause_body, body_lexemes, language_word, notes_lexemes}
 use Rattle.tptp_tree.specs.Causes.{syntax, left_out, typed, outermost}
 use Rattle.tptp_reader.specs.Machine.{Symbol, mark, a_term, maybe_arguments, more_arguments, an_atom, maybe_applied, maybe_equation, an_equation, a_unit, maybe_connected, maybe_more_units, variables_bracket, next_variable, more_variables, a_clause, a_literal, a_plain_literal, maybe_more_literals, a_name, a_role, end_of_body, first_note, more_notes, an_annotated, stops, taken, step, name_step, role_step, note_step, end_of_notes_step, before_body, formula_symbols, typed_words, language_step, annotated_step}

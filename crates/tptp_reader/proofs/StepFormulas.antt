@@ -1,14 +1,13 @@
 -- Each step of the machine on formulas and clauses is right.
 use Rattle.std.proofs.Common.{◌≡◌, ◌⊎◌, inl, inr, ℕ, true, false, ◌||◌, List, [], ◌∷◌, codes, refl, ap, ap₂, ◌∙◌}
-use Rattle.tptp_token.specs.Lexemes.{Lexeme}
+use Rattle.tptp_token.specs.Lexemes.{Lexeme, lexeme, is_mark, is_connective}
 use Rattle.tptp_token.specs.declared.token.Kind.{Kind}
 use Rattle.tptp_token.specs.declared.token.Kind.TheVariants.{Lower, Variable, Quoted, Distinct, Dollar, Number, Connective, Mark, Other}
 use Rattle.tptp_tree.specs.Formula.{Quantifier, for_all, exists_some}
-use Rattle.tptp_tree.specs.Spelling.{lexeme, atom_lexemes, UnitPhrase, negated, bound, in_brackets, atomic, UnitPhrases, no_units, unit_then, Phrase, quantifier_lexeme, more_variables_lexemes, variables_lexemes, unit_lexemes, units_lexemes, phrase_lexemes}
-use Rattle.tptp_tree.specs.Brackets.{is_mark}
+use Rattle.tptp_tree.specs.Spelling.{atom_lexemes, UnitPhrase, negated, bound, in_brackets, atomic, UnitPhrases, no_units, unit_then, Phrase, quantifier_lexeme, more_variables_lexemes, variables_lexemes, unit_lexemes, units_lexemes, phrase_lexemes}
 use Rattle.tptp_tree.specs.Entries.{atom_of, positive_literal, negated_literal, negated_in_brackets, literals, clause_in_brackets, literal_lexemes, more_literals_lexemes, clause_lexemes}
 use Rattle.tptp_tree.specs.Causes.{Surroundings, deeper, binding, begun, syntax}
-use Rattle.tptp_reader.specs.Machine.{Symbol, mark, an_atom, a_unit, maybe_connected, maybe_more_units, variables_bracket, next_variable, more_variables, a_clause, a_literal, a_plain_literal, maybe_more_literals, Step, takes, passes, stops, taken, followed_by, step, atom_step, unit_step, connected_step, variable_step, literal_step, is_connective, is_binary_connective}
+use Rattle.tptp_reader.specs.Machine.{Symbol, mark, an_atom, a_unit, maybe_connected, maybe_more_units, variables_bracket, next_variable, more_variables, a_clause, a_literal, a_plain_literal, maybe_more_literals, Step, takes, passes, stops, taken, followed_by, step, atom_step, unit_step, connected_step, variable_step, literal_step, is_binary_connective}
 use Rattle.tptp_reader.proofs.Spelled.{with_end, with_end-lexemes, ended, and_all, or_some, and_joined, colon_and, SpellAll, IsStepOf, all-split}
 use Rattle.tptp_reader.proofs.TokenTests.{choose, mark-same, connective-same, either, binary-same}
 use Rattle.tptp_reader.proofs.StepTerms.{atom-right, mapped}

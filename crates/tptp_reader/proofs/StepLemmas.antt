@@ -1,13 +1,12 @@
 -- What symbols do with tokens: marks and terms.
 use Rattle.std.proofs.Common.{◌≡◌, ◌<◌, ◌≤◌, ℕ, ◌+◌, Bool, true, false, List, [], ◌∷◌, codes, None, if◌then◌else◌, refl, ap, ◌∙◌}
-use Rattle.tptp_token.specs.Lexemes.{Lexeme}
+use Rattle.tptp_token.specs.Lexemes.{Lexeme, is_mark, lexeme, word_lexeme}
 use Rattle.tptp_token.specs.declared.token.Kind.{Kind}
 use Rattle.tptp_token.specs.declared.token.Kind.TheVariants.{Lower, Variable, Quoted, Distinct, Dollar, Number, Connective, Mark, Other}
-use Rattle.tptp_tree.specs.Brackets.{is_mark}
-use Rattle.tptp_tree.specs.Spelling.{lexeme, word_lexeme}
 use Rattle.tptp_tree.specs.Causes.{syntax, left_out, dollar_form, Surroundings, deeper, variable_cause}
 use Rattle.tptp_reader.specs.Machine.{mark, a_term, maybe_arguments, more_arguments, arguments, is_truth_word, Step, takes, stops, step}
-use Rattle.tptp_reader.specs.Telling.{IsNext, Leads, Ends, Suits, is_free_among, free_cause, is_word, word_of, is_variable, term_refusal, refusal_of}
+use Rattle.tptp_token.specs.Words.{is_word, word_of, is_variable}
+use Rattle.tptp_reader.specs.Telling.{IsNext, Leads, Ends, Suits, is_free_among, free_cause, term_refusal, refusal_of}
 use Rattle.tptp_reader.specs.declared.source.Reader.{Reader}
 use Rattle.tptp_reader.specs.declared.source.Name.{Name}
 use Rattle.tptp_reader.specs.declared.cause.Halt.TheVariants.{At}

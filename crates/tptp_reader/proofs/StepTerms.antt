@@ -1,14 +1,14 @@
 -- Each step of the machine on terms and atoms is right.
 use Rattle.std.proofs.Common.{◌≡◌, ◌⊎◌, inl, inr, ℕ, Bool, true, false, List, [], ◌∷◌, codes, refl, ap, ap₂, ◌∙◌}
 use Rattle.std.specs.Prelude.{if◌then◌else◌}
-use Rattle.tptp_token.specs.Lexemes.{Lexeme}
+use Rattle.tptp_token.specs.Lexemes.{Lexeme, lexeme, word_lexeme, is_mark, is_connective}
 use Rattle.tptp_token.specs.declared.token.Kind.{Kind}
 use Rattle.tptp_token.specs.declared.token.Kind.TheVariants.{Lower, Variable, Quoted, Distinct, Dollar, Number, Connective, Mark, Other}
-use Rattle.tptp_tree.specs.Spelling.{Word, bare, quoted, lexeme, word_lexeme, TermPhrase, variable_word, word_with, TermPhrases, no_phrases, phrase_then, term_lexemes, arguments_lexemes, more_arguments_lexemes, true_atom, false_atom, predicate_atom, equation_atom, equals_lexeme, atom_lexemes}
-use Rattle.tptp_tree.specs.Brackets.{is_mark}
+use Rattle.tptp_token.specs.Words.{Word, bare, quoted}
+use Rattle.tptp_tree.specs.Spelling.{TermPhrase, variable_word, word_with, TermPhrases, no_phrases, phrase_then, term_lexemes, arguments_lexemes, more_arguments_lexemes, true_atom, false_atom, predicate_atom, equation_atom, equals_lexeme, atom_lexemes}
 use Rattle.tptp_tree.specs.Entries.{plain_true, plain_false, plain_predicate, plain_equation}
 use Rattle.tptp_tree.specs.Causes.{Surroundings, deeper, begun, syntax, left_out, dollar_form}
-use Rattle.tptp_reader.specs.Machine.{Symbol, a_term, maybe_arguments, more_arguments, an_atom, maybe_applied, maybe_equation, an_equation, Step, takes, passes, stops, taken, arguments, step, term_step, atom_step, equation_step, is_connective, is_sign_of_equation, is_truth_word}
+use Rattle.tptp_reader.specs.Machine.{Symbol, a_term, maybe_arguments, more_arguments, an_atom, maybe_applied, maybe_equation, an_equation, Step, takes, passes, stops, taken, arguments, step, term_step, atom_step, equation_step, is_sign_of_equation, is_truth_word}
 use Rattle.tptp_reader.proofs.Spelled.{SignFor, sign_for, AtomFor, atom_for, EquationEnd, no_equation, equation_with, equation_lexemes, Spells, SpellAll, IsStepOf}
 use Rattle.tptp_reader.proofs.TokenTests.{choose, mark-same, connective-same, either, only, truth-same}
 

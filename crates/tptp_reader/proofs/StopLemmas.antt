@@ -3,12 +3,12 @@ use Rattle.std.proofs.Common.{◌≡◌, ℕ, Bool, true, false, ◌&&◌, Optio
 use Rattle.std.specs.Prelude.{if◌then◌else◌}
 use Rattle.std.specs.List.{list_all}
 use Rattle.std.proofs.lemmas.Bool.{and_parts}
-use Rattle.fol_base.specs.Spelling.{is_one_of}
-use Rattle.tptp_token.specs.Lexemes.{Lexeme}
+use Rattle.tptp_token.specs.Spelling.{is_one_of}
+use Rattle.tptp_token.specs.Lexemes.{Lexeme, is_mark, is_connective}
 use Rattle.tptp_token.specs.declared.token.Kind.TheVariants.{Lower}
-use Rattle.tptp_tree.specs.Brackets.{is_mark, round, square, curly}
+use Rattle.tptp_tree.specs.Brackets.{round, square, curly}
 use Rattle.tptp_tree.specs.Causes.{typed, role_form, number_form, distinct_form, dollar_form, Refusal, syntax, free_variable, role_not_taken, too_deep, left_out, begun, deeper}
-use Rattle.tptp_reader.specs.Machine.{Symbol, mark, a_term, maybe_arguments, more_arguments, maybe_applied, maybe_equation, an_equation, a_unit, maybe_connected, maybe_more_units, a_literal, maybe_more_literals, more_notes, an_annotated, Step, takes, passes, stops, taken, step, typed_words, arguments, equation_step, is_connective, is_binary_connective, is_sign_of_equation}
+use Rattle.tptp_reader.specs.Machine.{Symbol, mark, a_term, maybe_arguments, more_arguments, maybe_applied, maybe_equation, an_equation, a_unit, maybe_connected, maybe_more_units, a_literal, maybe_more_literals, more_notes, an_annotated, Step, takes, passes, stops, taken, step, typed_words, arguments, equation_step, is_binary_connective, is_sign_of_equation}
 use Rattle.tptp_reader.specs.Answers.{form_of_token}
 use Rattle.tptp_reader.proofs.TraceLemmas.{to, halted, emptied, moved_by, moved}
 use Rattle.tptp_reader.proofs.TokenTests.{choose}

@@ -2,12 +2,12 @@
 use Rattle.std.proofs.Common.{Bor, take, ◌-◌, ◌≡◌, ◌<◌, ◌≤◌, ◌+◌, ℕ, suc, List, [], ◌∷◌, ◌++◌, map, drop, length, get_or, None, Some, refl, sym, ap, ◌∙◌, subst, arith, append_assoc, add-one, drop-cons}
 use Rattle.std.proofs.lemmas.Bool.{lt-ltb, le-ltb}
 use Rattle.std.proofs.lemmas.List.{drop_all, drop-map, length-map}
-use Rattle.tptp_token.specs.Lexemes.{Lexeme, lexeme_at}
+use Rattle.tptp_token.specs.Lexemes.{Lexeme, lexeme_at, lexeme}
 use Rattle.tptp_token.specs.declared.token.Token.{Token}
-use Rattle.tptp_tree.specs.Spelling.{lexeme}
 use Rattle.tptp_tree.specs.Causes.{Refusal, too_deep, Surroundings, deeper, begun}
 use Rattle.tptp_reader.specs.Machine.{Symbol, Step, takes, passes, stops, followed_by, step, stepped, after_token, going, over, refused, Verdict, read_up_to, refused_at, verdict}
-use Rattle.tptp_reader.specs.Telling.{lexeme_of, lexemes, IsNext, IsEnd, refusal_of, told, Leads, Ends, Suits}
+use Rattle.tptp_token.specs.TextTokens.{lexeme_of}
+use Rattle.tptp_reader.specs.Telling.{lexemes, IsNext, IsEnd, refusal_of, told, Leads, Ends, Suits}
 use Rattle.tptp_reader.specs.declared.source.Reader.{Reader}
 use Rattle.tptp_reader.specs.declared.source.Name.{Name}
 use Rattle.tptp_reader.specs.declared.cause.Halt.{Halt}

@@ -1,13 +1,13 @@
 -- Steps of reading terms.
 use Rattle.std.proofs.Common.{◌≡◌, ◌<◌, ◌≤◌, ℕ, ◌+◌, true, false, List, [], ◌∷◌, ◌++◌, map, drop, refl, sym, ap, ap₂, ◌∙◌, arith, codes}
-use Rattle.tptp_token.specs.Lexemes.{Lexeme}
+use Rattle.tptp_token.specs.Lexemes.{Lexeme, is_mark, lexeme, word_lexeme}
 use Rattle.tptp_token.specs.declared.token.Kind.TheVariants.{Mark}
 use Rattle.tptp_tree.specs.Term.{TermTree, variable, application, TermTrees, term_then, terms_of}
-use Rattle.tptp_tree.specs.Brackets.{is_mark}
-use Rattle.tptp_tree.specs.Spelling.{lexeme, word_lexeme, name_of, TermPhrase, variable_word, word_with, TermPhrases, no_phrases, phrase_then, term_lexemes, more_arguments_lexemes, term_meant, terms_meant}
+use Rattle.tptp_token.specs.Words.{name_of, is_word, is_variable, word_of}
+use Rattle.tptp_tree.specs.Spelling.{TermPhrase, variable_word, word_with, TermPhrases, no_phrases, phrase_then, term_lexemes, more_arguments_lexemes, term_meant, terms_meant}
 use Rattle.tptp_tree.specs.Causes.{deeper}
 use Rattle.tptp_reader.specs.Machine.{Symbol, a_term, maybe_arguments, more_arguments, arguments}
-use Rattle.tptp_reader.specs.Telling.{lexemes, IsNext, Ends, Halts, one, further, is_word, is_variable, word_of, is_free_among, term_refusal, ReadsTerm, ReadsArguments, ReadsBracketed}
+use Rattle.tptp_reader.specs.Telling.{lexemes, IsNext, Ends, Halts, one, further, is_free_among, term_refusal, ReadsTerm, ReadsArguments, ReadsBracketed}
 use Rattle.tptp_reader.specs.declared.source.Reader.{Reader}
 use Rattle.tptp_reader.specs.declared.source.Name.{Name}
 use Rattle.tptp_reader.specs.declared.cause.Halt.{Halt}

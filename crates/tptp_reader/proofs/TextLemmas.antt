@@ -3,13 +3,13 @@ use Rattle.std.proofs.Common.{◌≡◌, ℕ, Bool, true, false, ◌&&◌, List,
 use Rattle.std.specs.Prelude.{nat_le}
 use Rattle.std.specs.List.{list_all}
 use Rattle.std.proofs.lemmas.Bool.{and_parts, and_from}
-use Rattle.fol_base.specs.Spelling.{is_digit, is_number, is_printable}
-use Rattle.tptp_token.specs.Lexemes.{Lexeme, IsLexedAs, lexeme_at}
+use Rattle.tptp_token.specs.Spelling.{is_digit, is_number, is_printable}
+use Rattle.tptp_token.specs.Lexemes.{Lexeme, IsLexedAs, lexeme_at, word_lexeme}
 use Rattle.tptp_token.specs.Lexing.{lexed_of}
 use Rattle.tptp_token.specs.declared.token.Token.{Token}
 use Rattle.tptp_token.proofs.LexemeLemmas.{tokens-spelled, lexes-whole, lexes-nothing}
-use Rattle.tptp_tree.specs.Printing.{name_text}
-use Rattle.tptp_tree.specs.Spelling.{word_lexeme, SpellsName}
+use Rattle.tptp_token.specs.Words.{name_text}
+use Rattle.tptp_tree.specs.Spelling.{SpellsName}
 use Rattle.tptp_tree.specs.Entries.{NamePhrase, word_name, digits_name, name_lexeme, name_meant, is_right_name, AnnotatedPhrase, annotated_lexemes, is_right_annotated, AnnotatedTree, IsAnnotatedOf, SpellsAnnotated}
 use Rattle.tptp_tree.specs.Causes.{annotated_causes}
 use Rattle.tptp_tree.proofs.NameLemmas.{WellName, word_of, name_of-word_of, name-lexes}

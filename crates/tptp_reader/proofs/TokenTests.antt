@@ -4,14 +4,13 @@ use Rattle.std.specs.Prelude.{if◌then◌else◌}
 use Rattle.std.specs.List.{list_any}
 use Rattle.std.proofs.lemmas.Bool.{and_parts}
 use Rattle.std.proofs.lemmas.Slice.Eq.{bytes_eq-Decides}
-use Rattle.fol_base.specs.Spelling.{is_one_of}
-use Rattle.tptp_token.specs.Lexemes.{Lexeme}
+use Rattle.tptp_token.specs.Spelling.{is_one_of}
+use Rattle.tptp_token.specs.Lexemes.{Lexeme, lexeme, kind_place, is_lexeme, is_mark, is_connective}
 use Rattle.tptp_token.specs.declared.token.Kind.{Kind}
 use Rattle.tptp_token.specs.declared.token.Kind.TheVariants.{Lower, Variable, Quoted, Distinct, Dollar, Number, Connective, Mark, Other}
 use Rattle.tptp_tree.specs.Formula.{BinaryConnective, implies, implied, equivalent, different, nor, nand}
-use Rattle.tptp_tree.specs.Spelling.{lexeme, connective_lexeme}
-use Rattle.tptp_tree.specs.Brackets.{kind_place, is_lexeme, is_mark}
-use Rattle.tptp_reader.specs.Machine.{Step, is_connective, is_binary_connective, is_truth_word}
+use Rattle.tptp_tree.specs.Spelling.{connective_lexeme}
+use Rattle.tptp_reader.specs.Machine.{Step, is_binary_connective, is_truth_word}
 
 -- both ways of a test
 pub choose : (P : Step → Type 0) (b : Bool) (x y : Step) → (b ≡ true → P x) → (b ≡ false → P y) → P (if b then x else y)

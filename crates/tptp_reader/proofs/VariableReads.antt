@@ -1,14 +1,14 @@
 -- Steps of reading the variables of a quantifier and its unit.
 use Rattle.std.proofs.Common.{◌≡◌, ◌<◌, ◌≤◌, ℕ, ◌+◌, Bool, true, false, List, [], ◌∷◌, ◌++◌, drop, take, length, refl, sym, ap, ◌∙◌, arith, subst, append_assoc, codes}
 use Rattle.std.proofs.lemmas.List.{map-append}
-use Rattle.tptp_token.specs.Lexemes.{Lexeme}
+use Rattle.tptp_token.specs.Lexemes.{Lexeme, is_mark, lexeme}
 use Rattle.tptp_token.specs.declared.token.Kind.TheVariants.{Variable, Mark}
 use Rattle.tptp_tree.specs.Formula.{FormulaTree, quantified}
-use Rattle.tptp_tree.specs.Brackets.{is_mark}
-use Rattle.tptp_tree.specs.Spelling.{lexeme, Variables, variables_lexemes, more_variables_lexemes, unit_meant}
+use Rattle.tptp_tree.specs.Spelling.{Variables, variables_lexemes, more_variables_lexemes, unit_meant}
 use Rattle.tptp_tree.specs.Causes.{Surroundings, binding}
 use Rattle.tptp_reader.specs.Machine.{Symbol, mark, a_unit, variables_bracket, next_variable, more_variables}
-use Rattle.tptp_reader.specs.Telling.{lexemes, IsNext, Leads, Ends, Suits, Halts, one, is_variable, ReadsUnit, texts_of, quantifier_of, ReadsBound, ReadsVariables, ReadsVariable, HaltsVariable, Binds, BindsOne}
+use Rattle.tptp_token.specs.Words.{is_variable}
+use Rattle.tptp_reader.specs.Telling.{lexemes, IsNext, Leads, Ends, Suits, Halts, one, ReadsUnit, texts_of, quantifier_of, ReadsBound, ReadsVariables, ReadsVariable, HaltsVariable, Binds, BindsOne}
 use Rattle.tptp_reader.specs.declared.source.Reader.{Reader}
 use Rattle.tptp_reader.specs.declared.source.Name.{Name}
 use Rattle.tptp_reader.specs.declared.cause.Halt.{Halt}

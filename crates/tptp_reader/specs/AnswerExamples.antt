@@ -1,8 +1,7 @@
 -- The machine's verdict on small texts, by their tokens: one for each cause.
 use Rattle.std.specs.Prelude.{◌≡◌, ℕ, List, [], ◌∷◌, ◌++◌, codes}
-use Rattle.tptp_token.specs.Lexemes.{Lexeme}
+use Rattle.tptp_token.specs.Lexemes.{Lexeme, lexeme}
 use Rattle.tptp_token.specs.declared.token.Kind.TheVariants.{Lower, Variable, Quoted, Distinct, Dollar, Number, Connective, Mark, Other}
-use Rattle.tptp_tree.specs.Spelling.{lexeme}
 use Rattle.tptp_tree.specs.Causes.{typed, role_form, number_form, distinct_form, dollar_form, syntax, free_variable, role_not_taken, too_deep, left_out}
 use Rattle.tptp_reader.specs.Machine.{read_up_to, refused_at, ran_out}
 use Rattle.tptp_reader.specs.Verdicts.{verdict_on}

@@ -1,11 +1,10 @@
 -- What reading one annotated formula from tokens answers: the formula, or the first token at which it can't go on, and why.
 use Rattle.std.specs.Prelude.{◌≡◌, ◌⊎◌, ℕ, suc, true, List, [], ◌∷◌, ◌++◌, map, length, take, codes, Option, None, Some, if◌then◌else◌}
 use Rattle.std.specs.List.{AllByRecursion}
-use Rattle.fol_base.specs.Spelling.{is_one_of}
-use Rattle.tptp_token.specs.Lexemes.{Lexeme}
+use Rattle.tptp_token.specs.Spelling.{is_one_of}
+use Rattle.tptp_token.specs.Lexemes.{Lexeme, lexeme}
 use Rattle.tptp_token.specs.declared.token.Kind.{Kind}
 use Rattle.tptp_token.specs.declared.token.Kind.TheVariants.{Lower, Variable, Quoted, Distinct, Dollar, Number, Connective, Mark, Other}
-use Rattle.tptp_tree.specs.Spelling.{lexeme}
 use Rattle.tptp_tree.specs.Entries.{AnnotatedPhrase, is_right_annotated, annotated_lexemes}
 use Rattle.tptp_tree.specs.Causes.{Form, typed, role_form, number_form, distinct_form, dollar_form, Refusal, syntax, free_variable, role_not_taken, too_deep, left_out, annotated_causes}
 

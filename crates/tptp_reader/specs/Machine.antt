@@ -2,11 +2,11 @@
 -- has still to come. It says at which token the reading ends, and why.
 use Rattle.std.specs.Prelude.{ℕ, suc, Bool, true, false, ◌==◌, ◌&&◌, ◌||◌, List, [], ◌∷◌, ◌++◌, length, codes, bytes_eq, Option, None, Some, if◌then◌else◌}
 use Rattle.std.specs.List.{list_all}
-use Rattle.fol_base.specs.Spelling.{is_digit, is_one_of}
-use Rattle.tptp_token.specs.Lexemes.{Lexeme}
+use Rattle.tptp_token.specs.Spelling.{is_digit, is_one_of}
+use Rattle.tptp_token.specs.Lexemes.{Lexeme, kind_place, is_lexeme, is_mark}
 use Rattle.tptp_token.specs.declared.token.Kind.{Kind}
 use Rattle.tptp_token.specs.declared.token.Kind.TheVariants.{Lower, Variable, Quoted, Distinct, Dollar, Number, Connective, Mark, Other}
-use Rattle.tptp_tree.specs.Brackets.{kind_place, is_lexeme, is_mark, Bracket, opened, open_after}
+use Rattle.tptp_tree.specs.Brackets.{Bracket, opened, open_after}
 use Rattle.tptp_tree.specs.Causes.{typed, number_form, distinct_form, dollar_form, Refusal, syntax, left_out, Surroundings, deeper, binding, begun, variable_cause, role_cause, note_cause, outermost}
 
 -- What has still to come. A symbol in whose name stands `maybe` may be left out.

@@ -1,18 +1,19 @@
 -- What the functions that read an annotated formula say of the tokens before and after, told by the stack machine.
 use Rattle.std.specs.Prelude.{◌≡◌, ◌<◌, ◌≤◌, ◌+◌, ⊤, ℕ, Bool, true, false, List, [], ◌∷◌, ◌++◌, map, drop, length, codes, bytes_eq, Option, None, Some, not, if◌then◌else◌}
 use Rattle.std.specs.List.{list_any, list_all}
-use Rattle.fol_base.specs.Spelling.{is_digit}
-use Rattle.tptp_token.specs.Lexemes.{Lexeme, lexeme_at}
+use Rattle.tptp_token.specs.Spelling.{is_digit}
+use Rattle.tptp_token.specs.Lexemes.{Lexeme, lexeme_at, lexeme}
 use Rattle.tptp_token.specs.declared.token.Kind.{Kind}
 use Rattle.tptp_token.specs.declared.token.Kind.TheVariants.{Lower, Variable, Quoted, Distinct, Dollar, Number, Connective, Mark, Other}
 use Rattle.tptp_tree.specs.Term.{TermTree, TermTrees}
 use Rattle.tptp_tree.specs.Formula.{FormulaTree, quantified, Quantifier, for_all, exists_some, BinaryConnective, implies, implied, equivalent, different, nor, nand}
-use Rattle.tptp_tree.specs.Spelling.{Atom, true_atom, false_atom, predicate_atom, equation_atom, atom_lexemes, atom_meant, UnitPhrase, unit_lexemes, unit_meant, phrase_lexemes, meant, Variables, variables_lexemes, Word, bare, quoted, lexeme, TermPhrase, term_lexemes, arguments_lexemes, term_meant, terms_meant}
+use Rattle.tptp_token.specs.Words.{Word, bare, quoted}
+use Rattle.tptp_tree.specs.Spelling.{Atom, true_atom, false_atom, predicate_atom, equation_atom, atom_lexemes, atom_meant, UnitPhrase, unit_lexemes, unit_meant, phrase_lexemes, meant, Variables, variables_lexemes, TermPhrase, term_lexemes, arguments_lexemes, term_meant, terms_meant}
 use Rattle.tptp_tree.specs.Entries.{LiteralPhrase, literal_lexemes, literal_meant, ClausePhrase, literals, clause_lexemes, clause_meant}
 use Rattle.tptp_tree.specs.Causes.{Refusal, syntax, free_variable, role_not_taken, too_deep, left_out, Surroundings, binding, variable_cause}
 use Rattle.tptp_reader.specs.Shape.{form_of}
 use Rattle.tptp_reader.specs.Machine.{Symbol, mark, a_clause, a_literal, a_plain_literal, maybe_more_literals, an_atom, a_unit, maybe_more_units, formula_symbols, variables_bracket, next_variable, more_variables, a_term, maybe_arguments, arguments, is_truth_word, Verdict, refused_at, ran_out, verdict, going}
-use Rattle.tptp_reader.specs.declared.source.TextToken.{TextToken}
+use Rattle.tptp_token.specs.declared.text_token.TextToken.{TextToken}
 use Rattle.tptp_reader.specs.declared.source.Reader.{Reader}
 use Rattle.tptp_reader.specs.declared.source.Name.{Name}
 use Rattle.tptp_reader.specs.declared.source.Binary.{Binary}

@@ -1,13 +1,12 @@
 -- What the functions that read an entry say of the tokens before and after.
 use Rattle.std.specs.Prelude.{◌≡◌, ◌<◌, ◌+◌, ⊤, ℕ, Bool, true, false, List, [], ◌∷◌, ◌++◌, drop, length, codes, Option, None, Some, slice_get}
-use Rattle.tptp_token.specs.Lexemes.{Lexeme}
+use Rattle.tptp_token.specs.Lexemes.{Lexeme, lexeme}
 use Rattle.tptp_token.specs.declared.token.Kind.TheVariants.{Lower, Mark}
 use Rattle.tptp_tree.specs.Formula.{FormulaTree}
 use Rattle.tptp_tree.specs.Brackets.{are_balanced}
-use Rattle.tptp_tree.specs.Spelling.{lexeme}
 use Rattle.tptp_tree.specs.Entries.{NamePhrase, name_lexeme, name_meant, is_right_name, role_of, language_word, Body, is_clause_body, body_lexemes, body_meant, AnnotatedPhrase, is_right_annotated, notes_lexemes, annotated_lexemes, IsAnnotatedOf}
 use Rattle.tptp_tree.specs.Causes.{outermost}
-use Rattle.tptp_tree.specs.declared.problem.Role.{Role}
+use Rattle.tptp_tree.specs.declared.role.Role.{Role}
 use Rattle.tptp_reader.specs.Shape.{tree_of}
 use Rattle.tptp_reader.specs.Machine.{Symbol, a_name, a_role, a_clause, an_annotated, end_of_body, before_body, formula_symbols, read_up_to}
 use Rattle.tptp_reader.specs.Telling.{lexemes, IsNext, Leads, told}

@@ -1,9 +1,8 @@
 -- What the functions that read notes say of the tokens before and after.
 use Rattle.std.specs.Prelude.{◌≡◌, ◌+◌, ⊤, ℕ, Bool, true, false, List, [], ◌∷◌, ◌++◌, map, drop, length, reverse, codes, Option, None, Some}
-use Rattle.tptp_token.specs.Lexemes.{Lexeme}
+use Rattle.tptp_token.specs.Lexemes.{Lexeme, is_mark, lexeme}
 use Rattle.tptp_token.specs.declared.token.Kind.TheVariants.{Mark}
-use Rattle.tptp_tree.specs.Brackets.{is_mark, Bracket, round, square, curly, closes, opened, is_closing, with_opened, open_after, are_balanced}
-use Rattle.tptp_tree.specs.Spelling.{lexeme}
+use Rattle.tptp_tree.specs.Brackets.{Bracket, round, square, curly, closes, opened, is_closing, with_opened, open_after, are_balanced}
 use Rattle.tptp_tree.specs.Causes.{too_deep, note_cause}
 use Rattle.tptp_reader.specs.Machine.{mark, first_note}
 use Rattle.tptp_reader.specs.Telling.{lexemes, IsNext, Leads}

@@ -4,7 +4,9 @@ ghost use Rattle.std.specs.Prelude.{◌≡◌, ◌+◌, ◌^◌, ◌<◌, IfOk, 
 ghost use Rattle.tptp_tree.specs.Formula.{equation as equation_tree};
 ghost use Rattle.tptp_tree.specs.Shape.{term_of, formula_of};
 ghost use Rattle.tptp_reader.specs.Machine.{an_atom};
-ghost use Rattle.tptp_reader.specs.Telling.{one, lexeme_of, IsNext, is_word as word_is, is_variable as variable_is, ReadsAtom, Halts};
+ghost use Rattle.tptp_token.specs.TextTokens.{lexeme_of};
+ghost use Rattle.tptp_token.specs.Words.{is_word as word_is, is_variable as variable_is};
+ghost use Rattle.tptp_reader.specs.Telling.{one, IsNext, ReadsAtom, Halts};
 
 use crate::cause::{Halt, Refusal};
 use crate::source::{Name, Reader, TextToken};

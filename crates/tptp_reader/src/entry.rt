@@ -2,13 +2,13 @@
 
 ghost use Rattle.std.specs.Prelude.{◌≡◌, ◌+◌, ◌<◌, ◌≤◌, ◌^◌, [], ◌∷◌, IfOk, IfErr, IfSome, true, false, length, slice_get, Some, None};
 ghost use Rattle.std.specs.List.{list_all};
-ghost use Rattle.fol_base.specs.Spelling.{is_digit, is_one_of};
+ghost use Rattle.tptp_token.specs.Spelling.{is_digit, is_one_of};
 ghost use Rattle.tptp_tree.specs.Shape.{formula_of};
 ghost use Rattle.tptp_tree.specs.Causes.{roles_left_out, untaken_role_cause};
 ghost use Rattle.tptp_tree.specs.Entries.{role_of as role_meant, role_among};
 ghost use Rattle.tptp_reader.specs.Machine.{an_annotated, a_name, a_role, end_of_body, before_body, typed_words};
 ghost use Rattle.tptp_reader.specs.Telling.{Ends, refusal_of};
-ghost use Rattle.tptp_tree.specs.declared.problem.Role.TheVariants.{Conjecture};
+ghost use Rattle.tptp_tree.specs.declared.role.Role.TheVariants.{Conjecture};
 ghost use Rattle.tptp_token.specs.Lexing.{lexed_of};
 ghost use Rattle.tptp_reader.specs.Annotating.{IsReading, IsFaultOf};
 ghost use Rattle.tptp_reader.specs.TellingEntries.{IsFaultBy, IsWithin, cause_told, body_symbols, ReadsLanguage, ReadsName, ReadsRole, ReadsBody, ReadsEnding, ReadsEntry};

@@ -2,7 +2,7 @@
 
 ghost use Rattle.std.specs.Prelude.{◌≡◌, IfOk, IfErr, codes};
 ghost use Rattle.tptp_token.specs.declared.token.Kind.TheVariants.{Connective, Mark};
-ghost use Rattle.tptp_tree.specs.Spelling.{lexeme};
+ghost use Rattle.tptp_token.specs.Lexemes.{lexeme};
 ghost use Rattle.tptp_tree.specs.Formula.{connected as connected_tree, quantified as quantified_tree};
 ghost use Rattle.tptp_tree.specs.Shape.{formula_of};
 ghost use Rattle.tptp_reader.specs.Machine.{a_unit, formula_symbols, variables_bracket};

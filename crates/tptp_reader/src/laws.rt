@@ -5,7 +5,7 @@ ghost use Rattle.tptp_token.specs.Lexemes.{Lexeme};
 ghost use Rattle.tptp_token.specs.Lexing.{lexed_of};
 ghost use Rattle.tptp_tree.specs.Entries.{AnnotatedPhrase, is_right_annotated, annotated_lexemes, AnnotatedTree, SpellsAnnotated};
 ghost use Rattle.tptp_tree.specs.Causes.{Refusal, annotated_causes};
-ghost use Rattle.tptp_tree.specs.Printing.{name_text};
+ghost use Rattle.tptp_token.specs.Words.{name_text};
 ghost use Rattle.tptp_tree.specs.Spelling.{SpellsName};
 ghost use Rattle.tptp_reader.specs.Machine.{read_up_to, refused_at, ran_out};
 ghost use Rattle.tptp_reader.specs.Placed.{verdict_at, IsReadFrom, IsRefusedFrom, RunsOutFrom, IsTheAnswerFrom};

@@ -1,10 +1,12 @@
 // Notes of an entry, whose tokens are free but for their brackets.
 
 ghost use Rattle.std.specs.Prelude.{◌≡◌, [], ◌∷◌, IfOk, IfErr, Some, None, map, codes, length, nat_lt};
-ghost use Rattle.tptp_tree.specs.Brackets.{closes as bracket_closes, opened as bracket_opened, is_closing as closing_is, is_lexeme};
+ghost use Rattle.tptp_token.specs.Lexemes.{is_lexeme};
+ghost use Rattle.tptp_tree.specs.Brackets.{closes as bracket_closes, opened as bracket_opened, is_closing as closing_is};
 ghost use Rattle.tptp_token.specs.declared.token.Kind.TheVariants.{Other};
 ghost use Rattle.tptp_reader.specs.Machine.{first_note};
-ghost use Rattle.tptp_reader.specs.Telling.{lexeme_of, Ends};
+ghost use Rattle.tptp_token.specs.TextTokens.{lexeme_of};
+ghost use Rattle.tptp_reader.specs.Telling.{Ends};
 ghost use Rattle.tptp_reader.specs.TellingNotes.{bracket_of, stack_of, told_bracket, closes_first, GoesOn, IsTooDeep, EntersWith, EntersTooDeep, is_end_of_notes, ReadsNotes};
 
 use crate::cause::{Halt, Refusal};

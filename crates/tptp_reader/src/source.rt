@@ -1,11 +1,12 @@
 // The tokens of a text, as a reader sees them.
 
 ghost use Rattle.std.specs.Prelude.{◌≡◌, ◌+◌, ◌-◌, ◌^◌, ◌<◌, ◌≤◌, ◌||◌, codes, bytes_eq, IfOk, IfErr, IfSome, IfNone, take, drop, true, false, List, ℕ, [], ◌∷◌, length};
-ghost use Rattle.tptp_tree.specs.Spelling.{lexeme};
-ghost use Rattle.tptp_tree.specs.Brackets.{is_lexeme, is_mark as mark_is};
-ghost use Rattle.tptp_reader.specs.Machine.{Symbol, mark, is_connective as connective_is, is_sign_of_equation as equation_sign_is, is_binary_connective};
-ghost use Rattle.tptp_tree.specs.Spelling.{name_of, unescaped, connective_lexeme};
-ghost use Rattle.tptp_reader.specs.Telling.{lexeme_of, lexemes, IsNext, Leads, Ends, is_word as word_is, word_of, is_variable as variable_is, term_refusal, is_lower_kind, is_digits as digits_are, is_among as among, is_free_among, binary_of};
+ghost use Rattle.tptp_token.specs.Lexemes.{lexeme, is_lexeme, is_mark as mark_is, is_connective as connective_is};
+ghost use Rattle.tptp_reader.specs.Machine.{Symbol, mark, is_sign_of_equation as equation_sign_is, is_binary_connective};
+ghost use Rattle.tptp_token.specs.Words.{name_of, unescaped, is_word as word_is, word_of, is_variable as variable_is, is_lower_kind, is_digits as digits_are};
+ghost use Rattle.tptp_tree.specs.Spelling.{connective_lexeme};
+ghost use Rattle.tptp_token.specs.TextTokens.{lexeme_of};
+ghost use Rattle.tptp_reader.specs.Telling.{lexemes, IsNext, Leads, Ends, term_refusal, is_among as among, is_free_among, binary_of};
 ghost use Rattle.tptp_token.specs.declared.token.Kind.TheVariants.{Mark, Dollar};
 ghost use Rattle.tptp_reader.specs.declared.cause.Halt.TheVariants.{At};
 ghost use Rattle.tptp_reader.specs.declared.cause.Refusal.TheVariants.{Nesting};

@@ -1,9 +1,9 @@
 -- What fills a quoted word or a distinct object, and its next unit.
-use Rattle.std.proofs.Common.{◌≡◌, ◌⊎◌, ℕ, zero, suc, ◌+◌, ◌-◌, ◌<◌, ◌≤◌, Bool, true, false, not, ◌&&◌, ◌||◌, ◌==◌, List, [], ◌∷◌, ◌++◌, take, drop, length, refl, ap, sym, ◌∙◌, arith, eqb-true, ne_eqb, eq-eqb, inl, inr, ⊎_elim, append_assoc, take-append-drop, length-append, length-drop, length-take-le, drop-drop, bytes_eq}
+use Rattle.std.proofs.Common.{◌≡◌, ◌⊎◌, ℕ, zero, suc, ◌+◌, ◌<◌, ◌≤◌, Bool, true, false, ◌&&◌, ◌||◌, ◌==◌, List, [], ◌∷◌, ◌++◌, take, drop, length, refl, ap, sym, ◌∙◌, arith, eqb-true, ne_eqb, eq-eqb, inl, inr, ⊎_elim, append_assoc, take-append-drop, length-drop, length-take-le, drop-drop}
 use Rattle.std.specs.Prelude.{if◌then◌else◌}
 use Rattle.std.proofs.lemmas.Bool.{and_left, and_right, and_parts, or_cases}
 use Rattle.std.proofs.Math.Seq.{take-append-add}
-use Rattle.fol_base.specs.Spelling.{is_printable, is_end, is_quoted_rest}
+use Rattle.tptp_token.specs.Spelling.{is_printable, is_end, is_quoted_rest}
 use Rattle.tptp_token.specs.Longest.{longest}
 use Rattle.tptp_token.specs.Pieces.{fills, is_quote, starts_with_either}
 use Rattle.tptp_token.proofs.TestLemmas.{first_passes, first_fails}

@@ -4,7 +4,7 @@ use Rattle.std.specs.Prelude.{nat_le}
 use Rattle.std.specs.List.{prefix_len, list_any, list_all}
 use Rattle.std.proofs.lemmas.Bool.{and_parts, and_left, or_parts, agree_below_at, eqb-false}
 use Rattle.std.proofs.Math.Seq.{take-append_seam, drop-append_seam}
-use Rattle.fol_base.specs.Spelling.{is_lower, is_upper, is_word_byte, is_lower_word, is_variable_word, marks}
+use Rattle.tptp_token.specs.Spelling.{is_lower, is_upper, is_word_byte, is_lower_word, is_variable_word, marks}
 use Rattle.tptp_token.specs.Longest.{longest}
 use Rattle.tptp_token.specs.Pieces.{is_blank, fills, starts_with, plain_piece}
 use Rattle.tptp_token.specs.Lexemes.{Lexeme}

@@ -3,8 +3,8 @@ use Rattle.std.proofs.Common.{◌≡◌, ℕ, ◌<◌, Bool, true, false, ◌&&�
 use Rattle.std.specs.Prelude.{if◌then◌else◌}
 use Rattle.std.specs.List.{list_any}
 use Rattle.std.proofs.lemmas.Bool.{agree_below, agree_below_at, and_left, or_parts}
-use Rattle.fol_base.specs.Spelling.{spells, is_lower, is_upper, is_digit, marks, other_signs}
-use Rattle.tptp_token.specs.Kinds.{spelled_kind, all_kinds, first_kind, is_token, kind_of}
+use Rattle.tptp_token.specs.Spelling.{spells, is_lower, is_upper, is_digit, marks, other_signs}
+use Rattle.tptp_token.specs.Kinds.{all_kinds, first_kind, is_token, kind_of}
 use Rattle.tptp_token.specs.declared.token.Kind.{Kind}
 use Rattle.tptp_token.specs.declared.token.Kind.TheVariants.{Lower, Variable, Quoted, Distinct, Dollar, Number, Connective, Mark, Other}
 use Rattle.tptp_token.proofs.TestLemmas.{second-false}
@@ -21,7 +21,7 @@ starts Connective byte = list_any (λ sign. byte == sign) (codes "~&|=<!?")
 starts Mark byte = list_any (λ sign. byte == sign) marks
 starts Other byte = list_any (λ sign. byte == sign) other_signs
 
-not_started : (kind : Kind) (b : ℕ) (w : List ℕ) → starts kind b ≡ false → spells (spelled_kind kind) (b ∷ w) ≡ false
+not_started : (kind : Kind) (b : ℕ) (w : List ℕ) → starts kind b ≡ false → spells kind (b ∷ w) ≡ false
 not_started Lower b w e = and_left (is_lower b) _ e
 not_started Variable b w e = and_left (is_upper b) _ e
 not_started Quoted b w e = and_left (b == 39) _ e
@@ -42,11 +42,11 @@ not_started Other b w e = and_left (list_any (λ sign. b == sign) other_signs) _
 
 none_started :
     (kinds : List Kind) (b : ℕ) (w : List ℕ)
-    → list_any (λ kind. starts kind b) kinds ≡ false → list_any (λ kind. spells (spelled_kind kind) (b ∷ w)) kinds ≡ false
+    → list_any (λ kind. starts kind b) kinds ≡ false → list_any (λ kind. spells kind (b ∷ w)) kinds ≡ false
 none_started [] b w e = refl
 none_started (kind ∷ kinds) b w e =
     let h = or_parts (starts kind b) _ e in
-    ap (λ t. t || list_any (λ k. spells (spelled_kind k) (b ∷ w)) kinds) (not_started kind b w h.0) ∙ none_started kinds b w h.1
+    ap (λ t. t || list_any (λ k. spells k (b ∷ w)) kinds) (not_started kind b w h.0) ∙ none_started kinds b w h.1
 
 or-false : (a : Bool) → (a || false) ≡ a
 or-false true = refl
@@ -62,11 +62,11 @@ any-only p (j ∷ before) after kind h k =
 
 kind-only :
     (bytes : List ℕ) (before after : List Kind) (kind : Kind)
-    → list_any (λ k. spells (spelled_kind k) bytes) before ≡ false → spells (spelled_kind kind) bytes ≡ true
+    → list_any (λ k. spells k bytes) before ≡ false → spells kind bytes ≡ true
     → first_kind (before ++ kind ∷ after) bytes ≡ kind
 kind-only bytes [] after kind h k = ap (λ t. if t then kind else first_kind after bytes) k
 kind-only bytes (j ∷ before) after kind h k =
-    let e = or_parts (spells (spelled_kind j) bytes) _ h in
+    let e = or_parts (spells j bytes) _ h in
     ap (λ t. if t then j else first_kind (before ++ kind ∷ after) bytes) e.0 ∙ kind-only bytes before after kind e.1 k
 
 -- a byte that begins one kind alone
@@ -74,16 +74,16 @@ pub token-only :
     (before after : List Kind) (kind : Kind) (b : ℕ) (w : List ℕ)
     → before ++ kind ∷ after ≡ all_kinds
     → list_any (λ k. starts k b) before ≡ false → list_any (λ k. starts k b) after ≡ false
-    → is_token (b ∷ w) ≡ spells (spelled_kind kind) (b ∷ w)
+    → is_token (b ∷ w) ≡ spells kind (b ∷ w)
 unfolding is_token
 token-only before after kind b w e h k =
-    ap (list_any (λ j. spells (spelled_kind j) (b ∷ w))) (sym e)
-    ∙ any-only (λ j. spells (spelled_kind j) (b ∷ w)) before after kind (none_started before b w h) (none_started after b w k)
+    ap (list_any (λ j. spells j (b ∷ w))) (sym e)
+    ∙ any-only (λ j. spells j (b ∷ w)) before after kind (none_started before b w h) (none_started after b w k)
 
 pub kind_of-only :
     (before after : List Kind) (kind : Kind) (b : ℕ) (w : List ℕ)
     → before ++ kind ∷ after ≡ all_kinds
-    → list_any (λ k. starts k b) before ≡ false → spells (spelled_kind kind) (b ∷ w) ≡ true
+    → list_any (λ k. starts k b) before ≡ false → spells kind (b ∷ w) ≡ true
     → kind_of (b ∷ w) ≡ kind
 unfolding kind_of
 kind_of-only before after kind b w e h k =

@@ -3,9 +3,9 @@ use Rattle.std.proofs.Common.{◌≡◌, ℕ, zero, suc, ◌+◌, ◌-◌, None,
 use Rattle.std.specs.Prelude.{if◌then◌else◌}
 use Rattle.std.specs.List.{list_any, AllByRecursion}
 use Rattle.std.proofs.Math.Seq.{take-append_seam, drop-append_seam}
-use Rattle.fol_base.specs.Spelling.{spells}
+use Rattle.tptp_token.specs.Spelling.{spells}
 use Rattle.tptp_token.specs.Longest.{longest}
-use Rattle.tptp_token.specs.Kinds.{spelled_kind, all_kinds, first_kind, is_token, kind_of}
+use Rattle.tptp_token.specs.Kinds.{all_kinds, first_kind, is_token, kind_of}
 use Rattle.tptp_token.specs.Pieces.{is_blank, starts_with, token_piece, plain_piece, quote_fault, is_quote, filled_length, block_end, block_piece, line_length, piece_of}
 use Rattle.tptp_token.specs.Lexing.{with_piece, piece_length, lexed_from, lexed_of}
 use Rattle.tptp_token.specs.Lexemes.{Lexeme, lexeme_at, IsLexedAs}
@@ -22,25 +22,25 @@ use Rattle.tptp_token.proofs.PieceLemmas.{behind_piece, at_piece}
 -- the kind of what is a token is spelled
 first_kind-spelled :
     (kinds : List Kind) (bytes : List ℕ)
-    → list_any (λ kind. spells (spelled_kind kind) bytes) kinds ≡ true
-    → spells (spelled_kind (first_kind kinds bytes)) bytes ≡ true
+    → list_any (λ kind. spells kind bytes) kinds ≡ true
+    → spells (first_kind kinds bytes) bytes ≡ true
 first_kind-spelled [] bytes h = absurd (let t : false ≡ true = h in cc)
-first_kind-spelled (kind ∷ kinds) bytes h = by (first_kind-spelled kinds bytes) (spells (spelled_kind kind) bytes) refl h
+first_kind-spelled (kind ∷ kinds) bytes h = by (first_kind-spelled kinds bytes) (spells kind bytes) refl h
   where
     by :
-        (list_any (λ k. spells (spelled_kind k) bytes) kinds ≡ true → spells (spelled_kind (first_kind kinds bytes)) bytes ≡ true)
-        → (t : Bool) → spells (spelled_kind kind) bytes ≡ t → (t || list_any (λ k. spells (spelled_kind k) bytes) kinds) ≡ true
-        → spells (spelled_kind (if t then kind else first_kind kinds bytes)) bytes ≡ true
+        (list_any (λ k. spells k bytes) kinds ≡ true → spells (first_kind kinds bytes) bytes ≡ true)
+        → (t : Bool) → spells kind bytes ≡ t → (t || list_any (λ k. spells k bytes) kinds) ≡ true
+        → spells (if t then kind else first_kind kinds bytes) bytes ≡ true
     by rest true e g = e
     by rest false e g = rest g
 
-pub kind_of-spelled : (bytes : List ℕ) → is_token bytes ≡ true → spells (spelled_kind (kind_of bytes)) bytes ≡ true
+pub kind_of-spelled : (bytes : List ℕ) → is_token bytes ≡ true → spells (kind_of bytes) bytes ≡ true
 unfolding is_token kind_of
 kind_of-spelled bytes h = first_kind-spelled all_kinds bytes h
 
 -- a piece that is a token is spelled
 abbrev PieceIsSpelled : List ℕ → Piece → Type 0
-PieceIsSpelled bytes (Token kind n) = spells (spelled_kind kind) (take n bytes) ≡ true
+PieceIsSpelled bytes (Token kind n) = spells kind (take n bytes) ≡ true
 PieceIsSpelled bytes (Space n) = Unit {0}
 PieceIsSpelled bytes (Bad offset) = Unit {0}
 PieceIsSpelled bytes Unclosed = Unit {0}
@@ -84,19 +84,19 @@ shown before n b bs =
 -- one byte more stands before
 moved :
     (before : List ℕ) (b : ℕ) (bs : List ℕ) (skipped : ℕ)
-    → AllByRecursion (λ (t : TokenRecord). spells (spelled_kind t.kind) (lexeme_at (before ++ b ∷ [] ++ bs) t).bytes ≡ true)
+    → AllByRecursion (λ (t : TokenRecord). spells t.kind (lexeme_at (before ++ b ∷ [] ++ bs) t).bytes ≡ true)
     (lexed_from (length (before ++ b ∷ [])) skipped bs).tokens
-    → AllByRecursion (λ (t : TokenRecord). spells (spelled_kind t.kind) (lexeme_at (before ++ b ∷ bs) t).bytes ≡ true)
+    → AllByRecursion (λ (t : TokenRecord). spells t.kind (lexeme_at (before ++ b ∷ bs) t).bytes ≡ true)
     (lexed_from (length before + 1) skipped bs).tokens
 moved before b bs skipped h =
     let P : ℕ → List ℕ → Type 0 =
-    λ p us. AllByRecursion (λ (t : TokenRecord). spells (spelled_kind t.kind) (lexeme_at us t).bytes ≡ true) (lexed_from p skipped bs).tokens in
+    λ p us. AllByRecursion (λ (t : TokenRecord). spells t.kind (lexeme_at us t).bytes ≡ true) (lexed_from p skipped bs).tokens in
     subst₂ P (length-append before (b ∷ [])) (append_assoc before (b ∷ []) bs) h
 
 -- the tokens of what stands behind a text, of which the first bytes may be skipped
 spelled-from :
     (before : List ℕ) (skipped : ℕ) (bs : List ℕ)
-    → AllByRecursion (λ (t : TokenRecord). spells (spelled_kind t.kind) (lexeme_at (before ++ bs) t).bytes ≡ true)
+    → AllByRecursion (λ (t : TokenRecord). spells t.kind (lexeme_at (before ++ bs) t).bytes ≡ true)
     (lexed_from (length before) skipped bs).tokens
 unfolding lexed_from
 spelled-from before skipped [] = tt
@@ -107,18 +107,18 @@ spelled-from before zero (b ∷ bs) =
   where
     with :
         (piece : Piece) → PieceIsSpelled (b ∷ bs) piece
-        → AllByRecursion (λ (t : TokenRecord). spells (spelled_kind t.kind) (lexeme_at (before ++ b ∷ bs) t).bytes ≡ true)
+        → AllByRecursion (λ (t : TokenRecord). spells t.kind (lexeme_at (before ++ b ∷ bs) t).bytes ≡ true)
         (lexed_from (length before + 1) (piece_length (piece_of b bs) - 1) bs).tokens
-        → AllByRecursion (λ (t : TokenRecord). spells (spelled_kind t.kind) (lexeme_at (before ++ b ∷ bs) t).bytes ≡ true)
+        → AllByRecursion (λ (t : TokenRecord). spells t.kind (lexeme_at (before ++ b ∷ bs) t).bytes ≡ true)
         (with_piece (length before) piece (lexed_from (length before + 1) (piece_length (piece_of b bs) - 1) bs)).tokens
-    with (Token kind n) h rest = (ap (spells (spelled_kind kind)) (shown before n b bs) ∙ h, rest)
+    with (Token kind n) h rest = (ap (spells kind) (shown before n b bs) ∙ h, rest)
     with (Space n) h rest = rest
     with (Bad offset) h rest = tt
     with Unclosed h rest = tt
 
 pub tokens-spelled :
     (bytes : List ℕ)
-    → AllByRecursion (λ (t : TokenRecord). spells (spelled_kind t.kind) (lexeme_at bytes t).bytes ≡ true) (lexed_of bytes).tokens
+    → AllByRecursion (λ (t : TokenRecord). spells t.kind (lexeme_at bytes t).bytes ≡ true) (lexed_of bytes).tokens
 unfolding lexed_of
 tokens-spelled bytes = spelled-from [] 0 bytes
 

@@ -1,10 +1,10 @@
 -- The lengths of numbers.
-use Rattle.std.proofs.Common.{◌≡◌, ℕ, zero, suc, ◌+◌, ◌<◌, ◌≤◌, Bool, true, false, cond, ◌&&◌, ◌||◌, ◌==◌, List, [], ◌∷◌, ◌++◌, take, drop, length, refl, ap, sym, ◌∙◌, arith, one-add, add-one, append-nil, ne_eqb, leb-true, eqb-true, take-append-drop, length-take-le}
+use Rattle.std.proofs.Common.{◌≡◌, ℕ, zero, suc, ◌+◌, ◌<◌, ◌≤◌, Bool, true, false, cond, ◌||◌, ◌==◌, List, [], ◌∷◌, ◌++◌, take, drop, length, refl, ap, sym, ◌∙◌, arith, one-add, add-one, append-nil, ne_eqb, leb-true, eqb-true, take-append-drop, length-take-le}
 use Rattle.std.specs.Prelude.{nat_le}
 use Rattle.std.specs.List.{prefix_len, list_all}
 use Rattle.std.proofs.lemmas.Bool.{and_left, and_parts}
 use Rattle.std.proofs.lemmas.List.Sums.{prefix_len-le-length}
-use Rattle.fol_base.specs.Spelling.{is_digit, is_end, begins, digits_then, is_exponent, is_end_or_exponent, is_number}
+use Rattle.tptp_token.specs.Spelling.{is_digit, is_end, begins, digits_then, is_exponent, is_end_or_exponent, is_number}
 use Rattle.tptp_token.specs.Longest.{longest, behind}
 use Rattle.tptp_token.specs.Kinds.{is_token, follows_digits}
 use Rattle.tptp_token.specs.Pieces.{plain_piece, starts_with_either}

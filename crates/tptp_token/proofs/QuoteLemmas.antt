@@ -1,10 +1,10 @@
 -- Quoted words and distinct objects: the pieces that begin with a quote.
-use Rattle.std.proofs.Common.{◌≡◌, ◌⊎◌, ℕ, zero, suc, ◌+◌, ◌-◌, ◌<◌, ◌≤◌, Bool, true, false, not, ◌&&◌, ◌||◌, ◌==◌, List, [], ◌∷◌, ◌++◌, take, drop, length, refl, ap, sym, ◌∙◌, arith, eqb-true, ne_eqb, eq-eqb, inl, inr, ⊎_elim, append_assoc, take-append-drop, length-append, length-drop, length-take-le, drop-drop, bytes_eq}
+use Rattle.std.proofs.Common.{◌≡◌, ◌⊎◌, ℕ, zero, suc, ◌+◌, ◌-◌, ◌<◌, ◌≤◌, Bool, true, false, not, ◌&&◌, ◌||◌, ◌==◌, List, [], ◌∷◌, ◌++◌, take, drop, length, refl, ap, sym, ◌∙◌, arith, eqb-true, eq-eqb, inl, inr, ⊎_elim, append_assoc, take-append-drop, length-append, length-drop, length-take-le, bytes_eq}
 use Rattle.std.specs.Prelude.{if◌then◌else◌}
 use Rattle.std.proofs.lemmas.Bool.{cases_lt, and_left, and_right, and_parts}
 use Rattle.std.proofs.Math.Seq.{take-append-add, take-append_seam}
 use Rattle.std.proofs.lemmas.List.{take-append-le}
-use Rattle.fol_base.specs.Spelling.{is_end, begins, is_quoted_rest}
+use Rattle.tptp_token.specs.Spelling.{is_end, begins, is_quoted_rest}
 use Rattle.tptp_token.specs.Longest.{longest}
 use Rattle.tptp_token.specs.Kinds.{is_token}
 use Rattle.tptp_token.specs.Pieces.{plain_piece, quote_fault, filled_length, fills, is_quote, starts_with, IsQuoteKind}

@@ -3,7 +3,7 @@ use Rattle.std.proofs.Common.{◌≡◌, ◌≢◌, ℕ, zero, suc, ◌<◌, ◌
 use Rattle.std.specs.Prelude.{if◌then◌else◌}
 use Rattle.std.specs.List.{list_any}
 use Rattle.std.proofs.lemmas.Bool.{or_cases, or_parts, and_left, and_right}
-use Rattle.fol_base.specs.Spelling.{other_signs}
+use Rattle.tptp_token.specs.Spelling.{other_signs}
 use Rattle.tptp_token.specs.Kinds.{is_token, kind_of}
 use Rattle.tptp_token.specs.Pieces.{plain_piece, starts_with, starts_with_either, quote_fault, filled_length, IsSignStart}
 use Rattle.tptp_token.specs.declared.token.Kind.TheVariants.{Lower, Variable, Quoted, Distinct, Dollar, Number, Connective, Mark, Other}
@@ -227,7 +227,7 @@ less_sign rest inner h e k =
     more (c ∷ vs) g f (suc (suc zero)) l w = let p = first_fails (c == 61) g in simp (p, and-nil)
     more (c ∷ []) g f (suc (suc (suc m))) l w = absurd (omega arith)
     more (c ∷ d ∷ vs) g f (suc (suc (suc zero))) l w =
-        let p = first_fails (c == 61) g in let q = xor_fails (c == 126) (d == 62) f in simp (p, and-nil, q)
+        let p = first_fails (c == 61) g in let q = xor_fails (c == 126) (d == 62) f in simp (p, q)
     more (c ∷ d ∷ []) g f (suc (suc (suc (suc m)))) l w = absurd (omega arith)
     more (c ∷ d ∷ x ∷ vs) g f (suc (suc (suc (suc m)))) l w = simp and-nil
 

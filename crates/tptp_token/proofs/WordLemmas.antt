@@ -2,9 +2,9 @@
 use Rattle.std.proofs.Common.{◌≡◌, ℕ, zero, suc, ◌+◌, ◌-◌, ◌<◌, ◌≤◌, Bool, true, false, ◌&&◌, ◌||◌, ◌==◌, List, [], ◌∷◌, ◌++◌, take, drop, length, refl, ap, sym, ◌∙◌, arith, one-add, add-one, eqb-true, take_all, length-drop}
 use Rattle.std.specs.List.{prefix_len, list_any, list_all}
 use Rattle.std.proofs.lemmas.Bool.{and_left, and_parts}
-use Rattle.fol_base.specs.Spelling.{spells, is_lower, is_upper, is_word_byte, is_lower_word, begins, is_end, marks, other_signs}
+use Rattle.tptp_token.specs.Spelling.{spells, is_lower, is_upper, is_word_byte, is_lower_word, begins, is_end, marks, other_signs}
 use Rattle.tptp_token.specs.Longest.{longest, behind}
-use Rattle.tptp_token.specs.Kinds.{spelled_kind, all_kinds, is_token, kind_of}
+use Rattle.tptp_token.specs.Kinds.{all_kinds, is_token, kind_of}
 use Rattle.tptp_token.specs.Pieces.{plain_piece, token_piece, fault_piece, starts_with}
 use Rattle.tptp_token.specs.declared.token.Kind.{Kind}
 use Rattle.tptp_token.specs.declared.token.Kind.TheVariants.{Lower, Variable, Quoted, Distinct, Dollar, Number, Connective, Mark, Other}
@@ -43,7 +43,7 @@ word :
     (kind : Kind) (before after : List Kind) (b : ℕ) (bs : List ℕ) (n : ℕ)
     → before ++ kind ∷ after ≡ all_kinds
     → list_any (λ k. starts k b) before ≡ false → list_any (λ k. starts k b) after ≡ false
-    → ((w : List ℕ) → spells (spelled_kind kind) (b ∷ w) ≡ list_all is_word_byte w)
+    → ((w : List ℕ) → spells kind (b ∷ w) ≡ list_all is_word_byte w)
     → n ≡ prefix_len is_word_byte bs → Token kind (n + 1) ≡ plain_piece b bs
 word kind before after b bs n e h k spelled counted =
     only-piece kind before after b bs n e h k
@@ -74,7 +74,7 @@ single :
     (kind : Kind) (before after : List Kind) (b : ℕ) (bs : List ℕ)
     → before ++ kind ∷ after ≡ all_kinds
     → list_any (λ k. starts k b) before ≡ false → list_any (λ k. starts k b) after ≡ false
-    → ((w : List ℕ) → spells (spelled_kind kind) (b ∷ w) ≡ is_end w)
+    → ((w : List ℕ) → spells kind (b ∷ w) ≡ is_end w)
     → Token kind 1 ≡ plain_piece b bs
 single kind before after b bs e h k spelled =
     only-piece kind before after b bs 0 e h k

@@ -1,19 +1,52 @@
 -- The tokens of a text by their kinds and bytes.
-use Rattle.std.specs.Prelude.{◌≡◌, ℕ, ◌-◌, true, None, List, map, take, drop}
+use Rattle.std.specs.Prelude.{◌≡◌, ℕ, ◌-◌, ◌==◌, ◌&&◌, Bool, true, None, List, map, take, drop, bytes_eq}
 use Rattle.std.specs.List.{AllByRecursion}
-use Rattle.fol_base.specs.Spelling.{spells}
-use Rattle.tptp_token.specs.Kinds.{spelled_kind}
+use Rattle.tptp_token.specs.Spelling.{spells}
+use Rattle.tptp_token.specs.Words.{Word, bare, quoted}
 use Rattle.tptp_token.specs.Lexing.{lexed_of}
 use Rattle.tptp_token.specs.declared.token.Kind.{Kind}
+use Rattle.tptp_token.specs.declared.token.Kind.TheVariants.{Lower, Variable, Quoted, Distinct, Dollar, Number, Connective, Mark, Other}
 use Rattle.tptp_token.specs.declared.token.Token.{Token}
 
 pub record Lexeme : Type 0 where
   pub kind : Kind
   pub bytes : List ℕ
 
+abbrev pub lexeme : Kind → List ℕ → Lexeme
+lexeme kind bytes = record { kind = kind; bytes = bytes }
+
+abbrev pub word_lexeme : Word → Lexeme
+word_lexeme (bare bytes) = lexeme Lower bytes
+word_lexeme (quoted bytes) = lexeme Quoted bytes
+
 -- a token of a text
 abbrev pub lexeme_at : List ℕ → Token → Lexeme
 lexeme_at bytes token = record { kind = token.kind; bytes = take (token.end - token.start) (drop token.start bytes) }
+
+-- ---- tests
+
+abbrev pub kind_place : Kind → ℕ
+kind_place Lower = 0
+kind_place Variable = 1
+kind_place Quoted = 2
+kind_place Distinct = 3
+kind_place Dollar = 4
+kind_place Number = 5
+kind_place Connective = 6
+kind_place Mark = 7
+kind_place Other = 8
+
+-- the token is of the kind and has the bytes
+abbrev pub is_lexeme : Kind → List ℕ → Lexeme → Bool
+is_lexeme kind bytes token = (kind_place kind == kind_place token.kind) && bytes_eq bytes token.bytes
+
+abbrev pub is_mark : List ℕ → Lexeme → Bool
+is_mark = is_lexeme Mark
+
+abbrev pub is_connective : List ℕ → Lexeme → Bool
+is_connective = is_lexeme Connective
+
+-- ---- texts
 
 -- the bytes have these tokens, and no fault
 pub record IsLexedAs (bytes : List ℕ) (lexemes : List Lexeme) : Type 0 where
@@ -23,4 +56,4 @@ pub record IsLexedAs (bytes : List ℕ) (lexemes : List Lexeme) : Type 0 where
 -- the bytes of each token spell its kind
 abbrev pub TokensAreSpelled : Type 0
 TokensAreSpelled =
-    (bytes : List ℕ) → AllByRecursion (λ (t : Token). spells (spelled_kind t.kind) (lexeme_at bytes t).bytes ≡ true) (lexed_of bytes).tokens
+    (bytes : List ℕ) → AllByRecursion (λ (t : Token). spells t.kind (lexeme_at bytes t).bytes ≡ true) (lexed_of bytes).tokens

@@ -1,6 +1,9 @@
+pub mod Spelling
+pub mod Words
 pub mod Longest
 pub mod Kinds
 pub mod Pieces
 pub mod Lexing
 pub mod Lexemes
+pub mod TextTokens
 pub mod Examples

@@ -1,7 +1,7 @@
 -- What stands at the beginning of a text: a token, a blank or a comment, or a fault.
 use Rattle.std.specs.Prelude.{◌≡◌, ◌≢◌, ◌<◌, ◌≤◌, ℕ, zero, suc, ◌+◌, ◌==◌, Bool, true, false, ◌&&◌, ◌||◌, not, Option, None, Some, List, [], ◌∷◌, ◌++◌, take, drop, option_map, if◌then◌else◌, bytes_eq}
 use Rattle.std.specs.List.{prefix_len, list_any}
-use Rattle.fol_base.specs.Spelling.{is_between, is_lower, is_upper, is_digit, marks, is_end, begins, is_quoted_rest}
+use Rattle.tptp_token.specs.Spelling.{is_between, is_lower, is_upper, is_digit, marks, is_end, begins, is_quoted_rest}
 use Rattle.tptp_token.specs.Longest.{longest}
 use Rattle.tptp_token.specs.Kinds.{is_token, kind_of}
 use Rattle.tptp_token.specs.declared.token.Kind.{Kind}

@@ -2,7 +2,7 @@
 
 ghost use Rattle.std.specs.Prelude.{◌≡◌, ◌==◌, codes};
 ghost use Rattle.std.specs.List.{list_any};
-ghost use Rattle.fol_base.specs.Spelling.{is_lower as lower, is_upper as upper, is_digit as digit, is_word_byte as word_byte, is_printable as printable, marks, other_signs};
+ghost use Rattle.tptp_token.specs.Spelling.{is_lower as lower, is_upper as upper, is_digit as digit, is_word_byte as word_byte, is_printable as printable, marks, other_signs};
 ghost use Rattle.tptp_token.specs.Pieces.{is_blank as blank};
 
 /// Tab, line feed, vertical tab, form feed, carriage return or space.

@@ -4,6 +4,7 @@
 mod byte;
 mod comment;
 pub mod laws;
+mod name;
 mod number;
 mod piece;
 mod quote;
@@ -11,9 +12,12 @@ mod scan;
 mod sign;
 #[cfg(test)]
 mod tests;
+mod text_token;
 mod token;
 mod word;
 
-pub use scan::tokens;
+pub use name::{push_name, unquoted};
+pub use scan::{MOST_TEXT_BYTES, tokens};
+pub use text_token::TextToken;
 pub use token::{Kind, LexFault, Lexed, Token, Tokens};
 pub use word::{are_digits, is_lower_word};

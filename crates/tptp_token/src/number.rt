@@ -2,7 +2,7 @@
 
 ghost use Rattle.std.specs.Prelude.{◌≡◌, ◌≤◌, ◌+◌, ◌∷◌, length, drop, true};
 ghost use Rattle.std.specs.List.{prefix_len};
-ghost use Rattle.fol_base.specs.Spelling.{is_number, is_exponent, is_digit as digit};
+ghost use Rattle.tptp_token.specs.Spelling.{is_number, is_exponent, is_digit as digit};
 ghost use Rattle.tptp_token.specs.Longest.{longest, behind};
 ghost use Rattle.tptp_token.specs.Kinds.{follows_digits};
 

@@ -1,7 +1,7 @@
 // Quoted words and distinct objects.
 
 ghost use Rattle.std.specs.Prelude.{◌≡◌, ◌≤◌, ◌<◌, ◌||◌, ◌∷◌, [], ℕ, true, false, length, take, bytes_eq};
-ghost use Rattle.fol_base.specs.Spelling.{is_end};
+ghost use Rattle.tptp_token.specs.Spelling.{is_end};
 ghost use Rattle.tptp_token.specs.Pieces.{plain_piece, is_quote, fills, filled_length as length_filled, IsQuoteKind};
 
 use crate::byte::is_printable;

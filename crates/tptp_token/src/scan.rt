@@ -8,6 +8,9 @@ use crate::token::{LexFault, Lexed, Token, Tokens};
 use plain_types::Mem;
 use std::alloc::Global;
 
+/// The most bytes that a text may have, so that each place in it is a `u32`.
+pub const MOST_TEXT_BYTES: usize = 67_108_864;
+
 /// The tokens of a text up to its first fault. Blanks are the bytes 9 to 13 and 32; a comment runs from `%` to the end
 /// of the line, or from `/*` to the next `*/`. The longest token is taken.
 ///
@@ -16,7 +19,7 @@ use std::alloc::Global;
 /// empty quoted word; at a `$` without a lower word, the `$`. `Unclosed` is the first byte of a quoted word, a distinct
 /// object or a block comment that the text ends in. The time is linear in the bytes.
 pub fn tokens(alloc: Global, bytes: &[u8]) -> Mem<Lexed>
-    requires { length bytes.now ≤ 67108864 }
+    requires { length bytes.now ≤ MOST_TEXT_BYTES }
     ensures { IfOk result (λ lexed. lexed ≡ lexed_of bytes.now) }
 {
     let mut tokens = Tokens::new(alloc);

@@ -7,7 +7,7 @@ use std::test::Fail;
 
 /// A text's tokens: for each the letter of its kind, a `:`, its bytes and a blank. And the fault.
 fn shown(alloc: Global, text: &[u8]) -> Mem<(Vec<u8>, Option<LexFault>)> {
-    if text.len() > 1_000 {
+    if text.len() > MOST_TEXT_BYTES {
         return Ok((Vec::new(alloc), None));
     }
     let lexed = tokens(alloc, text)?;
@@ -196,5 +196,31 @@ fn passes_over_comments(rt: HostRuntime) -> Result<(), Fail> {
         (b"\t\n\x0b\x0c\r a".as_slice(), b"l:a ".as_slice(), None),
     ];
     assert!(rt; pass(rt.alloc(), rows.as_slice())?);
+    Ok(())
+}
+
+/// What a word names, and how a name is printed.
+#[test]
+fn takes_quotes_off_and_puts_them_on(rt: HostRuntime) -> Result<(), Fail> {
+    let alloc = rt.alloc();
+    for (word, name) in [
+        (b"a1".as_slice(), b"a1".as_slice()),
+        (b"'A b'", b"A b"),
+        (b"'it\\'s'", b"it's"),
+        (b"'\\\\'", b"\\"),
+        (b"'12'", b"12"),
+    ] {
+        assert!(rt; word.len() <= MOST_TEXT_BYTES);
+        let lexed = tokens(alloc, word)?;
+        let mut page = Vec::new(alloc);
+        for token in lexed.tokens.iter() {
+            let token = TextToken::of(word, *token);
+            assert!(rt; token.is_name() && !token.is_mark(b"("));
+            let found = token.name(alloc)?;
+            assert!(rt; found.as_slice() == name);
+            push_name(&mut page, found.as_slice())?;
+        }
+        assert!(rt; page.as_slice() == word);
+    }
     Ok(())
 }

@@ -2,7 +2,7 @@
 
 ghost use Rattle.std.specs.Prelude.{◌≡◌, ◌≤◌, length};
 ghost use Rattle.std.specs.List.{prefix_len, list_all};
-ghost use Rattle.fol_base.specs.Spelling.{is_word_byte as word_byte, is_digit as digit, is_lower_word as lower_word};
+ghost use Rattle.tptp_token.specs.Spelling.{is_word_byte as word_byte, is_digit as digit, is_lower_word as lower_word};
 ghost use Rattle.tptp_token.specs.Longest.{longest};
 ghost use Rattle.tptp_token.specs.Pieces.{plain_piece};
 

@@ -1,10 +1,11 @@
 -- A printed text spells again what some text spells.
 use Rattle.std.proofs.Common.{◌≡◌, ℕ, List, [], ◌∷◌, ◌++◌, ap, sym, ◌∙◌, subst, append-nil}
-use Rattle.tptp_token.specs.Lexemes.{IsLexedAs}
+use Rattle.tptp_token.specs.Lexemes.{IsLexedAs, word_lexeme}
 use Rattle.tptp_token.proofs.LexemeLemmas.{lexes-whole, lexes-nothing}
 use Rattle.tptp_tree.specs.Formula.{FormulaTree}
-use Rattle.tptp_tree.specs.Printing.{name_text, formula_text}
-use Rattle.tptp_tree.specs.Spelling.{word_lexeme, name_of, phrase_lexemes, meant, SpellsName, SpellsFormula}
+use Rattle.tptp_token.specs.Words.{name_text, name_of}
+use Rattle.tptp_tree.specs.Printing.{formula_text}
+use Rattle.tptp_tree.specs.Spelling.{phrase_lexemes, meant, SpellsName, SpellsFormula}
 use Rattle.tptp_tree.proofs.NameLemmas.{WellName, word_of, name_of-word_of, name-lexes}
 use Rattle.tptp_tree.proofs.CanonicalLemmas.{WellFormula, phrase_of, formula-meant}
 use Rattle.tptp_tree.proofs.LexingLemmas.{formula-lexes}

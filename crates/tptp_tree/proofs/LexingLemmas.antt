@@ -3,17 +3,18 @@ use Rattle.std.proofs.Common.{◌≡◌, ℕ, Bool, true, false, not, ◌&&◌, 
 use Rattle.std.specs.Prelude.{if◌then◌else◌, nat_le}
 use Rattle.std.specs.List.{AllByRecursion, list_all}
 use Rattle.std.proofs.lemmas.Bool.{and_parts}
-use Rattle.fol_base.specs.Spelling.{is_lower, is_lower_word, is_variable_word, is_word_byte}
+use Rattle.tptp_token.specs.Spelling.{is_lower, is_lower_word, is_variable_word, is_word_byte}
 use Rattle.tptp_token.specs.Pieces.{starts_with_either}
-use Rattle.tptp_token.specs.Lexemes.{Lexeme}
+use Rattle.tptp_token.specs.Lexemes.{Lexeme, lexeme, word_lexeme}
 use Rattle.tptp_token.specs.declared.token.Kind.TheVariants.{Variable, Connective, Mark}
 use Rattle.tptp_token.proofs.SignLemmas.{not_equal, equal_sign, negation_sign, lone_sign, long_arrow, short_arrow}
 use Rattle.tptp_token.proofs.LexemeLemmas.{Lexes}
 use Rattle.tptp_token.proofs.FrontLemmas.{EndsWord, lexes-space, lexes-plain, lexes-variable, lexes-dollar, lexes-mark}
 use Rattle.tptp_tree.specs.Term.{TermTree, variable, application, TermTrees, no_terms, term_then}
 use Rattle.tptp_tree.specs.Formula.{BinaryConnective, implies, implied, equivalent, different, nor, nand, Quantifier, for_all, exists_some, FormulaTree, truth, falsity, predicate, equation, negation, conjunction, disjunction, connected, quantified, FormulaTrees, no_formulas, formula_then}
-use Rattle.tptp_tree.specs.Printing.{name_text, quoted_text, term_text, arguments_text, more_arguments_text, equals_text, connective_text, quantifier_text, variables_text, more_variables_text, is_joined, is_bare, in_parentheses, formula_text, more_operands_text}
-use Rattle.tptp_tree.specs.Spelling.{lexeme, word_lexeme, term_lexemes, arguments_lexemes, more_arguments_lexemes, equals_lexeme, connective_lexeme, quantifier_lexeme, more_variables_lexemes, variables_lexemes, Phrase, in_brackets, units_lexemes, unit_lexemes, phrase_lexemes}
+use Rattle.tptp_token.specs.Words.{name_text, quoted_text}
+use Rattle.tptp_tree.specs.Printing.{term_text, arguments_text, more_arguments_text, equals_text, connective_text, quantifier_text, variables_text, more_variables_text, is_joined, is_bare, in_parentheses, formula_text, more_operands_text}
+use Rattle.tptp_tree.specs.Spelling.{term_lexemes, arguments_lexemes, more_arguments_lexemes, equals_lexeme, connective_lexeme, quantifier_lexeme, more_variables_lexemes, variables_lexemes, Phrase, in_brackets, units_lexemes, unit_lexemes, phrase_lexemes}
 use Rattle.tptp_tree.proofs.NameLemmas.{name-lexes, word_of}
 use Rattle.tptp_tree.proofs.CanonicalLemmas.{WellTerm, WellTerms, WellFormula, WellFormulas, term_phrase, term_phrases, phrase_of, units_of, unit_of, negated_unit, all_from}
 

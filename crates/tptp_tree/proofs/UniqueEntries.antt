@@ -2,11 +2,12 @@
 use Rattle.std.proofs.Common.{◌≡◌, ℕ, Option, None, Some, Bool, true, false, List, [], ◌∷◌, ◌++◌, codes, refl, ap, ap₂, sym, ◌∙◌, subst, bytes_eq}
 use Rattle.std.specs.List.{list_all}
 use Rattle.std.proofs.lemmas.Bool.{and_parts}
-use Rattle.tptp_token.specs.Lexemes.{Lexeme}
+use Rattle.tptp_token.specs.Lexemes.{Lexeme, lexeme}
 use Rattle.tptp_token.specs.declared.token.Kind.TheVariants.{Lower, Quoted, Number, Connective, Mark}
-use Rattle.tptp_tree.specs.declared.problem.Role.{Role}
+use Rattle.tptp_tree.specs.declared.role.Role.{Role}
 use Rattle.tptp_tree.specs.Formula.{FormulaTree}
-use Rattle.tptp_tree.specs.Spelling.{bare, quoted, lexeme, Atom, atom_lexemes, atomic}
+use Rattle.tptp_token.specs.Words.{bare, quoted}
+use Rattle.tptp_tree.specs.Spelling.{Atom, atom_lexemes, atomic}
 use Rattle.tptp_tree.specs.Brackets.{Bracket, open_after, open_behind, is_nothing_open, are_balanced}
 use Rattle.tptp_tree.specs.Entries.{PlainAtom, plain_true, plain_false, plain_predicate, plain_equation, atom_of, LiteralPhrase, positive_literal, negated_literal, negated_in_brackets, ClausePhrase, literals, clause_in_brackets, literal_lexemes, more_literals_lexemes, clause_lexemes, NamePhrase, word_name, digits_name, name_lexeme, is_right_name, Body, formula_body, clause_body, is_clause_body, body_lexemes, language_word, AnnotatedPhrase, is_right_annotated, notes_lexemes, annotated_lexemes, AnnotatedTree, IsAnnotatedOf, Selection, EntryPhrase, annotated_entry, whole_include, selected_include, is_right_entry, more_names_lexemes, include_end, entry_lexemes, problem_lexemes, EntryTree, annotated_tree, IsEntryOf, AreEntriesOf}
 use Rattle.tptp_tree.proofs.UniqueAtoms.{tail-same, head-same, first_is, first_joint, nothing, ors, EndsUnit, EndsPhrase, word-same, first_start, atom_start, atom-start, atom-same}

@@ -1,26 +1,26 @@
 -- What a text spells has names that can be printed.
 use Rattle.std.proofs.Common.{◌≡◌, ℕ, true, false, List, [], ◌∷◌, map, subst}
 use Rattle.std.specs.List.{AllByRecursion}
-use Rattle.fol_base.specs.Spelling.{spells, is_variable_word}
-use Rattle.tptp_token.specs.Kinds.{spelled_kind}
+use Rattle.tptp_token.specs.Spelling.{spells, is_variable_word}
 use Rattle.tptp_token.specs.Lexing.{lexed_of}
-use Rattle.tptp_token.specs.Lexemes.{Lexeme, lexeme_at, IsLexedAs}
+use Rattle.tptp_token.specs.Lexemes.{Lexeme, lexeme_at, IsLexedAs, word_lexeme}
 use Rattle.tptp_token.specs.declared.token.Token.{Token as TokenRecord}
 use Rattle.tptp_token.proofs.LexemeLemmas.{tokens-spelled}
-use Rattle.tptp_tree.specs.Spelling.{Word, bare, quoted, name_of, word_lexeme, TermPhrase, variable_word, word_with, TermPhrases, no_phrases, phrase_then, term_lexemes, arguments_lexemes, more_arguments_lexemes, term_meant, terms_meant, Atom, true_atom, false_atom, predicate_atom, equation_atom, atom_lexemes, atom_meant, UnitPhrase, negated, bound, in_brackets, atomic, UnitPhrases, no_units, unit_then, Phrase, alone, all_of, some_of, joined_by, more_variables_lexemes, unit_lexemes, units_lexemes, phrase_lexemes, unit_meant, units_meant, meant}
+use Rattle.tptp_token.specs.Words.{Word, bare, quoted, name_of}
+use Rattle.tptp_tree.specs.Spelling.{TermPhrase, variable_word, word_with, TermPhrases, no_phrases, phrase_then, term_lexemes, arguments_lexemes, more_arguments_lexemes, term_meant, terms_meant, Atom, true_atom, false_atom, predicate_atom, equation_atom, atom_lexemes, atom_meant, UnitPhrase, negated, bound, in_brackets, atomic, UnitPhrases, no_units, unit_then, Phrase, alone, all_of, some_of, joined_by, more_variables_lexemes, unit_lexemes, units_lexemes, phrase_lexemes, unit_meant, units_meant, meant}
 use Rattle.tptp_tree.proofs.NameLemmas.{WellName, lower-well, quoted-well}
 use Rattle.tptp_tree.proofs.CanonicalLemmas.{WellTerm, WellTerms, WellFormula, WellFormulas}
 
 -- the bytes spell the kind
 abbrev pub IsSpelled : Lexeme → Type 0
-IsSpelled l = spells (spelled_kind l.kind) l.bytes ≡ true
+IsSpelled l = spells l.kind l.bytes ≡ true
 
 abbrev pub AreSpelled : List Lexeme → Type 0
 AreSpelled = AllByRecursion IsSpelled
 
 pub lexemes-spelled :
     (text : List ℕ) (tokens : List TokenRecord)
-    → AllByRecursion (λ (t : TokenRecord). spells (spelled_kind t.kind) (lexeme_at text t).bytes ≡ true) tokens
+    → AllByRecursion (λ (t : TokenRecord). spells t.kind (lexeme_at text t).bytes ≡ true) tokens
     → AreSpelled (map (lexeme_at text) tokens)
 lexemes-spelled text [] h = tt
 lexemes-spelled text (t ∷ ts) h = (h.0, lexemes-spelled text ts h.1)

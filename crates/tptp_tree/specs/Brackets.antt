@@ -1,26 +1,7 @@
 -- Runs of tokens whose brackets close, as annotations are.
-use Rattle.std.specs.Prelude.{ℕ, ◌==◌, Bool, true, false, ◌&&◌, ◌||◌, List, [], ◌∷◌, codes, bytes_eq, Option, None, Some, if◌then◌else◌}
-use Rattle.tptp_token.specs.Lexemes.{Lexeme}
-use Rattle.tptp_token.specs.declared.token.Kind.{Kind}
-use Rattle.tptp_token.specs.declared.token.Kind.TheVariants.{Lower, Variable, Quoted, Distinct, Dollar, Number, Connective, Mark, Other}
-
-abbrev pub kind_place : Kind → ℕ
-kind_place Lower = 0
-kind_place Variable = 1
-kind_place Quoted = 2
-kind_place Distinct = 3
-kind_place Dollar = 4
-kind_place Number = 5
-kind_place Connective = 6
-kind_place Mark = 7
-kind_place Other = 8
-
--- the token is of the kind and has the bytes
-abbrev pub is_lexeme : Kind → List ℕ → Lexeme → Bool
-is_lexeme kind bytes token = (kind_place kind == kind_place token.kind) && bytes_eq bytes token.bytes
-
-abbrev pub is_mark : List ℕ → Lexeme → Bool
-is_mark = is_lexeme Mark
+use Rattle.std.specs.Prelude.{Bool, true, false, ◌||◌, List, [], ◌∷◌, codes, Option, None, Some, if◌then◌else◌}
+use Rattle.tptp_token.specs.Lexemes.{Lexeme, is_lexeme, is_mark}
+use Rattle.tptp_token.specs.declared.token.Kind.TheVariants.{Other}
 
 -- round, square and curly
 pub data Bracket : Type 0 where

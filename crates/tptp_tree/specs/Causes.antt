@@ -3,9 +3,9 @@
 -- a cause or none, in the order of the tokens.
 use Rattle.std.specs.Prelude.{ℕ, suc, nat_lt, Bool, true, false, List, [], ◌∷◌, ◌++◌, length, codes, bytes_eq, Option, None, Some, if◌then◌else◌}
 use Rattle.std.specs.List.{list_any}
-use Rattle.fol_base.specs.Spelling.{is_one_of}
+use Rattle.tptp_token.specs.Spelling.{is_one_of}
 use Rattle.tptp_token.specs.Lexemes.{Lexeme}
-use Rattle.tptp_tree.specs.declared.problem.Role.{Role}
+use Rattle.tptp_tree.specs.declared.role.Role.{Role}
 use Rattle.tptp_tree.specs.Brackets.{Bracket, opened, open_after}
 use Rattle.tptp_tree.specs.Spelling.{TermPhrase, variable_word, word_with, TermPhrases, no_phrases, phrase_then, Atom, true_atom, false_atom, predicate_atom, equation_atom, UnitPhrase, negated, bound, in_brackets, atomic, UnitPhrases, no_units, unit_then, Phrase, alone, all_of, some_of, joined_by}
 use Rattle.tptp_tree.specs.Entries.{atom_of, LiteralPhrase, positive_literal, negated_literal, negated_in_brackets, ClausePhrase, literals, clause_in_brackets, role_of, Body, formula_body, clause_body, is_clause_body, AnnotatedPhrase}

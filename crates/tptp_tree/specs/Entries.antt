@@ -2,14 +2,15 @@
 -- profile).
 use Rattle.std.specs.Prelude.{◌≡◌, ⊤, ℕ, Bool, true, false, ◌&&◌, List, [], ◌∷◌, ◌++◌, codes, bytes_eq, Option, None, Some, if◌then◌else◌}
 use Rattle.std.specs.List.{list_all}
-use Rattle.fol_base.specs.Spelling.{is_digit}
-use Rattle.tptp_token.specs.Lexemes.{Lexeme, IsLexedAs}
+use Rattle.tptp_token.specs.Spelling.{is_digit}
+use Rattle.tptp_token.specs.Lexemes.{Lexeme, IsLexedAs, lexeme, word_lexeme}
 use Rattle.tptp_token.specs.declared.token.Kind.TheVariants.{Lower, Number, Connective, Mark}
-use Rattle.tptp_tree.specs.declared.problem.Role.{Role}
-use Rattle.tptp_tree.specs.declared.problem.Role.TheVariants.{Axiom, Hypothesis, Definition, Assumption, Lemma, Theorem, Corollary, NegatedConjecture, Plain, Conjecture}
+use Rattle.tptp_tree.specs.declared.role.Role.{Role}
+use Rattle.tptp_tree.specs.declared.role.Role.TheVariants.{Axiom, Hypothesis, Definition, Assumption, Lemma, Theorem, Corollary, NegatedConjecture, Plain, Conjecture}
 use Rattle.tptp_tree.specs.Formula.{FormulaTree, negation, disjunction, FormulaTrees, no_formulas, formula_then}
 use Rattle.tptp_tree.specs.Brackets.{are_balanced}
-use Rattle.tptp_tree.specs.Spelling.{Word, name_of, lexeme, word_lexeme, TermPhrase, TermPhrases, Atom, true_atom, false_atom, predicate_atom, equation_atom, atom_lexemes, atom_meant, Phrase, phrase_lexemes, meant}
+use Rattle.tptp_token.specs.Words.{Word, name_of}
+use Rattle.tptp_tree.specs.Spelling.{TermPhrase, TermPhrases, Atom, true_atom, false_atom, predicate_atom, equation_atom, atom_lexemes, atom_meant, Phrase, phrase_lexemes, meant}
 
 -- ---- clauses
 
@@ -97,6 +98,19 @@ role_word Corollary = codes "corollary"
 role_word NegatedConjecture = codes "negated_conjecture"
 role_word Plain = codes "plain"
 role_word Conjecture = codes "conjecture"
+
+-- what is to be proved; all other roles are taken as given
+abbrev pub is_conjecture : Role → Bool
+is_conjecture Axiom = false
+is_conjecture Hypothesis = false
+is_conjecture Definition = false
+is_conjecture Assumption = false
+is_conjecture Lemma = false
+is_conjecture Theorem = false
+is_conjecture Corollary = false
+is_conjecture NegatedConjecture = false
+is_conjecture Plain = false
+is_conjecture Conjecture = true
 
 -- a conjecture is no clause
 abbrev pub clause_roles : List Role

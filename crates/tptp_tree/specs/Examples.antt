@@ -2,7 +2,7 @@
 use Rattle.std.specs.Prelude.{◌≡◌, true, [], ◌∷◌, codes}
 use Rattle.tptp_tree.specs.Term.{TermTree, variable, application, no_terms, term_then}
 use Rattle.tptp_tree.specs.Formula.{implies, for_all, FormulaTree, truth, predicate, equation, negation, conjunction, disjunction, connected, quantified, no_formulas, formula_then}
-use Rattle.tptp_tree.specs.Printing.{name_text, formula_text}
+use Rattle.tptp_tree.specs.Printing.{formula_text}
 
 abbrev p : FormulaTree
 p = predicate (codes "p") no_terms
@@ -33,9 +33,3 @@ BareOperands =
     formula_text
     (disjunction (formula_then (negation (negation truth)) (formula_then (quantified for_all (codes "X" ∷ codes "Y" ∷ []) p) (formula_then (conjunction (formula_then p (formula_then q no_formulas))) no_formulas))))
     ≡ codes "~~$true | ! [X,Y] : p | (p & q)"
-
-abbrev pub QuotedName : Type 0
-QuotedName = name_text (codes "it's") ≡ codes "'it\\'s'"
-
-abbrev pub BareName : Type 0
-BareName = name_text (codes "a1") ≡ codes "a1"

@@ -1,5 +1,6 @@
 pub mod Term
 pub mod Formula
+pub mod TermCodes
 pub mod Codes
 pub mod Shape
 pub mod Falls

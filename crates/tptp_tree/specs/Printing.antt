@@ -1,21 +1,8 @@
--- How names, terms and formulas are printed.
-use Rattle.std.specs.Prelude.{ℕ, Bool, true, false, not, ◌||◌, ◌==◌, List, [], ◌∷◌, ◌++◌, codes, flat_map, if◌then◌else◌}
-use Rattle.fol_base.specs.Spelling.{is_lower_word}
+-- How terms and formulas are printed.
+use Rattle.std.specs.Prelude.{ℕ, Bool, true, false, not, List, [], ◌∷◌, ◌++◌, codes}
+use Rattle.tptp_token.specs.Words.{name_text}
 use Rattle.tptp_tree.specs.Term.{TermTree, variable, application, TermTrees, no_terms, term_then}
 use Rattle.tptp_tree.specs.Formula.{BinaryConnective, implies, implied, equivalent, different, nor, nand, Quantifier, for_all, exists_some, FormulaTree, truth, falsity, predicate, equation, negation, conjunction, disjunction, connected, quantified, FormulaTrees, no_formulas, formula_then}
-
--- ---- names
-
--- between quotes, a quote and a `\` stand behind a `\`
-abbrev pub escaped_byte : ℕ → List ℕ
-escaped_byte b = if (b == 39) || (b == 92) then (92 ∷ b ∷ []) else (b ∷ [])
-
-abbrev pub quoted_text : List ℕ → List ℕ
-quoted_text name = codes "'" ++ flat_map escaped_byte name ++ codes "'"
-
--- bare where it is a lower word, else quoted
-abbrev pub name_text : List ℕ → List ℕ
-name_text name = if is_lower_word name then name else quoted_text name
 
 -- ---- terms
 

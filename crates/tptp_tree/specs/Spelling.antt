@@ -1,36 +1,11 @@
 -- The formulas that a text spells (Sutcliffe 2017, this product's profile). The grammar's cases are trees of phrases; a
 -- phrase has its tokens and its formula.
-use Rattle.std.specs.Prelude.{◌≡◌, ℕ, ◌==◌, Bool, true, false, List, [], ◌∷◌, codes, drop, if◌then◌else◌}
-use Rattle.tptp_token.specs.Lexemes.{Lexeme, IsLexedAs}
-use Rattle.tptp_token.specs.declared.token.Kind.{Kind}
-use Rattle.tptp_token.specs.declared.token.Kind.TheVariants.{Lower, Variable, Quoted, Dollar, Connective, Mark}
+use Rattle.std.specs.Prelude.{◌≡◌, ℕ, Bool, true, false, List, [], ◌∷◌, codes}
+use Rattle.tptp_token.specs.Words.{Word, name_of}
+use Rattle.tptp_token.specs.Lexemes.{Lexeme, lexeme, word_lexeme, IsLexedAs}
+use Rattle.tptp_token.specs.declared.token.Kind.TheVariants.{Variable, Dollar, Connective, Mark}
 use Rattle.tptp_tree.specs.Term.{TermTree, variable, application, TermTrees, no_terms, term_then}
 use Rattle.tptp_tree.specs.Formula.{BinaryConnective, implies, implied, equivalent, different, nor, nand, Quantifier, for_all, exists_some, FormulaTree, truth, falsity, predicate, equation, negation, conjunction, disjunction, connected, quantified, FormulaTrees, no_formulas, formula_then}
-
--- ---- words
-
--- a lower word, or a quoted word with its quotes
-pub data Word : Type 0 where
-  bare : List ℕ → Word
-  quoted : List ℕ → Word
-
--- what stands up to the closing quote, with each escaping `\` left out
-abbrev pub unescaped : Bool → List ℕ → List ℕ
-unescaped escaped [] = []
-unescaped true (b ∷ bs) = b ∷ unescaped false bs
-unescaped false (b ∷ bs) = if b == 39 then [] else (if b == 92 then unescaped true bs else b ∷ unescaped false bs)
-
--- `abc` and `'abc'` are one name
-abbrev pub name_of : Word → List ℕ
-name_of (bare bytes) = bytes
-name_of (quoted bytes) = unescaped false (drop 1 bytes)
-
-abbrev pub lexeme : Kind → List ℕ → Lexeme
-lexeme kind bytes = record { kind = kind; bytes = bytes }
-
-abbrev pub word_lexeme : Word → Lexeme
-word_lexeme (bare bytes) = lexeme Lower bytes
-word_lexeme (quoted bytes) = lexeme Quoted bytes
 
 -- ---- terms: a variable, or a word and terms in brackets, or without brackets where there are none
 

@@ -1,12 +1,15 @@
 // Formulas over names.
 
-ghost use Rattle.std.specs.Prelude.{◌≡◌, ◌++◌, [], ◌∷◌, length, map, IfOk, OnErr};
+ghost use Rattle.std.specs.Prelude.{◌≡◌, ◌<◌, ◌^◌, ◌↔◌, ◌++◌, [], ◌∷◌, length, map, IfOk, OnErr, IsTrue};
+ghost use Rattle.std.specs.Slice.Iter.{iter_rest};
+ghost use Rattle.std.specs.Iterator.Adapters.{IterYieldsInOrder, IterYieldsInReverse};
 ghost use Rattle.tptp_tree.specs.Shape.{formula_of};
 
 use crate::term::{TreeTerm, TreeTerms};
 use plain_types::{Mem, Text, Texts};
 use std::alloc::Global;
 use std::marker::Model;
+use std::slice::Iter;
 
 /// A first-order formula (Sutcliffe 2017). `And` and `Or` hold at least two formulas where a text spells them, `All` and
 /// `Ex` at least one variable's name.
@@ -143,11 +146,29 @@ impl Formulas {
         self.items.as_slice()
     }
 
+    /// The formulas, lent one after another.
+    pub fn iter(&self) -> Iter<'_, Formula>
+        ensures rest { map formula_of (iter_rest result) ≡ self.now }
+        ensures len { length (iter_rest result) ≡ length self.now }
+        ensures bound { length (iter_rest result) < 2 ^ 64 }
+        ensures runs { IterYieldsInOrder Formula }
+        ensures runs_back { IterYieldsInReverse Formula }
+    {
+        self.items.iter()
+    }
+
     /// How many formulas there are.
     pub fn len(&self) -> usize
         ensures { result ≡ length self.now }
     {
         self.items.len()
+    }
+
+    /// Whether there are none.
+    pub fn is_empty(&self) -> bool
+        ensures { IsTrue result ↔ (self.now ≡ []) }
+    {
+        self.items.is_empty()
     }
 
     /// Adds a formula at the end. After want of memory the list is as before.

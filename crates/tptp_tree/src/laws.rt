@@ -1,6 +1,6 @@
 // The laws of the definitions: each is the contract of a function without arguments and with an empty body.
 
-ghost use Rattle.tptp_tree.specs.Examples.{BoundImplication, NegatedConjunction, NegatedEquation, BareOperands, QuotedName, BareName};
+ghost use Rattle.tptp_tree.specs.Examples.{BoundImplication, NegatedConjunction, NegatedEquation, BareOperands};
 ghost use Rattle.tptp_tree.specs.EntryExamples.{ClauseTokens, ClauseMeaning, OneLiteral, ClauseLevels, OpenTokens, OpenCauses, OneName, Roles, FormulaRoles, UnknownRole, LeftOutRole, Balanced, Crossed, WholeInclude, SelectedInclude, TwoEntries, NoEntries, EmptySelection};
 ghost use Rattle.std.specs.Prelude.{◌≡◌, ℕ, true, List};
 ghost use Rattle.tptp_token.specs.Lexemes.{Lexeme};
@@ -8,14 +8,12 @@ ghost use Rattle.tptp_tree.specs.Formula.{FormulaTree};
 ghost use Rattle.tptp_tree.specs.Spelling.{SpellsName, SpellsFormula};
 ghost use Rattle.tptp_tree.specs.Entries.{AnnotatedPhrase, is_right_annotated, annotated_lexemes, AnnotatedTree, SpellsAnnotated, EntryTree, SpellsEntries};
 
-/// Worked examples of printed names and formulas.
+/// Worked examples of printed formulas.
 pub fn printing_examples()
     ensures bound_implication { BoundImplication }
     ensures negated_conjunction { NegatedConjunction }
     ensures negated_equation { NegatedEquation }
     ensures bare_operands { BareOperands }
-    ensures quoted_name { QuotedName }
-    ensures bare_name { BareName }
 {}
 
 /// A text spells at most one formula.

@@ -3,13 +3,17 @@
 
 mod formula;
 pub mod laws;
+mod limits;
 mod print;
 mod problem;
+mod role;
 mod term;
 #[cfg(test)]
 mod tests;
 
 pub use formula::{Formula, FormulaBox, Formulas};
+pub use limits::{MOST_DERIVATION_NESTING, MOST_NESTING, MOST_PRINTED_NESTING};
 pub use print::{print_formula, print_name};
-pub use problem::{Annotated, AnnotatedList, Problem, Role};
+pub use problem::{Annotated, AnnotatedList, Problem};
+pub use role::Role;
 pub use term::{TreeTerm, TreeTerms};

@@ -1,17 +1,18 @@
 // How names and formulas are printed.
 
-ghost use Rattle.std.specs.Prelude.{◌≡◌, ℕ, List, ◌++◌, flat_map, map, IfOk, codes};
+ghost use Rattle.std.specs.Prelude.{◌≡◌, ℕ, List, ◌++◌, map, IfOk, codes};
 ghost use Rattle.tptp_tree.specs.Term.{terms_of};
 ghost use Rattle.tptp_tree.specs.Formula.{negation, formulas_of};
 ghost use Rattle.tptp_tree.specs.Shape.{term_of, formula_of};
 ghost use Rattle.tptp_tree.specs.Spelling.{SpellsName, SpellsFormula};
-ghost use Rattle.tptp_tree.specs.Printing.{escaped_byte, name_text, term_text, arguments_text, more_arguments_text, variables_text, more_variables_text, is_joined as joined, is_bare as bare, in_parentheses, formula_text, operand_text, operands_text, more_operands_text};
+ghost use Rattle.tptp_token.specs.Words.{name_text};
+ghost use Rattle.tptp_tree.specs.Printing.{term_text, arguments_text, more_arguments_text, variables_text, more_variables_text, is_joined as joined, is_bare as bare, in_parentheses, formula_text, operand_text, operands_text, more_operands_text};
 
 use crate::formula::Formula;
 use crate::term::TreeTerm;
 use plain_types::{Mem, Text};
 use std::alloc::Global;
-use tptp_token::is_lower_word;
+use tptp_token::push_name;
 
 /// The text of a name: bare where it is a lower word, else between single quotes, with a `\` before a quote and a `\`.
 /// Where some text spells the name, this one does.
@@ -43,32 +44,6 @@ fn push_bytes(page: &mut Vec<u8>, bytes: &[u8]) -> Mem<()>
     ensures { IfOk result (λ _. page.new.items ≡ page.old.items ++ bytes.now) }
 {
     page.extend_from_slice(bytes)?;
-    Ok(())
-}
-
-/// Adds a name: bare where it is a lower word, else quoted.
-fn push_name(page: &mut Vec<u8>, name: &[u8]) -> Mem<()>
-    ensures { IfOk result (λ _. page.new.items ≡ page.old.items ++ name_text name.now) }
-{
-    if is_lower_word(name) {
-        return push_bytes(page, name);
-    }
-    push_bytes(page, b"'")?;
-    push_escaped(page, name)?;
-    push_bytes(page, b"'")
-}
-
-/// Adds the bytes between quotes.
-fn push_escaped(page: &mut Vec<u8>, name: &[u8]) -> Mem<()>
-    ensures { IfOk result (λ _. page.new.items ≡ page.old.items ++ flat_map escaped_byte name.now) }
-{
-    for byte in name {
-        if *byte == 39 || *byte == 92 {
-            push_bytes(page, &[92, *byte])?;
-        } else {
-            push_bytes(page, &[*byte])?;
-        }
-    }
     Ok(())
 }
 

@@ -1,22 +1,8 @@
 // Annotated formulas.
 
 use crate::formula::Formula;
+use crate::role::Role;
 use plain_types::{Sequence, Text};
-
-/// What a formula of a problem is for (Sutcliffe 2017). The conjecture is to be proved, all others are taken as given.
-#[derive(Clone, Copy, Debug, PartialEq, Eq)]
-pub enum Role {
-    Axiom,
-    Hypothesis,
-    Definition,
-    Assumption,
-    Lemma,
-    Theorem,
-    Corollary,
-    NegatedConjecture,
-    Plain,
-    Conjecture,
-}
 
 /// A formula with its name and role.
 #[derive(Drop)]

@@ -1,11 +1,14 @@
 // Terms over names.
 
-ghost use Rattle.std.specs.Prelude.{◌≡◌, ◌++◌, [], ◌∷◌, length, map, IfOk, OnErr};
+ghost use Rattle.std.specs.Prelude.{◌≡◌, ◌<◌, ◌^◌, ◌↔◌, ◌++◌, [], ◌∷◌, length, map, IfOk, OnErr, IsTrue};
+ghost use Rattle.std.specs.Slice.Iter.{iter_rest};
+ghost use Rattle.std.specs.Iterator.Adapters.{IterYieldsInOrder, IterYieldsInReverse};
 ghost use Rattle.tptp_tree.specs.Shape.{term_of};
 
 use plain_types::{Mem, Text};
 use std::alloc::Global;
 use std::marker::Model;
+use std::slice::Iter;
 
 /// A term: a variable by its name, or a name applied to terms.
 #[derive(Drop)]
@@ -26,7 +29,7 @@ impl Model for TreeTerms {
     ghost use Rattle.std.specs.Prelude.{List, map};
     ghost use Rattle.std.specs.Coded.{coded_list};
     ghost use Rattle.tptp_tree.specs.Term.{TermTree, terms_size, terms_of};
-    ghost use Rattle.tptp_tree.specs.Codes.{term_code};
+    ghost use Rattle.tptp_tree.specs.TermCodes.{term_code};
 
     ghost Value = { List TermTree };
 
@@ -75,11 +78,29 @@ impl TreeTerms {
         self.items.as_slice()
     }
 
+    /// The terms, lent one after another.
+    pub fn iter(&self) -> Iter<'_, TreeTerm>
+        ensures rest { map term_of (iter_rest result) ≡ self.now }
+        ensures len { length (iter_rest result) ≡ length self.now }
+        ensures bound { length (iter_rest result) < 2 ^ 64 }
+        ensures runs { IterYieldsInOrder TreeTerm }
+        ensures runs_back { IterYieldsInReverse TreeTerm }
+    {
+        self.items.iter()
+    }
+
     /// How many terms there are.
     pub fn len(&self) -> usize
         ensures { result ≡ length self.now }
     {
         self.items.len()
+    }
+
+    /// Whether there are none.
+    pub fn is_empty(&self) -> bool
+        ensures { IsTrue result ↔ (self.now ≡ []) }
+    {
+        self.items.is_empty()
     }
 
     /// Adds a term at the end. After want of memory the list is as before.

@@ -60,8 +60,10 @@ fn prints_a_bound_implication(rt: HostRuntime) -> Result<(), Fail> {
 fn prints_a_negated_conjunction(rt: HostRuntime) -> Result<(), Fail> {
     let alloc = rt.alloc();
     let mut operands = Formulas::new(alloc);
+    assert!(rt; operands.is_empty());
     operands.push(atom(alloc, b"p")?)?;
     operands.push(atom(alloc, b"q")?)?;
+    assert_eq!(rt; operands.iter().count(), operands.len());
     let formula = Formula::Not(FormulaBox::new(alloc, Formula::And(operands))?);
     let text = print_formula(alloc, &formula)?;
     assert!(rt; text.as_slice() == b"~(p & q)".as_slice());
@@ -122,10 +124,25 @@ fn negations(alloc: Global, count: usize) -> Mem<Formula> {
 
 #[test]
 fn prints_deep_formulas(rt: HostRuntime) -> Result<(), Fail> {
-    let formula = negations(rt.alloc(), 5_000)?;
+    let formula = negations(rt.alloc(), MOST_DERIVATION_NESTING as usize)?;
     let text = print_formula(rt.alloc(), &formula)?;
     assert_eq!(rt; text.len(), 5_005);
     Ok(())
+}
+
+#[test]
+fn tells_roles_by_their_words(rt: HostRuntime) {
+    for (word, clause, wanted) in [
+        (b"axiom".as_slice(), true, Some(Role::Axiom)),
+        (b"conjecture", false, Some(Role::Conjecture)),
+        (b"conjecture", true, None),
+        (b"type", false, None),
+    ] {
+        let role = Role::of_word(word, clause);
+        assert!(rt; role == wanted);
+        assert!(rt; role.is_none_or(|role| role.word() == word));
+    }
+    assert!(rt; Role::Conjecture.is_conjecture());
 }
 
 #[test]

@@ -1,7 +1,7 @@
 use Rattle.std.proofs.Common.{ℕ, List, [], Option, ap, sym, ◌∙◌}
 use Rattle.std.specs.Prelude.{unwrap_or}
 use Rattle.std.proofs.lemmas.Option.{slice_get_past}
-use Rattle.ground_text.specs.Names.{name_text}
+use Rattle.tptp_token.specs.Words.{name_text}
 use Rattle.ground_text.proofs.TextLemmas.{added, slice_get-there}
 use Rattle.ground_text.proofs.lines.push_formula_name.Goals as goal
 

@@ -1,6 +1,6 @@
 use Rattle.std.proofs.Common.{◌≡◌, ◌++◌, take}
 use Rattle.std.specs.Prelude.{flat_map}
-use Rattle.ground_text.specs.Names.{escaped_byte}
+use Rattle.tptp_token.specs.Words.{escaped_byte}
 use Rattle.ground_text.proofs.names.push_escaped.Given as goal
 
 abbrev pub invariant-loop-byte : goal.invariant-loop-byte

@@ -1,5 +1,5 @@
 use Rattle.std.proofs.Common.{ap, sym, ◌++◌, ◌∙◌}
-use Rattle.ground_text.specs.Names.{name_text}
+use Rattle.tptp_token.specs.Words.{name_text}
 use Rattle.kernel_steps.proofs.KernelLemmas.{IfOk-change}
 use Rattle.ground_text.proofs.TextLemmas.{symbol_text-there, symbol_text-past}
 use Rattle.ground_text.proofs.terms.push_symbol.Goals as goal

@@ -1,5 +1,5 @@
 use Rattle.std.proofs.Common.{◌≡◌, drop}
-use Rattle.fol_base.specs.Spelling.{is_one_of}
+use Rattle.tptp_token.specs.Spelling.{is_one_of}
 use Rattle.tptp_problem.proofs.selection.is_listed.Given as goal
 
 abbrev pub invariant-loop-listed : goal.invariant-loop-listed

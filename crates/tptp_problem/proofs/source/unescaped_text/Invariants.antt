@@ -1,5 +1,5 @@
 use Rattle.std.proofs.Common.{◌≡◌, ◌++◌, drop, false}
-use Rattle.tptp_tree.specs.Spelling.{unescaped}
+use Rattle.tptp_token.specs.Words.{unescaped}
 use Rattle.tptp_problem.proofs.source.unescaped_text.Given as goal
 
 abbrev pub invariant-loop-byte : goal.invariant-loop-byte

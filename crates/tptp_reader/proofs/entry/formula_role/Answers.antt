@@ -1,6 +1,6 @@
 use Rattle.std.proofs.Common.{[], ◌∷◌, sym, ◌∙◌}
 use Rattle.tptp_tree.specs.Entries.{clause_roles}
-use Rattle.tptp_tree.specs.declared.problem.Role.TheVariants.{Conjecture}
+use Rattle.tptp_tree.specs.declared.role.Role.TheVariants.{Conjecture}
 use Rattle.tptp_reader.proofs.EntryReads.{role-some, role-none}
 use Rattle.tptp_reader.proofs.entry.formula_role.Goals as goal
 

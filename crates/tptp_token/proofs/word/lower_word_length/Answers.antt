@@ -1,6 +1,6 @@
 use Rattle.std.proofs.Common.{ap, sym, ◌∙◌}
 use Rattle.std.proofs.lemmas.Bool.{and_left}
-use Rattle.fol_base.specs.Spelling.{is_lower, is_lower_word}
+use Rattle.tptp_token.specs.Spelling.{is_lower, is_lower_word}
 use Rattle.tptp_token.specs.Longest.{longest}
 use Rattle.tptp_token.proofs.WordLemmas.{lower_word-length, none_begins, no_bytes}
 use Rattle.tptp_token.proofs.word.lower_word_length.Goals as goal

@@ -3,12 +3,13 @@ use Rattle.tptp_token.specs.Longest.{longest}
 use Rattle.tptp_token.specs.Kinds.{is_token, kind_of}
 use Rattle.tptp_token.specs.Pieces.{line_length, block_end, fills, piece_of}
 use Rattle.tptp_token.specs.Lexing.{lexed_from, lexed_of}
-use Rattle.tptp_token.specs.Lexemes.{Lexeme}
+use Rattle.tptp_token.specs.Lexemes.{Lexeme, lexeme}
 use Rattle.tptp_token.specs.declared.token.Kind.TheVariants.{Lower, Quoted, Number, Mark}
-use Rattle.tptp_tree.specs.declared.problem.Role.TheVariants.{Plain}
+use Rattle.tptp_tree.specs.declared.role.Role.TheVariants.{Plain}
 use Rattle.tptp_tree.specs.Term.{no_terms}
 use Rattle.tptp_tree.specs.Formula.{predicate}
-use Rattle.tptp_tree.specs.Spelling.{bare, quoted, lexeme, no_phrases, predicate_atom}
+use Rattle.tptp_token.specs.Words.{bare, quoted}
+use Rattle.tptp_tree.specs.Spelling.{no_phrases, predicate_atom}
 use Rattle.tptp_tree.specs.Entries.{NamePhrase, word_name, digits_name, name_lexeme, positive_literal, literals, is_clause_body, clause_body, EntryPhrase, annotated_entry, whole_include, selected_include, entry_lexemes, problem_lexemes}
 use Rattle.tptp_tree.proofs.UniqueAtoms.{head-same, tail-same, first_is}
 use Rattle.tptp_tree.proofs.UniqueEntries.{no-include}

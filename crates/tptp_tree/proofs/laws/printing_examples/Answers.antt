@@ -7,6 +7,4 @@ returns c = record {
   negated_conjunction = refl;
   negated_equation = refl;
   bare_operands = refl;
-  quoted_name = refl;
-  bare_name = refl;
 }

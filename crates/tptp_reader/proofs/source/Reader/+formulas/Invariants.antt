@@ -1,6 +1,7 @@
 use Rattle.std.proofs.Common.{◌≡◌, [], ◌∷◌, ◌+◌, ◌-◌, ◌*◌, length}
 use Rattle.tptp_token.specs.declared.token.Kind.TheVariants.{Connective}
-use Rattle.tptp_tree.specs.Spelling.{lexeme, unit_lexemes, unit_meant}
+use Rattle.tptp_token.specs.Lexemes.{lexeme}
+use Rattle.tptp_tree.specs.Spelling.{unit_lexemes, unit_meant}
 use Rattle.tptp_tree.specs.Shape.{formula_of}
 use Rattle.tptp_reader.specs.Machine.{maybe_more_units}
 use Rattle.tptp_reader.specs.Telling.{one, further_units}

@@ -1,6 +1,7 @@
 use Rattle.std.proofs.Common.{[], ◌+◌, ◌-◌, ◌*◌, length, codes}
 use Rattle.tptp_token.specs.declared.token.Kind.TheVariants.{Mark}
-use Rattle.tptp_tree.specs.Spelling.{lexeme, term_lexemes, term_meant}
+use Rattle.tptp_token.specs.Lexemes.{lexeme}
+use Rattle.tptp_tree.specs.Spelling.{term_lexemes, term_meant}
 use Rattle.tptp_reader.specs.Machine.{arguments, more_arguments}
 use Rattle.tptp_reader.specs.Telling.{one}
 use Rattle.tptp_reader.proofs.LoopLemmas.{SoFar}

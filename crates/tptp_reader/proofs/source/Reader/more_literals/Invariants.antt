@@ -1,6 +1,6 @@
 use Rattle.std.proofs.Common.{[], ◌∷◌, ◌-◌, length, codes}
 use Rattle.tptp_token.specs.declared.token.Kind.TheVariants.{Connective}
-use Rattle.tptp_tree.specs.Spelling.{lexeme}
+use Rattle.tptp_token.specs.Lexemes.{lexeme}
 use Rattle.tptp_tree.specs.Entries.{literal_lexemes, literal_meant}
 use Rattle.tptp_tree.specs.Shape.{formula_of}
 use Rattle.tptp_reader.specs.Machine.{maybe_more_literals}

@@ -1,5 +1,5 @@
 use Rattle.std.proofs.Common.{Bool, true, false}
-use Rattle.tptp_reader.specs.Telling.{lexeme_of}
+use Rattle.tptp_token.specs.TextTokens.{lexeme_of}
 use Rattle.tptp_reader.specs.TellingNotes.{stack_of, GoesOn, EntersWith, EntersTooDeep, IsTooDeep}
 use Rattle.tptp_reader.specs.declared.cause.Halt.{Halt}
 use Rattle.tptp_reader.proofs.LoopLemmas.{ok-then, err-then}

@@ -1,5 +1,5 @@
 use Rattle.std.proofs.Common.{true, false, ap}
-use Rattle.tptp_reader.specs.Telling.{lexeme_of}
+use Rattle.tptp_token.specs.TextTokens.{lexeme_of}
 use Rattle.tptp_reader.specs.TellingNotes.{stack_of}
 use Rattle.tptp_reader.proofs.LoopLemmas.{passed}
 use Rattle.tptp_reader.proofs.NotesReads.{first-note, more-notes, notes-read, notes-refused, notes-cut_off, first-too_deep, notes-too_deep, first-refused, goes, lent-ends}

@@ -1,0 +1,67 @@
+// Names between quotes and without.
+
+ghost use Rattle.std.specs.Prelude.{◌≡◌, ◌++◌, false, flat_map, IfOk};
+ghost use Rattle.tptp_token.specs.Words.{unescaped, unquoted as name_in_quotes, escaped_byte, name_text};
+
+use crate::word::is_lower_word;
+use plain_types::{Mem, Text};
+use std::alloc::Global;
+
+/// The name that a quoted word stands for: what stands between its quotes, with each escaping `\` left out.
+pub fn unquoted(alloc: Global, word: &[u8]) -> Mem<Text>
+    ensures { IfOk result (λ name. name ≡ name_in_quotes word.now) }
+{
+    match word.split_first() {
+        None => Ok(Text::new(alloc)),
+        Some((_, inside)) => unescaped_text(alloc, inside),
+    }
+}
+
+/// What stands up to the closing quote, with each escaping `\` left out.
+fn unescaped_text(alloc: Global, inside: &[u8]) -> Mem<Text>
+    ensures { IfOk result (λ name. name ≡ unescaped false inside.now) }
+{
+    let mut name = Vec::new(alloc);
+    let mut escaped = false;
+    for byte in inside {
+        if escaped {
+            name.push(*byte)?;
+            escaped = false;
+        } else if *byte == b'\'' {
+            return Ok(Text::from_vec(name));
+        } else if *byte == b'\\' {
+            escaped = true;
+        } else {
+            name.push(*byte)?;
+        }
+    }
+    Ok(Text::from_vec(name))
+}
+
+/// Adds a name at the end of a text: bare where it is a lower word, else between single quotes, with a `\` before a quote and
+/// a `\`.
+pub fn push_name(page: &mut Vec<u8>, name: &[u8]) -> Mem<()>
+    ensures { IfOk result (λ _. page.new.items ≡ page.old.items ++ name_text name.now) }
+{
+    if is_lower_word(name) {
+        page.extend_from_slice(name)?;
+        return Ok(());
+    }
+    page.push(b'\'')?;
+    push_escaped(page, name)?;
+    page.push(b'\'')?;
+    Ok(())
+}
+
+/// Adds the bytes between quotes.
+fn push_escaped(page: &mut Vec<u8>, name: &[u8]) -> Mem<()>
+    ensures { IfOk result (λ _. page.new.items ≡ page.old.items ++ flat_map escaped_byte name.now) }
+{
+    for byte in name {
+        if *byte == b'\'' || *byte == b'\\' {
+            page.push(b'\\')?;
+        }
+        page.push(*byte)?;
+    }
+    Ok(())
+}
