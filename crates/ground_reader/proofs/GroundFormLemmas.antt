@@ -3,7 +3,7 @@ use Rattle.std.proofs.Common.{◌≡◌, suc, get_or, arith, true, not, ◌&&◌
 use Rattle.std.specs.Prelude.{All}
 use Rattle.std.specs.List.{list_all}
 use Rattle.std.proofs.lemmas.Bool.{ne_eqb}
-use Rattle.fol_base.specs.Tree.{Tree, variable, application, Trees, no_trees, tree_then, VariablesBelow, AllVariablesBelow}
+use Rattle.fol_base.specs.Tree.{Tree, variable, application, Trees, no_trees, tree_then, VariablesBelow, AllVariablesBelow, is_truth}
 use Rattle.fol_base.specs.Clause.{TreeLiteral, TreeClause}
 use Rattle.fol_base.specs.Ground.{is_ground, are_ground}
 use Rattle.fol_base.specs.GroundForm as base
@@ -25,8 +25,8 @@ ground-atom (application f ts) p h = ap (λ b. not b && are_ground ts) (ne_eqb f
 
 atom-literal : (l : TreeLiteral) → IsGroundLiteral l → base.is_atom_literal l ≡ true
 atom-literal l h =
-    ap (λ b. b && base.is_truth l.right) (ground-atom l.left h.left h.closed.0)
-    ∙ ap base.is_truth h.right
+    ap (λ b. b && is_truth l.right) (ground-atom l.left h.left h.closed.0)
+    ∙ ap is_truth h.right
 
 literals : (ls : List TreeLiteral) → All IsGroundLiteral ls → list_all base.is_atom_literal ls ≡ true
 literals [] h = refl

@@ -1,4 +1,5 @@
 -- What the bytes of a ground problem say.
+use Rattle.fol_base.specs.declared.limits.TheConstants.{MOST_SYMBOLS}
 use Rattle.std.specs.Prelude.{◌≡◌, ℕ, ◌≤◌, List, [], map, sum_by}
 use Rattle.std.specs.List.{AllByRecursion}
 use Rattle.fol_base.specs.Clause.{clause_size}
@@ -20,7 +21,7 @@ symbol_total fs = sum_by (λ f. clause_size (numbered_clause (symbols_of fs) f))
 -- what is read: brackets nest at most 500 deep, and the clauses have at most 4,000 symbols together
 pub record IsWithinLimits (fs : List NamedFormula) : Type 0 where
   pub nesting : AllByRecursion (NestsWithin 500) fs
-  pub symbols : symbol_total fs ≤ 4000
+  pub symbols : symbol_total fs ≤ MOST_SYMBOLS
 
 abbrev pub symbol_key : GroundSymbol → SymbolKey
 symbol_key s = record { name = s.name; predicate = s.predicate; arity = s.arity }

@@ -1,4 +1,5 @@
 -- What the functions that read say of the tokens before and after, and of the symbols that they add.
+use Rattle.fol_base.specs.declared.limits.TheConstants.{MOST_SYMBOLS}
 use Rattle.std.specs.Prelude.{◌≡◌, ℕ, ◌+◌, ◌≤◌, Bool, List, [], ◌∷◌, ◌++◌, map, flat_map, length}
 use Rattle.std.specs.List.{AllByRecursion}
 use Rattle.ground_reader.specs.Token.{Token, word, left_bracket, right_bracket, comma, bar, negation, full_stop, unknown}
@@ -64,7 +65,7 @@ pub record HasTerm (is_atom : Bool) (levels : ℕ) (before : List Token) (known 
   pub text : before ≡ term_text term after
   pub ends : EndsAfter term after
   pub nested : nesting term ≤ levels
-  pub few : length known + length (term_symbols is_atom term) ≤ 4000
+  pub few : length known + length (term_symbols is_atom term) ≤ MOST_SYMBOLS
 
 -- the tokens are arguments with their closing bracket, and those after it
 pub record ReadsArguments (levels : ℕ) (before after : List Token) (old new : List SymbolKey) (count : ℕ) : Type 0 where
@@ -81,7 +82,7 @@ pub record HasArguments (levels : ℕ) (before : List Token) (known : List Symbo
   pub after : List Token
   pub text : before ≡ term_text first (more_terms_text others after)
   pub nested : nestings (term_then first others) ≤ levels
-  pub few : length known + length (terms_symbols (term_then first others)) ≤ 4000
+  pub few : length known + length (terms_symbols (term_then first others)) ≤ MOST_SYMBOLS
 
 pub record ReadsLiteral (before after : List Token) (old new : List SymbolKey) (positive : Bool) : Type 0 where
   pub literal : NamedLiteral
@@ -97,7 +98,7 @@ pub record HasLiteral (before : List Token) (known : List SymbolKey) : Type 0 wh
   pub text : before ≡ literal_text literal after
   pub ends : EndsAfter literal.atom after
   pub nested : AtomNestsWithin 500 literal
-  pub few : length known + length (literal_symbols literal) ≤ 4000
+  pub few : length known + length (literal_symbols literal) ≤ MOST_SYMBOLS
 
 abbrev pub signs_of : List NamedLiteral → List Bool
 signs_of = map (λ (l : NamedLiteral). l.positive)
@@ -118,7 +119,7 @@ pub record HasClause (before : List Token) (known : List SymbolKey) : Type 0 whe
   pub text : before ≡ literal_text first (more_literals_text others after)
   pub ends : EndsClause first others after
   pub nested : AllByRecursion (AtomNestsWithin 500) (first ∷ others)
-  pub few : length known + length (flat_map literal_symbols (first ∷ others)) ≤ 4000
+  pub few : length known + length (flat_map literal_symbols (first ∷ others)) ≤ MOST_SYMBOLS
 
 -- the outline has the formula's name, role and signs
 pub record IsOutline (o : Outline) (f : NamedFormula) : Type 0 where
@@ -138,7 +139,7 @@ pub record HasFormula (before : List Token) (known : List SymbolKey) : Type 0 wh
   pub after : List Token
   pub text : before ≡ formula_text formula after
   pub nested : NestsWithin 500 formula
-  pub few : length known + length (formula_symbols formula) ≤ 4000
+  pub few : length known + length (formula_symbols formula) ≤ MOST_SYMBOLS
 
 -- outlines and formulas, one for one
 abbrev pub AreOutlines : List Outline → List NamedFormula → Type 0
@@ -158,4 +159,4 @@ pub record HasScript (before : List Token) : Type 0 where
   pub formulas : List NamedFormula
   pub text : before ≡ formulas_text formulas []
   pub nested : AllByRecursion (NestsWithin 500) formulas
-  pub few : length (flat_map formula_symbols formulas) ≤ 4000
+  pub few : length (flat_map formula_symbols formulas) ≤ MOST_SYMBOLS

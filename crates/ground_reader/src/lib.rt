@@ -23,8 +23,9 @@ mod token;
 
 use building::{build_clauses, build_terms};
 pub use fault::GroundFault;
-use plain_types::{Mem, Text, Texts};
+use fol_base::MOST_SYMBOLS;
 use numbering::{number, owned_symbols};
+use plain_types::{Mem, Text, Texts};
 pub use problem::{GroundProblem, GroundRole, GroundRoles, GroundSymbol, GroundSymbols};
 use reading::{Outline, read_script};
 use std::alloc::Global;
@@ -49,7 +50,7 @@ use std::alloc::Global;
 pub fn read_ground(alloc: Global, bytes: &[u8]) -> Result<GroundProblem, GroundFault>
     ensures read { IfOk result (IsReadAs bytes.now) }
     ensures ground { IfOk result (λ problem. IsGroundForm (map clause_of problem.clauses)) }
-    ensures few { IfOk result (λ problem. form_size (map clause_of problem.clauses) ≤ 4000) }
+    ensures few { IfOk result (λ problem. form_size (map clause_of problem.clauses) ≤ MOST_SYMBOLS) }
     ensures not_built { result ≡ Err GroundFault.NotBuilt
         → (fs : List NamedFormula) → IsGroundText bytes.now fs → IsWithinLimits fs → ⊥ }
 {

@@ -7,8 +7,9 @@ ghost use Rattle.ground_reader.specs.GroundText.{symbol_key};
 
 use crate::occurrence::{Occurrence, TRUE};
 use crate::problem::{GroundSymbol, GroundSymbols};
-use plain_types::{Mem, Text};
+use fol_base::MOST_SYMBOLS;
 use indexmap::IndexSet;
+use plain_types::{Mem, Text};
 use std::alloc::Global;
 
 /// Symbols by their numbers, and the number of the symbol of each occurrence.
@@ -20,7 +21,7 @@ pub struct Numbering<'a> {
 
 /// Numbers the symbols of the occurrences in their order, after `$true`, which has the number 0.
 pub fn number<'a>(alloc: Global, symbols: &[Occurrence<'a>]) -> Mem<Numbering<'a>>
-    requires { length symbols.now ≤ 4000 }
+    requires { length symbols.now ≤ MOST_SYMBOLS }
     ensures known { IfOk result (λ made.
         keys_of made.known.keys ≡ fold with_symbol (true_symbol ∷ []) (keys_of symbols.now)) }
     ensures numbers { IfOk result (λ made.

@@ -11,13 +11,14 @@ use crate::fault::GroundFault;
 use crate::occurrence::{Occurrence, TRUE};
 use crate::problem::GroundRole;
 use crate::token::{Mark, after_mark, is_at_end, next_word};
+use fol_base::MOST_SYMBOLS;
 use std::alloc::Global;
 
 /// How deep the brackets of terms nest at most.
 const NESTING_LIMIT: u32 = 500;
 
 /// How many occurrences of symbols all clauses have at most together, `$true` included.
-const SYMBOL_LIMIT: usize = 4000;
+const SYMBOL_LIMIT: usize = MOST_SYMBOLS as usize;
 
 /// A formula but for its symbols: its name, its role, and the signs of its literals.
 #[derive(Drop)]
@@ -38,7 +39,7 @@ pub struct Script<'a> {
 /// The formulas that the bytes spell.
 pub fn read_script(alloc: Global, bytes: &[u8]) -> Result<Script<'_>, GroundFault>
     ensures read { IfOk result (ReadsScript (tokens_of bytes.entry.now)) }
-    ensures few { IfOk result (λ script. vec_len script.symbols ≤ 4000) }
+    ensures few { IfOk result (λ script. vec_len script.symbols ≤ MOST_SYMBOLS) }
     ensures not_built { result ≡ Err GroundFault.NotBuilt → HasScript (tokens_of bytes.entry.now) → ⊥ }
 {
     let mut outlines = Vec::new(alloc);
@@ -58,10 +59,10 @@ fn read_formula<'a>(
     bytes: &'a [u8],
     symbols: &mut Vec<Occurrence<'a>>,
 ) -> Result<(Outline<'a>, &'a [u8]), GroundFault>
-    requires { vec_len symbols.old ≤ 4000 }
+    requires { vec_len symbols.old ≤ MOST_SYMBOLS }
     ensures read { IfOk result (λ read.
         ReadsFormula (tokens_of bytes.entry.now) (tokens_of read.1.now) (keys_of symbols.old.items) (keys_of symbols.new.items) read.0) }
-    ensures few { IfOk result (λ _. vec_len symbols.new ≤ 4000) }
+    ensures few { IfOk result (λ _. vec_len symbols.new ≤ MOST_SYMBOLS) }
     ensures grown { IfOk result (λ _. vec_len symbols.old < vec_len symbols.new) }
     ensures not_built { result ≡ Err GroundFault.NotBuilt → HasFormula (tokens_of bytes.entry.now) (keys_of symbols.old.items) → ⊥ }
 {
@@ -124,10 +125,10 @@ fn read_clause<'a>(
     bytes: &'a [u8],
     symbols: &mut Vec<Occurrence<'a>>,
 ) -> Result<(Vec<bool>, &'a [u8]), GroundFault>
-    requires { vec_len symbols.old ≤ 4000 }
+    requires { vec_len symbols.old ≤ MOST_SYMBOLS }
     ensures read { IfOk result (λ read.
         ReadsClause (tokens_of bytes.entry.now) (tokens_of read.1.now) (keys_of symbols.old.items) (keys_of symbols.new.items) read.0.items) }
-    ensures few { IfOk result (λ _. vec_len symbols.new ≤ 4000) }
+    ensures few { IfOk result (λ _. vec_len symbols.new ≤ MOST_SYMBOLS) }
     ensures grown { IfOk result (λ _. vec_len symbols.old < vec_len symbols.new) }
     ensures not_built { result ≡ Err GroundFault.NotBuilt → HasClause (tokens_of bytes.entry.now) (keys_of symbols.old.items) → ⊥ }
 {
@@ -148,10 +149,10 @@ fn read_literal<'a>(
     bytes: &'a [u8],
     symbols: &mut Vec<Occurrence<'a>>,
 ) -> Result<(bool, &'a [u8]), GroundFault>
-    requires { vec_len symbols.old ≤ 4000 }
+    requires { vec_len symbols.old ≤ MOST_SYMBOLS }
     ensures read { IfOk result (λ read.
         ReadsLiteral (tokens_of bytes.entry.now) (tokens_of read.1.now) (keys_of symbols.old.items) (keys_of symbols.new.items) read.0) }
-    ensures few { IfOk result (λ _. vec_len symbols.new ≤ 4000) }
+    ensures few { IfOk result (λ _. vec_len symbols.new ≤ MOST_SYMBOLS) }
     ensures grown { IfOk result (λ _. vec_len symbols.old < vec_len symbols.new) }
     ensures not_built { result ≡ Err GroundFault.NotBuilt → HasLiteral (tokens_of bytes.entry.now) (keys_of symbols.old.items) → ⊥ }
 {
@@ -181,10 +182,10 @@ fn read_application<'a>(
     levels: u32,
     symbols: &mut Vec<Occurrence<'a>>,
 ) -> Result<&'a [u8], GroundFault>
-    requires { vec_len symbols.old ≤ 4000 }
+    requires { vec_len symbols.old ≤ MOST_SYMBOLS }
     ensures read { IfOk result (λ rest.
         ReadsTerm predicate levels (tokens_of bytes.entry.now) (tokens_of rest.now) (keys_of symbols.old.items) (keys_of symbols.new.items)) }
-    ensures few { IfOk result (λ _. vec_len symbols.new ≤ 4000) }
+    ensures few { IfOk result (λ _. vec_len symbols.new ≤ MOST_SYMBOLS) }
     ensures grown { IfOk result (λ _. vec_len symbols.old < vec_len symbols.new) }
     ensures not_built { result ≡ Err GroundFault.NotBuilt
         → HasTerm predicate levels (tokens_of bytes.entry.now) (keys_of symbols.old.items) → ⊥ }
@@ -222,10 +223,10 @@ fn read_arguments<'a>(
     levels: u32,
     symbols: &mut Vec<Occurrence<'a>>,
 ) -> Result<(u32, &'a [u8]), GroundFault>
-    requires { vec_len symbols.old ≤ 4000 }
+    requires { vec_len symbols.old ≤ MOST_SYMBOLS }
     ensures read { IfOk result (λ read.
         ReadsArguments levels (tokens_of bytes.entry.now) (tokens_of read.1.now) (keys_of symbols.old.items) (keys_of symbols.new.items) read.0) }
-    ensures few { IfOk result (λ _. vec_len symbols.new ≤ 4000) }
+    ensures few { IfOk result (λ _. vec_len symbols.new ≤ MOST_SYMBOLS) }
     ensures grown { IfOk result (λ _. vec_len symbols.old < vec_len symbols.new) }
     ensures not_built { result ≡ Err GroundFault.NotBuilt
         → HasArguments levels (tokens_of bytes.entry.now) (keys_of symbols.old.items) → ⊥ }
@@ -251,8 +252,8 @@ fn add_symbol<'a>(
     symbol: Occurrence<'a>,
 ) -> Result<(), GroundFault>
     ensures added { IfOk result (λ _. keys_of symbols.new.items ≡ keys_of symbols.old.items ++ key_of symbol.entry ∷ []) }
-    ensures few { IfOk result (λ _. vec_len symbols.old < 4000) }
-    ensures not_built { result ≡ Err GroundFault.NotBuilt → 4000 ≤ vec_len symbols.old }
+    ensures few { IfOk result (λ _. vec_len symbols.old < MOST_SYMBOLS) }
+    ensures not_built { result ≡ Err GroundFault.NotBuilt → MOST_SYMBOLS ≤ vec_len symbols.old }
 {
     if symbols.len() >= SYMBOL_LIMIT {
         return Err(GroundFault::NotBuilt);
