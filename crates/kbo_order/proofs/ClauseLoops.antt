@@ -1,5 +1,5 @@
 -- Steps of loops over the literals of a clause.
-use Rattle.std.proofs.Common.{◌≡◌, ℕ, ◌+◌, ◌<◌, ◌≤◌, Bool, true, false, ◌&&◌, ◌||◌, List, [], ◌∷◌, ◌++◌, Some, slice_get, length, take, get_or, refl, ap, sym, ◌∙◌, subst, ⊎_elim, arith}
+use Rattle.std.proofs.Common.{◌≡◌, ℕ, ◌+◌, ◌≤◌, Bool, true, false, ◌&&◌, ◌||◌, List, [], ◌∷◌, ◌++◌, Some, slice_get, take, refl, ap, sym, ◌∙◌, subst, ⊎_elim, arith}
 use Rattle.std.specs.Prelude.{sum_by}
 use Rattle.std.specs.List.{list_any, list_all}
 use Rattle.std.proofs.lemmas.Bool.{and_from, or_from, or_left, or_right, false_from_ne_true, true≢false}
@@ -8,11 +8,14 @@ use Rattle.std.proofs.lemmas.List.Folds.{list_all-append, list_any-append}
 use Rattle.std.proofs.lemmas.List.Sums.{sum_by-cons}
 use Rattle.std.proofs.lemmas.Option.{slice_get_within, get_or_from_slice_get}
 use Rattle.fol_base.specs.Clause.{TreeLiteral, literal_size}
+use Rattle.fol_base.specs.Multiset.{times}
+use Rattle.fol_base.proofs.CountLemmas.{times-cons, times-append}
 use Rattle.fol_base.specs.Order.{equivalent_literals, literal_greater, compare_literals}
 use Rattle.kbo_order.specs.declared.cmp.Cmp.{Cmp}
 use Rattle.kbo_order.specs.declared.cmp.Cmp.TheVariants.{Greater, Less, Equal, Unordered}
 use Rattle.kbo_order.specs.Cmp.{comparison_of, is_greater}
 use Rattle.kbo_order.proofs.MemberLemmas.{In, In-at, all-In}
+use Rattle.kbo_order.proofs.TallyLemmas.{bit}
 use Rattle.kbo_order.proofs.FurtherLemmas.{by_tests}
 use Rattle.kbo_order.proofs.StrictOrderLemmas.{literals_ordered}
 
@@ -59,6 +62,17 @@ In-any p (y ∷ ys) x there h =
 pub any-stop :
     {X : Type 0} (p : X → Bool) (xs : List X) (i : ℕ) (x : X) → slice_get xs i ≡ Some x → p x ≡ true → true ≡ list_any p xs
 any-stop p xs i x e here = sym (In-any p xs x (In-index xs i x e) here)
+
+pub times-more :
+    {X : Type 0} (same : X → X → Bool) (z : X) (xs : List X) (i : ℕ) (x : X) → slice_get xs i ≡ Some x
+    → times same z (take (i + 1) xs) ≡ times same z (take i xs) + bit (same z x)
+times-more same z xs i x e =
+    omega (
+      arith,
+      ap (times same z) (take-more xs i x e),
+      times-append same z (take i xs) (x ∷ []),
+      times-cons same z x [],
+    )
 
 -- a literal is no larger than its clause
 In-size : (ls : List TreeLiteral) (l : TreeLiteral) → In l ls → literal_size l ≤ sum_by literal_size ls
