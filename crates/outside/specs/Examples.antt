@@ -17,6 +17,6 @@ pub record Script : Type 0 where
 abbrev pub script_gives : Script → List ℕ → Result ℕ SinkFault → Script → Type 0
 script_gives before bytes result after = (before.answers ≡ result ∷ after.answers) × (after.handed ≡ before.handed ++ bytes ∷ [])
 
--- with these answers the writes that deliver a text may be these, by what they are handed, and those answers are left over
+-- by these answers a text is delivered with this result, by writes that are handed these bytes in turn; and some answers are left
 abbrev pub DeliversBy : List (Result ℕ SinkFault) → List ℕ → Result (Unit {0}) SinkFault → List (List ℕ) → List (Result ℕ SinkFault) → Type 0
 DeliversBy answers text result handed left = Delivers script_gives (record { answers = answers; handed = [] }) text result (record { answers = left; handed = handed })

@@ -13,8 +13,8 @@ with_bytes taken bytes = option_map (λ before. before ++ bytes) taken
 abbrev pub HasPrefixAfter : Option (List ℕ) → Option (List ℕ) → List ℕ → Type 0
 HasPrefixAfter before now text = (n : ℕ) × (n < length text) × (now ≡ with_bytes before (take n text))
 
--- The writes that deliver a text, from one state of a sink to another, where `gives` says how a sink answers a write and what it
--- becomes. Each write is handed all bytes not yet taken. There is none once no byte is left, and none after one that failed.
+-- The writes that deliver a text, from one state of a sink to another; `gives` says how a sink answers a write and what it becomes.
+-- Each is handed all bytes not yet taken. None is made once no byte is left, and none after one that failed.
 pub data Delivers {S : Type 0} (gives : S → List ℕ → Result ℕ SinkFault → S → Type 0) : S → List ℕ → Result (Unit {0}) SinkFault → S → Type 0 where
   none_left : {sink : S} → Delivers gives sink [] (Ok tt) sink
   takes :

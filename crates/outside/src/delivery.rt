@@ -8,8 +8,8 @@ use crate::sink::Sink;
 
 /// Writes a whole text. Each write is handed all that was not yet taken.
 ///
-/// It gives up only where the sink failed; then a proper prefix of the text was taken, and nothing is
-/// written any more. It takes no memory.
+/// It gives up only where the sink failed; then a proper prefix of the text was taken, and the write
+/// that failed is the last. It takes no memory.
 pub fn deliver<S: Sink>(sink: &mut S, text: &[u8]) -> Result<(), SinkFault>
     ensures writes { Delivers S.gives sink.old text.now result sink.new }
     ensures whole { OnOk result (S.taken sink.new ≡ with_bytes (S.taken sink.old) text.now) }

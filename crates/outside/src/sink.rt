@@ -14,7 +14,8 @@ pub trait Sink {
     /// How often the sink has failed. Where it is kept in a number, it stops at the number's end.
     ghost faults: { Self → ℕ };
 
-    /// What is known of one write: a sink that is handed these bytes answers so, and becomes that sink.
+    /// One write, as far as it is known: this sink, handed these bytes, answers so and becomes that
+    /// sink.
     ghost gives: { Self → List ℕ → Result ℕ SinkFault → Self → Type 0 };
 
     /// Takes at least the first byte, and says how many it took.

@@ -1,5 +1,5 @@
 // A sink over the real standard output.
-ghost use Rattle.std.specs.Prelude.{◌≡◌, ◌≤◌, ◌<◌, ⊤, None, length, take, IfOk, OnOk, OnErr, IfSome, MatchOption};
+ghost use Rattle.std.specs.Prelude.{◌≡◌, ◌≤◌, ◌<◌, None, length, take, OnErr, IfSome, MatchOption};
 ghost use Rattle.outside.specs.Faults.{Rose};
 ghost use Rattle.std.specs.Io.KnownBytes.{Appends, Keeps};
 
@@ -44,10 +44,7 @@ impl<R: Print> Sink for StdoutSink<'_, R> {
 
     fn write(&mut self, bytes: &[u8]) -> Result<usize, SinkFault>
         ensures given { StdoutGives self.old bytes.now result self.new }
-        // The other clauses of the trait that are not of what is told.
-        ensures some { IfOk result (λ n. 0 < n) }
-        ensures within { IfOk result (λ n. n ≤ length bytes.now) }
-        ensures stays { OnOk result (stdout_faults self.new ≡ stdout_faults self.old) }
+        // Clauses of the trait that this gives.
         ensures later { stdout_faults self.old ≤ stdout_faults self.new }
         ensures cause { OnErr result (Rose (stdout_faults self.old) (stdout_faults self.new)) }
     {

@@ -6,11 +6,11 @@ pub write-tells : goal.write-tells
 write-tells g c =
     record {
       given = c.ensures.given;
-      some = c.ensures.some;
-      within = c.ensures.within;
+      some = c.ensures.given.some;
+      within = c.ensures.given.within;
       taken = ok_always c.result _ (λ _. refl);
       nothing = err_always c.result _ refl;
-      stays = c.ensures.stays;
+      stays = c.ensures.given.stays;
       later = c.ensures.later;
       cause = c.ensures.cause;
     }
