@@ -13,7 +13,8 @@ use Rattle.ground_text.specs.Lines.{source_of, lines_text}
 use Rattle.prover_main.specs.Words.{proved_file}
 use Rattle.prover_main.specs.Accepted.{form_of, is_predicate_of}
 use Rattle.prover_main.specs.Report.{usage_report, refuted_report, closed_report}
-use Rattle.prover_main.specs.Run.{most_inferences, IsDueOn, refuted, closed, IsDueFor, Outside, IsDue, Taken, Delivered, all_taken, prefix_taken, IsRun, whole, cut_off}
+use Rattle.plain_types.specs.declared.limits.TheConstants.{DEFAULT_INFERENCES}
+use Rattle.prover_main.specs.Run.{IsDueOn, refuted, closed, IsDueFor, Outside, IsDue, Taken, Delivered, all_taken, prefix_taken, IsRun, whole, cut_off}
 
 pub run_usage :
     (words : List (List ℕ)) (outside : Outside) (taken : Taken) (status : ℕ)
@@ -40,11 +41,11 @@ run_due words outside taken file due text status e cause (prefix_taken s r p) =
 
 pub due_refuted :
     (bytes file text : List ℕ) (problem : GroundProblem) (answer : Ground) (lines : List Line)
-    → IsReadAs bytes problem → IsGroundAnswer (form_of problem) most_inferences answer → HasMeaning (form_of problem) answer
+    → IsReadAs bytes problem → IsGroundAnswer (form_of problem) DEFAULT_INFERENCES answer → HasMeaning (form_of problem) answer
     → answer ≡ Refuted lines
     → text ≡ refuted_report file (lines_text (source_of file problem) lines) → IsDueOn bytes file 0 text
 due_refuted bytes file text problem answer lines read is means e printed =
-    let P : Ground → Type 0 = IsGroundAnswer (form_of problem) most_inferences in
+    let P : Ground → Type 0 = IsGroundAnswer (form_of problem) DEFAULT_INFERENCES in
     let sourced : IsSourcedRefutation (form_of problem) lines = subst P e is in
     refuted refl (record {
       problem = problem;
@@ -57,11 +58,11 @@ due_refuted bytes file text problem answer lines read is means e printed =
 
 pub due_closed :
     (bytes file text : List ℕ) (problem : GroundProblem) (answer : Ground)
-    → IsReadAs bytes problem → IsGroundAnswer (form_of problem) most_inferences answer → HasMeaning (form_of problem) answer
+    → IsReadAs bytes problem → IsGroundAnswer (form_of problem) DEFAULT_INFERENCES answer → HasMeaning (form_of problem) answer
     → answer ≡ Closed
     → text ≡ closed_report file → IsDueOn bytes file 10 text
 due_closed bytes file text problem answer read is means e printed =
-    let P : Ground → Type 0 = IsGroundAnswer (form_of problem) most_inferences in
+    let P : Ground → Type 0 = IsGroundAnswer (form_of problem) DEFAULT_INFERENCES in
     let sets : HasClosedSets (form_of problem) = subst P e is in
     closed refl (record {
       problem = problem;

@@ -1,6 +1,7 @@
 -- The reports, as texts.
 use Rattle.std.specs.Prelude.{ℕ, List, ◌++◌, codes}
 use Rattle.std.specs.Fmt.{decimal}
+use Rattle.plain_types.specs.declared.limits.TheConstants.{DEFAULT_INFERENCES}
 use Rattle.ground_text.specs.Names.{problem_name, shown}
 
 -- the end of a line that names the problem
@@ -23,8 +24,12 @@ refuted_report file derivation =
 abbrev pub closed_report : List ℕ → List ℕ
 closed_report file = status_line (codes "Unknown") file ++ codes "% closed\n"
 
+-- how many inferences are counted at most
+abbrev pub limit_text : List ℕ
+limit_text = codes " of " ++ decimal DEFAULT_INFERENCES ++ codes "\n"
+
 abbrev pub spent_line : ℕ → List ℕ
-spent_line count = codes "% spent " ++ decimal count ++ codes " of 100000\n"
+spent_line count = codes "% spent " ++ decimal count ++ limit_text
 
 abbrev pub spent_report : List ℕ → ℕ → List ℕ
 spent_report file count = status_line (codes "GaveUp") file ++ spent_line count

@@ -1,5 +1,7 @@
 -- What a run answers and prints, and why.
 use Rattle.std.specs.Prelude.{◌≡◌, ℕ, ◌≤◌, length, List, Option, None, Some, IfSome, IsSome, IsTrue}
+use Rattle.plain_types.specs.declared.limits.TheConstants.{DEFAULT_INFERENCES}
+use Rattle.tptp_token.specs.declared.scan.TheConstants.{MOST_TEXT_BYTES}
 use Rattle.ground_reader.specs.Syntax.{NamedFormula}
 use Rattle.ground_reader.specs.GroundText.{IsGroundText, IsWithinLimits, IsReadAs}
 use Rattle.ground_reader.specs.declared.problem.GroundProblem.{GroundProblem}
@@ -14,14 +16,6 @@ use Rattle.fol_base.specs.Symbols.{FunctionSymbols}
 use Rattle.kernel_steps.specs.Soundness.{HerbrandRefuted}
 use Rattle.prover_main.specs.Accepted.{IsAcceptedDerivation, form_of, is_predicate_of}
 use Rattle.prover_main.specs.Report.{refuted_report, closed_report, spent_report, not_built_report, load_failed_report, usage_report}
-
--- the most bytes of a file
-abbrev pub most_file_bytes : ℕ
-most_file_bytes = 67108864
-
--- how many inferences are counted at most
-abbrev pub most_inferences : ℕ
-most_inferences = 100000
 
 -- ---- by the bytes of the file
 
@@ -45,8 +39,8 @@ pub record IsRefutedBy (bytes file text : List ℕ) : Type 0 where
 pub record IsSpentBy (bytes file text : List ℕ) : Type 0 where
   pub problem : GroundProblem
   pub is_read : IsReadAs bytes problem
-  pub triples : HasTriples (form_of problem) most_inferences
-  pub prints : text ≡ spent_report file most_inferences
+  pub triples : HasTriples (form_of problem) DEFAULT_INFERENCES
+  pub prints : text ≡ spent_report file DEFAULT_INFERENCES
 
 -- a closed list of sets without the empty set, and so a finite interpretation that makes all clauses true
 pub record IsClosedBy (bytes file text : List ℕ) : Type 0 where
@@ -76,10 +70,10 @@ pub record Outside : Type 0 where
 -- The file was read: where the library tells, it has these bytes, within the limit. Or it was too long, or the library failed on it.
 pub data IsDueFor (outside : Outside) (file : List ℕ) (status : ℕ) (text : List ℕ) : Type 0 where
   read :
-      (bytes : List ℕ) → HoldsExactly outside.told file bytes → length bytes ≤ most_file_bytes → IsDueOn bytes file status text
+      (bytes : List ℕ) → HoldsExactly outside.told file bytes → length bytes ≤ MOST_TEXT_BYTES → IsDueOn bytes file status text
       → IsDueFor outside file status text
   too_long :
-      status ≡ 3 → FoundMore outside.told outside.found_after file most_file_bytes → text ≡ not_built_report file
+      status ≡ 3 → FoundMore outside.told outside.found_after file MOST_TEXT_BYTES → text ≡ not_built_report file
       → IsDueFor outside file status text
   load_failed :
       status ≡ 4 → Rose outside.faults_before outside.faults_after → IfSome outside.failed_after (λ name. name ≡ file)

@@ -6,8 +6,8 @@ mod report;
 mod run;
 mod words;
 
-use plain_types::{Mem, NoMemory};
 use outside::{FileLibrary, StdoutSink};
+use plain_types::{Mem, NoMemory};
 pub use run::run;
 use std::env;
 use std::io::ErrorKind;

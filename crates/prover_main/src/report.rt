@@ -2,12 +2,12 @@
 
 ghost use Rattle.std.specs.Prelude.{◌≡◌, ◌++◌, IfOk};
 ghost use Rattle.ground_text.specs.Lines.{source_of, lines_text};
-ghost use Rattle.prover_main.specs.Report.{for_problem, status_line, output_line, refuted_report, closed_report, spent_line, spent_report, not_built_report, load_line, load_failed_report};
+ghost use Rattle.prover_main.specs.Report.{for_problem, status_line, output_line, refuted_report, closed_report, spent_line, limit_text, spent_report, not_built_report, load_line, load_failed_report};
 
-use plain_types::{Mem, Text};
 use ground_reader::GroundProblem;
 use ground_text::{Page, Source, push_derivation, push_problem_name, push_shown};
 use kernel_steps::Derivation;
+use plain_types::{DEFAULT_INFERENCES, Mem, Text};
 use std::alloc::Global;
 
 /// Adds the end of a line that names the problem.
@@ -81,7 +81,16 @@ fn push_spent(page: &mut Page, count: u32) -> Mem<()>
 {
     page.bytes(b"% spent ")?;
     page.number(u64::from(count))?;
-    page.bytes(b" of 100000\n")
+    push_limit(page)
+}
+
+/// Adds how many inferences are counted at most.
+fn push_limit(page: &mut Page) -> Mem<()>
+    ensures { IfOk result (λ _. page.new ≡ page.old ++ limit_text) }
+{
+    page.bytes(b" of ")?;
+    page.number(u64::from(DEFAULT_INFERENCES))?;
+    page.bytes(b"\n")
 }
 
 /// The report of a text that is no problem of ground clauses.

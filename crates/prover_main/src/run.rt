@@ -9,17 +9,13 @@ ghost use Rattle.prover_main.specs.Run.{IsDueOn, IsDueFor, Outside, IsRun, Deliv
 
 use crate::report;
 use crate::words::Words;
-use plain_types::{Mem, NoMemory, Text};
+use fol_base::MOST_SYMBOLS;
 use ground_loop::{Ground, prove_ground};
 use ground_reader::{GroundFault, GroundProblem, read_ground};
 use outside::{Library, LoadFault, Sink, deliver};
+use plain_types::{DEFAULT_INFERENCES, Mem, NoMemory, Text};
 use std::alloc::Global;
-
-/// The most bytes of a file.
-const MOST_FILE_BYTES: usize = 67_108_864;
-
-/// How many inferences are counted at most.
-const MOST_INFERENCES: u32 = 100_000;
+use tptp_token::MOST_TEXT_BYTES;
 
 const USAGE: &[u8] = b"usage: prove FILE\n";
 
@@ -89,7 +85,7 @@ fn report_for<L: Library>(alloc: Global, file: &str, library: &mut L) -> Mem<Rep
         })
         file.now report.status report.text) }
 {
-    match library.load(alloc, file, MOST_FILE_BYTES) {
+    match library.load(alloc, file, MOST_TEXT_BYTES) {
         Ok(bytes) => report_on(alloc, file, bytes.as_slice()),
         Err(LoadFault::TooLong) => Ok(Report {
             status: 3,
@@ -121,11 +117,11 @@ fn report_on(alloc: Global, file: &str, bytes: &[u8]) -> Mem<Report>
 fn report_proof(alloc: Global, file: &str, bytes: &[u8], problem: &GroundProblem) -> Mem<Report>
     requires read { IsReadAs bytes.now problem.now }
     requires ground { IsGroundForm (form_of problem.now) }
-    requires few { form_size (form_of problem.now) ≤ 4000 }
+    requires few { form_size (form_of problem.now) ≤ MOST_SYMBOLS }
     ensures { IfOk result (λ report. IsDueOn bytes.now file.now report.status report.text) }
 {
     let _ = bytes;
-    match prove_ground(alloc, &problem.clauses, MOST_INFERENCES)? {
+    match prove_ground(alloc, &problem.clauses, DEFAULT_INFERENCES)? {
         Ground::Refuted(derivation) => Ok(Report {
             status: 0,
             text: report::refuted(alloc, file, problem, &derivation)?,

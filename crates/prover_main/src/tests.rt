@@ -1,7 +1,7 @@
 // What no clause says: that runs end with the report that they should, over memory.
 use super::*;
-use plain_types::Numbers;
 use outside::{Files, MemFile, MemLibrary, MemSink};
+use plain_types::Numbers;
 use std::alloc::Global;
 use std::test::Fail;
 

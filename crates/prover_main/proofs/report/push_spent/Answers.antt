@@ -5,4 +5,4 @@ use Rattle.prover_main.proofs.report.push_spent.Goals as goal
 
 pub returns : goal.returns
 returns c =
-    three_added c.bytes-2.result _ _ _ _ _ _ _ c.in_ok-bytes.ensures (c.in_ok-number.ensures ∙ ap (λ n. c.bytes.new.self ++ decimal n) c.from.ensures) c.bytes-2.ensures
+    three_added c.push_limit.result _ _ _ _ _ _ _ c.in_ok-bytes.ensures (c.in_ok-number.ensures ∙ ap (λ n. c.bytes.new.self ++ decimal n) c.from.ensures) c.push_limit.ensures
