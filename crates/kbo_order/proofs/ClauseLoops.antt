@@ -1,45 +1,55 @@
 -- Steps of loops over the literals of a clause.
-use Rattle.std.proofs.Common.{◌≡◌, ℕ, ◌+◌, ◌<◌, ◌≤◌, Bool, true, false, ◌&&◌, ◌||◌, List, [], ◌∷◌, length, map, take, get_or, refl, ap, sym, ◌∙◌, subst, ⊎_elim, arith}
+use Rattle.std.proofs.Common.{◌≡◌, ℕ, ◌+◌, ◌≤◌, Bool, true, false, ◌&&◌, ◌||◌, List, [], ◌∷◌, ◌++◌, Some, slice_get, take, refl, ap, sym, ◌∙◌, subst, ⊎_elim, arith}
 use Rattle.std.specs.Prelude.{sum_by}
 use Rattle.std.specs.List.{list_any, list_all}
 use Rattle.std.proofs.lemmas.Bool.{and_from, or_from, or_left, or_right, false_from_ne_true, true≢false}
+use Rattle.std.proofs.lemmas.List.{take_more}
 use Rattle.std.proofs.lemmas.List.Folds.{list_all-append, list_any-append}
 use Rattle.std.proofs.lemmas.List.Sums.{sum_by-cons}
-use Rattle.fol_base.proofs.ListLemmas.{map-take_more_item}
+use Rattle.std.proofs.lemmas.Option.{slice_get_within, get_or_from_slice_get}
 use Rattle.fol_base.specs.Clause.{TreeLiteral, literal_size}
+use Rattle.fol_base.specs.Multiset.{times}
+use Rattle.fol_base.proofs.CountLemmas.{times-cons, times-append}
 use Rattle.fol_base.specs.Order.{equivalent_literals, literal_greater, compare_literals}
 use Rattle.kbo_order.specs.declared.cmp.Cmp.{Cmp}
 use Rattle.kbo_order.specs.declared.cmp.Cmp.TheVariants.{Greater, Less, Equal, Unordered}
 use Rattle.kbo_order.specs.Cmp.{comparison_of, is_greater}
-use Rattle.kbo_order.proofs.MemberLemmas.{In, In-at, In-map, all-In}
+use Rattle.kbo_order.proofs.MemberLemmas.{In, In-at, all-In}
+use Rattle.kbo_order.proofs.TallyLemmas.{bit}
 use Rattle.kbo_order.proofs.FurtherLemmas.{by_tests}
 use Rattle.kbo_order.proofs.StrictOrderLemmas.{literals_ordered}
 
-item-In : {X Y : Type 0} (f : X → Y) (xs : List X) (i : ℕ) (x : X) → i < length xs → x ≡ get_or xs i x → In (f x) (map f xs)
-item-In f xs i x h e = In-map f x xs (subst (λ y. In y xs) (sym e) (In-at xs i x h))
+pub some-fails : {X : Type 0} (p : X → Bool) (xs : List X) (x : X) → In x xs → p x ≡ false → list_all p xs ≡ false
+some-fails p xs x there here =
+    false_from_ne_true (list_all p xs) (λ all. true≢false (sym (all-In p xs all x there) ∙ here))
+
+-- the front grows by the element of the index
+pub take-more : {X : Type 0} (xs : List X) (i : ℕ) (x : X) → slice_get xs i ≡ Some x → take (i + 1) xs ≡ take i xs ++ x ∷ []
+take-more xs i x e =
+    take_more xs i x (slice_get_within xs i x e) ∙ ap (λ y. take i xs ++ y ∷ []) (get_or_from_slice_get xs i x x e)
+
+pub In-index : {X : Type 0} (xs : List X) (i : ℕ) (x : X) → slice_get xs i ≡ Some x → In x xs
+In-index xs i x e = subst (λ y. In y xs) (get_or_from_slice_get xs i x x e) (In-at xs i x (slice_get_within xs i x e))
 
 pub all-more :
-    {X Y : Type 0} (p : Y → Bool) (f : X → Y) (xs : List X) (i : ℕ) (x : X) → i < length xs → x ≡ get_or xs i x
-    → list_all p (map f (take i xs)) ≡ true → p (f x) ≡ true → list_all p (map f (take (i + 1) xs)) ≡ true
-all-more p f xs i x h e before here =
-    ap (list_all p) (map-take_more_item f xs i x h e)
-    ∙ list_all-append p (map f (take i xs)) (f x ∷ [])
-    ∙ and_from (list_all p (map f (take i xs))) (p (f x) && true) before (and_from (p (f x)) true here refl)
+    {X : Type 0} (p : X → Bool) (xs : List X) (i : ℕ) (x : X) → slice_get xs i ≡ Some x
+    → list_all p (take i xs) ≡ true → p x ≡ true → list_all p (take (i + 1) xs) ≡ true
+all-more p xs i x e before here =
+    ap (list_all p) (take-more xs i x e)
+    ∙ list_all-append p (take i xs) (x ∷ [])
+    ∙ and_from (list_all p (take i xs)) (p x && true) before (and_from (p x) true here refl)
 
 pub all-stop :
-    {X Y : Type 0} (p : Y → Bool) (f : X → Y) (xs : List X) (i : ℕ) (x : X) → i < length xs → x ≡ get_or xs i x
-    → p (f x) ≡ false → false ≡ list_all p (map f xs)
-all-stop p f xs i x h e here =
-    sym (false_from_ne_true (list_all p (map f xs)) (λ all.
-    true≢false (sym (all-In p (map f xs) all (f x) (item-In f xs i x h e)) ∙ here)))
+    {X : Type 0} (p : X → Bool) (xs : List X) (i : ℕ) (x : X) → slice_get xs i ≡ Some x → p x ≡ false → false ≡ list_all p xs
+all-stop p xs i x e here = sym (some-fails p xs x (In-index xs i x e) here)
 
 pub any-more :
-    {X Y : Type 0} (p : Y → Bool) (f : X → Y) (xs : List X) (i : ℕ) (x : X) → i < length xs → x ≡ get_or xs i x
-    → list_any p (map f (take i xs)) ≡ false → p (f x) ≡ false → list_any p (map f (take (i + 1) xs)) ≡ false
-any-more p f xs i x h e before here =
-    ap (list_any p) (map-take_more_item f xs i x h e)
-    ∙ list_any-append p (map f (take i xs)) (f x ∷ [])
-    ∙ or_from (list_any p (map f (take i xs))) (p (f x) || false) before (or_from (p (f x)) false here refl)
+    {X : Type 0} (p : X → Bool) (xs : List X) (i : ℕ) (x : X) → slice_get xs i ≡ Some x
+    → list_any p (take i xs) ≡ false → p x ≡ false → list_any p (take (i + 1) xs) ≡ false
+any-more p xs i x e before here =
+    ap (list_any p) (take-more xs i x e)
+    ∙ list_any-append p (take i xs) (x ∷ [])
+    ∙ or_from (list_any p (take i xs)) (p x || false) before (or_from (p x) false here refl)
 
 In-any : {X : Type 0} (p : X → Bool) (xs : List X) (x : X) → In x xs → p x ≡ true → list_any p xs ≡ true
 In-any p [] x there h = absurd there
@@ -50,9 +60,19 @@ In-any p (y ∷ ys) x there h =
     there
 
 pub any-stop :
-    {X Y : Type 0} (p : Y → Bool) (f : X → Y) (xs : List X) (i : ℕ) (x : X) → i < length xs → x ≡ get_or xs i x
-    → p (f x) ≡ true → true ≡ list_any p (map f xs)
-any-stop p f xs i x h e here = sym (In-any p (map f xs) (f x) (item-In f xs i x h e) here)
+    {X : Type 0} (p : X → Bool) (xs : List X) (i : ℕ) (x : X) → slice_get xs i ≡ Some x → p x ≡ true → true ≡ list_any p xs
+any-stop p xs i x e here = sym (In-any p xs x (In-index xs i x e) here)
+
+pub times-more :
+    {X : Type 0} (same : X → X → Bool) (z : X) (xs : List X) (i : ℕ) (x : X) → slice_get xs i ≡ Some x
+    → times same z (take (i + 1) xs) ≡ times same z (take i xs) + bit (same z x)
+times-more same z xs i x e =
+    omega (
+      arith,
+      ap (times same z) (take-more xs i x e),
+      times-append same z (take i xs) (x ∷ []),
+      times-cons same z x [],
+    )
 
 -- a literal is no larger than its clause
 In-size : (ls : List TreeLiteral) (l : TreeLiteral) → In l ls → literal_size l ≤ sum_by literal_size ls
@@ -63,10 +83,8 @@ In-size (m ∷ ls) l there =
     (λ later. omega (arith, sum_by-cons literal_size m ls, In-size ls l later))
     there
 
-pub item-size :
-    {X : Type 0} (f : X → TreeLiteral) (xs : List X) (i : ℕ) (x : X)
-    → i < length xs → x ≡ get_or xs i x → literal_size (f x) ≤ sum_by literal_size (map f xs)
-item-size f xs i x h e = In-size (map f xs) (f x) (item-In f xs i x h e)
+pub item-size : (ls : List TreeLiteral) (i : ℕ) (l : TreeLiteral) → slice_get ls i ≡ Some l → literal_size l ≤ sum_by literal_size ls
+item-size ls i l e = In-size ls l (In-index ls i l e)
 
 pub and-swap : (a b : Bool) → (a && b) ≡ (b && a)
 and-swap true true = refl

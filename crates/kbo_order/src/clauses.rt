@@ -1,9 +1,9 @@
 // The comparison of two clauses.
 
-ghost use Rattle.std.specs.Prelude.{◌≡◌, ◌<◌, ◌^◌, ◌&&◌, ◌==◌, map, sum_by};
+ghost use Rattle.std.specs.Prelude.{◌≡◌, ◌<◌, ◌&&◌, ◌==◌, sum_by};
 ghost use Rattle.std.specs.List.{list_any, list_all};
 ghost use Rattle.fol_base.specs.Clause.{literal_size};
-ghost use Rattle.fol_base.specs.Literal.{literal_of};
+ghost use Rattle.fol_base.specs.Lent.{lent_of};
 ghost use Rattle.fol_base.specs.Multiset.{times, more_often, outdone};
 ghost use Rattle.fol_base.specs.Order.{
   compare_clauses,
@@ -14,16 +14,17 @@ ghost use Rattle.fol_base.specs.Order.{
 ghost use Rattle.kbo_order.specs.Cmp.{comparison_of};
 
 use crate::cmp::Cmp;
+use crate::limits::COMPARED_SIZE_LIMIT;
 use crate::literals::compare_literals;
-use fol_base::{Literal, same_term};
+use fol_base::{LendsLiterals, LiteralRef, equivalent_literals};
 
 /// What two clauses, as lists of their literals, are to each other: multisets of literals, compared by
 /// the multiset extension of the order on literals (Bachmair and Ganzinger 1994). Equal are two that have
 /// each literal equally often, sides in either order. It takes no memory.
-pub fn compare_clauses(left: &[Literal], right: &[Literal]) -> Cmp
-    requires left_size { sum_by literal_size (map literal_of left.now) < 2 ^ 62 }
-    requires right_size { sum_by literal_size (map literal_of right.now) < 2 ^ 62 }
-    ensures { comparison_of result ≡ compare_clauses (map literal_of left.now) (map literal_of right.now) }
+pub fn compare_clauses<L: LendsLiterals, M: LendsLiterals>(left: &L, right: &M) -> Cmp
+    requires left_size { sum_by literal_size (L.meaning left.now) < COMPARED_SIZE_LIMIT }
+    requires right_size { sum_by literal_size (M.meaning right.now) < COMPARED_SIZE_LIMIT }
+    ensures { comparison_of result ≡ compare_clauses (L.meaning left.now) (M.meaning right.now) }
 {
     if are_equivalent(left, right) {
         return Cmp::Equal;
@@ -38,19 +39,24 @@ pub fn compare_clauses(left: &[Literal], right: &[Literal]) -> Cmp
 }
 
 /// Whether each literal stands in both equally often.
-fn are_equivalent(left: &[Literal], right: &[Literal]) -> bool
-    ensures { result ≡ equivalent_clauses (map literal_of left.now) (map literal_of right.now) }
+fn are_equivalent<L: LendsLiterals, M: LendsLiterals>(left: &L, right: &M) -> bool
+    ensures { result ≡ equivalent_clauses (L.meaning left.now) (M.meaning right.now) }
 {
     are_counted_alike(left, left, right) && are_counted_alike(right, left, right)
 }
 
 /// Whether each of some literals stands in two clauses equally often.
-fn are_counted_alike(literals: &[Literal], left: &[Literal], right: &[Literal]) -> bool
+fn are_counted_alike<K: LendsLiterals, L: LendsLiterals, M: LendsLiterals>(
+    literals: &K,
+    left: &L,
+    right: &M,
+) -> bool
     ensures { result ≡ list_all
-        (λ z. times equivalent_literals z (map literal_of left.now) == times equivalent_literals z (map literal_of right.now))
-        (map literal_of literals.now) }
+        (λ z. times equivalent_literals z (L.meaning left.now) == times equivalent_literals z (M.meaning right.now))
+        (K.meaning literals.now) }
 {
-    for literal in literals {
+    for index in 0..literals.count() {
+        let literal = literals.literal(index);
         if occurrences(literal, left) != occurrences(literal, right) {
             return false;
         }
@@ -59,36 +65,27 @@ fn are_counted_alike(literals: &[Literal], left: &[Literal], right: &[Literal]) 
 }
 
 /// How often a literal stands in a clause, sides in either order.
-fn occurrences(literal: &Literal, literals: &[Literal]) -> usize
-    ensures { result ≡ times equivalent_literals (literal_of literal.now) (map literal_of literals.now) }
+fn occurrences<L: LendsLiterals>(literal: LiteralRef<'_>, literals: &L) -> usize
+    ensures { result ≡ times equivalent_literals (lent_of literal.entry) (L.meaning literals.now) }
 {
     let mut count = 0;
-    for other in literals {
-        count += usize::from(are_same(literal, other));
+    for index in 0..literals.count() {
+        count += usize::from(equivalent_literals(literal, literals.literal(index)));
     }
     count
 }
 
-/// Whether two literals have one sign and the same sides, in either order.
-fn are_same(left: &Literal, right: &Literal) -> bool
-    ensures { result ≡ equivalent_literals (literal_of left.now) (literal_of right.now) }
-{
-    left.positive == right.positive
-        && ((same_term(&left.left, &right.left) && same_term(&left.right, &right.right))
-            || (same_term(&left.left, &right.right) && same_term(&left.right, &right.left)))
-}
-
 /// Whether each literal that the right clause has more often is below one that the left clause has more
 /// often.
-fn outdoes(left: &[Literal], right: &[Literal]) -> bool
-    requires left_size { sum_by literal_size (map literal_of left.now) < 2 ^ 62 }
-    requires right_size { sum_by literal_size (map literal_of right.now) < 2 ^ 62 }
+fn outdoes<L: LendsLiterals, M: LendsLiterals>(left: &L, right: &M) -> bool
+    requires left_size { sum_by literal_size (L.meaning left.now) < COMPARED_SIZE_LIMIT }
+    requires right_size { sum_by literal_size (M.meaning right.now) < COMPARED_SIZE_LIMIT }
     ensures { result ≡ list_all
-        (outdone equivalent_literals literal_greater (map literal_of left.now) (map literal_of right.now))
-        (map literal_of right.now) }
+        (outdone equivalent_literals literal_greater (L.meaning left.now) (M.meaning right.now))
+        (M.meaning right.now) }
 {
-    for literal in right {
-        if !is_outdone(literal, left, right) {
+    for index in 0..right.count() {
+        if !is_outdone(right.literal(index), left, right) {
             return false;
         }
     }
@@ -96,25 +93,33 @@ fn outdoes(left: &[Literal], right: &[Literal]) -> bool
 }
 
 /// Whether the right clause doesn't have the literal more often, or the left one outdoes it.
-fn is_outdone(literal: &Literal, left: &[Literal], right: &[Literal]) -> bool
-    requires size { literal_size (literal_of literal.now) < 2 ^ 62 }
-    requires left_size { sum_by literal_size (map literal_of left.now) < 2 ^ 62 }
+fn is_outdone<L: LendsLiterals, M: LendsLiterals>(
+    literal: LiteralRef<'_>,
+    left: &L,
+    right: &M,
+) -> bool
+    requires size { literal_size (lent_of literal) < COMPARED_SIZE_LIMIT }
+    requires left_size { sum_by literal_size (L.meaning left.now) < COMPARED_SIZE_LIMIT }
     ensures { result ≡ outdone equivalent_literals literal_greater
-        (map literal_of left.now) (map literal_of right.now) (literal_of literal.now) }
+        (L.meaning left.now) (M.meaning right.now) (lent_of literal.entry) }
 {
     !stands_more_often(literal, right, left) || has_above(literal, left, right)
 }
 
 /// Whether a literal is below one that the left clause has more often than the right one.
-fn has_above(literal: &Literal, left: &[Literal], right: &[Literal]) -> bool
-    requires size { literal_size (literal_of literal.now) < 2 ^ 62 }
-    requires left_size { sum_by literal_size (map literal_of left.now) < 2 ^ 62 }
+fn has_above<L: LendsLiterals, M: LendsLiterals>(
+    literal: LiteralRef<'_>,
+    left: &L,
+    right: &M,
+) -> bool
+    requires size { literal_size (lent_of literal) < COMPARED_SIZE_LIMIT }
+    requires left_size { sum_by literal_size (L.meaning left.now) < COMPARED_SIZE_LIMIT }
     ensures { result ≡ list_any
-        (λ x. more_often equivalent_literals (map literal_of left.now) (map literal_of right.now) x && literal_greater x (literal_of literal.now))
-        (map literal_of left.now) }
+        (λ x. more_often equivalent_literals (L.meaning left.now) (M.meaning right.now) x && literal_greater x (lent_of literal.entry))
+        (L.meaning left.now) }
 {
-    for other in left {
-        if is_outdoing(other, literal, left, right) {
+    for index in 0..left.count() {
+        if is_outdoing(left.literal(index), literal, left, right) {
             return true;
         }
     }
@@ -122,27 +127,36 @@ fn has_above(literal: &Literal, left: &[Literal], right: &[Literal]) -> bool
 }
 
 /// Whether a literal is above another, and the left clause has it more often than the right one.
-fn is_outdoing(other: &Literal, literal: &Literal, left: &[Literal], right: &[Literal]) -> bool
-    requires other_size { literal_size (literal_of other.now) < 2 ^ 62 }
-    requires size { literal_size (literal_of literal.now) < 2 ^ 62 }
-    ensures { result ≡ (more_often equivalent_literals (map literal_of left.now) (map literal_of right.now) (literal_of other.now)
-        && literal_greater (literal_of other.now) (literal_of literal.now)) }
+fn is_outdoing<L: LendsLiterals, M: LendsLiterals>(
+    other: LiteralRef<'_>,
+    literal: LiteralRef<'_>,
+    left: &L,
+    right: &M,
+) -> bool
+    requires other_size { literal_size (lent_of other) < COMPARED_SIZE_LIMIT }
+    requires size { literal_size (lent_of literal) < COMPARED_SIZE_LIMIT }
+    ensures { result ≡ (more_often equivalent_literals (L.meaning left.now) (M.meaning right.now) (lent_of other.entry)
+        && literal_greater (lent_of other.entry) (lent_of literal.entry)) }
 {
     is_above(other, literal) && stands_more_often(other, left, right)
 }
 
 /// Whether the first clause has a literal more often than the second one.
-fn stands_more_often(literal: &Literal, first: &[Literal], second: &[Literal]) -> bool
-    ensures { result ≡ more_often equivalent_literals (map literal_of first.now) (map literal_of second.now) (literal_of literal.now) }
+fn stands_more_often<L: LendsLiterals, M: LendsLiterals>(
+    literal: LiteralRef<'_>,
+    first: &L,
+    second: &M,
+) -> bool
+    ensures { result ≡ more_often equivalent_literals (L.meaning first.now) (M.meaning second.now) (lent_of literal.entry) }
 {
     occurrences(literal, second) < occurrences(literal, first)
 }
 
 /// Whether the left literal is greater.
-fn is_above(left: &Literal, right: &Literal) -> bool
-    requires left_size { literal_size (literal_of left.now) < 2 ^ 62 }
-    requires right_size { literal_size (literal_of right.now) < 2 ^ 62 }
-    ensures { result ≡ literal_greater (literal_of left.now) (literal_of right.now) }
+fn is_above(left: LiteralRef<'_>, right: LiteralRef<'_>) -> bool
+    requires left_size { literal_size (lent_of left) < COMPARED_SIZE_LIMIT }
+    requires right_size { literal_size (lent_of right) < COMPARED_SIZE_LIMIT }
+    ensures { result ≡ literal_greater (lent_of left.entry) (lent_of right.entry) }
 {
     compare_literals(left, right).is_greater()
 }

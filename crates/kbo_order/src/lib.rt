@@ -5,6 +5,7 @@ mod balance;
 mod clauses;
 mod cmp;
 pub mod laws;
+mod limits;
 mod literals;
 mod sides;
 mod tally;
@@ -12,6 +13,7 @@ mod terms;
 
 pub use clauses::compare_clauses;
 pub use cmp::Cmp;
+pub use limits::COMPARED_SIZE_LIMIT;
 pub use literals::compare_literals;
 pub use terms::compare;
 

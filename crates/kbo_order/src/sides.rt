@@ -1,13 +1,14 @@
 // Two literals by the comparisons of their sides.
 
 ghost use mathlib.Core.Bool.{beq};
-ghost use Rattle.std.specs.Prelude.{◌≡◌, ◌<◌, ◌^◌, ◌&&◌};
+ghost use Rattle.std.specs.Prelude.{◌≡◌, ◌<◌, ◌&&◌};
 ghost use Rattle.fol_base.specs.Clause.{literal_size};
-ghost use Rattle.fol_base.specs.Literal.{literal_of};
+ghost use Rattle.fol_base.specs.Lent.{lent_of};
 
 use crate::cmp::Cmp;
+use crate::limits::COMPARED_SIZE_LIMIT;
 use crate::terms::compare;
-use fol_base::Literal;
+use fol_base::LiteralRef;
 
 /// What each side of one literal is to each side of another: the first word of a name is the side of
 /// the first literal.
@@ -31,16 +32,16 @@ impl SidePairs {
     };
 
     /// Compares the sides of two literals.
-    pub fn of(left: &Literal, right: &Literal) -> SidePairs
-        requires left_size { literal_size (literal_of left.now) < 2 ^ 62 }
-        requires right_size { literal_size (literal_of right.now) < 2 ^ 62 }
-        ensures { ComparesSides result (literal_of left.now) (literal_of right.now) }
+    pub fn of(left: LiteralRef<'_>, right: LiteralRef<'_>) -> SidePairs
+        requires left_size { literal_size (lent_of left) < COMPARED_SIZE_LIMIT }
+        requires right_size { literal_size (lent_of right) < COMPARED_SIZE_LIMIT }
+        ensures { ComparesSides result (lent_of left.entry) (lent_of right.entry) }
     {
         SidePairs {
-            left_left: compare(&left.left, &right.left),
-            left_right: compare(&left.left, &right.right),
-            right_left: compare(&left.right, &right.left),
-            right_right: compare(&left.right, &right.right),
+            left_left: compare(left.left, right.left),
+            left_right: compare(left.left, right.right),
+            right_left: compare(left.right, right.left),
+            right_right: compare(left.right, right.right),
         }
     }
 

@@ -10,6 +10,7 @@ ghost use Rattle.kbo_order.specs.Further.{IsNumbered, IsClear};
 
 use crate::balance::Balance;
 use crate::cmp::Cmp;
+use crate::limits::COMPARED_SIZE_LIMIT;
 use fol_base::Term;
 
 /// The end of the variables' numbers.
@@ -20,8 +21,8 @@ const VARIABLES: u64 = 1 << 32;
 ///
 /// One walk down both terms, as in Löchner (2006), for each block of 64 variables that has one of theirs.
 pub fn compare(left: &Term, right: &Term) -> Cmp
-    requires left_size { tree_size (tree_of left.now) < 2 ^ 62 }
-    requires right_size { tree_size (tree_of right.now) < 2 ^ 62 }
+    requires left_size { tree_size (tree_of left.now) < COMPARED_SIZE_LIMIT }
+    requires right_size { tree_size (tree_of right.now) < COMPARED_SIZE_LIMIT }
     ensures { comparison_of result ≡ compare_trees (tree_of left.now) (tree_of right.now) }
 {
     let first = compare_in_block(left, right, 0);
@@ -34,8 +35,8 @@ pub fn compare(left: &Term, right: &Term) -> Cmp
 /// The answer that the blocks before `from` gave, where those from there on give it too. Else the terms
 /// are unordered.
 fn compare_in_blocks(left: &Term, right: &Term, answer: Cmp, from: u64) -> Cmp
-    requires left_size { tree_size (tree_of left.now) < 2 ^ 62 }
-    requires right_size { tree_size (tree_of right.now) < 2 ^ 62 }
+    requires left_size { tree_size (tree_of left.now) < COMPARED_SIZE_LIMIT }
+    requires right_size { tree_size (tree_of right.now) < COMPARED_SIZE_LIMIT }
     requires strict { IsStrict answer }
     requires answered { Answers (GreaterOn (Below from)) answer (tree_of left.now) (tree_of right.now) }
     requires left_numbers { IsNumbered (tree_of left.now) }
@@ -62,8 +63,8 @@ struct BlockAnswer {
 
 /// Compares two terms with the variable condition for the variables of one block alone.
 fn compare_in_block(left: &Term, right: &Term, start: u64) -> BlockAnswer
-    requires left_size { tree_size (tree_of left.now) < 2 ^ 62 }
-    requires right_size { tree_size (tree_of right.now) < 2 ^ 62 }
+    requires left_size { tree_size (tree_of left.now) < COMPARED_SIZE_LIMIT }
+    requires right_size { tree_size (tree_of right.now) < COMPARED_SIZE_LIMIT }
     requires start { start < 2 ^ 32 }
     ensures answer { Answers (GreaterOn (InBlock start)) result.answer (tree_of left.now) (tree_of right.now) }
     ensures next { start + 64 ≤ result.next }

@@ -6,9 +6,6 @@ use plain_types::Names;
 use std::alloc::Global;
 use std::test::Fail;
 
-/// The bound on sizes that the comparisons ask for.
-const LIMIT: u64 = 1 << 62;
-
 /// The number of a symbol: they rise in the order a, b, f, g, p, q.
 fn symbol(letter: u8) -> u32 {
     match letter {
@@ -81,22 +78,22 @@ fn row(alloc: Global, symbol: u32, from: u32, to: u32) -> Result<Term, Fail> {
 }
 
 fn compared(left: &Term, right: &Term) -> Option<Cmp> {
-    if left.size() < LIMIT && right.size() < LIMIT {
+    if left.size() < COMPARED_SIZE_LIMIT && right.size() < COMPARED_SIZE_LIMIT {
         return Some(compare(left, right));
     }
     None
 }
 
 fn compared_literals(left: &Literal, right: &Literal) -> Option<Cmp> {
-    if left.size() < LIMIT && right.size() < LIMIT {
-        return Some(compare_literals(left, right));
+    if left.size() < COMPARED_SIZE_LIMIT && right.size() < COMPARED_SIZE_LIMIT {
+        return Some(compare_literals(left.lend(), right.lend()));
     }
     None
 }
 
 fn compared_clauses(left: &Clause, right: &Clause) -> Option<Cmp> {
-    if left.size() < LIMIT && right.size() < LIMIT {
-        return Some(compare_clauses(left.literals.as_slice(), right.literals.as_slice()));
+    if left.size() < COMPARED_SIZE_LIMIT && right.size() < COMPARED_SIZE_LIMIT {
+        return Some(compare_clauses(&left.literals, &right.literals.as_slice()));
     }
     None
 }

@@ -1,25 +1,22 @@
 -- What is eligible in an instance is eligible in the clause.
-use Rattle.std.proofs.Common.{◌≡◌, ℕ, suc, Bool, true, false, not, ◌&&◌, List, ◌++◌, length, map, take, drop, get_or, ◌+◌, ◌-◌, ◌<◌, ◌≤◌, Option, None, Some, refl, ap, ap₂, sym, ◌∙◌, arith}
-use Rattle.std.specs.Prelude.{option_map, slice_get, remove, sum_by}
+use Rattle.std.proofs.Common.{◌≡◌, ℕ, zero, suc, Bool, true, false, not, ◌&&◌, List, [], ◌∷◌, ◌++◌, length, length-take-le, map, take, drop, ◌+◌, Option, None, Some, refl, ap, ap₂, sym, ◌∙◌, inl, inr, arith}
+use Rattle.std.specs.Prelude.{option_map, slice_get, remove}
+use Rattle.std.specs.List.{list_all}
 use Rattle.std.proofs.lemmas.Bool.{and_parts, and_from, not-true, false_from_ne_true, true≢false}
-use Rattle.std.proofs.lemmas.List.{take-map, drop-map, map-append, take-append-drop}
+use Rattle.std.proofs.lemmas.List.{take-map, drop-map, map-append}
 use Rattle.std.proofs.lemmas.List.Folds.{list_all-append}
-use Rattle.std.proofs.lemmas.List.Sums.{sum_by-append}
-use Rattle.std.proofs.lemmas.Option.{slice_get-map, slice_get_read}
+use Rattle.std.proofs.lemmas.Option.{same_Some, slice_get-map, slice_get_within}
 use Rattle.fol_base.specs.Instance.{Substitution}
-use Rattle.fol_base.specs.Clause.{TreeLiteral, literal_instance, literal_size}
+use Rattle.fol_base.specs.Clause.{TreeLiteral, literal_instance}
 use Rattle.fol_base.specs.Ground.{literals_instance}
 use Rattle.fol_base.specs.Order.{literal_greater, equivalent_literals, compare_literals}
 use Rattle.fol_base.specs.Selection.{chosen, is_maximal, is_maximal_at, eligible}
-use Rattle.fol_base.specs.Literal.{literal_of}
-use Rattle.fol_base.specs.declared.clause.Literal.{Literal}
-use Rattle.fol_base.proofs.ListLemmas.{remove-parts, rest_after}
 use Rattle.kbo_order.specs.declared.cmp.Cmp.{Cmp}
 use Rattle.kbo_order.specs.declared.cmp.Cmp.TheVariants.{Greater, Less, Equal, Unordered}
 use Rattle.kbo_order.specs.Cmp.{comparison_of, is_greater, is_equal}
 use Rattle.kbo_order.proofs.FurtherLemmas.{by_tests}
-use Rattle.kbo_order.proofs.ClauseLoops.{greater-is}
-use Rattle.kbo_order.proofs.MemberLemmas.{In-map, all-In, In-all}
+use Rattle.kbo_order.proofs.ClauseLoops.{greater-is, take-more, In-index, some-fails}
+use Rattle.kbo_order.proofs.MemberLemmas.{In, In-map, all-In, In-all}
 use Rattle.kbo_order.proofs.StableLemmas.{literals_stable, equivalent_stable}
 use Rattle.literal_selection.specs.Laws.{EligibleLifts}
 
@@ -114,35 +111,60 @@ beats-is strict c m l e =
     ∙ ap (λ (b : Bool). not (literal_greater m l) && not (strict && b))
     (tests-equal c (equivalent_literals m l) (literal_greater m l) (literal_greater l m) e)
 
--- ---- the others, before and behind
+-- ---- the others, one after another
 
-abbrev clause_of : List Literal → List TreeLiteral
-clause_of xs = map literal_of xs
+none-left : {X : Type 0} (i : ℕ) → remove {X = X} [] i ≡ []
+none-left zero = refl
+none-left (suc i) = refl
 
-size-parts : (xs : List Literal) (i : ℕ) → sum_by literal_size (clause_of (take i xs)) + sum_by literal_size (clause_of (drop i xs)) ≡ sum_by literal_size (clause_of xs)
-size-parts xs i =
-    sym (sum_by-append literal_size (clause_of (take i xs)) (clause_of (drop i xs)))
-    ∙ ap (sum_by literal_size) (sym (map-append literal_of (take i xs) (drop i xs)))
-    ∙ ap (λ (ys : List Literal). sum_by literal_size (clause_of ys)) (take-append-drop i xs)
+remove-last : {X : Type 0} (xs : List X) (x : X) (i : ℕ) → length xs ≡ i → remove (xs ++ x ∷ []) i ≡ remove xs i
+remove-last [] x zero h = refl
+remove-last [] x (suc i) h = absurd (omega arith)
+remove-last (y ∷ xs) x zero h = absurd (omega arith)
+remove-last (y ∷ xs) x (suc i) h = ap (λ us. y ∷ us) (remove-last xs x i (omega arith))
 
-pub front-size : (xs : List Literal) (i : ℕ) → sum_by literal_size (clause_of (take i xs)) ≤ sum_by literal_size (clause_of xs)
-front-size xs i = omega (arith, size-parts xs i)
+remove-before : {X : Type 0} (xs : List X) (x : X) (i : ℕ) → (length xs ≡ i → ⊥) → remove (xs ++ x ∷ []) i ≡ remove xs i ++ x ∷ []
+remove-before [] x zero h = absurd (h refl)
+remove-before [] x (suc i) h = ap (λ us. x ∷ us) (none-left i)
+remove-before (y ∷ xs) x zero h = refl
+remove-before (y ∷ xs) x (suc i) h = ap (λ us. y ∷ us) (remove-before xs x i (λ e. h (ap suc e)))
 
-pub back-size :
-    (xs : List Literal) (i : ℕ)
-    → sum_by literal_size (clause_of (take (length xs - (i + 1)) (drop (i + 1) xs))) ≤ sum_by literal_size (clause_of xs)
-back-size xs i =
-    omega (arith, size-parts xs (i + 1), ap (λ (ys : List Literal). sum_by literal_size (clause_of ys)) (rest_after xs i))
+-- an element of another index stays
+In-others : {X : Type 0} (xs : List X) (i k : ℕ) (x : X) → slice_get xs k ≡ Some x → (k ≡ i → ⊥) → In x (remove xs i)
+In-others [] i k x e other = absurd (cc)
+In-others (y ∷ xs) zero zero x e other = absurd (other refl)
+In-others (y ∷ xs) zero (suc k) x e other = In-index xs k x e
+In-others (y ∷ xs) (suc i) zero x e other = inl (sym (same_Some y x e))
+In-others (y ∷ xs) (suc i) (suc k) x e other = inr (In-others xs i k x e (λ s. other (ap suc s)))
 
-pub maximal-parts :
-    (xs : List Literal) (i : ℕ) (x : Literal) (strict : Bool) → i < length xs → x ≡ get_or xs i x
-    → (is_maximal strict (literal_of x) (clause_of (take i xs))
-    && is_maximal strict (literal_of x) (clause_of (take (length xs - (i + 1)) (drop (i + 1) xs))))
-    ≡ eligible (clause_of xs) i None strict
-maximal-parts xs i x strict h e =
-    let p : TreeLiteral → Bool = λ m. not (literal_greater m (literal_of x)) && not (strict && equivalent_literals m (literal_of x)) in
-    ap (λ (ys : List Literal). is_maximal strict (literal_of x) (clause_of (take i xs)) && is_maximal strict (literal_of x) (clause_of ys)) (rest_after xs i)
-    ∙ sym (list_all-append p (clause_of (take i xs)) (clause_of (drop (i + 1) xs)))
-    ∙ ap (is_maximal strict (literal_of x)) (sym (remove-parts literal_of xs i h))
-    ∙ ap (λ (o : Option TreeLiteral). is_maximal_at strict o (remove (clause_of xs) i))
-    (sym (slice_get-map literal_of xs i ∙ ap (option_map literal_of) (slice_get_read xs (length xs) i x refl h e)))
+-- the literal itself is passed over
+pub itself-passed :
+    (strict : Bool) (ls : List TreeLiteral) (i k : ℕ) (l : TreeLiteral) → slice_get ls i ≡ Some l → k ≡ i
+    → is_maximal strict l (remove (take k ls) i) ≡ true → is_maximal strict l (remove (take (k + 1) ls) i) ≡ true
+itself-passed strict ls i k l e same before =
+    let there : slice_get ls k ≡ Some l = ap (slice_get ls) same ∙ e in
+    ap (λ ks. is_maximal strict l (remove ks i)) (take-more ls k l there)
+    ∙ ap (is_maximal strict l) (remove-last (take k ls) l i (length-take-le k ls (omega (arith, slice_get_within ls k l there)) ∙ same))
+    ∙ before
+
+-- another one that doesn't outdo it
+pub other-passed :
+    (strict : Bool) (ls : List TreeLiteral) (i k : ℕ) (l m : TreeLiteral) → slice_get ls k ≡ Some m → (k ≡ i → ⊥)
+    → is_maximal strict l (remove (take k ls) i) ≡ true → (not (literal_greater m l) && not (strict && equivalent_literals m l)) ≡ true
+    → is_maximal strict l (remove (take (k + 1) ls) i) ≡ true
+other-passed strict ls i k l m e other before here =
+    let p : TreeLiteral → Bool = λ n. not (literal_greater n l) && not (strict && equivalent_literals n l) in
+    let front : length (take k ls) ≡ k = length-take-le k ls (omega (arith, slice_get_within ls k m e)) in
+    ap (λ ks. is_maximal strict l (remove ks i)) (take-more ls k m e)
+    ∙ ap (is_maximal strict l) (remove-before (take k ls) m i (λ s. other (sym front ∙ s)))
+    ∙ list_all-append p (remove (take k ls) i) (m ∷ [])
+    ∙ and_from (list_all p (remove (take k ls) i)) (p m && true) before (and_from (p m) true here refl)
+
+-- one that does
+pub other-outdoes :
+    (strict : Bool) (ls : List TreeLiteral) (i k : ℕ) (l m : TreeLiteral)
+    → slice_get ls i ≡ Some l → slice_get ls k ≡ Some m → (k ≡ i → ⊥)
+    → (not (literal_greater m l) && not (strict && equivalent_literals m l)) ≡ false → false ≡ eligible ls i None strict
+other-outdoes strict ls i k l m own e other here =
+    sym (ap (λ o. is_maximal_at strict o (remove ls i)) own
+    ∙ some-fails (λ n. not (literal_greater n l) && not (strict && equivalent_literals n l)) (remove ls i) m (In-others ls i k m e other) here)

@@ -1,16 +1,14 @@
 -- The first negative literal of greatest size, as literals are read one by one.
-use Rattle.std.proofs.Common.{◌≡◌, ℕ, suc, ◌+◌, ◌<◌, ◌≤◌, max, Bool, true, false, not, ◌&&◌, ◌==◌, if◌then◌else◌, List, [], ◌∷◌, ◌++◌, length, length-take-le, map, take, get_or, Option, None, Some, refl, ap, sym, ◌∙◌, inl, inr, ⊎_elim, arith}
+use Rattle.std.proofs.Common.{◌≡◌, ℕ, suc, ◌+◌, ◌<◌, ◌≤◌, max, Bool, true, false, not, ◌&&◌, ◌==◌, if◌then◌else◌, List, [], ◌∷◌, ◌++◌, length, length-take-le, take, slice_get, Option, None, Some, refl, ap, sym, ◌∙◌, inl, inr, ⊎_elim, arith}
 use Rattle.std.specs.Prelude.{option_map}
 use Rattle.std.specs.List.{AllByRecursion}
 use Rattle.std.proofs.lemmas.Bool.{cases_lt, cond-true, cond-false, false_from_ne_true, eq-eqb, eqb-true}
-use Rattle.std.proofs.lemmas.List.{length-map}
+use Rattle.std.proofs.lemmas.Option.{slice_get_within}
 use Rattle.fol_base.specs.Clause.{TreeLiteral, literal_size}
 use Rattle.fol_base.specs.Selection.{select_negative, greatest_negative_size, first_index, chosen}
 use Rattle.fol_base.proofs.TreeLemmas.{tree_size-positive}
-use Rattle.fol_base.specs.Literal.{literal_of}
-use Rattle.fol_base.specs.declared.clause.Literal.{Literal}
-use Rattle.fol_base.proofs.ListLemmas.{map-take_more_item}
 use Rattle.kbo_order.proofs.MemberLemmas.{In}
+use Rattle.kbo_order.proofs.ClauseLoops.{take-more}
 use Rattle.literal_selection.specs.Mode.{negative_size}
 
 -- ---- sizes
@@ -189,25 +187,24 @@ chosen-no_larger ls l no_larger =
 -- ---- steps of the loop
 
 pub step-larger :
-    (xs : List Literal) (i : ℕ) (x : Literal) → i < length xs → x ≡ get_or xs i x
-    → greatest_negative_size (map literal_of (take i xs)) < negative_size (literal_of x)
-    → (greatest_negative_size (map literal_of (take (i + 1) xs)) ≡ negative_size (literal_of x))
-    × (chosen select_negative (map literal_of (take (i + 1) xs)) ≡ Some i)
-step-larger xs i x h e larger =
-    let more = map-take_more_item literal_of xs i x h e in (
-      ap greatest_negative_size more ∙ omega (arith, greatest-more (map literal_of (take i xs)) (literal_of x)),
+    (ls : List TreeLiteral) (i : ℕ) (l : TreeLiteral) → slice_get ls i ≡ Some l
+    → greatest_negative_size (take i ls) < negative_size l
+    → (greatest_negative_size (take (i + 1) ls) ≡ negative_size l) × (chosen select_negative (take (i + 1) ls) ≡ Some i)
+step-larger ls i l e larger =
+    let more = take-more ls i l e in (
+      ap greatest_negative_size more ∙ omega (arith, greatest-more (take i ls) l),
       ap (chosen select_negative) more
-          ∙ chosen-larger (map literal_of (take i xs)) (literal_of x) larger
-          ∙ ap (λ (n : ℕ). Some n) (length-map (take i xs) literal_of ∙ length-take-le i xs (omega arith)),
+          ∙ chosen-larger (take i ls) l larger
+          ∙ ap (λ (n : ℕ). Some n) (length-take-le i ls (omega (arith, slice_get_within ls i l e))),
     )
 
 pub step-no_larger :
-    (xs : List Literal) (i : ℕ) (x : Literal) → i < length xs → x ≡ get_or xs i x
-    → negative_size (literal_of x) ≤ greatest_negative_size (map literal_of (take i xs))
-    → (greatest_negative_size (map literal_of (take (i + 1) xs)) ≡ greatest_negative_size (map literal_of (take i xs)))
-    × (chosen select_negative (map literal_of (take (i + 1) xs)) ≡ chosen select_negative (map literal_of (take i xs)))
-step-no_larger xs i x h e no_larger =
-    let more = map-take_more_item literal_of xs i x h e in (
-      ap greatest_negative_size more ∙ omega (arith, greatest-more (map literal_of (take i xs)) (literal_of x)),
-      ap (chosen select_negative) more ∙ chosen-no_larger (map literal_of (take i xs)) (literal_of x) no_larger,
+    (ls : List TreeLiteral) (i : ℕ) (l : TreeLiteral) → slice_get ls i ≡ Some l
+    → negative_size l ≤ greatest_negative_size (take i ls)
+    → (greatest_negative_size (take (i + 1) ls) ≡ greatest_negative_size (take i ls))
+    × (chosen select_negative (take (i + 1) ls) ≡ chosen select_negative (take i ls))
+step-no_larger ls i l e no_larger =
+    let more = take-more ls i l e in (
+      ap greatest_negative_size more ∙ omega (arith, greatest-more (take i ls) l),
+      ap (chosen select_negative) more ∙ chosen-no_larger (take i ls) l no_larger,
     )

@@ -1,12 +1,13 @@
 // The chosen literal of a clause.
 
-ghost use Rattle.std.specs.Prelude.{◌≡◌, ◌<◌, ◌^◌, ◌↔◌, None, map, sum_by};
+ghost use Rattle.std.specs.Prelude.{◌≡◌, ◌<◌, ◌↔◌, None, sum_by};
 ghost use Rattle.fol_base.specs.Clause.{literal_size};
-ghost use Rattle.fol_base.specs.Literal.{literal_of};
+ghost use Rattle.fol_base.specs.Lent.{lent_of};
 ghost use Rattle.fol_base.specs.Selection.{chosen, select_negative};
 ghost use Rattle.literal_selection.specs.Mode.{mode_of, negative_size, HasNoChoice};
 
-use fol_base::Literal;
+use fol_base::{LendsLiterals, LiteralRef};
+use kbo_order::COMPARED_SIZE_LIMIT;
 
 /// Which literal of a clause is chosen.
 #[derive(Clone, Copy, Debug, PartialEq, Eq)]
@@ -19,10 +20,10 @@ pub enum Selection {
 
 /// The index of the chosen literal (Bachmair and Ganzinger 1994). None exactly where the mode is
 /// `Nothing` or no literal is negative. It takes no memory.
-pub fn selected(literals: &[Literal], mode: Selection) -> Option<usize>
-    requires { sum_by literal_size (map literal_of literals.now) < 2 ^ 62 }
-    ensures chosen { result ≡ chosen (mode_of mode) (map literal_of literals.now) }
-    ensures none { (result ≡ None) ↔ HasNoChoice mode (map literal_of literals.now) }
+pub fn selected<L: LendsLiterals>(literals: &L, mode: Selection) -> Option<usize>
+    requires { sum_by literal_size (L.meaning literals.now) < COMPARED_SIZE_LIMIT }
+    ensures chosen { result ≡ chosen (mode_of mode) (L.meaning literals.now) }
+    ensures none { (result ≡ None) ↔ HasNoChoice mode (L.meaning literals.now) }
 {
     match mode {
         Selection::Nothing => None,
@@ -31,14 +32,14 @@ pub fn selected(literals: &[Literal], mode: Selection) -> Option<usize>
 }
 
 /// The index of the first negative literal of greatest size.
-fn first_largest_negative(literals: &[Literal]) -> Option<usize>
-    requires { sum_by literal_size (map literal_of literals.now) < 2 ^ 62 }
-    ensures { result ≡ chosen select_negative (map literal_of literals.now) }
+fn first_largest_negative<L: LendsLiterals>(literals: &L) -> Option<usize>
+    requires { sum_by literal_size (L.meaning literals.now) < COMPARED_SIZE_LIMIT }
+    ensures { result ≡ chosen select_negative (L.meaning literals.now) }
 {
     let mut found = None;
     let mut largest = 0;
-    for index in 0..literals.len() {
-        let size = negative_size(&literals[index]);
+    for index in 0..literals.count() {
+        let size = negative_size(literals.literal(index));
         if size > largest {
             found = Some(index);
             largest = size;
@@ -48,9 +49,9 @@ fn first_largest_negative(literals: &[Literal]) -> Option<usize>
 }
 
 /// The size of a negative literal, and 0 for a positive one.
-fn negative_size(literal: &Literal) -> u64
-    requires { literal_size (literal_of literal.now) < 2 ^ 62 }
-    ensures { result ≡ negative_size (literal_of literal.now) }
+fn negative_size(literal: LiteralRef<'_>) -> u64
+    requires { literal_size (lent_of literal) < COMPARED_SIZE_LIMIT }
+    ensures { result ≡ negative_size (lent_of literal.entry) }
 {
     if literal.positive { 0 } else { literal.size() }
 }

@@ -2,12 +2,10 @@
 
 use super::*;
 use fol_base::{Clause, Literal, Literals, Term, Terms};
+use kbo_order::COMPARED_SIZE_LIMIT;
 use plain_types::Names;
 use std::alloc::Global;
 use std::test::Fail;
-
-/// The bound on sizes that the calls ask for.
-const LIMIT: u64 = 1 << 62;
 
 /// A term in postfix notation: `0` is a variable, `a`, `b` and `t` are constants, t being `$true`, and
 /// any other letter is a symbol with one argument. The symbols rise in the order t, a, b, f, p, q.
@@ -46,16 +44,15 @@ fn clause(alloc: Global, equations: [(bool, &str, &str); 3]) -> Result<Clause, F
 }
 
 fn chosen(clause: &Clause, mode: Selection) -> Option<usize> {
-    if clause.size() < LIMIT {
-        return selected(clause.literals.as_slice(), mode);
+    if clause.size() < COMPARED_SIZE_LIMIT {
+        return selected(&clause.literals, mode);
     }
     None
 }
 
 fn is_eligible(clause: &Clause, index: usize, chosen: Option<usize>, strict: bool) -> Option<bool> {
-    if clause.size() < LIMIT && index < clause.literals.len() {
-        let literals = clause.literals.as_slice();
-        return Some(eligible(literals, index, chosen, strict));
+    if clause.size() < COMPARED_SIZE_LIMIT && index < clause.literals.len() {
+        return Some(eligible(&clause.literals, index, chosen, strict));
     }
     None
 }

@@ -1,7 +1,6 @@
-use Rattle.std.proofs.Common.{false, true, not, map, ap, sym, ◌∙◌}
+use Rattle.std.proofs.Common.{false, true, not, ap, sym, ◌∙◌}
 use Rattle.std.specs.List.{list_all}
 use Rattle.std.proofs.lemmas.Bool.{and_from, and_right}
-use Rattle.fol_base.specs.Literal.{literal_of}
 use Rattle.fol_base.specs.Multiset.{outdone}
 use Rattle.fol_base.specs.Order.{equivalent_literals, literal_greater, equivalent_clauses, clause_greater}
 use Rattle.fol_base.proofs.OrderLemmas.{clauses_equivalence}
@@ -9,9 +8,9 @@ use Rattle.kbo_order.proofs.FurtherLemmas.{tests-agree}
 use Rattle.kbo_order.proofs.clauses.compare_clauses.Goals as goal
 
 pub returns-then-outdoes-2 : goal.returns-then-outdoes-2
-returns-then-outdoes-2 c =
-    let left = map literal_of c.args.left.now in
-    let right = map literal_of c.args.right.now in
+returns-then-outdoes-2 g c =
+    let left = g.L.LendsLiterals.meaning c.args.left.now in
+    let right = g.M.LendsLiterals.meaning c.args.right.now in
     let apart = sym c.are_equivalent.ensures ∙ c.if-are_equivalent.false in
     let not_above =
     and_right (not (equivalent_clauses left right)) (list_all (outdone equivalent_literals literal_greater left right) right)

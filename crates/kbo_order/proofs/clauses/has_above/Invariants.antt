@@ -1,13 +1,13 @@
-use Rattle.std.proofs.Common.{◌≡◌, ◌&&◌, false, map, take}
+use Rattle.std.proofs.Common.{◌≡◌, ◌&&◌, false, take}
 use Rattle.std.specs.List.{list_any}
-use Rattle.fol_base.specs.Literal.{literal_of}
+use Rattle.fol_base.specs.Lent.{lent_of}
 use Rattle.fol_base.specs.Multiset.{more_often}
 use Rattle.fol_base.specs.Order.{equivalent_literals, literal_greater}
 use Rattle.kbo_order.proofs.clauses.has_above.Given as goal
 
-abbrev pub invariant-loop-other : goal.invariant-loop-other
-invariant-loop-other l =
+abbrev pub invariant-loop-index : goal.invariant-loop-index
+invariant-loop-index g l =
     list_any
-    (λ x. more_often equivalent_literals (map literal_of l.left) (map literal_of l.right) x && literal_greater x (literal_of l.literal))
-    (map literal_of (take l.other-index l.left))
+    (λ x. more_often equivalent_literals (g.L.LendsLiterals.meaning l.left) (g.M.LendsLiterals.meaning l.right) x && literal_greater x (lent_of l.literal))
+    (take l.index (g.L.LendsLiterals.meaning l.left))
     ≡ false

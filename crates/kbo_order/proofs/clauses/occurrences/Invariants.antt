@@ -1,9 +1,9 @@
-use Rattle.std.proofs.Common.{◌≡◌, ◌≤◌, map, take}
-use Rattle.fol_base.specs.Literal.{literal_of}
+use Rattle.std.proofs.Common.{◌≡◌, ◌≤◌, take}
+use Rattle.fol_base.specs.Lent.{lent_of}
 use Rattle.fol_base.specs.Multiset.{times}
 use Rattle.fol_base.specs.Order.{equivalent_literals}
 use Rattle.kbo_order.proofs.clauses.occurrences.Given as goal
 
-abbrev pub invariant-loop-other : goal.invariant-loop-other
-invariant-loop-other l =
-    (l.count ≡ times equivalent_literals (literal_of l.literal) (map literal_of (take l.other-index l.literals))) × (l.count ≤ l.other-index)
+abbrev pub invariant-loop-index : goal.invariant-loop-index
+invariant-loop-index g l =
+    (l.count ≡ times equivalent_literals (lent_of l.literal) (take l.index (g.L.LendsLiterals.meaning l.literals))) × (l.count ≤ l.index)

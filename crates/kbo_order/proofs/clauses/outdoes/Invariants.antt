@@ -1,12 +1,11 @@
-use Rattle.std.proofs.Common.{◌≡◌, true, map, take}
+use Rattle.std.proofs.Common.{◌≡◌, true, take}
 use Rattle.std.specs.List.{list_all}
-use Rattle.fol_base.specs.Literal.{literal_of}
 use Rattle.fol_base.specs.Multiset.{outdone}
 use Rattle.fol_base.specs.Order.{equivalent_literals, literal_greater}
 use Rattle.kbo_order.proofs.clauses.outdoes.Given as goal
 
-abbrev pub invariant-loop-literal : goal.invariant-loop-literal
-invariant-loop-literal l =
-    list_all (outdone equivalent_literals literal_greater (map literal_of l.left) (map literal_of l.right))
-    (map literal_of (take l.literal-index l.right))
+abbrev pub invariant-loop-index : goal.invariant-loop-index
+invariant-loop-index g l =
+    list_all (outdone equivalent_literals literal_greater (g.L.LendsLiterals.meaning l.left) (g.M.LendsLiterals.meaning l.right))
+    (take l.index (g.M.LendsLiterals.meaning l.right))
     ≡ true

@@ -1,5 +1,5 @@
 use Rattle.std.proofs.Common.{true, false, refl, sym, ◌∙◌}
-use Rattle.fol_base.specs.Literal.{literal_of}
+use Rattle.fol_base.specs.Lent.{lent_of}
 use Rattle.fol_base.specs.Order.{equivalent_literals, literal_greater}
 use Rattle.fol_base.proofs.OrderLemmas.{literals_equivalence}
 use Rattle.kbo_order.proofs.FurtherLemmas.{tests-agree}
@@ -8,23 +8,23 @@ use Rattle.kbo_order.proofs.literals.compare_literals.Goals as goal
 
 pub returns-then-are_equivalent : goal.returns-then-are_equivalent
 returns-then-are_equivalent c =
-    let l = literal_of c.args.left.now in
-    let m = literal_of c.args.right.now in
+    let l = lent_of c.args.left in
+    let m = lent_of c.args.right in
     let same = sym (equivalent-is c.of-pairs.result l m c.of-pairs.ensures) ∙ sym c.are_equivalent.ensures ∙ c.if-are_equivalent.true in
     sym (tests-agree (equivalent_literals l m) (literal_greater l m) (literal_greater m l) true (literal_greater l m) (literal_greater m l) same refl refl)
 
 pub returns-then-exceed : goal.returns-then-exceed
 returns-then-exceed c =
-    let l = literal_of c.args.left.now in
-    let m = literal_of c.args.right.now in
+    let l = lent_of c.args.left in
+    let m = lent_of c.args.right in
     let apart = sym (equivalent-is c.of-pairs.result l m c.of-pairs.ensures) ∙ sym c.are_equivalent.ensures ∙ c.if-are_equivalent.false in
     let above = sym (exceed-is c.of-pairs.result l m c.of-pairs.ensures apart) ∙ sym c.exceed.ensures ∙ c.if-exceed.true in
     sym (tests-agree (equivalent_literals l m) (literal_greater l m) (literal_greater m l) false true (literal_greater m l) apart above refl)
 
 pub returns-then-exceed-2 : goal.returns-then-exceed-2
 returns-then-exceed-2 c =
-    let l = literal_of c.args.left.now in
-    let m = literal_of c.args.right.now in
+    let l = lent_of c.args.left in
+    let m = lent_of c.args.right in
     let apart = sym (equivalent-is c.of-pairs.result l m c.of-pairs.ensures) ∙ sym c.are_equivalent.ensures ∙ c.if-are_equivalent.false in
     let not_above = sym (exceed-is c.of-pairs.result l m c.of-pairs.ensures apart) ∙ sym c.exceed.ensures ∙ c.if-exceed.false in
     let back = c.reversed.ensures in
@@ -34,8 +34,8 @@ returns-then-exceed-2 c =
 
 pub returns : goal.returns
 returns c =
-    let l = literal_of c.args.left.now in
-    let m = literal_of c.args.right.now in
+    let l = lent_of c.args.left in
+    let m = lent_of c.args.right in
     let apart = sym (equivalent-is c.of-pairs.result l m c.of-pairs.ensures) ∙ sym c.are_equivalent.ensures ∙ c.if-are_equivalent.false in
     let not_above = sym (exceed-is c.of-pairs.result l m c.of-pairs.ensures apart) ∙ sym c.exceed.ensures ∙ c.if-exceed.false in
     let back = c.reversed.ensures in

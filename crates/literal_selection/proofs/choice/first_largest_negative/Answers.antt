@@ -1,25 +1,26 @@
 use Rattle.std.proofs.Common.{sym, ◌∙◌, arith}
-use Rattle.fol_base.specs.Literal.{literal_of}
+use Rattle.fol_base.specs.Lent.{lent_of}
 use Rattle.kbo_order.proofs.ClauseLoops.{item-size}
 use Rattle.literal_selection.proofs.SelectedLemmas.{step-larger, step-no_larger}
 use Rattle.literal_selection.proofs.choice.first_largest_negative.Goals as goal
 use Rattle.literal_selection.proofs.choice.first_largest_negative.Goals.{then-size-largest, else-size-largest}
 
 pub negative_size-size-requires : goal.negative_size-size-requires
-negative_size-size-requires c =
+negative_size-size-requires g c =
     omega (
       arith,
-      item-size literal_of c.args.literals.now c.loop-index.index c.index-literals-index.result c.loop-index-test.true c.index-literals-index.is,
+      item-size (g.L.LendsLiterals.meaning c.args.literals.now) c.loop-index.index (lent_of c.literal.result) c.literal.ensures,
       c.requires,
     )
 
 pub loop-index-preserved : goal.loop-index-preserved
-loop-index-preserved c =
-    let x = c.index-literals-index.result in
+loop-index-preserved g c =
+    let ls = g.L.LendsLiterals.meaning c.args.literals.now in
+    let l = lent_of c.literal.result in
     elim c.if-size-largest.branch [
       | then-size-largest w ↦
           let step =
-          step-larger c.args.literals.now c.loop-index.index x c.loop-index-test.true c.index-literals-index.is
+          step-larger ls c.loop-index.index l c.literal.ensures
           (omega (arith, w.if-size-largest.true, c.negative_size-size.ensures, c.loop-index.invariant.largest)) in
           record {
             largest = w.largest-is ∙ c.negative_size-size.ensures ∙ sym step.0;
@@ -27,7 +28,7 @@ loop-index-preserved c =
           }
       | else-size-largest w ↦
           let step =
-          step-no_larger c.args.literals.now c.loop-index.index x c.loop-index-test.true c.index-literals-index.is
+          step-no_larger ls c.loop-index.index l c.literal.ensures
           (omega (arith, w.if-size-largest.false, c.negative_size-size.ensures, c.loop-index.invariant.largest)) in
           record {
             largest = w.largest-is ∙ c.loop-index.invariant.largest ∙ sym step.0;

@@ -1,6 +1,5 @@
-use Rattle.std.proofs.Common.{◌≡◌, List, None, ◌↔◌, ◌∙◌, sym, subst, map}
+use Rattle.std.proofs.Common.{◌≡◌, List, None, ◌↔◌, ◌∙◌, sym, subst}
 use Rattle.fol_base.specs.Clause.{TreeLiteral}
-use Rattle.fol_base.specs.Literal.{literal_of}
 use Rattle.fol_base.specs.Selection.{select_negative, chosen}
 use Rattle.literal_selection.specs.Mode.{HasNoChoice}
 use Rattle.literal_selection.specs.declared.choice.Selection.{Selection}
@@ -12,8 +11,8 @@ none : (mode : Selection) (ls : List TreeLiteral) → mode ≡ Negative → (cho
 none mode ls e = subst (λ (m : Selection). (chosen select_negative ls ≡ None) ↔ HasNoChoice m ls) (sym e) (chosen-none ls, none-chosen ls)
 
 pub returns-in-Negative-clause-none : goal.returns-in-Negative-clause-none
-returns-in-Negative-clause-none c =
-    let ls = map literal_of c.args.literals.now in
+returns-in-Negative-clause-none g c =
+    let ls = g.L.LendsLiterals.meaning c.args.literals.now in
     let both = none c.args.mode ls c.in-Negative.is in (
       λ e. both.0 (sym c.first_largest_negative.ensures ∙ e),
       λ e. c.first_largest_negative.ensures ∙ both.1 e,

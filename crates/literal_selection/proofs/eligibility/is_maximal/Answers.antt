@@ -1,48 +1,41 @@
-use Rattle.std.proofs.Common.{◌&&◌, ◌+◌, ◌-◌, length, map, take, drop, ap, sym, ◌∙◌, arith}
-use Rattle.fol_base.specs.Literal.{literal_of}
-use Rattle.fol_base.specs.Selection.{is_maximal}
+use Rattle.std.proofs.Common.{ap, not, sym, ◌∙◌, arith}
+use Rattle.fol_base.specs.Lent.{lent_of}
 use Rattle.kbo_order.proofs.ClauseLoops.{item-size}
-use Rattle.literal_selection.proofs.EligibleLemmas.{front-size, back-size, maximal-parts}
+use Rattle.literal_selection.proofs.EligibleLemmas.{itself-passed, other-passed, other-outdoes}
 use Rattle.literal_selection.proofs.eligibility.is_maximal.Goals as goal
+use Rattle.literal_selection.proofs.eligibility.is_maximal.Goals.{else-other-index-via-then-other-index+else-outdoes, else-other-index-via-else-other-index}
 
-pub none_outdoes-requires-clause-size : goal.none_outdoes-requires-clause-size
-none_outdoes-requires-clause-size c =
+pub outdoes-requires-clause-size : goal.outdoes-requires-clause-size
+outdoes-requires-clause-size g c =
     omega (
       arith,
-      item-size literal_of c.args.literals.now c.args.index c.index-literals-index.result c.requires.in_range c.index-literals-index.is,
+      item-size (g.L.LendsLiterals.meaning c.args.literals.now) c.args.index (lent_of c.literal-literal.result) c.literal-literal.ensures,
       c.requires.size,
     )
 
-pub none_outdoes-requires-clause-others_size : goal.none_outdoes-requires-clause-others_size
-none_outdoes-requires-clause-others_size c = omega (arith, front-size c.args.literals.now c.args.index, c.requires.size)
-
-pub none_outdoes-requires-then-none_outdoes-clause-size : goal.none_outdoes-requires-then-none_outdoes-clause-size
-none_outdoes-requires-then-none_outdoes-clause-size c =
+pub outdoes-requires-clause-other_size : goal.outdoes-requires-clause-other_size
+outdoes-requires-clause-other_size g c =
     omega (
       arith,
-      item-size literal_of c.args.literals.now c.args.index c.index-literals-index.result c.requires.in_range c.index-literals-index.is,
+      item-size (g.L.LendsLiterals.meaning c.args.literals.now) c.loop-other.other (lent_of c.literal.result) c.literal.ensures,
       c.requires.size,
     )
 
-pub none_outdoes-requires-then-none_outdoes-clause-others_size : goal.none_outdoes-requires-then-none_outdoes-clause-others_size
-none_outdoes-requires-then-none_outdoes-clause-others_size c = omega (arith, back-size c.args.literals.now c.args.index, c.requires.size)
+pub returns-then-outdoes : goal.returns-then-outdoes
+returns-then-outdoes g c =
+    other-outdoes c.args.strict (g.L.LendsLiterals.meaning c.args.literals.now) c.args.index c.loop-other.other
+    (lent_of c.literal-literal.result) (lent_of c.literal.result)
+    c.literal-literal.ensures c.literal.ensures c.if-other-index.true
+    (sym c.outdoes.ensures ∙ ap not c.if-outdoes.true)
 
-pub returns-then-none_outdoes : goal.returns-then-none_outdoes
-returns-then-none_outdoes c =
-    let xs = c.args.literals.now in
-    let i = c.args.index in
-    let x = c.index-literals-index.result in
-    let behind = is_maximal c.args.strict (literal_of x) (map literal_of (take (length xs - (i + 1)) (drop (i + 1) xs))) in
-    c.none_outdoes-then-none_outdoes.ensures
-    ∙ sym (ap (λ b. b && behind) (sym c.none_outdoes.ensures ∙ c.if-none_outdoes.true))
-    ∙ maximal-parts xs i x c.args.strict c.requires.in_range c.index-literals-index.is
-
-pub returns-else-none_outdoes : goal.returns-else-none_outdoes
-returns-else-none_outdoes c =
-    let xs = c.args.literals.now in
-    let i = c.args.index in
-    let x = c.index-literals-index.result in
-    let behind = is_maximal c.args.strict (literal_of x) (map literal_of (take (length xs - (i + 1)) (drop (i + 1) xs))) in
-    c.if-none_outdoes.false
-    ∙ sym (ap (λ b. b && behind) (sym c.none_outdoes.ensures ∙ c.if-none_outdoes.false))
-    ∙ maximal-parts xs i x c.args.strict c.requires.in_range c.index-literals-index.is
+pub loop-other-preserved : goal.loop-other-preserved
+loop-other-preserved g c =
+    let ls = g.L.LendsLiterals.meaning c.args.literals.now in
+    elim c.else-other-index.branch [
+      | else-other-index-via-then-other-index+else-outdoes w ↦
+          other-passed c.args.strict ls c.args.index c.loop-other.other (lent_of c.literal-literal.result) (lent_of w.literal.result)
+          w.literal.ensures w.if-other-index.true c.loop-other.invariant (sym w.outdoes.ensures ∙ ap not w.if-outdoes.false)
+      | else-other-index-via-else-other-index w ↦
+          itself-passed c.args.strict ls c.args.index c.loop-other.other (lent_of c.literal-literal.result)
+          c.literal-literal.ensures w.if-other-index.false c.loop-other.invariant
+    ]

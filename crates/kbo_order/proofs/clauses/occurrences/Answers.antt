@@ -1,0 +1,16 @@
+use Rattle.std.proofs.Common.{ap, ◌∙◌, arith}
+use Rattle.fol_base.specs.Lent.{lent_of}
+use Rattle.fol_base.specs.Order.{equivalent_literals}
+use Rattle.kbo_order.proofs.ClauseLoops.{times-more}
+use Rattle.kbo_order.proofs.TallyLemmas.{bit, byte-bit, bit-most}
+use Rattle.kbo_order.proofs.clauses.occurrences.Goals as goal
+
+pub loop-index-preserved : goal.loop-index-preserved
+loop-index-preserved g c =
+    let l = lent_of c.args.literal in
+    let m = lent_of c.literal.result in
+    let more = times-more equivalent_literals l (g.L.LendsLiterals.meaning c.args.literals.now) c.loop-index.index m c.literal.ensures in
+    let one = c.from-count.ensures ∙ byte-bit c.equivalent_literals.result ∙ ap bit c.equivalent_literals.ensures in (
+      omega (arith, more, one, c.loop-index.invariant.0),
+      omega (arith, one, bit-most (equivalent_literals l m), c.loop-index.invariant.1),
+    )
