@@ -1,12 +1,12 @@
 // An entry at the end of a path.
 
-ghost use Rattle.std.specs.Prelude.{◌≡◌, ◌↔◌, ◌++◌, IfOk, IsTrue, MatchOption, None, Some};
+ghost use Rattle.std.specs.Prelude.{◌≡◌, ◌↔◌, IfOk, IsTrue, MatchOption, None, Some};
 ghost use Rattle.fol_base.specs.Tree.{tree_variables, trees_variables, trees_of};
 ghost use Rattle.fol_base.specs.Term.{tree_of};
 ghost use Rattle.disc_tree.specs.Entries.{without_front};
 ghost use Rattle.disc_tree.specs.Rows.{IsNamed};
 
-use fol_base::{Term, Terms};
+use fol_base::{Term, Terms, push_variables};
 use plain_types::Mem;
 use std::alloc::Global;
 use std::marker::Model;
@@ -69,27 +69,6 @@ impl Entry {
             None => false,
         }
     }
-}
-
-/// Adds the numbers of a term's variables at the end.
-#[cycle(push_variables)]
-fn push_variables(term: &Term, found: &mut Vec<u32>) -> Mem<()>
-    ensures { IfOk result (λ _. found.new.items ≡ found.old.items ++ tree_variables (tree_of term.now)) }
-{
-    match term {
-        Term::Var(variable) => Ok(found.push(*variable)?),
-        Term::App(_, arguments) => push_all_variables(arguments, found),
-    }
-}
-
-#[cycle(push_variables)]
-fn push_all_variables(terms: &Terms, found: &mut Vec<u32>) -> Mem<()>
-    ensures { IfOk result (λ _. found.new.items ≡ found.old.items ++ trees_variables (trees_of terms.now)) }
-{
-    for term in terms.as_slice() {
-        push_variables(term, found)?;
-    }
-    Ok(())
 }
 
 /// What numbers have behind a term's variables. None where they don't begin with them.

@@ -1,10 +1,10 @@
 // Random terms of 5 to 20 symbols and variables, and what the queries and a scan of all entries find among them. With larger
 // numbers this is the benchmark of docs/BENCHMARKS.md.
 
-use super::tests::{binary, constant, next, unary};
 use super::*;
 use fol_base::Term;
 use plain_types::{Mem, Numbers};
+use sample_terms::Random;
 use std::alloc::Global;
 use std::test::Fail;
 
@@ -20,42 +20,6 @@ enum Kind {
     Unifiable,
     Generalisations,
     Instances,
-}
-
-/// One of four variables or twelve constants.
-fn random_leaf(alloc: Global, seed: &mut u64) -> Term {
-    let number = (next(seed) % 16) as u32;
-    if number < 4 {
-        Term::Var(number)
-    } else {
-        constant(alloc, number)
-    }
-}
-
-/// A term of so many symbols and variables, over two unary and two binary symbols.
-fn random_term(alloc: Global, seed: &mut u64, size: u64) -> Mem<Term> {
-    if size < 2 {
-        return Ok(random_leaf(alloc, seed));
-    }
-    let odd = next(seed) % 2 == 1;
-    if size == 2 || next(seed) % 3 == 0 {
-        let argument = random_term(alloc, seed, size - 1)?;
-        return unary(alloc, if odd { 17 } else { 16 }, argument);
-    }
-    let left = 1 + next(seed) % (size - 2);
-    let first = random_term(alloc, seed, left)?;
-    let second = random_term(alloc, seed, size - 1 - left)?;
-    binary(alloc, if odd { 19 } else { 18 }, first, second)
-}
-
-fn random_terms(alloc: Global, seed: u64, count: u64) -> Mem<Vec<Term>> {
-    let mut seed = seed;
-    let mut terms = Vec::new(alloc);
-    for _ in 0..count {
-        let size = 5 + next(&mut seed) % 16;
-        terms.push(random_term(alloc, &mut seed, size)?)?;
-    }
-    Ok(terms)
 }
 
 /// A tree of the terms, each under the number of its place.
@@ -118,8 +82,8 @@ fn scanned(entries: &[Term], queries: &[Term], kind: Kind) -> u64 {
 
 #[test]
 fn queries_find_as_many_entries_as_a_scan(rt: HostRuntime) -> Result<(), Fail> {
-    let entries = random_terms(rt.alloc(), 1, ENTRIES)?;
-    let queries = random_terms(rt.alloc(), 2, QUERIES)?;
+    let entries = Random::new(1).terms(rt.alloc(), ENTRIES)?;
+    let queries = Random::new(2).terms(rt.alloc(), QUERIES)?;
     let tree = filled(rt.alloc(), entries.as_slice())?;
     for kind in [Kind::Unifiable, Kind::Generalisations, Kind::Instances] {
         let count = found(&tree, queries.as_slice(), kind)?;
@@ -131,7 +95,7 @@ fn queries_find_as_many_entries_as_a_scan(rt: HostRuntime) -> Result<(), Fail> {
 
 #[test]
 fn each_entry_is_removed(rt: HostRuntime) -> Result<(), Fail> {
-    let entries = random_terms(rt.alloc(), 1, ENTRIES)?;
+    let entries = Random::new(1).terms(rt.alloc(), ENTRIES)?;
     let mut tree = filled(rt.alloc(), entries.as_slice())?;
     assert!(rt; empties(&mut tree, entries.as_slice()));
     assert!(rt; tree.unifiable(&Term::Var(0))?.as_slice().is_empty());

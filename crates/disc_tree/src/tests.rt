@@ -3,8 +3,9 @@
 ghost use Rattle.std.specs.Prelude.{◌≡◌, ◌<◌};
 
 use super::*;
-use fol_base::{Term, Terms};
+use fol_base::Term;
 use plain_types::{Mem, Numbers};
+use sample_terms::{Random, binary, constant, unary};
 use std::alloc::Global;
 use std::marker::Brand;
 use std::sync::ledger::{Blank, Ledger};
@@ -17,23 +18,6 @@ const B: u32 = 2;
 const F: u32 = 3;
 
 const G: u32 = 4;
-
-pub(crate) fn constant(alloc: Global, symbol: u32) -> Term {
-    Term::App(symbol, Terms::new(alloc))
-}
-
-pub(crate) fn unary(alloc: Global, symbol: u32, argument: Term) -> Mem<Term> {
-    let mut arguments = Terms::new(alloc);
-    arguments.push(argument)?;
-    Ok(Term::App(symbol, arguments))
-}
-
-pub(crate) fn binary(alloc: Global, symbol: u32, first: Term, second: Term) -> Mem<Term> {
-    let mut arguments = Terms::new(alloc);
-    arguments.push(first)?;
-    arguments.push(second)?;
-    Ok(Term::App(symbol, arguments))
-}
 
 fn added(tree: &mut DiscTree, term: Mem<Term>, entry: u64) -> Mem<()> {
     tree.insert(&term?, entry)
@@ -140,28 +124,20 @@ fn a_symbol_with_more_arguments_is_another(rt: HostRuntime) -> Result<(), Fail> 
     Ok(())
 }
 
-/// The next number of a linear congruence (Knuth, 1999).
-pub(crate) fn next(seed: &mut u64) -> u64 {
-    *seed = seed
-        .wrapping_mul(6_364_136_223_846_793_005)
-        .wrapping_add(1_442_695_040_888_963_407);
-    *seed >> 33
-}
-
 /// A term of up to so many levels below its head.
-fn random_term(alloc: Global, seed: &mut u64, depth: u32) -> Mem<Term> {
-    let kind = next(seed) % 6;
+fn random_term(alloc: Global, random: &mut Random, depth: u32) -> Mem<Term> {
+    let kind = random.below(6);
     if kind == 0 || (depth == 0 && kind < 3) {
-        return Ok(Term::Var(if next(seed) % 2 == 0 { 0 } else { 1 }));
+        return Ok(Term::Var(if random.below(2) == 0 { 0 } else { 1 }));
     }
     if kind == 1 || depth == 0 {
-        return Ok(constant(alloc, if next(seed) % 2 == 0 { A } else { B }));
+        return Ok(constant(alloc, if random.below(2) == 0 { A } else { B }));
     }
-    let first = random_term(alloc, seed, depth - 1)?;
+    let first = random_term(alloc, random, depth - 1)?;
     if kind == 2 {
         return unary(alloc, G, first);
     }
-    binary(alloc, F, first, random_term(alloc, seed, depth - 1)?)
+    binary(alloc, F, first, random_term(alloc, random, depth - 1)?)
 }
 
 /// What a scan of all entries finds, in rising order.
@@ -223,29 +199,29 @@ fn step_alike(
     alloc: Global,
     tree: &mut DiscTree,
     list: &mut Vec<(Term, u64)>,
-    seed: &mut u64,
+    random: &mut Random,
     number: u64,
 ) -> Mem<bool> {
-    let term = random_term(alloc, seed, 3)?;
-    let kind = next(seed) % 4;
+    let term = random_term(alloc, random, 3)?;
+    let kind = random.below(4);
     if kind < 2 {
         tree.insert(&term, number)?;
         list.push((term, number))?;
         return Ok(true);
     }
     if kind == 2 {
-        return Ok(removes_alike(tree, list, next(seed)));
+        return Ok(removes_alike(tree, list, random.next()));
     }
     finds_alike(alloc, &*tree, list.as_slice(), &term)
 }
 
 #[test]
 fn a_thousand_steps_agree_with_a_plain_list(rt: HostRuntime) -> Result<(), Fail> {
-    let mut seed = 1;
+    let mut random = Random::new(1);
     let mut tree = DiscTree::new(rt.alloc())?;
     let mut list: Vec<(Term, u64)> = Vec::new(rt.alloc());
     for number in 0..1000u64 {
-        let alike = step_alike(rt.alloc(), &mut tree, &mut list, &mut seed, number)?;
+        let alike = step_alike(rt.alloc(), &mut tree, &mut list, &mut random, number)?;
         assert!(rt; alike);
     }
     Ok(())
@@ -273,11 +249,11 @@ fn entries_at_one_path_stand_by_their_numbers(rt: HostRuntime) -> Result<(), Fai
 /// Run with an allocation made to fail, it goes on after the insertion that is refused.
 #[test]
 fn a_refused_insertion_changes_nothing(rt: HostRuntime) -> Result<(), Fail> {
-    let mut seed = 1;
+    let mut random = Random::new(1);
     let mut tree = DiscTree::new(rt.alloc())?;
     let mut list: Vec<(Term, u64)> = Vec::new(rt.alloc());
     for number in 0..12u64 {
-        let term = random_term(rt.alloc(), &mut seed, 2)?;
+        let term = random_term(rt.alloc(), &mut random, 2)?;
         if tree.insert(&term, number).is_ok() {
             list.push((term, number))?;
         }

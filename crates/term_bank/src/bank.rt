@@ -8,8 +8,8 @@ ghost use Rattle.term_bank.specs.declared.reference.TermRef.{TermRef as AReferen
 use crate::key::{TermKey, Wanted};
 use crate::reference::TermRef;
 use fol_base::{Term, Terms};
-use plain_types::Mem;
 use indexmap::IndexMap;
+use plain_types::Mem;
 use std::alloc::Global;
 
 /// A bank of terms. It only grows, and a reference of it stands for one tree for good.

@@ -1,4 +1,4 @@
-use Rattle.term_bank.proofs.tests.Random.+term.Given as goal
+use Rattle.sample_terms.proofs.random.Random.+term.Given as goal
 
 abbrev pub decreases-term : goal.decreases-term
 decreases-term l = l.size

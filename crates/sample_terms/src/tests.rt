@@ -1,0 +1,35 @@
+// Each public call once.
+
+use super::*;
+use fol_base::{Term, same_literal, same_term};
+use std::test::Fail;
+
+#[test]
+fn terms_are_made(rt: HostRuntime) -> Result<(), Fail> {
+    let alloc = rt.alloc();
+    let a = constant(alloc, 1);
+    assert_eq!(rt; a.size(), 1);
+    let fa = unary(alloc, 2, a)?;
+    assert_eq!(rt; fa.size(), 2);
+    let predicate_term = binary(alloc, 3, fa, Term::Var(4))?;
+    assert_eq!(rt; predicate_term.size(), 4);
+    assert_eq!(rt; predicate_term.variable_bound(), 5);
+    let literal = atom(alloc, predicate_term.copy(alloc)?);
+    assert!(rt; literal.positive && literal.right.is_truth());
+    assert!(rt; same_term(&literal.left, &predicate_term));
+    assert!(rt; same_literal(literal.lend(), atom(alloc, predicate_term).lend()));
+    Ok(())
+}
+
+/// The first numbers of the congruence, worked out outside the repository.
+#[test]
+fn numbers_look_random(rt: HostRuntime) -> Result<(), Fail> {
+    let alloc = rt.alloc();
+    let mut random = Random::new(1);
+    assert_eq!(rt; random.next(), 908_834_774);
+    assert_eq!(rt; random.next(), 1_093_944_153);
+    assert_eq!(rt; random.below(10), 6);
+    assert_eq!(rt; random.term(alloc, 9)?.size(), 9);
+    assert_eq!(rt; random.terms(alloc, 7)?.len(), 7);
+    Ok(())
+}
