@@ -1,8 +1,8 @@
 -- Facts about literals, and about clauses as sets.
-use Rattle.std.proofs.Common.{◌≡◌, ℕ, Bool, true, false, not, ◌&&◌, ◌||◌, ◌==◌, cond, [], ◌∷◌, ◌++◌, refl, ap, ◌∙◌, inl, inr, sym}
+use Rattle.std.proofs.Common.{◌≡◌, ℕ, Bool, true, false, not, ◌&&◌, ◌||◌, ◌==◌, [], ◌∷◌, ◌++◌, refl, ap, ◌∙◌, sym}
 use mathlib.Core.Bool.{beq}
 use Rattle.std.specs.Prelude.{IsTrue}
-use Rattle.std.proofs.lemmas.Bool.{cases_Bool, or_left, and_parts, and_from, eq-eqb, eqb-true, both_ways}
+use Rattle.std.proofs.lemmas.Bool.{or_left, and_parts, and_from, eq-eqb, eqb-true, both_ways}
 use Rattle.std.proofs.lemmas.List.Folds.{list_any-append}
 use Rattle.std.proofs.lemmas.Map.Views.{any-filter_same}
 use Rattle.std.proofs.Math.Bool.{and_comm, not-not}

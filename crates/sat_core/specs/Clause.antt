@@ -1,6 +1,6 @@
 -- Propositional clauses and their truth. Membership and resolution are those of signed names (`plain_types`).
 use mathlib.Core.Bool.{beq}
-use Rattle.std.specs.Prelude.{ℕ, Bool, false, not, ◌&&◌, ◌==◌, nat_lt, List, slice_index_or}
+use Rattle.std.specs.Prelude.{ℕ, Bool, false, nat_lt, List, slice_index_or}
 use Rattle.std.specs.List.{list_any, list_all}
 use Rattle.plain_types.specs.declared.sequence.NameLit.{NameLit}
 

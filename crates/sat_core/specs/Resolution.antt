@@ -1,5 +1,5 @@
 -- Logs of resolutions of propositional clauses (Robinson 1965).
-use Rattle.std.specs.Prelude.{Bool, true, false, not, ◌&&◌, List, [], ◌∷◌, ◌++◌, filter, Option, None, Some, slice_get, option_and_then, if◌then◌else◌}
+use Rattle.std.specs.Prelude.{Bool, true, false, List, [], ◌∷◌, ◌++◌, Option, None, Some, slice_get, option_and_then, if◌then◌else◌}
 use Rattle.std.specs.Option.{option_map}
 use Rattle.plain_types.specs.Names.{can_resolve, resolvent}
 use Rattle.sat_core.specs.declared.answer.Link.{Link}
