@@ -2,6 +2,7 @@
 use Rattle.std.proofs.Common.{◌≡◌, ℕ, Bool, true, false, ◌&&◌, None, Some, Option, List, [], ◌∷◌, ◌++◌, refl, ap, sym, ◌∙◌, subst}
 use Rattle.std.specs.Prelude.{if◌then◌else◌}
 use Rattle.std.specs.List.{AllByRecursion}
+use Rattle.tptp_tree.specs.declared.TheConstants.{MOST_NESTING}
 use Rattle.tptp_token.specs.Spelling.{is_one_of}
 use Rattle.outside.specs.Library.{Holdings}
 use Rattle.tptp_tree.specs.Shape.{formula_of}
@@ -108,12 +109,12 @@ mutual
       (both (closed_within xs (unit_meant u)) (closed_within xs (unit_meant v)) first.0 second.0, second.1)
 
 body-closed :
-    (b : Body) (rest : List (Option Refusal)) → is_clause_body b ≡ false → AreFaultless (body_causes 500 b rest) → closed_within [] (body_meant b) ≡ true
-body-closed (formula_body p) rest e h = (phrase-bound (outermost 500 false) [] p rest refl h).0
+    (b : Body) (rest : List (Option Refusal)) → is_clause_body b ≡ false → AreFaultless (body_causes MOST_NESTING b rest) → closed_within [] (body_meant b) ≡ true
+body-closed (formula_body p) rest e h = (phrase-bound (outermost MOST_NESTING false) [] p rest refl h).0
 body-closed (clause_body c) rest e h = absurd (let t : true ≡ false = e in cc)
 
 reading-closed :
-    (file : LoadedFile) (first : ℕ) (read : Read) → IsReading 500 file.bytes (tokens_of file) first read → read.annotated.clause ≡ false
+    (file : LoadedFile) (first : ℕ) (read : Read) → IsReading MOST_NESTING file.bytes (tokens_of file) first read → read.annotated.clause ≡ false
     → closed_within [] (formula_of read.annotated.formula) ≡ true
 reading-closed file first read h c =
     ap (closed_within []) h.meant.formula ∙ body-closed h.phrase.body _ (sym h.meant.is_clause ∙ c) h.spelled.faultless.1.1.1.1.1.1

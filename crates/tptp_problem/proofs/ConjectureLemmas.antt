@@ -5,6 +5,8 @@ use Rattle.std.specs.List.{AllByRecursion, list_all}
 use Rattle.std.proofs.lemmas.Bool.{and_parts}
 use Rattle.std.proofs.lemmas.List.Sums.{sum_by-cons}
 use Rattle.std.proofs.lemmas.Slice.Eq.{bytes_eq-Decides}
+use Rattle.tptp_problem.specs.declared.TheConstants.{MOST_INCLUDES}
+use Rattle.tptp_tree.specs.declared.TheConstants.{MOST_NESTING}
 use Rattle.outside.specs.Library.{Holdings}
 use Rattle.tptp_token.specs.Lexemes.{Lexeme, lexeme}
 use Rattle.tptp_token.specs.declared.token.Kind.TheVariants.{Lower, Mark}
@@ -80,7 +82,7 @@ begun-by word role n ts e f h =
     ∙ ap (λ x. Some x) (name-name n)
 
 reading-begun :
-    (file : LoadedFile) (first : ℕ) (read : Read) → IsReading 500 file.bytes (tokens_of file) first read → is_conjecture read.annotated.role ≡ true
+    (file : LoadedFile) (first : ℕ) (read : Read) → IsReading MOST_NESTING file.bytes (tokens_of file) first read → is_conjecture read.annotated.role ≡ true
     → conjecture_begun (drop first (lexemes file)) ≡ Some read.annotated.name
 reading-begun file first read h c =
     let p = h.phrase in
@@ -92,7 +94,7 @@ reading-begun file first read h c =
     ∙ ap (λ n. Some n) (sym h.meant.name)
 
 reading-no-clause :
-    (file : LoadedFile) (first : ℕ) (read : Read) → IsReading 500 file.bytes (tokens_of file) first read → read.annotated.clause ≡ true
+    (file : LoadedFile) (first : ℕ) (read : Read) → IsReading MOST_NESTING file.bytes (tokens_of file) first read → read.annotated.clause ≡ true
     → is_conjecture read.annotated.role ≡ false
 reading-no-clause file first read h c = by (is_conjecture read.annotated.role) refl
   where
@@ -129,7 +131,7 @@ record OneCounts (reads : Reads) : Type 0 where
       → tally (counted around) fs + number start.met ≡ number now.met
 
 counted-begun :
-    (file : LoadedFile) (first : ℕ) (start : Progress) (read : Read) → IsReading 500 file.bytes (tokens_of file) first read
+    (file : LoadedFile) (first : ℕ) (start : Progress) (read : Read) → IsReading MOST_NESTING file.bytes (tokens_of file) first read
     → is_second file first start ≡ false → counted file.around (placed_in file.name read.annotated) ≡ true → start.met ≡ false
 counted-begun file first start read h single c =
     let parts = and_parts (is_conjecture read.annotated.role) (counts file.around read.annotated.name) c in
@@ -255,14 +257,14 @@ pub one-conjecture :
     (told : Option Holdings) (file : List ℕ) (root : Option (List ℕ)) (fs : List Placed) → IsProblem told file root fs
     → count_by (λ (f : Placed). is_conjecture f.tree.role) fs ≤ 1
 one-conjecture told file root fs h =
-    let all = (named-counts told (base_of root file) 17).one file [] (record { loaded = 0; met = false }) h.0 fs h.1 in
+    let all = (named-counts told (base_of root file) (suc MOST_INCLUDES)).one file [] (record { loaded = 0; met = false }) h.0 fs h.1 in
     omega (arith, tally-is (λ (f : Placed). is_conjecture f.tree.role) fs, uncounted fs, all, at-most-one h.0.met)
 
 -- ---- a fact of each formula that is read
 
 pub record HoldsOfRead (P : Placed → Type 0) : Type 0 where
   pub by :
-      (file : LoadedFile) (first : ℕ) (read : Read) → IsReading 500 file.bytes (tokens_of file) first read → P (placed_in file.name read.annotated)
+      (file : LoadedFile) (first : ℕ) (read : Read) → IsReading MOST_NESTING file.bytes (tokens_of file) first read → P (placed_in file.name read.annotated)
 
 record AllHold (P : Placed → Type 0) (reads : Reads) : Type 0 where
   all :
@@ -312,7 +314,7 @@ pub all-hold :
     (P : Placed → Type 0) (told : Option Holdings) (file : List ℕ) (root : Option (List ℕ)) (fs : List Placed) → HoldsOfRead P → IsProblem told file root fs
     → AllByRecursion P fs
 all-hold P told file root fs each h =
-    (named-hold P told (base_of root file) 17 each).all file [] (record { loaded = 0; met = false }) h.0 fs h.1
+    (named-hold P told (base_of root file) (suc MOST_INCLUDES) each).all file [] (record { loaded = 0; met = false }) h.0 fs h.1
 
 pub no-conjecture-clause :
     (told : Option Holdings) (file : List ℕ) (root : Option (List ℕ)) (fs : List Placed) → IsProblem told file root fs

@@ -4,6 +4,7 @@ use Rattle.std.specs.Prelude.{slice_get}
 use Rattle.std.proofs.Math.Seq.{drop-drop}
 use Rattle.std.proofs.lemmas.List.{length-map, map-append}
 use Rattle.std.specs.Str.{IsAscii}
+use Rattle.tptp_tree.specs.declared.TheConstants.{MOST_NESTING}
 use Rattle.tptp_token.specs.Lexemes.{Lexeme, lexeme_at, lexeme, word_lexeme}
 use Rattle.tptp_token.specs.Lexing.{lexed_of}
 use Rattle.tptp_token.specs.declared.token.Lexed.{Lexed}
@@ -17,8 +18,9 @@ use Rattle.tptp_reader.specs.declared.entry.Read.{Read}
 use Rattle.tptp_reader.specs.TellingEntries.{IsEndFault}
 use Rattle.tptp_reader.specs.declared.cause.ReadCause.{ReadCause}
 use Rattle.tptp_reader.specs.declared.cause.ReadCause.TheVariants.{Syntax, SecondConjecture}
-use Rattle.tptp_problem.specs.declared.halt.Halt.{Halt}
-use Rattle.tptp_problem.specs.declared.halt.Halt.TheVariants.{NoMemory, At}
+use Rattle.tptp_reader.specs.declared.cause.ReadFault.{ReadFault}
+use Rattle.tptp_reader.specs.declared.cause.ReadFault.TheVariants.{NoMemory, At}
+use Rattle.tptp_reader.specs.Faults.{IsFaultWhere}
 use Rattle.tptp_problem.specs.declared.include.Awaited.TheVariants.{Keyword}
 use Rattle.tptp_problem.specs.declared.include.Ending.TheVariants.{Whole, Stopped, Cut}
 use Rattle.tptp_problem.specs.declared.source.Source.{Source}
@@ -27,16 +29,16 @@ use Rattle.tptp_problem.specs.Formulas.{placed, placed_in, counts, conjecture_be
 use Rattle.tptp_problem.specs.IncludeReads.{IsIncludeRead, ReadsNames, IsNameAt}
 use Rattle.tptp_problem.specs.Includes.{StopsInclude, CutsInclude}
 use Rattle.tptp_problem.specs.Problem.{Progress, tokens_of, lexemes, start_of, place_of, is_second, with_formula, IsFormulaStep, IsFormulaFault, IsIncludeSyntaxFault}
-use Rattle.tptp_problem.specs.Shape.{IsHaltBy, IsLexed, file_of, lexemes_told, selections}
+use Rattle.tptp_problem.specs.Shape.{IsLexed, file_of, lexemes_told, selections}
 use Rattle.tptp_problem.proofs.AsciiLemmas.{word-there}
 use Rattle.tptp_problem.proofs.AwaitLemmas.{WholeThere, whole-there, stopped-there, cut-there, include-tail, tail_lexemes, width}
 use Rattle.tptp_problem.proofs.IncludeLemmas.{word-name}
 
-pub halt-then :
-    (P Q : ReadCause → List ℕ → ℕ → Type 0) (halt : Halt) → ((c : ReadCause) (f : List ℕ) (p : ℕ) → P c f p → Q c f p)
-    → IsHaltBy P halt → IsHaltBy Q halt
-halt-then P Q NoMemory f h = tt
-halt-then P Q (At c f p) g h = g c f p h
+pub fault-then :
+    (P Q : ReadCause → List ℕ → ℕ → Type 0) (fault : ReadFault) → ((c : ReadCause) (f : List ℕ) (p : ℕ) → P c f p → Q c f p)
+    → IsFaultWhere P fault → IsFaultWhere Q fault
+fault-then P Q NoMemory f h = tt
+fault-then P Q (At c f p) g h = g c f p h
 
 -- ---- the tokens of a source are those of its bytes
 
@@ -173,14 +175,14 @@ second-fault s first progress h e c f p k =
 
 pub formula-fault :
     (s : Source) (first : ℕ) (progress : Progress) (cause : ReadCause) (place : ℕ) → IsLexed s → is_second (file_of s) first progress ≡ false
-    → IsFaultAt 500 s.bytes.now s.lexed.now first cause place
+    → IsFaultAt MOST_NESTING s.bytes.now s.lexed.now first cause place
     → (c : ReadCause) (f : List ℕ) (p : ℕ) → (c ≡ cause) × (f ≡ s.name.now) × (p ≡ place)
     → IsFormulaFault (file_of s) (is_second (file_of s) first progress) first progress c f p
 formula-fault s first progress cause place h e k c f p l =
-    let here : IsFaultAt 500 s.bytes.now (lexed_of s.bytes.now) first cause place = subst (λ x. IsFaultAt 500 s.bytes.now x first cause place) h.lexed_is k in
-    let there : IsFaultAt 500 s.bytes.now (lexed_of s.bytes.now) first c p =
-    subst (λ x. IsFaultAt 500 s.bytes.now (lexed_of s.bytes.now) first x p) (sym l.0)
-    (subst (λ n. IsFaultAt 500 s.bytes.now (lexed_of s.bytes.now) first cause n) (sym l.2) here) in
+    let here : IsFaultAt MOST_NESTING s.bytes.now (lexed_of s.bytes.now) first cause place = subst (λ x. IsFaultAt MOST_NESTING s.bytes.now x first cause place) h.lexed_is k in
+    let there : IsFaultAt MOST_NESTING s.bytes.now (lexed_of s.bytes.now) first c p =
+    subst (λ x. IsFaultAt MOST_NESTING s.bytes.now (lexed_of s.bytes.now) first x p) (sym l.0)
+    (subst (λ n. IsFaultAt MOST_NESTING s.bytes.now (lexed_of s.bytes.now) first cause n) (sym l.2) here) in
     subst (λ b. IsFormulaFault (file_of s) b first progress c f p) (sym e) (l.1, there)
 
 -- ---- a formula that is read
@@ -194,7 +196,7 @@ formula-added old new a x name e t f p =
 
 pub formula-step :
     (s : Source) (first : ℕ) (start progress : Progress) (read : Read) → IsLexed s → is_second (file_of s) first start ≡ false
-    → IsReading 500 s.bytes.now s.lexed.now.tokens first read
+    → IsReading MOST_NESTING s.bytes.now s.lexed.now.tokens first read
     → progress ≡ with_formula (selections s.around.now) (placed_in s.name.now read.annotated) start
     → IsFormulaStep (file_of s) first start
     (record { formulas = placed_in s.name.now read.annotated ∷ []; progress = progress; next = read.next })
@@ -202,7 +204,7 @@ formula-step s first start progress read h single reading e =
     record {
       single = single;
       read = read;
-      reading = subst (λ ts. IsReading 500 s.bytes.now ts first read) (tokens-same s h) reading;
+      reading = subst (λ ts. IsReading MOST_NESTING s.bytes.now ts first read) (tokens-same s h) reading;
       formulas_are = refl;
       progress_is = e;
       next_is = refl;

@@ -1,6 +1,7 @@
 -- Includes, texts and files, by what the functions that read them say.
 use Rattle.std.proofs.Common.{◌≡◌, inl, inr, ℕ, zero, suc, ◌+◌, ◌*◌, ◌-◌, ◌<◌, Bool, true, false, None, Some, Option, List, [], ◌∷◌, ◌++◌, drop, length, refl, ap, sym, ◌∙◌, subst, arith}
 use Rattle.std.specs.Prelude.{slice_get, if◌then◌else◌}
+use Rattle.tptp_problem.specs.declared.TheConstants.{MOST_INCLUDES}
 use Rattle.outside.specs.Library.{Holdings}
 use Rattle.tptp_token.specs.Words.{name_of}
 use Rattle.tptp_tree.specs.Entries.{names_meant}
@@ -13,9 +14,7 @@ use Rattle.tptp_problem.specs.Formulas.{Placed, selected, is_named, missing_from
 use Rattle.tptp_problem.specs.IncludeReads.{IsIncludeRead}
 use Rattle.tptp_problem.specs.Includes.{is_include, IsInclude}
 use Rattle.tptp_problem.specs.Problem.{Progress, Reads, tokens_of, lexemes, start_of, IsIncludeStep, IsFormulaStep, IsIncludeFault, ReadsNamed, FaultsNamed, Adds, IsProblemFault}
-use Rattle.tptp_problem.specs.Shape.{IsLexed, file_of, lexemes_told, selections, IsHaltBy, IsFaultBy as IsToldBy, fault_of}
-use Rattle.tptp_problem.specs.declared.halt.Halt.{Halt}
-use Rattle.tptp_problem.specs.declared.halt.Halt.TheVariants.{NoMemory, At}
+use Rattle.tptp_problem.specs.Shape.{IsLexed, file_of, lexemes_told, selections}
 use Rattle.tptp_reader.specs.declared.cause.ReadFault.{ReadFault}
 use Rattle.tptp_problem.proofs.FaultLemmas.{tokens-same, lexemes-same, place-same}
 use Rattle.tptp_problem.proofs.ReadLemmas.{ReadsUpTo, reads-on, step-by}
@@ -183,11 +182,7 @@ formula-on base reads s start at next before after old new h l e r a =
 
 pub problem-fault :
     (told : Option Holdings) (found : ℕ) (base file : List ℕ) (root : Option (List ℕ)) → base ≡ base_of root file
-    → (c : ReadCause) (f : List ℕ) (p : ℕ) → FaultsNamed told base found 17 file [] (record { loaded = 0; met = false }) c f p
+    → (c : ReadCause) (f : List ℕ) (p : ℕ) → FaultsNamed told base found (suc MOST_INCLUDES) file [] (record { loaded = 0; met = false }) c f p
     → IsProblemFault told found file root c f p
 problem-fault told found base file root e c f p h =
-    subst (λ b. FaultsNamed told b found 17 file [] (record { loaded = 0; met = false }) c f p) e h
-
-pub fault-told : (is : ReadCause → List ℕ → ℕ → Type 0) (halt : Halt) (fault : ReadFault) → fault ≡ fault_of halt → IsHaltBy is halt → IsToldBy is fault
-fault-told is NoMemory fault e h = subst (IsToldBy is) (sym e) tt
-fault-told is (At c f p) fault e h = subst (IsToldBy is) (sym e) h
+    subst (λ b. FaultsNamed told b found (suc MOST_INCLUDES) file [] (record { loaded = 0; met = false }) c f p) e h

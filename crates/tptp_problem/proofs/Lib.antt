@@ -1,4 +1,3 @@
-pub mod SourceLemmas
 pub mod NameLemmas
 pub mod AwaitLemmas
 pub mod IncludeLemmas
@@ -7,7 +6,7 @@ pub mod OnwardLemmas
 pub mod FaultLemmas
 pub mod ReadLemmas
 pub mod FileLemmas
-pub mod HaltLemmas
+pub mod PassedLemmas
 pub mod OutcomeLemmas
 pub mod ConjectureLemmas
 pub mod ClosedLemmas

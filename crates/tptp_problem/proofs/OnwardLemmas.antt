@@ -2,12 +2,12 @@
 use Rattle.std.proofs.Common.{◌≡◌, ℕ, suc, ◌≤◌, ◌<◌, Bool, true, false, None, Some, List, [], ◌∷◌, codes, drop, length, refl, subst, arith, bytes_eq}
 use Rattle.std.specs.Prelude.{⊤, if◌then◌else◌}
 use Rattle.std.proofs.lemmas.List.{length-map}
-use Rattle.tptp_token.specs.Lexemes.{Lexeme, lexeme_at}
+use Rattle.tptp_token.specs.Lexemes.{Lexeme, lexeme_at, lexemes_of}
 use Rattle.tptp_token.specs.declared.token.Token.{Token}
 use Rattle.tptp_token.specs.declared.token.Kind.{Kind}
 use Rattle.tptp_token.specs.declared.token.Kind.TheVariants.{Lower, Variable, Quoted, Distinct, Dollar, Number, Connective, Mark, Other}
 use Rattle.tptp_reader.specs.Machine.{Symbol, an_annotated, Step, takes, passes, stops, step, annotated_step, Run, going, over, refused, stepped, after_token, verdict, read_up_to}
-use Rattle.tptp_reader.specs.Annotating.{lexemes_of, IsReading}
+use Rattle.tptp_reader.specs.Annotating.{IsReading}
 use Rattle.tptp_reader.specs.declared.entry.Read.{Read}
 use Rattle.tptp_reader.proofs.PlacedLemmas.{read-verdict}
 

@@ -2,6 +2,8 @@
 use Rattle.std.proofs.Common.{◌≡◌, ◌⊎◌, inl, inr, ⊎_elim, ℕ, zero, suc, ◌+◌, ◌*◌, ◌-◌, ◌≤◌, ◌<◌, Bool, true, false, None, Some, Option, List, [], ◌∷◌, ◌++◌, take, drop, length, refl, ap, ap₂, sym, ◌∙◌, subst, arith, append_assoc, length-drop}
 use Rattle.std.specs.Prelude.{IsSomeAnd}
 use Rattle.std.proofs.lemmas.List.{take-take, take-append-drop}
+use Rattle.tptp_problem.specs.declared.TheConstants.{MOST_INCLUDES}
+use Rattle.tptp_tree.specs.declared.TheConstants.{MOST_NESTING}
 use Rattle.outside.specs.Library.{Holdings, FoundMore}
 use Rattle.tptp_token.specs.Lexemes.{Lexeme, word_lexeme}
 use Rattle.tptp_token.specs.Lexing.{lexed_of}
@@ -107,7 +109,7 @@ step-same s t e f g =
 
 formula-one : (file : LoadedFile) (first : ℕ) (progress : Progress) (s t : Step) → IsFormulaStep file first progress s → IsFormulaStep file first progress t → s ≡ t
 formula-one file first progress s t h k =
-    let same = one_reading 500 file.bytes (tokens_of file) first h.read k.read h.reading k.reading in
+    let same = one_reading MOST_NESTING file.bytes (tokens_of file) first h.read k.read h.reading k.reading in
     let tree = same.tree in
     let place = same.place in
     let one : placed_in file.name h.read.annotated ≡ placed_in file.name k.read.annotated = cc in
@@ -208,7 +210,7 @@ formula-fault-one :
     → IsFormulaFault file b first progress c f p → IsFormulaFault file b first progress d g q → Same c f p d g q
 formula-fault-one file true first progress c d f g p q h k = (h.0 ∙ sym k.0, h.1 ∙ sym k.1, h.2 ∙ sym k.2)
 formula-fault-one file false first progress c d f g p q h k =
-    let same = one_fault 500 file.bytes (lexed_of file.bytes) first c d p q h.1 k.1 in (same.0, h.0 ∙ sym k.0, same.1)
+    let same = one_fault MOST_NESTING file.bytes (lexed_of file.bytes) first c d p q h.1 k.1 in (same.0, h.0 ∙ sym k.0, same.1)
 
 -- a missing name keeps the include from being a step
 missing-none :
@@ -249,7 +251,7 @@ formula-none :
     (file : LoadedFile) (b : Bool) (first : ℕ) (progress : Progress) (s : Step) (c : ReadCause) (f : List ℕ) (p : ℕ)
     → b ≡ false → IsFormulaStep file first progress s → IsFormulaFault file b first progress c f p → ⊥
 formula-none file true first progress s c f p e h k = absurd (cc)
-formula-none file false first progress s c f p e h k = read_or_fault 500 file.bytes (lexed_of file.bytes) first h.read c p h.reading k.1
+formula-none file false first progress s c f p e h k = read_or_fault MOST_NESTING file.bytes (lexed_of file.bytes) first h.read c p h.reading k.1
 
 entry-none :
     (told : Option Holdings) (depth : ℕ) (base : List ℕ) (faults : Faults) (file : LoadedFile) (b : Bool) (first : ℕ) (progress : Progress) (s : Step) (c : ReadCause) (f : List ℕ) (p : ℕ)
@@ -516,16 +518,16 @@ outcome-one holds base (suc depth) =
 pub problem-one :
     (holds : Holdings) (file : List ℕ) (root : Option (List ℕ)) (f g : List Placed) → IsProblem (Some holds) file root f → IsProblem (Some holds) file root g → f ≡ g
 problem-one holds file root f g h k =
-    ((outcome-one holds (base_of root file) 17).read.same file [] (record { loaded = 0; met = false }) f g h.0 k.0 h.1 k.1).0
+    ((outcome-one holds (base_of root file) (suc MOST_INCLUDES)).read.same file [] (record { loaded = 0; met = false }) f g h.0 k.0 h.1 k.1).0
 
 pub problem-or-fault :
     (holds : Holdings) (file : List ℕ) (root : Option (List ℕ)) (found : ℕ) (fs : List Placed) (c : ReadCause) (f : List ℕ) (p : ℕ) → (c ≡ Load → ⊥)
     → IsProblem (Some holds) file root fs → IsProblemFault (Some holds) found file root c f p → ⊥
 problem-or-fault holds file root found fs c f p l h k =
-    ((outcome-one holds (base_of root file) 17).none found).none file [] (record { loaded = 0; met = false }) fs h.0 c f p l h.1 k
+    ((outcome-one holds (base_of root file) (suc MOST_INCLUDES)).none found).none file [] (record { loaded = 0; met = false }) fs h.0 c f p l h.1 k
 
 pub problem-fault-one :
     (holds : Holdings) (file : List ℕ) (root : Option (List ℕ)) (found other : ℕ) (c d : ReadCause) (f g : List ℕ) (p q : ℕ) → (c ≡ Load → ⊥) → (d ≡ Load → ⊥)
     → IsProblemFault (Some holds) found file root c f p → IsProblemFault (Some holds) other file root d g q → (c ≡ d) × (f ≡ g) × (p ≡ q)
 problem-fault-one holds file root found other c d f g p q l m h k =
-    ((outcome-one holds (base_of root file) 17).fault found other).same file [] (record { loaded = 0; met = false }) c d f g p q l m h k
+    ((outcome-one holds (base_of root file) (suc MOST_INCLUDES)).fault found other).same file [] (record { loaded = 0; met = false }) c d f g p q l m h k

@@ -1,25 +1,13 @@
 -- The grammar of includes as a machine that takes token after token: what may come next.
 use Rattle.std.specs.Prelude.{◌≡◌, ◌≤◌, ◌++◌, ℕ, suc, ◌+◌, Option, None, Some, Bool, true, false, List, [], ◌∷◌, codes, drop, length, if◌then◌else◌}
 use Rattle.tptp_token.specs.Lexemes.{Lexeme, lexeme, is_lexeme, is_mark}
-use Rattle.tptp_token.specs.declared.token.Kind.{Kind}
-use Rattle.tptp_token.specs.declared.token.Kind.TheVariants.{Lower, Variable, Quoted, Distinct, Dollar, Number, Connective, Mark, Other}
+use Rattle.tptp_token.specs.declared.token.Kind.TheVariants.{Lower}
 use Rattle.tptp_tree.specs.Entries.{NamePhrase, name_lexeme, more_names_lexemes, include_end, names_meant}
-use Rattle.tptp_token.specs.Words.{is_name}
+use Rattle.tptp_token.specs.Words.{is_word, is_name}
 use Rattle.tptp_problem.specs.declared.include.Awaited.{Awaited}
 use Rattle.tptp_problem.specs.declared.include.Awaited.TheVariants.{Keyword, Open, File, AfterFile, OpenList, Name, AfterName, Close, Stop, Nothing}
 use Rattle.tptp_problem.specs.declared.include.Ending.{Ending}
 use Rattle.tptp_problem.specs.declared.include.Ending.TheVariants.{Whole, Stopped, Cut}
-
-abbrev pub is_word : Kind → Bool
-is_word Lower = true
-is_word Quoted = true
-is_word Number = false
-is_word Variable = false
-is_word Distinct = false
-is_word Dollar = false
-is_word Connective = false
-is_word Mark = false
-is_word Other = false
 
 abbrev pub when : Bool → Awaited → Option Awaited → Option Awaited
 when test next otherwise = if test then Some next else otherwise

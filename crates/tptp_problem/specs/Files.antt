@@ -1,6 +1,8 @@
 -- Which files are loaded for a problem, and how many bytes they may have.
 use Rattle.std.specs.Prelude.{◌≤◌, ℕ, ◌-◌, ◌==◌, Bool, false, not, min, List, [], ◌∷◌, ◌++◌, length, take, Option, None, Some, codes, if◌then◌else◌}
 use Rattle.std.specs.List.{suffix_len}
+use Rattle.tptp_token.specs.declared.TheConstants.{MOST_TEXT_BYTES}
+use Rattle.tptp_problem.specs.declared.TheConstants.{MOST_PROBLEM_BYTES}
 use Rattle.outside.specs.Library.{Holdings, HoldsExactly}
 
 -- what stands up to and with the last `/`
@@ -22,7 +24,7 @@ loaded_name base word = if is_absolute word then word else base ++ word
 
 -- how many bytes the next file may have, where so many were loaded before it
 abbrev pub room_after : ℕ → ℕ
-room_after loaded = min 67108864 (268435456 - loaded)
+room_after loaded = min MOST_TEXT_BYTES (MOST_PROBLEM_BYTES - loaded)
 
 -- A load of the name may give these bytes.
 pub record MayGive (told : Option Holdings) (name : List ℕ) (loaded : ℕ) (bytes : List ℕ) : Type 0 where

@@ -1,15 +1,13 @@
 -- The formulas of a problem, the selections around them, and the conjectures that count.
 use Rattle.std.specs.Prelude.{ℕ, ◌+◌, ◌==◌, Bool, true, false, ◌&&◌, ◌||◌, List, [], ◌∷◌, length, codes, bytes_eq, Option, None, Some, if◌then◌else◌}
 use Rattle.std.specs.List.{list_any, list_all, filter}
-use Rattle.tptp_token.specs.Spelling.{is_one_of, is_digit}
+use Rattle.tptp_token.specs.Spelling.{is_one_of}
+use Rattle.tptp_token.specs.Words.{is_name, token_name}
 use Rattle.tptp_token.specs.Lexemes.{Lexeme, is_lexeme, is_mark}
-use Rattle.tptp_token.specs.declared.token.Kind.{Kind}
-use Rattle.tptp_token.specs.declared.token.Kind.TheVariants.{Lower, Variable, Quoted, Distinct, Dollar, Number, Connective, Mark, Other}
+use Rattle.tptp_token.specs.declared.token.Kind.TheVariants.{Lower}
 use Rattle.tptp_tree.specs.declared.problem.Annotated.{Annotated}
-use Rattle.tptp_tree.specs.declared.role.Role.{Role}
-use Rattle.tptp_tree.specs.declared.role.Role.TheVariants.{Axiom, Hypothesis, Definition, Assumption, Lemma, Theorem, Corollary, NegatedConjecture, Plain, Conjecture}
-use Rattle.tptp_token.specs.Words.{quoted, name_of}
-use Rattle.tptp_tree.specs.Entries.{AnnotatedTree}
+use Rattle.tptp_tree.specs.declared.role.Role.TheVariants.{Conjecture}
+use Rattle.tptp_tree.specs.Entries.{AnnotatedTree, language_word, role_word}
 use Rattle.tptp_reader.specs.Shape.{tree_of}
 
 -- a formula, the name of its file and its place in it
@@ -48,45 +46,9 @@ missing names formulas = missing_from 0 names formulas
 
 -- ---- conjectures
 
-abbrev pub is_conjecture : Role → Bool
-is_conjecture Axiom = false
-is_conjecture Hypothesis = false
-is_conjecture Definition = false
-is_conjecture Assumption = false
-is_conjecture Lemma = false
-is_conjecture Theorem = false
-is_conjecture Corollary = false
-is_conjecture NegatedConjecture = false
-is_conjecture Plain = false
-is_conjecture Conjecture = true
-
 -- A conjecture counts where each selection around it selects its name.
 abbrev pub counts : List (List (List ℕ)) → List ℕ → Bool
 counts around name = list_all (λ names. selects names name) around
-
--- a formula's name is a word, or a number of digits alone
-abbrev pub is_name : Kind → List ℕ → Bool
-is_name Lower bytes = true
-is_name Quoted bytes = true
-is_name Number bytes = list_all is_digit bytes
-is_name Variable bytes = false
-is_name Distinct bytes = false
-is_name Dollar bytes = false
-is_name Connective bytes = false
-is_name Mark bytes = false
-is_name Other bytes = false
-
--- the name that such a token is
-abbrev pub token_name : Kind → List ℕ → List ℕ
-token_name Quoted bytes = name_of (quoted bytes)
-token_name Lower bytes = bytes
-token_name Number bytes = bytes
-token_name Variable bytes = bytes
-token_name Distinct bytes = bytes
-token_name Dollar bytes = bytes
-token_name Connective bytes = bytes
-token_name Mark bytes = bytes
-token_name Other bytes = bytes
 
 -- the name of the conjecture that the tokens begin: `fof ( NAME , conjecture`
 abbrev pub conjecture_begun : List Lexeme → Option (List ℕ)
@@ -96,7 +58,7 @@ conjecture_begun (a ∷ b ∷ []) = None
 conjecture_begun (a ∷ b ∷ c ∷ []) = None
 conjecture_begun (a ∷ b ∷ c ∷ d ∷ []) = None
 conjecture_begun (a ∷ b ∷ c ∷ d ∷ e ∷ tokens) =
-    if is_lexeme Lower (codes "fof") a && is_mark (codes "(") b && is_name c.kind c.bytes && is_mark (codes ",") d && is_lexeme Lower (codes "conjecture") e
+    if is_lexeme Lower (language_word false) a && is_mark (codes "(") b && is_name c.kind c.bytes && is_mark (codes ",") d && is_lexeme Lower (role_word Conjecture) e
     then Some (token_name c.kind c.bytes)
     else None
 

@@ -1,14 +1,16 @@
 -- The problem of a library: the formulas of a file after its includes and selections, in reading order, or the first fault.
 -- A file is read entry by entry; an include's file is loaded and read where the include stands.
 use Rattle.std.specs.Prelude.{◌≡◌, ◌≤◌, ◌<◌, ◌⊎◌, ⊤, ℕ, zero, suc, ◌+◌, ◌*◌, Bool, true, false, ◌&&◌, ◌||◌, List, [], ◌∷◌, ◌++◌, length, drop, Option, None, Some, slice_get}
+use Rattle.tptp_tree.specs.declared.TheConstants.{MOST_NESTING}
+use Rattle.tptp_problem.specs.declared.TheConstants.{MOST_INCLUDES}
 use Rattle.outside.specs.Library.{Holdings, FoundMore}
-use Rattle.tptp_token.specs.Lexemes.{Lexeme}
+use Rattle.tptp_token.specs.Lexemes.{Lexeme, lexemes_of}
 use Rattle.tptp_token.specs.Lexing.{lexed_of}
 use Rattle.tptp_token.specs.declared.token.Token.{Token}
 use Rattle.tptp_token.specs.declared.token.LexFault.{LexFault}
 use Rattle.tptp_token.specs.Words.{Word, name_of}
 use Rattle.tptp_tree.specs.Entries.{NamePhrase, names_meant, is_conjecture}
-use Rattle.tptp_reader.specs.Annotating.{lexemes_of, IsReading, IsFaultAt}
+use Rattle.tptp_reader.specs.Annotating.{IsReading, IsFaultAt}
 use Rattle.tptp_reader.specs.TellingEntries.{IsEndFault}
 use Rattle.tptp_reader.specs.declared.cause.ReadCause.{ReadCause}
 use Rattle.tptp_reader.specs.declared.cause.ReadCause.TheVariants.{Syntax, SecondConjecture, SelectionMissing, IncludeDepth, TooLong, Load}
@@ -66,7 +68,7 @@ is_second source first progress = progress.met && begun_counts source.around (co
 pub record IsFormulaStep (source : LoadedFile) (first : ℕ) (progress : Progress) (step : Step) : Type 0 where
   pub single : is_second source first progress ≡ false
   pub read : Read
-  pub reading : IsReading 500 source.bytes (tokens_of source) first read
+  pub reading : IsReading MOST_NESTING source.bytes (tokens_of source) first read
   pub formulas_are : step.formulas ≡ placed_in source.name read.annotated ∷ []
   pub progress_is : step.progress ≡ with_formula source.around (placed_in source.name read.annotated) progress
   pub next_is : step.next ≡ read.next
@@ -141,10 +143,10 @@ abbrev pub ReadsNamed : Option Holdings → List ℕ → ℕ → Reads
 ReadsNamed told base zero = λ name around start formulas progress. ⊥
 ReadsNamed told base (suc depth) = Loads told base (ReadsNamed told base depth)
 
--- The formulas of a file are the problem's: 16 includes may be nested.
+-- The formulas of a file are the problem's.
 abbrev pub IsProblem : Option Holdings → List ℕ → Option (List ℕ) → List Placed → Type 0
 IsProblem told file root formulas =
-    (progress : Progress) × ReadsNamed told (base_of root file) 17 file [] (record { loaded = 0; met = false }) formulas progress
+    (progress : Progress) × ReadsNamed told (base_of root file) (suc MOST_INCLUDES) file [] (record { loaded = 0; met = false }) formulas progress
 
 -- ---- faults: a cause, the name of a file and a place in it
 
@@ -160,7 +162,7 @@ abbrev pub IsFormulaFault : LoadedFile → Bool → EntryFaults
 IsFormulaFault source true first progress cause file place =
     (cause ≡ SecondConjecture) × (file ≡ source.name) × (place ≡ place_of source (first + 4))
 IsFormulaFault source false first progress cause file place =
-    (file ≡ source.name) × IsFaultAt 500 source.bytes (lexed_of source.bytes) first cause place
+    (file ≡ source.name) × IsFaultAt MOST_NESTING source.bytes (lexed_of source.bytes) first cause place
 
 -- at the first token with which no include goes on, or at the end of the tokens
 abbrev pub IsIncludeSyntaxFault : LoadedFile → ℕ → ReadCause → List ℕ → ℕ → Type 0
@@ -250,4 +252,4 @@ FaultsNamed told base found (suc depth) =
 -- the first fault of a file
 abbrev pub IsProblemFault : Option Holdings → ℕ → List ℕ → Option (List ℕ) → ReadCause → List ℕ → ℕ → Type 0
 IsProblemFault told found file root cause name place =
-    FaultsNamed told (base_of root file) found 17 file [] (record { loaded = 0; met = false }) cause name place
+    FaultsNamed told (base_of root file) found (suc MOST_INCLUDES) file [] (record { loaded = 0; met = false }) cause name place

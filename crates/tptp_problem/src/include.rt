@@ -1,18 +1,19 @@
 // Includes, read from their tokens.
 
 ghost use Rattle.std.specs.Prelude.{◌≡◌, ◌<◌, ◌+◌, ◌^◌, IfOk, IfErr, drop};
+ghost use Rattle.tptp_reader.specs.Faults.{IsFaultWhere};
 ghost use Rattle.tptp_problem.specs.Awaiting.{after as after_token, is_nothing as nothing_is, ending_from};
 ghost use Rattle.tptp_problem.specs.Problem.{IsIncludeSyntaxFault};
 ghost use Rattle.tptp_token.specs.TextTokens.{lexeme_of};
-ghost use Rattle.tptp_problem.specs.Shape.{IsHaltBy, IsLexed, lexemes_told, file_of};
+ghost use Rattle.tptp_problem.specs.Shape.{IsLexed, lexemes_told, file_of};
 ghost use Rattle.tptp_problem.specs.IncludeReads.{IsIncludeRead, ReadsNames, IsNameAt, FitsEnding};
 ghost use Rattle.tptp_problem.specs.declared.include.Awaited.TheVariants.{Keyword as keyword};
 
-use crate::halt::Halt;
-use crate::source::{Source, TextToken};
+use crate::source::Source;
 use plain_types::{Mem, Text, Texts};
 use std::alloc::Global;
-use tptp_reader::ReadCause;
+use tptp_reader::{ReadCause, ReadFault};
+use tptp_token::{Kind, TextToken};
 
 /// An include: the word for its file, the names of the formulas that it takes, or none where it takes all, and the token
 /// behind it.
@@ -44,7 +45,7 @@ impl Awaited {
         ensures { result ≡ after_token self (lexeme_of token.entry) }
     {
         match self {
-            Awaited::Keyword if token.is_lower(b"include") => Some(Awaited::Open),
+            Awaited::Keyword if token.is_exactly(Kind::Lower, b"include") => Some(Awaited::Open),
             Awaited::Open if token.is_mark(b"(") => Some(Awaited::File),
             Awaited::File if token.is_word() => Some(Awaited::AfterFile),
             Awaited::AfterFile if token.is_mark(b")") => Some(Awaited::Stop),
@@ -78,11 +79,11 @@ enum Ending {
 
 /// The include that begins at a token. It is `Syntax` at the first token with which no include goes on; where the tokens end
 /// too early, the fault is that of the tokens, or else `Syntax` at the end of the text.
-pub fn include_at(alloc: Global, source: Source<'_>, first: usize) -> Result<Include, Halt>
+pub fn include_at(alloc: Global, source: Source<'_>, first: usize) -> Result<Include, ReadFault>
     requires lexed { IsLexed source }
     ensures read { IfOk result (IsIncludeRead source.entry first) }
     ensures fits { IfOk result (λ include. include.next < 2 ^ 64) }
-    ensures halted { IfErr result (IsHaltBy (IsIncludeSyntaxFault (file_of source.entry) first)) }
+    ensures fault { IfErr result (IsFaultWhere (IsIncludeSyntaxFault (file_of source.entry) first)) }
 {
     match ending_of(source, first) {
         Ending::Stopped(index) => Err(source.fault(alloc, ReadCause::Syntax, index)),

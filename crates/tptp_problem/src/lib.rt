@@ -1,9 +1,9 @@
 // Whole problems of TPTP's first-order language (Sutcliffe 2017), with includes and selections.
 #![tactic(auto)]
 
-mod halt;
 mod include;
 pub mod laws;
+mod limits;
 mod name;
 mod problem;
 mod reading;
@@ -12,4 +12,5 @@ mod source;
 #[cfg(test)]
 mod tests;
 
+pub use limits::{MOST_INCLUDES, MOST_PROBLEM_BYTES};
 pub use problem::read_problem;

@@ -3,13 +3,14 @@
 ghost use Rattle.std.specs.Prelude.{◌≡◌, ◌≢◌, ◌<◌, ◌≤◌, suc, length, map, IfOk, IfErr};
 ghost use Rattle.std.specs.Option.{option_copied};
 ghost use Rattle.tptp_reader.specs.declared.cause.ReadCause.TheVariants.{Load};
+ghost use Rattle.tptp_reader.specs.Faults.{IsFaultWhere};
 ghost use Rattle.tptp_problem.specs.Files.{MayGive};
 ghost use Rattle.tptp_problem.specs.Formulas.{placed};
 ghost use Rattle.tptp_problem.specs.Problem.{IsProblem, IsProblemFault, ReadsNamed, FaultsNamed, ReadsText, FaultsText, Adds, IsIncludeStep, IsFormulaStep, IsIncludeFault, IsFormulaFault, IsLoadFault, is_second, with_file};
-ghost use Rattle.tptp_problem.specs.Shape.{IsHaltBy, IsFaultBy, IsLoadTold, IsLexed, file_of, selections, progress_of};
+ghost use Rattle.tptp_problem.specs.Shape.{IsLoadTold, IsLexed, file_of, selections, progress_of};
 
-use crate::halt::Halt;
 use crate::include::include_at;
+use crate::limits::{MOST_INCLUDES, MOST_PROBLEM_BYTES};
 use crate::name::{base_of, loaded_name};
 use crate::reading::Reading;
 use crate::selection::Selection;
@@ -18,20 +19,8 @@ use outside::{Library, LoadFault};
 use plain_types::Text;
 use std::alloc::Global;
 use tptp_reader::{ReadCause, ReadFault, annotated};
-use tptp_token::tokens;
-use tptp_tree::{Annotated, AnnotatedList, Problem};
-
-/// How many bytes a file may have.
-const MOST_FILE_BYTES: usize = 67_108_864;
-
-/// How many bytes all files may have together.
-const MOST_BYTES: usize = 268_435_456;
-
-/// How deep includes may be nested.
-const DEEPEST_INCLUDE: u32 = 16;
-
-/// How deep the levels of a formula may be nested.
-const MOST_NESTING: u32 = 500;
+use tptp_token::{MOST_TEXT_BYTES, tokens};
+use tptp_tree::{Annotated, AnnotatedList, MOST_NESTING, Problem};
 
 /// Reads the problem of a file: its formulas after includes and selections, in reading order.
 pub fn read_problem<L: Library>(
@@ -42,30 +31,9 @@ pub fn read_problem<L: Library>(
 ) -> Result<Problem, ReadFault>
     ensures read { IfOk result (λ problem.
         IsProblem (L.told library.old) file.now (option_copied root.entry) (map placed problem.formulas)) }
-    ensures fault { IfErr result (IsFaultBy
+    ensures fault { IfErr result (IsFaultWhere
         (IsProblemFault (L.told library.old) (L.found library.new) file.now (option_copied root.entry))) }
-    ensures load { IfErr result (IsFaultBy
-        (IsLoadTold (L.faults library.old) (L.faults library.new) (L.failed library.new))) }
-    ensures told { L.told library.new ≡ L.told library.old }
-    ensures later { L.faults library.old ≤ L.faults library.new }
-{
-    match problem(alloc, library, file, root) {
-        Ok(problem) => Ok(problem),
-        Err(halt) => Err(halt.into_fault()),
-    }
-}
-
-fn problem<L: Library>(
-    alloc: Global,
-    library: &mut L,
-    file: &str,
-    root: Option<&str>,
-) -> Result<Problem, Halt>
-    ensures read { IfOk result (λ problem.
-        IsProblem (L.told library.old) file.now (option_copied root.entry) (map placed problem.formulas)) }
-    ensures fault { IfErr result (IsHaltBy
-        (IsProblemFault (L.told library.old) (L.found library.new) file.now (option_copied root.entry))) }
-    ensures load { IfErr result (IsHaltBy
+    ensures load { IfErr result (IsFaultWhere
         (IsLoadTold (L.faults library.old) (L.faults library.new) (L.failed library.new))) }
     ensures told { L.told library.new ≡ L.told library.old }
     ensures later { L.faults library.old ≤ L.faults library.new }
@@ -76,7 +44,7 @@ fn problem<L: Library>(
         loaded: 0,
         met: false,
     };
-    let formulas = reading.file(alloc, library, file, &[], DEEPEST_INCLUDE)?;
+    let formulas = reading.file(alloc, library, file, &[], MOST_INCLUDES)?;
     Ok(Problem {
         formulas: AnnotatedList::from_vec(formulas),
     })
@@ -92,12 +60,12 @@ impl Reading<'_> {
         name: &str,
         around: &[Selection<'_>],
         depth: u32,
-    ) -> Result<Vec<Annotated>, Halt>
+    ) -> Result<Vec<Annotated>, ReadFault>
         ensures read { IfOk result (λ formulas. ReadsNamed (L.told library.old) self.old.base.now (suc depth)
             name.now (selections around.now) (progress_of self.old) (map placed formulas.items) (progress_of self.new)) }
-        ensures fault { IfErr result (IsHaltBy (FaultsNamed (L.told library.old) self.old.base.now (L.found library.new)
+        ensures fault { IfErr result (IsFaultWhere (FaultsNamed (L.told library.old) self.old.base.now (L.found library.new)
             (suc depth) name.now (selections around.now) (progress_of self.old))) }
-        ensures load { IfErr result (IsHaltBy
+        ensures load { IfErr result (IsFaultWhere
             (IsLoadTold (L.faults library.old) (L.faults library.new) (L.failed library.new))) }
         ensures told { L.told library.new ≡ L.told library.old }
         ensures later { L.faults library.old ≤ L.faults library.new }
@@ -122,15 +90,15 @@ impl Reading<'_> {
         library: &mut L,
         source: Source<'_>,
         depth: u32,
-    ) -> Result<Vec<Annotated>, Halt>
+    ) -> Result<Vec<Annotated>, ReadFault>
         requires lexed { IsLexed source }
         ensures read { IfOk result (λ formulas. ReadsText self.old.base.now (ReadsNamed (L.told library.old) self.old.base.now depth)
             (file_of source.entry) (progress_of self.old) (map placed formulas.items) (progress_of self.new)) }
-        ensures fault { IfErr result (IsHaltBy (FaultsText depth self.old.base.now
+        ensures fault { IfErr result (IsFaultWhere (FaultsText depth self.old.base.now
             (ReadsNamed (L.told library.old) self.old.base.now depth)
             (FaultsNamed (L.told library.old) self.old.base.now (L.found library.new) depth)
             (file_of source.entry) (progress_of self.old))) }
-        ensures load { IfErr result (IsHaltBy
+        ensures load { IfErr result (IsFaultWhere
             (IsLoadTold (L.faults library.old) (L.faults library.new) (L.failed library.new))) }
         ensures told { L.told library.new ≡ L.told library.old }
         ensures later { L.faults library.old ≤ L.faults library.new }
@@ -161,17 +129,17 @@ impl Reading<'_> {
         first: usize,
         depth: u32,
         formulas: &mut Vec<Annotated>,
-    ) -> Result<usize, Halt>
+    ) -> Result<usize, ReadFault>
         requires lexed { IsLexed source }
         ensures read { IfOk result (Adds (IsIncludeStep self.old.base.now
             (ReadsNamed (L.told library.old) self.old.base.now depth) (file_of source.entry) first (progress_of self.old))
             (map placed formulas.old.items) (map placed formulas.new.items) (progress_of self.new)) }
         ensures onward { IfOk result (λ next. first < next) }
-        ensures fault { IfErr result (IsHaltBy (IsIncludeFault depth self.old.base.now
+        ensures fault { IfErr result (IsFaultWhere (IsIncludeFault depth self.old.base.now
             (ReadsNamed (L.told library.old) self.old.base.now depth)
             (FaultsNamed (L.told library.old) self.old.base.now (L.found library.new) depth)
             (file_of source.entry) first (progress_of self.old))) }
-        ensures load { IfErr result (IsHaltBy
+        ensures load { IfErr result (IsFaultWhere
             (IsLoadTold (L.faults library.old) (L.faults library.new) (L.failed library.new))) }
         ensures told { L.told library.new ≡ L.told library.old }
         ensures later { L.faults library.old ≤ L.faults library.new }
@@ -205,23 +173,23 @@ impl Reading<'_> {
         source: Source<'_>,
         first: usize,
         formulas: &mut Vec<Annotated>,
-    ) -> Result<usize, Halt>
+    ) -> Result<usize, ReadFault>
         requires lexed { IsLexed source }
         requires first { first < length source.lexed.now.tokens }
         ensures read { IfOk result (Adds (IsFormulaStep (file_of source.entry) first (progress_of self.old))
             (map placed formulas.old.items) (map placed formulas.new.items) (progress_of self.new)) }
         ensures onward { IfOk result (λ next. first < next) }
-        ensures fault { IfErr result (IsHaltBy (IsFormulaFault (file_of source.entry)
+        ensures fault { IfErr result (IsFaultWhere (IsFormulaFault (file_of source.entry)
             (is_second (file_of source.entry) first (progress_of self.old)) first (progress_of self.old))) }
-        ensures no_load { IfErr result (IsHaltBy (λ c f p. c ≢ Load)) }
+        ensures no_load { IfErr result (IsFaultWhere (λ c f p. c ≢ Load)) }
         ensures base { self.new.base ≡ self.old.base }
     {
         if self.met && source.begins_conjecture(alloc, first)? {
             return Err(source.fault(alloc, ReadCause::SecondConjecture, first + 4));
         }
         match annotated(alloc, source.bytes, source.lexed, first, MOST_NESTING) {
-            Err(ReadFault::NoMemory) => Err(Halt::NoMemory),
-            Err(ReadFault::At(cause, _, place)) => Err(Halt::at(alloc, cause, source.name, place)),
+            Err(ReadFault::NoMemory) => Err(ReadFault::NoMemory),
+            Err(ReadFault::At(cause, _, place)) => Err(ReadFault::at(alloc, cause, source.name, place)),
             Ok(read) => {
                 let next = read.next;
                 let mut formula = read.annotated;
@@ -241,27 +209,27 @@ impl Reading<'_> {
         alloc: Global,
         library: &mut L,
         name: &str,
-    ) -> Result<Vec<u8>, Halt>
+    ) -> Result<Vec<u8>, ReadFault>
         ensures given { IfOk result (λ bytes. MayGive (L.told library.old) name.now self.old.loaded bytes.items) }
-        ensures small { IfOk result (λ bytes. length bytes.items ≤ 67108864) }
+        ensures small { IfOk result (λ bytes. length bytes.items ≤ MOST_TEXT_BYTES) }
         ensures progress { IfOk result (λ bytes. progress_of self.new ≡ with_file bytes.items (progress_of self.old)) }
-        ensures fault { IfErr result (IsHaltBy
+        ensures fault { IfErr result (IsFaultWhere
             (IsLoadFault (L.told library.old) (L.found library.new) name.now (progress_of self.old))) }
-        ensures load { IfErr result (IsHaltBy
+        ensures load { IfErr result (IsFaultWhere
             (IsLoadTold (L.faults library.old) (L.faults library.new) (L.failed library.new))) }
         ensures told { L.told library.new ≡ L.told library.old }
         ensures later { L.faults library.old ≤ L.faults library.new }
         ensures base { self.new.base ≡ self.old.base }
     {
-        let room = MOST_FILE_BYTES.min(MOST_BYTES - self.loaded);
+        let room = MOST_TEXT_BYTES.min(MOST_PROBLEM_BYTES - self.loaded);
         match library.load(alloc, name, room) {
             Ok(bytes) => {
                 self.loaded += bytes.len();
                 Ok(bytes)
             }
-            Err(LoadFault::TooLong) => Err(Halt::at(alloc, ReadCause::TooLong, name, 0)),
-            Err(LoadFault::Failed) => Err(Halt::at(alloc, ReadCause::Load, name, 0)),
-            Err(LoadFault::NoMemory) => Err(Halt::NoMemory),
+            Err(LoadFault::TooLong) => Err(ReadFault::at(alloc, ReadCause::TooLong, name, 0)),
+            Err(LoadFault::Failed) => Err(ReadFault::at(alloc, ReadCause::Load, name, 0)),
+            Err(LoadFault::NoMemory) => Err(ReadFault::NoMemory),
         }
     }
 }

@@ -1,6 +1,7 @@
 // How far the reading of a problem has come.
 
 ghost use Rattle.std.specs.Prelude.{◌≤◌};
+ghost use Rattle.tptp_problem.specs.declared.TheConstants.{MOST_PROBLEM_BYTES};
 
 /// How far the reading of a problem has come.
 #[derive(Drop)]
@@ -11,5 +12,5 @@ pub struct Reading<'a> {
     pub loaded: usize,
     /// Whether a conjecture was met that no selection leaves out.
     pub met: bool,
-    ghost in_limit: { loaded ≤ 268435456 },
+    ghost in_limit: { loaded ≤ MOST_PROBLEM_BYTES },
 }

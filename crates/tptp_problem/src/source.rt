@@ -1,117 +1,22 @@
 // The text of a file, by its tokens.
 
-ghost use Rattle.std.specs.Prelude.{◌≡◌, ◌+◌, ◌-◌, ◌<◌, ◌≤◌, ◌^◌, ◌&&◌, false, [], ◌∷◌, codes, length, drop, take, true, IfOk, IsSome, MatchOption, slice_get, option_map, Some};
-ghost use Rattle.tptp_token.specs.Lexemes.{is_lexeme, is_mark as mark_is};
-ghost use Rattle.tptp_token.specs.Words.{unescaped, is_name as name_is, token_name, is_word as word_is};
-ghost use Rattle.tptp_token.specs.declared.token.Kind.TheVariants.{Lower, Quoted};
-ghost use Rattle.tptp_reader.specs.TellingEntries.{IsEndFault};
+ghost use Rattle.std.specs.Prelude.{◌≡◌, ◌+◌, ◌<◌, ◌≤◌, ◌^◌, ◌&&◌, [], ◌∷◌, length, drop, true, IfOk, IsSome, MatchOption, slice_get, option_map, Some};
+ghost use Rattle.tptp_token.specs.Words.{token_name};
+ghost use Rattle.tptp_token.specs.TextTokens.{lexeme_of};
 ghost use Rattle.tptp_tree.specs.Entries.{is_conjecture as conjecture_is};
+ghost use Rattle.tptp_reader.specs.Faults.{IsFaultWhere};
+ghost use Rattle.tptp_reader.specs.TellingEntries.{IsEndFault};
 ghost use Rattle.tptp_problem.specs.Formulas.{counts as counts_within, conjecture_begun, begun_counts};
 ghost use Rattle.tptp_problem.specs.Includes.{is_include as include_is};
 ghost use Rattle.tptp_problem.specs.Problem.{start_of};
-ghost use Rattle.tptp_token.specs.TextTokens.{lexeme_of};
-ghost use Rattle.tptp_problem.specs.Shape.{IsHaltBy, lexemes_told, selections};
+ghost use Rattle.tptp_problem.specs.Shape.{lexemes_told, selections};
 
-use crate::halt::Halt;
 use crate::selection::Selection;
-use plain_types::{Mem, Text};
+use plain_types::Mem;
 use std::alloc::Global;
-use tptp_reader::ReadCause;
-use tptp_token::{Kind, LexFault, Lexed, Token, are_digits};
+use tptp_reader::{ReadCause, ReadFault};
+use tptp_token::{Kind, LexFault, Lexed, MOST_TEXT_BYTES, TextToken};
 use tptp_tree::{Annotated, Role};
-
-/// A token by its kind and its bytes.
-#[derive(Clone, Copy)]
-pub struct TextToken<'a> {
-    pub kind: Kind,
-    pub bytes: &'a [u8],
-}
-
-impl TextToken<'_> {
-    /// Whether it is this bracket, comma or full stop.
-    pub fn is_mark(&self, bytes: &[u8]) -> bool
-        ensures { result ≡ mark_is bytes.now (lexeme_of self.now) }
-    {
-        match self.kind {
-            Kind::Mark => bytes == self.bytes,
-            _ => false,
-        }
-    }
-
-    /// Whether it is this lower word.
-    pub fn is_lower(&self, bytes: &[u8]) -> bool
-        ensures { result ≡ is_lexeme Lower bytes.now (lexeme_of self.now) }
-    {
-        match self.kind {
-            Kind::Lower => bytes == self.bytes,
-            _ => false,
-        }
-    }
-
-    /// Whether it is a lower word or a quoted word.
-    pub fn is_word(&self) -> bool
-        ensures { result ≡ word_is self.now.kind }
-    {
-        matches!(self.kind, Kind::Lower | Kind::Quoted)
-    }
-
-    /// Whether it may be a formula's name: a word, or a number of digits alone.
-    pub fn is_name(&self) -> bool
-        ensures { result ≡ name_is self.now.kind self.now.bytes.now }
-    {
-        match self.kind {
-            Kind::Number => are_digits(self.bytes),
-            _ => self.is_word(),
-        }
-    }
-
-    /// The name that it is: `abc` and `'abc'` are one name.
-    pub fn name(&self, alloc: Global) -> Mem<Text>
-        ensures { IfOk result (λ name. name ≡ token_name self.now.kind self.now.bytes.now) }
-    {
-        match self.kind {
-            Kind::Quoted => unquoted(alloc, self.bytes),
-            _ => Text::from_slice(alloc, self.bytes),
-        }
-    }
-}
-
-fn is_conjecture(role: Role) -> bool
-    ensures { result ≡ conjecture_is role }
-{
-    matches!(role, Role::Conjecture)
-}
-
-/// What stands between the quotes of a quoted word, with each escaping `\` left out.
-fn unquoted(alloc: Global, bytes: &[u8]) -> Mem<Text>
-    ensures { IfOk result (λ name. name ≡ unescaped false (drop 1 bytes.now)) }
-{
-    match bytes.split_first() {
-        None => Ok(Text::new(alloc)),
-        Some((_, inside)) => unescaped_text(alloc, inside),
-    }
-}
-
-/// What stands up to the closing quote, with each escaping `\` left out.
-fn unescaped_text(alloc: Global, inside: &[u8]) -> Mem<Text>
-    ensures { IfOk result (λ name. name ≡ unescaped false inside.now) }
-{
-    let mut name = Vec::new(alloc);
-    let mut escaped = false;
-    for byte in inside {
-        if escaped {
-            name.push(*byte)?;
-            escaped = false;
-        } else if *byte == 39 {
-            return Ok(Text::from_vec(name));
-        } else if *byte == 92 {
-            escaped = true;
-        } else {
-            name.push(*byte)?;
-        }
-    }
-    Ok(Text::from_vec(name))
-}
 
 /// A file that was loaded, by its name, bytes and tokens, with the selections around it, the outermost first.
 #[derive(Clone, Copy)]
@@ -130,24 +35,7 @@ impl<'a> Source<'a> {
         ensures within { IsSome result → at < length self.now.lexed.now.tokens }
         ensures fits { IsSome result → at + 1 < 2 ^ 64 }
     {
-        if at >= self.lexed.tokens.len() {
-            return None;
-        }
-        let token = self.lexed.tokens.as_slice()[at];
-        let bytes = self.bytes_of(token);
-        Some(TextToken {
-            kind: token.kind,
-            bytes,
-        })
-    }
-
-    /// The bytes of a token.
-    fn bytes_of(&self, token: Token) -> &'a [u8]
-        ensures { result.now ≡ take (token.end - token.start) (drop token.start self.now.bytes.now) }
-    {
-        let end = self.bytes.len().min(token.end as usize);
-        let start = end.min(token.start as usize);
-        &self.bytes[start..end]
+        TextToken::at(self.bytes, self.lexed.tokens.as_slice(), at)
     }
 
     /// Whether the entry that begins at a token is an include.
@@ -155,7 +43,7 @@ impl<'a> Source<'a> {
         ensures { result ≡ include_is (drop first (lexemes_told self.now)) }
     {
         match self.token(first) {
-            Some(token) => token.is_lower(b"include"),
+            Some(token) => token.is_exactly(Kind::Lower, b"include"),
             None => false,
         }
     }
@@ -191,7 +79,7 @@ impl<'a> Source<'a> {
     pub fn counts_as_conjecture(&self, formula: &Annotated) -> bool
         ensures { result ≡ (conjecture_is formula.now.role && counts_within (selections self.now.around.now) formula.now.name) }
     {
-        is_conjecture(formula.role) && self.counts(formula.name.as_slice())
+        formula.role.is_conjecture() && self.counts(formula.name.as_slice())
     }
 
     /// The name in `fof ( NAME , conjecture`, where these tokens begin at one.
@@ -204,42 +92,42 @@ impl<'a> Source<'a> {
         let name = self.token(first + 2)?;
         let comma = self.token(first + 3)?;
         let role = self.token(first + 4)?;
-        let heads = word.is_lower(b"fof")
+        let heads = word.is_exactly(Kind::Lower, b"fof")
             && open.is_mark(b"(")
             && name.is_name()
             && comma.is_mark(b",")
-            && role.is_lower(b"conjecture");
+            && role.is_exactly(Kind::Lower, Role::Conjecture.word());
         if heads { Some(name) } else { None }
     }
 
     /// A fault at a token.
-    pub fn fault(&self, alloc: Global, cause: ReadCause, at: usize) -> Halt
-        ensures { IsHaltBy
+    pub fn fault(&self, alloc: Global, cause: ReadCause, at: usize) -> ReadFault
+        ensures { IsFaultWhere
             (λ c f p. (c ≡ cause) × (f ≡ self.now.name.now) × (p ≡ start_of (slice_get self.now.lexed.now.tokens at))) result }
     {
-        Halt::at(alloc, cause, self.name, self.place_of(at))
+        ReadFault::at(alloc, cause, self.name, self.place_of(at))
     }
 
     /// The fault behind the last token: that of the tokens, or else the end of the text.
-    pub fn end_fault(&self, alloc: Global) -> Halt
-        requires { length self.now.bytes.now ≤ 67108864 }
-        ensures { IsHaltBy
+    pub fn end_fault(&self, alloc: Global) -> ReadFault
+        requires { length self.now.bytes.now ≤ MOST_TEXT_BYTES }
+        ensures { IsFaultWhere
             (λ c f p. (f ≡ self.now.name.now) × IsEndFault self.now.lexed.now.fault (length self.now.bytes.now) c p) result }
     {
         match self.lexed.fault {
             Some(fault) => self.lexical_fault(alloc, fault),
-            None => Halt::at(alloc, ReadCause::Syntax, self.name, self.bytes.len() as u32),
+            None => ReadFault::at(alloc, ReadCause::Syntax, self.name, self.bytes.len() as u32),
         }
     }
 
     /// The fault of the tokens.
-    pub fn lexical_fault(&self, alloc: Global, fault: LexFault) -> Halt
-        ensures { IsHaltBy
+    pub fn lexical_fault(&self, alloc: Global, fault: LexFault) -> ReadFault
+        ensures { IsFaultWhere
             (λ c f p. (f ≡ self.now.name.now) × IsEndFault (Some fault) (length self.now.bytes.now) c p) result }
     {
         match fault {
-            LexFault::BadByte(place) => Halt::at(alloc, ReadCause::BadByte, self.name, place),
-            LexFault::Unclosed(place) => Halt::at(alloc, ReadCause::Unclosed, self.name, place),
+            LexFault::BadByte(place) => ReadFault::at(alloc, ReadCause::BadByte, self.name, place),
+            LexFault::Unclosed(place) => ReadFault::at(alloc, ReadCause::Unclosed, self.name, place),
         }
     }
 

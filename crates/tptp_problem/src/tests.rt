@@ -5,7 +5,7 @@ use outside::{Files, MemFile, MemLibrary};
 use plain_types::{Mem, Numbers};
 use std::alloc::Global;
 use std::test::Fail;
-use tptp_reader::{Form, ReadCause, ReadFault};
+use tptp_reader::ReadFault;
 use tptp_tree::{AnnotatedList, Problem};
 
 /// A file's name and its bytes.
@@ -48,7 +48,7 @@ fn shown_formulas(alloc: Global, formulas: &AnnotatedList) -> Mem<Vec<u8>> {
         page.extend_from_slice(formula.name.as_slice())?;
         page.push(b'@')?;
         page.extend_from_slice(formula.file.as_slice())?;
-        push_place(&mut page, formula.place)?;
+        push_place(alloc, &mut page, formula.place)?;
     }
     Ok(page)
 }
@@ -56,44 +56,16 @@ fn shown_formulas(alloc: Global, formulas: &AnnotatedList) -> Mem<Vec<u8>> {
 fn shown_fault(alloc: Global, fault: &ReadFault) -> Mem<Vec<u8>> {
     let mut page = Vec::new(alloc);
     if let ReadFault::At(cause, file, place) = fault {
-        page.extend_from_slice(cause_name(*cause))?;
-        page.push(b'@')?;
+        page.extend_from_slice(format!(in alloc; "{cause:?}@")?.as_bytes())?;
         page.extend_from_slice(file.as_slice())?;
-        push_place(&mut page, *place)?;
+        push_place(alloc, &mut page, *place)?;
     }
     Ok(page)
 }
 
-/// What is shown of a cause.
-fn cause_name(cause: ReadCause) -> &'static [u8] {
-    match cause {
-        ReadCause::BadByte => b"BadByte".as_slice(),
-        ReadCause::Unclosed => b"Unclosed".as_slice(),
-        ReadCause::Syntax => b"Syntax".as_slice(),
-        ReadCause::FreeVariable => b"FreeVariable".as_slice(),
-        ReadCause::Role => b"Role".as_slice(),
-        ReadCause::SecondConjecture => b"SecondConjecture".as_slice(),
-        ReadCause::SelectionMissing => b"SelectionMissing".as_slice(),
-        ReadCause::IncludeDepth => b"IncludeDepth".as_slice(),
-        ReadCause::TooLong => b"TooLong".as_slice(),
-        ReadCause::Nesting => b"Nesting".as_slice(),
-        ReadCause::Load => b"Load".as_slice(),
-        ReadCause::Inappropriate(Form::Typed) => b"Typed".as_slice(),
-        ReadCause::Inappropriate(_) => b"Inappropriate".as_slice(),
-    }
-}
-
-/// A place below 1,000 between a `:` and a blank, in decimal digits.
-fn push_place(page: &mut Vec<u8>, place: u32) -> Mem<()> {
-    page.push(b':')?;
-    if place >= 100 {
-        page.push(b'0' + (place / 100 % 10) as u8)?;
-    }
-    if place >= 10 {
-        page.push(b'0' + (place / 10 % 10) as u8)?;
-    }
-    page.push(b'0' + (place % 10) as u8)?;
-    page.push(b' ')?;
+/// A place between a `:` and a blank.
+fn push_place(alloc: Global, page: &mut Vec<u8>, place: u32) -> Mem<()> {
+    page.extend_from_slice(format!(in alloc; ":{place} ")?.as_bytes())?;
     Ok(())
 }
 
@@ -134,7 +106,7 @@ fn reads_one_file(rt: HostRuntime) -> Result<(), Fail> {
         alone(b"fof(a,axiom,p).cnf('B',plain,q).", b"a@a.p:0 B@a.p:15 "),
         alone(b"fof(a,axiom,p & q | r).", b"Syntax@a.p:18 "),
         alone(b"fof(a,axiom,p(X)).", b"FreeVariable@a.p:14 "),
-        alone(b"tff(a,axiom,p).", b"Typed@a.p:0 "),
+        alone(b"tff(a,axiom,p).", b"Inappropriate(Typed)@a.p:0 "),
         alone(b"fof(a,axiom,p).\xff", b"BadByte@a.p:15 "),
         alone(b"fof(a,axiom,p). /*", b"Unclosed@a.p:16 "),
         alone(

@@ -2,14 +2,14 @@
 use Rattle.std.proofs.Common.{◌≡◌, inl, inr, ℕ, suc, List, [], ◌∷◌, length, drop, Option, Some, None, refl, ap, sym, ◌∙◌, subst, arith}
 use Rattle.std.specs.Prelude.{◌+◌, ◌<◌, ◌≤◌, IfSome, slice_get}
 use Rattle.std.proofs.lemmas.List.{length-map, length-drop}
-use Rattle.tptp_token.specs.Lexemes.{Lexeme, lexeme_at}
+use Rattle.tptp_token.specs.Lexemes.{Lexeme, lexeme_at, lexemes_of}
 use Rattle.tptp_token.specs.declared.token.Token.{Token}
 use Rattle.tptp_token.specs.declared.token.Lexed.{Lexed}
 use Rattle.tptp_token.specs.declared.token.LexFault.{LexFault}
 use Rattle.tptp_token.specs.declared.token.LexFault.TheVariants.{BadByte, Unclosed}
 use Rattle.tptp_tree.specs.Causes.{Refusal}
 use Rattle.tptp_reader.specs.Machine.{refused_at, an_annotated}
-use Rattle.tptp_reader.specs.Annotating.{lexemes_of, IsReading, StandsAt, TokensRunOut, IsFaultAt, IsFaultOf}
+use Rattle.tptp_reader.specs.Annotating.{IsReading, StandsAt, TokensRunOut, IsFaultAt, IsFaultOf}
 use Rattle.tptp_reader.specs.Telling.{lexemes, refusal_of, IsEnd, Ends, told}
 use Rattle.tptp_reader.specs.Placed.{verdict_at}
 use Rattle.tptp_reader.specs.TellingEntries.{cause_told, IsEndFault, IsCauseBy, IsWithin, ReadsEntry}

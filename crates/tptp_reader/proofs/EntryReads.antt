@@ -1,15 +1,16 @@
 -- Steps of reading an entry but for its notes.
-use Rattle.std.proofs.Common.{◌≡◌, ℕ, ◌+◌, Bool, true, false, not, List, [], ◌∷◌, ◌++◌, drop, codes, bytes_eq, Option, None, Some, if◌then◌else◌, refl, sym, ap, ◌∙◌, subst}
+use Rattle.std.proofs.Common.{◌≡◌, ℕ, ◌+◌, Bool, true, false, not, List, [], ◌∷◌, ◌++◌, drop, codes, bytes_eq, None, Some, if◌then◌else◌, refl, sym, ap, ◌∙◌, subst, ⊎_elim}
 use Rattle.std.specs.List.{list_all}
+use Rattle.std.proofs.lemmas.Bool.{or_cases}
 use Rattle.std.proofs.lemmas.Slice.Eq.{bytes_eq-Decides}
 use Rattle.tptp_token.specs.Spelling.{is_digit, is_one_of}
 use Rattle.tptp_token.specs.Lexemes.{Lexeme, is_mark, lexeme, word_lexeme}
 use Rattle.tptp_token.specs.declared.token.Kind.{Kind}
 use Rattle.tptp_token.specs.declared.token.Kind.TheVariants.{Lower, Variable, Quoted, Distinct, Dollar, Number, Connective, Mark, Other}
 use Rattle.tptp_tree.specs.Formula.{FormulaTree}
-use Rattle.tptp_token.specs.Words.{name_of, is_word, word_of, is_lower_kind, is_digits}
+use Rattle.tptp_token.specs.Words.{name_of, is_word, word_of, is_lower_kind, is_digits, is_name, token_name}
 use Rattle.tptp_tree.specs.Causes.{syntax, outermost, untaken_role_cause}
-use Rattle.tptp_tree.specs.Entries.{word_name, digits_name, formula_body, clause_body, body_lexemes, language_word, role_word, role_among, role_of}
+use Rattle.tptp_tree.specs.Entries.{word_name, digits_name, formula_body, clause_body, body_lexemes, language_word, role_of}
 use Rattle.tptp_tree.specs.declared.role.Role.{Role}
 use Rattle.tptp_reader.specs.Machine.{mark, an_annotated, a_name, a_role, a_clause, end_of_body, first_note, formula_symbols, typed_words, takes, stops, step}
 use Rattle.tptp_reader.specs.Telling.{lexemes, IsNext, Leads, Ends, Suits, Halts, one, refusal_of, ReadsFormula, ReadsClause}
@@ -105,7 +106,7 @@ word_name-step Connective bytes h = cc
 word_name-step Mark bytes h = cc
 word_name-step Other bytes h = cc
 
-pub word_name-read :
+word_name-read :
     (r : Reader) (at : ℕ) (t : Lexeme) (name : List ℕ)
     → IsNext r at t → is_word t.kind ≡ true → name ≡ name_of (word_of t.kind t.bytes) → ReadsName r at name
 word_name-read r at t name n h e =
@@ -142,7 +143,7 @@ digits-all Other bytes h = cc
 digits-step : (bytes : List ℕ) → list_all is_digit bytes ≡ true → step a_name (lexeme Number bytes) ≡ takes [] None
 digits-step bytes h = rw h refl
 
-pub digits_name-read :
+digits_name-read :
     (r : Reader) (at : ℕ) (t : Lexeme) (name : List ℕ)
     → IsNext r at t → is_digits t.kind t.bytes ≡ true → name ≡ t.bytes → ReadsName r at name
 digits_name-read r at t name n h e =
@@ -156,21 +157,28 @@ digits_name-read r at t name n h e =
       leads = takes-leads r at a_name t [] n (ap (step a_name) is ∙ digits-step t.bytes all);
     }
 
-no_name-step : (k : Kind) (bytes : List ℕ) → is_word k ≡ false → is_digits k bytes ≡ false → step a_name (lexeme k bytes) ≡ stops syntax
-no_name-step Lower bytes h g = cc
-no_name-step Variable bytes h g = refl
-no_name-step Quoted bytes h g = cc
-no_name-step Distinct bytes h g = refl
-no_name-step Dollar bytes h g = refl
-no_name-step Number bytes h g = rw g refl
-no_name-step Connective bytes h g = refl
-no_name-step Mark bytes h g = refl
-no_name-step Other bytes h g = refl
+digits-named : (k : Kind) (bytes : List ℕ) → is_digits k bytes ≡ true → token_name k bytes ≡ bytes
+digits-named Lower bytes h = cc
+digits-named Variable bytes h = cc
+digits-named Quoted bytes h = cc
+digits-named Distinct bytes h = cc
+digits-named Dollar bytes h = cc
+digits-named Number bytes h = refl
+digits-named Connective bytes h = cc
+digits-named Mark bytes h = cc
+digits-named Other bytes h = cc
+
+pub name-read :
+    (r : Reader) (at : ℕ) (t : Lexeme) (name : List ℕ)
+    → IsNext r at t → is_name t.kind t.bytes ≡ true → name ≡ token_name t.kind t.bytes → ReadsName r at name
+name-read r at t name n h e =
+    ⊎_elim (λ w. word_name-read r at t name n w e)
+    (λ d. digits_name-read r at t name n d (e ∙ digits-named t.kind t.bytes d))
+    (or_cases (is_word t.kind) (is_digits t.kind t.bytes) h)
 
 pub no_name-ends :
-    (r : Reader) (at : ℕ) (t : Lexeme)
-    → IsNext r at t → is_word t.kind ≡ false → is_digits t.kind t.bytes ≡ false → Ends r (a_name ∷ []) at (At Syntax at)
-no_name-ends r at t n h g = stop-ends r at a_name t Syntax n (no_name-step t.kind t.bytes h g)
+    (r : Reader) (at : ℕ) (t : Lexeme) → IsNext r at t → is_name t.kind t.bytes ≡ false → Ends r (a_name ∷ []) at (At Syntax at)
+no_name-ends r at t n h = stop-ends r at a_name t Syntax n (ap (λ b. if b then takes [] None else stops syntax) h)
 
 -- ---- the role
 
@@ -210,30 +218,6 @@ pub untaken-ends :
 untaken-ends r at b t f n h e g =
     fault-ends r at (a_role b) t [] f n
     (ap (step (a_role b)) (lower-is t h) ∙ ap (λ o. takes [] (untaken_role_cause o t.bytes)) (sym e) ∙ ap (takes []) (sym g))
-
--- a role of a longer list
-either-some :
-    (v : Bool) (r role : Role) (o p : Option Role)
-    → (Some role ≡ o → Some role ≡ p) → Some role ≡ (if v then Some r else o) → Some role ≡ (if v then Some r else p)
-either-some true r role o p f h = h
-either-some false r role o p f h = f h
-
-pub role-some :
-    (rs ss : List Role) (word : List ℕ) (role : Role) → Some role ≡ role_among rs word → Some role ≡ role_among (rs ++ ss) word
-role-some [] ss word role h = cc
-role-some (r ∷ rs) ss word role h =
-    either-some (bytes_eq (role_word r) word) r role (role_among rs word) (role_among (rs ++ ss) word) (role-some rs ss word role) h
-
-either-none :
-    (v : Bool) (r : Role) (q o p : Option Role) → (None ≡ o → q ≡ p) → None ≡ (if v then Some r else o) → q ≡ (if v then Some r else p)
-either-none true r q o p f h = cc
-either-none false r q o p f h = f h
-
-pub role-none :
-    (rs ss : List Role) (word : List ℕ) → None ≡ role_among rs word → role_among ss word ≡ role_among (rs ++ ss) word
-role-none [] ss word h = refl
-role-none (r ∷ rs) ss word h =
-    either-none (bytes_eq (role_word r) word) r (role_among ss word) (role_among rs word) (role_among (rs ++ ss) word) (role-none rs ss word) h
 
 -- ---- the formula
 

@@ -3,15 +3,14 @@ use Rattle.std.proofs.Common.{subst, ◌≡◌, true, ℕ, ◌+◌, Bool, ◌&&�
 use Rattle.tptp_token.specs.declared.token.Kind.TheVariants.{Lower, Mark}
 use Rattle.tptp_tree.specs.Formula.{FormulaTree}
 use Rattle.tptp_tree.specs.Shape.{formula_of}
-use Rattle.tptp_token.specs.Lexemes.{lexeme}
+use Rattle.tptp_token.specs.Lexemes.{lexeme, lexemes_of}
 use Rattle.tptp_tree.specs.Entries.{name_lexeme, is_clause_body, body_lexemes, language_word, role_of, AnnotatedPhrase, is_right_annotated, annotated_lexemes, IsAnnotatedOf}
 use Rattle.tptp_tree.specs.declared.role.Role.{Role}
 use Rattle.tptp_reader.specs.Machine.{Symbol, mark, an_annotated, a_name, a_role, end_of_body, read_up_to}
 use Rattle.tptp_reader.specs.Placed.{verdict_at}
-use Rattle.tptp_reader.specs.Annotating.{lexemes_of}
 use Rattle.tptp_reader.specs.Shape.{tree_of}
 use Rattle.tptp_reader.specs.Telling.{lexemes, IsNext, Leads, Ends, IsEnd, told}
-use Rattle.tptp_reader.specs.TellingEntries.{body_symbols, ReadsLanguage, ReadsName, ReadsRole, ReadsBody, ReadsEnding, ReadsEntry, IsFaultBy}
+use Rattle.tptp_reader.specs.TellingEntries.{body_symbols, ReadsLanguage, ReadsName, ReadsRole, ReadsBody, ReadsEnding, ReadsEntry, IsFaultOfHalt}
 use Rattle.tptp_reader.specs.declared.source.Reader.{Reader}
 use Rattle.tptp_reader.specs.declared.cause.Halt.{Halt}
 use Rattle.tptp_token.specs.declared.token.Token.{Token}
@@ -184,7 +183,7 @@ pub record IsAnnotatedRead (limit : ℕ) (bytes : List ℕ) (tokens : List Token
 -- the machine refuses a token, or the tokens run out
 abbrev pub HasFault : ℕ → List ℕ → Lexed → ℕ → ReadFault → Type 0
 HasFault limit bytes lexed first fault =
-    (halt : Halt) × IsEnd halt (verdict_at limit (lexemes_of bytes lexed.tokens) first) × IsFaultBy bytes lexed halt fault
+    (halt : Halt) × IsEnd halt (verdict_at limit (lexemes_of bytes lexed.tokens) first) × IsFaultOfHalt bytes lexed halt fault
 
 pub answer-read :
     (r : Reader) (tokens : List Token) (first : ℕ) (read : Read)
@@ -196,7 +195,7 @@ answer-read r tokens first read e h =
 
 pub answer-fault :
     (r : Reader) (lexed : Lexed) (first : ℕ) (halt : Halt) (fault : ReadFault)
-    → r.tokens.now ≡ lexed.tokens → Ends r (an_annotated r.limit ∷ []) first halt → IsFaultBy r.bytes.now lexed halt fault
+    → r.tokens.now ≡ lexed.tokens → Ends r (an_annotated r.limit ∷ []) first halt → IsFaultOfHalt r.bytes.now lexed halt fault
     → HasFault r.limit r.bytes.now lexed first fault
 unfolding told
 answer-fault r lexed first halt fault e h f =

@@ -2,7 +2,6 @@
 use Rattle.std.proofs.Common.{◌≡◌, ◌<◌, ◌≤◌, ℕ, ◌+◌, Bool, true, false, ◌||◌, List, [], ◌∷◌, ◌++◌, map, codes, bytes_eq, Option, None, Some, if◌then◌else◌, not, refl, sym, ap, ◌∙◌}
 use Rattle.std.specs.List.{list_any}
 use Rattle.std.proofs.lemmas.List.Folds.{list_any-append}
-use Rattle.fol_base.proofs.TestLemmas.{list_any-map}
 use Rattle.tptp_token.specs.Lexemes.{Lexeme, is_mark, lexeme, is_connective}
 use Rattle.tptp_token.specs.declared.token.Kind.{Kind}
 use Rattle.tptp_token.specs.declared.token.Kind.TheVariants.{Lower, Variable, Quoted, Distinct, Dollar, Number, Connective, Mark, Other}
@@ -172,6 +171,10 @@ pub variables-end :
 variables-end r at xs s t n g h = stop-ends r at (more_variables xs s) t Syntax n (rw (h, g) refl)
 
 -- ---- bound names
+
+list_any-map : {X Y : Type 0} (p : Y → Bool) (f : X → Y) (xs : List X) → list_any p (map f xs) ≡ list_any (λ x. p (f x)) xs
+list_any-map p f [] = refl
+list_any-map p f (x ∷ xs) = ap (λ b. p (f x) || b) (list_any-map p f xs)
 
 among-more :
     (old added : List Name) (texts : List (List ℕ)) (x : List ℕ)

@@ -1,6 +1,6 @@
 -- What is spelled as the body of an annotated formula is printed so that it is spelled again.
 use Rattle.std.proofs.Common.{◌≡◌, ℕ, true, false, List, [], ◌∷◌, ◌++◌, map, drop, codes, suc, zero, refl, ap, ap₂, sym, ◌∙◌, subst, append-nil}
-use Rattle.tptp_token.specs.Lexemes.{Lexeme, IsLexedAs, lexeme}
+use Rattle.tptp_token.specs.Lexemes.{Lexeme, IsLexedAs, lexeme, lexemes_of}
 use Rattle.tptp_token.specs.Lexing.{lexed_of}
 use Rattle.tptp_token.specs.declared.token.Kind.TheVariants.{Connective, Mark}
 use Rattle.tptp_token.proofs.LexemeLemmas.{tokens-spelled, lexes-whole, lexes-nothing}
@@ -13,7 +13,7 @@ use Rattle.tptp_tree.proofs.NameLemmas.{word_of}
 use Rattle.tptp_tree.proofs.CanonicalLemmas.{WellFormula, term_phrase, term_phrases, phrase_of, units_of, unit_of, some_from, formula-meant}
 use Rattle.tptp_tree.proofs.LexingLemmas.{formula-lexes}
 use Rattle.tptp_tree.proofs.WellLemmas.{AreSpelled, lexemes-spelled, text-spelled, phrase-well}
-use Rattle.tptp_reader.specs.Annotating.{lexemes_of, IsReading}
+use Rattle.tptp_reader.specs.Annotating.{IsReading}
 use Rattle.tptp_reader.specs.Shape.{tree_of}
 use Rattle.tptp_reader.specs.Printed.{SpellsClause, IsPrintedAgain}
 use Rattle.tptp_reader.specs.declared.entry.Read.{Read}

@@ -1,34 +1,15 @@
 -- Steps of the machine from an index on.
-use Rattle.std.proofs.Common.{Bor, take, ◌-◌, ◌≡◌, ◌<◌, ◌≤◌, ◌+◌, ℕ, suc, List, [], ◌∷◌, ◌++◌, map, drop, length, get_or, None, Some, refl, sym, ap, ◌∙◌, subst, arith, append_assoc, add-one, drop-cons}
+use Rattle.std.proofs.Common.{◌≡◌, ◌<◌, ◌≤◌, ◌+◌, ℕ, suc, List, [], ◌∷◌, ◌++◌, drop, None, Some, refl, sym, ap, ◌∙◌, subst, arith, append_assoc, add-one}
 use Rattle.std.proofs.lemmas.Bool.{lt-ltb, le-ltb}
-use Rattle.std.proofs.lemmas.List.{drop_all, drop-map, length-map}
-use Rattle.tptp_token.specs.Lexemes.{Lexeme, lexeme_at, lexeme}
-use Rattle.tptp_token.specs.declared.token.Token.{Token}
+use Rattle.tptp_token.specs.Lexemes.{Lexeme}
 use Rattle.tptp_tree.specs.Causes.{Refusal, too_deep, Surroundings, deeper, begun}
 use Rattle.tptp_reader.specs.Machine.{Symbol, Step, takes, passes, stops, followed_by, step, stepped, after_token, going, over, refused, Verdict, read_up_to, refused_at, verdict}
-use Rattle.tptp_token.specs.TextTokens.{lexeme_of}
 use Rattle.tptp_reader.specs.Telling.{lexemes, IsNext, IsEnd, refusal_of, told, Leads, Ends, Suits}
 use Rattle.tptp_reader.specs.declared.source.Reader.{Reader}
 use Rattle.tptp_reader.specs.declared.source.Name.{Name}
 use Rattle.tptp_reader.specs.declared.cause.Halt.{Halt}
 use Rattle.tptp_reader.specs.declared.cause.Halt.TheVariants.{NoMemory, At, Ended}
 use Rattle.tptp_reader.specs.declared.cause.Refusal.{Refusal as ToldRefusal}
-
--- ---- tokens
-
-pub next-token :
-    (r : Reader) (at : ℕ) (bytes : Bor (List ℕ)) (t : Token) (d : Token)
-    → at < length r.tokens.now → t ≡ get_or r.tokens.now at d
-    → bytes.now ≡ take (t.end - t.start) (drop t.start r.bytes.now)
-    → drop at (lexemes r) ≡ lexeme_of (record { kind = t.kind; bytes = bytes }) ∷ drop (at + 1) (lexemes r)
-next-token r at bytes t d h e g =
-    let f : Token → Lexeme = lexeme_at r.bytes.now in
-    let same : lexeme_of (record { kind = t.kind; bytes = bytes }) ≡ f t = ap (λ bs. lexeme t.kind bs) g in
-    drop-map f at r.tokens.now ∙ ap (map f) (drop-cons r.tokens.now at d h)
-    ∙ ap (λ u. f u ∷ map f (drop (suc at) r.tokens.now)) (sym e)
-    ∙ ap (λ us. f t ∷ us) (sym (drop-map f (suc at) r.tokens.now))
-    ∙ ap (λ n. f t ∷ drop n (lexemes r)) (sym (add-one at))
-    ∙ ap (λ u. u ∷ drop (at + 1) (lexemes r)) (sym same)
 
 -- ---- one step
 
@@ -102,14 +83,9 @@ pub same-leads :
 same-leads r at x y t n e =
     record { by = λ below. told-as r at x below t n ∙ ap (behind r at below t) e ∙ sym (told-as r at y below t n) }
 
-pub out-ends : (r : Reader) (at : ℕ) (x : Symbol) → length r.tokens.now ≤ at → Ends r (x ∷ []) at Ended
+pub out-ends : (r : Reader) (at : ℕ) (x : Symbol) → drop at (lexemes r) ≡ [] → Ends r (x ∷ []) at Ended
 unfolding told
-out-ends r at x h =
-    record {
-      by = λ below.
-          ap (λ ts. verdict at (going (x ∷ below)) ts)
-          (drop_all at (lexemes r) (omega (arith, h, length-map r.tokens.now (lexeme_at r.bytes.now))));
-    }
+out-ends r at x h = record { by = λ below. ap (λ ts. verdict at (going (x ∷ below)) ts) h }
 
 -- ---- several steps
 

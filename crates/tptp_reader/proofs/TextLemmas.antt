@@ -1,10 +1,10 @@
 -- Names that are printed, and whole texts.
-use Rattle.std.proofs.Common.{◌≡◌, ℕ, Bool, true, false, ◌&&◌, List, [], ◌∷◌, ◌++◌, map, length, drop, None, refl, ap, sym, ◌∙◌, subst, append-nil, arith, leb-true, le-leb}
+use Rattle.std.proofs.Common.{◌≡◌, ℕ, true, false, List, [], ◌∷◌, ◌++◌, length, drop, None, refl, ap, sym, ◌∙◌, subst, append-nil, arith, leb-true, le-leb}
 use Rattle.std.specs.Prelude.{nat_le}
 use Rattle.std.specs.List.{list_all}
 use Rattle.std.proofs.lemmas.Bool.{and_parts, and_from}
 use Rattle.tptp_token.specs.Spelling.{is_digit, is_number, is_printable}
-use Rattle.tptp_token.specs.Lexemes.{Lexeme, IsLexedAs, lexeme_at, word_lexeme}
+use Rattle.tptp_token.specs.Lexemes.{Lexeme, IsLexedAs, word_lexeme, lexemes_of}
 use Rattle.tptp_token.specs.Lexing.{lexed_of}
 use Rattle.tptp_token.specs.declared.token.Token.{Token}
 use Rattle.tptp_token.proofs.LexemeLemmas.{tokens-spelled, lexes-whole, lexes-nothing}
@@ -15,7 +15,7 @@ use Rattle.tptp_tree.specs.Causes.{annotated_causes}
 use Rattle.tptp_tree.proofs.NameLemmas.{WellName, word_of, name_of-word_of, name-lexes}
 use Rattle.tptp_tree.proofs.WellLemmas.{IsSpelled, AreSpelled, lexemes-spelled, text-spelled, word-well}
 use Rattle.tptp_reader.specs.Answers.{AreFaultless}
-use Rattle.tptp_reader.specs.Annotating.{lexemes_of, IsReading}
+use Rattle.tptp_reader.specs.Annotating.{IsReading}
 use Rattle.tptp_reader.specs.Placed.{IsReadFrom}
 use Rattle.tptp_reader.specs.Shape.{tree_of}
 use Rattle.tptp_reader.specs.declared.entry.Read.{Read}

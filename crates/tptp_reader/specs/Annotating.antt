@@ -1,6 +1,6 @@
 -- What reading an annotated formula from a text's tokens answers.
-use Rattle.std.specs.Prelude.{◌≡◌, ◌⊎◌, ⊤, ℕ, ◌+◌, ◌≤◌, ◌++◌, List, [], map, drop, length, Some, None, IfSome, slice_get}
-use Rattle.tptp_token.specs.Lexemes.{Lexeme, lexeme_at}
+use Rattle.std.specs.Prelude.{◌≡◌, ◌⊎◌, ⊤, ℕ, ◌+◌, ◌≤◌, ◌++◌, List, [], drop, length, Some, None, IfSome, slice_get}
+use Rattle.tptp_token.specs.Lexemes.{lexemes_of}
 use Rattle.tptp_token.specs.declared.token.Token.{Token}
 use Rattle.tptp_token.specs.declared.token.Lexed.{Lexed}
 use Rattle.tptp_token.specs.declared.token.LexFault.TheVariants.{BadByte as BadByteAt, Unclosed as UnclosedAt}
@@ -13,10 +13,6 @@ use Rattle.tptp_reader.specs.declared.cause.ReadCause.TheVariants.{BadByte, Uncl
 use Rattle.tptp_reader.specs.declared.cause.ReadFault.{ReadFault}
 use Rattle.tptp_reader.specs.declared.cause.ReadFault.TheVariants.{NoMemory, At}
 use Rattle.tptp_reader.specs.declared.entry.Read.{Read}
-
--- the tokens by their kinds and bytes
-abbrev pub lexemes_of : List ℕ → List Token → List Lexeme
-lexemes_of bytes tokens = map (lexeme_at bytes) tokens
 
 -- The formula that begins at the token `first` is read, within that limit of nesting. It is followed by the token `next`; its
 -- notes stand before the bracket and the full stop that close it; its place is that of its first byte.

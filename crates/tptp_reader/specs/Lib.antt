@@ -7,5 +7,6 @@ pub mod Placed
 pub mod Telling
 pub mod TellingNotes
 pub mod TellingEntries
+pub mod Faults
 pub mod Annotating
 pub mod Printed

@@ -1,9 +1,9 @@
 -- The grammar of annotated formulas as a stack machine that takes token after token, as a reader does: on the stack stands what
 -- has still to come. It says at which token the reading ends, and why.
 use Rattle.std.specs.Prelude.{ℕ, suc, Bool, true, false, ◌==◌, ◌&&◌, ◌||◌, List, [], ◌∷◌, ◌++◌, length, codes, bytes_eq, Option, None, Some, if◌then◌else◌}
-use Rattle.std.specs.List.{list_all}
-use Rattle.tptp_token.specs.Spelling.{is_digit, is_one_of}
-use Rattle.tptp_token.specs.Lexemes.{Lexeme, kind_place, is_lexeme, is_mark}
+use Rattle.tptp_token.specs.Spelling.{is_one_of}
+use Rattle.tptp_token.specs.Words.{is_name}
+use Rattle.tptp_token.specs.Lexemes.{Lexeme, kind_place, is_mark, is_connective}
 use Rattle.tptp_token.specs.declared.token.Kind.{Kind}
 use Rattle.tptp_token.specs.declared.token.Kind.TheVariants.{Lower, Variable, Quoted, Distinct, Dollar, Number, Connective, Mark, Other}
 use Rattle.tptp_tree.specs.Brackets.{Bracket, opened, open_after}
@@ -57,9 +57,6 @@ pub data Step : Type 0 where
   stops : Refusal → Step
 
 -- ---- tokens
-
-abbrev pub is_connective : List ℕ → Lexeme → Bool
-is_connective = is_lexeme Connective
 
 abbrev pub is_sign_of_equation : Bool → Lexeme → Bool
 is_sign_of_equation may_differ token =
@@ -150,15 +147,7 @@ literal_step s token =
 -- ---- names, roles, notes, entries
 
 abbrev pub name_step : Kind → List ℕ → Step
-name_step Lower bytes = taken []
-name_step Quoted bytes = taken []
-name_step Number bytes = if list_all is_digit bytes then taken [] else stops syntax
-name_step Variable bytes = stops syntax
-name_step Distinct bytes = stops syntax
-name_step Dollar bytes = stops syntax
-name_step Connective bytes = stops syntax
-name_step Mark bytes = stops syntax
-name_step Other bytes = stops syntax
+name_step kind bytes = if is_name kind bytes then taken [] else stops syntax
 
 abbrev pub role_step : Bool → Kind → List ℕ → Step
 role_step is_clause Lower bytes = takes [] (role_cause is_clause bytes)

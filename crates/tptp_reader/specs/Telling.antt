@@ -1,19 +1,16 @@
 -- What the functions that read an annotated formula say of the tokens before and after, told by the stack machine.
 use Rattle.std.specs.Prelude.{◌≡◌, ◌<◌, ◌≤◌, ◌+◌, ⊤, ℕ, Bool, true, false, List, [], ◌∷◌, ◌++◌, map, drop, length, codes, bytes_eq, Option, None, Some, not, if◌then◌else◌}
-use Rattle.std.specs.List.{list_any, list_all}
-use Rattle.tptp_token.specs.Spelling.{is_digit}
-use Rattle.tptp_token.specs.Lexemes.{Lexeme, lexeme_at, lexeme}
+use Rattle.std.specs.List.{list_any}
+use Rattle.tptp_token.specs.Lexemes.{Lexeme, lexemes_of, lexeme}
 use Rattle.tptp_token.specs.declared.token.Kind.{Kind}
 use Rattle.tptp_token.specs.declared.token.Kind.TheVariants.{Lower, Variable, Quoted, Distinct, Dollar, Number, Connective, Mark, Other}
 use Rattle.tptp_tree.specs.Term.{TermTree, TermTrees}
 use Rattle.tptp_tree.specs.Formula.{FormulaTree, quantified, Quantifier, for_all, exists_some, BinaryConnective, implies, implied, equivalent, different, nor, nand}
-use Rattle.tptp_token.specs.Words.{Word, bare, quoted}
 use Rattle.tptp_tree.specs.Spelling.{Atom, true_atom, false_atom, predicate_atom, equation_atom, atom_lexemes, atom_meant, UnitPhrase, unit_lexemes, unit_meant, phrase_lexemes, meant, Variables, variables_lexemes, TermPhrase, term_lexemes, arguments_lexemes, term_meant, terms_meant}
 use Rattle.tptp_tree.specs.Entries.{LiteralPhrase, literal_lexemes, literal_meant, ClausePhrase, literals, clause_lexemes, clause_meant}
 use Rattle.tptp_tree.specs.Causes.{Refusal, syntax, free_variable, role_not_taken, too_deep, left_out, Surroundings, binding, variable_cause}
 use Rattle.tptp_reader.specs.Shape.{form_of}
 use Rattle.tptp_reader.specs.Machine.{Symbol, mark, a_clause, a_literal, a_plain_literal, maybe_more_literals, an_atom, a_unit, maybe_more_units, formula_symbols, variables_bracket, next_variable, more_variables, a_term, maybe_arguments, arguments, is_truth_word, Verdict, refused_at, ran_out, verdict, going}
-use Rattle.tptp_token.specs.declared.text_token.TextToken.{TextToken}
 use Rattle.tptp_reader.specs.declared.source.Reader.{Reader}
 use Rattle.tptp_reader.specs.declared.source.Name.{Name}
 use Rattle.tptp_reader.specs.declared.source.Binary.{Binary}
@@ -26,41 +23,14 @@ use Rattle.tptp_reader.specs.declared.cause.Form.TheVariants.{Number as NumberFo
 
 -- ---- tokens
 
--- a token as the definitions have it
-abbrev pub lexeme_of : TextToken → Lexeme
-lexeme_of t = record { kind = t.kind; bytes = t.bytes.now }
-
 -- all tokens of a text
 abbrev pub lexemes : Reader → List Lexeme
-lexemes r = map (lexeme_at r.bytes.now) r.tokens.now
+lexemes r = lexemes_of r.bytes.now r.tokens.now
 
 -- the token at an index
 pub record IsNext (r : Reader) (at : ℕ) (token : Lexeme) : Type 0 where
   pub here : drop at (lexemes r) ≡ token ∷ drop (at + 1) (lexemes r)
   pub within : at < length r.tokens.now
-
--- a lower word or a quoted word
-abbrev pub is_word : Kind → Bool
-is_word Lower = true
-is_word Variable = false
-is_word Quoted = true
-is_word Distinct = false
-is_word Dollar = false
-is_word Number = false
-is_word Connective = false
-is_word Mark = false
-is_word Other = false
-
-abbrev pub word_of : Kind → List ℕ → Word
-word_of Lower bytes = bare bytes
-word_of Variable bytes = bare bytes
-word_of Quoted bytes = quoted bytes
-word_of Distinct bytes = bare bytes
-word_of Dollar bytes = bare bytes
-word_of Number bytes = bare bytes
-word_of Connective bytes = bare bytes
-word_of Mark bytes = bare bytes
-word_of Other bytes = bare bytes
 
 -- ---- refusals
 
@@ -174,17 +144,6 @@ term_refusal Number bytes = Inappropriate NumberForm
 term_refusal Connective bytes = Syntax
 term_refusal Mark bytes = Syntax
 term_refusal Other bytes = Syntax
-
-abbrev pub is_variable : Kind → Bool
-is_variable Lower = false
-is_variable Variable = true
-is_variable Quoted = false
-is_variable Distinct = false
-is_variable Dollar = false
-is_variable Number = false
-is_variable Connective = false
-is_variable Mark = false
-is_variable Other = false
 
 -- ---- atoms
 
@@ -338,28 +297,3 @@ ReadsPlainClause r names level at next f = Reads plain_clause_lexemes plain_clau
 
 abbrev pub ReadsClause : Reader → List Name → ℕ → ℕ → ℕ → FormulaTree → Type 0
 ReadsClause r names level at next f = Reads clause_lexemes clause_meant r (one a_clause) names level at next f
-
--- ---- kinds
-
-abbrev pub is_lower_kind : Kind → Bool
-is_lower_kind Lower = true
-is_lower_kind Variable = false
-is_lower_kind Quoted = false
-is_lower_kind Distinct = false
-is_lower_kind Dollar = false
-is_lower_kind Number = false
-is_lower_kind Connective = false
-is_lower_kind Mark = false
-is_lower_kind Other = false
-
--- a number of digits alone
-abbrev pub is_digits : Kind → List ℕ → Bool
-is_digits Lower bytes = false
-is_digits Variable bytes = false
-is_digits Quoted bytes = false
-is_digits Distinct bytes = false
-is_digits Dollar bytes = false
-is_digits Number bytes = list_all is_digit bytes
-is_digits Connective bytes = false
-is_digits Mark bytes = false
-is_digits Other bytes = false

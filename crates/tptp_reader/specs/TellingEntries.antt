@@ -103,6 +103,6 @@ IsWithin count (At refusal index) = index < count
 IsWithin count Ended = ⊤
 
 -- want of memory is told exactly where reading halted for it
-abbrev pub IsFaultBy : List ℕ → Lexed → Halt → ReadFault → Type 0
-IsFaultBy bytes lexed halt NoFaultMemory = halt ≡ NoMemory
-IsFaultBy bytes lexed halt (FaultAt cause file place) = (file ≡ []) × IsCauseBy bytes lexed halt cause place
+abbrev pub IsFaultOfHalt : List ℕ → Lexed → Halt → ReadFault → Type 0
+IsFaultOfHalt bytes lexed halt NoFaultMemory = halt ≡ NoMemory
+IsFaultOfHalt bytes lexed halt (FaultAt cause file place) = (file ≡ []) × IsCauseBy bytes lexed halt cause place

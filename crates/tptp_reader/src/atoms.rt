@@ -9,9 +9,10 @@ ghost use Rattle.tptp_token.specs.Words.{is_word as word_is, is_variable as vari
 ghost use Rattle.tptp_reader.specs.Telling.{one, IsNext, ReadsAtom, Halts};
 
 use crate::cause::{Halt, Refusal};
-use crate::source::{Name, Reader, TextToken};
+use crate::source::{Name, Reader, is_sign_of_equation, refusal_as_term};
 use plain_types::Text;
 use std::alloc::Global;
+use tptp_token::{Kind, TextToken};
 use tptp_tree::{Formula, TreeTerm};
 
 impl<'a> Reader<'a> {
@@ -35,13 +36,13 @@ impl<'a> Reader<'a> {
         if token.is_variable() {
             return self.variable_atom(alloc, bound, &token, at, level, may_differ);
         }
-        if token.is_dollar(b"$true") {
+        if token.is_exactly(Kind::Dollar, b"$true") {
             return Ok((Formula::True, at + 1));
         }
-        if token.is_dollar(b"$false") {
+        if token.is_exactly(Kind::Dollar, b"$false") {
             return Ok((Formula::False, at + 1));
         }
-        Err(Halt::At(token.refusal_as_term(), at))
+        Err(Halt::At(refusal_as_term(&token), at))
     }
 
     /// Reads an atom that begins with a word: a predicate, or a side of an equation.
@@ -63,7 +64,7 @@ impl<'a> Reader<'a> {
         let name = token.name(alloc)?;
         let (arguments, next) = self.arguments(alloc, bound, at + 1, level)?;
         let sign = self.look(next)?;
-        if !sign.is_sign_of_equation(may_differ) {
+        if !is_sign_of_equation(&sign, may_differ) {
             return Ok((Formula::Pred(name, arguments), next));
         }
         let (right, after) = self.term(alloc, bound, next + 1, level)?;
@@ -93,7 +94,7 @@ impl<'a> Reader<'a> {
         let left = TreeTerm::Var(Text::from_slice(alloc, token.bytes)?);
         let next = at + 1;
         let sign = self.look(next)?;
-        if !sign.is_sign_of_equation(may_differ) {
+        if !is_sign_of_equation(&sign, may_differ) {
             return Err(Halt::At(Refusal::Syntax, next));
         }
         let (right, after) = self.term(alloc, bound, next + 1, level)?;

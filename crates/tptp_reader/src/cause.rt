@@ -1,9 +1,10 @@
 // Why a text isn't read, and where.
 
 ghost use Rattle.std.specs.Prelude.{◌≡◌};
+ghost use Rattle.tptp_reader.specs.Faults.{IsFaultWhere};
 
 use plain_types::{NoMemory, Text};
-use std::alloc::{AllocError, AllocFailed};
+use std::alloc::{AllocError, AllocFailed, Global};
 
 /// A form of TPTP (Sutcliffe 2017) that this product leaves out by name.
 #[derive(Clone, Copy, Debug, PartialEq, Eq)]
@@ -54,6 +55,51 @@ pub enum ReadCause {
 pub enum ReadFault {
     NoMemory,
     At(ReadCause, Text, u32),
+}
+
+impl ReadFault {
+    /// A fault in the file of that name.
+    pub fn at(alloc: Global, cause: ReadCause, file: &str, place: u32) -> ReadFault
+        ensures { IsFaultWhere (λ c f p. (c ≡ cause) × (f ≡ file.now) × (p ≡ place)) result }
+    {
+        match Text::from_slice(alloc, file.as_bytes()) {
+            Ok(name) => ReadFault::At(cause, name, place),
+            Err(_) => ReadFault::NoMemory,
+        }
+    }
+}
+
+impl From<NoMemory> for ReadFault {
+    ghost use Rattle.std.specs.Prelude.{◌≡◌};
+    ghost use Rattle.tptp_reader.specs.declared.cause.ReadFault.TheVariants.{NoMemory as no_memory};
+
+    ghost from_gives = { λ _ e. e ≡ no_memory };
+
+    fn from(_error: NoMemory) -> ReadFault {
+        ReadFault::NoMemory
+    }
+}
+
+impl From<AllocError> for ReadFault {
+    ghost use Rattle.std.specs.Prelude.{◌≡◌};
+    ghost use Rattle.tptp_reader.specs.declared.cause.ReadFault.TheVariants.{NoMemory as no_memory};
+
+    ghost from_gives = { λ _ e. e ≡ no_memory };
+
+    fn from(_error: AllocError) -> ReadFault {
+        ReadFault::NoMemory
+    }
+}
+
+impl<T: Drop> From<AllocFailed<T>> for ReadFault {
+    ghost use Rattle.std.specs.Prelude.{◌≡◌};
+    ghost use Rattle.tptp_reader.specs.declared.cause.ReadFault.TheVariants.{NoMemory as no_memory};
+
+    ghost from_gives = { λ _ e. e ≡ no_memory };
+
+    fn from(_error: AllocFailed<T>) -> ReadFault {
+        ReadFault::NoMemory
+    }
 }
 
 /// Why a token ends the reading of an annotated formula.

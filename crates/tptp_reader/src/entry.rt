@@ -5,19 +5,17 @@ ghost use Rattle.std.specs.List.{list_all};
 ghost use Rattle.tptp_token.specs.Spelling.{is_digit, is_one_of};
 ghost use Rattle.tptp_tree.specs.Shape.{formula_of};
 ghost use Rattle.tptp_tree.specs.Causes.{roles_left_out, untaken_role_cause};
-ghost use Rattle.tptp_tree.specs.Entries.{role_of as role_meant, role_among};
 ghost use Rattle.tptp_reader.specs.Machine.{an_annotated, a_name, a_role, end_of_body, before_body, typed_words};
 ghost use Rattle.tptp_reader.specs.Telling.{Ends, refusal_of};
-ghost use Rattle.tptp_tree.specs.declared.role.Role.TheVariants.{Conjecture};
 ghost use Rattle.tptp_token.specs.Lexing.{lexed_of};
 ghost use Rattle.tptp_reader.specs.Annotating.{IsReading, IsFaultOf};
-ghost use Rattle.tptp_reader.specs.TellingEntries.{IsFaultBy, IsWithin, cause_told, body_symbols, ReadsLanguage, ReadsName, ReadsRole, ReadsBody, ReadsEnding, ReadsEntry};
+ghost use Rattle.tptp_reader.specs.TellingEntries.{IsFaultOfHalt, IsWithin, cause_told, body_symbols, ReadsLanguage, ReadsName, ReadsRole, ReadsBody, ReadsEnding, ReadsEntry};
 
 use crate::cause::{Form, Halt, ReadCause, ReadFault, Refusal};
 use crate::source::Reader;
 use plain_types::Text;
 use std::alloc::Global;
-use tptp_token::{Kind, LexFault, Lexed};
+use tptp_token::{LexFault, Lexed, MOST_TEXT_BYTES};
 use tptp_tree::{Annotated, Formula, Role};
 
 /// An annotated formula, with the tokens of its notes and the token behind it, by their indices.
@@ -58,7 +56,7 @@ pub fn annotated(
     nesting: u32,
 ) -> Result<Read, ReadFault>
     requires lexed { lexed.now ≡ lexed_of bytes.now }
-    requires small { length bytes.now ≤ 67108864 }
+    requires small { length bytes.now ≤ MOST_TEXT_BYTES }
     requires first { first < length lexed.now.tokens }
     ensures read { IfOk result (IsReading nesting bytes.now lexed.now.tokens first) }
     ensures fault { IfErr result (IsFaultOf nesting bytes.now lexed.now first) }
@@ -77,9 +75,9 @@ pub fn annotated(
 
 /// The fault of a text that isn't read, by the token or the end of tokens where reading stopped.
 fn fault_of(alloc: Global, bytes: &[u8], lexed: &Lexed, halt: Halt) -> ReadFault
-    requires small { length bytes.now ≤ 67108864 }
+    requires small { length bytes.now ≤ MOST_TEXT_BYTES }
     requires within { IsWithin (length lexed.now.tokens) halt }
-    ensures { IsFaultBy bytes.now lexed.now halt result }
+    ensures { IsFaultOfHalt bytes.now lexed.now halt result }
 {
     let none = Text::new(alloc);
     match halt {
@@ -180,13 +178,10 @@ impl<'a> Reader<'a> {
         ensures halted { IfErr result (λ halt. Ends self.now (a_name ∷ []) at halt) }
     {
         let token = self.look(at)?;
-        if token.is_word() {
-            return Ok(token.name(alloc)?);
+        if !token.is_name() {
+            return Err(Halt::At(Refusal::Syntax, at));
         }
-        if token.is_digits() {
-            return Ok(Text::from_slice(alloc, token.bytes)?);
-        }
-        Err(Halt::At(Refusal::Syntax, at))
+        Ok(token.name(alloc)?)
     }
 
     /// Reads a role.
@@ -199,7 +194,7 @@ impl<'a> Reader<'a> {
         if !token.is_lower() {
             return Err(Halt::At(Refusal::Syntax, at));
         }
-        match role_of(clause, token.bytes) {
+        match Role::of_word(token.bytes, clause) {
             Some(role) => Ok(role),
             None => Err(Halt::At(untaken_role(token.bytes), at)),
         }
@@ -262,64 +257,6 @@ fn is_typed(word: &[u8]) -> bool
         || word == b"tff".as_slice()
         || word == b"tcf".as_slice()
         || word == b"tpi".as_slice()
-}
-
-/// The role that a word names, where it is taken in `cnf` or else in `fof`.
-fn role_of(clause: bool, word: &[u8]) -> Option<Role>
-    ensures { result ≡ role_meant clause word.now }
-{
-    if clause {
-        clause_role(word)
-    } else {
-        formula_role(word)
-    }
-}
-
-/// The role that a word names in `fof`.
-fn formula_role(word: &[u8]) -> Option<Role>
-    ensures { result ≡ role_meant false word.now }
-{
-    match clause_role(word) {
-        Some(role) => Some(role),
-        None => conjecture_role(word),
-    }
-}
-
-fn conjecture_role(word: &[u8]) -> Option<Role>
-    ensures { result ≡ role_among (Conjecture ∷ []) word.now }
-{
-    if b"conjecture".as_slice() == word {
-        Some(Role::Conjecture)
-    } else {
-        None
-    }
-}
-
-/// The role that a word names in `cnf`.
-fn clause_role(word: &[u8]) -> Option<Role>
-    ensures { result ≡ role_meant true word.now }
-{
-    if b"axiom".as_slice() == word {
-        Some(Role::Axiom)
-    } else if b"hypothesis".as_slice() == word {
-        Some(Role::Hypothesis)
-    } else if b"definition".as_slice() == word {
-        Some(Role::Definition)
-    } else if b"assumption".as_slice() == word {
-        Some(Role::Assumption)
-    } else if b"lemma".as_slice() == word {
-        Some(Role::Lemma)
-    } else if b"theorem".as_slice() == word {
-        Some(Role::Theorem)
-    } else if b"corollary".as_slice() == word {
-        Some(Role::Corollary)
-    } else if b"negated_conjecture".as_slice() == word {
-        Some(Role::NegatedConjecture)
-    } else if b"plain".as_slice() == word {
-        Some(Role::Plain)
-    } else {
-        None
-    }
 }
 
 /// Why a role that isn't taken is refused.

@@ -9,7 +9,7 @@ ghost use Rattle.tptp_reader.specs.Machine.{a_unit, formula_symbols, variables_b
 ghost use Rattle.tptp_reader.specs.Telling.{one, IsNext, Halts, ReadsFormula, ReadsUnit, ReadsUnits, further_units, ReadsBound, ReadsVariables, ReadsVariable, HaltsVariable, Binds, BindsOne, quantifier_of, binary_of};
 
 use crate::cause::{Halt, Refusal};
-use crate::source::{Binary, Name, Reader};
+use crate::source::{Binary, Name, Reader, binary_connective, is_quantifier};
 use plain_types::{Mem, Text, Texts};
 use std::alloc::Global;
 use tptp_tree::{Formula, FormulaBox, Formulas};
@@ -59,7 +59,7 @@ impl<'a> Reader<'a> {
             let (some, next) = self.operands(alloc, bound, first, b"|", after + 1, level)?;
             return Ok((Formula::Or(some), next));
         }
-        match sign.binary_connective() {
+        match binary_connective(&sign) {
             None => Ok((first, after)),
             Some(connective) => {
                 let (second, end) = self.unit(alloc, bound, after + 1, level)?;
@@ -117,7 +117,7 @@ impl<'a> Reader<'a> {
         if token.is_connective(b"~") {
             return self.negated(alloc, bound, at, level);
         }
-        if token.is_quantifier() {
+        if is_quantifier(&token) {
             let scope = self.deeper(at, level)?;
             let for_all = token.is_connective(b"!");
             let (quantified, end) = self.quantified(alloc, bound, for_all, at + 1, scope)?;

@@ -1,7 +1,7 @@
 // The laws of the definitions: each is the contract of a function without arguments and with an empty body.
 
 ghost use Rattle.std.specs.Prelude.{◌≡◌, ◌≤◌, ℕ, true, List, None, length, drop};
-ghost use Rattle.tptp_token.specs.Lexemes.{Lexeme};
+ghost use Rattle.tptp_token.specs.Lexemes.{Lexeme, lexemes_of};
 ghost use Rattle.tptp_token.specs.Lexing.{lexed_of};
 ghost use Rattle.tptp_tree.specs.Entries.{AnnotatedPhrase, is_right_annotated, annotated_lexemes, AnnotatedTree, SpellsAnnotated};
 ghost use Rattle.tptp_tree.specs.Causes.{Refusal, annotated_causes};
@@ -12,7 +12,7 @@ ghost use Rattle.tptp_reader.specs.Placed.{verdict_at, IsReadFrom, IsRefusedFrom
 ghost use Rattle.tptp_reader.specs.Verdicts.{IsTheAnswer};
 ghost use Rattle.tptp_token.specs.declared.token.Token.{Token};
 ghost use Rattle.tptp_token.specs.declared.token.Lexed.{Lexed};
-ghost use Rattle.tptp_reader.specs.Annotating.{lexemes_of, IsReading, IsFaultAt, IsSameReading};
+ghost use Rattle.tptp_reader.specs.Annotating.{IsReading, IsFaultAt, IsSameReading};
 ghost use Rattle.tptp_reader.specs.Answers.{AreFaultless};
 ghost use Rattle.tptp_reader.specs.declared.cause.ReadCause.{ReadCause};
 ghost use Rattle.tptp_reader.specs.Shape.{tree_of};

@@ -1,18 +1,16 @@
 // Notes of an entry, whose tokens are free but for their brackets.
 
 ghost use Rattle.std.specs.Prelude.{◌≡◌, [], ◌∷◌, IfOk, IfErr, Some, None, map, codes, length, nat_lt};
-ghost use Rattle.tptp_token.specs.Lexemes.{is_lexeme};
 ghost use Rattle.tptp_tree.specs.Brackets.{closes as bracket_closes, opened as bracket_opened, is_closing as closing_is};
-ghost use Rattle.tptp_token.specs.declared.token.Kind.TheVariants.{Other};
 ghost use Rattle.tptp_reader.specs.Machine.{first_note};
 ghost use Rattle.tptp_token.specs.TextTokens.{lexeme_of};
 ghost use Rattle.tptp_reader.specs.Telling.{Ends};
 ghost use Rattle.tptp_reader.specs.TellingNotes.{bracket_of, stack_of, told_bracket, closes_first, GoesOn, IsTooDeep, EntersWith, EntersTooDeep, is_end_of_notes, ReadsNotes};
 
 use crate::cause::{Halt, Refusal};
-use crate::source::{Reader, TextToken};
+use crate::source::Reader;
 use std::alloc::Global;
-use tptp_token::Kind;
+use tptp_token::{Kind, TextToken};
 
 /// A kind of brackets.
 #[derive(Clone, Copy, Debug, PartialEq, Eq)]
@@ -22,48 +20,36 @@ pub enum Bracket {
     Curly,
 }
 
-impl TextToken<'_> {
-    /// Whether it is this sign that stands in notes alone.
-    fn is_other(&self, bytes: &[u8]) -> bool
-        ensures { result ≡ is_lexeme Other bytes.now (lexeme_of self.now) }
-    {
-        match self.kind {
-            Kind::Other => bytes == self.bytes,
-            _ => false,
-        }
+/// Whether a token closes a bracket of this kind.
+fn closes(token: &TextToken<'_>, bracket: Bracket) -> bool
+    ensures { result ≡ bracket_closes (bracket_of bracket) (lexeme_of token.now) }
+{
+    match bracket {
+        Bracket::Round => token.is_mark(b")"),
+        Bracket::Square => token.is_mark(b"]"),
+        Bracket::Curly => token.is_exactly(Kind::Other, b"}"),
     }
+}
 
-    /// Whether it closes a bracket of this kind.
-    fn closes(&self, bracket: Bracket) -> bool
-        ensures { result ≡ bracket_closes (bracket_of bracket) (lexeme_of self.now) }
-    {
-        match bracket {
-            Bracket::Round => self.is_mark(b")"),
-            Bracket::Square => self.is_mark(b"]"),
-            Bracket::Curly => self.is_other(b"}"),
-        }
-    }
+/// Whether a token closes a bracket of some kind.
+fn is_closing(token: &TextToken<'_>) -> bool
+    ensures { result ≡ closing_is (lexeme_of token.now) }
+{
+    token.is_mark(b")") || token.is_mark(b"]") || token.is_exactly(Kind::Other, b"}")
+}
 
-    /// Whether it closes a bracket of some kind.
-    fn is_closing(&self) -> bool
-        ensures { result ≡ closing_is (lexeme_of self.now) }
-    {
-        self.is_mark(b")") || self.is_mark(b"]") || self.is_other(b"}")
-    }
-
-    /// The kind of bracket that it opens.
-    fn opened(&self) -> Option<Bracket>
-        ensures { told_bracket result ≡ bracket_opened (lexeme_of self.now) }
-    {
-        if self.is_mark(b"(") {
-            Some(Bracket::Round)
-        } else if self.is_mark(b"[") {
-            Some(Bracket::Square)
-        } else if self.is_other(b"{") {
-            Some(Bracket::Curly)
-        } else {
-            None
-        }
+/// The kind of bracket that a token opens.
+fn opened(token: &TextToken<'_>) -> Option<Bracket>
+    ensures { told_bracket result ≡ bracket_opened (lexeme_of token.now) }
+{
+    if token.is_mark(b"(") {
+        Some(Bracket::Round)
+    } else if token.is_mark(b"[") {
+        Some(Bracket::Square)
+    } else if token.is_exactly(Kind::Other, b"{") {
+        Some(Bracket::Curly)
+    } else {
+        None
     }
 }
 
@@ -131,8 +117,8 @@ impl<'a> Reader<'a> {
         ensures goes_on { IfOk result (λ goes. EntersWith self.now.limit (stack_of unclosed.old.items) (lexeme_of token.now) goes (stack_of unclosed.new.items)) }
         ensures halted { IfErr result (EntersTooDeep self.now.limit (stack_of unclosed.old.items) (lexeme_of token.now) at) }
     {
-        match token.opened() {
-            None => Ok(!token.is_closing()),
+        match opened(token) {
+            None => Ok(!is_closing(token)),
             Some(bracket) => {
                 if !self.has_room(unclosed.as_slice()) {
                     return Err(Halt::At(Refusal::Nesting, at));
@@ -150,7 +136,7 @@ fn closes_innermost(unclosed: &[Bracket], token: &TextToken<'_>) -> bool
 {
     match unclosed.split_last() {
         None => false,
-        Some((innermost, _)) => token.closes(*innermost),
+        Some((innermost, _)) => closes(token, *innermost),
     }
 }
 

@@ -7,7 +7,7 @@ ghost use Rattle.tptp_reader.specs.Machine.{a_term, maybe_arguments, arguments a
 ghost use Rattle.tptp_reader.specs.Telling.{one, ReadsTerm, ReadsArguments, ReadsBracketed, Halts};
 
 use crate::cause::{Halt, Refusal};
-use crate::source::{Name, Reader};
+use crate::source::{Name, Reader, refusal_as_term};
 use plain_types::Text;
 use std::alloc::Global;
 use tptp_tree::{TreeTerm, TreeTerms};
@@ -32,7 +32,7 @@ impl<'a> Reader<'a> {
             return Ok((TreeTerm::App(name, arguments), next));
         }
         if !token.is_variable() {
-            return Err(Halt::At(token.refusal_as_term(), at));
+            return Err(Halt::At(refusal_as_term(&token), at));
         }
         if self.is_free(bound, token.bytes) {
             return Err(Halt::At(Refusal::FreeVariable, at));

@@ -4,12 +4,12 @@ use super::*;
 use plain_types::{Mem, NoMemory};
 use std::alloc::Global;
 use std::test::Fail;
-use tptp_token::tokens;
-use tptp_tree::print_formula;
+use tptp_token::{MOST_TEXT_BYTES, tokens};
+use tptp_tree::{MOST_NESTING, print_formula};
 
 /// The formula of the entry that begins at a token, as it is printed, or the cause that it isn't read for and its place.
 fn outcome(alloc: Global, text: &[u8], first: usize, nesting: u32) -> Mem<Vec<u8>> {
-    if text.len() > 100_000 {
+    if text.len() > MOST_TEXT_BYTES {
         return Ok(Vec::new(alloc));
     }
     let lexed = tokens(alloc, text)?;
@@ -30,55 +30,10 @@ fn shown(alloc: Global, answer: &Result<Read, ReadFault>) -> Mem<Vec<u8>> {
 
 /// A cause and its place. Want of memory is handed on, so that no row is taken for another answer.
 fn shown_fault(alloc: Global, fault: &ReadFault) -> Mem<Vec<u8>> {
-    let mut page = Vec::new(alloc);
     match fault {
         ReadFault::NoMemory => Err(NoMemory),
-        ReadFault::At(cause, _, place) => {
-            page.extend_from_slice(cause_name(*cause))?;
-            push_place(&mut page, *place)?;
-            Ok(page)
-        }
+        ReadFault::At(cause, _, place) => Ok(format!(in alloc; "{cause:?}@{place}")?.into_bytes()),
     }
-}
-
-/// What is shown of a cause.
-fn cause_name(cause: ReadCause) -> &'static [u8] {
-    match cause {
-        ReadCause::BadByte => b"BadByte".as_slice(),
-        ReadCause::Unclosed => b"Unclosed".as_slice(),
-        ReadCause::Syntax => b"Syntax".as_slice(),
-        ReadCause::FreeVariable => b"FreeVariable".as_slice(),
-        ReadCause::Role => b"Role".as_slice(),
-        ReadCause::Nesting => b"Nesting".as_slice(),
-        ReadCause::Inappropriate(form) => form_name(form),
-        _ => b"other".as_slice(),
-    }
-}
-
-fn form_name(form: Form) -> &'static [u8] {
-    match form {
-        Form::Typed => b"Typed".as_slice(),
-        Form::RoleForm => b"RoleForm".as_slice(),
-        Form::Number => b"Number".as_slice(),
-        Form::Distinct => b"Distinct".as_slice(),
-        Form::Dollar => b"Dollar".as_slice(),
-    }
-}
-
-/// A place below 10,000 behind an `@`, in decimal digits.
-fn push_place(page: &mut Vec<u8>, place: u32) -> Mem<()> {
-    page.push(b'@')?;
-    if place >= 1000 {
-        page.push(b'0' + (place / 1000 % 10) as u8)?;
-    }
-    if place >= 100 {
-        page.push(b'0' + (place / 100 % 10) as u8)?;
-    }
-    if place >= 10 {
-        page.push(b'0' + (place / 10 % 10) as u8)?;
-    }
-    page.push(b'0' + (place % 10) as u8)?;
-    Ok(())
 }
 
 /// A text, and its outcome.
@@ -87,7 +42,7 @@ type Row = (&'static [u8], &'static [u8]);
 /// The index of the first row whose text has another outcome; the number of rows where there is none.
 fn first_failure(alloc: Global, rows: &[Row]) -> Mem<usize> {
     for (index, (text, wanted)) in rows.iter().enumerate() {
-        let found = outcome(alloc, text, 0, 500)?;
+        let found = outcome(alloc, text, 0, MOST_NESTING)?;
         if found.as_slice() != *wanted {
             return Ok(index);
         }
@@ -143,20 +98,20 @@ fn tells_faults(rt: HostRuntime) -> Result<(), Fail> {
         (b"fof(a,axiom,![X,]:p).", b"Syntax@16"),
         (b"fof(a,axiom,p()).", b"Syntax@14"),
         (b"fof(a,axiom,p(a,)).", b"Syntax@16"),
-        (b"fof(a,axiom,3=a).", b"Number@12"),
-        (b"fof(a,axiom,p(3.)).", b"Number@14"),
-        (b"fof(a,axiom,a=\"b\").", b"Distinct@14"),
-        (b"fof(a,axiom,$less(a,b)).", b"Dollar@12"),
-        (b"fof(a,axiom,p($$x)).", b"Dollar@14"),
+        (b"fof(a,axiom,3=a).", b"Inappropriate(Number)@12"),
+        (b"fof(a,axiom,p(3.)).", b"Inappropriate(Number)@14"),
+        (b"fof(a,axiom,a=\"b\").", b"Inappropriate(Distinct)@14"),
+        (b"fof(a,axiom,$less(a,b)).", b"Inappropriate(Dollar)@12"),
+        (b"fof(a,axiom,p($$x)).", b"Inappropriate(Dollar)@14"),
         (b"fof(a,axiom,p($true)).", b"Syntax@14"),
         (b"fof(a,axiom,$true=a).", b"Syntax@17"),
         (b"fof(a,axiom,''=a).", b"BadByte@13"),
         (b"fof(a,axiom,'a).", b"Unclosed@12"),
         (b"fof(a,axiom,p)", b"Syntax@14"),
-        (b"fof(a,question,p).", b"RoleForm@6"),
+        (b"fof(a,question,p).", b"Inappropriate(RoleForm)@6"),
         (b"fof(a,unknown,p).", b"Role@6"),
         (b"fof(a,axiom-x,p).", b"Syntax@11"),
-        (b"tff(a,axiom,p).", b"Typed@0"),
+        (b"tff(a,axiom,p).", b"Inappropriate(Typed)@0"),
         (b"include(a).", b"Syntax@0"),
         (b"fof(1.5,axiom,p).", b"Syntax@4"),
         (b"fof(X,axiom,p).", b"Syntax@4"),
@@ -267,7 +222,7 @@ fn reads_deep(
 ) -> Mem<bool> {
     let text = repeated(alloc, before, 5_000, b"p".as_slice(), close)?;
     let found = outcome(alloc, text.as_slice(), 0, limit)?;
-    let stopped = outcome(alloc, text.as_slice(), 0, 500)?;
+    let stopped = outcome(alloc, text.as_slice(), 0, MOST_NESTING)?;
     Ok(found.len() == length && stopped.as_slice() == refused)
 }
 
@@ -338,7 +293,7 @@ fn keeps_names_roles_and_ranges(rt: HostRuntime) -> Result<(), Fail> {
 
 /// Whether a text has 23 tokens, and the formula that begins at the tenth of them is read.
 fn reads_second(alloc: Global, text: &[u8]) -> Mem<bool> {
-    if text.len() > 100_000 {
+    if text.len() > MOST_TEXT_BYTES {
         return Ok(false);
     }
     let lexed = tokens(alloc, text)?;

@@ -10,3 +10,4 @@ pub mod QuoteLemmas
 pub mod PieceLemmas
 pub mod LexemeLemmas
 pub mod FrontLemmas
+pub mod TextTokenLemmas

@@ -23,6 +23,10 @@ word_lexeme (quoted bytes) = lexeme Quoted bytes
 abbrev pub lexeme_at : List ℕ → Token → Lexeme
 lexeme_at bytes token = record { kind = token.kind; bytes = take (token.end - token.start) (drop token.start bytes) }
 
+-- tokens of a text
+abbrev pub lexemes_of : List ℕ → List Token → List Lexeme
+lexemes_of bytes tokens = map (lexeme_at bytes) tokens
+
 -- ---- tests
 
 abbrev pub kind_place : Kind → ℕ

@@ -213,8 +213,7 @@ fn takes_quotes_off_and_puts_them_on(rt: HostRuntime) -> Result<(), Fail> {
         assert!(rt; word.len() <= MOST_TEXT_BYTES);
         let lexed = tokens(alloc, word)?;
         let mut page = Vec::new(alloc);
-        for token in lexed.tokens.iter() {
-            let token = TextToken::of(word, *token);
+        if let Some(token) = TextToken::at(word, lexed.tokens.as_slice(), 0) {
             assert!(rt; token.is_name() && !token.is_mark(b"("));
             let found = token.name(alloc)?;
             assert!(rt; found.as_slice() == name);

@@ -1,8 +1,8 @@
 // Tokens with their bytes.
 
-ghost use Rattle.std.specs.Prelude.{◌≡◌, IfOk, bytes_eq};
+ghost use Rattle.std.specs.Prelude.{◌≡◌, ◌+◌, ◌<◌, ◌^◌, [], ◌∷◌, drop, length, IfOk, IsSome, MatchOption, bytes_eq};
 ghost use Rattle.tptp_token.specs.Words.{is_lower_kind, is_variable as variable_is, is_word as word_is, is_digits as digits_are, is_name as name_is, token_name};
-ghost use Rattle.tptp_token.specs.Lexemes.{lexeme_at, is_lexeme, is_mark as mark_is, is_connective as connective_is};
+ghost use Rattle.tptp_token.specs.Lexemes.{lexeme_at, lexemes_of, is_lexeme, is_mark as mark_is, is_connective as connective_is};
 ghost use Rattle.tptp_token.specs.TextTokens.{lexeme_of};
 
 use crate::name::unquoted;
@@ -29,6 +29,20 @@ impl<'a> TextToken<'a> {
             kind: token.kind,
             bytes: &text[start..end],
         }
+    }
+
+    /// The token at an index of a text's tokens, if there is one.
+    pub fn at(text: &'a [u8], tokens: &[Token], index: usize) -> Option<TextToken<'a>>
+        ensures next { MatchOption result (drop index (lexemes_of text.now tokens.now) ≡ [])
+            (λ t. drop index (lexemes_of text.now tokens.now) ≡ lexeme_of t ∷ drop (index + 1) (lexemes_of text.now tokens.now)) }
+        ensures within { IsSome result → index < length tokens.now }
+        ensures fits { IsSome result → index + 1 < 2 ^ 64 }
+    {
+        if index >= tokens.len() {
+            return None;
+        }
+        let token = tokens[index];
+        Some(TextToken::of(text, token))
     }
 
     /// Whether it is of this kind and has these bytes.
@@ -80,7 +94,7 @@ impl<'a> TextToken<'a> {
     }
 
     /// Whether it is a number of digits alone.
-    pub fn is_digits(&self) -> bool
+    fn is_digits(&self) -> bool
         ensures { result ≡ digits_are self.now.kind self.now.bytes.now }
     {
         match self.kind {

@@ -5,9 +5,9 @@ use Rattle.tptp_tree.specs.declared.problem.Annotated.{Annotated}
 use Rattle.tptp_problem.specs.Files.{loaded_name}
 use Rattle.tptp_problem.specs.Formulas.{placed, missing, selected}
 use Rattle.tptp_problem.specs.Shape.{progress_of, selections}
-use Rattle.tptp_problem.proofs.FaultLemmas.{halt-then}
+use Rattle.tptp_problem.proofs.FaultLemmas.{fault-then}
 use Rattle.tptp_problem.proofs.FileLemmas.{missing-within, Included, one-less, included-fault, missing-fault, include-step, include-on, formula-on}
-use Rattle.tptp_problem.proofs.HaltLemmas.{passed}
+use Rattle.tptp_problem.proofs.PassedLemmas.{passed}
 use Rattle.tptp_problem.proofs.reading.Reading.+reading.Goals as goal
 
 -- ---- include
@@ -30,7 +30,7 @@ include-returns-in_err-read-clause-fault g t c =
       around_is = ap selections c.as_slice-3.ensures.value ∙ c.in_ok-around.ensures ∙ ap (λ ns. selections s.around.now ++ ns ∷ []) c.as_slice.ensures;
     } in
     passed _ _ _ c.from_residual-in_err-read.ensures.1
-    (halt-then _ _ _ (included-fault (g.L.Library.told c.args.library.now) base _ s c.args.first c.args.depth _ i _ _ (progress_of c.args.self.now) k)
+    (fault-then _ _ _ (included-fault (g.L.Library.told c.args.library.now) base _ s c.args.first c.args.depth _ i _ _ (progress_of c.args.self.now) k)
     c.in_err-read.ensures.fault)
 
 pub include-overflow_mul-index : goal.include-overflow_mul-index
@@ -58,7 +58,7 @@ include-returns-in-Some-clause-fault g t c =
       name_is = c.as_str.ensures.value ∙ c.in_ok-name.ensures ∙ ap (loaded_name base) c.as_slice-2.ensures;
       around_is = ap selections c.as_slice-3.ensures.value ∙ c.in_ok-around.ensures ∙ ap (λ ns. selections s.around.now ++ ns ∷ []) c.as_slice.ensures;
     } in
-    halt-then _ _ c.fault-in-Some.result
+    fault-then _ _ c.fault-in-Some.result
     (missing-fault (g.L.Library.told c.args.library.now) base _ s c.args.first c.args.depth _ i _ _ (progress_of c.args.self.now)
     (progress_of c.file.new.self) (map placed c.in_ok-read.read.items) c.in-Some.index k c.in_ok-read.ensures.read
     (c.in-Some.ensures ∙ ap (λ (ns : List (List ℕ)). missing ns (map placed c.as_slice-4.result.now)) c.as_slice.ensures

@@ -1,11 +1,12 @@
 use Rattle.std.proofs.Common.{◌≡◌, [], ◌∷◌, true, false, refl, sym, ap, ◌∙◌, subst}
+use Rattle.tptp_tree.specs.declared.TheConstants.{MOST_NESTING}
 use Rattle.tptp_reader.specs.Annotating.{IsFaultOf}
 use Rattle.tptp_reader.specs.declared.cause.ReadFault.{ReadFault}
 use Rattle.tptp_problem.specs.Formulas.{placed_in}
 use Rattle.tptp_problem.specs.Problem.{is_second}
 use Rattle.tptp_problem.specs.declared.reading.Reading.{Reading}
 use Rattle.tptp_problem.specs.Shape.{file_of, progress_of, selections}
-use Rattle.tptp_problem.proofs.FaultLemmas.{halt-then, second-true, second-none, second-clear, second-fault, formula-fault, formula-added, formula-step, met-then}
+use Rattle.tptp_problem.proofs.FaultLemmas.{fault-then, second-true, second-none, second-clear, second-fault, formula-fault, formula-added, formula-step, met-then}
 use Rattle.tptp_problem.proofs.OnwardLemmas.{reading-onward}
 use Rattle.tptp_problem.proofs.reading.Reading.formula.Goals as goal
 use Rattle.tptp_problem.proofs.reading.Reading.formula.Goals.{else-self-via-then-self+in_ok-begins_conjecture+else-branch, else-self-via-else-self, then-counts_as_conjecture, else-counts_as_conjecture}
@@ -17,7 +18,7 @@ pub returns-then-branch-clause-fault : goal.returns-then-branch-clause-fault
 returns-then-branch-clause-fault c =
     let s = c.args.source in
     let progress = progress_of c.args.self.now in
-    halt-then _ _ c.fault.result
+    fault-then _ _ c.fault.result
     (second-fault s c.args.first progress c.requires.lexed
     (second-true s c.args.first progress c.in_ok-begins_conjecture.field-0 c.requires.lexed c.in_ok-begins_conjecture.ensures.begins c.if-self.true c.if-branch.true))
     c.fault.ensures
@@ -32,8 +33,8 @@ returns-in-Err-At-clause-fault c =
           ↦ second-none s c.args.first progress w.in_ok-begins_conjecture.field-0 c.requires.lexed w.in_ok-begins_conjecture.ensures.begins w.if-branch.false
       | else-self-via-else-self w ↦ second-clear s c.args.first progress w.if-self.false
     ] in
-    let told = subst (λ (x : ReadFault). IsFaultOf 500 s.bytes.now s.lexed.now c.args.first x) c.in-Err-At.field-0-is c.in-Err-At.ensures.fault in
-    halt-then _ _ c.at.result (formula-fault s c.args.first progress c.in-Err-At.cause c.in-Err-At.place c.requires.lexed single told.1) c.at.ensures
+    let told = subst (λ (x : ReadFault). IsFaultOf MOST_NESTING s.bytes.now s.lexed.now c.args.first x) c.in-Err-At.field-0-is c.in-Err-At.ensures.fault in
+    fault-then _ _ c.at.result (formula-fault s c.args.first progress c.in-Err-At.cause c.in-Err-At.place c.requires.lexed single told.1) c.at.ensures
 
 pub returns-clause-read : goal.returns-clause-read
 returns-clause-read c =

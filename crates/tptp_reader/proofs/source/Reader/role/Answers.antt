@@ -9,9 +9,9 @@ returns-then-not-is_lower-clause-halted c =
 pub returns-in-Some-clause-read : goal.returns-in-Some-clause-read
 returns-in-Some-clause-read c =
     role-read _ _ _ _ _ c.in_ok-token.ensures.found (sym c.is_lower.ensures ∙ c.if-not-is_lower.false)
-    (sym c.in-Some.is ∙ c.role_of.ensures)
+    (sym c.in-Some.is ∙ c.of_word.ensures)
 
 pub returns-in-None-clause-halted : goal.returns-in-None-clause-halted
 returns-in-None-clause-halted c =
     untaken-ends _ _ _ _ _ c.in_ok-token.ensures.found (sym c.is_lower.ensures ∙ c.if-not-is_lower.false)
-    (sym c.in-None.is ∙ c.role_of.ensures) c.untaken_role.ensures
+    (sym c.in-None.is ∙ c.of_word.ensures) c.untaken_role.ensures
