@@ -2,10 +2,11 @@
 
 ghost use Rattle.std.specs.Prelude.{◌≤◌};
 
-use super::tests::{binary, constant, size_of_equation};
+use super::tests::size_of_equation;
 use super::*;
 use fol_base::{Side, Term, Terms, same_term};
 use plain_types::Mem;
+use sample_terms::{binary, constant};
 use std::alloc::Global;
 use std::test::Fail;
 use term_bank::Bank;

@@ -4,10 +4,10 @@
 
 ghost use Rattle.std.specs.Prelude.{◌<◌};
 
-use super::tests::{binary, constant, unary};
 use super::*;
 use fol_base::Term;
 use plain_types::Mem;
+use sample_terms::{binary, constant, unary};
 use std::alloc::Global;
 use std::test::Fail;
 

@@ -22,7 +22,7 @@ ghost use Rattle.unifier.specs.Renaming.{
 use crate::bindings::Bindings;
 use crate::cells::Cell;
 use crate::layout::{code, find_place};
-use fol_base::{Side, Subst, Term, Terms};
+use fol_base::{SIZE_LIMIT, Side, Subst, Term, Terms};
 use plain_types::Mem;
 use std::alloc::Global;
 
@@ -34,8 +34,8 @@ impl Bindings {
     /// `unify` says which counts meet that, and `fits` tells it too.
     pub fn substs(&self, left_vars: u32, right_vars: u32) -> Mem<(Subst, Subst)>
         requires fits { fits self.now left_vars right_vars ≡ true }
-        requires left_room { left_vars ≤ 2 ^ 31 }
-        requires right_room { right_vars ≤ 2 ^ 31 }
+        requires left_room { left_vars ≤ SIZE_LIMIT }
+        requires right_room { right_vars ≤ SIZE_LIMIT }
         ensures { IfOk result (λ made. AreRenamed self.now left_vars right_vars made.0 made.1) }
     {
         let alloc = *self.cells.allocator();
@@ -61,8 +61,8 @@ impl Bindings {
 
     /// The new number of each shared variable: how many shared ones come before it.
     fn names(&self, alloc: Global, left_vars: u32, right_vars: u32) -> Mem<Vec<u32>>
-        requires left_room { left_vars ≤ 2 ^ 31 }
-        requires right_room { right_vars ≤ 2 ^ 31 }
+        requires left_room { left_vars ≤ SIZE_LIMIT }
+        requires right_room { right_vars ≤ SIZE_LIMIT }
         ensures { IfOk result (λ names. AreNames self.now left_vars right_vars names.items) }
     {
         let count = self.code_count(left_vars, right_vars);

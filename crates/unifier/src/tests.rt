@@ -4,8 +4,9 @@ ghost use Rattle.std.specs.Prelude.{◌≤◌, ◌^◌};
 ghost use Rattle.term_bank.specs.Bank.{IsOf};
 
 use super::*;
-use fol_base::{Side, Subst, Term, Terms, same_term};
+use fol_base::{SIZE_LIMIT, Side, Subst, Term, Terms, same_term};
 use plain_types::Mem;
+use sample_terms::{binary, constant, unary};
 use std::alloc::Global;
 use std::test::Fail;
 use term_bank::{Bank, BankLit, TermRef};
@@ -20,23 +21,6 @@ const G: u32 = 4;
 
 /// The one symbol of one argument; f and g have two.
 const H: u32 = 5;
-
-pub fn constant(alloc: Global, symbol: u32) -> Term {
-    Term::App(symbol, Terms::new(alloc))
-}
-
-pub fn unary(alloc: Global, symbol: u32, argument: Term) -> Mem<Term> {
-    let mut arguments = Terms::new(alloc);
-    arguments.push(argument)?;
-    Ok(Term::App(symbol, arguments))
-}
-
-pub fn binary(alloc: Global, symbol: u32, first: Term, second: Term) -> Mem<Term> {
-    let mut arguments = Terms::new(alloc);
-    arguments.push(first)?;
-    arguments.push(second)?;
-    Ok(Term::App(symbol, arguments))
-}
 
 /// Whether two lists of terms are the same.
 fn are(terms: &Subst, wanted: &[Term]) -> bool {
@@ -60,8 +44,8 @@ fn unified_terms(
     apart: bool,
     counts: (u32, u32),
 ) -> Mem<Option<(Subst, Subst)>>
-    requires left { counts.0 ≤ 2 ^ 31 }
-    requires right { counts.1 ≤ 2 ^ 31 }
+    requires left { counts.0 ≤ SIZE_LIMIT }
+    requires right { counts.1 ≤ SIZE_LIMIT }
 {
     let (left, right) = terms;
     let (left_vars, right_vars) = counts;
@@ -80,7 +64,7 @@ fn unified_terms(
 /// The one substitution that makes two terms equal, for a count above the variables of both. None where no
 /// unifier exists, or the count is too small.
 fn unified_by_one(alloc: Global, terms: (&Term, &Term), count: u32) -> Mem<Option<Subst>>
-    requires { count ≤ 2 ^ 31 }
+    requires { count ≤ SIZE_LIMIT }
 {
     let (left, right) = terms;
     if left.variable_bound() > u64::from(count) {
