@@ -1,6 +1,6 @@
 // Clauses in a bank.
 
-ghost use Rattle.std.specs.Prelude.{◌≡◌, ◌<◌, ◌^◌, map, IfOk, OnOk, OnErr};
+ghost use Rattle.std.specs.Prelude.{◌≡◌, ◌<◌, map, IfOk, OnOk, OnErr};
 ghost use Rattle.std.specs.List.{All};
 ghost use Rattle.std.specs.List.Sorted.{IsStrictlyIncreasing};
 ghost use Rattle.fol_base.specs.Clause.{clause_size};
@@ -19,7 +19,7 @@ ghost use Rattle.bank_clause.specs.Clause.{
 
 use crate::interning::{bare_names, intern_literals};
 use crate::trees::{negative_names, tree_literals};
-use fol_base::{Clause, Literals};
+use fol_base::{Clause, Literals, SIZE_LIMIT};
 use plain_types::{Mem, Names};
 use smallvec::SmallVec;
 use std::alloc::Global;
@@ -45,10 +45,11 @@ impl Model for BankClause {
 
     ghost view = { λ c. record { literals = c.literals.items; names = c.names.items; size = c.symbols } };
 
-    ghost use Rattle.std.specs.Prelude.{◌<◌, ◌^◌};
+    ghost use Rattle.std.specs.Prelude.{◌<◌};
     ghost use Rattle.std.specs.List.Sorted.{IsStrictlyIncreasing};
+    ghost use Rattle.fol_base.specs.declared.limits.TheConstants.{SIZE_LIMIT};
 
-    ghost invariant = { λ c. IsStrictlyIncreasing c.names.items × (c.symbols < 2 ^ 31) };
+    ghost invariant = { λ c. IsStrictlyIncreasing c.names.items × (c.symbols < SIZE_LIMIT) };
 }
 
 impl BankClause {
@@ -63,7 +64,7 @@ impl BankClause {
         requires table { IsTableOf bank.old table.old }
         requires canonical { IsCanonical (clause_of clause.now) }
         requires names { AreAssertions clause.now.names }
-        requires size { clause_size (clause_of clause.now) < 2 ^ 31 }
+        requires size { clause_size (clause_of clause.now) < SIZE_LIMIT }
         ensures of_bank { IfOk result (IsClauseOf bank.new) }
         ensures same { IfOk result (λ made. clause_in bank.new made ≡ clause_of clause.now) }
         ensures known { IfOk result (λ made. All (IsKnown bank.new table.new) made.literals) }
@@ -116,7 +117,7 @@ impl BankClause {
     pub fn size(&self) -> u32
         ensures size { (bank : ABank) → IsClauseOf bank self.now → result ≡ clause_size (clause_in bank self.now) }
         ensures kept { result ≡ self.now.size }
-        ensures limit { result < 2 ^ 31 }
+        ensures limit { result < SIZE_LIMIT }
     {
         self.symbols
     }

@@ -1,6 +1,6 @@
 // Each public call with ample memory, on rows worked out by hand.
 
-ghost use Rattle.std.specs.Prelude.{◌<◌, ◌^◌, IfOk};
+ghost use Rattle.std.specs.Prelude.{◌<◌, IfOk};
 ghost use Rattle.std.specs.List.Sorted.{IsStrictlyIncreasing};
 ghost use Rattle.fol_base.specs.Clause.{clause_size};
 ghost use Rattle.fol_base.specs.Literal.{clause_of};
@@ -9,8 +9,9 @@ ghost use Rattle.bank_clause.specs.Clause.{AreAssertions, IsCanonical, IsClauseO
 
 use super::*;
 use crate::trees::negative_names;
-use fol_base::{Clause, Literal, Literals, Term, Terms, canonical, same_clause, same_term};
+use fol_base::{Clause, Literal, Literals, SIZE_LIMIT, Term, canonical, same_clause, same_term};
 use plain_types::{Mem, Names, NoMemory};
+use sample_terms::{atom, constant, unary};
 use std::alloc::Global;
 use std::test::Fail;
 use term_bank::{Bank, Table};
@@ -21,28 +22,10 @@ const F: u32 = 2;
 
 const P: u32 = 3;
 
-fn constant(alloc: Global, symbol: u32) -> Term {
-    Term::App(symbol, Terms::new(alloc))
-}
-
-fn unary(alloc: Global, symbol: u32, argument: Term) -> Mem<Term> {
-    let mut arguments = Terms::new(alloc);
-    arguments.push(argument)?;
-    Ok(Term::App(symbol, arguments))
-}
-
-fn atom(alloc: Global, argument: Term) -> Mem<Literal> {
-    Ok(Literal {
-        positive: true,
-        left: unary(alloc, P, argument)?,
-        right: constant(alloc, 0),
-    })
-}
-
 /// The literals `p(X) | X != a`, for the variable X with this number.
 fn atom_and_disequation(alloc: Global, variable: u32) -> Mem<Vec<Literal>> {
     let mut literals = Vec::new(alloc);
-    literals.push(atom(alloc, Term::Var(variable))?)?;
+    literals.push(atom(alloc, unary(alloc, P, Term::Var(variable))?))?;
     literals.push(Literal {
         positive: false,
         left: Term::Var(variable),
@@ -60,7 +43,7 @@ fn many_atoms(alloc: Global, count: u32) -> Mem<Vec<Literal>> {
         } else {
             unary(alloc, F, Term::Var(4))?
         };
-        literals.push(atom(alloc, argument)?)?;
+        literals.push(atom(alloc, unary(alloc, P, argument)?))?;
     }
     Ok(literals)
 }
@@ -70,14 +53,14 @@ fn form_of(alloc: Global, literals: Vec<Literal>, names: &[u32]) -> Mem<Clause>
     requires { IsStrictlyIncreasing names.now }
     ensures canonical { IfOk result (λ form. IsCanonical (clause_of form)) }
     ensures names { IfOk result (λ form. AreAssertions form.names) }
-    ensures size { IfOk result (λ form. clause_size (clause_of form) < 2 ^ 31) }
+    ensures size { IfOk result (λ form. clause_size (clause_of form) < SIZE_LIMIT) }
 {
     let clause = Clause {
         literals: Literals::from_vec(literals),
         names: Names::from_vec(negative_names(alloc, names)?),
     };
     let (form, _) = canonical(alloc, &clause)?;
-    if form.size() >= 1 << 31 {
+    if form.size() >= SIZE_LIMIT {
         return Err(NoMemory);
     }
     Ok(form)
