@@ -5,8 +5,8 @@ use Rattle.std.specs.List.{AllByRecursion, list_all}
 use Rattle.std.proofs.lemmas.Bool.{and_parts}
 use Rattle.std.proofs.lemmas.List.Sums.{sum_by-cons}
 use Rattle.std.proofs.lemmas.Slice.Eq.{bytes_eq-Decides}
-use Rattle.tptp_problem.specs.declared.TheConstants.{MOST_INCLUDES}
-use Rattle.tptp_tree.specs.declared.TheConstants.{MOST_NESTING}
+use Rattle.tptp_problem.specs.declared.limits.TheConstants.{MOST_INCLUDES}
+use Rattle.tptp_tree.specs.declared.limits.TheConstants.{MOST_NESTING}
 use Rattle.outside.specs.Library.{Holdings}
 use Rattle.tptp_token.specs.Lexemes.{Lexeme, lexeme}
 use Rattle.tptp_token.specs.declared.token.Kind.TheVariants.{Lower, Mark}

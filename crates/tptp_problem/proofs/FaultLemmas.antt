@@ -4,7 +4,7 @@ use Rattle.std.specs.Prelude.{slice_get}
 use Rattle.std.proofs.Math.Seq.{drop-drop}
 use Rattle.std.proofs.lemmas.List.{length-map, map-append}
 use Rattle.std.specs.Str.{IsAscii}
-use Rattle.tptp_tree.specs.declared.TheConstants.{MOST_NESTING}
+use Rattle.tptp_tree.specs.declared.limits.TheConstants.{MOST_NESTING}
 use Rattle.tptp_token.specs.Lexemes.{Lexeme, lexeme_at, lexeme, word_lexeme}
 use Rattle.tptp_token.specs.Lexing.{lexed_of}
 use Rattle.tptp_token.specs.declared.token.Lexed.{Lexed}

@@ -1,7 +1,7 @@
 -- Includes, texts and files, by what the functions that read them say.
 use Rattle.std.proofs.Common.{◌≡◌, inl, inr, ℕ, zero, suc, ◌+◌, ◌*◌, ◌-◌, ◌<◌, Bool, true, false, None, Some, Option, List, [], ◌∷◌, ◌++◌, drop, length, refl, ap, sym, ◌∙◌, subst, arith}
 use Rattle.std.specs.Prelude.{slice_get, if◌then◌else◌}
-use Rattle.tptp_problem.specs.declared.TheConstants.{MOST_INCLUDES}
+use Rattle.tptp_problem.specs.declared.limits.TheConstants.{MOST_INCLUDES}
 use Rattle.outside.specs.Library.{Holdings}
 use Rattle.tptp_token.specs.Words.{name_of}
 use Rattle.tptp_tree.specs.Entries.{names_meant}

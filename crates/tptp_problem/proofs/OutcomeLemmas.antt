@@ -2,8 +2,8 @@
 use Rattle.std.proofs.Common.{◌≡◌, ◌⊎◌, inl, inr, ⊎_elim, ℕ, zero, suc, ◌+◌, ◌*◌, ◌-◌, ◌≤◌, ◌<◌, Bool, true, false, None, Some, Option, List, [], ◌∷◌, ◌++◌, take, drop, length, refl, ap, ap₂, sym, ◌∙◌, subst, arith, append_assoc, length-drop}
 use Rattle.std.specs.Prelude.{IsSomeAnd}
 use Rattle.std.proofs.lemmas.List.{take-take, take-append-drop}
-use Rattle.tptp_problem.specs.declared.TheConstants.{MOST_INCLUDES}
-use Rattle.tptp_tree.specs.declared.TheConstants.{MOST_NESTING}
+use Rattle.tptp_problem.specs.declared.limits.TheConstants.{MOST_INCLUDES}
+use Rattle.tptp_tree.specs.declared.limits.TheConstants.{MOST_NESTING}
 use Rattle.outside.specs.Library.{Holdings, FoundMore}
 use Rattle.tptp_token.specs.Lexemes.{Lexeme, word_lexeme}
 use Rattle.tptp_token.specs.Lexing.{lexed_of}

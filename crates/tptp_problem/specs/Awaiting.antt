@@ -1,7 +1,7 @@
 -- The grammar of includes as a machine that takes token after token: what may come next.
 use Rattle.std.specs.Prelude.{◌≡◌, ◌≤◌, ◌++◌, ℕ, suc, ◌+◌, Option, None, Some, Bool, true, false, List, [], ◌∷◌, codes, drop, length, if◌then◌else◌}
 use Rattle.tptp_token.specs.Lexemes.{Lexeme, lexeme, is_lexeme, is_mark}
-use Rattle.tptp_token.specs.declared.token.Kind.TheVariants.{Lower}
+use Rattle.tptp_token.specs.declared.token.Kind.TheVariants.{Lower, Mark}
 use Rattle.tptp_tree.specs.Entries.{NamePhrase, name_lexeme, more_names_lexemes, include_end, names_meant}
 use Rattle.tptp_token.specs.Words.{is_word, is_name}
 use Rattle.tptp_problem.specs.declared.include.Awaited.{Awaited}

@@ -1,8 +1,8 @@
 -- Which files are loaded for a problem, and how many bytes they may have.
 use Rattle.std.specs.Prelude.{◌≤◌, ℕ, ◌-◌, ◌==◌, Bool, false, not, min, List, [], ◌∷◌, ◌++◌, length, take, Option, None, Some, codes, if◌then◌else◌}
 use Rattle.std.specs.List.{suffix_len}
-use Rattle.tptp_token.specs.declared.TheConstants.{MOST_TEXT_BYTES}
-use Rattle.tptp_problem.specs.declared.TheConstants.{MOST_PROBLEM_BYTES}
+use Rattle.tptp_token.specs.declared.limits.TheConstants.{MOST_TEXT_BYTES}
+use Rattle.tptp_problem.specs.declared.limits.TheConstants.{MOST_PROBLEM_BYTES}
 use Rattle.outside.specs.Library.{Holdings, HoldsExactly}
 
 -- what stands up to and with the last `/`

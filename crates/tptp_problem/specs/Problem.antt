@@ -1,8 +1,8 @@
 -- The problem of a library: the formulas of a file after its includes and selections, in reading order, or the first fault.
 -- A file is read entry by entry; an include's file is loaded and read where the include stands.
 use Rattle.std.specs.Prelude.{◌≡◌, ◌≤◌, ◌<◌, ◌⊎◌, ⊤, ℕ, zero, suc, ◌+◌, ◌*◌, Bool, true, false, ◌&&◌, ◌||◌, List, [], ◌∷◌, ◌++◌, length, drop, Option, None, Some, slice_get}
-use Rattle.tptp_tree.specs.declared.TheConstants.{MOST_NESTING}
-use Rattle.tptp_problem.specs.declared.TheConstants.{MOST_INCLUDES}
+use Rattle.tptp_tree.specs.declared.limits.TheConstants.{MOST_NESTING}
+use Rattle.tptp_problem.specs.declared.limits.TheConstants.{MOST_INCLUDES}
 use Rattle.outside.specs.Library.{Holdings, FoundMore}
 use Rattle.tptp_token.specs.Lexemes.{Lexeme, lexemes_of}
 use Rattle.tptp_token.specs.Lexing.{lexed_of}

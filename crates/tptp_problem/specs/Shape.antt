@@ -1,7 +1,7 @@
 -- What the program's values are in the words of the definitions.
 use Rattle.std.specs.Prelude.{◌≡◌, ◌≤◌, ℕ, List, map, length, Option, IfSome}
 use Rattle.outside.specs.Faults.{Rose}
-use Rattle.tptp_token.specs.declared.TheConstants.{MOST_TEXT_BYTES}
+use Rattle.tptp_token.specs.declared.limits.TheConstants.{MOST_TEXT_BYTES}
 use Rattle.tptp_token.specs.Lexemes.{Lexeme, lexemes_of}
 use Rattle.tptp_token.specs.Lexing.{lexed_of}
 use Rattle.tptp_reader.specs.declared.cause.ReadCause.{ReadCause}

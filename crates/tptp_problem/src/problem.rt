@@ -189,7 +189,12 @@ impl Reading<'_> {
         }
         match annotated(alloc, source.bytes, source.lexed, first, MOST_NESTING) {
             Err(ReadFault::NoMemory) => Err(ReadFault::NoMemory),
-            Err(ReadFault::At(cause, _, place)) => Err(ReadFault::at(alloc, cause, source.name, place)),
+            Err(ReadFault::At(cause, _, place)) => Err(ReadFault::at(
+                alloc,
+                cause,
+                source.name,
+                place,
+            )),
             Ok(read) => {
                 let next = read.next;
                 let mut formula = read.annotated;

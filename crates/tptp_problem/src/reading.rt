@@ -1,7 +1,7 @@
 // How far the reading of a problem has come.
 
 ghost use Rattle.std.specs.Prelude.{◌≤◌};
-ghost use Rattle.tptp_problem.specs.declared.TheConstants.{MOST_PROBLEM_BYTES};
+ghost use Rattle.tptp_problem.specs.declared.limits.TheConstants.{MOST_PROBLEM_BYTES};
 
 /// How far the reading of a problem has come.
 #[derive(Drop)]

@@ -92,11 +92,12 @@ impl<'a> Source<'a> {
         let name = self.token(first + 2)?;
         let comma = self.token(first + 3)?;
         let role = self.token(first + 4)?;
+        let conjecture = Role::Conjecture.word();
         let heads = word.is_exactly(Kind::Lower, b"fof")
             && open.is_mark(b"(")
             && name.is_name()
             && comma.is_mark(b",")
-            && role.is_exactly(Kind::Lower, Role::Conjecture.word());
+            && role.is_exactly(Kind::Lower, conjecture);
         if heads { Some(name) } else { None }
     }
 
@@ -127,7 +128,12 @@ impl<'a> Source<'a> {
     {
         match fault {
             LexFault::BadByte(place) => ReadFault::at(alloc, ReadCause::BadByte, self.name, place),
-            LexFault::Unclosed(place) => ReadFault::at(alloc, ReadCause::Unclosed, self.name, place),
+            LexFault::Unclosed(place) => ReadFault::at(
+                alloc,
+                ReadCause::Unclosed,
+                self.name,
+                place,
+            ),
         }
     }
 

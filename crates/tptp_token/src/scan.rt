@@ -3,13 +3,11 @@
 ghost use Rattle.std.specs.Prelude.{◌≡◌, ◌≤◌, IfOk, length};
 ghost use Rattle.tptp_token.specs.Lexing.{lexed_of};
 
+use crate::limits::MOST_TEXT_BYTES;
 use crate::piece::{Piece, piece_at};
 use crate::token::{LexFault, Lexed, Token, Tokens};
 use plain_types::Mem;
 use std::alloc::Global;
-
-/// The most bytes that a text may have, so that each place in it is a `u32`.
-pub const MOST_TEXT_BYTES: usize = 67_108_864;
 
 /// The tokens of a text up to its first fault. Blanks are the bytes 9 to 13 and 32; a comment runs from `%` to the end
 /// of the line, or from `/*` to the next `*/`. The longest token is taken.

@@ -1,5 +1,5 @@
 use Rattle.std.proofs.Common.{◌≡◌, [], ◌∷◌, true, false, refl, sym, ap, ◌∙◌, subst}
-use Rattle.tptp_tree.specs.declared.TheConstants.{MOST_NESTING}
+use Rattle.tptp_tree.specs.declared.limits.TheConstants.{MOST_NESTING}
 use Rattle.tptp_reader.specs.Annotating.{IsFaultOf}
 use Rattle.tptp_reader.specs.declared.cause.ReadFault.{ReadFault}
 use Rattle.tptp_problem.specs.Formulas.{placed_in}
