@@ -1,7 +1,7 @@
 -- What a run answers and prints, and why.
 use Rattle.std.specs.Prelude.{◌≡◌, ℕ, ◌≤◌, length, List, Option, None, Some, IfSome, IsSome, IsTrue}
 use Rattle.plain_types.specs.declared.limits.TheConstants.{DEFAULT_INFERENCES}
-use Rattle.tptp_token.specs.declared.scan.TheConstants.{MOST_TEXT_BYTES}
+use Rattle.tptp_token.specs.declared.limits.TheConstants.{MOST_TEXT_BYTES}
 use Rattle.ground_reader.specs.Syntax.{NamedFormula}
 use Rattle.ground_reader.specs.GroundText.{IsGroundText, IsWithinLimits, IsReadAs}
 use Rattle.ground_reader.specs.declared.problem.GroundProblem.{GroundProblem}

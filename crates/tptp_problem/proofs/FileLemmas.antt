@@ -15,7 +15,6 @@ use Rattle.tptp_problem.specs.IncludeReads.{IsIncludeRead}
 use Rattle.tptp_problem.specs.Includes.{is_include, IsInclude}
 use Rattle.tptp_problem.specs.Problem.{Progress, Reads, tokens_of, lexemes, start_of, IsIncludeStep, IsFormulaStep, IsIncludeFault, ReadsNamed, FaultsNamed, Adds, IsProblemFault}
 use Rattle.tptp_problem.specs.Shape.{IsLexed, file_of, lexemes_told, selections}
-use Rattle.tptp_reader.specs.declared.cause.ReadFault.{ReadFault}
 use Rattle.tptp_problem.proofs.FaultLemmas.{tokens-same, lexemes-same, place-same}
 use Rattle.tptp_problem.proofs.ReadLemmas.{ReadsUpTo, reads-on, step-by}
 

@@ -1,7 +1,7 @@
 use Rattle.std.proofs.Common.{◌≤◌, ℕ, List, length, sym, subst, arith}
 use Rattle.outside.specs.Library.{HoldsExactly}
 use Rattle.kernel_steps.proofs.KernelLemmas.{IfOk-change}
-use Rattle.tptp_token.specs.declared.scan.TheConstants.{MOST_TEXT_BYTES}
+use Rattle.tptp_token.specs.declared.limits.TheConstants.{MOST_TEXT_BYTES}
 use Rattle.prover_main.specs.Run.{read}
 use Rattle.prover_main.proofs.run.report_for.Goals as goal
 
