@@ -13,9 +13,9 @@ use crate::names::{push_file, push_name};
 use crate::page::Page;
 use crate::terms::{push_literals, push_term};
 use fol_base::{Clause, Side, Term};
-use plain_types::{Mem, Text};
 use ground_reader::{GroundProblem, GroundRole, GroundSymbol};
 use kernel_steps::{Derivation, Line, Step};
+use plain_types::{Mem, Text};
 use std::alloc::Global;
 
 /// Adds the name of a line.

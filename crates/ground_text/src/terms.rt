@@ -9,8 +9,8 @@ ghost use Rattle.ground_text.specs.Terms.{symbol_names, symbol_text, term_text, 
 use crate::names::push_name;
 use crate::page::Page;
 use fol_base::{Literal, Term};
-use plain_types::Mem;
 use ground_reader::GroundSymbol;
+use plain_types::Mem;
 
 /// Adds the name of a symbol, by its number.
 fn push_symbol(page: &mut Page, symbols: &[GroundSymbol], symbol: u32) -> Mem<()>

@@ -2,9 +2,9 @@
 
 use super::*;
 use fol_base::{Clause, Literal, Literals, Position, Side, Term, Terms};
-use plain_types::{Mem, Names, Text};
 use ground_reader::{GroundSymbol, GroundSymbols, read_ground};
 use kernel_steps::{Derivation, Line, Step};
+use plain_types::{Mem, Names, Text};
 use std::alloc::Global;
 use std::test::Fail;
 
