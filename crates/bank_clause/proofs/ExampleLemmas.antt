@@ -4,7 +4,8 @@ use Rattle.std.proofs.lemmas.List.Elements.{All-nil, All-cons}
 use Rattle.fol_base.specs.Clause.{clause_size}
 use Rattle.term_bank.specs.Literal.{IsLiteralOf}
 use Rattle.term_bank.specs.declared.literal.BankLit.{BankLit}
-use Rattle.bank_clause.specs.Clause.{assertion, clause_in, IsCanonical}
+use Rattle.bank_clause.specs.Clause.{assertion, clause_in}
+use Rattle.fol_base.specs.Canonical.{IsCanonical}
 use Rattle.bank_clause.specs.Examples.{CountsNoNames, IsOfItsBank, StandsForRow, over, row}
 
 pub stands_for_row : StandsForRow

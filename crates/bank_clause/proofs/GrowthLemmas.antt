@@ -3,7 +3,8 @@ use Rattle.std.proofs.Common.{◌≡◌, map, sym, ap, ◌∙◌, subst}
 use Rattle.fol_base.specs.Clause.{clause_size}
 use Rattle.term_bank.specs.Literal.{AreLiteralsOf, literals_in}
 use Rattle.term_bank.proofs.GrowthLemmas.{keeps_literals}
-use Rattle.bank_clause.specs.Clause.{assertion, clause_in, IsCanonical}
+use Rattle.bank_clause.specs.Clause.{assertion, clause_in}
+use Rattle.fol_base.specs.Canonical.{IsCanonical}
 use Rattle.bank_clause.specs.Laws.{KeepsClauses, KeepsMembers}
 
 pub keeps_clauses : KeepsClauses

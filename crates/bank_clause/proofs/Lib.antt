@@ -1,5 +1,4 @@
 pub mod SidesLemmas
 pub mod GrowthLemmas
 pub mod ClauseLemmas
-pub mod CanonicalLemmas
 pub mod ExampleLemmas

@@ -5,7 +5,7 @@ use Rattle.std.specs.List.Sorted.{IsStrictlyIncreasing}
 use Rattle.plain_types.specs.declared.sequence.NameLit.{NameLit}
 use Rattle.fol_base.specs.Tree.{Tree}
 use Rattle.fol_base.specs.Clause.{TreeLiteral, TreeClause, clause_size}
-use Rattle.fol_base.specs.Canonical.{canonical_clause}
+use Rattle.fol_base.specs.Canonical.{IsCanonical}
 use Rattle.term_bank.specs.Bank.{number, tree_in, number_in}
 use Rattle.term_bank.specs.Literal.{AreLiteralsOf, literals_in}
 use Rattle.term_bank.specs.declared.literal.BankLit.{BankLit}
@@ -21,10 +21,6 @@ assertion n = record { positive = false; name = n }
 -- the clause for which a clause of the bank stands
 abbrev pub clause_in : Bank → BankClause → TreeClause
 clause_in bank c = record { literals = literals_in bank c.literals; names = map assertion c.names }
-
--- the variables are numbered by their first occurrences
-abbrev pub IsCanonical : TreeClause → Type 0
-IsCanonical c = canonical_clause c ≡ c
 
 -- the names are negative, and their numbers rise
 pub record AreAssertions (ns : List NameLit) : Type 0 where

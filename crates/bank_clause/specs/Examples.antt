@@ -2,7 +2,8 @@
 use Rattle.std.specs.Prelude.{◌≡◌, ℕ, true, false, [], ◌∷◌}
 use Rattle.fol_base.specs.Tree.{true_tree}
 use Rattle.fol_base.specs.Clause.{TreeClause}
-use Rattle.fol_base.specs.Examples.{x, a, p, disequation}
+use Rattle.fol_base.specs.Examples.{x, a, p}
+use Rattle.fol_base.specs.Rules.{disequation}
 use Rattle.term_bank.specs.Bank.{tree_in, AreOf}
 use Rattle.term_bank.specs.declared.bank.Bank.{Bank}
 use Rattle.term_bank.specs.declared.literal.BankLit.{BankLit}

@@ -1,16 +1,14 @@
--- Laws of clauses in banks: what growth keeps, and which clauses can be taken in.
+-- Laws of clauses in banks: what growth keeps.
 use Rattle.std.specs.Prelude.{◌≡◌, List}
 use Rattle.std.specs.List.{All}
 use Rattle.fol_base.specs.Tree.{Tree}
-use Rattle.fol_base.specs.Clause.{TreeClause, clause_size}
-use Rattle.fol_base.specs.Canonical.{canonical_clause}
 use Rattle.term_bank.specs.Bank.{Grows}
 use Rattle.term_bank.specs.Interning.{InternsAll}
 use Rattle.term_bank.specs.Literal.{AreLiteralsOf}
 use Rattle.term_bank.specs.declared.literal.BankLit.{BankLit}
 use Rattle.term_bank.specs.declared.bank.Table.{Table}
 use Rattle.term_bank.specs.declared.bank.Bank.{Bank}
-use Rattle.bank_clause.specs.Clause.{clause_in, IsCanonical, IsClauseOf, IsKnown, AreMembersOf}
+use Rattle.bank_clause.specs.Clause.{clause_in, IsClauseOf, IsKnown, AreMembersOf}
 use Rattle.bank_clause.specs.declared.clause.BankClause.{BankClause}
 use Rattle.bank_clause.specs.declared.member.Member.{Member}
 
@@ -30,11 +28,3 @@ KeepsKnownLiterals =
     (trees : List Tree) (known learned : Table) (old new : Bank) (ls : List BankLit)
     → InternsAll trees known learned old new → AreLiteralsOf old ls
     → All (IsKnown old known) ls → All (IsKnown new learned) ls
-
--- the canonical form of a clause is canonical
-abbrev pub CanonicalFormsAreCanonical : Type 0
-CanonicalFormsAreCanonical = (c : TreeClause) → IsCanonical (canonical_clause c)
-
--- and of the same size
-abbrev pub CanonicalFormsKeepSizes : Type 0
-CanonicalFormsKeepSizes = (c : TreeClause) → clause_size (canonical_clause c) ≡ clause_size c

@@ -1,4 +1,5 @@
 pub mod Parts
 pub mod Clause
 pub mod Laws
+pub mod Lending
 pub mod Examples

@@ -4,13 +4,13 @@ ghost use Rattle.std.specs.Prelude.{◌≡◌, ◌<◌, map, IfOk, OnOk, OnErr};
 ghost use Rattle.std.specs.List.{All};
 ghost use Rattle.std.specs.List.Sorted.{IsStrictlyIncreasing};
 ghost use Rattle.fol_base.specs.Clause.{clause_size};
+ghost use Rattle.fol_base.specs.Canonical.{IsCanonical};
 ghost use Rattle.fol_base.specs.Literal.{clause_of};
 ghost use Rattle.term_bank.specs.Bank.{IsTableOf, Grows};
 ghost use Rattle.term_bank.specs.Interning.{InternsAll, InternsFirst};
 ghost use Rattle.term_bank.specs.declared.bank.Bank.{Bank as ABank};
 ghost use Rattle.bank_clause.specs.Clause.{
   AreAssertions,
-  IsCanonical,
   IsClauseOf,
   IsKnown,
   clause_in,

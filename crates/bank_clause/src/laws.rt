@@ -5,11 +5,10 @@ ghost use Rattle.std.specs.Prelude.{◌≡◌, [], ◌∷◌};
 ghost use Rattle.fol_base.specs.Tree.{true_tree};
 ghost use Rattle.fol_base.specs.Examples.{x, a, p};
 ghost use Rattle.plain_types.specs.Examples.{positive_name};
-ghost use Rattle.bank_clause.specs.Clause.{assertion, IsCanonical, AreAssertions, sides};
+ghost use Rattle.bank_clause.specs.Clause.{assertion, AreAssertions, sides};
+ghost use Rattle.fol_base.specs.Canonical.{IsCanonical};
 ghost use Rattle.bank_clause.specs.Examples.{CountsNoNames, IsOfItsBank, StandsForRow, row, row_of_another};
 ghost use Rattle.bank_clause.specs.Laws.{
-  CanonicalFormsAreCanonical,
-  CanonicalFormsKeepSizes,
   KeepsClauses,
   KeepsKnownLiterals,
   KeepsMembers,
@@ -21,12 +20,6 @@ pub fn kept_clauses()
     ensures clauses { KeepsClauses }
     ensures members { KeepsMembers }
     ensures known_literals { KeepsKnownLiterals }
-{}
-
-/// The canonical form of a clause can be taken into a bank: it is canonical, and of the clause's size.
-pub fn canonical_forms()
-    ensures canonical { CanonicalFormsAreCanonical }
-    ensures sizes { CanonicalFormsKeepSizes }
 {}
 
 /// What a bank clause stands for, and which clauses are of a bank.

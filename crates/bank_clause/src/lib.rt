@@ -3,10 +3,12 @@
 
 mod clause;
 mod interning;
+mod lending;
 mod member;
 mod trees;
 
 pub use clause::BankClause;
+pub use lending::BankLiterals;
 pub use member::{Member, Members};
 pub use term_bank::BankLit;
 

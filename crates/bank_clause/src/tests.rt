@@ -5,7 +5,8 @@ ghost use Rattle.std.specs.List.Sorted.{IsStrictlyIncreasing};
 ghost use Rattle.fol_base.specs.Clause.{clause_size};
 ghost use Rattle.fol_base.specs.Literal.{clause_of};
 ghost use Rattle.term_bank.specs.Bank.{IsTableOf, Grows};
-ghost use Rattle.bank_clause.specs.Clause.{AreAssertions, IsCanonical, IsClauseOf};
+ghost use Rattle.bank_clause.specs.Clause.{AreAssertions, IsClauseOf};
+ghost use Rattle.fol_base.specs.Canonical.{IsCanonical};
 
 use super::*;
 use crate::trees::negative_names;

@@ -1,16 +1,17 @@
 -- The canonical form of a clause: which clauses are their own, and a list of terms that makes it.
-use Rattle.std.proofs.Common.{◌≡◌, ℕ, zero, suc, ◌+◌, ◌<◌, ◌≤◌, max, ◌↔◌, true, false, ◌==◌, nat_le, Option, None, Some, Result, Ok, Err, List, [], ◌∷◌, ◌++◌, length, map, refl, ap, ap₂, sym, ◌∙◌, subst, ◌⊎◌, inl, inr, ⊎_elim, arith}
-use Rattle.std.specs.Prelude.{flat_map, option_map, unwrap_or}
+use Rattle.std.proofs.Common.{◌≡◌, ℕ, zero, suc, ◌+◌, ◌<◌, ◌≤◌, max, ◌↔◌, true, false, ◌==◌, nat_le, Option, None, Some, Result, Ok, Err, List, [], ◌∷◌, ◌++◌, length, map, get_or, refl, ap, ap₂, sym, ◌∙◌, subst, ◌⊎◌, inl, inr, ⊎_elim, arith}
+use Rattle.std.specs.Prelude.{flat_map, option_map, unwrap_or, sum_by}
 use Rattle.std.specs.Option.{is_some}
 use Rattle.std.specs.Result.{IfOk}
 use Rattle.std.proofs.lemmas.Bool.{true≢false, cond-true, cond-false, cases_Bool, leb-true, leb-false, cases_eq, eq-eqb, ne_eqb}
 use Rattle.std.proofs.lemmas.List.{map-append, length_push}
+use Rattle.std.proofs.lemmas.List.Sums.{sum_by-cons}
 use Rattle.std.proofs.lemmas.Option.{same_Some}
-use Rattle.fol_base.specs.Tree.{Tree, variable, application, Trees, no_trees, tree_then, tree_variables, trees_variables}
+use Rattle.fol_base.specs.Tree.{Tree, variable, application, Trees, no_trees, tree_then, tree_size, trees_size, tree_variables, trees_variables}
 use Rattle.fol_base.specs.Instance.{Substitution, instance, instances}
-use Rattle.fol_base.specs.Clause.{TreeLiteral, TreeClause, literal_instance, literal_variables, clause_variables, clause_instance, ClauseVariablesBelow}
+use Rattle.fol_base.specs.Clause.{TreeLiteral, TreeClause, literal_instance, literal_size, literal_variables, clause_variables, clause_instance, ClauseVariablesBelow}
 use Rattle.fol_base.specs.Canonical.{distinct, place_of, renaming, bound_of, terms_from, numbers_from, canonical_renaming, canonical_clause, IsCanonical}
-use Rattle.fol_base.specs.CanonicalLaws.{CanonicalIsOwnForm, CanonicalFormsAreCanonical}
+use Rattle.fol_base.specs.CanonicalLaws.{CanonicalIsOwnForm, CanonicalFormsAreCanonical, CanonicalFormsKeepSizes}
 use Rattle.plain_types.specs.declared.memory.NoMemory.{NoMemory}
 use Rattle.fol_base.specs.declared.clause.Clause.{Clause}
 use Rattle.fol_base.specs.Literal.{clause_of}
@@ -26,9 +27,15 @@ zero-plus n = omega arith
 suc-plus : (m n : ℕ) → suc m + n ≡ m + suc n
 suc-plus m n = omega arith
 
-length-terms_from : (first n : ℕ) (σ : Substitution) → length (terms_from first n σ) ≡ n
+pub length-terms_from : (first n : ℕ) (σ : Substitution) → length (terms_from first n σ) ≡ n
 length-terms_from first zero σ = refl
 length-terms_from first (suc n) σ = ap suc (length-terms_from (suc first) n σ)
+
+pub terms_from-at : (first n v : ℕ) (σ : Substitution) (d : Tree) → v < n → get_or (terms_from first n σ) v d ≡ σ (first + v)
+terms_from-at first zero v σ d h = absurd (omega arith)
+terms_from-at first (suc n) zero σ d h = let e : first ≡ first + 0 = omega arith in ap σ e
+terms_from-at first (suc n) (suc v) σ d h =
+    let e : suc first + v ≡ first + suc v = omega arith in terms_from-at (suc first) n v σ d (omega arith) ∙ ap σ e
 
 terms_from-push : (first n : ℕ) (σ : Substitution) → terms_from first (suc n) σ ≡ terms_from first n σ ++ σ (first + n) ∷ []
 terms_from-push first zero σ = let e : first ≡ first + 0 = omega arith in ap (λ v. σ v ∷ []) e
@@ -312,3 +319,25 @@ canonical_is_own_form c = (forth, back)
 
     back : canonical_clause c ≡ c → IsCanonical c
     back e = subst IsCanonical e (canonical_forms_are_canonical c)
+
+-- ---- sizes
+
+mutual
+  size-renamed : (order : List ℕ) (t : Tree) → tree_size (instance (renaming order) t) ≡ tree_size t
+  size-renamed order (variable v) = refl
+  size-renamed order (application f ts) = ap (λ n. 1 + n) (sizes-renamed order ts)
+
+  sizes-renamed : (order : List ℕ) (ts : Trees) → trees_size (instances (renaming order) ts) ≡ trees_size ts
+  sizes-renamed order no_trees = refl
+  sizes-renamed order (tree_then t ts) = ap₂ ◌+◌ (size-renamed order t) (sizes-renamed order ts)
+
+literals_size-renamed :
+    (order : List ℕ) (ls : List TreeLiteral) → sum_by literal_size (map (literal_instance (renaming order)) ls) ≡ sum_by literal_size ls
+literals_size-renamed order [] = refl
+literals_size-renamed order (l ∷ ls) =
+    sum_by-cons literal_size (literal_instance (renaming order) l) (map (literal_instance (renaming order)) ls)
+    ∙ ap₂ ◌+◌ (ap₂ ◌+◌ (size-renamed order l.left) (size-renamed order l.right)) (literals_size-renamed order ls)
+    ∙ sym (sum_by-cons literal_size l ls)
+
+pub canonical_forms_keep_sizes : CanonicalFormsKeepSizes
+canonical_forms_keep_sizes c = literals_size-renamed (distinct (clause_variables c)) c.literals

@@ -11,7 +11,8 @@ use Rattle.fol_base.specs.Multiset.{times, same_multiset, multiset_greater, IsTo
 use Rattle.fol_base.specs.Order.{tree_greater, sides_multiset, equivalent_literals, literal_greater, equivalent_clauses, clause_greater, LiteralsTotallyOrdered, ClausesTotallyOrdered, NotGreaterIsTransitive}
 use Rattle.fol_base.proofs.CountLemmas.{same_multiset-counts, same_multiset-from, multiset_greater-itself}
 use Rattle.fol_base.proofs.TotalLemmas.{multisets_totally_ordered}
-use Rattle.fol_base.proofs.OrderLemmas.{tree_eq-says, tree_eq-itself, trees_equivalence, SameLiteral, equivalent_literals-decided, literals_equivalence}
+use Rattle.fol_base.proofs.OrderLemmas.{trees_equivalence, SameLiteral, equivalent_literals-decided, literals_equivalence}
+use Rattle.fol_base.proofs.TreeLemmas.{tree_eq-true, tree_eq-refl}
 use Rattle.fol_base.proofs.TreeOrderLemmas.{trees_totally_ordered}
 
 -- ---- a literal's sides as a multiset
@@ -22,12 +23,12 @@ hits z t = cond (tree_eq z t) 1 0
 hits-cases : (z t : Tree) → (hits z t ≡ 0) ⊎ ((hits z t ≡ 1) × (z ≡ t))
 hits-cases z t =
     ⊎_elim
-    (λ e. inr (cond-true (tree_eq z t) 1 0 e, tree_eq-says z t e))
+    (λ e. inr (cond-true (tree_eq z t) 1 0 e, tree_eq-true z t e))
     (λ e. inl (cond-false (tree_eq z t) 1 0 e))
     (cases_Bool (tree_eq z t))
 
 hits-itself : (z : Tree) → hits z z ≡ 1
-hits-itself z = cond-true (tree_eq z z) 1 0 (tree_eq-itself z)
+hits-itself z = cond-true (tree_eq z z) 1 0 (tree_eq-refl z)
 
 abbrev sides : Bool → Tree → Tree → List Tree
 sides positive t u = cond positive (t ∷ u ∷ []) (t ∷ t ∷ u ∷ u ∷ [])

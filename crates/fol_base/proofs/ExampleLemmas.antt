@@ -13,7 +13,8 @@ use Rattle.fol_base.specs.Selection.{select_nothing, select_negative}
 use Rattle.fol_base.specs.GroundInference.{GroundSuperposition, GroundResolution, GroundFactoring, GroundConclusion}
 use Rattle.fol_base.specs.Covered.{InstanceOf, Covers}
 use Rattle.fol_base.specs.declared.clause.Side.TheVariants.{Left}
-use Rattle.fol_base.specs.Examples.{x, a, b, f, p, equation, disequation, clause, is_predicate, functions, all_a, p_of_a_alone}
+use Rattle.fol_base.specs.Examples.{x, a, b, f, p, equation, clause, is_predicate, functions, all_a, p_of_a_alone}
+use Rattle.fol_base.specs.Rules.{disequation}
 
 -- p(a) is an instance of p(X0), and of itself
 pub instance_over_the_list : GroundInstance functions (clause (p (x 0) ∷ [])) (p a ∷ [])
@@ -49,13 +50,13 @@ inner_rewritten = record {
   from_side = Left;
   from = equation (f (x 0)) b;
   from_there = refl;
-  from_falls = refl;
+  from_greater = refl;
   from_eligible = record { nothing_chosen = refl; is_eligible = refl };
   j = 0;
   into_side = Left;
   into = p (f (f (x 0)));
   into_there = refl;
-  into_falls = refl;
+  into_greater = refl;
   into_eligible = inr (refl, record { nothing_chosen = refl; is_eligible = refl });
   place = 0 ∷ 0 ∷ [];
   old = f (x 0);
@@ -99,7 +100,7 @@ greater_factored = record {
   side_i = Left;
   literal_i = equation (f a) b;
   i_there = refl;
-  i_falls = refl;
+  i_greater = refl;
   i_eligible = record { nothing_chosen = refl; is_eligible = refl };
   j = 0;
   side_j = Left;

@@ -1,25 +1,22 @@
 -- Ground instances of instances, and of canonical forms.
 use Rattle.std.proofs.Common.{◌≡◌, ℕ, suc, Bool, true, false, not, ◌||◌, ◌==◌, cond, List, [], ◌∷◌, get_or, Some, refl, ap, sym, ◌∙◌, ⊎_elim, arith}
-use Rattle.std.specs.Prelude.{filter, option_map, unwrap_or}
+use Rattle.std.specs.Prelude.{◌↔◌, All, filter, option_map, unwrap_or}
 use Rattle.std.specs.List.{list_any, AllByRecursion}
 use Rattle.std.proofs.lemmas.Bool.{and_parts, and_from, or_left, or_right, eqb-true, true≢false, cond_both, cond-true, cond-false, cases_Bool, eq-eqb}
 use Rattle.std.proofs.lemmas.Map.Views.{any-filter_same}
 use Rattle.std.proofs.lemmas.List.Elements.{recursion_from_All}
 use Rattle.fol_base.specs.Tree.{Tree, variable, application, Trees, no_trees, tree_then, trees_count}
 use Rattle.fol_base.specs.Instance.{Substitution, instance, instances}
-use Rattle.fol_base.specs.Clause.{clause_variables}
-use Rattle.fol_base.specs.Canonical.{distinct, place_of, renaming}
-use Rattle.fol_base.specs.Ground.{has_symbol, is_ground, is_over, are_over, ground_over}
-use Rattle.fol_base.specs.Symbols.{FunctionSymbol}
+use Rattle.fol_base.specs.Clause.{TreeClause, clause_variables, clause_instance}
+use Rattle.fol_base.specs.Canonical.{distinct, place_of, renaming, canonical_clause}
+use Rattle.fol_base.specs.Ground.{has_symbol, is_ground, is_over, are_over, ground_over, GroundClause, GroundInstance, literals_instance}
+use Rattle.fol_base.specs.Symbols.{FunctionSymbol, FunctionSymbols}
 use Rattle.fol_base.specs.InstanceLaws.{after, GroundInstancesOfInstances, GroundInstancesOfCanonical}
 use Rattle.fol_base.proofs.MeaningLemmas.{PutsGround, is_ground-instance}
-use Rattle.fol_base.proofs.InstanceLemmas.{Agree, literals_instance-again, literals-agree}
+use Rattle.fol_base.proofs.NumberingLemmas.{listed}
+use Rattle.fol_base.proofs.InstanceLemmas.{Agree, trees_count-instances, literals_instance-again, literals-agree}
 
 -- ---- over a list
-
-trees_count-instances : (σ : Substitution) (ts : Trees) → trees_count (instances σ ts) ≡ trees_count ts
-trees_count-instances σ no_trees = refl
-trees_count-instances σ (tree_then t ts) = omega (arith, trees_count-instances σ ts)
 
 mutual
   pub is_over-instance :
@@ -57,26 +54,43 @@ agree-everywhere :
 agree-everywhere σ τ P h [] all = tt
 agree-everywhere σ τ P h (v ∷ vs) all = (h v all.0, agree-everywhere σ τ P h vs all.1)
 
-pub ground_instances_of_instances : GroundInstancesOfInstances
-ground_instances_of_instances is_predicate functions τ c g over made =
+-- an instance by ground trees over a list, whatever symbols it has
+pub record PlainInstance (functions : List FunctionSymbol) (c : TreeClause) (g : GroundClause) : Type 0 where
+  pub trees : Substitution
+  pub trees_ground : PutsGround functions trees
+  pub literals : g ≡ literals_instance trees c.literals
+
+pub plain_instances_of_instances :
+    (functions : List FunctionSymbol) (τ : Substitution) (c : TreeClause) (g : GroundClause)
+    → All (λ v. is_over functions (τ v) ≡ true) (clause_variables c)
+    → PlainInstance functions (clause_instance τ c) g → PlainInstance functions c g
+plain_instances_of_instances functions τ c g over made =
     let σ : Substitution = made.trees in record {
-      trees = put_in functions.symbols σ τ;
+      trees = put_in functions σ τ;
       trees_ground = λ v.
-          cond_both (is_over functions.symbols (τ v)) (instance σ (τ v)) (σ v) (λ t. ground_over functions.symbols t ≡ true)
-          (λ e. ground_over-instance functions.symbols σ made.trees_ground (τ v) e)
+          cond_both (is_over functions (τ v)) (instance σ (τ v)) (σ v) (λ t. ground_over functions t ≡ true)
+          (λ e. ground_over-instance functions σ made.trees_ground (τ v) e)
           (λ e. made.trees_ground v);
       literals =
           made.literals ∙ literals_instance-again σ τ c.literals
-          ∙ literals-agree (after σ τ) (put_in functions.symbols σ τ) c.literals
-          (agree-everywhere (after σ τ) (put_in functions.symbols σ τ) (λ v. is_over functions.symbols (τ v) ≡ true)
-          (λ v e. sym (cond-true (is_over functions.symbols (τ v)) (instance σ (τ v)) (σ v) e))
-          (clause_variables c) (recursion_from_All (λ v. is_over functions.symbols (τ v) ≡ true) (clause_variables c) over));
+          ∙ literals-agree (after σ τ) (put_in functions σ τ) c.literals
+          (agree-everywhere (after σ τ) (put_in functions σ τ) (λ v. is_over functions (τ v) ≡ true)
+          (λ v e. sym (cond-true (is_over functions (τ v)) (instance σ (τ v)) (σ v) e))
+          (clause_variables c) (recursion_from_All (λ v. is_over functions (τ v) ≡ true) (clause_variables c) over));
     }
 
--- ---- canonical forms
+-- ground instances over a list of function symbols are such instances
+pub plain_instance : {p : ℕ → Bool} (functions : FunctionSymbols p) (c : TreeClause) (g : GroundClause) → GroundInstance functions c g → PlainInstance functions.symbols c g
+plain_instance functions c g made = record { trees = made.trees; trees_ground = made.trees_ground; literals = made.literals }
 
-abbrev listed : List ℕ → ℕ → Bool
-listed vs v = list_any (λ w. v == w) vs
+pub ground_instance : {p : ℕ → Bool} (functions : FunctionSymbols p) (c : TreeClause) (g : GroundClause) → PlainInstance functions.symbols c g → GroundInstance functions c g
+ground_instance functions c g made = record { trees = made.trees; trees_ground = made.trees_ground; literals = made.literals }
+
+pub ground_instances_of_instances : GroundInstancesOfInstances
+ground_instances_of_instances is_predicate functions τ c g over made =
+    ground_instance functions c g (plain_instances_of_instances functions.symbols τ c g over (plain_instance functions (clause_instance τ c) g made))
+
+-- ---- canonical forms
 
 -- a number that is listed later only
 later : (v w : ℕ) (ws : List ℕ) → (v == w) ≡ false → listed (w ∷ ws) v ≡ true → listed ws v ≡ true
@@ -123,8 +137,10 @@ by_place-renaming order σ v h =
     let r = place_of-listed v order h in
     ap (λ o. by_place order σ (unwrap_or o v)) r.1 ∙ ap σ (r.2 r.0)
 
-pub ground_instances_of_canonical : GroundInstancesOfCanonical
-ground_instances_of_canonical is_predicate functions c g =
+pub plain_instances_of_canonical :
+    (functions : List FunctionSymbol) (c : TreeClause) (g : GroundClause)
+    → PlainInstance functions c g ↔ PlainInstance functions (canonical_clause c) g
+plain_instances_of_canonical functions c g =
     let order : List ℕ = distinct (clause_variables c) in
     let ρ : Substitution = renaming order in (
       λ made.
@@ -143,4 +159,11 @@ ground_instances_of_canonical is_predicate functions c g =
         trees_ground = λ v. made.trees_ground (unwrap_or (place_of v order) v);
         literals = made.literals ∙ literals_instance-again made.trees ρ c.literals;
       },
+    )
+
+pub ground_instances_of_canonical : GroundInstancesOfCanonical
+ground_instances_of_canonical is_predicate functions c g =
+    let there = plain_instances_of_canonical functions.symbols c g in (
+      λ made. ground_instance functions (canonical_clause c) g (there.0 (plain_instance functions c g made)),
+      λ made. ground_instance functions c g (there.1 (plain_instance functions (canonical_clause c) g made)),
     )

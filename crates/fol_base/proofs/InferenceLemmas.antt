@@ -9,7 +9,7 @@ use Rattle.fol_base.specs.Place.{subterm, replaced}
 use Rattle.fol_base.specs.Clause.{TreeLiteral, literal_instance}
 use Rattle.fol_base.specs.Sides.{side_of, other_side_of, with_side}
 use Rattle.fol_base.specs.Order.{equivalent_literals}
-use Rattle.fol_base.specs.Rules.{superposed_literal, apart}
+use Rattle.fol_base.specs.Rules.{superposed_literal, disequation}
 use Rattle.fol_base.specs.InstanceLaws.{PutsNoTruth, SuperpositionsInInstances, ResolutionsInInstances, FactoringsInInstances, MergesInInstances}
 use Rattle.fol_base.specs.declared.clause.Side.{Side}
 use Rattle.fol_base.specs.declared.clause.Side.TheVariants.{Left, Right}
@@ -124,8 +124,8 @@ factorings_in_instances σ ls made i j side_i side_j puts h =
       no_truth = ap is_truth (side_of-instance σ side_i p.literal_i) ∙ no_truth-instance σ puts (side_of side_i p.literal_i) p.no_truth;
       same = side_of-instance σ side_i p.literal_i ∙ ap (instance σ) p.same ∙ sym (side_of-instance σ side_j p.literal_j);
       gives =
-          ap₂ (λ t u. slice_set (map li ls) i (apart t u)) (other_side_of-instance σ side_i p.literal_i) (other_side_of-instance σ side_j p.literal_j)
-          ∙ sym (map-set li ls i (apart (other_side_of side_i p.literal_i) (other_side_of side_j p.literal_j)))
+          ap₂ (λ t u. slice_set (map li ls) i (disequation t u)) (other_side_of-instance σ side_i p.literal_i) (other_side_of-instance σ side_j p.literal_j)
+          ∙ sym (map-set li ls i (disequation (other_side_of side_i p.literal_i) (other_side_of side_j p.literal_j)))
           ∙ ap (map li) p.gives;
     })
 

@@ -5,12 +5,18 @@ use Rattle.std.specs.List.{AllByRecursion}
 use Rattle.std.proofs.lemmas.Grind.{flat_map-append}
 use Rattle.std.proofs.lemmas.List.Sums.{sum_by-append, sum_by-cons}
 use Rattle.std.proofs.lemmas.List.Elements.{recursion_from_All}
-use Rattle.fol_base.specs.Tree.{Tree, variable, application, Trees, no_trees, tree_then, tree_size, trees_size, tree_variables, trees_variables, AllVariablesBelow}
+use Rattle.fol_base.specs.Tree.{Tree, variable, application, Trees, no_trees, tree_then, tree_size, trees_size, trees_count, tree_variables, trees_variables, AllVariablesBelow}
 use Rattle.fol_base.specs.Instance.{Substitution, instance, instances}
 use Rattle.fol_base.specs.Clause.{TreeLiteral, TreeClause, literal_instance, literal_size, literal_variables}
 use Rattle.fol_base.specs.Ground.{literals_instance}
 use Rattle.fol_base.specs.Multiset.{times}
 use Rattle.fol_base.specs.InstanceLaws.{after, tree_symbols, trees_symbols, InstancesOfInstances, ClauseInstancesOfInstances, InstancesAgree, InstancesAgreeBelow, SizesOfInstances, SizesOfClauseInstances, VariablesOfInstances, OccurrencesInInstances}
+
+-- ---- numbers of arguments
+
+pub trees_count-instances : (σ : Substitution) (ts : Trees) → trees_count (instances σ ts) ≡ trees_count ts
+trees_count-instances σ no_trees = refl
+trees_count-instances σ (tree_then t ts) = omega (arith, trees_count-instances σ ts)
 
 -- ---- one after another
 

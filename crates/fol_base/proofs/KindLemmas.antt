@@ -16,6 +16,7 @@ use Rattle.fol_base.specs.WellFormed.{has_arities, have_arities}
 use Rattle.fol_base.proofs.TreeLemmas.{tree_eq-true, list_of-trees_of}
 use Rattle.fol_base.proofs.TestLemmas.{list_all-item, list_all-set}
 use Rattle.fol_base.proofs.PlaceLemmas.{replaced-parts}
+use Rattle.fol_base.proofs.InstanceLemmas.{trees_count-instances}
 
 -- ---- lists of trees
 
@@ -267,10 +268,6 @@ is_predicate_term-instance p σ puts (application f ts) h =
       predicate = head.predicate;
       arguments = are_function_terms-instances p σ puts ts head.arguments;
     })
-
-pub trees_count-instances : (σ : Substitution) (ts : Trees) → trees_count (instances σ ts) ≡ trees_count ts
-trees_count-instances σ no_trees = refl
-trees_count-instances σ (tree_then t ts) = omega (arith, trees_count-instances σ ts)
 
 mutual
   pub has_arities-instance :

@@ -9,8 +9,8 @@ use Rattle.fol_base.specs.Tree.{Tree, variable, application, Trees, no_trees, tr
 use Rattle.fol_base.specs.Instance.{Substitution, instance, instances}
 use Rattle.fol_base.specs.Place.{argument, with_argument, subterm, replaced}
 use Rattle.fol_base.specs.Clause.{literal_instance}
-use Rattle.fol_base.specs.Ground.{has_symbol, has_constant, is_ground, are_ground, is_over, are_over, ground_over, is_ground_literal, is_ground_clause, ConstantsGiveGroundTrees, GroundInstancesAreGround}
-use Rattle.fol_base.specs.Symbols.{FunctionSymbol}
+use Rattle.fol_base.specs.Ground.{has_symbol, is_ground, are_ground, is_over, are_over, ground_over, is_ground_literal, is_ground_clause, ConstantsGiveGroundTrees, GroundInstancesAreGround}
+use Rattle.fol_base.specs.Symbols.{FunctionSymbol, has_constant}
 use Rattle.fol_base.specs.Interpretation.{Interpretation, symbol_value, Assignment, tree_value, trees_values, sides_true, literal_true_under, no_values, clause_true, CongruenceOfValues, ValuesOfInstances, TruthOfInstances, TruthOfGroundClauses}
 use Rattle.fol_base.specs.Entails.{EntailsMonotone, EntailsCut}
 use Rattle.fol_base.proofs.TreeLemmas.{trees_of-list_of}

@@ -19,7 +19,7 @@ use Rattle.fol_base.specs.Numbering.{with_variable, with_variables, IsNumbering}
 use Rattle.fol_base.specs.declared.numbering.TheConstants.{SCANNED}
 use Rattle.fol_base.proofs.VariableLemmas.{bound_of-append}
 
-abbrev listed : List ℕ → ℕ → Bool
+abbrev pub listed : List ℕ → ℕ → Bool
 listed vs v = list_any (λ w. v == w) vs
 
 -- ---- where a number stands

@@ -10,36 +10,13 @@ use Rattle.fol_base.specs.Clause.{TreeLiteral}
 use Rattle.fol_base.specs.Ground.{GroundClause}
 use Rattle.fol_base.specs.Multiset.{times}
 use Rattle.fol_base.specs.Order.{occurrences, has_variables_of, exceeds_by_size, tree_greater, trees_greater, sides_multiset, equivalent_literals, literal_greater, clause_greater, HasVariablesOf, ExceedsBySize, TreesGreater, TreeEqualityDecided, TreeGreaterDecided, LiteralGreaterDecided, ClauseGreaterDecided, TreesEquivalence, LiteralsEquivalence, ClausesEquivalence, ClausesCounted}
+use Rattle.fol_base.proofs.TreeLemmas.{tree_eq-true, tree_eq-refl}
 use Rattle.fol_base.proofs.CountLemmas.{list_all-always, times-cons, equivalence_from, same_multiset-decided, same_multiset-equivalence, multiset_greater-itself, multiset_greater-decided}
 
 -- ---- equality
 
-mutual
-  pub tree_eq-says : (t u : Tree) → tree_eq t u ≡ true → t ≡ u
-  tree_eq-says (variable v) (variable w) h = ap variable (eqb-true v w h)
-  tree_eq-says (variable v) (application g us) h = absurd (true≢false (sym h))
-  tree_eq-says (application f ts) (variable w) h = absurd (true≢false (sym h))
-  tree_eq-says (application f ts) (application g us) h =
-      let parts = and_parts (f == g) (trees_eq ts us) h in ap₂ application (eqb-true f g parts.0) (trees_eq-says ts us parts.1)
-
-  pub trees_eq-says : (ts us : Trees) → trees_eq ts us ≡ true → ts ≡ us
-  trees_eq-says no_trees no_trees h = refl
-  trees_eq-says no_trees (tree_then u us) h = absurd (true≢false (sym h))
-  trees_eq-says (tree_then t ts) no_trees h = absurd (true≢false (sym h))
-  trees_eq-says (tree_then t ts) (tree_then u us) h =
-      let parts = and_parts (tree_eq t u) (trees_eq ts us) h in ap₂ tree_then (tree_eq-says t u parts.0) (trees_eq-says ts us parts.1)
-
-mutual
-  pub tree_eq-itself : (t : Tree) → tree_eq t t ≡ true
-  tree_eq-itself (variable v) = eq-eqb v v refl
-  tree_eq-itself (application f ts) = and_from (f == f) (trees_eq ts ts) (eq-eqb f f refl) (trees_eq-itself ts)
-
-  pub trees_eq-itself : (ts : Trees) → trees_eq ts ts ≡ true
-  trees_eq-itself no_trees = refl
-  trees_eq-itself (tree_then t ts) = and_from (tree_eq t t) (trees_eq ts ts) (tree_eq-itself t) (trees_eq-itself ts)
-
 pub tree_equality_decided : TreeEqualityDecided
-tree_equality_decided t u = (tree_eq-says t u, λ e. ap (tree_eq t) (sym e) ∙ tree_eq-itself t)
+tree_equality_decided t u = (tree_eq-true t u, λ e. ap (tree_eq t) (sym e) ∙ tree_eq-refl t)
 
 pub trees_equivalence : TreesEquivalence
 trees_equivalence = equivalence_from tree_eq (λ t u. t ≡ u) tree_equality_decided (λ t. refl) (λ t u e. sym e) (λ t u w e k. e ∙ k)
@@ -55,7 +32,7 @@ SameLiteral l m = (l.positive ≡ m.positive) × SameSides l m
 
 both_equal : (t u t' u' : Tree) → Decides (tree_eq t t' && tree_eq u u') ((t ≡ t') × (u ≡ u'))
 both_equal t u t' u' = (
-  λ h. let parts = and_parts (tree_eq t t') (tree_eq u u') h in (tree_eq-says t t' parts.0, tree_eq-says u u' parts.1),
+  λ h. let parts = and_parts (tree_eq t t') (tree_eq u u') h in (tree_eq-true t t' parts.0, tree_eq-true u u' parts.1),
   λ e. and_from (tree_eq t t') (tree_eq u u') ((tree_equality_decided t t').1 e.0) ((tree_equality_decided u u').1 e.1),
 )
 

@@ -8,19 +8,19 @@ use Rattle.fol_base.specs.Place.{subterm, replaced}
 use Rattle.fol_base.specs.Clause.{TreeLiteral}
 use Rattle.fol_base.specs.Sides.{side_of, other_side_of, with_side}
 use Rattle.fol_base.specs.Order.{equivalent_literals}
-use Rattle.fol_base.specs.Rules.{is_chosen, superposed_literal, superposed, resolved, apart, factored, merged}
+use Rattle.fol_base.specs.Rules.{may_be_chosen, superposed_literal, superposed, resolved, disequation, factored, merged}
 use Rattle.fol_base.specs.declared.clause.Side.{Side}
 use Rattle.fol_base.proofs.TreeLemmas.{tree_eq-true, tree_eq-refl}
 use Rattle.fol_base.proofs.TestLemmas.{option_map-some, if_some, else_some}
 
 -- ---- a chosen side
 
-pub is_chosen-parts : (l : TreeLiteral) (s : Side) → is_chosen l s ≡ true → (l.positive ≡ true) × (is_truth (side_of s l) ≡ false)
-is_chosen-parts l s h =
+pub may_be_chosen-parts : (l : TreeLiteral) (s : Side) → may_be_chosen l s ≡ true → (l.positive ≡ true) × (is_truth (side_of s l) ≡ false)
+may_be_chosen-parts l s h =
     let parts = and_parts l.positive (not (is_truth (side_of s l))) h in (parts.0, not-true (is_truth (side_of s l)) parts.1)
 
-pub is_chosen-from : (l : TreeLiteral) (s : Side) → l.positive ≡ true → is_truth (side_of s l) ≡ false → is_chosen l s ≡ true
-is_chosen-from l s positive no_truth = and_from l.positive _ positive (not_from_false (is_truth (side_of s l)) no_truth)
+pub may_be_chosen-from : (l : TreeLiteral) (s : Side) → l.positive ≡ true → is_truth (side_of s l) ≡ false → may_be_chosen l s ≡ true
+may_be_chosen-from l s positive no_truth = and_from l.positive _ positive (not_from_false (is_truth (side_of s l)) no_truth)
 
 -- ---- superposition
 
@@ -38,11 +38,11 @@ pub superposed_literal-parts :
 superposed_literal-parts from s into z place made h =
     let made_of : Option TreeLiteral =
     option_map (λ new. with_side z new into) (replaced place (other_side_of s from) (side_of z into)) in
-    option_and_then_some (λ u. if is_chosen from s && tree_eq u (side_of s from) then made_of else None)
+    option_and_then_some (λ u. if may_be_chosen from s && tree_eq u (side_of s from) then made_of else None)
     (subterm place (side_of z into)) made h λ old old_is step.
-    let tests = if_some (is_chosen from s && tree_eq old (side_of s from)) made_of made step in
-    let parts = and_parts (is_chosen from s) (tree_eq old (side_of s from)) tests.0 in
-    let chosen = is_chosen-parts from s parts.0 in
+    let tests = if_some (may_be_chosen from s && tree_eq old (side_of s from)) made_of made step in
+    let parts = and_parts (may_be_chosen from s) (tree_eq old (side_of s from)) tests.0 in
+    let chosen = may_be_chosen-parts from s parts.0 in
     option_map-some (λ new. with_side z new into) (replaced place (other_side_of s from) (side_of z into)) made tests.1 λ new new_is gives.
     record {
       positive = chosen.0;
@@ -59,9 +59,9 @@ pub superposed_literal-from :
 superposed_literal-from from s into z place made p =
     let made_of : Option TreeLiteral =
     option_map (λ new. with_side z new into) (replaced place (other_side_of s from) (side_of z into)) in
-    ap (option_and_then (λ u. if is_chosen from s && tree_eq u (side_of s from) then made_of else None)) p.old_there
-    ∙ cond-true (is_chosen from s && tree_eq (side_of s from) (side_of s from)) made_of None
-    (and_from (is_chosen from s) _ (is_chosen-from from s p.positive p.no_truth) (tree_eq-refl (side_of s from)))
+    ap (option_and_then (λ u. if may_be_chosen from s && tree_eq u (side_of s from) then made_of else None)) p.old_there
+    ∙ cond-true (may_be_chosen from s && tree_eq (side_of s from) (side_of s from)) made_of None
+    (and_from (may_be_chosen from s) _ (may_be_chosen-from from s p.positive p.no_truth) (tree_eq-refl (side_of s from)))
     ∙ ap (option_map (λ new. with_side z new into)) p.new_made
     ∙ ap (λ l. let o : Option TreeLiteral = Some l in o) p.gives
 
@@ -148,24 +148,24 @@ pub record FactoredParts (ls : List TreeLiteral) (i : ℕ) (side_i : Side) (j : 
   pub j_positive : literal_j.positive ≡ true
   pub no_truth : is_truth (side_of side_i literal_i) ≡ false
   pub same : side_of side_i literal_i ≡ side_of side_j literal_j
-  pub gives : slice_set ls i (apart (other_side_of side_i literal_i) (other_side_of side_j literal_j)) ≡ made
+  pub gives : slice_set ls i (disequation (other_side_of side_i literal_i) (other_side_of side_j literal_j)) ≡ made
 
 pub factored-parts :
     (ls : List TreeLiteral) (i : ℕ) (side_i : Side) (j : ℕ) (side_j : Side) (made : List TreeLiteral)
     → factored ls i side_i j side_j ≡ Some made → FactoredParts ls i side_i j side_j made
 factored-parts ls i side_i j side_j made h =
     let test : TreeLiteral → TreeLiteral → Bool =
-    λ l m. is_chosen l side_i && (m.positive && tree_eq (side_of side_i l) (side_of side_j m)) in
+    λ l m. may_be_chosen l side_i && (m.positive && tree_eq (side_of side_i l) (side_of side_j m)) in
     let whole : TreeLiteral → TreeLiteral → List TreeLiteral =
-    λ l m. slice_set ls i (apart (other_side_of side_i l) (other_side_of side_j m)) in
+    λ l m. slice_set ls i (disequation (other_side_of side_i l) (other_side_of side_j m)) in
     let with_i : TreeLiteral → TreeLiteral → Option (List TreeLiteral) = λ l m. if test l m then Some (whole l m) else None in
     let made_of : Option (List TreeLiteral) = option_and_then (λ l. option_and_then (with_i l) (slice_get ls j)) (slice_get ls i) in
     let differ = else_some (i == j) made_of made h in
     option_and_then_some (λ l. option_and_then (with_i l) (slice_get ls j)) (slice_get ls i) made differ.1 λ l l_is l_step.
     option_and_then_some (with_i l) (slice_get ls j) made l_step λ m m_is m_step.
     let tests = if_some (test l m) (Some (whole l m)) made m_step in
-    let parts = and_parts (is_chosen l side_i) (m.positive && tree_eq (side_of side_i l) (side_of side_j m)) tests.0 in
-    let chosen = is_chosen-parts l side_i parts.0 in
+    let parts = and_parts (may_be_chosen l side_i) (m.positive && tree_eq (side_of side_i l) (side_of side_j m)) tests.0 in
+    let chosen = may_be_chosen-parts l side_i parts.0 in
     let others = and_parts m.positive (tree_eq (side_of side_i l) (side_of side_j m)) parts.1 in
     record {
       differ = differ.0;
@@ -187,16 +187,16 @@ factored-from ls i side_i j side_j made p =
     let l : TreeLiteral = p.literal_i in
     let m : TreeLiteral = p.literal_j in
     let test : TreeLiteral → TreeLiteral → Bool =
-    λ l m. is_chosen l side_i && (m.positive && tree_eq (side_of side_i l) (side_of side_j m)) in
+    λ l m. may_be_chosen l side_i && (m.positive && tree_eq (side_of side_i l) (side_of side_j m)) in
     let whole : TreeLiteral → TreeLiteral → List TreeLiteral =
-    λ l m. slice_set ls i (apart (other_side_of side_i l) (other_side_of side_j m)) in
+    λ l m. slice_set ls i (disequation (other_side_of side_i l) (other_side_of side_j m)) in
     let with_i : TreeLiteral → TreeLiteral → Option (List TreeLiteral) = λ l m. if test l m then Some (whole l m) else None in
     let made_of : Option (List TreeLiteral) = option_and_then (λ l. option_and_then (with_i l) (slice_get ls j)) (slice_get ls i) in
     cond-false (i == j) None made_of p.differ
     ∙ ap (option_and_then (λ l. option_and_then (with_i l) (slice_get ls j))) p.i_there
     ∙ ap (option_and_then (with_i l)) p.j_there
     ∙ cond-true (test l m) (Some (whole l m)) None
-    (and_from (is_chosen l side_i) _ (is_chosen-from l side_i p.i_positive p.no_truth)
+    (and_from (may_be_chosen l side_i) _ (may_be_chosen-from l side_i p.i_positive p.no_truth)
     (and_from m.positive _ p.j_positive (ap (tree_eq (side_of side_i l)) (sym p.same) ∙ tree_eq-refl (side_of side_i l))))
     ∙ ap (λ ls. let o : Option (List TreeLiteral) = Some ls in o) p.gives
 

@@ -5,8 +5,8 @@ use Rattle.fol_base.specs.Tree.{Tree, variable, application, Trees, no_trees, tr
 use Rattle.fol_base.specs.Ground.{is_ground, are_ground}
 use Rattle.fol_base.specs.Multiset.{times}
 use Rattle.fol_base.specs.Order.{occurrences, tree_greater, HasVariablesOf, ExceedsBySize, TreeGreater, TreesGreater, TreesTotallyOrdered}
-use Rattle.fol_base.proofs.TreeLemmas.{tree_size-positive}
-use Rattle.fol_base.proofs.OrderLemmas.{tree_eq-says, tree_equality_decided, trees_equivalence, tree_greater_decided}
+use Rattle.fol_base.proofs.TreeLemmas.{tree_size-positive, tree_eq-true}
+use Rattle.fol_base.proofs.OrderLemmas.{tree_equality_decided, trees_equivalence, tree_greater_decided}
 
 -- ---- irreflexive
 
@@ -170,8 +170,8 @@ tree_greater-trans s t u h k =
 pub trees_totally_ordered : TreesTotallyOrdered
 trees_totally_ordered = record {
   is_equivalence = trees_equivalence;
-  same_left = λ x y z _ _ _ e h. ap (λ t. tree_greater t z) (sym (tree_eq-says x y e)) ∙ h;
-  same_right = λ x y z _ _ _ e h. ap (tree_greater z) (sym (tree_eq-says x y e)) ∙ h;
+  same_left = λ x y z _ _ _ e h. ap (λ t. tree_greater t z) (sym (tree_eq-true x y e)) ∙ h;
+  same_right = λ x y z _ _ _ e h. ap (tree_greater z) (sym (tree_eq-true x y e)) ∙ h;
   is_irreflexive = tree_greater-itself;
   is_transitive = λ x y z _ _ _ h k. tree_greater-trans x y z h k;
   is_total = λ x y hx hy.

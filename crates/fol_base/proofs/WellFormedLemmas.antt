@@ -1,20 +1,22 @@
 -- What the rules make of well-formed literals is well-formed.
-use Rattle.std.proofs.Common.{◌≡◌, ℕ, Bool, true, false, ◌&&◌, ◌||◌, ◌⊎◌, List, [], ◌∷◌, Some, ap, sym, ◌∙◌, inl, inr, ⊎_elim}
+use Rattle.std.proofs.Common.{◌≡◌, ℕ, Bool, true, false, ◌&&◌, ◌||◌, ◌==◌, ◌⊎◌, List, [], ◌∷◌, Some, refl, ap, sym, ◌∙◌, inl, inr, ⊎_elim}
 use Rattle.std.specs.Prelude.{slice_get, slice_set, remove}
-use Rattle.std.proofs.lemmas.Bool.{and_parts, and_from, or_cases, or_left, or_right, true≢false}
+use Rattle.std.proofs.lemmas.Bool.{and_parts, and_from, or_cases, or_left, or_right, eqb-true, eq-eqb, true≢false}
 use Rattle.std.proofs.lemmas.Option.{same_Some}
-use Rattle.fol_base.specs.Tree.{Tree, is_truth}
+use Rattle.fol_base.specs.Tree.{Tree, variable, application, Trees, no_trees, tree_then, trees_count, is_truth}
 use Rattle.fol_base.specs.Instance.{Substitution}
 use Rattle.fol_base.specs.Place.{subterm, replaced}
 use Rattle.fol_base.specs.Clause.{TreeLiteral, literal_instance}
 use Rattle.fol_base.specs.Sides.{side_of, other_side_of, with_side}
 use Rattle.fol_base.specs.Kind.{is_function_term, is_predicate_term, is_literal, PutsFunctionTerms}
-use Rattle.fol_base.specs.Rules.{superposed_literal, apart}
-use Rattle.fol_base.specs.WellFormed.{SymbolUse, has_arities, is_literal_of, are_literals_of, PutsTermsOf, WellFormedInstances, WellFormedSuperpositions, WellFormedResolutions, WellFormedFactorings, WellFormedMerges}
+use Rattle.fol_base.specs.Symbols.{FunctionSymbol}
+use Rattle.fol_base.specs.Ground.{has_symbol, is_ground, is_over, are_over}
+use Rattle.fol_base.specs.Rules.{superposed_literal, disequation}
+use Rattle.fol_base.specs.WellFormed.{SymbolUse, has_arities, have_arities, is_term_of, are_symbols_of, WellFormedSides, GroundTreesAreOfUse, is_literal_of, are_literals_of, PutsFunctionTermsOf, WellFormedInstances, WellFormedSuperpositions, WellFormedResolutions, WellFormedFactorings, WellFormedMerges}
 use Rattle.fol_base.specs.declared.clause.Side.{Side}
 use Rattle.fol_base.specs.declared.clause.Side.TheVariants.{Left, Right}
 use Rattle.fol_base.proofs.TestLemmas.{list_all-item, list_all-joined, list_all-set, list_all-remove, list_all-map_from}
-use Rattle.fol_base.proofs.KindLemmas.{no_predicate_term, function_term-no_truth, predicate_term-no_truth, is_function_term-subterm, is_predicate_term-subterm, is_truth-subterm, is_function_term-replaced, is_predicate_term-replaced, has_arities-replaced, is_function_term-instance, is_predicate_term-instance, has_arities-instance}
+use Rattle.fol_base.proofs.KindLemmas.{is_over-function_term, no_predicate_term, function_term-no_truth, predicate_term-no_truth, is_function_term-subterm, is_predicate_term-subterm, is_truth-subterm, is_function_term-replaced, is_predicate_term-replaced, has_arities-replaced, is_function_term-instance, is_predicate_term-instance, has_arities-instance}
 use Rattle.fol_base.proofs.InferenceLemmas.{is_truth-instance}
 use Rattle.fol_base.proofs.RuleLemmas.{superposed_literal-parts, superposed-parts, resolved-parts, factored-parts, merged-parts}
 
@@ -191,20 +193,20 @@ is_literal-instance p σ puts l h =
     (is_literal-cases p l h)
 
 -- what is put in: function terms, with the symbols' numbers of arguments
-pub PutsTermsOf-functions : (usage : SymbolUse) (σ : Substitution) → PutsTermsOf usage σ → PutsFunctionTerms usage.is_predicate σ
-PutsTermsOf-functions usage σ puts v = (and_parts (is_function_term usage.is_predicate (σ v)) (has_arities usage.arity (σ v)) (puts v)).0
+pub PutsFunctionTermsOf-functions : (usage : SymbolUse) (σ : Substitution) → PutsFunctionTermsOf usage σ → PutsFunctionTerms usage.is_predicate σ
+PutsFunctionTermsOf-functions usage σ puts v = (and_parts (is_function_term usage.is_predicate (σ v)) (has_arities usage.arity (σ v)) (puts v)).0
 
-pub PutsTermsOf-arities : (usage : SymbolUse) (σ : Substitution) → PutsTermsOf usage σ → (v : ℕ) → has_arities usage.arity (σ v) ≡ true
-PutsTermsOf-arities usage σ puts v = (and_parts (is_function_term usage.is_predicate (σ v)) (has_arities usage.arity (σ v)) (puts v)).1
+pub PutsFunctionTermsOf-arities : (usage : SymbolUse) (σ : Substitution) → PutsFunctionTermsOf usage σ → (v : ℕ) → has_arities usage.arity (σ v) ≡ true
+PutsFunctionTermsOf-arities usage σ puts v = (and_parts (is_function_term usage.is_predicate (σ v)) (has_arities usage.arity (σ v)) (puts v)).1
 
 pub is_literal_of-instance :
-    (usage : SymbolUse) (σ : Substitution) → PutsTermsOf usage σ
+    (usage : SymbolUse) (σ : Substitution) → PutsFunctionTermsOf usage σ
     → (l : TreeLiteral) → is_literal_of usage l ≡ true → is_literal_of usage (literal_instance σ l) ≡ true
 is_literal_of-instance usage σ puts l h =
     let parts = is_literal_of-parts usage l h in
-    let arities = PutsTermsOf-arities usage σ puts in
+    let arities = PutsFunctionTermsOf-arities usage σ puts in
     is_literal_of-from usage (literal_instance σ l) (record {
-      kind = is_literal-instance usage.is_predicate σ (PutsTermsOf-functions usage σ puts) l parts.kind;
+      kind = is_literal-instance usage.is_predicate σ (PutsFunctionTermsOf-functions usage σ puts) l parts.kind;
       left_arities = has_arities-instance usage.arity σ arities l.left parts.left_arities;
       right_arities = has_arities-instance usage.arity σ arities l.right parts.right_arities;
     })
@@ -248,18 +250,18 @@ well_formed_resolutions usage ls made i h step =
 -- the disequation that factoring makes: its sides are those other than two equal ones that aren't `$true`
 apart-kind :
     (p : ℕ → Bool) (t t' u v : Tree)
-    → t ≡ t' → SidesOfOneKind p t u → SidesOfOneKind p t' v → is_literal p (apart u v) ≡ true
+    → t ≡ t' → SidesOfOneKind p t u → SidesOfOneKind p t' v → is_literal p (disequation u v) ≡ true
 apart-kind p t t' u v same first second =
     ⊎_elim
     (λ function.
     ⊎_elim
-    (λ function'. is_literal-from_equation p (apart u v) (function.1, function'.1))
+    (λ function'. is_literal-from_equation p (disequation u v) (function.1, function'.1))
     (λ predicate. absurd (no_predicate_term p t' (ap (is_function_term p) (sym same) ∙ function.0) predicate.0))
     second)
     (λ predicate.
     ⊎_elim
     (λ function. absurd (no_predicate_term p t' function.0 (ap (is_predicate_term p) (sym same) ∙ predicate.0)))
-    (λ predicate'. is_literal-from_atom p (apart u v) (inr predicate.1, predicate'.1))
+    (λ predicate'. is_literal-from_atom p (disequation u v) (inr predicate.1, predicate'.1))
     second)
     first
 
@@ -271,7 +273,7 @@ well_formed_factorings usage ls made i j side_i side_j h step =
     let m : TreeLiteral = parts.literal_j in
     let l_is : LiteralOf usage l = is_literal_of-item usage ls i l parts.i_there h in
     let m_is : LiteralOf usage m = is_literal_of-item usage ls j m parts.j_there h in
-    let new : TreeLiteral = apart (other_side_of side_i l) (other_side_of side_j m) in
+    let new : TreeLiteral = disequation (other_side_of side_i l) (other_side_of side_j m) in
     ap (are_literals_of usage) (sym parts.gives)
     ∙ list_all-set (is_literal_of usage) ls i new h
     (is_literal_of-from usage new (record {
@@ -286,3 +288,72 @@ well_formed_factorings usage ls made i j side_i side_j h step =
 pub well_formed_merges : WellFormedMerges
 well_formed_merges usage ls made i j h step =
     ap (are_literals_of usage) (sym (merged-parts ls i j made step).gives) ∙ list_all-remove (is_literal_of usage) ls j h
+
+-- ---- sides of literals, and ground trees over symbols that are used so
+
+pub well_formed_sides : WellFormedSides
+well_formed_sides usage s l h =
+    let parts = is_literal_of-parts usage l h in
+    by_side s (is_literal-cases usage.is_predicate l parts.kind) parts.left_arities parts.right_arities
+  where
+    p : ℕ → Bool
+    p = usage.is_predicate
+
+    is_side : (t : Tree) → (is_function_term p t || (is_predicate_term p t || is_truth t)) ≡ true → has_arities usage.arity t ≡ true → is_term_of usage t ≡ true
+    is_side t kind arities = and_from (is_function_term p t || (is_predicate_term p t || is_truth t)) (has_arities usage.arity t) kind arities
+
+    function : (t : Tree) → is_function_term p t ≡ true → (is_function_term p t || (is_predicate_term p t || is_truth t)) ≡ true
+    function t e = or_left (is_function_term p t) (is_predicate_term p t || is_truth t) e
+
+    atom : (t : Tree) → (is_predicate_term p t ≡ true) ⊎ (is_truth t ≡ true) → (is_function_term p t || (is_predicate_term p t || is_truth t)) ≡ true
+    atom t e =
+        or_right (is_function_term p t) (is_predicate_term p t || is_truth t)
+        (⊎_elim (λ k. or_left (is_predicate_term p t) (is_truth t) k) (λ k. or_right (is_predicate_term p t) (is_truth t) k) e)
+
+    by_side :
+        (s : Side) → IsEquation p l ⊎ IsAtom p l → has_arities usage.arity l.left ≡ true → has_arities usage.arity l.right ≡ true
+        → is_term_of usage (side_of s l) ≡ true
+    by_side Left (inl e) left right = is_side l.left (function l.left e.0) left
+    by_side Left (inr e) left right = is_side l.left (atom l.left e.0) left
+    by_side Right (inl e) left right = is_side l.right (function l.right e.1) right
+    by_side Right (inr e) left right = is_side l.right (atom l.right (inr e.1)) right
+
+-- a listed symbol takes as many arguments as in the use
+used_symbol :
+    (usage : SymbolUse) (symbols : List FunctionSymbol) (f n : ℕ)
+    → are_symbols_of usage symbols ≡ true → has_symbol symbols f n ≡ true → usage.arity f ≡ n
+used_symbol usage [] f n all there = absurd (true≢false (sym there))
+used_symbol usage (s ∷ symbols) f n all there =
+    let parts = and_parts (usage.arity s.number == s.arity) (are_symbols_of usage symbols) all in
+    ⊎_elim
+    (λ here.
+    let own = and_parts (s.number == f) (s.arity == n) here in
+    sym (ap usage.arity (eqb-true s.number f own.0)) ∙ eqb-true (usage.arity s.number) s.arity parts.0 ∙ eqb-true s.arity n own.1)
+    (λ later. used_symbol usage symbols f n parts.1 later)
+    (or_cases ((s.number == f) && (s.arity == n)) (has_symbol symbols f n) there)
+
+mutual
+  is_over-arities :
+      (usage : SymbolUse) (symbols : List FunctionSymbol) (t : Tree)
+      → are_symbols_of usage symbols ≡ true → is_over symbols t ≡ true → has_arities usage.arity t ≡ true
+  is_over-arities usage symbols (variable v) all h = refl
+  is_over-arities usage symbols (application f ts) all h =
+      let parts = and_parts (has_symbol symbols f (trees_count ts)) (are_over symbols ts) h in
+      and_from (usage.arity f == trees_count ts) (have_arities usage.arity ts)
+      (eq-eqb (usage.arity f) (trees_count ts) (used_symbol usage symbols f (trees_count ts) all parts.0))
+      (are_over-arities usage symbols ts all parts.1)
+
+  are_over-arities :
+      (usage : SymbolUse) (symbols : List FunctionSymbol) (ts : Trees)
+      → are_symbols_of usage symbols ≡ true → are_over symbols ts ≡ true → have_arities usage.arity ts ≡ true
+  are_over-arities usage symbols no_trees all h = refl
+  are_over-arities usage symbols (tree_then t ts) all h =
+      let parts = and_parts (is_over symbols t) (are_over symbols ts) h in
+      and_from (has_arities usage.arity t) (have_arities usage.arity ts)
+      (is_over-arities usage symbols t all parts.0) (are_over-arities usage symbols ts all parts.1)
+
+pub ground_trees_are_of_use : GroundTreesAreOfUse
+ground_trees_are_of_use usage functions σ all ground v =
+    let over : is_over functions.symbols (σ v) ≡ true = (and_parts (is_ground (σ v)) (is_over functions.symbols (σ v)) (ground v)).1 in
+    and_from (is_function_term usage.is_predicate (σ v)) (has_arities usage.arity (σ v))
+    (is_over-function_term usage.is_predicate functions (σ v) over) (is_over-arities usage functions.symbols (σ v) all over)

@@ -39,7 +39,7 @@ abbrev pub bound_of : List ℕ → ℕ
 bound_of [] = 0
 bound_of (v ∷ vs) = max (v + 1) (bound_of vs)
 
--- a substitution's terms for the variables below a bound
+-- a substitution's terms for n variables, from `first` on
 abbrev pub terms_from : ℕ → ℕ → Substitution → List Tree
 terms_from first zero σ = []
 terms_from first (suc n) σ = σ first ∷ terms_from (suc first) n σ

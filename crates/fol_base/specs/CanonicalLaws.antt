@@ -1,6 +1,6 @@
 -- Laws of canonical forms.
 use Rattle.std.specs.Prelude.{◌≡◌, ◌↔◌}
-use Rattle.fol_base.specs.Clause.{TreeClause}
+use Rattle.fol_base.specs.Clause.{TreeClause, clause_size}
 use Rattle.fol_base.specs.Canonical.{canonical_clause, IsCanonical}
 
 -- a clause is canonical exactly where it is its own canonical form
@@ -10,3 +10,7 @@ CanonicalIsOwnForm = (c : TreeClause) → IsCanonical c ↔ (canonical_clause c 
 -- the canonical form of a clause is canonical
 abbrev pub CanonicalFormsAreCanonical : Type 0
 CanonicalFormsAreCanonical = (c : TreeClause) → IsCanonical (canonical_clause c)
+
+-- and of the same size
+abbrev pub CanonicalFormsKeepSizes : Type 0
+CanonicalFormsKeepSizes = (c : TreeClause) → clause_size (canonical_clause c) ≡ clause_size c

@@ -31,9 +31,6 @@ g t = application 5 (tree_then t no_trees)
 abbrev pub equation : Tree → Tree → TreeLiteral
 equation t u = record { positive = true; left = t; right = u }
 
-abbrev pub disequation : Tree → Tree → TreeLiteral
-disequation t u = record { positive = false; left = t; right = u }
-
 -- the atoms p(t), q(t) and q(t, u)
 abbrev pub p : Tree → TreeLiteral
 p t = equation (application 6 (tree_then t no_trees)) true_tree
@@ -68,7 +65,7 @@ abbrev pub with_two_arities : List FunctionSymbol
 with_two_arities = record { number = 4; arity = 2 } ∷ symbols
 
 abbrev pub functions : FunctionSymbols is_predicate
-functions = record { symbols = symbols; functions_alone = refl; one_arity = refl }
+functions = record { symbols = symbols; functions_alone = refl; one_arity = refl; constant = refl }
 
 -- the examples' symbols as they are used: a, b and c have no argument, f, g, p and q one, r none
 abbrev pub use_of_symbols : SymbolUse

@@ -2,17 +2,13 @@
 use Rattle.std.specs.Prelude.{◌≡◌, ℕ, ◌+◌, Bool, true, false, ◌&&◌, ◌==◌, ◌↔◌, List, map, IsTrue}
 use Rattle.std.specs.List.{list_any, list_all}
 use Rattle.fol_base.specs.Tree.{Tree, variable, application, Trees, no_trees, tree_then, trees_count}
-use Rattle.fol_base.specs.Symbols.{FunctionSymbol, FunctionSymbols}
+use Rattle.fol_base.specs.Symbols.{FunctionSymbol, FunctionSymbols, has_constant}
 use Rattle.fol_base.specs.Instance.{Substitution}
 use Rattle.fol_base.specs.Clause.{TreeLiteral, TreeClause, literal_instance}
 
 -- whether the list has this symbol with this number of arguments
 abbrev pub has_symbol : List FunctionSymbol → ℕ → ℕ → Bool
 has_symbol functions f arity = list_any (λ s. (s.number == f) && (s.arity == arity)) functions
-
--- whether it has a constant, a symbol without arguments: only then is any tree ground over it
-abbrev pub has_constant : List FunctionSymbol → Bool
-has_constant functions = list_any (λ s. s.arity == 0) functions
 
 -- no variables
 abbrev mutual

@@ -14,8 +14,8 @@ use Rattle.fol_base.specs.Rules.{superposed, resolved, factored}
 use Rattle.fol_base.specs.declared.clause.Side.{Side}
 
 -- a side of a literal is greater than the other under a substitution
-abbrev pub falls : Substitution → Side → TreeLiteral → Bool
-falls σ side l = tree_greater (instance σ (side_of side l)) (instance σ (other_side_of side l))
+abbrev pub is_greater_side : Substitution → Side → TreeLiteral → Bool
+is_greater_side σ side l = tree_greater (instance σ (side_of side l)) (instance σ (other_side_of side l))
 
 -- nothing is chosen in the clause, and its literal is eligible in the instance
 pub record UnchosenEligible (mode : SelectionMode) (c : TreeClause) (σ : Substitution) (i : ℕ) (strict : Bool) : Type 0 where
@@ -35,14 +35,14 @@ pub record GroundSuperposition {is_predicate : ℕ → Bool} (functions : Functi
   pub from_side : Side
   pub from : TreeLiteral
   pub from_there : slice_get first.literals i ≡ Some from
-  pub from_falls : IsTrue (falls first_trees from_side from)
+  pub from_greater : IsTrue (is_greater_side first_trees from_side from)
   pub from_eligible : UnchosenEligible mode first first_trees i true
   -- u = v or its negation
   pub j : ℕ
   pub into_side : Side
   pub into : TreeLiteral
   pub into_there : slice_get second.literals j ≡ Some into
-  pub into_falls : IsTrue (falls second_trees into_side into)
+  pub into_greater : IsTrue (is_greater_side second_trees into_side into)
   pub into_eligible :
       (IsFalse into.positive × IsTrue (eligible_in_instance mode second.literals second_trees j false))
       ⊎ (IsTrue into.positive × UnchosenEligible mode second second_trees j true)
@@ -71,7 +71,7 @@ pub record GroundFactoring {is_predicate : ℕ → Bool} (functions : FunctionSy
   pub side_i : Side
   pub literal_i : TreeLiteral
   pub i_there : slice_get c.literals i ≡ Some literal_i
-  pub i_falls : IsTrue (falls trees side_i literal_i)
+  pub i_greater : IsTrue (is_greater_side trees side_i literal_i)
   pub i_eligible : UnchosenEligible mode c trees i false
   pub j : ℕ
   pub side_j : Side

@@ -1,4 +1,5 @@
--- Laws of instances: one after another, their sizes and variables, their subterms, and the instances of canonical forms.
+-- Laws of instances: one after another, their sizes and variables, their subterms, what the rules conclude from them, and the ground
+-- instances of instances and of canonical forms.
 use Rattle.std.specs.Prelude.{◌≡◌, ◌↔◌, ◌⊎◌, ℕ, ◌+◌, ◌<◌, Bool, List, ◌++◌, flat_map, sum_by, All, Some, is_some, IsTrue, IsFalse}
 use Rattle.fol_base.specs.Tree.{Tree, variable, application, Trees, no_trees, tree_then, tree_size, tree_variables, VariablesBelow, is_variable, is_truth}
 use Rattle.fol_base.specs.Instance.{Substitution, instance}

@@ -9,15 +9,15 @@ use Rattle.fol_base.specs.Order.{equivalent_literals}
 use Rattle.fol_base.specs.declared.clause.Side.{Side}
 
 -- A side is chosen of a positive equation. `$true` never is, so an atom is chosen by its left side alone.
-abbrev pub is_chosen : TreeLiteral → Side → Bool
-is_chosen l s = l.positive && not (is_truth (side_of s l))
+abbrev pub may_be_chosen : TreeLiteral → Side → Bool
+may_be_chosen l s = l.positive && not (is_truth (side_of s l))
 
 -- The literal with the other side of an equation at a place of one of its sides, where the chosen side of the equation stands
 -- there. Equal terms are of one kind.
 abbrev pub superposed_literal : TreeLiteral → Side → TreeLiteral → Side → List ℕ → Option TreeLiteral
 superposed_literal from s into z place =
     option_and_then
-    (λ u. if is_chosen from s && tree_eq u (side_of s from)
+    (λ u. if may_be_chosen from s && tree_eq u (side_of s from)
     then option_map (λ new. with_side z new into) (replaced place (other_side_of s from) (side_of z into))
     else None)
     (subterm place (side_of z into))
@@ -37,8 +37,8 @@ resolved ls i =
     option_and_then (λ l. if not l.positive && tree_eq l.left l.right then Some (remove ls i) else None) (slice_get ls i)
 
 -- the disequation of two terms
-abbrev pub apart : Tree → Tree → TreeLiteral
-apart t u = record { positive = false; left = t; right = u }
+abbrev pub disequation : Tree → Tree → TreeLiteral
+disequation t u = record { positive = false; left = t; right = u }
 
 -- equality factoring: of two different equations s = t and s = v the first becomes t != v
 abbrev pub factored : List TreeLiteral → ℕ → Side → ℕ → Side → Option (List TreeLiteral)
@@ -47,8 +47,8 @@ factored ls i side_i j side_j =
     then None
     else option_and_then
     (λ l. option_and_then
-    (λ m. if is_chosen l side_i && (m.positive && tree_eq (side_of side_i l) (side_of side_j m))
-    then Some (slice_set ls i (apart (other_side_of side_i l) (other_side_of side_j m)))
+    (λ m. if may_be_chosen l side_i && (m.positive && tree_eq (side_of side_i l) (side_of side_j m))
+    then Some (slice_set ls i (disequation (other_side_of side_i l) (other_side_of side_j m)))
     else None)
     (slice_get ls j))
     (slice_get ls i)

@@ -17,9 +17,15 @@ abbrev pub have_one_arity : List FunctionSymbol → Bool
 have_one_arity symbols =
     list_all (λ (s : FunctionSymbol). not (list_any (λ (t : FunctionSymbol). (s.number == t.number) && not (s.arity == t.arity)) symbols)) symbols
 
--- A list of function symbols alone, each with one number of arguments. What is said of ground instances is said over such a list:
--- with a predicate p among the symbols, `X0 = a` would have the instance `p(a) = a`.
+-- one is a constant, a symbol without arguments: only then is any tree ground over the list
+abbrev pub has_constant : List FunctionSymbol → Bool
+has_constant symbols = list_any (λ (s : FunctionSymbol). s.arity == 0) symbols
+
+-- A list of function symbols alone, each with one number of arguments, and with a constant. What is said of ground instances is
+-- said over such a list: with a predicate p among the symbols, `X0 = a` would have the instance `p(a) = a`, and without a constant
+-- no clause would have any.
 pub record FunctionSymbols (is_predicate : ℕ → Bool) : Type 0 where
   pub symbols : List FunctionSymbol
   pub functions_alone : IsTrue (are_function_symbols is_predicate symbols)
   pub one_arity : IsTrue (have_one_arity symbols)
+  pub constant : IsTrue (has_constant symbols)

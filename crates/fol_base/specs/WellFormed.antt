@@ -1,11 +1,13 @@
 -- Well-formed clauses: what every call may rely on in all that it is handed at once.
-use Rattle.std.specs.Prelude.{◌≡◌, ℕ, Bool, true, not, ◌&&◌, ◌==◌, List, Some, slice_get, All, IsTrue, IsFalse}
+use Rattle.std.specs.Prelude.{◌≡◌, ℕ, Bool, true, ◌&&◌, ◌||◌, ◌==◌, List, Some, IsTrue}
 use Rattle.std.specs.List.{list_all}
-use Rattle.fol_base.specs.Tree.{Tree, variable, application, Trees, no_trees, tree_then, trees_count}
+use Rattle.fol_base.specs.Tree.{Tree, variable, application, Trees, no_trees, tree_then, trees_count, is_truth}
 use Rattle.fol_base.specs.Instance.{Substitution}
 use Rattle.fol_base.specs.Clause.{TreeLiteral, TreeClause}
-use Rattle.fol_base.specs.Kind.{is_function_term, is_literal}
-use Rattle.fol_base.specs.Ground.{literals_instance}
+use Rattle.fol_base.specs.Kind.{is_function_term, is_predicate_term, is_literal}
+use Rattle.fol_base.specs.Symbols.{FunctionSymbol, FunctionSymbols}
+use Rattle.fol_base.specs.Ground.{IsGroundOver, literals_instance}
+use Rattle.fol_base.specs.Sides.{side_of}
 use Rattle.fol_base.specs.Rules.{superposed, resolved, factored, merged}
 use Rattle.fol_base.specs.declared.clause.Side.{Side}
 
@@ -33,21 +35,41 @@ is_literal_of usage l =
 abbrev pub are_literals_of : SymbolUse → List TreeLiteral → Bool
 are_literals_of usage ls = list_all (is_literal_of usage) ls
 
+-- a whole term or a side: a function term, a predicate term or `$true`, each symbol with its number of arguments
+abbrev pub is_term_of : SymbolUse → Tree → Bool
+is_term_of usage t =
+    (is_function_term usage.is_predicate t || (is_predicate_term usage.is_predicate t || is_truth t)) && has_arities usage.arity t
+
+-- the symbols of a list take as many arguments as in this use
+abbrev pub are_symbols_of : SymbolUse → List FunctionSymbol → Bool
+are_symbols_of usage symbols = list_all (λ (s : FunctionSymbol). usage.arity s.number == s.arity) symbols
+
 -- Clauses are well-formed together where some use of the symbols is that of all their literals.
 pub record WellFormed (cs : List TreeClause) : Type 0 where
   pub usage : SymbolUse
   pub used : IsTrue (list_all (λ (c : TreeClause). are_literals_of usage c.literals) cs)
 
 -- each variable becomes a function term
-abbrev pub PutsTermsOf : SymbolUse → Substitution → Type 0
-PutsTermsOf usage σ = (v : ℕ) → IsTrue (is_function_term usage.is_predicate (σ v) && has_arities usage.arity (σ v))
+abbrev pub PutsFunctionTermsOf : SymbolUse → Substitution → Type 0
+PutsFunctionTermsOf usage σ = (v : ℕ) → IsTrue (is_function_term usage.is_predicate (σ v) && has_arities usage.arity (σ v))
 
--- ---- laws: what the rules make of well-formed literals is well-formed
+-- ---- laws: what stands in well-formed literals, and what the rules make of them, is well-formed
+
+-- the sides of a literal
+abbrev pub WellFormedSides : Type 0
+WellFormedSides =
+    (usage : SymbolUse) (s : Side) (l : TreeLiteral) → IsTrue (is_literal_of usage l) → IsTrue (is_term_of usage (side_of s l))
+
+-- ground trees over function symbols whose numbers of arguments are those of the use
+abbrev pub GroundTreesAreOfUse : Type 0
+GroundTreesAreOfUse =
+    (usage : SymbolUse) (functions : FunctionSymbols usage.is_predicate) (σ : Substitution)
+    → IsTrue (are_symbols_of usage functions.symbols) → IsGroundOver functions σ → PutsFunctionTermsOf usage σ
 
 abbrev pub WellFormedInstances : Type 0
 WellFormedInstances =
     (usage : SymbolUse) (σ : Substitution) (ls : List TreeLiteral)
-    → PutsTermsOf usage σ → IsTrue (are_literals_of usage ls) → IsTrue (are_literals_of usage (literals_instance σ ls))
+    → PutsFunctionTermsOf usage σ → IsTrue (are_literals_of usage ls) → IsTrue (are_literals_of usage (literals_instance σ ls))
 
 abbrev pub WellFormedSuperpositions : Type 0
 WellFormedSuperpositions =

@@ -1,7 +1,7 @@
 // What is said of instances without building them.
 
 ghost use Rattle.std.specs.Prelude.{◌≡◌, ◌-◌, ◌^◌, min, map};
-ghost use Rattle.fol_base.specs.Tree.{variable, tree_eq, trees_eq, tree_size, trees_size, trees_of};
+ghost use Rattle.fol_base.specs.Tree.{tree_eq, trees_eq, tree_size, trees_size, trees_of};
 ghost use Rattle.fol_base.specs.Term.{tree_of};
 ghost use Rattle.fol_base.specs.Instance.{instance, instances};
 
@@ -42,7 +42,7 @@ pub fn is_instance<S: LendsTerms>(term: &Term, subst: &S, target: &Term) -> bool
     match term {
         Term::Var(variable) => match subst.term(*variable) {
             Some(put) => same_term(put, target),
-            None => is_that_variable(target, *variable),
+            None => same_term(term, target),
         },
         Term::App(first, ones) => match target {
             Term::Var(_) => false,
@@ -68,16 +68,6 @@ fn are_instances<S: LendsTerms>(terms: &[Term], subst: &S, targets: &[Term]) -> 
     true
 }
 
-/// Whether a term is that variable.
-fn is_that_variable(term: &Term, number: u32) -> bool
-    ensures { result ≡ tree_eq (variable number) (tree_of term.now) }
-{
-    match term {
-        Term::Var(variable) => number == *variable,
-        Term::App(_, _) => false,
-    }
-}
-
 /// Whether the instances of two terms, each under its own substitution, are one tree.
 #[cycle(same_instance)]
 pub fn same_instance<S: LendsTerms, T: LendsTerms>(
@@ -93,7 +83,7 @@ pub fn same_instance<S: LendsTerms, T: LendsTerms>(
     match left {
         Term::Var(variable) => match left_subst.term(*variable) {
             Some(put) => is_instance(right, right_subst, put),
-            None => is_instance_variable(right, right_subst, *variable),
+            None => is_instance(right, right_subst, left),
         },
         Term::App(first, ones) => match right {
             Term::Var(variable) => match right_subst.term(*variable) {
@@ -128,17 +118,4 @@ fn same_instances<S: LendsTerms, T: LendsTerms>(
         }
     }
     true
-}
-
-/// Whether the instance of a term is that variable.
-fn is_instance_variable<S: LendsTerms>(term: &Term, subst: &S, number: u32) -> bool
-    ensures { result ≡ tree_eq (variable number) (instance (S.meaning subst.now) (tree_of term.now)) }
-{
-    match term {
-        Term::Var(variable) => match subst.term(*variable) {
-            Some(put) => is_that_variable(put, number),
-            None => number == *variable,
-        },
-        Term::App(_, _) => false,
-    }
 }

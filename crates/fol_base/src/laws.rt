@@ -21,7 +21,7 @@ pub use instances::{
     replaced_where_there, sizes_of_instances, variables_of_instances,
 };
 pub use matching_examples::{
-    compatible_examples, ground_form_examples, kind_examples, subsumption_examples,
+    compatible_examples, ground_form_examples, kind_examples, subsumption_examples, symbol_examples,
     unifier_examples, well_formed_examples,
 };
 pub use meaning::{
@@ -31,4 +31,6 @@ pub use meaning::{
 };
 pub use order::{order_equivalences, order_is_total, order_tests_decide};
 pub use rules::{rule_examples, side_examples};
-pub use well_formed::{conclusions_are_well_formed, ground_trees_are_function_terms};
+pub use well_formed::{
+    conclusions_are_well_formed, ground_trees_are_function_terms, terms_are_well_formed,
+};

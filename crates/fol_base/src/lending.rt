@@ -57,12 +57,12 @@ impl LendsLiterals for &[Literal] {
     }
 }
 
-/// What lends the term that a variable stands for: a list of terms, the bindings of a unifier, or the pairs of a matcher.
+/// What lends the term that a variable stands for: a list of terms, as a unifier's bindings are made into, or the pairs of a matcher.
 pub trait LendsTerms {
     /// The term of each variable.
     ghost meaning: { Self → Substitution };
 
-    /// The term of a variable. None where the variable stands for itself.
+    /// The term of a variable. None only where the variable stands for itself.
     fn term(&self, number: u32) -> Option<&Term>
         ensures { unwrap_or (option_map (λ found. tree_of found.now) result) (variable number) ≡ meaning self.now number };
 }

@@ -1,6 +1,6 @@
 // The variables of terms and clauses.
 
-ghost use Rattle.std.specs.Prelude.{◌≡◌, ◌≤◌, ◌^◌, ◌++◌, map, IfOk};
+ghost use Rattle.std.specs.Prelude.{◌≡◌, ◌≤◌, ◌^◌, ◌++◌, map, IfOk, OnErr};
 ghost use Rattle.fol_base.specs.Tree.{tree_variables, trees_variables, trees_of};
 ghost use Rattle.fol_base.specs.Clause.{clause_variables, literal_variables};
 ghost use Rattle.fol_base.specs.Canonical.{bound_of};
@@ -77,10 +77,11 @@ impl Clause {
     }
 }
 
-/// Adds the numbers of a term's variables at the end, with repetitions, from left to right.
+/// Adds the numbers of a term's variables at the end, with repetitions, from left to right; after want of memory none is added.
 #[cycle(push_variables)]
 pub fn push_variables(term: &Term, found: &mut Vec<u32>) -> Mem<()>
-    ensures { IfOk result (λ _. found.new.items ≡ found.old.items ++ tree_variables (tree_of term.now)) }
+    ensures added { IfOk result (λ _. found.new.items ≡ found.old.items ++ tree_variables (tree_of term.now)) }
+    ensures unchanged { OnErr result (found.new.items ≡ found.old.items) }
 {
     match term {
         Term::Var(variable) => Ok(found.push(*variable)?),
@@ -90,10 +91,15 @@ pub fn push_variables(term: &Term, found: &mut Vec<u32>) -> Mem<()>
 
 #[cycle(push_variables)]
 fn push_all_variables(terms: &Terms, found: &mut Vec<u32>) -> Mem<()>
-    ensures { IfOk result (λ _. found.new.items ≡ found.old.items ++ trees_variables (trees_of terms.now)) }
+    ensures added { IfOk result (λ _. found.new.items ≡ found.old.items ++ trees_variables (trees_of terms.now)) }
+    ensures unchanged { OnErr result (found.new.items ≡ found.old.items) }
 {
+    let before = found.len();
     for term in terms.as_slice() {
-        push_variables(term, found)?;
+        if let Err(error) = push_variables(term, found) {
+            found.truncate(before);
+            return Err(error);
+        }
     }
     Ok(())
 }

@@ -5,7 +5,7 @@ use Rattle.std.proofs.lemmas.Bool.{and_parts, or_cases}
 use Rattle.std.proofs.lemmas.List.Elements.{All-cons, All-nil}
 use Rattle.fol_base.specs.Tree.{Tree, tree_eq}
 use Rattle.fol_base.specs.Clause.{TreeClause, literal_eq}
-use Rattle.fol_base.proofs.OrderLemmas.{tree_eq-says}
+use Rattle.fol_base.proofs.TreeLemmas.{tree_eq-true}
 use Rattle.ground_loop.specs.Resolution.{LiteralSet, has_literal, is_tautology, resolvent, clause_number, resolved}
 use Rattle.ground_loop.specs.Answer.{holds_set, IsClosedFor, HasClosedSets, Triple, IsTripleOf, HasTriples}
 use Rattle.fol_base.specs.Interpretation.{literal_true}
@@ -20,7 +20,7 @@ negated_in_implied : (atom : Tree) → IsTrue (has_literal (is_not atom) (is_not
 negated_in_implied atom h = at (or_cases (literal_eq (is_not atom) (is_not p)) (has_literal (is_not atom) (is q ∷ [])) h)
   where
     at : (IsTrue (literal_eq (is_not atom) (is_not p)) ⊎ IsTrue (has_literal (is_not atom) (is q ∷ []))) → atom ≡ p
-    at (inl e) = tree_eq-says atom p (and_parts (tree_eq atom p) true e).0
+    at (inl e) = tree_eq-true atom p (and_parts (tree_eq atom p) true e).0
     at (inr e) = absurd (true≢false (sym e))
 
 abbrev Held : Tree → LiteralSet → LiteralSet → Type 0

@@ -5,6 +5,7 @@ use Rattle.std.specs.Prelude.{IsTrue, IsFalse, AllPairs}
 use Rattle.std.specs.List.{list_any}
 use Rattle.std.proofs.lemmas.Bool.{cases_Bool, cases_order, both_ways, or_cases, or_left, or_right, and_parts, and_from, eq-eqb, ne_eqb, eqb-true, false_from_ne_true, not-true, not_from_false}
 use Rattle.std.proofs.lemmas.List.Folds.{list_any-append}
+use Rattle.plain_types.proofs.Parity.{halves}
 use Rattle.fol_base.specs.Tree.{Tree, tree_eq, true_tree}
 use Rattle.fol_base.specs.Clause.{TreeLiteral, literal_eq}
 use Rattle.fol_base.proofs.TreeLemmas.{tree_eq-true, tree_eq-refl}
@@ -215,11 +216,7 @@ coded_literal-odd terms a =
 
 -- a code is that of an atom or of its negation
 pub code_cases : (c : ℕ) → (c ≡ 2 * (c / 2)) ⊎ (c ≡ 2 * (c / 2) + 1)
-code_cases c = split (c % 2) refl
-  where
-    split : (r : ℕ) → c % 2 ≡ r → (c ≡ 2 * (c / 2)) ⊎ (c ≡ 2 * (c / 2) + 1)
-    split zero e = inl (omega arith)
-    split (suc r) e = inr (omega arith)
+code_cases c = ⊎_elim (λ even. inl (sym even.1)) (λ odd. inr (sym odd.1)) (halves c)
 
 -- different numbers in a table are numbers of different atoms
 pub atom_injective :

@@ -1,6 +1,5 @@
 -- What a closed list without the empty set means: the form is true somewhere (completeness of ground resolution, Robinson 1965).
 use Rattle.std.specs.Prelude.{ℕ, Bool, List, IsTrue}
-use Rattle.fol_base.specs.Ground.{has_constant}
 use Rattle.fol_base.specs.Symbols.{FunctionSymbols}
 use Rattle.fol_base.specs.Clause.{TreeClause}
 use Rattle.fol_base.specs.Kind.{are_predicate_atoms}
@@ -22,11 +21,10 @@ ClosedFormsAreSatisfied =
     (is_predicate : ℕ → Bool) (form : List TreeClause)
     → IsGroundForm form → IsTrue (are_predicate_atoms is_predicate form) → HasClosedSets form → Satisfied is_predicate form
 
--- What an answer of the loop means for the form: it is Herbrand-refuted over each list of function symbols that has a constant; or
--- it is true in a finite interpretation; or nothing.
+-- What an answer of the loop means for the form: it is Herbrand-refuted over each list of function symbols; or it is true in a
+-- finite interpretation; or nothing.
 abbrev pub HasMeaning : List TreeClause → Ground → Type 0
 HasMeaning form (Refuted lines) =
-    (is_predicate : ℕ → Bool) (functions : FunctionSymbols is_predicate) → IsTrue (has_constant functions.symbols)
-    → HerbrandRefuted is_predicate functions form
+    (is_predicate : ℕ → Bool) (functions : FunctionSymbols is_predicate) → HerbrandRefuted is_predicate functions form
 HasMeaning form Closed = (is_predicate : ℕ → Bool) → IsTrue (are_predicate_atoms is_predicate form) → Satisfied is_predicate form
 HasMeaning form (Spent count) = Unit {0}

@@ -194,7 +194,7 @@ tests-agree a b c a' b' c' e d k =
 differ-false : (s t : Tree) → (s ≡ t → ⊥) → tree_eq s t ≡ false
 differ-false s t h = false_from_ne_true (tree_eq s t) (λ e. h ((tree_equality_decided s t).0 e))
 
-greater-true : (s t : Tree) → TreeGreater s t → tree_greater s t ≡ true
+pub greater-true : (s t : Tree) → TreeGreater s t → tree_greater s t ≡ true
 greater-true s t h = (tree_greater_decided s t).1 h
 
 greater-false : (s t : Tree) → (TreeGreater s t → ⊥) → tree_greater s t ≡ false

@@ -18,6 +18,7 @@ use Rattle.kbo_order.specs.Sides.{ComparesSides, all_below, all_reached, exceeds
 use Rattle.kbo_order.proofs.TallyLemmas.{bit, bit-most}
 use Rattle.kbo_order.proofs.MemberLemmas.{In}
 use Rattle.kbo_order.proofs.MultisetLemmas.{Over, above, make, listed, outdoing, dominating-greater, level-right}
+use Rattle.kbo_order.proofs.FurtherLemmas.{greater-true}
 use Rattle.kbo_order.proofs.StrictOrderLemmas.{sides, sides-swapped, trees_ordered}
 use Rattle.kbo_order.proofs.AnswerLemmas.{and-decides, or-decides, choice-decides, Decides-same, compared-answer, compared-reversed, greater-decides, equal-decides}
 
@@ -109,9 +110,6 @@ turned p u v xs greater =
 greater_is : (s t : Tree) → tree_greater s t ≡ true → TreeGreater s t
 greater_is s t h = (tree_greater_decided s t).0 h
 
-greater-holds : (s t : Tree) → TreeGreater s t → tree_greater s t ≡ true
-greater-holds s t h = (tree_greater_decided s t).1 h
-
 abbrev Above : Tree → Tree → Tree → Type 0
 Above s t z = TreeGreater s z ⊎ TreeGreater t z
 
@@ -129,8 +127,8 @@ AllBelow-greater : (p q : Bool) (s t u v : Tree) → Above s t u × Above s t v 
 AllBelow-greater p q s t u v h =
     let one : (y z : Tree) → y ≡ z → Above s t z → (x : Tree) × In x (sides p s t) × (tree_greater x y ≡ true) = λ y z e k.
     ⊎_elim
-    (λ g. (s, left-In p s t, ap (tree_greater s) e ∙ greater-holds s z g))
-    (λ g. (t, right-In p s t, ap (tree_greater t) e ∙ greater-holds t z g))
+    (λ g. (s, left-In p s t, ap (tree_greater s) e ∙ greater-true s z g))
+    (λ g. (t, right-In p s t, ap (tree_greater t) e ∙ greater-true t z g))
     k in
     let none : Tree → ℕ = λ z. count z [] in
     dominating-greater tree_eq tree_greater trees_ordered (sides p s t) (sides q u v) [] (sides p s t) (sides q u v)
@@ -189,7 +187,7 @@ reached-one s t u v greater =
 
 greater-differ : (s t : Tree) → TreeGreater s t → s ≡ t → ⊥
 greater-differ s t g e =
-    true≢false (sym (greater-holds s t g) ∙ ap (λ (x : Tree). tree_greater x t) e ∙ trees_ordered.is_irreflexive t)
+    true≢false (sym (greater-true s t g) ∙ ap (λ (x : Tree). tree_greater x t) e ∙ trees_ordered.is_irreflexive t)
 
 -- a side that is met by another one isn't missing, and one that is passed is outdone
 reached-outdone :
@@ -207,7 +205,7 @@ reached-outdone s t u v z is_side reached over =
     is_side in
     outdoing tree_eq tree_greater trees_ordered (sides false s t) (sides true u v) z x
     (omega (arith, twice x s t, once x u v, some, few))
-    (greater-holds x z g) in
+    (greater-true x z g) in
     ⊎_elim
     (λ a.
     ⊎_elim
@@ -271,7 +269,7 @@ beside p xs ys a b d lefts rights differ = (
       greater_is b d (ap (λ (x : Tree). tree_greater x d) (sym is_b) ∙ found.3),
   λ g.
       dominating-greater tree_eq tree_greater trees_ordered xs ys (copies p a) (copies p b) (copies p d) lefts rights b (copies-In p b)
-      (λ y there. (b, copies-In p b, ap (tree_greater b) (In-copies p y d there) ∙ greater-holds b d g)),
+      (λ y there. (b, copies-In p b, ap (tree_greater b) (In-copies p y d there) ∙ greater-true b d g)),
 )
 
 missing-side : (p : Bool) (z s t : Tree) → (z ≡ s → ⊥) → (z ≡ t → ⊥) → count z (sides p s t) ≡ 0

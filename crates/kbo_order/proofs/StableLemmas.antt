@@ -10,9 +10,9 @@ use Rattle.fol_base.specs.Clause.{TreeLiteral, literal_instance}
 use Rattle.fol_base.specs.Multiset.{times, multiset_greater}
 use Rattle.fol_base.specs.Order.{occurrences, tree_greater, HasVariablesOf, TreeGreater, TreesGreater, sides_multiset, equivalent_literals, literal_greater}
 use Rattle.fol_base.proofs.CountLemmas.{equivalence_from, multiset_greater-decided}
-use Rattle.fol_base.proofs.TreeLemmas.{tree_size-positive}
+use Rattle.fol_base.proofs.TreeLemmas.{tree_size-positive, tree_eq-true}
 use Rattle.fol_base.proofs.InstanceLemmas.{occurrences_in_instances}
-use Rattle.fol_base.proofs.OrderLemmas.{tree_eq-says, tree_equality_decided, tree_greater_decided, SameLiteral, equivalent_literals-decided}
+use Rattle.fol_base.proofs.OrderLemmas.{tree_equality_decided, tree_greater_decided, SameLiteral, equivalent_literals-decided}
 use Rattle.kbo_order.specs.StrictOrder.{IsStrictOrder}
 use Rattle.kbo_order.specs.Laws.{TreesStable, LiteralsStable, ClausesStable}
 use Rattle.kbo_order.proofs.MemberLemmas.{In}
@@ -127,7 +127,7 @@ trees_stable σ s t h = (tree_greater_decided (instance σ s) (instance σ t)).1
 -- ---- literals and clauses
 
 trees-same_stable : (σ : Substitution) (s t : Tree) → tree_eq s t ≡ true → tree_eq (instance σ s) (instance σ t) ≡ true
-trees-same_stable σ s t e = (tree_equality_decided (instance σ s) (instance σ t)).1 (ap (instance σ) (tree_eq-says s t e))
+trees-same_stable σ s t e = (tree_equality_decided (instance σ s) (instance σ t)).1 (ap (instance σ) (tree_eq-true s t e))
 
 sides-instance :
     (σ : Substitution) (p : Bool) (t u : Tree)

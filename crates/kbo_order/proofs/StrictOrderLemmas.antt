@@ -5,7 +5,8 @@ use Rattle.fol_base.specs.Clause.{TreeLiteral}
 use Rattle.fol_base.specs.Multiset.{times, same_multiset, multiset_greater}
 use Rattle.fol_base.specs.Order.{tree_greater, sides_multiset, equivalent_literals, literal_greater}
 use Rattle.fol_base.proofs.CountLemmas.{same_multiset-from}
-use Rattle.fol_base.proofs.OrderLemmas.{tree_eq-says, trees_equivalence, SameLiteral, equivalent_literals-decided, literals_equivalence}
+use Rattle.fol_base.proofs.OrderLemmas.{trees_equivalence, SameLiteral, equivalent_literals-decided, literals_equivalence}
+use Rattle.fol_base.proofs.TreeLemmas.{tree_eq-true}
 use Rattle.fol_base.proofs.TreeOrderLemmas.{tree_greater-itself, tree_greater-trans}
 use Rattle.kbo_order.specs.StrictOrder.{IsStrictOrder}
 use Rattle.kbo_order.specs.Laws.{TreesOrdered, LiteralsOrdered, ClausesOrdered}
@@ -14,8 +15,8 @@ use Rattle.kbo_order.proofs.MultisetLemmas.{multisets_ordered}
 pub trees_ordered : TreesOrdered
 trees_ordered = record {
   is_equivalence = trees_equivalence;
-  same_left = λ s t u e h. ap (λ (x : Tree). tree_greater x u) (sym (tree_eq-says s t e)) ∙ h;
-  same_right = λ s t u e h. ap (tree_greater u) (sym (tree_eq-says s t e)) ∙ h;
+  same_left = λ s t u e h. ap (λ (x : Tree). tree_greater x u) (sym (tree_eq-true s t e)) ∙ h;
+  same_right = λ s t u e h. ap (tree_greater u) (sym (tree_eq-true s t e)) ∙ h;
   is_irreflexive = tree_greater-itself;
   is_transitive = tree_greater-trans;
 }

@@ -3,6 +3,7 @@
 use super::*;
 use fol_base::{Clause, Literal, Literals, Term, Terms};
 use plain_types::Names;
+use sample_terms::{binary, constant, unary};
 use std::alloc::Global;
 use std::test::Fail;
 
@@ -26,18 +27,13 @@ fn term(alloc: Global, text: &str) -> Result<Term, Fail> {
     for letter in text.bytes() {
         let made = match letter {
             b'0'..=b'9' => Term::Var(u32::from(letter - b'0')),
-            b't' | b'a' | b'b' => Term::App(symbol(letter), Terms::new(alloc)),
+            b't' | b'a' | b'b' => constant(alloc, symbol(letter)),
             b'F' | b'G' => {
                 let second = stack.pop().ok_or("no argument")?;
                 let first = stack.pop().ok_or("no argument")?;
-                let arguments = vec![in alloc; first, second]?;
-                Term::App(symbol(letter), Terms::from_vec(arguments))
+                binary(alloc, symbol(letter), first, second)?
             }
-            _ => {
-                let argument = stack.pop().ok_or("no argument")?;
-                let arguments = vec![in alloc; argument]?;
-                Term::App(symbol(letter), Terms::from_vec(arguments))
-            }
+            _ => unary(alloc, symbol(letter), stack.pop().ok_or("no argument")?)?,
         };
         stack.push(made)?;
     }
@@ -157,8 +153,8 @@ fn tall_terms_are_compared(rt: HostRuntime) -> Result<(), Fail> {
     let alloc = rt.alloc();
     let (mut left, mut right) = (term(alloc, "b")?, term(alloc, "a")?);
     for _ in 0..4_000 {
-        left = Term::App(3, Terms::from_vec(vec![in alloc; left]?));
-        right = Term::App(3, Terms::from_vec(vec![in alloc; right]?));
+        left = unary(alloc, 3, left)?;
+        right = unary(alloc, 3, right)?;
     }
     assert_eq!(rt; compared(&left, &right), Some(Cmp::Greater));
     Ok(())
@@ -180,29 +176,21 @@ enum Shape {
     Variables(u32),
 }
 
-fn applied(alloc: Global, symbol: u32, argument: Term) -> Result<Term, Fail> {
-    Ok(Term::App(symbol, Terms::from_vec(vec![in alloc; argument]?)))
-}
-
 fn tower(alloc: Global, height: u32, last: u32) -> Result<Term, Fail> {
-    let mut made = Term::App(last, Terms::new(alloc));
+    let mut made = constant(alloc, last);
     for _ in 0..height {
-        made = applied(alloc, 3, made)?;
+        made = unary(alloc, 3, made)?;
     }
     Ok(made)
 }
 
-fn pair(alloc: Global, first: Term, second: Term) -> Result<Term, Fail> {
-    Ok(Term::App(3, Terms::from_vec(vec![in alloc; first, second]?)))
-}
-
 /// A full binary tree of that depth, the last leaf of which is given.
 fn balanced(alloc: Global, depth: u32, last: u32) -> Result<Term, Fail> {
-    let mut whole = Term::App(1, Terms::new(alloc));
-    let mut edge = Term::App(last, Terms::new(alloc));
+    let mut whole = constant(alloc, 1);
+    let mut edge = constant(alloc, last);
     for _ in 0..depth {
-        edge = pair(alloc, whole.copy(alloc)?, edge)?;
-        whole = pair(alloc, whole.copy(alloc)?, whole)?;
+        edge = binary(alloc, 3, whole.copy(alloc)?, edge)?;
+        whole = binary(alloc, 3, whole.copy(alloc)?, whole)?;
     }
     Ok(edge)
 }
@@ -210,9 +198,9 @@ fn balanced(alloc: Global, depth: u32, last: u32) -> Result<Term, Fail> {
 fn wide(alloc: Global, count: u32, last: u32) -> Result<Term, Fail> {
     let mut arguments = Terms::new(alloc);
     for _ in 1..count {
-        arguments.push(Term::App(1, Terms::new(alloc)))?;
+        arguments.push(constant(alloc, 1))?;
     }
-    arguments.push(Term::App(last, Terms::new(alloc)))?;
+    arguments.push(constant(alloc, last))?;
     Ok(Term::App(3, arguments))
 }
 

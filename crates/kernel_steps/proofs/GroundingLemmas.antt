@@ -184,15 +184,14 @@ lines_are_grounded is_predicate functions form lines over derived n line at is_c
 
 -- the empty clause is its own ground instance, so what grounds it is refuted
 pub refutations_herbrand_refute : RefutationsHerbrandRefute
-refutations_herbrand_refute is_predicate functions form lines constant over refutation = record {
-  constant = constant;
+refutations_herbrand_refute is_predicate functions form lines over refutation = record {
   by = grounds.by;
   instances = grounds.instances;
   refuted = λ i ok. false_from_ne_true (clauses_true i grounds.by) (λ all. true≢false (sym (grounds.entailed i ok all)));
 }
   where
     some_tree : (t : Tree) × (ground_over functions.symbols t ≡ true)
-    some_tree = (constants_give_ground_trees functions.symbols).1 constant
+    some_tree = (constants_give_ground_trees functions.symbols).1 functions.constant
 
     is_last : slice_get lines (length refutation.before) ≡ Some refutation.last
     is_last = ap (λ ls. slice_get ls (length refutation.before)) refutation.ends ∙ slice_get-last refutation.before refutation.last

@@ -91,7 +91,6 @@ last_line_left_out refutation =
 -- p(a) and its negation
 pub general_refuted : HerbrandRefuted is_predicate functions general
 general_refuted = record {
-  constant = refl;
   by = (p a ∷ []) ∷ (not_p a ∷ []) ∷ [];
   instances =
       All-cons (InstanceOf functions (Contains general)) (p a ∷ []) ((not_p a ∷ []) ∷ [])

@@ -16,7 +16,7 @@ use Rattle.fol_base.specs.declared.clause.Side.TheVariants.{Left, Right}
 use Rattle.fol_base.proofs.MeaningLemmas.{congruence_of_values}
 use Rattle.fol_base.proofs.TestLemmas.{option_map-some}
 use Rattle.fol_base.proofs.TreeLemmas.{tree_eq-true}
-use Rattle.fol_base.specs.Rules.{is_chosen, superposed_literal, superposed, resolved, merged}
+use Rattle.fol_base.specs.Rules.{may_be_chosen, superposed_literal, superposed, resolved, merged}
 use Rattle.kernel_steps.specs.Soundness.{ParaIsSound, ReflIsSound, MergeIsSound}
 use Rattle.kernel_steps.proofs.TestLemmas.{list_any-remove, list_any-remove_other, list_any-set, if_some, else_some}
 
@@ -47,14 +47,14 @@ superposed_literal-truth :
     → literal_true_under i ρ made ≡ literal_true_under i ρ into
 superposed_literal-truth i ρ from into made s z place step holds =
     option_and_then_some
-    (λ u. if is_chosen from s && tree_eq u (side_of s from)
+    (λ u. if may_be_chosen from s && tree_eq u (side_of s from)
     then option_map (λ new. with_side z new into) (replaced place (other_side_of s from) (side_of z into))
     else None)
     (subterm place (side_of z into)) made step λ u u_is u_step.
     let chosen =
-    if_some (is_chosen from s && tree_eq u (side_of s from))
+    if_some (may_be_chosen from s && tree_eq u (side_of s from))
     (option_map (λ new. with_side z new into) (replaced place (other_side_of s from) (side_of z into))) made u_step in
-    let tests = and_parts (is_chosen from s) (tree_eq u (side_of s from)) chosen.0 in
+    let tests = and_parts (may_be_chosen from s) (tree_eq u (side_of s from)) chosen.0 in
     let same : u ≡ side_of s from = tree_eq-true u (side_of s from) tests.1 in
     let positive : from.positive ≡ true = (and_parts from.positive (not (is_truth (side_of s from))) tests.0).0 in
     option_map-some (λ new. with_side z new into) (replaced place (other_side_of s from) (side_of z into)) made chosen.1

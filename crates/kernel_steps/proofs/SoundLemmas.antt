@@ -10,7 +10,7 @@ use Rattle.fol_base.specs.Tree.{Tree, variable, application, Trees, no_trees, tr
 use Rattle.fol_base.specs.Instance.{Substitution, substitution, instance, instances}
 use Rattle.fol_base.specs.Clause.{TreeLiteral, TreeClause}
 use Rattle.fol_base.specs.Literal.{clause_of}
-use Rattle.fol_base.specs.Ground.{has_constant, ground_over, is_ground, are_ground, is_ground_literal, is_ground_clause, literals_instance}
+use Rattle.fol_base.specs.Ground.{ground_over, is_ground, are_ground, is_ground_literal, is_ground_clause, literals_instance}
 use Rattle.fol_base.specs.Symbols.{FunctionSymbols}
 use Rattle.fol_base.specs.GroundForm.{is_ground_atom, is_atom_literal, IsGroundClause, IsGroundForm}
 use Rattle.fol_base.specs.Interpretation.{Interpretation, Assignment, tree_value, no_values, literals_true_under, clause_true, clauses_true}
@@ -177,8 +177,8 @@ literals_instance-ground σ (l ∷ ls) h =
 -- so the clauses of a ground form are ground instances of it
 form-instances :
     (is_predicate : ℕ → Bool) (functions : FunctionSymbols is_predicate) (form : List TreeClause)
-    → has_constant functions.symbols ≡ true → IsGroundForm form → All (InstanceOf functions (Contains form)) (ground_clauses form)
-form-instances is_predicate functions form constant ground =
+    → IsGroundForm form → All (InstanceOf functions (Contains form)) (ground_clauses form)
+form-instances is_predicate functions form ground =
     All-map (InstanceOf functions (Contains form)) (λ (c : TreeClause). c.literals) form
     (λ k d within. record {
       clause = get_or form k d;
@@ -191,12 +191,12 @@ form-instances is_predicate functions form constant ground =
     })
   where
     some_tree : (t : Tree) × (ground_over functions.symbols t ≡ true)
-    some_tree = (constants_give_ground_trees functions.symbols).1 constant
+    some_tree = (constants_give_ground_trees functions.symbols).1 functions.constant
 
 pub ground_lines_are_grounded : GroundLinesAreGrounded
-ground_lines_are_grounded is_predicate functions form lines constant ground derived n line at is_clause g made = record {
+ground_lines_are_grounded is_predicate functions form lines ground derived n line at is_clause g made = record {
   by = ground_clauses form;
-  instances = form-instances is_predicate functions form constant ground;
+  instances = form-instances is_predicate functions form ground;
   entailed = λ i ok all_true.
       ap (clause_true i) made.literals
       ∙ truth_of_instances i no_values made.trees (clause_of line.clause).literals
@@ -223,9 +223,8 @@ refutations_refute is_predicate form lines ground refutation i ok =
         ap (λ ls. slice_get ls (length refutation.before)) refutation.ends ∙ slice_get-last refutation.before refutation.last
 
 pub ground_refutations_herbrand_refute : GroundRefutationsHerbrandRefute
-ground_refutations_herbrand_refute is_predicate functions form lines constant ground refutation = record {
-  constant = constant;
+ground_refutations_herbrand_refute is_predicate functions form lines ground refutation = record {
   by = ground_clauses form;
-  instances = form-instances is_predicate functions form constant ground;
+  instances = form-instances is_predicate functions form ground;
   refuted = refutations_refute is_predicate form lines ground refutation;
 }

@@ -2,7 +2,8 @@
 use Rattle.std.specs.Prelude.{ℕ, Bool, true, false, List, [], ◌∷◌}
 use Rattle.fol_base.specs.Tree.{Tree, true_tree}
 use Rattle.fol_base.specs.Clause.{TreeLiteral, TreeClause}
-use Rattle.fol_base.specs.Examples.{x, a, b, p, disequation, clause}
+use Rattle.fol_base.specs.Examples.{x, a, b, p, clause}
+use Rattle.fol_base.specs.Rules.{disequation}
 use Rattle.fol_base.specs.declared.term.Term.TheVariants.{App}
 use Rattle.fol_base.specs.declared.clause.Literal.{Literal}
 use Rattle.fol_base.specs.declared.clause.Side.TheVariants.{Left}

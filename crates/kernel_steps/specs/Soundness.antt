@@ -5,7 +5,7 @@ use Rattle.std.specs.List.{list_all}
 use Rattle.fol_base.specs.Tree.{Tree}
 use Rattle.fol_base.specs.Clause.{TreeLiteral, TreeClause}
 use Rattle.fol_base.specs.Symbols.{FunctionSymbol, FunctionSymbols}
-use Rattle.fol_base.specs.Ground.{has_constant, is_over, GroundClause, GroundInstance}
+use Rattle.fol_base.specs.Ground.{is_over, GroundClause, GroundInstance}
 use Rattle.fol_base.specs.GroundForm.{IsGroundForm}
 use Rattle.fol_base.specs.Interpretation.{Interpretation, Assignment, literals_true_under}
 use Rattle.fol_base.specs.Entails.{Entails, IsRefuted}
@@ -37,9 +37,8 @@ abbrev pub IsGrounded : (is_predicate : ℕ → Bool) → FunctionSymbols is_pre
 IsGrounded is_predicate functions form c =
     (g : GroundClause) → GroundInstance functions c g → Grounds is_predicate functions form g
 
--- Finitely many ground instances of the form, over function symbols that have a constant, are true in no interpretation.
+-- Finitely many ground instances of the form are true in no interpretation.
 pub record HerbrandRefuted (is_predicate : ℕ → Bool) (functions : FunctionSymbols is_predicate) (form : List TreeClause) : Type 0 where
-  pub constant : IsTrue (has_constant functions.symbols)
   pub by : List GroundClause
   pub instances : All (InstanceOf functions (Contains form)) by
   pub refuted : IsRefuted is_predicate by
@@ -101,7 +100,7 @@ LinesAreGrounded =
 abbrev pub GroundLinesAreGrounded : Type 0
 GroundLinesAreGrounded =
     (is_predicate : ℕ → Bool) (functions : FunctionSymbols is_predicate) (form : List TreeClause) (lines : List Line)
-    → IsTrue (has_constant functions.symbols) → IsGroundForm form → IsDerivation form lines
+    → IsGroundForm form → IsDerivation form lines
     → (n : ℕ) (line : Line) → slice_get lines n ≡ Some line → IsTrue (is_clause_step line.step)
     → IsGrounded is_predicate functions form (clause_of line.clause)
 
@@ -113,18 +112,16 @@ RefutationsRefute =
     (is_predicate : ℕ → Bool) (form : List TreeClause) (lines : List Line)
     → IsGroundForm form → IsRefutation form lines → IsRefuted is_predicate (ground_clauses form)
 
--- a form that has a refutation is Herbrand-refuted over function symbols that have a constant, where its bindings are over them
+-- a form that has a refutation is Herbrand-refuted over function symbols where its bindings are over them
 abbrev pub RefutationsHerbrandRefute : Type 0
 RefutationsHerbrandRefute =
     (is_predicate : ℕ → Bool) (functions : FunctionSymbols is_predicate) (form : List TreeClause) (lines : List Line)
-    → IsTrue (has_constant functions.symbols)
     → BindsOver functions.symbols lines → IsRefutation form lines
     → HerbrandRefuted is_predicate functions form
 
--- and a ground form over every list that has a constant
+-- and a ground form over every list
 abbrev pub GroundRefutationsHerbrandRefute : Type 0
 GroundRefutationsHerbrandRefute =
     (is_predicate : ℕ → Bool) (functions : FunctionSymbols is_predicate) (form : List TreeClause) (lines : List Line)
-    → IsTrue (has_constant functions.symbols)
     → IsGroundForm form → IsRefutation form lines
     → HerbrandRefuted is_predicate functions form

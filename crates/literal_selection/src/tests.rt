@@ -1,9 +1,10 @@
 // Chosen and eligible literals on rows worked out by hand.
 
 use super::*;
-use fol_base::{Clause, Literal, Literals, Term, Terms};
+use fol_base::{Clause, Literal, Literals, Term};
 use kbo_order::COMPARED_SIZE_LIMIT;
 use plain_types::Names;
+use sample_terms::{constant, unary};
 use std::alloc::Global;
 use std::test::Fail;
 
@@ -14,10 +15,10 @@ fn term(alloc: Global, text: &str) -> Result<Term, Fail> {
     for letter in text.bytes() {
         made = match letter {
             b'0' => Term::Var(0),
-            b't' => Term::App(0, Terms::new(alloc)),
-            b'a' => Term::App(1, Terms::new(alloc)),
-            b'b' => Term::App(2, Terms::new(alloc)),
-            _ => Term::App(u32::from(letter), Terms::from_vec(vec![in alloc; made]?)),
+            b't' => Term::truth(alloc),
+            b'a' => constant(alloc, 1),
+            b'b' => constant(alloc, 2),
+            _ => unary(alloc, u32::from(letter), made)?,
         };
     }
     Ok(made)

@@ -22,7 +22,7 @@ use Rattle.fol_base.specs.declared.clause.Side.TheVariants.{Left, Right}
 use Rattle.kernel_steps.specs.declared.step.Step.{Step}
 use Rattle.kernel_steps.specs.declared.step.Step.TheVariants.{Input, Negate, Clausify, Para, Refl, Factor, Merge, Component, Split, Chain}
 use Rattle.kernel_steps.specs.declared.step.Line.{Line}
-use Rattle.fol_base.specs.Rules.{is_chosen, superposed, resolved, merged}
+use Rattle.fol_base.specs.Rules.{may_be_chosen, superposed, resolved, merged}
 use Rattle.kernel_steps.specs.Conclusion.{empty_clause, line_clause, binds, bound_literals, Verdict, binding_fault, rule_fault, concludes, verdict_if}
 use Rattle.kernel_steps.specs.Derivation.{is_clause_step, is_input_of, ComesBy, IsDerivation, IsSourced, IsSourcedRefutation}
 use Rattle.kernel_steps.proofs.TestLemmas.{else_some}
@@ -257,7 +257,7 @@ para-plain (l ∷ []) (k ∷ []) zero s zero z (n ∷ place) made p q h =
   where
     rewritten : TreeLiteral → Side → TreeLiteral → Side → List ℕ → Tree → Option TreeLiteral
     rewritten from s into z place u =
-        if is_chosen from s && tree_eq u (side_of s from)
+        if may_be_chosen from s && tree_eq u (side_of s from)
         then option_map (λ new. with_side z new into) (replaced place (other_side_of s from) (side_of z into))
         else None
 

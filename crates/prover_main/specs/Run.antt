@@ -11,7 +11,6 @@ use Rattle.outside.specs.Sink.{with_bytes, HasPrefixAfter}
 use Rattle.ground_loop.specs.Answer.{HasClosedSets, HasTriples}
 use Rattle.ground_loop.specs.Satisfaction.{Satisfied}
 use Rattle.prover_main.specs.Words.{proved_file}
-use Rattle.fol_base.specs.Ground.{has_constant}
 use Rattle.fol_base.specs.Symbols.{FunctionSymbols}
 use Rattle.kernel_steps.specs.Soundness.{HerbrandRefuted}
 use Rattle.prover_main.specs.Accepted.{IsAcceptedDerivation, form_of, is_predicate_of}
@@ -23,16 +22,14 @@ use Rattle.prover_main.specs.Report.{refuted_report, closed_report, spent_report
 abbrev pub IsUnreadable : List ℕ → Type 0
 IsUnreadable bytes = (fs : List NamedFormula) → IsGroundText bytes fs → IsWithinLimits fs → ⊥
 
--- A text that is an accepted derivation of the problem that the bytes spell; and, over every list of function symbols that has a
--- constant, some finite list of ground instances of the clausal form is true in no interpretation.
+-- A text that is an accepted derivation of the problem that the bytes spell; and, over every list of function symbols, some finite list of ground instances of the clausal form is true in no interpretation.
 pub record IsRefutedBy (bytes file text : List ℕ) : Type 0 where
   pub problem : GroundProblem
   pub is_read : IsReadAs bytes problem
   pub derivation : List ℕ
   pub accepted : IsAcceptedDerivation file problem derivation
   pub herbrand :
-      (functions : FunctionSymbols (is_predicate_of problem)) → IsTrue (has_constant functions.symbols)
-      → HerbrandRefuted (is_predicate_of problem) functions (form_of problem)
+      (functions : FunctionSymbols (is_predicate_of problem)) → HerbrandRefuted (is_predicate_of problem) functions (form_of problem)
   pub prints : text ≡ refuted_report file derivation
 
 -- as many different inferences as the limit

@@ -15,7 +15,7 @@ use Rattle.unifier.specs.Layout.{cell_of, code_of, codes_of, all_pass, HasVariab
 use Rattle.unifier.specs.Bindings.{bound, joint, occurs, LeavesOthers, CannotMeet, IsMeeting}
 use Rattle.unifier.specs.Renaming.{is_within, fits, CountsVariables, FitLeavesOthers, FitLeavesOthersApart}
 use Rattle.unifier.specs.Solving.{relocated, IsRelocated}
-use Rattle.unifier.proofs.ParityLemmas.{even-half, odd-half}
+use Rattle.plain_types.proofs.Parity.{even-half, odd-half}
 use Rattle.unifier.proofs.PlaceLemmas.{ltb-is, ltb-not, not-found}
 use Rattle.unifier.proofs.RenameLemmas.{code-within, within-left, within-right}
 

@@ -7,6 +7,7 @@ use Rattle.fol_base.specs.Instance.{Substitution, instance, instances, substitut
 use Rattle.fol_base.specs.Canonical.{terms_from}
 use Rattle.fol_base.specs.Kind.{is_function_term, are_function_terms, is_predicate_term, PutsFunctionTerms}
 use Rattle.fol_base.specs.Unifier.{IsUnifierApart}
+use Rattle.fol_base.proofs.CanonicalLemmas.{length-terms_from}
 use Rattle.fol_base.proofs.TreeLemmas.{and_left, and_right}
 use Rattle.unifier.specs.Matching.{term_for, by_pairs}
 use Rattle.unifier.specs.Walk.{met, walk, walk_all}
@@ -254,10 +255,6 @@ pair-function p (q ∷ ps) v all =
     (λ same. ap put_in (cond-true (v == q.0) (Some q.1) (term_for v ps) same) ∙ all.0)
     (λ other. ap put_in (cond-false (v == q.0) (Some q.1) (term_for v ps) other) ∙ pair-function p ps v all.1)
     (cases_Bool (v == q.0))
-
-length-terms_from : (first n : ℕ) (σ : Substitution) → length (terms_from first n σ) ≡ n
-length-terms_from first zero σ = refl
-length-terms_from first (suc n) σ = ap suc (length-terms_from (suc first) n σ)
 
 past-end : {X : Type 0} (xs : List X) (i : ℕ) (d : X) → length xs ≤ i → get_or xs i d ≡ d
 past-end [] i d h = refl

@@ -1,4 +1,3 @@
-pub mod ParityLemmas
 pub mod MatchLemmas
 pub mod PlaceLemmas
 pub mod LayoutLemmas

@@ -9,6 +9,7 @@ use Rattle.std.proofs.lemmas.Bool.{and_parts, and_from, cond-true, cond-false, c
 use Rattle.fol_base.specs.Tree.{Tree, variable, application, Trees, no_trees, tree_then, trees_of, tree_eq, tree_variables, trees_variables, VariablesBelow}
 use Rattle.fol_base.specs.Instance.{Substitution, instance, instances, substitution}
 use Rattle.fol_base.specs.Canonical.{terms_from}
+use Rattle.fol_base.proofs.CanonicalLemmas.{terms_from-at}
 use Rattle.fol_base.proofs.TreeLemmas.{tree_eq-refl, tree_eq-true, and_left, and_right}
 use Rattle.unifier.specs.Matching.{variables_of, term_for, by_pairs, are_below, NoVariableTwice, HasPairs, with_further, IsMatched, NoMatcher}
 use Rattle.fol_base.specs.Term.{tree_of}
@@ -351,12 +352,6 @@ answer-below ps so_far qs t u fits e w h n below all =
 unwrapped : (v : ℕ) (o : Option Tree) (t : Tree) → o ≡ Some t → unwrap_or o (variable v) ≡ t
 unwrapped v None t e = cc
 unwrapped v (Some u) t e = cc
-
-terms_from-at : (first n v : ℕ) (σ : Substitution) (d : Tree) → v < n → get_or (terms_from first n σ) v d ≡ σ (first + v)
-terms_from-at first zero v σ d h = absurd (omega arith)
-terms_from-at first (suc n) zero σ d h = let e : first ≡ first + 0 = omega arith in ap σ e
-terms_from-at first (suc n) (suc v) σ d h =
-    let e : suc first + v ≡ first + suc v = omega arith in terms_from-at (suc first) n v σ d (omega arith) ∙ ap σ e
 
 pub listed-at :
     (terms : List Tree) (count v : ℕ) (σ : Substitution) → terms ≡ terms_from 0 count σ → v < count → substitution terms v ≡ σ v

@@ -20,7 +20,7 @@ use Rattle.unifier.specs.Layout.{cell_of, code_of}
 use Rattle.unifier.specs.Bindings.{value_at, bound, joint, substitution_of}
 use Rattle.unifier.specs.Renaming.{renamed, renamed_trees, side_terms, AreRenamed, code_count, is_within, fits, is_shared, rank, AreNames, HasNames}
 use Rattle.unifier.proofs.ValueLemmas.{value_at-valuation}
-use Rattle.unifier.proofs.ParityLemmas.{even-half, odd-half}
+use Rattle.plain_types.proofs.Parity.{halves, even-half, odd-half}
 use Rattle.unifier.proofs.PlaceLemmas.{found-passes, ltb-is, ltb-less}
 
 abbrev pub side_count : ℕ → ℕ → Side → ℕ
@@ -246,9 +246,6 @@ pub renamed-free : (b : Bindings) (names : ℕ → ℕ) (w : ℕ) (t : Tree) →
 renamed-free b names w t none is = is ∙ ap (λ o. renamed names (bound b.cells.items o w)) (sym none)
 
 -- ---- numbers that are used
-
-halves : (w : ℕ) → ((w % 2 ≡ 0) × (2 * (w / 2) ≡ w)) ⊎ ((w % 2 ≡ 1) × (2 * (w / 2) + 1 ≡ w))
-halves w = ⊎_elim (λ less. inl (omega arith, omega arith)) (λ ge. inr (omega arith, omega arith)) (cases_lt (w % 2) 1)
 
 -- taken apart, a side's variable is within where it is below its side's count
 pub within-left : (l r v : ℕ) → is_within true l r (2 * v) ≡ nat_lt v l

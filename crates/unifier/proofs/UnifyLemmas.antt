@@ -10,7 +10,7 @@ use Rattle.unifier.specs.declared.bindings.Bindings.{Bindings}
 use Rattle.unifier.specs.Cells.{Value, tree, AreOrdered, IsValuation}
 use Rattle.unifier.specs.Layout.{of_side, TermLaidOut}
 use Rattle.unifier.specs.Bindings.{value_at, joint, IsUnified, CannotMeet, Meets, IsMeeting}
-use Rattle.unifier.proofs.ParityLemmas.{even-half, odd-half}
+use Rattle.plain_types.proofs.Parity.{even-half, odd-half}
 use Rattle.unifier.proofs.ValueLemmas.{value_at-valuation}
 use Rattle.unifier.proofs.LayoutLemmas.{denotes-kept}
 

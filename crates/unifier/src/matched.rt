@@ -6,7 +6,7 @@ ghost use Rattle.fol_base.specs.Instance.{substitution};
 ghost use Rattle.fol_base.specs.Canonical.{terms_from};
 ghost use Rattle.unifier.specs.Matching.{HasPairs, are_below, by_pairs, term_for};
 
-use fol_base::{Subst, Term, Terms};
+use fol_base::{LendsTerms, Subst, Term, Terms};
 use plain_types::Mem;
 use std::alloc::Global;
 use std::marker::Model;
@@ -110,5 +110,16 @@ impl<'a> Matched<'a> {
             pairs.push(*pair)?;
         }
         Ok(Matched { pairs })
+    }
+}
+
+/// A matcher lends the terms of its pairs.
+impl<'a> LendsTerms for Matched<'a> {
+    ghost use Rattle.unifier.specs.Matching.{by_pairs};
+
+    ghost meaning = { by_pairs };
+
+    fn term(&self, number: u32) -> Option<&Term> {
+        self.term_for(number)
     }
 }

@@ -2,12 +2,10 @@
 // (benchmarks/unifying). Of ten pairs five have different constants at one place, and one has a variable
 // that would contain itself.
 
-ghost use Rattle.std.specs.Prelude.{◌<◌};
-
 use super::*;
 use fol_base::Term;
 use plain_types::Mem;
-use sample_terms::{binary, constant, unary};
+use sample_terms::{Random, binary, constant, unary};
 use std::alloc::Global;
 use std::test::Fail;
 
@@ -26,27 +24,8 @@ const PAIRS: u32 = 200;
 /// How often each pair is unified; a benchmark sets both numbers higher.
 const ROUNDS: u32 = 1;
 
-/// Numbers as they come from a linear congruence, with the constants of Knuth's MMIX.
-#[derive(Drop)]
-struct Numbers {
-    state: u64,
-}
-
-impl Numbers {
-    /// The next number below a bound above 0.
-    fn below(&mut self, bound: u64) -> u64
-        requires { 0 < bound }
-    {
-        self.state = self
-            .state
-            .wrapping_mul(6_364_136_223_846_793_005)
-            .wrapping_add(1_442_695_040_888_963_407);
-        (self.state >> 33) % bound
-    }
-}
-
 /// A leaf: the given constant, or one of four variables, or a.
-fn leaf(alloc: Global, numbers: &mut Numbers, given: Option<u32>) -> Term {
+fn leaf(alloc: Global, numbers: &mut Random, given: Option<u32>) -> Term {
     if let Some(symbol) = given {
         return constant(alloc, symbol);
     }
@@ -85,7 +64,7 @@ struct Pair {
 }
 
 /// Two terms of one shape with leaves of their own, which clash at one leaf where that is asked for.
-fn same_shape(alloc: Global, numbers: &mut Numbers, clashes: bool) -> Mem<Pair> {
+fn same_shape(alloc: Global, numbers: &mut Random, clashes: bool) -> Mem<Pair> {
     let mut left = Vec::new(alloc);
     let mut right = Vec::new(alloc);
     let leaves = numbers.below(10).saturating_add(5);
@@ -117,7 +96,7 @@ fn with_circle(alloc: Global, pair: Pair) -> Mem<Pair> {
 }
 
 fn pairs(alloc: Global) -> Mem<Vec<Pair>> {
-    let mut numbers = Numbers { state: 1 };
+    let mut numbers = Random::new(1);
     let mut made = Vec::new(alloc);
     for index in 0..PAIRS {
         let pair = same_shape(alloc, &mut numbers, index % 10 < 5)?;

@@ -2,13 +2,14 @@
 
 ghost use Rattle.std.specs.Prelude.{◌≡◌, [], ◌∷◌};
 ghost use Rattle.fol_base.specs.Canonical.{canonical_clause, canonical_renaming, terms_from, IsCanonical};
-ghost use Rattle.fol_base.specs.CanonicalLaws.{CanonicalFormsAreCanonical, CanonicalIsOwnForm};
+ghost use Rattle.fol_base.specs.CanonicalLaws.{CanonicalFormsAreCanonical, CanonicalFormsKeepSizes, CanonicalIsOwnForm};
 ghost use Rattle.fol_base.specs.Examples.{x, a, p, q₂, equation, clause};
 
-/// A clause is canonical exactly where it is its own canonical form, and each canonical form is.
+/// A clause is canonical exactly where it is its own canonical form; each canonical form is, and has the clause's size.
 pub fn canonical_forms()
     ensures own_form { CanonicalIsOwnForm }
     ensures canonical { CanonicalFormsAreCanonical }
+    ensures sizes { CanonicalFormsKeepSizes }
 {}
 
 /// Canonical clauses, and clauses whose variables are not numbered by first occurrence.

@@ -13,7 +13,8 @@ ghost use Rattle.fol_base.specs.Order.{compare_trees, compare_literals, compare_
 ghost use Rattle.fol_base.specs.Selection.{select_nothing, select_negative, chosen, eligible, eligible_in_instance};
 ghost use Rattle.fol_base.specs.GroundInference.{GroundSuperposition, GroundResolution, GroundFactoring, GroundConclusion};
 ghost use Rattle.fol_base.specs.Covered.{Covers};
-ghost use Rattle.fol_base.specs.Examples.{x, a, b, c, f, f₂, g, p, q, q₂, equation, disequation, clause, is_predicate, functions, symbols, row, all_a, all_towers, p_of_a_alone};
+ghost use Rattle.fol_base.specs.Examples.{x, a, b, c, f, f₂, g, p, q, q₂, equation, clause, is_predicate, functions, symbols, row, all_a, all_towers, p_of_a_alone};
+ghost use Rattle.fol_base.specs.Rules.{disequation};
 
 /// Instances, replacement and canonical form.
 pub fn tree_examples()

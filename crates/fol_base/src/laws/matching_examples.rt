@@ -6,11 +6,12 @@ ghost use Rattle.fol_base.specs.Compatible.{compatible, compatible_generalisatio
 ghost use Rattle.fol_base.specs.Unifier.{IsUnifier, IsUnifierApart, IsMostGeneralUnifier, IsMostGeneralUnifierApart, IsMatcher};
 ghost use Rattle.fol_base.specs.Subsumption.{Subsumes, assertions, is_among};
 ghost use Rattle.fol_base.specs.Kind.{is_literal, are_predicate_atoms, is_predicate_of};
-ghost use Rattle.fol_base.specs.WellFormed.{is_literal_of, are_literals_of};
-ghost use Rattle.fol_base.specs.Symbols.{are_function_symbols, have_one_arity, FunctionSymbols};
+ghost use Rattle.fol_base.specs.WellFormed.{is_term_of, is_literal_of, are_literals_of, are_symbols_of, WellFormed};
+ghost use Rattle.fol_base.specs.Symbols.{are_function_symbols, have_one_arity, has_constant, FunctionSymbols};
 ghost use Rattle.fol_base.specs.Tree.{true_tree};
 ghost use Rattle.fol_base.specs.GroundForm.{is_atom_literal, IsGroundForm, form_size};
-ghost use Rattle.fol_base.specs.Examples.{x, a, b, f, f₂, g, p, q, r, equation, disequation, clause, is_predicate, symbols, with_predicate, with_two_arities, use_of_symbols, all_a, all_b, first_is, even, odd, first_is_a};
+ghost use Rattle.fol_base.specs.Examples.{x, a, b, f, f₂, g, p, q, r, equation, clause, is_predicate, symbols, with_predicate, with_two_arities, use_of_symbols, all_a, all_b, first_is, even, odd, first_is_a};
+ghost use Rattle.fol_base.specs.Rules.{disequation};
 ghost use Rattle.plain_types.specs.Examples.{positive_name, negative_name};
 
 /// Entries that may unify with a query, generalise it or be instances of it.
@@ -45,25 +46,39 @@ pub fn kind_examples()
     ensures negated_truth { IsTrue (is_literal is_predicate (disequation true_tree true_tree)) }
     ensures variable_and_truth { IsFalse (is_literal is_predicate (equation (x 0) true_tree)) }
     ensures atom_below_a_function { IsFalse (is_literal is_predicate (equation (f (p a).left) b)) }
+    ensures atoms { IsTrue (are_predicate_atoms is_predicate (clause (p a ∷ []) ∷ clause (r ∷ disequation (q a).left true_tree ∷ []) ∷ [])) }
+    ensures no_atoms { IsFalse (are_predicate_atoms is_predicate (clause (p a ∷ equation a b ∷ []) ∷ [])) }
+{}
+
+/// Lists of function symbols, and of the answers whether a symbol is a predicate.
+pub fn symbol_examples()
     ensures function_symbols { IsTrue (are_function_symbols is_predicate symbols) }
     ensures no_function_symbol { IsFalse (are_function_symbols is_predicate with_predicate) }
     ensures no_list_with_a_predicate { (functions : FunctionSymbols is_predicate) → functions.symbols ≡ with_predicate → ⊥ }
     ensures one_arity { IsTrue (have_one_arity symbols) }
     ensures two_arities { IsFalse (have_one_arity with_two_arities) }
-    ensures atoms { IsTrue (are_predicate_atoms is_predicate (clause (p a ∷ []) ∷ clause (r ∷ disequation (q a).left true_tree ∷ []) ∷ [])) }
-    ensures no_atoms { IsFalse (are_predicate_atoms is_predicate (clause (p a ∷ equation a b ∷ []) ∷ [])) }
+    ensures constant { IsTrue (has_constant symbols) }
+    ensures no_constant { IsFalse (has_constant (record { number = 4; arity = 1 } ∷ [])) }
+    ensures as_used { IsTrue (are_symbols_of use_of_symbols symbols) }
+    ensures not_as_used { IsFalse (are_symbols_of use_of_symbols with_two_arities) }
     ensures listed_predicate { IsTrue (is_predicate_of (false ∷ true ∷ []) 1) }
     ensures past_the_end { IsFalse (is_predicate_of (false ∷ true ∷ []) 2) }
 {}
 
-/// Well-formed literals.
+/// Well-formed terms, literals and lists of clauses.
 pub fn well_formed_examples()
+    ensures whole_truth { IsTrue (is_term_of use_of_symbols true_tree) }
+    ensures whole_atom { IsTrue (is_term_of use_of_symbols (p (f (x 0))).left) }
+    ensures no_whole_term { IsFalse (is_term_of use_of_symbols (f (p a).left)) }
     ensures atom_and_equation { IsTrue (are_literals_of use_of_symbols (p (f (x 0)) ∷ equation (f a) b ∷ r ∷ [])) }
     ensures negated_truth { IsTrue (is_literal_of use_of_symbols (disequation true_tree true_tree)) }
     ensures other_number_of_arguments { IsFalse (is_literal_of use_of_symbols (equation (f₂ a b) b)) }
     ensures predicate_as_function { IsFalse (is_literal_of use_of_symbols (equation (f (p a).left) b)) }
     ensures truth_below_a_function { IsFalse (is_literal_of use_of_symbols (equation (f true_tree) b)) }
     ensures truth_on_the_left { IsFalse (is_literal_of use_of_symbols (equation true_tree a)) }
+    ensures together { WellFormed (clause (p (f (x 0)) ∷ []) ∷ clause (equation (f a) b ∷ r ∷ []) ∷ []) }
+    ensures two_numbers_of_arguments { WellFormed (clause (equation (f a) b ∷ []) ∷ clause (equation (f₂ a b) b ∷ []) ∷ []) → ⊥ }
+    ensures predicate_and_function { WellFormed (clause (p a ∷ []) ∷ clause (equation (p a).left b ∷ []) ∷ []) → ⊥ }
 {}
 
 /// Ground clauses without equality.

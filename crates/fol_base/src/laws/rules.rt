@@ -3,9 +3,9 @@
 ghost use Rattle.std.specs.Prelude.{◌≡◌, [], ◌∷◌, Some, None, IsTrue, IsFalse};
 ghost use Rattle.fol_base.specs.declared.clause.Side.TheVariants.{Left, Right};
 ghost use Rattle.fol_base.specs.Sides.{side_of, other_side_of, with_side, exchanged};
-ghost use Rattle.fol_base.specs.Rules.{superposed, resolved, factored, merged};
+ghost use Rattle.fol_base.specs.Rules.{superposed, resolved, factored, merged, disequation};
 ghost use Rattle.fol_base.specs.Tree.{true_tree};
-ghost use Rattle.fol_base.specs.Examples.{x, a, b, c, f, p, q, equation, disequation};
+ghost use Rattle.fol_base.specs.Examples.{x, a, b, c, f, p, q, equation};
 
 /// The sides of a literal.
 pub fn side_examples()

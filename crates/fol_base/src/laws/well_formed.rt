@@ -1,6 +1,8 @@
 // Laws of well-formed literals.
 
 ghost use Rattle.fol_base.specs.WellFormed.{
+  WellFormedSides,
+  GroundTreesAreOfUse,
   WellFormedInstances,
   WellFormedSuperpositions,
   WellFormedResolutions,
@@ -8,6 +10,13 @@ ghost use Rattle.fol_base.specs.WellFormed.{
   WellFormedMerges,
 };
 ghost use Rattle.fol_base.specs.Kind.{GroundTreesAreFunctionTerms};
+
+/// The sides of a well-formed literal are well-formed terms; and ground trees over function symbols that are used so are what
+/// instances may be made with.
+pub fn terms_are_well_formed()
+    ensures sides { WellFormedSides }
+    ensures ground_trees { GroundTreesAreOfUse }
+{}
 
 /// Instances under function terms, and what the rules conclude, stay well-formed, whatever the rules' other conditions.
 pub fn conclusions_are_well_formed()

@@ -1,8 +1,9 @@
 // The table of atoms: each different atom has a number.
 
-ghost use Rattle.std.specs.Prelude.{◌≡◌, ◌^◌, ◌<◌, [], ◌++◌, length, map, IfOk};
+ghost use Rattle.std.specs.Prelude.{◌≡◌, ◌<◌, [], ◌++◌, length, map, IfOk};
 ghost use Rattle.fol_base.specs.Tree.{trees_of};
 ghost use Rattle.fol_base.specs.Term.{tree_of};
+ghost use Rattle.fol_base.specs.declared.limits.TheConstants.{SIZE_LIMIT};
 ghost use Rattle.ground_loop.specs.Table.{key_of, keys_of, IsTable, Numbers};
 
 use fol_base::{Term, Terms};
@@ -32,7 +33,7 @@ impl Atoms {
     /// The number of an atom, the next one where the atom is new.
     pub fn number(&mut self, alloc: Global, atom: &Term) -> Mem<u32>
         requires table { IsTable self.old }
-        requires room { length self.old.terms < 2 ^ 31 }
+        requires room { length self.old.terms < SIZE_LIMIT }
         ensures { IfOk result (Numbers self.old self.new (tree_of atom.now)) }
     {
         let mut key = Vec::new(alloc);

@@ -1,9 +1,10 @@
 // The sets of the clauses of a form.
 
-ghost use Rattle.std.specs.Prelude.{◌≡◌, ◌+◌, ◌^◌, ◌<◌, ◌≤◌, length, map, IfOk, IsTrue};
+ghost use Rattle.std.specs.Prelude.{◌≡◌, ◌+◌, ◌<◌, ◌≤◌, length, map, IfOk, IsTrue};
 ghost use Rattle.std.specs.List.{list_all};
 ghost use Rattle.fol_base.specs.GroundForm.{is_atom_literal, IsGroundForm, form_size};
 ghost use Rattle.fol_base.specs.Literal.{literal_of, clause_of};
+ghost use Rattle.fol_base.specs.declared.limits.TheConstants.{SIZE_LIMIT};
 ghost use Rattle.ground_loop.specs.Codes.{literal_code};
 ghost use Rattle.ground_loop.specs.Table.{IsTable, Codes, HasInputs, AddsClauses};
 
@@ -44,7 +45,7 @@ pub fn add_clauses(
 fn clause_codes(alloc: Global, atoms: &mut Atoms, literals: &[Literal]) -> Mem<Vec<u32>>
     requires table { IsTable atoms.old }
     requires atoms_alone { IsTrue (list_all is_atom_literal (map literal_of literals.now)) }
-    requires room { length atoms.old.terms + length literals.now < 2 ^ 31 }
+    requires room { length atoms.old.terms + length literals.now < SIZE_LIMIT }
     ensures { IfOk result (λ codes. Codes atoms.old atoms.new (map literal_of literals.now) codes.items) }
 {
     let mut codes = Vec::with_capacity(alloc, literals.len())?;
@@ -58,7 +59,7 @@ fn clause_codes(alloc: Global, atoms: &mut Atoms, literals: &[Literal]) -> Mem<V
 
 /// The code of an atom or of its negation.
 fn code_of(atom: u32, positive: bool) -> u32
-    requires { atom < 2 ^ 31 }
+    requires { atom < SIZE_LIMIT }
     ensures { result ≡ literal_code atom positive }
 {
     if positive { 2 * atom } else { 2 * atom + 1 }

@@ -1,6 +1,7 @@
 // The closure of sets of codes under resolution.
 
-ghost use Rattle.std.specs.Prelude.{◌≡◌, ℕ, ◌*◌, ◌+◌, ◌^◌, ◌<◌, [], length, IfOk};
+ghost use Rattle.std.specs.Prelude.{◌≡◌, ℕ, ◌*◌, ◌+◌, ◌<◌, [], length, IfOk};
+ghost use Rattle.fol_base.specs.declared.limits.TheConstants.{SIZE_LIMIT};
 ghost use Rattle.ground_loop.specs.Sets.{codes_at, AreSets, IsBalanced};
 ghost use Rattle.ground_loop.specs.Saturation.{Meets, code_at, IsBetween, IsResolving, IsPopped, IsFinished, Resolves, Moves, Holds};
 
@@ -35,7 +36,7 @@ impl Saturation {
     /// Nothing is resolved yet.
     pub fn new(alloc: Global, sets: Sets, atoms: usize, limit: u32) -> Mem<Saturation>
         requires counted { 0 < limit }
-        requires few { atoms < 2 ^ 31 }
+        requires few { atoms < SIZE_LIMIT }
         requires sets { AreSets (2 * atoms) sets }
         requires balanced { IsBalanced [] sets }
         ensures starts { IfOk result (IsBetween limit) }

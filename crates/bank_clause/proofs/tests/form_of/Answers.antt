@@ -1,6 +1,7 @@
 use Rattle.std.proofs.Common.{◌∙◌, ap, sym, subst}
-use Rattle.bank_clause.specs.Clause.{AreAssertions, IsCanonical}
-use Rattle.bank_clause.proofs.CanonicalLemmas.{canonical_forms_are_canonical}
+use Rattle.bank_clause.specs.Clause.{AreAssertions}
+use Rattle.fol_base.specs.Canonical.{IsCanonical}
+use Rattle.fol_base.proofs.CanonicalLemmas.{canonical_forms_are_canonical}
 use Rattle.bank_clause.proofs.ClauseLemmas.{assertions-are}
 use Rattle.bank_clause.proofs.tests.form_of.Goals as goal
 

@@ -11,7 +11,7 @@ push_all_variables-push_variables-requires t c =
 
 pub push_all_variables-loop-term-preserved : goal.push_all_variables-loop-term-preserved
 push_all_variables-loop-term-preserved t c =
-    c.in_ok-push_variables.ensures
+    c.in_default.ensures.added
     ∙ ap (λ vs. vs ++ tree_variables (tree_of c.term-item.result)) c.loop-term.invariant
     ∙ append_assoc c.args.found.now.items (trees_variables (trees_of (map tree_of (take c.loop-term.term-index c.as_slice-term-items.result.now)))) (tree_variables (tree_of c.term-item.result))
     ∙ ap (λ vs. c.args.found.now.items ++ vs) (sym (trees_variables-take_more _ _ _ c.loop-term-test.true c.term-item.is))

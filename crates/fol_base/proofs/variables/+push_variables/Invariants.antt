@@ -11,4 +11,4 @@ decreases-push_all_variables l = 2 * trees_size (trees_of l.terms.now) + 1
 
 abbrev pub invariant-push_all_variables-loop-term : goal.invariant-push_all_variables-loop-term
 invariant-push_all_variables-loop-term l =
-    l.found.items ≡ l.initial.found.items ++ trees_variables (trees_of (map tree_of (take l.term-index l.term-items)))
+    (l.found.items ≡ l.initial.found.items ++ trees_variables (trees_of (map tree_of (take l.term-index l.term-items))))
