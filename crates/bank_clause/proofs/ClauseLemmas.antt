@@ -4,7 +4,9 @@ use Rattle.std.proofs.lemmas.List.Elements.{All-nil, All-cons, All-head, All-tai
 use Rattle.std.specs.List.{All}
 use Rattle.std.specs.List.Sorted.{IsStrictlyIncreasing}
 use Rattle.plain_types.specs.declared.sequence.NameLit.{NameLit}
-use Rattle.fol_base.specs.Clause.{TreeLiteral}
+use Rattle.fol_base.specs.Clause.{TreeLiteral, TreeClause}
+use Rattle.fol_base.specs.Canonical.{canonical_clause, IsCanonical}
+use Rattle.fol_base.proofs.CanonicalLemmas.{canonical_forms_are_canonical}
 use Rattle.fol_base.specs.Literal.{literal_of, clause_of}
 use Rattle.fol_base.specs.declared.clause.Literal.{Literal}
 use Rattle.fol_base.specs.declared.clause.Clause.{Clause}
@@ -43,3 +45,7 @@ clause-back c literals lent names signed asserted same of_literals bare of_names
     let numbers : names ≡ map (λ n. n.name) c.names = bare ∙ ap (map (λ n. n.name)) of_names in
     let back : map assertion names ≡ c.names = ap (map assertion) numbers ∙ assertions-back c.names asserted.negative in
     (λ j. record { literals = all j; names = back j })
+
+-- what is the canonical form of a clause is canonical
+pub canonical-form : (made c : TreeClause) → made ≡ canonical_clause c → IsCanonical made
+canonical-form made c e = subst IsCanonical (sym e) (canonical_forms_are_canonical c)

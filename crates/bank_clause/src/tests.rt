@@ -10,7 +10,9 @@ ghost use Rattle.fol_base.specs.Canonical.{IsCanonical};
 
 use super::*;
 use crate::trees::negative_names;
-use fol_base::{Clause, Literal, Literals, SIZE_LIMIT, Term, canonical, same_clause, same_term};
+use fol_base::{
+    Clause, LendsLiterals, Literal, Literals, SIZE_LIMIT, Term, canonical, same_clause, same_literal,
+};
 use plain_types::{Mem, Names, NoMemory};
 use sample_terms::{atom, constant, unary};
 use std::alloc::Global;
@@ -86,6 +88,22 @@ fn taken_in(
     Ok((form, made))
 }
 
+/// Whether the bank clause lends the literals.
+fn lends(bank: &Bank, made: &BankClause, literals: &[Literal]) -> bool
+    requires { IsClauseOf bank.now made.now }
+{
+    let lent = made.lend(bank);
+    if lent.count() != literals.len() {
+        return false;
+    }
+    for index in 0..literals.len() {
+        if !same_literal(lent.literal(index), literals[index].lend()) {
+            return false;
+        }
+    }
+    true
+}
+
 /// Whether the bank clause and its copy give the clause back, with its names and its size.
 fn comes_back(bank: &Bank, form: &Clause, made: &BankClause) -> Mem<bool>
     requires { IsClauseOf bank.now made.now }
@@ -97,7 +115,7 @@ fn comes_back(bank: &Bank, form: &Clause, made: &BankClause) -> Mem<bool>
         same_clause(&back, form)
             && same_clause(&from_copy, form)
             && u64::from(made.size()) == form.size()
-            && made.literals().len() == form.literals.len()
+            && lends(bank, made, form.literals.as_slice())
             && made.names().len() == form.names.len()
             && copied.names() == made.names(),
     )

@@ -1,12 +1,10 @@
 use Rattle.std.proofs.Common.{◌∙◌, ap, sym, subst}
 use Rattle.bank_clause.specs.Clause.{AreAssertions}
-use Rattle.fol_base.specs.Canonical.{IsCanonical}
-use Rattle.fol_base.proofs.CanonicalLemmas.{canonical_forms_are_canonical}
-use Rattle.bank_clause.proofs.ClauseLemmas.{assertions-are}
+use Rattle.bank_clause.proofs.ClauseLemmas.{assertions-are, canonical-form}
 use Rattle.bank_clause.proofs.tests.form_of.Goals as goal
 
 pub returns-clause-canonical : goal.returns-clause-canonical
-returns-clause-canonical c = subst IsCanonical (sym c.in_ok-form.ensures.form) (canonical_forms_are_canonical _)
+returns-clause-canonical c = canonical-form _ _ c.in_ok-form.ensures.form
 
 pub returns-clause-names : goal.returns-clause-names
 returns-clause-names c =
