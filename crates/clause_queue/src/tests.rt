@@ -1,23 +1,6 @@
 // What no clause says: that the calls succeed, agree with a plain list, and are quick.
-ghost use Rattle.std.specs.Prelude.{◌≡◌, ◌<◌};
-
 use crate::{Choice, Queue};
-
-// Numbers that look random (xorshift, Marsaglia 2003).
-#[derive(Drop)]
-struct Random(u64);
-
-impl Random {
-    fn below(&mut self, bound: u32) -> u32
-        requires { 0 < bound }
-        ensures { result < bound }
-    {
-        self.0 ^= self.0 << 13;
-        self.0 ^= self.0 >> 7;
-        self.0 ^= self.0 << 17;
-        (self.0 % u64::from(bound)) as u32
-    }
-}
+use sample_numbers::Random;
 
 #[test]
 fn picks_by_weight_and_by_age(rt: HostRuntime) {
@@ -35,11 +18,11 @@ fn picks_by_weight_and_by_age(rt: HostRuntime) {
 
 #[test]
 fn agrees_with_a_plain_list(rt: HostRuntime) {
-    let mut random = Random(7);
+    let mut random = Random::new(7);
     let mut queue = Queue::new(rt.alloc()).expect(&rt, "memory");
     let mut plain: Vec<(u32, u32)> = Vec::new(rt.alloc());
     for _ in 0..1000 {
-        let number = random.below(100);
+        let number = random.below(100) as u32;
         match random.below(4) {
             0 => assert_eq!(rt;
                 queue.pick(Choice::Light),
@@ -50,7 +33,7 @@ fn agrees_with_a_plain_list(rt: HostRuntime) {
                 plain_pick(&mut plain, Choice::Old)
             ),
             _ => {
-                let size = random.below(10);
+                let size = random.below(10) as u32;
                 let removed = queue.remove(number);
                 assert_eq!(rt; removed, plain_remove(&mut plain, number));
                 queue.push(number, size).expect(&rt, "memory");
@@ -78,21 +61,22 @@ fn plain_remove(plain: &mut Vec<(u32, u32)>, number: u32) -> bool {
 // A million pushes with random sizes, and as many picks of both kinds in turn.
 #[test]
 fn picks_from_a_million(rt: HostRuntime) {
-    let mut random = Random(1);
+    let mut random = Random::new(1);
     let mut queue = Queue::new(rt.alloc()).expect(&rt, "memory");
     for number in 0..1_000_000 {
-        queue.push(number, random.below(4000)).expect(&rt, "memory");
+        queue.push(number, random.below(4000) as u32).expect(&rt, "memory");
     }
-    let mut picked = 0u32;
+    let mut sum = 0u64;
     for turn in 0..1_000_000u32 {
         let choice = if turn % 2 == 0 {
             Choice::Light
         } else {
             Choice::Old
         };
-        picked ^= queue.pick(choice).expect(&rt, "a clause that waits");
+        let number = queue.pick(choice).expect(&rt, "a clause that waits");
+        sum = sum.wrapping_add(u64::from(number));
     }
     // Each number was picked once.
-    assert_eq!(rt; picked, (0..1_000_000).fold(0, |all, number| all ^ number));
+    assert_eq!(rt; sum, 499_999_500_000);
     assert_eq!(rt; queue.pick(Choice::Light), None);
 }

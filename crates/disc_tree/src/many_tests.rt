@@ -4,7 +4,8 @@
 use super::*;
 use fol_base::Term;
 use plain_types::{Mem, Numbers};
-use sample_terms::Random;
+use sample_numbers::Random;
+use sample_terms::random_terms;
 use std::alloc::Global;
 use std::test::Fail;
 
@@ -82,8 +83,8 @@ fn scanned(entries: &[Term], queries: &[Term], kind: Kind) -> u64 {
 
 #[test]
 fn queries_find_as_many_entries_as_a_scan(rt: HostRuntime) -> Result<(), Fail> {
-    let entries = Random::new(1).terms(rt.alloc(), ENTRIES)?;
-    let queries = Random::new(2).terms(rt.alloc(), QUERIES)?;
+    let entries = random_terms(rt.alloc(), &mut Random::new(1), ENTRIES)?;
+    let queries = random_terms(rt.alloc(), &mut Random::new(2), QUERIES)?;
     let tree = filled(rt.alloc(), entries.as_slice())?;
     for kind in [Kind::Unifiable, Kind::Generalisations, Kind::Instances] {
         let count = found(&tree, queries.as_slice(), kind)?;
@@ -95,7 +96,7 @@ fn queries_find_as_many_entries_as_a_scan(rt: HostRuntime) -> Result<(), Fail> {
 
 #[test]
 fn each_entry_is_removed(rt: HostRuntime) -> Result<(), Fail> {
-    let entries = Random::new(1).terms(rt.alloc(), ENTRIES)?;
+    let entries = random_terms(rt.alloc(), &mut Random::new(1), ENTRIES)?;
     let mut tree = filled(rt.alloc(), entries.as_slice())?;
     assert!(rt; empties(&mut tree, entries.as_slice()));
     assert!(rt; tree.unifiable(&Term::Var(0))?.as_slice().is_empty());

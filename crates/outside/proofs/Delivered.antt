@@ -1,10 +1,10 @@
 -- What a sink has taken, and which writes are left, after one more write of the rest of a text.
-use Rattle.std.proofs.Common.{◌≡◌, ◌<◌, ◌≤◌, ◌+◌, ◌-◌, ℕ, List, ◌++◌, length, take, drop, Option, ap, sym, subst, ◌∙◌, arith}
+use Rattle.std.proofs.Common.{◌≡◌, ◌<◌, ◌≤◌, ◌+◌, ◌-◌, ℕ, List, ◌++◌, length, take, drop, Option, Some, None, refl, ap, sym, subst, ◌∙◌, arith}
 use Rattle.std.specs.Prelude.{Result, Ok, Err, IsErrAnd}
 use Rattle.std.specs.List.{slice_range}
-use Rattle.std.proofs.lemmas.List.{take_all, length-drop, drop-drop, nil_from_length}
+use Rattle.std.proofs.lemmas.List.{append_assoc, take_all, length-drop, drop-drop, nil_from_length}
 use Rattle.std.proofs.Math.Seq.{take-add}
-use Rattle.outside.specs.Sink.{with_bytes, with_bytes_twice, Delivers, none_left, takes, fails}
+use Rattle.outside.specs.Sink.{with_bytes, Delivers, none_left, takes, fails}
 use Rattle.outside.specs.declared.fault.SinkFault.{SinkFault}
 
 -- the writes of the rest, from where the sink now stands, are the last of those of the text
@@ -48,6 +48,11 @@ pub next_rest : (text rest next : List ℕ) (n : ℕ) → length rest ≤ length
 next_rest text rest next n fits within is_rest is_next =
     is_next ∙ ap (drop n) is_rest ∙ drop-drop n (length text - length rest) text
     ∙ ap (λ k. drop k text) (sym (next_done text rest next n fits within is_next))
+
+-- two texts, one after the other, are one
+with_bytes_twice : (taken : Option (List ℕ)) (a b : List ℕ) → with_bytes (with_bytes taken a) b ≡ with_bytes taken (a ++ b)
+with_bytes_twice None a b = refl
+with_bytes_twice (Some before) a b = ap (λ (xs : List ℕ). Some xs) (append_assoc before a b)
 
 pub next_taken : (text rest next : List ℕ) (before now after : Option (List ℕ)) (n : ℕ) → length rest ≤ length text → n ≤ length rest → rest ≡ drop (length text - length rest) text → next ≡ drop n rest → now ≡ with_bytes before (take (length text - length rest) text) → after ≡ with_bytes now (take n rest) → after ≡ with_bytes before (take (length text - length next) text)
 next_taken text rest next before now after n fits within is_rest is_next is_now is_after =

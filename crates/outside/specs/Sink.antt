@@ -1,8 +1,5 @@
 -- What a sink has taken, and by which writes a text is delivered.
-use Rattle.std.specs.Prelude.{◌≡◌, ◌<◌, ◌+◌, ℕ, List, [], ◌++◌, length, take, drop, Option, Some, None, option_map, Result, Ok, Err, refl}
-use Rattle.std.proofs.Common.{ap, sym, ◌∙◌, arith}
-use Rattle.std.proofs.lemmas.List.{append_assoc, length-append, take-append-le}
-use Rattle.std.proofs.Math.Seq.{take-append-add}
+use Rattle.std.specs.Prelude.{◌≡◌, ◌<◌, ℕ, List, [], ◌++◌, length, take, drop, Option, option_map, Result, Ok, Err}
 use Rattle.outside.specs.declared.fault.SinkFault.{SinkFault}
 
 -- what was taken before, and then these bytes; untold where it was untold
@@ -24,20 +21,3 @@ pub data Delivers {S : Type 0} (gives : S → List ℕ → Result ℕ SinkFault 
   fails :
       {sink after : S} {left : List ℕ} {fault : SinkFault}
       → 0 < length left → gives sink left (Err fault) after → Delivers gives sink left (Err fault) after
-
--- two texts, one after the other, are one
-pub with_bytes_twice : (taken : Option (List ℕ)) (a b : List ℕ) → with_bytes (with_bytes taken a) b ≡ with_bytes taken (a ++ b)
-with_bytes_twice None a b = refl
-with_bytes_twice (Some before) a b = ap (λ (xs : List ℕ). Some xs) (append_assoc before a b)
-
--- where the first of two texts failed, a prefix of both was taken
-pub prefix_of_first : (before now : Option (List ℕ)) (a b : List ℕ) → HasPrefixAfter before now a → HasPrefixAfter before now (a ++ b)
-prefix_of_first before now a b h =
-    let len : length (a ++ b) ≡ length a + length b = length-append a b in
-    (h.0, omega (arith, h.1), h.2 ∙ ap (with_bytes before) (sym (take-append-le h.0 a b (omega (arith, h.1)))))
-
--- where the second of two texts failed, a prefix of both was taken
-pub prefix_after_whole : (before now : Option (List ℕ)) (a b : List ℕ) → HasPrefixAfter (with_bytes before a) now b → HasPrefixAfter before now (a ++ b)
-prefix_after_whole before now a b h =
-    let len : length (a ++ b) ≡ length a + length b = length-append a b in
-    (length a + h.0, omega (arith, h.1), h.2 ∙ with_bytes_twice before a (take h.0 b) ∙ ap (with_bytes before) (sym (take-append-add a b h.0)))

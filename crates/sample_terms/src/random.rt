@@ -1,52 +1,57 @@
-// Numbers that look random.
+// Terms that look random.
 
-ghost use Rattle.std.specs.Prelude.{◌≡◌, ◌<◌, ◌%◌, ◌^◌};
-ghost use Rattle.sample_terms.specs.Random.{following, shown};
+ghost use Rattle.std.specs.Prelude.{◌≡◌, max, length, IfOk};
+ghost use Rattle.std.specs.List.{All};
+ghost use Rattle.fol_base.specs.Tree.{tree_size};
+ghost use Rattle.fol_base.specs.Term.{tree_of};
+ghost use Rattle.sample_terms.specs.Sizes.{IsOfUsualSize};
 
-use std::marker::Model;
+use crate::terms::{binary, constant, unary};
+use fol_base::Term;
+use plain_types::Mem;
+use sample_numbers::Random;
+use std::alloc::Global;
 
-/// Numbers that look random: a linear congruence modulo 2^64 (Knuth, 1999). Contracts see the seed.
-#[derive(Drop)]
-pub struct Random {
-    seed: u64,
+/// So many terms of 5 to 20 symbols and variables.
+pub fn random_terms(alloc: Global, random: &mut Random, count: u64) -> Mem<Vec<Term>>
+    ensures count { IfOk result (λ terms. length terms.items ≡ count) }
+    ensures sizes { IfOk result (λ terms. All (λ term. IsOfUsualSize (tree_of term)) terms.items) }
+{
+    let mut terms = Vec::new(alloc);
+    for _ in 0..count {
+        let size = 5 + random.below(16);
+        terms.push(random_term(alloc, random, size)?)?;
+    }
+    Ok(terms)
 }
 
-impl Model for Random {
-    ghost use Rattle.std.specs.Prelude.{ℕ};
-
-    ghost Value = { ℕ };
-
-    ghost view = { λ a. a.seed };
+/// A term of so many symbols and variables, over the variables 0 to 3, the constants 4 to 15, the unary symbols
+/// 16 and 17 and the binary ones 18 and 19.
+pub fn random_term(alloc: Global, random: &mut Random, size: u64) -> Mem<Term>
+    ensures { IfOk result (λ term. tree_size (tree_of term) ≡ max 1 size) }
+{
+    if size < 2 {
+        return Ok(random_leaf(alloc, random));
+    }
+    let odd = random.below(2) == 1;
+    if size == 2 || random.below(3) == 0 {
+        let argument = random_term(alloc, random, size - 1)?;
+        return unary(alloc, if odd { 17 } else { 16 }, argument);
+    }
+    let left = 1 + random.below(size - 2);
+    let first = random_term(alloc, random, left)?;
+    let second = random_term(alloc, random, size - 1 - left)?;
+    binary(alloc, if odd { 19 } else { 18 }, first, second)
 }
 
-impl Random {
-    /// The numbers that come from a seed.
-    pub fn new(seed: u64) -> Random
-        ensures { result ≡ seed }
-    {
-        Random { seed }
-    }
-
-    /// The next number.
-    pub fn next(&mut self) -> u64
-        ensures seed { self.new ≡ following self.old }
-        ensures number { result ≡ shown self.new }
-        ensures limit { result < 2 ^ 31 }
-    {
-        self.seed = self
-            .seed
-            .wrapping_mul(6_364_136_223_846_793_005)
-            .wrapping_add(1_442_695_040_888_963_407);
-        self.seed >> 33
-    }
-
-    /// The next number, modulo a bound above 0.
-    pub fn below(&mut self, bound: u64) -> u64
-        requires { 0 < bound }
-        ensures seed { self.new ≡ following self.old }
-        ensures number { result ≡ shown self.new % bound }
-        ensures limit { result < bound }
-    {
-        self.next() % bound
+/// One of four variables or twelve constants.
+fn random_leaf(alloc: Global, random: &mut Random) -> Term
+    ensures { tree_size (tree_of result) ≡ 1 }
+{
+    let number = random.below(16) as u32;
+    if number < 4 {
+        Term::Var(number)
+    } else {
+        constant(alloc, number)
     }
 }

@@ -4,6 +4,7 @@ ghost use Rattle.std.specs.Prelude.{◌<◌, ◌≤◌};
 
 use crate::*;
 use plain_types::{Mem, NameLit, Names};
+use sample_numbers::Random;
 use std::alloc::Global;
 use std::process::Abort;
 
@@ -350,28 +351,12 @@ fn learns_at_the_first_unique_implication_point(rt: HostRuntime) {
     );
 }
 
-// Numbers that look random (xorshift, Marsaglia 2003).
-#[derive(Drop)]
-struct Random(u64);
-
-impl Random {
-    fn below(&mut self, bound: u32) -> u32
-        requires { 0 < bound }
-        ensures { result < bound }
-    {
-        self.0 ^= self.0 << 13;
-        self.0 ^= self.0 >> 7;
-        self.0 ^= self.0 << 17;
-        (self.0 % u64::from(bound)) as u32
-    }
-
-    fn literal(&mut self, names: u32) -> NameLit
-        requires { 0 < names }
-    {
-        NameLit {
-            positive: self.below(2) == 0,
-            name: self.below(names),
-        }
+fn random_literal(random: &mut Random, names: u32) -> NameLit
+    requires { 0 < names }
+{
+    NameLit {
+        positive: random.below(2) == 0,
+        name: random.below(u64::from(names)) as u32,
     }
 }
 
@@ -379,12 +364,12 @@ impl Random {
 fn random_clauses(alloc: Global, seed: u64, names: u32, count: u32) -> Mem<PropClauses>
     requires { 0 < names }
 {
-    let mut random = Random(seed);
+    let mut random = Random::new(seed);
     let mut clauses = PropClauses::new(alloc);
     for _ in 0..count {
         let mut clause = Names::new(alloc);
         for _ in 0..3 {
-            clause.push(random.literal(names))?;
+            clause.push(random_literal(&mut random, names))?;
         }
         clauses.push(clause)?;
     }

@@ -5,7 +5,8 @@ ghost use Rattle.term_bank.specs.Bank.{IsTableOf};
 use super::*;
 use fol_base::{Term, same_term};
 use plain_types::Mem;
-use sample_terms::{Random, binary, constant, unary};
+use sample_numbers::Random;
+use sample_terms::{binary, constant, random_terms, unary};
 use std::alloc::Global;
 use std::default::Default;
 use std::test::Fail;
@@ -88,7 +89,7 @@ const ROUNDS: u32 = 10;
 #[test]
 fn random_terms_keep_their_numbers(rt: HostRuntime) -> Result<(), Fail> {
     let alloc = rt.alloc();
-    let terms = Random::new(1).terms(alloc, TERMS)?;
+    let terms = random_terms(alloc, &mut Random::new(1), TERMS)?;
     let (mut bank, mut table) = Bank::new(alloc)?;
     let numbers = interned_numbers(alloc, &mut bank, &mut table, terms.as_slice())?;
     for _ in 1..ROUNDS {

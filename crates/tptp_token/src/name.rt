@@ -1,7 +1,7 @@
 // Names between quotes and without.
 
-ghost use Rattle.std.specs.Prelude.{◌≡◌, ◌++◌, false, flat_map, IfOk};
-ghost use Rattle.tptp_token.specs.Words.{unescaped, unquoted as name_in_quotes, escaped_byte, name_text};
+ghost use Rattle.std.specs.Prelude.{◌≡◌, ◌++◌, false, length, take, IfOk, OnErr};
+ghost use Rattle.tptp_token.specs.Words.{unescaped, unquoted as name_in_quotes, name_text, quoted_text};
 
 use crate::word::is_lower_word;
 use plain_types::{Mem, Text};
@@ -39,29 +39,35 @@ fn unescaped_text(alloc: Global, inside: &[u8]) -> Mem<Text>
 }
 
 /// Adds a name at the end of a text: bare where it is a lower word, else between single quotes, with a `\` before a quote and
-/// a `\`.
+/// a `\`. After want of memory nothing is added.
 pub fn push_name(page: &mut Vec<u8>, name: &[u8]) -> Mem<()>
-    ensures { IfOk result (λ _. page.new.items ≡ page.old.items ++ name_text name.now) }
+    ensures added { IfOk result (λ _. page.new.items ≡ page.old.items ++ name_text name.now) }
+    ensures unchanged { OnErr result (page.new.items ≡ page.old.items) }
 {
     if is_lower_word(name) {
         page.extend_from_slice(name)?;
         return Ok(());
     }
-    page.push(b'\'')?;
-    push_escaped(page, name)?;
-    page.push(b'\'')?;
+    let before = page.len();
+    if let Err(error) = push_quoted(page, name) {
+        page.truncate(before);
+        return Err(error);
+    }
     Ok(())
 }
 
-/// Adds the bytes between quotes.
-fn push_escaped(page: &mut Vec<u8>, name: &[u8]) -> Mem<()>
-    ensures { IfOk result (λ _. page.new.items ≡ page.old.items ++ flat_map escaped_byte name.now) }
+/// Adds a name between quotes.
+fn push_quoted(page: &mut Vec<u8>, name: &[u8]) -> Mem<()>
+    ensures added { IfOk result (λ _. page.new.items ≡ page.old.items ++ quoted_text name.now) }
+    ensures kept { take (length page.old.items) page.new.items ≡ page.old.items }
 {
+    page.push(b'\'')?;
     for byte in name {
         if *byte == b'\'' || *byte == b'\\' {
             page.push(b'\\')?;
         }
         page.push(*byte)?;
     }
+    page.push(b'\'')?;
     Ok(())
 }

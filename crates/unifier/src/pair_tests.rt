@@ -5,7 +5,8 @@
 use super::*;
 use fol_base::Term;
 use plain_types::Mem;
-use sample_terms::{Random, binary, constant, unary};
+use sample_numbers::Random;
+use sample_terms::{binary, constant, unary};
 use std::alloc::Global;
 use std::test::Fail;
 
