@@ -1,0 +1,254 @@
+-- The lines of a derivation are grounded, so a form that has a refutation is Herbrand-refuted.
+use Rattle.std.proofs.Common.{◌≡◌, ℕ, zero, suc, ◌<◌, inl, inr, Bool, true, false, ◌==◌, List, [], ◌∷◌, ◌++◌, length, take, Option, Some, None, refl, ap, sym, ◌∙◌, subst, arith, ⊎_elim}
+use Rattle.std.specs.Prelude.{slice_get, unwrap_or, Contains}
+use Rattle.std.specs.List.{list_all}
+use Rattle.std.proofs.lemmas.Bool.{and_parts, or_left, cases_Bool, eq-eqb, false≢true, cond-true, cond-false, false_from_ne_true}
+use Rattle.std.proofs.lemmas.Option.{none-some, same_Some, slice_get_within, get_or_from_slice_get, option_and_then_some}
+use Rattle.plain_types.specs.Names.{has_name}
+use Rattle.fol_base.specs.Tree.{Tree}
+use Rattle.fol_base.specs.Clause.{TreeClause}
+use Rattle.fol_base.specs.Literal.{clause_of}
+use Rattle.fol_base.specs.Ground.{ground_over, is_ground, is_over, GroundInstance, literals_instance}
+use Rattle.fol_base.specs.Symbols.{FunctionSymbols}
+use Rattle.fol_base.specs.Interpretation.{clause_true, clauses_true}
+use Rattle.fol_base.proofs.MeaningLemmas.{constants_give_ground_trees}
+use Rattle.fol_base.proofs.TestLemmas.{list_all-item, if_some}
+use Rattle.kernel_steps.specs.Parents.{Parent}
+use Rattle.kernel_steps.specs.Conclusion.{empty_clause}
+use Rattle.kernel_steps.specs.Derivation.{is_clause_step, introduces_name, line_parent, line_parents, negative_of, positive_of, is_component_of, component_clause, body, complement, ComesBy, IsDerivation}
+use Rattle.kernel_steps.specs.Soundness.{bindings_of, binds_each, BindsOver, IsUsable, Grounds, IsGrounded, LinesAreGrounded, RefutationsHerbrandRefute}
+use Rattle.kernel_steps.specs.declared.step.Step.{Step}
+use Rattle.kernel_steps.specs.declared.step.Step.TheVariants.{Input, Negate, Clausify, Component, Opposite}
+use Rattle.kernel_steps.specs.declared.step.Line.{Line}
+use Rattle.kernel_steps.proofs.GroundedLemmas.{Supports-always, Supports-instance, Supports-then, Supports-more, Supports-grounded, Grounds-supported}
+use Rattle.kernel_steps.proofs.GroundedLemmasNames.{list_any-name, chosen_name_true}
+use Rattle.kernel_steps.proofs.GroundedLemmasSplit.{DefinesName, one_literal-ground, complement-or}
+use Rattle.kernel_steps.proofs.GroundedLemmasSteps.{grounded-from, AreGrounded, DefineNames, verdict-grounded}
+
+-- ---- lines before a line
+
+taken :
+    {X : Type 0} (n : ℕ) (xs : List X) (k : ℕ) (x : X)
+    → slice_get (take n xs) k ≡ Some x → (k < n) × (slice_get xs k ≡ Some x)
+taken zero xs k x at = absurd (none-some x at)
+taken (suc n) [] k x at = absurd (none-some x at)
+taken (suc n) (y ∷ ys) zero x at = (omega arith, at)
+taken (suc n) (y ∷ ys) (suc k) x at = let it = taken n ys k x at in (omega (arith, it.0), it.1)
+
+slice_get-last : {X : Type 0} (xs : List X) (x : X) → slice_get (xs ++ x ∷ []) (length xs) ≡ Some x
+slice_get-last [] x = refl
+slice_get-last (y ∷ xs) x = slice_get-last xs x
+
+-- the line that a parent's number stands for
+record LineOf (lines : List Line) (n k : ℕ) (p : Parent) : Type 0 where
+  line : Line
+  before : k < n
+  there : slice_get lines k ≡ Some line
+  is_clause : is_clause_step line.step ≡ true
+  same : ◌≡◌ {A = Parent} (record { clause = clause_of line.clause; introduces = introduces_name line.step }) p
+
+line_of : (lines : List Line) (n k : ℕ) (p : Parent) → line_parents (take n lines) k ≡ Some p → LineOf lines n k p
+line_of lines n k p is =
+    option_and_then_some line_parent (slice_get (take n lines) k) p is λ line at step.
+    let made : Parent = record { clause = clause_of line.clause; introduces = introduces_name line.step } in
+    let tests = if_some (is_clause_step line.step) (Some made) p step in
+    let place = taken n lines k line at in
+    record { line = line; before = place.0; there = place.1; is_clause = tests.0; same = same_Some made p tests.1 }
+
+-- ---- bodies
+
+-- a component line before is one of all lines
+component-before :
+    (name : ℕ) (lines : List Line) (n : ℕ) (c : TreeClause)
+    → component_clause name (take n lines) ≡ Some c → component_clause name lines ≡ Some c
+component-before name lines zero c is = absurd (none-some c is)
+component-before name [] (suc n) c is = absurd (none-some c is)
+component-before name (l ∷ lines) (suc n) c is =
+    ⊎_elim
+    (λ here.
+    cond-true (is_component_of name l.step) (Some (clause_of l.clause)) (component_clause name lines) here
+    ∙ sym (cond-true (is_component_of name l.step) (Some (clause_of l.clause)) (component_clause name (take n lines)) here)
+    ∙ is)
+    (λ later.
+    cond-false (is_component_of name l.step) (Some (clause_of l.clause)) (component_clause name lines) later
+    ∙ component-before name lines n c
+    (sym (cond-false (is_component_of name l.step) (Some (clause_of l.clause)) (component_clause name (take n lines)) later) ∙ is))
+    (cases_Bool (is_component_of name l.step))
+
+-- a component line of a new name is the first one
+component-first :
+    (name : ℕ) (lines : List Line) (n : ℕ) (line : Line)
+    → slice_get lines n ≡ Some line → is_component_of name line.step ≡ true → component_clause name (take n lines) ≡ None
+    → component_clause name lines ≡ Some (clause_of line.clause)
+component-first name [] n line at component is_new = absurd (none-some line at)
+component-first name (l ∷ lines) zero line at component is_new =
+    let same : l ≡ line = same_Some l line at in
+    cond-true (is_component_of name l.step) (Some (clause_of l.clause)) (component_clause name lines)
+    (ap (λ (m : Line). is_component_of name m.step) same ∙ component)
+    ∙ ap (λ (m : Line). let o : Option TreeClause = Some (clause_of m.clause) in o) same
+component-first name (l ∷ lines) (suc n) line at component is_new =
+    ⊎_elim
+    (λ here.
+    absurd (none-some (clause_of l.clause)
+    (sym is_new ∙ cond-true (is_component_of name l.step) (Some (clause_of l.clause)) (component_clause name (take n lines)) here)))
+    (λ later.
+    cond-false (is_component_of name l.step) (Some (clause_of l.clause)) (component_clause name lines) later
+    ∙ component-first name lines n line at component
+    (sym (cond-false (is_component_of name l.step) (Some (clause_of l.clause)) (component_clause name (take n lines)) later) ∙ is_new))
+    (cases_Bool (is_component_of name l.step))
+
+body-literals :
+    (name : ℕ) (lines : List Line) (c : TreeClause) → component_clause name lines ≡ Some c → (body lines name).literals ≡ c.literals
+body-literals name lines c is = ap (λ o. (unwrap_or o empty_clause).literals) is
+
+-- component and opposite lines define their names
+step-defines :
+    (form : List TreeClause) (lines : List Line) (n : ℕ) (line : Line) (step : Step)
+    → slice_get lines n ≡ Some line → line.step ≡ step → ComesBy step form (take n lines) (clause_of line.clause)
+    → introduces_name step ≡ true → DefinesName (body lines) (clause_of line.clause)
+step-defines form lines n line (Component name) at is comes introduces =
+    inl (record {
+      name = name;
+      one_name = comes.one_name;
+      same_literals =
+          body-literals name lines (clause_of line.clause)
+          (component-first name lines n line at (ap (is_component_of name) is ∙ eq-eqb name name refl) comes.is_new);
+    })
+step-defines form lines n line (Opposite name) at is comes introduces =
+    inr (record {
+      name = name;
+      one_name = comes.one_name;
+      literal = comes.literal;
+      ground = comes.ground;
+      same_literals =
+          body-literals name lines comes.component (component-before name lines n comes.component comes.introduced) ∙ comes.one_literal;
+      complemented = comes.complemented;
+    })
+step-defines form lines n line step at is comes introduces = absurd (false≢true introduces)
+
+lines-define :
+    (form : List TreeClause) (lines : List Line) (n : ℕ)
+    → IsDerivation form lines → DefineNames (body lines) (line_parents (take n lines))
+lines-define form lines n derived k p is introduces =
+    let it = line_of lines n k p is in
+    subst (λ (q : Parent). DefinesName (body lines) q.clause) it.same
+    (step-defines form lines k it.line it.line.step it.there refl (derived k it.line it.there)
+    (ap (λ (q : Parent). q.introduces) it.same ∙ introduces))
+
+-- ---- lines
+
+module _ {is_predicate : ℕ → Bool} (functions : FunctionSymbols is_predicate) (form : List TreeClause) where
+  -- a clause whose own literals are those of a usable clause
+  instance-grounded :
+      (bodies : ℕ → TreeClause) (c d : TreeClause)
+      → IsUsable form bodies c.names d → d.literals ≡ c.literals → IsGrounded functions form bodies c
+  instance-grounded bodies c d usable same =
+      grounded-from functions form bodies c.literals c.names λ σ choice ground is_choice.
+      Supports-then functions (λ i ok. inl)
+      (Supports-instance functions d (literals_instance σ c.literals) usable
+      (record { trees = σ; trees_ground = ground; literals = ap (literals_instance σ) (sym same) }))
+
+  -- The definition of a name. The instances of a component line are those of the body, which are usable; and of an opposite line's
+  -- literal and what is chosen for the name one is true.
+  definition-grounded : (bodies : ℕ → TreeClause) (c : TreeClause) → DefinesName bodies c → IsGrounded functions form bodies c
+  definition-grounded bodies c (inl it) =
+      instance-grounded bodies c (bodies it.name)
+      (inr (
+        it.name,
+        ap (has_name (negative_of it.name)) it.one_name ∙ or_left (it.name == it.name) false (eq-eqb it.name it.name refl),
+        refl,
+      ))
+      it.same_literals
+  definition-grounded bodies c (inr it) =
+      grounded-from functions form bodies c.literals c.names λ σ choice ground is_choice.
+      let sides = and_parts (is_ground it.literal.left) (is_ground it.literal.right) it.ground in
+      let has : has_name (positive_of it.name) c.names ≡ true =
+      ap (has_name (positive_of it.name)) it.one_name ∙ or_left (it.name == it.name) false (eq-eqb it.name it.name refl) in
+      let made : GroundInstance functions (bodies it.name) (choice it.name) = is_choice it.name has in
+      let chosen : choice it.name ≡ it.literal ∷ [] =
+      made.literals ∙ ap (literals_instance made.trees) it.same_literals
+      ∙ one_literal-ground made.trees it.literal.positive it.literal.left it.literal.right sides.0 sides.1 in
+      let own : literals_instance σ c.literals ≡ complement it.literal ∷ [] =
+      ap (literals_instance σ) it.complemented
+      ∙ one_literal-ground σ (complement it.literal).positive it.literal.left it.literal.right sides.0 sides.1 in
+      Supports-always functions (λ i.
+      ⊎_elim
+      (λ holds.
+      inr (list_any-name (chosen_name_true i choice) (positive_of it.name) c.names has (ap (clause_true i) chosen ∙ holds)))
+      (λ other. inl (ap (clause_true i) own ∙ other))
+      (complement-or i it.literal))
+
+  -- Each line that is one of a clause. The form's clauses ground themselves.
+  step-grounded :
+      (lines : List Line) (n : ℕ) (step : Step) (c : TreeClause)
+      → (introduces_name step ≡ true → DefinesName (body lines) c)
+      → AreGrounded functions form (body lines) (line_parents (take n lines))
+      → DefineNames (body lines) (line_parents (take n lines))
+      → list_all (list_all (is_over functions.symbols)) (bindings_of step) ≡ true
+      → ComesBy step form (take n lines) c → is_clause_step step ≡ true
+      → IsGrounded functions form (body lines) c
+  step-grounded lines n (Input place) c defines grounded define over comes is_clause = absurd (false≢true is_clause)
+  step-grounded lines n (Negate place) c defines grounded define over comes is_clause = absurd (false≢true is_clause)
+  step-grounded lines n (Clausify k) c defines grounded define over comes is_clause =
+      instance-grounded (body lines) c c (inl (k, slice_get_within form k c comes, get_or_from_slice_get form k c c comes)) refl
+  step-grounded lines n (Component name) c defines grounded define over comes is_clause =
+      definition-grounded (body lines) c (defines refl)
+  step-grounded lines n (Opposite name) c defines grounded define over comes is_clause =
+      definition-grounded (body lines) c (defines refl)
+  step-grounded lines n step c defines grounded define over comes is_clause =
+      verdict-grounded functions form (body lines) step (line_parents (take n lines)) c grounded define over comes
+
+  -- by the number of a line that is later
+  lines-grounded :
+      (lines : List Line)
+      → BindsOver functions.symbols lines → IsDerivation form lines
+      → (n m : ℕ) (line : Line) → m < n → slice_get lines m ≡ Some line → is_clause_step line.step ≡ true
+      → IsGrounded functions form (body lines) (clause_of line.clause)
+  lines-grounded lines over derived zero m line within at is_clause = absurd (omega arith)
+  lines-grounded lines over derived (suc n) m line within at is_clause =
+      step-grounded lines m line.step (clause_of line.clause) (step-defines form lines m line line.step at refl (derived m line at))
+      (λ k p is.
+      let it = line_of lines m k p is in
+      subst (λ (q : Parent). IsGrounded functions form (body lines) q.clause) it.same
+      (lines-grounded lines over derived n k it.line (omega (arith, within, it.before)) it.there it.is_clause))
+      (lines-define form lines m derived)
+      (list_all-item (λ (l : Line). binds_each (is_over functions.symbols) l.step) lines m line at over)
+      (derived m line at) is_clause
+
+pub lines_are_grounded : LinesAreGrounded
+lines_are_grounded is_predicate functions form lines over derived n line at is_clause =
+    lines-grounded functions form lines over derived (suc n) n line (omega arith) at is_clause
+
+-- The empty clause is its own ground instance and no body is usable for it, so the form's instances that ground it are refuted.
+pub refutations_herbrand_refute : RefutationsHerbrandRefute
+refutations_herbrand_refute is_predicate functions form lines constant over refutation = record {
+  constant = constant;
+  by = grounds.by;
+  instances = grounds.instances;
+  refuted = λ i ok. false_from_ne_true (clauses_true i grounds.by) (λ all. false≢true (grounds.entailed i ok all));
+}
+  where
+    some_tree : (t : Tree) × (ground_over functions.symbols t ≡ true)
+    some_tree = (constants_give_ground_trees functions.symbols).1 constant
+
+    is_last : slice_get lines (length refutation.before) ≡ Some refutation.last
+    is_last = ap (λ ls. slice_get ls (length refutation.before)) refutation.ends ∙ slice_get-last refutation.before refutation.last
+
+    last_grounded : IsGrounded functions form (body lines) empty_clause
+    last_grounded =
+        subst (IsGrounded functions form (body lines)) refutation.is_empty
+        (lines_are_grounded is_predicate functions form lines over refutation.derived (length refutation.before) refutation.last is_last
+        refutation.is_clause)
+
+    with_bodies : Grounds functions (IsUsable form (body lines) []) []
+    with_bodies =
+        last_grounded [] (λ n. [])
+        (record { trees = λ v. some_tree.0; trees_ground = λ v. some_tree.1; literals = refl })
+        (λ n has. absurd (false≢true has))
+
+    of_form : (c : TreeClause) → IsUsable form (body lines) [] c → Contains form c
+    of_form c (inl there) = there
+    of_form c (inr it) = absurd (false≢true it.1)
+
+    grounds : Grounds functions (Contains form) []
+    grounds = Grounds-supported functions [] (Supports-more functions of_form (Supports-grounded functions [] with_bodies))

@@ -1,0 +1,357 @@
+-- A clause that is split is grounded: ground instances of its parts, chosen for the positive names of the definitions, are together
+-- an instance of the parent, since no two parts share a variable.
+use mathlib.Core.Bool.{beq}
+use Rattle.std.proofs.Common.{◌≡◌, ℕ, zero, suc, ◌<◌, ◌⊎◌, inl, inr, Bool, true, false, ◌&&◌, ◌||◌, ◌==◌, List, [], ◌∷◌, ◌++◌, map, length, Option, Some, None, refl, ap, sym, ◌∙◌, subst, arith, ⊎_elim}
+use Rattle.std.specs.Prelude.{not, flat_map, slice_get, if◌then◌else◌}
+use Rattle.std.specs.List.{list_any, list_all, cons_option, AllByRecursion}
+use Rattle.std.proofs.lemmas.Bool.{and_parts, or_cases, or_left, or_right, both_ways, not-true, cases_Bool, eqb-true, eqb-false, eq-eqb, false≢true, false_from_ne_true, cond_both, cond-true, cond-false}
+use Rattle.std.proofs.lemmas.Option.{slice_get_within}
+use Rattle.std.proofs.lemmas.List.{map-append}
+use Rattle.std.proofs.lemmas.List.Folds.{list_any-append}
+use Rattle.plain_types.specs.declared.sequence.NameLit.{NameLit}
+use Rattle.plain_types.specs.Names.{opposite, has_name}
+use Rattle.fol_base.specs.Tree.{Tree, variable, application, Trees, no_trees, tree_then, tree_eq}
+use Rattle.fol_base.specs.Instance.{Substitution, instance, instances}
+use Rattle.fol_base.specs.Clause.{TreeLiteral, TreeClause, literal_eq, literals_eq, literal_variables}
+use Rattle.fol_base.specs.Ground.{is_ground, are_ground, ground_over, IsGroundOver, GroundClause, GroundInstance, is_ground_literal, literals_instance}
+use Rattle.fol_base.specs.Symbols.{FunctionSymbols}
+use Rattle.fol_base.specs.Interpretation.{Interpretation, tree_value, sides_true, literal_true_under, no_values, clause_true}
+use Rattle.fol_base.proofs.TreeLemmas.{tree_eq-true}
+use Rattle.fol_base.proofs.InstanceLemmas.{Agree, literals-agree}
+use Rattle.fol_base.proofs.GroundInstanceLemmas.{ground_instances_of_canonical}
+use Rattle.kernel_steps.specs.Parents.{Parent}
+use Rattle.kernel_steps.specs.Split.{has_number, has_all_below, literals_at, share_variable, share_no_variables, canonical_literals, defines, define_all}
+use Rattle.kernel_steps.specs.Derivation.{negative_of, positive_of, complement}
+use Rattle.kernel_steps.specs.Soundness.{IsUsable, IsChoice}
+use Rattle.kernel_steps.proofs.GroundedLemmas.{Supports, Supports-always, Supports-instance, Supports-then}
+use Rattle.kernel_steps.proofs.GroundedLemmasNames.{list_any-name, AreAmong, AreAmong-front, AreAmong-back, chosen_name_true, chosen_true}
+
+-- ---- definitions of names
+
+-- the clause of a component line: the literals of the name's body, and the name's negative
+pub record DefinesBody (bodies : ℕ → TreeClause) (c : TreeClause) : Type 0 where
+  pub name : ℕ
+  pub one_name : c.names ≡ negative_of name ∷ []
+  pub same_literals : (bodies name).literals ≡ c.literals
+
+-- the clause of an opposite line: the complement of the ground literal that is the name's body, and the name
+pub record DefinesOpposite (bodies : ℕ → TreeClause) (c : TreeClause) : Type 0 where
+  pub name : ℕ
+  pub one_name : c.names ≡ positive_of name ∷ []
+  pub literal : TreeLiteral
+  pub ground : is_ground_literal literal ≡ true
+  pub same_literals : (bodies name).literals ≡ literal ∷ []
+  pub complemented : c.literals ≡ complement literal ∷ []
+
+abbrev pub DefinesName : (ℕ → TreeClause) → TreeClause → Type 0
+DefinesName bodies c = DefinesBody bodies c ⊎ DefinesOpposite bodies c
+
+-- ---- literals
+
+signs-same : (a b : Bool) → beq a b ≡ true → a ≡ b
+signs-same true true h = refl
+signs-same true false h = absurd (false≢true h)
+signs-same false true h = absurd (false≢true h)
+signs-same false false h = refl
+
+literal_eq-same : (l k : TreeLiteral) → literal_eq l k ≡ true → l ≡ k
+literal_eq-same l k h =
+    let outer = and_parts (beq l.positive k.positive && tree_eq l.left k.left) (tree_eq l.right k.right) h in
+    let inner = and_parts (beq l.positive k.positive) (tree_eq l.left k.left) outer.0 in
+    same l.positive k.positive l.left k.left l.right k.right
+    (signs-same l.positive k.positive inner.0) (tree_eq-true l.left k.left inner.1) (tree_eq-true l.right k.right outer.1)
+  where
+    same :
+        (p q : Bool) (a b c d : Tree) → p ≡ q → a ≡ b → c ≡ d
+        → ◌≡◌ {A = TreeLiteral} (record { positive = p; left = a; right = c }) (record { positive = q; left = b; right = d })
+    same p q a b c d e f g = cc
+
+literals_eq-same : (ls ks : List TreeLiteral) → literals_eq ls ks ≡ true → ls ≡ ks
+literals_eq-same [] [] h = refl
+literals_eq-same [] (k ∷ ks) h = absurd (false≢true h)
+literals_eq-same (l ∷ ls) [] h = absurd (false≢true h)
+literals_eq-same (l ∷ ls) (k ∷ ks) h =
+    let parts = and_parts (literal_eq l k) (literals_eq ls ks) h in
+    ap (λ m. m ∷ ls) (literal_eq-same l k parts.0) ∙ ap (λ ms. k ∷ ms) (literals_eq-same ls ks parts.1)
+
+-- a ground tree has no instance but itself
+mutual
+  instance-ground : (σ : Substitution) (t : Tree) → is_ground t ≡ true → instance σ t ≡ t
+  instance-ground σ (variable v) h = absurd (false≢true h)
+  instance-ground σ (application f ts) h = ap (application f) (instances-ground σ ts h)
+
+  instances-ground : (σ : Substitution) (ts : Trees) → are_ground ts ≡ true → instances σ ts ≡ ts
+  instances-ground σ no_trees h = refl
+  instances-ground σ (tree_then t ts) h =
+      let parts = and_parts (is_ground t) (are_ground ts) h in
+      ap (λ u. tree_then u (instances σ ts)) (instance-ground σ t parts.0) ∙ ap (tree_then t) (instances-ground σ ts parts.1)
+
+-- nor has a list of one ground literal, of either sign
+pub one_literal-ground :
+    (σ : Substitution) (positive : Bool) (left right : Tree)
+    → is_ground left ≡ true → is_ground right ≡ true
+    → ◌≡◌ {A = List TreeLiteral} (record { positive = positive; left = instance σ left; right = instance σ right } ∷ []) (record { positive = positive; left = left; right = right } ∷ [])
+one_literal-ground σ positive left right left_ground right_ground =
+    ap (λ t. let ls : List TreeLiteral = record { positive = positive; left = t; right = instance σ right } ∷ [] in ls) (instance-ground σ left left_ground)
+    ∙ ap (λ t. let ls : List TreeLiteral = record { positive = positive; left = left; right = t } ∷ [] in ls) (instance-ground σ right right_ground)
+
+-- a literal or its complement is true, and not both
+pub complement-other :
+    (i : Interpretation) (l : TreeLiteral) → clause_true i (l ∷ []) ≡ true → clause_true i (complement l ∷ []) ≡ true → ⊥
+complement-other i l holds other =
+    not_both l.positive (tree_value i no_values l.left) (tree_value i no_values l.right)
+    (the_one (literal_true_under i no_values l) holds) (the_one (literal_true_under i no_values (complement l)) other)
+  where
+    the_one : (b : Bool) → (b || false) ≡ true → b ≡ true
+    the_one true h = refl
+    the_one false h = h
+
+    not_both : (positive : Bool) (v w : ℕ) → sides_true positive v w ≡ true → sides_true (not positive) v w ≡ true → ⊥
+    not_both true v w h k = both_ways (v == w) (not-true (v == w) k) h
+    not_both false v w h k = both_ways (v == w) (not-true (v == w) h) k
+
+pub complement-or :
+    (i : Interpretation) (l : TreeLiteral)
+    → (clause_true i (l ∷ []) ≡ true) ⊎ (clause_true i (complement l ∷ []) ≡ true)
+complement-or i l =
+    one_of l.positive (tree_value i no_values l.left) (tree_value i no_values l.right)
+    (cases_Bool (tree_value i no_values l.left == tree_value i no_values l.right))
+  where
+    one_of :
+        (positive : Bool) (v w : ℕ) → ((v == w) ≡ true) ⊎ ((v == w) ≡ false)
+        → ((sides_true positive v w || false) ≡ true) ⊎ ((sides_true (not positive) v w || false) ≡ true)
+    one_of true v w (inl same) = inl (or_left (v == w) false same)
+    one_of true v w (inr other) = inr (or_left (not (v == w)) false (ap not other))
+    one_of false v w (inl same) = inr (or_left (v == w) false same)
+    one_of false v w (inr other) = inl (or_left (not (v == w)) false (ap not other))
+
+-- ---- one substitution for all parts
+
+-- the first for the variables of some literals, and the second for all others
+abbrev joined : List TreeLiteral → Substitution → Substitution → Substitution
+joined ls σ τ v = if has_number v (flat_map literal_variables ls) then σ v else τ v
+
+agree-listed : (σ τ : Substitution) (vs : List ℕ) → ((v : ℕ) → has_number v vs ≡ true → σ v ≡ τ v) → Agree σ τ vs
+agree-listed σ τ [] same = tt
+agree-listed σ τ (v ∷ vs) same = (
+  same v (or_left (v == v) (has_number v vs) (eq-eqb v v refl)),
+  agree-listed σ τ vs (λ w has. same w (or_right (w == v) (has_number w vs) has)),
+)
+
+joined-first : (ls : List TreeLiteral) (σ τ : Substitution) → literals_instance (joined ls σ τ) ls ≡ literals_instance σ ls
+joined-first ls σ τ =
+    literals-agree (joined ls σ τ) σ ls
+    (agree-listed (joined ls σ τ) σ (flat_map literal_variables ls)
+    (λ v has. cond-true (has_number v (flat_map literal_variables ls)) (σ v) (τ v) has))
+
+-- a number of a list that passes a test
+list_any-number :
+    (p : ℕ → Bool) (v : ℕ) (vs : List ℕ) → has_number v vs ≡ true → p v ≡ true → list_any p vs ≡ true
+list_any-number p v [] has passes = absurd (false≢true has)
+list_any-number p v (w ∷ ws) has passes =
+    ⊎_elim
+    (λ here. or_left (p w) (list_any p ws) (ap p (sym (eqb-true v w here)) ∙ passes))
+    (λ later. or_right (p w) (list_any p ws) (list_any-number p v ws later passes))
+    (or_cases (v == w) (has_number v ws) has)
+
+joined-second :
+    (ls ks : List TreeLiteral) (σ τ : Substitution)
+    → share_variable ls ks ≡ false → literals_instance (joined ls σ τ) ks ≡ literals_instance τ ks
+joined-second ls ks σ τ apart =
+    literals-agree (joined ls σ τ) τ ks
+    (agree-listed (joined ls σ τ) τ (flat_map literal_variables ks)
+    (λ v has.
+    cond-false (has_number v (flat_map literal_variables ls)) (σ v) (τ v)
+    (false_from_ne_true (has_number v (flat_map literal_variables ls)) (λ also.
+    both_ways (share_variable ls ks) apart
+    (list_any-number (λ w. has_number w (flat_map literal_variables ks)) v (flat_map literal_variables ls) also has)))))
+
+-- ---- parts have all literals
+
+-- an item that passes, with its place
+item_that_passes :
+    {X : Type 0} (p : X → Bool) (xs : List X) → list_any p xs ≡ true → (k : ℕ) × (x : X) × (slice_get xs k ≡ Some x) × (p x ≡ true)
+item_that_passes p [] some = absurd (false≢true some)
+item_that_passes p (x ∷ xs) some =
+    ⊎_elim
+    (λ here. (0, x, refl, here))
+    (λ later. let it = item_that_passes p xs later in (suc it.0, it.1, it.2, it.3))
+    (or_cases (p x) (list_any p xs) some)
+
+has_all_below-has : (n : ℕ) (ks : List ℕ) (k : ℕ) → has_all_below n ks ≡ true → k < n → has_number k ks ≡ true
+has_all_below-has zero ks k all below = absurd (omega arith)
+has_all_below-has (suc n) ks k all below =
+    let parts = and_parts (has_number n ks) (has_all_below n ks) all in
+    ⊎_elim
+    (λ last. ap (λ m. has_number m ks) (eqb-true k n last) ∙ parts.0)
+    (λ other. let differ = eqb-false k n other in has_all_below-has n ks k parts.1 (omega arith))
+    (cases_Bool (k == n))
+
+-- the part in which its place stands has it
+literals_at-passes :
+    (p : TreeLiteral → Bool) (ls : List TreeLiteral) (k : ℕ) (l : TreeLiteral) (places : List ℕ)
+    → slice_get ls k ≡ Some l → p l ≡ true → has_number k places ≡ true → list_any p (literals_at ls places) ≡ true
+literals_at-passes p ls k l [] at passes has = absurd (false≢true has)
+literals_at-passes p ls k l (j ∷ places) at passes has =
+    ⊎_elim
+    (λ here.
+    ap (λ o. list_any p (cons_option o (literals_at ls places))) (ap (slice_get ls) (sym (eqb-true k j here)) ∙ at)
+    ∙ or_left (p l) (list_any p (literals_at ls places)) passes)
+    (λ later. kept (slice_get ls j) (literals_at ls places) (literals_at-passes p ls k l places at passes later))
+    (or_cases (k == j) (has_number k places) has)
+  where
+    kept : (o : Option TreeLiteral) (ms : List TreeLiteral) → list_any p ms ≡ true → list_any p (cons_option o ms) ≡ true
+    kept None ms some = some
+    kept (Some m) ms some = or_right (p m) (list_any p ms) some
+
+parts-pass :
+    (p : TreeLiteral → Bool) (ls : List TreeLiteral) (k : ℕ) (l : TreeLiteral) (parts : List (List ℕ))
+    → slice_get ls k ≡ Some l → p l ≡ true → has_number k (flat_map (λ ks. ks) parts) ≡ true
+    → list_any (list_any p) (map (literals_at ls) parts) ≡ true
+parts-pass p ls k l [] at passes has = absurd (false≢true has)
+parts-pass p ls k l (ks ∷ parts) at passes has =
+    ⊎_elim
+    (λ here.
+    or_left (list_any p (literals_at ls ks)) (list_any (list_any p) (map (literals_at ls) parts)) (literals_at-passes p ls k l ks at passes here))
+    (λ later.
+    or_right (list_any p (literals_at ls ks)) (list_any (list_any p) (map (literals_at ls) parts)) (parts-pass p ls k l parts at passes later))
+    (or_cases (has_number k ks) (has_number k (flat_map (λ js. js) parts))
+    (sym (list_any-append (λ j. k == j) ks (flat_map (λ js. js) parts)) ∙ has))
+
+-- where a literal passes a test, one of some part does
+pub split-passes :
+    (p : TreeLiteral → Bool) (ls : List TreeLiteral) (parts : List (List ℕ))
+    → has_all_below (length ls) (flat_map (λ ks. ks) parts) ≡ true → list_any p ls ≡ true
+    → list_any (list_any p) (map (literals_at ls) parts) ≡ true
+split-passes p ls parts all some =
+    let it = item_that_passes p ls some in
+    parts-pass p ls it.0 it.1 parts it.2 it.3
+    (has_all_below-has (length ls) (flat_map (λ ks. ks) parts) it.0 all (slice_get_within ls it.0 it.1 it.2))
+
+-- ---- parts under a choice
+
+module _ {is_predicate : ℕ → Bool} (functions : FunctionSymbols is_predicate) (form : List TreeClause) (bodies : ℕ → TreeClause) (ns : List NameLit) (choice : ℕ → GroundClause) where
+  -- a ground clause whose truth makes what is chosen true
+  abbrev pub Chosen : GroundClause → Type 0
+  Chosen g = Supports functions (IsUsable form bodies ns) (λ i. clause_true i g ≡ true → chosen_true i choice ns ≡ true)
+
+  -- such a ground instance of literals
+  pub record ChosenPart (ls : List TreeLiteral) : Type 0 where
+    pub trees : Substitution
+    pub trees_ground : IsGroundOver functions trees
+    pub chosen : Chosen (literals_instance trees ls)
+
+  -- and ground instances of all parts, under one substitution
+  pub record ChosenParts (lss : List (List TreeLiteral)) : Type 0 where
+    pub trees : Substitution
+    pub trees_ground : IsGroundOver functions trees
+    pub chosen : AllByRecursion (λ ls. Chosen (literals_instance trees ls)) lss
+
+  -- a part whose canonical form has a ground instance that makes what is chosen true
+  from_canonical :
+      (ls ks : List TreeLiteral) (g : GroundClause) (σ : Substitution)
+      → canonical_literals ls ≡ ks → IsGroundOver functions σ → g ≡ literals_instance σ ks → Chosen g → ChosenPart ls
+  from_canonical ls ks g σ same ground is chosen =
+      record { trees = made.trees; trees_ground = made.trees_ground; chosen = subst Chosen made.literals chosen }
+    where
+      part : TreeClause
+      part = record { literals = ls; names = [] }
+
+      made : GroundInstance functions part g
+      made =
+          (ground_instances_of_canonical is_predicate functions part g).1
+          (record { trees = σ; trees_ground = ground; literals = is ∙ ap (literals_instance σ) (sym same) })
+
+  -- The part of a component line is chosen for its name. That of an opposite line is false where the name's body is true, which is
+  -- usable.
+  part-chosen :
+      (σ : Substitution) (d : Parent) (ls : List TreeLiteral)
+      → IsGroundOver functions σ → IsChoice functions bodies ns choice
+      → AreAmong (map opposite d.clause.names) ns → DefinesName bodies d.clause → canonical_literals ls ≡ d.clause.literals
+      → ChosenPart ls
+  part-chosen σ d ls ground is_choice among (inl it) same =
+      from_canonical ls (bodies it.name).literals (choice it.name) made.trees (same ∙ sym it.same_literals) made.trees_ground made.literals
+      (Supports-always functions (λ i holds. list_any-name (chosen_name_true i choice) (positive_of it.name) ns has holds))
+    where
+      has : has_name (positive_of it.name) ns ≡ true
+      has =
+          among (positive_of it.name)
+          (ap (λ ms. has_name (positive_of it.name) (map opposite ms)) it.one_name
+          ∙ or_left (it.name == it.name) false (eq-eqb it.name it.name refl))
+
+      made : GroundInstance functions (bodies it.name) (choice it.name)
+      made = is_choice it.name has
+  part-chosen σ d ls ground is_choice among (inr it) same =
+      from_canonical ls (complement it.literal ∷ []) (complement it.literal ∷ []) σ (same ∙ it.complemented) ground
+      (sym (one_literal-ground σ (not it.literal.positive) it.literal.left it.literal.right sides.0 sides.1))
+      (Supports-then functions (λ i ok holds other. absurd (complement-other i it.literal holds other))
+      (Supports-instance functions (bodies it.name) (it.literal ∷ []) (inr (it.name, has, refl)) (record {
+        trees = σ;
+        trees_ground = ground;
+        literals =
+            sym (one_literal-ground σ it.literal.positive it.literal.left it.literal.right sides.0 sides.1)
+            ∙ ap (literals_instance σ) (sym it.same_literals);
+      })))
+    where
+      sides : (is_ground it.literal.left ≡ true) × (is_ground it.literal.right ≡ true)
+      sides = and_parts (is_ground it.literal.left) (is_ground it.literal.right) it.ground
+
+      has : has_name (negative_of it.name) ns ≡ true
+      has =
+          among (negative_of it.name)
+          (ap (λ ms. has_name (negative_of it.name) (map opposite ms)) it.one_name
+          ∙ or_left (it.name == it.name) false (eq-eqb it.name it.name refl))
+
+  -- parts that share no variables with some literals keep their instances
+  chosen-joined :
+      (ls : List TreeLiteral) (σ τ : Substitution) (lss : List (List TreeLiteral))
+      → list_all (λ ks. not (share_variable ls ks)) lss ≡ true
+      → AllByRecursion (λ ks. Chosen (literals_instance τ ks)) lss
+      → AllByRecursion (λ ks. Chosen (literals_instance (joined ls σ τ) ks)) lss
+  chosen-joined ls σ τ [] apart chosen = tt
+  chosen-joined ls σ τ (ks ∷ lss) apart chosen =
+      let parts = and_parts (not (share_variable ls ks)) (list_all (λ ms. not (share_variable ls ms)) lss) apart in (
+        subst Chosen (sym (joined-second ls ks σ τ (not-true (share_variable ls ks) parts.0))) chosen.0,
+        chosen-joined ls σ τ lss parts.1 chosen.1,
+      )
+
+  -- one more part
+  part-joined :
+      (ls : List TreeLiteral) (lss : List (List TreeLiteral))
+      → list_all (λ ks. not (share_variable ls ks)) lss ≡ true → ChosenPart ls → ChosenParts lss → ChosenParts (ls ∷ lss)
+  part-joined ls lss apart first rest = record {
+    trees = joined ls first.trees rest.trees;
+    trees_ground = λ v.
+        cond_both (has_number v (flat_map literal_variables ls)) (first.trees v) (rest.trees v) (λ t. ground_over functions.symbols t ≡ true)
+        (λ here. first.trees_ground v)
+        (λ other. rest.trees_ground v);
+    chosen = (
+      subst Chosen (sym (joined-first ls first.trees rest.trees)) first.chosen,
+      chosen-joined ls first.trees rest.trees lss apart rest.chosen,
+    );
+  }
+
+  pub parts-chosen :
+      (σ : Substitution) (ds : List Parent) (lss : List (List TreeLiteral))
+      → IsGroundOver functions σ → IsChoice functions bodies ns choice
+      → AreAmong (map opposite (flat_map (λ (d : Parent). d.clause.names) ds)) ns
+      → AllByRecursion (λ (d : Parent). d.introduces ≡ true → DefinesName bodies d.clause) ds
+      → define_all ds lss ≡ true → share_no_variables lss ≡ true
+      → ChosenParts lss
+  parts-chosen σ [] [] ground is_choice among define defined apart = record { trees = σ; trees_ground = ground; chosen = tt }
+  parts-chosen σ [] (ls ∷ lss) ground is_choice among define defined apart = absurd (false≢true defined)
+  parts-chosen σ (d ∷ ds) [] ground is_choice among define defined apart = absurd (false≢true defined)
+  parts-chosen σ (d ∷ ds) (ls ∷ lss) ground is_choice among define defined apart =
+      let rest : List NameLit = flat_map (λ (e : Parent). e.clause.names) ds in
+      let among_all : AreAmong (map opposite d.clause.names ++ map opposite rest) ns =
+      λ n has. among n (ap (has_name n) (map-append opposite d.clause.names rest) ∙ has) in
+      let definitions = and_parts (defines d ls) (define_all ds lss) defined in
+      let one = and_parts d.introduces (literals_eq (canonical_literals ls) d.clause.literals) definitions.0 in
+      let aparts = and_parts (list_all (λ ks. not (share_variable ls ks)) lss) (share_no_variables lss) apart in
+      part-joined ls lss aparts.0
+      (part-chosen σ d ls ground is_choice
+      (λ n has. among_all n (AreAmong-front (map opposite d.clause.names) (map opposite rest) n has))
+      (define.0 one.0) (literals_eq-same (canonical_literals ls) d.clause.literals one.1))
+      (parts-chosen σ ds lss ground is_choice
+      (λ n has. among_all n (AreAmong-back (map opposite d.clause.names) (map opposite rest) n has))
+      define.1 definitions.1 aparts.1)
