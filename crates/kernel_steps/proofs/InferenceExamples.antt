@@ -1,6 +1,7 @@
 -- The worked inferences, by most general unifiers.
 use Rattle.std.proofs.Common.{◌≡◌, ℕ, zero, suc, List, [], ◌∷◌, refl, sym, ap, inl}
 use Rattle.std.specs.Prelude.{Some}
+use Rattle.std.proofs.lemmas.Bool.{true≢false}
 use Rattle.fol_base.specs.Tree.{Tree, variable, application, tree_then}
 use Rattle.fol_base.specs.Instance.{Substitution, instance}
 use Rattle.fol_base.specs.Unifier.{IsUnifier, IsUnifierApart, IsMostGeneralUnifier, IsMostGeneralUnifierApart}
@@ -65,7 +66,7 @@ superposition = record {
   into_ordered = refl;
   from_eligible = record { nothing_chosen = refl; is_eligible = refl };
   into_eligible = inl (refl, refl);
-  others_differ = λ positive root. refl;
+  others_differ = λ positive root. absurd (true≢false (sym positive));
   concludes = refl;
   names = refl;
 }

@@ -97,14 +97,14 @@ without-cases :
     → (same ≡ true → n ≡ m) → name_true truth n ≡ false → (name_true truth m || names_true truth ns) ≡ true
     → (names_true truth ns ≡ true → names_true truth rest ≡ true)
     → names_true truth (if not same then m ∷ rest else rest) ≡ true
-without-cases truth n m ns rest true is fails holds then =
-    then
+without-cases truth n m ns rest true is fails holds later_true =
+    later_true
     (⊎_elim (λ here. absurd (true≢false (sym here ∙ ap (name_true truth) (sym (is refl)) ∙ fails))) (λ later. later)
     (or_cases (name_true truth m) (names_true truth ns) holds))
-without-cases truth n m ns rest false is fails holds then =
+without-cases truth n m ns rest false is fails holds later_true =
     ⊎_elim
     (λ here. or_left (name_true truth m) (names_true truth rest) here)
-    (λ later. or_right (name_true truth m) (names_true truth rest) (then later))
+    (λ later. or_right (name_true truth m) (names_true truth rest) (later_true later))
     (or_cases (name_true truth m) (names_true truth ns) holds)
 
 without-true :

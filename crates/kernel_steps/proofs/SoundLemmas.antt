@@ -12,7 +12,7 @@ use Rattle.fol_base.specs.Clause.{TreeLiteral, TreeClause}
 use Rattle.fol_base.specs.Kind.{is_function_term, are_function_terms}
 use Rattle.fol_base.specs.Ground.{is_ground_literal, is_ground_clause}
 use Rattle.fol_base.specs.Literal.{clause_of}
-use Rattle.fol_base.specs.Interpretation.{Interpretation, IsInterpretation, Row, row_in_range, is_row_of, table_value, symbol_value, Assignment, tree_value, sides_true, literal_true_under, literals_true_under}
+use Rattle.fol_base.specs.Interpretation.{Interpretation, IsInterpretation, Row, row_in_range, is_row_of, table_value, symbol_value, Assignment, tree_value, trees_values, sides_true, literal_true_under, literals_true_under}
 use Rattle.fol_base.proofs.MeaningLemmas.{truth_of_ground_clauses}
 use Rattle.fol_base.proofs.TestLemmas.{list_all-item}
 use Rattle.kernel_steps.specs.Parents.{Parent}

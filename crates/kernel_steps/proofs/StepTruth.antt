@@ -1,8 +1,8 @@
 -- What a step concludes is true where its parents are.
-use Rattle.std.proofs.Common.{◌≡◌, ℕ, true, false, ◌||◌, ◌==◌, List, [], ◌∷◌, ◌++◌, map, Option, Some, refl, ap, sym, ◌∙◌, subst, ⊎_elim, eqb}
+use Rattle.std.proofs.Common.{◌≡◌, ℕ, true, false, ◌||◌, ◌==◌, List, [], ◌∷◌, ◌++◌, map, Option, Some, refl, ap, sym, ◌∙◌, subst, ⊎_elim, eqb, arith}
 use Rattle.std.specs.Prelude.{not, length, flat_map, option_map, unwrap_or}
 use Rattle.std.specs.List.{list_all, AllByRecursion}
-use Rattle.std.proofs.lemmas.Bool.{and_parts, and_from, or_cases, or_left, or_right, or_parts, cases_Bool, true≢false}
+use Rattle.std.proofs.lemmas.Bool.{and_parts, and_from, or_cases, or_left, or_right, or_parts, cases_Bool, eqb-true, true≢false}
 use Rattle.std.proofs.lemmas.Option.{same_Some, option_and_then_some}
 use Rattle.std.proofs.lemmas.List.{map-append}
 use Rattle.std.proofs.lemmas.List.Folds.{list_any-append}
@@ -172,7 +172,7 @@ split-over Value i truth some parents n definitions parts c some_within over h �
 
 no_literals : {X : Type 0} (xs : List X) → eqb (length xs) 0 ≡ true → xs ≡ []
 no_literals [] h = refl
-no_literals (x ∷ xs) h = absurd (true≢false (sym h))
+no_literals (x ∷ xs) h = absurd (omega (arith, eqb-true (length (x ∷ xs)) 0 h))
 
 names_at-true :
     (Value : ℕ → Type 0) (i : Interpretation) (truth : NameTruth) (parents : Parents) (ρ : Assignment) (n : ℕ) (names : List NameLit)
