@@ -20,7 +20,7 @@ use Rattle.kernel_steps.specs.Soundness.{HerbrandRefuted}
 use Rattle.kernel_steps.specs.Examples.{not_p, not_true, line, opposites, unrelated, general, opposites_lines, opposites_with}
 use Rattle.kernel_steps.specs.declared.step.Step.TheVariants.{Clausify, Para, Refl}
 use Rattle.kernel_steps.specs.declared.step.Line.{Line}
-use Rattle.kernel_steps.proofs.RefutationLemmas.{slice_get-last}
+use Rattle.kernel_steps.proofs.LineLemmas.{slice_get-last}
 
 -- the negation of p(a) has sides that differ
 pub other_parent : IsRefutation opposites (opposites_lines 2) → ⊥

@@ -20,82 +20,15 @@ use Rattle.kernel_steps.specs.Soundness.{bindings_of, binds_each, BindsOver, IsU
 use Rattle.kernel_steps.specs.declared.step.Step.{Step}
 use Rattle.kernel_steps.specs.declared.step.Step.TheVariants.{Input, Negate, Clausify, Component, Opposite}
 use Rattle.kernel_steps.specs.declared.step.Line.{Line}
+use Rattle.kernel_steps.proofs.ItemLemmas.{Contains-item}
+use Rattle.kernel_steps.proofs.GroundTrees.{one_literal-ground}
+use Rattle.kernel_steps.proofs.LineLemmas.{ParentLine, parent_line, last-there, component_clause-at, component_clause-earlier}
 use Rattle.kernel_steps.proofs.GroundedLemmas.{Supports-always, Supports-instance, Supports-then, Supports-more, Supports-grounded, Grounds-supported}
 use Rattle.kernel_steps.proofs.GroundedLemmasNames.{list_any-name, chosen_name_true}
-use Rattle.kernel_steps.proofs.GroundedLemmasSplit.{DefinesName, one_literal-ground, complement-or}
+use Rattle.kernel_steps.proofs.GroundedLemmasSplit.{DefinesName, complement-or}
 use Rattle.kernel_steps.proofs.GroundedLemmasSteps.{grounded-from, AreGrounded, DefineNames, verdict-grounded}
 
--- ---- lines before a line
-
-taken :
-    {X : Type 0} (n : ℕ) (xs : List X) (k : ℕ) (x : X)
-    → slice_get (take n xs) k ≡ Some x → (k < n) × (slice_get xs k ≡ Some x)
-taken zero xs k x at = absurd (none-some x at)
-taken (suc n) [] k x at = absurd (none-some x at)
-taken (suc n) (y ∷ ys) zero x at = (omega arith, at)
-taken (suc n) (y ∷ ys) (suc k) x at = let it = taken n ys k x at in (omega (arith, it.0), it.1)
-
-slice_get-last : {X : Type 0} (xs : List X) (x : X) → slice_get (xs ++ x ∷ []) (length xs) ≡ Some x
-slice_get-last [] x = refl
-slice_get-last (y ∷ xs) x = slice_get-last xs x
-
--- the line that a parent's number stands for
-record LineOf (lines : List Line) (n k : ℕ) (p : Parent) : Type 0 where
-  line : Line
-  before : k < n
-  there : slice_get lines k ≡ Some line
-  is_clause : is_clause_step line.step ≡ true
-  same : ◌≡◌ {A = Parent} (record { clause = clause_of line.clause; introduces = introduces_name line.step }) p
-
-line_of : (lines : List Line) (n k : ℕ) (p : Parent) → line_parents (take n lines) k ≡ Some p → LineOf lines n k p
-line_of lines n k p is =
-    option_and_then_some line_parent (slice_get (take n lines) k) p is λ line at step.
-    let made : Parent = record { clause = clause_of line.clause; introduces = introduces_name line.step } in
-    let tests = if_some (is_clause_step line.step) (Some made) p step in
-    let place = taken n lines k line at in
-    record { line = line; before = place.0; there = place.1; is_clause = tests.0; same = same_Some made p tests.1 }
-
 -- ---- bodies
-
--- a component line before is one of all lines
-component-before :
-    (name : ℕ) (lines : List Line) (n : ℕ) (c : TreeClause)
-    → component_clause name (take n lines) ≡ Some c → component_clause name lines ≡ Some c
-component-before name lines zero c is = absurd (none-some c is)
-component-before name [] (suc n) c is = absurd (none-some c is)
-component-before name (l ∷ lines) (suc n) c is =
-    ⊎_elim
-    (λ here.
-    cond-true (is_component_of name l.step) (Some (clause_of l.clause)) (component_clause name lines) here
-    ∙ sym (cond-true (is_component_of name l.step) (Some (clause_of l.clause)) (component_clause name (take n lines)) here)
-    ∙ is)
-    (λ later.
-    cond-false (is_component_of name l.step) (Some (clause_of l.clause)) (component_clause name lines) later
-    ∙ component-before name lines n c
-    (sym (cond-false (is_component_of name l.step) (Some (clause_of l.clause)) (component_clause name (take n lines)) later) ∙ is))
-    (cases_Bool (is_component_of name l.step))
-
--- a component line of a new name is the first one
-component-first :
-    (name : ℕ) (lines : List Line) (n : ℕ) (line : Line)
-    → slice_get lines n ≡ Some line → is_component_of name line.step ≡ true → component_clause name (take n lines) ≡ None
-    → component_clause name lines ≡ Some (clause_of line.clause)
-component-first name [] n line at component is_new = absurd (none-some line at)
-component-first name (l ∷ lines) zero line at component is_new =
-    let same : l ≡ line = same_Some l line at in
-    cond-true (is_component_of name l.step) (Some (clause_of l.clause)) (component_clause name lines)
-    (ap (λ (m : Line). is_component_of name m.step) same ∙ component)
-    ∙ ap (λ (m : Line). let o : Option TreeClause = Some (clause_of m.clause) in o) same
-component-first name (l ∷ lines) (suc n) line at component is_new =
-    ⊎_elim
-    (λ here.
-    absurd (none-some (clause_of l.clause)
-    (sym is_new ∙ cond-true (is_component_of name l.step) (Some (clause_of l.clause)) (component_clause name (take n lines)) here)))
-    (λ later.
-    cond-false (is_component_of name l.step) (Some (clause_of l.clause)) (component_clause name lines) later
-    ∙ component-first name lines n line at component
-    (sym (cond-false (is_component_of name l.step) (Some (clause_of l.clause)) (component_clause name (take n lines)) later) ∙ is_new))
-    (cases_Bool (is_component_of name l.step))
 
 body-literals :
     (name : ℕ) (lines : List Line) (c : TreeClause) → component_clause name lines ≡ Some c → (body lines name).literals ≡ c.literals
@@ -112,7 +45,7 @@ step-defines form lines n line (Component name) at is comes introduces =
       one_name = comes.one_name;
       same_literals =
           body-literals name lines (clause_of line.clause)
-          (component-first name lines n line at (ap (is_component_of name) is ∙ eq-eqb name name refl) comes.is_new);
+          (component_clause-at lines n line name comes.is_new at (ap (is_component_of name) is ∙ eq-eqb name name refl));
     })
 step-defines form lines n line (Opposite name) at is comes introduces =
     inr (record {
@@ -121,7 +54,7 @@ step-defines form lines n line (Opposite name) at is comes introduces =
       literal = comes.literal;
       ground = comes.ground;
       same_literals =
-          body-literals name lines comes.component (component-before name lines n comes.component comes.introduced) ∙ comes.one_literal;
+          body-literals name lines comes.component (component_clause-earlier lines n name comes.component comes.introduced) ∙ comes.one_literal;
       complemented = comes.complemented;
     })
 step-defines form lines n line step at is comes introduces = absurd (false≢true introduces)
@@ -130,10 +63,10 @@ lines-define :
     (form : List TreeClause) (lines : List Line) (n : ℕ)
     → IsDerivation form lines → DefineNames (body lines) (line_parents (take n lines))
 lines-define form lines n derived k p is introduces =
-    let it = line_of lines n k p is in
-    subst (λ (q : Parent). DefinesName (body lines) q.clause) it.same
+    let it = parent_line lines n k p is in
+    subst (λ (q : Parent). DefinesName (body lines) q.clause) it.gives
     (step-defines form lines k it.line it.line.step it.there refl (derived k it.line it.there)
-    (ap (λ (q : Parent). q.introduces) it.same ∙ introduces))
+    (ap (λ (q : Parent). q.introduces) it.gives ∙ introduces))
 
 -- ---- lines
 
@@ -161,16 +94,14 @@ module _ {is_predicate : ℕ → Bool} (functions : FunctionSymbols is_predicate
       it.same_literals
   definition-grounded bodies c (inr it) =
       grounded-from functions form bodies c.literals c.names λ σ choice ground is_choice.
-      let sides = and_parts (is_ground it.literal.left) (is_ground it.literal.right) it.ground in
       let has : has_name (positive_of it.name) c.names ≡ true =
       ap (has_name (positive_of it.name)) it.one_name ∙ or_left (it.name == it.name) false (eq-eqb it.name it.name refl) in
       let made : GroundInstance functions (bodies it.name) (choice it.name) = is_choice it.name has in
       let chosen : choice it.name ≡ it.literal ∷ [] =
       made.literals ∙ ap (literals_instance made.trees) it.same_literals
-      ∙ one_literal-ground made.trees it.literal.positive it.literal.left it.literal.right sides.0 sides.1 in
+      ∙ one_literal-ground made.trees it.literal it.ground in
       let own : literals_instance σ c.literals ≡ complement it.literal ∷ [] =
-      ap (literals_instance σ) it.complemented
-      ∙ one_literal-ground σ (complement it.literal).positive it.literal.left it.literal.right sides.0 sides.1 in
+      ap (literals_instance σ) it.complemented ∙ one_literal-ground σ (complement it.literal) it.ground in
       Supports-always functions (λ i.
       ⊎_elim
       (λ holds.
@@ -190,7 +121,7 @@ module _ {is_predicate : ℕ → Bool} (functions : FunctionSymbols is_predicate
   step-grounded lines n (Input place) c defines grounded define over comes is_clause = absurd (false≢true is_clause)
   step-grounded lines n (Negate place) c defines grounded define over comes is_clause = absurd (false≢true is_clause)
   step-grounded lines n (Clausify k) c defines grounded define over comes is_clause =
-      instance-grounded (body lines) c c (inl (k, slice_get_within form k c comes, get_or_from_slice_get form k c c comes)) refl
+      instance-grounded (body lines) c c (inl (Contains-item form k c comes)) refl
   step-grounded lines n (Component name) c defines grounded define over comes is_clause =
       definition-grounded (body lines) c (defines refl)
   step-grounded lines n (Opposite name) c defines grounded define over comes is_clause =
@@ -208,9 +139,9 @@ module _ {is_predicate : ℕ → Bool} (functions : FunctionSymbols is_predicate
   lines-grounded lines over derived (suc n) m line within at is_clause =
       step-grounded lines m line.step (clause_of line.clause) (step-defines form lines m line line.step at refl (derived m line at))
       (λ k p is.
-      let it = line_of lines m k p is in
-      subst (λ (q : Parent). IsGrounded functions form (body lines) q.clause) it.same
-      (lines-grounded lines over derived n k it.line (omega (arith, within, it.before)) it.there it.is_clause))
+      let it = parent_line lines m k p is in
+      subst (λ (q : Parent). IsGrounded functions form (body lines) q.clause) it.gives
+      (lines-grounded lines over derived n k it.line (omega (arith, within, it.earlier)) it.there it.is_clause))
       (lines-define form lines m derived)
       (list_all-item (λ (l : Line). binds_each (is_over functions.symbols) l.step) lines m line at over)
       (derived m line at) is_clause
@@ -231,13 +162,10 @@ refutations_herbrand_refute is_predicate functions form lines constant over refu
     some_tree : (t : Tree) × (ground_over functions.symbols t ≡ true)
     some_tree = (constants_give_ground_trees functions.symbols).1 constant
 
-    is_last : slice_get lines (length refutation.before) ≡ Some refutation.last
-    is_last = ap (λ ls. slice_get ls (length refutation.before)) refutation.ends ∙ slice_get-last refutation.before refutation.last
-
     last_grounded : IsGrounded functions form (body lines) empty_clause
     last_grounded =
         subst (IsGrounded functions form (body lines)) refutation.is_empty
-        (lines_are_grounded is_predicate functions form lines over refutation.derived (length refutation.before) refutation.last is_last
+        (lines_are_grounded is_predicate functions form lines over refutation.derived (length refutation.before) refutation.last (last-there form lines refutation)
         refutation.is_clause)
 
     with_bodies : Grounds functions (IsUsable form (body lines) []) []

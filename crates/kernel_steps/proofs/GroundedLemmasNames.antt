@@ -13,6 +13,7 @@ use Rattle.fol_base.specs.Symbols.{FunctionSymbols}
 use Rattle.fol_base.specs.Interpretation.{Interpretation, literal_true_under, no_values, clause_true}
 use Rattle.kernel_steps.specs.Names.{name_before, with_name, with_names, sorted_names}
 use Rattle.kernel_steps.specs.Derivation.{negative_of, positive_of}
+use Rattle.kernel_steps.proofs.NameTruth.{same_name-says, has_name-sorted_names}
 use Rattle.kernel_steps.specs.Soundness.{IsUsable, IsChoice, chosen_literals}
 
 -- ---- one name
@@ -21,21 +22,9 @@ beq-itself : (b : Bool) → beq b b ≡ true
 beq-itself true = refl
 beq-itself false = refl
 
-beq-same : (a b : Bool) → beq a b ≡ true → a ≡ b
-beq-same true true h = refl
-beq-same true false h = absurd (false≢true h)
-beq-same false true h = absurd (false≢true h)
-beq-same false false h = refl
-
 same_name-itself : (n : NameLit) → same_name n n ≡ true
 same_name-itself n =
     and_from (beq n.positive n.positive) (n.name == n.name) (beq-itself n.positive) (eq-eqb n.name n.name refl)
-
-same_name-same : (n m : NameLit) → same_name n m ≡ true → n ≡ m
-same_name-same n m h =
-    let parts = and_parts (beq n.positive m.positive) (n.name == m.name) h in
-    let named : Bool → ℕ → NameLit = λ positive name. record { positive = positive; name = name } in
-    ap₂ named (beq-same n.positive m.positive parts.0) (eqb-true n.name m.name parts.1)
 
 -- ---- names in lists
 
@@ -45,7 +34,7 @@ pub list_any-name :
 list_any-name p n [] has passes = absurd (false≢true has)
 list_any-name p n (m ∷ ms) has passes =
     ⊎_elim
-    (λ here. or_left (p m) (list_any p ms) (ap p (sym (same_name-same n m here)) ∙ passes))
+    (λ here. or_left (p m) (list_any p ms) (ap p (sym (same_name-says n m here)) ∙ passes))
     (λ later. or_right (p m) (list_any p ms) (list_any-name p n ms later passes))
     (or_cases (same_name n m) (has_name n ms) has)
 
@@ -75,46 +64,8 @@ AreAmong-back ns ms n has = list_any-append (same_name n) ns ms ∙ or_right (ha
 
 -- ---- sorted names
 
-with_name-there : (n : NameLit) (ns : List NameLit) → has_name n (with_name n ns) ≡ true
-with_name-there n [] = or_left (same_name n n) false (same_name-itself n)
-with_name-there n (m ∷ ms) =
-    cond_both (same_name n m) (m ∷ ms) (if name_before n m then n ∷ m ∷ ms else m ∷ with_name n ms) (λ ks. has_name n ks ≡ true)
-    (λ same. or_left (same_name n m) (has_name n ms) same)
-    (λ other.
-    cond_both (name_before n m) (n ∷ m ∷ ms) (m ∷ with_name n ms) (λ ks. has_name n ks ≡ true)
-    (λ before. or_left (same_name n n) (has_name n (m ∷ ms)) (same_name-itself n))
-    (λ behind. or_right (same_name n m) (has_name n (with_name n ms)) (with_name-there n ms)))
-
-with_name-keeps : (n : NameLit) (ns : List NameLit) → AreAmong ns (with_name n ns)
-with_name-keeps n [] k has = absurd (false≢true has)
-with_name-keeps n (m ∷ ms) k has =
-    cond_both (same_name n m) (m ∷ ms) (if name_before n m then n ∷ m ∷ ms else m ∷ with_name n ms) (λ ks. has_name k ks ≡ true)
-    (λ same. has)
-    (λ other.
-    cond_both (name_before n m) (n ∷ m ∷ ms) (m ∷ with_name n ms) (λ ks. has_name k ks ≡ true)
-    (λ before. or_right (same_name k n) (has_name k (m ∷ ms)) has)
-    (λ behind.
-    ⊎_elim
-    (λ here. or_left (same_name k m) (has_name k (with_name n ms)) here)
-    (λ later. or_right (same_name k m) (has_name k (with_name n ms)) (with_name-keeps n ms k later))
-    (or_cases (same_name k m) (has_name k ms) has)))
-
-with_names-keeps : (ns sorted : List NameLit) → AreAmong sorted (with_names ns sorted)
-with_names-keeps [] sorted k has = has
-with_names-keeps (n ∷ ns) sorted k has = with_names-keeps ns (with_name n sorted) k (with_name-keeps n sorted k has)
-
-with_names-there : (ns sorted : List NameLit) → AreAmong ns (with_names ns sorted)
-with_names-there [] sorted k has = absurd (false≢true has)
-with_names-there (n ∷ ns) sorted k has =
-    ⊎_elim
-    (λ here.
-    with_names-keeps ns (with_name n sorted) k
-    (ap (λ m. has_name k (with_name m sorted)) (sym (same_name-same k n here)) ∙ with_name-there k sorted))
-    (λ later. with_names-there ns (with_name n sorted) k later)
-    (or_cases (same_name k n) (has_name k ns) has)
-
 pub AreAmong-sorted : (ns : List NameLit) → AreAmong ns (sorted_names ns)
-AreAmong-sorted ns = with_names-there ns []
+AreAmong-sorted ns n has = has_name-sorted_names n ns ∙ has
 
 -- ---- resolvents
 
@@ -127,7 +78,7 @@ without-keeps n (m ∷ ms) k has other =
     (λ here.
     ap (has_name k)
     (cond-true (not (same_name n m)) (m ∷ without n ms) (without n ms)
-    (not_from_false (same_name n m) (ap (same_name n) (sym (same_name-same k m here)) ∙ other)))
+    (not_from_false (same_name n m) (ap (same_name n) (sym (same_name-says k m here)) ∙ other)))
     ∙ or_left (same_name k m) (has_name k (without n ms)) here)
     (λ later.
     cond_both (not (same_name n m)) (m ∷ without n ms) (without n ms) (λ ks. has_name k ks ≡ true)

@@ -23,6 +23,9 @@ use Rattle.kernel_steps.specs.Parents.{Parent}
 use Rattle.kernel_steps.specs.Split.{has_number, has_all_below, literals_at, share_variable, share_no_variables, canonical_literals, defines, define_all}
 use Rattle.kernel_steps.specs.Derivation.{negative_of, positive_of, complement}
 use Rattle.kernel_steps.specs.Soundness.{IsUsable, IsChoice}
+use Rattle.kernel_steps.proofs.GroundTrees.{one_literal-ground}
+use Rattle.kernel_steps.proofs.RuleTruth.{complement-truth}
+use Rattle.kernel_steps.proofs.SplitTests.{literals_eq-says, share_variable-fails}
 use Rattle.kernel_steps.proofs.GroundedLemmas.{Supports, Supports-always, Supports-instance, Supports-then}
 use Rattle.kernel_steps.proofs.GroundedLemmasNames.{list_any-name, AreAmong, AreAmong-front, AreAmong-back, chosen_name_true, chosen_true}
 
@@ -48,82 +51,25 @@ DefinesName bodies c = DefinesBody bodies c ⊎ DefinesOpposite bodies c
 
 -- ---- literals
 
-signs-same : (a b : Bool) → beq a b ≡ true → a ≡ b
-signs-same true true h = refl
-signs-same true false h = absurd (false≢true h)
-signs-same false true h = absurd (false≢true h)
-signs-same false false h = refl
-
-literal_eq-same : (l k : TreeLiteral) → literal_eq l k ≡ true → l ≡ k
-literal_eq-same l k h =
-    let outer = and_parts (beq l.positive k.positive && tree_eq l.left k.left) (tree_eq l.right k.right) h in
-    let inner = and_parts (beq l.positive k.positive) (tree_eq l.left k.left) outer.0 in
-    same l.positive k.positive l.left k.left l.right k.right
-    (signs-same l.positive k.positive inner.0) (tree_eq-true l.left k.left inner.1) (tree_eq-true l.right k.right outer.1)
-  where
-    same :
-        (p q : Bool) (a b c d : Tree) → p ≡ q → a ≡ b → c ≡ d
-        → ◌≡◌ {A = TreeLiteral} (record { positive = p; left = a; right = c }) (record { positive = q; left = b; right = d })
-    same p q a b c d e f g = cc
-
-literals_eq-same : (ls ks : List TreeLiteral) → literals_eq ls ks ≡ true → ls ≡ ks
-literals_eq-same [] [] h = refl
-literals_eq-same [] (k ∷ ks) h = absurd (false≢true h)
-literals_eq-same (l ∷ ls) [] h = absurd (false≢true h)
-literals_eq-same (l ∷ ls) (k ∷ ks) h =
-    let parts = and_parts (literal_eq l k) (literals_eq ls ks) h in
-    ap (λ m. m ∷ ls) (literal_eq-same l k parts.0) ∙ ap (λ ms. k ∷ ms) (literals_eq-same ls ks parts.1)
-
--- a ground tree has no instance but itself
-mutual
-  instance-ground : (σ : Substitution) (t : Tree) → is_ground t ≡ true → instance σ t ≡ t
-  instance-ground σ (variable v) h = absurd (false≢true h)
-  instance-ground σ (application f ts) h = ap (application f) (instances-ground σ ts h)
-
-  instances-ground : (σ : Substitution) (ts : Trees) → are_ground ts ≡ true → instances σ ts ≡ ts
-  instances-ground σ no_trees h = refl
-  instances-ground σ (tree_then t ts) h =
-      let parts = and_parts (is_ground t) (are_ground ts) h in
-      ap (λ u. tree_then u (instances σ ts)) (instance-ground σ t parts.0) ∙ ap (tree_then t) (instances-ground σ ts parts.1)
-
--- nor has a list of one ground literal, of either sign
-pub one_literal-ground :
-    (σ : Substitution) (positive : Bool) (left right : Tree)
-    → is_ground left ≡ true → is_ground right ≡ true
-    → ◌≡◌ {A = List TreeLiteral} (record { positive = positive; left = instance σ left; right = instance σ right } ∷ []) (record { positive = positive; left = left; right = right } ∷ [])
-one_literal-ground σ positive left right left_ground right_ground =
-    ap (λ t. let ls : List TreeLiteral = record { positive = positive; left = t; right = instance σ right } ∷ [] in ls) (instance-ground σ left left_ground)
-    ∙ ap (λ t. let ls : List TreeLiteral = record { positive = positive; left = left; right = t } ∷ [] in ls) (instance-ground σ right right_ground)
-
 -- a literal or its complement is true, and not both
+the_one : (b : Bool) → (b || false) ≡ b
+the_one true = refl
+the_one false = refl
+
+complement_true : (i : Interpretation) (l : TreeLiteral) → clause_true i (complement l ∷ []) ≡ not (clause_true i (l ∷ []))
+complement_true i l =
+    the_one (literal_true_under i no_values (complement l))
+    ∙ complement-truth i no_values l
+    ∙ ap not (sym (the_one (literal_true_under i no_values l)))
+
 pub complement-other :
     (i : Interpretation) (l : TreeLiteral) → clause_true i (l ∷ []) ≡ true → clause_true i (complement l ∷ []) ≡ true → ⊥
-complement-other i l holds other =
-    not_both l.positive (tree_value i no_values l.left) (tree_value i no_values l.right)
-    (the_one (literal_true_under i no_values l) holds) (the_one (literal_true_under i no_values (complement l)) other)
-  where
-    the_one : (b : Bool) → (b || false) ≡ true → b ≡ true
-    the_one true h = refl
-    the_one false h = h
-
-    not_both : (positive : Bool) (v w : ℕ) → sides_true positive v w ≡ true → sides_true (not positive) v w ≡ true → ⊥
-    not_both true v w h k = both_ways (v == w) (not-true (v == w) k) h
-    not_both false v w h k = both_ways (v == w) (not-true (v == w) h) k
+complement-other i l holds other = false≢true (ap not (sym holds) ∙ sym (complement_true i l) ∙ other)
 
 pub complement-or :
-    (i : Interpretation) (l : TreeLiteral)
-    → (clause_true i (l ∷ []) ≡ true) ⊎ (clause_true i (complement l ∷ []) ≡ true)
+    (i : Interpretation) (l : TreeLiteral) → (clause_true i (l ∷ []) ≡ true) ⊎ (clause_true i (complement l ∷ []) ≡ true)
 complement-or i l =
-    one_of l.positive (tree_value i no_values l.left) (tree_value i no_values l.right)
-    (cases_Bool (tree_value i no_values l.left == tree_value i no_values l.right))
-  where
-    one_of :
-        (positive : Bool) (v w : ℕ) → ((v == w) ≡ true) ⊎ ((v == w) ≡ false)
-        → ((sides_true positive v w || false) ≡ true) ⊎ ((sides_true (not positive) v w || false) ≡ true)
-    one_of true v w (inl same) = inl (or_left (v == w) false same)
-    one_of true v w (inr other) = inr (or_left (not (v == w)) false (ap not other))
-    one_of false v w (inl same) = inr (or_left (v == w) false same)
-    one_of false v w (inr other) = inl (or_left (not (v == w)) false (ap not other))
+    ⊎_elim inl (λ fails. inr (complement_true i l ∙ ap not fails)) (cases_Bool (clause_true i (l ∷ [])))
 
 -- ---- one substitution for all parts
 
@@ -144,89 +90,13 @@ joined-first ls σ τ =
     (agree-listed (joined ls σ τ) σ (flat_map literal_variables ls)
     (λ v has. cond-true (has_number v (flat_map literal_variables ls)) (σ v) (τ v) has))
 
--- a number of a list that passes a test
-list_any-number :
-    (p : ℕ → Bool) (v : ℕ) (vs : List ℕ) → has_number v vs ≡ true → p v ≡ true → list_any p vs ≡ true
-list_any-number p v [] has passes = absurd (false≢true has)
-list_any-number p v (w ∷ ws) has passes =
-    ⊎_elim
-    (λ here. or_left (p w) (list_any p ws) (ap p (sym (eqb-true v w here)) ∙ passes))
-    (λ later. or_right (p w) (list_any p ws) (list_any-number p v ws later passes))
-    (or_cases (v == w) (has_number v ws) has)
-
 joined-second :
     (ls ks : List TreeLiteral) (σ τ : Substitution)
-    → share_variable ls ks ≡ false → literals_instance (joined ls σ τ) ks ≡ literals_instance τ ks
+    → not (share_variable ls ks) ≡ true → literals_instance (joined ls σ τ) ks ≡ literals_instance τ ks
 joined-second ls ks σ τ apart =
     literals-agree (joined ls σ τ) τ ks
     (agree-listed (joined ls σ τ) τ (flat_map literal_variables ks)
-    (λ v has.
-    cond-false (has_number v (flat_map literal_variables ls)) (σ v) (τ v)
-    (false_from_ne_true (has_number v (flat_map literal_variables ls)) (λ also.
-    both_ways (share_variable ls ks) apart
-    (list_any-number (λ w. has_number w (flat_map literal_variables ks)) v (flat_map literal_variables ls) also has)))))
-
--- ---- parts have all literals
-
--- an item that passes, with its place
-item_that_passes :
-    {X : Type 0} (p : X → Bool) (xs : List X) → list_any p xs ≡ true → (k : ℕ) × (x : X) × (slice_get xs k ≡ Some x) × (p x ≡ true)
-item_that_passes p [] some = absurd (false≢true some)
-item_that_passes p (x ∷ xs) some =
-    ⊎_elim
-    (λ here. (0, x, refl, here))
-    (λ later. let it = item_that_passes p xs later in (suc it.0, it.1, it.2, it.3))
-    (or_cases (p x) (list_any p xs) some)
-
-has_all_below-has : (n : ℕ) (ks : List ℕ) (k : ℕ) → has_all_below n ks ≡ true → k < n → has_number k ks ≡ true
-has_all_below-has zero ks k all below = absurd (omega arith)
-has_all_below-has (suc n) ks k all below =
-    let parts = and_parts (has_number n ks) (has_all_below n ks) all in
-    ⊎_elim
-    (λ last. ap (λ m. has_number m ks) (eqb-true k n last) ∙ parts.0)
-    (λ other. let differ = eqb-false k n other in has_all_below-has n ks k parts.1 (omega arith))
-    (cases_Bool (k == n))
-
--- the part in which its place stands has it
-literals_at-passes :
-    (p : TreeLiteral → Bool) (ls : List TreeLiteral) (k : ℕ) (l : TreeLiteral) (places : List ℕ)
-    → slice_get ls k ≡ Some l → p l ≡ true → has_number k places ≡ true → list_any p (literals_at ls places) ≡ true
-literals_at-passes p ls k l [] at passes has = absurd (false≢true has)
-literals_at-passes p ls k l (j ∷ places) at passes has =
-    ⊎_elim
-    (λ here.
-    ap (λ o. list_any p (cons_option o (literals_at ls places))) (ap (slice_get ls) (sym (eqb-true k j here)) ∙ at)
-    ∙ or_left (p l) (list_any p (literals_at ls places)) passes)
-    (λ later. kept (slice_get ls j) (literals_at ls places) (literals_at-passes p ls k l places at passes later))
-    (or_cases (k == j) (has_number k places) has)
-  where
-    kept : (o : Option TreeLiteral) (ms : List TreeLiteral) → list_any p ms ≡ true → list_any p (cons_option o ms) ≡ true
-    kept None ms some = some
-    kept (Some m) ms some = or_right (p m) (list_any p ms) some
-
-parts-pass :
-    (p : TreeLiteral → Bool) (ls : List TreeLiteral) (k : ℕ) (l : TreeLiteral) (parts : List (List ℕ))
-    → slice_get ls k ≡ Some l → p l ≡ true → has_number k (flat_map (λ ks. ks) parts) ≡ true
-    → list_any (list_any p) (map (literals_at ls) parts) ≡ true
-parts-pass p ls k l [] at passes has = absurd (false≢true has)
-parts-pass p ls k l (ks ∷ parts) at passes has =
-    ⊎_elim
-    (λ here.
-    or_left (list_any p (literals_at ls ks)) (list_any (list_any p) (map (literals_at ls) parts)) (literals_at-passes p ls k l ks at passes here))
-    (λ later.
-    or_right (list_any p (literals_at ls ks)) (list_any (list_any p) (map (literals_at ls) parts)) (parts-pass p ls k l parts at passes later))
-    (or_cases (has_number k ks) (has_number k (flat_map (λ js. js) parts))
-    (sym (list_any-append (λ j. k == j) ks (flat_map (λ js. js) parts)) ∙ has))
-
--- where a literal passes a test, one of some part does
-pub split-passes :
-    (p : TreeLiteral → Bool) (ls : List TreeLiteral) (parts : List (List ℕ))
-    → has_all_below (length ls) (flat_map (λ ks. ks) parts) ≡ true → list_any p ls ≡ true
-    → list_any (list_any p) (map (literals_at ls) parts) ≡ true
-split-passes p ls parts all some =
-    let it = item_that_passes p ls some in
-    parts-pass p ls it.0 it.1 parts it.2 it.3
-    (has_all_below-has (length ls) (flat_map (λ ks. ks) parts) it.0 all (slice_get_within ls it.0 it.1 it.2))
+    (λ v has. cond-false (has_number v (flat_map literal_variables ls)) (σ v) (τ v) (share_variable-fails ls ks v apart has)))
 
 -- ---- parts under a choice
 
@@ -283,19 +153,15 @@ module _ {is_predicate : ℕ → Bool} (functions : FunctionSymbols is_predicate
       made = is_choice it.name has
   part-chosen σ d ls ground is_choice among (inr it) same =
       from_canonical ls (complement it.literal ∷ []) (complement it.literal ∷ []) σ (same ∙ it.complemented) ground
-      (sym (one_literal-ground σ (not it.literal.positive) it.literal.left it.literal.right sides.0 sides.1))
+      (sym (one_literal-ground σ (complement it.literal) it.ground))
       (Supports-then functions (λ i ok holds other. absurd (complement-other i it.literal holds other))
       (Supports-instance functions (bodies it.name) (it.literal ∷ []) (inr (it.name, has, refl)) (record {
         trees = σ;
         trees_ground = ground;
         literals =
-            sym (one_literal-ground σ it.literal.positive it.literal.left it.literal.right sides.0 sides.1)
-            ∙ ap (literals_instance σ) (sym it.same_literals);
+            sym (one_literal-ground σ it.literal it.ground) ∙ ap (literals_instance σ) (sym it.same_literals);
       })))
     where
-      sides : (is_ground it.literal.left ≡ true) × (is_ground it.literal.right ≡ true)
-      sides = and_parts (is_ground it.literal.left) (is_ground it.literal.right) it.ground
-
       has : has_name (negative_of it.name) ns ≡ true
       has =
           among (negative_of it.name)
@@ -311,7 +177,7 @@ module _ {is_predicate : ℕ → Bool} (functions : FunctionSymbols is_predicate
   chosen-joined ls σ τ [] apart chosen = tt
   chosen-joined ls σ τ (ks ∷ lss) apart chosen =
       let parts = and_parts (not (share_variable ls ks)) (list_all (λ ms. not (share_variable ls ms)) lss) apart in (
-        subst Chosen (sym (joined-second ls ks σ τ (not-true (share_variable ls ks) parts.0))) chosen.0,
+        subst Chosen (sym (joined-second ls ks σ τ parts.0)) chosen.0,
         chosen-joined ls σ τ lss parts.1 chosen.1,
       )
 
@@ -351,7 +217,7 @@ module _ {is_predicate : ℕ → Bool} (functions : FunctionSymbols is_predicate
       part-joined ls lss aparts.0
       (part-chosen σ d ls ground is_choice
       (λ n has. among_all n (AreAmong-front (map opposite d.clause.names) (map opposite rest) n has))
-      (define.0 one.0) (literals_eq-same (canonical_literals ls) d.clause.literals one.1))
+      (define.0 one.0) (literals_eq-says (canonical_literals ls) d.clause.literals one.1))
       (parts-chosen σ ds lss ground is_choice
       (λ n has. among_all n (AreAmong-back (map opposite d.clause.names) (map opposite rest) n has))
       define.1 definitions.1 aparts.1)

@@ -25,123 +25,20 @@ use Rattle.kernel_steps.specs.Derivation.{negative_of}
 use Rattle.kernel_steps.specs.Soundness.{bindings_of, IsUsable, IsChoice, chosen_literals, IsGrounded}
 use Rattle.kernel_steps.specs.declared.step.Step.{Step}
 use Rattle.kernel_steps.specs.declared.step.Step.TheVariants.{Input, Negate, Clausify, Para, Refl, Factor, Merge, Component, Opposite, Split, Chain}
+use Rattle.kernel_steps.proofs.ItemLemmas.{get_or-passes}
+use Rattle.kernel_steps.proofs.VerdictParts.{by_one-parts, by_two-parts, split-parts, chain-parts, all_there-each}
+use Rattle.kernel_steps.proofs.SplitTests.{some_part-passes, no_items, SplitsInto, is_split-says}
 use Rattle.kernel_steps.proofs.GroundedLemmas.{Supports, Supports-then, Supports-more, Supports-both, Supports-each, Grounds-supported, Supports-grounded}
 use Rattle.kernel_steps.proofs.GroundedLemmasNames.{AreAmong, AreAmong-front, AreAmong-back, AreAmong-sorted, chosen_true, chosen_literals-truth, chosen_true-among, IsChoice-among, IsUsable-among}
-use Rattle.kernel_steps.proofs.GroundedLemmasRules.{para-sound, refl-sound, factor-sound, merge-sound}
+use Rattle.kernel_steps.proofs.RuleTruth.{para_is_sound, refl_is_sound, factor_is_sound, merge_is_sound}
 use Rattle.kernel_steps.proofs.GroundedLemmasChain.{NamesGrounded, chained-grounded}
-use Rattle.kernel_steps.proofs.GroundedLemmasSplit.{DefinesName, ChosenParts, parts-chosen, split-passes}
-
--- ---- verdicts
-
-abbrev verdict_clause : Verdict → Option TreeClause
-verdict_clause binding_fault = None
-verdict_clause rule_fault = None
-verdict_clause (concludes c) = Some c
-
--- a conclusion is what the rule gives
-verdict_of-concludes : (made : Option TreeClause) (c : TreeClause) → verdict_of made ≡ concludes c → made ≡ Some c
-verdict_of-concludes None c is = ap verdict_clause is
-verdict_of-concludes (Some d) c is = ap verdict_clause is
-
-verdict_if-concludes : (bound : Bool) (made : Option TreeClause) (c : TreeClause) → verdict_if bound made ≡ concludes c → made ≡ Some c
-verdict_if-concludes true made c is = verdict_of-concludes made c is
-verdict_if-concludes false made c is = absurd (none-some c (ap verdict_clause is))
-
--- the parent and what the rule gives of its literals
-record FromOne (parent : Option Parent) (bind : List Tree) (rule : List TreeLiteral → Option (List TreeLiteral)) (c : TreeClause) : Type 0 where
-  p : Parent
-  there : parent ≡ Some p
-  made : List TreeLiteral
-  rule_made : rule (bound_literals bind p.clause) ≡ Some made
-  gives : clause_with p.clause.names made ≡ c
-
-by_one-parts :
-    (parent : Option Parent) (bind : List Tree) (rule : List TreeLiteral → Option (List TreeLiteral)) (c : TreeClause)
-    → by_one parent bind rule ≡ concludes c → FromOne parent bind rule c
-by_one-parts parent bind rule c is =
-    let whole : Parent → Option TreeClause = λ p. option_map (clause_with p.clause.names) (rule (bound_literals bind p.clause)) in
-    option_and_then_some whole parent c
-    (verdict_if-concludes (binds_parent bind parent) (option_and_then whole parent) c is) λ p there step.
-    option_map-some (clause_with p.clause.names) (rule (bound_literals bind p.clause)) c step λ made rule_made gives.
-    record { p = p; there = there; made = made; rule_made = rule_made; gives = gives }
-
--- the two parents
-record FromTwo (first : Option Parent) (first_bind : List Tree) (second : Option Parent) (second_bind : List Tree) (rule : List TreeLiteral → List TreeLiteral → Option (List TreeLiteral)) (c : TreeClause) : Type 0 where
-  p : Parent
-  p_there : first ≡ Some p
-  q : Parent
-  q_there : second ≡ Some q
-  made : List TreeLiteral
-  rule_made : rule (bound_literals first_bind p.clause) (bound_literals second_bind q.clause) ≡ Some made
-  gives : clause_with (p.clause.names ++ q.clause.names) made ≡ c
-
-by_two-parts :
-    (first : Option Parent) (first_bind : List Tree) (second : Option Parent) (second_bind : List Tree)
-    (rule : List TreeLiteral → List TreeLiteral → Option (List TreeLiteral)) (c : TreeClause)
-    → by_two first first_bind second second_bind rule ≡ concludes c → FromTwo first first_bind second second_bind rule c
-by_two-parts first first_bind second second_bind rule c is =
-    let with_both : Parent → Parent → Option TreeClause =
-    λ p q. option_map (clause_with (p.clause.names ++ q.clause.names)) (rule (bound_literals first_bind p.clause) (bound_literals second_bind q.clause)) in
-    let whole : Parent → Option TreeClause = λ p. option_and_then (with_both p) second in
-    option_and_then_some whole first c
-    (verdict_if-concludes (binds_parent first_bind first && binds_parent second_bind second) (option_and_then whole first) c is) λ p p_there p_step.
-    option_and_then_some (with_both p) second c p_step λ q q_there q_step.
-    option_map-some (clause_with (p.clause.names ++ q.clause.names)) (rule (bound_literals first_bind p.clause) (bound_literals second_bind q.clause)) c q_step
-    λ made rule_made gives.
-    record { p = p; p_there = p_there; q = q; q_there = q_there; made = made; rule_made = rule_made; gives = gives }
-
--- each of a list that is there
-all_there-each :
-    {X N : Type 0} (look : N → Option X) (ns : List N) (xs : List X)
-    → all_there (map look ns) ≡ Some xs → AllByRecursion (λ x. (n : N) × (look n ≡ Some x)) xs
-all_there-each {X} {N} look [] xs is =
-    subst (AllByRecursion (λ (x : X). (n : N) × (look n ≡ Some x))) (same_Some [] xs is) tt
-all_there-each {X} {N} look (n ∷ ns) xs is =
-    option_and_then_some (λ x. option_map (λ ys. x ∷ ys) (all_there (map look ns))) (look n) xs is λ x x_is step.
-    option_map-some (λ ys. x ∷ ys) (all_there (map look ns)) xs step λ ys ys_is gives.
-    subst (AllByRecursion (λ (z : X). (m : N) × (look m ≡ Some z))) gives ((n, x_is), all_there-each look ns ys ys_is)
-
-each-weaker :
-    {X : Type 0} (P Q : X → Type 0) → ((x : X) → P x → Q x) → (xs : List X) → AllByRecursion P xs → AllByRecursion Q xs
-each-weaker P Q weaker [] each = tt
-each-weaker P Q weaker (x ∷ xs) each = (weaker x each.0, each-weaker P Q weaker xs each.1)
+use Rattle.kernel_steps.proofs.GroundedLemmasSplit.{DefinesName, ChosenParts, parts-chosen}
 
 -- what follows from each item that passes a test
 from_each :
     {X : Type 0} (q : X → Bool) (Fact : Type 0) (xs : List X) → AllByRecursion (λ x. q x ≡ true → Fact) xs → list_any q xs ≡ true → Fact
 from_each q Fact [] each some = absurd (false≢true some)
 from_each q Fact (x ∷ xs) each some = ⊎_elim (λ here. each.0 here) (λ later. from_each q Fact xs each.1 later) (or_cases (q x) (list_any q xs) some)
-
--- an item, or what is read past the end
-get_or-passes :
-    {X : Type 0} (p : X → Bool) (xs : List X) (k : ℕ) (d : X) → list_all p xs ≡ true → p d ≡ true → p (get_or xs k d) ≡ true
-get_or-passes p [] k d all passes = passes
-get_or-passes p (x ∷ xs) zero d all passes = (and_parts (p x) (list_all p xs) all).0
-get_or-passes p (x ∷ xs) (suc k) d all passes = get_or-passes p xs k d (and_parts (p x) (list_all p xs) all).1 passes
-
-no_items : {X : Type 0} (xs : List X) → (length xs == 0) ≡ true → xs ≡ []
-no_items [] h = refl
-no_items (x ∷ xs) h = let e : length (x ∷ xs) ≡ 0 = eqb-true (length (x ∷ xs)) 0 h in absurd (omega arith)
-
--- what a split asks of its parts
-record SplitParts (ls : List TreeLiteral) (ds : List Parent) (parts : List (List ℕ)) : Type 0 where
-  all_places : has_all_below (length ls) (flat_map (λ ks. ks) parts) ≡ true
-  apart : share_no_variables (map (literals_at ls) parts) ≡ true
-  defined : define_all ds (map (literals_at ls) parts) ≡ true
-
-is_split-parts : (ls : List TreeLiteral) (ds : List Parent) (parts : List (List ℕ)) → is_split ls ds parts ≡ true → SplitParts ls ds parts
-is_split-parts ls ds parts h =
-    let lss : List (List TreeLiteral) = map (literals_at ls) parts in
-    let shared : Bool = share_out (length ls) parts in
-    let some = and_parts (not (length parts == 0)) (list_all is_part parts && (shared && (share_no_variables lss && define_all ds lss))) h in
-    let each = and_parts (list_all is_part parts) (shared && (share_no_variables lss && define_all ds lss)) some.1 in
-    let out = and_parts shared (share_no_variables lss && define_all ds lss) each.1 in
-    let rest = and_parts (share_no_variables lss) (define_all ds lss) out.1 in
-    record {
-      all_places = (and_parts (length (flat_map (λ ks. ks) parts) == length ls) (has_all_below (length ls) (flat_map (λ ks. ks) parts)) out.0).1;
-      apart = rest.0;
-      defined = rest.1;
-    }
 
 -- ---- grounded clauses
 
@@ -270,10 +167,10 @@ module _ {is_predicate : ℕ → Bool} (functions : FunctionSymbols is_predicate
   split-supported :
       (c : TreeClause) (ns : List NameLit) (choice : ℕ → GroundClause) (parts : List (List ℕ))
       → IsGrounded functions form bodies c → AreAmong c.names ns → IsChoice functions bodies ns choice
-      → has_all_below (length c.literals) (flat_map (λ ks. ks) parts) ≡ true
+      → share_out (length c.literals) parts ≡ true
       → ChosenParts functions form bodies ns choice (map (literals_at c.literals) parts)
       → Supports functions (IsUsable form bodies ns) (λ i. chosen_true i choice ns ≡ true)
-  split-supported c ns choice parts grounded among is_choice all_places them =
+  split-supported c ns choice parts grounded among is_choice shared_out them =
       Supports-then functions (λ i ok both. ⊎_elim (λ holds. from_parts i both.1 holds) (λ some. some) both.0)
       (Supports-both functions
       (decided-among c ns them.trees choice grounded among them.trees_ground is_choice)
@@ -293,14 +190,14 @@ module _ {is_predicate : ℕ → Bool} (functions : FunctionSymbols is_predicate
           from_each (λ ls. clause_true i (literals_instance them.trees ls)) (chosen_true i choice ns ≡ true) lss each
           (list_any-agree (λ ls. clause_true i (literals_instance them.trees ls)) (list_any true_in)
           (λ ls. list_any-map (literal_true_under i no_values) (literal_instance them.trees) ls) lss
-          ∙ split-passes true_in c.literals parts all_places
+          ∙ some_part-passes true_in c.literals parts shared_out
           (sym (list_any-map (literal_true_under i no_values) (literal_instance them.trees) c.literals) ∙ holds))
 
   split-grounded :
       (p : Parent) (ds : List Parent) (parts : List (List ℕ))
       → IsGrounded functions form bodies p.clause
       → AllByRecursion (λ (d : Parent). d.introduces ≡ true → DefinesName bodies d.clause) ds
-      → SplitParts p.clause.literals ds parts
+      → SplitsInto p.clause.literals ds parts
       → IsGrounded functions form bodies
       (clause_with (p.clause.names ++ map opposite (flat_map (λ (d : Parent). d.clause.names) ds)) [])
   split-grounded p ds parts grounded define split =
@@ -310,7 +207,7 @@ module _ {is_predicate : ℕ → Bool} (functions : FunctionSymbols is_predicate
       grounded-from [] ns λ σ choice ground is_choice.
       Supports-then functions (λ i ok. inr)
       (split-supported p.clause ns choice parts grounded
-      (λ n has. AreAmong-sorted all_names n (AreAmong-front p.clause.names opposites n has)) is_choice split.all_places
+      (λ n has. AreAmong-sorted all_names n (AreAmong-front p.clause.names opposites n has)) is_choice split.shared_out
       (parts-chosen functions form bodies ns choice σ ds (map (literals_at p.clause.literals) parts) ground is_choice
       (λ n has. AreAmong-sorted all_names n (AreAmong-back p.clause.names opposites n has)) define split.defined split.apart))
 
@@ -329,12 +226,12 @@ module _ {is_predicate : ℕ → Bool} (functions : FunctionSymbols is_predicate
   names_at-grounded :
       (parents : Parents) (σ : Substitution)
       → ((k : ℕ) (p : Parent) → parents k ≡ Some p → IsGrounded functions form bodies p.clause) → IsGroundOver functions σ
-      → (ns : List NameLit) → (k : ℕ) × (names_at parents k ≡ Some ns) → NamesGrounded functions form bodies ns
-  names_at-grounded parents σ grounded ground ns at =
-      option_and_then_some names_alone (parents at.0) ns at.1 λ p there step.
+      → (k : ℕ) (ns : List NameLit) → names_at parents k ≡ Some ns → NamesGrounded functions form bodies ns
+  names_at-grounded parents σ grounded ground k ns at =
+      option_and_then_some names_alone (parents k) ns at λ p there step.
       let alone = if_some (length p.clause.literals == 0) (Some p.clause.names) ns step in
       subst (NamesGrounded functions form bodies) (same_Some p.clause.names ns alone.1)
-      (names-grounded p.clause σ ground (no_items p.clause.literals alone.0) (grounded at.0 p there))
+      (names-grounded p.clause σ ground (no_items p.clause.literals alone.0) (grounded k p there))
 
   chain-grounded :
       (nss : List (List NameLit)) (pivots made : List NameLit)
@@ -359,7 +256,8 @@ module _ {is_predicate : ℕ → Bool} (functions : FunctionSymbols is_predicate
   by_one-grounded parents k bind rule c grounded over follows is =
       let it = by_one-parts (parents k) bind rule c is in
       subst (IsGrounded functions form bodies) it.gives
-      (one-grounded bind it.p.clause it.made over (grounded k it.p it.there) (follows (bound_literals bind it.p.clause) it.made it.rule_made))
+      (one-grounded bind it.source.clause it.literals over (grounded k it.source it.there)
+      (follows (bound_literals bind it.source.clause) it.literals it.made))
 
   by_two-grounded :
       (parents : Parents) (j : ℕ) (first_bind : List Tree) (k : ℕ) (second_bind : List Tree)
@@ -371,38 +269,29 @@ module _ {is_predicate : ℕ → Bool} (functions : FunctionSymbols is_predicate
   by_two-grounded parents j first_bind k second_bind rule c grounded first_over second_over follows is =
       let it = by_two-parts (parents j) first_bind (parents k) second_bind rule c is in
       subst (IsGrounded functions form bodies) it.gives
-      (two-grounded first_bind it.p.clause second_bind it.q.clause it.made
-      first_over (grounded j it.p it.p_there) second_over (grounded k it.q it.q_there)
-      (follows (bound_literals first_bind it.p.clause) (bound_literals second_bind it.q.clause) it.made it.rule_made))
+      (two-grounded first_bind it.source.clause second_bind it.target.clause it.literals
+      first_over (grounded j it.source it.first_there) second_over (grounded k it.target it.second_there)
+      (follows (bound_literals first_bind it.source.clause) (bound_literals second_bind it.target.clause) it.literals it.made))
 
   by_split-grounded :
       (parents : Parents) (k : ℕ) (definitions : List ℕ) (parts : List (List ℕ)) (c : TreeClause)
       → AreGrounded parents → DefineNames bodies parents
-      → option_and_then (λ p. option_and_then (λ ds. split_from p ds parts) (all_there (map parents definitions))) (parents k) ≡ Some c
-      → IsGrounded functions form bodies c
+      → verdict (Split k definitions parts) parents ≡ concludes c → IsGrounded functions form bodies c
   by_split-grounded parents k definitions parts c grounded define is =
-      option_and_then_some (λ p. option_and_then (λ ds. split_from p ds parts) (all_there (map parents definitions))) (parents k) c is λ p there p_step.
-      option_and_then_some (λ ds. split_from p ds parts) (all_there (map parents definitions)) c p_step λ ds ds_are step.
-      let names : List NameLit = p.clause.names ++ map opposite (flat_map (λ (d : Parent). d.clause.names) ds) in
-      let split = if_some (is_split p.clause.literals ds parts) (Some (clause_with names [])) c step in
-      subst (IsGrounded functions form bodies) (same_Some (clause_with names []) c split.1)
-      (split-grounded p ds parts (grounded k p there)
-      (each-weaker (λ (d : Parent). (j : ℕ) × (parents j ≡ Some d)) (λ (d : Parent). d.introduces ≡ true → DefinesName bodies d.clause)
-      (λ d at. define at.0 d at.1) ds (all_there-each parents definitions ds ds_are))
-      (is_split-parts p.clause.literals ds parts split.0))
+      let it = split-parts (parents k) (map parents definitions) parts c is in
+      subst (IsGrounded functions form bodies) it.gives
+      (split-grounded it.source it.defined parts (grounded k it.source it.there)
+      (all_there-each (λ (d : Parent). d.introduces ≡ true → DefinesName bodies d.clause) parents definitions it.defined define it.definitions_there)
+      (is_split-says it.source.clause.literals it.defined parts it.is_one))
 
   by_chain-grounded :
       (parents : Parents) (numbers : List ℕ) (pivots : List NameLit) (c : TreeClause)
-      → AreGrounded parents
-      → option_map clause_of_names (option_and_then (λ nss. chained nss pivots) (all_there (map (names_at parents) numbers))) ≡ Some c
-      → IsGrounded functions form bodies c
+      → AreGrounded parents → verdict (Chain numbers pivots) parents ≡ concludes c → IsGrounded functions form bodies c
   by_chain-grounded parents numbers pivots c grounded is =
-      option_map-some clause_of_names (option_and_then (λ nss. chained nss pivots) (all_there (map (names_at parents) numbers))) c is λ made made_is gives.
-      option_and_then_some (λ nss. chained nss pivots) (all_there (map (names_at parents) numbers)) made made_is λ nss nss_are step.
-      subst (IsGrounded functions form bodies) gives
-      (chain-grounded nss pivots made step λ σ ground.
-      each-weaker (λ (ns : List NameLit). (k : ℕ) × (names_at parents k ≡ Some ns)) (NamesGrounded functions form bodies)
-      (names_at-grounded parents σ grounded ground) nss (all_there-each (names_at parents) numbers nss nss_are))
+      let it = chain-parts parents numbers pivots c is in
+      subst (IsGrounded functions form bodies) it.gives
+      (chain-grounded it.lists pivots it.names it.made λ σ ground.
+      all_there-each (NamesGrounded functions form bodies) (names_at parents) numbers it.lists (names_at-grounded parents σ grounded ground) it.there)
 
   -- what a step concludes from grounded clauses is grounded
   pub verdict-grounded :
@@ -413,28 +302,24 @@ module _ {is_predicate : ℕ → Bool} (functions : FunctionSymbols is_predicate
       let first_over = and_parts (list_all (is_over functions.symbols) first_bind) (list_all (is_over functions.symbols) second_bind && true) over in
       by_two-grounded parents first first_bind second second_bind (λ ls ks. superposed ls from from_side ks into into_side place) c grounded
       first_over.0 (and_parts (list_all (is_over functions.symbols) second_bind) true first_over.1).0
-      (λ ls ks made step i ρ. para-sound i ρ ls from from_side ks into into_side place made step) is
+      (λ ls ks made step i ρ. para_is_sound i ρ ls from from_side ks into into_side place made step) is
   verdict-grounded (Refl parent literal bind) parents c grounded define over is =
       by_one-grounded parents parent bind (λ ls. resolved ls literal) c grounded
       (and_parts (list_all (is_over functions.symbols) bind) true over).0
-      (λ ls made step i ρ. refl-sound i ρ ls literal made step) is
+      (λ ls made step i ρ. refl_is_sound i ρ ls literal made step) is
   verdict-grounded (Factor parent becomes becomes_side other other_side bind) parents c grounded define over is =
       by_one-grounded parents parent bind (λ ls. factored ls becomes becomes_side other other_side) c grounded
       (and_parts (list_all (is_over functions.symbols) bind) true over).0
-      (λ ls made step i ρ. factor-sound i ρ ls becomes becomes_side other other_side made step) is
+      (λ ls made step i ρ. factor_is_sound i ρ ls becomes becomes_side other other_side made step) is
   verdict-grounded (Merge parent stays goes bind) parents c grounded define over is =
       by_one-grounded parents parent bind (λ ls. merged ls stays goes) c grounded
       (and_parts (list_all (is_over functions.symbols) bind) true over).0
-      (λ ls made step i ρ. merge-sound i ρ ls stays goes made step) is
+      (λ ls made step i ρ. merge_is_sound i ρ ls stays goes made step) is
   verdict-grounded (Split parent definitions parts) parents c grounded define over is =
-      by_split-grounded parents parent definitions parts c grounded define
-      (verdict_of-concludes (option_and_then (λ p. option_and_then (λ ds. split_from p ds parts) (all_there (map parents definitions))) (parents parent)) c is)
-  verdict-grounded (Chain numbers pivots) parents c grounded define over is =
-      by_chain-grounded parents numbers pivots c grounded
-      (verdict_of-concludes
-      (option_map clause_of_names (option_and_then (λ nss. chained nss pivots) (all_there (map (names_at parents) numbers)))) c is)
-  verdict-grounded (Input place) parents c grounded define over is = absurd (none-some c (ap verdict_clause is))
-  verdict-grounded (Negate place) parents c grounded define over is = absurd (none-some c (ap verdict_clause is))
-  verdict-grounded (Clausify i) parents c grounded define over is = absurd (none-some c (ap verdict_clause is))
-  verdict-grounded (Component name) parents c grounded define over is = absurd (none-some c (ap verdict_clause is))
-  verdict-grounded (Opposite name) parents c grounded define over is = absurd (none-some c (ap verdict_clause is))
+      by_split-grounded parents parent definitions parts c grounded define is
+  verdict-grounded (Chain numbers pivots) parents c grounded define over is = by_chain-grounded parents numbers pivots c grounded is
+  verdict-grounded (Input place) parents c grounded define over is = absurd (cc)
+  verdict-grounded (Negate place) parents c grounded define over is = absurd (cc)
+  verdict-grounded (Clausify i) parents c grounded define over is = absurd (cc)
+  verdict-grounded (Component name) parents c grounded define over is = absurd (cc)
+  verdict-grounded (Opposite name) parents c grounded define over is = absurd (cc)

@@ -9,6 +9,7 @@ pub mod VerdictParts
 pub mod SplitTests
 pub mod OverValues
 pub mod StepTruth
+pub mod GroundTrees
 pub mod LineLemmas
 pub mod SoundLemmas
 pub mod RefutationLemmas
@@ -18,7 +19,6 @@ pub mod SymbolLemmas
 pub mod SplitLemmas
 pub mod GroundedLemmas
 pub mod GroundedLemmasNames
-pub mod GroundedLemmasRules
 pub mod GroundedLemmasChain
 pub mod GroundedLemmasSplit
 pub mod GroundedLemmasSteps

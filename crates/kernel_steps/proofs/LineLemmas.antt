@@ -1,5 +1,5 @@
 -- Lines as parents, and the names that lines introduce.
-use Rattle.std.proofs.Common.{◌≡◌, ℕ, zero, suc, ◌<◌, Bool, true, false, ◌||◌, ◌==◌, List, [], ◌∷◌, ◌++◌, take, Option, Some, None, refl, ap, sym, ◌∙◌, arith, ⊎_elim}
+use Rattle.std.proofs.Common.{◌≡◌, ℕ, zero, suc, ◌<◌, Bool, true, false, ◌||◌, ◌==◌, List, [], ◌∷◌, ◌++◌, length, take, Option, Some, None, refl, ap, sym, ◌∙◌, arith, ⊎_elim}
 use Rattle.std.specs.Prelude.{slice_get, if◌then◌else◌}
 use Rattle.std.proofs.lemmas.Bool.{cond-true, cond-false, cases_Bool, or_left, or_right, eqb-true, eq-eqb, true≢false}
 use Rattle.std.proofs.lemmas.Option.{none-some, same_Some, option_and_then_some}
@@ -9,7 +9,7 @@ use Rattle.fol_base.specs.Literal.{clause_of}
 use Rattle.fol_base.proofs.TestLemmas.{if_some}
 use Rattle.kernel_steps.specs.Parents.{Parent}
 use Rattle.kernel_steps.specs.Split.{has_number}
-use Rattle.kernel_steps.specs.Derivation.{is_clause_step, introduces_name, line_parent, line_parents, is_component, is_component_of, component_clause}
+use Rattle.kernel_steps.specs.Derivation.{is_clause_step, introduces_name, line_parent, line_parents, is_component, is_component_of, component_clause, IsRefutation}
 use Rattle.kernel_steps.specs.declared.step.Step.{Step}
 use Rattle.kernel_steps.specs.declared.step.Step.TheVariants.{Component}
 use Rattle.kernel_steps.specs.declared.step.Line.{Line}
@@ -22,6 +22,14 @@ slice_get-take [] (suc n) k x at = absurd (none-some x at)
 slice_get-take (y ∷ ys) (suc n) zero x at = (omega arith, at)
 slice_get-take (y ∷ ys) (suc n) (suc k) x at =
     let rest = slice_get-take ys n k x at in let less : suc k < suc n = omega (arith, rest.0) in (less, rest.1)
+
+-- the last line
+pub slice_get-last : {X : Type 0} (xs : List X) (x : X) → slice_get (xs ++ x ∷ []) (length xs) ≡ Some x
+slice_get-last [] x = refl
+slice_get-last (y ∷ xs) x = slice_get-last xs x
+
+pub last-there : (form : List TreeClause) (lines : List Line) (r : IsRefutation form lines) → slice_get lines (length r.before) ≡ Some r.last
+last-there form lines r = ap (λ ls. slice_get ls (length r.before)) r.ends ∙ slice_get-last r.before r.last
 
 -- a parent among the first lines
 pub record ParentLine (lines : List Line) (n : ℕ) (k : ℕ) (p : Parent) : Type 0 where

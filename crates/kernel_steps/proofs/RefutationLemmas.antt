@@ -23,7 +23,8 @@ use Rattle.kernel_steps.specs.Conclusion.{empty_clause}
 use Rattle.kernel_steps.specs.Derivation.{component_clause, body, IsDerivation, IsRefutation}
 use Rattle.kernel_steps.specs.Soundness.{NameTruth, names_true, ground_clauses, bindings_of, IsUsable, chosen_literals, GroundLinesAreGrounded, RefutationsRefute, GroundRefutationsRefute, GroundRefutationsHerbrandRefute}
 use Rattle.kernel_steps.specs.declared.step.Line.{Line}
-use Rattle.kernel_steps.proofs.LineLemmas.{introduced, introduced-there}
+use Rattle.kernel_steps.proofs.GroundTrees.{literals_instance-ground}
+use Rattle.kernel_steps.proofs.LineLemmas.{last-there, introduced, introduced-there}
 use Rattle.kernel_steps.proofs.OverValues.{Within, HoldsOver, FailsOver, MeansOver, KeepsOver}
 use Rattle.kernel_steps.proofs.SoundLemmas.{Setting, lines-over, keeps-lines}
 
@@ -115,13 +116,6 @@ in_some_setting Value i some form lines within holds keeps never =
 
 -- ---- refutations
 
-pub slice_get-last : {X : Type 0} (xs : List X) (x : X) → slice_get (xs ++ x ∷ []) (length xs) ≡ Some x
-slice_get-last [] x = refl
-slice_get-last (y ∷ xs) x = slice_get-last xs x
-
-pub last-there : (form : List TreeClause) (lines : List Line) (r : IsRefutation form lines) → slice_get lines (length r.before) ≡ Some r.last
-last-there form lines r = ap (λ ls. slice_get ls (length r.before)) r.ends ∙ slice_get-last r.before r.last
-
 refutation-over :
     (Value : ℕ → Type 0) (i : Interpretation) (some : Assignment) (form : List TreeClause) (lines : List Line)
     → Within Value some → All (λ (c : TreeClause). HoldsOver Value i c.literals) form
@@ -181,26 +175,6 @@ pub ground_refutations_refute : GroundRefutationsRefute
 ground_refutations_refute p form lines ground r i ok =
     false_from_ne_true (clauses_true i (ground_clauses form)) λ all_true.
     refutation-over Any i no_values form lines (λ v. tt) (form-holds i form ground all_true) (λ n line at. keeps-any i (bindings_of line.step)) r
-
--- a ground tree has no instance but itself
-mutual
-  instance-ground : (σ : Substitution) (t : Tree) → is_ground t ≡ true → instance σ t ≡ t
-  instance-ground σ (variable v) h = absurd (true≢false (sym h))
-  instance-ground σ (application f ts) h = ap (application f) (instances-ground σ ts h)
-
-  instances-ground : (σ : Substitution) (ts : Trees) → are_ground ts ≡ true → instances σ ts ≡ ts
-  instances-ground σ no_trees h = refl
-  instances-ground σ (tree_then t ts) h =
-      let parts = and_parts (is_ground t) (are_ground ts) h in
-      ap₂ tree_then (instance-ground σ t parts.0) (instances-ground σ ts parts.1)
-
-literals_instance-ground : (σ : Substitution) (ls : List TreeLiteral) → is_ground_clause ls ≡ true → literals_instance σ ls ≡ ls
-literals_instance-ground σ [] h = refl
-literals_instance-ground σ (l ∷ ls) h =
-    let parts = and_parts (is_ground_literal l) (is_ground_clause ls) h in
-    let sides = and_parts (is_ground l.left) (is_ground l.right) parts.0 in
-    let made : Tree → Tree → TreeLiteral = λ (t u : Tree). record { positive = l.positive; left = t; right = u } in
-    ap₂ ◌∷◌ (ap₂ made (instance-ground σ l.left sides.0) (instance-ground σ l.right sides.1)) (literals_instance-ground σ ls parts.1)
 
 -- so the clauses of a ground form are ground instances of it
 form-instances :

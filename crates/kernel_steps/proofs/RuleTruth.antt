@@ -1,5 +1,5 @@
 -- The rules are sound: what they give is true where what they are given is.
-use Rattle.std.proofs.Common.{◌≡◌, ℕ, Bool, true, false, ◌==◌, List, ◌++◌, Some, ap, ap₂, sym, ◌∙◌, ⊎_elim}
+use Rattle.std.proofs.Common.{◌≡◌, ℕ, Bool, true, false, ◌==◌, List, ◌++◌, Some, refl, ap, ap₂, sym, ◌∙◌, ⊎_elim}
 use Rattle.std.specs.Prelude.{not, slice_set, remove}
 use Rattle.std.proofs.lemmas.Bool.{or_left, or_right, cases_Bool, eqb-true, eq-eqb, true≢false}
 use Rattle.std.proofs.lemmas.List.Folds.{list_any-append}
@@ -14,6 +14,7 @@ use Rattle.fol_base.specs.declared.clause.Side.TheVariants.{Left, Right}
 use Rattle.fol_base.proofs.MeaningLemmas.{congruence_of_values}
 use Rattle.fol_base.proofs.OrderLemmas.{equivalent_literals-decided}
 use Rattle.fol_base.proofs.RuleLemmas.{superposed_literal-parts, superposed-parts, resolved-parts, FactoredParts, factored-parts, merged-parts}
+use Rattle.kernel_steps.specs.Derivation.{complement}
 use Rattle.kernel_steps.specs.Soundness.{ParaIsSound, ReflIsSound, FactorIsSound, MergeIsSound}
 use Rattle.kernel_steps.proofs.ItemLemmas.{list_any-remove, list_any-remove_other, list_any-set, list_any-set_passing, list_any-set_other}
 
@@ -86,6 +87,19 @@ equivalent-truth i ρ l k same holds =
     ap₂ (sides_true k.positive) (ap value crossed.0) (ap value crossed.1)
     ∙ sides_true-swap k.positive (value k.left) (value k.right) holds)
     is.1
+
+-- one of a literal and its complement is true
+pub complement-truth :
+    (i : Interpretation) (ρ : Assignment) (l : TreeLiteral) → literal_true_under i ρ (complement l) ≡ not (literal_true_under i ρ l)
+complement-truth i ρ l = turned l.positive (tree_value i ρ l.left) (tree_value i ρ l.right)
+  where
+    not-not : (b : Bool) → b ≡ not (not b)
+    not-not true = refl
+    not-not false = refl
+
+    turned : (p : Bool) (v w : ℕ) → sides_true (not p) v w ≡ not (sides_true p v w)
+    turned true v w = refl
+    turned false v w = not-not (v == w)
 
 -- ---- rules
 

@@ -23,6 +23,7 @@ use Rattle.kernel_steps.specs.declared.step.Step.{Step}
 use Rattle.kernel_steps.specs.declared.step.Step.TheVariants.{Input, Negate, Clausify, Para, Refl, Factor, Merge, Component, Opposite, Split, Chain}
 use Rattle.kernel_steps.specs.declared.step.Line.{Line}
 use Rattle.kernel_steps.proofs.ItemLemmas.{Contains-item, get_or-passes}
+use Rattle.kernel_steps.proofs.RuleTruth.{complement-truth}
 use Rattle.kernel_steps.proofs.LineLemmas.{ParentLine, parent_line, component_clause-at, component_clause-earlier}
 use Rattle.kernel_steps.proofs.OverValues.{Within, HoldsOver, FailsOver, MeansOver, ClauseOver, KeepsOver}
 use Rattle.kernel_steps.proofs.StepTruth.{DefinesOver, ParentsOver, verdict-over}
@@ -70,18 +71,6 @@ ground_truth i ρ π l ground =
     or-false : (b : Bool) → b ≡ (b || false)
     or-false true = refl
     or-false false = refl
-
-complement-truth :
-    (i : Interpretation) (ρ : Assignment) (l : TreeLiteral) → literal_true_under i ρ (complement l) ≡ not (literal_true_under i ρ l)
-complement-truth i ρ l = turned l.positive (tree_value i ρ l.left) (tree_value i ρ l.right)
-  where
-    not-not : (b : Bool) → b ≡ not (not b)
-    not-not true = refl
-    not-not false = refl
-
-    turned : (p : Bool) (v w : ℕ) → sides_true (not p) v w ≡ not (sides_true p v w)
-    turned true v w = refl
-    turned false v w = not-not (v == w)
 
 or-last : (b : Bool) → (b || false) ≡ b
 or-last true = refl

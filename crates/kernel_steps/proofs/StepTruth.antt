@@ -22,10 +22,10 @@ use Rattle.kernel_steps.specs.Conclusion.{bound_literals, clause_with, by_one, b
 use Rattle.kernel_steps.specs.Soundness.{NameTruth, names_true, bindings_of}
 use Rattle.kernel_steps.specs.declared.step.Step.{Step}
 use Rattle.kernel_steps.specs.declared.step.Step.TheVariants.{Input, Negate, Clausify, Para, Refl, Factor, Merge, Component, Opposite, Split, Chain}
-use Rattle.kernel_steps.proofs.VerdictParts.{OneParts, by_one-parts, TwoParts, by_two-parts, SplitParts, split-parts, ChainParts, chain-parts}
+use Rattle.kernel_steps.proofs.VerdictParts.{OneParts, by_one-parts, TwoParts, by_two-parts, SplitParts, split-parts, ChainParts, chain-parts, all_there-each}
 use Rattle.kernel_steps.proofs.NameTruth.{name_true, list_any-sorted_names, chain_is_sound}
 use Rattle.kernel_steps.proofs.RuleTruth.{para_is_sound, refl_is_sound, factor_is_sound, merge_is_sound}
-use Rattle.kernel_steps.proofs.SplitTests.{some_part-passes, literals_eq-says, list_all-none}
+use Rattle.kernel_steps.proofs.SplitTests.{some_part-passes, literals_eq-says, list_all-none, no_items, is_split-says}
 use Rattle.kernel_steps.proofs.OverValues.{Within, FailsOver, ClauseOver, KeepsOver, bound-over, EachFails, fail_together}
 
 -- where a definition's name stands for false, its literals fail
@@ -125,16 +125,6 @@ parts-fail Value i truth (p ∷ ps) (ls ∷ lss) over defined no_name =
     ∙ no_name) in
     (part-fails Value i truth p ls over.0 both.0 none.0, parts-fail Value i truth ps lss over.1 both.1 none.1)
 
--- what holds of each parent holds of those of a list that are there
-all_there-each :
-    (P : Parent → Type 0) (parents : Parents) (numbers : List ℕ) (ps : List Parent)
-    → ((n : ℕ) (p : Parent) → parents n ≡ Some p → P p) → all_there (map parents numbers) ≡ Some ps → AllByRecursion P ps
-all_there-each P parents [] ps each h = subst (AllByRecursion P) (same_Some [] ps h) tt
-all_there-each P parents (n ∷ numbers) ps each h =
-    option_and_then_some (λ p. option_map (λ qs. p ∷ qs) (all_there (map parents numbers))) (parents n) ps h λ p p_is p_step.
-    option_map-some (λ qs. p ∷ qs) (all_there (map parents numbers)) ps p_step λ qs qs_is gives.
-    subst (AllByRecursion P) gives (each n p p_is, all_there-each P parents numbers qs each qs_is)
-
 split-over :
     (Value : ℕ → Type 0) (i : Interpretation) (truth : NameTruth) (some : Assignment) (parents : Parents) (n : ℕ) (definitions : List ℕ)
     (parts : List (List ℕ)) (c : TreeClause)
@@ -145,34 +135,27 @@ split-over Value i truth some parents n definitions parts c some_within over h �
     let ls : List TreeLiteral = p.source.clause.literals in
     let lss : List (List TreeLiteral) = map (literals_at ls) parts in
     let opposites : List NameLit = map opposite (flat_map (λ (d : Parent). d.clause.names) p.defined) in
-    let tests = and_parts (not (length parts == 0)) _ p.is_one in
-    let rising = and_parts (list_all is_part parts) _ tests.1 in
-    let shared = and_parts (share_out (length ls) parts) _ rising.1 in
-    let apart = and_parts (share_no_variables lss) (define_all p.defined lss) shared.1 in
+    let says = is_split-says ls p.defined parts p.is_one in
     with_names-over i truth ρ (p.source.clause.names ++ opposites) [] c p.gives λ no_name.
     let both =
     or_parts (names_true truth p.source.clause.names) (names_true truth opposites)
     (sym (list_any-append (name_true truth) p.source.clause.names opposites) ∙ no_name) in
     let fail =
-    fail_together Value i some some_within lss apart.0
+    fail_together Value i some some_within lss says.apart
     (parts-fail Value i truth p.defined lss
     (all_there-each (DefinesOver Value i truth) parents definitions p.defined (λ k q there. (over k q there).1) p.definitions_there)
-    apart.1 both.1) in
+    says.defined both.1) in
     absurd
     (true≢false
     (⊎_elim
     (λ holds.
-    sym (some_part-passes (literal_true_under i fail.values) ls parts shared.0 holds)
+    sym (some_part-passes (literal_true_under i fail.values) ls parts says.shared_out holds)
     ∙ list_all-none (λ ks. literals_true_under i fail.values ks) lss fail.are_false)
     (λ name. sym name ∙ both.0)
     (or_cases (literals_true_under i fail.values ls) (names_true truth p.source.clause.names)
     ((over n p.source p.there).0 fail.values fail.within))))
 
 -- ---- chains
-
-no_literals : {X : Type 0} (xs : List X) → eqb (length xs) 0 ≡ true → xs ≡ []
-no_literals [] h = refl
-no_literals (x ∷ xs) h = absurd (omega (arith, eqb-true (length (x ∷ xs)) 0 h))
 
 names_at-true :
     (Value : ℕ → Type 0) (i : Interpretation) (truth : NameTruth) (parents : Parents) (ρ : Assignment) (n : ℕ) (names : List NameLit)
@@ -181,7 +164,7 @@ names_at-true Value i truth parents ρ n names over within h =
     option_and_then_some names_alone (parents n) names h λ p p_is alone.
     let tests = if_some (length p.clause.literals == 0) (Some p.clause.names) names alone in
     ap (names_true truth) (sym (same_Some p.clause.names names tests.1))
-    ∙ ap (λ ls. literals_true_under i ρ ls || names_true truth p.clause.names) (sym (no_literals p.clause.literals tests.0))
+    ∙ ap (λ ls. literals_true_under i ρ ls || names_true truth p.clause.names) (sym (no_items p.clause.literals tests.0))
     ∙ (over n p p_is).0 ρ within
 
 chain-true :

@@ -1,6 +1,7 @@
 -- Verdicts taken apart: what holds where a step has a conclusion.
-use Rattle.std.proofs.Common.{◌≡◌, ℕ, Bool, true, false, ◌&&◌, List, [], ◌∷◌, ◌++◌, map, Option, Some, None, refl, ap, sym, ◌∙◌}
+use Rattle.std.proofs.Common.{◌≡◌, ℕ, Bool, true, false, ◌&&◌, List, [], ◌∷◌, ◌++◌, map, Option, Some, None, refl, ap, sym, ◌∙◌, subst}
 use Rattle.std.specs.Prelude.{option_map, option_and_then, flat_map, if◌then◌else◌}
+use Rattle.std.specs.List.{AllByRecursion}
 use Rattle.std.proofs.lemmas.Bool.{and_parts}
 use Rattle.std.proofs.lemmas.Option.{option_and_then_some, none-some, same_Some}
 use Rattle.plain_types.specs.declared.sequence.NameLit.{NameLit}
@@ -84,17 +85,15 @@ by_two-parts (Some p) first_bind (Some q) second_bind rule c h =
 
 -- ---- splits and chains
 
--- each value of a list that is there as a whole is there
-pub all_there-map :
-    {X Y : Type 0} (look : X → Option Y) (xs : List X) (ys : List Y)
-    → all_there (map look xs) ≡ Some ys → map look xs ≡ map (λ y. let o : Option Y = Some y in o) ys
-all_there-map look [] ys h = ap (map (λ y. Some y)) (same_Some [] ys h)
-all_there-map look (x ∷ xs) ys h =
-    option_and_then_some (λ y. option_map (λ zs. y ∷ zs) (all_there (map look xs))) (look x) ys h λ y y_is y_step.
-    option_map-some (λ zs. y ∷ zs) (all_there (map look xs)) ys y_step λ zs zs_is gives.
-    ap (λ o. o ∷ map look xs) y_is
-    ∙ ap (λ os. Some y ∷ os) (all_there-map look xs zs zs_is)
-    ∙ ap (map (λ z. Some z)) gives
+-- what holds of each value that can be looked up holds of those of a list that are there
+pub all_there-each :
+    {X N : Type 0} (P : X → Type 0) (look : N → Option X) (ns : List N) (xs : List X)
+    → ((n : N) (x : X) → look n ≡ Some x → P x) → all_there (map look ns) ≡ Some xs → AllByRecursion P xs
+all_there-each P look [] xs each h = subst (AllByRecursion P) (same_Some [] xs h) tt
+all_there-each P look (n ∷ ns) xs each h =
+    option_and_then_some (λ x. option_map (λ ys. x ∷ ys) (all_there (map look ns))) (look n) xs h λ x x_is x_step.
+    option_map-some (λ ys. x ∷ ys) (all_there (map look ns)) xs x_step λ ys ys_is gives.
+    subst (AllByRecursion P) gives (each n x x_is, all_there-each P look ns ys each ys_is)
 
 pub record SplitParts (parent : Option Parent) (definitions : List (Option Parent)) (parts : List (List ℕ)) (c : TreeClause) : Type 0 where
   pub source : Parent
