@@ -1,6 +1,6 @@
 -- What is no refutation, and which forms are Herbrand-refuted.
-use Rattle.std.proofs.Common.{◌≡◌, ℕ, zero, suc, ◌<◌, Bool, true, false, ◌&&◌, ◌||◌, List, [], ◌∷◌, ◌++◌, length, take, get_or, Some, refl, ap, sym, ◌∙◌, subst, arith}
-use Rattle.std.specs.Prelude.{not, slice_get, Contains, IsTrue}
+use Rattle.std.proofs.Common.{◌≡◌, ℕ, zero, suc, ◌<◌, Bool, true, false, ◌&&◌, ◌||◌, List, [], ◌∷◌, length, take, get_or, refl, ap, sym, ◌∙◌, subst, arith}
+use Rattle.std.specs.Prelude.{not, slice_get, Contains}
 use Rattle.std.proofs.lemmas.Bool.{true≢false}
 use Rattle.std.proofs.lemmas.Option.{none-some, same_Some}
 use Rattle.std.proofs.lemmas.List.{length_push}
@@ -12,7 +12,7 @@ use Rattle.fol_base.specs.Ground.{GroundClause, literals_instance}
 use Rattle.fol_base.specs.Interpretation.{literal_true, clause_true}
 use Rattle.fol_base.specs.Covered.{InstanceOf}
 use Rattle.fol_base.specs.Literal.{clause_of}
-use Rattle.fol_base.specs.Examples.{x, a, b, p, clause, is_predicate, functions, all_a, p_of_a_alone}
+use Rattle.fol_base.specs.Examples.{x, a, p, clause, functions, all_a, p_of_a_alone}
 use Rattle.fol_base.specs.declared.clause.Side.TheVariants.{Left}
 use Rattle.kernel_steps.specs.Conclusion.{empty_clause, rule_fault, concludes}
 use Rattle.kernel_steps.specs.Derivation.{IsRefutation}

@@ -1,28 +1,27 @@
 -- The lines of a derivation are grounded, so a form that has a refutation is Herbrand-refuted.
-use Rattle.std.proofs.Common.{◌≡◌, ℕ, zero, suc, ◌<◌, inl, inr, Bool, true, false, ◌==◌, List, [], ◌∷◌, ◌++◌, length, take, Option, Some, None, refl, ap, sym, ◌∙◌, subst, arith, ⊎_elim}
+use Rattle.std.proofs.Common.{◌≡◌, ℕ, zero, suc, ◌<◌, inl, inr, Bool, true, false, ◌==◌, List, [], ◌∷◌, length, take, Some, refl, ap, sym, ◌∙◌, subst, arith, ⊎_elim}
 use Rattle.std.specs.Prelude.{slice_get, unwrap_or, Contains}
 use Rattle.std.specs.List.{list_all}
-use Rattle.std.proofs.lemmas.Bool.{and_parts, or_left, cases_Bool, eq-eqb, false≢true, cond-true, cond-false, false_from_ne_true}
-use Rattle.std.proofs.lemmas.Option.{none-some, same_Some, slice_get_within, get_or_from_slice_get, option_and_then_some}
+use Rattle.std.proofs.lemmas.Bool.{or_left, eq-eqb, false≢true, false_from_ne_true}
 use Rattle.plain_types.specs.Names.{has_name}
 use Rattle.fol_base.specs.Tree.{Tree}
 use Rattle.fol_base.specs.Clause.{TreeClause}
 use Rattle.fol_base.specs.Literal.{clause_of}
-use Rattle.fol_base.specs.Ground.{ground_over, is_ground, is_over, GroundInstance, literals_instance}
+use Rattle.fol_base.specs.Ground.{ground_over, is_over, GroundInstance, literals_instance}
 use Rattle.fol_base.specs.Symbols.{FunctionSymbols}
 use Rattle.fol_base.specs.Interpretation.{clause_true, clauses_true}
 use Rattle.fol_base.proofs.MeaningLemmas.{constants_give_ground_trees}
-use Rattle.fol_base.proofs.TestLemmas.{list_all-item, if_some}
+use Rattle.fol_base.proofs.TestLemmas.{list_all-item}
 use Rattle.kernel_steps.specs.Parents.{Parent}
 use Rattle.kernel_steps.specs.Conclusion.{empty_clause}
-use Rattle.kernel_steps.specs.Derivation.{is_clause_step, introduces_name, line_parent, line_parents, negative_of, positive_of, is_component_of, component_clause, body, complement, ComesBy, IsDerivation}
+use Rattle.kernel_steps.specs.Derivation.{is_clause_step, introduces_name, line_parents, negative_of, positive_of, is_component_of, component_clause, body, complement, ComesBy, IsDerivation}
 use Rattle.kernel_steps.specs.Soundness.{bindings_of, binds_each, BindsOver, IsUsable, Grounds, IsGrounded, LinesAreGrounded, RefutationsHerbrandRefute}
 use Rattle.kernel_steps.specs.declared.step.Step.{Step}
 use Rattle.kernel_steps.specs.declared.step.Step.TheVariants.{Input, Negate, Clausify, Component, Opposite}
 use Rattle.kernel_steps.specs.declared.step.Line.{Line}
 use Rattle.kernel_steps.proofs.ItemLemmas.{Contains-item}
 use Rattle.kernel_steps.proofs.GroundTrees.{one_literal-ground}
-use Rattle.kernel_steps.proofs.LineLemmas.{ParentLine, parent_line, last-there, component_clause-at, component_clause-earlier}
+use Rattle.kernel_steps.proofs.LineLemmas.{parent_line, last-there, component_clause-at, component_clause-earlier}
 use Rattle.kernel_steps.proofs.GroundedLemmas.{Supports-always, Supports-instance, Supports-then, Supports-more, Supports-grounded, Grounds-supported}
 use Rattle.kernel_steps.proofs.GroundedLemmasNames.{list_any-name, chosen_name_true}
 use Rattle.kernel_steps.proofs.GroundedLemmasSplit.{DefinesName, complement-or}

@@ -1,9 +1,9 @@
 -- Lists of names, and the choices of ground instances for the positive ones.
 use mathlib.Core.Bool.{beq}
-use Rattle.std.proofs.Common.{◌≡◌, ℕ, inl, inr, Bool, true, false, ◌&&◌, ◌||◌, ◌==◌, List, [], ◌∷◌, ◌++◌, refl, ap, ap₂, sym, ◌∙◌, ⊎_elim}
+use Rattle.std.proofs.Common.{◌≡◌, ℕ, inl, inr, Bool, true, false, ◌&&◌, ◌||◌, ◌==◌, List, [], ◌∷◌, ◌++◌, refl, ap, sym, ◌∙◌, ⊎_elim}
 use Rattle.std.specs.Prelude.{not, if◌then◌else◌}
 use Rattle.std.specs.List.{list_any}
-use Rattle.std.proofs.lemmas.Bool.{and_parts, and_from, or_cases, or_left, or_right, eqb-true, eq-eqb, false≢true, not_from_false, cond_both, cond-true}
+use Rattle.std.proofs.lemmas.Bool.{and_from, or_cases, or_left, or_right, eq-eqb, false≢true, not_from_false, cond_both, cond-true}
 use Rattle.std.proofs.lemmas.List.Folds.{list_any-append}
 use Rattle.plain_types.specs.declared.sequence.NameLit.{NameLit}
 use Rattle.plain_types.specs.Names.{same_name, opposite, has_name, without, resolvent}
@@ -11,7 +11,7 @@ use Rattle.fol_base.specs.Clause.{TreeClause}
 use Rattle.fol_base.specs.Ground.{GroundClause}
 use Rattle.fol_base.specs.Symbols.{FunctionSymbols}
 use Rattle.fol_base.specs.Interpretation.{Interpretation, literal_true_under, no_values, clause_true}
-use Rattle.kernel_steps.specs.Names.{name_before, with_name, with_names, sorted_names}
+use Rattle.kernel_steps.specs.Names.{sorted_names}
 use Rattle.kernel_steps.specs.Derivation.{negative_of, positive_of}
 use Rattle.kernel_steps.proofs.NameTruth.{same_name-says, has_name-sorted_names}
 use Rattle.kernel_steps.specs.Soundness.{IsUsable, IsChoice, chosen_literals}

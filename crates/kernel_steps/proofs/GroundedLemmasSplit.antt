@@ -1,26 +1,21 @@
 -- A clause that is split is grounded: ground instances of its parts, chosen for the positive names of the definitions, are together
 -- an instance of the parent, since no two parts share a variable.
-use mathlib.Core.Bool.{beq}
-use Rattle.std.proofs.Common.{◌≡◌, ℕ, zero, suc, ◌<◌, ◌⊎◌, inl, inr, Bool, true, false, ◌&&◌, ◌||◌, ◌==◌, List, [], ◌∷◌, ◌++◌, map, length, Option, Some, None, refl, ap, sym, ◌∙◌, subst, arith, ⊎_elim}
-use Rattle.std.specs.Prelude.{not, flat_map, slice_get, if◌then◌else◌}
-use Rattle.std.specs.List.{list_any, list_all, cons_option, AllByRecursion}
-use Rattle.std.proofs.lemmas.Bool.{and_parts, or_cases, or_left, or_right, both_ways, not-true, cases_Bool, eqb-true, eqb-false, eq-eqb, false≢true, false_from_ne_true, cond_both, cond-true, cond-false}
-use Rattle.std.proofs.lemmas.Option.{slice_get_within}
+use Rattle.std.proofs.Common.{◌≡◌, ℕ, ◌⊎◌, inl, inr, Bool, true, false, ◌||◌, ◌==◌, List, [], ◌∷◌, ◌++◌, map, refl, ap, sym, ◌∙◌, subst, ⊎_elim}
+use Rattle.std.specs.Prelude.{not, flat_map, if◌then◌else◌}
+use Rattle.std.specs.List.{list_all, AllByRecursion}
+use Rattle.std.proofs.lemmas.Bool.{and_parts, or_left, or_right, cases_Bool, eq-eqb, false≢true, cond_both, cond-true, cond-false}
 use Rattle.std.proofs.lemmas.List.{map-append}
-use Rattle.std.proofs.lemmas.List.Folds.{list_any-append}
 use Rattle.plain_types.specs.declared.sequence.NameLit.{NameLit}
 use Rattle.plain_types.specs.Names.{opposite, has_name}
-use Rattle.fol_base.specs.Tree.{Tree, variable, application, Trees, no_trees, tree_then, tree_eq}
-use Rattle.fol_base.specs.Instance.{Substitution, instance, instances}
-use Rattle.fol_base.specs.Clause.{TreeLiteral, TreeClause, literal_eq, literals_eq, literal_variables}
-use Rattle.fol_base.specs.Ground.{is_ground, are_ground, ground_over, IsGroundOver, GroundClause, GroundInstance, is_ground_literal, literals_instance}
+use Rattle.fol_base.specs.Instance.{Substitution}
+use Rattle.fol_base.specs.Clause.{TreeLiteral, TreeClause, literals_eq, literal_variables}
+use Rattle.fol_base.specs.Ground.{ground_over, IsGroundOver, GroundClause, GroundInstance, is_ground_literal, literals_instance}
 use Rattle.fol_base.specs.Symbols.{FunctionSymbols}
-use Rattle.fol_base.specs.Interpretation.{Interpretation, tree_value, sides_true, literal_true_under, no_values, clause_true}
-use Rattle.fol_base.proofs.TreeLemmas.{tree_eq-true}
+use Rattle.fol_base.specs.Interpretation.{Interpretation, literal_true_under, no_values, clause_true}
 use Rattle.fol_base.proofs.InstanceLemmas.{Agree, literals-agree}
 use Rattle.fol_base.proofs.GroundInstanceLemmas.{ground_instances_of_canonical}
 use Rattle.kernel_steps.specs.Parents.{Parent}
-use Rattle.kernel_steps.specs.Split.{has_number, has_all_below, literals_at, share_variable, share_no_variables, canonical_literals, defines, define_all}
+use Rattle.kernel_steps.specs.Split.{has_number, share_variable, share_no_variables, canonical_literals, defines, define_all}
 use Rattle.kernel_steps.specs.Derivation.{negative_of, positive_of, complement}
 use Rattle.kernel_steps.specs.Soundness.{IsUsable, IsChoice}
 use Rattle.kernel_steps.proofs.GroundTrees.{one_literal-ground}

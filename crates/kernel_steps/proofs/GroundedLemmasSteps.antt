@@ -1,9 +1,9 @@
 -- What a rule concludes from grounded clauses is grounded, for each kind of step that has parents.
-use Rattle.std.proofs.Common.{◌≡◌, ℕ, zero, suc, ◌⊎◌, inl, inr, Bool, true, false, ◌&&◌, ◌==◌, List, [], ◌∷◌, ◌++◌, map, length, get_or, Option, Some, None, refl, ap, sym, ◌∙◌, subst, arith, ⊎_elim}
-use Rattle.std.specs.Prelude.{not, flat_map, option_map, option_and_then}
+use Rattle.std.proofs.Common.{◌≡◌, ℕ, ◌⊎◌, inl, inr, Bool, true, ◌&&◌, ◌==◌, List, [], ◌∷◌, ◌++◌, map, length, get_or, Option, Some, refl, ap, sym, ◌∙◌, subst, ⊎_elim}
+use Rattle.std.specs.Prelude.{flat_map}
 use Rattle.std.specs.List.{list_any, list_all, AllByRecursion}
-use Rattle.std.proofs.lemmas.Bool.{and_parts, or_cases, or_left, or_right, eqb-true, false≢true}
-use Rattle.std.proofs.lemmas.Option.{none-some, same_Some, option_and_then_some}
+use Rattle.std.proofs.lemmas.Bool.{and_parts, or_cases, or_left, or_right, false≢true}
+use Rattle.std.proofs.lemmas.Option.{same_Some, option_and_then_some}
 use Rattle.std.proofs.lemmas.List.Folds.{list_any-append}
 use Rattle.plain_types.specs.declared.sequence.NameLit.{NameLit}
 use Rattle.plain_types.specs.Names.{opposite}
@@ -16,11 +16,11 @@ use Rattle.fol_base.specs.Interpretation.{Interpretation, Assignment, tree_value
 use Rattle.fol_base.specs.Rules.{superposed, resolved, factored, merged}
 use Rattle.fol_base.proofs.MeaningLemmas.{truth_of_instances}
 use Rattle.fol_base.proofs.GroundInstanceLemmas.{ground_instances_of_instances}
-use Rattle.fol_base.proofs.TestLemmas.{list_any-map, list_any-agree, option_map-some, if_some}
+use Rattle.fol_base.proofs.TestLemmas.{list_any-map, list_any-agree, if_some}
 use Rattle.kernel_steps.specs.Names.{sorted_names, chained}
-use Rattle.kernel_steps.specs.Parents.{Parent, Parents, all_there}
-use Rattle.kernel_steps.specs.Split.{share_out, has_all_below, literals_at, share_no_variables, define_all, is_part, is_split}
-use Rattle.kernel_steps.specs.Conclusion.{bound_literals, binds_parent, Verdict, binding_fault, rule_fault, concludes, verdict_of, verdict_if, clause_with, by_one, by_two, split_from, names_alone, names_at, clause_of_names, verdict}
+use Rattle.kernel_steps.specs.Parents.{Parent, Parents}
+use Rattle.kernel_steps.specs.Split.{share_out, literals_at}
+use Rattle.kernel_steps.specs.Conclusion.{bound_literals, concludes, clause_with, by_one, by_two, names_alone, names_at, clause_of_names, verdict}
 use Rattle.kernel_steps.specs.Derivation.{negative_of}
 use Rattle.kernel_steps.specs.Soundness.{bindings_of, IsUsable, IsChoice, chosen_literals, IsGrounded}
 use Rattle.kernel_steps.specs.declared.step.Step.{Step}

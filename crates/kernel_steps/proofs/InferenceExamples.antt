@@ -1,10 +1,9 @@
 -- The worked inferences, by most general unifiers.
-use Rattle.std.proofs.Common.{◌≡◌, ℕ, zero, suc, List, [], ◌∷◌, refl, sym, ap, inl}
-use Rattle.std.specs.Prelude.{Some}
+use Rattle.std.proofs.Common.{◌≡◌, ℕ, zero, suc, [], ◌∷◌, refl, sym, ap, inl}
 use Rattle.std.proofs.lemmas.Bool.{true≢false}
 use Rattle.fol_base.specs.Tree.{Tree, variable, application, tree_then}
 use Rattle.fol_base.specs.Instance.{Substitution, instance}
-use Rattle.fol_base.specs.Unifier.{IsUnifier, IsUnifierApart, IsMostGeneralUnifier, IsMostGeneralUnifierApart}
+use Rattle.fol_base.specs.Unifier.{IsUnifierApart, IsMostGeneralUnifier, IsMostGeneralUnifierApart}
 use Rattle.fol_base.specs.Selection.{select_nothing, select_negative}
 use Rattle.fol_base.specs.Examples.{x, a, p, q, disequation, clause, is_predicate, even, odd, first_is, first_is_a}
 use Rattle.fol_base.specs.declared.clause.Side.TheVariants.{Left}

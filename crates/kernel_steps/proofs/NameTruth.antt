@@ -1,7 +1,7 @@
 -- Tests of sorted lists of names, and the soundness of resolution on names.
-use Rattle.std.proofs.Common.{◌≡◌, ℕ, Bool, true, false, ◌||◌, ◌&&◌, ◌==◌, List, [], ◌∷◌, ◌++◌, map, Some, None, refl, ap, ap₂, sym, ◌∙◌, ⊎_elim}
+use Rattle.std.proofs.Common.{◌≡◌, ℕ, Bool, true, false, ◌||◌, ◌==◌, List, [], ◌∷◌, Some, refl, ap, ap₂, sym, ◌∙◌, ⊎_elim}
 use mathlib.Core.Bool.{beq}
-use Rattle.std.specs.Prelude.{not, filter, if◌then◌else◌}
+use Rattle.std.specs.Prelude.{not, if◌then◌else◌}
 use Rattle.std.specs.List.{list_any, list_all}
 use Rattle.std.proofs.lemmas.Bool.{and_parts, or_cases, or_left, or_right, cases_Bool, eqb-true, true≢false}
 use Rattle.std.proofs.lemmas.Option.{none-some, same_Some}
@@ -9,7 +9,7 @@ use Rattle.std.proofs.lemmas.List.Folds.{list_any-append}
 use Rattle.fol_base.proofs.TestLemmas.{if_some}
 use Rattle.plain_types.specs.declared.sequence.NameLit.{NameLit}
 use Rattle.plain_types.specs.Names.{same_name, opposite, has_name, without, can_resolve, resolvent}
-use Rattle.kernel_steps.specs.Names.{name_before, with_name, with_names, sorted_names, chained_from, chained}
+use Rattle.kernel_steps.specs.Names.{name_before, with_name, with_names, sorted_names, chained_from}
 use Rattle.kernel_steps.specs.Soundness.{NameTruth, names_true, ChainIsSound}
 
 -- ---- sorted lists have the names of the list

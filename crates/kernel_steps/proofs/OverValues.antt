@@ -1,14 +1,12 @@
 -- Truth of clauses under all assignments of certain numbers: of the values of an interpretation, or of all numbers.
-use Rattle.std.proofs.Common.{◌≡◌, ℕ, ◌<◌, Bool, true, false, ◌&&◌, ◌||◌, ◌==◌, List, [], ◌∷◌, ◌++◌, get_or, map, cond, refl, ap, ap₂, sym, ◌∙◌, subst, ⊎_elim, arith, inl, inr}
-use Rattle.std.specs.Prelude.{not, flat_map, slice_index_or, ◌⊎◌, if◌then◌else◌}
-use Rattle.std.specs.List.{list_any, list_all}
-use Rattle.std.proofs.lemmas.Bool.{and_parts, and_from, or_cases, or_left, or_right, not-true, not_from_false, cond-true, cond-false, cond_both, eq-eqb, true≢false}
+use Rattle.std.proofs.Common.{◌≡◌, ℕ, Bool, true, false, ◌||◌, ◌==◌, List, [], ◌∷◌, refl, ap, ap₂, sym, ◌∙◌, ⊎_elim}
+use Rattle.std.specs.Prelude.{not, flat_map, if◌then◌else◌}
+use Rattle.std.specs.List.{list_all}
+use Rattle.std.proofs.lemmas.Bool.{and_parts, and_from, or_cases, or_left, or_right, not_from_false, cond-true, cond-false, cond_both, eq-eqb, true≢false}
 use Rattle.std.proofs.lemmas.List.Folds.{list_any-append}
-use Rattle.plain_types.specs.declared.sequence.NameLit.{NameLit}
 use Rattle.fol_base.specs.Tree.{Tree, variable, application, Trees, no_trees, tree_then, tree_variables, trees_variables}
-use Rattle.fol_base.specs.Instance.{Substitution, substitution, instance}
+use Rattle.fol_base.specs.Instance.{substitution}
 use Rattle.fol_base.specs.Clause.{TreeLiteral, TreeClause, literal_variables}
-use Rattle.fol_base.specs.Ground.{literals_instance}
 use Rattle.fol_base.specs.Interpretation.{Interpretation, Assignment, symbol_value, tree_value, trees_values, sides_true, literal_true_under, literals_true_under}
 use Rattle.fol_base.proofs.MeaningLemmas.{truth_of_instances}
 use Rattle.kernel_steps.specs.Split.{has_number, share_variable, share_no_variables}

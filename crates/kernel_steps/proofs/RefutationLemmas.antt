@@ -1,5 +1,5 @@
 -- Refutations refute. What a name stands for needn't be decided: from a contradiction for each way in which it may stand one follows.
-use Rattle.std.proofs.Common.{◌≡◌, ℕ, ◌<◌, Bool, true, false, ◌&&◌, ◌||◌, ◌==◌, List, [], ◌∷◌, ◌++◌, length, get_or, Option, Some, None, refl, ap, ap₂, sym, ◌∙◌, subst, inl, inr, ⊎_elim}
+use Rattle.std.proofs.Common.{◌≡◌, ℕ, ◌<◌, Bool, true, false, ◌&&◌, ◌||◌, ◌==◌, List, [], ◌∷◌, ◌++◌, length, get_or, Option, Some, None, refl, ap, sym, ◌∙◌, subst, inl, inr, ⊎_elim}
 use Rattle.std.specs.Prelude.{◌⊎◌, not, slice_get, All, Contains, unwrap_or, if◌then◌else◌}
 use Rattle.std.specs.List.{list_all, AllByRecursion}
 use Rattle.std.proofs.lemmas.Bool.{and_parts, and_from, or_cases, cases_Bool, cond-true, cond-false, eqb-true, true≢false, false_from_ne_true, true_from_ne_false}
@@ -7,12 +7,11 @@ use Rattle.std.proofs.lemmas.List.{append-nil}
 use Rattle.std.proofs.lemmas.List.Folds.{list_all-map}
 use Rattle.std.proofs.lemmas.List.Elements.{All-map, Contains-get_or}
 use Rattle.std.proofs.lemmas.List.Sums.{AllPass-from_list_all}
-use Rattle.fol_base.specs.Tree.{Tree, variable, application, Trees, no_trees, tree_then, true_tree, is_truth}
-use Rattle.fol_base.specs.Instance.{Substitution, instance, instances}
+use Rattle.fol_base.specs.Tree.{Tree, variable, application, true_tree, is_truth}
 use Rattle.fol_base.specs.Clause.{TreeLiteral, TreeClause}
 use Rattle.fol_base.specs.Literal.{clause_of}
 use Rattle.fol_base.specs.Symbols.{FunctionSymbols}
-use Rattle.fol_base.specs.Ground.{has_constant, ground_over, is_ground, are_ground, is_ground_literal, is_ground_clause, literals_instance}
+use Rattle.fol_base.specs.Ground.{has_constant, ground_over, is_ground, are_ground, is_ground_literal, is_ground_clause}
 use Rattle.fol_base.specs.GroundForm.{is_ground_atom, is_atom_literal, IsGroundClause, IsGroundForm}
 use Rattle.fol_base.specs.Interpretation.{Interpretation, Assignment, tree_value, no_values, literals_true_under, clause_true, clauses_true}
 use Rattle.fol_base.specs.Covered.{InstanceOf}
@@ -20,7 +19,7 @@ use Rattle.fol_base.proofs.MeaningLemmas.{constants_give_ground_trees, truth_of_
 use Rattle.fol_base.proofs.TreeLemmas.{tree_eq-true}
 use Rattle.kernel_steps.specs.Split.{has_number}
 use Rattle.kernel_steps.specs.Conclusion.{empty_clause}
-use Rattle.kernel_steps.specs.Derivation.{component_clause, body, IsDerivation, IsRefutation}
+use Rattle.kernel_steps.specs.Derivation.{component_clause, body, IsRefutation}
 use Rattle.kernel_steps.specs.Soundness.{NameTruth, names_true, ground_clauses, bindings_of, IsUsable, chosen_literals, GroundLinesAreGrounded, RefutationsRefute, GroundRefutationsRefute, GroundRefutationsHerbrandRefute}
 use Rattle.kernel_steps.specs.declared.step.Line.{Line}
 use Rattle.kernel_steps.proofs.GroundTrees.{literals_instance-ground}

@@ -1,5 +1,5 @@
 -- The rules are sound: what they give is true where what they are given is.
-use Rattle.std.proofs.Common.{◌≡◌, ℕ, Bool, true, false, ◌==◌, List, ◌++◌, Some, refl, ap, ap₂, sym, ◌∙◌, ⊎_elim}
+use Rattle.std.proofs.Common.{◌≡◌, ℕ, Bool, true, false, ◌==◌, List, Some, refl, ap, ap₂, sym, ◌∙◌, ⊎_elim}
 use Rattle.std.specs.Prelude.{not, slice_set, remove}
 use Rattle.std.proofs.lemmas.Bool.{or_left, or_right, cases_Bool, eqb-true, eq-eqb, true≢false}
 use Rattle.std.proofs.lemmas.List.Folds.{list_any-append}

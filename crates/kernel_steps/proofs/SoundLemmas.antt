@@ -12,19 +12,19 @@ use Rattle.fol_base.specs.Clause.{TreeLiteral, TreeClause}
 use Rattle.fol_base.specs.Kind.{is_function_term, are_function_terms}
 use Rattle.fol_base.specs.Ground.{is_ground_literal, is_ground_clause}
 use Rattle.fol_base.specs.Literal.{clause_of}
-use Rattle.fol_base.specs.Interpretation.{Interpretation, IsInterpretation, Row, row_in_range, is_row_of, table_value, symbol_value, Assignment, tree_value, trees_values, sides_true, literal_true_under, literals_true_under}
+use Rattle.fol_base.specs.Interpretation.{Interpretation, IsInterpretation, Row, row_in_range, is_row_of, table_value, Assignment, tree_value, trees_values, literal_true_under, literals_true_under}
 use Rattle.fol_base.proofs.MeaningLemmas.{truth_of_ground_clauses}
 use Rattle.fol_base.proofs.TestLemmas.{list_all-item}
 use Rattle.kernel_steps.specs.Parents.{Parent}
 use Rattle.kernel_steps.specs.Conclusion.{empty_clause, verdict, concludes}
-use Rattle.kernel_steps.specs.Derivation.{is_clause_step, introduces_name, line_parents, is_component_of, component_clause, body, complement, IsComponent, IsOpposite, ComesBy, IsDerivation}
+use Rattle.kernel_steps.specs.Derivation.{is_clause_step, introduces_name, line_parents, is_component_of, body, complement, IsComponent, IsOpposite, ComesBy, IsDerivation}
 use Rattle.kernel_steps.specs.Soundness.{HasValues, NameTruth, names_true, MeansBody, bindings_of, binds_each, BindsFunctionTerms, DerivationsAreSound}
 use Rattle.kernel_steps.specs.declared.step.Step.{Step}
 use Rattle.kernel_steps.specs.declared.step.Step.TheVariants.{Input, Negate, Clausify, Para, Refl, Factor, Merge, Component, Opposite, Split, Chain}
 use Rattle.kernel_steps.specs.declared.step.Line.{Line}
 use Rattle.kernel_steps.proofs.ItemLemmas.{Contains-item, get_or-passes}
 use Rattle.kernel_steps.proofs.RuleTruth.{complement-truth}
-use Rattle.kernel_steps.proofs.LineLemmas.{ParentLine, parent_line, component_clause-at, component_clause-earlier}
+use Rattle.kernel_steps.proofs.LineLemmas.{parent_line, component_clause-at, component_clause-earlier}
 use Rattle.kernel_steps.proofs.OverValues.{Within, HoldsOver, FailsOver, MeansOver, ClauseOver, KeepsOver}
 use Rattle.kernel_steps.proofs.StepTruth.{DefinesOver, ParentsOver, verdict-over}
 
@@ -81,14 +81,16 @@ component-over :
     (Value : ℕ → Type 0) (i : Interpretation) (truth : NameTruth) (lines : List Line) (n : ℕ) (line : Line) (name : ℕ)
     → MeansOver Value i (body lines name).literals (truth name) → slice_get lines n ≡ Some line → line.step ≡ Component name
     → IsComponent name (take n lines) (clause_of line.clause) → LineOver Value i truth line
-component-over Value i truth lines n line name means at is it =
-    (λ ρ within.
-    ⊎_elim
-    (λ holds. or_left (literals_true_under i ρ c.literals) (names_true truth c.names) (subst (λ ls. literals_true_under i ρ ls ≡ true) own (means.0 holds ρ within)))
-    (λ fails.
-    or_right (literals_true_under i ρ c.literals) (names_true truth c.names)
-    (ap (names_true truth) it.one_name ∙ ap (λ b. beq false b || false) fails))
-    (cases_Bool (truth name)), λ introduces none. subst (FailsOver Value i) own (means.1 (is_false none)))
+component-over Value i truth lines n line name means at is it = (
+  λ ρ within.
+      ⊎_elim
+      (λ holds. or_left (literals_true_under i ρ c.literals) (names_true truth c.names) (subst (λ ls. literals_true_under i ρ ls ≡ true) own (means.0 holds ρ within)))
+      (λ fails.
+      or_right (literals_true_under i ρ c.literals) (names_true truth c.names)
+      (ap (names_true truth) it.one_name ∙ ap (λ b. beq false b || false) fails))
+      (cases_Bool (truth name)),
+  λ introduces none. subst (FailsOver Value i) own (means.1 (is_false none)),
+)
   where
     c : TreeClause
     c = clause_of line.clause
@@ -110,19 +112,20 @@ opposite-over :
     (Value : ℕ → Type 0) (i : Interpretation) (truth : NameTruth) (some : Assignment) (lines : List Line) (n : ℕ) (line : Line) (name : ℕ)
     → Within Value some → MeansOver Value i (body lines name).literals (truth name)
     → IsOpposite name (take n lines) (clause_of line.clause) → LineOver Value i truth line
-opposite-over Value i truth some lines n line name some_within means it =
-    (λ ρ within.
-    ⊎_elim
-    (λ holds.
-    or_right (literals_true_under i ρ c.literals) (names_true truth c.names)
-    (ap (names_true truth) it.one_name ∙ ap (λ b. beq true b || false) holds))
-    (λ fails. or_left (literals_true_under i ρ c.literals) (names_true truth c.names) (turned ρ ∙ ap not (false_everywhere (means.1 fails) ρ)))
-    (cases_Bool (truth name)),
-    λ introduces none. record {
-      values = some;
-      within = some_within;
-      is_false = turned some ∙ ap not (sym (or-last (literal_true_under i some it.literal)) ∙ subst (λ ls. literals_true_under i some ls ≡ true) own (means.0 (is_true none) some some_within));
-    })
+opposite-over Value i truth some lines n line name some_within means it = (
+  λ ρ within.
+      ⊎_elim
+      (λ holds.
+      or_right (literals_true_under i ρ c.literals) (names_true truth c.names)
+      (ap (names_true truth) it.one_name ∙ ap (λ b. beq true b || false) holds))
+      (λ fails. or_left (literals_true_under i ρ c.literals) (names_true truth c.names) (turned ρ ∙ ap not (false_everywhere (means.1 fails) ρ)))
+      (cases_Bool (truth name)),
+  λ introduces none. record {
+    values = some;
+    within = some_within;
+    is_false = turned some ∙ ap not (sym (or-last (literal_true_under i some it.literal)) ∙ subst (λ ls. literals_true_under i some ls ≡ true) own (means.0 (is_true none) some some_within));
+  },
+)
   where
     c : TreeClause
     c = clause_of line.clause
@@ -164,7 +167,7 @@ rule-over :
     → Before Value i truth lines n → verdict step (line_parents (take n lines)) ≡ concludes (clause_of line.clause) → LineOver Value i truth line
 rule-over Value i truth form lines n line step setting at is none earlier v = (
   verdict-over Value i truth setting.some (line_parents (take n lines)) step (clause_of line.clause) setting.some_within
-  (parents-over Value i truth lines n earlier) (subst (λ s. AllByRecursion (KeepsOver Value i) (bindings_of s)) is (setting.keeps n line at)) v,
+      (parents-over Value i truth lines n earlier) (subst (λ s. AllByRecursion (KeepsOver Value i) (bindings_of s)) is (setting.keeps n line at)) v,
   no_name Value i truth line step is none,
 )
 

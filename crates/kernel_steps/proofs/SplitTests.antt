@@ -1,10 +1,10 @@
 -- What the tests of a split say.
-use Rattle.std.proofs.Common.{◌≡◌, ℕ, zero, suc, ◌<◌, Bool, true, false, ◌&&◌, ◌||◌, ◌==◌, List, [], ◌∷◌, ◌++◌, length, map, Option, Some, None, refl, ap, ap₂, sym, ◌∙◌, inl, inr, ⊎_elim, arith}
+use Rattle.std.proofs.Common.{◌≡◌, ℕ, zero, suc, ◌<◌, Bool, true, false, ◌&&◌, ◌||◌, ◌==◌, List, [], ◌∷◌, length, map, Option, Some, None, refl, ap, ap₂, sym, ◌∙◌, inl, inr, ⊎_elim, arith}
 use mathlib.Core.Bool.{beq}
-use Rattle.std.specs.Prelude.{not, slice_get, flat_map, filter_map}
+use Rattle.std.specs.Prelude.{not, slice_get, flat_map}
 use Rattle.std.specs.List.{list_any, list_all, cons_option}
-use Rattle.std.proofs.lemmas.Bool.{and_parts, and_from, or_cases, or_left, or_right, or_parts, not-true, not_from_false, eqb-true, eq-eqb, true≢false, false_from_ne_true, cases_lt}
-use Rattle.std.proofs.lemmas.Option.{none-some, same_Some, slice_get_within}
+use Rattle.std.proofs.lemmas.Bool.{and_parts, and_from, or_cases, or_left, or_right, or_parts, not-true, eqb-true, true≢false, false_from_ne_true, cases_lt}
+use Rattle.std.proofs.lemmas.Option.{slice_get_within}
 use Rattle.std.proofs.lemmas.List.Folds.{list_any-append}
 use Rattle.fol_base.specs.Clause.{TreeLiteral, literal_eq, literals_eq, literal_variables}
 use Rattle.fol_base.specs.Tree.{Tree, tree_eq}

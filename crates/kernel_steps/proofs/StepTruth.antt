@@ -1,8 +1,8 @@
 -- What a step concludes is true where its parents are.
-use Rattle.std.proofs.Common.{◌≡◌, ℕ, true, false, ◌||◌, ◌==◌, List, [], ◌∷◌, ◌++◌, map, Option, Some, refl, ap, sym, ◌∙◌, subst, ⊎_elim, eqb, arith}
-use Rattle.std.specs.Prelude.{not, length, flat_map, option_map, unwrap_or}
+use Rattle.std.proofs.Common.{◌≡◌, ℕ, true, false, ◌||◌, ◌==◌, List, [], ◌∷◌, ◌++◌, map, Option, Some, ap, sym, ◌∙◌, ⊎_elim}
+use Rattle.std.specs.Prelude.{length, flat_map, option_map, unwrap_or}
 use Rattle.std.specs.List.{list_all, AllByRecursion}
-use Rattle.std.proofs.lemmas.Bool.{and_parts, and_from, or_cases, or_left, or_right, or_parts, cases_Bool, eqb-true, true≢false}
+use Rattle.std.proofs.lemmas.Bool.{and_parts, and_from, or_cases, or_left, or_right, or_parts, cases_Bool, true≢false}
 use Rattle.std.proofs.lemmas.Option.{same_Some, option_and_then_some}
 use Rattle.std.proofs.lemmas.List.{map-append}
 use Rattle.std.proofs.lemmas.List.Folds.{list_any-append}
@@ -17,12 +17,12 @@ use Rattle.fol_base.proofs.MeaningLemmas.{truth_of_instances}
 use Rattle.fol_base.proofs.TestLemmas.{option_map-some, if_some}
 use Rattle.kernel_steps.specs.Names.{sorted_names}
 use Rattle.kernel_steps.specs.Parents.{Parent, Parents, all_there}
-use Rattle.kernel_steps.specs.Split.{is_part, share_out, share_no_variables, literals_at, canonical_literals, defines, define_all, is_split}
+use Rattle.kernel_steps.specs.Split.{literals_at, canonical_literals, defines, define_all}
 use Rattle.kernel_steps.specs.Conclusion.{bound_literals, clause_with, by_one, by_two, names_alone, names_at, verdict, concludes}
 use Rattle.kernel_steps.specs.Soundness.{NameTruth, names_true, bindings_of}
 use Rattle.kernel_steps.specs.declared.step.Step.{Step}
 use Rattle.kernel_steps.specs.declared.step.Step.TheVariants.{Input, Negate, Clausify, Para, Refl, Factor, Merge, Component, Opposite, Split, Chain}
-use Rattle.kernel_steps.proofs.VerdictParts.{OneParts, by_one-parts, TwoParts, by_two-parts, SplitParts, split-parts, ChainParts, chain-parts, all_there-each}
+use Rattle.kernel_steps.proofs.VerdictParts.{by_one-parts, by_two-parts, split-parts, chain-parts, all_there-each}
 use Rattle.kernel_steps.proofs.NameTruth.{name_true, list_any-sorted_names, chain_is_sound}
 use Rattle.kernel_steps.proofs.RuleTruth.{para_is_sound, refl_is_sound, factor_is_sound, merge_is_sound}
 use Rattle.kernel_steps.proofs.SplitTests.{some_part-passes, literals_eq-says, list_all-none, no_items, is_split-says}

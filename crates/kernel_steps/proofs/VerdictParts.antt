@@ -1,6 +1,6 @@
 -- Verdicts taken apart: what holds where a step has a conclusion.
-use Rattle.std.proofs.Common.{◌≡◌, ℕ, Bool, true, false, ◌&&◌, List, [], ◌∷◌, ◌++◌, map, Option, Some, None, refl, ap, sym, ◌∙◌, subst}
-use Rattle.std.specs.Prelude.{option_map, option_and_then, flat_map, if◌then◌else◌}
+use Rattle.std.proofs.Common.{◌≡◌, ℕ, Bool, true, false, ◌&&◌, List, [], ◌∷◌, ◌++◌, map, Option, Some, None, refl, subst}
+use Rattle.std.specs.Prelude.{option_map, option_and_then, flat_map}
 use Rattle.std.specs.List.{AllByRecursion}
 use Rattle.std.proofs.lemmas.Bool.{and_parts}
 use Rattle.std.proofs.lemmas.Option.{option_and_then_some, none-some, same_Some}
@@ -12,7 +12,7 @@ use Rattle.fol_base.proofs.TestLemmas.{option_map-some, if_some}
 use Rattle.kernel_steps.specs.Names.{chained}
 use Rattle.kernel_steps.specs.Parents.{Parent, Parents, all_there}
 use Rattle.kernel_steps.specs.Split.{is_split}
-use Rattle.kernel_steps.specs.Conclusion.{binds, binds_parent, bound_literals, Verdict, binding_fault, rule_fault, concludes, verdict_of, verdict_if, clause_with, by_one, by_two, split_from, names_at, clause_of_names}
+use Rattle.kernel_steps.specs.Conclusion.{binds, binds_parent, bound_literals, concludes, verdict_of, verdict_if, clause_with, by_one, by_two, split_from, names_at, clause_of_names}
 
 pub verdict_of-some : (made : Option TreeClause) (c : TreeClause) → verdict_of made ≡ concludes c → made ≡ Some c
 verdict_of-some None c h = absurd (cc)

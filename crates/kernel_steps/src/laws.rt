@@ -12,8 +12,8 @@ pub use examples::{
 };
 pub use grounded::lines_are_grounded;
 pub use inference::{inference_examples, kind_examples, reduction_examples};
-pub use symbols::lines_keep_symbols;
 pub use soundness::{
     derivations_are_sound, ground_forms_are_grounded, herbrand_examples, refutations_refute,
     rules_are_sound,
 };
+pub use symbols::lines_keep_symbols;
