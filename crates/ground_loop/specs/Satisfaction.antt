@@ -27,6 +27,6 @@ ClosedFormsAreSatisfied =
 abbrev pub HasMeaning : List TreeClause → Ground → Type 0
 HasMeaning form (Refuted lines) =
     (is_predicate : ℕ → Bool) (functions : FunctionSymbols is_predicate) → IsTrue (has_constant functions.symbols)
-    → HerbrandRefuted is_predicate functions form
+    → HerbrandRefuted functions form
 HasMeaning form Closed = (is_predicate : ℕ → Bool) → IsTrue (are_predicate_atoms is_predicate form) → Satisfied is_predicate form
 HasMeaning form (Spent count) = Unit {0}
