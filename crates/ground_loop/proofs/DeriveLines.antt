@@ -1,5 +1,5 @@
 -- Facts about lines and steps, for the derivation.
-use Rattle.std.proofs.Common.{◌≡◌, ℕ, zero, suc, ◌<◌, Bool, true, false, List, [], ◌∷◌, ◌++◌, length, get_or, None, refl, ap, ap₂, sym, ◌∙◌, subst, arith, inl, inr, Some, IsTrue}
+use Rattle.std.proofs.Common.{◌≡◌, ℕ, zero, suc, ◌<◌, Bool, true, List, [], ◌∷◌, ◌++◌, length, get_or, None, refl, ap, ap₂, sym, ◌∙◌, subst, arith, inl, inr, Some, IsTrue}
 use Rattle.std.specs.Prelude.{slice_get}
 use Rattle.std.proofs.lemmas.Bool.{cases_lt, cond-true, true≢false}
 use Rattle.std.proofs.lemmas.List.{append_assoc, append-nil, take-append-le, take_at, length-append}

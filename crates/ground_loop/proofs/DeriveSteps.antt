@@ -1,7 +1,7 @@
 -- What the steps of merging and resolution conclude from lines that are sets, for the derivation.
 use mathlib.Core.Bool.{beq}
 use Rattle.fol_base.specs.declared.limits.TheConstants.{MOST_BOUND_SYMBOLS}
-use Rattle.std.proofs.Common.{◌≡◌, ℕ, zero, suc, ◌+◌, ◌-◌, ◌^◌, ◌<◌, ◌≤◌, min, Bool, true, false, not, ◌&&◌, ◌||◌, List, [], ◌∷◌, ◌++◌, length, take, drop, get_or, refl, ap, ap₂, sym, ◌∙◌, arith, Option, Some, None, leb}
+use Rattle.std.proofs.Common.{◌≡◌, ℕ, zero, suc, ◌+◌, ◌-◌, ◌<◌, ◌≤◌, Bool, true, false, not, ◌&&◌, ◌||◌, List, [], ◌∷◌, ◌++◌, length, take, drop, get_or, refl, ap, ap₂, sym, ◌∙◌, arith, Option, Some, None, leb}
 use Rattle.fol_base.specs.Instance.{substitution, instance, instances}
 use Rattle.fol_base.specs.Canonical.{bound_of}
 use Rattle.std.specs.Prelude.{slice_get, slice_set, remove, map, sum_by, ◌==◌, option_map, option_and_then, if◌then◌else◌}
@@ -24,7 +24,7 @@ use Rattle.fol_base.specs.Rules.{superposed_literal, superposed, resolved, merge
 use Rattle.kernel_steps.specs.Conclusion.{Verdict, verdict, verdict_of, verdict_if, concludes, clause_with, by_one, by_two, binds, bound_clause, bound_literals}
 use Rattle.kernel_steps.specs.Derivation.{line_parents}
 use Rattle.ground_loop.specs.Resolution.{LiteralSet, has_literal, atom_literal}
-use Rattle.ground_loop.specs.Lines.{are_different, SameElements, IsRepeat, IsNew, line_clause, has_clause_line, line_literals, IsGroundLine, Continues, IsLastLine, AddsLine, IsSetLine, IsMerged, IsResolved, IsResolvent}
+use Rattle.ground_loop.specs.Lines.{are_different, SameElements, IsRepeat, IsNew, line_clause, line_literals, IsGroundLine, Continues, IsLastLine, AddsLine, IsSetLine, IsMerged, IsResolved, IsResolvent}
 use Rattle.ground_loop.proofs.DeriveLemmas.{beq-refl, literal_eq-true, literal_eq-sym, has_literal-append, has_literal-resolvent, has_literal-at, has_literal-remove_repeat, has_literal-remove_different, are_different-push, size-remove, size-set, no_variables-atoms, no_variables-remove, no_variables-set, no_variables-append, atom_sides, member_holds}
 use Rattle.ground_loop.proofs.DeriveLines.{slice_get-append, parent_there, Continues-none, Continues-then, IsLastLine-there}
 

@@ -81,7 +81,9 @@ fn text_of(alloc: Global, lines: &Derivation) -> Result<String, AllocError> {
                 ..
             } => write!(text, "para {first} {second} {from} {into}:")?,
             Step::Refl {
-                parent, literal, ..
+                parent,
+                literal,
+                ..
             } => write!(text, "refl {parent} {literal}:")?,
             Step::Merge {
                 parent,
