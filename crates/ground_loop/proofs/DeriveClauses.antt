@@ -10,10 +10,9 @@ use Rattle.fol_base.specs.Literal.{clause_of}
 use Rattle.kernel_steps.specs.declared.step.Line.{Line}
 use Rattle.kernel_steps.specs.declared.step.Step.{Step}
 use Rattle.kernel_steps.specs.declared.step.Step.TheVariants.{Clausify}
-use Rattle.kernel_steps.specs.Conclusion.{line_clause}
 use Rattle.kernel_steps.specs.Derivation.{is_clause_step, ComesBy}
 use Rattle.ground_loop.specs.Resolution.{LiteralSet, has_literal}
-use Rattle.ground_loop.specs.Lines.{are_different, form_has, Continues, is_marked, IsClauseLine, IsLineOf, HasClauseLine, AddsClause, AddsClauses}
+use Rattle.ground_loop.specs.Lines.{are_different, form_has, line_clause, is_loop_step, Continues, is_marked, IsClauseLine, IsLineOf, HasClauseLine, AddsClause, AddsClauses}
 use Rattle.ground_loop.proofs.DeriveLines.{line_clause-end, Continues-none, Continues-then, Continues-push, Continues-keeps, IsLastLine-there}
 
 pub same_some : {X : Type 0} {x y : X} → Some x ≡ Some y → x ≡ y
@@ -69,7 +68,7 @@ pub AddsClause-from :
 AddsClause-from form n old new line step there grown =
     let P : Step → Type 0 = λ s. ComesBy s form old (clause_of line.clause) in
     record {
-      continues = Continues-push form old new line grown (ap is_clause_step step) (subst P (sym step) there);
+      continues = Continues-push form old new line grown (ap is_loop_step step) (subst P (sym step) there);
       is_last = record { before = old; line = line; ends = grown; counted = refl; is_clause = ap is_clause_step step };
       has_clause = λ c is. ap (λ ls. line_clause ls (length old)) grown ∙ line_clause-end old line [] ∙ same_some (sym there ∙ is);
     }

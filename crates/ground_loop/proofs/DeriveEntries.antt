@@ -13,13 +13,12 @@ use Rattle.fol_base.specs.declared.term.Term.{Term}
 use Rattle.fol_base.specs.Clause.{TreeLiteral, TreeClause, literal_eq, clause_size, clause_variables}
 use Rattle.fol_base.specs.GroundForm.{is_atom_literal, IsGroundClause, IsGroundForm, form_size}
 use Rattle.kernel_steps.specs.declared.step.Line.{Line}
-use Rattle.kernel_steps.specs.Conclusion.{line_clause, IsGroundLine}
 use Rattle.ground_loop.specs.Resolution.{LiteralSet, has_literal, atom_literal, can_resolve, resolvent}
 use Rattle.ground_loop.specs.Entries.{atom_at, entry_set, ComesFrom, AreEntries}
 use Rattle.ground_loop.specs.declared.entry.Entry.{Entry}
 use Rattle.ground_loop.specs.declared.entry.Origin.{Origin}
 use Rattle.ground_loop.specs.declared.entry.Origin.TheVariants.{Clause, Resolvent}
-use Rattle.ground_loop.specs.Lines.{SameElements, form_has, line_literals, Continues, IsLastLine, IsSetLine, IsMerged, IsResolvent, IsOrigin, HasOrigins, is_marked, HasMarks, IsClauseLine, IsLineOf, HasClauseLine, HasEntryLine, HasOriginLines, AreGroundEntries, IsNext, AddsEntry, IsPrepared, AddsEntries}
+use Rattle.ground_loop.specs.Lines.{SameElements, form_has, line_clause, line_literals, IsGroundLine, Continues, IsLastLine, IsSetLine, IsMerged, IsResolvent, IsOrigin, HasOrigins, is_marked, HasMarks, IsClauseLine, IsLineOf, HasClauseLine, HasEntryLine, HasOriginLines, AreGroundEntries, IsNext, AddsEntry, IsPrepared, AddsEntries}
 use Rattle.ground_loop.proofs.DeriveLemmas.{SameElements-from_same_set, has_literal-resolvent, resolvent-same, member_holds, holds_of_members, size-of_form, size-of_clause, form_has-clause, no_names-of_form, atoms-of_form, no_variables-atoms}
 use Rattle.ground_loop.proofs.DeriveLines.{Continues-none, Continues-then, IsLastLine-there}
 use Rattle.ground_loop.proofs.DeriveClauses.{slice_get-take, length-take-below, HasClauseLine-keeps, IsLineOf-keeps, slice_index-more}

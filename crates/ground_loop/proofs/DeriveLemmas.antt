@@ -1,9 +1,10 @@
 -- Facts about sets of literals as lists, for the lines of a derivation.
 use mathlib.Core.Bool.{beq}
-use Rattle.std.proofs.Common.{◌≡◌, ℕ, zero, suc, ◌+◌, ◌<◌, ◌≤◌, Bool, true, false, not, cond, ◌&&◌, ◌||◌, List, [], ◌∷◌, ◌++◌, refl, ap, sym, ◌∙◌, arith, inl, inr, true≢false, Some, eqb}
-use Rattle.std.specs.Prelude.{slice_get, slice_set, remove, sum_by}
+use Rattle.std.proofs.Common.{◌≡◌, ℕ, zero, suc, ◌+◌, ◌<◌, ◌≤◌, Bool, true, false, not, cond, ◌&&◌, ◌||◌, List, [], ◌∷◌, ◌++◌, length, map, get_or, refl, ap, sym, ◌∙◌, arith, inl, inr, true≢false, Some, eqb}
+use Rattle.std.specs.Prelude.{slice_get, slice_set, remove, sum_by, option_map}
 use Rattle.std.specs.List.{list_all, flat_map}
 use Rattle.std.proofs.lemmas.Bool.{cases_Bool, or_cases, or_left, or_right, or_from, and_parts, and_from, not-true}
+use Rattle.std.proofs.lemmas.Option.{slice_get-get_or, slice_get-map}
 use Rattle.std.proofs.lemmas.List.Folds.{list_any-append}
 use Rattle.std.proofs.lemmas.List.Elements.{All-head, All-tail}
 use Rattle.std.proofs.lemmas.Grind.{flat_map-append}
@@ -52,6 +53,15 @@ or_swapped true true = refl
 or_swapped true false = refl
 or_swapped false true = refl
 or_swapped false false = refl
+
+-- ---- items
+
+-- an item of a list, as it is read from a slice
+pub slice_get-item :
+    {X Y : Type 0} (f : X → Y) (xs : List X) (i : ℕ) (x : X)
+    → i < length xs → x ≡ get_or xs i x → slice_get (map f xs) i ≡ Some (f x)
+slice_get-item f xs i x h r =
+    slice_get-map f xs i ∙ ap (option_map f) (slice_get-get_or xs i x h ∙ ap (λ y. Some y) (sym r))
 
 -- ---- equality of literals
 

@@ -1,17 +1,18 @@
 -- Facts about lines and steps, for the derivation.
-use Rattle.std.proofs.Common.{◌≡◌, ℕ, zero, suc, ◌<◌, true, List, [], ◌∷◌, ◌++◌, length, refl, ap, ap₂, sym, ◌∙◌, subst, arith, inl, inr, Some, IsTrue}
+use Rattle.std.proofs.Common.{◌≡◌, ℕ, zero, suc, ◌<◌, Bool, true, List, [], ◌∷◌, ◌++◌, length, get_or, None, refl, ap, ap₂, sym, ◌∙◌, subst, arith, inl, inr, Some, IsTrue}
 use Rattle.std.specs.Prelude.{slice_get}
-use Rattle.std.proofs.lemmas.Bool.{cases_lt}
+use Rattle.std.proofs.lemmas.Bool.{cases_lt, cond-true, true≢false}
 use Rattle.std.proofs.lemmas.List.{append_assoc, append-nil, take-append-le, take_at, length-append}
 use Rattle.std.proofs.lemmas.Option.{slice_get_within}
 use Rattle.fol_base.specs.Clause.{TreeClause}
 use Rattle.fol_base.specs.Literal.{clause_of}
 use Rattle.kernel_steps.specs.declared.step.Step.{Step}
-use Rattle.kernel_steps.specs.declared.step.Step.TheVariants.{Input, Negate, Clausify, Para, Refl, Factor, Merge, Component, Split, Chain}
+use Rattle.kernel_steps.specs.declared.step.Step.TheVariants.{Input, Negate, Clausify, Para, Refl, Factor, Merge, Component, Opposite, Split, Chain}
 use Rattle.kernel_steps.specs.declared.step.Line.{Line}
-use Rattle.kernel_steps.specs.Conclusion.{verdict, concludes, line_clause, HasGroundParents}
-use Rattle.kernel_steps.specs.Derivation.{AreClauseLines, is_clause_step, ComesBy, IsDerivation}
-use Rattle.ground_loop.specs.Lines.{Continues, IsLastLine, AddsLine}
+use Rattle.kernel_steps.specs.Parents.{Parent}
+use Rattle.kernel_steps.specs.Conclusion.{verdict, concludes, is_rule_step}
+use Rattle.kernel_steps.specs.Derivation.{is_clause_step, introduces_name, line_parents, ComesBy, IsDerivation}
+use Rattle.ground_loop.specs.Lines.{line_clause, has_clause_line, is_loop_step, AreLoopLines, Continues, IsLastLine, AddsLine}
 
 -- ---- lists
 
@@ -34,6 +35,43 @@ line_clause-append (x ∷ xs) ys (suc n) h = line_clause-append xs ys n (omega a
 pub line_clause-end : (xs : List Line) (x : Line) (ys : List Line) → line_clause (xs ++ x ∷ ys) (length xs) ≡ clause_of x.clause
 line_clause-end [] x ys = refl
 line_clause-end (y ∷ xs) x ys = line_clause-end xs x ys
+
+-- an item as it is read from a slice
+pub line_clause-item :
+    (lines : List Line) (n : ℕ) (line : Line)
+    → n < length lines → line ≡ get_or lines n line → clause_of line.clause ≡ line_clause lines n
+line_clause-item lines n line h r = ap (λ (l : Line). clause_of l.clause) r ∙ at_index lines n line h
+  where
+    at_index : (lines : List Line) (n : ℕ) (d : Line) → n < length lines → clause_of (get_or lines n d).clause ≡ line_clause lines n
+    at_index [] n d h = absurd (omega arith)
+    at_index (l ∷ ls) zero d h = refl
+    at_index (l ∷ ls) (suc n) d h = at_index ls n d (omega arith)
+
+-- ---- lines of clauses
+
+pub clause_line_below : (lines : List Line) (n : ℕ) → has_clause_line lines n ≡ true → n < length lines
+clause_line_below [] n h = absurd (true≢false (sym h))
+clause_line_below (l ∷ ls) zero h = omega arith
+clause_line_below (l ∷ ls) (suc n) h = omega (arith, clause_line_below ls n h)
+
+has_clause_line-append : (xs ys : List Line) (n : ℕ) → has_clause_line xs n ≡ true → has_clause_line (xs ++ ys) n ≡ true
+has_clause_line-append [] ys n h = absurd (true≢false (sym h))
+has_clause_line-append (x ∷ xs) ys zero h = h
+has_clause_line-append (x ∷ xs) ys (suc n) h = has_clause_line-append xs ys n h
+
+has_clause_line-end : (xs : List Line) (x : Line) → is_clause_step x.step ≡ true → has_clause_line (xs ++ x ∷ []) (length xs) ≡ true
+has_clause_line-end [] x h = h
+has_clause_line-end (y ∷ xs) x h = has_clause_line-end xs x h
+
+-- such a line is a parent
+pub parent_there :
+    (lines : List Line) (n : ℕ) → has_clause_line lines n ≡ true
+    → (introduces : Bool) × (line_parents lines n ≡ Some (record { clause = line_clause lines n; introduces = introduces }))
+parent_there [] n h = absurd (true≢false (sym h))
+parent_there (l ∷ ls) zero h =
+    let made : Parent = record { clause = clause_of l.clause; introduces = introduces_name l.step } in
+    (introduces_name l.step, cond-true (is_clause_step l.step) (Some made) None h)
+parent_there (l ∷ ls) (suc n) h = parent_there ls n h
 
 -- ---- lines that are added
 
@@ -58,92 +96,98 @@ IsDerivation-push form lines line comes derived n l h = elim (cases_lt n (length
     same : {X : Type 0} {x y : X} → Some x ≡ Some y → x ≡ y
     same e = cc
 
--- lines of clauses with one more
-AreClauseLines-push :
-    (lines : List Line) (line : Line) → IsTrue (is_clause_step line.step) → AreClauseLines lines → AreClauseLines (lines ++ line ∷ [])
-AreClauseLines-push lines line is_clause clauses n l h = elim (cases_lt n (length lines)) [
-  | inl earlier ↦ clauses n l (sym (slice_get-append lines (line ∷ []) n earlier) ∙ h)
+-- lines by steps of the loop with one more
+AreLoopLines-push :
+    (lines : List Line) (line : Line) → IsTrue (is_loop_step line.step) → AreLoopLines lines → AreLoopLines (lines ++ line ∷ [])
+AreLoopLines-push lines line is_one each n l h = elim (cases_lt n (length lines)) [
+  | inl earlier ↦ each n l (sym (slice_get-append lines (line ∷ []) n earlier) ∙ h)
   | inr later ↦
       let long : n < length (lines ++ line ∷ []) = slice_get_within (lines ++ line ∷ []) n l h in
       let here : n ≡ length lines = omega (arith, length-append lines (line ∷ [])) in
       let is : Some line ≡ Some l = sym (slice_get-end lines line []) ∙ ap (slice_get (lines ++ line ∷ [])) (sym here) ∙ h in
       let same : line ≡ l = cc in
-      ap (λ (m : Line). is_clause_step m.step) (sym same) ∙ is_clause
+      ap (λ (m : Line). is_loop_step m.step) (sym same) ∙ is_one
 ]
 
 pub Continues-none : (form : List TreeClause) (lines : List Line) → Continues form lines lines
-Continues-none form lines = record { more = []; grown = sym (append-nil lines); derived = λ d. d; clause_lines = λ c. c }
+Continues-none form lines = record { more = []; grown = sym (append-nil lines); derived = λ d. d; loop_lines = λ c. c }
 
 pub Continues-then : (form : List TreeClause) (old mid new : List Line) → Continues form old mid → Continues form mid new → Continues form old new
 Continues-then form old mid new first second = record {
   more = first.more ++ second.more;
   grown = second.grown ∙ ap (λ ls. ls ++ second.more) first.grown ∙ append_assoc old first.more second.more;
   derived = λ d. second.derived (first.derived d);
-  clause_lines = λ c. second.clause_lines (first.clause_lines c);
+  loop_lines = λ c. second.loop_lines (first.loop_lines c);
 }
 
 pub Continues-push :
     (form : List TreeClause) (old new : List Line) (line : Line)
-    → new ≡ old ++ line ∷ [] → IsTrue (is_clause_step line.step) → ComesBy line.step form old (clause_of line.clause)
+    → new ≡ old ++ line ∷ [] → IsTrue (is_loop_step line.step) → ComesBy line.step form old (clause_of line.clause)
     → Continues form old new
-Continues-push form old new line grown is_clause comes =
+Continues-push form old new line grown is_one comes =
     let P : List Line → Type 0 = λ ls. IsDerivation form ls in
     record {
       more = line ∷ [];
       grown = grown;
       derived = λ d. subst P (sym grown) (IsDerivation-push form old line comes d);
-      clause_lines = λ c. subst AreClauseLines (sym grown) (AreClauseLines-push old line is_clause c);
+      loop_lines = λ c. subst AreLoopLines (sym grown) (AreLoopLines-push old line is_one c);
     }
 
 -- earlier lines stay
 pub Continues-keeps :
     (form : List TreeClause) (old new : List Line) (n : ℕ)
-    → Continues form old new → n < length old → (n < length new) × (line_clause new n ≡ line_clause old n)
+    → Continues form old new → has_clause_line old n ≡ true → (has_clause_line new n ≡ true) × (line_clause new n ≡ line_clause old n)
 Continues-keeps form old new n continues h = (
-  omega (arith, ap length continues.grown, length-append old continues.more),
-  ap (λ ls. line_clause ls n) continues.grown ∙ line_clause-append old continues.more n h,
+  ap (λ ls. has_clause_line ls n) continues.grown ∙ has_clause_line-append old continues.more n h,
+  ap (λ ls. line_clause ls n) continues.grown ∙ line_clause-append old continues.more n (clause_line_below old n h),
 )
 
-pub IsLastLine-there : (lines : List Line) (number : ℕ) → IsLastLine lines number → number < length lines
-IsLastLine-there lines number last = omega (arith, ap length last.ends, length-append last.before (last.line ∷ []), last.counted)
+pub IsLastLine-there : (lines : List Line) (number : ℕ) → IsLastLine lines number → has_clause_line lines number ≡ true
+IsLastLine-there lines number last =
+    ap₂ has_clause_line last.ends last.counted ∙ has_clause_line-end last.before last.line last.is_clause
 
--- a step with ground parents and a conclusion is a kernel step, and not one of a formula
-pub comes_by :
+-- a step that has a conclusion is one of a rule, so a kernel step and no one of a formula
+pub rule_step : (step : Step) (lines : List Line) (c : TreeClause) → verdict step (line_parents lines) ≡ concludes c → is_rule_step step ≡ true
+rule_step (Para a b i s j z place first second) lines c v = refl
+rule_step (Refl a i bind) lines c v = refl
+rule_step (Factor a i s j z bind) lines c v = refl
+rule_step (Merge a i j bind) lines c v = refl
+rule_step (Split a definitions parts) lines c v = refl
+rule_step (Chain parents pivots) lines c v = refl
+rule_step (Input n) lines c v = absurd (cc)
+rule_step (Negate n) lines c v = absurd (cc)
+rule_step (Clausify n) lines c v = absurd (cc)
+rule_step (Component n) lines c v = absurd (cc)
+rule_step (Opposite n) lines c v = absurd (cc)
+
+comes_by :
     (step : Step) (form : List TreeClause) (lines : List Line) (c : TreeClause)
-    → HasGroundParents step lines → verdict step lines ≡ concludes c → ComesBy step form lines c
-comes_by (Para a b i s j z place first second) form lines c ground v = (ground.0.0, ground.1.0, v)
-comes_by (Refl a i bind) form lines c ground v = (ground.0, v)
-comes_by (Merge a i j bind) form lines c ground v = (ground.0, v)
-comes_by (Input n) form lines c ground v = absurd ground
-comes_by (Negate n) form lines c ground v = absurd ground
-comes_by (Clausify n) form lines c ground v = absurd ground
-comes_by (Factor a i s j z bind) form lines c ground v = absurd ground
-comes_by (Component n) form lines c ground v = absurd ground
-comes_by (Split a cs parts) form lines c ground v = absurd ground
-comes_by (Chain ps pivots) form lines c ground v = absurd ground
+    → is_rule_step step ≡ true → verdict step (line_parents lines) ≡ concludes c → ComesBy step form lines c
+comes_by (Para a b i s j z place first second) form lines c rule v = v
+comes_by (Refl a i bind) form lines c rule v = v
+comes_by (Factor a i s j z bind) form lines c rule v = v
+comes_by (Merge a i j bind) form lines c rule v = v
+comes_by (Split a definitions parts) form lines c rule v = v
+comes_by (Chain parents pivots) form lines c rule v = v
+comes_by (Input n) form lines c rule v = absurd (true≢false (sym rule))
+comes_by (Negate n) form lines c rule v = absurd (true≢false (sym rule))
+comes_by (Clausify n) form lines c rule v = absurd (true≢false (sym rule))
+comes_by (Component n) form lines c rule v = absurd (true≢false (sym rule))
+comes_by (Opposite n) form lines c rule v = absurd (true≢false (sym rule))
 
-clause_step : (step : Step) (lines : List Line) → HasGroundParents step lines → is_clause_step step ≡ true
-clause_step (Para a b i s j z place first second) lines ground = refl
-clause_step (Refl a i bind) lines ground = refl
-clause_step (Merge a i j bind) lines ground = refl
-clause_step (Input n) lines ground = absurd ground
-clause_step (Negate n) lines ground = absurd ground
-clause_step (Clausify n) lines ground = refl
-clause_step (Factor a i s j z bind) lines ground = refl
-clause_step (Component n) lines ground = refl
-clause_step (Split a cs parts) lines ground = refl
-clause_step (Chain ps pivots) lines ground = refl
+clause_step : (step : Step) → is_rule_step step ≡ true → is_clause_step step ≡ true
+clause_step (Input n) rule = rule
+clause_step (Negate n) rule = rule
+clause_step _ rule = refl
 
 pub AddsLine-from :
     (old : List Line) (line : Line) (new : List Line) (number : ℕ)
-    → HasGroundParents line.step old → verdict line.step old ≡ concludes (clause_of line.clause)
+    → is_loop_step line.step ≡ true → verdict line.step (line_parents old) ≡ concludes (clause_of line.clause)
     → new ≡ old ++ line ∷ [] → number ≡ length old → AddsLine old line.step new number
-AddsLine-from old line new number ground v grown counted = record {
-  continues = λ form. Continues-push form old new line grown (clause_step line.step old ground) (comes_by line.step form old (clause_of line.clause) ground v);
-  is_last = record { before = old; line = line; ends = grown; counted = counted; is_clause = clause_step line.step old ground };
-  concluded =
-      v
-      ∙ ap concludes
-      (sym (line_clause-end old line [])
-      ∙ sym (ap₂ line_clause grown counted));
-}
+AddsLine-from old line new number is_one v grown counted =
+    let rule = rule_step line.step old (clause_of line.clause) v in
+    record {
+      continues = λ form. Continues-push form old new line grown is_one (comes_by line.step form old (clause_of line.clause) rule v);
+      is_last = record { before = old; line = line; ends = grown; counted = counted; is_clause = clause_step line.step rule };
+      concluded = v ∙ ap concludes (sym (line_clause-end old line []) ∙ sym (ap₂ line_clause grown counted));
+    }

@@ -1,8 +1,10 @@
 -- What the steps of merging and resolution conclude from lines that are sets, for the derivation.
 use mathlib.Core.Bool.{beq}
 use Rattle.fol_base.specs.declared.limits.TheConstants.{MOST_BOUND_SYMBOLS}
-use Rattle.std.proofs.Common.{◌≡◌, ℕ, zero, suc, ◌+◌, ◌-◌, ◌^◌, ◌<◌, ◌≤◌, min, Bool, true, false, not, ◌&&◌, ◌||◌, List, [], ◌∷◌, ◌++◌, length, take, drop, get_or, refl, ap, sym, ◌∙◌, arith, Some, None}
-use Rattle.std.specs.Prelude.{slice_get, slice_set, remove, option_map, option_and_then, if◌then◌else◌}
+use Rattle.std.proofs.Common.{◌≡◌, ℕ, zero, suc, ◌+◌, ◌-◌, ◌<◌, ◌≤◌, Bool, true, false, not, ◌&&◌, ◌||◌, List, [], ◌∷◌, ◌++◌, length, take, drop, get_or, refl, ap, ap₂, sym, ◌∙◌, arith, Option, Some, None, leb}
+use Rattle.fol_base.specs.Instance.{substitution, instance, instances}
+use Rattle.fol_base.specs.Canonical.{bound_of}
+use Rattle.std.specs.Prelude.{slice_get, slice_set, remove, map, sum_by, ◌==◌, option_map, option_and_then, if◌then◌else◌}
 use Rattle.std.specs.List.{list_all}
 use Rattle.std.proofs.lemmas.Bool.{le-leb, ne_eqb, and_from, or_left}
 use Rattle.std.proofs.lemmas.List.{length-set, take_all, take_at, length-take-le, take_more}
@@ -10,8 +12,8 @@ use Rattle.std.proofs.lemmas.List.Edits.{length-remove, remove-append_left}
 use Rattle.std.proofs.lemmas.List.Sums.{sum_by-append}
 use Rattle.std.proofs.lemmas.List.Folds.{list_any_more}
 use Rattle.std.proofs.lemmas.Option.{slice_get_within, slice_get-get_or, get_or_from_slice_get}
-use Rattle.fol_base.specs.Tree.{Tree, tree_eq, true_tree, is_truth}
-use Rattle.fol_base.specs.Clause.{TreeLiteral, TreeClause, literal_eq, literal_size, clause_size, clause_variables}
+use Rattle.fol_base.specs.Tree.{Tree, variable, application, Trees, no_trees, tree_then, tree_eq, true_tree, is_truth}
+use Rattle.fol_base.specs.Clause.{TreeLiteral, TreeClause, literal_instance, literal_eq, literal_size, clause_size, clause_variables}
 use Rattle.fol_base.specs.GroundForm.{is_atom_literal}
 use Rattle.fol_base.specs.Order.{equivalent_literals}
 use Rattle.fol_base.specs.declared.clause.Side.TheVariants.{Left}
@@ -19,22 +21,74 @@ use Rattle.fol_base.proofs.TreeLemmas.{tree_eq-refl, tree_size-positive}
 use Rattle.kernel_steps.specs.declared.step.Step.TheVariants.{Para, Refl, Merge}
 use Rattle.kernel_steps.specs.declared.step.Line.{Line}
 use Rattle.fol_base.specs.Rules.{superposed_literal, superposed, resolved, merged}
-use Rattle.kernel_steps.specs.Conclusion.{Verdict, verdict, verdict_of, verdict_if, concludes, binds, bound_literals, line_clause, IsGroundLine}
-use Rattle.kernel_steps.proofs.KernelLemmas.{binds-ground, bound_literals-ground}
+use Rattle.kernel_steps.specs.Conclusion.{Verdict, verdict, verdict_of, verdict_if, concludes, clause_with, by_one, by_two, binds, bound_clause, bound_literals}
+use Rattle.kernel_steps.specs.Derivation.{line_parents}
 use Rattle.ground_loop.specs.Resolution.{LiteralSet, has_literal, atom_literal}
-use Rattle.ground_loop.specs.Lines.{are_different, SameElements, IsRepeat, IsNew, line_literals, Continues, IsLastLine, AddsLine, IsSetLine, IsMerged, IsResolved, IsResolvent}
+use Rattle.ground_loop.specs.Lines.{are_different, SameElements, IsRepeat, IsNew, line_clause, line_literals, IsGroundLine, Continues, IsLastLine, AddsLine, IsSetLine, IsMerged, IsResolved, IsResolvent}
 use Rattle.ground_loop.proofs.DeriveLemmas.{beq-refl, literal_eq-true, literal_eq-sym, has_literal-append, has_literal-resolvent, has_literal-at, has_literal-remove_repeat, has_literal-remove_different, are_different-push, size-remove, size-set, no_variables-atoms, no_variables-remove, no_variables-set, no_variables-append, atom_sides, member_holds}
-use Rattle.ground_loop.proofs.DeriveLines.{slice_get-append, Continues-none, Continues-then, IsLastLine-there}
+use Rattle.ground_loop.proofs.DeriveLines.{slice_get-append, parent_there, Continues-none, Continues-then, IsLastLine-there}
 
 -- the clause of literals alone
 abbrev pub bare_clause : LiteralSet → TreeClause
 bare_clause ls = record { literals = ls; names = [] }
 
--- the empty binding is right for a ground clause that isn't too large
+-- the empty binding changes nothing
+mutual
+  instance-none : (t : Tree) → instance (substitution []) t ≡ t
+  instance-none (variable v) = refl
+  instance-none (application f ts) = ap (application f) (instances-none ts)
+
+  instances-none : (ts : Trees) → instances (substitution []) ts ≡ ts
+  instances-none no_trees = refl
+  instances-none (tree_then t ts) = ap₂ tree_then (instance-none t) (instances-none ts)
+
+literals-none : (ls : LiteralSet) → map (literal_instance (substitution [])) ls ≡ ls
+literals-none [] = refl
+literals-none (l ∷ ls) =
+    let made : Tree → Tree → TreeLiteral = λ (t u : Tree). record { positive = l.positive; left = t; right = u } in
+    ap₂ ◌∷◌ (ap₂ made (instance-none l.left) (instance-none l.right)) (literals-none ls)
+
+bound-none : (bind : List Tree) (c : TreeClause) → bind ≡ [] → bound_literals bind c ≡ c.literals
+bound-none bind c none = ap (λ b. bound_literals b c) none ∙ literals-none c.literals
+
+-- and is right for a ground clause that isn't too large
 pub binds-none : (bind : List Tree) (c : TreeClause) → bind ≡ [] → clause_variables c ≡ [] → clause_size c ≤ MOST_BOUND_SYMBOLS → binds bind c ≡ true
 binds-none bind c none ground small =
-    sym (binds-ground bind c (min (clause_size c) (2 ^ 64 - 1)) (ap length none) ground refl)
-    ∙ le-leb (min (clause_size c) (2 ^ 64 - 1)) MOST_BOUND_SYMBOLS (omega arith)
+    ap (λ b. binds b c) none
+    ∙ ap (λ vs. (0 == bound_of vs) && leb (clause_size (bound_clause [] c)) MOST_BOUND_SYMBOLS) ground
+    ∙ ap (λ ls. leb (sum_by literal_size ls) MOST_BOUND_SYMBOLS) (literals-none c.literals)
+    ∙ le-leb (clause_size c) MOST_BOUND_SYMBOLS small
+
+-- what rules conclude from lines without names
+one_concludes :
+    (lines : List Line) (n : ℕ) (bind : List Tree) (rule : LiteralSet → Option LiteralSet) (made : LiteralSet)
+    → IsGroundLine lines n → clause_size (line_clause lines n) ≤ MOST_BOUND_SYMBOLS → bind ≡ [] → rule (line_literals lines n) ≡ Some made
+    → by_one (line_parents lines n) bind rule ≡ concludes (bare_clause made)
+one_concludes lines n bind rule made line small none gives =
+    let c : TreeClause = line_clause lines n in
+    ap (λ p. by_one p bind rule) (parent_there lines n line.0).1
+    ∙ ap (λ b. verdict_if b (option_map (clause_with c.names) (rule (bound_literals bind c)))) (binds-none bind c none line.1 small)
+    ∙ ap (λ ls. verdict_of (option_map (clause_with c.names) (rule ls))) (bound-none bind c none)
+    ∙ ap (λ o. verdict_of (option_map (clause_with c.names) o)) gives
+    ∙ ap (λ ns. concludes (clause_with ns made)) line.2
+
+two_conclude :
+    (lines : List Line) (n m : ℕ) (bind bind_too : List Tree) (rule : LiteralSet → LiteralSet → Option LiteralSet) (made : LiteralSet)
+    → IsGroundLine lines n → clause_size (line_clause lines n) ≤ MOST_BOUND_SYMBOLS → bind ≡ []
+    → IsGroundLine lines m → clause_size (line_clause lines m) ≤ MOST_BOUND_SYMBOLS → bind_too ≡ []
+    → rule (line_literals lines n) (line_literals lines m) ≡ Some made
+    → by_two (line_parents lines n) bind (line_parents lines m) bind_too rule ≡ concludes (bare_clause made)
+two_conclude lines n m bind bind_too rule made line small none line_too small_too none_too gives =
+    let c : TreeClause = line_clause lines n in
+    let d : TreeClause = line_clause lines m in
+    let named : Option LiteralSet → Option TreeClause = option_map (clause_with (c.names ++ d.names)) in
+    ap (λ p. by_two p bind (line_parents lines m) bind_too rule) (parent_there lines n line.0).1
+    ∙ ap (λ q. by_two (Some (record { clause = c; introduces = (parent_there lines n line.0).0 })) bind q bind_too rule) (parent_there lines m line_too.0).1
+    ∙ ap (λ b. verdict_if (b && binds bind_too d) (named (rule (bound_literals bind c) (bound_literals bind_too d)))) (binds-none bind c none line.1 small)
+    ∙ ap (λ b. verdict_if b (named (rule (bound_literals bind c) (bound_literals bind_too d)))) (binds-none bind_too d none_too line_too.1 small_too)
+    ∙ ap₂ (λ ls ks. verdict_of (named (rule ls ks))) (bound-none bind c none) (bound-none bind_too d none_too)
+    ∙ ap (λ o. verdict_of (named o)) gives
+    ∙ ap₂ (λ ns ms. concludes (clause_with (ns ++ ms) made)) line.2 line_too.2
 
 same_conclusion : (v : Verdict) (c d : TreeClause) → v ≡ concludes c → v ≡ concludes d → c ≡ d
 same_conclusion v c d h k = cc
@@ -60,13 +114,10 @@ merged-repeat ls i j repeat =
 pub merge_concludes :
     (lines : List Line) (line i j : ℕ) (bind : List Tree)
     → IsGroundLine lines line → clause_size (line_clause lines line) ≤ MOST_BOUND_SYMBOLS → bind ≡ [] → IsRepeat (line_literals lines line) j i
-    → verdict (Merge line i j bind) lines ≡ concludes (bare_clause (remove (line_literals lines line) j))
+    → verdict (Merge line i j bind) (line_parents lines) ≡ concludes (bare_clause (remove (line_literals lines line) j))
 merge_concludes lines line i j bind ground small none repeat =
-    let c : TreeClause = line_clause lines line in
-    let bound : binds bind c ≡ true = binds-none bind c none ground.1 small in
-    ap (λ b. verdict_if b (merged (bound_literals bind c) i j)) bound
-    ∙ ap (λ ls. verdict_of (merged ls i j)) (bound_literals-ground bind c bound ground.1)
-    ∙ ap verdict_of (merged-repeat c.literals i j repeat)
+    one_concludes lines line bind (λ ls. merged ls i j) (remove (line_literals lines line) j) ground small none
+    (merged-repeat (line_literals lines line) i j repeat)
 
 -- the merges that are made while the places below `goes` are without repeats
 pub record MergesSoFar (old : List Line) (line : ℕ) (new : List Line) (left goes : ℕ) : Type 0 where
@@ -119,7 +170,7 @@ MergesSoFar-merged old line mid left goes stays bind new number so_far none repe
     let ls : LiteralSet = line_literals mid left in
     let l : TreeLiteral = repeat.1 in
     let is : line_clause new number ≡ bare_clause (remove ls goes) =
-    same_conclusion (verdict (Merge left stays goes bind) mid) (line_clause new number) (bare_clause (remove ls goes)) added.concluded
+    same_conclusion (verdict (Merge left stays goes bind) (line_parents mid)) (line_clause new number) (bare_clause (remove ls goes)) added.concluded
     (merge_concludes mid left stays goes bind so_far.is_ground so_far.small none repeat) in
     let here : goes < length ls = slice_get_within ls goes l repeat.3 in
     record {
@@ -149,7 +200,7 @@ merge_smaller mid left goes stays bind new number ground small none repeat added
     let ls : LiteralSet = line_literals mid left in
     let here : goes < length ls = slice_get_within ls goes repeat.1 repeat.3 in
     let is : line_clause new number ≡ bare_clause (remove ls goes) =
-    same_conclusion (verdict (Merge left stays goes bind) mid) (line_clause new number) (bare_clause (remove ls goes)) added.concluded
+    same_conclusion (verdict (Merge left stays goes bind) (line_parents mid)) (line_clause new number) (bare_clause (remove ls goes)) added.concluded
     (merge_concludes mid left stays goes bind ground small none repeat) in
     omega (arith, ap (λ c. length c.literals) is, length-remove ls goes here)
 
@@ -222,19 +273,13 @@ IsPair-from lines first second i j t ls ks first_set second_set is at_first is_t
 pub IsSetLine-ground : (lines : List Line) (n : ℕ) → IsSetLine lines n → IsGroundLine lines n
 IsSetLine-ground lines n line = (line.there, no_variables-atoms (line_literals lines n) line.of_atoms, line.no_names)
 
-set_binds : (lines : List Line) (n : ℕ) (bind : List Tree) → IsSetLine lines n → bind ≡ [] → binds bind (line_clause lines n) ≡ true
-set_binds lines n bind line none =
-    binds-none bind (line_clause lines n) none (no_variables-atoms (line_literals lines n) line.of_atoms) (omega (arith, line.small))
-
-set_literals :
-    (lines : List Line) (n : ℕ) (bind : List Tree) → IsSetLine lines n → bind ≡ [] → bound_literals bind (line_clause lines n) ≡ line_literals lines n
-set_literals lines n bind line none =
-    bound_literals-ground bind (line_clause lines n) (set_binds lines n bind line none) (no_variables-atoms (line_literals lines n) line.of_atoms)
+set_small : (lines : List Line) (n : ℕ) → IsSetLine lines n → clause_size (line_clause lines n) ≤ MOST_BOUND_SYMBOLS
+set_small lines n line = omega (arith, line.small)
 
 pub para_concludes :
     (lines : List Line) (first second i j : ℕ) (t : Tree) (place : List ℕ) (bind bind_too : List Tree)
     → IsPair lines first second i j t → place ≡ [] → bind ≡ [] → bind_too ≡ []
-    → verdict (Para first second i Left j Left place bind bind_too) lines
+    → verdict (Para first second i Left j Left place bind bind_too) (line_parents lines)
     ≡ concludes (bare_clause (superposed_literals (line_literals lines first) i (line_literals lines second) j))
 para_concludes lines first second i j t place bind bind_too pair root none none_too =
     let ls : LiteralSet = line_literals lines first in
@@ -242,13 +287,10 @@ para_concludes lines first second i j t place bind bind_too pair root none none_
     let other : is_truth t ≡ false =
     (atom_sides (atom_literal true t)
     (member_holds is_atom_literal ls (atom_literal true t) pair.first_set.of_atoms (has_literal-at ls i (atom_literal true t) pair.at_first))).left_no_truth in
-    ap (λ b. verdict_if b (superposed (bound_literals bind (line_clause lines first)) i Left (bound_literals bind_too (line_clause lines second)) j Left place))
-    (and_from (binds bind (line_clause lines first)) (binds bind_too (line_clause lines second))
-    (set_binds lines first bind pair.first_set none) (set_binds lines second bind_too pair.second_set none_too))
-    ∙ ap (λ us. verdict_of (superposed us i Left (bound_literals bind_too (line_clause lines second)) j Left place)) (set_literals lines first bind pair.first_set none)
-    ∙ ap (λ us. verdict_of (superposed ls i Left us j Left place)) (set_literals lines second bind_too pair.second_set none_too)
-    ∙ ap (λ p. verdict_of (superposed ls i Left ks j Left p)) root
-    ∙ ap verdict_of (superposed-atom ls ks i j t other pair.at_first pair.at_second)
+    two_conclude lines first second bind bind_too (λ us vs. superposed us i Left vs j Left place) (superposed_literals ls i ks j)
+    (IsSetLine-ground lines first pair.first_set) (set_small lines first pair.first_set) none
+    (IsSetLine-ground lines second pair.second_set) (set_small lines second pair.second_set) none_too
+    (ap (λ p. superposed ls i Left ks j Left p) root ∙ superposed-atom ls ks i j t other pair.at_first pair.at_second)
 
 -- the line of that superposition
 pub record IsSuperposed (lines : List Line) (first second i j : ℕ) (new : List Line) (number : ℕ) : Type 0 where
@@ -266,7 +308,7 @@ IsSuperposed-from lines first second i j t place bind bind_too new number pair r
     let ks : LiteralSet = line_literals lines second in
     let made : LiteralSet = superposed_literals ls i ks j in
     let is : line_clause new number ≡ bare_clause made =
-    same_conclusion (verdict (Para first second i Left j Left place bind bind_too) lines) (line_clause new number) (bare_clause made) added.concluded
+    same_conclusion (verdict (Para first second i Left j Left place bind bind_too) (line_parents lines)) (line_clause new number) (bare_clause made) added.concluded
     (para_concludes lines first second i j t place bind bind_too pair root none none_too) in
     record {
       is = is;
@@ -304,17 +346,13 @@ trivial-there ls ks i j l at_place =
 pub refl_concludes :
     (lines : List Line) (first second i j : ℕ) (t : Tree) (new : List Line) (number : ℕ) (bind : List Tree)
     → IsPair lines first second i j t → IsSuperposed lines first second i j new number → bind ≡ []
-    → verdict (Refl number j bind) new
+    → verdict (Refl number j bind) (line_parents new)
     ≡ concludes (bare_clause (remove (superposed_literals (line_literals lines first) i (line_literals lines second) j) j))
 refl_concludes lines first second i j t new number bind pair superposed none =
-    let c : TreeClause = line_clause new number in
     let made : LiteralSet = superposed_literals (line_literals lines first) i (line_literals lines second) j in
-    let bound : binds bind c ≡ true = binds-none bind c none superposed.is_ground.1 superposed.small in
-    ap (λ b. verdict_if b (resolved (bound_literals bind c) j)) bound
-    ∙ ap (λ us. verdict_of (resolved us j)) (bound_literals-ground bind c bound superposed.is_ground.1)
-    ∙ ap (λ d. verdict_of (resolved d.literals j)) superposed.is
-    ∙ ap verdict_of
-    (resolved-trivial made j
+    one_concludes new number bind (λ ls. resolved ls j) (remove made j) superposed.is_ground superposed.small none
+    (ap (λ (d : TreeClause). resolved d.literals j) superposed.is
+    ∙ resolved-trivial made j
     (trivial-there (line_literals lines first) (line_literals lines second) i j (atom_literal false t) pair.at_second))
 
 -- both lines together
@@ -332,7 +370,7 @@ IsResolved-from lines first second i j t place bind bind_too bind_last mid numbe
     let superposed : IsSuperposed lines first second i j mid number =
     IsSuperposed-from lines first second i j t place bind bind_too mid number pair root none none_too added in
     let is : line_clause new last ≡ bare_clause (remove made j) =
-    same_conclusion (verdict (Refl number j bind_last) mid) (line_clause new last) (bare_clause (remove made j)) then_added.concluded
+    same_conclusion (verdict (Refl number j bind_last) (line_parents mid)) (line_clause new last) (bare_clause (remove made j)) then_added.concluded
     (refl_concludes lines first second i j t mid number bind_last pair superposed none_last) in
     let there : slice_get made j ≡ Some trivial = trivial-there ls ks i j (atom_literal false t) pair.at_second in
     let long : j < length (slice_set ks j trivial) =

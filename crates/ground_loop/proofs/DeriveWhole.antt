@@ -8,23 +8,23 @@ use Rattle.fol_base.specs.Tree.{Tree}
 use Rattle.fol_base.specs.Clause.{TreeLiteral, TreeClause}
 use Rattle.fol_base.specs.GroundForm.{IsGroundForm}
 use Rattle.kernel_steps.specs.declared.step.Line.{Line}
-use Rattle.kernel_steps.specs.Conclusion.{empty_clause, line_clause}
-use Rattle.kernel_steps.specs.Derivation.{AreClauseLines, IsDerivation, IsRefutation}
+use Rattle.kernel_steps.specs.Conclusion.{empty_clause}
+use Rattle.kernel_steps.specs.Derivation.{IsDerivation, IsRefutation}
 use Rattle.ground_loop.specs.Resolution.{has_literal}
 use Rattle.ground_loop.specs.Entries.{coded_set, entry_set, ComesFrom}
 use Rattle.ground_loop.specs.Search.{ReachesEmpty, IsClauseRefutation}
 use Rattle.ground_loop.specs.declared.entry.Entry.{Entry}
 use Rattle.ground_loop.specs.declared.entry.Origin.{Origin}
 use Rattle.ground_loop.specs.declared.entry.Origin.TheVariants.{Clause, Resolvent}
-use Rattle.ground_loop.specs.Lines.{line_literals, IsLastLine, IsCone, AddsClause, AddsClauses, IsPrepared, EndsWith, AddsEntries}
+use Rattle.ground_loop.specs.Lines.{line_clause, line_literals, AreLoopLines, IsLastLine, IsCone, AddsClause, AddsClauses, IsPrepared, EndsWith, AddsEntries}
 use Rattle.ground_loop.proofs.DeriveLemmas.{SameElements-from_same_set, empty_set, no_names-of_form}
 use Rattle.ground_loop.proofs.DeriveLines.{slice_get-end, line_clause-end}
 
 pub IsDerivation-none : (form : List TreeClause) → IsDerivation form []
 IsDerivation-none form n line h = cc
 
-AreClauseLines-none : AreClauseLines []
-AreClauseLines-none n line h = cc
+AreLoopLines-none : AreLoopLines []
+AreLoopLines-none n line h = cc
 
 -- a derivation whose last line is a clause line and empty is a refutation
 pub IsRefutation-from :
@@ -101,7 +101,7 @@ pub IsRefutation-from_clause :
 IsRefutation-from_clause form n lines empty added = record {
   refutes =
       IsRefutation-from form lines 0 (added.continues.derived (IsDerivation-none form)) added.is_last (added.has_clause empty_clause empty.is_empty);
-  clause_lines = added.continues.clause_lines AreClauseLines-none;
+  loop_lines = added.continues.loop_lines AreLoopLines-none;
 }
 
 -- the last entry is the resolvent of two others
@@ -135,5 +135,5 @@ IsRefutation-from_two form atoms entries d first second atom entry_marks clause_
           (clause_parts (line_clause lines ends.number)
           (empty_set (line_literals lines ends.number) (λ l. ends.is_line.same l ∙ ap (has_literal l) (last_empty form atoms entries d reaches)))
           ends.is_line.no_names);
-      clause_lines = added.continues.clause_lines (clauses.continues.clause_lines AreClauseLines-none);
+      loop_lines = added.continues.loop_lines (clauses.continues.loop_lines AreLoopLines-none);
     }

@@ -16,7 +16,7 @@ use Rattle.fol_base.specs.Interpretation.{Row, Interpretation, IsInterpretation,
 use Rattle.fol_base.proofs.TreeLemmas.{tree_eq-true, tree_eq-refl}
 use Rattle.kernel_steps.specs.Soundness.{ground_clauses}
 use Rattle.ground_loop.specs.Resolution.{has_literal}
-use Rattle.kernel_steps.proofs.SoundLemmas.{ground_refutations_herbrand_refute}
+use Rattle.kernel_steps.proofs.RefutationLemmas.{ground_refutations_herbrand_refute}
 use Rattle.ground_loop.specs.Answer.{IsGroundAnswer}
 use Rattle.ground_loop.specs.Satisfaction.{ClosedFormsAreSatisfied, HasMeaning}
 use Rattle.ground_loop.specs.declared.answer.Ground.{Ground}

@@ -1,70 +1,22 @@
 -- A refutation below its input lines is a refutation, and each of its clausify lines stands below the input line of its formula.
-use Rattle.std.proofs.Common.{◌≡◌, ℕ, zero, suc, ◌+◌, ◌-◌, ◌<◌, ◌≤◌, Bool, true, false, ◌||◌, ◌&&◌, Some, List, [], ◌∷◌, ◌++◌, length, map, take, refl, ap, sym, ◌∙◌, subst, arith, eq-eqb, inl, inr}
-use Rattle.std.specs.Prelude.{slice_get}
+use Rattle.std.proofs.Common.{◌≡◌, ℕ, zero, suc, ◌+◌, ◌-◌, ◌<◌, ◌≤◌, Bool, true, false, ◌||◌, Option, None, Some, List, [], ◌∷◌, ◌++◌, length, map, take, refl, ap, sym, ◌∙◌, subst, arith, eq-eqb, inl, inr}
+use Rattle.std.specs.Prelude.{slice_get, option_map, option_and_then, if◌then◌else◌}
 use Rattle.std.specs.List.{list_any}
-use Rattle.std.proofs.lemmas.List.{append_assoc, map-append, length-append, length-map}
-use Rattle.std.proofs.lemmas.Bool.{cases_lt}
+use Rattle.std.proofs.lemmas.List.{append_assoc, map-append}
+use Rattle.std.proofs.lemmas.Bool.{cases_lt, true≢false}
 use Rattle.std.proofs.lemmas.List.Folds.{list_any-append}
-use Rattle.std.proofs.lemmas.Option.{slice_get_within}
+use Rattle.std.proofs.lemmas.Option.{slice_get_within, slice_get-map}
 use Rattle.fol_base.specs.Clause.{TreeClause}
 use Rattle.fol_base.specs.Literal.{clause_of}
 use Rattle.kernel_steps.specs.declared.step.Step.{Step}
-use Rattle.kernel_steps.specs.declared.step.Step.TheVariants.{Input, Negate, Clausify, Para, Refl, Factor, Merge, Component, Split, Chain}
+use Rattle.kernel_steps.specs.declared.step.Step.TheVariants.{Input, Negate, Clausify, Para, Refl, Factor, Merge, Component, Opposite, Split, Chain}
 use Rattle.kernel_steps.specs.declared.step.Line.{Line}
 use Rattle.fol_base.specs.Rules.{superposed, resolved, merged}
-use Rattle.kernel_steps.specs.Conclusion.{empty_clause, line_clause, binds, bound_literals, Verdict, verdict_if}
-use Rattle.kernel_steps.specs.Derivation.{ComesBy, IsDerivation, IsRefutation, is_clause_step, AreClauseLines, is_input_of, IsSourced, IsSourcedRefutation}
+use Rattle.kernel_steps.specs.Parents.{Parent}
+use Rattle.kernel_steps.specs.Conclusion.{empty_clause, by_one, by_two}
+use Rattle.kernel_steps.specs.Derivation.{ComesBy, IsDerivation, IsRefutation, is_clause_step, introduces_name, line_parent, line_parents, is_input_of, IsSourced, IsSourcedRefutation}
+use Rattle.ground_loop.specs.Lines.{is_loop_step, AreLoopLines}
 use Rattle.ground_loop.specs.Inputs.{shifted_step, shifted_line, input_of, inputs_of, no_clause, with_inputs_of}
-
--- the clause of a line below others
-pub line_clause-below : (pre ls : List Line) (k n : ℕ) → k ≡ length pre → line_clause (pre ++ ls) (n + k) ≡ line_clause ls n
-line_clause-below [] ls k n e = ap (line_clause ls) (let q : n + k ≡ n = omega arith in q)
-line_clause-below (p ∷ pre) ls k n e =
-    ap (line_clause (p ∷ pre ++ ls)) (let q : n + k ≡ suc (n + (k - 1)) = omega arith in q)
-    ∙ line_clause-below pre ls (k - 1) n (omega arith)
-
-pub line_clause-shifted : (k : ℕ) (ls : List Line) (n : ℕ) → line_clause (map (shifted_line k) ls) n ≡ line_clause ls n
-line_clause-shifted k [] n = refl
-line_clause-shifted k (l ∷ ls) zero = refl
-line_clause-shifted k (l ∷ ls) (suc n) = line_clause-shifted k ls n
-
-pub line_clause-moved :
-    (pre ls : List Line) (k n : ℕ) → k ≡ length pre → line_clause (pre ++ map (shifted_line k) ls) (n + k) ≡ line_clause ls n
-line_clause-moved pre ls k n e = line_clause-below pre (map (shifted_line k) ls) k n e ∙ line_clause-shifted k ls n
-
-pub length-below : (pre ls : List Line) (k n : ℕ) → k ≡ length pre → n < length ls → n + k < length (pre ++ map (shifted_line k) ls)
-length-below pre ls k n e h =
-    omega (arith, length-append pre (map (shifted_line k) ls), length-map ls (shifted_line k))
-
--- a step below other lines gives what it gave
-pub ComesBy-below :
-    (step : Step) (form : List TreeClause) (pre earlier : List Line) (k : ℕ) (c : TreeClause)
-    → k ≡ length pre → ComesBy step form earlier c → ComesBy (shifted_step k step) form (pre ++ map (shifted_line k) earlier) c
-ComesBy-below (Input place) form pre earlier k c e h = h
-ComesBy-below (Negate place) form pre earlier k c e h = h
-ComesBy-below (Clausify i) form pre earlier k c e h = h
-ComesBy-below (Para a b i s j z place first second) form pre earlier k c e h = (
-  length-below pre earlier k a e h.0,
-  length-below pre earlier k b e h.1,
-  ap (λ (d : TreeClause). V d (line_clause (pre ++ map (shifted_line k) earlier) (b + k))) (line_clause-moved pre earlier k a e)
-      ∙ ap (V (line_clause earlier a)) (line_clause-moved pre earlier k b e)
-      ∙ h.2,
-)
-  where
-    V : TreeClause → TreeClause → Verdict
-    V d f = verdict_if (binds first d && binds second f) (superposed (bound_literals first d) i s (bound_literals second f) j z place)
-ComesBy-below (Refl a i bind) form pre earlier k c e h = (
-  length-below pre earlier k a e h.0,
-  ap (λ (d : TreeClause). verdict_if (binds bind d) (resolved (bound_literals bind d) i)) (line_clause-moved pre earlier k a e) ∙ h.1,
-)
-ComesBy-below (Merge a i j bind) form pre earlier k c e h = (
-  length-below pre earlier k a e h.0,
-  ap (λ (d : TreeClause). verdict_if (binds bind d) (merged (bound_literals bind d) i j)) (line_clause-moved pre earlier k a e) ∙ h.1,
-)
-ComesBy-below (Factor a i s j z bind) form pre earlier k c e h = h
-ComesBy-below (Component n) form pre earlier k c e h = h
-ComesBy-below (Split a cs parts) form pre earlier k c e h = h
-ComesBy-below (Chain ps pivots) form pre earlier k c e h = h
 
 -- lines that are followed by others, and lines below others
 pub slice_get-front : {X : Type 0} (xs ys : List X) (n : ℕ) → n < length xs → slice_get (xs ++ ys) n ≡ slice_get xs n
@@ -84,6 +36,76 @@ take-rest (x ∷ xs) ys zero h = absurd (omega arith)
 take-rest (x ∷ xs) ys (suc n) h =
     ap (λ zs. x ∷ zs) (take-rest xs ys n (omega arith)
     ∙ ap (λ k. xs ++ take k ys) (let q : n - length xs ≡ suc n - suc (length xs) = omega arith in q))
+
+-- the steps keep their kinds
+clause_step_shifted : (k : ℕ) (step : Step) → is_clause_step (shifted_step k step) ≡ is_clause_step step
+clause_step_shifted k (Input place) = refl
+clause_step_shifted k (Negate place) = refl
+clause_step_shifted k (Clausify i) = refl
+clause_step_shifted k (Para a b i s j z place first second) = refl
+clause_step_shifted k (Refl a i bind) = refl
+clause_step_shifted k (Factor a i s j z bind) = refl
+clause_step_shifted k (Merge a i j bind) = refl
+clause_step_shifted k (Component n) = refl
+clause_step_shifted k (Opposite n) = refl
+clause_step_shifted k (Split a cs parts) = refl
+clause_step_shifted k (Chain ps pivots) = refl
+
+introduces_name_shifted : (k : ℕ) (step : Step) → introduces_name (shifted_step k step) ≡ introduces_name step
+introduces_name_shifted k (Input place) = refl
+introduces_name_shifted k (Negate place) = refl
+introduces_name_shifted k (Clausify i) = refl
+introduces_name_shifted k (Para a b i s j z place first second) = refl
+introduces_name_shifted k (Refl a i bind) = refl
+introduces_name_shifted k (Factor a i s j z bind) = refl
+introduces_name_shifted k (Merge a i j bind) = refl
+introduces_name_shifted k (Component n) = refl
+introduces_name_shifted k (Opposite n) = refl
+introduces_name_shifted k (Split a cs parts) = refl
+introduces_name_shifted k (Chain ps pivots) = refl
+
+-- a parent below other lines
+parent_shifted : (k : ℕ) (l : Line) → line_parent (shifted_line k l) ≡ line_parent l
+parent_shifted k l =
+    let made : Bool → Parent = λ b. record { clause = clause_of l.clause; introduces = b } in
+    ap (λ b. let o : Option Parent = if b then Some (made (introduces_name (shifted_step k l.step))) else None in o) (clause_step_shifted k l.step)
+    ∙ ap (λ b. let o : Option Parent = if is_clause_step l.step then Some (made b) else None in o) (introduces_name_shifted k l.step)
+
+pub parents-moved :
+    (pre ls : List Line) (k n : ℕ) → k ≡ length pre → line_parents (pre ++ map (shifted_line k) ls) (n + k) ≡ line_parents ls n
+parents-moved pre ls k n e =
+    ap (option_and_then line_parent)
+    (slice_get-rest pre (map (shifted_line k) ls) (n + k) (omega arith)
+    ∙ ap (slice_get (map (shifted_line k) ls)) (let q : (n + k) - length pre ≡ n = omega arith in q)
+    ∙ slice_get-map (shifted_line k) ls n)
+    ∙ same (slice_get ls n)
+  where
+    same : (o : Option Line) → option_and_then line_parent (option_map (shifted_line k) o) ≡ option_and_then line_parent o
+    same None = refl
+    same (Some l) = parent_shifted k l
+
+-- a step of the loop below other lines gives what it gave
+pub ComesBy-below :
+    (step : Step) (form : List TreeClause) (pre earlier : List Line) (k : ℕ) (c : TreeClause)
+    → is_loop_step step ≡ true → k ≡ length pre → ComesBy step form earlier c
+    → ComesBy (shifted_step k step) form (pre ++ map (shifted_line k) earlier) c
+ComesBy-below (Clausify i) form pre earlier k c is_one e h = h
+ComesBy-below (Para a b i s j z place first second) form pre earlier k c is_one e h =
+    ap (λ p. by_two p first (line_parents (pre ++ map (shifted_line k) earlier) (b + k)) second (λ ls ks. superposed ls i s ks j z place))
+    (parents-moved pre earlier k a e)
+    ∙ ap (λ p. by_two (line_parents earlier a) first p second (λ ls ks. superposed ls i s ks j z place)) (parents-moved pre earlier k b e)
+    ∙ h
+ComesBy-below (Refl a i bind) form pre earlier k c is_one e h =
+    ap (λ p. by_one p bind (λ ls. resolved ls i)) (parents-moved pre earlier k a e) ∙ h
+ComesBy-below (Merge a i j bind) form pre earlier k c is_one e h =
+    ap (λ p. by_one p bind (λ ls. merged ls i j)) (parents-moved pre earlier k a e) ∙ h
+ComesBy-below (Input place) form pre earlier k c is_one e h = absurd (true≢false (sym is_one))
+ComesBy-below (Negate place) form pre earlier k c is_one e h = absurd (true≢false (sym is_one))
+ComesBy-below (Factor a i s j z bind) form pre earlier k c is_one e h = absurd (true≢false (sym is_one))
+ComesBy-below (Component n) form pre earlier k c is_one e h = absurd (true≢false (sym is_one))
+ComesBy-below (Opposite n) form pre earlier k c is_one e h = absurd (true≢false (sym is_one))
+ComesBy-below (Split a cs parts) form pre earlier k c is_one e h = absurd (true≢false (sym is_one))
+ComesBy-below (Chain ps pivots) form pre earlier k c is_one e h = absurd (true≢false (sym is_one))
 
 pub slice_get-shifted :
     (k : ℕ) (ls : List Line) (n : ℕ) (line : Line)
@@ -115,6 +137,7 @@ front_line formulas (Para a b i s j z place first second) rest bounded others n 
 front_line formulas (Refl a i bind) rest bounded others n line h = others n line h
 front_line formulas (Factor a i s j z bind) rest bounded others n line h = others n line h
 front_line formulas (Merge a i j bind) rest bounded others n line h = others n line h
+front_line formulas (Opposite k) rest bounded others n line h = others n line h
 front_line formulas (Component k) rest bounded others n line h = others n line h
 front_line formulas (Split a cs parts) rest bounded others n line h = others n line h
 front_line formulas (Chain ps pivots) rest bounded others n line h = others n line h
@@ -159,32 +182,20 @@ any_front i xs ys h =
 -- a line that stands below the inputs
 sourced_below :
     (formulas : ℕ) (step : Step) (k : ℕ) (pre rest : List Line)
-    → is_clause_step step ≡ true
+    → is_loop_step step ≡ true
     → ((i : ℕ) → step ≡ Clausify i → list_any (λ (m : Line). is_input_of i m.step) pre ≡ true)
     → IsSourced formulas (pre ++ rest) (shifted_step k step)
-sourced_below formulas (Input place) k pre rest none inputs = cc
-sourced_below formulas (Clausify i) k pre rest none inputs = any_front i pre rest (inputs i refl)
-sourced_below formulas (Negate place) k pre rest none inputs = cc
-sourced_below formulas (Para a b i s j z place first second) k pre rest none inputs = tt
-sourced_below formulas (Refl a i bind) k pre rest none inputs = tt
-sourced_below formulas (Factor a i s j z bind) k pre rest none inputs = tt
-sourced_below formulas (Merge a i j bind) k pre rest none inputs = tt
-sourced_below formulas (Component n) k pre rest none inputs = tt
-sourced_below formulas (Split a cs parts) k pre rest none inputs = tt
-sourced_below formulas (Chain ps pivots) k pre rest none inputs = tt
-
--- the steps keep their kinds
-clause_step_shifted : (k : ℕ) (step : Step) → is_clause_step step ≡ true → is_clause_step (shifted_step k step) ≡ true
-clause_step_shifted k (Input place) h = h
-clause_step_shifted k (Negate place) h = h
-clause_step_shifted k (Clausify i) h = refl
-clause_step_shifted k (Para a b i s j z place first second) h = refl
-clause_step_shifted k (Refl a i bind) h = refl
-clause_step_shifted k (Factor a i s j z bind) h = refl
-clause_step_shifted k (Merge a i j bind) h = refl
-clause_step_shifted k (Component n) h = refl
-clause_step_shifted k (Split a cs parts) h = refl
-clause_step_shifted k (Chain ps pivots) h = refl
+sourced_below formulas (Clausify i) k pre rest is_one inputs = any_front i pre rest (inputs i refl)
+sourced_below formulas (Para a b i s j z place first second) k pre rest is_one inputs = tt
+sourced_below formulas (Refl a i bind) k pre rest is_one inputs = tt
+sourced_below formulas (Merge a i j bind) k pre rest is_one inputs = tt
+sourced_below formulas (Input place) k pre rest is_one inputs = absurd (true≢false (sym is_one))
+sourced_below formulas (Negate place) k pre rest is_one inputs = absurd (true≢false (sym is_one))
+sourced_below formulas (Factor a i s j z bind) k pre rest is_one inputs = absurd (true≢false (sym is_one))
+sourced_below formulas (Component n) k pre rest is_one inputs = absurd (true≢false (sym is_one))
+sourced_below formulas (Opposite n) k pre rest is_one inputs = absurd (true≢false (sym is_one))
+sourced_below formulas (Split a cs parts) k pre rest is_one inputs = absurd (true≢false (sym is_one))
+sourced_below formulas (Chain ps pivots) k pre rest is_one inputs = absurd (true≢false (sym is_one))
 
 take-shifted : (k n : ℕ) (ls : List Line) → take n (map (shifted_line k) ls) ≡ map (shifted_line k) (take n ls)
 take-shifted k zero ls = refl
@@ -202,10 +213,10 @@ input_comes form formulas earlier line h =
 -- what holds of a line below the inputs
 moved_line :
     (form : List TreeClause) (ls : List Line) (m : ℕ) (l line : Line)
-    → IsDerivation form ls → AreClauseLines ls → slice_get ls m ≡ Some l → line ≡ shifted_line (length (inputs_of ls)) l
+    → IsDerivation form ls → AreLoopLines ls → slice_get ls m ≡ Some l → line ≡ shifted_line (length (inputs_of ls)) l
     → ComesBy line.step form (inputs_of ls ++ take m (map (shifted_line (length (inputs_of ls))) ls)) (clause_of line.clause)
     × IsSourced (length form) (inputs_of ls ++ take m (map (shifted_line (length (inputs_of ls))) ls)) line.step
-moved_line form ls m l line derived clauses there is =
+moved_line form ls m l line derived loop there is =
     let k : ℕ = length (inputs_of ls) in
     let P : Line → Type 0 =
     λ t. ComesBy t.step form (inputs_of ls ++ take m (map (shifted_line k) ls)) (clause_of t.clause)
@@ -213,18 +224,18 @@ moved_line form ls m l line derived clauses there is =
     let Q : List Line → Type 0 = λ ks. ComesBy (shifted_step k l.step) form (inputs_of ls ++ ks) (clause_of l.clause) in
     subst P (sym is) (
       subst Q (sym (take-shifted k m ls))
-          (ComesBy-below l.step form (inputs_of ls) (take m ls) k (clause_of l.clause) refl (derived m l there)),
-      sourced_below (length form) l.step k (inputs_of ls) (take m (map (shifted_line k) ls)) (clauses m l there)
+          (ComesBy-below l.step form (inputs_of ls) (take m ls) k (clause_of l.clause) (loop m l there) refl (derived m l there)),
+      sourced_below (length form) l.step k (inputs_of ls) (take m (map (shifted_line k) ls)) (loop m l there)
           (λ i e. has_input ls m l i there e),
     )
 
 -- what holds of each line
 whole_line :
     (form : List TreeClause) (ls : List Line) (n : ℕ) (line : Line)
-    → IsDerivation form ls → AreClauseLines ls → slice_get (with_inputs_of ls) n ≡ Some line
+    → IsDerivation form ls → AreLoopLines ls → slice_get (with_inputs_of ls) n ≡ Some line
     → ComesBy line.step form (take n (with_inputs_of ls)) (clause_of line.clause)
     × IsSourced (length form) (take n (with_inputs_of ls)) line.step
-whole_line form ls n line derived clauses there =
+whole_line form ls n line derived loop there =
     elim (cases_lt n (length (inputs_of ls))) [
       | inl front ↦
           input_comes form (length form) (take n (with_inputs_of ls)) line
@@ -238,7 +249,7 @@ whole_line form ls n line derived clauses there =
           let P : List Line → Type 0 =
           λ earlier. ComesBy line.step form earlier (clause_of line.clause) × IsSourced (length form) earlier line.step in
           subst P (sym (take-rest (inputs_of ls) (map (shifted_line k) ls) n below))
-          (moved_line form ls (n - k) found.0 line derived clauses found.1 found.2)
+          (moved_line form ls (n - k) found.0 line derived loop found.1 found.2)
     ]
   where
     bounded : (m : ℕ) (l : Line) (i : ℕ) → slice_get ls m ≡ Some l → l.step ≡ Clausify i → i < length form
@@ -248,20 +259,20 @@ whole_line form ls n line derived clauses there =
 
 pub sourced_refutation :
     (form : List TreeClause) (ls : List Line)
-    → IsRefutation form ls → AreClauseLines ls → IsSourcedRefutation form (with_inputs_of ls)
-sourced_refutation form ls r clauses =
+    → IsRefutation form ls → AreLoopLines ls → IsSourcedRefutation form (with_inputs_of ls)
+sourced_refutation form ls r loop =
     let k : ℕ = length (inputs_of ls) in
     record {
       refutes = record {
-        derived = λ n line there. (whole_line form ls n line r.derived clauses there).0;
+        derived = λ n line there. (whole_line form ls n line r.derived loop there).0;
         before = inputs_of ls ++ map (shifted_line k) r.before;
         last = shifted_line k r.last;
         ends =
             ap (λ ks. inputs_of ls ++ map (shifted_line k) ks) r.ends
             ∙ ap (λ ks. inputs_of ls ++ ks) (map-append (shifted_line k) r.before (r.last ∷ []))
             ∙ sym (append_assoc (inputs_of ls) (map (shifted_line k) r.before) (shifted_line k r.last ∷ []));
-        is_clause = clause_step_shifted k r.last.step r.is_clause;
+        is_clause = clause_step_shifted k r.last.step ∙ r.is_clause;
         is_empty = r.is_empty;
       };
-      sourced = λ n line there. (whole_line form ls n line r.derived clauses there).1;
+      sourced = λ n line there. (whole_line form ls n line r.derived loop there).1;
     }

@@ -2,7 +2,7 @@
 use Rattle.std.specs.Prelude.{ℕ, ◌+◌, List, [], ◌∷◌, ◌++◌, map, length}
 use Rattle.fol_base.specs.declared.clause.Clause.{Clause}
 use Rattle.kernel_steps.specs.declared.step.Step.{Step}
-use Rattle.kernel_steps.specs.declared.step.Step.TheVariants.{Input, Negate, Clausify, Para, Refl, Factor, Merge, Component, Split, Chain}
+use Rattle.kernel_steps.specs.declared.step.Step.TheVariants.{Input, Negate, Clausify, Para, Refl, Factor, Merge, Component, Opposite, Split, Chain}
 use Rattle.kernel_steps.specs.declared.step.Line.{Line}
 
 -- the parents of para, refl and merge numbered from so many lines on
@@ -15,6 +15,7 @@ shifted_step k (Negate place) = Negate place
 shifted_step k (Clausify i) = Clausify i
 shifted_step k (Factor a i s j z bind) = Factor a i s j z bind
 shifted_step k (Component n) = Component n
+shifted_step k (Opposite n) = Opposite n
 shifted_step k (Split a cs parts) = Split a cs parts
 shifted_step k (Chain ps pivots) = Chain ps pivots
 

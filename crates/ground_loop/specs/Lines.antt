@@ -1,14 +1,16 @@
 -- Lines of a derivation as sets of literals, and how lines are added.
 use Rattle.fol_base.specs.declared.limits.TheConstants.{MOST_SYMBOLS, MOST_BOUND_SYMBOLS}
-use Rattle.std.specs.Prelude.{◌≡◌, ℕ, ◌-◌, ◌<◌, ◌≤◌, Bool, true, false, not, ◌&&◌, List, [], ◌∷◌, ◌++◌, length, Some, slice_get, slice_set, slice_index, slice_index_or, take, IsTrue, IsFalse}
+use Rattle.std.specs.Prelude.{◌≡◌, ℕ, zero, suc, ◌-◌, ◌<◌, ◌≤◌, Bool, true, false, not, ◌&&◌, List, [], ◌∷◌, ◌++◌, length, Some, slice_get, slice_set, slice_index, slice_index_or, take, IsTrue, IsFalse}
 use Rattle.std.specs.List.{list_any, list_all}
 use Rattle.fol_base.specs.Tree.{Tree}
-use Rattle.fol_base.specs.Clause.{TreeLiteral, TreeClause, clause_size}
+use Rattle.fol_base.specs.Clause.{TreeLiteral, TreeClause, clause_size, clause_variables}
+use Rattle.fol_base.specs.Literal.{clause_of}
 use Rattle.fol_base.specs.GroundForm.{is_atom_literal, IsGroundForm, form_size}
 use Rattle.kernel_steps.specs.declared.step.Step.{Step}
+use Rattle.kernel_steps.specs.declared.step.Step.TheVariants.{Clausify, Para, Refl, Merge}
 use Rattle.kernel_steps.specs.declared.step.Line.{Line}
-use Rattle.kernel_steps.specs.Conclusion.{Verdict, verdict, concludes, line_clause, IsGroundLine}
-use Rattle.kernel_steps.specs.Derivation.{is_clause_step, IsDerivation, AreClauseLines}
+use Rattle.kernel_steps.specs.Conclusion.{empty_clause, Verdict, verdict, concludes}
+use Rattle.kernel_steps.specs.Derivation.{is_clause_step, line_parents, IsDerivation}
 use Rattle.ground_loop.specs.Resolution.{LiteralSet, has_literal, resolvent}
 use Rattle.ground_loop.specs.Entries.{entry_set, AreEntries}
 use Rattle.ground_loop.specs.declared.entry.Entry.{Entry}
@@ -39,17 +41,47 @@ IsNew ls place = (l : TreeLiteral) → slice_get ls place ≡ Some l → IsFalse
 abbrev pub form_has : List TreeClause → TreeLiteral → Bool
 form_has form l = list_any (λ c. has_literal l c.literals) form
 
+-- ---- lines by their numbers
+
+-- the clause of a line, the empty one past the end
+abbrev pub line_clause : List Line → ℕ → TreeClause
+line_clause [] n = empty_clause
+line_clause (l ∷ ls) zero = clause_of l.clause
+line_clause (l ∷ ls) (suc n) = line_clause ls n
+
+-- a line of a clause has that number
+abbrev pub has_clause_line : List Line → ℕ → Bool
+has_clause_line [] n = false
+has_clause_line (l ∷ ls) zero = is_clause_step l.step
+has_clause_line (l ∷ ls) (suc n) = has_clause_line ls n
+
+-- one without variables and names has
+abbrev pub IsGroundLine : List Line → ℕ → Type 0
+IsGroundLine lines n =
+    IsTrue (has_clause_line lines n) × (clause_variables (line_clause lines n) ≡ []) × ((line_clause lines n).names ≡ [])
+
 abbrev pub line_literals : List Line → ℕ → LiteralSet
 line_literals lines n = (line_clause lines n).literals
 
 -- ---- lines that are added
 
--- further lines of clauses, which keep a derivation from the form one
+-- the steps that the loop makes
+abbrev pub is_loop_step : Step → Bool
+is_loop_step (Clausify number) = true
+is_loop_step (Para first second from from_side into into_side place first_bind second_bind) = true
+is_loop_step (Refl parent literal bind) = true
+is_loop_step (Merge parent stays goes bind) = true
+is_loop_step _ = false
+
+abbrev pub AreLoopLines : List Line → Type 0
+AreLoopLines lines = (n : ℕ) (line : Line) → slice_get lines n ≡ Some line → IsTrue (is_loop_step line.step)
+
+-- further lines by steps of the loop, which keep a derivation from the form one
 pub record Continues (form : List TreeClause) (old new : List Line) : Type 0 where
   pub more : List Line
   pub grown : new ≡ old ++ more
   pub derived : IsDerivation form old → IsDerivation form new
-  pub clause_lines : AreClauseLines old → AreClauseLines new
+  pub loop_lines : AreLoopLines old → AreLoopLines new
 
 -- the last line has that number, and is the line of a clause
 pub record IsLastLine (lines : List Line) (number : ℕ) : Type 0 where
@@ -66,11 +98,11 @@ Concludes v = (c : TreeClause) × (v ≡ concludes c)
 pub record AddsLine (old : List Line) (step : Step) (new : List Line) (number : ℕ) : Type 0 where
   pub continues : (form : List TreeClause) → Continues form old new
   pub is_last : IsLastLine new number
-  pub concluded : verdict step old ≡ concludes (line_clause new number)
+  pub concluded : verdict step (line_parents old) ≡ concludes (line_clause new number)
 
 -- a line without names and repeats, of atoms and their negations, with at most 4,000 symbols
 pub record IsSetLine (lines : List Line) (number : ℕ) : Type 0 where
-  pub there : number < length lines
+  pub there : IsTrue (has_clause_line lines number)
   pub no_names : (line_clause lines number).names ≡ []
   pub of_atoms : IsTrue (list_all is_atom_literal (line_literals lines number))
   pub different : IsTrue (are_different (line_literals lines number))
@@ -79,7 +111,7 @@ pub record IsSetLine (lines : List Line) (number : ℕ) : Type 0 where
 -- a line is left that has the literals of the given one, each once
 pub record IsMerged (old : List Line) (line : ℕ) (new : List Line) (left : ℕ) : Type 0 where
   pub continues : (form : List TreeClause) → Continues form old new
-  pub there : left < length new
+  pub there : IsTrue (has_clause_line new left)
   pub no_names : (line_clause new left).names ≡ []
   pub different : IsTrue (are_different (line_literals new left))
   pub same : SameElements (line_literals new left) (line_literals old line)
@@ -148,11 +180,11 @@ pub record IsCone (form : List TreeClause) (entries : List Entry) (entry_marks c
 -- ---- lines of clauses and entries
 
 abbrev pub IsClauseLine : List Line → ℕ → TreeClause → Type 0
-IsClauseLine lines number c = (number < length lines) × (line_clause lines number ≡ c)
+IsClauseLine lines number c = IsTrue (has_clause_line lines number) × (line_clause lines number ≡ c)
 
 -- a line without names that has each literal of a set once, and those from the form
 pub record IsLineOf (form : List TreeClause) (lines : List Line) (number : ℕ) (s : LiteralSet) : Type 0 where
-  pub there : number < length lines
+  pub there : IsTrue (has_clause_line lines number)
   pub no_names : (line_clause lines number).names ≡ []
   pub different : IsTrue (are_different (line_literals lines number))
   pub of_form : IsTrue (list_all (form_has form) (line_literals lines number))

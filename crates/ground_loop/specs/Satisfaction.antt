@@ -25,6 +25,6 @@ ClosedFormsAreSatisfied =
 -- finite interpretation; or nothing.
 abbrev pub HasMeaning : List TreeClause → Ground → Type 0
 HasMeaning form (Refuted lines) =
-    (is_predicate : ℕ → Bool) (functions : FunctionSymbols is_predicate) → HerbrandRefuted is_predicate functions form
+    (is_predicate : ℕ → Bool) (functions : FunctionSymbols is_predicate) → HerbrandRefuted functions form
 HasMeaning form Closed = (is_predicate : ℕ → Bool) → IsTrue (are_predicate_atoms is_predicate form) → Satisfied is_predicate form
 HasMeaning form (Spent count) = Unit {0}

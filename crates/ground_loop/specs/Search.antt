@@ -2,9 +2,10 @@
 use Rattle.std.specs.Prelude.{◌≡◌, ℕ, ◌∷◌, List, [], ◌++◌, AllPairs, IsFalse}
 use Rattle.fol_base.specs.Tree.{Tree, tree_eq}
 use Rattle.fol_base.specs.Clause.{TreeClause}
-use Rattle.kernel_steps.specs.Derivation.{IsRefutation, AreClauseLines}
+use Rattle.kernel_steps.specs.Derivation.{IsRefutation}
 use Rattle.kernel_steps.specs.declared.step.Line.{Line}
 use Rattle.ground_loop.specs.Entries.{AreEntries}
+use Rattle.ground_loop.specs.Lines.{AreLoopLines}
 use Rattle.ground_loop.specs.Answer.{HasClosedSets, HasTriples}
 use Rattle.ground_loop.specs.declared.entry.Entry.{Entry}
 use Rattle.ground_loop.specs.declared.entry.Found.{Found}
@@ -24,7 +25,7 @@ IsFound form limit (Empty atoms entries) = ReachesEmpty form atoms entries
 IsFound form limit Closed = HasClosedSets form
 IsFound form limit (Spent count) = (count ≡ limit) × HasTriples form count
 
--- a refutation of lines of clauses alone
+-- a refutation by steps of the loop alone, so of lines of clauses
 pub record IsClauseRefutation (form : List TreeClause) (lines : List Line) : Type 0 where
   pub refutes : IsRefutation form lines
-  pub clause_lines : AreClauseLines lines
+  pub loop_lines : AreLoopLines lines

@@ -68,7 +68,7 @@ fn shifted(step: Step, shift: u64) -> Mem<Step>
     ensures { IfOk result (λ made. made ≡ shifted_step shift step) }
 {
     match step {
-        Step::Para(
+        Step::Para {
             first,
             second,
             from,
@@ -78,10 +78,10 @@ fn shifted(step: Step, shift: u64) -> Mem<Step>
             place,
             first_bind,
             second_bind,
-        ) => {
+        } => {
             let first = moved(first, shift)?;
             let second = moved(second, shift)?;
-            Ok(Step::Para(
+            Ok(Step::Para {
                 first,
                 second,
                 from,
@@ -91,15 +91,28 @@ fn shifted(step: Step, shift: u64) -> Mem<Step>
                 place,
                 first_bind,
                 second_bind,
-            ))
+            })
         }
-        Step::Refl(parent, index, bind) => Ok(Step::Refl(moved(parent, shift)?, index, bind)),
-        Step::Merge(parent, stays, goes, bind) => Ok(Step::Merge(
-            moved(parent, shift)?,
+        Step::Refl {
+            parent,
+            literal,
+            bind,
+        } => Ok(Step::Refl {
+            parent: moved(parent, shift)?,
+            literal,
+            bind,
+        }),
+        Step::Merge {
+            parent,
             stays,
             goes,
             bind,
-        )),
+        } => Ok(Step::Merge {
+            parent: moved(parent, shift)?,
+            stays,
+            goes,
+            bind,
+        }),
         other => Ok(other),
     }
 }

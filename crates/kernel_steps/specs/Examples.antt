@@ -1,30 +1,72 @@
--- A worked refutation: of p(a) and its negation. The symbols are those of the base's examples.
-use Rattle.std.specs.Prelude.{ℕ, Bool, true, false, List, [], ◌∷◌}
-use Rattle.fol_base.specs.Tree.{Tree, true_tree}
+-- The worked examples: derivations and clauses over the symbols of the base's examples.
+use Rattle.std.specs.Prelude.{ℕ, zero, suc, false, List, [], ◌∷◌, map, option_map, slice_get}
+use Rattle.plain_types.specs.declared.sequence.NameLit.{NameLit}
+use Rattle.fol_base.specs.Tree.{Tree, variable, application, no_trees, true_tree, list_of}
+use Rattle.fol_base.specs.Instance.{Substitution}
 use Rattle.fol_base.specs.Clause.{TreeLiteral, TreeClause}
-use Rattle.fol_base.specs.Examples.{x, a, b, p, clause}
+use Rattle.fol_base.specs.Examples.{x, a, b, c, f, p, q, equation, clause}
 use Rattle.fol_base.specs.Rules.{disequation}
-use Rattle.fol_base.specs.declared.term.Term.TheVariants.{App}
+use Rattle.fol_base.specs.declared.term.Term.{Term}
+use Rattle.fol_base.specs.declared.term.Term.TheVariants.{Var, App}
 use Rattle.fol_base.specs.declared.clause.Literal.{Literal}
-use Rattle.fol_base.specs.declared.clause.Side.TheVariants.{Left}
+use Rattle.fol_base.specs.declared.clause.Side.TheVariants.{Left, Right}
+use Rattle.kernel_steps.specs.Parents.{Parents}
+use Rattle.kernel_steps.specs.Derivation.{complement, positive_of, negative_of}
 use Rattle.kernel_steps.specs.declared.step.Step.{Step}
-use Rattle.kernel_steps.specs.declared.step.Step.TheVariants.{Input, Clausify, Para, Refl}
+use Rattle.kernel_steps.specs.declared.step.Step.TheVariants.{Input, Negate, Clausify, Para, Refl, Component, Opposite, Split, Chain}
 use Rattle.kernel_steps.specs.declared.step.Line.{Line}
 
+-- ---- literals and clauses
+
 abbrev pub not_p : Tree → TreeLiteral
-not_p t = disequation (p t).left true_tree
+not_p t = complement (p t)
 
-abbrev pub line : Step → List Literal → Line
-line step literals = record { step = step; clause = record { literals = literals; names = [] } }
+abbrev pub not_q : Tree → TreeLiteral
+not_q t = complement (q t)
 
--- p(a) or its negation, and the negation of `$true`
-abbrev pub p_of_a : Bool → Literal
-p_of_a positive = record { positive = positive; left = App 6 (a ∷ []); right = App 0 [] }
+abbrev pub not_true : TreeLiteral
+not_true = disequation true_tree true_tree
 
-abbrev pub not_true : Literal
-not_true = record { positive = false; left = App 0 []; right = App 0 [] }
+-- nullary atoms
+abbrev pub p₀ : TreeLiteral
+p₀ = equation (application 6 no_trees) true_tree
 
--- p(a) and its negation
+abbrev pub q₀ : TreeLiteral
+q₀ = equation (application 7 no_trees) true_tree
+
+-- f(..f(a)..)
+abbrev pub tower : ℕ → Tree
+tower zero = a
+tower (suc n) = f (tower n)
+
+abbrev pub with : List TreeLiteral → List NameLit → TreeClause
+with ls names = record { literals = ls; names = names }
+
+-- the names of the examples, which come from component lines
+abbrev pub names_only : List NameLit → TreeClause
+names_only names = with [] names
+
+-- clauses as parents, by their places
+abbrev pub listed : List TreeClause → Parents
+listed cs n = option_map (λ (d : TreeClause). record { clause = d; introduces = false }) (slice_get cs n)
+
+-- ---- lines
+
+abbrev pub term_from : Tree → Term
+term_from (variable v) = Var v
+term_from (application s ts) = App s (list_of ts)
+
+abbrev pub literal_from : TreeLiteral → Literal
+literal_from l = record { positive = l.positive; left = term_from l.left; right = term_from l.right }
+
+abbrev pub named_line : Step → List TreeLiteral → List NameLit → Line
+named_line step ls names = record { step = step; clause = record { literals = map literal_from ls; names = names } }
+
+abbrev pub line : Step → List TreeLiteral → Line
+line step ls = named_line step ls []
+
+-- ---- p(a) and its negation
+
 abbrev pub opposites : List TreeClause
 opposites = clause (p a ∷ []) ∷ clause (not_p a ∷ []) ∷ []
 
@@ -40,7 +82,7 @@ general = clause (p (x 0) ∷ []) ∷ clause (not_p a ∷ []) ∷ []
 abbrev pub opposites_with : Line → ℕ → List Line
 opposites_with negation parent =
     line (Input 0) []
-    ∷ line (Clausify 0) (p_of_a true ∷ [])
+    ∷ line (Clausify 0) (p a ∷ [])
     ∷ negation
     ∷ line (Para 1 2 0 Left 0 Left [] [] []) (not_true ∷ [])
     ∷ line (Refl parent 0 []) []
@@ -48,4 +90,101 @@ opposites_with negation parent =
 
 -- where the third line is the negation of p(a)
 abbrev pub opposites_lines : ℕ → List Line
-opposites_lines = opposites_with (line (Clausify 1) (p_of_a false ∷ []))
+opposites_lines = opposites_with (line (Clausify 1) (not_p a ∷ []))
+
+-- ---- one implication: p implies q, and p(a), but not q(a)
+
+abbrev pub implication : List TreeClause
+implication = clause (not_p (x 0) ∷ q (x 0) ∷ []) ∷ clause (p a ∷ []) ∷ clause (not_q a ∷ []) ∷ []
+
+abbrev pub implication_lines : List Line
+implication_lines =
+    line (Input 0) []
+    ∷ line (Input 1) []
+    ∷ line (Input 2) []
+    ∷ line (Negate 2) []
+    ∷ line (Clausify 0) (not_p (x 0) ∷ q (x 0) ∷ [])
+    ∷ line (Clausify 1) (p a ∷ [])
+    ∷ line (Clausify 2) (not_q a ∷ [])
+    ∷ line (Para 5 4 0 Left 0 Left [] [] (a ∷ [])) (not_true ∷ q a ∷ [])
+    ∷ line (Refl 7 0 []) (q a ∷ [])
+    ∷ line (Para 8 6 0 Left 0 Left [] [] []) (not_true ∷ [])
+    ∷ line (Refl 9 0 []) []
+    ∷ []
+
+-- ---- two rewrites: a = b and f(a) = c, but f(b) != c
+
+abbrev pub rewrites : List TreeClause
+rewrites = clause (equation a b ∷ []) ∷ clause (equation (f a) c ∷ []) ∷ clause (disequation (f b) c ∷ []) ∷ []
+
+abbrev pub rewrites_lines : List Line
+rewrites_lines =
+    line (Input 0) []
+    ∷ line (Input 1) []
+    ∷ line (Input 2) []
+    ∷ line (Clausify 0) (equation a b ∷ [])
+    ∷ line (Clausify 1) (equation (f a) c ∷ [])
+    ∷ line (Clausify 2) (disequation (f b) c ∷ [])
+    ∷ line (Para 3 5 0 Right 0 Left (0 ∷ []) [] []) (disequation (f a) c ∷ [])
+    ∷ line (Para 4 6 0 Left 0 Left [] [] []) (disequation c c ∷ [])
+    ∷ line (Refl 7 0 []) []
+    ∷ []
+
+-- ---- two components: p(X) or q(Y), but neither p(a) nor q(b)
+
+abbrev pub components : List TreeClause
+components = clause (p (x 0) ∷ q (x 1) ∷ []) ∷ clause (not_p a ∷ []) ∷ clause (not_q b ∷ []) ∷ []
+
+abbrev pub components_lines : List Line
+components_lines =
+    line (Input 0) []
+    ∷ line (Input 1) []
+    ∷ line (Input 2) []
+    ∷ line (Clausify 0) (p (x 0) ∷ q (x 1) ∷ [])
+    ∷ line (Clausify 1) (not_p a ∷ [])
+    ∷ line (Clausify 2) (not_q b ∷ [])
+    ∷ named_line (Component 0) (p (x 0) ∷ []) (negative_of 0 ∷ [])
+    ∷ named_line (Component 1) (q (x 0) ∷ []) (negative_of 1 ∷ [])
+    ∷ named_line (Split 3 (6 ∷ 7 ∷ []) ((0 ∷ []) ∷ (1 ∷ []) ∷ [])) [] (positive_of 0 ∷ positive_of 1 ∷ [])
+    ∷ named_line (Para 6 4 0 Left 0 Left [] (a ∷ []) []) (not_true ∷ []) (negative_of 0 ∷ [])
+    ∷ named_line (Refl 9 0 []) [] (negative_of 0 ∷ [])
+    ∷ named_line (Para 7 5 0 Left 0 Left [] (b ∷ []) []) (not_true ∷ []) (negative_of 1 ∷ [])
+    ∷ named_line (Refl 11 0 []) [] (negative_of 1 ∷ [])
+    ∷ line (Chain (8 ∷ 10 ∷ 12 ∷ []) (positive_of 0 ∷ positive_of 1 ∷ [])) []
+    ∷ []
+
+-- ---- signed names: the four clauses of p and q, where a literal and its complement share a name
+
+abbrev pub four_clauses : List TreeClause
+four_clauses =
+    clause (p₀ ∷ q₀ ∷ [])
+    ∷ clause (complement p₀ ∷ q₀ ∷ [])
+    ∷ clause (p₀ ∷ complement q₀ ∷ [])
+    ∷ clause (complement p₀ ∷ complement q₀ ∷ [])
+    ∷ []
+
+abbrev pub halves : List (List ℕ)
+halves = (0 ∷ []) ∷ (1 ∷ []) ∷ []
+
+abbrev pub four_clauses_lines : List Line
+four_clauses_lines =
+    line (Input 0) []
+    ∷ line (Input 1) []
+    ∷ line (Input 2) []
+    ∷ line (Input 3) []
+    ∷ line (Clausify 0) (p₀ ∷ q₀ ∷ [])
+    ∷ line (Clausify 1) (complement p₀ ∷ q₀ ∷ [])
+    ∷ line (Clausify 2) (p₀ ∷ complement q₀ ∷ [])
+    ∷ line (Clausify 3) (complement p₀ ∷ complement q₀ ∷ [])
+    ∷ named_line (Component 0) (p₀ ∷ []) (negative_of 0 ∷ [])
+    ∷ named_line (Component 1) (q₀ ∷ []) (negative_of 1 ∷ [])
+    ∷ named_line (Opposite 0) (complement p₀ ∷ []) (positive_of 0 ∷ [])
+    ∷ named_line (Opposite 1) (complement q₀ ∷ []) (positive_of 1 ∷ [])
+    ∷ named_line (Split 4 (8 ∷ 9 ∷ []) halves) [] (positive_of 0 ∷ positive_of 1 ∷ [])
+    ∷ named_line (Split 5 (10 ∷ 9 ∷ []) halves) [] (negative_of 0 ∷ positive_of 1 ∷ [])
+    ∷ named_line (Split 6 (8 ∷ 11 ∷ []) halves) [] (positive_of 0 ∷ negative_of 1 ∷ [])
+    ∷ named_line (Split 7 (10 ∷ 11 ∷ []) halves) [] (negative_of 0 ∷ negative_of 1 ∷ [])
+    ∷ named_line (Chain (12 ∷ 13 ∷ []) (positive_of 0 ∷ [])) [] (positive_of 1 ∷ [])
+    ∷ named_line (Chain (14 ∷ 15 ∷ []) (positive_of 0 ∷ [])) [] (negative_of 1 ∷ [])
+    ∷ line (Chain (16 ∷ 17 ∷ []) (positive_of 1 ∷ [])) []
+    ∷ []

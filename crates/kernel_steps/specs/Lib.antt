@@ -1,4 +1,11 @@
+pub mod Bound
+pub mod Names
+pub mod Parents
+pub mod Split
 pub mod Conclusion
 pub mod Derivation
 pub mod Soundness
+pub mod Symbols
+pub mod Inference
+pub mod Keys
 pub mod Examples

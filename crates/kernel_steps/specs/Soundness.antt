@@ -1,64 +1,120 @@
 -- What a derivation establishes: its clauses are true wherever the form is, so a refutation refutes the form (Robinson 1965), by
--- finitely many of its ground instances (Herbrand 1930).
-use Rattle.std.specs.Prelude.{◌≡◌, ℕ, Bool, List, [], ◌∷◌, map, Some, slice_get, All, Contains, IsTrue}
-use Rattle.std.specs.List.{list_all}
+-- finitely many of its ground instances (Herbrand 1930). A name stands for a part of a clause (Voronkov 2014): it is true where its
+-- body is, whatever values the body's variables have.
+use mathlib.Core.Bool.{beq}
+use Rattle.std.specs.Prelude.{◌≡◌, ◌⊎◌, ℕ, ◌<◌, Bool, true, ◌||◌, List, [], ◌∷◌, ◌++◌, map, Some, slice_get, All, Contains, if◌then◌else◌, IsTrue, IsFalse}
+use Rattle.std.specs.List.{list_any, list_all}
+use Rattle.plain_types.specs.declared.sequence.NameLit.{NameLit}
+use Rattle.plain_types.specs.Names.{has_name}
 use Rattle.fol_base.specs.Tree.{Tree}
 use Rattle.fol_base.specs.Clause.{TreeLiteral, TreeClause}
+use Rattle.fol_base.specs.Kind.{is_function_term}
 use Rattle.fol_base.specs.Symbols.{FunctionSymbol, FunctionSymbols}
 use Rattle.fol_base.specs.Ground.{is_over, GroundClause, GroundInstance}
 use Rattle.fol_base.specs.GroundForm.{IsGroundForm}
-use Rattle.fol_base.specs.Interpretation.{Interpretation, Assignment, literals_true_under}
+use Rattle.fol_base.specs.Interpretation.{Interpretation, IsInterpretation, Assignment, literals_true_under}
 use Rattle.fol_base.specs.Entails.{Entails, IsRefuted}
 use Rattle.fol_base.specs.Covered.{InstanceOf}
 use Rattle.fol_base.specs.Literal.{clause_of}
+use Rattle.fol_base.specs.Rules.{superposed, resolved, factored, merged}
 use Rattle.fol_base.specs.declared.clause.Side.{Side}
+use Rattle.kernel_steps.specs.Names.{chained}
+use Rattle.kernel_steps.specs.Derivation.{is_clause_step, negative_of, body, IsDerivation, IsRefutation}
 use Rattle.kernel_steps.specs.declared.step.Step.{Step}
 use Rattle.kernel_steps.specs.declared.step.Step.TheVariants.{Para, Refl, Factor, Merge}
 use Rattle.kernel_steps.specs.declared.step.Line.{Line}
-use Rattle.fol_base.specs.Rules.{superposed, resolved, merged}
-use Rattle.kernel_steps.specs.Derivation.{is_clause_step, IsDerivation, IsRefutation}
 
--- a clause is true whatever numbers its variables stand for, also those that are no value of the interpretation
+-- ---- bindings
+
+-- the bindings of a step, one for each parent that has one
+abbrev pub bindings_of : Step → List (List Tree)
+bindings_of (Para first second from from_side into into_side place first_bind second_bind) = first_bind ∷ second_bind ∷ []
+bindings_of (Refl parent literal bind) = bind ∷ []
+bindings_of (Factor parent becomes becomes_side other other_side bind) = bind ∷ []
+bindings_of (Merge parent stays goes bind) = bind ∷ []
+bindings_of _ = []
+
+-- each term that a step binds a variable to passes a test
+abbrev pub binds_each : (Tree → Bool) → Step → Bool
+binds_each test step = list_all (list_all test) (bindings_of step)
+
+-- each term that a line binds a variable to has symbols of the list alone; it may have variables
+abbrev pub BindsOver : List FunctionSymbol → List Line → Type 0
+BindsOver functions lines = IsTrue (list_all (λ (l : Line). binds_each (is_over functions) l.step) lines)
+
+-- or is a function term
+abbrev pub BindsFunctionTerms : (ℕ → Bool) → List Line → Type 0
+BindsFunctionTerms is_predicate lines = IsTrue (list_all (λ (l : Line). binds_each (is_function_term is_predicate) l.step) lines)
+
+-- ---- truth
+
+-- each variable has a value of the interpretation
+abbrev pub HasValues : Interpretation → Assignment → Type 0
+HasValues i ρ = (v : ℕ) → ρ v < i.size
+
+-- a clause is true whatever values its variables have
 abbrev pub HoldsIn : Interpretation → TreeClause → Type 0
-HoldsIn i c = (ρ : Assignment) → IsTrue (literals_true_under i ρ c.literals)
+HoldsIn i c = (ρ : Assignment) → HasValues i ρ → IsTrue (literals_true_under i ρ c.literals)
+
+-- a clause is false for some values of its variables
+pub record FailsIn (i : Interpretation) (c : TreeClause) : Type 0 where
+  pub values : Assignment
+  pub are_values : HasValues i values
+  pub is_false : IsFalse (literals_true_under i values c.literals)
+
+-- which names are true
+abbrev pub NameTruth : Type 0
+NameTruth = ℕ → Bool
+
+-- a list of signed names is true where one of them is
+abbrev pub names_true : NameTruth → List NameLit → Bool
+names_true truth ns = list_any (λ n. beq n.positive (truth n.name)) ns
+
+-- a name is true where its body holds, and false where it fails
+abbrev pub MeansBody : Interpretation → TreeClause → Bool → Type 0
+MeansBody i c is_true = (IsTrue is_true → HoldsIn i c) × (IsFalse is_true → FailsIn i c)
 
 -- the clauses of a form without variables
 abbrev pub ground_clauses : List TreeClause → List GroundClause
 ground_clauses form = map (λ (c : TreeClause). c.literals) form
 
--- Finitely many ground instances of the form entail a ground clause.
-pub record Grounds (is_predicate : ℕ → Bool) (functions : FunctionSymbols is_predicate) (form : List TreeClause) (g : GroundClause) : Type 0 where
+-- ---- ground instances
+
+-- finitely many ground instances of clauses that satisfy the predicate entail a ground clause
+pub record Grounds {is_predicate : ℕ → Bool} (functions : FunctionSymbols is_predicate) (Holds : TreeClause → Type 0) (g : GroundClause) : Type 0 where
   pub by : List GroundClause
-  pub instances : All (InstanceOf functions (Contains form)) by
+  pub instances : All (InstanceOf functions Holds) by
   pub entailed : Entails is_predicate by g
 
--- A clause without names is grounded where this holds of each of its ground instances.
-abbrev pub IsGrounded : (is_predicate : ℕ → Bool) → FunctionSymbols is_predicate → List TreeClause → TreeClause → Type 0
-IsGrounded is_predicate functions form c =
-    (g : GroundClause) → GroundInstance functions c g → Grounds is_predicate functions form g
+-- the ordinary parts of a form's clauses, and the negatively named bodies
+abbrev pub IsUsable : List TreeClause → (ℕ → TreeClause) → List NameLit → TreeClause → Type 0
+IsUsable form bodies names c = Contains form c ⊎ ((n : ℕ) × IsTrue (has_name (negative_of n) names) × (c ≡ bodies n))
+
+-- a choice of one ground instance of each positively named body
+abbrev pub IsChoice : {is_predicate : ℕ → Bool} → FunctionSymbols is_predicate → (ℕ → TreeClause) → List NameLit → (ℕ → GroundClause) → Type 0
+IsChoice functions bodies names choice =
+    (n : ℕ) → IsTrue (has_name (record { positive = true; name = n }) names) → GroundInstance functions (bodies n) (choice n)
+
+-- the literals of a choice
+abbrev pub chosen_literals : (ℕ → GroundClause) → List NameLit → GroundClause
+chosen_literals choice [] = []
+chosen_literals choice (n ∷ ns) = if n.positive then choice n.name ++ chosen_literals choice ns else chosen_literals choice ns
+
+-- A clause is grounded where this holds for every choice of one ground instance of its ordinary part and one of each positively named
+-- body: finitely many ground instances of the form and of the negatively named bodies entail all literals of the choice together.
+abbrev pub IsGrounded : {is_predicate : ℕ → Bool} → FunctionSymbols is_predicate → List TreeClause → (ℕ → TreeClause) → TreeClause → Type 0
+IsGrounded functions form bodies c =
+    (g : GroundClause) (choice : ℕ → GroundClause)
+    → GroundInstance functions c g → IsChoice functions bodies c.names choice
+    → Grounds functions (IsUsable form bodies c.names) (g ++ chosen_literals choice c.names)
 
 -- Finitely many ground instances of the form are true in no interpretation.
-pub record HerbrandRefuted (is_predicate : ℕ → Bool) (functions : FunctionSymbols is_predicate) (form : List TreeClause) : Type 0 where
+pub record HerbrandRefuted {is_predicate : ℕ → Bool} (functions : FunctionSymbols is_predicate) (form : List TreeClause) : Type 0 where
   pub by : List GroundClause
   pub instances : All (InstanceOf functions (Contains form)) by
   pub refuted : IsRefuted is_predicate by
 
--- the bindings of a step, one for each parent that has one
-abbrev pub bindings_of : Step → List (List Tree)
-bindings_of (Para a b i s j z place first second) = first ∷ second ∷ []
-bindings_of (Refl a i bind) = bind ∷ []
-bindings_of (Factor a i s j z bind) = bind ∷ []
-bindings_of (Merge a i j bind) = bind ∷ []
-bindings_of _ = []
-
--- each term that a line binds a variable to has symbols of the list alone; it may have variables
-abbrev pub binds_over : List FunctionSymbol → Line → Bool
-binds_over functions line = list_all (list_all (is_over functions)) (bindings_of line.step)
-
-abbrev pub BindsOver : List FunctionSymbol → List Line → Type 0
-BindsOver functions lines = IsTrue (list_all (binds_over functions) lines)
-
--- ---- laws of the rules: what a rule gives is true where the clauses that it is given are, under the same values of variables
+-- ---- laws of the rules: what a rule gives is true where what it is given is, under the same values of variables, whatever they are
 
 abbrev pub ParaIsSound : Type 0
 ParaIsSound =
@@ -73,20 +129,34 @@ ReflIsSound =
     (i : Interpretation) (ρ : Assignment) (ls : List TreeLiteral) (k : ℕ) (made : List TreeLiteral)
     → resolved ls k ≡ Some made → IsTrue (literals_true_under i ρ ls) → IsTrue (literals_true_under i ρ made)
 
+abbrev pub FactorIsSound : Type 0
+FactorIsSound =
+    (i : Interpretation) (ρ : Assignment) (ls : List TreeLiteral) (becomes : ℕ) (s : Side) (other : ℕ) (z : Side) (made : List TreeLiteral)
+    → factored ls becomes s other z ≡ Some made → IsTrue (literals_true_under i ρ ls) → IsTrue (literals_true_under i ρ made)
+
 abbrev pub MergeIsSound : Type 0
 MergeIsSound =
     (i : Interpretation) (ρ : Assignment) (ls : List TreeLiteral) (stays goes : ℕ) (made : List TreeLiteral)
     → merged ls stays goes ≡ Some made → IsTrue (literals_true_under i ρ ls) → IsTrue (literals_true_under i ρ made)
 
+-- under every truth of names
+abbrev pub ChainIsSound : Type 0
+ChainIsSound =
+    (truth : NameTruth) (nss : List (List NameLit)) (pivots made : List NameLit)
+    → chained nss pivots ≡ Some made → IsTrue (list_all (names_true truth) nss) → IsTrue (names_true truth made)
+
 -- ---- laws of derivations
 
--- each clause line holds where the form does; the form may have variables
+-- Where the form holds and each name is true as its body is, each clause line is true: one of its literals or of its names is. The
+-- form may have variables.
 abbrev pub DerivationsAreSound : Type 0
 DerivationsAreSound =
-    (i : Interpretation) (form : List TreeClause) (lines : List Line)
-    → IsDerivation form lines → All (HoldsIn i) form
+    (is_predicate : ℕ → Bool) (i : Interpretation) (truth : NameTruth) (form : List TreeClause) (lines : List Line)
+    → IsInterpretation is_predicate i → BindsFunctionTerms is_predicate lines → IsDerivation form lines
+    → All (HoldsIn i) form → ((n : ℕ) → MeansBody i (body lines n) (truth n))
     → (n : ℕ) (line : Line) → slice_get lines n ≡ Some line → IsTrue (is_clause_step line.step)
-    → HoldsIn i (clause_of line.clause)
+    → (ρ : Assignment) → HasValues i ρ
+    → IsTrue (literals_true_under i ρ (clause_of line.clause).literals || names_true truth (clause_of line.clause).names)
 
 -- each clause line of a derivation is grounded, where its bindings are over the function symbols
 abbrev pub LinesAreGrounded : Type 0
@@ -94,21 +164,29 @@ LinesAreGrounded =
     (is_predicate : ℕ → Bool) (functions : FunctionSymbols is_predicate) (form : List TreeClause) (lines : List Line)
     → BindsOver functions.symbols lines → IsDerivation form lines
     → (n : ℕ) (line : Line) → slice_get lines n ≡ Some line → IsTrue (is_clause_step line.step)
-    → IsGrounded is_predicate functions form (clause_of line.clause)
+    → IsGrounded functions form (body lines) (clause_of line.clause)
 
--- and from a ground form, which has nothing to bind
+-- and, of a derivation from a ground form, each line without names, whatever is bound
 abbrev pub GroundLinesAreGrounded : Type 0
 GroundLinesAreGrounded =
     (is_predicate : ℕ → Bool) (functions : FunctionSymbols is_predicate) (form : List TreeClause) (lines : List Line)
     → IsGroundForm form → IsDerivation form lines
     → (n : ℕ) (line : Line) → slice_get lines n ≡ Some line → IsTrue (is_clause_step line.step)
-    → IsGrounded is_predicate functions form (clause_of line.clause)
+    → (clause_of line.clause).names ≡ []
+    → IsGrounded functions form (body lines) (clause_of line.clause)
 
 -- ---- laws of refutations
 
--- no interpretation makes a ground form true that has a refutation
+-- a form that has a refutation, where what is bound are function terms, holds in no interpretation
 abbrev pub RefutationsRefute : Type 0
 RefutationsRefute =
+    (is_predicate : ℕ → Bool) (i : Interpretation) (form : List TreeClause) (lines : List Line)
+    → IsInterpretation is_predicate i → BindsFunctionTerms is_predicate lines → IsRefutation form lines
+    → All (HoldsIn i) form → ⊥
+
+-- no interpretation makes a ground form true that has a refutation, whatever it binds
+abbrev pub GroundRefutationsRefute : Type 0
+GroundRefutationsRefute =
     (is_predicate : ℕ → Bool) (form : List TreeClause) (lines : List Line)
     → IsGroundForm form → IsRefutation form lines → IsRefuted is_predicate (ground_clauses form)
 
@@ -117,11 +195,11 @@ abbrev pub RefutationsHerbrandRefute : Type 0
 RefutationsHerbrandRefute =
     (is_predicate : ℕ → Bool) (functions : FunctionSymbols is_predicate) (form : List TreeClause) (lines : List Line)
     → BindsOver functions.symbols lines → IsRefutation form lines
-    → HerbrandRefuted is_predicate functions form
+    → HerbrandRefuted functions form
 
 -- and a ground form over every list
 abbrev pub GroundRefutationsHerbrandRefute : Type 0
 GroundRefutationsHerbrandRefute =
     (is_predicate : ℕ → Bool) (functions : FunctionSymbols is_predicate) (form : List TreeClause) (lines : List Line)
     → IsGroundForm form → IsRefutation form lines
-    → HerbrandRefuted is_predicate functions form
+    → HerbrandRefuted functions form

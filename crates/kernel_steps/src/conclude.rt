@@ -1,26 +1,40 @@
 // The conclusion of a step.
 
-ghost use Rattle.std.specs.Prelude.{◌≡◌, ◌&&◌, ◌<◌, [], length, map};
+ghost use Rattle.std.specs.Prelude.{◌≡◌, ◌-◌, ◌^◌, min, map, sum_by, IsTrue, IfOk, IfErr};
 ghost use Rattle.std.specs.Option.{option_map};
-ghost use Rattle.fol_base.specs.Clause.{clause_variables};
+ghost use Rattle.fol_base.specs.Clause.{literal_size};
+ghost use Rattle.fol_base.specs.Ground.{literals_instance};
 ghost use Rattle.fol_base.specs.Literal.{literal_of, clause_of};
-ghost use Rattle.fol_base.specs.Rules.{superposed, resolved, merged};
-ghost use Rattle.kernel_steps.specs.Conclusion.{verdict, verdict_of, verdict_if, binds, bound_literals, line_clause, HasGroundParents, IsAnswerTo};
+ghost use Rattle.fol_base.specs.Rules.{superposed, resolved, factored, merged};
+ghost use Rattle.kernel_steps.specs.Parents.{parent_of};
+ghost use Rattle.kernel_steps.specs.Conclusion.{binds, binds_parent, verdict, verdict_of, clause_with, by_one, by_two, is_rule_step, IsAnswerTo, IsRefusal};
 
-use crate::rules;
-use crate::step::{Derivation, Step, StepFault};
-use fol_base::{Clause, Literals, MOST_BOUND_SYMBOLS, Position, Side, Terms};
-use plain_types::Names;
+use crate::chain::chain;
+use crate::names::{put_names, sorted_names};
+use crate::parents::{LendsParents, ParentRef};
+use crate::rules::{self, Bound};
+use crate::split::split;
+use crate::step::{Step, StepFault};
+use fol_base::{
+    Clause, LendsLiterals, LendsTerms, Literals, MOST_BOUND_SYMBOLS, Position, Side, Terms,
+    instance_size,
+};
+use plain_types::{NameLit, Names};
 use std::alloc::Global;
 
-/// What a step concludes from earlier lines, for para, refl and merge on ground lines without names. `Binding`
-/// exactly where a binding isn't right, else `Rule` exactly where the condition of the rule fails.
-pub fn conclusion(alloc: Global, step: &Step, lines: &Derivation) -> Result<Clause, StepFault>
-    requires { HasGroundParents step.now lines.now }
-    ensures { IsAnswerTo (verdict step.now lines.now) result }
+/// What a step concludes from its parents, for para, refl, factor, merge, split and chain: the literals that the
+/// rule gives, with the parents' names, sorted and each once. `Binding` exactly where a parent that is there has
+/// a binding that isn't right; else `Rule` exactly where a parent isn't there or the rule's condition fails.
+pub fn conclusion<P: LendsParents>(
+    alloc: Global,
+    step: &Step,
+    parents: &P,
+) -> Result<Clause, StepFault>
+    requires { IsTrue (is_rule_step step.now) }
+    ensures { IsAnswerTo (verdict step.now (P.meaning parents.now)) result }
 {
     match step {
-        Step::Para(
+        Step::Para {
             first,
             second,
             from,
@@ -30,142 +44,254 @@ pub fn conclusion(alloc: Global, step: &Step, lines: &Derivation) -> Result<Clau
             place,
             first_bind,
             second_bind,
-        ) => {
-            let first = Bound {
-                clause: clause_at(lines, *first),
-                bind: first_bind,
-            };
-            let second = Bound {
-                clause: clause_at(lines, *second),
-                bind: second_bind,
-            };
-            conclude_para(
-                alloc, first, *from, *from_side, second, *into, *into_side, place,
-            )
-        }
-        Step::Refl(parent, index, bind) => conclude_refl(
+        } => conclude_para(
             alloc,
-            clause_at(lines, *parent),
-            *index,
-            bind,
+            parents.parent(*first),
+            first_bind,
+            *from,
+            *from_side,
+            parents.parent(*second),
+            second_bind,
+            *into,
+            *into_side,
+            place,
         ),
-        Step::Merge(parent, stays, goes, bind) => {
-            conclude_merge(alloc, clause_at(lines, *parent), *stays, *goes, bind)
-        }
+        Step::Refl {
+            parent,
+            literal,
+            bind,
+        } => conclude_refl(alloc, parents.parent(*parent), bind, *literal),
+        Step::Factor {
+            parent,
+            becomes,
+            becomes_side,
+            other,
+            other_side,
+            bind,
+        } => conclude_factor(
+            alloc,
+            parents.parent(*parent),
+            bind,
+            *becomes,
+            *becomes_side,
+            *other,
+            *other_side,
+        ),
+        Step::Merge {
+            parent,
+            stays,
+            goes,
+            bind,
+        } => conclude_merge(alloc, parents.parent(*parent), bind, *stays, *goes),
+        Step::Split {
+            parent,
+            definitions,
+            parts,
+        } => match parents.parent(*parent) {
+            Some(parent) => split(
+                alloc,
+                parent,
+                parents,
+                definitions.as_slice(),
+                parts.as_slice(),
+            ),
+            None => Err(StepFault::Rule),
+        },
+        Step::Chain {
+            parents: numbers,
+            pivots,
+        } => chain(alloc, parents, numbers.as_slice(), pivots.as_slice()),
         _ => unreachable!(),
     }
 }
 
-/// A parent and its binding.
-#[derive(Clone, Copy)]
-struct Bound<'a> {
-    clause: &'a Clause,
-    bind: &'a Terms,
-}
-
 fn conclude_para(
     alloc: Global,
-    first: Bound<'_>,
+    first: Option<ParentRef<'_>>,
+    first_bind: &Terms,
     from: u64,
     from_side: Side,
-    second: Bound<'_>,
+    second: Option<ParentRef<'_>>,
+    second_bind: &Terms,
     into: u64,
     into_side: Side,
     place: &Position,
 ) -> Result<Clause, StepFault>
-    requires first_ground { clause_variables (clause_of first.clause.now) ≡ [] }
-    requires second_ground { clause_variables (clause_of second.clause.now) ≡ [] }
     ensures { IsAnswerTo
-        (verdict_if
-        (binds first.entry.bind.now (clause_of first.entry.clause.now)
-        && binds second.entry.bind.now (clause_of second.entry.clause.now))
-        (superposed
-        (bound_literals first.entry.bind.now (clause_of first.entry.clause.now)) from from_side
-        (bound_literals second.entry.bind.now (clause_of second.entry.clause.now)) into into_side place.now))
+        (by_two (option_map parent_of first.entry) first_bind.now (option_map parent_of second.entry) second_bind.now
+        (λ ls ks. superposed ls from from_side ks into into_side place.now))
         result }
 {
-    if !is_bound(first.bind, first.clause) {
+    if !binds_parent(first, first_bind) || !binds_parent(second, second_bind) {
         return Err(StepFault::Binding);
     }
-    if !is_bound(second.bind, second.clause) {
-        return Err(StepFault::Binding);
-    }
-    let ones = first.clause.literals.as_slice();
-    let others = second.clause.literals.as_slice();
-    concluded(
+    let Some(first) = first else {
+        return Err(StepFault::Rule);
+    };
+    let Some(second) = second else {
+        return Err(StepFault::Rule);
+    };
+    let made = rules::para(
         alloc,
-        rules::para(alloc, ones, from, from_side, others, into, into_side, place)?,
-    )
+        &bound(first, first_bind),
+        from,
+        from_side,
+        &bound(second, second_bind),
+        into,
+        into_side,
+        place,
+    )?;
+    match made {
+        None => Err(StepFault::Rule),
+        Some(literals) => {
+            let mut names = sorted_names(alloc, first.clause.names.as_slice())?;
+            put_names(&mut names, second.clause.names.as_slice())?;
+            Ok(with_names(literals, names))
+        }
+    }
 }
 
 fn conclude_refl(
     alloc: Global,
-    clause: &Clause,
-    index: u64,
+    parent: Option<ParentRef<'_>>,
     bind: &Terms,
+    literal: u64,
 ) -> Result<Clause, StepFault>
-    requires { clause_variables (clause_of clause.now) ≡ [] }
+    ensures { IsAnswerTo (by_one (option_map parent_of parent.entry) bind.now (λ ls. resolved ls literal)) result }
+{
+    let parent = bound_parent(parent, bind)?;
+    let made = rules::refl(alloc, &bound(parent, bind), literal)?;
+    concluded(alloc, parent, made)
+}
+
+fn conclude_factor(
+    alloc: Global,
+    parent: Option<ParentRef<'_>>,
+    bind: &Terms,
+    becomes: u64,
+    becomes_side: Side,
+    other: u64,
+    other_side: Side,
+) -> Result<Clause, StepFault>
     ensures { IsAnswerTo
-        (verdict_if (binds bind.now (clause_of clause.now))
-        (resolved (bound_literals bind.now (clause_of clause.now)) index))
+        (by_one (option_map parent_of parent.entry) bind.now (λ ls. factored ls becomes becomes_side other other_side))
         result }
 {
-    if !is_bound(bind, clause) {
-        return Err(StepFault::Binding);
-    }
-    concluded(
+    let parent = bound_parent(parent, bind)?;
+    let made = rules::factor(
         alloc,
-        rules::refl(alloc, clause.literals.as_slice(), index)?,
-    )
+        &bound(parent, bind),
+        becomes,
+        becomes_side,
+        other,
+        other_side,
+    )?;
+    concluded(alloc, parent, made)
 }
 
 fn conclude_merge(
     alloc: Global,
-    clause: &Clause,
+    parent: Option<ParentRef<'_>>,
+    bind: &Terms,
     stays: u64,
     goes: u64,
-    bind: &Terms,
 ) -> Result<Clause, StepFault>
-    requires { clause_variables (clause_of clause.now) ≡ [] }
+    ensures { IsAnswerTo (by_one (option_map parent_of parent.entry) bind.now (λ ls. merged ls stays goes)) result }
+{
+    let parent = bound_parent(parent, bind)?;
+    let made = rules::merge(alloc, &bound(parent, bind), stays, goes)?;
+    concluded(alloc, parent, made)
+}
+
+/// The literals that a rule gave of one parent, with its names.
+fn concluded(
+    alloc: Global,
+    parent: ParentRef<'_>,
+    made: Option<Literals>,
+) -> Result<Clause, StepFault>
     ensures { IsAnswerTo
-        (verdict_if (binds bind.now (clause_of clause.now))
-        (merged (bound_literals bind.now (clause_of clause.now)) stays goes))
+        (verdict_of (option_map (clause_with (clause_of parent.entry.clause.now).names) (option_map (map literal_of) made)))
         result }
 {
-    if !is_bound(bind, clause) {
-        return Err(StepFault::Binding);
-    }
-    concluded(
-        alloc,
-        rules::merge(alloc, clause.literals.as_slice(), stays, goes)?,
-    )
-}
-
-/// The clause of the literals that a rule gave.
-fn concluded(alloc: Global, literals: Option<Literals>) -> Result<Clause, StepFault>
-    ensures { IsAnswerTo (verdict_of (option_map (map literal_of) literals)) result }
-{
-    match literals {
+    match made {
         None => Err(StepFault::Rule),
-        Some(literals) => Ok(Clause {
-            literals,
-            names: Names::new(alloc),
-        }),
+        Some(literals) => {
+            let names = sorted_names(alloc, parent.clause.names.as_slice())?;
+            Ok(with_names(literals, names))
+        }
     }
 }
 
-/// The clause of a line that is there.
-fn clause_at(lines: &Derivation, number: u64) -> &Clause
-    requires { number < length lines.now }
-    ensures { clause_of result.now ≡ line_clause lines.entry.now number }
+fn with_names(literals: Literals, names: Vec<NameLit>) -> Clause
+    ensures literals { result.literals ≡ literals }
+    ensures names { result.names ≡ names.items }
 {
-    &lines.as_slice()[number as usize].clause
+    Clause {
+        literals,
+        names: Names::from_vec(names),
+    }
 }
 
-/// Whether a binding is right for a ground clause.
+/// The literals of a parent under its binding.
+fn bound<'a>(parent: ParentRef<'a>, bind: &'a Terms) -> Bound<'a, Literals, Terms>
+    ensures literals { result.literals.now ≡ parent.entry.clause.now.literals }
+    ensures bind { result.bind.now ≡ bind.entry.now }
+{
+    Bound {
+        literals: &parent.clause.literals,
+        bind,
+    }
+}
+
+/// The parent, where it is there and its binding is right. `Binding` exactly where it is there and the binding isn't.
+fn bound_parent<'a>(
+    parent: Option<ParentRef<'a>>,
+    bind: &Terms,
+) -> Result<ParentRef<'a>, StepFault>
+    ensures ok { IfOk result (λ found. (parent.entry ≡ Some found) × IsTrue (binds bind.now (clause_of found.clause.now))) }
+    ensures err { IfErr result (λ fault. IsRefusal bind.now (option_map parent_of parent.entry) fault) }
+{
+    match parent {
+        Some(found) => {
+            if is_bound(bind, found.clause) {
+                Ok(found)
+            } else {
+                Err(StepFault::Binding)
+            }
+        }
+        None => Err(StepFault::Rule),
+    }
+}
+
+/// Whether the binding of a parent is right, if the parent is there.
+fn binds_parent(parent: Option<ParentRef<'_>>, bind: &Terms) -> bool
+    ensures { result ≡ binds_parent bind.now (option_map parent_of parent.entry) }
+{
+    match parent {
+        Some(found) => is_bound(bind, found.clause),
+        None => true,
+    }
+}
+
+/// Whether a binding is right for a clause.
 fn is_bound(bind: &Terms, clause: &Clause) -> bool
-    requires { clause_variables (clause_of clause.now) ≡ [] }
     ensures { result ≡ binds bind.now (clause_of clause.now) }
 {
-    bind.len() == 0 && clause.size() <= MOST_BOUND_SYMBOLS
+    bind.len() as u64 == clause.variable_bound()
+        && bind.iter().all(|term| !term.is_truth())
+        && bound_size(&clause.literals, bind) <= MOST_BOUND_SYMBOLS
+}
+
+/// The size of literals under a binding, stopping at u64's last value.
+pub fn bound_size<L: LendsLiterals, S: LendsTerms>(literals: &L, bind: &S) -> u64
+    ensures { result ≡ min (sum_by literal_size (literals_instance (S.meaning bind.now) (L.meaning literals.now))) (2 ^ 64 - 1) }
+{
+    let mut total: u64 = 0;
+    for index in 0..literals.count() {
+        let literal = literals.literal(index);
+        total = total
+            .saturating_add(instance_size(literal.left, bind))
+            .saturating_add(instance_size(literal.right, bind));
+    }
+    total
 }

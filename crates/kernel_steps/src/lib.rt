@@ -1,13 +1,22 @@
 // The steps of derivations, and what each step concludes.
 #![tactic(auto)]
 
+mod chain;
 mod conclude;
+mod instance;
+mod key;
+mod names;
+mod parents;
 mod rules;
+mod split;
 mod step;
 #[cfg(test)]
 mod tests;
 
-pub use conclude::conclusion;
-pub use step::{Derivation, Line, Step, StepFault};
+pub use conclude::{bound_size, conclusion};
+pub use key::Key;
+pub use parents::{LendsParents, ParentRef};
+pub use rules::{Bound, factor, merge, para, refl};
+pub use step::{CLAUSE_NUMBERS, Derivation, Line, Reduced, Step, StepFault};
 
 pub mod laws;

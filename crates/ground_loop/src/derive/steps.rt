@@ -6,9 +6,10 @@ ghost use Rattle.fol_base.specs.Term.{tree_of};
 ghost use Rattle.fol_base.specs.Clause.{clause_size, literal_eq};
 ghost use Rattle.fol_base.specs.Literal.{literal_of};
 ghost use Rattle.fol_base.specs.GroundForm.{is_atom_literal};
-ghost use Rattle.kernel_steps.specs.Conclusion.{verdict, line_clause, IsGroundLine, HasGroundParents};
+ghost use Rattle.kernel_steps.specs.Conclusion.{verdict};
+ghost use Rattle.kernel_steps.specs.Derivation.{line_parents};
 ghost use Rattle.ground_loop.specs.Resolution.{atom_literal, has_literal, can_resolve};
-ghost use Rattle.ground_loop.specs.Lines.{IsRepeat, IsNew, line_literals, Concludes, AddsLine, IsSetLine, IsMerged, IsResolved, IsResolvent};
+ghost use Rattle.ground_loop.specs.Lines.{IsRepeat, IsNew, line_clause, has_clause_line, line_literals, IsGroundLine, is_loop_step, Concludes, AddsLine, IsSetLine, IsMerged, IsResolved, IsResolvent};
 
 use fol_base::{Literal, MOST_BOUND_SYMBOLS, Position, Side, Term, Terms, same_literal, same_term};
 use kernel_steps::{Derivation, Line, Step, StepFault, conclusion};
@@ -52,22 +53,26 @@ fn push_resolution(
     let superposed = push_step(
         alloc,
         lines,
-        Step::Para(
+        Step::Para {
             first,
             second,
             from,
-            Side::Left,
+            from_side: Side::Left,
             into,
-            Side::Left,
-            Position::new(alloc),
-            Terms::new(alloc),
-            Terms::new(alloc),
-        ),
+            into_side: Side::Left,
+            place: Position::new(alloc),
+            first_bind: Terms::new(alloc),
+            second_bind: Terms::new(alloc),
+        },
     )?;
     push_step(
         alloc,
         lines,
-        Step::Refl(superposed, into, Terms::new(alloc)),
+        Step::Refl {
+            parent: superposed,
+            literal: into,
+            bind: Terms::new(alloc),
+        },
     )
 }
 
@@ -83,7 +88,12 @@ pub fn push_merges(alloc: Global, lines: &mut Derivation, line: u64) -> Mem<u64>
         match earlier_same(literals_at(lines, left), goes) {
             None => goes += 1,
             Some(stays) => {
-                let step = Step::Merge(left, stays as u64, goes as u64, Terms::new(alloc));
+                let step = Step::Merge {
+                    parent: left,
+                    stays: stays as u64,
+                    goes: goes as u64,
+                    bind: Terms::new(alloc),
+                };
                 left = push_step(alloc, lines, step)?;
             }
         }
@@ -91,14 +101,14 @@ pub fn push_merges(alloc: Global, lines: &mut Derivation, line: u64) -> Mem<u64>
     Ok(left)
 }
 
-/// Adds the line of a step that has a conclusion, and gives its number.
+/// Adds the line of a step of the loop that has a conclusion, and gives its number.
 fn push_step(alloc: Global, lines: &mut Derivation, step: Step) -> Mem<u64>
-    requires parents { HasGroundParents step lines.old }
-    requires concludes { Concludes (verdict step lines.old) }
+    requires kind { IsTrue (is_loop_step step) }
+    requires concludes { Concludes (verdict step (line_parents lines.old)) }
     ensures { IfOk result (AddsLine lines.old step lines.new) }
 {
     let number = lines.len() as u64;
-    match conclusion(alloc, &step, lines) {
+    match conclusion(alloc, &step, &*lines) {
         Ok(clause) => {
             lines.push(Line { step, clause })?;
             Ok(number)
@@ -108,9 +118,10 @@ fn push_step(alloc: Global, lines: &mut Derivation, step: Step) -> Mem<u64>
     }
 }
 
-/// The literals of a line that is there.
+/// The literals of a clause's line.
+#[tactic(auto, using(crate::proofs::DeriveLines::clause_line_below))]
 fn literals_at(lines: &Derivation, number: u64) -> &[Literal]
-    requires { number < length lines.now }
+    requires { IsTrue (has_clause_line lines.now number) }
     ensures { map literal_of result.now ≡ line_literals lines.entry.now number }
 {
     lines.as_slice()[number as usize].clause.literals.as_slice()

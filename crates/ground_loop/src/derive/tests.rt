@@ -73,11 +73,24 @@ fn text_of(alloc: Global, lines: &Derivation) -> Result<String, AllocError> {
     for line in lines.as_slice() {
         match &line.step {
             Step::Clausify(number) => write!(text, "clausify {number}:")?,
-            Step::Para(first, second, from, _, into, _, _, _, _) => {
-                write!(text, "para {first} {second} {from} {into}:")?
-            }
-            Step::Refl(parent, index, _) => write!(text, "refl {parent} {index}:")?,
-            Step::Merge(parent, stays, goes, _) => write!(text, "merge {parent} {stays} {goes}:")?,
+            Step::Para {
+                first,
+                second,
+                from,
+                into,
+                ..
+            } => write!(text, "para {first} {second} {from} {into}:")?,
+            Step::Refl {
+                parent,
+                literal,
+                ..
+            } => write!(text, "refl {parent} {literal}:")?,
+            Step::Merge {
+                parent,
+                stays,
+                goes,
+                ..
+            } => write!(text, "merge {parent} {stays} {goes}:")?,
             _ => write!(text, "another step")?,
         }
         for literal in line.clause.literals.as_slice() {

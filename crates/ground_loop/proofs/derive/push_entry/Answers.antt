@@ -3,7 +3,7 @@ use Rattle.std.specs.Prelude.{slice_index}
 use Rattle.std.proofs.lemmas.List.{length-map}
 use Rattle.fol_base.specs.Tree.{Tree}
 use Rattle.fol_base.specs.Term.{tree_of}
-use Rattle.kernel_steps.proofs.KernelLemmas.{IfOk-change}
+use Rattle.std.proofs.lemmas.Result.{IfOk-weaker}
 use Rattle.ground_loop.specs.Resolution.{can_resolve}
 use Rattle.ground_loop.specs.Lines.{line_literals, IsResolvent}
 use Rattle.ground_loop.proofs.DeriveEntries.{ComesFromClause-from, ComesFromTwo-from, AddsEntry-from_clause, AddsEntry-from_two, atom_at-read}
@@ -23,7 +23,7 @@ push_merges-requires-clause-small c =
 
 pub returns-in-Clause : goal.returns-in-Clause
 returns-in-Clause c =
-    IfOk-change c.push_merges.result _ _
+    IfOk-weaker c.push_merges.result _ _
     (λ left merged.
     AddsEntry-from_clause _ _ _ _ _ _ _ _ _ left c.in-Clause.is
     (ComesFromClause-from _ _ _ _ _ _ _ _ _ _ c.requires.lawful c.requires.is_next c.as_slice.ensures c.in-Clause.is) merged)
@@ -65,7 +65,7 @@ returns-in-Resolvent c =
     let from = ComesFromTwo-from _ _ _ _ _ _ _ _ _ _ _ _ c.requires.lawful c.requires.is_next c.as_slice-numbers.ensures c.in-Resolvent.is in
     let here : c.in-Resolvent.atom < length c.as_slice-in-Resolvent.result.now =
     omega (arith, from.atom_in_table, ap length c.as_slice-in-Resolvent.ensures, length-map c.as_slice-in-Resolvent.result.now tree_of) in
-    IfOk-change c.push_resolvent.result _ _
+    IfOk-weaker c.push_resolvent.result _ _
     (λ number made.
     let P = λ (t : Tree). IsResolvent c.args.lines.now (slice_index c.as_slice-numbers.result.now c.in-Resolvent.first)
     (slice_index c.as_slice-numbers.result.now c.in-Resolvent.second) t c.push_resolvent.new.lines number in

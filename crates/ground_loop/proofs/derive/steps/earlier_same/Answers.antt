@@ -2,8 +2,7 @@ use Rattle.std.proofs.Common.{◌≡◌, ◌<◌, Some, map, length, ap, sym, �
 use Rattle.std.proofs.lemmas.Bool.{or_from}
 use Rattle.fol_base.specs.Clause.{TreeLiteral, literal_eq}
 use Rattle.fol_base.specs.Literal.{literal_of}
-use Rattle.kernel_steps.proofs.KernelLemmas.{slice_get-item}
-use Rattle.ground_loop.proofs.DeriveLemmas.{literal_eq-true, literal_eq-sym}
+use Rattle.ground_loop.proofs.DeriveLemmas.{slice_get-item, literal_eq-true, literal_eq-sym}
 use Rattle.ground_loop.proofs.DeriveSteps.{has_literal-take_more}
 use Rattle.ground_loop.proofs.derive.steps.earlier_same.Goals as goal
 

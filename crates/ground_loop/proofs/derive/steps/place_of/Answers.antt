@@ -4,7 +4,7 @@ use Rattle.std.proofs.lemmas.Bool.{or_from, and_left, and_right}
 use Rattle.fol_base.specs.Tree.{tree_eq}
 use Rattle.fol_base.specs.Literal.{literal_of}
 use Rattle.fol_base.specs.Term.{tree_of}
-use Rattle.kernel_steps.proofs.KernelLemmas.{slice_get-item}
+use Rattle.ground_loop.proofs.DeriveLemmas.{slice_get-item}
 use Rattle.ground_loop.specs.Resolution.{atom_literal}
 use Rattle.ground_loop.proofs.DeriveSteps.{has_literal-take_more, atom_literal-is, atom_literal-differs}
 use Rattle.ground_loop.proofs.derive.steps.place_of.Goals as goal

@@ -3,7 +3,7 @@ use Rattle.std.proofs.lemmas.List.{length-map}
 use Rattle.fol_base.specs.Literal.{literal_of}
 use Rattle.ground_loop.specs.Resolution.{LiteralSet}
 use Rattle.ground_loop.specs.Lines.{line_literals, IsRepeat, IsNew}
-use Rattle.ground_loop.proofs.DeriveSteps.{merge_concludes, MergesSoFar-none, MergesSoFar-passed, MergesSoFar-merged}
+use Rattle.ground_loop.proofs.DeriveSteps.{merge_concludes, merge_smaller, MergesSoFar-none, MergesSoFar-passed, MergesSoFar-merged}
 use Rattle.ground_loop.proofs.derive.steps.push_merges.Goals as goal
 
 pub loop-goes-init : goal.loop-goes-init
@@ -29,3 +29,9 @@ loop-goes-preserved c =
     let P : LiteralSet → Type 0 = λ ls. IsRepeat ls c.loop-goes.goes c.in-Some.stays in
     MergesSoFar-merged _ _ c.loop-goes.lines c.loop-goes.left c.loop-goes.goes c.in-Some.stays _ _ _ c.loop-goes.invariant c.new.ensures
     (subst P c.literals_at-in-loop-goes.ensures c.in-Some.ensures.found) c.in_ok-left-in-Some.ensures
+
+pub loop-goes-smaller : goal.loop-goes-smaller
+loop-goes-smaller c =
+    let P : LiteralSet → Type 0 = λ ls. IsRepeat ls c.loop-goes.goes c.in-Some.stays in
+    merge_smaller c.loop-goes.lines c.loop-goes.left c.loop-goes.goes c.in-Some.stays _ _ _ c.loop-goes.invariant.is_ground
+    c.loop-goes.invariant.small c.new.ensures (subst P c.literals_at-in-loop-goes.ensures c.in-Some.ensures.found) c.in_ok-left-in-Some.ensures

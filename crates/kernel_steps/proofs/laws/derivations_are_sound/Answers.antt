@@ -1,5 +1,0 @@
-use Rattle.kernel_steps.proofs.SoundLemmas.{derivations_are_sound}
-use Rattle.kernel_steps.proofs.laws.derivations_are_sound.Goals as goal
-
-pub returns : goal.returns
-returns c = derivations_are_sound

@@ -1,0 +1,98 @@
+-- Splitting of a clause into parts that share no variables (Voronkov 2014, with the names of ground literals and their complements
+-- as one).
+use Rattle.std.specs.Prelude.{ℕ, zero, suc, Bool, true, false, not, ◌&&◌, ◌==◌, nat_lt, List, [], ◌∷◌, ◌++◌, length, flat_map, map, filter_map, slice_get, Option, None, Some}
+use Rattle.std.specs.List.{list_any, list_all}
+use Rattle.plain_types.specs.declared.sequence.NameLit.{NameLit}
+use Rattle.plain_types.specs.Names.{opposite}
+use Rattle.fol_base.specs.Clause.{TreeLiteral, literals_eq, literal_variables}
+use Rattle.fol_base.specs.Canonical.{canonical_clause}
+use Rattle.kernel_steps.specs.Parents.{Parent}
+
+abbrev pub has_number : ℕ → List ℕ → Bool
+has_number n ks = list_any (λ k. n == k) ks
+
+-- the numbers rise, from one on
+abbrev pub rises_from : ℕ → List ℕ → Bool
+rises_from k [] = true
+rises_from k (j ∷ js) = nat_lt k j && rises_from j js
+
+-- a part: places that rise, at least one
+abbrev pub is_part : List ℕ → Bool
+is_part [] = false
+is_part (k ∷ ks) = rises_from k ks
+
+abbrev pub has_all_below : ℕ → List ℕ → Bool
+has_all_below zero ks = true
+has_all_below (suc n) ks = has_number n ks && has_all_below n ks
+
+-- The parts share out the places below n: as many stand in them, and each of these, so each once.
+abbrev pub share_out : ℕ → List (List ℕ) → Bool
+share_out n parts = (length (flat_map (λ ks. ks) parts) == n) && has_all_below n (flat_map (λ ks. ks) parts)
+
+-- the literals at places
+abbrev pub literals_at : List TreeLiteral → List ℕ → List TreeLiteral
+literals_at ls places = filter_map (slice_get ls) places
+
+abbrev pub share_variable : List TreeLiteral → List TreeLiteral → Bool
+share_variable ls ks = list_any (λ v. has_number v (flat_map literal_variables ks)) (flat_map literal_variables ls)
+
+-- no two lists of literals share a variable
+abbrev pub share_no_variables : List (List TreeLiteral) → Bool
+share_no_variables [] = true
+share_no_variables (ls ∷ lss) = list_all (λ ks. not (share_variable ls ks)) lss && share_no_variables lss
+
+-- literals in canonical form
+abbrev pub canonical_literals : List TreeLiteral → List TreeLiteral
+canonical_literals ls = (canonical_clause (record { literals = ls; names = [] })).literals
+
+-- a line that introduces a name defines literals where they are its own, up to their variables' numbers
+abbrev pub defines : Parent → List TreeLiteral → Bool
+defines p ls = p.introduces && literals_eq (canonical_literals ls) p.clause.literals
+
+-- one definition for each part
+abbrev pub define_all : List Parent → List (List TreeLiteral) → Bool
+define_all [] [] = true
+define_all [] (ls ∷ lss) = false
+define_all (p ∷ ps) [] = false
+define_all (p ∷ ps) (ls ∷ lss) = defines p ls && define_all ps lss
+
+-- there is a part, the parts share out the literals and no variable is in two of them, and each has its definition
+abbrev pub is_split : List TreeLiteral → List Parent → List (List ℕ) → Bool
+is_split ls definitions parts =
+    not (length parts == 0)
+    && (list_all is_part parts
+    && (share_out (length ls) parts
+    && (share_no_variables (map (literals_at ls) parts) && define_all definitions (map (literals_at ls) parts))))
+
+-- ---- the same where the definitions are looked up: one that isn't there defines nothing
+
+abbrev pub there_defines : Option Parent → List TreeLiteral → Bool
+there_defines None ls = false
+there_defines (Some p) ls = defines p ls
+
+abbrev pub are_defined : List (Option Parent) → List (List TreeLiteral) → Bool
+are_defined [] [] = true
+are_defined [] (ls ∷ lss) = false
+are_defined (o ∷ os) [] = false
+are_defined (o ∷ os) (ls ∷ lss) = there_defines o ls && are_defined os lss
+
+abbrev pub can_split : List TreeLiteral → List (Option Parent) → List (List ℕ) → Bool
+can_split ls os parts =
+    not (length parts == 0)
+    && (list_all is_part parts
+    && (share_out (length ls) parts
+    && (share_no_variables (map (literals_at ls) parts) && are_defined os (map (literals_at ls) parts))))
+
+-- the opposites of the names of those that are there
+abbrev pub opposites : List (Option Parent) → List NameLit
+opposites [] = []
+opposites (None ∷ os) = opposites os
+opposites (Some p ∷ os) = map opposite p.clause.names ++ opposites os
+
+-- no number is in two lists
+abbrev pub share_number : List ℕ → List ℕ → Bool
+share_number ns ms = list_any (λ n. has_number n ms) ns
+
+abbrev pub share_no_numbers : List (List ℕ) → Bool
+share_no_numbers [] = true
+share_no_numbers (ns ∷ nss) = list_all (λ ms. not (share_number ns ms)) nss && share_no_numbers nss
