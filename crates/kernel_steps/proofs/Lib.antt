@@ -23,3 +23,6 @@ pub mod GroundedLemmasChain
 pub mod GroundedLemmasSplit
 pub mod GroundedLemmasSteps
 pub mod GroundedLemmasLines
+pub mod LoopLemmas
+pub mod ChainLemmas
+pub mod SplitLoops
