@@ -26,3 +26,4 @@ pub mod GroundedLemmasLines
 pub mod LoopLemmas
 pub mod ChainLemmas
 pub mod SplitLoops
+pub mod CallLemmas

@@ -4,6 +4,7 @@ ghost use Rattle.std.specs.Prelude.{◌≡◌, ◌-◌, ◌^◌, min, not, nat_l
 ghost use Rattle.std.specs.List.{list_all};
 ghost use Rattle.std.specs.Option.{option_map};
 ghost use Rattle.fol_base.specs.Tree.{is_truth};
+ghost use Rattle.fol_base.specs.Term.{tree_of};
 ghost use Rattle.fol_base.specs.Clause.{literal_size, clause_size};
 ghost use Rattle.fol_base.specs.Ground.{literals_instance};
 ghost use Rattle.fol_base.specs.Literal.{literal_of, clause_of};
@@ -19,8 +20,8 @@ use crate::rules::{self, Bound};
 use crate::split::split;
 use crate::step::{Step, StepFault};
 use fol_base::{
-    Clause, LendsLiterals, LendsTerms, Literals, MOST_BOUND_SYMBOLS, Position, Side, Terms,
-    instance_size,
+    Clause, LendsLiterals, LendsTerms, Literals, MOST_BOUND_SYMBOLS, Position, Side, Term,
+    Terms, instance_size,
 };
 use plain_types::{NameLit, Names};
 use std::alloc::Global;
@@ -280,12 +281,14 @@ fn binds_parent(parent: Option<ParentRef<'_>>, bind: &Terms) -> bool
 fn is_bound(bind: &Terms, clause: &Clause) -> bool
     ensures { result ≡ binds bind.now (clause_of clause.now) }
 {
-    bind.len() as u64 == clause.variable_bound() && has_no_truth(bind) && is_small(clause, bind)
+    bind.len() as u64 == clause.variable_bound()
+        && has_no_truth(bind.as_slice())
+        && is_small(clause, bind)
 }
 
 /// Whether no term is `$true`.
-fn has_no_truth(terms: &Terms) -> bool
-    ensures { result ≡ list_all (λ t. not (is_truth t)) terms.now }
+fn has_no_truth(terms: &[Term]) -> bool
+    ensures { result ≡ list_all (λ t. not (is_truth t)) (map tree_of terms.now) }
 {
     terms.iter().all(|term| !term.is_truth())
 }
