@@ -20,8 +20,8 @@ use crate::rules::{self, Bound};
 use crate::split::split;
 use crate::step::{Step, StepFault};
 use fol_base::{
-    Clause, LendsLiterals, LendsTerms, Literals, MOST_BOUND_SYMBOLS, Position, Side, Term,
-    Terms, instance_size,
+    Clause, LendsLiterals, LendsTerms, Literals, MOST_BOUND_SYMBOLS, Position, Side, Term, Terms,
+    instance_size,
 };
 use plain_types::{NameLit, Names};
 use std::alloc::Global;
@@ -248,10 +248,7 @@ fn bound<'a>(parent: ParentRef<'a>, bind: &'a Terms) -> Bound<'a, Literals, Term
 }
 
 /// The parent, where it is there and its binding is right. `Binding` exactly where it is there and the binding isn't.
-fn bound_parent<'a>(
-    parent: Option<ParentRef<'a>>,
-    bind: &Terms,
-) -> Result<ParentRef<'a>, StepFault>
+fn bound_parent<'a>(parent: Option<ParentRef<'a>>, bind: &Terms) -> Result<ParentRef<'a>, StepFault>
     ensures ok { IfOk result (λ found. (parent.entry ≡ Some found) × IsTrue (binds bind.now (clause_of found.clause.now))) }
     ensures err { IfErr result (λ fault. IsRefusal bind.now (option_map parent_of parent.entry) fault) }
 {

@@ -187,7 +187,9 @@ fn share_no_numbers(lists: &[Vec<u32>]) -> bool
 fn is_apart(numbers: &[u32], others: &[Vec<u32>]) -> bool
     ensures { result ≡ list_all (λ other. not (share_number numbers.now other.items)) others.now }
 {
-    others.iter().all(|other| !share_number(numbers, other.as_slice()))
+    others
+        .iter()
+        .all(|other| !share_number(numbers, other.as_slice()))
 }
 
 /// Whether a number is in both lists.
