@@ -1,15 +1,15 @@
-use Rattle.std.proofs.Common.{◌≡◌, List, ◌++◌, Option, map, ap, ap₂, sym, ◌∙◌}
+use Rattle.std.proofs.Common.{List, ◌++◌, map, ap, ap₂, sym, ◌∙◌}
 use Rattle.std.specs.Prelude.{option_map}
 use Rattle.plain_types.specs.declared.sequence.NameLit.{NameLit}
 use Rattle.fol_base.specs.Tree.{Tree}
 use Rattle.fol_base.specs.Instance.{substitution}
-use Rattle.fol_base.specs.Clause.{TreeLiteral, TreeClause}
+use Rattle.fol_base.specs.Clause.{TreeLiteral}
 use Rattle.fol_base.specs.Ground.{literals_instance}
 use Rattle.fol_base.specs.Literal.{literal_of}
 use Rattle.fol_base.specs.Rules.{superposed}
 use Rattle.fol_base.specs.declared.clause.Literal.{Literal}
 use Rattle.kernel_steps.specs.Names.{with_names, sorted_names}
-use Rattle.kernel_steps.specs.Parents.{Parent, parent_of}
+use Rattle.kernel_steps.specs.Parents.{parent_of}
 use Rattle.kernel_steps.specs.Conclusion.{verdict_of, concludes, clause_with}
 use Rattle.kernel_steps.proofs.NameLemmas.{with_names-append}
 use Rattle.kernel_steps.proofs.CallLemmas.{by_two-there}

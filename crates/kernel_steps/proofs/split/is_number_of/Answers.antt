@@ -1,4 +1,4 @@
-use Rattle.std.proofs.Common.{◌==◌, ap, ap₂, sym, ◌∙◌}
+use Rattle.std.proofs.Common.{◌==◌, ap, sym, ◌∙◌}
 use Rattle.std.specs.Prelude.{unwrap_or}
 use Rattle.kernel_steps.proofs.SplitLoops.{place_of-read, place_of-unread}
 use Rattle.kernel_steps.proofs.split.is_number_of.Goals as goal

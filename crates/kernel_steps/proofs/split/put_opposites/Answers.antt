@@ -1,4 +1,4 @@
-use Rattle.std.proofs.Common.{◌≡◌, None, Option, map, drop, ap, sym, ◌+◌, ◌∙◌}
+use Rattle.std.proofs.Common.{map, drop, ap, sym, ◌+◌, ◌∙◌}
 use Rattle.std.specs.Prelude.{option_map}
 use Rattle.plain_types.specs.Names.{opposite}
 use Rattle.kernel_steps.specs.Names.{with_names}
