@@ -8,7 +8,7 @@ use Rattle.fol_base.specs.Instance.{Substitution, instance}
 use Rattle.fol_base.specs.Clause.{TreeLiteral, TreeClause, literal_instance}
 use Rattle.fol_base.specs.Ground.{literals_instance}
 use Rattle.fol_base.specs.Sides.{side_of, other_side_of}
-use Rattle.fol_base.specs.Rules.{is_chosen, apart, factored}
+use Rattle.fol_base.specs.Rules.{may_be_chosen, disequation, factored}
 use Rattle.fol_base.specs.declared.clause.Side.{Side}
 use Rattle.fol_base.proofs.InferenceLemmas.{other_side_of-instance}
 use Rattle.kernel_steps.specs.Parents.{Parent}
@@ -19,17 +19,17 @@ pub factored-called :
     (σ : Substitution) (ls : List TreeLiteral) (i : ℕ) (side_i : Side) (j : ℕ) (side_j : Side)
     (l m : TreeLiteral) (left right : Tree) (made : List TreeLiteral)
     → (i ≡ j → ⊥) → slice_get ls i ≡ Some l → slice_get ls j ≡ Some m
-    → (is_chosen (literal_instance σ l) side_i
+    → (may_be_chosen (literal_instance σ l) side_i
     && (m.positive && tree_eq (side_of side_i (literal_instance σ l)) (side_of side_j (literal_instance σ m)))) ≡ true
     → left ≡ instance σ (other_side_of side_i l) → right ≡ instance σ (other_side_of side_j m)
-    → made ≡ slice_set (map (literal_instance σ) ls) i (apart left right)
+    → made ≡ slice_set (map (literal_instance σ) ls) i (disequation left right)
     → Some made ≡ factored (literals_instance σ ls) i side_i j side_j
 factored-called σ ls i side_i j side_j l m left right made differ l_at m_at can left_is right_is made_is =
     let ks : List TreeLiteral = literals_instance σ ls in
     let test : TreeLiteral → TreeLiteral → Bool =
-    λ l m. is_chosen l side_i && (m.positive && tree_eq (side_of side_i l) (side_of side_j m)) in
+    λ l m. may_be_chosen l side_i && (m.positive && tree_eq (side_of side_i l) (side_of side_j m)) in
     let whole : TreeLiteral → TreeLiteral → List TreeLiteral =
-    λ l m. slice_set ks i (apart (other_side_of side_i l) (other_side_of side_j m)) in
+    λ l m. slice_set ks i (disequation (other_side_of side_i l) (other_side_of side_j m)) in
     let with_i : TreeLiteral → TreeLiteral → Option (List TreeLiteral) = λ l m. if test l m then Some (whole l m) else None in
     let made_of : Option (List TreeLiteral) = option_and_then (λ l. option_and_then (with_i l) (slice_get ks j)) (slice_get ks i) in
     let first : TreeLiteral = literal_instance σ l in
@@ -42,7 +42,7 @@ factored-called σ ls i side_i j side_j l m left right made differ l_at m_at can
     ∙ sym
     (ap (λ ns. let o : Option (List TreeLiteral) = Some ns in o)
     (made_is
-    ∙ ap₂ (λ t u. slice_set ks i (apart t u)) (left_is ∙ sym (other_side_of-instance σ side_i l)) (right_is ∙ sym (other_side_of-instance σ side_j m)))))
+    ∙ ap₂ (λ t u. slice_set ks i (disequation t u)) (left_is ∙ sym (other_side_of-instance σ side_i l)) (right_is ∙ sym (other_side_of-instance σ side_j m)))))
 
 -- a rule of two parents that are there, under right bindings
 pub by_two-there :

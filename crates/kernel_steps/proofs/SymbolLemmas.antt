@@ -16,7 +16,7 @@ use Rattle.fol_base.specs.declared.clause.Side.{Side}
 use Rattle.fol_base.specs.declared.clause.Side.TheVariants.{Left, Right}
 use Rattle.fol_base.proofs.TreeLemmas.{trees_of-list_of}
 use Rattle.fol_base.proofs.PlaceLemmas.{replaced-parts}
-use Rattle.fol_base.proofs.KindLemmas.{trees_count-instances}
+use Rattle.fol_base.proofs.InstanceLemmas.{trees_count-instances}
 use Rattle.fol_base.proofs.RuleLemmas.{superposed_literal-parts, superposed-parts, resolved-parts, factored-parts, merged-parts}
 use Rattle.fol_base.proofs.TestLemmas.{list_all-item, list_all-joined, list_all-set, list_all-remove, list_all-map_from}
 use Rattle.kernel_steps.specs.Parents.{Parent, Parents}
