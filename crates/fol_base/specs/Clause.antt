@@ -1,6 +1,6 @@
 -- Literals and clauses over trees.
 use mathlib.Core.Bool.{beq}
-use Rattle.std.specs.Prelude.{ℕ, ◌+◌, Bool, true, false, ◌&&◌, ◌==◌, List, [], ◌∷◌, ◌++◌, map, flat_map, sum_by, All}
+use Rattle.std.specs.Prelude.{ℕ, ◌+◌, Bool, true, false, ◌&&◌, List, [], ◌∷◌, ◌++◌, map, flat_map, sum_by, All}
 use Rattle.plain_types.specs.declared.sequence.NameLit.{NameLit}
 use Rattle.plain_types.specs.Names.{same_name}
 use Rattle.fol_base.specs.Tree.{Tree, tree_size, tree_eq, tree_variables, VariablesBelow}

@@ -1,5 +1,5 @@
 -- The symbols of the worked examples. Their numbers rise in the order a, b, c, f, g, p, q, r; the last three are predicates.
-use Rattle.std.specs.Prelude.{ℕ, zero, suc, Bool, true, false, ◌||◌, ◌==◌, nat_le, if◌then◌else◌, List, [], ◌∷◌, refl}
+use Rattle.std.specs.Prelude.{ℕ, zero, suc, Bool, true, ◌||◌, ◌==◌, nat_le, if◌then◌else◌, List, [], ◌∷◌, refl}
 use Rattle.fol_base.specs.Tree.{Tree, variable, application, no_trees, tree_then, true_tree}
 use Rattle.fol_base.specs.Instance.{Substitution}
 use Rattle.fol_base.specs.Clause.{TreeLiteral, TreeClause}

@@ -1,5 +1,5 @@
 -- Ground trees over a list of function symbols, and the ground instances of a clause (Herbrand 1930, Robinson 1965).
-use Rattle.std.specs.Prelude.{◌≡◌, ℕ, ◌+◌, Bool, true, false, ◌&&◌, ◌==◌, ◌↔◌, List, map, IsTrue}
+use Rattle.std.specs.Prelude.{◌≡◌, ℕ, Bool, true, false, ◌&&◌, ◌==◌, ◌↔◌, List, map, IsTrue}
 use Rattle.std.specs.List.{list_any, list_all}
 use Rattle.fol_base.specs.Tree.{Tree, variable, application, Trees, no_trees, tree_then, trees_count}
 use Rattle.fol_base.specs.Symbols.{FunctionSymbol, FunctionSymbols, has_constant}

@@ -1,6 +1,6 @@
 -- The inferences of superposition between ground instances of clauses (Bachmair and Ganzinger 1994): the rules, with the conditions
 -- of order and selection.
-use Rattle.std.specs.Prelude.{◌≡◌, ◌⊎◌, ℕ, Bool, true, false, List, slice_get, Option, None, Some, IsTrue, IsFalse}
+use Rattle.std.specs.Prelude.{◌≡◌, ◌⊎◌, ℕ, Bool, true, false, List, slice_get, None, Some, IsTrue, IsFalse}
 use Rattle.fol_base.specs.Tree.{Tree, is_variable}
 use Rattle.fol_base.specs.Instance.{Substitution, instance}
 use Rattle.fol_base.specs.Place.{subterm}

@@ -1,5 +1,5 @@
 -- Function symbols, and lists of them over which terms are built.
-use Rattle.std.specs.Prelude.{ℕ, Bool, not, ◌&&◌, ◌||◌, ◌==◌, List, IsTrue}
+use Rattle.std.specs.Prelude.{ℕ, Bool, not, ◌&&◌, ◌==◌, List, IsTrue}
 use Rattle.std.specs.List.{list_any, list_all}
 use Rattle.fol_base.specs.Tree.{true_symbol}
 

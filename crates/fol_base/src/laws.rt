@@ -21,8 +21,8 @@ pub use instances::{
     replaced_where_there, sizes_of_instances, variables_of_instances,
 };
 pub use matching_examples::{
-    compatible_examples, ground_form_examples, kind_examples, subsumption_examples, symbol_examples,
-    unifier_examples, well_formed_examples,
+    compatible_examples, ground_form_examples, kind_examples, subsumption_examples,
+    symbol_examples, unifier_examples, well_formed_examples,
 };
 pub use meaning::{
     congruence, empty_clause_entailed, entailment_cuts, entailment_of_members, entailment_of_more,

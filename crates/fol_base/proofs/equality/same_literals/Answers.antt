@@ -1,4 +1,4 @@
-use Rattle.std.proofs.Common.{◌≡◌, ◌+◌, ◌&&◌, Bool, drop, ap, sym, ◌∙◌}
+use Rattle.std.proofs.Common.{◌+◌, ◌&&◌, Bool, drop, ap, sym, ◌∙◌}
 use Rattle.fol_base.specs.Clause.{literals_eq}
 use Rattle.fol_base.specs.Lent.{lent_of}
 use Rattle.fol_base.proofs.EqualityLemmas.{literals_eq-lengths, literals_eq-drop}

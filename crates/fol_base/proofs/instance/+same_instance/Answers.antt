@@ -1,4 +1,4 @@
-use Rattle.std.proofs.Common.{arith, rules, ◌<◌, ◌+◌, ◌*◌, ◌≡◌, ◌∙◌, ap, ap₂, sym, refl, map}
+use Rattle.std.proofs.Common.{arith, rules, ◌<◌, ◌+◌, ◌*◌, ◌∙◌, ap, ap₂, sym, refl, map}
 use Rattle.fol_base.specs.Term.{tree_of}
 use Rattle.fol_base.specs.Tree.{tree_size, trees_size, tree_eq, trees_eq, trees_of}
 use Rattle.fol_base.specs.Instance.{instance}

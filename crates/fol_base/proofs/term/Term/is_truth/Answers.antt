@@ -1,4 +1,4 @@
-use Rattle.std.proofs.Common.{ap, ap₂, sym, ◌∙◌}
+use Rattle.std.proofs.Common.{ap, sym, ◌∙◌}
 use Rattle.fol_base.specs.Tree.{application, is_truth, trees_of}
 use Rattle.fol_base.specs.Term.{tree_of}
 use Rattle.fol_base.proofs.TreeLemmas.{is_truth-arguments}
