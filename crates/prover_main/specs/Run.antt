@@ -32,7 +32,7 @@ pub record IsRefutedBy (bytes file text : List ℕ) : Type 0 where
   pub accepted : IsAcceptedDerivation file problem derivation
   pub herbrand :
       (functions : FunctionSymbols (is_predicate_of problem)) → IsTrue (has_constant functions.symbols)
-      → HerbrandRefuted (is_predicate_of problem) functions (form_of problem)
+      → HerbrandRefuted functions (form_of problem)
   pub prints : text ≡ refuted_report file derivation
 
 -- as many different inferences as the limit
