@@ -23,3 +23,7 @@ pub mod GroundedLemmasChain
 pub mod GroundedLemmasSplit
 pub mod GroundedLemmasSteps
 pub mod GroundedLemmasLines
+pub mod LoopLemmas
+pub mod ChainLemmas
+pub mod SplitLoops
+pub mod CallLemmas

@@ -25,7 +25,7 @@ pub fn chain<P: LendsParents>(
         (λ nss. chained nss pivots.now)
         (all_there (map (names_at (P.meaning parents.now)) numbers.now))))) result }
 {
-    if numbers.is_empty() || numbers.len() - 1 != pivots.len() {
+    if numbers.len() != pivots.len() + 1 {
         return Err(StepFault::Rule);
     }
     let Some(start) = names_of(parents, numbers[0]) else {

@@ -1,13 +1,17 @@
 // The conclusion of a step.
 
-ghost use Rattle.std.specs.Prelude.{◌≡◌, ◌-◌, ◌^◌, min, map, sum_by, IsTrue, IfOk, IfErr};
+ghost use Rattle.std.specs.Prelude.{◌≡◌, ◌-◌, ◌^◌, min, not, nat_le, map, sum_by, IsTrue, IfOk, IfErr};
+ghost use Rattle.std.specs.List.{list_all};
 ghost use Rattle.std.specs.Option.{option_map};
-ghost use Rattle.fol_base.specs.Clause.{literal_size};
+ghost use Rattle.fol_base.specs.Tree.{is_truth};
+ghost use Rattle.fol_base.specs.Term.{tree_of};
+ghost use Rattle.fol_base.specs.Clause.{literal_size, clause_size};
 ghost use Rattle.fol_base.specs.Ground.{literals_instance};
 ghost use Rattle.fol_base.specs.Literal.{literal_of, clause_of};
 ghost use Rattle.fol_base.specs.Rules.{superposed, resolved, factored, merged};
 ghost use Rattle.kernel_steps.specs.Parents.{parent_of};
-ghost use Rattle.kernel_steps.specs.Conclusion.{binds, binds_parent, verdict, verdict_of, clause_with, by_one, by_two, is_rule_step, IsAnswerTo, IsRefusal};
+ghost use Rattle.fol_base.specs.declared.limits.TheConstants.{MOST_BOUND_SYMBOLS};
+ghost use Rattle.kernel_steps.specs.Conclusion.{bound_clause, binds, binds_parent, verdict, verdict_of, clause_with, by_one, by_two, is_rule_step, IsAnswerTo, IsRefusal};
 
 use crate::chain::chain;
 use crate::names::{put_names, sorted_names};
@@ -16,7 +20,7 @@ use crate::rules::{self, Bound};
 use crate::split::split;
 use crate::step::{Step, StepFault};
 use fol_base::{
-    Clause, LendsLiterals, LendsTerms, Literals, MOST_BOUND_SYMBOLS, Position, Side, Terms,
+    Clause, LendsLiterals, LendsTerms, Literals, MOST_BOUND_SYMBOLS, Position, Side, Term, Terms,
     instance_size,
 };
 use plain_types::{NameLit, Names};
@@ -244,10 +248,7 @@ fn bound<'a>(parent: ParentRef<'a>, bind: &'a Terms) -> Bound<'a, Literals, Term
 }
 
 /// The parent, where it is there and its binding is right. `Binding` exactly where it is there and the binding isn't.
-fn bound_parent<'a>(
-    parent: Option<ParentRef<'a>>,
-    bind: &Terms,
-) -> Result<ParentRef<'a>, StepFault>
+fn bound_parent<'a>(parent: Option<ParentRef<'a>>, bind: &Terms) -> Result<ParentRef<'a>, StepFault>
     ensures ok { IfOk result (λ found. (parent.entry ≡ Some found) × IsTrue (binds bind.now (clause_of found.clause.now))) }
     ensures err { IfErr result (λ fault. IsRefusal bind.now (option_map parent_of parent.entry) fault) }
 {
@@ -278,8 +279,22 @@ fn is_bound(bind: &Terms, clause: &Clause) -> bool
     ensures { result ≡ binds bind.now (clause_of clause.now) }
 {
     bind.len() as u64 == clause.variable_bound()
-        && bind.iter().all(|term| !term.is_truth())
-        && bound_size(&clause.literals, bind) <= MOST_BOUND_SYMBOLS
+        && has_no_truth(bind.as_slice())
+        && is_small(clause, bind)
+}
+
+/// Whether no term is `$true`.
+fn has_no_truth(terms: &[Term]) -> bool
+    ensures { result ≡ list_all (λ t. not (is_truth t)) (map tree_of terms.now) }
+{
+    terms.iter().all(|term| !term.is_truth())
+}
+
+/// Whether a clause under a binding isn't too large.
+fn is_small(clause: &Clause, bind: &Terms) -> bool
+    ensures { result ≡ nat_le (clause_size (bound_clause bind.now (clause_of clause.now))) MOST_BOUND_SYMBOLS }
+{
+    bound_size(&clause.literals, bind) <= MOST_BOUND_SYMBOLS
 }
 
 /// The size of literals under a binding, stopping at u64's last value.

@@ -213,11 +213,7 @@ fn equivalent_instances<S: LendsTerms>(
 }
 
 /// The instance of a literal.
-fn literal_instance<S: LendsTerms>(
-    alloc: Global,
-    literal: LiteralRef<'_>,
-    bind: &S,
-) -> Mem<Literal>
+fn literal_instance<S: LendsTerms>(alloc: Global, literal: LiteralRef<'_>, bind: &S) -> Mem<Literal>
     ensures { IfOk result (λ made. literal_of made ≡ literal_instance (S.meaning bind.now) (lent_of literal.entry)) }
 {
     let left = instance(alloc, literal.left, bind)?;

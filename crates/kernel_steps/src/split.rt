@@ -1,6 +1,6 @@
 // Splitting of a clause into parts that share no variables.
 
-ghost use Rattle.std.specs.Prelude.{◌≡◌, ◌==◌, map, flat_map, option_and_then, unwrap_or, IfOk};
+ghost use Rattle.std.specs.Prelude.{◌≡◌, ◌==◌, not, map, flat_map, option_and_then, unwrap_or, IfOk};
 ghost use Rattle.std.specs.List.{list_all};
 ghost use Rattle.plain_types.specs.Names.{opposite};
 ghost use Rattle.fol_base.specs.Tree.{tree_eq, trees_eq, trees_of};
@@ -150,7 +150,13 @@ fn has_all_below(alloc: Global, count: usize, places: &[u64]) -> Mem<bool>
             found[index] = true;
         }
     }
-    Ok(found.iter().all(|there| *there))
+    Ok(are_true(found.as_slice()))
+}
+
+fn are_true(values: &[bool]) -> bool
+    ensures { result ≡ list_all (λ value. value) values.now }
+{
+    values.iter().all(|value| *value)
 }
 
 /// Whether no variable is in two parts.
@@ -170,11 +176,20 @@ fn share_no_numbers(lists: &[Vec<u32>]) -> bool
     ensures { result ≡ share_no_numbers (map (λ list. list.items) lists.now) }
 {
     for index in 0..lists.len() {
-        if lists[index + 1..].iter().any(|later| share_number(lists[index].as_slice(), later.as_slice())) {
+        if !is_apart(lists[index].as_slice(), &lists[index + 1..]) {
             return false;
         }
     }
     true
+}
+
+/// Whether no number of a list is in one of the others.
+fn is_apart(numbers: &[u32], others: &[Vec<u32>]) -> bool
+    ensures { result ≡ list_all (λ other. not (share_number numbers.now other.items)) others.now }
+{
+    others
+        .iter()
+        .all(|other| !share_number(numbers, other.as_slice()))
 }
 
 /// Whether a number is in both lists.

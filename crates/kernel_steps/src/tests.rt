@@ -94,11 +94,17 @@ fn expect_clause(
 fn superposes(rt: HostRuntime) -> Result<(), Fail> {
     let alloc = rt.alloc();
     let fact = vec![in alloc; atom(alloc, true, P, constant(alloc, A))?]?;
-    let rule = vec![in alloc; atom(alloc, false, P, Term::Var(0))?, atom(alloc, true, Q, Term::Var(0))?]?;
+    let rule = vec![in alloc;
+        atom(alloc, false, P, Term::Var(0))?,
+        atom(alloc, true, Q, Term::Var(0))?,
+    ]?;
     let made = vec![in alloc; not_true(alloc), atom(alloc, true, Q, constant(alloc, A))?]?;
     let lines = lines_of(
         alloc,
-        vec![in alloc; clause(alloc, fact, &[signed(false, 3)])?, clause(alloc, rule, &[signed(false, 1)])?]?,
+        vec![in alloc;
+            clause(alloc, fact, &[signed(false, 3)])?,
+            clause(alloc, rule, &[signed(false, 1)])?,
+        ]?,
     )?;
     let para = Step::Para {
         first: 0,
@@ -120,7 +126,10 @@ fn superposes(rt: HostRuntime) -> Result<(), Fail> {
 fn drops_literals(rt: HostRuntime) -> Result<(), Fail> {
     let alloc = rt.alloc();
     let trivial = vec![in alloc; not_true(alloc), atom(alloc, true, P, constant(alloc, A))?]?;
-    let double = vec![in alloc; atom(alloc, true, P, Term::Var(0))?, atom(alloc, true, P, constant(alloc, A))?]?;
+    let double = vec![in alloc;
+        atom(alloc, true, P, Term::Var(0))?,
+        atom(alloc, true, P, constant(alloc, A))?,
+    ]?;
     let rest = vec![in alloc; atom(alloc, true, P, constant(alloc, A))?]?;
     let lines = lines_of(
         alloc,
@@ -159,7 +168,10 @@ fn factoring(alloc: Global, becomes: u64, other: u64) -> Mem<Step>
 #[test]
 fn factors_both_ways(rt: HostRuntime) -> Result<(), Fail> {
     let alloc = rt.alloc();
-    let atoms = vec![in alloc; atom(alloc, true, P, Term::Var(0))?, atom(alloc, true, P, constant(alloc, A))?]?;
+    let atoms = vec![in alloc;
+        atom(alloc, true, P, Term::Var(0))?,
+        atom(alloc, true, P, constant(alloc, A))?,
+    ]?;
     let first = vec![in alloc; not_true(alloc), atom(alloc, true, P, constant(alloc, A))?]?;
     let second = vec![in alloc; atom(alloc, true, P, constant(alloc, A))?, not_true(alloc)]?;
     let lines = lines_of(alloc, vec![in alloc; clause(alloc, atoms, &[])?]?)?;
@@ -173,7 +185,10 @@ fn factors_both_ways(rt: HostRuntime) -> Result<(), Fail> {
 #[test]
 fn splits(rt: HostRuntime) -> Result<(), Fail> {
     let alloc = rt.alloc();
-    let whole = vec![in alloc; atom(alloc, true, P, Term::Var(0))?, atom(alloc, true, Q, Term::Var(1))?]?;
+    let whole = vec![in alloc;
+        atom(alloc, true, P, Term::Var(0))?,
+        atom(alloc, true, Q, Term::Var(1))?,
+    ]?;
     let left = vec![in alloc; atom(alloc, true, P, Term::Var(0))?]?;
     let right = vec![in alloc; atom(alloc, true, Q, Term::Var(0))?]?;
     let mut lines = lines_of(alloc, vec![in alloc; clause(alloc, whole, &[])?]?)?;
@@ -232,13 +247,13 @@ fn resolution(bind: Terms) -> Step
     }
 }
 
-/// `f(..f(a)..)` of that size.
-fn tower(alloc: Global, size: u64) -> Mem<Term> {
-    let mut term = constant(alloc, A);
+/// `f(a, .., a)` of that size.
+fn wide(alloc: Global, size: u64) -> Mem<Term> {
+    let mut arguments = Terms::new(alloc);
     for _ in 1..size {
-        term = unary(alloc, F, term)?;
+        arguments.push(constant(alloc, A))?;
     }
-    Ok(term)
+    Ok(Term::App(F, arguments))
 }
 
 #[test]
@@ -253,8 +268,14 @@ fn finds_faults(rt: HostRuntime) -> Result<(), Fail> {
         (one(alloc, Term::truth(alloc))?, StepFault::Binding),
         (Terms::new(alloc), StepFault::Binding),
         (long, StepFault::Binding),
-        (one(alloc, tower(alloc, MOST_BOUND_SYMBOLS - 2)?)?, StepFault::Rule),
-        (one(alloc, tower(alloc, MOST_BOUND_SYMBOLS - 1)?)?, StepFault::Binding),
+        (
+            one(alloc, wide(alloc, MOST_BOUND_SYMBOLS - 2)?)?,
+            StepFault::Rule
+        ),
+        (
+            one(alloc, wide(alloc, MOST_BOUND_SYMBOLS - 1)?)?,
+            StepFault::Binding
+        ),
     ]?;
     for (bind, wanted) in rows {
         let step = resolution(bind);

@@ -1,4 +1,4 @@
-use Rattle.std.proofs.Common.{ap, ap₂, ◌∙◌}
+use Rattle.std.proofs.Common.{ap, ◌∙◌}
 use Rattle.plain_types.specs.Names.{has_name, without}
 use Rattle.kernel_steps.specs.Names.{with_names}
 use Rattle.kernel_steps.proofs.NameLemmas.{resolvent-made}
