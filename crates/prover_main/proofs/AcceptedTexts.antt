@@ -9,6 +9,7 @@ use Rattle.std.proofs.lemmas.Bool.{eqb-true, eq-eqb, and_parts, and_from, or_cas
 use Rattle.std.proofs.lemmas.Option.{none-some, same_Some, slice_get_within}
 use Rattle.std.proofs.lemmas.List.{length-map}
 use Rattle.std.proofs.Math.Seq.{take-append_seam}
+use Rattle.plain_types.specs.declared.sequence.NameLit.{NameLit}
 use Rattle.fol_base.specs.Tree.{Tree, variable, application, no_trees, tree_then, tree_eq, is_truth}
 use Rattle.fol_base.specs.Canonical.{bound_of}
 use Rattle.fol_base.specs.Place.{subterm, replaced}
@@ -32,7 +33,8 @@ use Rattle.fol_base.proofs.TestLemmas.{else_some, if_some}
 use Rattle.ground_reader.specs.declared.problem.GroundProblem.{GroundProblem}
 use Rattle.prover_main.specs.Accepted.{form_of, IsAcceptedDerivation}
 use Rattle.prover_main.specs.AcceptedExamples.{unit_clause, two_units, third_line, fifth_line, last_line, derivation_with}
-use Rattle.ground_text.specs.Lines.{Source, source_of, input_line, clause_head, clausify_text, factor_text, component_text, opposite_text, split_text, chain_text, line_text_of, lines_text_from}
+use Rattle.ground_text.specs.Terms.{SymbolNames}
+use Rattle.ground_text.specs.Lines.{Source, source_of, input_line, clause_head, clausify_text, step_text, line_text_of, lines_text_from}
 
 -- ---- known lines
 
@@ -160,12 +162,12 @@ has_other_word text =
 -- a text that begins with a line of such a kind has its word
 word_there :
     (word head source ending text : List ℕ)
-    → has_word word source ≡ true → begins_with (head ++ (source ++ ending)) text ≡ true → has_word word text ≡ true
+    → has_word word source ≡ true → begins_with (head ++ source ++ ending) text ≡ true → has_word word text ≡ true
 word_there word head source ending text has begun =
-    let whole = begins_with-says (head ++ (source ++ ending)) text begun in
+    let whole = begins_with-says (head ++ source ++ ending) text begun in
     ap (has_word word) (sym whole.1)
-    ∙ has_word-front word (head ++ (source ++ ending)) whole.0
-    (has_word-back word head (source ++ ending) (has_word-front word source ending has))
+    ∙ has_word-front word (head ++ source ++ ending) whole.0
+    (has_word-front word (head ++ source) ending (has_word-back word head source has))
 
 -- ---- searches
 
@@ -482,25 +484,49 @@ introduced_there : (text : List ℕ) → has_word (codes "introduced") text ≡ 
 introduced_there text has =
     or_right (has_word (codes "factor") text) _ (or_left (has_word (codes "introduced") text) _ has)
 
+factor_has : (names : SymbolNames) (a i : ℕ) (s : Side) (j : ℕ) (z : Side) (bind : List Tree) → has_word (codes "factor") (step_text names [] (Factor a i s j z bind)) ≡ true
+factor_has names a i s j z bind = refl
+
+component_has : (names : SymbolNames) (name : ℕ) → has_word (codes "introduced") (step_text names [] (Component name)) ≡ true
+component_has names name = refl
+
+opposite_has : (names : SymbolNames) (name : ℕ) → has_word (codes "introduced") (step_text names [] (Opposite name)) ≡ true
+opposite_has names name = refl
+
+split_has : (names : SymbolNames) (a : ℕ) (definitions : List ℕ) (parts : List (List ℕ)) → has_word (codes "split") (step_text names [] (Split a definitions parts)) ≡ true
+split_has names a definitions parts = refl
+
+chain_has : (names : SymbolNames) (parents : List ℕ) (pivots : List NameLit) → has_word (codes "chain") (step_text names [] (Chain parents pivots)) ≡ true
+chain_has names parents pivots = refl
+
 -- the line of a step of another kind has its word
 other_there :
     (source : Source) (n : ℕ) (ks : List Known) (step : Step) (c : TreeClause) (text : List ℕ)
     → is_known_kind step ≡ false → begins_with (text_at source n ks step c) text ≡ true → has_other_word text ≡ true
 other_there source n ks (Factor a i s j z bind) c text other begun =
     or_left (has_word (codes "factor") text) _
-    (word_there (codes "factor") (clause_head source n c) (factor_text source.symbols a i s j z bind) (codes ").\n") text refl begun)
-other_there source n ks (Component name) c text other begun = introduced_there text (word_there (codes "introduced") (clause_head source n c) (component_text name) (codes ").\n") text refl begun)
-other_there source n ks (Opposite name) c text other begun = introduced_there text (word_there (codes "introduced") (clause_head source n c) (opposite_text name) (codes ").\n") text refl begun)
+    (word_there (codes "factor") (clause_head source n c) (step_text source.symbols [] (Factor a i s j z bind)) (codes ").\n") text
+    (factor_has source.symbols a i s j z bind) begun)
+other_there source n ks (Component name) c text other begun =
+    introduced_there text
+    (word_there (codes "introduced") (clause_head source n c) (step_text source.symbols [] (Component name)) (codes ").\n") text
+    (component_has source.symbols name) begun)
+other_there source n ks (Opposite name) c text other begun =
+    introduced_there text
+    (word_there (codes "introduced") (clause_head source n c) (step_text source.symbols [] (Opposite name)) (codes ").\n") text
+    (opposite_has source.symbols name) begun)
 other_there source n ks (Split a definitions parts) c text other begun =
     or_right (has_word (codes "factor") text) _
     (or_right (has_word (codes "introduced") text) _
     (or_left (has_word (codes "split") text) (has_word (codes "chain") text)
-    (word_there (codes "split") (clause_head source n c) (split_text a definitions parts) (codes ").\n") text refl begun)))
+    (word_there (codes "split") (clause_head source n c) (step_text source.symbols [] (Split a definitions parts)) (codes ").\n") text
+    (split_has source.symbols a definitions parts) begun)))
 other_there source n ks (Chain parents pivots) c text other begun =
     or_right (has_word (codes "factor") text) _
     (or_right (has_word (codes "introduced") text) _
     (or_right (has_word (codes "split") text) (has_word (codes "chain") text)
-    (word_there (codes "chain") (clause_head source n c) (chain_text parents pivots) (codes ").\n") text refl begun)))
+    (word_there (codes "chain") (clause_head source n c) (step_text source.symbols [] (Chain parents pivots)) (codes ").\n") text
+    (chain_has source.symbols parents pivots) begun)))
 other_there source n ks (Input place) c text other begun = absurd (true≢false other)
 other_there source n ks (Negate place) c text other begun = absurd (true≢false other)
 other_there source n ks (Clausify i) c text other begun = absurd (true≢false other)
