@@ -56,6 +56,20 @@ fn signed(positive: bool, name: u32) -> NameLit {
     NameLit { positive, name }
 }
 
+/// Adds a line, the step of which doesn't matter where it is a parent.
+fn push_line(
+    alloc: Global,
+    lines: &mut Derivation,
+    literals: Vec<Literal>,
+    names: &[NameLit],
+) -> Mem<()> {
+    lines.push(Line {
+        step: Step::Clausify(0),
+        clause: clause(alloc, literals, names)?,
+    })?;
+    Ok(())
+}
+
 fn clause(alloc: Global, literals: Vec<Literal>, names: &[NameLit]) -> Mem<Clause> {
     Ok(Clause {
         literals: Literals::from_vec(literals),
@@ -63,16 +77,17 @@ fn clause(alloc: Global, literals: Vec<Literal>, names: &[NameLit]) -> Mem<Claus
     })
 }
 
-/// A list of lines, the steps of which don't matter where they are parents.
-fn lines_of(alloc: Global, clauses: Vec<Clause>) -> Mem<Derivation> {
-    let mut lines = Derivation::new(alloc);
-    for clause in clauses {
-        lines.push(Line {
-            step: Step::Clausify(0),
-            clause,
-        })?;
-    }
-    Ok(lines)
+fn single(alloc: Global, literal: Literal) -> Mem<Vec<Literal>> {
+    Ok(vec![in alloc; literal]?)
+}
+
+fn pair(alloc: Global, first: Literal, second: Literal) -> Mem<Vec<Literal>> {
+    Ok(vec![in alloc; first, second]?)
+}
+
+/// `p(a)`.
+fn fact(alloc: Global) -> Mem<Literal> {
+    atom(alloc, true, P, constant(alloc, A))
 }
 
 fn expect_clause(
@@ -80,33 +95,22 @@ fn expect_clause(
     alloc: Global,
     step: &Step,
     lines: &Derivation,
-    wanted: &Clause,
+    literals: Vec<Literal>,
+    names: &[NameLit],
 ) -> Result<(), Fail>
     requires { IsTrue (is_rule_step step.now) }
 {
+    let wanted = clause(alloc, literals, names)?;
     assert!(rt; step.is_rule_step());
-    assert!(rt; same_clause(&conclusion(alloc, step, lines)?, wanted));
+    assert!(rt; same_clause(&conclusion(alloc, step, lines)?, &wanted));
     Ok(())
 }
 
-/// Superposition of `p(a)`, under a name, into `~p(X0) | q(X0)`, under another.
-#[test]
-fn superposes(rt: HostRuntime) -> Result<(), Fail> {
-    let alloc = rt.alloc();
-    let fact = vec![in alloc; atom(alloc, true, P, constant(alloc, A))?]?;
-    let rule = vec![in alloc;
-        atom(alloc, false, P, Term::Var(0))?,
-        atom(alloc, true, Q, Term::Var(0))?,
-    ]?;
-    let made = vec![in alloc; not_true(alloc), atom(alloc, true, Q, constant(alloc, A))?]?;
-    let lines = lines_of(
-        alloc,
-        vec![in alloc;
-            clause(alloc, fact, &[signed(false, 3)])?,
-            clause(alloc, rule, &[signed(false, 1)])?,
-        ]?,
-    )?;
-    let para = Step::Para {
+/// Of `p(a)`, under a name, into `~p(X0) | q(X0)`, under another.
+fn superposition(alloc: Global) -> Mem<Step>
+    ensures { IfOk result (λ step. IsTrue (is_rule_step step)) }
+{
+    Ok(Step::Para {
         first: 0,
         second: 1,
         from: 0,
@@ -116,39 +120,96 @@ fn superposes(rt: HostRuntime) -> Result<(), Fail> {
         place: Position::new(alloc),
         first_bind: Terms::new(alloc),
         second_bind: one(alloc, constant(alloc, A))?,
-    };
-    let wanted = clause(alloc, made, &[signed(false, 1), signed(false, 3)])?;
-    expect_clause(&rt, alloc, &para, &lines, &wanted)
+    })
 }
 
-/// Equality resolution of `~$true | p(a)`, and merging of `p(X0) | p(a)`.
 #[test]
-fn drops_literals(rt: HostRuntime) -> Result<(), Fail> {
+fn superposes(rt: HostRuntime) -> Result<(), Fail> {
     let alloc = rt.alloc();
-    let trivial = vec![in alloc; not_true(alloc), atom(alloc, true, P, constant(alloc, A))?]?;
-    let double = vec![in alloc;
-        atom(alloc, true, P, Term::Var(0))?,
-        atom(alloc, true, P, constant(alloc, A))?,
-    ]?;
-    let rest = vec![in alloc; atom(alloc, true, P, constant(alloc, A))?]?;
-    let lines = lines_of(
+    let mut lines = Derivation::new(alloc);
+    push_line(
         alloc,
-        vec![in alloc; clause(alloc, trivial, &[])?, clause(alloc, double, &[])?]?,
+        &mut lines,
+        single(alloc, fact(alloc)?)?,
+        &[signed(false, 3)],
     )?;
-    let wanted = clause(alloc, rest, &[])?;
-    let refl = Step::Refl {
+    let rule = pair(
+        alloc,
+        atom(alloc, false, P, Term::Var(0))?,
+        atom(alloc, true, Q, Term::Var(0))?,
+    )?;
+    push_line(alloc, &mut lines, rule, &[signed(false, 1)])?;
+    let made = pair(
+        alloc,
+        not_true(alloc),
+        atom(alloc, true, Q, constant(alloc, A))?,
+    )?;
+    expect_clause(
+        &rt,
+        alloc,
+        &superposition(alloc)?,
+        &lines,
+        made,
+        &[signed(false, 1), signed(false, 3)],
+    )
+}
+
+/// Equality resolution of `~$true | p(a)`.
+#[test]
+fn resolves(rt: HostRuntime) -> Result<(), Fail> {
+    let alloc = rt.alloc();
+    let mut lines = Derivation::new(alloc);
+    push_line(
+        alloc,
+        &mut lines,
+        pair(alloc, not_true(alloc), fact(alloc)?)?,
+        &[],
+    )?;
+    expect_clause(
+        &rt,
+        alloc,
+        &resolution(Terms::new(alloc)),
+        &lines,
+        single(alloc, fact(alloc)?)?,
+        &[],
+    )
+}
+
+/// `p(X0) | p(a)`.
+fn two_atoms(alloc: Global) -> Mem<Derivation> {
+    let mut lines = Derivation::new(alloc);
+    push_line(
+        alloc,
+        &mut lines,
+        pair(alloc, atom(alloc, true, P, Term::Var(0))?, fact(alloc)?)?,
+        &[],
+    )?;
+    Ok(lines)
+}
+
+fn merging(alloc: Global) -> Mem<Step>
+    ensures { IfOk result (λ step. IsTrue (is_rule_step step)) }
+{
+    Ok(Step::Merge {
         parent: 0,
-        literal: 0,
-        bind: Terms::new(alloc),
-    };
-    expect_clause(&rt, alloc, &refl, &lines, &wanted)?;
-    let merge = Step::Merge {
-        parent: 1,
         stays: 0,
         goes: 1,
         bind: one(alloc, constant(alloc, A))?,
-    };
-    expect_clause(&rt, alloc, &merge, &lines, &wanted)
+    })
+}
+
+#[test]
+fn merges(rt: HostRuntime) -> Result<(), Fail> {
+    let alloc = rt.alloc();
+    let lines = two_atoms(alloc)?;
+    expect_clause(
+        &rt,
+        alloc,
+        &merging(alloc)?,
+        &lines,
+        single(alloc, fact(alloc)?)?,
+        &[],
+    )
 }
 
 /// Factoring of one literal of `p(X0) | p(a)` by the other.
@@ -168,48 +229,60 @@ fn factoring(alloc: Global, becomes: u64, other: u64) -> Mem<Step>
 #[test]
 fn factors_both_ways(rt: HostRuntime) -> Result<(), Fail> {
     let alloc = rt.alloc();
-    let atoms = vec![in alloc;
-        atom(alloc, true, P, Term::Var(0))?,
-        atom(alloc, true, P, constant(alloc, A))?,
-    ]?;
-    let first = vec![in alloc; not_true(alloc), atom(alloc, true, P, constant(alloc, A))?]?;
-    let second = vec![in alloc; atom(alloc, true, P, constant(alloc, A))?, not_true(alloc)]?;
-    let lines = lines_of(alloc, vec![in alloc; clause(alloc, atoms, &[])?]?)?;
-    let left = factoring(alloc, 0, 1)?;
-    expect_clause(&rt, alloc, &left, &lines, &clause(alloc, first, &[])?)?;
-    let right = factoring(alloc, 1, 0)?;
-    expect_clause(&rt, alloc, &right, &lines, &clause(alloc, second, &[])?)
+    let lines = two_atoms(alloc)?;
+    let first = pair(alloc, not_true(alloc), fact(alloc)?)?;
+    expect_clause(&rt, alloc, &factoring(alloc, 0, 1)?, &lines, first, &[])?;
+    let second = pair(alloc, fact(alloc)?, not_true(alloc))?;
+    expect_clause(&rt, alloc, &factoring(alloc, 1, 0)?, &lines, second, &[])
 }
 
-/// The parts `p(X0)` and `q(X1)` of a clause, under their names.
-#[test]
-fn splits(rt: HostRuntime) -> Result<(), Fail> {
-    let alloc = rt.alloc();
-    let whole = vec![in alloc;
+/// The clause `p(X0) | q(X1)`, and the definitions of its parts.
+fn two_parts(alloc: Global) -> Mem<Derivation> {
+    let mut lines = Derivation::new(alloc);
+    let whole = pair(
+        alloc,
         atom(alloc, true, P, Term::Var(0))?,
         atom(alloc, true, Q, Term::Var(1))?,
-    ]?;
-    let left = vec![in alloc; atom(alloc, true, P, Term::Var(0))?]?;
-    let right = vec![in alloc; atom(alloc, true, Q, Term::Var(0))?]?;
-    let mut lines = lines_of(alloc, vec![in alloc; clause(alloc, whole, &[])?]?)?;
+    )?;
+    push_line(alloc, &mut lines, whole, &[])?;
+    push_component(alloc, &mut lines, 0, atom(alloc, true, P, Term::Var(0))?)?;
+    push_component(alloc, &mut lines, 1, atom(alloc, true, Q, Term::Var(0))?)?;
+    Ok(lines)
+}
+
+fn push_component(alloc: Global, lines: &mut Derivation, name: u32, literal: Literal) -> Mem<()> {
     lines.push(Line {
-        step: Step::Component(0),
-        clause: clause(alloc, left, &[signed(false, 0)])?,
+        step: Step::Component(name),
+        clause: clause(alloc, single(alloc, literal)?, &[signed(false, name)])?,
     })?;
-    lines.push(Line {
-        step: Step::Component(1),
-        clause: clause(alloc, right, &[signed(false, 1)])?,
-    })?;
+    Ok(())
+}
+
+fn splitting(alloc: Global) -> Mem<Step>
+    ensures { IfOk result (λ step. IsTrue (is_rule_step step)) }
+{
     let mut parts = Parts::new(alloc);
     parts.push(Numbers::from_slice(alloc, [0].as_slice())?)?;
     parts.push(Numbers::from_slice(alloc, [1].as_slice())?)?;
-    let split = Step::Split {
+    Ok(Step::Split {
         parent: 0,
         definitions: Numbers::from_slice(alloc, [1, 2].as_slice())?,
         parts,
-    };
-    let wanted = clause(alloc, Vec::new(alloc), &[signed(true, 0), signed(true, 1)])?;
-    expect_clause(&rt, alloc, &split, &lines, &wanted)
+    })
+}
+
+#[test]
+fn splits(rt: HostRuntime) -> Result<(), Fail> {
+    let alloc = rt.alloc();
+    let lines = two_parts(alloc)?;
+    expect_clause(
+        &rt,
+        alloc,
+        &splitting(alloc)?,
+        &lines,
+        Vec::new(alloc),
+        &[signed(true, 0), signed(true, 1)],
+    )
 }
 
 /// Of the names 0 or 1, not 0 and not 1, by two pivots.
@@ -225,18 +298,29 @@ fn chain(alloc: Global, first: u32, second: u32) -> Mem<Step>
 #[test]
 fn chains_names(rt: HostRuntime) -> Result<(), Fail> {
     let alloc = rt.alloc();
-    let both = clause(alloc, Vec::new(alloc), &[signed(true, 0), signed(true, 1)])?;
-    let not_first = clause(alloc, Vec::new(alloc), &[signed(false, 0)])?;
-    let not_second = clause(alloc, Vec::new(alloc), &[signed(false, 1)])?;
-    let lines = lines_of(alloc, vec![in alloc; both, not_first, not_second]?)?;
-    let empty = clause(alloc, Vec::new(alloc), &[])?;
-    expect_clause(&rt, alloc, &chain(alloc, 0, 1)?, &lines, &empty)?;
+    let mut lines = Derivation::new(alloc);
+    push_line(
+        alloc,
+        &mut lines,
+        Vec::new(alloc),
+        &[signed(true, 0), signed(true, 1)],
+    )?;
+    push_line(alloc, &mut lines, Vec::new(alloc), &[signed(false, 0)])?;
+    push_line(alloc, &mut lines, Vec::new(alloc), &[signed(false, 1)])?;
+    expect_clause(
+        &rt,
+        alloc,
+        &chain(alloc, 0, 1)?,
+        &lines,
+        Vec::new(alloc),
+        &[],
+    )?;
     let other_order = conclusion(alloc, &chain(alloc, 1, 0)?, &lines);
     assert_eq!(rt; other_order.err(), Some(StepFault::Rule));
     Ok(())
 }
 
-/// A resolution of `p(X0)`, which has none, by a binding.
+/// A resolution of the first literal, by a binding.
 fn resolution(bind: Terms) -> Step
     ensures { IsTrue (is_rule_step result) }
 {
@@ -245,6 +329,40 @@ fn resolution(bind: Terms) -> Step
         literal: 0,
         bind,
     }
+}
+
+/// `p(X0)`, which has no resolution.
+fn one_atom(alloc: Global) -> Mem<Derivation> {
+    let mut lines = Derivation::new(alloc);
+    let literal = atom(alloc, true, P, Term::Var(0))?;
+    push_line(alloc, &mut lines, single(alloc, literal)?, &[])?;
+    Ok(lines)
+}
+
+fn expect_fault(
+    rt: &impl Abort,
+    alloc: Global,
+    lines: &Derivation,
+    bind: Terms,
+    wanted: StepFault,
+) -> Result<(), Fail> {
+    let step = resolution(bind);
+    assert_eq!(rt; conclusion(alloc, &step, lines).err(), Some(wanted));
+    Ok(())
+}
+
+#[test]
+fn finds_faults(rt: HostRuntime) -> Result<(), Fail> {
+    let alloc = rt.alloc();
+    let lines = one_atom(alloc)?;
+    let right = one(alloc, constant(alloc, A))?;
+    expect_fault(&rt, alloc, &lines, right, StepFault::Rule)?;
+    let truth = one(alloc, Term::truth(alloc))?;
+    expect_fault(&rt, alloc, &lines, truth, StepFault::Binding)?;
+    expect_fault(&rt, alloc, &lines, Terms::new(alloc), StepFault::Binding)?;
+    let mut long = one(alloc, constant(alloc, A))?;
+    long.push(constant(alloc, A))?;
+    expect_fault(&rt, alloc, &lines, long, StepFault::Binding)
 }
 
 /// `f(a, .., a)` of that size.
@@ -257,29 +375,11 @@ fn wide(alloc: Global, size: u64) -> Mem<Term> {
 }
 
 #[test]
-fn finds_faults(rt: HostRuntime) -> Result<(), Fail> {
+fn bounds_sizes(rt: HostRuntime) -> Result<(), Fail> {
     let alloc = rt.alloc();
-    let fact = vec![in alloc; atom(alloc, true, P, Term::Var(0))?]?;
-    let lines = lines_of(alloc, vec![in alloc; clause(alloc, fact, &[])?]?)?;
-    let mut long = one(alloc, constant(alloc, A))?;
-    long.push(constant(alloc, A))?;
-    let rows = vec![in alloc;
-        (one(alloc, constant(alloc, A))?, StepFault::Rule),
-        (one(alloc, Term::truth(alloc))?, StepFault::Binding),
-        (Terms::new(alloc), StepFault::Binding),
-        (long, StepFault::Binding),
-        (
-            one(alloc, wide(alloc, MOST_BOUND_SYMBOLS - 2)?)?,
-            StepFault::Rule
-        ),
-        (
-            one(alloc, wide(alloc, MOST_BOUND_SYMBOLS - 1)?)?,
-            StepFault::Binding
-        ),
-    ]?;
-    for (bind, wanted) in rows {
-        let step = resolution(bind);
-        assert_eq!(rt; conclusion(alloc, &step, &lines).err(), Some(wanted));
-    }
-    Ok(())
+    let lines = one_atom(alloc)?;
+    let largest = one(alloc, wide(alloc, MOST_BOUND_SYMBOLS - 2)?)?;
+    expect_fault(&rt, alloc, &lines, largest, StepFault::Rule)?;
+    let larger = one(alloc, wide(alloc, MOST_BOUND_SYMBOLS - 1)?)?;
+    expect_fault(&rt, alloc, &lines, larger, StepFault::Binding)
 }
