@@ -5,16 +5,16 @@ use Rattle.ground_reader.specs.declared.problem.GroundRole.{GroundRole}
 use Rattle.ground_text.specs.Lines.{literals_at, role_at, role_text}
 use Rattle.ground_reader.specs.Syntax.{role_word}
 use Rattle.std.proofs.Common.{Result, Ok, Err, IfOk, ◌≡◌, ℕ, zero, suc, ◌<◌, ◌≤◌, Option, Some, None, List, [], ◌∷◌, ◌++◌, length, map, get_or, refl, ap, sym, ◌∙◌, arith}
-use Rattle.std.specs.Prelude.{slice_get, unwrap_or, if◌then◌else◌, codes}
+use Rattle.std.specs.Prelude.{slice_get, unwrap_or, option_map, if◌then◌else◌, codes}
 use Rattle.std.proofs.lemmas.Bool.{ne_eqb}
-use Rattle.std.proofs.lemmas.Option.{slice_get_past}
+use Rattle.std.proofs.lemmas.Option.{slice_get_past, slice_get-map}
 use Rattle.std.proofs.lemmas.List.{length-map, append_assoc}
-use Rattle.kernel_steps.proofs.KernelLemmas.{slice_get-item, IfOk-change}
+use Rattle.std.proofs.lemmas.Result.{IfOk-weaker}
 use Rattle.ground_reader.specs.declared.problem.GroundSymbol.{GroundSymbol}
 use Rattle.tptp_token.specs.Words.{name_text}
 use Rattle.ground_text.specs.Terms.{name_at, symbol_names, symbol_text}
 
--- an item of a slice, and none past its end
+-- an item of a slice, also of a mapped one, and none past its end
 pub slice_get-there : {X : Type 0} (xs : List X) (i : ℕ) (x : X) → i < length xs → x ≡ get_or xs i x → slice_get xs i ≡ Some x
 slice_get-there xs i x h r = at_index xs i x h ∙ ap (λ y. Some y) (sym r)
   where
@@ -22,6 +22,10 @@ slice_get-there xs i x h r = at_index xs i x h ∙ ap (λ y. Some y) (sym r)
     at_index [] i d h = absurd (omega arith)
     at_index (y ∷ ys) zero d h = refl
     at_index (y ∷ ys) (suc i) d h = at_index ys i d (omega arith)
+
+pub slice_get-item :
+    {X Y : Type 0} (f : X → Y) (xs : List X) (i : ℕ) (x : X) → i < length xs → x ≡ get_or xs i x → slice_get (map f xs) i ≡ Some (f x)
+slice_get-item f xs i x h r = slice_get-map f xs i ∙ ap (option_map f) (slice_get-there xs i x h r)
 
 pub slice_get_past-map : {X Y : Type 0} (f : X → Y) (xs : List X) (i : ℕ) → length xs ≤ i → slice_get (map f xs) i ≡ None
 slice_get_past-map f xs i h = slice_get_past (map f xs) i (rw length-map h)
@@ -84,7 +88,7 @@ pub three_added :
     {E : Type 0} (r : Result (Unit {0}) E) (p q s t a b c : List ℕ)
     → q ≡ p ++ a → s ≡ q ++ b → IfOk r (λ _. t ≡ s ++ c) → IfOk r (λ _. t ≡ p ++ (a ++ b ++ c))
 three_added r p q s t a b c first second third =
-    IfOk-change r _ _
+    IfOk-weaker r _ _
     (λ u e. e ∙ ap (λ x. x ++ c) (second ∙ ap (λ x. x ++ b) first)
     ∙ ap (λ x. x ++ c) (append_assoc p a b) ∙ append_assoc p (a ++ b) c)
     third
@@ -93,7 +97,7 @@ pub four_added :
     {E : Type 0} (r : Result (Unit {0}) E) (p q s t v a b c d : List ℕ)
     → q ≡ p ++ a → s ≡ q ++ b → t ≡ s ++ c → IfOk r (λ _. v ≡ t ++ d) → IfOk r (λ _. v ≡ p ++ (a ++ b ++ c ++ d))
 four_added r p q s t v a b c d first second third fourth =
-    IfOk-change r _ _
+    IfOk-weaker r _ _
     (λ u e. e ∙ ap (λ x. x ++ d)
     (third ∙ ap (λ x. x ++ c) (second ∙ ap (λ x. x ++ b) first)
     ∙ ap (λ x. x ++ c) (append_assoc p a b) ∙ append_assoc p (a ++ b) c)

@@ -4,7 +4,7 @@ use super::*;
 use fol_base::{Clause, Literal, Literals, Position, Side, Term, Terms};
 use ground_reader::{GroundSymbol, GroundSymbols, read_ground};
 use kernel_steps::{Derivation, Line, Step};
-use plain_types::{Mem, Names, Text};
+use plain_types::{Mem, NameLit, Names, Numbers, Parts, Text};
 use std::alloc::Global;
 use std::test::Fail;
 
@@ -19,7 +19,14 @@ cnf(c5,plain,$false,inference(refl,[status(thm),lit(0),bind([])],[c4])).\n";
 
 const OTHER_STEPS: &[u8] =
     b"cnf(c0,plain,p,inference(para,[status(thm),from(2,right),into(1,left,[0,12]),bind([p]),bind([])],[c3,c4])).\n\
-cnf(c1,plain,~p,inference(merge,[status(thm),lit(1),lit(0),bind([p,X7])],[c5])).\n";
+cnf(c1,plain,~p,inference(merge,[status(thm),lit(1),lit(0),bind([p,X7])],[c5])).\n\
+cnf(c2,plain,p,inference(factor,[status(thm),lit(1,right),lit(0,left),bind([X0])],[c6])).\n";
+
+const STEPS_ON_NAMES: &[u8] =
+    b"cnf(c0,plain,p | ~spl0,introduced(definition,[component(spl0)])).\n\
+cnf(c1,plain,~p | spl0,introduced(definition,[opposite(spl0)])).\n\
+cnf(c2,plain,~spl0 | spl12,inference(split,[status(esa),parts([[0],[1,2]])],[c5,c1,c9])).\n\
+cnf(c3,plain,$false,inference(chain,[status(thm),pivots([spl0,~spl12])],[c2,c7,c10])).\n";
 
 fn constant(alloc: Global, symbol: u32) -> Term {
     Term::App(symbol, Terms::new(alloc))
@@ -58,17 +65,17 @@ fn line(alloc: Global, step: Step, literals: Literals) -> Line {
 }
 
 fn para_of_units(alloc: Global) -> Step {
-    Step::Para(
-        2,
-        3,
-        0,
-        Side::Left,
-        0,
-        Side::Left,
-        Position::new(alloc),
-        no_terms(alloc),
-        no_terms(alloc),
-    )
+    Step::Para {
+        first: 2,
+        second: 3,
+        from: 0,
+        from_side: Side::Left,
+        into: 0,
+        into_side: Side::Left,
+        place: Position::new(alloc),
+        first_bind: no_terms(alloc),
+        second_bind: no_terms(alloc),
+    }
 }
 
 fn refutation(alloc: Global) -> Mem<Derivation> {
@@ -80,7 +87,11 @@ fn refutation(alloc: Global) -> Mem<Derivation> {
     lines.push(unit(alloc, para_of_units(alloc), false, 0)?)?;
     lines.push(line(
         alloc,
-        Step::Refl(4, 0, no_terms(alloc)),
+        Step::Refl {
+            parent: 4,
+            literal: 0,
+            bind: no_terms(alloc),
+        },
         Literals::new(alloc),
     ))?;
     Ok(lines)
@@ -94,20 +105,78 @@ fn other_steps(alloc: Global) -> Mem<Derivation> {
     both.push(constant(alloc, 1))?;
     both.push(Term::Var(7))?;
     let place = Position::from_slice(alloc, &[0, 12])?;
-    let para = Step::Para(
-        3,
-        4,
-        2,
-        Side::Right,
-        1,
-        Side::Left,
+    let para = Step::Para {
+        first: 3,
+        second: 4,
+        from: 2,
+        from_side: Side::Right,
+        into: 1,
+        into_side: Side::Left,
         place,
-        first,
-        no_terms(alloc),
-    );
+        first_bind: first,
+        second_bind: no_terms(alloc),
+    };
+    let merge = Step::Merge {
+        parent: 5,
+        stays: 1,
+        goes: 0,
+        bind: both,
+    };
+    let mut one = Terms::new(alloc);
+    one.push(Term::Var(0))?;
+    let factor = Step::Factor {
+        parent: 6,
+        becomes: 1,
+        becomes_side: Side::Right,
+        other: 0,
+        other_side: Side::Left,
+        bind: one,
+    };
     let mut lines = Derivation::new(alloc);
     lines.push(unit(alloc, para, true, 1)?)?;
-    lines.push(unit(alloc, Step::Merge(5, 1, 0, both), false, 1)?)?;
+    lines.push(unit(alloc, merge, false, 1)?)?;
+    lines.push(unit(alloc, factor, true, 1)?)?;
+    Ok(lines)
+}
+
+fn names(alloc: Global, signed: &[(bool, u32)]) -> Mem<Names> {
+    let mut names = Names::new(alloc);
+    for (positive, name) in signed {
+        names.push(NameLit {
+            positive: *positive,
+            name: *name,
+        })?;
+    }
+    Ok(names)
+}
+
+fn split(alloc: Global) -> Mem<Step> {
+    let mut parts = Parts::new(alloc);
+    parts.push(Numbers::from_slice(alloc, &[0])?)?;
+    parts.push(Numbers::from_slice(alloc, &[1, 2])?)?;
+    Ok(Step::Split {
+        parent: 5,
+        definitions: Numbers::from_slice(alloc, &[1, 9])?,
+        parts,
+    })
+}
+
+fn steps_on_names(alloc: Global) -> Mem<Derivation> {
+    let mut component = unit(alloc, Step::Component(0), true, 1)?;
+    component.clause.names = names(alloc, &[(false, 0)])?;
+    let mut opposite = unit(alloc, Step::Opposite(0), false, 1)?;
+    opposite.clause.names = names(alloc, &[(true, 0)])?;
+    let mut parted = line(alloc, split(alloc)?, Literals::new(alloc));
+    parted.clause.names = names(alloc, &[(false, 0), (true, 12)])?;
+    let chain = Step::Chain {
+        parents: Numbers::from_slice(alloc, &[2, 7, 10])?,
+        pivots: names(alloc, &[(true, 0), (false, 12)])?,
+    };
+    let mut lines = Derivation::new(alloc);
+    lines.push(component)?;
+    lines.push(opposite)?;
+    lines.push(parted)?;
+    lines.push(line(alloc, chain, Literals::new(alloc)))?;
     Ok(lines)
 }
 
@@ -127,6 +196,10 @@ fn prints_derivations(rt: HostRuntime) -> Result<(), Fail> {
     push_derivation(alloc, &mut page, source, &other_steps(alloc)?)?;
     let text = page.into_text();
     assert!(rt; text.as_slice() == OTHER_STEPS);
+    let mut page = Page::new(alloc);
+    push_derivation(alloc, &mut page, source, &steps_on_names(alloc)?)?;
+    let text = page.into_text();
+    assert!(rt; text.as_slice() == STEPS_ON_NAMES);
     Ok(())
 }
 

@@ -1,13 +1,15 @@
--- Which texts may be accepted derivations, by a search of all steps that known lines allow. It says yes where a line has
--- more than one literal, variables or arguments, so that what it refuses is refused.
-use Rattle.std.proofs.Common.{◌≡◌, ℕ, zero, suc, ◌<◌, Bool, true, false, ◌&&◌, ◌||◌, ◌==◌, List, [], ◌∷◌, ◌++◌, map, length, take, drop, Option, Some, None, refl, ap, sym, ◌∙◌, subst, arith, true≢false, ⊎_elim}
+-- Which texts may be accepted derivations, by a search of all steps that known lines allow. It says yes where a text has the word of
+-- a rule of which it knows nothing, and where a line has names, more than one literal, variables or arguments, so that what it
+-- refuses is refused.
+use Rattle.std.proofs.Common.{◌≡◌, ℕ, zero, suc, ◌<◌, Bool, true, false, ◌&&◌, ◌||◌, ◌==◌, List, [], ◌∷◌, ◌++◌, map, length, take, drop, Option, Some, None, refl, ap, ap₂, sym, ◌∙◌, subst, arith, true≢false, ⊎_elim}
 use Rattle.std.specs.Prelude.{not, slice_get, option_and_then, option_map, slice_set, remove, if◌then◌else◌, codes}
 use Rattle.std.specs.Fmt.{digits}
 use Rattle.std.specs.List.{list_any}
-use Rattle.std.proofs.lemmas.Bool.{eqb-true, eq-eqb, and_parts, and_from, or_cases, or_left, or_right}
+use Rattle.std.proofs.lemmas.Bool.{eqb-true, eq-eqb, and_parts, and_from, or_cases, or_left, or_right, cases_Bool}
 use Rattle.std.proofs.lemmas.Option.{none-some, same_Some, slice_get_within}
 use Rattle.std.proofs.lemmas.List.{length-map}
 use Rattle.std.proofs.Math.Seq.{take-append_seam}
+use Rattle.plain_types.specs.declared.sequence.NameLit.{NameLit}
 use Rattle.fol_base.specs.Tree.{Tree, variable, application, no_trees, tree_then, tree_eq, is_truth}
 use Rattle.fol_base.specs.Canonical.{bound_of}
 use Rattle.fol_base.specs.Place.{subterm, replaced}
@@ -20,16 +22,19 @@ use Rattle.fol_base.specs.declared.clause.Literal.{Literal}
 use Rattle.fol_base.specs.declared.clause.Side.{Side}
 use Rattle.fol_base.specs.declared.clause.Side.TheVariants.{Left, Right}
 use Rattle.kernel_steps.specs.declared.step.Step.{Step}
-use Rattle.kernel_steps.specs.declared.step.Step.TheVariants.{Input, Negate, Clausify, Para, Refl, Factor, Merge, Component, Split, Chain}
+use Rattle.kernel_steps.specs.declared.step.Step.TheVariants.{Input, Negate, Clausify, Para, Refl, Factor, Merge, Component, Opposite, Split, Chain}
 use Rattle.kernel_steps.specs.declared.step.Line.{Line}
 use Rattle.fol_base.specs.Rules.{may_be_chosen, superposed, resolved, merged}
-use Rattle.kernel_steps.specs.Conclusion.{empty_clause, line_clause, binds, bound_literals, Verdict, binding_fault, rule_fault, concludes, verdict_if}
-use Rattle.kernel_steps.specs.Derivation.{is_clause_step, is_input_of, ComesBy, IsDerivation, IsSourced, IsSourcedRefutation}
-use Rattle.kernel_steps.proofs.TestLemmas.{else_some}
+use Rattle.kernel_steps.specs.Parents.{Parent}
+use Rattle.kernel_steps.specs.Conclusion.{empty_clause, binds, bound_literals, concludes, clause_with, by_one, by_two}
+use Rattle.kernel_steps.proofs.VerdictParts.{by_one-parts, by_two-parts}
+use Rattle.kernel_steps.specs.Derivation.{is_clause_step, introduces_name, line_parents, is_input_of, ComesBy, IsDerivation, IsSourced, IsSourcedRefutation}
+use Rattle.fol_base.proofs.TestLemmas.{else_some, if_some}
 use Rattle.ground_reader.specs.declared.problem.GroundProblem.{GroundProblem}
 use Rattle.prover_main.specs.Accepted.{form_of, IsAcceptedDerivation}
 use Rattle.prover_main.specs.AcceptedExamples.{unit_clause, two_units, third_line, fifth_line, last_line, derivation_with}
-use Rattle.ground_text.specs.Lines.{Source, source_of, input_line, clause_head, clausify_text, line_text_of, lines_text_from}
+use Rattle.ground_text.specs.Terms.{SymbolNames}
+use Rattle.ground_text.specs.Lines.{Source, source_of, input_line, clause_head, clausify_text, step_text, line_text_of, lines_text_from}
 
 -- ---- known lines
 
@@ -50,10 +55,19 @@ abbrev input_at : List Known → ℕ → ℕ
 input_at [] place = 0
 input_at (k ∷ ks) place = if is_input_of place k.step then 0 else suc (input_at ks place)
 
-clause_at-known : (ls : List Line) (n : ℕ) → line_clause ls n ≡ clause_at (map known_of ls) n
-clause_at-known [] n = refl
-clause_at-known (l ∷ ls) zero = refl
-clause_at-known (l ∷ ls) (suc n) = clause_at-known ls n
+-- a parent is a known line
+record KnownParent (ls : List Line) (n : ℕ) (p : Parent) : Type 0 where
+  there : n < length ls
+  is : p.clause ≡ clause_at (map known_of ls) n
+
+known_parent : (ls : List Line) (n : ℕ) (p : Parent) → line_parents ls n ≡ Some p → KnownParent ls n p
+known_parent [] n p h = absurd (none-some p h)
+known_parent (l ∷ ls) zero p h =
+    let made : Parent = record { clause = clause_of l.clause; introduces = introduces_name l.step } in
+    let tests = if_some (is_clause_step l.step) (Some made) p h in
+    record { there = omega arith; is = ap (λ (q : Parent). q.clause) (sym (same_Some made p tests.1)) }
+known_parent (l ∷ ls) (suc n) p h =
+    let rest = known_parent ls n p h in record { there = omega (arith, rest.there); is = rest.is }
 
 unless : (b : Bool) (m n : ℕ) → (b ≡ false → m ≡ n) → (if b then 0 else suc m) ≡ (if b then 0 else suc n)
 unless true m n same = refl
@@ -89,6 +103,7 @@ text_at-known source n formulas earlier rest (Refl a i bind) c it = refl
 text_at-known source n formulas earlier rest (Factor a i s j z bind) c it = refl
 text_at-known source n formulas earlier rest (Merge a i j bind) c it = refl
 text_at-known source n formulas earlier rest (Component name) c it = refl
+text_at-known source n formulas earlier rest (Opposite name) c it = refl
 text_at-known source n formulas earlier rest (Split a components parts) c it = refl
 text_at-known source n formulas earlier rest (Chain parents pivots) c it = refl
 
@@ -104,6 +119,55 @@ begins_with-itself (x ∷ xs) ys = and_from (x == x) _ (eq-eqb x x refl) (begins
 rest-of : (xs ys : List ℕ) → drop (length xs) (xs ++ ys) ≡ ys
 rest-of [] ys = refl
 rest-of (x ∷ xs) ys = rest-of xs ys
+
+-- ---- words in texts
+
+abbrev has_word : List ℕ → List ℕ → Bool
+has_word word [] = false
+has_word word (y ∷ ys) = begins_with word (y ∷ ys) || has_word word ys
+
+begins_with-more : (xs ys zs : List ℕ) → begins_with xs ys ≡ true → begins_with xs (ys ++ zs) ≡ true
+begins_with-more [] ys zs h = refl
+begins_with-more (x ∷ xs) [] zs h = absurd (true≢false (sym h))
+begins_with-more (x ∷ xs) (y ∷ ys) zs h =
+    let parts = and_parts (x == y) (begins_with xs ys) h in
+    and_from (x == y) (begins_with xs (ys ++ zs)) parts.0 (begins_with-more xs ys zs parts.1)
+
+begins_with-says : (xs ys : List ℕ) → begins_with xs ys ≡ true → (zs : List ℕ) × (xs ++ zs ≡ ys)
+begins_with-says [] ys h = (ys, refl)
+begins_with-says (x ∷ xs) [] h = absurd (true≢false (sym h))
+begins_with-says (x ∷ xs) (y ∷ ys) h =
+    let parts = and_parts (x == y) (begins_with xs ys) h in
+    let rest = begins_with-says xs ys parts.1 in
+    (rest.0, ap (λ z. z ∷ xs ++ rest.0) (eqb-true x y parts.0) ∙ ap (λ zs. y ∷ zs) rest.1)
+
+has_word-front : (word xs ys : List ℕ) → has_word word xs ≡ true → has_word word (xs ++ ys) ≡ true
+has_word-front word [] ys h = absurd (true≢false (sym h))
+has_word-front word (x ∷ xs) ys h =
+    ⊎_elim
+    (λ here. or_left (begins_with word (x ∷ xs ++ ys)) (has_word word (xs ++ ys)) (begins_with-more word (x ∷ xs) ys here))
+    (λ later. or_right (begins_with word (x ∷ xs ++ ys)) (has_word word (xs ++ ys)) (has_word-front word xs ys later))
+    (or_cases (begins_with word (x ∷ xs)) (has_word word xs) h)
+
+has_word-back : (word xs ys : List ℕ) → has_word word ys ≡ true → has_word word (xs ++ ys) ≡ true
+has_word-back word [] ys h = h
+has_word-back word (x ∷ xs) ys h = or_right (begins_with word (x ∷ xs ++ ys)) (has_word word (xs ++ ys)) (has_word-back word xs ys h)
+
+-- a word that stands in the lines of each kind of which the search knows nothing
+abbrev has_other_word : List ℕ → Bool
+has_other_word text =
+    has_word (codes "factor") text
+    || (has_word (codes "introduced") text || (has_word (codes "split") text || has_word (codes "chain") text))
+
+-- a text that begins with a line of such a kind has its word
+word_there :
+    (word head source ending text : List ℕ)
+    → has_word word source ≡ true → begins_with (head ++ source ++ ending) text ≡ true → has_word word text ≡ true
+word_there word head source ending text has begun =
+    let whole = begins_with-says (head ++ source ++ ending) text begun in
+    ap (has_word word) (sym whole.1)
+    ∙ has_word-front word (head ++ source ++ ending) whole.0
+    (has_word-front word (head ++ source) ending (has_word-back word head source has))
 
 -- ---- searches
 
@@ -132,7 +196,7 @@ if_else-true : (b x : Bool) → (b ≡ true → x ≡ true) → (if b then x els
 if_else-true true x h = h refl
 if_else-true false x h = refl
 
--- ---- simple clauses: no variables, and at most one literal, whose sides have no arguments
+-- ---- simple clauses: no names, no variables, and at most one literal, whose sides have no arguments
 
 abbrev is_plain : Tree → Bool
 is_plain (variable v) = false
@@ -144,8 +208,27 @@ are_plain [] = true
 are_plain (l ∷ []) = is_plain l.left && is_plain l.right
 are_plain (l ∷ k ∷ ls) = false
 
+abbrev is_nil : {X : Type 0} → List X → Bool
+is_nil [] = true
+is_nil (x ∷ xs) = false
+
+nil-says : {X : Type 0} (xs : List X) → is_nil xs ≡ true → xs ≡ []
+nil-says [] h = refl
+nil-says (x ∷ xs) h = absurd (true≢false (sym h))
+
 abbrev is_simple : TreeClause → Bool
-is_simple c = (bound_of (clause_variables c) == 0) && are_plain (bound_literals [] c)
+is_simple c = is_nil c.names && ((bound_of (clause_variables c) == 0) && are_plain (bound_literals [] c))
+
+record IsSimple (c : TreeClause) : Type 0 where
+  nameless : c.names ≡ []
+  ground : bound_of (clause_variables c) ≡ 0
+  plain : are_plain (bound_literals [] c) ≡ true
+
+simple-says : (c : TreeClause) → is_simple c ≡ true → IsSimple c
+simple-says c h =
+    let outer = and_parts (is_nil c.names) _ h in
+    let inner = and_parts (bound_of (clause_variables c) == 0) (are_plain (bound_literals [] c)) outer.1 in
+    record { nameless = nil-says c.names outer.0; ground = eqb-true (bound_of (clause_variables c)) 0 inner.0; plain = inner.1 }
 
 -- the literals of a conclusion without names
 abbrev nameless : List TreeLiteral → TreeClause
@@ -199,30 +282,10 @@ may_follow form ks test =
 
 -- ---- what comes about is found
 
-abbrev concluded_literals : Verdict → Option (List TreeLiteral)
-concluded_literals binding_fault = None
-concluded_literals rule_fault = None
-concluded_literals (concludes c) = Some c.literals
-
-abbrev concluded_clause : Verdict → TreeClause
-concluded_clause binding_fault = empty_clause
-concluded_clause rule_fault = empty_clause
-concluded_clause (concludes c) = c
-
--- a conclusion has right bindings, and what the rule gives
-concluded :
-    (bound : Bool) (made : Option (List TreeLiteral)) (c : TreeClause)
-    → verdict_if bound made ≡ concludes c
-    → (bound ≡ true) × (ls : List TreeLiteral) × (made ≡ Some ls) × (nameless ls ≡ c)
-concluded false made c h = absurd (none-some c.literals (ap concluded_literals h))
-concluded true None c h = absurd (none-some c.literals (ap concluded_literals h))
-concluded true (Some ls) c h = (refl, ls, refl, ap concluded_clause h)
-
 -- the binding of a clause without variables is empty
 no_binding : (t : Tree) (ts : List Tree) (c : TreeClause) → is_simple c ≡ true → binds (t ∷ ts) c ≡ true → ⊥
 no_binding t ts c simple right =
-    let none : bound_of (clause_variables c) ≡ 0 =
-    eqb-true (bound_of (clause_variables c)) 0 (and_parts (bound_of (clause_variables c) == 0) _ simple).0 in
+    let none : bound_of (clause_variables c) ≡ 0 = (simple-says c simple).ground in
     let same : length (t ∷ ts) ≡ bound_of (clause_variables c) =
     eqb-true (length (t ∷ ts)) (bound_of (clause_variables c)) (and_parts (length (t ∷ ts) == bound_of (clause_variables c)) _ right).0 in
     omega (arith, none, same)
@@ -284,16 +347,16 @@ merge-plain ls i j made p h = at ls i j p (else_some (i == j) _ made h).0 (else_
     at (l ∷ []) (suc i) j p e h = none-some made h
 
 may_para-from :
-    (test : Test) (a b i : ℕ) (s : Side) (j : ℕ) (z : Side) (place : List ℕ) (first second : List Tree) (c d e : TreeClause)
-    → verdict_if (binds first c && binds second d) (superposed (bound_literals first c) i s (bound_literals second d) j z place) ≡ concludes e
-    → test (Para a b i s j z place first second) e ≡ true
+    (test : Test) (a b i : ℕ) (s : Side) (j : ℕ) (z : Side) (place : List ℕ) (first second : List Tree) (c d e : TreeClause) (made : List TreeLiteral)
+    → binds first c ≡ true → binds second d ≡ true → superposed (bound_literals first c) i s (bound_literals second d) j z place ≡ Some made
+    → clause_with (c.names ++ d.names) made ≡ e → test (Para a b i s j z place first second) e ≡ true
     → may_para test a c b d ≡ true
-may_para-from test a b i s j z place first second c d e comes tested =
+may_para-from test a b i s j z place first second c d e made bound bound_too gives is tested =
     if_else-true (is_simple c && is_simple d) _ λ simple.
     let parts = and_parts (is_simple c) (is_simple d) simple in
-    let result = concluded (binds first c && binds second d) _ e comes in
-    let right = and_parts (binds first c) (binds second d) result.0 in
-    at i j place first second result.1 parts.0 parts.1 right.0 right.1 result.2 result.3 tested
+    let nameless_too : nameless made ≡ e =
+    sym (ap₂ (λ ns ms. clause_with (ns ++ ms) made) (simple-says c parts.0).nameless (simple-says d parts.1).nameless) ∙ is in
+    at i j place first second made parts.0 parts.1 bound bound_too gives nameless_too tested
   where
     at :
         (i j : ℕ) (place : List ℕ) (first second : List Tree) (ls : List TreeLiteral)
@@ -304,8 +367,8 @@ may_para-from test a b i s j z place first second c d e comes tested =
     at i j place (t ∷ ts) second ls p q l r made is tested = absurd (no_binding t ts c p l)
     at i j place [] (t ∷ ts) ls p q l r made is tested = absurd (no_binding t ts d q r)
     at i j place [] [] ls p q l r made is tested =
-        let plain_c : are_plain (bound_literals [] c) ≡ true = (and_parts (bound_of (clause_variables c) == 0) _ p).1 in
-        let plain_d : are_plain (bound_literals [] d) ≡ true = (and_parts (bound_of (clause_variables d) == 0) _ q).1 in
+        let plain_c : are_plain (bound_literals [] c) ≡ true = (simple-says c p).plain in
+        let plain_d : are_plain (bound_literals [] d) ≡ true = (simple-says d q).plain in
         let spot = para-plain (bound_literals [] c) (bound_literals [] d) i s j z place ls plain_c plain_d made in
         let made_there : superposed (bound_literals [] c) 0 s (bound_literals [] d) 0 z [] ≡ Some ls =
         ap (λ k. superposed (bound_literals [] c) k s (bound_literals [] d) 0 z []) (sym spot.0)
@@ -322,12 +385,12 @@ may_para-from test a b i s j z place first second c d e comes tested =
         (either_side-from (para_found test a c b d s) z (ap (passes (λ ms. test (Para a b 0 s 0 z [] [] []) (nameless ms))) made_there ∙ tested_there))
 
 may_refl-from :
-    (test : Test) (a i : ℕ) (bind : List Tree) (c e : TreeClause)
-    → verdict_if (binds bind c) (resolved (bound_literals bind c) i) ≡ concludes e → test (Refl a i bind) e ≡ true
+    (test : Test) (a i : ℕ) (bind : List Tree) (c e : TreeClause) (made : List TreeLiteral)
+    → binds bind c ≡ true → resolved (bound_literals bind c) i ≡ Some made → clause_with c.names made ≡ e → test (Refl a i bind) e ≡ true
     → may_refl test a c ≡ true
-may_refl-from test a i bind c e comes tested =
+may_refl-from test a i bind c e made bound gives is tested =
     if_else-true (is_simple c) _ λ simple.
-    let result = concluded (binds bind c) _ e comes in at i bind result.1 simple result.0 result.2 result.3 tested
+    at i bind made simple bound gives (sym (ap (λ ns. clause_with ns made) (simple-says c simple).nameless) ∙ is) tested
   where
     at :
         (i : ℕ) (bind : List Tree) (ls : List TreeLiteral)
@@ -336,83 +399,142 @@ may_refl-from test a i bind c e comes tested =
         → passes (λ ms. test (Refl a 0 []) (nameless ms)) (resolved (bound_literals [] c) 0) ≡ true
     at i (t ∷ ts) ls p r made is tested = absurd (no_binding t ts c p r)
     at i [] ls p r made is tested =
-        let first : i ≡ 0 = refl-plain (bound_literals [] c) i ls (and_parts (bound_of (clause_variables c) == 0) _ p).1 made in
+        let first : i ≡ 0 = refl-plain (bound_literals [] c) i ls (simple-says c p).plain made in
         ap (passes (λ ms. test (Refl a 0 []) (nameless ms))) (ap (resolved (bound_literals [] c)) (sym first) ∙ made)
         ∙ ap (λ k. test (Refl a k []) (nameless ls)) (sym first)
         ∙ ap (test (Refl a i [])) is
         ∙ tested
 
 may_merge-from :
-    (i j : ℕ) (bind : List Tree) (c e : TreeClause)
-    → verdict_if (binds bind c) (merged (bound_literals bind c) i j) ≡ concludes e → may_merge c ≡ true
-may_merge-from i j bind c e comes =
-    if_else-true (is_simple c) false λ simple.
-    let result = concluded (binds bind c) _ e comes in absurd (at bind result.1 simple result.0 result.2)
+    (i j : ℕ) (bind : List Tree) (c : TreeClause) (made : List TreeLiteral)
+    → binds bind c ≡ true → merged (bound_literals bind c) i j ≡ Some made → may_merge c ≡ true
+may_merge-from i j bind c made bound gives = if_else-true (is_simple c) false λ simple. absurd (at bind made simple bound gives)
   where
     at :
         (bind : List Tree) (ls : List TreeLiteral)
         → is_simple c ≡ true → binds bind c ≡ true → merged (bound_literals bind c) i j ≡ Some ls → ⊥
     at (t ∷ ts) ls p r made = no_binding t ts c p r
-    at [] ls p r made = merge-plain (bound_literals [] c) i j ls (and_parts (bound_of (clause_variables c) == 0) _ p).1 made
+    at [] ls p r made = merge-plain (bound_literals [] c) i j ls (simple-says c p).plain made
 
--- a step that comes about from the lines and passes is found
+-- the kinds of step that the search knows
+abbrev is_known_kind : Step → Bool
+is_known_kind (Factor parent becomes becomes_side other other_side bind) = false
+is_known_kind (Component name) = false
+is_known_kind (Opposite name) = false
+is_known_kind (Split parent definitions parts) = false
+is_known_kind (Chain parents pivots) = false
+is_known_kind _ = true
+
+-- a step of such a kind that comes about from the lines and passes is found
 follow-from :
     (form : List TreeClause) (earlier : List Line) (test : Test) (step : Step) (c : TreeClause)
-    → ComesBy step form earlier c → IsSourced (length form) earlier step → test step c ≡ true
+    → is_known_kind step ≡ true → ComesBy step form earlier c → IsSourced (length form) earlier step → test step c ≡ true
     → may_follow form (map known_of earlier) test ≡ true
-follow-from form earlier test (Input place) c comes it tested =
+follow-from form earlier test (Input place) c known comes it tested =
     or_left (any_below (length form) (λ m. test (Input m) empty_clause)) _
     (any_below-from (length form) (λ m. test (Input m) empty_clause) place it (ap (test (Input place)) (sym comes) ∙ tested))
-follow-from form earlier test (Negate place) c comes it tested = absurd it
-follow-from form earlier test (Clausify i) c comes it tested =
+follow-from form earlier test (Negate place) c known comes it tested = absurd it
+follow-from form earlier test (Clausify i) c known comes it tested =
     or_right (any_below (length form) (λ m. test (Input m) empty_clause)) _
     (or_left (any_below (length form) (λ k. has_input (map known_of earlier) k && passes (test (Clausify k)) (slice_get form k))) _
     (any_below-from (length form) (λ k. has_input (map known_of earlier) k && passes (test (Clausify k)) (slice_get form k)) i (slice_get_within form i c comes)
     (and_from (has_input (map known_of earlier) i) _ (has_input-known earlier i it) (ap (passes (test (Clausify i))) comes ∙ tested))))
-follow-from form earlier test (Para a b i s j z place first second) c comes it tested =
+follow-from form earlier test (Para a b i s j z place first second) c known comes it tested =
+    let p = by_two-parts (line_parents earlier a) first (line_parents earlier b) second (λ ls ks. superposed ls i s ks j z place) c comes in
+    let one = known_parent earlier a p.source p.first_there in
+    let two = known_parent earlier b p.target p.second_there in
     or_right (any_below (length form) (λ m. test (Input m) empty_clause)) _
     (or_right (any_below (length form) (λ k. has_input (map known_of earlier) k && passes (test (Clausify k)) (slice_get form k))) _
     (or_left (any_below (length (map known_of earlier)) (λ m. any_below (length (map known_of earlier)) (λ n. may_para test m (clause_at (map known_of earlier) m) n (clause_at (map known_of earlier) n)))) _
     (any_below-from (length (map known_of earlier)) (λ m. any_below (length (map known_of earlier)) (λ n. may_para test m (clause_at (map known_of earlier) m) n (clause_at (map known_of earlier) n))) a
-    (omega (arith, comes.0, length-map earlier known_of))
+    (omega (arith, one.there, length-map earlier known_of))
     (any_below-from (length (map known_of earlier)) (λ n. may_para test a (clause_at (map known_of earlier) a) n (clause_at (map known_of earlier) n)) b
-    (omega (arith, comes.1, length-map earlier known_of))
-    (may_para-from test a b i s j z place first second (clause_at (map known_of earlier) a) (clause_at (map known_of earlier) b) c
-    (ap (λ x. verdict_if (binds first x && binds second (clause_at (map known_of earlier) b)) (superposed (bound_literals first x) i s (bound_literals second (clause_at (map known_of earlier) b)) j z place))
-    (sym (clause_at-known earlier a))
-    ∙ ap (λ y. verdict_if (binds first (line_clause earlier a) && binds second y) (superposed (bound_literals first (line_clause earlier a)) i s (bound_literals second y) j z place))
-    (sym (clause_at-known earlier b))
-    ∙ comes.2)
-    tested)))))
-follow-from form earlier test (Refl a i bind) c comes it tested =
+    (omega (arith, two.there, length-map earlier known_of))
+    (subst (λ d. may_para test a d b (clause_at (map known_of earlier) b) ≡ true) one.is
+    (subst (λ d. may_para test a p.source.clause b d ≡ true) two.is
+    (may_para-from test a b i s j z place first second p.source.clause p.target.clause c p.literals p.first_bound p.second_bound p.made p.gives tested)))))))
+follow-from form earlier test (Refl a i bind) c known comes it tested =
+    let p = by_one-parts (line_parents earlier a) bind (λ ls. resolved ls i) c comes in
+    let one = known_parent earlier a p.source p.there in
     or_right (any_below (length form) (λ m. test (Input m) empty_clause)) _
     (or_right (any_below (length form) (λ k. has_input (map known_of earlier) k && passes (test (Clausify k)) (slice_get form k))) _
     (or_right (any_below (length (map known_of earlier)) (λ m. any_below (length (map known_of earlier)) (λ n. may_para test m (clause_at (map known_of earlier) m) n (clause_at (map known_of earlier) n)))) _
     (or_left (any_below (length (map known_of earlier)) (λ m. may_refl test m (clause_at (map known_of earlier) m))) _
     (any_below-from (length (map known_of earlier)) (λ m. may_refl test m (clause_at (map known_of earlier) m)) a
-    (omega (arith, comes.0, length-map earlier known_of))
-    (may_refl-from test a i bind (clause_at (map known_of earlier) a) c
-    (ap (λ x. verdict_if (binds bind x) (resolved (bound_literals bind x) i)) (sym (clause_at-known earlier a)) ∙ comes.1)
-    tested)))))
-follow-from form earlier test (Merge a i j bind) c comes it tested =
+    (omega (arith, one.there, length-map earlier known_of))
+    (subst (λ d. may_refl test a d ≡ true) one.is
+    (may_refl-from test a i bind p.source.clause c p.literals p.bound p.made p.gives tested))))))
+follow-from form earlier test (Merge a i j bind) c known comes it tested =
+    let p = by_one-parts (line_parents earlier a) bind (λ ls. merged ls i j) c comes in
+    let one = known_parent earlier a p.source p.there in
     or_right (any_below (length form) (λ m. test (Input m) empty_clause)) _
     (or_right (any_below (length form) (λ k. has_input (map known_of earlier) k && passes (test (Clausify k)) (slice_get form k))) _
     (or_right (any_below (length (map known_of earlier)) (λ m. any_below (length (map known_of earlier)) (λ n. may_para test m (clause_at (map known_of earlier) m) n (clause_at (map known_of earlier) n)))) _
     (or_right (any_below (length (map known_of earlier)) (λ m. may_refl test m (clause_at (map known_of earlier) m))) _
     (any_below-from (length (map known_of earlier)) (λ m. may_merge (clause_at (map known_of earlier) m)) a
-    (omega (arith, comes.0, length-map earlier known_of))
-    (may_merge-from i j bind (clause_at (map known_of earlier) a) c
-    (ap (λ x. verdict_if (binds bind x) (merged (bound_literals bind x) i j)) (sym (clause_at-known earlier a)) ∙ comes.1))))))
-follow-from form earlier test (Factor a i s j z bind) c comes it tested = absurd comes
-follow-from form earlier test (Component name) c comes it tested = absurd comes
-follow-from form earlier test (Split a components parts) c comes it tested = absurd comes
-follow-from form earlier test (Chain parents pivots) c comes it tested = absurd comes
+    (omega (arith, one.there, length-map earlier known_of))
+    (subst (λ d. may_merge d ≡ true) one.is (may_merge-from i j bind p.source.clause p.literals p.bound p.made))))))
+follow-from form earlier test (Factor a i s j z bind) c known comes it tested = absurd (true≢false (sym known))
+follow-from form earlier test (Component name) c known comes it tested = absurd (true≢false (sym known))
+follow-from form earlier test (Opposite name) c known comes it tested = absurd (true≢false (sym known))
+follow-from form earlier test (Split a definitions parts) c known comes it tested = absurd (true≢false (sym known))
+follow-from form earlier test (Chain parents pivots) c known comes it tested = absurd (true≢false (sym known))
+
+introduced_there : (text : List ℕ) → has_word (codes "introduced") text ≡ true → has_other_word text ≡ true
+introduced_there text has =
+    or_right (has_word (codes "factor") text) _ (or_left (has_word (codes "introduced") text) _ has)
+
+factor_has : (names : SymbolNames) (a i : ℕ) (s : Side) (j : ℕ) (z : Side) (bind : List Tree) → has_word (codes "factor") (step_text names [] (Factor a i s j z bind)) ≡ true
+factor_has names a i s j z bind = refl
+
+component_has : (names : SymbolNames) (name : ℕ) → has_word (codes "introduced") (step_text names [] (Component name)) ≡ true
+component_has names name = refl
+
+opposite_has : (names : SymbolNames) (name : ℕ) → has_word (codes "introduced") (step_text names [] (Opposite name)) ≡ true
+opposite_has names name = refl
+
+split_has : (names : SymbolNames) (a : ℕ) (definitions : List ℕ) (parts : List (List ℕ)) → has_word (codes "split") (step_text names [] (Split a definitions parts)) ≡ true
+split_has names a definitions parts = refl
+
+chain_has : (names : SymbolNames) (parents : List ℕ) (pivots : List NameLit) → has_word (codes "chain") (step_text names [] (Chain parents pivots)) ≡ true
+chain_has names parents pivots = refl
+
+-- the line of a step of another kind has its word
+other_there :
+    (source : Source) (n : ℕ) (ks : List Known) (step : Step) (c : TreeClause) (text : List ℕ)
+    → is_known_kind step ≡ false → begins_with (text_at source n ks step c) text ≡ true → has_other_word text ≡ true
+other_there source n ks (Factor a i s j z bind) c text other begun =
+    or_left (has_word (codes "factor") text) _
+    (word_there (codes "factor") (clause_head source n c) (step_text source.symbols [] (Factor a i s j z bind)) (codes ").\n") text
+    (factor_has source.symbols a i s j z bind) begun)
+other_there source n ks (Component name) c text other begun =
+    introduced_there text
+    (word_there (codes "introduced") (clause_head source n c) (step_text source.symbols [] (Component name)) (codes ").\n") text
+    (component_has source.symbols name) begun)
+other_there source n ks (Opposite name) c text other begun =
+    introduced_there text
+    (word_there (codes "introduced") (clause_head source n c) (step_text source.symbols [] (Opposite name)) (codes ").\n") text
+    (opposite_has source.symbols name) begun)
+other_there source n ks (Split a definitions parts) c text other begun =
+    or_right (has_word (codes "factor") text) _
+    (or_right (has_word (codes "introduced") text) _
+    (or_left (has_word (codes "split") text) (has_word (codes "chain") text)
+    (word_there (codes "split") (clause_head source n c) (step_text source.symbols [] (Split a definitions parts)) (codes ").\n") text
+    (split_has source.symbols a definitions parts) begun)))
+other_there source n ks (Chain parents pivots) c text other begun =
+    or_right (has_word (codes "factor") text) _
+    (or_right (has_word (codes "introduced") text) _
+    (or_right (has_word (codes "split") text) (has_word (codes "chain") text)
+    (word_there (codes "chain") (clause_head source n c) (step_text source.symbols [] (Chain parents pivots)) (codes ").\n") text
+    (chain_has source.symbols parents pivots) begun)))
+other_there source n ks (Input place) c text other begun = absurd (true≢false other)
+other_there source n ks (Negate place) c text other begun = absurd (true≢false other)
+other_there source n ks (Clausify i) c text other begun = absurd (true≢false other)
+other_there source n ks (Para a b i s j z place first second) c text other begun = absurd (true≢false other)
+other_there source n ks (Refl a i bind) c text other begun = absurd (true≢false other)
+other_there source n ks (Merge a i j bind) c text other begun = absurd (true≢false other)
 
 -- ---- whole texts
-
-abbrev is_nil : {X : Type 0} → List X → Bool
-is_nil [] = true
-is_nil (x ∷ xs) = false
 
 -- the last line is the empty clause
 abbrev ends_empty : List Known → Bool
@@ -437,7 +559,8 @@ goes_on next source n ks text step c =
 abbrev may_accept : ℕ → Source → List TreeClause → ℕ → List Known → List ℕ → Bool
 may_accept zero source form n ks text = true
 may_accept (suc more) source form n ks text =
-    (is_nil text && ends_empty ks) || may_follow form ks (goes_on (may_accept more source form (suc n)) source n ks text)
+    (is_nil text && ends_empty ks)
+    || (has_other_word text || may_follow form ks (goes_on (may_accept more source form (suc n)) source n ks text))
 
 slice_get-seam : {X : Type 0} (xs : List X) (x : X) (ys : List X) → slice_get (xs ++ x ∷ ys) (length xs) ≡ Some x
 slice_get-seam [] x ys = refl
@@ -472,11 +595,17 @@ accept-from (suc more) source form lines earlier [] text it whole spelled =
     ∙ ends_empty-last (map known_of it.refutes.before) (known_of it.refutes.last) it.refutes.is_clause it.refutes.is_empty))
 accept-from (suc more) source form lines earlier (l ∷ rest) text it whole spelled =
     or_right (is_nil text && ends_empty (map known_of earlier)) _
-    (follow-from form earlier (goes_on (may_accept more source form (suc (length earlier))) source (length earlier) (map known_of earlier) text) l.step (clause_of l.clause) comes sourced
+    (⊎_elim
+    (λ known.
+    or_right (has_other_word text) _
+    (follow-from form earlier (goes_on (may_accept more source form (suc (length earlier))) source (length earlier) (map known_of earlier) text) l.step (clause_of l.clause) known comes sourced
     (and_from (begins_with (text_at source (length earlier) (map known_of earlier) l.step (clause_of l.clause)) text) _ begun
     (later
     (accept-from more source form lines (earlier ++ l ∷ []) rest (drop (length (text_at source (length earlier) (map known_of earlier) l.step (clause_of l.clause))) text) it
-    (whole ∙ pushed earlier l rest) spelled_later))))
+    (whole ∙ pushed earlier l rest) spelled_later)))))
+    (λ other.
+    or_left (has_other_word text) _ (other_there source (length earlier) (map known_of earlier) l.step (clause_of l.clause) text other begun))
+    (cases_Bool (is_known_kind l.step)))
   where
     there : slice_get lines (length earlier) ≡ Some l
     there = ap (λ ls. slice_get ls (length earlier)) whole ∙ slice_get-seam earlier l rest
@@ -548,9 +677,9 @@ printed-derived (suc (suc (suc zero))) l at =
 printed-derived (suc (suc (suc (suc zero)))) l at =
     subst (Comes 4)
     (same_Some (line (Para 2 3 0 Left 0 Left [] [] []) (record { positive = false; left = App 0 []; right = App 0 [] } ∷ [])) l at)
-    (omega arith, omega arith, refl)
+    refl
 printed-derived (suc (suc (suc (suc (suc zero))))) l at =
-    subst (Comes 5) (same_Some (line (Refl 4 0 []) []) l at) (omega arith, refl)
+    subst (Comes 5) (same_Some (line (Refl 4 0 []) []) l at) refl
 printed-derived (suc (suc (suc (suc (suc (suc n)))))) l at = absurd (none-some l at)
 
 abbrev Sourced : ℕ → Line → Type 0

@@ -29,7 +29,7 @@ pub record IsRefutedBy (bytes file text : List ℕ) : Type 0 where
   pub derivation : List ℕ
   pub accepted : IsAcceptedDerivation file problem derivation
   pub herbrand :
-      (functions : FunctionSymbols (is_predicate_of problem)) → HerbrandRefuted (is_predicate_of problem) functions (form_of problem)
+      (functions : FunctionSymbols (is_predicate_of problem)) → HerbrandRefuted functions (form_of problem)
   pub prints : text ≡ refuted_report file derivation
 
 -- as many different inferences as the limit

@@ -1,0 +1,7 @@
+use Rattle.std.proofs.Common.{◌≡◌, ◌++◌, map, drop}
+use Rattle.ground_text.specs.Lines.{more_listed, signed_name_text}
+use Rattle.ground_text.proofs.lines.push_more_pivots.Given as goal
+
+abbrev pub invariant-loop-pivot : goal.invariant-loop-pivot
+invariant-loop-pivot l =
+    l.page ++ more_listed (map signed_name_text (drop l.pivot-index l.pivots)) ≡ l.initial.page ++ more_listed (map signed_name_text l.pivots)
