@@ -11,7 +11,8 @@ ghost use Rattle.fol_base.specs.Canonical.{IsCanonical};
 use super::*;
 use crate::trees::negative_names;
 use fol_base::{
-    Clause, LendsLiterals, Literal, Literals, SIZE_LIMIT, Term, canonical, same_clause, same_literal,
+    Clause, LendsLiterals, Literal, Literals, SIZE_LIMIT, Term, canonical, same_clause,
+    same_literal,
 };
 use plain_types::{Mem, Names, NoMemory};
 use sample_terms::{atom, constant, unary};

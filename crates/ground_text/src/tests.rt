@@ -22,8 +22,7 @@ const OTHER_STEPS: &[u8] =
 cnf(c1,plain,~p,inference(merge,[status(thm),lit(1),lit(0),bind([p,X7])],[c5])).\n\
 cnf(c2,plain,p,inference(factor,[status(thm),lit(1,right),lit(0,left),bind([X0])],[c6])).\n";
 
-const STEPS_ON_NAMES: &[u8] =
-    b"cnf(c0,plain,p | ~spl0,introduced(definition,[component(spl0)])).\n\
+const STEPS_ON_NAMES: &[u8] = b"cnf(c0,plain,p | ~spl0,introduced(definition,[component(spl0)])).\n\
 cnf(c1,plain,~p | spl0,introduced(definition,[opposite(spl0)])).\n\
 cnf(c2,plain,~spl0 | spl12,inference(split,[status(esa),parts([[0],[1,2]])],[c5,c1,c9])).\n\
 cnf(c3,plain,$false,inference(chain,[status(thm),pivots([spl0,~spl12])],[c2,c7,c10])).\n";

@@ -1,6 +1,6 @@
 // The closure of sets of codes under resolution.
 
-ghost use Rattle.std.specs.Prelude.{◌≡◌, ℕ, ◌*◌, ◌+◌, ◌<◌, [], length, IfOk};
+ghost use Rattle.std.specs.Prelude.{◌≡◌, ℕ, ◌*◌, ◌+◌, ◌^◌, ◌<◌, [], length, IfOk};
 ghost use Rattle.fol_base.specs.declared.limits.TheConstants.{SIZE_LIMIT};
 ghost use Rattle.ground_loop.specs.Sets.{codes_at, AreSets, IsBalanced};
 ghost use Rattle.ground_loop.specs.Saturation.{Meets, code_at, IsBetween, IsResolving, IsPopped, IsFinished, Resolves, Moves, Holds};
