@@ -5,6 +5,7 @@ use fol_base::{Clause, Literal, Literals, Position, Side, Term, Terms};
 use ground_reader::{GroundSymbol, GroundSymbols, read_ground};
 use kernel_steps::{Derivation, Line, Step};
 use plain_types::{Mem, Names, Text};
+use sample_terms::{binary, constant};
 use std::alloc::Global;
 use std::test::Fail;
 
@@ -20,17 +21,6 @@ cnf(c5,plain,$false,inference(refl,[status(thm),lit(0),bind([])],[c4])).\n";
 const OTHER_STEPS: &[u8] =
     b"cnf(c0,plain,p,inference(para,[status(thm),from(2,right),into(1,left,[0,12]),bind([p]),bind([])],[c3,c4])).\n\
 cnf(c1,plain,~p,inference(merge,[status(thm),lit(1),lit(0),bind([p,X7])],[c5])).\n";
-
-fn constant(alloc: Global, symbol: u32) -> Term {
-    Term::App(symbol, Terms::new(alloc))
-}
-
-fn applied(alloc: Global, symbol: u32, first: Term, second: Term) -> Mem<Term> {
-    let mut arguments = Terms::new(alloc);
-    arguments.push(first)?;
-    arguments.push(second)?;
-    Ok(Term::App(symbol, arguments))
-}
 
 fn no_terms(alloc: Global) -> Terms {
     Terms::new(alloc)
@@ -145,7 +135,6 @@ fn prints_names(rt: HostRuntime) -> Result<(), Fail> {
         push_name(&mut page, name)?;
         let text = page.into_text();
         assert!(rt; text.as_slice() == want);
-        assert_eq!(rt; is_lower_word(name), name == want);
     }
     Ok(())
 }
@@ -192,7 +181,7 @@ fn symbols(alloc: Global) -> Mem<GroundSymbols> {
 
 /// f(c,X10)
 fn compound(alloc: Global) -> Mem<Term> {
-    applied(alloc, 1, constant(alloc, 2), Term::Var(10))
+    binary(alloc, 1, constant(alloc, 2), Term::Var(10))
 }
 
 /// An equation, its negation, and the negation of an atom.
@@ -205,7 +194,7 @@ fn three_literals(alloc: Global) -> Mem<Vec<Literal>> {
             right: constant(alloc, 2),
         })?;
     }
-    let atom = applied(alloc, 3, compound(alloc)?, constant(alloc, 2))?;
+    let atom = binary(alloc, 3, compound(alloc)?, constant(alloc, 2))?;
     literals.push(Literal {
         positive: false,
         left: atom,

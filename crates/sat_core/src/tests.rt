@@ -127,50 +127,43 @@ fn checked_answer(rt: &impl Abort, alloc: Global, clauses: &PropClauses, names: 
     }
 }
 
-fn row(rt: &impl Abort, alloc: Global, table: &[&[i8]], names: u32) -> Outcome {
-    let clauses = clauses_of(alloc, table).expect(rt, "memory");
-    checked_answer(rt, alloc, &clauses, names)
+/// Clauses, and how many names there are.
+type Row = (&'static [&'static [i8]], u32);
+
+/// Whether the clauses of each row have this answer.
+fn all_are(rt: &impl Abort, alloc: Global, rows: &[Row], wanted: Outcome) -> bool {
+    for (table, names) in rows {
+        let clauses = clauses_of(alloc, table).expect(rt, "memory");
+        if checked_answer(rt, alloc, &clauses, *names) != wanted {
+            return false;
+        }
+    }
+    true
 }
 
-#[test]
-fn refutes_small_rows(rt: HostRuntime) {
-    let alloc = rt.alloc();
-    let refuted = Outcome::Refuted;
-    assert_eq!(rt; row(&rt, alloc, &[&[1, 2], &[-1], &[-2]], 2), refuted);
-    assert_eq!(rt; row(&rt, alloc, &[&[]], 0), refuted);
-    assert_eq!(rt; row(&rt, alloc, &[&[1], &[]], 1), refuted);
-    assert_eq!(rt; row(&rt, alloc, &[&[1, 1], &[-1, -1, -1]], 1), refuted);
-    assert_eq!(rt;
-        row(&rt, alloc, &[&[1, 2], &[-1, 2], &[1, -2], &[-1, -2]], 5),
-        refuted
-    );
-    assert_eq!(rt;
-        row(&rt, alloc, &[&[-1, 2], &[-2, 3], &[-3, -1], &[1]], 3),
-        refuted
-    );
-}
+const REFUTED: &[Row] = &[
+    (&[&[1, 2], &[-1], &[-2]], 2),
+    (&[&[]], 0),
+    (&[&[1], &[]], 1),
+    (&[&[1, 1], &[-1, -1, -1]], 1),
+    (&[&[1, 2], &[-1, 2], &[1, -2], &[-1, -2]], 5),
+    (&[&[-1, 2], &[-2, 3], &[-3, -1], &[1]], 3),
+];
+
+const SATISFIED: &[Row] = &[
+    (&[&[1, 2]], 2),
+    (&[], 2),
+    (&[], 0),
+    (&[&[1, -1]], 1),
+    (&[&[1, -1], &[2, -2, 2], &[-2]], 3),
+    (&[&[1, 2, 3], &[-1, 2, 3], &[-2, 3], &[-3, 4]], 4),
+];
 
 #[test]
-fn satisfies_small_rows(rt: HostRuntime) {
+fn answers_small_rows(rt: HostRuntime) {
     let alloc = rt.alloc();
-    let satisfied = Outcome::Satisfied;
-    assert_eq!(rt; row(&rt, alloc, &[&[1, 2]], 2), satisfied);
-    assert_eq!(rt; row(&rt, alloc, &[], 2), satisfied);
-    assert_eq!(rt; row(&rt, alloc, &[], 0), satisfied);
-    assert_eq!(rt; row(&rt, alloc, &[&[1, -1]], 1), satisfied);
-    assert_eq!(rt;
-        row(&rt, alloc, &[&[1, -1], &[2, -2, 2], &[-2]], 3),
-        satisfied
-    );
-    assert_eq!(rt;
-        row(
-            &rt,
-            alloc,
-            &[&[1, 2, 3], &[-1, 2, 3], &[-2, 3], &[-3, 4]],
-            4
-        ),
-        satisfied
-    );
+    assert!(rt; all_are(&rt, alloc, REFUTED, Outcome::Refuted));
+    assert!(rt; all_are(&rt, alloc, SATISFIED, Outcome::Satisfied));
 }
 
 /// The name that says that a pigeon is in a hole.
@@ -336,14 +329,15 @@ fn first_unit(alloc: Global, clauses: &PropClauses, names: u32) -> Mem<Option<u3
     }
 }
 
-// Either value of the middle name is refuted by way of two of the other four. Whichever name is decided first, and
-// with whichever sign, the first unique implication point is the middle name; a solver that turns its decision
-// learns a literal of the name that it decided.
+/// Either value of the middle name is refuted by way of two of the other four.
+const MIDDLE: &[&[i8]] = &[&[-3, 1], &[-3, 2], &[-1, -2], &[3, 4], &[3, 5], &[-4, -5]];
+
+/// Whichever name is decided first, and with whichever sign, the first unique implication point is the middle name; a
+/// solver that turns its decision learns a literal of the name that it decided.
 #[test]
 fn learns_at_the_first_unique_implication_point(rt: HostRuntime) {
     let alloc = rt.alloc();
-    let table: &[&[i8]] = &[&[-3, 1], &[-3, 2], &[-1, -2], &[3, 4], &[3, 5], &[-4, -5]];
-    let clauses = clauses_of(alloc, table).expect(&rt, "memory");
+    let clauses = clauses_of(alloc, MIDDLE).expect(&rt, "memory");
     assert_eq!(rt; checked_answer(&rt, alloc, &clauses, 5), Outcome::Refuted);
     assert_eq!(rt;
         first_unit(alloc, &clauses, 5).expect(&rt, "memory"),
