@@ -1,4 +1,5 @@
 -- Steps of reading literals and clauses.
+use Rattle.ground_reader.specs.declared.limits.TheConstants.{MOST_NESTING}
 use Rattle.std.proofs.Common.{◌≡◌, ◌+◌, ◌<◌, ◌≤◌, Bool, true, List, [], ◌∷◌, ◌++◌, length, refl, ap, sym, ◌∙◌, subst, arith, length-append, append_assoc}
 use Rattle.std.specs.Prelude.{flat_map}
 use Rattle.std.specs.List.{AllByRecursion}
@@ -10,13 +11,13 @@ use Rattle.ground_reader.proofs.TokenLemmas.{append-nil}
 use Rattle.ground_reader.proofs.SyntaxLemmas.{literal_text-same, ends-after}
 
 -- the brackets of an atom are one level more
-nestings-atom : (t : NamedTerm) → nesting t ≤ 501 → nestings (arguments_of t) ≤ 500
+nestings-atom : (t : NamedTerm) → nesting t ≤ MOST_NESTING + 1 → nestings (arguments_of t) ≤ MOST_NESTING
 nestings-atom (named w no_terms) h = omega arith
 nestings-atom (named w (term_then t ts)) h = omega arith
 
 pub literal-read :
     (before atom after : List Token) (old begun new : List SymbolKey) (positive : Bool)
-    → before ≡ sign_text positive atom → ReadsTerm true 501 atom after old begun → new ≡ begun ++ true_symbol ∷ []
+    → before ≡ sign_text positive atom → ReadsTerm true (MOST_NESTING + 1) atom after old begun → new ≡ begun ++ true_symbol ∷ []
     → ReadsLiteral before after old new positive
 literal-read before atom after old begun new positive e r s =
     record {
@@ -31,7 +32,7 @@ literal-read before atom after old begun new positive e r s =
 -- no room for $true
 pub full-no_literal :
     (before atom after : List Token) (old begun : List SymbolKey) (positive : Bool)
-    → before ≡ sign_text positive atom → ReadsTerm true 501 atom after old begun → 4000 ≤ length begun
+    → before ≡ sign_text positive atom → ReadsTerm true (MOST_NESTING + 1) atom after old begun → 4000 ≤ length begun
     → HasLiteral before old → ⊥
 full-no_literal before atom after old begun positive e r full h =
     absurd (omega (arith, h.few, length-append (term_symbols true h.literal.atom) (true_symbol ∷ []), longer))
@@ -56,7 +57,7 @@ listed_literals_text (l ∷ ls) rest = literal_text l (bar ∷ listed_literals_t
 pub record LiteralsSoFar (start now : List Token) (old known : List SymbolKey) (signs : List Bool) : Type 0 where
   pub literals : List NamedLiteral
   pub text : start ≡ listed_literals_text literals now
-  pub nested : AllByRecursion (AtomNestsWithin 500) literals
+  pub nested : AllByRecursion (AtomNestsWithin MOST_NESTING) literals
   pub symbols : known ≡ old ++ flat_map literal_symbols literals
   pub signed : signs ≡ signs_of literals
   pub still : HasClause start old → HasClause now known
@@ -85,7 +86,7 @@ signs_of-push (k ∷ ls) l = ap (λ bs. k.positive ∷ bs) (signs_of-push ls l)
 
 nested-push :
     (ls : List NamedLiteral) (l : NamedLiteral)
-    → AllByRecursion (AtomNestsWithin 500) ls → AtomNestsWithin 500 l → AllByRecursion (AtomNestsWithin 500) (ls ++ l ∷ [])
+    → AllByRecursion (AtomNestsWithin MOST_NESTING) ls → AtomNestsWithin MOST_NESTING l → AllByRecursion (AtomNestsWithin MOST_NESTING) (ls ++ l ∷ [])
 nested-push [] l h k = (k, tt)
 nested-push (m ∷ ls) l h k = (h.0, nested-push ls l h.1 k)
 
@@ -97,7 +98,7 @@ clause-left now after next known new positive r e h = by h.others h.text h.ends 
   where
     by :
         (ls : List NamedLiteral) → now ≡ literal_text h.first (more_literals_text ls h.after) → EndsClause h.first ls h.after
-        → AllByRecursion (AtomNestsWithin 500) (h.first ∷ ls)
+        → AllByRecursion (AtomNestsWithin MOST_NESTING) (h.first ∷ ls)
         → length known + length (flat_map literal_symbols (h.first ∷ ls)) ≤ 4000 → HasClause next new
     by [] g ends n few =
         let same : (r.literal ≡ h.first) × (after ≡ h.after) =
@@ -157,7 +158,7 @@ no_bar (unknown ∷ ts) h = tt
 
 closed :
     (ls : List NamedLiteral) (l : NamedLiteral) (after : List Token)
-    → AllByRecursion (AtomNestsWithin 500) ls → AtomNestsWithin 500 l → EndsAfter l.atom after → EndsLiterals after
+    → AllByRecursion (AtomNestsWithin MOST_NESTING) ls → AtomNestsWithin MOST_NESTING l → EndsAfter l.atom after → EndsLiterals after
     → ReadsClause (listed_literals_text ls (literal_text l after)) after [] (flat_map literal_symbols ls ++ literal_symbols l) (signs_of ls ++ l.positive ∷ [])
 closed [] l after h k ends stop =
     record {

@@ -1,4 +1,5 @@
 -- Steps of reading formulas.
+use Rattle.ground_reader.specs.declared.limits.TheConstants.{MOST_NESTING}
 use Rattle.std.proofs.Common.{◌≡◌, ℕ, ◌+◌, ◌≤◌, Bool, List, [], ◌∷◌, ◌++◌, length, refl, ap, sym, ◌∙◌, subst, arith, length-append, append_assoc}
 use Rattle.std.specs.Prelude.{flat_map}
 use Rattle.std.specs.List.{AllByRecursion}
@@ -66,14 +67,14 @@ no_formula_end before clause rest old new signs name role e r stop h =
 pub record HasFormulas (before : List Token) (known : List SymbolKey) : Type 0 where
   pub formulas : List NamedFormula
   pub text : before ≡ formulas_text formulas []
-  pub nested : AllByRecursion (NestsWithin 500) formulas
+  pub nested : AllByRecursion (NestsWithin MOST_NESTING) formulas
   pub few : length known + length (flat_map formula_symbols formulas) ≤ 4000
 
 -- the formulas that were read so far; and whatever formulas the tokens were, some are left
 pub record FormulasSoFar (start now : List Token) (outlines : List Outline) (known : List SymbolKey) : Type 0 where
   pub formulas : List NamedFormula
   pub text : start ≡ formulas_text formulas now
-  pub nested : AllByRecursion (NestsWithin 500) formulas
+  pub nested : AllByRecursion (NestsWithin MOST_NESTING) formulas
   pub outlined : AreOutlines outlines formulas
   pub symbols : known ≡ flat_map formula_symbols formulas
   pub still : HasScript start → HasFormulas now known
@@ -105,7 +106,7 @@ formula_symbols-push (g ∷ fs) f =
 
 nested-push :
     (fs : List NamedFormula) (f : NamedFormula)
-    → AllByRecursion (NestsWithin 500) fs → NestsWithin 500 f → AllByRecursion (NestsWithin 500) (fs ++ f ∷ [])
+    → AllByRecursion (NestsWithin MOST_NESTING) fs → NestsWithin MOST_NESTING f → AllByRecursion (NestsWithin MOST_NESTING) (fs ++ f ∷ [])
 nested-push [] f h k = (k, tt)
 nested-push (g ∷ fs) f h k = (h.0, nested-push fs f h.1 k)
 
@@ -123,7 +124,7 @@ formulas-left :
 formulas-left now after known new o r h = by h.formulas (sym r.text ∙ h.text) h.nested h.few
   where
     by :
-        (fs : List NamedFormula) → formula_text r.formula after ≡ formulas_text fs [] → AllByRecursion (NestsWithin 500) fs
+        (fs : List NamedFormula) → formula_text r.formula after ≡ formulas_text fs [] → AllByRecursion (NestsWithin MOST_NESTING) fs
         → length known + length (flat_map formula_symbols fs) ≤ 4000 → HasFormulas after new
     by [] g n few = cc
     by (f ∷ fs) g n few =
@@ -159,7 +160,7 @@ pub first-formula : (now : List Token) (known : List SymbolKey) → (now ≡ [] 
 first-formula now known some h = by h.formulas h.text h.nested h.few
   where
     by :
-        (fs : List NamedFormula) → now ≡ formulas_text fs [] → AllByRecursion (NestsWithin 500) fs
+        (fs : List NamedFormula) → now ≡ formulas_text fs [] → AllByRecursion (NestsWithin MOST_NESTING) fs
         → length known + length (flat_map formula_symbols fs) ≤ 4000 → HasFormula now known
     by [] g n few = absurd (some g)
     by (f ∷ fs) g n few =

@@ -1,4 +1,5 @@
 -- What the bytes of a ground problem say.
+use Rattle.ground_reader.specs.declared.limits.TheConstants.{MOST_NESTING}
 use Rattle.fol_base.specs.declared.limits.TheConstants.{MOST_SYMBOLS}
 use Rattle.std.specs.Prelude.{◌≡◌, ℕ, ◌≤◌, List, [], map, sum_by}
 use Rattle.std.specs.List.{AllByRecursion}
@@ -18,9 +19,9 @@ IsGroundText bytes fs = IsTokenText bytes (formulas_text fs [])
 abbrev pub symbol_total : List NamedFormula → ℕ
 symbol_total fs = sum_by (λ f. clause_size (numbered_clause (symbols_of fs) f)) fs
 
--- what is read: brackets nest at most 500 deep, and the clauses have at most 4,000 symbols together
+-- what is read: how deep brackets nest, and how many symbols the clauses have together
 pub record IsWithinLimits (fs : List NamedFormula) : Type 0 where
-  pub nesting : AllByRecursion (NestsWithin 500) fs
+  pub nesting : AllByRecursion (NestsWithin MOST_NESTING) fs
   pub symbols : symbol_total fs ≤ MOST_SYMBOLS
 
 abbrev pub symbol_key : GroundSymbol → SymbolKey

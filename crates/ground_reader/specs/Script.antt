@@ -1,4 +1,5 @@
 -- What the functions that read say of the tokens before and after, and of the symbols that they add.
+use Rattle.ground_reader.specs.declared.limits.TheConstants.{MOST_NESTING}
 use Rattle.fol_base.specs.declared.limits.TheConstants.{MOST_SYMBOLS}
 use Rattle.std.specs.Prelude.{◌≡◌, ℕ, ◌+◌, ◌≤◌, Bool, List, [], ◌∷◌, ◌++◌, map, flat_map, length}
 use Rattle.std.specs.List.{AllByRecursion}
@@ -88,7 +89,7 @@ pub record ReadsLiteral (before after : List Token) (old new : List SymbolKey) (
   pub literal : NamedLiteral
   pub text : before ≡ literal_text literal after
   pub ends : EndsAfter literal.atom after
-  pub nested : AtomNestsWithin 500 literal
+  pub nested : AtomNestsWithin MOST_NESTING literal
   pub symbols : new ≡ old ++ literal_symbols literal
   pub sign : positive ≡ literal.positive
 
@@ -97,7 +98,7 @@ pub record HasLiteral (before : List Token) (known : List SymbolKey) : Type 0 wh
   pub after : List Token
   pub text : before ≡ literal_text literal after
   pub ends : EndsAfter literal.atom after
-  pub nested : AtomNestsWithin 500 literal
+  pub nested : AtomNestsWithin MOST_NESTING literal
   pub few : length known + length (literal_symbols literal) ≤ MOST_SYMBOLS
 
 abbrev pub signs_of : List NamedLiteral → List Bool
@@ -108,7 +109,7 @@ pub record ReadsClause (before after : List Token) (old new : List SymbolKey) (s
   pub others : List NamedLiteral
   pub text : before ≡ literal_text first (more_literals_text others after)
   pub ends : EndsClause first others after
-  pub nested : AllByRecursion (AtomNestsWithin 500) (first ∷ others)
+  pub nested : AllByRecursion (AtomNestsWithin MOST_NESTING) (first ∷ others)
   pub symbols : new ≡ old ++ flat_map literal_symbols (first ∷ others)
   pub signed : signs ≡ signs_of (first ∷ others)
 
@@ -118,7 +119,7 @@ pub record HasClause (before : List Token) (known : List SymbolKey) : Type 0 whe
   pub after : List Token
   pub text : before ≡ literal_text first (more_literals_text others after)
   pub ends : EndsClause first others after
-  pub nested : AllByRecursion (AtomNestsWithin 500) (first ∷ others)
+  pub nested : AllByRecursion (AtomNestsWithin MOST_NESTING) (first ∷ others)
   pub few : length known + length (flat_map literal_symbols (first ∷ others)) ≤ MOST_SYMBOLS
 
 -- the outline has the formula's name, role and signs
@@ -130,7 +131,7 @@ pub record IsOutline (o : Outline) (f : NamedFormula) : Type 0 where
 pub record ReadsFormula (before after : List Token) (old new : List SymbolKey) (outline : Outline) : Type 0 where
   pub formula : NamedFormula
   pub text : before ≡ formula_text formula after
-  pub nested : NestsWithin 500 formula
+  pub nested : NestsWithin MOST_NESTING formula
   pub symbols : new ≡ old ++ formula_symbols formula
   pub outlined : IsOutline outline formula
 
@@ -138,7 +139,7 @@ pub record HasFormula (before : List Token) (known : List SymbolKey) : Type 0 wh
   pub formula : NamedFormula
   pub after : List Token
   pub text : before ≡ formula_text formula after
-  pub nested : NestsWithin 500 formula
+  pub nested : NestsWithin MOST_NESTING formula
   pub few : length known + length (formula_symbols formula) ≤ MOST_SYMBOLS
 
 -- outlines and formulas, one for one
@@ -151,12 +152,12 @@ AreOutlines (o ∷ os) (f ∷ fs) = IsOutline o f × AreOutlines os fs
 pub record ReadsScript (before : List Token) (script : Script) : Type 0 where
   pub formulas : List NamedFormula
   pub text : before ≡ formulas_text formulas []
-  pub nested : AllByRecursion (NestsWithin 500) formulas
+  pub nested : AllByRecursion (NestsWithin MOST_NESTING) formulas
   pub outlines : AreOutlines script.outlines.items formulas
   pub symbols : keys_of script.symbols.items ≡ flat_map formula_symbols formulas
 
 pub record HasScript (before : List Token) : Type 0 where
   pub formulas : List NamedFormula
   pub text : before ≡ formulas_text formulas []
-  pub nested : AllByRecursion (NestsWithin 500) formulas
+  pub nested : AllByRecursion (NestsWithin MOST_NESTING) formulas
   pub few : length (flat_map formula_symbols formulas) ≤ MOST_SYMBOLS

@@ -13,6 +13,7 @@ ghost use Rattle.ground_reader.specs.Examples.{two_units, two_units_clauses, app
 
 mod building;
 mod fault;
+mod limits;
 mod numbering;
 mod occurrence;
 mod problem;
@@ -24,6 +25,7 @@ mod token;
 use building::{build_clauses, build_terms};
 pub use fault::GroundFault;
 use fol_base::MOST_SYMBOLS;
+pub use limits::MOST_NESTING;
 use numbering::{number, owned_symbols};
 use plain_types::{Mem, Text, Texts};
 pub use problem::{GroundProblem, GroundRole, GroundRoles, GroundSymbol, GroundSymbols};
@@ -45,8 +47,8 @@ use std::alloc::Global;
 /// 2017). An atom is the equation of its predicate term with `$true`.
 ///
 /// The fault is `NotBuilt` exactly where the bytes aren't such a text, where brackets of terms nest
-/// over 500 deep, those of a literal itself not counted, or where the clauses have over 4,000 symbols
-/// together, `$true` included. The time is linear in the bytes.
+/// deeper than `MOST_NESTING`, those of a literal itself not counted, or where the clauses have over
+/// `MOST_SYMBOLS` symbols together, `$true` included. The time is linear in the bytes.
 pub fn read_ground(alloc: Global, bytes: &[u8]) -> Result<GroundProblem, GroundFault>
     ensures read { IfOk result (IsReadAs bytes.now) }
     ensures ground { IfOk result (λ problem. IsGroundForm (map clause_of problem.clauses)) }

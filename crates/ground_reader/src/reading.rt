@@ -8,14 +8,12 @@ ghost use Rattle.ground_reader.specs.Syntax.{NamedFormula, role_word, heading_te
 ghost use Rattle.ground_reader.specs.Script.{key_of, keys_of, ReadsTerm, HasTerm, ReadsArguments, HasArguments, ReadsLiteral, HasLiteral, ReadsClause, HasClause, ReadsFormula, HasFormula, ReadsScript, HasScript};
 
 use crate::fault::GroundFault;
+use crate::limits::MOST_NESTING;
 use crate::occurrence::{Occurrence, TRUE};
 use crate::problem::GroundRole;
 use crate::token::{Mark, after_mark, is_at_end, next_word};
 use fol_base::MOST_SYMBOLS;
 use std::alloc::Global;
-
-/// How deep the brackets of terms nest at most.
-const NESTING_LIMIT: u32 = 500;
 
 /// How many occurrences of symbols all clauses have at most together, `$true` included.
 const SYMBOL_LIMIT: usize = MOST_SYMBOLS as usize;
@@ -157,7 +155,7 @@ fn read_literal<'a>(
     ensures not_built { result ≡ Err GroundFault.NotBuilt → HasLiteral (tokens_of bytes.entry.now) (keys_of symbols.old.items) → ⊥ }
 {
     let (positive, atom) = read_sign(bytes);
-    let rest = read_application(atom, true, NESTING_LIMIT + 1, symbols)?;
+    let rest = read_application(atom, true, MOST_NESTING + 1, symbols)?;
     add_symbol(symbols, TRUE)?;
     Ok((positive, rest))
 }

@@ -9,6 +9,6 @@ mod terms;
 mod tests;
 
 pub use lines::{Source, push_derivation};
-pub use names::{is_lower_word, push_name, push_problem_name, push_shown};
+pub use names::{push_name, push_problem_name, push_shown};
 pub use page::Page;
 pub use terms::{push_literals, push_term};

@@ -1,70 +1,18 @@
 // How names are printed.
 
-ghost use Rattle.std.specs.Prelude.{◌≡◌, ◌++◌, flat_map, IfOk};
-ghost use Rattle.std.specs.List.{list_all};
-ghost use Rattle.tptp_token.specs.Spelling.{is_lower_word as lower_word, is_lower as small, is_word_byte as letter_or_digit};
+ghost use Rattle.std.specs.Prelude.{◌≡◌, ◌++◌, IfOk};
 ghost use Rattle.ground_text.specs.Names.{shown_byte as shown_as, shown, problem_name, after_last_slash as behind_slash, without_suffix as before_suffix};
-ghost use Rattle.tptp_token.specs.Words.{escaped_byte, name_text};
+ghost use Rattle.tptp_token.specs.Words.{name_text};
 
 use crate::page::Page;
 use plain_types::Mem;
 use std::alloc::Global;
 
-/// Whether a byte is a small letter.
-fn is_small(byte: u8) -> bool
-    ensures { result ≡ small byte }
-{
-    97 <= byte && byte <= 122
-}
-
-/// Whether a byte is a letter, a digit or an underscore.
-fn is_letter_or_digit(byte: u8) -> bool
-    ensures { result ≡ letter_or_digit byte }
-{
-    is_small(byte) || (65 <= byte && byte <= 90) || (48 <= byte && byte <= 57) || byte == 95
-}
-
-/// Whether all bytes are letters, digits or underscores.
-fn are_letters_or_digits(bytes: &[u8]) -> bool
-    ensures { result ≡ list_all letter_or_digit bytes.now }
-{
-    bytes.iter().all(|byte| is_letter_or_digit(*byte))
-}
-
-/// Whether a name is a lower word: a small letter, and then letters, digits and underscores.
-pub fn is_lower_word(name: &[u8]) -> bool
-    ensures { result ≡ lower_word name.now }
-{
-    match name.split_first() {
-        None => false,
-        Some((first, rest)) => is_small(*first) && are_letters_or_digits(rest),
-    }
-}
-
 /// Adds a name: bare where it is a lower word, else quoted.
 pub fn push_name(page: &mut Page, name: &[u8]) -> Mem<()>
     ensures { IfOk result (λ _. page.new ≡ page.old ++ name_text name.now) }
 {
-    if is_lower_word(name) {
-        return page.bytes(name);
-    }
-    page.bytes(b"'")?;
-    push_escaped(page, name)?;
-    page.bytes(b"'")
-}
-
-/// Adds the bytes between quotes.
-fn push_escaped(page: &mut Page, name: &[u8]) -> Mem<()>
-    ensures { IfOk result (λ _. page.new ≡ page.old ++ flat_map escaped_byte name.now) }
-{
-    for byte in name {
-        if *byte == 39 || *byte == 92 {
-            page.bytes(&[92, *byte])?;
-        } else {
-            page.bytes(&[*byte])?;
-        }
-    }
-    Ok(())
+    page.name(name)
 }
 
 /// Adds bytes as they are shown: those outside 32 to 126 as question marks.

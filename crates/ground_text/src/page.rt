@@ -2,10 +2,12 @@
 
 ghost use Rattle.std.specs.Prelude.{◌≡◌, [], ◌++◌, IfOk};
 ghost use Rattle.std.specs.Fmt.{decimal};
+ghost use Rattle.tptp_token.specs.Words.{name_text};
 
 use plain_types::{Mem, Text};
 use std::alloc::Global;
 use std::marker::Model;
+use tptp_token::push_name;
 
 /// A text that grows at its end, which contracts see as its bytes.
 #[derive(Drop)]
@@ -39,6 +41,13 @@ impl Page {
     {
         self.bytes.extend_from_slice(bytes)?;
         Ok(())
+    }
+
+    /// Adds a name: bare where it is a lower word, else quoted.
+    pub fn name(&mut self, name: &[u8]) -> Mem<()>
+        ensures { IfOk result (λ _. self.new ≡ self.old ++ name_text name.now) }
+    {
+        push_name(&mut self.bytes, name)
     }
 
     /// Adds a number in decimal digits.

