@@ -4,12 +4,8 @@ use super::*;
 use fol_base::{Clause, Literal, Literals, Position, Side, Term, Terms};
 use ground_reader::{GroundSymbol, GroundSymbols, read_ground};
 use kernel_steps::{Derivation, Line, Step};
-<<<<<<< HEAD
 use plain_types::{Mem, NameLit, Names, Numbers, Parts, Text};
-=======
-use plain_types::{Mem, Names, Text};
 use sample_terms::{binary, constant};
->>>>>>> d895d7815379a82252b8e95836f074249d8cdbfa
 use std::alloc::Global;
 use std::test::Fail;
 
