@@ -8,6 +8,7 @@ use fol_base::{
     Clause, Literal, Literals, MOST_BOUND_SYMBOLS, Position, Side, Term, Terms, same_clause,
 };
 use plain_types::{Mem, NameLit, Names, Numbers, Parts};
+use sample_terms::{constant, unary};
 use std::alloc::Global;
 use std::process::Abort;
 use std::test::Fail;
@@ -19,14 +20,6 @@ const F: u32 = 2;
 const P: u32 = 3;
 
 const Q: u32 = 4;
-
-fn constant(alloc: Global, symbol: u32) -> Term {
-    Term::App(symbol, Terms::new(alloc))
-}
-
-fn unary(alloc: Global, symbol: u32, argument: Term) -> Mem<Term> {
-    Ok(Term::App(symbol, one(alloc, argument)?))
-}
 
 fn one(alloc: Global, term: Term) -> Mem<Terms> {
     let mut terms = Terms::new(alloc);
