@@ -1,5 +1,5 @@
 -- The names that a report shows of a file.
-use Rattle.std.specs.Prelude.{ℕ, Bool, false, ◌&&◌, ◌||◌, ◌==◌, nat_le, List, [], ◌∷◌, ◌++◌, map, flat_map, take, length, ◌-◌, nat_eq, if◌then◌else◌, codes}
+use Rattle.std.specs.Prelude.{ℕ, Bool, false, ◌&&◌, ◌||◌, ◌==◌, nat_le, List, [], ◌∷◌, map, take, length, ◌-◌, nat_eq, if◌then◌else◌, codes}
 use Rattle.std.specs.List.{ends_with}
 
 -- a byte outside 32 to 126 is shown as a question mark
