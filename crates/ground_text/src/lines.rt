@@ -609,12 +609,7 @@ fn push_step(page: &mut Page, symbols: &[GroundSymbol], lines: &[Line], step: &S
             parent,
             definitions,
             parts,
-        } => push_split(
-            page,
-            *parent,
-            definitions.as_slice(),
-            parts.as_slice(),
-        ),
+        } => push_split(page, *parent, definitions.as_slice(), parts.as_slice()),
         Step::Chain { parents, pivots } => {
             push_chain(page, parents.as_slice(), pivots.as_slice())
         }
