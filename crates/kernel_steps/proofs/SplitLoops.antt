@@ -140,7 +140,7 @@ and-comm false true = refl
 and-comm false false = refl
 
 -- a table that says of each number below a bound whether it is in a list
-pub all_found :
+all_found :
     (found : List Bool) (ks : List ℕ) (n : ℕ)
     → n ≤ length found → ((k : ℕ) → k < n → get_or found k false ≡ has_number k ks)
     → list_all (λ there. there) (take n found) ≡ has_all_below n ks
