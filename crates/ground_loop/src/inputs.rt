@@ -54,67 +54,27 @@ fn push_input(alloc: Global, lines: &mut Vec<Line>, step: &Step) -> Mem<()>
 fn push_shifted(lines: &mut Vec<Line>, more: Vec<Line>, shift: u64) -> Mem<()>
     ensures { IfOk result (λ _. lines.new.items ≡ lines.old.items ++ map (shifted_line shift) more.items) }
 {
-    for line in more {
-        lines.push(Line {
-            step: shifted(line.step, shift)?,
-            clause: line.clause,
-        })?;
+    for mut line in more {
+        shift_parents(&mut line.step, shift)?;
+        lines.push(line)?;
     }
     Ok(())
 }
 
-/// The step with its parents numbered from so many lines on.
-fn shifted(step: Step, shift: u64) -> Mem<Step>
-    ensures { IfOk result (λ made. made ≡ shifted_step shift step) }
+/// Numbers the parents of a step from so many lines on.
+fn shift_parents(step: &mut Step, shift: u64) -> Mem<()>
+    ensures { IfOk result (λ _. step.new ≡ shifted_step shift step.old) }
 {
     match step {
-        Step::Para {
-            first,
-            second,
-            from,
-            from_side,
-            into,
-            into_side,
-            place,
-            first_bind,
-            second_bind,
-        } => {
-            let first = moved(first, shift)?;
-            let second = moved(second, shift)?;
-            Ok(Step::Para {
-                first,
-                second,
-                from,
-                from_side,
-                into,
-                into_side,
-                place,
-                first_bind,
-                second_bind,
-            })
+        Step::Para { first, second, .. } => {
+            *first = moved(*first, shift)?;
+            *second = moved(*second, shift)?;
         }
-        Step::Refl {
-            parent,
-            literal,
-            bind,
-        } => Ok(Step::Refl {
-            parent: moved(parent, shift)?,
-            literal,
-            bind,
-        }),
-        Step::Merge {
-            parent,
-            stays,
-            goes,
-            bind,
-        } => Ok(Step::Merge {
-            parent: moved(parent, shift)?,
-            stays,
-            goes,
-            bind,
-        }),
-        other => Ok(other),
+        Step::Refl { parent, .. } => *parent = moved(*parent, shift)?,
+        Step::Merge { parent, .. } => *parent = moved(*parent, shift)?,
+        _ => {}
     }
+    Ok(())
 }
 
 /// The number of a line below so many others. More lines than a number counts find no memory.

@@ -139,6 +139,13 @@ fn names(alloc: Global, signed: &[(bool, u32)]) -> Mem<Names> {
     Ok(names)
 }
 
+/// The line of a symbol's atom or its negation, with a name of the other sign.
+fn definition(alloc: Global, step: Step, positive: bool) -> Mem<Line> {
+    let mut made = unit(alloc, step, positive, 1)?;
+    made.clause.names = names(alloc, &[(!positive, 0)])?;
+    Ok(made)
+}
+
 fn split(alloc: Global) -> Mem<Step> {
     let mut parts = Parts::new(alloc);
     parts.push(Numbers::from_slice(alloc, &[0])?)?;
@@ -150,22 +157,25 @@ fn split(alloc: Global) -> Mem<Step> {
     })
 }
 
-fn steps_on_names(alloc: Global) -> Mem<Derivation> {
-    let mut component = unit(alloc, Step::Component(0), true, 1)?;
-    component.clause.names = names(alloc, &[(false, 0)])?;
-    let mut opposite = unit(alloc, Step::Opposite(0), false, 1)?;
-    opposite.clause.names = names(alloc, &[(true, 0)])?;
-    let mut parted = line(alloc, split(alloc)?, Literals::new(alloc));
-    parted.clause.names = names(alloc, &[(false, 0), (true, 12)])?;
-    let chain = Step::Chain {
+fn chain(alloc: Global) -> Mem<Step> {
+    Ok(Step::Chain {
         parents: Numbers::from_slice(alloc, &[2, 7, 10])?,
         pivots: names(alloc, &[(true, 0), (false, 12)])?,
-    };
+    })
+}
+
+fn parted(alloc: Global) -> Mem<Line> {
+    let mut made = line(alloc, split(alloc)?, Literals::new(alloc));
+    made.clause.names = names(alloc, &[(false, 0), (true, 12)])?;
+    Ok(made)
+}
+
+fn steps_on_names(alloc: Global) -> Mem<Derivation> {
     let mut lines = Derivation::new(alloc);
-    lines.push(component)?;
-    lines.push(opposite)?;
-    lines.push(parted)?;
-    lines.push(line(alloc, chain, Literals::new(alloc)))?;
+    lines.push(definition(alloc, Step::Component(0), true)?)?;
+    lines.push(definition(alloc, Step::Opposite(0), false)?)?;
+    lines.push(parted(alloc)?)?;
+    lines.push(line(alloc, chain(alloc)?, Literals::new(alloc)))?;
     Ok(lines)
 }
 

@@ -2,7 +2,7 @@
 -- a rule of which it knows nothing, and where a line has names, more than one literal, variables or arguments, so that what it
 -- refuses is refused.
 use Rattle.std.proofs.Common.{◌≡◌, ℕ, zero, suc, ◌<◌, Bool, true, false, ◌&&◌, ◌||◌, ◌==◌, List, [], ◌∷◌, ◌++◌, map, length, take, drop, Option, Some, None, refl, ap, ap₂, sym, ◌∙◌, subst, arith, true≢false, ⊎_elim}
-use Rattle.std.specs.Prelude.{not, slice_get, option_and_then, option_map, slice_set, remove, if◌then◌else◌, codes}
+use Rattle.std.specs.Prelude.{slice_get, option_and_then, option_map, slice_set, remove, if◌then◌else◌, codes}
 use Rattle.std.specs.Fmt.{digits}
 use Rattle.std.specs.List.{list_any}
 use Rattle.std.proofs.lemmas.Bool.{eqb-true, eq-eqb, and_parts, and_from, or_cases, or_left, or_right, cases_Bool}
@@ -10,7 +10,7 @@ use Rattle.std.proofs.lemmas.Option.{none-some, same_Some, slice_get_within}
 use Rattle.std.proofs.lemmas.List.{length-map}
 use Rattle.std.proofs.Math.Seq.{take-append_seam}
 use Rattle.plain_types.specs.declared.sequence.NameLit.{NameLit}
-use Rattle.fol_base.specs.Tree.{Tree, variable, application, no_trees, tree_then, tree_eq, is_truth}
+use Rattle.fol_base.specs.Tree.{Tree, variable, application, no_trees, tree_then, tree_eq}
 use Rattle.fol_base.specs.Canonical.{bound_of}
 use Rattle.fol_base.specs.Place.{subterm, replaced}
 use Rattle.fol_base.specs.Clause.{TreeLiteral, TreeClause, clause_variables}
@@ -26,7 +26,7 @@ use Rattle.kernel_steps.specs.declared.step.Step.TheVariants.{Input, Negate, Cla
 use Rattle.kernel_steps.specs.declared.step.Line.{Line}
 use Rattle.fol_base.specs.Rules.{may_be_chosen, superposed, resolved, merged}
 use Rattle.kernel_steps.specs.Parents.{Parent}
-use Rattle.kernel_steps.specs.Conclusion.{empty_clause, binds, bound_literals, concludes, clause_with, by_one, by_two}
+use Rattle.kernel_steps.specs.Conclusion.{empty_clause, binds, bound_literals, clause_with}
 use Rattle.kernel_steps.proofs.VerdictParts.{by_one-parts, by_two-parts}
 use Rattle.kernel_steps.specs.Derivation.{is_clause_step, introduces_name, line_parents, is_input_of, ComesBy, IsDerivation, IsSourced, IsSourcedRefutation}
 use Rattle.fol_base.proofs.TestLemmas.{else_some, if_some}
