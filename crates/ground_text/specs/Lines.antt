@@ -219,3 +219,7 @@ lines_text source lines = lines_text_from source lines 0 lines
 abbrev pub IsPara : Step → Type 0
 IsPara (Para a b i s j z place first second) = Unit {0}
 IsPara _ = ⊥
+
+abbrev pub IsFactor : Step → Type 0
+IsFactor (Factor a i s j z bind) = Unit {0}
+IsFactor _ = ⊥

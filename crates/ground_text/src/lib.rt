@@ -4,6 +4,7 @@
 mod lines;
 mod names;
 mod page;
+mod steps;
 mod terms;
 #[cfg(test)]
 mod tests;

@@ -3,7 +3,7 @@ use Rattle.fol_base.specs.Term.{tree_of}
 use Rattle.ground_text.specs.Lines.{step_text, spots_text, binds_text}
 use Rattle.ground_text.specs.Terms.{symbol_names}
 use Rattle.ground_text.proofs.TextLemmas.{four_added, added}
-use Rattle.ground_text.proofs.lines.push_para.Goals as goal
+use Rattle.ground_text.proofs.steps.push_para.Goals as goal
 
 pub returns : goal.returns
 returns c =

@@ -2,7 +2,7 @@ use Rattle.std.proofs.Common.{◌≡◌, ◌++◌, map, drop}
 use Rattle.fol_base.specs.Term.{tree_of}
 use Rattle.ground_text.specs.Terms.{symbol_names, term_text}
 use Rattle.ground_text.specs.Lines.{more_listed}
-use Rattle.ground_text.proofs.lines.push_more_terms.Given as goal
+use Rattle.ground_text.proofs.steps.push_more_terms.Given as goal
 
 abbrev pub invariant-loop-term : goal.invariant-loop-term
 invariant-loop-term l =

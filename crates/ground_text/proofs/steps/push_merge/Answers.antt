@@ -1,5 +1,5 @@
 use Rattle.ground_text.proofs.TextLemmas.{three_added}
-use Rattle.ground_text.proofs.lines.push_merge.Goals as goal
+use Rattle.ground_text.proofs.steps.push_merge.Goals as goal
 
 pub returns : goal.returns
 returns c =

@@ -1,6 +1,6 @@
 use Rattle.std.proofs.Common.{◌≡◌, ◌++◌, map, drop}
 use Rattle.ground_text.specs.Lines.{more_listed, line_name}
-use Rattle.ground_text.proofs.lines.push_more_lines.Given as goal
+use Rattle.ground_text.proofs.steps.push_more_lines.Given as goal
 
 abbrev pub invariant-loop-number : goal.invariant-loop-number
 invariant-loop-number l =

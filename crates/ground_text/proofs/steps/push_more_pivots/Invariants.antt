@@ -1,6 +1,6 @@
 use Rattle.std.proofs.Common.{◌≡◌, ◌++◌, map, drop}
 use Rattle.ground_text.specs.Lines.{more_listed, signed_name_text}
-use Rattle.ground_text.proofs.lines.push_more_pivots.Given as goal
+use Rattle.ground_text.proofs.steps.push_more_pivots.Given as goal
 
 abbrev pub invariant-loop-pivot : goal.invariant-loop-pivot
 invariant-loop-pivot l =
