@@ -64,7 +64,9 @@ fn picks_from_a_million(rt: HostRuntime) {
     let mut random = Random::new(1);
     let mut queue = Queue::new(rt.alloc()).expect(&rt, "memory");
     for number in 0..1_000_000 {
-        queue.push(number, random.below(4000) as u32).expect(&rt, "memory");
+        queue
+            .push(number, random.below(4000) as u32)
+            .expect(&rt, "memory");
     }
     let mut sum = 0u64;
     for turn in 0..1_000_000u32 {

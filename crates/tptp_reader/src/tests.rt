@@ -84,7 +84,10 @@ const FORMULAS: &[Row] = &[
 
 #[test]
 fn reads_formulas(rt: HostRuntime) -> Result<(), Fail> {
-    assert_eq!(rt; first_failure(rt.alloc(), FORMULAS, MOST_NESTING)?, FORMULAS.len());
+    assert_eq!(rt;
+        first_failure(rt.alloc(), FORMULAS, MOST_NESTING)?,
+        FORMULAS.len()
+    );
     Ok(())
 }
 
@@ -119,7 +122,10 @@ const FAULTS: &[Row] = &[
 
 #[test]
 fn tells_faults(rt: HostRuntime) -> Result<(), Fail> {
-    assert_eq!(rt; first_failure(rt.alloc(), FAULTS, MOST_NESTING)?, FAULTS.len());
+    assert_eq!(rt;
+        first_failure(rt.alloc(), FAULTS, MOST_NESTING)?,
+        FAULTS.len()
+    );
     Ok(())
 }
 
@@ -134,7 +140,10 @@ const FAULTS_OF_PARTS: &[Row] = &[
 
 #[test]
 fn tells_faults_of_parts(rt: HostRuntime) -> Result<(), Fail> {
-    assert_eq!(rt; first_failure(rt.alloc(), FAULTS_OF_PARTS, MOST_NESTING)?, FAULTS_OF_PARTS.len());
+    assert_eq!(rt;
+        first_failure(rt.alloc(), FAULTS_OF_PARTS, MOST_NESTING)?,
+        FAULTS_OF_PARTS.len()
+    );
     Ok(())
 }
 
@@ -165,7 +174,10 @@ const CLAUSES: &[Row] = &[
 
 #[test]
 fn reads_clauses_and_notes(rt: HostRuntime) -> Result<(), Fail> {
-    assert_eq!(rt; first_failure(rt.alloc(), CLAUSES, MOST_NESTING)?, CLAUSES.len());
+    assert_eq!(rt;
+        first_failure(rt.alloc(), CLAUSES, MOST_NESTING)?,
+        CLAUSES.len()
+    );
     Ok(())
 }
 
