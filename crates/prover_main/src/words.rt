@@ -1,12 +1,16 @@
 // The words of the command line, and the rule on them.
 
-ghost use Rattle.std.specs.Prelude.{◌≡◌, [], ◌∷◌, ◌++◌, IfOk, OnErr, string_bytes};
+ghost use Rattle.std.specs.Prelude.{◌≡◌, ◌<◌, ◌^◌, ◌↔◌, [], ◌∷◌, ◌++◌, length, map, IfOk, OnErr, IsTrue, String, string_bytes};
+ghost use Rattle.std.specs.Global.{Global};
+ghost use Rattle.std.specs.Slice.Iter.{iter_rest};
+ghost use Rattle.std.specs.Iterator.Adapters.{IterYieldsInOrder, IterYieldsInReverse};
 ghost use Rattle.std.specs.Option.{option_map};
 ghost use Rattle.prover_main.specs.Words.{proved_file, is_file_word as file_word};
 
 use plain_types::Mem;
 use std::alloc::Global;
 use std::marker::Model;
+use std::slice::Iter;
 
 /// The words after the program's name, which contracts see as the list of their bytes.
 #[derive(Drop)]
@@ -39,6 +43,24 @@ impl Words {
     {
         self.words.push(word)?;
         Ok(())
+    }
+
+    /// Whether there are none.
+    pub fn is_empty(&self) -> bool
+        ensures { IsTrue result ↔ (self.now ≡ []) }
+    {
+        self.words.is_empty()
+    }
+
+    /// The words, lent one after another.
+    pub fn iter(&self) -> Iter<'_, String>
+        ensures rest { map string_bytes (iter_rest result) ≡ self.now }
+        ensures len { length (iter_rest result) ≡ length self.now }
+        ensures bound { length (iter_rest result) < 2 ^ 64 }
+        ensures runs { IterYieldsInOrder (String Global) }
+        ensures runs_back { IterYieldsInReverse (String Global) }
+    {
+        self.words.iter()
     }
 
     /// The file of `prove FILE`. None exactly where the words are usage.
