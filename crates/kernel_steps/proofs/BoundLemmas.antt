@@ -1,5 +1,5 @@
 -- Terms under a binding, or bound already.
-use Rattle.std.proofs.Common.{◌≡◌, ℕ, ◌+◌, ◌<◌, ◌≤◌, Bool, true, false, List, [], ◌∷◌, ◌++◌, length, map, take, drop, get_or, Option, Some, None, refl, ap, sym, ◌∙◌}
+use Rattle.std.proofs.Common.{◌≡◌, ℕ, ◌+◌, ◌<◌, ◌≤◌, Bool, true, false, List, [], ◌∷◌, length, map, drop, get_or, Option, Some, None, refl, ap, sym, ◌∙◌}
 use Rattle.std.specs.Prelude.{option_map, slice_get, slice_set}
 use Rattle.std.proofs.lemmas.Option.{slice_get-map}
 use Rattle.std.proofs.lemmas.Simd.{map-map}
@@ -8,7 +8,7 @@ use Rattle.fol_base.specs.Instance.{Substitution, instance}
 use Rattle.fol_base.specs.Place.{argument, with_argument, replaced}
 use Rattle.fol_base.specs.Term.{tree_of}
 use Rattle.fol_base.specs.declared.term.Term.{Term}
-use Rattle.fol_base.proofs.TreeLemmas.{instances-trees_of, list_of-trees_of}
+use Rattle.fol_base.proofs.TreeLemmas.{instances-trees_of}
 use Rattle.fol_base.proofs.InstancePlaces.{list_of-instances}
 use Rattle.fol_base.proofs.PlaceLemmas.{argument-item, argument-past, replaced-made, replaced_step, replaced_stop}
 use Rattle.kernel_steps.specs.Bound.{under}

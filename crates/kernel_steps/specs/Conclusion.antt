@@ -1,5 +1,5 @@
 -- What a step gives: its conclusion, or the first fault.
-use Rattle.std.specs.Prelude.{◌≡◌, ℕ, Bool, true, false, not, ◌&&◌, ◌==◌, nat_le, List, [], ◌∷◌, ◌++◌, map, flat_map, length, Option, None, Some, option_and_then, option_map, Result, Ok, Err, IsFalse, if◌then◌else◌}
+use Rattle.std.specs.Prelude.{◌≡◌, ℕ, Bool, true, false, not, ◌&&◌, ◌==◌, nat_le, List, [], ◌++◌, map, flat_map, length, Option, None, Some, option_and_then, option_map, Result, Ok, Err, IsFalse, if◌then◌else◌}
 use Rattle.std.specs.List.{list_all}
 use Rattle.plain_types.specs.declared.sequence.NameLit.{NameLit}
 use Rattle.plain_types.specs.Names.{opposite}

@@ -107,10 +107,6 @@ pub record IsRefutation (form : List TreeClause) (lines : List Line) : Type 0 wh
   pub is_clause : IsTrue (is_clause_step last.step)
   pub is_empty : clause_of last.clause ≡ empty_clause
 
--- no line is an input or negate line
-abbrev pub AreClauseLines : List Line → Type 0
-AreClauseLines lines = (n : ℕ) (line : Line) → slice_get lines n ≡ Some line → IsTrue (is_clause_step line.step)
-
 -- ---- lines that go on from clauses with numbers of their own
 
 -- line i has the number first + i

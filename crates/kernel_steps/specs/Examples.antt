@@ -2,7 +2,6 @@
 use Rattle.std.specs.Prelude.{ℕ, zero, suc, false, List, [], ◌∷◌, map, option_map, slice_get}
 use Rattle.plain_types.specs.declared.sequence.NameLit.{NameLit}
 use Rattle.fol_base.specs.Tree.{Tree, variable, application, no_trees, true_tree, list_of}
-use Rattle.fol_base.specs.Instance.{Substitution}
 use Rattle.fol_base.specs.Clause.{TreeLiteral, TreeClause}
 use Rattle.fol_base.specs.Examples.{x, a, b, c, f, p, q, equation, clause}
 use Rattle.fol_base.specs.Rules.{disequation}

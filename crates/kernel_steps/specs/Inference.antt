@@ -1,7 +1,7 @@
 -- The calculus of superposition on clauses with variables (Bachmair and Ganzinger 1994, Nieuwenhuis and Rubio 2001): the generating
 -- rules by most general unifiers, each inference with its name, and the steps by which clauses are reduced.
-use Rattle.std.specs.Prelude.{◌≡◌, ◌⊎◌, ℕ, Bool, true, false, not, ◌&&◌, ◌||◌, ◌==◌, List, [], ◌∷◌, ◌++◌, remove, All, Option, None, Some, slice_get, IsTrue, IsFalse}
-use Rattle.std.specs.List.{list_any, list_all}
+use Rattle.std.specs.Prelude.{◌≡◌, ◌⊎◌, ℕ, Bool, true, false, not, ◌&&◌, ◌||◌, ◌==◌, List, [], ◌∷◌, ◌++◌, remove, All, Some, slice_get, IsTrue, IsFalse}
+use Rattle.std.specs.List.{list_any}
 use Rattle.fol_base.specs.Tree.{Tree, variable, application, true_symbol, tree_eq, tree_variables, is_truth, is_variable}
 use Rattle.fol_base.specs.Instance.{Substitution, instance}
 use Rattle.fol_base.specs.Place.{subterm}

@@ -1,6 +1,6 @@
 -- The parents of a step, looked up by number. The same rules so serve the lines of a text, those of a pool, a batch's and a reduced
 -- clause's, each with its own numbers.
-use Rattle.std.specs.Prelude.{ℕ, Bool, List, [], ◌∷◌, Option, None, Some, option_and_then, option_map}
+use Rattle.std.specs.Prelude.{ℕ, Bool, List, [], ◌∷◌, Option, Some, option_and_then, option_map}
 use Rattle.fol_base.specs.Clause.{TreeClause}
 use Rattle.fol_base.specs.Literal.{clause_of}
 use Rattle.kernel_steps.specs.declared.parents.ParentRef.{ParentRef}
