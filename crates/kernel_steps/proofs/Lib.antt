@@ -1,6 +1,7 @@
 pub mod DerivationExamples
 pub mod NameLemmas
 pub mod NameTruth
+pub mod SortedNames
 pub mod BoundLemmas
 pub mod PushLemmas
 pub mod ItemLemmas

@@ -31,7 +31,7 @@ bound_clause bind c = clause_instance (substitution bind) c
 abbrev pub bound_literals : List Tree → TreeClause → List TreeLiteral
 bound_literals bind c = (bound_clause bind c).literals
 
--- A binding has one term for each variable of its parent, by number; the terms are variables and function terms; and
+-- A binding has one term for each variable of its parent, by number; none of the terms is `$true`; and
 -- the parent under it isn't too large. The variables of a line's clause are numbered from 0 without gaps.
 abbrev pub binds : List Tree → TreeClause → Bool
 binds bind c =

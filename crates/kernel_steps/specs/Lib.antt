@@ -8,4 +8,5 @@ pub mod Soundness
 pub mod Symbols
 pub mod Inference
 pub mod Keys
+pub mod Named
 pub mod Examples

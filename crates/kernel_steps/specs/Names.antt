@@ -1,7 +1,7 @@
 -- Lists of signed names in the order in which clauses have them, and resolution on names (Robinson 1965).
-use Rattle.std.specs.Prelude.{Bool, not, ◌&&◌, ◌||◌, ◌==◌, nat_lt, List, [], ◌∷◌, Option, None, Some, if◌then◌else◌}
+use Rattle.std.specs.Prelude.{◌≡◌, Bool, true, not, ◌&&◌, ◌||◌, ◌==◌, nat_lt, List, [], ◌∷◌, Option, None, Some, if◌then◌else◌, IsTrue}
 use Rattle.plain_types.specs.declared.sequence.NameLit.{NameLit}
-use Rattle.plain_types.specs.Names.{same_name, can_resolve, resolvent}
+use Rattle.plain_types.specs.Names.{same_name, has_name, can_resolve, resolvent}
 
 -- names rise by number, and of one name the negative one comes before the positive one
 abbrev pub name_before : NameLit → NameLit → Bool
@@ -35,3 +35,15 @@ chained_from names (pivot ∷ pivots) (ms ∷ mss) =
 abbrev pub chained : List (List NameLit) → List NameLit → Option (List NameLit)
 chained [] pivots = None
 chained (ns ∷ nss) pivots = chained_from (sorted_names ns) pivots nss
+
+-- ---- law
+
+-- each name comes before the next
+abbrev pub are_sorted : List NameLit → Bool
+are_sorted [] = true
+are_sorted (n ∷ []) = true
+are_sorted (n ∷ m ∷ ms) = name_before n m && are_sorted (m ∷ ms)
+
+-- the names of a list, sorted, are its names, each before the next
+abbrev pub SortedNames : Type 0
+SortedNames = (ns : List NameLit) → IsTrue (are_sorted (sorted_names ns)) × ((n : NameLit) → has_name n (sorted_names ns) ≡ has_name n ns)

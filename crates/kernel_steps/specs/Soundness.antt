@@ -19,7 +19,7 @@ use Rattle.fol_base.specs.Literal.{clause_of}
 use Rattle.fol_base.specs.Rules.{superposed, resolved, factored, merged}
 use Rattle.fol_base.specs.declared.clause.Side.{Side}
 use Rattle.kernel_steps.specs.Names.{chained}
-use Rattle.kernel_steps.specs.Derivation.{is_clause_step, negative_of, body, IsDerivation, IsRefutation}
+use Rattle.kernel_steps.specs.Derivation.{is_clause_step, negative_of, positive_of, body, IsDerivation, IsRefutation}
 use Rattle.kernel_steps.specs.declared.step.Step.{Step}
 use Rattle.kernel_steps.specs.declared.step.Step.TheVariants.{Para, Refl, Factor, Merge}
 use Rattle.kernel_steps.specs.declared.step.Line.{Line}
@@ -93,7 +93,7 @@ IsUsable form bodies names c = Contains form c ⊎ ((n : ℕ) × IsTrue (has_nam
 -- a choice of one ground instance of each positively named body
 abbrev pub IsChoice : {is_predicate : ℕ → Bool} → FunctionSymbols is_predicate → (ℕ → TreeClause) → List NameLit → (ℕ → GroundClause) → Type 0
 IsChoice functions bodies names choice =
-    (n : ℕ) → IsTrue (has_name (record { positive = true; name = n }) names) → GroundInstance functions (bodies n) (choice n)
+    (n : ℕ) → IsTrue (has_name (positive_of n) names) → GroundInstance functions (bodies n) (choice n)
 
 -- the literals of a choice
 abbrev pub chosen_literals : (ℕ → GroundClause) → List NameLit → GroundClause
@@ -197,7 +197,7 @@ RefutationsHerbrandRefute =
     → BindsOver functions.symbols lines → IsRefutation form lines
     → HerbrandRefuted functions form
 
--- and a ground form over every list
+-- and a ground form over every list of function symbols
 abbrev pub GroundRefutationsHerbrandRefute : Type 0
 GroundRefutationsHerbrandRefute =
     (is_predicate : ℕ → Bool) (functions : FunctionSymbols is_predicate) (form : List TreeClause) (lines : List Line)

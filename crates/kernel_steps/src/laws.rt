@@ -3,6 +3,8 @@
 mod examples;
 mod grounded;
 mod inference;
+mod named;
+mod names;
 mod soundness;
 mod symbols;
 
@@ -12,6 +14,8 @@ pub use examples::{
 };
 pub use grounded::lines_are_grounded;
 pub use inference::{inference_examples, kind_examples, reduction_examples};
+pub use named::named_inference_examples;
+pub use names::names_are_sorted;
 pub use soundness::{
     derivations_are_sound, ground_forms_are_grounded, herbrand_examples, refutations_refute,
     rules_are_sound,

@@ -15,6 +15,7 @@ mod tests;
 
 pub use conclude::{bound_size, conclusion};
 pub use key::Key;
+pub use names::{put_names, sorted_names};
 pub use parents::{LendsParents, ParentRef};
 pub use rules::{Bound, factor, merge, para, refl};
 pub use step::{CLAUSE_NUMBERS, Derivation, Line, Reduced, Step, StepFault};

@@ -59,8 +59,9 @@ pub enum Step {
     /// The other half of the definition of a name that stands for one ground positive literal: not the
     /// literal, or the name.
     Opposite(u32),
-    /// Splitting: the literals fall into parts that share no variables, and the names of the parts take
-    /// their place. The definitions are the numbers of component and opposite lines, one for each part.
+    /// Splitting: the literals fall into parts that share no variables, and for each part the opposite of the
+    /// name on its definition's line takes their place. The definitions are the numbers of component and
+    /// opposite lines, one for each part.
     Split {
         parent: u64,
         definitions: Numbers,
@@ -130,7 +131,7 @@ pub const CLAUSE_NUMBERS: u64 = 1 << 32;
 /// Why a step has no conclusion.
 #[derive(Clone, Copy, Debug, PartialEq, Eq)]
 pub enum StepFault {
-    /// A binding has the wrong length or a term that is none, or makes its parent too large.
+    /// A binding has the wrong length or has `$true`, or makes its parent too large.
     Binding,
     /// The condition of the rule fails.
     Rule,
