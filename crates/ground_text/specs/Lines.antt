@@ -7,6 +7,7 @@ use Rattle.fol_base.specs.Clause.{TreeLiteral, TreeClause}
 use Rattle.fol_base.specs.Literal.{clause_of}
 use Rattle.fol_base.specs.declared.clause.Side.{Side}
 use Rattle.fol_base.specs.declared.clause.Side.TheVariants.{Left, Right}
+use Rattle.kernel_steps.specs.Keys.{side_word, with_commas}
 use Rattle.kernel_steps.specs.declared.step.Step.{Step}
 use Rattle.kernel_steps.specs.declared.step.Step.TheVariants.{Input, Negate, Clausify, Para, Refl, Factor, Merge, Component, Opposite, Split, Chain}
 use Rattle.kernel_steps.specs.declared.step.Line.{Line}
@@ -44,29 +45,15 @@ literals_at clauses n = unwrap_or (slice_get (map (λ (c : TreeClause). c.litera
 abbrev pub line_name : ℕ → List ℕ
 line_name n = codes "c" ++ decimal n
 
-abbrev pub side_text : Side → List ℕ
-side_text Left = codes "left"
-side_text Right = codes "right"
-
--- texts with a comma before each
-abbrev pub more_listed : List (List ℕ) → List ℕ
-more_listed [] = []
-more_listed (t ∷ ts) = codes "," ++ t ++ more_listed ts
-
--- texts with a comma between two of them
-abbrev pub listed : List (List ℕ) → List ℕ
-listed [] = []
-listed (t ∷ ts) = t ++ more_listed ts
-
 abbrev pub bracketed : List (List ℕ) → List ℕ
-bracketed ts = codes "[" ++ listed ts ++ codes "]"
+bracketed ts = codes "[" ++ with_commas ts ++ codes "]"
 
 abbrev pub bind_text : SymbolNames → List Tree → List ℕ
 bind_text names ts = codes "bind(" ++ bracketed (map (term_text names) ts) ++ codes ")"
 
 -- a literal and its side, or a literal alone
 abbrev pub chosen_text : ℕ → Side → List ℕ
-chosen_text i s = decimal i ++ codes "," ++ side_text s
+chosen_text i s = decimal i ++ codes "," ++ side_word s
 
 -- the number of the first input line of a formula; how many lines there are where there is none
 abbrev pub input_line : List Line → ℕ → ℕ

@@ -5,7 +5,8 @@ ghost use Rattle.std.specs.Fmt.{decimal};
 ghost use Rattle.fol_base.specs.Term.{tree_of};
 ghost use Rattle.ground_text.specs.Terms.{symbol_names, term_text};
 ghost use Rattle.kernel_steps.specs.Derivation.{is_input_of};
-ghost use Rattle.ground_text.specs.Lines.{IsPara, IsFactor, line_name, side_text, bracketed, more_listed, bind_text, chosen_text, chosen_item, from_text, into_text, two_literals_text, one_parent_text, two_parents_text, clausify_text, spots_text, binds_text, bound_parent_text, refl_text, merge_text, part_name, signed_name_text, component_text, opposite_text, parents_text, numbers_text, split_text, chain_text, step_text, input_line};
+ghost use Rattle.ground_text.specs.Lines.{IsPara, IsFactor, line_name, bracketed, bind_text, chosen_text, chosen_item, from_text, into_text, two_literals_text, one_parent_text, two_parents_text, clausify_text, spots_text, binds_text, bound_parent_text, refl_text, merge_text, part_name, signed_name_text, component_text, opposite_text, parents_text, numbers_text, split_text, chain_text, step_text, input_line};
+ghost use Rattle.kernel_steps.specs.Keys.{side_word, commas_before};
 
 use crate::page::Page;
 use crate::terms::push_term;
@@ -24,7 +25,7 @@ pub fn push_line_name(page: &mut Page, number: u64) -> Mem<()>
 
 /// Adds the word for a side.
 fn push_side(page: &mut Page, side: Side) -> Mem<()>
-    ensures { IfOk result (λ _. page.new ≡ page.old ++ side_text side) }
+    ensures { IfOk result (λ _. page.new ≡ page.old ++ side_word side) }
 {
     match side {
         Side::Left => page.bytes(b"left"),
@@ -55,7 +56,7 @@ fn push_place(page: &mut Page, place: &[u64]) -> Mem<()>
 
 /// Adds the numbers from the second on.
 fn push_more_numbers(page: &mut Page, numbers: &[u64]) -> Mem<()>
-    ensures { IfOk result (λ _. page.new ≡ page.old ++ more_listed (map decimal numbers.now)) }
+    ensures { IfOk result (λ _. page.new ≡ page.old ++ commas_before (map decimal numbers.now)) }
 {
     for number in numbers {
         page.bytes(b",")?;
@@ -79,7 +80,7 @@ fn push_bind(page: &mut Page, symbols: &[GroundSymbol], terms: &[Term]) -> Mem<(
 /// Adds the terms from the second on.
 fn push_more_terms(page: &mut Page, symbols: &[GroundSymbol], terms: &[Term]) -> Mem<()>
     ensures { IfOk result (λ _.
-        page.new ≡ page.old ++ more_listed (map (term_text (symbol_names symbols.now)) (map tree_of terms.now))) }
+        page.new ≡ page.old ++ commas_before (map (term_text (symbol_names symbols.now)) (map tree_of terms.now))) }
 {
     for term in terms {
         page.bytes(b",")?;
@@ -120,7 +121,7 @@ fn push_pivots(page: &mut Page, pivots: &[NameLit]) -> Mem<()>
 
 /// Adds the signed names from the second on.
 fn push_more_pivots(page: &mut Page, pivots: &[NameLit]) -> Mem<()>
-    ensures { IfOk result (λ _. page.new ≡ page.old ++ more_listed (map signed_name_text pivots.now)) }
+    ensures { IfOk result (λ _. page.new ≡ page.old ++ commas_before (map signed_name_text pivots.now)) }
 {
     for pivot in pivots {
         page.bytes(b",")?;
@@ -143,7 +144,7 @@ fn push_parts(page: &mut Page, parts: &[Numbers]) -> Mem<()>
 
 /// Adds the parts from the second on.
 fn push_more_parts(page: &mut Page, parts: &[Numbers]) -> Mem<()>
-    ensures { IfOk result (λ _. page.new ≡ page.old ++ more_listed (map numbers_text parts.now)) }
+    ensures { IfOk result (λ _. page.new ≡ page.old ++ commas_before (map numbers_text parts.now)) }
 {
     for part in parts {
         page.bytes(b",")?;
@@ -154,7 +155,7 @@ fn push_more_parts(page: &mut Page, parts: &[Numbers]) -> Mem<()>
 
 /// Adds the names of lines, each after a comma.
 fn push_more_lines(page: &mut Page, numbers: &[u64]) -> Mem<()>
-    ensures { IfOk result (λ _. page.new ≡ page.old ++ more_listed (map line_name numbers.now)) }
+    ensures { IfOk result (λ _. page.new ≡ page.old ++ commas_before (map line_name numbers.now)) }
 {
     for number in numbers {
         page.bytes(b",")?;
