@@ -1,14 +1,14 @@
 -- Which texts may be accepted derivations, by a search of all steps that known lines allow. It says yes where a line has
 -- more than one literal, variables or arguments, so that what it refuses is refused.
 use Rattle.std.proofs.Common.{◌≡◌, ℕ, zero, suc, ◌<◌, Bool, true, false, ◌&&◌, ◌||◌, ◌==◌, List, [], ◌∷◌, ◌++◌, map, length, take, drop, Option, Some, None, refl, ap, sym, ◌∙◌, subst, arith, true≢false, ⊎_elim}
-use Rattle.std.specs.Prelude.{slice_get, option_and_then, option_map, slice_set, remove, if◌then◌else◌, codes}
+use Rattle.std.specs.Prelude.{not, slice_get, option_and_then, option_map, slice_set, remove, if◌then◌else◌, codes}
 use Rattle.std.specs.Fmt.{digits}
 use Rattle.std.specs.List.{list_any}
 use Rattle.std.proofs.lemmas.Bool.{eqb-true, eq-eqb, and_parts, and_from, or_cases, or_left, or_right}
 use Rattle.std.proofs.lemmas.Option.{none-some, same_Some, slice_get_within}
 use Rattle.std.proofs.lemmas.List.{length-map}
 use Rattle.std.proofs.Math.Seq.{take-append_seam}
-use Rattle.fol_base.specs.Tree.{Tree, variable, application, no_trees, tree_then, tree_eq}
+use Rattle.fol_base.specs.Tree.{Tree, variable, application, no_trees, tree_then, tree_eq, is_truth}
 use Rattle.fol_base.specs.Canonical.{bound_of}
 use Rattle.fol_base.specs.Place.{subterm, replaced}
 use Rattle.fol_base.specs.Clause.{TreeLiteral, TreeClause, clause_variables}
