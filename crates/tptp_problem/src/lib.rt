@@ -9,8 +9,6 @@ mod problem;
 mod reading;
 mod selection;
 mod source;
-#[cfg(test)]
-mod tests;
 
 pub use limits::{MOST_INCLUDES, MOST_PROBLEM_BYTES};
 pub use problem::read_problem;

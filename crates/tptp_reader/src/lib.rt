@@ -10,8 +10,6 @@ pub mod laws;
 mod notes;
 mod source;
 mod terms;
-#[cfg(test)]
-mod tests;
 
 pub use cause::{Form, ReadCause, ReadFault};
 pub use entry::{Read, annotated};

@@ -1,9 +1,9 @@
 // What no clause says of annotated formulas: outside rows, and that calls succeed.
 
-use super::*;
 use plain_types::{Mem, NoMemory};
 use std::alloc::Global;
 use std::test::Fail;
+use tptp_reader::{Read, ReadFault, annotated};
 use tptp_token::{MOST_TEXT_BYTES, tokens};
 use tptp_tree::{MOST_NESTING, Role, print_formula};
 

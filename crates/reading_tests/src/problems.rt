@@ -1,10 +1,10 @@
 // What no clause says of whole problems: outside rows, and that calls succeed.
 
-use super::*;
 use outside::{Files, MemFile, MemLibrary};
 use plain_types::{Mem, Numbers};
 use std::alloc::Global;
 use std::test::Fail;
+use tptp_problem::read_problem;
 use tptp_reader::ReadFault;
 use tptp_tree::{AnnotatedList, Problem};
 
