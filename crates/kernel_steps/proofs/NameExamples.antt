@@ -9,7 +9,7 @@ use Rattle.fol_base.specs.Examples.{x, a, b, p, q, clause}
 use Rattle.fol_base.specs.Literal.{clause_of}
 use Rattle.fol_base.specs.declared.clause.Side.TheVariants.{Left}
 use Rattle.kernel_steps.specs.Conclusion.{verdict, concludes}
-use Rattle.kernel_steps.specs.Derivation.{negative_of, positive_of, component_clause, IsComponent, IsOpposite, ComesBy, continued, AreSteps, reduced_parents}
+use Rattle.kernel_steps.specs.Derivation.{negative_of, positive_of, component_clause, IsOpposite, ComesBy, continued, AreSteps, reduced_parents}
 use Rattle.kernel_steps.specs.Examples.{not_p, not_true, with, listed, line, introduced, opposites, reducing_lines}
 use Rattle.kernel_steps.specs.declared.step.Step.TheVariants.{Para, Refl, Component, Opposite}
 use Rattle.kernel_steps.specs.declared.step.TheConstants.{CLAUSE_NUMBERS}

@@ -56,6 +56,7 @@ pub fn split_examples()
     ensures literal_in_two_parts { IsFalse (is_split (p a ∷ q b ∷ []) (definition (p a ∷ []) ∷ definition (p a ∷ q b ∷ []) ∷ []) ((0 ∷ []) ∷ (0 ∷ 1 ∷ []) ∷ [])) }
     ensures places_that_fall { IsFalse (is_split (p a ∷ q b ∷ []) (definition (q b ∷ p a ∷ []) ∷ []) ((1 ∷ 0 ∷ []) ∷ [])) }
     ensures part_without_places { IsFalse (is_split (p a ∷ []) (definition (p a ∷ []) ∷ definition [] ∷ []) ((0 ∷ []) ∷ [] ∷ [])) }
+    ensures missing_definition { verdict (step.Split 0 (1 ∷ []) ((0 ∷ []) ∷ [])) (listed (clause (p a ∷ []) ∷ [])) ≡ rule_fault }
     ensures introduces_nothing { IsFalse (is_split (p a ∷ []) (conclusion (clause (p a ∷ [])) ∷ []) ((0 ∷ []) ∷ [])) }
     ensures other_literals { IsFalse (is_split (p a ∷ q b ∷ []) (definition (p a ∷ []) ∷ definition (q a ∷ []) ∷ []) ((0 ∷ []) ∷ (1 ∷ []) ∷ [])) }
     ensures definitions_exchanged { IsFalse (is_split (p a ∷ q b ∷ []) (definition (q b ∷ []) ∷ definition (p a ∷ []) ∷ []) ((0 ∷ []) ∷ (1 ∷ []) ∷ [])) }
