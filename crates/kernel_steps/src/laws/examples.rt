@@ -1,15 +1,15 @@
 // Worked examples of steps and derivations. The symbols are those of the base's examples.
 
-ghost use Rattle.std.specs.Prelude.{◌≡◌, ◌+◌, ◌^◌, [], ◌∷◌, Some, None, true, take, codes, IsTrue, IsFalse};
+ghost use Rattle.std.specs.Prelude.{◌≡◌, ◌+◌, ◌^◌, [], ◌∷◌, Some, None, take, codes, IsTrue, IsFalse};
 ghost use Rattle.fol_base.specs.Tree.{true_tree};
-ghost use Rattle.fol_base.specs.Examples.{x, a, b, c, f, p, q, equation, clause};
+ghost use Rattle.fol_base.specs.Examples.{x, a, b, p, q, clause};
 ghost use Rattle.fol_base.specs.declared.clause.Side.TheVariants.{Left, Right};
 ghost use Rattle.kernel_steps.specs.Names.{sorted_names, chained};
 ghost use Rattle.kernel_steps.specs.Split.{is_split};
 ghost use Rattle.kernel_steps.specs.Conclusion.{verdict, binding_fault, rule_fault, concludes, empty_clause};
 ghost use Rattle.kernel_steps.specs.Derivation.{positive_of, negative_of, body, ComesBy, IsRefutation, continued, AreSteps, reduced_parents};
 ghost use Rattle.kernel_steps.specs.Keys.{key_text};
-ghost use Rattle.kernel_steps.specs.Examples.{not_p, not_q, not_true, tower, with, names_only, conclusion, definition, listed, line, introduced, opposites, opposites_lines, opposites_with, reducing_lines, implication, implication_lines, rewrites, rewrites_lines, components, components_lines, four_clauses, four_clauses_lines};
+ghost use Rattle.kernel_steps.specs.Examples.{not_p, not_true, tower, with, names_only, conclusion, definition, listed, line, introduced, opposites, opposites_lines, opposites_with, reducing_lines, implication, implication_lines, rewrites, rewrites_lines, components, components_lines, four_clauses, four_clauses_lines};
 ghost use Rattle.kernel_steps.specs.declared.step.Step.TheVariants as step;
 ghost use Rattle.kernel_steps.specs.declared.key.Key.TheVariants as key;
 
@@ -48,8 +48,8 @@ pub fn step_examples()
 pub fn split_examples()
     ensures two_parts { IsTrue (is_split (p (x 0) ∷ q (x 1) ∷ []) (definition (p (x 0) ∷ []) ∷ definition (q (x 0) ∷ []) ∷ []) ((0 ∷ []) ∷ (1 ∷ []) ∷ [])) }
     ensures places_apart { IsTrue (is_split (p (x 1) ∷ q (x 0) ∷ q (x 1) ∷ []) (definition (p (x 0) ∷ q (x 0) ∷ []) ∷ definition (q (x 0) ∷ []) ∷ []) ((0 ∷ 2 ∷ []) ∷ (1 ∷ []) ∷ [])) }
-    ensures into_one_part { IsTrue (is_split (p (x 0) ∷ q (x 0) ∷ []) (definition (p (x 0) ∷ q (x 0) ∷ []) ∷ []) ((0 ∷ 1 ∷ []) ∷ [])) }
-    ensures into_no_part { IsFalse (is_split [] [] []) }
+    ensures split_into_one_part { IsTrue (is_split (p (x 0) ∷ q (x 0) ∷ []) (definition (p (x 0) ∷ q (x 0) ∷ []) ∷ []) ((0 ∷ 1 ∷ []) ∷ [])) }
+    ensures split_into_no_part { IsFalse (is_split [] [] []) }
     ensures shared_variable { IsFalse (is_split (p (x 0) ∷ q (x 0) ∷ []) (definition (p (x 0) ∷ []) ∷ definition (q (x 0) ∷ []) ∷ []) ((0 ∷ []) ∷ (1 ∷ []) ∷ [])) }
     ensures literal_left_out { IsFalse (is_split (p a ∷ q b ∷ []) (definition (p a ∷ []) ∷ []) ((0 ∷ []) ∷ [])) }
     ensures one_left_out_for_one_twice { IsFalse (is_split (p a ∷ q b ∷ []) (definition (p a ∷ []) ∷ definition (p a ∷ []) ∷ []) ((0 ∷ []) ∷ (0 ∷ []) ∷ [])) }
