@@ -1,6 +1,6 @@
 -- A clause that is split is grounded: ground instances of its parts, chosen for the positive names of the definitions, are together
 -- an instance of the parent, since no two parts share a variable.
-use Rattle.std.proofs.Common.{◌≡◌, ℕ, ◌⊎◌, inl, inr, Bool, true, false, ◌||◌, ◌==◌, List, [], ◌∷◌, ◌++◌, map, refl, ap, sym, ◌∙◌, subst, ⊎_elim}
+use Rattle.std.proofs.Common.{◌≡◌, ℕ, ◌⊎◌, inl, inr, Bool, true, false, ◌||◌, ◌==◌, List, [], ◌∷◌, ◌++◌, map, Some, refl, ap, sym, ◌∙◌, subst, ⊎_elim}
 use Rattle.std.specs.Prelude.{not, flat_map, if◌then◌else◌}
 use Rattle.std.specs.List.{list_all, AllByRecursion}
 use Rattle.std.proofs.lemmas.Bool.{and_parts, or_left, or_right, cases_Bool, eq-eqb, false≢true, cond_both, cond-true, cond-false}
@@ -15,7 +15,7 @@ use Rattle.fol_base.specs.Interpretation.{Interpretation, literal_true_under, no
 use Rattle.fol_base.proofs.InstanceLemmas.{Agree, literals-agree}
 use Rattle.fol_base.proofs.GroundInstanceLemmas.{ground_instances_of_canonical}
 use Rattle.kernel_steps.specs.Parents.{Parent}
-use Rattle.kernel_steps.specs.Split.{has_number, share_variable, share_no_variables, canonical_literals, defines, define_all}
+use Rattle.kernel_steps.specs.Split.{has_number, share_variable, share_no_variables, canonical_literals, defines, are_defined}
 use Rattle.kernel_steps.specs.Derivation.{negative_of, positive_of, complement}
 use Rattle.kernel_steps.specs.Soundness.{IsUsable, IsChoice}
 use Rattle.kernel_steps.proofs.GroundTrees.{one_literal-ground}
@@ -197,7 +197,7 @@ module _ {is_predicate : ℕ → Bool} (functions : FunctionSymbols is_predicate
       → IsGroundOver functions σ → IsChoice functions bodies ns choice
       → AreAmong (map opposite (flat_map (λ (d : Parent). d.clause.names) ds)) ns
       → AllByRecursion (λ (d : Parent). d.introduces ≡ true → DefinesName bodies d.clause) ds
-      → define_all ds lss ≡ true → share_no_variables lss ≡ true
+      → are_defined (map Some ds) lss ≡ true → share_no_variables lss ≡ true
       → ChosenParts lss
   parts-chosen σ [] [] ground is_choice among define defined apart = record { trees = σ; trees_ground = ground; chosen = tt }
   parts-chosen σ [] (ls ∷ lss) ground is_choice among define defined apart = absurd (false≢true defined)
@@ -206,7 +206,7 @@ module _ {is_predicate : ℕ → Bool} (functions : FunctionSymbols is_predicate
       let rest : List NameLit = flat_map (λ (e : Parent). e.clause.names) ds in
       let among_all : AreAmong (map opposite d.clause.names ++ map opposite rest) ns =
       λ n has. among n (ap (has_name n) (map-append opposite d.clause.names rest) ∙ has) in
-      let definitions = and_parts (defines d ls) (define_all ds lss) defined in
+      let definitions = and_parts (defines d ls) (are_defined (map Some ds) lss) defined in
       let one = and_parts d.introduces (literals_eq (canonical_literals ls) d.clause.literals) definitions.0 in
       let aparts = and_parts (list_all (λ ks. not (share_variable ls ks)) lss) (share_no_variables lss) apart in
       part-joined ls lss aparts.0

@@ -15,6 +15,7 @@ pub mod LineLemmas
 pub mod SoundLemmas
 pub mod RefutationLemmas
 pub mod ChangedExamples
+pub mod NameExamples
 pub mod InferenceExamples
 pub mod SymbolLemmas
 pub mod SplitLemmas

@@ -10,23 +10,19 @@ use Rattle.fol_base.specs.Clause.{TreeLiteral, TreeClause, literal_variables}
 use Rattle.fol_base.specs.Canonical.{distinct, place_of}
 use Rattle.fol_base.proofs.TestLemmas.{option_map-some}
 use Rattle.kernel_steps.specs.Parents.{Parent, all_there}
-use Rattle.kernel_steps.specs.Split.{has_number, is_part, share_out, literals_at, share_no_variables, defines, define_all, is_split, are_defined, can_split, opposites, share_number, share_no_numbers}
+use Rattle.kernel_steps.specs.Split.{has_number, is_part, share_out, literals_at, share_no_variables, defines, is_split, are_defined, can_split, opposites, share_number, share_no_numbers}
 use Rattle.kernel_steps.specs.Conclusion.{clause_with, split_from}
 
 -- ---- definitions
 
-are_defined-there :
-    (os : List (Option Parent)) (lss : List (List TreeLiteral)) (ds : List Parent) → all_there os ≡ Some ds → are_defined os lss ≡ define_all ds lss
-are_defined-there [] [] ds h = ap (λ es. define_all es []) (same_Some [] ds h)
-are_defined-there [] (ls ∷ lss) ds h = ap (λ es. define_all es (ls ∷ lss)) (same_Some [] ds h)
-are_defined-there (None ∷ os) lss ds h = absurd (none-some ds h)
-are_defined-there (Some d ∷ os) [] ds h =
-    option_map-some (λ es. d ∷ es) (all_there os) ds h λ es es_is gives. ap (λ fs. define_all fs []) gives
-are_defined-there (Some d ∷ os) (ls ∷ lss) ds h =
+-- definitions that are all there
+there-all : (os : List (Option Parent)) (ds : List Parent) → all_there os ≡ Some ds → os ≡ map Some ds
+there-all [] ds h = ap (map Some) (same_Some [] ds h)
+there-all (None ∷ os) ds h = absurd (none-some ds h)
+there-all (Some d ∷ os) ds h =
     option_map-some (λ es. d ∷ es) (all_there os) ds h λ es es_is gives.
-    ap (λ b. defines d ls && b) (are_defined-there os lss es es_is) ∙ ap (λ fs. define_all fs (ls ∷ lss)) gives
+    ap (λ ps. Some d ∷ ps) (there-all os es es_is) ∙ ap (map Some) gives
 
--- definitions that are there, all of them
 are_defined-all : (os : List (Option Parent)) (lss : List (List TreeLiteral)) → are_defined os lss ≡ true → (ds : List Parent) × (all_there os ≡ Some ds)
 are_defined-all [] lss h = ([], refl)
 are_defined-all (None ∷ os) [] h = absurd (true≢false (sym h))
@@ -62,10 +58,7 @@ split-made p os parts can =
     let apart = and_parts (share_no_variables lss) (are_defined os lss) shared.1 in
     let defined = are_defined-all os lss apart.1 in
     let is_one : is_split p.clause.literals defined.0 parts ≡ true =
-    ap
-    (λ b. not (length parts == 0) && (list_all is_part parts && (share_out (length p.clause.literals) parts && (share_no_variables lss && b))))
-    (sym (are_defined-there os lss defined.0 defined.1))
-    ∙ can in
+    ap (λ qs. can_split p.clause.literals qs parts) (sym (there-all os defined.0 defined.1)) ∙ can in
     ap (option_and_then (λ ds. split_from p ds parts)) defined.1
     ∙ cond-true (is_split p.clause.literals defined.0 parts)
     (Some (clause_with (p.clause.names ++ map opposite (flat_map (λ (d : Parent). d.clause.names) defined.0)) [])) None is_one
@@ -84,13 +77,7 @@ split-none p os parts cannot = looked_up (all_there os) (λ ds ds_is. ds_is)
     looked_up (Some ds) there =
         cond-false (is_split p.clause.literals ds parts)
         (Some (clause_with (p.clause.names ++ map opposite (flat_map (λ (d : Parent). d.clause.names) ds)) [])) None
-        (sym
-        (ap
-        (λ b. not (length parts == 0)
-        && (list_all is_part parts
-        && (share_out (length p.clause.literals) parts && (share_no_variables (map (literals_at p.clause.literals) parts) && b))))
-        (are_defined-there os (map (literals_at p.clause.literals) parts) ds (there ds refl)))
-        ∙ cannot)
+        (ap (λ qs. can_split p.clause.literals qs parts) (sym (there-all os ds (there ds refl))) ∙ cannot)
 
 -- ---- numbers in lists
 

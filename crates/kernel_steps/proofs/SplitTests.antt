@@ -10,7 +10,7 @@ use Rattle.fol_base.specs.Clause.{TreeLiteral, literal_eq, literals_eq, literal_
 use Rattle.fol_base.specs.Tree.{Tree, tree_eq}
 use Rattle.fol_base.proofs.TreeLemmas.{tree_eq-true}
 use Rattle.kernel_steps.specs.Parents.{Parent}
-use Rattle.kernel_steps.specs.Split.{has_number, has_all_below, is_part, share_out, literals_at, share_variable, share_no_variables, define_all, is_split}
+use Rattle.kernel_steps.specs.Split.{has_number, has_all_below, is_part, share_out, literals_at, share_variable, share_no_variables, are_defined, is_split}
 
 -- ---- numbers in lists
 
@@ -162,14 +162,14 @@ list_all-none p (x ∷ xs) none =
 pub record SplitsInto (ls : List TreeLiteral) (ds : List Parent) (parts : List (List ℕ)) : Type 0 where
   pub shared_out : share_out (length ls) parts ≡ true
   pub apart : share_no_variables (map (literals_at ls) parts) ≡ true
-  pub defined : define_all ds (map (literals_at ls) parts) ≡ true
+  pub defined : are_defined (map Some ds) (map (literals_at ls) parts) ≡ true
 
 pub is_split-says : (ls : List TreeLiteral) (ds : List Parent) (parts : List (List ℕ)) → is_split ls ds parts ≡ true → SplitsInto ls ds parts
 is_split-says ls ds parts h =
     let lss : List (List TreeLiteral) = map (literals_at ls) parts in
     let shared : Bool = share_out (length ls) parts in
-    let some = and_parts (not (length parts == 0)) (list_all is_part parts && (shared && (share_no_variables lss && define_all ds lss))) h in
-    let each = and_parts (list_all is_part parts) (shared && (share_no_variables lss && define_all ds lss)) some.1 in
-    let out = and_parts shared (share_no_variables lss && define_all ds lss) each.1 in
-    let rest = and_parts (share_no_variables lss) (define_all ds lss) out.1 in
+    let some = and_parts (not (length parts == 0)) (list_all is_part parts && (shared && (share_no_variables lss && are_defined (map Some ds) lss))) h in
+    let each = and_parts (list_all is_part parts) (shared && (share_no_variables lss && are_defined (map Some ds) lss)) some.1 in
+    let out = and_parts shared (share_no_variables lss && are_defined (map Some ds) lss) each.1 in
+    let rest = and_parts (share_no_variables lss) (are_defined (map Some ds) lss) out.1 in
     record { shared_out = out.0; apart = rest.0; defined = rest.1 }

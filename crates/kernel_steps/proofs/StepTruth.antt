@@ -17,7 +17,7 @@ use Rattle.fol_base.proofs.MeaningLemmas.{truth_of_instances}
 use Rattle.fol_base.proofs.TestLemmas.{option_map-some, if_some}
 use Rattle.kernel_steps.specs.Names.{sorted_names}
 use Rattle.kernel_steps.specs.Parents.{Parent, Parents, all_there}
-use Rattle.kernel_steps.specs.Split.{literals_at, canonical_literals, defines, define_all}
+use Rattle.kernel_steps.specs.Split.{literals_at, canonical_literals, defines, are_defined}
 use Rattle.kernel_steps.specs.Conclusion.{bound_literals, clause_with, by_one, by_two, names_alone, names_at, verdict, concludes}
 use Rattle.kernel_steps.specs.Soundness.{NameTruth, names_true, bindings_of}
 use Rattle.kernel_steps.specs.declared.step.Step.{Step}
@@ -110,14 +110,14 @@ part-fails Value i truth p ls over defined no_name = record {
 
 parts-fail :
     (Value : ℕ → Type 0) (i : Interpretation) (truth : NameTruth) (ps : List Parent) (lss : List (List TreeLiteral))
-    → AllByRecursion (DefinesOver Value i truth) ps → define_all ps lss ≡ true
+    → AllByRecursion (DefinesOver Value i truth) ps → are_defined (map Some ps) lss ≡ true
     → names_true truth (map opposite (flat_map (λ (d : Parent). d.clause.names) ps)) ≡ false → EachFails Value i lss
 parts-fail Value i truth [] [] over defined no_name = tt
 parts-fail Value i truth [] (ls ∷ lss) over defined no_name = absurd (true≢false (sym defined))
 parts-fail Value i truth (p ∷ ps) [] over defined no_name = absurd (true≢false (sym defined))
 parts-fail Value i truth (p ∷ ps) (ls ∷ lss) over defined no_name =
     let rest : List NameLit = flat_map (λ (d : Parent). d.clause.names) ps in
-    let both = and_parts (defines p ls) (define_all ps lss) defined in
+    let both = and_parts (defines p ls) (are_defined (map Some ps) lss) defined in
     let none =
     or_parts (names_true truth (map opposite p.clause.names)) (names_true truth (map opposite rest))
     (sym (list_any-append (name_true truth) (map opposite p.clause.names) (map opposite rest))

@@ -1,5 +1,5 @@
 -- The worked examples: derivations and clauses over the symbols of the base's examples.
-use Rattle.std.specs.Prelude.{ℕ, zero, suc, false, List, [], ◌∷◌, map, option_map, slice_get}
+use Rattle.std.specs.Prelude.{ℕ, zero, suc, ◌+◌, true, false, List, [], ◌∷◌, map, option_map, slice_get}
 use Rattle.plain_types.specs.declared.sequence.NameLit.{NameLit}
 use Rattle.fol_base.specs.Tree.{Tree, variable, application, no_trees, true_tree, list_of}
 use Rattle.fol_base.specs.Clause.{TreeLiteral, TreeClause}
@@ -9,8 +9,9 @@ use Rattle.fol_base.specs.declared.term.Term.{Term}
 use Rattle.fol_base.specs.declared.term.Term.TheVariants.{Var, App}
 use Rattle.fol_base.specs.declared.clause.Literal.{Literal}
 use Rattle.fol_base.specs.declared.clause.Side.TheVariants.{Left, Right}
-use Rattle.kernel_steps.specs.Parents.{Parents}
+use Rattle.kernel_steps.specs.Parents.{Parent, Parents}
 use Rattle.kernel_steps.specs.Derivation.{complement, positive_of, negative_of}
+use Rattle.kernel_steps.specs.declared.step.TheConstants.{CLAUSE_NUMBERS}
 use Rattle.kernel_steps.specs.declared.step.Step.{Step}
 use Rattle.kernel_steps.specs.declared.step.Step.TheVariants.{Input, Negate, Clausify, Para, Refl, Component, Opposite, Split, Chain}
 use Rattle.kernel_steps.specs.declared.step.Line.{Line}
@@ -41,13 +42,21 @@ tower (suc n) = f (tower n)
 abbrev pub with : List TreeLiteral → List NameLit → TreeClause
 with ls names = record { literals = ls; names = names }
 
--- the names of the examples, which come from component lines
+-- a clause of names alone
 abbrev pub names_only : List NameLit → TreeClause
 names_only names = with [] names
 
+-- a parent whose line introduces no name
+abbrev pub conclusion : TreeClause → Parent
+conclusion d = record { clause = d; introduces = false }
+
+-- a parent with these literals whose line introduces a name
+abbrev pub definition : List TreeLiteral → Parent
+definition ls = record { clause = clause ls; introduces = true }
+
 -- clauses as parents, by their places
 abbrev pub listed : List TreeClause → Parents
-listed cs n = option_map (λ (d : TreeClause). record { clause = d; introduces = false }) (slice_get cs n)
+listed cs n = option_map conclusion (slice_get cs n)
 
 -- ---- lines
 
@@ -63,6 +72,10 @@ named_line step ls names = record { step = step; clause = record { literals = ma
 
 abbrev pub line : Step → List TreeLiteral → Line
 line step ls = named_line step ls []
+
+-- the line that introduces the name 0 for literals
+abbrev pub introduced : List TreeLiteral → List Line
+introduced ls = named_line (Component 0) ls (negative_of 0 ∷ []) ∷ []
 
 -- ---- p(a) and its negation
 
@@ -90,6 +103,13 @@ opposites_with negation parent =
 -- where the third line is the negation of p(a)
 abbrev pub opposites_lines : ℕ → List Line
 opposites_lines = opposites_with (line (Clausify 1) (not_p a ∷ []))
+
+-- the lines that reduce the negation of p(a) by p(a), which has the number 0
+abbrev pub reducing_lines : List Line
+reducing_lines =
+    line (Para 0 CLAUSE_NUMBERS 0 Left 0 Left [] [] []) (not_true ∷ [])
+    ∷ line (Refl (CLAUSE_NUMBERS + 1) 0 []) []
+    ∷ []
 
 -- ---- one implication: p implies q, and p(a), but not q(a)
 

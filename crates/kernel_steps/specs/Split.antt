@@ -49,39 +49,31 @@ canonical_literals ls = (canonical_clause (record { literals = ls; names = [] })
 abbrev pub defines : Parent → List TreeLiteral → Bool
 defines p ls = p.introduces && literals_eq (canonical_literals ls) p.clause.literals
 
--- one definition for each part
-abbrev pub define_all : List Parent → List (List TreeLiteral) → Bool
-define_all [] [] = true
-define_all [] (ls ∷ lss) = false
-define_all (p ∷ ps) [] = false
-define_all (p ∷ ps) (ls ∷ lss) = defines p ls && define_all ps lss
-
--- there is a part, the parts share out the literals and no variable is in two of them, and each has its definition
-abbrev pub is_split : List TreeLiteral → List Parent → List (List ℕ) → Bool
-is_split ls definitions parts =
-    not (length parts == 0)
-    && (list_all is_part parts
-    && (share_out (length ls) parts
-    && (share_no_variables (map (literals_at ls) parts) && define_all definitions (map (literals_at ls) parts))))
-
--- ---- the same where the definitions are looked up: one that isn't there defines nothing
-
+-- a definition that is looked up: one that isn't there defines nothing
 abbrev pub there_defines : Option Parent → List TreeLiteral → Bool
 there_defines None ls = false
 there_defines (Some p) ls = defines p ls
 
+-- one definition for each part
 abbrev pub are_defined : List (Option Parent) → List (List TreeLiteral) → Bool
 are_defined [] [] = true
 are_defined [] (ls ∷ lss) = false
 are_defined (o ∷ os) [] = false
 are_defined (o ∷ os) (ls ∷ lss) = there_defines o ls && are_defined os lss
 
+-- there is a part, the parts share out the literals and no variable is in two of them, and each has its definition
 abbrev pub can_split : List TreeLiteral → List (Option Parent) → List (List ℕ) → Bool
 can_split ls os parts =
     not (length parts == 0)
     && (list_all is_part parts
     && (share_out (length ls) parts
     && (share_no_variables (map (literals_at ls) parts) && are_defined os (map (literals_at ls) parts))))
+
+-- the same by definitions that are there
+abbrev pub is_split : List TreeLiteral → List Parent → List (List ℕ) → Bool
+is_split ls definitions parts = can_split ls (map Some definitions) parts
+
+-- ---- what only the private functions of splitting cite
 
 -- the opposites of the names of those that are there
 abbrev pub opposites : List (Option Parent) → List NameLit

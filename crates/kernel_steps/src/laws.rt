@@ -9,8 +9,8 @@ mod soundness;
 mod symbols;
 
 pub use examples::{
-    binding_examples, changed_derivation_examples, derivation_examples, key_examples,
-    name_examples, step_examples,
+    binding_examples, changed_derivation_examples, definition_examples, derivation_examples,
+    key_examples, name_examples, number_examples, split_examples, step_examples,
 };
 pub use grounded::lines_are_grounded;
 pub use inference::{inference_examples, kind_examples, reduction_examples};

@@ -1,16 +1,15 @@
 // Worked examples of steps and derivations. The symbols are those of the base's examples.
 
-ghost use Rattle.std.specs.Prelude.{◌≡◌, [], ◌∷◌, Some, None, true, take, codes, IsTrue, IsFalse};
+ghost use Rattle.std.specs.Prelude.{◌≡◌, ◌+◌, ◌^◌, [], ◌∷◌, Some, None, take, codes, IsTrue, IsFalse};
 ghost use Rattle.fol_base.specs.Tree.{true_tree};
-ghost use Rattle.fol_base.specs.Examples.{x, a, b, p, q, equation, clause, is_predicate, functions};
+ghost use Rattle.fol_base.specs.Examples.{x, a, b, p, q, clause};
 ghost use Rattle.fol_base.specs.declared.clause.Side.TheVariants.{Left, Right};
 ghost use Rattle.kernel_steps.specs.Names.{sorted_names, chained};
 ghost use Rattle.kernel_steps.specs.Split.{is_split};
 ghost use Rattle.kernel_steps.specs.Conclusion.{verdict, binding_fault, rule_fault, concludes, empty_clause};
-ghost use Rattle.kernel_steps.specs.Derivation.{positive_of, negative_of, body, IsRefutation, continued, reduced_parents};
-ghost use Rattle.kernel_steps.specs.Soundness.{HerbrandRefuted};
+ghost use Rattle.kernel_steps.specs.Derivation.{positive_of, negative_of, body, ComesBy, IsRefutation, continued, AreSteps, reduced_parents};
 ghost use Rattle.kernel_steps.specs.Keys.{key_text};
-ghost use Rattle.kernel_steps.specs.Examples.{not_p, not_true, p₀, tower, with, names_only, listed, line, opposites, unrelated, general, opposites_lines, opposites_with, implication, implication_lines, rewrites, rewrites_lines, components, components_lines, four_clauses, four_clauses_lines};
+ghost use Rattle.kernel_steps.specs.Examples.{not_p, not_true, tower, with, names_only, conclusion, definition, listed, line, introduced, opposites, opposites_lines, opposites_with, reducing_lines, implication, implication_lines, rewrites, rewrites_lines, components, components_lines, four_clauses, four_clauses_lines};
 ghost use Rattle.kernel_steps.specs.declared.step.Step.TheVariants as step;
 ghost use Rattle.kernel_steps.specs.declared.key.Key.TheVariants as key;
 
@@ -26,6 +25,7 @@ pub fn name_examples()
 /// The printed names of inferences.
 pub fn key_examples()
     ensures para { key_text (key.Para 0 0 Left 1 0 Left (0 ∷ 12 ∷ [])) ≡ codes "para(0,0,left,1,0,left,[0,12])" }
+    ensures at_the_side_itself { key_text (key.Para 0 0 Left 1 0 Left []) ≡ codes "para(0,0,left,1,0,left,[])" }
     ensures refl { key_text (key.Refl 7 1) ≡ codes "refl(7,1)" }
     ensures factor { key_text (key.Factor 3 0 Left 1 Right) ≡ codes "factor(3,0,left,1,right)" }
 {}
@@ -34,14 +34,61 @@ pub fn key_examples()
 pub fn step_examples()
     ensures chain { verdict (step.Chain (0 ∷ 1 ∷ 2 ∷ []) (positive_of 0 ∷ positive_of 1 ∷ [])) (listed (names_only (positive_of 0 ∷ positive_of 1 ∷ []) ∷ names_only (negative_of 0 ∷ []) ∷ names_only (negative_of 1 ∷ []) ∷ [])) ≡ concludes empty_clause }
     ensures chain_in_other_order { verdict (step.Chain (0 ∷ 1 ∷ 2 ∷ []) (positive_of 1 ∷ positive_of 0 ∷ [])) (listed (names_only (positive_of 0 ∷ positive_of 1 ∷ []) ∷ names_only (negative_of 0 ∷ []) ∷ names_only (negative_of 1 ∷ []) ∷ [])) ≡ rule_fault }
+    ensures chain_of_one { verdict (step.Chain (0 ∷ []) []) (listed (names_only (positive_of 1 ∷ negative_of 0 ∷ []) ∷ [])) ≡ concludes (names_only (negative_of 0 ∷ positive_of 1 ∷ [])) }
+    ensures chain_of_none { verdict (step.Chain [] []) (listed (names_only [] ∷ [])) ≡ rule_fault }
     ensures chain_of_literals { verdict (step.Chain (0 ∷ []) []) (listed (clause (p a ∷ []) ∷ [])) ≡ rule_fault }
     ensures first_factored { verdict (step.Factor 0 0 Left 1 Left (a ∷ [])) (listed (clause (p (x 0) ∷ p a ∷ []) ∷ [])) ≡ concludes (clause (not_true ∷ p a ∷ [])) }
     ensures second_factored { verdict (step.Factor 0 1 Left 0 Left (a ∷ [])) (listed (clause (p (x 0) ∷ p a ∷ []) ∷ [])) ≡ concludes (clause (p a ∷ not_true ∷ [])) }
     ensures merged { verdict (step.Merge 0 1 0 (a ∷ [])) (listed (with (p (x 0) ∷ p a ∷ []) (positive_of 2 ∷ negative_of 1 ∷ []) ∷ [])) ≡ concludes (with (p a ∷ []) (negative_of 1 ∷ positive_of 2 ∷ [])) }
     ensures names_united { verdict (step.Para 0 1 0 Left 0 Left [] [] []) (listed (with (p a ∷ []) (negative_of 1 ∷ []) ∷ with (not_p a ∷ []) (negative_of 0 ∷ negative_of 1 ∷ []) ∷ [])) ≡ concludes (with (not_true ∷ []) (negative_of 0 ∷ negative_of 1 ∷ [])) }
     ensures no_such_parent { verdict (step.Para 0 1 0 Left 0 Left [] [] (a ∷ [])) (listed (clause (p a ∷ []) ∷ [])) ≡ rule_fault }
-    ensures split_in_one_part { IsFalse (is_split (p (x 0) ∷ q (x 1) ∷ []) [] []) }
-    ensures split_of_shared_variable { IsFalse (is_split (p (x 0) ∷ q (x 0) ∷ []) (record { clause = clause (p (x 0) ∷ []); introduces = true } ∷ record { clause = clause (q (x 0) ∷ []); introduces = true } ∷ []) ((0 ∷ []) ∷ (1 ∷ []) ∷ [])) }
+{}
+
+/// Splits: parts of ground literals, or of literals whose variables are apart, with the lines that define them.
+pub fn split_examples()
+    ensures two_parts { IsTrue (is_split (p (x 0) ∷ q (x 1) ∷ []) (definition (p (x 0) ∷ []) ∷ definition (q (x 0) ∷ []) ∷ []) ((0 ∷ []) ∷ (1 ∷ []) ∷ [])) }
+    ensures places_apart { IsTrue (is_split (p (x 1) ∷ q (x 0) ∷ q (x 1) ∷ []) (definition (p (x 0) ∷ q (x 0) ∷ []) ∷ definition (q (x 0) ∷ []) ∷ []) ((0 ∷ 2 ∷ []) ∷ (1 ∷ []) ∷ [])) }
+    ensures split_into_one_part { IsTrue (is_split (p (x 0) ∷ q (x 0) ∷ []) (definition (p (x 0) ∷ q (x 0) ∷ []) ∷ []) ((0 ∷ 1 ∷ []) ∷ [])) }
+    ensures split_into_no_part { IsFalse (is_split [] [] []) }
+    ensures shared_variable { IsFalse (is_split (p (x 0) ∷ q (x 0) ∷ []) (definition (p (x 0) ∷ []) ∷ definition (q (x 0) ∷ []) ∷ []) ((0 ∷ []) ∷ (1 ∷ []) ∷ [])) }
+    ensures literal_left_out { IsFalse (is_split (p a ∷ q b ∷ []) (definition (p a ∷ []) ∷ []) ((0 ∷ []) ∷ [])) }
+    ensures one_left_out_for_one_twice { IsFalse (is_split (p a ∷ q b ∷ []) (definition (p a ∷ []) ∷ definition (p a ∷ []) ∷ []) ((0 ∷ []) ∷ (0 ∷ []) ∷ [])) }
+    ensures literal_in_two_parts { IsFalse (is_split (p a ∷ q b ∷ []) (definition (p a ∷ []) ∷ definition (p a ∷ q b ∷ []) ∷ []) ((0 ∷ []) ∷ (0 ∷ 1 ∷ []) ∷ [])) }
+    ensures places_that_fall { IsFalse (is_split (p a ∷ q b ∷ []) (definition (q b ∷ p a ∷ []) ∷ []) ((1 ∷ 0 ∷ []) ∷ [])) }
+    ensures part_without_places { IsFalse (is_split (p a ∷ []) (definition (p a ∷ []) ∷ definition [] ∷ []) ((0 ∷ []) ∷ [] ∷ [])) }
+    ensures missing_definition { verdict (step.Split 0 (1 ∷ []) ((0 ∷ []) ∷ [])) (listed (clause (p a ∷ []) ∷ [])) ≡ rule_fault }
+    ensures introduces_nothing { IsFalse (is_split (p a ∷ []) (conclusion (clause (p a ∷ [])) ∷ []) ((0 ∷ []) ∷ [])) }
+    ensures other_literals { IsFalse (is_split (p a ∷ q b ∷ []) (definition (p a ∷ []) ∷ definition (q a ∷ []) ∷ []) ((0 ∷ []) ∷ (1 ∷ []) ∷ [])) }
+    ensures definitions_exchanged { IsFalse (is_split (p a ∷ q b ∷ []) (definition (q b ∷ []) ∷ definition (p a ∷ []) ∷ []) ((0 ∷ []) ∷ (1 ∷ []) ∷ [])) }
+    ensures one_definition_too_many { IsFalse (is_split (p a ∷ []) (definition (p a ∷ []) ∷ definition (q b ∷ []) ∷ []) ((0 ∷ []) ∷ [])) }
+    ensures one_definition_too_few { IsFalse (is_split (p a ∷ q b ∷ []) (definition (p a ∷ []) ∷ []) ((0 ∷ []) ∷ (1 ∷ []) ∷ [])) }
+{}
+
+/// Definitions of names, after a line that introduces the name 0 or after none.
+pub fn definition_examples()
+    ensures component_of_literals { ComesBy (step.Component 1) [] (introduced (p a ∷ [])) (with (not_p (x 0) ∷ q (x 1) ∷ []) (negative_of 1 ∷ [])) }
+    ensures introduced_twice { ComesBy (step.Component 0) [] (introduced (p a ∷ [])) (with (q a ∷ []) (negative_of 0 ∷ [])) → ⊥ }
+    ensures component_without_literals { ComesBy (step.Component 0) [] [] (with [] (negative_of 0 ∷ [])) → ⊥ }
+    ensures opposite { ComesBy (step.Opposite 0) [] (introduced (p a ∷ [])) (with (not_p a ∷ []) (positive_of 0 ∷ [])) }
+    ensures opposite_of_nothing { ComesBy (step.Opposite 0) [] [] (with (not_p a ∷ []) (positive_of 0 ∷ [])) → ⊥ }
+    ensures opposite_of_variable { ComesBy (step.Opposite 0) [] (introduced (p (x 0) ∷ [])) (with (not_p (x 0) ∷ []) (positive_of 0 ∷ [])) → ⊥ }
+    ensures opposite_of_two_literals { ComesBy (step.Opposite 0) [] (introduced (p a ∷ q b ∷ [])) (with (not_p a ∷ []) (positive_of 0 ∷ [])) → ⊥ }
+    ensures opposite_of_negative_literal { ComesBy (step.Opposite 0) [] (introduced (not_p a ∷ [])) (with (p a ∷ []) (positive_of 0 ∷ [])) → ⊥ }
+    ensures body_of_name { body (introduced (p a ∷ q b ∷ [])) 0 ≡ clause (p a ∷ q b ∷ []) }
+    ensures body_of_no_name { body (introduced (p a ∷ [])) 1 ≡ empty_clause }
+{}
+
+/// Numbers of parents where lines go on from clauses: a batch's, and those of the lines of a reduced clause.
+pub fn number_examples()
+    ensures clause_of_batch { continued (2 ^ 32) (listed opposites) implication_lines 1 ≡ Some (conclusion (clause (not_p a ∷ []))) }
+    ensures line_of_batch { continued (2 ^ 32) (listed opposites) implication_lines (2 ^ 32 + 5) ≡ Some (conclusion (clause (p a ∷ []))) }
+    ensures formula_of_batch { continued (2 ^ 32) (listed opposites) implication_lines (2 ^ 32) ≡ None }
+    ensures past_the_batch { continued (2 ^ 32) (listed opposites) implication_lines (2 ^ 32 + 11) ≡ None }
+    ensures clause_by_number { reduced_parents (listed opposites) (clause (q b ∷ [])) 1 ≡ Some (conclusion (clause (not_p a ∷ []))) }
+    ensures clause_handed_in { reduced_parents (listed opposites) (clause (q b ∷ [])) (2 ^ 32) ≡ Some (conclusion (clause (q b ∷ []))) }
+    ensures no_clause_after { reduced_parents (listed opposites) (clause (q b ∷ [])) (2 ^ 32 + 1) ≡ None }
+    ensures line_of_reduced { continued (2 ^ 32 + 1) (reduced_parents (listed opposites) (clause (not_p a ∷ []))) reducing_lines (2 ^ 32 + 1) ≡ Some (conclusion (clause (not_true ∷ []))) }
+    ensures reduced { AreSteps (2 ^ 32 + 1) (reduced_parents (listed opposites) (clause (not_p a ∷ []))) reducing_lines }
 {}
 
 /// Bindings: before the rule is asked, they are.

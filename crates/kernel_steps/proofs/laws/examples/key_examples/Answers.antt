@@ -6,6 +6,10 @@ pub returns-clause-para : goal.returns-clause-para
 unfolding digits
 returns-clause-para c = refl
 
+pub returns-clause-at_the_side_itself : goal.returns-clause-at_the_side_itself
+unfolding digits
+returns-clause-at_the_side_itself c = refl
+
 pub returns-clause-refl : goal.returns-clause-refl
 unfolding digits
 returns-clause-refl c = refl
