@@ -15,6 +15,8 @@ pub mod SoundLemmas
 pub mod RefutationLemmas
 pub mod ChangedExamples
 pub mod InferenceExamples
+pub mod SuperpositionExamples
+pub mod ReductionExamples
 pub mod SymbolLemmas
 pub mod SplitLemmas
 pub mod GroundedLemmas

@@ -11,7 +11,10 @@ pub use examples::{
     name_examples, step_examples,
 };
 pub use grounded::lines_are_grounded;
-pub use inference::{inference_examples, kind_examples, reduction_examples};
+pub use inference::{
+    inference_examples, irreducible_examples, kind_examples, reduction_examples,
+    superposition_examples,
+};
 pub use soundness::{
     derivations_are_sound, ground_forms_are_grounded, herbrand_examples, refutations_refute,
     rules_are_sound,
