@@ -173,7 +173,7 @@ rewrites_literal l m d it = record {
     is_literal = one_literal m it.literal it.j it.literal_there
 
 -- whether that is the tree
-is_tree : Option Tree → Tree → Bool
+abbrev is_tree : Option Tree → Tree → Bool
 is_tree None t = false
 is_tree (Some u) t = tree_eq u t
 
