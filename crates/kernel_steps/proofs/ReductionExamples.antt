@@ -9,7 +9,7 @@ use Rattle.fol_base.specs.Instance.{Substitution, instance}
 use Rattle.fol_base.specs.Place.{subterm}
 use Rattle.fol_base.specs.Clause.{TreeLiteral, TreeClause}
 use Rattle.fol_base.specs.Sides.{side_of, other_side_of}
-use Rattle.fol_base.specs.Rules.{disequation}
+use Rattle.fol_base.specs.Rules.{disequation, superposed}
 use Rattle.fol_base.specs.Order.{tree_greater}
 use Rattle.fol_base.specs.Examples.{x, a, b, c, f, p, r, equation, clause, is_predicate, all_a}
 use Rattle.fol_base.specs.declared.clause.Side.{Side}
@@ -19,9 +19,13 @@ use Rattle.kernel_steps.specs.Inference.{AllowsRoot, RewritesBy, Reduces, IsIrre
 
 -- ---- steps
 
--- f(b) != c by a = b
-pub rewritten : Reduces is_predicate (λ d. d ≡ clause (equation a b ∷ [])) (clause (disequation (f b) c ∷ [])) (clause (disequation (f a) c ∷ []))
-rewritten =
+-- a b of the left side, by a = b
+by_a :
+    (m : TreeLiteral) (place : List ℕ) (made : TreeLiteral)
+    → subterm place m.left ≡ Some b → AllowsRoot m Left place a
+    → superposed (equation a b ∷ []) 0 Right (m ∷ []) 0 Left place ≡ Some (made ∷ [])
+    → Reduces is_predicate (λ d. d ≡ clause (equation a b ∷ [])) (clause (m ∷ [])) (clause (made ∷ []))
+by_a m place made there allowed gives =
     inr
     (inr
     (inl
@@ -34,58 +38,32 @@ rewritten =
             is_unit = refl;
             from_side = Right;
             j = 0;
-            literal = disequation (f b) c;
+            literal = m;
             literal_there = refl;
             into_side = Left;
-            place = 0 ∷ [];
+            place = place;
             old = b;
-            old_there = refl;
+            old_there = there;
             one_kind = refl;
             matcher = all_a;
             function_terms = λ v. refl;
             matches = refl;
             greater = refl;
             no_new_variables = All-nil _;
-            root_allowed = λ positive root. absurd (true≢false (sym positive));
+            root_allowed = allowed;
             asserted = refl;
-            gives = refl;
+            gives = gives;
             names = refl;
           };
     })))
 
--- the root of b in b = c by a = b
+-- in f(b) != c
+pub rewritten : Reduces is_predicate (λ d. d ≡ clause (equation a b ∷ [])) (clause (disequation (f b) c ∷ [])) (clause (disequation (f a) c ∷ []))
+rewritten = by_a (disequation (f b) c) (0 ∷ []) (disequation (f a) c) refl (λ positive root. absurd (true≢false (sym positive))) refl
+
+-- the left side of b = c
 pub rewritten_root : Reduces is_predicate (λ d. d ≡ clause (equation a b ∷ [])) (clause (equation b c ∷ [])) (clause (equation a c ∷ []))
-rewritten_root =
-    inr
-    (inr
-    (inl
-    (record {
-      clause = clause (equation a b ∷ []);
-      holds = refl;
-      does =
-          record {
-            equation = equation a b;
-            is_unit = refl;
-            from_side = Right;
-            j = 0;
-            literal = equation b c;
-            literal_there = refl;
-            into_side = Left;
-            place = [];
-            old = b;
-            old_there = refl;
-            one_kind = refl;
-            matcher = all_a;
-            function_terms = λ v. refl;
-            matches = refl;
-            greater = refl;
-            no_new_variables = All-nil _;
-            root_allowed = λ positive root. refl;
-            asserted = refl;
-            gives = refl;
-            names = refl;
-          };
-    })))
+rewritten_root = by_a (equation b c) [] (equation a c) refl (λ positive root. refl) refl
 
 -- p(a) | r by ~p(X0)
 pub cut : Reduces is_predicate (λ d. d ≡ clause (not_p (x 0) ∷ [])) (clause (p a ∷ r ∷ [])) (clause (r ∷ []))

@@ -163,8 +163,8 @@ pub record SomeClause (Holds : TreeClause → Type 0) (Does : TreeClause → Typ
   pub holds : Holds clause
   pub does : Does clause
 
--- A reducing step leads from c to d, by a unit that satisfies the predicate or by none. The predicate is to leave out the clause itself, but
--- not an equal clause.
+-- A reducing step leads from c to d, by a unit that satisfies the predicate or by none. The predicate is to leave out the clause
+-- itself, not an equal one.
 abbrev pub Reduces : (ℕ → Bool) → (TreeClause → Type 0) → TreeClause → TreeClause → Type 0
 Reduces is_predicate Holds c d =
     DropsTrivial c d

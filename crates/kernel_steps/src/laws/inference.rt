@@ -21,7 +21,7 @@ pub fn superposition_examples()
     ensures equal_other_sides { (d : TreeClause) → NamedSuperposition is_predicate select_negative (clause (equation b a ∷ [])) 0 Left (clause (equation b a ∷ [])) 0 Left [] d → ⊥ }
     ensures smaller_side { (d : TreeClause) → NamedSuperposition is_predicate select_negative (clause (equation a b ∷ [])) 0 Left (clause (p a ∷ [])) 0 Left (0 ∷ []) d → ⊥ }
     ensures place_of_variable { (d : TreeClause) → NamedSuperposition is_predicate select_negative (clause (equation b a ∷ [])) 0 Left (clause (p (x 0) ∷ [])) 0 Left (0 ∷ []) d → ⊥ }
-    ensures another_chosen { (d : TreeClause) → NamedSuperposition is_predicate select_negative (clause (equation b a ∷ not_p a ∷ [])) 0 Left (clause (p b ∷ [])) 0 Left (0 ∷ []) d → ⊥ }
+    ensures another_chosen { (d : TreeClause) → NamedSuperposition is_predicate select_negative (clause (equation (f a) b ∷ disequation b a ∷ [])) 0 Left (clause (p (f a) ∷ [])) 0 Left (0 ∷ []) d → ⊥ }
     ensures from_twice { (d : TreeClause) → NamedSuperposition is_predicate select_negative (clause (equation b a ∷ equation b a ∷ [])) 0 Left (clause (p b ∷ [])) 0 Left (0 ∷ []) d → ⊥ }
     ensures into_twice { (d : TreeClause) → NamedSuperposition is_predicate select_negative (clause (equation b a ∷ [])) 0 Left (clause (p b ∷ p b ∷ [])) 0 Left (0 ∷ []) d → ⊥ }
 {}
