@@ -17,6 +17,8 @@ pub mod RefutationLemmas
 pub mod ChangedExamples
 pub mod NameExamples
 pub mod InferenceExamples
+pub mod SuperpositionExamples
+pub mod ReductionExamples
 pub mod SymbolLemmas
 pub mod SplitLemmas
 pub mod GroundedLemmas

@@ -133,7 +133,7 @@ pub record RewritesBy (is_predicate : ℕ → Bool) (unit : TreeClause) (c : Tre
   pub matcher : Substitution
   pub function_terms : PutsFunctionTerms is_predicate matcher
   pub matches : IsMatcher (side_of from_side equation) old matcher
-  pub falls : IsTrue (tree_greater old (instance matcher (other_side_of from_side equation)))
+  pub greater : IsTrue (tree_greater old (instance matcher (other_side_of from_side equation)))
   pub no_new_variables :
       All (λ v. IsTrue (list_any (λ w. v == w) (tree_variables (side_of from_side equation)))) (tree_variables (other_side_of from_side equation))
   pub root_allowed : AllowsRoot literal into_side place (instance matcher (other_side_of from_side equation))
@@ -163,7 +163,8 @@ pub record SomeClause (Holds : TreeClause → Type 0) (Does : TreeClause → Typ
   pub holds : Holds clause
   pub does : Does clause
 
--- A reducing step leads from c to d, by a unit that satisfies the predicate or by none. A clause isn't among those that reduce it.
+-- A reducing step leads from c to d, by a unit that satisfies the predicate or by none. The predicate is to leave out the clause
+-- itself, not an equal one.
 abbrev pub Reduces : (ℕ → Bool) → (TreeClause → Type 0) → TreeClause → TreeClause → Type 0
 Reduces is_predicate Holds c d =
     DropsTrivial c d

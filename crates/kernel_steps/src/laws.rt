@@ -13,7 +13,10 @@ pub use examples::{
     key_examples, name_examples, number_examples, split_examples, step_examples,
 };
 pub use grounded::lines_are_grounded;
-pub use inference::{inference_examples, kind_examples, reduction_examples};
+pub use inference::{
+    inference_examples, irreducible_examples, kind_examples, reduction_examples,
+    superposition_examples,
+};
 pub use named::named_inference_examples;
 pub use names::names_are_sorted;
 pub use soundness::{

@@ -1,8 +1,5 @@
-use Rattle.kernel_steps.proofs.InferenceExamples.{superposition, resolution, first_factored, second_factored}
+use Rattle.kernel_steps.proofs.InferenceExamples.{resolution, first_factored, second_factored}
 use Rattle.kernel_steps.proofs.laws.inference.inference_examples.Goals as goal
-
-pub returns-clause-superposition : goal.returns-clause-superposition
-returns-clause-superposition c = superposition
 
 pub returns-clause-resolution : goal.returns-clause-resolution
 returns-clause-resolution c = resolution

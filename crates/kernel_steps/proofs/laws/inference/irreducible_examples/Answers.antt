@@ -1,0 +1,5 @@
+use Rattle.kernel_steps.proofs.ReductionExamples.{subsumed}
+use Rattle.kernel_steps.proofs.laws.inference.irreducible_examples.Goals as goal
+
+pub returns-clause-subsumed : goal.returns-clause-subsumed
+returns-clause-subsumed c = subsumed
