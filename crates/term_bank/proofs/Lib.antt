@@ -1,3 +1,2 @@
-pub mod BankLemmas
-pub mod GrowthLemmas
+pub mod LookupLemmas
 pub mod InterningLemmas

@@ -1,4 +1,6 @@
-pub mod Key
+pub mod Hash
+pub mod Reference
+pub mod Chain
 pub mod Bank
 pub mod Literal
 pub mod Interning

@@ -1,8 +1,8 @@
 use Rattle.std.proofs.Common.{◌≡◌, ◌+◌, ◌*◌, map, drop}
 use Rattle.fol_base.specs.Tree.{tree_size, trees_size, trees_of}
 use Rattle.fol_base.specs.Term.{tree_of}
-use Rattle.term_bank.specs.Key.{trees_hash}
-use Rattle.term_bank.proofs.key.+hash.Given as goal
+use Rattle.term_bank.specs.Hash.{trees_hash}
+use Rattle.term_bank.proofs.hash.+hash.Given as goal
 
 abbrev pub decreases-term_hash : goal.decreases-term_hash
 decreases-term_hash l = 2 * tree_size (tree_of l.term.now)
