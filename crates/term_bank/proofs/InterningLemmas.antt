@@ -12,7 +12,7 @@ use Rattle.term_bank.specs.Bank.{entries}
 use Rattle.term_bank.proofs.LookupLemmas.{lookup-more}
 use Rattle.term_bank.specs.Laws.{InternsOne, InternsOnward, LearnsOnlyThese, InternedAgain, KeepsAllNumbers, NumbersThese, InternsAfterFirst}
 use Rattle.term_bank.specs.Interning.{first_seen, trees_in, InternsAll}
-use Rattle.term_bank.specs.declared.bank.Table.{Table}
+use Rattle.term_bank.specs.declared.table.Table.{Table}
 
 -- ---- the trees that are seen first
 

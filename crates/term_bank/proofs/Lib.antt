@@ -1,2 +1,4 @@
 pub mod LookupLemmas
+pub mod ChainLemmas
+pub mod TableLemmas
 pub mod InterningLemmas

@@ -17,4 +17,4 @@ newest_below h es (suc n) = if nat_eq (hash_at es n) h then suc n else newest_be
 -- Each entry leads to the one before it of the same hash, and the heads lead to the newest of each hash.
 pub record IsChained (es : List (Tree × ℕ)) (older : List ℕ) (heads : List (ℕ × ℕ)) : Type 0 where
   pub links : (i : ℕ) → i < length es → get_or older i 0 ≡ newest_below (hash_at es i) es i
-  pub heads : (h : ℕ) → unwrap_or (lookup (nat_eq h) heads) 0 ≡ newest_below h es (length es)
+  pub newest : (h : ℕ) → unwrap_or (lookup (nat_eq h) heads) 0 ≡ newest_below h es (length es)

@@ -1,12 +1,13 @@
 // The table of a bank: which trees were interned through it, and with which references.
 
-ghost use Rattle.std.specs.Prelude.{◌≡◌, ◌<◌, ◌+◌, [], ◌∷◌, ◌++◌, length, get_or, map, nat_eq, cond, Some, IfSome, OnOk, vec_len, vec_capacity};
+ghost use Rattle.std.specs.Prelude.{◌≡◌, ℕ, ◌<◌, ◌+◌, [], ◌∷◌, ◌++◌, length, get_or, map, nat_eq, cond, Some, IfSome, OnOk, vec_len, vec_capacity};
 ghost use Rattle.std.specs.Option.{option_map, unwrap_or};
 ghost use Rattle.indexmap.specs.IndexMap.{get, spare};
 ghost use Rattle.fol_base.specs.Tree.{variable};
 ghost use Rattle.fol_base.specs.Term.{tree_of};
 ghost use Rattle.term_bank.specs.Hash.{tree_hash};
-ghost use Rattle.term_bank.specs.Bank.{number, tree_at, entries, entry_of, number_in, IsOf, IsTableOf};
+ghost use Rattle.term_bank.specs.Bank.{number, tree_at, number_in, IsOf, IsTableOf};
+ghost use Rattle.term_bank.specs.declared.table.Entry.{Entry};
 
 use crate::bank::Bank;
 use crate::hash::term_hash;
@@ -54,13 +55,21 @@ impl Table {
     {
         let mut next = self.newest_of(hash);
         while next > 0 {
-            let entry = &self.entries[next - 1];
-            if same_term(bank.tree(&entry.reference), term) {
+            let entry = self.entry(next - 1);
+            if same_term(term, bank.tree(&entry.reference)) {
                 return Some(&entry.reference);
             }
             next = entry.older;
         }
         None
+    }
+
+    /// The entry at a place.
+    fn entry(&self, place: usize) -> &Entry
+        requires { place < length self.now.entries.items }
+        ensures { (d : Entry) → result.now ≡ get_or self.now.entries.items place d }
+    {
+        &self.entries[place]
     }
 
     /// One more than the place of the newest entry of a hash, or 0.
