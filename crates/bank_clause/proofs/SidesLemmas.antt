@@ -35,7 +35,12 @@ known-kept trees known learned r t all tree has =
 -- and so do those of literals
 pub known-literals-kept : KeepsKnownLiterals
 known-literals-kept trees known learned ls all has k d below =
-    (known-kept trees known learned _ _ all refl (has k d below).0, known-kept trees known learned _ _ all refl (has k d below).1)
+    let l : BankLit = get_or ls k d in
+    let left : number_in learned (tree_at l.left) ≡ Some (number l.left) =
+    known-kept trees known learned l.left (tree_at l.left) all refl (has k d below).0 in
+    let right : number_in learned (tree_at l.right) ≡ Some (number l.right) =
+    known-kept trees known learned l.right (tree_at l.right) all refl (has k d below).1 in
+    (left, right)
 
 -- one more literal, after its sides are interned
 pub literals-push :

@@ -41,9 +41,11 @@ pub struct BankClause {
 }
 
 impl Model for BankClause {
-    ghost use Rattle.bank_clause.specs.Parts.{ClauseParts};
+    ghost use Rattle.bank_clause.specs.Parts.{ClauseParts, clause_parts_code};
 
     ghost Value = { ClauseParts };
+
+    ghost coded = { clause_parts_code };
 
     ghost view = { λ c. record { literals = c.literals.items; names = c.names.items; size = c.symbols; variables = c.variables } };
 
