@@ -1,6 +1,6 @@
 -- The words by which callers speak of a bank, its references and its tables. Nothing says what a whole bank holds,
 -- since other threads may add to it.
-use Rattle.std.specs.Prelude.{◌≡◌, ℕ, suc, List, [], ◌∷◌, ◌++◌, map, Option, None, is_some, if◌then◌else◌, ⊤}
+use Rattle.std.specs.Prelude.{◌≡◌, ℕ, suc, nat_eq, Bool, List, [], ◌∷◌, ◌++◌, map, Option, None, is_some, if◌then◌else◌, ⊤}
 use Rattle.std.specs.List.{All}
 use Rattle.std.specs.Map.{lookup}
 use Rattle.fol_base.specs.Tree.{Tree, variable, tree_eq}
@@ -29,6 +29,10 @@ tree_at r = r.tree
 -- the reference is of the bank
 abbrev pub IsOf : Bank → TermRef → Type 0
 IsOf bank r = r.bank ≡ suc (identity bank)
+
+-- the references have the same number
+abbrev pub same_number : TermRef → TermRef → Bool
+same_number r s = nat_eq (number r) (number s)
 
 -- all references of a list are of the bank
 abbrev pub AreOf : Bank → List TermRef → Type 0

@@ -3,5 +3,6 @@ pub mod Reference
 pub mod Chain
 pub mod Bank
 pub mod Literal
+pub mod Equality
 pub mod Interning
 pub mod Laws

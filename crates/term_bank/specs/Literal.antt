@@ -1,8 +1,9 @@
 -- Literals in a bank, and the literals over trees for which they stand.
-use Rattle.std.specs.Prelude.{◌≡◌, false, List, map}
+use Rattle.std.specs.Prelude.{◌≡◌, false, Bool, beq, List, map}
+use Rattle.std.specs.Ordering.{on, eq_of_both}
 use Rattle.std.specs.List.{All}
 use Rattle.fol_base.specs.Clause.{TreeLiteral}
-use Rattle.term_bank.specs.Bank.{tree_at, IsOf, IsDefault}
+use Rattle.term_bank.specs.Bank.{tree_at, same_number, IsOf, IsDefault}
 use Rattle.term_bank.specs.declared.bank.Bank.{Bank}
 use Rattle.term_bank.specs.declared.literal.BankLit.{BankLit}
 
@@ -20,6 +21,10 @@ literal_at l = record { positive = l.positive; left = tree_at l.left; right = tr
 
 abbrev pub literals_at : List BankLit → List TreeLiteral
 literals_at ls = map literal_at ls
+
+-- the literals have the same sign, and the same numbers on both sides
+abbrev pub same_numbers : BankLit → BankLit → Bool
+same_numbers = eq_of_both (on (λ l. l.positive) beq) (eq_of_both (on (λ l. l.left) same_number) (on (λ l. l.right) same_number))
 
 -- the literal that fills places which aren't used yet: its sides are of no bank
 abbrev pub IsDefaultLiteral : BankLit → Type 0

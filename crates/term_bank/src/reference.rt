@@ -1,10 +1,13 @@
 // References to the terms of a bank.
 
 ghost use Rattle.std.specs.Prelude.{◌≡◌};
-ghost use Rattle.term_bank.specs.Bank.{number, IsDefault};
+ghost use Rattle.std.specs.Cmp.{partial_equiv_from_equiv};
+ghost use Rattle.term_bank.specs.Bank.{number, same_number, IsDefault};
+ghost use Rattle.term_bank.specs.Equality.{reference_input, same_number_equiv, references_alike};
 
 use crate::rows::Shown;
 use std::default::Default;
+use std::hash::{Hash, Hasher};
 use std::marker::Model;
 
 /// A reference to a term of a bank. It stands for one tree for good, in every thread.
@@ -66,6 +69,30 @@ fn shown_again(shown: &Option<Shown>) -> Option<Shown>
     match shown {
         Some(shown) => Some(shown.again()),
         None => None,
+    }
+}
+
+impl PartialEq for TermRef {
+    ghost eq = { same_number };
+
+    ghost laws = { partial_equiv_from_equiv same_number_equiv };
+
+    fn eq(&self, other: &TermRef) -> bool {
+        self.number() == other.number()
+    }
+}
+
+impl Eq for TermRef {
+    ghost laws = { same_number_equiv };
+}
+
+impl Hash for TermRef {
+    ghost hash_input = { reference_input };
+
+    ghost respects_eq = { references_alike.fed };
+
+    fn hash<H: Hasher>(&self, state: &mut H) {
+        state.write_u64(self.number());
     }
 }
 
