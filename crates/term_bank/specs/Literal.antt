@@ -1,5 +1,6 @@
 -- Literals in a bank, and the literals over trees for which they stand.
-use Rattle.std.specs.Prelude.{◌≡◌, false, Bool, beq, List, map}
+use Rattle.std.specs.Prelude.{◌≡◌, false, Bool, List, map}
+use Rattle.std.specs.Bool.{beq}
 use Rattle.std.specs.Ordering.{on, eq_of_both}
 use Rattle.std.specs.List.{All}
 use Rattle.fol_base.specs.Clause.{TreeLiteral}

@@ -89,17 +89,33 @@ const TERMS: u64 = 1_000;
 
 const ROUNDS: u32 = 10;
 
+/// Whether terms have the same numbers in each round.
+fn numbers_stay<R: Wait>(
+    rt: &R,
+    alloc: Global,
+    bank: &Bank,
+    table: &mut Table,
+    terms: &[Term],
+) -> Mem<bool>
+    requires { IsTableOf bank.now table.old }
+{
+    let numbers = interned_numbers(rt, alloc, bank, table, terms)?;
+    for _ in 1..ROUNDS {
+        let again = interned_numbers(rt, alloc, bank, table, terms)?;
+        if numbers.as_slice() != again.as_slice() {
+            return Ok(false);
+        }
+    }
+    Ok(true)
+}
+
 /// A term keeps the number of its first round. The benchmark is this test with `TERMS` changed.
 #[test]
 fn random_terms_keep_their_numbers(rt: HostRuntime) -> Result<(), Fail> {
     let alloc = rt.alloc();
     let terms = random_terms(alloc, &mut Random::new(1), TERMS)?;
     let (bank, mut table) = Bank::new(alloc)?;
-    let numbers = interned_numbers(&rt, alloc, &bank, &mut table, terms.as_slice())?;
-    for _ in 1..ROUNDS {
-        let again = interned_numbers(&rt, alloc, &bank, &mut table, terms.as_slice())?;
-        assert!(rt; numbers.as_slice() == again.as_slice());
-    }
+    assert!(rt; numbers_stay(&rt, alloc, &bank, &mut table, terms.as_slice())?);
     Ok(())
 }
 
@@ -170,6 +186,23 @@ fn reads_its_own(bank: &Bank, references: &[TermRef], terms: &[Term]) -> bool
     true
 }
 
+/// Whether two threads each read their terms.
+fn two_read<R: Threads + Wait + Sync>(
+    rt: &R,
+    bank: &Bank,
+    references: &[TermRef],
+    terms: &[Term],
+) -> bool
+    requires { AreOf bank.now references.now }
+{
+    let (one, other) = thread::join(
+        rt,
+        || reads_its_own(bank, references, terms),
+        || reads_its_own(bank, references, terms),
+    );
+    one && other
+}
+
 /// Two threads read the terms that were taken in, while a third interns others: whether each saw its own.
 fn read_while_interning<R: Threads + Wait + Sync>(
     rt: &R,
@@ -186,14 +219,7 @@ fn read_while_interning<R: Threads + Wait + Sync>(
     let (interned, read) = thread::join(
         rt,
         || interns_its_own(rt, alloc, bank, table, others),
-        || {
-            let (one, other) = thread::join(
-                rt,
-                || reads_its_own(bank, references, terms),
-                || reads_its_own(bank, references, terms),
-            );
-            one && other
-        },
+        || requires { AreOf bank.now references.now } { two_read(rt, bank, references, terms) },
     );
     Ok(interned? && read)
 }
