@@ -8,6 +8,7 @@ use fol_base::{Side, Term, Terms, same_term};
 use plain_types::Mem;
 use sample_terms::{binary, constant};
 use std::alloc::Global;
+use std::sync::Wait;
 use std::test::Fail;
 use term_bank::Bank;
 
@@ -38,8 +39,8 @@ fn shared_bindings_do_not_blow_up(rt: HostRuntime) -> Result<(), Fail> {
     let left = family(alloc, 200, false)?;
     let right = family(alloc, 200, true)?;
     assert!(rt; unify(alloc, &left, &right, true)?.is_some());
-    let (mut bank, mut table) = Bank::new(alloc)?;
-    let reference = bank.intern(&mut table, &Term::Var(0))?;
+    let (bank, mut table) = Bank::new(alloc)?;
+    let reference = bank.intern(&rt, alloc, &mut table, &Term::Var(0))?;
     if let Some(found) = unify(alloc, &left, &right, false)? {
         assert_eq!(rt;
             size_of_equation(&found, &bank, Side::Left, (&reference, &reference))?,
@@ -95,7 +96,7 @@ fn classical(alloc: Global, depth: u32) -> Mem<(Terms, Terms)>
 
 /// The size of the equation of the last X and a after the unifier of the classical family. None where there
 /// is none, or the sides taken apart don't unify.
-fn classical_size(alloc: Global, depth: u32) -> Mem<Option<u64>>
+fn classical_size<R: Wait>(rt: &R, alloc: Global, depth: u32) -> Mem<Option<u64>>
     requires { depth ≤ 1000 }
 {
     let (left, right) = classical(alloc, depth)?;
@@ -104,9 +105,9 @@ fn classical_size(alloc: Global, depth: u32) -> Mem<Option<u64>>
     if unify(alloc, &left, &right, true)?.is_none() {
         return Ok(None);
     }
-    let (mut bank, mut table) = Bank::new(alloc)?;
-    let last = bank.intern(&mut table, &Term::Var(depth))?;
-    let a = bank.intern(&mut table, &constant(alloc, A))?;
+    let (bank, mut table) = Bank::new(alloc)?;
+    let last = bank.intern(rt, alloc, &mut table, &Term::Var(depth))?;
+    let a = bank.intern(rt, alloc, &mut table, &constant(alloc, A))?;
     match unify(alloc, &left, &right, false)? {
         Some(found) => Ok(Some(size_of_equation(&found, &bank, Side::Right, (&last, &a))?)),
         None => Ok(None),
@@ -116,12 +117,12 @@ fn classical_size(alloc: Global, depth: u32) -> Mem<Option<u64>>
 #[test]
 fn the_classical_family_does_not_blow_up(rt: HostRuntime) -> Result<(), Fail> {
     let alloc = rt.alloc();
-    assert_eq!(rt; classical_size(alloc, 1)?, Some(4));
-    assert_eq!(rt; classical_size(alloc, 10)?, Some(2_048));
-    assert_eq!(rt; classical_size(alloc, 60)?, Some(2_305_843_009_213_693_952));
-    assert_eq!(rt; classical_size(alloc, 62)?, Some(9_223_372_036_854_775_808));
-    assert_eq!(rt; classical_size(alloc, 63)?, Some(u64::MAX));
-    assert_eq!(rt; classical_size(alloc, 500)?, Some(u64::MAX));
+    assert_eq!(rt; classical_size(&rt, alloc, 1)?, Some(4));
+    assert_eq!(rt; classical_size(&rt, alloc, 10)?, Some(2_048));
+    assert_eq!(rt; classical_size(&rt, alloc, 60)?, Some(2_305_843_009_213_693_952));
+    assert_eq!(rt; classical_size(&rt, alloc, 62)?, Some(9_223_372_036_854_775_808));
+    assert_eq!(rt; classical_size(&rt, alloc, 63)?, Some(u64::MAX));
+    assert_eq!(rt; classical_size(&rt, alloc, 500)?, Some(u64::MAX));
     Ok(())
 }
 

@@ -219,9 +219,9 @@ fn the_size_of_an_instance(rt: HostRuntime) -> Result<(), Fail> {
     let alloc = rt.alloc();
     let left = binary(alloc, F, Term::Var(0), constant(alloc, B))?;
     let right = binary(alloc, F, constant(alloc, A), Term::Var(0))?;
-    let (mut bank, mut table) = Bank::new(alloc)?;
-    let term = bank.intern(&mut table, &left)?;
-    let b = bank.intern(&mut table, &constant(alloc, B))?;
+    let (bank, mut table) = Bank::new(alloc)?;
+    let term = bank.intern(&rt, alloc, &mut table, &left)?;
+    let b = bank.intern(&rt, alloc, &mut table, &constant(alloc, B))?;
     if let Some(found) = unify(alloc, &left, &right, true)? {
         assert_eq!(rt;
             size_of_equation(&found, &bank, Side::Left, (&term, &b))?,
