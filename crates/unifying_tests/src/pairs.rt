@@ -2,13 +2,13 @@
 // (benchmarks/unifying). Of ten pairs five have different constants at one place, and one has a variable
 // that would contain itself.
 
-use super::*;
 use fol_base::Term;
 use plain_types::Mem;
 use sample_numbers::Random;
 use sample_terms::{binary, constant, unary};
 use std::alloc::Global;
 use std::test::Fail;
+use unifier::unify;
 
 const A: u32 = 1;
 

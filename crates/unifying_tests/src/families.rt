@@ -2,8 +2,7 @@
 
 ghost use Rattle.std.specs.Prelude.{◌≤◌};
 
-use super::tests::size_of_equation;
-use super::*;
+use super::rows::size_of_equation;
 use fol_base::{Side, Term, Terms, same_term};
 use plain_types::Mem;
 use sample_terms::{binary, constant};
@@ -11,6 +10,7 @@ use std::alloc::Global;
 use std::sync::Wait;
 use std::test::Fail;
 use term_bank::Bank;
+use unifier::unify;
 
 const A: u32 = 1;
 

@@ -4,7 +4,7 @@ use Rattle.fol_base.specs.Term.{tree_of}
 use Rattle.fol_base.proofs.VariableLemmas.{VariablesBelow-bound}
 use Rattle.unifier.specs.declared.bindings.Bindings.{Bindings}
 use Rattle.unifier.specs.Renaming.{fits}
-use Rattle.unifier.proofs.tests.unified_by_one.Goals as goal
+use Rattle.unifying_tests.proofs.rows.unified_by_one.Goals as goal
 
 pub substs-requires-clause-fits : goal.substs-requires-clause-fits
 substs-requires-clause-fits c =

@@ -4,7 +4,7 @@ use Rattle.fol_base.specs.Term.{tree_of}
 use Rattle.fol_base.proofs.VariableLemmas.{VariablesBelow-bound}
 use Rattle.unifier.specs.declared.matched.Matched.{Matched}
 use Rattle.unifier.specs.Matching.{are_below}
-use Rattle.unifier.proofs.tests.matched_terms.Goals as goal
+use Rattle.unifying_tests.proofs.rows.matched_terms.Goals as goal
 
 pub subst-requires : goal.subst-requires
 subst-requires c =

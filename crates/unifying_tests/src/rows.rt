@@ -3,13 +3,13 @@
 ghost use Rattle.std.specs.Prelude.{◌≤◌, ◌^◌};
 ghost use Rattle.term_bank.specs.Bank.{IsOf};
 
-use super::*;
 use fol_base::{SIZE_LIMIT, Side, Subst, Term, Terms, same_term};
 use plain_types::Mem;
 use sample_terms::{binary, constant, unary};
 use std::alloc::Global;
 use std::test::Fail;
 use term_bank::{Bank, BankLit, TermRef};
+use unifier::{Bindings, Matched, match_onto, unify};
 
 const A: u32 = 1;
 
