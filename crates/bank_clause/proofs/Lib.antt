@@ -1,4 +1,3 @@
 pub mod SidesLemmas
-pub mod GrowthLemmas
 pub mod ClauseLemmas
 pub mod ExampleLemmas

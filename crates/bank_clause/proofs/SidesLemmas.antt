@@ -10,54 +10,50 @@ use Rattle.fol_base.specs.Clause.{TreeLiteral}
 use Rattle.fol_base.specs.Literal.{literal_of}
 use Rattle.fol_base.specs.declared.clause.Literal.{Literal}
 use Rattle.fol_base.proofs.ListLemmas.{map-take_more_item}
-use Rattle.term_bank.specs.Bank.{number, tree_in, entries, number_in, IsOf, Grows}
+use Rattle.term_bank.specs.Bank.{number, tree_at, entries, number_in}
 use Rattle.term_bank.specs.Interning.{InternsAll, InternsFirst}
-use Rattle.term_bank.specs.Literal.{IsLiteralOf, AreLiteralsOf, literal_in, literals_in}
-use Rattle.term_bank.proofs.BankLemmas.{lookup-more}
-use Rattle.term_bank.proofs.GrowthLemmas.{keeps_references, keeps_literals}
-use Rattle.term_bank.proofs.InterningLemmas.{interns_onward, interns_and_grows}
+use Rattle.term_bank.specs.Literal.{IsLiteralOf, AreLiteralsOf, literal_at, literals_at}
+use Rattle.term_bank.proofs.LookupLemmas.{lookup-more}
+use Rattle.term_bank.proofs.InterningLemmas.{interns_onward}
 use Rattle.term_bank.specs.declared.literal.BankLit.{BankLit}
 use Rattle.term_bank.specs.declared.reference.TermRef.{TermRef}
 use Rattle.term_bank.specs.declared.bank.Bank.{Bank}
-use Rattle.term_bank.specs.declared.bank.Table.{Table}
+use Rattle.term_bank.specs.declared.table.Table.{Table}
 use Rattle.bank_clause.specs.Clause.{IsKnown, literal_sides, sides}
+use Rattle.bank_clause.specs.Laws.{KeepsKnownLiterals}
 
 -- ---- nothing is forgotten
 
 -- a reference with the table's number keeps it when further trees are interned
 pub known-kept :
-    (trees : List Tree) (known learned : Table) (old new : Bank) (r : TermRef) (t : Tree)
-    → InternsAll trees known learned old new → IsOf old r
-    → tree_in old r ≡ t → number_in known t ≡ Some (number r) → number_in learned (tree_in new r) ≡ Some (number r)
-known-kept trees known learned old new r t all is_of tree has =
-    let grown : Grows old new = interns_and_grows trees known learned old new all in
-    let same : tree_in new r ≡ t = (keeps_references old new r grown is_of).1 ∙ tree in
-    (λ j. lookup (tree_eq (same j)) (all.table j)) ∙ lookup-more (tree_eq t) (entries known) all.more (number r) has
+    (trees : List Tree) (known learned : Table) (r : TermRef) (t : Tree)
+    → InternsAll trees known learned → tree_at r ≡ t → number_in known t ≡ Some (number r)
+    → number_in learned (tree_at r) ≡ Some (number r)
+known-kept trees known learned r t all tree has =
+    (λ j. lookup (tree_eq (tree j)) (all.table j)) ∙ lookup-more (tree_eq t) (entries known) all.more (number r) has
 
 -- and so do those of literals
-pub known-literals-kept :
-    (trees : List Tree) (known learned : Table) (old new : Bank) (ls : List BankLit)
-    → InternsAll trees known learned old new → AreLiteralsOf old ls
-    → All (IsKnown old known) ls → All (IsKnown new learned) ls
-known-literals-kept trees known learned old new ls all are_of has k d below = (
-  known-kept trees known learned old new _ _ all (are_of k d below).0 refl (has k d below).0,
-  known-kept trees known learned old new _ _ all (are_of k d below).1 refl (has k d below).1,
-)
+pub known-literals-kept : KeepsKnownLiterals
+known-literals-kept trees known learned ls all has k d below =
+    let l : BankLit = get_or ls k d in
+    let left : number_in learned (tree_at l.left) ≡ Some (number l.left) =
+    known-kept trees known learned l.left (tree_at l.left) all refl (has k d below).0 in
+    let right : number_in learned (tree_at l.right) ≡ Some (number l.right) =
+    known-kept trees known learned l.right (tree_at l.right) all refl (has k d below).1 in
+    (left, right)
 
 -- one more literal, after its sides are interned
 pub literals-push :
-    (trees : List Tree) (known learned : Table) (old new : Bank) (ls : List BankLit) (l : BankLit) (made : List TreeLiteral) (t : TreeLiteral)
-    → InternsAll trees known learned old new
-    → AreLiteralsOf old ls → literals_in old ls ≡ made → All (IsKnown old known) ls
-    → IsLiteralOf new l → literal_in new l ≡ t → IsKnown new learned l
-    → AreLiteralsOf new (ls ++ l ∷ []) × (literals_in new (ls ++ l ∷ []) ≡ made ++ t ∷ []) × All (IsKnown new learned) (ls ++ l ∷ [])
-literals-push trees known learned old new ls l made t all are_of same has is_of stands is_known =
-    let kept : AreLiteralsOf new ls × (literals_in new ls ≡ literals_in old ls) =
-    keeps_literals old new ls (interns_and_grows trees known learned old new all) are_of in (
-      All-push (IsLiteralOf new) ls l kept.0 is_of,
-      map-append (literal_in new) ls (l ∷ []) ∙ (λ j. (kept.1 ∙ same) j ++ stands j ∷ []),
-      All-push (IsKnown new learned) ls l (known-literals-kept trees known learned old new ls all are_of has) is_known,
-    )
+    (trees : List Tree) (known learned : Table) (bank : Bank) (ls : List BankLit) (l : BankLit) (made : List TreeLiteral) (t : TreeLiteral)
+    → InternsAll trees known learned
+    → AreLiteralsOf bank ls → literals_at ls ≡ made → All (IsKnown known) ls
+    → IsLiteralOf bank l → literal_at l ≡ t → IsKnown learned l
+    → AreLiteralsOf bank (ls ++ l ∷ []) × (literals_at (ls ++ l ∷ []) ≡ made ++ t ∷ []) × All (IsKnown learned) (ls ++ l ∷ [])
+literals-push trees known learned bank ls l made t all are_of same has is_of stands is_known = (
+  All-push (IsLiteralOf bank) ls l are_of is_of,
+  map-append literal_at ls (l ∷ []) ∙ (λ j. same j ++ stands j ∷ []),
+  All-push (IsKnown learned) ls l (known-literals-kept trees known learned ls all has) is_known,
+)
 
 -- ---- the sides of the first literals, and of all
 
@@ -79,8 +75,8 @@ sides-split (x ∷ xs) (suc i) l below is =
 
 -- all of the trees are some first ones of them
 pub interned-whole :
-    (trees : List Tree) (known learned : Table) (old new : Bank) → InternsAll trees known learned old new → InternsFirst trees known learned old new
-interned-whole trees known learned old new all = (trees, [], sym (append-nil trees), all)
+    (trees : List Tree) (known learned : Table) → InternsAll trees known learned → InternsFirst trees known learned
+interned-whole trees known learned all = (trees, [], sym (append-nil trees), all)
 
 -- what holds anyway holds where a call fails
 pub on-err : {T X P : Type 0} (r : Result T X) → P → OnErr r P
@@ -89,23 +85,23 @@ on-err (Err e) p = p
 
 -- the sides of one literal more
 pub interned-literal :
-    (ls : List Literal) (i : ℕ) (l : Literal) (first second third : Table) (old middle new : Bank)
+    (ls : List Literal) (i : ℕ) (l : Literal) (first second third : Table)
     → i < length ls → l ≡ get_or ls i l
-    → InternsAll (sides (map literal_of (take i ls))) first second old middle
-    → InternsAll (literal_sides (literal_of l)) second third middle new
-    → InternsAll (sides (map literal_of (take (i + 1) ls))) first third old new
-interned-literal ls i l first second third old middle new below is near far =
-    subst (λ ts. InternsAll ts first third old new) (sym (sides-take ls i l below is))
-    (interns_onward (sides (map literal_of (take i ls))) (literal_sides (literal_of l)) first second third old middle new near far)
+    → InternsAll (sides (map literal_of (take i ls))) first second
+    → InternsAll (literal_sides (literal_of l)) second third
+    → InternsAll (sides (map literal_of (take (i + 1) ls))) first third
+interned-literal ls i l first second third below is near far =
+    subst (λ ts. InternsAll ts first third) (sym (sides-take ls i l below is))
+    (interns_onward (sides (map literal_of (take i ls))) (literal_sides (literal_of l)) first second third near far)
 
 -- the first ones of them are first ones of all
 pub interned-part :
-    (ls : List Literal) (i : ℕ) (l : Literal) (first second third : Table) (old middle new : Bank)
+    (ls : List Literal) (i : ℕ) (l : Literal) (first second third : Table)
     → i < length ls → l ≡ get_or ls i l
-    → InternsAll (sides (map literal_of (take i ls))) first second old middle
-    → InternsFirst (literal_sides (literal_of l)) second third middle new
-    → InternsFirst (sides (map literal_of ls)) first third old new
-interned-part ls i l first second third old middle new below is near far =
+    → InternsAll (sides (map literal_of (take i ls))) first second
+    → InternsFirst (literal_sides (literal_of l)) second third
+    → InternsFirst (sides (map literal_of ls)) first third
+interned-part ls i l first second third below is near far =
     let front : List Tree = sides (map literal_of (take i ls)) in
     let behind : List Tree = sides (map literal_of (drop (suc i) ls)) in (
       front ++ far.0,
@@ -114,5 +110,5 @@ interned-part ls i l first second third old middle new below is near far =
           ∙ ap (λ ts. front ++ (ts ++ behind)) far.2
           ∙ ap (λ ts. front ++ ts) (append_assoc far.0 far.1 behind)
           ∙ sym (append_assoc front far.0 (far.1 ++ behind)),
-      interns_onward front far.0 first second third old middle new near far.3,
+      interns_onward front far.0 first second third near far.3,
     )

@@ -4,13 +4,13 @@ use Rattle.std.specs.List.{All}
 use Rattle.std.specs.List.Sorted.{IsStrictlyIncreasing}
 use Rattle.plain_types.specs.declared.sequence.NameLit.{NameLit}
 use Rattle.fol_base.specs.Tree.{Tree}
-use Rattle.fol_base.specs.Clause.{TreeLiteral, TreeClause, clause_size}
-use Rattle.fol_base.specs.Canonical.{IsCanonical}
-use Rattle.term_bank.specs.Bank.{number, tree_in, number_in}
-use Rattle.term_bank.specs.Literal.{AreLiteralsOf, literals_in}
+use Rattle.fol_base.specs.Clause.{TreeLiteral, TreeClause, clause_size, clause_variables}
+use Rattle.fol_base.specs.Canonical.{IsCanonical, bound_of}
+use Rattle.term_bank.specs.Bank.{number, tree_at, number_in}
+use Rattle.term_bank.specs.Literal.{AreLiteralsOf, literals_at}
 use Rattle.term_bank.specs.declared.literal.BankLit.{BankLit}
 use Rattle.term_bank.specs.declared.bank.Bank.{Bank}
-use Rattle.term_bank.specs.declared.bank.Table.{Table}
+use Rattle.term_bank.specs.declared.table.Table.{Table}
 use Rattle.bank_clause.specs.declared.clause.BankClause.{BankClause}
 use Rattle.bank_clause.specs.declared.member.Member.{Member}
 
@@ -18,20 +18,22 @@ use Rattle.bank_clause.specs.declared.member.Member.{Member}
 abbrev pub assertion : ℕ → NameLit
 assertion n = record { positive = false; name = n }
 
--- the clause for which a clause of the bank stands
-abbrev pub clause_in : Bank → BankClause → TreeClause
-clause_in bank c = record { literals = literals_in bank c.literals; names = map assertion c.names }
+-- the clause for which a clause of a bank stands
+abbrev pub clause_at : BankClause → TreeClause
+clause_at c = record { literals = literals_at c.literals; names = map assertion c.names }
 
 -- the names are negative, and their numbers rise
 pub record AreAssertions (ns : List NameLit) : Type 0 where
   pub negative : All (λ n. n.positive ≡ false) ns
   pub rise : IsStrictlyIncreasing (map (λ n. n.name) ns)
 
--- the clause is of the bank: its references are, its variables are canonical, and its size is that of its trees
+-- the clause is of the bank: its references are, its variables are canonical, and its size and its number of variables are
+-- those of its trees
 pub record IsClauseOf (bank : Bank) (c : BankClause) : Type 0 where
   pub references : AreLiteralsOf bank c.literals
-  pub canonical : IsCanonical (clause_in bank c)
-  pub size : c.size ≡ clause_size (clause_in bank c)
+  pub canonical : IsCanonical (clause_at c)
+  pub size : c.size ≡ clause_size (clause_at c)
+  pub variables : c.variables ≡ bound_of (clause_variables (clause_at c))
 
 -- the member's clause is of the bank
 abbrev pub IsMemberOf : Bank → Member → Type 0
@@ -49,6 +51,5 @@ abbrev pub sides : List TreeLiteral → List Tree
 sides ls = flat_map literal_sides ls
 
 -- the references of a literal are those that the table has for its sides
-abbrev pub IsKnown : Bank → Table → BankLit → Type 0
-IsKnown bank table l =
-    (number_in table (tree_in bank l.left) ≡ Some (number l.left)) × (number_in table (tree_in bank l.right) ≡ Some (number l.right))
+abbrev pub IsKnown : Table → BankLit → Type 0
+IsKnown table l = (number_in table (tree_at l.left) ≡ Some (number l.left)) × (number_in table (tree_at l.right) ≡ Some (number l.right))

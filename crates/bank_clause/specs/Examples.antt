@@ -4,11 +4,11 @@ use Rattle.fol_base.specs.Tree.{true_tree}
 use Rattle.fol_base.specs.Clause.{TreeClause}
 use Rattle.fol_base.specs.Examples.{x, a, p}
 use Rattle.fol_base.specs.Rules.{disequation}
-use Rattle.term_bank.specs.Bank.{tree_in, AreOf}
+use Rattle.term_bank.specs.Bank.{tree_at, AreOf}
 use Rattle.term_bank.specs.declared.bank.Bank.{Bank}
 use Rattle.term_bank.specs.declared.literal.BankLit.{BankLit}
 use Rattle.term_bank.specs.declared.reference.TermRef.{TermRef}
-use Rattle.bank_clause.specs.Clause.{assertion, clause_in, IsClauseOf}
+use Rattle.bank_clause.specs.Clause.{assertion, clause_at, IsClauseOf}
 use Rattle.bank_clause.specs.declared.clause.BankClause.{BankClause}
 
 abbrev pub row : TreeClause
@@ -21,29 +21,34 @@ row_of_another = record { literals = p (x 1) ∷ disequation (x 1) a ∷ []; nam
 -- the bank has p(X0), $true, X0 and a, under these references
 pub record HasSides (bank : Bank) (first second third fourth : TermRef) : Type 0 where
   pub are_of : AreOf bank (first ∷ second ∷ third ∷ fourth ∷ [])
-  pub atom : tree_in bank first ≡ (p (x 0)).left
-  pub truth : tree_in bank second ≡ true_tree
-  pub unknown : tree_in bank third ≡ x 0
-  pub constant : tree_in bank fourth ≡ a
+  pub atom : tree_at first ≡ (p (x 0)).left
+  pub truth : tree_at second ≡ true_tree
+  pub unknown : tree_at third ≡ x 0
+  pub constant : tree_at fourth ≡ a
 
 -- the bank clause of these references
-abbrev pub over : TermRef → TermRef → TermRef → TermRef → ℕ → BankClause
-over first second third fourth symbols =
+abbrev pub over : TermRef → TermRef → TermRef → TermRef → ℕ → ℕ → BankClause
+over first second third fourth symbols variables =
     let atom : BankLit = record { positive = true; left = first; right = second } in
     let other_than_a : BankLit = record { positive = false; left = third; right = fourth } in
-    record { literals = atom ∷ other_than_a ∷ []; names = 3 ∷ []; size = symbols }
+    record { literals = atom ∷ other_than_a ∷ []; names = 3 ∷ []; size = symbols; variables = variables }
 
 abbrev pub StandsForRow : Type 0
 StandsForRow =
-    (bank : Bank) (first second third fourth : TermRef) (symbols : ℕ)
-    → HasSides bank first second third fourth → clause_in bank (over first second third fourth symbols) ≡ row
+    (bank : Bank) (first second third fourth : TermRef) (symbols variables : ℕ)
+    → HasSides bank first second third fourth → clause_at (over first second third fourth symbols variables) ≡ row
 
 abbrev pub IsOfItsBank : Type 0
 IsOfItsBank =
     (bank : Bank) (first second third fourth : TermRef)
-    → HasSides bank first second third fourth → IsClauseOf bank (over first second third fourth 5)
+    → HasSides bank first second third fourth → IsClauseOf bank (over first second third fourth 5 1)
 
 abbrev pub CountsNoNames : Type 0
 CountsNoNames =
     (bank : Bank) (first second third fourth : TermRef)
-    → HasSides bank first second third fourth → ¬ IsClauseOf bank (over first second third fourth 6)
+    → HasSides bank first second third fourth → ¬ IsClauseOf bank (over first second third fourth 6 1)
+
+abbrev pub CountsVariables : Type 0
+CountsVariables =
+    (bank : Bank) (first second third fourth : TermRef)
+    → HasSides bank first second third fourth → ¬ IsClauseOf bank (over first second third fourth 5 0)

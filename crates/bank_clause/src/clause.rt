@@ -3,17 +3,17 @@
 ghost use Rattle.std.specs.Prelude.{◌≡◌, ◌<◌, map, IfOk, OnOk, OnErr};
 ghost use Rattle.std.specs.List.{All};
 ghost use Rattle.std.specs.List.Sorted.{IsStrictlyIncreasing};
-ghost use Rattle.fol_base.specs.Clause.{clause_size};
-ghost use Rattle.fol_base.specs.Canonical.{IsCanonical};
+ghost use Rattle.fol_base.specs.Clause.{clause_size, clause_variables};
+ghost use Rattle.fol_base.specs.Canonical.{IsCanonical, bound_of};
 ghost use Rattle.fol_base.specs.Literal.{clause_of};
-ghost use Rattle.term_bank.specs.Bank.{IsTableOf, Grows};
+ghost use Rattle.term_bank.specs.Bank.{IsTableOf};
 ghost use Rattle.term_bank.specs.Interning.{InternsAll, InternsFirst};
 ghost use Rattle.term_bank.specs.declared.bank.Bank.{Bank as ABank};
 ghost use Rattle.bank_clause.specs.Clause.{
   AreAssertions,
   IsClauseOf,
   IsKnown,
-  clause_in,
+  clause_at,
   sides,
 };
 
@@ -24,6 +24,7 @@ use plain_types::{Mem, Names};
 use smallvec::SmallVec;
 use std::alloc::Global;
 use std::marker::Model;
+use std::sync::Wait;
 use term_bank::{Bank, BankLit, Table};
 
 /// Few clauses have more literals, so most lists of them take no allocation of their own.
@@ -36,14 +37,17 @@ pub struct BankClause {
     literals: BankLits,
     names: Vec<u32>,
     symbols: u32,
+    variables: u64,
 }
 
 impl Model for BankClause {
-    ghost use Rattle.bank_clause.specs.Parts.{ClauseParts};
+    ghost use Rattle.bank_clause.specs.Parts.{ClauseParts, clause_parts_code};
 
     ghost Value = { ClauseParts };
 
-    ghost view = { λ c. record { literals = c.literals.items; names = c.names.items; size = c.symbols } };
+    ghost coded = { clause_parts_code };
+
+    ghost view = { λ c. record { literals = c.literals.items; names = c.names.items; size = c.symbols; variables = c.variables } };
 
     ghost use Rattle.std.specs.Prelude.{◌<◌};
     ghost use Rattle.std.specs.List.Sorted.{IsStrictlyIncreasing};
@@ -53,41 +57,42 @@ impl Model for BankClause {
 }
 
 impl BankClause {
-    /// The clause with its literals' sides interned, from left to right; nothing else is done to the bank
-    /// and the table. After want of memory some first ones of the sides have been interned.
-    pub fn of_clause(
+    /// The clause with its literals' sides interned, from left to right; the table learns
+    /// nothing else. After want of memory some first ones of the sides have been interned.
+    pub fn of_clause<R: Wait>(
+        rt: &R,
         alloc: Global,
-        bank: &mut Bank,
+        bank: &Bank,
         table: &mut Table,
         clause: &Clause,
     ) -> Mem<BankClause>
-        requires table { IsTableOf bank.old table.old }
+        requires table { IsTableOf bank.now table.old }
         requires canonical { IsCanonical (clause_of clause.now) }
         requires names { AreAssertions clause.now.names }
         requires size { clause_size (clause_of clause.now) < SIZE_LIMIT }
-        ensures of_bank { IfOk result (IsClauseOf bank.new) }
-        ensures same { IfOk result (λ made. clause_in bank.new made ≡ clause_of clause.now) }
-        ensures known { IfOk result (λ made. All (IsKnown bank.new table.new) made.literals) }
-        ensures table { IsTableOf bank.new table.new }
-        ensures grows { Grows bank.old bank.new }
+        ensures of_bank { IfOk result (IsClauseOf bank.now) }
+        ensures same { IfOk result (λ made. clause_at made ≡ clause_of clause.now) }
+        ensures known { IfOk result (λ made. All (IsKnown table.new) made.literals) }
+        ensures table { IsTableOf bank.now table.new }
         ensures interned { OnOk result
-            (InternsAll (sides (clause_of clause.now).literals) table.old table.new bank.old bank.new) }
+            (InternsAll (sides (clause_of clause.now).literals) table.old table.new) }
         ensures interned_first { OnErr result
-            (InternsFirst (sides (clause_of clause.now).literals) table.old table.new bank.old bank.new) }
+            (InternsFirst (sides (clause_of clause.now).literals) table.old table.new) }
     {
         let names = bare_names(alloc, clause.names.as_slice())?;
-        let literals = intern_literals(alloc, bank, table, clause.literals.as_slice())?;
+        let literals = intern_literals(rt, alloc, bank, table, clause.literals.as_slice())?;
         Ok(BankClause {
             literals,
             names,
             symbols: clause.size() as u32,
+            variables: clause.variable_bound(),
         })
     }
 
     /// The same clause as trees.
     pub fn to_clause(&self, bank: &Bank) -> Mem<Clause>
         requires { IsClauseOf bank.now self.now }
-        ensures { IfOk result (λ clause. clause_of clause ≡ clause_in bank.now self.now) }
+        ensures { IfOk result (λ clause. clause_of clause ≡ clause_at self.now) }
     {
         let alloc = *self.literals.allocator();
         let literals = tree_literals(alloc, bank, self.literals.as_slice())?;
@@ -115,11 +120,19 @@ impl BankClause {
 
     /// The sizes of both sides of all literals together. Names count nothing.
     pub fn size(&self) -> u32
-        ensures size { (bank : ABank) → IsClauseOf bank self.now → result ≡ clause_size (clause_in bank self.now) }
+        ensures size { (bank : ABank) → IsClauseOf bank self.now → result ≡ clause_size (clause_at self.now) }
         ensures kept { result ≡ self.now.size }
         ensures limit { result < SIZE_LIMIT }
     {
         self.symbols
+    }
+
+    /// How many variables there are: they have the numbers below it.
+    pub fn variable_bound(&self) -> u64
+        ensures variables { (bank : ABank) → IsClauseOf bank self.now → result ≡ bound_of (clause_variables (clause_at self.now)) }
+        ensures kept { result ≡ self.now.variables }
+    {
+        self.variables
     }
 
     /// An equal clause.
@@ -134,6 +147,7 @@ impl BankClause {
             literals,
             names,
             symbols: self.symbols,
+            variables: self.variables,
         })
     }
 }

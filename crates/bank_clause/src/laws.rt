@@ -7,19 +7,12 @@ ghost use Rattle.fol_base.specs.Examples.{x, a, p};
 ghost use Rattle.plain_types.specs.Examples.{positive_name};
 ghost use Rattle.bank_clause.specs.Clause.{assertion, AreAssertions, sides};
 ghost use Rattle.fol_base.specs.Canonical.{IsCanonical};
-ghost use Rattle.bank_clause.specs.Examples.{CountsNoNames, IsOfItsBank, StandsForRow, row, row_of_another};
-ghost use Rattle.bank_clause.specs.Laws.{
-  KeepsClauses,
-  KeepsKnownLiterals,
-  KeepsMembers,
-};
+ghost use Rattle.bank_clause.specs.Examples.{CountsNoNames, CountsVariables, IsOfItsBank, StandsForRow, row, row_of_another};
+ghost use Rattle.bank_clause.specs.Laws.{KeepsKnownLiterals};
 
-/// A bank that grows keeps its clauses and members, and what they stand for; literals keep the references that
-/// the table has for their sides.
-pub fn kept_clauses()
-    ensures clauses { KeepsClauses }
-    ensures members { KeepsMembers }
-    ensures known_literals { KeepsKnownLiterals }
+/// Literals keep the references that the table has for their sides.
+pub fn kept_literals()
+    ensures { KeepsKnownLiterals }
 {}
 
 /// What a bank clause stands for, and which clauses are of a bank.
@@ -27,6 +20,7 @@ pub fn examples()
     ensures stands_for { StandsForRow }
     ensures of_bank { IsOfItsBank }
     ensures names_not_counted { CountsNoNames }
+    ensures variables_counted { CountsVariables }
     ensures numbered_by_first_occurrence { ¬ IsCanonical row_of_another }
     ensures sides_in_order { sides row.literals ≡ (p (x 0)).left ∷ true_tree ∷ x 0 ∷ a ∷ [] }
     ensures rising { AreAssertions (assertion 3 ∷ assertion 5 ∷ []) }

@@ -1,7 +1,7 @@
 // A clause of a bank lends its literals: no term is copied to be looked at.
 
 ghost use Rattle.std.specs.Prelude.{◌≡◌};
-ghost use Rattle.term_bank.specs.Literal.{AreLiteralsOf, literals_in};
+ghost use Rattle.term_bank.specs.Literal.{AreLiteralsOf, literals_at};
 ghost use Rattle.bank_clause.specs.Clause.{IsClauseOf};
 ghost use Rattle.bank_clause.specs.Lending.{are-literals-prop};
 
@@ -32,7 +32,7 @@ impl BankClause {
 }
 
 impl<'a> LendsLiterals for BankLiterals<'a> {
-    ghost meaning = { λ lent. literals_in lent.bank.now lent.literals.now };
+    ghost meaning = { λ lent. literals_at lent.literals.now };
 
     fn count(&self) -> usize {
         self.literals.len()

@@ -2,7 +2,7 @@
 
 ghost use Rattle.std.specs.Prelude.{◌≡◌, map, IfOk};
 ghost use Rattle.fol_base.specs.Literal.{literal_of};
-ghost use Rattle.term_bank.specs.Literal.{IsLiteralOf, AreLiteralsOf, literal_in, literals_in};
+ghost use Rattle.term_bank.specs.Literal.{IsLiteralOf, AreLiteralsOf, literal_at, literals_at};
 ghost use Rattle.bank_clause.specs.Clause.{assertion};
 
 use fol_base::Literal;
@@ -13,7 +13,7 @@ use term_bank::{Bank, BankLit};
 /// The literals as trees.
 pub(crate) fn tree_literals(alloc: Global, bank: &Bank, literals: &[BankLit]) -> Mem<Vec<Literal>>
     requires { AreLiteralsOf bank.now literals.now }
-    ensures { IfOk result (λ made. map literal_of made.items ≡ literals_in bank.now literals.now) }
+    ensures { IfOk result (λ made. map literal_of made.items ≡ literals_at literals.now) }
 {
     let mut made = Vec::with_capacity(alloc, literals.len())?;
     for literal in literals {
@@ -25,7 +25,7 @@ pub(crate) fn tree_literals(alloc: Global, bank: &Bank, literals: &[BankLit]) ->
 /// The literal as trees.
 fn tree_literal(alloc: Global, bank: &Bank, literal: &BankLit) -> Mem<Literal>
     requires { IsLiteralOf bank.now literal.now }
-    ensures { IfOk result (λ made. literal_of made ≡ literal_in bank.now literal.now) }
+    ensures { IfOk result (λ made. literal_of made ≡ literal_at literal.now) }
 {
     let left = bank.tree(&literal.left).copy(alloc)?;
     let right = bank.tree(&literal.right).copy(alloc)?;

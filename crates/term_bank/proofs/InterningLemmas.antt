@@ -8,12 +8,11 @@ use Rattle.std.specs.List.{All, list_any}
 use Rattle.std.specs.Map.{lookup}
 use Rattle.fol_base.specs.Tree.{Tree, tree_eq}
 use Rattle.fol_base.proofs.TreeLemmas.{tree_eq-refl}
-use Rattle.term_bank.specs.Bank.{IsSame, entries}
-use Rattle.term_bank.proofs.BankLemmas.{lookup-more}
-use Rattle.term_bank.specs.Laws.{InternsOne, InternsOnward, InternsAndGrows, LearnsOnlyThese, InternedAgain, KeepsAllNumbers, NumbersThese, InternsAfterFirst}
+use Rattle.term_bank.specs.Bank.{entries}
+use Rattle.term_bank.proofs.LookupLemmas.{lookup-more}
+use Rattle.term_bank.specs.Laws.{InternsOne, InternsOnward, LearnsOnlyThese, InternedAgain, KeepsAllNumbers, NumbersThese, InternsAfterFirst}
 use Rattle.term_bank.specs.Interning.{first_seen, trees_in, InternsAll}
-use Rattle.term_bank.specs.declared.bank.Bank.{Bank}
-use Rattle.term_bank.specs.declared.bank.Table.{Table}
+use Rattle.term_bank.specs.declared.table.Table.{Table}
 
 -- ---- the trees that are seen first
 
@@ -99,99 +98,86 @@ is-known t (e ∷ es) = by (tree_eq t e.0) (is-known t es)
     by false rest = rest
 
 pub interns_one : InternsOne
-interns_one known learned old new t n table bank =
-    by (is_some (lookup (tree_eq t) (entries known))) (is-known t (entries known)) table bank
+interns_one known learned t n table =
+    by (is_some (lookup (tree_eq t) (entries known))) (is-known t (entries known)) table
   where
     by : (b : Bool) → b ≡ list_any (tree_eq t) (trees_in (entries known))
         → entries learned ≡ (if b then entries known else entries known ++ (t, n) ∷ [])
-        → new.terms ≡ (if b then old.terms else old.terms ++ t ∷ [])
-        → InternsAll (t ∷ []) known learned old new
-    by true is same_table same_bank = record {
+        → InternsAll (t ∷ []) known learned
+    by true is same = record {
       more = [];
-      table = same_table ∙ sym (append-nil (entries known));
+      table = same ∙ sym (append-nil (entries known));
       first = ap (λ b. if b then [] else t ∷ []) is;
-      bank = same_bank ∙ sym (append-nil old.terms);
     }
-    by false is longer_table longer_bank = record {
+    by false is longer = record {
       more = (t, n) ∷ [];
-      table = longer_table;
+      table = longer;
       first = ap (λ b. if b then [] else t ∷ []) is;
-      bank = longer_bank;
     }
 
 -- ---- no tree, and several
 
-pub interns-nothing : (known learned : Table) (old new : Bank) → entries learned ≡ entries known → IsSame old new → InternsAll [] known learned old new
-interns-nothing known learned old new table bank = record {
+pub interns-nothing : (known learned : Table) → entries learned ≡ entries known → InternsAll [] known learned
+interns-nothing known learned table = record {
   more = [];
   table = table ∙ sym (append-nil (entries known));
   first = refl;
-  bank = bank ∙ sym (append-nil old.terms);
 }
 
 -- the trees of the table afterwards
 trees-learned :
-    (trees : List Tree) (known learned : Table) (old new : Bank) → InternsAll trees known learned old new
+    (trees : List Tree) (known learned : Table) → InternsAll trees known learned
     → trees_in (entries learned) ≡ trees_in (entries known) ++ first_seen (trees_in (entries known)) trees
-trees-learned trees known learned old new all =
+trees-learned trees known learned all =
     ap trees_in all.table ∙ map-append (λ e. e.0) (entries known) all.more ∙ ap (λ us. trees_in (entries known) ++ us) all.first
 
 pub interns_onward : InternsOnward
-interns_onward trees further first second third old middle new near far = record {
+interns_onward trees further first second third near far = record {
   more = near.more ++ far.more;
   table = far.table ∙ ap (λ es. es ++ far.more) near.table ∙ append_assoc (entries first) near.more far.more;
   first =
       map-append (λ e. e.0) near.more far.more
-      ∙ (λ j. near.first j ++ (far.first ∙ ap (λ ks. first_seen ks further) (trees-learned trees first second old middle near)) j)
+      ∙ (λ j. near.first j ++ (far.first ∙ ap (λ ks. first_seen ks further) (trees-learned trees first second near)) j)
       ∙ sym (first_seen-append (trees_in (entries first)) trees further);
-  bank =
-      far.bank ∙ ap (λ us. us ++ trees_in far.more) near.bank ∙ append_assoc old.terms (trees_in near.more) (trees_in far.more)
-      ∙ ap (λ us. old.terms ++ us) (sym (map-append (λ e. e.0) near.more far.more));
 }
 
-pub interns_and_grows : InternsAndGrows
-interns_and_grows trees known learned old new all = (trees_in all.more, all.bank)
-
 pub learns_only_these : LearnsOnlyThese
-learns_only_these trees known learned old new all =
+learns_only_these trees known learned all =
     subst (λ us. All (Contains trees) us) (sym all.first) (first_seen-among (trees_in (entries known)) trees)
 
 pub interned_again : InternedAgain
-interned_again trees first second third old middle new once again =
+interned_again trees first second third once again =
     let none : trees_in again.more ≡ [] =
-    again.first ∙ ap (λ ks. first_seen ks trees) (trees-learned trees first second old middle once)
-    ∙ first_seen-known (trees_in (entries first) ++ first_seen (trees_in (entries first)) trees) trees (all-seen (trees_in (entries first)) trees) in (
-      again.table ∙ ap (λ es. entries second ++ es) (nothing again.more none) ∙ append-nil (entries second),
-      again.bank ∙ ap (λ us. middle.terms ++ us) none ∙ append-nil middle.terms,
-    )
+    again.first ∙ ap (λ ks. first_seen ks trees) (trees-learned trees first second once)
+    ∙ first_seen-known (trees_in (entries first) ++ first_seen (trees_in (entries first)) trees) trees (all-seen (trees_in (entries first)) trees) in
+    again.table ∙ ap (λ es. entries second ++ es) (nothing again.more none) ∙ append-nil (entries second)
   where
     nothing : (es : List (Tree × ℕ)) → trees_in es ≡ [] → es ≡ []
     nothing [] h = refl
     nothing (e ∷ es) h = absurd (cc)
 
 pub keeps_all_numbers : KeepsAllNumbers
-keeps_all_numbers trees known learned old new u m all has =
+keeps_all_numbers trees known learned u m all has =
     ap (lookup (tree_eq u)) all.table ∙ lookup-more (tree_eq u) (entries known) all.more m has
 
 pub numbers_these : NumbersThese
-numbers_these trees known learned old new all k d below =
+numbers_these trees known learned all k d below =
     is-known (get_or trees k d) (entries learned)
-    ∙ ap (list_any (tree_eq (get_or trees k d))) (trees-learned trees known learned old new all)
+    ∙ ap (list_any (tree_eq (get_or trees k d))) (trees-learned trees known learned all)
     ∙ all-seen (trees_in (entries known)) trees k d below
 
 pub interns_after_first : InternsAfterFirst
-interns_after_first trees first second third old middle new part all =
+interns_after_first trees first second third part all =
     let done : List Tree = part.0 in
     let rest : List Tree = part.1 in
-    let near : InternsAll done first second old middle = part.3 in
+    let near : InternsAll done first second = part.3 in
     let seen : All (λ t. list_any (tree_eq t) (trees_in (entries second)) ≡ true) done =
-    subst (λ ks. All (λ t. list_any (tree_eq t) ks ≡ true) done) (sym (trees-learned done first second old middle near))
+    subst (λ ks. All (λ t. list_any (tree_eq t) ks ≡ true) done) (sym (trees-learned done first second near))
     (all-seen (trees_in (entries first)) done) in
-    let far : InternsAll rest second third middle new = record {
+    let far : InternsAll rest second third = record {
       more = all.more;
       table = all.table;
       first = all.first ∙ ap (first_seen (trees_in (entries second))) part.2 ∙ seen-before (trees_in (entries second)) done rest seen;
-      bank = all.bank;
     } in
-    subst (λ ts. InternsAll ts first third old new) (sym part.2)
-    (interns_onward done rest first second third old middle new near far)
+    subst (λ ts. InternsAll ts first third) (sym part.2)
+    (interns_onward done rest first second third near far)

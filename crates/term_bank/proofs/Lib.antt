@@ -1,3 +1,4 @@
-pub mod BankLemmas
-pub mod GrowthLemmas
+pub mod LookupLemmas
+pub mod ChainLemmas
+pub mod TableLemmas
 pub mod InterningLemmas

@@ -1,52 +1,53 @@
--- The words by which callers speak of a bank, its references and its tables.
-use Rattle.std.specs.Prelude.{◌≡◌, ℕ, ◌<◌, ◌-◌, ◌^◌, List, [], ◌∷◌, ◌++◌, length, map, get_or, Option, None, is_some, if◌then◌else◌, ⊤}
+-- The words by which callers speak of a bank, its references and its tables. Nothing says what a whole bank holds,
+-- since other threads may add to it.
+use Rattle.std.specs.Prelude.{◌≡◌, ℕ, suc, nat_eq, Bool, List, [], ◌∷◌, ◌++◌, map, Option, None, is_some, if◌then◌else◌, ⊤}
 use Rattle.std.specs.List.{All}
 use Rattle.std.specs.Map.{lookup}
 use Rattle.fol_base.specs.Tree.{Tree, variable, tree_eq}
-use Rattle.fol_base.specs.Term.{tree_of}
+use Rattle.term_bank.specs.Chain.{IsChained}
 use Rattle.term_bank.specs.declared.reference.TermRef.{TermRef}
-use Rattle.term_bank.specs.declared.key.TermKey.{TermKey}
 use Rattle.term_bank.specs.declared.bank.Bank.{Bank}
-use Rattle.term_bank.specs.declared.bank.Table.{Table}
+use Rattle.term_bank.specs.declared.table.Entry.{Entry}
+use Rattle.term_bank.specs.declared.table.Table.{Table}
+
+-- which bank this is, for good: a number that contracts alone see
+abbrev pub identity : Bank → ℕ
+identity bank = bank
+
+-- both are the same bank
+abbrev pub IsSame : Bank → Bank → Type 0
+IsSame first second = identity first ≡ identity second
 
 -- the number of a reference
 abbrev pub number : TermRef → ℕ
 number r = r.number
 
+-- the tree for which a reference stands
+abbrev pub tree_at : TermRef → Tree
+tree_at r = r.tree
+
 -- the reference is of the bank
 abbrev pub IsOf : Bank → TermRef → Type 0
-IsOf bank r = r.number < length bank.terms
+IsOf bank r = r.bank ≡ suc (identity bank)
 
--- the reference that fills places which aren't used yet; no bank has so many terms that it is of one
-abbrev pub IsDefault : TermRef → Type 0
-IsDefault r = number r ≡ 2 ^ 64 - 1
-
--- the tree for which a reference of the bank stands
-abbrev pub tree_in : Bank → TermRef → Tree
-tree_in bank r = get_or bank.terms r.number (variable 0)
-
--- the bank is empty: no reference is of it
-abbrev pub IsEmpty : Bank → Type 0
-IsEmpty bank = (r : TermRef) → ¬ IsOf bank r
+-- the references have the same number
+abbrev pub same_number : TermRef → TermRef → Bool
+same_number r s = nat_eq (number r) (number s)
 
 -- all references of a list are of the bank
 abbrev pub AreOf : Bank → List TermRef → Type 0
 AreOf bank rs = All (IsOf bank) rs
 
--- the bank keeps what it has, and may have more
-abbrev pub Grows : Bank → Bank → Type 0
-Grows old new = (more : List Tree) × (new.terms ≡ old.terms ++ more)
-
--- the bank is as before
-abbrev pub IsSame : Bank → Bank → Type 0
-IsSame old new = new.terms ≡ old.terms
+-- the reference that fills places which aren't used yet: it is of no bank
+abbrev pub IsDefault : TermRef → Type 0
+IsDefault r = r ≡ record { number = 0; bank = 0; tree = variable 0 }
 
 -- what a table has: the trees that were interned through it, each with its number, in the order in which they came
-abbrev pub entry_of : TermKey × TermRef → Tree × ℕ
-entry_of e = (tree_of e.0.term, e.1.number)
+abbrev pub entry_of : Entry → Tree × ℕ
+entry_of e = (tree_at e.reference, number e.reference)
 
 abbrev pub entries : Table → List (Tree × ℕ)
-entries table = map entry_of table.references.entries
+entries table = map entry_of table.entries.items
 
 -- the number that a table has for a tree
 abbrev pub number_in : Table → Tree → Option ℕ
@@ -56,19 +57,17 @@ number_in table t = lookup (tree_eq t) (entries table)
 abbrev pub interned : List (Tree × ℕ) → Tree → ℕ → List (Tree × ℕ)
 interned known t n = if is_some (lookup (tree_eq t) known) then known else known ++ (t, n) ∷ []
 
--- The bank after a tree is interned through a table: one that the table has leaves it as it is, another goes last.
-abbrev pub Interns : Table → Tree → Bank → Bank → Type 0
-Interns table t old new = new.terms ≡ (if is_some (number_in table t) then old.terms else old.terms ++ t ∷ [])
-
 -- no tree stands twice in a list of entries
 abbrev pub NoTreeTwice : List (Tree × ℕ) → Type 0
 NoTreeTwice [] = ⊤
 NoTreeTwice (e ∷ es) = (lookup (tree_eq e.0) es ≡ None) × NoTreeTwice es
 
--- the tree stands at the number
-abbrev pub IsEntryIn : List Tree → Tree × ℕ → Type 0
-IsEntryIn trees e = (e.1 < length trees) × (get_or trees e.1 (variable 0) ≡ e.0)
+-- The entries are of the bank, no tree stands twice among them, and the chains lead to all of them.
+pub record AreEntriesOf (bank : Bank) (es : List Entry) (heads : List (ℕ × ℕ)) : Type 0 where
+  pub references : All (λ e. IsOf bank e.reference) es
+  pub once : NoTreeTwice (map entry_of es)
+  pub chained : IsChained (map entry_of es) (map (λ e. e.older) es) heads
 
--- the table is of the bank: the bank has each tree at its number, and no tree stands twice
+-- the table is of the bank
 abbrev pub IsTableOf : Bank → Table → Type 0
-IsTableOf bank table = All (IsEntryIn bank.terms) (entries table) × NoTreeTwice (entries table)
+IsTableOf bank table = AreEntriesOf bank table.entries.items table.newest.entries

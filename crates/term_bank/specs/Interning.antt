@@ -1,10 +1,9 @@
--- Interning several trees, one after another: what a table learns, and that the bank has exactly that besides.
+-- Interning several trees, one after another: what a table learns.
 use Rattle.std.specs.Prelude.{◌≡◌, ℕ, List, [], ◌∷◌, ◌++◌, map, if◌then◌else◌}
 use Rattle.std.specs.List.{list_any}
 use Rattle.fol_base.specs.Tree.{Tree, tree_eq}
 use Rattle.term_bank.specs.Bank.{entries}
-use Rattle.term_bank.specs.declared.bank.Bank.{Bank}
-use Rattle.term_bank.specs.declared.bank.Table.{Table}
+use Rattle.term_bank.specs.declared.table.Table.{Table}
 
 -- those of the trees that aren't among the known ones, each once, in the order in which they first occur
 abbrev pub first_seen : List Tree → List Tree → List Tree
@@ -15,14 +14,12 @@ first_seen known (t ∷ ts) = if list_any (tree_eq t) known then first_seen know
 abbrev pub trees_in : List (Tree × ℕ) → List Tree
 trees_in es = map (λ e. e.0) es
 
--- The trees were interned one after another: the table has further entries, for those that it didn't have, and the bank
--- has just the trees of these behind what it had.
-pub record InternsAll (trees : List Tree) (known learned : Table) (old new : Bank) : Type 0 where
+-- the trees were interned one after another: the table has further entries, for those that it didn't have
+pub record InternsAll (trees : List Tree) (known learned : Table) : Type 0 where
   pub more : List (Tree × ℕ)
   pub table : entries learned ≡ entries known ++ more
   pub first : trees_in more ≡ first_seen (trees_in (entries known)) trees
-  pub bank : new.terms ≡ old.terms ++ trees_in more
 
 -- some first ones of the trees were interned, and none of the others, as where memory ran out on the way
-abbrev pub InternsFirst : List Tree → Table → Table → Bank → Bank → Type 0
-InternsFirst trees known learned old new = (done rest : List Tree) × (trees ≡ done ++ rest) × InternsAll done known learned old new
+abbrev pub InternsFirst : List Tree → Table → Table → Type 0
+InternsFirst trees known learned = (done rest : List Tree) × (trees ≡ done ++ rest) × InternsAll done known learned

@@ -1,5 +1,8 @@
-pub mod Key
+pub mod Hash
+pub mod Reference
+pub mod Chain
 pub mod Bank
 pub mod Literal
+pub mod Equality
 pub mod Interning
 pub mod Laws

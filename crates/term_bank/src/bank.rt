@@ -1,93 +1,182 @@
-// The bank and its table.
+// The bank.
 
-ghost use Rattle.std.specs.Prelude.{◌≡◌, [], ◌∷◌, ◌++◌, length, IfOk, OnOk, OnErr, Some};
+ghost use Rattle.std.specs.Prelude.{◌≡◌, [], None, Some, IfOk, OnErr};
 ghost use Rattle.fol_base.specs.Term.{tree_of};
-ghost use Rattle.term_bank.specs.Bank.{number, tree_in, entries, number_in, interned, IsOf, IsDefault, IsEmpty, IsTableOf, Interns, Grows, IsSame};
-ghost use Rattle.term_bank.specs.declared.reference.TermRef.{TermRef as AReference};
+ghost use Rattle.term_bank.specs.Hash.{tree_hash};
+ghost use Rattle.term_bank.specs.Bank.{number, tree_at, entries, number_in, interned, IsOf, IsTableOf};
 
-use crate::key::{TermKey, Wanted};
+use crate::hash::term_hash;
 use crate::reference::TermRef;
-use fol_base::{Term, Terms};
-use indexmap::IndexMap;
-use plain_types::Mem;
+use crate::rows::{Anything, Rows, Shown, laid, located, no_rows};
+use crate::table::Table;
+use boxcar::slot::{OnceSlot, Written};
+use boxcar::tag::Tag;
+use fol_base::Term;
+use plain_types::{Mem, NoMemory};
 use std::alloc::Global;
+use std::marker::Model;
+use std::sync::Wait;
+use std::sync::atomic::{AtomicU64, Ordering};
 
-/// A bank of terms. It only grows, and a reference of it stands for one tree for good.
+/// A bank of terms, which threads share. It only grows, and a reference of it stands for one tree for good.
 #[derive(Drop)]
 pub struct Bank {
-    terms: Terms,
-    alloc: Global,
+    rows: OnceSlot<Rows, Anything>,
+    shown: Written<Rows>,
+    next: AtomicU64,
 }
 
-/// The terms that were interned through it, each with its reference. No tree stands in it twice.
-#[derive(Drop)]
-pub struct Table {
-    references: IndexMap<TermKey, TermRef>,
+impl Model for Bank {
+    ghost use Rattle.std.specs.Prelude.{◌≡◌, ℕ};
+
+    ghost Value = { ℕ };
+
+    ghost view = { λ bank. bank.rows.id };
+
+    ghost invariant = { λ bank. bank.shown.of ≡ bank.rows.id };
 }
 
 impl Bank {
     /// An empty bank and an empty table of it.
     pub fn new(alloc: Global) -> Mem<(Bank, Table)>
         ensures table { IfOk result (λ made. IsTableOf made.0 made.1) }
-        ensures empty_bank { IfOk result (λ made. IsEmpty made.0) }
-        ensures empty_table { IfOk result (λ made. entries made.1 ≡ []) }
+        ensures empty { IfOk result (λ made. entries made.1 ≡ []) }
     {
+        let rows = OnceSlot::new(&Tag::empty());
+        let Ok(shown) = rows.set_written(no_rows(alloc)?) else {
+            return Err(NoMemory);
+        };
         let bank = Bank {
-            terms: Terms::new(alloc),
-            alloc,
+            rows,
+            shown,
+            next: AtomicU64::new(0),
         };
-        let table = Table {
-            references: IndexMap::new(alloc),
-        };
-        Ok((bank, table))
+        Ok((bank, Table::new(alloc)))
     }
 
     /// The reference of a term's tree, with the number that the table has for it; a tree that the table
-    /// doesn't have is added. After want of memory the bank and the table are as before.
+    /// doesn't have is added. After want of memory the table is as before.
     ///
-    /// A term that is there is read once, and a new one is copied for the bank and for the table.
-    pub fn intern(&mut self, table: &mut Table, term: &Term) -> Mem<TermRef>
-        requires { IsTableOf self.old table.old }
-        ensures reference { IfOk result (IsOf self.new) }
-        ensures tree { IfOk result (λ reference. tree_in self.new reference ≡ tree_of term.now) }
+    /// A term that is there is read once, and a new one is hashed once and copied once.
+    pub fn intern<R: Wait>(
+        &self,
+        rt: &R,
+        alloc: Global,
+        table: &mut Table,
+        term: &Term,
+    ) -> Mem<TermRef>
+        requires { IsTableOf self.now table.old }
+        ensures reference { IfOk result (IsOf self.now) }
+        ensures tree { IfOk result (λ reference. tree_at reference ≡ tree_of term.now) }
         ensures known { IfOk result (λ reference. number_in table.new (tree_of term.now) ≡ Some (number reference)) }
         ensures entries { IfOk result (λ reference.
             entries table.new ≡ interned (entries table.old) (tree_of term.now) (number reference)) }
-        ensures table { IsTableOf self.new table.new }
-        ensures bank { IfOk result (λ _. Interns table.old (tree_of term.now) self.old self.new) }
-        ensures grows { Grows self.old self.new }
-        ensures bank_unchanged { OnErr result (IsSame self.old self.new) }
+        ensures table { IsTableOf self.now table.new }
         ensures table_unchanged { OnErr result (entries table.new ≡ entries table.old) }
     {
-        if let Some(reference) = table.references.get(Wanted { term }) {
+        let hash = term_hash(0, term);
+        if let Some(reference) = table.find(self, hash, term) {
             return Ok(reference.copy());
         }
-        table.references.reserve(1)?;
-        let key = TermKey {
-            term: term.copy(self.alloc)?,
-        };
-        let reference = self.add(term)?;
-        table.references.insert(key, reference.copy()).unwrap();
+        self.add(rt, alloc, table, hash, term.copy(alloc)?)
+    }
+
+    /// As `intern`, for a term that is handed over: a new one is moved into the bank, and not copied.
+    pub fn intern_owned<R: Wait>(
+        &self,
+        rt: &R,
+        alloc: Global,
+        table: &mut Table,
+        term: Term,
+    ) -> Mem<TermRef>
+        requires { IsTableOf self.now table.old }
+        ensures reference { IfOk result (IsOf self.now) }
+        ensures tree { IfOk result (λ reference. tree_at reference ≡ tree_of term) }
+        ensures known { IfOk result (λ reference. number_in table.new (tree_of term) ≡ Some (number reference)) }
+        ensures entries { IfOk result (λ reference.
+            entries table.new ≡ interned (entries table.old) (tree_of term) (number reference)) }
+        ensures table { IsTableOf self.now table.new }
+        ensures table_unchanged { OnErr result (entries table.new ≡ entries table.old) }
+    {
+        let hash = term_hash(0, &term);
+        if let Some(reference) = table.find(self, hash, &term) {
+            return Ok(reference.copy());
+        }
+        self.add(rt, alloc, table, hash, term)
+    }
+
+    /// Adds a term whose tree the table doesn't have, and lets the table know. The table's memory is taken first,
+    /// so that no term is put into the bank that nobody can find.
+    fn add<R: Wait>(
+        &self,
+        rt: &R,
+        alloc: Global,
+        table: &mut Table,
+        hash: u64,
+        term: Term,
+    ) -> Mem<TermRef>
+        requires table { IsTableOf self.now table.old }
+        requires new { number_in table.old (tree_of term) ≡ None }
+        requires hash { hash ≡ tree_hash 0 (tree_of term) }
+        ensures reference { IfOk result (IsOf self.now) }
+        ensures tree { IfOk result (λ reference. tree_at reference ≡ tree_of term) }
+        ensures known { IfOk result (λ reference. number_in table.new (tree_of term) ≡ Some (number reference)) }
+        ensures entries { IfOk result (λ reference.
+            entries table.new ≡ interned (entries table.old) (tree_of term) (number reference)) }
+        ensures table { IsTableOf self.now table.new }
+        ensures table_unchanged { OnErr result (entries table.new ≡ entries table.old) }
+    {
+        table.make_room()?;
+        let reference = self.put(rt, alloc, term)?;
+        table.learn(hash, reference.copy());
         Ok(reference)
     }
 
-    /// Adds a copy of a term at the end.
-    fn add(&mut self, term: &Term) -> Mem<TermRef>
-        ensures added { OnOk result (self.new.terms ≡ self.old.terms ++ tree_of term.now ∷ []) }
-        ensures number { IfOk result (λ reference. number reference ≡ length self.old.terms) }
-        ensures unchanged { OnErr result (IsSame self.old self.new) }
+    /// Puts a term at the next place.
+    fn put<R: Wait>(&self, rt: &R, alloc: Global, term: Term) -> Mem<TermRef>
+        ensures reference { IfOk result (IsOf self.now) }
+        ensures tree { IfOk result (λ reference. tree_at reference ≡ tree_of term) }
     {
-        let number = self.terms.len() as u64;
-        self.terms.push(term.copy(self.alloc)?)?;
-        Ok(TermRef { number })
+        let Some((row, place)) = located(self.next.fetch_add(1, Ordering::SeqCst)) else {
+            return Err(NoMemory);
+        };
+        let rows = self.rows.value(&self.shown);
+        if usize::from(row) >= rows.len() {
+            return Err(NoMemory);
+        }
+        let written = laid(rt, alloc, &rows[usize::from(row)], row)?;
+        let slots = rows[usize::from(row)].value(&written);
+        if place as usize >= slots.len() {
+            return Err(NoMemory);
+        }
+        let Ok(item) = slots[place as usize].set_written(term) else {
+            return Err(NoMemory);
+        };
+        let shown = Shown {
+            rows: self.shown.again(),
+            row: written,
+            item,
+        };
+        Ok(TermRef {
+            place,
+            row,
+            shown: Some(shown),
+        })
     }
 
     /// The term of a reference, lent.
     pub fn tree(&self, reference: &TermRef) -> &Term
         requires { IsOf self.now reference.now }
-        ensures { tree_of result.now ≡ tree_in self.now reference.now }
+        ensures { tree_of result.now ≡ tree_at reference.now }
     {
-        &self.terms.as_slice()[reference.number as usize]
+        match &reference.shown {
+            Some(shown) => {
+                let rows = self.rows.value(&shown.rows);
+                let slots = rows[usize::from(reference.row)].value(&shown.row);
+                slots[reference.place as usize].value(&shown.item)
+            }
+            None => unreachable!(),
+        }
     }
 
     /// Shows that two references of this bank with equal numbers stand for equal trees. It does nothing.
@@ -95,13 +184,12 @@ impl Bank {
         requires first { IsOf self.now first.now }
         requires second { IsOf self.now second.now }
         requires numbers { number first.now ≡ number second.now }
-        ensures { tree_in self.now first.now ≡ tree_in self.now second.now }
-    {}
-
-    /// Shows that a default reference is not of this bank. It does nothing.
-    pub fn lacks_defaults(&self)
-        ensures { (r : AReference) → IsDefault r → ¬ IsOf self.now r }
+        ensures { tree_at first.now ≡ tree_at second.now }
     {
-        let _length = self.terms.len();
+        if let (Some(one), Some(other)) = (&first.shown, &second.shown) {
+            one.rows.agrees(&other.rows);
+            one.row.agrees(&other.row);
+            one.item.agrees(&other.item);
+        }
     }
 }

@@ -3,35 +3,23 @@
 
 ghost use Rattle.std.specs.Prelude.{◌≡◌, [], ◌∷◌};
 ghost use Rattle.fol_base.specs.Examples.{x, a, f};
-ghost use Rattle.term_bank.specs.Bank.{interned, IsEntryIn, NoTreeTwice};
+ghost use Rattle.term_bank.specs.Bank.{interned, NoTreeTwice};
 ghost use Rattle.term_bank.specs.Interning.{first_seen};
 ghost use Rattle.term_bank.specs.Laws.{
-  GrowsToItself,
-  GrowsOnward,
-  KeepsReferences,
-  KeepsLists,
-  KeepsLiterals,
-  KeepsTables,
+  LacksDefaults,
   KeepsNumbers,
   KeepsAllNumbers,
   InternsOne,
   InternsOnward,
-  InternsAndGrows,
   LearnsOnlyThese,
   InternedAgain,
   NumbersThese,
   InternsAfterFirst,
 };
 
-/// A bank grows to itself and onward, and keeps its references and literals, what they stand for, and
-/// its tables.
-pub fn growing_banks()
-    ensures itself { GrowsToItself }
-    ensures onward { GrowsOnward }
-    ensures references { KeepsReferences }
-    ensures lists { KeepsLists }
-    ensures literals { KeepsLiterals }
-    ensures tables { KeepsTables }
+/// A default reference is of no bank.
+pub fn references_of_no_bank()
+    ensures { LacksDefaults }
 {}
 
 /// A table keeps its numbers when a tree is interned, or several are, so equal trees that one table interned
@@ -41,13 +29,12 @@ pub fn kept_numbers()
     ensures several { KeepsAllNumbers }
 {}
 
-/// Interning several trees, one after another: a table learns none but these trees, the bank grows by what
-/// it learns, and the same trees again change nothing. The table has a number for each of them then, also where
+/// Interning several trees, one after another: a table learns none but these trees, and the same trees again
+/// change nothing. The table has a number for each of them then, also where
 /// memory ran out on the way and they were interned once more.
 pub fn several_trees()
     ensures one { InternsOne }
     ensures onward { InternsOnward }
-    ensures grows { InternsAndGrows }
     ensures only_these { LearnsOnlyThese }
     ensures again { InternedAgain }
     ensures numbers { NumbersThese }
@@ -60,8 +47,6 @@ pub fn examples()
     ensures new_last { interned ((a, 0) ∷ []) (f a) 1 ≡ (a, 0) ∷ (f a, 1) ∷ [] }
     ensures once { NoTreeTwice ((a, 0) ∷ (f a, 1) ∷ []) }
     ensures twice { ¬ NoTreeTwice ((a, 0) ∷ (a, 1) ∷ []) }
-    ensures its_place { IsEntryIn (a ∷ f a ∷ []) (f a, 1) }
-    ensures another_place { ¬ IsEntryIn (a ∷ f a ∷ []) (f a, 0) }
     ensures none { first_seen (a ∷ []) [] ≡ [] }
     ensures known { first_seen (a ∷ []) (f a ∷ a ∷ []) ≡ f a ∷ [] }
     ensures repeated { first_seen [] (f a ∷ a ∷ f a ∷ x 0 ∷ a ∷ []) ≡ f a ∷ a ∷ x 0 ∷ [] }

@@ -2,15 +2,20 @@
 #![tactic(auto)]
 
 mod bank;
-mod key;
+mod hash;
 mod literal;
 mod reference;
+mod rows;
+mod table;
 
-pub use bank::{Bank, Table};
-#[doc(hidden)]
-pub use key::TermKey;
+pub use bank::Bank;
 pub use literal::BankLit;
 pub use reference::TermRef;
+#[doc(hidden)]
+pub use rows::{Anything, Shown};
+#[doc(hidden)]
+pub use table::Entry;
+pub use table::Table;
 
 pub mod laws;
 #[cfg(test)]

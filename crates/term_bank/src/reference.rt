@@ -1,14 +1,46 @@
 // References to the terms of a bank.
 
 ghost use Rattle.std.specs.Prelude.{◌≡◌};
-ghost use Rattle.term_bank.specs.Bank.{number, IsDefault};
+ghost use Rattle.std.specs.Cmp.{partial_equiv_from_equiv};
+ghost use Rattle.term_bank.specs.Bank.{number, same_number, IsDefault};
+ghost use Rattle.term_bank.specs.Equality.{reference_input, same_number_equiv, references_alike};
 
+use crate::rows::Shown;
 use std::default::Default;
+use std::hash::{Hash, Hasher};
+use std::marker::Model;
 
-/// A reference to a term of a bank. It stands for one tree for good; which one is known where the bank is.
+/// A reference to a term of a bank. It stands for one tree for good, in every thread.
+///
+/// It has 8 bytes: a place in a row, and whether it is of a bank.
 #[derive(Drop)]
 pub struct TermRef {
-    pub(crate) number: u64,
+    pub(crate) place: u32,
+    pub(crate) row: u8,
+    pub(crate) shown: Option<Shown>,
+}
+
+impl Model for TermRef {
+    ghost use Rattle.std.specs.Prelude.{◌≡◌, ◌<◌, ◌+◌, ◌*◌, ◌^◌, suc, length, IfSome};
+    ghost use Rattle.std.specs.Option.{option_map_or};
+    ghost use Rattle.boxcar.specs.Table.{id_at};
+    ghost use Rattle.fol_base.specs.Tree.{variable};
+    ghost use Rattle.fol_base.specs.Term.{tree_of};
+    ghost use Rattle.term_bank.specs.Reference.{Reference, reference_code};
+
+    ghost Value = { Reference };
+
+    ghost coded = { reference_code };
+
+    ghost view = { λ r. record {
+        number = r.row * 2 ^ 32 + r.place;
+        bank = option_map_or (λ s. suc s.rows.of) r.shown 0;
+        tree = option_map_or (λ s. tree_of s.item.value) r.shown (variable 0);
+    } };
+
+    ghost invariant = { λ r. (r.place < 2 ^ 32) × IfSome r.shown (λ s.
+        (r.row < length s.rows.value.items) × (s.row.of ≡ id_at s.rows.value.items r.row)
+        × (r.place < length s.row.value.items) × (s.item.of ≡ id_at s.row.value.items r.place)) };
 }
 
 impl TermRef {
@@ -16,7 +48,7 @@ impl TermRef {
     pub fn number(&self) -> u64
         ensures { result ≡ number self.now }
     {
-        self.number
+        u64::from(self.row) * (1 << 32) + u64::from(self.place)
     }
 
     /// An equal reference. It takes no memory.
@@ -24,16 +56,55 @@ impl TermRef {
         ensures { result ≡ self.now }
     {
         TermRef {
-            number: self.number,
+            place: self.place,
+            row: self.row,
+            shown: shown_again(&self.shown),
         }
+    }
+}
+
+fn shown_again(shown: &Option<Shown>) -> Option<Shown>
+    ensures { result ≡ shown.now }
+{
+    match shown {
+        Some(shown) => Some(shown.again()),
+        None => None,
+    }
+}
+
+impl PartialEq for TermRef {
+    ghost eq = { same_number };
+
+    ghost laws = { partial_equiv_from_equiv same_number_equiv };
+
+    fn eq(&self, other: &TermRef) -> bool {
+        self.number() == other.number()
+    }
+}
+
+impl Eq for TermRef {
+    ghost laws = { same_number_equiv };
+}
+
+impl Hash for TermRef {
+    ghost hash_input = { reference_input };
+
+    ghost respects_eq = { references_alike.fed };
+
+    fn hash<H: Hasher>(&self, state: &mut H) {
+        state.write_u64(self.number());
     }
 }
 
 impl Default for TermRef {
     ghost is_default = { IsDefault };
 
-    /// A reference of no bank (see `Bank::lacks_defaults`), to fill places that aren't used yet.
+    /// A reference of no bank, to fill places that aren't used yet.
     fn default() -> TermRef {
-        TermRef { number: u64::MAX }
+        TermRef {
+            place: 0,
+            row: 0,
+            shown: None,
+        }
     }
 }

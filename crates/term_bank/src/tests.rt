@@ -1,6 +1,7 @@
-// Each public call once, with ample memory, on rows worked out by hand.
+// Each public call with ample memory, on rows worked out by hand, and threads that read while another interns.
 
-ghost use Rattle.term_bank.specs.Bank.{IsTableOf};
+ghost use Rattle.std.specs.Prelude.{IfOk};
+ghost use Rattle.term_bank.specs.Bank.{IsTableOf, AreOf};
 
 use super::*;
 use fol_base::{Term, same_term};
@@ -9,7 +10,10 @@ use sample_numbers::Random;
 use sample_terms::{binary, constant, random_terms, unary};
 use std::alloc::Global;
 use std::default::Default;
+use std::sync::Wait;
 use std::test::Fail;
+use std::thread;
+use std::thread::Threads;
 
 const A: u32 = 1;
 
@@ -22,38 +26,38 @@ fn a_known_term_keeps_its_number(rt: HostRuntime) -> Result<(), Fail> {
     let alloc = rt.alloc();
     let fa = unary(alloc, F, constant(alloc, A))?;
     let ga = unary(alloc, G, constant(alloc, A))?;
-    let (mut bank, mut table) = Bank::new(alloc)?;
-    let first = bank.intern(&mut table, &fa)?;
+    let (bank, mut table) = Bank::new(alloc)?;
+    let first = bank.intern(&rt, alloc, &mut table, &fa)?;
     assert!(rt; same_term(bank.tree(&first), &fa));
-    let second = bank.intern(&mut table, &ga)?;
+    let second = bank.intern(&rt, alloc, &mut table, &ga)?;
     assert!(rt; same_term(bank.tree(&second), &ga));
     assert!(rt; same_term(bank.tree(&first), &fa));
-    let third = bank.intern(&mut table, &fa)?;
+    let third = bank.intern_owned(&rt, alloc, &mut table, fa.copy(alloc)?)?;
     assert!(rt; same_term(bank.tree(&third), &fa));
     assert_eq!(rt; third.number(), first.number());
     assert!(rt; second.number() != first.number());
     if first.number() == third.number() {
         bank.agree(&first, &third);
     }
-    bank.lacks_defaults();
     assert_eq!(rt; first.copy().number(), first.number());
-    assert_eq!(rt; TermRef::default().number(), u64::MAX);
+    assert_eq!(rt; TermRef::default().number(), 0);
     Ok(())
 }
 
 /// The numbers of terms that are interned one after another.
-fn interned_numbers(
+fn interned_numbers<R: Wait>(
+    rt: &R,
     alloc: Global,
-    bank: &mut Bank,
+    bank: &Bank,
     table: &mut Table,
     terms: &[Term],
 ) -> Mem<Vec<u64>>
-    requires { IsTableOf bank.old table.old }
-    ensures { IsTableOf bank.new table.new }
+    requires { IsTableOf bank.now table.old }
+    ensures { IsTableOf bank.now table.new }
 {
     let mut numbers = Vec::with_capacity(alloc, terms.len())?;
     for term in terms {
-        numbers.push(bank.intern(table, term)?.number())?;
+        numbers.push(bank.intern(rt, alloc, table, term)?.number())?;
     }
     Ok(numbers)
 }
@@ -71,12 +75,12 @@ fn terms_that_differ_have_numbers_that_differ(rt: HostRuntime) -> Result<(), Fai
         binary(alloc, F, constant(alloc, A), Term::Var(0))?,
         unary(alloc, F, unary(alloc, F, Term::Var(0))?)?,
     ]?;
-    let (mut bank, mut table) = Bank::new(alloc)?;
-    let numbers = interned_numbers(alloc, &mut bank, &mut table, rows.as_slice())?;
+    let (bank, mut table) = Bank::new(alloc)?;
+    let numbers = interned_numbers(&rt, alloc, &bank, &mut table, rows.as_slice())?;
     for (index, number) in numbers.iter().enumerate() {
         assert!(rt; !numbers[..index].contains(number));
     }
-    let again = interned_numbers(alloc, &mut bank, &mut table, rows.as_slice())?;
+    let again = interned_numbers(&rt, alloc, &bank, &mut table, rows.as_slice())?;
     assert!(rt; numbers.as_slice() == again.as_slice());
     Ok(())
 }
@@ -85,17 +89,33 @@ const TERMS: u64 = 1_000;
 
 const ROUNDS: u32 = 10;
 
+/// Whether terms have the same numbers in each round.
+fn numbers_stay<R: Wait>(
+    rt: &R,
+    alloc: Global,
+    bank: &Bank,
+    table: &mut Table,
+    terms: &[Term],
+) -> Mem<bool>
+    requires { IsTableOf bank.now table.old }
+{
+    let numbers = interned_numbers(rt, alloc, bank, table, terms)?;
+    for _ in 1..ROUNDS {
+        let again = interned_numbers(rt, alloc, bank, table, terms)?;
+        if numbers.as_slice() != again.as_slice() {
+            return Ok(false);
+        }
+    }
+    Ok(true)
+}
+
 /// A term keeps the number of its first round. The benchmark is this test with `TERMS` changed.
 #[test]
 fn random_terms_keep_their_numbers(rt: HostRuntime) -> Result<(), Fail> {
     let alloc = rt.alloc();
     let terms = random_terms(alloc, &mut Random::new(1), TERMS)?;
-    let (mut bank, mut table) = Bank::new(alloc)?;
-    let numbers = interned_numbers(alloc, &mut bank, &mut table, terms.as_slice())?;
-    for _ in 1..ROUNDS {
-        let again = interned_numbers(alloc, &mut bank, &mut table, terms.as_slice())?;
-        assert!(rt; numbers.as_slice() == again.as_slice());
-    }
+    let (bank, mut table) = Bank::new(alloc)?;
+    assert!(rt; numbers_stay(&rt, alloc, &bank, &mut table, terms.as_slice())?);
     Ok(())
 }
 
@@ -107,9 +127,118 @@ fn a_tall_term_is_interned(rt: HostRuntime) -> Result<(), Fail> {
     for _ in 0..20_000 {
         tower = unary(alloc, F, tower)?;
     }
-    let (mut bank, mut table) = Bank::new(alloc)?;
-    let first = bank.intern(&mut table, &tower)?;
-    let again = bank.intern(&mut table, &tower)?;
+    let (bank, mut table) = Bank::new(alloc)?;
+    let first = bank.intern(&rt, alloc, &mut table, &tower)?;
+    let again = bank.intern(&rt, alloc, &mut table, &tower)?;
     assert_eq!(rt; again.number(), first.number());
+    Ok(())
+}
+
+/// The references of terms that are interned one after another.
+fn taken_in<R: Wait>(
+    rt: &R,
+    alloc: Global,
+    bank: &Bank,
+    table: &mut Table,
+    terms: &[Term],
+) -> Mem<Vec<TermRef>>
+    requires { IsTableOf bank.now table.old }
+    ensures table { IsTableOf bank.now table.new }
+    ensures references { IfOk result (λ made. AreOf bank.now made.items) }
+{
+    let mut made = Vec::with_capacity(alloc, terms.len())?;
+    for term in terms {
+        made.push(bank.intern(rt, alloc, table, term)?)?;
+    }
+    Ok(made)
+}
+
+/// Whether each term that is interned is the one that its reference lends.
+fn interns_its_own<R: Wait>(
+    rt: &R,
+    alloc: Global,
+    bank: &Bank,
+    table: &mut Table,
+    terms: &[Term],
+) -> Mem<bool>
+    requires { IsTableOf bank.now table.old }
+{
+    for term in terms {
+        let reference = bank.intern(rt, alloc, table, term)?;
+        if !same_term(bank.tree(&reference), term) {
+            return Ok(false);
+        }
+    }
+    Ok(true)
+}
+
+/// Whether each reference lends its term, each time that it is asked.
+fn reads_its_own(bank: &Bank, references: &[TermRef], terms: &[Term]) -> bool
+    requires { AreOf bank.now references.now }
+{
+    for _ in 0..ROUNDS {
+        for index in 0..references.len().min(terms.len()) {
+            if !same_term(bank.tree(&references[index]), &terms[index]) {
+                return false;
+            }
+        }
+    }
+    true
+}
+
+/// Whether two threads each read their terms.
+fn two_read<R: Threads + Wait + Sync>(
+    rt: &R,
+    bank: &Bank,
+    references: &[TermRef],
+    terms: &[Term],
+) -> bool
+    requires { AreOf bank.now references.now }
+{
+    let (one, other) = thread::join(
+        rt,
+        || reads_its_own(bank, references, terms),
+        || reads_its_own(bank, references, terms),
+    );
+    one && other
+}
+
+/// Two threads read the terms that were taken in, while a third interns others: whether each saw its own.
+fn read_while_interning<R: Threads + Wait + Sync>(
+    rt: &R,
+    alloc: Global,
+    bank: &Bank,
+    table: &mut Table,
+    references: &[TermRef],
+    terms: &[Term],
+    others: &[Term],
+) -> Mem<bool>
+    requires table { IsTableOf bank.now table.old }
+    requires references { AreOf bank.now references.now }
+{
+    let (interned, read) = thread::join(
+        rt,
+        || interns_its_own(rt, alloc, bank, table, others),
+        || requires { AreOf bank.now references.now } { two_read(rt, bank, references, terms) },
+    );
+    Ok(interned? && read)
+}
+
+#[test]
+fn threads_read_while_one_interns(rt: HostRuntime) -> Result<(), Fail> {
+    let alloc = rt.alloc();
+    let terms = random_terms(alloc, &mut Random::new(2), TERMS)?;
+    let others = random_terms(alloc, &mut Random::new(3), TERMS)?;
+    let (bank, mut table) = Bank::new(alloc)?;
+    let references = taken_in(&rt, alloc, &bank, &mut table, terms.as_slice())?;
+    assert!(rt; read_while_interning(
+        &rt,
+        alloc,
+        &bank,
+        &mut table,
+        references.as_slice(),
+        terms.as_slice(),
+        others.as_slice(),
+    )?);
     Ok(())
 }

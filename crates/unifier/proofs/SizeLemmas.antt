@@ -14,9 +14,8 @@ use Rattle.fol_base.specs.Term.{tree_of}
 use Rattle.fol_base.specs.declared.term.Term.{Term}
 use Rattle.fol_base.proofs.ListLemmas.{map-take_more_item}
 use Rattle.fol_base.proofs.TreeLemmas.{trees_size-push, instances-trees_of}
-use Rattle.term_bank.specs.declared.bank.Bank.{Bank}
 use Rattle.term_bank.specs.declared.literal.BankLit.{BankLit}
-use Rattle.term_bank.specs.Literal.{literals_in, literal_in}
+use Rattle.term_bank.specs.Literal.{literals_at, literal_at}
 use Rattle.unifier.specs.declared.cells.Cell.{Cell}
 use Rattle.unifier.specs.declared.cells.Cell.TheVariants.{Variable, Application, NoTrees, TreeThen}
 use Rattle.unifier.specs.declared.layout.Place.{Place}
@@ -129,18 +128,18 @@ size-more σ xs i x total one new less is h here made =
 
 -- the sizes of one more literal
 pub size-literal :
-    (σ : Substitution) (bank : Bank) (ls : List BankLit) (i : ℕ) (l : BankLit) (total left right new : ℕ)
+    (σ : Substitution) (ls : List BankLit) (i : ℕ) (l : BankLit) (total left right new : ℕ)
     → i < length ls → l ≡ get_or ls i l
-    → total ≡ stopped (sum_by literal_size (literals_instance σ (literals_in bank (take i ls))))
-    → left ≡ stopped (tree_size (instance σ (literal_in bank l).left)) → right ≡ stopped (tree_size (instance σ (literal_in bank l).right))
+    → total ≡ stopped (sum_by literal_size (literals_instance σ (literals_at (take i ls))))
+    → left ≡ stopped (tree_size (instance σ (literal_at l).left)) → right ≡ stopped (tree_size (instance σ (literal_at l).right))
     → new ≡ stopped (total + stopped (left + right))
-    → new ≡ stopped (sum_by literal_size (literals_instance σ (literals_in bank (take (i + 1) ls))))
-size-literal σ bank ls i l total left right new less is h one other made =
-    let done : List TreeLiteral = literals_in bank (take i ls) in
-    let m : TreeLiteral = literal_in bank l in
-    let parts : literals_instance σ (literals_in bank (take (i + 1) ls)) ≡ literals_instance σ done ++ literal_instance σ m ∷ [] =
-    ap (literals_instance σ) (map-take_more_item (literal_in bank) ls i l less is) ∙ map-append (literal_instance σ) done (m ∷ []) in
-    let all : sum_by literal_size (literals_instance σ (literals_in bank (take (i + 1) ls)))
+    → new ≡ stopped (sum_by literal_size (literals_instance σ (literals_at (take (i + 1) ls))))
+size-literal σ ls i l total left right new less is h one other made =
+    let done : List TreeLiteral = literals_at (take i ls) in
+    let m : TreeLiteral = literal_at l in
+    let parts : literals_instance σ (literals_at (take (i + 1) ls)) ≡ literals_instance σ done ++ literal_instance σ m ∷ [] =
+    ap (literals_instance σ) (map-take_more_item literal_at ls i l less is) ∙ map-append (literal_instance σ) done (m ∷ []) in
+    let all : sum_by literal_size (literals_instance σ (literals_at (take (i + 1) ls)))
     ≡ sum_by literal_size (literals_instance σ done) + sum_by literal_size (literal_instance σ m ∷ []) =
     ap (sum_by literal_size) parts ∙ sum_by-append literal_size (literals_instance σ done) (literal_instance σ m ∷ []) in
     let single : sum_by literal_size (literal_instance σ m ∷ []) ≡ tree_size (instance σ m.left) + tree_size (instance σ m.right) =

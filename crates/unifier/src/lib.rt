@@ -21,10 +21,4 @@ pub use matching::match_onto;
 pub use unifying::unify;
 
 pub mod examples;
-#[cfg(test)]
-mod family_tests;
 pub mod laws;
-#[cfg(test)]
-mod pair_tests;
-#[cfg(test)]
-mod tests;

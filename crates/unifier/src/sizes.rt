@@ -6,7 +6,7 @@ ghost use Rattle.fol_base.specs.Instance.{instance, instances};
 ghost use Rattle.fol_base.specs.Clause.{literal_size};
 ghost use Rattle.fol_base.specs.Ground.{literals_instance};
 ghost use Rattle.fol_base.specs.Term.{tree_of};
-ghost use Rattle.term_bank.specs.Literal.{AreLiteralsOf, literals_in};
+ghost use Rattle.term_bank.specs.Literal.{AreLiteralsOf, literals_at};
 ghost use Rattle.unifier.specs.Cells.{IsAfterParts};
 ghost use Rattle.unifier.specs.Bindings.{substitution_of};
 ghost use Rattle.unifier.specs.Sizes.{AreSizes, size_by, stopped};
@@ -24,7 +24,7 @@ impl Bindings {
     pub fn instance_size(&self, bank: &Bank, side: Side, literals: &[BankLit]) -> Mem<u64>
         requires { AreLiteralsOf bank.now literals.now }
         ensures { IfOk result (λ size. size
-            ≡ stopped (sum_by literal_size (literals_instance (substitution_of self.now side) (literals_in bank.now literals.now)))) }
+            ≡ stopped (sum_by literal_size (literals_instance (substitution_of self.now side) (literals_at literals.now)))) }
     {
         let sizes = self.cell_sizes()?;
         let mut total: u64 = 0;

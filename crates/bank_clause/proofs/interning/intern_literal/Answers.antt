@@ -8,34 +8,29 @@ use Rattle.bank_clause.proofs.SidesLemmas.{known-kept, on-err}
 use Rattle.bank_clause.proofs.interning.intern_literal.Goals as goal
 
 pub returns-clause-known : goal.returns-clause-known
-returns-clause-known c =
+returns-clause-known g c =
     let l : TreeLiteral = literal_of c.args.literal.now in
-    let far : InternsAll (l.right ∷ []) c.intern.new.table c.intern-2.new.table c.intern.new.self c.intern-2.new.self =
-    interns_one _ _ _ _ _ _ c.in_ok-right.ensures.entries c.in_ok-right.ensures.bank in (
-      known-kept (l.right ∷ []) c.intern.new.table c.intern-2.new.table c.intern.new.self c.intern-2.new.self c.in_ok-left.left _
-          far c.in_ok-left.ensures.reference c.in_ok-left.ensures.tree c.in_ok-left.ensures.known,
+    let far : InternsAll (l.right ∷ []) c.intern.new.table c.intern-2.new.table = interns_one _ _ _ _ c.in_ok-right.ensures.entries in (
+      known-kept (l.right ∷ []) c.intern.new.table c.intern-2.new.table c.in_ok-left.left _
+          far c.in_ok-left.ensures.tree c.in_ok-left.ensures.known,
       ap (number_in c.intern-2.new.table) c.in_ok-right.ensures.tree ∙ c.in_ok-right.ensures.known,
     )
 
 pub returns-clause-interned : goal.returns-clause-interned
-returns-clause-interned c =
+returns-clause-interned g c =
     let l : TreeLiteral = literal_of c.args.literal.now in
-    interns_onward (l.left ∷ []) (l.right ∷ []) c.args.table.now c.intern.new.table c.intern-2.new.table c.args.bank.now c.intern.new.self c.intern-2.new.self
-    (interns_one _ _ _ _ _ _ c.in_ok-left.ensures.entries c.in_ok-left.ensures.bank)
-    (interns_one _ _ _ _ _ _ c.in_ok-right.ensures.entries c.in_ok-right.ensures.bank)
+    interns_onward (l.left ∷ []) (l.right ∷ []) c.args.table.now c.intern.new.table c.intern-2.new.table
+    (interns_one _ _ _ _ c.in_ok-left.ensures.entries) (interns_one _ _ _ _ c.in_ok-right.ensures.entries)
 
 pub returns-in_err-left-clause-interned_first : goal.returns-in_err-left-clause-interned_first
-returns-in_err-left-clause-interned_first c =
+returns-in_err-left-clause-interned_first g c =
     let l : TreeLiteral = literal_of c.args.literal.now in
-    on-err c.from_residual.result
-    ([], l.left ∷ l.right ∷ [], refl, interns-nothing _ _ _ _ c.in_err-left.ensures.table_unchanged c.in_err-left.ensures.bank_unchanged)
+    on-err c.from_residual.result ([], l.left ∷ l.right ∷ [], refl, interns-nothing _ _ c.in_err-left.ensures.table_unchanged)
 
 pub returns-in_err-right-clause-interned_first : goal.returns-in_err-right-clause-interned_first
-returns-in_err-right-clause-interned_first c =
+returns-in_err-right-clause-interned_first g c =
     let l : TreeLiteral = literal_of c.args.literal.now in
-    let near : InternsAll (l.left ∷ []) c.args.table.now c.intern.new.table c.args.bank.now c.intern.new.self =
-    interns_one _ _ _ _ _ _ c.in_ok-left.ensures.entries c.in_ok-left.ensures.bank in
-    let far : InternsAll [] c.intern.new.table c.intern-2.new.table c.intern.new.self c.intern-2.new.self =
-    interns-nothing _ _ _ _ c.in_err-right.ensures.table_unchanged c.in_err-right.ensures.bank_unchanged in
+    let near : InternsAll (l.left ∷ []) c.args.table.now c.intern.new.table = interns_one _ _ _ _ c.in_ok-left.ensures.entries in
+    let far : InternsAll [] c.intern.new.table c.intern-2.new.table = interns-nothing _ _ c.in_err-right.ensures.table_unchanged in
     on-err c.from_residual-in_err-right.result
-    (l.left ∷ [], l.right ∷ [], refl, interns_onward (l.left ∷ []) [] _ _ _ _ _ _ near far)
+    (l.left ∷ [], l.right ∷ [], refl, interns_onward (l.left ∷ []) [] _ _ _ near far)

@@ -3,14 +3,14 @@ use Rattle.std.specs.List.{All}
 use Rattle.fol_base.specs.Literal.{literal_of}
 use Rattle.term_bank.specs.Bank.{IsTableOf}
 use Rattle.term_bank.specs.Interning.{InternsAll}
-use Rattle.term_bank.specs.Literal.{AreLiteralsOf, literals_in}
+use Rattle.term_bank.specs.Literal.{AreLiteralsOf, literals_at}
 use Rattle.bank_clause.specs.Clause.{IsKnown, sides}
 use Rattle.bank_clause.proofs.interning.intern_literals.Given as goal
 
 abbrev pub invariant-loop-literal : goal.invariant-loop-literal
-invariant-loop-literal l =
+invariant-loop-literal g l =
     AreLiteralsOf l.bank l.made.items
-    × (literals_in l.bank l.made.items ≡ map literal_of (take l.literal-index l.literals))
-    × All (IsKnown l.bank l.table) l.made.items
+    × (literals_at l.made.items ≡ map literal_of (take l.literal-index l.literals))
+    × All (IsKnown l.table) l.made.items
     × IsTableOf l.bank l.table
-    × InternsAll (sides (map literal_of (take l.literal-index l.literals))) l.initial.table l.table l.initial.bank l.bank
+    × InternsAll (sides (map literal_of (take l.literal-index l.literals))) l.initial.table l.table

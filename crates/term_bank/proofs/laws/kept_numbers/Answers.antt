@@ -1,5 +1,5 @@
 use Rattle.term_bank.specs.Bank.{entries}
-use Rattle.term_bank.proofs.BankLemmas.{number-kept}
+use Rattle.term_bank.proofs.LookupLemmas.{number-kept}
 use Rattle.term_bank.proofs.InterningLemmas.{keeps_all_numbers}
 use Rattle.term_bank.proofs.laws.kept_numbers.Goals as goal
 

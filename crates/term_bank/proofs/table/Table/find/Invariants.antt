@@ -1,0 +1,10 @@
+use Rattle.fol_base.specs.Term.{tree_of}
+use Rattle.term_bank.specs.Bank.{entries}
+use Rattle.term_bank.proofs.ChainLemmas.{Looks}
+use Rattle.term_bank.proofs.table.Table.find.Given as goal
+
+abbrev pub invariant-loop-next : goal.invariant-loop-next
+invariant-loop-next l = Looks (tree_of l.term) l.hash (entries l.self) l.next
+
+abbrev pub decreases-loop-next : goal.decreases-loop-next
+decreases-loop-next l = l.next
