@@ -222,30 +222,30 @@ fn read_while_taking_in<R: Threads + Wait + Sync>(
     alloc: Global,
     bank: &Bank,
     table: &mut Table,
-    clause: (&Clause, &BankClause),
-    others: Vec<Literal>,
+    form: &Clause,
+    made: &BankClause,
 ) -> Mem<bool>
     requires table { IsTableOf bank.now table.old }
-    requires of_bank { IsClauseOf bank.now clause.1.now }
+    requires of_bank { IsClauseOf bank.now made.now }
 {
-    let (form, made) = clause;
     let (taken, read) = thread::join(
         rt,
-        || takes_in_its_own(rt, alloc, bank, table, others),
+        || takes_in_its_own(rt, alloc, bank, table),
         || requires { IsClauseOf bank.now made.now } { comes_back(bank, form, made) },
     );
     Ok(taken? && read?)
 }
 
+/// Whether a clause that is taken in comes back.
 fn takes_in_its_own<R: Wait>(
     rt: &R,
     alloc: Global,
     bank: &Bank,
     table: &mut Table,
-    literals: Vec<Literal>,
 ) -> Mem<bool>
     requires { IsTableOf bank.now table.old }
 {
+    let literals = atom_and_disequation(alloc, 5)?;
     let (form, made) = taken_in(rt, alloc, bank, table, literals, &[])?;
     comes_back(bank, &form, &made)
 }
@@ -255,7 +255,6 @@ fn a_clause_is_read_while_another_is_taken_in(rt: HostRuntime) -> Result<(), Fai
     let alloc = rt.alloc();
     let (bank, mut table) = Bank::new(alloc)?;
     let (form, made) = taken_in(&rt, alloc, &bank, &mut table, many_atoms(alloc, 9)?, &[7])?;
-    let others = atom_and_disequation(alloc, 5)?;
-    assert!(rt; read_while_taking_in(&rt, alloc, &bank, &mut table, (&form, &made), others)?);
+    assert!(rt; read_while_taking_in(&rt, alloc, &bank, &mut table, &form, &made)?);
     Ok(())
 }
