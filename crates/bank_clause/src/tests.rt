@@ -201,18 +201,28 @@ fn members_outlive_further_terms(rt: HostRuntime) -> Result<(), Fail> {
     Ok(())
 }
 
-/// Clauses are equal exactly where their literals and names are.
+/// Whether two clauses of so many atoms, with no names, are equal by numbers.
+fn equal_when_taken_in<R: Wait>(
+    rt: &R,
+    alloc: Global,
+    bank: &Bank,
+    table: &mut Table,
+    counts: (u32, u32),
+) -> Mem<bool>
+    requires { IsTableOf bank.now table.old }
+    ensures { IsTableOf bank.now table.new }
+{
+    let (_, one) = taken_in(rt, alloc, bank, table, many_atoms(alloc, counts.0)?, &[])?;
+    let (_, other) = taken_in(rt, alloc, bank, table, many_atoms(alloc, counts.1)?, &[])?;
+    Ok(one == other)
+}
+
 #[test]
 fn equal_clauses_are_equal_by_numbers(rt: HostRuntime) -> Result<(), Fail> {
     let alloc = rt.alloc();
     let (bank, mut table) = Bank::new(alloc)?;
-    let (_, one) = taken_in(&rt, alloc, &bank, &mut table, many_atoms(alloc, 5)?, &[2])?;
-    let (_, same) = taken_in(&rt, alloc, &bank, &mut table, many_atoms(alloc, 5)?, &[2])?;
-    let (_, named) = taken_in(&rt, alloc, &bank, &mut table, many_atoms(alloc, 5)?, &[3])?;
-    let (_, longer) = taken_in(&rt, alloc, &bank, &mut table, many_atoms(alloc, 6)?, &[2])?;
-    assert!(rt; one == same);
-    assert!(rt; one != named);
-    assert!(rt; one != longer);
+    assert!(rt; equal_when_taken_in(&rt, alloc, &bank, &mut table, (5, 5))?);
+    assert!(rt; !equal_when_taken_in(&rt, alloc, &bank, &mut table, (5, 6))?);
     Ok(())
 }
 
