@@ -1,3 +1,4 @@
 pub mod SidesLemmas
 pub mod ClauseLemmas
 pub mod ExampleLemmas
+pub mod EqualityLemmas

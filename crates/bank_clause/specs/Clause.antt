@@ -1,5 +1,7 @@
 -- Clauses in a bank: what they stand for, and what holds of each that is of the bank.
-use Rattle.std.specs.Prelude.{◌≡◌, ℕ, false, List, [], ◌∷◌, map, flat_map, Some}
+use Rattle.std.specs.Prelude.{◌≡◌, ℕ, nat_eq, Bool, false, List, [], ◌∷◌, map, flat_map, Some}
+use Rattle.std.specs.Ordering.{on, eq_of_both}
+use lib.Pointwise.{pointwise}
 use Rattle.std.specs.List.{All}
 use Rattle.std.specs.List.Sorted.{IsStrictlyIncreasing}
 use Rattle.plain_types.specs.declared.sequence.NameLit.{NameLit}
@@ -7,7 +9,7 @@ use Rattle.fol_base.specs.Tree.{Tree}
 use Rattle.fol_base.specs.Clause.{TreeLiteral, TreeClause, clause_size, clause_variables}
 use Rattle.fol_base.specs.Canonical.{IsCanonical, bound_of}
 use Rattle.term_bank.specs.Bank.{number, tree_at, number_in}
-use Rattle.term_bank.specs.Literal.{AreLiteralsOf, literals_at}
+use Rattle.term_bank.specs.Literal.{AreLiteralsOf, literals_at, same_numbers}
 use Rattle.term_bank.specs.declared.literal.BankLit.{BankLit}
 use Rattle.term_bank.specs.declared.bank.Bank.{Bank}
 use Rattle.term_bank.specs.declared.table.Table.{Table}
@@ -34,6 +36,10 @@ pub record IsClauseOf (bank : Bank) (c : BankClause) : Type 0 where
   pub canonical : IsCanonical (clause_at c)
   pub size : c.size ≡ clause_size (clause_at c)
   pub variables : c.variables ≡ bound_of (clause_variables (clause_at c))
+
+-- the clauses have the same signs, the same numbers on all sides, and the same names
+abbrev pub equal_by_numbers : BankClause → BankClause → Bool
+equal_by_numbers = eq_of_both (on (λ c. c.literals) (pointwise same_numbers)) (on (λ c. c.names) (pointwise nat_eq))
 
 -- the member's clause is of the bank
 abbrev pub IsMemberOf : Bank → Member → Type 0

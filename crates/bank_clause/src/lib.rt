@@ -2,6 +2,7 @@
 #![tactic(auto)]
 
 mod clause;
+mod equality;
 mod interning;
 mod lending;
 mod member;

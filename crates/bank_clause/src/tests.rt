@@ -4,7 +4,7 @@ ghost use Rattle.std.specs.Prelude.{◌<◌, IfOk};
 ghost use Rattle.std.specs.List.Sorted.{IsStrictlyIncreasing};
 ghost use Rattle.fol_base.specs.Clause.{clause_size};
 ghost use Rattle.fol_base.specs.Literal.{clause_of};
-ghost use Rattle.term_bank.specs.Bank.{IsTableOf, Grows};
+ghost use Rattle.term_bank.specs.Bank.{IsTableOf};
 ghost use Rattle.bank_clause.specs.Clause.{AreAssertions, IsClauseOf};
 ghost use Rattle.fol_base.specs.Canonical.{IsCanonical};
 
@@ -17,7 +17,10 @@ use fol_base::{
 use plain_types::{Mem, Names, NoMemory};
 use sample_terms::{atom, constant, unary};
 use std::alloc::Global;
+use std::sync::Wait;
 use std::test::Fail;
+use std::thread;
+use std::thread::Threads;
 use term_bank::{Bank, Table};
 
 const A: u32 = 1;
@@ -71,21 +74,21 @@ fn form_of(alloc: Global, literals: Vec<Literal>, names: &[u32]) -> Mem<Clause>
 }
 
 /// That canonical clause, taken into the bank.
-fn taken_in(
+fn taken_in<R: Wait>(
+    rt: &R,
     alloc: Global,
-    bank: &mut Bank,
+    bank: &Bank,
     table: &mut Table,
     literals: Vec<Literal>,
     names: &[u32],
 ) -> Mem<(Clause, BankClause)>
-    requires table { IsTableOf bank.old table.old }
+    requires table { IsTableOf bank.now table.old }
     requires rising { IsStrictlyIncreasing names.now }
-    ensures of_bank { IfOk result (λ made. IsClauseOf bank.new made.1) }
-    ensures table { IsTableOf bank.new table.new }
-    ensures grows { Grows bank.old bank.new }
+    ensures of_bank { IfOk result (λ made. IsClauseOf bank.now made.1) }
+    ensures table { IsTableOf bank.now table.new }
 {
     let form = form_of(alloc, literals, names)?;
-    let made = BankClause::of_clause(alloc, bank, table, &form)?;
+    let made = BankClause::of_clause(rt, alloc, bank, table, &form)?;
     Ok((form, made))
 }
 
@@ -117,6 +120,8 @@ fn comes_back(bank: &Bank, form: &Clause, made: &BankClause) -> Mem<bool>
             && same_clause(&from_copy, form)
             && u64::from(made.size()) == form.size()
             && lends(bank, made, form.literals.as_slice())
+            && made.variable_bound() == form.variable_bound()
+            && copied == *made
             && made.names().len() == form.names.len()
             && copied.names() == made.names(),
     )
@@ -125,11 +130,12 @@ fn comes_back(bank: &Bank, form: &Clause, made: &BankClause) -> Mem<bool>
 #[test]
 fn a_clause_comes_back(rt: HostRuntime) -> Result<(), Fail> {
     let alloc = rt.alloc();
-    let (mut bank, mut table) = Bank::new(alloc)?;
+    let (bank, mut table) = Bank::new(alloc)?;
     let literals = atom_and_disequation(alloc, 5)?;
-    let (form, made) = taken_in(alloc, &mut bank, &mut table, literals, &[3])?;
+    let (form, made) = taken_in(&rt, alloc, &bank, &mut table, literals, &[3])?;
     assert!(rt; comes_back(&bank, &form, &made)?);
     assert_eq!(rt; made.size(), 5);
+    assert_eq!(rt; made.variable_bound(), 1);
     assert!(rt; made.names() == [3].as_slice());
     Ok(())
 }
@@ -138,14 +144,14 @@ fn a_clause_comes_back(rt: HostRuntime) -> Result<(), Fail> {
 #[test]
 fn clauses_come_back_from_one_bank(rt: HostRuntime) -> Result<(), Fail> {
     let alloc = rt.alloc();
-    let (mut bank, mut table) = Bank::new(alloc)?;
+    let (bank, mut table) = Bank::new(alloc)?;
     for count in [0, 1, 4, 5, 9] {
         let literals = many_atoms(alloc, count)?;
-        let (form, made) = taken_in(alloc, &mut bank, &mut table, literals, &[])?;
+        let (form, made) = taken_in(&rt, alloc, &bank, &mut table, literals, &[])?;
         assert!(rt; comes_back(&bank, &form, &made)?);
         assert!(rt; made.names().is_empty());
         let literals = many_atoms(alloc, count)?;
-        let (form, made) = taken_in(alloc, &mut bank, &mut table, literals, &[0, 7])?;
+        let (form, made) = taken_in(&rt, alloc, &bank, &mut table, literals, &[0, 7])?;
         assert!(rt; comes_back(&bank, &form, &made)?);
         assert!(rt; made.names() == [0, 7].as_slice());
     }
@@ -156,14 +162,16 @@ fn clauses_come_back_from_one_bank(rt: HostRuntime) -> Result<(), Fail> {
 #[test]
 fn equal_sides_have_equal_numbers(rt: HostRuntime) -> Result<(), Fail> {
     let alloc = rt.alloc();
-    let (mut bank, mut table) = Bank::new(alloc)?;
-    let (_, made) = taken_in(alloc, &mut bank, &mut table, many_atoms(alloc, 6)?, &[])?;
-    let even = bank.intern(&mut table, &unary(alloc, P, Term::Var(0))?)?;
+    let (bank, mut table) = Bank::new(alloc)?;
+    let (_, made) = taken_in(&rt, alloc, &bank, &mut table, many_atoms(alloc, 6)?, &[])?;
+    let even = bank.intern(&rt, alloc, &mut table, &unary(alloc, P, Term::Var(0))?)?;
     let odd = bank.intern(
+        &rt,
+        alloc,
         &mut table,
         &unary(alloc, P, unary(alloc, F, Term::Var(1))?)?,
     )?;
-    let truth = bank.intern(&mut table, &constant(alloc, 0))?;
+    let truth = bank.intern(&rt, alloc, &mut table, &constant(alloc, 0))?;
     for (index, literal) in made.literals().iter().enumerate() {
         let wanted = if index % 2 == 0 {
             even.number()
@@ -178,12 +186,12 @@ fn equal_sides_have_equal_numbers(rt: HostRuntime) -> Result<(), Fail> {
 }
 
 #[test]
-fn members_outlive_growth(rt: HostRuntime) -> Result<(), Fail> {
+fn members_outlive_further_terms(rt: HostRuntime) -> Result<(), Fail> {
     let alloc = rt.alloc();
-    let (mut bank, mut table) = Bank::new(alloc)?;
+    let (bank, mut table) = Bank::new(alloc)?;
     let literals = atom_and_disequation(alloc, 0)?;
-    let (form, clause) = taken_in(alloc, &mut bank, &mut table, literals, &[])?;
-    let (_, _later) = taken_in(alloc, &mut bank, &mut table, many_atoms(alloc, 2)?, &[])?;
+    let (form, clause) = taken_in(&rt, alloc, &bank, &mut table, literals, &[])?;
+    let (_, _later) = taken_in(&rt, alloc, &bank, &mut table, many_atoms(alloc, 2)?, &[])?;
     assert!(rt; comes_back(&bank, &form, &clause)?);
     let mut members = Members::new(alloc);
     members.push(Member { number: 4, clause })?;
@@ -191,5 +199,73 @@ fn members_outlive_growth(rt: HostRuntime) -> Result<(), Fail> {
         assert_eq!(rt; member.number, 4);
         assert_eq!(rt; member.clause.size(), 5);
     }
+    Ok(())
+}
+
+/// Whether two clauses of so many atoms, with no names, are equal by numbers.
+fn equal_when_taken_in<R: Wait>(
+    rt: &R,
+    alloc: Global,
+    bank: &Bank,
+    table: &mut Table,
+    counts: (u32, u32),
+) -> Mem<bool>
+    requires { IsTableOf bank.now table.old }
+    ensures { IsTableOf bank.now table.new }
+{
+    let (_, one) = taken_in(rt, alloc, bank, table, many_atoms(alloc, counts.0)?, &[])?;
+    let (_, other) = taken_in(rt, alloc, bank, table, many_atoms(alloc, counts.1)?, &[])?;
+    Ok(one == other)
+}
+
+#[test]
+fn equal_clauses_are_equal_by_numbers(rt: HostRuntime) -> Result<(), Fail> {
+    let alloc = rt.alloc();
+    let (bank, mut table) = Bank::new(alloc)?;
+    assert!(rt; equal_when_taken_in(&rt, alloc, &bank, &mut table, (5, 5))?);
+    assert!(rt; !equal_when_taken_in(&rt, alloc, &bank, &mut table, (5, 6))?);
+    Ok(())
+}
+
+/// One thread reads a clause of the bank while another takes further ones in: whether both come back.
+fn read_while_taking_in<R: Threads + Wait + Sync>(
+    rt: &R,
+    alloc: Global,
+    bank: &Bank,
+    table: &mut Table,
+    form: &Clause,
+    made: &BankClause,
+) -> Mem<bool>
+    requires table { IsTableOf bank.now table.old }
+    requires of_bank { IsClauseOf bank.now made.now }
+{
+    let (taken, read) = thread::join(
+        rt,
+        || takes_in_its_own(rt, alloc, bank, table),
+        || requires { IsClauseOf bank.now made.now } { comes_back(bank, form, made) },
+    );
+    Ok(taken? && read?)
+}
+
+/// Whether a clause that is taken in comes back.
+fn takes_in_its_own<R: Wait>(
+    rt: &R,
+    alloc: Global,
+    bank: &Bank,
+    table: &mut Table,
+) -> Mem<bool>
+    requires { IsTableOf bank.now table.old }
+{
+    let literals = atom_and_disequation(alloc, 5)?;
+    let (form, made) = taken_in(rt, alloc, bank, table, literals, &[])?;
+    comes_back(bank, &form, &made)
+}
+
+#[test]
+fn a_clause_is_read_while_another_is_taken_in(rt: HostRuntime) -> Result<(), Fail> {
+    let alloc = rt.alloc();
+    let (bank, mut table) = Bank::new(alloc)?;
+    let (form, made) = taken_in(&rt, alloc, &bank, &mut table, many_atoms(alloc, 9)?, &[7])?;
+    assert!(rt; read_while_taking_in(&rt, alloc, &bank, &mut table, &form, &made)?);
     Ok(())
 }
