@@ -1,0 +1,4 @@
+pub mod Symbol
+pub mod SymbolLaws
+pub mod Occurrences
+pub mod Prefix
