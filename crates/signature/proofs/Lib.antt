@@ -1,0 +1,3 @@
+pub mod OccurrenceLemmas
+pub mod SignatureLemmas
+pub mod PrefixLemmas

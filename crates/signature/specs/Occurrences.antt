@@ -11,7 +11,7 @@ use Rattle.signature.specs.Symbol.{predicate_symbol, function_symbol, true_symbo
 -- how many terms there are
 abbrev pub terms_count : TermTrees → ℕ
 terms_count no_terms = 0
-terms_count (term_then t ts) = terms_count ts + 1
+terms_count (term_then t ts) = 1 + terms_count ts
 
 -- the symbols of a term, with repetitions: a head before its arguments
 abbrev mutual

@@ -1,5 +1,5 @@
 -- That sameness of symbols is an equivalence, and that the same symbols are hashed alike.
-use Rattle.std.proofs.Common.{◌≡◌, ℕ, ◌==◌, Bool, true, false, ◌&&◌, List, ◌∷◌, refl, ap, sym, ◌∙◌, eq-eqb, eqb-eq, subst}
+use Rattle.std.proofs.Common.{◌≡◌, ℕ, ◌==◌, Bool, true, false, ◌&&◌, List, ◌∷◌, refl, ap, sym, ◌∙◌, eq-eqb, eqb-true, subst}
 use mathlib.Core.Bool.{beq}
 use Rattle.std.specs.Prelude.{IsTrue, bytes_eq}
 use Rattle.std.specs.Cmp.{IsEquivalence, decided}
@@ -31,7 +31,7 @@ pub same_symbol-true : (s t : Symbol) → same_symbol s t ≡ true → s ≡ t
 same_symbol-true s t h =
     let parts : (beq (is_predicate_kind s.kind) (is_predicate_kind t.kind) ≡ true) × ((bytes_eq s.name t.name && s.arity == t.arity) ≡ true) = and_parts _ _ h in
     let rest : (bytes_eq s.name t.name ≡ true) × ((s.arity == t.arity) ≡ true) = and_parts _ _ parts.1 in
-    made (kinds s.kind t.kind parts.0) ((bytes_eq-Decides s.name t.name).0 rest.0) (eqb-eq s.arity t.arity rest.1)
+    made (kinds s.kind t.kind parts.0) ((bytes_eq-Decides s.name t.name).0 rest.0) (eqb-true s.arity t.arity rest.1)
   where
     made : s.kind ≡ t.kind → s.name ≡ t.name → s.arity ≡ t.arity → s ≡ t
     made k n a = λ i. record { kind = k i; name = n i; arity = a i }

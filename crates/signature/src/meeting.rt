@@ -1,11 +1,11 @@
 // The symbols of a problem, as a walk over it meets them.
 
-ghost use Rattle.std.specs.Prelude.{◌≡◌, ◌≤◌, ◌<◌, ◌^◌, IfOk, map, fold, length};
+ghost use Rattle.std.specs.Prelude.{◌≡◌, ◌≤◌, ◌<◌, ◌^◌, IfOk, map, fold};
 ghost use Rattle.tptp_tree.specs.Term.{terms_of, term_size, terms_size};
 ghost use Rattle.tptp_tree.specs.Formula.{formulas_of};
 ghost use Rattle.tptp_tree.specs.Shape.{term_of, formula_of};
 ghost use Rattle.signature.specs.Symbol.{with_symbol, symbol_of, IsSignature};
-ghost use Rattle.signature.specs.Occurrences.{term_symbols, terms_symbols, formula_symbols, formulas_symbols, problem_symbols, occurrences, all_occurrences, HasProblemSize};
+ghost use Rattle.signature.specs.Occurrences.{terms_count, term_symbols, terms_symbols, formula_symbols, formulas_symbols, problem_symbols, occurrences, all_occurrences, HasProblemSize};
 
 use crate::symbol::{Symbol, SymbolKind, SymbolRef, TRUE};
 use indexmap::IndexSet;
@@ -38,6 +38,7 @@ fn meet(alloc: Global, known: &mut IndexSet<Symbol>, symbol: SymbolRef<'_>) -> M
 }
 
 /// Adds the head of a term or of an atom.
+#[tactic(auto, using(crate::proofs::OccurrenceLemmas::count_length))]
 fn meet_head(
     alloc: Global,
     known: &mut IndexSet<Symbol>,
@@ -47,7 +48,7 @@ fn meet_head(
 ) -> Mem<()>
     requires { terms_size (terms_of (map term_of arguments.now)) < 2 ^ 31 }
     ensures { IfOk result (λ _. known.new.keys ≡ with_symbol known.old.keys
-        (record { kind = kind; name = name.now; arity = length arguments.now })) }
+        (record { kind = kind; name = name.now; arity = terms_count (terms_of (map term_of arguments.now)) })) }
 {
     let arity = arguments.len() as u32;
     meet(alloc, known, SymbolRef { kind, name, arity })
