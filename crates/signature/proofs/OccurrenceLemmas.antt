@@ -1,6 +1,6 @@
 -- The symbols that a walk over a problem meets.
 use Rattle.std.proofs.Common.{◌≡◌, ℕ, zero, suc, ◌+◌, ◌<◌, ◌≤◌, List, [], ◌∷◌, ◌++◌, length, map, drop, get_or, refl, ap, sym, ◌∙◌, arith}
-use Rattle.std.specs.Prelude.{fold, flat_map, sum_by}
+use Rattle.std.specs.Prelude.{fold, flat_map}
 use Rattle.tptp_tree.specs.Term.{TermTree, variable, application, TermTrees, no_terms, term_then, term_size, terms_size, terms_of}
 use Rattle.tptp_tree.specs.Formula.{FormulaTree, truth, falsity, predicate, equation, negation, conjunction, disjunction, connected, quantified, FormulaTrees, no_formulas, formula_then, formulas_of}
 use Rattle.tptp_tree.specs.Shape.{term_of, formula_of}
@@ -9,7 +9,7 @@ use Rattle.tptp_tree.specs.declared.formula.Formula.{Formula}
 use Rattle.tptp_tree.specs.declared.problem.Annotated.{Annotated}
 use Rattle.signature.specs.declared.symbol.Symbol.{Symbol}
 use Rattle.signature.specs.Symbol.{with_symbol}
-use Rattle.signature.specs.Occurrences.{terms_count, term_symbols, terms_symbols, formula_symbols, formulas_symbols, annotated_symbols, occurrences, all_occurrences, annotated_occurrences}
+use Rattle.signature.specs.Occurrences.{terms_count, term_symbols, terms_symbols, formula_symbols, formulas_symbols, annotated_symbols, occurrences, all_occurrences, total_occurrences}
 
 pub folded : (known first rest : List Symbol) → fold with_symbol known (first ++ rest) ≡ fold with_symbol (fold with_symbol known first) rest
 folded known [] rest = refl
@@ -17,7 +17,7 @@ folded known (s ∷ first) rest = folded (with_symbol known s) first rest
 
 pub count_length : (ts : List TreeTerm) → terms_count (terms_of (map term_of ts)) ≡ length ts
 count_length [] = refl
-count_length (t ∷ ts) = ap (λ n. 1 + n) (count_length ts)
+count_length (t ∷ ts) = omega (arith, count_length ts)
 
 size-positive : (t : TermTree) → 1 ≤ term_size t
 size-positive (variable x) = omega arith
@@ -102,10 +102,10 @@ formula-item fs i f h e = omega (arith, among fs i f h, ap (λ g. occurrences (f
 
 pub annotated-item :
     (fs : List Annotated) (i : ℕ) (f : Annotated)
-    → i < length fs → f ≡ get_or fs i f → occurrences (formula_of f.formula) ≤ sum_by annotated_occurrences fs
+    → i < length fs → f ≡ get_or fs i f → occurrences (formula_of f.formula) ≤ total_occurrences fs
 annotated-item fs i f h e = omega (arith, among fs i f h, ap (λ (g : Annotated). occurrences (formula_of g.formula)) e)
   where
-    among : (gs : List Annotated) (j : ℕ) (d : Annotated) → j < length gs → occurrences (formula_of (get_or gs j d).formula) ≤ sum_by annotated_occurrences gs
+    among : (gs : List Annotated) (j : ℕ) (d : Annotated) → j < length gs → occurrences (formula_of (get_or gs j d).formula) ≤ total_occurrences gs
     among [] j d k = absurd (omega arith)
     among (g ∷ gs) zero d k = omega arith
     among (g ∷ gs) (suc j) d k = omega (arith, among gs j d (omega arith))

@@ -1,6 +1,6 @@
 -- That the symbols of a problem are those of a signature, and stay so.
 use Rattle.std.proofs.Common.{◌≡◌, ℕ, suc, ◌+◌, ◌<◌, ◌≤◌, ◌^◌, ◌==◌, Bool, true, false, not, ◌&&◌, ◌||◌, List, [], ◌∷◌, ◌++◌, length, drop, cond, subst, refl, ap, sym, ◌∙◌, arith}
-use Rattle.std.specs.Prelude.{fold, flat_map, sum_by, slice_get, Some, IsTrue, IsFalse, if◌then◌else◌}
+use Rattle.std.specs.Prelude.{fold, flat_map, slice_get, Some, IsTrue, IsFalse, if◌then◌else◌}
 use Rattle.std.specs.List.{list_any, position_or_len}
 use Rattle.std.proofs.lemmas.Bool.{and_parts, and_from}
 use Rattle.tptp_tree.specs.declared.problem.Annotated.{Annotated}
@@ -11,7 +11,7 @@ use Rattle.signature.specs.declared.symbol.Symbol.{Symbol}
 use Rattle.signature.specs.Symbol.{true_symbol, same_symbol, has_symbol, with_symbol, number_of, are_different, IsSignature}
 use Rattle.signature.specs.SymbolLaws.{same_symbol-refl, same_symbol-true}
 use Rattle.signature.proofs.OccurrenceLemmas.{annotated-end}
-use Rattle.signature.specs.Occurrences.{term_symbols, terms_symbols, formula_symbols, formulas_symbols, annotated_symbols, problem_symbols, occurrences, all_occurrences, annotated_occurrences, problem_size, HasProblemSize}
+use Rattle.signature.specs.Occurrences.{term_symbols, terms_symbols, formula_symbols, formulas_symbols, annotated_symbols, problem_symbols, occurrences, all_occurrences, total_occurrences, problem_size, HasProblemSize}
 
 same_symbol-sym : (s t : Symbol) → same_symbol s t ≡ false → same_symbol t s ≡ false
 same_symbol-sym s t h = by (same_symbol t s) refl
@@ -52,8 +52,8 @@ different-end (k ∷ known) s h e =
     neither false b g = (refl, g)
 
 length-end : {X : Type 0} (xs : List X) (x : X) → length (xs ++ x ∷ []) ≡ 1 + length xs
-length-end [] x = refl
-length-end (y ∷ ys) x = ap (λ n. 1 + n) (length-end ys x)
+length-end [] x = omega arith
+length-end (y ∷ ys) x = omega (arith, length-end ys x)
 
 get-end : (known : List Symbol) (s t : Symbol) → slice_get known 0 ≡ Some t → slice_get (known ++ s ∷ []) 0 ≡ Some t
 get-end [] s t h = cc
@@ -91,8 +91,8 @@ signature-fold known (s ∷ ss) h l =
 -- ---- how many symbols there are
 
 length-append : {X : Type 0} (xs ys : List X) → length (xs ++ ys) ≡ length xs + length ys
-length-append [] ys = refl
-length-append (x ∷ xs) ys = ap (λ n. 1 + n) (length-append xs ys)
+length-append [] ys = omega arith
+length-append (x ∷ xs) ys = omega (arith, length-append xs ys)
 
 mutual
   term-few : (t : TermTree) → length (term_symbols t) ≤ term_size t
@@ -119,10 +119,12 @@ mutual
   formulas-few no_formulas = omega arith
   formulas-few (formula_then f fs) = omega (arith, length-append (formula_symbols f) (formulas_symbols fs), formula-few f, formulas-few fs)
 
-annotated-few : (fs : List Annotated) → length (flat_map annotated_symbols fs) ≤ sum_by annotated_occurrences fs
+annotated-few : (fs : List Annotated) → length (flat_map annotated_symbols fs) ≤ total_occurrences fs
 annotated-few [] = omega arith
 annotated-few (f ∷ fs) =
-    omega (arith, length-append (annotated_symbols f) (flat_map annotated_symbols fs), formula-few (formula_of f.formula), annotated-few fs)
+    let all : length (flat_map annotated_symbols (f ∷ fs)) ≡ length (annotated_symbols f) + length (flat_map annotated_symbols fs) =
+    length-append (annotated_symbols f) (flat_map annotated_symbols fs) in
+    omega (arith, all, formula-few (formula_of f.formula), annotated-few fs)
 
 -- the symbols of a problem are those of a signature
 pub signature-problem : (fs : List Annotated) → HasProblemSize fs → IsSignature (problem_symbols fs)
@@ -155,9 +157,9 @@ absent-place p (k ∷ known) h = by (p k) h (absent-place p known)
   where
     by :
         (b : Bool) → (b || list_any p known) ≡ false → (list_any p known ≡ false → position_or_len p known ≡ length known)
-        → cond (not b) (1 + position_or_len p known) 0 ≡ 1 + length known
+        → cond (not b) (1 + position_or_len p known) 0 ≡ suc (length known)
     by true g f = cc
-    by false g f = ap (λ n. 1 + n) (f g)
+    by false g f = omega (arith, f g)
 
 pub number-new :
     (value known : List Symbol) (s : Symbol) (place : ℕ)

@@ -1,5 +1,5 @@
 -- The symbols of a problem, by first occurrence in reading order.
-use Rattle.std.specs.Prelude.{◌≡◌, ℕ, ◌+◌, ◌≤◌, ◌^◌, List, [], ◌∷◌, ◌++◌, length, flat_map, fold, sum_by}
+use Rattle.std.specs.Prelude.{◌≡◌, ℕ, ◌+◌, ◌≤◌, ◌^◌, List, [], ◌∷◌, ◌++◌, length, flat_map, fold}
 use Rattle.tptp_tree.specs.Term.{TermTree, variable, application, TermTrees, no_terms, term_then, term_size, list_of_terms}
 use Rattle.tptp_tree.specs.Formula.{FormulaTree, truth, falsity, predicate, equation, negation, conjunction, disjunction, connected, quantified, FormulaTrees, no_formulas, formula_then}
 use Rattle.tptp_tree.specs.Term.{terms_size}
@@ -64,12 +64,13 @@ abbrev mutual
   all_occurrences no_formulas = 0
   all_occurrences (formula_then f fs) = occurrences f + all_occurrences fs
 
-abbrev pub annotated_occurrences : Annotated → ℕ
-annotated_occurrences a = occurrences (formula_of a.formula)
+abbrev pub total_occurrences : List Annotated → ℕ
+total_occurrences [] = 0
+total_occurrences (a ∷ fs) = occurrences (formula_of a.formula) + total_occurrences fs
 
 -- the size of a problem: formulas, occurrences of symbols and variables, and quantified variables
 abbrev pub problem_size : List Annotated → ℕ
-problem_size fs = length fs + sum_by annotated_occurrences fs
+problem_size fs = length fs + total_occurrences fs
 
 -- what every problem that is handed in meets
 abbrev pub HasProblemSize : List Annotated → Type 0

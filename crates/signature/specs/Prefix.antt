@@ -1,6 +1,6 @@
 -- The beginnings of the names that the product makes.
-use Rattle.std.specs.Prelude.{◌≡◌, ℕ, zero, suc, ◌+◌, ◌<◌, max, ◌==◌, Bool, true, false, List, [], ◌∷◌, ◌++◌, IsTrue, IsFalse, if◌then◌else◌}
-use Rattle.std.specs.List.{list_any}
+use Rattle.std.specs.Prelude.{◌≡◌, ℕ, zero, suc, ◌+◌, ◌<◌, max, ◌==◌, nat_eq, Bool, List, [], ◌∷◌, ◌++◌, length, drop, IsTrue, IsFalse, if◌then◌else◌}
+use Rattle.std.specs.List.{list_any, starts_with}
 use Rattle.signature.specs.declared.symbol.Symbol.{Symbol}
 
 -- that many `_`
@@ -15,9 +15,7 @@ underscore_run (b ∷ bs) = if b == 95 then underscore_run bs + 1 else 0
 
 -- How many `_` have to follow the base so that the name doesn't begin with the result.
 abbrev pub needed_after : List ℕ → List ℕ → ℕ
-needed_after [] name = underscore_run name + 1
-needed_after (b ∷ base) [] = 0
-needed_after (b ∷ base) (c ∷ name) = if b == c then needed_after base name else 0
+needed_after base name = if starts_with nat_eq name base then underscore_run (drop (length base) name) + 1 else 0
 
 -- for all symbols
 abbrev pub needed : List Symbol → List ℕ → ℕ
@@ -30,13 +28,8 @@ fresh_prefix_of symbols base = base ++ underscores (needed symbols base)
 
 -- ---- law
 
-abbrev pub begins_with : List ℕ → List ℕ → Bool
-begins_with [] name = true
-begins_with (b ∷ base) [] = false
-begins_with (b ∷ base) (c ∷ name) = if b == c then begins_with base name else false
-
 abbrev pub some_begins_with : List ℕ → List Symbol → Bool
-some_begins_with start symbols = list_any (λ (s : Symbol). begins_with start s.name) symbols
+some_begins_with start symbols = list_any (λ (s : Symbol). starts_with nat_eq s.name start) symbols
 
 -- no name begins with the prefix, and with fewer `_` some name does
 abbrev pub PrefixIsLeast : Type 0

@@ -1,6 +1,7 @@
 // The symbols of a problem by their numbers, and the definition of its clausal form.
 #![tactic(auto)]
 
+pub mod laws;
 mod meeting;
 mod prefix;
 mod signature;

@@ -1,6 +1,6 @@
 // The beginnings of the names that the product makes.
 
-ghost use Rattle.std.specs.Prelude.{◌≡◌, ◌++◌, IfOk};
+ghost use Rattle.std.specs.Prelude.{◌≡◌, ◌≤◌, ◌++◌, length, IfOk};
 ghost use Rattle.signature.specs.Prefix.{underscores, underscore_run, needed_after, needed, fresh_prefix_of};
 
 use crate::signature::Signature;
@@ -28,15 +28,16 @@ pub fn fresh_prefix(alloc: Global, signature: &Signature, base: &str) -> Mem<Tex
 fn needed_for(base: &[u8], name: &[u8]) -> usize
     ensures { result ≡ needed_after base.now name.now }
 {
-    match name.strip_prefix(base) {
-        None => 0,
-        Some(rest) => run_of_underscores(rest) + 1,
+    if !name.starts_with(base) {
+        return 0;
     }
+    run_of_underscores(&name[base.len()..]) + 1
 }
 
 /// How many `_` a text begins with.
 fn run_of_underscores(text: &[u8]) -> usize
-    ensures { result ≡ underscore_run text.now }
+    ensures value { result ≡ underscore_run text.now }
+    ensures bound { result ≤ length text.now }
 {
     for place in 0..text.len() {
         if text[place] != b'_' {
