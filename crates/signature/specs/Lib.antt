@@ -4,3 +4,6 @@ pub mod Occurrences
 pub mod Prefix
 pub mod Environment
 pub mod Clausal
+pub mod Form
+pub mod Truth
+pub mod Examples

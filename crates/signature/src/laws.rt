@@ -1,9 +1,54 @@
 // Laws and worked examples of the definitions: each is the contract of a function with an empty body.
 
-ghost use Rattle.std.specs.Prelude.{◌≡◌, [], ◌∷◌};
-ghost use Rattle.signature.specs.Clausal.{constant, Made, all_pairs};
+ghost use Rattle.std.specs.Prelude.{◌≡◌, [], ◌∷◌, length, codes, true, false, IsTrue, IsFalse, slice_get, Some};
+ghost use Rattle.tptp_tree.specs.Formula.{implies, equivalent, for_all, exists_some, connected, quantified, disjunction};
+ghost use Rattle.fol_base.specs.Tree.{variable, application, no_trees, tree_then};
+ghost use Rattle.signature.specs.Symbol.{true_symbol, predicate_symbol, function_symbol};
+ghost use Rattle.signature.specs.Prefix.{PrefixIsLeast, fresh_prefix_of};
+ghost use Rattle.signature.specs.Truth.{formula_true};
+ghost use Rattle.signature.specs.Examples.{symbols_of, clauses, signature_of, worked, p, q, p_of, r_of, x, y, pairs, pairs_of_x, literal, clause, p_of_zero_alone};
 
-/// The product changes its second list fastest.
-pub fn product_examples()
-    ensures none { all_pairs [] ([] ∷ []) ≡ [] }
+/// No name begins with a fresh prefix, and with fewer `_` some name does.
+pub fn prefix_is_least()
+    ensures { PrefixIsLeast }
+{}
+
+/// Fresh prefixes: `sk_` where a symbol is named `sk0`.
+pub fn prefix_examples()
+    ensures taken { fresh_prefix_of (function_symbol (codes "sk0") 0 ∷ []) (codes "sk") ≡ codes "sk_" }
+    ensures free { fresh_prefix_of (function_symbol (codes "s") 0 ∷ []) (codes "sk") ≡ codes "sk" }
+    ensures longer { fresh_prefix_of (function_symbol (codes "sk__a") 0 ∷ []) (codes "sk") ≡ codes "sk___" }
+{}
+
+/// `p <=> q` has the clauses `~p | q` and `p | ~q`, by the symbols `$true`, p, q.
+pub fn equivalence_examples()
+    ensures symbols { symbols_of (connected equivalent p q)
+        ≡ true_symbol ∷ predicate_symbol (codes "p") 0 ∷ predicate_symbol (codes "q") 0 ∷ [] }
+    ensures clauses { clauses (connected equivalent p q)
+        ≡ clause (literal false 1 [] ∷ literal true 2 [] ∷ []) ∷ clause (literal true 1 [] ∷ literal false 2 [] ∷ []) ∷ [] }
+{}
+
+/// `! [X] : ? [Y] : r(X,Y)` has the clause `r(X0,sk0(X0))`, and its signature ends with the spare constant `hc0`.
+pub fn skolem_examples()
+    ensures clauses { clauses (quantified for_all (x ∷ []) (quantified exists_some (y ∷ []) (r_of x y)))
+        ≡ clause (literal true 1 (variable 0 ∷ application 2 (tree_then (variable 0) no_trees) ∷ []) ∷ []) ∷ [] }
+    ensures signature { signature_of (quantified for_all (x ∷ []) (quantified exists_some (y ∷ []) (r_of x y)))
+        ≡ true_symbol ∷ predicate_symbol (codes "r") 2 ∷ function_symbol (codes "sk0") 1 ∷ function_symbol (codes "hc0") 0 ∷ [] }
+{}
+
+/// A quantifier binds what follows it alone: `! [X] : p(X) => q` isn't `! [X] : (p(X) => q)`.
+pub fn scope_examples()
+    ensures left_alone { clauses (connected implies (quantified for_all (x ∷ []) (p_of x)) q)
+        ≡ clause (literal false 1 (application 3 no_trees ∷ []) ∷ literal true 2 [] ∷ []) ∷ [] }
+    ensures whole { clauses (quantified for_all (x ∷ []) (connected implies (p_of x) q))
+        ≡ clause (literal false 1 (variable 0 ∷ []) ∷ literal true 2 [] ∷ []) ∷ [] }
+{}
+
+/// The truth of the same two where p holds for one of two values, and q doesn't hold.
+pub fn truth_examples()
+    ensures left_alone { IsTrue (formula_true (symbols_of (connected implies (quantified for_all (x ∷ []) (p_of x)) q)) p_of_zero_alone
+        (connected implies (quantified for_all (x ∷ []) (p_of x)) q) []) }
+    ensures whole { IsFalse (formula_true (symbols_of (quantified for_all (x ∷ []) (connected implies (p_of x) q))) p_of_zero_alone
+        (quantified for_all (x ∷ []) (connected implies (p_of x) q)) []) }
+    ensures some { IsTrue (formula_true (symbols_of (p_of x)) p_of_zero_alone (quantified exists_some (x ∷ []) (p_of x)) []) }
 {}
