@@ -9,6 +9,7 @@ ghost use Rattle.signature.specs.Truth.{formula_true};
 ghost use Rattle.signature.specs.Examples.{symbols_of, clauses, signature_of, worked, p, q, p_of, r_of, x, y, pairs, pairs_of_x, literal, clause, p_of_zero_alone};
 
 /// No name begins with a fresh prefix, and with fewer `_` some name does.
+#[tactic(auto, using(crate::proofs::PrefixLemmas::prefix_is_least))]
 pub fn prefix_is_least()
     ensures { PrefixIsLeast }
 {}
@@ -32,8 +33,32 @@ pub fn equivalence_examples()
 pub fn skolem_examples()
     ensures clauses { clauses (quantified for_all (x ∷ []) (quantified exists_some (y ∷ []) (r_of x y)))
         ≡ clause (literal true 1 (variable 0 ∷ application 2 (tree_then (variable 0) no_trees) ∷ []) ∷ []) ∷ [] }
-    ensures signature { signature_of (quantified for_all (x ∷ []) (quantified exists_some (y ∷ []) (r_of x y)))
+    ensures symbols { signature_of (quantified for_all (x ∷ []) (quantified exists_some (y ∷ []) (r_of x y)))
         ≡ true_symbol ∷ predicate_symbol (codes "r") 2 ∷ function_symbol (codes "sk0") 1 ∷ function_symbol (codes "hc0") 0 ∷ [] }
+{}
+
+/// A product of over 64 clauses is named. The disjunction of 13 pairs has two clauses with the name of the first 12 pairs, which begins
+/// with the name of the first 6; then the clauses that define the two names.
+pub fn naming_examples()
+    ensures count { length (clauses (disjunction (pairs 0 13))) ≡ 130 }
+    ensures first { slice_get (clauses (disjunction (pairs 0 13))) 0 ≡ Some (clause (literal true 28 [] ∷ literal true 25 [] ∷ [])) }
+    ensures second { slice_get (clauses (disjunction (pairs 0 13))) 1 ≡ Some (clause (literal true 28 [] ∷ literal true 26 [] ∷ [])) }
+    ensures last { slice_get (clauses (disjunction (pairs 0 13))) 129
+        ≡ Some (clause (literal false 28 [] ∷ literal true 27 [] ∷ literal true 14 [] ∷ literal true 16 [] ∷ literal true 18 []
+        ∷ literal true 20 [] ∷ literal true 22 [] ∷ literal true 24 [] ∷ [])) }
+    ensures no_name { length (clauses (disjunction (pairs 0 6))) ≡ 64 }
+    ensures no_symbol { (worked (disjunction (pairs 0 6))).made.naming_arities ≡ [] }
+{}
+
+/// A name takes the variables that were made before the work on the product's formula began.
+pub fn name_arguments_examples()
+    ensures count { length (clauses (quantified for_all (x ∷ []) (disjunction (pairs_of_x 0 7)))) ≡ 66 }
+    ensures first { slice_get (clauses (quantified for_all (x ∷ []) (disjunction (pairs_of_x 0 7)))) 0
+        ≡ Some (clause (literal true 15 (variable 0 ∷ []) ∷ literal true 13 (variable 0 ∷ []) ∷ [])) }
+    ensures defining { slice_get (clauses (quantified for_all (x ∷ []) (disjunction (pairs_of_x 0 7)))) 2
+        ≡ Some (clause (literal false 15 (variable 0 ∷ []) ∷ literal true 1 (variable 0 ∷ []) ∷ literal true 3 (variable 0 ∷ [])
+        ∷ literal true 5 (variable 0 ∷ []) ∷ literal true 7 (variable 0 ∷ []) ∷ literal true 9 (variable 0 ∷ [])
+        ∷ literal true 11 (variable 0 ∷ []) ∷ [])) }
 {}
 
 /// A quantifier binds what follows it alone: `! [X] : p(X) => q` isn't `! [X] : (p(X) => q)`.
