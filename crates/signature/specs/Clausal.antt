@@ -123,7 +123,7 @@ abbrev pub product : SymbolNumbers → ℕ → List Literals → List Literals �
 product n began first second m =
     if not (is_large first second) then record { clauses = all_pairs first second; made = m }
     else if nat_lt (length first) (length second) then
-      (let w : Worked = named n began second m in record { clauses = all_pairs first w.clauses; made = w.made })
+    (let w : Worked = named n began second m in record { clauses = all_pairs first w.clauses; made = w.made })
     else (let w : Worked = named n began first m in record { clauses = all_pairs w.clauses second; made = w.made })
 
 -- ---- the recursion

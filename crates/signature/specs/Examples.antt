@@ -65,7 +65,7 @@ abbrev pub pair_of_x : ℕ → FormulaTree
 pair_of_x n =
     conjunction
     (formula_then (predicate (112 ∷ decimal n) (term_then (variable x) no_terms))
-      (formula_then (predicate (113 ∷ decimal n) (term_then (variable x) no_terms)) no_formulas))
+    (formula_then (predicate (113 ∷ decimal n) (term_then (variable x) no_terms)) no_formulas))
 
 abbrev pub pairs_of_x : ℕ → ℕ → FormulaTrees
 pairs_of_x n zero = no_formulas

@@ -9,7 +9,6 @@ ghost use Rattle.signature.specs.Truth.{formula_true};
 ghost use Rattle.signature.specs.Examples.{symbols_of, clauses, signature_of, worked, p, q, p_of, r_of, x, y, pairs, pairs_of_x, literal, clause, p_of_zero_alone};
 
 /// No name begins with a fresh prefix, and with fewer `_` some name does.
-#[tactic(auto, using(crate::proofs::PrefixLemmas::prefix_is_least))]
 pub fn prefix_is_least()
     ensures { PrefixIsLeast }
 {}

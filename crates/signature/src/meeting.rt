@@ -63,7 +63,13 @@ fn meet_term(alloc: Global, known: &mut IndexSet<Symbol>, term: &TreeTerm) -> Me
     match term {
         TreeTerm::Var(_) => Ok(()),
         TreeTerm::App(name, arguments) => {
-            meet_head(alloc, known, SymbolKind::Function, name.as_slice(), arguments.as_slice())?;
+            meet_head(
+                alloc,
+                known,
+                SymbolKind::Function,
+                name.as_slice(),
+                arguments.as_slice(),
+            )?;
             meet_terms(alloc, known, arguments.as_slice())
         }
     }
@@ -91,15 +97,29 @@ fn meet_formula(alloc: Global, known: &mut IndexSet<Symbol>, formula: &Formula) 
     match formula {
         Formula::True | Formula::False => Ok(()),
         Formula::Pred(name, arguments) => {
-            meet_head(alloc, known, SymbolKind::Predicate, name.as_slice(), arguments.as_slice())?;
+            meet_head(
+                alloc,
+                known,
+                SymbolKind::Predicate,
+                name.as_slice(),
+                arguments.as_slice(),
+            )?;
             meet_terms(alloc, known, arguments.as_slice())
         }
         Formula::Equal(left, right) | Formula::NotEqual(left, right) => {
             meet_term(alloc, known, left)?;
             meet_term(alloc, known, right)
         }
-        Formula::And(formulas) | Formula::Or(formulas) => meet_formulas(alloc, known, formulas.as_slice()),
-        Formula::Not(body) | Formula::All(_, body) | Formula::Ex(_, body) => meet_formula(alloc, known, body.get()),
+        Formula::And(formulas) | Formula::Or(formulas) => meet_formulas(
+            alloc,
+            known,
+            formulas.as_slice(),
+        ),
+        Formula::Not(body) | Formula::All(_, body) | Formula::Ex(_, body) => meet_formula(
+            alloc,
+            known,
+            body.get(),
+        ),
         Formula::Implies(left, right)
         | Formula::Implied(left, right)
         | Formula::Iff(left, right)

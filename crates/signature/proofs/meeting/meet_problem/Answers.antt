@@ -10,5 +10,9 @@ returns-clause-signature c =
 
 pub meet_formula-requires : goal.meet_formula-requires
 meet_formula-requires c =
-    omega (arith, annotated-item _ _ _ c.loop-annotated-test.true c.annotated-item.is,
-      ap total_occurrences c.as_slice-annotated-items.ensures, c.requires)
+    omega (
+      arith,
+      annotated-item _ _ _ c.loop-annotated-test.true c.annotated-item.is,
+      ap total_occurrences c.as_slice-annotated-items.ensures,
+      c.requires,
+    )
