@@ -1,6 +1,6 @@
 // The symbols of a problem by their numbers.
 
-ghost use Rattle.std.specs.Prelude.{◌≡◌, ◌<◌, ◌^◌, ◌++◌, ◌∷◌, [], IfOk, OnErr, Some, List, length, map, fold, position, slice_get, IsFalse};
+ghost use Rattle.std.specs.Prelude.{◌≡◌, ◌<◌, ◌^◌, ◌++◌, ◌∷◌, [], IfOk, OnErr, Some, is_some, List, length, map, fold, position, slice_get, IsFalse};
 ghost use Rattle.signature.specs.Symbol.{same_symbol, has_symbol, with_symbol, symbol_of, IsSignature};
 ghost use Rattle.signature.specs.Occurrences.{problem_symbols, HasProblemSize};
 
@@ -44,14 +44,16 @@ impl Signature {
 
     /// The number of a symbol; none where it isn't there.
     pub fn number(&self, symbol: &Symbol) -> Option<u32>
-        ensures { result ≡ position (same_symbol symbol.now) self.now }
+        ensures value { result ≡ position (same_symbol symbol.now) self.now }
+        ensures found { is_some result ≡ has_symbol symbol.now self.now }
     {
         self.find(symbol.lend())
     }
 
     /// The number of a symbol whose name is lent; none where it isn't there.
     pub fn find(&self, symbol: SymbolRef<'_>) -> Option<u32>
-        ensures { result ≡ position (same_symbol (symbol_of symbol.entry)) self.now }
+        ensures value { result ≡ position (same_symbol (symbol_of symbol.entry)) self.now }
+        ensures found { is_some result ≡ has_symbol (symbol_of symbol.entry) self.now }
     {
         let place = self.symbols.get_index_of(symbol)?;
         Some(place as u32)
