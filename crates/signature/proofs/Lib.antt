@@ -1,3 +1,4 @@
 pub mod OccurrenceLemmas
 pub mod SignatureLemmas
 pub mod PrefixLemmas
+pub mod SkolemLemmas

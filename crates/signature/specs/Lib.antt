@@ -7,3 +7,4 @@ pub mod Clausal
 pub mod Form
 pub mod Truth
 pub mod Examples
+pub mod FormLaws

@@ -5,6 +5,7 @@ ghost use Rattle.tptp_tree.specs.Formula.{implies, equivalent, for_all, exists_s
 ghost use Rattle.fol_base.specs.Tree.{variable, application, no_trees, tree_then};
 ghost use Rattle.signature.specs.Symbol.{true_symbol, predicate_symbol, function_symbol};
 ghost use Rattle.signature.specs.Prefix.{PrefixIsLeast, fresh_prefix_of};
+ghost use Rattle.signature.specs.FormLaws.{SkolemSymbolsAreCounted, SkolemSymbolsOfProblemAreCounted};
 ghost use Rattle.signature.specs.Truth.{formula_true};
 ghost use Rattle.signature.specs.Examples.{symbols_of, clauses, signature_of, worked, p, q, p_of, r_of, x, y, pairs, pairs_of_x, literal, clause, p_of_zero_alone};
 
@@ -75,4 +76,10 @@ pub fn truth_examples()
     ensures whole { IsFalse (formula_true (symbols_of (quantified for_all (x ∷ []) (connected implies (p_of x) q))) p_of_zero_alone
         (quantified for_all (x ∷ []) (connected implies (p_of x) q)) []) }
     ensures some { IsTrue (formula_true (symbols_of (p_of x)) p_of_zero_alone (quantified exists_some (x ∷ []) (p_of x)) []) }
+{}
+
+/// The work on formulas makes as many Skolem symbols as are counted.
+pub fn skolem_symbols_are_counted()
+    ensures formulas { SkolemSymbolsAreCounted }
+    ensures problems { SkolemSymbolsOfProblemAreCounted }
 {}
