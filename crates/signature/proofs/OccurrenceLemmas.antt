@@ -1,8 +1,8 @@
 -- The symbols that a walk over a problem meets.
 use Rattle.std.proofs.Common.{◌≡◌, ℕ, zero, suc, ◌+◌, ◌<◌, ◌≤◌, List, [], ◌∷◌, ◌++◌, length, map, drop, get_or, refl, ap, sym, ◌∙◌, arith}
 use Rattle.std.specs.Prelude.{fold, flat_map}
-use Rattle.tptp_tree.specs.Term.{TermTree, variable, application, TermTrees, no_terms, term_then, term_size, terms_size, terms_of}
-use Rattle.tptp_tree.specs.Formula.{FormulaTree, truth, falsity, predicate, equation, negation, conjunction, disjunction, connected, quantified, FormulaTrees, no_formulas, formula_then, formulas_of}
+use Rattle.tptp_tree.specs.Term.{TermTree, variable, application, term_size, terms_size, terms_of}
+use Rattle.tptp_tree.specs.Formula.{formulas_of}
 use Rattle.tptp_tree.specs.Shape.{term_of, formula_of}
 use Rattle.tptp_tree.specs.declared.term.TreeTerm.{TreeTerm}
 use Rattle.tptp_tree.specs.declared.formula.Formula.{Formula}

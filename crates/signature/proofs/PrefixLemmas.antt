@@ -1,10 +1,10 @@
 -- The least number of `_`.
-use Rattle.std.proofs.Common.{◌≡◌, ℕ, zero, suc, ◌+◌, ◌<◌, ◌≤◌, max, Bool, true, false, ◌==◌, ◌&&◌, ◌||◌, List, [], ◌∷◌, ◌++◌, length, drop, refl, ap, sym, ◌∙◌, arith, append_assoc, ⊎_elim, true≢false, eq-eqb, eqb-true}
-use Rattle.std.specs.Prelude.{nat_eq, IsTrue, IsFalse, if◌then◌else◌}
+use Rattle.std.proofs.Common.{◌≡◌, ℕ, zero, suc, ◌+◌, ◌<◌, ◌≤◌, Bool, true, false, ◌==◌, ◌&&◌, ◌||◌, List, [], ◌∷◌, ◌++◌, length, drop, refl, ap, sym, ◌∙◌, arith, append_assoc, ⊎_elim, true≢false, eq-eqb, eqb-true}
+use Rattle.std.specs.Prelude.{nat_eq, if◌then◌else◌}
 use Rattle.std.specs.List.{starts_with}
 use Rattle.std.proofs.lemmas.Bool.{and_parts, and_from, cases_lt}
 use Rattle.signature.specs.declared.symbol.Symbol.{Symbol}
-use Rattle.signature.specs.Prefix.{underscores, underscore_run, needed_after, needed, fresh_prefix_of, some_begins_with, PrefixIsLeast}
+use Rattle.signature.specs.Prefix.{underscores, underscore_run, needed_after, needed, some_begins_with, PrefixIsLeast}
 
 underscores_end : (n : ℕ) → underscores n ++ 95 ∷ [] ≡ underscores (n + 1)
 underscores_end zero = refl

@@ -1,6 +1,6 @@
 -- That the symbols of a problem are those of a signature, and stay so.
-use Rattle.std.proofs.Common.{◌≡◌, ℕ, suc, ◌+◌, ◌<◌, ◌≤◌, ◌^◌, ◌==◌, Bool, true, false, not, ◌&&◌, ◌||◌, List, [], ◌∷◌, ◌++◌, length, drop, cond, subst, refl, ap, sym, ◌∙◌, arith}
-use Rattle.std.specs.Prelude.{fold, flat_map, slice_get, Some, IsTrue, IsFalse, if◌then◌else◌}
+use Rattle.std.proofs.Common.{◌≡◌, ℕ, suc, ◌+◌, ◌<◌, ◌≤◌, ◌^◌, Bool, true, false, not, ◌||◌, List, [], ◌∷◌, ◌++◌, length, drop, cond, subst, refl, ap, sym, ◌∙◌, arith}
+use Rattle.std.specs.Prelude.{fold, flat_map, slice_get, Some, IsFalse, if◌then◌else◌}
 use Rattle.std.specs.List.{list_any, position_or_len}
 use Rattle.std.proofs.lemmas.Bool.{and_parts, and_from}
 use Rattle.tptp_tree.specs.declared.problem.Annotated.{Annotated}
@@ -8,10 +8,10 @@ use Rattle.tptp_tree.specs.Term.{TermTree, variable, application, TermTrees, no_
 use Rattle.tptp_tree.specs.Formula.{FormulaTree, truth, falsity, predicate, equation, negation, conjunction, disjunction, connected, quantified, FormulaTrees, no_formulas, formula_then}
 use Rattle.tptp_tree.specs.Shape.{formula_of}
 use Rattle.signature.specs.declared.symbol.Symbol.{Symbol}
-use Rattle.signature.specs.Symbol.{true_symbol, same_symbol, has_symbol, with_symbol, number_of, are_different, IsSignature}
+use Rattle.signature.specs.Symbol.{true_symbol, same_symbol, has_symbol, with_symbol, are_different, IsSignature}
 use Rattle.signature.specs.SymbolLaws.{same_symbol-refl, same_symbol-true}
 use Rattle.signature.proofs.OccurrenceLemmas.{annotated-end}
-use Rattle.signature.specs.Occurrences.{term_symbols, terms_symbols, formula_symbols, formulas_symbols, annotated_symbols, problem_symbols, occurrences, all_occurrences, total_occurrences, problem_size, HasProblemSize}
+use Rattle.signature.specs.Occurrences.{term_symbols, terms_symbols, formula_symbols, formulas_symbols, annotated_symbols, problem_symbols, occurrences, all_occurrences, total_occurrences, HasProblemSize}
 
 same_symbol-sym : (s t : Symbol) → same_symbol s t ≡ false → same_symbol t s ≡ false
 same_symbol-sym s t h = by (same_symbol t s) refl

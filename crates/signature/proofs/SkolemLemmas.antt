@@ -1,14 +1,13 @@
 -- How many Skolem symbols the work on a formula makes.
-use Rattle.std.proofs.Common.{◌≡◌, ℕ, zero, suc, ◌+◌, ◌*◌, Bool, true, false, not, ◌&&◌, List, [], ◌∷◌, ◌++◌, length, refl, ap, sym, ◌∙◌, arith}
+use Rattle.std.proofs.Common.{◌≡◌, ℕ, ◌+◌, Bool, true, false, not, List, [], ◌∷◌, ◌++◌, length, refl, arith}
 use Rattle.std.specs.Prelude.{if◌then◌else◌, nat_lt}
 use Rattle.tptp_tree.specs.Formula.{implies, implied, equivalent, different, nor, nand, FormulaTree, truth, falsity, predicate, equation, negation, conjunction, disjunction, connected, quantified, FormulaTrees, no_formulas, formula_then}
 use Rattle.tptp_tree.specs.Shape.{formula_of}
 use Rattle.tptp_tree.specs.Entries.{is_conjecture}
 use Rattle.tptp_tree.specs.declared.problem.Annotated.{Annotated}
-use Rattle.fol_base.specs.Tree.{variable}
 use Rattle.signature.specs.Environment.{Environment, free_names, without_names}
-use Rattle.signature.specs.Clausal.{SymbolNumbers, Made, Worked, Scope, Literals, Work, all_pairs, is_large, named, product, joined, constant, with_variables, with_skolem_terms, skolem_arguments, applied, scope_of, makes_variables, clauses_of, listed_clauses, product_clauses, begun, first_scope, annotated_clauses, formed}
-use Rattle.signature.specs.Form.{skolem_count, all_skolem_count, problem_skolem_count, symbol_numbers, nothing_made}
+use Rattle.signature.specs.Clausal.{SymbolNumbers, Made, Worked, Scope, Literals, Work, all_pairs, is_large, named, product, joined, constant, with_variables, with_skolem_terms, skolem_arguments, scope_of, makes_variables, clauses_of, listed_clauses, product_clauses, begun, first_scope, annotated_clauses, formed}
+use Rattle.signature.specs.Form.{skolem_count, all_skolem_count, problem_skolem_count, symbol_numbers, problem_form, nothing_made}
 use Rattle.signature.specs.FormLaws.{SkolemSymbolsAreCounted, SkolemSymbolsOfProblemAreCounted}
 
 abbrev made_count : Made → ℕ
@@ -31,7 +30,7 @@ product-count n began first second m = by (is_large first second) (nat_lt (lengt
         → (let r : Worked =
         (if not t then record { clauses = all_pairs first second; made = m }
         else if u then
-          (let w : Worked = named n began second m in record { clauses = all_pairs first w.clauses; made = w.made })
+        (let w : Worked = named n began second m in record { clauses = all_pairs first w.clauses; made = w.made })
         else (let w : Worked = named n began first m in record { clauses = all_pairs w.clauses second; made = w.made })) in
         made_count r.made ≡ made_count m)
     by false u = refl
@@ -98,21 +97,29 @@ mutual
   clauses-count n (connected nand f g) sign env m =
       joined-count n (not sign) m.variables (clauses_of n f (not sign) env) (clauses_of n g (not sign) env) _ _ (clauses-count n f (not sign) env) (clauses-count n g (not sign) env) m
   clauses-count n (connected equivalent f g) true env m =
-      omega (arith,
+      omega (
+        arith,
         doubled-count n m.variables (λ u. clauses_of n f u env) (λ u. clauses_of n g u env) (skolem_count f) (skolem_count g) false true
-        (λ u. clauses-count n f u env) (λ u. clauses-count n g u env) m)
+            (λ u. clauses-count n f u env) (λ u. clauses-count n g u env) m,
+      )
   clauses-count n (connected equivalent f g) false env m =
-      omega (arith,
+      omega (
+        arith,
         doubled-count n m.variables (λ u. clauses_of n f u env) (λ u. clauses_of n g u env) (skolem_count f) (skolem_count g) true false
-        (λ u. clauses-count n f u env) (λ u. clauses-count n g u env) m)
+            (λ u. clauses-count n f u env) (λ u. clauses-count n g u env) m,
+      )
   clauses-count n (connected different f g) true env m =
-      omega (arith,
+      omega (
+        arith,
         doubled-count n m.variables (λ u. clauses_of n f u env) (λ u. clauses_of n g u env) (skolem_count f) (skolem_count g) true false
-        (λ u. clauses-count n f u env) (λ u. clauses-count n g u env) m)
+            (λ u. clauses-count n f u env) (λ u. clauses-count n g u env) m,
+      )
   clauses-count n (connected different f g) false env m =
-      omega (arith,
+      omega (
+        arith,
         doubled-count n m.variables (λ u. clauses_of n f u env) (λ u. clauses_of n g u env) (skolem_count f) (skolem_count g) false true
-        (λ u. clauses-count n f u env) (λ u. clauses-count n g u env) m)
+            (λ u. clauses-count n f u env) (λ u. clauses-count n g u env) m,
+      )
   clauses-count n (quantified q xs f) sign env m =
       let s : Scope = scope_of n (makes_variables q sign) xs f env m in
       let rest : made_count (clauses_of n f sign s.environment s.made).made ≡ made_count s.made + skolem_count f sign =
@@ -163,7 +170,7 @@ formed-count n place (a ∷ fs) m =
     omega (arith, first, first-count a m, formed-count n (place + 1) fs (annotated_clauses n a m).made)
 
 pub skolem_symbols_of_problem_are_counted : SkolemSymbolsOfProblemAreCounted
-skolem_symbols_of_problem_are_counted fs =
-    let all : made_count (formed (symbol_numbers fs) 0 fs nothing_made).made ≡ 0 + problem_skolem_count fs =
-    formed-count (symbol_numbers fs) 0 fs nothing_made in
-    all
+skolem_symbols_of_problem_are_counted fs = omega (arith, all)
+  where
+    all : length (problem_form fs).made.skolem_arities ≡ 0 + problem_skolem_count fs
+    all = formed-count (symbol_numbers fs) 0 fs nothing_made

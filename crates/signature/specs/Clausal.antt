@@ -1,6 +1,6 @@
 -- The clausal form of a problem (Nonnengart, Weidenbach 2001): by recursion on the formula with its sign, the terms of the variables
 -- in force, and what was made so far.
-use Rattle.std.specs.Prelude.{ℕ, ◌+◌, ◌*◌, Bool, true, false, not, ◌&&◌, ◌||◌, ◌==◌, nat_le, nat_lt, if◌then◌else◌, List, [], ◌∷◌, ◌++◌, length, map, flat_map, filter}
+use Rattle.std.specs.Prelude.{ℕ, ◌+◌, ◌*◌, Bool, true, false, not, ◌&&◌, ◌==◌, nat_le, nat_lt, if◌then◌else◌, List, [], ◌∷◌, ◌++◌, length, map, flat_map, filter}
 use mathlib.Core.Bool.{beq}
 use Rattle.std.specs.List.{list_any}
 use Rattle.tptp_tree.specs.Formula.{implies, implied, equivalent, different, nor, nand, Quantifier, for_all, exists_some, FormulaTree, truth, falsity, predicate, equation, negation, conjunction, disjunction, connected, quantified, FormulaTrees, no_formulas, formula_then}
@@ -12,7 +12,7 @@ use Rattle.fol_base.specs.Clause.{TreeLiteral, TreeClause, literal_variables}
 use Rattle.fol_base.specs.Canonical.{numbers_from, canonical_clause}
 use Rattle.signature.specs.declared.symbol.Symbol.{Symbol}
 use Rattle.signature.specs.Symbol.{predicate_symbol, number_of}
-use Rattle.signature.specs.Occurrences.{terms_count, problem_symbols}
+use Rattle.signature.specs.Occurrences.{terms_count}
 use Rattle.signature.specs.Environment.{Environment, free_names, without_names, term_in_force, term_under, terms_under}
 
 -- ---- symbols, and what is made

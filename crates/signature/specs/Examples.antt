@@ -1,15 +1,15 @@
 -- The formulas of the worked examples, over the names p, q, r, X, Y.
-use Rattle.std.specs.Prelude.{ℕ, zero, suc, ◌+◌, Bool, true, false, List, [], ◌∷◌, ◌++◌, codes}
+use Rattle.std.specs.Prelude.{ℕ, zero, suc, ◌+◌, Bool, true, List, [], ◌∷◌, ◌++◌, codes}
 use Rattle.std.specs.Fmt.{decimal}
-use Rattle.tptp_tree.specs.Term.{TermTree, variable, application, TermTrees, no_terms, term_then}
-use Rattle.tptp_tree.specs.Formula.{implies, equivalent, for_all, exists_some, FormulaTree, predicate, conjunction, disjunction, connected, quantified, FormulaTrees, no_formulas, formula_then}
-use Rattle.fol_base.specs.Tree.{Tree, true_tree, trees_of, variable as tree_variable, application as tree_application}
+use Rattle.tptp_tree.specs.Term.{variable, no_terms, term_then}
+use Rattle.tptp_tree.specs.Formula.{FormulaTree, predicate, conjunction, FormulaTrees, no_formulas, formula_then}
+use Rattle.fol_base.specs.Tree.{Tree, true_tree, trees_of, application as tree_application}
 use Rattle.fol_base.specs.Clause.{TreeLiteral, TreeClause}
-use Rattle.fol_base.specs.Interpretation.{Interpretation, Row}
+use Rattle.fol_base.specs.Interpretation.{Interpretation}
 use Rattle.signature.specs.declared.symbol.Symbol.{Symbol}
-use Rattle.signature.specs.Symbol.{true_symbol, predicate_symbol, function_symbol, with_symbol}
+use Rattle.signature.specs.Symbol.{true_symbol, with_symbol}
 use Rattle.signature.specs.Occurrences.{formula_symbols}
-use Rattle.signature.specs.Clausal.{SymbolNumbers, Made, Worked, Literals, clauses_of, canonical_literals}
+use Rattle.signature.specs.Clausal.{Worked, clauses_of, canonical_literals}
 use Rattle.signature.specs.Form.{skolem_count, nothing_made, form_symbols}
 use Rattle.std.specs.Prelude.{fold, map, length}
 

@@ -1,5 +1,5 @@
 -- The beginnings of the names that the product makes.
-use Rattle.std.specs.Prelude.{◌≡◌, ℕ, zero, suc, ◌+◌, ◌<◌, max, ◌==◌, nat_eq, Bool, List, [], ◌∷◌, ◌++◌, length, drop, IsTrue, IsFalse, if◌then◌else◌}
+use Rattle.std.specs.Prelude.{ℕ, zero, suc, ◌+◌, ◌<◌, max, ◌==◌, nat_eq, Bool, List, [], ◌∷◌, ◌++◌, length, drop, IsTrue, IsFalse, if◌then◌else◌}
 use Rattle.std.specs.List.{list_any, starts_with}
 use Rattle.signature.specs.declared.symbol.Symbol.{Symbol}
 

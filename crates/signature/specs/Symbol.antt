@@ -1,5 +1,5 @@
 -- Symbols, and lists of different symbols, in which a symbol's number is its place.
-use Rattle.std.specs.Prelude.{◌≡◌, ℕ, ◌≤◌, ◌^◌, ◌==◌, Bool, true, false, not, ◌&&◌, List, [], ◌∷◌, ◌++◌, length, Some, slice_get, IsTrue, if◌then◌else◌, bytes_eq, refl}
+use Rattle.std.specs.Prelude.{◌≡◌, ℕ, ◌≤◌, ◌^◌, ◌==◌, Bool, true, false, not, ◌&&◌, List, [], ◌∷◌, ◌++◌, length, Some, slice_get, IsTrue, if◌then◌else◌, bytes_eq}
 use mathlib.Core.Bool.{beq}
 use Rattle.std.specs.List.{list_any, position_or_len}
 use Rattle.signature.specs.declared.symbol.Symbol.{Symbol}

@@ -1,4 +1,4 @@
-use Rattle.std.proofs.Common.{◌≡◌, List, [], ◌∷◌, drop, fold}
+use Rattle.std.proofs.Common.{◌≡◌, [], ◌∷◌, drop, fold}
 use Rattle.std.specs.Prelude.{flat_map}
 use Rattle.signature.specs.Symbol.{true_symbol, with_symbol}
 use Rattle.signature.specs.Occurrences.{annotated_symbols}
