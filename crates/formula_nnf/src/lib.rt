@@ -1,13 +1,11 @@
-// A library with one function.
+// The negation normal form of a formula, and how large a formula becomes.
 #![tactic(auto)]
 
-ghost use Rattle.std.specs.Prelude.{◌≡◌};
-ghost use Rattle.formula_nnf.specs.Echo.{echo_of};
+mod copy;
+mod count;
+mod form;
+mod normal;
 
-// The `ensures` clause is the contract: what `echo` returns is `echo_of` of its argument, a definition
-// in `specs/Echo.antt`, which a caller's clause can cite too.
-pub fn echo(x: usize) -> usize
-    ensures { result ≡ echo_of x }
-{
-    x
-}
+pub use count::expanded;
+pub use form::{Nnf, NnfBox, Nnfs};
+pub use normal::nnf;
