@@ -1,9 +1,9 @@
-// Copies of terms over names.
+// Copies of terms over names, and of names.
 
 ghost use Rattle.std.specs.Prelude.{◌≡◌, IfOk};
 ghost use Rattle.tptp_tree.specs.Shape.{term_of};
 
-use plain_types::Mem;
+use plain_types::{Mem, Texts};
 use std::alloc::Global;
 use tptp_tree::{TreeTerm, TreeTerms};
 
@@ -29,6 +29,17 @@ pub(crate) fn copy_terms(alloc: Global, terms: &TreeTerms) -> Mem<TreeTerms>
     let mut copy = TreeTerms::new(alloc);
     for term in terms.as_slice() {
         copy.push(copy_term(alloc, term)?)?;
+    }
+    Ok(copy)
+}
+
+/// Equal texts.
+pub(crate) fn copy_texts(alloc: Global, texts: &Texts) -> Mem<Texts>
+    ensures { IfOk result (λ copy. copy ≡ texts.now) }
+{
+    let mut copy = Texts::new(alloc);
+    for text in texts.as_slice() {
+        copy.push(text.copy(alloc)?)?;
     }
     Ok(copy)
 }

@@ -4,6 +4,7 @@
 mod copy;
 mod count;
 mod form;
+pub mod laws;
 mod normal;
 
 pub use count::expanded;

@@ -6,9 +6,9 @@ ghost use Rattle.tptp_tree.specs.Shape.{formula_of, term_of};
 ghost use Rattle.formula_nnf.specs.Shape.{nnf_tree};
 ghost use Rattle.formula_nnf.specs.NormalForm.{normal_form, normal_forms, constant_form, list_form, pair_form, quantifier_form};
 
-use crate::copy::{copy_term, copy_terms};
+use crate::copy::{copy_term, copy_terms, copy_texts};
 use crate::form::{Nnf, NnfBox, Nnfs};
-use plain_types::{Mem, Text, Texts};
+use plain_types::{Mem, Texts};
 use std::alloc::Global;
 use tptp_tree::{Formula, TreeTerm};
 
@@ -136,14 +136,18 @@ fn pair(alloc: Global, all: bool, left: Nnf, right: Nnf) -> Mem<Nnf>
 fn quantified(alloc: Global, all: bool, variables: &Texts, body: Nnf) -> Mem<Nnf>
     ensures { IfOk result (λ form. nnf_tree form ≡ quantified (quantifier_form all for_all) variables.now (nnf_tree body)) }
 {
-    let mut names = Texts::new(alloc);
-    for name in variables.as_slice() {
-        names.push(Text::copy(name, alloc)?)?;
-    }
+    let names = copy_texts(alloc, variables)?;
     let body = NnfBox::new(alloc, body)?;
-    Ok(if all {
+    Ok(bound(all, names, body))
+}
+
+/// A boxed form under `!` (`all`) or `?`.
+fn bound(all: bool, names: Texts, body: NnfBox) -> Nnf
+    ensures { nnf_tree result ≡ quantified (quantifier_form all for_all) names body }
+{
+    if all {
         Nnf::All(names, body)
     } else {
         Nnf::Ex(names, body)
-    })
+    }
 }
