@@ -13,7 +13,11 @@ pub fn expanded(formula: &Formula) -> u64
     ensures { result ≡ min (expanded_count (formula_of formula.now)) (2 ^ 64 - 1) }
 {
     match formula {
-        Formula::True | Formula::False | Formula::Pred(_, _) | Formula::Equal(_, _) | Formula::NotEqual(_, _) => 1,
+        Formula::True
+        | Formula::False
+        | Formula::Pred(_, _)
+        | Formula::Equal(_, _)
+        | Formula::NotEqual(_, _) => 1,
         Formula::Not(body) => expanded(body.get()),
         Formula::And(formulas) | Formula::Or(formulas) => all_expanded(formulas.as_slice()),
         Formula::Implies(left, right)

@@ -10,3 +10,6 @@ mod normal;
 pub use count::expanded;
 pub use form::{Nnf, NnfBox, Nnfs};
 pub use normal::nnf;
+
+#[cfg(test)]
+mod tests;

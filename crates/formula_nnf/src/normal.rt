@@ -32,16 +32,44 @@ pub fn nnf(alloc: Global, formula: &Formula, positive: bool) -> Mem<Nnf>
         Formula::And(formulas) => Ok(list(positive, nnfs(alloc, formulas.as_slice(), positive)?)),
         Formula::Or(formulas) => Ok(list(!positive, nnfs(alloc, formulas.as_slice(), positive)?)),
         Formula::Implies(left, right) => {
-            joined(alloc, !positive, left.get(), !positive, right.get(), positive)
+            joined(
+                alloc,
+                !positive,
+                left.get(),
+                !positive,
+                right.get(),
+                positive,
+            )
         }
         Formula::Implied(left, right) => {
-            joined(alloc, !positive, left.get(), positive, right.get(), !positive)
+            joined(
+                alloc,
+                !positive,
+                left.get(),
+                positive,
+                right.get(),
+                !positive,
+            )
         }
         Formula::Nor(left, right) => {
-            joined(alloc, positive, left.get(), !positive, right.get(), !positive)
+            joined(
+                alloc,
+                positive,
+                left.get(),
+                !positive,
+                right.get(),
+                !positive,
+            )
         }
         Formula::Nand(left, right) => {
-            joined(alloc, !positive, left.get(), !positive, right.get(), !positive)
+            joined(
+                alloc,
+                !positive,
+                left.get(),
+                !positive,
+                right.get(),
+                !positive,
+            )
         }
         Formula::Iff(left, right) => doubled(alloc, left.get(), right.get(), positive),
         Formula::Xor(left, right) => doubled(alloc, left.get(), right.get(), !positive),
@@ -108,11 +136,7 @@ fn constant(positive: bool) -> Nnf
 fn equation(alloc: Global, positive: bool, left: &TreeTerm, right: &TreeTerm) -> Mem<Nnf>
     ensures { IfOk result (λ form. nnf_tree form ≡ equation positive (term_of left.now) (term_of right.now)) }
 {
-    Ok(Nnf::Equal(
-        positive,
-        copy_term(alloc, left)?,
-        copy_term(alloc, right)?,
-    ))
+    Ok(Nnf::Equal(positive, copy_term(alloc, left)?, copy_term(alloc, right)?))
 }
 
 /// The conjunction (`all`) or disjunction of forms.

@@ -8,12 +8,16 @@ all_expanded-expanded-requires t c =
     (omega (arith, formula-item-is _ _ _ c.loop-formula-test.true c.formula-item.is, c.decreases), tt)
 
 pub all_expanded-loop-formula-preserved : goal.all_expanded-loop-formula-preserved
-all_expanded-loop-formula-preserved t c =
-    (
-      omega (arith, c.saturating_add-total.ensures),
-      omega (arith, expanded-step _ _ _ c.loop-formula-test.true c.formula-item.is, c.expanded.ensures, c.saturating_add-total.ensures,
-        c.loop-formula.invariant.1),
-    )
+all_expanded-loop-formula-preserved t c = (
+  omega (arith, c.saturating_add-total.ensures),
+  omega (
+    arith,
+    expanded-step _ _ _ c.loop-formula-test.true c.formula-item.is,
+    c.expanded.ensures,
+    c.saturating_add-total.ensures,
+    c.loop-formula.invariant.1,
+  ),
+)
 
 pub all_expanded-returns : goal.all_expanded-returns
 all_expanded-returns t c =
