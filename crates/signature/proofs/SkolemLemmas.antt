@@ -38,20 +38,20 @@ product-count n began first second m = by (is_large first second) (nat_lt (lengt
     by true false = refl
 
 joined-count :
-    (n : SymbolNumbers) (listed : Bool) (began : ℕ) (first second : Work) (a b : ℕ)
-    → Adds first a → Adds second b → Adds (joined n listed began first second) (a + b)
-joined-count n true began first second a b f g m = omega (arith, f m, g (first m).made)
-joined-count n false began first second a b f g m =
-    omega (arith, product-count n began (first m).clauses (second (first m).made).clauses (second (first m).made).made, f m, g (first m).made)
+    (n : SymbolNumbers) (listed : Bool) (first second : Work) (a b : ℕ)
+    → Adds first a → Adds second b → Adds (joined n listed first second) (a + b)
+joined-count n true first second a b f g m = omega (arith, f m, g (first m).made)
+joined-count n false first second a b f g m =
+    omega (arith, product-count n m.variables (first m).clauses (second (first m).made).clauses (second (first m).made).made, f m, g (first m).made)
 
 doubled-count :
-    (n : SymbolNumbers) (began : ℕ) (f g : Bool → Work) (i j : Bool → ℕ) (s t : Bool)
+    (n : SymbolNumbers) (f g : Bool → Work) (i j : Bool → ℕ) (s t : Bool)
     → ((u : Bool) → Adds (f u) (i u)) → ((u : Bool) → Adds (g u) (j u))
-    → Adds (joined n true began (joined n false began (f s) (g true)) (joined n false began (f t) (g false))) ((i s + j true) + (i t + j false))
-doubled-count n began f g i j s t h k =
-    joined-count n true began (joined n false began (f s) (g true)) (joined n false began (f t) (g false)) (i s + j true) (i t + j false)
-    (joined-count n false began (f s) (g true) (i s) (j true) (h s) (k true))
-    (joined-count n false began (f t) (g false) (i t) (j false) (h t) (k false))
+    → Adds (joined n true (joined n false (f s) (g true)) (joined n false (f t) (g false))) ((i s + j true) + (i t + j false))
+doubled-count n f g i j s t h k =
+    joined-count n true (joined n false (f s) (g true)) (joined n false (f t) (g false)) (i s + j true) (i t + j false)
+    (joined-count n false (f s) (g true) (i s) (j true) (h s) (k true))
+    (joined-count n false (f t) (g false) (i t) (j false) (h t) (k false))
 
 variables-count : (xs : List (List ℕ)) (env : Environment) (m : Made) → made_count (with_variables xs env m).made ≡ made_count m
 variables-count [] env m = refl
@@ -89,35 +89,35 @@ mutual
   clauses-count n (disjunction fs) true env m = products-count n m.variables ([] ∷ []) fs true env m
   clauses-count n (disjunction fs) false env m = listed-count n fs false env m
   clauses-count n (connected implies f g) sign env m =
-      joined-count n (not sign) m.variables (clauses_of n f (not sign) env) (clauses_of n g sign env) _ _ (clauses-count n f (not sign) env) (clauses-count n g sign env) m
+      joined-count n (not sign) (clauses_of n f (not sign) env) (clauses_of n g sign env) _ _ (clauses-count n f (not sign) env) (clauses-count n g sign env) m
   clauses-count n (connected implied f g) sign env m =
-      joined-count n (not sign) m.variables (clauses_of n f sign env) (clauses_of n g (not sign) env) _ _ (clauses-count n f sign env) (clauses-count n g (not sign) env) m
+      joined-count n (not sign) (clauses_of n f sign env) (clauses_of n g (not sign) env) _ _ (clauses-count n f sign env) (clauses-count n g (not sign) env) m
   clauses-count n (connected nor f g) sign env m =
-      joined-count n sign m.variables (clauses_of n f (not sign) env) (clauses_of n g (not sign) env) _ _ (clauses-count n f (not sign) env) (clauses-count n g (not sign) env) m
+      joined-count n sign (clauses_of n f (not sign) env) (clauses_of n g (not sign) env) _ _ (clauses-count n f (not sign) env) (clauses-count n g (not sign) env) m
   clauses-count n (connected nand f g) sign env m =
-      joined-count n (not sign) m.variables (clauses_of n f (not sign) env) (clauses_of n g (not sign) env) _ _ (clauses-count n f (not sign) env) (clauses-count n g (not sign) env) m
+      joined-count n (not sign) (clauses_of n f (not sign) env) (clauses_of n g (not sign) env) _ _ (clauses-count n f (not sign) env) (clauses-count n g (not sign) env) m
   clauses-count n (connected equivalent f g) true env m =
       omega (
         arith,
-        doubled-count n m.variables (λ u. clauses_of n f u env) (λ u. clauses_of n g u env) (skolem_count f) (skolem_count g) false true
+        doubled-count n (λ u. clauses_of n f u env) (λ u. clauses_of n g u env) (skolem_count f) (skolem_count g) false true
             (λ u. clauses-count n f u env) (λ u. clauses-count n g u env) m,
       )
   clauses-count n (connected equivalent f g) false env m =
       omega (
         arith,
-        doubled-count n m.variables (λ u. clauses_of n f u env) (λ u. clauses_of n g u env) (skolem_count f) (skolem_count g) true false
+        doubled-count n (λ u. clauses_of n f u env) (λ u. clauses_of n g u env) (skolem_count f) (skolem_count g) true false
             (λ u. clauses-count n f u env) (λ u. clauses-count n g u env) m,
       )
   clauses-count n (connected different f g) true env m =
       omega (
         arith,
-        doubled-count n m.variables (λ u. clauses_of n f u env) (λ u. clauses_of n g u env) (skolem_count f) (skolem_count g) true false
+        doubled-count n (λ u. clauses_of n f u env) (λ u. clauses_of n g u env) (skolem_count f) (skolem_count g) true false
             (λ u. clauses-count n f u env) (λ u. clauses-count n g u env) m,
       )
   clauses-count n (connected different f g) false env m =
       omega (
         arith,
-        doubled-count n m.variables (λ u. clauses_of n f u env) (λ u. clauses_of n g u env) (skolem_count f) (skolem_count g) false true
+        doubled-count n (λ u. clauses_of n f u env) (λ u. clauses_of n g u env) (skolem_count f) (skolem_count g) false true
             (λ u. clauses-count n f u env) (λ u. clauses-count n g u env) m,
       )
   clauses-count n (quantified q xs f) sign env m =
@@ -131,7 +131,7 @@ mutual
   listed-count : (n : SymbolNumbers) (fs : FormulaTrees) (sign : Bool) (env : Environment) → Adds (listed_clauses n fs sign env) (all_skolem_count fs sign)
   listed-count n no_formulas sign env m = omega arith
   listed-count n (formula_then f fs) sign env m =
-      joined-count n true m.variables (clauses_of n f sign env) (listed_clauses n fs sign env) _ _ (clauses-count n f sign env) (listed-count n fs sign env) m
+      joined-count n true (clauses_of n f sign env) (listed_clauses n fs sign env) _ _ (clauses-count n f sign env) (listed-count n fs sign env) m
 
   products-count :
       (n : SymbolNumbers) (began : ℕ) (cs : List Literals) (fs : FormulaTrees) (sign : Bool) (env : Environment)

@@ -101,8 +101,8 @@ is_large first second = nat_le 2 (length first) && (nat_le 2 (length second) && 
 abbrev pub atom_literal : Bool → Tree → TreeLiteral
 atom_literal sign atom = record { positive = sign; left = atom; right = true_tree }
 
--- A list is named: the next naming symbol, applied to those of its variables that were made before the work on the product's formula
--- began, stands for it, and implies each of its clauses.
+-- A list is named: the next naming symbol, applied to those of its variables that were made before the work on the product began,
+-- stands for it, and implies each of its clauses.
 abbrev pub named : SymbolNumbers → ℕ → List Literals → Made → Worked
 named n began cs m =
     let arguments : List ℕ = made_in_order began (flat_map (λ c. flat_map literal_variables c) cs) in
@@ -132,13 +132,12 @@ product n began first second m =
 abbrev pub Work : Type 0
 Work = Made → Worked
 
--- One after the other: their clauses one after the other, or their product. It is known how many variables there were when the work on
--- the formula began.
-abbrev pub joined : SymbolNumbers → Bool → ℕ → Work → Work → Work
-joined n listed began first second m =
+-- One after the other: their clauses one after the other, or their product.
+abbrev pub joined : SymbolNumbers → Bool → Work → Work → Work
+joined n listed first second m =
     let w : Worked = first m in
     let v : Worked = second w.made in
-    if listed then record { clauses = w.clauses ++ v.clauses; made = v.made } else product n began w.clauses v.clauses v.made
+    if listed then record { clauses = w.clauses ++ v.clauses; made = v.made } else product n m.variables w.clauses v.clauses v.made
 
 -- no clause, or the empty one
 abbrev pub constant : Bool → Work
@@ -163,18 +162,18 @@ abbrev mutual
   clauses_of n (conjunction fs) false env m = product_clauses n m.variables ([] ∷ []) fs false env m
   clauses_of n (disjunction fs) true env m = product_clauses n m.variables ([] ∷ []) fs true env m
   clauses_of n (disjunction fs) false env m = listed_clauses n fs false env m
-  clauses_of n (connected implies f g) sign env m = joined n (not sign) m.variables (clauses_of n f (not sign) env) (clauses_of n g sign env) m
-  clauses_of n (connected implied f g) sign env m = joined n (not sign) m.variables (clauses_of n f sign env) (clauses_of n g (not sign) env) m
-  clauses_of n (connected nor f g) sign env m = joined n sign m.variables (clauses_of n f (not sign) env) (clauses_of n g (not sign) env) m
-  clauses_of n (connected nand f g) sign env m = joined n (not sign) m.variables (clauses_of n f (not sign) env) (clauses_of n g (not sign) env) m
+  clauses_of n (connected implies f g) sign env m = joined n (not sign) (clauses_of n f (not sign) env) (clauses_of n g sign env) m
+  clauses_of n (connected implied f g) sign env m = joined n (not sign) (clauses_of n f sign env) (clauses_of n g (not sign) env) m
+  clauses_of n (connected nor f g) sign env m = joined n sign (clauses_of n f (not sign) env) (clauses_of n g (not sign) env) m
+  clauses_of n (connected nand f g) sign env m = joined n (not sign) (clauses_of n f (not sign) env) (clauses_of n g (not sign) env) m
   clauses_of n (connected equivalent f g) sign env m =
-      joined n true m.variables
-      (joined n false m.variables (clauses_of n f (not sign) env) (clauses_of n g true env))
-      (joined n false m.variables (clauses_of n f sign env) (clauses_of n g false env)) m
+      joined n true
+      (joined n false (clauses_of n f (not sign) env) (clauses_of n g true env))
+      (joined n false (clauses_of n f sign env) (clauses_of n g false env)) m
   clauses_of n (connected different f g) sign env m =
-      joined n true m.variables
-      (joined n false m.variables (clauses_of n f sign env) (clauses_of n g true env))
-      (joined n false m.variables (clauses_of n f (not sign) env) (clauses_of n g false env)) m
+      joined n true
+      (joined n false (clauses_of n f sign env) (clauses_of n g true env))
+      (joined n false (clauses_of n f (not sign) env) (clauses_of n g false env)) m
   clauses_of n (quantified q xs f) sign env m =
       let s : Scope = scope_of n (makes_variables q sign) xs f env m in
       clauses_of n f sign s.environment s.made
@@ -182,7 +181,7 @@ abbrev mutual
   -- the clauses of each formula, one after the other
   pub listed_clauses : SymbolNumbers → FormulaTrees → Bool → Environment → Work
   listed_clauses n no_formulas sign env m = constant true m
-  listed_clauses n (formula_then f fs) sign env m = joined n true m.variables (clauses_of n f sign env) (listed_clauses n fs sign env) m
+  listed_clauses n (formula_then f fs) sign env m = joined n true (clauses_of n f sign env) (listed_clauses n fs sign env) m
 
   -- their product with the clauses that are there, from left to right, two lists at a time
   pub product_clauses : SymbolNumbers → ℕ → List Literals → FormulaTrees → Bool → Environment → Work
