@@ -1,1 +1,3 @@
 pub mod FormLemmas
+pub mod NameLemmas
+pub mod ClauseLemmas

@@ -3,6 +3,7 @@
 ghost use Rattle.std.specs.Prelude.{◌≡◌, true, false};
 ghost use Rattle.tptp_tree.specs.Formula.{equivalent, connected, conjunction, disjunction, negation, formula_then, no_formulas};
 ghost use Rattle.formula_nnf.specs.NormalForm.{normal_form};
+ghost use Rattle.formula_nnf.specs.NormalFormLaws.{NormalFormKeepsClauses};
 ghost use Rattle.formula_nnf.specs.Expanded.{expanded_count};
 ghost use Rattle.formula_nnf.specs.Examples.{p, q, nested};
 
@@ -21,4 +22,9 @@ pub fn normal_form_examples()
     ensures negative { normal_form (connected equivalent p q) false
         ≡ conjunction (formula_then (disjunction (formula_then p (formula_then q no_formulas)))
         (formula_then (disjunction (formula_then (negation p) (formula_then (negation q) no_formulas))) no_formulas)) }
+{}
+
+/// The clauses of a normal form are those of the formula under its sign.
+pub fn normal_form_keeps_clauses()
+    ensures { NormalFormKeepsClauses }
 {}
