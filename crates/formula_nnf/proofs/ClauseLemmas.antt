@@ -1,9 +1,9 @@
 -- The clauses of a normal form are those of the formula.
-use Rattle.std.proofs.Common.{◌≡◌, ℕ, Bool, true, false, not, List, [], ◌∷◌, ◌++◌, map, refl, ap, sym, ◌∙◌, append-nil}
+use Rattle.std.proofs.Common.{◌≡◌, ℕ, Bool, true, false, not, List, [], ◌∷◌, ◌++◌, map, refl, ap, ◌∙◌, append-nil}
 use Rattle.std.specs.Prelude.{if◌then◌else◌}
 use Rattle.tptp_tree.specs.Formula.{implies, implied, equivalent, different, nor, nand, Quantifier, for_all, exists_some, FormulaTree, truth, falsity, predicate, equation, negation, conjunction, disjunction, connected, quantified, FormulaTrees, no_formulas, formula_then}
 use Rattle.signature.specs.Environment.{Environment, free_names}
-use Rattle.signature.specs.Clausal.{SymbolNumbers, Made, Worked, Scope, Literals, Work, product, joined, constant, scope_of, makes_variables, clauses_of, listed_clauses, product_clauses}
+use Rattle.signature.specs.Clausal.{SymbolNumbers, Made, Worked, Scope, Literals, Work, product, joined, scope_of, makes_variables, clauses_of, listed_clauses, product_clauses}
 use Rattle.formula_nnf.specs.NormalForm.{pair_form, quantifier_form, normal_form, normal_forms}
 use Rattle.formula_nnf.specs.NormalFormLaws.{NormalFormKeepsClauses}
 use Rattle.formula_nnf.proofs.NameLemmas.{skolem-same, names-same}
@@ -94,22 +94,22 @@ mutual
       paired n true (pair_form false (normal_form f (not sign)) (normal_form g true)) (pair_form false (normal_form f sign) (normal_form g false))
       (joined n false (clauses_of n f (not sign) env) (clauses_of n g true env)) (joined n false (clauses_of n f sign env) (clauses_of n g false env)) env
       (paired n false (normal_form f (not sign)) (normal_form g true) (clauses_of n f (not sign) env) (clauses_of n g true env) env
-        (λ o. clauses-same n f (not sign) env o) (λ o. clauses-same n g true env o))
+      (λ o. clauses-same n f (not sign) env o) (λ o. clauses-same n g true env o))
       (paired n false (normal_form f sign) (normal_form g false) (clauses_of n f sign env) (clauses_of n g false env) env
-        (λ o. clauses-same n f sign env o) (λ o. clauses-same n g false env o)) m
+      (λ o. clauses-same n f sign env o) (λ o. clauses-same n g false env o)) m
   clauses-same n (connected different f g) sign env m =
       paired n true (pair_form false (normal_form f sign) (normal_form g true)) (pair_form false (normal_form f (not sign)) (normal_form g false))
       (joined n false (clauses_of n f sign env) (clauses_of n g true env)) (joined n false (clauses_of n f (not sign) env) (clauses_of n g false env)) env
       (paired n false (normal_form f sign) (normal_form g true) (clauses_of n f sign env) (clauses_of n g true env) env
-        (λ o. clauses-same n f sign env o) (λ o. clauses-same n g true env o))
+      (λ o. clauses-same n f sign env o) (λ o. clauses-same n g true env o))
       (paired n false (normal_form f (not sign)) (normal_form g false) (clauses_of n f (not sign) env) (clauses_of n g false env) env
-        (λ o. clauses-same n f (not sign) env o) (λ o. clauses-same n g false env o)) m
+      (λ o. clauses-same n f (not sign) env o) (λ o. clauses-same n g false env o)) m
   clauses-same n (quantified q xs f) sign env m =
       let s : Scope = scope_of n (makes_variables (quantifier_form sign q) true) xs (normal_form f sign) env m in
       clauses-same n f sign s.environment s.made
       ∙ ap (λ (r : Scope). clauses_of n f sign r.environment r.made)
       (scope-same n (makes_variables (quantifier_form sign q) true) xs f sign env m
-        ∙ ap (λ new. scope_of n new xs f env m) (turned q sign))
+      ∙ ap (λ new. scope_of n new xs f env m) (turned q sign))
 
   listed-same :
       (n : SymbolNumbers) (fs : FormulaTrees) (sign : Bool) (env : Environment) (m : Made)

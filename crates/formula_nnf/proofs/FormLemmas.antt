@@ -1,5 +1,5 @@
 -- Lists of formulas, as a walk over them works them off.
-use Rattle.std.proofs.Common.{◌≡◌, ℕ, zero, suc, ◌+◌, ◌-◌, ◌*◌, ◌^◌, ◌<◌, ◌≤◌, min, Bool, List, [], ◌∷◌, ◌++◌, length, map, drop, take, get_or, refl, ap, sym, ◌∙◌, arith, append_assoc, append-nil}
+use Rattle.std.proofs.Common.{◌≡◌, ℕ, ◌+◌, ◌<◌, ◌≤◌, Bool, List, [], ◌∷◌, ◌++◌, length, map, drop, get_or, refl, ap, sym, ◌∙◌, append_assoc, append-nil}
 use Rattle.tptp_tree.specs.Formula.{FormulaTree, FormulaTrees, no_formulas, formula_then, formulas_of, list_of_formulas}
 use Rattle.tptp_tree.specs.Shape.{formula_of}
 use Rattle.tptp_tree.specs.declared.formula.Formula.{Formula}

@@ -3,11 +3,11 @@ use Rattle.std.proofs.Common.{◌≡◌, ℕ, ◌==◌, Bool, true, false, not, 
 use Rattle.std.specs.Prelude.{filter, flat_map, bytes_eq, if◌then◌else◌}
 use Rattle.std.specs.List.{list_any}
 use Rattle.tptp_tree.specs.Formula.{implies, implied, equivalent, different, nor, nand, FormulaTree, truth, falsity, predicate, equation, negation, conjunction, disjunction, connected, quantified, FormulaTrees, no_formulas, formula_then}
-use Rattle.fol_base.specs.Tree.{variable, tree_variables}
+use Rattle.fol_base.specs.Tree.{tree_variables}
 use Rattle.fol_base.specs.Canonical.{numbers_from}
 use Rattle.signature.specs.Environment.{Environment, free_names, all_free_names, without_names, term_in_force}
-use Rattle.signature.specs.Clausal.{SymbolNumbers, Made, Scope, made_in_order, skolem_arguments, with_skolem_terms, applied}
-use Rattle.formula_nnf.specs.NormalForm.{constant_form, list_form, pair_form, quantifier_form, normal_form, normal_forms}
+use Rattle.signature.specs.Clausal.{SymbolNumbers, Made, skolem_arguments, with_skolem_terms, applied}
+use Rattle.formula_nnf.specs.NormalForm.{list_form, pair_form, normal_form, normal_forms}
 
 any-append : {X : Type 0} (p : X → Bool) (xs ys : List X) → list_any p (xs ++ ys) ≡ (list_any p xs || list_any p ys)
 any-append p [] ys = refl
@@ -52,9 +52,9 @@ without-same bound xs ys h p =
 pub arguments-same : (xs ys : List (List ℕ)) (env : Environment) (m : Made) → Same xs ys → skolem_arguments xs env m ≡ skolem_arguments ys env m
 arguments-same xs ys env m h =
     filter-same _ _ (numbers_from 0 m.variables) (λ v.
-      any-flat_map (λ w. v == w) (λ x. tree_variables (term_in_force env x)) xs
-      ∙ h (λ x. list_any (λ w. v == w) (tree_variables (term_in_force env x)))
-      ∙ sym (any-flat_map (λ w. v == w) (λ x. tree_variables (term_in_force env x)) ys))
+    any-flat_map (λ w. v == w) (λ x. tree_variables (term_in_force env x)) xs
+    ∙ h (λ x. list_any (λ w. v == w) (tree_variables (term_in_force env x)))
+    ∙ sym (any-flat_map (λ w. v == w) (λ x. tree_variables (term_in_force env x)) ys))
 
 pub skolem-same :
     (n : SymbolNumbers) (free other xs : List (List ℕ)) (env : Environment) (m : Made)
@@ -62,12 +62,12 @@ pub skolem-same :
 skolem-same n free other [] env m h = refl
 skolem-same n free other (x ∷ xs) env m h =
     ap (λ arguments. with_skolem_terms n free xs ((x, applied (n.first_skolem + length m.skolem_arities) arguments) ∷ env)
-      (record {
-        variables = m.variables;
-        skolem_arities = m.skolem_arities ++ length arguments ∷ [];
-        naming_arities = m.naming_arities;
-        defining = m.defining;
-      }))
+    (record {
+      variables = m.variables;
+      skolem_arities = m.skolem_arities ++ length arguments ∷ [];
+      naming_arities = m.naming_arities;
+      defining = m.defining;
+    }))
     (arguments-same (without_names (x ∷ xs) free) (without_names (x ∷ xs) other) env m (without-same (x ∷ xs) free other h))
     ∙ skolem-same n free other xs _ _ h
 
