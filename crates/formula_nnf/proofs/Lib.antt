@@ -1,3 +1,4 @@
 pub mod FormLemmas
 pub mod NameLemmas
 pub mod ClauseLemmas
+pub mod CountLemmas

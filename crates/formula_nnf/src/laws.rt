@@ -4,6 +4,7 @@ ghost use Rattle.std.specs.Prelude.{◌≡◌, true, false};
 ghost use Rattle.tptp_tree.specs.Formula.{equivalent, connected, conjunction, disjunction, negation, formula_then, no_formulas};
 ghost use Rattle.formula_nnf.specs.NormalForm.{normal_form};
 ghost use Rattle.formula_nnf.specs.NormalFormLaws.{NormalFormKeepsClauses};
+ghost use Rattle.formula_nnf.specs.ClauseCountLaws.{ClausesAreCounted};
 ghost use Rattle.formula_nnf.specs.Expanded.{expanded_count};
 ghost use Rattle.formula_nnf.specs.Examples.{p, q, nested};
 
@@ -27,4 +28,9 @@ pub fn normal_form_examples()
 /// The clauses of a normal form are those of the formula under its sign.
 pub fn normal_form_keeps_clauses()
     ensures { NormalFormKeepsClauses }
+{}
+
+/// The work on a formula gives as many clauses as are counted.
+pub fn clauses_are_counted()
+    ensures { ClausesAreCounted }
 {}
