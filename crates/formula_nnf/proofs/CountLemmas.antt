@@ -1,10 +1,10 @@
 -- How many clauses the work on a formula gives.
-use Rattle.std.proofs.Common.{◌≡◌, ℕ, zero, suc, ◌+◌, ◌*◌, ◌<◌, ◌≤◌, min, max, Bool, true, false, not, ◌&&◌, ⊎_elim, List, [], ◌∷◌, ◌++◌, length, map, refl, ap, sym, ◌∙◌, arith, ltb-true, ltb-false}
-use Rattle.std.specs.Prelude.{flat_map, nat_lt, nat_le, if◌then◌else◌}
+use Rattle.std.proofs.Common.{◌≡◌, ℕ, suc, ◌+◌, ◌*◌, ◌<◌, ◌≤◌, min, max, Bool, true, false, not, List, [], ◌∷◌, ◌++◌, length, map, refl, ap, sym, ◌∙◌, arith, ltb-true, ltb-false}
+use Rattle.std.specs.Prelude.{nat_lt, if◌then◌else◌}
 use Rattle.tptp_tree.specs.Formula.{implies, implied, equivalent, different, nor, nand, FormulaTree, truth, falsity, predicate, equation, negation, conjunction, disjunction, connected, quantified, FormulaTrees, no_formulas, formula_then}
 use Rattle.signature.specs.Environment.{Environment, free_names}
 use Rattle.signature.specs.Clausal.{SymbolNumbers, Made, Worked, Scope, Literals, Work, all_pairs, is_large, named, product, joined, constant, with_variables, with_skolem_terms, scope_of, makes_variables, clauses_of, listed_clauses, product_clauses}
-use Rattle.formula_nnf.specs.ClauseCount.{ClauseCount, sum_count, is_large_count, product_count, joined_count, plain_count, constant_count, clause_counts, listed_counts, product_counts}
+use Rattle.formula_nnf.specs.ClauseCount.{ClauseCount, is_large_count, product_count, joined_count, plain_count, constant_count, clause_counts, listed_counts, product_counts}
 use Rattle.formula_nnf.specs.ClauseCountLaws.{IsCounted, ClausesAreCounted}
 
 length-append : {X : Type 0} (xs ys : List X) → length (xs ++ ys) ≡ length xs + length ys
@@ -59,7 +59,7 @@ product-lengths n began first second m =
         → (let r : Worked =
         (if not t then record { clauses = all_pairs first second; made = m }
         else if u then
-          (let w : Worked = named n began second m in record { clauses = all_pairs first w.clauses; made = w.made })
+        (let w : Worked = named n began second m in record { clauses = all_pairs first w.clauses; made = w.made })
         else (let w : Worked = named n began first m in record { clauses = all_pairs w.clauses second; made = w.made })) in
         let c : ClauseCount =
         (if t then record { clauses = min (length first) (length second); defining = (0 + 0) + max (length first) (length second) }

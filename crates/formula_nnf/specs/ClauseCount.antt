@@ -18,7 +18,7 @@ is_large_count a b = nat_le 2 a && (nat_le 2 b && nat_lt 64 (a * b))
 abbrev pub product_count : ClauseCount → ClauseCount → ClauseCount
 product_count a b =
     if is_large_count a.clauses b.clauses then
-      record { clauses = min a.clauses b.clauses; defining = (a.defining + b.defining) + max a.clauses b.clauses }
+    record { clauses = min a.clauses b.clauses; defining = (a.defining + b.defining) + max a.clauses b.clauses }
     else record { clauses = a.clauses * b.clauses; defining = a.defining + b.defining }
 
 abbrev pub joined_count : Bool → ClauseCount → ClauseCount → ClauseCount

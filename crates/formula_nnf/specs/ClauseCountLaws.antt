@@ -1,5 +1,5 @@
 -- A law of clause counts.
-use Rattle.std.specs.Prelude.{◌≡◌, ℕ, ◌+◌, Bool, length}
+use Rattle.std.specs.Prelude.{◌≡◌, ◌+◌, Bool, length}
 use Rattle.tptp_tree.specs.Formula.{FormulaTree}
 use Rattle.signature.specs.Environment.{Environment}
 use Rattle.signature.specs.Clausal.{SymbolNumbers, Made, Worked, clauses_of}
