@@ -1,0 +1,4 @@
+pub mod FormLemmas
+pub mod NameLemmas
+pub mod ClauseLemmas
+pub mod CountLemmas

@@ -1,0 +1,15 @@
+-- The formulas of the worked examples.
+use Rattle.std.specs.Prelude.{ℕ, zero, suc, codes}
+use Rattle.tptp_tree.specs.Term.{no_terms}
+use Rattle.tptp_tree.specs.Formula.{equivalent, FormulaTree, predicate, connected}
+
+abbrev pub p : FormulaTree
+p = predicate (codes "p") no_terms
+
+abbrev pub q : FormulaTree
+q = predicate (codes "q") no_terms
+
+-- that many equivalences, each in the next
+abbrev pub nested : ℕ → FormulaTree
+nested zero = p
+nested (suc n) = connected equivalent (nested n) p

@@ -1,0 +1,36 @@
+// Worked examples of the definitions: each is the contract of a function with an empty body.
+
+ghost use Rattle.std.specs.Prelude.{◌≡◌, true, false};
+ghost use Rattle.tptp_tree.specs.Formula.{equivalent, connected, conjunction, disjunction, negation, formula_then, no_formulas};
+ghost use Rattle.formula_nnf.specs.NormalForm.{normal_form};
+ghost use Rattle.formula_nnf.specs.NormalFormLaws.{NormalFormKeepsClauses};
+ghost use Rattle.formula_nnf.specs.ClauseCountLaws.{ClausesAreCounted};
+ghost use Rattle.formula_nnf.specs.Expanded.{expanded_count};
+ghost use Rattle.formula_nnf.specs.Examples.{p, q, nested};
+
+/// Equivalences are written out: `p <=> q` has four atoms, 18 nested ones fewer than a million, and 19 more.
+pub fn expanded_examples()
+    ensures one { expanded_count (connected equivalent p q) ≡ 4 }
+    ensures below { expanded_count (nested 18) ≡ 786430 }
+    ensures above { expanded_count (nested 19) ≡ 1572862 }
+{}
+
+/// The normal form of `p <=> q` is `(~p | q) & (p | ~q)`, and that of its negation `(p | q) & (~p | ~q)`.
+pub fn normal_form_examples()
+    ensures positive { normal_form (connected equivalent p q) true
+        ≡ conjunction (formula_then (disjunction (formula_then (negation p) (formula_then q no_formulas)))
+        (formula_then (disjunction (formula_then p (formula_then (negation q) no_formulas))) no_formulas)) }
+    ensures negative { normal_form (connected equivalent p q) false
+        ≡ conjunction (formula_then (disjunction (formula_then p (formula_then q no_formulas)))
+        (formula_then (disjunction (formula_then (negation p) (formula_then (negation q) no_formulas))) no_formulas)) }
+{}
+
+/// The clauses of a normal form are those of the formula under its sign.
+pub fn normal_form_keeps_clauses()
+    ensures { NormalFormKeepsClauses }
+{}
+
+/// The work on a formula gives as many clauses as are counted.
+pub fn clauses_are_counted()
+    ensures { ClausesAreCounted }
+{}

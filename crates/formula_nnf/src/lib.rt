@@ -1,0 +1,15 @@
+// The negation normal form of a formula, and how large a formula becomes.
+#![tactic(auto)]
+
+mod copy;
+mod count;
+mod form;
+pub mod laws;
+mod normal;
+
+pub use count::expanded;
+pub use form::{Nnf, NnfBox, Nnfs};
+pub use normal::nnf;
+
+#[cfg(test)]
+mod tests;

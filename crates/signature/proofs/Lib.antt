@@ -1,0 +1,4 @@
+pub mod OccurrenceLemmas
+pub mod SignatureLemmas
+pub mod PrefixLemmas
+pub mod SkolemLemmas

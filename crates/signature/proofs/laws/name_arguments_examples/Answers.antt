@@ -1,0 +1,11 @@
+use Rattle.std.proofs.Common.{refl}
+use Rattle.std.specs.Fmt.{digits}
+use Rattle.signature.proofs.laws.name_arguments_examples.Goals as goal
+
+pub returns : goal.returns
+unfolding digits
+returns c = record {
+  count = refl;
+  first = refl;
+  defining = refl;
+}

@@ -1,0 +1,9 @@
+use Rattle.std.proofs.Common.{refl}
+use Rattle.signature.proofs.laws.prefix_examples.Goals as goal
+
+pub returns : goal.returns
+returns c = record {
+  taken = refl;
+  free = refl;
+  longer = refl;
+}

@@ -1,0 +1,8 @@
+use Rattle.std.proofs.Common.{refl}
+use Rattle.signature.proofs.laws.scope_examples.Goals as goal
+
+pub returns : goal.returns
+returns c = record {
+  left_alone = refl;
+  whole = refl;
+}

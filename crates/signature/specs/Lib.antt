@@ -1,0 +1,10 @@
+pub mod Symbol
+pub mod SymbolLaws
+pub mod Occurrences
+pub mod Prefix
+pub mod Environment
+pub mod Clausal
+pub mod Form
+pub mod Truth
+pub mod Examples
+pub mod FormLaws
