@@ -11,7 +11,8 @@ ghost use Rattle.fol_base.specs.Canonical.{IsCanonical};
 use super::*;
 use crate::trees::negative_names;
 use fol_base::{
-    Clause, LendsLiterals, Literal, Literals, SIZE_LIMIT, Term, canonical, same_clause, same_literal,
+    Clause, LendsLiterals, Literal, Literals, SIZE_LIMIT, Term, canonical, same_clause,
+    same_literal,
 };
 use plain_types::{Mem, Names, NoMemory};
 use sample_terms::{atom, constant, unary};
@@ -255,18 +256,15 @@ fn read_while_taking_in<R: Threads + Wait + Sync>(
     let (taken, read) = thread::join(
         rt,
         || takes_in_its_own(rt, alloc, bank, table),
-        || requires { IsClauseOf bank.now made.now } { comes_back(bank, form, made) },
+        ||
+            requires { IsClauseOf bank.now made.now }
+        { comes_back(bank, form, made) },
     );
     Ok(taken? && read?)
 }
 
 /// Whether a clause that is taken in comes back.
-fn takes_in_its_own<R: Wait>(
-    rt: &R,
-    alloc: Global,
-    bank: &Bank,
-    table: &mut Table,
-) -> Mem<bool>
+fn takes_in_its_own<R: Wait>(rt: &R, alloc: Global, bank: &Bank, table: &mut Table) -> Mem<bool>
     requires { IsTableOf bank.now table.old }
 {
     let literals = atom_and_disequation(alloc, 5)?;
