@@ -140,21 +140,35 @@ fn a_clause_comes_back(rt: HostRuntime) -> Result<(), Fail> {
     Ok(())
 }
 
-/// Clauses of many literals come back too, from a bank that knows some of their terms.
+/// Whether clauses of many literals come back with their names.
+fn clauses_come_back<R: Wait>(
+    rt: &R,
+    alloc: Global,
+    bank: &Bank,
+    table: &mut Table,
+    names: &[u32],
+) -> Mem<bool>
+    requires table { IsTableOf bank.now table.old }
+    requires rising { IsStrictlyIncreasing names.now }
+    ensures { IsTableOf bank.now table.new }
+{
+    for count in [0, 1, 4, 5, 9] {
+        let literals = many_atoms(alloc, count)?;
+        let (form, made) = taken_in(rt, alloc, bank, table, literals, names)?;
+        if !comes_back(bank, &form, &made)? || made.names() != names {
+            return Ok(false);
+        }
+    }
+    Ok(true)
+}
+
+/// They come back too from a bank that knows their terms.
 #[test]
 fn clauses_come_back_from_one_bank(rt: HostRuntime) -> Result<(), Fail> {
     let alloc = rt.alloc();
     let (bank, mut table) = Bank::new(alloc)?;
-    for count in [0, 1, 4, 5, 9] {
-        let literals = many_atoms(alloc, count)?;
-        let (form, made) = taken_in(&rt, alloc, &bank, &mut table, literals, &[])?;
-        assert!(rt; comes_back(&bank, &form, &made)?);
-        assert!(rt; made.names().is_empty());
-        let literals = many_atoms(alloc, count)?;
-        let (form, made) = taken_in(&rt, alloc, &bank, &mut table, literals, &[0, 7])?;
-        assert!(rt; comes_back(&bank, &form, &made)?);
-        assert!(rt; made.names() == [0, 7].as_slice());
-    }
+    assert!(rt; clauses_come_back(&rt, alloc, &bank, &mut table, &[])?);
+    assert!(rt; clauses_come_back(&rt, alloc, &bank, &mut table, &[0, 7])?);
     Ok(())
 }
 
@@ -242,18 +256,15 @@ fn read_while_taking_in<R: Threads + Wait + Sync>(
     let (taken, read) = thread::join(
         rt,
         || takes_in_its_own(rt, alloc, bank, table),
-        || requires { IsClauseOf bank.now made.now } { comes_back(bank, form, made) },
+        ||
+            requires { IsClauseOf bank.now made.now }
+        { comes_back(bank, form, made) },
     );
     Ok(taken? && read?)
 }
 
 /// Whether a clause that is taken in comes back.
-fn takes_in_its_own<R: Wait>(
-    rt: &R,
-    alloc: Global,
-    bank: &Bank,
-    table: &mut Table,
-) -> Mem<bool>
+fn takes_in_its_own<R: Wait>(rt: &R, alloc: Global, bank: &Bank, table: &mut Table) -> Mem<bool>
     requires { IsTableOf bank.now table.old }
 {
     let literals = atom_and_disequation(alloc, 5)?;

@@ -69,7 +69,7 @@ table-learned bank old room new heads heads_room heads_new t r copy h whole kept
 
 module _ {bank : Bank} {items : List Entry} {heads : List (ℕ × ℕ)} (whole : AreEntriesOf bank items heads) where
   module _ {t : Tree} {h next : ℕ} (looks : Looks t h (map entry_of items) next) (more : 0 < next) (entry : Entry)
-    (at : (d : Entry) → entry ≡ get_or items (next - 1) d) where
+      (at : (d : Entry) → entry ≡ get_or items (next - 1) d) where
     is-next : next ≡ suc (next - 1)
     is-next = omega arith
 

@@ -33,9 +33,9 @@ impl Model for TermRef {
     ghost coded = { reference_code };
 
     ghost view = { λ r. record {
-        number = r.row * 2 ^ 32 + r.place;
-        bank = option_map_or (λ s. suc s.rows.of) r.shown 0;
-        tree = option_map_or (λ s. tree_of s.item.value) r.shown (variable 0);
+      number = r.row * 2 ^ 32 + r.place;
+      bank = option_map_or (λ s. suc s.rows.of) r.shown 0;
+      tree = option_map_or (λ s. tree_of s.item.value) r.shown (variable 0);
     } };
 
     ghost invariant = { λ r. (r.place < 2 ^ 32) × IfSome r.shown (λ s.

@@ -59,7 +59,9 @@ pub(crate) fn no_rows(alloc: Global) -> Mem<Rows> {
 /// The row and the place in it of the term that came after this many; none where there are no more rows.
 pub(crate) fn located(index: u64) -> Option<(u8, u32)> {
     let shifted = index.checked_add(FIRST)?;
-    let row = shifted.checked_ilog2()?.checked_sub(FIRST.checked_ilog2()?)?;
+    let row = shifted
+        .checked_ilog2()?
+        .checked_sub(FIRST.checked_ilog2()?)?;
     let place = shifted.checked_sub(FIRST.checked_shl(row)?)?;
     Some((u8::try_from(row).ok()?, u32::try_from(place).ok()?))
 }

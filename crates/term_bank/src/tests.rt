@@ -219,7 +219,9 @@ fn read_while_interning<R: Threads + Wait + Sync>(
     let (interned, read) = thread::join(
         rt,
         || interns_its_own(rt, alloc, bank, table, others),
-        || requires { AreOf bank.now references.now } { two_read(rt, bank, references, terms) },
+        ||
+            requires { AreOf bank.now references.now }
+        { two_read(rt, bank, references, terms) },
     );
     Ok(interned? && read)
 }
@@ -231,14 +233,16 @@ fn threads_read_while_one_interns(rt: HostRuntime) -> Result<(), Fail> {
     let others = random_terms(alloc, &mut Random::new(3), TERMS)?;
     let (bank, mut table) = Bank::new(alloc)?;
     let references = taken_in(&rt, alloc, &bank, &mut table, terms.as_slice())?;
-    assert!(rt; read_while_interning(
-        &rt,
-        alloc,
-        &bank,
-        &mut table,
-        references.as_slice(),
-        terms.as_slice(),
-        others.as_slice(),
-    )?);
+    assert!(rt;
+        read_while_interning(
+            &rt,
+            alloc,
+            &bank,
+            &mut table,
+            references.as_slice(),
+            terms.as_slice(),
+            others.as_slice(),
+        )?
+    );
     Ok(())
 }
