@@ -2,11 +2,10 @@
 use Rattle.std.proofs.Common.{◌≡◌, ℕ, ◌+◌, Bool, true, false, not, List, [], ◌∷◌, ◌++◌, length, refl, arith}
 use Rattle.std.specs.Prelude.{if◌then◌else◌, nat_lt}
 use Rattle.tptp_tree.specs.Formula.{implies, implied, equivalent, different, nor, nand, FormulaTree, truth, falsity, predicate, equation, negation, conjunction, disjunction, connected, quantified, FormulaTrees, no_formulas, formula_then}
-use Rattle.tptp_tree.specs.Shape.{formula_of}
 use Rattle.tptp_tree.specs.Entries.{is_conjecture}
 use Rattle.tptp_tree.specs.declared.problem.Annotated.{Annotated}
-use Rattle.signature.specs.Environment.{Environment, free_names, without_names}
-use Rattle.signature.specs.Clausal.{SymbolNumbers, Made, Worked, Scope, Literals, Work, all_pairs, is_large, named, product, joined, constant, with_variables, with_skolem_terms, skolem_arguments, scope_of, makes_variables, clauses_of, listed_clauses, product_clauses, begun, first_scope, annotated_clauses, formed}
+use Rattle.signature.specs.Environment.{Environment, free_names, without_names, closed}
+use Rattle.signature.specs.Clausal.{SymbolNumbers, Made, Worked, Scope, Literals, Work, all_pairs, is_large, named, product, joined, constant, with_variables, with_skolem_terms, skolem_arguments, scope_of, makes_variables, clauses_of, listed_clauses, product_clauses, begun, annotated_clauses, formed}
 use Rattle.signature.specs.Form.{skolem_count, all_skolem_count, problem_skolem_count, symbol_numbers, problem_form, nothing_made}
 use Rattle.signature.specs.FormLaws.{SkolemSymbolsAreCounted, SkolemSymbolsOfProblemAreCounted}
 
@@ -148,26 +147,14 @@ mutual
 pub skolem_symbols_are_counted : SkolemSymbolsAreCounted
 skolem_symbols_are_counted n f sign env m = clauses-count n f sign env m
 
-first-count : (a : Annotated) (m : Made) → made_count (first_scope a m).made ≡ made_count m
-first-count a m = by a.clause
-  where
-    by :
-        (t : Bool)
-        → (let s : Scope =
-        (if t then with_variables (free_names (formula_of a.formula)) [] (begun m) else record { environment = []; made = begun m }) in
-        made_count s.made ≡ made_count m)
-    by true = variables-count (free_names (formula_of a.formula)) [] (begun m)
-    by false = refl
-
 formed-count :
     (n : SymbolNumbers) (place : ℕ) (fs : List Annotated) (m : Made)
     → made_count (formed n place fs m).made ≡ made_count m + problem_skolem_count fs
 formed-count n place [] m = omega arith
 formed-count n place (a ∷ fs) m =
-    let s : Scope = first_scope a m in
-    let first : made_count (annotated_clauses n a m).made ≡ made_count s.made + skolem_count (formula_of a.formula) (not (is_conjecture a.role)) =
-    clauses-count n (formula_of a.formula) (not (is_conjecture a.role)) s.environment s.made in
-    omega (arith, first, first-count a m, formed-count n (place + 1) fs (annotated_clauses n a m).made)
+    let first : made_count (annotated_clauses n a m).made ≡ made_count m + skolem_count (closed a) (not (is_conjecture a.role)) =
+    clauses-count n (closed a) (not (is_conjecture a.role)) [] (begun m) in
+    omega (arith, first, formed-count n (place + 1) fs (annotated_clauses n a m).made)
 
 pub skolem_symbols_of_problem_are_counted : SkolemSymbolsOfProblemAreCounted
 skolem_symbols_of_problem_are_counted fs = omega (arith, all)

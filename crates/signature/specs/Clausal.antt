@@ -1,10 +1,9 @@
--- The clausal form of a problem (Nonnengart, Weidenbach 2001): by recursion on the formula with its sign, the terms of the variables
--- in force, and what was made so far.
+-- The clausal form of a problem (after Nonnengart, Weidenbach 2001): by recursion on the formula with its sign, the terms of the
+-- variables in force, and what was made so far.
 use Rattle.std.specs.Prelude.{ℕ, ◌+◌, ◌*◌, Bool, true, false, not, ◌&&◌, ◌==◌, nat_le, nat_lt, if◌then◌else◌, List, [], ◌∷◌, ◌++◌, length, map, flat_map, filter}
 use mathlib.Core.Bool.{beq}
 use Rattle.std.specs.List.{list_any}
 use Rattle.tptp_tree.specs.Formula.{implies, implied, equivalent, different, nor, nand, Quantifier, for_all, exists_some, FormulaTree, truth, falsity, predicate, equation, negation, conjunction, disjunction, connected, quantified, FormulaTrees, no_formulas, formula_then}
-use Rattle.tptp_tree.specs.Shape.{formula_of}
 use Rattle.tptp_tree.specs.Entries.{is_conjecture}
 use Rattle.tptp_tree.specs.declared.problem.Annotated.{Annotated}
 use Rattle.fol_base.specs.Tree.{Tree, variable, application, trees_of, true_tree, tree_variables}
@@ -13,7 +12,7 @@ use Rattle.fol_base.specs.Canonical.{numbers_from, canonical_clause}
 use Rattle.signature.specs.declared.symbol.Symbol.{Symbol}
 use Rattle.signature.specs.Symbol.{predicate_symbol, number_of}
 use Rattle.signature.specs.Occurrences.{terms_count}
-use Rattle.signature.specs.Environment.{Environment, free_names, without_names, term_in_force, term_under, terms_under}
+use Rattle.signature.specs.Environment.{Environment, free_names, without_names, closed, term_in_force, term_under, terms_under}
 
 -- ---- symbols, and what is made
 
@@ -197,15 +196,10 @@ abbrev mutual
 abbrev pub begun : Made → Made
 begun m = record { variables = 0; skolem_arities = m.skolem_arities; naming_arities = m.naming_arities; defining = [] }
 
--- The variables of a `cnf` formula are all new ones, of a name that occurs more than once the last.
-abbrev pub first_scope : Annotated → Made → Scope
-first_scope a m = if a.clause then with_variables (free_names (formula_of a.formula)) [] (begun m) else record { environment = []; made = begun m }
-
 -- The clauses of a formula, and after them those that define its names. The conjecture is negated.
 abbrev pub annotated_clauses : SymbolNumbers → Annotated → Work
 annotated_clauses n a m =
-    let s : Scope = first_scope a m in
-    let w : Worked = clauses_of n (formula_of a.formula) (not (is_conjecture a.role)) s.environment s.made in
+    let w : Worked = clauses_of n (closed a) (not (is_conjecture a.role)) [] (begun m) in
     record { clauses = w.clauses ++ w.made.defining; made = w.made }
 
 -- the clauses of formulas, each with the place of its formula, and what was made

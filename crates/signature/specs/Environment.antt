@@ -2,7 +2,9 @@
 use Rattle.std.specs.Prelude.{ℕ, not, List, [], ◌∷◌, ◌++◌, filter, if◌then◌else◌, bytes_eq}
 use Rattle.std.specs.List.{list_any}
 use Rattle.tptp_tree.specs.Term.{TermTree, variable as named_variable, application as named_application, TermTrees, no_terms, term_then}
-use Rattle.tptp_tree.specs.Formula.{FormulaTree, truth, falsity, predicate, equation, negation, conjunction, disjunction, connected, quantified, FormulaTrees, no_formulas, formula_then}
+use Rattle.tptp_tree.specs.Formula.{for_all, FormulaTree, truth, falsity, predicate, equation, negation, conjunction, disjunction, connected, quantified, FormulaTrees, no_formulas, formula_then}
+use Rattle.tptp_tree.specs.Shape.{formula_of}
+use Rattle.tptp_tree.specs.declared.problem.Annotated.{Annotated}
 use Rattle.fol_base.specs.Tree.{Tree, variable, application, Trees, no_trees, tree_then}
 use Rattle.signature.specs.declared.symbol.Symbol.{Symbol}
 use Rattle.signature.specs.Symbol.{function_symbol, number_of}
@@ -37,6 +39,22 @@ abbrev mutual
   pub all_free_names : FormulaTrees → List (List ℕ)
   all_free_names no_formulas = []
   all_free_names (formula_then f fs) = free_names f ++ all_free_names fs
+
+-- the different names of a list, in the order of their first places
+abbrev pub different_names : List (List ℕ) → List (List ℕ)
+different_names [] = []
+different_names (x ∷ xs) = x ∷ without_names (x ∷ []) (different_names xs)
+
+-- a formula under `!` with those variables, and the formula alone where there is none
+abbrev pub under_for_all : List (List ℕ) → FormulaTree → FormulaTree
+under_for_all [] f = f
+under_for_all (x ∷ xs) f = quantified for_all (x ∷ xs) f
+
+-- The formula of an entry: the variables of a `cnf` formula are universally quantified, in the order of their first occurrences.
+abbrev pub closed : Annotated → FormulaTree
+closed a =
+    let f : FormulaTree = formula_of a.formula in
+    if a.clause then under_for_all (different_names (free_names f)) f else f
 
 -- the variables in force with their terms, the innermost first
 abbrev pub Environment : Type 0

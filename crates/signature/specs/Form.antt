@@ -3,13 +3,13 @@ use Rattle.std.specs.Prelude.{ℕ, ◌+◌, Bool, true, false, not, ◌&&◌, �
 use Rattle.std.specs.List.{list_any}
 use Rattle.std.specs.Fmt.{decimal}
 use Rattle.tptp_tree.specs.Formula.{implies, implied, equivalent, different, nor, nand, FormulaTree, truth, falsity, predicate, equation, negation, conjunction, disjunction, connected, quantified, FormulaTrees, no_formulas, formula_then}
-use Rattle.tptp_tree.specs.Shape.{formula_of}
 use Rattle.tptp_tree.specs.Entries.{is_conjecture}
 use Rattle.tptp_tree.specs.declared.problem.Annotated.{Annotated}
 use Rattle.fol_base.specs.Clause.{TreeClause}
 use Rattle.signature.specs.declared.symbol.Symbol.{Symbol}
 use Rattle.signature.specs.Symbol.{is_predicate_kind, predicate_symbol, function_symbol}
 use Rattle.signature.specs.Occurrences.{problem_symbols}
+use Rattle.signature.specs.Environment.{closed}
 use Rattle.signature.specs.Prefix.{fresh_prefix_of}
 use Rattle.signature.specs.Clausal.{SymbolNumbers, Made, Formed, makes_variables, formed}
 
@@ -41,7 +41,7 @@ abbrev mutual
 
 abbrev pub problem_skolem_count : List Annotated → ℕ
 problem_skolem_count [] = 0
-problem_skolem_count (a ∷ fs) = skolem_count (formula_of a.formula) (not (is_conjecture a.role)) + problem_skolem_count fs
+problem_skolem_count (a ∷ fs) = skolem_count (closed a) (not (is_conjecture a.role)) + problem_skolem_count fs
 
 -- ---- the form
 

@@ -4,7 +4,6 @@ use mathlib.Core.Bool.{beq}
 use Rattle.std.specs.List.{list_any, list_all}
 use Rattle.tptp_tree.specs.Term.{TermTree, variable, application, TermTrees, no_terms, term_then}
 use Rattle.tptp_tree.specs.Formula.{BinaryConnective, implies, implied, equivalent, different, nor, nand, Quantifier, for_all, exists_some, FormulaTree, truth, falsity, predicate, equation, negation, conjunction, disjunction, connected, quantified, FormulaTrees, no_formulas, formula_then}
-use Rattle.tptp_tree.specs.Shape.{formula_of}
 use Rattle.tptp_tree.specs.Entries.{is_conjecture}
 use Rattle.tptp_tree.specs.declared.problem.Annotated.{Annotated}
 use Rattle.fol_base.specs.Clause.{TreeClause}
@@ -13,7 +12,7 @@ use Rattle.fol_base.specs.Interpretation.{Interpretation, Assignment, symbol_val
 use Rattle.signature.specs.declared.symbol.Symbol.{Symbol}
 use Rattle.signature.specs.Symbol.{predicate_symbol, function_symbol, number_of}
 use Rattle.signature.specs.Occurrences.{terms_count, problem_symbols}
-use Rattle.signature.specs.Environment.{free_names}
+use Rattle.signature.specs.Environment.{closed}
 
 -- the variables in force with their values, the innermost first
 abbrev pub Values : Type 0
@@ -68,11 +67,8 @@ abbrev mutual
   some_formula_true known i no_formulas ρ = false
   some_formula_true known i (formula_then f fs) ρ = formula_true known i f ρ || some_formula_true known i fs ρ
 
--- the variables of a `cnf` formula are universally quantified
 abbrev pub annotated_true : List Symbol → Interpretation → Annotated → Bool
-annotated_true known i a =
-    let f : FormulaTree = formula_of a.formula in
-    if a.clause then formula_true known i (quantified for_all (free_names f) f) [] else formula_true known i f []
+annotated_true known i a = formula_true known i (closed a) []
 
 -- the conjecture is false, and the other formulas are true; so a problem without conjecture is true
 abbrev pub refutes_problem : Interpretation → List Annotated → Bool
