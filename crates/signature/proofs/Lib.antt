@@ -2,3 +2,4 @@ pub mod OccurrenceLemmas
 pub mod SignatureLemmas
 pub mod PrefixLemmas
 pub mod SkolemLemmas
+pub mod TruthLemmas

@@ -1,9 +1,8 @@
 use Rattle.std.proofs.Common.{refl}
-use Rattle.signature.proofs.laws.truth_examples.Goals as goal
+use Rattle.signature.proofs.laws.form_examples.scope_examples.Goals as goal
 
 pub returns : goal.returns
 returns c = record {
   left_alone = refl;
   whole = refl;
-  some = refl;
 }

@@ -1,10 +1,11 @@
 use Rattle.std.proofs.Common.{refl}
 use Rattle.std.specs.Fmt.{digits}
-use Rattle.signature.proofs.laws.skolem_examples.Goals as goal
+use Rattle.signature.proofs.laws.problem_examples.names_of_problem_examples.Goals as goal
 
 pub returns : goal.returns
 unfolding digits
 returns c = record {
   clauses = refl;
+  origins = refl;
   symbols = refl;
 }

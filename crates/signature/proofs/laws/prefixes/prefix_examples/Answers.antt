@@ -1,5 +1,5 @@
 use Rattle.std.proofs.Common.{refl}
-use Rattle.signature.proofs.laws.prefix_examples.Goals as goal
+use Rattle.signature.proofs.laws.prefixes.prefix_examples.Goals as goal
 
 pub returns : goal.returns
 returns c = record {

@@ -1,6 +1,6 @@
 use Rattle.std.proofs.Common.{refl}
 use Rattle.std.specs.Fmt.{digits}
-use Rattle.signature.proofs.laws.naming_examples.Goals as goal
+use Rattle.signature.proofs.laws.naming_examples.names_of_names_examples.Goals as goal
 
 pub returns : goal.returns
 unfolding digits
@@ -8,6 +8,9 @@ returns c = record {
   count = refl;
   first = refl;
   second = refl;
+  first_defining = refl;
+  last_of_first_name = refl;
+  first_of_second_name = refl;
   last = refl;
   no_name = refl;
   no_symbol = refl;
