@@ -5,7 +5,7 @@ use Rattle.tptp_tree.specs.Formula.{implies, implied, equivalent, different, nor
 use Rattle.tptp_tree.specs.Entries.{is_conjecture}
 use Rattle.tptp_tree.specs.declared.problem.Annotated.{Annotated}
 use Rattle.signature.specs.Environment.{Environment, free_names, without_names, closed}
-use Rattle.signature.specs.Clausal.{SymbolNumbers, Made, Worked, Scope, Literals, Work, all_pairs, is_large, named, product, joined, constant, with_variables, with_skolem_terms, skolem_arguments, scope_of, makes_variables, clauses_of, listed_clauses, product_clauses, begun, annotated_clauses, formed}
+use Rattle.signature.specs.Clausal.{SymbolNumbers, Made, Worked, Scope, Literals, Work, all_pairs, is_large, named, product, joined, truth_value, with_variables, with_skolem_terms, skolem_arguments, scope_of, makes_variables, clauses_of, listed_clauses, product_clauses, begun, annotated_clauses, formed}
 use Rattle.signature.specs.Form.{skolem_count, all_skolem_count, problem_skolem_count, symbol_numbers, problem_form, nothing_made}
 use Rattle.signature.specs.FormLaws.{SkolemSymbolsAreCounted, SkolemSymbolsOfProblemAreCounted}
 
@@ -72,14 +72,14 @@ scope-count :
 scope-count n true xs f env m = omega (arith, variables-count xs env m)
 scope-count n false xs f env m = omega (arith, terms-count n (free_names f) xs env m)
 
-constant-count : (sign : Bool) (m : Made) → made_count (constant sign m).made ≡ made_count m + 0
-constant-count true m = omega arith
-constant-count false m = omega arith
+truth-count : (sign : Bool) (m : Made) → made_count (truth_value sign m).made ≡ made_count m + 0
+truth-count true m = omega arith
+truth-count false m = omega arith
 
 mutual
   clauses-count : (n : SymbolNumbers) (f : FormulaTree) (sign : Bool) (env : Environment) → Adds (clauses_of n f sign env) (skolem_count f sign)
-  clauses-count n truth sign env m = constant-count sign m
-  clauses-count n falsity sign env m = constant-count (not sign) m
+  clauses-count n truth sign env m = truth-count sign m
+  clauses-count n falsity sign env m = truth-count (not sign) m
   clauses-count n (predicate p ts) sign env m = omega arith
   clauses-count n (equation positive s t) sign env m = omega arith
   clauses-count n (negation f) sign env m = clauses-count n f (not sign) env m

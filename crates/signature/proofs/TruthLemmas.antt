@@ -1,5 +1,5 @@
 -- The truth of one literal for all values below a size.
-use Rattle.std.proofs.Common.{ℕ, zero, suc, ◌<◌, ◌≡◌, true, ◌||◌, false, [], ◌∷◌, IsTrue, refl, arith, sym, true≢false}
+use Rattle.std.proofs.Common.{ℕ, zero, suc, ◌<◌, true, ◌||◌, false, [], ◌∷◌, IsTrue, refl, arith, sym, true≢false}
 use Rattle.fol_base.specs.Interpretation.{symbol_value, sides_true}
 use Rattle.signature.specs.Truth.{ClauseTrue}
 use Rattle.signature.specs.Examples.{v, literal, clause, p_of_zero_alone, p_of_both}

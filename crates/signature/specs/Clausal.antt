@@ -138,10 +138,10 @@ joined n listed first second m =
     let v : Worked = second w.made in
     if listed then record { clauses = w.clauses ++ v.clauses; made = v.made } else product n m.variables w.clauses v.clauses v.made
 
--- no clause, or the empty one
-abbrev pub constant : Bool → Work
-constant true m = record { clauses = []; made = m }
-constant false m = record { clauses = [] ∷ []; made = m }
+-- the clauses of a truth value: none, or the empty one
+abbrev pub truth_value : Bool → Work
+truth_value true m = record { clauses = []; made = m }
+truth_value false m = record { clauses = [] ∷ []; made = m }
 
 abbrev pub one_literal : TreeLiteral → Work
 one_literal l m = record { clauses = (l ∷ []) ∷ []; made = m }
@@ -150,8 +150,8 @@ one_literal l m = record { clauses = (l ∷ []) ∷ []; made = m }
 -- stands twice in an equivalence is worked twice.
 abbrev mutual
   pub clauses_of : SymbolNumbers → FormulaTree → Bool → Environment → Work
-  clauses_of n truth sign env m = constant sign m
-  clauses_of n falsity sign env m = constant (not sign) m
+  clauses_of n truth sign env m = truth_value sign m
+  clauses_of n falsity sign env m = truth_value (not sign) m
   clauses_of n (predicate p ts) sign env m =
       one_literal (atom_literal sign (application (number_of n.symbols (predicate_symbol p (terms_count ts))) (terms_under n.symbols env ts))) m
   clauses_of n (equation positive s t) sign env m =
@@ -179,7 +179,7 @@ abbrev mutual
 
   -- the clauses of each formula, one after the other
   pub listed_clauses : SymbolNumbers → FormulaTrees → Bool → Environment → Work
-  listed_clauses n no_formulas sign env m = constant true m
+  listed_clauses n no_formulas sign env m = truth_value true m
   listed_clauses n (formula_then f fs) sign env m = joined n true (clauses_of n f sign env) (listed_clauses n fs sign env) m
 
   -- their product with the clauses that are there, from left to right, two lists at a time

@@ -70,9 +70,9 @@ abbrev mutual
 abbrev pub annotated_true : List Symbol → Interpretation → Annotated → Bool
 annotated_true known i a = formula_true known i (closed a) []
 
--- the conjecture is false, and the other formulas are true; so a problem without conjecture is true
-abbrev pub refutes_problem : Interpretation → List Annotated → Bool
-refutes_problem i fs = list_all (λ (a : Annotated). beq (annotated_true (problem_symbols fs) i a) (not (is_conjecture a.role))) fs
+-- the conjecture is false, and the other formulas are true; so all are where there is no conjecture
+abbrev pub is_model_of_problem : Interpretation → List Annotated → Bool
+is_model_of_problem i fs = list_all (λ (a : Annotated). beq (annotated_true (problem_symbols fs) i a) (not (is_conjecture a.role))) fs
 
 -- each variable has a value below the size
 abbrev pub IsAssignmentOf : Interpretation → Assignment → Type 0

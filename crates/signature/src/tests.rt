@@ -55,6 +55,7 @@ fn symbols_have_numbers(rt: HostRuntime) -> Result<(), Fail> {
     assert!(rt; signature.symbol(2).name.as_slice() == b"a".as_slice());
     assert!(rt; signature.number(&predicate(b"p", 1).copy(alloc)?) == Some(1));
     assert!(rt; signature.find(predicate(b"p", 2)).is_none());
+    assert!(rt; signature.find(predicate(b"$true", 0)).is_none());
     let other = predicate(b"sk0", 0);
     assert!(rt; signature.find(other).is_none());
     assert_eq!(rt; signature.add(other.copy(alloc)?)?, 3);
