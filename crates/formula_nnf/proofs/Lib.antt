@@ -2,3 +2,4 @@ pub mod FormLemmas
 pub mod NameLemmas
 pub mod ClauseLemmas
 pub mod CountLemmas
+pub mod CappedLemmas

@@ -62,3 +62,8 @@ abbrev mutual
   pub product_counts : ClauseCount → FormulaTrees → Bool → ClauseCount
   product_counts a no_formulas sign = a
   product_counts a (formula_then f fs) sign = product_counts (product_count a (clause_counts f sign)) fs sign
+
+-- the counts of formulas one after another, or of their product
+abbrev pub several_counts : Bool → FormulaTrees → Bool → ClauseCount
+several_counts true fs sign = listed_counts fs sign
+several_counts false fs sign = product_counts (plain_count 1) fs sign

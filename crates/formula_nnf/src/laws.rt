@@ -6,13 +6,21 @@ ghost use Rattle.formula_nnf.specs.NormalForm.{normal_form};
 ghost use Rattle.formula_nnf.specs.NormalFormLaws.{NormalFormKeepsClauses};
 ghost use Rattle.formula_nnf.specs.ClauseCountLaws.{ClausesAreCounted};
 ghost use Rattle.formula_nnf.specs.Expanded.{expanded_count};
-ghost use Rattle.formula_nnf.specs.Examples.{p, q, nested};
+ghost use Rattle.formula_nnf.specs.ClauseCount.{clause_counts};
+ghost use Rattle.formula_nnf.specs.Examples.{p, q, nested, pairs};
 
 /// Equivalences are written out: `p <=> q` has four atoms, 18 nested ones fewer than a million, and 19 more.
 pub fn expanded_examples()
     ensures one { expanded_count (connected equivalent p q) ≡ 4 }
     ensures below { expanded_count (nested 18) ≡ 786430 }
     ensures above { expanded_count (nested 19) ≡ 1572862 }
+{}
+
+/// `p <=> q` has two clauses. The disjunction of 13 pairs has two, and 128 that define two names; that of 6 has 64, and no name.
+pub fn clause_count_examples()
+    ensures equivalence { clause_counts (connected equivalent p q) true ≡ record { clauses = 2; defining = 0 } }
+    ensures named { clause_counts (disjunction (pairs 13)) true ≡ record { clauses = 2; defining = 128 } }
+    ensures unnamed { clause_counts (disjunction (pairs 6)) true ≡ record { clauses = 64; defining = 0 } }
 {}
 
 /// The normal form of `p <=> q` is `(~p | q) & (p | ~q)`, and that of its negation `(p | q) & (~p | ~q)`.

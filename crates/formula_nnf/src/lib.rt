@@ -1,12 +1,14 @@
 // The negation normal form of a formula, and how large a formula becomes.
 #![tactic(auto)]
 
+mod clauses;
 mod copy;
 mod count;
 mod form;
 pub mod laws;
 mod normal;
 
+pub use clauses::clause_count;
 pub use count::expanded;
 pub use form::{Nnf, NnfBox, Nnfs};
 pub use normal::nnf;

@@ -16,6 +16,7 @@ fn equivalences_are_written_out(rt: HostRuntime) -> Result<(), Fail> {
     let alloc = rt.alloc();
     let formula = Formula::Iff(atom(alloc, b"p")?, atom(alloc, b"q")?);
     assert_eq!(rt; expanded(&formula), 4);
+    assert_eq!(rt; clause_count(&formula, true), 2);
     let form = nnf(alloc, &formula, true)?;
     assert!(rt; matches!(&form, Nnf::And(parts) if parts.as_slice().len() == 2));
     Ok(())
