@@ -85,7 +85,7 @@ fn terms_that_differ_have_numbers_that_differ(rt: HostRuntime) -> Result<(), Fai
     Ok(())
 }
 
-const TERMS: u64 = 1_000;
+const TERMS: u64 = 10_000;
 
 const ROUNDS: u32 = 10;
 
