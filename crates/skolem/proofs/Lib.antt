@@ -1,0 +1,5 @@
+pub mod ListLemmas
+pub mod NameLemmas
+pub mod ProgressLemmas
+pub mod SymbolLemmas
+pub mod TermLemmas

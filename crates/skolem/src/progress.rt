@@ -1,6 +1,7 @@
 // The work on a form: the variables in force with their terms, and what was made.
 
-ghost use Rattle.std.specs.Prelude.{◌≡◌, ◌+◌, ◌∷◌, [], ◌++◌, IfOk};
+ghost use Rattle.std.specs.Prelude.{◌≡◌, ◌+◌, ◌∷◌, [], ◌++◌, ◌==◌, IfOk};
+ghost use Rattle.std.specs.List.{list_any};
 ghost use Rattle.fol_base.specs.Term.{tree_of};
 ghost use Rattle.signature.specs.Environment.{term_in_force, without_names};
 ghost use Rattle.signature.specs.Clausal.{skolem_arguments, made_in_order};
@@ -118,9 +119,21 @@ fn made_in_order(alloc: Global, variables: u32, occurring: &[u32]) -> Mem<Vec<u3
 {
     let mut found = Vec::new(alloc);
     for variable in 0..variables {
-        if occurring.contains(&variable) {
+        if occurs(variable, occurring) {
             found.push(variable)?;
         }
     }
     Ok(found)
+}
+
+/// Whether a variable is one of those.
+fn occurs(variable: u32, occurring: &[u32]) -> bool
+    ensures { result ≡ list_any (λ w. variable == w) occurring.now }
+{
+    for other in occurring {
+        if variable == *other {
+            return true;
+        }
+    }
+    false
 }

@@ -1,6 +1,6 @@
 // The matrix of a normal form.
 
-ghost use Rattle.std.specs.Prelude.{◌≡◌, ◌+◌, ◌++◌, [], ◌∷◌, map, length, take, IfOk, OnErr};
+ghost use Rattle.std.specs.Prelude.{◌≡◌, ◌+◌, ◌++◌, [], ◌∷◌, map, length, take, true, IfOk, OnErr};
 ghost use Rattle.tptp_tree.specs.Term.{terms_of};
 ghost use Rattle.tptp_tree.specs.Shape.{term_of};
 ghost use Rattle.tptp_tree.specs.Formula.{formulas_of, predicate, equation};

@@ -1,0 +1,67 @@
+-- Lists, as a walk over them works them off.
+use Rattle.std.proofs.Common.{◌≡◌, ℕ, zero, suc, ◌+◌, ◌<◌, ◌≤◌, Bool, true, false, ◌&&◌, ◌||◌, List, [], ◌∷◌, ◌++◌, length, take, drop, get_or, refl, ap, sym, ◌∙◌, arith, append_assoc}
+use Rattle.std.specs.Prelude.{filter, if◌then◌else◌}
+use Rattle.std.specs.List.{list_any, list_all}
+use Rattle.std.proofs.lemmas.Bool.{and_parts, and_from}
+use Rattle.signature.proofs.OccurrenceLemmas.{drop-item, drop-end}
+
+-- the test fails at an item
+pub any-step :
+    {X : Type 0} (p : X → Bool) (xs : List X) (i : ℕ) (x : X)
+    → i < length xs → x ≡ get_or xs i x → p x ≡ false → list_any p (drop (i + 1) xs) ≡ list_any p (drop i xs)
+any-step p xs i x h e f = sym (ap (list_any p) (drop-item xs i x h e) ∙ ap (λ t. t || list_any p (drop (i + 1) xs)) f)
+
+pub any-here :
+    {X : Type 0} (p : X → Bool) (xs : List X) (i : ℕ) (x : X)
+    → i < length xs → x ≡ get_or xs i x → p x ≡ true → list_any p (drop i xs) ≡ true
+any-here p xs i x h e f = ap (list_any p) (drop-item xs i x h e) ∙ ap (λ t. t || list_any p (drop (i + 1) xs)) f
+
+pub any-end : {X : Type 0} (p : X → Bool) (xs : List X) (i : ℕ) → length xs ≤ i → list_any p (drop i xs) ≡ false
+any-end p xs i h = ap (list_any p) (drop-end xs i h)
+
+pub any-last : {X : Type 0} (p : X → Bool) (xs : List X) (x : X) → list_any p xs ≡ false → p x ≡ false → list_any p (xs ++ x ∷ []) ≡ false
+any-last p [] x h f = ap (λ t. t || false) f
+any-last p (y ∷ ys) x h f = by (p y) h (any-last p ys x)
+  where
+    by :
+        (t : Bool) → (t || list_any p ys) ≡ false → (list_any p ys ≡ false → p x ≡ false → list_any p (ys ++ x ∷ []) ≡ false)
+        → (t || list_any p (ys ++ x ∷ [])) ≡ false
+    by true g k = cc
+    by false g k = k g f
+
+pub all-parts : {X : Type 0} (p : X → Bool) (xs ys : List X) → list_all p (xs ++ ys) ≡ true → (list_all p xs ≡ true) × (list_all p ys ≡ true)
+all-parts p [] ys h = (refl, h)
+all-parts p (x ∷ xs) ys h =
+    let parts : (p x ≡ true) × (list_all p (xs ++ ys) ≡ true) = and_parts _ _ h in
+    let rest : (list_all p xs ≡ true) × (list_all p ys ≡ true) = all-parts p xs ys parts.1 in
+    (and_from _ _ parts.0 rest.0, rest.1)
+
+pub filter-last : {X : Type 0} (p : X → Bool) (xs : List X) (x : X) → filter p (xs ++ x ∷ []) ≡ filter p xs ++ (if p x then x ∷ [] else [])
+filter-last p [] x = by (p x)
+  where
+    by : (t : Bool) → (if t then x ∷ [] else []) ≡ [] ++ (if t then x ∷ [] else [])
+    by true = refl
+    by false = refl
+filter-last p (y ∷ ys) x = by (p y) (filter-last p ys x)
+  where
+    by :
+        (t : Bool) → filter p (ys ++ x ∷ []) ≡ filter p ys ++ (if p x then x ∷ [] else [])
+        → (if t then y ∷ filter p (ys ++ x ∷ []) else filter p (ys ++ x ∷ [])) ≡ (if t then y ∷ filter p ys else filter p ys) ++ (if p x then x ∷ [] else [])
+    by true g = ap (λ zs. y ∷ zs) g
+    by false g = g
+
+-- what is found is added
+pub added : {X : Type 0} (made new found rest all : List X) → new ≡ made ++ found → made ++ (found ++ rest) ≡ all → new ++ rest ≡ all
+added made new found rest all h k = ap (λ xs. xs ++ rest) h ∙ append_assoc made found rest ∙ k
+
+pub take-kept : {X : Type 0} (old new : List X) (x : X) (all : List X) → take (length old) new ≡ old → all ≡ new ++ x ∷ [] → length old ≤ length new → take (length old) all ≡ old
+take-kept old new x all h e l = ap (take (length old)) e ∙ before (length old) new l ∙ h
+  where
+    before : {Y : Type 0} (n : ℕ) (ys : List Y) {zs : List Y} → n ≤ length ys → take n (ys ++ zs) ≡ take n ys
+    before zero ys k = refl
+    before (suc n) [] k = absurd (omega (arith, k))
+    before (suc n) (y ∷ ys) k = ap (λ us. y ∷ us) (before n ys (omega (arith, k)))
+
+pub length-last : {X : Type 0} (xs : List X) (x : X) → length (xs ++ x ∷ []) ≡ length xs + 1
+length-last [] x = omega arith
+length-last (y ∷ ys) x = omega (arith, length-last ys x)

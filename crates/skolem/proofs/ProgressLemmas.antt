@@ -1,0 +1,86 @@
+-- The variables in force, and those that occur.
+use Rattle.std.proofs.Common.{◌≡◌, ℕ, zero, suc, ◌+◌, ◌<◌, ◌≤◌, Bool, true, false, not, ◌==◌, List, [], ◌∷◌, ◌++◌, length, take, drop, get_or, refl, ap, sym, ◌∙◌, arith, append_assoc, append-nil}
+use Rattle.std.specs.Prelude.{if◌then◌else◌, bytes_eq, flat_map, filter}
+use Rattle.std.specs.List.{list_any}
+use Rattle.fol_base.specs.Tree.{Tree, tree_variables}
+use Rattle.fol_base.specs.Term.{tree_of}
+use Rattle.fol_base.specs.Canonical.{numbers_from}
+use Rattle.signature.specs.Environment.{Environment, term_in_force, without_names}
+use Rattle.signature.specs.Clausal.{made_in_order}
+use Rattle.signature.proofs.OccurrenceLemmas.{drop-item, drop-end}
+use Rattle.skolem.specs.declared.progress.Binding.{Binding}
+use Rattle.skolem.specs.Progress.{environment_of, occurring_in}
+use Rattle.skolem.proofs.ListLemmas.{added, filter-last}
+
+-- the last binding comes first
+pub environment-last : (bs : List Binding) (b : Binding) → environment_of (bs ++ b ∷ []) ≡ (b.name, tree_of b.term) ∷ environment_of bs
+environment-last [] b = refl
+environment-last (c ∷ bs) b = ap (λ (env : Environment). env ++ (c.name, tree_of c.term) ∷ []) (environment-last bs b)
+
+take-last : {X : Type 0} (xs : List X) (i : ℕ) (x : X) → i < length xs → x ≡ get_or xs i x → take (suc i) xs ≡ take i xs ++ x ∷ []
+take-last [] i x h e = absurd (omega (arith, h))
+take-last (y ∷ ys) zero x h e = ap (λ z. z ∷ []) (sym e)
+take-last (y ∷ ys) (suc i) x h e = ap (λ zs. y ∷ zs) (take-last ys i x (omega (arith, h)) e)
+
+take-one : {X : Type 0} (xs : List X) (i j : ℕ) (x : X) → i ≡ j + 1 → j < length xs → x ≡ get_or xs j x → take i xs ≡ take j xs ++ x ∷ []
+take-one xs i j x g h e = ap (λ k. take k xs) after ∙ take-last xs j x h e
+  where
+    after : i ≡ suc j
+    after = omega (arith, g)
+
+pub innermost :
+    (bs : List Binding) (i j : ℕ) (b : Binding) (name : List ℕ)
+    → i ≡ j + 1 → j < length bs → b ≡ get_or bs j b
+    → term_in_force (environment_of (take i bs)) name ≡ (if bytes_eq b.name name then tree_of b.term else term_in_force (environment_of (take j bs)) name)
+innermost bs i j b name g h e =
+    ap (λ cs. term_in_force (environment_of cs) name) (take-one bs i j b g h e)
+    ∙ ap (λ env. term_in_force env name) (environment-last (take j bs) b)
+
+-- ---- variables that occur
+
+numbers-last : (a n : ℕ) → numbers_from a (n + 1) ≡ numbers_from a n ++ (a + n) ∷ []
+numbers-last a n = ap (numbers_from a) plus ∙ by a n
+  where
+    plus : n + 1 ≡ suc n
+    plus = omega arith
+
+    by : (b k : ℕ) → numbers_from b (suc k) ≡ numbers_from b k ++ (b + k) ∷ []
+    by b zero = ap (λ c. c ∷ []) none
+      where
+        none : b ≡ b + 0
+        none = omega arith
+    by b (suc k) = ap (λ cs. b ∷ cs) (by (b + 1) k ∙ ap (λ c. numbers_from (b + 1) k ++ c ∷ []) same)
+      where
+        same : (b + 1) + k ≡ b + suc k
+        same = omega arith
+
+pub order-last :
+    (n : ℕ) (vs : List ℕ)
+    → made_in_order (n + 1) vs ≡ made_in_order n vs ++ (if list_any (λ w. n == w) vs then n ∷ [] else [])
+order-last n vs =
+    ap (filter (λ v. list_any (λ w. v == w) vs)) (numbers-last 0 n) ∙ filter-last (λ v. list_any (λ w. v == w) vs) (numbers_from 0 n) (0 + n)
+
+pub occurring-added :
+    (made new : List ℕ) (env : Environment) (bound free : List (List ℕ)) (all : List ℕ) (i : ℕ) (x : List ℕ) (t : Tree)
+    → i < length free → x ≡ get_or free i x → list_any (bytes_eq x) bound ≡ false → t ≡ term_in_force env x → new ≡ made ++ tree_variables t
+    → made ++ occurring_in env (without_names bound (drop i free)) ≡ all
+    → new ++ occurring_in env (without_names bound (drop (i + 1) free)) ≡ all
+occurring-added made new env bound free all i x t h e f g n m =
+    added made new (tree_variables (term_in_force env x)) _ all (n ∙ ap (λ u. made ++ tree_variables u) g)
+    (sym (ap (λ t. made ++ occurring_in env (if not t then x ∷ without_names bound (drop (i + 1) free) else without_names bound (drop (i + 1) free))) f)
+    ∙ ap (λ xs. made ++ occurring_in env (without_names bound xs)) (sym (drop-item free i x h e)) ∙ m)
+
+pub occurring-left :
+    (made : List ℕ) (env : Environment) (bound free : List (List ℕ)) (all : List ℕ) (i : ℕ) (x : List ℕ)
+    → i < length free → x ≡ get_or free i x → list_any (bytes_eq x) bound ≡ true
+    → made ++ occurring_in env (without_names bound (drop i free)) ≡ all
+    → made ++ occurring_in env (without_names bound (drop (i + 1) free)) ≡ all
+occurring-left made env bound free all i x h e f m =
+    sym (ap (λ t. made ++ occurring_in env (if not t then x ∷ without_names bound (drop (i + 1) free) else without_names bound (drop (i + 1) free))) f)
+    ∙ ap (λ xs. made ++ occurring_in env (without_names bound xs)) (sym (drop-item free i x h e)) ∙ m
+
+pub occurring-done :
+    (made : List ℕ) (env : Environment) (bound free : List (List ℕ)) (all : List ℕ) (i : ℕ)
+    → length free ≤ i → made ++ occurring_in env (without_names bound (drop i free)) ≡ all → made ≡ all
+occurring-done made env bound free all i h m =
+    sym (append-nil made) ∙ ap (λ xs. made ++ occurring_in env (without_names bound xs)) (sym (drop-end free i h)) ∙ m
