@@ -3,3 +3,4 @@ pub mod NameLemmas
 pub mod ProgressLemmas
 pub mod SymbolLemmas
 pub mod TermLemmas
+pub mod FormLemmas

@@ -1,9 +1,9 @@
 -- The names of free variables, as a walk over a form finds them.
-use Rattle.std.proofs.Common.{◌≡◌, ℕ, ◌+◌, ◌<◌, ◌≤◌, Bool, true, false, not, List, [], ◌∷◌, ◌++◌, length, map, drop, get_or, refl, ap, sym, ◌∙◌, append-nil}
+use Rattle.std.proofs.Common.{◌≡◌, ℕ, zero, suc, ◌+◌, ◌<◌, ◌≤◌, Bool, true, false, not, List, [], ◌∷◌, ◌++◌, length, map, drop, get_or, refl, ap, sym, ◌∙◌, append-nil, arith}
 use Rattle.std.specs.Prelude.{if◌then◌else◌, bytes_eq}
 use Rattle.std.specs.List.{list_any}
 use Rattle.tptp_tree.specs.Term.{terms_of}
-use Rattle.tptp_tree.specs.Formula.{formulas_of}
+use Rattle.tptp_tree.specs.Formula.{formula_size, formulas_size, formulas_of}
 use Rattle.tptp_tree.specs.Shape.{term_of}
 use Rattle.tptp_tree.specs.declared.term.TreeTerm.{TreeTerm}
 use Rattle.signature.specs.Environment.{term_names, terms_names, free_names, all_free_names, without_names}
@@ -67,3 +67,14 @@ pub names-done :
     → length found ≤ i → made ++ without_names bound (drop i found) ≡ all → made ≡ all
 names-done made all bound found i h m =
     sym (append-nil made) ∙ ap (λ xs. made ++ without_names bound xs) (sym (drop-end found i h)) ∙ m
+
+form-item :
+    (fs : List Nnf) (i : ℕ) (d : Nnf) → i < length fs → formula_size (nnf_tree (get_or fs i d)) ≤ formulas_size (formulas_of (map nnf_tree fs))
+form-item [] i d h = absurd (omega arith)
+form-item (f ∷ fs) zero d h = omega arith
+form-item (f ∷ fs) (suc i) d h = omega (arith, form-item fs i d (omega arith))
+
+pub form-item-is :
+    (fs : List Nnf) (i : ℕ) (f : Nnf)
+    → i < length fs → f ≡ get_or fs i f → formula_size (nnf_tree f) ≤ formulas_size (formulas_of (map nnf_tree fs))
+form-item-is fs i f h e = omega (arith, form-item fs i f h, ap (λ g. formula_size (nnf_tree g)) e)

@@ -190,7 +190,8 @@ fn bind_skolem_terms(
 {
     let mut free = Texts::new(alloc);
     push_free_names(alloc, body.get(), &mut free)?;
-    for (place, name) in names.iter().enumerate() {
+    for place in 0..names.len() {
+        let name = &names[place];
         bind_skolem_term(alloc, signature, free.as_slice(), &names[place..], name, progress)?;
     }
     Ok(())
