@@ -3,11 +3,13 @@ use Rattle.std.proofs.Common.{◌≡◌, ℕ, ◌+◌, ◌<◌, ◌≤◌, true,
 use Rattle.std.specs.List.{list_all}
 use Rattle.tptp_tree.specs.Formula.{formulas_of}
 use Rattle.fol_base.specs.Tree.{variable}
+use Rattle.fol_base.specs.Term.{tree_of}
+use Rattle.fol_base.specs.declared.term.Term.{Term}
 use Rattle.signature.specs.declared.symbol.Symbol.{Symbol}
 use Rattle.signature.specs.Symbol.{has_symbol}
 use Rattle.signature.specs.Occurrences.{formula_symbols, formulas_symbols}
-use Rattle.signature.specs.Environment.{Environment}
-use Rattle.signature.specs.Clausal.{SymbolNumbers, Made, Scope, with_variables, with_skolem_terms}
+use Rattle.signature.specs.Environment.{Environment, without_names}
+use Rattle.signature.specs.Clausal.{SymbolNumbers, Made, Scope, with_variables, with_skolem_terms, skolem_arguments, applied}
 use Rattle.signature.proofs.OccurrenceLemmas.{drop-item, drop-end}
 use Rattle.formula_nnf.specs.declared.form.Nnf.{Nnf}
 use Rattle.formula_nnf.specs.Shape.{nnf_tree}
@@ -42,6 +44,31 @@ pub variables-done :
     (names : List (List ℕ)) (i : ℕ) (p : Progress) (all : Scope)
     → length names ≤ i → with_variables (drop i names) (environment_of p.bindings.items) (made_of p) ≡ all → scope_of_progress p ≡ all
 variables-done names i p all h m = ap (λ xs. with_variables xs (environment_of p.bindings.items) (made_of p)) (sym (drop-end names i h)) ∙ m
+
+pub scope-step :
+    (known : List Symbol) (free names : List (List ℕ)) (x : List ℕ) (p q : Progress) (arguments : List ℕ) (t : Term) (symbol arity : ℕ)
+    → arguments ≡ skolem_arguments (without_names names free) (environment_of p.bindings.items) (made_of p)
+    → symbol ≡ length known + length p.arities.items → arity ≡ length arguments → tree_of t ≡ applied symbol arguments
+    → q.bindings.items ≡ p.bindings.items ++ record { name = x; term = t } ∷ []
+    → q.variables ≡ p.variables → q.arities.items ≡ p.arities.items ++ arity ∷ []
+    → scope_of_progress q ≡ skolem_step (numbers_after known) free names x (scope_of_progress p)
+scope-step known free names x p q arguments t symbol arity g s k u b v a =
+    λ j. record {
+      environment = bound j;
+      made = record { variables = v j; skolem_arities = arities j; naming_arities = []; defining = [] };
+    }
+  where
+    right : List ℕ
+    right = skolem_arguments (without_names names free) (environment_of p.bindings.items) (made_of p)
+
+    bound : environment_of q.bindings.items ≡ (x, applied (length known + length p.arities.items) right) ∷ environment_of p.bindings.items
+    bound =
+        ap environment_of b ∙ environment-last p.bindings.items (record { name = x; term = t })
+        ∙ ap (λ w. (x, w) ∷ environment_of p.bindings.items)
+        (u ∙ ap (λ f. applied f arguments) s ∙ ap (applied (length known + length p.arities.items)) g)
+
+    arities : q.arities.items ≡ p.arities.items ++ length right ∷ []
+    arities = a ∙ ap (λ m. p.arities.items ++ m ∷ []) (k ∙ ap length g)
 
 pub terms-then :
     (n : SymbolNumbers) (free names : List (List ℕ)) (i : ℕ) (x : List ℕ) (p q : Progress) (all : Scope)

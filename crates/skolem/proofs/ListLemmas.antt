@@ -54,13 +54,13 @@ filter-last p (y ∷ ys) x = by (p y) (filter-last p ys x)
 pub added : {X : Type 0} (made new found rest all : List X) → new ≡ made ++ found → made ++ (found ++ rest) ≡ all → new ++ rest ≡ all
 added made new found rest all h k = ap (λ xs. xs ++ rest) h ∙ append_assoc made found rest ∙ k
 
+before : {X : Type 0} (n : ℕ) (ys zs : List X) → n ≤ length ys → take n (ys ++ zs) ≡ take n ys
+before zero ys zs k = refl
+before (suc n) [] zs k = absurd (omega (arith, k))
+before (suc n) (y ∷ ys) zs k = ap (λ us. y ∷ us) (before n ys zs (omega (arith, k)))
+
 pub take-kept : {X : Type 0} (old new : List X) (x : X) (all : List X) → take (length old) new ≡ old → all ≡ new ++ x ∷ [] → length old ≤ length new → take (length old) all ≡ old
-take-kept old new x all h e l = ap (take (length old)) e ∙ before (length old) new l ∙ h
-  where
-    before : {Y : Type 0} (n : ℕ) (ys : List Y) {zs : List Y} → n ≤ length ys → take n (ys ++ zs) ≡ take n ys
-    before zero ys k = refl
-    before (suc n) [] k = absurd (omega (arith, k))
-    before (suc n) (y ∷ ys) k = ap (λ us. y ∷ us) (before n ys (omega (arith, k)))
+take-kept old new x all h e l = ap (take (length old)) e ∙ before (length old) new (x ∷ []) l ∙ h
 
 pub length-last : {X : Type 0} (xs : List X) (x : X) → length (xs ++ x ∷ []) ≡ length xs + 1
 length-last [] x = omega arith

@@ -1,5 +1,5 @@
 -- The variables in force, and those that occur.
-use Rattle.std.proofs.Common.{◌≡◌, ℕ, zero, suc, ◌+◌, ◌<◌, ◌≤◌, Bool, true, false, not, ◌==◌, List, [], ◌∷◌, ◌++◌, length, take, drop, get_or, refl, ap, sym, ◌∙◌, arith, append_assoc, append-nil}
+use Rattle.std.proofs.Common.{◌≡◌, ℕ, zero, suc, ◌+◌, ◌-◌, ◌<◌, ◌≤◌, Bool, true, false, not, ◌==◌, List, [], ◌∷◌, ◌++◌, length, take, drop, get_or, refl, ap, sym, ◌∙◌, arith, append_assoc, append-nil}
 use Rattle.std.specs.Prelude.{if◌then◌else◌, bytes_eq, flat_map, filter}
 use Rattle.std.specs.List.{list_any}
 use Rattle.fol_base.specs.Tree.{Tree, tree_variables}
@@ -36,6 +36,25 @@ innermost bs i j b name g h e =
     ap (λ cs. term_in_force (environment_of cs) name) (take-one bs i j b g h e)
     ∙ ap (λ env. term_in_force env name) (environment-last (take j bs) b)
 
+-- the binding before a place has the name, or not
+pub found-here :
+    (bs : List Binding) (i : ℕ) (b : Binding) (name : List ℕ) (u : Tree)
+    → 0 < i → i ≤ length bs → b ≡ get_or bs (i - 1) b → bytes_eq b.name name ≡ true → u ≡ tree_of b.term
+    → term_in_force (environment_of (take i bs)) name ≡ term_in_force (environment_of bs) name
+    → u ≡ term_in_force (environment_of bs) name
+found-here bs i b name u h l e f g m =
+    g ∙ sym (innermost bs i (i - 1) b name (omega (arith, h)) (omega (arith, h, l)) e
+    ∙ ap (λ t. if t then tree_of b.term else term_in_force (environment_of (take (i - 1) bs)) name) f) ∙ m
+
+pub found-before :
+    (bs : List Binding) (i : ℕ) (b : Binding) (name : List ℕ)
+    → 0 < i → i ≤ length bs → b ≡ get_or bs (i - 1) b → bytes_eq b.name name ≡ false
+    → term_in_force (environment_of (take i bs)) name ≡ term_in_force (environment_of bs) name
+    → term_in_force (environment_of (take (i - 1) bs)) name ≡ term_in_force (environment_of bs) name
+found-before bs i b name h l e f m =
+    sym (innermost bs i (i - 1) b name (omega (arith, h)) (omega (arith, h, l)) e
+    ∙ ap (λ t. if t then tree_of b.term else term_in_force (environment_of (take (i - 1) bs)) name) f) ∙ m
+
 -- ---- variables that occur
 
 numbers-last : (a n : ℕ) → numbers_from a (n + 1) ≡ numbers_from a n ++ (a + n) ∷ []
@@ -59,6 +78,18 @@ pub order-last :
     → made_in_order (n + 1) vs ≡ made_in_order n vs ++ (if list_any (λ w. n == w) vs then n ∷ [] else [])
 order-last n vs =
     ap (filter (λ v. list_any (λ w. v == w) vs)) (numbers-last 0 n) ∙ filter-last (λ v. list_any (λ w. v == w) vs) (numbers_from 0 n) (0 + n)
+
+pub order-with :
+    (found new : List ℕ) (n : ℕ) (vs : List ℕ)
+    → found ≡ made_in_order n vs → list_any (λ w. n == w) vs ≡ true → new ≡ found ++ n ∷ [] → new ≡ made_in_order (n + 1) vs
+order-with found new n vs h e m =
+    m ∙ ap (λ xs. xs ++ n ∷ []) h
+    ∙ sym (order-last n vs ∙ ap (λ t. made_in_order n vs ++ (if t then n ∷ [] else [])) e)
+
+pub order-without :
+    (found : List ℕ) (n : ℕ) (vs : List ℕ) → found ≡ made_in_order n vs → list_any (λ w. n == w) vs ≡ false → found ≡ made_in_order (n + 1) vs
+order-without found n vs h e =
+    h ∙ sym (order-last n vs ∙ ap (λ t. made_in_order n vs ++ (if t then n ∷ [] else [])) e ∙ append-nil (made_in_order n vs))
 
 pub occurring-added :
     (made new : List ℕ) (env : Environment) (bound free : List (List ℕ)) (all : List ℕ) (i : ℕ) (x : List ℕ) (t : Tree)

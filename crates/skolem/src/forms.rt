@@ -213,9 +213,17 @@ fn bind_skolem_term(
 {
     let variables = progress.arguments(alloc, free, names)?;
     let symbol = next_symbol(signature, progress.arities.len())?;
-    let arity = u32::try_from(variables.len()).map_err(|_| NoMemory)?;
+    let arity = arity_of(variables.len())?;
     let term = applied(alloc, symbol, variables.as_slice())?;
-    progress.bind_term(alloc, name, term, arity)
+    progress.bind_term(alloc, name, term, arity)?;
+    Ok(())
+}
+
+/// How many arguments there are, as a symbol has it.
+fn arity_of(arguments: usize) -> Mem<u32>
+    ensures { IfOk result (λ arity. arity ≡ arguments) }
+{
+    u32::try_from(arguments).map_err(|_| NoMemory)
 }
 
 /// The number of the next Skolem symbol, after so many.

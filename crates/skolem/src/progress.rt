@@ -51,7 +51,8 @@ impl Progress {
             left -= 1;
             let binding = &bindings[left];
             if binding.name.as_slice() == name.as_slice() {
-                return binding.term.copy(alloc);
+                let term = binding.term.copy(alloc)?;
+                return Ok(term);
             }
         }
         Ok(Term::Var(0))
@@ -119,9 +120,10 @@ fn made_in_order(alloc: Global, variables: u32, occurring: &[u32]) -> Mem<Vec<u3
 {
     let mut found = Vec::new(alloc);
     for variable in 0..variables {
-        if occurs(variable, occurring) {
-            found.push(variable)?;
+        if !occurs(variable, occurring) {
+            continue;
         }
+        found.push(variable)?;
     }
     Ok(found)
 }
