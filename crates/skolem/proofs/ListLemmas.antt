@@ -1,5 +1,5 @@
 -- Lists, as a walk over them works them off.
-use Rattle.std.proofs.Common.{◌≡◌, ℕ, zero, suc, ◌+◌, ◌<◌, ◌≤◌, Bool, true, false, ◌&&◌, ◌||◌, List, [], ◌∷◌, ◌++◌, length, take, drop, get_or, refl, ap, sym, ◌∙◌, arith, append_assoc}
+use Rattle.std.proofs.Common.{◌≡◌, ℕ, zero, suc, ◌+◌, ◌-◌, ◌<◌, ◌≤◌, Bool, true, false, ◌&&◌, ◌||◌, List, [], ◌∷◌, ◌++◌, length, take, drop, get_or, refl, ap, sym, ◌∙◌, arith, append_assoc}
 use Rattle.std.specs.Prelude.{filter, if◌then◌else◌}
 use Rattle.std.specs.List.{list_any, list_all}
 use Rattle.std.proofs.lemmas.Bool.{and_parts, and_from}
@@ -65,3 +65,38 @@ take-kept old new x all h e l = ap (take (length old)) e ∙ before (length old)
 pub length-last : {X : Type 0} (xs : List X) (x : X) → length (xs ++ x ∷ []) ≡ length xs + 1
 length-last [] x = omega arith
 length-last (y ∷ ys) x = omega (arith, length-last ys x)
+
+-- a list that begins with another keeps what that begins with
+take-take : {X : Type 0} (n m : ℕ) (xs : List X) → n ≤ m → take n (take m xs) ≡ take n xs
+take-take zero m xs h = refl
+take-take (suc n) zero xs h = absurd (omega (arith, h))
+take-take (suc n) (suc m) [] h = refl
+take-take (suc n) (suc m) (x ∷ xs) h = ap (λ ys. x ∷ ys) (take-take n m xs (omega (arith, h)))
+
+pub begun-then :
+    {X : Type 0} (old mid new : List X)
+    → take (length old) mid ≡ old → length old ≤ length mid → take (length mid) new ≡ mid → take (length old) new ≡ old
+begun-then old mid new h l e = sym (take-take (length old) (length mid) new l) ∙ ap (take (length old)) e ∙ h
+
+length-take : {X : Type 0} (n : ℕ) (xs : List X) → length (take n xs) ≤ length xs
+length-take zero xs = omega arith
+length-take (suc n) [] = omega arith
+length-take (suc n) (x ∷ xs) = omega (arith, length-take n xs)
+
+pub begun-longer : {X : Type 0} (old mid new : List X) → length old ≤ length mid → take (length mid) new ≡ mid → length old ≤ length new
+begun-longer old mid new l e = omega (arith, l, ap length e, length-take (length mid) new)
+
+-- the items from a place on, all that there are
+take-whole : {X : Type 0} (n : ℕ) (xs : List X) → length xs ≤ n → take n xs ≡ xs
+take-whole zero [] h = refl
+take-whole (suc n) [] h = refl
+take-whole zero (x ∷ xs) h = absurd (omega (arith, h))
+take-whole (suc n) (x ∷ xs) h = ap (λ ys. x ∷ ys) (take-whole n xs (omega (arith, h)))
+
+length-drop : {X : Type 0} (i : ℕ) (xs : List X) → length (drop i xs) ≡ length xs - i
+length-drop zero xs = omega arith
+length-drop (suc i) [] = omega arith
+length-drop (suc i) (x ∷ xs) = omega (arith, length-drop i xs)
+
+pub rest-whole : {X : Type 0} (xs : List X) (i : ℕ) → take (length xs - i) (drop i xs) ≡ drop i xs
+rest-whole xs i = take-whole (length xs - i) (drop i xs) (omega (arith, length-drop i xs))

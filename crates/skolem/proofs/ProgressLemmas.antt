@@ -57,27 +57,30 @@ found-before bs i b name h l e f m =
 
 -- ---- variables that occur
 
-numbers-last : (a n : ℕ) → numbers_from a (n + 1) ≡ numbers_from a n ++ (a + n) ∷ []
-numbers-last a n = ap (numbers_from a) plus ∙ by a n
+numbers-one : (b k : ℕ) → numbers_from b (suc k) ≡ numbers_from b k ++ (b + k) ∷ []
+numbers-one b zero = ap (λ c. c ∷ []) none
+  where
+    none : b ≡ b + 0
+    none = omega arith
+numbers-one b (suc k) = ap (λ cs. b ∷ cs) (numbers-one (suc b) k ∙ ap (λ c. numbers_from (suc b) k ++ c ∷ []) same)
+  where
+    same : suc b + k ≡ b + suc k
+    same = omega arith
+
+numbers-last : (n : ℕ) → numbers_from 0 (n + 1) ≡ numbers_from 0 n ++ n ∷ []
+numbers-last n = ap (numbers_from 0) plus ∙ numbers-one 0 n ∙ ap (λ c. numbers_from 0 n ++ c ∷ []) none
   where
     plus : n + 1 ≡ suc n
     plus = omega arith
 
-    by : (b k : ℕ) → numbers_from b (suc k) ≡ numbers_from b k ++ (b + k) ∷ []
-    by b zero = ap (λ c. c ∷ []) none
-      where
-        none : b ≡ b + 0
-        none = omega arith
-    by b (suc k) = ap (λ cs. b ∷ cs) (by (b + 1) k ∙ ap (λ c. numbers_from (b + 1) k ++ c ∷ []) same)
-      where
-        same : (b + 1) + k ≡ b + suc k
-        same = omega arith
+    none : 0 + n ≡ n
+    none = omega arith
 
 pub order-last :
     (n : ℕ) (vs : List ℕ)
     → made_in_order (n + 1) vs ≡ made_in_order n vs ++ (if list_any (λ w. n == w) vs then n ∷ [] else [])
 order-last n vs =
-    ap (filter (λ v. list_any (λ w. v == w) vs)) (numbers-last 0 n) ∙ filter-last (λ v. list_any (λ w. v == w) vs) (numbers_from 0 n) (0 + n)
+    ap (filter (λ v. list_any (λ w. v == w) vs)) (numbers-last n) ∙ filter-last (λ v. list_any (λ w. v == w) vs) (numbers_from 0 n) n
 
 pub order-with :
     (found new : List ℕ) (n : ℕ) (vs : List ℕ)

@@ -212,9 +212,11 @@ fn bind_skolem_term(
         take (length progress.old.bindings.items) progress.new.bindings.items ≡ progress.old.bindings.items) }
 {
     let variables = progress.arguments(alloc, free, names)?;
-    let symbol = next_symbol(signature, progress.arities.len())?;
-    let arity = arity_of(variables.len())?;
-    let term = applied(alloc, symbol, variables.as_slice())?;
+    let arguments = variables.as_slice();
+    let made = progress.arities.as_slice();
+    let symbol = next_symbol(signature, made.len())?;
+    let arity = arity_of(arguments.len())?;
+    let term = applied(alloc, symbol, arguments)?;
     progress.bind_term(alloc, name, term, arity)?;
     Ok(())
 }
