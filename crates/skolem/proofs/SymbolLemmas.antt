@@ -11,7 +11,7 @@ use Rattle.signature.specs.Symbol.{is_predicate_kind, function_symbol, true_symb
 use Rattle.signature.specs.Form.{numbered_symbols}
 use Rattle.signature.proofs.OccurrenceLemmas.{drop-item, drop-end}
 use Rattle.skolem.specs.Skolemized.{is_named, AreUnused}
-use Rattle.skolem.proofs.ListLemmas.{added, any-last}
+use Rattle.skolem.proofs.ListLemmas.{added, any-last, take-kept, length-last}
 
 and-false : (t : Bool) → (t && false) ≡ false
 and-false true = refl
@@ -69,13 +69,13 @@ pub numbered-then :
     → new ++ numbered_symbols function_symbol prefix (n + 1) (drop (i + 1) arities) ≡ all
 numbered-then known new all prefix n arities i arity h g e m =
     added known new (function_symbol (prefix ++ decimal n) arity ∷ []) _ all e
-    (ap (λ as. known ++ numbered_symbols function_symbol prefix n as) (sym (drop-item arities i arity h g)) ∙ m)
+    (ap (λ left. known ++ numbered_symbols function_symbol prefix n left) (sym (drop-item arities i arity h g)) ∙ m)
 
 pub numbered-done :
     (known all : List Symbol) (prefix : List ℕ) (n : ℕ) (arities : List ℕ) (i : ℕ)
     → length arities ≤ i → known ++ numbered_symbols function_symbol prefix n (drop i arities) ≡ all → known ≡ all
 numbered-done known all prefix n arities i h m =
-    sym (append-nil known) ∙ ap (λ as. known ++ numbered_symbols function_symbol prefix n as) (sym (drop-end arities i h)) ∙ m
+    sym (append-nil known) ∙ ap (λ left. known ++ numbered_symbols function_symbol prefix n left) (sym (drop-end arities i h)) ∙ m
 
 some-item : {X : Type 0} (xs : List X) (x : X) → slice_get xs 0 ≡ Some x → 1 ≤ length xs
 some-item [] x h = cc
@@ -83,3 +83,21 @@ some-item (y ∷ ys) x h = omega arith
 
 pub signature-some : (known : List Symbol) → IsSignature known → 1 ≤ length known
 signature-some known h = some-item known true_symbol h.truth
+
+-- one more symbol is added
+pub symbols-then :
+    (old known new all : List Symbol) (prefix : List ℕ) (next n m : ℕ) (arities : List ℕ) (i arity : ℕ)
+    → i < length arities → arity ≡ get_or arities i arity
+    → new ≡ known ++ function_symbol (prefix ++ decimal n) arity ∷ [] → m ≡ n + 1
+    → (known ++ numbered_symbols function_symbol prefix n (drop i arities) ≡ all)
+    × ((n ≡ next + i) × (AreUnused known prefix n × ((take (length old) known ≡ old) × (length old ≤ length known))))
+    → (new ++ numbered_symbols function_symbol prefix m (drop (i + 1) arities) ≡ all)
+    × ((m ≡ next + (i + 1)) × (AreUnused new prefix m × ((take (length old) new ≡ old) × (length old ≤ length new))))
+symbols-then old known new all prefix next n m arities i arity h g e k inv = (
+  ap (λ j. new ++ numbered_symbols function_symbol prefix j (drop (i + 1) arities)) k
+  ∙ numbered-then known new all prefix n arities i arity h g e inv.0,
+  (omega (arith, k, inv.1.0),
+  (subst (AreUnused new prefix) (sym k) (unused-then known new prefix n arity e inv.1.1.0),
+  (take-kept old known (function_symbol (prefix ++ decimal n) arity) new inv.1.1.1.0 e inv.1.1.1.1,
+  omega (arith, ap length e, length-last known (function_symbol (prefix ++ decimal n) arity), inv.1.1.1.1)))),
+)

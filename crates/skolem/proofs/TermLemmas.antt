@@ -3,14 +3,19 @@ use Rattle.std.proofs.Common.{◌≡◌, ℕ, ◌+◌, ◌<◌, ◌≤◌, true,
 use Rattle.std.specs.List.{list_all}
 use Rattle.tptp_tree.specs.Term.{terms_of}
 use Rattle.tptp_tree.specs.Shape.{term_of}
+use Rattle.tptp_tree.specs.Term.{TermTree}
 use Rattle.tptp_tree.specs.declared.term.TreeTerm.{TreeTerm}
-use Rattle.fol_base.specs.Tree.{Tree, variable, Trees, no_trees, tree_then, trees_of, list_of}
+use Rattle.tptp_tree.specs.declared.term.TreeTerm.TheVariants.{App}
+use Rattle.std.proofs.lemmas.Bool.{and_parts}
+use Rattle.signature.specs.declared.symbol.SymbolKind.{SymbolKind}
+use Rattle.signature.specs.declared.symbol.SymbolKind.TheVariants.{Predicate, Function}
+use Rattle.fol_base.specs.Tree.{Tree, variable, application, Trees, no_trees, tree_then, trees_of, list_of}
 use Rattle.signature.specs.declared.symbol.Symbol.{Symbol}
-use Rattle.signature.specs.Symbol.{has_symbol}
-use Rattle.signature.specs.Occurrences.{term_symbols, terms_symbols}
+use Rattle.signature.specs.Symbol.{has_symbol, number_of}
+use Rattle.signature.specs.Occurrences.{terms_count, term_symbols, terms_symbols}
 use Rattle.signature.specs.Environment.{Environment, term_under, terms_under}
-use Rattle.signature.proofs.OccurrenceLemmas.{drop-item, drop-end}
-use Rattle.skolem.specs.Skolemized.{AreKnown}
+use Rattle.signature.proofs.OccurrenceLemmas.{drop-item, drop-end, count_length}
+use Rattle.skolem.specs.Skolemized.{IsKnown, AreKnown}
 use Rattle.skolem.proofs.ListLemmas.{added, all-parts}
 
 pub listed : (ts : Trees) → trees_of (list_of ts) ≡ ts
@@ -58,3 +63,45 @@ pub variables-done :
     (made : List Tree) (vs : List ℕ) (i : ℕ) (all : List Tree)
     → length vs ≤ i → made ++ map variable (drop i vs) ≡ all → made ≡ all
 variables-done made vs i all h m = sym (append-nil made) ∙ ap (λ ws. made ++ map variable ws) (sym (drop-end vs i h)) ∙ m
+
+-- ---- heads
+
+-- the symbol of a head, its name and its arguments lent
+pub head-same :
+    (kind : SymbolKind) (name lent : List ℕ) (arguments : List TermTree) (items : List TreeTerm)
+    → lent ≡ name → map term_of items ≡ arguments
+    → (let s : Symbol = record { kind = kind; name = lent; arity = length items } in s)
+    ≡ record { kind = kind; name = name; arity = terms_count (terms_of arguments) }
+head-same kind name lent arguments items n a = λ i. record { kind = kind; name = n i; arity = count i }
+  where
+    count : length items ≡ terms_count (terms_of arguments)
+    count = sym (count_length items) ∙ ap (λ us. terms_count (terms_of us)) a
+
+pub head-known :
+    (known : List Symbol) (kind : SymbolKind) (name lent : List ℕ) (arguments : List TermTree) (items : List TreeTerm)
+    → lent ≡ name → map term_of items ≡ arguments
+    → AreKnown known (record { kind = kind; name = name; arity = terms_count (terms_of arguments) } ∷ terms_symbols (terms_of arguments))
+    → IsKnown known (record { kind = kind; name = lent; arity = length items })
+head-known known kind name lent arguments items n a h =
+    ap (λ s. has_symbol s known) (head-same kind name lent arguments items n a) ∙ (and_parts _ _ h).0
+
+pub arguments-known :
+    (known : List Symbol) (s : Symbol) (arguments : List TermTree) (items : List TreeTerm)
+    → map term_of items ≡ arguments
+    → AreKnown known (s ∷ terms_symbols (terms_of arguments))
+    → AreKnown known (terms_symbols (terms_of (map term_of items)))
+arguments-known known s arguments items a h =
+    ap (λ us. list_all (λ s. has_symbol s known) (terms_symbols (terms_of us))) a ∙ (and_parts _ _ h).1
+
+pub head-under :
+    (known : List Symbol) (env : Environment) (kind : SymbolKind) (name lent : List ℕ) (arguments : List TermTree)
+    (items others : List TreeTerm) (number : ℕ) (trees : List Tree)
+    → lent ≡ name → map term_of items ≡ arguments → map term_of others ≡ arguments
+    → number ≡ number_of known (record { kind = kind; name = lent; arity = length items })
+    → trees_of trees ≡ terms_under known env (terms_of (map term_of others))
+    → application number (trees_of trees)
+    ≡ application (number_of known (record { kind = kind; name = name; arity = terms_count (terms_of arguments) })) (terms_under known env (terms_of arguments))
+head-under known env kind name lent arguments items others number trees n a b k t =
+    ap (λ f. application f (trees_of trees)) (k ∙ ap (number_of known) (head-same kind name lent arguments items n a))
+    ∙ ap (application (number_of known (record { kind = kind; name = name; arity = terms_count (terms_of arguments) })))
+    (t ∙ ap (λ us. terms_under known env (terms_of us)) b)

@@ -50,7 +50,7 @@ fn push_symbols(
     let mut number = next;
     for arity in arities {
         push_symbol(alloc, signature, prefix, number, *arity)?;
-        number = number.checked_add(1).ok_or(NoMemory)?;
+        number = number_after(number)?;
     }
     Ok(number)
 }
@@ -83,4 +83,11 @@ fn numbered_name(alloc: Global, prefix: &Text, number: u32) -> Mem<Text>
     name.extend_from_slice(prefix.as_slice())?;
     name.extend_from_slice(digits.as_bytes())?;
     Ok(Text::from_vec(name))
+}
+
+/// The next number, where there is one.
+fn number_after(number: u32) -> Mem<u32>
+    ensures { IfOk result (λ next. next ≡ number + 1) }
+{
+    number.checked_add(1).ok_or(NoMemory)
 }
