@@ -1,21 +1,22 @@
 -- Quantifiers and lists of forms, as a walk over a form works them off.
-use Rattle.std.proofs.Common.{◌≡◌, ℕ, ◌+◌, ◌<◌, ◌≤◌, true, List, [], ◌∷◌, ◌++◌, length, map, drop, get_or, refl, ap, sym, ◌∙◌, append-nil}
+use Rattle.std.proofs.Common.{◌≡◌, ℕ, ◌+◌, ◌<◌, ◌≤◌, Bool, true, false, List, [], ◌∷◌, ◌++◌, length, map, drop, get_or, refl, ap, sym, ◌∙◌, append-nil}
 use Rattle.std.specs.List.{list_all}
-use Rattle.tptp_tree.specs.Formula.{formulas_of}
-use Rattle.fol_base.specs.Tree.{variable}
+use Rattle.tptp_tree.specs.Term.{TermTrees}
+use Rattle.tptp_tree.specs.Formula.{predicate, formulas_of}
+use Rattle.fol_base.specs.Tree.{Tree, variable, application, true_tree}
 use Rattle.fol_base.specs.Term.{tree_of}
 use Rattle.fol_base.specs.declared.term.Term.{Term}
 use Rattle.signature.specs.declared.symbol.Symbol.{Symbol}
-use Rattle.signature.specs.Symbol.{has_symbol}
-use Rattle.signature.specs.Occurrences.{formula_symbols, formulas_symbols}
-use Rattle.signature.specs.Environment.{Environment, without_names}
+use Rattle.signature.specs.Symbol.{predicate_symbol, has_symbol, number_of}
+use Rattle.signature.specs.Occurrences.{terms_count, formula_symbols, formulas_symbols}
+use Rattle.signature.specs.Environment.{Environment, terms_under, without_names}
 use Rattle.signature.specs.Clausal.{SymbolNumbers, Made, Scope, with_variables, with_skolem_terms, skolem_arguments, applied}
 use Rattle.signature.proofs.OccurrenceLemmas.{drop-item, drop-end}
 use Rattle.formula_nnf.specs.declared.form.Nnf.{Nnf}
-use Rattle.formula_nnf.specs.Shape.{nnf_tree}
+use Rattle.formula_nnf.specs.Shape.{nnf_tree, signed}
 use Rattle.skolem.specs.declared.progress.Binding.{Binding}
 use Rattle.skolem.specs.declared.progress.Progress.{Progress}
-use Rattle.skolem.specs.Matrix.{MatrixTree, MatrixTrees, no_matrices, matrix_then, matrices_of, list_of_matrices}
+use Rattle.skolem.specs.Matrix.{MatrixTree, literal, MatrixTrees, no_matrices, matrix_then, matrices_of, list_of_matrices}
 use Rattle.skolem.specs.Skolemized.{Skolemized, SkolemizedList, skolemized, skolemized_list, numbers_after, AreKnown}
 use Rattle.skolem.specs.Progress.{environment_of, variable_term, made_of, scope_of_progress, skolem_step}
 use Rattle.skolem.proofs.ListLemmas.{added, all-parts}
@@ -174,3 +175,12 @@ pub forms-known :
 forms-known known fs i f h e a =
     all-parts (λ s. has_symbol s known) (formula_symbols (nnf_tree f)) _
     (ap (λ gs. list_all (λ s. has_symbol s known) (formulas_symbols (formulas_of (map nnf_tree gs)))) (sym (drop-item fs i f h e)) ∙ a)
+
+-- a predicate's literal
+pub atom-matrix :
+    (known : List Symbol) (positive : Bool) (p : List ℕ) (ts : TermTrees) (env : Environment) (m : Made) (left right : Tree)
+    → left ≡ application (number_of known (predicate_symbol p (terms_count ts))) (terms_under known env ts) → right ≡ true_tree
+    → literal (record { positive = positive; left = left; right = right })
+    ≡ (skolemized (numbers_after known) (signed positive (predicate p ts)) env m).matrix
+atom-matrix known true p ts env m left right h k = λ i. literal (record { positive = true; left = h i; right = k i })
+atom-matrix known false p ts env m left right h k = λ i. literal (record { positive = false; left = h i; right = k i })

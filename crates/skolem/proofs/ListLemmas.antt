@@ -100,3 +100,6 @@ length-drop (suc i) (x ∷ xs) = omega (arith, length-drop i xs)
 
 pub rest-whole : {X : Type 0} (xs : List X) (i : ℕ) → take (length xs - i) (drop i xs) ≡ drop i xs
 rest-whole xs i = take-whole (length xs - i) (drop i xs) (omega (arith, length-drop i xs))
+
+pub longer-kept : {X : Type 0} (old new : List X) (x : X) (all : List X) → all ≡ new ++ x ∷ [] → length old ≤ length new → length old ≤ length all
+longer-kept old new x all e l = omega (arith, ap length e, length-last new x, l)

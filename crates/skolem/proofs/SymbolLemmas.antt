@@ -1,5 +1,5 @@
 -- Skolem symbols are new.
-use Rattle.std.proofs.Common.{◌≡◌, ℕ, suc, ◌+◌, ◌<◌, ◌≤◌, ◌^◌, Bool, true, false, ◌&&◌, ◌||◌, ◌==◌, List, [], ◌∷◌, ◌++◌, length, take, drop, get_or, subst, refl, ap, sym, ◌∙◌, arith, append-nil}
+use Rattle.std.proofs.Common.{◌≡◌, ℕ, zero, suc, ◌+◌, ◌<◌, ◌≤◌, ◌^◌, Bool, true, false, ◌&&◌, ◌||◌, ◌==◌, List, [], ◌∷◌, ◌++◌, length, take, drop, get_or, subst, refl, ap, sym, ◌∙◌, arith, append-nil}
 use mathlib.Core.Bool.{beq}
 use Rattle.std.specs.Prelude.{bytes_eq, slice_get, Some}
 use Rattle.std.specs.List.{list_any}
@@ -25,11 +25,13 @@ other-name s t h =
 -- a symbol whose name no other has
 pub new-symbol : (known : List Symbol) (s : Symbol) → list_any (is_named s.name) known ≡ false → has_symbol s known ≡ false
 new-symbol [] s h = refl
-new-symbol (k ∷ known) s h = by (bytes_eq s.name k.name) refl h
+new-symbol (k ∷ known) s h = by (bytes_eq s.name k.name) refl h (new-symbol known s)
   where
-    by : (t : Bool) → bytes_eq s.name k.name ≡ t → (t || list_any (is_named s.name) known) ≡ false → has_symbol s (k ∷ known) ≡ false
-    by true e g = cc
-    by false e g = ap (λ u. u || has_symbol s known) (other-name s k e) ∙ new-symbol known s g
+    by :
+        (t : Bool) → bytes_eq s.name k.name ≡ t → (t || list_any (is_named s.name) known) ≡ false
+        → (list_any (is_named s.name) known ≡ false → has_symbol s known ≡ false) → has_symbol s (k ∷ known) ≡ false
+    by true e g f = cc
+    by false e g f = ap (λ u. u || has_symbol s known) (other-name s k e) ∙ f g
 
 prefix-off : (prefix xs ys : List ℕ) → prefix ++ xs ≡ prefix ++ ys → xs ≡ ys
 prefix-off [] xs ys h = h
@@ -101,3 +103,8 @@ symbols-then old known new all prefix next n m arities i arity h g e k inv = (
   (take-kept old known (function_symbol (prefix ++ decimal n) arity) new inv.1.1.1.0 e inv.1.1.1.1,
   omega (arith, ap length e, length-last known (function_symbol (prefix ++ decimal n) arity), inv.1.1.1.1)))),
 )
+
+pub same-item : {X : Type 0} (xs : List X) (i : ℕ) (d e : X) → i < length xs → get_or xs i d ≡ get_or xs i e
+same-item [] i d e h = absurd (omega (arith, h))
+same-item (x ∷ xs) zero d e h = refl
+same-item (x ∷ xs) (suc i) d e h = same-item xs i d e (omega (arith, h))

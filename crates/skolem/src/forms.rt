@@ -1,13 +1,12 @@
 // The matrix of a normal form.
 
-ghost use Rattle.std.specs.Prelude.{◌≡◌, ◌+◌, ◌++◌, [], ◌∷◌, map, length, take, true, IfOk, OnErr};
+ghost use Rattle.std.specs.Prelude.{◌≡◌, ◌+◌, ◌++◌, [], ◌∷◌, map, length, take, IfOk, OnErr};
 ghost use Rattle.tptp_tree.specs.Term.{terms_of};
 ghost use Rattle.tptp_tree.specs.Shape.{term_of};
 ghost use Rattle.tptp_tree.specs.Formula.{formulas_of, predicate, equation};
 ghost use Rattle.signature.specs.Occurrences.{formula_symbols, formulas_symbols, term_symbols};
 ghost use Rattle.signature.specs.Environment.{free_names};
 ghost use Rattle.signature.specs.Clausal.{with_variables, with_skolem_terms};
-ghost use Rattle.signature.specs.Form.{skolem_count};
 ghost use Rattle.formula_nnf.specs.Shape.{nnf_tree, signed};
 ghost use Rattle.skolem.specs.Matrix.{matrices_of};
 ghost use Rattle.skolem.specs.Shape.{matrix_tree};
@@ -38,7 +37,7 @@ pub fn skolemize(
     requires known { AreKnown signature.old (formula_symbols (nnf_tree form.now)) }
     requires unused { AreUnused signature.old prefix.now next }
     ensures matrix { IfOk result (λ r. matrix_tree r.0 ≡ (skolemized_form signature.old (nnf_tree form.now)).matrix) }
-    ensures number { IfOk result (λ r. r.1 ≡ next + skolem_count (nnf_tree form.now) true) }
+    ensures number { IfOk result (λ r. r.1 ≡ next + length (skolemized_form signature.old (nnf_tree form.now)).made.skolem_arities) }
     ensures symbols { IfOk result (λ _. signature.new ≡ skolemized_symbols signature.old prefix.now next (nnf_tree form.now)) }
     ensures unchanged { OnErr result (signature.new ≡ signature.old) }
 {

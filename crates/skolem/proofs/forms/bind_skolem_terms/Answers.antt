@@ -9,7 +9,8 @@ use Rattle.skolem.proofs.forms.bind_skolem_terms.Goals as goal
 
 pub loop-place-preserved : goal.loop-place-preserved
 loop-place-preserved c = (
-  terms-then _ _ _ _ c.index-names-place.result _ _ _ c.loop-place-test.true c.index-names-place.is
+  terms-then (numbers_after c.args.signature.now) (free_names c.args.body.now) c.args.names.now c.loop-place.place c.index-names-place.result
+      c.loop-place.progress c.bind_skolem_term.new.progress _ c.loop-place-test.true c.index-names-place.is
       (c.in_ok-bind_skolem_term.ensures.scope
       ∙ ap (λ ys. skolem_step (numbers_after c.args.signature.now) c.as_slice.result.now ys c.index-names-place.result
       (scope_of_progress c.loop-place.progress)) (rest-whole c.args.names.now c.loop-place.place)
