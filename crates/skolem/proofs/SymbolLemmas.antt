@@ -97,11 +97,17 @@ pub symbols-then :
     × ((m ≡ next + (i + 1)) × (AreUnused new prefix m × ((take (length old) new ≡ old) × (length old ≤ length new))))
 symbols-then old known new all prefix next n m arities i arity h g e k inv = (
   ap (λ j. new ++ numbered_symbols function_symbol prefix j (drop (i + 1) arities)) k
-  ∙ numbered-then known new all prefix n arities i arity h g e inv.0,
-  (omega (arith, k, inv.1.0),
-  (subst (AreUnused new prefix) (sym k) (unused-then known new prefix n arity e inv.1.1.0),
-  (take-kept old known (function_symbol (prefix ++ decimal n) arity) new inv.1.1.1.0 e inv.1.1.1.1,
-  omega (arith, ap length e, length-last known (function_symbol (prefix ++ decimal n) arity), inv.1.1.1.1)))),
+      ∙ numbered-then known new all prefix n arities i arity h g e inv.0,
+  (
+    omega (arith, k, inv.1.0),
+    (
+      subst (AreUnused new prefix) (sym k) (unused-then known new prefix n arity e inv.1.1.0),
+      (
+        take-kept old known (function_symbol (prefix ++ decimal n) arity) new inv.1.1.1.0 e inv.1.1.1.1,
+        omega (arith, ap length e, length-last known (function_symbol (prefix ++ decimal n) arity), inv.1.1.1.1),
+      ),
+    ),
+  ),
 )
 
 pub same-item : {X : Type 0} (xs : List X) (i : ℕ) (d e : X) → i < length xs → get_or xs i d ≡ get_or xs i e

@@ -49,7 +49,12 @@ pub fn skolemize(
 
 /// The matrix of a form under the variables in force.
 #[cycle(matrix_of)]
-fn matrix_of(alloc: Global, signature: &Signature, form: &Nnf, progress: &mut Progress) -> Mem<Matrix>
+fn matrix_of(
+    alloc: Global,
+    signature: &Signature,
+    form: &Nnf,
+    progress: &mut Progress,
+) -> Mem<Matrix>
     requires known { AreKnown signature.now (formula_symbols (nnf_tree form.now)) }
     ensures matrix { IfOk result (λ matrix. matrix_tree matrix
         ≡ (skolemized (numbers_after signature.now) (nnf_tree form.now) (environment_of progress.old.bindings.items) (made_of progress.old)).matrix) }
@@ -97,7 +102,12 @@ fn matrix_of(alloc: Global, signature: &Signature, form: &Nnf, progress: &mut Pr
 
 /// The matrices of forms.
 #[cycle(matrix_of)]
-fn matrices_of(alloc: Global, signature: &Signature, forms: &[Nnf], progress: &mut Progress) -> Mem<Matrices>
+fn matrices_of(
+    alloc: Global,
+    signature: &Signature,
+    forms: &[Nnf],
+    progress: &mut Progress,
+) -> Mem<Matrices>
     requires known { AreKnown signature.now (formulas_symbols (formulas_of (map nnf_tree forms.now))) }
     ensures matrices { IfOk result (λ matrices. matrices_of matrices
         ≡ (skolemized_list (numbers_after signature.now) (formulas_of (map nnf_tree forms.now)) (environment_of progress.old.bindings.items) (made_of progress.old)).matrices) }
@@ -191,7 +201,14 @@ fn bind_skolem_terms(
     push_free_names(alloc, body.get(), &mut free)?;
     for place in 0..names.len() {
         let name = &names[place];
-        bind_skolem_term(alloc, signature, free.as_slice(), &names[place..], name, progress)?;
+        bind_skolem_term(
+            alloc,
+            signature,
+            free.as_slice(),
+            &names[place..],
+            name,
+            progress,
+        )?;
     }
     Ok(())
 }

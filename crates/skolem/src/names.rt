@@ -58,7 +58,12 @@ fn push_all_free_names(alloc: Global, forms: &[Nnf], names: &mut Texts) -> Mem<(
 }
 
 /// Adds those names that aren't bound.
-pub(crate) fn push_without(alloc: Global, bound: &[Text], found: &[Text], names: &mut Texts) -> Mem<()>
+pub(crate) fn push_without(
+    alloc: Global,
+    bound: &[Text],
+    found: &[Text],
+    names: &mut Texts,
+) -> Mem<()>
     ensures { IfOk result (λ _. names.new ≡ names.old ++ without_names bound.now found.now) }
 {
     for name in found {

@@ -75,7 +75,13 @@ impl Progress {
     }
 
     /// A new Skolem term stands for the name. Its symbol has that number of arguments.
-    pub(crate) fn bind_term(&mut self, alloc: Global, name: &Text, term: Term, arity: u32) -> Mem<()>
+    pub(crate) fn bind_term(
+        &mut self,
+        alloc: Global,
+        name: &Text,
+        term: Term,
+        arity: u32,
+    ) -> Mem<()>
         ensures bindings { IfOk result (λ _. self.new.bindings.items
             ≡ self.old.bindings.items ++ record { name = name.now; term = term } ∷ []) }
         ensures variables { self.new.variables ≡ self.old.variables }

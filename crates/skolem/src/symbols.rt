@@ -56,7 +56,13 @@ fn push_symbols(
 }
 
 /// Adds one symbol. After want of memory the signature is as before.
-fn push_symbol(alloc: Global, signature: &mut Signature, prefix: &Text, number: u32, arity: u32) -> Mem<()>
+fn push_symbol(
+    alloc: Global,
+    signature: &mut Signature,
+    prefix: &Text,
+    number: u32,
+    arity: u32,
+) -> Mem<()>
     requires unused { AreUnused signature.old prefix.now number }
     ensures added { IfOk result (λ _.
         signature.new ≡ signature.old ++ function_symbol (prefix.now ++ decimal number) arity ∷ []) }

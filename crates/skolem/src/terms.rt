@@ -21,17 +21,29 @@ use std::alloc::Global;
 use tptp_tree::TreeTerm;
 
 /// The number of the symbol of that kind, name and number of arguments.
-pub(crate) fn number_in(signature: &Signature, kind: SymbolKind, name: &[u8], arguments: usize) -> Mem<u32>
+pub(crate) fn number_in(
+    signature: &Signature,
+    kind: SymbolKind,
+    name: &[u8],
+    arguments: usize,
+) -> Mem<u32>
     requires known { IsKnown signature.now (record { kind = kind; name = name.now; arity = arguments }) }
     ensures { IfOk result (λ number. number ≡ number_of signature.now (record { kind = kind; name = name.now; arity = arguments })) }
 {
     let arity = u32::try_from(arguments).map_err(|_| NoMemory)?;
-    signature.find(SymbolRef { kind, name, arity }).ok_or(NoMemory)
+    signature
+        .find(SymbolRef { kind, name, arity })
+        .ok_or(NoMemory)
 }
 
 /// The term by numbers of symbols.
 #[cycle(term_under)]
-pub(crate) fn term_under(alloc: Global, signature: &Signature, progress: &Progress, term: &TreeTerm) -> Mem<Term>
+pub(crate) fn term_under(
+    alloc: Global,
+    signature: &Signature,
+    progress: &Progress,
+    term: &TreeTerm,
+) -> Mem<Term>
     requires known { AreKnown signature.now (term_symbols (term_of term.now)) }
     ensures { IfOk result (λ tree. tree_of tree ≡ term_under signature.now (environment_of progress.now.bindings.items) (term_of term.now)) }
 {
@@ -52,7 +64,12 @@ pub(crate) fn term_under(alloc: Global, signature: &Signature, progress: &Progre
 
 /// Terms by numbers of symbols.
 #[cycle(term_under)]
-pub(crate) fn terms_under(alloc: Global, signature: &Signature, progress: &Progress, terms: &[TreeTerm]) -> Mem<Terms>
+pub(crate) fn terms_under(
+    alloc: Global,
+    signature: &Signature,
+    progress: &Progress,
+    terms: &[TreeTerm],
+) -> Mem<Terms>
     requires known { AreKnown signature.now (terms_symbols (terms_of (map term_of terms.now))) }
     ensures { IfOk result (λ trees.
         trees_of trees ≡ terms_under signature.now (environment_of progress.now.bindings.items) (terms_of (map term_of terms.now))) }

@@ -18,6 +18,8 @@ loop-place-preserved c = (
       (scope_of_progress c.loop-place.progress))
       (c.as_slice.ensures ∙ c.in_ok-push_free_names.ensures ∙ ap (λ fs. fs ++ free_names (nnf_tree c.get.result.now)) c.new-free.ensures ∙ ap free_names c.get.ensures))
       c.loop-place.invariant.0,
-  (begun-then _ _ _ c.loop-place.invariant.1.0 c.loop-place.invariant.1.1 c.in_ok-bind_skolem_term.ensures.bindings,
-  begun-longer _ _ _ c.loop-place.invariant.1.1 c.in_ok-bind_skolem_term.ensures.bindings),
+  (
+    begun-then _ _ _ c.loop-place.invariant.1.0 c.loop-place.invariant.1.1 c.in_ok-bind_skolem_term.ensures.bindings,
+    begun-longer _ _ _ c.loop-place.invariant.1.1 c.in_ok-bind_skolem_term.ensures.bindings,
+  ),
 )

@@ -28,7 +28,7 @@ term_under-returns-in_ok-arguments-in-App t c =
 pub terms_under-loop-term-init : goal.terms_under-loop-term-init
 terms_under-loop-term-init t c = (
   ap (λ us. trees_of (us ++ trees_left c.args.signature.now (environment_of c.args.progress.now.bindings.items) c.args.terms.now 0)) c.new-trees.ensures
-  ∙ listed _,
+      ∙ listed _,
   c.requires.known,
 )
 
