@@ -4,3 +4,4 @@ pub mod ProgressLemmas
 pub mod SymbolLemmas
 pub mod TermLemmas
 pub mod FormLemmas
+pub mod CountLemmas

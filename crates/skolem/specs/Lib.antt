@@ -5,3 +5,4 @@ pub mod Falls
 pub mod Skolemized
 pub mod Progress
 pub mod Examples
+pub mod SkolemizedLaws

@@ -7,6 +7,7 @@ ghost use Rattle.signature.specs.Symbol.{function_symbol};
 ghost use Rattle.signature.specs.Clausal.{atom_literal};
 ghost use Rattle.skolem.specs.Matrix.{literal, conjunction, matrix_then, no_matrices};
 ghost use Rattle.skolem.specs.Skolemized.{skolemized_form, skolemized_symbols};
+ghost use Rattle.skolem.specs.SkolemizedLaws.{SkolemSymbolsOfMatrixAreCounted};
 ghost use Rattle.skolem.specs.Examples.{x, y, z, p_of, r_of, known};
 
 /// The matrix of `! [X] : ? [Y] : r(X,Y)` is `r(X0,sk0(X0))`, and sk0 comes after the symbols that are there.
@@ -26,4 +27,9 @@ pub fn scope_examples()
         (formula_then (quantified for_all (x ∷ []) (p_of x)) no_formulas)))).matrix
         ≡ conjunction (matrix_then (literal (atom_literal true (application 1 (tree_then (variable 0) no_trees))))
         (matrix_then (literal (atom_literal true (application 1 (tree_then (variable 1) no_trees)))) no_matrices)) }
+{}
+
+/// The matrix of a normal form has as many Skolem symbols as are counted.
+pub fn skolem_symbols_of_matrix_are_counted()
+    ensures { SkolemSymbolsOfMatrixAreCounted }
 {}
