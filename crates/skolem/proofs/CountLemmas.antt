@@ -6,7 +6,7 @@ use Rattle.signature.specs.Environment.{Environment, free_names, without_names}
 use Rattle.signature.specs.Clausal.{SymbolNumbers, Made, Scope, with_variables, with_skolem_terms, skolem_arguments, scope_of, makes_variables}
 use Rattle.signature.specs.Form.{skolem_count, all_skolem_count}
 use Rattle.formula_nnf.specs.NormalForm.{constant_form, list_form, pair_form, quantifier_form, normal_form, normal_forms}
-use Rattle.skolem.specs.Skolemized.{Skolemized, SkolemizedList, skolemized, skolemized_list}
+use Rattle.skolem.specs.Skolemized.{skolemized, skolemized_list}
 use Rattle.skolem.specs.SkolemizedLaws.{SkolemSymbolsOfMatrixAreCounted}
 use Rattle.skolem.proofs.ListLemmas.{length-last}
 

@@ -14,7 +14,6 @@ use Rattle.signature.specs.Clausal.{SymbolNumbers, Made, Scope, with_variables, 
 use Rattle.signature.proofs.OccurrenceLemmas.{drop-item, drop-end}
 use Rattle.formula_nnf.specs.declared.form.Nnf.{Nnf}
 use Rattle.formula_nnf.specs.Shape.{nnf_tree, signed}
-use Rattle.skolem.specs.declared.progress.Binding.{Binding}
 use Rattle.skolem.specs.declared.progress.Progress.{Progress}
 use Rattle.skolem.specs.Matrix.{MatrixTree, literal, MatrixTrees, no_matrices, matrix_then, matrices_of, list_of_matrices}
 use Rattle.skolem.specs.Skolemized.{Skolemized, SkolemizedList, skolemized, skolemized_list, numbers_after, AreKnown}

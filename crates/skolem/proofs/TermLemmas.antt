@@ -1,14 +1,12 @@
 -- Lists of terms, as a walk over them works them off.
-use Rattle.std.proofs.Common.{◌≡◌, ℕ, ◌+◌, ◌<◌, ◌≤◌, true, List, [], ◌∷◌, ◌++◌, length, map, drop, get_or, refl, ap, sym, ◌∙◌, append_assoc, append-nil}
+use Rattle.std.proofs.Common.{◌≡◌, ℕ, ◌+◌, ◌<◌, ◌≤◌, List, [], ◌∷◌, ◌++◌, length, map, drop, get_or, refl, ap, sym, ◌∙◌, append-nil}
 use Rattle.std.specs.List.{list_all}
 use Rattle.tptp_tree.specs.Term.{terms_of}
 use Rattle.tptp_tree.specs.Shape.{term_of}
 use Rattle.tptp_tree.specs.Term.{TermTree}
 use Rattle.tptp_tree.specs.declared.term.TreeTerm.{TreeTerm}
-use Rattle.tptp_tree.specs.declared.term.TreeTerm.TheVariants.{App}
 use Rattle.std.proofs.lemmas.Bool.{and_parts}
 use Rattle.signature.specs.declared.symbol.SymbolKind.{SymbolKind}
-use Rattle.signature.specs.declared.symbol.SymbolKind.TheVariants.{Predicate, Function}
 use Rattle.fol_base.specs.Tree.{Tree, variable, application, Trees, no_trees, tree_then, trees_of, list_of}
 use Rattle.signature.specs.declared.symbol.Symbol.{Symbol}
 use Rattle.signature.specs.Symbol.{has_symbol, number_of}

@@ -1,5 +1,5 @@
 -- Formulas without quantifiers, over literals of clauses.
-use Rattle.std.specs.Prelude.{ℕ, ◌+◌, Bool, true, false, not, List, [], ◌∷◌}
+use Rattle.std.specs.Prelude.{ℕ, ◌+◌, not, List, [], ◌∷◌}
 use Rattle.fol_base.specs.Clause.{TreeLiteral}
 
 mutual

@@ -1,10 +1,9 @@
 -- A code for matrices: a tree whose symbols are numbers for the kinds.
-use Rattle.std.specs.Prelude.{◌≡◌, ℕ, zero, suc, Bool, true, false, refl}
+use Rattle.std.specs.Prelude.{◌≡◌, zero, suc, Bool, true, false, refl}
 use Rattle.std.specs.Coded.{Coded, code_by}
 use Rattle.std.proofs.Common.{ap, ap₂}
 use Rattle.fol_base.specs.Tree.{Tree, variable, application, Trees, no_trees, tree_then}
 use Rattle.fol_base.specs.TreeCode.{tree_code}
-use Rattle.fol_base.specs.Clause.{TreeLiteral}
 use Rattle.skolem.specs.Matrix.{MatrixTree, truth, falsity, literal, conjunction, disjunction, MatrixTrees, no_matrices, matrix_then}
 
 abbrev pub encoded_literal : Bool → Trees → Tree

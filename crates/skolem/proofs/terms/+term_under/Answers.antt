@@ -1,4 +1,4 @@
-use Rattle.std.proofs.Common.{◌≡◌, ◌++◌, arith, ap, sym, subst, ◌∙◌}
+use Rattle.std.proofs.Common.{◌++◌, arith, ap, sym, subst, ◌∙◌}
 use Rattle.tptp_tree.specs.Shape.{term_of}
 use Rattle.tptp_tree.proofs.SizeLemmas.{term-item-is}
 use Rattle.fol_base.specs.Tree.{trees_of}

@@ -1,7 +1,7 @@
 use Rattle.std.proofs.Common.{◌≡◌, ◌++◌, ◌+◌, ◌*◌, map, drop}
 use Rattle.tptp_tree.specs.Term.{term_size, terms_size, terms_of}
 use Rattle.tptp_tree.specs.Shape.{term_of}
-use Rattle.fol_base.specs.Tree.{trees_of, list_of}
+use Rattle.fol_base.specs.Tree.{trees_of}
 use Rattle.signature.specs.Occurrences.{terms_symbols}
 use Rattle.signature.specs.Environment.{terms_under}
 use Rattle.skolem.specs.Skolemized.{AreKnown}
