@@ -1,5 +1,5 @@
 -- That the symbols of a problem are those of a signature, and stay so.
-use Rattle.std.proofs.Common.{◌≡◌, ℕ, suc, ◌+◌, ◌<◌, ◌≤◌, ◌^◌, Bool, true, false, not, ◌||◌, List, [], ◌∷◌, ◌++◌, length, drop, cond, subst, refl, ap, sym, ◌∙◌, arith}
+use Rattle.std.proofs.Common.{◌≡◌, ℕ, zero, suc, ◌+◌, ◌<◌, ◌≤◌, ◌^◌, Bool, true, false, not, ◌||◌, List, [], ◌∷◌, ◌++◌, length, take, drop, cond, subst, refl, ap, sym, ◌∙◌, arith}
 use Rattle.std.specs.Prelude.{fold, flat_map, slice_get, Some, IsFalse, if◌then◌else◌}
 use Rattle.std.specs.List.{list_any, position_or_len}
 use Rattle.std.proofs.lemmas.Bool.{and_parts, and_from}
@@ -166,3 +166,45 @@ pub number-new :
     → value ≡ known → place ≡ position_or_len (same_symbol s) known → IsFalse (has_symbol s value) → place ≡ length value
 number-new value known s place e p f =
     p ∙ absent-place (same_symbol s) known (ap (has_symbol s) (sym e) ∙ f) ∙ ap length (sym e)
+
+-- ---- fewer symbols
+
+has-fewer : (s : Symbol) (known : List Symbol) (n : ℕ) → has_symbol s known ≡ false → has_symbol s (take n known) ≡ false
+has-fewer s known zero h = refl
+has-fewer s [] (suc n) h = refl
+has-fewer s (k ∷ known) (suc n) h = by (same_symbol s k) h (has-fewer s known n)
+  where
+    by :
+        (b : Bool) → (b || has_symbol s known) ≡ false → (has_symbol s known ≡ false → has_symbol s (take n known) ≡ false)
+        → (b || has_symbol s (take n known)) ≡ false
+    by true g f = cc
+    by false g f = f g
+
+different-fewer : (known : List Symbol) (n : ℕ) → are_different known ≡ true → are_different (take n known) ≡ true
+different-fewer known zero h = refl
+different-fewer [] (suc n) h = refl
+different-fewer (k ∷ known) (suc n) h =
+    let parts : (not (has_symbol k known) ≡ true) × (are_different known ≡ true) = and_parts _ _ h in
+    and_from _ _ (ap not (has-fewer k known n (turned (has_symbol k known) parts.0))) (different-fewer known n parts.1)
+  where
+    turned : (b : Bool) → not b ≡ true → b ≡ false
+    turned true g = cc
+    turned false g = refl
+
+length-fewer : (known : List Symbol) (n : ℕ) → length (take n known) ≤ length known
+length-fewer known zero = omega arith
+length-fewer [] (suc n) = omega arith
+length-fewer (k ∷ known) (suc n) = omega (arith, length-fewer known n)
+
+truth-fewer : (known : List Symbol) (n : ℕ) → 1 ≤ n → slice_get known 0 ≡ Some true_symbol → slice_get (take n known) 0 ≡ Some true_symbol
+truth-fewer known zero l h = absurd (omega (arith, l))
+truth-fewer [] (suc n) l h = cc
+truth-fewer (k ∷ known) (suc n) l h = h
+
+pub signature-fewer : (known : List Symbol) (n : ℕ) → 1 ≤ n → IsSignature known → IsSignature (take n known)
+signature-fewer known n l h =
+    record {
+      truth = truth-fewer known n l h.truth;
+      different = different-fewer known n h.different;
+      few = omega (arith, length-fewer known n, h.few);
+    }

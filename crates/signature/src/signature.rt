@@ -1,6 +1,6 @@
 // The symbols of a problem by their numbers.
 
-ghost use Rattle.std.specs.Prelude.{◌≡◌, ◌<◌, ◌^◌, ◌++◌, ◌∷◌, [], IfOk, OnErr, Some, is_some, List, length, map, fold, position, slice_get, IsFalse};
+ghost use Rattle.std.specs.Prelude.{◌≡◌, ◌<◌, ◌≤◌, ◌^◌, ◌++◌, ◌∷◌, [], IfOk, OnErr, Some, is_some, List, length, map, fold, position, take, slice_get, IsFalse};
 ghost use Rattle.signature.specs.Symbol.{same_symbol, has_symbol, with_symbol, symbol_of, IsSignature};
 ghost use Rattle.signature.specs.Occurrences.{problem_symbols, HasProblemSize};
 
@@ -92,5 +92,13 @@ impl Signature {
     {
         let (place, _) = self.symbols.insert_full(symbol)?;
         Ok(place as u32)
+    }
+
+    /// Drops the symbols from that number on. `$true` stays.
+    pub fn truncate(&mut self, len: u64)
+        requires { 1 ≤ len }
+        ensures { self.new ≡ take len self.old }
+    {
+        self.symbols.truncate(len as usize);
     }
 }

@@ -1,7 +1,5 @@
-use Rattle.std.proofs.Common.{ap, ◌∙◌, sym, arith}
+use Rattle.std.proofs.Common.{arith}
 use Rattle.tptp_tree.proofs.SizeLemmas.{formula-item-is}
-use Rattle.formula_nnf.specs.ClauseCount.{joined_count}
-use Rattle.formula_nnf.specs.CappedCount.{capped_count}
 use Rattle.formula_nnf.proofs.CappedLemmas.{joined-both, rest-step, stays-capped}
 use Rattle.formula_nnf.proofs.clauses.+counts.Goals as goal
 

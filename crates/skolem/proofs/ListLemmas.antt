@@ -1,0 +1,105 @@
+-- Lists, as a walk over them works them off.
+use Rattle.std.proofs.Common.{◌≡◌, ℕ, zero, suc, ◌+◌, ◌-◌, ◌<◌, ◌≤◌, Bool, true, false, ◌||◌, List, [], ◌∷◌, ◌++◌, length, take, drop, get_or, refl, ap, sym, ◌∙◌, arith, append_assoc}
+use Rattle.std.specs.Prelude.{filter, if◌then◌else◌}
+use Rattle.std.specs.List.{list_any, list_all}
+use Rattle.std.proofs.lemmas.Bool.{and_parts, and_from}
+use Rattle.signature.proofs.OccurrenceLemmas.{drop-item, drop-end}
+
+-- the test fails at an item
+pub any-step :
+    {X : Type 0} (p : X → Bool) (xs : List X) (i : ℕ) (x : X)
+    → i < length xs → x ≡ get_or xs i x → p x ≡ false → list_any p (drop (i + 1) xs) ≡ list_any p (drop i xs)
+any-step p xs i x h e f = sym (ap (list_any p) (drop-item xs i x h e) ∙ ap (λ t. t || list_any p (drop (i + 1) xs)) f)
+
+pub any-here :
+    {X : Type 0} (p : X → Bool) (xs : List X) (i : ℕ) (x : X)
+    → i < length xs → x ≡ get_or xs i x → p x ≡ true → list_any p (drop i xs) ≡ true
+any-here p xs i x h e f = ap (list_any p) (drop-item xs i x h e) ∙ ap (λ t. t || list_any p (drop (i + 1) xs)) f
+
+pub any-end : {X : Type 0} (p : X → Bool) (xs : List X) (i : ℕ) → length xs ≤ i → list_any p (drop i xs) ≡ false
+any-end p xs i h = ap (list_any p) (drop-end xs i h)
+
+pub any-last : {X : Type 0} (p : X → Bool) (xs : List X) (x : X) → list_any p xs ≡ false → p x ≡ false → list_any p (xs ++ x ∷ []) ≡ false
+any-last p [] x h f = ap (λ t. t || false) f
+any-last p (y ∷ ys) x h f = by (p y) h (any-last p ys x)
+  where
+    by :
+        (t : Bool) → (t || list_any p ys) ≡ false → (list_any p ys ≡ false → p x ≡ false → list_any p (ys ++ x ∷ []) ≡ false)
+        → (t || list_any p (ys ++ x ∷ [])) ≡ false
+    by true g k = cc
+    by false g k = k g f
+
+pub all-parts : {X : Type 0} (p : X → Bool) (xs ys : List X) → list_all p (xs ++ ys) ≡ true → (list_all p xs ≡ true) × (list_all p ys ≡ true)
+all-parts p [] ys h = (refl, h)
+all-parts p (x ∷ xs) ys h =
+    let parts : (p x ≡ true) × (list_all p (xs ++ ys) ≡ true) = and_parts _ _ h in
+    let rest : (list_all p xs ≡ true) × (list_all p ys ≡ true) = all-parts p xs ys parts.1 in
+    (and_from _ _ parts.0 rest.0, rest.1)
+
+pub filter-last : {X : Type 0} (p : X → Bool) (xs : List X) (x : X) → filter p (xs ++ x ∷ []) ≡ filter p xs ++ (if p x then x ∷ [] else [])
+filter-last p [] x = by (p x)
+  where
+    by : (t : Bool) → (if t then x ∷ [] else []) ≡ [] ++ (if t then x ∷ [] else [])
+    by true = refl
+    by false = refl
+filter-last p (y ∷ ys) x = by (p y) (filter-last p ys x)
+  where
+    by :
+        (t : Bool) → filter p (ys ++ x ∷ []) ≡ filter p ys ++ (if p x then x ∷ [] else [])
+        → (if t then y ∷ filter p (ys ++ x ∷ []) else filter p (ys ++ x ∷ [])) ≡ (if t then y ∷ filter p ys else filter p ys) ++ (if p x then x ∷ [] else [])
+    by true g = ap (λ zs. y ∷ zs) g
+    by false g = g
+
+-- what is found is added
+pub added : {X : Type 0} (made new found rest all : List X) → new ≡ made ++ found → made ++ (found ++ rest) ≡ all → new ++ rest ≡ all
+added made new found rest all h k = ap (λ xs. xs ++ rest) h ∙ append_assoc made found rest ∙ k
+
+before : {X : Type 0} (n : ℕ) (ys zs : List X) → n ≤ length ys → take n (ys ++ zs) ≡ take n ys
+before zero ys zs k = refl
+before (suc n) [] zs k = absurd (omega (arith, k))
+before (suc n) (y ∷ ys) zs k = ap (λ us. y ∷ us) (before n ys zs (omega (arith, k)))
+
+pub take-kept : {X : Type 0} (old new : List X) (x : X) (all : List X) → take (length old) new ≡ old → all ≡ new ++ x ∷ [] → length old ≤ length new → take (length old) all ≡ old
+take-kept old new x all h e l = ap (take (length old)) e ∙ before (length old) new (x ∷ []) l ∙ h
+
+pub length-last : {X : Type 0} (xs : List X) (x : X) → length (xs ++ x ∷ []) ≡ length xs + 1
+length-last [] x = omega arith
+length-last (y ∷ ys) x = omega (arith, length-last ys x)
+
+-- a list that begins with another keeps what that begins with
+take-take : {X : Type 0} (n m : ℕ) (xs : List X) → n ≤ m → take n (take m xs) ≡ take n xs
+take-take zero m xs h = refl
+take-take (suc n) zero xs h = absurd (omega (arith, h))
+take-take (suc n) (suc m) [] h = refl
+take-take (suc n) (suc m) (x ∷ xs) h = ap (λ ys. x ∷ ys) (take-take n m xs (omega (arith, h)))
+
+pub begun-then :
+    {X : Type 0} (old mid new : List X)
+    → take (length old) mid ≡ old → length old ≤ length mid → take (length mid) new ≡ mid → take (length old) new ≡ old
+begun-then old mid new h l e = sym (take-take (length old) (length mid) new l) ∙ ap (take (length old)) e ∙ h
+
+length-take : {X : Type 0} (n : ℕ) (xs : List X) → length (take n xs) ≤ length xs
+length-take zero xs = omega arith
+length-take (suc n) [] = omega arith
+length-take (suc n) (x ∷ xs) = omega (arith, length-take n xs)
+
+pub begun-longer : {X : Type 0} (old mid new : List X) → length old ≤ length mid → take (length mid) new ≡ mid → length old ≤ length new
+begun-longer old mid new l e = omega (arith, l, ap length e, length-take (length mid) new)
+
+-- the items from a place on, all that there are
+take-whole : {X : Type 0} (n : ℕ) (xs : List X) → length xs ≤ n → take n xs ≡ xs
+take-whole zero [] h = refl
+take-whole (suc n) [] h = refl
+take-whole zero (x ∷ xs) h = absurd (omega (arith, h))
+take-whole (suc n) (x ∷ xs) h = ap (λ ys. x ∷ ys) (take-whole n xs (omega (arith, h)))
+
+length-drop : {X : Type 0} (i : ℕ) (xs : List X) → length (drop i xs) ≡ length xs - i
+length-drop zero xs = omega arith
+length-drop (suc i) [] = omega arith
+length-drop (suc i) (x ∷ xs) = omega (arith, length-drop i xs)
+
+pub rest-whole : {X : Type 0} (xs : List X) (i : ℕ) → take (length xs - i) (drop i xs) ≡ drop i xs
+rest-whole xs i = take-whole (length xs - i) (drop i xs) (omega (arith, length-drop i xs))
+
+pub longer-kept : {X : Type 0} (old new : List X) (x : X) (all : List X) → all ≡ new ++ x ∷ [] → length old ≤ length new → length old ≤ length all
+longer-kept old new x all e l = omega (arith, ap length e, length-last new x, l)

@@ -1,0 +1,17 @@
+use Rattle.std.proofs.Common.{◌++◌, arith, ap, refl, ◌∙◌}
+use Rattle.skolem.specs.Matrix.{matrices_of}
+use Rattle.skolem.proofs.NameLemmas.{form-item-is}
+use Rattle.skolem.proofs.FormLemmas.{listed, matrices_left, forms-known}
+use Rattle.skolem.proofs.forms.+matrix_of.Goals as goal
+
+pub matrices_of-loop-form-init : goal.matrices_of-loop-form-init
+matrices_of-loop-form-init t c = (
+  ap (λ us. matrices_of (us ++ matrices_left c.args.signature.now c.args.forms.now 0 c.args.progress.now)) c.new-matrices.ensures ∙ listed _,
+  (refl, (refl, c.requires.known)),
+)
+
+pub matrices_of-matrix_of-requires : goal.matrices_of-matrix_of-requires
+matrices_of-matrix_of-requires t c = (
+  omega (arith, form-item-is _ _ _ c.loop-form-test.true c.form-item.is, c.decreases),
+  (forms-known c.args.signature.now _ _ c.form-item.result c.loop-form-test.true c.form-item.is c.loop-form.invariant.1.1.1).0,
+)

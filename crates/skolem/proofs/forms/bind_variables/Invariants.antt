@@ -1,0 +1,11 @@
+use Rattle.std.proofs.Common.{◌≡◌, ◌≤◌, length, take, drop}
+use Rattle.signature.specs.Clausal.{with_variables}
+use Rattle.skolem.specs.Progress.{environment_of, made_of}
+use Rattle.skolem.proofs.forms.bind_variables.Given as goal
+
+abbrev pub invariant-loop-name : goal.invariant-loop-name
+invariant-loop-name l =
+    (with_variables (drop l.name-index l.names) (environment_of l.progress.bindings.items) (made_of l.progress)
+    ≡ with_variables l.names (environment_of l.initial.progress.bindings.items) (made_of l.initial.progress))
+    × ((take (length l.initial.progress.bindings.items) l.progress.bindings.items ≡ l.initial.progress.bindings.items)
+    × (length l.initial.progress.bindings.items ≤ length l.progress.bindings.items))

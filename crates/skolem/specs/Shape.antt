@@ -1,0 +1,12 @@
+-- What the program's matrices are, over trees.
+use Rattle.fol_base.specs.Literal.{literal_of}
+use Rattle.skolem.specs.Matrix.{MatrixTree, truth, falsity, literal, conjunction, disjunction, matrices_of}
+use Rattle.skolem.specs.declared.matrix.Matrix.{Matrix}
+use Rattle.skolem.specs.declared.matrix.Matrix.TheVariants.{True, False, Lit, And, Or}
+
+abbrev pub matrix_tree : Matrix → MatrixTree
+matrix_tree True = truth
+matrix_tree False = falsity
+matrix_tree (Lit l) = literal (literal_of l)
+matrix_tree (And ms) = conjunction (matrices_of ms)
+matrix_tree (Or ms) = disjunction (matrices_of ms)

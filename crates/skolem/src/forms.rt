@@ -1,0 +1,254 @@
+// The matrix of a normal form.
+
+ghost use Rattle.std.specs.Prelude.{◌≡◌, ◌+◌, ◌++◌, [], ◌∷◌, map, length, take, IfOk, OnErr};
+ghost use Rattle.tptp_tree.specs.Term.{terms_of};
+ghost use Rattle.tptp_tree.specs.Shape.{term_of};
+ghost use Rattle.tptp_tree.specs.Formula.{formulas_of, predicate, equation};
+ghost use Rattle.signature.specs.Occurrences.{formula_symbols, formulas_symbols, term_symbols};
+ghost use Rattle.signature.specs.Environment.{free_names};
+ghost use Rattle.signature.specs.Clausal.{with_variables, with_skolem_terms};
+ghost use Rattle.formula_nnf.specs.Shape.{nnf_tree, signed};
+ghost use Rattle.skolem.specs.Matrix.{matrices_of};
+ghost use Rattle.skolem.specs.Shape.{matrix_tree};
+ghost use Rattle.skolem.specs.Skolemized.{skolemized, skolemized_list, numbers_after, skolemized_form, skolemized_symbols, AreKnown, AreUnused};
+ghost use Rattle.skolem.specs.Progress.{environment_of, made_of, scope_of_progress, skolem_step};
+
+use crate::matrix::{Matrices, Matrix};
+use crate::names::push_free_names;
+use crate::progress::Progress;
+use crate::symbols::add_symbols;
+use crate::terms::{applied, number_in, term_under, terms_under};
+use fol_base::{Literal, Term};
+use formula_nnf::{Nnf, NnfBox};
+use plain_types::{Mem, NoMemory, Text, Texts};
+use signature::{Signature, SymbolKind};
+use std::alloc::Global;
+use tptp_tree::{TreeTerm, TreeTerms};
+
+/// The matrix of a normal form without free variables, and the number after the last of its Skolem symbols. These come after the symbols
+/// of the signature, each named by the prefix and its number, from `next` on. After want of memory the signature is as before.
+pub fn skolemize(
+    alloc: Global,
+    form: &Nnf,
+    signature: &mut Signature,
+    prefix: &Text,
+    next: u32,
+) -> Mem<(Matrix, u32)>
+    requires known { AreKnown signature.old (formula_symbols (nnf_tree form.now)) }
+    requires unused { AreUnused signature.old prefix.now next }
+    ensures matrix { IfOk result (λ r. matrix_tree r.0 ≡ (skolemized_form signature.old (nnf_tree form.now)).matrix) }
+    ensures number { IfOk result (λ r. r.1 ≡ next + length (skolemized_form signature.old (nnf_tree form.now)).made.skolem_arities) }
+    ensures symbols { IfOk result (λ _. signature.new ≡ skolemized_symbols signature.old prefix.now next (nnf_tree form.now)) }
+    ensures unchanged { OnErr result (signature.new ≡ signature.old) }
+{
+    let mut progress = Progress::new(alloc);
+    let matrix = matrix_of(alloc, signature, form, &mut progress)?;
+    let number = add_symbols(alloc, signature, prefix, next, progress.arities.as_slice())?;
+    Ok((matrix, number))
+}
+
+/// The matrix of a form under the variables in force.
+#[cycle(matrix_of)]
+fn matrix_of(
+    alloc: Global,
+    signature: &Signature,
+    form: &Nnf,
+    progress: &mut Progress,
+) -> Mem<Matrix>
+    requires known { AreKnown signature.now (formula_symbols (nnf_tree form.now)) }
+    ensures matrix { IfOk result (λ matrix. matrix_tree matrix
+        ≡ (skolemized (numbers_after signature.now) (nnf_tree form.now) (environment_of progress.old.bindings.items) (made_of progress.old)).matrix) }
+    ensures made { IfOk result (λ _. made_of progress.new
+        ≡ (skolemized (numbers_after signature.now) (nnf_tree form.now) (environment_of progress.old.bindings.items) (made_of progress.old)).made) }
+    ensures bindings { IfOk result (λ _. progress.new.bindings.items ≡ progress.old.bindings.items) }
+{
+    match form {
+        Nnf::True => Ok(Matrix::True),
+        Nnf::False => Ok(Matrix::False),
+        Nnf::Pred(positive, name, arguments) => {
+            atom(alloc, signature, progress, *positive, name, arguments)
+        }
+        Nnf::Equal(positive, left, right) => {
+            equation(alloc, signature, progress, *positive, left, right)
+        }
+        Nnf::And(forms) => Ok(Matrix::And(matrices_of(
+            alloc,
+            signature,
+            forms.as_slice(),
+            progress,
+        )?)),
+        Nnf::Or(forms) => Ok(Matrix::Or(matrices_of(
+            alloc,
+            signature,
+            forms.as_slice(),
+            progress,
+        )?)),
+        Nnf::All(names, body) => {
+            let before = progress.bindings.len();
+            bind_variables(alloc, names.as_slice(), progress)?;
+            let matrix = matrix_of(alloc, signature, body.get(), progress)?;
+            progress.bindings.truncate(before);
+            Ok(matrix)
+        }
+        Nnf::Ex(names, body) => {
+            let before = progress.bindings.len();
+            bind_skolem_terms(alloc, signature, names.as_slice(), body, progress)?;
+            let matrix = matrix_of(alloc, signature, body.get(), progress)?;
+            progress.bindings.truncate(before);
+            Ok(matrix)
+        }
+    }
+}
+
+/// The matrices of forms.
+#[cycle(matrix_of)]
+fn matrices_of(
+    alloc: Global,
+    signature: &Signature,
+    forms: &[Nnf],
+    progress: &mut Progress,
+) -> Mem<Matrices>
+    requires known { AreKnown signature.now (formulas_symbols (formulas_of (map nnf_tree forms.now))) }
+    ensures matrices { IfOk result (λ matrices. matrices_of matrices
+        ≡ (skolemized_list (numbers_after signature.now) (formulas_of (map nnf_tree forms.now)) (environment_of progress.old.bindings.items) (made_of progress.old)).matrices) }
+    ensures made { IfOk result (λ _. made_of progress.new
+        ≡ (skolemized_list (numbers_after signature.now) (formulas_of (map nnf_tree forms.now)) (environment_of progress.old.bindings.items) (made_of progress.old)).made) }
+    ensures bindings { IfOk result (λ _. progress.new.bindings.items ≡ progress.old.bindings.items) }
+{
+    let mut matrices = Matrices::new(alloc);
+    for form in forms {
+        matrices.push(matrix_of(alloc, signature, form, progress)?)?;
+    }
+    Ok(matrices)
+}
+
+/// A predicate's literal.
+fn atom(
+    alloc: Global,
+    signature: &Signature,
+    progress: &Progress,
+    positive: bool,
+    name: &Text,
+    arguments: &TreeTerms,
+) -> Mem<Matrix>
+    requires known { AreKnown signature.now (formula_symbols (predicate name.now (terms_of arguments.now))) }
+    ensures { IfOk result (λ matrix. matrix_tree matrix
+        ≡ (skolemized (numbers_after signature.now) (signed positive (predicate name.now (terms_of arguments.now)))
+        (environment_of progress.now.bindings.items) (made_of progress.now)).matrix) }
+{
+    let number = number_in(
+        signature,
+        SymbolKind::Predicate,
+        name.as_slice(),
+        arguments.as_slice().len(),
+    )?;
+    let arguments = terms_under(alloc, signature, progress, arguments.as_slice())?;
+    Ok(Matrix::Lit(Literal {
+        positive,
+        left: Term::App(number, arguments),
+        right: Term::truth(alloc),
+    }))
+}
+
+/// An equation's literal.
+fn equation(
+    alloc: Global,
+    signature: &Signature,
+    progress: &Progress,
+    positive: bool,
+    left: &TreeTerm,
+    right: &TreeTerm,
+) -> Mem<Matrix>
+    requires known { AreKnown signature.now (term_symbols (term_of left.now) ++ term_symbols (term_of right.now)) }
+    ensures { IfOk result (λ matrix. matrix_tree matrix
+        ≡ (skolemized (numbers_after signature.now) (equation positive (term_of left.now) (term_of right.now))
+        (environment_of progress.now.bindings.items) (made_of progress.now)).matrix) }
+{
+    Ok(Matrix::Lit(Literal {
+        positive,
+        left: term_under(alloc, signature, progress, left)?,
+        right: term_under(alloc, signature, progress, right)?,
+    }))
+}
+
+/// Each name is bound to a new variable.
+fn bind_variables(alloc: Global, names: &[Text], progress: &mut Progress) -> Mem<()>
+    ensures scope { IfOk result (λ _. scope_of_progress progress.new
+        ≡ with_variables names.now (environment_of progress.old.bindings.items) (made_of progress.old)) }
+    ensures bindings { IfOk result (λ _.
+        take (length progress.old.bindings.items) progress.new.bindings.items ≡ progress.old.bindings.items) }
+{
+    for name in names {
+        progress.bind_variable(alloc, name)?;
+    }
+    Ok(())
+}
+
+/// Each name is bound to a Skolem term, whose arguments are the variables in the terms of the form's other free variables.
+fn bind_skolem_terms(
+    alloc: Global,
+    signature: &Signature,
+    names: &[Text],
+    body: &NnfBox,
+    progress: &mut Progress,
+) -> Mem<()>
+    ensures scope { IfOk result (λ _. scope_of_progress progress.new
+        ≡ with_skolem_terms (numbers_after signature.now) (free_names body.now) names.now (environment_of progress.old.bindings.items) (made_of progress.old)) }
+    ensures bindings { IfOk result (λ _.
+        take (length progress.old.bindings.items) progress.new.bindings.items ≡ progress.old.bindings.items) }
+{
+    let mut free = Texts::new(alloc);
+    push_free_names(alloc, body.get(), &mut free)?;
+    for place in 0..names.len() {
+        let name = &names[place];
+        bind_skolem_term(
+            alloc,
+            signature,
+            free.as_slice(),
+            &names[place..],
+            name,
+            progress,
+        )?;
+    }
+    Ok(())
+}
+
+/// Binds a name, the first of those, to the next Skolem term. None of the names is free in the quantified form.
+fn bind_skolem_term(
+    alloc: Global,
+    signature: &Signature,
+    free: &[Text],
+    names: &[Text],
+    name: &Text,
+    progress: &mut Progress,
+) -> Mem<()>
+    ensures scope { IfOk result (λ _.
+        scope_of_progress progress.new ≡ skolem_step (numbers_after signature.now) free.now names.now name.now (scope_of_progress progress.old)) }
+    ensures bindings { IfOk result (λ _.
+        take (length progress.old.bindings.items) progress.new.bindings.items ≡ progress.old.bindings.items) }
+{
+    let variables = progress.arguments(alloc, free, names)?;
+    let arguments = variables.as_slice();
+    let made = progress.arities.as_slice();
+    let symbol = next_symbol(signature, made.len())?;
+    let arity = arity_of(arguments.len())?;
+    let term = applied(alloc, symbol, arguments)?;
+    progress.bind_term(alloc, name, term, arity)?;
+    Ok(())
+}
+
+/// How many arguments there are, as a symbol has it.
+fn arity_of(arguments: usize) -> Mem<u32>
+    ensures { IfOk result (λ arity. arity ≡ arguments) }
+{
+    u32::try_from(arguments).map_err(|_| NoMemory)
+}
+
+/// The number of the next Skolem symbol, after so many.
+fn next_symbol(signature: &Signature, made: usize) -> Mem<u32>
+    ensures { IfOk result (λ symbol. symbol ≡ length signature.now + made) }
+{
+    let known = u32::try_from(signature.len()).map_err(|_| NoMemory)?;
+    let made = u32::try_from(made).map_err(|_| NoMemory)?;
+    known.checked_add(made).ok_or(NoMemory)
+}

@@ -1,0 +1,35 @@
+// Worked examples of the definitions: each is the contract of a function with an empty body.
+
+ghost use Rattle.std.specs.Prelude.{◌≡◌, [], ◌∷◌, codes, true};
+ghost use Rattle.tptp_tree.specs.Formula.{for_all, exists_some, quantified, conjunction as formula_conjunction, formula_then, no_formulas};
+ghost use Rattle.fol_base.specs.Tree.{variable, application, no_trees, tree_then};
+ghost use Rattle.signature.specs.Symbol.{function_symbol};
+ghost use Rattle.signature.specs.Clausal.{atom_literal};
+ghost use Rattle.skolem.specs.Matrix.{literal, conjunction, matrix_then, no_matrices};
+ghost use Rattle.skolem.specs.Skolemized.{skolemized_form, skolemized_symbols};
+ghost use Rattle.skolem.specs.SkolemizedLaws.{SkolemSymbolsOfMatrixAreCounted};
+ghost use Rattle.skolem.specs.Examples.{x, y, z, p_of, r_of, known};
+
+/// The matrix of `! [X] : ? [Y] : r(X,Y)` is `r(X0,sk0(X0))`, and sk0 comes after the symbols that are there.
+pub fn argument_examples()
+    ensures matrix { (skolemized_form known (quantified for_all (x ∷ []) (quantified exists_some (y ∷ []) (r_of x y)))).matrix
+        ≡ literal (atom_literal true (application 2 (tree_then (variable 0) (tree_then (application 3 (tree_then (variable 0) no_trees)) no_trees)))) }
+    ensures symbols { skolemized_symbols [] (codes "sk") 7 (quantified for_all (x ∷ []) (quantified exists_some (y ∷ []) (r_of x y)))
+        ≡ function_symbol (codes "sk7") 1 ∷ [] }
+{}
+
+/// A variable that doesn't occur is no argument, neither X in `! [X] : ? [Y] : p(Y)` nor the bound one; the variables of two quantifiers
+/// under one conjunction are different.
+pub fn scope_examples()
+    ensures unused { (skolemized_form known (quantified for_all (x ∷ []) (quantified exists_some (y ∷ []) (p_of y)))).matrix
+        ≡ literal (atom_literal true (application 1 (tree_then (application 3 no_trees) no_trees))) }
+    ensures apart { (skolemized_form known (formula_conjunction (formula_then (quantified for_all (x ∷ []) (p_of x))
+        (formula_then (quantified for_all (x ∷ []) (p_of x)) no_formulas)))).matrix
+        ≡ conjunction (matrix_then (literal (atom_literal true (application 1 (tree_then (variable 0) no_trees))))
+        (matrix_then (literal (atom_literal true (application 1 (tree_then (variable 1) no_trees)))) no_matrices)) }
+{}
+
+/// The matrix of a normal form has as many Skolem symbols as are counted.
+pub fn skolem_symbols_of_matrix_are_counted()
+    ensures { SkolemSymbolsOfMatrixAreCounted }
+{}

@@ -1,0 +1,16 @@
+// Formulas without quantifiers: new variables and Skolem terms stand for the variables of a normal form.
+#![tactic(auto)]
+
+mod forms;
+pub mod laws;
+mod matrix;
+mod names;
+mod progress;
+mod symbols;
+mod terms;
+
+pub use forms::skolemize;
+pub use matrix::{Matrices, Matrix};
+
+#[cfg(test)]
+mod tests;

@@ -1,0 +1,76 @@
+// Formulas without quantifiers.
+
+ghost use Rattle.std.specs.Prelude.{◌≡◌, ◌++◌, [], ◌∷◌, map, IfOk, OnErr};
+ghost use Rattle.skolem.specs.Shape.{matrix_tree};
+
+use fol_base::Literal;
+use plain_types::Mem;
+use std::alloc::Global;
+use std::marker::Model;
+
+/// A formula without quantifiers, over literals of clauses.
+#[derive(Drop)]
+#[cycle(matrices)]
+pub enum Matrix {
+    True,
+    False,
+    Lit(Literal),
+    And(Matrices),
+    Or(Matrices),
+}
+
+/// A list of matrices, which contracts see as the list of their trees.
+#[derive(Drop)]
+#[cycle(matrices)]
+pub struct Matrices {
+    items: Vec<Matrix>,
+}
+
+impl Model for Matrices {
+    ghost use Rattle.std.specs.Prelude.{List, map};
+    ghost use Rattle.std.specs.Coded.{coded_list};
+    ghost use Rattle.skolem.specs.Matrix.{MatrixTree, matrices_size, matrices_of};
+    ghost use Rattle.skolem.specs.MatrixCode.{matrix_code};
+
+    ghost Value = { List MatrixTree };
+
+    ghost coded = { coded_list matrix_code };
+
+    ghost use Rattle.skolem.specs.Shape.{matrix_tree};
+
+    ghost view = { λ a. map matrix_tree a.items.items };
+
+    ghost size = { λ ms. matrices_size (matrices_of ms) };
+
+    ghost use Rattle.std.proofs.Common.{arith};
+    ghost use Rattle.skolem.specs.Falls.{most-deep-Matrix-≤};
+
+    ghost size_decreases = { λ a h. Prim.omega (arith, most-deep-Matrix-≤ a.items.items) };
+}
+
+impl Matrices {
+    /// The empty list. It takes no memory.
+    pub fn new(alloc: Global) -> Matrices
+        ensures { result ≡ [] }
+    {
+        Matrices {
+            items: Vec::new(alloc),
+        }
+    }
+
+    /// The matrices, lent.
+    pub fn as_slice(&self) -> &[Matrix]
+        ensures { map matrix_tree result.now ≡ self.now }
+    {
+        self.items.as_slice()
+    }
+
+    /// Adds a matrix at the end. After want of memory the list is as before.
+    pub fn push(&mut self, matrix: Matrix) -> Mem<()>
+        ensures ok { IfOk result (λ _. self.new ≡ self.old ++ matrix_tree matrix ∷ []) }
+        ensures err { OnErr result (self.new ≡ self.old) }
+    {
+        self.items.push(matrix)?;
+        Ok(())
+    }
+}
