@@ -1,0 +1,204 @@
+-- The verdict on a line of a derivation: it is taken, or the first cause for which it is refused.
+use Rattle.std.specs.Prelude.{ℕ, Bool, true, false, not, ◌&&◌, ◌||◌, ◌==◌, nat_lt, List, [], ◌∷◌, map, zip, length, codes, Option, None, Some, option_map, option_and_then, unwrap_or, is_some, slice_get, position, bytes_eq, if◌then◌else◌}
+use Rattle.std.specs.List.{list_any, list_all, position_or_len}
+use Rattle.fol_base.specs.Tree.{Tree}
+use Rattle.fol_base.specs.Clause.{TreeLiteral, TreeClause, clause_eq, names_eq}
+use Rattle.fol_base.specs.Ground.{is_ground_literal}
+use Rattle.tptp_tree.specs.Formula.{FormulaTree, negation}
+use Rattle.tptp_tree.specs.Entries.{AnnotatedTree, is_conjecture}
+use Rattle.tptp_tree.specs.declared.problem.Annotated.{Annotated}
+use Rattle.signature.specs.Symbol.{predicate_symbol, has_symbol}
+use Rattle.kernel_steps.specs.Parents.{Parent}
+use Rattle.kernel_steps.specs.Conclusion.{Verdict, binding_fault, rule_fault, concludes, empty_clause, binds, verdict}
+use Rattle.kernel_steps.specs.Derivation.{negative_of, positive_of, complement, component_clause}
+use Rattle.kernel_steps.specs.Soundness.{binds_each}
+use Rattle.kernel_steps.specs.Symbols.{symbols_pass, clause_symbols_pass}
+use Rattle.kernel_steps.specs.declared.step.Step.{Step}
+use Rattle.kernel_steps.specs.declared.step.Step.TheVariants.{Input, Negate, Clausify, Component, Opposite}
+use Rattle.kernel_steps.specs.declared.step.Line.{Line}
+use Rattle.tptp_source.specs.Source.{SourceTree, file_source, component_source}
+use Rattle.clausal_form.specs.DerivationClause.{is_written_clause, name_number}
+use Rattle.clausal_form.specs.DerivationItems.{only_one, plain_word, row_arguments}
+use Rattle.clausal_form.specs.DerivationSteps.{Kind, input, negate, clausify, component, opposite, no_rule, bindings_count, of_number, rule_step}
+use Rattle.clausal_form.specs.DerivationLine.{LineTree, same_formula, same_entry, entry_of, kernel_line, NamedLine, Taken, kernel_lines}
+use Rattle.clausal_form.specs.DerivationParts.{Setting, entry_at, line_kind, items_of, parent_places, parents_of, parent_lines, only_parent_step, line_names, line_clause, line_bindings}
+
+-- why a line is refused, in the order in which the causes are asked; the last is told behind the last line
+pub data Cause : Type 0 where
+  text : Cause
+  order : Cause
+  unknown_parent : Cause
+  leaf : Cause
+  clausification : Cause
+  binding : Cause
+  rule : Cause
+  conclusion : Cause
+  new_symbol : Cause
+  no_empty_clause : Cause
+
+-- ---- what the source gives: a fault; or a step, and the formula or the clause that the line has to have
+
+pub data Given : Type 0 where
+  fault : Cause → Given
+  gives_formula : Step → FormulaTree → Given
+  gives_clause : Step → TreeClause → Given
+
+-- Input: a formula of the problem with that name and the line's role, kind and formula, the first of them. The name of the file is any
+-- word.
+abbrev pub cited : LineTree → List ℕ → AnnotatedTree
+cited t name = record { name = name; role = (t.entry).role; is_clause = (t.entry).is_clause; formula = (t.entry).formula }
+
+abbrev pub place_of_entry : Setting → AnnotatedTree → Option ℕ
+place_of_entry s a = position (λ b. same_entry a (entry_of b)) s.problem
+
+abbrev pub given_by_file : Setting → LineTree → SourceTree → Given
+given_by_file s t (file_source file name) =
+    unwrap_or
+    (option_map (λ place. gives_formula (Input place) (t.entry).formula)
+    (option_and_then (λ word. place_of_entry s (cited t name)) (plain_word file)))
+    (fault leaf)
+given_by_file s t source = fault leaf
+
+-- Negate: the negation of the conjecture, from its input line.
+abbrev pub negation_from : Setting → Step → Option Given
+negation_from s (Input place) =
+    option_and_then
+    (λ (a : AnnotatedTree). if is_conjecture a.role then Some (gives_formula (Negate place) (negation a.formula)) else None)
+    (entry_at s place)
+negation_from s step = None
+
+abbrev pub given_by_negate : Setting → Taken → LineTree → Given
+given_by_negate s e t =
+    unwrap_or
+    (option_and_then (λ row. option_and_then (negation_from s) (only_parent_step e t)) (row_arguments (codes "cth") [] (items_of t.source)))
+    (fault rule)
+
+-- Clausify: the clause with the number is that of the form, and the parent is the line of the formula that it comes from: an input
+-- line, or for the conjecture a negate line. Formulas that are equal in name, role, kind and formula are one.
+abbrev pub fits : Setting → ℕ → ℕ → Bool
+fits s place other = unwrap_or (option_and_then (λ a. option_map (same_entry a) (entry_at s other)) (entry_at s place)) false
+
+abbrev pub is_conjecture_at : Setting → ℕ → Bool
+is_conjecture_at s place = unwrap_or (option_map (λ (a : AnnotatedTree). is_conjecture a.role) (entry_at s place)) false
+
+abbrev pub is_line_of : Setting → ℕ → Step → Bool
+is_line_of s origin (Input place) = fits s place origin && not (is_conjecture_at s place)
+is_line_of s origin (Negate place) = fits s place origin && is_conjecture_at s place
+is_line_of s origin step = false
+
+abbrev pub is_clausified : Setting → Taken → LineTree → ℕ → Bool
+is_clausified s e t i =
+    unwrap_or (option_and_then (λ origin. option_map (is_line_of s origin) (only_parent_step e t)) (slice_get (s.form).origins i)) false
+    && unwrap_or (option_map (λ c. clause_eq c (line_clause s e t)) (slice_get (s.form).clauses i)) false
+
+abbrev pub index_in : LineTree → Option ℕ
+index_in t =
+    option_and_then of_number (option_and_then only_one (row_arguments (codes "esa") (codes "index" ∷ []) (items_of t.source)))
+
+abbrev pub given_by_clausify : Setting → Taken → LineTree → Given
+given_by_clausify s e t =
+    unwrap_or
+    (option_and_then (λ i. if is_clausified s e t i then Some (gives_clause (Clausify i) (line_clause s e t)) else None) (index_in t))
+    (fault clausification)
+
+-- Component: at least one ordinary literal, or not the name, which has the next number.
+abbrev pub given_by_component : Setting → Taken → LineTree → List ℕ → Given
+given_by_component s e t name =
+    let n : ℕ = position_or_len (bytes_eq name) e.introduced in
+    let c : TreeClause = line_clause s e t in
+    if not (length c.literals == 0) && names_eq c.names (negative_of n ∷ []) then gives_clause (Component n) c else fault rule
+
+-- Opposite: not the literal of a name that was introduced for one ground positive literal, or the name.
+abbrev pub opposite_from : ℕ → TreeLiteral → Option Given
+opposite_from n l =
+    if l.positive && is_ground_literal l
+    then Some (gives_clause (Opposite n) (record { literals = complement l ∷ []; names = positive_of n ∷ [] }))
+    else None
+
+abbrev pub given_by_opposite : Taken → List ℕ → Given
+given_by_opposite e name =
+    unwrap_or
+    (option_and_then
+    (λ n. option_and_then (opposite_from n) (option_and_then (λ (c : TreeClause). only_one c.literals) (component_clause n (kernel_lines e))))
+    (name_number e.introduced name))
+    (fault rule)
+
+-- The rules with parents: first the bindings, as many as the rule has, each of a clause line right; then the rule.
+abbrev pub is_bound : Option (List Tree) → Option Parent → Bool
+is_bound bind None = true
+is_bound None (Some p) = false
+is_bound (Some ts) (Some p) = binds ts p.clause
+
+abbrev pub are_bound : Setting → Taken → LineTree → Bool
+are_bound s e t =
+    (length (line_bindings s e t) == bindings_count (line_kind t))
+    && list_all (λ b. is_bound b.0 (parent_lines e b.1)) (zip (line_bindings s e t) (parents_of e t))
+
+abbrev pub line_step : Setting → Taken → LineTree → Option Step
+line_step s e t =
+    rule_step (line_kind t) e.introduced (items_of t.source) (parents_of e t) (map (λ o. unwrap_or o []) (line_bindings s e t))
+
+abbrev pub concluded : Step → Verdict → Given
+concluded step binding_fault = fault binding
+concluded step rule_fault = fault rule
+concluded step (concludes c) = gives_clause step c
+
+abbrev pub given_by_rule : Setting → Taken → LineTree → Given
+given_by_rule s e t =
+    if are_bound s e t
+    then unwrap_or (option_map (λ step. concluded step (verdict step (parent_lines e))) (line_step s e t)) (fault rule)
+    else fault binding
+
+abbrev pub given_by : Setting → Taken → LineTree → Kind → Given
+given_by s e t input = given_by_file s t t.source
+given_by s e t negate = given_by_negate s e t
+given_by s e t clausify = given_by_clausify s e t
+given_by s e t (component name) = given_by_component s e t name
+given_by s e t (opposite name) = given_by_opposite e name
+given_by s e t kind = given_by_rule s e t
+
+-- ---- the verdict
+
+abbrev pub is_formula_kind : Kind → Bool
+is_formula_kind input = true
+is_formula_kind negate = true
+is_formula_kind kind = false
+
+-- a clause line is written with `cnf`, as a clause is
+abbrev pub is_written : Taken → LineTree → Bool
+is_written e t =
+    is_formula_kind (line_kind t) || ((t.entry).is_clause && is_written_clause (line_names e t) (t.entry).formula)
+
+-- a symbol of the form has a number below all others
+abbrev pub is_known : Setting → ℕ → ℕ → Bool
+is_known s f arity = nat_lt f (length (s.form).symbols)
+
+abbrev pub has_new_symbol : Setting → Step → TreeClause → Bool
+has_new_symbol s step c = not (clause_symbols_pass (is_known s) c && binds_each (symbols_pass (is_known s)) step)
+
+-- the name of a component line is a predicate of the form without arguments, or was introduced before
+abbrev pub is_old_name : Setting → Taken → SourceTree → Bool
+is_old_name s e (component_source name) = has_symbol (predicate_symbol name 0) (s.form).symbols || list_any (bytes_eq name) e.introduced
+is_old_name s e source = false
+
+pub data LineVerdict : Type 0 where
+  refused : Cause → LineVerdict
+  taken : Line → LineVerdict
+
+-- what the line has against what its source gives
+abbrev pub compared : Setting → Taken → LineTree → Given → LineVerdict
+compared s e t (fault cause) = refused cause
+compared s e t (gives_formula step f) =
+    if same_formula f (t.entry).formula then taken (kernel_line step empty_clause) else refused conclusion
+compared s e t (gives_clause step c) =
+    if not (clause_eq c (line_clause s e t)) then refused conclusion
+    else if has_new_symbol s step c || is_old_name s e t.source then refused new_symbol
+    else taken (kernel_line step c)
+
+-- the causes in their order
+abbrev pub line_verdict : Setting → Taken → LineTree → LineVerdict
+line_verdict s e t =
+    if not (is_written e t) then refused text
+    else if list_any (λ (l : NamedLine). bytes_eq (t.entry).name l.name) e.lines then refused order
+    else if not (list_all is_some (parent_places e t)) then refused unknown_parent
+    else compared s e t (given_by s e t (line_kind t))

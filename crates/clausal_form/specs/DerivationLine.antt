@@ -1,0 +1,93 @@
+-- Lines of a derivation: as they are written, and as the kernel has them.
+use mathlib.Core.Bool.{beq}
+use Rattle.std.specs.Prelude.{◌≡◌, ℕ, Bool, true, false, ◌&&◌, List, [], ◌∷◌, ◌++◌, map, Some, None, Option, slice_get, bytes_eq, if◌then◌else◌}
+use Rattle.std.specs.List.{list_any}
+use Rattle.plain_types.specs.declared.sequence.NameLit.{NameLit}
+use Rattle.fol_base.specs.Tree.{Tree, variable, application, list_of}
+use Rattle.fol_base.specs.Clause.{TreeLiteral, TreeClause}
+use Rattle.fol_base.specs.declared.term.Term.{Term}
+use Rattle.fol_base.specs.declared.term.Term.TheVariants.{Var, App}
+use Rattle.fol_base.specs.declared.clause.Literal.{Literal}
+use Rattle.tptp_tree.specs.Term.{TermTree, variable as named_variable, application as named_application, TermTrees, no_terms, term_then}
+use Rattle.tptp_tree.specs.Formula.{FormulaTree}
+use Rattle.tptp_tree.specs.Shape.{formula_of}
+use Rattle.tptp_tree.specs.Codes.{encoded}
+use Rattle.tptp_tree.specs.Entries.{AnnotatedTree, role_word}
+use Rattle.tptp_tree.specs.declared.role.Role.{Role}
+use Rattle.tptp_tree.specs.declared.problem.Annotated.{Annotated}
+use Rattle.kernel_steps.specs.declared.step.Step.{Step}
+use Rattle.kernel_steps.specs.declared.step.Line.{Line}
+use Rattle.tptp_source.specs.Source.{SourceTree, component_source}
+
+-- a line as it is written: an annotated formula with its source
+pub record LineTree : Type 0 where
+  pub entry : AnnotatedTree
+  pub source : SourceTree
+
+-- ---- the same formula
+
+abbrev mutual
+  pub same_term : TermTree → TermTree → Bool
+  same_term (named_variable x) (named_variable y) = bytes_eq x y
+  same_term (named_variable x) (named_application g us) = false
+  same_term (named_application f ts) (named_variable y) = false
+  same_term (named_application f ts) (named_application g us) = bytes_eq f g && same_terms ts us
+
+  pub same_terms : TermTrees → TermTrees → Bool
+  same_terms no_terms no_terms = true
+  same_terms no_terms (term_then u us) = false
+  same_terms (term_then t ts) no_terms = false
+  same_terms (term_then t ts) (term_then u us) = same_term t u && same_terms ts us
+
+-- two formulas are the same where the terms are that encode them
+abbrev pub same_formula : FormulaTree → FormulaTree → Bool
+same_formula f g = same_term (encoded f) (encoded g)
+
+-- the same name, role, kind and formula
+abbrev pub same_entry : AnnotatedTree → AnnotatedTree → Bool
+same_entry a b =
+    bytes_eq a.name b.name
+    && (bytes_eq (role_word a.role) (role_word b.role) && (beq a.is_clause b.is_clause && same_formula a.formula b.formula))
+
+-- a formula of a problem
+abbrev pub entry_of : Annotated → AnnotatedTree
+entry_of a = record { name = a.name; role = a.role; is_clause = a.clause; formula = formula_of a.formula }
+
+-- ---- lines as the kernel has them
+
+abbrev pub kernel_term : Tree → Term
+kernel_term (variable v) = Var v
+kernel_term (application f ts) = App f (list_of ts)
+
+abbrev pub kernel_literal : TreeLiteral → Literal
+kernel_literal l = record { positive = l.positive; left = kernel_term l.left; right = kernel_term l.right }
+
+abbrev pub kernel_line : Step → TreeClause → Line
+kernel_line step c = record { step = step; clause = record { literals = map kernel_literal c.literals; names = c.names } }
+
+pub record NamedLine : Type 0 where
+  pub name : List ℕ
+  pub line : Line
+
+-- Lines that were taken, and the names that they introduced. The number of a name is its place.
+pub record Taken : Type 0 where
+  pub lines : List NamedLine
+  pub introduced : List (List ℕ)
+
+abbrev pub nothing_taken : Taken
+nothing_taken = record { lines = []; introduced = [] }
+
+abbrev pub kernel_lines : Taken → List Line
+kernel_lines e = map (λ (l : NamedLine). l.line) e.lines
+
+-- the introduced names, with that of a component line
+abbrev pub names_with : List (List ℕ) → SourceTree → List (List ℕ)
+names_with names (component_source n) = if list_any (bytes_eq n) names then names else names ++ n ∷ []
+names_with names source = names
+
+-- and a line more
+abbrev pub with_line : Taken → LineTree → Line → Taken
+with_line e t line = record {
+  lines = e.lines ++ record { name = (t.entry).name; line = line } ∷ [];
+  introduced = names_with e.introduced t.source;
+}

@@ -1,0 +1,85 @@
+-- What a line of a derivation is judged by: the problem with its clausal form, the lines before it, and its own parts.
+use Rattle.std.specs.Prelude.{ℕ, Bool, ◌==◌, List, [], map, filter_map, flat_map, Option, None, option_map, option_and_then, unwrap_or, slice_get, position, bytes_eq, if◌then◌else◌}
+use Rattle.fol_base.specs.Tree.{Tree}
+use Rattle.fol_base.specs.Clause.{TreeClause}
+use Rattle.tptp_tree.specs.Term.{TermTree}
+use Rattle.tptp_tree.specs.Entries.{AnnotatedTree}
+use Rattle.tptp_tree.specs.declared.problem.Annotated.{Annotated}
+use Rattle.signature.specs.Form.{ClausalForm, clausal_form}
+use Rattle.kernel_steps.specs.Parents.{Parents}
+use Rattle.kernel_steps.specs.Derivation.{line_parents}
+use Rattle.kernel_steps.specs.declared.step.Step.{Step}
+use Rattle.tptp_source.specs.General.{GeneralTree}
+use Rattle.tptp_source.specs.Source.{SourceTree, inference_source}
+use Rattle.clausal_form.specs.DerivationClause.{ordinary_literals, Numbering, numbering, term_by, clause_by}
+use Rattle.clausal_form.specs.DerivationItems.{only_one, bindings_in}
+use Rattle.clausal_form.specs.DerivationSteps.{Kind, kind_of, bindings_count}
+use Rattle.clausal_form.specs.DerivationLine.{LineTree, entry_of, NamedLine, Taken, kernel_lines, names_with}
+
+-- a problem with its clausal form
+pub record Setting : Type 0 where
+  pub problem : List Annotated
+  pub form : ClausalForm
+
+abbrev pub setting_of : List Annotated → Setting
+setting_of problem = record { problem = problem; form = clausal_form problem }
+
+-- the formula of the problem at a place
+abbrev pub entry_at : Setting → ℕ → Option AnnotatedTree
+entry_at s place = option_map entry_of (slice_get s.problem place)
+
+-- ---- the source
+
+abbrev pub line_kind : LineTree → Kind
+line_kind t = kind_of t.source
+
+abbrev pub parent_names : SourceTree → List (List ℕ)
+parent_names (inference_source rule items parents) = parents
+parent_names source = []
+
+abbrev pub items_of : SourceTree → List GeneralTree
+items_of (inference_source rule items parents) = items
+items_of source = []
+
+-- ---- parents
+
+-- the place of the earlier line with a name
+abbrev pub line_place : Taken → List ℕ → Option ℕ
+line_place e name = position (λ (l : NamedLine). bytes_eq name l.name) e.lines
+
+abbrev pub parent_places : Taken → LineTree → List (Option ℕ)
+parent_places e t = map (line_place e) (parent_names t.source)
+
+-- of those that are there
+abbrev pub parents_of : Taken → LineTree → List ℕ
+parents_of e t = filter_map (λ o. o) (parent_places e t)
+
+-- the clause lines as parents
+abbrev pub parent_lines : Taken → Parents
+parent_lines e = line_parents (kernel_lines e)
+
+-- the step of the only parent
+abbrev pub only_parent_step : Taken → LineTree → Option Step
+only_parent_step e t = option_and_then (λ n. option_map (λ (l : NamedLine). (l.line).step) (slice_get e.lines n)) (only_one (parents_of e t))
+
+-- ---- the clause, and what is bound
+
+-- what the items bind, where the rule binds
+abbrev pub bound_terms : LineTree → List (Option (List TermTree))
+bound_terms t = if bindings_count (line_kind t) == 0 then [] else bindings_in (items_of t.source)
+
+-- the names that are names on this line
+abbrev pub line_names : Taken → LineTree → List (List ℕ)
+line_names e t = names_with e.introduced t.source
+
+abbrev pub line_numbering : Setting → Taken → LineTree → Numbering
+line_numbering s e t =
+    numbering (s.form).symbols (ordinary_literals (line_names e t) (t.entry).formula) (flat_map (λ o. unwrap_or o []) (bound_terms t))
+
+-- the clause that the line is written with
+abbrev pub line_clause : Setting → Taken → LineTree → TreeClause
+line_clause s e t = clause_by (line_numbering s e t) (line_names e t) (t.entry).formula
+
+-- what is bound, over the symbols' numbers
+abbrev pub line_bindings : Setting → Taken → LineTree → List (Option (List Tree))
+line_bindings s e t = map (option_map (map (term_by (line_numbering s e t)))) (bound_terms t)

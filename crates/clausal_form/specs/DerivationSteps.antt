@@ -1,0 +1,124 @@
+-- The step by which a line says that it comes about: the rows of the table of rules with parents.
+use Rattle.std.specs.Prelude.{ℕ, List, [], ◌∷◌, length, codes, Option, None, Some, option_map, option_and_then, if◌then◌else◌}
+use Rattle.plain_types.specs.declared.sequence.NameLit.{NameLit}
+use Rattle.fol_base.specs.Tree.{Tree}
+use Rattle.fol_base.specs.declared.clause.Side.{Side}
+use Rattle.kernel_steps.specs.declared.step.Step.{Step}
+use Rattle.kernel_steps.specs.declared.step.Step.TheVariants.{Para, Refl, Factor, Merge, Split, Chain}
+use Rattle.tptp_source.specs.General.{GeneralTree}
+use Rattle.tptp_source.specs.Source.{SourceTree, file_source, inference_source, component_source, opposite_source}
+use Rattle.clausal_form.specs.DerivationItems.{is_plain, number_in, side_in, list_in, signed_name_in, only_one, row_arguments}
+
+-- the kinds of lines, by their sources
+pub data Kind : Type 0 where
+  input : Kind
+  negate : Kind
+  clausify : Kind
+  para : Kind
+  refl : Kind
+  factor : Kind
+  merge : Kind
+  component : List ℕ → Kind
+  opposite : List ℕ → Kind
+  split : Kind
+  chain : Kind
+  no_rule : Kind
+
+abbrev pub rule_kind : GeneralTree → Kind
+rule_kind rule =
+    if is_plain (codes "negate") rule then negate
+    else if is_plain (codes "clausify") rule then clausify
+    else if is_plain (codes "para") rule then para
+    else if is_plain (codes "refl") rule then refl
+    else if is_plain (codes "factor") rule then factor
+    else if is_plain (codes "merge") rule then merge
+    else if is_plain (codes "split") rule then split
+    else if is_plain (codes "chain") rule then chain
+    else no_rule
+
+abbrev pub kind_of : SourceTree → Kind
+kind_of (file_source file name) = input
+kind_of (inference_source rule items parents) = rule_kind rule
+kind_of (component_source name) = component name
+kind_of (opposite_source name) = opposite name
+
+-- how many parents the rule binds
+abbrev pub bindings_count : Kind → ℕ
+bindings_count para = 2
+bindings_count refl = 1
+bindings_count factor = 1
+bindings_count merge = 1
+bindings_count kind = 0
+
+-- ---- the arguments of items
+
+-- a literal and its side
+pub record OfLiteral : Type 0 where
+  pub literal : ℕ
+  pub side : Side
+
+abbrev pub literal_side : GeneralTree → GeneralTree → Option OfLiteral
+literal_side i s = option_and_then (λ n. option_map (λ z. record { literal = n; side = z }) (side_in s)) (number_in i)
+
+-- `I,S`
+abbrev pub of_literal : List GeneralTree → Option OfLiteral
+of_literal (i ∷ s ∷ []) = literal_side i s
+of_literal ts = None
+
+-- `J,S,[..]`: the literal with its side, and the place
+abbrev pub into_literal : List GeneralTree → Option (OfLiteral × List ℕ)
+into_literal (j ∷ s ∷ place ∷ []) = option_and_then (λ l. option_map (λ p. (l, p)) (list_in number_in place)) (literal_side j s)
+into_literal ts = None
+
+-- `I`
+abbrev pub of_number : List GeneralTree → Option ℕ
+of_number ts = option_and_then number_in (only_one ts)
+
+-- ---- steps, from the arguments of a row's items, the parents' places and what is bound
+
+abbrev pub para_step : List ℕ → List (List Tree) → List (List GeneralTree) → Option Step
+para_step (a ∷ b ∷ []) (a_bind ∷ b_bind ∷ []) (from ∷ into ∷ binds) =
+    option_and_then (λ i. option_map (λ j. Para a b i.literal i.side (j.0).literal (j.0).side j.1 a_bind b_bind) (into_literal into))
+    (of_literal from)
+para_step parents binds row = None
+
+abbrev pub refl_step : List ℕ → List (List Tree) → List (List GeneralTree) → Option Step
+refl_step (a ∷ []) (bind ∷ []) (literal ∷ binds) = option_map (λ i. Refl a i bind) (of_number literal)
+refl_step parents binds row = None
+
+abbrev pub factor_step : List ℕ → List (List Tree) → List (List GeneralTree) → Option Step
+factor_step (a ∷ []) (bind ∷ []) (becomes ∷ other ∷ binds) =
+    option_and_then (λ i. option_map (λ j. Factor a i.literal i.side j.literal j.side bind) (of_literal other)) (of_literal becomes)
+factor_step parents binds row = None
+
+abbrev pub merge_step : List ℕ → List (List Tree) → List (List GeneralTree) → Option Step
+merge_step (a ∷ []) (bind ∷ []) (stays ∷ goes ∷ binds) =
+    option_and_then (λ i. option_map (λ j. Merge a i j bind) (of_number goes)) (of_number stays)
+merge_step parents binds row = None
+
+abbrev pub split_step : List ℕ → List (List GeneralTree) → Option Step
+split_step (a ∷ definitions) (parts ∷ []) =
+    option_map (λ ps. Split a definitions ps) (option_and_then (list_in (list_in number_in)) (only_one parts))
+split_step parents row = None
+
+abbrev pub chain_step : List (List ℕ) → List ℕ → List (List GeneralTree) → Option Step
+chain_step names parents (pivots ∷ []) =
+    option_map (λ ps. Chain parents ps) (option_and_then (list_in (signed_name_in names)) (only_one pivots))
+chain_step names parents row = None
+
+-- Each row: the word of its status, its items, and its step.
+abbrev pub rule_step : Kind → List (List ℕ) → List GeneralTree → List ℕ → List (List Tree) → Option Step
+rule_step para names items parents binds =
+    option_and_then (para_step parents binds)
+    (row_arguments (codes "thm") (codes "from" ∷ codes "into" ∷ codes "bind" ∷ codes "bind" ∷ []) items)
+rule_step refl names items parents binds =
+    option_and_then (refl_step parents binds) (row_arguments (codes "thm") (codes "lit" ∷ codes "bind" ∷ []) items)
+rule_step factor names items parents binds =
+    option_and_then (factor_step parents binds) (row_arguments (codes "thm") (codes "lit" ∷ codes "lit" ∷ codes "bind" ∷ []) items)
+rule_step merge names items parents binds =
+    option_and_then (merge_step parents binds) (row_arguments (codes "thm") (codes "lit" ∷ codes "lit" ∷ codes "bind" ∷ []) items)
+rule_step split names items parents binds =
+    option_and_then (split_step parents) (row_arguments (codes "esa") (codes "parts" ∷ []) items)
+rule_step chain names items parents binds =
+    option_and_then (chain_step names parents) (row_arguments (codes "thm") (codes "pivots" ∷ []) items)
+rule_step kind names items parents binds = None
