@@ -11,17 +11,15 @@ use Rattle.signature.specs.Symbol.{predicate_symbol, has_symbol}
 use Rattle.kernel_steps.specs.Parents.{Parent}
 use Rattle.kernel_steps.specs.Conclusion.{Verdict, binding_fault, rule_fault, concludes, empty_clause, binds, verdict}
 use Rattle.kernel_steps.specs.Derivation.{negative_of, positive_of, complement, component_clause}
-use Rattle.kernel_steps.specs.Soundness.{binds_each}
-use Rattle.kernel_steps.specs.Symbols.{symbols_pass, clause_symbols_pass}
 use Rattle.kernel_steps.specs.declared.step.Step.{Step}
 use Rattle.kernel_steps.specs.declared.step.Step.TheVariants.{Input, Negate, Clausify, Component, Opposite}
 use Rattle.kernel_steps.specs.declared.step.Line.{Line}
-use Rattle.tptp_source.specs.Source.{SourceTree, file_source, component_source}
-use Rattle.clausal_form.specs.DerivationClause.{is_written_clause, name_number}
+use Rattle.tptp_source.specs.Sources.{SourceTree, file_source}
+use Rattle.clausal_form.specs.DerivationClause.{is_written_clause, name_number, symbols_in}
 use Rattle.clausal_form.specs.DerivationItems.{only_one, plain_word, row_arguments}
 use Rattle.clausal_form.specs.DerivationSteps.{Kind, input, negate, clausify, component, opposite, no_rule, bindings_count, of_number, rule_step}
 use Rattle.clausal_form.specs.DerivationLine.{LineTree, same_formula, same_entry, entry_of, kernel_line, NamedLine, Taken, kernel_lines}
-use Rattle.clausal_form.specs.DerivationParts.{Setting, entry_at, line_kind, items_of, parent_places, parents_of, parent_lines, only_parent_step, line_names, line_clause, line_bindings}
+use Rattle.clausal_form.specs.DerivationParts.{Setting, entry_at, line_kind, items_of, parent_places, parents_of, parent_lines, only_parent_step, line_names, line_literals, all_bound, line_clause, line_bindings}
 
 -- why a line is refused, in the order in which the causes are asked; the last is told behind the last line
 pub data Cause : Type 0 where
@@ -169,17 +167,14 @@ abbrev pub is_written : Taken → LineTree → Bool
 is_written e t =
     is_formula_kind (line_kind t) || ((t.entry).is_clause && is_written_clause (line_names e t) (t.entry).formula)
 
--- a symbol of the form has a number below all others
-abbrev pub is_known : Setting → ℕ → ℕ → Bool
-is_known s f arity = nat_lt f (length (s.form).symbols)
-
-abbrev pub has_new_symbol : Setting → Step → TreeClause → Bool
-has_new_symbol s step c = not (clause_symbols_pass (is_known s) c && binds_each (symbols_pass (is_known s)) step)
+-- a symbol of the clause, or of what is bound, isn't one of the form
+abbrev pub has_new_symbol : Setting → Taken → LineTree → Bool
+has_new_symbol s e t = not (list_all (λ x. has_symbol x (s.form).symbols) (symbols_in (line_literals e t) (all_bound t)))
 
 -- the name of a component line is a predicate of the form without arguments, or was introduced before
-abbrev pub is_old_name : Setting → Taken → SourceTree → Bool
-is_old_name s e (component_source name) = has_symbol (predicate_symbol name 0) (s.form).symbols || list_any (bytes_eq name) e.introduced
-is_old_name s e source = false
+abbrev pub is_old_name : Setting → Taken → Kind → Bool
+is_old_name s e (component name) = has_symbol (predicate_symbol name 0) (s.form).symbols || list_any (bytes_eq name) e.introduced
+is_old_name s e kind = false
 
 pub data LineVerdict : Type 0 where
   refused : Cause → LineVerdict
@@ -192,7 +187,7 @@ compared s e t (gives_formula step f) =
     if same_formula f (t.entry).formula then taken (kernel_line step empty_clause) else refused conclusion
 compared s e t (gives_clause step c) =
     if not (clause_eq c (line_clause s e t)) then refused conclusion
-    else if has_new_symbol s step c || is_old_name s e t.source then refused new_symbol
+    else if has_new_symbol s e t || is_old_name s e (line_kind t) then refused new_symbol
     else taken (kernel_line step c)
 
 -- the causes in their order

@@ -83,16 +83,24 @@ abbrev pub numbered_from : ℕ → List (List ℕ) → Environment
 numbered_from n [] = []
 numbered_from n (x ∷ xs) = (x, variable n) ∷ numbered_from (n + 1) xs
 
--- How a line's symbols and variables are numbered. Symbols of the form keep their numbers, new ones come behind them; variables are
--- numbered from 0; both by their first occurrences in the clause, and then in what is bound.
+-- the symbols of literals, and then of what is bound, with repetitions
+abbrev pub symbols_in : List FormulaTree → List TermTree → List Symbol
+symbols_in literals bound = flat_map formula_symbols literals ++ flat_map term_symbols bound
+
+-- and the names of their variables
+abbrev pub variables_in : List FormulaTree → List TermTree → List (List ℕ)
+variables_in literals bound = flat_map free_names literals ++ flat_map term_names bound
+
+-- How a line's symbols and variables are numbered, both by their first occurrences. Symbols of the form keep their numbers, and new ones
+-- come behind them; variables are numbered from 0.
 pub record Numbering : Type 0 where
   pub symbols : List Symbol
   pub variables : Environment
 
 abbrev pub numbering : List Symbol → List FormulaTree → List TermTree → Numbering
 numbering known literals bound = record {
-  symbols = known ++ flat_map formula_symbols literals ++ flat_map term_symbols bound;
-  variables = numbered_from 0 (different_names (flat_map free_names literals ++ flat_map term_names bound));
+  symbols = known ++ symbols_in literals bound;
+  variables = numbered_from 0 (different_names (variables_in literals bound));
 }
 
 abbrev pub term_by : Numbering → TermTree → Tree

@@ -17,7 +17,8 @@ use Rattle.tptp_tree.specs.declared.role.Role.{Role}
 use Rattle.tptp_tree.specs.declared.problem.Annotated.{Annotated}
 use Rattle.kernel_steps.specs.declared.step.Step.{Step}
 use Rattle.kernel_steps.specs.declared.step.Line.{Line}
-use Rattle.tptp_source.specs.Source.{SourceTree, component_source}
+use Rattle.tptp_source.specs.Sources.{SourceTree}
+use Rattle.clausal_form.specs.DerivationSteps.{Kind, component, kind_of}
 
 -- a line as it is written: an annotated formula with its source
 pub record LineTree : Type 0 where
@@ -81,13 +82,13 @@ abbrev pub kernel_lines : Taken → List Line
 kernel_lines e = map (λ (l : NamedLine). l.line) e.lines
 
 -- the introduced names, with that of a component line
-abbrev pub names_with : List (List ℕ) → SourceTree → List (List ℕ)
-names_with names (component_source n) = if list_any (bytes_eq n) names then names else names ++ n ∷ []
-names_with names source = names
+abbrev pub names_with : List (List ℕ) → Kind → List (List ℕ)
+names_with names (component n) = if list_any (bytes_eq n) names then names else names ++ n ∷ []
+names_with names kind = names
 
 -- and a line more
 abbrev pub with_line : Taken → LineTree → Line → Taken
 with_line e t line = record {
   lines = e.lines ++ record { name = (t.entry).name; line = line } ∷ [];
-  introduced = names_with e.introduced t.source;
+  introduced = names_with e.introduced (kind_of t.source);
 }

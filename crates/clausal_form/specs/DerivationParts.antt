@@ -3,6 +3,7 @@ use Rattle.std.specs.Prelude.{ℕ, Bool, ◌==◌, List, [], map, filter_map, fl
 use Rattle.fol_base.specs.Tree.{Tree}
 use Rattle.fol_base.specs.Clause.{TreeClause}
 use Rattle.tptp_tree.specs.Term.{TermTree}
+use Rattle.tptp_tree.specs.Formula.{FormulaTree}
 use Rattle.tptp_tree.specs.Entries.{AnnotatedTree}
 use Rattle.tptp_tree.specs.declared.problem.Annotated.{Annotated}
 use Rattle.signature.specs.Form.{ClausalForm, clausal_form}
@@ -10,7 +11,7 @@ use Rattle.kernel_steps.specs.Parents.{Parents}
 use Rattle.kernel_steps.specs.Derivation.{line_parents}
 use Rattle.kernel_steps.specs.declared.step.Step.{Step}
 use Rattle.tptp_source.specs.General.{GeneralTree}
-use Rattle.tptp_source.specs.Source.{SourceTree, inference_source}
+use Rattle.tptp_source.specs.Sources.{SourceTree, inference_source}
 use Rattle.clausal_form.specs.DerivationClause.{ordinary_literals, Numbering, numbering, term_by, clause_by}
 use Rattle.clausal_form.specs.DerivationItems.{only_one, bindings_in}
 use Rattle.clausal_form.specs.DerivationSteps.{Kind, kind_of, bindings_count}
@@ -70,11 +71,17 @@ bound_terms t = if bindings_count (line_kind t) == 0 then [] else bindings_in (i
 
 -- the names that are names on this line
 abbrev pub line_names : Taken → LineTree → List (List ℕ)
-line_names e t = names_with e.introduced t.source
+line_names e t = names_with e.introduced (line_kind t)
+
+-- its ordinary literals, and all terms that are bound
+abbrev pub line_literals : Taken → LineTree → List FormulaTree
+line_literals e t = ordinary_literals (line_names e t) (t.entry).formula
+
+abbrev pub all_bound : LineTree → List TermTree
+all_bound t = flat_map (λ o. unwrap_or o []) (bound_terms t)
 
 abbrev pub line_numbering : Setting → Taken → LineTree → Numbering
-line_numbering s e t =
-    numbering (s.form).symbols (ordinary_literals (line_names e t) (t.entry).formula) (flat_map (λ o. unwrap_or o []) (bound_terms t))
+line_numbering s e t = numbering (s.form).symbols (line_literals e t) (all_bound t)
 
 -- the clause that the line is written with
 abbrev pub line_clause : Setting → Taken → LineTree → TreeClause

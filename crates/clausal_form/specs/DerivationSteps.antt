@@ -6,7 +6,7 @@ use Rattle.fol_base.specs.declared.clause.Side.{Side}
 use Rattle.kernel_steps.specs.declared.step.Step.{Step}
 use Rattle.kernel_steps.specs.declared.step.Step.TheVariants.{Para, Refl, Factor, Merge, Split, Chain}
 use Rattle.tptp_source.specs.General.{GeneralTree}
-use Rattle.tptp_source.specs.Source.{SourceTree, file_source, inference_source, component_source, opposite_source}
+use Rattle.tptp_source.specs.Sources.{SourceTree, file_source, inference_source, component_source, opposite_source}
 use Rattle.clausal_form.specs.DerivationItems.{is_plain, number_in, side_in, list_in, signed_name_in, only_one, row_arguments}
 
 -- the kinds of lines, by their sources

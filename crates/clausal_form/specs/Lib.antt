@@ -5,3 +5,7 @@ pub mod DerivationLine
 pub mod DerivationParts
 pub mod DerivationCauses
 pub mod DerivationLines
+pub mod DerivationTexts
+pub mod DerivationExamples
+pub mod FormFunctions
+pub mod DerivationLaws

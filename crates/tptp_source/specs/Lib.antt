@@ -1,2 +1,3 @@
 pub mod General
-pub mod Source
+pub mod Spelling
+pub mod Sources
