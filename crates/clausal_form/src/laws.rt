@@ -1,21 +1,7 @@
 // Laws and worked examples of the definitions: each is the contract of a function with an empty body.
 
-ghost use Rattle.std.specs.Prelude.{◌≡◌, []};
-ghost use Rattle.clausal_form.specs.DerivationLines.{verdict_on_lines, accepted, refused_line};
-ghost use Rattle.clausal_form.specs.DerivationCauses.{no_empty_clause, rule};
-ghost use Rattle.clausal_form.specs.DerivationLaws.{TextsHaveOneAnswer, FormsHaveFunctions, TakenLinesAreSteps, AcceptedLinesRefute, TakenLinesAreGrounded, AcceptedDerivationsRefute};
-ghost use Rattle.clausal_form.specs.DerivationExamples.{b, name, units, units_lines, implication, implication_lines, implication_bound};
-ghost use Rattle.std.specs.Prelude.{codes};
+mod derivation_examples;
+mod derivations;
 
-/// Small ones.
-pub fn line_examples()
-    ensures no_lines { verdict_on_lines [] [] ≡ refused_line 0 no_empty_clause }
-    ensures units { verdict_on_lines units units_lines ≡ accepted 6 }
-    ensures implication { verdict_on_lines implication implication_lines ≡ accepted 11 }
-    ensures other_term { verdict_on_lines implication (implication_bound (name (codes "b"))) ≡ refused_line 8 rule }
-{}
-
-/// Lines that are taken are kernel steps.
-pub fn taken_lines_are_steps()
-    ensures { TakenLinesAreSteps }
-{}
+pub use derivation_examples::accepted_examples;
+pub use derivations::{accepted_derivations_refute, forms_have_functions, taken_lines_are_steps, texts_have_one_answer};

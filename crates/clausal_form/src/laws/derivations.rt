@@ -1,0 +1,27 @@
+// What derivations establish.
+
+ghost use Rattle.clausal_form.specs.DerivationLaws.{FormsHaveFunctions, TakenLinesAreSteps, AcceptedLinesRefute, TakenLinesAreGrounded, AcceptedDerivationsRefute, TextsHaveOneAnswer};
+
+/// The function symbols of a clausal form are a list over which ground instances are told.
+pub fn forms_have_functions()
+    ensures { FormsHaveFunctions }
+{}
+
+/// Lines that are taken are kernel steps whose bindings are over the form's function symbols, and each clause line is
+/// grounded; lines that are accepted are a refutation of the form.
+pub fn taken_lines_are_steps()
+    ensures steps { TakenLinesAreSteps }
+    ensures grounded { TakenLinesAreGrounded }
+    ensures refutation { AcceptedLinesRefute }
+{}
+
+/// A problem that has an accepted derivation is refuted by finitely many ground instances of its clausal form, over the
+/// form's own function symbols.
+pub fn accepted_derivations_refute()
+    ensures { AcceptedDerivationsRefute }
+{}
+
+/// A text has at most one answer.
+pub fn texts_have_one_answer()
+    ensures { TextsHaveOneAnswer }
+{}
