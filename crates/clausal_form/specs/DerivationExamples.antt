@@ -1,5 +1,5 @@
 -- The worked derivations, as lines: two units, one implication, two rewrites, two components, signed names; and changes of them.
-use Rattle.std.specs.Prelude.{ℕ, Bool, true, false, List, [], ◌∷◌, map, take, set, codes}
+use Rattle.std.specs.Prelude.{ℕ, Bool, true, false, List, [], ◌∷◌, ◌++◌, map, set, codes}
 use Rattle.tptp_tree.specs.Term.{TermTree, variable, application, terms_of}
 use Rattle.tptp_tree.specs.Formula.{for_all, implies, FormulaTree, truth, falsity, predicate, equation, negation, disjunction, connected, quantified, formulas_of}
 use Rattle.tptp_tree.specs.declared.role.Role.{Role}
@@ -187,6 +187,181 @@ implication_bound t =
 abbrev pub implication_lines : List LineTree
 implication_lines = implication_bound (name (codes "a"))
 
--- the lines with another one in the place of one
-abbrev pub with_changed : ℕ → LineTree → List LineTree
-with_changed n t = set implication_lines n t
+-- with another line in the place of one, places counted from 0
+abbrev pub implication_with : ℕ → LineTree → List LineTree
+implication_with n t = set implication_lines n t
+
+-- line 8, whose source is given
+abbrev pub para_line : SourceTree → LineTree
+para_line source = clause_line (codes "c7") (one_of (not_true ∷ q a ∷ [])) source
+
+abbrev pub para_items : List GeneralTree → SourceTree
+para_items items = infer (codes "para") items (codes "c5" ∷ codes "c4" ∷ [])
+
+-- the items of line 8 as they are
+abbrev pub from_item : GeneralTree
+from_item = from_first left
+
+abbrev pub into_item : GeneralTree
+into_item = into_first []
+
+abbrev pub bind_a : GeneralTree
+bind_a = bind (name (codes "a") ∷ [])
+
+-- lines 5, 9 and 11, each with a part given
+abbrev pub first_clause_line : SourceTree → LineTree
+first_clause_line source = clause_line (codes "c4") (one_of (negation (p x0) ∷ q x0 ∷ [])) source
+
+abbrev pub resolved_line : FormulaTree → LineTree
+resolved_line g = clause_line (codes "c8") g (by_refl [] (codes "c7"))
+
+abbrev pub last_line : List ℕ → SourceTree → LineTree
+last_line n source = clause_line n falsity source
+
+-- ---- two rewrites: a = b and f(a) = c, but f(b) != c
+
+abbrev pub equal : TermTree → TermTree → FormulaTree
+equal s t = equation true s t
+
+abbrev pub unequal : TermTree → TermTree → FormulaTree
+unequal s t = equation false s t
+
+abbrev pub rewrites : List Annotated
+rewrites =
+    entry (codes "a") Axiom true (equal a b) ∷ entry (codes "b") Axiom true (equal (f a) c)
+    ∷ entry (codes "c") Axiom true (unequal (f b) c) ∷ []
+
+abbrev pub rewrites_lines : List LineTree
+rewrites_lines =
+    line_as (codes "c0") Axiom true (equal a b) (by_file (codes "r8.p") (codes "a"))
+    ∷ line_as (codes "c1") Axiom true (equal (f a) c) (by_file (codes "r8.p") (codes "b"))
+    ∷ line_as (codes "c2") Axiom true (unequal (f b) c) (by_file (codes "r8.p") (codes "c"))
+    ∷ clause_line (codes "c3") (equal a b) (by_clausify n0 (codes "c0"))
+    ∷ clause_line (codes "c4") (equal (f a) c) (by_clausify n1 (codes "c1"))
+    ∷ clause_line (codes "c5") (unequal (f b) c) (by_clausify (digits (codes "2")) (codes "c2"))
+    ∷ clause_line (codes "c6") (unequal (f a) c)
+    (infer (codes "para") (thm ∷ from_first right ∷ into_first (n0 ∷ []) ∷ bind [] ∷ bind [] ∷ []) (codes "c3" ∷ codes "c5" ∷ []))
+    ∷ clause_line (codes "c7") (unequal c c) (by_para [] [] (codes "c4") (codes "c6"))
+    ∷ clause_line (codes "c8") falsity (by_refl [] (codes "c7"))
+    ∷ []
+
+-- ---- merging: p(X) or p(a), but not p(a)
+
+abbrev pub merging : List Annotated
+merging = entry (codes "a") Axiom true (one_of (p x ∷ p a ∷ [])) ∷ entry (codes "b") Axiom true (negation (p a)) ∷ []
+
+-- with the clause of line 5, and what binds its parent's variable
+abbrev pub merging_with : FormulaTree → GeneralTree → List LineTree
+merging_with g t =
+    line_as (codes "c0") Axiom true (one_of (p x ∷ p a ∷ [])) (by_file (codes "m.p") (codes "a"))
+    ∷ line_as (codes "c1") Axiom true (negation (p a)) (by_file (codes "m.p") (codes "b"))
+    ∷ clause_line (codes "c2") (one_of (p x0 ∷ p a ∷ [])) (by_clausify n0 (codes "c0"))
+    ∷ clause_line (codes "c3") (negation (p a)) (by_clausify n1 (codes "c1"))
+    ∷ clause_line (codes "c4") g
+    (infer (codes "merge") (thm ∷ call (codes "lit") (n0 ∷ []) ∷ call (codes "lit") (n1 ∷ []) ∷ bind (t ∷ []) ∷ []) (codes "c2" ∷ []))
+    ∷ clause_line (codes "c5") not_true (by_para [] [] (codes "c4") (codes "c3"))
+    ∷ clause_line (codes "c6") falsity (by_refl [] (codes "c5"))
+    ∷ []
+
+abbrev pub merging_lines : List LineTree
+merging_lines = merging_with (p a) (name (codes "a"))
+
+-- ---- an irreflexive variable: X != X, with what it is bound to
+
+abbrev pub irreflexive : List Annotated
+irreflexive = entry (codes "a") Axiom true (unequal x x) ∷ []
+
+abbrev pub irreflexive_bound : GeneralTree → List LineTree
+irreflexive_bound t =
+    line_as (codes "c0") Axiom true (unequal x x) (by_file (codes "r25.p") (codes "a"))
+    ∷ clause_line (codes "c1") (unequal x0 x0) (by_clausify n0 (codes "c0"))
+    ∷ clause_line (codes "c2") falsity (by_refl (t ∷ []) (codes "c1"))
+    ∷ []
+
+-- ---- two components: p(X) or q(Y), but neither p(a) nor q(b)
+
+abbrev pub components : List Annotated
+components =
+    entry (codes "a") Axiom true (one_of (p x ∷ q y ∷ [])) ∷ entry (codes "b") Axiom true (negation (p a))
+    ∷ entry (codes "c") Axiom true (negation (q b)) ∷ []
+
+abbrev pub not_spl0 : FormulaTree
+not_spl0 = negation spl0
+
+abbrev pub not_spl1 : FormulaTree
+not_spl1 = negation spl1
+
+abbrev pub component_line : List ℕ → FormulaTree → List ℕ → LineTree
+component_line n g introduced = clause_line n g (component_source introduced)
+
+abbrev pub components_lines : List LineTree
+components_lines =
+    line_as (codes "c0") Axiom true (one_of (p x ∷ q y ∷ [])) (by_file (codes "r10.p") (codes "a"))
+    ∷ line_as (codes "c1") Axiom true (negation (p a)) (by_file (codes "r10.p") (codes "b"))
+    ∷ line_as (codes "c2") Axiom true (negation (q b)) (by_file (codes "r10.p") (codes "c"))
+    ∷ clause_line (codes "c3") (one_of (p x0 ∷ q x1 ∷ [])) (by_clausify n0 (codes "c0"))
+    ∷ clause_line (codes "c4") (negation (p a)) (by_clausify n1 (codes "c1"))
+    ∷ clause_line (codes "c5") (negation (q b)) (by_clausify (digits (codes "2")) (codes "c2"))
+    ∷ component_line (codes "c6") (one_of (p x0 ∷ not_spl0 ∷ [])) (codes "spl0")
+    ∷ component_line (codes "c7") (one_of (q x0 ∷ not_spl1 ∷ [])) (codes "spl1")
+    ∷ clause_line (codes "c8") (one_of (spl0 ∷ spl1 ∷ [])) (by_split ((n0 ∷ []) ∷ (n1 ∷ []) ∷ []) (codes "c3" ∷ codes "c6" ∷ codes "c7" ∷ []))
+    ∷ clause_line (codes "c9") (one_of (not_true ∷ not_spl0 ∷ [])) (by_para (name (codes "a") ∷ []) [] (codes "c6") (codes "c4"))
+    ∷ clause_line (codes "c10") not_spl0 (by_refl [] (codes "c9"))
+    ∷ clause_line (codes "c11") (one_of (not_true ∷ not_spl1 ∷ [])) (by_para (name (codes "b") ∷ []) [] (codes "c7") (codes "c5"))
+    ∷ clause_line (codes "c12") not_spl1 (by_refl [] (codes "c11"))
+    ∷ clause_line (codes "c13") falsity
+    (by_chain (name (codes "spl0") ∷ name (codes "spl1") ∷ []) (codes "c8" ∷ codes "c10" ∷ codes "c12" ∷ []))
+    ∷ []
+
+abbrev pub components_with : ℕ → LineTree → List LineTree
+components_with n t = set components_lines n t
+
+-- ---- signed names: the four clauses of p and q, where a literal and its complement share a name
+
+abbrev pub atom_q : FormulaTree
+atom_q = atom (codes "q")
+
+abbrev pub both : FormulaTree → FormulaTree → FormulaTree
+both g h = one_of (g ∷ h ∷ [])
+
+abbrev pub four_clauses : List Annotated
+four_clauses =
+    entry (codes "a") Axiom true (both atom_p atom_q) ∷ entry (codes "b") Axiom true (both (negation atom_p) atom_q)
+    ∷ entry (codes "c") Axiom true (both atom_p (negation atom_q)) ∷ entry (codes "d") Axiom true (both (negation atom_p) (negation atom_q)) ∷ []
+
+-- and where r(a) is about
+abbrev pub four_clauses_and : List Annotated
+four_clauses_and = four_clauses ++ entry (codes "e") Axiom true (predicate (codes "r") (terms_of (a ∷ []))) ∷ []
+
+abbrev pub split_in_two : List ℕ → List ℕ → List ℕ → SourceTree
+split_in_two parent first second = by_split ((n0 ∷ []) ∷ (n1 ∷ []) ∷ []) (parent ∷ first ∷ second ∷ [])
+
+abbrev pub opposite_line : List ℕ → FormulaTree → List ℕ → LineTree
+opposite_line n g introduced = clause_line n g (opposite_source introduced)
+
+-- with the clause of line 9, which introduces the first name
+abbrev pub four_clauses_with : FormulaTree → List LineTree
+four_clauses_with g =
+    line_as (codes "c0") Axiom true (both atom_p atom_q) (by_file (codes "r11.p") (codes "a"))
+    ∷ line_as (codes "c1") Axiom true (both (negation atom_p) atom_q) (by_file (codes "r11.p") (codes "b"))
+    ∷ line_as (codes "c2") Axiom true (both atom_p (negation atom_q)) (by_file (codes "r11.p") (codes "c"))
+    ∷ line_as (codes "c3") Axiom true (both (negation atom_p) (negation atom_q)) (by_file (codes "r11.p") (codes "d"))
+    ∷ clause_line (codes "c4") (both atom_p atom_q) (by_clausify n0 (codes "c0"))
+    ∷ clause_line (codes "c5") (both (negation atom_p) atom_q) (by_clausify n1 (codes "c1"))
+    ∷ clause_line (codes "c6") (both atom_p (negation atom_q)) (by_clausify (digits (codes "2")) (codes "c2"))
+    ∷ clause_line (codes "c7") (both (negation atom_p) (negation atom_q)) (by_clausify (digits (codes "3")) (codes "c3"))
+    ∷ component_line (codes "c8") g (codes "spl0")
+    ∷ component_line (codes "c9") (both atom_q not_spl1) (codes "spl1")
+    ∷ opposite_line (codes "c10") (both (negation atom_p) spl0) (codes "spl0")
+    ∷ opposite_line (codes "c11") (both (negation atom_q) spl1) (codes "spl1")
+    ∷ clause_line (codes "c12") (both spl0 spl1) (split_in_two (codes "c4") (codes "c8") (codes "c9"))
+    ∷ clause_line (codes "c13") (both not_spl0 spl1) (split_in_two (codes "c5") (codes "c10") (codes "c9"))
+    ∷ clause_line (codes "c14") (both spl0 not_spl1) (split_in_two (codes "c6") (codes "c8") (codes "c11"))
+    ∷ clause_line (codes "c15") (both not_spl0 not_spl1) (split_in_two (codes "c7") (codes "c10") (codes "c11"))
+    ∷ clause_line (codes "c16") spl1 (by_chain (name (codes "spl0") ∷ []) (codes "c12" ∷ codes "c13" ∷ []))
+    ∷ clause_line (codes "c17") not_spl1 (by_chain (name (codes "spl0") ∷ []) (codes "c14" ∷ codes "c15" ∷ []))
+    ∷ clause_line (codes "c18") falsity (by_chain (name (codes "spl1") ∷ []) (codes "c16" ∷ codes "c17" ∷ []))
+    ∷ []
+
+abbrev pub four_clauses_lines : List LineTree
+four_clauses_lines = four_clauses_with (both atom_p not_spl0)
