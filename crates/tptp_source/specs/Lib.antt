@@ -1,3 +1,0 @@
-pub mod General
-pub mod Spelling
-pub mod Sources
