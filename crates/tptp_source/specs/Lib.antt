@@ -1,0 +1,4 @@
+pub mod General
+pub mod GeneralCodes
+pub mod Shape
+pub mod Falls
