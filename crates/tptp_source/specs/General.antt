@@ -33,6 +33,12 @@ abbrev pub list_of_trees : GeneralTrees → List GeneralTree
 list_of_trees no_trees = []
 list_of_trees (tree_then t ts) = t ∷ list_of_trees ts
 
+-- One part of a joined term is itself.
+abbrev pub whole : List GeneralTree → GeneralTree
+whole [] = joined no_trees
+whole (t ∷ []) = t
+whole (t ∷ u ∷ us) = joined (trees_of (t ∷ u ∷ us))
+
 -- the words, numbers, variables, lists and joints
 abbrev mutual
   pub tree_size : GeneralTree → ℕ

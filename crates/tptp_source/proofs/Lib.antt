@@ -1,0 +1,4 @@
+mod TokenTests
+mod RunLemmas
+mod PartReads
+mod ItemReads
