@@ -192,7 +192,7 @@ pub first-halts :
     (close : List ℕ) (r : Reader) (at : ℕ) (halt : Halt) → Halts r term_place at halt → HaltsItems close r at halt
 first-halts close r at halt h = record { by = λ o g. record { by = λ before levels. h.by [] (level o before [] ∷ levels) } }
 
-close-step :
+pub close-step :
     (o : Opener) (t : GeneralTree) (before items : List GeneralTree) (levels : List Level)
     → step (ends t (level o before items ∷ levels)) (lexeme Mark (closing o)) ≡ Some (has (before ++ bracketed o (items ++ t ∷ []) ∷ []) levels)
 close-step (word_opens f) t before items levels = refl

@@ -10,6 +10,13 @@ use Rattle.tptp_source.specs.declared.reader.Reader.{Reader}
 use Rattle.tptp_source.specs.declared.reader.Halt.{Halt}
 use Rattle.tptp_source.specs.declared.reader.Halt.TheVariants.{NoMemory, NoTerm}
 
+abbrev term_or : GeneralTree → Option GeneralTree → GeneralTree
+term_or u None = u
+term_or u (Some t) = t
+
+pub some-same : (t u : GeneralTree) → Some t ≡ Some u → t ≡ u
+some-same t u e = ap (term_or t) e
+
 -- ---- one token
 
 told-as : (r : Reader) (at : ℕ) (s : State) (t : Lexeme) → IsNext r at t → told r s at ≡ run (step s t) (drop (at + 1) (lexemes r))
@@ -60,7 +67,7 @@ memory-halts r first at halt e =
 
 -- ---- a mark that isn't there
 
-run-unmarked :
+pub run-unmarked :
     (mark : List ℕ) (s z : State) (ts : List Lexeme)
     → begins_with mark ts ≡ false → ((t : Lexeme) → is_mark mark t ≡ false → step s t ≡ step z t) → at_end s ≡ at_end z
     → run (Some s) ts ≡ run (Some z) ts

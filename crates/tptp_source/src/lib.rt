@@ -2,9 +2,12 @@
 #![tactic(auto)]
 
 mod beginning;
+pub mod laws;
 mod reader;
 mod sign;
+mod source;
 mod term;
 
 pub use sign::NumberSign;
+pub use source::general_term;
 pub use term::{GeneralTerm, GeneralTerms};
