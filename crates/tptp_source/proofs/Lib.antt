@@ -6,3 +6,6 @@ mod Begun
 mod Complete
 mod Sound
 mod WholeReads
+mod PartTerms
+mod SourceLemmas
+mod SourceReads

@@ -6,3 +6,5 @@ pub mod Spelling
 pub mod Sources
 pub mod Machine
 pub mod Telling
+pub mod TermSources
+pub mod SourceShape

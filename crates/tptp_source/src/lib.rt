@@ -3,11 +3,14 @@
 
 mod beginning;
 pub mod laws;
+mod part;
 mod reader;
 mod sign;
 mod source;
 mod term;
+mod whole;
 
 pub use sign::NumberSign;
-pub use source::general_term;
+pub use source::{Source, read_source};
 pub use term::{GeneralTerm, GeneralTerms};
+pub use whole::read_general_term;

@@ -1,5 +1,5 @@
 use Rattle.tptp_source.proofs.WholeReads.{more-none, all-spelled, halted-none}
-use Rattle.tptp_source.proofs.source.general_term.Goals as goal
+use Rattle.tptp_source.proofs.whole.read_general_term.Goals as goal
 
 pub returns-then-next-tokens-clause-none : goal.returns-then-next-tokens-clause-none
 returns-then-next-tokens-clause-none c = more-none _ _ _ c.in-Ok.ensures.read c.if-next-tokens.true
