@@ -1,0 +1,11 @@
+mod TokenTests
+mod RunLemmas
+mod PartReads
+mod ItemReads
+mod Begun
+mod Complete
+mod Sound
+mod WholeReads
+mod PartTerms
+mod SourceLemmas
+mod SourceReads

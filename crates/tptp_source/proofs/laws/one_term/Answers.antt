@@ -1,0 +1,5 @@
+use Rattle.tptp_source.proofs.WholeReads.{one-term}
+use Rattle.tptp_source.proofs.laws.one_term.Goals as goal
+
+pub returns : goal.returns
+returns c = one-term

@@ -1,0 +1,1 @@
+use Rattle.tptp_source.proofs.reader.Reader.has_mark.Goals as goal

@@ -1,0 +1,10 @@
+pub mod General
+pub mod GeneralCodes
+pub mod Shape
+pub mod Falls
+pub mod Spelling
+pub mod Sources
+pub mod Machine
+pub mod Telling
+pub mod TermSources
+pub mod SourceShape

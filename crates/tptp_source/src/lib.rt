@@ -1,0 +1,16 @@
+// General terms and sources of the annotations of TPTP's formulas, read from their tokens.
+#![tactic(auto)]
+
+mod beginning;
+pub mod laws;
+mod part;
+mod reader;
+mod sign;
+mod source;
+mod term;
+mod whole;
+
+pub use sign::NumberSign;
+pub use source::{Source, read_source};
+pub use term::{GeneralTerm, GeneralTerms};
+pub use whole::read_general_term;
