@@ -1,8 +1,8 @@
 -- The function symbols of a clausal form are a list with a constant, each with one number of arguments.
-use Rattle.std.proofs.Common.{◌≡◌, ℕ, zero, suc, ◌+◌, Bool, true, false, not, ◌&&◌, ◌||◌, ◌==◌, List, [], ◌∷◌, ◌++◌, length, Option, Some, None, refl, ap, sym, ◌∙◌, subst, arith}
+use Rattle.std.proofs.Common.{◌≡◌, ℕ, zero, suc, ◌+◌, Bool, true, false, not, ◌&&◌, ◌||◌, ◌==◌, List, [], ◌∷◌, ◌++◌, Some, refl, ap, sym, ◌∙◌, subst, arith}
 use Rattle.std.specs.Prelude.{fold, flat_map, codes, slice_get, unwrap_or, option_map, if◌then◌else◌}
 use Rattle.std.specs.List.{list_all, list_any}
-use Rattle.std.proofs.lemmas.Bool.{and_parts, and_from, or_left, or_right, not-true, eqb-true, eq-eqb, true≢false, false_from_ne_true}
+use Rattle.std.proofs.lemmas.Bool.{and_parts, and_from, not-true, eqb-true, eq-eqb, true≢false, false_from_ne_true}
 use Rattle.std.proofs.lemmas.Option.{none-some, same_Some}
 use Rattle.std.proofs.lemmas.List.Folds.{list_any-append}
 use Rattle.std.specs.Fmt.{decimal}
@@ -13,7 +13,7 @@ use Rattle.signature.specs.Symbol.{is_predicate_kind, true_symbol, function_symb
 use Rattle.signature.specs.Occurrences.{annotated_symbols, problem_symbols}
 use Rattle.signature.specs.Prefix.{fresh_prefix_of}
 use Rattle.signature.specs.Clausal.{Made}
-use Rattle.signature.specs.Form.{is_constant, spare_constant, with_skolem, with_naming, form_symbols, numbered_symbols, problem_form, clausal_form}
+use Rattle.signature.specs.Form.{is_constant, spare_constant, with_skolem, with_naming, form_symbols, problem_form, clausal_form}
 use Rattle.clausal_form.specs.FormFunctions.{functions_from, functions_of, is_predicate_in, OwnFunctions}
 
 listed : ℕ → Symbol → FunctionSymbol

@@ -1,16 +1,16 @@
 -- What a line's source gives is a kernel step from the form and the lines before it.
-use Rattle.std.proofs.Common.{◌≡◌, ℕ, zero, suc, ◌+◌, ◌<◌, ◌≤◌, Bool, true, false, not, ◌&&◌, ◌||◌, ◌==◌, List, [], ◌∷◌, ◌++◌, map, length, Option, Some, None, refl, ap, ap₂, sym, ◌∙◌, subst, arith, ⊎_elim}
+use Rattle.std.proofs.Common.{◌≡◌, ℕ, ◌+◌, ◌<◌, ◌≤◌, Bool, true, false, not, ◌&&◌, ◌||◌, ◌==◌, List, [], ◌∷◌, ◌++◌, map, length, Option, Some, None, refl, ap, ap₂, sym, ◌∙◌, subst, arith}
 use Rattle.std.specs.Prelude.{option_map, option_and_then, unwrap_or, slice_get, bytes_eq, codes, if◌then◌else◌}
 use Rattle.std.specs.List.{list_all, list_any, position_or_len}
-use Rattle.std.proofs.lemmas.Bool.{and_parts, not-true, eqb-true, eq-eqb, true≢false, cases_Bool}
+use Rattle.std.proofs.lemmas.Bool.{and_parts, not-true, eq-eqb, true≢false}
 use Rattle.std.proofs.lemmas.Option.{none-some, same_Some, option_and_then_some}
 use Rattle.plain_types.specs.declared.sequence.NameLit.{NameLit}
 use Rattle.plain_types.specs.Names.{same_name}
 use Rattle.fol_base.specs.Tree.{Tree}
 use Rattle.fol_base.specs.Clause.{TreeLiteral, TreeClause, literals_eq, names_eq, clause_eq}
-use Rattle.fol_base.specs.Ground.{is_over, is_ground_literal}
+use Rattle.fol_base.specs.Ground.{is_ground_literal}
 use Rattle.fol_base.proofs.TestLemmas.{option_map-some, if_some}
-use Rattle.tptp_tree.specs.Formula.{FormulaTree, negation}
+use Rattle.tptp_tree.specs.Formula.{negation}
 use Rattle.tptp_tree.specs.Entries.{AnnotatedTree, is_conjecture}
 use Rattle.signature.specs.Symbol.{predicate_symbol, has_symbol}
 use Rattle.kernel_steps.specs.Conclusion.{Verdict, binding_fault, rule_fault, concludes, empty_clause, verdict}
@@ -29,7 +29,6 @@ use Rattle.clausal_form.specs.DerivationSteps as kind
 use Rattle.clausal_form.specs.DerivationLine.{LineTree, Taken, kernel_lines, names_with}
 use Rattle.clausal_form.specs.DerivationParts.{Setting, entry_at, line_kind, items_of, parents_of, parent_lines, only_parent_step, line_clause, line_bindings}
 use Rattle.clausal_form.specs.DerivationCauses.{Cause, leaf, clausification, binding, rule, Given, fault, gives_formula, gives_clause, cited, place_of_entry, given_by_file, negation_from, given_by_negate, is_line_of, is_clausified, index_in, given_by_clausify, given_by_component, opposite_from, given_by_opposite, are_bound, line_step, concluded, given_by_rule, given_by, is_old_name}
-use Rattle.clausal_form.specs.FormFunctions.{functions_of}
 use Rattle.clausal_form.proofs.StepBinds.{step-binds}
 
 -- ---- equal names and clauses
@@ -154,9 +153,9 @@ right-clausify test s e t k =
     λ i i_is more.
     let parts = if_some (is_clausified s e t i) (Some (gives_clause (step.Clausify i) (line_clause s e t))) g more in
     let halves =
-        and_parts
-        (unwrap_or (option_and_then (λ origin. option_map (is_line_of s origin) (only_parent_step e t)) (slice_get (s.form).origins i)) false)
-        (unwrap_or (option_map (λ c. clause_eq c (line_clause s e t)) (slice_get (s.form).clauses i)) false) parts.0 in
+    and_parts
+    (unwrap_or (option_and_then (λ origin. option_map (is_line_of s origin) (only_parent_step e t)) (slice_get (s.form).origins i)) false)
+    (unwrap_or (option_map (λ c. clause_eq c (line_clause s e t)) (slice_get (s.form).clauses i)) false) parts.0 in
     let there = equal-there (slice_get (s.form).clauses i) (line_clause s e t) halves.1 in
     subst (IsRight test s e t k) (same_Some (gives_clause (step.Clausify i) (line_clause s e t)) g parts.1)
     (λ _. record { comes = there; below = tt; binds = λ _. refl })

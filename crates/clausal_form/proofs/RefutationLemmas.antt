@@ -1,23 +1,21 @@
 -- An accepted derivation is a refutation of the form by the kernel, and its lines are grounded.
-use Rattle.std.proofs.Common.{◌≡◌, ℕ, zero, suc, Bool, true, false, List, [], ◌∷◌, ◌++◌, map, length, Option, Some, None, refl, ap, sym, ◌∙◌, subst}
-use Rattle.std.specs.Prelude.{slice_get, IsTrue, if◌then◌else◌}
+use Rattle.std.proofs.Common.{◌≡◌, ℕ, Bool, true, false, List, [], ◌∷◌, ◌++◌, map, length, refl, ap, sym, subst}
+use Rattle.std.specs.Prelude.{if◌then◌else◌}
 use Rattle.std.proofs.lemmas.Bool.{and_parts, true≢false}
-use Rattle.fol_base.specs.Symbols.{FunctionSymbol}
-use Rattle.fol_base.specs.Clause.{TreeClause, clause_eq}
+use Rattle.fol_base.specs.Clause.{clause_eq}
 use Rattle.fol_base.specs.Ground.{is_over}
 use Rattle.fol_base.specs.Literal.{clause_of}
 use Rattle.tptp_tree.specs.declared.problem.Annotated.{Annotated}
 use Rattle.signature.specs.Form.{clausal_form}
 use Rattle.kernel_steps.specs.Conclusion.{empty_clause}
-use Rattle.kernel_steps.specs.Derivation.{is_clause_step, body, IsDerivation, IsRefutation}
-use Rattle.kernel_steps.specs.Soundness.{BindsOver, IsGrounded, HerbrandRefuted}
+use Rattle.kernel_steps.specs.Derivation.{is_clause_step}
+use Rattle.kernel_steps.specs.Soundness.{BindsOver}
 use Rattle.kernel_steps.specs.declared.step.Line.{Line}
 use Rattle.kernel_steps.proofs.GroundedLemmasLines.{lines_are_grounded, refutations_herbrand_refute}
 use Rattle.clausal_form.specs.DerivationLine.{LineTree, NamedLine, Taken, kernel_lines}
 use Rattle.clausal_form.specs.DerivationParts.{Setting, setting_of}
 use Rattle.clausal_form.specs.DerivationCauses.{no_empty_clause}
-use Rattle.clausal_form.specs.DerivationLines.{LinesVerdict, all_taken, refused_at, lines_verdict, is_empty_clause_line, ends_empty, Answer, accepted, refused_line, ended}
-use Rattle.clausal_form.specs.DerivationTexts.{IsAcceptedDerivation}
+use Rattle.clausal_form.specs.DerivationLines.{LinesVerdict, all_taken, refused_at, lines_verdict, ends_empty, accepted, refused_line, ended}
 use Rattle.clausal_form.specs.DerivationLaws.{TakenLinesAreSteps, AcceptedLinesRefute, TakenLinesAreGrounded, AcceptedDerivationsRefute}
 use Rattle.clausal_form.specs.FormFunctions.{functions_of, is_predicate_in, OwnFunctions, IsHerbrandRefuted}
 use Rattle.clausal_form.proofs.GivenLemmas.{clause_eq-says}

@@ -1,8 +1,8 @@
 -- What a line's step binds are the bindings of its items.
-use Rattle.std.proofs.Common.{◌≡◌, ℕ, zero, suc, Bool, true, false, List, [], ◌∷◌, Option, Some, None, refl, ap, sym, ◌∙◌, subst}
+use Rattle.std.proofs.Common.{◌≡◌, ℕ, Bool, true, List, [], ◌∷◌, Some, refl, subst}
 use Rattle.std.specs.Prelude.{option_map, option_and_then, codes}
 use Rattle.std.specs.List.{list_all}
-use Rattle.std.proofs.lemmas.Option.{none-some, same_Some, option_and_then_some}
+use Rattle.std.proofs.lemmas.Option.{none-some, option_and_then_some}
 use Rattle.fol_base.specs.Tree.{Tree}
 use Rattle.fol_base.proofs.TestLemmas.{option_map-some}
 use Rattle.kernel_steps.specs.Soundness.{binds_each}

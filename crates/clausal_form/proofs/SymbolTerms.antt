@@ -1,24 +1,21 @@
 -- Terms whose symbols a form has are over its function symbols.
-use Rattle.std.proofs.Common.{◌≡◌, ℕ, zero, suc, ◌+◌, ◌<◌, ◌≤◌, Bool, true, false, not, ◌&&◌, ◌||◌, ◌==◌, List, [], ◌∷◌, ◌++◌, map, length, Option, Some, None, refl, ap, ap₂, sym, ◌∙◌, subst, arith, ⊎_elim}
+use Rattle.std.proofs.Common.{◌≡◌, ℕ, suc, ◌+◌, Bool, true, false, not, ◌&&◌, ◌||◌, ◌==◌, List, [], ◌∷◌, ◌++◌, map, Option, Some, None, refl, ap, sym, ◌∙◌, subst, arith}
 use Rattle.std.specs.Prelude.{unwrap_or, option_map, flat_map, bytes_eq, if◌then◌else◌}
-use Rattle.std.specs.List.{list_all, list_any, position_or_len}
-use Rattle.std.proofs.lemmas.Bool.{and_parts, and_from, or_cases, or_left, or_right, not-true, eqb-true, eq-eqb, true≢false}
+use Rattle.std.specs.List.{list_all}
+use Rattle.std.proofs.lemmas.Bool.{and_parts, and_from, or_left, or_right, eq-eqb, true≢false}
 use Rattle.std.proofs.lemmas.List.Folds.{list_all-append}
 use Rattle.std.proofs.lemmas.Grind.{flat_map-append}
-use Rattle.fol_base.specs.Tree.{Tree, variable, application, Trees, trees_count}
-use Rattle.fol_base.specs.Symbols.{FunctionSymbol}
+use Rattle.fol_base.specs.Tree.{variable, Trees, trees_count}
 use Rattle.fol_base.specs.Ground.{is_over, are_over, has_symbol as has_function}
 use Rattle.tptp_tree.specs.Term.{TermTree, variable as named_variable, application as named_application, TermTrees, no_terms, term_then}
-use Rattle.tptp_tree.specs.Formula.{FormulaTree}
 use Rattle.signature.specs.declared.symbol.Symbol.{Symbol}
-use Rattle.signature.specs.declared.symbol.SymbolKind.TheVariants.{Predicate, Function}
 use Rattle.signature.specs.Symbol.{is_predicate_kind, function_symbol, same_symbol, has_symbol, number_of}
 use Rattle.signature.specs.SymbolLaws.{same_symbol-true}
 use Rattle.signature.specs.Occurrences.{terms_count, term_symbols, terms_symbols, formula_symbols}
 use Rattle.signature.specs.Environment.{Environment, term_in_force, term_under, terms_under}
-use Rattle.clausal_form.specs.DerivationClause.{numbered_from, Numbering, numbering, term_by, symbols_in}
+use Rattle.clausal_form.specs.DerivationClause.{numbered_from}
 use Rattle.clausal_form.specs.DerivationLine.{LineTree, Taken}
-use Rattle.clausal_form.specs.DerivationParts.{Setting, line_literals, all_bound, bound_terms, line_numbering, line_bindings}
+use Rattle.clausal_form.specs.DerivationParts.{Setting, line_literals, all_bound, bound_terms}
 use Rattle.clausal_form.specs.DerivationCauses.{has_new_symbol}
 use Rattle.clausal_form.specs.FormFunctions.{functions_from, functions_of}
 use Rattle.clausal_form.proofs.GivenLemmas.{Binds}

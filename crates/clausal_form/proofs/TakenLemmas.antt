@@ -1,10 +1,10 @@
 -- Lines that are taken are a derivation of the kernel.
-use Rattle.std.proofs.Common.{◌≡◌, ℕ, zero, suc, ◌+◌, ◌<◌, ◌≤◌, Bool, true, false, not, ◌&&◌, ◌||◌, ◌==◌, List, [], ◌∷◌, ◌++◌, map, length, Option, Some, None, refl, ap, ap₂, sym, ◌∙◌, subst, arith, ⊎_elim}
+use Rattle.std.proofs.Common.{◌≡◌, ℕ, ◌≤◌, Bool, true, false, not, ◌||◌, ◌==◌, List, [], ◌∷◌, ◌++◌, map, length, Some, None, refl, ap, ap₂, sym, ◌∙◌, subst, arith}
 use Rattle.std.specs.Prelude.{is_some, bytes_eq, if◌then◌else◌}
 use Rattle.std.specs.List.{list_all, list_any}
-use Rattle.std.proofs.lemmas.Bool.{and_from, not-true, eqb-true, eq-eqb, true≢false, false_from_ne_true}
+use Rattle.std.proofs.lemmas.Bool.{and_from, eqb-true, true≢false, false_from_ne_true}
 use Rattle.std.proofs.lemmas.List.{append_assoc, append-nil}
-use Rattle.fol_base.specs.Tree.{Tree, variable, application, trees_of, list_of}
+use Rattle.fol_base.specs.Tree.{Tree, variable, application}
 use Rattle.fol_base.specs.Term.{tree_of}
 use Rattle.fol_base.specs.Clause.{TreeLiteral, TreeClause, clause_eq}
 use Rattle.fol_base.specs.Literal.{literal_of, clause_of}
@@ -120,12 +120,11 @@ all_come-end :
     → AllCome form earlier lines → ComesBy l.step form (earlier ++ lines) (clause_of l.clause) → AllCome form earlier (lines ++ l ∷ [])
 all_come-end form earlier [] l all comes =
     (subst (λ before. ComesBy l.step form before (clause_of l.clause)) (append-nil earlier) comes, tt)
-all_come-end form earlier (k ∷ ks) l all comes =
-    (
-      all.0,
-      all_come-end form (earlier ++ k ∷ []) ks l all.1
+all_come-end form earlier (k ∷ ks) l all comes = (
+  all.0,
+  all_come-end form (earlier ++ k ∷ []) ks l all.1
       (subst (λ before. ComesBy l.step form before (clause_of l.clause)) (sym (append_assoc earlier (k ∷ []) ks)) comes),
-    )
+)
 
 kernel_lines-end : (ls : List NamedLine) (l : NamedLine) → map (λ (k : NamedLine). k.line) (ls ++ l ∷ []) ≡ map (λ (k : NamedLine). k.line) ls ++ l.line ∷ []
 kernel_lines-end [] l = refl

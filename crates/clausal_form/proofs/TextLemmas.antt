@@ -1,18 +1,17 @@
 -- A text has at most one answer.
-use Rattle.std.proofs.Common.{◌≡◌, ℕ, zero, suc, ◌+◌, ◌⊎◌, inl, inr, Bool, true, false, List, [], ◌∷◌, ◌++◌, length, Option, Some, None, refl, ap, ap₂, sym, ◌∙◌, subst, ⊎_elim, arith}
-use Rattle.std.proofs.lemmas.List.{append_assoc, append-nil}
+use Rattle.std.proofs.Common.{◌≡◌, ℕ, ◌+◌, ◌⊎◌, inl, inr, List, [], ◌∷◌, ◌++◌, length, refl, ap, ap₂, sym, ◌∙◌, subst, ⊎_elim}
+use Rattle.std.proofs.lemmas.List.{append-nil}
 use Rattle.tptp_token.specs.Lexemes.{Lexeme}
-use Rattle.tptp_token.specs.Lexing.{lexed_of}
 use Rattle.tptp_tree.specs.Entries.{AnnotatedPhrase, annotated_lexemes, AnnotatedTree}
 use Rattle.tptp_tree.specs.declared.problem.Annotated.{Annotated}
 use Rattle.tptp_tree.proofs.UniqueEntries.{annotated-same, tree-same}
 use Rattle.tptp_source.specs.Sources.{SourceTree, SpellsSource}
-use Rattle.clausal_form.specs.DerivationLine.{LineTree, Taken, nothing_taken, with_line}
+use Rattle.clausal_form.specs.DerivationLine.{LineTree, Taken, nothing_taken}
 use Rattle.clausal_form.specs.DerivationParts.{Setting, setting_of}
-use Rattle.clausal_form.specs.DerivationCauses.{Cause, text, LineVerdict, refused, taken, line_verdict}
-use Rattle.clausal_form.specs.DerivationLines.{LinesVerdict, all_taken, refused_at, after_line, then_line, lines_verdict_from, lines_verdict, Answer, accepted, refused_line, ended, verdict_on_lines}
+use Rattle.clausal_form.specs.DerivationCauses.{Cause, text}
+use Rattle.clausal_form.specs.DerivationLines.{LinesVerdict, all_taken, refused_at, then_line, lines_verdict_from, lines_verdict, Answer, accepted, refused_line, ended, verdict_on_lines}
 use Rattle.clausal_form.specs.DerivationLaws.{TextsHaveOneAnswer}
-use Rattle.clausal_form.specs.DerivationTexts.{IsLineOf, AreLinesOf, phrases_lexemes, SpellsLines, text_tokens, IsEnd, NoLineBegins, SpellsDerivation, IsAcceptedDerivation, EndsEarly, IsUnread, IsRefusedLine, IsRefusedDerivation, IsAnswerOn}
+use Rattle.clausal_form.specs.DerivationTexts.{IsLineOf, AreLinesOf, phrases_lexemes, SpellsLines, text_tokens, IsEnd, NoLineBegins, EndsEarly, IsUnread, IsRefusedLine, IsRefusedDerivation, IsAnswerOn}
 
 -- ---- lines are read in one way
 

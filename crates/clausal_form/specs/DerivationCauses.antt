@@ -1,12 +1,11 @@
 -- The verdict on a line of a derivation: it is taken, or the first cause for which it is refused.
-use Rattle.std.specs.Prelude.{ℕ, Bool, true, false, not, ◌&&◌, ◌||◌, ◌==◌, nat_lt, List, [], ◌∷◌, map, zip, length, codes, Option, None, Some, option_map, option_and_then, unwrap_or, is_some, slice_get, position, bytes_eq, if◌then◌else◌}
+use Rattle.std.specs.Prelude.{ℕ, Bool, true, false, not, ◌&&◌, ◌||◌, ◌==◌, List, [], ◌∷◌, map, zip, length, codes, Option, None, Some, option_map, option_and_then, unwrap_or, is_some, slice_get, position, bytes_eq, if◌then◌else◌}
 use Rattle.std.specs.List.{list_any, list_all, position_or_len}
 use Rattle.fol_base.specs.Tree.{Tree}
 use Rattle.fol_base.specs.Clause.{TreeLiteral, TreeClause, clause_eq, names_eq}
 use Rattle.fol_base.specs.Ground.{is_ground_literal}
 use Rattle.tptp_tree.specs.Formula.{FormulaTree, negation}
 use Rattle.tptp_tree.specs.Entries.{AnnotatedTree, is_conjecture}
-use Rattle.tptp_tree.specs.declared.problem.Annotated.{Annotated}
 use Rattle.signature.specs.Symbol.{predicate_symbol, has_symbol}
 use Rattle.kernel_steps.specs.Parents.{Parent}
 use Rattle.kernel_steps.specs.Conclusion.{Verdict, binding_fault, rule_fault, concludes, empty_clause, binds, verdict}
@@ -17,7 +16,7 @@ use Rattle.kernel_steps.specs.declared.step.Line.{Line}
 use Rattle.tptp_source.specs.Sources.{SourceTree, file_source}
 use Rattle.clausal_form.specs.DerivationClause.{is_written_clause, name_number, symbols_in}
 use Rattle.clausal_form.specs.DerivationItems.{only_one, plain_word, row_arguments}
-use Rattle.clausal_form.specs.DerivationSteps.{Kind, input, negate, clausify, component, opposite, no_rule, bindings_count, of_number, rule_step}
+use Rattle.clausal_form.specs.DerivationSteps.{Kind, input, negate, clausify, component, opposite, bindings_count, of_number, rule_step}
 use Rattle.clausal_form.specs.DerivationLine.{LineTree, same_formula, same_entry, entry_of, kernel_line, NamedLine, Taken, kernel_lines}
 use Rattle.clausal_form.specs.DerivationParts.{Setting, entry_at, line_kind, items_of, parent_places, parents_of, parent_lines, only_parent_step, line_names, line_literals, all_bound, line_clause, line_bindings}
 

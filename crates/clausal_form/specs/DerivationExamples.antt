@@ -7,7 +7,7 @@ use Rattle.tptp_tree.specs.declared.role.Role.TheVariants.{Axiom, NegatedConject
 use Rattle.tptp_tree.specs.declared.problem.Annotated.{Annotated}
 use Rattle.signature.specs.Examples.{program_formula}
 use Rattle.tptp_source.specs.declared.sign.NumberSign.TheVariants.{Unsigned}
-use Rattle.tptp_source.specs.General.{GeneralTree, variable as general_variable, word, number, negated, listed, trees_of}
+use Rattle.tptp_source.specs.General.{GeneralTree, word, number, listed, trees_of}
 use Rattle.tptp_source.specs.Sources.{SourceTree, file_source, inference_source, component_source, opposite_source}
 use Rattle.clausal_form.specs.DerivationLine.{LineTree}
 

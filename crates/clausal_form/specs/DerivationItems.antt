@@ -1,5 +1,5 @@
 -- What the general terms in a line's list of items say: numbers, sides, places, terms, parts and signed names.
-use Rattle.std.specs.Prelude.{ℕ, ◌+◌, ◌-◌, ◌*◌, ◌==◌, Bool, true, false, not, ◌&&◌, List, [], ◌∷◌, map, drop, filter, fold, codes, Option, None, Some, option_map, option_and_then, bytes_eq, if◌then◌else◌}
+use Rattle.std.specs.Prelude.{ℕ, ◌+◌, ◌-◌, ◌*◌, ◌==◌, Bool, true, false, not, ◌&&◌, List, [], ◌∷◌, map, filter, fold, codes, Option, None, Some, option_map, option_and_then, bytes_eq, if◌then◌else◌}
 use Rattle.std.specs.List.{list_any, list_all}
 use Rattle.plain_types.specs.declared.sequence.NameLit.{NameLit}
 use Rattle.tptp_token.specs.Spelling.{is_digit}

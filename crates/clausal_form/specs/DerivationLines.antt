@@ -1,5 +1,5 @@
 -- The verdict on the lines of a derivation: they are accepted, or the first bad line and its first cause.
-use Rattle.std.specs.Prelude.{ℕ, ◌+◌, Bool, true, false, ◌&&◌, List, [], ◌∷◌, ◌++◌, length, Option, None, Some, if◌then◌else◌}
+use Rattle.std.specs.Prelude.{ℕ, ◌+◌, Bool, false, ◌&&◌, List, [], ◌∷◌, length, if◌then◌else◌}
 use Rattle.fol_base.specs.Clause.{clause_eq}
 use Rattle.fol_base.specs.Literal.{clause_of}
 use Rattle.tptp_tree.specs.declared.problem.Annotated.{Annotated}

@@ -1,5 +1,5 @@
 -- What a line of a derivation is judged by: the problem with its clausal form, the lines before it, and its own parts.
-use Rattle.std.specs.Prelude.{ℕ, Bool, ◌==◌, List, [], map, filter_map, flat_map, Option, None, option_map, option_and_then, unwrap_or, slice_get, position, bytes_eq, if◌then◌else◌}
+use Rattle.std.specs.Prelude.{ℕ, ◌==◌, List, [], map, filter_map, flat_map, Option, option_map, option_and_then, unwrap_or, slice_get, position, bytes_eq, if◌then◌else◌}
 use Rattle.fol_base.specs.Tree.{Tree}
 use Rattle.fol_base.specs.Clause.{TreeClause}
 use Rattle.tptp_tree.specs.Term.{TermTree}

@@ -1,6 +1,5 @@
 -- The step by which a line says that it comes about: the rows of the table of rules with parents.
-use Rattle.std.specs.Prelude.{ℕ, List, [], ◌∷◌, length, codes, Option, None, Some, option_map, option_and_then, if◌then◌else◌}
-use Rattle.plain_types.specs.declared.sequence.NameLit.{NameLit}
+use Rattle.std.specs.Prelude.{ℕ, List, [], ◌∷◌, codes, Option, None, option_map, option_and_then, if◌then◌else◌}
 use Rattle.fol_base.specs.Tree.{Tree}
 use Rattle.fol_base.specs.declared.clause.Side.{Side}
 use Rattle.kernel_steps.specs.declared.step.Step.{Step}

@@ -4,4 +4,6 @@ mod derivation_examples;
 mod derivations;
 
 pub use derivation_examples::{accepted_examples, changed_implication_examples};
-pub use derivations::{accepted_derivations_refute, forms_have_functions, taken_lines_are_steps, texts_have_one_answer};
+pub use derivations::{
+    accepted_derivations_refute, forms_have_functions, taken_lines_are_steps, texts_have_one_answer,
+};

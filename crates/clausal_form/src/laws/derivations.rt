@@ -2,6 +2,8 @@
 
 ghost use Rattle.clausal_form.specs.DerivationLaws.{FormsHaveFunctions, TakenLinesAreSteps, AcceptedLinesRefute, TakenLinesAreGrounded, AcceptedDerivationsRefute, TextsHaveOneAnswer};
 
+use tptp_source::laws::one_source;
+
 /// The function symbols of a clausal form are a list over which ground instances are told.
 pub fn forms_have_functions()
     ensures { FormsHaveFunctions }
@@ -24,4 +26,6 @@ pub fn accepted_derivations_refute()
 /// A text has at most one answer.
 pub fn texts_have_one_answer()
     ensures { TextsHaveOneAnswer }
-{}
+{
+    one_source();
+}
