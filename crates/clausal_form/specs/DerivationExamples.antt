@@ -10,6 +10,7 @@ use Rattle.tptp_source.specs.declared.sign.NumberSign.TheVariants.{Unsigned}
 use Rattle.tptp_source.specs.General.{GeneralTree, word, number, listed, trees_of}
 use Rattle.tptp_source.specs.Sources.{SourceTree, file_source, inference_source, component_source, opposite_source}
 use Rattle.clausal_form.specs.DerivationLine.{LineTree}
+use Rattle.clausal_form.specs.DerivationLines.{Answer, verdict_on_lines}
 
 -- ---- terms and formulas
 
@@ -187,9 +188,9 @@ implication_bound t =
 abbrev pub implication_lines : List LineTree
 implication_lines = implication_bound (name (codes "a"))
 
--- with another line in the place of one, places counted from 0
-abbrev pub implication_with : ℕ → LineTree → List LineTree
-implication_with n t = set implication_lines n t
+-- the answer with another line in the place of one, places counted from 0
+abbrev pub implication_answer : ℕ → LineTree → Answer
+implication_answer n t = verdict_on_lines implication (set implication_lines n t)
 
 -- line 8, whose source is given
 abbrev pub para_line : SourceTree → LineTree
@@ -313,8 +314,9 @@ components_lines =
     (by_chain (name (codes "spl0") ∷ name (codes "spl1") ∷ []) (codes "c8" ∷ codes "c10" ∷ codes "c12" ∷ []))
     ∷ []
 
-abbrev pub components_with : ℕ → LineTree → List LineTree
-components_with n t = set components_lines n t
+-- the answer with another line in the place of one
+abbrev pub components_answer : ℕ → LineTree → Answer
+components_answer n t = verdict_on_lines components (set components_lines n t)
 
 -- ---- signed names: the four clauses of p and q, where a literal and its complement share a name
 
@@ -329,9 +331,12 @@ four_clauses =
     entry (codes "a") Axiom true (both atom_p atom_q) ∷ entry (codes "b") Axiom true (both (negation atom_p) atom_q)
     ∷ entry (codes "c") Axiom true (both atom_p (negation atom_q)) ∷ entry (codes "d") Axiom true (both (negation atom_p) (negation atom_q)) ∷ []
 
--- and where r(a) is about
+abbrev pub r_of_a : FormulaTree
+r_of_a = predicate (codes "r") (terms_of (a ∷ []))
+
+-- and r(a)
 abbrev pub four_clauses_and : List Annotated
-four_clauses_and = four_clauses ++ entry (codes "e") Axiom true (predicate (codes "r") (terms_of (a ∷ []))) ∷ []
+four_clauses_and = four_clauses ++ entry (codes "e") Axiom true r_of_a ∷ []
 
 abbrev pub split_in_two : List ℕ → List ℕ → List ℕ → SourceTree
 split_in_two parent first second = by_split ((n0 ∷ []) ∷ (n1 ∷ []) ∷ []) (parent ∷ first ∷ second ∷ [])
@@ -365,3 +370,19 @@ four_clauses_with g =
 
 abbrev pub four_clauses_lines : List LineTree
 four_clauses_lines = four_clauses_with (both atom_p not_spl0)
+
+-- ---- texts
+
+-- `$false` itself
+abbrev pub falsum : List Annotated
+falsum = entry (codes "a") Axiom true falsity ∷ []
+
+-- its derivation, with quoted words and a blank
+abbrev pub falsum_text : List ℕ
+falsum_text = codes "cnf(a,axiom,$false,file('f',a)).cnf(b,plain,$false, inference(clausify,[status(esa),index(0)],['a']))."
+
+abbrev pub falsum_lines : List LineTree
+falsum_lines =
+    line_as (codes "a") Axiom true falsity (by_file (codes "f") (codes "a"))
+    ∷ clause_line (codes "b") falsity (by_clausify n0 (codes "a"))
+    ∷ []

@@ -5,6 +5,7 @@ use Rattle.tptp_token.specs.Lexemes.{Lexeme, lexemes_of}
 use Rattle.tptp_token.specs.Lexing.{lexed_of}
 use Rattle.tptp_tree.specs.Entries.{AnnotatedPhrase, is_right_annotated, annotated_lexemes, IsAnnotatedOf}
 use Rattle.tptp_tree.specs.Causes.{Refusal, annotated_causes}
+use Rattle.tptp_tree.specs.declared.limits.TheConstants.{MOST_DERIVATION_NESTING}
 use Rattle.tptp_tree.specs.declared.problem.Annotated.{Annotated}
 use Rattle.tptp_source.specs.Sources.{SpellsSource}
 use Rattle.clausal_form.specs.DerivationLine.{LineTree, Taken}
@@ -12,16 +13,12 @@ use Rattle.clausal_form.specs.DerivationParts.{setting_of}
 use Rattle.clausal_form.specs.DerivationCauses.{Cause, text}
 use Rattle.clausal_form.specs.DerivationLines.{all_taken, refused_at, lines_verdict, Answer, accepted, refused_line, verdict_on_lines}
 
--- how deep a line may be nested
-abbrev pub MOST_LEVELS : ℕ
-MOST_LEVELS = 5000
-
 -- ---- lines
 
 -- The phrase of an annotated formula is that of a line: no token of it is at fault within the levels, and its notes spell the source.
 pub record IsLineOf (p : AnnotatedPhrase) (t : LineTree) : Type 0 where
   pub right : is_right_annotated p ≡ true
-  pub faultless : AllByRecursion (λ (c : Option Refusal). c ≡ None) (annotated_causes MOST_LEVELS p)
+  pub faultless : AllByRecursion (λ (c : Option Refusal). c ≡ None) (annotated_causes MOST_DERIVATION_NESTING p)
   pub entry : IsAnnotatedOf p t.entry
   pub source : SpellsSource p.notes t.source
 
