@@ -5,3 +5,4 @@ pub mod SymbolTerms
 pub mod FunctionLemmas
 pub mod RefutationLemmas
 pub mod TextLemmas
+pub mod SpelledLemmas

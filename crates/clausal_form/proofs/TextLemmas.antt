@@ -98,7 +98,7 @@ at-end bytes rest end t more h = not-nothing h.phrases t more (sym end.0 ∙ h.s
 
 -- ---- a verdict is kept by the lines that follow where it refuses
 
-stays-refused : (s : Setting) (n : ℕ) (cause : Cause) (ts : List LineTree) → lines_verdict_from s (refused_at n cause) ts ≡ refused_at n cause
+pub stays-refused : (s : Setting) (n : ℕ) (cause : Cause) (ts : List LineTree) → lines_verdict_from s (refused_at n cause) ts ≡ refused_at n cause
 stays-refused s n cause [] = refl
 stays-refused s n cause (t ∷ ts) = stays-refused s n cause ts
 

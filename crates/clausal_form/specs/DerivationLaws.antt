@@ -8,14 +8,20 @@ use Rattle.kernel_steps.specs.Soundness.{BindsOver, IsGrounded}
 use Rattle.kernel_steps.specs.declared.step.Line.{Line}
 use Rattle.clausal_form.specs.DerivationLine.{LineTree, Taken, kernel_lines}
 use Rattle.clausal_form.specs.DerivationParts.{setting_of}
-use Rattle.clausal_form.specs.DerivationLines.{all_taken, lines_verdict, ended, Answer, accepted}
-use Rattle.clausal_form.specs.DerivationTexts.{IsAcceptedDerivation, IsAnswerOn}
+use Rattle.clausal_form.specs.DerivationLines.{all_taken, lines_verdict, ended, Answer, accepted, verdict_on_lines}
+use Rattle.clausal_form.specs.DerivationTexts.{SpellsDerivation, IsAcceptedDerivation, IsAnswerOn}
 use Rattle.clausal_form.specs.FormFunctions.{functions_of, OwnFunctions, IsHerbrandRefuted}
 
 -- a text has at most one answer
 abbrev pub TextsHaveOneAnswer : Type 0
 TextsHaveOneAnswer =
     (problem : List Annotated) (bytes : List ℕ) (x y : Answer) → IsAnswerOn problem bytes x → IsAnswerOn problem bytes y → x ≡ y
+
+-- a text that spells lines has the answer that these have
+abbrev pub SpelledLinesAreAnswered : Type 0
+SpelledLinesAreAnswered =
+    (problem : List Annotated) (bytes : List ℕ) (ts : List LineTree)
+    → SpellsDerivation bytes ts → IsAnswerOn problem bytes (verdict_on_lines problem ts)
 
 -- the function symbols of a clausal form are a list with a constant
 abbrev pub FormsHaveFunctions : Type 0

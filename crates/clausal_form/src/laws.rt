@@ -10,5 +10,6 @@ pub use derivation_examples::{
 };
 pub use derivation_texts::text_examples;
 pub use derivations::{
-    accepted_derivations_refute, forms_have_functions, taken_lines_are_steps, texts_have_one_answer,
+    accepted_derivations_refute, forms_have_functions, spelled_lines_are_answered,
+    taken_lines_are_steps, texts_have_one_answer,
 };

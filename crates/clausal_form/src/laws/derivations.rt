@@ -1,6 +1,6 @@
 // What derivations establish.
 
-ghost use Rattle.clausal_form.specs.DerivationLaws.{FormsHaveFunctions, TakenLinesAreSteps, AcceptedLinesRefute, TakenLinesAreGrounded, AcceptedDerivationsRefute, TextsHaveOneAnswer};
+ghost use Rattle.clausal_form.specs.DerivationLaws.{FormsHaveFunctions, TakenLinesAreSteps, AcceptedLinesRefute, TakenLinesAreGrounded, AcceptedDerivationsRefute, SpelledLinesAreAnswered, TextsHaveOneAnswer};
 
 use tptp_source::laws::one_source;
 
@@ -21,6 +21,11 @@ pub fn taken_lines_are_steps()
 /// form's own function symbols.
 pub fn accepted_derivations_refute()
     ensures { AcceptedDerivationsRefute }
+{}
+
+/// A text that spells lines has the answer that the lines have.
+pub fn spelled_lines_are_answered()
+    ensures { SpelledLinesAreAnswered }
 {}
 
 /// A text has at most one answer.
