@@ -24,7 +24,7 @@ use Rattle.kernel_steps.proofs.SplitTests.{literals_eq-says}
 use Rattle.tptp_source.specs.Sources.{SourceTree, file_source, inference_source, component_source, opposite_source}
 use Rattle.clausal_form.specs.DerivationClause.{name_number}
 use Rattle.clausal_form.specs.DerivationItems.{only_one, plain_word, row_arguments}
-use Rattle.clausal_form.specs.DerivationSteps.{Kind}
+use Rattle.clausal_form.specs.DerivationSteps.{LineKind}
 use Rattle.clausal_form.specs.DerivationSteps as kind
 use Rattle.clausal_form.specs.DerivationLine.{LineTree, Taken, kernel_lines, names_with}
 use Rattle.clausal_form.specs.DerivationParts.{Setting, entry_at, line_kind, items_of, parents_of, parent_lines, only_parent_step, line_clause, line_bindings}
@@ -82,12 +82,12 @@ Binds test s e t = list_all (list_all test) (map (λ o. unwrap_or o []) (line_bi
 abbrev pub NoneFrom : Taken → Type 0
 NoneFrom e = (n : ℕ) → length e.introduced ≤ n → component_clause n (kernel_lines e) ≡ None
 
-pub record ComesRight (test : Tree → Bool) (s : Setting) (e : Taken) (t : LineTree) (k : Kind) (st : Step) (c : TreeClause) : Type 0 where
+pub record ComesRight (test : Tree → Bool) (s : Setting) (e : Taken) (t : LineTree) (k : LineKind) (st : Step) (c : TreeClause) : Type 0 where
   pub comes : ComesBy st (s.form).clauses (kernel_lines e) c
   pub below : NameBelow (length (names_with e.introduced k)) st
   pub binds : Binds test s e t → binds_each test st ≡ true
 
-abbrev pub IsRight : (Tree → Bool) → Setting → Taken → LineTree → Kind → Given → Type 0
+abbrev pub IsRight : (Tree → Bool) → Setting → Taken → LineTree → LineKind → Given → Type 0
 IsRight test s e t k (fault cause) = Unit {0}
 IsRight test s e t k (gives_formula st f) = ComesRight test s e t k st empty_clause × (binds_each test st ≡ true)
 IsRight test s e t k (gives_clause st c) = is_old_name s e k ≡ false → ComesRight test s e t k st c
@@ -104,7 +104,7 @@ either P false g h first second = second
 
 -- ---- by kinds
 
-right-file : (test : Tree → Bool) (s : Setting) (e : Taken) (t : LineTree) (k : Kind) (source : SourceTree) → IsRight test s e t k (given_by_file s t source)
+right-file : (test : Tree → Bool) (s : Setting) (e : Taken) (t : LineTree) (k : LineKind) (source : SourceTree) → IsRight test s e t k (given_by_file s t source)
 right-file test s e t k (file_source file name) =
     or_fault (IsRight test s e t k) leaf
     (option_map (λ place. gives_formula (step.Input place) (t.entry).formula) (option_and_then (λ word. place_of_entry s (cited t name)) (plain_word file)))
@@ -117,7 +117,7 @@ right-file test s e t k (component_source name) = tt
 right-file test s e t k (opposite_source name) = tt
 
 right-negation :
-    (test : Tree → Bool) (s : Setting) (e : Taken) (t : LineTree) (k : Kind) (st : Step) (g : Given)
+    (test : Tree → Bool) (s : Setting) (e : Taken) (t : LineTree) (k : LineKind) (st : Step) (g : Given)
     → negation_from s st ≡ Some g → IsRight test s e t k g
 right-negation test s e t k (step.Input place) g h =
     option_and_then_some
@@ -137,7 +137,7 @@ right-negation test s e t k (step.Opposite n) g h = absurd (none-some g h)
 right-negation test s e t k (step.Split a b c) g h = absurd (none-some g h)
 right-negation test s e t k (step.Chain a b) g h = absurd (none-some g h)
 
-right-negate : (test : Tree → Bool) (s : Setting) (e : Taken) (t : LineTree) (k : Kind) → IsRight test s e t k (given_by_negate s e t)
+right-negate : (test : Tree → Bool) (s : Setting) (e : Taken) (t : LineTree) (k : LineKind) → IsRight test s e t k (given_by_negate s e t)
 right-negate test s e t k =
     or_fault (IsRight test s e t k) rule
     (option_and_then (λ row. option_and_then (negation_from s) (only_parent_step e t)) (row_arguments (codes "cth") [] (items_of t.source)))
@@ -145,7 +145,7 @@ right-negate test s e t k =
     option_and_then_some (λ row. option_and_then (negation_from s) (only_parent_step e t)) (row_arguments (codes "cth") [] (items_of t.source)) g h
     λ row row_is more. option_and_then_some (negation_from s) (only_parent_step e t) g more λ st st_is last. right-negation test s e t k st g last
 
-right-clausify : (test : Tree → Bool) (s : Setting) (e : Taken) (t : LineTree) (k : Kind) → IsRight test s e t k (given_by_clausify s e t)
+right-clausify : (test : Tree → Bool) (s : Setting) (e : Taken) (t : LineTree) (k : LineKind) → IsRight test s e t k (given_by_clausify s e t)
 right-clausify test s e t k =
     or_fault (IsRight test s e t k) clausification
     (option_and_then (λ i. if is_clausified s e t i then Some (gives_clause (step.Clausify i) (line_clause s e t)) else None) (index_in t)) tt λ g h.
@@ -166,7 +166,7 @@ length-end (y ∷ xs) x = omega (arith, length-end xs x)
 
 one-longer :
     (names : List (List ℕ)) (name : List ℕ) → list_any (bytes_eq name) names ≡ false
-    → length (names_with names (kind.component name)) ≡ length names + 1
+    → length (names_with names (kind.component_kind name)) ≡ length names + 1
 one-longer names name h = by (list_any (bytes_eq name) names) h
   where
     by : (b : Bool) → b ≡ false → length (if b then names else names ++ name ∷ []) ≡ length names + 1
@@ -180,7 +180,7 @@ component-right :
     (test : Tree → Bool) (s : Setting) (e : Taken) (t : LineTree) (name : List ℕ) (n : ℕ) (c : TreeClause) → NoneFrom e
     → n ≡ position_or_len (bytes_eq name) e.introduced
     → (not (length c.literals == 0) && names_eq c.names (negative_of n ∷ [])) ≡ true
-    → is_old_name s e (kind.component name) ≡ false → ComesRight test s e t (kind.component name) (step.Component n) c
+    → is_old_name s e (kind.component_kind name) ≡ false → ComesRight test s e t (kind.component_kind name) (step.Component n) c
 component-right test s e t name n c none n_is h old =
     let fresh : list_any (bytes_eq name) e.introduced ≡ false = (neither (has_symbol (predicate_symbol name 0) (s.form).symbols) (list_any (bytes_eq name) e.introduced) old).1 in
     let at_end : n ≡ length e.introduced = n_is ∙ position-past (bytes_eq name) e.introduced fresh in
@@ -194,15 +194,15 @@ component-right test s e t name n c none n_is h old =
 
 right-component :
     (test : Tree → Bool) (s : Setting) (e : Taken) (t : LineTree) (name : List ℕ) → NoneFrom e
-    → IsRight test s e t (kind.component name) (given_by_component s e t name)
+    → IsRight test s e t (kind.component_kind name) (given_by_component s e t name)
 right-component test s e t name none =
     let n : ℕ = position_or_len (bytes_eq name) e.introduced in
     let c : TreeClause = line_clause s e t in
-    either (IsRight test s e t (kind.component name)) (not (length c.literals == 0) && names_eq c.names (negative_of n ∷ []))
+    either (IsRight test s e t (kind.component_kind name)) (not (length c.literals == 0) && names_eq c.names (negative_of n ∷ []))
     (gives_clause (step.Component n) c) (fault rule) (λ h old. component-right test s e t name n c none refl h old) tt
 
 opposite-right :
-    (test : Tree → Bool) (s : Setting) (e : Taken) (t : LineTree) (k : Kind) (n : ℕ) (c : TreeClause) (l : TreeLiteral) (g : Given)
+    (test : Tree → Bool) (s : Setting) (e : Taken) (t : LineTree) (k : LineKind) (n : ℕ) (c : TreeClause) (l : TreeLiteral) (g : Given)
     → component_clause n (kernel_lines e) ≡ Some c → only_one c.literals ≡ Some l → opposite_from n l ≡ Some g → IsRight test s e t k g
 opposite-right test s e t k n c l g there one h =
     let made : TreeClause = record { literals = complement l ∷ []; names = positive_of n ∷ [] } in
@@ -220,7 +220,7 @@ opposite-right test s e t k n c l g there one h =
     } in
     subst (IsRight test s e t k) (same_Some (gives_clause (step.Opposite n) made) g parts.1) (λ _. record { comes = right; below = tt; binds = λ _. refl })
 
-right-opposite : (test : Tree → Bool) (s : Setting) (e : Taken) (t : LineTree) (k : Kind) (name : List ℕ) → IsRight test s e t k (given_by_opposite e name)
+right-opposite : (test : Tree → Bool) (s : Setting) (e : Taken) (t : LineTree) (k : LineKind) (name : List ℕ) → IsRight test s e t k (given_by_opposite e name)
 right-opposite test s e t k name =
     or_fault (IsRight test s e t k) rule
     (option_and_then
@@ -253,7 +253,7 @@ comes-by-rule (step.Split a b d) form lines c n h = (h, tt)
 comes-by-rule (step.Chain a b) form lines c n h = (h, tt)
 
 concluded-right :
-    (test : Tree → Bool) (s : Setting) (e : Taken) (t : LineTree) (k : Kind) (st : Step) (v : Verdict)
+    (test : Tree → Bool) (s : Setting) (e : Taken) (t : LineTree) (k : LineKind) (st : Step) (v : Verdict)
     → verdict st (parent_lines e) ≡ v → line_step s e t ≡ Some st → IsRight test s e t k (concluded st v)
 concluded-right test s e t k st binding_fault h st_is = tt
 concluded-right test s e t k st rule_fault h st_is = tt
@@ -267,7 +267,7 @@ concluded-right test s e t k st (concludes c) h st_is =
           step-binds test (line_kind t) e.introduced (items_of t.source) (parents_of e t) (map (λ o. unwrap_or o []) (line_bindings s e t)) st st_is all;
     }
 
-right-rule : (test : Tree → Bool) (s : Setting) (e : Taken) (t : LineTree) (k : Kind) → IsRight test s e t k (given_by_rule s e t)
+right-rule : (test : Tree → Bool) (s : Setting) (e : Taken) (t : LineTree) (k : LineKind) → IsRight test s e t k (given_by_rule s e t)
 right-rule test s e t k =
     either (IsRight test s e t k) (are_bound s e t)
     (unwrap_or (option_map (λ st. concluded st (verdict st (parent_lines e))) (line_step s e t)) (fault rule)) (fault binding)
@@ -277,16 +277,16 @@ right-rule test s e t k =
     subst (IsRight test s e t k) made (concluded-right test s e t k st (verdict st (parent_lines e)) refl st_is))
     tt
 
-pub right-given : (test : Tree → Bool) (s : Setting) (e : Taken) (t : LineTree) (k : Kind) → NoneFrom e → IsRight test s e t k (given_by s e t k)
-right-given test s e t kind.input none = right-file test s e t kind.input t.source
-right-given test s e t kind.negate none = right-negate test s e t kind.negate
-right-given test s e t kind.clausify none = right-clausify test s e t kind.clausify
-right-given test s e t kind.para none = right-rule test s e t kind.para
-right-given test s e t kind.refl none = right-rule test s e t kind.refl
-right-given test s e t kind.factor none = right-rule test s e t kind.factor
-right-given test s e t kind.merge none = right-rule test s e t kind.merge
-right-given test s e t (kind.component name) none = right-component test s e t name none
-right-given test s e t (kind.opposite name) none = right-opposite test s e t (kind.opposite name) name
-right-given test s e t kind.split none = right-rule test s e t kind.split
-right-given test s e t kind.chain none = right-rule test s e t kind.chain
-right-given test s e t kind.no_rule none = right-rule test s e t kind.no_rule
+pub right-given : (test : Tree → Bool) (s : Setting) (e : Taken) (t : LineTree) (k : LineKind) → NoneFrom e → IsRight test s e t k (given_by s e t k)
+right-given test s e t kind.input_kind none = right-file test s e t kind.input_kind t.source
+right-given test s e t kind.negate_kind none = right-negate test s e t kind.negate_kind
+right-given test s e t kind.clausify_kind none = right-clausify test s e t kind.clausify_kind
+right-given test s e t kind.para_kind none = right-rule test s e t kind.para_kind
+right-given test s e t kind.refl_kind none = right-rule test s e t kind.refl_kind
+right-given test s e t kind.factor_kind none = right-rule test s e t kind.factor_kind
+right-given test s e t kind.merge_kind none = right-rule test s e t kind.merge_kind
+right-given test s e t (kind.component_kind name) none = right-component test s e t name none
+right-given test s e t (kind.opposite_kind name) none = right-opposite test s e t (kind.opposite_kind name) name
+right-given test s e t kind.split_kind none = right-rule test s e t kind.split_kind
+right-given test s e t kind.chain_kind none = right-rule test s e t kind.chain_kind
+right-given test s e t kind.no_rule_kind none = right-rule test s e t kind.no_rule_kind

@@ -10,7 +10,7 @@ use Rattle.kernel_steps.specs.declared.step.Step.{Step}
 use Rattle.kernel_steps.specs.declared.step.Step.TheVariants as step
 use Rattle.tptp_source.specs.General.{GeneralTree}
 use Rattle.clausal_form.specs.DerivationItems.{list_in, number_in, signed_name_in, only_one, row_arguments}
-use Rattle.clausal_form.specs.DerivationSteps.{Kind, OfLiteral, of_literal, into_literal, of_number, para_step, refl_step, factor_step, merge_step, split_step, chain_step, rule_step}
+use Rattle.clausal_form.specs.DerivationSteps.{LineKind, OfLiteral, of_literal, into_literal, of_number, para_step, refl_step, factor_step, merge_step, split_step, chain_step, rule_step}
 use Rattle.clausal_form.specs.DerivationSteps as kind
 
 abbrev Passes : (Tree → Bool) → Step → Type 0
@@ -97,30 +97,30 @@ chain-binds test names parents (pivots ∷ []) st h =
     λ ps ps_is e. subst (Passes test) e refl
 
 pub step-binds :
-    (test : Tree → Bool) (k : Kind) (names : List (List ℕ)) (items : List GeneralTree) (parents : List ℕ) (binds : List (List Tree)) (st : Step)
+    (test : Tree → Bool) (k : LineKind) (names : List (List ℕ)) (items : List GeneralTree) (parents : List ℕ) (binds : List (List Tree)) (st : Step)
     → rule_step k names items parents binds ≡ Some st → list_all (list_all test) binds ≡ true → binds_each test st ≡ true
-step-binds test kind.para names items parents binds st h all =
+step-binds test kind.para_kind names items parents binds st h all =
     option_and_then_some (para_step parents binds)
     (row_arguments (codes "thm") (codes "from" ∷ codes "into" ∷ codes "bind" ∷ codes "bind" ∷ []) items) st h
     λ row row_is more. para-binds test parents binds row st more all
-step-binds test kind.refl names items parents binds st h all =
+step-binds test kind.refl_kind names items parents binds st h all =
     option_and_then_some (refl_step parents binds) (row_arguments (codes "thm") (codes "lit" ∷ codes "bind" ∷ []) items) st h
     λ row row_is more. refl-binds test parents binds row st more all
-step-binds test kind.factor names items parents binds st h all =
+step-binds test kind.factor_kind names items parents binds st h all =
     option_and_then_some (factor_step parents binds) (row_arguments (codes "thm") (codes "lit" ∷ codes "lit" ∷ codes "bind" ∷ []) items) st h
     λ row row_is more. factor-binds test parents binds row st more all
-step-binds test kind.merge names items parents binds st h all =
+step-binds test kind.merge_kind names items parents binds st h all =
     option_and_then_some (merge_step parents binds) (row_arguments (codes "thm") (codes "lit" ∷ codes "lit" ∷ codes "bind" ∷ []) items) st h
     λ row row_is more. merge-binds test parents binds row st more all
-step-binds test kind.split names items parents binds st h all =
+step-binds test kind.split_kind names items parents binds st h all =
     option_and_then_some (split_step parents) (row_arguments (codes "esa") (codes "parts" ∷ []) items) st h
     λ row row_is more. split-binds test parents row st more
-step-binds test kind.chain names items parents binds st h all =
+step-binds test kind.chain_kind names items parents binds st h all =
     option_and_then_some (chain_step names parents) (row_arguments (codes "thm") (codes "pivots" ∷ []) items) st h
     λ row row_is more. chain-binds test names parents row st more
-step-binds test kind.input names items parents binds st h all = absurd (none-some st h)
-step-binds test kind.negate names items parents binds st h all = absurd (none-some st h)
-step-binds test kind.clausify names items parents binds st h all = absurd (none-some st h)
-step-binds test (kind.component name) names items parents binds st h all = absurd (none-some st h)
-step-binds test (kind.opposite name) names items parents binds st h all = absurd (none-some st h)
-step-binds test kind.no_rule names items parents binds st h all = absurd (none-some st h)
+step-binds test kind.input_kind names items parents binds st h all = absurd (none-some st h)
+step-binds test kind.negate_kind names items parents binds st h all = absurd (none-some st h)
+step-binds test kind.clausify_kind names items parents binds st h all = absurd (none-some st h)
+step-binds test (kind.component_kind name) names items parents binds st h all = absurd (none-some st h)
+step-binds test (kind.opposite_kind name) names items parents binds st h all = absurd (none-some st h)
+step-binds test kind.no_rule_kind names items parents binds st h all = absurd (none-some st h)

@@ -17,7 +17,7 @@ use Rattle.kernel_steps.specs.declared.step.Step.{Step}
 use Rattle.kernel_steps.specs.declared.step.Step.TheVariants as step
 use Rattle.kernel_steps.specs.declared.step.Line.{Line}
 use Rattle.kernel_steps.proofs.DerivationExamples.{AllCome, derivation-from}
-use Rattle.clausal_form.specs.DerivationSteps.{Kind, kind_of}
+use Rattle.clausal_form.specs.DerivationSteps.{LineKind, kind_of}
 use Rattle.clausal_form.specs.DerivationSteps as kind
 use Rattle.clausal_form.specs.DerivationLine.{LineTree, same_formula, kernel_term, kernel_literal, kernel_line, NamedLine, Taken, nothing_taken, kernel_lines, names_with, with_line}
 use Rattle.clausal_form.specs.DerivationParts.{Setting, line_kind, parent_places, line_clause}
@@ -63,7 +63,7 @@ or-parts true b h = absurd (true≢false h)
 or-parts false b h = (refl, h)
 
 taken-as :
-    (test : Tree → Bool) (s : Setting) (e : Taken) (t : LineTree) (k : Kind) (st : Step) (c : TreeClause)
+    (test : Tree → Bool) (s : Setting) (e : Taken) (t : LineTree) (k : LineKind) (st : Step) (c : TreeClause)
     → k ≡ line_kind t → ComesRight test s e t k st c → binds_each test st ≡ true → IsTakenAs test s e t (kernel_line st c)
 taken-as test s e t k st c k_is right bound = record {
   comes = subst (λ d. ComesBy st (s.form).clauses (kernel_lines e) d) (sym (kernel_line-clause st c)) right.comes;
@@ -155,23 +155,23 @@ not-component n m (step.Opposite k) le below = refl
 not-component n m (step.Split a b d) le below = refl
 not-component n m (step.Chain a b) le below = refl
 
-names-grow : (names : List (List ℕ)) (k : Kind) → length names ≤ length (names_with names k)
-names-grow names kind.input = omega arith
-names-grow names kind.negate = omega arith
-names-grow names kind.clausify = omega arith
-names-grow names kind.para = omega arith
-names-grow names kind.refl = omega arith
-names-grow names kind.factor = omega arith
-names-grow names kind.merge = omega arith
-names-grow names (kind.component name) = by (list_any (bytes_eq name) names)
+names-grow : (names : List (List ℕ)) (k : LineKind) → length names ≤ length (names_with names k)
+names-grow names kind.input_kind = omega arith
+names-grow names kind.negate_kind = omega arith
+names-grow names kind.clausify_kind = omega arith
+names-grow names kind.para_kind = omega arith
+names-grow names kind.refl_kind = omega arith
+names-grow names kind.factor_kind = omega arith
+names-grow names kind.merge_kind = omega arith
+names-grow names (kind.component_kind name) = by (list_any (bytes_eq name) names)
   where
     by : (b : Bool) → length names ≤ length (if b then names else names ++ name ∷ [])
     by true = omega arith
     by false = omega (arith, length-end names name)
-names-grow names (kind.opposite name) = omega arith
-names-grow names kind.split = omega arith
-names-grow names kind.chain = omega arith
-names-grow names kind.no_rule = omega arith
+names-grow names (kind.opposite_kind name) = omega arith
+names-grow names kind.split_kind = omega arith
+names-grow names kind.chain_kind = omega arith
+names-grow names kind.no_rule_kind = omega arith
 
 taken-end :
     (test : Tree → Bool) (s : Setting) (e : Taken) (t : LineTree) (line : Line)

@@ -16,7 +16,7 @@ use Rattle.kernel_steps.specs.declared.step.Line.{Line}
 use Rattle.tptp_source.specs.Sources.{SourceTree, file_source}
 use Rattle.clausal_form.specs.DerivationClause.{is_written_clause, name_number, symbols_in}
 use Rattle.clausal_form.specs.DerivationItems.{only_one, plain_word, row_arguments}
-use Rattle.clausal_form.specs.DerivationSteps.{Kind, input, negate, clausify, component, opposite, bindings_count, of_number, rule_step}
+use Rattle.clausal_form.specs.DerivationSteps.{LineKind, input_kind, negate_kind, clausify_kind, component_kind, opposite_kind, bindings_count, of_number, rule_step}
 use Rattle.clausal_form.specs.DerivationLine.{LineTree, same_formula, same_entry, entry_of, kernel_line, NamedLine, Taken, kernel_lines}
 use Rattle.clausal_form.specs.DerivationParts.{Setting, entry_at, line_kind, items_of, parent_places, parents_of, parent_lines, only_parent_step, line_names, line_literals, all_bound, line_clause, line_bindings}
 
@@ -146,19 +146,19 @@ given_by_rule s e t =
     then unwrap_or (option_map (λ step. concluded step (verdict step (parent_lines e))) (line_step s e t)) (fault rule)
     else fault binding
 
-abbrev pub given_by : Setting → Taken → LineTree → Kind → Given
-given_by s e t input = given_by_file s t t.source
-given_by s e t negate = given_by_negate s e t
-given_by s e t clausify = given_by_clausify s e t
-given_by s e t (component name) = given_by_component s e t name
-given_by s e t (opposite name) = given_by_opposite e name
+abbrev pub given_by : Setting → Taken → LineTree → LineKind → Given
+given_by s e t input_kind = given_by_file s t t.source
+given_by s e t negate_kind = given_by_negate s e t
+given_by s e t clausify_kind = given_by_clausify s e t
+given_by s e t (component_kind name) = given_by_component s e t name
+given_by s e t (opposite_kind name) = given_by_opposite e name
 given_by s e t kind = given_by_rule s e t
 
 -- ---- the verdict
 
-abbrev pub is_formula_kind : Kind → Bool
-is_formula_kind input = true
-is_formula_kind negate = true
+abbrev pub is_formula_kind : LineKind → Bool
+is_formula_kind input_kind = true
+is_formula_kind negate_kind = true
 is_formula_kind kind = false
 
 -- a clause line is written with `cnf`, as a clause is
@@ -171,8 +171,8 @@ abbrev pub has_new_symbol : Setting → Taken → LineTree → Bool
 has_new_symbol s e t = not (list_all (λ x. has_symbol x (s.form).symbols) (symbols_in (line_literals e t) (all_bound t)))
 
 -- the name of a component line is a predicate of the form without arguments, or was introduced before
-abbrev pub is_old_name : Setting → Taken → Kind → Bool
-is_old_name s e (component name) = has_symbol (predicate_symbol name 0) (s.form).symbols || list_any (bytes_eq name) e.introduced
+abbrev pub is_old_name : Setting → Taken → LineKind → Bool
+is_old_name s e (component_kind name) = has_symbol (predicate_symbol name 0) (s.form).symbols || list_any (bytes_eq name) e.introduced
 is_old_name s e kind = false
 
 pub data LineVerdict : Type 0 where

@@ -16,7 +16,7 @@ use Rattle.tptp_tree.specs.declared.problem.Annotated.{Annotated}
 use Rattle.kernel_steps.specs.declared.step.Step.{Step}
 use Rattle.kernel_steps.specs.declared.step.Line.{Line}
 use Rattle.tptp_source.specs.Sources.{SourceTree}
-use Rattle.clausal_form.specs.DerivationSteps.{Kind, component, kind_of}
+use Rattle.clausal_form.specs.DerivationSteps.{LineKind, component_kind, kind_of}
 
 -- a line as it is written: an annotated formula with its source
 pub record LineTree : Type 0 where
@@ -80,8 +80,8 @@ abbrev pub kernel_lines : Taken → List Line
 kernel_lines e = map (λ (l : NamedLine). l.line) e.lines
 
 -- the introduced names, with that of a component line
-abbrev pub names_with : List (List ℕ) → Kind → List (List ℕ)
-names_with names (component n) = if list_any (bytes_eq n) names then names else names ++ n ∷ []
+abbrev pub names_with : List (List ℕ) → LineKind → List (List ℕ)
+names_with names (component_kind n) = if list_any (bytes_eq n) names then names else names ++ n ∷ []
 names_with names kind = names
 
 -- and a line more

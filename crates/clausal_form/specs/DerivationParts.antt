@@ -14,7 +14,7 @@ use Rattle.tptp_source.specs.General.{GeneralTree}
 use Rattle.tptp_source.specs.Sources.{SourceTree, inference_source}
 use Rattle.clausal_form.specs.DerivationClause.{ordinary_literals, Numbering, numbering, term_by, clause_by}
 use Rattle.clausal_form.specs.DerivationItems.{only_one, bindings_in}
-use Rattle.clausal_form.specs.DerivationSteps.{Kind, kind_of, bindings_count}
+use Rattle.clausal_form.specs.DerivationSteps.{LineKind, kind_of, bindings_count}
 use Rattle.clausal_form.specs.DerivationLine.{LineTree, entry_of, NamedLine, Taken, kernel_lines, names_with}
 
 -- a problem with its clausal form
@@ -31,7 +31,7 @@ entry_at s place = option_map entry_of (slice_get s.problem place)
 
 -- ---- the source
 
-abbrev pub line_kind : LineTree → Kind
+abbrev pub line_kind : LineTree → LineKind
 line_kind t = kind_of t.source
 
 abbrev pub parent_names : SourceTree → List (List ℕ)

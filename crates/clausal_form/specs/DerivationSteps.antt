@@ -9,44 +9,44 @@ use Rattle.tptp_source.specs.Sources.{SourceTree, file_source, inference_source,
 use Rattle.clausal_form.specs.DerivationItems.{is_plain, number_in, side_in, list_in, signed_name_in, only_one, row_arguments}
 
 -- the kinds of lines, by their sources
-pub data Kind : Type 0 where
-  input : Kind
-  negate : Kind
-  clausify : Kind
-  para : Kind
-  refl : Kind
-  factor : Kind
-  merge : Kind
-  component : List ℕ → Kind
-  opposite : List ℕ → Kind
-  split : Kind
-  chain : Kind
-  no_rule : Kind
+pub data LineKind : Type 0 where
+  input_kind : LineKind
+  negate_kind : LineKind
+  clausify_kind : LineKind
+  para_kind : LineKind
+  refl_kind : LineKind
+  factor_kind : LineKind
+  merge_kind : LineKind
+  component_kind : List ℕ → LineKind
+  opposite_kind : List ℕ → LineKind
+  split_kind : LineKind
+  chain_kind : LineKind
+  no_rule_kind : LineKind
 
-abbrev pub rule_kind : GeneralTree → Kind
+abbrev pub rule_kind : GeneralTree → LineKind
 rule_kind rule =
-    if is_plain (codes "negate") rule then negate
-    else if is_plain (codes "clausify") rule then clausify
-    else if is_plain (codes "para") rule then para
-    else if is_plain (codes "refl") rule then refl
-    else if is_plain (codes "factor") rule then factor
-    else if is_plain (codes "merge") rule then merge
-    else if is_plain (codes "split") rule then split
-    else if is_plain (codes "chain") rule then chain
-    else no_rule
+    if is_plain (codes "negate") rule then negate_kind
+    else if is_plain (codes "clausify") rule then clausify_kind
+    else if is_plain (codes "para") rule then para_kind
+    else if is_plain (codes "refl") rule then refl_kind
+    else if is_plain (codes "factor") rule then factor_kind
+    else if is_plain (codes "merge") rule then merge_kind
+    else if is_plain (codes "split") rule then split_kind
+    else if is_plain (codes "chain") rule then chain_kind
+    else no_rule_kind
 
-abbrev pub kind_of : SourceTree → Kind
-kind_of (file_source file name) = input
+abbrev pub kind_of : SourceTree → LineKind
+kind_of (file_source file name) = input_kind
 kind_of (inference_source rule items parents) = rule_kind rule
-kind_of (component_source name) = component name
-kind_of (opposite_source name) = opposite name
+kind_of (component_source name) = component_kind name
+kind_of (opposite_source name) = opposite_kind name
 
 -- how many parents the rule binds
-abbrev pub bindings_count : Kind → ℕ
-bindings_count para = 2
-bindings_count refl = 1
-bindings_count factor = 1
-bindings_count merge = 1
+abbrev pub bindings_count : LineKind → ℕ
+bindings_count para_kind = 2
+bindings_count refl_kind = 1
+bindings_count factor_kind = 1
+bindings_count merge_kind = 1
 bindings_count kind = 0
 
 -- ---- the arguments of items
@@ -106,18 +106,18 @@ chain_step names parents (pivots ∷ []) =
 chain_step names parents row = None
 
 -- Each row: the word of its status, its items, and its step.
-abbrev pub rule_step : Kind → List (List ℕ) → List GeneralTree → List ℕ → List (List Tree) → Option Step
-rule_step para names items parents binds =
+abbrev pub rule_step : LineKind → List (List ℕ) → List GeneralTree → List ℕ → List (List Tree) → Option Step
+rule_step para_kind names items parents binds =
     option_and_then (para_step parents binds)
     (row_arguments (codes "thm") (codes "from" ∷ codes "into" ∷ codes "bind" ∷ codes "bind" ∷ []) items)
-rule_step refl names items parents binds =
+rule_step refl_kind names items parents binds =
     option_and_then (refl_step parents binds) (row_arguments (codes "thm") (codes "lit" ∷ codes "bind" ∷ []) items)
-rule_step factor names items parents binds =
+rule_step factor_kind names items parents binds =
     option_and_then (factor_step parents binds) (row_arguments (codes "thm") (codes "lit" ∷ codes "lit" ∷ codes "bind" ∷ []) items)
-rule_step merge names items parents binds =
+rule_step merge_kind names items parents binds =
     option_and_then (merge_step parents binds) (row_arguments (codes "thm") (codes "lit" ∷ codes "lit" ∷ codes "bind" ∷ []) items)
-rule_step split names items parents binds =
+rule_step split_kind names items parents binds =
     option_and_then (split_step parents) (row_arguments (codes "esa") (codes "parts" ∷ []) items)
-rule_step chain names items parents binds =
+rule_step chain_kind names items parents binds =
     option_and_then (chain_step names parents) (row_arguments (codes "thm") (codes "pivots" ∷ []) items)
 rule_step kind names items parents binds = None
