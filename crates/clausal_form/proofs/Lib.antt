@@ -6,3 +6,5 @@ pub mod FunctionLemmas
 pub mod RefutationLemmas
 pub mod TextLemmas
 pub mod SpelledLemmas
+pub mod LengthLemmas
+pub mod SomeAnswer

@@ -105,7 +105,7 @@ refused-answered problem bytes ts rest n cause spelled h =
       wrong = inr (inr (r.line, line.middle, line.first, r.is_refused));
     }
 
-answered :
+pub answered :
     (problem : List Annotated) (bytes : List ℕ) (ts : List LineTree) → SpellsDerivation bytes ts → (v : LinesVerdict)
     → lines_verdict (setting_of problem) ts ≡ v → IsAnswerOn problem bytes (ended v)
 answered problem bytes ts (rest, spelled, end) (refused_at n cause) h = refused-answered problem bytes ts rest n cause spelled h

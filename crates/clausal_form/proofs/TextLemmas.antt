@@ -67,7 +67,7 @@ are_lines-joined [] qs (t ∷ ts) us h k = absurd h
 are_lines-joined (p ∷ ps) qs [] us h k = absurd h
 are_lines-joined (p ∷ ps) qs (t ∷ ts) us h k = (h.0, are_lines-joined ps qs ts us h.1 k)
 
-joined :
+pub joined :
     (tokens rest more : List Lexeme) (ts us : List LineTree) → SpellsLines tokens ts rest → SpellsLines rest us more → SpellsLines tokens (ts ++ us) more
 joined tokens rest more ts us a b = record {
   phrases = a.phrases ++ b.phrases;
@@ -102,7 +102,7 @@ pub stays-refused : (s : Setting) (n : ℕ) (cause : Cause) (ts : List LineTree)
 stays-refused s n cause [] = refl
 stays-refused s n cause (t ∷ ts) = stays-refused s n cause ts
 
-verdict-joined :
+pub verdict-joined :
     (s : Setting) (v : LinesVerdict) (ts us : List LineTree)
     → lines_verdict_from s v (ts ++ us) ≡ lines_verdict_from s (lines_verdict_from s v ts) us
 verdict-joined s v [] us = refl

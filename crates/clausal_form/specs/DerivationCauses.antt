@@ -20,17 +20,27 @@ use Rattle.clausal_form.specs.DerivationSteps.{LineKind, input_kind, negate_kind
 use Rattle.clausal_form.specs.DerivationLine.{LineTree, same_formula, same_entry, entry_of, kernel_line, NamedLine, Taken, kernel_lines}
 use Rattle.clausal_form.specs.DerivationParts.{Setting, entry_at, line_kind, items_of, parent_places, parents_of, parent_lines, only_parent_step, line_names, line_literals, all_bound, line_clause, line_bindings}
 
--- why a line is refused, in the order in which the causes are asked; the last is told behind the last line
+-- Why a line is refused, in the order in which it is asked.
 pub data Cause : Type 0 where
+  -- a clause line isn't written as one; in a text, no line can be read
   text : Cause
+  -- the line's name is that of an earlier line
   order : Cause
+  -- a parent isn't the name of an earlier line
   unknown_parent : Cause
+  -- the problem has no such formula
   leaf : Cause
+  -- the form has no such clause, or not from this parent, or the items aren't those of the row
   clausification : Cause
+  -- what is bound isn't right for the parents
   binding : Cause
+  -- there is no such rule, or the items or the parents aren't those of its row, or its condition fails
   rule : Cause
+  -- the formula or the clause isn't what the rule gives
   conclusion : Cause
+  -- the clause or a binding has a symbol that the form doesn't have, or a name isn't new
   new_symbol : Cause
+  -- behind the last line: it isn't the empty clause
   no_empty_clause : Cause
 
 -- ---- what the source gives: a fault; or a step, and the formula or the clause that the line has to have

@@ -17,6 +17,10 @@ abbrev pub TextsHaveOneAnswer : Type 0
 TextsHaveOneAnswer =
     (problem : List Annotated) (bytes : List ℕ) (x y : Answer) → IsAnswerOn problem bytes x → IsAnswerOn problem bytes y → x ≡ y
 
+-- and none is without one
+abbrev pub TextsHaveSomeAnswer : Type 0
+TextsHaveSomeAnswer = (problem : List Annotated) (bytes : List ℕ) → ((x : Answer) → IsAnswerOn problem bytes x → ⊥) → ⊥
+
 -- a text that spells lines has the answer that these have
 abbrev pub SpelledLinesAreAnswered : Type 0
 SpelledLinesAreAnswered =

@@ -1,6 +1,6 @@
 // What derivations establish.
 
-ghost use Rattle.clausal_form.specs.DerivationLaws.{FormsHaveFunctions, TakenLinesAreSteps, AcceptedLinesRefute, TakenLinesAreGrounded, AcceptedDerivationsRefute, SpelledLinesAreAnswered, TextsHaveOneAnswer};
+ghost use Rattle.clausal_form.specs.DerivationLaws.{FormsHaveFunctions, TakenLinesAreSteps, AcceptedLinesRefute, TakenLinesAreGrounded, AcceptedDerivationsRefute, SpelledLinesAreAnswered, TextsHaveOneAnswer, TextsHaveSomeAnswer};
 
 use tptp_source::laws::one_source;
 
@@ -28,9 +28,10 @@ pub fn spelled_lines_are_answered()
     ensures { SpelledLinesAreAnswered }
 {}
 
-/// A text has at most one answer.
+/// A text has at most one answer, and none is without one.
 pub fn texts_have_one_answer()
-    ensures { TextsHaveOneAnswer }
+    ensures at_most_one { TextsHaveOneAnswer }
+    ensures some { TextsHaveSomeAnswer }
 {
     one_source();
 }
