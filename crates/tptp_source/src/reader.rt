@@ -85,7 +85,12 @@ impl<'a> Reader<'a> {
 
     /// Reads the parts behind the first one and a `:`.
     #[cycle(general_terms)]
-    fn joined(&self, alloc: Global, first: GeneralTerm, at: usize) -> Result<(GeneralTerm, usize), Halt>
+    fn joined(
+        &self,
+        alloc: Global,
+        first: GeneralTerm,
+        at: usize,
+    ) -> Result<(GeneralTerm, usize), Halt>
         ensures read { IfOk result (λ read. Leads self.now (parts_place (tree_of first ∷ [])) at (ended (tree_of read.0)) read.1) }
         ensures onward { IfOk result (λ read. at < read.1) }
         ensures halted { IfErr result (λ halt. Halts self.now (parts_place (tree_of first ∷ [])) at halt) }
@@ -112,8 +117,14 @@ impl<'a> Reader<'a> {
         let token = self.look(at)?;
         let next = at + 1;
         match Beginning::of(&token) {
-            Beginning::Variable => Ok((GeneralTerm::Variable(Text::from_slice(alloc, token.bytes)?), next)),
-            Beginning::Distinct => Ok((GeneralTerm::Distinct(Text::from_slice(alloc, token.bytes)?), next)),
+            Beginning::Variable => Ok((
+                GeneralTerm::Variable(Text::from_slice(alloc, token.bytes)?),
+                next,
+            )),
+            Beginning::Distinct => Ok((
+                GeneralTerm::Distinct(Text::from_slice(alloc, token.bytes)?),
+                next,
+            )),
             Beginning::Number => {
                 let number = Text::from_slice(alloc, token.bytes)?;
                 Ok((GeneralTerm::Number(NumberSign::Unsigned, number), next))
@@ -139,7 +150,12 @@ impl<'a> Reader<'a> {
     }
 
     /// Reads the number behind a sign.
-    fn number(&self, alloc: Global, sign: NumberSign, at: usize) -> Result<(GeneralTerm, usize), Halt>
+    fn number(
+        &self,
+        alloc: Global,
+        sign: NumberSign,
+        at: usize,
+    ) -> Result<(GeneralTerm, usize), Halt>
         ensures read { IfOk result (λ read. ReadsPart self.now (wants_number sign) at read.1 (tree_of read.0)) }
         ensures onward { IfOk result (λ read. at < read.1) }
         ensures halted { IfErr result (λ halt. Halts self.now (wants_number sign) at halt) }
