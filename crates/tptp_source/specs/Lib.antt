@@ -8,3 +8,4 @@ pub mod Machine
 pub mod Telling
 pub mod TermSources
 pub mod SourceShape
+pub mod Examples

@@ -8,6 +8,8 @@ mod reader;
 mod sign;
 mod source;
 mod term;
+#[cfg(test)]
+mod tests;
 mod whole;
 
 pub use sign::NumberSign;

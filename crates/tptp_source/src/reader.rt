@@ -71,6 +71,7 @@ impl<'a> Reader<'a> {
 
     /// Reads a term: one part, or more between `:`.
     #[cycle(general_terms)]
+    #[inline(always)]
     pub fn term(&self, alloc: Global, at: usize) -> Result<(GeneralTerm, usize), Halt>
         ensures read { IfOk result (λ read. ReadsTerm self.now at read.1 (tree_of read.0)) }
         ensures onward { IfOk result (λ read. at < read.1) }
@@ -184,6 +185,7 @@ impl<'a> Reader<'a> {
 
     /// Reads the arguments behind a word or a dollar word: terms in round brackets, or nothing where no bracket opens.
     #[cycle(general_terms)]
+    #[inline(always)]
     fn arguments(&self, alloc: Global, at: usize) -> Result<(GeneralTerms, usize), Halt>
         ensures read { IfOk result (λ read. ReadsArguments self.now at read.1 read.0) }
         ensures onward { IfOk result (λ read. at ≤ read.1) }
@@ -197,6 +199,7 @@ impl<'a> Reader<'a> {
 
     /// Reads the terms behind the bracket of a list, of which there may be none.
     #[cycle(general_terms)]
+    #[inline(always)]
     fn list(&self, alloc: Global, at: usize) -> Result<(GeneralTerms, usize), Halt>
         ensures read { IfOk result (λ read. ReadsPart self.now in_list at read.1 (bracketed list_opens read.0)) }
         ensures onward { IfOk result (λ read. at < read.1) }
