@@ -9,3 +9,4 @@ mod WholeReads
 mod PartTerms
 mod SourceLemmas
 mod SourceReads
+mod ItemLemmas

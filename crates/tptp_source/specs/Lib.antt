@@ -8,4 +8,5 @@ pub mod Machine
 pub mod Telling
 pub mod TermSources
 pub mod SourceShape
+pub mod Items
 pub mod Examples

@@ -2,6 +2,7 @@
 #![tactic(auto)]
 
 mod beginning;
+mod items;
 pub mod laws;
 mod part;
 mod reader;
@@ -12,6 +13,7 @@ mod term;
 mod tests;
 mod whole;
 
+pub use items::{SideName, number_of, numbers_of, side_of, signed_name_of};
 pub use sign::NumberSign;
 pub use source::{Source, read_source};
 pub use term::{GeneralTerm, GeneralTerms};
