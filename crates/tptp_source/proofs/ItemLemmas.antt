@@ -45,50 +45,9 @@ whole-value ds i value h e f low =
     let same : value_behind 0 ds ≡ value = e ∙ ap (value_behind value) f in
     rw (h, same, lt-ltb value (2 ^ 64) low) refl
 
-pub next-value :
-    (ds : List ℕ) (i value : ℕ)
-    → value_behind 0 ds ≡ value_behind value (drop i ds) → i < length ds
-    → value_behind 0 ds ≡ value_behind (value * 10 + (get_or ds i 0 - 48)) (drop (i + 1) ds)
-next-value ds i value e low = e ∙ at_drop_more (value_behind value) ds i 0 low
-
 -- ---- numbers of a list
 
 abbrev pub joined_numbers : Option (List ℕ) → Option (List ℕ) → Option (List ℕ)
 joined_numbers None ns = None
 joined_numbers (Some ms) None = None
 joined_numbers (Some ms) (Some ns) = Some (ms ++ ns)
-
-joined-more :
-    (ns : List ℕ) (n : ℕ) (ms : Option (List ℕ)) → joined_numbers (Some ns) (number_before (Some n) ms) ≡ joined_numbers (Some (ns ++ n ∷ [])) ms
-joined-more ns n None = refl
-joined-more ns n (Some ms) = ap (λ us. Some us) (sym (append_assoc ns (n ∷ []) ms))
-
-pub joined-nil : (ns : Option (List ℕ)) → ns ≡ joined_numbers (Some []) ns
-joined-nil None = refl
-joined-nil (Some ns) = refl
-
-pub numbers-more :
-    (all us vs : List GeneralTree) (t : GeneralTree) (ns more : List ℕ) (n : ℕ)
-    → all_numbers all ≡ joined_numbers (Some ns) (all_numbers us) → us ≡ t ∷ vs → Some n ≡ number_in t → more ≡ ns ++ n ∷ []
-    → all_numbers all ≡ joined_numbers (Some more) (all_numbers vs)
-numbers-more all us vs t ns more n e h f g =
-    e ∙ ap (λ o. joined_numbers (Some ns) (all_numbers o)) h
-    ∙ ap (λ o. joined_numbers (Some ns) (number_before o (all_numbers vs))) (sym f) ∙ joined-more ns n (all_numbers vs)
-    ∙ ap (λ us. joined_numbers (Some us) (all_numbers vs)) (sym g)
-
-pub numbers-none :
-    (all us vs : List GeneralTree) (t : GeneralTree) (ns : List ℕ)
-    → all_numbers all ≡ joined_numbers (Some ns) (all_numbers us) → us ≡ t ∷ vs → None ≡ number_in t
-    → (let o : Option (List ℕ) = None in o) ≡ all_numbers all
-numbers-none all us vs t ns e h f =
-    sym (e ∙ ap (λ o. joined_numbers (Some ns) (all_numbers o)) h
-    ∙ ap (λ o. joined_numbers (Some ns) (number_before o (all_numbers vs))) (sym f))
-
-pub numbers-all :
-    (all us : List GeneralTree) (ns : List ℕ)
-    → all_numbers all ≡ joined_numbers (Some ns) (all_numbers us) → us ≡ [] → Some ns ≡ all_numbers all
-numbers-all all us ns e h = sym (e ∙ ap (λ o. joined_numbers (Some ns) (all_numbers o)) h ∙ ap (λ us. Some us) (append-nil ns))
-
-pub numbers-first :
-    (all us : List GeneralTree) (ns : List ℕ) → ns ≡ [] → us ≡ all → all_numbers all ≡ joined_numbers (Some ns) (all_numbers us)
-numbers-first all us ns e h = joined-nil (all_numbers all) ∙ ap₂ (λ xs ys. joined_numbers (Some xs) (all_numbers ys)) (sym e) (sym h)

@@ -10,3 +10,4 @@ mod PartTerms
 mod SourceLemmas
 mod SourceReads
 mod ItemLemmas
+mod FormulaTerms

@@ -10,3 +10,4 @@ pub mod TermSources
 pub mod SourceShape
 pub mod Items
 pub mod Examples
+pub mod ItemExamples

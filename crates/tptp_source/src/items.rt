@@ -1,16 +1,19 @@
 // What the items of an inference say.
 
-ghost use Rattle.std.specs.Prelude.{◌≡◌, IfOk};
+ghost use Rattle.std.specs.Prelude.{◌≡◌, IfOk, map};
 ghost use Rattle.std.specs.Option.{option_map};
+ghost use Rattle.tptp_tree.specs.Shape.{term_of};
+ghost use Rattle.tptp_tree.specs.Term.{terms_of};
 ghost use Rattle.tptp_source.specs.General.{trees_of};
 ghost use Rattle.tptp_source.specs.Shape.{tree_of};
-ghost use Rattle.tptp_source.specs.Items.{side_in, side_by, signed_name_in, positive_by, number_in, unsigned_by, decimal_in, is_decimal as decimal_is, all_numbers};
+ghost use Rattle.tptp_source.specs.Items.{side_in, side_by, signed_name_in, positive_by, number_in, unsigned_by, decimal_in, is_decimal as decimal_is, all_numbers, term_in, terms_in};
 
 use crate::sign::NumberSign;
 use crate::term::{GeneralTerm, GeneralTerms};
 use plain_types::{Mem, Numbers};
 use std::alloc::Global;
 use tptp_token::are_digits;
+use tptp_tree::{TreeTerm, TreeTerms};
 
 /// The name of a side of a literal.
 #[derive(Clone, Copy, Debug, PartialEq, Eq)]
@@ -59,7 +62,11 @@ pub fn signed_name_of(term: &GeneralTerm) -> Option<(bool, &[u8])>
 fn positive_name<'a>(word: &'a [u8], arguments: &GeneralTerms) -> Option<(bool, &'a [u8])>
     ensures { option_map (λ signed. (signed.0, signed.1.now)) result ≡ positive_by word.now (trees_of arguments.now) }
 {
-    if arguments.is_empty() { Some((true, word)) } else { None }
+    if arguments.is_empty() {
+        Some((true, word))
+    } else {
+        None
+    }
 }
 
 /// The number that a term is: decimal digits without a sign and without a leading zero, below 2 ^ 64.
@@ -119,4 +126,38 @@ pub fn numbers_of(alloc: Global, terms: &GeneralTerms) -> Mem<Option<Numbers>>
         }
     }
     Ok(Some(numbers))
+}
+
+/// The term of formulas that a term is: a variable, or a word with such terms as arguments.
+#[cycle(formula_terms)]
+pub fn formula_term_of(alloc: Global, term: &GeneralTerm) -> Mem<Option<TreeTerm>>
+    ensures { IfOk result (λ read. option_map term_of read ≡ term_in (tree_of term.now)) }
+{
+    match term {
+        GeneralTerm::Variable(name) => Ok(Some(TreeTerm::Var(name.copy(alloc)?))),
+        GeneralTerm::Word(word, arguments) => {
+            let terms = formula_terms_of(alloc, arguments.as_slice())?;
+            match terms {
+                Some(terms) => Ok(Some(TreeTerm::App(word.copy(alloc)?, terms))),
+                None => Ok(None),
+            }
+        }
+        _ => Ok(None),
+    }
+}
+
+/// The terms of formulas that terms are, where each is one.
+#[cycle(formula_terms)]
+pub fn formula_terms_of(alloc: Global, terms: &[GeneralTerm]) -> Mem<Option<TreeTerms>>
+    ensures { IfOk result (λ read. option_map terms_of read ≡ terms_in (trees_of (map tree_of terms.now))) }
+{
+    let mut made = TreeTerms::new(alloc);
+    for term in terms {
+        let read = formula_term_of(alloc, term)?;
+        match read {
+            Some(term) => made.push(term)?,
+            None => return Ok(None),
+        }
+    }
+    Ok(Some(made))
 }

@@ -4,6 +4,7 @@ ghost use Rattle.std.specs.Prelude.{◌≡◌, ◌↔◌, List, Some};
 ghost use Rattle.tptp_token.specs.Lexemes.{Lexeme};
 ghost use Rattle.tptp_source.specs.Examples.{PhraseTokens, PhraseMeaning, SignedNames, JoinedParts, OneWord, ArgumentsBehindTilde, EmptyArguments, OtherBracket, TwoTerms, NoPartBehindColon, FileSource, InferenceSource, EmptyLists, Definitions, ParentWithArguments, SignedFileName, FractionAsName, DefinitionWithArguments};
 ghost use Rattle.tptp_source.specs.General.{GeneralTree};
+ghost use Rattle.tptp_source.specs.ItemExamples.{Sides, SignedNames as SignedItems, Decimals, NoDecimals, NumberLists, FormulaTerms};
 ghost use Rattle.tptp_source.specs.Machine.{read};
 ghost use Rattle.tptp_source.specs.Sources.{SourceTree, IsSource, SpellsSource};
 ghost use Rattle.tptp_source.specs.Spelling.{SpellsGeneral};
@@ -33,6 +34,16 @@ pub fn source_examples()
     ensures signed_file_name { SignedFileName }
     ensures fraction_as_name { FractionAsName }
     ensures definition_with_arguments { DefinitionWithArguments }
+{}
+
+/// Worked examples of what items of an inference say.
+pub fn item_examples()
+    ensures sides { Sides }
+    ensures signed_names { SignedItems }
+    ensures decimals { Decimals }
+    ensures no_decimals { NoDecimals }
+    ensures number_lists { NumberLists }
+    ensures formula_terms { FormulaTerms }
 {}
 
 /// The machine reads tokens as a term exactly where they spell it.

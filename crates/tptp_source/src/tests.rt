@@ -62,8 +62,14 @@ const ROWS: &[(&[u8], &[u8])] = &[
     (b"inference(r,[],[])", b"inference"),
     (b"inference(r,[],[f(a)])", b"none"),
     (b"inference(r,x,[a])", b"none"),
-    (b"inference(chain,[status(thm),pivots([spl0,~spl1])],[1,2,3])", b"inference 1 2 3++"),
-    (b"introduced(definition,[component(spl0)])", b"component spl0"),
+    (
+        b"inference(chain,[status(thm),pivots([spl0,~spl1])],[1,2,3])",
+        b"inference 1 2 3++",
+    ),
+    (
+        b"introduced(definition,[component(spl0)])",
+        b"component spl0",
+    ),
     (b"introduced(definition,[opposite(spl0)])", b"opposite spl0"),
     (b"introduced(definition,[component(spl0),x])", b"none"),
     (b"introduced(axiom,[component(spl0)])", b"none"),
@@ -79,6 +85,34 @@ fn reads_sources(rt: HostRuntime) -> Result<(), Fail> {
         let page = shown(rt.alloc(), read)?;
         assert!(rt; page.as_slice() == *wanted);
     }
+    Ok(())
+}
+
+/// The items of an inference, as a text spells them.
+fn items_of_text(alloc: Global, text: &[u8]) -> Mem<GeneralTerms> {
+    match source_of_text(alloc, text)? {
+        Some(Source::Inference { items, .. }) => Ok(items),
+        _ => Ok(GeneralTerms::new(alloc)),
+    }
+}
+
+#[test]
+fn reads_items(rt: HostRuntime) -> Result<(), Fail> {
+    let numbers = items_of_text(rt.alloc(), b"inference(r,[7,0,18446744073709551615],[])")?;
+    let Some(found) = numbers_of(rt.alloc(), &numbers)? else {
+        return Err(Fail::new("numbers"));
+    };
+    assert!(rt; found.as_slice() == [7, 0, u64::MAX].as_slice());
+    let items = items_of_text(rt.alloc(), b"inference(r,[~spl0,right,f(X,'a')],[])")?;
+    assert!(rt; numbers_of(rt.alloc(), &items)?.is_none());
+    let terms = items.into_vec();
+    assert!(rt; terms.len() == 3);
+    assert!(rt;
+        matches!(signed_name_of(&terms[0]), Some((false, name)) if name == b"spl0".as_slice())
+    );
+    assert!(rt; matches!(side_of(&terms[1]), Some(SideName::Right)));
+    assert!(rt; formula_term_of(rt.alloc(), &terms[0])?.is_none());
+    assert!(rt; formula_terms_of(rt.alloc(), &terms[1..])?.is_some_and(|terms| terms.len() == 2));
     Ok(())
 }
 
