@@ -1,8 +1,7 @@
 -- The machine reads each phrase as its term.
-use Rattle.std.proofs.Common.{append_assoc, append-nil, ◌≡◌, ℕ, false, List, [], ◌∷◌, ◌++◌, codes, None, Some, Option, refl, sym, ap, ◌∙◌, subst}
-use Rattle.tptp_token.specs.Words.{Word, bare, quoted}
-use Rattle.tptp_token.specs.Lexemes.{Lexeme, lexeme}
-use Rattle.tptp_token.specs.declared.token.Kind.TheVariants.{Mark}
+use Rattle.std.proofs.Common.{append_assoc, append-nil, ◌≡◌, ℕ, false, List, [], ◌∷◌, ◌++◌, codes, Some, Option, refl, sym, ap, ◌∙◌, subst}
+use Rattle.tptp_token.specs.Words.{bare, quoted}
+use Rattle.tptp_token.specs.Lexemes.{Lexeme}
 use Rattle.tptp_source.specs.declared.sign.NumberSign.TheVariants.{Unsigned, Plus, Minus}
 use Rattle.tptp_source.specs.General.{GeneralTree, whole}
 use Rattle.tptp_source.specs.Spelling.{PartPhrase, variable_part, word_part, dollar_part, number_part, distinct_part, negated_part, list_part, PartPhrases, no_parts, part_then, GeneralPhrase, parts, GeneralPhrases, no_phrases, phrase_then, part_lexemes, arguments_lexemes, items_lexemes, more_lexemes, general_lexemes, more_parts_lexemes, part_meant, parts_meant, general_meant, phrases_meant, SpellsGeneral}

@@ -1,15 +1,14 @@
 -- Parts between `:`, and terms in brackets.
-use Rattle.std.proofs.Common.{append_assoc, ◌≡◌, ◌<◌, ◌≤◌, ◌+◌, ℕ, suc, Bool, true, false, List, [], ◌∷◌, ◌++◌, length, drop, None, Some, codes, refl, sym, ap, ◌∙◌, subst, arith}
-use Rattle.std.specs.Prelude.{if◌then◌else◌}
+use Rattle.std.proofs.Common.{◌≡◌, ◌<◌, ◌≤◌, ◌+◌, ℕ, false, List, [], ◌∷◌, ◌++◌, length, drop, None, Some, codes, refl, sym, ap, ◌∙◌, subst, arith}
 use Rattle.tptp_token.specs.Lexemes.{Lexeme, lexeme, is_mark}
 use Rattle.tptp_token.specs.declared.token.Kind.TheVariants.{Mark}
 use Rattle.tptp_source.specs.General.{GeneralTree, joined, trees_of, whole}
-use Rattle.tptp_source.specs.Machine.{Opener, word_opens, dollar_opens, list_opens, bracketed, closing, level, State, wants, may_open, in_list, has, ends, Level, step, begins_with}
-use Rattle.tptp_source.specs.Telling.{lexemes, IsNext, Leads, Halts, Place, behind, ReadsPart, ReadsTerm, term_place, ended, parts_place, parts_behind, items_place, ReadsItems, HaltsItems, ReadsArguments, HaltsArguments}
+use Rattle.tptp_source.specs.Machine.{Opener, word_opens, dollar_opens, list_opens, bracketed, closing, level, wants, may_open, in_list, has, ends, Level, step, begins_with}
+use Rattle.tptp_source.specs.Telling.{lexemes, IsNext, Leads, Halts, behind, ReadsPart, ReadsTerm, term_place, ended, parts_place, parts_behind, items_place, ReadsItems, HaltsItems, ReadsArguments, HaltsArguments}
 use Rattle.tptp_source.specs.declared.reader.Reader.{Reader}
 use Rattle.tptp_source.specs.declared.reader.Halt.{Halt}
 use Rattle.tptp_source.specs.declared.reader.Halt.TheVariants.{NoTerm}
-use Rattle.tptp_source.proofs.RunLemmas.{next-leads, next-halts, out-halts, unmarked-leads, unmarked-halts, leads-then, halts-after}
+use Rattle.tptp_source.proofs.RunLemmas.{next-leads, unmarked-leads, unmarked-halts, leads-then, halts-after}
 
 -- ---- one part
 
@@ -182,11 +181,13 @@ pub item-halts :
     (close : List ℕ) (r : Reader) (at next : ℕ) (items : List GeneralTree) (halt : Halt)
     → ItemsSoFar close r at next items → IsNext r next (lexeme Mark (codes ",")) → Halts r term_place (next + 1) halt
     → HaltsItems close r at halt
-item-halts close r at next items halt s n h = record { by = λ o g.
-    halts-after r (items_place o []) (λ before levels. ends s.last (level o before s.others ∷ levels)) at next halt (s.leads o g)
-    (halts-after r (λ before levels. ends s.last (level o before s.others ∷ levels)) (items_place o (s.others ++ s.last ∷ [])) next (next + 1) halt
-    (comma-leads r o next s.last s.others n)
-    (record { by = λ before levels. h.by [] (level o before (s.others ++ s.last ∷ []) ∷ levels) })) }
+item-halts close r at next items halt s n h = record {
+  by = λ o g.
+      halts-after r (items_place o []) (λ before levels. ends s.last (level o before s.others ∷ levels)) at next halt (s.leads o g)
+      (halts-after r (λ before levels. ends s.last (level o before s.others ∷ levels)) (items_place o (s.others ++ s.last ∷ [])) next (next + 1) halt
+      (comma-leads r o next s.last s.others n)
+      (record { by = λ before levels. h.by [] (level o before (s.others ++ s.last ∷ []) ∷ levels) }));
+}
 
 pub first-halts :
     (close : List ℕ) (r : Reader) (at : ℕ) (halt : Halt) → Halts r term_place at halt → HaltsItems close r at halt
@@ -211,9 +212,11 @@ close-leads close r o at t items all g n e =
 pub items-read :
     (close : List ℕ) (r : Reader) (at next : ℕ) (items : List GeneralTree)
     → ItemsSoFar close r at next items → IsNext r next (lexeme Mark close) → ReadsItems close r at (next + 1) items
-items-read close r at next items s n = record { by = λ o g.
-    leads-then r (items_place o []) (λ before levels. ends s.last (level o before s.others ∷ levels)) (behind (bracketed o items)) at next (next + 1)
-    (s.leads o g) (close-leads close r o next s.last s.others items g n s.are) }
+items-read close r at next items s n = record {
+  by = λ o g.
+      leads-then r (items_place o []) (λ before levels. ends s.last (level o before s.others ∷ levels)) (behind (bracketed o items)) at next (next + 1)
+      (s.leads o g) (close-leads close r o next s.last s.others items g n s.are);
+}
 
 unclosed-step :
     (close : List ℕ) (o : Opener) (t : GeneralTree) (before items : List GeneralTree) (levels : List Level) (l : Lexeme)
@@ -226,10 +229,12 @@ pub unclosed-halts :
     (close : List ℕ) (r : Reader) (at next : ℕ) (items : List GeneralTree) (halt : Halt)
     → ItemsSoFar close r at next items → begins_with (codes ",") (drop next (lexemes r)) ≡ false
     → begins_with close (drop next (lexemes r)) ≡ false → halt ≡ NoTerm → HaltsItems close r at halt
-unclosed-halts close r at next items halt s h k e = record { by = λ o g.
-    halts-after r (items_place o []) (λ before levels. ends s.last (level o before s.others ∷ levels)) at next halt (s.leads o g)
-    (unmarked-halts r next (codes ",") close (λ before levels. ends s.last (level o before s.others ∷ levels)) halt h k
-    (λ before levels l a b. unclosed-step close o s.last before s.others levels l g a b) (λ before levels. refl) e) }
+unclosed-halts close r at next items halt s h k e = record {
+  by = λ o g.
+      halts-after r (items_place o []) (λ before levels. ends s.last (level o before s.others ∷ levels)) at next halt (s.leads o g)
+      (unmarked-halts r next (codes ",") close (λ before levels. ends s.last (level o before s.others ∷ levels)) halt h k
+      (λ before levels l a b. unclosed-step close o s.last before s.others levels l g a b) (λ before levels. refl) e);
+}
 
 -- ---- arguments and lists
 
@@ -241,8 +246,10 @@ pub arguments-read :
     (r : Reader) (at next : ℕ) (ts : List GeneralTree)
     → IsNext r at (lexeme Mark (codes "(")) → ReadsItems (codes ")") r (at + 1) next ts
     → ReadsArguments r at next ts
-arguments-read r at next ts n h = record { by = λ o g.
-    leads-then r (may_open o) (items_place o []) (behind (bracketed o ts)) at (at + 1) next (open-leads r o at n) (h.by o g) }
+arguments-read r at next ts n h = record {
+  by = λ o g.
+      leads-then r (may_open o) (items_place o []) (behind (bracketed o ts)) at (at + 1) next (open-leads r o at n) (h.by o g);
+}
 
 pub arguments-halt :
     (r : Reader) (at : ℕ) (halt : Halt)
@@ -254,9 +261,11 @@ pub no_arguments-read :
     (r : Reader) (at : ℕ) (ts : List GeneralTree)
     → begins_with (codes "(") (drop at (lexemes r)) ≡ false → ts ≡ []
     → ReadsArguments r at at ts
-no_arguments-read r at ts h e = record { by = λ o g.
-    unmarked-leads r at (codes "(") (may_open o) (behind (bracketed o ts)) h
-    (λ before levels t k. rw (k, e) refl) (λ before levels. rw e refl) }
+no_arguments-read r at ts h e = record {
+  by = λ o g.
+      unmarked-leads r at (codes "(") (may_open o) (behind (bracketed o ts)) h
+      (λ before levels t k. rw (k, e) refl) (λ before levels. rw e refl);
+}
 
 pub empty_list-read :
     (r : Reader) (at : ℕ) (ts : List GeneralTree)

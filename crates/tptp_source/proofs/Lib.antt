@@ -9,3 +9,5 @@ mod WholeReads
 mod PartTerms
 mod SourceLemmas
 mod SourceReads
+mod ItemLemmas
+mod FormulaTerms

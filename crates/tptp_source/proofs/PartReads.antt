@@ -1,14 +1,13 @@
 -- Parts of general terms.
-use Rattle.std.proofs.Common.{◌≡◌, ◌<◌, ◌+◌, ℕ, Bool, true, false, List, [], ◌∷◌, ◌++◌, drop, None, Some, codes, refl, sym, ap, ◌∙◌}
-use Rattle.std.specs.Prelude.{if◌then◌else◌}
+use Rattle.std.proofs.Common.{◌≡◌, ◌+◌, ℕ, true, false, List, [], ◌∷◌, ◌++◌, drop, Some, refl, sym, ap, ◌∙◌}
 use Rattle.tptp_token.specs.Words.{is_word, token_name}
-use Rattle.tptp_token.specs.Lexemes.{Lexeme, lexeme}
+use Rattle.tptp_token.specs.Lexemes.{Lexeme}
 use Rattle.tptp_source.specs.declared.sign.NumberSign.{NumberSign}
 use Rattle.tptp_source.specs.declared.sign.NumberSign.TheVariants.{Unsigned}
 use Rattle.tptp_source.specs.declared.beginning.Beginning.{Beginning}
 use Rattle.tptp_source.specs.declared.beginning.Beginning.TheVariants.{Variable as VariableFirst, Word as WordFirst, Dollar as DollarFirst, Number as NumberFirst, Sign as SignFirst, Distinct as DistinctFirst, Tilde, Bracket, Nothing}
 use Rattle.tptp_source.specs.General.{GeneralTree, variable, number, distinct, negated}
-use Rattle.tptp_source.specs.Machine.{Opener, word_opens, dollar_opens, wants, may_open, in_list, wants_word, wants_number, has, Level, part_step, beginning_of, is_number, State}
+use Rattle.tptp_source.specs.Machine.{word_opens, dollar_opens, wants, may_open, in_list, wants_word, wants_number, has, Level, part_step, beginning_of, is_number}
 use Rattle.tptp_source.specs.Telling.{lexemes, IsNext, Leads, Halts, Place, behind, ReadsPart}
 use Rattle.tptp_source.specs.declared.reader.Reader.{Reader}
 use Rattle.tptp_source.specs.declared.reader.Halt.{Halt}

@@ -1,5 +1,5 @@
 -- What a general term has in it.
-use Rattle.std.proofs.Common.{append-nil, append_assoc, ◌≡◌, ℕ, Bool, true, false, List, [], ◌∷◌, ◌++◌, map, None, Some, Option, refl, sym, ap, ap₂, ◌∙◌, subst}
+use Rattle.std.proofs.Common.{append-nil, append_assoc, ◌≡◌, ℕ, List, [], ◌∷◌, ◌++◌, None, Some, Option, refl, sym, ap, ap₂, ◌∙◌}
 use Rattle.tptp_source.specs.General.{GeneralTree, GeneralTrees, no_trees, tree_then, trees_of, list_of_trees}
 use Rattle.tptp_source.specs.Sources.{bare_name, name_in, name_before, names_in}
 

@@ -2,7 +2,7 @@
 use Rattle.std.proofs.Common.{append_assoc, append-nil, ◌≡◌, ℕ, Bool, true, false, List, [], ◌∷◌, ◌++◌, codes, None, Some, Option, refl, sym, ap, ap₂, ◌∙◌, subst}
 use Rattle.std.specs.Prelude.{if◌then◌else◌}
 use Rattle.tptp_source.proofs.RunLemmas.{some-same}
-use Rattle.tptp_token.specs.Words.{Word, bare, quoted, name_of, word_of, is_word, token_name}
+use Rattle.tptp_token.specs.Words.{name_of, word_of, is_word, token_name}
 use Rattle.tptp_token.specs.Lexemes.{Lexeme, lexeme, word_lexeme, is_mark}
 use Rattle.tptp_token.specs.declared.token.Kind.{Kind}
 use Rattle.tptp_token.specs.declared.token.Kind.TheVariants.{Lower, Variable, Quoted, Distinct, Dollar, Number, Connective, Mark, Other}
@@ -11,7 +11,7 @@ use Rattle.tptp_source.specs.declared.sign.NumberSign.TheVariants.{Unsigned, Plu
 use Rattle.tptp_source.specs.declared.beginning.Beginning.{Beginning}
 use Rattle.tptp_source.specs.declared.beginning.Beginning.TheVariants.{Variable as VariableFirst, Word as WordFirst, Dollar as DollarFirst, Number as NumberFirst, Sign as SignFirst, Distinct as DistinctFirst, Tilde, Bracket, Nothing}
 use Rattle.tptp_source.specs.General.{GeneralTree, number, negated, whole}
-use Rattle.tptp_source.specs.Spelling.{PartPhrase, variable_part, word_part, dollar_part, number_part, distinct_part, negated_part, list_part, PartPhrases, no_parts, part_then, GeneralPhrase, parts, GeneralPhrases, no_phrases, phrase_then, number_lexemes, part_lexemes, arguments_lexemes, items_lexemes, more_lexemes, general_lexemes, more_parts_lexemes, part_meant, parts_meant, general_meant, phrases_meant, SpellsGeneral}
+use Rattle.tptp_source.specs.Spelling.{variable_part, word_part, dollar_part, number_part, distinct_part, negated_part, list_part, PartPhrases, no_parts, part_then, parts, GeneralPhrases, no_phrases, phrase_then, part_lexemes, arguments_lexemes, items_lexemes, more_lexemes, more_parts_lexemes, part_meant, parts_meant, general_meant, phrases_meant, SpellsGeneral}
 use Rattle.tptp_source.specs.Machine.{Opener, word_opens, dollar_opens, list_opens, bracketed, closing, Level, level, State, wants, may_open, in_list, wants_word, wants_number, has, ends, beginning_of, is_number, part_step, wants_step, ends_step, has_step, may_open_step, in_list_step, word_step, number_step, step, outermost, run, read}
 use Rattle.tptp_source.proofs.TokenTests.{mark-same}
 use Rattle.tptp_source.proofs.Begun.{begun}
@@ -110,6 +110,7 @@ ends-completes u (v ∷ levels) l ls t all e =
           (ap (λ us. whole ((v.before ++ bracketed v.opener us ∷ []) ++ parts_meant f.after.1))
           (append_assoc v.items (u ∷ []) (general_meant (parts f.phrase f.others) ∷ phrases_meant f.after.0))) f.after.4,
     )
+
     closed :
         is_mark (closing v.opener) l ≡ true
         → Completes (has (v.before ++ bracketed v.opener (v.items ++ u ∷ []) ∷ []) levels) ls t
@@ -174,12 +175,14 @@ wants-completes before levels l ls t all e = by (beginning_of l) refl e
   where
     Goal : Type 0
     Goal = Followed part_lexemes (λ p. before ++ part_meant p ∷ []) levels (l ∷ ls) t
+
     signed : (sign : NumberSign) → beginning_of l ≡ SignFirst sign → Completes (wants_number sign before levels) ls t → Followed part_lexemes (λ p. before ++ part_meant p ∷ []) levels (l ∷ ls) t
     signed Unsigned h f = absurd (begun l (SignFirst Unsigned) h)
     signed Plus h f =
         record { phrase = number_part Plus f.phrase; others = f.others; rest = f.rest; spelled = ap₂ (λ x xs. x ∷ xs) (begun l (SignFirst Plus) h) f.spelled; after = f.after }
     signed Minus h f =
         record { phrase = number_part Minus f.phrase; others = f.others; rest = f.rest; spelled = ap₂ (λ x xs. x ∷ xs) (begun l (SignFirst Minus) h) f.spelled; after = f.after }
+
     by : (b : Beginning) → beginning_of l ≡ b → run (part_step b l before levels) ls ≡ Some t → Followed part_lexemes (λ p. before ++ part_meant p ∷ []) levels (l ∷ ls) t
     by VariableFirst h g =
         let f = all (has (before ++ part_meant (variable_part l.bytes) ∷ []) levels) g in

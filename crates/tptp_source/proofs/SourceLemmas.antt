@@ -3,14 +3,10 @@ use Rattle.std.proofs.Common.{◌≡◌, ℕ, Bool, true, false, List, [], ◌�
 use Rattle.std.specs.Prelude.{if◌then◌else◌}
 use Rattle.std.specs.Option.{option_map, option_and_then}
 use Rattle.std.proofs.lemmas.Slice.Eq.{bytes_eq-Decides}
-use Rattle.tptp_token.specs.Lexemes.{Lexeme}
-use Rattle.tptp_source.specs.declared.sign.NumberSign.{NumberSign}
-use Rattle.tptp_source.specs.General.{GeneralTree, variable, word, dollar, number, distinct, negated, listed, joined, GeneralTrees, no_trees, tree_then, trees_of, list_of_trees}
-use Rattle.tptp_source.specs.Spelling.{SpellsGeneral}
-use Rattle.tptp_source.specs.Sources.{name_in, names_in, SourceTree, file_source, inference_source, component_source, opposite_source, word_of, list_of, definition_by, IsSource, SpellsSource}
-use Rattle.tptp_source.specs.TermSources.{one_in, Pair, two_in, Triple, three_in, items_in, Applied, applied_in, file_by, inference_from, inference_by, way_by, definition_by_word, definition_in, no_arguments, is_definition, introduced_by, source_by, source_in}
+use Rattle.tptp_source.specs.General.{GeneralTree, variable, word, dollar, number, distinct, negated, listed, joined, trees_of, list_of_trees}
+use Rattle.tptp_source.specs.Sources.{name_in, names_in, SourceTree, file_source, inference_source, component_source, opposite_source, word_of, list_of, IsSource}
+use Rattle.tptp_source.specs.TermSources.{one_in, two_in, three_in, items_in, Applied, applied_in, file_by, inference_from, inference_by, way_by, definition_by_word, definition_in, no_arguments, is_definition, introduced_by, source_by, source_in}
 use Rattle.tptp_source.proofs.PartTerms.{list-trees, trees-list}
-use Rattle.tptp_source.proofs.WholeReads.{one-term}
 
 -- ---- a source by its shape is the one of the function
 
@@ -130,9 +126,12 @@ inference-by-shape f a b c s e (Some items) (Some names) g h k = by (names_in na
     by : (o : Option (List (List ℕ))) → names_in names ≡ o → option_map (inference_source a items) o ≡ Some s → IsSource (word_of f (a ∷ b ∷ c ∷ [])) s
     by None m l = no_source s _ l
     by (Some parents) m l =
-        subst (λ (x : SourceTree). IsSource (word_of f (a ∷ b ∷ c ∷ [])) x) (some-source (inference_source a items parents) s l)
-        (names, m, same-word f (codes "inference") (a ∷ b ∷ c ∷ []) e
-        ∙ ap₂ (λ x y. word_of (codes "inference") (a ∷ x ∷ y ∷ [])) (listed-is b items g) (listed-is c names h))
+        subst (λ (x : SourceTree). IsSource (word_of f (a ∷ b ∷ c ∷ [])) x) (some-source (inference_source a items parents) s l) (
+          names,
+          m,
+          same-word f (codes "inference") (a ∷ b ∷ c ∷ []) e
+              ∙ ap₂ (λ x y. word_of (codes "inference") (a ∷ x ∷ y ∷ [])) (listed-is b items g) (listed-is c names h),
+        )
 
 inference-shape :
     (f : List ℕ) (ts : List GeneralTree) (s : SourceTree) → f ≡ codes "inference" → option_and_then inference_by (three_in ts) ≡ Some s
@@ -164,6 +163,7 @@ definition-is t e = by (applied_in t) refl e
     bare a h false f g = absurd (let x : false ≡ true = g in cc)
     bare a h true f g =
         applied-is t a h ∙ ap₂ word_of ((bytes_eq-Decides a.0 (codes "definition")).0 f) (none-is a.1 g)
+
     by : (o : Option Applied) → applied_in t ≡ o → is_definition o ≡ true → t ≡ word_of (codes "definition") []
     by None h g = absurd (let x : false ≡ true = g in cc)
     by (Some a) h g = bare a h (bytes_eq a.0 (codes "definition")) refl g
@@ -208,6 +208,7 @@ item-shape t s h = by (items_in t) refl h
     single [] e g = no_source s _ g
     single (d ∷ []) e g = (d, e, definition-shape d s g)
     single (d ∷ u ∷ us) e g = no_source s _ g
+
     by :
         (o : Option (List GeneralTree)) → items_in t ≡ o → option_and_then definition_in (option_and_then one_in o) ≡ Some s
         → (d : GeneralTree) × (t ≡ list_of (d ∷ [])) × IsSource (introduced d) s

@@ -1,5 +1,5 @@
 -- What the function's source says of all tokens.
-use Rattle.std.proofs.Common.{◌≡◌, List, None, Some, Option, Result, Ok, Err, refl, sym, ap, ◌∙◌, subst}
+use Rattle.std.proofs.Common.{◌≡◌, List, None, Some, Option, Result, Ok, Err, sym, ap, ◌∙◌, subst}
 use Rattle.std.specs.Prelude.{IfOk, IfSome, IfNone}
 use Rattle.std.specs.Option.{option_map}
 use Rattle.tptp_token.specs.Lexemes.{Lexeme}

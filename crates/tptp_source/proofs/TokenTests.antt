@@ -1,8 +1,8 @@
 -- What the tests of tokens say.
-use Rattle.std.proofs.Common.{◌≡◌, ℕ, Bool, true, false, ◌==◌, List, [], ◌∷◌, refl, ap₂, sym, bytes_eq}
+use Rattle.std.proofs.Common.{◌≡◌, ℕ, true, false, ◌==◌, List, refl, ap₂, sym, bytes_eq}
 use Rattle.std.proofs.lemmas.Bool.{and_parts}
 use Rattle.std.proofs.lemmas.Slice.Eq.{bytes_eq-Decides}
-use Rattle.tptp_token.specs.Lexemes.{Lexeme, lexeme, kind_place, is_lexeme, is_mark}
+use Rattle.tptp_token.specs.Lexemes.{Lexeme, lexeme, kind_place, is_mark}
 use Rattle.tptp_token.specs.declared.token.Kind.{Kind}
 use Rattle.tptp_token.specs.declared.token.Kind.TheVariants.{Lower, Variable, Quoted, Distinct, Dollar, Number, Connective, Mark, Other}
 

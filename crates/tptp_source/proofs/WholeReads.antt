@@ -1,10 +1,10 @@
 -- What the machine's answer says of all tokens.
-use Rattle.std.proofs.Common.{◌≡◌, ◌<◌, ◌≤◌, ℕ, suc, List, [], ◌∷◌, length, map, drop, codes, None, Some, Option, refl, sym, ap, ◌∙◌}
+use Rattle.std.proofs.Common.{◌≡◌, ◌<◌, ◌≤◌, ℕ, List, [], length, None, Some, Option, refl, sym, ap, ◌∙◌}
 use Rattle.tptp_source.proofs.RunLemmas.{some-same}
 use Rattle.std.proofs.Math.ListN.{drop_of_length-le}
 use Rattle.std.proofs.Math.Seq.{drop-cons}
 use Rattle.std.proofs.lemmas.List.{length-map}
-use Rattle.tptp_token.specs.Lexemes.{Lexeme, lexeme, lexeme_at, lexemes_of}
+use Rattle.tptp_token.specs.Lexemes.{Lexeme, lexeme, lexeme_at}
 use Rattle.tptp_token.specs.declared.token.Kind.TheVariants.{Mark}
 use Rattle.tptp_source.specs.General.{GeneralTree}
 use Rattle.tptp_source.specs.Spelling.{SpellsGeneral}

@@ -8,3 +8,6 @@ pub mod Machine
 pub mod Telling
 pub mod TermSources
 pub mod SourceShape
+pub mod Items
+pub mod Examples
+pub mod ItemExamples

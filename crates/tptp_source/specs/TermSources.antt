@@ -1,7 +1,7 @@
 -- The source that a general term is, as a function.
 use Rattle.std.specs.Prelude.{ℕ, Bool, true, false, List, [], ◌∷◌, codes, bytes_eq, Option, None, Some, if◌then◌else◌}
 use Rattle.std.specs.Option.{option_map, option_and_then}
-use Rattle.tptp_source.specs.General.{GeneralTree, variable, word, dollar, number, distinct, negated, listed, joined, GeneralTrees, list_of_trees}
+use Rattle.tptp_source.specs.General.{GeneralTree, variable, word, dollar, number, distinct, negated, listed, joined, list_of_trees}
 use Rattle.tptp_source.specs.Sources.{name_in, names_in, SourceTree, file_source, inference_source, component_source, opposite_source}
 
 -- ---- lists of one, two and three terms

@@ -2,14 +2,20 @@
 #![tactic(auto)]
 
 mod beginning;
+mod items;
 pub mod laws;
 mod part;
 mod reader;
 mod sign;
 mod source;
 mod term;
+#[cfg(test)]
+mod tests;
 mod whole;
 
+pub use items::{
+    SideName, formula_term_of, formula_terms_of, number_of, numbers_of, side_of, signed_name_of,
+};
 pub use sign::NumberSign;
 pub use source::{Source, read_source};
 pub use term::{GeneralTerm, GeneralTerms};

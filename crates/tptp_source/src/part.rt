@@ -100,7 +100,11 @@ pub fn into_three(terms: GeneralTerms) -> Option<(GeneralTerm, GeneralTerm, Gene
 fn bare_name(name: Text, arguments: &GeneralTerms) -> Option<Text>
     ensures { result ≡ name_without name (trees_of arguments.now) }
 {
-    if arguments.is_empty() { Some(name) } else { None }
+    if arguments.is_empty() {
+        Some(name)
+    } else {
+        None
+    }
 }
 
 /// The name that a number is: digits alone.

@@ -71,6 +71,7 @@ impl<'a> Reader<'a> {
 
     /// Reads a term: one part, or more between `:`.
     #[cycle(general_terms)]
+    #[inline(always)]
     pub fn term(&self, alloc: Global, at: usize) -> Result<(GeneralTerm, usize), Halt>
         ensures read { IfOk result (λ read. ReadsTerm self.now at read.1 (tree_of read.0)) }
         ensures onward { IfOk result (λ read. at < read.1) }
@@ -85,7 +86,12 @@ impl<'a> Reader<'a> {
 
     /// Reads the parts behind the first one and a `:`.
     #[cycle(general_terms)]
-    fn joined(&self, alloc: Global, first: GeneralTerm, at: usize) -> Result<(GeneralTerm, usize), Halt>
+    fn joined(
+        &self,
+        alloc: Global,
+        first: GeneralTerm,
+        at: usize,
+    ) -> Result<(GeneralTerm, usize), Halt>
         ensures read { IfOk result (λ read. Leads self.now (parts_place (tree_of first ∷ [])) at (ended (tree_of read.0)) read.1) }
         ensures onward { IfOk result (λ read. at < read.1) }
         ensures halted { IfErr result (λ halt. Halts self.now (parts_place (tree_of first ∷ [])) at halt) }
@@ -112,8 +118,14 @@ impl<'a> Reader<'a> {
         let token = self.look(at)?;
         let next = at + 1;
         match Beginning::of(&token) {
-            Beginning::Variable => Ok((GeneralTerm::Variable(Text::from_slice(alloc, token.bytes)?), next)),
-            Beginning::Distinct => Ok((GeneralTerm::Distinct(Text::from_slice(alloc, token.bytes)?), next)),
+            Beginning::Variable => Ok((
+                GeneralTerm::Variable(Text::from_slice(alloc, token.bytes)?),
+                next,
+            )),
+            Beginning::Distinct => Ok((
+                GeneralTerm::Distinct(Text::from_slice(alloc, token.bytes)?),
+                next,
+            )),
             Beginning::Number => {
                 let number = Text::from_slice(alloc, token.bytes)?;
                 Ok((GeneralTerm::Number(NumberSign::Unsigned, number), next))
@@ -139,7 +151,12 @@ impl<'a> Reader<'a> {
     }
 
     /// Reads the number behind a sign.
-    fn number(&self, alloc: Global, sign: NumberSign, at: usize) -> Result<(GeneralTerm, usize), Halt>
+    fn number(
+        &self,
+        alloc: Global,
+        sign: NumberSign,
+        at: usize,
+    ) -> Result<(GeneralTerm, usize), Halt>
         ensures read { IfOk result (λ read. ReadsPart self.now (wants_number sign) at read.1 (tree_of read.0)) }
         ensures onward { IfOk result (λ read. at < read.1) }
         ensures halted { IfErr result (λ halt. Halts self.now (wants_number sign) at halt) }
@@ -168,6 +185,7 @@ impl<'a> Reader<'a> {
 
     /// Reads the arguments behind a word or a dollar word: terms in round brackets, or nothing where no bracket opens.
     #[cycle(general_terms)]
+    #[inline(always)]
     fn arguments(&self, alloc: Global, at: usize) -> Result<(GeneralTerms, usize), Halt>
         ensures read { IfOk result (λ read. ReadsArguments self.now at read.1 read.0) }
         ensures onward { IfOk result (λ read. at ≤ read.1) }
@@ -181,6 +199,7 @@ impl<'a> Reader<'a> {
 
     /// Reads the terms behind the bracket of a list, of which there may be none.
     #[cycle(general_terms)]
+    #[inline(always)]
     fn list(&self, alloc: Global, at: usize) -> Result<(GeneralTerms, usize), Halt>
         ensures read { IfOk result (λ read. ReadsPart self.now in_list at read.1 (bracketed list_opens read.0)) }
         ensures onward { IfOk result (λ read. at < read.1) }

@@ -8,7 +8,9 @@ ghost use Rattle.tptp_source.specs.SourceShape.{source_of};
 ghost use Rattle.tptp_source.specs.Sources.{SourceTree, SpellsSource};
 ghost use Rattle.tptp_source.specs.TermSources.{file_in, inference_in, introduced_in, definition_in, source_in, is_definition, applied_in};
 
-use crate::part::{into_applied, into_items, into_name, into_names, into_one, into_three, into_two};
+use crate::part::{
+    into_applied, into_items, into_name, into_names, into_one, into_three, into_two,
+};
 use crate::term::{GeneralTerm, GeneralTerms};
 use crate::whole::read_general_term;
 use plain_types::{Mem, Text, Texts};
@@ -19,7 +21,10 @@ use tptp_token::Token;
 #[derive(Drop)]
 pub enum Source {
     /// A formula of a file, by its name there.
-    File { file: GeneralTerm, name: Text },
+    File {
+        file: GeneralTerm,
+        name: Text,
+    },
     /// An inference by its rule, its items and the names of its parents.
     Inference {
         rule: GeneralTerm,
@@ -91,7 +96,11 @@ fn inference_source(alloc: Global, arguments: GeneralTerms) -> Mem<Option<Source
         return Ok(None);
     };
     let names = into_names(alloc, terms)?;
-    Ok(names.map(|parents| Source::Inference { rule, items, parents }))
+    Ok(names.map(|parents| Source::Inference {
+        rule,
+        items,
+        parents,
+    }))
 }
 
 /// The sources `introduced(definition,[component(NAME)])` and `introduced(definition,[opposite(NAME)])`, by their arguments.
@@ -113,7 +122,8 @@ fn is_word_definition(term: GeneralTerm) -> bool
 {
     let applied = into_applied(term);
     match applied {
-        Some((word, arguments)) => word.as_slice() == b"definition".as_slice() && arguments.is_empty(),
+        Some((word, arguments)) => word.as_slice() == b"definition".as_slice()
+            && arguments.is_empty(),
         None => false,
     }
 }

@@ -1,6 +1,5 @@
-use Rattle.std.proofs.Common.{◌≤◌, ◌<◌, [], ◌∷◌, ◌+◌, ◌-◌, ◌*◌, length}
+use Rattle.std.proofs.Common.{◌+◌, ◌-◌, ◌*◌, length}
 use Rattle.tptp_source.specs.Shape.{tree_of}
-use Rattle.tptp_source.specs.Telling.{Leads, parts_place, parts_behind}
 use Rattle.tptp_source.proofs.ItemReads.{PartsSoFar, ItemsSoFar}
 use Rattle.tptp_source.proofs.reader.Reader.+general_terms.Given as goal
 

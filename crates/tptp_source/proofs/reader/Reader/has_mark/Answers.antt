@@ -1,1 +1,0 @@
-use Rattle.tptp_source.proofs.reader.Reader.has_mark.Goals as goal

@@ -1,0 +1,7 @@
+use Rattle.std.proofs.Common.{◌≡◌, true, false, sym, ◌∙◌}
+use Rattle.tptp_source.proofs.ItemLemmas.{no_signed_name}
+use Rattle.tptp_source.proofs.items.positive_name.Goals as goal
+
+pub returns-else-is_empty : goal.returns-else-is_empty
+returns-else-is_empty c =
+    no_signed_name c.args.word.now c.args.arguments.now (λ e. let t : true ≡ false = sym (c.is_empty.ensures.1 e) ∙ c.if-is_empty.false in cc)
