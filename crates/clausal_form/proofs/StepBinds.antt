@@ -9,7 +9,7 @@ use Rattle.kernel_steps.specs.Soundness.{binds_each}
 use Rattle.kernel_steps.specs.declared.step.Step.{Step}
 use Rattle.kernel_steps.specs.declared.step.Step.TheVariants as step
 use Rattle.tptp_source.specs.General.{GeneralTree}
-use Rattle.clausal_form.specs.DerivationItems.{list_in, number_in, signed_name_in, only_one, row_arguments}
+use Rattle.clausal_form.specs.DerivationItems.{list_in, numbers_in, introduced_in, only_one, row_arguments}
 use Rattle.clausal_form.specs.DerivationSteps.{LineKind, OfLiteral, of_literal, into_literal, of_number, para_step, refl_step, factor_step, merge_step, split_step, chain_step, rule_step}
 use Rattle.clausal_form.specs.DerivationSteps as kind
 
@@ -84,7 +84,7 @@ split-binds test [] row st h = absurd (none-some st h)
 split-binds test (a ∷ ps) [] st h = absurd (none-some st h)
 split-binds test (a ∷ ps) (parts ∷ r ∷ rs) st h = absurd (none-some st h)
 split-binds test (a ∷ ps) (parts ∷ []) st h =
-    option_map-some (λ qs. step.Split a ps qs) (option_and_then (list_in (list_in number_in)) (only_one parts)) st h
+    option_map-some (λ qs. step.Split a ps qs) (option_and_then (list_in numbers_in) (only_one parts)) st h
     λ qs qs_is e. subst (Passes test) e refl
 
 chain-binds :
@@ -93,7 +93,7 @@ chain-binds :
 chain-binds test names parents [] st h = absurd (none-some st h)
 chain-binds test names parents (pivots ∷ r ∷ rs) st h = absurd (none-some st h)
 chain-binds test names parents (pivots ∷ []) st h =
-    option_map-some (λ ps. step.Chain parents ps) (option_and_then (list_in (signed_name_in names)) (only_one pivots)) st h
+    option_map-some (λ ps. step.Chain parents ps) (option_and_then (list_in (introduced_in names)) (only_one pivots)) st h
     λ ps ps_is e. subst (Passes test) e refl
 
 pub step-binds :

@@ -1,14 +1,16 @@
 -- What the general terms in a line's list of items say: numbers, sides, places, terms, parts and signed names.
-use Rattle.std.specs.Prelude.{ℕ, ◌+◌, ◌-◌, ◌*◌, ◌==◌, Bool, true, false, not, ◌&&◌, List, [], ◌∷◌, map, filter, fold, codes, Option, None, Some, option_map, option_and_then, bytes_eq, if◌then◌else◌}
-use Rattle.std.specs.List.{list_any, list_all}
+use Rattle.std.specs.Prelude.{ℕ, Bool, true, false, ◌&&◌, List, [], ◌∷◌, map, filter, codes, Option, None, Some, option_map, option_and_then, bytes_eq, if◌then◌else◌}
+use Rattle.std.specs.List.{list_any}
 use Rattle.plain_types.specs.declared.sequence.NameLit.{NameLit}
-use Rattle.tptp_token.specs.Spelling.{is_digit}
-use Rattle.tptp_tree.specs.Term.{TermTree, variable, application, TermTrees, no_terms, term_then}
+use Rattle.tptp_tree.specs.Term.{TermTree}
 use Rattle.fol_base.specs.declared.clause.Side.{Side}
 use Rattle.fol_base.specs.declared.clause.Side.TheVariants.{Left, Right}
 use Rattle.kernel_steps.specs.Parents.{all_there}
-use Rattle.tptp_source.specs.General.{GeneralTree, variable as general_variable, word, number, negated, listed, GeneralTrees, no_trees, tree_then, list_of_trees}
-use Rattle.tptp_source.specs.declared.sign.NumberSign.TheVariants.{Unsigned}
+use Rattle.tptp_source.specs.General.{GeneralTree, word, no_trees, list_of_trees}
+use Rattle.tptp_source.specs.TermSources.{items_in}
+use Rattle.tptp_source.specs.Items.{side_in, signed_name_in, all_numbers, term_in}
+use Rattle.tptp_source.specs.declared.items.SideName.{SideName}
+use Rattle.tptp_source.specs.declared.items.SideName.TheVariants.{Left as LeftName, Right as RightName}
 use Rattle.clausal_form.specs.DerivationClause.{name_number, signed}
 
 -- ---- words
@@ -31,45 +33,26 @@ abbrev pub is_plain : List ℕ → GeneralTree → Bool
 is_plain w (word v no_trees) = bytes_eq w v
 is_plain w t = false
 
--- ---- numbers, sides and lists
+-- ---- sides, places, parts, names and terms
 
-abbrev pub decimal_value : List ℕ → ℕ
-decimal_value digits = fold (λ n d. 10 * n + (d - 48)) 0 digits
+abbrev pub side_named : SideName → Side
+side_named LeftName = Left
+side_named RightName = Right
 
--- digits alone, the first of them no 0 but in `0`
-abbrev pub is_decimal : List ℕ → Bool
-is_decimal [] = false
-is_decimal (d ∷ []) = is_digit d
-is_decimal (d ∷ e ∷ ds) = not (d == 48) && list_all is_digit (d ∷ e ∷ ds)
-
-abbrev pub number_in : GeneralTree → Option ℕ
-number_in (number Unsigned digits) = if is_decimal digits then Some (decimal_value digits) else None
-number_in t = None
-
-abbrev pub side_in : GeneralTree → Option Side
-side_in t = if is_plain (codes "left") t then Some Left else if is_plain (codes "right") t then Some Right else None
+abbrev pub side_of : GeneralTree → Option Side
+side_of t = option_map side_named (side_in t)
 
 -- a list, each item of which says something
 abbrev pub list_in : {X : Type 0} → (GeneralTree → Option X) → GeneralTree → Option (List X)
-list_in item (listed ts) = all_there (map item (list_of_trees ts))
-list_in item t = None
+list_in item t = option_and_then (λ ts. all_there (map item ts)) (items_in t)
 
--- a variable or a function term
-abbrev mutual
-  pub term_in : GeneralTree → Option TermTree
-  term_in (general_variable x) = Some (variable x)
-  term_in (word f ts) = option_map (application f) (terms_in ts)
-  term_in t = None
-
-  pub terms_in : GeneralTrees → Option TermTrees
-  terms_in no_trees = Some no_terms
-  terms_in (tree_then t ts) = option_and_then (λ u. option_map (term_then u) (terms_in ts)) (term_in t)
+-- numbers in a list
+abbrev pub numbers_in : GeneralTree → Option (List ℕ)
+numbers_in t = option_and_then all_numbers (items_in t)
 
 -- an introduced name with its sign, as it is written in a clause
-abbrev pub signed_name_in : List (List ℕ) → GeneralTree → Option NameLit
-signed_name_in names (word w no_trees) = option_map (signed true) (name_number names w)
-signed_name_in names (negated w) = option_map (signed false) (name_number names w)
-signed_name_in names t = None
+abbrev pub introduced_in : List (List ℕ) → GeneralTree → Option NameLit
+introduced_in names t = option_and_then (λ n. option_map (signed n.0) (name_number names n.1)) (signed_name_in t)
 
 -- ---- the items of a row
 

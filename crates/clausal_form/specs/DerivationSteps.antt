@@ -6,7 +6,8 @@ use Rattle.kernel_steps.specs.declared.step.Step.{Step}
 use Rattle.kernel_steps.specs.declared.step.Step.TheVariants.{Para, Refl, Factor, Merge, Split, Chain}
 use Rattle.tptp_source.specs.General.{GeneralTree}
 use Rattle.tptp_source.specs.Sources.{SourceTree, file_source, inference_source, component_source, opposite_source}
-use Rattle.clausal_form.specs.DerivationItems.{is_plain, number_in, side_in, list_in, signed_name_in, only_one, row_arguments}
+use Rattle.tptp_source.specs.Items.{number_in}
+use Rattle.clausal_form.specs.DerivationItems.{is_plain, side_of, list_in, numbers_in, introduced_in, only_one, row_arguments}
 
 -- the kinds of lines, by their sources
 pub data LineKind : Type 0 where
@@ -57,7 +58,7 @@ pub record OfLiteral : Type 0 where
   pub side : Side
 
 abbrev pub literal_side : GeneralTree → GeneralTree → Option OfLiteral
-literal_side i s = option_and_then (λ n. option_map (λ z. record { literal = n; side = z }) (side_in s)) (number_in i)
+literal_side i s = option_and_then (λ n. option_map (λ z. record { literal = n; side = z }) (side_of s)) (number_in i)
 
 -- `I,S`
 abbrev pub of_literal : List GeneralTree → Option OfLiteral
@@ -66,7 +67,7 @@ of_literal ts = None
 
 -- `J,S,[..]`: the literal with its side, and the place
 abbrev pub into_literal : List GeneralTree → Option (OfLiteral × List ℕ)
-into_literal (j ∷ s ∷ place ∷ []) = option_and_then (λ l. option_map (λ p. (l, p)) (list_in number_in place)) (literal_side j s)
+into_literal (j ∷ s ∷ place ∷ []) = option_and_then (λ l. option_map (λ p. (l, p)) (numbers_in place)) (literal_side j s)
 into_literal ts = None
 
 -- `I`
@@ -97,12 +98,12 @@ merge_step parents binds row = None
 
 abbrev pub split_step : List ℕ → List (List GeneralTree) → Option Step
 split_step (a ∷ definitions) (parts ∷ []) =
-    option_map (λ ps. Split a definitions ps) (option_and_then (list_in (list_in number_in)) (only_one parts))
+    option_map (λ ps. Split a definitions ps) (option_and_then (list_in numbers_in) (only_one parts))
 split_step parents row = None
 
 abbrev pub chain_step : List (List ℕ) → List ℕ → List (List GeneralTree) → Option Step
 chain_step names parents (pivots ∷ []) =
-    option_map (λ ps. Chain parents ps) (option_and_then (list_in (signed_name_in names)) (only_one pivots))
+    option_map (λ ps. Chain parents ps) (option_and_then (list_in (introduced_in names)) (only_one pivots))
 chain_step names parents row = None
 
 -- Each row: the word of its status, its items, and its step.
