@@ -1,8 +1,7 @@
 -- General terms that are terms of formulas.
 use Rattle.std.proofs.Common.{◌≡◌, ◌<◌, ◌≤◌, ◌+◌, ℕ, zero, suc, List, [], ◌∷◌, ◌++◌, map, drop, length, get_or, None, Some, Option, refl, sym, ap, ◌∙◌, arith}
-use Rattle.std.specs.Option.{option_map}
-use Rattle.tptp_tree.specs.Term.{TermTree, TermTrees, no_terms, term_then, terms_of}
-use Rattle.tptp_source.specs.General.{GeneralTree, tree_size, trees_size, trees_of}
+use Rattle.tptp_tree.specs.Term.{TermTree, TermTrees, no_terms, terms_of}
+use Rattle.tptp_source.specs.General.{tree_size, trees_size, trees_of}
 use Rattle.tptp_source.specs.Shape.{tree_of}
 use Rattle.tptp_source.specs.Items.{term_before, term_in, terms_in}
 use Rattle.tptp_source.specs.declared.term.GeneralTerm.{GeneralTerm}

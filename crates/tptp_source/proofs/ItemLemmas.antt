@@ -1,11 +1,10 @@
 -- Sides, names and numbers among the items of an inference.
-use Rattle.std.proofs.Common.{append-nil, append_assoc, ◌≡◌, ◌<◌, ◌≤◌, ◌+◌, ◌-◌, ◌*◌, ◌^◌, ℕ, zero, suc, Bool, true, false, List, [], ◌∷◌, ◌++◌, map, drop, length, get_or, None, Some, Option, refl, sym, ap, ap₂, ◌∙◌, subst, arith}
-use Rattle.std.specs.Prelude.{nat_lt, if◌then◌else◌}
+use Rattle.std.proofs.Common.{◌≡◌, ◌<◌, ◌≤◌, ◌+◌, ◌-◌, ◌*◌, ◌^◌, ℕ, true, List, [], ◌∷◌, ◌++◌, drop, length, get_or, None, Some, Option, refl, sym, ap, ◌∙◌, arith}
 use Rattle.std.proofs.lemmas.List.{at_drop_more}
 use Rattle.std.proofs.lemmas.Bool.{le-ltb, lt-ltb}
 use Rattle.tptp_source.specs.declared.items.SideName.{SideName}
 use Rattle.tptp_source.specs.General.{GeneralTree, trees_of}
-use Rattle.tptp_source.specs.Items.{SignedName, side_by, positive_by, is_decimal, value_behind, below_word, decimal_in, number_in, number_before, all_numbers}
+use Rattle.tptp_source.specs.Items.{SignedName, side_by, positive_by, is_decimal, value_behind, below_word, decimal_in}
 
 pub no_side : (f : List ℕ) (ts : List GeneralTree) → (ts ≡ [] → ⊥) → (let o : Option SideName = None in o) ≡ side_by f (trees_of ts)
 no_side f [] h = absurd (h refl)

@@ -5,7 +5,7 @@ use Rattle.tptp_token.specs.Lexemes.{Lexeme, lexeme}
 use Rattle.tptp_token.specs.declared.token.Kind.TheVariants.{Lower, Variable, Quoted, Distinct, Dollar, Number, Connective, Mark, Other}
 use Rattle.tptp_source.specs.declared.sign.NumberSign.TheVariants.{Unsigned, Plus, Minus}
 use Rattle.tptp_source.specs.General.{GeneralTree, variable, number, distinct, dollar, negated, joined, no_trees, tree_then}
-use Rattle.tptp_source.specs.Spelling.{variable_part, word_part, number_part, negated_part, list_part, no_parts, part_then, GeneralPhrase, parts, no_phrases, phrase_then, general_lexemes, general_meant}
+use Rattle.tptp_source.specs.Spelling.{word_part, number_part, list_part, no_parts, part_then, GeneralPhrase, parts, no_phrases, phrase_then, general_lexemes, general_meant}
 use Rattle.tptp_source.specs.Sources.{file_source, inference_source, component_source, opposite_source, word_of, list_of, definition_by}
 use Rattle.tptp_source.specs.Machine.{read}
 use Rattle.tptp_source.specs.TermSources.{source_in}

@@ -16,7 +16,7 @@ fn source_of_text(alloc: Global, text: &[u8]) -> Mem<Option<Source>> {
 }
 
 /// What is shown of a source: its kind, and its names.
-fn shown(alloc: Global, read: Option<Source>) -> Mem<Vec<u8>> {
+fn shown(alloc: Global, read: &Option<Source>) -> Mem<Vec<u8>> {
     let mut page = Vec::new(alloc);
     match read {
         None => page.extend_from_slice(b"none")?,
@@ -82,7 +82,7 @@ const ROWS: &[(&[u8], &[u8])] = &[
 fn reads_sources(rt: HostRuntime) -> Result<(), Fail> {
     for (text, wanted) in ROWS {
         let read = source_of_text(rt.alloc(), text)?;
-        let page = shown(rt.alloc(), read)?;
+        let page = shown(rt.alloc(), &read)?;
         assert!(rt; page.as_slice() == *wanted);
     }
     Ok(())
