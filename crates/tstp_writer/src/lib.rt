@@ -1,0 +1,9 @@
+// What is printed: of a derivation, the lines that the last one needs.
+#![tactic(auto)]
+
+mod needed;
+
+pub use needed::cone;
+
+#[cfg(test)]
+mod tests;
