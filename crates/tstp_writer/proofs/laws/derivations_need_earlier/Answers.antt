@@ -1,0 +1,5 @@
+use Rattle.tstp_writer.proofs.EarlierLemmas.{need-earlier}
+use Rattle.tstp_writer.proofs.laws.derivations_need_earlier.Goals as goal
+
+pub returns : goal.returns
+returns c = need-earlier

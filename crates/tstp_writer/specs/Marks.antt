@@ -1,0 +1,50 @@
+-- What the pass backwards knows: marked lines, and names whose component lines are needed.
+use Rattle.std.specs.Prelude.{◌≡◌, ℕ, suc, ◌<◌, ◌≤◌, Bool, false, ◌||◌, ◌&&◌, ◌==◌, List, [], ◌∷◌, length, Some, slice_get, unwrap_or, if◌then◌else◌, IsTrue}
+use Rattle.std.specs.List.{list_any}
+use Rattle.kernel_steps.specs.declared.step.Step.{Step}
+use Rattle.kernel_steps.specs.declared.step.Step.TheVariants.{Component}
+use Rattle.kernel_steps.specs.declared.step.Line.{Line}
+use Rattle.tstp_writer.specs.Cone.{needs, IsNeeded}
+use Rattle.tstp_writer.specs.declared.needed.Marks.{Marks}
+
+abbrev pub is_marked : List Bool → ℕ → Bool
+is_marked marks n = unwrap_or (slice_get marks n) false
+
+-- the step is the definition of one of the names
+abbrev pub defines_one : List ℕ → Step → Bool
+defines_one names (Component name) = list_any (λ m. name == m) names
+defines_one names _ = false
+
+-- the line is known to be needed
+abbrev pub has_line : Marks → ℕ → Line → Bool
+has_line marks n line = is_marked marks.lines.items n || defines_one marks.names.keys line.step
+
+-- the marks after what a step needs was added
+abbrev pub IsAdded : Step → Marks → Marks → Type 0
+IsAdded step before after =
+    (n : ℕ) (line : Line) → n < length before.lines.items → has_line after n line ≡ (has_line before n line || needs step n line)
+
+-- the marks after the visit of a line: where it was needed it is marked, and what it needs was added
+abbrev pub IsVisited : ℕ → Line → Marks → Marks → Type 0
+IsVisited place visited before after =
+    (n : ℕ) (line : Line) → n < length before.lines.items
+    → has_line after n line
+    ≡ (has_line before n line || (has_line before place visited && (place == n || needs visited.step n line)))
+
+-- What holds after the lines from one place on were visited: what is known to be needed is needed; the line `last` is marked; and of
+-- the visited lines those that are known to be needed are marked, and what they need is known.
+pub record IsPassed (lines : List Line) (last from : ℕ) (marks : Marks) : Type 0 where
+  pub room : length marks.lines.items ≡ suc last
+  pub first : IsTrue (is_marked marks.lines.items last)
+  pub sound : (n : ℕ) (line : Line) → slice_get lines n ≡ Some line → n < suc last → IsTrue (has_line marks n line) → IsNeeded lines last n
+  pub settled :
+      (n : ℕ) (line : Line) → slice_get lines n ≡ Some line → from ≤ n → n < suc last → IsTrue (has_line marks n line)
+      → IsTrue (is_marked marks.lines.items n)
+  pub closed :
+      (n m : ℕ) (line other : Line) → slice_get lines n ≡ Some line → slice_get lines m ≡ Some other → from ≤ n → n < suc last
+      → IsTrue (is_marked marks.lines.items n) → IsTrue (needs line.step m other) → IsTrue (has_line marks m other)
+
+-- the numbers of the places that are marked, the first of which has that number
+abbrev pub marked_numbers : ℕ → List Bool → List ℕ
+marked_numbers first [] = []
+marked_numbers first (mark ∷ marks) = if mark then first ∷ marked_numbers (suc first) marks else marked_numbers (suc first) marks
