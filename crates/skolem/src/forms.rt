@@ -77,12 +77,10 @@ fn matrix_of(
             forms.as_slice(),
             progress,
         )?)),
-        Nnf::Or(forms) => Ok(Matrix::Or(matrices_of(
-            alloc,
-            signature,
-            forms.as_slice(),
-            progress,
-        )?)),
+        Nnf::Or(forms) => Ok(Matrix::Or {
+            made: progress.variables,
+            members: matrices_of(alloc, signature, forms.as_slice(), progress)?,
+        }),
         Nnf::All(names, body) => {
             let before = progress.bindings.len();
             bind_variables(alloc, names.as_slice(), progress)?;
