@@ -1,6 +1,7 @@
 pub mod ListLemmas
-pub mod NameLemmas
-pub mod ProgressLemmas
+pub mod BindingsLemmas
+pub mod OccurringLemmas
+pub mod OrderLemmas
 pub mod SymbolLemmas
 pub mod TermLemmas
 pub mod FormLemmas

@@ -4,6 +4,8 @@ pub mod Shape
 pub mod Falls
 pub mod Skolemized
 pub mod MatrixClauses
+pub mod Name
+pub mod Bindings
 pub mod Progress
 pub mod Examples
 pub mod SkolemizedLaws
