@@ -112,7 +112,7 @@ found-some es heads bs x place e c v p h g =
 -- ---- one entry more or less
 
 pub chained-none : IsChained [] []
-chained-none = record { hidden = λ i h. absurd (omega (arith, h)); innermost = λ x. refl; }
+chained-none = record { hidden = λ i h. absurd (omega (arith, h)); innermost = λ x. refl }
 
 last-entry : (es : List Entry) (e : Entry) → get_or (es ++ e ∷ []) (length es) no_entry ≡ e
 last-entry [] e = refl

@@ -83,7 +83,7 @@ pub record Found (limit : ℕ) (vs : List ℕ) (i next : ℕ) (found : List ℕ)
   pub passed : (v : ℕ) → next ≤ v → v < limit → list_any (λ w. v == w) (take i vs) ≡ false
 
 pub found-first : (limit : ℕ) (vs : List ℕ) → Found limit vs 0 0 []
-found-first limit vs = record { below = omega arith; same = refl; passed = λ v l h. refl; }
+found-first limit vs = record { below = omega arith; same = refl; passed = λ v l h. refl }
 
 take-one : (vs : List ℕ) (i w : ℕ) → i < length vs → w ≡ get_or vs i w → take (i + 1) vs ≡ take i vs ++ w ∷ []
 take-one vs i w h e = ap (λ k. take k vs) plus ∙ by vs i h e

@@ -10,7 +10,7 @@ once_each-requires c =
     record {
       sorted =
           subst (IsNonDecreasingBy (λ v. v)) (sym c.as_slice.ensures.value)
-              (IsNonDecreasingBy-from_sort (λ v. v) c.sort_unstable.new.self.items c.sort_unstable.ensures.sorted);
+          (IsNonDecreasingBy-from_sort (λ v. v) c.sort_unstable.new.self.items c.sort_unstable.ensures.sorted);
     }
 
 pub returns : goal.returns

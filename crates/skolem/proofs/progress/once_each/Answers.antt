@@ -14,12 +14,12 @@ loop-variable-preserved c =
 pub loop-variable-preserved-then-variable-next : goal.loop-variable-preserved-then-variable-next
 loop-variable-preserved-then-variable-next c =
     elim c.then-variable-next.branch [
-      then-variable-next-via-then-variable-next w ↦
+      | then-variable-next-via-then-variable-next w ↦
           found-again c.args.variables c.args.sorted.now c.loop-variable.variable-index c.loop-variable.next
           (get_or c.args.sorted.now c.loop-variable.variable-index 0) c.loop-variable.found.items c.loop-variable-test.true
           (same-item c.args.sorted.now c.loop-variable.variable-index 0 _ c.loop-variable-test.true)
           (omega (arith, w.if-variable-next)) c.loop-variable.invariant
-    | then-variable-next-via-else-variable-next+then-variable-variables w ↦
+      | then-variable-next-via-else-variable-next+then-variable-variables w ↦
           found-skip c.args.variables c.args.sorted.now c.loop-variable.variable-index c.loop-variable.next
           (get_or c.args.sorted.now c.loop-variable.variable-index 0) c.loop-variable.found.items c.loop-variable-test.true
           (same-item c.args.sorted.now c.loop-variable.variable-index 0 _ c.loop-variable-test.true)
