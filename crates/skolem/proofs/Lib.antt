@@ -1,7 +1,10 @@
 pub mod ListLemmas
-pub mod NameLemmas
-pub mod ProgressLemmas
+pub mod BindingsLemmas
+pub mod OccurringLemmas
+pub mod OrderLemmas
 pub mod SymbolLemmas
 pub mod TermLemmas
 pub mod FormLemmas
 pub mod CountLemmas
+pub mod ClauseLemmas
+pub mod ProblemLemmas

@@ -5,20 +5,6 @@ use Rattle.std.specs.List.{list_any, list_all}
 use Rattle.std.proofs.lemmas.Bool.{and_parts, and_from}
 use Rattle.signature.proofs.OccurrenceLemmas.{drop-item, drop-end}
 
--- the test fails at an item
-pub any-step :
-    {X : Type 0} (p : X → Bool) (xs : List X) (i : ℕ) (x : X)
-    → i < length xs → x ≡ get_or xs i x → p x ≡ false → list_any p (drop (i + 1) xs) ≡ list_any p (drop i xs)
-any-step p xs i x h e f = sym (ap (list_any p) (drop-item xs i x h e) ∙ ap (λ t. t || list_any p (drop (i + 1) xs)) f)
-
-pub any-here :
-    {X : Type 0} (p : X → Bool) (xs : List X) (i : ℕ) (x : X)
-    → i < length xs → x ≡ get_or xs i x → p x ≡ true → list_any p (drop i xs) ≡ true
-any-here p xs i x h e f = ap (list_any p) (drop-item xs i x h e) ∙ ap (λ t. t || list_any p (drop (i + 1) xs)) f
-
-pub any-end : {X : Type 0} (p : X → Bool) (xs : List X) (i : ℕ) → length xs ≤ i → list_any p (drop i xs) ≡ false
-any-end p xs i h = ap (list_any p) (drop-end xs i h)
-
 pub any-last : {X : Type 0} (p : X → Bool) (xs : List X) (x : X) → list_any p xs ≡ false → p x ≡ false → list_any p (xs ++ x ∷ []) ≡ false
 any-last p [] x h f = ap (λ t. t || false) f
 any-last p (y ∷ ys) x h f = by (p y) h (any-last p ys x)
@@ -85,21 +71,6 @@ length-take (suc n) (x ∷ xs) = omega (arith, length-take n xs)
 
 pub begun-longer : {X : Type 0} (old mid new : List X) → length old ≤ length mid → take (length mid) new ≡ mid → length old ≤ length new
 begun-longer old mid new l e = omega (arith, l, ap length e, length-take (length mid) new)
-
--- the items from a place on, all that there are
-take-whole : {X : Type 0} (n : ℕ) (xs : List X) → length xs ≤ n → take n xs ≡ xs
-take-whole zero [] h = refl
-take-whole (suc n) [] h = refl
-take-whole zero (x ∷ xs) h = absurd (omega (arith, h))
-take-whole (suc n) (x ∷ xs) h = ap (λ ys. x ∷ ys) (take-whole n xs (omega (arith, h)))
-
-length-drop : {X : Type 0} (i : ℕ) (xs : List X) → length (drop i xs) ≡ length xs - i
-length-drop zero xs = omega arith
-length-drop (suc i) [] = omega arith
-length-drop (suc i) (x ∷ xs) = omega (arith, length-drop i xs)
-
-pub rest-whole : {X : Type 0} (xs : List X) (i : ℕ) → take (length xs - i) (drop i xs) ≡ drop i xs
-rest-whole xs i = take-whole (length xs - i) (drop i xs) (omega (arith, length-drop i xs))
 
 pub longer-kept : {X : Type 0} (old new : List X) (x : X) (all : List X) → all ≡ new ++ x ∷ [] → length old ≤ length new → length old ≤ length all
 longer-kept old new x all e l = omega (arith, ap length e, length-last new x, l)

@@ -1,9 +1,12 @@
 -- The forms of the worked examples, over the names p, r, X, Y, Z.
-use Rattle.std.specs.Prelude.{ℕ, List, [], ◌∷◌, codes}
+use Rattle.std.specs.Prelude.{ℕ, true, List, [], ◌∷◌, codes}
 use Rattle.tptp_tree.specs.Term.{variable, no_terms, term_then}
 use Rattle.tptp_tree.specs.Formula.{FormulaTree, predicate}
+use Rattle.fol_base.specs.Tree.{variable as numbered, application, no_trees, tree_then}
+use Rattle.fol_base.specs.Clause.{TreeLiteral}
 use Rattle.signature.specs.declared.symbol.Symbol.{Symbol}
 use Rattle.signature.specs.Symbol.{true_symbol, predicate_symbol}
+use Rattle.signature.specs.Clausal.{atom_literal}
 
 abbrev pub x : List ℕ
 x = codes "X"
@@ -23,3 +26,7 @@ r_of v w = predicate (codes "r") (term_then (variable v) (term_then (variable w)
 -- `$true`, p, r
 abbrev pub known : List Symbol
 known = true_symbol ∷ predicate_symbol (codes "p") 1 ∷ predicate_symbol (codes "r") 2 ∷ []
+
+-- p of a numbered variable
+abbrev pub p_literal : ℕ → TreeLiteral
+p_literal v = atom_literal true (application 1 (tree_then (numbered v) no_trees))

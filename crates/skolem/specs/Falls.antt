@@ -13,7 +13,7 @@ deep-Matrix-≤ True = omega arith
 deep-Matrix-≤ False = omega arith
 deep-Matrix-≤ (Lit l) = omega arith
 deep-Matrix-≤ (And ms) = omega arith
-deep-Matrix-≤ (Or ms) = omega arith
+deep-Matrix-≤ (Or made ms) = omega arith
 
 pub most-deep-Matrix-≤ : (ms : List Matrix) → most deep-Matrix ms ≤ matrices_size (matrices_of (map matrix_tree ms))
 most-deep-Matrix-≤ [] = omega arith

@@ -1,4 +1,5 @@
--- Formulas without quantifiers, over literals of clauses.
+-- Formulas without quantifiers, over literals of clauses. A disjunction carries how many variables of the formula were made before the work
+-- on it began.
 use Rattle.std.specs.Prelude.{ℕ, ◌+◌, not, List, [], ◌∷◌}
 use Rattle.fol_base.specs.Clause.{TreeLiteral}
 
@@ -8,7 +9,7 @@ mutual
     falsity : MatrixTree
     literal : TreeLiteral → MatrixTree
     conjunction : MatrixTrees → MatrixTree
-    disjunction : MatrixTrees → MatrixTree
+    disjunction : ℕ → MatrixTrees → MatrixTree
 
   pub data MatrixTrees : Type 0 where
     no_matrices : MatrixTrees
@@ -31,7 +32,7 @@ abbrev mutual
   matrix_size falsity = 1
   matrix_size (literal l) = 1
   matrix_size (conjunction ms) = 1 + matrices_size ms
-  matrix_size (disjunction ms) = 1 + matrices_size ms
+  matrix_size (disjunction began ms) = 1 + matrices_size ms
 
   pub matrices_size : MatrixTrees → ℕ
   matrices_size no_matrices = 0
@@ -43,4 +44,4 @@ negated truth = falsity
 negated falsity = truth
 negated (literal l) = literal (record { positive = not l.positive; left = l.left; right = l.right })
 negated (conjunction ms) = conjunction ms
-negated (disjunction ms) = disjunction ms
+negated (disjunction began ms) = disjunction began ms

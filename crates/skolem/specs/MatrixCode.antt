@@ -1,4 +1,4 @@
--- A code for matrices: a tree whose symbols are numbers for the kinds.
+-- A code for matrices: a tree whose symbols are numbers for the kinds, and for the variables that were made before a disjunction.
 use Rattle.std.specs.Prelude.{◌≡◌, zero, suc, Bool, true, false, refl}
 use Rattle.std.specs.Coded.{Coded, code_by}
 use Rattle.std.proofs.Common.{ap, ap₂}
@@ -16,7 +16,7 @@ abbrev mutual
   encoded falsity = application 1 no_trees
   encoded (literal l) = encoded_literal l.positive (tree_then l.left (tree_then l.right no_trees))
   encoded (conjunction ms) = application 4 (encoded_matrices ms)
-  encoded (disjunction ms) = application 5 (encoded_matrices ms)
+  encoded (disjunction began ms) = application (suc (suc (suc (suc (suc began))))) (encoded_matrices ms)
 
   pub encoded_matrices : MatrixTrees → Trees
   encoded_matrices no_matrices = no_trees
@@ -35,7 +35,7 @@ abbrev mutual
   decoded (application (suc (suc zero)) ts) = decoded_literal true ts
   decoded (application (suc (suc (suc zero))) ts) = decoded_literal false ts
   decoded (application (suc (suc (suc (suc zero)))) ts) = conjunction (decoded_matrices ts)
-  decoded (application (suc (suc (suc (suc (suc n))))) ts) = disjunction (decoded_matrices ts)
+  decoded (application (suc (suc (suc (suc (suc began))))) ts) = disjunction began (decoded_matrices ts)
 
   pub decoded_matrices : Trees → MatrixTrees
   decoded_matrices no_trees = no_matrices
@@ -51,7 +51,7 @@ mutual
   decoded-matrix falsity = refl
   decoded-matrix (literal l) = decoded-literal l.positive l.left l.right
   decoded-matrix (conjunction ms) = ap conjunction (decoded-matrices ms)
-  decoded-matrix (disjunction ms) = ap disjunction (decoded-matrices ms)
+  decoded-matrix (disjunction began ms) = ap (disjunction began) (decoded-matrices ms)
 
   pub decoded-matrices : (ms : MatrixTrees) → decoded_matrices (encoded_matrices ms) ≡ ms
   decoded-matrices no_matrices = refl

@@ -1,12 +1,13 @@
 -- What the program's work on a form is: the variables in force, and what was made.
 use Rattle.std.specs.Prelude.{ℕ, ◌+◌, List, [], ◌∷◌, ◌++◌, length, flat_map}
-use Rattle.fol_base.specs.Tree.{tree_variables}
+use Rattle.tptp_tree.specs.Formula.{FormulaTree, truth, falsity, predicate, equation, negation, conjunction, disjunction, connected, quantified, FormulaTrees, no_formulas, formula_then}
+use Rattle.fol_base.specs.Tree.{tree_variables, true_tree}
 use Rattle.fol_base.specs.Term.{tree_of}
 use Rattle.fol_base.specs.declared.term.Term.{Term}
 use Rattle.fol_base.specs.declared.term.Term.TheVariants.{Var}
-use Rattle.signature.specs.Environment.{Environment, term_in_force, without_names}
-use Rattle.signature.specs.Clausal.{SymbolNumbers, Made, Scope, skolem_arguments, applied}
-use Rattle.skolem.specs.declared.progress.Binding.{Binding}
+use Rattle.signature.specs.Environment.{Environment, term_names, terms_names, term_in_force}
+use Rattle.signature.specs.Clausal.{SymbolNumbers, Made, Scope, applied}
+use Rattle.skolem.specs.declared.bindings.Binding.{Binding}
 use Rattle.skolem.specs.declared.progress.Progress.{Progress}
 
 -- the last binding is the innermost
@@ -26,12 +27,36 @@ abbrev pub made_of : Progress → Made
 made_of p = record { variables = p.variables; skolem_arities = p.arities.items; naming_arities = []; defining = [] }
 
 abbrev pub scope_of_progress : Progress → Scope
-scope_of_progress p = record { environment = environment_of p.bindings.items; made = made_of p }
+scope_of_progress p = record { environment = environment_of p.bindings; made = made_of p }
 
--- The Skolem term of one variable, the first of those names; the names of the body's free variables are given.
-abbrev pub skolem_step : SymbolNumbers → List (List ℕ) → List (List ℕ) → List ℕ → Scope → Scope
-skolem_step n free names x s =
-    let arguments : List ℕ = skolem_arguments (without_names names free) s.environment s.made in
+-- ---- the variables of a quantified formula
+
+-- each name stands for a term without variables
+abbrev pub with_closed : List (List ℕ) → Environment → Environment
+with_closed [] env = env
+with_closed (x ∷ xs) env = with_closed xs ((x, true_tree) ∷ env)
+
+-- The variables in the terms of a formula's free variables, with repetitions: inside a quantifier its own variables add none.
+abbrev mutual
+  pub occurring : FormulaTree → Environment → List ℕ
+  occurring truth env = []
+  occurring falsity env = []
+  occurring (predicate p ts) env = occurring_in env (terms_names ts)
+  occurring (equation positive s t) env = occurring_in env (term_names s) ++ occurring_in env (term_names t)
+  occurring (negation f) env = occurring f env
+  occurring (conjunction fs) env = all_occurring fs env
+  occurring (disjunction fs) env = all_occurring fs env
+  occurring (connected c f g) env = occurring f env ++ occurring g env
+  occurring (quantified q xs f) env = occurring f (with_closed xs env)
+
+  pub all_occurring : FormulaTrees → Environment → List ℕ
+  all_occurring no_formulas env = []
+  all_occurring (formula_then f fs) env = occurring f env ++ all_occurring fs env
+
+-- ---- Skolem terms with given arguments
+
+abbrev pub skolem_step : SymbolNumbers → List ℕ → List ℕ → Scope → Scope
+skolem_step n arguments x s =
     record {
       environment = (x, applied (n.first_skolem + length s.made.skolem_arities) arguments) ∷ s.environment;
       made =
@@ -42,3 +67,7 @@ skolem_step n free names x s =
             defining = s.made.defining;
           };
     }
+
+abbrev pub skolem_steps : SymbolNumbers → List ℕ → List (List ℕ) → Scope → Scope
+skolem_steps n arguments [] s = s
+skolem_steps n arguments (x ∷ xs) s = skolem_steps n arguments xs (skolem_step n arguments x s)

@@ -9,4 +9,4 @@ matrix_tree True = truth
 matrix_tree False = falsity
 matrix_tree (Lit l) = literal (literal_of l)
 matrix_tree (And ms) = conjunction (matrices_of ms)
-matrix_tree (Or ms) = disjunction (matrices_of ms)
+matrix_tree (Or made ms) = disjunction made (matrices_of ms)

@@ -46,7 +46,7 @@ abbrev mutual
       record { matrix = all_of s.matrices; made = s.made }
   skolemized n (disjunction fs) env m =
       let s : SkolemizedList = skolemized_list n fs env m in
-      record { matrix = some_of s.matrices; made = s.made }
+      record { matrix = some_of m.variables s.matrices; made = s.made }
   skolemized n (connected c f g) env m = record { matrix = true_matrix; made = m }
   skolemized n (quantified q xs f) env m =
       let s : Scope = scope_of n (makes_variables q true) xs f env m in

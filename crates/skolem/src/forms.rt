@@ -11,16 +11,15 @@ ghost use Rattle.formula_nnf.specs.Shape.{nnf_tree, signed};
 ghost use Rattle.skolem.specs.Matrix.{matrices_of};
 ghost use Rattle.skolem.specs.Shape.{matrix_tree};
 ghost use Rattle.skolem.specs.Skolemized.{skolemized, skolemized_list, numbers_after, skolemized_form, skolemized_symbols, AreKnown, AreUnused};
-ghost use Rattle.skolem.specs.Progress.{environment_of, made_of, scope_of_progress, skolem_step};
+ghost use Rattle.skolem.specs.Progress.{environment_of, made_of, scope_of_progress, skolem_step, skolem_steps};
 
 use crate::matrix::{Matrices, Matrix};
-use crate::names::push_free_names;
 use crate::progress::Progress;
 use crate::symbols::add_symbols;
 use crate::terms::{applied, number_in, term_under, terms_under};
 use fol_base::{Literal, Term};
 use formula_nnf::{Nnf, NnfBox};
-use plain_types::{Mem, NoMemory, Text, Texts};
+use plain_types::{Mem, NoMemory, Text};
 use signature::{Signature, SymbolKind};
 use std::alloc::Global;
 use tptp_tree::{TreeTerm, TreeTerms};
@@ -57,10 +56,10 @@ fn matrix_of(
 ) -> Mem<Matrix>
     requires known { AreKnown signature.now (formula_symbols (nnf_tree form.now)) }
     ensures matrix { IfOk result (λ matrix. matrix_tree matrix
-        ≡ (skolemized (numbers_after signature.now) (nnf_tree form.now) (environment_of progress.old.bindings.items) (made_of progress.old)).matrix) }
+        ≡ (skolemized (numbers_after signature.now) (nnf_tree form.now) (environment_of progress.old.bindings) (made_of progress.old)).matrix) }
     ensures made { IfOk result (λ _. made_of progress.new
-        ≡ (skolemized (numbers_after signature.now) (nnf_tree form.now) (environment_of progress.old.bindings.items) (made_of progress.old)).made) }
-    ensures bindings { IfOk result (λ _. progress.new.bindings.items ≡ progress.old.bindings.items) }
+        ≡ (skolemized (numbers_after signature.now) (nnf_tree form.now) (environment_of progress.old.bindings) (made_of progress.old)).made) }
+    ensures bindings { IfOk result (λ _. progress.new.bindings ≡ progress.old.bindings) }
 {
     match form {
         Nnf::True => Ok(Matrix::True),
@@ -77,12 +76,10 @@ fn matrix_of(
             forms.as_slice(),
             progress,
         )?)),
-        Nnf::Or(forms) => Ok(Matrix::Or(matrices_of(
-            alloc,
-            signature,
-            forms.as_slice(),
-            progress,
-        )?)),
+        Nnf::Or(forms) => Ok(Matrix::Or {
+            made: progress.variables,
+            members: matrices_of(alloc, signature, forms.as_slice(), progress)?,
+        }),
         Nnf::All(names, body) => {
             let before = progress.bindings.len();
             bind_variables(alloc, names.as_slice(), progress)?;
@@ -110,10 +107,10 @@ fn matrices_of(
 ) -> Mem<Matrices>
     requires known { AreKnown signature.now (formulas_symbols (formulas_of (map nnf_tree forms.now))) }
     ensures matrices { IfOk result (λ matrices. matrices_of matrices
-        ≡ (skolemized_list (numbers_after signature.now) (formulas_of (map nnf_tree forms.now)) (environment_of progress.old.bindings.items) (made_of progress.old)).matrices) }
+        ≡ (skolemized_list (numbers_after signature.now) (formulas_of (map nnf_tree forms.now)) (environment_of progress.old.bindings) (made_of progress.old)).matrices) }
     ensures made { IfOk result (λ _. made_of progress.new
-        ≡ (skolemized_list (numbers_after signature.now) (formulas_of (map nnf_tree forms.now)) (environment_of progress.old.bindings.items) (made_of progress.old)).made) }
-    ensures bindings { IfOk result (λ _. progress.new.bindings.items ≡ progress.old.bindings.items) }
+        ≡ (skolemized_list (numbers_after signature.now) (formulas_of (map nnf_tree forms.now)) (environment_of progress.old.bindings) (made_of progress.old)).made) }
+    ensures bindings { IfOk result (λ _. progress.new.bindings ≡ progress.old.bindings) }
 {
     let mut matrices = Matrices::new(alloc);
     for form in forms {
@@ -134,7 +131,7 @@ fn atom(
     requires known { AreKnown signature.now (formula_symbols (predicate name.now (terms_of arguments.now))) }
     ensures { IfOk result (λ matrix. matrix_tree matrix
         ≡ (skolemized (numbers_after signature.now) (signed positive (predicate name.now (terms_of arguments.now)))
-        (environment_of progress.now.bindings.items) (made_of progress.now)).matrix) }
+        (environment_of progress.now.bindings) (made_of progress.now)).matrix) }
 {
     let number = number_in(
         signature,
@@ -162,7 +159,7 @@ fn equation(
     requires known { AreKnown signature.now (term_symbols (term_of left.now) ++ term_symbols (term_of right.now)) }
     ensures { IfOk result (λ matrix. matrix_tree matrix
         ≡ (skolemized (numbers_after signature.now) (equation positive (term_of left.now) (term_of right.now))
-        (environment_of progress.now.bindings.items) (made_of progress.now)).matrix) }
+        (environment_of progress.now.bindings) (made_of progress.now)).matrix) }
 {
     Ok(Matrix::Lit(Literal {
         positive,
@@ -174,9 +171,9 @@ fn equation(
 /// Each name is bound to a new variable.
 fn bind_variables(alloc: Global, names: &[Text], progress: &mut Progress) -> Mem<()>
     ensures scope { IfOk result (λ _. scope_of_progress progress.new
-        ≡ with_variables names.now (environment_of progress.old.bindings.items) (made_of progress.old)) }
+        ≡ with_variables names.now (environment_of progress.old.bindings) (made_of progress.old)) }
     ensures bindings { IfOk result (λ _.
-        take (length progress.old.bindings.items) progress.new.bindings.items ≡ progress.old.bindings.items) }
+        take (length progress.old.bindings) progress.new.bindings ≡ progress.old.bindings) }
 {
     for name in names {
         progress.bind_variable(alloc, name)?;
@@ -184,7 +181,8 @@ fn bind_variables(alloc: Global, names: &[Text], progress: &mut Progress) -> Mem
     Ok(())
 }
 
-/// Each name is bound to a Skolem term, whose arguments are the variables in the terms of the form's other free variables.
+/// Each name is bound to a Skolem term, whose arguments are the variables in the terms of the form's other free variables. They are the
+/// same for all names, since the terms of the earlier ones have no other variables.
 fn bind_skolem_terms(
     alloc: Global,
     signature: &Signature,
@@ -193,42 +191,46 @@ fn bind_skolem_terms(
     progress: &mut Progress,
 ) -> Mem<()>
     ensures scope { IfOk result (λ _. scope_of_progress progress.new
-        ≡ with_skolem_terms (numbers_after signature.now) (free_names body.now) names.now (environment_of progress.old.bindings.items) (made_of progress.old)) }
+        ≡ with_skolem_terms (numbers_after signature.now) (free_names body.now) names.now (environment_of progress.old.bindings) (made_of progress.old)) }
     ensures bindings { IfOk result (λ _.
-        take (length progress.old.bindings.items) progress.new.bindings.items ≡ progress.old.bindings.items) }
+        take (length progress.old.bindings) progress.new.bindings ≡ progress.old.bindings) }
 {
-    let mut free = Texts::new(alloc);
-    push_free_names(alloc, body.get(), &mut free)?;
-    for place in 0..names.len() {
-        let name = &names[place];
-        bind_skolem_term(
-            alloc,
-            signature,
-            free.as_slice(),
-            &names[place..],
-            name,
-            progress,
-        )?;
+    let arguments = progress.arguments(alloc, names, body)?;
+    bind_applied(alloc, signature, names, arguments.as_slice(), progress)
+}
+
+/// Each name is bound to the next Skolem symbol, applied to those variables.
+fn bind_applied(
+    alloc: Global,
+    signature: &Signature,
+    names: &[Text],
+    arguments: &[u32],
+    progress: &mut Progress,
+) -> Mem<()>
+    ensures scope { IfOk result (λ _. scope_of_progress progress.new
+        ≡ skolem_steps (numbers_after signature.now) arguments.now names.now (scope_of_progress progress.old)) }
+    ensures bindings { IfOk result (λ _.
+        take (length progress.old.bindings) progress.new.bindings ≡ progress.old.bindings) }
+{
+    for name in names {
+        bind_skolem_term(alloc, signature, arguments, name, progress)?;
     }
     Ok(())
 }
 
-/// Binds a name, the first of those, to the next Skolem term. None of the names is free in the quantified form.
+/// Binds a name to the next Skolem symbol, applied to those variables.
 fn bind_skolem_term(
     alloc: Global,
     signature: &Signature,
-    free: &[Text],
-    names: &[Text],
+    arguments: &[u32],
     name: &Text,
     progress: &mut Progress,
 ) -> Mem<()>
     ensures scope { IfOk result (λ _.
-        scope_of_progress progress.new ≡ skolem_step (numbers_after signature.now) free.now names.now name.now (scope_of_progress progress.old)) }
+        scope_of_progress progress.new ≡ skolem_step (numbers_after signature.now) arguments.now name.now (scope_of_progress progress.old)) }
     ensures bindings { IfOk result (λ _.
-        take (length progress.old.bindings.items) progress.new.bindings.items ≡ progress.old.bindings.items) }
+        take (length progress.old.bindings) progress.new.bindings ≡ progress.old.bindings) }
 {
-    let variables = progress.arguments(alloc, free, names)?;
-    let arguments = variables.as_slice();
     let made = progress.arities.as_slice();
     let symbol = next_symbol(signature, made.len())?;
     let arity = arity_of(arguments.len())?;

@@ -1,14 +1,17 @@
 // Worked examples of the definitions: each is the contract of a function with an empty body.
 
 ghost use Rattle.std.specs.Prelude.{◌≡◌, [], ◌∷◌, codes, true};
-ghost use Rattle.tptp_tree.specs.Formula.{for_all, exists_some, quantified, conjunction as formula_conjunction, formula_then, no_formulas};
+ghost use Rattle.tptp_tree.specs.Formula.{for_all, exists_some, quantified, conjunction as formula_conjunction, disjunction as formula_disjunction, formula_then, no_formulas};
 ghost use Rattle.fol_base.specs.Tree.{variable, application, no_trees, tree_then};
 ghost use Rattle.signature.specs.Symbol.{function_symbol};
 ghost use Rattle.signature.specs.Clausal.{atom_literal};
-ghost use Rattle.skolem.specs.Matrix.{literal, conjunction, matrix_then, no_matrices};
-ghost use Rattle.skolem.specs.Skolemized.{skolemized_form, skolemized_symbols};
-ghost use Rattle.skolem.specs.SkolemizedLaws.{SkolemSymbolsOfMatrixAreCounted};
-ghost use Rattle.skolem.specs.Examples.{x, y, z, p_of, r_of, known};
+ghost use Rattle.signature.specs.Form.{nothing_made};
+ghost use Rattle.skolem.specs.Matrix.{falsity, literal, conjunction, disjunction, matrix_then, no_matrices};
+ghost use Rattle.skolem.specs.MatrixClauses.{matrix_clauses};
+ghost use Rattle.skolem.specs.Skolemized.{skolemized_form, skolemized_symbols, numbers_after};
+ghost use Rattle.skolem.specs.SkolemizedLaws.{SkolemSymbolsOfMatrixAreCounted, MatrixKeepsClauses, MatrixOfNormalFormKeepsClauses};
+ghost use Rattle.skolem.specs.ProblemLaws.{MatrixOfFormIsThatInProblem, ClausesInProblemAreThoseOfMatrix, NormalFormKeepsKnownSymbols, SkolemSymbolsAreNumberedOn, LaterNamesAreUnused};
+ghost use Rattle.skolem.specs.Examples.{x, y, z, p_of, r_of, known, p_literal};
 
 /// The matrix of `! [X] : ? [Y] : r(X,Y)` is `r(X0,sk0(X0))`, and sk0 comes after the symbols that are there.
 pub fn argument_examples()
@@ -29,7 +32,55 @@ pub fn scope_examples()
         (matrix_then (literal (atom_literal true (application 1 (tree_then (variable 1) no_trees)))) no_matrices)) }
 {}
 
+/// A conjunction's clauses come one after the other; `(p(X0) & p(X1)) | p(X2)` has the two clauses of its product; `$false` has the empty
+/// clause; a disjunction carries how many variables were made before it, in `! [X] : (p(X) | p(X))` one.
+pub fn clause_examples()
+    ensures listed { (matrix_clauses (numbers_after known) (conjunction (matrix_then (literal (p_literal 0)) (matrix_then falsity no_matrices))) nothing_made).clauses
+        ≡ (p_literal 0 ∷ []) ∷ [] ∷ [] }
+    ensures product { (matrix_clauses (numbers_after known) (disjunction 3 (matrix_then
+        (conjunction (matrix_then (literal (p_literal 0)) (matrix_then (literal (p_literal 1)) no_matrices)))
+        (matrix_then (literal (p_literal 2)) no_matrices))) nothing_made).clauses
+        ≡ (p_literal 0 ∷ p_literal 2 ∷ []) ∷ (p_literal 1 ∷ p_literal 2 ∷ []) ∷ [] }
+    ensures before { (skolemized_form known (quantified for_all (x ∷ []) (formula_disjunction (formula_then (p_of x) (formula_then (p_of x) no_formulas))))).matrix
+        ≡ disjunction 1 (matrix_then (literal (p_literal 0)) (matrix_then (literal (p_literal 0)) no_matrices)) }
+{}
+
 /// The matrix of a normal form has as many Skolem symbols as are counted.
 pub fn skolem_symbols_of_matrix_are_counted()
     ensures { SkolemSymbolsOfMatrixAreCounted }
+{}
+
+/// The clauses of a formula in negation normal form are those of its matrix.
+pub fn matrix_keeps_clauses()
+    ensures { MatrixKeepsClauses }
+{}
+
+/// The clauses of a formula with a sign are those of its normal form's matrix.
+pub fn matrix_of_normal_form_keeps_clauses()
+    ensures { MatrixOfNormalFormKeepsClauses }
+{}
+
+/// A form has the same matrix by itself and in its problem.
+pub fn matrix_of_form_is_that_in_problem()
+    ensures { MatrixOfFormIsThatInProblem }
+{}
+
+/// The clauses of a formula of a problem are those of its normal form's matrix.
+pub fn clauses_in_problem_are_those_of_matrix()
+    ensures { ClausesInProblemAreThoseOfMatrix }
+{}
+
+/// A normal form has no symbols but the formula's.
+pub fn normal_form_keeps_known_symbols()
+    ensures { NormalFormKeepsKnownSymbols }
+{}
+
+/// The Skolem symbols of a form are named by the numbers after those that were made before it.
+pub fn skolem_symbols_are_numbered_on()
+    ensures { SkolemSymbolsAreNumberedOn }
+{}
+
+/// The names with a fresh prefix are unused, and so are those with numbers after the ones that were given.
+pub fn later_names_are_unused()
+    ensures { LaterNamesAreUnused }
 {}

@@ -1,10 +1,12 @@
 // Formulas without quantifiers: new variables and Skolem terms stand for the variables of a normal form.
 #![tactic(auto)]
 
+mod bindings;
 mod forms;
 pub mod laws;
 mod matrix;
-mod names;
+mod name;
+mod occurring;
 mod progress;
 mod symbols;
 mod terms;

@@ -16,7 +16,9 @@ pub enum Matrix {
     False,
     Lit(Literal),
     And(Matrices),
-    Or(Matrices),
+    /// How many variables of the formula were made before the work on the disjunction began: they alone may be arguments of a name
+    /// that is given to a part of its product.
+    Or { made: u32, members: Matrices },
 }
 
 /// A list of matrices, which contracts see as the list of their trees.

@@ -45,7 +45,7 @@ pub(crate) fn term_under(
     term: &TreeTerm,
 ) -> Mem<Term>
     requires known { AreKnown signature.now (term_symbols (term_of term.now)) }
-    ensures { IfOk result (λ tree. tree_of tree ≡ term_under signature.now (environment_of progress.now.bindings.items) (term_of term.now)) }
+    ensures { IfOk result (λ tree. tree_of tree ≡ term_under signature.now (environment_of progress.now.bindings) (term_of term.now)) }
 {
     match term {
         TreeTerm::Var(name) => progress.term_in_force(alloc, name),
@@ -72,7 +72,7 @@ pub(crate) fn terms_under(
 ) -> Mem<Terms>
     requires known { AreKnown signature.now (terms_symbols (terms_of (map term_of terms.now))) }
     ensures { IfOk result (λ trees.
-        trees_of trees ≡ terms_under signature.now (environment_of progress.now.bindings.items) (terms_of (map term_of terms.now))) }
+        trees_of trees ≡ terms_under signature.now (environment_of progress.now.bindings) (terms_of (map term_of terms.now))) }
 {
     let mut trees = Terms::new(alloc);
     for term in terms {

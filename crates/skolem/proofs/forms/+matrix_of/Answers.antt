@@ -1,6 +1,6 @@
 use Rattle.std.proofs.Common.{◌++◌, arith, ap, refl, ◌∙◌}
 use Rattle.skolem.specs.Matrix.{matrices_of}
-use Rattle.skolem.proofs.NameLemmas.{form-item-is}
+use Rattle.skolem.proofs.OccurringLemmas.{form-item-is}
 use Rattle.skolem.proofs.FormLemmas.{listed, matrices_left, forms-known}
 use Rattle.skolem.proofs.forms.+matrix_of.Goals as goal
 

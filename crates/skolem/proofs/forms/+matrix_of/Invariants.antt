@@ -17,8 +17,8 @@ decreases-matrices_of l = 2 * formulas_size (formulas_of (map nnf_tree l.forms.n
 abbrev pub invariant-matrices_of-loop-form : goal.invariant-matrices_of-loop-form
 invariant-matrices_of-loop-form l =
     (matrices_of (l.matrices ++ matrices_left l.signature l.forms l.form-index l.progress)
-    ≡ (skolemized_list (numbers_after l.signature) (formulas_of (map nnf_tree l.forms)) (environment_of l.initial.progress.bindings.items) (made_of l.initial.progress)).matrices)
+    ≡ (skolemized_list (numbers_after l.signature) (formulas_of (map nnf_tree l.forms)) (environment_of l.initial.progress.bindings) (made_of l.initial.progress)).matrices)
     × ((made_left l.signature l.forms l.form-index l.progress
-    ≡ (skolemized_list (numbers_after l.signature) (formulas_of (map nnf_tree l.forms)) (environment_of l.initial.progress.bindings.items) (made_of l.initial.progress)).made)
-    × ((l.progress.bindings.items ≡ l.initial.progress.bindings.items)
+    ≡ (skolemized_list (numbers_after l.signature) (formulas_of (map nnf_tree l.forms)) (environment_of l.initial.progress.bindings) (made_of l.initial.progress)).made)
+    × ((l.progress.bindings ≡ l.initial.progress.bindings)
     × AreKnown l.signature (formulas_symbols (formulas_of (map nnf_tree (drop l.form-index l.forms))))))

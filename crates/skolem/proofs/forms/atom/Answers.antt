@@ -14,7 +14,7 @@ number_in-requires c =
 pub returns : goal.returns
 returns c =
     atom-matrix c.args.signature.now c.args.positive c.args.name.now (terms_of c.args.arguments.now)
-    (environment_of c.args.progress.now.bindings.items) (made_of c.args.progress.now) _ _
-    (head-under c.args.signature.now (environment_of c.args.progress.now.bindings.items) Predicate c.args.name.now _ c.args.arguments.now _ _ _
+    (environment_of c.args.progress.now.bindings) (made_of c.args.progress.now) _ _
+    (head-under c.args.signature.now (environment_of c.args.progress.now.bindings) Predicate c.args.name.now _ c.args.arguments.now _ _ _
     c.in_ok-arguments.arguments c.as_slice.ensures c.as_slice-2.ensures c.as_slice-3.ensures c.in_ok-number.ensures c.in_ok-arguments.ensures)
     c.truth.ensures

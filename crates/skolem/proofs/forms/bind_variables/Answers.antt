@@ -8,9 +8,9 @@ loop-name-preserved c = (
       c.loop-name-test.true c.name-item.is c.in_ok-bind_variable.ensures.bindings c.in_ok-bind_variable.ensures.variables
       c.in_ok-bind_variable.ensures.arities c.loop-name.invariant.0,
   (
-    take-kept c.args.progress.now.bindings.items c.loop-name.progress.bindings.items _ _ c.loop-name.invariant.1.0
+    take-kept c.args.progress.now.bindings c.loop-name.progress.bindings _ _ c.loop-name.invariant.1.0
         c.in_ok-bind_variable.ensures.bindings c.loop-name.invariant.1.1,
-    longer-kept c.args.progress.now.bindings.items c.loop-name.progress.bindings.items _ _ c.in_ok-bind_variable.ensures.bindings
+    longer-kept c.args.progress.now.bindings c.loop-name.progress.bindings _ _ c.in_ok-bind_variable.ensures.bindings
         c.loop-name.invariant.1.1,
   ),
 )

@@ -5,7 +5,7 @@ use Rattle.skolem.proofs.forms.bind_variables.Given as goal
 
 abbrev pub invariant-loop-name : goal.invariant-loop-name
 invariant-loop-name l =
-    (with_variables (drop l.name-index l.names) (environment_of l.progress.bindings.items) (made_of l.progress)
-    ≡ with_variables l.names (environment_of l.initial.progress.bindings.items) (made_of l.initial.progress))
-    × ((take (length l.initial.progress.bindings.items) l.progress.bindings.items ≡ l.initial.progress.bindings.items)
-    × (length l.initial.progress.bindings.items ≤ length l.progress.bindings.items))
+    (with_variables (drop l.name-index l.names) (environment_of l.progress.bindings) (made_of l.progress)
+    ≡ with_variables l.names (environment_of l.initial.progress.bindings) (made_of l.initial.progress))
+    × ((take (length l.initial.progress.bindings) l.progress.bindings ≡ l.initial.progress.bindings)
+    × (length l.initial.progress.bindings ≤ length l.progress.bindings))

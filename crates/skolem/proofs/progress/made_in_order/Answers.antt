@@ -1,9 +1,20 @@
-use Rattle.std.proofs.Common.{sym}
-use Rattle.skolem.proofs.ProgressLemmas.{order-with, order-without}
+use Rattle.std.proofs.Common.{◌≡◌, sym, ◌∙◌, ap, subst}
+use Rattle.std.specs.List.Sorted.{IsNonDecreasingBy}
+use Rattle.std.proofs.lemmas.List.Sorted.{IsNonDecreasingBy-from_sort}
+use Rattle.signature.specs.Clausal.{made_in_order}
+use Rattle.skolem.proofs.OrderLemmas.{order-of-sorted, if-ok}
 use Rattle.skolem.proofs.progress.made_in_order.Goals as goal
 
-pub loop-variable-preserved-then-not-occurs : goal.loop-variable-preserved-then-not-occurs
-loop-variable-preserved-then-not-occurs c = order-without _ c.loop-variable.variable c.args.occurring.now c.loop-variable.invariant (sym c.if-not-occurs.ensures)
+pub once_each-requires : goal.once_each-requires
+once_each-requires c =
+    record {
+      sorted =
+          subst (IsNonDecreasingBy (λ v. v)) (sym c.as_slice.ensures.value)
+          (IsNonDecreasingBy-from_sort (λ v. v) c.sort_unstable.new.self.items c.sort_unstable.ensures.sorted);
+    }
 
-pub loop-variable-preserved : goal.loop-variable-preserved
-loop-variable-preserved c = order-with _ _ c.loop-variable.variable c.args.occurring.now c.loop-variable.invariant (sym c.if-not-occurs.ensures) c.in_ok-push.ensures.items
+pub returns : goal.returns
+returns c =
+    if-ok c.once_each.result _ _
+    (λ found h. order-of-sorted c.args.variables c.args.occurring.now.items c.sort_unstable.new.self.items found.items c.sort_unstable.ensures.permutation
+    (h ∙ ap (made_in_order c.args.variables) c.as_slice.ensures.value)) c.once_each.ensures

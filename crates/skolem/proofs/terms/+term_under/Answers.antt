@@ -20,14 +20,14 @@ term_under-number_in-requires t c =
 
 pub term_under-returns-in_ok-arguments-in-App : goal.term_under-returns-in_ok-arguments-in-App
 term_under-returns-in_ok-arguments-in-App t c =
-    head-under c.args.signature.now (environment_of c.args.progress.now.bindings.items) Function c.in-App.name _ c.in-App.arguments _ _ _
+    head-under c.args.signature.now (environment_of c.args.progress.now.bindings) Function c.in-App.name _ c.in-App.arguments _ _ _
     c.in_ok-arguments-in-App.arguments c.as_slice.ensures c.as_slice-in-App.ensures c.as_slice-in-App-2.ensures
     c.in_ok-number-in-App.ensures c.in_ok-arguments-in-App.ensures
-    ∙ sym (ap (λ u. term_under c.args.signature.now (environment_of c.args.progress.now.bindings.items) (term_of u)) c.in-App.is)
+    ∙ sym (ap (λ u. term_under c.args.signature.now (environment_of c.args.progress.now.bindings) (term_of u)) c.in-App.is)
 
 pub terms_under-loop-term-init : goal.terms_under-loop-term-init
 terms_under-loop-term-init t c = (
-  ap (λ us. trees_of (us ++ trees_left c.args.signature.now (environment_of c.args.progress.now.bindings.items) c.args.terms.now 0)) c.new-trees.ensures
+  ap (λ us. trees_of (us ++ trees_left c.args.signature.now (environment_of c.args.progress.now.bindings) c.args.terms.now 0)) c.new-trees.ensures
       ∙ listed _,
   c.requires.known,
 )

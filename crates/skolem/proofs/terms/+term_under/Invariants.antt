@@ -17,6 +17,6 @@ decreases-terms_under l = 2 * terms_size (terms_of (map term_of l.terms.now)) + 
 
 abbrev pub invariant-terms_under-loop-term : goal.invariant-terms_under-loop-term
 invariant-terms_under-loop-term l =
-    (trees_of (l.trees ++ trees_left l.signature (environment_of l.progress.bindings.items) l.terms l.term-index)
-    ≡ terms_under l.signature (environment_of l.progress.bindings.items) (terms_of (map term_of l.terms)))
+    (trees_of (l.trees ++ trees_left l.signature (environment_of l.progress.bindings) l.terms l.term-index)
+    ≡ terms_under l.signature (environment_of l.progress.bindings) (terms_of (map term_of l.terms)))
     × AreKnown l.signature (terms_symbols (terms_of (map term_of (drop l.term-index l.terms))))

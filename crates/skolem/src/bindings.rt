@@ -1,0 +1,150 @@
+// The variables in force.
+
+ghost use Rattle.std.specs.Prelude.{◌≡◌, ◌<◌, ◌-◌, ◌++◌, ◌∷◌, [], length, take, get_or, IfOk};
+ghost use Rattle.std.specs.Option.{option_map, unwrap_or};
+ghost use Rattle.fol_base.specs.Tree.{variable};
+ghost use Rattle.fol_base.specs.Term.{tree_of};
+ghost use Rattle.signature.specs.Environment.{term_in_force};
+ghost use Rattle.skolem.specs.declared.bindings.Entry.{Entry};
+ghost use Rattle.skolem.specs.Bindings.{place_in};
+ghost use Rattle.skolem.specs.Progress.{environment_of};
+
+use crate::name::{VariableName, VariableRef};
+use fol_base::Term;
+use indexmap::IndexMap;
+use plain_types::{Mem, Text};
+use std::alloc::Global;
+use std::marker::Model;
+
+/// What a name without a variable in force stands for. A form without free variables has none.
+pub(crate) const NO_VARIABLE_IN_FORCE: u32 = 0;
+
+/// A variable in force, and the term that stands for it.
+#[derive(Drop)]
+pub(crate) struct Binding {
+    pub name: Text,
+    pub term: Term,
+}
+
+/// A binding, with one more than the place of the binding of its name that it hides, or 0.
+#[derive(Drop)]
+pub(crate) struct Entry {
+    pub binding: Binding,
+    pub hidden: usize,
+}
+
+/// The variables in force, which contracts see as the list of their bindings, the innermost last. A name is found by a table.
+#[derive(Drop)]
+pub(crate) struct Bindings {
+    entries: Vec<Entry>,
+    /// One more than the place of the innermost binding of each name that was bound, or 0 where it isn't now.
+    innermost: IndexMap<VariableName, usize>,
+}
+
+impl Model for Bindings {
+    ghost use Rattle.std.specs.Prelude.{List};
+    ghost use Rattle.skolem.specs.declared.bindings.Binding.{Binding};
+    ghost use Rattle.skolem.specs.Bindings.{bindings_of, IsChained};
+
+    ghost Value = { List Binding };
+
+    ghost use Rattle.std.specs.Coded.{codes};
+    ghost use Rattle.fol_base.specs.TreeCode.{tree_code};
+
+    ghost coded = { Prim.hlevel (codes, tree_code) };
+
+    ghost view = { λ a. bindings_of a.entries.items };
+
+    ghost invariant = { λ a. IsChained a.entries.items a.innermost.entries };
+}
+
+impl Bindings {
+    /// No variable is in force.
+    pub(crate) fn new(alloc: Global) -> Bindings
+        ensures { result ≡ [] }
+    {
+        Bindings {
+            entries: Vec::new(alloc),
+            innermost: IndexMap::new(alloc),
+        }
+    }
+
+    /// How many bindings there are.
+    pub(crate) fn len(&self) -> usize
+        ensures { result ≡ length self.now }
+    {
+        self.entries.len()
+    }
+
+    /// The term of the innermost variable of that name; none where there is no such variable.
+    pub(crate) fn find(&self, name: &Text) -> Option<&Term>
+        ensures { unwrap_or (option_map (λ term. tree_of term.now) result) (variable 0) ≡ term_in_force (environment_of self.now) name.now }
+    {
+        let place = place_of(&self.innermost, name);
+        if place == 0 {
+            return None;
+        }
+        let entry = entry_at(self.entries.as_slice(), place - 1);
+        Some(&entry.binding.term)
+    }
+
+    /// Adds a binding, the innermost.
+    pub(crate) fn push(&mut self, alloc: Global, name: &Text, term: Term) -> Mem<()>
+        ensures { IfOk result (λ _. self.new ≡ self.old ++ record { name = name.now; term = term } ∷ []) }
+    {
+        let key = VariableName {
+            text: name.copy(alloc)?,
+        };
+        let binding = Binding {
+            name: name.copy(alloc)?,
+            term,
+        };
+        let hidden = place_of(&self.innermost, name);
+        self.entries.reserve(1)?;
+        self.innermost.reserve(1)?;
+        self.entries.push_reserved(Entry { binding, hidden });
+        let place = self.entries.as_slice().len();
+        self.innermost.insert(key, place).unwrap();
+        Ok(())
+    }
+
+    /// Drops the bindings from that place on, the innermost first.
+    pub(crate) fn truncate(&mut self, len: usize)
+        ensures { self.new ≡ take len self.old }
+    {
+        while self.len() > len {
+            self.pop();
+        }
+    }
+
+    /// Drops the innermost binding. There is one.
+    fn pop(&mut self)
+        requires { 0 < length self.old }
+        ensures { self.new ≡ take (length self.old - 1) self.old }
+    {
+        let Entry { binding, hidden } = self.entries.pop().unwrap();
+        let key = VariableName { text: binding.name };
+        self.innermost.insert(key, hidden).unwrap();
+    }
+}
+
+/// The entry at a place.
+fn entry_at(entries: &[Entry], place: usize) -> &Entry
+    requires { place < length entries.now }
+    ensures { (d : Entry) → result.now ≡ get_or entries.now place d }
+{
+    &entries[place]
+}
+
+/// One more than the place of a name, or 0.
+fn place_of(innermost: &IndexMap<VariableName, usize>, name: &Text) -> usize
+    ensures { result ≡ place_in innermost.now.entries name.now }
+{
+    let key = VariableRef {
+        text: name.as_slice(),
+    };
+    match innermost.get(key) {
+        Some(place) => *place,
+        None => 0,
+    }
+}
