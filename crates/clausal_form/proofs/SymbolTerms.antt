@@ -1,5 +1,5 @@
 -- Terms whose symbols a form has are over its function symbols.
-use Rattle.std.proofs.Common.{◌≡◌, ℕ, suc, ◌+◌, Bool, true, false, not, ◌&&◌, ◌||◌, ◌==◌, List, [], ◌∷◌, ◌++◌, map, Option, Some, None, refl, ap, sym, ◌∙◌, subst, arith}
+use Rattle.std.proofs.Common.{◌≡◌, ℕ, suc, ◌+◌, Bool, true, false, not, ◌&&◌, ◌||◌, ◌==◌, List, [], ◌∷◌, ◌++◌, map, Option, Some, None, refl, ap, sym, ◌∙◌, subst, arith, append-nil, fold}
 use Rattle.std.specs.Prelude.{unwrap_or, option_map, flat_map, bytes_eq, if◌then◌else◌}
 use Rattle.std.specs.List.{list_all}
 use Rattle.std.proofs.lemmas.Bool.{and_parts, and_from, or_left, or_right, eq-eqb, true≢false}
@@ -9,11 +9,11 @@ use Rattle.fol_base.specs.Tree.{variable, Trees, trees_count}
 use Rattle.fol_base.specs.Ground.{is_over, are_over, has_symbol as has_function}
 use Rattle.tptp_tree.specs.Term.{TermTree, variable as named_variable, application as named_application, TermTrees, no_terms, term_then}
 use Rattle.signature.specs.declared.symbol.Symbol.{Symbol}
-use Rattle.signature.specs.Symbol.{is_predicate_kind, function_symbol, same_symbol, has_symbol, number_of}
+use Rattle.signature.specs.Symbol.{is_predicate_kind, function_symbol, same_symbol, has_symbol, with_symbol, number_of}
 use Rattle.signature.specs.SymbolLaws.{same_symbol-true}
 use Rattle.signature.specs.Occurrences.{terms_count, term_symbols, terms_symbols, formula_symbols}
-use Rattle.signature.specs.Environment.{Environment, term_in_force, term_under, terms_under}
-use Rattle.clausal_form.specs.DerivationClause.{numbered_from}
+use Rattle.signature.specs.Environment.{Environment, different_names, term_in_force, term_under, terms_under}
+use Rattle.clausal_form.specs.DerivationClause.{numbered_from, variables_in}
 use Rattle.clausal_form.specs.DerivationLine.{LineTree, Taken}
 use Rattle.clausal_form.specs.DerivationParts.{Setting, line_literals, all_bound, bound_terms}
 use Rattle.clausal_form.specs.DerivationCauses.{has_new_symbol}
@@ -149,6 +149,12 @@ lists-over known more n xs (Some ts ∷ os) all =
     and_from (list_all (is_over (functions_of known)) (map (term_under (known ++ more) (numbered_from n xs)) ts)) _
     (list-over known more n xs ts parts.0) (lists-over known more n xs os parts.1)
 
+folded-known : (known ss : List Symbol) → AllKnown known ss → fold with_symbol known ss ≡ known
+folded-known known [] all = refl
+folded-known known (s ∷ ss) all =
+    let parts : (has_symbol s known ≡ true) × AllKnown known ss = and_parts (has_symbol s known) (list_all (λ x. has_symbol x known) ss) all in
+    ap (λ b. fold with_symbol (if b then known else known ++ s ∷ []) ss) parts.0 ∙ folded-known known ss parts.1
+
 pub known-bound : (s : Setting) (e : Taken) (t : LineTree) → has_new_symbol s e t ≡ false → Binds (is_over (functions_of (s.form).symbols)) s e t
 known-bound s e t h =
     let known : List Symbol = (s.form).symbols in
@@ -157,7 +163,12 @@ known-bound s e t h =
     let all : list_all (λ x. has_symbol x known) (first ++ second) ≡ true = negated (list_all (λ x. has_symbol x known) (first ++ second)) h in
     let parts = and_parts (list_all (λ x. has_symbol x known) first) (list_all (λ x. has_symbol x known) second)
     (sym (list_all-append (λ x. has_symbol x known) first second) ∙ all) in
-    lists-over known (first ++ second) 0 _ (bound_terms t) parts.1
+    let xs : List (List ℕ) = different_names (variables_in (line_literals e t) (all_bound t)) in
+    subst
+    (λ ks.
+        list_all (list_all (is_over (functions_of known)))
+        (map (λ o. unwrap_or o []) (map (option_map (map (term_under ks (numbered_from 0 xs)))) (bound_terms t))) ≡ true)
+    (sym (folded-known known (first ++ second) all ∙ sym (append-nil known))) (lists-over known [] 0 xs (bound_terms t) parts.1)
   where
     negated : (b : Bool) → not b ≡ false → b ≡ true
     negated true h = refl

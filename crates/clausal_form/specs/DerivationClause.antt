@@ -1,7 +1,7 @@
 -- The clause that a line of a derivation is written with: its ordinary literals over the symbols' numbers, and its names. A literal
 -- of a nullary predicate that is introduced as a name is a name.
 use mathlib.Core.Bool.{beq}
-use Rattle.std.specs.Prelude.{ℕ, ◌+◌, Bool, true, false, ◌&&◌, List, [], ◌∷◌, ◌++◌, map, filter, filter_map, flat_map, Option, None, option_map, is_some, is_none, position, bytes_eq, if◌then◌else◌}
+use Rattle.std.specs.Prelude.{ℕ, ◌+◌, Bool, true, false, ◌&&◌, List, [], ◌∷◌, ◌++◌, map, filter, filter_map, flat_map, fold, Option, None, option_map, is_some, is_none, position, bytes_eq, if◌then◌else◌}
 use Rattle.std.specs.List.{list_all}
 use Rattle.plain_types.specs.declared.sequence.NameLit.{NameLit}
 use Rattle.fol_base.specs.Tree.{Tree, variable, application, true_tree}
@@ -9,7 +9,7 @@ use Rattle.fol_base.specs.Clause.{TreeLiteral, TreeClause}
 use Rattle.tptp_tree.specs.Term.{TermTree, no_terms}
 use Rattle.tptp_tree.specs.Formula.{FormulaTree, truth, falsity, predicate, equation, negation, disjunction, list_of_formulas}
 use Rattle.signature.specs.declared.symbol.Symbol.{Symbol}
-use Rattle.signature.specs.Symbol.{predicate_symbol, number_of}
+use Rattle.signature.specs.Symbol.{predicate_symbol, number_of, with_symbol}
 use Rattle.signature.specs.Occurrences.{terms_count, term_symbols, formula_symbols}
 use Rattle.signature.specs.Environment.{Environment, term_names, free_names, different_names, term_under, terms_under}
 use Rattle.signature.specs.Clausal.{atom_literal}
@@ -92,14 +92,14 @@ abbrev pub variables_in : List FormulaTree → List TermTree → List (List ℕ)
 variables_in literals bound = flat_map free_names literals ++ flat_map term_names bound
 
 -- How a line's symbols and variables are numbered, both by their first occurrences. Symbols of the form keep their numbers, and new ones
--- come behind them; variables are numbered from 0.
+-- come behind them, each once; variables are numbered from 0.
 pub record Numbering : Type 0 where
   pub symbols : List Symbol
   pub variables : Environment
 
 abbrev pub numbering : List Symbol → List FormulaTree → List TermTree → Numbering
 numbering known literals bound = record {
-  symbols = known ++ symbols_in literals bound;
+  symbols = fold with_symbol known (symbols_in literals bound);
   variables = numbered_from 0 (different_names (variables_in literals bound));
 }
 

@@ -1,5 +1,5 @@
 -- That the symbols of a problem are those of a signature, and stay so.
-use Rattle.std.proofs.Common.{◌≡◌, ℕ, zero, suc, ◌+◌, ◌<◌, ◌≤◌, ◌^◌, Bool, true, false, not, ◌||◌, List, [], ◌∷◌, ◌++◌, length, take, drop, cond, subst, refl, ap, sym, ◌∙◌, arith}
+use Rattle.std.proofs.Common.{◌≡◌, ℕ, zero, suc, ◌+◌, ◌<◌, ◌≤◌, ◌^◌, Bool, true, false, not, ◌||◌, List, [], ◌∷◌, ◌++◌, length, take, drop, get_or, cond, subst, refl, ap, sym, ◌∙◌, arith}
 use Rattle.std.specs.Prelude.{fold, flat_map, slice_get, Some, IsFalse, if◌then◌else◌}
 use Rattle.std.specs.List.{list_any, position_or_len}
 use Rattle.std.proofs.lemmas.Bool.{and_parts, and_from}
@@ -10,7 +10,7 @@ use Rattle.tptp_tree.specs.Shape.{formula_of}
 use Rattle.signature.specs.declared.symbol.Symbol.{Symbol}
 use Rattle.signature.specs.Symbol.{true_symbol, same_symbol, has_symbol, with_symbol, are_different, IsSignature}
 use Rattle.signature.specs.SymbolLaws.{same_symbol-refl, same_symbol-true}
-use Rattle.signature.proofs.OccurrenceLemmas.{annotated-end}
+use Rattle.signature.proofs.OccurrenceLemmas.{annotated-end, drop-item, drop-end}
 use Rattle.signature.specs.Occurrences.{term_symbols, terms_symbols, formula_symbols, formulas_symbols, annotated_symbols, problem_symbols, occurrences, all_occurrences, total_occurrences, HasProblemSize}
 
 same_symbol-sym : (s t : Symbol) → same_symbol s t ≡ false → same_symbol t s ≡ false
@@ -208,3 +208,53 @@ signature-fewer known n l h =
       different = different-fewer known n h.different;
       few = omega (arith, length-fewer known n, h.few);
     }
+
+-- ---- a copy
+
+all-different : (s : Symbol) (known ss : List Symbol) → are_different (known ++ s ∷ ss) ≡ true → has_symbol s known ≡ false
+all-different s [] ss h = refl
+all-different s (k ∷ known) ss h =
+    let parts : (not (has_symbol k (known ++ s ∷ ss)) ≡ true) × (are_different (known ++ s ∷ ss) ≡ true) = and_parts _ _ h in
+    both (same_symbol s k) (has_symbol s known) (same_symbol-sym k s (apart known parts.0)) (all-different s known ss parts.1)
+  where
+    both : (a b : Bool) → a ≡ false → b ≡ false → (a || b) ≡ false
+    both a b e f = ap (λ x. x || b) e ∙ f
+
+    first : (a b : Bool) → not (a || b) ≡ true → a ≡ false
+    first true b g = cc
+    first false b g = refl
+
+    later : (a b : Bool) → not (a || b) ≡ true → not b ≡ true
+    later true b g = cc
+    later false b g = g
+
+    apart : (ks : List Symbol) → not (has_symbol k (ks ++ s ∷ ss)) ≡ true → same_symbol k s ≡ false
+    apart [] g = first (same_symbol k s) (has_symbol k ss) g
+    apart (j ∷ ks) g = apart ks (later (same_symbol k j) (has_symbol k (ks ++ s ∷ ss)) g)
+
+append-one : {X : Type 0} (xs : List X) (y : X) (ys : List X) → (xs ++ y ∷ []) ++ ys ≡ xs ++ y ∷ ys
+append-one [] y ys = refl
+append-one (x ∷ xs) y ys = ap (λ zs. x ∷ zs) (append-one xs y ys)
+
+append-none : {X : Type 0} (xs : List X) → xs ++ [] ≡ xs
+append-none [] = refl
+append-none (x ∷ xs) = ap (λ zs. x ∷ zs) (append-none xs)
+
+met-different : (known ss : List Symbol) → are_different (known ++ ss) ≡ true → fold with_symbol known ss ≡ known ++ ss
+met-different known [] h = sym (append-none known)
+met-different known (s ∷ ss) h =
+    ap (λ b. fold with_symbol (if b then known else known ++ s ∷ []) ss) (all-different s known ss h)
+    ∙ met-different (known ++ s ∷ []) ss (ap are_different (append-one known s ss) ∙ h)
+    ∙ append-one known s ss
+
+-- different symbols, met one after another
+pub copy-begins : (known ss : List Symbol) → known ≡ [] → IsSignature ss → fold with_symbol known ss ≡ ss
+copy-begins known ss e h = ap (λ ks. fold with_symbol ks ss) e ∙ met-different [] ss h.different
+
+pub symbols-end : (known ss : List Symbol) (i : ℕ) → length ss ≤ i → fold with_symbol known (drop i ss) ≡ known
+symbols-end known ss i h = ap (fold with_symbol known) (drop-end ss i h)
+
+pub symbols-step :
+    (known ss : List Symbol) (i : ℕ) (s : Symbol)
+    → i < length ss → s ≡ get_or ss i s → fold with_symbol (with_symbol known s) (drop (i + 1) ss) ≡ fold with_symbol known (drop i ss)
+symbols-step known ss i s h e = ap (fold with_symbol known) (sym (drop-item ss i s h e))

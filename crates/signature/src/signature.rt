@@ -42,6 +42,17 @@ impl Signature {
         })
     }
 
+    /// An equal signature.
+    pub fn copy(&self, alloc: Global) -> Mem<Signature>
+        ensures { IfOk result (λ copy. copy ≡ self.now) }
+    {
+        let mut symbols = IndexSet::with_capacity(alloc, self.symbols.len())?;
+        for symbol in self.symbols.as_slice() {
+            symbols.insert_full(symbol.lend().copy(alloc)?)?;
+        }
+        Ok(Signature { symbols })
+    }
+
     /// The number of a symbol; none where it isn't there.
     pub fn number(&self, symbol: &Symbol) -> Option<u32>
         ensures value { result ≡ position (same_symbol symbol.now) self.now }
