@@ -9,7 +9,7 @@ use Rattle.tptp_tree.specs.Term.{terms_of}
 use Rattle.tptp_tree.specs.Formula.{exists_some, FormulaTree, truth, falsity, predicate, equation, negation, conjunction, disjunction, connected, quantified, FormulaTrees, no_formulas, formula_then, formula_size, formulas_size, formulas_of}
 use Rattle.tptp_tree.specs.Shape.{term_of}
 use Rattle.tptp_tree.specs.declared.term.TreeTerm.{TreeTerm}
-use Rattle.fol_base.specs.Tree.{Tree, tree_variables, true_tree}
+use Rattle.fol_base.specs.Tree.{tree_variables, true_tree}
 use Rattle.fol_base.specs.Term.{tree_of}
 use Rattle.fol_base.specs.Canonical.{numbers_from}
 use Rattle.fol_base.proofs.TestLemmas.{list_any-agree}
