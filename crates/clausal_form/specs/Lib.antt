@@ -1,0 +1,5 @@
+pub mod MatrixClauses
+pub mod Written
+pub mod Measure
+pub mod Agenda
+pub mod Occurring

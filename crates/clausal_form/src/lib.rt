@@ -1,0 +1,5 @@
+// The clausal form of a problem.
+#![tactic(auto)]
+
+mod measure;
+mod writing;
