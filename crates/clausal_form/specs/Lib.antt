@@ -1,4 +1,3 @@
-pub mod MatrixClauses
 pub mod Written
 pub mod Measure
 pub mod Agenda

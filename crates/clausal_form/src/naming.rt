@@ -6,7 +6,7 @@ ghost use Rattle.fol_base.specs.Term.{tree_of};
 ghost use Rattle.signature.specs.Clausal.{all_pairs, atom_literal, named, product};
 ghost use Rattle.skolem.specs.Matrix.{matrices_of};
 ghost use Rattle.skolem.specs.Shape.{matrix_tree};
-ghost use Rattle.clausal_form.specs.MatrixClauses.{matrix_clauses, matrices_clauses, matrix_products};
+ghost use Rattle.skolem.specs.MatrixClauses.{matrix_clauses, listed_matrices, product_of_matrices};
 ghost use Rattle.clausal_form.specs.Measure.{measure_of, capped_measured};
 ghost use Rattle.clausal_form.specs.Written.{written, all_written};
 ghost use Rattle.clausal_form.specs.Naming.{IsMeasured, IsWork, defining_clauses, definition_clauses, members_written, naming_made, naming_numbers, is_large_count};
@@ -81,7 +81,7 @@ pub(crate) fn named_matrix(alloc: Global, matrix: &Matrix, naming: &mut Naming) 
 fn named_list(alloc: Global, members: &[Matrix], naming: &mut Naming) -> Mem<Part>
     requires { IsMeasured naming.old.measure (defining_clauses naming.old) }
     ensures work { IfOk result (λ part. IsWork naming.new
-        (matrices_clauses (naming_numbers naming.old.first) (matrices_of (map matrix_tree members.now)) (naming_made naming.old))
+        (listed_matrices (naming_numbers naming.old.first) (matrices_of (map matrix_tree members.now)) (naming_made naming.old))
         (written (matrix_tree part.matrix)) part.measure) }
     ensures first { IfOk result (λ _. naming.new.first ≡ naming.old.first) }
 {
@@ -115,7 +115,7 @@ fn push_part(matrices: &mut Matrices, part: Part) -> Mem<()>
 fn named_product(alloc: Global, made: u32, members: &[Matrix], naming: &mut Naming) -> Mem<Part>
     requires { IsMeasured naming.old.measure (defining_clauses naming.old) }
     ensures work { IfOk result (λ part. IsWork naming.new
-        (matrix_products (naming_numbers naming.old.first) made ([] ∷ []) (matrices_of (map matrix_tree members.now)) (naming_made naming.old))
+        (product_of_matrices (naming_numbers naming.old.first) made ([] ∷ []) (matrices_of (map matrix_tree members.now)) (naming_made naming.old))
         (written (matrix_tree part.matrix)) part.measure) }
     ensures first { IfOk result (λ _. naming.new.first ≡ naming.old.first) }
 {

@@ -1,7 +1,7 @@
 use Rattle.std.proofs.Common.{◌≡◌, ◌+◌, ◌*◌, [], ◌∷◌, map, drop}
 use Rattle.skolem.specs.Matrix.{matrix_size, matrices_size, matrices_of}
 use Rattle.skolem.specs.Shape.{matrix_tree}
-use Rattle.clausal_form.specs.MatrixClauses.{matrices_clauses, matrix_products}
+use Rattle.skolem.specs.MatrixClauses.{listed_matrices, product_of_matrices}
 use Rattle.clausal_form.specs.Written.{all_written}
 use Rattle.clausal_form.specs.Naming.{IsMeasured, defining_clauses, members_written, naming_made, naming_numbers}
 use Rattle.clausal_form.proofs.NamingLemmas.{IsListing}
@@ -19,15 +19,15 @@ decreases-named_product l = 2 * matrices_size (matrices_of (map matrix_tree l.me
 abbrev pub invariant-named_list-loop-member : goal.invariant-named_list-loop-member
 invariant-named_list-loop-member l =
     IsListing (naming_numbers l.initial.naming.first) (drop l.member-index l.members) l.naming (all_written (matrices_of l.matrices))
-    (matrices_clauses (naming_numbers l.initial.naming.first) (matrices_of (map matrix_tree l.members)) (naming_made l.initial.naming))
+    (listed_matrices (naming_numbers l.initial.naming.first) (matrices_of (map matrix_tree l.members)) (naming_made l.initial.naming))
     × IsMeasured l.measure (all_written (matrices_of l.matrices))
     × IsMeasured l.naming.measure (defining_clauses l.naming)
     × (l.naming.first ≡ l.initial.naming.first)
 
 abbrev pub invariant-named_product-loop-member : goal.invariant-named_product-loop-member
 invariant-named_product-loop-member l =
-    (matrix_products (naming_numbers l.initial.naming.first) l.made (members_written l.product.matrices) (matrices_of (map matrix_tree (drop l.member-index l.members))) (naming_made l.naming)
-    ≡ matrix_products (naming_numbers l.initial.naming.first) l.made ([] ∷ []) (matrices_of (map matrix_tree l.members)) (naming_made l.initial.naming))
+    (product_of_matrices (naming_numbers l.initial.naming.first) l.made (members_written l.product.matrices) (matrices_of (map matrix_tree (drop l.member-index l.members))) (naming_made l.naming)
+    ≡ product_of_matrices (naming_numbers l.initial.naming.first) l.made ([] ∷ []) (matrices_of (map matrix_tree l.members)) (naming_made l.initial.naming))
     × IsMeasured l.product.measure (members_written l.product.matrices)
     × IsMeasured l.naming.measure (defining_clauses l.naming)
     × (l.naming.first ≡ l.initial.naming.first)
