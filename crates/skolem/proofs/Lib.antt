@@ -5,3 +5,5 @@ pub mod SymbolLemmas
 pub mod TermLemmas
 pub mod FormLemmas
 pub mod CountLemmas
+pub mod ClauseLemmas
+pub mod ProblemLemmas

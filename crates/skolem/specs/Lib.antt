@@ -3,6 +3,8 @@ pub mod MatrixCode
 pub mod Shape
 pub mod Falls
 pub mod Skolemized
+pub mod MatrixClauses
 pub mod Progress
 pub mod Examples
 pub mod SkolemizedLaws
+pub mod ProblemLaws

@@ -7,7 +7,8 @@ ghost use Rattle.signature.specs.Symbol.{function_symbol};
 ghost use Rattle.signature.specs.Clausal.{atom_literal};
 ghost use Rattle.skolem.specs.Matrix.{literal, conjunction, matrix_then, no_matrices};
 ghost use Rattle.skolem.specs.Skolemized.{skolemized_form, skolemized_symbols};
-ghost use Rattle.skolem.specs.SkolemizedLaws.{SkolemSymbolsOfMatrixAreCounted};
+ghost use Rattle.skolem.specs.SkolemizedLaws.{SkolemSymbolsOfMatrixAreCounted, MatrixKeepsClauses, MatrixOfNormalFormKeepsClauses};
+ghost use Rattle.skolem.specs.ProblemLaws.{MatrixOfFormIsThatInProblem, ClausesInProblemAreThoseOfMatrix, NormalFormKeepsKnownSymbols, SkolemSymbolsAreNumberedOn, LaterNamesAreUnused};
 ghost use Rattle.skolem.specs.Examples.{x, y, z, p_of, r_of, known};
 
 /// The matrix of `! [X] : ? [Y] : r(X,Y)` is `r(X0,sk0(X0))`, and sk0 comes after the symbols that are there.
@@ -32,4 +33,39 @@ pub fn scope_examples()
 /// The matrix of a normal form has as many Skolem symbols as are counted.
 pub fn skolem_symbols_of_matrix_are_counted()
     ensures { SkolemSymbolsOfMatrixAreCounted }
+{}
+
+/// The clauses of a formula in negation normal form are those of its matrix.
+pub fn matrix_keeps_clauses()
+    ensures { MatrixKeepsClauses }
+{}
+
+/// The clauses of a formula with a sign are those of its normal form's matrix.
+pub fn matrix_of_normal_form_keeps_clauses()
+    ensures { MatrixOfNormalFormKeepsClauses }
+{}
+
+/// A form has the same matrix by itself and in its problem.
+pub fn matrix_of_form_is_that_in_problem()
+    ensures { MatrixOfFormIsThatInProblem }
+{}
+
+/// The clauses of a formula of a problem are those of its normal form's matrix.
+pub fn clauses_in_problem_are_those_of_matrix()
+    ensures { ClausesInProblemAreThoseOfMatrix }
+{}
+
+/// A normal form has no symbols but the formula's.
+pub fn normal_form_keeps_known_symbols()
+    ensures { NormalFormKeepsKnownSymbols }
+{}
+
+/// The Skolem symbols of a form are named by the numbers after those that were made before it.
+pub fn skolem_symbols_are_numbered_on()
+    ensures { SkolemSymbolsAreNumberedOn }
+{}
+
+/// The names with a fresh prefix are unused, and so are those with numbers after the ones that were given.
+pub fn later_names_are_unused()
+    ensures { LaterNamesAreUnused }
 {}

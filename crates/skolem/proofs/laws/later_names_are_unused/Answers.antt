@@ -1,0 +1,5 @@
+use Rattle.skolem.proofs.ProblemLemmas.{later_names_are_unused}
+use Rattle.skolem.proofs.laws.later_names_are_unused.Goals as goal
+
+pub returns : goal.returns
+returns c = later_names_are_unused

@@ -1,0 +1,5 @@
+use Rattle.skolem.proofs.ProblemLemmas.{normal_form_keeps_known_symbols}
+use Rattle.skolem.proofs.laws.normal_form_keeps_known_symbols.Goals as goal
+
+pub returns : goal.returns
+returns c = normal_form_keeps_known_symbols
