@@ -75,3 +75,8 @@ pub all-written-last :
 all-written-last [] m = append-nil (written m)
 all-written-last (n ∷ ms) m =
     ap (λ xs. written n ++ xs) (all-written-last ms m) ∙ sym (append_assoc (written n) (all_written (matrices_of ms)) (written m))
+
+pub single-written :
+    (old new : List MatrixTree) (m : MatrixTree) → old ≡ [] → new ≡ old ++ m ∷ [] → product_written ([] ∷ []) (matrices_of new) ≡ written m
+single-written old new m h k =
+    ap (λ ms. product_written ([] ∷ []) (matrices_of ms)) (k ∙ ap (λ ms. ms ++ m ∷ []) h) ∙ unit-pairs (written m)

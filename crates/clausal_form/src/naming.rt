@@ -156,26 +156,26 @@ fn product_part(made: u32, product: Members) -> Part
 fn multiplied(
     alloc: Global,
     made: u32,
-    product: Members,
+    factors: Members,
     part: Part,
     naming: &mut Naming,
 ) -> Mem<Members>
     requires defining { IsMeasured naming.old.measure (defining_clauses naming.old) }
-    requires first { IsMeasured product.measure (members_written product.matrices) }
+    requires first { IsMeasured factors.measure (members_written factors.matrices) }
     requires second { IsMeasured part.measure (written (matrix_tree part.matrix)) }
-    ensures work { IfOk result (λ made_product. IsWork naming.new
-        (product (naming_numbers naming.old.first) made (members_written product.matrices) (written (matrix_tree part.matrix)) (naming_made naming.old))
-        (members_written made_product.matrices) made_product.measure) }
+    ensures work { IfOk result (λ more. IsWork naming.new
+        (product (naming_numbers naming.old.first) made (members_written factors.matrices) (written (matrix_tree part.matrix)) (naming_made naming.old))
+        (members_written more.matrices) more.measure) }
     ensures first { IfOk result (λ _. naming.new.first ≡ naming.old.first) }
 {
-    if !is_large(product.measure.clauses, part.measure.clauses) {
-        return with_member(product, part);
+    if !is_large(factors.measure.clauses, part.measure.clauses) {
+        return with_member(factors, part);
     }
-    if product.measure.clauses < part.measure.clauses {
+    if factors.measure.clauses < part.measure.clauses {
         let name = named(alloc, made, part, naming)?;
-        return with_member(product, name);
+        return with_member(factors, name);
     }
-    let name = named(alloc, made, product_part(made, product), naming)?;
+    let name = named(alloc, made, product_part(made, factors), naming)?;
     with_member(single(alloc, name)?, part)
 }
 
