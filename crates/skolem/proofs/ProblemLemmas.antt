@@ -1,6 +1,6 @@
 -- From the matrix of a form of its own to a problem.
-use Rattle.std.proofs.Common.{◌≡◌, ℕ, zero, suc, ◌+◌, Bool, true, false, not, ◌&&◌, ◌||◌, List, [], ◌∷◌, ◌++◌, length, refl, ap, ap₂, sym, ◌∙◌, arith, append_assoc, append-nil, eq-eqb, subst, true≢false}
-use Rattle.std.specs.Prelude.{if◌then◌else◌, cond, bytes_eq, nat_eq}
+use Rattle.std.proofs.Common.{◌≡◌, ℕ, ◌+◌, Bool, true, false, not, ◌||◌, List, [], ◌∷◌, ◌++◌, length, refl, ap, ap₂, sym, ◌∙◌, arith, append_assoc, append-nil, eq-eqb, subst, true≢false}
+use Rattle.std.specs.Prelude.{cond, bytes_eq, nat_eq}
 use Rattle.std.specs.List.{list_any, list_all, position_or_len, starts_with}
 use Rattle.std.specs.Fmt.{decimal}
 use Rattle.std.proofs.lemmas.Bool.{and_parts, and_from}
@@ -8,9 +8,9 @@ use Rattle.std.proofs.lemmas.List.{length-append}
 use Rattle.std.proofs.lemmas.Slice.Eq.{bytes_eq-Decides}
 use Rattle.tptp_tree.specs.Term.{TermTree, variable as named_variable, application as named_application, TermTrees, no_terms, term_then}
 use Rattle.tptp_tree.specs.Formula.{implies, implied, equivalent, different, nor, nand, FormulaTree, truth, falsity, predicate, equation, negation, conjunction, disjunction, connected, quantified, FormulaTrees, no_formulas, formula_then}
-use Rattle.fol_base.specs.Tree.{Tree, application, tree_then}
+use Rattle.fol_base.specs.Tree.{application, tree_then}
 use Rattle.signature.specs.declared.symbol.Symbol.{Symbol}
-use Rattle.signature.specs.Symbol.{predicate_symbol, function_symbol, same_symbol, has_symbol, number_of}
+use Rattle.signature.specs.Symbol.{predicate_symbol, function_symbol, same_symbol, has_symbol}
 use Rattle.signature.specs.Occurrences.{terms_count, term_symbols, terms_symbols, formula_symbols, formulas_symbols}
 use Rattle.signature.specs.Environment.{Environment, free_names, without_names, term_under, terms_under}
 use Rattle.signature.specs.Prefix.{fresh_prefix_of, some_begins_with}
@@ -21,7 +21,7 @@ use Rattle.formula_nnf.specs.NormalForm.{list_form, pair_form, normal_form, norm
 use Rattle.skolem.specs.Matrix.{literal, conjunction as all_of, disjunction as some_of, matrix_then, negated}
 use Rattle.skolem.specs.Skolemized.{Skolemized, SkolemizedList, skolemized, skolemized_list, numbers_after, skolemized_form, AreKnown, AreUnused, is_named}
 use Rattle.skolem.specs.MatrixClauses.{matrix_clauses}
-use Rattle.skolem.specs.ProblemLaws.{made_after, AreAllSymbols, MatrixOfFormIsThatInProblem, ClausesInProblemAreThoseOfMatrix, NormalFormKeepsKnownSymbols, SkolemSymbolsAreNumberedOn, LaterNamesAreUnused}
+use Rattle.skolem.specs.ProblemLaws.{MatrixOfFormIsThatInProblem, ClausesInProblemAreThoseOfMatrix, NormalFormKeepsKnownSymbols, SkolemSymbolsAreNumberedOn, LaterNamesAreUnused}
 use Rattle.skolem.proofs.ListLemmas.{all-parts}
 use Rattle.skolem.proofs.SymbolLemmas.{unused-then}
 use Rattle.skolem.proofs.ClauseLemmas.{matrix_of_normal_form_keeps_clauses}

@@ -1,5 +1,5 @@
 -- Laws of matrices.
-use Rattle.std.specs.Prelude.{◌≡◌, ◌+◌, Bool, true, false, ◌&&◌, List, length, IsTrue}
+use Rattle.std.specs.Prelude.{◌≡◌, ◌+◌, Bool, true, false, ◌&&◌, length, IsTrue}
 use Rattle.tptp_tree.specs.Formula.{FormulaTree, truth, falsity, predicate, equation, negation, conjunction, disjunction, connected, quantified, FormulaTrees, no_formulas, formula_then}
 use Rattle.signature.specs.Environment.{Environment}
 use Rattle.signature.specs.Clausal.{SymbolNumbers, Made, clauses_of}

@@ -18,10 +18,7 @@ pub enum Matrix {
     And(Matrices),
     /// How many variables of the formula were made before the work on the disjunction began: they alone may be arguments of a name
     /// that is given to a part of its product.
-    Or {
-        made: u32,
-        members: Matrices,
-    },
+    Or { made: u32, members: Matrices },
 }
 
 /// A list of matrices, which contracts see as the list of their trees.
