@@ -4,3 +4,6 @@ pub mod ResultLemmas
 pub mod MeasureLemmas
 pub mod OccurringLemmas
 pub mod NamingLemmas
+pub mod FrameLemmas
+pub mod NameLemmas
+pub mod WritingLemmas

@@ -3,3 +3,4 @@ pub mod Measure
 pub mod Agenda
 pub mod Occurring
 pub mod Naming
+pub mod Formula

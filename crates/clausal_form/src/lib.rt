@@ -2,6 +2,8 @@
 #![tactic(auto)]
 
 mod arguments;
+mod closing;
+mod formula;
 mod measure;
 mod naming;
 mod writing;

@@ -55,7 +55,7 @@ fn write_agenda<'a>(
 
 /// The same, with a clause of the matrix before those of the matrices that are left.
 #[cycle(write)]
-fn write_matrix<'a>(
+pub(crate) fn write_matrix<'a>(
     alloc: Global,
     place: u64,
     matrix: &'a Matrix,
