@@ -7,3 +7,6 @@ pub mod NamingLemmas
 pub mod FrameLemmas
 pub mod NameLemmas
 pub mod WritingLemmas
+pub mod StepLemmas
+pub mod RefusalLemmas
+pub mod LoopLemmas

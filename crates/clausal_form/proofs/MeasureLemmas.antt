@@ -20,7 +20,7 @@ same a b h k l = λ i. record { clauses = h i; symbols = k i; largest = l i }
 
 -- ---- one list after the other
 
-length-append : {X : Type 0} (a b : List X) → length (a ++ b) ≡ length a + length b
+pub length-append : {X : Type 0} (a b : List X) → length (a ++ b) ≡ length a + length b
 length-append [] b = omega arith
 length-append (x ∷ a) b = omega (arith, length-append a b)
 

@@ -4,3 +4,6 @@ pub mod Agenda
 pub mod Occurring
 pub mod Naming
 pub mod Formula
+pub mod Fault
+pub mod Cause
+pub mod Progress

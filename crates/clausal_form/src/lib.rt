@@ -3,7 +3,11 @@
 
 mod arguments;
 mod closing;
+mod fault;
+mod form;
 mod formula;
 mod measure;
 mod naming;
 mod writing;
+
+pub use fault::{FormCause, FormFault};

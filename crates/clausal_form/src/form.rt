@@ -1,0 +1,109 @@
+// The form of a problem, formula by formula.
+
+ghost use Rattle.std.specs.Prelude.{◌≡◌, ◌+◌, ◌++◌, [], map, length, codes, IfOk, IfErr, Some, None};
+ghost use Rattle.tptp_tree.specs.Shape.{formula_of};
+ghost use Rattle.fol_base.specs.Literal.{clause_of};
+ghost use Rattle.signature.specs.Occurrences.{formula_symbols, problem_symbols};
+ghost use Rattle.signature.specs.Prefix.{fresh_prefix_of};
+ghost use Rattle.signature.specs.Form.{nothing_made};
+ghost use Rattle.signature.specs.Clausal.{SymbolNumbers, Made, Worked, annotated_clauses, canonical_literals};
+ghost use Rattle.skolem.specs.Skolemized.{AreKnown, AreUnused};
+ghost use Rattle.clausal_form.specs.Agenda.{placed};
+ghost use Rattle.clausal_form.specs.Cause.{IsCauseOr};
+ghost use Rattle.clausal_form.specs.Fault.{formula_fault, counted_in, fault_numbers, form_fault};
+ghost use Rattle.clausal_form.specs.Naming.{IsMeasured, defining_clauses};
+ghost use Rattle.clausal_form.specs.Progress.{HasMade, IsStep, IsRefusal, IsEmpty, IsFormed, IsFormFault};
+
+use crate::fault::{FormCause, FormFault, counted_with, refused};
+use crate::formula::{formula_matrix, write_formula};
+use crate::measure::Measure;
+use crate::naming::{Naming, named_matrix};
+use crate::writing::Output;
+use formula_nnf::expanded;
+use plain_types::{Mem, Text};
+use signature::Signature;
+use std::alloc::Global;
+use tptp_tree::Annotated;
+
+/// The most atoms and quantified variables of a formula after its equivalences are written out.
+const MOST_EXPANDED: u64 = 1_000_000;
+
+/// What there is of a form: the problem's symbols with the Skolem symbols, the number of the next Skolem symbol, the names, the clauses,
+/// and how many symbols and clauses these are.
+#[derive(Drop)]
+pub(crate) struct Form {
+    pub signature: Signature,
+    pub next: u32,
+    pub naming: Naming,
+    pub output: Output,
+    pub counted: u64,
+}
+
+/// Adds a formula's clauses, those that define its names after them.
+pub(crate) fn add_formula(
+    alloc: Global,
+    annotated: &Annotated,
+    place: u64,
+    prefix: &Text,
+    form: &mut Form,
+) -> Result<(), FormFault>
+    requires known { AreKnown form.old.signature (formula_symbols (formula_of annotated.now.formula)) }
+    requires unused { AreUnused form.old.signature prefix.now form.old.next }
+    ensures step { IfOk result (λ _. (n : SymbolNumbers) (m : Made) → HasMade n prefix.now m form.old
+        → AreKnown n.symbols (formula_symbols (formula_of annotated.now.formula))
+        → IsStep n annotated.now place prefix.now m form.old form.new) }
+    ensures refused { IfErr result (λ fault. (n : SymbolNumbers) (m : Made) → HasMade n prefix.now m form.old
+        → AreKnown n.symbols (formula_symbols (formula_of annotated.now.formula))
+        → IsRefusal n annotated.now m form.old.counted fault) }
+{
+    if expanded(&annotated.formula) > MOST_EXPANDED {
+        return Err(refused(alloc, FormCause::Expansion, annotated));
+    }
+    let (matrix, next) = formula_matrix(alloc, annotated, &mut form.signature, prefix, form.next)?;
+    form.next = next;
+    forget_definitions(&mut form.naming);
+    let part = named_matrix(alloc, &matrix, &mut form.naming)?;
+    let measure = part.measure.sum(form.naming.measure)?;
+    match counted_with(measure, form.counted, next) {
+        Err(cause) => Err(refused(alloc, cause, annotated)),
+        Ok(counted) => {
+            form.counted = counted;
+            let definitions = form.naming.definitions.as_slice();
+            write_formula(alloc, place, &part.matrix, definitions, &mut form.output)?;
+            Ok(())
+        }
+    }
+}
+
+/// The names stay, and their definitions go: each formula defines its own names.
+fn forget_definitions(naming: &mut Naming)
+    ensures arities { naming.new.arities.items ≡ naming.old.arities.items }
+    ensures first { naming.new.first ≡ naming.old.first }
+    ensures definitions { naming.new.definitions.items ≡ [] }
+    ensures measured { IsMeasured naming.new.measure (defining_clauses naming.new) }
+{
+    naming.definitions.clear();
+    naming.measure = Measure::none();
+}
+
+/// Adds the formulas of a problem, in order. The form has the symbols of the problem, and nothing was made.
+pub(crate) fn add_formulas(
+    alloc: Global,
+    formulas: &[Annotated],
+    prefix: &Text,
+    form: &mut Form,
+) -> Result<(), FormFault>
+    requires begun { HasMade (fault_numbers formulas.now) prefix.now nothing_made form.old }
+    requires empty { IsEmpty form.old }
+    requires prefix { prefix.now ≡ fresh_prefix_of (problem_symbols formulas.now) (codes "sk") }
+    ensures formed { IfOk result (λ _. IsFormed formulas.now prefix.now form.new) }
+    ensures within { IfOk result (λ _. form_fault formulas.now ≡ None) }
+    ensures refused { IfErr result (λ fault. IsFormFault formulas.now fault) }
+{
+    for place in 0..formulas.len() {
+        if let Err(fault) = add_formula(alloc, &formulas[place], place as u64, prefix, form) {
+            return Err(fault);
+        }
+    }
+    Ok(())
+}
