@@ -10,3 +10,4 @@ pub mod WritingLemmas
 pub mod StepLemmas
 pub mod RefusalLemmas
 pub mod LoopLemmas
+pub mod CountingLemmas

@@ -3,6 +3,7 @@
 
 mod arguments;
 mod closing;
+mod counting;
 mod fault;
 mod form;
 mod formula;
