@@ -11,3 +11,4 @@ pub mod StepLemmas
 pub mod RefusalLemmas
 pub mod LoopLemmas
 pub mod CountingLemmas
+pub mod FaultLemmas

@@ -7,3 +7,5 @@ pub mod Formula
 pub mod Fault
 pub mod Cause
 pub mod Progress
+pub mod FaultLaws
+pub mod Examples

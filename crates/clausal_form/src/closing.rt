@@ -24,9 +24,7 @@ pub(crate) fn closed_form(alloc: Global, annotated: &Annotated) -> Mem<Nnf>
     if !annotated.clause {
         return Ok(form);
     }
-    let mut free = Texts::new(alloc);
-    push_free_names(alloc, &annotated.formula, &mut free)?;
-    let names = different(alloc, free.as_slice())?;
+    let names = different_free_names(alloc, &annotated.formula)?;
     if names.is_empty() {
         return Ok(form);
     }
@@ -43,6 +41,16 @@ fn bound(positive: bool, names: Texts, body: NnfBox) -> Nnf
     } else {
         Nnf::Ex(names, body)
     }
+}
+
+/// The different names of a formula's free variables, in the order of their first places.
+pub(crate) fn different_free_names(alloc: Global, formula: &Formula) -> Mem<Texts>
+    ensures { IfOk result (λ names. names ≡ different_names (free_names (formula_of formula.now))) }
+{
+    let mut free = Texts::new(alloc);
+    push_free_names(alloc, formula, &mut free)?;
+    let names = different(alloc, free.as_slice())?;
+    Ok(names)
 }
 
 /// The different names of a list, in the order of their first places.

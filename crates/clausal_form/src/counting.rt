@@ -1,23 +1,60 @@
 // How many Skolem symbols the work on a problem makes, which is where the numbers of the naming symbols begin.
 
-ghost use Rattle.std.specs.Prelude.{◌≡◌, ◌+◌, true, false, map, IfOk, if◌then◌else◌};
+ghost use Rattle.std.specs.Prelude.{◌≡◌, ◌+◌, true, false, not, map, IfOk, if◌then◌else◌};
 ghost use Rattle.tptp_tree.specs.Formula.{formulas_of};
 ghost use Rattle.tptp_tree.specs.Shape.{formula_of};
-ghost use Rattle.signature.specs.Form.{skolem_count, all_skolem_count};
+ghost use Rattle.signature.specs.Form.{skolem_count, all_skolem_count, problem_skolem_count};
+ghost use Rattle.signature.specs.Environment.{closed};
+ghost use Rattle.tptp_tree.specs.Entries.{is_conjecture};
+ghost use Rattle.clausal_form.specs.Fault.{expandable};
 
+use crate::closing::different_free_names;
+use crate::fault::MOST_EXPANDED;
+use formula_nnf::expanded;
 use plain_types::{Mem, NoMemory};
-use tptp_tree::Formula;
+use std::alloc::Global;
+use tptp_tree::{Annotated, Formula};
 
 /// The Skolem symbols of the work on a formula, and of that on its negation.
 #[derive(Clone, Copy)]
-pub(crate) struct SkolemCount {
-    pub positive: u64,
-    pub negative: u64,
+struct SkolemCount {
+    positive: u64,
+    negative: u64,
+}
+
+/// The Skolem symbols of a problem's formulas, up to the first that is too large when it is written out.
+pub(crate) fn count_skolem_symbols(alloc: Global, formulas: &[Annotated]) -> Mem<u64>
+    ensures { IfOk result (λ total. total ≡ problem_skolem_count (expandable formulas.now)) }
+{
+    let mut total = 0;
+    for annotated in formulas {
+        if expanded(&annotated.formula) > MOST_EXPANDED {
+            return Ok(total);
+        }
+        total = sum(total, formula_skolem_symbols(alloc, annotated)?)?;
+    }
+    Ok(total)
+}
+
+/// The Skolem symbols of a formula, of the conjecture those of its negation.
+fn formula_skolem_symbols(alloc: Global, annotated: &Annotated) -> Mem<u64>
+    ensures { IfOk result (λ count. count ≡ skolem_count (closed annotated.now) (not (is_conjecture annotated.now.role))) }
+{
+    let count = skolem_counts(&annotated.formula)?;
+    if !annotated.role.is_conjecture() {
+        return Ok(count.positive);
+    }
+    if !annotated.clause {
+        return Ok(count.negative);
+    }
+    let names = different_free_names(alloc, &annotated.formula)?;
+    let total = sum(names.len() as u64, count.negative)?;
+    Ok(total)
 }
 
 /// The Skolem symbols of a formula under both signs. More than a u64 counts are more than fit a memory.
 #[cycle(skolem_counts)]
-pub(crate) fn skolem_counts(formula: &Formula) -> Mem<SkolemCount>
+fn skolem_counts(formula: &Formula) -> Mem<SkolemCount>
     ensures positive { IfOk result (λ count. count.positive ≡ skolem_count (formula_of formula.now) true) }
     ensures negative { IfOk result (λ count. count.negative ≡ skolem_count (formula_of formula.now) false) }
 {

@@ -10,6 +10,9 @@ use plain_types::{NoMemory, Text};
 use std::alloc::Global;
 use tptp_tree::Annotated;
 
+/// The most atoms and quantified variables of a formula after its equivalences are written out.
+pub(crate) const MOST_EXPANDED: u64 = 1_000_000;
+
 /// The limit that a formula passes. Their numbers are 1, 3 and 4.
 #[derive(Clone, Copy, Debug, PartialEq, Eq)]
 pub enum FormCause {

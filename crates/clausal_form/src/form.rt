@@ -14,7 +14,7 @@ ghost use Rattle.clausal_form.specs.Fault.{formula_fault, counted_in, fault_numb
 ghost use Rattle.clausal_form.specs.Naming.{IsMeasured, defining_clauses};
 ghost use Rattle.clausal_form.specs.Progress.{HasMade, IsStep, IsRefusal, IsEmpty, IsFormed, IsFormFault};
 
-use crate::fault::{FormCause, FormFault, counted_with, refused};
+use crate::fault::{FormCause, FormFault, MOST_EXPANDED, counted_with, refused};
 use crate::formula::{formula_matrix, write_formula};
 use crate::measure::Measure;
 use crate::naming::{Naming, named_matrix};
@@ -24,9 +24,6 @@ use plain_types::{Mem, Text};
 use signature::Signature;
 use std::alloc::Global;
 use tptp_tree::Annotated;
-
-/// The most atoms and quantified variables of a formula after its equivalences are written out.
-const MOST_EXPANDED: u64 = 1_000_000;
 
 /// What there is of a form: the problem's symbols with the Skolem symbols, the number of the next Skolem symbol, the names, the clauses,
 /// and how many symbols and clauses these are.

@@ -7,6 +7,7 @@ mod counting;
 mod fault;
 mod form;
 mod formula;
+pub mod laws;
 mod measure;
 mod naming;
 mod writing;
