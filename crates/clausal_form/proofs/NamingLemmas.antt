@@ -1,6 +1,6 @@
 -- Works on matrices, as the program's naming does them step by step.
-use Rattle.std.proofs.Common.{◌≡◌, ℕ, suc, ◌+◌, ◌<◌, ◌≤◌, Bool, true, false, not, List, [], ◌∷◌, ◌++◌, length, map, drop, get_or, refl, ap, sym, ◌∙◌, append-nil, append_assoc, arith}
-use Rattle.std.specs.Prelude.{nat_lt, flat_map, if◌then◌else◌}
+use Rattle.std.proofs.Common.{◌≡◌, ℕ, ◌+◌, ◌<◌, ◌≤◌, Bool, true, false, not, List, [], ◌∷◌, ◌++◌, length, map, drop, get_or, refl, ap, sym, ◌∙◌, append-nil, append_assoc, arith}
+use Rattle.std.specs.Prelude.{nat_lt, if◌then◌else◌}
 use Rattle.std.proofs.lemmas.Bool.{lt-ltb, ltb-true}
 use Rattle.fol_base.specs.Tree.{Tree, true_tree}
 use Rattle.fol_base.specs.Clause.{TreeLiteral}
@@ -10,7 +10,6 @@ use Rattle.skolem.specs.Matrix.{MatrixTree, matrices_of}
 use Rattle.skolem.specs.Shape.{matrix_tree}
 use Rattle.skolem.specs.declared.matrix.Matrix.{Matrix}
 use Rattle.skolem.specs.MatrixClauses.{matrix_clauses, listed_matrices, product_of_matrices}
-use Rattle.clausal_form.specs.Written.{written}
 use Rattle.clausal_form.specs.Measure.{ClauseMeasure, capped_measured}
 use Rattle.clausal_form.specs.Occurring.{clauses_variables}
 use Rattle.clausal_form.specs.Naming.{IsMeasured, IsWork, defining_clauses, naming_made, naming_numbers, is_large_count}

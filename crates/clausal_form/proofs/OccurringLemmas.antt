@@ -1,5 +1,5 @@
 -- The variables of a matrix's clauses.
-use Rattle.std.proofs.Common.{◌≡◌, ℕ, ◌+◌, ◌<◌, ◌≤◌, ◌==◌, Bool, true, false, ◌&&◌, ◌||◌, List, [], ◌∷◌, ◌++◌, length, map, drop, get_or, refl, ap, sym, ◌∙◌, append-nil, append_assoc, arith}
+use Rattle.std.proofs.Common.{◌≡◌, ℕ, ◌==◌, Bool, true, false, ◌&&◌, ◌||◌, List, [], ◌∷◌, ◌++◌, map, refl, ap, sym, ◌∙◌, append-nil, append_assoc}
 use Rattle.std.specs.Prelude.{flat_map, filter, if◌then◌else◌}
 use Rattle.std.specs.List.{list_any}
 use Rattle.fol_base.specs.Clause.{literal_variables}

@@ -1,7 +1,7 @@
 -- One formula's part of the form.
-use Rattle.std.proofs.Common.{◌≡◌, ℕ, ◌+◌, ◌-◌, ◌^◌, ◌<◌, ◌≤◌, min, Bool, true, false, not, List, [], ◌∷◌, ◌++◌, length, map, refl, ap, sym, ◌∙◌, subst, arith}
+use Rattle.std.proofs.Common.{◌≡◌, ℕ, ◌+◌, ◌-◌, ◌^◌, ◌<◌, ◌≤◌, min, Bool, true, false, not, List, [], ◌∷◌, ◌++◌, length, refl, ap, sym, ◌∙◌, arith}
 use Rattle.std.specs.Prelude.{nat_lt, Option, None, Some, flat_map, if◌then◌else◌}
-use Rattle.std.proofs.lemmas.Bool.{lt-ltb, ltb-true, ltb-false}
+use Rattle.std.proofs.lemmas.Bool.{ltb-true, ltb-false}
 use Rattle.tptp_tree.specs.Entries.{is_conjecture}
 use Rattle.tptp_tree.specs.Shape.{formula_of}
 use Rattle.tptp_tree.specs.declared.problem.Annotated.{Annotated}
@@ -14,7 +14,7 @@ use Rattle.signature.specs.Form.{numbered_symbols}
 use Rattle.formula_nnf.specs.Expanded.{expanded_count}
 use Rattle.formula_nnf.specs.NormalForm.{normal_form}
 use Rattle.skolem.specs.Matrix.{MatrixTree}
-use Rattle.skolem.specs.Skolemized.{Skolemized, AreKnown}
+use Rattle.skolem.specs.Skolemized.{AreKnown}
 use Rattle.skolem.specs.MatrixClauses.{matrix_clauses}
 use Rattle.skolem.specs.ProblemLaws.{AreAllSymbols}
 use Rattle.skolem.proofs.ProblemLemmas.{skolem_symbols_are_numbered_on}

@@ -3,7 +3,6 @@ use Rattle.std.proofs.Common.{◌≡◌, ℕ, ◌+◌, ◌<◌, ◌≤◌, List,
 use Rattle.std.proofs.lemmas.List.{map-append}
 use denote.Ref.{Bor}
 use Rattle.fol_base.specs.Clause.{TreeLiteral, TreeClause}
-use Rattle.fol_base.specs.Literal.{literal_of}
 use Rattle.fol_base.specs.Lent.{lent_of}
 use Rattle.fol_base.specs.declared.literal_ref.LiteralRef.{LiteralRef}
 use Rattle.signature.specs.Clausal.{Literals, all_pairs, canonical_literals}

@@ -1,5 +1,5 @@
 -- The matrices of the worked examples.
-use Rattle.std.specs.Prelude.{ℕ, true, List, [], ◌∷◌, map}
+use Rattle.std.specs.Prelude.{ℕ, true, List, map}
 use Rattle.fol_base.specs.Tree.{application, no_trees}
 use Rattle.fol_base.specs.Clause.{TreeLiteral}
 use Rattle.signature.specs.Clausal.{atom_literal}

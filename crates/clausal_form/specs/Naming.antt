@@ -5,7 +5,7 @@ use Rattle.signature.specs.Clausal.{SymbolNumbers, Made, Worked, Literals}
 use Rattle.skolem.specs.Shape.{matrix_tree}
 use Rattle.skolem.specs.Matrix.{MatrixTree, matrices_of}
 use Rattle.clausal_form.specs.Written.{written, product_written}
-use Rattle.clausal_form.specs.Measure.{ClauseMeasure, measure_of, capped_measured}
+use Rattle.clausal_form.specs.Measure.{measure_of, capped_measured}
 use Rattle.clausal_form.specs.declared.measure.Measure.{Measure}
 use Rattle.clausal_form.specs.declared.naming.Definition.{Definition}
 use Rattle.clausal_form.specs.declared.naming.Naming.{Naming}

@@ -85,8 +85,16 @@ fn skolem_counts(formula: &Formula) -> Mem<SkolemCount>
             let first = doubled(skolem_counts(left.get())?)?;
             both(first, doubled(skolem_counts(right.get())?)?)
         }
-        Formula::All(names, body) => quantified(names.len() as u64, false, skolem_counts(body.get())?),
-        Formula::Ex(names, body) => quantified(names.len() as u64, true, skolem_counts(body.get())?),
+        Formula::All(names, body) => quantified(
+            names.len() as u64,
+            false,
+            skolem_counts(body.get())?,
+        ),
+        Formula::Ex(names, body) => quantified(
+            names.len() as u64,
+            true,
+            skolem_counts(body.get())?,
+        ),
     }
 }
 

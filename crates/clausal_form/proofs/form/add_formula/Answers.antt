@@ -28,7 +28,7 @@ returns-clause-step c n m h k =
     let part : List Literals = written (matrix_tree c.in_ok-part.part.matrix) in
     let defining : List Literals = defining_clauses c.named_matrix.new.naming in
     let named : IsNamed n c.args.annotated.now m (part ++ defining)
-        (form_by_itself c.args.form.now.signature c.args.annotated.now).made.skolem_arities c.named_matrix.new.naming.arities.items =
+    (form_by_itself c.args.form.now.signature c.args.annotated.now).made.skolem_arities c.named_matrix.new.naming.arities.items =
     named-formula n c.args.annotated.now c.args.prefix.now m c.args.form.now _ c.forget_definitions.new.naming c.named_matrix.new.naming _ _ h k c.in_ok-matrix.ensures.matrix
     c.forget_definitions.ensures.arities c.forget_definitions.ensures.first c.forget_definitions.ensures.definitions c.in_ok-part.ensures.work in
     record {

@@ -2,7 +2,7 @@ use Rattle.std.proofs.Common.{arith, ap, sym, ◌∙◌}
 use Rattle.clausal_form.specs.Measure.{capped_measured}
 use Rattle.clausal_form.proofs.AgendaLemmas.{member-size}
 use Rattle.clausal_form.proofs.MeasureLemmas.{measured-sum}
-use Rattle.clausal_form.proofs.NamingLemmas.{listing-then, listing-end, product-then, product-end}
+use Rattle.clausal_form.proofs.NamingLemmas.{listing-then, product-then}
 use Rattle.clausal_form.proofs.naming.+named_matrix.Goals as goal
 
 pub named_list-named_matrix-requires : goal.named_list-named_matrix-requires

@@ -1,5 +1,4 @@
 use Rattle.std.proofs.Common.{arith, ap, map}
-use Rattle.std.specs.Prelude.{IfOk}
 use Rattle.fol_base.specs.Lent.{lent_of}
 use Rattle.skolem.specs.Shape.{matrix_tree}
 use Rattle.clausal_form.specs.Agenda.{agenda_size, finished, placed}

@@ -1,4 +1,4 @@
-use Rattle.std.proofs.Common.{◌≡◌, ◌+◌, ◌*◌, ◌++◌, [], map, drop}
+use Rattle.std.proofs.Common.{◌≡◌, ◌+◌, ◌*◌, ◌++◌, map, drop}
 use Rattle.fol_base.specs.Literal.{clause_of}
 use Rattle.fol_base.specs.Lent.{lent_of}
 use Rattle.skolem.specs.Matrix.{matrix_size, matrices_size, matrices_of}
