@@ -12,12 +12,12 @@ use Rattle.signature.specs.SymbolLaws.{same_symbol-refl}
 use Rattle.signature.specs.Occurrences.{formula_symbols, annotated_symbols, problem_symbols}
 use Rattle.signature.specs.Prefix.{fresh_prefix_of}
 use Rattle.signature.specs.Clausal.{SymbolNumbers, Made, Formed, Literals, annotated_clauses, canonical_literals, formed}
-use Rattle.signature.specs.Form.{numbered_symbols, nothing_made}
+use Rattle.signature.specs.Form.{numbered_symbols, nothing_made, problem_skolem_count}
 use Rattle.signature.proofs.OccurrenceLemmas.{drop-item, drop-end}
 use Rattle.skolem.specs.Skolemized.{AreKnown, AreUnused}
 use Rattle.skolem.proofs.ProblemLemmas.{later_names_are_unused}
 use Rattle.clausal_form.specs.Agenda.{placed}
-use Rattle.clausal_form.specs.Fault.{counted_in, formula_fault, fault_or, first_fault, fault_numbers, form_fault}
+use Rattle.clausal_form.specs.Fault.{counted_in, formula_fault, fault_or, first_fault, fault_numbers, form_fault, expandable, numbers_with}
 use Rattle.clausal_form.specs.Progress.{HasMade, IsStep, IsRefusal, IsEmpty, IsFormed, IsFormFault, formed_formulas}
 use Rattle.clausal_form.specs.declared.fault.FormCause.{FormCause}
 use Rattle.clausal_form.specs.declared.fault.FormFault.{FormFault}
@@ -211,3 +211,30 @@ under-refused fs prefix i a old (Refused cause name) h e g u =
     ∙ ap (λ gs. first_fault n gs old.counted u.0) (drop-item fs i a h e)
     ∙ ap (λ c. fault_or c a.name (first_fault n (drop (i + 1) fs) (old.counted + counted_in (annotated_clauses n a u.0).clauses) (annotated_clauses n a u.0).made)) r.0
     ∙ ap (λ x. let y : Option (FormCause × List ℕ) = Some (cause, x) in y) (sym r.1)
+
+-- ---- the beginning
+
+pub begun-so :
+    (fs gs : List Annotated) (symbols : List Symbol) (skolem : ℕ) (prefix : List ℕ) (form : Form)
+    → gs ≡ fs → symbols ≡ problem_symbols fs → skolem ≡ problem_skolem_count (expandable gs)
+    → ((p : List ℕ) → HasMade (numbers_with symbols skolem) p nothing_made form) → HasMade (fault_numbers gs) prefix nothing_made form
+begun-so fs gs symbols skolem prefix form g s k h =
+    subst (λ n. HasMade n prefix nothing_made form)
+    (ap (λ xs. numbers_with xs skolem) (s ∙ ap problem_symbols (sym g)) ∙ ap (numbers_with (problem_symbols gs)) k) (h prefix)
+
+pub prefix-so :
+    (fs gs : List Annotated) (symbols : List Symbol) (prefix : List ℕ)
+    → gs ≡ fs → symbols ≡ problem_symbols fs → prefix ≡ fresh_prefix_of symbols (codes "sk") → prefix ≡ fresh_prefix_of (problem_symbols gs) (codes "sk")
+prefix-so fs gs symbols prefix g s p = p ∙ ap (λ xs. fresh_prefix_of xs (codes "sk")) (s ∙ ap problem_symbols (sym g))
+
+pub formed-so :
+    (fs gs : List Annotated) (symbols : List Symbol) (prefix : List ℕ) (form : Form)
+    → gs ≡ fs → symbols ≡ problem_symbols fs → prefix ≡ fresh_prefix_of symbols (codes "sk")
+    → IsFormed gs prefix form → IsFormed fs (fresh_prefix_of (problem_symbols fs) (codes "sk")) form
+formed-so fs gs symbols prefix form g s p h =
+    subst (λ hs. IsFormed hs (fresh_prefix_of (problem_symbols fs) (codes "sk")) form) g
+    (subst (λ q. IsFormed gs q form) (p ∙ ap (λ xs. fresh_prefix_of xs (codes "sk")) s) h)
+
+pub fault-of :
+    (fs gs : List Annotated) (fault : FormFault) → gs ≡ fs → IsFormFault gs fault → IsFormFault fs fault
+fault-of fs gs fault g h = subst (λ hs. IsFormFault hs fault) g h

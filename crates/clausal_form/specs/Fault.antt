@@ -46,11 +46,13 @@ abbrev pub expandable : List Annotated → List Annotated
 expandable [] = []
 expandable (a ∷ fs) = if nat_lt most_expanded (expanded_count (formula_of a.formula)) then [] else a ∷ expandable fs
 
+-- those symbols, and then so many Skolem symbols
+abbrev pub numbers_with : List Symbol → ℕ → SymbolNumbers
+numbers_with symbols skolem = record { symbols = symbols; first_skolem = length symbols; first_naming = length symbols + skolem }
+
 -- The numbers of the symbols, of which sizes don't depend: no Skolem symbol is counted that the form can't have.
 abbrev pub fault_numbers : List Annotated → SymbolNumbers
-fault_numbers fs =
-    let symbols : List Symbol = problem_symbols fs in
-    record { symbols = symbols; first_skolem = length symbols; first_naming = length symbols + problem_skolem_count (expandable fs) }
+fault_numbers fs = numbers_with (problem_symbols fs) (problem_skolem_count (expandable fs))
 
 abbrev pub form_fault : List Annotated → Option (FormCause × List ℕ)
 form_fault fs = first_fault (fault_numbers fs) fs 0 nothing_made

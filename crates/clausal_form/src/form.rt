@@ -1,29 +1,30 @@
 // The form of a problem, formula by formula.
 
-ghost use Rattle.std.specs.Prelude.{◌≡◌, ◌+◌, ◌++◌, [], map, length, codes, IfOk, IfErr, Some, None};
+ghost use Rattle.std.specs.Prelude.{◌≡◌, ◌+◌, ◌++◌, List, [], map, length, codes, IfOk, IfErr, Some, None};
 ghost use Rattle.tptp_tree.specs.Shape.{formula_of};
 ghost use Rattle.fol_base.specs.Literal.{clause_of};
-ghost use Rattle.signature.specs.Occurrences.{formula_symbols, problem_symbols};
+ghost use Rattle.signature.specs.Occurrences.{formula_symbols, problem_symbols, HasProblemSize};
 ghost use Rattle.signature.specs.Prefix.{fresh_prefix_of};
 ghost use Rattle.signature.specs.Form.{nothing_made};
 ghost use Rattle.signature.specs.Clausal.{SymbolNumbers, Made, Worked, annotated_clauses, canonical_literals};
 ghost use Rattle.skolem.specs.Skolemized.{AreKnown, AreUnused};
 ghost use Rattle.clausal_form.specs.Agenda.{placed};
 ghost use Rattle.clausal_form.specs.Cause.{IsCauseOr};
-ghost use Rattle.clausal_form.specs.Fault.{formula_fault, counted_in, fault_numbers, form_fault};
+ghost use Rattle.clausal_form.specs.Fault.{formula_fault, counted_in, fault_numbers, form_fault, numbers_with};
 ghost use Rattle.clausal_form.specs.Naming.{IsMeasured, defining_clauses};
 ghost use Rattle.clausal_form.specs.Progress.{HasMade, IsStep, IsRefusal, IsEmpty, IsFormed, IsFormFault};
 
+use crate::counting::count_skolem_symbols;
 use crate::fault::{FormCause, FormFault, MOST_EXPANDED, counted_with, refused};
 use crate::formula::{formula_matrix, write_formula};
 use crate::measure::Measure;
 use crate::naming::{Naming, named_matrix};
 use crate::writing::Output;
 use formula_nnf::expanded;
-use plain_types::{Mem, Text};
-use signature::Signature;
+use plain_types::{Mem, NoMemory, Text};
+use signature::{Signature, fresh_prefix};
 use std::alloc::Global;
-use tptp_tree::Annotated;
+use tptp_tree::{Annotated, Problem};
 
 /// What there is of a form: the problem's symbols with the Skolem symbols, the number of the next Skolem symbol, the names, the clauses,
 /// and how many symbols and clauses these are.
@@ -103,4 +104,46 @@ pub(crate) fn add_formulas(
         }
     }
     Ok(())
+}
+
+/// The form of a problem before its first formula. Naming symbols come after so many Skolem symbols.
+fn begun_form(alloc: Global, signature: Signature, skolem: u64) -> Mem<Form>
+    ensures made { IfOk result (λ form. (prefix : List ℕ) → HasMade (numbers_with signature skolem) prefix nothing_made form) }
+    ensures empty { IfOk result (λ form. IsEmpty form) }
+{
+    let first = signature.len().checked_add(skolem).ok_or(NoMemory)?;
+    let naming = Naming {
+        first: u32::try_from(first).map_err(|_| NoMemory)?,
+        arities: Vec::new(alloc),
+        definitions: Vec::new(alloc),
+        measure: Measure::none(),
+    };
+    Ok(Form {
+        signature,
+        next: 0,
+        naming,
+        output: Output {
+            clauses: Vec::new(alloc),
+            origins: Vec::new(alloc),
+        },
+        counted: 0,
+    })
+}
+
+/// The form of a problem without its naming symbols and its spare constant.
+pub(crate) fn form_of_formulas(alloc: Global, problem: &Problem) -> Result<Form, FormFault>
+    requires { HasProblemSize problem.now.formulas }
+    ensures formed { IfOk result (λ form. IsFormed problem.now.formulas (fresh_prefix_of (problem_symbols problem.now.formulas) (codes "sk")) form) }
+    ensures within { IfOk result (λ _. form_fault problem.now.formulas ≡ None) }
+    ensures refused { IfErr result (λ fault. IsFormFault problem.now.formulas fault) }
+{
+    let signature = Signature::of_problem(alloc, problem)?;
+    let prefix = fresh_prefix(alloc, &signature, "sk")?;
+    let formulas = problem.formulas.as_slice();
+    let skolem = count_skolem_symbols(alloc, formulas)?;
+    let mut form = begun_form(alloc, signature, skolem)?;
+    if let Err(fault) = add_formulas(alloc, formulas, &prefix, &mut form) {
+        return Err(fault);
+    }
+    Ok(form)
 }
