@@ -1,6 +1,6 @@
 // The form of a problem, formula by formula.
 
-ghost use Rattle.std.specs.Prelude.{◌≡◌, ◌+◌, ◌++◌, List, [], map, length, codes, IfOk, IfErr, Some, None};
+ghost use Rattle.std.specs.Prelude.{◌≡◌, ℕ, ◌+◌, ◌++◌, List, [], map, length, codes, IfOk, IfErr, Some, None};
 ghost use Rattle.tptp_tree.specs.Shape.{formula_of};
 ghost use Rattle.fol_base.specs.Literal.{clause_of};
 ghost use Rattle.signature.specs.Occurrences.{formula_symbols, problem_symbols, HasProblemSize};
