@@ -1,3 +1,17 @@
+pub mod PairLemmas
+pub mod AgendaLemmas
+pub mod ResultLemmas
+pub mod MeasureLemmas
+pub mod OccurringLemmas
+pub mod NamingLemmas
+pub mod FrameLemmas
+pub mod NameLemmas
+pub mod WritingLemmas
+pub mod StepLemmas
+pub mod RefusalLemmas
+pub mod LoopLemmas
+pub mod CountingLemmas
+pub mod FaultLemmas
 pub mod StepBinds
 pub mod GivenLemmas
 pub mod TakenLemmas

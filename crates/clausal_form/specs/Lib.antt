@@ -1,3 +1,14 @@
+pub mod Written
+pub mod Measure
+pub mod Agenda
+pub mod Occurring
+pub mod Naming
+pub mod Formula
+pub mod Fault
+pub mod Cause
+pub mod Progress
+pub mod FaultLaws
+pub mod Examples
 pub mod DerivationClause
 pub mod DerivationItems
 pub mod DerivationSteps

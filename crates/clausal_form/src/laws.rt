@@ -1,5 +1,12 @@
 // Laws and worked examples of the definitions: each is the contract of a function with an empty body.
 
+ghost use Rattle.std.specs.Prelude.{◌≡◌, [], ◌∷◌};
+ghost use Rattle.skolem.specs.Matrix.{truth};
+ghost use Rattle.clausal_form.specs.Examples.{proposition, all_of, one_of};
+ghost use Rattle.clausal_form.specs.Written.{written};
+ghost use Rattle.clausal_form.specs.Measure.{measured};
+ghost use Rattle.clausal_form.specs.FaultLaws.{NumbersWithoutFault};
+
 mod derivation_examples;
 mod derivation_texts;
 mod derivations;
@@ -13,3 +20,23 @@ pub use derivations::{
     accepted_derivations_refute, forms_have_functions, spelled_lines_are_answered,
     taken_lines_are_steps, texts_have_one_answer,
 };
+
+/// Of a product the first list changes slowest, and with `$true` it has no clause.
+pub fn written_examples()
+    ensures product { written (one_of (all_of (1 ∷ 2 ∷ []) ∷ all_of (3 ∷ 4 ∷ []) ∷ []))
+        ≡ (proposition 1 ∷ proposition 3 ∷ []) ∷ (proposition 1 ∷ proposition 4 ∷ [])
+        ∷ (proposition 2 ∷ proposition 3 ∷ []) ∷ (proposition 2 ∷ proposition 4 ∷ []) ∷ [] }
+    ensures none { written (one_of (all_of (1 ∷ 2 ∷ []) ∷ truth ∷ [])) ≡ [] }
+{}
+
+/// Four clauses of two atoms each, an atom of two symbols with `$true`.
+pub fn measure_examples()
+    ensures product { measured (written (one_of (all_of (1 ∷ 2 ∷ []) ∷ all_of (3 ∷ 4 ∷ []) ∷ [])))
+        ≡ record { clauses = 4; symbols = 16; largest = 4 } }
+    ensures none { measured [] ≡ record { clauses = 0; symbols = 0; largest = 0 } }
+{}
+
+/// Where no formula passes a limit, the numbers of the symbols are those of the clausal form.
+pub fn numbers_without_fault()
+    ensures { NumbersWithoutFault }
+{}

@@ -1,0 +1,14 @@
+use Rattle.fol_base.specs.Literal.{literal_of}
+use Rattle.clausal_form.proofs.ResultLemmas.{ok-then}
+use Rattle.clausal_form.proofs.WritingLemmas.{definition-written, definition-placed}
+use Rattle.clausal_form.proofs.formula.write_definition.Goals as goal
+
+pub returns-clause-clauses : goal.returns-clause-clauses
+returns-clause-clauses c =
+    ok-then c.write_matrix.result
+    (λ _ h. definition-written _ _ _ _ _ _ _ _ c.new.ensures.items c.in_ok-push.ensures.items c.lend.ensures c.new-2.ensures.items h) c.write_matrix.ensures.clauses
+
+pub returns-clause-origins : goal.returns-clause-origins
+returns-clause-origins c =
+    ok-then c.write_matrix.result
+    (λ _ h. definition-placed c.args.place (literal_of c.args.definition.now.negated) _ _ _ _ c.new-2.ensures.items h) c.write_matrix.ensures.origins

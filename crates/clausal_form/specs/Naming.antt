@@ -1,0 +1,42 @@
+-- What the program's naming is: the names that were made, and the matrices for which they stand.
+use Rattle.std.specs.Prelude.{◌≡◌, ℕ, Bool, ◌&&◌, nat_le, nat_lt, ◌*◌, List, [], ◌∷◌, map, flat_map}
+use Rattle.fol_base.specs.Literal.{literal_of}
+use Rattle.signature.specs.Clausal.{SymbolNumbers, Made, Worked, Literals}
+use Rattle.skolem.specs.Shape.{matrix_tree}
+use Rattle.skolem.specs.Matrix.{MatrixTree, matrices_of}
+use Rattle.clausal_form.specs.Written.{written, product_written}
+use Rattle.clausal_form.specs.Measure.{measure_of, capped_measured}
+use Rattle.clausal_form.specs.declared.measure.Measure.{Measure}
+use Rattle.clausal_form.specs.declared.naming.Definition.{Definition}
+use Rattle.clausal_form.specs.declared.naming.Naming.{Naming}
+
+-- the negated atom of the name before each clause
+abbrev pub definition_clauses : Definition → List Literals
+definition_clauses d = map (λ c. literal_of d.negated ∷ c) (written (matrix_tree d.matrix))
+
+abbrev pub defining_clauses : Naming → List Literals
+defining_clauses s = flat_map definition_clauses s.definitions.items
+
+-- Naming doesn't look at variables and Skolem symbols.
+abbrev pub naming_made : Naming → Made
+naming_made s = record { variables = 0; skolem_arities = []; naming_arities = s.arities.items; defining = defining_clauses s }
+
+abbrev pub naming_numbers : ℕ → SymbolNumbers
+naming_numbers first = record { symbols = []; first_skolem = 0; first_naming = first }
+
+abbrev pub IsMeasured : Measure → List Literals → Type 0
+IsMeasured a cs = measure_of a ≡ capped_measured cs
+
+abbrev pub members_written : List MatrixTree → List Literals
+members_written ms = product_written ([] ∷ []) (matrices_of ms)
+
+-- a product of two lists of so many clauses is named
+abbrev pub is_large_count : ℕ → ℕ → Bool
+is_large_count a b = nat_le 2 a && (nat_le 2 b && nat_lt 64 (a * b))
+
+-- The program's clauses are those of a work from what was made before, and are measured; so are the defining ones.
+pub record IsWork (s : Naming) (w : Worked) (cs : List Literals) (a : Measure) : Type 0 where
+  pub clauses : cs ≡ w.clauses
+  pub made : naming_made s ≡ w.made
+  pub measured : IsMeasured a cs
+  pub defining : IsMeasured s.measure (defining_clauses s)

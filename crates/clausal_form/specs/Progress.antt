@@ -1,0 +1,55 @@
+-- What the program has of a form after some formulas.
+use Rattle.std.specs.Prelude.{◌≡◌, ⊤, ℕ, ◌+◌, List, [], ◌++◌, length, map, None, Some}
+use Rattle.signature.specs.Symbol.{function_symbol}
+use Rattle.signature.specs.Clausal.{SymbolNumbers, Made, Formed, annotated_clauses, canonical_literals, formed}
+use Rattle.signature.specs.Form.{numbered_symbols, nothing_made}
+use Rattle.tptp_tree.specs.declared.problem.Annotated.{Annotated}
+use Rattle.fol_base.specs.Literal.{clause_of}
+use Rattle.clausal_form.specs.Agenda.{placed}
+use Rattle.clausal_form.specs.Fault.{formula_fault, counted_in, fault_numbers, form_fault}
+use Rattle.clausal_form.specs.declared.fault.FormFault.{FormFault}
+use Rattle.clausal_form.specs.declared.fault.FormFault.TheVariants.{NoMemory, Refused}
+use Rattle.clausal_form.specs.declared.form.Form.{Form}
+
+-- What was made so far: the Skolem symbols stand after the problem's, and the names are counted.
+pub record HasMade (n : SymbolNumbers) (prefix : List ℕ) (m : Made) (f : Form) : Type 0 where
+  pub signature : f.signature ≡ n.symbols ++ numbered_symbols function_symbol prefix 0 m.skolem_arities
+  pub skolem : n.first_skolem ≡ length n.symbols
+  pub next : f.next ≡ length m.skolem_arities
+  pub first : f.naming.first ≡ n.first_naming
+  pub naming : f.naming.arities.items ≡ m.naming_arities
+
+-- A formula's clauses are added, and it passes no limit.
+pub record IsStep (n : SymbolNumbers) (a : Annotated) (place : ℕ) (prefix : List ℕ) (m : Made) (old new : Form) : Type 0 where
+  pub made : HasMade n prefix (annotated_clauses n a m).made new
+  pub clauses : map clause_of new.output.clauses.items ≡ map clause_of old.output.clauses.items ++ map canonical_literals (annotated_clauses n a m).clauses
+  pub origins : new.output.origins.items ≡ old.output.origins.items ++ map (placed place) (annotated_clauses n a m).clauses
+  pub counted : new.counted ≡ old.counted + counted_in (annotated_clauses n a m).clauses
+  pub within : formula_fault n a old.counted m ≡ None
+
+-- want of memory, or the formula's fault with its name
+abbrev pub IsRefusal : SymbolNumbers → Annotated → Made → ℕ → FormFault → Type 0
+IsRefusal n a m counted NoMemory = ⊤
+IsRefusal n a m counted (Refused cause name) = (formula_fault n a counted m ≡ Some cause) × (name ≡ a.name)
+
+-- ---- the formulas of a problem
+
+-- nothing is written yet
+pub record IsEmpty (f : Form) : Type 0 where
+  pub clauses : map clause_of f.output.clauses.items ≡ []
+  pub origins : f.output.origins.items ≡ []
+  pub counted : f.counted ≡ 0
+
+abbrev pub formed_formulas : List Annotated → Formed
+formed_formulas fs = formed (fault_numbers fs) 0 fs nothing_made
+
+-- all formulas are added
+pub record IsFormed (fs : List Annotated) (prefix : List ℕ) (f : Form) : Type 0 where
+  pub made : HasMade (fault_numbers fs) prefix (formed_formulas fs).made f
+  pub clauses : map clause_of f.output.clauses.items ≡ (formed_formulas fs).clauses
+  pub origins : f.output.origins.items ≡ (formed_formulas fs).origins
+
+-- want of memory, or the first fault
+abbrev pub IsFormFault : List Annotated → FormFault → Type 0
+IsFormFault fs NoMemory = ⊤
+IsFormFault fs (Refused cause name) = form_fault fs ≡ Some (cause, name)

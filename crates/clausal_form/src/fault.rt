@@ -1,0 +1,71 @@
+// Why a problem has no clausal form here.
+
+ghost use Rattle.std.specs.Prelude.{◌≡◌, ◌+◌, IfOk, IfErr, Some, None};
+ghost use Rattle.clausal_form.specs.Fault.{limit_fault};
+ghost use Rattle.clausal_form.specs.Cause.{IsCauseOr};
+
+use crate::measure::Measure;
+use fol_base::{MOST_FORM_SYMBOLS, MOST_SYMBOLS};
+use plain_types::{NoMemory, Text};
+use std::alloc::Global;
+use tptp_tree::Annotated;
+
+/// The most atoms and quantified variables of a formula after its equivalences are written out.
+pub(crate) const MOST_EXPANDED: u64 = 1_000_000;
+
+/// The limit that a formula passes. Their numbers are 1, 3 and 4.
+#[derive(Clone, Copy, Debug, PartialEq, Eq)]
+pub enum FormCause {
+    /// Over 1,000,000 atoms and quantified variables, after equivalences are written out.
+    Expansion,
+    /// A clause of over 4,000 symbols, among them those that define names.
+    TooHeavy,
+    /// Over 2^28 symbols, clauses and Skolem symbols, counted together up to and with this formula.
+    TotalLimit,
+}
+
+/// Why a problem has no clausal form here: want of memory, or the first formula that passes a limit, by its name.
+#[derive(Drop)]
+pub enum FormFault {
+    NoMemory,
+    Refused(FormCause, Text),
+}
+
+impl From<NoMemory> for FormFault {
+    ghost use Rattle.std.specs.Prelude.{◌≡◌};
+    ghost use Rattle.clausal_form.specs.declared.fault.FormFault.TheVariants.{NoMemory as no_memory};
+
+    ghost from_gives = { λ _ e. e ≡ no_memory };
+
+    fn from(_error: NoMemory) -> FormFault {
+        FormFault::NoMemory
+    }
+}
+
+/// The fault of a formula for that cause.
+pub(crate) fn refused(alloc: Global, cause: FormCause, annotated: &Annotated) -> FormFault
+    ensures { IsCauseOr cause annotated.now.name result }
+{
+    match annotated.name.copy(alloc) {
+        Ok(name) => FormFault::Refused(cause, name),
+        Err(_) => FormFault::NoMemory,
+    }
+}
+
+/// The symbols and clauses so far with those of a formula, if these pass no limit. So many Skolem symbols were made by then.
+pub(crate) fn counted_with(measure: Measure, counted: u64, skolem: u32) -> Result<u64, FormCause>
+    ensures within { IfOk result (λ _. limit_fault measure.largest (counted + measure.clauses + measure.symbols + skolem) ≡ None) }
+    ensures total { IfOk result (λ total. total ≡ counted + measure.clauses + measure.symbols) }
+    ensures beyond { IfErr result (λ cause. limit_fault measure.largest (counted + measure.clauses + measure.symbols + skolem) ≡ Some cause) }
+{
+    if measure.largest > MOST_SYMBOLS {
+        return Err(FormCause::TooHeavy);
+    }
+    let total = counted
+        .saturating_add(measure.clauses)
+        .saturating_add(measure.symbols);
+    if total.saturating_add(u64::from(skolem)) > MOST_FORM_SYMBOLS {
+        return Err(FormCause::TotalLimit);
+    }
+    Ok(total)
+}

@@ -1,0 +1,282 @@
+// Names for lists of clauses whose products would be large. What is left is a matrix whose products can be written out.
+
+ghost use Rattle.std.specs.Prelude.{◌≡◌, [], ◌∷◌, ◌++◌, ◌+◌, map, length, IfOk};
+ghost use Rattle.fol_base.specs.Literal.{literal_of};
+ghost use Rattle.fol_base.specs.Term.{tree_of};
+ghost use Rattle.signature.specs.Clausal.{all_pairs, atom_literal, named, product};
+ghost use Rattle.skolem.specs.Matrix.{matrices_of};
+ghost use Rattle.skolem.specs.Shape.{matrix_tree};
+ghost use Rattle.skolem.specs.MatrixClauses.{matrix_clauses, listed_matrices, product_of_matrices};
+ghost use Rattle.clausal_form.specs.Measure.{measure_of, capped_measured};
+ghost use Rattle.clausal_form.specs.Written.{written, all_written};
+ghost use Rattle.clausal_form.specs.Naming.{IsMeasured, IsWork, defining_clauses, definition_clauses, members_written, naming_made, naming_numbers, is_large_count};
+
+use crate::arguments::{applied, name_arguments};
+use crate::measure::Measure;
+use fol_base::{Literal, Term};
+use plain_types::{Mem, NoMemory};
+use skolem::{Matrices, Matrix};
+use std::alloc::Global;
+
+/// Over so many clauses a product of two lists is named.
+const LARGEST_PRODUCT: u64 = 64;
+
+/// A name: its negated atom, and the matrix for which it stands.
+#[derive(Drop)]
+pub(crate) struct Definition {
+    pub negated: Literal,
+    pub matrix: Matrix,
+}
+
+/// The number of the first naming symbol, the naming symbols by their numbers of arguments, the definitions of the names, and the measure
+/// of the clauses that define them.
+#[derive(Drop)]
+pub(crate) struct Naming {
+    pub first: u32,
+    pub arities: Vec<u32>,
+    pub definitions: Vec<Definition>,
+    pub measure: Measure,
+}
+
+/// A matrix without large products, and the measure of its clauses.
+#[derive(Drop)]
+pub(crate) struct Part {
+    pub matrix: Matrix,
+    pub measure: Measure,
+}
+
+/// Members of a matrix, and the measure of their clauses together: one list after another, or their product.
+#[derive(Drop)]
+struct Members {
+    matrices: Matrices,
+    measure: Measure,
+}
+
+/// The matrix with names for the lists of its large products.
+#[cycle(named_matrix)]
+pub(crate) fn named_matrix(alloc: Global, matrix: &Matrix, naming: &mut Naming) -> Mem<Part>
+    requires { IsMeasured naming.old.measure (defining_clauses naming.old) }
+    ensures work { IfOk result (λ part. IsWork naming.new
+        (matrix_clauses (naming_numbers naming.old.first) (matrix_tree matrix.now) (naming_made naming.old))
+        (written (matrix_tree part.matrix)) part.measure) }
+    ensures first { IfOk result (λ _. naming.new.first ≡ naming.old.first) }
+{
+    match matrix {
+        Matrix::True => Ok(Part {
+            matrix: Matrix::True,
+            measure: Measure::none(),
+        }),
+        Matrix::False => Ok(Part {
+            matrix: Matrix::False,
+            measure: Measure::empty_clause(),
+        }),
+        Matrix::Lit(literal) => Ok(literal_part(literal.copy(alloc)?)),
+        Matrix::And(members) => named_list(alloc, members.as_slice(), naming),
+        Matrix::Or { made, members } => named_product(alloc, *made, members.as_slice(), naming),
+    }
+}
+
+/// Matrices one after another. Those without clauses are left out.
+#[cycle(named_matrix)]
+fn named_list(alloc: Global, members: &[Matrix], naming: &mut Naming) -> Mem<Part>
+    requires { IsMeasured naming.old.measure (defining_clauses naming.old) }
+    ensures work { IfOk result (λ part. IsWork naming.new
+        (listed_matrices (naming_numbers naming.old.first) (matrices_of (map matrix_tree members.now)) (naming_made naming.old))
+        (written (matrix_tree part.matrix)) part.measure) }
+    ensures first { IfOk result (λ _. naming.new.first ≡ naming.old.first) }
+{
+    let mut matrices = Matrices::new(alloc);
+    let mut measure = Measure::none();
+    for member in members {
+        let part = named_matrix(alloc, member, naming)?;
+        measure = measure.sum(part.measure)?;
+        push_part(&mut matrices, part)?;
+    }
+    Ok(Part {
+        matrix: Matrix::And(matrices),
+        measure,
+    })
+}
+
+/// Adds a part at the end, if it has clauses.
+fn push_part(matrices: &mut Matrices, part: Part) -> Mem<()>
+    requires { IsMeasured part.measure (written (matrix_tree part.matrix)) }
+    ensures { IfOk result (λ _. all_written (matrices_of matrices.new)
+        ≡ all_written (matrices_of matrices.old) ++ written (matrix_tree part.matrix)) }
+{
+    if part.measure.clauses == 0 {
+        return Ok(());
+    }
+    matrices.push(part.matrix)
+}
+
+/// The product of matrices, from left to right.
+#[cycle(named_matrix)]
+fn named_product(alloc: Global, made: u32, members: &[Matrix], naming: &mut Naming) -> Mem<Part>
+    requires { IsMeasured naming.old.measure (defining_clauses naming.old) }
+    ensures work { IfOk result (λ part. IsWork naming.new
+        (product_of_matrices (naming_numbers naming.old.first) made ([] ∷ []) (matrices_of (map matrix_tree members.now)) (naming_made naming.old))
+        (written (matrix_tree part.matrix)) part.measure) }
+    ensures first { IfOk result (λ _. naming.new.first ≡ naming.old.first) }
+{
+    let mut product = Members {
+        matrices: Matrices::new(alloc),
+        measure: Measure::empty_clause(),
+    };
+    for member in members {
+        let part = named_matrix(alloc, member, naming)?;
+        product = multiplied(alloc, made, product, part, naming)?;
+    }
+    Ok(product_part(made, product))
+}
+
+/// A product as a matrix: `$true` where it has no clauses, so that nothing of it is walked again.
+fn product_part(made: u32, product: Members) -> Part
+    requires { IsMeasured product.measure (members_written product.matrices) }
+    ensures clauses { written (matrix_tree result.matrix) ≡ members_written product.matrices }
+    ensures measured { IsMeasured result.measure (members_written product.matrices) }
+{
+    let measure = product.measure;
+    if measure.clauses == 0 {
+        return Part {
+            matrix: Matrix::True,
+            measure,
+        };
+    }
+    Part {
+        matrix: Matrix::Or {
+            made,
+            members: product.matrices,
+        },
+        measure,
+    }
+}
+
+/// A product with one more member. Of a large one the longer list is named first, what is there where they are equally long.
+fn multiplied(
+    alloc: Global,
+    made: u32,
+    factors: Members,
+    part: Part,
+    naming: &mut Naming,
+) -> Mem<Members>
+    requires defining { IsMeasured naming.old.measure (defining_clauses naming.old) }
+    requires first { IsMeasured factors.measure (members_written factors.matrices) }
+    requires second { IsMeasured part.measure (written (matrix_tree part.matrix)) }
+    ensures work { IfOk result (λ more. IsWork naming.new
+        (product (naming_numbers naming.old.first) made (members_written factors.matrices) (written (matrix_tree part.matrix)) (naming_made naming.old))
+        (members_written more.matrices) more.measure) }
+    ensures first { IfOk result (λ _. naming.new.first ≡ naming.old.first) }
+{
+    if !is_large(factors.measure.clauses, part.measure.clauses) {
+        return with_member(factors, part);
+    }
+    if factors.measure.clauses < part.measure.clauses {
+        let name = named(alloc, made, part, naming)?;
+        return with_member(factors, name);
+    }
+    let name = named(alloc, made, product_part(made, factors), naming)?;
+    with_member(single(alloc, name)?, part)
+}
+
+/// Whether a product of two lists of so many clauses is named.
+fn is_large(first: u64, second: u64) -> bool
+    ensures { result ≡ is_large_count first second }
+{
+    first >= 2 && second >= 2 && first.saturating_mul(second) > LARGEST_PRODUCT
+}
+
+/// A product with one more member, which is written out.
+fn with_member(product: Members, part: Part) -> Mem<Members>
+    requires first { IsMeasured product.measure (members_written product.matrices) }
+    requires second { IsMeasured part.measure (written (matrix_tree part.matrix)) }
+    ensures clauses { IfOk result (λ made. members_written made.matrices
+        ≡ all_pairs (members_written product.matrices) (written (matrix_tree part.matrix))) }
+    ensures measured { IfOk result (λ made. IsMeasured made.measure
+        (all_pairs (members_written product.matrices) (written (matrix_tree part.matrix)))) }
+{
+    let measure = product.measure.product(part.measure)?;
+    let mut matrices = product.matrices;
+    matrices.push(part.matrix)?;
+    Ok(Members { matrices, measure })
+}
+
+/// A product of one member.
+fn single(alloc: Global, part: Part) -> Mem<Members>
+    requires { IsMeasured part.measure (written (matrix_tree part.matrix)) }
+    ensures clauses { IfOk result (λ made. members_written made.matrices ≡ written (matrix_tree part.matrix)) }
+    ensures measured { IfOk result (λ made. IsMeasured made.measure (written (matrix_tree part.matrix))) }
+{
+    let mut matrices = Matrices::new(alloc);
+    matrices.push(part.matrix)?;
+    Ok(Members {
+        matrices,
+        measure: part.measure,
+    })
+}
+
+/// A literal as a matrix.
+fn literal_part(literal: Literal) -> Part
+    ensures clauses { written (matrix_tree result.matrix) ≡ (literal_of literal ∷ []) ∷ [] }
+    ensures measured { IsMeasured result.measure ((literal_of literal ∷ []) ∷ []) }
+{
+    let measure = Measure::one_clause(literal.size());
+    Part {
+        matrix: Matrix::Lit(literal),
+        measure,
+    }
+}
+
+/// Names the clauses of a part: the next naming symbol, applied to those of their variables that were made before, stands for them.
+fn named(alloc: Global, made: u32, part: Part, naming: &mut Naming) -> Mem<Part>
+    requires defining { IsMeasured naming.old.measure (defining_clauses naming.old) }
+    requires part { IsMeasured part.measure (written (matrix_tree part.matrix)) }
+    ensures work { IfOk result (λ name. IsWork naming.new
+        (named (naming_numbers naming.old.first) made (written (matrix_tree part.matrix)) (naming_made naming.old))
+        (written (matrix_tree name.matrix)) name.measure) }
+    ensures first { IfOk result (λ _. naming.new.first ≡ naming.old.first) }
+{
+    let arguments = name_arguments(alloc, made, &part.matrix)?;
+    let symbol = next_symbol(naming)?;
+    let arity = u32::try_from(arguments.len()).map_err(|_| NoMemory)?;
+    let atom = applied(alloc, symbol, arguments.as_slice())?;
+    let negated = Literal {
+        positive: false,
+        left: atom.copy(alloc)?,
+        right: Term::truth(alloc),
+    };
+    define(naming, arity, negated, part)?;
+    Ok(literal_part(Literal {
+        positive: true,
+        left: atom,
+        right: Term::truth(alloc),
+    }))
+}
+
+/// The number of the next naming symbol.
+fn next_symbol(naming: &Naming) -> Mem<u32>
+    ensures { IfOk result (λ symbol. symbol ≡ naming.now.first + length naming.now.arities.items) }
+{
+    let made = u32::try_from(naming.arities.len()).map_err(|_| NoMemory)?;
+    naming.first.checked_add(made).ok_or(NoMemory)
+}
+
+/// Adds a name, by its negated atom and its number of arguments, and the matrix for which it stands.
+fn define(naming: &mut Naming, arity: u32, negated: Literal, part: Part) -> Mem<()>
+    requires defining { IsMeasured naming.old.measure (defining_clauses naming.old) }
+    requires part { IsMeasured part.measure (written (matrix_tree part.matrix)) }
+    ensures arities { IfOk result (λ _. naming.new.arities.items ≡ naming.old.arities.items ++ arity ∷ []) }
+    ensures clauses { IfOk result (λ _. defining_clauses naming.new
+        ≡ defining_clauses naming.old ++ map (λ c. literal_of negated ∷ c) (written (matrix_tree part.matrix))) }
+    ensures measured { IfOk result (λ _. IsMeasured naming.new.measure (defining_clauses naming.new)) }
+    ensures first { naming.new.first ≡ naming.old.first }
+{
+    let clauses = Measure::one_clause(negated.size()).product(part.measure)?;
+    naming.measure = naming.measure.sum(clauses)?;
+    naming.arities.push(arity)?;
+    naming.definitions.push(Definition {
+        negated,
+        matrix: part.matrix,
+    })?;
+    Ok(())
+}
