@@ -166,8 +166,8 @@ known-bound s e t h =
     let xs : List (List ℕ) = different_names (variables_in (line_literals e t) (all_bound t)) in
     subst
     (λ ks.
-        list_all (list_all (is_over (functions_of known)))
-        (map (λ o. unwrap_or o []) (map (option_map (map (term_under ks (numbered_from 0 xs)))) (bound_terms t))) ≡ true)
+    list_all (list_all (is_over (functions_of known)))
+    (map (λ o. unwrap_or o []) (map (option_map (map (term_under ks (numbered_from 0 xs)))) (bound_terms t))) ≡ true)
     (sym (folded-known known (first ++ second) all ∙ sym (append-nil known))) (lists-over known [] 0 xs (bound_terms t) parts.1)
   where
     negated : (b : Bool) → not b ≡ false → b ≡ true
