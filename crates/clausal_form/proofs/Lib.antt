@@ -2,6 +2,7 @@ pub mod PairLemmas
 pub mod AgendaLemmas
 pub mod ResultLemmas
 pub mod MeasureLemmas
+pub mod OrderLemmas
 pub mod OccurringLemmas
 pub mod NamingLemmas
 pub mod FrameLemmas
@@ -10,6 +11,7 @@ pub mod WritingLemmas
 pub mod StepLemmas
 pub mod RefusalLemmas
 pub mod LoopLemmas
+pub mod LastSymbols
 pub mod CountingLemmas
 pub mod FaultLemmas
 pub mod StepBinds

@@ -223,17 +223,13 @@ begun-so fs gs symbols skolem prefix form g s k h =
     (ap (λ xs. numbers_with xs skolem) (s ∙ ap problem_symbols (sym g)) ∙ ap (numbers_with (problem_symbols gs)) k) (h prefix)
 
 pub prefix-so :
-    (fs gs : List Annotated) (symbols : List Symbol) (prefix : List ℕ)
-    → gs ≡ fs → symbols ≡ problem_symbols fs → prefix ≡ fresh_prefix_of symbols (codes "sk") → prefix ≡ fresh_prefix_of (problem_symbols gs) (codes "sk")
-prefix-so fs gs symbols prefix g s p = p ∙ ap (λ xs. fresh_prefix_of xs (codes "sk")) (s ∙ ap problem_symbols (sym g))
+    (fs gs : List Annotated) (prefix : List ℕ)
+    → gs ≡ fs → prefix ≡ fresh_prefix_of (problem_symbols fs) (codes "sk") → prefix ≡ fresh_prefix_of (problem_symbols gs) (codes "sk")
+prefix-so fs gs prefix g p = p ∙ ap (λ hs. fresh_prefix_of (problem_symbols hs) (codes "sk")) (sym g)
 
 pub formed-so :
-    (fs gs : List Annotated) (symbols : List Symbol) (prefix : List ℕ) (form : Form)
-    → gs ≡ fs → symbols ≡ problem_symbols fs → prefix ≡ fresh_prefix_of symbols (codes "sk")
-    → IsFormed gs prefix form → IsFormed fs (fresh_prefix_of (problem_symbols fs) (codes "sk")) form
-formed-so fs gs symbols prefix form g s p h =
-    subst (λ hs. IsFormed hs (fresh_prefix_of (problem_symbols fs) (codes "sk")) form) g
-    (subst (λ q. IsFormed gs q form) (p ∙ ap (λ xs. fresh_prefix_of xs (codes "sk")) s) h)
+    (fs gs : List Annotated) (prefix : List ℕ) (form : Form) → gs ≡ fs → IsFormed gs prefix form → IsFormed fs prefix form
+formed-so fs gs prefix form g h = subst (λ hs. IsFormed hs prefix form) g h
 
 pub fault-of :
     (fs gs : List Annotated) (fault : FormFault) → gs ≡ fs → IsFormFault gs fault → IsFormFault fs fault

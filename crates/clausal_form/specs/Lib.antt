@@ -7,6 +7,8 @@ pub mod Formula
 pub mod Fault
 pub mod Cause
 pub mod Progress
+pub mod Symbols
+pub mod Form
 pub mod FaultLaws
 pub mod Examples
 pub mod DerivationClause

@@ -3,7 +3,7 @@
 ghost use Rattle.std.specs.Prelude.{◌≡◌, ℕ, ◌+◌, ◌++◌, List, [], map, length, codes, IfOk, IfErr, Some, None};
 ghost use Rattle.tptp_tree.specs.Shape.{formula_of};
 ghost use Rattle.fol_base.specs.Literal.{clause_of};
-ghost use Rattle.signature.specs.Occurrences.{formula_symbols, problem_symbols, HasProblemSize};
+ghost use Rattle.signature.specs.Occurrences.{formula_symbols, problem_symbols};
 ghost use Rattle.signature.specs.Prefix.{fresh_prefix_of};
 ghost use Rattle.signature.specs.Form.{nothing_made};
 ghost use Rattle.signature.specs.Clausal.{SymbolNumbers, Made, Worked, annotated_clauses, canonical_literals};
@@ -22,7 +22,7 @@ use crate::naming::{Naming, named_matrix};
 use crate::writing::Output;
 use formula_nnf::expanded;
 use plain_types::{Mem, NoMemory, Text};
-use signature::{Signature, fresh_prefix};
+use signature::Signature;
 use std::alloc::Global;
 use tptp_tree::{Annotated, Problem};
 
@@ -130,19 +130,24 @@ fn begun_form(alloc: Global, signature: Signature, skolem: u64) -> Mem<Form>
     })
 }
 
-/// The form of a problem without its naming symbols and its spare constant.
-pub(crate) fn form_of_formulas(alloc: Global, problem: &Problem) -> Result<Form, FormFault>
-    requires { HasProblemSize problem.now.formulas }
-    ensures formed { IfOk result (λ form. IsFormed problem.now.formulas (fresh_prefix_of (problem_symbols problem.now.formulas) (codes "sk")) form) }
+/// The form of a problem without its naming symbols and its spare constant. The symbols are the problem's, and no name of theirs begins
+/// with the prefix, which is that of the Skolem symbols.
+pub(crate) fn form_of_formulas(
+    alloc: Global,
+    problem: &Problem,
+    signature: Signature,
+    prefix: &Text,
+) -> Result<Form, FormFault>
+    requires signature { signature ≡ problem_symbols problem.now.formulas }
+    requires prefix { prefix.now ≡ fresh_prefix_of (problem_symbols problem.now.formulas) (codes "sk") }
+    ensures formed { IfOk result (λ form. IsFormed problem.now.formulas prefix.now form) }
     ensures within { IfOk result (λ _. form_fault problem.now.formulas ≡ None) }
     ensures refused { IfErr result (λ fault. IsFormFault problem.now.formulas fault) }
 {
-    let signature = Signature::of_problem(alloc, problem)?;
-    let prefix = fresh_prefix(alloc, &signature, "sk")?;
     let formulas = problem.formulas.as_slice();
     let skolem = count_skolem_symbols(alloc, formulas)?;
     let mut form = begun_form(alloc, signature, skolem)?;
-    if let Err(fault) = add_formulas(alloc, formulas, &prefix, &mut form) {
+    if let Err(fault) = add_formulas(alloc, formulas, prefix, &mut form) {
         return Err(fault);
     }
     Ok(form)

@@ -5,11 +5,16 @@ mod arguments;
 mod closing;
 mod counting;
 mod fault;
+mod finished;
 mod form;
 mod formula;
 pub mod laws;
 mod measure;
 mod naming;
+mod problem;
+mod symbols;
 mod writing;
 
 pub use fault::{FormCause, FormFault};
+pub use finished::Clausal;
+pub use problem::clausal;

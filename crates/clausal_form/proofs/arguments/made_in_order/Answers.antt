@@ -1,5 +1,5 @@
 use Rattle.std.proofs.Common.{sym}
-use Rattle.skolem.proofs.ProgressLemmas.{order-with, order-without}
+use Rattle.clausal_form.proofs.OrderLemmas.{order-with, order-without}
 use Rattle.clausal_form.proofs.arguments.made_in_order.Goals as goal
 
 pub loop-variable-preserved-then-not-occurs : goal.loop-variable-preserved-then-not-occurs

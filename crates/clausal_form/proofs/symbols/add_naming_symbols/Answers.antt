@@ -1,0 +1,11 @@
+use Rattle.std.proofs.Common.{get_or}
+use Rattle.skolem.proofs.SymbolLemmas.{same-item}
+use Rattle.clausal_form.proofs.LastSymbols.{names-then}
+use Rattle.clausal_form.proofs.symbols.add_naming_symbols.Goals as goal
+
+pub loop-arity-preserved : goal.loop-arity-preserved
+loop-arity-preserved c =
+    names-then c.loop-arity.signature _ _ c.args.prefix.now c.loop-arity.number _ c.args.arities.now
+    c.loop-arity.arity-index (get_or c.args.arities.now c.loop-arity.arity-index 0) c.loop-arity-test.true
+    (same-item c.args.arities.now c.loop-arity.arity-index 0 _ c.loop-arity-test.true)
+    c.in_ok-push_symbol.ensures c.in_ok-number.ensures c.loop-arity.invariant
