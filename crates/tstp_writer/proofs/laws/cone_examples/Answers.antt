@@ -1,0 +1,53 @@
+use Rattle.std.proofs.Common.{◌≡◌, ℕ, zero, suc, List, [], ◌∷◌, Some, refl, sym, subst}
+use Rattle.std.specs.Prelude.{slice_get, IsTrue}
+use Rattle.std.proofs.lemmas.Bool.{false≢true}
+use Rattle.std.proofs.lemmas.Option.{none-some, same_Some}
+use Rattle.kernel_steps.specs.declared.step.Line.{Line}
+use Rattle.tstp_writer.specs.Cone.{has_number, needs, IsClosed, IsNeeded}
+use Rattle.tstp_writer.specs.ConeExamples.{split_lines}
+use Rattle.tstp_writer.proofs.laws.cone_examples.Goals as goal
+
+abbrev needed_numbers : List ℕ
+needed_numbers = 0 ∷ 1 ∷ 2 ∷ 4 ∷ 5 ∷ []
+
+-- what is needed of a line that stands in the list is needed of the line that was found there
+needs-found : (m : ℕ) (l o line other : Line) → Some l ≡ Some line → Some o ≡ Some other → IsTrue (needs line.step m other) → IsTrue (needs l.step m o)
+needs-found m l o line other found other-found need =
+    subst (λ (k : Line). IsTrue (needs k.step m o)) (sym (same_Some l line found))
+    (subst (λ (k : Line). IsTrue (needs line.step m k)) (sym (same_Some o other other-found)) need)
+
+-- no needed line needs line 3
+no-needed : 
+    (n : ℕ) (line other : Line) → slice_get split_lines n ≡ Some line → slice_get split_lines 3 ≡ Some other
+    → IsTrue (has_number needed_numbers n) → IsTrue (needs line.step 3 other) → ⊥
+no-needed zero line other here there has need = false≢true (needs-found 3 _ _ line other here there need)
+no-needed (suc zero) line other here there has need = false≢true (needs-found 3 _ _ line other here there need)
+no-needed (suc (suc zero)) line other here there has need = false≢true (needs-found 3 _ _ line other here there need)
+no-needed (suc (suc (suc zero))) line other here there has need = false≢true has
+no-needed (suc (suc (suc (suc zero)))) line other here there has need = false≢true (needs-found 3 _ _ line other here there need)
+no-needed (suc (suc (suc (suc (suc zero))))) line other here there has need = false≢true (needs-found 3 _ _ line other here there need)
+no-needed (suc (suc (suc (suc (suc (suc n)))))) line other here there has need = none-some line here
+
+closed : IsClosed split_lines (has_number needed_numbers)
+closed n zero line other here there has need = refl
+closed n (suc zero) line other here there has need = refl
+closed n (suc (suc zero)) line other here there has need = refl
+closed n (suc (suc (suc zero))) line other here there has need = absurd (no-needed n line other here there has need)
+closed n (suc (suc (suc (suc zero)))) line other here there has need = refl
+closed n (suc (suc (suc (suc (suc zero))))) line other here there has need = refl
+closed n (suc (suc (suc (suc (suc (suc m)))))) line other here there has need = absurd (none-some other there)
+
+needed : (n : ℕ) → IsTrue (has_number needed_numbers n) → IsNeeded split_lines 5 n
+needed zero has set last all = all 5 0 _ _ refl refl last refl
+needed (suc zero) has set last all = all 4 1 _ _ refl refl (all 5 4 _ _ refl refl last refl) refl
+needed (suc (suc zero)) has set last all = all 5 2 _ _ refl refl last refl
+needed (suc (suc (suc zero))) has set last all = absurd (false≢true has)
+needed (suc (suc (suc (suc zero)))) has set last all = all 5 4 _ _ refl refl last refl
+needed (suc (suc (suc (suc (suc zero))))) has set last all = last
+needed (suc (suc (suc (suc (suc (suc n)))))) has set last all = absurd (false≢true has)
+
+pub returns : goal.returns
+returns c = record {
+  rising = _;
+  exact = λ n. (needed n, λ need. need (has_number needed_numbers) refl closed);
+}
