@@ -108,14 +108,15 @@ given_by_clausify s e t =
     (option_and_then (λ i. if is_clausified s e t i then Some (gives_clause (Clausify i) (line_clause s e t)) else None) (index_in t))
     (fault clausification)
 
--- Component: at least one ordinary literal, or not the name, which has the next number.
+-- Component: the clause has at least one ordinary literal, and the one name, negated, which has the next number.
 abbrev pub given_by_component : Setting → Taken → LineTree → List ℕ → Given
 given_by_component s e t name =
     let n : ℕ = position_or_len (bytes_eq name) e.introduced in
     let c : TreeClause = line_clause s e t in
     if not (length c.literals == 0) && names_eq c.names (negative_of n ∷ []) then gives_clause (Component n) c else fault rule
 
--- Opposite: not the literal of a name that was introduced for one ground positive literal, or the name.
+-- Opposite: of a name that was introduced for one ground positive literal. The clause is that literal's complement, with the name,
+-- positive.
 abbrev pub opposite_from : ℕ → TreeLiteral → Option Given
 opposite_from n l =
     if l.positive && is_ground_literal l

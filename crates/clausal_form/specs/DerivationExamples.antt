@@ -1,4 +1,5 @@
--- The worked derivations, as lines: two units, one implication, two rewrites, two components, signed names; and changes of them.
+-- The worked derivations, as lines: two units, one implication, two rewrites, two components, signed names; small problems that each
+-- tell one rule; and changes of them.
 use Rattle.std.specs.Prelude.{ℕ, Bool, true, false, List, [], ◌∷◌, ◌++◌, map, set, codes}
 use Rattle.tptp_tree.specs.Term.{TermTree, variable, application, terms_of}
 use Rattle.tptp_tree.specs.Formula.{for_all, implies, FormulaTree, truth, falsity, predicate, equation, negation, disjunction, connected, quantified, formulas_of}
@@ -163,6 +164,25 @@ units_lines =
     ∷ clause_line (codes "c5") falsity (by_refl [] (codes "c4"))
     ∷ []
 
+-- the answer with another line in the place of one, places counted from 0
+abbrev pub units_answer : ℕ → LineTree → Answer
+units_answer n t = verdict_on_lines units (set units_lines n t)
+
+-- p twice, the second time under that name, and not p; the clause of the second p cites the line of the first
+abbrev pub twice : List ℕ → List Annotated
+twice second =
+    entry (codes "a") Axiom true atom_p ∷ entry second Axiom true atom_p ∷ entry (codes "b") NegatedConjecture true (negation atom_p) ∷ []
+
+abbrev pub twice_lines : List LineTree
+twice_lines =
+    line_as (codes "c0") Axiom true atom_p (by_file (codes "t.p") (codes "a"))
+    ∷ line_as (codes "c1") NegatedConjecture true (negation atom_p) (by_file (codes "t.p") (codes "b"))
+    ∷ clause_line (codes "c2") atom_p (by_clausify n1 (codes "c0"))
+    ∷ clause_line (codes "c3") (negation atom_p) (by_clausify (digits (codes "2")) (codes "c1"))
+    ∷ clause_line (codes "c4") not_true (by_para [] [] (codes "c2") (codes "c3"))
+    ∷ clause_line (codes "c5") falsity (by_refl [] (codes "c4"))
+    ∷ []
+
 -- ---- one implication: p implies q, and p(a); so q(a)
 
 abbrev pub implication : List Annotated
@@ -267,6 +287,40 @@ merging_with g t =
 abbrev pub merging_lines : List LineTree
 merging_lines = merging_with (p a) (name (codes "a"))
 
+-- ---- an equation and its turned form: a = b or b = a, but a != b
+
+abbrev pub turned : List Annotated
+turned = entry (codes "a") Axiom true (one_of (equal a b ∷ equal b a ∷ [])) ∷ entry (codes "b") Axiom true (unequal a b) ∷ []
+
+-- with the lines behind the clauses of the form
+abbrev pub turned_then : List LineTree → List LineTree
+turned_then ts =
+    line_as (codes "c0") Axiom true (one_of (equal a b ∷ equal b a ∷ [])) (by_file (codes "e.p") (codes "a"))
+    ∷ line_as (codes "c1") Axiom true (unequal a b) (by_file (codes "e.p") (codes "b"))
+    ∷ clause_line (codes "c2") (one_of (equal a b ∷ equal b a ∷ [])) (by_clausify n0 (codes "c0"))
+    ∷ clause_line (codes "c3") (unequal a b) (by_clausify n1 (codes "c1"))
+    ∷ ts
+
+-- The first literal becomes `b != b`, by a, which stands on its left and on the right of the second.
+abbrev pub factored_lines : List LineTree
+factored_lines = turned_then (
+    clause_line (codes "c4") (one_of (unequal b b ∷ equal b a ∷ []))
+    (infer (codes "factor") (thm ∷ call (codes "lit") (n0 ∷ left ∷ []) ∷ call (codes "lit") (n1 ∷ right ∷ []) ∷ bind [] ∷ []) (codes "c2" ∷ []))
+    ∷ clause_line (codes "c5") (equal b a) (by_refl [] (codes "c4"))
+    ∷ clause_line (codes "c6") (unequal a a)
+    (infer (codes "para") (thm ∷ from_first left ∷ call (codes "into") (n0 ∷ right ∷ list_of [] ∷ []) ∷ bind [] ∷ bind [] ∷ []) (codes "c5" ∷ codes "c3" ∷ []))
+    ∷ clause_line (codes "c7") falsity (by_refl [] (codes "c6"))
+    ∷ [])
+
+-- The first literal stays and the second goes, with the clause of line 5.
+abbrev pub turned_merged : FormulaTree → List LineTree
+turned_merged g = turned_then (
+    clause_line (codes "c4") g
+    (infer (codes "merge") (thm ∷ call (codes "lit") (n0 ∷ []) ∷ call (codes "lit") (n1 ∷ []) ∷ bind [] ∷ []) (codes "c2" ∷ []))
+    ∷ clause_line (codes "c5") (unequal b b) (by_para [] [] (codes "c4") (codes "c3"))
+    ∷ clause_line (codes "c6") falsity (by_refl [] (codes "c5"))
+    ∷ [])
+
 -- ---- an irreflexive variable: X != X, with what it is bound to
 
 abbrev pub irreflexive : List Annotated
@@ -277,6 +331,18 @@ irreflexive_bound t =
     line_as (codes "c0") Axiom true (unequal x x) (by_file (codes "r25.p") (codes "a"))
     ∷ clause_line (codes "c1") (unequal x0 x0) (by_clausify n0 (codes "c0"))
     ∷ clause_line (codes "c2") falsity (by_refl (t ∷ []) (codes "c1"))
+    ∷ []
+
+-- ---- two variables: X != Y, with what they are bound to
+
+abbrev pub all_differ : List Annotated
+all_differ = entry (codes "a") Axiom true (unequal x y) ∷ []
+
+abbrev pub all_differ_bound : List GeneralTree → List LineTree
+all_differ_bound ts =
+    line_as (codes "c0") Axiom true (unequal x y) (by_file (codes "d.p") (codes "a"))
+    ∷ clause_line (codes "c1") (unequal x0 x1) (by_clausify n0 (codes "c0"))
+    ∷ clause_line (codes "c2") falsity (by_refl ts (codes "c1"))
     ∷ []
 
 -- ---- two components: p(X) or q(Y), but neither p(a) nor q(b)
@@ -371,6 +437,10 @@ four_clauses_with g =
 abbrev pub four_clauses_lines : List LineTree
 four_clauses_lines = four_clauses_with (both atom_p not_spl0)
 
+-- the answer with another line in the place of one
+abbrev pub four_clauses_answer : ℕ → LineTree → Answer
+four_clauses_answer n t = verdict_on_lines four_clauses (set four_clauses_lines n t)
+
 -- ---- texts
 
 -- `$false` itself
@@ -386,3 +456,7 @@ falsum_lines =
     line_as (codes "a") Axiom true falsity (by_file (codes "f") (codes "a"))
     ∷ clause_line (codes "b") falsity (by_clausify n0 (codes "a"))
     ∷ []
+
+-- and a final `.` that ends no line
+abbrev pub falsum_text_then_dot : List ℕ
+falsum_text_then_dot = falsum_text ++ codes "."

@@ -10,16 +10,18 @@ ghost use Rattle.clausal_form.specs.FaultLaws.{NumbersWithoutFault};
 mod derivation_examples;
 mod derivation_texts;
 mod derivations;
+mod refused_examples;
 
 pub use derivation_examples::{
     accepted_examples, changed_implication_examples, changed_name_examples, formula_line_examples,
-    item_examples,
+    item_examples, single_rule_examples,
 };
 pub use derivation_texts::text_examples;
 pub use derivations::{
     accepted_derivations_refute, forms_have_functions, spelled_lines_are_answered,
     taken_lines_are_steps, texts_have_one_answer,
 };
+pub use refused_examples::{cause_order_examples, refused_line_examples, small_refused_examples};
 
 /// Of a product the first list changes slowest, and with `$true` it has no clause.
 pub fn written_examples()

@@ -47,7 +47,8 @@ pub data SourceTree : Type 0 where
   file_source : GeneralTree → List ℕ → SourceTree
   -- an inference by its rule, its items and the names of its parents
   inference_source : GeneralTree → List GeneralTree → List (List ℕ) → SourceTree
-  -- the definitions that a name stands for a part, and that it stands for the opposite of a literal
+  -- the two halves of a name's definition: where the name is true, one of its literals is; and where its one literal is true, the
+  -- name is
   component_source : List ℕ → SourceTree
   opposite_source : List ℕ → SourceTree
 

@@ -31,9 +31,9 @@ pub enum Source {
         items: GeneralTerms,
         parents: Texts,
     },
-    /// The definition of a name, which stands for a part of a clause.
+    /// The definition of a name, which stands for a part of a clause: where the name is true, a literal of the part is.
     Component(Text),
-    /// The definition of a name, which stands for the opposite of a literal.
+    /// The other half of the definition of a name that stands for one literal: where the literal is true, the name is.
     Opposite(Text),
 }
 

@@ -128,7 +128,7 @@ fn nested_list(alloc: Global, depth: usize) -> Mem<Vec<u8>> {
     Ok(text)
 }
 
-/// Brackets that are nested as deep as those of a derivation may be.
+/// Brackets that are nested a thousand deep, a fifth of what a derivation may have.
 #[test]
 fn reads_deep_brackets(rt: HostRuntime) -> Result<(), Fail> {
     let text = nested_list(rt.alloc(), 1_000)?;

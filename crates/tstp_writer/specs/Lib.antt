@@ -1,3 +1,4 @@
 pub mod Cone
+pub mod ConeExamples
 pub mod Marks
 pub mod ConeLaws

@@ -1,4 +1,4 @@
-// What is printed: of a derivation, the lines that the last one needs.
+// What is printed: of a derivation, the lines that one of them needs.
 #![tactic(auto)]
 
 pub mod laws;

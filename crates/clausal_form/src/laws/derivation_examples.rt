@@ -21,6 +21,16 @@ pub fn accepted_examples()
     ensures signed_names { verdict_on_lines example.four_clauses example.four_clauses_lines ≡ accepted 19 }
 {}
 
+/// Derivations that each tell one rule, accepted: an equality factoring, a merging of turned equations, a clause that comes from
+/// the second of two equal formulas, two variables bound to one, and a negated pivot.
+pub fn single_rule_examples()
+    ensures factored { verdict_on_lines example.turned example.factored_lines ≡ accepted 8 }
+    ensures merged { verdict_on_lines example.turned (example.turned_merged (example.equal example.a example.b)) ≡ accepted 7 }
+    ensures twice { verdict_on_lines (example.twice (codes "a")) example.twice_lines ≡ accepted 6 }
+    ensures one_variable { verdict_on_lines example.all_differ (example.all_differ_bound (variable (codes "Y") ∷ variable (codes "Y") ∷ [])) ≡ accepted 3 }
+    ensures negated_pivot { example.four_clauses_answer 17 (example.clause_line (codes "c17") example.not_spl1 (example.by_chain (negated (codes "spl0") ∷ []) (codes "c15" ∷ codes "c14" ∷ []))) ≡ accepted 19 }
+{}
+
 /// One implication, changed.
 pub fn changed_implication_examples()
     ensures other_term { verdict_on_lines example.implication (example.implication_bound (example.name (codes "b"))) ≡ refused_line 8 rule }

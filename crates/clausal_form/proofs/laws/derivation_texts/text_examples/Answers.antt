@@ -17,7 +17,9 @@ use Rattle.tptp_tree.specs.declared.limits.TheConstants.{MOST_DERIVATION_NESTING
 use Rattle.tptp_source.specs.declared.sign.NumberSign.TheVariants.{Unsigned}
 use Rattle.tptp_source.specs.General.{word, no_trees}
 use Rattle.tptp_source.specs.Spelling.{word_part, number_part, list_part, no_parts, GeneralPhrase, parts, GeneralPhrases, no_phrases, phrase_then, general_lexemes}
-use Rattle.clausal_form.specs.DerivationLine.{nothing_taken}
+use Rattle.kernel_steps.specs.Conclusion.{empty_clause}
+use Rattle.kernel_steps.specs.declared.step.Step.TheVariants.{Input, Clausify}
+use Rattle.clausal_form.specs.DerivationLine.{Taken, nothing_taken, kernel_line}
 use Rattle.clausal_form.specs.DerivationTexts.{AreLinesOf, phrases_lexemes, SpellsDerivation, NoLineBegins}
 use Rattle.clausal_form.specs.DerivationExamples.{falsum_text, falsum_lines}
 use Rattle.clausal_form.proofs.laws.derivation_texts.text_examples.Goals as goal
@@ -64,33 +66,41 @@ line_phrase n role source = record {
   notes = general_lexemes source [];
 }
 
-spells : SpellsDerivation falsum_text falsum_lines
-unfolding longest is_token kind_of line_length block_end fills piece_of lexed_from lexed_of all-none term one list_term file_phrase clausify_phrase line_phrase
-spells = (
-  [],
+two_phrases : List AnnotatedPhrase
+two_phrases = line_phrase (codes "a") (codes "axiom") file_phrase ∷ line_phrase (codes "b") (codes "plain") clausify_phrase ∷ []
+
+are_lines : AreLinesOf two_phrases falsum_lines
+unfolding all-none term one list_term file_phrase clausify_phrase line_phrase two_phrases
+are_lines = (
   record {
-    phrases = line_phrase (codes "a") (codes "axiom") file_phrase ∷ line_phrase (codes "b") (codes "plain") clausify_phrase ∷ [];
-    spelled = refl;
-    lines = (
-      record {
-        right = refl;
-        faultless = faultless_line (line_phrase (codes "a") (codes "axiom") file_phrase) refl;
-        entry = record { name = refl; role = refl; is_clause = refl; formula = refl };
-        source = record { term = _; spelled = record { phrase = file_phrase; spelled = refl; meant = refl }; shape = (word (codes "a") no_trees, refl, refl) };
-      },
-      (
-        record {
-          right = refl;
-          faultless = faultless_line (line_phrase (codes "b") (codes "plain") clausify_phrase) refl;
-          entry = record { name = refl; role = refl; is_clause = refl; formula = refl };
-          source = record { term = _; spelled = record { phrase = clausify_phrase; spelled = refl; meant = refl }; shape = (word (codes "a") no_trees ∷ [], refl, refl) };
-        },
-        tt,
-      ),
-    );
+    right = refl;
+    faultless = faultless_line (line_phrase (codes "a") (codes "axiom") file_phrase) refl;
+    entry = record { name = refl; role = refl; is_clause = refl; formula = refl };
+    source = record { term = _; spelled = record { phrase = file_phrase; spelled = refl; meant = refl }; shape = (word (codes "a") no_trees, refl, refl) };
   },
-  (refl, refl),
+  (
+    record {
+      right = refl;
+      faultless = faultless_line (line_phrase (codes "b") (codes "plain") clausify_phrase) refl;
+      entry = record { name = refl; role = refl; is_clause = refl; formula = refl };
+      source = record { term = _; spelled = record { phrase = clausify_phrase; spelled = refl; meant = refl }; shape = (word (codes "a") no_trees ∷ [], refl, refl) };
+    },
+    tt,
+  ),
 )
+
+spells : SpellsDerivation falsum_text falsum_lines
+unfolding longest is_token kind_of line_length block_end fills piece_of lexed_from lexed_of term one list_term file_phrase clausify_phrase line_phrase two_phrases
+spells = ([], record { phrases = two_phrases; spelled = refl; lines = are_lines }, (refl, refl))
+
+-- the two lines as they are taken
+two_taken : Taken
+two_taken = record {
+  lines =
+      record { name = codes "a"; line = kernel_line (Input 0) empty_clause }
+      ∷ record { name = codes "b"; line = kernel_line (Clausify 0) empty_clause } ∷ [];
+  introduced = [];
+}
 
 -- ---- where no line begins
 
@@ -111,7 +121,7 @@ mark-none bytes ts p rest e =
     kind_or (l ∷ ls) = l.kind
 
 pub returns : goal.returns
-unfolding longest is_token kind_of line_length block_end fills piece_of lexed_from lexed_of
+unfolding longest is_token kind_of line_length block_end fills piece_of lexed_from lexed_of term one list_term file_phrase clausify_phrase line_phrase two_phrases two_taken
 returns c = record {
   spelled = spells;
   accepted = (falsum_lines, spells, refl);
@@ -128,6 +138,14 @@ returns c = record {
     rest = lexeme Mark (codes ".") ∷ [];
     spelled = record { phrases = []; spelled = refl; lines = tt };
     taken = nothing_taken;
+    all_before = refl;
+    wrong = inr (inl (λ end. (let e : lexeme Mark (codes ".") ∷ [] ≡ [] = end.0 in cc), begins-none _ (mark-none (codes ".") []), refl, refl));
+  };
+  third_line = record {
+    before = falsum_lines;
+    rest = lexeme Mark (codes ".") ∷ [];
+    spelled = record { phrases = two_phrases; spelled = refl; lines = are_lines };
+    taken = two_taken;
     all_before = refl;
     wrong = inr (inl (λ end. (let e : lexeme Mark (codes ".") ∷ [] ≡ [] = end.0 in cc), begins-none _ (mark-none (codes ".") []), refl, refl));
   };
