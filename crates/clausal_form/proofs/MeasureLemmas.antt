@@ -1,19 +1,21 @@
 -- Measures of lists one after the other and of products, with sums that stop and without.
-use Rattle.std.proofs.Common.{◌≡◌, ℕ, zero, suc, ◌+◌, ◌-◌, ◌*◌, ◌^◌, ◌≤◌, max, Bool, true, false, List, [], ◌∷◌, ◌++◌, length, map, refl, ap, sym, ◌∙◌, arith}
+use Rattle.std.proofs.Common.{◌≡◌, ℕ, zero, suc, ◌+◌, ◌-◌, ◌*◌, ◌^◌, ◌≤◌, ◌==◌, ◌&&◌, max, Bool, true, false, List, [], ◌∷◌, ◌++◌, length, map, refl, ap, sym, ◌∙◌, append-nil, arith}
 use Rattle.std.specs.Prelude.{nat_lt}
-use Rattle.std.proofs.lemmas.Bool.{ltb-true, ltb-false}
+use Rattle.std.proofs.lemmas.Bool.{and_parts, eqb-true, ltb-true, ltb-false}
 use Rattle.std.proofs.lemmas.List.Sums.{sum_by-append, sum_by-cons}
 use Rattle.fol_base.specs.Clause.{TreeLiteral, literal_size}
 use Rattle.signature.specs.Clausal.{Literals, all_pairs}
 use Rattle.std.specs.Prelude.{flat_map}
 use Rattle.std.proofs.lemmas.Grind.{flat_map-append}
 use Rattle.fol_base.specs.Literal.{literal_of}
+use Rattle.fol_base.proofs.TreeLemmas.{tree_size-positive}
 use Rattle.skolem.specs.Shape.{matrix_tree}
 use Rattle.clausal_form.specs.Written.{written}
 use Rattle.clausal_form.specs.Naming.{definition_clauses}
 use Rattle.clausal_form.specs.declared.naming.Definition.{Definition}
 use Rattle.clausal_form.specs.Measure.{literals_size, symbols_in, largest, ClauseMeasure, measured, sum_measure, product_largest, product_measure, capped, capped_measure, measure_of, capped_measured}
 use Rattle.clausal_form.specs.declared.measure.Measure.{Measure}
+use Rattle.clausal_form.proofs.PairLemmas.{pairs-unit, unit-pairs}
 
 same : (a b : ClauseMeasure) → a.clauses ≡ b.clauses → a.symbols ≡ b.symbols → a.largest ≡ b.largest → a ≡ b
 same a b h k l = λ i. record { clauses = h i; symbols = k i; largest = l i }
@@ -168,6 +170,51 @@ pub measured-product :
 measured-product a b c cs ds h k l =
     l ∙ ap (λ x. capped_measure (product_measure x (measure_of b))) h ∙ ap (λ y. capped_measure (product_measure (capped_measured cs) y)) k
     ∙ product-capped (measured cs) (measured ds) ∙ ap capped_measure (sym (measured-pairs cs ds))
+
+-- ---- lists without clauses, and of the empty clause alone
+
+pub none-measured : (a : Measure) (cs : List Literals) → measure_of a ≡ capped_measured cs → a.clauses ≡ 0 → cs ≡ []
+none-measured a [] h k = refl
+none-measured a (c ∷ cs) h k = absurd (omega (arith, k, ap (λ (m : ClauseMeasure). m.clauses) h))
+
+empty-alone : (cs : List Literals) → length cs ≡ 1 → symbols_in cs ≡ 0 → cs ≡ [] ∷ []
+empty-alone [] n s = absurd (omega (arith, n))
+empty-alone ([] ∷ []) n s = refl
+empty-alone ((l ∷ c) ∷ []) n s =
+    absurd
+    (omega (
+      arith,
+      s,
+      sum_by-cons literals_size (l ∷ c) [],
+      sum_by-cons literal_size l c,
+      tree_size-positive l.left,
+    ))
+empty-alone (c ∷ (d ∷ cs)) n s = absurd (omega (arith, n))
+
+pub empty-measured :
+    (a : Measure) (cs : List Literals) → measure_of a ≡ capped_measured cs → ((a.clauses == 1) && (a.symbols == 0)) ≡ true → cs ≡ [] ∷ []
+empty-measured a cs h t =
+    let parts : ((a.clauses == 1) ≡ true) × ((a.symbols == 0) ≡ true) = and_parts _ _ t in
+    let one : length cs ≡ 1 = sym (ap (λ (m : ClauseMeasure). m.clauses) h) ∙ eqb-true _ _ parts.0 in
+    let stopped : capped (symbols_in cs) ≡ 0 = sym (ap (λ (m : ClauseMeasure). m.symbols) h) ∙ eqb-true _ _ parts.1 in
+    let none : symbols_in cs ≡ 0 = omega (arith, stopped) in
+    empty-alone cs one none
+
+pub unit-last :
+    (b : Measure) (cs ds : List Literals)
+    → measure_of b ≡ capped_measured ds → ((b.clauses == 1) && (b.symbols == 0)) ≡ true → cs ≡ all_pairs cs ds
+unit-last b cs ds h t = sym (ap (all_pairs cs) (empty-measured b ds h t) ∙ pairs-unit cs)
+
+pub unit-first :
+    (a : Measure) (cs ds : List Literals)
+    → measure_of a ≡ capped_measured cs → ((a.clauses == 1) && (a.symbols == 0)) ≡ true → ds ≡ all_pairs cs ds
+unit-first a cs ds h t = sym (ap (λ xs. all_pairs xs ds) (empty-measured a cs h t) ∙ unit-pairs ds)
+
+pub none-last : (b : Measure) (cs ds : List Literals) → measure_of b ≡ capped_measured ds → b.clauses ≡ 0 → cs ≡ cs ++ ds
+none-last b cs ds h k = sym (ap (λ xs. cs ++ xs) (none-measured b ds h k) ∙ append-nil cs)
+
+pub none-first : (a : Measure) (cs ds : List Literals) → measure_of a ≡ capped_measured cs → a.clauses ≡ 0 → ds ≡ cs ++ ds
+none-first a cs ds h k = sym (ap (λ xs. xs ++ ds) (none-measured a cs h k))
 
 -- ---- literals and definitions
 

@@ -117,14 +117,14 @@ product-then first began ms i m old mid new before cs after a b all h e f g w v 
         ∙ ap (λ ds. product n began before ds (naming_made mid)) here ∙ ap (product n began before one.clauses) made
 
 pub product-end :
-    (n : SymbolNumbers) (began : ℕ) (ms : List Matrix) (i : ℕ) (s : Naming) (cs part : List Literals) (a : Measure) (all : Worked)
-    → length ms ≤ i → product_left n began cs (drop i ms) s ≡ all → part ≡ cs → IsMeasured a cs → IsMeasured s.measure (defining_clauses s)
-    → IsWork s all part a
-product-end n began ms i s cs part a all h l p k d =
+    (n : SymbolNumbers) (began : ℕ) (ms : List Matrix) (i : ℕ) (s : Naming) (cs : List Literals) (a : Measure) (all : Worked)
+    → length ms ≤ i → product_left n began cs (drop i ms) s ≡ all → IsMeasured a cs → IsMeasured s.measure (defining_clauses s)
+    → IsWork s all cs a
+product-end n began ms i s cs a all h l k d =
     record {
-      clauses = p ∙ ap (λ (w : Worked). w.clauses) whole;
+      clauses = ap (λ (w : Worked). w.clauses) whole;
       made = ap (λ (w : Worked). w.made) whole;
-      measured = k ∙ ap capped_measured (sym p);
+      measured = k;
       defining = d;
     }
   where
@@ -210,17 +210,16 @@ work-second n began s m first second name cs a b l t w h k =
     }
 
 pub work-first :
-    (n : SymbolNumbers) (began : ℕ) (s : Naming) (m : Made) (first second part name one cs : List Literals) (a b : Measure)
+    (n : SymbolNumbers) (began : ℕ) (s : Naming) (m : Made) (first second name cs : List Literals) (a b : Measure)
     → is_large_count (length first) (length second) ≡ true → nat_lt (length first) (length second) ≡ false
-    → part ≡ first → IsWork s (named n began part m) name a → one ≡ name
-    → cs ≡ all_pairs one second → IsMeasured b (all_pairs one second)
+    → IsWork s (named n began first m) name a
+    → cs ≡ all_pairs name second → IsMeasured b (all_pairs name second)
     → IsWork s (product n began first second m) cs b
-work-first n began s m first second part name one cs a b l t p w o h k =
+work-first n began s m first second name cs a b l t w h k =
     let e : product n began first second m ≡ chosen n began first second m true false = chosen-so n began first second m true false l t in
     record {
-      clauses =
-          h ∙ ap (λ ds. all_pairs ds second) (o ∙ w.clauses ∙ ap (λ ds. (named n began ds m).clauses) p) ∙ ap (λ (v : Worked). v.clauses) (sym e);
-      made = w.made ∙ ap (λ ds. (named n began ds m).made) p ∙ ap (λ (v : Worked). v.made) (sym e);
+      clauses = h ∙ ap (λ ds. all_pairs ds second) w.clauses ∙ ap (λ (v : Worked). v.clauses) (sym e);
+      made = w.made ∙ ap (λ (v : Worked). v.made) (sym e);
       measured = k ∙ ap capped_measured (sym h);
       defining = w.defining;
     }

@@ -79,3 +79,21 @@ pub single-written :
     (old new : List MatrixTree) (m : MatrixTree) → old ≡ [] → new ≡ old ++ m ∷ [] → product_written ([] ∷ []) (matrices_of new) ≡ written m
 single-written old new m h k =
     ap (λ ms. product_written ([] ∷ []) (matrices_of ms)) (k ∙ ap (λ ms. ms ++ m ∷ []) h) ∙ unit-pairs (written m)
+
+pub single-listed :
+    (old new : List MatrixTree) (m : MatrixTree) → old ≡ [] → new ≡ old ++ m ∷ [] → all_written (matrices_of new) ≡ written m
+single-listed old new m h k = ap (λ ms. all_written (matrices_of ms)) (k ∙ ap (λ ms. ms ++ m ∷ []) h) ∙ append-nil (written m)
+
+pub listed-then :
+    (before after : List MatrixTree) (m n : MatrixTree)
+    → all_written (matrices_of before) ≡ written m → after ≡ before ++ n ∷ []
+    → all_written (matrices_of after) ≡ written m ++ written n
+listed-then before after m n h k =
+    ap (λ ms. all_written (matrices_of ms)) k ∙ all-written-last before n ∙ ap (λ cs. cs ++ written n) h
+
+pub factors-then :
+    (before after : List MatrixTree) (m n : MatrixTree)
+    → product_written ([] ∷ []) (matrices_of before) ≡ written m → after ≡ before ++ n ∷ []
+    → product_written ([] ∷ []) (matrices_of after) ≡ all_pairs (written m) (written n)
+factors-then before after m n h k =
+    ap (λ ms. product_written ([] ∷ []) (matrices_of ms)) k ∙ product-written-last ([] ∷ []) before n ∙ ap (λ cs. all_pairs cs (written n)) h

@@ -3,8 +3,7 @@ use Rattle.std.specs.Prelude.{◌≡◌, ℕ, Bool, ◌&&◌, nat_le, nat_lt, �
 use Rattle.fol_base.specs.Literal.{literal_of}
 use Rattle.signature.specs.Clausal.{SymbolNumbers, Made, Worked, Literals}
 use Rattle.skolem.specs.Shape.{matrix_tree}
-use Rattle.skolem.specs.Matrix.{MatrixTree, matrices_of}
-use Rattle.clausal_form.specs.Written.{written, product_written}
+use Rattle.clausal_form.specs.Written.{written}
 use Rattle.clausal_form.specs.Measure.{measure_of, capped_measured}
 use Rattle.clausal_form.specs.declared.measure.Measure.{Measure}
 use Rattle.clausal_form.specs.declared.naming.Definition.{Definition}
@@ -26,9 +25,6 @@ naming_numbers first = record { symbols = []; first_skolem = 0; first_naming = f
 
 abbrev pub IsMeasured : Measure → List Literals → Type 0
 IsMeasured a cs = measure_of a ≡ capped_measured cs
-
-abbrev pub members_written : List MatrixTree → List Literals
-members_written ms = product_written ([] ∷ []) (matrices_of ms)
 
 -- a product of two lists of so many clauses is named
 abbrev pub is_large_count : ℕ → ℕ → Bool

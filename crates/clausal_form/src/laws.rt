@@ -1,10 +1,12 @@
 // Laws and worked examples of the definitions: each is the contract of a function with an empty body.
 
-ghost use Rattle.std.specs.Prelude.{◌≡◌, [], ◌∷◌};
+ghost use Rattle.std.specs.Prelude.{◌≡◌, ◌+◌, ◌^◌, [], ◌∷◌, Some, None};
 ghost use Rattle.skolem.specs.Matrix.{truth};
 ghost use Rattle.clausal_form.specs.Examples.{proposition, all_of, one_of};
 ghost use Rattle.clausal_form.specs.Written.{written};
 ghost use Rattle.clausal_form.specs.Measure.{measured};
+ghost use Rattle.clausal_form.specs.Fault.{limit_fault};
+ghost use Rattle.clausal_form.specs.declared.fault.FormCause.TheVariants.{TooHeavy, TotalLimit};
 ghost use Rattle.clausal_form.specs.FaultLaws.{NumbersWithoutFault};
 
 mod derivation_examples;
@@ -36,6 +38,14 @@ pub fn measure_examples()
     ensures product { measured (written (one_of (all_of (1 ∷ 2 ∷ []) ∷ all_of (3 ∷ 4 ∷ []) ∷ [])))
         ≡ record { clauses = 4; symbols = 16; largest = 4 } }
     ensures none { measured [] ≡ record { clauses = 0; symbols = 0; largest = 0 } }
+{}
+
+/// A limit itself isn't passed. Of two limits that are passed the fault is that of the clause.
+pub fn limit_examples()
+    ensures within { limit_fault 4000 (2 ^ 28) ≡ None }
+    ensures too_heavy { limit_fault 4001 (2 ^ 28) ≡ Some TooHeavy }
+    ensures total_limit { limit_fault 4000 (2 ^ 28 + 1) ≡ Some TotalLimit }
+    ensures both { limit_fault 4001 (2 ^ 28 + 1) ≡ Some TooHeavy }
 {}
 
 /// Where no formula passes a limit, the numbers of the symbols are those of the clausal form.

@@ -1,6 +1,6 @@
 // Names for lists of clauses whose products would be large. What is left is a matrix whose products can be written out.
 
-ghost use Rattle.std.specs.Prelude.{◌≡◌, [], ◌∷◌, ◌++◌, ◌+◌, map, length, IfOk};
+ghost use Rattle.std.specs.Prelude.{◌≡◌, [], ◌∷◌, ◌++◌, ◌+◌, ◌==◌, ◌&&◌, map, length, IfOk};
 ghost use Rattle.fol_base.specs.Literal.{literal_of};
 ghost use Rattle.fol_base.specs.Term.{tree_of};
 ghost use Rattle.signature.specs.Clausal.{all_pairs, atom_literal, named, product};
@@ -8,14 +8,14 @@ ghost use Rattle.skolem.specs.Matrix.{matrices_of};
 ghost use Rattle.skolem.specs.Shape.{matrix_tree};
 ghost use Rattle.skolem.specs.MatrixClauses.{matrix_clauses, listed_matrices, product_of_matrices};
 ghost use Rattle.clausal_form.specs.Measure.{measure_of, capped_measured};
-ghost use Rattle.clausal_form.specs.Written.{written, all_written};
-ghost use Rattle.clausal_form.specs.Naming.{IsMeasured, IsWork, defining_clauses, definition_clauses, members_written, naming_made, naming_numbers, is_large_count};
+ghost use Rattle.clausal_form.specs.Written.{written, all_written, product_written};
+ghost use Rattle.clausal_form.specs.Naming.{IsMeasured, IsWork, defining_clauses, definition_clauses, naming_made, naming_numbers, is_large_count};
 
-use crate::arguments::{applied, name_arguments};
+use crate::arguments::name_arguments;
 use crate::measure::Measure;
 use fol_base::{Literal, Term};
 use plain_types::{Mem, NoMemory};
-use skolem::{Matrices, Matrix};
+use skolem::{Matrices, Matrix, applied};
 use std::alloc::Global;
 
 /// Over so many clauses a product of two lists is named.
@@ -43,13 +43,6 @@ pub(crate) struct Naming {
 pub(crate) struct Part {
     pub matrix: Matrix,
     pub measure: Measure,
-}
-
-/// Members of a matrix, and the measure of their clauses together: one list after another, or their product.
-#[derive(Drop)]
-struct Members {
-    matrices: Matrices,
-    measure: Measure,
 }
 
 /// The matrix with names for the lists of its large products.
@@ -85,29 +78,54 @@ fn named_list(alloc: Global, members: &[Matrix], naming: &mut Naming) -> Mem<Par
         (written (matrix_tree part.matrix)) part.measure) }
     ensures first { IfOk result (λ _. naming.new.first ≡ naming.old.first) }
 {
-    let mut matrices = Matrices::new(alloc);
-    let mut measure = Measure::none();
+    let mut list = Part {
+        matrix: Matrix::True,
+        measure: Measure::none(),
+    };
     for member in members {
         let part = named_matrix(alloc, member, naming)?;
-        measure = measure.sum(part.measure)?;
-        push_part(&mut matrices, part)?;
+        list = joined(alloc, list, part)?;
     }
-    Ok(Part {
-        matrix: Matrix::And(matrices),
-        measure,
-    })
+    Ok(list)
 }
 
-/// Adds a part at the end, if it has clauses.
-fn push_part(matrices: &mut Matrices, part: Part) -> Mem<()>
-    requires { IsMeasured part.measure (written (matrix_tree part.matrix)) }
-    ensures { IfOk result (λ _. all_written (matrices_of matrices.new)
-        ≡ all_written (matrices_of matrices.old) ++ written (matrix_tree part.matrix)) }
+/// One part after another. Without clauses it is left out, so that a list of one part is that part.
+fn joined(alloc: Global, first: Part, second: Part) -> Mem<Part>
+    requires first { IsMeasured first.measure (written (matrix_tree first.matrix)) }
+    requires second { IsMeasured second.measure (written (matrix_tree second.matrix)) }
+    ensures clauses { IfOk result (λ part. written (matrix_tree part.matrix)
+        ≡ written (matrix_tree first.matrix) ++ written (matrix_tree second.matrix)) }
+    ensures measured { IfOk result (λ part. IsMeasured part.measure
+        (written (matrix_tree first.matrix) ++ written (matrix_tree second.matrix))) }
 {
-    if part.measure.clauses == 0 {
-        return Ok(());
+    if second.measure.clauses == 0 {
+        return Ok(first);
     }
-    matrices.push(part.matrix)
+    if first.measure.clauses == 0 {
+        return Ok(second);
+    }
+    let measure = first.measure.sum(second.measure)?;
+    let matrix = joined_matrix(alloc, first.matrix, second.matrix)?;
+    Ok(Part { matrix, measure })
+}
+
+/// One matrix after another, in the same list where the first is one.
+fn joined_matrix(alloc: Global, first: Matrix, second: Matrix) -> Mem<Matrix>
+    ensures { IfOk result (λ matrix. written (matrix_tree matrix) ≡ written (matrix_tree first) ++ written (matrix_tree second)) }
+{
+    let mut members = listed(alloc, first)?;
+    members.push(second)?;
+    Ok(Matrix::And(members))
+}
+
+/// The matrices of a list, and any other matrix alone.
+fn listed(alloc: Global, matrix: Matrix) -> Mem<Matrices>
+    ensures { IfOk result (λ members. all_written (matrices_of members) ≡ written (matrix_tree matrix)) }
+{
+    match matrix {
+        Matrix::And(members) => Ok(members),
+        other => single(alloc, other),
+    }
 }
 
 /// The product of matrices, from left to right.
@@ -119,64 +137,36 @@ fn named_product(alloc: Global, made: u32, members: &[Matrix], naming: &mut Nami
         (written (matrix_tree part.matrix)) part.measure) }
     ensures first { IfOk result (λ _. naming.new.first ≡ naming.old.first) }
 {
-    let mut product = Members {
-        matrices: Matrices::new(alloc),
+    let mut product = Part {
+        matrix: Matrix::False,
         measure: Measure::empty_clause(),
     };
     for member in members {
         let part = named_matrix(alloc, member, naming)?;
         product = multiplied(alloc, made, product, part, naming)?;
     }
-    Ok(product_part(made, product))
+    Ok(product)
 }
 
-/// A product as a matrix: `$true` where it has no clauses, so that nothing of it is walked again.
-fn product_part(made: u32, product: Members) -> Part
-    requires { IsMeasured product.measure (members_written product.matrices) }
-    ensures clauses { written (matrix_tree result.matrix) ≡ members_written product.matrices }
-    ensures measured { IsMeasured result.measure (members_written product.matrices) }
-{
-    let measure = product.measure;
-    if measure.clauses == 0 {
-        return Part {
-            matrix: Matrix::True,
-            measure,
-        };
-    }
-    Part {
-        matrix: Matrix::Or {
-            made,
-            members: product.matrices,
-        },
-        measure,
-    }
-}
-
-/// A product with one more member. Of a large one the longer list is named first, what is there where they are equally long.
-fn multiplied(
-    alloc: Global,
-    made: u32,
-    factors: Members,
-    part: Part,
-    naming: &mut Naming,
-) -> Mem<Members>
+/// The product of two parts. Of a large one the longer list is named first, what is there where they are equally long.
+fn multiplied(alloc: Global, made: u32, first: Part, second: Part, naming: &mut Naming) -> Mem<Part>
     requires defining { IsMeasured naming.old.measure (defining_clauses naming.old) }
-    requires first { IsMeasured factors.measure (members_written factors.matrices) }
-    requires second { IsMeasured part.measure (written (matrix_tree part.matrix)) }
-    ensures work { IfOk result (λ more. IsWork naming.new
-        (product (naming_numbers naming.old.first) made (members_written factors.matrices) (written (matrix_tree part.matrix)) (naming_made naming.old))
-        (members_written more.matrices) more.measure) }
+    requires first { IsMeasured first.measure (written (matrix_tree first.matrix)) }
+    requires second { IsMeasured second.measure (written (matrix_tree second.matrix)) }
+    ensures work { IfOk result (λ part. IsWork naming.new
+        (product (naming_numbers naming.old.first) made (written (matrix_tree first.matrix)) (written (matrix_tree second.matrix)) (naming_made naming.old))
+        (written (matrix_tree part.matrix)) part.measure) }
     ensures first { IfOk result (λ _. naming.new.first ≡ naming.old.first) }
 {
-    if !is_large(factors.measure.clauses, part.measure.clauses) {
-        return with_member(factors, part);
+    if !is_large(first.measure.clauses, second.measure.clauses) {
+        return written_out(alloc, made, first, second);
     }
-    if factors.measure.clauses < part.measure.clauses {
-        let name = named(alloc, made, part, naming)?;
-        return with_member(factors, name);
+    if first.measure.clauses < second.measure.clauses {
+        let name = named(alloc, made, second, naming)?;
+        return written_out(alloc, made, first, name);
     }
-    let name = named(alloc, made, product_part(made, factors), naming)?;
-    with_member(single(alloc, name)?, part)
+    let name = named(alloc, made, first, naming)?;
+    written_out(alloc, made, name, second)
 }
 
 /// Whether a product of two lists of so many clauses is named.
@@ -186,33 +176,67 @@ fn is_large(first: u64, second: u64) -> bool
     first >= 2 && second >= 2 && first.saturating_mul(second) > LARGEST_PRODUCT
 }
 
-/// A product with one more member, which is written out.
-fn with_member(product: Members, part: Part) -> Mem<Members>
-    requires first { IsMeasured product.measure (members_written product.matrices) }
-    requires second { IsMeasured part.measure (written (matrix_tree part.matrix)) }
-    ensures clauses { IfOk result (λ made. members_written made.matrices
-        ≡ all_pairs (members_written product.matrices) (written (matrix_tree part.matrix))) }
-    ensures measured { IfOk result (λ made. IsMeasured made.measure
-        (all_pairs (members_written product.matrices) (written (matrix_tree part.matrix)))) }
+/// The product of two parts without a name. The empty clause alone is left out, so that a product of one part is that part; and one
+/// without clauses is `$true`, so that nothing of it is walked again.
+fn written_out(alloc: Global, made: u32, first: Part, second: Part) -> Mem<Part>
+    requires first { IsMeasured first.measure (written (matrix_tree first.matrix)) }
+    requires second { IsMeasured second.measure (written (matrix_tree second.matrix)) }
+    ensures clauses { IfOk result (λ part. written (matrix_tree part.matrix)
+        ≡ all_pairs (written (matrix_tree first.matrix)) (written (matrix_tree second.matrix))) }
+    ensures measured { IfOk result (λ part. IsMeasured part.measure
+        (all_pairs (written (matrix_tree first.matrix)) (written (matrix_tree second.matrix)))) }
 {
-    let measure = product.measure.product(part.measure)?;
-    let mut matrices = product.matrices;
-    matrices.push(part.matrix)?;
-    Ok(Members { matrices, measure })
+    if is_empty_clause(second.measure) {
+        return Ok(first);
+    }
+    if is_empty_clause(first.measure) {
+        return Ok(second);
+    }
+    let measure = first.measure.product(second.measure)?;
+    if measure.clauses == 0 {
+        return Ok(Part {
+            matrix: Matrix::True,
+            measure,
+        });
+    }
+    let matrix = product_matrix(alloc, made, first.matrix, second.matrix)?;
+    Ok(Part { matrix, measure })
 }
 
-/// A product of one member.
-fn single(alloc: Global, part: Part) -> Mem<Members>
-    requires { IsMeasured part.measure (written (matrix_tree part.matrix)) }
-    ensures clauses { IfOk result (λ made. members_written made.matrices ≡ written (matrix_tree part.matrix)) }
-    ensures measured { IfOk result (λ made. IsMeasured made.measure (written (matrix_tree part.matrix))) }
+/// Whether the only clause is the empty one: each literal has symbols.
+fn is_empty_clause(measure: Measure) -> bool
+    ensures { result ≡ ((measure.clauses == 1) && (measure.symbols == 0)) }
 {
-    let mut matrices = Matrices::new(alloc);
-    matrices.push(part.matrix)?;
-    Ok(Members {
-        matrices,
-        measure: part.measure,
-    })
+    measure.clauses == 1 && measure.symbols == 0
+}
+
+/// The product of two matrices, with the members of the first where it is one.
+fn product_matrix(alloc: Global, made: u32, first: Matrix, second: Matrix) -> Mem<Matrix>
+    ensures { IfOk result (λ matrix. written (matrix_tree matrix) ≡ all_pairs (written (matrix_tree first)) (written (matrix_tree second))) }
+{
+    let mut members = factors(alloc, first)?;
+    members.push(second)?;
+    Ok(Matrix::Or { made, members })
+}
+
+/// The members of a product, and any other matrix alone.
+fn factors(alloc: Global, matrix: Matrix) -> Mem<Matrices>
+    ensures { IfOk result (λ members. product_written ([] ∷ []) (matrices_of members) ≡ written (matrix_tree matrix)) }
+{
+    match matrix {
+        Matrix::Or { made: _, members } => Ok(members),
+        other => single(alloc, other),
+    }
+}
+
+/// One matrix.
+fn single(alloc: Global, matrix: Matrix) -> Mem<Matrices>
+    ensures list { IfOk result (λ members. all_written (matrices_of members) ≡ written (matrix_tree matrix)) }
+    ensures product { IfOk result (λ members. product_written ([] ∷ []) (matrices_of members) ≡ written (matrix_tree matrix)) }
+{
+    let mut members = Matrices::new(alloc);
+    members.push(matrix)?;
+    Ok(members)
 }
 
 /// A literal as a matrix.

@@ -13,6 +13,9 @@ mod terms;
 
 pub use forms::skolemize;
 pub use matrix::{Matrices, Matrix};
+pub use name::{VariableName, VariableRef};
+pub use progress::made_in_order;
+pub use terms::applied;
 
 #[cfg(test)]
 mod tests;

@@ -11,13 +11,13 @@ use std::hash::{Hash, Hasher};
 
 /// The name of a variable.
 #[derive(Drop)]
-pub(crate) struct VariableName {
+pub struct VariableName {
     pub text: Text,
 }
 
 /// The name of a variable, lent.
 #[derive(Clone, Copy)]
-pub(crate) struct VariableRef<'a> {
+pub struct VariableRef<'a> {
     pub text: &'a [u8],
 }
 

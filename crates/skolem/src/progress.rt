@@ -97,7 +97,7 @@ impl Progress {
 }
 
 /// Of the variables below that number those that occur, in their order, each once. The list is sorted for it.
-fn made_in_order(alloc: Global, variables: u32, occurring: &mut Vec<u32>) -> Mem<Vec<u32>>
+pub fn made_in_order(alloc: Global, variables: u32, occurring: &mut Vec<u32>) -> Mem<Vec<u32>>
     ensures { IfOk result (λ found. found.items ≡ made_in_order variables occurring.old.items) }
 {
     occurring.sort_unstable();

@@ -82,7 +82,7 @@ pub(crate) fn terms_under(
 }
 
 /// A symbol applied to variables.
-pub(crate) fn applied(alloc: Global, symbol: u32, variables: &[u32]) -> Mem<Term>
+pub fn applied(alloc: Global, symbol: u32, variables: &[u32]) -> Mem<Term>
     ensures { IfOk result (λ term. tree_of term ≡ applied symbol variables.now) }
 {
     let mut arguments = Terms::new(alloc);

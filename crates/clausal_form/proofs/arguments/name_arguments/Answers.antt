@@ -1,3 +1,4 @@
+use Rattle.std.proofs.Common.{refl}
 use Rattle.skolem.specs.Shape.{matrix_tree}
 use Rattle.clausal_form.proofs.ResultLemmas.{ok-then}
 use Rattle.clausal_form.proofs.OccurringLemmas.{arguments-made}
@@ -6,5 +7,5 @@ use Rattle.clausal_form.proofs.arguments.name_arguments.Goals as goal
 pub returns : goal.returns
 returns c =
     ok-then c.made_in_order.result
-    (λ _ h. arguments-made c.args.made (matrix_tree c.args.matrix.now) _ _ _ _ c.new-occurring.ensures.items c.in_ok-push_matrix_variables.ensures.added c.as_slice.ensures.value h)
+    (λ _ h. arguments-made c.args.made (matrix_tree c.args.matrix.now) _ _ _ _ c.new-occurring.ensures.items c.in_ok-push_matrix_variables.ensures.added refl h)
     c.made_in_order.ensures

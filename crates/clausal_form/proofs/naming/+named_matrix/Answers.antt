@@ -1,7 +1,6 @@
 use Rattle.std.proofs.Common.{arith, ap, sym, ◌∙◌}
 use Rattle.clausal_form.specs.Measure.{capped_measured}
 use Rattle.clausal_form.proofs.AgendaLemmas.{member-size}
-use Rattle.clausal_form.proofs.MeasureLemmas.{measured-sum}
 use Rattle.clausal_form.proofs.NamingLemmas.{listing-then, product-then}
 use Rattle.clausal_form.proofs.naming.+named_matrix.Goals as goal
 
@@ -12,9 +11,8 @@ named_list-named_matrix-requires t c =
 pub named_list-loop-member-preserved : goal.named_list-loop-member-preserved
 named_list-loop-member-preserved t c = (
   listing-then _ _ _ _ _ _ _ _ _ _ _ c.loop-member-test.true c.member-item.is c.loop-member.invariant.3
-      c.in_ok-part.ensures.work c.in_ok-push_part.ensures c.loop-member.invariant.0,
-  measured-sum _ _ _ _ _ c.loop-member.invariant.1 c.in_ok-part.ensures.work.measured c.in_ok-measure.ensures
-      ∙ ap capped_measured (sym c.in_ok-push_part.ensures),
+      c.in_ok-part.ensures.work c.in_ok-list.ensures.clauses c.loop-member.invariant.0,
+  c.in_ok-list.ensures.measured ∙ ap capped_measured (sym c.in_ok-list.ensures.clauses),
   c.in_ok-part.ensures.work.defining,
   c.in_ok-part.ensures.first ∙ c.loop-member.invariant.3,
 )

@@ -2,8 +2,8 @@ use Rattle.std.proofs.Common.{◌≡◌, ◌+◌, ◌*◌, [], ◌∷◌, map, d
 use Rattle.skolem.specs.Matrix.{matrix_size, matrices_size, matrices_of}
 use Rattle.skolem.specs.Shape.{matrix_tree}
 use Rattle.skolem.specs.MatrixClauses.{listed_matrices, product_of_matrices}
-use Rattle.clausal_form.specs.Written.{all_written}
-use Rattle.clausal_form.specs.Naming.{IsMeasured, defining_clauses, members_written, naming_made, naming_numbers}
+use Rattle.clausal_form.specs.Written.{written}
+use Rattle.clausal_form.specs.Naming.{IsMeasured, defining_clauses, naming_made, naming_numbers}
 use Rattle.clausal_form.proofs.NamingLemmas.{IsListing}
 use Rattle.clausal_form.proofs.naming.+named_matrix.Given as goal
 
@@ -18,16 +18,16 @@ decreases-named_product l = 2 * matrices_size (matrices_of (map matrix_tree l.me
 
 abbrev pub invariant-named_list-loop-member : goal.invariant-named_list-loop-member
 invariant-named_list-loop-member l =
-    IsListing (naming_numbers l.initial.naming.first) (drop l.member-index l.members) l.naming (all_written (matrices_of l.matrices))
+    IsListing (naming_numbers l.initial.naming.first) (drop l.member-index l.members) l.naming (written (matrix_tree l.list.matrix))
     (listed_matrices (naming_numbers l.initial.naming.first) (matrices_of (map matrix_tree l.members)) (naming_made l.initial.naming))
-    × IsMeasured l.measure (all_written (matrices_of l.matrices))
+    × IsMeasured l.list.measure (written (matrix_tree l.list.matrix))
     × IsMeasured l.naming.measure (defining_clauses l.naming)
     × (l.naming.first ≡ l.initial.naming.first)
 
 abbrev pub invariant-named_product-loop-member : goal.invariant-named_product-loop-member
 invariant-named_product-loop-member l =
-    (product_of_matrices (naming_numbers l.initial.naming.first) l.made (members_written l.product.matrices) (matrices_of (map matrix_tree (drop l.member-index l.members))) (naming_made l.naming)
+    (product_of_matrices (naming_numbers l.initial.naming.first) l.made (written (matrix_tree l.product.matrix)) (matrices_of (map matrix_tree (drop l.member-index l.members))) (naming_made l.naming)
     ≡ product_of_matrices (naming_numbers l.initial.naming.first) l.made ([] ∷ []) (matrices_of (map matrix_tree l.members)) (naming_made l.initial.naming))
-    × IsMeasured l.product.measure (members_written l.product.matrices)
+    × IsMeasured l.product.measure (written (matrix_tree l.product.matrix))
     × IsMeasured l.naming.measure (defining_clauses l.naming)
     × (l.naming.first ≡ l.initial.naming.first)

@@ -6,10 +6,10 @@ use Rattle.clausal_form.proofs.naming.multiplied.Goals as goal
 
 pub returns-clause-work : goal.returns-clause-work
 returns-clause-work c =
-    ok-both c.with_member-2.result
+    ok-both c.written_out-2.result
     (λ _ h k.
-    work-first (naming_numbers c.args.naming.now.first) c.args.made _ (naming_made c.args.naming.now) _ _ _ _ _ _ _ _
+    work-first (naming_numbers c.args.naming.now.first) c.args.made _ (naming_made c.args.naming.now) _ _ _ _ _ _
     (large-so _ _ _ _ _ c.requires.first c.requires.second (sym c.if-not-is_large.ensures))
-    (longer-so _ _ _ _ c.requires.first c.requires.second c.if-factors-part.false)
-    c.product_part.ensures.clauses c.in_ok-name-2.ensures.work c.in_ok-single.ensures.clauses h k)
-    c.with_member-2.ensures.clauses c.with_member-2.ensures.measured
+    (longer-so _ _ _ _ c.requires.first c.requires.second c.if-first-second.false)
+    c.in_ok-name-2.ensures.work h k)
+    c.written_out-2.ensures.clauses c.written_out-2.ensures.measured
