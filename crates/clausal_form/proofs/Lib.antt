@@ -2,7 +2,6 @@ pub mod PairLemmas
 pub mod AgendaLemmas
 pub mod ResultLemmas
 pub mod MeasureLemmas
-pub mod OrderLemmas
 pub mod OccurringLemmas
 pub mod NamingLemmas
 pub mod FrameLemmas
