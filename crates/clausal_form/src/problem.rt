@@ -1,7 +1,7 @@
 // The clausal form of a problem.
 
 ghost use Rattle.std.specs.Prelude.{◌≡◌, IfOk, IfErr, None};
-ghost use Rattle.signature.specs.Occurrences.{HasProblemSize};
+ghost use Rattle.tptp_tree.specs.ProblemSize.{HasProblemSize};
 ghost use Rattle.signature.specs.Form.{clausal_form};
 ghost use Rattle.clausal_form.specs.Fault.{form_fault};
 ghost use Rattle.clausal_form.specs.Progress.{IsFormFault};

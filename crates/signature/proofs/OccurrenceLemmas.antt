@@ -9,7 +9,8 @@ use Rattle.tptp_tree.specs.declared.formula.Formula.{Formula}
 use Rattle.tptp_tree.specs.declared.problem.Annotated.{Annotated}
 use Rattle.signature.specs.declared.symbol.Symbol.{Symbol}
 use Rattle.signature.specs.Symbol.{with_symbol}
-use Rattle.signature.specs.Occurrences.{terms_count, term_symbols, terms_symbols, formula_symbols, formulas_symbols, annotated_symbols, occurrences, all_occurrences, total_occurrences}
+use Rattle.signature.specs.Occurrences.{terms_count, term_symbols, terms_symbols, formula_symbols, formulas_symbols, annotated_symbols}
+use Rattle.tptp_tree.specs.ProblemSize.{occurrences, all_occurrences, total_occurrences}
 
 pub folded : (known first rest : List Symbol) → fold with_symbol known (first ++ rest) ≡ fold with_symbol (fold with_symbol known first) rest
 folded known [] rest = refl

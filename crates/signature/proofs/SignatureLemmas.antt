@@ -11,7 +11,8 @@ use Rattle.signature.specs.declared.symbol.Symbol.{Symbol}
 use Rattle.signature.specs.Symbol.{true_symbol, same_symbol, has_symbol, with_symbol, are_different, IsSignature}
 use Rattle.signature.specs.SymbolLaws.{same_symbol-refl, same_symbol-true}
 use Rattle.signature.proofs.OccurrenceLemmas.{annotated-end, drop-item, drop-end}
-use Rattle.signature.specs.Occurrences.{term_symbols, terms_symbols, formula_symbols, formulas_symbols, annotated_symbols, problem_symbols, occurrences, all_occurrences, total_occurrences, HasProblemSize}
+use Rattle.signature.specs.Occurrences.{term_symbols, terms_symbols, formula_symbols, formulas_symbols, annotated_symbols, problem_symbols}
+use Rattle.tptp_tree.specs.ProblemSize.{occurrences, all_occurrences, total_occurrences, HasProblemSize}
 
 same_symbol-sym : (s t : Symbol) → same_symbol s t ≡ false → same_symbol t s ≡ false
 same_symbol-sym s t h = by (same_symbol t s) refl

@@ -1,8 +1,7 @@
 -- The symbols of a problem, by first occurrence in reading order.
-use Rattle.std.specs.Prelude.{ℕ, ◌+◌, ◌≤◌, ◌^◌, List, [], ◌∷◌, ◌++◌, length, flat_map, fold}
-use Rattle.tptp_tree.specs.Term.{TermTree, variable, application, TermTrees, no_terms, term_then, term_size}
+use Rattle.std.specs.Prelude.{ℕ, ◌+◌, List, [], ◌∷◌, ◌++◌, flat_map, fold}
+use Rattle.tptp_tree.specs.Term.{TermTree, variable, application, TermTrees, no_terms, term_then}
 use Rattle.tptp_tree.specs.Formula.{FormulaTree, truth, falsity, predicate, equation, negation, conjunction, disjunction, connected, quantified, FormulaTrees, no_formulas, formula_then}
-use Rattle.tptp_tree.specs.Term.{terms_size}
 use Rattle.tptp_tree.specs.Shape.{formula_of}
 use Rattle.tptp_tree.specs.declared.problem.Annotated.{Annotated}
 use Rattle.signature.specs.declared.symbol.Symbol.{Symbol}
@@ -46,32 +45,3 @@ annotated_symbols a = formula_symbols (formula_of a.formula)
 -- the symbols of a problem by their numbers: `$true`, and the others by first occurrence
 abbrev pub problem_symbols : List Annotated → List Symbol
 problem_symbols fs = fold with_symbol (true_symbol ∷ []) (flat_map annotated_symbols fs)
-
--- the occurrences of symbols and variables in a formula, and the variables that it quantifies
-abbrev mutual
-  pub occurrences : FormulaTree → ℕ
-  occurrences truth = 0
-  occurrences falsity = 0
-  occurrences (predicate p ts) = 1 + terms_size ts
-  occurrences (equation positive s t) = term_size s + term_size t
-  occurrences (negation f) = occurrences f
-  occurrences (conjunction fs) = all_occurrences fs
-  occurrences (disjunction fs) = all_occurrences fs
-  occurrences (connected c f g) = occurrences f + occurrences g
-  occurrences (quantified q xs f) = length xs + occurrences f
-
-  pub all_occurrences : FormulaTrees → ℕ
-  all_occurrences no_formulas = 0
-  all_occurrences (formula_then f fs) = occurrences f + all_occurrences fs
-
-abbrev pub total_occurrences : List Annotated → ℕ
-total_occurrences [] = 0
-total_occurrences (a ∷ fs) = occurrences (formula_of a.formula) + total_occurrences fs
-
--- the size of a problem: formulas, occurrences of symbols and variables, and quantified variables
-abbrev pub problem_size : List Annotated → ℕ
-problem_size fs = length fs + total_occurrences fs
-
--- what every problem that is handed in meets
-abbrev pub HasProblemSize : List Annotated → Type 0
-HasProblemSize fs = problem_size fs ≤ 2 ^ 31

@@ -5,7 +5,8 @@ ghost use Rattle.tptp_tree.specs.Term.{terms_of, term_size, terms_size};
 ghost use Rattle.tptp_tree.specs.Formula.{formulas_of};
 ghost use Rattle.tptp_tree.specs.Shape.{term_of, formula_of};
 ghost use Rattle.signature.specs.Symbol.{with_symbol, symbol_of, IsSignature};
-ghost use Rattle.signature.specs.Occurrences.{terms_count, term_symbols, terms_symbols, formula_symbols, formulas_symbols, problem_symbols, occurrences, all_occurrences, HasProblemSize};
+ghost use Rattle.signature.specs.Occurrences.{terms_count, term_symbols, terms_symbols, formula_symbols, formulas_symbols, problem_symbols};
+ghost use Rattle.tptp_tree.specs.ProblemSize.{occurrences, all_occurrences, HasProblemSize};
 
 use crate::symbol::{Symbol, SymbolKind, SymbolRef, TRUE};
 use indexmap::IndexSet;

@@ -2,7 +2,8 @@
 
 ghost use Rattle.std.specs.Prelude.{◌≡◌, ◌<◌, ◌≤◌, ◌^◌, ◌++◌, ◌∷◌, [], IfOk, OnErr, Some, is_some, List, length, map, fold, position, take, slice_get, IsFalse};
 ghost use Rattle.signature.specs.Symbol.{same_symbol, has_symbol, with_symbol, symbol_of, IsSignature};
-ghost use Rattle.signature.specs.Occurrences.{problem_symbols, HasProblemSize};
+ghost use Rattle.signature.specs.Occurrences.{problem_symbols};
+ghost use Rattle.tptp_tree.specs.ProblemSize.{HasProblemSize};
 
 use crate::meeting::meet_problem;
 use crate::symbol::{Symbol, SymbolRef};

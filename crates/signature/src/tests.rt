@@ -2,7 +2,7 @@
 
 ghost use Rattle.std.specs.Prelude.{◌≡◌, IfOk};
 ghost use Rattle.tptp_tree.specs.Shape.{formula_of};
-ghost use Rattle.signature.specs.Occurrences.{occurrences, HasProblemSize};
+ghost use Rattle.tptp_tree.specs.ProblemSize.{occurrences, HasProblemSize};
 
 use super::*;
 use plain_types::{Mem, Text};

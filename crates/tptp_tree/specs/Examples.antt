@@ -1,7 +1,8 @@
--- The printing on small formulas.
-use Rattle.std.specs.Prelude.{◌≡◌, true, [], ◌∷◌, codes}
+-- The printing and the sizes of small formulas.
+use Rattle.std.specs.Prelude.{◌≡◌, true, false, [], ◌∷◌, codes}
 use Rattle.tptp_tree.specs.Term.{TermTree, variable, application, no_terms, term_then}
 use Rattle.tptp_tree.specs.Formula.{implies, for_all, FormulaTree, truth, predicate, equation, negation, conjunction, disjunction, connected, quantified, no_formulas, formula_then}
+use Rattle.tptp_tree.specs.ProblemSize.{occurrences}
 use Rattle.tptp_tree.specs.Printing.{formula_text}
 
 abbrev p : FormulaTree
@@ -33,3 +34,12 @@ BareOperands =
     formula_text
     (disjunction (formula_then (negation (negation truth)) (formula_then (quantified for_all (codes "X" ∷ codes "Y" ∷ []) p) (formula_then (conjunction (formula_then p (formula_then q no_formulas))) no_formulas))))
     ≡ codes "~~$true | ! [X,Y] : p | (p & q)"
+
+-- p, its X, q, and the X of the quantifier
+abbrev pub OccurrencesInImplication : Type 0
+OccurrencesInImplication =
+    occurrences (quantified for_all (codes "X" ∷ []) (connected implies (predicate (codes "p") (term_then (variable (codes "X")) no_terms)) q)) ≡ 4
+
+-- `$true` is no symbol that occurs
+abbrev pub OccurrencesInTruth : Type 0
+OccurrencesInTruth = occurrences (disjunction (formula_then truth (formula_then (equation false a a) no_formulas))) ≡ 2

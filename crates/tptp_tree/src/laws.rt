@@ -1,6 +1,6 @@
 // The laws of the definitions: each is the contract of a function without arguments and with an empty body.
 
-ghost use Rattle.tptp_tree.specs.Examples.{BoundImplication, NegatedConjunction, NegatedEquation, BareOperands};
+ghost use Rattle.tptp_tree.specs.Examples.{BoundImplication, NegatedConjunction, NegatedEquation, BareOperands, OccurrencesInImplication, OccurrencesInTruth};
 ghost use Rattle.tptp_tree.specs.EntryExamples.{ClauseTokens, ClauseMeaning, OneLiteral, ClauseLevels, OpenTokens, OpenCauses, OneName, Roles, FormulaRoles, UnknownRole, LeftOutRole, Balanced, Crossed, WholeInclude, SelectedInclude, TwoEntries, NoEntries, EmptySelection};
 ghost use Rattle.std.specs.Prelude.{◌≡◌, ℕ, true, List};
 ghost use Rattle.tptp_token.specs.Lexemes.{Lexeme};
@@ -14,6 +14,12 @@ pub fn printing_examples()
     ensures negated_conjunction { NegatedConjunction }
     ensures negated_equation { NegatedEquation }
     ensures bare_operands { BareOperands }
+{}
+
+/// Worked examples of sizes.
+pub fn size_examples()
+    ensures implication { OccurrencesInImplication }
+    ensures truth { OccurrencesInTruth }
 {}
 
 /// A text spells at most one formula.

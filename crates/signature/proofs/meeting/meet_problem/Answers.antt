@@ -1,5 +1,5 @@
 use Rattle.std.proofs.Common.{ap, arith}
-use Rattle.signature.specs.Occurrences.{total_occurrences}
+use Rattle.tptp_tree.specs.ProblemSize.{total_occurrences}
 use Rattle.signature.proofs.OccurrenceLemmas.{annotated-item}
 use Rattle.signature.proofs.SignatureLemmas.{signature-met}
 use Rattle.signature.proofs.meeting.meet_problem.Goals as goal
