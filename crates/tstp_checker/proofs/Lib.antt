@@ -1,0 +1,11 @@
+pub mod TableLemmas
+pub mod NumberLemmas
+pub mod WalkLemmas
+pub mod WrittenLemmas
+pub mod ClauseLemmas
+pub mod BindingLemmas
+pub mod FormulaLemmas
+pub mod ItemLemmas
+pub mod InputLemmas
+pub mod PartLemmas
+pub mod StepLemmas

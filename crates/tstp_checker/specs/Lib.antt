@@ -1,0 +1,10 @@
+pub mod Tables
+pub mod Numbers
+pub mod Written
+pub mod LineClause
+pub mod Bindings
+pub mod Entries
+pub mod Items
+pub mod Steps
+pub mod Inputs
+pub mod Parts

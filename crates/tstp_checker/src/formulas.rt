@@ -1,0 +1,182 @@
+// Equality of formulas.
+
+ghost use Rattle.std.specs.Prelude.{◌≡◌, ◌&&◌, ◌∷◌, [], map, bytes_eq};
+ghost use Rattle.tptp_tree.specs.Codes.{encoded, text_terms, encoded_formulas};
+ghost use Rattle.tptp_tree.specs.Term.{terms_of, term_then};
+ghost use Rattle.tptp_tree.specs.Formula.{formulas_of};
+ghost use Rattle.tptp_tree.specs.Shape.{term_of, formula_of};
+ghost use Rattle.clausal_form.specs.DerivationLine.{same_term, same_terms, same_formula, same_entry, entry_of};
+ghost use Rattle.tstp_checker.specs.Entries.{entry_meant};
+
+use plain_types::{Text, Texts};
+use tptp_tree::{Annotated, Formula, FormulaBox, Role, TreeTerm, TreeTerms};
+
+/// What an annotated formula says, lent.
+#[derive(Clone, Copy)]
+pub(crate) struct Entry<'a> {
+    pub name: &'a [u8],
+    pub role: Role,
+    pub clause: bool,
+    pub formula: &'a Formula,
+}
+
+/// Whether a formula of a problem says the same.
+pub(crate) fn same_entry(one: Entry<'_>, other: &Annotated) -> bool
+    ensures { result ≡ same_entry (entry_meant one.entry) (entry_of other.now) }
+{
+    one.name == other.name.as_slice()
+        && one.role.word() == other.role.word()
+        && one.clause == other.clause
+        && same_formula(one.formula, &other.formula)
+}
+
+/// Whether two formulas are the same. The time is linear in the smaller one.
+#[cycle(same_formula)]
+pub(crate) fn same_formula(left: &Formula, right: &Formula) -> bool
+    ensures { result ≡ same_formula (formula_of left.now) (formula_of right.now) }
+{
+    match left {
+        Formula::True => matches!(right, Formula::True),
+        Formula::False => matches!(right, Formula::False),
+        Formula::Pred(p, ts) => matches!(right, Formula::Pred(q, us) if same_atom(p, ts, q, us)),
+        Formula::Equal(s, t) => matches!(right, Formula::Equal(u, v) if same_sides(s, t, u, v)),
+        Formula::NotEqual(s, t) =>
+            matches!(right, Formula::NotEqual(u, v) if same_sides(s, t, u, v)),
+        Formula::Not(f) => matches!(right, Formula::Not(g) if same_negated(f, g)),
+        Formula::And(fs) =>
+            matches!(right, Formula::And(gs) if same_formulas(fs.as_slice(), gs.as_slice())),
+        Formula::Or(fs) =>
+            matches!(right, Formula::Or(gs) if same_formulas(fs.as_slice(), gs.as_slice())),
+        Formula::Implies(f, g) => matches!(right, Formula::Implies(h, k) if same_pair(f, g, h, k)),
+        Formula::Implied(f, g) => matches!(right, Formula::Implied(h, k) if same_pair(f, g, h, k)),
+        Formula::Iff(f, g) => matches!(right, Formula::Iff(h, k) if same_pair(f, g, h, k)),
+        Formula::Xor(f, g) => matches!(right, Formula::Xor(h, k) if same_pair(f, g, h, k)),
+        Formula::Nor(f, g) => matches!(right, Formula::Nor(h, k) if same_pair(f, g, h, k)),
+        Formula::Nand(f, g) => matches!(right, Formula::Nand(h, k) if same_pair(f, g, h, k)),
+        Formula::All(xs, f) => matches!(right, Formula::All(ys, g) if same_bound(xs, f, ys, g)),
+        Formula::Ex(xs, f) => matches!(right, Formula::Ex(ys, g) if same_bound(xs, f, ys, g)),
+    }
+}
+
+/// Whether two lists of formulas are the same.
+#[cycle(same_formula)]
+fn same_formulas(left: &[Formula], right: &[Formula]) -> bool
+    ensures { result ≡
+        same_terms (encoded_formulas (formulas_of (map formula_of left.now))) (encoded_formulas (formulas_of (map formula_of right.now))) }
+{
+    if left.len() != right.len() {
+        return false;
+    }
+    for index in 0..left.len() {
+        if !same_formula(&left[index], &right[index]) {
+            return false;
+        }
+    }
+    true
+}
+
+/// Whether two formulas behind `~` are the same.
+#[cycle(same_formula)]
+fn same_negated(left: &FormulaBox, right: &FormulaBox) -> bool
+    ensures { result ≡ same_terms (encoded_formulas (formulas_of (left.now ∷ []))) (encoded_formulas (formulas_of (right.now ∷ []))) }
+{
+    same_formula(left.get(), right.get())
+}
+
+/// Whether two pairs of formulas are the same.
+#[cycle(same_formula)]
+fn same_pair(
+    first: &FormulaBox,
+    second: &FormulaBox,
+    first_other: &FormulaBox,
+    second_other: &FormulaBox,
+) -> bool
+    ensures { result ≡ same_terms (encoded_formulas (formulas_of (first.now ∷ second.now ∷ [])))
+        (encoded_formulas (formulas_of (first_other.now ∷ second_other.now ∷ []))) }
+{
+    same_formula(first.get(), first_other.get()) && same_formula(second.get(), second_other.get())
+}
+
+/// Whether two formulas are the same, and the variables that are bound in them.
+#[cycle(same_formula)]
+fn same_bound(
+    names: &Texts,
+    body: &FormulaBox,
+    other_names: &Texts,
+    other_body: &FormulaBox,
+) -> bool
+    ensures { result ≡ same_terms (term_then (encoded body.now) (text_terms names.now))
+        (term_then (encoded other_body.now) (text_terms other_names.now)) }
+{
+    same_formula(body.get(), other_body.get())
+        && same_names(names.as_slice(), other_names.as_slice())
+}
+
+/// Whether two lists of variables' names are the same.
+fn same_names(left: &[Text], right: &[Text]) -> bool
+    ensures { result ≡ same_terms (text_terms left.now) (text_terms right.now) }
+{
+    if left.len() != right.len() {
+        return false;
+    }
+    for index in 0..left.len() {
+        if left[index].as_slice() != right[index].as_slice() {
+            return false;
+        }
+    }
+    true
+}
+
+/// Whether two predicates are the same, with their arguments.
+fn same_atom(name: &Text, arguments: &TreeTerms, other: &Text, others: &TreeTerms) -> bool
+    ensures { result ≡ (bytes_eq name.now other.now && same_terms (terms_of arguments.now) (terms_of others.now)) }
+{
+    name.as_slice() == other.as_slice() && same_terms(arguments.as_slice(), others.as_slice())
+}
+
+/// Whether two pairs of sides are the same.
+fn same_sides(
+    left: &TreeTerm,
+    right: &TreeTerm,
+    other_left: &TreeTerm,
+    other_right: &TreeTerm,
+) -> bool
+    ensures { result ≡ same_terms (terms_of (term_of left.now ∷ term_of right.now ∷ []))
+        (terms_of (term_of other_left.now ∷ term_of other_right.now ∷ [])) }
+{
+    same_term(left, other_left) && same_term(right, other_right)
+}
+
+/// Whether two terms are the same.
+#[cycle(same_term)]
+fn same_term(left: &TreeTerm, right: &TreeTerm) -> bool
+    ensures { result ≡ same_term (term_of left.now) (term_of right.now) }
+{
+    match left {
+        TreeTerm::Var(first) => match right {
+            TreeTerm::Var(second) => first.as_slice() == second.as_slice(),
+            TreeTerm::App(_, _) => false,
+        },
+        TreeTerm::App(first, ones) => match right {
+            TreeTerm::Var(_) => false,
+            TreeTerm::App(second, others) => first.as_slice() == second.as_slice()
+                && same_terms(ones.as_slice(), others.as_slice()),
+        },
+    }
+}
+
+/// Whether two lists of terms are the same.
+#[cycle(same_term)]
+fn same_terms(left: &[TreeTerm], right: &[TreeTerm]) -> bool
+    ensures { result ≡ same_terms (terms_of (map term_of left.now)) (terms_of (map term_of right.now)) }
+{
+    if left.len() != right.len() {
+        return false;
+    }
+    for index in 0..left.len() {
+        if !same_term(&left[index], &right[index]) {
+            return false;
+        }
+    }
+    true
+}

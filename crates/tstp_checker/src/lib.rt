@@ -1,0 +1,14 @@
+// Derivations in the language TSTP, judged line by line.
+#![tactic(auto)]
+
+mod bindings;
+mod clause;
+mod formulas;
+mod inputs;
+mod items;
+pub mod laws;
+mod names;
+mod numbers;
+mod parts;
+mod steps;
+mod written;
