@@ -8,3 +8,5 @@ pub mod Items
 pub mod Steps
 pub mod Inputs
 pub mod Parts
+pub mod Causes
+pub mod Lines

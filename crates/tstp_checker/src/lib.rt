@@ -2,13 +2,17 @@
 #![tactic(auto)]
 
 mod bindings;
+mod cause;
 mod clause;
 mod formulas;
 mod inputs;
 mod items;
 pub mod laws;
+mod lines;
 mod names;
 mod numbers;
 mod parts;
 mod steps;
 mod written;
+
+pub use cause::Cause;
