@@ -1,13 +1,66 @@
 -- Counts of Skolem symbols over lists of formulas.
-use Rattle.std.proofs.Common.{◌≡◌, ℕ, ◌+◌, ◌<◌, Bool, List, length, map, drop, get_or, ap}
+use Rattle.std.proofs.Common.{◌≡◌, ℕ, ◌+◌, ◌-◌, ◌^◌, ◌<◌, ◌≤◌, min, Bool, true, false, not, List, [], ◌∷◌, length, map, drop, get_or, refl, ap, ◌∙◌, arith}
+use Rattle.std.specs.Prelude.{nat_lt, if◌then◌else◌}
+use Rattle.std.proofs.lemmas.Bool.{ltb-true, ltb-false}
+use Rattle.tptp_tree.specs.Entries.{is_conjecture}
+use Rattle.tptp_tree.specs.declared.problem.Annotated.{Annotated}
 use Rattle.tptp_tree.specs.Formula.{formulas_of}
 use Rattle.tptp_tree.specs.Shape.{formula_of}
 use Rattle.tptp_tree.specs.declared.formula.Formula.{Formula}
-use Rattle.signature.specs.Form.{skolem_count, all_skolem_count}
-use Rattle.signature.proofs.OccurrenceLemmas.{drop-item}
+use Rattle.signature.specs.Environment.{closed}
+use Rattle.signature.specs.Form.{skolem_count, all_skolem_count, problem_skolem_count}
+use Rattle.signature.proofs.OccurrenceLemmas.{drop-item, drop-end}
+use Rattle.formula_nnf.specs.Expanded.{expanded_count}
+use Rattle.clausal_form.specs.Fault.{most_expanded, most_form_symbols}
+use Rattle.clausal_form.specs.Progress.{expandable, counted_skolem}
 
 pub count-then :
     (fs : List Formula) (i : ℕ) (f : Formula) (sign : Bool) → i < length fs → f ≡ get_or fs i f
     → all_skolem_count (formulas_of (map formula_of (drop i fs))) sign
     ≡ skolem_count (formula_of f) sign + all_skolem_count (formulas_of (map formula_of (drop (i + 1) fs))) sign
 count-then fs i f sign h e = ap (λ gs. all_skolem_count (formulas_of (map formula_of gs)) sign) (drop-item fs i f h e)
+
+-- ---- the formulas of a problem
+
+-- the Skolem symbols of those before a place are counted, up to the limit
+abbrev pub IsCounted : List Annotated → ℕ → ℕ → Type 0
+IsCounted fs i total =
+    (min (total + problem_skolem_count (expandable (drop i fs))) most_form_symbols ≡ counted_skolem fs) × (total ≤ most_form_symbols)
+
+pub counted-begin : (fs : List Annotated) → IsCounted fs 0 0
+counted-begin fs = (omega arith, omega arith)
+
+expandable-none : (fs gs : List Annotated) (total : ℕ) → gs ≡ [] → (min (total + problem_skolem_count gs) most_form_symbols ≡ counted_skolem fs) → total ≤ most_form_symbols → total ≡ counted_skolem fs
+expandable-none fs gs total e h k = let none : problem_skolem_count gs ≡ 0 = ap problem_skolem_count e in omega (arith, none, h, k)
+
+pub counted-end : (fs : List Annotated) (i total : ℕ) → length fs ≤ i → IsCounted fs i total → total ≡ counted_skolem fs
+counted-end fs i total h c = expandable-none fs (expandable (drop i fs)) total (ap expandable (drop-end fs i h)) c.0 c.1
+
+pub counted-stop :
+    (fs : List Annotated) (i : ℕ) (a : Annotated) (total written : ℕ) → i < length fs → a ≡ get_or fs i a
+    → written ≡ min (expanded_count (formula_of a.formula)) (2 ^ 64 - 1) → most_expanded < written → IsCounted fs i total
+    → total ≡ counted_skolem fs
+counted-stop fs i a total written h e w b c =
+    expandable-none fs (expandable (drop i fs)) total (ap expandable (drop-item fs i a h e) ∙ by (nat_lt most_expanded (expanded_count (formula_of a.formula))) refl) c.0 c.1
+  where
+    by :
+        (t : Bool) → nat_lt most_expanded (expanded_count (formula_of a.formula)) ≡ t
+        → (if t then [] else a ∷ expandable (drop (i + 1) fs)) ≡ []
+    by true g = refl
+    by false g = let few = ltb-false most_expanded (expanded_count (formula_of a.formula)) g in absurd (let none : ⊥ = omega (arith, few, w, b) in none)
+
+pub counted-then :
+    (fs : List Annotated) (i : ℕ) (a : Annotated) (total written count new : ℕ) → i < length fs → a ≡ get_or fs i a
+    → written ≡ min (expanded_count (formula_of a.formula)) (2 ^ 64 - 1) → written ≤ most_expanded
+    → count ≡ skolem_count (closed a) (not (is_conjecture a.role)) → new ≡ min (total + count) most_form_symbols → IsCounted fs i total
+    → IsCounted fs (i + 1) new
+counted-then fs i a total written count new h e w b k n c = (
+  omega (arith, ap problem_skolem_count (ap expandable (drop-item fs i a h e) ∙ by (nat_lt most_expanded (expanded_count (formula_of a.formula))) refl), k, n, c.0, c.1),
+  omega (arith, n),
+)
+  where
+    by :
+        (t : Bool) → nat_lt most_expanded (expanded_count (formula_of a.formula)) ≡ t
+        → (if t then [] else a ∷ expandable (drop (i + 1) fs)) ≡ a ∷ expandable (drop (i + 1) fs)
+    by false g = refl
+    by true g = let many = ltb-true most_expanded (expanded_count (formula_of a.formula)) g in absurd (let none : ⊥ = omega (arith, many, w, b) in none)

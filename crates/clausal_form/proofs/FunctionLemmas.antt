@@ -116,7 +116,7 @@ first-kept : {X : Type 0} (xs ys : List X) (x : X) → slice_get xs 0 ≡ Some x
 first-kept [] ys x h = absurd (none-some x h)
 first-kept (y ∷ xs) ys x h = h
 
-first-folded : (known ss : List Symbol) (x : Symbol) → slice_get known 0 ≡ Some x → slice_get (fold with_symbol known ss) 0 ≡ Some x
+pub first-folded : (known ss : List Symbol) (x : Symbol) → slice_get known 0 ≡ Some x → slice_get (fold with_symbol known ss) 0 ≡ Some x
 first-folded known [] x h = h
 first-folded known (s ∷ ss) x h = first-folded (with_symbol known s) ss x (by (has_symbol s known))
   where
@@ -124,7 +124,7 @@ first-folded known (s ∷ ss) x h = first-folded (with_symbol known s) ss x (by 
     by true = h
     by false = first-kept known (s ∷ []) x h
 
-truth-first : (fs : List Annotated) (m : Made) → slice_get (form_symbols (problem_symbols fs) m) 0 ≡ Some true_symbol
+pub truth-first : (fs : List Annotated) (m : Made) → slice_get (form_symbols (problem_symbols fs) m) 0 ≡ Some true_symbol
 truth-first fs m =
     let symbols : List Symbol = problem_symbols fs in
     first-kept (with_naming symbols m) _ true_symbol

@@ -1,5 +1,5 @@
 -- The symbols that come after the Skolem symbols are new.
-use Rattle.std.proofs.Common.{◌≡◌, ℕ, zero, suc, ◌+◌, ◌<◌, ◌≤◌, ◌^◌, Bool, true, false, ◌&&◌, ◌||◌, List, [], ◌∷◌, ◌++◌, length, map, drop, get_or, subst, refl, ap, sym, ◌∙◌, arith, append-nil}
+use Rattle.std.proofs.Common.{◌≡◌, ℕ, ◌+◌, ◌<◌, ◌^◌, Bool, true, false, ◌||◌, List, [], ◌∷◌, ◌++◌, length, map, drop, get_or, subst, refl, ap, sym, ◌∙◌, arith, append-nil}
 use Rattle.std.specs.Prelude.{bytes_eq, codes, None}
 use Rattle.std.specs.List.{list_any}
 use Rattle.std.specs.Fmt.{decimal}
@@ -9,14 +9,14 @@ use Rattle.signature.specs.declared.symbol.Symbol.{Symbol}
 use Rattle.signature.specs.Symbol.{predicate_symbol, function_symbol}
 use Rattle.signature.specs.Occurrences.{problem_symbols}
 use Rattle.signature.specs.Prefix.{fresh_prefix_of}
-use Rattle.signature.specs.Clausal.{SymbolNumbers, Made, Formed, formed}
+use Rattle.signature.specs.Clausal.{Made, Formed, formed}
 use Rattle.signature.specs.Form.{ClausalForm, numbered_symbols, nothing_made, with_skolem, with_naming, form_symbols, problem_form, clausal_form}
 use Rattle.signature.proofs.OccurrenceLemmas.{drop-item}
 use Rattle.skolem.specs.Skolemized.{is_named, AreUnused}
 use Rattle.skolem.proofs.ListLemmas.{added, any-last}
 use Rattle.skolem.proofs.SymbolLemmas.{unused-then}
 use Rattle.skolem.proofs.ProblemLemmas.{later_names_are_unused}
-use Rattle.clausal_form.specs.Fault.{form_fault, fault_numbers}
+use Rattle.clausal_form.specs.Fault.{form_fault}
 use Rattle.clausal_form.specs.Form.{form_of}
 use Rattle.clausal_form.specs.Progress.{IsFormed, formed_formulas}
 use Rattle.clausal_form.specs.Symbols.{with_names, with_spare}

@@ -23,3 +23,6 @@ pub mod TextLemmas
 pub mod SpelledLemmas
 pub mod LengthLemmas
 pub mod SomeAnswer
+pub mod ShapeLemmas
+pub mod FormLemmas
+pub mod WellFormedLemmas

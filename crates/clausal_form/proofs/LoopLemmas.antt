@@ -12,17 +12,18 @@ use Rattle.signature.specs.SymbolLaws.{same_symbol-refl}
 use Rattle.signature.specs.Occurrences.{formula_symbols, annotated_symbols, problem_symbols}
 use Rattle.signature.specs.Prefix.{fresh_prefix_of}
 use Rattle.signature.specs.Clausal.{SymbolNumbers, Made, Formed, Literals, annotated_clauses, canonical_literals, formed}
-use Rattle.signature.specs.Form.{numbered_symbols, nothing_made, problem_skolem_count}
+use Rattle.signature.specs.Form.{symbol_numbers, numbered_symbols, nothing_made}
 use Rattle.signature.proofs.OccurrenceLemmas.{drop-item, drop-end}
 use Rattle.skolem.specs.Skolemized.{AreKnown, AreUnused}
 use Rattle.skolem.proofs.ProblemLemmas.{later_names_are_unused}
 use Rattle.clausal_form.specs.Agenda.{placed}
-use Rattle.clausal_form.specs.Fault.{counted_in, formula_fault, fault_or, first_fault, fault_numbers, form_fault, expandable, numbers_with}
-use Rattle.clausal_form.specs.Progress.{HasMade, IsStep, IsRefusal, IsEmpty, IsFormed, IsFormFault, formed_formulas}
+use Rattle.clausal_form.specs.Fault.{counted_in, formula_fault, fault_or, first_fault, form_fault, IsFormFault}
+use Rattle.clausal_form.specs.Progress.{HasMade, IsStep, IsRefusal, IsEmpty, IsFormed, formed_formulas, counted_skolem, counted_numbers, numbers_with}
 use Rattle.clausal_form.specs.declared.fault.FormCause.{FormCause}
 use Rattle.clausal_form.specs.declared.fault.FormFault.{FormFault}
 use Rattle.clausal_form.specs.declared.fault.FormFault.TheVariants.{NoMemory, Refused}
 use Rattle.clausal_form.specs.declared.form.Form.{Form}
+use Rattle.clausal_form.proofs.ShapeLemmas.{sizes-without-numbers}
 
 -- ---- known symbols
 
@@ -61,14 +62,14 @@ all-stay : (s : Symbol) (known ss : List Symbol) → has_symbol s known ≡ true
 all-stay s known [] h = h
 all-stay s known (t ∷ ss) h = all-stay s (with_symbol known t) ss (stays s t known h)
 
-all-come : (known ss ts : List Symbol) → list_all (λ s. has_symbol s (fold with_symbol known (ss ++ ts))) ss ≡ true
+pub all-come : (known ss ts : List Symbol) → list_all (λ s. has_symbol s (fold with_symbol known (ss ++ ts))) ss ≡ true
 all-come known [] ts = refl
 all-come known (s ∷ ss) ts =
     ap (λ t. t && list_all (λ u. has_symbol u (fold with_symbol (with_symbol known s) (ss ++ ts))) ss)
     (all-stay s (with_symbol known s) (ss ++ ts) (comes s known))
     ∙ all-come (with_symbol known s) ss ts
 
-fold-append : (known ss ts : List Symbol) → fold with_symbol known (ss ++ ts) ≡ fold with_symbol (fold with_symbol known ss) ts
+pub fold-append : (known ss ts : List Symbol) → fold with_symbol known (ss ++ ts) ≡ fold with_symbol (fold with_symbol known ss) ts
 fold-append known [] ts = refl
 fold-append known (s ∷ ss) ts = fold-append (with_symbol known s) ss ts
 
@@ -93,20 +94,20 @@ known-more known more (s ∷ ss) h =
 -- ---- the loop
 
 abbrev left : List Annotated → ℕ → Made → Formed
-left fs i m = formed (fault_numbers fs) i (drop i fs) m
+left fs i m = formed (counted_numbers fs) i (drop i fs) m
 
 -- what was made so far, and what is left of the form and of the search for a fault
 pub record IsAt (fs : List Annotated) (prefix : List ℕ) (i : ℕ) (f : Form) (m : Made) : Type 0 where
-  pub made : HasMade (fault_numbers fs) prefix m f
+  pub made : HasMade (counted_numbers fs) prefix m f
   pub clauses : map clause_of f.output.clauses.items ++ (left fs i m).clauses ≡ (formed_formulas fs).clauses
   pub origins : f.output.origins.items ++ (left fs i m).origins ≡ (formed_formulas fs).origins
   pub all_made : (left fs i m).made ≡ (formed_formulas fs).made
-  pub fault : first_fault (fault_numbers fs) (drop i fs) f.counted m ≡ form_fault fs
+  pub fault : first_fault (counted_numbers fs) (drop i fs) f.counted m ≡ form_fault fs
 
 abbrev pub IsUnder : List Annotated → List ℕ → ℕ → Form → Type 0
 IsUnder fs prefix i f = (m : Made) × IsAt fs prefix i f m
 
-pub under-begin : (fs : List Annotated) (prefix : List ℕ) (f : Form) → HasMade (fault_numbers fs) prefix nothing_made f → IsEmpty f → IsUnder fs prefix 0 f
+pub under-begin : (fs : List Annotated) (prefix : List ℕ) (f : Form) → HasMade (counted_numbers fs) prefix nothing_made f → IsEmpty f → IsUnder fs prefix 0 f
 under-begin fs prefix f h e = (
   nothing_made,
   record {
@@ -114,7 +115,7 @@ under-begin fs prefix f h e = (
     clauses = ap (λ cs. cs ++ (formed_formulas fs).clauses) e.clauses;
     origins = ap (λ os. os ++ (formed_formulas fs).origins) e.origins;
     all_made = refl;
-    fault = ap (λ k. first_fault (fault_numbers fs) fs k nothing_made) e.counted;
+    fault = ap (λ k. first_fault (counted_numbers fs) fs k nothing_made) e.counted ∙ sizes-without-numbers (counted_numbers fs) (symbol_numbers fs) fs 0 nothing_made;
   },
 )
 
@@ -160,7 +161,7 @@ under-then fs prefix i a old new h e g u = (
 )
   where
     n : SymbolNumbers
-    n = fault_numbers fs
+    n = counted_numbers fs
 
     m : Made
     m = u.0
@@ -188,15 +189,15 @@ pub under-end :
     → IsFormed fs prefix f × (form_fault fs ≡ None)
 under-end fs prefix i f h u = (
   record {
-    made = subst (λ o. HasMade (fault_numbers fs) prefix o f) (ap (λ (r : Formed). r.made) done ∙ u.1.all_made) u.1.made;
+    made = subst (λ o. HasMade (counted_numbers fs) prefix o f) (ap (λ (r : Formed). r.made) done ∙ u.1.all_made) u.1.made;
     clauses = sym (append-nil (map clause_of f.output.clauses.items)) ∙ ap (λ (r : Formed). map clause_of f.output.clauses.items ++ r.clauses) done ∙ u.1.clauses;
     origins = sym (append-nil f.output.origins.items) ∙ ap (λ (r : Formed). f.output.origins.items ++ r.origins) done ∙ u.1.origins;
   },
-  sym u.1.fault ∙ ap (λ gs. first_fault (fault_numbers fs) gs f.counted u.0) (drop-end fs i h),
+  sym u.1.fault ∙ ap (λ gs. first_fault (counted_numbers fs) gs f.counted u.0) (drop-end fs i h),
 )
   where
     done : record { clauses = []; origins = []; made = u.0 } ≡ left fs i u.0
-    done = ap (λ gs. formed (fault_numbers fs) i gs u.0) (sym (drop-end fs i h))
+    done = ap (λ gs. formed (counted_numbers fs) i gs u.0) (sym (drop-end fs i h))
 
 pub under-refused :
     (fs : List Annotated) (prefix : List ℕ) (i : ℕ) (a : Annotated) (old : Form) (fault : FormFault)
@@ -205,7 +206,7 @@ pub under-refused :
     → IsUnder fs prefix i old → IsFormFault fs fault
 under-refused fs prefix i a old NoMemory h e g u = tt
 under-refused fs prefix i a old (Refused cause name) h e g u =
-    let n : SymbolNumbers = fault_numbers fs in
+    let n : SymbolNumbers = counted_numbers fs in
     let r : (formula_fault n a old.counted u.0 ≡ Some cause) × (name ≡ a.name) = g n u.0 u.1.made (symbols-known fs i a h e) in
     sym u.1.fault
     ∙ ap (λ gs. first_fault n gs old.counted u.0) (drop-item fs i a h e)
@@ -216,8 +217,8 @@ under-refused fs prefix i a old (Refused cause name) h e g u =
 
 pub begun-so :
     (fs gs : List Annotated) (symbols : List Symbol) (skolem : ℕ) (prefix : List ℕ) (form : Form)
-    → gs ≡ fs → symbols ≡ problem_symbols fs → skolem ≡ problem_skolem_count (expandable gs)
-    → ((p : List ℕ) → HasMade (numbers_with symbols skolem) p nothing_made form) → HasMade (fault_numbers gs) prefix nothing_made form
+    → gs ≡ fs → symbols ≡ problem_symbols fs → skolem ≡ counted_skolem gs
+    → ((p : List ℕ) → HasMade (numbers_with symbols skolem) p nothing_made form) → HasMade (counted_numbers gs) prefix nothing_made form
 begun-so fs gs symbols skolem prefix form g s k h =
     subst (λ n. HasMade n prefix nothing_made form)
     (ap (λ xs. numbers_with xs skolem) (s ∙ ap problem_symbols (sym g)) ∙ ap (numbers_with (problem_symbols gs)) k) (h prefix)

@@ -132,7 +132,7 @@ pub met-again :
     → IsMet names i keys found → IsMet names (i + 1) new found
 met-again names i name x keys new found h e l n t m = (
   names-skip names i name found (texts_of keys) (different_names names) h e m.1
-  (ap (λ z. list_any (bytes_eq z) (texts_of keys)) (sym l) ∙ sym (any-texts x keys) ∙ there) m.0,
+      (ap (λ z. list_any (bytes_eq z) (texts_of keys)) (sym l) ∙ sym (any-texts x keys) ∙ there) m.0,
   ap texts_of (n ∙ ap (λ b. if b then keys else keys ++ x ∷ []) there) ∙ m.1,
 )
   where
@@ -150,7 +150,7 @@ pub met-first :
     → IsMet names i keys found → IsMet names (i + 1) new more
 met-first names i name copy x keys new found more h e l n t g p m = (
   names-more names i name copy found (texts_of keys) more (different_names names) h e m.1
-  (ap (λ z. list_any (bytes_eq z) (texts_of keys)) (sym l) ∙ sym (any-texts x keys) ∙ absent) g p m.0,
+      (ap (λ z. list_any (bytes_eq z) (texts_of keys)) (sym l) ∙ sym (any-texts x keys) ∙ absent) g p m.0,
   ap texts_of (n ∙ ap (λ b. if b then keys else keys ++ x ∷ []) absent) ∙ texts-append keys x
       ∙ ap₂ (λ ts z. ts ++ z ∷ []) m.1 (l ∙ sym g) ∙ sym p,
 )

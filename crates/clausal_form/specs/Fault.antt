@@ -1,23 +1,32 @@
 -- The first formula of a problem that passes a limit, and the limit.
-use Rattle.std.specs.Prelude.{ℕ, ◌+◌, ◌^◌, nat_lt, List, [], ◌∷◌, length, Option, None, Some, if◌then◌else◌}
+use Rattle.std.specs.Prelude.{◌≡◌, ⊤, ℕ, ◌+◌, ◌^◌, nat_lt, List, [], ◌∷◌, length, Option, None, Some, if◌then◌else◌}
 use Rattle.tptp_tree.specs.Shape.{formula_of}
 use Rattle.tptp_tree.specs.declared.problem.Annotated.{Annotated}
-use Rattle.signature.specs.declared.symbol.Symbol.{Symbol}
-use Rattle.signature.specs.Occurrences.{problem_symbols}
 use Rattle.signature.specs.Clausal.{SymbolNumbers, Made, Worked, Literals, annotated_clauses}
-use Rattle.signature.specs.Form.{problem_skolem_count, nothing_made}
+use Rattle.signature.specs.Form.{symbol_numbers, nothing_made}
 use Rattle.formula_nnf.specs.Expanded.{expanded_count}
 use Rattle.clausal_form.specs.Measure.{symbols_in, largest}
 use Rattle.clausal_form.specs.declared.fault.FormCause.{FormCause}
 use Rattle.clausal_form.specs.declared.fault.FormCause.TheVariants.{Expansion, TooHeavy, TotalLimit}
+use Rattle.clausal_form.specs.declared.fault.FormFault.{FormFault}
+use Rattle.clausal_form.specs.declared.fault.FormFault.TheVariants.{NoMemory, Refused}
 
 -- the most atoms and quantified variables of a formula after its equivalences are written out
 abbrev pub most_expanded : ℕ
 most_expanded = 1000000
 
+-- the most symbols of a clause
+abbrev pub most_symbols : ℕ
+most_symbols = 4000
+
+-- the most symbols, clauses and Skolem symbols of a form
+abbrev pub most_form_symbols : ℕ
+most_form_symbols = 2 ^ 28
+
 -- The limits on a formula's clauses: on the symbols of the largest, and on the symbols, clauses and Skolem symbols that there are by then.
 abbrev pub limit_fault : ℕ → ℕ → Option FormCause
-limit_fault size total = if nat_lt 4000 size then Some TooHeavy else if nat_lt (2 ^ 28) total then Some TotalLimit else None
+limit_fault size total =
+    if nat_lt most_symbols size then Some TooHeavy else if nat_lt most_form_symbols total then Some TotalLimit else None
 
 -- the clauses and their symbols
 abbrev pub counted_in : List Literals → ℕ
@@ -41,18 +50,11 @@ first_fault n (a ∷ fs) counted m =
     let w : Worked = annotated_clauses n a m in
     fault_or (formula_fault n a counted m) a.name (first_fault n fs (counted + counted_in w.clauses) w.made)
 
--- the formulas before the first that is too large when it is written out
-abbrev pub expandable : List Annotated → List Annotated
-expandable [] = []
-expandable (a ∷ fs) = if nat_lt most_expanded (expanded_count (formula_of a.formula)) then [] else a ∷ expandable fs
-
--- those symbols, and then so many Skolem symbols
-abbrev pub numbers_with : List Symbol → ℕ → SymbolNumbers
-numbers_with symbols skolem = record { symbols = symbols; first_skolem = length symbols; first_naming = length symbols + skolem }
-
--- The numbers of the symbols, of which sizes don't depend: no Skolem symbol is counted that the form can't have.
-abbrev pub fault_numbers : List Annotated → SymbolNumbers
-fault_numbers fs = numbers_with (problem_symbols fs) (problem_skolem_count (expandable fs))
-
+-- The first fault of a problem's clausal form. It doesn't depend on the numbers of the symbols.
 abbrev pub form_fault : List Annotated → Option (FormCause × List ℕ)
-form_fault fs = first_fault (fault_numbers fs) fs 0 nothing_made
+form_fault fs = first_fault (symbol_numbers fs) fs 0 nothing_made
+
+-- want of memory, or the first fault
+abbrev pub IsFormFault : List Annotated → FormFault → Type 0
+IsFormFault fs NoMemory = ⊤
+IsFormFault fs (Refused cause name) = form_fault fs ≡ Some (cause, name)

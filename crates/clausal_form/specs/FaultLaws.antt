@@ -1,9 +1,10 @@
 -- A law of faults.
-use Rattle.std.specs.Prelude.{◌≡◌, List, None}
+use Rattle.std.specs.Prelude.{◌≡◌, List}
 use Rattle.tptp_tree.specs.declared.problem.Annotated.{Annotated}
-use Rattle.signature.specs.Form.{symbol_numbers}
-use Rattle.clausal_form.specs.Fault.{fault_numbers, form_fault}
+use Rattle.signature.specs.Clausal.{SymbolNumbers}
+use Rattle.signature.specs.Form.{nothing_made}
+use Rattle.clausal_form.specs.Fault.{first_fault, form_fault}
 
--- Where no formula passes a limit, the numbers of the symbols are those of the clausal form.
-abbrev pub NumbersWithoutFault : Type 0
-NumbersWithoutFault = (fs : List Annotated) → form_fault fs ≡ None → fault_numbers fs ≡ symbol_numbers fs
+-- Whatever the numbers of the symbols are, the first fault is the same.
+abbrev pub FaultsWithoutNumbers : Type 0
+FaultsWithoutNumbers = (n : SymbolNumbers) (fs : List Annotated) → first_fault n fs 0 nothing_made ≡ form_fault fs

@@ -22,3 +22,4 @@ pub mod DerivationTexts
 pub mod DerivationExamples
 pub mod FormFunctions
 pub mod DerivationLaws
+pub mod FormLaws

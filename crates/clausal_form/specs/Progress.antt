@@ -1,12 +1,16 @@
 -- What the program has of a form after some formulas.
-use Rattle.std.specs.Prelude.{◌≡◌, ⊤, ℕ, ◌+◌, List, [], ◌++◌, length, map, None, Some}
+use Rattle.std.specs.Prelude.{◌≡◌, ⊤, ℕ, ◌+◌, nat_lt, min, List, [], ◌∷◌, ◌++◌, length, map, None, Some, if◌then◌else◌}
+use Rattle.signature.specs.declared.symbol.Symbol.{Symbol}
 use Rattle.signature.specs.Symbol.{function_symbol}
+use Rattle.signature.specs.Occurrences.{problem_symbols}
 use Rattle.signature.specs.Clausal.{SymbolNumbers, Made, Formed, annotated_clauses, canonical_literals, formed}
-use Rattle.signature.specs.Form.{numbered_symbols, nothing_made}
+use Rattle.signature.specs.Form.{numbered_symbols, problem_skolem_count, nothing_made}
+use Rattle.formula_nnf.specs.Expanded.{expanded_count}
+use Rattle.tptp_tree.specs.Shape.{formula_of}
 use Rattle.tptp_tree.specs.declared.problem.Annotated.{Annotated}
 use Rattle.fol_base.specs.Literal.{clause_of}
 use Rattle.clausal_form.specs.Agenda.{placed}
-use Rattle.clausal_form.specs.Fault.{formula_fault, counted_in, fault_numbers, form_fault}
+use Rattle.clausal_form.specs.Fault.{most_expanded, most_form_symbols, formula_fault, counted_in}
 use Rattle.clausal_form.specs.declared.fault.FormFault.{FormFault}
 use Rattle.clausal_form.specs.declared.fault.FormFault.TheVariants.{NoMemory, Refused}
 use Rattle.clausal_form.specs.declared.form.Form.{Form}
@@ -40,16 +44,28 @@ pub record IsEmpty (f : Form) : Type 0 where
   pub origins : f.output.origins.items ≡ []
   pub counted : f.counted ≡ 0
 
+-- the formulas before the first that is too large when it is written out
+abbrev pub expandable : List Annotated → List Annotated
+expandable [] = []
+expandable (a ∷ fs) = if nat_lt most_expanded (expanded_count (formula_of a.formula)) then [] else a ∷ expandable fs
+
+-- the program's count of Skolem symbols, which stops where a form has too many
+abbrev pub counted_skolem : List Annotated → ℕ
+counted_skolem fs = min (problem_skolem_count (expandable fs)) most_form_symbols
+
+-- those symbols, and then so many Skolem symbols
+abbrev pub numbers_with : List Symbol → ℕ → SymbolNumbers
+numbers_with symbols skolem = record { symbols = symbols; first_skolem = length symbols; first_naming = length symbols + skolem }
+
+-- The numbers of the symbols by that count. Where no formula passes a limit, they are those of the clausal form.
+abbrev pub counted_numbers : List Annotated → SymbolNumbers
+counted_numbers fs = numbers_with (problem_symbols fs) (counted_skolem fs)
+
 abbrev pub formed_formulas : List Annotated → Formed
-formed_formulas fs = formed (fault_numbers fs) 0 fs nothing_made
+formed_formulas fs = formed (counted_numbers fs) 0 fs nothing_made
 
 -- all formulas are added
 pub record IsFormed (fs : List Annotated) (prefix : List ℕ) (f : Form) : Type 0 where
-  pub made : HasMade (fault_numbers fs) prefix (formed_formulas fs).made f
+  pub made : HasMade (counted_numbers fs) prefix (formed_formulas fs).made f
   pub clauses : map clause_of f.output.clauses.items ≡ (formed_formulas fs).clauses
   pub origins : f.output.origins.items ≡ (formed_formulas fs).origins
-
--- want of memory, or the first fault
-abbrev pub IsFormFault : List Annotated → FormFault → Type 0
-IsFormFault fs NoMemory = ⊤
-IsFormFault fs (Refused cause name) = form_fault fs ≡ Some (cause, name)

@@ -3,13 +3,14 @@
 ghost use Rattle.std.specs.Prelude.{◌≡◌, ◌+◌, true, false, not, map, IfOk, if◌then◌else◌};
 ghost use Rattle.tptp_tree.specs.Formula.{formulas_of};
 ghost use Rattle.tptp_tree.specs.Shape.{formula_of};
-ghost use Rattle.signature.specs.Form.{skolem_count, all_skolem_count, problem_skolem_count};
+ghost use Rattle.signature.specs.Form.{skolem_count, all_skolem_count};
 ghost use Rattle.signature.specs.Environment.{closed};
 ghost use Rattle.tptp_tree.specs.Entries.{is_conjecture};
-ghost use Rattle.clausal_form.specs.Fault.{expandable};
+ghost use Rattle.clausal_form.specs.Progress.{counted_skolem};
 
 use crate::closing::different_free_names;
 use crate::fault::MOST_EXPANDED;
+use fol_base::MOST_FORM_SYMBOLS;
 use formula_nnf::expanded;
 use plain_types::{Mem, NoMemory};
 use std::alloc::Global;
@@ -22,16 +23,17 @@ struct SkolemCount {
     negative: u64,
 }
 
-/// The Skolem symbols of a problem's formulas, up to the first that is too large when it is written out.
+/// The Skolem symbols of a problem's formulas, up to the first that is too large when it is written out. The count stops at the limit on
+/// a form: where there are more, no form is made.
 pub(crate) fn count_skolem_symbols(alloc: Global, formulas: &[Annotated]) -> Mem<u64>
-    ensures { IfOk result (λ total. total ≡ problem_skolem_count (expandable formulas.now)) }
+    ensures { IfOk result (λ total. total ≡ counted_skolem formulas.now) }
 {
     let mut total = 0;
     for annotated in formulas {
         if expanded(&annotated.formula) > MOST_EXPANDED {
             return Ok(total);
         }
-        total = sum(total, formula_skolem_symbols(alloc, annotated)?)?;
+        total = sum(total, formula_skolem_symbols(alloc, annotated)?)?.min(MOST_FORM_SYMBOLS);
     }
     Ok(total)
 }

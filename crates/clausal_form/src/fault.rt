@@ -13,12 +13,12 @@ use tptp_tree::Annotated;
 /// The most atoms and quantified variables of a formula after its equivalences are written out.
 pub(crate) const MOST_EXPANDED: u64 = 1_000_000;
 
-/// The limit that a formula passes. Their numbers are 1, 3 and 4.
+/// The limit that a formula passes: of several the first in this order.
 #[derive(Clone, Copy, Debug, PartialEq, Eq)]
 pub enum FormCause {
     /// Over 1,000,000 atoms and quantified variables, after equivalences are written out.
     Expansion,
-    /// A clause of over 4,000 symbols, among them those that define names.
+    /// A clause of over 4,000 symbols, which may also be one that defines a name.
     TooHeavy,
     /// Over 2^28 symbols, clauses and Skolem symbols, counted together up to and with this formula.
     TotalLimit,

@@ -10,9 +10,9 @@ ghost use Rattle.signature.specs.Clausal.{SymbolNumbers, Made, Worked, annotated
 ghost use Rattle.skolem.specs.Skolemized.{AreKnown, AreUnused};
 ghost use Rattle.clausal_form.specs.Agenda.{placed};
 ghost use Rattle.clausal_form.specs.Cause.{IsCauseOr};
-ghost use Rattle.clausal_form.specs.Fault.{formula_fault, counted_in, fault_numbers, form_fault, numbers_with};
+ghost use Rattle.clausal_form.specs.Fault.{formula_fault, counted_in, form_fault, IsFormFault};
 ghost use Rattle.clausal_form.specs.Naming.{IsMeasured, defining_clauses};
-ghost use Rattle.clausal_form.specs.Progress.{HasMade, IsStep, IsRefusal, IsEmpty, IsFormed, IsFormFault};
+ghost use Rattle.clausal_form.specs.Progress.{HasMade, IsStep, IsRefusal, IsEmpty, IsFormed, counted_numbers, numbers_with};
 
 use crate::counting::count_skolem_symbols;
 use crate::fault::{FormCause, FormFault, MOST_EXPANDED, counted_with, refused};
@@ -91,7 +91,7 @@ pub(crate) fn add_formulas(
     prefix: &Text,
     form: &mut Form,
 ) -> Result<(), FormFault>
-    requires begun { HasMade (fault_numbers formulas.now) prefix.now nothing_made form.old }
+    requires begun { HasMade (counted_numbers formulas.now) prefix.now nothing_made form.old }
     requires empty { IsEmpty form.old }
     requires prefix { prefix.now ≡ fresh_prefix_of (problem_symbols formulas.now) (codes "sk") }
     ensures formed { IfOk result (λ _. IsFormed formulas.now prefix.now form.new) }

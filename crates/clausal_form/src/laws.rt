@@ -1,17 +1,20 @@
 // Laws and worked examples of the definitions: each is the contract of a function with an empty body.
 
-ghost use Rattle.std.specs.Prelude.{◌≡◌, ◌+◌, ◌^◌, [], ◌∷◌, Some, None};
+ghost use Rattle.std.specs.Prelude.{◌≡◌, ◌+◌, ◌-◌, ◌^◌, [], ◌∷◌, codes, Some, None};
+ghost use Rattle.signature.specs.Examples.{cnf_axiom, p, mixed};
+ghost use Rattle.signature.specs.Form.{symbol_numbers, nothing_made};
 ghost use Rattle.skolem.specs.Matrix.{truth};
 ghost use Rattle.clausal_form.specs.Examples.{proposition, all_of, one_of};
 ghost use Rattle.clausal_form.specs.Written.{written};
 ghost use Rattle.clausal_form.specs.Measure.{measured};
-ghost use Rattle.clausal_form.specs.Fault.{limit_fault};
+ghost use Rattle.clausal_form.specs.Fault.{limit_fault, formula_fault, fault_or, form_fault};
 ghost use Rattle.clausal_form.specs.declared.fault.FormCause.TheVariants.{TooHeavy, TotalLimit};
-ghost use Rattle.clausal_form.specs.FaultLaws.{NumbersWithoutFault};
+ghost use Rattle.clausal_form.specs.FaultLaws.{FaultsWithoutNumbers};
 
 mod derivation_examples;
 mod derivation_texts;
 mod derivations;
+mod forms;
 mod refused_examples;
 
 pub use derivation_examples::{
@@ -23,6 +26,7 @@ pub use derivations::{
     accepted_derivations_refute, forms_have_functions, spelled_lines_are_answered,
     taken_lines_are_steps, texts_have_one_answer,
 };
+pub use forms::{clauses_of_forms, forms_are_well_formed};
 pub use refused_examples::{cause_order_examples, refused_line_examples, small_refused_examples};
 
 /// Of a product the first list changes slowest, and with `$true` it has no clause.
@@ -48,7 +52,17 @@ pub fn limit_examples()
     ensures both { limit_fault 4001 (2 ^ 28 + 1) ≡ Some TooHeavy }
 {}
 
-/// Where no formula passes a limit, the numbers of the symbols are those of the clausal form.
-pub fn numbers_without_fault()
-    ensures { NumbersWithoutFault }
+/// Behind 2^28 less 3 symbols and clauses the clause `p` passes no limit, since it counts 3; behind one more it does. The first fault is
+/// that of the first formula that has one.
+pub fn fault_examples()
+    ensures within { formula_fault (symbol_numbers (cnf_axiom p ∷ [])) (cnf_axiom p) (2 ^ 28 - 3) nothing_made ≡ None }
+    ensures one_more { formula_fault (symbol_numbers (cnf_axiom p ∷ [])) (cnf_axiom p) (2 ^ 28 - 2) nothing_made ≡ Some TotalLimit }
+    ensures no_fault { form_fault mixed ≡ None }
+    ensures first { fault_or (Some TooHeavy) (codes "a") (Some (TotalLimit, codes "b")) ≡ Some (TooHeavy, codes "a") }
+    ensures second { fault_or None (codes "a") (Some (TotalLimit, codes "b")) ≡ Some (TotalLimit, codes "b") }
+{}
+
+/// The first fault of a problem doesn't depend on the numbers of its symbols.
+pub fn faults_without_numbers()
+    ensures { FaultsWithoutNumbers }
 {}

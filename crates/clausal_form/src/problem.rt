@@ -3,8 +3,7 @@
 ghost use Rattle.std.specs.Prelude.{◌≡◌, IfOk, IfErr, None};
 ghost use Rattle.tptp_tree.specs.ProblemSize.{HasProblemSize};
 ghost use Rattle.signature.specs.Form.{clausal_form};
-ghost use Rattle.clausal_form.specs.Fault.{form_fault};
-ghost use Rattle.clausal_form.specs.Progress.{IsFormFault};
+ghost use Rattle.clausal_form.specs.Fault.{form_fault, IsFormFault};
 ghost use Rattle.clausal_form.specs.Form.{form_of};
 
 use crate::fault::FormFault;
@@ -15,8 +14,8 @@ use signature::Signature;
 use std::alloc::Global;
 use tptp_tree::Problem;
 
-/// The clausal form of a problem. Refused where a formula passes a limit, by the first such formula, and on it by the cause of the lowest
-/// number. Over 2^32 symbols are want of memory.
+/// The clausal form of a problem. Refused where a formula passes a limit, by the first such formula, and on it by the first cause in the
+/// order Expansion, TooHeavy, TotalLimit.
 pub fn clausal(alloc: Global, problem: &Problem) -> Result<Clausal, FormFault>
     requires { HasProblemSize problem.now.formulas }
     ensures form { IfOk result (λ form. form_of form ≡ clausal_form problem.now.formulas) }

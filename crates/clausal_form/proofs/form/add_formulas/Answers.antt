@@ -1,5 +1,8 @@
-use Rattle.clausal_form.proofs.LoopLemmas.{under-known, under-unused, under-then, under-refused}
+use Rattle.clausal_form.proofs.LoopLemmas.{under-begin, under-known, under-unused, under-then, under-refused}
 use Rattle.clausal_form.proofs.form.add_formulas.Goals as goal
+
+pub loop-place-init : goal.loop-place-init
+loop-place-init c = under-begin c.args.formulas.now c.args.prefix.now c.args.form.now c.requires.begun c.requires.empty
 
 pub add_formula-requires-clause-known : goal.add_formula-requires-clause-known
 add_formula-requires-clause-known c =

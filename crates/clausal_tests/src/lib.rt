@@ -1,0 +1,7 @@
+// The tests of the clausal form of whole problems. They stand apart, since a crate with tests is proved twice, with them and without.
+#![tactic(auto)]
+
+#[cfg(test)]
+mod forms;
+#[cfg(test)]
+mod texts;
