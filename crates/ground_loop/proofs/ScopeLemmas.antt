@@ -1,10 +1,10 @@
 -- The first clause outside of the loop's scope: where there is none, the loop takes the list; and how it is found clause by clause.
 use Rattle.fol_base.specs.declared.limits.TheConstants.{MOST_SYMBOLS}
-use Rattle.std.proofs.Common.{◌≡◌, ℕ, zero, suc, ◌+◌, ◌<◌, ◌≤◌, ◌↔◌, Bool, true, false, ◌&&◌, ◌==◌, nat_le, List, [], ◌∷◌, length, map, drop, get_or, Option, None, Some, refl, ap, ap₂, sym, ◌∙◌, arith, ⊎_elim}
+use Rattle.std.proofs.Common.{◌≡◌, ℕ, zero, suc, ◌+◌, ◌<◌, ◌≤◌, ◌↔◌, Bool, true, false, ◌&&◌, ◌==◌, nat_le, List, [], ◌∷◌, length, map, take, drop, get_or, Option, None, Some, refl, ap, ap₂, sym, ◌∙◌, subst, arith, ⊎_elim}
 use Rattle.std.specs.Prelude.{max, option_map, if◌then◌else◌, IsTrue}
 use Rattle.std.specs.List.{list_all}
-use Rattle.std.proofs.lemmas.Bool.{and_parts, and_from, and_left, and_right, cond-true, cond-false, cases_Bool, le-leb, lt-leb, leb-true, ne_eqb, eqb-true}
-use Rattle.std.proofs.lemmas.Option.{none-some}
+use Rattle.std.proofs.lemmas.Bool.{and_parts, and_from, and_left, and_right, cond-true, cond-false, cases_Bool, le-leb, lt-leb, leb-true, ne_eqb, eqb-true, true≢false}
+use Rattle.std.proofs.lemmas.Option.{none-some, same_Some}
 use Rattle.std.proofs.lemmas.List.{nil_from_length, at_drop_more, at_drop_all}
 use Rattle.std.proofs.lemmas.List.Sums.{sum_by-cons}
 use Rattle.std.proofs.lemmas.List.Elements.{All-nil, All-cons, All-head, All-tail}
@@ -16,7 +16,8 @@ use Rattle.fol_base.specs.Literal.{clause_of}
 use Rattle.fol_base.specs.declared.clause.Clause.{Clause}
 use Rattle.fol_base.specs.GroundForm.{is_atom_literal, IsGroundClause, IsGroundForm, form_size}
 use Rattle.fol_base.proofs.VariableLemmas.{bound_of-append}
-use Rattle.ground_loop.specs.Scope.{is_in_scope, first_outside_after, first_outside, IsInScope}
+use Rattle.fol_base.proofs.TestLemmas.{option_map-some}
+use Rattle.ground_loop.specs.Scope.{is_in_scope, first_outside_after, first_outside, IsInScope, FirstOutsideIsFirst}
 
 -- ---- clauses
 
@@ -59,14 +60,16 @@ inside-from_none before (c ∷ cs) few h =
     (λ outside. absurd (none-some 0 (sym h ∙ cond-false (is_next before c) (behind before c cs) (Some 0) outside)))
     (cases_Bool (is_next before c))
 
+inside-is_next : (before : ℕ) (c : TreeClause) (cs : List TreeClause) → IsInside before (c ∷ cs) → is_next before c ≡ true
+inside-is_next before c cs inside =
+    let small : before + clause_size c ≤ MOST_SYMBOLS = omega (arith, inside.1, form_more c cs) in
+    and_from (is_in_scope c) (nat_le (before + clause_size c) MOST_SYMBOLS) (clause_in_scope c (All-head IsGroundClause c cs inside.0))
+    (le-leb (before + clause_size c) MOST_SYMBOLS small)
+
 none-from_inside : (before : ℕ) (form : List TreeClause) → IsInside before form → first_outside_after before form ≡ None
 none-from_inside before [] inside = refl
 none-from_inside before (c ∷ cs) inside =
-    let small : before + clause_size c ≤ MOST_SYMBOLS = omega (arith, inside.1, form_more c cs) in
-    let next : is_next before c ≡ true =
-    and_from (is_in_scope c) (nat_le (before + clause_size c) MOST_SYMBOLS) (clause_in_scope c (All-head IsGroundClause c cs inside.0))
-    (le-leb (before + clause_size c) MOST_SYMBOLS small) in
-    cond-true (is_next before c) (behind before c cs) (Some 0) next
+    cond-true (is_next before c) (behind before c cs) (Some 0) (inside-is_next before c cs inside)
     ∙ ap (option_map (λ n. n + 1))
     (none-from_inside (before + clause_size c) cs (All-tail IsGroundClause c cs inside.0, omega (arith, inside.1, form_more c cs)))
 
@@ -75,6 +78,43 @@ none_outside form = (
   λ h. let inside = inside-from_none 0 form (omega arith) h in (inside.0, omega (arith, inside.1)),
   λ inside. none-from_inside 0 form (inside.0, omega (arith, inside.1)),
 )
+
+-- where there is one, it is the first
+abbrev IsFirst : ℕ → List TreeClause → ℕ → Type 0
+IsFirst before form n = (n < length form) × IsInside before (take n form) × (IsInside before (take (suc n) form) → ⊥)
+
+first-from_some : (before : ℕ) (form : List TreeClause) (n : ℕ) → before ≤ MOST_SYMBOLS → first_outside_after before form ≡ Some n → IsFirst before form n
+first-from_some before [] n few h = absurd (none-some n h)
+first-from_some before (c ∷ cs) n few h =
+    let total : ℕ = before + clause_size c in
+    ⊎_elim
+    (λ next.
+    let parts = and_parts (is_in_scope c) (nat_le total MOST_SYMBOLS) next in
+    option_map-some (λ k. k + 1) (first_outside_after total cs) n (sym (cond-true (is_next before c) (behind before c cs) (Some 0) next) ∙ h)
+    λ m m_is gives.
+    let rest = first-from_some total cs m (leb-true total MOST_SYMBOLS parts.1) m_is in
+    let later : suc m ≡ n = omega (arith, gives) in
+    subst (IsFirst before (c ∷ cs)) later (
+      omega (arith, rest.0),
+      (All-cons IsGroundClause c (take m cs) (ground_clause c parts.0) rest.1.0, omega (arith, rest.1.1, form_more c (take m cs))),
+      λ inside. rest.2 (All-tail IsGroundClause c (take (suc m) cs) inside.0, omega (arith, inside.1, form_more c (take (suc m) cs))),
+    ))
+    (λ outside.
+    subst (IsFirst before (c ∷ cs)) (same_Some 0 n (sym (cond-false (is_next before c) (behind before c cs) (Some 0) outside) ∙ h)) (
+      omega arith,
+      (All-nil IsGroundClause, omega (arith, few)),
+      λ inside. true≢false (sym (inside-is_next before c [] inside) ∙ outside),
+    ))
+    (cases_Bool (is_next before c))
+
+pub first_outside_is_first : FirstOutsideIsFirst
+first_outside_is_first form n h =
+    let first = first-from_some 0 form n (omega arith) h in
+    record {
+      there = first.0;
+      before = (first.1.0, omega (arith, first.1.1));
+      not_with_it = λ inside. first.2 (inside.0, omega (arith, inside.1));
+    }
 
 -- ---- clause by clause
 

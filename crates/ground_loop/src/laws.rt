@@ -8,7 +8,7 @@ ghost use Rattle.ground_loop.specs.Resolution.{Follows, is_tautology, same_set, 
 ghost use Rattle.ground_loop.specs.Answer.{HasClosedSets, HasTriples, IsClosedFor};
 ghost use Rattle.ground_loop.specs.Satisfaction.{ClosedFormsAreSatisfied, Satisfied};
 ghost use Rattle.fol_base.specs.Kind.{are_predicate_atoms};
-ghost use Rattle.ground_loop.specs.Scope.{first_outside};
+ghost use Rattle.ground_loop.specs.Scope.{first_outside, FirstOutsideIsFirst};
 ghost use Rattle.ground_loop.specs.ScopeExamples.{constant, tower, fact, equation, named, truth};
 ghost use Rattle.ground_loop.specs.GroundLines.{is_ground_step, is_ground_with_truth, GroundStepsKeepPlain, GroundStepsKeepSymbols, GroundStepsKeepUse};
 ghost use Rattle.ground_loop.specs.ResolutionExamples.{p, q, is, is_not, units, implication, implied_sets, all_predicates, no_predicates};
@@ -51,6 +51,11 @@ pub fn ground_steps_keep()
     ensures plain { GroundStepsKeepPlain }
     ensures symbols { GroundStepsKeepSymbols }
     ensures usage { GroundStepsKeepUse }
+{}
+
+/// The clauses before the first one outside are what the loop asks, and with it they aren't.
+pub fn first_outside_is_first()
+    ensures { FirstOutsideIsFirst }
 {}
 
 /// The first clause outside of the loop's scope, in small lists. A fact of a tower of n functions has n + 3 symbols.

@@ -11,6 +11,6 @@ mod scope;
 mod search;
 
 pub use answer::Ground;
-pub use laws::{closed_lists_refute_nothing, ground_steps_keep};
+pub use laws::{closed_lists_refute_nothing, first_outside_is_first, ground_steps_keep};
 pub use prove::prove_ground;
 pub use scope::first_outside;
