@@ -118,8 +118,16 @@ each-holds P form lines kept forms ground derived n line at = lines-hold P form 
 
 pub ground_steps_keep_use : GroundStepsKeepUse
 ground_steps_keep_use usage form lines forms ground derived =
-    each-holds (λ c. are_literals_of usage c.literals ≡ true) form lines kept forms ground derived
+    each-holds (λ c. are_literals_of usage c.literals ≡ true) form lines kept (each form forms) ground derived
   where
+    each :
+        (cs : List TreeClause) → list_all (λ (c : TreeClause). are_literals_of usage c.literals) cs ≡ true
+        → All (λ (c : TreeClause). are_literals_of usage c.literals ≡ true) cs
+    each [] all = All-nil (λ (c : TreeClause). are_literals_of usage c.literals ≡ true)
+    each (c ∷ cs) all =
+        let parts = and_parts (are_literals_of usage c.literals) (list_all (λ (d : TreeClause). are_literals_of usage d.literals) cs) all in
+        All-cons (λ (d : TreeClause). are_literals_of usage d.literals ≡ true) c cs parts.0 (each cs parts.1)
+
     kept : KeptByRules (λ c. are_literals_of usage c.literals ≡ true)
     kept = record {
       of_none = refl;

@@ -66,5 +66,5 @@ GroundStepsKeepSymbols =
 abbrev pub GroundStepsKeepUse : Type 0
 GroundStepsKeepUse =
     (usage : SymbolUse) (form : List TreeClause) (lines : List Line)
-    → All (λ (c : TreeClause). IsTrue (are_literals_of usage c.literals)) form → IsTrue (are_ground_steps lines) → IsDerivation form lines
+    → IsTrue (list_all (λ (c : TreeClause). are_literals_of usage c.literals) form) → IsTrue (are_ground_steps lines) → IsDerivation form lines
     → (n : ℕ) (line : Line) → slice_get lines n ≡ Some line → IsTrue (are_literals_of usage (clause_of line.clause).literals)
