@@ -1,6 +1,6 @@
 -- What the lines of a derivation are that goes by ground steps alone.
-use Rattle.std.proofs.Common.{◌≡◌, ℕ, zero, suc, ◌+◌, ◌<◌, Bool, true, false, ◌&&◌, ◌==◌, List, [], ◌∷◌, ◌++◌, length, map, take, Option, None, Some, refl, ap, ap₂, sym, ◌∙◌, subst, arith}
-use Rattle.std.specs.Prelude.{slice_get, slice_set, remove, All, IsTrue}
+use Rattle.std.proofs.Common.{◌≡◌, ℕ, zero, suc, ◌<◌, Bool, true, ◌&&◌, ◌==◌, List, [], ◌∷◌, ◌++◌, length, map, take, Some, refl, ap, ap₂, sym, ◌∙◌, subst, arith}
+use Rattle.std.specs.Prelude.{slice_get, slice_set, remove, All}
 use Rattle.std.specs.List.{list_all}
 use Rattle.std.proofs.lemmas.Bool.{and_parts, and_from, eqb-true, true≢false}
 use Rattle.std.proofs.lemmas.List.{nil_from_length}
@@ -11,7 +11,7 @@ use Rattle.fol_base.specs.Place.{argument, with_argument, subterm, replaced}
 use Rattle.fol_base.specs.Clause.{TreeLiteral, TreeClause}
 use Rattle.fol_base.specs.Ground.{is_ground, are_ground}
 use Rattle.fol_base.specs.GroundForm.{is_ground_atom, is_atom_literal, IsGroundClause, IsGroundForm}
-use Rattle.fol_base.specs.WellFormed.{SymbolUse, are_literals_of}
+use Rattle.fol_base.specs.WellFormed.{are_literals_of}
 use Rattle.fol_base.specs.Rules.{superposed, resolved, merged}
 use Rattle.fol_base.specs.Literal.{clause_of}
 use Rattle.fol_base.specs.declared.clause.Side.{Side}
@@ -26,7 +26,7 @@ use Rattle.kernel_steps.specs.Conclusion.{empty_clause, clause_with}
 use Rattle.kernel_steps.specs.Derivation.{line_parents, is_component, ComesBy, IsDerivation}
 use Rattle.kernel_steps.specs.Names.{sorted_names}
 use Rattle.kernel_steps.specs.Soundness.{binds_each}
-use Rattle.kernel_steps.specs.Symbols.{symbols_pass, clause_symbols_pass, bound_symbols_pass}
+use Rattle.kernel_steps.specs.Symbols.{symbols_pass, bound_symbols_pass}
 use Rattle.kernel_steps.specs.declared.step.Step.{Step}
 use Rattle.kernel_steps.specs.declared.step.Step.TheVariants.{Input, Negate, Clausify, Para, Refl, Factor, Merge, Component, Opposite, Split, Chain}
 use Rattle.kernel_steps.specs.declared.step.Line.{Line}
@@ -36,7 +36,7 @@ use Rattle.kernel_steps.proofs.SymbolLemmas.{derivations_keep_symbols}
 use Rattle.kernel_steps.proofs.VerdictParts.{by_one-parts, by_two-parts}
 use Rattle.ground_loop.specs.Lines.{is_loop_step, AreLoopLines}
 use Rattle.ground_loop.specs.Inputs.{shifted_step, shifted_line, input_of, inputs_of, with_inputs_of}
-use Rattle.ground_loop.specs.GroundLines.{is_ground_step, are_ground_steps, is_ground_with_truth, IsPlainClause, HavePlainClauses, AreGroundLines, GroundStepsKeepPlain, GroundStepsKeepSymbols, GroundStepsKeepUse}
+use Rattle.ground_loop.specs.GroundLines.{is_ground_step, are_ground_steps, is_ground_with_truth, IsPlainClause, AreGroundLines, GroundStepsKeepPlain, GroundStepsKeepSymbols, GroundStepsKeepUse}
 use Rattle.ground_loop.proofs.DeriveSteps.{bound-none}
 
 -- ---- steps that bind nothing

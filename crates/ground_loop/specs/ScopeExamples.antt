@@ -1,7 +1,6 @@
 -- Small lists of clauses, inside and outside of the loop's scope. Symbol 1 is a proposition, 2 a predicate, 3 and 4 are functions.
-use Rattle.std.specs.Prelude.{ℕ, zero, suc, true, List, [], ◌∷◌}
-use Rattle.plain_types.specs.declared.sequence.NameLit.{NameLit}
-use Rattle.fol_base.specs.Tree.{Tree, variable, application, no_trees, tree_then, true_tree}
+use Rattle.std.specs.Prelude.{ℕ, zero, suc, true, [], ◌∷◌}
+use Rattle.fol_base.specs.Tree.{Tree, application, no_trees, tree_then, true_tree}
 use Rattle.fol_base.specs.Clause.{TreeLiteral, TreeClause}
 use Rattle.ground_loop.specs.Resolution.{atom_literal}
 

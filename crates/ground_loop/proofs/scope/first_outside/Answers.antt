@@ -1,4 +1,4 @@
-use Rattle.std.proofs.Common.{◌≡◌, ◌↔◌, None, Option, ℕ, map, sym, subst, ap, ◌∙◌}
+use Rattle.std.proofs.Common.{map, sym, ap, ◌∙◌}
 use Rattle.fol_base.specs.Literal.{clause_of}
 use Rattle.ground_loop.specs.Scope.{first_outside}
 use Rattle.ground_loop.proofs.ScopeLemmas.{none_outside}
