@@ -8,9 +8,9 @@ ghost use Rattle.ground_loop.specs.Scope.{is_in_scope, first_outside, IsInScope}
 
 use fol_base::{Clause, Clauses, Literal, MOST_SYMBOLS, TRUE_SYMBOL, Term};
 
-/// The first clause with which a list of clauses isn't in the scope of the loop: it has a variable, an equation or a
-/// name, or the clauses up to it have over 4,000 symbols together. None where there is no such clause: then the loop
-/// takes the list.
+/// The first clause with which a list of clauses isn't in the scope of the loop: it has a variable, a name, or an
+/// equation (`$true = $true` is one), or the clauses up to it have over 4,000 symbols together. None where there is no
+/// such clause: then the loop takes the list.
 pub fn first_outside(form: &Clauses) -> Option<usize>
     ensures first { result ≡ first_outside (map clause_of form.now) }
     ensures inside { (result ≡ None) ↔ IsInScope (map clause_of form.now) }
@@ -18,6 +18,7 @@ pub fn first_outside(form: &Clauses) -> Option<usize>
     find_outside(form.as_slice())
 }
 
+/// The same of a slice.
 fn find_outside(clauses: &[Clause]) -> Option<usize>
     ensures { result ≡ first_outside (map clause_of clauses.now) }
 {
@@ -51,6 +52,7 @@ fn is_atom_literal(literal: &Literal) -> bool
     is_ground_atom(&literal.left) && literal.right.is_truth()
 }
 
+/// Whether a term is ground, and its head isn't `$true`.
 fn is_ground_atom(term: &Term) -> bool
     ensures { result ≡ is_ground_atom (tree_of term.now) }
 {
