@@ -48,7 +48,7 @@ literals-none (l ∷ ls) =
     let made : Tree → Tree → TreeLiteral = λ (t u : Tree). record { positive = l.positive; left = t; right = u } in
     ap₂ ◌∷◌ (ap₂ made (instance-none l.left) (instance-none l.right)) (literals-none ls)
 
-bound-none : (bind : List Tree) (c : TreeClause) → bind ≡ [] → bound_literals bind c ≡ c.literals
+pub bound-none : (bind : List Tree) (c : TreeClause) → bind ≡ [] → bound_literals bind c ≡ c.literals
 bound-none bind c none = ap (λ b. bound_literals b c) none ∙ literals-none c.literals
 
 -- and is right for a ground clause that isn't too large

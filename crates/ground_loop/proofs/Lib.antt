@@ -21,3 +21,5 @@ pub mod ClosedLemmas
 pub mod ResolutionExamples
 pub mod ValuationLemmas
 pub mod HerbrandModel
+pub mod ScopeLemmas
+pub mod GroundLineLemmas

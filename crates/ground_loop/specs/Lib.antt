@@ -11,3 +11,6 @@ pub mod Saturation
 pub mod DeriveExamples
 pub mod ResolutionExamples
 pub mod Satisfaction
+pub mod Scope
+pub mod ScopeExamples
+pub mod GroundLines

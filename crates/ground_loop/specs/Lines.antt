@@ -1,6 +1,6 @@
 -- Lines of a derivation as sets of literals, and how lines are added.
 use Rattle.fol_base.specs.declared.limits.TheConstants.{MOST_SYMBOLS, MOST_BOUND_SYMBOLS}
-use Rattle.std.specs.Prelude.{◌≡◌, ℕ, zero, suc, ◌-◌, ◌<◌, ◌≤◌, Bool, true, false, not, ◌&&◌, List, [], ◌∷◌, ◌++◌, length, Some, slice_get, slice_set, slice_index, slice_index_or, take, IsTrue, IsFalse}
+use Rattle.std.specs.Prelude.{◌≡◌, ℕ, zero, suc, ◌-◌, ◌<◌, ◌≤◌, Bool, true, false, not, ◌&&◌, ◌==◌, List, [], ◌∷◌, ◌++◌, length, Some, slice_get, slice_set, slice_index, slice_index_or, take, IsTrue, IsFalse}
 use Rattle.std.specs.List.{list_any, list_all}
 use Rattle.fol_base.specs.Tree.{Tree}
 use Rattle.fol_base.specs.Clause.{TreeLiteral, TreeClause, clause_size, clause_variables}
@@ -65,12 +65,13 @@ line_literals lines n = (line_clause lines n).literals
 
 -- ---- lines that are added
 
--- the steps that the loop makes
+-- the steps that the loop makes; they bind no variables
 abbrev pub is_loop_step : Step → Bool
 is_loop_step (Clausify number) = true
-is_loop_step (Para first second from from_side into into_side place first_bind second_bind) = true
-is_loop_step (Refl parent literal bind) = true
-is_loop_step (Merge parent stays goes bind) = true
+is_loop_step (Para first second from from_side into into_side place first_bind second_bind) =
+    (length first_bind == 0) && (length second_bind == 0)
+is_loop_step (Refl parent literal bind) = length bind == 0
+is_loop_step (Merge parent stays goes bind) = length bind == 0
 is_loop_step _ = false
 
 abbrev pub AreLoopLines : List Line → Type 0

@@ -2,8 +2,10 @@
 
 ghost use Rattle.std.specs.Prelude.{◌≡◌, ◌+◌, ◌++◌, map, IfOk};
 ghost use Rattle.fol_base.specs.Literal.{clause_of};
+ghost use Rattle.fol_base.specs.GroundForm.{IsGroundForm};
 ghost use Rattle.kernel_steps.specs.Derivation.{IsSourcedRefutation};
 ghost use Rattle.ground_loop.specs.Search.{IsClauseRefutation};
+ghost use Rattle.ground_loop.specs.GroundLines.{AreGroundLines};
 ghost use Rattle.ground_loop.specs.Inputs.{shifted_step, shifted_line, input_of, inputs_of, with_inputs_of};
 
 use fol_base::{Clause, Clauses, Literals};
@@ -14,8 +16,10 @@ use std::alloc::Global;
 /// The derivation below the input lines of the formulas whose clauses it uses, where clause number i comes from
 /// formula i. The parents of its lines are numbered anew.
 pub fn with_inputs(alloc: Global, form: &Clauses, derivation: Derivation) -> Mem<Derivation>
-    requires { IsClauseRefutation (map clause_of form.now) derivation }
-    ensures { IfOk result (IsSourcedRefutation (map clause_of form.now)) }
+    requires ground { IsGroundForm (map clause_of form.now) }
+    requires refutation { IsClauseRefutation (map clause_of form.now) derivation }
+    ensures refutation { IfOk result (IsSourcedRefutation (map clause_of form.now)) }
+    ensures lines { IfOk result AreGroundLines }
 {
     let _ = form;
     below_inputs(alloc, derivation)

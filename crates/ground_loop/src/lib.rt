@@ -7,8 +7,10 @@ mod entry;
 mod inputs;
 mod laws;
 mod prove;
+mod scope;
 mod search;
 
 pub use answer::Ground;
-pub use laws::closed_lists_refute_nothing;
+pub use laws::{closed_lists_refute_nothing, first_outside_is_first, ground_steps_keep};
 pub use prove::prove_ground;
+pub use scope::first_outside;

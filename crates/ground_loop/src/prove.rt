@@ -4,6 +4,7 @@ ghost use Rattle.std.specs.Prelude.{◌≤◌, map, IfOk};
 ghost use Rattle.fol_base.specs.GroundForm.{IsGroundForm, form_size};
 ghost use Rattle.fol_base.specs.Literal.{clause_of};
 ghost use Rattle.ground_loop.specs.Answer.{IsGroundAnswer};
+ghost use Rattle.ground_loop.specs.GroundLines.{HasGroundLines};
 ghost use Rattle.ground_loop.specs.Satisfaction.{HasMeaning};
 
 use crate::answer::Ground;
@@ -22,6 +23,7 @@ pub fn prove_ground(alloc: Global, form: &Clauses, limit: u32) -> Mem<Ground>
     requires small { form_size (map clause_of form.now) ≤ MOST_SYMBOLS }
     requires counted { 1 ≤ limit }
     ensures answer { IfOk result (IsGroundAnswer (map clause_of form.now) limit) }
+    ensures lines { IfOk result HasGroundLines }
     ensures meaning { IfOk result (HasMeaning (map clause_of form.now)) }
 {
     answer(alloc, form, limit)
@@ -32,7 +34,8 @@ fn answer(alloc: Global, form: &Clauses, limit: u32) -> Mem<Ground>
     requires ground { IsGroundForm (map clause_of form.now) }
     requires small { form_size (map clause_of form.now) ≤ MOST_SYMBOLS }
     requires counted { 1 ≤ limit }
-    ensures { IfOk result (IsGroundAnswer (map clause_of form.now) limit) }
+    ensures answer { IfOk result (IsGroundAnswer (map clause_of form.now) limit) }
+    ensures lines { IfOk result HasGroundLines }
 {
     match search(alloc, form, limit)? {
         Found::Empty(atoms, entries) => Ok(Ground::Refuted(with_inputs(

@@ -1,0 +1,336 @@
+-- What the lines of a derivation are that goes by ground steps alone.
+use Rattle.std.proofs.Common.{◌≡◌, ℕ, zero, suc, ◌<◌, Bool, true, ◌&&◌, ◌==◌, List, [], ◌∷◌, ◌++◌, length, map, take, Some, refl, ap, ap₂, sym, ◌∙◌, subst, arith}
+use Rattle.std.specs.Prelude.{slice_get, slice_set, remove, All}
+use Rattle.std.specs.List.{list_all}
+use Rattle.std.proofs.lemmas.Bool.{and_parts, and_from, eqb-true, true≢false}
+use Rattle.std.proofs.lemmas.List.{nil_from_length}
+use Rattle.std.proofs.lemmas.Option.{none-some, same_Some}
+use Rattle.std.proofs.lemmas.List.Elements.{All-contains, All-nil, All-cons, All-head, All-tail}
+use Rattle.fol_base.specs.Tree.{Tree, variable, application, Trees, no_trees, tree_then, trees_of, list_of, true_tree, is_truth}
+use Rattle.fol_base.specs.Place.{argument, with_argument, subterm, replaced}
+use Rattle.fol_base.specs.Clause.{TreeLiteral, TreeClause}
+use Rattle.fol_base.specs.Ground.{is_ground, are_ground}
+use Rattle.fol_base.specs.GroundForm.{is_ground_atom, is_atom_literal, IsGroundClause, IsGroundForm}
+use Rattle.fol_base.specs.WellFormed.{are_literals_of}
+use Rattle.fol_base.specs.Rules.{superposed, resolved, merged}
+use Rattle.fol_base.specs.Literal.{clause_of}
+use Rattle.fol_base.specs.declared.clause.Side.{Side}
+use Rattle.fol_base.specs.declared.clause.Side.TheVariants.{Left, Right}
+use Rattle.fol_base.proofs.TreeLemmas.{tree_eq-true}
+use Rattle.fol_base.proofs.PlaceLemmas.{replaced-parts}
+use Rattle.fol_base.proofs.RuleLemmas.{SuperposedLiteralParts, superposed_literal-parts, superposed-parts, resolved-parts, merged-parts}
+use Rattle.fol_base.proofs.TestLemmas.{list_all-item, list_all-joined, list_all-set, list_all-remove}
+use Rattle.fol_base.proofs.WellFormedLemmas.{well_formed_superpositions, well_formed_resolutions, well_formed_merges}
+use Rattle.kernel_steps.specs.Parents.{Parent}
+use Rattle.kernel_steps.specs.Conclusion.{empty_clause, clause_with}
+use Rattle.kernel_steps.specs.Derivation.{line_parents, is_component, ComesBy, IsDerivation}
+use Rattle.kernel_steps.specs.Names.{sorted_names}
+use Rattle.kernel_steps.specs.Soundness.{binds_each}
+use Rattle.kernel_steps.specs.Symbols.{symbols_pass, bound_symbols_pass}
+use Rattle.kernel_steps.specs.declared.step.Step.{Step}
+use Rattle.kernel_steps.specs.declared.step.Step.TheVariants.{Input, Negate, Clausify, Para, Refl, Factor, Merge, Component, Opposite, Split, Chain}
+use Rattle.kernel_steps.specs.declared.step.Line.{Line}
+use Rattle.kernel_steps.proofs.ItemLemmas.{Contains-item}
+use Rattle.kernel_steps.proofs.LineLemmas.{parent_line}
+use Rattle.kernel_steps.proofs.SymbolLemmas.{derivations_keep_symbols}
+use Rattle.kernel_steps.proofs.VerdictParts.{by_one-parts, by_two-parts}
+use Rattle.ground_loop.specs.Lines.{is_loop_step, AreLoopLines}
+use Rattle.ground_loop.specs.Inputs.{shifted_step, shifted_line, input_of, inputs_of, with_inputs_of}
+use Rattle.ground_loop.specs.GroundLines.{is_ground_step, are_ground_steps, is_ground_with_truth, IsPlainClause, AreGroundLines, GroundStepsKeepPlain, GroundStepsKeepSymbols, GroundStepsKeepUse}
+use Rattle.ground_loop.proofs.DeriveSteps.{bound-none}
+
+-- ---- steps that bind nothing
+
+none_of : {X : Type 0} (xs : List X) → (length xs == 0) ≡ true → xs ≡ []
+none_of xs e = nil_from_length xs (eqb-true (length xs) 0 e)
+
+line_step : (lines : List Line) (n : ℕ) (line : Line) → are_ground_steps lines ≡ true → slice_get lines n ≡ Some line → is_ground_step line.step ≡ true
+line_step lines n line all at = list_all-item (λ (l : Line). is_ground_step l.step) lines n line at all
+
+-- ---- what holds of the form's clauses, and what the rules keep, holds of every line
+
+record KeptByRules (P : TreeClause → Type 0) : Type 0 where
+  of_none : P empty_clause
+  by_superposition :
+      (c d : TreeClause) (made : List TreeLiteral) (i j : ℕ) (s z : Side) (place : List ℕ)
+      → P c → P d → superposed c.literals i s d.literals j z place ≡ Some made → P (clause_with (c.names ++ d.names) made)
+  by_resolution : (c : TreeClause) (made : List TreeLiteral) (i : ℕ) → P c → resolved c.literals i ≡ Some made → P (clause_with c.names made)
+  by_merge : (c : TreeClause) (made : List TreeLiteral) (i j : ℕ) → P c → merged c.literals i j ≡ Some made → P (clause_with c.names made)
+
+abbrev HoldsBefore : (TreeClause → Type 0) → List Line → ℕ → Type 0
+HoldsBefore P lines n = (m : ℕ) (line : Line) → m < n → slice_get lines m ≡ Some line → P (clause_of line.clause)
+
+parent-holds :
+    (P : TreeClause → Type 0) (lines : List Line) (n : ℕ) → HoldsBefore P lines n
+    → (k : ℕ) (p : Parent) → line_parents (take n lines) k ≡ Some p → P p.clause
+parent-holds P lines n earlier k p there =
+    let at = parent_line lines n k p there in
+    let Q : Parent → Type 0 = λ q. P q.clause in
+    subst Q at.gives (earlier k at.line at.earlier at.there)
+
+line-holds :
+    (P : TreeClause → Type 0) (form : List TreeClause) (lines : List Line) (n : ℕ) (step : Step) (c : TreeClause)
+    → KeptByRules P → All P form → HoldsBefore P lines n → is_ground_step step ≡ true → ComesBy step form (take n lines) c → P c
+line-holds P form lines n (Input place) c kept forms earlier ground comes = subst P (sym comes) kept.of_none
+line-holds P form lines n (Clausify k) c kept forms earlier ground comes = All-contains P form c forms (Contains-item form k c comes)
+line-holds P form lines n (Para a b i s j z place first second) c kept forms earlier ground comes =
+    let none = and_parts (length first == 0) (length second == 0) ground in
+    let p = by_two-parts (line_parents (take n lines) a) first (line_parents (take n lines) b) second (λ ls ks. superposed ls i s ks j z place) c comes in
+    subst P p.gives
+    (kept.by_superposition p.source.clause p.target.clause p.literals i j s z place
+    (parent-holds P lines n earlier a p.source p.first_there)
+    (parent-holds P lines n earlier b p.target p.second_there)
+    (sym (ap₂ (λ ls ks. superposed ls i s ks j z place) (bound-none first p.source.clause (none_of first none.0)) (bound-none second p.target.clause (none_of second none.1)))
+    ∙ p.made))
+line-holds P form lines n (Refl a i bind) c kept forms earlier ground comes =
+    let p = by_one-parts (line_parents (take n lines) a) bind (λ ls. resolved ls i) c comes in
+    subst P p.gives
+    (kept.by_resolution p.source.clause p.literals i (parent-holds P lines n earlier a p.source p.there)
+    (sym (ap (λ ls. resolved ls i) (bound-none bind p.source.clause (none_of bind ground))) ∙ p.made))
+line-holds P form lines n (Merge a i j bind) c kept forms earlier ground comes =
+    let p = by_one-parts (line_parents (take n lines) a) bind (λ ls. merged ls i j) c comes in
+    subst P p.gives
+    (kept.by_merge p.source.clause p.literals i j (parent-holds P lines n earlier a p.source p.there)
+    (sym (ap (λ ls. merged ls i j) (bound-none bind p.source.clause (none_of bind ground))) ∙ p.made))
+line-holds P form lines n (Negate place) c kept forms earlier ground comes = absurd (true≢false (sym ground))
+line-holds P form lines n (Factor a i s j z bind) c kept forms earlier ground comes = absurd (true≢false (sym ground))
+line-holds P form lines n (Component name) c kept forms earlier ground comes = absurd (true≢false (sym ground))
+line-holds P form lines n (Opposite name) c kept forms earlier ground comes = absurd (true≢false (sym ground))
+line-holds P form lines n (Split a definitions parts) c kept forms earlier ground comes = absurd (true≢false (sym ground))
+line-holds P form lines n (Chain parents pivots) c kept forms earlier ground comes = absurd (true≢false (sym ground))
+
+lines-hold :
+    (P : TreeClause → Type 0) (form : List TreeClause) (lines : List Line)
+    → KeptByRules P → All P form → are_ground_steps lines ≡ true → IsDerivation form lines → (n : ℕ) → HoldsBefore P lines n
+lines-hold P form lines kept forms ground derived zero m line within at = absurd (omega arith)
+lines-hold P form lines kept forms ground derived (suc n) m line within at =
+    line-holds P form lines m line.step (clause_of line.clause) kept forms
+    (λ a other before there. lines-hold P form lines kept forms ground derived n a other (omega (arith, within, before)) there)
+    (line_step lines m line ground at) (derived m line at)
+
+each-holds :
+    (P : TreeClause → Type 0) (form : List TreeClause) (lines : List Line)
+    → KeptByRules P → All P form → are_ground_steps lines ≡ true → IsDerivation form lines
+    → (n : ℕ) (line : Line) → slice_get lines n ≡ Some line → P (clause_of line.clause)
+each-holds P form lines kept forms ground derived n line at = lines-hold P form lines kept forms ground derived (suc n) n line (omega arith) at
+
+-- ---- the uses of symbols
+
+pub ground_steps_keep_use : GroundStepsKeepUse
+ground_steps_keep_use usage form lines forms ground derived =
+    each-holds (λ c. are_literals_of usage c.literals ≡ true) form lines kept (each form forms) ground derived
+  where
+    each :
+        (cs : List TreeClause) → list_all (λ (c : TreeClause). are_literals_of usage c.literals) cs ≡ true
+        → All (λ (c : TreeClause). are_literals_of usage c.literals ≡ true) cs
+    each [] all = All-nil (λ (c : TreeClause). are_literals_of usage c.literals ≡ true)
+    each (c ∷ cs) all =
+        let parts = and_parts (are_literals_of usage c.literals) (list_all (λ (d : TreeClause). are_literals_of usage d.literals) cs) all in
+        All-cons (λ (d : TreeClause). are_literals_of usage d.literals ≡ true) c cs parts.0 (each cs parts.1)
+
+    kept : KeptByRules (λ c. are_literals_of usage c.literals ≡ true)
+    kept = record {
+      of_none = refl;
+      by_superposition = λ c d made i j s z place first second h. well_formed_superpositions usage c.literals d.literals made i j s z place first second h;
+      by_resolution = λ c made i all h. well_formed_resolutions usage c.literals made i all h;
+      by_merge = λ c made i j all h. well_formed_merges usage c.literals made i j all h;
+    }
+
+-- ---- symbols
+
+no_component : (step : Step) → is_ground_step step ≡ true → is_component step ≡ true → ⊥
+no_component (Component name) ground is = true≢false (sym ground)
+no_component (Input place) ground is = true≢false (sym is)
+no_component (Negate place) ground is = true≢false (sym is)
+no_component (Clausify k) ground is = true≢false (sym is)
+no_component (Para a b i s j z place first second) ground is = true≢false (sym is)
+no_component (Refl a i bind) ground is = true≢false (sym is)
+no_component (Factor a i s j z bind) ground is = true≢false (sym is)
+no_component (Merge a i j bind) ground is = true≢false (sym is)
+no_component (Opposite name) ground is = true≢false (sym is)
+no_component (Split a definitions parts) ground is = true≢false (sym is)
+no_component (Chain parents pivots) ground is = true≢false (sym is)
+
+none-bound : (p : Tree → Bool) (ts : List Tree) → (length ts == 0) ≡ true → list_all p ts ≡ true
+none-bound p ts none = ap (list_all p) (none_of ts none)
+
+step-binds : (p : Tree → Bool) (step : Step) → is_ground_step step ≡ true → binds_each p step ≡ true
+step-binds p (Para a b i s j z place first second) ground =
+    let none = and_parts (length first == 0) (length second == 0) ground in
+    and_from (list_all p first) (list_all p second && true) (none-bound p first none.0)
+    (and_from (list_all p second) true (none-bound p second none.1) refl)
+step-binds p (Refl a i bind) ground = and_from (list_all p bind) true (none-bound p bind ground) refl
+step-binds p (Merge a i j bind) ground = and_from (list_all p bind) true (none-bound p bind ground) refl
+step-binds p (Input place) ground = refl
+step-binds p (Clausify k) ground = refl
+step-binds p (Negate place) ground = refl
+step-binds p (Component name) ground = refl
+step-binds p (Opposite name) ground = refl
+step-binds p (Factor a i s j z bind) ground = absurd (true≢false (sym ground))
+step-binds p (Split a definitions parts) ground = refl
+step-binds p (Chain parents pivots) ground = refl
+
+lines-bind : (test : ℕ → ℕ → Bool) (lines : List Line) → are_ground_steps lines ≡ true → bound_symbols_pass test lines ≡ true
+lines-bind test [] ground = refl
+lines-bind test (l ∷ ls) ground =
+    let parts = and_parts (is_ground_step l.step) (are_ground_steps ls) ground in
+    and_from (binds_each (symbols_pass test) l.step) (bound_symbols_pass test ls) (step-binds (symbols_pass test) l.step parts.0) (lines-bind test ls parts.1)
+
+pub ground_steps_keep_symbols : GroundStepsKeepSymbols
+ground_steps_keep_symbols test form lines forms ground derived =
+    derivations_keep_symbols test form lines forms
+    (λ n line at is. absurd (no_component line.step (line_step lines n line ground at) is))
+    (lines-bind test lines ground) derived
+
+-- ---- no variables and no equations
+
+listed : (ts : Trees) → are_ground ts ≡ list_all is_ground (list_of ts)
+listed no_trees = refl
+listed (tree_then t ts) = ap (λ b. is_ground t && b) (listed ts)
+
+made-of : (ts : List Tree) → are_ground (trees_of ts) ≡ list_all is_ground ts
+made-of [] = refl
+made-of (t ∷ ts) = ap (λ b. is_ground t && b) (made-of ts)
+
+argument-ground : (k : ℕ) (t a : Tree) → argument k t ≡ Some a → is_ground t ≡ true → is_ground a ≡ true
+argument-ground k (variable v) a there h = absurd (none-some a there)
+argument-ground k (application f ts) a there h = list_all-item is_ground (list_of ts) k a there (sym (listed ts) ∙ h)
+
+with_argument-ground : (k : ℕ) (b t : Tree) → is_ground b ≡ true → is_ground t ≡ true → is_ground (with_argument k b t) ≡ true
+with_argument-ground k b (variable v) ground h = absurd (true≢false (sym h))
+with_argument-ground k b (application f ts) ground h =
+    made-of (slice_set (list_of ts) k b) ∙ list_all-set is_ground (list_of ts) k b (sym (listed ts) ∙ h) ground
+
+replaced-ground :
+    (place : List ℕ) (new t made : Tree) → is_ground new ≡ true → is_ground t ≡ true → replaced place new t ≡ Some made → is_ground made ≡ true
+replaced-ground [] new t made ground h put = ap is_ground (sym (same_Some new made put)) ∙ ground
+replaced-ground (k ∷ place) new t made ground h put =
+    replaced-parts k place new t made put λ a b a_is b_is gives.
+    ap is_ground (sym gives)
+    ∙ with_argument-ground k b t (replaced-ground place new a b ground (argument-ground k t a a_is h) b_is) h
+
+-- what stands at a place of `$true`
+at_truth : (place : List ℕ) (u : Tree) → subterm place true_tree ≡ Some u → is_truth u ≡ true
+at_truth [] u there = ap is_truth (sym (same_Some true_tree u there))
+at_truth (zero ∷ place) u there = absurd (none-some u there)
+at_truth (suc k ∷ place) u there = absurd (none-some u there)
+
+superposed-ground :
+    (from : TreeLiteral) (s : Side) (into : TreeLiteral) (z : Side) (place : List ℕ) (made : TreeLiteral)
+    → is_ground_with_truth from ≡ true → is_ground_with_truth into ≡ true → SuperposedLiteralParts from s into z place made
+    → is_ground_with_truth made ≡ true
+superposed-ground from Right into z place made first second p =
+    absurd (true≢false (sym (and_parts (is_ground from.left) (is_truth from.right) first).1 ∙ p.no_truth))
+superposed-ground from Left into Right place made first second p =
+    let truth : into.right ≡ true_tree = tree_eq-true into.right true_tree (and_parts (is_ground into.left) (is_truth into.right) second).1 in
+    absurd (true≢false (sym (at_truth place from.left (sym (ap (subterm place) truth) ∙ p.old_there)) ∙ p.no_truth))
+superposed-ground from Left into Left place made first second p =
+    let parts = and_parts (is_ground into.left) (is_truth into.right) second in
+    let truth : from.right ≡ true_tree = tree_eq-true from.right true_tree (and_parts (is_ground from.left) (is_truth from.right) first).1 in
+    ap is_ground_with_truth (sym p.gives)
+    ∙ and_from (is_ground p.new) (is_truth into.right)
+    (replaced-ground place from.right into.left p.new (ap is_ground truth) parts.0 p.new_made) parts.1
+
+plain_superposition :
+    (first second made : List TreeLiteral) (i j : ℕ) (s z : Side) (place : List ℕ)
+    → list_all is_ground_with_truth first ≡ true → list_all is_ground_with_truth second ≡ true
+    → superposed first i s second j z place ≡ Some made → list_all is_ground_with_truth made ≡ true
+plain_superposition first second made i j s z place first_all second_all h =
+    let p = superposed-parts first i s second j z place made h in
+    let literal : is_ground_with_truth p.literal ≡ true =
+    superposed-ground p.from s p.into z place p.literal
+    (list_all-item is_ground_with_truth first i p.from p.from_there first_all)
+    (list_all-item is_ground_with_truth second j p.into p.into_there second_all)
+    (superposed_literal-parts p.from s p.into z place p.literal p.literal_made) in
+    ap (list_all is_ground_with_truth) (sym p.gives)
+    ∙ list_all-joined is_ground_with_truth (slice_set second j p.literal) (remove first i)
+    (list_all-set is_ground_with_truth second j p.literal second_all literal)
+    (list_all-remove is_ground_with_truth first i first_all)
+
+plain_kept : KeptByRules IsPlainClause
+plain_kept = record {
+  of_none = (refl, refl);
+  by_superposition = λ c d made i j s z place first second h.
+      (ap₂ (λ ns ms. sorted_names (ns ++ ms)) first.0 second.0, plain_superposition c.literals d.literals made i j s z place first.1 second.1 h);
+  by_resolution = λ c made i all h. (
+    ap sorted_names all.0,
+    ap (list_all is_ground_with_truth) (sym (resolved-parts c.literals i made h).gives) ∙ list_all-remove is_ground_with_truth c.literals i all.1,
+  );
+  by_merge = λ c made i j all h. (
+    ap sorted_names all.0,
+    ap (list_all is_ground_with_truth) (sym (merged-parts c.literals i j made h).gives) ∙ list_all-remove is_ground_with_truth c.literals j all.1,
+  );
+}
+
+-- the form's own clauses
+atom-plain : (l : TreeLiteral) → is_atom_literal l ≡ true → is_ground_with_truth l ≡ true
+atom-plain l h =
+    let parts = and_parts (is_ground_atom l.left) (is_truth l.right) h in
+    and_from (is_ground l.left) (is_truth l.right) (atom-ground l.left parts.0) parts.1
+  where
+    atom-ground : (t : Tree) → is_ground_atom t ≡ true → is_ground t ≡ true
+    atom-ground (variable v) e = absurd (true≢false (sym e))
+    atom-ground (application f ts) e = (and_parts _ (are_ground ts) e).1
+
+atoms-plain : (ls : List TreeLiteral) → list_all is_atom_literal ls ≡ true → list_all is_ground_with_truth ls ≡ true
+atoms-plain [] h = refl
+atoms-plain (l ∷ ls) h =
+    let parts = and_parts (is_atom_literal l) (list_all is_atom_literal ls) h in
+    and_from (is_ground_with_truth l) (list_all is_ground_with_truth ls) (atom-plain l parts.0) (atoms-plain ls parts.1)
+
+form-plain : (form : List TreeClause) → IsGroundForm form → All IsPlainClause form
+form-plain [] ground = All-nil IsPlainClause
+form-plain (c ∷ cs) ground =
+    let first = All-head IsGroundClause c cs ground in
+    All-cons IsPlainClause c cs (first.0, atoms-plain c.literals first.1) (form-plain cs (All-tail IsGroundClause c cs ground))
+
+pub ground_steps_keep_plain : GroundStepsKeepPlain
+ground_steps_keep_plain form lines ground steps derived = each-holds IsPlainClause form lines plain_kept (form-plain form ground) steps derived
+
+-- ---- lines below their input lines
+
+shifted-ground : (k : ℕ) (step : Step) → is_loop_step step ≡ true → is_ground_step (shifted_step k step) ≡ true
+shifted-ground k (Clausify i) h = h
+shifted-ground k (Para a b i s j z place first second) h = h
+shifted-ground k (Refl a i bind) h = h
+shifted-ground k (Merge a i j bind) h = h
+shifted-ground k (Input place) h = refl
+shifted-ground k (Negate place) h = h
+shifted-ground k (Factor a i s j z bind) h = h
+shifted-ground k (Component name) h = h
+shifted-ground k (Opposite name) h = h
+shifted-ground k (Split a definitions parts) h = h
+shifted-ground k (Chain parents pivots) h = h
+
+shifted-steps : (k : ℕ) (ls : List Line) → AreLoopLines ls → are_ground_steps (map (shifted_line k) ls) ≡ true
+shifted-steps k [] loop = refl
+shifted-steps k (l ∷ ls) loop =
+    and_from (is_ground_step (shifted_step k l.step)) (are_ground_steps (map (shifted_line k) ls))
+    (shifted-ground k l.step (loop 0 l refl)) (shifted-steps k ls (λ n m at. loop (suc n) m at))
+
+input-steps : (step : Step) → are_ground_steps (input_of step) ≡ true
+input-steps (Clausify i) = refl
+input-steps (Input place) = refl
+input-steps (Negate place) = refl
+input-steps (Para a b i s j z place first second) = refl
+input-steps (Refl a i bind) = refl
+input-steps (Factor a i s j z bind) = refl
+input-steps (Merge a i j bind) = refl
+input-steps (Component name) = refl
+input-steps (Opposite name) = refl
+input-steps (Split a definitions parts) = refl
+input-steps (Chain parents pivots) = refl
+
+inputs-steps : (ls : List Line) → are_ground_steps (inputs_of ls) ≡ true
+inputs-steps [] = refl
+inputs-steps (l ∷ ls) =
+    list_all-joined (λ (m : Line). is_ground_step m.step) (input_of l.step) (inputs_of ls) (input-steps l.step) (inputs-steps ls)
+
+pub AreGroundLines-with_inputs :
+    (form : List TreeClause) (ls : List Line)
+    → IsGroundForm form → AreLoopLines ls → IsDerivation form (with_inputs_of ls) → AreGroundLines (with_inputs_of ls)
+AreGroundLines-with_inputs form ls ground loop derived =
+    let steps : are_ground_steps (with_inputs_of ls) ≡ true =
+    list_all-joined (λ (m : Line). is_ground_step m.step) (inputs_of ls) (map (shifted_line (length (inputs_of ls))) ls) (inputs-steps ls)
+    (shifted-steps (length (inputs_of ls)) ls loop) in
+    record { by_steps = steps; plain = ground_steps_keep_plain form (with_inputs_of ls) ground steps derived }
