@@ -1,0 +1,190 @@
+-- The check of a derivation, line by line.
+use Rattle.std.proofs.Common.{◌≡◌, inl, inr, ⊎_elim, ℕ, zero, suc, ◌+◌, ◌-◌, ◌<◌, ◌≤◌, Bool, true, false, Option, None, Some, List, [], ◌∷◌, ◌++◌, length, drop, refl, ap, sym, ◌∙◌, subst, arith}
+use Rattle.std.specs.Prelude.{if◌then◌else◌}
+use Rattle.std.proofs.lemmas.List.{length-append, length-map, drop_all, length-drop}
+use Rattle.tptp_token.specs.Lexemes.{Lexeme, lexeme_at}
+use Rattle.tptp_token.specs.Lexing.{with_piece, piece_length, lexed_from, lexed_of}
+use Rattle.tptp_token.specs.Pieces.{piece_of}
+use Rattle.tptp_token.specs.declared.token.Lexed.{Lexed}
+use Rattle.tptp_token.specs.declared.token.LexFault.{LexFault}
+use Rattle.tptp_token.specs.declared.piece.Piece.{Piece}
+use Rattle.tptp_token.specs.declared.piece.Piece.TheVariants.{Token, Space, Bad, Unclosed}
+use Rattle.tptp_tree.specs.declared.problem.Annotated.{Annotated}
+use Rattle.clausal_form.specs.DerivationLine.{LineTree, NamedLine, Taken, nothing_taken}
+use Rattle.clausal_form.specs.DerivationParts.{Setting, setting_of}
+use Rattle.clausal_form.specs.DerivationCauses.{Cause, text, no_empty_clause, LineVerdict, refused, taken, line_verdict}
+use Rattle.clausal_form.specs.DerivationLines.{all_taken, refused_at, after_line, then_line, lines_verdict_from, lines_verdict, ends_empty, accepted, refused_line}
+use Rattle.clausal_form.specs.DerivationTexts.{SpellsLines, text_tokens, IsEnd, NoLineBegins, IsAcceptedDerivation, IsRefusedDerivation, IsAnswerOn}
+use Rattle.clausal_form.proofs.TextLemmas.{joined, verdict-joined}
+use Rattle.clausal_form.proofs.SpelledLemmas.{answered}
+use Rattle.tstp_checker.specs.Checking.{IsTakenAt, IsRefusedAt}
+use Rattle.tstp_checker.proofs.ReadingLemmas.{line-phrase}
+
+-- ---- a text has at most one token for each byte
+
+tokens-few : (place skipped : ℕ) (bytes : List ℕ) → length (lexed_from place skipped bytes).tokens ≤ length bytes
+unfolding lexed_from
+tokens-few place skipped [] = omega arith
+tokens-few place (suc skipped) (b ∷ bs) = omega (arith, tokens-few (place + 1) skipped bs)
+tokens-few place zero (b ∷ bs) =
+    by (piece_of b bs) (tokens-few (place + 1) (piece_length (piece_of b bs) - 1) bs)
+  where
+    by :
+        (piece : Piece) → length (lexed_from (place + 1) (piece_length (piece_of b bs) - 1) bs).tokens ≤ length bs
+        → length (with_piece place piece (lexed_from (place + 1) (piece_length (piece_of b bs) - 1) bs)).tokens ≤ length (b ∷ bs)
+    by (Token kind n) h = omega (arith, h)
+    by (Space n) h = omega (arith, h)
+    by (Bad offset) h = omega arith
+    by Unclosed h = omega arith
+
+pub text-tokens-few : (bytes : List ℕ) → length (lexed_of bytes).tokens ≤ length bytes
+unfolding lexed_of
+text-tokens-few bytes = tokens-few 0 0 bytes
+
+-- ---- the lines before a token
+
+-- lines that are taken stand before the token `next`
+pub record Progress (bytes : List ℕ) (s : Setting) (next : ℕ) (e : Taken) : Type 0 where
+  pub before : List LineTree
+  pub spelled : SpellsLines (text_tokens bytes) before (drop next (text_tokens bytes))
+  pub are_taken : lines_verdict s before ≡ all_taken e
+  pub many : length before ≡ length e.lines
+  pub few : length e.lines ≤ next
+  pub within : next ≤ length (lexed_of bytes).tokens
+
+pub begun : (bytes : List ℕ) (s : Setting) → Progress bytes s 0 nothing_taken
+begun bytes s = record {
+  before = [];
+  spelled = record { phrases = []; spelled = refl; lines = tt };
+  are_taken = refl;
+  many = refl;
+  few = omega arith;
+  within = omega arith;
+}
+
+one-line-more : (s : Setting) (e d : Taken) (t : LineTree) → then_line s (all_taken e) t ≡ all_taken d → length d.lines ≡ length e.lines + 1
+one-line-more s e d t h = by (line_verdict s e t) h
+  where
+    by : (v : LineVerdict) → after_line e t v ≡ all_taken d → length d.lines ≡ length e.lines + 1
+    by (refused cause) k = absurd (cc)
+    by (taken line) k =
+        let new : NamedLine = record { name = (t.entry).name; line = line } in
+        let same : e.lines ++ new ∷ [] ≡ d.lines = cc in
+        omega (arith, ap length same, length-append e.lines (new ∷ []))
+
+pub one-more :
+    (bytes : List ℕ) (s : Setting) (first next : ℕ) (e d : Taken)
+    → Progress bytes s first e → IsTakenAt bytes s first e next d → Progress bytes s next d
+one-more bytes s first next e d p k =
+    let more = one-line-more s e d k.tree k.taken in
+    let on : first < next = k.onward in
+    record {
+      before = p.before ++ k.tree ∷ [];
+      spelled =
+          joined (text_tokens bytes) (drop first (text_tokens bytes)) (drop next (text_tokens bytes)) p.before (k.tree ∷ []) p.spelled
+          k.spelled;
+      are_taken =
+          verdict-joined s (all_taken nothing_taken) p.before (k.tree ∷ [])
+          ∙ ap (λ v. lines_verdict_from s v (k.tree ∷ [])) p.are_taken ∙ k.taken;
+      many = omega (arith, more, p.many, length-append p.before (k.tree ∷ []));
+      few = omega (arith, more, p.few, on);
+      within = k.within;
+    }
+
+-- ---- a line that isn't taken
+
+text-long : (bytes : List ℕ) → length (text_tokens bytes) ≡ length (lexed_of bytes).tokens
+text-long bytes = length-map (lexed_of bytes).tokens (lexeme_at bytes)
+
+goes-on : (bytes : List ℕ) (first : ℕ) → first < length (lexed_of bytes).tokens → IsEnd bytes (drop first (text_tokens bytes)) → ⊥
+goes-on bytes first small end =
+    omega (arith, small, text-long bytes, length-drop first (text_tokens bytes), ap length end.0)
+
+refused-there :
+    (problem : List Annotated) (bytes : List ℕ) (first : ℕ) (e : Taken) (number : ℕ) (cause : Cause)
+    → first < length (lexed_of bytes).tokens → Progress bytes (setting_of problem) first e
+    → IsRefusedAt bytes (setting_of problem) first e number cause → IsRefusedDerivation problem bytes number cause
+refused-there problem bytes first e number cause small p (inl (none, number_is, cause_is)) = record {
+  before = p.before;
+  rest = drop first (text_tokens bytes);
+  spelled = p.spelled;
+  taken = e;
+  all_before = p.are_taken;
+  wrong = inr (inl (goes-on bytes first small, none, number_is ∙ ap (λ n. n + 1) (sym p.many), cause_is));
+}
+refused-there problem bytes first e number cause small p (inr (tree, more, spelled, bad)) = record {
+  before = p.before;
+  rest = drop first (text_tokens bytes);
+  spelled = p.spelled;
+  taken = e;
+  all_before = p.are_taken;
+  wrong =
+      inr
+      (inr (
+        tree,
+        more,
+        spelled,
+        verdict-joined (setting_of problem) (all_taken nothing_taken) p.before (tree ∷ [])
+            ∙ ap (λ v. lines_verdict_from (setting_of problem) v (tree ∷ [])) p.are_taken ∙ bad,
+      ));
+}
+
+pub line-refused :
+    (problem : List Annotated) (bytes : List ℕ) (s : Setting) (first : ℕ) (e : Taken) (number : ℕ) (cause : Cause)
+    → s ≡ setting_of problem → first < length (lexed_of bytes).tokens → Progress bytes s first e → IsRefusedAt bytes s first e number cause
+    → IsRefusedDerivation problem bytes number cause
+line-refused problem bytes s first e number cause same small p h =
+    refused-there problem bytes first e number cause small (subst (λ x. Progress bytes x first e) same p)
+    (subst (λ x. IsRefusedAt bytes x first e number cause) same h)
+
+-- ---- the end
+
+at-end : (bytes : List ℕ) (next : ℕ) → length (lexed_of bytes).tokens ≤ next → drop next (text_tokens bytes) ≡ []
+at-end bytes next all = drop_all next (text_tokens bytes) (omega (arith, all, text-long bytes))
+
+nothing-begins : (tokens : List Lexeme) → tokens ≡ [] → NoLineBegins tokens
+nothing-begins tokens e t rest spelled =
+    let p = line-phrase tokens t rest spelled in let f = p.spelled in cc
+
+pub cut-off :
+    (problem : List Annotated) (bytes : List ℕ) (s : Setting) (next : ℕ) (e : Taken) (fault : LexFault) (number : ℕ)
+    → s ≡ setting_of problem → Progress bytes s next e → length (lexed_of bytes).tokens ≤ next → (lexed_of bytes).fault ≡ Some fault
+    → number ≡ length e.lines + 1 → IsRefusedDerivation problem bytes number text
+cut-off problem bytes s next e fault number same p all some number_is = record {
+  before = p.before;
+  rest = drop next (text_tokens bytes);
+  spelled = p.spelled;
+  taken = e;
+  all_before = ap (λ x. lines_verdict x p.before) (sym same) ∙ p.are_taken;
+  wrong =
+      inr
+      (inl (
+        (λ end. let none = end.1 in cc),
+        nothing-begins (drop next (text_tokens bytes)) (at-end bytes next all),
+        number_is ∙ ap (λ n. n + 1) (sym p.many),
+        refl,
+      ));
+}
+
+-- where all lines are taken, and nothing is behind them
+ended-so :
+    (problem : List Annotated) (bytes : List ℕ) (s : Setting) (next : ℕ) (e : Taken) (b : Bool)
+    → s ≡ setting_of problem → Progress bytes s next e → length (lexed_of bytes).tokens ≤ next → (lexed_of bytes).fault ≡ None
+    → ends_empty e.lines ≡ b
+    → IsAnswerOn problem bytes (if b then accepted (length e.lines) else refused_line (length e.lines) no_empty_clause)
+ended-so problem bytes s next e b same p all whole ends =
+    subst (λ x. IsAnswerOn problem bytes (if x then accepted (length e.lines) else refused_line (length e.lines) no_empty_clause)) ends
+    (answered problem bytes p.before (drop next (text_tokens bytes), p.spelled, (at-end bytes next all, whole)) (all_taken e)
+    (ap (λ x. lines_verdict x p.before) (sym same) ∙ p.are_taken))
+
+pub ended-empty :
+    (problem : List Annotated) (bytes : List ℕ) (s : Setting) (next : ℕ) (e : Taken)
+    → s ≡ setting_of problem → Progress bytes s next e → length (lexed_of bytes).tokens ≤ next → (lexed_of bytes).fault ≡ None
+    → ends_empty e.lines ≡ true → IsAcceptedDerivation problem bytes (length e.lines)
+ended-empty problem bytes s next e same p all whole ends = ended-so problem bytes s next e true same p all whole ends
+
+pub ended-early :
+    (problem : List Annotated) (bytes : List ℕ) (s : Setting) (next : ℕ) (e : Taken)
+    → s ≡ setting_of problem → Progress bytes s next e → length (lexed_of bytes).tokens ≤ next → (lexed_of bytes).fault ≡ None
+    → ends_empty e.lines ≡ false → IsRefusedDerivation problem bytes (length e.lines) no_empty_clause
+ended-early problem bytes s next e same p all whole ends = ended-so problem bytes s next e false same p all whole ends
