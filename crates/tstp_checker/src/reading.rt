@@ -1,6 +1,6 @@
 // One line of a derivation, read from the text's tokens.
 
-ghost use Rattle.std.specs.Prelude.{◌≡◌, ◌<◌, ◌≤◌, IfOk, IfSome, IfNone, length, drop};
+ghost use Rattle.std.specs.Prelude.{◌≡◌, ◌<◌, ◌≤◌, ◌-◌, IfOk, IfSome, IfNone, length, take, drop};
 ghost use Rattle.tptp_token.specs.Lexing.{lexed_of};
 ghost use Rattle.clausal_form.specs.DerivationTexts.{text_tokens, NoLineBegins};
 ghost use Rattle.tstp_checker.specs.Reading.{IsLineAt};
@@ -9,7 +9,7 @@ use plain_types::{Mem, NoMemory};
 use std::alloc::Global;
 use tptp_reader::{Read, ReadFault, annotated};
 use tptp_source::{Source, read_source};
-use tptp_token::{Lexed, MOST_TEXT_BYTES};
+use tptp_token::{Lexed, MOST_TEXT_BYTES, Token};
 use tptp_tree::{Annotated, MOST_DERIVATION_NESTING};
 
 /// A line as it was read, and the token behind it by its index.
@@ -38,11 +38,22 @@ pub(crate) fn line_at(
         Err(ReadFault::NoMemory) => return Err(NoMemory),
         Err(ReadFault::At(..)) => return Ok(None),
     };
-    let notes = &lexed.tokens.as_slice()[read.notes_start..read.notes_end];
-    let source = read_source(alloc, bytes, notes)?;
-    Ok(source.map(|source| ReadLine {
+    let notes = notes_of(lexed.tokens.as_slice(), &read);
+    let Some(source) = read_source(alloc, bytes, notes)? else {
+        return Ok(None);
+    };
+    Ok(Some(ReadLine {
         annotated: read.annotated,
         source,
         next: read.next,
     }))
+}
+
+/// The tokens of a formula's notes.
+fn notes_of<'a>(tokens: &'a [Token], read: &Read) -> &'a [Token]
+    requires ordered { read.now.notes_start ≤ read.now.notes_end }
+    requires within { read.now.notes_end ≤ length tokens.now }
+    ensures { result.now ≡ take (read.now.notes_end - read.now.notes_start) (drop read.now.notes_start tokens.now) }
+{
+    &tokens[read.notes_start..read.notes_end]
 }
