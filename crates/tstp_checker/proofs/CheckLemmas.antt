@@ -12,12 +12,12 @@ use Rattle.tptp_token.specs.declared.piece.Piece.TheVariants.{Token, Space, Bad,
 use Rattle.tptp_tree.specs.declared.problem.Annotated.{Annotated}
 use Rattle.clausal_form.specs.DerivationLine.{LineTree, NamedLine, Taken, nothing_taken}
 use Rattle.clausal_form.specs.DerivationParts.{Setting, setting_of}
-use Rattle.clausal_form.specs.DerivationCauses.{Cause, text, no_empty_clause, LineVerdict, refused, taken, line_verdict}
-use Rattle.clausal_form.specs.DerivationLines.{all_taken, refused_at, after_line, then_line, lines_verdict_from, lines_verdict, ends_empty, accepted, refused_line}
+use Rattle.clausal_form.specs.DerivationCauses.{Cause, LineVerdict, refused, taken, line_verdict}
+use Rattle.clausal_form.specs.DerivationLines.{all_taken, refused_at, after_line, then_line, lines_verdict_from, lines_verdict, Answer}
 use Rattle.clausal_form.specs.DerivationTexts.{SpellsLines, text_tokens, IsEnd, NoLineBegins, IsAcceptedDerivation, IsRefusedDerivation, IsAnswerOn}
 use Rattle.clausal_form.proofs.TextLemmas.{joined, verdict-joined}
 use Rattle.clausal_form.proofs.SpelledLemmas.{answered}
-use Rattle.tstp_checker.specs.Checking.{IsTakenAt, IsRefusedAt}
+use Rattle.tstp_checker.specs.Checking.{IsTakenAt, IsRefusedAt, AreTakenTo, ending_answer}
 use Rattle.tstp_checker.proofs.ReadingLemmas.{line-phrase}
 
 -- ---- a text has at most one token for each byte
@@ -43,16 +43,7 @@ text-tokens-few bytes = tokens-few 0 0 bytes
 
 -- ---- the lines before a token
 
--- lines that are taken stand before the token `next`
-pub record Progress (bytes : List ℕ) (s : Setting) (next : ℕ) (e : Taken) : Type 0 where
-  pub before : List LineTree
-  pub spelled : SpellsLines (text_tokens bytes) before (drop next (text_tokens bytes))
-  pub are_taken : lines_verdict s before ≡ all_taken e
-  pub many : length before ≡ length e.lines
-  pub few : length e.lines ≤ next
-  pub within : next ≤ length (lexed_of bytes).tokens
-
-pub begun : (bytes : List ℕ) (s : Setting) → Progress bytes s 0 nothing_taken
+pub begun : (bytes : List ℕ) (s : Setting) → AreTakenTo bytes s 0 nothing_taken
 begun bytes s = record {
   before = [];
   spelled = record { phrases = []; spelled = refl; lines = tt };
@@ -74,7 +65,7 @@ one-line-more s e d t h = by (line_verdict s e t) h
 
 pub one-more :
     (bytes : List ℕ) (s : Setting) (first next : ℕ) (e d : Taken)
-    → Progress bytes s first e → IsTakenAt bytes s first e next d → Progress bytes s next d
+    → AreTakenTo bytes s first e → IsTakenAt bytes s first e next d → AreTakenTo bytes s next d
 one-more bytes s first next e d p k =
     let more = one-line-more s e d k.tree k.taken in
     let on : first < next = k.onward in
@@ -102,7 +93,7 @@ goes-on bytes first small end =
 
 refused-there :
     (problem : List Annotated) (bytes : List ℕ) (first : ℕ) (e : Taken) (number : ℕ) (cause : Cause)
-    → first < length (lexed_of bytes).tokens → Progress bytes (setting_of problem) first e
+    → first < length (lexed_of bytes).tokens → AreTakenTo bytes (setting_of problem) first e
     → IsRefusedAt bytes (setting_of problem) first e number cause → IsRefusedDerivation problem bytes number cause
 refused-there problem bytes first e number cause small p (inl (none, number_is, cause_is)) = record {
   before = p.before;
@@ -131,60 +122,43 @@ refused-there problem bytes first e number cause small p (inr (tree, more, spell
 
 pub line-refused :
     (problem : List Annotated) (bytes : List ℕ) (s : Setting) (first : ℕ) (e : Taken) (number : ℕ) (cause : Cause)
-    → s ≡ setting_of problem → first < length (lexed_of bytes).tokens → Progress bytes s first e → IsRefusedAt bytes s first e number cause
+    → s ≡ setting_of problem → first < length (lexed_of bytes).tokens → AreTakenTo bytes s first e → IsRefusedAt bytes s first e number cause
     → IsRefusedDerivation problem bytes number cause
 line-refused problem bytes s first e number cause same small p h =
-    refused-there problem bytes first e number cause small (subst (λ x. Progress bytes x first e) same p)
+    refused-there problem bytes first e number cause small (subst (λ x. AreTakenTo bytes x first e) same p)
     (subst (λ x. IsRefusedAt bytes x first e number cause) same h)
 
 -- ---- the end
 
-at-end : (bytes : List ℕ) (next : ℕ) → length (lexed_of bytes).tokens ≤ next → drop next (text_tokens bytes) ≡ []
-at-end bytes next all = drop_all next (text_tokens bytes) (omega (arith, all, text-long bytes))
+at-end : (bytes : List ℕ) → drop (length (lexed_of bytes).tokens) (text_tokens bytes) ≡ []
+at-end bytes = drop_all (length (lexed_of bytes).tokens) (text_tokens bytes) (omega (arith, text-long bytes))
 
 nothing-begins : (tokens : List Lexeme) → tokens ≡ [] → NoLineBegins tokens
 nothing-begins tokens e t rest spelled =
     let p = line-phrase tokens t rest spelled in let f = p.spelled in cc
 
-pub cut-off :
-    (problem : List Annotated) (bytes : List ℕ) (s : Setting) (next : ℕ) (e : Taken) (fault : LexFault) (number : ℕ)
-    → s ≡ setting_of problem → Progress bytes s next e → length (lexed_of bytes).tokens ≤ next → (lexed_of bytes).fault ≡ Some fault
-    → number ≡ length e.lines + 1 → IsRefusedDerivation problem bytes number text
-cut-off problem bytes s next e fault number same p all some number_is = record {
-  before = p.before;
-  rest = drop next (text_tokens bytes);
-  spelled = p.spelled;
-  taken = e;
-  all_before = ap (λ x. lines_verdict x p.before) (sym same) ∙ p.are_taken;
-  wrong =
-      inr
-      (inl (
-        (λ end. let none = end.1 in cc),
-        nothing-begins (drop next (text_tokens bytes)) (at-end bytes next all),
-        number_is ∙ ap (λ n. n + 1) (sym p.many),
-        refl,
-      ));
-}
+pub answer-so :
+    (problem : List Annotated) (bytes : List ℕ) (s : Setting) (e : Taken) (x : Answer)
+    → s ≡ setting_of problem → AreTakenTo bytes s (length (lexed_of bytes).tokens) e → ending_answer (lexed_of bytes).fault e.lines ≡ x
+    → IsAnswerOn problem bytes x
+answer-so problem bytes s e x same p answer_is = subst (IsAnswerOn problem bytes) answer_is (by (lexed_of bytes).fault refl)
+  where
+    rest : List Lexeme
+    rest = drop (length (lexed_of bytes).tokens) (text_tokens bytes)
 
--- where all lines are taken, and nothing is behind them
-ended-so :
-    (problem : List Annotated) (bytes : List ℕ) (s : Setting) (next : ℕ) (e : Taken) (b : Bool)
-    → s ≡ setting_of problem → Progress bytes s next e → length (lexed_of bytes).tokens ≤ next → (lexed_of bytes).fault ≡ None
-    → ends_empty e.lines ≡ b
-    → IsAnswerOn problem bytes (if b then accepted (length e.lines) else refused_line (length e.lines) no_empty_clause)
-ended-so problem bytes s next e b same p all whole ends =
-    subst (λ x. IsAnswerOn problem bytes (if x then accepted (length e.lines) else refused_line (length e.lines) no_empty_clause)) ends
-    (answered problem bytes p.before (drop next (text_tokens bytes), p.spelled, (at-end bytes next all, whole)) (all_taken e)
-    (ap (λ x. lines_verdict x p.before) (sym same) ∙ p.are_taken))
+    taken_here : lines_verdict (setting_of problem) p.before ≡ all_taken e
+    taken_here = ap (λ x. lines_verdict x p.before) (sym same) ∙ p.are_taken
 
-pub ended-empty :
-    (problem : List Annotated) (bytes : List ℕ) (s : Setting) (next : ℕ) (e : Taken)
-    → s ≡ setting_of problem → Progress bytes s next e → length (lexed_of bytes).tokens ≤ next → (lexed_of bytes).fault ≡ None
-    → ends_empty e.lines ≡ true → IsAcceptedDerivation problem bytes (length e.lines)
-ended-empty problem bytes s next e same p all whole ends = ended-so problem bytes s next e true same p all whole ends
-
-pub ended-early :
-    (problem : List Annotated) (bytes : List ℕ) (s : Setting) (next : ℕ) (e : Taken)
-    → s ≡ setting_of problem → Progress bytes s next e → length (lexed_of bytes).tokens ≤ next → (lexed_of bytes).fault ≡ None
-    → ends_empty e.lines ≡ false → IsRefusedDerivation problem bytes (length e.lines) no_empty_clause
-ended-early problem bytes s next e same p all whole ends = ended-so problem bytes s next e false same p all whole ends
+    by : (fault : Option LexFault) → (lexed_of bytes).fault ≡ fault → IsAnswerOn problem bytes (ending_answer fault e.lines)
+    by None whole = answered problem bytes p.before (rest, p.spelled, (at-end bytes, whole)) (all_taken e) taken_here
+    by (Some fault) some = record {
+      before = p.before;
+      rest = rest;
+      spelled = p.spelled;
+      taken = e;
+      all_before = taken_here;
+      wrong =
+          inr
+          (inl
+          ((λ end. let none = end.1 in cc), nothing-begins rest (at-end bytes), ap (λ n. n + 1) (sym p.many), refl));
+    }

@@ -6,14 +6,16 @@ ghost use Rattle.signature.specs.Form.{clausal_form};
 ghost use Rattle.clausal_form.specs.Form.{form_of};
 ghost use Rattle.clausal_form.specs.FormFunctions.{IsHerbrandRefuted};
 ghost use Rattle.clausal_form.specs.DerivationTexts.{IsAcceptedDerivation};
-ghost use Rattle.tstp_checker.specs.Lines.{setting_in, taken_in, IsReady};
-ghost use Rattle.tstp_checker.specs.Checking.{IsRefusalWhere, IsTakenAt, IsRefusedAt, IsCheckFault};
+ghost use Rattle.clausal_form.specs.DerivationLine.{nothing_taken};
+ghost use Rattle.clausal_form.specs.DerivationLines.{accepted, refused_line};
+ghost use Rattle.tstp_checker.specs.Lines.{line_meant, setting_in, taken_in, IsReady, IsJudged};
+ghost use Rattle.tstp_checker.specs.Checking.{IsRefusalWhere, IsTakenAt, IsRefusedAt, AreTakenTo, ending_answer, IsCheckFault};
 
 use crate::cause::Cause;
 use crate::lines::Lines;
-use crate::reading::line_at;
+use crate::reading::{ReadLine, line_at};
 use clausal_form::Clausal;
-use plain_types::NoMemory;
+use plain_types::{Mem, NoMemory};
 use std::alloc::Global;
 use tptp_token::{Lexed, MOST_TEXT_BYTES, tokens};
 use tptp_tree::Problem;
@@ -63,27 +65,36 @@ pub fn check(
 {
     let lexed = tokens(alloc, text)?;
     let mut lines = Lines::new(alloc, problem.formulas.as_slice(), form)?;
-    let mut next = 0;
-    while next < lexed.tokens.len() {
-        next = take_line(alloc, text, &lexed, next, &mut lines)?;
-    }
-    let last = lines.len() as u32;
-    if lexed.fault.is_some() {
-        return Err(CheckFault::Refused {
-            line: last + 1,
-            cause: Cause::Text,
-        });
-    }
-    if !lines.ends_empty() {
-        return Err(CheckFault::Refused {
-            line: last,
-            cause: Cause::NoEmptyClause,
-        });
-    }
-    Ok(Accepted { lines: last })
+    take_lines(alloc, text, &lexed, &mut lines)?;
+    ending(&lexed, &lines)
 }
 
-/// Reads the line at a token, takes it behind those before it, and tells the token behind it. Lines take a token at least.
+/// Takes the lines of a text up to the end of its tokens.
+fn take_lines(
+    alloc: Global,
+    text: &[u8],
+    lexed: &Lexed,
+    lines: &mut Lines<'_>,
+) -> Result<(), CheckFault>
+    requires lexed { lexed.now ≡ lexed_of text.now }
+    requires small { length text.now ≤ MOST_TEXT_BYTES }
+    requires ready { IsReady lines.old }
+    requires none { taken_in lines.old ≡ nothing_taken }
+    requires form { (setting_in lines.old).form ≡ clausal_form (setting_in lines.old).problem }
+    ensures taken { IfOk result (λ _.
+        AreTakenTo text.now (setting_in lines.old) (length lexed.now.tokens) (taken_in lines.new)) }
+    ensures refused { IfErr result (IsCheckFault (setting_in lines.old).problem text.now) }
+    ensures setting { setting_in lines.new ≡ setting_in lines.old }
+{
+    let mut next = 0;
+    while next < lexed.tokens.len() {
+        next = take_line(alloc, text, lexed, next, lines)?;
+    }
+    Ok(())
+}
+
+/// Reads the line at a token, takes it behind those before it, and tells the token behind it. Each line before it has a token
+/// at least.
 fn take_line(
     alloc: Global,
     text: &[u8],
@@ -110,11 +121,46 @@ fn take_line(
             cause: Cause::Text,
         });
     };
-    match lines.judge(alloc, &line.annotated, &line.source)? {
-        None => Ok(line.next),
+    let next = line.next;
+    match judge_line(alloc, lines, line)? {
+        None => Ok(next),
         Some(cause) => Err(CheckFault::Refused {
             line: number,
             cause,
         }),
     }
+}
+
+/// Judges a line, and lets it go.
+fn judge_line(alloc: Global, lines: &mut Lines<'_>, line: ReadLine) -> Mem<Option<Cause>>
+    requires ready { IsReady lines.old }
+    ensures judged { IfOk result (λ cause. IsJudged (setting_in lines.old) (taken_in lines.old)
+        (line_meant line.annotated line.source) cause (taken_in lines.new)) }
+    ensures ready { IfOk result (λ _. IsReady lines.new) }
+    ensures setting { setting_in lines.new ≡ setting_in lines.old }
+{
+    lines.judge(alloc, &line.annotated, &line.source)
+}
+
+/// The answer behind the last token, where all lines are taken.
+fn ending(lexed: &Lexed, lines: &Lines<'_>) -> Result<Accepted, CheckFault>
+    requires few { length (taken_in lines.now).lines ≤ MOST_TEXT_BYTES }
+    ensures accepted { IfOk result (λ a. ending_answer lexed.now.fault (taken_in lines.now).lines ≡ accepted a.lines) }
+    ensures refused { IfErr result (IsRefusalWhere (λ line cause.
+        ending_answer lexed.now.fault (taken_in lines.now).lines ≡ refused_line line cause)) }
+{
+    let last = lines.len() as u32;
+    if lexed.fault.is_some() {
+        return Err(CheckFault::Refused {
+            line: last + 1,
+            cause: Cause::Text,
+        });
+    }
+    if !lines.ends_empty() {
+        return Err(CheckFault::Refused {
+            line: last,
+            cause: Cause::NoEmptyClause,
+        });
+    }
+    Ok(Accepted { lines: last })
 }

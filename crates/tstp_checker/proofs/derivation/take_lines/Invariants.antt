@@ -1,15 +1,14 @@
 use Rattle.std.proofs.Common.{◌≡◌, ◌-◌, length}
-use Rattle.clausal_form.specs.DerivationParts.{setting_of}
 use Rattle.tstp_checker.specs.Lines.{setting_in, taken_in, IsReady}
-use Rattle.tstp_checker.proofs.CheckLemmas.{Progress}
-use Rattle.tstp_checker.proofs.derivation.check.Given as goal
+use Rattle.tstp_checker.specs.Checking.{AreTakenTo}
+use Rattle.tstp_checker.proofs.derivation.take_lines.Given as goal
 
 abbrev pub invariant-loop-next : goal.invariant-loop-next
 invariant-loop-next l =
     record {
       ready : IsReady l.lines;
-      setting : setting_in l.lines ≡ setting_of l.problem.formulas;
-      progress : Progress l.text (setting_in l.lines) l.next (taken_in l.lines);
+      setting : setting_in l.lines ≡ setting_in l.fn.lines;
+      taken : AreTakenTo l.text (setting_in l.fn.lines) l.next (taken_in l.lines);
     }
 
 abbrev pub decreases-loop-next : goal.decreases-loop-next
