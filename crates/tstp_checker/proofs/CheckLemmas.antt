@@ -1,6 +1,6 @@
 -- The check of a derivation, line by line.
-use Rattle.std.proofs.Common.{◌≡◌, inl, inr, ⊎_elim, ℕ, zero, suc, ◌+◌, ◌-◌, ◌<◌, ◌≤◌, Bool, true, false, Option, None, Some, List, [], ◌∷◌, ◌++◌, length, drop, refl, ap, sym, ◌∙◌, subst, arith}
-use Rattle.std.specs.Prelude.{if◌then◌else◌}
+use Rattle.std.proofs.Common.{◌≡◌, inl, inr, ⊎_elim, ℕ, zero, suc, ◌+◌, ◌-◌, ◌<◌, ◌≤◌, Bool, true, false, Option, None, Some, Result, Ok, Err, List, [], ◌∷◌, ◌++◌, length, drop, refl, ap, sym, ◌∙◌, subst, arith}
+use Rattle.std.specs.Prelude.{IfOk, IfErr, IsErrAnd}
 use Rattle.std.proofs.lemmas.List.{length-append, length-map, drop_all, length-drop}
 use Rattle.tptp_token.specs.Lexemes.{Lexeme, lexeme_at}
 use Rattle.tptp_token.specs.Lexing.{with_piece, piece_length, lexed_from, lexed_of}
@@ -10,14 +10,21 @@ use Rattle.tptp_token.specs.declared.token.LexFault.{LexFault}
 use Rattle.tptp_token.specs.declared.piece.Piece.{Piece}
 use Rattle.tptp_token.specs.declared.piece.Piece.TheVariants.{Token, Space, Bad, Unclosed}
 use Rattle.tptp_tree.specs.declared.problem.Annotated.{Annotated}
+use Rattle.signature.specs.Form.{ClausalForm, clausal_form}
+use Rattle.clausal_form.specs.FormFunctions.{IsHerbrandRefuted}
 use Rattle.clausal_form.specs.DerivationLine.{LineTree, NamedLine, Taken, nothing_taken}
 use Rattle.clausal_form.specs.DerivationParts.{Setting, setting_of}
 use Rattle.clausal_form.specs.DerivationCauses.{Cause, LineVerdict, refused, taken, line_verdict}
-use Rattle.clausal_form.specs.DerivationLines.{all_taken, refused_at, after_line, then_line, lines_verdict_from, lines_verdict, Answer}
+use Rattle.clausal_form.specs.DerivationLines.{all_taken, refused_at, after_line, then_line, lines_verdict_from, lines_verdict, Answer, accepted, refused_line}
 use Rattle.clausal_form.specs.DerivationTexts.{SpellsLines, text_tokens, IsEnd, NoLineBegins, IsAcceptedDerivation, IsRefusedDerivation, IsAnswerOn}
 use Rattle.clausal_form.proofs.TextLemmas.{joined, verdict-joined}
 use Rattle.clausal_form.proofs.SpelledLemmas.{answered}
-use Rattle.tstp_checker.specs.Checking.{IsTakenAt, IsRefusedAt, AreTakenTo, ending_answer}
+use Rattle.clausal_form.proofs.RefutationLemmas.{accepted_derivations_refute}
+use Rattle.tstp_checker.specs.Causes.{cause_meant}
+use Rattle.tstp_checker.specs.Checking.{IsRefusalWhere, IsTakenAt, IsRefusedAt, ending_answer, IsCheckFault}
+use Rattle.tstp_checker.specs.declared.derivation.Accepted.{Accepted}
+use Rattle.tstp_checker.specs.declared.derivation.CheckFault.{CheckFault}
+use Rattle.tstp_checker.specs.declared.derivation.CheckFault.TheVariants.{NoMemory, Refused}
 use Rattle.tstp_checker.proofs.ReadingLemmas.{line-phrase}
 
 -- ---- a text has at most one token for each byte
@@ -42,6 +49,15 @@ unfolding lexed_of
 text-tokens-few bytes = tokens-few 0 0 bytes
 
 -- ---- the lines before a token
+
+-- All lines before the token `next` are taken. Each has a token at least.
+pub record AreTakenTo (bytes : List ℕ) (s : Setting) (next : ℕ) (e : Taken) : Type 0 where
+  pub before : List LineTree
+  pub spelled : SpellsLines (text_tokens bytes) before (drop next (text_tokens bytes))
+  pub are_taken : lines_verdict s before ≡ all_taken e
+  pub many : length before ≡ length e.lines
+  pub few : length e.lines ≤ next
+  pub within : next ≤ length (lexed_of bytes).tokens
 
 pub begun : (bytes : List ℕ) (s : Setting) → AreTakenTo bytes s 0 nothing_taken
 begun bytes s = record {
@@ -128,6 +144,18 @@ line-refused problem bytes s first e number cause same small p h =
     refused-there problem bytes first e number cause small (subst (λ x. AreTakenTo bytes x first e) same p)
     (subst (λ x. IsRefusedAt bytes x first e number cause) same h)
 
+pub own-setting : (s : Setting) → s.form ≡ clausal_form s.problem → s ≡ setting_of s.problem
+own-setting s h = ap (λ (f : ClausalForm). let x : Setting = record { problem = s.problem; form = f } in x) h
+
+pub fault-told :
+    (bytes : List ℕ) (s t : Setting) (first : ℕ) (e : Taken) (fault : CheckFault)
+    → s.form ≡ clausal_form s.problem → t ≡ s → first < length (lexed_of bytes).tokens → AreTakenTo bytes s first e
+    → IsRefusalWhere (IsRefusedAt bytes t first e) fault → IsCheckFault s.problem bytes fault
+fault-told bytes s t first e NoMemory own same small p h = tt
+fault-told bytes s t first e (Refused number cause) own same small p h =
+    line-refused s.problem bytes s first e number (cause_meant cause) (own-setting s own) small p
+    (subst (λ x. IsRefusedAt bytes x first e number (cause_meant cause)) same h)
+
 -- ---- the end
 
 at-end : (bytes : List ℕ) → drop (length (lexed_of bytes).tokens) (text_tokens bytes) ≡ []
@@ -162,3 +190,63 @@ answer-so problem bytes s e x same p answer_is = subst (IsAnswerOn problem bytes
           (inl
           ((λ end. let none = end.1 in cc), nothing-begins rest (at-end bytes), ap (λ n. n + 1) (sym p.many), refl));
     }
+
+-- ---- what is answered then
+
+ended-to :
+    (bytes : List ℕ) (lexed : Lexed) (s : Setting) (next : ℕ) (e : Taken) → lexed ≡ lexed_of bytes → length lexed.tokens ≤ next
+    → AreTakenTo bytes s next e → AreTakenTo bytes s (length (lexed_of bytes).tokens) e
+ended-to bytes lexed s next e same all p =
+    let many = ap (λ (x : Lexed). length x.tokens) same in
+    let last : next ≡ length (lexed_of bytes).tokens = omega (arith, many, all, p.within) in
+    subst (λ n. AreTakenTo bytes s n e) last p
+
+answer-to :
+    (bytes : List ℕ) (lexed : Lexed) (s : Setting) (next : ℕ) (e : Taken) (x : Answer)
+    → lexed ≡ lexed_of bytes → s.form ≡ clausal_form s.problem → length lexed.tokens ≤ next → AreTakenTo bytes s next e
+    → ending_answer lexed.fault e.lines ≡ x → IsAnswerOn s.problem bytes x
+answer-to bytes lexed s next e x same own all p h =
+    answer-so s.problem bytes s e x (own-setting s own) (ended-to bytes lexed s next e same all p)
+    (ap (λ (y : Lexed). ending_answer y.fault e.lines) (sym same) ∙ h)
+
+pub ended-accepted :
+    (bytes : List ℕ) (lexed : Lexed) (s : Setting) (next : ℕ) (e : Taken) (result : Result Accepted CheckFault)
+    → lexed ≡ lexed_of bytes → s.form ≡ clausal_form s.problem → length lexed.tokens ≤ next → AreTakenTo bytes s next e
+    → IfOk result (λ a. ending_answer lexed.fault e.lines ≡ accepted a.lines)
+    → IfOk result (λ a. IsAcceptedDerivation s.problem bytes a.lines)
+ended-accepted bytes lexed s next e (Ok a) same own all p h = answer-to bytes lexed s next e (accepted a.lines) same own all p h
+ended-accepted bytes lexed s next e (Err fault) same own all p h = tt
+
+pub ended-refused :
+    (bytes : List ℕ) (lexed : Lexed) (s : Setting) (next : ℕ) (e : Taken) (result : Result Accepted CheckFault)
+    → lexed ≡ lexed_of bytes → s.form ≡ clausal_form s.problem → length lexed.tokens ≤ next → AreTakenTo bytes s next e
+    → IfErr result (IsRefusalWhere (λ line cause. ending_answer lexed.fault e.lines ≡ refused_line line cause))
+    → IfErr result (IsCheckFault s.problem bytes)
+ended-refused bytes lexed s next e (Ok a) same own all p h = tt
+ended-refused bytes lexed s next e (Err NoMemory) same own all p h = tt
+ended-refused bytes lexed s next e (Err (Refused line cause)) same own all p h =
+    answer-to bytes lexed s next e (refused_line line (cause_meant cause)) same own all p h
+
+-- ---- the problem's own answer
+
+pub accepted-so :
+    (problem other : List Annotated) (bytes : List ℕ) (result : Result Accepted CheckFault) → other ≡ problem
+    → IfOk result (λ a. IsAcceptedDerivation other bytes a.lines) → IfOk result (λ a. IsAcceptedDerivation problem bytes a.lines)
+accepted-so problem other bytes result same h =
+    subst (λ fs. IfOk result (λ (a : Accepted). IsAcceptedDerivation fs bytes a.lines)) same h
+
+pub refused-so :
+    (problem other : List Annotated) (bytes : List ℕ) (result : Result Accepted CheckFault) → other ≡ problem
+    → IfErr result (IsCheckFault other bytes) → IfErr result (IsCheckFault problem bytes)
+refused-so problem other bytes result same h = subst (λ fs. IfErr result (IsCheckFault fs bytes)) same h
+
+pub accepted-refutes :
+    (problem : List Annotated) (bytes : List ℕ) (result : Result Accepted CheckFault)
+    → IfOk result (λ a. IsAcceptedDerivation problem bytes a.lines) → IfOk result (λ a. IsHerbrandRefuted problem)
+accepted-refutes problem bytes (Ok a) h = accepted_derivations_refute problem bytes a.lines h
+accepted-refutes problem bytes (Err fault) h = tt
+
+-- what a call passes on
+pub passed : {Y E : Type 0} (q : Result Y E) (fault : E) (P : E → Type 0) → IsErrAnd q (λ e. e ≡ fault) → P fault → IfErr q P
+passed (Ok y) fault P e h = tt
+passed (Err x) fault P e h = subst P (sym e) h

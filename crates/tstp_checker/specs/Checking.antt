@@ -7,7 +7,7 @@ use Rattle.tptp_tree.specs.declared.problem.Annotated.{Annotated}
 use Rattle.clausal_form.specs.DerivationLine.{LineTree, NamedLine, Taken}
 use Rattle.clausal_form.specs.DerivationParts.{Setting}
 use Rattle.clausal_form.specs.DerivationCauses.{Cause as LineCause, text, no_empty_clause}
-use Rattle.clausal_form.specs.DerivationLines.{all_taken, refused_at, then_line, lines_verdict, ends_empty, Answer, accepted, refused_line}
+use Rattle.clausal_form.specs.DerivationLines.{all_taken, refused_at, then_line, ends_empty, Answer, accepted, refused_line}
 use Rattle.clausal_form.specs.DerivationTexts.{text_tokens, SpellsLines, NoLineBegins, IsRefusedDerivation}
 use Rattle.tstp_checker.specs.Causes.{cause_meant}
 use Rattle.tstp_checker.specs.declared.derivation.CheckFault.{CheckFault}
@@ -32,15 +32,6 @@ IsRefusedAt bytes s first before number cause =
     NoLineBegins (drop first (text_tokens bytes)) × (number ≡ length before.lines + 1) × (cause ≡ text)
     ⊎ (tree : LineTree) × (more : List Lexeme) × SpellsLines (drop first (text_tokens bytes)) (tree ∷ []) more
     × (then_line s (all_taken before) tree ≡ refused_at number cause)
-
--- All lines before the token `next` are taken. Each has a token at least.
-pub record AreTakenTo (bytes : List ℕ) (s : Setting) (next : ℕ) (e : Taken) : Type 0 where
-  pub before : List LineTree
-  pub spelled : SpellsLines (text_tokens bytes) before (drop next (text_tokens bytes))
-  pub are_taken : lines_verdict s before ≡ all_taken e
-  pub many : length before ≡ length e.lines
-  pub few : length e.lines ≤ next
-  pub within : next ≤ length (lexed_of bytes).tokens
 
 -- the answer behind the last token, by the fault of the tokens and the lines that are taken
 abbrev pub ending_answer : Option LexFault → List NamedLine → Answer

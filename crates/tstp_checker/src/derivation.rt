@@ -9,7 +9,7 @@ ghost use Rattle.clausal_form.specs.DerivationTexts.{IsAcceptedDerivation};
 ghost use Rattle.clausal_form.specs.DerivationLine.{nothing_taken};
 ghost use Rattle.clausal_form.specs.DerivationLines.{accepted, refused_line};
 ghost use Rattle.tstp_checker.specs.Lines.{line_meant, setting_in, taken_in, IsReady, IsJudged};
-ghost use Rattle.tstp_checker.specs.Checking.{IsRefusalWhere, IsTakenAt, IsRefusedAt, AreTakenTo, ending_answer, IsCheckFault};
+ghost use Rattle.tstp_checker.specs.Checking.{IsRefusalWhere, IsTakenAt, IsRefusedAt, ending_answer, IsCheckFault};
 
 use crate::cause::Cause;
 use crate::lines::Lines;
@@ -65,32 +65,29 @@ pub fn check(
 {
     let lexed = tokens(alloc, text)?;
     let mut lines = Lines::new(alloc, problem.formulas.as_slice(), form)?;
-    take_lines(alloc, text, &lexed, &mut lines)?;
-    ending(&lexed, &lines)
+    check_lines(alloc, text, &lexed, &mut lines)
 }
 
-/// Takes the lines of a text up to the end of its tokens.
-fn take_lines(
+/// Takes the lines of a text one after another, up to the end of its tokens.
+fn check_lines(
     alloc: Global,
     text: &[u8],
     lexed: &Lexed,
     lines: &mut Lines<'_>,
-) -> Result<(), CheckFault>
+) -> Result<Accepted, CheckFault>
     requires lexed { lexed.now ≡ lexed_of text.now }
     requires small { length text.now ≤ MOST_TEXT_BYTES }
     requires ready { IsReady lines.old }
     requires none { taken_in lines.old ≡ nothing_taken }
     requires form { (setting_in lines.old).form ≡ clausal_form (setting_in lines.old).problem }
-    ensures taken { IfOk result (λ _.
-        AreTakenTo text.now (setting_in lines.old) (length lexed.now.tokens) (taken_in lines.new)) }
+    ensures accepted { IfOk result (λ a. IsAcceptedDerivation (setting_in lines.old).problem text.now a.lines) }
     ensures refused { IfErr result (IsCheckFault (setting_in lines.old).problem text.now) }
-    ensures setting { setting_in lines.new ≡ setting_in lines.old }
 {
     let mut next = 0;
     while next < lexed.tokens.len() {
         next = take_line(alloc, text, lexed, next, lines)?;
     }
-    Ok(())
+    ending(lexed, lines)
 }
 
 /// Reads the line at a token, takes it behind those before it, and tells the token behind it. Each line before it has a token
