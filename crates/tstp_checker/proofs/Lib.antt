@@ -9,3 +9,5 @@ pub mod ItemLemmas
 pub mod InputLemmas
 pub mod PartLemmas
 pub mod StepLemmas
+pub mod ReadingLemmas
+pub mod CheckLemmas

@@ -10,3 +10,5 @@ pub mod Inputs
 pub mod Parts
 pub mod Causes
 pub mod Lines
+pub mod Reading
+pub mod Checking

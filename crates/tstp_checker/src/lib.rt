@@ -4,6 +4,7 @@
 mod bindings;
 mod cause;
 mod clause;
+mod derivation;
 mod formulas;
 mod inputs;
 mod items;
@@ -12,7 +13,9 @@ mod lines;
 mod names;
 mod numbers;
 mod parts;
+mod reading;
 mod steps;
 mod written;
 
 pub use cause::Cause;
+pub use derivation::{Accepted, CheckFault, check};
