@@ -1,2 +1,7 @@
 mod MarkLemmas
 mod EarlierLemmas
+mod TermTexts
+mod NoteLemmas
+mod CauseLemmas
+mod ClausePhrases
+mod LineLemmas

@@ -2,3 +2,10 @@ pub mod Cone
 pub mod ConeExamples
 pub mod Marks
 pub mod ConeLaws
+pub mod SourceTexts
+pub mod LineTexts
+pub mod ClauseTrees
+pub mod LineTrees
+pub mod Levels
+pub mod Printable
+pub mod TextExamples
