@@ -35,7 +35,7 @@ every-allowed (x ∷ xs) = (refl, every-allowed xs)
 bound-allowed : (scope : Scope) (xs ns : List (List ℕ)) → AllAllowed scope (without_names xs ns) → AllAllowed (scope_with scope xs) ns
 bound-allowed every_variable xs ns a = every-allowed ns
 bound-allowed (bound_ones ys) xs [] a = tt
-bound-allowed (bound_ones ys) xs (n ∷ ns) a = by (list_any (bytes_eq n) xs) refl a
+bound-allowed (bound_ones ys) xs (n ∷ ns) a = by (bound-allowed (bound_ones ys) xs ns) (list_any (bytes_eq n) xs) refl a
   where
     found : (t u : Bool) → list_any (bytes_eq n) xs ≡ t → list_any (bytes_eq n) ys ≡ u → list_any (bytes_eq n) (xs ++ ys) ≡ (t || u)
     found t u e f = list_any-append (bytes_eq n) xs ys ∙ ap (λ v. v || list_any (bytes_eq n) ys) e ∙ ap (λ v. t || v) f
@@ -48,12 +48,12 @@ bound-allowed (bound_ones ys) xs (n ∷ ns) a = by (list_any (bytes_eq n) xs) re
     outer false e h = absurd (let none : Some free_variable ≡ None = h in cc)
 
     by :
-        (t : Bool) → list_any (bytes_eq n) xs ≡ t
+        (AllAllowed (bound_ones ys) (without_names xs ns) → AllAllowed (bound_ones (xs ++ ys)) ns)
+        → (t : Bool) → list_any (bytes_eq n) xs ≡ t
         → AllAllowed (bound_ones ys) (if not t then n ∷ without_names xs ns else without_names xs ns)
         → AllAllowed (bound_ones (xs ++ ys)) (n ∷ ns)
-    by true e b = (ap cause (found true (list_any (bytes_eq n) ys) e refl), bound-allowed (bound_ones ys) xs ns b)
-    by false e b =
-        (ap cause (found false true e (outer (list_any (bytes_eq n) ys) refl b.0)), bound-allowed (bound_ones ys) xs ns b.1)
+    by more true e b = (ap cause (found true (list_any (bytes_eq n) ys) e refl), more b)
+    by more false e b = (ap cause (found false true e (outer (list_any (bytes_eq n) ys) refl b.0)), more b.1)
 
 -- ---- levels
 
@@ -208,9 +208,8 @@ mutual
       operand-fine f w.2 (formula-fine f w.2) under rest (fits-right (deeper s) 1 (unit_levels f) below)
       (bound-allowed s.scope (x ∷ xs) (free_names f) a) r in (
         fits-begun s (max 1 (unit_levels f)) h,
-        fits-begun (deeper s) 0 (fits-left (deeper s) 1 (unit_levels f) below),
-        refl,
-        variables-fine xs (None ∷ None ∷ unit_causes under (unit_of (phrase_of f)) rest) (refl, (refl, body)),
+        (fits-begun (deeper s) 0 (fits-left (deeper s) 1 (unit_levels f) below),
+        (refl, variables-fine xs (None ∷ None ∷ unit_causes under (unit_of (phrase_of f)) rest) (refl, (refl, body)))),
       )
 
   operands-fine :

@@ -180,7 +180,7 @@ body-is true f h w =
       causes =
           λ limit rest l r.
           subst AllNone (sym (c.causes (outermost limit true) rest))
-          (formula-fine f w (outermost limit true) rest l (every-allowed (free_names f)) r);
+          (formula-fine f w (outermost limit true) rest (omega (arith, l)) (every-allowed (free_names f)) r);
     }
 body-is false f h w =
     record {
@@ -189,7 +189,7 @@ body-is false f h w =
       meant = formula-meant f w;
       causes =
           λ limit rest l r.
-          formula-fine f w (outermost limit false) rest l (subst (AllAllowed (bound_ones [])) (sym h) tt) r;
+          formula-fine f w (outermost limit false) rest (omega (arith, l)) (subst (AllAllowed (bound_ones [])) (sym h) tt) r;
     }
 
 -- ---- lines
@@ -218,7 +218,7 @@ well-formula t p = subst WellFormula p.spelled.2 (spelled-well p.text p.spelled.
 
 source-fine : (t : LineTree) → IsPrintable t → Fine MOST_DERIVATION_NESTING [] (source_tokens t.source)
 source-fine t p =
-    term-fine MOST_DERIVATION_NESTING (source_term t.source) [] [] p.source p.source_levels (nothing-fine MOST_DERIVATION_NESTING)
+    term-fine MOST_DERIVATION_NESTING (source_term t.source) [] [] p.source (omega (arith, p.source_levels)) (nothing-fine MOST_DERIVATION_NESTING)
 
 line-is : (t : LineTree) → IsPrintable t → IsLineOf (line_phrase t) t
 line-is t p =
@@ -229,11 +229,11 @@ line-is t p =
     ap (λ l. role_of l (role_word (t.entry).role)) b.language ∙ role-taken (t.entry).is_clause (t.entry).role p.role in
     record {
       right = and_from (is_right_name (name_phrase (t.entry).name)) (are_balanced (source_tokens t.source)) (name-right (t.entry).name) notes.closed;
-      faultless = (refl, refl, refl, refl,
-      ap (λ o. untaken_role_cause o (role_word (t.entry).role)) role,
-      refl,
+      faultless = (refl, (refl, (refl, (refl,
+      (ap (λ o. untaken_role_cause o (role_word (t.entry).role)) role,
+      (refl,
       b.causes MOST_DERIVATION_NESTING (notes_part_causes MOST_DERIVATION_NESTING (source_tokens t.source) (None ∷ None ∷ [])) p.levels
-      (notes-fine MOST_DERIVATION_NESTING (source_tokens t.source) (None ∷ None ∷ []) notes (refl, refl, tt)));
+      (notes-fine MOST_DERIVATION_NESTING (source_tokens t.source) (None ∷ None ∷ []) notes (refl, (refl, tt)))))))));
       entry = record { name = sym (name-meant (t.entry).name); role = role; is_clause = sym b.language; formula = sym b.meant };
       source = source-spelled t.source p.source;
     }

@@ -1,5 +1,5 @@
 -- A printed general term has the tokens of its phrase, and these spell it.
-use Rattle.std.proofs.Common.{◌≡◌, ℕ, ◌+◌, ◌<◌, Bool, true, false, cond, List, [], ◌∷◌, ◌++◌, map, drop, length, codes, Some, refl, ap, ap₂, sym, ◌∙◌, subst, arith, append_assoc, append-nil, leb-true}
+use Rattle.std.proofs.Common.{◌≡◌, ℕ, ◌+◌, ◌<◌, Bool, true, false, cond, ◌&&◌, List, [], ◌∷◌, ◌++◌, map, drop, length, codes, Some, refl, ap, ap₂, sym, ◌∙◌, subst, arith, append_assoc, append-nil, leb-true}
 use Rattle.std.specs.Prelude.{nat_le, if◌then◌else◌}
 use Rattle.std.specs.List.{prefix_len, list_any, list_all}
 use Rattle.std.proofs.lemmas.Bool.{and_parts, agree_below_at}
@@ -9,7 +9,7 @@ use Rattle.tptp_token.specs.Longest.{longest}
 use Rattle.tptp_token.specs.Pieces.{starts_with_either}
 use Rattle.tptp_token.specs.Words.{name_text}
 use Rattle.tptp_token.specs.Lexemes.{Lexeme, lexeme, word_lexeme}
-use Rattle.tptp_token.specs.declared.token.Kind.TheVariants.{Variable, Number, Connective, Mark}
+use Rattle.tptp_token.specs.declared.token.Kind.TheVariants.{Variable, Dollar, Number, Connective, Mark}
 use Rattle.tptp_token.proofs.TestLemmas.{second-false}
 use Rattle.tptp_token.proofs.NumberLemmas.{NoDigit, no_exponent, fraction-none, number-length, number-piece}
 use Rattle.tptp_token.proofs.LexemeLemmas.{Lexes}
@@ -68,7 +68,7 @@ mutual
   pub part-front : (t : GeneralTree) (rest : List Lexeme) → part_lexemes (part_of t) rest ≡ part_lexemes (part_of t) [] ++ rest
   part-front (variable x) rest = refl
   part-front (word f ts) rest = ap (λ us. word_lexeme (word_of f) ∷ us) (arguments-front ts rest)
-  part-front (dollar d ts) rest = ap (λ us. _ ∷ us) (arguments-front ts rest)
+  part-front (dollar d ts) rest = ap (λ us. lexeme Dollar d ∷ us) (arguments-front ts rest)
   part-front (number Unsigned n) rest = refl
   part-front (number Plus n) rest = refl
   part-front (number Minus n) rest = refl
