@@ -33,9 +33,9 @@ abbrev pub with_sign : Bool → FormulaTree → FormulaTree
 with_sign true f = f
 with_sign false f = negation f
 
--- The atom that a term of a predicate is; symbol 0 is `$true`. No literal has a variable in the place of an atom.
+-- The atom that a term of a predicate is; symbol 0 is `$true`. No literal has a variable in the place of an atom, and here it is `$true`.
 abbrev pub atom_formula : List Symbol → Tree → FormulaTree
-atom_formula symbols (variable v) = predicate (variable_name v) no_terms
+atom_formula symbols (variable v) = truth
 atom_formula symbols (application f ts) = if f == 0 then truth else predicate (symbol_name symbols f) (term_trees symbols ts)
 
 -- an equation with `$true` is written as its atom

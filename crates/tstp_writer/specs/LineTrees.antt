@@ -26,6 +26,7 @@ use Rattle.tptp_source.specs.declared.sign.NumberSign.TheVariants.{Unsigned}
 use Rattle.tptp_source.specs.General.{GeneralTree, variable, word, number, negated, GeneralTrees, no_trees, tree_then}
 use Rattle.tptp_source.specs.Sources.{SourceTree, file_source, inference_source, component_source, opposite_source, word_of, list_of}
 use Rattle.clausal_form.specs.DerivationLine.{LineTree, entry_of}
+use Rattle.tstp_writer.specs.Cone.{parents_of}
 use Rattle.tstp_writer.specs.ClauseTrees.{term_tree, introduced_name, clause_formula}
 
 -- ---- what lines are written over
@@ -149,49 +150,56 @@ pivot_name false name = negated name
 abbrev pub pivot_item : List ℕ → NameLit → GeneralTree
 pivot_item prefix n = pivot_name n.positive (introduced_name prefix n.name)
 
--- ---- sources
+-- ---- the columns of the table of steps: rule, status, items, parents
 
-abbrev pub inferred : List ℕ → List ℕ → List GeneralTree → List (List ℕ) → SourceTree
-inferred rule status items parents = inference_source (named rule) (status_item status ∷ items) parents
+abbrev pub rule_word : Step → List ℕ
+rule_word (Negate place) = codes "negate"
+rule_word (Clausify i) = codes "clausify"
+rule_word (Para first second from from_side into into_side place first_bind second_bind) = codes "para"
+rule_word (Refl parent literal bind) = codes "refl"
+rule_word (Factor parent becomes becomes_side other other_side bind) = codes "factor"
+rule_word (Merge parent stays goes bind) = codes "merge"
+rule_word (Split parent definitions parts) = codes "split"
+rule_word (Chain parents pivots) = codes "chain"
+rule_word _ = []
 
-abbrev pub negate_source : Layout → ℕ → SourceTree
-negate_source layout place = inferred (codes "negate") (codes "cth") [] (cited_name layout place ∷ [])
+abbrev pub status_word : Step → List ℕ
+status_word (Negate place) = codes "cth"
+status_word (Clausify i) = codes "esa"
+status_word (Split parent definitions parts) = codes "esa"
+status_word _ = codes "thm"
+
+-- the items behind the status
+abbrev pub step_items : Script → Step → List GeneralTree
+step_items script (Clausify i) = word_of (codes "index") (number_item i ∷ []) ∷ []
+step_items script (Para first second from from_side into into_side place first_bind second_bind) =
+    from_item from from_side ∷ into_item into into_side place ∷ bind_item script.symbols first_bind ∷ bind_item script.symbols second_bind ∷ []
+step_items script (Refl parent literal bind) = literal_item literal ∷ bind_item script.symbols bind ∷ []
+step_items script (Factor parent becomes becomes_side other other_side bind) =
+    side_of_literal_item becomes becomes_side ∷ side_of_literal_item other other_side ∷ bind_item script.symbols bind ∷ []
+step_items script (Merge parent stays goes bind) = literal_item stays ∷ literal_item goes ∷ bind_item script.symbols bind ∷ []
+step_items script (Split parent definitions parts) = word_of (codes "parts") (list_of (map numbers_item parts) ∷ []) ∷ []
+step_items script (Chain parents pivots) = word_of (codes "pivots") (list_of (map (pivot_item script.prefix) pivots) ∷ []) ∷ []
+step_items script _ = []
 
 -- a clause comes from its formula's line, and from the negation's where the formula is a conjecture
 abbrev pub origin_name : Script → Layout → ℕ → List ℕ
 origin_name script layout place =
     if is_conjecture_at script place then negated_name layout place else cited_name layout place
 
--- Input and negate lines have none here: their sources are those of formulas.
-abbrev pub step_source : Script → Layout → Step → Option SourceTree
-step_source script layout (Input place) = None
-step_source script layout (Negate place) = None
-step_source script layout (Clausify i) =
-    Some (inferred (codes "clausify") (codes "esa") (word_of (codes "index") (number_item i ∷ []) ∷ [])
-    (origin_name script layout (origin script i) ∷ []))
-step_source script layout (Para first second from from_side into into_side place first_bind second_bind) =
-    Some (inferred (codes "para") (codes "thm")
-    (from_item from from_side ∷ into_item into into_side place ∷ bind_item script.symbols first_bind ∷ bind_item script.symbols second_bind ∷ [])
-    (derived_name layout first ∷ derived_name layout second ∷ []))
-step_source script layout (Refl parent literal bind) =
-    Some (inferred (codes "refl") (codes "thm") (literal_item literal ∷ bind_item script.symbols bind ∷ []) (derived_name layout parent ∷ []))
-step_source script layout (Factor parent becomes becomes_side other other_side bind) =
-    Some (inferred (codes "factor") (codes "thm")
-    (side_of_literal_item becomes becomes_side ∷ side_of_literal_item other other_side ∷ bind_item script.symbols bind ∷ [])
-    (derived_name layout parent ∷ []))
-step_source script layout (Merge parent stays goes bind) =
-    Some (inferred (codes "merge") (codes "thm") (literal_item stays ∷ literal_item goes ∷ bind_item script.symbols bind ∷ [])
-    (derived_name layout parent ∷ []))
-step_source script layout (Component name) =
-    Some (component_source (introduced_name script.prefix name))
-step_source script layout (Opposite name) =
-    Some (opposite_source (introduced_name script.prefix name))
-step_source script layout (Split parent definitions parts) =
-    Some (inferred (codes "split") (codes "esa") (word_of (codes "parts") (list_of (map numbers_item parts) ∷ []) ∷ [])
-    (map (derived_name layout) (parent ∷ definitions)))
-step_source script layout (Chain parents pivots) =
-    Some (inferred (codes "chain") (codes "thm") (word_of (codes "pivots") (list_of (map (pivot_item script.prefix) pivots) ∷ []) ∷ [])
-    (map (derived_name layout) parents))
+abbrev pub parent_names : Script → Layout → Step → List (List ℕ)
+parent_names script layout (Negate place) = cited_name layout place ∷ []
+parent_names script layout (Clausify i) = origin_name script layout (origin script i) ∷ []
+parent_names script layout step = map (derived_name layout) (parents_of step)
+
+-- ---- sources
+
+-- Each step but that of an input line has one.
+abbrev pub step_source : Script → Layout → Step → SourceTree
+step_source script layout (Component name) = component_source (introduced_name script.prefix name)
+step_source script layout (Opposite name) = opposite_source (introduced_name script.prefix name)
+step_source script layout step =
+    inference_source (named (rule_word step)) (status_item (status_word step) ∷ step_items script step) (parent_names script layout step)
 
 -- ---- lines
 
@@ -204,16 +212,16 @@ input_tree script name a =
     with_source (record a { name = name }) (file_source (named script.file) a.name)
 
 -- the negation of a formula
-abbrev pub negate_tree : Layout → List ℕ → ℕ → AnnotatedTree → LineTree
-negate_tree layout name place a =
+abbrev pub negate_tree : Script → Layout → List ℕ → ℕ → AnnotatedTree → LineTree
+negate_tree script layout name place a =
     with_source (record { name = name; role = NegatedConjecture; is_clause = false; formula = negation a.formula })
-    (negate_source layout place)
+    (step_source script layout (Negate place))
 
 abbrev pub input_at : Script → List ℕ → ℕ → Option LineTree
 input_at script name place = option_map (input_tree script name) (slice_get script.formulas place)
 
 abbrev pub negate_at : Script → Layout → List ℕ → ℕ → Option LineTree
-negate_at script layout name place = option_map (negate_tree layout name place) (slice_get script.formulas place)
+negate_at script layout name place = option_map (negate_tree script layout name place) (slice_get script.formulas place)
 
 -- a clause, with the step that gave it
 abbrev pub clause_tree : Script → List ℕ → TreeClause → SourceTree → LineTree
@@ -221,13 +229,13 @@ clause_tree script name c source =
     with_source
     (record { name = name; role = Plain; is_clause = true; formula = clause_formula script.symbols script.prefix c }) source
 
+abbrev pub line_tree_by : Script → Layout → List ℕ → TreeClause → Step → Option LineTree
+line_tree_by script layout name c (Input place) = input_at script name place
+line_tree_by script layout name c (Negate place) = negate_at script layout name place
+line_tree_by script layout name c step = Some (clause_tree script name c (step_source script layout step))
+
 abbrev pub line_tree : Script → Layout → List ℕ → Line → Option LineTree
-line_tree script layout name line = by line.step
-  where
-    by : Step → Option LineTree
-    by (Input place) = input_at script name place
-    by (Negate place) = negate_at script layout name place
-    by step = option_map (clause_tree script name (clause_of line.clause)) (step_source script layout step)
+line_tree script layout name line = line_tree_by script layout name (clause_of line.clause) line.step
 
 abbrev pub derived_tree : Script → Layout → List Line → ℕ → Option LineTree
 derived_tree script layout lines n = option_and_then (line_tree script layout (derived_name layout n)) (slice_get lines n)
