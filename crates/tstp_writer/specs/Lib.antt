@@ -6,6 +6,9 @@ pub mod SourceTexts
 pub mod LineTexts
 pub mod ClauseTrees
 pub mod LineTrees
+pub mod NameTexts
+pub mod Scripts
+pub mod Places
 pub mod Levels
 pub mod Printable
 pub mod TextExamples

@@ -16,7 +16,6 @@ use Rattle.tptp_tree.specs.declared.role.Role.TheVariants.{NegatedConjecture, Pl
 use Rattle.tptp_tree.specs.declared.problem.Annotated.{Annotated}
 use Rattle.signature.specs.declared.symbol.Symbol.{Symbol}
 use Rattle.signature.specs.Form.{ClausalForm, clausal_form}
-use Rattle.signature.specs.Occurrences.{problem_symbols}
 use Rattle.signature.specs.Prefix.{fresh_prefix_of}
 use Rattle.kernel_steps.specs.Keys.{side_word}
 use Rattle.kernel_steps.specs.declared.step.Step.{Step}
@@ -48,7 +47,7 @@ script_of file problem =
       formulas = map entry_of problem;
       symbols = form.symbols;
       origins = form.origins;
-      prefix = fresh_prefix_of (problem_symbols problem) (codes "spl");
+      prefix = fresh_prefix_of form.symbols (codes "spl");
     }
 
 abbrev pub is_conjecture_at : Script → ℕ → Bool
