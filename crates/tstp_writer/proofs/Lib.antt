@@ -5,3 +5,4 @@ mod NoteLemmas
 mod CauseLemmas
 mod ClausePhrases
 mod LineLemmas
+mod TextLemmas

@@ -193,6 +193,10 @@ parent_names script layout step = map (derived_name layout) (parents_of step)
 
 -- ---- sources
 
+abbrev pub IsInputStep : Step → Type 0
+IsInputStep (Input place) = Unit {0}
+IsInputStep _ = ⊥
+
 -- Each step but that of an input line has one.
 abbrev pub step_source : Script → Layout → Step → SourceTree
 step_source script layout (Component name) = component_source (introduced_name script.prefix name)

@@ -1,6 +1,6 @@
 // How clauses are printed: terms, literals, and the names behind them.
 
-ghost use Rattle.std.specs.Prelude.{◌≡◌, ◌++◌, codes, map, IfOk, IsTrue};
+ghost use Rattle.std.specs.Prelude.{◌≡◌, ◌++◌, ◌∷◌, codes, map, IfOk, IsTrue};
 ghost use Rattle.fol_base.specs.Tree.{trees_of};
 ghost use Rattle.fol_base.specs.Term.{tree_of};
 ghost use Rattle.fol_base.specs.Literal.{literal_of, clause_of};
@@ -159,14 +159,29 @@ pub(crate) fn push_clause(
     requires { IsTrue (is_lower_word prefix.now) }
     ensures { IfOk result (λ _. page.new ≡ page.old ++ formula_text (clause_formula symbols.now prefix.now (clause_of clause.now))) }
 {
+    let names = clause.names.as_slice();
     match clause.literals.as_slice().split_first() {
-        None => push_names(page, prefix, clause.names.as_slice()),
-        Some((first, rest)) => {
-            push_literal(page, symbols, first)?;
-            push_more_literals(page, symbols, rest)?;
-            push_more_names(page, prefix, clause.names.as_slice())
-        }
+        None => push_names(page, prefix, names),
+        Some((first, rest)) => push_literals(page, symbols, prefix, first, rest, names),
     }
+}
+
+/// Adds literals, then names.
+fn push_literals(
+    page: &mut Page,
+    symbols: &[Symbol],
+    prefix: &[u8],
+    first: &Literal,
+    rest: &[Literal],
+    names: &[NameLit],
+) -> Mem<()>
+    requires { IsTrue (is_lower_word prefix.now) }
+    ensures { IfOk result (λ _. page.new ≡ page.old ++ formula_text (clause_formula symbols.now prefix.now
+        (record { literals = literal_of first.now ∷ map literal_of rest.now; names = names.now }))) }
+{
+    push_literal(page, symbols, first)?;
+    push_more_literals(page, symbols, rest)?;
+    push_more_names(page, prefix, names)
 }
 
 /// Adds the names of a clause without literals, or `$false` where there are none.
@@ -176,9 +191,15 @@ fn push_names(page: &mut Page, prefix: &[u8], names: &[NameLit]) -> Mem<()>
 {
     match names.split_first() {
         None => page.bytes(b"$false"),
-        Some((first, rest)) => {
-            push_signed_name(page, prefix, *first)?;
-            push_more_names(page, prefix, rest)
-        }
+        Some((first, rest)) => push_some_names(page, prefix, *first, rest),
     }
+}
+
+/// Adds names with a bar between two of them.
+fn push_some_names(page: &mut Page, prefix: &[u8], first: NameLit, rest: &[NameLit]) -> Mem<()>
+    requires { IsTrue (is_lower_word prefix.now) }
+    ensures { IfOk result (λ _. page.new ≡ page.old ++ formula_text (one_of (map (signed_name_formula prefix.now) (first ∷ rest.now)))) }
+{
+    push_signed_name(page, prefix, first)?;
+    push_more_names(page, prefix, rest)
 }

@@ -1,14 +1,16 @@
 // How the items of an inference are printed, each behind a comma.
 
-ghost use Rattle.std.specs.Prelude.{◌≡◌, ◌++◌, codes, map, IfOk};
+ghost use Rattle.std.specs.Prelude.{◌≡◌, ◌++◌, [], ◌∷◌, codes, map, IfOk, IsTrue};
 ghost use Rattle.std.specs.Fmt.{decimal};
 ghost use Rattle.fol_base.specs.Term.{tree_of};
 ghost use Rattle.kernel_steps.specs.Keys.{side_word, commas_before, with_commas};
 ghost use Rattle.tptp_tree.specs.Printing.{term_text};
+ghost use Rattle.tptp_token.specs.Spelling.{is_lower_word};
 ghost use Rattle.tptp_source.specs.General.{trees_of};
+ghost use Rattle.tptp_source.specs.Sources.{word_of, list_of};
 ghost use Rattle.tstp_writer.specs.SourceTexts.{general_text, items_text, more_text};
 ghost use Rattle.tstp_writer.specs.ClauseTrees.{term_tree};
-ghost use Rattle.tstp_writer.specs.LineTrees.{number_item, numbers_item, side_item, bind_item, literal_item, side_of_literal_item, from_item, into_item};
+ghost use Rattle.tstp_writer.specs.LineTrees.{number_item, numbers_item, side_item, bind_item, literal_item, side_of_literal_item, from_item, into_item, pivot_item};
 ghost use Rattle.tstp_writer.specs.NameTexts.{signed_name_text};
 
 use crate::clauses::{push_signed_name, push_term};
@@ -95,7 +97,7 @@ pub(crate) fn push_bind(page: &mut Page, symbols: &[Symbol], terms: &[Term]) -> 
 
 /// Adds the number of a clause of the form.
 pub(crate) fn push_index(page: &mut Page, index: u64) -> Mem<()>
-    ensures { IfOk result (λ _. page.new ≡ page.old ++ (codes ",index(" ++ decimal index ++ codes ")")) }
+    ensures { IfOk result (λ _. page.new ≡ page.old ++ (codes "," ++ general_text (word_of (codes "index") (number_item index ∷ [])))) }
 {
     page.bytes(b",index(")?;
     page.number(index)?;
@@ -140,8 +142,18 @@ pub(crate) fn push_into(page: &mut Page, index: u64, side: Side, place: &[u64]) 
     page.bytes(b")")
 }
 
-/// Adds the parts of a split, each between brackets.
+/// Adds the parts of a split.
 pub(crate) fn push_parts(page: &mut Page, parts: &[Numbers]) -> Mem<()>
+    ensures { IfOk result (λ _. page.new ≡ page.old
+        ++ (codes "," ++ general_text (word_of (codes "parts") (list_of (map numbers_item parts.now) ∷ [])))) }
+{
+    page.bytes(b",parts([")?;
+    push_parts_list(page, parts)?;
+    page.bytes(b")")
+}
+
+/// Adds parts, each between brackets, with a comma between two of them, and the closing bracket.
+fn push_parts_list(page: &mut Page, parts: &[Numbers]) -> Mem<()>
     ensures { IfOk result (λ _. page.new ≡ page.old ++ items_text (trees_of (map numbers_item parts.now))) }
 {
     match parts.split_first() {
@@ -165,11 +177,22 @@ fn push_more_parts(page: &mut Page, parts: &[Numbers]) -> Mem<()>
     page.bytes(b"]")
 }
 
-/// Adds signed names with a comma between two of them.
+/// Adds the pivots of a chain.
 pub(crate) fn push_pivots(page: &mut Page, prefix: &[u8], pivots: &[NameLit]) -> Mem<()>
-    ensures { IfOk result (λ _. page.new ≡ page.old ++ with_commas (map (signed_name_text prefix.now) pivots.now)) }
+    requires { IsTrue (is_lower_word prefix.now) }
+    ensures { IfOk result (λ _. page.new ≡ page.old
+        ++ (codes "," ++ general_text (word_of (codes "pivots") (list_of (map (pivot_item prefix.now) pivots.now) ∷ [])))) }
 {
-    match pivots.split_first() {
+    page.bytes(b",pivots([")?;
+    push_signed_names(page, prefix, pivots)?;
+    page.bytes(b"])")
+}
+
+/// Adds signed names with a comma between two of them.
+fn push_signed_names(page: &mut Page, prefix: &[u8], names: &[NameLit]) -> Mem<()>
+    ensures { IfOk result (λ _. page.new ≡ page.old ++ with_commas (map (signed_name_text prefix.now) names.now)) }
+{
+    match names.split_first() {
         None => Ok(()),
         Some((first, rest)) => {
             push_signed_name(page, prefix, *first)?;

@@ -8,6 +8,7 @@ mod layout;
 mod needed;
 mod page;
 mod script;
+mod sources;
 
 pub use needed::cone;
 pub use page::Page;

@@ -1,5 +1,9 @@
 // What the lines of a derivation are written over.
 
+ghost use Rattle.std.specs.Prelude.{◌≡◌};
+ghost use Rattle.tstp_writer.specs.LineTrees.{origin, is_conjecture_at};
+ghost use Rattle.tstp_writer.specs.Scripts.{script_in};
+
 use signature::Symbol;
 use tptp_tree::Annotated;
 
@@ -12,4 +16,26 @@ pub(crate) struct Script<'a> {
     pub symbols: &'a [Symbol],
     pub origins: &'a [u64],
     pub prefix: &'a [u8],
+}
+
+impl Script<'_> {
+    /// The place of the formula from which a clause of the form comes.
+    pub(crate) fn origin(self, index: u64) -> u64
+        ensures { result ≡ origin (script_in self.entry) index }
+    {
+        match self.origins.get(index as usize) {
+            Some(place) => *place,
+            None => 0,
+        }
+    }
+
+    /// Whether the formula at a place is the conjecture.
+    pub(crate) fn is_conjecture(self, place: u64) -> bool
+        ensures { result ≡ is_conjecture_at (script_in self.entry) place }
+    {
+        match self.formulas.get(place as usize) {
+            Some(annotated) => annotated.role.is_conjecture(),
+            None => false,
+        }
+    }
 }
