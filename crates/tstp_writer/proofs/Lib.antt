@@ -5,3 +5,6 @@ mod NoteLemmas
 mod CauseLemmas
 mod ClausePhrases
 mod LineLemmas
+mod ProblemLevels
+mod ProblemForms
+mod ProblemLemmas

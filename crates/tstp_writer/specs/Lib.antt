@@ -9,3 +9,4 @@ pub mod LineTrees
 pub mod Levels
 pub mod Printable
 pub mod TextExamples
+pub mod ProblemLaws

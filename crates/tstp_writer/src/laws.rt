@@ -11,6 +11,7 @@ ghost use Rattle.tstp_writer.specs.ConeLaws.{DerivationsNeedEarlier};
 ghost use Rattle.tstp_writer.specs.LineTexts.{lines_text};
 ghost use Rattle.tstp_writer.specs.LineTrees.{script_of, derivation_trees};
 ghost use Rattle.tstp_writer.specs.Printable.{PrintedLinesAreSpelled};
+ghost use Rattle.tstp_writer.specs.ProblemLaws.{ProblemFormulasArePrintable, ProblemLinesArePrintable, LineNamesAreShown};
 ghost use Rattle.tstp_writer.specs.TextExamples.{implication_steps, implication_numbers, implication_text, components_steps, components_numbers, components_text};
 
 /// The lines of a derivation need earlier lines alone.
@@ -49,4 +50,16 @@ pub fn written_examples()
 /// The printed text of lines that can be printed spells them.
 pub fn printed_lines_are_spelled()
     ensures { PrintedLinesAreSpelled }
+{}
+
+/// The formulas of a problem that was read can be printed, with at most twice the levels that a text may have; so can the lines
+/// of them and of a conjecture's negation, where their names and the file's name are shown.
+pub fn problems_are_printable()
+    ensures formulas { ProblemFormulasArePrintable }
+    ensures lines { ProblemLinesArePrintable }
+{}
+
+/// The names that lines have are shown.
+pub fn line_names_are_shown()
+    ensures { LineNamesAreShown }
 {}
