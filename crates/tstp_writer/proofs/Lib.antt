@@ -8,3 +8,4 @@ mod LineLemmas
 mod ProblemLevels
 mod ProblemForms
 mod ProblemLemmas
+mod ProblemTrees

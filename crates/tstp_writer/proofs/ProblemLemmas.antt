@@ -34,11 +34,11 @@ use Rattle.tptp_source.specs.General.{GeneralTree, number}
 use Rattle.tptp_source.specs.Sources.{word_of}
 use Rattle.clausal_form.specs.DerivationLine.{entry_of}
 use Rattle.tstp_writer.specs.SourceTexts.{is_number_name, name_term, source_term}
-use Rattle.tstp_writer.specs.Levels.{with_parentheses, formula_levels, general_levels}
+use Rattle.tstp_writer.specs.Levels.{formula_levels, general_levels}
 use Rattle.tstp_writer.specs.LineTrees.{Script, Layout, line_name, cited_name, negate_source, input_tree, negate_tree}
 use Rattle.tstp_writer.specs.Printable.{IsShown, IsWritable, is_clause_formula, IsFormOf, IsPrintable}
 use Rattle.tstp_writer.specs.ProblemLaws.{IsPrintableEntry, HasPrintableLines}
-use Rattle.tstp_writer.proofs.ProblemLevels.{body-levels}
+use Rattle.tstp_writer.proofs.ProblemLevels.{parentheses-one, body-levels}
 use Rattle.tstp_writer.proofs.ProblemForms.{clause-form, closed-form}
 
 -- ---- names of lines
@@ -191,10 +191,6 @@ printed-negation f s =
           (lexes-whole (formula_text g ++ []) (phrase_lexemes (phrase_of g) []) (formula-lexes g well [] [] tt lexes-nothing)),
       formula-meant g well,
     )
-
-parentheses-one : (b : Bool) (n : ℕ) → with_parentheses b n ≤ suc n
-parentheses-one true n = omega arith
-parentheses-one false n = omega arith
 
 negate-written : (layout : Layout) (place : ℕ) → IsWritable (source_term (negate_source layout place))
 negate-written layout place =

@@ -32,10 +32,10 @@ abbrev IsInside : Surroundings → Type 0
 IsInside s = s.level ≤ s.limit
 
 max-within : (n a b k : ℕ) → n + a ≤ k → n + b ≤ k → n + max a b ≤ k
-max-within n a b k h g = by (k - n) (omega (arith, h)) (omega (arith, g)) (omega (arith, h))
-  where
-    by : (d : ℕ) → a ≤ d → b ≤ d → n + d ≤ k → n + max a b ≤ k
-    by d x y z = omega (arith, z, max-le x y)
+max-within n a b k h g =
+    let first : a ≤ k - n = omega (arith, h) in
+    let second : b ≤ k - n = omega (arith, g) in
+    omega (arith, h, max-le first second)
 
 both-fit : (s : Surroundings) (a b : ℕ) → Fits s a → Fits s b → Fits s (max a b)
 both-fit s a b h g = record { fits = max-within s.level a b s.limit h.fits g.fits }
@@ -101,7 +101,7 @@ unit_levels f = with_parentheses (is_joined f) (formula_levels f)
 abbrev negated_levels : FormulaTree → ℕ
 negated_levels f = with_parentheses (not (is_bare f)) (formula_levels f)
 
-parentheses-one : (b : Bool) (n : ℕ) → with_parentheses b n ≤ suc n
+pub parentheses-one : (b : Bool) (n : ℕ) → with_parentheses b n ≤ suc n
 parentheses-one true n = omega arith
 parentheses-one false n = omega arith
 
