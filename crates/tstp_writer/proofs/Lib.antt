@@ -1,11 +1,11 @@
 mod MarkLemmas
 mod EarlierLemmas
+mod ProblemLevels
+mod ProblemForms
+mod ProblemLemmas
+mod ProblemTrees
 mod TermTexts
 mod NoteLemmas
 mod CauseLemmas
 mod ClausePhrases
 mod LineLemmas
-mod ProblemLevels
-mod ProblemForms
-mod ProblemLemmas
-mod ProblemTrees

@@ -2,6 +2,7 @@ pub mod Cone
 pub mod ConeExamples
 pub mod Marks
 pub mod ConeLaws
+pub mod ProblemLaws
 pub mod SourceTexts
 pub mod LineTexts
 pub mod ClauseTrees
@@ -9,4 +10,3 @@ pub mod LineTrees
 pub mod Levels
 pub mod Printable
 pub mod TextExamples
-pub mod ProblemLaws

@@ -40,21 +40,6 @@ pub fn cone_examples()
     ensures split { IsCone split_lines 5 (0 ∷ 1 ∷ 2 ∷ 4 ∷ 5 ∷ []) }
 {}
 
-/// The lines that are written for two derivations, and their texts: one implication, and two components.
-pub fn written_examples()
-    ensures implication_lines { derivation_trees (script_of (codes "r5.p") example.implication) implication_steps implication_numbers
-        ≡ example.implication_lines }
-    ensures implication_text { lines_text example.implication_lines ≡ implication_text }
-    ensures components_lines { derivation_trees (script_of (codes "r10.p") example.components) components_steps components_numbers
-        ≡ example.components_lines }
-    ensures components_text { lines_text example.components_lines ≡ components_text }
-{}
-
-/// The printed text of lines that can be printed spells them.
-pub fn printed_lines_are_spelled()
-    ensures { PrintedLinesAreSpelled }
-{}
-
 /// What stands behind `~` has parentheses of its own where it is quantified or an equation, and none where it is negated or another
 /// atom. An operand has them where it is joined.
 pub fn printed_level_examples()
@@ -78,4 +63,19 @@ pub fn problems_are_printable()
 /// The names that lines have are shown.
 pub fn line_names_are_shown()
     ensures { LineNamesAreShown }
+{}
+
+/// The lines that are written for two derivations, and their texts: one implication, and two components.
+pub fn written_examples()
+    ensures implication_lines { derivation_trees (script_of (codes "r5.p") example.implication) implication_steps implication_numbers
+        ≡ example.implication_lines }
+    ensures implication_text { lines_text example.implication_lines ≡ implication_text }
+    ensures components_lines { derivation_trees (script_of (codes "r10.p") example.components) components_steps components_numbers
+        ≡ example.components_lines }
+    ensures components_text { lines_text example.components_lines ≡ components_text }
+{}
+
+/// The printed text of lines that can be printed spells them.
+pub fn printed_lines_are_spelled()
+    ensures { PrintedLinesAreSpelled }
 {}
