@@ -1,5 +1,9 @@
 mod MarkLemmas
 mod EarlierLemmas
+mod ProblemLevels
+mod ProblemForms
+mod ProblemLemmas
+mod ProblemTrees
 mod TermTexts
 mod NoteLemmas
 mod CauseLemmas

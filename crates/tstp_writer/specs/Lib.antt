@@ -2,6 +2,7 @@ pub mod Cone
 pub mod ConeExamples
 pub mod Marks
 pub mod ConeLaws
+pub mod ProblemLaws
 pub mod SourceTexts
 pub mod LineTexts
 pub mod ClauseTrees
