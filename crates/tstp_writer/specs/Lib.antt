@@ -7,6 +7,7 @@ pub mod SourceTexts
 pub mod LineTexts
 pub mod ClauseTrees
 pub mod LineTrees
+pub mod PlainLines
 pub mod NameTexts
 pub mod Scripts
 pub mod Places
