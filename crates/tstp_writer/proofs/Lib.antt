@@ -1,2 +1,12 @@
 mod MarkLemmas
 mod EarlierLemmas
+mod ProblemLevels
+mod ProblemForms
+mod ProblemLemmas
+mod ProblemTrees
+mod TermTexts
+mod NoteLemmas
+mod CauseLemmas
+mod ClausePhrases
+mod LineLemmas
+mod TextLemmas

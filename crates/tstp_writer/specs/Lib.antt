@@ -2,3 +2,15 @@ pub mod Cone
 pub mod ConeExamples
 pub mod Marks
 pub mod ConeLaws
+pub mod ProblemLaws
+pub mod SourceTexts
+pub mod LineTexts
+pub mod ClauseTrees
+pub mod LineTrees
+pub mod PlainLines
+pub mod NameTexts
+pub mod Scripts
+pub mod Places
+pub mod Levels
+pub mod Printable
+pub mod TextExamples

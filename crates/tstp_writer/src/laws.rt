@@ -1,12 +1,21 @@
 // The laws of the definitions, and worked examples: each is the contract of a function without arguments and with an empty body.
 
-ghost use Rattle.std.specs.Prelude.{◌≡◌, true, false, [], ◌∷◌};
+ghost use Rattle.std.specs.Prelude.{◌≡◌, true, false, [], ◌∷◌, codes};
+ghost use Rattle.clausal_form.specs.DerivationExamples as example;
 ghost use Rattle.kernel_steps.specs.Examples.{halves, line};
 ghost use Rattle.kernel_steps.specs.Derivation.{positive_of};
 ghost use Rattle.kernel_steps.specs.declared.step.Step.TheVariants.{Component, Opposite, Split, Chain, Clausify};
 ghost use Rattle.tstp_writer.specs.Cone.{needs, IsCone};
 ghost use Rattle.tstp_writer.specs.ConeExamples.{split_lines};
 ghost use Rattle.tstp_writer.specs.ConeLaws.{DerivationsNeedEarlier};
+ghost use Rattle.tptp_tree.specs.Term.{variable, no_terms};
+ghost use Rattle.tptp_tree.specs.Formula.{implies, for_all, truth, falsity, predicate, equation, negation, conjunction, connected, quantified, no_formulas, formula_then};
+ghost use Rattle.tstp_writer.specs.Levels.{formula_levels};
+ghost use Rattle.tstp_writer.specs.LineTexts.{lines_text};
+ghost use Rattle.tstp_writer.specs.LineTrees.{script_of, derivation_trees};
+ghost use Rattle.tstp_writer.specs.Printable.{PrintedLinesAreSpelled};
+ghost use Rattle.tstp_writer.specs.ProblemLaws.{ProblemFormulasArePrintable, ProblemLinesArePrintable, ScriptFormulasArePrintable, BeginningsArePrintable, LineNamesAreShown};
+ghost use Rattle.tstp_writer.specs.TextExamples.{implication_steps, implication_numbers, implication_text, components_steps, components_numbers, components_text};
 
 /// The lines of a derivation need earlier lines alone.
 pub fn derivations_need_earlier()
@@ -29,4 +38,44 @@ pub fn needed_line_examples()
 /// The last line needs itself, its parent, the definitions of both parts, and the component line of the second one's name.
 pub fn cone_examples()
     ensures split { IsCone split_lines 5 (0 ∷ 1 ∷ 2 ∷ 4 ∷ 5 ∷ []) }
+{}
+
+/// What stands behind `~` has parentheses of its own where it is quantified or an equation, and none where it is negated or another
+/// atom. An operand has them where it is joined.
+pub fn printed_level_examples()
+    ensures negated_quantifier { formula_levels (negation (quantified for_all (codes "X" ∷ []) (predicate (codes "p") no_terms))) ≡ 4 }
+    ensures negated_equation { formula_levels (negation (equation true (variable (codes "X")) (variable (codes "Y")))) ≡ 2 }
+    ensures negated_twice { formula_levels (negation (negation (predicate (codes "p") no_terms))) ≡ 2 }
+    ensures joined_operand { formula_levels (connected implies
+        (conjunction (formula_then truth (formula_then falsity no_formulas))) (negation truth)) ≡ 1 }
+{}
+
+/// The formulas of a problem that was read can be printed, with at most twice the levels that a text may have; so can the lines
+/// of them and of a conjecture's negation, where their names and the file's name are shown, and so those with which a written
+/// derivation begins.
+pub fn problems_are_printable()
+    ensures formulas { ProblemFormulasArePrintable }
+    ensures lines { ProblemLinesArePrintable }
+    ensures by_places { ScriptFormulasArePrintable }
+    ensures beginnings { BeginningsArePrintable }
+{}
+
+/// The names that lines have are shown.
+pub fn line_names_are_shown()
+    ensures { LineNamesAreShown }
+{}
+
+/// The lines that are written for two derivations, and their texts: one implication, and two components.
+pub fn written_examples()
+    ensures implication_lines { derivation_trees (script_of (codes "r5.p") example.implication) implication_steps implication_numbers
+        ≡ example.implication_lines }
+    ensures implication_text { lines_text example.implication_lines ≡ implication_text }
+    ensures components_lines { derivation_trees (script_of (codes "r10.p") example.components) components_steps components_numbers
+        ≡ example.components_lines }
+    ensures components_text { lines_text example.components_lines ≡ components_text }
+{}
+
+/// The printed text of lines that can be printed spells them.
+pub fn printed_lines_are_spelled()
+    ensures { PrintedLinesAreSpelled }
 {}

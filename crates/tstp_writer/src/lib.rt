@@ -1,10 +1,17 @@
 // What is printed: of a derivation, the lines that one of them needs.
 #![tactic(auto)]
 
+mod clauses;
+mod items;
 pub mod laws;
+mod layout;
 mod needed;
+mod page;
+mod script;
+mod sources;
 
 pub use needed::cone;
+pub use page::Page;
 
 #[cfg(test)]
 mod tests;

@@ -1,0 +1,345 @@
+-- Printed names, clauses and sources, put together from their parts.
+use Rattle.std.proofs.Common.{Result, Ok, Err, IfOk, ◌≡◌, ℕ, zero, suc, ◌+◌, ◌/◌, ◌%◌, ◌<◌, ◌≤◌, Bool, true, false, not, ◌&&◌, ◌||◌, ◌==◌, List, [], ◌∷◌, ◌++◌, map, codes, refl, ap, ap₂, sym, ◌∙◌, arith, append_assoc, append-nil, leb-true, le-leb}
+use Rattle.std.specs.Prelude.{nat_le, if◌then◌else◌}
+use Rattle.std.specs.List.{list_all, AllByRecursion}
+use Rattle.std.specs.Fmt.{digits, digits_onto, digit_glyph, decimal}
+use Rattle.std.proofs.lemmas.Bool.{and_parts, and_from, lt-ltb}
+use Rattle.std.proofs.lemmas.List.Folds.{list_all-append}
+use Rattle.plain_types.specs.declared.sequence.NameLit.{NameLit}
+use Rattle.fol_base.specs.Tree.{Tree, variable, application, tree_eq, true_tree}
+use Rattle.fol_base.specs.Clause.{TreeLiteral, TreeClause}
+use Rattle.kernel_steps.specs.Keys.{commas_before, with_commas}
+use Rattle.signature.specs.declared.symbol.Symbol.{Symbol}
+use Rattle.tptp_token.specs.Spelling.{is_digit, is_lower, is_upper, is_word_byte, is_lower_word, begins}
+use Rattle.tptp_token.specs.Words.{name_text, quoted_text}
+use Rattle.tptp_tree.specs.Formula.{FormulaTree, truth, predicate, equation, negation, disjunction, formulas_of}
+use Rattle.tptp_tree.specs.Term.{TermTree, variable as named_variable, application as named_application, TermTrees, no_terms, term_then}
+use Rattle.tptp_tree.specs.Printing.{term_text, arguments_text, more_arguments_text, is_joined, in_parentheses, formula_text, more_operands_text}
+use Rattle.tptp_source.specs.General.{GeneralTree, word, number, trees_of}
+use Rattle.tptp_source.specs.Sources.{inference_source, component_source, opposite_source, word_of as word_term, list_of as list_term}
+use Rattle.tptp_source.specs.declared.sign.NumberSign.TheVariants.{Unsigned}
+use Rattle.tstp_writer.specs.SourceTexts.{general_text, arguments_text as general_arguments, items_text, more_text, is_number_name, name_term, source_text}
+use Rattle.tstp_writer.specs.ClauseTrees.{symbol_name, term_tree, term_trees, with_sign, atom_formula, literal_formula, introduced_name, signed_name_formula, one_of, clause_formula}
+use Rattle.tstp_writer.specs.LineTrees.{line_name, named, status_item, term_item, term_items, bind_item, pivot_name, pivot_item}
+use Rattle.tstp_writer.specs.NameTexts.{signed_name_text, more_names_text, more_items_text, definition_text, inference_text}
+
+-- ---- what was added to a text
+
+-- what was added, by another name
+pub added :
+    {E : Type 0} (r : Result (Unit {0}) E) (old new x y : List ℕ)
+    → x ≡ y → IfOk r (λ _. new ≡ old ++ x) → IfOk r (λ _. new ≡ old ++ y)
+added (Ok u) old new x y e h = h ∙ ap (λ t. old ++ t) e
+added (Err f) old new x y e h = tt
+
+-- two texts, one after the other, and three
+pub two_added :
+    {E : Type 0} (r : Result (Unit {0}) E) (p q s a b : List ℕ)
+    → q ≡ p ++ a → IfOk r (λ _. s ≡ q ++ b) → IfOk r (λ _. s ≡ p ++ (a ++ b))
+two_added (Ok u) p q s a b first second = second ∙ ap (λ x. x ++ b) first ∙ append_assoc p a b
+two_added (Err f) p q s a b first second = tt
+
+pub three_added :
+    {E : Type 0} (r : Result (Unit {0}) E) (p q s t a b c : List ℕ)
+    → q ≡ p ++ a → s ≡ q ++ b → IfOk r (λ _. t ≡ s ++ c) → IfOk r (λ _. t ≡ p ++ (a ++ b ++ c))
+three_added r p q s t a b c first second third =
+    two_added r p s t (a ++ b) c (second ∙ ap (λ x. x ++ b) first ∙ append_assoc p a b) third
+
+-- ---- digits
+
+glyph-digit : (d : ℕ) → d < 10 → is_digit (digit_glyph false d) ≡ true
+glyph-digit d h =
+    ap (λ t. is_digit (if t then 48 + d else 87 + d)) (lt-ltb d 10 h)
+    ∙ and_from (nat_le 48 (48 + d)) (nat_le (48 + d) 57) (le-leb 48 (48 + d) (omega arith)) (le-leb (48 + d) 57 (omega arith))
+
+glyphs-digits : (k n : ℕ) (acc : List ℕ) → list_all is_digit acc ≡ true → list_all is_digit (digits_onto k 10 false n acc) ≡ true
+glyphs-digits zero n acc h = h
+glyphs-digits (suc k) n acc h =
+    by (n / 10 == 0) (glyphs-digits k (n / 10) (digit_glyph false (n % 10) ∷ acc) more)
+  where
+    more : list_all is_digit (digit_glyph false (n % 10) ∷ acc) ≡ true
+    more = and_from (is_digit (digit_glyph false (n % 10))) (list_all is_digit acc) (glyph-digit (n % 10) (omega arith)) h
+
+    by :
+        (t : Bool) → list_all is_digit (digits_onto k 10 false (n / 10) (digit_glyph false (n % 10) ∷ acc)) ≡ true
+        → list_all is_digit (if t then digit_glyph false (n % 10) ∷ acc else digits_onto k 10 false (n / 10) (digit_glyph false (n % 10) ∷ acc)) ≡ true
+    by true g = more
+    by false g = g
+
+pub decimal-digits : (n : ℕ) → list_all is_digit (decimal n) ≡ true
+unfolding digits
+decimal-digits n = glyphs-digits 64 n [] refl
+
+digit-word : (b : ℕ) → is_digit b ≡ true → is_word_byte b ≡ true
+digit-word b h = ap (λ t. is_lower b || (is_upper b || (t || (b == 95)))) h ∙ by (is_lower b) (is_upper b)
+  where
+    by : (x y : Bool) → (x || (y || true)) ≡ true
+    by true y = refl
+    by false true = refl
+    by false false = refl
+
+digits-words : (ds : List ℕ) → list_all is_digit ds ≡ true → list_all is_word_byte ds ≡ true
+digits-words [] h = refl
+digits-words (d ∷ ds) h =
+    let each = and_parts (is_digit d) (list_all is_digit ds) h in
+    and_from (is_word_byte d) (list_all is_word_byte ds) (digit-word d each.0) (digits-words ds each.1)
+
+-- ---- names
+
+-- a lower word with a number behind it is one
+pub numbered-lower : (prefix : List ℕ) (n : ℕ) → is_lower_word prefix ≡ true → is_lower_word (prefix ++ decimal n) ≡ true
+numbered-lower [] n h = absurd (let t : false ≡ true = h in cc)
+numbered-lower (b ∷ bs) n h =
+    let each = and_parts (is_lower b) (list_all is_word_byte bs) h in
+    and_from (is_lower b) (list_all is_word_byte (bs ++ decimal n)) each.0
+    (list_all-append is_word_byte bs (decimal n)
+    ∙ and_from (list_all is_word_byte bs) (list_all is_word_byte (decimal n)) each.1 (digits-words (decimal n) (decimal-digits n)))
+
+no-digit : (b : ℕ) → is_lower b ≡ true → is_digit b ≡ false
+no-digit b h = by (is_digit b) refl
+  where
+    by : (t : Bool) → is_digit b ≡ t → t ≡ false
+    by false e = refl
+    by true e =
+        let low = and_parts (nat_le 97 b) (nat_le b 122) h in
+        let high = and_parts (nat_le 48 b) (nat_le b 57) e in
+        absurd (omega (arith, leb-true 97 b low.0, leb-true b 57 high.1))
+
+no-number : (w : List ℕ) → is_lower_word w ≡ true → is_number_name w ≡ false
+no-number [] h = refl
+no-number (b ∷ bs) h =
+    ap (λ t. t && list_all is_digit bs) (no-digit b (and_parts (is_lower b) (list_all is_word_byte bs) h).0)
+
+pub bare-text : (w : List ℕ) → is_lower_word w ≡ true → name_text w ≡ w
+bare-text w h = ap (λ t. if t then w else quoted_text w) h
+
+pub bare-name : (w : List ℕ) → is_lower_word w ≡ true → general_text (name_term w) ≡ w
+bare-name w h =
+    ap (λ t. general_text (if t then number Unsigned w else word_term w [])) (no-number w h)
+    ∙ append-nil (name_text w) ∙ bare-text w h
+
+pub line_name-lower : (n : ℕ) → is_lower_word (line_name n) ≡ true
+line_name-lower n = numbered-lower (codes "c") n refl
+
+-- ---- clauses
+
+pub signed-name :
+    (prefix : List ℕ) (n : NameLit) → is_lower_word prefix ≡ true → signed_name_text prefix n ≡ formula_text (signed_name_formula prefix n)
+signed-name prefix n h = by n.positive
+  where
+    name : List ℕ
+    name = introduced_name prefix n.name
+
+    same : name ≡ name_text name ++ []
+    same = sym (append-nil (name_text name) ∙ bare-text name (numbered-lower prefix n.name h))
+
+    by : (t : Bool) → (if t then [] else codes "~") ++ name ≡ formula_text (with_sign t (predicate name no_terms))
+    by true = same
+    by false = ap (λ us. 126 ∷ us) same
+
+name-single : (prefix : List ℕ) (n : NameLit) → is_joined (signed_name_formula prefix n) ≡ false
+name-single prefix n = by n.positive
+  where
+    by : (t : Bool) → is_joined (with_sign t (predicate (introduced_name prefix n.name) no_terms)) ≡ false
+    by true = refl
+    by false = refl
+
+literal-single : (symbols : List Symbol) (l : TreeLiteral) → is_joined (literal_formula symbols l) ≡ false
+literal-single symbols l = by (tree_eq l.right true_tree)
+  where
+    zero_or : (t : Bool) (f : FormulaTree) → is_joined f ≡ false → is_joined (if t then truth else f) ≡ false
+    zero_or true f h = refl
+    zero_or false f h = h
+
+    atom : (t : Tree) → is_joined (atom_formula symbols t) ≡ false
+    atom (variable v) = refl
+    atom (application f ts) = zero_or (f == 0) (predicate (symbol_name symbols f) (term_trees symbols ts)) refl
+
+    signed : (t : Bool) → is_joined (with_sign t (atom_formula symbols l.left)) ≡ false
+    signed true = atom l.left
+    signed false = refl
+
+    by :
+        (t : Bool)
+        → is_joined (if t then with_sign l.positive (atom_formula symbols l.left) else equation l.positive (term_tree symbols l.left) (term_tree symbols l.right)) ≡ false
+    by true = signed l.positive
+    by false = refl
+
+one_of-text :
+    (f : FormulaTree) (fs : List FormulaTree) → is_joined f ≡ false
+    → formula_text (one_of (f ∷ fs)) ≡ formula_text f ++ more_operands_text (codes " | ") (formulas_of fs)
+one_of-text f [] h = sym (append-nil (formula_text f))
+one_of-text f (g ∷ fs) h =
+    ap (λ t. in_parentheses t (formula_text f) ++ more_operands_text (codes " | ") (formulas_of (g ∷ fs))) h
+
+operands-append :
+    (sign : List ℕ) (fs gs : List FormulaTree)
+    → more_operands_text sign (formulas_of (fs ++ gs)) ≡ more_operands_text sign (formulas_of fs) ++ more_operands_text sign (formulas_of gs)
+operands-append sign [] gs = refl
+operands-append sign (f ∷ fs) gs =
+    ap (λ us. sign ++ in_parentheses (is_joined f) (formula_text f) ++ us) (operands-append sign fs gs)
+    ∙ sym (append_assoc (sign ++ in_parentheses (is_joined f) (formula_text f)) (more_operands_text sign (formulas_of fs)) (more_operands_text sign (formulas_of gs)))
+
+names-operands :
+    (prefix : List ℕ) (ns : List NameLit) → is_lower_word prefix ≡ true
+    → more_operands_text (codes " | ") (formulas_of (map (signed_name_formula prefix) ns)) ≡ more_names_text prefix ns
+names-operands prefix [] h = refl
+names-operands prefix (n ∷ ns) h =
+    ap (λ t. codes " | " ++ in_parentheses t (formula_text (signed_name_formula prefix n)) ++ more_operands_text (codes " | ") (formulas_of (map (signed_name_formula prefix) ns)))
+    (name-single prefix n)
+    ∙ ap₂ (λ us vs. codes " | " ++ us ++ vs) (sym (signed-name prefix n h)) (names-operands prefix ns h)
+
+-- literals first
+pub clause_of_parts :
+    (symbols : List Symbol) (prefix : List ℕ) (l : TreeLiteral) (ls : List TreeLiteral) (ns : List NameLit) → is_lower_word prefix ≡ true
+    → formula_text (literal_formula symbols l) ++ more_operands_text (codes " | ") (formulas_of (map (literal_formula symbols) ls)) ++ more_names_text prefix ns
+    ≡ formula_text (clause_formula symbols prefix (record { literals = l ∷ ls; names = ns }))
+clause_of_parts symbols prefix l ls ns h =
+    ap (λ us. formula_text (literal_formula symbols l) ++ more_operands_text (codes " | ") (formulas_of (map (literal_formula symbols) ls)) ++ us)
+    (sym (names-operands prefix ns h))
+    ∙ append_assoc (formula_text (literal_formula symbols l)) (more_operands_text (codes " | ") (formulas_of (map (literal_formula symbols) ls)))
+    (more_operands_text (codes " | ") (formulas_of (map (signed_name_formula prefix) ns)))
+    ∙ ap (λ us. formula_text (literal_formula symbols l) ++ us)
+    (sym (operands-append (codes " | ") (map (literal_formula symbols) ls) (map (signed_name_formula prefix) ns)))
+    ∙ sym (one_of-text (literal_formula symbols l) (map (literal_formula symbols) ls ++ map (signed_name_formula prefix) ns) (literal-single symbols l))
+
+-- names alone
+pub names_of_parts :
+    (prefix : List ℕ) (n : NameLit) (ns : List NameLit) → is_lower_word prefix ≡ true
+    → signed_name_text prefix n ++ more_names_text prefix ns ≡ formula_text (one_of (map (signed_name_formula prefix) (n ∷ ns)))
+names_of_parts prefix n ns h =
+    ap₂ (λ us vs. us ++ vs) (signed-name prefix n h) (sym (names-operands prefix ns h))
+    ∙ sym (one_of-text (signed_name_formula prefix n) (map (signed_name_formula prefix) ns) (name-single prefix n))
+
+-- ---- lists of terms
+
+more-commas : (close : List ℕ) (ts : List GeneralTree) → more_text close (trees_of ts) ≡ commas_before (map general_text ts) ++ close
+more-commas close [] = refl
+more-commas close (t ∷ ts) =
+    ap (λ us. codes "," ++ general_text t ++ us) (more-commas close ts)
+    ∙ sym (append_assoc (codes "," ++ general_text t) (commas_before (map general_text ts)) close)
+
+items-commas : (ts : List GeneralTree) → items_text (trees_of ts) ≡ with_commas (map general_text ts) ++ codes "]"
+items-commas [] = refl
+items-commas (t ∷ ts) =
+    ap (λ us. general_text t ++ us) (more-commas (codes "]") ts)
+    ∙ sym (append_assoc (general_text t) (commas_before (map general_text ts)) (codes "]"))
+
+-- the texts of terms that are made from values
+each-text : {X : Type 0} (make : X → GeneralTree) (text : X → List ℕ) → ((x : X) → general_text (make x) ≡ text x) → (xs : List X) → map general_text (map make xs) ≡ map text xs
+each-text make text h [] = refl
+each-text make text h (x ∷ xs) = ap₂ (λ u us. u ∷ us) (h x) (each-text make text h xs)
+
+mutual
+  term-text : (t : TermTree) → general_text (term_item t) ≡ term_text t
+  term-text (named_variable x) = refl
+  term-text (named_application f ts) = ap (λ us. name_text f ++ us) (arguments-text ts)
+
+  arguments-text : (ts : TermTrees) → general_arguments (term_items ts) ≡ arguments_text ts
+  arguments-text no_terms = refl
+  arguments-text (term_then t ts) = ap₂ (λ us vs. codes "(" ++ us ++ vs) (term-text t) (more-text ts)
+
+  more-text : (ts : TermTrees) → more_text (codes ")") (term_items ts) ≡ more_arguments_text ts
+  more-text no_terms = refl
+  more-text (term_then t ts) = ap₂ (λ us vs. codes "," ++ us ++ vs) (term-text t) (more-text ts)
+
+pub bind-text :
+    (symbols : List Symbol) (ts : List Tree)
+    → codes ",bind([" ++ with_commas (map (λ t. term_text (term_tree symbols t)) ts) ++ codes "])" ≡ codes "," ++ general_text (bind_item symbols ts)
+bind-text symbols ts =
+    let terms : List (List ℕ) = map (λ t. term_text (term_tree symbols t)) ts in
+    ap (λ us. codes ",bind([" ++ us) (sym (append_assoc (with_commas terms) (codes "]") (codes ")")))
+    ∙ ap (λ us. codes ",bind([" ++ (us ++ codes ")"))
+    (sym (items-commas (map (λ t. term_item (term_tree symbols t)) ts
+    ) ∙ ap (λ vs. with_commas vs ++ codes "]") (each-text (λ t. term_item (term_tree symbols t)) (λ t. term_text (term_tree symbols t)) (λ t. term-text (term_tree symbols t)) ts)) )
+
+pivot-text : (prefix : List ℕ) → is_lower_word prefix ≡ true → (n : NameLit) → general_text (pivot_item prefix n) ≡ signed_name_text prefix n
+pivot-text prefix h n = by n.positive
+  where
+    name : List ℕ
+    name = introduced_name prefix n.name
+
+    bare : name_text name ≡ name
+    bare = bare-text name (numbered-lower prefix n.name h)
+
+    by : (t : Bool) → general_text (pivot_name t name) ≡ (if t then [] else codes "~") ++ name
+    by true = append-nil (name_text name) ∙ bare
+    by false = ap (λ us. 126 ∷ us) bare
+
+pub pivots-text :
+    (prefix : List ℕ) (ns : List NameLit) → is_lower_word prefix ≡ true
+    → items_text (trees_of (map (pivot_item prefix) ns)) ≡ with_commas (map (signed_name_text prefix) ns) ++ codes "]"
+pivots-text prefix ns h =
+    items-commas (map (pivot_item prefix) ns)
+    ∙ ap (λ vs. with_commas vs ++ codes "]") (each-text (pivot_item prefix) (signed_name_text prefix) (pivot-text prefix h) ns)
+
+pub pivots_of_parts :
+    (prefix : List ℕ) (ns : List NameLit) → is_lower_word prefix ≡ true
+    → codes ",pivots([" ++ with_commas (map (signed_name_text prefix) ns) ++ codes "])"
+    ≡ codes "," ++ general_text (word_term (codes "pivots") (list_term (map (pivot_item prefix) ns) ∷ []))
+pivots_of_parts prefix ns h =
+    let names : List (List ℕ) = map (signed_name_text prefix) ns in
+    ap (λ us. codes ",pivots([" ++ us) (sym (append_assoc (with_commas names) (codes "]") (codes ")")))
+    ∙ ap (λ us. codes ",pivots([" ++ (us ++ codes ")")) (sym (pivots-text prefix ns h))
+
+-- ---- sources
+
+abbrev pub AllLower : List (List ℕ) → Type 0
+AllLower names = AllByRecursion (λ w. is_lower_word w ≡ true) names
+
+parents-text : (names : List (List ℕ)) → AllLower names → items_text (trees_of (map name_term names)) ≡ with_commas names ++ codes "]"
+parents-text names h = items-commas (map name_term names) ∙ ap (λ vs. with_commas vs ++ codes "]") (all-bare names h)
+  where
+    all-bare : (ns : List (List ℕ)) → AllLower ns → map general_text (map name_term ns) ≡ ns
+    all-bare [] g = refl
+    all-bare (n ∷ ns) g = ap₂ (λ u us. u ∷ us) (bare-name n g.0) (all-bare ns g.1)
+
+pub definition-component : (name : List ℕ) → is_lower_word name ≡ true → definition_text (codes "component") name ≡ source_text (component_source name)
+definition-component name h =
+    ap (λ us. codes "introduced(definition,[component(" ++ us)
+    (sym (ap (λ us. us ++ codes ")" ++ codes "]" ++ codes ")") (bare-name name h)
+    ∙ append_assoc (name ++ codes ")") (codes "]") (codes ")") ∙ append_assoc name (codes ")") (codes "])")))
+
+pub definition-opposite : (name : List ℕ) → is_lower_word name ≡ true → definition_text (codes "opposite") name ≡ source_text (opposite_source name)
+definition-opposite name h =
+    ap (λ us. codes "introduced(definition,[opposite(" ++ us)
+    (sym (ap (λ us. us ++ codes ")" ++ codes "]" ++ codes ")") (bare-name name h)
+    ∙ append_assoc (name ++ codes ")") (codes "]") (codes ")") ∙ append_assoc name (codes ")") (codes "])")))
+
+inference-flat :
+    (rule status items parents : List ℕ)
+    → codes "inference(" ++ rule ++ codes ",[status(" ++ status ++ codes ")" ++ items ++ codes "],[" ++ parents ++ codes "])"
+    ≡ codes "inference(" ++ (rule ++ (codes ",[status(" ++ (status ++ (41 ∷ (items ++ (93 ∷ 44 ∷ 91 ∷ (parents ++ codes "])")))))))
+inference-flat rule status items parents =
+    append_assoc (codes "inference(" ++ rule ++ codes ",[status(" ++ status ++ codes ")" ++ items ++ codes "],[") parents (codes "])")
+    ∙ append_assoc (codes "inference(" ++ rule ++ codes ",[status(" ++ status ++ codes ")" ++ items) (codes "],[") (parents ++ codes "])")
+    ∙ append_assoc (codes "inference(" ++ rule ++ codes ",[status(" ++ status ++ codes ")") items (codes "],[" ++ (parents ++ codes "])"))
+    ∙ append_assoc (codes "inference(" ++ rule ++ codes ",[status(" ++ status) (codes ")") (items ++ (codes "],[" ++ (parents ++ codes "])")))
+    ∙ append_assoc (codes "inference(" ++ rule ++ codes ",[status(") status (41 ∷ (items ++ (codes "],[" ++ (parents ++ codes "])"))))
+    ∙ append_assoc (codes "inference(" ++ rule) (codes ",[status(") (status ++ (41 ∷ (items ++ (codes "],[" ++ (parents ++ codes "])")))))
+    ∙ append_assoc (codes "inference(") rule (codes ",[status(" ++ (status ++ (41 ∷ (items ++ (codes "],[" ++ (parents ++ codes "])"))))))
+
+pub inference-text :
+    (rule status : List ℕ) (items : List GeneralTree) (parents : List (List ℕ))
+    → is_lower_word rule ≡ true → is_lower_word status ≡ true → AllLower parents
+    → inference_text rule status items parents ≡ source_text (inference_source (named rule) (status_item status ∷ items) parents)
+inference-text rule status items parents h k p =
+    let more : List ℕ = more_items_text items in
+    let names : List ℕ = with_commas parents in
+    let rest : List ℕ = 44 ∷ 91 ∷ (items_text (trees_of (map name_term parents)) ++ codes ")") in
+    inference-flat rule status more names
+    ∙ sym (
+      ap₂ (λ us vs. codes "inference(" ++ (us ++ (codes ",[status(" ++ (vs ++ codes ")" ++ more_text (codes "]") (trees_of items) ++ rest))))
+      (append-nil (name_text rule) ∙ bare-text rule h) (append-nil (name_text status) ∙ bare-text status k)
+      ∙ ap (λ us. codes "inference(" ++ (rule ++ (codes ",[status(" ++ us)))
+      (append_assoc (status ++ codes ")") (more_text (codes "]") (trees_of items)) rest
+      ∙ append_assoc status (codes ")") (more_text (codes "]") (trees_of items) ++ rest)
+      ∙ ap (λ us. status ++ (41 ∷ us))
+      (ap (λ us. us ++ rest) (more-commas (codes "]") items)
+      ∙ append_assoc more (codes "]") rest
+      ∙ ap (λ us. more ++ (93 ∷ 44 ∷ 91 ∷ us)) (ap (λ us. us ++ codes ")") (parents-text parents p) ∙ append_assoc names (codes "]") (codes ")"))))
+    )
+
+pub line_names-lower : (f : ℕ → ℕ) (ns : List ℕ) → AllLower (map (λ n. line_name (f n)) ns)
+line_names-lower f [] = tt
+line_names-lower f (n ∷ ns) = (line_name-lower (f n), line_names-lower f ns)

@@ -1,0 +1,11 @@
+use Rattle.std.proofs.Common.{ap, ◌∙◌, ◌++◌, map, codes}
+use Rattle.std.proofs.lemmas.Result.{IfOk-weaker}
+use Rattle.std.proofs.lemmas.List.{append_assoc}
+use Rattle.fol_base.specs.Term.{tree_of}
+use Rattle.tstp_writer.proofs.TextLemmas.{three_added, added, bind-text}
+use Rattle.tstp_writer.proofs.items.push_bind.Goals as goal
+
+pub returns : goal.returns
+returns c =
+    added c.bytes-2.result _ _ _ _ (bind-text c.args.symbols.now (map tree_of c.args.terms.now))
+    (three_added c.bytes-2.result _ _ _ _ _ _ _ c.in_ok-bytes.ensures c.in_ok-push_terms.ensures c.bytes-2.ensures)

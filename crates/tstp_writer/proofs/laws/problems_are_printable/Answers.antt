@@ -1,0 +1,11 @@
+use Rattle.tstp_writer.proofs.ProblemLemmas.{formulas-printable, problem-lines-printable}
+use Rattle.tstp_writer.proofs.ProblemTrees.{script-printable, beginning-printable}
+use Rattle.tstp_writer.proofs.laws.problems_are_printable.Goals as goal
+
+pub returns : goal.returns
+returns c = record {
+  formulas = formulas-printable;
+  lines = problem-lines-printable;
+  by_places = script-printable;
+  beginnings = beginning-printable;
+}

@@ -1,0 +1,23 @@
+-- How the lines of a derivation are printed.
+use Rattle.std.specs.Prelude.{ℕ, List, ◌++◌, flat_map, codes}
+use Rattle.tptp_tree.specs.Entries.{AnnotatedTree, language_word, role_word}
+use Rattle.tptp_tree.specs.Printing.{formula_text}
+use Rattle.clausal_form.specs.DerivationLine.{LineTree}
+use Rattle.tstp_writer.specs.SourceTexts.{general_text, name_term, source_text}
+
+-- a formula's name: bare where it is a lower word or of digits alone, else quoted
+abbrev pub formula_name_text : List ℕ → List ℕ
+formula_name_text n = general_text (name_term n)
+
+-- an annotated formula up to its formula
+abbrev pub entry_text : AnnotatedTree → List ℕ
+entry_text a =
+    language_word a.is_clause ++ codes "(" ++ formula_name_text a.name ++ codes "," ++ role_word a.role ++ codes ","
+    ++ formula_text a.formula
+
+-- one line of text
+abbrev pub line_text : LineTree → List ℕ
+line_text t = entry_text t.entry ++ codes "," ++ source_text t.source ++ codes ").\n"
+
+abbrev pub lines_text : List LineTree → List ℕ
+lines_text ts = flat_map line_text ts
