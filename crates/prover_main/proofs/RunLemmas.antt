@@ -10,33 +10,34 @@ use Rattle.kernel_steps.specs.declared.step.Line.{Line}
 use Rattle.ground_reader.specs.GroundText.{IsReadAs}
 use Rattle.ground_reader.specs.declared.problem.GroundProblem.{GroundProblem}
 use Rattle.ground_text.specs.Lines.{source_of, lines_text}
-use Rattle.prover_main.specs.Words.{proved_file}
+use Rattle.prover_main.specs.Words.{Command, command_of}
+use Rattle.prover_main.specs.Outside.{Outside}
 use Rattle.prover_main.specs.Accepted.{form_of, is_predicate_of}
 use Rattle.prover_main.specs.Report.{usage_report, refuted_report, closed_report}
 use Rattle.plain_types.specs.declared.limits.TheConstants.{DEFAULT_INFERENCES}
-use Rattle.prover_main.specs.Run.{IsDueOn, refuted, closed, IsDueFor, Outside, IsDue, Taken, Delivered, all_taken, prefix_taken, IsRun, whole, cut_off}
+use Rattle.prover_main.specs.Run.{IsDueOn, refuted, closed, IsDueFor, IsDueTo, IsDue, Taken, Delivered, all_taken, prefix_taken, IsRun, whole, cut_off}
 
 pub run_usage :
     (words : List (List ℕ)) (outside : Outside) (taken : Taken) (status : ℕ)
-    → None ≡ proved_file words → outside.faults_after ≡ outside.faults_before → Delivered taken 6 usage_report status
+    → None ≡ command_of words → outside.faults_after ≡ outside.faults_before → Delivered taken 6 usage_report status
     → IsRun words outside taken status
 run_usage words outside taken status e calm (all_taken s t stays) =
-    let P : Option (List ℕ) → Type 0 = λ f. IsDue f outside status usage_report in
+    let P : Option Command → Type 0 = λ k. IsDue k outside status usage_report in
     whole usage_report (subst P e (s, refl, calm)) t stays
 run_usage words outside taken status e calm (prefix_taken s r p) =
-    let P : Option (List ℕ) → Type 0 = λ f. IsDue f outside 6 usage_report in
+    let P : Option Command → Type 0 = λ k. IsDue k outside 6 usage_report in
     cut_off s 6 usage_report (subst P e (refl, refl, calm)) r p
 
 pub run_due :
-    (words : List (List ℕ)) (outside : Outside) (taken : Taken) (file : List ℕ) (due : ℕ) (text : List ℕ) (status : ℕ)
-    → Some file ≡ proved_file words → IsDueFor outside file due text → Delivered taken due text status
+    (words : List (List ℕ)) (outside : Outside) (taken : Taken) (command : Command) (due : ℕ) (text : List ℕ) (status : ℕ)
+    → Some command ≡ command_of words → IsDueTo command outside due text → Delivered taken due text status
     → IsRun words outside taken status
-run_due words outside taken file due text status e cause (all_taken s t stays) =
-    let P : Option (List ℕ) → Type 0 = λ f. IsDue f outside status text in
-    let Q : ℕ → Type 0 = λ n. IsDueFor outside file n text in
+run_due words outside taken command due text status e cause (all_taken s t stays) =
+    let P : Option Command → Type 0 = λ k. IsDue k outside status text in
+    let Q : ℕ → Type 0 = λ n. IsDueTo command outside n text in
     whole text (subst P e (subst Q (sym s) cause)) t stays
-run_due words outside taken file due text status e cause (prefix_taken s r p) =
-    let P : Option (List ℕ) → Type 0 = λ f. IsDue f outside due text in
+run_due words outside taken command due text status e cause (prefix_taken s r p) =
+    let P : Option Command → Type 0 = λ k. IsDue k outside due text in
     cut_off s due text (subst P e cause) r p
 
 pub due_refuted :
@@ -73,8 +74,8 @@ due_closed bytes file text problem answer read is means e printed =
     })
 
 pub due_text :
-    (outside : Outside) (file : List ℕ) (status : ℕ) (text shown : List ℕ)
-    → text ≡ shown → IsDueFor outside file status text → IsDueFor outside file status shown
-due_text outside file status text shown e due =
-    let P : List ℕ → Type 0 = IsDueFor outside file status in
+    (outside : Outside) (command : Command) (status : ℕ) (text shown : List ℕ)
+    → text ≡ shown → IsDueTo command outside status text → IsDueTo command outside status shown
+due_text outside command status text shown e due =
+    let P : List ℕ → Type 0 = IsDueTo command outside status in
     subst P e due

@@ -1,5 +1,11 @@
 pub mod Words
+pub mod WordParts
+pub mod Outside
+pub mod FormulaName
 pub mod Accepted
 pub mod Report
+pub mod CheckAnswer
+pub mod CheckShape
+pub mod CheckReport
 pub mod Run
 pub mod AcceptedExamples

@@ -44,4 +44,4 @@ abbrev pub load_failed_report : List ℕ → List ℕ
 load_failed_report file = status_line (codes "OSError") file ++ load_line file
 
 abbrev pub usage_report : List ℕ
-usage_report = codes "usage: prove FILE\n"
+usage_report = codes "usage: prove FILE\n       check FILE DERIVATION [--tptp=DIR]\n"

@@ -6,11 +6,14 @@ use Rattle.ground_reader.specs.Syntax.{NamedFormula}
 use Rattle.ground_reader.specs.GroundText.{IsGroundText, IsWithinLimits, IsReadAs}
 use Rattle.ground_reader.specs.declared.problem.GroundProblem.{GroundProblem}
 use Rattle.outside.specs.Faults.{Rose}
-use Rattle.outside.specs.Library.{Holdings, HoldsExactly, FoundMore}
+use Rattle.outside.specs.Library.{HoldsExactly, FoundMore}
 use Rattle.outside.specs.Sink.{with_bytes, HasPrefixAfter}
 use Rattle.ground_loop.specs.Answer.{HasClosedSets, HasTriples}
 use Rattle.ground_loop.specs.Satisfaction.{Satisfied}
-use Rattle.prover_main.specs.Words.{proved_file}
+use Rattle.prover_main.specs.Words.{Command, prove, check, command_of}
+use Rattle.prover_main.specs.Outside.{Outside}
+use Rattle.prover_main.specs.CheckAnswer.{Answer, Asked, IsAnswer}
+use Rattle.prover_main.specs.CheckReport.{status_of, report_of}
 use Rattle.fol_base.specs.Symbols.{FunctionSymbols}
 use Rattle.kernel_steps.specs.Soundness.{HerbrandRefuted}
 use Rattle.prover_main.specs.Accepted.{IsAcceptedDerivation, form_of, is_predicate_of}
@@ -56,14 +59,6 @@ pub data IsDueOn (bytes file : List ℕ) (status : ℕ) (text : List ℕ) : Type
 
 -- ---- by what the library does
 
--- what the library tells, its count of faults before and after the run, how many bytes it found, and the name of its last failure
-pub record Outside : Type 0 where
-  pub told : Option Holdings
-  pub faults_before : ℕ
-  pub faults_after : ℕ
-  pub found_after : ℕ
-  pub failed_after : Option (List ℕ)
-
 -- The file was read: where the library tells, it has these bytes, within the limit. Or it was too long, or the library failed on it.
 pub data IsDueFor (outside : Outside) (file : List ℕ) (status : ℕ) (text : List ℕ) : Type 0 where
   read :
@@ -76,10 +71,22 @@ pub data IsDueFor (outside : Outside) (file : List ℕ) (status : ℕ) (text : L
       status ≡ 4 → Rose outside.faults_before outside.faults_after → IfSome outside.failed_after (λ name. name ≡ file)
       → text ≡ load_failed_report file → IsDueFor outside file status text
 
+-- `check` has an answer with its cause, and tells it.
+pub record IsCheckDue (outside : Outside) (asked : Asked) (status : ℕ) (text : List ℕ) : Type 0 where
+  pub answer : Answer
+  pub due : IsAnswer outside asked answer
+  pub status_is : status ≡ status_of answer
+  pub prints : text ≡ report_of asked.file asked.derivation answer
+
+abbrev pub IsDueTo : Command → Outside → ℕ → List ℕ → Type 0
+IsDueTo (prove file) outside status text = IsDueFor outside file status text
+IsDueTo (check file derivation root) outside status text =
+    IsCheckDue outside (record { file = file; derivation = derivation; root = root }) status text
+
 -- 6 exactly where the words are usage, and then the library's count of faults is as it was
-abbrev pub IsDue : Option (List ℕ) → Outside → ℕ → List ℕ → Type 0
+abbrev pub IsDue : Option Command → Outside → ℕ → List ℕ → Type 0
 IsDue None outside status text = (status ≡ 6) × (text ≡ usage_report) × (outside.faults_after ≡ outside.faults_before)
-IsDue (Some file) outside status text = IsDueFor outside file status text
+IsDue (Some command) outside status text = IsDueTo command outside status text
 
 -- ---- by what the sink takes
 
@@ -103,12 +110,12 @@ pub data Delivered (taken : Taken) (due : ℕ) (text : List ℕ) (status : ℕ) 
 -- is as it was.
 pub data IsRun (words : List (List ℕ)) (outside : Outside) (taken : Taken) (status : ℕ) : Type 0 where
   whole :
-      (text : List ℕ) → IsDue (proved_file words) outside status text → taken.bytes_after ≡ with_bytes taken.bytes_before text
+      (text : List ℕ) → IsDue (command_of words) outside status text → taken.bytes_after ≡ with_bytes taken.bytes_before text
       → taken.faults_after ≡ taken.faults_before → IsRun words outside taken status
   cut_off :
-      status ≡ 5 → (due : ℕ) (text : List ℕ) → IsDue (proved_file words) outside due text
+      status ≡ 5 → (due : ℕ) (text : List ℕ) → IsDue (command_of words) outside due text
       → Rose taken.faults_before taken.faults_after → HasPrefixAfter taken.bytes_before taken.bytes_after text
       → IsRun words outside taken status
   no_memory :
-      status ≡ 7 → IsSome (proved_file words) → taken.bytes_after ≡ taken.bytes_before → taken.faults_after ≡ taken.faults_before
+      status ≡ 7 → IsSome (command_of words) → taken.bytes_after ≡ taken.bytes_before → taken.faults_after ≡ taken.faults_before
       → IsRun words outside taken status

@@ -1,6 +1,8 @@
-// The prover: a problem in, a report out.
+// The prover and its checker: a problem in, or a problem and a derivation; a report out.
 #![tactic(auto)]
 
+mod check;
+mod check_report;
 mod laws;
 mod report;
 mod run;

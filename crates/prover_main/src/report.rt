@@ -20,7 +20,7 @@ fn push_for(page: &mut Page, file: &str) -> Mem<()>
 }
 
 /// Adds the line of a status.
-fn push_status(page: &mut Page, word: &[u8], file: &str) -> Mem<()>
+pub fn push_status(page: &mut Page, word: &[u8], file: &str) -> Mem<()>
     ensures { IfOk result (λ _. page.new ≡ page.old ++ status_line word.now file.now) }
 {
     page.bytes(b"% SZS status ")?;
@@ -109,14 +109,15 @@ pub fn load_failed(alloc: Global, file: &str) -> Mem<Text>
 {
     let mut page = Page::new(alloc);
     push_status(&mut page, b"OSError", file)?;
-    push_load(&mut page, file)?;
+    push_load(&mut page, file.as_bytes())?;
     Ok(page.into_text())
 }
 
-fn push_load(page: &mut Page, file: &str) -> Mem<()>
+/// Adds the line of a file that couldn't be loaded.
+pub fn push_load(page: &mut Page, file: &[u8]) -> Mem<()>
     ensures { IfOk result (λ _. page.new ≡ page.old ++ load_line file.now) }
 {
     page.bytes(b"% Load ")?;
-    push_shown(page, file.as_bytes())?;
+    push_shown(page, file)?;
     page.bytes(b"\n")
 }

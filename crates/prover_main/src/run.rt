@@ -5,10 +5,14 @@ ghost use Rattle.fol_base.specs.GroundForm.{IsGroundForm, form_size};
 ghost use Rattle.ground_reader.specs.GroundText.{IsReadAs};
 ghost use Rattle.prover_main.specs.Accepted.{form_of};
 ghost use Rattle.prover_main.specs.Report.{usage_report};
-ghost use Rattle.prover_main.specs.Run.{IsDueOn, IsDueFor, Outside, IsRun, Delivered};
+ghost use Rattle.prover_main.specs.Outside.{Outside};
+ghost use Rattle.prover_main.specs.WordParts.{command_meant};
+ghost use Rattle.prover_main.specs.Run.{IsDueOn, IsDueFor, IsDueTo, IsRun, Delivered};
 
+use crate::check::checked;
+use crate::check_report::{report_of, status_of};
 use crate::report;
-use crate::words::Words;
+use crate::words::{Command, Words};
 use fol_base::MOST_SYMBOLS;
 use ground_loop::{Ground, prove_ground};
 use ground_reader::{GroundFault, GroundProblem, read_ground};
@@ -17,7 +21,7 @@ use plain_types::{DEFAULT_INFERENCES, Mem, NoMemory, Text};
 use std::alloc::Global;
 use tptp_token::MOST_TEXT_BYTES;
 
-const USAGE: &[u8] = b"usage: prove FILE\n";
+const USAGE: &[u8] = b"usage: prove FILE\n       check FILE DERIVATION [--tptp=DIR]\n";
 
 /// A report, and the status with which the program ends.
 #[derive(Drop)]
@@ -26,7 +30,7 @@ pub struct Report {
     pub text: Text,
 }
 
-/// What the program does with the words of its command line: it loads the file, proves or gives up, and writes the
+/// What the program does with the words of its command line: it proves a problem or checks a derivation, and writes the
 /// report. The answer is the status of the report; 5 where the sink failed, and 7 where memory was wanted. For words that
 /// are usage it takes no memory.
 pub fn run<L: Library, S: Sink>(alloc: Global, words: &Words, library: &mut L, sink: &mut S) -> u8
@@ -46,9 +50,9 @@ pub fn run<L: Library, S: Sink>(alloc: Global, words: &Words, library: &mut L, s
         })
         result }
 {
-    match words.file() {
+    match words.command() {
         None => deliver_report(sink, USAGE, 6),
-        Some(file) => match report_for(alloc, file, library) {
+        Some(command) => match report_to(alloc, command, library) {
             Ok(report) => deliver_report(sink, report.text.as_slice(), report.status),
             Err(NoMemory) => 7,
         },
@@ -69,6 +73,35 @@ fn deliver_report<S: Sink>(sink: &mut S, text: &[u8], status: u8) -> u8
     match deliver(sink, text) {
         Ok(()) => status,
         Err(_) => 5,
+    }
+}
+
+/// The report that is due to a command.
+fn report_to<L: Library>(alloc: Global, command: Command<'_>, library: &mut L) -> Mem<Report>
+    ensures { IfOk result (λ report.
+        IsDueTo (command_meant command.entry)
+        (record {
+          told = L.told library.old;
+          faults_before = L.faults library.old;
+          faults_after = L.faults library.new;
+          found_after = L.found library.new;
+          failed_after = L.failed library.new;
+        })
+        report.status report.text) }
+{
+    match command {
+        Command::Prove { file } => report_for(alloc, file, library),
+        Command::Check {
+            file,
+            derivation,
+            root,
+        } => {
+            let answer = checked(alloc, library, file, derivation, root)?;
+            Ok(Report {
+                status: status_of(&answer),
+                text: report_of(alloc, file, derivation, &answer)?,
+            })
+        }
     }
 }
 

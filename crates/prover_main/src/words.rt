@@ -1,11 +1,12 @@
 // The words of the command line, and the rule on them.
 
-ghost use Rattle.std.specs.Prelude.{◌≡◌, ◌<◌, ◌^◌, ◌↔◌, [], ◌∷◌, ◌++◌, length, map, IfOk, OnErr, IsTrue, String, string_bytes};
+ghost use Rattle.std.specs.Prelude.{◌≡◌, ◌<◌, ◌^◌, ◌↔◌, [], ◌∷◌, ◌++◌, length, map, codes, ℕ, List, IfOk, OnErr, IsTrue, String, string_bytes};
 ghost use Rattle.std.specs.Global.{Global};
 ghost use Rattle.std.specs.Slice.Iter.{iter_rest};
 ghost use Rattle.std.specs.Iterator.Adapters.{IterYieldsInOrder, IterYieldsInReverse};
 ghost use Rattle.std.specs.Option.{option_map};
-ghost use Rattle.prover_main.specs.Words.{proved_file, is_file_word as file_word};
+ghost use Rattle.prover_main.specs.Words.{command_of, is_option as option_word, value_behind, file_words, options, prove_with, check_with, root_in};
+ghost use Rattle.prover_main.specs.WordParts.{few_with, few_of, few_meant, lent, command_meant};
 
 use plain_types::Mem;
 use std::alloc::Global;
@@ -24,6 +25,118 @@ impl Model for Words {
     ghost Value = { List (List ℕ) };
 
     ghost view = { λ w. map string_bytes w.words.items };
+}
+
+/// A command with its values.
+#[derive(Clone, Copy)]
+pub enum Command<'a> {
+    /// Prove the problem of a file.
+    Prove { file: &'a str },
+    /// Check a derivation of the problem of a file. Includes are loaded from the root, where it is given.
+    Check {
+        file: &'a str,
+        derivation: &'a str,
+        root: Option<&'a str>,
+    },
+}
+
+/// Words of one kind: the first two, and whether there are more.
+#[derive(Clone, Copy)]
+enum Few<'a> {
+    None,
+    One(&'a str),
+    Two(&'a str, &'a str),
+    More,
+}
+
+impl<'a> Few<'a> {
+    /// These words and one more.
+    fn with(self, word: &'a str) -> Few<'a>
+        ensures { few_meant result ≡ few_with (few_meant self) word.now }
+    {
+        match self {
+            Few::None => Few::One(word),
+            Few::One(first) => Few::Two(first, word),
+            Few::Two(_, _) | Few::More => Few::More,
+        }
+    }
+}
+
+/// The words behind a command, by kinds.
+#[derive(Clone, Copy)]
+struct Sorted<'a> {
+    files: Few<'a>,
+    options: Few<'a>,
+}
+
+/// The words by kinds.
+fn sorted(words: &[String]) -> Sorted<'_>
+    ensures files { few_meant result.files ≡ few_of (file_words (map string_bytes words.now)) }
+    ensures options { few_meant result.options ≡ few_of (options (map string_bytes words.now)) }
+{
+    let mut files = Few::None;
+    let mut options = Few::None;
+    for word in words {
+        let word = word.as_str();
+        if is_option(word) {
+            options = options.with(word);
+        } else {
+            files = files.with(word);
+        }
+    }
+    Sorted { files, options }
+}
+
+/// Whether a word is an option: it begins with `-`.
+fn is_option(word: &str) -> bool
+    ensures { result ≡ option_word word.now }
+{
+    match word.as_bytes().first() {
+        None => false,
+        Some(byte) => *byte == b'-',
+    }
+}
+
+/// The folder from which includes are loaded, by its option.
+fn root(option: &str) -> Option<&str>
+    ensures { lent result ≡ value_behind (codes "--tptp=") option.now }
+{
+    let value = option.strip_prefix("--tptp=")?;
+    if value.is_empty() { None } else { Some(value) }
+}
+
+/// `prove FILE`. None exactly where the words are usage.
+fn prove_command<'a>(words: Sorted<'a>) -> Option<Command<'a>>
+    ensures { (files given : List (List ℕ)) → few_meant words.files ≡ few_of files → few_meant words.options ≡ few_of given →
+        option_map command_meant result ≡ prove_with files given }
+{
+    match (words.files, words.options) {
+        (Few::One(file), Few::None) if !file.is_empty() => Some(Command::Prove { file }),
+        _ => None,
+    }
+}
+
+/// `check FILE DERIVATION`, with the option for includes. None exactly where the words are usage.
+fn check_command<'a>(words: Sorted<'a>) -> Option<Command<'a>>
+    ensures { (files given : List (List ℕ)) → few_meant words.files ≡ few_of files → few_meant words.options ≡ few_of given →
+        option_map command_meant result ≡ check_with files (root_in given) }
+{
+    let Few::Two(file, derivation) = words.files else {
+        return None;
+    };
+    let root = match words.options {
+        Few::None => None,
+        Few::One(option) => Some(root(option)?),
+        _ => return None,
+    };
+    if file.is_empty() || derivation.is_empty() {
+        return None;
+    }
+    Some(Command::Check {
+        file,
+        derivation,
+        root,
+    })
 }
 
 impl Words {
@@ -63,30 +176,15 @@ impl Words {
         self.words.iter()
     }
 
-    /// The file of `prove FILE`. None exactly where the words are usage.
-    pub fn file(&self) -> Option<&str>
-        ensures { option_map (λ file. file.now) result ≡ proved_file self.entry.now }
+    /// The command that the words are. None exactly where they are usage. It takes no memory.
+    pub fn command(&self) -> Option<Command<'_>>
+        ensures { option_map command_meant result ≡ command_of self.entry.now }
     {
-        match self.words.as_slice() {
-            [command, file] => {
-                let file = file.as_str();
-                if command.as_str() == "prove" && is_file_word(file) {
-                    Some(file)
-                } else {
-                    None
-                }
-            }
+        let (command, words) = self.words.as_slice().split_first()?;
+        match command.as_str() {
+            "prove" => prove_command(sorted(words)),
+            "check" => check_command(sorted(words)),
             _ => None,
         }
-    }
-}
-
-/// Whether a word can name a file: it isn't empty and doesn't begin with `-`.
-fn is_file_word(word: &str) -> bool
-    ensures { result ≡ file_word word.now }
-{
-    match word.as_bytes().first() {
-        None => false,
-        Some(byte) => *byte != 45,
     }
 }
