@@ -48,7 +48,7 @@ pub fn checked<L: Library>(
           found_after = L.found library.new;
           failed_after = L.failed library.new;
         })
-        (record { file = file.now; derivation = derivation.now; root = option_copied root.entry; })
+        (record { file = file.now; derivation = derivation.now; root = option_copied root.entry })
         (answer_meant answer)) }
 {
     let problem = match read_problem(alloc, library, file, root) {

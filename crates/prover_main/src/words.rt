@@ -31,7 +31,9 @@ impl Model for Words {
 #[derive(Clone, Copy)]
 pub enum Command<'a> {
     /// Prove the problem of a file.
-    Prove { file: &'a str },
+    Prove {
+        file: &'a str,
+    },
     /// Check a derivation of the problem of a file. Includes are loaded from the root, where it is given.
     Check {
         file: &'a str,
@@ -64,13 +66,13 @@ impl<'a> Few<'a> {
 
 /// The words behind a command, by kinds.
 #[derive(Clone, Copy)]
-struct Sorted<'a> {
+struct WordKinds<'a> {
     files: Few<'a>,
     options: Few<'a>,
 }
 
 /// The words by kinds.
-fn sorted(words: &[String]) -> Sorted<'_>
+fn words_by_kind(words: &[String]) -> WordKinds<'_>
     ensures files { few_meant result.files ≡ few_of (file_words (map string_bytes words.now)) }
     ensures options { few_meant result.options ≡ few_of (options (map string_bytes words.now)) }
 {
@@ -84,7 +86,7 @@ fn sorted(words: &[String]) -> Sorted<'_>
             files = files.with(word);
         }
     }
-    Sorted { files, options }
+    WordKinds { files, options }
 }
 
 /// Whether a word is an option: it begins with `-`.
@@ -106,7 +108,7 @@ fn root(option: &str) -> Option<&str>
 }
 
 /// `prove FILE`. None exactly where the words are usage.
-fn prove_command<'a>(words: Sorted<'a>) -> Option<Command<'a>>
+fn prove_command<'a>(words: WordKinds<'a>) -> Option<Command<'a>>
     ensures { (files given : List (List ℕ)) → few_meant words.files ≡ few_of files → few_meant words.options ≡ few_of given →
         option_map command_meant result ≡ prove_with files given }
 {
@@ -117,7 +119,7 @@ fn prove_command<'a>(words: Sorted<'a>) -> Option<Command<'a>>
 }
 
 /// `check FILE DERIVATION`, with the option for includes. None exactly where the words are usage.
-fn check_command<'a>(words: Sorted<'a>) -> Option<Command<'a>>
+fn check_command<'a>(words: WordKinds<'a>) -> Option<Command<'a>>
     ensures { (files given : List (List ℕ)) → few_meant words.files ≡ few_of files → few_meant words.options ≡ few_of given →
         option_map command_meant result ≡ check_with files (root_in given) }
 {
@@ -182,8 +184,8 @@ impl Words {
     {
         let (command, words) = self.words.as_slice().split_first()?;
         match command.as_str() {
-            "prove" => prove_command(sorted(words)),
-            "check" => check_command(sorted(words)),
+            "prove" => prove_command(words_by_kind(words)),
+            "check" => check_command(words_by_kind(words)),
             _ => None,
         }
     }
