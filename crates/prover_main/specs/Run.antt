@@ -79,7 +79,7 @@ pub record IsCheckDue (outside : Outside) (asked : Asked) (status : ℕ) (text :
   pub prints : text ≡ report_of asked.file asked.derivation answer
 
 abbrev pub IsDueTo : Command → Outside → ℕ → List ℕ → Type 0
-IsDueTo (prove file) outside status text = IsDueFor outside file status text
+IsDueTo (prove file root limit) outside status text = IsDueFor outside file status text
 IsDueTo (check file derivation root) outside status text =
     IsCheckDue outside (record { file = file; derivation = derivation; root = root }) status text
 

@@ -90,7 +90,7 @@ fn report_to<L: Library>(alloc: Global, command: Command<'_>, library: &mut L) -
         report.status report.text) }
 {
     match command {
-        Command::Prove { file } => report_for(alloc, file, library),
+        Command::Prove { file, .. } => report_for(alloc, file, library),
         Command::Check {
             file,
             derivation,

@@ -4,11 +4,11 @@ ghost use Rattle.std.specs.Prelude.{◌≡◌, ◌<◌, ◌^◌, ◌↔◌, [], 
 ghost use Rattle.std.specs.Global.{Global};
 ghost use Rattle.std.specs.Slice.Iter.{iter_rest};
 ghost use Rattle.std.specs.Iterator.Adapters.{IterYieldsInOrder, IterYieldsInReverse};
-ghost use Rattle.std.specs.Option.{option_map};
-ghost use Rattle.prover_main.specs.Words.{command_of, is_option as option_word, value_behind, file_words, options, prove_with, check_with, root_in};
-ghost use Rattle.prover_main.specs.WordParts.{few_with, few_of, few_meant, lent, command_meant};
+ghost use Rattle.std.specs.Option.{option_map, option_and_then};
+ghost use Rattle.prover_main.specs.Words.{command_of, is_option as option_word, value_behind, limit_in, with_root, with_limit, with_option, file_words, options_in};
+ghost use Rattle.prover_main.specs.WordParts.{few_with, few_of, few_meant, lent, options_meant, command_meant, prove_few, check_few};
 
-use plain_types::Mem;
+use plain_types::{DEFAULT_INFERENCES, MOST_INFERENCES, Mem};
 use std::alloc::Global;
 use std::marker::Model;
 use std::slice::Iter;
@@ -30,9 +30,11 @@ impl Model for Words {
 /// A command with its values.
 #[derive(Clone, Copy)]
 pub enum Command<'a> {
-    /// Prove the problem of a file.
+    /// Prove the problem of a file, with so many inferences at most. Includes are loaded from the root, where it is given.
     Prove {
         file: &'a str,
+        root: Option<&'a str>,
+        inferences: u32,
     },
     /// Check a derivation of the problem of a file. Includes are loaded from the root, where it is given.
     Check {
@@ -42,51 +44,78 @@ pub enum Command<'a> {
     },
 }
 
-/// Words of one kind: the first two, and whether there are more.
+/// File words: the first two, and whether there are more.
 #[derive(Clone, Copy)]
-enum Few<'a> {
+enum FileWords<'a> {
     None,
     One(&'a str),
     Two(&'a str, &'a str),
     More,
 }
 
-impl<'a> Few<'a> {
+impl<'a> FileWords<'a> {
     /// These words and one more.
-    fn with(self, word: &'a str) -> Few<'a>
+    fn with(self, word: &'a str) -> FileWords<'a>
         ensures { few_meant result ≡ few_with (few_meant self) word.now }
     {
         match self {
-            Few::None => Few::One(word),
-            Few::One(first) => Few::Two(first, word),
-            Few::Two(_, _) | Few::More => Few::More,
+            FileWords::None => FileWords::One(word),
+            FileWords::One(first) => FileWords::Two(first, word),
+            FileWords::Two(_, _) | FileWords::More => FileWords::More,
         }
     }
 }
 
-/// The words behind a command, by kinds.
+/// What options give: how many inferences are counted, and the folder from which includes are loaded.
 #[derive(Clone, Copy)]
-struct WordKinds<'a> {
-    files: Few<'a>,
-    options: Few<'a>,
+struct Options<'a> {
+    inferences: Option<u32>,
+    root: Option<&'a str>,
 }
 
-/// The words by kinds.
-fn words_by_kind(words: &[String]) -> WordKinds<'_>
-    ensures files { few_meant result.files ≡ few_of (file_words (map string_bytes words.now)) }
-    ensures options { few_meant result.options ≡ few_of (options (map string_bytes words.now)) }
-{
-    let mut files = Few::None;
-    let mut options = Few::None;
-    for word in words {
-        let word = word.as_str();
-        if is_option(word) {
-            options = options.with(word);
-        } else {
-            files = files.with(word);
+impl<'a> Options<'a> {
+    /// These options and one more. None where it isn't one, or stands twice.
+    fn with(self, word: &'a str) -> Option<Options<'a>>
+        ensures { option_map options_meant result ≡ with_option (options_meant self) word.now }
+    {
+        match value_behind("--tptp=", word) {
+            Some(root) => self.with_root(root),
+            None => self.with_limit(value_behind("--inferences=", word)),
         }
     }
-    WordKinds { files, options }
+
+    fn with_root(self, root: &'a str) -> Option<Options<'a>>
+        ensures { option_map options_meant result ≡ with_root (options_meant self) root.now }
+    {
+        match self.root {
+            Some(_) => None,
+            None => Some(Options {
+                inferences: self.inferences,
+                root: Some(root),
+            }),
+        }
+    }
+
+    fn with_limit(self, value: Option<&str>) -> Option<Options<'a>>
+        ensures { option_map options_meant result ≡ with_limit (options_meant self) (lent value.entry) }
+    {
+        let limit = limit_in(value?)?;
+        match self.inferences {
+            Some(_) => None,
+            None => Some(Options {
+                inferences: Some(limit),
+                root: self.root,
+            }),
+        }
+    }
+}
+
+/// What stands behind a command.
+#[derive(Clone, Copy)]
+struct Arguments<'a> {
+    files: FileWords<'a>,
+    /// None where a word that begins with `-` is no option.
+    options: Option<Options<'a>>,
 }
 
 /// Whether a word is an option: it begins with `-`.
@@ -99,45 +128,96 @@ fn is_option(word: &str) -> bool
     }
 }
 
-/// The folder from which includes are loaded, by its option.
-fn root(option: &str) -> Option<&str>
-    ensures { lent result ≡ value_behind (codes "--tptp=") option.now }
+/// The value behind an option's name and `=`, which isn't empty.
+fn value_behind<'a>(name: &str, word: &'a str) -> Option<&'a str>
+    ensures { lent result ≡ value_behind name.now word.now }
 {
-    let value = option.strip_prefix("--tptp=")?;
+    let value = word.strip_prefix(name)?;
     if value.is_empty() { None } else { Some(value) }
 }
 
-/// `prove FILE`. None exactly where the words are usage.
-fn prove_command<'a>(words: WordKinds<'a>) -> Option<Command<'a>>
-    ensures { (files given : List (List ℕ)) → few_meant words.files ≡ few_of files → few_meant words.options ≡ few_of given →
-        option_map command_meant result ≡ prove_with files given }
+/// The number of inferences that a value is: decimal digits without a leading zero.
+fn limit_in(value: &str) -> Option<u32>
+    ensures { result ≡ limit_in value.now }
 {
-    match (words.files, words.options) {
-        (Few::One(file), Few::None) if !file.is_empty() => Some(Command::Prove { file }),
+    let digits = value.as_bytes();
+    match digits.first() {
+        None | Some(b'0') => return None,
+        Some(_) => {}
+    }
+    let mut limit = 0;
+    for digit in digits {
+        if !digit.is_ascii_digit() {
+            return None;
+        }
+        limit = limit * 10 + u32::from(*digit - b'0');
+        if limit > MOST_INFERENCES {
+            return None;
+        }
+    }
+    Some(limit)
+}
+
+/// The options and one word more.
+fn options_with<'a>(options: Option<Options<'a>>, word: &'a str) -> Option<Options<'a>>
+    ensures { option_map options_meant result ≡ option_and_then (λ g. with_option g word.now) (option_map options_meant options) }
+{
+    options?.with(word)
+}
+
+/// The words by kinds.
+fn arguments(words: &[String]) -> Arguments<'_>
+    ensures files { few_meant result.files ≡ few_of (file_words (map string_bytes words.now)) }
+    ensures options { option_map options_meant result.options ≡ options_in (map string_bytes words.now) }
+{
+    let mut files = FileWords::None;
+    let mut options = Some(Options {
+        inferences: None,
+        root: None,
+    });
+    for word in words {
+        let word = word.as_str();
+        if is_option(word) {
+            options = options_with(options, word);
+        } else {
+            files = files.with(word);
+        }
+    }
+    Arguments { files, options }
+}
+
+/// `prove FILE`, with its options. None exactly where the words are usage.
+fn prove_command(arguments: Arguments<'_>) -> Option<Command<'_>>
+    ensures { option_map command_meant result ≡ prove_few (few_meant arguments.files) (option_map options_meant arguments.options) }
+{
+    match arguments.files {
+        FileWords::One(file) if !file.is_empty() => {
+            let given = arguments.options?;
+            Some(Command::Prove {
+                file,
+                root: given.root,
+                inferences: given.inferences.unwrap_or(DEFAULT_INFERENCES),
+            })
+        }
         _ => None,
     }
 }
 
 /// `check FILE DERIVATION`, with the option for includes. None exactly where the words are usage.
-fn check_command<'a>(words: WordKinds<'a>) -> Option<Command<'a>>
-    ensures { (files given : List (List ℕ)) → few_meant words.files ≡ few_of files → few_meant words.options ≡ few_of given →
-        option_map command_meant result ≡ check_with files (root_in given) }
+fn check_command(arguments: Arguments<'_>) -> Option<Command<'_>>
+    ensures { option_map command_meant result ≡ check_few (few_meant arguments.files) (option_map options_meant arguments.options) }
 {
-    let Few::Two(file, derivation) = words.files else {
+    let FileWords::Two(file, derivation) = arguments.files else {
         return None;
     };
-    let root = match words.options {
-        Few::None => None,
-        Few::One(option) => Some(root(option)?),
-        _ => return None,
-    };
-    if file.is_empty() || derivation.is_empty() {
+    let given = arguments.options?;
+    if file.is_empty() || derivation.is_empty() || given.inferences.is_some() {
         return None;
     }
     Some(Command::Check {
         file,
         derivation,
-        root,
+        root: given.root,
     })
 }
 
@@ -184,8 +264,8 @@ impl Words {
     {
         let (command, words) = self.words.as_slice().split_first()?;
         match command.as_str() {
-            "prove" => prove_command(words_by_kind(words)),
-            "check" => check_command(words_by_kind(words)),
+            "prove" => prove_command(arguments(words)),
+            "check" => check_command(arguments(words)),
             _ => None,
         }
     }
