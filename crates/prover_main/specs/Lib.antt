@@ -1,11 +1,8 @@
 pub mod Words
 pub mod WordParts
 pub mod Outside
-pub mod FormulaName
-pub mod Accepted
-pub mod Report
-pub mod CheckAnswer
-pub mod CheckShape
-pub mod CheckReport
+pub mod Names
+pub mod Answer
+pub mod AnswerShape
+pub mod Reports
 pub mod Run
-pub mod AcceptedExamples

@@ -1,10 +1,13 @@
 // The prover and its checker: a problem in, or a problem and a derivation; a report out.
 #![tactic(auto)]
 
+mod answer;
 mod check;
-mod check_report;
-mod laws;
+mod names;
+mod problem;
+mod prove;
 mod report;
+mod report_words;
 mod run;
 mod words;
 

@@ -7,6 +7,7 @@ ghost use Rattle.std.specs.Iterator.Adapters.{IterYieldsInOrder, IterYieldsInRev
 ghost use Rattle.std.specs.Option.{option_map, option_and_then};
 ghost use Rattle.prover_main.specs.Words.{command_of, is_option as option_word, value_behind, limit_in, with_root, with_limit, with_option, file_words, options_in};
 ghost use Rattle.prover_main.specs.WordParts.{few_with, few_of, few_meant, lent, options_meant, command_meant, prove_few, check_few};
+ghost use Rattle.tptp_token.specs.Spelling.{is_digit as digit};
 
 use plain_types::{DEFAULT_INFERENCES, MOST_INFERENCES, Mem};
 use std::alloc::Global;
@@ -56,7 +57,7 @@ enum FileWords<'a> {
 impl<'a> FileWords<'a> {
     /// These words and one more.
     fn with(self, word: &'a str) -> FileWords<'a>
-        ensures { few_meant result ≡ few_with (few_meant self) word.now }
+        ensures { few_meant result ≡ few_with (few_meant self.entry) word.now }
     {
         match self {
             FileWords::None => FileWords::One(word),
@@ -76,7 +77,7 @@ struct Options<'a> {
 impl<'a> Options<'a> {
     /// These options and one more. None where it isn't one, or stands twice.
     fn with(self, word: &'a str) -> Option<Options<'a>>
-        ensures { option_map options_meant result ≡ with_option (options_meant self) word.now }
+        ensures { option_map options_meant result ≡ with_option (options_meant self.entry) word.now }
     {
         match value_behind("--tptp=", word) {
             Some(root) => self.with_root(root),
@@ -85,7 +86,7 @@ impl<'a> Options<'a> {
     }
 
     fn with_root(self, root: &'a str) -> Option<Options<'a>>
-        ensures { option_map options_meant result ≡ with_root (options_meant self) root.now }
+        ensures { option_map options_meant result ≡ with_root (options_meant self.entry) root.now }
     {
         match self.root {
             Some(_) => None,
@@ -97,7 +98,7 @@ impl<'a> Options<'a> {
     }
 
     fn with_limit(self, value: Option<&str>) -> Option<Options<'a>>
-        ensures { option_map options_meant result ≡ with_limit (options_meant self) (lent value.entry) }
+        ensures { option_map options_meant result ≡ with_limit (options_meant self.entry) (lent value.entry) }
     {
         let limit = limit_in(value?)?;
         match self.inferences {
@@ -140,14 +141,13 @@ fn value_behind<'a>(name: &str, word: &'a str) -> Option<&'a str>
 fn limit_in(value: &str) -> Option<u32>
     ensures { result ≡ limit_in value.now }
 {
-    let digits = value.as_bytes();
-    match digits.first() {
-        None | Some(b'0') => return None,
-        Some(_) => {}
+    let (first, digits) = value.as_bytes().split_first()?;
+    if *first < b'1' || b'9' < *first {
+        return None;
     }
-    let mut limit = 0;
+    let mut limit = u32::from(*first - b'0');
     for digit in digits {
-        if !digit.is_ascii_digit() {
+        if !is_digit(*digit) {
             return None;
         }
         limit = limit * 10 + u32::from(*digit - b'0');
@@ -158,15 +158,21 @@ fn limit_in(value: &str) -> Option<u32>
     Some(limit)
 }
 
+fn is_digit(byte: u8) -> bool
+    ensures { result ≡ digit byte }
+{
+    b'0' <= byte && byte <= b'9'
+}
+
 /// The options and one word more.
 fn options_with<'a>(options: Option<Options<'a>>, word: &'a str) -> Option<Options<'a>>
-    ensures { option_map options_meant result ≡ option_and_then (λ g. with_option g word.now) (option_map options_meant options) }
+    ensures { option_map options_meant result ≡ option_and_then (λ g. with_option g word.now) (option_map options_meant options.entry) }
 {
     options?.with(word)
 }
 
 /// The words by kinds.
-fn arguments(words: &[String]) -> Arguments<'_>
+fn arguments_of(words: &[String]) -> Arguments<'_>
     ensures files { few_meant result.files ≡ few_of (file_words (map string_bytes words.now)) }
     ensures options { option_map options_meant result.options ≡ options_in (map string_bytes words.now) }
 {
@@ -188,7 +194,7 @@ fn arguments(words: &[String]) -> Arguments<'_>
 
 /// `prove FILE`, with its options. None exactly where the words are usage.
 fn prove_command(arguments: Arguments<'_>) -> Option<Command<'_>>
-    ensures { option_map command_meant result ≡ prove_few (few_meant arguments.files) (option_map options_meant arguments.options) }
+    ensures { option_map command_meant result ≡ prove_few (few_meant arguments.entry.files) (option_map options_meant arguments.entry.options) }
 {
     match arguments.files {
         FileWords::One(file) if !file.is_empty() => {
@@ -205,7 +211,7 @@ fn prove_command(arguments: Arguments<'_>) -> Option<Command<'_>>
 
 /// `check FILE DERIVATION`, with the option for includes. None exactly where the words are usage.
 fn check_command(arguments: Arguments<'_>) -> Option<Command<'_>>
-    ensures { option_map command_meant result ≡ check_few (few_meant arguments.files) (option_map options_meant arguments.options) }
+    ensures { option_map command_meant result ≡ check_few (few_meant arguments.entry.files) (option_map options_meant arguments.entry.options) }
 {
     let FileWords::Two(file, derivation) = arguments.files else {
         return None;
@@ -264,8 +270,8 @@ impl Words {
     {
         let (command, words) = self.words.as_slice().split_first()?;
         match command.as_str() {
-            "prove" => prove_command(arguments(words)),
-            "check" => check_command(arguments(words)),
+            "prove" => prove_command(arguments_of(words)),
+            "check" => check_command(arguments_of(words)),
             _ => None,
         }
     }
