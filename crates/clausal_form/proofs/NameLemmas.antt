@@ -1,5 +1,5 @@
 -- The different names of a list, as a walk over it meets them.
-use Rattle.std.proofs.Common.{◌≡◌, ℕ, ◌+◌, ◌<◌, Bool, true, false, not, ◌||◌, List, [], ◌∷◌, ◌++◌, length, drop, get_or, refl, ap, sym, ◌∙◌, append_assoc}
+use Rattle.std.proofs.Common.{◌≡◌, ℕ, ◌+◌, ◌<◌, Bool, true, false, not, ◌||◌, List, [], ◌∷◌, ◌++◌, length, map, drop, get_or, refl, ap, ap₂, sym, ◌∙◌, append_assoc}
 use Rattle.std.specs.Prelude.{bytes_eq, if◌then◌else◌}
 use Rattle.std.specs.List.{list_any}
 use Rattle.std.proofs.lemmas.Slice.Eq.{bytes_eq-Decides}
@@ -10,6 +10,8 @@ use Rattle.signature.specs.Occurrences.{formula_symbols}
 use Rattle.signature.specs.Environment.{different_names, without_names, under_for_all, free_names, closed}
 use Rattle.signature.proofs.OccurrenceLemmas.{drop-item}
 use Rattle.skolem.specs.Skolemized.{AreKnown}
+use Rattle.skolem.specs.Name.{same_name, name_of}
+use Rattle.skolem.specs.declared.name.VariableRef.{VariableRef}
 
 abbrev Names : Type 0
 Names = List (List ℕ)
@@ -18,7 +20,7 @@ without-none : (xs : Names) → without_names [] xs ≡ xs
 without-none [] = refl
 without-none (x ∷ xs) = ap (λ ys. x ∷ ys) (without-none xs)
 
-pub names-begin : (found names : Names) → found ≡ [] → found ++ without_names found (different_names (drop 0 names)) ≡ different_names names
+names-begin : (found names : Names) → found ≡ [] → found ++ without_names found (different_names (drop 0 names)) ≡ different_names names
 names-begin found names h = ap (λ fs. fs ++ without_names fs (different_names names)) h ∙ without-none (different_names names)
 
 any-append : (p : List ℕ → Bool) (xs ys : Names) → list_any p (xs ++ ys) ≡ (list_any p xs || list_any p ys)
@@ -65,7 +67,7 @@ without-more found x (y ∷ ds) =
         rest
         ∙ ap (λ t. if not t then y ∷ without_names found (without_names (x ∷ []) ds) else without_names found (without_names (x ∷ []) ds)) (sym e)
 
-pub names-skip :
+names-skip :
     (names : Names) (i : ℕ) (x : List ℕ) (found lent all : Names)
     → i < length names → x ≡ get_or names i x → lent ≡ found → list_any (bytes_eq x) lent ≡ true
     → found ++ without_names found (different_names (drop i names)) ≡ all
@@ -81,7 +83,7 @@ names-skip names i x found lent all h e l s m =
     t : list_any (bytes_eq x) found ≡ true
     t = ap (list_any (bytes_eq x)) (sym l) ∙ s
 
-pub names-more :
+names-more :
     (names : Names) (i : ℕ) (x y : List ℕ) (found lent new all : Names)
     → i < length names → x ≡ get_or names i x → lent ≡ found → list_any (bytes_eq x) lent ≡ false → y ≡ x → new ≡ found ++ y ∷ []
     → found ++ without_names found (different_names (drop i names)) ≡ all
@@ -98,6 +100,67 @@ names-more names i x y found lent new all h e l s g n m =
 
     t : list_any (bytes_eq x) found ≡ false
     t = ap (list_any (bytes_eq x)) (sym l) ∙ s
+
+-- ---- the names that a set holds
+
+abbrev pub texts_of : List VariableRef → Names
+texts_of ks = map (λ (k : VariableRef). k.text.now) ks
+
+abbrev is_key : VariableRef → List VariableRef → Bool
+is_key x ks = list_any (λ k. same_name (name_of x) (name_of k)) ks
+
+any-texts : (x : VariableRef) (ks : List VariableRef) → is_key x ks ≡ list_any (bytes_eq x.text.now) (texts_of ks)
+any-texts x [] = refl
+any-texts x (k ∷ ks) = ap (λ t. bytes_eq x.text.now k.text.now || t) (any-texts x ks)
+
+texts-append : (ks : List VariableRef) (x : VariableRef) → texts_of (ks ++ x ∷ []) ≡ texts_of ks ++ x.text.now ∷ []
+texts-append [] x = refl
+texts-append (k ∷ ks) x = ap (λ ts. k.text.now ∷ ts) (texts-append ks x)
+
+-- the different names so far stand in the set, and in a list
+abbrev pub IsMet : Names → ℕ → List VariableRef → Names → Type 0
+IsMet names i keys found =
+    (found ++ without_names found (different_names (drop i names)) ≡ different_names names) × (texts_of keys ≡ found)
+
+pub met-begin : (names found : Names) (keys : List VariableRef) → found ≡ [] → keys ≡ [] → IsMet names 0 keys found
+met-begin names found keys h k = (names-begin found names h, ap texts_of k ∙ sym h)
+
+pub met-again :
+    (names : Names) (i : ℕ) (name : List ℕ) (x : VariableRef) (keys new : List VariableRef) (found : Names)
+    → i < length names → name ≡ get_or names i name → x.text.now ≡ name
+    → new ≡ (if is_key x keys then keys else keys ++ x ∷ []) → false ≡ not (is_key x keys)
+    → IsMet names i keys found → IsMet names (i + 1) new found
+met-again names i name x keys new found h e l n t m = (
+  names-skip names i name found (texts_of keys) (different_names names) h e m.1
+  (ap (λ z. list_any (bytes_eq z) (texts_of keys)) (sym l) ∙ sym (any-texts x keys) ∙ there) m.0,
+  ap texts_of (n ∙ ap (λ b. if b then keys else keys ++ x ∷ []) there) ∙ m.1,
+)
+  where
+    there : is_key x keys ≡ true
+    there = by (is_key x keys) t
+      where
+        by : (b : Bool) → false ≡ not b → b ≡ true
+        by true g = refl
+        by false g = cc
+
+pub met-first :
+    (names : Names) (i : ℕ) (name copy : List ℕ) (x : VariableRef) (keys new : List VariableRef) (found more : Names)
+    → i < length names → name ≡ get_or names i name → x.text.now ≡ name
+    → new ≡ (if is_key x keys then keys else keys ++ x ∷ []) → true ≡ not (is_key x keys) → copy ≡ name → more ≡ found ++ copy ∷ []
+    → IsMet names i keys found → IsMet names (i + 1) new more
+met-first names i name copy x keys new found more h e l n t g p m = (
+  names-more names i name copy found (texts_of keys) more (different_names names) h e m.1
+  (ap (λ z. list_any (bytes_eq z) (texts_of keys)) (sym l) ∙ sym (any-texts x keys) ∙ absent) g p m.0,
+  ap texts_of (n ∙ ap (λ b. if b then keys else keys ++ x ∷ []) absent) ∙ texts-append keys x
+      ∙ ap₂ (λ ts z. ts ++ z ∷ []) m.1 (l ∙ sym g) ∙ sym p,
+)
+  where
+    absent : is_key x keys ≡ false
+    absent = by (is_key x keys) t
+      where
+        by : (b : Bool) → true ≡ not b → b ≡ false
+        by true g = cc
+        by false g = refl
 
 -- ---- symbols
 

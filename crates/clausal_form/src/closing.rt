@@ -11,7 +11,9 @@ ghost use Rattle.formula_nnf.specs.NormalForm.{normal_form, quantifier_form};
 ghost use Rattle.formula_nnf.specs.Shape.{nnf_tree};
 
 use formula_nnf::{Nnf, NnfBox, nnf};
+use indexmap::IndexSet;
 use plain_types::{Mem, Text, Texts};
+use skolem::VariableRef;
 use std::alloc::Global;
 use tptp_tree::{Annotated, Formula, TreeTerm};
 
@@ -57,9 +59,14 @@ pub(crate) fn different_free_names(alloc: Global, formula: &Formula) -> Mem<Text
 fn different(alloc: Global, names: &[Text]) -> Mem<Texts>
     ensures { IfOk result (λ found. found ≡ different_names names.now) }
 {
+    let mut met = IndexSet::new(alloc);
     let mut found = Texts::new(alloc);
     for name in names {
-        if is_among(name, found.as_slice()) {
+        let key = VariableRef {
+            text: name.as_slice(),
+        };
+        let is_new = met.insert(key)?;
+        if !is_new {
             continue;
         }
         found.push(name.copy(alloc)?)?;

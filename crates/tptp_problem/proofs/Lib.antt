@@ -10,3 +10,4 @@ pub mod PassedLemmas
 pub mod OutcomeLemmas
 pub mod ConjectureLemmas
 pub mod ClosedLemmas
+pub mod SizeLemmas

@@ -1,12 +1,15 @@
 // The laws of the definitions: each is the contract of a function without arguments and with an empty body.
 
-ghost use Rattle.std.specs.Prelude.{◌≡◌, ◌≢◌, ◌≤◌, ℕ, true, false, count_by, List, [], Option, Some};
+ghost use Rattle.std.specs.Prelude.{◌≡◌, ◌≢◌, ◌≤◌, ℕ, true, false, count_by, List, [], map, Option, Some};
 ghost use Rattle.outside.specs.Library.{Holdings};
 ghost use Rattle.tptp_reader.specs.declared.cause.ReadCause.{ReadCause};
 ghost use Rattle.tptp_reader.specs.declared.cause.ReadCause.TheVariants.{Load};
 ghost use Rattle.std.specs.List.{AllByRecursion};
 ghost use Rattle.tptp_tree.specs.Entries.{is_conjecture};
-ghost use Rattle.tptp_problem.specs.Formulas.{Placed};
+ghost use Rattle.tptp_tree.specs.declared.problem.Annotated.{Annotated};
+ghost use Rattle.tptp_tree.specs.ProblemSize.{problem_size, HasProblemSize};
+ghost use Rattle.tptp_problem.specs.declared.limits.TheConstants.{MOST_PROBLEM_BYTES};
+ghost use Rattle.tptp_problem.specs.Formulas.{Placed, placed};
 ghost use Rattle.tptp_problem.specs.Closed.{closed_within};
 ghost use Rattle.tptp_problem.specs.Problem.{IsProblem, IsProblemFault};
 
@@ -39,4 +42,15 @@ pub fn closed_formulas()
     ensures { (told : Option Holdings) (file : List ℕ) (root : Option (List ℕ)) (formulas : List Placed)
         → IsProblem told file root formulas
         → AllByRecursion (λ (f : Placed). f.tree.is_clause ≡ false → closed_within [] f.tree.formula ≡ true) formulas }
+{}
+
+/// A problem has at most as many formulas, occurrences and quantified variables as bytes were loaded for it, since each is
+/// spelled by a token of its own; and no more than so many bytes are loaded.
+pub fn problems_have_a_size()
+    ensures loaded { (told : Option Holdings) (file : List ℕ) (root : Option (List ℕ)) (formulas : List Annotated)
+        (h : IsProblem told file root (map placed formulas)) → problem_size formulas ≤ h.0.loaded }
+    ensures limited { (told : Option Holdings) (file : List ℕ) (root : Option (List ℕ)) (formulas : List Placed)
+        (h : IsProblem told file root formulas) → h.0.loaded ≤ MOST_PROBLEM_BYTES }
+    ensures sized { (told : Option Holdings) (file : List ℕ) (root : Option (List ℕ)) (formulas : List Annotated)
+        → IsProblem told file root (map placed formulas) → HasProblemSize formulas }
 {}

@@ -4,6 +4,7 @@ ghost use Rattle.std.specs.Prelude.{◌≡◌, ◌≢◌, ◌<◌, ◌≤◌, su
 ghost use Rattle.std.specs.Option.{option_copied};
 ghost use Rattle.tptp_reader.specs.declared.cause.ReadCause.TheVariants.{Load};
 ghost use Rattle.tptp_reader.specs.Faults.{IsFaultWhere};
+ghost use Rattle.tptp_tree.specs.ProblemSize.{HasProblemSize};
 ghost use Rattle.tptp_problem.specs.Files.{MayGive};
 ghost use Rattle.tptp_problem.specs.Formulas.{placed};
 ghost use Rattle.tptp_problem.specs.Problem.{IsProblem, IsProblemFault, ReadsNamed, FaultsNamed, ReadsText, FaultsText, Adds, IsIncludeStep, IsFormulaStep, IsIncludeFault, IsFormulaFault, IsLoadFault, is_second, with_file};
@@ -31,6 +32,7 @@ pub fn read_problem<L: Library>(
 ) -> Result<Problem, ReadFault>
     ensures read { IfOk result (λ problem.
         IsProblem (L.told library.old) file.now (option_copied root.entry) (map placed problem.formulas)) }
+    ensures size { IfOk result (λ problem. HasProblemSize problem.formulas) }
     ensures fault { IfErr result (IsFaultWhere
         (IsProblemFault (L.told library.old) (L.found library.new) file.now (option_copied root.entry))) }
     ensures load { IfErr result (IsFaultWhere

@@ -1,14 +1,16 @@
-use Rattle.std.proofs.Common.{sym}
-use Rattle.clausal_form.proofs.NameLemmas.{names-begin, names-skip, names-more}
+use Rattle.std.proofs.Common.{sym, ◌∙◌}
+use Rattle.clausal_form.proofs.NameLemmas.{met-begin, met-again, met-first}
 use Rattle.clausal_form.proofs.closing.different.Goals as goal
 
 pub loop-name-init : goal.loop-name-init
-loop-name-init c = names-begin _ _ c.new-found.ensures
+loop-name-init c = met-begin _ _ _ c.new-found.ensures c.new-met.ensures.empty
 
-pub loop-name-preserved-then-is_among : goal.loop-name-preserved-then-is_among
-loop-name-preserved-then-is_among c =
-    names-skip _ _ _ c.loop-name.found _ _ c.loop-name-test.true c.name-item.is c.as_slice.ensures (sym c.if-is_among.ensures) c.loop-name.invariant
+pub loop-name-preserved-then-not-is_new : goal.loop-name-preserved-then-not-is_new
+loop-name-preserved-then-not-is_new c =
+    met-again _ _ _ _ c.loop-name.met.keys _ c.loop-name.found c.loop-name-test.true c.name-item.is c.as_slice.ensures c.in_ok-is_new.ensures.keys
+    (sym c.if-not-is_new.true ∙ c.in_ok-is_new.ensures.added) c.loop-name.invariant
 
 pub loop-name-preserved : goal.loop-name-preserved
 loop-name-preserved c =
-    names-more _ _ _ _ c.loop-name.found _ _ _ c.loop-name-test.true c.name-item.is c.as_slice.ensures (sym c.if-is_among.ensures) c.in_ok-copy.ensures c.in_ok-push.ensures.ok c.loop-name.invariant
+    met-first _ _ _ _ _ c.loop-name.met.keys _ c.loop-name.found _ c.loop-name-test.true c.name-item.is c.as_slice.ensures c.in_ok-is_new.ensures.keys
+    (sym c.if-not-is_new.false ∙ c.in_ok-is_new.ensures.added) c.in_ok-copy.ensures c.in_ok-push.ensures.ok c.loop-name.invariant

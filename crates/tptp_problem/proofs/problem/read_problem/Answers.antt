@@ -1,8 +1,10 @@
-use Rattle.std.proofs.Common.{◌∙◌}
+use Rattle.std.proofs.Common.{sym, ◌∙◌, subst}
 use Rattle.std.specs.Option.{option_copied}
 use Rattle.tptp_problem.proofs.FaultLemmas.{fault-then}
 use Rattle.tptp_problem.proofs.FileLemmas.{problem-fault}
 use Rattle.tptp_problem.proofs.PassedLemmas.{passed}
+use Rattle.tptp_problem.proofs.SizeLemmas.{size-read}
+use Rattle.tptp_tree.specs.ProblemSize.{HasProblemSize}
 use Rattle.tptp_problem.proofs.problem.read_problem.Goals as goal
 
 pub returns-in_err-formulas-clause-fault : goal.returns-in_err-formulas-clause-fault
@@ -12,3 +14,9 @@ returns-in_err-formulas-clause-fault g c =
     (problem-fault (g.L.Library.told c.args.library.now) _ c.as_str.result.now c.args.file.now (option_copied c.args.root)
     (c.as_str.ensures.value ∙ c.in_ok-base.ensures))
     c.in_err-formulas.ensures.fault)
+
+pub returns-clause-size : goal.returns-clause-size
+returns-clause-size g c =
+    subst HasProblemSize (sym c.from_vec.ensures)
+    (size-read (g.L.Library.told c.args.library.now) c.as_str.result.now c.args.file.now (option_copied c.args.root) c.in_ok-formulas.formulas.items _
+    (c.as_str.ensures.value ∙ c.in_ok-base.ensures) c.in_ok-formulas.ensures.read)
