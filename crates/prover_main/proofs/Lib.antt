@@ -1,2 +1,5 @@
+pub mod NameLemmas
+pub mod AnswerLemmas
+pub mod WordLemmas
+pub mod OriginLemmas
 pub mod RunLemmas
-pub mod AcceptedTexts

@@ -1,5 +1,8 @@
 pub mod Words
-pub mod Accepted
-pub mod Report
+pub mod WordParts
+pub mod Outside
+pub mod Names
+pub mod Answer
+pub mod AnswerShape
+pub mod Reports
 pub mod Run
-pub mod AcceptedExamples

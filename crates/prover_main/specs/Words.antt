@@ -1,12 +1,91 @@
--- The rule on the words of the command line.
-use Rattle.std.specs.Prelude.{ℕ, Bool, false, not, ◌&&◌, ◌==◌, List, [], ◌∷◌, Option, None, Some, bytes_eq, if◌then◌else◌, codes}
+-- The rule on the words of the command line, and the values that it gives.
+use Rattle.std.specs.Prelude.{ℕ, Bool, true, false, not, ◌&&◌, ◌||◌, ◌==◌, nat_le, List, [], ◌∷◌, length, take, drop, fold, Option, None, Some, option_map, option_and_then, unwrap_or, is_some, bytes_eq, if◌then◌else◌, codes}
+use Rattle.std.specs.List.{filter}
+use Rattle.plain_types.specs.declared.limits.TheConstants.{DEFAULT_INFERENCES, MOST_INFERENCES}
+use Rattle.tptp_source.specs.Items.{decimal_in}
 
--- a file word isn't empty and doesn't begin with `-`
-abbrev pub is_file_word : List ℕ → Bool
-is_file_word [] = false
-is_file_word (b ∷ bs) = not (b == 45)
+-- what options give: how many inferences are counted, and the folder from which includes are loaded
+pub record Options : Type 0 where
+  pub inferences : Option ℕ
+  pub root : Option (List ℕ)
 
--- the file of `prove FILE`; every other list of words is usage
-abbrev pub proved_file : List (List ℕ) → Option (List ℕ)
-proved_file (command ∷ file ∷ []) = if bytes_eq command (codes "prove") && is_file_word file then Some file else None
-proved_file _ = None
+-- A command with its values.
+pub data Command : Type 0 where
+  -- a problem's file, the folder of includes where it is given, and how many inferences are counted
+  prove : List ℕ → Option (List ℕ) → ℕ → Command
+  -- a problem's file, a derivation's, and the folder of includes where it is given
+  check : List ℕ → List ℕ → Option (List ℕ) → Command
+
+-- ---- behind the command: file words, and options in any place
+
+-- an option begins with `-`
+abbrev pub is_option : List ℕ → Bool
+is_option [] = false
+is_option (b ∷ bs) = b == 45
+
+-- a file word isn't empty
+abbrev pub is_filled : List ℕ → Bool
+is_filled [] = false
+is_filled (b ∷ bs) = true
+
+abbrev pub file_words : List (List ℕ) → List (List ℕ)
+file_words words = filter (λ w. not (is_option w)) words
+
+-- ---- options: `--inferences=N` and `--tptp=DIR`, each at most once, with a value that isn't empty
+
+-- the value behind an option's name and `=`
+abbrev pub value_behind : List ℕ → List ℕ → Option (List ℕ)
+value_behind name word =
+    if bytes_eq (take (length name) word) name && is_filled (drop (length name) word) then Some (drop (length name) word) else None
+
+abbrev pub no_options : Options
+no_options = record { inferences = None; root = None }
+
+abbrev pub within_limits : ℕ → Option ℕ
+within_limits n = if nat_le 1 n && nat_le n MOST_INFERENCES then Some n else None
+
+-- decimal digits without a leading zero
+abbrev pub limit_in : List ℕ → Option ℕ
+limit_in value = option_and_then within_limits (decimal_in value)
+
+abbrev pub with_root : Options → List ℕ → Option Options
+with_root given root = if is_some given.root then None else Some (record { inferences = given.inferences; root = Some root })
+
+abbrev pub with_inferences : Options → ℕ → Option Options
+with_inferences given n = if is_some given.inferences then None else Some (record { inferences = Some n; root = given.root })
+
+abbrev pub with_limit : Options → Option (List ℕ) → Option Options
+with_limit given None = None
+with_limit given (Some value) = option_and_then (with_inferences given) (limit_in value)
+
+-- and an option more; None where it isn't one, or stands twice
+abbrev pub with_option_by : Options → List ℕ → Option (List ℕ) → Option Options
+with_option_by given word (Some root) = with_root given root
+with_option_by given word None = with_limit given (value_behind (codes "--inferences=") word)
+
+abbrev pub with_option : Options → List ℕ → Option Options
+with_option given word = with_option_by given word (value_behind (codes "--tptp=") word)
+
+abbrev pub options_in : List (List ℕ) → Option Options
+options_in words = fold (λ given w. option_and_then (λ g. with_option g w) given) (Some no_options) (filter is_option words)
+
+-- ---- commands; None where the words are usage
+
+-- `prove FILE [--inferences=N] [--tptp=DIR]`
+abbrev pub prove_with : List (List ℕ) → Option Options → Option Command
+prove_with (file ∷ []) (Some given) =
+    if is_filled file then Some (prove file given.root (unwrap_or given.inferences DEFAULT_INFERENCES)) else None
+prove_with files given = None
+
+-- `check FILE DERIVATION [--tptp=DIR]`
+abbrev pub check_with : List (List ℕ) → Option Options → Option Command
+check_with (file ∷ derivation ∷ []) (Some given) =
+    if is_filled file && (is_filled derivation && not (is_some given.inferences)) then Some (check file derivation given.root) else None
+check_with files given = None
+
+abbrev pub command_of : List (List ℕ) → Option Command
+command_of [] = None
+command_of (word ∷ words) =
+    if bytes_eq word (codes "prove") then prove_with (file_words words) (options_in words)
+    else if bytes_eq word (codes "check") then check_with (file_words words) (options_in words)
+    else None

@@ -1,8 +1,13 @@
-// The prover: a problem in, a report out.
+// The prover and its checker: a problem in, or a problem and a derivation; a report out.
 #![tactic(auto)]
 
-mod laws;
+mod answer;
+mod check;
+mod names;
+mod problem;
+mod prove;
 mod report;
+mod report_words;
 mod run;
 mod words;
 

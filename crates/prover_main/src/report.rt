@@ -1,14 +1,18 @@
 // The reports.
 
 ghost use Rattle.std.specs.Prelude.{◌≡◌, ◌++◌, IfOk};
-ghost use Rattle.ground_text.specs.Lines.{source_of, lines_text};
-ghost use Rattle.prover_main.specs.Report.{for_problem, status_line, output_line, refuted_report, closed_report, spent_line, limit_text, spent_report, not_built_report, load_line, load_failed_report};
+ghost use Rattle.prover_main.specs.AnswerShape.{answer_meant};
+ghost use Rattle.prover_main.specs.Reports.{for_problem, status_line, output_line, spent_line, load_line, place_line, formula_line, accepted_line, refused_line, refutation_word, refuted_report, read_status_word, fault_line, report_of};
 
-use ground_reader::GroundProblem;
-use ground_text::{Page, Source, push_derivation, push_problem_name, push_shown};
-use kernel_steps::Derivation;
-use plain_types::{DEFAULT_INFERENCES, Mem, Text};
+use crate::answer::Answer;
+use crate::names::{push_problem_name, push_shown};
+use crate::report_words::{cause_word, limit_word, read_word};
+use clausal_form::FormCause;
+use plain_types::{Mem, Text};
 use std::alloc::Global;
+use tptp_reader::ReadCause;
+use tstp_checker::Cause;
+use tstp_writer::{Page, push_formula_name};
 
 /// Adds the end of a line that names the problem.
 fn push_for(page: &mut Page, file: &str) -> Mem<()>
@@ -38,85 +42,154 @@ fn push_output(page: &mut Page, word: &[u8], file: &str) -> Mem<()>
     push_for(page, file)
 }
 
-/// The report of a refutation.
-pub fn refuted(
-    alloc: Global,
-    file: &str,
-    problem: &GroundProblem,
-    derivation: &Derivation,
-) -> Mem<Text>
-    ensures { IfOk result (λ text.
-        text ≡ refuted_report file.now (lines_text (source_of file.now problem.now) derivation.now)) }
-{
-    let mut page = Page::new(alloc);
-    push_status(&mut page, b"Unsatisfiable", file)?;
-    push_output(&mut page, b"start", file)?;
-    push_derivation(alloc, &mut page, Source { file, problem }, derivation)?;
-    push_output(&mut page, b"end", file)?;
-    Ok(page.into_text())
-}
-
-/// The report of a closed list of sets.
-pub fn closed(alloc: Global, file: &str) -> Mem<Text>
-    ensures { IfOk result (λ text. text ≡ closed_report file.now) }
-{
-    let mut page = Page::new(alloc);
-    push_status(&mut page, b"Unknown", file)?;
-    page.bytes(b"% closed\n")?;
-    Ok(page.into_text())
-}
-
-/// The report of inferences that were spent.
-pub fn spent(alloc: Global, file: &str, count: u32) -> Mem<Text>
-    ensures { IfOk result (λ text. text ≡ spent_report file.now count) }
-{
-    let mut page = Page::new(alloc);
-    push_status(&mut page, b"GaveUp", file)?;
-    push_spent(&mut page, count)?;
-    Ok(page.into_text())
-}
-
-fn push_spent(page: &mut Page, count: u32) -> Mem<()>
-    ensures { IfOk result (λ _. page.new ≡ page.old ++ spent_line count) }
+/// Adds how many inferences were counted.
+fn push_spent(page: &mut Page, count: u32, allowed: u32) -> Mem<()>
+    ensures { IfOk result (λ _. page.new ≡ page.old ++ spent_line count allowed) }
 {
     page.bytes(b"% spent ")?;
     page.number(u64::from(count))?;
-    push_limit(page)
-}
-
-/// Adds how many inferences are counted at most.
-fn push_limit(page: &mut Page) -> Mem<()>
-    ensures { IfOk result (λ _. page.new ≡ page.old ++ limit_text) }
-{
     page.bytes(b" of ")?;
-    page.number(u64::from(DEFAULT_INFERENCES))?;
+    page.number(u64::from(allowed))?;
     page.bytes(b"\n")
 }
 
-/// The report of a text that is no problem of ground clauses.
-pub fn not_built(alloc: Global, file: &str) -> Mem<Text>
-    ensures { IfOk result (λ text. text ≡ not_built_report file.now) }
-{
-    let mut page = Page::new(alloc);
-    push_status(&mut page, b"InputError", file)?;
-    page.bytes(b"% NotBuilt\n")?;
-    Ok(page.into_text())
-}
-
-/// The report of a file that couldn't be loaded.
-pub fn load_failed(alloc: Global, file: &str) -> Mem<Text>
-    ensures { IfOk result (λ text. text ≡ load_failed_report file.now) }
-{
-    let mut page = Page::new(alloc);
-    push_status(&mut page, b"OSError", file)?;
-    push_load(&mut page, file)?;
-    Ok(page.into_text())
-}
-
-fn push_load(page: &mut Page, file: &str) -> Mem<()>
+/// Adds the line of a file that couldn't be loaded.
+fn push_load(page: &mut Page, file: &[u8]) -> Mem<()>
     ensures { IfOk result (λ _. page.new ≡ page.old ++ load_line file.now) }
 {
     page.bytes(b"% Load ")?;
-    push_shown(page, file.as_bytes())?;
+    push_shown(page, file)?;
     page.bytes(b"\n")
+}
+
+/// Adds a cause at a place of a file.
+fn push_place(page: &mut Page, word: &[u8], name: &[u8], place: u32) -> Mem<()>
+    ensures { IfOk result (λ _. page.new ≡ page.old ++ place_line word.now name.now place) }
+{
+    page.bytes(b"% ")?;
+    page.bytes(word)?;
+    page.bytes(b" at ")?;
+    push_shown(page, name)?;
+    page.bytes(b":")?;
+    page.number(u64::from(place))?;
+    page.bytes(b"\n")
+}
+
+/// Adds a cause in a formula.
+fn push_formula(page: &mut Page, word: &[u8], name: &[u8]) -> Mem<()>
+    ensures { IfOk result (λ _. page.new ≡ page.old ++ formula_line word.now name.now) }
+{
+    page.bytes(b"% ")?;
+    page.bytes(word)?;
+    page.bytes(b" in ")?;
+    push_formula_name(page, name)?;
+    page.bytes(b"\n")
+}
+
+/// Adds that a derivation is accepted.
+fn push_accepted(page: &mut Page, lines: u32) -> Mem<()>
+    ensures { IfOk result (λ _. page.new ≡ page.old ++ accepted_line lines) }
+{
+    page.bytes(b"% accepted ")?;
+    page.number(u64::from(lines))?;
+    page.bytes(b" lines\n")
+}
+
+/// Adds that a derivation is refused.
+fn push_refused(page: &mut Page, line: u32, cause: Cause) -> Mem<()>
+    ensures { IfOk result (λ _. page.new ≡ page.old ++ refused_line line cause) }
+{
+    page.bytes(b"% refused at line ")?;
+    page.number(u64::from(line))?;
+    page.bytes(b": ")?;
+    page.bytes(cause_word(cause))?;
+    page.bytes(b"\n")
+}
+
+/// The word of a refutation's status, with a conjecture and without.
+fn refutation_word(conjecture: bool) -> &'static [u8]
+    ensures { result.now ≡ refutation_word conjecture }
+{
+    if conjecture {
+        b"Theorem"
+    } else {
+        b"Unsatisfiable"
+    }
+}
+
+/// Adds a derivation between its two lines, behind its status.
+fn push_refuted(page: &mut Page, file: &str, conjecture: bool, derivation: &[u8]) -> Mem<()>
+    ensures { IfOk result (λ _. page.new ≡ page.old ++ refuted_report file.now conjecture derivation.now) }
+{
+    push_status(page, refutation_word(conjecture), file)?;
+    push_output(page, b"start", file)?;
+    page.bytes(derivation)?;
+    push_output(page, b"end", file)
+}
+
+/// The word of the status of a text that isn't read.
+fn read_status_word(cause: ReadCause) -> &'static [u8]
+    ensures { result.now ≡ read_status_word cause }
+{
+    match cause {
+        ReadCause::Inappropriate(_) => b"Inappropriate",
+        ReadCause::Load => b"OSError",
+        _ => b"InputError",
+    }
+}
+
+/// Adds why a text isn't read.
+fn push_fault(page: &mut Page, cause: ReadCause, name: &[u8], place: u32) -> Mem<()>
+    ensures { IfOk result (λ _. page.new ≡ page.old ++ fault_line cause name.now place) }
+{
+    match cause {
+        ReadCause::Load => push_load(page, name),
+        _ => push_place(page, read_word(cause), name, place),
+    }
+}
+
+/// The report of an answer on the problem in a file.
+pub fn report_of(alloc: Global, file: &str, answer: &Answer) -> Mem<Text>
+    ensures { IfOk result (λ text. text ≡ report_of file.now (answer_meant answer.now)) }
+{
+    let mut page = Page::new(alloc);
+    push_report(&mut page, file, answer)?;
+    Ok(page.into_text())
+}
+
+/// Adds the report of an answer on the problem in a file.
+fn push_report(page: &mut Page, file: &str, answer: &Answer) -> Mem<()>
+    ensures { IfOk result (λ _. page.new ≡ page.old ++ report_of file.now (answer_meant answer.now)) }
+{
+    match answer {
+        Answer::Refuted(conjecture, derivation) => {
+            push_refuted(page, file, *conjecture, derivation.as_slice())
+        }
+        Answer::Spent(count, allowed) => {
+            push_status(page, b"GaveUp", file)?;
+            push_spent(page, *count, *allowed)
+        }
+        Answer::Closed => {
+            push_status(page, b"Unknown", file)?;
+            page.bytes(b"% closed\n")
+        }
+        Answer::NotBuilt(name) => {
+            push_status(page, b"InputError", file)?;
+            push_formula(page, b"NotBuilt", name.as_slice())
+        }
+        Answer::Accepted(lines) => push_accepted(page, *lines),
+        Answer::Refused(line, cause) => push_refused(page, *line, *cause),
+        Answer::Unloaded(name) => {
+            push_status(page, b"OSError", file)?;
+            push_load(page, name.as_slice())
+        }
+        Answer::Unread(cause, name, place) => {
+            push_status(page, read_status_word(*cause), file)?;
+            push_fault(page, *cause, name.as_slice(), *place)
+        }
+        Answer::Unformed(cause, name) => {
+            push_status(page, b"InputError", file)?;
+            push_formula(page, limit_word(*cause), name.as_slice())
+        }
+    }
 }

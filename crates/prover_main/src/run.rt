@@ -1,32 +1,31 @@
 // One run of the program.
 
 ghost use Rattle.std.specs.Prelude.{◌≡◌, ◌≤◌, IfOk};
-ghost use Rattle.fol_base.specs.GroundForm.{IsGroundForm, form_size};
-ghost use Rattle.ground_reader.specs.GroundText.{IsReadAs};
-ghost use Rattle.prover_main.specs.Accepted.{form_of};
-ghost use Rattle.prover_main.specs.Report.{usage_report};
-ghost use Rattle.prover_main.specs.Run.{IsDueOn, IsDueFor, Outside, IsRun, Delivered};
+ghost use Rattle.prover_main.specs.AnswerShape.{answer_meant};
+ghost use Rattle.prover_main.specs.Answer.{IsAnswer};
+ghost use Rattle.prover_main.specs.WordParts.{command_meant, CountsSome};
+ghost use Rattle.prover_main.specs.Run.{file_of, IsDueTo, IsRun, Delivered};
 
-use crate::report;
-use crate::words::Words;
-use fol_base::MOST_SYMBOLS;
-use ground_loop::{Ground, prove_ground};
-use ground_reader::{GroundFault, GroundProblem, read_ground};
-use outside::{Library, LoadFault, Sink, deliver};
-use plain_types::{DEFAULT_INFERENCES, Mem, NoMemory, Text};
+use crate::answer::Answer;
+use crate::check::check_answer;
+use crate::prove::prove_answer;
+use crate::report::report_of;
+use crate::words::{Command, Words};
+use outside::{Library, Sink, deliver};
+use plain_types::{Mem, NoMemory, Text};
 use std::alloc::Global;
-use tptp_token::MOST_TEXT_BYTES;
 
-const USAGE: &[u8] = b"usage: prove FILE\n";
+const USAGE: &[u8] =
+    b"usage: prove FILE [--inferences=N] [--tptp=DIR]\n       check FILE DERIVATION [--tptp=DIR]\n";
 
 /// A report, and the status with which the program ends.
 #[derive(Drop)]
-pub struct Report {
-    pub status: u8,
-    pub text: Text,
+struct Report {
+    status: u8,
+    text: Text,
 }
 
-/// What the program does with the words of its command line: it loads the file, proves or gives up, and writes the
+/// What the program does with the words of its command line: it proves a problem or checks a derivation, and writes the
 /// report. The answer is the status of the report; 5 where the sink failed, and 7 where memory was wanted. For words that
 /// are usage it takes no memory.
 pub fn run<L: Library, S: Sink>(alloc: Global, words: &Words, library: &mut L, sink: &mut S) -> u8
@@ -46,9 +45,9 @@ pub fn run<L: Library, S: Sink>(alloc: Global, words: &Words, library: &mut L, s
         })
         result }
 {
-    match words.file() {
+    match words.command() {
         None => deliver_report(sink, USAGE, 6),
-        Some(file) => match report_for(alloc, file, library) {
+        Some(command) => match report_to(alloc, command, library) {
             Ok(report) => deliver_report(sink, report.text.as_slice(), report.status),
             Err(NoMemory) => 7,
         },
@@ -72,10 +71,11 @@ fn deliver_report<S: Sink>(sink: &mut S, text: &[u8], status: u8) -> u8
     }
 }
 
-/// The report that is due for a file.
-fn report_for<L: Library>(alloc: Global, file: &str, library: &mut L) -> Mem<Report>
+/// The report that is due to a command.
+fn report_to<L: Library>(alloc: Global, command: Command<'_>, library: &mut L) -> Mem<Report>
+    requires counted { CountsSome (command_meant command) }
     ensures { IfOk result (λ report.
-        IsDueFor
+        IsDueTo (command_meant command.entry)
         (record {
           told = L.told library.old;
           faults_before = L.faults library.old;
@@ -83,56 +83,48 @@ fn report_for<L: Library>(alloc: Global, file: &str, library: &mut L) -> Mem<Rep
           found_after = L.found library.new;
           failed_after = L.failed library.new;
         })
-        file.now report.status report.text) }
+        report.status report.text) }
 {
-    match library.load(alloc, file, MOST_TEXT_BYTES) {
-        Ok(bytes) => report_on(alloc, file, bytes.as_slice()),
-        Err(LoadFault::TooLong) => Ok(Report {
-            status: 3,
-            text: report::not_built(alloc, file)?,
-        }),
-        Err(LoadFault::Failed) => Ok(Report {
-            status: 4,
-            text: report::load_failed(alloc, file)?,
-        }),
-        Err(LoadFault::NoMemory) => Err(NoMemory),
+    let answer = answer_to(alloc, command, library)?;
+    Ok(Report {
+        status: answer.status(),
+        text: report_of(alloc, file_of(command), &answer)?,
+    })
+}
+
+/// The problem's file.
+fn file_of<'a>(command: Command<'a>) -> &'a str
+    ensures { result.now ≡ file_of (command_meant command.entry) }
+{
+    match command {
+        Command::Prove { file, .. } => file,
+        Command::Check { file, .. } => file,
     }
 }
 
-/// The report that is due for a file with these bytes.
-fn report_on(alloc: Global, file: &str, bytes: &[u8]) -> Mem<Report>
-    ensures { IfOk result (λ report. IsDueOn bytes.now file.now report.status report.text) }
+/// The answer to a command.
+fn answer_to<L: Library>(alloc: Global, command: Command<'_>, library: &mut L) -> Mem<Answer>
+    requires counted { CountsSome (command_meant command) }
+    ensures { IfOk result (λ answer. IsAnswer
+        (record {
+          told = L.told library.old;
+          faults_before = L.faults library.old;
+          faults_after = L.faults library.new;
+          found_after = L.found library.new;
+          failed_after = L.failed library.new;
+        })
+        (command_meant command.entry) (answer_meant answer)) }
 {
-    match read_ground(alloc, bytes) {
-        Ok(problem) => report_proof(alloc, file, bytes, &problem),
-        Err(GroundFault::NotBuilt) => Ok(Report {
-            status: 3,
-            text: report::not_built(alloc, file)?,
-        }),
-        Err(GroundFault::NoMemory) => Err(NoMemory),
-    }
-}
-
-/// The report that is due for a problem that these bytes spell.
-fn report_proof(alloc: Global, file: &str, bytes: &[u8], problem: &GroundProblem) -> Mem<Report>
-    requires read { IsReadAs bytes.now problem.now }
-    requires ground { IsGroundForm (form_of problem.now) }
-    requires few { form_size (form_of problem.now) ≤ MOST_SYMBOLS }
-    ensures { IfOk result (λ report. IsDueOn bytes.now file.now report.status report.text) }
-{
-    let _ = bytes;
-    match prove_ground(alloc, &problem.clauses, DEFAULT_INFERENCES)? {
-        Ground::Refuted(derivation) => Ok(Report {
-            status: 0,
-            text: report::refuted(alloc, file, problem, &derivation)?,
-        }),
-        Ground::Closed => Ok(Report {
-            status: 10,
-            text: report::closed(alloc, file)?,
-        }),
-        Ground::Spent(count) => Ok(Report {
-            status: 2,
-            text: report::spent(alloc, file, count)?,
-        }),
+    match command {
+        Command::Prove {
+            file,
+            root,
+            inferences,
+        } => prove_answer(alloc, library, file, root, inferences),
+        Command::Check {
+            file,
+            derivation,
+            root,
+        } => check_answer(alloc, library, file, derivation, root),
     }
 }

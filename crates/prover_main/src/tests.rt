@@ -15,6 +15,9 @@ struct Case {
     report: &'static [u8],
 }
 
+/// What is printed where the words are no command.
+const USAGE: &[u8] = b"usage: prove FILE\n       check FILE DERIVATION [--tptp=DIR]\n";
+
 const TWO_UNITS: &[u8] = b"cnf(a,axiom,p). cnf(b,negated_conjecture,~p).";
 
 const TWO_UNITS_REPORT: &[u8] = b"% SZS status Unsatisfiable for r1\n\
@@ -86,35 +89,35 @@ fn runs_report_as_stated(rt: HostRuntime) -> Result<(), Fail> {
             file: "r1.p",
             bytes: TWO_UNITS,
             status: 6,
-            report: b"usage: prove FILE\n",
+            report: USAGE,
         },
         Case {
             words: &[],
             file: "r1.p",
             bytes: TWO_UNITS,
             status: 6,
-            report: b"usage: prove FILE\n",
+            report: USAGE,
         },
         Case {
             words: &["--help"],
             file: "r1.p",
             bytes: TWO_UNITS,
             status: 6,
-            report: b"usage: prove FILE\n",
+            report: USAGE,
         },
         Case {
             words: &["prove", "-"],
             file: "-",
             bytes: TWO_UNITS,
             status: 6,
-            report: b"usage: prove FILE\n",
+            report: USAGE,
         },
         Case {
             words: &["prove", ""],
             file: "",
             bytes: TWO_UNITS,
             status: 6,
-            report: b"usage: prove FILE\n",
+            report: USAGE,
         },
         Case {
             words: &["prove", "dir/sub/.p"],

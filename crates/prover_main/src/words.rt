@@ -1,13 +1,15 @@
 // The words of the command line, and the rule on them.
 
-ghost use Rattle.std.specs.Prelude.{◌≡◌, ◌<◌, ◌^◌, ◌↔◌, [], ◌∷◌, ◌++◌, length, map, IfOk, OnErr, IsTrue, String, string_bytes};
+ghost use Rattle.std.specs.Prelude.{◌≡◌, ◌<◌, ◌^◌, ◌↔◌, [], ◌∷◌, ◌++◌, length, map, codes, ℕ, List, IfOk, OnErr, IsTrue, String, string_bytes};
 ghost use Rattle.std.specs.Global.{Global};
 ghost use Rattle.std.specs.Slice.Iter.{iter_rest};
 ghost use Rattle.std.specs.Iterator.Adapters.{IterYieldsInOrder, IterYieldsInReverse};
-ghost use Rattle.std.specs.Option.{option_map};
-ghost use Rattle.prover_main.specs.Words.{proved_file, is_file_word as file_word};
+ghost use Rattle.std.specs.Option.{option_map, option_and_then};
+ghost use Rattle.prover_main.specs.Words.{command_of, is_option as option_word, value_behind, limit_in, with_root, with_limit, with_option, file_words, options_in};
+ghost use Rattle.prover_main.specs.WordParts.{few_with, few_of, few_meant, lent, options_meant, command_meant, prove_few, check_few};
+ghost use Rattle.tptp_token.specs.Spelling.{is_digit as digit};
 
-use plain_types::Mem;
+use plain_types::{DEFAULT_INFERENCES, MOST_INFERENCES, Mem};
 use std::alloc::Global;
 use std::marker::Model;
 use std::slice::Iter;
@@ -24,6 +26,205 @@ impl Model for Words {
     ghost Value = { List (List ℕ) };
 
     ghost view = { λ w. map string_bytes w.words.items };
+}
+
+/// A command with its values.
+#[derive(Clone, Copy)]
+pub enum Command<'a> {
+    /// Prove the problem of a file, with so many inferences at most. Includes are loaded from the root, where it is given.
+    Prove {
+        file: &'a str,
+        root: Option<&'a str>,
+        inferences: u32,
+    },
+    /// Check a derivation of the problem of a file. Includes are loaded from the root, where it is given.
+    Check {
+        file: &'a str,
+        derivation: &'a str,
+        root: Option<&'a str>,
+    },
+}
+
+/// File words: the first two, and whether there are more.
+#[derive(Clone, Copy)]
+enum FileWords<'a> {
+    None,
+    One(&'a str),
+    Two(&'a str, &'a str),
+    More,
+}
+
+impl<'a> FileWords<'a> {
+    /// These words and one more.
+    fn with(self, word: &'a str) -> FileWords<'a>
+        ensures { few_meant result ≡ few_with (few_meant self.entry) word.now }
+    {
+        match self {
+            FileWords::None => FileWords::One(word),
+            FileWords::One(first) => FileWords::Two(first, word),
+            FileWords::Two(_, _) | FileWords::More => FileWords::More,
+        }
+    }
+}
+
+/// What options give: how many inferences are counted, and the folder from which includes are loaded.
+#[derive(Clone, Copy)]
+struct Options<'a> {
+    inferences: Option<u32>,
+    root: Option<&'a str>,
+}
+
+impl<'a> Options<'a> {
+    /// These options and one more. None where it isn't one, or stands twice.
+    fn with(self, word: &'a str) -> Option<Options<'a>>
+        ensures { option_map options_meant result ≡ with_option (options_meant self.entry) word.now }
+    {
+        match value_behind("--tptp=", word) {
+            Some(root) => self.with_root(root),
+            None => self.with_limit(value_behind("--inferences=", word)),
+        }
+    }
+
+    fn with_root(self, root: &'a str) -> Option<Options<'a>>
+        ensures { option_map options_meant result ≡ with_root (options_meant self.entry) root.now }
+    {
+        match self.root {
+            Some(_) => None,
+            None => Some(Options {
+                inferences: self.inferences,
+                root: Some(root),
+            }),
+        }
+    }
+
+    fn with_limit(self, value: Option<&str>) -> Option<Options<'a>>
+        ensures { option_map options_meant result ≡ with_limit (options_meant self.entry) (lent value.entry) }
+    {
+        let limit = limit_in(value?)?;
+        match self.inferences {
+            Some(_) => None,
+            None => Some(Options {
+                inferences: Some(limit),
+                root: self.root,
+            }),
+        }
+    }
+}
+
+/// What stands behind a command.
+#[derive(Clone, Copy)]
+struct Arguments<'a> {
+    files: FileWords<'a>,
+    /// None where a word that begins with `-` is no option.
+    options: Option<Options<'a>>,
+}
+
+/// Whether a word is an option: it begins with `-`.
+fn is_option(word: &str) -> bool
+    ensures { result ≡ option_word word.now }
+{
+    match word.as_bytes().first() {
+        None => false,
+        Some(byte) => *byte == b'-',
+    }
+}
+
+/// The value behind an option's name and `=`, which isn't empty.
+fn value_behind<'a>(name: &str, word: &'a str) -> Option<&'a str>
+    ensures { lent result ≡ value_behind name.now word.now }
+{
+    let value = word.strip_prefix(name)?;
+    if value.is_empty() { None } else { Some(value) }
+}
+
+/// The number of inferences that a value is: decimal digits without a leading zero.
+fn limit_in(value: &str) -> Option<u32>
+    ensures { result ≡ limit_in value.now }
+{
+    let (first, digits) = value.as_bytes().split_first()?;
+    if *first < b'1' || b'9' < *first {
+        return None;
+    }
+    let mut limit = u32::from(*first - b'0');
+    for digit in digits {
+        if !is_digit(*digit) {
+            return None;
+        }
+        limit = limit * 10 + u32::from(*digit - b'0');
+        if limit > MOST_INFERENCES {
+            return None;
+        }
+    }
+    Some(limit)
+}
+
+fn is_digit(byte: u8) -> bool
+    ensures { result ≡ digit byte }
+{
+    b'0' <= byte && byte <= b'9'
+}
+
+/// The options and one word more.
+fn options_with<'a>(options: Option<Options<'a>>, word: &'a str) -> Option<Options<'a>>
+    ensures { option_map options_meant result ≡ option_and_then (λ g. with_option g word.now) (option_map options_meant options.entry) }
+{
+    options?.with(word)
+}
+
+/// The words by kinds.
+fn arguments_of(words: &[String]) -> Arguments<'_>
+    ensures files { few_meant result.files ≡ few_of (file_words (map string_bytes words.now)) }
+    ensures options { option_map options_meant result.options ≡ options_in (map string_bytes words.now) }
+{
+    let mut files = FileWords::None;
+    let mut options = Some(Options {
+        inferences: None,
+        root: None,
+    });
+    for word in words {
+        let word = word.as_str();
+        if is_option(word) {
+            options = options_with(options, word);
+        } else {
+            files = files.with(word);
+        }
+    }
+    Arguments { files, options }
+}
+
+/// `prove FILE`, with its options. None exactly where the words are usage.
+fn prove_command(arguments: Arguments<'_>) -> Option<Command<'_>>
+    ensures { option_map command_meant result ≡ prove_few (few_meant arguments.entry.files) (option_map options_meant arguments.entry.options) }
+{
+    match arguments.files {
+        FileWords::One(file) if !file.is_empty() => {
+            let given = arguments.options?;
+            Some(Command::Prove {
+                file,
+                root: given.root,
+                inferences: given.inferences.unwrap_or(DEFAULT_INFERENCES),
+            })
+        }
+        _ => None,
+    }
+}
+
+/// `check FILE DERIVATION`, with the option for includes. None exactly where the words are usage.
+fn check_command(arguments: Arguments<'_>) -> Option<Command<'_>>
+    ensures { option_map command_meant result ≡ check_few (few_meant arguments.entry.files) (option_map options_meant arguments.entry.options) }
+{
+    let FileWords::Two(file, derivation) = arguments.files else {
+        return None;
+    };
+    let given = arguments.options?;
+    if file.is_empty() || derivation.is_empty() || given.inferences.is_some() {
+        return None;
+    }
+    Some(Command::Check {
+        file,
+        derivation,
+        root: given.root,
+    })
 }
 
 impl Words {
@@ -63,30 +264,15 @@ impl Words {
         self.words.iter()
     }
 
-    /// The file of `prove FILE`. None exactly where the words are usage.
-    pub fn file(&self) -> Option<&str>
-        ensures { option_map (λ file. file.now) result ≡ proved_file self.entry.now }
+    /// The command that the words are. None exactly where they are usage. It takes no memory.
+    pub fn command(&self) -> Option<Command<'_>>
+        ensures { option_map command_meant result ≡ command_of self.entry.now }
     {
-        match self.words.as_slice() {
-            [command, file] => {
-                let file = file.as_str();
-                if command.as_str() == "prove" && is_file_word(file) {
-                    Some(file)
-                } else {
-                    None
-                }
-            }
+        let (command, words) = self.words.as_slice().split_first()?;
+        match command.as_str() {
+            "prove" => prove_command(arguments_of(words)),
+            "check" => check_command(arguments_of(words)),
             _ => None,
         }
-    }
-}
-
-/// Whether a word can name a file: it isn't empty and doesn't begin with `-`.
-fn is_file_word(word: &str) -> bool
-    ensures { result ≡ file_word word.now }
-{
-    match word.as_bytes().first() {
-        None => false,
-        Some(byte) => *byte != 45,
     }
 }

@@ -1,4 +1,5 @@
 use Rattle.std.proofs.Common.{refl, sym}
+use Rattle.prover_main.specs.WordParts.{command_meant}
 use Rattle.prover_main.proofs.RunLemmas.{run_usage, run_due, due_text}
 use Rattle.prover_main.proofs.run.run.Goals as goal
 
@@ -7,5 +8,5 @@ returns-in-None g c = run_usage _ _ _ _ c.in-None.ensures refl c.deliver_report.
 
 pub returns-in-Ok : goal.returns-in-Ok
 returns-in-Ok g c =
-    run_due _ _ _ c.in-Some.file.now c.in-Ok.report.status c.as_slice.result.now _ c.in-Some.ensures
+    run_due _ _ _ (command_meant c.in-Some.command) c.in-Ok.report.status c.as_slice.result.now _ c.in-Some.ensures
     (due_text _ _ _ _ _ (sym c.as_slice.ensures) c.in-Ok.ensures) c.deliver_report-in-Ok.ensures

@@ -1,0 +1,13 @@
+// The tests of the checker on whole problems and derivations. They stand apart, since a crate with tests is proved twice.
+#![tactic(auto)]
+
+#[cfg(test)]
+mod examples;
+#[cfg(test)]
+mod large;
+#[cfg(test)]
+mod outcome;
+#[cfg(test)]
+mod rows;
+#[cfg(test)]
+mod tests;

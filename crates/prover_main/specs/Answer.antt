@@ -1,0 +1,182 @@
+-- What a command answers, and when each answer comes.
+use Rattle.std.specs.Prelude.{◌≡◌, ◌≤◌, ◌⊎◌, ℕ, Bool, List, length, map, Option, None, Some, IfSome, option_map, option_and_then, slice_get}
+use Rattle.std.specs.List.{list_any}
+use Rattle.outside.specs.Faults.{Rose}
+use Rattle.outside.specs.Library.{HoldsExactly, FoundMore}
+use Rattle.tptp_token.specs.declared.limits.TheConstants.{MOST_TEXT_BYTES}
+use Rattle.tptp_tree.specs.Entries.{is_conjecture}
+use Rattle.tptp_tree.specs.declared.problem.Annotated.{Annotated}
+use Rattle.tptp_reader.specs.declared.cause.ReadCause.{ReadCause}
+use Rattle.tptp_problem.specs.Formulas.{placed}
+use Rattle.tptp_problem.specs.Problem.{IsProblem, IsProblemFault}
+use Rattle.tptp_problem.specs.Shape.{IsLoadTold}
+use Rattle.signature.specs.Form.{clausal_form}
+use Rattle.clausal_form.specs.Fault.{form_fault}
+use Rattle.clausal_form.specs.FormFunctions.{IsHerbrandRefuted}
+use Rattle.clausal_form.specs.DerivationTexts.{IsAcceptedDerivation, IsRefusedDerivation}
+use Rattle.clausal_form.specs.declared.fault.FormCause.{FormCause}
+use Rattle.ground_loop.specs.Answer.{HasClosedSets, HasTriples}
+use Rattle.ground_loop.specs.Scope.{first_outside}
+use Rattle.tstp_checker.specs.Causes.{cause_meant}
+use Rattle.tstp_checker.specs.declared.cause.Cause.{Cause}
+use Rattle.tstp_checker.specs.declared.cause.Cause.TheVariants.{Text}
+use Rattle.prover_main.specs.Outside.{Outside}
+use Rattle.prover_main.specs.Words.{Command, prove, check}
+
+pub data Answer : Type 0 where
+  -- ---- of `prove`
+  -- the problem is refuted: whether it has a conjecture, and the text of the derivation
+  refuted : Bool → List ℕ → Answer
+  -- so many inferences were counted, of so many that are allowed
+  spent : ℕ → ℕ → Answer
+  -- no inference is left, and the empty clause wasn't derived
+  closed : Answer
+  -- the clauses of the formula of a name aren't built yet
+  not_built : List ℕ → Answer
+  -- ---- of `check`
+  -- the derivation is accepted, with so many lines
+  accepted : ℕ → Answer
+  -- its first bad line, and the first cause there
+  refused : ℕ → Cause → Answer
+  -- its file couldn't be loaded
+  unloaded : List ℕ → Answer
+  -- ---- of both
+  -- the problem isn't read, for a cause in a file at a place
+  unread : ReadCause → List ℕ → ℕ → Answer
+  -- it has no clausal form, because of the formula of a name
+  unformed : FormCause → List ℕ → Answer
+
+-- ---- the problem
+
+-- the file of the problem, and the folder of includes where it is given
+pub record Source : Type 0 where
+  pub file : List ℕ
+  pub root : Option (List ℕ)
+
+abbrev pub IsRead : Outside → Source → List Annotated → Type 0
+IsRead outside source formulas = IsProblem outside.told source.file source.root (map placed formulas)
+
+-- The formulas are those of the problem's file, within the limits of a clausal form.
+pub record IsFormed (outside : Outside) (source : Source) (formulas : List Annotated) : Type 0 where
+  pub read : IsRead outside source formulas
+  pub within : form_fault formulas ≡ None
+
+-- The first fault of the problem. A file is told to have failed only where the library's count of faults rose.
+pub record IsUnread (outside : Outside) (source : Source) (cause : ReadCause) (file : List ℕ) (place : ℕ) : Type 0 where
+  pub fault : IsProblemFault outside.told outside.found_after source.file source.root cause file place
+  pub load : IsLoadTold outside.faults_before outside.faults_after outside.failed_after cause file place
+
+-- The first formula that passes a limit.
+pub record IsUnformed (outside : Outside) (source : Source) (cause : FormCause) (name : List ℕ) : Type 0 where
+  pub formulas : List Annotated
+  pub read : IsRead outside source formulas
+  pub fault : form_fault formulas ≡ Some (cause, name)
+
+-- ---- `prove`
+
+abbrev pub has_conjecture : List Annotated → Bool
+has_conjecture formulas = list_any (λ (a : Annotated). is_conjecture a.role) formulas
+
+-- the formula from which a clause of the form comes
+abbrev pub formula_of_clause : List Annotated → ℕ → Option Annotated
+formula_of_clause formulas i = option_and_then (slice_get formulas) (slice_get (clausal_form formulas).origins i)
+
+-- The derivation is accepted, and so some finite list of ground instances of the clausal form is true in no interpretation.
+pub record IsRefuted (outside : Outside) (source : Source) (conjecture : Bool) (derivation : List ℕ) : Type 0 where
+  pub formulas : List Annotated
+  pub formed : IsFormed outside source formulas
+  pub conjecture_is : conjecture ≡ has_conjecture formulas
+  pub lines : ℕ
+  pub accepted : IsAcceptedDerivation formulas derivation lines
+  pub herbrand : IsHerbrandRefuted formulas
+
+-- As many different inferences as the limit.
+pub record IsSpent (outside : Outside) (source : Source) (limit count allowed : ℕ) : Type 0 where
+  pub formulas : List Annotated
+  pub formed : IsFormed outside source formulas
+  pub count_is : count ≡ limit
+  pub allowed_is : allowed ≡ limit
+  pub triples : HasTriples (clausal_form formulas).clauses limit
+
+-- A closed list of sets without the empty set.
+pub record IsClosed (outside : Outside) (source : Source) : Type 0 where
+  pub formulas : List Annotated
+  pub formed : IsFormed outside source formulas
+  pub sets : HasClosedSets (clausal_form formulas).clauses
+
+-- The first clause that has a variable, an equation or a name, or with which the form has too many symbols, is one of that formula.
+pub record IsNotBuilt (outside : Outside) (source : Source) (name : List ℕ) : Type 0 where
+  pub formulas : List Annotated
+  pub formed : IsFormed outside source formulas
+  pub index : ℕ
+  pub is_outside : first_outside (clausal_form formulas).clauses ≡ Some index
+  pub name_is : option_map (λ (a : Annotated). a.name) (formula_of_clause formulas index) ≡ Some name
+
+-- ---- `check`
+
+-- The text is that of the derivation's file.
+pub record IsLoaded (outside : Outside) (derivation : List ℕ) (text : List ℕ) : Type 0 where
+  pub held : HoldsExactly outside.told derivation text
+  pub short : length text ≤ MOST_TEXT_BYTES
+
+-- Accepted, and so some finite list of ground instances of the clausal form is true in no interpretation.
+pub record IsAccepted (outside : Outside) (source : Source) (derivation : List ℕ) (lines : ℕ) : Type 0 where
+  pub formulas : List Annotated
+  pub formed : IsFormed outside source formulas
+  pub text : List ℕ
+  pub loaded : IsLoaded outside derivation text
+  pub accepted : IsAcceptedDerivation formulas text lines
+  pub herbrand : IsHerbrandRefuted formulas
+
+-- Refused at a line.
+pub record IsRefused (outside : Outside) (source : Source) (derivation : List ℕ) (line : ℕ) (cause : Cause) : Type 0 where
+  pub formulas : List Annotated
+  pub formed : IsFormed outside source formulas
+  pub text : List ℕ
+  pub loaded : IsLoaded outside derivation text
+  pub refused : IsRefusedDerivation formulas text line (cause_meant cause)
+
+-- A file over the limit is refused as a text, at line 0.
+pub record IsTooLong (outside : Outside) (source : Source) (derivation : List ℕ) (line : ℕ) (cause : Cause) : Type 0 where
+  pub formulas : List Annotated
+  pub formed : IsFormed outside source formulas
+  pub found : FoundMore outside.told outside.found_after derivation MOST_TEXT_BYTES
+  pub line_is : line ≡ 0
+  pub cause_is : cause ≡ Text
+
+-- The library failed on the derivation's file.
+pub record IsUnloaded (outside : Outside) (source : Source) (derivation name : List ℕ) : Type 0 where
+  pub formulas : List Annotated
+  pub formed : IsFormed outside source formulas
+  pub rose : Rose outside.faults_before outside.faults_after
+  pub name_is : name ≡ derivation
+  pub failed : IfSome outside.failed_after (λ failed. failed ≡ derivation)
+
+-- ---- by the command
+
+abbrev pub IsProveAnswer : Outside → Source → ℕ → Answer → Type 0
+IsProveAnswer outside source limit (refuted conjecture derivation) = IsRefuted outside source conjecture derivation
+IsProveAnswer outside source limit (spent count allowed) = IsSpent outside source limit count allowed
+IsProveAnswer outside source limit closed = IsClosed outside source
+IsProveAnswer outside source limit (not_built name) = IsNotBuilt outside source name
+IsProveAnswer outside source limit (unread cause file place) = IsUnread outside source cause file place
+IsProveAnswer outside source limit (unformed cause name) = IsUnformed outside source cause name
+IsProveAnswer outside source limit (accepted lines) = ⊥
+IsProveAnswer outside source limit (refused line cause) = ⊥
+IsProveAnswer outside source limit (unloaded name) = ⊥
+
+abbrev pub IsCheckAnswer : Outside → Source → List ℕ → Answer → Type 0
+IsCheckAnswer outside source derivation (accepted lines) = IsAccepted outside source derivation lines
+IsCheckAnswer outside source derivation (refused line cause) =
+    IsRefused outside source derivation line cause ⊎ IsTooLong outside source derivation line cause
+IsCheckAnswer outside source derivation (unloaded name) = IsUnloaded outside source derivation name
+IsCheckAnswer outside source derivation (unread cause file place) = IsUnread outside source cause file place
+IsCheckAnswer outside source derivation (unformed cause name) = IsUnformed outside source cause name
+IsCheckAnswer outside source derivation (refuted conjecture text) = ⊥
+IsCheckAnswer outside source derivation (spent count allowed) = ⊥
+IsCheckAnswer outside source derivation closed = ⊥
+IsCheckAnswer outside source derivation (not_built name) = ⊥
+
+abbrev pub IsAnswer : Outside → Command → Answer → Type 0
+IsAnswer outside (prove file root limit) answer = IsProveAnswer outside (record { file = file; root = root }) limit answer
+IsAnswer outside (check file derivation root) answer = IsCheckAnswer outside (record { file = file; root = root }) derivation answer

@@ -1,0 +1,141 @@
+-- The reports, as texts, and their statuses.
+use Rattle.std.specs.Prelude.{ℕ, Bool, true, false, List, ◌++◌, codes}
+use Rattle.std.specs.Fmt.{decimal}
+use Rattle.tptp_reader.specs.declared.cause.Form.{Form}
+use Rattle.tptp_reader.specs.declared.cause.Form.TheVariants.{Typed, RoleForm, Number, Distinct, Dollar}
+use Rattle.tptp_reader.specs.declared.cause.ReadCause.{ReadCause}
+use Rattle.tptp_reader.specs.declared.cause.ReadCause.TheVariants.{BadByte, Unclosed, Syntax, FreeVariable, Role, SecondConjecture, SelectionMissing, IncludeDepth, TooLong, Nesting, Inappropriate, Load}
+use Rattle.clausal_form.specs.declared.fault.FormCause.{FormCause}
+use Rattle.clausal_form.specs.declared.fault.FormCause.TheVariants.{Expansion, TooHeavy, TotalLimit}
+use Rattle.tstp_checker.specs.declared.cause.Cause.{Cause}
+use Rattle.tstp_checker.specs.declared.cause.Cause.TheVariants.{Text, Order, UnknownParent, Leaf, Clausify, Binding, Rule, Conclusion, NewSymbol, NoEmptyClause}
+use Rattle.tstp_writer.specs.LineTexts.{formula_name_text}
+use Rattle.prover_main.specs.Answer.{Answer, refuted, spent, closed, not_built, accepted, refused, unloaded, unread, unformed}
+use Rattle.prover_main.specs.Names.{shown, problem_name}
+
+-- ---- causes by their names
+
+abbrev pub form_word : Form → List ℕ
+form_word Typed = codes "Typed"
+form_word RoleForm = codes "RoleForm"
+form_word Number = codes "Number"
+form_word Distinct = codes "Distinct"
+form_word Dollar = codes "Dollar"
+
+abbrev pub read_word : ReadCause → List ℕ
+read_word BadByte = codes "BadByte"
+read_word Unclosed = codes "Unclosed"
+read_word Syntax = codes "Syntax"
+read_word FreeVariable = codes "FreeVariable"
+read_word Role = codes "Role"
+read_word SecondConjecture = codes "SecondConjecture"
+read_word SelectionMissing = codes "SelectionMissing"
+read_word IncludeDepth = codes "IncludeDepth"
+read_word TooLong = codes "TooLong"
+read_word Nesting = codes "Nesting"
+read_word (Inappropriate form) = form_word form
+read_word Load = codes "Load"
+
+abbrev pub limit_word : FormCause → List ℕ
+limit_word Expansion = codes "Expansion"
+limit_word TooHeavy = codes "TooHeavy"
+limit_word TotalLimit = codes "TotalLimit"
+
+abbrev pub cause_word : Cause → List ℕ
+cause_word Text = codes "Text"
+cause_word Order = codes "Order"
+cause_word UnknownParent = codes "UnknownParent"
+cause_word Leaf = codes "Leaf"
+cause_word Clausify = codes "Clausify"
+cause_word Binding = codes "Binding"
+cause_word Rule = codes "Rule"
+cause_word Conclusion = codes "Conclusion"
+cause_word NewSymbol = codes "NewSymbol"
+cause_word NoEmptyClause = codes "NoEmptyClause"
+
+-- ---- lines, of the problem in a file
+
+-- the end of a line that names the problem
+abbrev pub for_problem : List ℕ → List ℕ
+for_problem file = codes " for " ++ problem_name file ++ codes "\n"
+
+-- the line of a status
+abbrev pub status_line : List ℕ → List ℕ → List ℕ
+status_line word file = codes "% SZS status " ++ word ++ for_problem file
+
+-- the lines around a derivation
+abbrev pub output_line : List ℕ → List ℕ → List ℕ
+output_line word file = codes "% SZS output " ++ word ++ codes " CNFRefutation" ++ for_problem file
+
+abbrev pub spent_line : ℕ → ℕ → List ℕ
+spent_line count limit = codes "% spent " ++ decimal count ++ codes " of " ++ decimal limit ++ codes "\n"
+
+abbrev pub load_line : List ℕ → List ℕ
+load_line file = codes "% Load " ++ shown file ++ codes "\n"
+
+-- a cause at a place of a file
+abbrev pub place_line : List ℕ → List ℕ → ℕ → List ℕ
+place_line word name place = codes "% " ++ word ++ codes " at " ++ shown name ++ codes ":" ++ decimal place ++ codes "\n"
+
+-- a cause in a formula
+abbrev pub formula_line : List ℕ → List ℕ → List ℕ
+formula_line word name = codes "% " ++ word ++ codes " in " ++ formula_name_text name ++ codes "\n"
+
+abbrev pub accepted_line : ℕ → List ℕ
+accepted_line lines = codes "% accepted " ++ decimal lines ++ codes " lines\n"
+
+abbrev pub refused_line : ℕ → Cause → List ℕ
+refused_line line cause = codes "% refused at line " ++ decimal line ++ codes ": " ++ cause_word cause ++ codes "\n"
+
+-- ---- reports
+
+-- with a conjecture, and without
+abbrev pub refutation_word : Bool → List ℕ
+refutation_word true = codes "Theorem"
+refutation_word false = codes "Unsatisfiable"
+
+-- a derivation between its two lines
+abbrev pub refuted_report : List ℕ → Bool → List ℕ → List ℕ
+refuted_report file conjecture derivation =
+    status_line (refutation_word conjecture) file ++ output_line (codes "start") file ++ derivation ++ output_line (codes "end") file
+
+-- the status of a text that isn't read, and the word for it
+abbrev pub read_status : ReadCause → ℕ
+read_status (Inappropriate form) = 8
+read_status Load = 4
+read_status cause = 3
+
+abbrev pub read_status_word : ReadCause → List ℕ
+read_status_word (Inappropriate form) = codes "Inappropriate"
+read_status_word Load = codes "OSError"
+read_status_word cause = codes "InputError"
+
+abbrev pub fault_line : ReadCause → List ℕ → ℕ → List ℕ
+fault_line Load name place = load_line name
+fault_line cause name place = place_line (read_word cause) name place
+
+abbrev pub status_of : Answer → ℕ
+status_of (refuted conjecture derivation) = 0
+status_of (accepted lines) = 0
+status_of (spent count allowed) = 2
+status_of (not_built name) = 3
+status_of (unformed cause name) = 3
+status_of (unloaded name) = 4
+status_of (unread cause name place) = read_status cause
+status_of (refused line cause) = 9
+status_of closed = 10
+
+-- what is told of the problem in a file
+abbrev pub report_of : List ℕ → Answer → List ℕ
+report_of file (refuted conjecture derivation) = refuted_report file conjecture derivation
+report_of file (accepted lines) = accepted_line lines
+report_of file (spent count allowed) = status_line (codes "GaveUp") file ++ spent_line count allowed
+report_of file (not_built name) = status_line (codes "InputError") file ++ formula_line (codes "NotBuilt") name
+report_of file (unformed cause name) = status_line (codes "InputError") file ++ formula_line (limit_word cause) name
+report_of file (unloaded name) = status_line (codes "OSError") file ++ load_line name
+report_of file (unread cause name place) = status_line (read_status_word cause) file ++ fault_line cause name place
+report_of file (refused line cause) = refused_line line cause
+report_of file closed = status_line (codes "Unknown") file ++ codes "% closed\n"
+
+abbrev pub usage_report : List ℕ
+usage_report = codes "usage: prove FILE [--inferences=N] [--tptp=DIR]\n       check FILE DERIVATION [--tptp=DIR]\n"

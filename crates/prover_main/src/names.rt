@@ -1,0 +1,56 @@
+// The names that a report shows of files.
+
+ghost use Rattle.std.specs.Prelude.{◌≡◌, ◌++◌, IfOk};
+ghost use Rattle.prover_main.specs.Names.{shown, shown_byte as shown_as, after_last_slash as behind_slash, without_suffix as before_suffix, problem_name};
+
+use plain_types::Mem;
+use tstp_writer::Page;
+
+/// Adds bytes as they are shown: those outside 32 to 126 as question marks.
+pub fn push_shown(page: &mut Page, bytes: &[u8]) -> Mem<()>
+    ensures { IfOk result (λ _. page.new ≡ page.old ++ shown bytes.now) }
+{
+    for byte in bytes {
+        page.bytes(&[shown_byte(*byte)])?;
+    }
+    Ok(())
+}
+
+fn shown_byte(byte: u8) -> u8
+    ensures { result ≡ shown_as byte }
+{
+    if 32 <= byte && byte <= 126 {
+        byte
+    } else {
+        b'?'
+    }
+}
+
+/// What stands behind the last slash.
+fn after_last_slash(bytes: &[u8]) -> &[u8]
+    ensures { result.now ≡ behind_slash bytes.entry.now }
+{
+    let mut start = bytes.len();
+    while start > 0 && bytes[start - 1] != b'/' {
+        start -= 1;
+    }
+    &bytes[start..]
+}
+
+/// The bytes without a final `.p`.
+fn without_suffix(bytes: &[u8]) -> &[u8]
+    ensures { result.now ≡ before_suffix bytes.entry.now }
+{
+    if bytes.ends_with(b".p".as_slice()) {
+        &bytes[..bytes.len() - 2]
+    } else {
+        bytes
+    }
+}
+
+/// Adds the name of the problem in a file: what stands behind its last slash, without a final `.p`.
+pub fn push_problem_name(page: &mut Page, file: &str) -> Mem<()>
+    ensures { IfOk result (λ _. page.new ≡ page.old ++ problem_name file.now) }
+{
+    push_shown(page, without_suffix(after_last_slash(file.as_bytes())))
+}

@@ -1,0 +1,77 @@
+// The first stages of each command: a problem is read and brought to clausal form.
+
+ghost use Rattle.std.specs.Prelude.{◌≡◌, ◌≤◌, IfOk, IfErr};
+ghost use Rattle.std.specs.Option.{option_copied};
+ghost use Rattle.prover_main.specs.AnswerShape.{IsFormedFrom, IsStop, IsStopAnswer, answer_meant};
+
+use crate::answer::Answer;
+use clausal_form::{Clausal, FormCause, FormFault, clausal};
+use outside::Library;
+use plain_types::{Mem, NoMemory, Text};
+use std::alloc::Global;
+use tptp_problem::read_problem;
+use tptp_reader::{ReadCause, ReadFault};
+use tptp_tree::Problem;
+
+/// A problem with its clausal form.
+#[derive(Drop)]
+pub struct FormedProblem {
+    pub problem: Problem,
+    pub form: Clausal,
+}
+
+/// Why a command ends before its work begins.
+#[derive(Drop)]
+pub enum Stop {
+    NoMemory,
+    /// The problem isn't read, for a cause in a file at a place.
+    Unread(ReadCause, Text, u32),
+    /// The problem has no clausal form, because of the formula of a name.
+    Unformed(FormCause, Text),
+}
+
+impl Stop {
+    /// The answer; want of memory is none.
+    pub fn answer(self) -> Mem<Answer>
+        ensures { IfOk result (λ answer. IsStopAnswer self (answer_meant answer)) }
+    {
+        match self {
+            Stop::NoMemory => Err(NoMemory),
+            Stop::Unread(cause, file, place) => Ok(Answer::Unread(cause, file, place)),
+            Stop::Unformed(cause, name) => Ok(Answer::Unformed(cause, name)),
+        }
+    }
+}
+
+/// Reads the problem of a file, and brings it to clausal form.
+pub fn formed_problem<L: Library>(
+    alloc: Global,
+    library: &mut L,
+    file: &str,
+    root: Option<&str>,
+) -> Result<FormedProblem, Stop>
+    ensures formed { IfOk result (IsFormedFrom (L.told library.old)
+        (record { file = file.now; root = option_copied root.entry })) }
+    ensures stopped { IfErr result (IsStop
+        (record {
+          told = L.told library.old;
+          faults_before = L.faults library.old;
+          faults_after = L.faults library.new;
+          found_after = L.found library.new;
+          failed_after = L.failed library.new;
+        })
+        (record { file = file.now; root = option_copied root.entry })) }
+    ensures told { L.told library.new ≡ L.told library.old }
+    ensures later { L.faults library.old ≤ L.faults library.new }
+{
+    let problem = match read_problem(alloc, library, file, root) {
+        Ok(problem) => problem,
+        Err(ReadFault::NoMemory) => return Err(Stop::NoMemory),
+        Err(ReadFault::At(cause, name, place)) => return Err(Stop::Unread(cause, name, place)),
+    };
+    match clausal(alloc, &problem) {
+        Ok(form) => Ok(FormedProblem { problem, form }),
+        Err(FormFault::NoMemory) => Err(Stop::NoMemory),
+        Err(FormFault::Refused(cause, name)) => Err(Stop::Unformed(cause, name)),
+    }
+}
