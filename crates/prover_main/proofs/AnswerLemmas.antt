@@ -42,8 +42,8 @@ proof_proves outside source limit formed (spent count allowed) h p =
       formulas = formed.problem.formulas;
       formed = is_formed outside source formed h;
       count_is = p.0;
-      allowed_is = p.1.0;
-      triples = p.1.1;
+      allowed_is = p.1;
+      triples = p.2;
     }
 proof_proves outside source limit formed closed h p =
     record { formulas = formed.problem.formulas; formed = is_formed outside source formed h; sets = p }

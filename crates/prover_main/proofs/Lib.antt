@@ -1,4 +1,5 @@
 pub mod NameLemmas
+pub mod PageLemmas
 pub mod AnswerLemmas
 pub mod WordLemmas
 pub mod OriginLemmas

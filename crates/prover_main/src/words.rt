@@ -7,12 +7,12 @@ ghost use Rattle.std.specs.Iterator.Adapters.{IterYieldsInOrder, IterYieldsInRev
 ghost use Rattle.std.specs.Option.{option_map, option_and_then};
 ghost use Rattle.prover_main.specs.Words.{command_of, is_option as option_word, value_behind, limit_in, with_root, with_limit, with_option, file_words, options_in};
 ghost use Rattle.prover_main.specs.WordParts.{few_with, few_of, few_meant, lent, options_meant, command_meant, prove_few, check_few};
-ghost use Rattle.tptp_token.specs.Spelling.{is_digit as digit};
 
 use plain_types::{DEFAULT_INFERENCES, MOST_INFERENCES, Mem};
 use std::alloc::Global;
 use std::marker::Model;
 use std::slice::Iter;
+use tptp_source::decimal;
 
 /// The words after the program's name, which contracts see as the list of their bytes.
 #[derive(Drop)]
@@ -141,27 +141,12 @@ fn value_behind<'a>(name: &str, word: &'a str) -> Option<&'a str>
 fn limit_in(value: &str) -> Option<u32>
     ensures { result ≡ limit_in value.now }
 {
-    let (first, digits) = value.as_bytes().split_first()?;
-    if *first < b'1' || b'9' < *first {
-        return None;
+    let number = decimal(value.as_bytes())?;
+    if 1 <= number && number <= u64::from(MOST_INFERENCES) {
+        Some(number as u32)
+    } else {
+        None
     }
-    let mut limit = u32::from(*first - b'0');
-    for digit in digits {
-        if !is_digit(*digit) {
-            return None;
-        }
-        limit = limit * 10 + u32::from(*digit - b'0');
-        if limit > MOST_INFERENCES {
-            return None;
-        }
-    }
-    Some(limit)
-}
-
-fn is_digit(byte: u8) -> bool
-    ensures { result ≡ digit byte }
-{
-    b'0' <= byte && byte <= b'9'
 }
 
 /// The options and one word more.

@@ -89,8 +89,8 @@ fn unsigned_number(sign: NumberSign, digits: &[u8]) -> Option<u64>
     }
 }
 
-/// The number that bytes are.
-fn decimal(digits: &[u8]) -> Option<u64>
+/// The number that bytes are: decimal digits without a sign and without a leading zero, below 2 ^ 64.
+pub fn decimal(digits: &[u8]) -> Option<u64>
     ensures { result ≡ decimal_in digits.now }
 {
     if !is_decimal(digits) {
