@@ -4,6 +4,7 @@ mod ProblemLevels
 mod ProblemForms
 mod ProblemLemmas
 mod ProblemTrees
+mod ShownSymbols
 mod TermTexts
 mod NoteLemmas
 mod CauseLemmas
