@@ -5,6 +5,9 @@ mod ProblemForms
 mod ProblemLemmas
 mod ProblemTrees
 mod ShownSymbols
+mod PlainTexts
+mod PlainSources
+mod PlainTrees
 mod TermTexts
 mod NoteLemmas
 mod CauseLemmas
