@@ -1,5 +1,5 @@
 -- The sources of plain lines are writable, within few levels.
-use Rattle.std.proofs.Common.{◌≡◌, ℕ, zero, suc, ◌/◌, ◌%◌, ◌<◌, ◌≤◌, Bool, true, false, ◌&&◌, ◌==◌, List, [], ◌∷◌, map, length, codes, refl, ap, ◌∙◌, subst, sym, arith, eqb-true}
+use Rattle.std.proofs.Common.{◌≡◌, ℕ, zero, suc, ◌/◌, ◌%◌, ◌<◌, ◌≤◌, Bool, true, false, ◌==◌, List, [], ◌∷◌, map, length, codes, refl, ap, arith, eqb-true}
 use Rattle.std.specs.Prelude.{max, if◌then◌else◌}
 use Rattle.std.specs.Fmt.{digits, digits_onto, digit_glyph, decimal}
 use Rattle.std.specs.List.{list_all, AllByRecursion}
@@ -8,7 +8,7 @@ use Rattle.std.proofs.Math.Nat.{max-le}
 use Rattle.fol_base.specs.Tree.{Tree}
 use Rattle.fol_base.specs.declared.clause.Side.{Side}
 use Rattle.fol_base.specs.declared.clause.Side.TheVariants.{Left, Right}
-use Rattle.tptp_token.specs.Spelling.{is_digit, begins}
+use Rattle.tptp_token.specs.Spelling.{is_digit}
 use Rattle.signature.specs.declared.symbol.Symbol.{Symbol}
 use Rattle.kernel_steps.specs.Keys.{side_word}
 use Rattle.kernel_steps.specs.declared.step.Step.{Step}
@@ -176,8 +176,7 @@ source-small script layout (Para first second from from_side into into_side plac
     inference-small (codes "para")
     (status_item (codes "thm") ∷ from_item from from_side ∷ into_item into into_side place
     ∷ bind_item script.symbols first_bind ∷ bind_item script.symbols second_bind ∷ [])
-    (derived_name layout first ∷ derived_name layout second ∷ []) (record { printable = refl; some = omega arith })
-    (
+    (derived_name layout first ∷ derived_name layout second ∷ []) (record { printable = refl; some = omega arith }) (
       status-small (codes "thm") thm-shown,
       (
         from-small from from_side,

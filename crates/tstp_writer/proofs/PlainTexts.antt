@@ -4,7 +4,7 @@ use Rattle.std.specs.Prelude.{nat_le, max, option_map, unwrap_or, slice_get, ifâ
 use Rattle.std.specs.List.{list_all, AllByRecursion}
 use Rattle.std.proofs.lemmas.Bool.{and_parts, and_from, or_cases, trueâ‰¢false}
 use Rattle.std.proofs.Math.Nat.{max-le}
-use Rattle.fol_base.specs.Tree.{Tree, variable, application, Trees, no_trees, tree_then, trees_count, tree_size, trees_size, trees_eq, tree_eq, true_tree, is_truth}
+use Rattle.fol_base.specs.Tree.{Tree, variable, application, Trees, no_trees, tree_then, trees_count, tree_size, trees_size, trees_eq, is_truth}
 use Rattle.fol_base.specs.Ground.{is_ground, are_ground}
 use Rattle.fol_base.specs.Kind.{is_function_term, are_function_terms, is_predicate_term, is_literal}
 use Rattle.fol_base.specs.Clause.{TreeLiteral, TreeClause}
@@ -12,8 +12,8 @@ use Rattle.fol_base.specs.declared.limits.TheConstants.{MOST_SYMBOLS}
 use Rattle.tptp_token.specs.Lexemes.{IsLexedAs}
 use Rattle.tptp_token.proofs.LexemeLemmas.{lexes-whole, lexes-nothing}
 use Rattle.tptp_tree.specs.declared.limits.TheConstants.{MOST_DERIVATION_NESTING}
-use Rattle.tptp_tree.specs.Term.{TermTree, TermTrees}
-use Rattle.tptp_tree.specs.Formula.{FormulaTree, truth, falsity, predicate, equation, negation, conjunction, disjunction, connected, quantified, FormulaTrees, formulas_of, list_of_formulas}
+use Rattle.tptp_tree.specs.Term.{TermTrees}
+use Rattle.tptp_tree.specs.Formula.{FormulaTree, truth, falsity, predicate, equation, negation, conjunction, disjunction, connected, quantified, formulas_of, list_of_formulas}
 use Rattle.tptp_tree.specs.Printing.{is_joined, formula_text}
 use Rattle.tptp_tree.specs.Spelling.{phrase_lexemes, SpellsFormula}
 use Rattle.tptp_tree.proofs.CanonicalLemmas.{WellTerm, WellTerms, WellFormula, WellFormulas, phrase_of, formula-meant}

@@ -1,5 +1,5 @@
 -- What is written for the plain lines of a derivation can be printed.
-use Rattle.std.proofs.Common.{◌≡◌, ℕ, Bool, true, false, List, [], ◌∷◌, ◌++◌, map, Option, None, Some, refl, arith}
+use Rattle.std.proofs.Common.{◌≡◌, ℕ, zero, suc, true, false, List, [], ◌∷◌, ◌++◌, map, Option, None, Some, refl, arith}
 use Rattle.std.specs.Prelude.{filter_map, option_and_then, slice_get, IfSome}
 use Rattle.std.specs.List.{AllByRecursion, cons_option}
 use Rattle.outside.specs.Library.{Holdings}
@@ -9,21 +9,20 @@ use Rattle.tptp_tree.specs.Printing.{formula_text}
 use Rattle.tptp_tree.specs.declared.problem.Annotated.{Annotated}
 use Rattle.tptp_problem.specs.Formulas.{placed}
 use Rattle.tptp_problem.specs.Problem.{IsProblem}
+use Rattle.signature.specs.declared.symbol.Symbol.{Symbol}
 use Rattle.signature.specs.Form.{clausal_form}
 use Rattle.kernel_steps.specs.declared.step.Step.{Step}
 use Rattle.kernel_steps.specs.declared.step.Step.TheVariants.{Input, Negate, Clausify, Para, Refl, Factor, Merge, Component, Opposite, Split, Chain}
 use Rattle.kernel_steps.specs.declared.step.Line.{Line}
 use Rattle.clausal_form.specs.DerivationLine.{LineTree}
-use Rattle.clausal_form.specs.DerivationTexts.{SpellsDerivation}
-use Rattle.tstp_writer.specs.LineTexts.{lines_text}
 use Rattle.tstp_writer.specs.ClauseTrees.{clause_formula}
 use Rattle.tstp_writer.specs.LineTrees.{Script, script_of, Layout, layout_of, lines_at, cited_name, negated_name, derived_name, input_at, negate_at, step_source, clause_tree, line_tree_by, line_tree, derived_tree, derivation_trees}
-use Rattle.tstp_writer.specs.PlainLines.{is_plain_step}
+use Rattle.tstp_writer.specs.PlainLines.{is_plain_step, IsPlainLine}
 use Rattle.tstp_writer.specs.Printable.{IsShown, IsPrintable}
 use Rattle.tstp_writer.specs.ProblemLaws.{HasPrintableFormulas}
-use Rattle.tstp_writer.specs.WrittenTexts.{AreShownSymbols, IsSmallPlainLine}
+use Rattle.tstp_writer.specs.WrittenTexts.{AreShownSymbols, HasSmallAtoms, IsSmallPlainLine, IsSpelledByText}
 use Rattle.tstp_writer.proofs.ProblemLemmas.{line_name-shown}
-use Rattle.tstp_writer.proofs.ProblemTrees.{script-printable, beginning-printable}
+use Rattle.tstp_writer.proofs.ProblemTrees.{front-printable, script-printable, beginning-printable}
 use Rattle.tstp_writer.proofs.ShownSymbols.{form-symbols-shown}
 use Rattle.tstp_writer.proofs.PlainTexts.{IsPrintableFormula, clause-printable, formula-spelled}
 use Rattle.tstp_writer.proofs.PlainSources.{IsWrittenStep, source-small}
@@ -92,11 +91,6 @@ both-printable : (ts us : List LineTree) → AllByRecursion IsPrintable ts → A
 both-printable [] us h k = k
 both-printable (t ∷ ts) us h k = (h.0, both-printable ts us h.1 k)
 
-front-printable :
-    (o : Option LineTree) (ts : List LineTree) → IfSome o IsPrintable → AllByRecursion IsPrintable ts → AllByRecursion IsPrintable (cons_option o ts)
-front-printable None ts h more = more
-front-printable (Some t) ts h more = (h, more)
-
 numbers-printable :
     (script : Script) (layout : Layout) (lines : List Line) (numbers : List ℕ)
     → AreShownSymbols script.symbols → HasPrintableFormulas script
@@ -134,11 +128,37 @@ derivation-printable told file root problem h name shown lines numbers plain =
     both-printable (cited ++ negated) (filter_map (derived_tree script layout lines) numbers)
     (both-printable cited negated begun.cited begun.negated) derived
 
+-- ---- of lines that are all plain and small
+
+small-plain :
+    (symbols : List Symbol) (lines : List Line)
+    → AllByRecursion (IsPlainLine symbols) lines → AllByRecursion HasSmallAtoms lines
+    → AllByRecursion (IsSmallPlainLine symbols) lines
+small-plain symbols [] h k = tt
+small-plain symbols (l ∷ ls) h k =
+    let line : IsSmallPlainLine symbols l = record { plain = h.0; small = k.0 } in (line, small-plain symbols ls h.1 k.1)
+
+at-place : (P : Line → Type 0) (lines : List Line) (n : ℕ) → AllByRecursion P lines → IfSome (slice_get lines n) P
+at-place P [] n h = tt
+at-place P (l ∷ ls) zero h = h.0
+at-place P (l ∷ ls) (suc n) h = at-place P ls n h.1
+
+at-places :
+    (P : Line → Type 0) (lines : List Line) (numbers : List ℕ) → AllByRecursion P lines → AllByRecursion P (lines_at lines numbers)
+at-places P lines [] h = tt
+at-places P lines (n ∷ numbers) h = by (slice_get lines n) (at-place P lines n h) (at-places P lines numbers h)
+  where
+    by : (o : Option Line) → IfSome o P → AllByRecursion P (lines_at lines numbers) → AllByRecursion P (cons_option o (lines_at lines numbers))
+    by None l more = more
+    by (Some line) l more = (l, more)
+
 pub derivation-spelled :
     (told : Option Holdings) (file : List ℕ) (root : Option (List ℕ)) (problem : List Annotated)
     → IsProblem told file root (map placed problem) → (name : List ℕ) → IsShown name → (lines : List Line) (numbers : List ℕ)
-    → AllByRecursion (IsSmallPlainLine (clausal_form problem).symbols) (lines_at lines numbers)
-    → SpellsDerivation (lines_text (derivation_trees (script_of name problem) lines numbers)) (derivation_trees (script_of name problem) lines numbers)
-derivation-spelled told file root problem h name shown lines numbers plain =
+    → AllByRecursion (IsPlainLine (clausal_form problem).symbols) lines → AllByRecursion HasSmallAtoms lines
+    → IsSpelledByText (derivation_trees (script_of name problem) lines numbers)
+derivation-spelled told file root problem h name shown lines numbers plain small =
+    let symbols : List Symbol = (clausal_form problem).symbols in
     lines-spelled (derivation_trees (script_of name problem) lines numbers)
-    (derivation-printable told file root problem h name shown lines numbers plain)
+    (derivation-printable told file root problem h name shown lines numbers
+    (at-places (IsSmallPlainLine symbols) lines numbers (small-plain symbols lines plain small)))

@@ -49,7 +49,7 @@ script-printable told file root formulas h name shown =
 
 -- ---- lists of lines
 
-front-printable : (o : Option LineTree) (ts : List LineTree) → IfSome o IsPrintable → AllByRecursion IsPrintable ts → AllByRecursion IsPrintable (cons_option o ts)
+pub front-printable : (o : Option LineTree) (ts : List LineTree) → IfSome o IsPrintable → AllByRecursion IsPrintable ts → AllByRecursion IsPrintable (cons_option o ts)
 front-printable None ts h more = more
 front-printable (Some t) ts h more = (h, more)
 

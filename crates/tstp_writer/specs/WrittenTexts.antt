@@ -36,10 +36,13 @@ FormSymbolsAreShown =
 abbrev pub has_small_atoms : TreeClause → Bool
 has_small_atoms c = list_all (λ (l : TreeLiteral). nat_le (tree_size l.left) MOST_SYMBOLS) c.literals
 
+abbrev pub HasSmallAtoms : Line → Type 0
+HasSmallAtoms line = IsTrue (has_small_atoms (clause_of line.clause))
+
 -- a plain line, so small that its printed formula isn't nested too deep
 pub record IsSmallPlainLine (symbols : List Symbol) (line : Line) : Type 0 where
   pub plain : IsPlainLine symbols line
-  pub small : IsTrue (has_small_atoms (clause_of line.clause))
+  pub small : HasSmallAtoms line
 
 -- what is written for such a line, under whatever layout
 abbrev pub PlainLinesArePrintable : Type 0
@@ -62,10 +65,10 @@ PlainDerivationsArePrintable =
 abbrev pub IsSpelledByText : List LineTree → Type 0
 IsSpelledByText trees = SpellsDerivation (lines_text trees) trees
 
--- and so its text spells it
+-- and so its text spells it; here all lines are plain and small
 abbrev pub PlainDerivationsAreSpelled : Type 0
 PlainDerivationsAreSpelled =
     (told : Option Holdings) (file : List ℕ) (root : Option (List ℕ)) (problem : List Annotated)
     → IsProblem told file root (map placed problem) → (name : List ℕ) → IsShown name → (lines : List Line) (numbers : List ℕ)
-    → AllByRecursion (IsSmallPlainLine (clausal_form problem).symbols) (lines_at lines numbers)
+    → AllByRecursion (IsPlainLine (clausal_form problem).symbols) lines → AllByRecursion HasSmallAtoms lines
     → IsSpelledByText (derivation_trees (script_of name problem) lines numbers)
