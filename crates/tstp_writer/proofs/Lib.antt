@@ -4,6 +4,10 @@ mod ProblemLevels
 mod ProblemForms
 mod ProblemLemmas
 mod ProblemTrees
+mod ShownSymbols
+mod PlainTexts
+mod PlainSources
+mod PlainTrees
 mod TermTexts
 mod NoteLemmas
 mod CauseLemmas

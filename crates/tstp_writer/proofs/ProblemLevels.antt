@@ -105,7 +105,7 @@ pub parentheses-one : (b : Bool) (n : ℕ) → with_parentheses b n ≤ suc n
 parentheses-one true n = omega arith
 parentheses-one false n = omega arith
 
-parentheses-some : (b : Bool) (n : ℕ) → n ≤ with_parentheses b n
+pub parentheses-some : (b : Bool) (n : ℕ) → n ≤ with_parentheses b n
 parentheses-some true n = omega arith
 parentheses-some false n = omega arith
 

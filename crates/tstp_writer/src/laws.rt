@@ -15,6 +15,7 @@ ghost use Rattle.tstp_writer.specs.LineTexts.{lines_text};
 ghost use Rattle.tstp_writer.specs.LineTrees.{script_of, derivation_trees};
 ghost use Rattle.tstp_writer.specs.Printable.{PrintedLinesAreSpelled};
 ghost use Rattle.tstp_writer.specs.ProblemLaws.{ProblemFormulasArePrintable, ProblemLinesArePrintable, ScriptFormulasArePrintable, BeginningsArePrintable, LineNamesAreShown};
+ghost use Rattle.tstp_writer.specs.WrittenTexts.{FormSymbolsAreShown, PlainLinesArePrintable, PlainDerivationsArePrintable, PlainDerivationsAreSpelled};
 ghost use Rattle.tstp_writer.specs.TextExamples.{implication_steps, implication_numbers, implication_text, components_steps, components_numbers, components_text};
 
 /// The lines of a derivation need earlier lines alone.
@@ -78,4 +79,17 @@ pub fn written_examples()
 /// The printed text of lines that can be printed spells them.
 pub fn printed_lines_are_spelled()
     ensures { PrintedLinesAreSpelled }
+{}
+
+/// The symbols of the form of a problem that was read have names that are shown, `$true` aside.
+pub fn form_symbols_are_shown()
+    ensures { FormSymbolsAreShown }
+{}
+
+/// What is written for plain lines over the form of a problem that was read can be printed, so the printed text of a derivation of
+/// them spells what is written for it.
+pub fn plain_derivations_are_spelled()
+    ensures lines { PlainLinesArePrintable }
+    ensures derivations { PlainDerivationsArePrintable }
+    ensures texts { PlainDerivationsAreSpelled }
 {}

@@ -1,0 +1,5 @@
+use Rattle.tstp_writer.proofs.ShownSymbols.{form-symbols-shown}
+use Rattle.tstp_writer.proofs.laws.form_symbols_are_shown.Goals as goal
+
+pub returns : goal.returns
+returns c = form-symbols-shown
