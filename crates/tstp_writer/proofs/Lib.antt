@@ -10,3 +10,6 @@ mod CauseLemmas
 mod ClausePhrases
 mod LineLemmas
 mod TextLemmas
+mod WrittenNumbers
+mod WrittenClauses
+mod WrittenSteps
