@@ -13,3 +13,6 @@ mod TextLemmas
 mod WrittenNumbers
 mod WrittenClauses
 mod WrittenSteps
+mod WrittenBounds
+mod FormSymbols
+mod DerivedLemmas
