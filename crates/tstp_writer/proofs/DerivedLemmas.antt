@@ -39,12 +39,12 @@ use Rattle.tstp_writer.specs.Cone.{parents_of}
 use Rattle.tstp_writer.specs.ClauseTrees.{clause_formula}
 use Rattle.tstp_writer.specs.LineTrees.{Script, script_of, origin, Layout, derived_name, origin_name, status_item, step_items, step_source, clause_tree}
 use Rattle.tstp_writer.specs.PlainLines.{is_plain_step, is_literal_over, IsPlainLine, written_place, placed_step}
-use Rattle.tstp_writer.specs.DerivedLines.{Fits, ParentIsTaken, OriginIsTaken, SourcesAreTaken, IsNewLine, DerivedLinesAreTaken}
+use Rattle.tstp_writer.specs.DerivedLines.{HasNumberedForm, ParentIsTaken, OriginIsTaken, SourcesAreTaken, IsNewLine, DerivedLinesAreTaken}
 use Rattle.tstp_writer.proofs.WrittenNumbers.{decimal-back}
 use Rattle.tstp_writer.proofs.WrittenClauses.{AreKnown, IsClauseBack, clause-back}
 use Rattle.tstp_writer.proofs.WrittenSteps.{para-back, refl-back, merge-back, parent-back}
 use Rattle.tstp_writer.proofs.WrittenBounds.{ParaFits, para-fits, refl-fits, merge-fits}
-use Rattle.tstp_writer.proofs.FormSymbols.{form-different, form-truth, origin-there}
+use Rattle.tstp_writer.proofs.FormOrigins.{origin-there}
 
 -- ---- a clause is equal to itself
 
@@ -74,7 +74,7 @@ none-bound : (bs : List Tree) → (length bs == 0) ≡ true → bs ≡ []
 none-bound [] h = refl
 none-bound (b ∷ bs) h = absurd (let e : length (b ∷ bs) ≡ 0 = eqb-true (length (b ∷ bs)) 0 h in omega (arith, e))
 
-module _ (problem : List Annotated) (file : List ℕ) (layout : Layout) (lines : List Line) (e : Taken) (introduced : e.introduced ≡ []) where
+module _ (problem : List Annotated) (file : List ℕ) (layout : Layout) (lines : List Line) (e : Taken) (form : HasNumberedForm problem) (introduced : e.introduced ≡ []) where
   abbrev s : Setting
   s = setting_of problem
 
@@ -113,8 +113,8 @@ module _ (problem : List Annotated) (file : List ℕ) (layout : Layout) (lines :
       environment : Environment
       environment = numbered_from 0 (different_names (variables_in (line_literals e t) (all_bound t)))
 
-      back : IsClauseBack symbols (form-different problem) environment (form-truth problem) formula c
-      back = clause-back symbols (form-different problem) environment (form-truth problem) script.prefix c no_names over
+      back : IsClauseBack symbols (form.symbols).different environment (form.symbols).truth formula c
+      back = clause-back symbols (form.symbols).different environment (form.symbols).truth script.prefix c no_names over
 
       all_known : AreKnown symbols (symbols_in (line_literals e t) (all_bound t))
       all_known =
@@ -167,13 +167,15 @@ module _ (problem : List Annotated) (file : List ℕ) (layout : Layout) (lines :
         t = tree n c (Clausify i)
 
         from : OriginIsTaken problem script layout e i
-        from = sources.0
+        from = sources
 
         back : IsReadBack t c
         back = read-back (derived_name layout n) c (step_source script layout (Clausify i)) introduced refl no_names over
 
         index : index_in t ≡ Some i
-        index = decimal-back i sources.1
+        index =
+            let low : i < length (clausal_form problem).clauses = slice_get_within (clausal_form problem).clauses i c comes in
+            decimal-back i (omega (arith, low, form.clauses))
 
         only_step : only_parent_step e t ≡ Some (from.source.line).step
         only_step =
@@ -358,6 +360,6 @@ module _ (problem : List Annotated) (file : List ℕ) (layout : Layout) (lines :
     step-taken _ plain clause = absurd (false≢true plain)
 
 pub derived-taken : DerivedLinesAreTaken
-derived-taken problem file layout lines e n line plain clause comes introduced new sources =
-    step-taken problem file layout lines e introduced n (clause_of line.clause) plain.names plain.literals new line.step plain.step clause comes
+derived-taken problem file layout lines e n line form plain clause comes introduced new sources =
+    step-taken problem file layout lines e form introduced n (clause_of line.clause) plain.names plain.literals new line.step plain.step clause comes
     sources

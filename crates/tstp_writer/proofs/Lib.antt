@@ -14,5 +14,5 @@ mod WrittenNumbers
 mod WrittenClauses
 mod WrittenSteps
 mod WrittenBounds
-mod FormSymbols
+mod FormOrigins
 mod DerivedLemmas

@@ -3,6 +3,7 @@ use Rattle.std.proofs.Common.{◌≡◌, ℕ, zero, suc, ◌+◌, ◌^◌, ◌<�
 use Rattle.std.specs.Prelude.{nat_le, sum_by, slice_get, option_and_then}
 use Rattle.std.specs.List.{list_all, AllByRecursion}
 use Rattle.std.proofs.lemmas.Bool.{and_parts, leb-true}
+use Rattle.std.proofs.lemmas.List.Sums.{sum_by-cons}
 use Rattle.std.proofs.lemmas.Option.{none-some, same_Some, option_and_then_some}
 use Rattle.fol_base.specs.Tree.{Tree, variable, application, Trees, no_trees, tree_then, list_of, tree_size, trees_size, is_truth}
 use Rattle.fol_base.specs.Place.{argument, subterm}
@@ -40,7 +41,7 @@ place-below n (i ∷ place) (application f ts) u at small =
 -- ---- literals
 
 size-more : (k : TreeLiteral) (ls : List TreeLiteral) → sum_by literal_size (k ∷ ls) ≡ tree_size k.left + tree_size k.right + sum_by literal_size ls
-size-more k ls = refl
+size-more k ls = sum_by-cons literal_size k ls
 
 literal-small :
     (ls : List TreeLiteral) (i : ℕ) (l : TreeLiteral) → slice_get ls i ≡ Some l

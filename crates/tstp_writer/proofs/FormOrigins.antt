@@ -1,4 +1,4 @@
--- The symbols of a clausal form are all different, `$true` the first of them, and each of its clauses has an origin.
+-- Each clause of a clausal form has an origin.
 use Rattle.std.proofs.Common.{◌≡◌, ℕ, zero, suc, ◌+◌, ◌<◌, Bool, true, false, not, ◌||◌, List, [], ◌∷◌, ◌++◌, map, length, Some, refl, ap, sym, ◌∙◌, arith}
 use Rattle.std.specs.Prelude.{fold, flat_map, codes, slice_get, if◌then◌else◌}
 use Rattle.std.proofs.lemmas.Option.{none-some, slice_get_within, slice_get-get_or, unwrap_or-slice_get}
@@ -10,30 +10,6 @@ use Rattle.signature.specs.Occurrences.{annotated_symbols, problem_symbols}
 use Rattle.signature.specs.Clausal.{SymbolNumbers, Made, Worked, Literals, annotated_clauses, canonical_literals, formed}
 use Rattle.signature.specs.Form.{with_skolem, with_naming, form_symbols, problem_form, clausal_form}
 use Rattle.tstp_writer.specs.LineTrees.{script_of, origin}
-
--- ---- `$true` comes first
-
-first-kept : {X : Type 0} (xs ys : List X) (x : X) → slice_get xs 0 ≡ Some x → slice_get (xs ++ ys) 0 ≡ Some x
-first-kept [] ys x h = absurd (none-some x h)
-first-kept (y ∷ xs) ys x h = h
-
-first-folded : (known ss : List Symbol) (x : Symbol) → slice_get known 0 ≡ Some x → slice_get (fold with_symbol known ss) 0 ≡ Some x
-first-folded known [] x h = h
-first-folded known (s ∷ ss) x h = first-folded (with_symbol known s) ss x (by (has_symbol s known))
-  where
-    by : (b : Bool) → slice_get (if b then known else known ++ s ∷ []) 0 ≡ Some x
-    by true = h
-    by false = first-kept known (s ∷ []) x h
-
-pub form-truth : (problem : List Annotated) → slice_get (clausal_form problem).symbols 0 ≡ Some true_symbol
-form-truth problem =
-    let symbols : List Symbol = problem_symbols problem in
-    let made : Made = (problem_form problem).made in
-    first-kept (with_naming symbols made) _ true_symbol
-    (first-kept (with_skolem symbols made) _ true_symbol
-    (first-kept symbols _ true_symbol (first-folded (true_symbol ∷ []) (flat_map annotated_symbols problem) true_symbol refl)))
-
--- ---- origins
 
 same-length :
     {X Y Z : Type 0} (f : X → Y) (g : X → Z) (ws : List X) (ys : List Y) (zs : List Z)
@@ -56,6 +32,3 @@ origin-there problem file i c at =
     let origins : List ℕ = (clausal_form problem).origins in
     let same : length (clausal_form problem).clauses ≡ length origins = formed-lengths _ 0 problem _ in
     slice_get-get_or origins i 0 (omega (arith, low, same)) ∙ ap Some (sym (unwrap_or-slice_get origins i 0))
-
-pub form-different : (problem : List Annotated) → are_different (clausal_form problem).symbols ≡ true
-form-different problem = ?
