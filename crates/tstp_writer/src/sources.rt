@@ -87,10 +87,7 @@ fn push_items(page: &mut Page, script: Script<'_>, step: &Step) -> Mem<()>
             push_bind(page, script.symbols, bind.as_slice())
         }
         Step::Merge {
-            stays,
-            goes,
-            bind,
-            ..
+            stays, goes, bind, ..
         } => {
             push_literal_item(page, *stays)?;
             push_literal_item(page, *goes)?;
@@ -196,12 +193,7 @@ fn push_definition(page: &mut Page, way: &[u8], prefix: &[u8], name: u32) -> Mem
 }
 
 /// Adds the source of a step's line.
-pub(crate) fn push_source(
-    page: &mut Page,
-    script: Script<'_>,
-    layout: &Layout,
-    step: &Step,
-) -> Mem<()>
+pub(crate) fn push_source(page: &mut Page, script: Script<'_>, layout: &Layout, step: &Step) -> Mem<()>
     requires lower { IsTrue (is_lower_word script.entry.prefix.now) }
     requires some { IsInputStep step.now → ⊥ }
     ensures { IfOk result (λ _. page.new ≡ page.old ++ source_text (step_source (script_in script.entry) layout.now step.now)) }
