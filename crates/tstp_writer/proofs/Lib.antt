@@ -10,3 +10,4 @@ mod CauseLemmas
 mod ClausePhrases
 mod LineLemmas
 mod TextLemmas
+mod TakenShape
