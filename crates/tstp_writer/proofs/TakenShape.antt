@@ -1,5 +1,5 @@
 -- What a derivation's line is taken as, behind those that it stands on.
-use Rattle.std.proofs.Common.{◌≡◌, ℕ, Bool, false, List, [], ◌∷◌, ◌++◌, take, Some}
+use Rattle.std.proofs.Common.{◌≡◌, ℕ, false, List, [], take, Some}
 use Rattle.std.specs.Prelude.{slice_get, bytes_eq, IsTrue}
 use Rattle.std.specs.List.{list_any}
 use Rattle.fol_base.specs.Literal.{clause_of}
@@ -14,6 +14,7 @@ use Rattle.clausal_form.specs.DerivationParts.{setting_of, line_place}
 use Rattle.clausal_form.specs.DerivationCauses.{is_line_of, taken, line_verdict}
 use Rattle.tstp_writer.specs.Cone.{parents_of, has_number}
 use Rattle.tstp_writer.specs.LineTrees.{script_of, Layout, layout_of, origin, origin_name, derived_name, step_source, clause_tree}
+use Rattle.tstp_writer.specs.WrittenLaws.{HasWordNumbers}
 use Rattle.tstp_writer.specs.PlainLines.{IsPlainLine, written_place, placed_step, taken_as, all_written}
 
 -- a line that a step names as a parent, as it was taken
@@ -47,6 +48,8 @@ pub record IsNext
   pub plain : IsPlainLine (clausal_form problem).symbols line
   pub comes : ComesBy line.step (clausal_form problem).clauses (take n lines) (clause_of line.clause)
   pub is_clause : IsTrue (is_clause_step line.step)
+  -- the numbers in its items
+  pub counted : HasWordNumbers line.step
   pub none_introduced : e.introduced ≡ []
   pub before : List ℕ
   pub written : e.lines ≡ all_written problem layout lines before
