@@ -11,3 +11,7 @@ mod ClausePhrases
 mod LineLemmas
 mod TextLemmas
 mod TakenShape
+mod SameLemmas
+mod PlaceLemmas
+mod WalkLemmas
+mod InputLines
