@@ -234,11 +234,11 @@ module _ (file : List ℕ) (problem : List Annotated) where
 
   pub inputs-length : (k : ℕ) (ps : List ℕ) → length (inputs_taken problem k ps) ≡ length ps
   inputs-length k [] = refl
-  inputs-length k (p ∷ ps) = ap (λ n. n + 1) (inputs-length (k + 1) ps)
+  inputs-length k (p ∷ ps) = ap suc (inputs-length (k + 1) ps)
 
   pub negations-length : (k : ℕ) (ps : List ℕ) → length (negations_taken problem k ps) ≡ length ps
   negations-length k [] = refl
-  negations-length k (p ∷ ps) = ap (λ n. n + 1) (negations-length (k + 1) ps)
+  negations-length k (p ∷ ps) = ap suc (negations-length (k + 1) ps)
 
   pub inputs-named : (k : ℕ) (ps : List ℕ) → AreNamed k (inputs_taken problem k ps)
   inputs-named k [] = tt

@@ -15,3 +15,5 @@ mod SameLemmas
 mod PlaceLemmas
 mod WalkLemmas
 mod InputLines
+mod OriginLemmas
+mod ConeLemmas

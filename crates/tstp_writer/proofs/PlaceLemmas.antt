@@ -2,7 +2,7 @@
 use Rattle.std.proofs.Common.{◌≡◌, ℕ, zero, suc, ◌+◌, ◌<◌, ◌≤◌, ◌^◌, ◌⊎◌, inl, inr, Bool, true, false, cond, not, ◌||◌, ◌==◌, List, [], ◌∷◌, ◌++◌, length, Option, None, Some, refl, ap, sym, ◌∙◌, subst, arith, ⊎_elim}
 use Rattle.std.specs.Prelude.{⊤, slice_get, filter, position, bytes_eq}
 use Rattle.std.specs.List.{list_any, position_or_len, AllByRecursion}
-use Rattle.std.proofs.lemmas.Bool.{or_cases, or_left, or_right, or_from, eqb-true, eq-eqb, ne_eqb, lt-ltb, false≢true, false_from_ne_true}
+use Rattle.std.proofs.lemmas.Bool.{or_cases, or_left, or_right, or_from, eqb-true, eq-eqb, ne_eqb, lt-ltb, false≢true, false_from_ne_true, cases_order}
 use Rattle.std.proofs.lemmas.Option.{none-some, same_Some}
 use Rattle.std.proofs.lemmas.Fmt.{decimal_injective}
 use Rattle.fol_base.specs.Canonical.{numbers_from}
@@ -107,15 +107,22 @@ has-passing test (m ∷ ms) n has passes =
         absurd (false≢true (sym e ∙ ap test (eqb-true m n here) ∙ passes))
     by false e (inr there) later = later there
 
+cases_le : (k p : ℕ) → k ≤ p → (k ≡ p) ⊎ (suc k ≤ p)
+cases_le k p low =
+    ⊎_elim (λ same. inl same) (λ other. ⊎_elim (λ less. inr (omega (arith, less))) (λ more. let none : ⊥ = omega (arith, more, low) in absurd none) other)
+    (cases_order k p)
+
 pub has-between : (k n p : ℕ) → k ≤ p → p < k + n → has_number (numbers_from k n) p ≡ true
 has-between k zero p low high = let none : ⊥ = omega (arith, low, high) in absurd none
-has-between k (suc n) p low high = by (k == p) refl
+has-between k (suc n) p low high = by (k == p) refl (λ low_next high_next. has-between (suc k) n p low_next high_next)
   where
-    by : (t : Bool) → (k == p) ≡ t → (t || has_number (numbers_from (suc k) n) p) ≡ true
-    by true e = refl
-    by false e =
+    by :
+        (t : Bool) → (k == p) ≡ t → (suc k ≤ p → p < suc k + n → has_number (numbers_from (suc k) n) p ≡ true)
+        → (t || has_number (numbers_from (suc k) n) p) ≡ true
+    by true e later = refl
+    by false e later =
         let apart : k ≡ p → ⊥ = λ same. false≢true (sym e ∙ eq-eqb k p same) in
-        has-between (suc k) n p (omega (arith, low, apart)) (omega (arith, high))
+        later (⊎_elim (λ same. absurd (apart same)) (λ less. less) (cases_le k p low)) (omega (arith, high))
 
 pub all-passing : (P : ℕ → Type 0) (test : ℕ → Bool) (ns : List ℕ) → AllByRecursion P ns → AllByRecursion P (filter test ns)
 all-passing P test [] all = tt

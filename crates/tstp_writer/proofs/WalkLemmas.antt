@@ -1,5 +1,5 @@
 -- Lines that are taken one after another, none of them with a name.
-use Rattle.std.proofs.Common.{◌≡◌, ℕ, ◌+◌, List, [], ◌∷◌, ◌++◌, length, refl, ap, ap₂, sym, ◌∙◌, append_assoc, append-nil, length-append}
+use Rattle.std.proofs.Common.{◌≡◌, ℕ, suc, ◌+◌, List, [], ◌∷◌, ◌++◌, length, refl, ap, ap₂, sym, ◌∙◌, append_assoc, append-nil, length-append}
 use Rattle.tptp_tree.specs.declared.problem.Annotated.{Annotated}
 use Rattle.kernel_steps.specs.declared.step.Line.{Line}
 use Rattle.clausal_form.specs.DerivationSteps.{kind_of}
@@ -34,7 +34,7 @@ walk-line s ls t name line ts ms named none h rest = record {
       named none
       ∙ rest.verdict
       ∙ ap (λ ks. all_taken (state ks)) (append_assoc ls (taken_as name line ∷ []) ms);
-  lengths = ap (λ n. n + 1) rest.lengths;
+  lengths = ap suc rest.lengths;
 }
 
 pub walk-both :
