@@ -16,3 +16,11 @@ mod WrittenSteps
 mod WrittenBounds
 mod FormOrigins
 mod DerivedLemmas
+mod TakenShape
+mod SameLemmas
+mod PlaceLemmas
+mod WalkLemmas
+mod InputLines
+mod OriginLemmas
+mod ConeLemmas
+mod NextLine

@@ -15,3 +15,4 @@ pub mod Places
 pub mod Levels
 pub mod Printable
 pub mod TextExamples
+pub mod WrittenLaws

@@ -16,6 +16,7 @@ ghost use Rattle.tstp_writer.specs.LineTexts.{lines_text};
 ghost use Rattle.tstp_writer.specs.LineTrees.{script_of, derivation_trees};
 ghost use Rattle.tstp_writer.specs.Printable.{PrintedLinesAreSpelled};
 ghost use Rattle.tstp_writer.specs.ProblemLaws.{ProblemFormulasArePrintable, ProblemLinesArePrintable, ScriptFormulasArePrintable, BeginningsArePrintable, LineNamesAreShown};
+ghost use Rattle.tstp_writer.specs.WrittenLaws.{WrittenLinesAreAccepted};
 ghost use Rattle.tstp_writer.specs.TextExamples.{implication_steps, implication_numbers, implication_text, components_steps, components_numbers, components_text};
 
 /// The lines of a derivation need earlier lines alone.
@@ -84,4 +85,9 @@ pub fn printed_lines_are_spelled()
 /// A line of a derivation without variables and names is taken when it is read again, behind lines among which its parents are.
 pub fn derived_lines_are_taken()
     ensures { DerivedLinesAreTaken }
+{}
+
+/// The lines that are written for a refutation in plain lines are accepted.
+pub fn written_lines_are_accepted()
+    ensures { WrittenLinesAreAccepted }
 {}
