@@ -1,10 +1,10 @@
 -- A line of a derivation without variables and names is taken when it is read again.
-use Rattle.std.proofs.Common.{◌≡◌, ℕ, zero, suc, ◌+◌, ◌<◌, Bool, true, false, not, ◌&&◌, ◌||◌, ◌==◌, List, [], ◌∷◌, ◌++◌, map, length, take, Option, Some, None, refl, ap, ap₂, sym, ◌∙◌, subst, arith}
+use Rattle.std.proofs.Common.{◌≡◌, ℕ, ◌+◌, ◌<◌, Bool, true, false, not, ◌&&◌, ◌||◌, ◌==◌, List, [], ◌∷◌, ◌++◌, length, take, Option, Some, None, refl, ap, ap₂, sym, ◌∙◌, subst, arith}
 use mathlib.Core.Bool.{beq}
 use Rattle.std.specs.Prelude.{fold, flat_map, filter_map, zip, codes, slice_get, unwrap_or, option_map, option_and_then, is_some, bytes_eq, if◌then◌else◌}
-use Rattle.std.specs.List.{list_all, list_any, AllByRecursion}
-use Rattle.std.proofs.lemmas.Bool.{and_parts, and_from, or_right, eqb-true, true≢false, false≢true}
-use Rattle.std.proofs.lemmas.Option.{none-some, slice_get_within, slice_get-get_or, unwrap_or-slice_get}
+use Rattle.std.specs.List.{list_all, list_any}
+use Rattle.std.proofs.lemmas.Bool.{and_parts, and_from, or_right, eqb-true, false≢true}
+use Rattle.std.proofs.lemmas.Option.{slice_get_within}
 use Rattle.fol_base.specs.Tree.{Tree}
 use Rattle.fol_base.specs.Clause.{TreeLiteral, TreeClause, literal_eq, literals_eq, names_eq, clause_eq}
 use Rattle.fol_base.specs.Literal.{clause_of}
@@ -12,33 +12,31 @@ use Rattle.fol_base.specs.Rules.{superposed, resolved, merged}
 use Rattle.fol_base.specs.declared.clause.Side.{Side}
 use Rattle.fol_base.proofs.TreeLemmas.{tree_eq-refl}
 use Rattle.fol_base.proofs.TestLemmas.{list_all-joined}
-use Rattle.tptp_tree.specs.Term.{TermTree}
 use Rattle.tptp_tree.specs.Formula.{FormulaTree}
 use Rattle.tptp_tree.specs.declared.problem.Annotated.{Annotated}
 use Rattle.signature.specs.declared.symbol.Symbol.{Symbol}
-use Rattle.signature.specs.Symbol.{has_symbol, with_symbol, true_symbol, are_different}
-use Rattle.signature.specs.Occurrences.{formula_symbols, term_symbols}
+use Rattle.signature.specs.Symbol.{has_symbol, with_symbol}
+use Rattle.signature.specs.Occurrences.{formula_symbols}
 use Rattle.signature.specs.Environment.{Environment, different_names}
 use Rattle.signature.specs.Form.{clausal_form}
 use Rattle.kernel_steps.specs.Parents.{Parent}
-use Rattle.kernel_steps.specs.Conclusion.{binds, bound_literals, concludes, Verdict, verdict, by_one, by_two}
+use Rattle.kernel_steps.specs.Conclusion.{binds, bound_literals, concludes, verdict, by_one, by_two}
 use Rattle.kernel_steps.specs.Derivation.{is_clause_step, line_parents, ComesBy}
 use Rattle.kernel_steps.specs.declared.step.Step.{Step}
-use Rattle.kernel_steps.specs.declared.step.Step.TheVariants.{Input, Negate, Clausify, Para, Refl, Factor, Merge, Component, Opposite, Split, Chain}
+use Rattle.kernel_steps.specs.declared.step.Step.TheVariants.{Input, Clausify, Para, Refl, Merge}
 use Rattle.kernel_steps.specs.declared.step.Line.{Line}
 use Rattle.kernel_steps.proofs.VerdictParts.{OneParts, TwoParts, by_one-parts, by_two-parts}
 use Rattle.tptp_source.specs.Sources.{SourceTree}
 use Rattle.clausal_form.specs.DerivationClause.{ordinary_literals, is_written_clause, numbered_from, symbols_in, variables_in, clause_by}
 use Rattle.clausal_form.specs.DerivationItems.{only_one}
-use Rattle.clausal_form.specs.DerivationSteps.{LineKind, kind_of, rule_step}
+use Rattle.clausal_form.specs.DerivationSteps.{kind_of, rule_step}
 use Rattle.clausal_form.specs.DerivationSteps as kind
 use Rattle.clausal_form.specs.DerivationLine.{LineTree, NamedLine, Taken, kernel_line, names_with}
-use Rattle.clausal_form.specs.DerivationParts.{Setting, setting_of, line_kind, items_of, parent_places, parents_of as places_of_parents, parent_lines, only_parent_step, line_names, line_literals, all_bound, line_clause, line_place}
-use Rattle.clausal_form.specs.DerivationCauses.{Cause, text, order, unknown_parent, clausification, binding, rule, conclusion, new_symbol, Given, fault, gives_clause, is_line_of, is_clausified, index_in, is_bound, are_bound, line_step, concluded, given_by_rule, given_by, is_formula_kind, is_written, has_new_symbol, is_old_name, LineVerdict, refused, taken, compared, line_verdict}
-use Rattle.tstp_writer.specs.Cone.{parents_of}
+use Rattle.clausal_form.specs.DerivationParts.{Setting, setting_of, line_kind, parent_places, parents_of as places_of_parents, parent_lines, only_parent_step, line_names, line_literals, all_bound, line_clause, line_place}
+use Rattle.clausal_form.specs.DerivationCauses.{text, order, unknown_parent, clausification, binding, rule, conclusion, new_symbol, fault, gives_clause, is_line_of, is_clausified, index_in, is_bound, are_bound, line_step, concluded, given_by_rule, given_by, is_formula_kind, is_written, has_new_symbol, is_old_name, LineVerdict, refused, taken, compared, line_verdict}
 use Rattle.tstp_writer.specs.ClauseTrees.{clause_formula}
-use Rattle.tstp_writer.specs.LineTrees.{Script, script_of, origin, Layout, derived_name, origin_name, status_item, step_items, step_source, clause_tree}
-use Rattle.tstp_writer.specs.PlainLines.{is_plain_step, is_literal_over, IsPlainLine, written_place, placed_step}
+use Rattle.tstp_writer.specs.LineTrees.{Script, script_of, Layout, derived_name, status_item, step_items, step_source, clause_tree}
+use Rattle.tstp_writer.specs.PlainLines.{is_plain_step, is_literal_over, written_place, placed_step}
 use Rattle.tstp_writer.specs.DerivedLines.{HasNumberedForm, ParentIsTaken, OriginIsTaken, SourcesAreTaken, IsNewLine, DerivedLinesAreTaken}
 use Rattle.tstp_writer.proofs.WrittenNumbers.{decimal-back}
 use Rattle.tstp_writer.proofs.WrittenClauses.{AreKnown, IsClauseBack, clause-back}

@@ -1,14 +1,11 @@
 -- Each clause of a clausal form has an origin.
-use Rattle.std.proofs.Common.{◌≡◌, ℕ, zero, suc, ◌+◌, ◌<◌, Bool, true, false, not, ◌||◌, List, [], ◌∷◌, ◌++◌, map, length, Some, refl, ap, sym, ◌∙◌, arith}
-use Rattle.std.specs.Prelude.{fold, flat_map, codes, slice_get, if◌then◌else◌}
-use Rattle.std.proofs.lemmas.Option.{none-some, slice_get_within, slice_get-get_or, unwrap_or-slice_get}
+use Rattle.std.proofs.Common.{◌≡◌, ℕ, suc, ◌+◌, ◌<◌, List, [], ◌∷◌, ◌++◌, map, length, Some, refl, ap, sym, ◌∙◌, arith}
+use Rattle.std.specs.Prelude.{slice_get}
+use Rattle.std.proofs.lemmas.Option.{slice_get_within, slice_get-get_or, unwrap_or-slice_get}
 use Rattle.fol_base.specs.Clause.{TreeClause}
 use Rattle.tptp_tree.specs.declared.problem.Annotated.{Annotated}
-use Rattle.signature.specs.declared.symbol.Symbol.{Symbol}
-use Rattle.signature.specs.Symbol.{true_symbol, has_symbol, with_symbol, are_different}
-use Rattle.signature.specs.Occurrences.{annotated_symbols, problem_symbols}
 use Rattle.signature.specs.Clausal.{SymbolNumbers, Made, Worked, Literals, annotated_clauses, canonical_literals, formed}
-use Rattle.signature.specs.Form.{with_skolem, with_naming, form_symbols, problem_form, clausal_form}
+use Rattle.signature.specs.Form.{clausal_form}
 use Rattle.tstp_writer.specs.LineTrees.{script_of, origin}
 
 same-length :

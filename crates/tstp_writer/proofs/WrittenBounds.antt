@@ -1,16 +1,16 @@
 -- The numbers of literals and arguments in a step that concludes are those of clauses that aren't too large, so they can be read again.
-use Rattle.std.proofs.Common.{◌≡◌, ℕ, zero, suc, ◌+◌, ◌^◌, ◌<◌, ◌≤◌, Bool, true, false, not, ◌&&◌, ◌==◌, List, [], ◌∷◌, map, length, Option, Some, None, refl, ap, sym, ◌∙◌, arith}
-use Rattle.std.specs.Prelude.{nat_le, sum_by, slice_get, option_and_then}
+use Rattle.std.proofs.Common.{◌≡◌, ℕ, zero, suc, ◌+◌, ◌<◌, ◌≤◌, true, not, ◌==◌, List, [], ◌∷◌, length, Some, ap, arith}
+use Rattle.std.specs.Prelude.{nat_le, sum_by, slice_get}
 use Rattle.std.specs.List.{list_all, AllByRecursion}
 use Rattle.std.proofs.lemmas.Bool.{and_parts, leb-true}
 use Rattle.std.proofs.lemmas.List.Sums.{sum_by-cons}
 use Rattle.std.proofs.lemmas.Option.{none-some, same_Some, option_and_then_some}
 use Rattle.fol_base.specs.Tree.{Tree, variable, application, Trees, no_trees, tree_then, list_of, tree_size, trees_size, is_truth}
-use Rattle.fol_base.specs.Place.{argument, subterm}
+use Rattle.fol_base.specs.Place.{subterm}
 use Rattle.fol_base.specs.Sides.{side_of}
 use Rattle.fol_base.specs.Clause.{TreeLiteral, TreeClause, literal_size, clause_size, clause_variables}
 use Rattle.fol_base.specs.Canonical.{bound_of}
-use Rattle.fol_base.specs.Rules.{superposed, resolved, merged, superposed_literal, may_be_chosen}
+use Rattle.fol_base.specs.Rules.{superposed, resolved, merged}
 use Rattle.fol_base.specs.declared.clause.Side.{Side}
 use Rattle.fol_base.specs.declared.clause.Side.TheVariants.{Left, Right}
 use Rattle.fol_base.specs.declared.limits.TheConstants.{MOST_BOUND_SYMBOLS}

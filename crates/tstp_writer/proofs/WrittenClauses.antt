@@ -1,31 +1,31 @@
 -- The formula as which a clause without variables and names is written is that clause when it is read again.
-use Rattle.std.proofs.Common.{◌≡◌, ◌⊎◌, inl, inr, ℕ, zero, suc, ◌+◌, Bool, true, false, not, ◌&&◌, ◌||◌, ◌==◌, List, [], ◌∷◌, ◌++◌, map, length, Option, Some, None, cond, refl, ap, ap₂, sym, ◌∙◌, subst, arith}
-use Rattle.std.specs.Prelude.{fold, filter, filter_map, flat_map, slice_get, unwrap_or, option_map, is_none, is_some, if◌then◌else◌}
+use Rattle.std.proofs.Common.{◌≡◌, ◌⊎◌, inl, inr, ℕ, zero, suc, ◌+◌, Bool, true, false, not, ◌&&◌, ◌||◌, ◌==◌, List, [], ◌∷◌, ◌++◌, map, Option, Some, None, cond, refl, ap, ap₂, sym, ◌∙◌, subst, arith}
+use Rattle.std.specs.Prelude.{filter, filter_map, flat_map, slice_get, unwrap_or, option_map, is_none, is_some, if◌then◌else◌}
 use Rattle.std.specs.List.{list_all, list_any, position_or_len}
-use Rattle.std.proofs.lemmas.Bool.{and_parts, and_from, and_left, and_right, or_left, or_right, or_cases, not-true, eqb-true, eq-eqb, ne_eqb, true≢false, false≢true, false_from_ne_true}
+use Rattle.std.proofs.lemmas.Bool.{and_parts, and_from, or_left, or_right, or_cases, not-true, eqb-true, ne_eqb, true≢false, false≢true, false_from_ne_true}
 use Rattle.std.proofs.lemmas.Option.{none-some, same_Some}
 use Rattle.std.proofs.lemmas.List.{append-nil}
 use Rattle.plain_types.specs.declared.sequence.NameLit.{NameLit}
 use Rattle.kernel_steps.specs.Names.{are_sorted}
-use Rattle.fol_base.specs.Tree.{Tree, variable, application, Trees, no_trees, tree_then, trees_count, tree_eq, is_truth, true_tree}
+use Rattle.fol_base.specs.Tree.{Tree, variable, application, Trees, no_trees, tree_then, trees_count, is_truth, true_tree}
 use Rattle.fol_base.specs.Ground.{is_ground, are_ground}
 use Rattle.fol_base.specs.Kind.{is_function_term, are_function_terms, is_predicate_term, is_literal}
 use Rattle.fol_base.specs.Clause.{TreeLiteral, TreeClause}
 use Rattle.fol_base.proofs.TreeLemmas.{tree_eq-true}
 use Rattle.fol_base.proofs.TestLemmas.{list_all-joined}
-use Rattle.tptp_tree.specs.Term.{TermTree, TermTrees, no_terms, term_then}
-use Rattle.tptp_tree.specs.Formula.{FormulaTree, truth, falsity, predicate, equation, negation, conjunction, disjunction, connected, quantified, FormulaTrees, no_formulas, formula_then, formulas_of, list_of_formulas}
+use Rattle.tptp_tree.specs.Term.{no_terms, term_then}
+use Rattle.tptp_tree.specs.Formula.{FormulaTree, truth, falsity, predicate, equation, negation, conjunction, disjunction, connected, quantified, formulas_of, list_of_formulas}
 use Rattle.signature.specs.declared.symbol.Symbol.{Symbol}
 use Rattle.signature.specs.declared.symbol.SymbolKind.{SymbolKind}
 use Rattle.signature.specs.declared.symbol.SymbolKind.TheVariants.{Predicate, Function}
-use Rattle.signature.specs.Symbol.{is_predicate_kind, predicate_symbol, function_symbol, true_symbol, same_symbol, has_symbol, with_symbol, number_of, are_different}
+use Rattle.signature.specs.Symbol.{is_predicate_kind, predicate_symbol, function_symbol, true_symbol, same_symbol, has_symbol, number_of, are_different}
 use Rattle.signature.specs.SymbolLaws.{same_symbol-refl, same_symbol-true}
 use Rattle.signature.specs.Occurrences.{terms_count, term_symbols, terms_symbols, formula_symbols}
 use Rattle.signature.specs.Environment.{Environment, term_under, terms_under}
 use Rattle.signature.specs.Clausal.{atom_literal}
 use Rattle.kernel_steps.specs.Symbols.{symbols_pass, all_symbols_pass}
 use Rattle.clausal_form.specs.FormFunctions.{is_predicate_in}
-use Rattle.clausal_form.specs.DerivationClause.{literals_of, is_positive, atom_of, is_literal as is_literal_formula, signed, clause_by, atom_name, literal_name, ordinary_literals, clause_names, names_come_last, is_written_clause, Numbering, literal_by}
+use Rattle.clausal_form.specs.DerivationClause.{literals_of, is_positive, atom_of, is_literal as is_literal_formula, signed, clause_by, atom_name, literal_name, ordinary_literals, names_come_last, is_written_clause, Numbering, literal_by}
 use Rattle.tstp_writer.specs.ClauseTrees.{symbol_name, term_tree, term_trees, with_sign, atom_formula, literal_formula, signed_name_formula, one_of, clause_formula}
 use Rattle.tstp_writer.specs.PlainLines.{is_plain_literal, is_symbol_in, is_literal_over}
 

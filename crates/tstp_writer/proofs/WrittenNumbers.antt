@@ -1,6 +1,6 @@
 -- Decimal numbers are read back.
-use Rattle.std.proofs.Common.{◌≡◌, ℕ, ◌+◌, ◌-◌, ◌*◌, ◌^◌, ◌<◌, ◌≤◌, Bool, true, false, not, ◌&&◌, ◌==◌, List, [], ◌∷◌, ◌++◌, map, Option, Some, None, refl, ap, sym, ◌∙◌, arith, le-leb, lt-ltb, ne_eqb}
-use Rattle.std.specs.Prelude.{◌/◌, ◌%◌, nat_le, nat_lt, if◌then◌else◌}
+use Rattle.std.proofs.Common.{◌≡◌, ℕ, ◌+◌, ◌-◌, ◌*◌, ◌^◌, ◌<◌, ◌≤◌, Bool, true, false, not, ◌==◌, List, [], ◌∷◌, ◌++◌, map, Some, None, refl, ap, ◌∙◌, arith, le-leb, lt-ltb, ne_eqb}
+use Rattle.std.specs.Prelude.{◌/◌, ◌%◌, nat_le, if◌then◌else◌}
 use Rattle.std.specs.Fmt.{decimal}
 use Rattle.std.specs.List.{list_all, AllByRecursion}
 use Rattle.std.proofs.lemmas.Bool.{and_parts, and_from}
@@ -9,7 +9,7 @@ use Rattle.std.proofs.Math.Nat.{mod-lt}
 use Rattle.fol_base.proofs.TestLemmas.{list_all-joined}
 use Rattle.tptp_token.specs.Spelling.{is_digit}
 use Rattle.tptp_source.specs.General.{GeneralTree, trees_of, list_of_trees}
-use Rattle.tptp_source.specs.Items.{is_decimal, value_behind, below_word, decimal_in, number_in, number_before, all_numbers}
+use Rattle.tptp_source.specs.Items.{is_decimal, value_behind, below_word, decimal_in, number_before, all_numbers}
 use Rattle.clausal_form.specs.DerivationItems.{numbers_in}
 use Rattle.tstp_writer.specs.LineTrees.{number_item, numbers_item}
 use Rattle.tstp_writer.specs.DerivedLines.{Fits}

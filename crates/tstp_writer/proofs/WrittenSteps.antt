@@ -1,10 +1,8 @@
 -- The steps by which plain lines come about, when they are read again: their items, and their parents at other places.
-use Rattle.std.proofs.Common.{◌≡◌, ℕ, Bool, true, false, List, [], ◌∷◌, map, take, Option, Some, None, refl, ap, ap₂, sym, ◌∙◌, subst}
-use Rattle.std.specs.Prelude.{option_map, option_and_then, unwrap_or, slice_get, codes, if◌then◌else◌}
+use Rattle.std.proofs.Common.{◌≡◌, ℕ, Bool, true, List, [], ◌∷◌, take, Option, Some, None, refl, ap, ap₂, sym, ◌∙◌}
+use Rattle.std.specs.Prelude.{option_map, option_and_then, slice_get, codes, if◌then◌else◌}
 use Rattle.std.specs.List.{AllByRecursion}
-use Rattle.std.proofs.lemmas.Bool.{true≢false, false≢true}
-use Rattle.std.proofs.lemmas.Option.{none-some, same_Some, slice_get-map}
-use Rattle.fol_base.specs.Tree.{Tree}
+use Rattle.std.proofs.lemmas.Option.{same_Some, slice_get-map}
 use Rattle.fol_base.specs.Clause.{TreeClause}
 use Rattle.fol_base.specs.Literal.{clause_of}
 use Rattle.fol_base.specs.declared.clause.Side.{Side}
@@ -15,14 +13,13 @@ use Rattle.kernel_steps.specs.declared.step.Step.{Step}
 use Rattle.kernel_steps.specs.declared.step.Step.TheVariants.{Input, Negate, Clausify, Para, Refl, Factor, Merge, Component, Opposite, Split, Chain}
 use Rattle.kernel_steps.specs.declared.step.Line.{Line}
 use Rattle.kernel_steps.proofs.LineLemmas.{ParentLine, parent_line}
-use Rattle.tptp_source.specs.Items.{number_in}
 use Rattle.clausal_form.specs.DerivationItems.{side_of, numbers_in}
-use Rattle.clausal_form.specs.DerivationSteps.{OfLiteral, literal_side, of_literal, into_literal, rule_step}
+use Rattle.clausal_form.specs.DerivationSteps.{OfLiteral, literal_side, into_literal, rule_step}
 use Rattle.clausal_form.specs.DerivationSteps as kind
 use Rattle.clausal_form.specs.DerivationLine.{NamedLine, Taken, kernel_line, kernel_lines}
 use Rattle.clausal_form.specs.DerivationParts.{parent_lines}
 use Rattle.clausal_form.proofs.TakenLemmas.{kernel_line-clause}
-use Rattle.tstp_writer.specs.LineTrees.{Script, Layout, number_item, numbers_item, side_item, status_item, status_word, step_items}
+use Rattle.tstp_writer.specs.LineTrees.{Script, Layout, number_item, numbers_item, side_item, status_item, step_items}
 use Rattle.tstp_writer.specs.PlainLines.{written_place, placed_step}
 use Rattle.tstp_writer.specs.DerivedLines.{Fits, ParentIsTaken}
 use Rattle.tstp_writer.proofs.WrittenNumbers.{decimal-back, listed-back}

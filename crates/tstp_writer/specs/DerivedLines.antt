@@ -1,5 +1,5 @@
 -- A line of a derivation without variables and names is taken when it is read again, behind lines among which its parents are.
-use Rattle.std.specs.Prelude.{◌≡◌, ℕ, ◌^◌, ◌<◌, Bool, true, false, List, [], take, length, Some, slice_get, bytes_eq, IsTrue}
+use Rattle.std.specs.Prelude.{◌≡◌, ℕ, ◌^◌, ◌<◌, true, false, List, [], take, length, Some, slice_get, bytes_eq, IsTrue}
 use Rattle.std.specs.List.{list_any, AllByRecursion}
 use Rattle.fol_base.specs.Literal.{clause_of}
 use Rattle.tptp_tree.specs.declared.problem.Annotated.{Annotated}
@@ -7,7 +7,7 @@ use Rattle.signature.specs.Symbol.{IsSignature}
 use Rattle.signature.specs.Form.{clausal_form}
 use Rattle.kernel_steps.specs.Derivation.{is_clause_step, ComesBy}
 use Rattle.kernel_steps.specs.declared.step.Step.{Step}
-use Rattle.kernel_steps.specs.declared.step.Step.TheVariants.{Clausify, Para, Refl, Merge}
+use Rattle.kernel_steps.specs.declared.step.Step.TheVariants.{Clausify}
 use Rattle.kernel_steps.specs.declared.step.Line.{Line}
 use Rattle.clausal_form.specs.DerivationLine.{NamedLine, Taken, kernel_line}
 use Rattle.clausal_form.specs.DerivationParts.{setting_of, line_place}

@@ -1,5 +1,4 @@
 use Rattle.tstp_writer.proofs.DerivedLemmas.{derived-taken}
-use Rattle.tstp_writer.proofs.NextLine.{next-taken}
 use Rattle.tstp_writer.proofs.laws.derived_lines_are_taken.Goals as goal
 
 pub returns : goal.returns
