@@ -14,3 +14,17 @@ mod CauseLemmas
 mod ClausePhrases
 mod LineLemmas
 mod TextLemmas
+mod WrittenNumbers
+mod WrittenClauses
+mod WrittenSteps
+mod WrittenBounds
+mod FormOrigins
+mod DerivedLemmas
+mod TakenShape
+mod SameLemmas
+mod PlaceLemmas
+mod WalkLemmas
+mod InputLines
+mod OriginLemmas
+mod ConeLemmas
+mod NextLine
