@@ -17,3 +17,5 @@ mod WalkLemmas
 mod InputLines
 mod OriginLemmas
 mod ConeLemmas
+mod DerivedLines
+mod WrittenLines
