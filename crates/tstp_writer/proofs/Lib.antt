@@ -28,3 +28,5 @@ mod InputLines
 mod OriginLemmas
 mod ConeLemmas
 mod NextLine
+mod DerivedLines
+mod WrittenLines
