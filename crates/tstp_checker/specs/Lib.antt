@@ -10,3 +10,9 @@ pub mod Inputs
 pub mod Parts
 pub mod Causes
 pub mod Lines
+pub mod Taken
+pub mod Sources
+pub mod Classes
+pub mod Verdicts
+pub mod FormulaLines
+pub mod ClauseLines

@@ -3,7 +3,10 @@
 
 mod bindings;
 mod cause;
+mod classes;
 mod clause;
+mod clause_lines;
+mod formula_lines;
 mod formulas;
 mod inputs;
 mod items;
@@ -12,7 +15,11 @@ mod lines;
 mod names;
 mod numbers;
 mod parts;
+mod refusal;
+mod rule_lines;
+mod sources;
 mod steps;
+mod taken;
 mod written;
 
 pub use cause::Cause;
