@@ -9,3 +9,6 @@ pub mod ItemLemmas
 pub mod InputLemmas
 pub mod PartLemmas
 pub mod StepLemmas
+pub mod TakenLemmas
+pub mod EntryLemmas
+pub mod ClassLemmas

@@ -1,5 +1,5 @@
 -- The lines that were taken, and what their tables know.
-use Rattle.std.specs.Prelude.{◌≡◌, ◌<◌, ℕ, ◌+◌, List, [], ◌∷◌, length, Option, None, Some, option_map, option_and_then, slice_get}
+use Rattle.std.specs.Prelude.{◌≡◌, ◌<◌, ℕ, List, [], ◌∷◌, ◌++◌, length, Option, None, Some, option_map, option_and_then, slice_get}
 use Rattle.fol_base.specs.Clause.{TreeClause}
 use Rattle.fol_base.specs.Literal.{clause_of}
 use Rattle.kernel_steps.specs.Derivation.{component_clause}
@@ -27,6 +27,11 @@ pub record IsKept (x : TakenLines) : Type 0 where
   pub named : length x.names ≡ length x.lines
   pub components : (n : ℕ) → component_clause n x.lines ≡ clause_at x.lines (slice_get x.components n)
   pub within : (n place : ℕ) → slice_get x.components n ≡ Some place → place < length x.lines
+
+-- the table with a line more, which has that place
+abbrev pub components_with : ℕ → List ℕ → Step → List ℕ
+components_with place table (Component name) = table ++ place ∷ []
+components_with place table _ = table
 
 -- a component step introduces the next name
 abbrev pub IsNext : ℕ → Step → Type 0

@@ -5,7 +5,7 @@ ghost use Rattle.tptp_tree.specs.declared.problem.Annotated.{Annotated};
 ghost use Rattle.clausal_form.specs.DerivationLine.{entry_of};
 ghost use Rattle.tstp_checker.specs.Entries.{entry_meant};
 ghost use Rattle.tstp_checker.specs.Inputs.{KnowsAll};
-ghost use Rattle.tstp_checker.specs.Classes.{same_at, AreClasses};
+ghost use Rattle.tstp_checker.specs.Classes.{same_place, same_at, AreClasses};
 
 use crate::formulas::Entry;
 use crate::inputs::Inputs;
@@ -36,13 +36,9 @@ impl Classes {
     pub(crate) fn same(&self, place: u32, other: u64) -> bool
         ensures { (formulas : List Annotated) → AreClasses formulas self.now → result ≡ same_at formulas place other }
     {
-        let Some(first) = self.first(u64::from(place)) else {
-            return false;
-        };
-        let Some(other_first) = self.first(other) else {
-            return false;
-        };
-        first == other_first
+        let first = self.first(u64::from(place));
+        let other_first = self.first(other);
+        same_place(first, other_first)
     }
 
     /// The place of the first formula that says the same as that at a place.
@@ -63,5 +59,15 @@ fn entry_of(formula: &Annotated) -> Entry<'_>
         role: formula.role,
         clause: formula.clause,
         formula: &formula.formula,
+    }
+}
+
+/// Whether two places are there and the same.
+fn same_place(place: Option<u32>, other: Option<u32>) -> bool
+    ensures { result ≡ same_place place other }
+{
+    match (place, other) {
+        (Some(place), Some(other)) => place == other,
+        _ => false,
     }
 }

@@ -50,9 +50,9 @@ impl<'a> Lines<'a> {
         source: &Source,
     ) -> Result<Line, Refusal>
         requires ready { IsReady self.old }
-        requires kind { kind_meant kind.entry ≡ kind_of (source_of source.now) }
-        requires no_formula { is_formula_kind (kind_meant kind.entry) ≡ false }
-        requires no_name { is_component_kind (kind_meant kind.entry) ≡ false }
+        requires kind { kind_meant kind ≡ kind_of (source_of source.now) }
+        requires no_formula { is_formula_kind (kind_meant kind) ≡ false }
+        requires no_name { is_component_kind (kind_meant kind) ≡ false }
         ensures verdict { IsVerdict (line_verdict (setting_in self.old) (taken_in self.old) (line_meant entry.now source.now)) result }
         ensures step { IfOk result (λ line. is_component line.step ≡ false) }
         ensures numbers { IfAnswered result (self.new.numbers ≡ self.old.numbers) }
@@ -92,8 +92,8 @@ impl<'a> Lines<'a> {
     ) -> Result<Line, Refusal>
         requires kept { IsKept self.now.taken }
         requires classes { AreClasses self.now.inputs.formulas.now self.now.classes }
-        requires no_formula { is_formula_kind (kind_meant kind.entry) ≡ false }
-        requires no_name { is_component_kind (kind_meant kind.entry) ≡ false }
+        requires no_formula { is_formula_kind (kind_meant kind) ≡ false }
+        requires no_name { is_component_kind (kind_meant kind) ≡ false }
         ensures verdict { (t : LineTree) → line_kind t ≡ kind_meant kind.entry
             → IsClauseLine (setting_in self.now) (taken_in self.now) t (map general_of items.now) parents.now parts
             → IsVerdict (compared (setting_in self.now) (taken_in self.now) t

@@ -39,8 +39,8 @@ impl<'a> Lines<'a> {
         source: &Source,
     ) -> Result<Line, Refusal>
         requires ready { IsReady self.now }
-        requires kind { kind_meant kind.entry ≡ kind_of (source_of source.now) }
-        requires formula { IsTrue (is_formula_kind (kind_meant kind.entry)) }
+        requires kind { kind_meant kind ≡ kind_of (source_of source.now) }
+        requires formula { IsTrue (is_formula_kind (kind_meant kind)) }
         ensures verdict { IsVerdict (line_verdict (setting_in self.now) (taken_in self.now) (line_meant entry.now source.now)) result }
         ensures step { IfOk result (λ line. is_component line.step ≡ false) }
     {

@@ -8,7 +8,7 @@ ghost use Rattle.kernel_steps.specs.Derivation.{component_clause};
 ghost use Rattle.clausal_form.specs.DerivationItems.{only_one};
 ghost use Rattle.clausal_form.specs.DerivationLine.{NamedLine, nothing_taken, kernel_lines};
 ghost use Rattle.clausal_form.specs.DerivationParts.{line_place};
-ghost use Rattle.tstp_checker.specs.Taken.{taken_of, IsKept, IsNext, introduced_by};
+ghost use Rattle.tstp_checker.specs.Taken.{taken_of, IsKept, IsNext, introduced_by, components_with};
 
 use crate::names::NameTable;
 use fol_base::Clause;
@@ -81,10 +81,8 @@ impl TakenLines {
         ensures { option_map (λ step. step.now) result ≡ option_and_then
             (λ n. option_map (λ (l : NamedLine). (l.line).step) (slice_get (taken_of self.now).lines n)) (only_one parents.now) }
     {
-        let [place] = parents else {
-            return None;
-        };
-        let line = self.lines.as_slice().get(*place as usize)?;
+        let place = only_number(parents)?;
+        let line = self.line(place)?;
         Some(&line.step)
     }
 
@@ -93,9 +91,23 @@ impl TakenLines {
         requires { IsKept self.now }
         ensures { option_map (λ clause. clause_of clause.now) result ≡ component_clause name (kernel_lines (taken_of self.now)) }
     {
-        let place = self.components.as_slice().get(name as usize)?;
-        let line = self.lines.as_slice().get(*place as usize)?;
+        let place = self.component_place(name)?;
+        let line = self.line(place)?;
         Some(&line.clause)
+    }
+
+    /// The place of the component line of a name, by the table.
+    fn component_place(&self, name: u32) -> Option<u64>
+        ensures { result ≡ slice_get self.now.components name }
+    {
+        self.components.as_slice().get(name as usize).copied()
+    }
+
+    /// The line at a place.
+    fn line(&self, place: u64) -> Option<&Line>
+        ensures { option_map (λ line. line.now) result ≡ slice_get self.now.lines place }
+    {
+        self.lines.as_slice().get(place as usize)
     }
 
     /// Takes a line with a new name. A component line is of the name that was introduced last. After want of memory nothing is said of
@@ -109,12 +121,33 @@ impl TakenLines {
         ensures introduced { self.new.introduced ≡ self.old.introduced }
         ensures components { OnOk result (length self.new.components ≡ length self.old.components + introduced_by line.step) }
     {
-        let is_component = matches!(line.step, Step::Component(_));
-        if is_component {
-            self.components.push(self.lines.len() as u64)?;
-        }
+        self.note_component(&line.step)?;
         self.names.add(alloc, name)?;
         self.lines.push(line)?;
         Ok(())
+    }
+
+    /// Notes the place of the line to come, if it is a component line.
+    fn note_component(&mut self, step: &Step) -> Mem<()>
+        ensures components { IfOk result (λ _. self.new.components
+            ≡ components_with (length self.old.lines) self.old.components step.now) }
+        ensures names { self.new.names ≡ self.old.names }
+        ensures lines { self.new.lines ≡ self.old.lines }
+        ensures introduced { self.new.introduced ≡ self.old.introduced }
+    {
+        if let Step::Component(_) = step {
+            self.components.push(self.lines.len() as u64)?;
+        }
+        Ok(())
+    }
+}
+
+/// The only one of numbers.
+fn only_number(numbers: &[u64]) -> Option<u64>
+    ensures { result ≡ only_one numbers.now }
+{
+    match numbers {
+        [number] => Some(*number),
+        _ => None,
     }
 }
