@@ -38,26 +38,27 @@ map-ends f xs i made h w = sym (append-nil made) ∙ ap (λ us. made ++ map f us
 
 found-above : (P : Annotated → Bool) (i : ℕ) (fs : List Annotated) (k : ℕ) → found_from P i fs ≡ Some k → i ≤ k
 found-above P i [] k h = absurd (none-some k h)
-found-above P i (f ∷ fs) k h = by (P f) h
+found-above P i (f ∷ fs) k h = by (P f) (found-above P (i + 1) fs k) h
   where
-    by : (b : Bool) → (if b then Some i else found_from P (i + 1) fs) ≡ Some k → i ≤ k
-    by true g = let same : i ≡ k = cc in omega (arith, same)
-    by false g = omega (arith, found-above P (i + 1) fs k g)
+    by : (b : Bool) → (found_from P (i + 1) fs ≡ Some k → i + 1 ≤ k) → (if b then Some i else found_from P (i + 1) fs) ≡ Some k → i ≤ k
+    by true above g = let same : i ≡ k = cc in omega (arith, same)
+    by false above g = omega (arith, above g)
 
 found-both :
     (P Q : Annotated → Bool) (i : ℕ) (fs : List Annotated) (k : ℕ)
     → found_from P i fs ≡ Some k → found_from Q i fs ≡ Some k → (f : Annotated) × (P f ≡ true) × (Q f ≡ true)
 found-both P Q i [] k h g = absurd (none-some k h)
-found-both P Q i (f ∷ fs) k h g = by (P f) (Q f) refl refl h g
+found-both P Q i (f ∷ fs) k h g = by (P f) (Q f) refl refl (found-both P Q (i + 1) fs k) h g
   where
     by :
         (a b : Bool) → P f ≡ a → Q f ≡ b
+        → (found_from P (i + 1) fs ≡ Some k → found_from Q (i + 1) fs ≡ Some k → (f' : Annotated) × (P f' ≡ true) × (Q f' ≡ true))
         → (if a then Some i else found_from P (i + 1) fs) ≡ Some k → (if b then Some i else found_from Q (i + 1) fs) ≡ Some k
         → (f' : Annotated) × (P f' ≡ true) × (Q f' ≡ true)
-    by true true p q u v = (f, p, q)
-    by true false p q u v = let same : i ≡ k = cc in absurd (omega (arith, same, found-above Q (i + 1) fs k v))
-    by false true p q u v = let same : i ≡ k = cc in absurd (omega (arith, same, found-above P (i + 1) fs k u))
-    by false false p q u v = found-both P Q (i + 1) fs k u v
+    by true true p q more u v = (f, p, q)
+    by true false p q more u v = let same : i ≡ k = cc in absurd (omega (arith, same, found-above Q (i + 1) fs k v))
+    by false true p q more u v = let same : i ≡ k = cc in absurd (omega (arith, same, found-above P (i + 1) fs k u))
+    by false false p q more u v = more u v
 
 found-alike : (P Q : Annotated → Bool) (i : ℕ) (fs : List Annotated) → ((f : Annotated) → P f ≡ Q f) → found_from P i fs ≡ found_from Q i fs
 found-alike P Q i [] same = refl
@@ -98,9 +99,9 @@ class-same fs q a b there = by (same_entry (entry_of a) (entry_of b)) refl
         let found = found-both (matches (entry_of a)) (matches (entry_of b)) 0 fs n
             (sym of_a ∙ e ∙ ap (λ k. Some k) (eqb-true m n same)) (sym of_b ∙ g) in
         let like : same_entry (entry_of a) (entry_of b) ≡ same_entry (entry_of found.0) (entry_of b) =
-            same_entry-like (entry_of a) (entry_of found.0) (entry_of b) found.1.0 in
+            same_entry-like (entry_of a) (entry_of found.0) (entry_of b) found.1 in
         let back : same_entry (entry_of b) (entry_of b) ≡ same_entry (entry_of found.0) (entry_of b) =
-            same_entry-like (entry_of b) (entry_of found.0) (entry_of b) found.1.1 in
+            same_entry-like (entry_of b) (entry_of found.0) (entry_of b) found.2 in
         true≢false (sym (same_entry-refl (entry_of b)) ∙ back ∙ sym like ∙ h))
 
     by : (t : Bool) → same_entry (entry_of a) (entry_of b) ≡ t → t ≡ same_place (class_of fs a) (class_of fs b)

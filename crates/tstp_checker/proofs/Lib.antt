@@ -12,3 +12,7 @@ pub mod StepLemmas
 pub mod TakenLemmas
 pub mod EntryLemmas
 pub mod ClassLemmas
+pub mod RuleStepLemmas
+pub mod FormulaLineLemmas
+pub mod ClauseLineLemmas
+pub mod RuleLineLemmas

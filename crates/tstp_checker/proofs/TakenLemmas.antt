@@ -187,21 +187,32 @@ Within ls table = (n place : ℕ) → slice_get table n ≡ Some place → place
 other-more :
     (n : ℕ) (ls : List Line) (l : Line) (table : List ℕ)
     → Says ls table n → Within ls table → is_component_of n l.step ≡ false → Says (ls ++ l ∷ []) table n
-other-more n ls l table says within no =
+other-more n ls l table says within other =
     component-more n ls l
-    ∙ ap (λ b. or_else (component_clause n ls) (if b then Some (clause_of l.clause) else None)) no
+    ∙ ap (λ b. or_else (component_clause n ls) (if b then Some (clause_of l.clause) else None)) other
     ∙ or-none (component_clause n ls) ∙ says ∙ by (slice_get table n) refl
   where
     by : (o : Option ℕ) → slice_get table n ≡ o → clause_at ls o ≡ clause_at (ls ++ l ∷ []) o
     by None e = refl
     by (Some p) e = sym (clause-stays ls l p (within n p e))
 
+eq-suc : (n m : ℕ) → (suc n == suc m) ≡ (n == m)
+eq-suc n m = by (n == m) refl
+  where
+    by : (b : Bool) → (n == m) ≡ b → (suc n == suc m) ≡ b
+    by true e = eq-eqb (suc n) (suc m) (ap suc (eqb-true n m e))
+    by false e =
+        false_from_ne_true (suc n == suc m) λ same.
+        let next : suc n ≡ suc m = eqb-true (suc n) (suc m) same in
+        let less : n ≡ m = omega (arith, next) in
+        let bad : false ≡ true = sym e ∙ eq-eqb n m less in cc
+
 slice-more :
     {X : Type 0} (xs : List X) (x : X) (n : ℕ) → slice_get (xs ++ x ∷ []) n ≡ or_else (slice_get xs n) (if n == length xs then Some x else None)
 slice-more [] x zero = refl
 slice-more [] x (suc n) = ap (λ b. if b then Some x else None) (sym (false_from_ne_true (suc n == 0) λ e. let no : suc n ≡ 0 = eqb-true (suc n) 0 e in let bad : ⊥ = omega (arith, no) in bad))
 slice-more (y ∷ ys) x zero = refl
-slice-more (y ∷ ys) x (suc n) = slice-more ys x n
+slice-more (y ∷ ys) x (suc n) = slice-more ys x n ∙ ap (λ b. or_else (slice_get ys n) (if b then Some x else None)) (sym (eq-suc n (length ys)))
 
 component-of-more :
     (n m : ℕ) (ls : List Line) (l : Line) (table : List ℕ)

@@ -1,6 +1,6 @@
 // Lines of clauses that come from the form or introduce a name.
 
-ghost use Rattle.std.specs.Prelude.{◌≡◌, ◌+◌, ℕ, List, ◌∷◌, [], ◌&&◌, ◌==◌, not, map, false, length, option_map, option_and_then, slice_get, unwrap_or, IfOk, OnErr, if◌then◌else◌};
+ghost use Rattle.std.specs.Prelude.{◌≡◌, ◌+◌, ℕ, List, ◌∷◌, [], ◌&&◌, ◌==◌, not, map, false, length, option_map, IfOk, OnErr, if◌then◌else◌};
 ghost use Rattle.fol_base.specs.Clause.{literals_eq, clause_eq, names_eq};
 ghost use Rattle.fol_base.specs.Literal.{literal_of, clause_of};
 ghost use Rattle.tptp_tree.specs.Shape.{formula_of};
@@ -20,8 +20,7 @@ ghost use Rattle.clausal_form.specs.DerivationCauses.{new_symbol, is_line_of, is
 ghost use Rattle.tstp_checker.specs.Steps.{kind_meant};
 ghost use Rattle.tstp_checker.specs.Taken.{IsKept};
 ghost use Rattle.tstp_checker.specs.Classes.{AreClasses};
-ghost use Rattle.tstp_checker.specs.FormulaLines.{only_step};
-ghost use Rattle.tstp_checker.specs.ClauseLines.{is_component_kind, atom_named, opposite_clause};
+ghost use Rattle.tstp_checker.specs.ClauseLines.{is_component_kind, comes_from, is_form_clause, atom_named, opposite_clause};
 ghost use Rattle.tstp_checker.specs.Verdicts.{IsVerdict, IfAnswered, IsClauseLine, IsComponentLine};
 ghost use Rattle.tstp_checker.specs.Lines.{line_meant, setting_in, taken_in, IsReady};
 
@@ -125,18 +124,25 @@ impl<'a> Lines<'a> {
         let Some(number) = clause_number(alloc, items)? else {
             return Err(Refusal::Cause(Cause::Clausify));
         };
-        if !self.comes_from(number, parents) || !self.is_clause_of_form(number, &parts.clause) {
+        if !self.is_clausified(number, parents, &parts.clause) {
             return Err(Refusal::Cause(Cause::Clausify));
         }
         line_by(Step::Clausify(number), parts.clause, parts.has_new_symbol)
     }
 
+    /// Whether the clause of the form with a number is this one and comes from the formula of the only parent.
+    fn is_clausified(&self, number: u64, parents: &[u64], clause: &Clause) -> bool
+        requires { AreClasses self.now.inputs.formulas.now self.now.classes }
+        ensures { result ≡ (comes_from (setting_in self.now) (taken_in self.now) parents.now number
+            && is_form_clause (setting_in self.now) (clause_of clause.now) number) }
+    {
+        self.comes_from(number, parents) && self.is_clause_of_form(number, clause)
+    }
+
     /// Whether the only parent is the line of the formula that a clause of the form comes from.
     fn comes_from(&self, number: u64, parents: &[u64]) -> bool
         requires { AreClasses self.now.inputs.formulas.now self.now.classes }
-        ensures { result ≡ unwrap_or (option_and_then
-            (λ origin. option_map (is_line_of (setting_in self.now) origin) (only_step (taken_in self.now) parents.now))
-            (slice_get self.now.form.now.origins number)) false }
+        ensures { result ≡ comes_from (setting_in self.now) (taken_in self.now) parents.now number }
     {
         let Some(origin) = self.form.origins.as_slice().get(number as usize) else {
             return false;
@@ -173,8 +179,7 @@ impl<'a> Lines<'a> {
 
     /// Whether the clause of the form with a number is this one.
     fn is_clause_of_form(&self, number: u64, clause: &Clause) -> bool
-        ensures { result ≡ unwrap_or (option_map (λ c. clause_eq c (clause_of clause.now))
-            (slice_get (setting_in self.now).form.clauses number)) false }
+        ensures { result ≡ is_form_clause (setting_in self.now) (clause_of clause.now) number }
     {
         match self.form.clauses.as_slice().get(number as usize) {
             Some(found) => same_clause(found, clause),

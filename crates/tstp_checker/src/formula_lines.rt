@@ -1,11 +1,13 @@
 // Lines of formulas: those of the problem, and the negation of the conjecture.
 
-ghost use Rattle.std.specs.Prelude.{◌≡◌, false, option_map, IfOk, IsTrue};
+ghost use Rattle.std.specs.Prelude.{◌≡◌, [], false, codes, is_some, map, option_map, IfOk, IsTrue};
 ghost use Rattle.tptp_tree.specs.Formula.{negation};
 ghost use Rattle.tptp_tree.specs.Shape.{formula_of};
+ghost use Rattle.tptp_source.specs.Shape.{tree_of as general_of};
 ghost use Rattle.tptp_source.specs.SourceShape.{source_of};
 ghost use Rattle.kernel_steps.specs.Conclusion.{empty_clause};
 ghost use Rattle.kernel_steps.specs.Derivation.{is_component};
+ghost use Rattle.clausal_form.specs.DerivationItems.{row_arguments};
 ghost use Rattle.clausal_form.specs.DerivationSteps.{kind_of};
 ghost use Rattle.clausal_form.specs.DerivationLine.{same_formula, kernel_line};
 ghost use Rattle.clausal_form.specs.DerivationParts.{parents_of};
@@ -24,9 +26,9 @@ use crate::sources::{is_plain_word, items_of};
 use crate::steps::Kind;
 use fol_base::{Clause, Literals};
 use kernel_steps::{Line, Step};
-use plain_types::Names;
+use plain_types::{Mem, Names};
 use std::alloc::Global;
-use tptp_source::Source;
+use tptp_source::{GeneralTerm, Source};
 use tptp_tree::{Annotated, Formula};
 
 impl<'a> Lines<'a> {
@@ -103,7 +105,7 @@ impl<'a> Lines<'a> {
             (given_by_negate (setting_in self.now) (taken_in self.now) (line_meant entry.now source.now))) result }
         ensures step { IfOk result (λ line. is_component line.step ≡ false) }
     {
-        if row_arguments(alloc, b"cth", &[], items_of(source))?.is_none() {
+        if !has_negate_row(alloc, items_of(source))? {
             return Err(Refusal::Cause(Cause::Rule));
         }
         let Some(conjecture) = self.conjecture(parents) else {
@@ -150,6 +152,16 @@ fn formula_line(alloc: Global, step: Step) -> Line
             literals: Literals::new(alloc),
             names: Names::new(alloc),
         },
+    }
+}
+
+/// Whether items are those of a negate line.
+fn has_negate_row(alloc: Global, items: &[GeneralTerm]) -> Mem<bool>
+    ensures { IfOk result (λ there. there ≡ is_some (row_arguments (codes "cth") [] (map general_of items.now))) }
+{
+    match row_arguments(alloc, b"cth", &[], items)? {
+        Some(_) => Ok(true),
+        None => Ok(false),
     }
 }
 
