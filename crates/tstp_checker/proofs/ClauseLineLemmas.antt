@@ -70,7 +70,7 @@ clause-asked s e t h =
 
 -- ---- a clause against the line's
 
-abbrev line_of : Step → TreeClause → Bool → LineVerdict
+abbrev pub line_of : Step → TreeClause → Bool → LineVerdict
 line_of st c is_new = if is_new then refused new_symbol else taken (kernel_line st c)
 
 pub clause-compared :
@@ -193,3 +193,10 @@ opposite-gives s e t name n l h g =
 -- a verdict that is another's
 pub verdict-as : (v w : LineVerdict) (result : Result Line Refusal) → v ≡ w → IsVerdict w result → IsVerdict v result
 verdict-as v w result e h = subst (λ u. IsVerdict u result) (sym e) h
+
+-- a conclusion that is the line's clause
+pub same-so :
+    (st : Step) (c d : TreeClause) (is_new : Bool)
+    → true ≡ clause_eq c d → (if not (clause_eq c d) then refused conclusion else line_of st c is_new) ≡ line_of st d is_new
+same-so st c d is_new h =
+    ap (λ b. if not b then refused conclusion else line_of st c is_new) (sym h) ∙ ap (λ e. line_of st e is_new) (clause_eq-says c d (sym h))

@@ -16,3 +16,4 @@ pub mod RuleStepLemmas
 pub mod FormulaLineLemmas
 pub mod ClauseLineLemmas
 pub mod RuleLineLemmas
+pub mod KernelLineLemmas

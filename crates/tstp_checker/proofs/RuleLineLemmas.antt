@@ -1,6 +1,6 @@
 -- The verdict on lines of clauses by rules with parents.
 use Rattle.std.proofs.Common.{◌≡◌, ℕ, ◌+◌, ◌<◌, ◌≤◌, Bool, true, false, not, ◌&&◌, ◌==◌, List, [], ◌∷◌, length, map, drop, get_or, Option, Some, None, refl, ap, sym, ◌∙◌, arith}
-use Rattle.std.specs.Prelude.{option_map, unwrap_or, zip, if◌then◌else◌}
+use Rattle.std.specs.Prelude.{option_map, unwrap_or, zip, Err, if◌then◌else◌}
 use Rattle.std.specs.List.{list_all}
 use Rattle.fol_base.specs.Tree.{Tree}
 use Rattle.fol_base.specs.Clause.{TreeClause}
@@ -13,7 +13,10 @@ use Rattle.clausal_form.specs.DerivationLine.{LineTree, Taken}
 use Rattle.clausal_form.specs.DerivationParts.{Setting, line_kind, parents_of, parent_lines, items_of, line_bindings}
 use Rattle.clausal_form.specs.DerivationCauses.{binding, rule, Given, fault, gives_clause, is_bound, are_bound, line_step, concluded, given_by_rule, refused, compared}
 use Rattle.tstp_checker.specs.declared.parts.LineParts.{LineParts}
-use Rattle.tstp_checker.specs.Verdicts.{IsClauseLine}
+use Rattle.tstp_checker.specs.declared.refusal.Refusal.{Refusal}
+use Rattle.tstp_checker.specs.declared.refusal.Refusal.TheVariants.{Cause, NoMemory}
+use Rattle.tstp_checker.specs.Causes.{cause_meant}
+use Rattle.tstp_checker.specs.Verdicts.{IsVerdict, IsClauseLine, IsConcluded}
 
 -- ---- bindings, one after another
 
@@ -40,8 +43,13 @@ bound-next f bs i b left rest p r all h e l o w =
 
 pub bound-none :
     (f : Bound → Bool) (bs : List (Option (List Tree))) (i : ℕ) (b : Option (List Tree)) (left : List ℕ) (all : Bool)
-    → i < length bs → b ≡ get_or bs i b → left ≡ [] → bound_left f bs i left ≡ all → true ≡ all
-bound-none f bs i b left all h e l w = ap (λ xs. list_all f (zip xs [])) (sym (drop-item bs i b h e)) ∙ ap (bound_left f bs i) (sym l) ∙ w
+    → i < length bs → b ≡ get_or bs i b → length left ≡ 0 → bound_left f bs i left ≡ all → true ≡ all
+bound-none f bs i b left all h e l w =
+    ap (λ xs. list_all f (zip xs [])) (sym (drop-item bs i b h e)) ∙ ap (bound_left f bs i) (sym (nothing left l)) ∙ w
+  where
+    nothing : (xs : List ℕ) → length xs ≡ 0 → xs ≡ []
+    nothing [] g = refl
+    nothing (x ∷ xs) g = absurd (omega (arith, g))
 
 pub bound-ends :
     (f : Bound → Bool) (bs : List (Option (List Tree))) (i : ℕ) (left : List ℕ) (all : Bool)
@@ -92,3 +100,12 @@ pub rule-gives :
 rule-gives s e t k items parents parts st g kind l h o c =
     ap (compared s e t)
     (given-rule s e t k items parents parts kind l ∙ ap (λ b. rule_given e b (step_of e k items parents parts.bindings)) (sym h) ∙ ap (rule_given e true) (sym o) ∙ c)
+
+-- a refusal of the kernel is the line's
+pub rule-refused :
+    (s : Setting) (e : Taken) (t : LineTree) (k : LineKind) (items : List GeneralTree) (parents : List ℕ) (parts : LineParts) (st : Step) (r : Refusal)
+    → line_kind t ≡ k → IsClauseLine s e t items parents parts → true ≡ right_bindings e k parts.bindings parents
+    → Some st ≡ step_of e k items parents parts.bindings → IsConcluded st (verdict st (parent_lines e)) (Err r)
+    → IsVerdict (compared s e t (given_by_rule s e t)) (Err r)
+rule-refused s e t k items parents parts st (Cause cause) kind l h o c = rule-gives s e t k items parents parts st (fault (cause_meant cause)) kind l h o c
+rule-refused s e t k items parents parts st NoMemory kind l h o c = tt

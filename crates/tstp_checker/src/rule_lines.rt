@@ -1,10 +1,10 @@
 // Lines of clauses by rules with parents.
 
-ghost use Rattle.std.specs.Prelude.{◌≡◌, ◌&&◌, ◌==◌, false, not, nat_le, map, zip, length, option_map, IfOk, IsTrue};
+ghost use Rattle.std.specs.Prelude.{◌≡◌, ◌&&◌, ◌==◌, false, not, nat_le, map, zip, length, option_map, IfOk, IsTrue, if◌then◌else◌};
 ghost use Rattle.std.specs.List.{list_all};
 ghost use Rattle.fol_base.specs.Tree.{is_truth};
 ghost use Rattle.fol_base.specs.Term.{tree_of};
-ghost use Rattle.fol_base.specs.Clause.{clause_size};
+ghost use Rattle.fol_base.specs.Clause.{clause_size, clause_eq};
 ghost use Rattle.fol_base.specs.Literal.{clause_of};
 ghost use Rattle.fol_base.specs.declared.limits.TheConstants.{MOST_BOUND_SYMBOLS};
 ghost use Rattle.tptp_source.specs.Shape.{tree_of as general_of};
@@ -12,9 +12,9 @@ ghost use Rattle.kernel_steps.specs.Parents.{parent_of};
 ghost use Rattle.kernel_steps.specs.Conclusion.{binds, bound_clause, is_rule_step, verdict};
 ghost use Rattle.kernel_steps.specs.Derivation.{is_component};
 ghost use Rattle.clausal_form.specs.DerivationSteps.{bindings_count};
-ghost use Rattle.clausal_form.specs.DerivationLine.{LineTree};
+ghost use Rattle.clausal_form.specs.DerivationLine.{LineTree, kernel_line};
 ghost use Rattle.clausal_form.specs.DerivationParts.{line_kind, parent_lines};
-ghost use Rattle.clausal_form.specs.DerivationCauses.{is_bound, compared, given_by_rule};
+ghost use Rattle.clausal_form.specs.DerivationCauses.{conclusion, new_symbol, refused, taken, is_bound, compared, given_by_rule};
 ghost use Rattle.tstp_checker.specs.Steps.{kind_meant};
 ghost use Rattle.tstp_checker.specs.Verdicts.{IsVerdict, IsClauseLine, IsConcluded};
 ghost use Rattle.tstp_checker.specs.Lines.{setting_in, taken_in};
@@ -53,11 +53,10 @@ impl<'a> Lines<'a> {
         let Some(step) = read else {
             return Err(Refusal::Cause(Cause::Rule));
         };
-        let concluded = self.concluded(alloc, &step)?;
-        if !same_clause(&concluded, &parts.clause) {
-            return Err(Refusal::Cause(Cause::Conclusion));
+        match self.concluded(alloc, &step) {
+            Ok(concluded) => line_if_same(&concluded, step, parts.clause, parts.has_new_symbol),
+            Err(refusal) => Err(refusal),
         }
-        line_by(step, parts.clause, parts.has_new_symbol)
     }
 
     /// The conclusion of a step from the lines that were taken.
@@ -97,6 +96,23 @@ impl<'a> Lines<'a> {
         }
         true
     }
+}
+
+/// The line of a clause, where that is what the step concludes.
+fn line_if_same(
+    concluded: &Clause,
+    step: Step,
+    clause: Clause,
+    has_new_symbol: bool,
+) -> Result<Line, Refusal>
+    ensures verdict { IsVerdict (if not (clause_eq (clause_of concluded.now) (clause_of clause)) then refused conclusion
+        else if has_new_symbol then refused new_symbol else taken (kernel_line step (clause_of concluded.now))) result }
+    ensures line { IfOk result (λ line. line.step ≡ step) }
+{
+    if !same_clause(concluded, &clause) {
+        return Err(Refusal::Cause(Cause::Conclusion));
+    }
+    line_by(step, clause, has_new_symbol)
 }
 
 /// Whether a binding is right for a parent; where no clause line is the parent, it isn't asked.
