@@ -1,18 +1,19 @@
 -- The verdict on lines of formulas.
-use Rattle.std.proofs.Common.{◌≡◌, ℕ, Bool, true, false, not, ◌||◌, List, [], Option, Some, None, refl, ap, sym, ◌∙◌}
-use Rattle.std.specs.Prelude.{option_map, option_and_then, unwrap_or, codes, is_some, if◌then◌else◌}
-use Rattle.tptp_tree.specs.Formula.{FormulaTree, negation}
-use Rattle.tptp_tree.specs.Entries.{AnnotatedTree, is_conjecture}
+use Rattle.std.proofs.Common.{◌≡◌, ℕ, Bool, true, false, not, ◌||◌, List, [], ◌∷◌, Option, Some, None, refl, ap, sym, ◌∙◌}
+use Rattle.std.specs.Prelude.{option_map, option_and_then, unwrap_or, filter_map, is_some, bytes_eq, if◌then◌else◌}
+use Rattle.std.specs.List.{list_any, list_all}
+use Rattle.std.proofs.lemmas.Bool.{true≢false}
+use Rattle.std.proofs.lemmas.Option.{none-some}
 use Rattle.tptp_source.specs.General.{GeneralTree}
 use Rattle.tptp_source.specs.Sources.{SourceTree, file_source, inference_source, component_source, opposite_source}
+use Rattle.kernel_steps.specs.Parents.{all_there}
 use Rattle.kernel_steps.specs.Conclusion.{empty_clause}
-use Rattle.kernel_steps.specs.declared.step.Step.{Step}
 use Rattle.kernel_steps.specs.declared.step.Step.TheVariants as step
-use Rattle.clausal_form.specs.DerivationItems.{row_arguments}
-use Rattle.clausal_form.specs.DerivationLine.{LineTree, Taken, kernel_line, same_formula}
-use Rattle.clausal_form.specs.DerivationParts.{Setting, entry_at, line_kind, items_of, parents_of, only_parent_step}
-use Rattle.clausal_form.specs.DerivationCauses.{text, leaf, rule, conclusion, Given, fault, gives_formula, given_by_file, negation_from, given_by_negate, given_by, is_formula_kind, is_written, LineVerdict, refused, taken, compared, line_verdict}
-use Rattle.tstp_checker.specs.FormulaLines.{cited_at, conjecture_at, only_step, conjecture_of}
+use Rattle.clausal_form.specs.DerivationItems.{plain_word}
+use Rattle.clausal_form.specs.DerivationLine.{LineTree, NamedLine, Taken, kernel_line}
+use Rattle.clausal_form.specs.DerivationParts.{Setting, line_kind, parent_places, parents_of}
+use Rattle.clausal_form.specs.DerivationCauses.{text, order, unknown_parent, leaf, conclusion, Given, fault, gives_formula, cited, place_of_entry, given_by_file, given_by, is_formula_kind, is_written, LineVerdict, refused, taken, compared, line_verdict}
+use Rattle.tstp_checker.specs.FormulaLines.{cited_at}
 use Rattle.tstp_checker.specs.Verdicts.{with_names_asked}
 use Rattle.tstp_checker.proofs.EntryLemmas.{same_formula-refl}
 
@@ -52,73 +53,58 @@ pub input-refused :
     → None ≡ cited_at s t source → compared s e t (given_by_file s t source) ≡ refused leaf
 input-refused s e t source h = sym (ap (λ o. compared s e t (input_given t o)) h ∙ ap (compared s e t) (file-given s t source))
 
--- ---- the negation of the conjecture
+cited-so :
+    (s : Setting) (t : LineTree) (name : List ℕ) (word : Option (List ℕ))
+    → true ≡ is_some word → place_of_entry s (cited t name) ≡ option_and_then (λ w. place_of_entry s (cited t name)) word
+cited-so s t name None h = absurd (true≢false h)
+cited-so s t name (Some w) h = refl
 
-abbrev negation_given : ℕ × FormulaTree → Given
-negation_given c = gives_formula (step.Negate c.0) (negation c.1)
+pub cited-there :
+    (s : Setting) (t : LineTree) (file : GeneralTree) (name : List ℕ)
+    → true ≡ is_some (plain_word file) → place_of_entry s (cited t name) ≡ cited_at s t (file_source file name)
+cited-there s t file name h = cited-so s t name (plain_word file) h
 
-from-conjecture : (s : Setting) (st : Step) → option_map negation_given (conjecture_at s st) ≡ negation_from s st
-from-conjecture s (step.Input place) = by (entry_at s place)
+-- ---- names
+
+abbrev AllThere : List (Option ℕ) → List ℕ → Type 0
+AllThere os xs = (list_all is_some os ≡ true) × (xs ≡ filter_map (λ o. o) os)
+
+some-list : {X : Type 0} (x y : X) → Some x ≡ Some y → x ≡ y
+some-list x y h = ap (λ o. unwrap_or o x) h
+
+all-there : (os : List (Option ℕ)) (xs : List ℕ) → Some xs ≡ all_there os → AllThere os xs
+all-there [] xs h = (refl, some-list xs [] h)
+all-there (None ∷ os) xs h = absurd (none-some xs (sym h))
+all-there (Some x ∷ os) xs h = by (all_there os) refl (all-there os)
   where
-    one : (b : Bool) (f : FormulaTree) → option_map negation_given (if b then Some (place, f) else None) ≡ (if b then Some (gives_formula (step.Negate place) (negation f)) else None)
-    one true f = refl
-    one false f = refl
+    by : (o : Option (List ℕ)) → all_there os ≡ o → ((ys : List ℕ) → Some ys ≡ all_there os → AllThere os ys) → AllThere (Some x ∷ os) xs
+    by None e more = absurd (none-some xs (sym (h ∙ ap (option_map (λ ys. x ∷ ys)) e)))
+    by (Some ys) e more =
+        (((more ys (sym e)).0), some-list xs (x ∷ ys) (h ∙ ap (option_map (λ zs. x ∷ zs)) e) ∙ ap (λ zs. x ∷ zs) (more ys (sym e)).1)
 
-    by :
-        (o : Option AnnotatedTree)
-        → option_map negation_given (option_and_then (λ (a : AnnotatedTree). if is_conjecture a.role then Some (place, a.formula) else None) o)
-        ≡ option_and_then (λ (a : AnnotatedTree). if is_conjecture a.role then Some (gives_formula (step.Negate place) (negation a.formula)) else None) o
-    by None = refl
-    by (Some a) = one (is_conjecture a.role) a.formula
-from-conjecture s (step.Negate place) = refl
-from-conjecture s (step.Clausify i) = refl
-from-conjecture s (step.Para a b d f g i j k m) = refl
-from-conjecture s (step.Refl a b d) = refl
-from-conjecture s (step.Factor a b d f g i) = refl
-from-conjecture s (step.Merge a b d f) = refl
-from-conjecture s (step.Component n) = refl
-from-conjecture s (step.Opposite n) = refl
-from-conjecture s (step.Split a b d) = refl
-from-conjecture s (step.Chain a b) = refl
+not-there : (os : List (Option ℕ)) → None ≡ all_there os → list_all is_some os ≡ false
+not-there [] h = absurd (none-some [] h)
+not-there (None ∷ os) h = refl
+not-there (Some x ∷ os) h = by (all_there os) refl (not-there os)
+  where
+    by : (o : Option (List ℕ)) → all_there os ≡ o → (None ≡ all_there os → list_all is_some os ≡ false) → list_all is_some (Some x ∷ os) ≡ false
+    by None e more = more (sym e)
+    by (Some ys) e more = absurd (none-some (x ∷ ys) (h ∙ ap (option_map (λ zs. x ∷ zs)) e))
 
-from-only : (s : Setting) (o : Option Step) → option_map negation_given (option_and_then (conjecture_at s) o) ≡ option_and_then (negation_from s) o
-from-only s None = refl
-from-only s (Some st) = from-conjecture s st
+abbrev asked : Bool → Bool → LineVerdict → LineVerdict
+asked old there v = if old then refused order else if not there then refused unknown_parent else v
 
-abbrev negate_row : LineTree → Option (List (List GeneralTree))
-negate_row t = row_arguments (codes "cth") [] (items_of t.source)
+pub parents-there :
+    (e : Taken) (t : LineTree) (places : List ℕ)
+    → false ≡ list_any (λ (l : NamedLine). bytes_eq (t.entry).name l.name) e.lines → Some places ≡ all_there (parent_places e t)
+    → ((v : LineVerdict) → with_names_asked e t v ≡ v) × (places ≡ parents_of e t)
+parents-there e t places new there =
+    let all = all-there (parent_places e t) places there in
+    (λ v. ap (λ b. asked b (list_all is_some (parent_places e t)) v) (sym new) ∙ ap (λ b. asked false b v) all.0, all.1)
 
-abbrev negate_given : Option (List (List GeneralTree)) → Option (ℕ × FormulaTree) → Given
-negate_given row conjecture = unwrap_or (option_and_then (λ r. option_map negation_given conjecture) row) (fault rule)
-
-given-negate : (s : Setting) (e : Taken) (t : LineTree) → negate_given (negate_row t) (conjecture_of s e (parents_of e t)) ≡ given_by_negate s e t
-given-negate s e t = ap (λ o. unwrap_or (option_and_then (λ r. o) (negate_row t)) (fault rule)) (from-only s (only_parent_step e t))
-
-no-row : (row : Option (List (List GeneralTree))) (conjecture : Option (ℕ × FormulaTree)) → false ≡ is_some row → negate_given row conjecture ≡ fault rule
-no-row None conjecture h = refl
-no-row (Some r) conjecture h = absurd (cc)
-
-no-conjecture : (row : Option (List (List GeneralTree))) → negate_given row None ≡ fault rule
-no-conjecture None = refl
-no-conjecture (Some r) = refl
-
-a-row : (row : Option (List (List GeneralTree))) (c : ℕ × FormulaTree) → true ≡ is_some row → negate_given row (Some c) ≡ negation_given c
-a-row None c h = absurd (cc)
-a-row (Some r) c h = refl
-
-pub negate-no-row :
-    (s : Setting) (e : Taken) (t : LineTree) → false ≡ is_some (negate_row t) → compared s e t (given_by_negate s e t) ≡ refused rule
-negate-no-row s e t h = ap (compared s e t) (sym (given-negate s e t) ∙ no-row (negate_row t) (conjecture_of s e (parents_of e t)) h)
-
-pub negate-no-conjecture :
-    (s : Setting) (e : Taken) (t : LineTree) → None ≡ conjecture_of s e (parents_of e t) → compared s e t (given_by_negate s e t) ≡ refused rule
-negate-no-conjecture s e t h =
-    ap (compared s e t) (sym (ap (negate_given (negate_row t)) h ∙ given-negate s e t) ∙ no-conjecture (negate_row t))
-
-pub negate-so :
-    (s : Setting) (e : Taken) (t : LineTree) (p : ℕ) (f : FormulaTree) (b : Bool)
-    → true ≡ is_some (negate_row t) → Some (p, f) ≡ conjecture_of s e (parents_of e t) → b ≡ same_formula (negation f) (t.entry).formula
-    → compared s e t (given_by_negate s e t) ≡ (if b then taken (kernel_line (step.Negate p) empty_clause) else refused conclusion)
-negate-so s e t p f b row h same =
-    ap (compared s e t) (sym (ap (negate_given (negate_row t)) h ∙ given-negate s e t) ∙ a-row (negate_row t) (p, f) row)
-    ∙ ap (λ c. if c then taken (kernel_line (step.Negate p) empty_clause) else refused conclusion) (sym same)
+pub parents-missing :
+    (e : Taken) (t : LineTree)
+    → false ≡ list_any (λ (l : NamedLine). bytes_eq (t.entry).name l.name) e.lines → None ≡ all_there (parent_places e t)
+    → (v : LineVerdict) → with_names_asked e t v ≡ refused unknown_parent
+parents-missing e t new missing v =
+    ap (λ b. asked b (list_all is_some (parent_places e t)) v) (sym new) ∙ ap (λ b. asked false b v) (not-there (parent_places e t) missing)

@@ -16,7 +16,7 @@ ghost use Rattle.clausal_form.specs.DerivationClause.{is_written_clause};
 ghost use Rattle.clausal_form.specs.DerivationSteps.{component_kind, kind_of};
 ghost use Rattle.clausal_form.specs.DerivationLine.{LineTree, Taken, kernel_line, names_with};
 ghost use Rattle.clausal_form.specs.DerivationParts.{line_kind};
-ghost use Rattle.clausal_form.specs.DerivationCauses.{new_symbol, is_line_of, is_conjecture_at, given_by_clausify, given_by_opposite, given_by, is_formula_kind, refused, taken, compared, line_verdict};
+ghost use Rattle.clausal_form.specs.DerivationCauses.{new_symbol, fits, is_line_of, is_conjecture_at, given_by_clausify, given_by_opposite, given_by, is_formula_kind, refused, taken, compared, line_verdict};
 ghost use Rattle.tstp_checker.specs.Steps.{kind_meant};
 ghost use Rattle.tstp_checker.specs.Taken.{IsKept};
 ghost use Rattle.tstp_checker.specs.Classes.{AreClasses};
@@ -121,7 +121,8 @@ impl<'a> Lines<'a> {
             (given_by_clausify (setting_in self.now) (taken_in self.now) t)) result }
         ensures step { IfOk result (λ line. is_component line.step ≡ false) }
     {
-        let Some(number) = clause_number(alloc, items)? else {
+        let read = clause_number(alloc, items)?;
+        let Some(number) = read else {
             return Err(Refusal::Cause(Cause::Clausify));
         };
         if !self.is_clausified(number, parents, &parts.clause) {
@@ -159,12 +160,18 @@ impl<'a> Lines<'a> {
         ensures { result ≡ is_line_of (setting_in self.now) origin step.now }
     {
         match step {
-            Step::Input(place) => self.classes.same(*place, origin)
-                && !self.is_conjecture_at(*place),
-            Step::Negate(place) => self.classes.same(*place, origin)
-                && self.is_conjecture_at(*place),
+            Step::Input(place) => self.fits(*place, origin) && !self.is_conjecture_at(*place),
+            Step::Negate(place) => self.fits(*place, origin) && self.is_conjecture_at(*place),
             _ => false,
         }
+    }
+
+    /// Whether the formulas at two places say the same.
+    fn fits(&self, place: u32, origin: u64) -> bool
+        requires { AreClasses self.now.inputs.formulas.now self.now.classes }
+        ensures { result ≡ fits (setting_in self.now) place origin }
+    {
+        self.classes.same(place, origin)
     }
 
     /// Whether the formula at a place is the conjecture.

@@ -61,7 +61,10 @@ pub(crate) fn bindings_count(kind: Kind<'_>) -> usize
 pub(crate) fn is_plain_word(term: &GeneralTerm) -> bool
     ensures { result ≡ is_some (plain_word (general_of term.now)) }
 {
-    matches!(term, GeneralTerm::Word(_, arguments) if arguments.is_empty())
+    match term {
+        GeneralTerm::Word(_, arguments) => arguments.is_empty(),
+        _ => false,
+    }
 }
 
 /// The number of the clause that the items of a clausify line name.
