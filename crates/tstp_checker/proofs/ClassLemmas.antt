@@ -97,17 +97,17 @@ class-same fs q a b there = by (same_entry (entry_of a) (entry_of b)) refl
     no (Some m) None e g h = refl
     no (Some m) (Some n) e g h = sym (false_from_ne_true (m == n) λ same.
         let found = found-both (matches (entry_of a)) (matches (entry_of b)) 0 fs n
-            (sym of_a ∙ e ∙ ap (λ k. Some k) (eqb-true m n same)) (sym of_b ∙ g) in
+        (sym of_a ∙ e ∙ ap (λ k. Some k) (eqb-true m n same)) (sym of_b ∙ g) in
         let like : same_entry (entry_of a) (entry_of b) ≡ same_entry (entry_of found.0) (entry_of b) =
-            same_entry-like (entry_of a) (entry_of found.0) (entry_of b) found.1 in
+        same_entry-like (entry_of a) (entry_of found.0) (entry_of b) found.1 in
         let back : same_entry (entry_of b) (entry_of b) ≡ same_entry (entry_of found.0) (entry_of b) =
-            same_entry-like (entry_of b) (entry_of found.0) (entry_of b) found.2 in
+        same_entry-like (entry_of b) (entry_of found.0) (entry_of b) found.2 in
         true≢false (sym (same_entry-refl (entry_of b)) ∙ back ∙ sym like ∙ h))
 
     by : (t : Bool) → same_entry (entry_of a) (entry_of b) ≡ t → t ≡ same_place (class_of fs a) (class_of fs b)
     by true h =
         let alike : class_of fs a ≡ Some self.0 =
-            of_a ∙ found-alike (matches (entry_of a)) (matches (entry_of b)) 0 fs (λ f. same_entry-like (entry_of a) (entry_of b) (entry_of f) h) ∙ self.1 in
+        of_a ∙ found-alike (matches (entry_of a)) (matches (entry_of b)) 0 fs (λ f. same_entry-like (entry_of a) (entry_of b) (entry_of f) h) ∙ self.1 in
         sym (ap₂ same_place alike (of_b ∙ self.1) ∙ eq-eqb self.0 self.0 refl)
     by false h = no (class_of fs a) (class_of fs b) refl refl h
 

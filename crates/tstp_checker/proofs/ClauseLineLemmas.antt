@@ -62,11 +62,11 @@ pub clause-asked :
     (s : Setting) (e : Taken) (t : LineTree)
     → is_formula_kind (line_kind t) ≡ false
     → (if not ((t.entry).is_clause && is_written_clause (line_names e t) (t.entry).formula) then refused text
-       else with_names_asked e t (compared s e t (given_by s e t (line_kind t))))
+    else with_names_asked e t (compared s e t (given_by s e t (line_kind t))))
     ≡ line_verdict s e t
 clause-asked s e t h =
     ap (λ b. if not (b || ((t.entry).is_clause && is_written_clause (line_names e t) (t.entry).formula)) then refused text
-       else with_names_asked e t (compared s e t (given_by s e t (line_kind t)))) (sym h)
+    else with_names_asked e t (compared s e t (given_by s e t (line_kind t)))) (sym h)
 
 -- ---- a clause against the line's
 

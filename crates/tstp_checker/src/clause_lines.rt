@@ -301,11 +301,17 @@ impl<'a> Lines<'a> {
         if self.taken.has(entry.name.as_slice()) {
             return Err(Refusal::Cause(Cause::Order));
         }
-        let parts = self.numbers.parts(alloc, &self.taken.introduced, &entry.formula, &[])?;
+        let parts = self
+            .numbers
+            .parts(alloc, &self.taken.introduced, &entry.formula, &[])?;
         if !is_component(number, &parts.clause) {
             return Err(Refusal::Cause(Cause::Rule));
         }
-        line_by(Step::Component(number), parts.clause, parts.has_new_symbol || is_old)
+        line_by(
+            Step::Component(number),
+            parts.clause,
+            parts.has_new_symbol || is_old,
+        )
     }
 }
 

@@ -54,12 +54,7 @@ impl<'a> Lines<'a> {
     }
 
     /// A formula of the problem.
-    fn input_line(
-        &self,
-        alloc: Global,
-        entry: &Annotated,
-        source: &Source,
-    ) -> Result<Line, Refusal>
+    fn input_line(&self, alloc: Global, entry: &Annotated, source: &Source) -> Result<Line, Refusal>
         requires { IsReady self.now }
         ensures verdict { IsVerdict (compared (setting_in self.now) (taken_in self.now) (line_meant entry.now source.now)
             (given_by_file (setting_in self.now) (line_meant entry.now source.now) (source_of source.now))) result }
@@ -82,14 +77,12 @@ impl<'a> Lines<'a> {
         if !is_plain_word(file) {
             return None;
         }
-        self.inputs.place_of(
-            Entry {
-                name: name.as_slice(),
-                role: entry.role,
-                clause: entry.clause,
-                formula: &entry.formula,
-            },
-        )
+        self.inputs.place_of(Entry {
+            name: name.as_slice(),
+            role: entry.role,
+            clause: entry.clause,
+            formula: &entry.formula,
+        })
     }
 
     /// The negation of the conjecture.

@@ -49,7 +49,14 @@ impl<'a> Lines<'a> {
         if !self.are_bound(kind, parents, parts.bindings.as_slice()) {
             return Err(Refusal::Cause(Cause::Binding));
         }
-        let read = rule_step(alloc, kind, &self.taken.introduced, items, parents, parts.bindings)?;
+        let read = rule_step(
+            alloc,
+            kind,
+            &self.taken.introduced,
+            items,
+            parents,
+            parts.bindings,
+        )?;
         let Some(step) = read else {
             return Err(Refusal::Cause(Cause::Rule));
         };
