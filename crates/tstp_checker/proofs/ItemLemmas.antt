@@ -1,6 +1,6 @@
 -- The items of a rule's row.
 use Rattle.std.proofs.Common.{◌≡◌, ℕ, ◌+◌, ◌<◌, ◌≤◌, Bool, true, false, ◌&&◌, ◌||◌, ◌==◌, cond, List, [], ◌∷◌, ◌++◌, length, map, drop, get_or, refl, ap, sym, ◌∙◌, append-nil, arith}
-use Rattle.std.specs.Prelude.{codes, Option, None, Some, option_map, option_and_then, IfOk, Result, if◌then◌else◌}
+use Rattle.std.specs.Prelude.{codes, Option, None, Some, option_map, option_and_then, is_some, IfOk, Result, if◌then◌else◌}
 use Rattle.std.specs.declared.result.Result.TheVariants.{Ok, Err}
 use Rattle.kernel_steps.specs.Parents.{all_there}
 use Rattle.tptp_source.specs.Items.{all_numbers}
@@ -12,7 +12,7 @@ use Rattle.signature.proofs.OccurrenceLemmas.{drop-item, drop-end}
 use Rattle.tptp_source.specs.General.{GeneralTree, word, listed, no_trees, trees_of, list_of_trees}
 use Rattle.tptp_source.specs.Shape.{tree_of}
 use Rattle.tptp_source.specs.declared.term.GeneralTerm.{GeneralTerm}
-use Rattle.clausal_form.specs.DerivationItems.{arguments, has_word, is_plain, is_one_word, have_words, items_with, row_arguments, list_in, numbers_in}
+use Rattle.clausal_form.specs.DerivationItems.{arguments, has_word, plain_word, is_plain, is_one_word, have_words, items_with, row_arguments, list_in, numbers_in}
 use Rattle.tstp_checker.specs.Items.{item_word, terms_lent}
 use Rattle.tstp_checker.specs.declared.items.ItemWord.{ItemWord}
 use Rattle.tstp_checker.proofs.NumberLemmas.{append-more}
@@ -147,6 +147,14 @@ row-is status W t ts = by (has_word (codes "status") t) refl
         ap asked e ∙ ap (λ (b : Bool). if c && (b && h) then x else (let n : Row = None in n)) e ∙ both-asked c h x None
         ∙ sym (ap (λ (b : Bool). if b && c then (if h then x else None) else (let n : Row = None in n)) e)
     by false e = ap asked e ∙ sym (ap (λ (b : Bool). if b && c then (if h then x else None) else (let n : Row = None in n)) e)
+
+-- whether a word has no arguments
+pub word-plain :
+    (v : List ℕ) (ts : List GeneralTree) (b : Bool) → (b ≡ true → ts ≡ []) → (ts ≡ [] → b ≡ true) → b ≡ is_some (plain_word (word v (trees_of ts)))
+word-plain v [] true f g = refl
+word-plain v [] false f g = g refl
+word-plain v (t ∷ ts) true f g = absurd (omega (arith, ap length (f refl)))
+word-plain v (t ∷ ts) false f g = refl
 
 pub row-nothing : (status : List ℕ) (W : List (List ℕ)) (ts : List GeneralTree) → ts ≡ [] → None ≡ row_arguments status W ts
 row-nothing status W ts e = sym (ap (row_arguments status W) e)

@@ -11,3 +11,11 @@ pub mod PartLemmas
 pub mod StepLemmas
 pub mod ReadingLemmas
 pub mod CheckLemmas
+pub mod TakenLemmas
+pub mod EntryLemmas
+pub mod ClassLemmas
+pub mod RuleStepLemmas
+pub mod FormulaLineLemmas
+pub mod ClauseLineLemmas
+pub mod RuleLineLemmas
+pub mod KernelLineLemmas

@@ -12,3 +12,9 @@ pub mod Causes
 pub mod Lines
 pub mod Reading
 pub mod Checking
+pub mod Taken
+pub mod Sources
+pub mod Classes
+pub mod Verdicts
+pub mod FormulaLines
+pub mod ClauseLines

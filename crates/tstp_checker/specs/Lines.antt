@@ -1,5 +1,5 @@
 -- The lines that were taken, and what judging a line more answers.
-use Rattle.std.specs.Prelude.{◌≡◌, ⊤, ℕ, ◌≤◌, ◌^◌, List, [], length, map, Option, None, Some}
+use Rattle.std.specs.Prelude.{◌≡◌, List, [], length, Option, None, Some}
 use Rattle.tptp_reader.specs.Shape.{tree_of as entry_read}
 use Rattle.tptp_tree.specs.declared.problem.Annotated.{Annotated}
 use Rattle.tptp_source.specs.SourceShape.{source_of}
@@ -11,6 +11,8 @@ use Rattle.clausal_form.specs.DerivationParts.{Setting}
 use Rattle.clausal_form.specs.DerivationCauses.{refused, taken, line_verdict}
 use Rattle.tstp_checker.specs.Causes.{cause_meant}
 use Rattle.tstp_checker.specs.Inputs.{KnowsAll}
+use Rattle.tstp_checker.specs.Classes.{AreClasses}
+use Rattle.tstp_checker.specs.Taken.{taken_of, IsKept}
 use Rattle.tstp_checker.specs.declared.cause.Cause.{Cause}
 use Rattle.tstp_checker.specs.declared.lines.Lines.{Lines}
 
@@ -23,11 +25,14 @@ setting_in x = record { problem = x.inputs.formulas.now; form = form_of x.form.n
 
 -- the lines that were taken
 abbrev pub taken_in : Lines → Taken
-taken_in x = record { lines = []; introduced = x.names }
+taken_in x = taken_of x.taken
 
--- The tables are those of the problem and of the form, between two lines.
+-- The tables are those of the problem, of the form and of the lines, between two lines.
 pub record IsReady (x : Lines) : Type 0 where
   pub inputs : KnowsAll x.inputs
+  pub classes : AreClasses x.inputs.formulas.now x.classes
+  pub kept : IsKept x.taken
+  pub defined : length x.taken.components ≡ length x.taken.introduced
   pub symbols : x.numbers.symbols ≡ x.form.now.signature
   pub variables : x.numbers.variables ≡ []
 

@@ -23,7 +23,7 @@ struct EntryName<'a> {
 /// The formulas of a problem with a table by which those of a name are found, so that a look-up passes only those of that name.
 #[derive(Drop)]
 pub(crate) struct Inputs<'a> {
-    formulas: &'a [Annotated],
+    pub formulas: &'a [Annotated],
     /// The first place of each name.
     first: IndexMap<EntryName<'a>, usize>,
     /// For each formula, from the last back to the first, the place of the next with its name.

@@ -3,8 +3,11 @@
 
 mod bindings;
 mod cause;
+mod classes;
 mod clause;
 mod derivation;
+mod clause_lines;
+mod formula_lines;
 mod formulas;
 mod inputs;
 mod items;
@@ -14,7 +17,11 @@ mod names;
 mod numbers;
 mod parts;
 mod reading;
+mod refusal;
+mod rule_lines;
+mod sources;
 mod steps;
+mod taken;
 mod written;
 
 pub use cause::Cause;

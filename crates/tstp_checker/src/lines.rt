@@ -1,17 +1,27 @@
 // The lines of a derivation that were taken, and the verdict on a line more.
 
-ghost use Rattle.std.specs.Prelude.{◌≡◌, ◌≤◌, IfOk, length};
+ghost use Rattle.std.specs.Prelude.{◌≡◌, ◌+◌, IfOk, OnErr, length};
 ghost use Rattle.clausal_form.specs.Form.{form_of};
-ghost use Rattle.clausal_form.specs.DerivationLine.{nothing_taken};
-ghost use Rattle.clausal_form.specs.DerivationLines.{ends_empty};
+ghost use Rattle.clausal_form.specs.DerivationSteps.{kind_of};
+ghost use Rattle.clausal_form.specs.DerivationLine.{nothing_taken, names_with};
+ghost use Rattle.clausal_form.specs.DerivationLines.{ends_empty, is_empty_clause_line};
+ghost use Rattle.clausal_form.specs.DerivationCauses.{line_verdict};
+ghost use Rattle.tptp_source.specs.SourceShape.{source_of};
+ghost use Rattle.tstp_checker.specs.Taken.{IsNext, introduced_by};
+ghost use Rattle.tstp_checker.specs.Verdicts.{IsVerdict, IfAnswered, AreParents};
 ghost use Rattle.tstp_checker.specs.Lines.{line_meant, setting_in, taken_in, IsReady, IsJudged};
 
 use crate::cause::Cause;
+use crate::classes::Classes;
 use crate::inputs::Inputs;
-use crate::names::NameTable;
 use crate::numbers::LineNumbers;
+use crate::refusal::Refusal;
+use crate::sources::parent_names;
+use crate::steps::{Kind, kind_of};
+use crate::taken::TakenLines;
 use clausal_form::Clausal;
-use plain_types::{Mem, NoMemory};
+use kernel_steps::Line;
+use plain_types::{Mem, NoMemory, Numbers};
 use std::alloc::Global;
 use tptp_source::Source;
 use tptp_tree::Annotated;
@@ -19,10 +29,11 @@ use tptp_tree::Annotated;
 /// The lines that were taken, with what further lines are judged by: the problem, its clausal form, and the names that lines introduced.
 #[derive(Drop)]
 pub(crate) struct Lines<'a> {
-    inputs: Inputs<'a>,
-    form: &'a Clausal,
-    numbers: LineNumbers,
-    names: NameTable,
+    pub inputs: Inputs<'a>,
+    pub classes: Classes,
+    pub form: &'a Clausal,
+    pub numbers: LineNumbers,
+    pub taken: TakenLines,
 }
 
 impl<'a> Lines<'a> {
@@ -33,11 +44,14 @@ impl<'a> Lines<'a> {
         ensures form { IfOk result (λ lines. (setting_in lines).form ≡ form_of form.now) }
         ensures taken { IfOk result (λ lines. taken_in lines ≡ nothing_taken) }
     {
+        let inputs = Inputs::new(alloc, formulas)?;
+        let classes = Classes::new(alloc, &inputs)?;
         Ok(Lines {
-            inputs: Inputs::new(alloc, formulas)?,
+            inputs,
+            classes,
             form,
             numbers: LineNumbers::of_form(alloc, &form.signature)?,
-            names: NameTable::new(alloc),
+            taken: TakenLines::new(alloc),
         })
     }
 
@@ -55,20 +69,85 @@ impl<'a> Lines<'a> {
         ensures ready { IfOk result (λ _. IsReady self.new) }
         ensures setting { setting_in self.new ≡ setting_in self.old }
     {
-        Err(NoMemory)
+        match self.verdict(alloc, entry, source) {
+            Ok(line) => {
+                self.taken.add(alloc, entry.name.as_slice(), line)?;
+                Ok(None)
+            }
+            Err(Refusal::Cause(cause)) => Ok(Some(cause)),
+            Err(Refusal::NoMemory) => Err(NoMemory),
+        }
+    }
+
+    /// The line, where it is taken; the name that it introduces is then introduced.
+    fn verdict(
+        &mut self,
+        alloc: Global,
+        entry: &Annotated,
+        source: &Source,
+    ) -> Result<Line, Refusal>
+        requires ready { IsReady self.old }
+        ensures verdict { IsVerdict (line_verdict (setting_in self.old) (taken_in self.old) (line_meant entry.now source.now)) result }
+        ensures numbers { IfAnswered result (self.new.numbers ≡ self.old.numbers) }
+        ensures introduced { IfOk result (λ _. self.new.taken.introduced ≡ names_with self.old.taken.introduced (kind_of (source_of source.now))) }
+        ensures unchanged { OnErr result (IfAnswered result (self.new.taken.introduced ≡ self.old.taken.introduced)) }
+        ensures next { IfOk result (λ line. IsNext (length self.old.taken.introduced) line.step) }
+        ensures count { IfOk result (λ line. length self.new.taken.introduced ≡ length self.old.taken.introduced + introduced_by line.step) }
+        ensures names { self.new.taken.names ≡ self.old.taken.names }
+        ensures lines { self.new.taken.lines ≡ self.old.taken.lines }
+        ensures components { self.new.taken.components ≡ self.old.taken.components }
+        ensures inputs { self.new.inputs ≡ self.old.inputs }
+        ensures classes { self.new.classes ≡ self.old.classes }
+        ensures form { self.new.form ≡ self.old.form }
+    {
+        let kind = kind_of(source);
+        match kind {
+            Kind::Component(name) => self.component_verdict(alloc, entry, name),
+            Kind::Input | Kind::Negate => self.formula_verdict(alloc, kind, entry, source),
+            _ => self.clause_verdict(alloc, kind, entry, source),
+        }
     }
 
     /// How many lines were taken.
     pub(crate) fn len(&self) -> usize
         ensures { result ≡ length (taken_in self.now).lines }
     {
-        0
+        self.taken.lines.len()
     }
 
     /// Whether the last line is a clause line with the empty clause.
     pub(crate) fn ends_empty(&self) -> bool
         ensures { result ≡ ends_empty (taken_in self.now).lines }
     {
-        false
+        match self.taken.lines.as_slice().last() {
+            Some(line) => is_empty_clause(line),
+            None => false,
+        }
     }
+
+    /// The places of the parents of a line whose name is new.
+    pub(crate) fn parents(
+        &self,
+        alloc: Global,
+        entry: &Annotated,
+        source: &Source,
+    ) -> Result<Numbers, Refusal>
+        requires { IsReady self.now }
+        ensures { AreParents (taken_in self.now) (line_meant entry.now source.now) result }
+    {
+        if self.taken.has(entry.name.as_slice()) {
+            return Err(Refusal::Cause(Cause::Order));
+        }
+        match self.taken.places(alloc, parent_names(source))? {
+            Some(places) => Ok(places),
+            None => Err(Refusal::Cause(Cause::UnknownParent)),
+        }
+    }
+}
+
+/// Whether a line is a clause line with the empty clause.
+fn is_empty_clause(line: &Line) -> bool
+    ensures { result ≡ is_empty_clause_line line.now }
+{
+    line.step.is_clause_step() && line.clause.literals.is_empty() && line.clause.names.is_empty()
 }

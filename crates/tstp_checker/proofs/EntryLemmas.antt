@@ -1,0 +1,88 @@
+-- Formulas that say the same are alike in all that is compared.
+use mathlib.Core.Bool.{beq}
+use Rattle.std.proofs.Common.{◌≡◌, ℕ, Bool, true, false, ◌&&◌, List, [], ◌∷◌, refl, ap, ap₂, sym, ◌∙◌}
+use Rattle.std.specs.Prelude.{bytes_eq}
+use Rattle.std.proofs.lemmas.Bool.{and_parts, true≢false}
+use Rattle.std.proofs.lemmas.Cmp.{nat_list_eq_equiv}
+use Rattle.std.proofs.lemmas.Slice.Eq.{bytes_eq-Decides}
+use Rattle.tptp_tree.specs.Term.{TermTree, variable, application, TermTrees, no_terms, term_then}
+use Rattle.tptp_tree.specs.Formula.{FormulaTree, negation}
+use Rattle.tptp_tree.specs.Codes.{encoded}
+use Rattle.tptp_tree.specs.Entries.{AnnotatedTree, role_word}
+use Rattle.clausal_form.specs.DerivationLine.{same_term, same_terms, same_formula, same_entry}
+
+bytes-refl : (x : List ℕ) → bytes_eq x x ≡ true
+bytes-refl x = nat_list_eq_equiv.refl x
+
+both : (a b : Bool) → a ≡ true → b ≡ true → (a && b) ≡ true
+both a b h k = ap₂ ◌&&◌ h k
+
+mutual
+  same_term-refl : (t : TermTree) → same_term t t ≡ true
+  same_term-refl (variable x) = bytes-refl x
+  same_term-refl (application f ts) = both (bytes_eq f f) (same_terms ts ts) (bytes-refl f) (same_terms-refl ts)
+
+  same_terms-refl : (ts : TermTrees) → same_terms ts ts ≡ true
+  same_terms-refl no_terms = refl
+  same_terms-refl (term_then t ts) = both (same_term t t) (same_terms ts ts) (same_term-refl t) (same_terms-refl ts)
+
+mutual
+  same_term-says : (t u : TermTree) → same_term t u ≡ true → t ≡ u
+  same_term-says (variable x) (variable y) h = ap variable ((bytes_eq-Decides x y).0 h)
+  same_term-says (variable x) (application g us) h = absurd (true≢false (sym h))
+  same_term-says (application f ts) (variable y) h = absurd (true≢false (sym h))
+  same_term-says (application f ts) (application g us) h =
+      let parts = and_parts (bytes_eq f g) (same_terms ts us) h in
+      ap₂ application ((bytes_eq-Decides f g).0 parts.0) (same_terms-says ts us parts.1)
+
+  same_terms-says : (ts us : TermTrees) → same_terms ts us ≡ true → ts ≡ us
+  same_terms-says no_terms no_terms h = refl
+  same_terms-says no_terms (term_then u us) h = absurd (true≢false (sym h))
+  same_terms-says (term_then t ts) no_terms h = absurd (true≢false (sym h))
+  same_terms-says (term_then t ts) (term_then u us) h =
+      let parts = and_parts (same_term t u) (same_terms ts us) h in
+      ap₂ term_then (same_term-says t u parts.0) (same_terms-says ts us parts.1)
+
+pub same_formula-refl : (f : FormulaTree) → same_formula f f ≡ true
+same_formula-refl f = same_term-refl (encoded f)
+
+pub negations-same : (f g : FormulaTree) → same_formula f g ≡ same_formula (negation f) (negation g)
+negations-same f g = by (same_term (encoded f) (encoded g))
+  where
+    by : (b : Bool) → b ≡ (b && true)
+    by true = refl
+    by false = refl
+
+beq-refl : (b : Bool) → beq b b ≡ true
+beq-refl true = refl
+beq-refl false = refl
+
+beq-says : (a b : Bool) → beq a b ≡ true → a ≡ b
+beq-says true true h = refl
+beq-says true false h = absurd (true≢false (sym h))
+beq-says false true h = absurd (true≢false (sym h))
+beq-says false false h = refl
+
+pub same_entry-refl : (a : AnnotatedTree) → same_entry a a ≡ true
+same_entry-refl a =
+    both (bytes_eq a.name a.name) (bytes_eq (role_word a.role) (role_word a.role) && (beq a.is_clause a.is_clause && same_formula a.formula a.formula))
+    (bytes-refl a.name)
+    (both (bytes_eq (role_word a.role) (role_word a.role)) (beq a.is_clause a.is_clause && same_formula a.formula a.formula)
+    (bytes-refl (role_word a.role))
+    (both (beq a.is_clause a.is_clause) (same_formula a.formula a.formula) (beq-refl a.is_clause) (same_formula-refl a.formula)))
+
+-- what is asked of an entry's parts
+abbrev same_parts : List ℕ → List ℕ → Bool → TermTree → AnnotatedTree → Bool
+same_parts name role is_clause code b =
+    bytes_eq name b.name && (bytes_eq role (role_word b.role) && (beq is_clause b.is_clause && same_term code (encoded b.formula)))
+
+-- what says the same as another says the same as whatever that does
+pub same_entry-like : (a b x : AnnotatedTree) → same_entry a b ≡ true → same_entry a x ≡ same_entry b x
+same_entry-like a b x h =
+    let first = and_parts (bytes_eq a.name b.name) (bytes_eq (role_word a.role) (role_word b.role) && (beq a.is_clause b.is_clause && same_formula a.formula b.formula)) h in
+    let second = and_parts (bytes_eq (role_word a.role) (role_word b.role)) (beq a.is_clause b.is_clause && same_formula a.formula b.formula) first.1 in
+    let third = and_parts (beq a.is_clause b.is_clause) (same_formula a.formula b.formula) second.1 in
+    ap (λ n. same_parts n (role_word a.role) a.is_clause (encoded a.formula) x) ((bytes_eq-Decides a.name b.name).0 first.0)
+    ∙ ap (λ r. same_parts b.name r a.is_clause (encoded a.formula) x) ((bytes_eq-Decides (role_word a.role) (role_word b.role)).0 second.0)
+    ∙ ap (λ k. same_parts b.name (role_word b.role) k (encoded a.formula) x) (beq-says a.is_clause b.is_clause third.0)
+    ∙ ap (λ e. same_parts b.name (role_word b.role) b.is_clause e x) (same_term-says (encoded a.formula) (encoded b.formula) third.1)
