@@ -1,5 +1,5 @@
 -- The check of a derivation, line by line.
-use Rattle.std.proofs.Common.{◌≡◌, inl, inr, ⊎_elim, ℕ, zero, suc, ◌+◌, ◌-◌, ◌<◌, ◌≤◌, Bool, true, false, Option, None, Some, Result, Ok, Err, List, [], ◌∷◌, ◌++◌, length, drop, refl, ap, sym, ◌∙◌, subst, arith}
+use Rattle.std.proofs.Common.{◌≡◌, inl, inr, ℕ, zero, suc, ◌+◌, ◌-◌, ◌<◌, ◌≤◌, Option, None, Some, Result, Ok, Err, List, [], ◌∷◌, ◌++◌, length, drop, refl, ap, sym, ◌∙◌, subst, arith}
 use Rattle.std.specs.Prelude.{IfOk, IfErr, IsErrAnd}
 use Rattle.std.proofs.lemmas.List.{length-append, length-map, drop_all, length-drop}
 use Rattle.tptp_token.specs.Lexemes.{Lexeme, lexeme_at}
@@ -15,7 +15,7 @@ use Rattle.clausal_form.specs.FormFunctions.{IsHerbrandRefuted}
 use Rattle.clausal_form.specs.DerivationLine.{LineTree, NamedLine, Taken, nothing_taken}
 use Rattle.clausal_form.specs.DerivationParts.{Setting, setting_of}
 use Rattle.clausal_form.specs.DerivationCauses.{Cause, LineVerdict, refused, taken, line_verdict}
-use Rattle.clausal_form.specs.DerivationLines.{all_taken, refused_at, after_line, then_line, lines_verdict_from, lines_verdict, Answer, accepted, refused_line}
+use Rattle.clausal_form.specs.DerivationLines.{all_taken, after_line, then_line, lines_verdict_from, lines_verdict, Answer, accepted, refused_line}
 use Rattle.clausal_form.specs.DerivationTexts.{SpellsLines, text_tokens, IsEnd, NoLineBegins, IsAcceptedDerivation, IsRefusedDerivation, IsAnswerOn}
 use Rattle.clausal_form.proofs.TextLemmas.{joined, verdict-joined}
 use Rattle.clausal_form.proofs.SpelledLemmas.{answered}

@@ -1,5 +1,5 @@
 -- A line is read where one can be, and nowhere else.
-use Rattle.std.proofs.Common.{◌≡◌, ⊎_elim, ℕ, ◌+◌, ◌-◌, ◌<◌, ◌≤◌, Option, None, Some, List, [], ◌∷◌, ◌++◌, length, take, drop, refl, ap, sym, ◌∙◌, subst, arith}
+use Rattle.std.proofs.Common.{◌≡◌, ⊎_elim, ℕ, ◌+◌, ◌-◌, ◌<◌, ◌≤◌, Option, None, Some, List, [], ◌∷◌, ◌++◌, length, take, drop, ap, sym, ◌∙◌, subst, arith}
 use Rattle.std.specs.Prelude.{IfSome, IfNone}
 use Rattle.std.proofs.Math.Seq.{take-append_seam}
 use Rattle.std.proofs.lemmas.List.{length-map, length-drop, take-map, drop-map, length-append}
@@ -11,7 +11,7 @@ use Rattle.tptp_tree.specs.Entries.{AnnotatedPhrase, annotated_lexemes}
 use Rattle.tptp_tree.specs.Causes.{Refusal, syntax, free_variable, role_not_taken, too_deep, left_out, annotated_causes}
 use Rattle.tptp_tree.specs.declared.limits.TheConstants.{MOST_DERIVATION_NESTING}
 use Rattle.tptp_tree.proofs.UniqueEntries.{annotated-same}
-use Rattle.tptp_reader.specs.Machine.{read_up_to, refused_at, an_annotated}
+use Rattle.tptp_reader.specs.Machine.{read_up_to, an_annotated}
 use Rattle.tptp_reader.specs.Answers.{IsReadAs}
 use Rattle.tptp_reader.specs.Placed.{verdict_at}
 use Rattle.tptp_reader.specs.Shape.{form_of}
@@ -30,7 +30,6 @@ use Rattle.clausal_form.specs.DerivationTexts.{IsLineOf, AreLinesOf, phrases_lex
 use Rattle.clausal_form.proofs.LengthLemmas.{annotated-longer}
 use Rattle.tstp_checker.specs.Lines.{line_meant}
 use Rattle.tstp_checker.specs.Reading.{IsLineAt}
-use Rattle.tstp_checker.specs.declared.reading.ReadLine.{ReadLine}
 
 -- ---- what is said of an option
 

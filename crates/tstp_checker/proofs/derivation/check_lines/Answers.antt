@@ -1,4 +1,4 @@
-use Rattle.std.proofs.Common.{◌≡◌, ◌≤◌, ◌∙◌, length, subst, arith, ap}
+use Rattle.std.proofs.Common.{◌≤◌, ◌∙◌, length, subst, arith, ap}
 use Rattle.tptp_token.specs.declared.token.Lexed.{Lexed}
 use Rattle.tstp_checker.specs.Lines.{setting_in, taken_in}
 use Rattle.tstp_checker.specs.Checking.{IsTakenAt}
