@@ -7,6 +7,7 @@ mod ProblemTrees
 mod ShownSymbols
 mod PlainTexts
 mod PlainSources
+mod SmallAtoms
 mod PlainTrees
 mod TermTexts
 mod NoteLemmas
