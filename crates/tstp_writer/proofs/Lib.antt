@@ -10,7 +10,12 @@ mod CauseLemmas
 mod ClausePhrases
 mod LineLemmas
 mod TextLemmas
-mod TakenShape
+mod WrittenNumbers
+mod WrittenClauses
+mod WrittenSteps
+mod WrittenBounds
+mod FormOrigins
+mod DerivedLemmas
 mod SameLemmas
 mod PlaceLemmas
 mod WalkLemmas

@@ -32,10 +32,11 @@ use Rattle.tptp_problem.proofs.ClosedLemmas.{problem-closed}
 use Rattle.tptp_source.specs.declared.sign.NumberSign.TheVariants.{Unsigned}
 use Rattle.tptp_source.specs.General.{GeneralTree, number}
 use Rattle.tptp_source.specs.Sources.{word_of}
+use Rattle.kernel_steps.specs.declared.step.Step.TheVariants.{Negate}
 use Rattle.clausal_form.specs.DerivationLine.{entry_of}
 use Rattle.tstp_writer.specs.SourceTexts.{is_number_name, name_term, source_term}
 use Rattle.tstp_writer.specs.Levels.{formula_levels, general_levels}
-use Rattle.tstp_writer.specs.LineTrees.{Script, Layout, line_name, cited_name, negate_source, input_tree, negate_tree}
+use Rattle.tstp_writer.specs.LineTrees.{Script, Layout, line_name, cited_name, step_source, input_tree, negate_tree}
 use Rattle.tstp_writer.specs.Printable.{IsShown, IsWritable, is_clause_formula, IsFormOf, IsPrintable}
 use Rattle.tstp_writer.specs.ProblemLaws.{IsPrintableEntry, HasPrintableLines}
 use Rattle.tstp_writer.proofs.ProblemLevels.{parentheses-one, body-levels}
@@ -63,7 +64,7 @@ digits-printable (suc k) n acc h =
     by true here more = here
     by false here more = more
 
-decimal-printable : (n : ℕ) → list_all is_printable (decimal n) ≡ true
+pub decimal-printable : (n : ℕ) → list_all is_printable (decimal n) ≡ true
 unfolding digits
 decimal-printable n = digits-printable 64 n [] refl
 
@@ -78,14 +79,14 @@ line_name-shown n = record {
 abbrev chosen_term : Bool → List ℕ → GeneralTree
 chosen_term t n = if t then number Unsigned n else word_of n []
 
-name-writable : (n : List ℕ) → IsShown n → IsWritable (name_term n)
+pub name-writable : (n : List ℕ) → IsShown n → IsWritable (name_term n)
 name-writable n h = by (is_number_name n) refl
   where
     by : (t : Bool) → is_number_name n ≡ t → IsWritable (chosen_term t n)
     by true e = (tt, e)
     by false e = (h, tt)
 
-name-levels : (n : List ℕ) → general_levels (name_term n) ≡ 0
+pub name-levels : (n : List ℕ) → general_levels (name_term n) ≡ 0
 name-levels n = by (is_number_name n)
   where
     by : (t : Bool) → general_levels (chosen_term t n) ≡ 0
@@ -182,7 +183,7 @@ input-printable a e script name file shown =
       source_levels = omega (arith, levels);
     }
 
-printed-negation : (f : FormulaTree) → SpellsFormula (formula_text f) f → SpellsFormula (formula_text (negation f)) (negation f)
+pub printed-negation : (f : FormulaTree) → SpellsFormula (formula_text f) f → SpellsFormula (formula_text (negation f)) (negation f)
 printed-negation f s =
     let g : FormulaTree = negation f in
     let well : WellFormula g = subst WellFormula s.2 (spelled-well (formula_text f) s.0 s.1) in (
@@ -192,8 +193,8 @@ printed-negation f s =
       formula-meant g well,
     )
 
-negate-written : (layout : Layout) (place : ℕ) → IsWritable (source_term (negate_source layout place))
-negate-written layout place =
+negate-written : (script : Script) (layout : Layout) (place : ℕ) → IsWritable (source_term (step_source script layout (Negate place)))
+negate-written script layout place =
     let shown : IsShown (codes "inference") = record { printable = refl; some = omega arith } in
     let rule : IsShown (codes "negate") = record { printable = refl; some = omega arith } in
     let status : IsShown (codes "status") = record { printable = refl; some = omega arith } in
@@ -202,10 +203,10 @@ negate-written layout place =
     (shown, ((rule, tt), (((status, ((what, tt), tt)), tt), ((parent, tt), tt))))
 
 negation-printable :
-    (a : AnnotatedTree) → IsPrintableEntry a → (layout : Layout) (name : List ℕ) (place : ℕ) → is_conjecture a.role ≡ true → IsShown name
-    → IsPrintable (negate_tree layout name place a)
-negation-printable a e layout name place c shown =
-    let levels : general_levels (source_term (negate_source layout place)) ≡ 3 =
+    (a : AnnotatedTree) → IsPrintableEntry a → (script : Script) (layout : Layout) (name : List ℕ) (place : ℕ)
+    → is_conjecture a.role ≡ true → IsShown name → IsPrintable (negate_tree script layout name place a)
+negation-printable a e script layout name place c shown =
+    let levels : general_levels (source_term (step_source script layout (Negate place))) ≡ 3 =
     ap (λ n. suc (max 0 (max 2 (max (suc (max n 0)) 0)))) (name-levels (cited_name layout place)) in
     record {
       name = shown;
@@ -214,7 +215,7 @@ negation-printable a e layout name place c shown =
       spelled = printed-negation a.formula e.spelled;
       form = subst (λ b. IsFormOf b a.formula) (no_cnf a.is_clause (sym (ap (λ t. a.is_clause && t) c) ∙ e.role)) e.form;
       levels = omega (arith, e.levels, parentheses-one (not (is_bare a.formula)) (formula_levels a.formula));
-      source = negate-written layout place;
+      source = negate-written script layout place;
       source_levels = omega (arith, levels);
     }
   where

@@ -30,11 +30,11 @@ input-of script name None h file shown = tt
 input-of script name (Some a) h file shown = h.input script name file shown
 
 negation-of :
-    (layout : Layout) (name : List ℕ) (place : ℕ) (o : Option AnnotatedTree) → IfSome o HasPrintableLines
+    (script : Script) (layout : Layout) (name : List ℕ) (place : ℕ) (o : Option AnnotatedTree) → IfSome o HasPrintableLines
     → unwrap_or (option_map (λ (a : AnnotatedTree). is_conjecture a.role) o) false ≡ true → IsShown name
-    → IfSome (option_map (negate_tree layout name place) o) IsPrintable
-negation-of layout name place None h c shown = tt
-negation-of layout name place (Some a) h c shown = h.negated layout name place c shown
+    → IfSome (option_map (negate_tree script layout name place) o) IsPrintable
+negation-of script layout name place None h c shown = tt
+negation-of script layout name place (Some a) h c shown = h.negated script layout name place c shown
 
 pub script-printable :
     (told : Option Holdings) (file : List ℕ) (root : Option (List ℕ)) (formulas : List Annotated) → IsProblem told file root (map placed formulas)
@@ -44,7 +44,7 @@ script-printable told file root formulas h name shown =
     let script : Script = script_of name formulas in
     record {
       input = λ line place l. input-of script line (slice_get script.formulas place) (lines-at-place formulas place all) shown l;
-      negated = λ layout line place c l. negation-of layout line place (slice_get script.formulas place) (lines-at-place formulas place all) c l;
+      negated = λ layout line place c l. negation-of script layout line place (slice_get script.formulas place) (lines-at-place formulas place all) c l;
     }
 
 -- ---- lists of lines

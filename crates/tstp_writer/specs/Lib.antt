@@ -8,6 +8,7 @@ pub mod LineTexts
 pub mod ClauseTrees
 pub mod LineTrees
 pub mod PlainLines
+pub mod DerivedLines
 pub mod NameTexts
 pub mod Scripts
 pub mod Places

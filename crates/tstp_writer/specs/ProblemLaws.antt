@@ -28,8 +28,8 @@ pub record IsPrintableEntry (a : AnnotatedTree) : Type 0 where
 pub record HasPrintableLines (a : AnnotatedTree) : Type 0 where
   pub input : (script : Script) (name : List ℕ) → IsShown script.file → IsShown name → IsPrintable (input_tree script name a)
   pub negated :
-      (layout : Layout) (name : List ℕ) (place : ℕ) → is_conjecture a.role ≡ true → IsShown name
-      → IsPrintable (negate_tree layout name place a)
+      (script : Script) (layout : Layout) (name : List ℕ) (place : ℕ) → is_conjecture a.role ≡ true → IsShown name
+      → IsPrintable (negate_tree script layout name place a)
 
 -- the lines of a script's formulas, by their places
 pub record HasPrintableFormulas (script : Script) : Type 0 where

@@ -11,6 +11,7 @@ ghost use Rattle.tstp_writer.specs.ConeLaws.{DerivationsNeedEarlier};
 ghost use Rattle.tptp_tree.specs.Term.{variable, no_terms};
 ghost use Rattle.tptp_tree.specs.Formula.{implies, for_all, truth, falsity, predicate, equation, negation, conjunction, connected, quantified, no_formulas, formula_then};
 ghost use Rattle.tstp_writer.specs.Levels.{formula_levels};
+ghost use Rattle.tstp_writer.specs.DerivedLines.{DerivedLinesAreTaken};
 ghost use Rattle.tstp_writer.specs.LineTexts.{lines_text};
 ghost use Rattle.tstp_writer.specs.LineTrees.{script_of, derivation_trees};
 ghost use Rattle.tstp_writer.specs.Printable.{PrintedLinesAreSpelled};
@@ -79,6 +80,11 @@ pub fn written_examples()
 /// The printed text of lines that can be printed spells them.
 pub fn printed_lines_are_spelled()
     ensures { PrintedLinesAreSpelled }
+{}
+
+/// A line of a derivation without variables and names is taken when it is read again, behind lines among which its parents are.
+pub fn derived_lines_are_taken()
+    ensures { DerivedLinesAreTaken }
 {}
 
 /// The lines that are written for a refutation in plain lines are accepted.
