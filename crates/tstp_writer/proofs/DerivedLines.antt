@@ -1,5 +1,5 @@
 -- The lines of a refutation are taken one after another, behind those of the formulas and of their negations.
-use Rattle.std.proofs.Common.{◌≡◌, ◌⊎◌, inl, inr, ℕ, ◌+◌, ◌<◌, ◌≤◌, ◌^◌, Bool, true, false, not, ◌&&◌, ◌||◌, ◌==◌, List, [], ◌∷◌, ◌++◌, map, take, length, Option, None, Some, suc, refl, ap, ap₂, sym, ◌∙◌, subst, arith, ⊎_elim, append_assoc, append-nil, length-append}
+use Rattle.std.proofs.Common.{◌≡◌, ◌⊎◌, inl, inr, ℕ, ◌+◌, ◌<◌, ◌≤◌, ◌^◌, Bool, true, false, not, ◌==◌, List, [], ◌∷◌, ◌++◌, map, take, length, Option, None, Some, suc, refl, ap, ap₂, sym, ◌∙◌, subst, arith, ⊎_elim, append_assoc, length-append}
 use Rattle.std.specs.Prelude.{slice_get, filter_map, bytes_eq, option_map, option_and_then, unwrap_or, if◌then◌else◌}
 use Rattle.std.specs.List.{list_any, AllByRecursion, cons_option}
 use Rattle.std.proofs.lemmas.Bool.{or_cases, or_left, or_right, and_from, not_from_false, eqb-true, eq-eqb, false≢true}
@@ -18,16 +18,16 @@ use Rattle.kernel_steps.specs.declared.step.Line.{Line}
 use Rattle.clausal_form.specs.DerivationSteps.{kind_of}
 use Rattle.clausal_form.specs.DerivationLine.{LineTree, same_entry, entry_of, kernel_line, NamedLine, names_with}
 use Rattle.clausal_form.specs.DerivationParts.{Setting, setting_of, entry_at, line_place}
-use Rattle.clausal_form.specs.DerivationCauses.{fits, is_line_of, is_conjecture_at as is_conjecture_in, taken, line_verdict}
+use Rattle.clausal_form.specs.DerivationCauses.{fits, is_conjecture_at as is_conjecture_in, taken, line_verdict}
 use Rattle.tstp_writer.specs.Cone.{parents_of, has_number, IsRising}
-use Rattle.tstp_writer.specs.LineTrees.{Script, script_of, is_conjecture_at, origin, Layout, comes_from, lines_at, layout_of, line_name, place_in, cited_name, negated_name, derived_name, origin_name, step_source, input_at, negate_at, clause_tree, line_tree_by, line_tree, derived_tree}
+use Rattle.tstp_writer.specs.LineTrees.{Script, script_of, is_conjecture_at, origin, Layout, comes_from, lines_at, layout_of, line_name, place_in, cited_name, negated_name, derived_name, step_source, input_at, negate_at, clause_tree, line_tree_by, line_tree, derived_tree}
 use Rattle.tstp_writer.specs.PlainLines.{is_plain_step, IsPlainLine, written_place, placed_step, first_place, taken_as, inputs_taken, negations_taken, derived_taken, all_written}
 use Rattle.tstp_writer.specs.DerivedLines.{ParentIsTaken, OriginIsTaken, SourcesAreTaken}
 use Rattle.tstp_writer.specs.Places.{IsCounted}
 use Rattle.tstp_writer.specs.WrittenLaws.{IsPlainRefutation}
 use Rattle.tstp_writer.proofs.SameLemmas.{entry-turned, same-conjecture}
 use Rattle.tstp_writer.proofs.PlaceLemmas.{there-below, kept-there, there-behind, number-there, has-passing, has-between, all-passing, passing-pass, all-from, all-below, rising-passing, rising-numbers, AllPlaced, rising-placed, stands-before, AreNamed, named-joined, name-new}
-use Rattle.tstp_writer.proofs.WalkLemmas.{state, Walks, walk-none, walk-line, walk-both}
+use Rattle.tstp_writer.proofs.WalkLemmas.{state, Walks, walk-none, walk-line}
 use Rattle.tstp_writer.proofs.InputLines.{IsFirstPlace, first-place, entry-there, input_taken, negation_taken, inputs-walk, HasInputs, HasNegations, has-inputs, has-negations, found-there, negations-walk, inputs-length, negations-length, inputs-named, negations-named, inputs-stand, negations-stand}
 use Rattle.tstp_writer.proofs.OriginLemmas.{IsBelow, form-origin}
 use Rattle.tstp_writer.proofs.ConeLemmas.{IsClauseLine, plain-there, cone-line, IsConeParent, cone-parent}

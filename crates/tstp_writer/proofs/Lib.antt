@@ -14,13 +14,12 @@ mod WrittenNumbers
 mod WrittenClauses
 mod WrittenSteps
 mod WrittenBounds
-mod FormOrigins
+mod OriginLemmas
 mod DerivedLemmas
 mod SameLemmas
 mod PlaceLemmas
 mod WalkLemmas
 mod InputLines
-mod OriginLemmas
 mod ConeLemmas
 mod DerivedLines
 mod WrittenLines
