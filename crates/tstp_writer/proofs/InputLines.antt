@@ -78,11 +78,11 @@ module _ (file : List ℕ) (problem : List Annotated) where
   from_place ls t o =
       if not (list_all is_some (o ∷ [])) then refused unknown_parent
       else
-        compared s (state ls) t
-        (unwrap_or
-        (option_and_then (negation_from s)
-        (option_and_then (λ n. option_map (λ (l : NamedLine). (l.line).step) (slice_get ls n)) (only_one (filter_map (λ p. p) (o ∷ [])))))
-        (fault rule))
+      compared s (state ls) t
+      (unwrap_or
+      (option_and_then (negation_from s)
+      (option_and_then (λ n. option_map (λ (l : NamedLine). (l.line).step) (slice_get ls n)) (only_one (filter_map (λ p. p) (o ∷ [])))))
+      (fault rule))
 
   abbrev from_line : List NamedLine → LineTree → Option NamedLine → LineVerdict
   from_line ls t o =
