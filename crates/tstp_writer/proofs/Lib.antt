@@ -15,3 +15,16 @@ mod CauseLemmas
 mod ClausePhrases
 mod LineLemmas
 mod TextLemmas
+mod WrittenNumbers
+mod WrittenClauses
+mod WrittenSteps
+mod WrittenBounds
+mod OriginLemmas
+mod DerivedLemmas
+mod SameLemmas
+mod PlaceLemmas
+mod WalkLemmas
+mod InputLines
+mod ConeLemmas
+mod DerivedLines
+mod WrittenLines

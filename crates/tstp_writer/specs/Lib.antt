@@ -9,9 +9,11 @@ pub mod ClauseTrees
 pub mod LineTrees
 pub mod PlainLines
 pub mod WrittenTexts
+pub mod DerivedLines
 pub mod NameTexts
 pub mod Scripts
 pub mod Places
 pub mod Levels
 pub mod Printable
 pub mod TextExamples
+pub mod WrittenLaws

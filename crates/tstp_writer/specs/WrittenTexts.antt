@@ -1,5 +1,5 @@
 -- Lines without variables, equations and names can be printed, and their printed text spells them.
-use Rattle.std.specs.Prelude.{◌≡◌, ℕ, suc, ◌≤◌, nat_le, Bool, List, map, Option, Some, slice_get, IfSome, IsTrue}
+use Rattle.std.specs.Prelude.{◌≡◌, ℕ, suc, ◌≤◌, nat_le, Bool, List, map, length, Option, Some, slice_get, IfSome, IsTrue}
 use Rattle.std.specs.List.{list_all, AllByRecursion}
 use Rattle.outside.specs.Library.{Holdings}
 use Rattle.fol_base.specs.Tree.{tree_size}
@@ -14,11 +14,13 @@ use Rattle.signature.specs.Form.{clausal_form}
 use Rattle.kernel_steps.specs.Derivation.{IsDerivation}
 use Rattle.kernel_steps.specs.declared.step.Line.{Line}
 use Rattle.clausal_form.specs.DerivationLine.{LineTree}
-use Rattle.clausal_form.specs.DerivationTexts.{SpellsDerivation}
+use Rattle.clausal_form.specs.DerivationTexts.{SpellsDerivation, IsAcceptedDerivation}
 use Rattle.tstp_writer.specs.LineTexts.{lines_text}
-use Rattle.tstp_writer.specs.LineTrees.{script_of, Layout, lines_at, derived_tree, derivation_trees}
+use Rattle.tstp_writer.specs.LineTrees.{script_of, Layout, layout_of, lines_at, derived_tree, derivation_trees}
 use Rattle.tstp_writer.specs.PlainLines.{IsPlainLine}
+use Rattle.tstp_writer.specs.Places.{IsCounted}
 use Rattle.tstp_writer.specs.Printable.{IsShown, IsPrintable}
+use Rattle.tstp_writer.specs.WrittenLaws.{IsPlainRefutation}
 
 -- ---- symbols
 
@@ -83,3 +85,14 @@ PlainDerivationsAreSpelled =
     → AreSmallClauses (clausal_form problem).clauses → IsDerivation (clausal_form problem).clauses lines
     → AllByRecursion (IsPlainLine (clausal_form problem).symbols) lines
     → IsSpelledByText (derivation_trees (script_of name problem) lines numbers)
+
+-- Where the lines are a refutation of a problem that was read, with small clauses, and are counted by a machine word, the text is an
+-- accepted derivation.
+abbrev pub WrittenTextsAreAccepted : Type 0
+WrittenTextsAreAccepted =
+    (told : Option Holdings) (file : List ℕ) (root : Option (List ℕ)) (problem : List Annotated)
+    → IsProblem told file root (map placed problem) → AreSmallClauses (clausal_form problem).clauses
+    → (name : List ℕ) → IsShown name → (lines : List Line) (last : ℕ) (numbers : List ℕ)
+    → IsPlainRefutation problem lines last numbers → IsCounted (layout_of (script_of name problem) lines numbers)
+    → IsAcceptedDerivation problem (lines_text (derivation_trees (script_of name problem) lines numbers))
+    (length (derivation_trees (script_of name problem) lines numbers))

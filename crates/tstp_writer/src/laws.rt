@@ -11,11 +11,13 @@ ghost use Rattle.tstp_writer.specs.ConeLaws.{DerivationsNeedEarlier};
 ghost use Rattle.tptp_tree.specs.Term.{variable, no_terms};
 ghost use Rattle.tptp_tree.specs.Formula.{implies, for_all, truth, falsity, predicate, equation, negation, conjunction, connected, quantified, no_formulas, formula_then};
 ghost use Rattle.tstp_writer.specs.Levels.{formula_levels};
+ghost use Rattle.tstp_writer.specs.DerivedLines.{DerivedLinesAreTaken};
 ghost use Rattle.tstp_writer.specs.LineTexts.{lines_text};
 ghost use Rattle.tstp_writer.specs.LineTrees.{script_of, derivation_trees};
 ghost use Rattle.tstp_writer.specs.Printable.{PrintedLinesAreSpelled};
 ghost use Rattle.tstp_writer.specs.ProblemLaws.{ProblemFormulasArePrintable, ProblemLinesArePrintable, ScriptFormulasArePrintable, BeginningsArePrintable, LineNamesAreShown};
-ghost use Rattle.tstp_writer.specs.WrittenTexts.{FormSymbolsAreShown, PlainLinesHaveSmallAtoms, PlainLinesArePrintable, PlainDerivationsArePrintable, PlainDerivationsAreSpelled};
+ghost use Rattle.tstp_writer.specs.WrittenTexts.{FormSymbolsAreShown, PlainLinesHaveSmallAtoms, PlainLinesArePrintable, PlainDerivationsArePrintable, PlainDerivationsAreSpelled, WrittenTextsAreAccepted};
+ghost use Rattle.tstp_writer.specs.WrittenLaws.{WrittenLinesAreAccepted};
 ghost use Rattle.tstp_writer.specs.TextExamples.{implication_steps, implication_numbers, implication_text, components_steps, components_numbers, components_text};
 
 /// The lines of a derivation need earlier lines alone.
@@ -97,4 +99,19 @@ pub fn plain_derivations_are_spelled()
     ensures lines { PlainLinesArePrintable }
     ensures derivations { PlainDerivationsArePrintable }
     ensures texts { PlainDerivationsAreSpelled }
+{}
+
+/// A line of a derivation without variables and names is taken when it is read again, behind lines among which its parents are.
+pub fn derived_lines_are_taken()
+    ensures { DerivedLinesAreTaken }
+{}
+
+/// The lines that are written for a refutation in plain lines are accepted.
+pub fn written_lines_are_accepted()
+    ensures { WrittenLinesAreAccepted }
+{}
+
+/// The printed text of what is written for a refutation in plain lines is an accepted derivation.
+pub fn written_texts_are_accepted()
+    ensures { WrittenTextsAreAccepted }
 {}

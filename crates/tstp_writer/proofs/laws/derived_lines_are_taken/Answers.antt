@@ -1,0 +1,5 @@
+use Rattle.tstp_writer.proofs.DerivedLemmas.{derived-taken}
+use Rattle.tstp_writer.proofs.laws.derived_lines_are_taken.Goals as goal
+
+pub returns : goal.returns
+returns c = derived-taken
