@@ -1,6 +1,6 @@
 -- The cone of a refutation in plain lines: all its lines are clause lines, and `last` is the highest of their numbers.
 use Rattle.std.proofs.Common.{◌≡◌, ℕ, ◌<◌, ◌≤◌, Bool, true, false, ◌==◌, List, [], ◌∷◌, take, Option, None, Some, refl, ap, sym, ◌∙◌, arith, ⊎_elim}
-use Rattle.std.specs.Prelude.{slice_get, option_map, unwrap_or, nat_le, IsTrue}
+use Rattle.std.specs.Prelude.{slice_get, option_map, unwrap_or, nat_le}
 use Rattle.std.proofs.lemmas.Bool.{or_cases, eqb-true, le-leb, leb-true, false≢true}
 use Rattle.fol_base.specs.Rules.{superposed, resolved, merged}
 use Rattle.fol_base.specs.Clause.{TreeClause}
@@ -8,14 +8,14 @@ use Rattle.fol_base.specs.Literal.{clause_of}
 use Rattle.tptp_tree.specs.declared.problem.Annotated.{Annotated}
 use Rattle.signature.specs.Form.{clausal_form}
 use Rattle.kernel_steps.specs.Parents.{Parent, Parents}
-use Rattle.kernel_steps.specs.Conclusion.{concludes, verdict}
+use Rattle.kernel_steps.specs.Conclusion.{concludes}
 use Rattle.kernel_steps.specs.Derivation.{is_clause_step, line_parents, ComesBy}
 use Rattle.kernel_steps.specs.declared.step.Step.{Step}
 use Rattle.kernel_steps.specs.declared.step.Step.TheVariants.{Input, Negate, Clausify, Para, Refl, Factor, Merge, Component, Opposite, Split, Chain}
 use Rattle.kernel_steps.specs.declared.step.Line.{Line}
 use Rattle.kernel_steps.proofs.LineLemmas.{ParentLine, parent_line}
 use Rattle.kernel_steps.proofs.VerdictParts.{by_one-parts, by_two-parts}
-use Rattle.tstp_writer.specs.Cone.{parents_of, has_number, needs, IsClosed, IsNeeded}
+use Rattle.tstp_writer.specs.Cone.{parents_of, has_number, needs, IsClosed}
 use Rattle.tstp_writer.specs.PlainLines.{is_plain_step, IsPlainLine}
 use Rattle.tstp_writer.specs.WrittenLaws.{IsPlainRefutation}
 use Rattle.tstp_writer.proofs.EarlierLemmas.{need-earlier}

@@ -42,7 +42,7 @@ use Rattle.tstp_writer.proofs.WrittenNumbers.{decimal-back}
 use Rattle.tstp_writer.proofs.WrittenClauses.{AreKnown, IsClauseBack, clause-back}
 use Rattle.tstp_writer.proofs.WrittenSteps.{para-back, refl-back, merge-back, parent-back}
 use Rattle.tstp_writer.proofs.WrittenBounds.{ParaFits, para-fits, refl-fits, merge-fits}
-use Rattle.tstp_writer.proofs.FormOrigins.{origin-there}
+use Rattle.tstp_writer.proofs.OriginLemmas.{origin-there}
 
 -- ---- a clause is equal to itself
 

@@ -1,5 +1,5 @@
 -- The lines of a refutation are taken one after another, behind those of the formulas and of their negations.
-use Rattle.std.proofs.Common.{◌≡◌, ◌⊎◌, inl, inr, ℕ, ◌+◌, ◌<◌, ◌≤◌, ◌^◌, Bool, true, false, not, ◌&&◌, ◌||◌, ◌==◌, List, [], ◌∷◌, ◌++◌, map, take, length, Option, None, Some, suc, refl, ap, ap₂, sym, ◌∙◌, subst, arith, ⊎_elim, append_assoc, append-nil, length-append}
+use Rattle.std.proofs.Common.{◌≡◌, ◌⊎◌, inl, inr, ℕ, ◌+◌, ◌<◌, ◌≤◌, ◌^◌, Bool, true, false, not, ◌==◌, List, [], ◌∷◌, ◌++◌, map, take, length, Option, None, Some, suc, refl, ap, ap₂, sym, ◌∙◌, subst, arith, ⊎_elim, append_assoc, length-append}
 use Rattle.std.specs.Prelude.{slice_get, filter_map, bytes_eq, option_map, option_and_then, unwrap_or, if◌then◌else◌}
 use Rattle.std.specs.List.{list_any, AllByRecursion, cons_option}
 use Rattle.std.proofs.lemmas.Bool.{or_cases, or_left, or_right, and_from, not_from_false, eqb-true, eq-eqb, false≢true}
@@ -18,19 +18,20 @@ use Rattle.kernel_steps.specs.declared.step.Line.{Line}
 use Rattle.clausal_form.specs.DerivationSteps.{kind_of}
 use Rattle.clausal_form.specs.DerivationLine.{LineTree, same_entry, entry_of, kernel_line, NamedLine, names_with}
 use Rattle.clausal_form.specs.DerivationParts.{Setting, setting_of, entry_at, line_place}
-use Rattle.clausal_form.specs.DerivationCauses.{fits, is_line_of, is_conjecture_at as is_conjecture_in, taken, line_verdict}
+use Rattle.clausal_form.specs.DerivationCauses.{fits, is_conjecture_at as is_conjecture_in, taken, line_verdict}
 use Rattle.tstp_writer.specs.Cone.{parents_of, has_number, IsRising}
-use Rattle.tstp_writer.specs.LineTrees.{Script, script_of, is_conjecture_at, origin, Layout, comes_from, lines_at, layout_of, line_name, place_in, cited_name, negated_name, derived_name, origin_name, step_source, input_at, negate_at, clause_tree, line_tree_by, line_tree, derived_tree}
-use Rattle.tstp_writer.specs.PlainLines.{is_plain_step, written_place, placed_step, first_place, taken_as, inputs_taken, negations_taken, derived_taken, all_written}
+use Rattle.tstp_writer.specs.LineTrees.{Script, script_of, is_conjecture_at, origin, Layout, comes_from, lines_at, layout_of, line_name, place_in, cited_name, negated_name, derived_name, step_source, input_at, negate_at, clause_tree, line_tree_by, line_tree, derived_tree}
+use Rattle.tstp_writer.specs.PlainLines.{is_plain_step, IsPlainLine, written_place, placed_step, first_place, taken_as, inputs_taken, negations_taken, derived_taken, all_written}
+use Rattle.tstp_writer.specs.DerivedLines.{ParentIsTaken, OriginIsTaken, SourcesAreTaken}
 use Rattle.tstp_writer.specs.Places.{IsCounted}
-use Rattle.tstp_writer.specs.WrittenLaws.{HasWordNumbers, IsPlainRefutation}
+use Rattle.tstp_writer.specs.WrittenLaws.{IsPlainRefutation}
 use Rattle.tstp_writer.proofs.SameLemmas.{entry-turned, same-conjecture}
-use Rattle.tstp_writer.proofs.PlaceLemmas.{there-below, kept-there, there-behind, all-there, number-there, has-passing, has-between, all-passing, passing-pass, all-have, all-below, rising-passing, rising-numbers, AllPlaced, rising-placed, stands-before, AreNamed, named-joined, name-new}
-use Rattle.tstp_writer.proofs.WalkLemmas.{state, Walks, walk-none, walk-line, walk-both}
+use Rattle.tstp_writer.proofs.PlaceLemmas.{there-below, kept-there, there-behind, number-there, has-passing, has-between, all-passing, passing-pass, all-from, all-below, rising-passing, rising-numbers, AllPlaced, rising-placed, stands-before, AreNamed, named-joined, name-new}
+use Rattle.tstp_writer.proofs.WalkLemmas.{state, Walks, walk-none, walk-line}
 use Rattle.tstp_writer.proofs.InputLines.{IsFirstPlace, first-place, entry-there, input_taken, negation_taken, inputs-walk, HasInputs, HasNegations, has-inputs, has-negations, found-there, negations-walk, inputs-length, negations-length, inputs-named, negations-named, inputs-stand, negations-stand}
 use Rattle.tstp_writer.proofs.OriginLemmas.{IsBelow, form-origin}
 use Rattle.tstp_writer.proofs.ConeLemmas.{IsClauseLine, plain-there, cone-line, IsConeParent, cone-parent}
-use Rattle.tstp_writer.proofs.TakenShape.{IsTakenParent, IsTakenOrigin, HasOrigin, IsNext, DerivedLineIsTaken}
+use Rattle.tstp_writer.proofs.DerivedLemmas.{derived-taken}
 
 -- ---- lists
 
@@ -140,7 +141,8 @@ module _ (file : List ℕ) (problem : List Annotated) (lines : List Line) (numbe
       (omega arith) (inputs-named file problem 0 layout.cited) (inputs-stand file problem layout)
       (rising-placed layout.negated (rising-passing (is_conjecture_at script) layout.cited cited-rising))
       (all-passing (λ p. p < length problem) (is_conjecture_at script) layout.cited cited-below)
-      (all-passing (λ p. has_number layout.cited p ≡ true) (is_conjecture_at script) layout.cited (all-have layout.cited))
+      (all-passing (λ p. has_number layout.cited p ≡ true) (is_conjecture_at script) layout.cited
+      (all-from (λ p. has_number layout.cited p ≡ true) layout.cited (λ p h. h)))
       (passing-pass (is_conjecture_at script) layout.cited)
       (omega (arith, small))
 
@@ -150,7 +152,6 @@ module _ (file : List ℕ) (problem : List Annotated) (lines : List Line) (numbe
   derived_line m line = taken_as (derived_name layout m) (kernel_line (placed_step layout line.step) (clause_of line.clause))
 
   pub record Stands (ls : List NamedLine) (before : List ℕ) : Type 0 where
-    pub written : ls ≡ all_written problem layout lines before
     pub named : AreNamed 0 ls
     pub long : length ls ≡ length layout.cited + length layout.negated + length before
     pub has_inputs : HasInputs file problem layout ls
@@ -164,7 +165,6 @@ module _ (file : List ℕ) (problem : List Annotated) (lines : List Line) (numbe
       let first : length inputs ≡ length layout.cited = inputs-length file problem 0 layout.cited in
       let second : length negations ≡ length layout.negated = negations-length file problem (length layout.cited) layout.negated in
       record {
-        written = sym (append-nil (inputs ++ negations));
         named =
             named-joined 0 (length layout.cited) inputs negations (omega (arith, first)) (inputs-named file problem 0 layout.cited)
             (negations-named file problem (length layout.cited) layout.negated);
@@ -201,7 +201,6 @@ module _ (file : List ℕ) (problem : List Annotated) (lines : List Line) (numbe
       let one : List NamedLine = derived_line n line ∷ [] in
       let number : written_place layout n ≡ length ls = omega (arith, st.long, place) in
       record {
-        written = ap (λ ks. ks ++ one) st.written ∙ written-more before n line at;
         named = named-joined 0 (length ls) ls one (omega arith) st.named (ap line_name number, tt);
         long = omega (arith, st.long, length-append ls one, length-append before (n ∷ []));
         has_inputs = has-inputs file problem layout ls one st.has_inputs;
@@ -244,10 +243,9 @@ module _ (file : List ℕ) (problem : List Annotated) (lines : List Line) (numbe
   clausify-origin :
       (ls : List NamedLine) (before : List ℕ) (n : ℕ) (line : Line) (i : ℕ) → Stands ls before → length ls ≤ 2 ^ 64
       → slice_get lines n ≡ Some line → has_number numbers n ≡ true → line.step ≡ Clausify i
-      → slice_get (clausal_form problem).clauses i ≡ Some (clause_of line.clause) → IsTakenOrigin file problem layout (state ls) i
+      → slice_get (clausal_form problem).clauses i ≡ Some (clause_of line.clause) → OriginIsTaken problem script layout (state ls) i
   clausify-origin ls before n line i st small at has step_is comes =
       let b : IsBelow (clausal_form problem).origins i (length problem) = form-origin problem i (clause_of line.clause) comes in
-      let o : ℕ = origin script i in
       let o_is : origin script i ≡ b.origin = ap (λ x. unwrap_or x 0) b.there in
       let low : origin script i < length problem = omega (arith, b.below, o_is) in
       let comes_here : comes_from script (origin script i) line.step ≡ true =
@@ -256,113 +254,109 @@ module _ (file : List ℕ) (problem : List Annotated) (lines : List Line) (numbe
       has-passing cites (numbers_from 0 (length script.formulas)) (origin script i)
       (has-between 0 (length script.formulas) (origin script i) (omega arith) (omega (arith, low, formulas-length problem)))
       (any-there (λ (l : Line). comes_from script (origin script i) l.step) lines numbers n line has at comes_here) in
-      by (b.there ∙ ap Some (sym o_is)) is_cited (originates (origin script i) low) (is_conjecture_at script (origin script i)) refl
+      by is_cited (originates (origin script i) low) (is_conjecture_at script (origin script i)) refl
     where
       by :
-          slice_get (clausal_form problem).origins i ≡ Some (origin script i) → has_number layout.cited (origin script i) ≡ true
-          → Originates (origin script i) → (t : Bool) → is_conjecture_at script (origin script i) ≡ t
-          → IsTakenOrigin file problem layout (state ls) i
-      by known is_cited first true e =
+          has_number layout.cited (origin script i) ≡ true → Originates (origin script i)
+          → (t : Bool) → is_conjecture_at script (origin script i) ≡ t → OriginIsTaken problem script layout (state ls) i
+      by is_cited first true e =
           let o : ℕ = origin script i in
           let stands = st.has_negations o (has-passing (is_conjecture_at script) layout.cited o is_cited e) in
           record {
-            known = known;
-            at = length layout.cited + place_in o layout.negated;
-            place =
+            place = length layout.cited + place_in o layout.negated;
+            there =
                 ap (λ c. line_place (state ls) (if c then negated_name layout o else cited_name layout o)) e
                 ∙ found-there file problem (length layout.cited + place_in o layout.negated) ls
                 (negation_taken file problem (negated_name layout o) o) stands small st.named;
-            line = negation_taken file problem (negated_name layout o) o;
-            there = stands;
-            fits =
+            source = negation_taken file problem (negated_name layout o) o;
+            taken = stands;
+            is_its =
                 and_from (fits s (first_place problem o) o) (is_conjecture_in s (first_place problem o)) first.at_first
                 (first.conjectures ∙ e);
           }
-      by known is_cited first false e =
+      by is_cited first false e =
           let o : ℕ = origin script i in
           let stands = st.has_inputs o is_cited in
           record {
-            known = known;
-            at = place_in o layout.cited;
-            place =
+            place = place_in o layout.cited;
+            there =
                 ap (λ c. line_place (state ls) (if c then negated_name layout o else cited_name layout o)) e
                 ∙ found-there file problem (place_in o layout.cited) ls (input_taken file problem (cited_name layout o) o) stands small
                 st.named;
-            line = input_taken file problem (cited_name layout o) o;
-            there = stands;
-            fits =
+            source = input_taken file problem (cited_name layout o) o;
+            taken = stands;
+            is_its =
                 and_from (fits s (first_place problem o) o) (not (is_conjecture_in s (first_place problem o))) first.at_first
                 (not_from_false (is_conjecture_in s (first_place problem o)) (first.conjectures ∙ e));
           }
 
-  has-origin :
+  -- what a step goes on from
+  sources-taken :
       (ls : List NamedLine) (before : List ℕ) (n : ℕ) (line : Line) (step : Step) → Stands ls before → length ls ≤ 2 ^ 64
       → slice_get lines n ≡ Some line → has_number numbers n ≡ true → line.step ≡ step
-      → ComesBy step (clausal_form problem).clauses (take n lines) (clause_of line.clause) → HasOrigin file problem layout (state ls) step
-  has-origin ls before n line (Clausify i) st small at has step_is comes = clausify-origin ls before n line i st small at has step_is comes
-  has-origin ls before n line (Input place) st small at has step_is comes = tt
-  has-origin ls before n line (Negate place) st small at has step_is comes = tt
-  has-origin ls before n line (Para first second from from_side into into_side place first_bind second_bind) st small at has step_is comes = tt
-  has-origin ls before n line (Refl parent literal bind) st small at has step_is comes = tt
-  has-origin ls before n line (Factor parent becomes becomes_side other other_side bind) st small at has step_is comes = tt
-  has-origin ls before n line (Merge parent stays goes bind) st small at has step_is comes = tt
-  has-origin ls before n line (Component name) st small at has step_is comes = tt
-  has-origin ls before n line (Opposite name) st small at has step_is comes = tt
-  has-origin ls before n line (Split parent definitions parts) st small at has step_is comes = tt
-  has-origin ls before n line (Chain parents pivots) st small at has step_is comes = tt
+      → ComesBy step (clausal_form problem).clauses (take n lines) (clause_of line.clause)
+      → ((m : ℕ) → has_number (parents_of step) m ≡ true → ParentIsTaken layout lines (state ls) m)
+      → SourcesAreTaken problem script layout lines (state ls) step
+  sources-taken ls before n line (Clausify i) st small at has step_is comes parents =
+      clausify-origin ls before n line i st small at has step_is comes
+  sources-taken ls before n line (Input place) st small at has step_is comes parents = tt
+  sources-taken ls before n line (Negate place) st small at has step_is comes parents = tt
+  sources-taken ls before n line (Para first second from from_side into into_side place first_bind second_bind) st small at has step_is comes parents =
+      all-from (ParentIsTaken layout lines (state ls)) (first ∷ second ∷ []) parents
+  sources-taken ls before n line (Refl parent literal bind) st small at has step_is comes parents =
+      all-from (ParentIsTaken layout lines (state ls)) (parent ∷ []) parents
+  sources-taken ls before n line (Factor parent becomes becomes_side other other_side bind) st small at has step_is comes parents =
+      all-from (ParentIsTaken layout lines (state ls)) (parent ∷ []) parents
+  sources-taken ls before n line (Merge parent stays goes bind) st small at has step_is comes parents =
+      all-from (ParentIsTaken layout lines (state ls)) (parent ∷ []) parents
+  sources-taken ls before n line (Component name) st small at has step_is comes parents = tt
+  sources-taken ls before n line (Opposite name) st small at has step_is comes parents = tt
+  sources-taken ls before n line (Split parent definitions parts) st small at has step_is comes parents =
+      all-from (ParentIsTaken layout lines (state ls)) (parent ∷ definitions) parents
+  sources-taken ls before n line (Chain chained pivots) st small at has step_is comes parents =
+      all-from (ParentIsTaken layout lines (state ls)) chained parents
 
   -- ---- all lines of the derivation
 
   module _ (last : ℕ) (r : IsPlainRefutation problem lines last numbers) (counted : IsCounted layout) where
-    next-line :
+    line-taken :
         (ls : List NamedLine) (before : List ℕ) (n : ℕ) (after : List ℕ) (c : IsClauseLine lines n) → Stands ls before
         → before ++ n ∷ after ≡ numbers → place_in n numbers ≡ length before → has_number numbers n ≡ true
-        → IsNext file problem lines layout (state ls) n c.line
-    next-line ls before n after c st whole place has =
+        → line_verdict s (state ls)
+        (clause_tree script (derived_name layout n) (clause_of (c.line).clause) (step_source script layout (c.line).step))
+        ≡ taken (kernel_line (placed_step layout (c.line).step) (clause_of (c.line).clause))
+    line-taken ls before n after c st whole place has =
         let counted_lines : length layout.cited + length layout.negated + length numbers < 2 ^ 64 = counted in
         let number : written_place layout n ≡ length ls = omega (arith, st.long, place) in
         let low : place_in n numbers < length numbers = (number-there numbers n has).0 in
         let small : length ls < 2 ^ 64 = omega (arith, counted_lines, st.long, place, low) in
+        let plain : IsPlainLine (clausal_form problem).symbols c.line = plain-there problem lines last numbers r n c.line c.there in
+        derived-taken problem file layout lines (state ls) n c.line r.form plain c.is_clause (r.derived n c.line c.there) refl
+        (ap (λ k. list_any (λ (l : NamedLine). bytes_eq (line_name k) l.name) ls) number
+        ∙ name-new (length ls) 0 ls small (omega arith) st.named)
+        (sources-taken ls before n c.line (c.line).step st (omega (arith, small)) c.there has refl (r.derived n c.line c.there)
+        λ m parent.
+        let p : IsConeParent problem lines last numbers r n m =
+        cone-parent problem lines last numbers r n m c.line c.there has parent in
+        let d : IsClauseLine lines m = cone-line problem lines last numbers r m p.has in
+        let stands =
+        st.has_derived m d.line
+        (stands-before before n after m (subst IsRising (sym whole) (r.cone).rising)
+        (subst (λ ns. has_number ns m ≡ true) (sym whole) p.has) p.earlier)
+        d.there in
         record {
-          there = c.there;
-          plain = plain-there problem lines last numbers r n c.line c.there;
-          comes = r.derived n c.line c.there;
-          is_clause = c.is_clause;
-          counted = all-there (λ (l : Line). HasWordNumbers l.step) lines n c.line r.words c.there;
-          none_introduced = refl;
-          before = before;
-          written = st.written;
-          new_name =
-              ap (λ k. list_any (λ (l : NamedLine). bytes_eq (line_name k) l.name) ls) number
-              ∙ name-new (length ls) 0 ls small (omega arith) st.named;
-          parents =
-              λ m parent.
-              let p : IsConeParent problem lines last numbers r n m =
-              cone-parent problem lines last numbers r n m c.line c.there has parent in
-              let d : IsClauseLine lines m = cone-line problem lines last numbers r m p.has in
-              let stands =
-              st.has_derived m d.line
-              (stands-before before n after m (subst IsRising (sym whole) (r.cone).rising)
-              (subst (λ ns. has_number ns m ≡ true) (sym whole) p.has) p.earlier)
-              d.there in
-              record {
-                line = d.line;
-                there = d.there;
-                plain = plain-there problem lines last numbers r m d.line d.there;
-                is_clause = d.is_clause;
-                place = found-there file problem (written_place layout m) ls (derived_line m d.line) stands (omega (arith, small)) st.named;
-                taken_there = stands;
-              };
-          has_origin =
-              has-origin ls before n c.line (c.line).step st (omega (arith, small)) c.there has refl (r.derived n c.line c.there);
-        }
+          line = d.line;
+          there = d.there;
+          place = found-there file problem (written_place layout m) ls (derived_line m d.line) stands (omega (arith, small)) st.named;
+          taken = stands;
+        })
 
     derived-walk :
-        DerivedLineIsTaken → (ls : List NamedLine) (before after : List ℕ) → Stands ls before → before ++ after ≡ numbers
+        (ls : List NamedLine) (before after : List ℕ) → Stands ls before → before ++ after ≡ numbers
         → AllPlaced numbers (length before) after
         → Walks s ls (filter_map (derived_tree script layout lines) after) (filter_map (derived_taken layout lines) after)
-    derived-walk derived ls before [] st whole placed = walk-none s ls
-    derived-walk derived ls before (n ∷ more) st whole placed =
+    derived-walk ls before [] st whole placed = walk-none s ls
+    derived-walk ls before (n ∷ more) st whole placed =
         let has : has_number numbers n ≡ true = subst (λ ns. has_number ns n ≡ true) whole (has-middle before n more) in
         let c : IsClauseLine lines n = cone-line problem lines last numbers r n has in
         let clause : TreeClause = clause_of (c.line).clause in
@@ -371,10 +365,10 @@ module _ (file : List ℕ) (problem : List Annotated) (lines : List Line) (numbe
         let ms : List NamedLine = filter_map (derived_taken layout lines) more in
         let one : List NamedLine = derived_line n c.line ∷ [] in
         let verdict : line_verdict s (state ls) t ≡ taken (kernel_line (placed_step layout (c.line).step) clause) =
-        derived file problem lines numbers (state ls) n c.line (next-line ls before n more c st whole placed.0 has) in
+        line-taken ls before n more c st whole placed.0 has in
         let longer : length before + 1 ≡ length (before ++ n ∷ []) = omega (arith, length-append before (n ∷ [])) in
         let rest : Walks s (ls ++ one) ts ms =
-        derived-walk derived (ls ++ one) (before ++ n ∷ []) more (stands-more ls before n c.line st c.there placed.0)
+        derived-walk (ls ++ one) (before ++ n ∷ []) more (stands-more ls before n c.line st c.there placed.0)
         (append_assoc before (n ∷ []) more ∙ whole) (subst (λ k. AllPlaced numbers k more) longer placed.1) in
         let tree : derived_tree script layout lines n ≡ Some t =
         ap (option_and_then (line_tree script layout (derived_name layout n))) c.there
@@ -385,7 +379,6 @@ module _ (file : List ℕ) (problem : List Annotated) (lines : List Line) (numbe
         (no-name script layout (c.line).step (plain-there problem lines last numbers r n c.line c.there).step) verdict rest))
 
     pub derived-walked :
-        DerivedLineIsTaken
-        → Walks s (inputs ++ negations) (filter_map (derived_tree script layout lines) numbers) (filter_map (derived_taken layout lines) numbers)
-    derived-walked derived =
-        derived-walk derived (inputs ++ negations) [] numbers stands-first refl (rising-placed numbers (r.cone).rising)
+        Walks s (inputs ++ negations) (filter_map (derived_tree script layout lines) numbers) (filter_map (derived_taken layout lines) numbers)
+    derived-walked =
+        derived-walk (inputs ++ negations) [] numbers stands-first refl (rising-placed numbers (r.cone).rising)

@@ -1,5 +1,5 @@
 -- The lines of a problem's formulas are taken, and then those of their negations.
-use Rattle.std.proofs.Common.{◌≡◌, ℕ, zero, suc, ◌+◌, ◌<◌, ◌≤◌, ◌^◌, Bool, true, false, cond, not, List, [], ◌∷◌, ◌++◌, map, length, Option, None, Some, refl, ap, sym, ◌∙◌, subst, arith, length-append}
+use Rattle.std.proofs.Common.{◌≡◌, ℕ, zero, suc, ◌+◌, ◌<◌, ◌≤◌, ◌^◌, Bool, true, false, not, List, [], ◌∷◌, ◌++◌, length, Option, None, Some, refl, ap, sym, ◌∙◌, subst, arith, length-append}
 use Rattle.std.specs.Prelude.{slice_get, filter_map, position, bytes_eq, option_map, option_and_then, unwrap_or, is_some, if◌then◌else◌}
 use Rattle.std.specs.List.{list_any, list_all, position_or_len, AllByRecursion, cons_option}
 use Rattle.std.proofs.lemmas.Option.{none-some, same_Some, slice_get-map, slice_get_within}
@@ -7,14 +7,13 @@ use Rattle.tptp_tree.specs.Formula.{FormulaTree, negation}
 use Rattle.tptp_tree.specs.Entries.{AnnotatedTree, is_conjecture}
 use Rattle.tptp_tree.specs.declared.problem.Annotated.{Annotated}
 use Rattle.kernel_steps.specs.Conclusion.{empty_clause}
-use Rattle.kernel_steps.specs.declared.step.Step.{Step}
 use Rattle.kernel_steps.specs.declared.step.Step.TheVariants.{Input, Negate}
 use Rattle.kernel_steps.specs.declared.step.Line.{Line}
 use Rattle.clausal_form.specs.DerivationItems.{only_one}
-use Rattle.clausal_form.specs.DerivationSteps.{input_kind, negate_kind}
-use Rattle.clausal_form.specs.DerivationLine.{LineTree, same_formula, same_entry, entry_of, kernel_line, NamedLine, Taken}
-use Rattle.clausal_form.specs.DerivationParts.{Setting, setting_of, entry_at, line_place}
-use Rattle.clausal_form.specs.DerivationCauses.{leaf, rule, order, unknown_parent, conclusion, Given, fault, gives_formula, negation_from, given_by, compared, LineVerdict, refused, taken, line_verdict}
+use Rattle.clausal_form.specs.DerivationSteps.{input_kind}
+use Rattle.clausal_form.specs.DerivationLine.{LineTree, same_formula, same_entry, entry_of, kernel_line, NamedLine}
+use Rattle.clausal_form.specs.DerivationParts.{Setting, setting_of, line_place}
+use Rattle.clausal_form.specs.DerivationCauses.{leaf, rule, order, unknown_parent, conclusion, fault, gives_formula, negation_from, given_by, compared, LineVerdict, refused, taken, line_verdict}
 use Rattle.tstp_writer.specs.Cone.{has_number}
 use Rattle.tstp_writer.specs.LineTrees.{Script, script_of, Layout, line_name, place_in, cited_name, negated_name, input_tree, negate_tree, input_at, negate_at}
 use Rattle.tstp_writer.specs.PlainLines.{first_place, taken_as, inputs_taken, negations_taken}
@@ -79,11 +78,11 @@ module _ (file : List ℕ) (problem : List Annotated) where
   from_place ls t o =
       if not (list_all is_some (o ∷ [])) then refused unknown_parent
       else
-        compared s (state ls) t
-        (unwrap_or
-        (option_and_then (negation_from s)
-        (option_and_then (λ n. option_map (λ (l : NamedLine). (l.line).step) (slice_get ls n)) (only_one (filter_map (λ p. p) (o ∷ [])))))
-        (fault rule))
+      compared s (state ls) t
+      (unwrap_or
+      (option_and_then (negation_from s)
+      (option_and_then (λ n. option_map (λ (l : NamedLine). (l.line).step) (slice_get ls n)) (only_one (filter_map (λ p. p) (o ∷ [])))))
+      (fault rule))
 
   abbrev from_line : List NamedLine → LineTree → Option NamedLine → LineVerdict
   from_line ls t o =

@@ -7,6 +7,7 @@ mod ProblemTrees
 mod ShownSymbols
 mod PlainTexts
 mod PlainSources
+mod SmallAtoms
 mod PlainTrees
 mod TermTexts
 mod NoteLemmas
@@ -18,14 +19,12 @@ mod WrittenNumbers
 mod WrittenClauses
 mod WrittenSteps
 mod WrittenBounds
-mod FormOrigins
+mod OriginLemmas
 mod DerivedLemmas
-mod TakenShape
 mod SameLemmas
 mod PlaceLemmas
 mod WalkLemmas
 mod InputLines
-mod OriginLemmas
 mod ConeLemmas
 mod NextLine
 mod DerivedLines

@@ -1,11 +1,12 @@
 -- Each clause of a form comes from one of the problem's formulas.
-use Rattle.std.proofs.Common.{◌≡◌, ℕ, zero, suc, ◌+◌, ◌<◌, ◌≤◌, List, [], ◌∷◌, ◌++◌, map, length, Some, refl, arith}
-use Rattle.std.specs.Prelude.{slice_get}
+use Rattle.std.proofs.Common.{◌≡◌, ℕ, zero, suc, ◌+◌, ◌<◌, ◌≤◌, List, [], ◌∷◌, ◌++◌, map, length, Some, refl, ap, sym, ◌∙◌, arith}
+use Rattle.std.specs.Prelude.{slice_get, unwrap_or}
 use Rattle.std.proofs.lemmas.Option.{none-some}
 use Rattle.fol_base.specs.Clause.{TreeClause}
 use Rattle.tptp_tree.specs.declared.problem.Annotated.{Annotated}
 use Rattle.signature.specs.Clausal.{SymbolNumbers, Made, Worked, annotated_clauses, canonical_literals, formed}
 use Rattle.signature.specs.Form.{symbol_numbers, nothing_made, clausal_form}
+use Rattle.tstp_writer.specs.LineTrees.{script_of, origin}
 
 -- the list has a number there, which is less than a bound
 pub record IsBelow (os : List ℕ) (i bound : ℕ) : Type 0 where
@@ -38,3 +39,10 @@ pub form-origin :
     (problem : List Annotated) (i : ℕ) (c : TreeClause)
     → slice_get (clausal_form problem).clauses i ≡ Some c → IsBelow (clausal_form problem).origins i (length problem)
 form-origin problem i c at = formed-origin (symbol_numbers problem) 0 (length problem) problem nothing_made i c (omega arith) at
+
+pub origin-there :
+    (problem : List Annotated) (file : List ℕ) (i : ℕ) (c : TreeClause) → slice_get (clausal_form problem).clauses i ≡ Some c
+    → slice_get (clausal_form problem).origins i ≡ Some (origin (script_of file problem) i)
+origin-there problem file i c at =
+    let found : IsBelow (clausal_form problem).origins i (length problem) = form-origin problem i c at in
+    found.there ∙ ap Some (sym (ap (λ o. unwrap_or o 0) found.there))

@@ -1,5 +1,5 @@
 -- Places in lists: of items that pass a test, of numbers in rising lists, and of lines by their names.
-use Rattle.std.proofs.Common.{◌≡◌, ℕ, zero, suc, ◌+◌, ◌<◌, ◌≤◌, ◌^◌, ◌⊎◌, inl, inr, Bool, true, false, cond, not, ◌||◌, ◌==◌, List, [], ◌∷◌, ◌++◌, length, Option, None, Some, refl, ap, sym, ◌∙◌, subst, arith, ⊎_elim}
+use Rattle.std.proofs.Common.{◌≡◌, ℕ, zero, suc, ◌+◌, ◌<◌, ◌≤◌, ◌^◌, ◌⊎◌, inl, inr, Bool, true, false, cond, not, ◌||◌, ◌==◌, List, [], ◌∷◌, ◌++◌, length, None, Some, refl, ap, sym, ◌∙◌, subst, arith, ⊎_elim}
 use Rattle.std.specs.Prelude.{⊤, slice_get, filter, position, bytes_eq}
 use Rattle.std.specs.List.{list_any, position_or_len, AllByRecursion}
 use Rattle.std.proofs.lemmas.Bool.{or_cases, or_left, or_right, or_from, eqb-true, eq-eqb, ne_eqb, lt-ltb, false≢true, false_from_ne_true, cases_order}
@@ -89,9 +89,6 @@ number-there (m ∷ ms) n has = by (m == n) refl (λ e. number-there ms n e) has
         let next : 1 + place_in n ms ≡ suc (place_in n ms) = omega arith in
         (omega (arith, found.0), ap (slice_get (m ∷ ms)) next ∙ found.1)
 
-pub all-numbers : (P : ℕ → Type 0) (ns : List ℕ) (n : ℕ) → AllByRecursion P ns → has_number ns n ≡ true → P n
-all-numbers P ns n all has = all-there P ns (place_in n ns) n all (number-there ns n has).1
-
 pub has-passing : (test : ℕ → Bool) (ns : List ℕ) (n : ℕ) → has_number ns n ≡ true → test n ≡ true → has_number (filter test ns) n ≡ true
 has-passing test [] n has passes = absurd (false≢true has)
 has-passing test (m ∷ ms) n has passes =
@@ -142,13 +139,12 @@ passing-pass test (n ∷ ns) = by (test n) refl (passing-pass test ns)
     by true e rest = (e, rest)
     by false e rest = rest
 
-pub all-have : (ns : List ℕ) → AllByRecursion (λ n. has_number ns n ≡ true) ns
-all-have ns = from ns (λ n h. h)
-  where
-    from : (ms : List ℕ) → ((n : ℕ) → has_number ms n ≡ true → has_number ns n ≡ true) → AllByRecursion (λ n. has_number ns n ≡ true) ms
-    from [] h = tt
-    from (m ∷ ms) h =
-        (h m (or_left (m == m) (has_number ms m) (eq-eqb m m refl)), from ms (λ n e. h n (or_right (m == n) (has_number ms n) e)))
+pub all-from : (P : ℕ → Type 0) (ns : List ℕ) → ((n : ℕ) → has_number ns n ≡ true → P n) → AllByRecursion P ns
+all-from P [] each = tt
+all-from P (n ∷ ns) each = (
+  each n (or_left (n == n) (has_number ns n) (eq-eqb n n refl)),
+  all-from P ns (λ m has. each m (or_right (n == m) (has_number ns m) has)),
+)
 
 pub all-below : (k n bound : ℕ) → k + n ≤ bound → AllByRecursion (λ p. p < bound) (numbers_from k n)
 all-below k zero bound low = tt

@@ -13,6 +13,7 @@ use Rattle.signature.specs.declared.symbol.Symbol.{Symbol}
 use Rattle.signature.specs.Form.{clausal_form}
 use Rattle.kernel_steps.specs.declared.step.Step.{Step}
 use Rattle.kernel_steps.specs.declared.step.Step.TheVariants.{Input, Negate, Clausify, Para, Refl, Factor, Merge, Component, Opposite, Split, Chain}
+use Rattle.kernel_steps.specs.Derivation.{IsDerivation}
 use Rattle.kernel_steps.specs.declared.step.Line.{Line}
 use Rattle.clausal_form.specs.DerivationLine.{LineTree}
 use Rattle.tstp_writer.specs.ClauseTrees.{clause_formula}
@@ -20,12 +21,13 @@ use Rattle.tstp_writer.specs.LineTrees.{Script, script_of, Layout, layout_of, li
 use Rattle.tstp_writer.specs.PlainLines.{is_plain_step, IsPlainLine}
 use Rattle.tstp_writer.specs.Printable.{IsShown, IsPrintable}
 use Rattle.tstp_writer.specs.ProblemLaws.{HasPrintableFormulas}
-use Rattle.tstp_writer.specs.WrittenTexts.{AreShownSymbols, HasSmallAtoms, IsSmallPlainLine, IsSpelledByText}
+use Rattle.tstp_writer.specs.WrittenTexts.{AreShownSymbols, HasSmallAtoms, IsSmallPlainLine, AreSmallClauses, IsSpelledByText}
 use Rattle.tstp_writer.proofs.ProblemLemmas.{line_name-shown}
 use Rattle.tstp_writer.proofs.ProblemTrees.{front-printable, script-printable, beginning-printable}
 use Rattle.tstp_writer.proofs.ShownSymbols.{form-symbols-shown}
 use Rattle.tstp_writer.proofs.PlainTexts.{IsPrintableFormula, clause-printable, formula-spelled}
 use Rattle.tstp_writer.proofs.PlainSources.{IsWrittenStep, source-small}
+use Rattle.tstp_writer.proofs.SmallAtoms.{atoms-small}
 use Rattle.tstp_writer.proofs.LineLemmas.{lines-spelled}
 
 -- ---- one line
@@ -155,10 +157,12 @@ at-places P lines (n ∷ numbers) h = by (slice_get lines n) (at-place P lines n
 pub derivation-spelled :
     (told : Option Holdings) (file : List ℕ) (root : Option (List ℕ)) (problem : List Annotated)
     → IsProblem told file root (map placed problem) → (name : List ℕ) → IsShown name → (lines : List Line) (numbers : List ℕ)
-    → AllByRecursion (IsPlainLine (clausal_form problem).symbols) lines → AllByRecursion HasSmallAtoms lines
+    → AreSmallClauses (clausal_form problem).clauses → IsDerivation (clausal_form problem).clauses lines
+    → AllByRecursion (IsPlainLine (clausal_form problem).symbols) lines
     → IsSpelledByText (derivation_trees (script_of name problem) lines numbers)
-derivation-spelled told file root problem h name shown lines numbers plain small =
+derivation-spelled told file root problem h name shown lines numbers sizes derived plain =
     let symbols : List Symbol = (clausal_form problem).symbols in
+    let small : AllByRecursion HasSmallAtoms lines = atoms-small symbols (clausal_form problem).clauses lines sizes derived plain in
     lines-spelled (derivation_trees (script_of name problem) lines numbers)
     (derivation-printable told file root problem h name shown lines numbers
     (at-places (IsSmallPlainLine symbols) lines numbers (small-plain symbols lines plain small)))

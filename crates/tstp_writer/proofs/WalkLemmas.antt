@@ -1,6 +1,5 @@
 -- Lines that are taken one after another, none of them with a name.
 use Rattle.std.proofs.Common.{◌≡◌, ℕ, suc, ◌+◌, List, [], ◌∷◌, ◌++◌, length, refl, ap, ap₂, sym, ◌∙◌, append_assoc, append-nil, length-append}
-use Rattle.tptp_tree.specs.declared.problem.Annotated.{Annotated}
 use Rattle.kernel_steps.specs.declared.step.Line.{Line}
 use Rattle.clausal_form.specs.DerivationSteps.{kind_of}
 use Rattle.clausal_form.specs.DerivationLine.{LineTree, NamedLine, Taken, names_with}

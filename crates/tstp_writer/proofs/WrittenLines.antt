@@ -1,7 +1,7 @@
 -- What is written of a refutation in plain lines is accepted.
-use Rattle.std.proofs.Common.{◌≡◌, ℕ, Bool, true, false, List, [], ◌∷◌, ◌++◌, length, filter_map, refl, ap, sym, ◌∙◌}
+use Rattle.std.proofs.Common.{◌≡◌, ℕ, true, List, [], ◌∷◌, ◌++◌, length, filter_map, refl, ap, sym, ◌∙◌}
 use Rattle.std.specs.Prelude.{if◌then◌else◌}
-use Rattle.std.proofs.lemmas.Bool.{and_from, false≢true}
+use Rattle.std.proofs.lemmas.Bool.{and_from}
 use Rattle.fol_base.specs.Clause.{clause_eq}
 use Rattle.fol_base.specs.Literal.{clause_of}
 use Rattle.tptp_tree.specs.declared.problem.Annotated.{Annotated}
@@ -23,7 +23,6 @@ use Rattle.tstp_writer.proofs.PlaceLemmas.{stands-last}
 use Rattle.tstp_writer.proofs.WalkLemmas.{Walks, walk-both}
 use Rattle.tstp_writer.proofs.ConeLemmas.{last-there, last-greatest}
 use Rattle.tstp_writer.proofs.DerivedLines.{inputs, negations, derived_line, inputs-walked, negations-walked, written-more, derived-walked}
-use Rattle.tstp_writer.proofs.TakenShape.{DerivedLineIsTaken}
 
 -- ---- the last line
 
@@ -76,21 +75,21 @@ module _
       ∙ ends-end (all_written problem layout lines split.0) (derived_line file problem lines numbers last r.line)
       ∙ last-empty
 
-  all-walked : DerivedLineIsTaken → Walks s [] (derivation_trees script lines numbers) all
-  all-walked derived =
+  all-walked : Walks s [] (derivation_trees script lines numbers) all
+  all-walked =
       let cited : List LineTree = filter_map (λ place. input_at script (cited_name layout place) place) layout.cited in
       let negated : List LineTree = filter_map (λ place. negate_at script layout (negated_name layout place) place) layout.negated in
       walk-both s [] (cited ++ negated) (filter_map (derived_tree script layout lines) numbers)
       (inputs file problem lines numbers ++ negations file problem lines numbers) (filter_map (derived_taken layout lines) numbers)
       (walk-both s [] cited negated (inputs file problem lines numbers) (negations file problem lines numbers)
       (inputs-walked file problem lines numbers counted) (negations-walked file problem lines numbers counted))
-      (derived-walked file problem lines numbers last r counted derived)
+      (derived-walked file problem lines numbers last r counted)
 
-pub written-accepted : DerivedLineIsTaken → WrittenLinesAreAccepted
-written-accepted derived file problem lines last numbers r counted =
+pub written-accepted : WrittenLinesAreAccepted
+written-accepted file problem lines last numbers r counted =
     let all : List NamedLine = all_written problem (layout_of (script_of file problem) lines numbers) lines numbers in
     let walk : Walks (setting_of problem) [] (derivation_trees (script_of file problem) lines numbers) all =
-    all-walked file problem lines last numbers r counted derived in
+    all-walked file problem lines last numbers r counted in
     ap ended walk.verdict
     ∙ ap (λ b. if b then accepted (length all) else refused_line (length all) no_empty_clause)
     (all-end file problem lines last numbers r counted)

@@ -1,37 +1,24 @@
 -- A law of written derivations: of plain lines, the lines that are written are accepted.
-use Rattle.std.specs.Prelude.{◌≡◌, ℕ, ◌<◌, ◌^◌, List, [], ◌∷◌, length, Some, slice_get, IsTrue}
+use Rattle.std.specs.Prelude.{◌≡◌, ℕ, List, length, Some, slice_get, IsTrue}
 use Rattle.std.specs.List.{AllByRecursion}
 use Rattle.fol_base.specs.Literal.{clause_of}
 use Rattle.tptp_tree.specs.declared.problem.Annotated.{Annotated}
 use Rattle.signature.specs.Form.{clausal_form}
 use Rattle.kernel_steps.specs.Conclusion.{empty_clause}
 use Rattle.kernel_steps.specs.Derivation.{IsDerivation, is_clause_step}
-use Rattle.kernel_steps.specs.declared.step.Step.{Step}
-use Rattle.kernel_steps.specs.declared.step.Step.TheVariants.{Clausify, Para, Refl, Merge}
 use Rattle.kernel_steps.specs.declared.step.Line.{Line}
 use Rattle.clausal_form.specs.DerivationLines.{accepted, verdict_on_lines}
 use Rattle.tstp_writer.specs.Cone.{IsCone}
 use Rattle.tstp_writer.specs.LineTrees.{script_of, layout_of, derivation_trees}
 use Rattle.tstp_writer.specs.PlainLines.{IsPlainLine}
+use Rattle.tstp_writer.specs.DerivedLines.{HasNumberedForm}
 use Rattle.tstp_writer.specs.Places.{IsCounted}
-
--- the numbers in the items of a plain step
-abbrev pub step_numbers : Step → List ℕ
-step_numbers (Clausify i) = i ∷ []
-step_numbers (Para first second from from_side into into_side place first_bind second_bind) = from ∷ into ∷ place
-step_numbers (Refl parent literal bind) = literal ∷ []
-step_numbers (Merge parent stays goes bind) = stays ∷ goes ∷ []
-step_numbers _ = []
-
--- they are machine words
-abbrev pub HasWordNumbers : Step → Type 0
-HasWordNumbers step = AllByRecursion (λ n. n < 2 ^ 64) (step_numbers step)
 
 -- A refutation in plain lines: a derivation with a clause line that is the empty clause, and the lines that this one needs.
 pub record IsPlainRefutation (problem : List Annotated) (lines : List Line) (last : ℕ) (numbers : List ℕ) : Type 0 where
+  pub form : HasNumberedForm problem
   pub derived : IsDerivation (clausal_form problem).clauses lines
   pub plain : AllByRecursion (IsPlainLine (clausal_form problem).symbols) lines
-  pub words : AllByRecursion (λ (l : Line). HasWordNumbers l.step) lines
   pub line : Line
   pub ends : slice_get lines last ≡ Some line
   pub is_clause : IsTrue (is_clause_step line.step)

@@ -16,7 +16,7 @@ ghost use Rattle.tstp_writer.specs.LineTexts.{lines_text};
 ghost use Rattle.tstp_writer.specs.LineTrees.{script_of, derivation_trees};
 ghost use Rattle.tstp_writer.specs.Printable.{PrintedLinesAreSpelled};
 ghost use Rattle.tstp_writer.specs.ProblemLaws.{ProblemFormulasArePrintable, ProblemLinesArePrintable, ScriptFormulasArePrintable, BeginningsArePrintable, LineNamesAreShown};
-ghost use Rattle.tstp_writer.specs.WrittenTexts.{FormSymbolsAreShown, PlainLinesArePrintable, PlainDerivationsArePrintable, PlainDerivationsAreSpelled};
+ghost use Rattle.tstp_writer.specs.WrittenTexts.{FormSymbolsAreShown, PlainLinesHaveSmallAtoms, PlainLinesArePrintable, PlainDerivationsArePrintable, PlainDerivationsAreSpelled, WrittenTextsAreAccepted};
 ghost use Rattle.tstp_writer.specs.WrittenLaws.{WrittenLinesAreAccepted};
 ghost use Rattle.tstp_writer.specs.TextExamples.{implication_steps, implication_numbers, implication_text, components_steps, components_numbers, components_text};
 
@@ -88,8 +88,13 @@ pub fn form_symbols_are_shown()
     ensures { FormSymbolsAreShown }
 {}
 
-/// What is written for plain lines over the form of a problem that was read can be printed, so the printed text of a derivation of
-/// them spells what is written for it.
+/// A derivation in plain lines from clauses of so many symbols has no larger atoms.
+pub fn plain_lines_have_small_atoms()
+    ensures { PlainLinesHaveSmallAtoms }
+{}
+
+/// What is written for plain lines over the form of a problem that was read can be printed, where their atoms are small; so the
+/// printed text of a derivation in such lines spells what is written for it, where the form's clauses are small.
 pub fn plain_derivations_are_spelled()
     ensures lines { PlainLinesArePrintable }
     ensures derivations { PlainDerivationsArePrintable }
@@ -104,4 +109,9 @@ pub fn derived_lines_are_taken()
 /// The lines that are written for a refutation in plain lines are accepted.
 pub fn written_lines_are_accepted()
     ensures { WrittenLinesAreAccepted }
+{}
+
+/// The printed text of what is written for a refutation in plain lines is an accepted derivation.
+pub fn written_texts_are_accepted()
+    ensures { WrittenTextsAreAccepted }
 {}
