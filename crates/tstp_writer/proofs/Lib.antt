@@ -6,3 +6,4 @@ mod CauseLemmas
 mod ClausePhrases
 mod LineLemmas
 mod TextLemmas
+mod PlaceLemmas

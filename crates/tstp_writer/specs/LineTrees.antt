@@ -152,6 +152,9 @@ pivot_item prefix n = pivot_name n.positive (introduced_name prefix n.name)
 -- ---- the columns of the table of steps: rule, status, items, parents
 
 abbrev pub rule_word : Step → List ℕ
+rule_word (Input place) = codes "input"
+rule_word (Component name) = codes "component"
+rule_word (Opposite name) = codes "opposite"
 rule_word (Negate place) = codes "negate"
 rule_word (Clausify i) = codes "clausify"
 rule_word (Para first second from from_side into into_side place first_bind second_bind) = codes "para"
@@ -160,7 +163,6 @@ rule_word (Factor parent becomes becomes_side other other_side bind) = codes "fa
 rule_word (Merge parent stays goes bind) = codes "merge"
 rule_word (Split parent definitions parts) = codes "split"
 rule_word (Chain parents pivots) = codes "chain"
-rule_word _ = []
 
 abbrev pub status_word : Step → List ℕ
 status_word (Negate place) = codes "cth"
@@ -193,11 +195,8 @@ parent_names script layout step = map (derived_name layout) (parents_of step)
 
 -- ---- sources
 
-abbrev pub IsInputStep : Step → Type 0
-IsInputStep (Input place) = Unit {0}
-IsInputStep _ = ⊥
-
--- Each step but that of an input line has one.
+-- A component and an opposite line have a definition, all others an inference. The source of an input line is that of its formula, and none of these is
+-- asked of it.
 abbrev pub step_source : Script → Layout → Step → SourceTree
 step_source script layout (Component name) = component_source (introduced_name script.prefix name)
 step_source script layout (Opposite name) = opposite_source (introduced_name script.prefix name)

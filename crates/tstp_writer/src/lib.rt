@@ -5,6 +5,7 @@ mod clauses;
 mod items;
 pub mod laws;
 mod layout;
+mod lines;
 mod needed;
 mod page;
 mod script;
