@@ -1,7 +1,7 @@
 -- Printed names, clauses and sources, put together from their parts.
-use Rattle.std.proofs.Common.{Result, Ok, Err, IfOk, ◌≡◌, ℕ, zero, suc, ◌+◌, ◌/◌, ◌%◌, ◌<◌, ◌≤◌, Bool, true, false, not, ◌&&◌, ◌||◌, ◌==◌, List, [], ◌∷◌, ◌++◌, map, length, drop, get_or, codes, refl, ap, ap₂, sym, ◌∙◌, arith, append_assoc, append-nil, leb-true, le-leb}
-use Rattle.std.specs.Prelude.{nat_le, if◌then◌else◌}
-use Rattle.std.specs.List.{list_all, AllByRecursion}
+use Rattle.std.proofs.Common.{Result, Ok, Err, IfOk, Option, None, Some, ◌≡◌, ℕ, zero, suc, ◌+◌, ◌/◌, ◌%◌, ◌<◌, ◌≤◌, Bool, true, false, not, ◌&&◌, ◌||◌, ◌==◌, List, [], ◌∷◌, ◌++◌, map, length, drop, get_or, codes, refl, ap, ap₂, sym, ◌∙◌, arith, append_assoc, append-nil, leb-true, le-leb}
+use Rattle.std.specs.Prelude.{nat_le, filter_map, slice_get, option_map, if◌then◌else◌}
+use Rattle.std.specs.List.{list_all, cons_option, AllByRecursion}
 use Rattle.std.specs.Fmt.{digits, digits_onto, digit_glyph, decimal}
 use Rattle.std.proofs.lemmas.Bool.{and_parts, and_from, lt-ltb}
 use Rattle.std.proofs.lemmas.List.Folds.{list_all-append}
@@ -25,7 +25,8 @@ use Rattle.tstp_writer.specs.SourceTexts.{general_text, arguments_text as genera
 use Rattle.tstp_writer.specs.ClauseTrees.{symbol_name, term_tree, term_trees, with_sign, atom_formula, literal_formula, introduced_name, signed_name_formula, one_of, clause_formula}
 use Rattle.tptp_source.specs.Sources.{SourceTree}
 use Rattle.tptp_tree.specs.Entries.{AnnotatedTree, language_word, role_word}
-use Rattle.tstp_writer.specs.LineTexts.{line_text}
+use Rattle.clausal_form.specs.DerivationLine.{LineTree}
+use Rattle.tstp_writer.specs.LineTexts.{line_text, lines_text, shown_text, shown_texts}
 use Rattle.tstp_writer.specs.LineTrees.{with_source, Script, is_conjecture_at, origin, Layout, place_in, line_name, cited_name, negated_name, derived_name, named, status_item, term_item, term_items, bind_item, pivot_name, pivot_item, rule_word, status_word, step_items, origin_name, parent_names, step_source}
 use Rattle.tstp_writer.specs.NameTexts.{signed_name_text, more_names_text, more_items_text, definition_text, introduction_text, inference_text, head_text}
 
@@ -56,6 +57,20 @@ two_joined p q s a b first second = second ∙ ap (λ x. x ++ b) first ∙ appen
 
 pub three_joined : (p q s t a b c : List ℕ) → q ≡ p ++ a → s ≡ q ++ b → t ≡ s ++ c → t ≡ p ++ (a ++ b ++ c)
 three_joined p q s t a b c first second third = two_joined p s t (a ++ b) c (two_joined p q s a b first second) third
+
+-- ---- what stands in a list
+
+-- an item of a mapped list, and none past its end
+pub item_there :
+    {X Y : Type 0} (f : X → Y) (xs : List X) (i : ℕ) (x : X) → i < length xs → x ≡ get_or xs i x → slice_get (map f xs) i ≡ Some (f x)
+item_there f [] i x h e = absurd (omega arith)
+item_there f (y ∷ ys) zero x h e = ap (λ z. Some (f z)) (sym e)
+item_there f (y ∷ ys) (suc i) x h e = item_there f ys i x (omega arith) e
+
+pub item_past : {X Y : Type 0} (f : X → Y) (xs : List X) (i : ℕ) → length xs ≤ i → slice_get (map f xs) i ≡ None
+item_past f [] i h = refl
+item_past f (y ∷ ys) zero h = absurd (omega arith)
+item_past f (y ∷ ys) (suc i) h = item_past f ys i (omega arith)
 
 -- ---- texts behind commas
 
@@ -482,3 +497,34 @@ pub five_added :
     → q ≡ p ++ a → s ≡ q ++ b → t ≡ s ++ c → v ≡ t ++ d → IfOk r (λ _. w ≡ v ++ e) → IfOk r (λ _. w ≡ p ++ (a ++ b ++ c ++ d ++ e))
 five_added r p q s t v w a b c d e first second third fourth fifth =
     three_added r p t v w (a ++ b ++ c) d e (three_joined p q s t a b c first second third) fourth fifth
+
+pub next_shown :
+    (tree : ℕ → Option LineTree) (ns : List ℕ) (i : ℕ) (old new whole : List ℕ)
+    → i < length ns → new ≡ old ++ shown_text (tree (get_or ns i 0)) → old ++ shown_texts tree (drop i ns) ≡ whole
+    → new ++ shown_texts tree (drop (i + 1) ns) ≡ whole
+next_shown tree ns i old new whole h e k =
+    ap (λ us. us ++ shown_texts tree (drop (i + 1) ns)) e
+    ∙ append_assoc old (shown_text (tree (get_or ns i 0))) (shown_texts tree (drop (i + 1) ns))
+    ∙ ap (λ ms. old ++ shown_texts tree ms) (sym (drop-next ns i h)) ∙ k
+
+shown-lines : (tree : ℕ → Option LineTree) (ns : List ℕ) → shown_texts tree ns ≡ lines_text (filter_map tree ns)
+shown-lines tree [] = refl
+shown-lines tree (n ∷ ns) = by (tree n) (shown-lines tree ns)
+  where
+    by :
+        (o : Option LineTree) → shown_texts tree ns ≡ lines_text (filter_map tree ns)
+        → shown_text o ++ shown_texts tree ns ≡ lines_text (cons_option o (filter_map tree ns))
+    by None h = h
+    by (Some t) h = ap (λ us. line_text t ++ us) h
+
+lines-append : (ts us : List LineTree) → lines_text (ts ++ us) ≡ lines_text ts ++ lines_text us
+lines-append [] us = refl
+lines-append (t ∷ ts) us = ap (λ vs. line_text t ++ vs) (lines-append ts us) ∙ sym (append_assoc (line_text t) (lines_text ts) (lines_text us))
+
+pub shown_of_parts :
+    (f g h : ℕ → Option LineTree) (ks ls ms : List ℕ)
+    → shown_texts f ks ++ shown_texts g ls ++ shown_texts h ms ≡ lines_text (filter_map f ks ++ filter_map g ls ++ filter_map h ms)
+shown_of_parts f g h ks ls ms =
+    ap₂ (λ us vs. us ++ vs) (ap₂ (λ us vs. us ++ vs) (shown-lines f ks) (shown-lines g ls)) (shown-lines h ms)
+    ∙ sym (lines-append (filter_map f ks ++ filter_map g ls) (filter_map h ms)
+    ∙ ap (λ us. us ++ lines_text (filter_map h ms)) (lines-append (filter_map f ks) (filter_map g ls)))

@@ -17,6 +17,7 @@ use Rattle.tptp_tree.specs.declared.problem.Annotated.{Annotated}
 use Rattle.signature.specs.declared.symbol.Symbol.{Symbol}
 use Rattle.signature.specs.Form.{ClausalForm, clausal_form}
 use Rattle.signature.specs.Prefix.{fresh_prefix_of}
+use Rattle.kernel_steps.specs.Derivation.{is_clause_step}
 use Rattle.kernel_steps.specs.Keys.{side_word}
 use Rattle.kernel_steps.specs.declared.step.Step.{Step}
 use Rattle.kernel_steps.specs.declared.step.Step.TheVariants.{Input, Negate, Clausify, Para, Refl, Factor, Merge, Component, Opposite, Split, Chain}
@@ -231,21 +232,33 @@ clause_tree script name c source =
     with_source
     (record { name = name; role = Plain; is_clause = true; formula = clause_formula script.symbols script.prefix c }) source
 
-abbrev pub line_tree_by : Script → Layout → List ℕ → TreeClause → Step → Option LineTree
-line_tree_by script layout name c (Input place) = input_at script name place
-line_tree_by script layout name c (Negate place) = negate_at script layout name place
-line_tree_by script layout name c step = Some (clause_tree script name c (step_source script layout step))
+-- of an input or negate line
+abbrev pub formula_tree : Script → Layout → List ℕ → Step → Option LineTree
+formula_tree script layout name (Input place) = input_at script name place
+formula_tree script layout name (Negate place) = negate_at script layout name place
+formula_tree script layout name step = None
 
 abbrev pub line_tree : Script → Layout → List ℕ → Line → Option LineTree
-line_tree script layout name line = line_tree_by script layout name (clause_of line.clause) line.step
+line_tree script layout name line =
+    if is_clause_step line.step
+    then Some (clause_tree script name (clause_of line.clause) (step_source script layout line.step))
+    else formula_tree script layout name line.step
 
 abbrev pub derived_tree : Script → Layout → List Line → ℕ → Option LineTree
 derived_tree script layout lines n = option_and_then (line_tree script layout (derived_name layout n)) (slice_get lines n)
 
+-- the line of a formula, and of its negation
+abbrev pub cited_tree : Script → Layout → ℕ → Option LineTree
+cited_tree script layout place = input_at script (cited_name layout place) place
+
+abbrev pub negated_tree : Script → Layout → ℕ → Option LineTree
+negated_tree script layout place = negate_at script layout (negated_name layout place) place
+
+abbrev pub laid_out_trees : Script → Layout → List Line → List LineTree
+laid_out_trees script layout lines =
+    filter_map (cited_tree script layout) layout.cited ++ filter_map (negated_tree script layout) layout.negated
+    ++ filter_map (derived_tree script layout lines) layout.numbers
+
 -- The lines that are written for lines of a derivation, those with the given numbers.
 abbrev pub derivation_trees : Script → List Line → List ℕ → List LineTree
-derivation_trees script lines numbers =
-    let layout : Layout = layout_of script lines numbers in
-    filter_map (λ place. input_at script (cited_name layout place) place) layout.cited
-    ++ filter_map (λ place. negate_at script layout (negated_name layout place) place) layout.negated
-    ++ filter_map (derived_tree script layout lines) numbers
+derivation_trees script lines numbers = laid_out_trees script (layout_of script lines numbers) lines

@@ -10,6 +10,7 @@ mod needed;
 mod page;
 mod script;
 mod sources;
+mod text;
 
 pub use needed::cone;
 pub use page::Page;
