@@ -3,7 +3,8 @@ use Rattle.std.proofs.Common.{Result, Ok, Err, IfOk, Option, None, Some, ◌≡�
 use Rattle.std.specs.Prelude.{nat_le, filter_map, slice_get, option_map, if◌then◌else◌}
 use Rattle.std.specs.List.{list_all, cons_option, AllByRecursion}
 use Rattle.std.specs.Fmt.{digits, digits_onto, digit_glyph, decimal}
-use Rattle.std.proofs.lemmas.Bool.{and_parts, and_from, lt-ltb}
+use Rattle.std.proofs.lemmas.Bool.{and_parts, and_from, lt-ltb, ltb-true, false≢true}
+use Rattle.std.proofs.Math.Dec.{ltb}
 use Rattle.std.proofs.lemmas.List.Folds.{list_all-append}
 use Rattle.plain_types.specs.declared.sequence.NameLit.{NameLit}
 use Rattle.fol_base.specs.Tree.{Tree, variable, application, tree_eq, true_tree}
@@ -60,17 +61,24 @@ three_joined p q s t a b c first second third = two_joined p s t (a ++ b) c (two
 
 -- ---- what stands in a list
 
+there : {X Y : Type 0} (f : X → Y) (xs : List X) (i : ℕ) (x : X) → i < length xs → x ≡ get_or xs i x → slice_get (map f xs) i ≡ Some (f x)
+there f [] i x h e = absurd (omega arith)
+there f (y ∷ ys) zero x h e = ap (λ z. Some (f z)) (sym e)
+there f (y ∷ ys) (suc i) x h e = there f ys i x (omega arith) e
+
 -- an item of a mapped list, and none past its end
 pub item_there :
-    {X Y : Type 0} (f : X → Y) (xs : List X) (i : ℕ) (x : X) → i < length xs → x ≡ get_or xs i x → slice_get (map f xs) i ≡ Some (f x)
-item_there f [] i x h e = absurd (omega arith)
-item_there f (y ∷ ys) zero x h e = ap (λ z. Some (f z)) (sym e)
-item_there f (y ∷ ys) (suc i) x h e = item_there f ys i x (omega arith) e
+    {X Y : Type 0} (f : X → Y) (xs : List X) (i : ℕ) (x : X) → true ≡ ltb i (length xs) → x ≡ get_or xs i x → slice_get (map f xs) i ≡ Some (f x)
+item_there f xs i x h e = there f xs i x (ltb-true i (length xs) (sym h)) e
 
-pub item_past : {X Y : Type 0} (f : X → Y) (xs : List X) (i : ℕ) → length xs ≤ i → slice_get (map f xs) i ≡ None
-item_past f [] i h = refl
-item_past f (y ∷ ys) zero h = absurd (omega arith)
-item_past f (y ∷ ys) (suc i) h = item_past f ys i (omega arith)
+
+pub item_past : {X Y : Type 0} (f : X → Y) (xs : List X) (i : ℕ) → false ≡ ltb i (length xs) → slice_get (map f xs) i ≡ None
+item_past {X} f xs i h = past xs i (λ l. false≢true (h ∙ lt-ltb i (length xs) l))
+  where
+    past : (xs : List X) (i : ℕ) → (i < length xs → ⊥) → slice_get (map f xs) i ≡ None
+    past [] i h = refl
+    past (y ∷ ys) zero h = absurd (h (omega arith))
+    past (y ∷ ys) (suc i) h = past ys i (λ l. h (omega (arith, l)))
 
 -- ---- texts behind commas
 

@@ -9,14 +9,12 @@ use Rattle.tstp_writer.proofs.text.push_input_at.Goals as goal
 
 pub returns-in-Some : goal.returns-in-Some
 returns-in-Some c =
-    let l = c.in-Some.ensures.lookup in
     added c.push_input.result _ _ _ _
     (sym (ap (λ o. shown_text (option_map (input_tree (script_in c.args.script) (line_name c.args.number)) o))
-    (item_there entry_of c.args.script.formulas.now c.args.place c.in-Some.annotated.now l.1.1.1.0.0 l.1.0)))
+    (item_there entry_of c.args.script.formulas.now c.args.place c.in-Some.annotated.now c.in-Some.ensures.lookup.0 c.in-Some.ensures.lookup.1)))
     c.push_input.ensures
 
 pub returns-in-None : goal.returns-in-None
 returns-in-None c =
-    let l = c.in-None.ensures.lookup in
     sym (ap (λ o. c.args.page.now ++ shown_text (option_map (input_tree (script_in c.args.script) (line_name c.args.number)) o))
-    (item_past entry_of c.args.script.formulas.now c.args.place l.1.1.1.0) ∙ append-nil c.args.page.now)
+    (item_past entry_of c.args.script.formulas.now c.args.place c.in-None.ensures.lookup.0) ∙ append-nil c.args.page.now)
