@@ -135,3 +135,63 @@ fn push_derived_at(
         None => Ok(()),
     }
 }
+
+/// Adds the line of the negation of a formula that is cited.
+fn push_negated_at(
+    alloc: Global,
+    page: &mut Page,
+    script: Script<'_>,
+    layout: &Layout,
+    place: u64,
+) -> Mem<()>
+    requires lower { IsTrue (is_lower_word script.prefix.now) }
+    requires few { length script.formulas.now ≤ 2 ^ 32 }
+    ensures { IfOk result (λ _. page.new ≡ page.old ++ shown_text (negated_tree (script_in script.entry) layout.now place)) }
+{
+    match script.formulas.get(place as usize) {
+        Some(annotated) => push_negate(
+            alloc,
+            page,
+            script,
+            layout,
+            layout.negated_line(place),
+            place as u32,
+            annotated,
+        ),
+        None => Ok(()),
+    }
+}
+
+/// Adds the lines of the negations.
+fn push_negated(
+    alloc: Global,
+    page: &mut Page,
+    script: Script<'_>,
+    layout: &Layout,
+) -> Mem<()>
+    requires lower { IsTrue (is_lower_word script.prefix.now) }
+    requires few { length script.formulas.now ≤ 2 ^ 32 }
+    ensures { IfOk result (λ _. page.new ≡ page.old ++ shown_texts (negated_tree (script_in script.entry) layout.now) layout.now.negated) }
+{
+    for place in layout.negated() {
+        push_negated_at(alloc, page, script, layout, *place)?;
+    }
+    Ok(())
+}
+
+/// Adds the lines of a layout: the formulas that are cited, their negations, and the lines of the derivation.
+pub(crate) fn push_lines(
+    alloc: Global,
+    page: &mut Page,
+    script: Script<'_>,
+    layout: &Layout,
+    lines: &[Line],
+) -> Mem<()>
+    requires lower { IsTrue (is_lower_word script.prefix.now) }
+    requires few { length script.formulas.now ≤ 2 ^ 32 }
+    ensures { IfOk result (λ _. page.new ≡ page.old ++ lines_text (laid_out_trees (script_in script.entry) layout.now lines.now)) }
+{
+    push_cited(alloc, page, script, layout)?;
+    push_negated(alloc, page, script, layout)?;
+    push_derived(alloc, page, script, layout, lines)
+}
