@@ -229,11 +229,26 @@ line-is t p =
     ap (λ l. role_of l (role_word (t.entry).role)) b.language ∙ role-taken (t.entry).is_clause (t.entry).role p.role in
     record {
       right = and_from (is_right_name (name_phrase (t.entry).name)) (are_balanced (source_tokens t.source)) (name-right (t.entry).name) notes.closed;
-      faultless = (refl, (refl, (refl, (refl,
-      (ap (λ o. untaken_role_cause o (role_word (t.entry).role)) role,
-      (refl,
-      b.causes MOST_DERIVATION_NESTING (notes_part_causes MOST_DERIVATION_NESTING (source_tokens t.source) (None ∷ None ∷ [])) p.levels
-      (notes-fine MOST_DERIVATION_NESTING (source_tokens t.source) (None ∷ None ∷ []) notes (refl, (refl, tt)))))))));
+      faultless = (
+        refl,
+        (
+          refl,
+          (
+            refl,
+            (
+              refl,
+              (
+                ap (λ o. untaken_role_cause o (role_word (t.entry).role)) role,
+                (
+                  refl,
+                  b.causes MOST_DERIVATION_NESTING (notes_part_causes MOST_DERIVATION_NESTING (source_tokens t.source) (None ∷ None ∷ [])) p.levels
+                      (notes-fine MOST_DERIVATION_NESTING (source_tokens t.source) (None ∷ None ∷ []) notes (refl, (refl, tt))),
+                ),
+              ),
+            ),
+          ),
+        ),
+      );
       entry = record { name = sym (name-meant (t.entry).name); role = role; is_clause = sym b.language; formula = sym b.meant };
       source = source-spelled t.source p.source;
     }

@@ -71,7 +71,6 @@ pub item_there :
     {X Y : Type 0} (f : X → Y) (xs : List X) (i : ℕ) (x : X) → true ≡ ltb i (length xs) → x ≡ get_or xs i x → slice_get (map f xs) i ≡ Some (f x)
 item_there f xs i x h e = there f xs i x (ltb-true i (length xs) (sym h)) e
 
-
 pub item_past : {X Y : Type 0} (f : X → Y) (xs : List X) (i : ℕ) → false ≡ ltb i (length xs) → slice_get (map f xs) i ≡ None
 item_past {X} f xs i h = past xs i (λ l. false≢true (h ∙ lt-ltb i (length xs) l))
   where
@@ -305,7 +304,7 @@ bind-text symbols ts =
     ap (λ us. codes ",bind([" ++ us) (sym (append_assoc (with_commas terms) (codes "]") (codes ")")))
     ∙ ap (λ us. codes ",bind([" ++ (us ++ codes ")"))
     (sym (items-commas (map (λ t. term_item (term_tree symbols t)) ts
-    ) ∙ ap (λ vs. with_commas vs ++ codes "]") (each-text (λ t. term_item (term_tree symbols t)) (λ t. term_text (term_tree symbols t)) (λ t. term-text (term_tree symbols t)) ts)) )
+    ) ∙ ap (λ vs. with_commas vs ++ codes "]") (each-text (λ t. term_item (term_tree symbols t)) (λ t. term_text (term_tree symbols t)) (λ t. term-text (term_tree symbols t)) ts)))
 
 pivot-text : (prefix : List ℕ) → is_lower_word prefix ≡ true → (n : NameLit) → general_text (pivot_item prefix n) ≡ signed_name_text prefix n
 pivot-text prefix h n = by n.positive
@@ -383,15 +382,15 @@ inference-text rule status items parents h k p =
     let rest : List ℕ = 44 ∷ 91 ∷ (items_text (trees_of (map name_term parents)) ++ codes ")") in
     inference-flat rule status more names
     ∙ sym (
-      ap₂ (λ us vs. codes "inference(" ++ (us ++ (codes ",[status(" ++ (vs ++ codes ")" ++ more_text (codes "]") (trees_of items) ++ rest))))
-      (append-nil (name_text rule) ∙ bare-text rule h) (append-nil (name_text status) ∙ bare-text status k)
-      ∙ ap (λ us. codes "inference(" ++ (rule ++ (codes ",[status(" ++ us)))
-      (append_assoc (status ++ codes ")") (more_text (codes "]") (trees_of items)) rest
-      ∙ append_assoc status (codes ")") (more_text (codes "]") (trees_of items) ++ rest)
-      ∙ ap (λ us. status ++ (41 ∷ us))
-      (ap (λ us. us ++ rest) (more-commas (codes "]") items)
-      ∙ append_assoc more (codes "]") rest
-      ∙ ap (λ us. more ++ (93 ∷ 44 ∷ 91 ∷ us)) (ap (λ us. us ++ codes ")") (parents-text parents p) ∙ append_assoc names (codes "]") (codes ")"))))
+    ap₂ (λ us vs. codes "inference(" ++ (us ++ (codes ",[status(" ++ (vs ++ codes ")" ++ more_text (codes "]") (trees_of items) ++ rest))))
+    (append-nil (name_text rule) ∙ bare-text rule h) (append-nil (name_text status) ∙ bare-text status k)
+    ∙ ap (λ us. codes "inference(" ++ (rule ++ (codes ",[status(" ++ us)))
+    (append_assoc (status ++ codes ")") (more_text (codes "]") (trees_of items)) rest
+    ∙ append_assoc status (codes ")") (more_text (codes "]") (trees_of items) ++ rest)
+    ∙ ap (λ us. status ++ (41 ∷ us))
+    (ap (λ us. us ++ rest) (more-commas (codes "]") items)
+    ∙ append_assoc more (codes "]") rest
+    ∙ ap (λ us. more ++ (93 ∷ 44 ∷ 91 ∷ us)) (ap (λ us. us ++ codes ")") (parents-text parents p) ∙ append_assoc names (codes "]") (codes ")"))))
     )
 
 pub line_names-lower : (f : ℕ → ℕ) (ns : List ℕ) → AllLower (map (λ n. line_name (f n)) ns)

@@ -89,7 +89,10 @@ fn push_items(page: &mut Page, script: Script<'_>, step: &Step) -> Mem<()>
             push_bind(page, script.symbols, bind.as_slice())
         }
         Step::Merge {
-            stays, goes, bind, ..
+            stays,
+            goes,
+            bind,
+            ..
         } => {
             push_literal_item(page, *stays)?;
             push_literal_item(page, *goes)?;

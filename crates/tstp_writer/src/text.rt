@@ -131,7 +131,14 @@ fn push_derived_at(
         ++ shown_text (derived_tree (script_in script.entry) layout.now lines.now number)) }
 {
     match lines.get(number as usize) {
-        Some(line) => push_line(alloc, page, script, layout, layout.derived_line(number), line),
+        Some(line) => push_line(
+            alloc,
+            page,
+            script,
+            layout,
+            layout.derived_line(number),
+            line,
+        ),
         None => Ok(()),
     }
 }
@@ -163,12 +170,7 @@ fn push_negated_at(
 }
 
 /// Adds the lines of the negations.
-fn push_negated(
-    alloc: Global,
-    page: &mut Page,
-    script: Script<'_>,
-    layout: &Layout,
-) -> Mem<()>
+fn push_negated(alloc: Global, page: &mut Page, script: Script<'_>, layout: &Layout) -> Mem<()>
     requires lower { IsTrue (is_lower_word script.prefix.now) }
     requires few { length script.formulas.now ≤ 2 ^ 32 }
     ensures { IfOk result (λ _. page.new ≡ page.old ++ shown_texts (negated_tree (script_in script.entry) layout.now) layout.now.negated) }
