@@ -1,5 +1,5 @@
 -- The places of numbers in lists.
-use Rattle.std.proofs.Common.{◌≡◌, ℕ, zero, suc, ◌+◌, ◌<◌, ◌≤◌, Bool, true, false, cond, not, ◌==◌, List, [], ◌∷◌, length, arith}
+use Rattle.std.proofs.Common.{ℕ, suc, ◌+◌, ◌≤◌, Bool, true, false, cond, not, ◌==◌, List, [], ◌∷◌, length, arith}
 use Rattle.tstp_writer.specs.LineTrees.{place_in}
 
 pub place-le : (n : ℕ) (ns : List ℕ) → place_in n ns ≤ length ns

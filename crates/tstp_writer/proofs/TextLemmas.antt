@@ -1,6 +1,6 @@
 -- Printed names, clauses and sources, put together from their parts.
-use Rattle.std.proofs.Common.{Result, Ok, Err, IfOk, Option, None, Some, ◌≡◌, ℕ, zero, suc, ◌+◌, ◌/◌, ◌%◌, ◌<◌, ◌≤◌, Bool, true, false, not, ◌&&◌, ◌||◌, ◌==◌, List, [], ◌∷◌, ◌++◌, map, length, drop, get_or, codes, refl, ap, ap₂, sym, ◌∙◌, arith, append_assoc, append-nil, leb-true, le-leb}
-use Rattle.std.specs.Prelude.{nat_le, filter_map, slice_get, option_map, if◌then◌else◌}
+use Rattle.std.proofs.Common.{Result, Ok, Err, IfOk, Option, None, Some, ◌≡◌, ℕ, zero, suc, ◌+◌, ◌/◌, ◌%◌, ◌<◌, Bool, true, false, ◌&&◌, ◌||◌, ◌==◌, List, [], ◌∷◌, ◌++◌, map, length, drop, get_or, codes, refl, ap, ap₂, sym, ◌∙◌, arith, append_assoc, append-nil, leb-true, le-leb}
+use Rattle.std.specs.Prelude.{nat_le, filter_map, slice_get, if◌then◌else◌}
 use Rattle.std.specs.List.{list_all, cons_option, AllByRecursion}
 use Rattle.std.specs.Fmt.{digits, digits_onto, digit_glyph, decimal}
 use Rattle.std.proofs.lemmas.Bool.{and_parts, and_from, lt-ltb, ltb-true, false≢true}
@@ -8,18 +8,18 @@ use Rattle.std.proofs.Math.Dec.{ltb}
 use Rattle.std.proofs.lemmas.List.Folds.{list_all-append}
 use Rattle.plain_types.specs.declared.sequence.NameLit.{NameLit}
 use Rattle.fol_base.specs.Tree.{Tree, variable, application, tree_eq, true_tree}
-use Rattle.fol_base.specs.Clause.{TreeLiteral, TreeClause}
+use Rattle.fol_base.specs.Clause.{TreeLiteral}
 use Rattle.kernel_steps.specs.Derivation.{introduces_name}
 use Rattle.kernel_steps.specs.declared.step.Step.{Step}
 use Rattle.kernel_steps.specs.declared.step.Step.TheVariants.{Input, Negate, Clausify, Para, Refl, Factor, Merge, Component, Opposite, Split, Chain}
 use Rattle.kernel_steps.specs.Keys.{commas_before, with_commas}
 use Rattle.signature.specs.declared.symbol.Symbol.{Symbol}
-use Rattle.tptp_token.specs.Spelling.{is_digit, is_lower, is_upper, is_word_byte, is_lower_word, begins}
+use Rattle.tptp_token.specs.Spelling.{is_digit, is_lower, is_upper, is_word_byte, is_lower_word}
 use Rattle.tptp_token.specs.Words.{name_text, quoted_text}
-use Rattle.tptp_tree.specs.Formula.{FormulaTree, truth, predicate, equation, negation, disjunction, formulas_of}
+use Rattle.tptp_tree.specs.Formula.{FormulaTree, truth, predicate, equation, formulas_of}
 use Rattle.tptp_tree.specs.Term.{TermTree, variable as named_variable, application as named_application, TermTrees, no_terms, term_then}
 use Rattle.tptp_tree.specs.Printing.{term_text, arguments_text, more_arguments_text, is_joined, in_parentheses, formula_text, more_operands_text}
-use Rattle.tptp_source.specs.General.{GeneralTree, word, number, trees_of}
+use Rattle.tptp_source.specs.General.{GeneralTree, number, trees_of}
 use Rattle.tptp_source.specs.Sources.{inference_source, component_source, opposite_source, word_of as word_term, list_of as list_term}
 use Rattle.tptp_source.specs.declared.sign.NumberSign.TheVariants.{Unsigned}
 use Rattle.tstp_writer.specs.SourceTexts.{general_text, arguments_text as general_arguments, items_text, more_text, is_number_name, name_term, source_text}

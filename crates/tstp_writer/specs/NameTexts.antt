@@ -4,7 +4,6 @@ use Rattle.plain_types.specs.declared.sequence.NameLit.{NameLit}
 use Rattle.kernel_steps.specs.declared.step.Step.{Step}
 use Rattle.kernel_steps.specs.declared.step.Step.TheVariants.{Component, Opposite}
 use Rattle.kernel_steps.specs.Keys.{commas_before, with_commas}
-use Rattle.tptp_tree.specs.Entries.{language_word}
 use Rattle.tptp_source.specs.General.{GeneralTree}
 use Rattle.tstp_writer.specs.SourceTexts.{general_text}
 use Rattle.tstp_writer.specs.ClauseTrees.{introduced_name}

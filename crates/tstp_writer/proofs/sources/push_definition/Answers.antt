@@ -1,5 +1,4 @@
-use Rattle.std.proofs.Common.{ap, ◌++◌, ◌∙◌}
-use Rattle.tstp_writer.proofs.TextLemmas.{two_added, three_added, three_joined}
+use Rattle.tstp_writer.proofs.TextLemmas.{three_added, three_joined}
 use Rattle.tstp_writer.proofs.sources.push_definition.Goals as goal
 
 pub returns : goal.returns

@@ -1,12 +1,10 @@
-use Rattle.std.proofs.Common.{sym, ap, ◌∙◌, ◌++◌, append-nil, arith}
+use Rattle.std.proofs.Common.{sym, ap, ◌∙◌, ◌++◌, append-nil}
 use Rattle.std.specs.Prelude.{option_map}
-use Rattle.std.proofs.lemmas.Bool.{ltb-true}
-use Rattle.std.specs.Prelude.{length}
 use Rattle.clausal_form.specs.DerivationLine.{entry_of}
 use Rattle.tstp_writer.specs.LineTexts.{shown_text}
 use Rattle.tstp_writer.specs.LineTrees.{negated_name, negate_tree}
 use Rattle.tstp_writer.specs.Scripts.{script_in}
-use Rattle.tstp_writer.proofs.TextLemmas.{added, item_there, item_past}
+use Rattle.tstp_writer.proofs.TextLemmas.{item_past}
 use Rattle.tstp_writer.proofs.text.push_negated_at.Goals as goal
 
 pub returns-in-None : goal.returns-in-None
