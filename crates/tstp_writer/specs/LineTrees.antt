@@ -196,8 +196,7 @@ parent_names script layout step = map (derived_name layout) (parents_of step)
 
 -- ---- sources
 
--- A component and an opposite line have a definition, all others an inference. The source of an input line is that of its formula, and none of these is
--- asked of it.
+-- Component and opposite lines have a definition, all others an inference. An input line has the source of its formula, which isn't asked here.
 abbrev pub step_source : Script → Layout → Step → SourceTree
 step_source script layout (Component name) = component_source (introduced_name script.prefix name)
 step_source script layout (Opposite name) = opposite_source (introduced_name script.prefix name)

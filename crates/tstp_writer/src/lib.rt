@@ -1,4 +1,4 @@
-// What is printed: of a derivation, the lines that one of them needs.
+// What is printed: of a derivation, the lines that one of them needs, and the texts of lines.
 #![tactic(auto)]
 
 mod clauses;
