@@ -1,12 +1,12 @@
 -- No token of a printed formula is at fault, within its levels and with its free variables.
-use Rattle.std.proofs.Common.{◌≡◌, ℕ, suc, ◌+◌, ◌<◌, ◌≤◌, Bool, true, false, not, ◌||◌, List, [], ◌∷◌, ◌++◌, Option, None, Some, refl, ap, sym, ◌∙◌, subst, arith}
-use Rattle.std.specs.Prelude.{max, bytes_eq, filter, if◌then◌else◌}
+use Rattle.std.proofs.Common.{◌≡◌, ℕ, suc, ◌+◌, ◌<◌, ◌≤◌, Bool, true, false, not, ◌||◌, List, [], ◌∷◌, ◌++◌, Option, None, Some, refl, ap, ◌∙◌, arith}
+use Rattle.std.specs.Prelude.{max, bytes_eq, if◌then◌else◌}
 use Rattle.std.specs.List.{list_any, AllByRecursion}
 use Rattle.std.proofs.lemmas.Bool.{lt-ltb}
 use Rattle.std.proofs.lemmas.List.Folds.{list_any-append}
 use Rattle.std.proofs.Math.Nat.{le-max_left, le-max_right}
 use Rattle.tptp_tree.specs.Term.{TermTree, variable, application, TermTrees, no_terms, term_then}
-use Rattle.tptp_tree.specs.Formula.{Quantifier, FormulaTree, truth, falsity, predicate, equation, negation, conjunction, disjunction, connected, quantified, FormulaTrees, no_formulas, formula_then}
+use Rattle.tptp_tree.specs.Formula.{FormulaTree, truth, falsity, predicate, equation, negation, conjunction, disjunction, connected, quantified, FormulaTrees, no_formulas, formula_then}
 use Rattle.tptp_tree.specs.Printing.{is_joined, is_bare}
 use Rattle.tptp_tree.specs.Causes.{Refusal, free_variable, too_deep, Scope, every_variable, bound_ones, scope_with, Surroundings, deeper, binding, begun, variable_cause, term_causes, arguments_causes, more_arguments_causes, more_variables_causes, unit_causes, units_causes, phrase_causes}
 use Rattle.tptp_tree.proofs.CanonicalLemmas.{WellFormula, WellFormulas, term_phrase, term_phrases, phrase_of, units_of, unit_of, negated_unit}
@@ -95,7 +95,7 @@ mutual
         term-fine (deeper s) t (more_arguments_causes (deeper s) (term_phrases ts) rest)
             (fits-left (deeper s) (term_levels t) (terms_levels ts) inside) (allowed-front s.scope (term_names t) (terms_names ts) a)
             (more-fine (deeper s) ts rest (fits-right (deeper s) (term_levels t) (terms_levels ts) inside)
-                (allowed-back s.scope (term_names t) (terms_names ts) a) r),
+            (allowed-back s.scope (term_names t) (terms_names ts) a) r),
       )
 
   more-fine :
@@ -196,10 +196,11 @@ mutual
       (allowed-back s.scope (free_names f) (all_free_names (formula_then g fs)) a) r)
   formula-fine (connected c f g) w s rest h a r =
       operand-fine f w.0 (formula-fine f w.0) s (None ∷ unit_causes s (unit_of (phrase_of g)) rest)
-      (fits-left s (unit_levels f) (unit_levels g) h) (allowed-front s.scope (free_names f) (free_names g) a)
-      (refl,
-      operand-fine g w.1 (formula-fine g w.1) s rest (fits-right s (unit_levels f) (unit_levels g) h)
-      (allowed-back s.scope (free_names f) (free_names g) a) r)
+      (fits-left s (unit_levels f) (unit_levels g) h) (allowed-front s.scope (free_names f) (free_names g) a) (
+        refl,
+        operand-fine g w.1 (formula-fine g w.1) s rest (fits-right s (unit_levels f) (unit_levels g) h)
+            (allowed-back s.scope (free_names f) (free_names g) a) r,
+      )
   formula-fine (quantified q [] f) w s rest h a r = absurd w.0
   formula-fine (quantified q (x ∷ xs) f) w s rest h a r =
       let below : Fits (deeper s) (max 1 (unit_levels f)) = fits-deeper s (max 1 (unit_levels f)) h in
@@ -208,8 +209,10 @@ mutual
       operand-fine f w.2 (formula-fine f w.2) under rest (fits-right (deeper s) 1 (unit_levels f) below)
       (bound-allowed s.scope (x ∷ xs) (free_names f) a) r in (
         fits-begun s (max 1 (unit_levels f)) h,
-        (fits-begun (deeper s) 0 (fits-left (deeper s) 1 (unit_levels f) below),
-        (refl, variables-fine xs (None ∷ None ∷ unit_causes under (unit_of (phrase_of f)) rest) (refl, (refl, body)))),
+        (
+          fits-begun (deeper s) 0 (fits-left (deeper s) 1 (unit_levels f) below),
+          (refl, variables-fine xs (None ∷ None ∷ unit_causes under (unit_of (phrase_of f)) rest) (refl, (refl, body))),
+        ),
       )
 
   operands-fine :
@@ -221,5 +224,5 @@ mutual
     operand-fine f w.0 (formula-fine f w.0) s (units_causes s (units_of fs) rest) (fits-left s (unit_levels f) (operands_levels fs) h)
         (allowed-front s.scope (free_names f) (all_free_names fs) a)
         (operands-fine fs w.1 s rest (fits-right s (unit_levels f) (operands_levels fs) h)
-            (allowed-back s.scope (free_names f) (all_free_names fs) a) r),
+        (allowed-back s.scope (free_names f) (all_free_names fs) a) r),
   )

@@ -1,12 +1,12 @@
 -- A formula that is a clause, as a phrase of `cnf`: its tokens, its meaning and the causes of its tokens are those of the formula.
-use Rattle.std.proofs.Common.{◌≡◌, ℕ, Bool, true, false, ◌&&◌, List, [], ◌∷◌, codes, Option, None, refl, ap, ap₂, ◌∙◌}
+use Rattle.std.proofs.Common.{◌≡◌, true, false, List, [], ◌∷◌, codes, Option, None, refl, ap, ap₂, ◌∙◌}
 use Rattle.std.specs.List.{list_all}
 use Rattle.std.proofs.lemmas.Bool.{and_parts}
 use Rattle.tptp_token.specs.Lexemes.{Lexeme, lexeme}
 use Rattle.tptp_token.specs.declared.token.Kind.TheVariants.{Connective}
 use Rattle.tptp_tree.specs.Formula.{FormulaTree, truth, falsity, predicate, equation, negation, conjunction, disjunction, connected, quantified, FormulaTrees, no_formulas, formula_then, list_of_formulas}
 use Rattle.tptp_tree.specs.Spelling.{true_atom, false_atom, predicate_atom, equation_atom, unit_lexemes, units_lexemes, phrase_lexemes}
-use Rattle.tptp_tree.specs.Entries.{PlainAtom, plain_true, plain_false, plain_predicate, plain_equation, LiteralPhrase, positive_literal, negated_literal, negated_in_brackets, ClausePhrase, literals, literal_lexemes, more_literals_lexemes, clause_lexemes, literal_meant, literals_meant, clause_meant}
+use Rattle.tptp_tree.specs.Entries.{plain_true, plain_false, plain_predicate, plain_equation, LiteralPhrase, positive_literal, negated_literal, negated_in_brackets, ClausePhrase, literals, literal_lexemes, more_literals_lexemes, clause_lexemes, literal_meant, literals_meant, clause_meant}
 use Rattle.tptp_tree.specs.Causes.{Refusal, Surroundings, literal_causes, more_literals_causes, clause_causes, unit_causes, units_causes, phrase_causes}
 use Rattle.tptp_tree.proofs.NameLemmas.{word_of, name_of-word_of}
 use Rattle.tptp_tree.proofs.CanonicalLemmas.{WellFormula, term_phrase, term_phrases, phrase_of, units_of, unit_of, term-meant, terms-meant}

@@ -26,6 +26,6 @@ mod PlaceLemmas
 mod WalkLemmas
 mod InputLines
 mod ConeLemmas
-mod NextLine
 mod DerivedLines
 mod WrittenLines
+mod LayoutLemmas

@@ -1,40 +1,39 @@
 -- A printed line has the tokens of a phrase, and these are those of the line.
-use Rattle.std.proofs.Common.{◌≡◌, ℕ, ◌+◌, ◌≤◌, Bool, true, false, ◌&&◌, List, [], ◌∷◌, ◌++◌, map, codes, Option, None, Some, refl, ap, ap₂, sym, ◌∙◌, subst, arith, append_assoc, append-nil}
-use Rattle.std.specs.Prelude.{if◌then◌else◌, flat_map}
+use Rattle.std.proofs.Common.{◌≡◌, ℕ, ◌≤◌, Bool, true, false, ◌&&◌, List, [], ◌∷◌, ◌++◌, map, codes, Option, None, Some, refl, ap, ap₂, sym, ◌∙◌, subst, arith, append_assoc}
+use Rattle.std.specs.Prelude.{if◌then◌else◌}
 use Rattle.std.specs.List.{list_all, AllByRecursion}
-use Rattle.std.proofs.lemmas.Bool.{and_parts, and_from}
+use Rattle.std.proofs.lemmas.Bool.{and_from}
 use Rattle.tptp_token.specs.Spelling.{is_digit, is_lower_word}
-use Rattle.tptp_token.specs.Lexing.{lexed_of}
-use Rattle.tptp_token.specs.Lexemes.{Lexeme, lexeme, word_lexeme, IsLexedAs}
+use Rattle.tptp_token.specs.Lexemes.{Lexeme, lexeme, IsLexedAs}
 use Rattle.tptp_token.specs.declared.token.Kind.TheVariants.{Lower, Mark}
 use Rattle.tptp_token.proofs.PieceLemmas.{blank-piece}
 use Rattle.tptp_token.proofs.LexemeLemmas.{Lexes, lexes-whole, lexes-nothing, lexes-blank}
-use Rattle.tptp_token.proofs.FrontLemmas.{EndsWord, lexes-lower, lexes-mark}
+use Rattle.tptp_token.proofs.FrontLemmas.{lexes-lower, lexes-mark}
 use Rattle.tptp_tree.specs.declared.role.Role.{Role}
 use Rattle.tptp_tree.specs.declared.role.Role.TheVariants.{Axiom, Hypothesis, Definition, Assumption, Lemma, Theorem, Corollary, NegatedConjecture, Plain, Conjecture}
 use Rattle.tptp_tree.specs.declared.limits.TheConstants.{MOST_DERIVATION_NESTING}
 use Rattle.tptp_tree.specs.Formula.{FormulaTree}
 use Rattle.tptp_tree.specs.Printing.{formula_text}
-use Rattle.tptp_tree.specs.Spelling.{phrase_lexemes, SpellsFormula}
+use Rattle.tptp_tree.specs.Spelling.{phrase_lexemes}
 use Rattle.tptp_tree.specs.Brackets.{are_balanced}
-use Rattle.tptp_tree.specs.Entries.{NamePhrase, word_name, digits_name, name_lexeme, name_meant, is_right_name, is_conjecture, role_word, role_of, Body, formula_body, clause_body, is_clause_body, language_word, body_lexemes, body_meant, AnnotatedPhrase, is_right_annotated, notes_lexemes, annotated_lexemes, AnnotatedTree, IsAnnotatedOf}
-use Rattle.tptp_tree.specs.Causes.{Refusal, role_cause, untaken_role_cause, outermost, body_causes, notes_causes, notes_part_causes, annotated_causes, Scope, every_variable, bound_ones, Surroundings, phrase_causes}
+use Rattle.tptp_tree.specs.Entries.{NamePhrase, word_name, digits_name, name_lexeme, name_meant, is_right_name, is_conjecture, role_word, role_of, Body, formula_body, clause_body, is_clause_body, language_word, body_lexemes, body_meant, AnnotatedPhrase, notes_lexemes, annotated_lexemes}
+use Rattle.tptp_tree.specs.Causes.{Refusal, untaken_role_cause, outermost, body_causes, notes_causes, notes_part_causes, bound_ones}
 use Rattle.tptp_tree.proofs.NameLemmas.{word_of, name_of-word_of}
 use Rattle.tptp_tree.proofs.CanonicalLemmas.{WellFormula, phrase_of, formula-meant}
 use Rattle.tptp_tree.proofs.LexingLemmas.{formula-lexes}
 use Rattle.tptp_tree.proofs.WellLemmas.{spelled-well}
 use Rattle.signature.specs.Environment.{free_names}
 use Rattle.tptp_source.specs.declared.sign.NumberSign.TheVariants.{Unsigned}
-use Rattle.tptp_source.specs.General.{GeneralTree, number, trees_of}
-use Rattle.tptp_source.specs.Spelling.{parts, no_parts, part_lexemes, SpellsGeneral}
+use Rattle.tptp_source.specs.General.{GeneralTree, number}
+use Rattle.tptp_source.specs.Spelling.{parts, no_parts, part_lexemes}
 use Rattle.tptp_source.specs.Sources.{name_in, names_in, name_before, SourceTree, file_source, inference_source, component_source, opposite_source, word_of as word_term, IsSource, SpellsSource}
 use Rattle.clausal_form.specs.DerivationLine.{LineTree}
-use Rattle.clausal_form.specs.DerivationTexts.{IsLineOf, AreLinesOf, phrases_lexemes, SpellsLines, text_tokens, IsEnd, SpellsDerivation}
-use Rattle.tstp_writer.specs.SourceTexts.{general_text, is_number_name, name_term, source_term, source_text}
-use Rattle.tstp_writer.specs.LineTexts.{formula_name_text, entry_text, line_text, lines_text}
-use Rattle.tstp_writer.specs.Levels.{formula_levels, general_levels}
-use Rattle.tstp_writer.specs.Printable.{IsShown, IsWritable, is_clause_formula, IsFormOf, IsPrintable}
-use Rattle.tstp_writer.proofs.TermTexts.{part_of, part-meant, part-front, EndsTerm, comma, round, closer-ends, term-lexes}
+use Rattle.clausal_form.specs.DerivationTexts.{IsLineOf, AreLinesOf, phrases_lexemes, SpellsDerivation}
+use Rattle.tstp_writer.specs.SourceTexts.{is_number_name, name_term, source_term, source_text}
+use Rattle.tstp_writer.specs.LineTexts.{formula_name_text, line_text, lines_text}
+use Rattle.tstp_writer.specs.Levels.{formula_levels}
+use Rattle.tstp_writer.specs.Printable.{IsShown, IsWritable, IsFormOf, IsPrintable}
+use Rattle.tstp_writer.proofs.TermTexts.{part_of, part-meant, part-front, comma, round, closer-ends, term-lexes}
 use Rattle.tstp_writer.proofs.NoteLemmas.{AllNone, Fine, term-fine}
 use Rattle.tstp_writer.proofs.CauseLemmas.{AllAllowed, every-allowed, formula-fine}
 use Rattle.tstp_writer.proofs.ClausePhrases.{clause_of, IsClauseOf, clause-is}
@@ -229,11 +228,26 @@ line-is t p =
     ap (λ l. role_of l (role_word (t.entry).role)) b.language ∙ role-taken (t.entry).is_clause (t.entry).role p.role in
     record {
       right = and_from (is_right_name (name_phrase (t.entry).name)) (are_balanced (source_tokens t.source)) (name-right (t.entry).name) notes.closed;
-      faultless = (refl, (refl, (refl, (refl,
-      (ap (λ o. untaken_role_cause o (role_word (t.entry).role)) role,
-      (refl,
-      b.causes MOST_DERIVATION_NESTING (notes_part_causes MOST_DERIVATION_NESTING (source_tokens t.source) (None ∷ None ∷ [])) p.levels
-      (notes-fine MOST_DERIVATION_NESTING (source_tokens t.source) (None ∷ None ∷ []) notes (refl, (refl, tt)))))))));
+      faultless = (
+        refl,
+        (
+          refl,
+          (
+            refl,
+            (
+              refl,
+              (
+                ap (λ o. untaken_role_cause o (role_word (t.entry).role)) role,
+                (
+                  refl,
+                  b.causes MOST_DERIVATION_NESTING (notes_part_causes MOST_DERIVATION_NESTING (source_tokens t.source) (None ∷ None ∷ [])) p.levels
+                      (notes-fine MOST_DERIVATION_NESTING (source_tokens t.source) (None ∷ None ∷ []) notes (refl, (refl, tt))),
+                ),
+              ),
+            ),
+          ),
+        ),
+      );
       entry = record { name = sym (name-meant (t.entry).name); role = role; is_clause = sym b.language; formula = sym b.meant };
       source = source-spelled t.source p.source;
     }

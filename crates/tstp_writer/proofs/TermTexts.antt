@@ -1,15 +1,14 @@
 -- A printed general term has the tokens of its phrase, and these spell it.
-use Rattle.std.proofs.Common.{◌≡◌, ℕ, ◌+◌, ◌<◌, Bool, true, false, cond, ◌&&◌, List, [], ◌∷◌, ◌++◌, map, drop, length, codes, Some, refl, ap, ap₂, sym, ◌∙◌, subst, arith, append_assoc, append-nil, leb-true}
-use Rattle.std.specs.Prelude.{nat_le, if◌then◌else◌}
-use Rattle.std.specs.List.{prefix_len, list_any, list_all}
+use Rattle.std.proofs.Common.{◌≡◌, ℕ, ◌+◌, ◌<◌, true, false, cond, ◌&&◌, List, [], ◌∷◌, ◌++◌, length, codes, refl, ap, ap₂, sym, ◌∙◌, subst, arith, append_assoc, append-nil, leb-true}
+use Rattle.std.specs.Prelude.{nat_le}
+use Rattle.std.specs.List.{prefix_len, list_all}
 use Rattle.std.proofs.lemmas.Bool.{and_parts, agree_below_at}
 use Rattle.std.proofs.Math.Seq.{drop-append_seam}
-use Rattle.tptp_token.specs.Spelling.{is_digit, marks}
-use Rattle.tptp_token.specs.Longest.{longest}
+use Rattle.tptp_token.specs.Spelling.{is_digit}
 use Rattle.tptp_token.specs.Pieces.{starts_with_either}
 use Rattle.tptp_token.specs.Words.{name_text}
 use Rattle.tptp_token.specs.Lexemes.{Lexeme, lexeme, word_lexeme}
-use Rattle.tptp_token.specs.declared.token.Kind.TheVariants.{Variable, Dollar, Number, Connective, Mark}
+use Rattle.tptp_token.specs.declared.token.Kind.TheVariants.{Dollar, Number, Connective, Mark}
 use Rattle.tptp_token.proofs.TestLemmas.{second-false}
 use Rattle.tptp_token.proofs.NumberLemmas.{NoDigit, no_exponent, fraction-none, number-length, number-piece}
 use Rattle.tptp_token.proofs.LexemeLemmas.{Lexes}

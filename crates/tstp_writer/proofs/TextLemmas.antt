@@ -1,27 +1,35 @@
 -- Printed names, clauses and sources, put together from their parts.
-use Rattle.std.proofs.Common.{Result, Ok, Err, IfOk, ◌≡◌, ℕ, zero, suc, ◌+◌, ◌/◌, ◌%◌, ◌<◌, ◌≤◌, Bool, true, false, not, ◌&&◌, ◌||◌, ◌==◌, List, [], ◌∷◌, ◌++◌, map, codes, refl, ap, ap₂, sym, ◌∙◌, arith, append_assoc, append-nil, leb-true, le-leb}
-use Rattle.std.specs.Prelude.{nat_le, if◌then◌else◌}
-use Rattle.std.specs.List.{list_all, AllByRecursion}
+use Rattle.std.proofs.Common.{Result, Ok, Err, IfOk, Option, None, Some, ◌≡◌, ℕ, zero, suc, ◌+◌, ◌/◌, ◌%◌, ◌<◌, Bool, true, false, ◌&&◌, ◌||◌, ◌==◌, List, [], ◌∷◌, ◌++◌, map, length, drop, get_or, codes, refl, ap, ap₂, sym, ◌∙◌, arith, append_assoc, append-nil, leb-true, le-leb}
+use Rattle.std.specs.Prelude.{nat_le, filter_map, slice_get, if◌then◌else◌}
+use Rattle.std.specs.List.{list_all, cons_option, AllByRecursion}
 use Rattle.std.specs.Fmt.{digits, digits_onto, digit_glyph, decimal}
-use Rattle.std.proofs.lemmas.Bool.{and_parts, and_from, lt-ltb}
+use Rattle.std.proofs.lemmas.Bool.{and_parts, and_from, lt-ltb, ltb-true, false≢true}
+use Rattle.std.proofs.Math.Dec.{ltb}
 use Rattle.std.proofs.lemmas.List.Folds.{list_all-append}
 use Rattle.plain_types.specs.declared.sequence.NameLit.{NameLit}
 use Rattle.fol_base.specs.Tree.{Tree, variable, application, tree_eq, true_tree}
-use Rattle.fol_base.specs.Clause.{TreeLiteral, TreeClause}
+use Rattle.fol_base.specs.Clause.{TreeLiteral}
+use Rattle.kernel_steps.specs.Derivation.{introduces_name}
+use Rattle.kernel_steps.specs.declared.step.Step.{Step}
+use Rattle.kernel_steps.specs.declared.step.Step.TheVariants.{Input, Negate, Clausify, Para, Refl, Factor, Merge, Component, Opposite, Split, Chain}
 use Rattle.kernel_steps.specs.Keys.{commas_before, with_commas}
 use Rattle.signature.specs.declared.symbol.Symbol.{Symbol}
-use Rattle.tptp_token.specs.Spelling.{is_digit, is_lower, is_upper, is_word_byte, is_lower_word, begins}
+use Rattle.tptp_token.specs.Spelling.{is_digit, is_lower, is_upper, is_word_byte, is_lower_word}
 use Rattle.tptp_token.specs.Words.{name_text, quoted_text}
-use Rattle.tptp_tree.specs.Formula.{FormulaTree, truth, predicate, equation, negation, disjunction, formulas_of}
+use Rattle.tptp_tree.specs.Formula.{FormulaTree, truth, predicate, equation, formulas_of}
 use Rattle.tptp_tree.specs.Term.{TermTree, variable as named_variable, application as named_application, TermTrees, no_terms, term_then}
 use Rattle.tptp_tree.specs.Printing.{term_text, arguments_text, more_arguments_text, is_joined, in_parentheses, formula_text, more_operands_text}
-use Rattle.tptp_source.specs.General.{GeneralTree, word, number, trees_of}
+use Rattle.tptp_source.specs.General.{GeneralTree, number, trees_of}
 use Rattle.tptp_source.specs.Sources.{inference_source, component_source, opposite_source, word_of as word_term, list_of as list_term}
 use Rattle.tptp_source.specs.declared.sign.NumberSign.TheVariants.{Unsigned}
 use Rattle.tstp_writer.specs.SourceTexts.{general_text, arguments_text as general_arguments, items_text, more_text, is_number_name, name_term, source_text}
 use Rattle.tstp_writer.specs.ClauseTrees.{symbol_name, term_tree, term_trees, with_sign, atom_formula, literal_formula, introduced_name, signed_name_formula, one_of, clause_formula}
-use Rattle.tstp_writer.specs.LineTrees.{line_name, named, status_item, term_item, term_items, bind_item, pivot_name, pivot_item}
-use Rattle.tstp_writer.specs.NameTexts.{signed_name_text, more_names_text, more_items_text, definition_text, inference_text}
+use Rattle.tptp_source.specs.Sources.{SourceTree}
+use Rattle.tptp_tree.specs.Entries.{AnnotatedTree, language_word, role_word}
+use Rattle.clausal_form.specs.DerivationLine.{LineTree}
+use Rattle.tstp_writer.specs.LineTexts.{line_text, lines_text, shown_text, shown_texts}
+use Rattle.tstp_writer.specs.LineTrees.{with_source, Script, is_conjecture_at, origin, Layout, place_in, line_name, cited_name, negated_name, derived_name, named, status_item, term_item, term_items, bind_item, pivot_name, pivot_item, rule_word, status_word, step_items, origin_name, parent_names, step_source}
+use Rattle.tstp_writer.specs.NameTexts.{signed_name_text, more_names_text, more_items_text, definition_text, introduction_text, inference_text, head_text}
 
 -- ---- what was added to a text
 
@@ -44,6 +52,51 @@ pub three_added :
     → q ≡ p ++ a → s ≡ q ++ b → IfOk r (λ _. t ≡ s ++ c) → IfOk r (λ _. t ≡ p ++ (a ++ b ++ c))
 three_added r p q s t a b c first second third =
     two_added r p s t (a ++ b) c (second ∙ ap (λ x. x ++ b) first ∙ append_assoc p a b) third
+
+pub two_joined : (p q s a b : List ℕ) → q ≡ p ++ a → s ≡ q ++ b → s ≡ p ++ (a ++ b)
+two_joined p q s a b first second = second ∙ ap (λ x. x ++ b) first ∙ append_assoc p a b
+
+pub three_joined : (p q s t a b c : List ℕ) → q ≡ p ++ a → s ≡ q ++ b → t ≡ s ++ c → t ≡ p ++ (a ++ b ++ c)
+three_joined p q s t a b c first second third = two_joined p s t (a ++ b) c (two_joined p q s a b first second) third
+
+-- ---- what stands in a list
+
+there : {X Y : Type 0} (f : X → Y) (xs : List X) (i : ℕ) (x : X) → i < length xs → x ≡ get_or xs i x → slice_get (map f xs) i ≡ Some (f x)
+there f [] i x h e = absurd (omega arith)
+there f (y ∷ ys) zero x h e = ap (λ z. Some (f z)) (sym e)
+there f (y ∷ ys) (suc i) x h e = there f ys i x (omega arith) e
+
+-- an item of a mapped list, and none past its end
+pub item_there :
+    {X Y : Type 0} (f : X → Y) (xs : List X) (i : ℕ) (x : X) → true ≡ ltb i (length xs) → x ≡ get_or xs i x → slice_get (map f xs) i ≡ Some (f x)
+item_there f xs i x h e = there f xs i x (ltb-true i (length xs) (sym h)) e
+
+pub item_past : {X Y : Type 0} (f : X → Y) (xs : List X) (i : ℕ) → false ≡ ltb i (length xs) → slice_get (map f xs) i ≡ None
+item_past {X} f xs i h = past xs i (λ l. false≢true (h ∙ lt-ltb i (length xs) l))
+  where
+    past : (xs : List X) (i : ℕ) → (i < length xs → ⊥) → slice_get (map f xs) i ≡ None
+    past [] i h = refl
+    past (y ∷ ys) zero h = absurd (h (omega arith))
+    past (y ∷ ys) (suc i) h = past ys i (λ l. h (omega (arith, l)))
+
+-- ---- texts behind commas
+
+drop-next : (ns : List ℕ) (i : ℕ) → i < length ns → drop i ns ≡ get_or ns i 0 ∷ drop (i + 1) ns
+drop-next [] i h = absurd (omega arith)
+drop-next (n ∷ ns) zero h = refl
+drop-next (n ∷ ns) (suc i) h =
+    let e : suc (i + 1) ≡ suc i + 1 = omega arith in
+    drop-next ns i (omega arith) ∙ ap (λ k. get_or ns i 0 ∷ drop k (n ∷ ns)) e
+
+-- one more of a list
+pub next_added :
+    (f : ℕ → List ℕ) (ns : List ℕ) (i : ℕ) (old new whole : List ℕ)
+    → i < length ns → new ≡ old ++ (codes "," ++ f (get_or ns i 0)) → old ++ commas_before (map f (drop i ns)) ≡ whole
+    → new ++ commas_before (map f (drop (i + 1) ns)) ≡ whole
+next_added f ns i old new whole h e k =
+    ap (λ us. us ++ commas_before (map f (drop (i + 1) ns))) e
+    ∙ append_assoc old (codes "," ++ f (get_or ns i 0)) (commas_before (map f (drop (i + 1) ns)))
+    ∙ ap (λ ms. old ++ commas_before (map f ms)) (sym (drop-next ns i h)) ∙ k
 
 -- ---- digits
 
@@ -251,7 +304,7 @@ bind-text symbols ts =
     ap (λ us. codes ",bind([" ++ us) (sym (append_assoc (with_commas terms) (codes "]") (codes ")")))
     ∙ ap (λ us. codes ",bind([" ++ (us ++ codes ")"))
     (sym (items-commas (map (λ t. term_item (term_tree symbols t)) ts
-    ) ∙ ap (λ vs. with_commas vs ++ codes "]") (each-text (λ t. term_item (term_tree symbols t)) (λ t. term_text (term_tree symbols t)) (λ t. term-text (term_tree symbols t)) ts)) )
+    ) ∙ ap (λ vs. with_commas vs ++ codes "]") (each-text (λ t. term_item (term_tree symbols t)) (λ t. term_text (term_tree symbols t)) (λ t. term-text (term_tree symbols t)) ts)))
 
 pivot-text : (prefix : List ℕ) → is_lower_word prefix ≡ true → (n : NameLit) → general_text (pivot_item prefix n) ≡ signed_name_text prefix n
 pivot-text prefix h n = by n.positive
@@ -329,17 +382,156 @@ inference-text rule status items parents h k p =
     let rest : List ℕ = 44 ∷ 91 ∷ (items_text (trees_of (map name_term parents)) ++ codes ")") in
     inference-flat rule status more names
     ∙ sym (
-      ap₂ (λ us vs. codes "inference(" ++ (us ++ (codes ",[status(" ++ (vs ++ codes ")" ++ more_text (codes "]") (trees_of items) ++ rest))))
-      (append-nil (name_text rule) ∙ bare-text rule h) (append-nil (name_text status) ∙ bare-text status k)
-      ∙ ap (λ us. codes "inference(" ++ (rule ++ (codes ",[status(" ++ us)))
-      (append_assoc (status ++ codes ")") (more_text (codes "]") (trees_of items)) rest
-      ∙ append_assoc status (codes ")") (more_text (codes "]") (trees_of items) ++ rest)
-      ∙ ap (λ us. status ++ (41 ∷ us))
-      (ap (λ us. us ++ rest) (more-commas (codes "]") items)
-      ∙ append_assoc more (codes "]") rest
-      ∙ ap (λ us. more ++ (93 ∷ 44 ∷ 91 ∷ us)) (ap (λ us. us ++ codes ")") (parents-text parents p) ∙ append_assoc names (codes "]") (codes ")"))))
+    ap₂ (λ us vs. codes "inference(" ++ (us ++ (codes ",[status(" ++ (vs ++ codes ")" ++ more_text (codes "]") (trees_of items) ++ rest))))
+    (append-nil (name_text rule) ∙ bare-text rule h) (append-nil (name_text status) ∙ bare-text status k)
+    ∙ ap (λ us. codes "inference(" ++ (rule ++ (codes ",[status(" ++ us)))
+    (append_assoc (status ++ codes ")") (more_text (codes "]") (trees_of items)) rest
+    ∙ append_assoc status (codes ")") (more_text (codes "]") (trees_of items) ++ rest)
+    ∙ ap (λ us. status ++ (41 ∷ us))
+    (ap (λ us. us ++ rest) (more-commas (codes "]") items)
+    ∙ append_assoc more (codes "]") rest
+    ∙ ap (λ us. more ++ (93 ∷ 44 ∷ 91 ∷ us)) (ap (λ us. us ++ codes ")") (parents-text parents p) ∙ append_assoc names (codes "]") (codes ")"))))
     )
 
 pub line_names-lower : (f : ℕ → ℕ) (ns : List ℕ) → AllLower (map (λ n. line_name (f n)) ns)
 line_names-lower f [] = tt
 line_names-lower f (n ∷ ns) = (line_name-lower (f n), line_names-lower f ns)
+
+origin_name-lower : (script : Script) (layout : Layout) (place : ℕ) → is_lower_word (origin_name script layout place) ≡ true
+origin_name-lower script layout place = by (is_conjecture_at script place)
+  where
+    by : (t : Bool) → is_lower_word (if t then negated_name layout place else cited_name layout place) ≡ true
+    by true = line_name-lower _
+    by false = line_name-lower _
+
+derived_names-lower : (layout : Layout) (ns : List ℕ) → AllLower (map (derived_name layout) ns)
+derived_names-lower layout ns = line_names-lower (λ n. length layout.cited + length layout.negated + place_in n layout.numbers) ns
+
+-- names of parents are names of lines
+parent_names-lower : (script : Script) (layout : Layout) (step : Step) → AllLower (parent_names script layout step)
+parent_names-lower script layout (Input place) = tt
+parent_names-lower script layout (Negate place) = (line_name-lower (place_in place layout.cited), tt)
+parent_names-lower script layout (Clausify i) = (origin_name-lower script layout (origin script i), tt)
+parent_names-lower script layout (Para first second from from_side into into_side place first_bind second_bind) = derived_names-lower layout (first ∷ second ∷ [])
+parent_names-lower script layout (Refl parent literal bind) = derived_names-lower layout (parent ∷ [])
+parent_names-lower script layout (Factor parent becomes becomes_side other other_side bind) = derived_names-lower layout (parent ∷ [])
+parent_names-lower script layout (Merge parent stays goes bind) = derived_names-lower layout (parent ∷ [])
+parent_names-lower script layout (Component name) = tt
+parent_names-lower script layout (Opposite name) = tt
+parent_names-lower script layout (Split parent definitions parts) = derived_names-lower layout (parent ∷ definitions)
+parent_names-lower script layout (Chain parents pivots) = derived_names-lower layout parents
+
+rule_word-lower : (step : Step) → is_lower_word (rule_word step) ≡ true
+rule_word-lower (Input place) = refl
+rule_word-lower (Negate place) = refl
+rule_word-lower (Clausify i) = refl
+rule_word-lower (Para first second from from_side into into_side place first_bind second_bind) = refl
+rule_word-lower (Refl parent literal bind) = refl
+rule_word-lower (Factor parent becomes becomes_side other other_side bind) = refl
+rule_word-lower (Merge parent stays goes bind) = refl
+rule_word-lower (Component name) = refl
+rule_word-lower (Opposite name) = refl
+rule_word-lower (Split parent definitions parts) = refl
+rule_word-lower (Chain parents pivots) = refl
+
+status_word-lower : (step : Step) → is_lower_word (status_word step) ≡ true
+status_word-lower (Input place) = refl
+status_word-lower (Negate place) = refl
+status_word-lower (Clausify i) = refl
+status_word-lower (Para first second from from_side into into_side place first_bind second_bind) = refl
+status_word-lower (Refl parent literal bind) = refl
+status_word-lower (Factor parent becomes becomes_side other other_side bind) = refl
+status_word-lower (Merge parent stays goes bind) = refl
+status_word-lower (Component name) = refl
+status_word-lower (Opposite name) = refl
+status_word-lower (Split parent definitions parts) = refl
+status_word-lower (Chain parents pivots) = refl
+
+-- the columns of a row make its source
+columns :
+    (script : Script) (layout : Layout) (step : Step)
+    → inference_text (rule_word step) (status_word step) (step_items script step) (parent_names script layout step)
+    ≡ source_text (inference_source (named (rule_word step)) (status_item (status_word step) ∷ step_items script step) (parent_names script layout step))
+columns script layout step =
+    inference-text (rule_word step) (status_word step) (step_items script step) (parent_names script layout step) (rule_word-lower step)
+    (status_word-lower step) (parent_names-lower script layout step)
+
+pub source_of_columns :
+    (script : Script) (layout : Layout) (step : Step) → introduces_name step ≡ false
+    → inference_text (rule_word step) (status_word step) (step_items script step) (parent_names script layout step)
+    ≡ source_text (step_source script layout step)
+source_of_columns script layout (Input place) h = columns script layout (Input place)
+source_of_columns script layout (Negate place) h = columns script layout (Negate place)
+source_of_columns script layout (Clausify i) h = columns script layout (Clausify i)
+source_of_columns script layout (Para first second from from_side into into_side place first_bind second_bind) h = columns script layout (Para first second from from_side into into_side place first_bind second_bind)
+source_of_columns script layout (Refl parent literal bind) h = columns script layout (Refl parent literal bind)
+source_of_columns script layout (Factor parent becomes becomes_side other other_side bind) h = columns script layout (Factor parent becomes becomes_side other other_side bind)
+source_of_columns script layout (Merge parent stays goes bind) h = columns script layout (Merge parent stays goes bind)
+source_of_columns script layout (Component name) h = absurd (let t : true ≡ false = h in cc)
+source_of_columns script layout (Opposite name) h = absurd (let t : true ≡ false = h in cc)
+source_of_columns script layout (Split parent definitions parts) h = columns script layout (Split parent definitions parts)
+source_of_columns script layout (Chain parents pivots) h = columns script layout (Chain parents pivots)
+
+pub source_of_introduction :
+    (script : Script) (layout : Layout) (step : Step) → is_lower_word script.prefix ≡ true → introduces_name step ≡ true
+    → introduction_text script.prefix step ≡ source_text (step_source script layout step)
+source_of_introduction script layout (Input place) l h = absurd (let t : false ≡ true = h in cc)
+source_of_introduction script layout (Negate place) l h = absurd (let t : false ≡ true = h in cc)
+source_of_introduction script layout (Clausify i) l h = absurd (let t : false ≡ true = h in cc)
+source_of_introduction script layout (Para first second from from_side into into_side place first_bind second_bind) l h = absurd (let t : false ≡ true = h in cc)
+source_of_introduction script layout (Refl parent literal bind) l h = absurd (let t : false ≡ true = h in cc)
+source_of_introduction script layout (Factor parent becomes becomes_side other other_side bind) l h = absurd (let t : false ≡ true = h in cc)
+source_of_introduction script layout (Merge parent stays goes bind) l h = absurd (let t : false ≡ true = h in cc)
+source_of_introduction script layout (Component name) l h = definition-component (introduced_name script.prefix name) (numbered-lower script.prefix name l)
+source_of_introduction script layout (Opposite name) l h = definition-opposite (introduced_name script.prefix name) (numbered-lower script.prefix name l)
+source_of_introduction script layout (Split parent definitions parts) l h = absurd (let t : false ≡ true = h in cc)
+source_of_introduction script layout (Chain parents pivots) l h = absurd (let t : false ≡ true = h in cc)
+
+-- ---- lines
+
+-- the parts of a line make its text
+pub line_of_parts :
+    (a : AnnotatedTree) (source : SourceTree) (n : ℕ) → a.name ≡ line_name n
+    → head_text (language_word a.is_clause) (line_name n) (role_word a.role) ++ formula_text a.formula ++ codes "," ++ source_text source ++ codes ").\n"
+    ≡ line_text (with_source a source)
+line_of_parts a source n e =
+    ap (λ us. language_word a.is_clause ++ codes "(" ++ us ++ codes "," ++ role_word a.role ++ codes "," ++ formula_text a.formula ++ codes ","
+    ++ source_text source ++ codes ").\n")
+    (sym (ap (λ m. general_text (name_term m)) e ∙ bare-name (line_name n) (line_name-lower n)))
+
+pub five_added :
+    {E : Type 0} (r : Result (Unit {0}) E) (p q s t v w a b c d e : List ℕ)
+    → q ≡ p ++ a → s ≡ q ++ b → t ≡ s ++ c → v ≡ t ++ d → IfOk r (λ _. w ≡ v ++ e) → IfOk r (λ _. w ≡ p ++ (a ++ b ++ c ++ d ++ e))
+five_added r p q s t v w a b c d e first second third fourth fifth =
+    three_added r p t v w (a ++ b ++ c) d e (three_joined p q s t a b c first second third) fourth fifth
+
+pub next_shown :
+    (tree : ℕ → Option LineTree) (ns : List ℕ) (i : ℕ) (old new whole : List ℕ)
+    → i < length ns → new ≡ old ++ shown_text (tree (get_or ns i 0)) → old ++ shown_texts tree (drop i ns) ≡ whole
+    → new ++ shown_texts tree (drop (i + 1) ns) ≡ whole
+next_shown tree ns i old new whole h e k =
+    ap (λ us. us ++ shown_texts tree (drop (i + 1) ns)) e
+    ∙ append_assoc old (shown_text (tree (get_or ns i 0))) (shown_texts tree (drop (i + 1) ns))
+    ∙ ap (λ ms. old ++ shown_texts tree ms) (sym (drop-next ns i h)) ∙ k
+
+shown-lines : (tree : ℕ → Option LineTree) (ns : List ℕ) → shown_texts tree ns ≡ lines_text (filter_map tree ns)
+shown-lines tree [] = refl
+shown-lines tree (n ∷ ns) = by (tree n) (shown-lines tree ns)
+  where
+    by :
+        (o : Option LineTree) → shown_texts tree ns ≡ lines_text (filter_map tree ns)
+        → shown_text o ++ shown_texts tree ns ≡ lines_text (cons_option o (filter_map tree ns))
+    by None h = h
+    by (Some t) h = ap (λ us. line_text t ++ us) h
+
+lines-append : (ts us : List LineTree) → lines_text (ts ++ us) ≡ lines_text ts ++ lines_text us
+lines-append [] us = refl
+lines-append (t ∷ ts) us = ap (λ vs. line_text t ++ vs) (lines-append ts us) ∙ sym (append_assoc (line_text t) (lines_text ts) (lines_text us))
+
+pub shown_of_parts :
+    (f g h : ℕ → Option LineTree) (ks ls ms : List ℕ)
+    → shown_texts f ks ++ shown_texts g ls ++ shown_texts h ms ≡ lines_text (filter_map f ks ++ filter_map g ls ++ filter_map h ms)
+shown_of_parts f g h ks ls ms =
+    ap₂ (λ us vs. us ++ vs) (ap₂ (λ us vs. us ++ vs) (shown-lines f ks) (shown-lines g ls)) (shown-lines h ms)
+    ∙ sym (lines-append (filter_map f ks ++ filter_map g ls) (filter_map h ms)
+    ∙ ap (λ us. us ++ lines_text (filter_map h ms)) (lines-append (filter_map f ks) (filter_map g ls)))

@@ -1,5 +1,5 @@
 -- How the lines of a derivation are printed.
-use Rattle.std.specs.Prelude.{ℕ, List, ◌++◌, flat_map, codes}
+use Rattle.std.specs.Prelude.{ℕ, List, [], ◌∷◌, ◌++◌, flat_map, codes, Option, None, Some}
 use Rattle.tptp_tree.specs.Entries.{AnnotatedTree, language_word, role_word}
 use Rattle.tptp_tree.specs.Printing.{formula_text}
 use Rattle.clausal_form.specs.DerivationLine.{LineTree}
@@ -21,3 +21,13 @@ line_text t = entry_text t.entry ++ codes "," ++ source_text t.source ++ codes "
 
 abbrev pub lines_text : List LineTree → List ℕ
 lines_text ts = flat_map line_text ts
+
+-- the line that there is, or nothing
+abbrev pub shown_text : Option LineTree → List ℕ
+shown_text None = []
+shown_text (Some t) = line_text t
+
+-- the lines that there are for numbers
+abbrev pub shown_texts : (ℕ → Option LineTree) → List ℕ → List ℕ
+shown_texts tree [] = []
+shown_texts tree (n ∷ ns) = shown_text (tree n) ++ shown_texts tree ns

@@ -17,6 +17,7 @@ use Rattle.tptp_tree.specs.declared.problem.Annotated.{Annotated}
 use Rattle.signature.specs.declared.symbol.Symbol.{Symbol}
 use Rattle.signature.specs.Form.{ClausalForm, clausal_form}
 use Rattle.signature.specs.Prefix.{fresh_prefix_of}
+use Rattle.kernel_steps.specs.Derivation.{is_clause_step}
 use Rattle.kernel_steps.specs.Keys.{side_word}
 use Rattle.kernel_steps.specs.declared.step.Step.{Step}
 use Rattle.kernel_steps.specs.declared.step.Step.TheVariants.{Input, Negate, Clausify, Para, Refl, Factor, Merge, Component, Opposite, Split, Chain}
@@ -152,6 +153,9 @@ pivot_item prefix n = pivot_name n.positive (introduced_name prefix n.name)
 -- ---- the columns of the table of steps: rule, status, items, parents
 
 abbrev pub rule_word : Step → List ℕ
+rule_word (Input place) = codes "input"
+rule_word (Component name) = codes "component"
+rule_word (Opposite name) = codes "opposite"
 rule_word (Negate place) = codes "negate"
 rule_word (Clausify i) = codes "clausify"
 rule_word (Para first second from from_side into into_side place first_bind second_bind) = codes "para"
@@ -160,7 +164,6 @@ rule_word (Factor parent becomes becomes_side other other_side bind) = codes "fa
 rule_word (Merge parent stays goes bind) = codes "merge"
 rule_word (Split parent definitions parts) = codes "split"
 rule_word (Chain parents pivots) = codes "chain"
-rule_word _ = []
 
 abbrev pub status_word : Step → List ℕ
 status_word (Negate place) = codes "cth"
@@ -193,11 +196,7 @@ parent_names script layout step = map (derived_name layout) (parents_of step)
 
 -- ---- sources
 
-abbrev pub IsInputStep : Step → Type 0
-IsInputStep (Input place) = Unit {0}
-IsInputStep _ = ⊥
-
--- Each step but that of an input line has one.
+-- Component and opposite lines have a definition, all others an inference. An input line has the source of its formula, which isn't asked here.
 abbrev pub step_source : Script → Layout → Step → SourceTree
 step_source script layout (Component name) = component_source (introduced_name script.prefix name)
 step_source script layout (Opposite name) = opposite_source (introduced_name script.prefix name)
@@ -232,21 +231,33 @@ clause_tree script name c source =
     with_source
     (record { name = name; role = Plain; is_clause = true; formula = clause_formula script.symbols script.prefix c }) source
 
-abbrev pub line_tree_by : Script → Layout → List ℕ → TreeClause → Step → Option LineTree
-line_tree_by script layout name c (Input place) = input_at script name place
-line_tree_by script layout name c (Negate place) = negate_at script layout name place
-line_tree_by script layout name c step = Some (clause_tree script name c (step_source script layout step))
+-- of an input or negate line
+abbrev pub formula_tree : Script → Layout → List ℕ → Step → Option LineTree
+formula_tree script layout name (Input place) = input_at script name place
+formula_tree script layout name (Negate place) = negate_at script layout name place
+formula_tree script layout name step = None
 
 abbrev pub line_tree : Script → Layout → List ℕ → Line → Option LineTree
-line_tree script layout name line = line_tree_by script layout name (clause_of line.clause) line.step
+line_tree script layout name line =
+    if is_clause_step line.step
+    then Some (clause_tree script name (clause_of line.clause) (step_source script layout line.step))
+    else formula_tree script layout name line.step
 
 abbrev pub derived_tree : Script → Layout → List Line → ℕ → Option LineTree
 derived_tree script layout lines n = option_and_then (line_tree script layout (derived_name layout n)) (slice_get lines n)
 
+-- the line of a formula, and of its negation
+abbrev pub cited_tree : Script → Layout → ℕ → Option LineTree
+cited_tree script layout place = input_at script (cited_name layout place) place
+
+abbrev pub negated_tree : Script → Layout → ℕ → Option LineTree
+negated_tree script layout place = negate_at script layout (negated_name layout place) place
+
+abbrev pub laid_out_trees : Script → Layout → List Line → List LineTree
+laid_out_trees script layout lines =
+    filter_map (cited_tree script layout) layout.cited ++ filter_map (negated_tree script layout) layout.negated
+    ++ filter_map (derived_tree script layout lines) layout.numbers
+
 -- The lines that are written for lines of a derivation, those with the given numbers.
 abbrev pub derivation_trees : Script → List Line → List ℕ → List LineTree
-derivation_trees script lines numbers =
-    let layout : Layout = layout_of script lines numbers in
-    filter_map (λ place. input_at script (cited_name layout place) place) layout.cited
-    ++ filter_map (λ place. negate_at script layout (negated_name layout place) place) layout.negated
-    ++ filter_map (derived_tree script layout lines) numbers
+derivation_trees script lines numbers = laid_out_trees script (layout_of script lines numbers) lines

@@ -1,8 +1,9 @@
 -- The texts of names and of the parts of inferences, as they are printed one after another.
 use Rattle.std.specs.Prelude.{ℕ, List, [], ◌∷◌, ◌++◌, map, codes, if◌then◌else◌}
 use Rattle.plain_types.specs.declared.sequence.NameLit.{NameLit}
+use Rattle.kernel_steps.specs.declared.step.Step.{Step}
+use Rattle.kernel_steps.specs.declared.step.Step.TheVariants.{Component, Opposite}
 use Rattle.kernel_steps.specs.Keys.{commas_before, with_commas}
-use Rattle.tptp_tree.specs.Entries.{language_word}
 use Rattle.tptp_source.specs.General.{GeneralTree}
 use Rattle.tstp_writer.specs.SourceTexts.{general_text}
 use Rattle.tstp_writer.specs.ClauseTrees.{introduced_name}
@@ -22,6 +23,11 @@ more_items_text ts = commas_before (map general_text ts)
 -- the two parts of a definition of a name
 abbrev pub definition_text : List ℕ → List ℕ → List ℕ
 definition_text way name = codes "introduced(definition,[" ++ way ++ codes "(" ++ name ++ codes ")])"
+
+abbrev pub introduction_text : List ℕ → Step → List ℕ
+introduction_text prefix (Component name) = definition_text (codes "component") (introduced_name prefix name)
+introduction_text prefix (Opposite name) = definition_text (codes "opposite") (introduced_name prefix name)
+introduction_text prefix _ = []
 
 abbrev pub inference_text : List ℕ → List ℕ → List GeneralTree → List (List ℕ) → List ℕ
 inference_text rule status items parents =

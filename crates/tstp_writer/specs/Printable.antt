@@ -1,10 +1,10 @@
 -- Which lines are spelled by their printed texts, and that they are.
-use Rattle.std.specs.Prelude.{◌≡◌, ℕ, ◌<◌, ◌≤◌, Bool, true, false, not, ◌&&◌, List, [], length, IsTrue}
+use Rattle.std.specs.Prelude.{◌≡◌, ℕ, ◌<◌, ◌≤◌, Bool, true, false, ◌&&◌, List, [], length}
 use Rattle.std.specs.List.{list_all, AllByRecursion}
 use Rattle.tptp_token.specs.Spelling.{is_printable, is_variable_word}
 use Rattle.tptp_tree.specs.Formula.{FormulaTree, truth, falsity, predicate, equation, negation, conjunction, disjunction, connected, quantified, list_of_formulas}
 use Rattle.tptp_tree.specs.Spelling.{SpellsFormula}
-use Rattle.tptp_tree.specs.Entries.{AnnotatedTree, is_conjecture}
+use Rattle.tptp_tree.specs.Entries.{is_conjecture}
 use Rattle.tptp_tree.specs.declared.limits.TheConstants.{MOST_DERIVATION_NESTING}
 use Rattle.signature.specs.Environment.{free_names}
 use Rattle.tptp_source.specs.declared.sign.NumberSign.{NumberSign}

@@ -2,7 +2,7 @@
 use Rattle.std.specs.Prelude.{ℕ, Bool, true, false, List, [], ◌∷◌, ◌++◌, codes}
 use Rattle.fol_base.specs.Tree.{Tree, variable, application, true_tree, trees_of}
 use Rattle.fol_base.specs.Clause.{TreeLiteral}
-use Rattle.fol_base.specs.declared.clause.Side.TheVariants.{Left, Right}
+use Rattle.fol_base.specs.declared.clause.Side.TheVariants.{Left}
 use Rattle.kernel_steps.specs.Derivation.{positive_of, negative_of}
 use Rattle.kernel_steps.specs.Examples.{line, named_line}
 use Rattle.kernel_steps.specs.declared.step.Step.{Step}

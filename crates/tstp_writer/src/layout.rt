@@ -1,13 +1,10 @@
 // Which lines a text has, and their names.
 
-ghost use Rattle.std.specs.Prelude.{◌≡◌, ℕ, ◌+◌, ◌<◌, ◌++◌, length, IfOk};
-ghost use Rattle.std.specs.List.{AllByRecursion};
+ghost use Rattle.std.specs.Prelude.{◌≡◌, ◌+◌, ◌++◌, length, IfOk};
 ghost use Rattle.tstp_writer.specs.LineTrees.{place_in, line_name, cited_name, negated_name, derived_name};
-ghost use Rattle.tstp_writer.specs.Places.{told_place, TellsPlaces};
 
 use crate::page::Page;
 use plain_types::{Mem, NoMemory, Numbers};
-use std::alloc::Global;
 use std::marker::Model;
 
 /// Numbers in order, which contracts see as their list, with the place of each in a table.
@@ -29,17 +26,6 @@ impl Model for Places {
 }
 
 impl Places {
-    /// The places of numbers that are below a size.
-    pub(crate) fn of(alloc: Global, numbers: Numbers, size: usize) -> Mem<Places>
-        requires { AllByRecursion (λ n. n < size) numbers }
-        ensures { IfOk result (λ places. places ≡ numbers) }
-    {
-        let mut table = Vec::new(alloc);
-        table.resize(size, numbers.len() as u64)?;
-        fill(&mut table, numbers.as_slice());
-        Ok(Places { numbers, table })
-    }
-
     /// The place of a number, and how many there are where it isn't one of them.
     fn place(&self, number: u64) -> u64
         ensures { result ≡ place_in number self.now }
@@ -62,21 +48,6 @@ impl Places {
         ensures { result.now ≡ self.now }
     {
         self.numbers.as_slice()
-    }
-}
-
-/// Writes the place of each number into a table in which none stands: the last first, so that the first place of a number stands.
-fn fill(table: &mut Vec<u64>, numbers: &[u64])
-    requires below { AllByRecursion (λ n. n < length table.old.items) numbers.now }
-    requires none { AllByRecursion (λ p. p ≡ length numbers.now) table.old.items }
-    ensures { TellsPlaces table.new.items numbers.now }
-{
-    let mut left = numbers.len();
-    while left > 0 {
-        left -= 1;
-        if let Some(place) = table.get_mut(numbers[left] as usize) {
-            *place = left as u64;
-        }
     }
 }
 

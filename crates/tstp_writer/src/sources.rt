@@ -5,8 +5,8 @@ ghost use Rattle.tptp_token.specs.Spelling.{is_lower_word};
 ghost use Rattle.kernel_steps.specs.Keys.{commas_before, with_commas};
 ghost use Rattle.tstp_writer.specs.SourceTexts.{source_text};
 ghost use Rattle.tstp_writer.specs.ClauseTrees.{introduced_name};
-ghost use Rattle.tstp_writer.specs.LineTrees.{derived_name, origin, origin_name, is_conjecture_at, rule_word as word_of_rule, status_word as word_of_status, step_items, parent_names, IsInputStep, step_source};
-ghost use Rattle.tstp_writer.specs.NameTexts.{more_items_text, definition_text, inference_text};
+ghost use Rattle.tstp_writer.specs.LineTrees.{derived_name, origin, origin_name, is_conjecture_at, rule_word as word_of_rule, status_word as word_of_status, step_items, parent_names, step_source};
+ghost use Rattle.tstp_writer.specs.NameTexts.{more_items_text, definition_text, introduction_text, inference_text};
 ghost use Rattle.tstp_writer.specs.Scripts.{script_in};
 
 use crate::clauses::push_introduced_name;
@@ -33,7 +33,9 @@ fn rule_word(step: &Step) -> &'static [u8]
         Step::Merge { .. } => b"merge",
         Step::Split { .. } => b"split",
         Step::Chain { .. } => b"chain",
-        Step::Input(_) | Step::Component(_) | Step::Opposite(_) => b"",
+        Step::Input(_) => b"input",
+        Step::Component(_) => b"component",
+        Step::Opposite(_) => b"opposite",
     }
 }
 
@@ -50,7 +52,7 @@ fn status_word(step: &Step) -> &'static [u8]
 
 /// Adds the items of a step's inference behind its status.
 fn push_items(page: &mut Page, script: Script<'_>, step: &Step) -> Mem<()>
-    requires { IsTrue (is_lower_word script.entry.prefix.now) }
+    requires { IsTrue (is_lower_word script.prefix.now) }
     ensures { IfOk result (λ _. page.new ≡ page.old ++ more_items_text (step_items (script_in script.entry) step.now)) }
 {
     match step {
@@ -87,7 +89,10 @@ fn push_items(page: &mut Page, script: Script<'_>, step: &Step) -> Mem<()>
             push_bind(page, script.symbols, bind.as_slice())
         }
         Step::Merge {
-            stays, goes, bind, ..
+            stays,
+            goes,
+            bind,
+            ..
         } => {
             push_literal_item(page, *stays)?;
             push_literal_item(page, *goes)?;
@@ -144,10 +149,17 @@ fn push_more_parents(page: &mut Page, layout: &Layout, parents: &[u64]) -> Mem<(
     ensures { IfOk result (λ _. page.new ≡ page.old ++ commas_before (map (derived_name layout.now) parents.now)) }
 {
     for parent in parents {
-        page.bytes(b",")?;
-        push_derived_name(page, layout, *parent)?;
+        push_next_parent(page, layout, *parent)?;
     }
     Ok(())
+}
+
+/// Adds the name of a line behind a comma.
+fn push_next_parent(page: &mut Page, layout: &Layout, parent: u64) -> Mem<()>
+    ensures { IfOk result (λ _. page.new ≡ page.old ++ (codes "," ++ derived_name layout.now parent)) }
+{
+    page.bytes(b",")?;
+    push_derived_name(page, layout, parent)
 }
 
 /// Adds the name of the line from which a clause of the form comes.
@@ -165,7 +177,7 @@ fn push_origin_name(page: &mut Page, script: Script<'_>, layout: &Layout, index:
 
 /// Adds an inference, by the columns of its step's row.
 fn push_inference(page: &mut Page, script: Script<'_>, layout: &Layout, step: &Step) -> Mem<()>
-    requires { IsTrue (is_lower_word script.entry.prefix.now) }
+    requires { IsTrue (is_lower_word script.prefix.now) }
     ensures { IfOk result (λ _. page.new ≡ page.old
         ++ inference_text (word_of_rule step.now) (word_of_status step.now) (step_items (script_in script.entry) step.now)
         (parent_names (script_in script.entry) layout.now step.now)) }
@@ -192,15 +204,30 @@ fn push_definition(page: &mut Page, way: &[u8], prefix: &[u8], name: u32) -> Mem
     page.bytes(b")])")
 }
 
-/// Adds the source of a step's line.
-pub(crate) fn push_source(page: &mut Page, script: Script<'_>, layout: &Layout, step: &Step) -> Mem<()>
-    requires lower { IsTrue (is_lower_word script.entry.prefix.now) }
-    requires some { IsInputStep step.now → ⊥ }
-    ensures { IfOk result (λ _. page.new ≡ page.old ++ source_text (step_source (script_in script.entry) layout.now step.now)) }
+/// Adds the definition of the name that a step introduces.
+fn push_introduction(page: &mut Page, prefix: &[u8], step: &Step) -> Mem<()>
+    ensures { IfOk result (λ _. page.new ≡ page.old ++ introduction_text prefix.now step.now) }
 {
     match step {
-        Step::Component(name) => push_definition(page, b"component", script.prefix, *name),
-        Step::Opposite(name) => push_definition(page, b"opposite", script.prefix, *name),
-        _ => push_inference(page, script, layout, step),
+        Step::Component(name) => push_definition(page, b"component", prefix, *name),
+        Step::Opposite(name) => push_definition(page, b"opposite", prefix, *name),
+        _ => Ok(()),
+    }
+}
+
+/// Adds the source of a step's line.
+pub(crate) fn push_source(
+    page: &mut Page,
+    script: Script<'_>,
+    layout: &Layout,
+    step: &Step,
+) -> Mem<()>
+    requires { IsTrue (is_lower_word script.prefix.now) }
+    ensures { IfOk result (λ _. page.new ≡ page.old ++ source_text (step_source (script_in script.entry) layout.now step.now)) }
+{
+    if step.introduces_name() {
+        push_introduction(page, script.prefix, step)
+    } else {
+        push_inference(page, script, layout, step)
     }
 }

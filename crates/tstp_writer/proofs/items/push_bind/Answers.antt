@@ -1,6 +1,4 @@
-use Rattle.std.proofs.Common.{ap, ◌∙◌, ◌++◌, map, codes}
-use Rattle.std.proofs.lemmas.Result.{IfOk-weaker}
-use Rattle.std.proofs.lemmas.List.{append_assoc}
+use Rattle.std.proofs.Common.{map}
 use Rattle.fol_base.specs.Term.{tree_of}
 use Rattle.tstp_writer.proofs.TextLemmas.{three_added, added, bind-text}
 use Rattle.tstp_writer.proofs.items.push_bind.Goals as goal
