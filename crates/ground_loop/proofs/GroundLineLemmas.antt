@@ -1,22 +1,24 @@
 -- What the lines of a derivation are that goes by ground steps alone.
-use Rattle.std.proofs.Common.{◌≡◌, ℕ, zero, suc, ◌<◌, Bool, true, ◌&&◌, ◌==◌, List, [], ◌∷◌, ◌++◌, length, map, take, Some, refl, ap, ap₂, sym, ◌∙◌, subst, arith}
-use Rattle.std.specs.Prelude.{slice_get, slice_set, remove, All}
-use Rattle.std.specs.List.{list_all}
-use Rattle.std.proofs.lemmas.Bool.{and_parts, and_from, eqb-true, true≢false}
+use Rattle.fol_base.specs.declared.limits.TheConstants.{MOST_SYMBOLS}
+use Rattle.std.proofs.Common.{◌≡◌, ℕ, zero, suc, ◌<◌, ◌≤◌, Bool, true, ◌&&◌, ◌==◌, nat_le, List, [], ◌∷◌, ◌++◌, length, map, take, get_or, Some, refl, ap, ap₂, sym, ◌∙◌, subst, arith}
+use Rattle.std.specs.Prelude.{slice_get, slice_set, remove, sum_by, All}
+use Rattle.std.specs.List.{list_all, AllByRecursion}
+use Rattle.std.proofs.lemmas.Bool.{and_parts, and_from, le-leb, leb-true, eqb-true, true≢false}
 use Rattle.std.proofs.lemmas.List.{nil_from_length}
 use Rattle.std.proofs.lemmas.Option.{none-some, same_Some}
+use Rattle.std.proofs.lemmas.List.Sums.{sum_by-cons}
 use Rattle.std.proofs.lemmas.List.Elements.{All-contains, All-nil, All-cons, All-head, All-tail}
-use Rattle.fol_base.specs.Tree.{Tree, variable, application, Trees, no_trees, tree_then, trees_of, list_of, true_tree, is_truth}
+use Rattle.fol_base.specs.Tree.{Tree, variable, application, Trees, no_trees, tree_then, trees_of, list_of, tree_size, trees_size, true_tree, is_truth}
 use Rattle.fol_base.specs.Place.{argument, with_argument, subterm, replaced}
-use Rattle.fol_base.specs.Clause.{TreeLiteral, TreeClause}
+use Rattle.fol_base.specs.Clause.{TreeLiteral, TreeClause, literal_size, clause_size}
 use Rattle.fol_base.specs.Ground.{is_ground, are_ground}
-use Rattle.fol_base.specs.GroundForm.{is_ground_atom, is_atom_literal, IsGroundClause, IsGroundForm}
+use Rattle.fol_base.specs.GroundForm.{is_ground_atom, is_atom_literal, IsGroundClause, IsGroundForm, form_size}
 use Rattle.fol_base.specs.WellFormed.{are_literals_of}
 use Rattle.fol_base.specs.Rules.{superposed, resolved, merged}
 use Rattle.fol_base.specs.Literal.{clause_of}
 use Rattle.fol_base.specs.declared.clause.Side.{Side}
 use Rattle.fol_base.specs.declared.clause.Side.TheVariants.{Left, Right}
-use Rattle.fol_base.proofs.TreeLemmas.{tree_eq-true}
+use Rattle.fol_base.proofs.TreeLemmas.{tree_eq-true, tree_size-positive, trees_of-list_of}
 use Rattle.fol_base.proofs.PlaceLemmas.{replaced-parts}
 use Rattle.fol_base.proofs.RuleLemmas.{SuperposedLiteralParts, superposed_literal-parts, superposed-parts, resolved-parts, merged-parts}
 use Rattle.fol_base.proofs.TestLemmas.{list_all-item, list_all-joined, list_all-set, list_all-remove}
@@ -36,7 +38,7 @@ use Rattle.kernel_steps.proofs.SymbolLemmas.{derivations_keep_symbols}
 use Rattle.kernel_steps.proofs.VerdictParts.{by_one-parts, by_two-parts}
 use Rattle.ground_loop.specs.Lines.{is_loop_step, AreLoopLines}
 use Rattle.ground_loop.specs.Inputs.{shifted_step, shifted_line, input_of, inputs_of, with_inputs_of}
-use Rattle.ground_loop.specs.GroundLines.{is_ground_step, are_ground_steps, is_ground_with_truth, IsPlainClause, AreGroundLines, GroundStepsKeepPlain, GroundStepsKeepSymbols, GroundStepsKeepUse}
+use Rattle.ground_loop.specs.GroundLines.{is_ground_step, are_ground_steps, is_ground_with_truth, IsPlainClause, has_lefts_up_to, AreGroundLines, GroundStepsKeepPlain, GroundStepsKeepSymbols, GroundStepsKeepUse, GroundStepsKeepSizes, GroundStepsStaySmall}
 use Rattle.ground_loop.proofs.DeriveSteps.{bound-none}
 
 -- ---- steps that bind nothing
@@ -215,10 +217,13 @@ at_truth [] u there = ap is_truth (sym (same_Some true_tree u there))
 at_truth (zero ∷ place) u there = absurd (none-some u there)
 at_truth (suc k ∷ place) u there = absurd (none-some u there)
 
-superposed-ground :
+-- a test that the literal of a superposition passes where both literals do
+abbrev IsKeptBySuperposition : (TreeLiteral → Bool) → Type 0
+IsKeptBySuperposition test =
     (from : TreeLiteral) (s : Side) (into : TreeLiteral) (z : Side) (place : List ℕ) (made : TreeLiteral)
-    → is_ground_with_truth from ≡ true → is_ground_with_truth into ≡ true → SuperposedLiteralParts from s into z place made
-    → is_ground_with_truth made ≡ true
+    → test from ≡ true → test into ≡ true → SuperposedLiteralParts from s into z place made → test made ≡ true
+
+superposed-ground : IsKeptBySuperposition is_ground_with_truth
 superposed-ground from Right into z place made first second p =
     absurd (true≢false (sym (and_parts (is_ground from.left) (is_truth from.right) first).1 ∙ p.no_truth))
 superposed-ground from Left into Right place made first second p =
@@ -231,27 +236,31 @@ superposed-ground from Left into Left place made first second p =
     ∙ and_from (is_ground p.new) (is_truth into.right)
     (replaced-ground place from.right into.left p.new (ap is_ground truth) parts.0 p.new_made) parts.1
 
-plain_superposition :
-    (first second made : List TreeLiteral) (i j : ℕ) (s z : Side) (place : List ℕ)
-    → list_all is_ground_with_truth first ≡ true → list_all is_ground_with_truth second ≡ true
-    → superposed first i s second j z place ≡ Some made → list_all is_ground_with_truth made ≡ true
-plain_superposition first second made i j s z place first_all second_all h =
+-- then all literals of its clause pass
+passing_superposition :
+    (test : TreeLiteral → Bool) → IsKeptBySuperposition test
+    → (first second made : List TreeLiteral) (i j : ℕ) (s z : Side) (place : List ℕ)
+    → list_all test first ≡ true → list_all test second ≡ true → superposed first i s second j z place ≡ Some made
+    → list_all test made ≡ true
+passing_superposition test kept first second made i j s z place first_all second_all h =
     let p = superposed-parts first i s second j z place made h in
-    let literal : is_ground_with_truth p.literal ≡ true =
-    superposed-ground p.from s p.into z place p.literal
-    (list_all-item is_ground_with_truth first i p.from p.from_there first_all)
-    (list_all-item is_ground_with_truth second j p.into p.into_there second_all)
+    let literal : test p.literal ≡ true =
+    kept p.from s p.into z place p.literal
+    (list_all-item test first i p.from p.from_there first_all)
+    (list_all-item test second j p.into p.into_there second_all)
     (superposed_literal-parts p.from s p.into z place p.literal p.literal_made) in
-    ap (list_all is_ground_with_truth) (sym p.gives)
-    ∙ list_all-joined is_ground_with_truth (slice_set second j p.literal) (remove first i)
-    (list_all-set is_ground_with_truth second j p.literal second_all literal)
-    (list_all-remove is_ground_with_truth first i first_all)
+    ap (list_all test) (sym p.gives)
+    ∙ list_all-joined test (slice_set second j p.literal) (remove first i)
+    (list_all-set test second j p.literal second_all literal)
+    (list_all-remove test first i first_all)
 
 plain_kept : KeptByRules IsPlainClause
 plain_kept = record {
   of_none = (refl, refl);
-  by_superposition = λ c d made i j s z place first second h.
-      (ap₂ (λ ns ms. sorted_names (ns ++ ms)) first.0 second.0, plain_superposition c.literals d.literals made i j s z place first.1 second.1 h);
+  by_superposition = λ c d made i j s z place first second h. (
+    ap₂ (λ ns ms. sorted_names (ns ++ ms)) first.0 second.0,
+    passing_superposition is_ground_with_truth superposed-ground c.literals d.literals made i j s z place first.1 second.1 h,
+  );
   by_resolution = λ c made i all h. (
     ap sorted_names all.0,
     ap (list_all is_ground_with_truth) (sym (resolved-parts c.literals i made h).gives) ∙ list_all-remove is_ground_with_truth c.literals i all.1,
@@ -286,6 +295,116 @@ form-plain (c ∷ cs) ground =
 
 pub ground_steps_keep_plain : GroundStepsKeepPlain
 ground_steps_keep_plain form lines ground steps derived = each-holds IsPlainClause form lines plain_kept (form-plain form ground) steps derived
+
+-- ---- sizes
+
+with_item-size :
+    (ts : Trees) (k : ℕ) (a b : Tree)
+    → slice_get (list_of ts) k ≡ Some a → tree_size b ≤ tree_size a → trees_size (trees_of (slice_set (list_of ts) k b)) ≤ trees_size ts
+with_item-size no_trees k a b there h = absurd (none-some a there)
+with_item-size (tree_then t ts) zero a b there h =
+    omega (arith, h, ap tree_size (same_Some t a there), ap trees_size (trees_of-list_of ts))
+with_item-size (tree_then t ts) (suc k) a b there h = omega (arith, with_item-size ts k a b there h)
+
+with_argument-size :
+    (k : ℕ) (t a b : Tree) → argument k t ≡ Some a → tree_size b ≤ tree_size a → tree_size (with_argument k b t) ≤ tree_size t
+with_argument-size k (variable v) a b there h = absurd (none-some a there)
+with_argument-size k (application f ts) a b there h = omega (arith, with_item-size ts k a b there h)
+
+-- a single symbol makes no tree larger
+replaced-size :
+    (place : List ℕ) (new t made : Tree) → tree_size new ≡ 1 → replaced place new t ≡ Some made → tree_size made ≤ tree_size t
+replaced-size [] new t made single put = omega (arith, single, tree_size-positive t, ap tree_size (same_Some new made put))
+replaced-size (k ∷ place) new t made single put =
+    replaced-parts k place new t made put λ a b a_is b_is gives.
+    omega (arith, ap tree_size gives, with_argument-size k t a b a_is (replaced-size place new a b single b_is))
+
+superposed-size :
+    (from : TreeLiteral) (s : Side) (into : TreeLiteral) (z : Side) (place : List ℕ) (made : TreeLiteral)
+    → is_truth from.right ≡ true → SuperposedLiteralParts from s into z place made → tree_size made.left ≤ tree_size into.left
+superposed-size from Right into z place made truth p = absurd (true≢false (sym truth ∙ p.no_truth))
+superposed-size from Left into Right place made truth p = omega (arith, ap (λ (l : TreeLiteral). tree_size l.left) p.gives)
+superposed-size from Left into Left place made truth p =
+    omega (
+      arith,
+      ap (λ (l : TreeLiteral). tree_size l.left) p.gives,
+      replaced-size place from.right into.left p.new (ap tree_size (tree_eq-true from.right true_tree truth)) p.new_made,
+    )
+
+abbrev is_plain_up_to : ℕ → TreeLiteral → Bool
+is_plain_up_to most l = is_ground_with_truth l && nat_le (tree_size l.left) most
+
+superposed-small : (most : ℕ) → IsKeptBySuperposition (is_plain_up_to most)
+superposed-small most from s into z place made first second p =
+    let source = and_parts (is_ground_with_truth from) (nat_le (tree_size from.left) most) first in
+    let target = and_parts (is_ground_with_truth into) (nat_le (tree_size into.left) most) second in
+    let smaller = superposed-size from s into z place made (and_parts (is_ground from.left) (is_truth from.right) source.0).1 p in
+    and_from (is_ground_with_truth made) (nat_le (tree_size made.left) most) (superposed-ground from s into z place made source.0 target.0 p)
+    (le-leb (tree_size made.left) most (omega (arith, smaller, leb-true (tree_size into.left) most target.1)))
+
+abbrev IsPlainUpTo : ℕ → TreeClause → Type 0
+IsPlainUpTo most c = list_all (is_plain_up_to most) c.literals ≡ true
+
+sizes_kept : (most : ℕ) → KeptByRules (IsPlainUpTo most)
+sizes_kept most = record {
+  of_none = refl;
+  by_superposition = λ c d made i j s z place first second h.
+      passing_superposition (is_plain_up_to most) (superposed-small most) c.literals d.literals made i j s z place first second h;
+  by_resolution = λ c made i all h.
+      ap (list_all (is_plain_up_to most)) (sym (resolved-parts c.literals i made h).gives) ∙ list_all-remove (is_plain_up_to most) c.literals i all;
+  by_merge = λ c made i j all h.
+      ap (list_all (is_plain_up_to most)) (sym (merged-parts c.literals i j made h).gives) ∙ list_all-remove (is_plain_up_to most) c.literals j all;
+}
+
+abbrev AreUpTo : ℕ → List TreeLiteral → Type 0
+AreUpTo most ls = list_all (λ (l : TreeLiteral). nat_le (tree_size l.left) most) ls ≡ true
+
+-- the two halves of the test
+plain-and_small :
+    (most : ℕ) (ls : List TreeLiteral) → list_all is_ground_with_truth ls ≡ true → AreUpTo most ls → list_all (is_plain_up_to most) ls ≡ true
+plain-and_small most [] plain small = refl
+plain-and_small most (l ∷ ls) plain small =
+    let one = and_parts (is_ground_with_truth l) (list_all is_ground_with_truth ls) plain in
+    let two = and_parts (nat_le (tree_size l.left) most) _ small in
+    and_from (is_plain_up_to most l) (list_all (is_plain_up_to most) ls)
+    (and_from (is_ground_with_truth l) (nat_le (tree_size l.left) most) one.0 two.0) (plain-and_small most ls one.1 two.1)
+
+small-of_plain : (most : ℕ) (ls : List TreeLiteral) → list_all (is_plain_up_to most) ls ≡ true → AreUpTo most ls
+small-of_plain most [] all = refl
+small-of_plain most (l ∷ ls) all =
+    let parts = and_parts (is_plain_up_to most l) (list_all (is_plain_up_to most) ls) all in
+    and_from (nat_le (tree_size l.left) most) _ (and_parts (is_ground_with_truth l) (nat_le (tree_size l.left) most) parts.0).1
+    (small-of_plain most ls parts.1)
+
+pub ground_steps_keep_sizes : GroundStepsKeepSizes
+ground_steps_keep_sizes most form lines ground sizes steps derived n line at =
+    let each : All (IsPlainUpTo most) form =
+    λ k d lt. plain-and_small most (get_or form k d).literals (form-plain form ground k d lt).1 (sizes k d lt) in
+    small-of_plain most (clause_of line.clause).literals
+    (each-holds (IsPlainUpTo most) form lines (sizes_kept most) each steps derived n line at)
+
+-- the clauses of a small form
+literals-up_to : (most : ℕ) (ls : List TreeLiteral) → sum_by literal_size ls ≤ most → AreUpTo most ls
+literals-up_to most [] h = refl
+literals-up_to most (l ∷ ls) h =
+    and_from (nat_le (tree_size l.left) most) _ (le-leb (tree_size l.left) most (omega (arith, h, sum_by-cons literal_size l ls)))
+    (literals-up_to most ls (omega (arith, h, sum_by-cons literal_size l ls)))
+
+clauses-up_to : (most : ℕ) (form : List TreeClause) → form_size form ≤ most → All (λ c. has_lefts_up_to most c ≡ true) form
+clauses-up_to most [] h = All-nil (λ (c : TreeClause). has_lefts_up_to most c ≡ true)
+clauses-up_to most (c ∷ cs) h =
+    All-cons (λ (d : TreeClause). has_lefts_up_to most d ≡ true) c cs
+    (literals-up_to most c.literals (omega (arith, h, sum_by-cons clause_size c cs)))
+    (clauses-up_to most cs (omega (arith, h, sum_by-cons clause_size c cs)))
+
+from_each : {X : Type 0} (P : X → Type 0) (xs : List X) → ((n : ℕ) (x : X) → slice_get xs n ≡ Some x → P x) → AllByRecursion P xs
+from_each P [] each = tt
+from_each P (x ∷ xs) each = (each 0 x refl, from_each P xs (λ n y at. each (suc n) y at))
+
+pub ground_steps_stay_small : GroundStepsStaySmall
+ground_steps_stay_small form lines ground small steps derived =
+    from_each (λ (l : Line). has_lefts_up_to MOST_SYMBOLS (clause_of l.clause) ≡ true) lines
+    (ground_steps_keep_sizes MOST_SYMBOLS form lines ground (clauses-up_to MOST_SYMBOLS form small) steps derived)
 
 -- ---- lines below their input lines
 

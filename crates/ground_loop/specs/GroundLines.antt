@@ -1,11 +1,12 @@
 -- What the lines of the loop's refutations are.
-use Rattle.std.specs.Prelude.{◌≡◌, ℕ, Bool, true, ◌&&◌, List, [], Some, slice_get, All, IsTrue}
-use Rattle.std.specs.List.{list_all}
-use Rattle.fol_base.specs.Tree.{is_truth}
+use Rattle.fol_base.specs.declared.limits.TheConstants.{MOST_SYMBOLS}
+use Rattle.std.specs.Prelude.{◌≡◌, ℕ, ◌≤◌, Bool, true, ◌&&◌, nat_le, List, [], Some, slice_get, All, IsTrue}
+use Rattle.std.specs.List.{list_all, AllByRecursion}
+use Rattle.fol_base.specs.Tree.{tree_size, is_truth}
 use Rattle.fol_base.specs.Ground.{is_ground}
 use Rattle.fol_base.specs.Clause.{TreeLiteral, TreeClause}
 use Rattle.fol_base.specs.Literal.{clause_of}
-use Rattle.fol_base.specs.GroundForm.{IsGroundForm}
+use Rattle.fol_base.specs.GroundForm.{IsGroundForm, form_size}
 use Rattle.fol_base.specs.WellFormed.{SymbolUse, are_literals_of}
 use Rattle.kernel_steps.specs.Derivation.{IsDerivation}
 use Rattle.kernel_steps.specs.Symbols.{clause_symbols_pass}
@@ -35,6 +36,10 @@ IsPlainClause c = (c.names ≡ []) × IsTrue (list_all is_ground_with_truth c.li
 
 abbrev pub HavePlainClauses : List Line → Type 0
 HavePlainClauses lines = (n : ℕ) (line : Line) → slice_get lines n ≡ Some line → IsPlainClause (clause_of line.clause)
+
+-- the left side of each literal has at most so many symbols
+abbrev pub has_lefts_up_to : ℕ → TreeClause → Bool
+has_lefts_up_to most c = list_all (λ (l : TreeLiteral). nat_le (tree_size l.left) most) c.literals
 
 -- lines by such steps, of such clauses
 pub record AreGroundLines (lines : List Line) : Type 0 where
@@ -68,3 +73,17 @@ GroundStepsKeepUse =
     (usage : SymbolUse) (form : List TreeClause) (lines : List Line)
     → IsTrue (list_all (λ (c : TreeClause). are_literals_of usage c.literals) form) → IsTrue (are_ground_steps lines) → IsDerivation form lines
     → (n : ℕ) (line : Line) → slice_get lines n ≡ Some line → IsTrue (are_literals_of usage (clause_of line.clause).literals)
+
+-- no left side is larger than the largest of the form: a superposition puts `$true` in the place of an atom
+abbrev pub GroundStepsKeepSizes : Type 0
+GroundStepsKeepSizes =
+    (most : ℕ) (form : List TreeClause) (lines : List Line)
+    → IsGroundForm form → All (λ c. IsTrue (has_lefts_up_to most c)) form → IsTrue (are_ground_steps lines) → IsDerivation form lines
+    → (n : ℕ) (line : Line) → slice_get lines n ≡ Some line → IsTrue (has_lefts_up_to most (clause_of line.clause))
+
+-- so none has more symbols than the limit, where the form doesn't
+abbrev pub GroundStepsStaySmall : Type 0
+GroundStepsStaySmall =
+    (form : List TreeClause) (lines : List Line)
+    → IsGroundForm form → form_size form ≤ MOST_SYMBOLS → IsTrue (are_ground_steps lines) → IsDerivation form lines
+    → AllByRecursion (λ (l : Line). IsTrue (has_lefts_up_to MOST_SYMBOLS (clause_of l.clause))) lines

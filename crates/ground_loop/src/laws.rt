@@ -10,7 +10,7 @@ ghost use Rattle.ground_loop.specs.Satisfaction.{ClosedFormsAreSatisfied, Satisf
 ghost use Rattle.fol_base.specs.Kind.{are_predicate_atoms};
 ghost use Rattle.ground_loop.specs.Scope.{first_outside, FirstOutsideIsFirst};
 ghost use Rattle.ground_loop.specs.ScopeExamples.{constant, tower, fact, equation, named, truth};
-ghost use Rattle.ground_loop.specs.GroundLines.{is_ground_step, is_ground_with_truth, GroundStepsKeepPlain, GroundStepsKeepSymbols, GroundStepsKeepUse};
+ghost use Rattle.ground_loop.specs.GroundLines.{is_ground_step, is_ground_with_truth, has_lefts_up_to, GroundStepsKeepPlain, GroundStepsKeepSymbols, GroundStepsKeepUse, GroundStepsKeepSizes, GroundStepsStaySmall};
 ghost use Rattle.ground_loop.specs.ResolutionExamples.{p, q, is, is_not, units, implication, implied_sets, all_predicates, no_predicates};
 
 /// A form that has a closed list without the empty set: no resolutions from it reach the empty set, and so
@@ -46,11 +46,13 @@ pub fn resolution_examples()
 
 /// What the loop's lines have, by the kinds of their steps alone: in a derivation from a ground form by clauses of the
 /// form, superpositions, resolutions and merges without bindings the clauses have no variables, equations or names; and
-/// they have no symbols but those of the form, each used as there.
+/// they have no symbols but those of the form, each used as there, and no left side is larger than the largest of the form.
 pub fn ground_steps_keep()
     ensures plain { GroundStepsKeepPlain }
     ensures symbols { GroundStepsKeepSymbols }
     ensures usage { GroundStepsKeepUse }
+    ensures sizes { GroundStepsKeepSizes }
+    ensures small { GroundStepsStaySmall }
 {}
 
 /// The clauses before the first one outside are what the loop asks, and with it they aren't.
@@ -71,7 +73,7 @@ pub fn scope_examples()
     ensures over_the_limit { first_outside (fact (tower 1997) ∷ fact (tower 1998) ∷ []) ≡ Some 1 }
 {}
 
-/// Steps and literals that the loop's lines have, and others.
+/// Steps and literals that the loop's lines have, and others; and how large left sides are.
 pub fn ground_line_examples()
     ensures input { IsTrue (is_ground_step (Input 3)) }
     ensures clause { IsTrue (is_ground_step (Clausify 0)) }
@@ -82,4 +84,7 @@ pub fn ground_line_examples()
     ensures truth { IsTrue (is_ground_with_truth (is_not true_tree)) }
     ensures variable { IsFalse (is_ground_with_truth (is (variable 0))) }
     ensures equation { IsFalse (is_ground_with_truth (record { positive = true; left = constant; right = constant })) }
+    ensures up_to_three { IsTrue (has_lefts_up_to 3 (fact (tower 1))) }
+    ensures up_to_two { IsFalse (has_lefts_up_to 2 (fact (tower 1))) }
+    ensures no_left { IsTrue (has_lefts_up_to 0 (record { literals = []; names = [] })) }
 {}
