@@ -1,10 +1,15 @@
 -- Words behind a command, counted and by their rule; and the values of options.
-use Rattle.std.proofs.Common.{◌≡◌, ℕ, Bool, true, false, ◌&&◌, List, [], ◌∷◌, ◌++◌, length, take, drop, Option, None, Some, refl, ap, sym, ◌∙◌}
-use Rattle.std.specs.Prelude.{fold, bytes_eq, if◌then◌else◌}
+use Rattle.std.proofs.Common.{◌≡◌, ◌≤◌, ℕ, ◌+◌, Bool, true, false, not, ◌&&◌, ◌==◌, List, [], ◌∷◌, ◌++◌, length, take, drop, Option, None, Some, refl, ap, sym, ◌∙◌, subst, arith}
+use Rattle.std.specs.Prelude.{⊤, fold, bytes_eq, nat_le, option_and_then, unwrap_or, is_some, codes, if◌then◌else◌}
+use Rattle.std.specs.List.{filter}
+use Rattle.std.specs.Str.Pattern.{FindsTextPrefix}
+use Rattle.std.proofs.lemmas.Bool.{leb-true, true≢false}
+use Rattle.plain_types.specs.declared.limits.TheConstants.{DEFAULT_INFERENCES, MOST_INFERENCES}
+use Rattle.tptp_source.specs.Items.{decimal_in}
 use Rattle.std.proofs.lemmas.List.{take-append-drop}
 use Rattle.std.proofs.lemmas.Slice.Eq.{bytes_eq-Decides}
-use Rattle.prover_main.specs.Words.{Options, Command, prove, check, prove_with, check_with, is_filled, value_behind}
-use Rattle.prover_main.specs.WordParts.{FewWords, no_word, one_word, two_words, more_words, few_with, few_of, prove_few, check_few}
+use Rattle.prover_main.specs.Words.{Options, Command, prove, check, is_option, is_filled, file_words, value_behind, no_options, within_limits, limit_in, with_root, with_inferences, with_limit, with_option_by, with_option, options_in, prove_with, check_with, command_of}
+use Rattle.prover_main.specs.WordParts.{IsFit, FewWords, no_word, one_word, two_words, more_words, few_with, few_of, prove_few, check_few}
 
 -- ---- counted words
 
@@ -59,3 +64,168 @@ value-some name word value k e front v =
 
 -- ---- the number of inferences is at least one
 
+abbrev AtLeastOne : Option ℕ → Type 0
+AtLeastOne None = ⊤
+AtLeastOne (Some n) = 1 ≤ n
+
+abbrev Counts : Option Options → Type 0
+Counts None = ⊤
+Counts (Some given) = AtLeastOne given.inferences
+
+within-counts : (n : ℕ) → AtLeastOne (within_limits n)
+within-counts n = by (nat_le 1 n) refl (nat_le n MOST_INFERENCES)
+  where
+    by : (b : Bool) → nat_le 1 n ≡ b → (c : Bool) → AtLeastOne (if b && c then Some n else None)
+    by true h true = leb-true 1 n h
+    by true h false = tt
+    by false h c = tt
+
+limit-counts : (o : Option ℕ) → AtLeastOne (option_and_then within_limits o)
+limit-counts None = tt
+limit-counts (Some n) = within-counts n
+
+root-counts : (given : Options) (root : List ℕ) → AtLeastOne given.inferences → Counts (with_root given root)
+root-counts given root h = by (is_some given.root)
+  where
+    by : (b : Bool) → Counts (if b then None else Some (record { inferences = given.inferences; root = Some root }))
+    by true = tt
+    by false = h
+
+inferences-count : (given : Options) (o : Option ℕ) → AtLeastOne o → Counts (option_and_then (with_inferences given) o)
+inferences-count given None h = tt
+inferences-count given (Some n) h = by (is_some given.inferences)
+  where
+    by : (b : Bool) → Counts (if b then None else Some (record { inferences = Some n; root = given.root }))
+    by true = tt
+    by false = h
+
+option-counts : (given : Options) (word : List ℕ) → AtLeastOne given.inferences → Counts (with_option given word)
+option-counts given word h = by (value_behind (codes "--tptp=") word)
+  where
+    limit : (o : Option (List ℕ)) → Counts (with_limit given o)
+    limit None = tt
+    limit (Some value) = inferences-count given (limit_in value) (limit-counts (decimal_in value))
+
+    by : (o : Option (List ℕ)) → Counts (with_option_by given word o)
+    by (Some root) = root-counts given root h
+    by None = limit (value_behind (codes "--inferences=") word)
+
+options-count : (words : List (List ℕ)) (given : Option Options) → Counts given → Counts (fold (λ g w. option_and_then (λ o. with_option o w) g) given words)
+options-count [] given h = h
+options-count (w ∷ ws) None h = options-count ws None tt
+options-count (w ∷ ws) (Some given) h = options-count ws (with_option given w) (option-counts given w h)
+
+abbrev Fits : Option Command → Type 0
+Fits None = ⊤
+Fits (Some command) = IsFit command
+
+prove-fits : (files : List (List ℕ)) (given : Option Options) → Counts given → Fits (prove_with files given)
+prove-fits [] given h = tt
+prove-fits (f ∷ []) None h = tt
+prove-fits (f ∷ []) (Some given) h = by (is_filled f) refl given.inferences h
+  where
+    by :
+        (b : Bool) → is_filled f ≡ b → (o : Option ℕ) → AtLeastOne o
+        → Fits (if b then Some (prove f given.root (unwrap_or o DEFAULT_INFERENCES)) else None)
+    by true e None k = (omega arith, e)
+    by true e (Some n) k = (k, e)
+    by false e o k = tt
+prove-fits (f ∷ g ∷ fs) given h = tt
+
+check-fits : (files : List (List ℕ)) (given : Option Options) → Fits (check_with files given)
+check-fits [] given = tt
+check-fits (f ∷ []) given = tt
+check-fits (f ∷ g ∷ []) None = tt
+check-fits (f ∷ g ∷ []) (Some given) = by (is_filled f && (is_filled g && not (is_some given.inferences)))
+  where
+    by : (b : Bool) → Fits (if b then Some (check f g given.root) else None)
+    by true = tt
+    by false = tt
+check-fits (f ∷ g ∷ h ∷ fs) given = tt
+
+command-fits : (words : List (List ℕ)) → Fits (command_of words)
+command-fits [] = tt
+command-fits (word ∷ words) = by (bytes_eq word (codes "prove")) (bytes_eq word (codes "check"))
+  where
+    by :
+        (b c : Bool)
+        → Fits
+        (if b then prove_with (file_words words) (options_in words)
+        else if c then check_with (file_words words) (options_in words) else None)
+    by true c = prove-fits (file_words words) (options_in words) (options-count (filter is_option words) (Some no_options) tt)
+    by false true = check-fits (file_words words) (options_in words)
+    by false false = tt
+
+-- a command that words are
+pub commands-fit : (words : List (List ℕ)) (command : Command) → Some command ≡ command_of words → IsFit command
+commands-fit words command e = subst Fits (sym e) (command-fits words)
+
+-- ---- what a stripped prefix says
+
+filled : (xs : List ℕ) → (length xs == 0) ≡ false → is_filled xs ≡ true
+filled [] h = absurd (true≢false h)
+filled (x ∷ xs) h = refl
+
+pub value-filled :
+    (name word value : List ℕ)
+    → (n : ℕ) × FindsTextPrefix name word (Some n) × (value ≡ drop n word) × (length value + n ≡ length word)
+    → (length value == 0) ≡ false → Some value ≡ value_behind name word
+value-filled name word value (n, (e, front, b), v, l) h =
+    sym (ap (λ t. if t then Some value else None) (filled value h)) ∙ value-some name word value n e front v
+
+-- ---- words by kinds
+
+abbrev kept : Option Options → List (List ℕ) → Option Options
+kept given words = fold (λ g w. option_and_then (λ o. with_option o w) g) given (filter is_option words)
+
+pub file-skipped :
+    (x total : FewWords) (all rest : List (List ℕ)) (w : List ℕ)
+    → all ≡ w ∷ rest → true ≡ is_option w → fold few_with x (file_words all) ≡ total → fold few_with x (file_words rest) ≡ total
+file-skipped x total all rest w e o h =
+    ap (λ (b : Bool). fold few_with x (if not b then w ∷ file_words rest else file_words rest)) o
+    ∙ sym (ap (λ ws. fold few_with x (file_words ws)) e) ∙ h
+
+pub file-added :
+    (x total : FewWords) (all rest : List (List ℕ)) (w : List ℕ)
+    → all ≡ w ∷ rest → false ≡ is_option w → fold few_with x (file_words all) ≡ total → fold few_with (few_with x w) (file_words rest) ≡ total
+file-added x total all rest w e o h =
+    ap (λ (b : Bool). fold few_with x (if not b then w ∷ file_words rest else file_words rest)) o
+    ∙ sym (ap (λ ws. fold few_with x (file_words ws)) e) ∙ h
+
+pub option-skipped :
+    (given total : Option Options) (all rest : List (List ℕ)) (w : List ℕ)
+    → all ≡ w ∷ rest → false ≡ is_option w → kept given all ≡ total → kept given rest ≡ total
+option-skipped given total all rest w e o h =
+    ap (λ (b : Bool). fold (λ g v. option_and_then (λ p. with_option p v) g) given (if b then w ∷ filter is_option rest else filter is_option rest)) o
+    ∙ sym (ap (kept given) e) ∙ h
+
+pub option-added :
+    (given total : Option Options) (all rest : List (List ℕ)) (w : List ℕ)
+    → all ≡ w ∷ rest → true ≡ is_option w → kept given all ≡ total → kept (option_and_then (λ o. with_option o w) given) rest ≡ total
+option-added given total all rest w e o h =
+    ap (λ (b : Bool). fold (λ g v. option_and_then (λ p. with_option p v) g) given (if b then w ∷ filter is_option rest else filter is_option rest)) o
+    ∙ sym (ap (kept given) e) ∙ h
+
+-- ---- commands
+
+pub command-proves :
+    (all words : List (List ℕ)) (word : List ℕ) (files : FewWords) (given : Option Options) (command : Option Command)
+    → all ≡ word ∷ words → word ≡ codes "prove" → files ≡ few_of (file_words words) → given ≡ options_in words
+    → command ≡ prove_few files given → command ≡ command_of all
+command-proves all words word files given command a w f g c =
+    c
+    ∙ ap (λ n. prove_few n given) f
+    ∙ ap (prove_few (few_of (file_words words))) g
+    ∙ prove-counted (file_words words) (options_in words)
+    ∙ sym (ap command_of (a ∙ ap (λ v. v ∷ words) w))
+
+pub command-checks :
+    (all words : List (List ℕ)) (word : List ℕ) (files : FewWords) (given : Option Options) (command : Option Command)
+    → all ≡ word ∷ words → word ≡ codes "check" → files ≡ few_of (file_words words) → given ≡ options_in words
+    → command ≡ check_few files given → command ≡ command_of all
+command-checks all words word files given command a w f g c =
+    c
+    ∙ ap (λ n. check_few n given) f
+    ∙ ap (check_few (few_of (file_words words))) g
+    ∙ check-counted (file_words words) (options_in words)
+    ∙ sym (ap command_of (a ∙ ap (λ v. v ∷ words) w))

@@ -1,5 +1,5 @@
 -- The words behind a command as the program counts them: none, one, two, or more; and its values.
-use Rattle.std.specs.Prelude.{⊤, ℕ, ◌≤◌, List, [], ◌∷◌, ◌&&◌, not, fold, Option, None, Some, is_some, unwrap_or, if◌then◌else◌}
+use Rattle.std.specs.Prelude.{⊤, ℕ, ◌≤◌, IsTrue, List, [], ◌∷◌, ◌&&◌, not, fold, Option, None, Some, is_some, unwrap_or, if◌then◌else◌}
 use Rattle.std.specs.Borrow.{Bor}
 use Rattle.std.specs.Option.{option_map}
 use Rattle.plain_types.specs.declared.limits.TheConstants.{DEFAULT_INFERENCES}
@@ -59,7 +59,7 @@ check_few (two_words file derivation) (Some given) =
     if is_filled file && (is_filled derivation && not (is_some given.inferences)) then Some (check file derivation given.root) else None
 check_few more_words given = None
 
--- some inference may be counted
-abbrev pub CountsSome : Commanded → Type 0
-CountsSome (prove file root inferences) = 1 ≤ inferences
-CountsSome (check file derivation root) = ⊤
+-- some inference may be counted, and the file has a name
+abbrev pub IsFit : Commanded → Type 0
+IsFit (prove file root inferences) = (1 ≤ inferences) × IsTrue (is_filled file)
+IsFit (check file derivation root) = ⊤

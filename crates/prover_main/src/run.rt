@@ -3,7 +3,7 @@
 ghost use Rattle.std.specs.Prelude.{◌≡◌, ◌≤◌, IfOk};
 ghost use Rattle.prover_main.specs.AnswerShape.{answer_meant};
 ghost use Rattle.prover_main.specs.Answer.{IsAnswer};
-ghost use Rattle.prover_main.specs.WordParts.{command_meant, CountsSome};
+ghost use Rattle.prover_main.specs.WordParts.{command_meant, IsFit};
 ghost use Rattle.prover_main.specs.Run.{file_of, IsDueTo, IsRun, Delivered};
 
 use crate::answer::Answer;
@@ -73,7 +73,7 @@ fn deliver_report<S: Sink>(sink: &mut S, text: &[u8], status: u8) -> u8
 
 /// The report that is due to a command.
 fn report_to<L: Library>(alloc: Global, command: Command<'_>, library: &mut L) -> Mem<Report>
-    requires counted { CountsSome (command_meant command) }
+    requires fit { IsFit (command_meant command) }
     ensures { IfOk result (λ report.
         IsDueTo (command_meant command.entry)
         (record {
@@ -104,7 +104,7 @@ fn file_of<'a>(command: Command<'a>) -> &'a str
 
 /// The answer to a command.
 fn answer_to<L: Library>(alloc: Global, command: Command<'_>, library: &mut L) -> Mem<Answer>
-    requires counted { CountsSome (command_meant command) }
+    requires fit { IsFit (command_meant command) }
     ensures { IfOk result (λ answer. IsAnswer
         (record {
           told = L.told library.old;
