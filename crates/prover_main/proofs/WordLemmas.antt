@@ -1,8 +1,9 @@
 -- Words behind a command, counted and by their rule; and the values of options.
-use Rattle.std.proofs.Common.{◌≡◌, ◌≤◌, ℕ, Bool, true, false, not, ◌&&◌, List, [], ◌∷◌, ◌++◌, length, take, drop, Option, None, Some, refl, ap, sym, ◌∙◌, subst, arith}
+use Rattle.std.proofs.Common.{◌≡◌, ◌≤◌, ℕ, ◌+◌, Bool, true, false, not, ◌&&◌, ◌==◌, List, [], ◌∷◌, ◌++◌, length, take, drop, Option, None, Some, refl, ap, sym, ◌∙◌, subst, arith}
 use Rattle.std.specs.Prelude.{⊤, fold, bytes_eq, nat_le, option_and_then, unwrap_or, is_some, codes, if◌then◌else◌}
 use Rattle.std.specs.List.{filter}
-use Rattle.std.proofs.lemmas.Bool.{leb-true}
+use Rattle.std.specs.Str.Pattern.{FindsTextPrefix}
+use Rattle.std.proofs.lemmas.Bool.{leb-true, true≢false}
 use Rattle.plain_types.specs.declared.limits.TheConstants.{DEFAULT_INFERENCES, MOST_INFERENCES}
 use Rattle.tptp_source.specs.Items.{decimal_in}
 use Rattle.std.proofs.lemmas.List.{take-append-drop}
@@ -158,3 +159,73 @@ command-fits (word ∷ words) = by (bytes_eq word (codes "prove")) (bytes_eq wor
 -- a command that words are
 pub commands-fit : (words : List (List ℕ)) (command : Command) → Some command ≡ command_of words → IsFit command
 commands-fit words command e = subst Fits (sym e) (command-fits words)
+
+-- ---- what a stripped prefix says
+
+filled : (xs : List ℕ) → (length xs == 0) ≡ false → is_filled xs ≡ true
+filled [] h = absurd (true≢false h)
+filled (x ∷ xs) h = refl
+
+pub value-filled :
+    (name word value : List ℕ)
+    → (n : ℕ) × FindsTextPrefix name word (Some n) × (value ≡ drop n word) × (length value + n ≡ length word)
+    → (length value == 0) ≡ false → Some value ≡ value_behind name word
+value-filled name word value (n, (e, front, b), v, l) h =
+    sym (ap (λ t. if t then Some value else None) (filled value h)) ∙ value-some name word value n e front v
+
+-- ---- words by kinds
+
+abbrev kept : Option Options → List (List ℕ) → Option Options
+kept given words = fold (λ g w. option_and_then (λ o. with_option o w) g) given (filter is_option words)
+
+pub file-skipped :
+    (x total : FewWords) (all rest : List (List ℕ)) (w : List ℕ)
+    → all ≡ w ∷ rest → true ≡ is_option w → fold few_with x (file_words all) ≡ total → fold few_with x (file_words rest) ≡ total
+file-skipped x total all rest w e o h =
+    ap (λ (b : Bool). fold few_with x (if not b then w ∷ file_words rest else file_words rest)) o
+    ∙ sym (ap (λ ws. fold few_with x (file_words ws)) e) ∙ h
+
+pub file-added :
+    (x total : FewWords) (all rest : List (List ℕ)) (w : List ℕ)
+    → all ≡ w ∷ rest → false ≡ is_option w → fold few_with x (file_words all) ≡ total → fold few_with (few_with x w) (file_words rest) ≡ total
+file-added x total all rest w e o h =
+    ap (λ (b : Bool). fold few_with x (if not b then w ∷ file_words rest else file_words rest)) o
+    ∙ sym (ap (λ ws. fold few_with x (file_words ws)) e) ∙ h
+
+pub option-skipped :
+    (given total : Option Options) (all rest : List (List ℕ)) (w : List ℕ)
+    → all ≡ w ∷ rest → false ≡ is_option w → kept given all ≡ total → kept given rest ≡ total
+option-skipped given total all rest w e o h =
+    ap (λ (b : Bool). fold (λ g v. option_and_then (λ p. with_option p v) g) given (if b then w ∷ filter is_option rest else filter is_option rest)) o
+    ∙ sym (ap (kept given) e) ∙ h
+
+pub option-added :
+    (given total : Option Options) (all rest : List (List ℕ)) (w : List ℕ)
+    → all ≡ w ∷ rest → true ≡ is_option w → kept given all ≡ total → kept (option_and_then (λ o. with_option o w) given) rest ≡ total
+option-added given total all rest w e o h =
+    ap (λ (b : Bool). fold (λ g v. option_and_then (λ p. with_option p v) g) given (if b then w ∷ filter is_option rest else filter is_option rest)) o
+    ∙ sym (ap (kept given) e) ∙ h
+
+-- ---- commands
+
+pub command-proves :
+    (all words : List (List ℕ)) (word : List ℕ) (files : FewWords) (given : Option Options) (command : Option Command)
+    → all ≡ word ∷ words → word ≡ codes "prove" → files ≡ few_of (file_words words) → given ≡ options_in words
+    → command ≡ prove_few files given → command ≡ command_of all
+command-proves all words word files given command a w f g c =
+    c
+    ∙ ap (λ n. prove_few n given) f
+    ∙ ap (prove_few (few_of (file_words words))) g
+    ∙ prove-counted (file_words words) (options_in words)
+    ∙ sym (ap command_of (a ∙ ap (λ v. v ∷ words) w))
+
+pub command-checks :
+    (all words : List (List ℕ)) (word : List ℕ) (files : FewWords) (given : Option Options) (command : Option Command)
+    → all ≡ word ∷ words → word ≡ codes "check" → files ≡ few_of (file_words words) → given ≡ options_in words
+    → command ≡ check_few files given → command ≡ command_of all
+command-checks all words word files given command a w f g c =
+    c
+    ∙ ap (λ n. check_few n given) f
+    ∙ ap (check_few (few_of (file_words words))) g
+    ∙ check-counted (file_words words) (options_in words)
+    ∙ sym (ap command_of (a ∙ ap (λ v. v ∷ words) w))

@@ -1,10 +1,12 @@
 // What `prove` answers: the ground loop runs on the clausal form, where each clause is ground and has predicates alone.
 
-ghost use Rattle.std.specs.Prelude.{◌≡◌, ◌≤◌, ◌<◌, ℕ, IfOk, length, map};
-ghost use Rattle.std.specs.Option.{option_copied};
+ghost use Rattle.std.specs.Prelude.{◌≡◌, ◌≤◌, ◌<◌, ℕ, IfOk, IsTrue, Some, slice_get, length, map};
+ghost use Rattle.std.specs.Option.{option_copied, option_map};
 ghost use Rattle.fol_base.specs.Literal.{clause_of};
 ghost use Rattle.kernel_steps.specs.Derivation.{IsRefutation};
 ghost use Rattle.ground_loop.specs.GroundLines.{AreGroundLines};
+ghost use Rattle.ground_loop.specs.Scope.{IsInScope};
+ghost use Rattle.prover_main.specs.Words.{is_filled};
 ghost use Rattle.clausal_form.specs.DerivationTexts.{IsAcceptedDerivation};
 ghost use Rattle.signature.specs.Form.{clausal_form};
 ghost use Rattle.clausal_form.specs.Form.{form_of};
@@ -29,6 +31,7 @@ pub fn prove_answer<L: Library>(
     limit: u32,
 ) -> Mem<Answer>
     requires counted { 1 ≤ limit }
+    requires filled { IsTrue (is_filled file.now) }
     ensures { IfOk result (λ answer. IsProveAnswer
         (record {
           told = L.told library.old;
@@ -50,6 +53,7 @@ pub fn prove_answer<L: Library>(
 fn proof_answer(alloc: Global, file: &str, formed: &FormedProblem, limit: u32) -> Mem<Answer>
     requires formed { WasFormed formed.now }
     requires counted { 1 ≤ limit }
+    requires filled { IsTrue (is_filled file.now) }
     ensures { IfOk result (λ answer. IsProofAnswer formed.now.problem.formulas limit (answer_meant answer)) }
 {
     if let Some(index) = first_outside(&formed.form.clauses) {
@@ -71,9 +75,25 @@ fn not_built(alloc: Global, formed: &FormedProblem, index: usize) -> Mem<Answer>
     requires index { index < length formed.now.form.clauses }
     ensures { IfOk result (λ answer. IsNotBuiltAnswer formed.now.problem.formulas index (answer_meant answer)) }
 {
-    let place = formed.form.origins.as_slice()[index] as usize;
-    let formula = &formed.problem.formulas.as_slice()[place];
-    Ok(Answer::NotBuilt(formula.name.copy(alloc)?))
+    let place = origin(formed.form.origins.as_slice(), index);
+    let name = name_at(alloc, formed.problem.formulas.as_slice(), place)?;
+    Ok(Answer::NotBuilt(name))
+}
+
+/// The place of the formula from which a clause comes.
+fn origin(origins: &[u64], index: usize) -> usize
+    requires { index < length origins.now }
+    ensures { slice_get origins.now index ≡ Some result }
+{
+    origins[index] as usize
+}
+
+/// The name of the formula at a place.
+fn name_at(alloc: Global, formulas: &[Annotated], place: usize) -> Mem<Text>
+    requires { place < length formulas.now }
+    ensures { IfOk result (λ name. option_map (λ a. a.name) (slice_get formulas.now place) ≡ Some name) }
+{
+    formulas[place].name.copy(alloc)
 }
 
 /// Whether one of the formulas is a conjecture.
@@ -93,6 +113,8 @@ fn derivation_text(
     requires formed { WasFormed formed.now }
     requires refutation { IsRefutation (map clause_of formed.now.form.clauses) lines.now }
     requires ground { AreGroundLines lines.now }
+    requires filled { IsTrue (is_filled file.now) }
+    requires scope { IsInScope (map clause_of formed.now.form.clauses) }
     ensures { IfOk result (λ text. (count : ℕ) × IsAcceptedDerivation formed.now.problem.formulas text count) }
 {
     Err(plain_types::NoMemory)

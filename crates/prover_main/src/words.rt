@@ -212,6 +212,18 @@ fn check_command(arguments: Arguments<'_>) -> Option<Command<'_>>
     })
 }
 
+/// The command that words are.
+fn command_in(words: &[String]) -> Option<Command<'_>>
+    ensures { option_map command_meant result ≡ command_of (map string_bytes words.entry.now) }
+{
+    let (command, arguments) = words.split_first()?;
+    match command.as_str() {
+        "prove" => prove_command(arguments_of(arguments)),
+        "check" => check_command(arguments_of(arguments)),
+        _ => None,
+    }
+}
+
 impl Words {
     /// No words. It takes no memory.
     pub fn new(alloc: Global) -> Words
@@ -253,11 +265,6 @@ impl Words {
     pub fn command(&self) -> Option<Command<'_>>
         ensures { option_map command_meant result ≡ command_of self.entry.now }
     {
-        let (command, words) = self.words.as_slice().split_first()?;
-        match command.as_str() {
-            "prove" => prove_command(arguments_of(words)),
-            "check" => check_command(arguments_of(words)),
-            _ => None,
-        }
+        command_in(self.words.as_slice())
     }
 }

@@ -1,14 +1,10 @@
 use Rattle.std.proofs.Common.{ap, ◌++◌, ◌∙◌}
 use Rattle.std.specs.Fmt.{decimal}
-use Rattle.prover_main.proofs.PageLemmas.{joined, joined_last}
+use Rattle.prover_main.proofs.PageLemmas.{five_added}
 use Rattle.prover_main.proofs.report.push_refused.Goals as goal
 
 pub returns : goal.returns
 returns c =
-    joined_last c.bytes-4.result _ _ _ _ _
-    (joined _ _ _ _ _
-    (joined _ _ _ _ _
-    (joined _ _ _ _ _ c.in_ok-bytes.ensures (c.in_ok-number.ensures ∙ ap (λ n. c.bytes.new.self ++ decimal n) c.from.ensures))
-    c.in_ok-bytes-2.ensures)
-    (c.in_ok-bytes-3.ensures ∙ ap (λ w. c.bytes-2.new.self ++ w) c.cause_word.ensures))
-    c.bytes-4.ensures
+    five_added c.bytes-4.result _ _ _ _ _ _ _ _ _ _ _ c.in_ok-bytes.ensures
+    (c.in_ok-number.ensures ∙ ap (λ n. c.bytes.new.self ++ decimal n) c.from.ensures) c.in_ok-bytes-2.ensures
+    (c.in_ok-bytes-3.ensures ∙ ap (λ w. c.bytes-2.new.self ++ w) c.cause_word.ensures) c.bytes-4.ensures

@@ -1,5 +1,6 @@
 use Rattle.std.proofs.Common.{refl, sym}
 use Rattle.prover_main.specs.WordParts.{command_meant}
+use Rattle.prover_main.proofs.WordLemmas.{commands-fit}
 use Rattle.prover_main.proofs.RunLemmas.{run_usage, run_due, due_text}
 use Rattle.prover_main.proofs.run.run.Goals as goal
 
@@ -10,3 +11,6 @@ pub returns-in-Ok : goal.returns-in-Ok
 returns-in-Ok g c =
     run_due _ _ _ (command_meant c.in-Some.command) c.in-Ok.report.status c.as_slice.result.now _ c.in-Some.ensures
     (due_text _ _ _ _ _ (sym c.as_slice.ensures) c.in-Ok.ensures) c.deliver_report-in-Ok.ensures
+
+pub report_to-requires : goal.report_to-requires
+report_to-requires g c = record { fit = commands-fit c.args.words.now (command_meant c.in-Some.command) c.in-Some.ensures }
