@@ -5,20 +5,26 @@ use plain_types::Numbers;
 use std::alloc::Global;
 use std::test::Fail;
 
-// The words, the file's name and bytes, the status, and the report.
+/// The words, the files' names and bytes, the status, and the report.
 #[derive(Drop)]
 struct Case {
     words: &'static [&'static str],
-    file: &'static str,
-    bytes: &'static [u8],
+    files: &'static [(&'static str, &'static [u8])],
     status: u8,
     report: &'static [u8],
 }
 
 /// What is printed where the words are no command.
-const USAGE: &[u8] = b"usage: prove FILE\n       check FILE DERIVATION [--tptp=DIR]\n";
+const USAGE: &[u8] = b"usage: prove FILE [--inferences=N] [--tptp=DIR]\n       check FILE DERIVATION [--tptp=DIR]\n";
 
 const TWO_UNITS: &[u8] = b"cnf(a,axiom,p). cnf(b,negated_conjecture,~p).";
+
+const TWO_UNITS_DERIVATION: &[u8] = b"cnf(c0,axiom,p,file('r1.p',a)).\n\
+cnf(c1,negated_conjecture,~p,file('r1.p',b)).\n\
+cnf(c2,plain,p,inference(clausify,[status(esa),index(0)],[c0])).\n\
+cnf(c3,plain,~p,inference(clausify,[status(esa),index(1)],[c1])).\n\
+cnf(c4,plain,~$true,inference(para,[status(thm),from(0,left),into(0,left,[]),bind([]),bind([])],[c2,c3])).\n\
+cnf(c5,plain,$false,inference(refl,[status(thm),lit(0),bind([])],[c4])).\n";
 
 const TWO_UNITS_REPORT: &[u8] = b"% SZS status Unsatisfiable for r1\n\
 % SZS output start CNFRefutation for r1\n\
@@ -30,6 +36,127 @@ cnf(c4,plain,~$true,inference(para,[status(thm),from(0,left),into(0,left,[]),bin
 cnf(c5,plain,$false,inference(refl,[status(thm),lit(0),bind([])],[c4])).\n\
 % SZS output end CNFRefutation for r1\n";
 
+const CLAUSES: &[u8] = b"cnf(a,axiom,p|q). cnf(b,axiom,~p|q). cnf(c,axiom,p|~q). cnf(d,axiom,~p|~q).";
+
+const IMPLICATION: &[u8] = b"fof(a,axiom,! [X] : (p(X) => q(X))). fof(b,axiom,p(a)). fof(c,conjecture,q(a)).";
+
+const CASES: &[Case] = &[
+    Case {
+        words: &["prove", "r1.p"],
+        files: &[("r1.p", TWO_UNITS)],
+        status: 0,
+        report: TWO_UNITS_REPORT,
+    },
+    Case {
+        words: &["prove", "q.p"],
+        files: &[("q.p", b"cnf(a,axiom,p(c)).")],
+        status: 10,
+        report: b"% SZS status Unknown for q\n% closed\n",
+    },
+    Case {
+        words: &["prove", "--inferences=1", "r11.p"],
+        files: &[("r11.p", CLAUSES)],
+        status: 2,
+        report: b"% SZS status GaveUp for r11\n% spent 1 of 1\n",
+    },
+    Case {
+        words: &["prove", "r5.p"],
+        files: &[("r5.p", IMPLICATION)],
+        status: 3,
+        report: b"% SZS status InputError for r5\n% NotBuilt in a\n",
+    },
+    Case {
+        words: &["prove", "r13.p"],
+        files: &[("r13.p", b"fof(a,axiom,p & q | r).")],
+        status: 3,
+        report: b"% SZS status InputError for r13\n% Syntax at r13.p:18\n",
+    },
+    Case {
+        words: &["prove", "h.p"],
+        files: &[("h.p", b"fof(12,axiom,? [X] : ~(p(X) & $true)). fof('A b',axiom,X = X).")],
+        status: 3,
+        report: b"% SZS status InputError for h\n% FreeVariable at h.p:53\n",
+    },
+    Case {
+        words: &["prove", "n.p"],
+        files: &[("n.p", b"fof(12,axiom,a = b).")],
+        status: 3,
+        report: b"% SZS status InputError for n\n% NotBuilt in 12\n",
+    },
+    Case {
+        words: &["prove", "r21.p"],
+        files: &[("r21.p", b"tff(a,axiom,p).")],
+        status: 8,
+        report: b"% SZS status Inappropriate for r21\n% Typed at r21.p:0\n",
+    },
+    Case {
+        words: &["prove", "none.p"],
+        files: &[],
+        status: 4,
+        report: b"% SZS status OSError for none\n% Load none.p\n",
+    },
+    Case {
+        words: &["prove", "i.p", "--tptp=LIB"],
+        files: &[("i.p", b"include('f.ax').")],
+        status: 4,
+        report: b"% SZS status OSError for i\n% Load LIB/f.ax\n",
+    },
+    Case {
+        words: &["check", "r1.p", "d"],
+        files: &[("r1.p", TWO_UNITS), ("d", TWO_UNITS_DERIVATION)],
+        status: 0,
+        report: b"% accepted 6 lines\n",
+    },
+    Case {
+        words: &["check", "r1.p", "d"],
+        files: &[("r1.p", TWO_UNITS), ("d", b"")],
+        status: 9,
+        report: b"% refused at line 0: NoEmptyClause\n",
+    },
+    Case {
+        words: &["check", "r1.p", "d"],
+        files: &[("r1.p", TWO_UNITS)],
+        status: 4,
+        report: b"% SZS status OSError for r1\n% Load d\n",
+    },
+    Case {
+        words: &["prove"],
+        files: &[],
+        status: 6,
+        report: USAGE,
+    },
+    Case {
+        words: &["--help"],
+        files: &[],
+        status: 6,
+        report: USAGE,
+    },
+    Case {
+        words: &["prove", "--inferences=01", "q.p"],
+        files: &[],
+        status: 6,
+        report: USAGE,
+    },
+    Case {
+        words: &["check", "r1.p", "d", "--tptp=a", "--tptp=a"],
+        files: &[],
+        status: 6,
+        report: USAGE,
+    },
+    Case {
+        words: &["prove", "dir/sub/.p"],
+        files: &[("dir/sub/.p", b"")],
+        status: 10,
+        report: b"% SZS status Unknown for \n% closed\n",
+    },
+    Case {
+        words: &["prove", "d/\x01 x.p.p"],
+        files: &[("d/\x01 x.p.p", b"!")],
+        status: 3,
+        report: b"% SZS status InputError for ? x.p\n% Syntax at d/? x.p.p:0\n",
+    },
+];
+
 fn words_of(alloc: Global, words: &[&str]) -> Result<Words, Fail> {
     let mut list = Words::new(alloc);
     for word in words {
@@ -38,16 +165,18 @@ fn words_of(alloc: Global, words: &[&str]) -> Result<Words, Fail> {
     Ok(list)
 }
 
-fn library_of(alloc: Global, name: &str, bytes: &[u8]) -> Result<MemLibrary, Fail> {
-    let mut files = Files::new(alloc);
-    files.push(MemFile::new(alloc, name, bytes)?)?;
-    Ok(MemLibrary::new(alloc, files, Numbers::new(alloc)))
+fn library_of(alloc: Global, files: &[(&str, &[u8])]) -> Result<MemLibrary, Fail> {
+    let mut list = Files::new(alloc);
+    for (name, bytes) in files {
+        list.push(MemFile::new(alloc, name, bytes)?)?;
+    }
+    Ok(MemLibrary::new(alloc, list, Numbers::new(alloc)))
 }
 
-// The status of a run, and whether its report is the one that is wanted.
+/// The status of a run, and whether its report is the one that is wanted.
 fn outcome(alloc: Global, case: &Case) -> Result<(u8, bool), Fail> {
     let words = words_of(alloc, case.words)?;
-    let mut library = library_of(alloc, case.file, case.bytes)?;
+    let mut library = library_of(alloc, case.files)?;
     let mut sink = MemSink::new(alloc, 64, 100_000, Numbers::new(alloc))?;
     let status = run(alloc, &words, &mut library, &mut sink);
     Ok((status, sink.bytes() == case.report))
@@ -55,89 +184,10 @@ fn outcome(alloc: Global, case: &Case) -> Result<(u8, bool), Fail> {
 
 #[test]
 fn runs_report_as_stated(rt: HostRuntime) -> Result<(), Fail> {
-    let cases = [
-        Case {
-            words: &["prove", "r1.p"],
-            file: "r1.p",
-            bytes: TWO_UNITS,
-            status: 0,
-            report: TWO_UNITS_REPORT,
-        },
-        Case {
-            words: &["prove", "q.p"],
-            file: "q.p",
-            bytes: b"cnf(a,axiom,p(c)).",
-            status: 10,
-            report: b"% SZS status Unknown for q\n% closed\n",
-        },
-        Case {
-            words: &["prove", "r21.p"],
-            file: "r21.p",
-            bytes: b"tff(a,axiom,p).",
-            status: 3,
-            report: b"% SZS status InputError for r21\n% NotBuilt\n",
-        },
-        Case {
-            words: &["prove", "none.p"],
-            file: "other.p",
-            bytes: b"",
-            status: 4,
-            report: b"% SZS status OSError for none\n% Load none.p\n",
-        },
-        Case {
-            words: &["prove"],
-            file: "r1.p",
-            bytes: TWO_UNITS,
-            status: 6,
-            report: USAGE,
-        },
-        Case {
-            words: &[],
-            file: "r1.p",
-            bytes: TWO_UNITS,
-            status: 6,
-            report: USAGE,
-        },
-        Case {
-            words: &["--help"],
-            file: "r1.p",
-            bytes: TWO_UNITS,
-            status: 6,
-            report: USAGE,
-        },
-        Case {
-            words: &["prove", "-"],
-            file: "-",
-            bytes: TWO_UNITS,
-            status: 6,
-            report: USAGE,
-        },
-        Case {
-            words: &["prove", ""],
-            file: "",
-            bytes: TWO_UNITS,
-            status: 6,
-            report: USAGE,
-        },
-        Case {
-            words: &["prove", "dir/sub/.p"],
-            file: "dir/sub/.p",
-            bytes: b"",
-            status: 10,
-            report: b"% SZS status Unknown for \n% closed\n",
-        },
-        Case {
-            words: &["prove", "d/\x01 x.p.p"],
-            file: "d/\x01 x.p.p",
-            bytes: b"!",
-            status: 3,
-            report: b"% SZS status InputError for ? x.p\n% NotBuilt\n",
-        },
-    ];
-    for case in &cases {
+    for case in CASES {
         let (status, right) = outcome(rt.alloc(), case)?;
-        assert_eq!(rt; status, case.status, "on {}", case.file);
-        assert!(rt; right, "the report on {}", case.file);
+        assert_eq!(rt; status, case.status, "{}", case.report.len());
+        assert!(rt; right, "{}", case.report.len());
     }
     Ok(())
 }
@@ -147,7 +197,7 @@ fn a_text_that_is_cut_off_is_refused(rt: HostRuntime) -> Result<(), Fail> {
     let alloc = rt.alloc();
     for end in 0..TWO_UNITS.len() {
         let words = words_of(alloc, &["prove", "r1.p"])?;
-        let mut library = library_of(alloc, "r1.p", &TWO_UNITS[..end])?;
+        let mut library = library_of(alloc, &[("r1.p", &TWO_UNITS[..end])])?;
         let mut sink = MemSink::new(alloc, 1000, 1000, Numbers::new(alloc))?;
         let status = run(alloc, &words, &mut library, &mut sink);
         let whole = end == 0 || end == 15 || end == 16;
@@ -161,10 +211,10 @@ fn a_file_over_the_limit_is_refused(rt: HostRuntime) -> Result<(), Fail> {
     let alloc = rt.alloc();
     let words = words_of(alloc, &["prove", "r1.p"])?;
     let bytes = vec![in alloc; 32u8; 67_108_865]?;
-    let mut library = library_of(alloc, "r1.p", bytes.as_slice())?;
+    let mut library = library_of(alloc, &[("r1.p", bytes.as_slice())])?;
     let mut sink = MemSink::new(alloc, 1000, 1000, Numbers::new(alloc))?;
     assert_eq!(rt; run(alloc, &words, &mut library, &mut sink), 3);
-    assert!(rt; sink.bytes() == b"% SZS status InputError for r1\n% NotBuilt\n".as_slice());
+    assert!(rt; sink.bytes() == b"% SZS status InputError for r1\n% TooLong at r1.p:0\n".as_slice());
     Ok(())
 }
 
@@ -172,7 +222,7 @@ fn a_file_over_the_limit_is_refused(rt: HostRuntime) -> Result<(), Fail> {
 fn a_sink_that_fails_ends_the_report(rt: HostRuntime) -> Result<(), Fail> {
     let alloc = rt.alloc();
     let words = words_of(alloc, &["prove", "r2.p"])?;
-    let mut library = library_of(alloc, "r2.p", b"")?;
+    let mut library = library_of(alloc, &[("r2.p", b"")])?;
     let mut sink = MemSink::new(alloc, 8, 1000, Numbers::from_slice(alloc, &[3])?)?;
     assert_eq!(rt; run(alloc, &words, &mut library, &mut sink), 5);
     assert!(rt; sink.bytes() == b"% SZS status Unk".as_slice());
@@ -205,7 +255,7 @@ fn limits_of_a_problem_are_told(rt: HostRuntime) -> Result<(), Fail> {
     let words = words_of(alloc, ["prove", "w.p"].as_slice())?;
     for (levels, arguments, status) in [(500, 0, 10), (501, 0, 3), (0, 3997, 10), (0, 3998, 3)] {
         let text = unit_text(alloc, levels, arguments)?;
-        let mut library = library_of(alloc, "w.p", text.as_slice())?;
+        let mut library = library_of(alloc, &[("w.p", text.as_slice())])?;
         let mut sink = MemSink::new(alloc, 64, 100, Numbers::new(alloc))?;
         assert_eq!(rt;
             run(alloc, &words, &mut library, &mut sink),

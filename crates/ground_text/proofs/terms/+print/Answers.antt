@@ -1,9 +1,0 @@
-use Rattle.std.proofs.Common.{◌≡◌, map, refl, arith}
-use Rattle.fol_base.specs.Term.{tree_of}
-use Rattle.fol_base.proofs.TermLemmas.{tree_size-item}
-use Rattle.ground_text.proofs.terms.+print.Goals as goal
-
-pub push_more_arguments-push_term-requires : goal.push_more_arguments-push_term-requires
-push_more_arguments-push_term-requires t c =
-    let same : map tree_of c.args.arguments.now ≡ map tree_of c.args.arguments.now = refl in
-    (omega (arith, tree_size-item _ _ _ _ same c.loop-argument-test.true c.argument-item.is, c.decreases), tt)
