@@ -4,3 +4,5 @@ pub mod AnswerLemmas
 pub mod WordLemmas
 pub mod OriginLemmas
 pub mod RunLemmas
+mod PlainLemmas
+mod TextLemmas

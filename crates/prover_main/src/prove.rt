@@ -1,6 +1,6 @@
 // What `prove` answers: the ground loop runs on the clausal form, where each clause is ground and has predicates alone.
 
-ghost use Rattle.std.specs.Prelude.{◌≡◌, ◌≤◌, ◌<◌, ℕ, IfOk, IsTrue, Some, slice_get, length, map};
+ghost use Rattle.std.specs.Prelude.{◌≡◌, ◌≤◌, ◌<◌, ◌^◌, ℕ, IfOk, IsTrue, Some, slice_get, length, map};
 ghost use Rattle.std.specs.Option.{option_copied, option_map};
 ghost use Rattle.fol_base.specs.Literal.{clause_of};
 ghost use Rattle.kernel_steps.specs.Derivation.{IsRefutation};
@@ -8,19 +8,23 @@ ghost use Rattle.ground_loop.specs.GroundLines.{AreGroundLines};
 ghost use Rattle.ground_loop.specs.Scope.{IsInScope};
 ghost use Rattle.prover_main.specs.Words.{is_filled};
 ghost use Rattle.clausal_form.specs.DerivationTexts.{IsAcceptedDerivation};
+ghost use Rattle.signature.specs.Symbol.{IsSignature};
 ghost use Rattle.signature.specs.Form.{clausal_form};
 ghost use Rattle.clausal_form.specs.Form.{form_of};
 ghost use Rattle.prover_main.specs.Answer.{IsProveAnswer, has_conjecture};
 ghost use Rattle.prover_main.specs.AnswerShape.{answer_meant, WasFormed, IsProofAnswer, IsNotBuiltAnswer};
 
 use crate::answer::Answer;
+use crate::names::push_shown;
 use crate::problem::{FormedProblem, formed_problem};
+use clausal_form::Clausal;
 use ground_loop::{Ground, first_outside, prove_ground};
 use kernel_steps::Derivation;
 use outside::Library;
 use plain_types::{Mem, Text};
 use std::alloc::Global;
 use tptp_tree::Annotated;
+use tstp_writer::{Page, write_lines};
 
 /// Reads the problem of a file, brings it to clausal form, and proves or gives up. The first stage that fails answers.
 pub fn prove_answer<L: Library>(
@@ -117,5 +121,26 @@ fn derivation_text(
     requires scope { IsInScope (map clause_of formed.now.form.clauses) }
     ensures { IfOk result (λ text. (count : ℕ) × IsAcceptedDerivation formed.now.problem.formulas text count) }
 {
-    Err(plain_types::NoMemory)
+    let mut name = Page::new(alloc);
+    push_shown(&mut name, file.as_bytes())?;
+    let name = name.into_text();
+    prove_counts(&formed.form);
+    let last = lines.len() as u64 - 1;
+    write_lines(
+        alloc,
+        &formed.problem,
+        &formed.form,
+        lines,
+        last,
+        name.as_slice(),
+    )
+}
+
+/// The symbols of a form are a signature's, and its clauses are counted by a machine word.
+fn prove_counts(form: &Clausal)
+    ensures symbols { IsSignature form.now.signature }
+    ensures clauses { length form.now.clauses < 2 ^ 64 }
+{
+    let _ = form.signature.len();
+    let _ = form.clauses.len();
 }

@@ -1,0 +1,81 @@
+-- The text of a refutation that the ground loop made is an accepted derivation.
+use Rattle.std.proofs.Common.{◌≡◌, ◌≤◌, ◌<◌, ◌^◌, ℕ, suc, Bool, true, false, ◌&&◌, List, [], ◌∷◌, length, map, refl, ap, sym, ◌∙◌, subst, arith}
+use Rattle.std.specs.Prelude.{nat_le, if◌then◌else◌, IsTrue}
+use Rattle.std.proofs.lemmas.Bool.{true≢false}
+use Rattle.std.proofs.lemmas.List.{length-map}
+use Rattle.std.specs.List.{list_all}
+use Rattle.fol_base.specs.Clause.{TreeClause}
+use Rattle.fol_base.specs.Literal.{clause_of}
+use Rattle.fol_base.specs.GroundForm.{IsGroundForm, form_size}
+use Rattle.fol_base.specs.declared.limits.TheConstants.{MOST_SYMBOLS}
+use Rattle.tptp_token.specs.Spelling.{is_printable}
+use Rattle.tptp_tree.specs.declared.problem.Annotated.{Annotated}
+use Rattle.signature.specs.Symbol.{IsSignature}
+use Rattle.signature.specs.Form.{ClausalForm, clausal_form}
+use Rattle.kernel_steps.specs.Derivation.{IsRefutation}
+use Rattle.kernel_steps.specs.declared.step.Line.{Line}
+use Rattle.ground_loop.specs.GroundLines.{AreGroundLines}
+use Rattle.ground_loop.specs.Scope.{IsInScope}
+use Rattle.clausal_form.specs.DerivationLine.{LineTree}
+use Rattle.clausal_form.specs.DerivationTexts.{IsAcceptedDerivation}
+use Rattle.tstp_writer.specs.Cone.{IsCone}
+use Rattle.tstp_writer.specs.Places.{IsCounted}
+use Rattle.tstp_writer.specs.Printable.{IsShown}
+use Rattle.tstp_writer.specs.LineTexts.{lines_text}
+use Rattle.tstp_writer.specs.LineTrees.{script_of, layout_of, derivation_trees}
+use Rattle.tstp_writer.specs.DerivedLines.{HasNumberedForm}
+use Rattle.tstp_writer.specs.WrittenLaws.{IsPlainRefutation}
+use Rattle.tstp_writer.proofs.PlainTrees.{derivation-spelled}
+use Rattle.tstp_writer.proofs.WrittenLines.{written-accepted}
+use Rattle.prover_main.specs.Words.{is_filled}
+use Rattle.prover_main.specs.Names.{shown_byte, shown}
+use Rattle.prover_main.specs.AnswerShape.{IsFormedFrom, WasFormed}
+use Rattle.prover_main.specs.declared.problem.FormedProblem.{FormedProblem}
+use Rattle.prover_main.proofs.PlainLemmas.{plain-refutation, small-clauses}
+
+-- ---- a file's name as it is shown
+
+byte-shown : (b : ℕ) → is_printable (shown_byte b) ≡ true
+byte-shown b = by (nat_le 32 b && nat_le b 126) refl
+  where
+    by : (c : Bool) → (nat_le 32 b && nat_le b 126) ≡ c → is_printable (if c then b else 63) ≡ true
+    by true h = h
+    by false h = refl
+
+bytes-shown : (bs : List ℕ) → list_all is_printable (shown bs) ≡ true
+bytes-shown [] = refl
+bytes-shown (b ∷ bs) = ap (λ c. c && list_all is_printable (shown bs)) (byte-shown b) ∙ bytes-shown bs
+
+pub file-shown : (file : List ℕ) → IsTrue (is_filled file) → IsShown (shown file)
+file-shown [] h = absurd (true≢false (sym h))
+file-shown (b ∷ bs) h = record { printable = bytes-shown (b ∷ bs); some = omega arith }
+
+-- ---- the text
+
+pub text-accepted :
+    (formed : FormedProblem) (name : List ℕ) (lines : List Line) (last : ℕ) (numbers text : List ℕ)
+    → WasFormed formed → IsShown name → IsInScope (map clause_of formed.form.clauses)
+    → IsRefutation (map clause_of formed.form.clauses) lines → AreGroundLines lines
+    → IsSignature formed.form.signature → length formed.form.clauses < 2 ^ 64 → suc last ≡ length lines
+    → IsCone lines last numbers → IsCounted (layout_of (script_of name formed.problem.formulas) lines numbers)
+    → text ≡ lines_text (derivation_trees (script_of name formed.problem.formulas) lines numbers)
+    → (count : ℕ) × IsAcceptedDerivation formed.problem.formulas text count
+text-accepted formed name lines last numbers text was shown scope refutes ground signature few end cone counted printed =
+    let fs : List Annotated = formed.problem.formulas in
+    let trees : List LineTree = derivation_trees (script_of name fs) lines numbers in
+    let h : IsFormedFrom was.told was.source formed = was.formed_from in
+    let e : map clause_of formed.form.clauses ≡ (clausal_form fs).clauses = ap (λ (f : ClausalForm). f.clauses) h.form in
+    let numbered : HasNumberedForm fs =
+    record {
+      symbols = subst IsSignature (ap (λ (f : ClausalForm). f.symbols) h.form) signature;
+      clauses = omega (arith, few, ap length e, length-map formed.form.clauses clause_of);
+    } in
+    let plain : IsPlainRefutation fs lines last numbers =
+    plain-refutation fs lines last numbers (subst IsGroundForm e scope.0) (subst (λ cs. IsRefutation cs lines) e refutes) ground numbered end cone in
+    let sizes : form_size (clausal_form fs).clauses ≤ MOST_SYMBOLS = subst (λ cs. form_size cs ≤ MOST_SYMBOLS) e scope.1 in
+    (length trees,
+    subst (λ t. IsAcceptedDerivation fs t (length trees)) (sym printed)
+    (trees,
+    derivation-spelled was.told was.source.file was.source.root fs h.read name shown lines numbers
+    (small-clauses (clausal_form fs).clauses sizes) plain.derived plain.plain,
+    written-accepted name fs lines last numbers plain counted))
