@@ -4,3 +4,4 @@ pub mod AnswerLemmas
 pub mod WordLemmas
 pub mod OriginLemmas
 pub mod RunLemmas
+pub mod PlainLemmas
