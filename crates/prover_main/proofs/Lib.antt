@@ -4,4 +4,5 @@ pub mod AnswerLemmas
 pub mod WordLemmas
 pub mod OriginLemmas
 pub mod RunLemmas
+pub mod FormSymbols
 pub mod PlainLemmas
