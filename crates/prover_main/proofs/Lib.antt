@@ -6,3 +6,5 @@ pub mod OriginLemmas
 pub mod RunLemmas
 mod PlainLemmas
 mod TextLemmas
+pub mod FormSymbols
+pub mod PlainLemmas
