@@ -1,6 +1,9 @@
 // The lines of a derivation that were taken, and the verdict on a line more.
 
 ghost use Rattle.std.specs.Prelude.{◌≡◌, ◌+◌, IfOk, OnErr, length};
+ghost use Rattle.fol_base.specs.Clause.{clause_eq};
+ghost use Rattle.fol_base.specs.Literal.{clause_of};
+ghost use Rattle.kernel_steps.specs.Conclusion.{empty_clause};
 ghost use Rattle.clausal_form.specs.Form.{form_of};
 ghost use Rattle.clausal_form.specs.DerivationSteps.{kind_of};
 ghost use Rattle.clausal_form.specs.DerivationLine.{nothing_taken, names_with};
@@ -20,6 +23,7 @@ use crate::sources::parent_names;
 use crate::steps::{Kind, kind_of};
 use crate::taken::TakenLines;
 use clausal_form::Clausal;
+use fol_base::Clause;
 use kernel_steps::Line;
 use plain_types::{Mem, NoMemory, Numbers};
 use std::alloc::Global;
@@ -149,5 +153,12 @@ impl<'a> Lines<'a> {
 fn is_empty_clause(line: &Line) -> bool
     ensures { result ≡ is_empty_clause_line line.now }
 {
-    line.step.is_clause_step() && line.clause.literals.is_empty() && line.clause.names.is_empty()
+    line.step.is_clause_step() && is_empty(&line.clause)
+}
+
+/// Whether a clause is the empty one.
+fn is_empty(clause: &Clause) -> bool
+    ensures { result ≡ clause_eq (clause_of clause.now) empty_clause }
+{
+    clause.literals.is_empty() && clause.names.is_empty()
 }
