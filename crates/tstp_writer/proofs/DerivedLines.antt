@@ -20,11 +20,12 @@ use Rattle.clausal_form.specs.DerivationLine.{LineTree, same_entry, entry_of, ke
 use Rattle.clausal_form.specs.DerivationParts.{Setting, setting_of, entry_at, line_place}
 use Rattle.clausal_form.specs.DerivationCauses.{fits, is_conjecture_at as is_conjecture_in, taken, line_verdict}
 use Rattle.tstp_writer.specs.Cone.{parents_of, has_number, IsRising}
-use Rattle.tstp_writer.specs.LineTrees.{Script, script_of, is_conjecture_at, origin, Layout, comes_from, lines_at, layout_of, line_name, place_in, cited_name, negated_name, derived_name, step_source, input_at, negate_at, clause_tree, line_tree_by, line_tree, derived_tree}
+use Rattle.tstp_writer.specs.LineTrees.{Script, script_of, is_conjecture_at, origin, Layout, comes_from, lines_at, layout_of, line_name, place_in, cited_name, negated_name, derived_name, step_source, input_at, negate_at, clause_tree, line_tree, derived_tree}
 use Rattle.tstp_writer.specs.PlainLines.{is_plain_step, IsPlainLine, written_place, placed_step, first_place, taken_as, inputs_taken, negations_taken, derived_taken, all_written}
 use Rattle.tstp_writer.specs.DerivedLines.{ParentIsTaken, OriginIsTaken, SourcesAreTaken}
 use Rattle.tstp_writer.specs.Places.{IsCounted}
 use Rattle.tstp_writer.specs.WrittenLaws.{IsPlainRefutation}
+use Rattle.tstp_writer.proofs.StepTrees.{line_tree_by}
 use Rattle.tstp_writer.proofs.SameLemmas.{entry-turned, same-conjecture}
 use Rattle.tstp_writer.proofs.PlaceLemmas.{there-below, kept-there, there-behind, number-there, has-passing, has-between, all-passing, passing-pass, all-from, all-below, rising-passing, rising-numbers, AllPlaced, rising-placed, stands-before, AreNamed, named-joined, name-new}
 use Rattle.tstp_writer.proofs.WalkLemmas.{state, Walks, walk-none, walk-line}

@@ -8,6 +8,7 @@ mod ShownSymbols
 mod PlainTexts
 mod PlainSources
 mod SmallAtoms
+mod StepTrees
 mod PlainTrees
 mod TermTexts
 mod NoteLemmas
@@ -29,3 +30,5 @@ mod ConeLemmas
 mod DerivedLines
 mod WrittenLines
 mod LayoutLemmas
+mod CitedLemmas
+mod PrefixLemmas

@@ -17,11 +17,12 @@ use Rattle.kernel_steps.specs.Derivation.{IsDerivation}
 use Rattle.kernel_steps.specs.declared.step.Line.{Line}
 use Rattle.clausal_form.specs.DerivationLine.{LineTree}
 use Rattle.tstp_writer.specs.ClauseTrees.{clause_formula}
-use Rattle.tstp_writer.specs.LineTrees.{Script, script_of, Layout, layout_of, lines_at, cited_name, negated_name, derived_name, input_at, negate_at, step_source, clause_tree, line_tree_by, line_tree, derived_tree, derivation_trees}
+use Rattle.tstp_writer.specs.LineTrees.{Script, script_of, Layout, layout_of, lines_at, cited_name, negated_name, derived_name, input_at, negate_at, step_source, clause_tree, line_tree, derived_tree, derivation_trees}
 use Rattle.tstp_writer.specs.PlainLines.{is_plain_step, IsPlainLine}
 use Rattle.tstp_writer.specs.Printable.{IsShown, IsPrintable}
 use Rattle.tstp_writer.specs.ProblemLaws.{HasPrintableFormulas}
 use Rattle.tstp_writer.specs.WrittenTexts.{AreShownSymbols, HasSmallAtoms, IsSmallPlainLine, AreSmallClauses, IsSpelledByText}
+use Rattle.tstp_writer.proofs.StepTrees.{line_tree_by}
 use Rattle.tstp_writer.proofs.ProblemLemmas.{line_name-shown}
 use Rattle.tstp_writer.proofs.ProblemTrees.{front-printable, script-printable, beginning-printable}
 use Rattle.tstp_writer.proofs.ShownSymbols.{form-symbols-shown}

@@ -16,4 +16,5 @@ pub mod Places
 pub mod Levels
 pub mod Printable
 pub mod TextExamples
+pub mod Written
 pub mod WrittenLaws

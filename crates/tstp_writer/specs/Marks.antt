@@ -1,10 +1,11 @@
 -- What the pass backwards knows: marked lines, and names whose component lines are needed.
-use Rattle.std.specs.Prelude.{◌≡◌, ℕ, suc, ◌<◌, ◌≤◌, Bool, false, ◌||◌, ◌&&◌, ◌==◌, List, [], ◌∷◌, length, Some, slice_get, unwrap_or, if◌then◌else◌, IsTrue}
+use Rattle.std.specs.Prelude.{◌≡◌, ℕ, suc, ◌<◌, ◌≤◌, Bool, false, ◌||◌, ◌&&◌, ◌==◌, List, [], ◌∷◌, length, Some, slice_get, option_map, unwrap_or, if◌then◌else◌, IsTrue}
 use Rattle.std.specs.List.{list_any}
 use Rattle.kernel_steps.specs.declared.step.Step.{Step}
 use Rattle.kernel_steps.specs.declared.step.Step.TheVariants.{Component}
 use Rattle.kernel_steps.specs.declared.step.Line.{Line}
 use Rattle.tstp_writer.specs.Cone.{needs, IsNeeded}
+use Rattle.tstp_writer.specs.LineTrees.{Script, comes_from}
 use Rattle.tstp_writer.specs.declared.needed.Marks.{Marks}
 
 abbrev pub is_marked : List Bool → ℕ → Bool
@@ -48,3 +49,7 @@ pub record IsPassed (lines : List Line) (last from : ℕ) (marks : Marks) : Type
 abbrev pub marked_numbers : ℕ → List Bool → List ℕ
 marked_numbers first [] = []
 marked_numbers first (mark ∷ marks) = if mark then first ∷ marked_numbers (suc first) marks else marked_numbers (suc first) marks
+
+-- the line of that number, if it is there, is a clause of that formula
+abbrev pub comes_at : Script → List Line → ℕ → ℕ → Bool
+comes_at script lines place number = unwrap_or (option_map (λ (l : Line). comes_from script place l.step) (slice_get lines number)) false

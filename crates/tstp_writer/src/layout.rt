@@ -1,55 +1,19 @@
 // Which lines a text has, and their names.
 
-ghost use Rattle.std.specs.Prelude.{◌≡◌, ◌+◌, ◌++◌, length, IfOk};
-ghost use Rattle.tstp_writer.specs.LineTrees.{place_in, line_name, cited_name, negated_name, derived_name};
+ghost use Rattle.std.specs.Prelude.{◌≡◌, ◌<◌, ◌+◌, ◌++◌, length, IfOk};
+ghost use Rattle.std.specs.List.{AllByRecursion};
+ghost use Rattle.tstp_writer.specs.LineTrees.{layout_of, place_in, line_name, cited_name, negated_name, derived_name};
+ghost use Rattle.tstp_writer.specs.Places.{IsCounted};
+ghost use Rattle.tstp_writer.specs.Scripts.{script_in};
 
+use crate::cited::{cited_places, conjecture_places};
 use crate::page::Page;
+use crate::places::Places;
+use crate::script::Script;
+use kernel_steps::Line;
 use plain_types::{Mem, NoMemory, Numbers};
+use std::alloc::Global;
 use std::marker::Model;
-
-/// Numbers in order, which contracts see as their list, with the place of each in a table.
-#[derive(Drop)]
-pub(crate) struct Places {
-    numbers: Numbers,
-    table: Vec<u64>,
-}
-
-impl Model for Places {
-    ghost use Rattle.std.specs.Prelude.{List, ℕ};
-    ghost use Rattle.tstp_writer.specs.Places.{TellsPlaces};
-
-    ghost Value = { List ℕ };
-
-    ghost view = { λ p. p.numbers };
-
-    ghost invariant = { λ p. TellsPlaces p.table.items p.numbers };
-}
-
-impl Places {
-    /// The place of a number, and how many there are where it isn't one of them.
-    fn place(&self, number: u64) -> u64
-        ensures { result ≡ place_in number self.now }
-    {
-        match self.table.get(number as usize) {
-            Some(place) => *place,
-            None => self.numbers.len() as u64,
-        }
-    }
-
-    /// How many numbers there are.
-    fn len(&self) -> u64
-        ensures { result ≡ length self.now }
-    {
-        self.numbers.len() as u64
-    }
-
-    /// The numbers, lent.
-    pub(crate) fn as_slice(&self) -> &[u64]
-        ensures { result.now ≡ self.now }
-    {
-        self.numbers.as_slice()
-    }
-}
 
 /// The formulas that are cited, those of them that are negated, and the lines of the derivation, each by its numbers.
 #[derive(Drop)]
@@ -73,9 +37,8 @@ impl Model for Layout {
 impl Layout {
     /// The lines of these. Over 2^64 lines are want of memory.
     pub(crate) fn of(cited: Places, negated: Places, numbers: Places) -> Mem<Layout>
-        ensures cited { IfOk result (λ layout. layout.cited ≡ cited) }
-        ensures negated { IfOk result (λ layout. layout.negated ≡ negated) }
-        ensures numbers { IfOk result (λ layout. layout.numbers ≡ numbers) }
+        ensures layout { IfOk result (λ layout. layout ≡ record { cited = cited; negated = negated; numbers = numbers }) }
+        ensures counted { IfOk result (λ layout. IsCounted layout) }
     {
         let formulas = cited.len().checked_add(negated.len());
         match formulas.and_then(|count| count.checked_add(numbers.len())) {
@@ -129,6 +92,26 @@ impl Layout {
     {
         self.numbers.as_slice()
     }
+}
+
+/// The lines that are written for lines of a derivation, those with these numbers.
+pub(crate) fn lay_out(
+    alloc: Global,
+    script: Script<'_>,
+    lines: &[Line],
+    numbers: Numbers,
+) -> Mem<Layout>
+    requires { AllByRecursion (λ n. n < length lines.now) numbers }
+    ensures layout { IfOk result (λ layout. layout ≡ layout_of (script_in script.entry) lines.now numbers) }
+    ensures counted { IfOk result (λ layout. IsCounted layout) }
+{
+    let formulas = script.formulas.len();
+    let cited = cited_places(alloc, script, lines, numbers.as_slice())?;
+    let negated = conjecture_places(alloc, script, cited.as_slice())?;
+    let cited = Places::of(alloc, cited, formulas)?;
+    let negated = Places::of(alloc, negated, formulas)?;
+    let numbers = Places::of(alloc, numbers, lines.len())?;
+    Layout::of(cited, negated, numbers)
 }
 
 /// Adds the name of a line.

@@ -39,7 +39,7 @@ fn push_head(page: &mut Page, clause: bool, number: u64, role: Role) -> Mem<()>
 }
 
 /// Adds a formula's name: bare where it is a lower word or of digits alone, else quoted.
-fn push_formula_name(page: &mut Page, name: &[u8]) -> Mem<()>
+pub fn push_formula_name(page: &mut Page, name: &[u8]) -> Mem<()>
     ensures { IfOk result (λ _. page.new ≡ page.old ++ formula_name_text name.now) }
 {
     if !name.is_empty() && are_digits(name) {

@@ -5,6 +5,7 @@ ghost use Rattle.kernel_steps.specs.declared.step.Line.{Line};
 ghost use Rattle.tstp_writer.specs.Cone.{has_number, NeedEarlier, IsCone};
 ghost use Rattle.tstp_writer.specs.Marks.{is_marked, defines_one, has_line, IsAdded, IsVisited, marked_numbers};
 
+use crate::marks::{mark, marked};
 use indexmap::IndexSet;
 use kernel_steps::{Derivation, Line, Step};
 use plain_types::{Mem, Numbers};
@@ -126,9 +127,7 @@ impl Marks {
             → is_marked self.new.lines.items n ≡ (is_marked self.old.lines.items n || number == n) }
         ensures names { self.new.names ≡ self.old.names }
     {
-        if let Some(mark) = self.lines.get_mut(number as usize) {
-            *mark = true;
-        }
+        mark(&mut self.lines, number);
     }
 
     /// Marks lines.
@@ -147,12 +146,6 @@ impl Marks {
     fn numbers(&self, alloc: Global) -> Mem<Numbers>
         ensures { IfOk result (λ numbers. numbers ≡ marked_numbers 0 self.now.lines.items) }
     {
-        let mut numbers = Numbers::new(alloc);
-        for place in 0..self.lines.len() {
-            if self.lines[place] {
-                numbers.push(place as u64)?;
-            }
-        }
-        Ok(numbers)
+        marked(alloc, self.lines.as_slice())
     }
 }

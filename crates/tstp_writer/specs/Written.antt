@@ -1,0 +1,15 @@
+-- The text of a derivation: of the lines that one of them needs.
+use Rattle.std.specs.Prelude.{◌≡◌, ℕ, List}
+use Rattle.tptp_tree.specs.declared.problem.Annotated.{Annotated}
+use Rattle.kernel_steps.specs.declared.step.Line.{Line}
+use Rattle.tstp_writer.specs.Cone.{IsCone}
+use Rattle.tstp_writer.specs.LineTexts.{lines_text}
+use Rattle.tstp_writer.specs.LineTrees.{script_of, layout_of, derivation_trees}
+use Rattle.tstp_writer.specs.Places.{IsCounted}
+
+-- What is written for the lines that the line `last` needs. The lines are counted by a machine word.
+pub record IsWritten (file : List ℕ) (problem : List Annotated) (lines : List Line) (last : ℕ) (text : List ℕ) : Type 0 where
+  pub numbers : List ℕ
+  pub cone : IsCone lines last numbers
+  pub counted : IsCounted (layout_of (script_of file problem) lines numbers)
+  pub printed : text ≡ lines_text (derivation_trees (script_of file problem) lines numbers)

@@ -1,0 +1,30 @@
+// Marks at the places of a list.
+
+ghost use Rattle.std.specs.Prelude.{◌≡◌, ◌<◌, ◌||◌, ◌==◌, ℕ, length, IfOk};
+ghost use Rattle.tstp_writer.specs.Marks.{is_marked, marked_numbers};
+
+use plain_types::{Mem, Numbers};
+use std::alloc::Global;
+
+/// Sets the mark of a place, where there is one.
+pub(crate) fn mark(marks: &mut Vec<bool>, place: u64)
+    ensures room { length marks.new.items ≡ length marks.old.items }
+    ensures marks { (n : ℕ) → n < length marks.old.items → is_marked marks.new.items n ≡ (is_marked marks.old.items n || place == n) }
+{
+    if let Some(mark) = marks.get_mut(place as usize) {
+        *mark = true;
+    }
+}
+
+/// The places that are marked.
+pub(crate) fn marked(alloc: Global, marks: &[bool]) -> Mem<Numbers>
+    ensures { IfOk result (λ numbers. numbers ≡ marked_numbers 0 marks.now) }
+{
+    let mut numbers = Numbers::new(alloc);
+    for place in 0..marks.len() {
+        if marks[place] {
+            numbers.push(place as u64)?;
+        }
+    }
+    Ok(numbers)
+}
