@@ -1,6 +1,7 @@
 -- The program's answers in the words of the definitions.
 use Rattle.std.specs.Prelude.{◌≡◌, ⊤, ℕ, Bool, List, map, Option, None, Some, option_map}
 use Rattle.outside.specs.Library.{Holdings}
+use Rattle.tptp_tree.specs.ProblemSize.{HasProblemSize}
 use Rattle.tptp_tree.specs.declared.problem.Annotated.{Annotated}
 use Rattle.tptp_problem.specs.Formulas.{placed}
 use Rattle.tptp_problem.specs.Problem.{IsProblem}
@@ -36,6 +37,7 @@ answer_meant (Unformed cause name) = unformed cause name
 -- The problem is that of the file, with its clausal form.
 pub record IsFormedFrom (told : Option Holdings) (source : Source) (formed : FormedProblem) : Type 0 where
   pub read : IsProblem told source.file source.root (map placed formed.problem.formulas)
+  pub size : HasProblemSize formed.problem.formulas
   pub within : form_fault formed.problem.formulas ≡ None
   pub form : form_of formed.form ≡ clausal_form formed.problem.formulas
 
