@@ -46,7 +46,7 @@ proof_proves outside source limit formed (spent count allowed) h p =
       triples = p.2;
     }
 proof_proves outside source limit formed closed h p =
-    record { formulas = formed.problem.formulas; formed = is_formed outside source formed h; sets = p }
+    record { formulas = formed.problem.formulas; formed = is_formed outside source formed h; sets = p.0; satisfied = p.1 }
 proof_proves outside source limit formed (not_built name) h p =
     record {
       formulas = formed.problem.formulas;

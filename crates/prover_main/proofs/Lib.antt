@@ -6,4 +6,5 @@ pub mod OriginLemmas
 pub mod FormSymbols
 pub mod PlainLemmas
 pub mod TextLemmas
+pub mod SatisfiedLemmas
 pub mod RunLemmas

@@ -12,10 +12,11 @@ use Rattle.tptp_problem.specs.Problem.{IsProblem, IsProblemFault}
 use Rattle.tptp_problem.specs.Shape.{IsLoadTold}
 use Rattle.signature.specs.Form.{clausal_form}
 use Rattle.clausal_form.specs.Fault.{form_fault}
-use Rattle.clausal_form.specs.FormFunctions.{IsHerbrandRefuted}
+use Rattle.clausal_form.specs.FormFunctions.{is_predicate_in, IsHerbrandRefuted}
 use Rattle.clausal_form.specs.DerivationTexts.{IsAcceptedDerivation, IsRefusedDerivation}
 use Rattle.clausal_form.specs.declared.fault.FormCause.{FormCause}
 use Rattle.ground_loop.specs.Answer.{HasClosedSets, HasTriples}
+use Rattle.ground_loop.specs.Satisfaction.{Satisfied}
 use Rattle.ground_loop.specs.Scope.{first_outside}
 use Rattle.tstp_checker.specs.Causes.{cause_meant}
 use Rattle.tstp_checker.specs.declared.cause.Cause.{Cause}
@@ -98,11 +99,12 @@ pub record IsSpent (outside : Outside) (source : Source) (limit count allowed : 
   pub allowed_is : allowed ≡ limit
   pub triples : HasTriples (clausal_form formulas).clauses limit
 
--- A closed list of sets without the empty set.
+-- A closed list of sets without the empty set, and so a finite interpretation that makes all clauses true.
 pub record IsClosed (outside : Outside) (source : Source) : Type 0 where
   pub formulas : List Annotated
   pub formed : IsFormed outside source formulas
   pub sets : HasClosedSets (clausal_form formulas).clauses
+  pub satisfied : Satisfied (is_predicate_in (clausal_form formulas).symbols) (clausal_form formulas).clauses
 
 -- The first clause that has a variable, an equation or a name, or with which the form has too many symbols, is one of that formula.
 pub record IsNotBuilt (outside : Outside) (source : Source) (name : List ℕ) : Type 0 where

@@ -8,11 +8,12 @@ use Rattle.tptp_problem.specs.Problem.{IsProblem}
 use Rattle.signature.specs.Form.{clausal_form}
 use Rattle.clausal_form.specs.Form.{form_of}
 use Rattle.clausal_form.specs.Fault.{form_fault}
-use Rattle.clausal_form.specs.FormFunctions.{IsHerbrandRefuted}
+use Rattle.clausal_form.specs.FormFunctions.{is_predicate_in, IsHerbrandRefuted}
 use Rattle.clausal_form.specs.DerivationTexts.{IsAcceptedDerivation, IsRefusedDerivation}
 use Rattle.tstp_checker.specs.Causes.{cause_meant}
 use Rattle.prover_main.specs.Outside.{Outside}
 use Rattle.ground_loop.specs.Answer.{HasClosedSets, HasTriples}
+use Rattle.ground_loop.specs.Satisfaction.{Satisfied}
 use Rattle.ground_loop.specs.Scope.{first_outside}
 use Rattle.prover_main.specs.Answer.{Source, IsUnread, IsUnformed, has_conjecture, formula_of_clause, Answer as Answered, refuted, spent, closed, not_built, accepted, refused, unloaded, unread, unformed}
 use Rattle.prover_main.specs.declared.answer.Answer.{Answer}
@@ -90,7 +91,8 @@ abbrev pub IsProofAnswer : List Annotated → ℕ → Answered → Type 0
 IsProofAnswer formulas limit (refuted conjecture derivation) = IsRefutation formulas conjecture derivation
 IsProofAnswer formulas limit (spent count allowed) =
     (count ≡ limit) × (allowed ≡ limit) × HasTriples (clausal_form formulas).clauses limit
-IsProofAnswer formulas limit closed = HasClosedSets (clausal_form formulas).clauses
+IsProofAnswer formulas limit closed =
+    HasClosedSets (clausal_form formulas).clauses × Satisfied (is_predicate_in (clausal_form formulas).symbols) (clausal_form formulas).clauses
 IsProofAnswer formulas limit (not_built name) = IsOutsideIn formulas name
 IsProofAnswer formulas limit (accepted lines) = ⊥
 IsProofAnswer formulas limit (refused line cause) = ⊥
