@@ -31,4 +31,4 @@ mod DerivedLines
 mod WrittenLines
 mod LayoutLemmas
 mod CitedLemmas
-mod PrefixLemmas
+mod ScriptLemmas

@@ -6,7 +6,7 @@ ghost use Rattle.tstp_writer.specs.LineTrees.{cited_places, comes_from, is_conje
 ghost use Rattle.tstp_writer.specs.Marks.{is_marked, comes_at};
 ghost use Rattle.tstp_writer.specs.Scripts.{script_in};
 
-use crate::marks::{mark, marked};
+use crate::marks::{mark, marked, unmarked};
 use crate::script::Script;
 use kernel_steps::{Line, Step};
 use plain_types::{Mem, Numbers};
@@ -21,8 +21,7 @@ pub(crate) fn cited_places(
 ) -> Mem<Numbers>
     ensures { IfOk result (λ places. places ≡ cited_places (script_in script.entry) (lines_at lines.now numbers.now)) }
 {
-    let mut marks = Vec::new(alloc);
-    marks.resize(script.formulas.len(), false)?;
+    let mut marks = unmarked(alloc, script.formulas.len())?;
     mark_origins(&mut marks, script, lines, numbers);
     marked(alloc, marks.as_slice())
 }

@@ -1,10 +1,20 @@
 // Marks at the places of a list.
 
-ghost use Rattle.std.specs.Prelude.{◌≡◌, ◌<◌, ◌||◌, ◌==◌, ℕ, length, IfOk};
+ghost use Rattle.std.specs.Prelude.{◌≡◌, ◌<◌, ◌||◌, ◌==◌, ℕ, false, length, IfOk};
 ghost use Rattle.tstp_writer.specs.Marks.{is_marked, marked_numbers};
 
 use plain_types::{Mem, Numbers};
 use std::alloc::Global;
+
+/// So many places, none of them marked.
+pub(crate) fn unmarked(alloc: Global, count: usize) -> Mem<Vec<bool>>
+    ensures room { IfOk result (λ marks. length marks.items ≡ count) }
+    ensures none { IfOk result (λ marks. (n : ℕ) → n < count → is_marked marks.items n ≡ false) }
+{
+    let mut marks = Vec::new(alloc);
+    marks.resize(count, false)?;
+    Ok(marks)
+}
 
 /// Sets the mark of a place, where there is one.
 pub(crate) fn mark(marks: &mut Vec<bool>, place: u64)
