@@ -20,3 +20,4 @@ pub mod ClauseLineLemmas
 pub mod RuleLineLemmas
 pub mod KernelLineLemmas
 pub mod LinesLemmas
+pub mod AtomLemmas
