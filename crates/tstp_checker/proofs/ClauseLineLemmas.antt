@@ -43,7 +43,7 @@ beq-refl false = refl
 
 literals-refl : (ls : List TreeLiteral) → literals_eq ls ls ≡ true
 literals-refl [] = refl
-literals-refl (l ∷ ls) = ap₂ ◌&&◌ (ap₂ ◌&&◌ (beq-refl l.positive) (ap₂ ◌&&◌ (tree-refl l.left) (tree-refl l.right))) (literals-refl ls)
+literals-refl (l ∷ ls) = ap₂ ◌&&◌ (ap₂ ◌&&◌ (ap₂ ◌&&◌ (beq-refl l.positive) (tree-refl l.left)) (tree-refl l.right)) (literals-refl ls)
 
 names-refl : (ns : List NameLit) → names_eq ns ns ≡ true
 names-refl [] = refl
