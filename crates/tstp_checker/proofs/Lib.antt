@@ -19,3 +19,4 @@ pub mod FormulaLineLemmas
 pub mod ClauseLineLemmas
 pub mod RuleLineLemmas
 pub mod KernelLineLemmas
+pub mod VerdictLemmas
