@@ -21,3 +21,4 @@ pub mod RuleLineLemmas
 pub mod KernelLineLemmas
 pub mod LinesLemmas
 pub mod AtomLemmas
+pub mod VerdictLemmas
