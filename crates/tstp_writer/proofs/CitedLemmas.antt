@@ -51,7 +51,8 @@ marked-cited script lines ns before after count formulas size none room marks =
     (λ p low.
     marks p (omega (arith, low, room))
     ∙ ap (λ t. t || list_any (comes_at script lines p) ns) (none p (omega (arith, low, room, size)))
-    ∙ any-at script lines p ns)
+    ∙ any-at script lines p ns
+    ∙ ap (λ q. list_any (λ (l : Line). comes_from script q l.step) (lines_at lines ns)) (let same : p ≡ 0 + p = omega arith in same))
     ∙ ap (λ n. filter (λ p. list_any (λ (l : Line). comes_from script p l.step) (lines_at lines ns)) (numbers_from 0 n))
     (room ∙ size ∙ sym formulas)
 

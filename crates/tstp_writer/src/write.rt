@@ -20,7 +20,7 @@ use std::alloc::Global;
 use tptp_tree::Problem;
 
 /// The text of the lines that the line `last` needs, with the formulas of the problem that they stand on. The file is the name that
-/// is shown. Linear in the problem's formulas, the lines and the text. Over 2^64 written lines are want of memory.
+/// is shown. Linear in the formulas, the symbols, the lines and the text. Over 2^64 written lines are want of memory.
 pub fn write_lines(
     alloc: Global,
     problem: &Problem,
