@@ -70,4 +70,9 @@ clauses-predicates u (c ∷ cs) h g =
 pub form-predicates :
     (fs : List Annotated) → IsGroundForm (clausal_form fs).clauses
     → IsTrue (are_predicate_atoms (is_predicate_in (clausal_form fs).symbols) (clausal_form fs).clauses)
-form-predicates fs g = clauses-predicates (use_of (clausal_form fs).symbols) (clausal_form fs).clauses (forms-are-well-formed fs).0.used g
+form-predicates fs g =
+    let w : WellFormed (clausal_form fs).clauses = (forms-are-well-formed fs).0 in
+    clauses-predicates (use_of (clausal_form fs).symbols) (clausal_form fs).clauses
+    (subst (λ (u : SymbolUse). list_all (λ (c : TreeClause). are_literals_of u c.literals) (clausal_form fs).clauses ≡ true)
+    (forms-are-well-formed fs).1 w.used)
+    g

@@ -1,34 +1,34 @@
-mod MarkLemmas
-mod EarlierLemmas
-mod ProblemLevels
-mod ProblemForms
-mod ProblemLemmas
-mod ProblemTrees
-mod ShownSymbols
-mod PlainTexts
-mod PlainSources
-mod SmallAtoms
-mod StepTrees
-mod PlainTrees
-mod TermTexts
-mod NoteLemmas
-mod CauseLemmas
-mod ClausePhrases
-mod LineLemmas
-mod TextLemmas
-mod WrittenNumbers
-mod WrittenClauses
-mod WrittenSteps
-mod WrittenBounds
-mod OriginLemmas
-mod DerivedLemmas
-mod SameLemmas
-mod PlaceLemmas
-mod WalkLemmas
-mod InputLines
-mod ConeLemmas
-mod DerivedLines
-mod WrittenLines
-mod LayoutLemmas
-mod CitedLemmas
-mod ScriptLemmas
+pub mod MarkLemmas
+pub mod EarlierLemmas
+pub mod ProblemLevels
+pub mod ProblemForms
+pub mod ProblemLemmas
+pub mod ProblemTrees
+pub mod ShownSymbols
+pub mod PlainTexts
+pub mod PlainSources
+pub mod SmallAtoms
+pub mod StepTrees
+pub mod PlainTrees
+pub mod TermTexts
+pub mod NoteLemmas
+pub mod CauseLemmas
+pub mod ClausePhrases
+pub mod LineLemmas
+pub mod TextLemmas
+pub mod WrittenNumbers
+pub mod WrittenClauses
+pub mod WrittenSteps
+pub mod WrittenBounds
+pub mod OriginLemmas
+pub mod DerivedLemmas
+pub mod SameLemmas
+pub mod PlaceLemmas
+pub mod WalkLemmas
+pub mod InputLines
+pub mod ConeLemmas
+pub mod DerivedLines
+pub mod WrittenLines
+pub mod LayoutLemmas
+pub mod CitedLemmas
+pub mod ScriptLemmas
