@@ -51,10 +51,12 @@ fn a_leaf_is_written_alone(rt: HostRuntime) -> Result<(), Fail> {
     let problem = Problem {
         formulas: AnnotatedList::new(alloc),
     };
-    let form = clausal(alloc, &problem).expect(&rt, "a form");
+    let Ok(form) = clausal(alloc, &problem) else {
+        return Err(Fail::new("form"));
+    };
     let lines = leaves(alloc)?;
     let text = write_lines(alloc, &problem, &form, &lines, 1, b"none.p")?;
-    let written = b"cnf(c0,plain,$false,inference(clausify,[status(thm),index(1)],[c0])).\n";
+    let written = b"cnf(c0,plain,$false,inference(clausify,[status(esa),index(1)],[c0])).\n";
     assert!(rt; text.as_slice() == written.as_slice());
     Ok(())
 }
