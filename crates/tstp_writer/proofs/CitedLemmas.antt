@@ -1,5 +1,5 @@
 -- Places that are marked, as a filter of all places; and which formulas lines stand on.
-use Rattle.std.proofs.Common.{◌≡◌, ℕ, zero, suc, ◌+◌, ◌<◌, Bool, true, false, ◌||◌, List, [], ◌∷◌, length, Option, None, Some, refl, ap, sym, ◌∙◌, arith}
+use Rattle.std.proofs.Common.{◌≡◌, ℕ, suc, ◌+◌, ◌<◌, Bool, false, ◌||◌, List, [], ◌∷◌, length, Option, None, Some, refl, ap, sym, ◌∙◌, arith}
 use Rattle.std.specs.Prelude.{slice_get, filter, option_map, unwrap_or, if◌then◌else◌}
 use Rattle.std.specs.List.{list_any, cons_option, AllByRecursion}
 use Rattle.fol_base.specs.Canonical.{numbers_from}

@@ -1,4 +1,4 @@
-use Rattle.std.proofs.Common.{◌≡◌, ◌+◌, ◌<◌, ◌≤◌, ℕ, length, drop}
+use Rattle.std.proofs.Common.{◌≡◌, ◌+◌, ◌≤◌, ℕ, length, drop}
 use Rattle.tstp_writer.specs.LineTrees.{place_in}
 use Rattle.tstp_writer.specs.Places.{told_place}
 use Rattle.tstp_writer.proofs.places.fill.Given as goal
