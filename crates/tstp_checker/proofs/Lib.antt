@@ -20,3 +20,4 @@ pub mod ClauseLineLemmas
 pub mod RuleLineLemmas
 pub mod KernelLineLemmas
 pub mod AtomLemmas
+pub mod ComponentLemmas
