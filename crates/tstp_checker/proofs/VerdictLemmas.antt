@@ -1,6 +1,6 @@
 -- The verdict on a line, by its kind.
 use Rattle.std.proofs.Common.{◌≡◌, ◌⊎◌, inl, inr, ℕ, ◌+◌, ◌-◌, Bool, true, false, not, ◌&&◌, ◌||◌, ◌==◌, List, [], ◌∷◌, ◌++◌, length, map, take, Option, Some, None, refl, ap, ap₂, sym, ◌∙◌, subst, arith}
-use Rattle.std.specs.Prelude.{Result, Ok, Err, IfOk, OnErr, IsErrAnd, option_map, unwrap_or, flat_map, bytes_eq, if◌then◌else◌}
+use Rattle.std.specs.Prelude.{Result, Ok, Err, IfOk, OnErr, IsErrAnd, is_some, is_none, option_map, unwrap_or, flat_map, bytes_eq, if◌then◌else◌}
 use Rattle.std.specs.List.{list_any, list_all, position_or_len}
 use Rattle.std.proofs.lemmas.Bool.{true≢false}
 use Rattle.std.proofs.lemmas.Cmp.{nat_list_eq_equiv}
@@ -36,7 +36,7 @@ use Rattle.tstp_checker.specs.Sources.{bound_items}
 use Rattle.tstp_checker.specs.Steps.{kind_meant}
 use Rattle.tstp_checker.specs.Tables.{with_name, place_of_name}
 use Rattle.tstp_checker.specs.Taken.{IsNext, introduced_by}
-use Rattle.tstp_checker.specs.Verdicts.{IsVerdict, IfAnswered, with_names_asked, AreParents, ArePartsOf}
+use Rattle.tstp_checker.specs.Verdicts.{IsVerdict, IfAnswered, with_names_asked, AreParents, ArePartsOf, IsComponentLine}
 use Rattle.tstp_checker.proofs.TableLemmas.{absent-place, last-place}
 use Rattle.tstp_checker.proofs.ClauseLineLemmas.{clause-asked, verdict-as}
 
@@ -337,27 +337,6 @@ place-before names name = by (list_any (bytes_eq name) names) refl
     by true h = refl
     by false h = last-place (bytes_eq name) name names (nat_list_eq_equiv.refl name) h ∙ sym (absent-place (bytes_eq name) names h)
 
-pub named-once : (names : List (List ℕ)) (name : List ℕ) → list_any (bytes_eq name) names ≡ true → with_name names name ≡ names
-named-once names name h = ap (λ b. if b then names else names ++ name ∷ []) h
-
-pub named-new : (names : List (List ℕ)) (name : List ℕ) → list_any (bytes_eq name) names ≡ false → with_name names name ≡ names ++ name ∷ []
-named-new names name h = ap (λ b. if b then names else names ++ name ∷ []) h
-
-longer-by-one : {X : Type 0} (xs : List X) (x : X) → length (xs ++ x ∷ []) ≡ length xs + 1
-longer-by-one [] x = refl
-longer-by-one (y ∷ ys) x = omega (arith, longer-by-one ys x)
-
--- taking the name back gives the names before
-front-again : {X : Type 0} (xs : List X) (x : X) → take (length xs) (xs ++ x ∷ []) ≡ xs
-front-again [] x = refl
-front-again (y ∷ ys) x = ap (λ zs. y ∷ zs) (front-again ys x)
-
-pub taken-back : (names now : List (List ℕ)) (name : List ℕ) → list_any (bytes_eq name) names ≡ false → now ≡ with_name names name → take (length now - 1) now ≡ names
-taken-back names now name h e =
-    ap (λ ns. take (length ns - 1) ns) (e ∙ named-new names name h)
-    ∙ ap (λ n. take n (names ++ name ∷ [])) (let more = longer-by-one names name in omega (arith, more))
-    ∙ front-again names name
-
 pub old-so :
     (s : Setting) (e : Taken) (name : List ℕ) (found predicate : Bool)
     → found ≡ list_any (bytes_eq name) e.introduced → predicate ≡ has_symbol (predicate_symbol name 0) (s.form).symbols
@@ -376,5 +355,34 @@ pub new-number :
     → list_any (bytes_eq name) names ≡ false → number ≡ place_of_name (with_name names name) name → number ≡ length names
 new-number names name number h e = e ∙ place-before names name ∙ absent-place (bytes_eq name) names h
 
-pub one-more : (names now : List (List ℕ)) (name : List ℕ) → list_any (bytes_eq name) names ≡ false → now ≡ with_name names name → length now ≡ length names + 1
-one-more names now name h e = ap length (e ∙ named-new names name h) ∙ longer-by-one names name
+pub fresh-name :
+    (names : List (List ℕ)) (name : List ℕ) (is_new is_old predicate : Bool)
+    → not is_new ≡ list_any (bytes_eq name) names → is_old ≡ (not is_new || predicate) → is_old ≡ false → list_any (bytes_eq name) names ≡ false
+fresh-name names name is_new is_old predicate new old none = sym new ∙ left-false (not is_new) predicate (sym old ∙ none)
+  where
+    left-false : (a b : Bool) → (a || b) ≡ false → a ≡ false
+    left-false true b h = absurd (true≢false h)
+    left-false false b h = refl
+
+-- a component line, when its name is in the table
+pub component-line :
+    (s : Setting) (e now : Taken) (t : LineTree) (name : List ℕ) (number : ℕ) (is_new is_old : Bool)
+    → t.source ≡ component_source name → e.lines ≡ now.lines → now.introduced ≡ with_name e.introduced name
+    → number ≡ place_of_name now.introduced name → not is_new ≡ list_any (bytes_eq name) e.introduced
+    → is_old ≡ (not is_new || has_symbol (predicate_symbol name 0) (s.form).symbols) → IsComponentLine s e now t number is_old
+component-line s e now t name number is_new is_old source lines introduced place new old = record {
+  name = name;
+  source = source;
+  lines = lines;
+  introduced = sym introduced;
+  its_number = sym (place ∙ ap (position_or_len (bytes_eq name)) introduced ∙ place-before e.introduced name);
+  old = old-so s e name (not is_new) (has_symbol (predicate_symbol name 0) (s.form).symbols) new refl ∙ sym old;
+}
+
+-- its step, where it is taken
+pub component-step :
+    (names now : List (List ℕ)) (name : List ℕ) (number : ℕ) (st : Step)
+    → list_any (bytes_eq name) names ≡ false → now ≡ with_name names name → number ≡ place_of_name now name
+    → st ≡ step.Component number → st ≡ step.Component (length names)
+component-step names now name number st fresh added place is =
+    is ∙ ap step.Component (new-number names name number fresh (place ∙ ap (λ ns. place_of_name ns name) added))

@@ -11,7 +11,7 @@ formula_verdict-requires-clause-formula c = formula-kind c.kind_of-kind.result c
 
 pub clause_verdict-requires : goal.clause_verdict-requires
 clause_verdict-requires c = record {
-  ready = c.requires;
+  ready = c.requires.ready;
   kind = c.kind_of-kind.ensures;
   no_formula = clause-kind c.kind_of-kind.result c.in_default.not-Input c.in_default.not-Negate;
   no_name = clause-unnamed c.kind_of-kind.result c.in_default.not-Component;
