@@ -9,6 +9,10 @@ use Rattle.fol_base.specs.GroundForm.{is_ground_atom, is_atom_literal, IsGroundC
 use Rattle.fol_base.specs.Clause.{TreeLiteral, TreeClause}
 use Rattle.fol_base.specs.Kind.{is_function_term, are_function_terms, is_predicate_term, is_literal, are_predicate_atoms}
 use Rattle.fol_base.specs.WellFormed.{SymbolUse, WellFormed, has_arities, is_literal_of, are_literals_of}
+use Rattle.ground_loop.specs.Answer.{HasClosedSets, IsGroundAnswer}
+use Rattle.ground_loop.specs.Satisfaction.{Satisfied, HasMeaning}
+use Rattle.ground_loop.specs.declared.answer.Ground.{Ground}
+use Rattle.ground_loop.specs.declared.answer.Ground.TheVariants.{Closed}
 use Rattle.tptp_tree.specs.declared.problem.Annotated.{Annotated}
 use Rattle.signature.specs.Form.{clausal_form}
 use Rattle.clausal_form.specs.FormLaws.{use_of}
@@ -76,3 +80,17 @@ form-predicates fs g =
     (subst (λ (u : SymbolUse). list_all (λ (c : TreeClause). are_literals_of u c.literals) (clausal_form fs).clauses ≡ true)
     (forms-are-well-formed fs).1 w.used)
     g
+
+pub closed-answer :
+    (fs : List Annotated) (clauses : List TreeClause) (limit : ℕ) (answer : Ground)
+    → clauses ≡ (clausal_form fs).clauses → IsGroundForm clauses → IsGroundAnswer clauses limit answer → HasMeaning clauses answer → answer ≡ Closed
+    → HasClosedSets (clausal_form fs).clauses × Satisfied (is_predicate_in (clausal_form fs).symbols) (clausal_form fs).clauses
+closed-answer fs clauses limit answer e ground is means closed =
+    let sets : HasClosedSets clauses = subst (IsGroundAnswer clauses limit) closed is in
+    let meaning : (p : ℕ → Bool) → IsTrue (are_predicate_atoms p clauses) → Satisfied p clauses = subst (HasMeaning clauses) closed means in (
+      subst HasClosedSets e sets,
+      subst (Satisfied (is_predicate_in (clausal_form fs).symbols)) e
+          (meaning (is_predicate_in (clausal_form fs).symbols)
+          (subst (λ cs. IsTrue (are_predicate_atoms (is_predicate_in (clausal_form fs).symbols) cs)) (sym e)
+          (form-predicates fs (subst IsGroundForm e ground)))),
+    )

@@ -2,7 +2,7 @@
 use Rattle.std.proofs.Common.{◌≡◌, ◌≤◌, ◌<◌, ◌^◌, ℕ, suc, Bool, true, false, ◌&&◌, List, [], ◌∷◌, length, map, refl, ap, sym, ◌∙◌, subst, arith}
 use Rattle.std.specs.Prelude.{nat_le, if◌then◌else◌, IsTrue}
 use Rattle.std.proofs.lemmas.Bool.{true≢false}
-use Rattle.std.proofs.lemmas.List.{length-map}
+use Rattle.std.proofs.lemmas.List.{length-map, length-append}
 use Rattle.std.specs.List.{list_all}
 use Rattle.fol_base.specs.Clause.{TreeClause}
 use Rattle.fol_base.specs.Literal.{clause_of}
@@ -50,6 +50,10 @@ pub file-shown : (file : List ℕ) → IsTrue (is_filled file) → IsShown (show
 file-shown [] h = absurd (true≢false (sym h))
 file-shown (b ∷ bs) h = record { printable = bytes-shown (b ∷ bs); some = omega arith }
 
+-- a refutation has a line
+pub refutation-some : (form : List TreeClause) (lines : List Line) → IsRefutation form lines → 1 ≤ length lines
+refutation-some form lines r = omega (arith, ap length r.ends, length-append r.before (r.last ∷ []))
+
 -- ---- the text
 
 pub text-accepted :
@@ -72,10 +76,12 @@ text-accepted formed name lines last numbers text was shown scope refutes ground
     } in
     let plain : IsPlainRefutation fs lines last numbers =
     plain-refutation fs lines last numbers (subst IsGroundForm e scope.0) (subst (λ cs. IsRefutation cs lines) e refutes) ground numbered end cone in
-    let sizes : form_size (clausal_form fs).clauses ≤ MOST_SYMBOLS = subst (λ cs. form_size cs ≤ MOST_SYMBOLS) e scope.1 in
-    (length trees,
-    subst (λ t. IsAcceptedDerivation fs t (length trees)) (sym printed)
-    (trees,
-    derivation-spelled was.told was.source.file was.source.root fs h.read name shown lines numbers
-    (small-clauses (clausal_form fs).clauses sizes) plain.derived plain.plain,
-    written-accepted name fs lines last numbers plain counted))
+    let sizes : form_size (clausal_form fs).clauses ≤ MOST_SYMBOLS = subst (λ cs. form_size cs ≤ MOST_SYMBOLS) e scope.1 in (
+      length trees,
+      subst (λ t. IsAcceptedDerivation fs t (length trees)) (sym printed) (
+        trees,
+        derivation-spelled was.told was.source.file was.source.root fs h.read name shown lines numbers
+            (small-clauses (clausal_form fs).clauses sizes) plain.derived plain.plain,
+        written-accepted name fs lines last numbers plain counted,
+      ),
+    )

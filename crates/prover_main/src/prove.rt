@@ -7,6 +7,7 @@ ghost use Rattle.kernel_steps.specs.Derivation.{IsRefutation};
 ghost use Rattle.ground_loop.specs.GroundLines.{AreGroundLines};
 ghost use Rattle.ground_loop.specs.Scope.{IsInScope};
 ghost use Rattle.prover_main.specs.Words.{is_filled};
+ghost use Rattle.prover_main.specs.Names.{shown};
 ghost use Rattle.clausal_form.specs.DerivationTexts.{IsAcceptedDerivation};
 ghost use Rattle.signature.specs.Symbol.{IsSignature};
 ghost use Rattle.signature.specs.Form.{clausal_form};
@@ -63,6 +64,17 @@ fn proof_answer(alloc: Global, file: &str, formed: &FormedProblem, limit: u32) -
     if let Some(index) = first_outside(&formed.form.clauses) {
         return not_built(alloc, formed, index);
     }
+    ground_answer(alloc, file, formed, limit)
+}
+
+/// The answer on a problem whose clauses the ground loop takes.
+fn ground_answer(alloc: Global, file: &str, formed: &FormedProblem, limit: u32) -> Mem<Answer>
+    requires formed { WasFormed formed.now }
+    requires counted { 1 ≤ limit }
+    requires filled { IsTrue (is_filled file.now) }
+    requires scope { IsInScope (map clause_of formed.now.form.clauses) }
+    ensures { IfOk result (λ answer. IsProofAnswer formed.now.problem.formulas limit (answer_meant answer)) }
+{
     match prove_ground(alloc, &formed.form.clauses, limit)? {
         Ground::Refuted(lines) => Ok(Answer::Refuted(
             has_conjecture(formed.problem.formulas.as_slice()),
@@ -121,9 +133,7 @@ fn derivation_text(
     requires scope { IsInScope (map clause_of formed.now.form.clauses) }
     ensures { IfOk result (λ text. (count : ℕ) × IsAcceptedDerivation formed.now.problem.formulas text count) }
 {
-    let mut name = Page::new(alloc);
-    push_shown(&mut name, file.as_bytes())?;
-    let name = name.into_text();
+    let name = shown_name(alloc, file)?;
     prove_counts(&formed.form);
     let last = lines.len() as u64 - 1;
     write_lines(
@@ -134,6 +144,15 @@ fn derivation_text(
         last,
         name.as_slice(),
     )
+}
+
+/// A file's name as it is shown.
+fn shown_name(alloc: Global, file: &str) -> Mem<Text>
+    ensures { IfOk result (λ name. name ≡ shown file.now) }
+{
+    let mut page = Page::new(alloc);
+    push_shown(&mut page, file.as_bytes())?;
+    Ok(page.into_text())
 }
 
 /// The symbols of a form are a signature's, and its clauses are counted by a machine word.

@@ -15,7 +15,8 @@ struct Case {
 }
 
 /// What is printed where the words are no command.
-const USAGE: &[u8] = b"usage: prove FILE [--inferences=N] [--tptp=DIR]\n       check FILE DERIVATION [--tptp=DIR]\n";
+const USAGE: &[u8] =
+    b"usage: prove FILE [--inferences=N] [--tptp=DIR]\n       check FILE DERIVATION [--tptp=DIR]\n";
 
 const TWO_UNITS: &[u8] = b"cnf(a,axiom,p). cnf(b,negated_conjecture,~p).";
 
@@ -36,9 +37,11 @@ cnf(c4,plain,~$true,inference(para,[status(thm),from(0,left),into(0,left,[]),bin
 cnf(c5,plain,$false,inference(refl,[status(thm),lit(0),bind([])],[c4])).\n\
 % SZS output end CNFRefutation for r1\n";
 
-const CLAUSES: &[u8] = b"cnf(a,axiom,p|q). cnf(b,axiom,~p|q). cnf(c,axiom,p|~q). cnf(d,axiom,~p|~q).";
+const CLAUSES: &[u8] =
+    b"cnf(a,axiom,p|q). cnf(b,axiom,~p|q). cnf(c,axiom,p|~q). cnf(d,axiom,~p|~q).";
 
-const IMPLICATION: &[u8] = b"fof(a,axiom,! [X] : (p(X) => q(X))). fof(b,axiom,p(a)). fof(c,conjecture,q(a)).";
+const IMPLICATION: &[u8] =
+    b"fof(a,axiom,! [X] : (p(X) => q(X))). fof(b,axiom,p(a)). fof(c,conjecture,q(a)).";
 
 const CASES: &[Case] = &[
     Case {
@@ -73,7 +76,10 @@ const CASES: &[Case] = &[
     },
     Case {
         words: &["prove", "h.p"],
-        files: &[("h.p", b"fof(12,axiom,? [X] : ~(p(X) & $true)). fof('A b',axiom,X = X).")],
+        files: &[(
+            "h.p",
+            b"fof(12,axiom,? [X] : ~(p(X) & $true)). fof('A b',axiom,X = X).",
+        )],
         status: 3,
         report: b"% SZS status InputError for h\n% FreeVariable at h.p:53\n",
     },
@@ -214,7 +220,9 @@ fn a_file_over_the_limit_is_refused(rt: HostRuntime) -> Result<(), Fail> {
     let mut library = library_of(alloc, &[("r1.p", bytes.as_slice())])?;
     let mut sink = MemSink::new(alloc, 1000, 1000, Numbers::new(alloc))?;
     assert_eq!(rt; run(alloc, &words, &mut library, &mut sink), 3);
-    assert!(rt; sink.bytes() == b"% SZS status InputError for r1\n% TooLong at r1.p:0\n".as_slice());
+    assert!(rt;
+        sink.bytes() == b"% SZS status InputError for r1\n% TooLong at r1.p:0\n".as_slice()
+    );
     Ok(())
 }
 

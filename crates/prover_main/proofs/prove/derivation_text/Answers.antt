@@ -1,6 +1,14 @@
-use Rattle.std.proofs.Common.{◌≡◌, suc, length, refl, sym, subst}
-use Rattle.prover_main.proofs.TextLemmas.{file-shown, text-accepted}
+use Rattle.std.proofs.Common.{◌≡◌, ◌∙◌, sym, subst, arith}
+use Rattle.std.proofs.lemmas.Result.{IfOk-weaker}
+use Rattle.tstp_writer.specs.Printable.{IsShown}
+use Rattle.prover_main.proofs.TextLemmas.{file-shown, text-accepted, refutation-some}
 use Rattle.prover_main.proofs.prove.derivation_text.Goals as goal
 
 pub returns : goal.returns
-returns c = ?
+returns c =
+    IfOk-weaker c.write_lines.result _ _
+    (λ text w. text-accepted c.args.formed.now c.as_slice.result.now c.args.lines.now _ w.numbers text c.requires.formed
+    (subst IsShown (sym (c.as_slice.ensures ∙ c.in_ok-name.ensures)) (file-shown c.args.file.now c.requires.filled))
+    c.requires.scope c.requires.refutation c.requires.ground c.prove_counts.ensures.symbols c.prove_counts.ensures.clauses
+    (omega (arith, c.len.ensures, refutation-some _ _ c.requires.refutation)) w.cone w.counted w.printed)
+    c.write_lines.ensures
