@@ -1,6 +1,7 @@
 use Rattle.std.proofs.Common.{◌≡◌, ◌∙◌, sym, subst, arith}
 use Rattle.std.proofs.lemmas.Result.{IfOk-weaker}
 use Rattle.tstp_writer.specs.Printable.{IsShown}
+use Rattle.tstp_writer.proofs.EarlierLemmas.{need-earlier}
 use Rattle.prover_main.proofs.TextLemmas.{file-shown, text-accepted, refutation-some}
 use Rattle.prover_main.proofs.prove.derivation_text.Goals as goal
 
@@ -12,3 +13,6 @@ returns c =
     c.requires.scope c.requires.refutation c.requires.ground c.prove_counts.ensures.symbols c.prove_counts.ensures.clauses
     (omega (arith, c.len.ensures, refutation-some _ _ c.requires.refutation)) w.cone w.counted w.printed)
     c.write_lines.ensures
+
+pub write_lines-requires-clause-earlier : goal.write_lines-requires-clause-earlier
+write_lines-requires-clause-earlier c = need-earlier _ _ c.requires.refutation.derived
