@@ -20,3 +20,5 @@ pub mod ClauseLineLemmas
 pub mod RuleLineLemmas
 pub mod KernelLineLemmas
 pub mod LinesLemmas
+pub mod AtomLemmas
+pub mod ComponentLemmas

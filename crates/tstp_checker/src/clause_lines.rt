@@ -2,6 +2,7 @@
 
 ghost use Rattle.std.specs.Prelude.{◌≡◌, ◌+◌, ℕ, List, ◌∷◌, [], ◌&&◌, ◌==◌, not, map, false, length, option_map, IfOk, OnErr, if◌then◌else◌};
 ghost use Rattle.fol_base.specs.Clause.{literals_eq, clause_eq, names_eq};
+ghost use Rattle.fol_base.specs.Ground.{is_ground_literal};
 ghost use Rattle.fol_base.specs.Literal.{literal_of, clause_of};
 ghost use Rattle.tptp_tree.specs.Shape.{formula_of};
 ghost use Rattle.tptp_source.specs.General.{GeneralTree};
@@ -223,7 +224,7 @@ impl<'a> Lines<'a> {
         let [literal] = clause.literals.as_slice() else {
             return None;
         };
-        if !literal.positive || literal.variable_bound() > 0 {
+        if !is_ground_atom(literal) {
             return None;
         }
         Some(literal)
@@ -324,6 +325,13 @@ pub(crate) fn line_by(step: Step, clause: Clause, has_new_symbol: bool) -> Resul
         return Err(Refusal::Cause(Cause::NewSymbol));
     }
     Ok(Line { step, clause })
+}
+
+/// Whether a literal is positive and without variables.
+fn is_ground_atom(literal: &Literal) -> bool
+    ensures { result ≡ ((literal_of literal.now).positive && is_ground_literal (literal_of literal.now)) }
+{
+    literal.positive && literal.variable_bound() == 0
 }
 
 /// Whether a clause has at least one literal, and the one name with that number, negated.
