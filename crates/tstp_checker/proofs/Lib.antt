@@ -22,3 +22,4 @@ pub mod KernelLineLemmas
 pub mod LinesLemmas
 pub mod AtomLemmas
 pub mod ComponentLemmas
+pub mod VerdictLemmas

@@ -1,6 +1,6 @@
 // Lines of clauses that come from the form or introduce a name.
 
-ghost use Rattle.std.specs.Prelude.{◌≡◌, ◌+◌, ℕ, List, ◌∷◌, [], ◌&&◌, ◌==◌, not, map, false, length, option_map, IfOk, OnErr, if◌then◌else◌};
+ghost use Rattle.std.specs.Prelude.{◌≡◌, ◌+◌, ℕ, List, ◌∷◌, [], ◌&&◌, ◌||◌, ◌==◌, not, map, false, length, option_map, IfOk, OnErr, if◌then◌else◌};
 ghost use Rattle.fol_base.specs.Clause.{literals_eq, clause_eq, names_eq};
 ghost use Rattle.fol_base.specs.Ground.{is_ground_literal};
 ghost use Rattle.fol_base.specs.Literal.{literal_of, clause_of};
@@ -255,12 +255,23 @@ impl<'a> Lines<'a> {
     {
         let is_new = self.taken.introduced.number(name).is_none();
         let number = self.taken.introduced.meet(alloc, name)?;
-        let is_old = !is_new || self.has_predicate(name);
-        let verdict = self.component_line(alloc, entry, number, is_old);
-        if is_new && verdict.is_err() {
-            self.taken.introduced.remove_last();
+        let is_old = self.is_old(is_new, name);
+        match self.component_line(alloc, entry, number, is_old) {
+            Ok(line) => Ok(line),
+            Err(refusal) => {
+                if is_new {
+                    self.taken.introduced.remove_last();
+                }
+                Err(refusal)
+            }
         }
-        verdict
+    }
+
+    /// Whether a name can't be introduced: it isn't new, or the form has a predicate of that name without arguments.
+    fn is_old(&self, is_new: bool, name: &[u8]) -> bool
+        ensures { result ≡ (not is_new || has_symbol (predicate_symbol name.now 0) self.now.form.now.signature) }
+    {
+        !is_new || self.has_predicate(name)
     }
 
     /// Whether the form has a predicate of that name without arguments.
