@@ -4,7 +4,7 @@ use Rattle.std.proofs.lemmas.Bool.{eq-eqb, eqb-true}
 use Rattle.plain_types.specs.declared.sequence.NameLit.{NameLit}
 use Rattle.plain_types.specs.Names.{same_name}
 use Rattle.fol_base.specs.Tree.{Tree, variable, application, Trees, no_trees, tree_then, tree_variables, trees_variables}
-use Rattle.fol_base.specs.Clause.{TreeLiteral, literal_eq, literals_eq, names_eq, literal_variables}
+use Rattle.fol_base.specs.Clause.{TreeLiteral, names_eq, literal_variables}
 use Rattle.fol_base.specs.Canonical.{bound_of}
 use Rattle.fol_base.specs.Ground.{is_ground, are_ground, is_ground_literal}
 use Rattle.fol_base.proofs.VariableLemmas.{bound_of-append}

@@ -12,9 +12,9 @@ use Rattle.kernel_steps.specs.declared.step.Step.{Step}
 use Rattle.kernel_steps.specs.declared.step.Step.TheVariants.{Component}
 use Rattle.clausal_form.specs.DerivationClause.{is_written_clause, ordinary_literals, symbols_in, numbering, clause_by}
 use Rattle.clausal_form.specs.DerivationSteps.{component_kind}
-use Rattle.clausal_form.specs.DerivationLine.{LineTree, NamedLine, Taken, kernel_line, names_with}
+use Rattle.clausal_form.specs.DerivationLine.{LineTree, NamedLine, Taken, names_with}
 use Rattle.clausal_form.specs.DerivationParts.{Setting}
-use Rattle.clausal_form.specs.DerivationCauses.{text, order, rule, conclusion, new_symbol, fault, gives_clause, is_old_name, LineVerdict, refused, taken, compared, line_verdict}
+use Rattle.clausal_form.specs.DerivationCauses.{text, order, rule, conclusion, fault, gives_clause, is_old_name, LineVerdict, refused, compared, line_verdict}
 use Rattle.tstp_checker.specs.Verdicts.{IsComponentLine}
 use Rattle.tstp_checker.proofs.ClauseLineLemmas.{clause_eq-refl, line_of}
 
@@ -63,7 +63,7 @@ before :
     (s : Setting) (e : Taken) (a : AnnotatedTree) (name : List ℕ)
     → line_verdict s e (line_with a (component_source name))
     ≡ verdict_with s a (names_with e.introduced (component_kind name)) e.lines (position_or_len (bytes_eq name) e.introduced)
-      (is_old_name s e (component_kind name))
+    (is_old_name s e (component_kind name))
 before s e a name =
     let names : List (List ℕ) = names_with e.introduced (component_kind name) in
     let n : ℕ = position_or_len (bytes_eq name) e.introduced in
@@ -105,8 +105,8 @@ pub component-order :
     → line_verdict s e (record { entry = a; source = source }) ≡ refused order
 component-order s e now a source n is_old l w o =
     let v : LineVerdict =
-        component_of n (clause_with s now.introduced a.formula) (names_it n (clause_with s now.introduced a.formula))
-        (is_new_with s now.introduced a.formula || is_old) in
+    component_of n (clause_with s now.introduced a.formula) (names_it n (clause_with s now.introduced a.formula))
+    (is_new_with s now.introduced a.formula || is_old) in
     component-verdict s e now a source n is_old l
     ∙ ap (λ b. asked_first b (list_any (λ (k : NamedLine). bytes_eq a.name k.name) now.lines) v) (sym w)
     ∙ ap (λ b. asked_first true b v) (sym o)

@@ -1,4 +1,4 @@
-use Rattle.std.proofs.Common.{sym, ◌∙◌}
+use Rattle.std.proofs.Common.{◌∙◌}
 use Rattle.fol_base.specs.Literal.{literal_of}
 use Rattle.kernel_steps.specs.declared.step.Step.TheVariants.{Opposite}
 use Rattle.tstp_checker.specs.ClauseLines.{opposite_clause}
