@@ -337,27 +337,6 @@ place-before names name = by (list_any (bytes_eq name) names) refl
     by true h = refl
     by false h = last-place (bytes_eq name) name names (nat_list_eq_equiv.refl name) h ∙ sym (absent-place (bytes_eq name) names h)
 
-pub named-once : (names : List (List ℕ)) (name : List ℕ) → list_any (bytes_eq name) names ≡ true → with_name names name ≡ names
-named-once names name h = ap (λ b. if b then names else names ++ name ∷ []) h
-
-pub named-new : (names : List (List ℕ)) (name : List ℕ) → list_any (bytes_eq name) names ≡ false → with_name names name ≡ names ++ name ∷ []
-named-new names name h = ap (λ b. if b then names else names ++ name ∷ []) h
-
-longer-by-one : {X : Type 0} (xs : List X) (x : X) → length (xs ++ x ∷ []) ≡ length xs + 1
-longer-by-one [] x = refl
-longer-by-one (y ∷ ys) x = omega (arith, longer-by-one ys x)
-
--- taking the name back gives the names before
-front-again : {X : Type 0} (xs : List X) (x : X) → take (length xs) (xs ++ x ∷ []) ≡ xs
-front-again [] x = refl
-front-again (y ∷ ys) x = ap (λ zs. y ∷ zs) (front-again ys x)
-
-pub taken-back : (names now : List (List ℕ)) (name : List ℕ) → list_any (bytes_eq name) names ≡ false → now ≡ with_name names name → take (length now - 1) now ≡ names
-taken-back names now name h e =
-    ap (λ ns. take (length ns - 1) ns) (e ∙ named-new names name h)
-    ∙ ap (λ n. take n (names ++ name ∷ [])) (let more = longer-by-one names name in omega (arith, more))
-    ∙ front-again names name
-
 pub old-so :
     (s : Setting) (e : Taken) (name : List ℕ) (found predicate : Bool)
     → found ≡ list_any (bytes_eq name) e.introduced → predicate ≡ has_symbol (predicate_symbol name 0) (s.form).symbols
@@ -376,20 +355,10 @@ pub new-number :
     → list_any (bytes_eq name) names ≡ false → number ≡ place_of_name (with_name names name) name → number ≡ length names
 new-number names name number h e = e ∙ place-before names name ∙ absent-place (bytes_eq name) names h
 
-pub one-more : (names now : List (List ℕ)) (name : List ℕ) → list_any (bytes_eq name) names ≡ false → now ≡ with_name names name → length now ≡ length names + 1
-one-more names now name h e = ap length (e ∙ named-new names name h) ∙ longer-by-one names name
-
-none-is-not : {X : Type 0} (o : Option X) → not (is_none o) ≡ is_some o
-none-is-not None = refl
-none-is-not (Some x) = refl
-
-pub new-so : (names : List (List ℕ)) (name : List ℕ) (o : Option ℕ) (is_new : Bool) → is_new ≡ is_none o → is_some o ≡ list_any (bytes_eq name) names → not is_new ≡ list_any (bytes_eq name) names
-new-so names name o is_new n h = ap not n ∙ none-is-not o ∙ h
-
 pub fresh-name :
     (names : List (List ℕ)) (name : List ℕ) (is_new is_old predicate : Bool)
     → not is_new ≡ list_any (bytes_eq name) names → is_old ≡ (not is_new || predicate) → is_old ≡ false → list_any (bytes_eq name) names ≡ false
-fresh-name names name is_new is_old predicate new old no = sym new ∙ left-false (not is_new) predicate (sym old ∙ no)
+fresh-name names name is_new is_old predicate new old none = sym new ∙ left-false (not is_new) predicate (sym old ∙ none)
   where
     left-false : (a b : Bool) → (a || b) ≡ false → a ≡ false
     left-false true b h = absurd (true≢false h)
@@ -417,9 +386,3 @@ pub component-step :
     → st ≡ step.Component number → st ≡ step.Component (length names)
 component-step names now name number st fresh added place is =
     is ∙ ap step.Component (new-number names name number fresh (place ∙ ap (λ ns. place_of_name ns name) added))
-
-pub none-new : (is_new found : Bool) → not is_new ≡ found → is_new ≡ true → found ≡ false
-none-new is_new found h e = sym h ∙ ap not e
-
-pub some-old : (is_new found : Bool) → not is_new ≡ found → is_new ≡ false → found ≡ true
-some-old is_new found h e = sym h ∙ ap not e
