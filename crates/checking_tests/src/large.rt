@@ -28,7 +28,9 @@ pub(crate) fn bracketed(alloc: Global, lines: &[&[u8]], pairs: usize) -> Mem<Vec
 pub(crate) fn bound_to(alloc: Global, constants: usize) -> Mem<Vec<u8>> {
     let mut page = Vec::new(alloc);
     page.extend_from_slice(b"cnf(c0,axiom,p(X),file(r,a)).")?;
-    page.extend_from_slice(b"cnf(c1,plain,p(X0),inference(clausify,[status(esa),index(0)],[c0])).")?;
+    page.extend_from_slice(
+        b"cnf(c1,plain,p(X0),inference(clausify,[status(esa),index(0)],[c0])).",
+    )?;
     page.extend_from_slice(b"cnf(c2,plain,$false,inference(refl,[status(thm),lit(0),bind([f(a")?;
     for _ in 1..constants {
         page.extend_from_slice(b",a")?;

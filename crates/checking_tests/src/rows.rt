@@ -1,7 +1,8 @@
 // The answers on derivations and on changed ones.
 
 use crate::examples::{
-    Example, MERGED, NAMED_PRODUCT, ONE_IMPLICATION, SIGNED_NAMES, TWO_COMPONENTS, TWO_REWRITES, TWO_UNITS, UNEQUAL_VARIABLE,
+    Example, MERGED, NAMED_PRODUCT, ONE_IMPLICATION, SIGNED_NAMES, TWO_COMPONENTS, TWO_REWRITES,
+    TWO_UNITS, UNEQUAL_VARIABLE,
 };
 use crate::outcome::Outcome;
 use tstp_checker::Cause;
@@ -67,47 +68,74 @@ pub(crate) const ROWS: &[Row] = &[
     },
     Row {
         example: &UNEQUAL_VARIABLE,
-        change: Change::Line(2, b"cnf(c2,plain,$false,inference(refl,[status(thm),lit(0),bind([X])],[c1]))."),
+        change: Change::Line(
+            2,
+            b"cnf(c2,plain,$false,inference(refl,[status(thm),lit(0),bind([X])],[c1])).",
+        ),
         answer: Outcome::Accepted(3),
     },
     Row {
         example: &UNEQUAL_VARIABLE,
-        change: Change::Line(2, b"cnf(c2,plain,$false,inference(refl,[status(thm),lit(0),bind([zz])],[c1]))."),
+        change: Change::Line(
+            2,
+            b"cnf(c2,plain,$false,inference(refl,[status(thm),lit(0),bind([zz])],[c1])).",
+        ),
         answer: Outcome::Refused(3, Cause::NewSymbol),
     },
     Row {
         example: &MERGED,
-        change: Change::Line(4, b"cnf(c4,plain,p(a),inference(merge,[status(thm),lit(0),lit(1),bind([b])],[c2]))."),
+        change: Change::Line(
+            4,
+            b"cnf(c4,plain,p(a),inference(merge,[status(thm),lit(0),lit(1),bind([b])],[c2])).",
+        ),
         answer: Outcome::Refused(5, Cause::Rule),
     },
     Row {
         example: &MERGED,
-        change: Change::Line(4, b"cnf(c4,plain,p(X0),inference(merge,[status(thm),lit(0),lit(1),bind([a])],[c2]))."),
+        change: Change::Line(
+            4,
+            b"cnf(c4,plain,p(X0),inference(merge,[status(thm),lit(0),lit(1),bind([a])],[c2])).",
+        ),
         answer: Outcome::Refused(5, Cause::Conclusion),
     },
     Row {
         example: &ONE_IMPLICATION,
-        change: Change::Line(7, b"cnf(c7,plain,~$true | q(a),inference(para,[status(thm),from(0,left),into(0,left,[]),bind([]),bind([b])],[c5,c4]))."),
+        change: Change::Line(
+            7,
+            b"cnf(c7,plain,~$true | q(a),inference(para,[status(thm),from(0,left),into(0,left,[]),bind([]),bind([b])],[c5,c4])).",
+        ),
         answer: Outcome::Refused(8, Cause::Rule),
     },
     Row {
         example: &ONE_IMPLICATION,
-        change: Change::Line(7, b"cnf(c7,plain,~$true | q(a),inference(para,[status(thm),from(0,left),into(0,left,[])],[c5,c4]))."),
+        change: Change::Line(
+            7,
+            b"cnf(c7,plain,~$true | q(a),inference(para,[status(thm),from(0,left),into(0,left,[])],[c5,c4])).",
+        ),
         answer: Outcome::Refused(8, Cause::Binding),
     },
     Row {
         example: &ONE_IMPLICATION,
-        change: Change::Line(8, b"cnf(c8,plain,q(X),inference(refl,[status(thm),lit(0),bind([])],[c7]))."),
+        change: Change::Line(
+            8,
+            b"cnf(c8,plain,q(X),inference(refl,[status(thm),lit(0),bind([])],[c7])).",
+        ),
         answer: Outcome::Refused(9, Cause::Conclusion),
     },
     Row {
         example: &ONE_IMPLICATION,
-        change: Change::Line(10, b"cnf(c9,plain,$false,inference(refl,[status(thm),lit(0),bind([])],[c9]))."),
+        change: Change::Line(
+            10,
+            b"cnf(c9,plain,$false,inference(refl,[status(thm),lit(0),bind([])],[c9])).",
+        ),
         answer: Outcome::Refused(11, Cause::Order),
     },
     Row {
         example: &ONE_IMPLICATION,
-        change: Change::Line(7, b"cnf(c7,plain,~$true | q(a),inference(para,[status(thm),from(0,left),into(0,left,[]),bind([]),bind([a])],[c99,c4]))."),
+        change: Change::Line(
+            7,
+            b"cnf(c7,plain,~$true | q(a),inference(para,[status(thm),from(0,left),into(0,left,[]),bind([]),bind([a])],[c99,c4])).",
+        ),
         answer: Outcome::Refused(8, Cause::UnknownParent),
     },
     Row {
@@ -117,7 +145,10 @@ pub(crate) const ROWS: &[Row] = &[
     },
     Row {
         example: &ONE_IMPLICATION,
-        change: Change::Line(4, b"cnf(c4,plain,~p(X0) | q(X0),inference(clausify,[status(esa),index(3)],[c0]))."),
+        change: Change::Line(
+            4,
+            b"cnf(c4,plain,~p(X0) | q(X0),inference(clausify,[status(esa),index(3)],[c0])).",
+        ),
         answer: Outcome::Refused(5, Cause::Clausify),
     },
     Row {
@@ -132,22 +163,34 @@ pub(crate) const ROWS: &[Row] = &[
     },
     Row {
         example: &TWO_COMPONENTS,
-        change: Change::Line(7, b"cnf(c7,plain,q(X0) | ~spl0,introduced(definition,[component(spl0)]))."),
+        change: Change::Line(
+            7,
+            b"cnf(c7,plain,q(X0) | ~spl0,introduced(definition,[component(spl0)])).",
+        ),
         answer: Outcome::Refused(8, Cause::NewSymbol),
     },
     Row {
         example: &TWO_COMPONENTS,
-        change: Change::Line(13, b"cnf(c13,plain,$false,inference(chain,[status(thm),pivots([spl1,spl0])],[c8,c10,c12]))."),
+        change: Change::Line(
+            13,
+            b"cnf(c13,plain,$false,inference(chain,[status(thm),pivots([spl1,spl0])],[c8,c10,c12])).",
+        ),
         answer: Outcome::Refused(14, Cause::Rule),
     },
     Row {
         example: &TWO_COMPONENTS,
-        change: Change::Line(8, b"cnf(c8,plain,spl0 | spl1,inference(split,[status(esa),parts([[0],[0]])],[c3,c6,c7]))."),
+        change: Change::Line(
+            8,
+            b"cnf(c8,plain,spl0 | spl1,inference(split,[status(esa),parts([[0],[0]])],[c3,c6,c7])).",
+        ),
         answer: Outcome::Refused(9, Cause::Rule),
     },
     Row {
         example: &SIGNED_NAMES,
-        change: Change::Line(8, b"cnf(c8,plain,p | r(a) | ~spl0,introduced(definition,[component(spl0)]))."),
+        change: Change::Line(
+            8,
+            b"cnf(c8,plain,p | r(a) | ~spl0,introduced(definition,[component(spl0)])).",
+        ),
         answer: Outcome::Refused(11, Cause::Rule),
     },
     Row {
@@ -182,7 +225,10 @@ pub(crate) const ROWS: &[Row] = &[
     },
     Row {
         example: &TWO_UNITS,
-        change: Change::Line(5, b"cnf(c5,plain,$false,inference(refl,[status(thm),lit(0),bind([])],[c5]))."),
+        change: Change::Line(
+            5,
+            b"cnf(c5,plain,$false,inference(refl,[status(thm),lit(0),bind([])],[c5])).",
+        ),
         answer: Outcome::Refused(6, Cause::UnknownParent),
     },
     Row {
@@ -192,22 +238,34 @@ pub(crate) const ROWS: &[Row] = &[
     },
     Row {
         example: &TWO_UNITS,
-        change: Change::Line(4, b"cnf(c4,plain,~$true,inference(para,[status(thm),from(0,left),into(0,left,[0]),bind([]),bind([])],[c2,c3]))."),
+        change: Change::Line(
+            4,
+            b"cnf(c4,plain,~$true,inference(para,[status(thm),from(0,left),into(0,left,[0]),bind([]),bind([])],[c2,c3])).",
+        ),
         answer: Outcome::Refused(5, Cause::Rule),
     },
     Row {
         example: &TWO_UNITS,
-        change: Change::Line(4, b"cnf(c4,plain,~$true,inference(para,[status(thm),from(0,right),into(0,left,[]),bind([]),bind([])],[c2,c3]))."),
+        change: Change::Line(
+            4,
+            b"cnf(c4,plain,~$true,inference(para,[status(thm),from(0,right),into(0,left,[]),bind([]),bind([])],[c2,c3])).",
+        ),
         answer: Outcome::Refused(5, Cause::Rule),
     },
     Row {
         example: &TWO_UNITS,
-        change: Change::Line(4, b"cnf(c4,plain,~$true,inference(para,[status(thm),from(99999999999999999999,left),into(0,left,[]),bind([]),bind([])],[c2,c3]))."),
+        change: Change::Line(
+            4,
+            b"cnf(c4,plain,~$true,inference(para,[status(thm),from(99999999999999999999,left),into(0,left,[]),bind([]),bind([])],[c2,c3])).",
+        ),
         answer: Outcome::Refused(5, Cause::Rule),
     },
     Row {
         example: &TWO_UNITS,
-        change: Change::Line(2, b"cnf(c2,plain,p,inference(clausify,[status(esa),index(4294967296)],[c0]))."),
+        change: Change::Line(
+            2,
+            b"cnf(c2,plain,p,inference(clausify,[status(esa),index(4294967296)],[c0])).",
+        ),
         answer: Outcome::Refused(3, Cause::Clausify),
     },
     Row {
@@ -217,22 +275,34 @@ pub(crate) const ROWS: &[Row] = &[
     },
     Row {
         example: &TWO_UNITS,
-        change: Change::Line(2, b"cnf(c2,plain,p,inference(clausify,[status(esa),index(0)],[c1]))."),
+        change: Change::Line(
+            2,
+            b"cnf(c2,plain,p,inference(clausify,[status(esa),index(0)],[c1])).",
+        ),
         answer: Outcome::Refused(3, Cause::Clausify),
     },
     Row {
         example: &TWO_UNITS,
-        change: Change::Line(3, b"fof(c3,plain,~p,inference(clausify,[status(esa),index(1)],[c1]))."),
+        change: Change::Line(
+            3,
+            b"fof(c3,plain,~p,inference(clausify,[status(esa),index(1)],[c1])).",
+        ),
         answer: Outcome::Refused(4, Cause::Text),
     },
     Row {
         example: &ONE_IMPLICATION,
-        change: Change::Line(3, b"fof(c3,negated_conjecture,~q(a),inference(negate,[status(cth)],[c1]))."),
+        change: Change::Line(
+            3,
+            b"fof(c3,negated_conjecture,~q(a),inference(negate,[status(cth)],[c1])).",
+        ),
         answer: Outcome::Refused(4, Cause::Rule),
     },
     Row {
         example: &ONE_IMPLICATION,
-        change: Change::Line(3, b"fof(c3,negated_conjecture,~q(b),inference(negate,[status(cth)],[c2]))."),
+        change: Change::Line(
+            3,
+            b"fof(c3,negated_conjecture,~q(b),inference(negate,[status(cth)],[c2])).",
+        ),
         answer: Outcome::Refused(4, Cause::Conclusion),
     },
 ];

@@ -48,7 +48,10 @@ fn derivations_are_answered(rt: HostRuntime) -> Result<(), Fail> {
 #[test]
 fn deep_lines_are_read(rt: HostRuntime) -> Result<(), Fail> {
     let alloc = rt.alloc();
-    for (pairs, wanted) in [(5_000, Outcome::Accepted(6)), (5_001, Outcome::Refused(1, Cause::Text))] {
+    for (pairs, wanted) in [
+        (5_000, Outcome::Accepted(6)),
+        (5_001, Outcome::Refused(1, Cause::Text)),
+    ] {
         let text = bracketed(alloc, TWO_UNITS.lines, pairs)?;
         assert_eq!(rt; outcome(alloc, TWO_UNITS.problem, text.as_slice())?, wanted);
     }
@@ -61,7 +64,10 @@ fn large_bindings_are_refused(rt: HostRuntime) -> Result<(), Fail> {
     let alloc = rt.alloc();
     for (constants, cause) in [(7_997, Cause::Rule), (7_998, Cause::Binding)] {
         let text = bound_to(alloc, constants)?;
-        assert_eq!(rt; outcome(alloc, b"cnf(a,axiom,p(X)).", text.as_slice())?, Outcome::Refused(3, cause));
+        assert_eq!(rt;
+            outcome(alloc, b"cnf(a,axiom,p(X)).", text.as_slice())?,
+            Outcome::Refused(3, cause)
+        );
     }
     Ok(())
 }

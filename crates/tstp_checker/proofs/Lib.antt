@@ -21,5 +21,5 @@ pub mod RuleLineLemmas
 pub mod KernelLineLemmas
 pub mod LinesLemmas
 pub mod AtomLemmas
-pub mod VerdictLemmas
 pub mod ComponentLemmas
+pub mod VerdictLemmas
