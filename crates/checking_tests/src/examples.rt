@@ -1,6 +1,35 @@
 // Problems with derivations that are accepted.
 
+/// The examples by their names.
+#[derive(Clone, Copy)]
+pub(crate) enum ExampleName {
+    TwoUnits,
+    OneImplication,
+    TwoRewrites,
+    TwoComponents,
+    SignedNames,
+    Merged,
+    UnequalVariable,
+    NamedProduct,
+}
+
+impl ExampleName {
+    pub(crate) fn example(self) -> Example {
+        match self {
+            ExampleName::TwoUnits => TWO_UNITS,
+            ExampleName::OneImplication => ONE_IMPLICATION,
+            ExampleName::TwoRewrites => TWO_REWRITES,
+            ExampleName::TwoComponents => TWO_COMPONENTS,
+            ExampleName::SignedNames => SIGNED_NAMES,
+            ExampleName::Merged => MERGED,
+            ExampleName::UnequalVariable => UNEQUAL_VARIABLE,
+            ExampleName::NamedProduct => NAMED_PRODUCT,
+        }
+    }
+}
+
 /// A problem and the lines of a derivation.
+#[derive(Clone, Copy)]
 pub(crate) struct Example {
     pub problem: &'static [u8],
     pub lines: &'static [&'static [u8]],
@@ -20,7 +49,7 @@ pub(crate) const TWO_UNITS: Example = Example {
 };
 
 /// One implication.
-pub(crate) const ONE_IMPLICATION: Example = Example {
+const ONE_IMPLICATION: Example = Example {
     problem: b"fof(a,axiom,! [X] : (p(X) => q(X))). fof(b,axiom,p(a)). fof(c,conjecture,q(a)).",
     lines: &[
         b"fof(c0,axiom,! [X] : (p(X) => q(X)),file('r5.p',a)).",
@@ -38,7 +67,7 @@ pub(crate) const ONE_IMPLICATION: Example = Example {
 };
 
 /// Two rewrites.
-pub(crate) const TWO_REWRITES: Example = Example {
+const TWO_REWRITES: Example = Example {
     problem: b"cnf(a,axiom,a = b). cnf(b,axiom,f(a) = c). cnf(c,axiom,f(b) != c).",
     lines: &[
         b"cnf(c0,axiom,a = b,file('r8.p',a)).",
@@ -54,7 +83,7 @@ pub(crate) const TWO_REWRITES: Example = Example {
 };
 
 /// Two components.
-pub(crate) const TWO_COMPONENTS: Example = Example {
+const TWO_COMPONENTS: Example = Example {
     problem: b"cnf(a,axiom,p(X) | q(Y)). cnf(b,axiom,~p(a)). cnf(c,axiom,~q(b)).",
     lines: &[
         b"cnf(c0,axiom,p(X) | q(Y),file('r10.p',a)).",
@@ -75,7 +104,7 @@ pub(crate) const TWO_COMPONENTS: Example = Example {
 };
 
 /// A ground literal and its complement share a name.
-pub(crate) const SIGNED_NAMES: Example = Example {
+const SIGNED_NAMES: Example = Example {
     problem: b"cnf(a,axiom,p | q). cnf(b,axiom,~p | q). cnf(c,axiom,p | ~q). cnf(d,axiom,~p | ~q). cnf(e,axiom,r(a)).",
     lines: &[
         b"cnf(c0,axiom,p | q,file('r11.p',a)).",
@@ -101,7 +130,7 @@ pub(crate) const SIGNED_NAMES: Example = Example {
 };
 
 /// Two literals that are merged.
-pub(crate) const MERGED: Example = Example {
+const MERGED: Example = Example {
     problem: b"cnf(a,axiom,p(X) | p(a)). cnf(b,axiom,~p(a)).",
     lines: &[
         b"cnf(c0,axiom,p(X) | p(a),file('m.p',a)).",
@@ -115,7 +144,7 @@ pub(crate) const MERGED: Example = Example {
 };
 
 /// A variable that differs from itself.
-pub(crate) const UNEQUAL_VARIABLE: Example = Example {
+const UNEQUAL_VARIABLE: Example = Example {
     problem: b"cnf(a,axiom,X != X).",
     lines: &[
         b"cnf(c0,axiom,X != X,file('r.p',a)).",
@@ -125,7 +154,7 @@ pub(crate) const UNEQUAL_VARIABLE: Example = Example {
 };
 
 /// A product that the clausal form names.
-pub(crate) const NAMED_PRODUCT: Example = Example {
+const NAMED_PRODUCT: Example = Example {
     problem: b"fof(a,axiom,(p & p) | (p & p) | (p & p) | (p & p) | (p & p) | (p & p) | (p & p)). cnf(b,axiom,~p).",
     lines: &[
         b"fof(c0,axiom,(p & p) | (p & p) | (p & p) | (p & p) | (p & p) | (p & p) | (p & p),file('n.p',a)).",

@@ -21,7 +21,7 @@ pub(crate) enum Outcome {
 }
 
 /// The answer on a derivation of a problem of `r.p`. Want of memory is handed on, so that no row is taken for another answer.
-pub(crate) fn outcome(alloc: Global, problem: &[u8], derivation: &[u8]) -> Mem<Outcome> {
+pub(crate) fn answer_on(alloc: Global, problem: &[u8], derivation: &[u8]) -> Mem<Outcome> {
     let mut files = Files::new(alloc);
     files.push(MemFile::new(alloc, FILE, problem)?)?;
     let mut library = SureLibrary::new(files);

@@ -1,9 +1,6 @@
 // The answers on derivations and on changed ones.
 
-use crate::examples::{
-    Example, MERGED, NAMED_PRODUCT, ONE_IMPLICATION, SIGNED_NAMES, TWO_COMPONENTS, TWO_REWRITES,
-    TWO_UNITS, UNEQUAL_VARIABLE,
-};
+use crate::examples::ExampleName;
 use crate::outcome::Outcome;
 use tstp_checker::Cause;
 
@@ -20,62 +17,67 @@ pub(crate) enum Change {
 
 /// An example, what is changed in it, and the answer.
 pub(crate) struct Row {
-    pub example: &'static Example,
+    pub example: ExampleName,
     pub change: Change,
     pub answer: Outcome,
 }
 
-pub(crate) const ROWS: &[Row] = &[
+/// Derivations that are accepted.
+pub(crate) const ACCEPTED: &[Row] = &[
     Row {
-        example: &TWO_UNITS,
+        example: ExampleName::TwoUnits,
         change: Change::None,
         answer: Outcome::Accepted(6),
     },
     Row {
-        example: &ONE_IMPLICATION,
+        example: ExampleName::OneImplication,
         change: Change::None,
         answer: Outcome::Accepted(11),
     },
     Row {
-        example: &TWO_REWRITES,
+        example: ExampleName::TwoRewrites,
         change: Change::None,
         answer: Outcome::Accepted(9),
     },
     Row {
-        example: &TWO_COMPONENTS,
+        example: ExampleName::TwoComponents,
         change: Change::None,
         answer: Outcome::Accepted(14),
     },
     Row {
-        example: &SIGNED_NAMES,
+        example: ExampleName::SignedNames,
         change: Change::None,
         answer: Outcome::Accepted(19),
     },
     Row {
-        example: &MERGED,
+        example: ExampleName::Merged,
         change: Change::None,
         answer: Outcome::Accepted(7),
     },
     Row {
-        example: &UNEQUAL_VARIABLE,
+        example: ExampleName::UnequalVariable,
         change: Change::None,
         answer: Outcome::Accepted(3),
     },
     Row {
-        example: &NAMED_PRODUCT,
+        example: ExampleName::NamedProduct,
         change: Change::None,
         answer: Outcome::Accepted(15),
     },
     Row {
-        example: &UNEQUAL_VARIABLE,
+        example: ExampleName::UnequalVariable,
         change: Change::Line(
             2,
             b"cnf(c2,plain,$false,inference(refl,[status(thm),lit(0),bind([X])],[c1])).",
         ),
         answer: Outcome::Accepted(3),
     },
+];
+
+/// Derivations that are refused.
+pub(crate) const REFUSED: &[Row] = &[
     Row {
-        example: &UNEQUAL_VARIABLE,
+        example: ExampleName::UnequalVariable,
         change: Change::Line(
             2,
             b"cnf(c2,plain,$false,inference(refl,[status(thm),lit(0),bind([zz])],[c1])).",
@@ -83,7 +85,7 @@ pub(crate) const ROWS: &[Row] = &[
         answer: Outcome::Refused(3, Cause::NewSymbol),
     },
     Row {
-        example: &MERGED,
+        example: ExampleName::Merged,
         change: Change::Line(
             4,
             b"cnf(c4,plain,p(a),inference(merge,[status(thm),lit(0),lit(1),bind([b])],[c2])).",
@@ -91,7 +93,7 @@ pub(crate) const ROWS: &[Row] = &[
         answer: Outcome::Refused(5, Cause::Rule),
     },
     Row {
-        example: &MERGED,
+        example: ExampleName::Merged,
         change: Change::Line(
             4,
             b"cnf(c4,plain,p(X0),inference(merge,[status(thm),lit(0),lit(1),bind([a])],[c2])).",
@@ -99,7 +101,7 @@ pub(crate) const ROWS: &[Row] = &[
         answer: Outcome::Refused(5, Cause::Conclusion),
     },
     Row {
-        example: &ONE_IMPLICATION,
+        example: ExampleName::OneImplication,
         change: Change::Line(
             7,
             b"cnf(c7,plain,~$true | q(a),inference(para,[status(thm),from(0,left),into(0,left,[]),bind([]),bind([b])],[c5,c4])).",
@@ -107,7 +109,7 @@ pub(crate) const ROWS: &[Row] = &[
         answer: Outcome::Refused(8, Cause::Rule),
     },
     Row {
-        example: &ONE_IMPLICATION,
+        example: ExampleName::OneImplication,
         change: Change::Line(
             7,
             b"cnf(c7,plain,~$true | q(a),inference(para,[status(thm),from(0,left),into(0,left,[])],[c5,c4])).",
@@ -115,7 +117,7 @@ pub(crate) const ROWS: &[Row] = &[
         answer: Outcome::Refused(8, Cause::Binding),
     },
     Row {
-        example: &ONE_IMPLICATION,
+        example: ExampleName::OneImplication,
         change: Change::Line(
             8,
             b"cnf(c8,plain,q(X),inference(refl,[status(thm),lit(0),bind([])],[c7])).",
@@ -123,7 +125,7 @@ pub(crate) const ROWS: &[Row] = &[
         answer: Outcome::Refused(9, Cause::Conclusion),
     },
     Row {
-        example: &ONE_IMPLICATION,
+        example: ExampleName::OneImplication,
         change: Change::Line(
             10,
             b"cnf(c9,plain,$false,inference(refl,[status(thm),lit(0),bind([])],[c9])).",
@@ -131,7 +133,7 @@ pub(crate) const ROWS: &[Row] = &[
         answer: Outcome::Refused(11, Cause::Order),
     },
     Row {
-        example: &ONE_IMPLICATION,
+        example: ExampleName::OneImplication,
         change: Change::Line(
             7,
             b"cnf(c7,plain,~$true | q(a),inference(para,[status(thm),from(0,left),into(0,left,[]),bind([]),bind([a])],[c99,c4])).",
@@ -139,12 +141,12 @@ pub(crate) const ROWS: &[Row] = &[
         answer: Outcome::Refused(8, Cause::UnknownParent),
     },
     Row {
-        example: &ONE_IMPLICATION,
+        example: ExampleName::OneImplication,
         change: Change::Line(1, b"fof(c1,axiom,p(b),file('r5.p',b))."),
         answer: Outcome::Refused(2, Cause::Leaf),
     },
     Row {
-        example: &ONE_IMPLICATION,
+        example: ExampleName::OneImplication,
         change: Change::Line(
             4,
             b"cnf(c4,plain,~p(X0) | q(X0),inference(clausify,[status(esa),index(3)],[c0])).",
@@ -152,17 +154,17 @@ pub(crate) const ROWS: &[Row] = &[
         answer: Outcome::Refused(5, Cause::Clausify),
     },
     Row {
-        example: &ONE_IMPLICATION,
+        example: ExampleName::OneImplication,
         change: Change::Line(0, b"fof(c0,axiom,! [X] : (p(X) => q(X)),file('r5.p',a))"),
         answer: Outcome::Refused(1, Cause::Text),
     },
     Row {
-        example: &ONE_IMPLICATION,
+        example: ExampleName::OneImplication,
         change: Change::Cut(10),
         answer: Outcome::Refused(10, Cause::NoEmptyClause),
     },
     Row {
-        example: &TWO_COMPONENTS,
+        example: ExampleName::TwoComponents,
         change: Change::Line(
             7,
             b"cnf(c7,plain,q(X0) | ~spl0,introduced(definition,[component(spl0)])).",
@@ -170,7 +172,7 @@ pub(crate) const ROWS: &[Row] = &[
         answer: Outcome::Refused(8, Cause::NewSymbol),
     },
     Row {
-        example: &TWO_COMPONENTS,
+        example: ExampleName::TwoComponents,
         change: Change::Line(
             13,
             b"cnf(c13,plain,$false,inference(chain,[status(thm),pivots([spl1,spl0])],[c8,c10,c12])).",
@@ -178,7 +180,7 @@ pub(crate) const ROWS: &[Row] = &[
         answer: Outcome::Refused(14, Cause::Rule),
     },
     Row {
-        example: &TWO_COMPONENTS,
+        example: ExampleName::TwoComponents,
         change: Change::Line(
             8,
             b"cnf(c8,plain,spl0 | spl1,inference(split,[status(esa),parts([[0],[0]])],[c3,c6,c7])).",
@@ -186,45 +188,49 @@ pub(crate) const ROWS: &[Row] = &[
         answer: Outcome::Refused(9, Cause::Rule),
     },
     Row {
-        example: &SIGNED_NAMES,
+        example: ExampleName::SignedNames,
         change: Change::Line(
             8,
             b"cnf(c8,plain,p | r(a) | ~spl0,introduced(definition,[component(spl0)])).",
         ),
         answer: Outcome::Refused(11, Cause::Rule),
     },
+];
+
+/// More derivations that are refused.
+pub(crate) const REFUSED_TOO: &[Row] = &[
     Row {
-        example: &TWO_UNITS,
+        example: ExampleName::TwoUnits,
         change: Change::Cut(0),
         answer: Outcome::Refused(0, Cause::NoEmptyClause),
     },
     Row {
-        example: &TWO_UNITS,
+        example: ExampleName::TwoUnits,
         change: Change::Cut(1),
         answer: Outcome::Refused(1, Cause::NoEmptyClause),
     },
     Row {
-        example: &TWO_UNITS,
+        example: ExampleName::TwoUnits,
         change: Change::Cut(2),
         answer: Outcome::Refused(2, Cause::NoEmptyClause),
     },
     Row {
-        example: &TWO_UNITS,
+        example: ExampleName::TwoUnits,
         change: Change::Cut(3),
         answer: Outcome::Refused(3, Cause::NoEmptyClause),
     },
     Row {
-        example: &TWO_UNITS,
+        example: ExampleName::TwoUnits,
         change: Change::Cut(4),
         answer: Outcome::Refused(4, Cause::NoEmptyClause),
     },
     Row {
-        example: &TWO_UNITS,
+        example: ExampleName::TwoUnits,
         change: Change::Cut(5),
         answer: Outcome::Refused(5, Cause::NoEmptyClause),
     },
     Row {
-        example: &TWO_UNITS,
+        example: ExampleName::TwoUnits,
         change: Change::Line(
             5,
             b"cnf(c5,plain,$false,inference(refl,[status(thm),lit(0),bind([])],[c5])).",
@@ -232,12 +238,12 @@ pub(crate) const ROWS: &[Row] = &[
         answer: Outcome::Refused(6, Cause::UnknownParent),
     },
     Row {
-        example: &TWO_UNITS,
+        example: ExampleName::TwoUnits,
         change: Change::Twice(5),
         answer: Outcome::Refused(7, Cause::Order),
     },
     Row {
-        example: &TWO_UNITS,
+        example: ExampleName::TwoUnits,
         change: Change::Line(
             4,
             b"cnf(c4,plain,~$true,inference(para,[status(thm),from(0,left),into(0,left,[0]),bind([]),bind([])],[c2,c3])).",
@@ -245,7 +251,7 @@ pub(crate) const ROWS: &[Row] = &[
         answer: Outcome::Refused(5, Cause::Rule),
     },
     Row {
-        example: &TWO_UNITS,
+        example: ExampleName::TwoUnits,
         change: Change::Line(
             4,
             b"cnf(c4,plain,~$true,inference(para,[status(thm),from(0,right),into(0,left,[]),bind([]),bind([])],[c2,c3])).",
@@ -253,7 +259,7 @@ pub(crate) const ROWS: &[Row] = &[
         answer: Outcome::Refused(5, Cause::Rule),
     },
     Row {
-        example: &TWO_UNITS,
+        example: ExampleName::TwoUnits,
         change: Change::Line(
             4,
             b"cnf(c4,plain,~$true,inference(para,[status(thm),from(99999999999999999999,left),into(0,left,[]),bind([]),bind([])],[c2,c3])).",
@@ -261,7 +267,7 @@ pub(crate) const ROWS: &[Row] = &[
         answer: Outcome::Refused(5, Cause::Rule),
     },
     Row {
-        example: &TWO_UNITS,
+        example: ExampleName::TwoUnits,
         change: Change::Line(
             2,
             b"cnf(c2,plain,p,inference(clausify,[status(esa),index(4294967296)],[c0])).",
@@ -269,12 +275,12 @@ pub(crate) const ROWS: &[Row] = &[
         answer: Outcome::Refused(3, Cause::Clausify),
     },
     Row {
-        example: &TWO_UNITS,
+        example: ExampleName::TwoUnits,
         change: Change::Line(1, b"cnf(c1,negated_conjecture,~p,file('r1.p',a))."),
         answer: Outcome::Refused(2, Cause::Leaf),
     },
     Row {
-        example: &TWO_UNITS,
+        example: ExampleName::TwoUnits,
         change: Change::Line(
             2,
             b"cnf(c2,plain,p,inference(clausify,[status(esa),index(0)],[c1])).",
@@ -282,7 +288,7 @@ pub(crate) const ROWS: &[Row] = &[
         answer: Outcome::Refused(3, Cause::Clausify),
     },
     Row {
-        example: &TWO_UNITS,
+        example: ExampleName::TwoUnits,
         change: Change::Line(
             3,
             b"fof(c3,plain,~p,inference(clausify,[status(esa),index(1)],[c1])).",
@@ -290,7 +296,7 @@ pub(crate) const ROWS: &[Row] = &[
         answer: Outcome::Refused(4, Cause::Text),
     },
     Row {
-        example: &ONE_IMPLICATION,
+        example: ExampleName::OneImplication,
         change: Change::Line(
             3,
             b"fof(c3,negated_conjecture,~q(a),inference(negate,[status(cth)],[c1])).",
@@ -298,7 +304,7 @@ pub(crate) const ROWS: &[Row] = &[
         answer: Outcome::Refused(4, Cause::Rule),
     },
     Row {
-        example: &ONE_IMPLICATION,
+        example: ExampleName::OneImplication,
         change: Change::Line(
             3,
             b"fof(c3,negated_conjecture,~q(b),inference(negate,[status(cth)],[c2])).",

@@ -2,8 +2,8 @@
 
 use crate::examples::TWO_UNITS;
 use crate::large::{bound_to, bracketed};
-use crate::outcome::{Outcome, outcome};
-use crate::rows::{Change, ROWS, Row};
+use crate::outcome::{Outcome, answer_on};
+use crate::rows::{ACCEPTED, Change, REFUSED, REFUSED_TOO, Row};
 use plain_types::Mem;
 use std::alloc::Global;
 use std::test::Fail;
@@ -12,7 +12,7 @@ use tstp_checker::Cause;
 /// The text of a row's derivation.
 fn text_of(alloc: Global, row: &Row) -> Mem<Vec<u8>> {
     let mut page = Vec::new(alloc);
-    for (index, line) in row.example.lines.iter().enumerate() {
+    for (index, line) in row.example.example().lines.iter().enumerate() {
         match row.change {
             Change::Line(place, other) if place == index => page.extend_from_slice(other)?,
             Change::Twice(place) if place == index => {
@@ -31,7 +31,7 @@ fn text_of(alloc: Global, row: &Row) -> Mem<Vec<u8>> {
 fn first_failure(alloc: Global, rows: &[Row]) -> Mem<usize> {
     for (index, row) in rows.iter().enumerate() {
         let text = text_of(alloc, row)?;
-        if outcome(alloc, row.example.problem, text.as_slice())? != row.answer {
+        if answer_on(alloc, row.example.example().problem, text.as_slice())? != row.answer {
             return Ok(index);
         }
     }
@@ -40,7 +40,9 @@ fn first_failure(alloc: Global, rows: &[Row]) -> Mem<usize> {
 
 #[test]
 fn derivations_are_answered(rt: HostRuntime) -> Result<(), Fail> {
-    assert_eq!(rt; first_failure(rt.alloc(), ROWS)?, ROWS.len());
+    for rows in [ACCEPTED, REFUSED, REFUSED_TOO] {
+        assert_eq!(rt; first_failure(rt.alloc(), rows)?, rows.len());
+    }
     Ok(())
 }
 
@@ -53,7 +55,10 @@ fn deep_lines_are_read(rt: HostRuntime) -> Result<(), Fail> {
         (5_001, Outcome::Refused(1, Cause::Text)),
     ] {
         let text = bracketed(alloc, TWO_UNITS.lines, pairs)?;
-        assert_eq!(rt; outcome(alloc, TWO_UNITS.problem, text.as_slice())?, wanted);
+        assert_eq!(rt;
+            answer_on(alloc, TWO_UNITS.problem, text.as_slice())?,
+            wanted
+        );
     }
     Ok(())
 }
@@ -65,7 +70,7 @@ fn large_bindings_are_refused(rt: HostRuntime) -> Result<(), Fail> {
     for (constants, cause) in [(7_997, Cause::Rule), (7_998, Cause::Binding)] {
         let text = bound_to(alloc, constants)?;
         assert_eq!(rt;
-            outcome(alloc, b"cnf(a,axiom,p(X)).", text.as_slice())?,
+            answer_on(alloc, b"cnf(a,axiom,p(X)).", text.as_slice())?,
             Outcome::Refused(3, cause)
         );
     }

@@ -13,7 +13,10 @@ mod term;
 mod tests;
 mod whole;
 
-pub use items::{decimal, formula_term_of, formula_terms_of, number_of, numbers_of, side_of, SideName, signed_name_of};
+pub use items::{
+    SideName, decimal, formula_term_of, formula_terms_of, number_of, numbers_of, side_of,
+    signed_name_of,
+};
 pub use sign::NumberSign;
 pub use source::{Source, read_source};
 pub use term::{GeneralTerm, GeneralTerms};
