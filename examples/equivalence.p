@@ -1,0 +1,3 @@
+fof(a,axiom,p <=> q).
+fof(b,axiom,p).
+fof(c,conjecture,q).
