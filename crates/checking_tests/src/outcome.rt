@@ -6,6 +6,7 @@ use plain_types::{Mem, NoMemory};
 use std::alloc::Global;
 use tptp_problem::read_problem;
 use tptp_reader::ReadFault;
+use tptp_token::MOST_TEXT_BYTES;
 use tstp_checker::{Accepted, Cause, CheckFault, check};
 
 /// The name of the problem's file.
@@ -20,7 +21,8 @@ pub(crate) enum Outcome {
     NoForm,
 }
 
-/// The answer on a derivation of a problem of `r.p`. Want of memory is handed on, so that no row is taken for another answer.
+/// The answer on a derivation of a problem of `r.p`; one over the limit of length is no text, as the program says. Want of
+/// memory is handed on, so that no row is taken for another answer.
 pub(crate) fn answer_on(alloc: Global, problem: &[u8], derivation: &[u8]) -> Mem<Outcome> {
     let mut files = Files::new(alloc);
     files.push(MemFile::new(alloc, FILE, problem)?)?;
@@ -35,6 +37,9 @@ pub(crate) fn answer_on(alloc: Global, problem: &[u8], derivation: &[u8]) -> Mem
         Err(FormFault::NoMemory) => return Err(NoMemory),
         Err(FormFault::Refused(..)) => return Ok(Outcome::NoForm),
     };
+    if derivation.len() > MOST_TEXT_BYTES {
+        return Ok(Outcome::Refused(0, Cause::Text));
+    }
     match check(alloc, &problem, &form, derivation) {
         Ok(Accepted { lines }) => Ok(Outcome::Accepted(lines)),
         Err(CheckFault::NoMemory) => Err(NoMemory),
