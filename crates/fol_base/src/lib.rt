@@ -27,8 +27,4 @@ pub use substitution::{Subst, apply, apply_clause, apply_literal};
 pub use term::{TRUE_SYMBOL, Term, Terms};
 pub use variables::push_variables;
 
-#[cfg(test)]
-mod canonical_tests;
 pub mod laws;
-#[cfg(test)]
-mod tests;

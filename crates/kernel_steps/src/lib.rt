@@ -10,8 +10,6 @@ mod parents;
 mod rules;
 mod split;
 mod step;
-#[cfg(test)]
-mod tests;
 
 pub use conclude::{bound_size, conclusion};
 pub use key::Key;

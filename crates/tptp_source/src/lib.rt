@@ -9,8 +9,6 @@ mod reader;
 mod sign;
 mod source;
 mod term;
-#[cfg(test)]
-mod tests;
 mod whole;
 
 pub use items::{

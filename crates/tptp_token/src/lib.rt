@@ -11,8 +11,6 @@ mod piece;
 mod quote;
 mod scan;
 mod sign;
-#[cfg(test)]
-mod tests;
 mod text_token;
 mod token;
 mod word;

@@ -8,8 +8,6 @@ mod print;
 mod problem;
 mod role;
 mod term;
-#[cfg(test)]
-mod tests;
 
 pub use formula::{Formula, FormulaBox, Formulas};
 pub use limits::{MOST_DERIVATION_NESTING, MOST_NESTING, MOST_PRINTED_NESTING};

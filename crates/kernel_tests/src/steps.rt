@@ -3,10 +3,10 @@
 ghost use Rattle.std.specs.Prelude.{IsTrue, IfOk};
 ghost use Rattle.kernel_steps.specs.Conclusion.{is_rule_step};
 
-use super::*;
 use fol_base::{
     Clause, Literal, Literals, MOST_BOUND_SYMBOLS, Position, Side, Term, Terms, same_clause,
 };
+use kernel_steps::*;
 use plain_types::{Mem, NameLit, Names, Numbers, Parts};
 use sample_terms::{constant, unary};
 use std::alloc::Global;

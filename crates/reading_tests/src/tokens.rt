@@ -1,9 +1,9 @@
 // What no clause says: outside rows, and that calls succeed.
 
-use super::*;
 use plain_types::Mem;
 use std::alloc::Global;
 use std::test::Fail;
+use tptp_token::*;
 
 /// A text's tokens: for each the letter of its kind, a `:`, its bytes and a blank. And the fault.
 fn shown(alloc: Global, text: &[u8]) -> Mem<(Vec<u8>, Option<LexFault>)> {

@@ -1,7 +1,8 @@
 // Each public call once, with ample memory, on rows worked out by hand.
 
-use super::*;
+use fol_base::*;
 use plain_types::{Mem, NameLit, Names};
+use sample_terms::{atom, binary, constant, unary};
 use std::alloc::Global;
 use std::test::Fail;
 
@@ -14,31 +15,6 @@ const F: u32 = 3;
 const P: u32 = 4;
 
 const Q: u32 = 5;
-
-fn constant(alloc: Global, symbol: u32) -> Term {
-    Term::App(symbol, Terms::new(alloc))
-}
-
-fn unary(alloc: Global, symbol: u32, argument: Term) -> Mem<Term> {
-    let mut arguments = Terms::new(alloc);
-    arguments.push(argument)?;
-    Ok(Term::App(symbol, arguments))
-}
-
-fn binary(alloc: Global, symbol: u32, first: Term, second: Term) -> Mem<Term> {
-    let mut arguments = Terms::new(alloc);
-    arguments.push(first)?;
-    arguments.push(second)?;
-    Ok(Term::App(symbol, arguments))
-}
-
-fn atom(alloc: Global, predicate_term: Term) -> Literal {
-    Literal {
-        positive: true,
-        left: predicate_term,
-        right: constant(alloc, 0),
-    }
-}
 
 /// The clause `p(X) | q(Y, X)`, with a name.
 fn two_atoms(alloc: Global, x: u32, y: u32) -> Mem<Clause> {

@@ -1,9 +1,9 @@
 // What no clause says: that calls succeed, and outside rows.
 
-use super::*;
 use plain_types::{Mem, Text};
 use std::alloc::Global;
 use std::test::Fail;
+use tptp_source::*;
 use tptp_token::{MOST_TEXT_BYTES, tokens};
 
 /// The source that a text spells.

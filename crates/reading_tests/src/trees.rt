@@ -1,9 +1,9 @@
 // What no clause says: outside rows, and that calls succeed.
 
-use super::*;
 use plain_types::{Mem, Text, Texts};
 use std::alloc::Global;
 use std::test::Fail;
+use tptp_tree::*;
 
 fn atom(alloc: Global, name: &[u8]) -> Mem<Formula> {
     Ok(Formula::Pred(Text::from_slice(alloc, name)?, TreeTerms::new(alloc)))

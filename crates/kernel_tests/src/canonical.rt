@@ -1,6 +1,6 @@
 // The canonical forms of clauses.
 
-use super::*;
+use fol_base::*;
 use plain_types::{Mem, Names};
 use std::alloc::Global;
 use std::test::Fail;

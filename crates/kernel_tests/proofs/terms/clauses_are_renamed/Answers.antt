@@ -1,6 +1,6 @@
 use Rattle.fol_base.specs.Literal.{clause_of}
 use Rattle.fol_base.proofs.CanonicalLemmas.{terms_cover}
-use Rattle.fol_base.proofs.tests.clauses_are_renamed.Goals as goal
+use Rattle.kernel_tests.proofs.terms.clauses_are_renamed.Goals as goal
 
 pub apply_clause-requires : goal.apply_clause-requires
 apply_clause-requires g c =

@@ -1,0 +1,9 @@
+// The tests of terms and of the steps of derivations. They stand apart, since a crate with tests is proved twice, with them and without.
+#![tactic(auto)]
+
+#[cfg(test)]
+mod canonical;
+#[cfg(test)]
+mod steps;
+#[cfg(test)]
+mod terms;
