@@ -1,0 +1,10 @@
+mod PartLemmas
+mod SymbolLemmas
+mod TruthLemmas
+mod PlacedLemmas
+mod CoverLemmas
+mod LiteralLemmas
+mod RewriteLemmas
+mod UnifierLemmas
+mod LiftLemmas
+mod ExampleLemmas

@@ -1,0 +1,12 @@
+// The laws: each is the contract of a function without arguments and with an empty body.
+
+mod coverage;
+mod examples;
+mod lifting;
+
+pub use coverage::{
+    dropped_literals_covered, reductions_compose, reductions_covered, renamed_covered,
+    subsumed_covered, tautologies_covered,
+};
+pub use examples::{rewriting_at_a_root, superposition_at_a_variable};
+pub use lifting::{factorings_lift, resolutions_lift, superpositions_lift};

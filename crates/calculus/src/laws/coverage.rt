@@ -1,0 +1,43 @@
+// What simplification keeps.
+
+ghost use Rattle.calculus.specs.Coverage.{
+  DroppedLiteralsCovered,
+  ReductionsCovered,
+  SubsumedCovered,
+  TautologiesCovered,
+  RenamedCovered,
+  ReductionsCompose,
+};
+
+/// The ground instances of a clause of which a literal `t != t` goes, two equal literals are merged, or a unit cuts a literal are
+/// covered by the result.
+pub fn dropped_literals_covered()
+    ensures { DroppedLiteralsCovered }
+{}
+
+/// The ground instances of a clause that is reduced by a step are covered by the result and the clauses that may be used, for every
+/// list of function symbols that holds those of the clause.
+pub fn reductions_covered()
+    ensures { ReductionsCovered }
+{}
+
+/// The ground instances of a clause that is subsumed are covered by the clause that subsumes it.
+pub fn subsumed_covered()
+    ensures { SubsumedCovered }
+{}
+
+/// The ground instances of a tautology are covered by nothing.
+pub fn tautologies_covered()
+    ensures { TautologiesCovered }
+{}
+
+/// The ground instances of a clause are covered by its canonical form.
+pub fn renamed_covered()
+    ensures { RenamedCovered }
+{}
+
+/// The ground instances of a clause that is reduced by steps one after another are covered by the last result and the clauses that
+/// may be used.
+pub fn reductions_compose()
+    ensures { ReductionsCompose }
+{}
