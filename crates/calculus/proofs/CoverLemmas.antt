@@ -164,7 +164,7 @@ equal_sides-true i ρ l h =
     ap (λ (b : Bool). sides_true b (tree_value i ρ l.left) (tree_value i ρ l.right)) parts.0
     ∙ eq-eqb (tree_value i ρ l.left) (tree_value i ρ l.right) (ap (tree_value i ρ) (tree_eq-true l.left l.right parts.1))
 
-tautology-true :
+pub tautology-true :
     (i : Interpretation) (ρ : Assignment) (c : TreeClause) → is_tautology c ≡ true → literals_true_under i ρ c.literals ≡ true
 tautology-true i ρ c h =
     let p : TreeLiteral → Bool = literal_true_under i ρ in

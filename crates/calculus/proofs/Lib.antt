@@ -7,4 +7,7 @@ mod LiteralLemmas
 mod RewriteLemmas
 mod UnifierLemmas
 mod LiftLemmas
+mod LiftRules
+mod ReachLemmas
+mod ClosureLemmas
 mod ExampleLemmas

@@ -1,11 +1,11 @@
 -- The ground instances of a clause that is rewritten are covered by the result and the unit, and reducing steps compose.
-use Rattle.std.proofs.Common.{◌≡◌, ℕ, Bool, true, false, ◌&&◌, ◌||◌, ◌==◌, List, [], ◌∷◌, Some, refl, ap, ap₂, sym, ◌∙◌, subst, inl, inr, ◌⊎◌, ⊎_elim, append-nil}
-use Rattle.std.specs.Prelude.{All, Contains, slice_get, slice_set, flat_map, IsTrue}
-use Rattle.std.specs.List.{list_any}
-use Rattle.std.proofs.lemmas.Bool.{and_parts, or_cases, eqb-true, true≢false}
+use Rattle.std.proofs.Common.{◌≡◌, ℕ, Bool, true, false, ◌&&◌, ◌||◌, ◌==◌, List, [], ◌∷◌, Some, refl, ap, ap₂, sym, ◌∙◌, subst, inl, inr, ◌⊎◌, ⊎_elim, append-nil, ◌++◌}
+use Rattle.std.specs.Prelude.{All, Contains, slice_get, slice_set, flat_map, IsTrue, remove}
+use Rattle.std.specs.List.{list_any, list_all}
+use Rattle.std.proofs.lemmas.Bool.{and_parts, or_cases, eqb-true, true≢false, and_from}
 use Rattle.std.proofs.lemmas.Option.{same_Some}
 use Rattle.std.proofs.lemmas.List.{map-set}
-use Rattle.std.proofs.lemmas.List.Elements.{All-nil, All-cons, All-head, All-tail, All-contains}
+use Rattle.std.proofs.lemmas.List.Elements.{All-nil, All-cons, All-contains}
 use Rattle.fol_base.specs.Tree.{Tree, tree_variables}
 use Rattle.fol_base.specs.Instance.{Substitution, instance}
 use Rattle.fol_base.specs.Clause.{TreeLiteral, TreeClause, literal_instance, literal_variables, clause_variables}
@@ -20,24 +20,25 @@ use Rattle.fol_base.specs.declared.clause.Side.{Side}
 use Rattle.fol_base.specs.declared.clause.Side.TheVariants.{Left, Right}
 use Rattle.fol_base.proofs.MeaningLemmas.{ground_instances_are_ground}
 use Rattle.fol_base.proofs.KindLemmas.{puts_no_truth, puts_function_terms}
-use Rattle.fol_base.proofs.RuleLemmas.{superposed-parts, superposed_literal-parts}
+use Rattle.fol_base.proofs.RuleLemmas.{superposed-parts, superposed_literal-parts, resolved-parts, merged-parts}
 use Rattle.fol_base.proofs.InferenceLemmas.{side_of-instance, other_side_of-instance, superposed_literal-instance, literal_in_instance}
 use Rattle.fol_base.proofs.GroundInstanceLemmas.{ground_instances_of_instances}
 use Rattle.fol_base.proofs.CoverageLemmas.{Covered-instance, Covered-more, Covered-across}
 use Rattle.kbo_order.proofs.ClauseLoops.{In-index}
-use Rattle.kbo_order.proofs.MemberLemmas.{In, In-contains, any-In}
+use Rattle.kbo_order.proofs.MemberLemmas.{In, In-contains, any-In, In-left, In-right}
 use Rattle.kbo_order.proofs.StableLemmas.{clauses_stable}
 use Rattle.kbo_order.proofs.SubtermLemmas.{smaller_subterms_make_smaller}
 use Rattle.kernel_steps.specs.Inference.{RewritesBy, AllowsRoot, Reduces}
-use Rattle.kernel_steps.specs.Symbols.{symbols_pass}
+use Rattle.kernel_steps.specs.Symbols.{symbols_pass, clause_symbols_pass, literal_symbols_pass}
 use Rattle.kernel_steps.proofs.ItemLemmas.{list_any-set}
 use Rattle.calculus.specs.Symbols.{is_allowed, HasSymbolsOf}
-use Rattle.calculus.specs.Coverage.{ReductionsCovered, ReducesThrough, end_of, ReductionsCompose}
+use Rattle.calculus.specs.Coverage.{ReductionsCovered, ReducesThrough, end_of, ReductionsCompose, ReductionsKeepSymbols}
 use Rattle.calculus.proofs.PartLemmas.{In-either, All-In, smaller-not_greater, smaller_literal-smaller, smaller_unit-smaller}
-use Rattle.calculus.proofs.SymbolLemmas.{subterm-passes, side-passes, variable-passes, function_term-over, literal-over}
+use Rattle.calculus.proofs.SymbolLemmas.{subterm-passes, side-passes, variable-passes, function_term-over, instance-passes, replaced-passes, with_side-passes, other_side-passes}
 use Rattle.calculus.proofs.TruthLemmas.{rewritten-truth}
 use Rattle.calculus.proofs.LiteralLemmas.{smaller_side-smaller, rewriting-smaller}
 use Rattle.calculus.proofs.CoverLemmas.{CoversEach, Together, together-listed, dropped_literals}
+use Rattle.fol_base.proofs.TestLemmas.{list_all-item, list_all-set, list_all-remove}
 
 -- ---- a rewrite taken apart
 
@@ -101,33 +102,93 @@ either_side Left l v there = In-either v (tree_variables l.left) (tree_variables
 either_side Right l v there =
     ⊎_elim (λ h. inr h) (λ h. inl h) (In-either v (tree_variables l.left) (tree_variables l.right) there)
 
+variable-matched :
+    (is_predicate : ℕ → Bool) (test : ℕ → ℕ → Bool) (unit c d : TreeClause) (r : RewritesBy is_predicate unit c d)
+    → clause_symbols_pass test c ≡ true → (v : ℕ) → In v (literal_variables r.equation) → symbols_pass test (r.matcher v) ≡ true
+variable-matched is_predicate test unit c d r pass v there =
+    let σ : Substitution = r.matcher in
+    let side : Tree = side_of r.from_side r.equation in
+    let other : Tree = other_side_of r.from_side r.equation in
+    let Passes : ℕ → Type 0 = λ w. symbols_pass test (σ w) ≡ true in
+    let whole : symbols_pass test (instance σ side) ≡ true =
+    ap (symbols_pass test) r.matches
+    ∙ subterm-passes test r.place (side_of r.into_side r.literal) r.old r.old_there
+    (side-passes test r.into_side r.literal (list_all-item (literal_symbols_pass test) c.literals r.j r.literal r.literal_there pass)) in
+    ⊎_elim
+    (λ here. variable-passes test σ side v whole here)
+    (λ beside.
+    let found =
+    any-In (λ w. v == w) (tree_variables side)
+    (All-contains (λ u. IsTrue (list_any (λ w. u == w) (tree_variables side))) (tree_variables other) v r.no_new_variables
+    (In-contains v (tree_variables other) beside)) in
+    subst (λ (w : ℕ). Passes w) (sym (eqb-true v found.0 found.2)) (variable-passes test σ side found.0 whole found.1))
+    (either_side r.from_side r.equation v there)
+
 matcher-over :
     (is_predicate : ℕ → Bool) (functions : FunctionSymbols is_predicate) (unit c d : TreeClause) (r : RewritesBy is_predicate unit c d)
     → HasSymbolsOf functions c → All (λ v. IsTrue (is_over functions.symbols (r.matcher v))) (clause_variables unit)
 matcher-over is_predicate functions unit c d r symbols =
-    let σ : Substitution = r.matcher in
-    let test : ℕ → ℕ → Bool = is_allowed functions in
-    let side : Tree = side_of r.from_side r.equation in
-    let other : Tree = other_side_of r.from_side r.equation in
-    let Over : ℕ → Type 0 = λ v. is_over functions.symbols (σ v) ≡ true in
-    let whole : symbols_pass test (instance σ side) ≡ true =
-    ap (symbols_pass test) r.matches
-    ∙ subterm-passes test r.place (side_of r.into_side r.literal) r.old r.old_there
-    (side-passes test r.into_side r.literal (literal-over functions c r.j r.literal symbols r.literal_there)) in
-    let matched : (v : ℕ) → In v (tree_variables side) → Over v = λ v there.
-    function_term-over functions (σ v) (r.function_terms v) (variable-passes test σ side v whole there) in
-    let of_other : (v : ℕ) → In v (tree_variables other) → Over v = λ v there.
-    let found =
-    any-In (λ w. v == w) (tree_variables side)
-    (All-contains (λ u. IsTrue (list_any (λ w. u == w) (tree_variables side))) (tree_variables other) v r.no_new_variables
-    (In-contains v (tree_variables other) there)) in
-    subst (λ (w : ℕ). Over w) (sym (eqb-true v found.0 found.2)) (matched found.0 found.1) in
+    let Over : ℕ → Type 0 = λ v. is_over functions.symbols (r.matcher v) ≡ true in
     subst (λ (ls : List TreeLiteral). All Over (flat_map literal_variables ls)) (sym r.is_unit)
     (All-In Over (flat_map literal_variables (r.equation ∷ [])) (λ v there.
     ⊎_elim
-    (λ here. ⊎_elim (λ k. matched v k) (λ k. of_other v k) (either_side r.from_side r.equation v here))
+    (λ here.
+    function_term-over functions (r.matcher v) (r.function_terms v)
+    (variable-matched is_predicate (is_allowed functions) unit c d r symbols v here))
     (λ none. absurd none)
     (In-either v (literal_variables r.equation) [] there)))
+
+-- ---- symbols are kept
+
+rewritten-passes :
+    (is_predicate : ℕ → Bool) (test : ℕ → ℕ → Bool) (unit c d : TreeClause) → RewritesBy is_predicate unit c d
+    → clause_symbols_pass test unit ≡ true → clause_symbols_pass test c ≡ true → clause_symbols_pass test d ≡ true
+rewritten-passes is_predicate test unit c d r unit_pass pass =
+    let σ : Substitution = r.matcher in
+    let l : TreeLiteral = r.equation in
+    let e : TreeLiteral = literal_instance σ l in
+    let p : TreeLiteral → Bool = literal_symbols_pass test in
+    let w = rewritten is_predicate unit c d r in
+    let q = superposed_literal-parts e w.s w.into w.z w.place w.made w.made_so in
+    let equation_passes : p l ≡ true = (and_parts (p l) true (ap (list_all p) (sym r.is_unit) ∙ unit_pass)).0 in
+    let put : (v : ℕ) → In v (tree_variables l.left ++ tree_variables l.right) → symbols_pass test (σ v) ≡ true =
+    variable-matched is_predicate test unit c d r pass in
+    let instance_passes : p e ≡ true =
+    and_from (symbols_pass test e.left) (symbols_pass test e.right)
+    (instance-passes test σ l.left (λ v k. put v (In-left v (tree_variables l.left) (tree_variables l.right) k)) (side-passes test Left l equation_passes))
+    (instance-passes test σ l.right (λ v k. put v (In-right v (tree_variables l.left) (tree_variables l.right) k)) (side-passes test Right l equation_passes)) in
+    let into_passes : p w.into ≡ true = list_all-item p c.literals w.j w.into w.into_there pass in
+    ap (list_all p) (sym w.gives)
+    ∙ list_all-set p c.literals w.j w.made pass
+    (ap p (sym q.gives)
+    ∙ with_side-passes test w.z q.new w.into into_passes
+    (replaced-passes test w.place (other_side_of w.s e) (side_of w.z w.into) q.new q.new_made
+    (side-passes test w.z w.into into_passes) (other_side-passes test w.s e instance_passes)))
+
+fewer-pass :
+    (test : ℕ → ℕ → Bool) (c d : TreeClause) (k : ℕ)
+    → d.literals ≡ remove c.literals k → clause_symbols_pass test c ≡ true → clause_symbols_pass test d ≡ true
+fewer-pass test c d k gives pass =
+    ap (list_all (literal_symbols_pass test)) gives ∙ list_all-remove (literal_symbols_pass test) c.literals k pass
+
+pub reductions_keep_symbols : ReductionsKeepSymbols
+reductions_keep_symbols is_predicate functions used c d all symbols step =
+    let test : ℕ → ℕ → Bool = is_allowed functions in
+    ⊎_elim
+    (λ trivial. fewer-pass test c d trivial.i (sym (resolved-parts c.literals trivial.i d.literals trivial.gives).gives) symbols)
+    (λ more.
+    ⊎_elim
+    (λ merging.
+    fewer-pass test c d merging.goes (sym (merged-parts c.literals merging.stays merging.goes d.literals merging.gives).gives) symbols)
+    (λ by.
+    ⊎_elim
+    (λ rewrite_by.
+    rewritten-passes is_predicate test rewrite_by.clause c d rewrite_by.does
+    (All-contains (HasSymbolsOf functions) used rewrite_by.clause all rewrite_by.holds) symbols)
+    (λ cut. fewer-pass test c d cut.does.j cut.does.gives symbols)
+    by)
+    more)
+    step
 
 -- ---- coverage
 
@@ -218,25 +279,25 @@ reductions_covered is_predicate functions used c d symbols step g made =
 
 steps :
     (is_predicate : ℕ → Bool) (functions : FunctionSymbols is_predicate) (used : List TreeClause) (c : TreeClause) (ds : List TreeClause)
-    → All (HasSymbolsOf functions) (c ∷ ds) → ReducesThrough is_predicate used c ds
+    → All (HasSymbolsOf functions) used → HasSymbolsOf functions c → ReducesThrough is_predicate used c ds
     → CoversEach functions (Together (Contains used) (end_of c ds)) c
-steps is_predicate functions used c [] symbols through g made =
+steps is_predicate functions used c [] all symbols through g made =
     Covered-instance is_predicate functions (Together (Contains used) c) c g (inr refl) made
-steps is_predicate functions used c (d ∷ ds) symbols through g made =
-    let Has : TreeClause → Type 0 = HasSymbolsOf functions in
+steps is_predicate functions used c (d ∷ ds) all symbols through g made =
     let End : TreeClause → Type 0 = Together (Contains used) (end_of d ds) in
+    let kept : HasSymbolsOf functions d = reductions_keep_symbols is_predicate functions used c d all symbols through.0 in
     Covered-across is_predicate functions (Together (Contains used) d) End g
     (ground_instances_are_ground is_predicate functions c g made)
     (λ e one h of_e.
     ⊎_elim
     (λ there. Covered-instance is_predicate functions End e h (inl there) of_e)
     (λ same.
-    steps is_predicate functions used d ds (All-tail Has c (d ∷ ds) symbols) through.1 h
+    steps is_predicate functions used d ds all kept through.1 h
     (subst (λ (f : TreeClause). GroundInstance functions f h) same of_e))
     one)
-    (reductions is_predicate functions (Contains used) c d (All-head Has c (d ∷ ds) symbols) through.0 g made)
+    (reductions is_predicate functions (Contains used) c d symbols through.0 g made)
 
 pub reductions_compose : ReductionsCompose
-reductions_compose is_predicate functions used c ds symbols through g made =
+reductions_compose is_predicate functions used c ds all symbols through g made =
     Covered-more is_predicate functions (Together (Contains used) (end_of c ds)) (Contains (end_of c ds ∷ used)) g (together-listed used (end_of c ds))
-    (steps is_predicate functions used c ds symbols through g made)
+    (steps is_predicate functions used c ds all symbols through g made)

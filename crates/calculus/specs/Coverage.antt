@@ -61,9 +61,16 @@ abbrev pub end_of : TreeClause → List TreeClause → TreeClause
 end_of c [] = c
 end_of c (d ∷ ds) = end_of d ds
 
+-- no step brings in a symbol that neither the clause nor those that may be used have
+abbrev pub ReductionsKeepSymbols : Type 0
+ReductionsKeepSymbols =
+    (is_predicate : ℕ → Bool) (functions : FunctionSymbols is_predicate) (used : List TreeClause) (c d : TreeClause)
+    → All (HasSymbolsOf functions) used → HasSymbolsOf functions c → Reduces is_predicate (Contains used) c d
+    → HasSymbolsOf functions d
+
 -- a clause that is reduced by steps one after another: by the last result and the clauses that may be used
 abbrev pub ReductionsCompose : Type 0
 ReductionsCompose =
     (is_predicate : ℕ → Bool) (functions : FunctionSymbols is_predicate) (used : List TreeClause) (c : TreeClause) (ds : List TreeClause)
-    → All (HasSymbolsOf functions) (c ∷ ds) → ReducesThrough is_predicate used c ds
+    → All (HasSymbolsOf functions) used → HasSymbolsOf functions c → ReducesThrough is_predicate used c ds
     → CoversInstancesOf functions (end_of c ds ∷ used) c

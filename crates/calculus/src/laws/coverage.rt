@@ -6,6 +6,7 @@ ghost use Rattle.calculus.specs.Coverage.{
   SubsumedCovered,
   TautologiesCovered,
   RenamedCovered,
+  ReductionsKeepSymbols,
   ReductionsCompose,
 };
 
@@ -34,6 +35,11 @@ pub fn tautologies_covered()
 /// The ground instances of a clause are covered by its canonical form.
 pub fn renamed_covered()
     ensures { RenamedCovered }
+{}
+
+/// A reducing step brings in no symbol that neither the clause nor those that may be used have.
+pub fn reductions_keep_symbols()
+    ensures { ReductionsKeepSymbols }
 {}
 
 /// The ground instances of a clause that is reduced by steps one after another are covered by the last result and the clauses that
