@@ -11,7 +11,7 @@ use Rattle.fol_base.specs.Canonical.{canonical_clause}
 use Rattle.fol_base.specs.Symbols.{FunctionSymbols}
 use Rattle.fol_base.specs.Ground.{is_over, GroundClause, GroundInstance, literals_instance}
 use Rattle.fol_base.specs.Interpretation.{Interpretation, Assignment, no_values, tree_value, sides_true, literal_true_under, literals_true_under, clause_true}
-use Rattle.fol_base.specs.Order.{equivalent_literals, literal_greater, clause_greater}
+use Rattle.fol_base.specs.Order.{equivalent_literals, clause_greater}
 use Rattle.fol_base.specs.Covered.{InstanceOf, Covered}
 use Rattle.fol_base.specs.Subsumption.{Subsumes}
 use Rattle.fol_base.proofs.TreeLemmas.{tree_eq-true}
@@ -23,17 +23,17 @@ use Rattle.fol_base.proofs.InferenceLemmas.{literal_in_instance, map-remove}
 use Rattle.fol_base.proofs.GroundInstanceLemmas.{ground_instances_of_instances, ground_instances_of_canonical}
 use Rattle.fol_base.proofs.CoverageLemmas.{Covered-instance, Covered-more}
 use Rattle.kbo_order.proofs.MemberLemmas.{In, In-contains, contains-In, any-In}
-use Rattle.kbo_order.proofs.StrictOrderLemmas.{literals_ordered}
 use Rattle.kernel_steps.specs.Derivation.{complement}
 use Rattle.kernel_steps.specs.Inference.{DropsTrivial, MergesEqual, CutsBy, makes_tautology, is_tautology}
 use Rattle.kernel_steps.specs.Symbols.{symbols_pass, literal_symbols_pass}
 use Rattle.kernel_steps.proofs.RuleTruth.{complement-truth}
 use Rattle.calculus.specs.Symbols.{is_allowed, HasSymbolsOf}
 use Rattle.calculus.specs.Coverage.{DroppedLiteralsCovered, SubsumedCovered, TautologiesCovered, RenamedCovered}
-use Rattle.calculus.proofs.PartLemmas.{In-either, All-In, removed-not_greater, part-not_greater}
+use Rattle.calculus.proofs.ClauseLemmas.{In-either, All-In, removed-not_greater}
 use Rattle.calculus.proofs.SymbolLemmas.{literal-variable-passes, function_term-over}
 use Rattle.calculus.proofs.TruthLemmas.{removed-true, equivalent-true}
 use Rattle.calculus.proofs.PlacedLemmas.{Placed, placed, placed-instance, placed-true, placed-part}
+use Rattle.kbo_order.proofs.PartLemmas.{parts_are_not_greater}
 
 -- one ground instance that isn't greater and entails the clause covers it
 covered-by_one :
@@ -139,7 +139,7 @@ subsumed is_predicate functions c d symbols s g made =
     (covered-by_one functions (λ e. e ≡ c) c part whole refl
     (ground_instances_of_instances is_predicate functions σ c part over
     (record { trees = τ; trees_ground = made.trees_ground; literals = refl }))
-    (part-not_greater equivalent_literals literal_greater literals_ordered part whole (placed-part part s.places whole s.different ground_at))
+    (parts_are_not_greater part whole (placed-part part s.places whole s.different ground_at))
     (λ i holds. placed-true i no_values part s.places whole ground_at holds))
 
 pub subsumed_covered : SubsumedCovered
@@ -202,6 +202,12 @@ tautologies_covered is_predicate functions c h g made = tautologies is_predicate
 -- ---- renaming
 
 pub renamed_covered : RenamedCovered
-renamed_covered is_predicate functions c g made =
-    Covered-instance is_predicate functions (Contains (canonical_clause c ∷ [])) (canonical_clause c) g (listed-alone (canonical_clause c) (canonical_clause c) refl)
-    ((ground_instances_of_canonical is_predicate functions c g).0 made)
+renamed_covered is_predicate functions c =
+    let canonical : TreeClause = canonical_clause c in (
+      λ g made.
+          Covered-instance is_predicate functions (Contains (canonical ∷ [])) canonical g (listed-alone canonical canonical refl)
+          ((ground_instances_of_canonical is_predicate functions c g).0 made),
+      λ g made.
+          Covered-instance is_predicate functions (Contains (c ∷ [])) c g (listed-alone c c refl)
+          ((ground_instances_of_canonical is_predicate functions c g).1 made),
+    )

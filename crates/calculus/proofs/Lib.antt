@@ -1,4 +1,4 @@
-mod PartLemmas
+mod ClauseLemmas
 mod SymbolLemmas
 mod TruthLemmas
 mod PlacedLemmas
@@ -10,4 +10,5 @@ mod LiftLemmas
 mod LiftRules
 mod ReachLemmas
 mod ClosureLemmas
+mod ClosureExamples
 mod ExampleLemmas

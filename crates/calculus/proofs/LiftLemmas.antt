@@ -1,6 +1,6 @@
 -- What lifting rests on: where a substitution is another one after a third, what is eligible, ordered and of one kind under it was so
 -- before, and a conclusion under it is an instance of the one before.
-use Rattle.std.proofs.Common.{◌≡◌, ℕ, Bool, true, false, not, ◌&&◌, ◌==◌, List, [], ◌∷◌, Option, None, Some, refl, ap, ap₂, sym, ◌∙◌, ⊎_elim}
+use Rattle.std.proofs.Common.{◌≡◌, ℕ, Bool, true, false, not, ◌&&◌, ◌==◌, List, [], ◌∷◌, Some, refl, ap, ap₂, sym, ◌∙◌, ⊎_elim}
 use Rattle.std.specs.Prelude.{slice_get, flat_map}
 use Rattle.std.proofs.lemmas.Bool.{and_from, or_left, or_right, cases_Bool, not_from_false, false_from_ne_true, true≢false}
 use Rattle.std.proofs.lemmas.Option.{same_Some, slice_get-map}
@@ -11,7 +11,7 @@ use Rattle.fol_base.specs.Clause.{TreeLiteral, TreeClause, literal_instance, lit
 use Rattle.fol_base.specs.Ground.{literals_instance}
 use Rattle.fol_base.specs.Kind.{is_function_term, PutsFunctionTerms}
 use Rattle.fol_base.specs.Order.{tree_greater}
-use Rattle.fol_base.specs.Selection.{SelectionMode, select_nothing, chosen, eligible, eligible_in_instance}
+use Rattle.fol_base.specs.Selection.{SelectionMode, chosen, eligible, eligible_in_instance}
 use Rattle.fol_base.specs.Sides.{side_of, other_side_of}
 use Rattle.fol_base.specs.Rules.{superposed, resolved, factored}
 use Rattle.fol_base.specs.GroundInference.{is_greater_side, UnchosenEligible}
@@ -53,17 +53,11 @@ literal_before τ ls i l there =
 
 -- ---- eligible literals
 
-eligible_by_choice :
-    (κ : Substitution) (ls : List TreeLiteral) (i : ℕ) (choice : Option ℕ) (strict : Bool)
-    → eligible (literals_instance κ ls) i choice strict ≡ true → eligible ls i choice strict ≡ true
-eligible_by_choice κ ls i None strict h = eligible_lifts select_nothing ls κ i strict h
-eligible_by_choice κ ls i (Some k) strict h = h
-
 pub eligible_between :
     (mode : SelectionMode) (κ σ τ : Substitution) → Goes κ σ τ → (ls : List TreeLiteral) (i : ℕ) (strict : Bool)
     → eligible_in_instance mode ls τ i strict ≡ true → eligible_in_instance mode ls σ i strict ≡ true
 eligible_between mode κ σ τ goes ls i strict h =
-    eligible_by_choice κ (literals_instance σ ls) i (chosen mode ls) strict
+    eligible_lifts (literals_instance σ ls) (chosen mode ls) κ i strict
     (ap (λ ks. eligible ks i (chosen mode ls) strict) (literals-again κ σ τ goes ls) ∙ h)
 
 pub unchosen_between :

@@ -1,11 +1,11 @@
--- A smaller side makes a smaller literal, and a literal is greater than an equation that rewrites it.
+-- A literal is greater than an equation that rewrites it.
 use Rattle.std.proofs.Common.{◌≡◌, ℕ, ◌+◌, Bool, true, false, List, [], ◌∷◌, Some, refl, ap, sym, ◌∙◌, inl, inr, ⊎_elim, arith}
 use Rattle.std.proofs.lemmas.Bool.{true≢false}
 use Rattle.std.proofs.lemmas.Option.{same_Some}
 use Rattle.fol_base.specs.Tree.{Tree, tree_eq}
 use Rattle.fol_base.specs.Place.{subterm}
 use Rattle.fol_base.specs.Clause.{TreeLiteral}
-use Rattle.fol_base.specs.Sides.{side_of, other_side_of, with_side}
+use Rattle.fol_base.specs.Sides.{side_of, other_side_of}
 use Rattle.fol_base.specs.Multiset.{times}
 use Rattle.fol_base.specs.Order.{tree_greater, sides_multiset, literal_greater}
 use Rattle.fol_base.specs.declared.clause.Side.{Side}
@@ -29,41 +29,6 @@ literal-greater :
 literal-greater l m common left right lefts rights x there dominates =
     (multiset_greater-decided tree_eq tree_greater (sides_multiset l) (sides_multiset m)).1
     (dominating-greater tree_eq tree_greater trees_ordered (sides_multiset l) (sides_multiset m) common left right lefts rights x there dominates)
-
--- ---- a smaller side
-
-abbrev doubled : Bool → Tree → List Tree
-doubled true t = t ∷ []
-doubled false t = t ∷ t ∷ []
-
-each_side : (p : Bool) (t u w : Tree) → count w (sides p t u) ≡ count w (doubled p t) + count w (doubled p u)
-each_side true t u w = omega arith
-each_side false t u w = omega arith
-
-In-doubled : (p : Bool) (t : Tree) → In t (doubled p t)
-In-doubled true t = inl refl
-In-doubled false t = inl refl
-
-doubled-In : (p : Bool) (t y : Tree) → In y (doubled p t) → y ≡ t
-doubled-In true t y h = ⊎_elim (λ e. e) (λ none. absurd none) h
-doubled-In false t y h = ⊎_elim (λ e. e) (λ more. ⊎_elim (λ e. e) (λ none. absurd none) more) h
-
-doubled-dominates : (p : Bool) (t new : Tree) → tree_greater t new ≡ true → Dominates tree_greater (doubled p t) (doubled p new)
-doubled-dominates p t new above y there = (t, In-doubled p t, ap (tree_greater t) (doubled-In p new y there) ∙ above)
-
-pub smaller_side-smaller :
-    (z : Side) (new : Tree) (l : TreeLiteral)
-    → tree_greater (side_of z l) new ≡ true → literal_greater l (with_side z new l) ≡ true
-smaller_side-smaller Left new l above =
-    literal-greater l (with_side Left new l) (doubled l.positive l.right) (doubled l.positive l.left) (doubled l.positive new)
-    (λ w. omega (arith, each_side l.positive l.left l.right w))
-    (λ w. omega (arith, each_side l.positive new l.right w))
-    l.left (In-doubled l.positive l.left) (doubled-dominates l.positive l.left new above)
-smaller_side-smaller Right new l above =
-    literal-greater l (with_side Right new l) (doubled l.positive l.left) (doubled l.positive l.right) (doubled l.positive new)
-    (λ w. each_side l.positive l.left l.right w)
-    (λ w. each_side l.positive l.left new w)
-    l.right (In-doubled l.positive l.right) (doubled-dominates l.positive l.right new above)
 
 -- ---- an equation below a literal
 

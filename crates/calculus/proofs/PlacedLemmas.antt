@@ -1,5 +1,5 @@
 -- Literals that stand at different places of a clause, as subsumption has them.
-use Rattle.std.proofs.Common.{◌≡◌, ℕ, zero, suc, ◌+◌, ◌≤◌, true, false, ◌==◌, List, [], ◌∷◌, Option, None, Some, map, refl, ap, sym, ◌∙◌, ⊎_elim, arith}
+use Rattle.std.proofs.Common.{◌≡◌, ℕ, zero, suc, ◌+◌, ◌≤◌, true, false, ◌==◌, List, [], ◌∷◌, Option, None, Some, map, refl, ap, sym, ◌∙◌, ⊎_elim, arith, if◌then◌else◌}
 use Rattle.std.specs.Prelude.{not, slice_get, sum_by}
 use Rattle.std.specs.List.{list_any}
 use Rattle.std.proofs.lemmas.Bool.{and_parts, or_cases, or_parts, not-true, eq-eqb, true≢false}
@@ -13,7 +13,6 @@ use Rattle.fol_base.specs.Subsumption.{stand_at, is_there, all_different}
 use Rattle.fol_base.proofs.CountLemmas.{times-cons}
 use Rattle.fol_base.proofs.OrderLemmas.{literals_equivalence}
 use Rattle.fol_base.proofs.InferenceLemmas.{literal_in_instance, equivalent_literals-instance}
-use Rattle.kbo_order.proofs.TallyLemmas.{bit}
 use Rattle.kbo_order.proofs.MultisetLemmas.{Fits-times}
 use Rattle.kbo_order.proofs.StrictOrderLemmas.{literals_ordered}
 use Rattle.kernel_steps.proofs.ItemLemmas.{list_any-item}
@@ -137,7 +136,7 @@ placed-true i ρ (l ∷ ls) (k ∷ places) ds h holds =
 -- how often a literal stands at a place: once or not at all
 abbrev hits : TreeLiteral → Option TreeLiteral → ℕ
 hits z None = 0
-hits z (Some m) = bit (equivalent_literals z m)
+hits z (Some m) = if equivalent_literals z m then 1 else 0
 
 abbrev weight : TreeLiteral → List TreeLiteral → ℕ → ℕ
 weight z ds k = hits z (slice_get ds k)
@@ -154,7 +153,7 @@ placed-sum z [] (k ∷ places) ds h = absurd h
 placed-sum z (l ∷ ls) [] ds h = absurd h
 placed-sum z (l ∷ ls) (k ∷ places) ds h =
     let at = h.0 in
-    let here : bit (equivalent_literals z l) ≡ weight z ds k =
+    let here : (if equivalent_literals z l then 1 else 0) ≡ weight z ds k =
     Fits-times equivalent_literals literal_greater literals_ordered z l at.0 at.2 ∙ sym (ap (hits z) at.1) in
     omega (arith, placed-sum z ls places ds h.1, times-cons equivalent_literals z l ls, sum_by-cons (weight z ds) k places, here)
 

@@ -10,7 +10,7 @@ use Rattle.fol_base.proofs.InstanceLemmas.{instances_agree}
 use Rattle.fol_base.proofs.KindLemmas.{puts_no_truth, puts_function_terms}
 use Rattle.kbo_order.proofs.MemberLemmas.{In}
 use Rattle.calculus.specs.Lifting.{ResolutionsReachAll, FactoringsReachAll, SuperpositionsReachAll}
-use Rattle.calculus.proofs.PartLemmas.{In-either, All-In}
+use Rattle.calculus.proofs.ClauseLemmas.{In-either, All-In}
 use Rattle.calculus.proofs.LiftLemmas.{Goes, resolved_meets, factored_meets, superposed_meets, resolved_again, factored_again, superposed_again}
 
 -- ---- what is put in for a variable of a ground instance is ground

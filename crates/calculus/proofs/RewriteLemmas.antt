@@ -32,13 +32,14 @@ use Rattle.kernel_steps.specs.Inference.{RewritesBy, AllowsRoot, Reduces}
 use Rattle.kernel_steps.specs.Symbols.{symbols_pass, clause_symbols_pass, literal_symbols_pass}
 use Rattle.kernel_steps.proofs.ItemLemmas.{list_any-set}
 use Rattle.calculus.specs.Symbols.{is_allowed, HasSymbolsOf}
-use Rattle.calculus.specs.Coverage.{ReductionsCovered, ReducesThrough, end_of, ReductionsCompose, ReductionsKeepSymbols}
-use Rattle.calculus.proofs.PartLemmas.{In-either, All-In, smaller-not_greater, smaller_literal-smaller, smaller_unit-smaller}
+use Rattle.calculus.specs.Coverage.{ReductionsCovered, ReducesThrough, end_of, ReductionsCompose, ReductionsKeepSymbols, ReducedAwayCovered}
+use Rattle.calculus.proofs.ClauseLemmas.{In-either, All-In, smaller-not_greater, smaller_unit-smaller}
 use Rattle.calculus.proofs.SymbolLemmas.{subterm-passes, side-passes, variable-passes, function_term-over, instance-passes, replaced-passes, with_side-passes, other_side-passes}
 use Rattle.calculus.proofs.TruthLemmas.{rewritten-truth}
-use Rattle.calculus.proofs.LiteralLemmas.{smaller_side-smaller, rewriting-smaller}
-use Rattle.calculus.proofs.CoverLemmas.{CoversEach, Together, together-listed, dropped_literals}
+use Rattle.calculus.proofs.LiteralLemmas.{rewriting-smaller}
+use Rattle.calculus.proofs.CoverLemmas.{CoversEach, Together, together-listed, dropped_literals, tautologies, subsumed}
 use Rattle.fol_base.proofs.TestLemmas.{list_all-item, list_all-set, list_all-remove}
+use Rattle.kbo_order.proofs.PartLemmas.{smaller_sides_make_smaller, smaller_literals_make_smaller}
 
 -- ---- a rewrite taken apart
 
@@ -90,7 +91,7 @@ rewritten is_predicate unit c d r =
       gives = sym (append-nil (slice_set c.literals r.j p.literal)) ∙ p.gives;
       made_smaller =
           ap (literal_greater p.into) (sym q.gives)
-          ∙ smaller_side-smaller z q.new p.into
+          ∙ smaller_sides_make_smaller z p.into q.new
           (smaller_subterms_make_smaller r.place (side_of z p.into) (side_of s e) (other_side_of s e) q.new q.old_there q.new_made ordered);
       equation_smaller = rewriting-smaller p.into e z s r.place q.positive q.old_there ordered root;
     }
@@ -215,7 +216,7 @@ rewritten_covered is_predicate functions Holds unit c d holds r symbols g made =
     smaller-not_greater whole by_result
     (ap (λ (ls : List TreeLiteral). clause_greater whole (literals_instance τ ls)) (sym w.gives)
     ∙ clauses_stable τ c.literals (slice_set c.literals w.j w.made)
-    (smaller_literal-smaller c.literals w.j w.into w.made w.into_there w.made_smaller)) in
+    (smaller_literals_make_smaller c.literals w.j w.into w.made w.into_there w.made_smaller)) in
     let Instance : GroundClause → Type 0 = InstanceOf functions (Together Holds d) in
     let unit_instance : Instance by_unit = record {
       clause = unit;
@@ -277,7 +278,14 @@ reductions_covered is_predicate functions used c d symbols step g made =
 
 -- ---- steps one after another
 
-steps :
+steps_keep_symbols :
+    (is_predicate : ℕ → Bool) (functions : FunctionSymbols is_predicate) (used : List TreeClause) (c : TreeClause) (ds : List TreeClause)
+    → All (HasSymbolsOf functions) used → HasSymbolsOf functions c → ReducesThrough is_predicate used c ds → HasSymbolsOf functions (end_of c ds)
+steps_keep_symbols is_predicate functions used c [] all symbols through = symbols
+steps_keep_symbols is_predicate functions used c (d ∷ ds) all symbols through =
+    steps_keep_symbols is_predicate functions used d ds all (reductions_keep_symbols is_predicate functions used c d all symbols through.0) through.1
+
+pub steps :
     (is_predicate : ℕ → Bool) (functions : FunctionSymbols is_predicate) (used : List TreeClause) (c : TreeClause) (ds : List TreeClause)
     → All (HasSymbolsOf functions) used → HasSymbolsOf functions c → ReducesThrough is_predicate used c ds
     → CoversEach functions (Together (Contains used) (end_of c ds)) c
@@ -300,4 +308,25 @@ steps is_predicate functions used c (d ∷ ds) all symbols through g made =
 pub reductions_compose : ReductionsCompose
 reductions_compose is_predicate functions used c ds all symbols through g made =
     Covered-more is_predicate functions (Together (Contains used) (end_of c ds)) (Contains (end_of c ds ∷ used)) g (together-listed used (end_of c ds))
+    (steps is_predicate functions used c ds all symbols through g made)
+
+pub reduced_away_covered : ReducedAwayCovered
+reduced_away_covered is_predicate functions used c ds all symbols through away g made =
+    let end : TreeClause = end_of c ds in
+    let kept : HasSymbolsOf functions end = steps_keep_symbols is_predicate functions used c ds all symbols through in
+    let end_covered : CoversEach functions (Contains used) end = λ h of_end.
+    ⊎_elim
+    (λ tautology. tautologies is_predicate functions (Contains used) end tautology h of_end)
+    (λ by.
+    Covered-more is_predicate functions (λ e. e ≡ by.clause) (Contains used) h
+    (λ e same. subst (λ (f : TreeClause). Contains used f) (sym same) by.holds)
+    (subsumed is_predicate functions by.clause end kept by.does h of_end))
+    away in
+    Covered-across is_predicate functions (Together (Contains used) end) (Contains used) g
+    (ground_instances_are_ground is_predicate functions c g made)
+    (λ e one h of_e.
+    ⊎_elim
+    (λ there. Covered-instance is_predicate functions (Contains used) e h there of_e)
+    (λ same. end_covered h (subst (λ (f : TreeClause). GroundInstance functions f h) same of_e))
+    one)
     (steps is_predicate functions used c ds all symbols through g made)

@@ -23,7 +23,7 @@ use Rattle.fol_base.proofs.KindLemmas.{is_function_term-parts}
 use Rattle.kernel_steps.specs.Symbols.{symbols_pass, all_symbols_pass, literal_symbols_pass}
 use Rattle.kbo_order.proofs.MemberLemmas.{In, In-left, In-right}
 use Rattle.calculus.specs.Symbols.{is_allowed, HasSymbolsOf}
-use Rattle.calculus.proofs.PartLemmas.{In-either}
+use Rattle.calculus.proofs.ClauseLemmas.{In-either}
 use Rattle.fol_base.proofs.InstanceLemmas.{trees_count-instances}
 
 abbrev SymbolTest : Type 0

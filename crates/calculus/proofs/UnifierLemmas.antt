@@ -9,7 +9,7 @@ use Rattle.fol_base.specs.InstanceLaws.{after}
 use Rattle.fol_base.proofs.TreeLemmas.{tree_size-positive}
 use Rattle.fol_base.proofs.InstanceLemmas.{trees_count-instances, instances_of_instances, instances_agree}
 use Rattle.kbo_order.proofs.MemberLemmas.{In, In-left, In-right}
-use Rattle.calculus.proofs.PartLemmas.{In-either}
+use Rattle.calculus.proofs.ClauseLemmas.{In-either}
 
 -- ---- parts of trees
 

@@ -7,7 +7,7 @@ use Rattle.fol_base.specs.Symbols.{FunctionSymbols}
 use Rattle.fol_base.specs.Ground.{GroundClause, GroundInstance}
 use Rattle.fol_base.specs.Subsumption.{Subsumes}
 use Rattle.fol_base.specs.Covered.{Covers}
-use Rattle.kernel_steps.specs.Inference.{DropsTrivial, MergesEqual, CutsBy, Reduces, is_tautology}
+use Rattle.kernel_steps.specs.Inference.{DropsTrivial, MergesEqual, CutsBy, Reduces, SomeClause, is_tautology}
 use Rattle.calculus.specs.Symbols.{HasSymbolsOf}
 
 -- each ground instance of c over the list of function symbols is covered by the clauses ds
@@ -43,11 +43,11 @@ TautologiesCovered =
     (is_predicate : ℕ → Bool) (functions : FunctionSymbols is_predicate) (c : TreeClause)
     → IsTrue (is_tautology c) → CoversInstancesOf functions [] c
 
--- a clause whose variables are numbered anew: by its canonical form
+-- a clause whose variables are numbered anew: by its canonical form, and the other way round
 abbrev pub RenamedCovered : Type 0
 RenamedCovered =
     (is_predicate : ℕ → Bool) (functions : FunctionSymbols is_predicate) (c : TreeClause)
-    → CoversInstancesOf functions (canonical_clause c ∷ []) c
+    → CoversInstancesOf functions (canonical_clause c ∷ []) c × CoversInstancesOf functions (c ∷ []) (canonical_clause c)
 
 -- ---- steps one after another
 
@@ -74,3 +74,11 @@ ReductionsCompose =
     (is_predicate : ℕ → Bool) (functions : FunctionSymbols is_predicate) (used : List TreeClause) (c : TreeClause) (ds : List TreeClause)
     → All (HasSymbolsOf functions) used → HasSymbolsOf functions c → ReducesThrough is_predicate used c ds
     → CoversInstancesOf functions (end_of c ds ∷ used) c
+
+-- a clause that is reduced away, to a tautology or to what one of the clauses that may be used subsumes: by these alone
+abbrev pub ReducedAwayCovered : Type 0
+ReducedAwayCovered =
+    (is_predicate : ℕ → Bool) (functions : FunctionSymbols is_predicate) (used : List TreeClause) (c : TreeClause) (ds : List TreeClause)
+    → All (HasSymbolsOf functions) used → HasSymbolsOf functions c → ReducesThrough is_predicate used c ds
+    → IsTrue (is_tautology (end_of c ds)) ⊎ SomeClause (Contains used) (λ u. Subsumes is_predicate u (end_of c ds))
+    → CoversInstancesOf functions used c

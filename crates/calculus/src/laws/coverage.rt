@@ -8,6 +8,7 @@ ghost use Rattle.calculus.specs.Coverage.{
   RenamedCovered,
   ReductionsKeepSymbols,
   ReductionsCompose,
+  ReducedAwayCovered,
 };
 
 /// The ground instances of a clause of which a literal `t != t` goes, two equal literals are merged, or a unit cuts a literal are
@@ -32,7 +33,7 @@ pub fn tautologies_covered()
     ensures { TautologiesCovered }
 {}
 
-/// The ground instances of a clause are covered by its canonical form.
+/// The ground instances of a clause are covered by its canonical form, and the other way round.
 pub fn renamed_covered()
     ensures { RenamedCovered }
 {}
@@ -46,4 +47,10 @@ pub fn reductions_keep_symbols()
 /// may be used.
 pub fn reductions_compose()
     ensures { ReductionsCompose }
+{}
+
+/// The ground instances of a clause that is reduced to a tautology, or to what one of the clauses that may be used subsumes, are
+/// covered by these.
+pub fn reduced_away_covered()
+    ensures { ReducedAwayCovered }
 {}
