@@ -1,5 +1,5 @@
 -- The ground instances of clauses that are reduced by fewer literals, subsumed, renamed or tautologies are covered.
-use Rattle.std.proofs.Common.{◌≡◌, ℕ, Bool, true, false, not, ◌&&◌, List, [], ◌∷◌, Some, map, refl, ap, sym, ◌∙◌, subst, inl, inr, ◌⊎◌, ⊎_elim}
+use Rattle.std.proofs.Common.{◌≡◌, ℕ, Bool, true, false, not, ◌&&◌, List, [], ◌∷◌, Some, map, refl, ap, sym, ◌∙◌, subst, inl, inr, ◌⊎◌, ⊎_elim, zero, suc}
 use Rattle.std.specs.Prelude.{All, Contains, slice_get, remove, flat_map, IsTrue}
 use Rattle.std.specs.List.{list_any, list_all}
 use Rattle.std.proofs.lemmas.Bool.{and_parts, or_cases, or_left, or_right, cases_Bool, eq-eqb}
@@ -26,12 +26,11 @@ use Rattle.kbo_order.proofs.MemberLemmas.{In, In-contains, contains-In, any-In}
 use Rattle.kernel_steps.specs.Derivation.{complement}
 use Rattle.kernel_steps.specs.Inference.{DropsTrivial, MergesEqual, CutsBy, makes_tautology, is_tautology}
 use Rattle.kernel_steps.specs.Symbols.{symbols_pass, literal_symbols_pass}
-use Rattle.kernel_steps.proofs.RuleTruth.{complement-truth}
+use Rattle.kernel_steps.proofs.RuleTruth.{complement-truth, equivalent-truth}
 use Rattle.calculus.specs.Symbols.{is_allowed, HasSymbolsOf}
 use Rattle.calculus.specs.Coverage.{DroppedLiteralsCovered, SubsumedCovered, TautologiesCovered, RenamedCovered}
 use Rattle.calculus.proofs.ClauseLemmas.{In-either, All-In, removed-not_greater}
 use Rattle.calculus.proofs.SymbolLemmas.{literal-variable-passes, function_term-over}
-use Rattle.calculus.proofs.TruthLemmas.{removed-true, equivalent-true}
 use Rattle.calculus.proofs.PlacedLemmas.{Placed, placed, placed-instance, placed-true, placed-part}
 use Rattle.kbo_order.proofs.PartLemmas.{parts_are_not_greater}
 
@@ -66,6 +65,18 @@ listed-alone : (c d : TreeClause) → d ≡ c → Contains (c ∷ []) d
 listed-alone c d same = In-contains d (c ∷ []) (inl same)
 
 -- ---- a literal fewer
+
+-- with fewer literals a clause isn't true more often
+removed-true :
+    {X : Type 0} (p : X → Bool) (xs : List X) (k : ℕ) → list_any p (remove xs k) ≡ true → list_any p xs ≡ true
+removed-true p [] zero some = some
+removed-true p [] (suc k) some = some
+removed-true p (y ∷ ys) zero some = or_right (p y) (list_any p ys) some
+removed-true p (y ∷ ys) (suc k) some =
+    ⊎_elim
+    (λ here. or_left (p y) (list_any p ys) here)
+    (λ later. or_right (p y) (list_any p ys) (removed-true p ys k later))
+    (or_cases (p y) (list_any p (remove ys k)) some)
 
 without_literal :
     {is_predicate : ℕ → Bool} (functions : FunctionSymbols is_predicate) (c d : TreeClause) (k : ℕ) (l : TreeLiteral)
@@ -178,7 +189,7 @@ tautology-true i ρ c h =
     (λ holds. some-In p c.literals l found.1 holds)
     (λ fails.
     some-In p c.literals other.0 other.1
-    (equivalent-true i ρ other.0 (complement l) (literals_equivalence.symm other.0 (complement l) ∙ other.2)
+    (equivalent-truth i ρ other.0 (complement l) (literals_equivalence.symm other.0 (complement l) ∙ other.2)
     (complement-truth i ρ l ∙ ap not fails)))
     (cases_Bool (p l)))
     (or_cases (l.positive && tree_eq l.left l.right) (list_any (equivalent_literals (complement l)) c.literals) found.2)

@@ -1,6 +1,5 @@
 mod ClauseLemmas
 mod SymbolLemmas
-mod TruthLemmas
 mod PlacedLemmas
 mod CoverLemmas
 mod LiteralLemmas

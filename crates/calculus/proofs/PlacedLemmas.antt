@@ -16,7 +16,7 @@ use Rattle.fol_base.proofs.InferenceLemmas.{literal_in_instance, equivalent_lite
 use Rattle.kbo_order.proofs.MultisetLemmas.{Fits-times}
 use Rattle.kbo_order.proofs.StrictOrderLemmas.{literals_ordered}
 use Rattle.kernel_steps.proofs.ItemLemmas.{list_any-item}
-use Rattle.calculus.proofs.TruthLemmas.{equivalent-true}
+use Rattle.kernel_steps.proofs.RuleTruth.{equivalent-truth}
 
 -- ---- sums over places
 
@@ -129,7 +129,7 @@ placed-true i ρ (l ∷ ls) (k ∷ places) ds h holds =
     ⊎_elim
     (λ here.
     list_any-item (literal_true_under i ρ) ds k at.0 at.1
-    (equivalent-true i ρ at.0 l (literals_equivalence.symm at.0 l ∙ at.2) here))
+    (equivalent-truth i ρ at.0 l (literals_equivalence.symm at.0 l ∙ at.2) here))
     (λ later. placed-true i ρ ls places ds h.1 later)
     (or_cases (literal_true_under i ρ l) (literals_true_under i ρ ls) holds)
 

@@ -34,12 +34,13 @@ use Rattle.kernel_steps.proofs.ItemLemmas.{list_any-set}
 use Rattle.calculus.specs.Symbols.{is_allowed, HasSymbolsOf}
 use Rattle.calculus.specs.Coverage.{ReductionsCovered, ReducesThrough, end_of, ReductionsCompose, ReductionsKeepSymbols, ReducedAwayCovered}
 use Rattle.calculus.proofs.ClauseLemmas.{In-either, All-In, smaller-not_greater, smaller_unit-smaller}
-use Rattle.calculus.proofs.SymbolLemmas.{subterm-passes, side-passes, variable-passes, function_term-over, instance-passes, replaced-passes, with_side-passes, other_side-passes}
-use Rattle.calculus.proofs.TruthLemmas.{rewritten-truth}
+use Rattle.calculus.proofs.SymbolLemmas.{subterm-passes, variable-passes, function_term-over, instance-passes}
 use Rattle.calculus.proofs.LiteralLemmas.{rewriting-smaller}
 use Rattle.calculus.proofs.CoverLemmas.{CoversEach, Together, together-listed, dropped_literals, tautologies, subsumed}
-use Rattle.fol_base.proofs.TestLemmas.{list_all-item, list_all-set, list_all-remove}
+use Rattle.fol_base.proofs.TestLemmas.{list_all-item, list_all-remove}
 use Rattle.kbo_order.proofs.PartLemmas.{smaller_sides_make_smaller, smaller_literals_make_smaller}
+use Rattle.kernel_steps.proofs.RuleTruth.{superposed_literal-truth}
+use Rattle.kernel_steps.proofs.SymbolLemmas.{side-passes, superposed-passes}
 
 -- ---- a rewrite taken apart
 
@@ -149,8 +150,6 @@ rewritten-passes is_predicate test unit c d r unit_pass pass =
     let l : TreeLiteral = r.equation in
     let e : TreeLiteral = literal_instance σ l in
     let p : TreeLiteral → Bool = literal_symbols_pass test in
-    let w = rewritten is_predicate unit c d r in
-    let q = superposed_literal-parts e w.s w.into w.z w.place w.made w.made_so in
     let equation_passes : p l ≡ true = (and_parts (p l) true (ap (list_all p) (sym r.is_unit) ∙ unit_pass)).0 in
     let put : (v : ℕ) → In v (tree_variables l.left ++ tree_variables l.right) → symbols_pass test (σ v) ≡ true =
     variable-matched is_predicate test unit c d r pass in
@@ -158,13 +157,8 @@ rewritten-passes is_predicate test unit c d r unit_pass pass =
     and_from (symbols_pass test e.left) (symbols_pass test e.right)
     (instance-passes test σ l.left (λ v k. put v (In-left v (tree_variables l.left) (tree_variables l.right) k)) (side-passes test Left l equation_passes))
     (instance-passes test σ l.right (λ v k. put v (In-right v (tree_variables l.left) (tree_variables l.right) k)) (side-passes test Right l equation_passes)) in
-    let into_passes : p w.into ≡ true = list_all-item p c.literals w.j w.into w.into_there pass in
-    ap (list_all p) (sym w.gives)
-    ∙ list_all-set p c.literals w.j w.made pass
-    (ap p (sym q.gives)
-    ∙ with_side-passes test w.z q.new w.into into_passes
-    (replaced-passes test w.place (other_side_of w.s e) (side_of w.z w.into) q.new q.new_made
-    (side-passes test w.z w.into into_passes) (other_side-passes test w.s e instance_passes)))
+    superposed-passes test (literals_instance σ unit.literals) 0 r.from_side c.literals r.j r.into_side r.place d.literals r.gives
+    (ap (λ (ls : List TreeLiteral). list_all p (literals_instance σ ls)) r.is_unit ∙ and_from (p e) true instance_passes refl) pass
 
 fewer-pass :
     (test : ℕ → ℕ → Bool) (c d : TreeClause) (k : ℕ)
@@ -241,7 +235,7 @@ rewritten_covered is_predicate functions Holds unit c d holds r symbols g made =
     ⊎_elim (λ h. h) (λ h. absurd (true≢false (sym h))) (or_cases (p (literal_instance τ e)) false unit_true) in
     sym (list_any-set p whole w.j (literal_instance τ w.into) (literal_instance τ w.made)
     (literal_in_instance τ c.literals w.j w.into w.into_there)
-    (rewritten-truth i no_values (literal_instance τ e) (literal_instance τ w.into) (literal_instance τ w.made) w.s w.z w.place step equation_true))
+    (superposed_literal-truth i no_values (literal_instance τ e) (literal_instance τ w.into) (literal_instance τ w.made) w.s w.z w.place step equation_true))
     ∙ ap (clause_true i) (sym result_is)
     ∙ (and_parts (clause_true i by_result) true both.1).0 in
     subst (λ (h : GroundClause). Covered functions (Together Holds d) h) (sym made.literals)

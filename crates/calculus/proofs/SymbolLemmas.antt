@@ -1,23 +1,18 @@
 -- What a matcher puts in has the symbols of what is matched.
-use Rattle.std.proofs.Common.{◌≡◌, ℕ, Bool, true, false, ◌&&◌, ◌||◌, ◌==◌, List, [], ◌∷◌, ◌++◌, Some, refl, ap, sym, ◌∙◌, ⊎_elim, zero, suc, inl, ◌+◌}
-use Rattle.std.specs.Prelude.{slice_get, slice_set}
-use Rattle.std.specs.List.{list_all}
+use Rattle.std.proofs.Common.{◌≡◌, ℕ, Bool, true, false, ◌||◌, ◌==◌, List, [], ◌∷◌, ◌++◌, Some, refl, ap, sym, ◌∙◌, ⊎_elim, inl}
+use Rattle.std.specs.Prelude.{slice_get}
 use Rattle.std.proofs.lemmas.Bool.{and_parts, and_from}
-use Rattle.std.proofs.lemmas.Option.{none-some, same_Some, option_and_then_some}
-use Rattle.fol_base.specs.Tree.{Tree, trees_of, variable, application, Trees, no_trees, tree_then, list_of, trees_count, tree_variables, trees_variables, true_symbol}
+use Rattle.std.proofs.lemmas.Option.{same_Some, option_and_then_some}
+use Rattle.fol_base.specs.Tree.{Tree, variable, application, Trees, no_trees, tree_then, trees_count, tree_variables, trees_variables, true_symbol}
 use Rattle.fol_base.specs.Instance.{Substitution, instance, instances}
-use Rattle.fol_base.specs.Place.{argument, with_argument, subterm, replaced}
+use Rattle.fol_base.specs.Place.{argument, subterm}
 use Rattle.fol_base.specs.Clause.{TreeLiteral, TreeClause, literal_instance}
 use Rattle.fol_base.specs.Symbols.{FunctionSymbols}
 use Rattle.fol_base.specs.Ground.{has_symbol, is_over, are_over}
 use Rattle.fol_base.specs.Kind.{is_function_term, are_function_terms}
-use Rattle.fol_base.specs.Sides.{side_of, other_side_of, with_side}
 use Rattle.fol_base.specs.Order.{equivalent_literals}
-use Rattle.fol_base.specs.declared.clause.Side.{Side}
 use Rattle.fol_base.specs.declared.clause.Side.TheVariants.{Left, Right}
-use Rattle.fol_base.proofs.TestLemmas.{list_all-item, list_all-set}
-use Rattle.fol_base.proofs.TreeLemmas.{list_of-trees_of, trees_of-list_of}
-use Rattle.fol_base.proofs.PlaceLemmas.{replaced-parts}
+use Rattle.fol_base.proofs.TestLemmas.{list_all-item}
 use Rattle.fol_base.proofs.OrderLemmas.{equivalent_literals-decided}
 use Rattle.fol_base.proofs.KindLemmas.{is_function_term-parts}
 use Rattle.kernel_steps.specs.Symbols.{symbols_pass, all_symbols_pass, literal_symbols_pass}
@@ -25,34 +20,19 @@ use Rattle.kbo_order.proofs.MemberLemmas.{In, In-left, In-right}
 use Rattle.calculus.specs.Symbols.{is_allowed, HasSymbolsOf}
 use Rattle.calculus.proofs.ClauseLemmas.{In-either}
 use Rattle.fol_base.proofs.InstanceLemmas.{trees_count-instances}
+use Rattle.kernel_steps.proofs.SymbolLemmas.{passes-argument, side-passes}
 
 abbrev SymbolTest : Type 0
 SymbolTest = ℕ → ℕ → Bool
 
 -- ---- parts
 
-all_listed : (test : SymbolTest) (ts : Trees) → all_symbols_pass test ts ≡ list_all (symbols_pass test) (list_of ts)
-all_listed test no_trees = refl
-all_listed test (tree_then t ts) = ap (λ b. symbols_pass test t && b) (all_listed test ts)
-
-argument-passes :
-    (test : SymbolTest) (k : ℕ) (t a : Tree) → argument k t ≡ Some a → symbols_pass test t ≡ true → symbols_pass test a ≡ true
-argument-passes test k (variable v) a there h = absurd (none-some a there)
-argument-passes test k (application f ts) a there h =
-    list_all-item (symbols_pass test) (list_of ts) k a there
-    (sym (all_listed test ts) ∙ (and_parts (test f (trees_count ts)) (all_symbols_pass test ts) h).1)
-
 pub subterm-passes :
     (test : SymbolTest) (place : List ℕ) (t u : Tree) → subterm place t ≡ Some u → symbols_pass test t ≡ true → symbols_pass test u ≡ true
 subterm-passes test [] t u there h = ap (symbols_pass test) (sym (same_Some t u there)) ∙ h
 subterm-passes test (k ∷ place) t u there h =
     option_and_then_some (subterm place) (argument k t) u there λ a a_is u_is.
-    subterm-passes test place a u u_is (argument-passes test k t a a_is h)
-
-pub side-passes :
-    (test : SymbolTest) (s : Side) (l : TreeLiteral) → literal_symbols_pass test l ≡ true → symbols_pass test (side_of s l) ≡ true
-side-passes test Left l h = (and_parts (symbols_pass test l.left) (symbols_pass test l.right) h).0
-side-passes test Right l h = (and_parts (symbols_pass test l.left) (symbols_pass test l.right) h).1
+    subterm-passes test place a u u_is (passes-argument test k t a a_is h)
 
 -- ---- what stands in an instance
 
@@ -90,7 +70,7 @@ literal-variable-passes test σ l m v same h there =
     ⊎_elim (λ k. variable-passes test σ l.left v both.0 k) (λ k. variable-passes test σ l.right v both.1 k)
     (In-either v (tree_variables l.left) (tree_variables l.right) there)
 
--- ---- what is put in, and where
+-- ---- what is put in
 
 mutual
   pub instance-passes :
@@ -112,47 +92,6 @@ mutual
       and_from (symbols_pass test (instance σ t)) (all_symbols_pass test (instances σ ts))
       (instance-passes test σ t (λ v k. puts v (In-left v (tree_variables t) (trees_variables ts) k)) both.0)
       (instances-pass test σ ts (λ v k. puts v (In-right v (tree_variables t) (trees_variables ts) k)) both.1)
-
-set_count : (ts : Trees) (k : ℕ) (new : Tree) → trees_count (trees_of (slice_set (list_of ts) k new)) ≡ trees_count ts
-set_count no_trees k new = refl
-set_count (tree_then t ts) zero new = ap (λ us. 1 + trees_count us) (trees_of-list_of ts)
-set_count (tree_then t ts) (suc k) new = ap (λ n. 1 + n) (set_count ts k new)
-
-set-passes :
-    (test : SymbolTest) (ts : Trees) (k : ℕ) (new : Tree)
-    → all_symbols_pass test ts ≡ true → symbols_pass test new ≡ true → all_symbols_pass test (trees_of (slice_set (list_of ts) k new)) ≡ true
-set-passes test ts k new all passes =
-    all_listed test (trees_of (slice_set (list_of ts) k new))
-    ∙ ap (list_all (symbols_pass test)) (list_of-trees_of (slice_set (list_of ts) k new))
-    ∙ list_all-set (symbols_pass test) (list_of ts) k new (sym (all_listed test ts) ∙ all) passes
-
-with_argument-passes :
-    (test : SymbolTest) (k : ℕ) (b t : Tree) → symbols_pass test t ≡ true → symbols_pass test b ≡ true → symbols_pass test (with_argument k b t) ≡ true
-with_argument-passes test k b (variable v) whole part = whole
-with_argument-passes test k b (application f ts) whole part =
-    let both = and_parts (test f (trees_count ts)) (all_symbols_pass test ts) whole in
-    and_from (test f (trees_count (trees_of (slice_set (list_of ts) k b)))) (all_symbols_pass test (trees_of (slice_set (list_of ts) k b)))
-    (ap (test f) (set_count ts k b) ∙ both.0) (set-passes test ts k b both.1 part)
-
-pub replaced-passes :
-    (test : SymbolTest) (place : List ℕ) (new t made : Tree)
-    → replaced place new t ≡ Some made → symbols_pass test t ≡ true → symbols_pass test new ≡ true → symbols_pass test made ≡ true
-replaced-passes test [] new t made put h passes = ap (symbols_pass test) (sym (same_Some new made put)) ∙ passes
-replaced-passes test (k ∷ place) new t made put h passes =
-    replaced-parts k place new t made put λ a b a_is b_is gives.
-    ap (symbols_pass test) (sym gives)
-    ∙ with_argument-passes test k b t h (replaced-passes test place new a b b_is (argument-passes test k t a a_is h) passes)
-
-pub with_side-passes :
-    (test : SymbolTest) (z : Side) (new : Tree) (l : TreeLiteral)
-    → literal_symbols_pass test l ≡ true → symbols_pass test new ≡ true → literal_symbols_pass test (with_side z new l) ≡ true
-with_side-passes test Left new l h passes = and_from (symbols_pass test new) (symbols_pass test l.right) passes (side-passes test Right l h)
-with_side-passes test Right new l h passes = and_from (symbols_pass test l.left) (symbols_pass test new) (side-passes test Left l h) passes
-
-pub other_side-passes :
-    (test : SymbolTest) (s : Side) (l : TreeLiteral) → literal_symbols_pass test l ≡ true → symbols_pass test (other_side_of s l) ≡ true
-other_side-passes test Left l h = side-passes test Right l h
-other_side-passes test Right l h = side-passes test Left l h
 
 -- ---- function terms
 
