@@ -28,7 +28,7 @@ use Rattle.calculus.specs.Lifting.{HasConclusionsOf}
 -- ---- f(b) != f(a) | r, by a = b
 
 pub two_steps :
-    ReducesThrough is_predicate (clause (equation a b ∷ []) ∷ []) (clause (disequation (f b) (f a) ∷ r ∷ []))
+    ReducesThrough is_predicate (Contains (clause (equation a b ∷ []) ∷ [])) (clause (disequation (f b) (f a) ∷ r ∷ []))
     (clause (disequation (f a) (f a) ∷ r ∷ []) ∷ clause (r ∷ []) ∷ [])
 two_steps = (
   inr

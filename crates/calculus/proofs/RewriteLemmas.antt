@@ -28,7 +28,7 @@ use Rattle.kbo_order.proofs.ClauseLoops.{In-index}
 use Rattle.kbo_order.proofs.MemberLemmas.{In, In-contains, any-In, In-left, In-right}
 use Rattle.kbo_order.proofs.StableLemmas.{clauses_stable}
 use Rattle.kbo_order.proofs.SubtermLemmas.{smaller_subterms_make_smaller}
-use Rattle.kernel_steps.specs.Inference.{RewritesBy, AllowsRoot, Reduces}
+use Rattle.kernel_steps.specs.Inference.{RewritesBy, AllowsRoot, Reduces, is_tautology, SomeClause}
 use Rattle.kernel_steps.specs.Symbols.{symbols_pass, clause_symbols_pass, literal_symbols_pass}
 use Rattle.kernel_steps.proofs.ItemLemmas.{list_any-set}
 use Rattle.calculus.specs.Symbols.{is_allowed, HasSymbolsOf}
@@ -41,6 +41,7 @@ use Rattle.fol_base.proofs.TestLemmas.{list_all-item, list_all-remove}
 use Rattle.kbo_order.proofs.PartLemmas.{smaller_sides_make_smaller, smaller_literals_make_smaller}
 use Rattle.kernel_steps.proofs.RuleTruth.{superposed_literal-truth}
 use Rattle.kernel_steps.proofs.SymbolLemmas.{side-passes, superposed-passes}
+use Rattle.fol_base.specs.Subsumption.{Subsumes}
 
 -- ---- a rewrite taken apart
 
@@ -166,8 +167,19 @@ fewer-pass :
 fewer-pass test c d k gives pass =
     ap (list_all (literal_symbols_pass test)) gives ∙ list_all-remove (literal_symbols_pass test) c.literals k pass
 
-pub reductions_keep_symbols : ReductionsKeepSymbols
-reductions_keep_symbols is_predicate functions used c d all symbols step =
+-- what may be used has no other symbols
+abbrev pub AllHaveSymbols : {is_predicate : ℕ → Bool} → FunctionSymbols is_predicate → (TreeClause → Type 0) → Type 0
+AllHaveSymbols functions Holds = (e : TreeClause) → Holds e → HasSymbolsOf functions e
+
+listed_symbols :
+    {is_predicate : ℕ → Bool} (functions : FunctionSymbols is_predicate) (used : List TreeClause)
+    → All (HasSymbolsOf functions) used → AllHaveSymbols functions (Contains used)
+listed_symbols functions used all e there = All-contains (HasSymbolsOf functions) used e all there
+
+pub step_keeps_symbols :
+    (is_predicate : ℕ → Bool) (functions : FunctionSymbols is_predicate) (Holds : TreeClause → Type 0) (c d : TreeClause)
+    → AllHaveSymbols functions Holds → HasSymbolsOf functions c → Reduces is_predicate Holds c d → HasSymbolsOf functions d
+step_keeps_symbols is_predicate functions Holds c d all symbols step =
     let test : ℕ → ℕ → Bool = is_allowed functions in
     ⊎_elim
     (λ trivial. fewer-pass test c d trivial.i (sym (resolved-parts c.literals trivial.i d.literals trivial.gives).gives) symbols)
@@ -179,11 +191,15 @@ reductions_keep_symbols is_predicate functions used c d all symbols step =
     ⊎_elim
     (λ rewrite_by.
     rewritten-passes is_predicate test rewrite_by.clause c d rewrite_by.does
-    (All-contains (HasSymbolsOf functions) used rewrite_by.clause all rewrite_by.holds) symbols)
+    (all rewrite_by.clause rewrite_by.holds) symbols)
     (λ cut. fewer-pass test c d cut.does.j cut.does.gives symbols)
     by)
     more)
     step
+
+pub reductions_keep_symbols : ReductionsKeepSymbols
+reductions_keep_symbols is_predicate functions used c d all symbols step =
+    step_keeps_symbols is_predicate functions (Contains used) c d (listed_symbols functions used all) symbols step
 
 -- ---- coverage
 
@@ -273,54 +289,63 @@ reductions_covered is_predicate functions used c d symbols step g made =
 -- ---- steps one after another
 
 steps_keep_symbols :
-    (is_predicate : ℕ → Bool) (functions : FunctionSymbols is_predicate) (used : List TreeClause) (c : TreeClause) (ds : List TreeClause)
-    → All (HasSymbolsOf functions) used → HasSymbolsOf functions c → ReducesThrough is_predicate used c ds → HasSymbolsOf functions (end_of c ds)
-steps_keep_symbols is_predicate functions used c [] all symbols through = symbols
-steps_keep_symbols is_predicate functions used c (d ∷ ds) all symbols through =
-    steps_keep_symbols is_predicate functions used d ds all (reductions_keep_symbols is_predicate functions used c d all symbols through.0) through.1
+    (is_predicate : ℕ → Bool) (functions : FunctionSymbols is_predicate) (Holds : TreeClause → Type 0) (c : TreeClause) (ds : List TreeClause)
+    → AllHaveSymbols functions Holds → HasSymbolsOf functions c → ReducesThrough is_predicate Holds c ds → HasSymbolsOf functions (end_of c ds)
+steps_keep_symbols is_predicate functions Holds c [] all symbols through = symbols
+steps_keep_symbols is_predicate functions Holds c (d ∷ ds) all symbols through =
+    steps_keep_symbols is_predicate functions Holds d ds all (step_keeps_symbols is_predicate functions Holds c d all symbols through.0) through.1
 
 pub steps :
-    (is_predicate : ℕ → Bool) (functions : FunctionSymbols is_predicate) (used : List TreeClause) (c : TreeClause) (ds : List TreeClause)
-    → All (HasSymbolsOf functions) used → HasSymbolsOf functions c → ReducesThrough is_predicate used c ds
-    → CoversEach functions (Together (Contains used) (end_of c ds)) c
-steps is_predicate functions used c [] all symbols through g made =
-    Covered-instance is_predicate functions (Together (Contains used) c) c g (inr refl) made
-steps is_predicate functions used c (d ∷ ds) all symbols through g made =
-    let End : TreeClause → Type 0 = Together (Contains used) (end_of d ds) in
-    let kept : HasSymbolsOf functions d = reductions_keep_symbols is_predicate functions used c d all symbols through.0 in
-    Covered-across is_predicate functions (Together (Contains used) d) End g
+    (is_predicate : ℕ → Bool) (functions : FunctionSymbols is_predicate) (Holds : TreeClause → Type 0) (c : TreeClause) (ds : List TreeClause)
+    → AllHaveSymbols functions Holds → HasSymbolsOf functions c → ReducesThrough is_predicate Holds c ds
+    → CoversEach functions (Together Holds (end_of c ds)) c
+steps is_predicate functions Holds c [] all symbols through g made =
+    Covered-instance is_predicate functions (Together Holds c) c g (inr refl) made
+steps is_predicate functions Holds c (d ∷ ds) all symbols through g made =
+    let End : TreeClause → Type 0 = Together Holds (end_of d ds) in
+    let kept : HasSymbolsOf functions d = step_keeps_symbols is_predicate functions Holds c d all symbols through.0 in
+    Covered-across is_predicate functions (Together Holds d) End g
     (ground_instances_are_ground is_predicate functions c g made)
     (λ e one h of_e.
     ⊎_elim
     (λ there. Covered-instance is_predicate functions End e h (inl there) of_e)
     (λ same.
-    steps is_predicate functions used d ds all kept through.1 h
-    (subst (λ (f : TreeClause). GroundInstance functions f h) same of_e))
+    steps is_predicate functions Holds d ds all kept through.1 h (subst (λ (f : TreeClause). GroundInstance functions f h) same of_e))
     one)
-    (reductions is_predicate functions (Contains used) c d symbols through.0 g made)
+    (reductions is_predicate functions Holds c d symbols through.0 g made)
 
 pub reductions_compose : ReductionsCompose
 reductions_compose is_predicate functions used c ds all symbols through g made =
     Covered-more is_predicate functions (Together (Contains used) (end_of c ds)) (Contains (end_of c ds ∷ used)) g (together-listed used (end_of c ds))
-    (steps is_predicate functions used c ds all symbols through g made)
+    (steps is_predicate functions (Contains used) c ds (listed_symbols functions used all) symbols through g made)
 
-pub reduced_away_covered : ReducedAwayCovered
-reduced_away_covered is_predicate functions used c ds all symbols through away g made =
+-- ---- reduced away
+
+pub reduced_away :
+    (is_predicate : ℕ → Bool) (functions : FunctionSymbols is_predicate) (Holds : TreeClause → Type 0) (c : TreeClause) (ds : List TreeClause)
+    → AllHaveSymbols functions Holds → HasSymbolsOf functions c → ReducesThrough is_predicate Holds c ds
+    → (is_tautology (end_of c ds) ≡ true) ⊎ SomeClause Holds (λ u. Subsumes is_predicate u (end_of c ds))
+    → CoversEach functions Holds c
+reduced_away is_predicate functions Holds c ds all symbols through away g made =
     let end : TreeClause = end_of c ds in
-    let kept : HasSymbolsOf functions end = steps_keep_symbols is_predicate functions used c ds all symbols through in
-    let end_covered : CoversEach functions (Contains used) end = λ h of_end.
+    let kept : HasSymbolsOf functions end = steps_keep_symbols is_predicate functions Holds c ds all symbols through in
+    let end_covered : CoversEach functions Holds end = λ h of_end.
     ⊎_elim
-    (λ tautology. tautologies is_predicate functions (Contains used) end tautology h of_end)
+    (λ tautology. tautologies is_predicate functions Holds end tautology h of_end)
     (λ by.
-    Covered-more is_predicate functions (λ e. e ≡ by.clause) (Contains used) h
-    (λ e same. subst (λ (f : TreeClause). Contains used f) (sym same) by.holds)
+    Covered-more is_predicate functions (λ e. e ≡ by.clause) Holds h
+    (λ e same. subst (λ (f : TreeClause). Holds f) (sym same) by.holds)
     (subsumed is_predicate functions by.clause end kept by.does h of_end))
     away in
-    Covered-across is_predicate functions (Together (Contains used) end) (Contains used) g
+    Covered-across is_predicate functions (Together Holds end) Holds g
     (ground_instances_are_ground is_predicate functions c g made)
     (λ e one h of_e.
     ⊎_elim
-    (λ there. Covered-instance is_predicate functions (Contains used) e h there of_e)
+    (λ there. Covered-instance is_predicate functions Holds e h there of_e)
     (λ same. end_covered h (subst (λ (f : TreeClause). GroundInstance functions f h) same of_e))
     one)
-    (steps is_predicate functions used c ds all symbols through g made)
+    (steps is_predicate functions Holds c ds all symbols through g made)
+
+pub reduced_away_covered : ReducedAwayCovered
+reduced_away_covered is_predicate functions used c ds all symbols through away g made =
+    reduced_away is_predicate functions (Contains used) c ds (listed_symbols functions used all) symbols through away g made

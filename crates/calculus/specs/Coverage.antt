@@ -51,10 +51,10 @@ RenamedCovered =
 
 -- ---- steps one after another
 
--- reducing steps lead from c through each clause of the list in turn
-abbrev pub ReducesThrough : (ℕ → Bool) → List TreeClause → TreeClause → List TreeClause → Type 0
-ReducesThrough is_predicate used c [] = Unit {0}
-ReducesThrough is_predicate used c (d ∷ ds) = Reduces is_predicate (Contains used) c d × ReducesThrough is_predicate used d ds
+-- reducing steps, by clauses that satisfy the predicate, lead from c through each clause of the list in turn
+abbrev pub ReducesThrough : (ℕ → Bool) → (TreeClause → Type 0) → TreeClause → List TreeClause → Type 0
+ReducesThrough is_predicate Holds c [] = Unit {0}
+ReducesThrough is_predicate Holds c (d ∷ ds) = Reduces is_predicate Holds c d × ReducesThrough is_predicate Holds d ds
 
 -- where they end: at the last clause of the list, or at c where no step is made
 abbrev pub end_of : TreeClause → List TreeClause → TreeClause
@@ -72,13 +72,13 @@ ReductionsKeepSymbols =
 abbrev pub ReductionsCompose : Type 0
 ReductionsCompose =
     (is_predicate : ℕ → Bool) (functions : FunctionSymbols is_predicate) (used : List TreeClause) (c : TreeClause) (ds : List TreeClause)
-    → All (HasSymbolsOf functions) used → HasSymbolsOf functions c → ReducesThrough is_predicate used c ds
+    → All (HasSymbolsOf functions) used → HasSymbolsOf functions c → ReducesThrough is_predicate (Contains used) c ds
     → CoversInstancesOf functions (end_of c ds ∷ used) c
 
 -- a clause that is reduced away, to a tautology or to what one of the clauses that may be used subsumes: by these alone
 abbrev pub ReducedAwayCovered : Type 0
 ReducedAwayCovered =
     (is_predicate : ℕ → Bool) (functions : FunctionSymbols is_predicate) (used : List TreeClause) (c : TreeClause) (ds : List TreeClause)
-    → All (HasSymbolsOf functions) used → HasSymbolsOf functions c → ReducesThrough is_predicate used c ds
+    → All (HasSymbolsOf functions) used → HasSymbolsOf functions c → ReducesThrough is_predicate (Contains used) c ds
     → IsTrue (is_tautology (end_of c ds)) ⊎ SomeClause (Contains used) (λ u. Subsumes is_predicate u (end_of c ds))
     → CoversInstancesOf functions used c

@@ -1,7 +1,7 @@
 // Worked examples: of the words that the laws use; why the places at and below variables are left out; why a root is rewritten only
 // below the other side.
 
-ghost use Rattle.std.specs.Prelude.{◌≡◌, ℕ, List, [], ◌∷◌, Some, IsTrue, IsFalse};
+ghost use Rattle.std.specs.Prelude.{◌≡◌, ℕ, List, [], ◌∷◌, Some, Contains, IsTrue, IsFalse};
 ghost use Rattle.fol_base.specs.Clause.{TreeClause};
 ghost use Rattle.fol_base.specs.Ground.{literals_instance};
 ghost use Rattle.fol_base.specs.Rules.{disequation, superposed};
@@ -26,7 +26,7 @@ pub fn symbol_examples()
 
 /// Reducing steps one after another: `a = b` leads `f(b) != f(a) | r` to `f(a) != f(a) | r`, which is reduced to `r`.
 pub fn steps_examples()
-    ensures two_steps { ReducesThrough is_predicate (clause (equation a b ∷ []) ∷ []) (clause (disequation (f b) (f a) ∷ r ∷ []))
+    ensures two_steps { ReducesThrough is_predicate (Contains (clause (equation a b ∷ []) ∷ [])) (clause (disequation (f b) (f a) ∷ r ∷ []))
         (clause (disequation (f a) (f a) ∷ r ∷ []) ∷ clause (r ∷ []) ∷ []) }
     ensures end { end_of (clause (disequation (f b) (f a) ∷ r ∷ [])) (clause (disequation (f a) (f a) ∷ r ∷ []) ∷ clause (r ∷ []) ∷ []) ≡ clause (r ∷ []) }
     ensures no_step { end_of (clause (r ∷ [])) [] ≡ clause (r ∷ []) }
