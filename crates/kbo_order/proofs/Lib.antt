@@ -11,4 +11,5 @@ pub mod SubtermLemmas
 pub mod GroundLemmas
 pub mod AnswerLemmas
 pub mod SideLemmas
+pub mod PartLemmas
 pub mod ClauseLoops

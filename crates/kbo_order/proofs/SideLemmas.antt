@@ -22,10 +22,10 @@ use Rattle.kbo_order.proofs.FurtherLemmas.{greater-true}
 use Rattle.kbo_order.proofs.StrictOrderLemmas.{sides, sides-swapped, trees_ordered}
 use Rattle.kbo_order.proofs.AnswerLemmas.{and-decides, or-decides, choice-decides, Decides-same, compared-answer, compared-reversed, greater-decides, equal-decides}
 
-abbrev Exceeds : List Tree → List Tree → Type 0
+abbrev pub Exceeds : List Tree → List Tree → Type 0
 Exceeds xs ys = MultisetGreater tree_eq tree_greater xs ys
 
-abbrev count : Tree → List Tree → ℕ
+abbrev pub count : Tree → List Tree → ℕ
 count z xs = times tree_eq z xs
 
 -- ---- counts of sides
@@ -60,10 +60,10 @@ twice : (z t u : Tree) → count z (sides false t u) ≡ 2 * hit z t + 2 * hit z
 twice z t u = omega arith
 
 -- a side as often as its literal's sign has it
-abbrev copies : Bool → Tree → List Tree
+abbrev pub copies : Bool → Tree → List Tree
 copies positive t = if positive then (t ∷ []) else (t ∷ t ∷ [])
 
-copies-count : (p : Bool) (z t u : Tree) → count z (sides p t u) ≡ count z (copies p t) + count z (copies p u)
+pub copies-count : (p : Bool) (z t u : Tree) → count z (sides p t u) ≡ count z (copies p t) + count z (copies p u)
 copies-count true z t u = omega arith
 copies-count false z t u = omega arith
 
@@ -107,7 +107,7 @@ turned p u v xs greater =
 
 -- ---- above a side
 
-greater_is : (s t : Tree) → tree_greater s t ≡ true → TreeGreater s t
+pub greater_is : (s t : Tree) → tree_greater s t ≡ true → TreeGreater s t
 greater_is s t h = (tree_greater_decided s t).0 h
 
 abbrev Above : Tree → Tree → Tree → Type 0
@@ -185,7 +185,7 @@ reached-one s t u v greater =
     (cases_same u t))
     (cases_same u s)
 
-greater-differ : (s t : Tree) → TreeGreater s t → s ≡ t → ⊥
+pub greater-differ : (s t : Tree) → TreeGreater s t → s ≡ t → ⊥
 greater-differ s t g e =
     true≢false (sym (greater-true s t g) ∙ ap (λ (x : Tree). tree_greater x t) e ∙ trees_ordered.is_irreflexive t)
 
@@ -254,7 +254,7 @@ reached-greater s t u v h =
 -- ---- one sign
 
 -- what two multisets have in common cancels out
-beside :
+pub beside :
     (p : Bool) (xs ys : List Tree) (a b d : Tree)
     → ((z : Tree) → count z xs ≡ count z (copies p a) + count z (copies p b))
     → ((z : Tree) → count z ys ≡ count z (copies p a) + count z (copies p d))

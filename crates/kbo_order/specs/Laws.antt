@@ -1,11 +1,13 @@
 -- Laws of the order.
-use Rattle.std.specs.Prelude.{◌≡◌, ℕ, ◌⊎◌, Bool, Some, List, [], IsTrue, IsFalse}
+use Rattle.std.specs.Prelude.{◌≡◌, ℕ, ◌≤◌, ◌⊎◌, Bool, Some, List, [], slice_get, slice_set, IsTrue, IsFalse}
 use Rattle.fol_base.specs.Tree.{Tree, tree_eq}
 use Rattle.fol_base.specs.Instance.{Substitution, instance}
 use Rattle.fol_base.specs.Place.{subterm, replaced}
 use Rattle.fol_base.specs.Clause.{TreeLiteral, literal_instance}
+use Rattle.fol_base.specs.Sides.{side_of, with_side}
+use Rattle.fol_base.specs.declared.clause.Side.{Side}
 use Rattle.fol_base.specs.Ground.{is_ground, is_ground_literal, is_ground_clause, literals_instance}
-use Rattle.fol_base.specs.Multiset.{unordered}
+use Rattle.fol_base.specs.Multiset.{unordered, times}
 use Rattle.fol_base.specs.Order.{tree_greater, compare_trees, equivalent_literals, literal_greater, compare_literals, equivalent_clauses, clause_greater, compare_clauses}
 use Rattle.kbo_order.specs.StrictOrder.{IsStrictOrder}
 
@@ -43,6 +45,31 @@ abbrev pub SmallerSubtermsMakeSmaller : Type 0
 SmallerSubtermsMakeSmaller =
     (place : List ℕ) (t old new made : Tree)
     → subterm place t ≡ Some old → replaced place new t ≡ Some made → IsTrue (tree_greater old new) → IsTrue (tree_greater t made)
+
+-- a smaller side makes a smaller literal
+abbrev pub SmallerSidesMakeSmaller : Type 0
+SmallerSidesMakeSmaller =
+    (side : Side) (l : TreeLiteral) (t : Tree)
+    → IsTrue (tree_greater (side_of side l) t) → IsTrue (literal_greater l (with_side side t l))
+
+-- a smaller literal makes a smaller clause
+abbrev pub SmallerLiteralsMakeSmaller : Type 0
+SmallerLiteralsMakeSmaller =
+    (c : List TreeLiteral) (i : ℕ) (l m : TreeLiteral)
+    → slice_get c i ≡ Some l → IsTrue (literal_greater l m) → IsTrue (clause_greater c (slice_set c i m))
+
+-- a clause is part of another where no literal stands in it more often, sides in either order
+abbrev pub IsPartOf : List TreeLiteral → List TreeLiteral → Type 0
+IsPartOf c d = (l : TreeLiteral) → times equivalent_literals l c ≤ times equivalent_literals l d
+
+-- a part of a clause isn't greater than the whole
+abbrev pub PartsAreNotGreater : Type 0
+PartsAreNotGreater = (c d : List TreeLiteral) → IsPartOf c d → IsFalse (clause_greater c d)
+
+-- a part that isn't the whole is smaller
+abbrev pub ProperPartsAreSmaller : Type 0
+ProperPartsAreSmaller =
+    (c d : List TreeLiteral) → IsPartOf c d → IsFalse (equivalent_clauses c d) → IsTrue (clause_greater d c)
 
 -- of two ground trees that differ, or two ground literals or clauses that aren't the same for the order, one is greater
 abbrev pub GroundTreesCompare : Type 0

@@ -9,6 +9,10 @@ ghost use Rattle.kbo_order.specs.Laws.{
   ClausesStable,
   ProperSubtermsAreSmaller,
   SmallerSubtermsMakeSmaller,
+  SmallerSidesMakeSmaller,
+  SmallerLiteralsMakeSmaller,
+  PartsAreNotGreater,
+  ProperPartsAreSmaller,
   GroundTreesCompare,
   GroundLiteralsCompare,
   GroundClausesCompare,
@@ -34,6 +38,18 @@ pub fn order_is_stable()
 pub fn order_of_subterms()
     ensures smaller { ProperSubtermsAreSmaller }
     ensures made_smaller { SmallerSubtermsMakeSmaller }
+{}
+
+/// A smaller side makes a smaller literal, and a smaller literal a smaller clause.
+pub fn order_of_changed_clauses()
+    ensures literals { SmallerSidesMakeSmaller }
+    ensures clauses { SmallerLiteralsMakeSmaller }
+{}
+
+/// A part of a clause isn't greater than the whole, and a part that isn't the whole is smaller.
+pub fn order_of_parts()
+    ensures not_greater { PartsAreNotGreater }
+    ensures smaller { ProperPartsAreSmaller }
 {}
 
 /// Of two ground terms that differ one is greater, and likewise of ground literals and clauses that aren't

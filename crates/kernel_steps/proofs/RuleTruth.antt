@@ -48,7 +48,7 @@ with_side-truth i ρ Left new l e = ap (λ v. sides_true l.positive v (tree_valu
 with_side-truth i ρ Right new l e = ap (λ v. sides_true l.positive (tree_value i ρ l.left) v) e
 
 -- a superposed literal is true where the old one is, if the equation is
-superposed_literal-truth :
+pub superposed_literal-truth :
     (i : Interpretation) (ρ : Assignment) (from into made : TreeLiteral) (s z : Side) (place : List ℕ)
     → superposed_literal from s into z place ≡ Some made → literal_true_under i ρ from ≡ true
     → literal_true_under i ρ made ≡ literal_true_under i ρ into
@@ -74,7 +74,7 @@ sides_true-swap false v w holds =
     (cases_Bool (w == v))
 
 -- equivalent literals are true together
-equivalent-truth :
+pub equivalent-truth :
     (i : Interpretation) (ρ : Assignment) (l k : TreeLiteral)
     → equivalent_literals l k ≡ true → literal_true_under i ρ k ≡ true → literal_true_under i ρ l ≡ true
 equivalent-truth i ρ l k same holds =

@@ -55,7 +55,7 @@ count_set no_trees k new = refl
 count_set (tree_then t ts) zero new = ap (λ n. 1 + n) (ap trees_count (trees_of-list_of ts))
 count_set (tree_then t ts) (suc k) new = ap (λ n. 1 + n) (count_set ts k new)
 
-passes-argument :
+pub passes-argument :
     (test : SymbolTest) (k : ℕ) (t a : Tree) → argument k t ≡ Some a → symbols_pass test t ≡ true → symbols_pass test a ≡ true
 passes-argument test k (variable v) a there h = absurd (none-some a there)
 passes-argument test k (application f ts) a there h =
@@ -99,7 +99,7 @@ mutual
 
 -- ---- literals
 
-side-passes : (test : SymbolTest) (s : Side) (l : TreeLiteral) → literal_symbols_pass test l ≡ true → symbols_pass test (side_of s l) ≡ true
+pub side-passes : (test : SymbolTest) (s : Side) (l : TreeLiteral) → literal_symbols_pass test l ≡ true → symbols_pass test (side_of s l) ≡ true
 side-passes test Left l h = (and_parts (symbols_pass test l.left) (symbols_pass test l.right) h).0
 side-passes test Right l h = (and_parts (symbols_pass test l.left) (symbols_pass test l.right) h).1
 
@@ -126,7 +126,7 @@ literal-instance-passes test σ puts l h =
 abbrev Pass : SymbolTest → List TreeLiteral → Type 0
 Pass test ls = list_all (literal_symbols_pass test) ls ≡ true
 
-superposed-passes :
+pub superposed-passes :
     (test : SymbolTest) (first : List TreeLiteral) (i : ℕ) (s : Side) (second : List TreeLiteral) (j : ℕ) (z : Side) (place : List ℕ) (made : List TreeLiteral)
     → superposed first i s second j z place ≡ Some made → Pass test first → Pass test second → Pass test made
 superposed-passes test first i s second j z place made h first_pass second_pass =

@@ -10,7 +10,7 @@ use Rattle.fol_base.specs.Instance.{Substitution}
 use Rattle.fol_base.specs.Clause.{TreeLiteral, literal_instance}
 use Rattle.fol_base.specs.Ground.{literals_instance}
 use Rattle.fol_base.specs.Order.{literal_greater, equivalent_literals, compare_literals}
-use Rattle.fol_base.specs.Selection.{chosen, is_maximal, is_maximal_at, eligible}
+use Rattle.fol_base.specs.Selection.{is_maximal, is_maximal_at, eligible}
 use Rattle.kbo_order.specs.declared.cmp.Cmp.{Cmp}
 use Rattle.kbo_order.specs.declared.cmp.Cmp.TheVariants.{Greater, Less, Equal, Unordered}
 use Rattle.kbo_order.specs.Cmp.{comparison_of, is_greater, is_equal}
@@ -62,15 +62,12 @@ maximal-lifts σ strict (Some l) others h =
     (map (literal_instance σ) others) h (literal_instance σ m) (In-map (literal_instance σ) m others there)))
 
 pub eligible_lifts : EligibleLifts
-eligible_lifts mode ls σ i strict h = by_choice (chosen mode ls) h
-  where
-    by_choice : (c : Option ℕ) → eligible (literals_instance σ ls) i c strict ≡ true → eligible ls i c strict ≡ true
-    by_choice (Some k) h = h
-    by_choice None h =
-        maximal-lifts σ strict (slice_get ls i) (remove ls i)
-        (ap (λ (o : Option TreeLiteral). is_maximal_at strict o (map (literal_instance σ) (remove ls i))) (sym (slice_get-map (literal_instance σ) ls i))
-        ∙ ap (λ (ks : List TreeLiteral). is_maximal_at strict (slice_get (literals_instance σ ls) i) ks) (sym (remove-map (literal_instance σ) ls i))
-        ∙ h)
+eligible_lifts ls (Some k) σ i strict h = h
+eligible_lifts ls None σ i strict h =
+    maximal-lifts σ strict (slice_get ls i) (remove ls i)
+    (ap (λ (o : Option TreeLiteral). is_maximal_at strict o (map (literal_instance σ) (remove ls i))) (sym (slice_get-map (literal_instance σ) ls i))
+    ∙ ap (λ (ks : List TreeLiteral). is_maximal_at strict (slice_get (literals_instance σ ls) i) ks) (sym (remove-map (literal_instance σ) ls i))
+    ∙ h)
 
 -- ---- the test of one other literal
 

@@ -1,11 +1,12 @@
 -- The law of eligible literals.
-use Rattle.std.specs.Prelude.{ℕ, Bool, List, IsTrue}
+use Rattle.std.specs.Prelude.{ℕ, Bool, List, Option, IsTrue}
 use Rattle.fol_base.specs.Instance.{Substitution}
 use Rattle.fol_base.specs.Clause.{TreeLiteral}
-use Rattle.fol_base.specs.Selection.{SelectionMode, chosen, eligible, eligible_in_instance}
+use Rattle.fol_base.specs.Ground.{literals_instance}
+use Rattle.fol_base.specs.Selection.{eligible}
 
--- eligible in an instance is eligible in the clause
+-- what is eligible in an instance, with any choice made before, is eligible in the clause
 abbrev pub EligibleLifts : Type 0
 EligibleLifts =
-    (mode : SelectionMode) (ls : List TreeLiteral) (σ : Substitution) (i : ℕ) (strict : Bool)
-    → IsTrue (eligible_in_instance mode ls σ i strict) → IsTrue (eligible ls i (chosen mode ls) strict)
+    (ls : List TreeLiteral) (choice : Option ℕ) (σ : Substitution) (i : ℕ) (strict : Bool)
+    → IsTrue (eligible (literals_instance σ ls) i choice strict) → IsTrue (eligible ls i choice strict)

@@ -2,7 +2,7 @@
 
 ghost use Rattle.literal_selection.specs.Laws.{EligibleLifts};
 
-/// A literal that is eligible in an instance of a clause, with the choice made before, is eligible in the
+/// A literal that is eligible in an instance of a clause, with any choice made before, is eligible in the
 /// clause. So it is for ground instances.
 pub fn eligible_literals_lift()
     ensures { EligibleLifts }

@@ -1,0 +1,153 @@
+-- Worked examples of steps one after another, and of clauses that have the conclusions of what is named among others.
+use Rattle.std.proofs.Common.{◌≡◌, ℕ, zero, suc, true, false, ◌==◌, List, [], ◌∷◌, Some, refl, ap, sym, ◌∙◌, subst, inl, inr, arith}
+use Rattle.std.specs.Prelude.{slice_get, Contains, IsTrue, IsFalse}
+use Rattle.std.proofs.lemmas.Bool.{true≢false}
+use Rattle.std.proofs.lemmas.Option.{none-some, same_Some}
+use Rattle.std.proofs.lemmas.List.Elements.{All-nil}
+use Rattle.fol_base.specs.Tree.{Tree, true_tree, tree_eq}
+use Rattle.fol_base.specs.Instance.{Substitution, instance}
+use Rattle.fol_base.specs.Place.{subterm}
+use Rattle.fol_base.specs.Clause.{TreeLiteral, TreeClause}
+use Rattle.fol_base.specs.Sides.{side_of, other_side_of}
+use Rattle.fol_base.specs.Rules.{disequation}
+use Rattle.fol_base.specs.Ground.{literals_instance}
+use Rattle.fol_base.specs.Selection.{select_nothing, select_negative}
+use Rattle.fol_base.specs.Examples.{x, a, b, f, p, q, r, equation, clause, is_predicate, all_a}
+use Rattle.fol_base.specs.declared.clause.Side.{Side}
+use Rattle.fol_base.specs.declared.clause.Side.TheVariants.{Left, Right}
+use Rattle.fol_base.proofs.RuleLemmas.{resolved-parts, factored-parts}
+use Rattle.kernel_steps.specs.Examples.{not_p, not_true}
+use Rattle.kernel_steps.specs.Inference.{are_of_one_kind, NamedSuperposition, NamedResolution, NamedFactoring}
+use Rattle.kernel_steps.specs.Named.{IsInference}
+use Rattle.kernel_steps.specs.declared.key.Key.{Key}
+use Rattle.kernel_steps.specs.declared.key.Key.TheVariants.{Para, Refl, Factor, Replaced}
+use Rattle.kernel_steps.proofs.SuperpositionExamples.{superposition}
+use Rattle.calculus.specs.Coverage.{ReducesThrough}
+use Rattle.calculus.specs.Lifting.{HasConclusionsOf}
+
+-- ---- f(b) != f(a) | r, by a = b
+
+pub two_steps :
+    ReducesThrough is_predicate (Contains (clause (equation a b ∷ []) ∷ [])) (clause (disequation (f b) (f a) ∷ r ∷ []))
+    (clause (disequation (f a) (f a) ∷ r ∷ []) ∷ clause (r ∷ []) ∷ [])
+two_steps = (
+  inr
+      (inr
+      (inl
+      (record {
+        clause = clause (equation a b ∷ []);
+        holds = (0, omega arith, refl);
+        does =
+            record {
+              equation = equation a b;
+              is_unit = refl;
+              from_side = Right;
+              j = 0;
+              literal = disequation (f b) (f a);
+              literal_there = refl;
+              into_side = Left;
+              place = 0 ∷ [];
+              old = b;
+              old_there = refl;
+              one_kind = refl;
+              matcher = all_a;
+              function_terms = λ v. refl;
+              matches = refl;
+              greater = refl;
+              no_new_variables = All-nil _;
+              root_allowed = λ positive root. absurd (true≢false (sym positive));
+              asserted = refl;
+              gives = refl;
+              names = refl;
+            };
+      }))),
+  (inl (record { i = 0; gives = refl; names = refl }), tt),
+)
+
+-- ---- nothing is named among r alone
+
+only : {X : Type 0} (x y : X) (k : ℕ) → slice_get (x ∷ []) k ≡ Some y → x ≡ y
+only x y zero there = same_Some x y there
+only x y (suc k) there = absurd (none-some y there)
+
+no_superposition :
+    (s z : Side) (place : List ℕ) (old : Tree) (σ τ : Substitution)
+    → subterm place (side_of z r) ≡ Some old → are_of_one_kind is_predicate (side_of s r) old ≡ true
+    → (IsTrue r.positive → place ≡ [] → IsFalse (tree_eq (instance σ (other_side_of s r)) (instance τ (other_side_of z r))))
+    → ⊥
+no_superposition Left Left [] old σ τ there kind others_differ = true≢false (others_differ refl refl)
+no_superposition Left Left (k ∷ place) old σ τ there kind others_differ = absurd (none-some old there)
+no_superposition Left Right [] old σ τ there kind others_differ =
+    true≢false (sym kind ∙ ap (are_of_one_kind is_predicate r.left) (sym (same_Some true_tree old there)))
+no_superposition Left Right (k ∷ place) old σ τ there kind others_differ = absurd (none-some old there)
+no_superposition Right z place old σ τ there kind others_differ = true≢false (sym kind)
+
+abbrev alone : TreeClause
+alone = clause (r ∷ [])
+
+superposition_of_r :
+    (i : ℕ) (s : Side) (j : ℕ) (z : Side) (place : List ℕ) (d : TreeClause)
+    → NamedSuperposition is_predicate select_nothing alone i s alone j z place d → ⊥
+superposition_of_r i s j z place d n =
+    let from_is : r ≡ n.from = only r n.from i n.from_there in
+    let into_is : r ≡ n.into = only r n.into j n.into_there in
+    no_superposition s z place n.old n.first_unifier n.second_unifier
+    (ap (λ (l : TreeLiteral). subterm place (side_of z l)) into_is ∙ n.old_there)
+    (ap (λ (l : TreeLiteral). are_of_one_kind is_predicate (side_of s l) n.old) from_is ∙ n.one_kind)
+    (λ positive root.
+    ap (λ (l : TreeLiteral). tree_eq (instance n.first_unifier (other_side_of s l)) (instance n.second_unifier (other_side_of z r))) from_is
+    ∙ ap (λ (l : TreeLiteral). tree_eq (instance n.first_unifier (other_side_of s n.from)) (instance n.second_unifier (other_side_of z l))) into_is
+    ∙ n.others_differ (ap (λ (l : TreeLiteral). l.positive) (sym into_is) ∙ positive) root)
+
+resolution_of_r : (i : ℕ) (d : TreeClause) → NamedResolution select_nothing alone i d → ⊥
+resolution_of_r i d n =
+    let parts = resolved-parts (literals_instance n.unifier (r ∷ [])) i d.literals n.concludes in
+    true≢false (ap (λ (l : TreeLiteral). l.positive) (only r parts.literal i parts.literal_there) ∙ parts.negative)
+
+two_places : (i j : ℕ) (l m : TreeLiteral) → slice_get (r ∷ []) i ≡ Some l → slice_get (r ∷ []) j ≡ Some m → (i == j) ≡ false → ⊥
+two_places zero zero l m at_i at_j differ = true≢false differ
+two_places zero (suc j) l m at_i at_j differ = absurd (none-some m at_j)
+two_places (suc i) j l m at_i at_j differ = absurd (none-some l at_i)
+
+factoring_of_r :
+    (i : ℕ) (s : Side) (j : ℕ) (z : Side) (d : TreeClause) → NamedFactoring is_predicate select_nothing alone i s j z d → ⊥
+factoring_of_r i s j z d n =
+    let parts = factored-parts (literals_instance n.unifier (r ∷ [])) i s j z d.literals n.concludes in
+    two_places i j n.literal_i n.literal_j n.i_there n.j_there parts.differ
+
+none_among_r : (key : Key) (d : TreeClause) → IsInference is_predicate select_nothing (slice_get (alone ∷ [])) key d → ⊥
+none_among_r (Para first from s second into z place) d it =
+    superposition_of_r from s into z place d
+    (subst (λ (c : TreeClause). NamedSuperposition is_predicate select_nothing alone from s c into z place d)
+    (sym (only alone it.second_clause second it.second_there))
+    (subst (λ (c : TreeClause). NamedSuperposition is_predicate select_nothing c from s it.second_clause into z place d)
+    (sym (only alone it.first_clause first it.first_there)) it.infers))
+none_among_r (Refl k i) d it =
+    resolution_of_r i d
+    (subst (λ (c : TreeClause). NamedResolution select_nothing c i d) (sym (only alone it.clause k it.there)) it.infers)
+none_among_r (Factor k i s j z) d it =
+    factoring_of_r i s j z d
+    (subst (λ (c : TreeClause). NamedFactoring is_predicate select_nothing c i s j z d) (sym (only alone it.clause k it.there)) it.infers)
+none_among_r (Replaced k) d it = it
+
+pub nothing_named : HasConclusionsOf is_predicate select_nothing (clause (r ∷ []) ∷ []) []
+nothing_named key d it = absurd (none_among_r key d it)
+
+-- ---- ~p(X0) | q(X0) and p(a) have a superposition
+
+nothing_there : (c : TreeClause) → Contains [] c → ⊥
+nothing_there c there = absurd (omega (arith, there.1))
+
+pub one_missing :
+    HasConclusionsOf is_predicate select_negative (clause (not_p (x 0) ∷ q (x 0) ∷ []) ∷ clause (p a ∷ []) ∷ []) [] → ⊥
+one_missing closed =
+    let found =
+    closed (Para 1 0 Left 0 0 Left []) (clause (not_true ∷ q a ∷ []))
+    (record {
+      first_clause = clause (p a ∷ []);
+      first_there = refl;
+      second_clause = clause (not_p (x 0) ∷ q (x 0) ∷ []);
+      second_there = refl;
+      infers = superposition;
+    }) in
+    nothing_there found.0 found.1

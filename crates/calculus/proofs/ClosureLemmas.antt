@@ -1,0 +1,131 @@
+-- Conclusions of the named inferences among clauses cover the conclusions of the ground inferences among them.
+use Rattle.std.proofs.Common.{◌≡◌, ℕ, Bool, true, List, [], Some, ap, sym, ◌∙◌, subst, ⊎_elim, Option, false}
+use Rattle.std.specs.Prelude.{Contains, slice_get}
+use Rattle.std.specs.List.{list_any}
+use Rattle.std.proofs.lemmas.Bool.{or_left}
+use Rattle.std.proofs.lemmas.Option.{same_Some, slice_get-get_or}
+use Rattle.std.proofs.lemmas.List.Elements.{All-nil}
+use Rattle.fol_base.specs.Clause.{TreeClause}
+use Rattle.fol_base.specs.Symbols.{FunctionSymbols}
+use Rattle.fol_base.specs.Ground.{GroundClause}
+use Rattle.fol_base.specs.Interpretation.{no_values}
+use Rattle.fol_base.specs.Order.{equivalent_literals, clause_greater}
+use Rattle.fol_base.specs.GroundInference.{GroundSuperposition, GroundResolution, GroundFactoring, GroundConclusion}
+use Rattle.fol_base.specs.Covered.{InstanceOf, Covered}
+use Rattle.fol_base.proofs.TestLemmas.{list_any-weaker}
+use Rattle.fol_base.proofs.CoverageLemmas.{Covered-instance}
+use Rattle.kernel_steps.specs.Derivation.{complement}
+use Rattle.kernel_steps.specs.Inference.{NamedSuperposition, NamedResolution, NamedFactoring, makes_tautology}
+use Rattle.kernel_steps.specs.declared.key.Key.TheVariants.{Para, Refl, Factor}
+use Rattle.calculus.specs.Lifting.{has_equal_sides, GroundConclusionsCovered, HasConclusionsOf}
+use Rattle.calculus.proofs.CoverLemmas.{tautology-true}
+use Rattle.calculus.proofs.LiftRules.{resolutions_lift, factorings_lift, superpositions_lift}
+use Rattle.calculus.proofs.ReachLemmas.{resolutions_reach_all, factorings_reach_all, superpositions_reach_all}
+use Rattle.fol_base.specs.declared.clause.Side.{Side}
+use Rattle.fol_base.specs.Selection.{SelectionMode}
+
+-- a ground clause with a literal `t = t` is covered by anything
+equal_sides_covered :
+    (is_predicate : ℕ → Bool) (functions : FunctionSymbols is_predicate) (Holds : TreeClause → Type 0) (g : GroundClause)
+    → list_any has_equal_sides g ≡ true → Covered functions Holds g
+equal_sides_covered is_predicate functions Holds g h =
+    let c : TreeClause = record { literals = g; names = [] } in
+    record {
+      by = [];
+      instances = All-nil (InstanceOf functions Holds);
+      none_greater = All-nil (λ x. clause_greater x g ≡ false);
+      entailed = λ i ok all.
+          tautology-true i no_values c
+          (list_any-weaker has_equal_sides (makes_tautology g)
+          (λ l equal. or_left (has_equal_sides l) (list_any (equivalent_literals (complement l)) g) equal) g h);
+    }
+
+-- for each inference that is named among the clauses of one predicate, one of its conclusions satisfies another
+pub record HasConclusions (is_predicate : ℕ → Bool) (mode : SelectionMode) (Holds : TreeClause → Type 0) (Concludes : TreeClause → Type 0) : Type 0 where
+  pub superposes :
+      (first second : TreeClause) → Holds first → Holds second → (i : ℕ) (s : Side) (j : ℕ) (z : Side) (place : List ℕ) (d : TreeClause)
+      → NamedSuperposition is_predicate mode first i s second j z place d
+      → (e : TreeClause) × Concludes e × NamedSuperposition is_predicate mode first i s second j z place e
+  pub resolves :
+      (c : TreeClause) → Holds c → (i : ℕ) (d : TreeClause) → NamedResolution mode c i d → (e : TreeClause) × Concludes e × NamedResolution mode c i e
+  pub factors :
+      (c : TreeClause) → Holds c → (i : ℕ) (s : Side) (j : ℕ) (z : Side) (d : TreeClause)
+      → NamedFactoring is_predicate mode c i s j z d → (e : TreeClause) × Concludes e × NamedFactoring is_predicate mode c i s j z e
+
+pub conclusion_covered :
+    (is_predicate : ℕ → Bool) (functions : FunctionSymbols is_predicate) (mode : SelectionMode) (Holds Concludes : TreeClause → Type 0) (g : GroundClause)
+    → HasConclusions is_predicate mode Holds Concludes → GroundConclusion functions mode Holds g → Covered functions Concludes g
+conclusion_covered is_predicate functions mode Holds Concludes g closed conclusion =
+    ⊎_elim
+    (λ two.
+    let first : TreeClause = two.0 in
+    let second : TreeClause = two.1 in
+    let r : GroundSuperposition functions mode first second g = two.4 in
+    ⊎_elim
+    (λ named.
+    let found = closed.superposes first second two.2 two.3 r.i r.from_side r.j r.into_side r.place named.clause named.holds in
+    Covered-instance is_predicate functions Concludes found.0 g found.1
+    (superpositions_reach_all is_predicate functions mode first second g r found.0 found.2))
+    (λ equal. equal_sides_covered is_predicate functions Concludes g equal)
+    (superpositions_lift is_predicate functions mode first second g r))
+    (λ one.
+    ⊎_elim
+    (λ resolving.
+    let c : TreeClause = resolving.0 in
+    let r : GroundResolution functions mode c g = resolving.2 in
+    let named = resolutions_lift is_predicate functions mode c g r in
+    let found = closed.resolves c resolving.1 r.i named.clause named.holds in
+    Covered-instance is_predicate functions Concludes found.0 g found.1
+    (resolutions_reach_all is_predicate functions mode c g r found.0 found.2))
+    (λ factoring.
+    let c : TreeClause = factoring.0 in
+    let r : GroundFactoring functions mode c g = factoring.2 in
+    let named = factorings_lift is_predicate functions mode c g r in
+    let found = closed.factors c factoring.1 r.i r.side_i r.j r.side_j named.clause named.holds in
+    Covered-instance is_predicate functions Concludes found.0 g found.1
+    (factorings_reach_all is_predicate functions mode c g r found.0 found.2))
+    one)
+    conclusion
+
+-- ---- clauses of lists, by their places
+
+-- where a member stands
+place_there : (cs : List TreeClause) (c : TreeClause) → Contains cs c → (k : ℕ) × (slice_get cs k ≡ Some c)
+place_there cs c there =
+    (there.0, slice_get-get_or cs there.0 c there.1 ∙ ap (λ d. let o : Option TreeClause = Some d in o) there.2)
+
+listed_conclusions :
+    (is_predicate : ℕ → Bool) (mode : SelectionMode) (cs ds : List TreeClause)
+    → HasConclusionsOf is_predicate mode cs ds → HasConclusions is_predicate mode (Contains cs) (Contains ds)
+listed_conclusions is_predicate mode cs ds closed = record {
+  superposes = λ first second first_there second_there i s j z place d named.
+      let m = place_there cs first first_there in
+      let n = place_there cs second second_there in
+      let found =
+      closed (Para m.0 i s n.0 j z place) d
+      (record { first_clause = first; first_there = m.1; second_clause = second; second_there = n.1; infers = named }) in
+      let it = found.2 in
+      let first_is : it.first_clause ≡ first = same_Some it.first_clause first (sym it.first_there ∙ m.1) in
+      let second_is : it.second_clause ≡ second = same_Some it.second_clause second (sym it.second_there ∙ n.1) in (
+        found.0,
+        found.1,
+        subst (λ (q : TreeClause). NamedSuperposition is_predicate mode first i s q j z place found.0) second_is
+            (subst (λ (p : TreeClause). NamedSuperposition is_predicate mode p i s it.second_clause j z place found.0) first_is it.infers),
+      );
+  resolves = λ c there i d named.
+      let m = place_there cs c there in
+      let found = closed (Refl m.0 i) d (record { clause = c; there = m.1; infers = named }) in
+      let it = found.2 in
+      let same : it.clause ≡ c = same_Some it.clause c (sym it.there ∙ m.1) in
+      (found.0, found.1, subst (λ (p : TreeClause). NamedResolution mode p i found.0) same it.infers);
+  factors = λ c there i s j z d named.
+      let m = place_there cs c there in
+      let found = closed (Factor m.0 i s j z) d (record { clause = c; there = m.1; infers = named }) in
+      let it = found.2 in
+      let same : it.clause ≡ c = same_Some it.clause c (sym it.there ∙ m.1) in
+      (found.0, found.1, subst (λ (p : TreeClause). NamedFactoring is_predicate mode p i s j z found.0) same it.infers);
+}
+
+pub ground_conclusions_covered : GroundConclusionsCovered
+ground_conclusions_covered is_predicate functions mode cs ds g closed conclusion =
+    conclusion_covered is_predicate functions mode (Contains cs) (Contains ds) g (listed_conclusions is_predicate mode cs ds closed) conclusion

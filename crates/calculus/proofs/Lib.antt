@@ -1,0 +1,13 @@
+mod ClauseLemmas
+mod SymbolLemmas
+mod PlacedLemmas
+mod CoverLemmas
+mod LiteralLemmas
+mod RewriteLemmas
+mod UnifierLemmas
+mod LiftLemmas
+mod LiftRules
+mod ReachLemmas
+mod ClosureLemmas
+mod ClosureExamples
+mod ExampleLemmas

@@ -1,0 +1,5 @@
+use Rattle.calculus.proofs.CoverLemmas.{dropped_literals_covered}
+use Rattle.calculus.proofs.laws.coverage.dropped_literals_covered.Goals as goal
+
+pub returns : goal.returns
+returns c = dropped_literals_covered

@@ -1,0 +1,5 @@
+use Rattle.calculus.proofs.RewriteLemmas.{reductions_compose}
+use Rattle.calculus.proofs.laws.coverage.reductions_compose.Goals as goal
+
+pub returns : goal.returns
+returns c = reductions_compose

@@ -1,0 +1,5 @@
+use Rattle.calculus.proofs.RewriteLemmas.{reductions_covered}
+use Rattle.calculus.proofs.laws.coverage.reductions_covered.Goals as goal
+
+pub returns : goal.returns
+returns c = reductions_covered

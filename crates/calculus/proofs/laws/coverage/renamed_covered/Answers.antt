@@ -1,0 +1,5 @@
+use Rattle.calculus.proofs.CoverLemmas.{renamed_covered}
+use Rattle.calculus.proofs.laws.coverage.renamed_covered.Goals as goal
+
+pub returns : goal.returns
+returns c = renamed_covered

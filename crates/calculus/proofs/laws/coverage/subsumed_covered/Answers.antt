@@ -1,0 +1,5 @@
+use Rattle.calculus.proofs.CoverLemmas.{subsumed_covered}
+use Rattle.calculus.proofs.laws.coverage.subsumed_covered.Goals as goal
+
+pub returns : goal.returns
+returns c = subsumed_covered

@@ -1,0 +1,5 @@
+use Rattle.calculus.proofs.CoverLemmas.{tautologies_covered}
+use Rattle.calculus.proofs.laws.coverage.tautologies_covered.Goals as goal
+
+pub returns : goal.returns
+returns c = tautologies_covered

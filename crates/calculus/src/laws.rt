@@ -1,0 +1,17 @@
+// The laws: each is the contract of a function without arguments and with an empty body.
+
+mod coverage;
+mod examples;
+mod lifting;
+
+pub use coverage::{
+    dropped_literals_covered, reduced_away_covered, reductions_compose, reductions_covered,
+    reductions_keep_symbols, renamed_covered, subsumed_covered, tautologies_covered,
+};
+pub use examples::{
+    closure_examples, rewriting_at_a_root, steps_examples, superposition_at_a_variable,
+    symbol_examples,
+};
+pub use lifting::{
+    factorings_lift, ground_conclusions_covered, resolutions_lift, superpositions_lift,
+};
