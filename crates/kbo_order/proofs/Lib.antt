@@ -1,5 +1,7 @@
-pub mod TallyLemmas
-pub mod AddedLemmas
+pub mod BitLemmas
+pub mod LevelLemmas
+pub mod ReadingLemmas
+pub mod MetLemmas
 pub mod BlockLemmas
 pub mod BalanceLemmas
 pub mod FurtherLemmas

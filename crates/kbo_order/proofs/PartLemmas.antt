@@ -1,5 +1,5 @@
 -- A clause with a smaller side, with a smaller literal, or with fewer literals.
-use Rattle.std.proofs.Common.{◌≡◌, ℕ, zero, suc, ◌+◌, ◌<◌, Bool, true, List, [], ◌∷◌, Some, refl, ap, sym, ◌∙◌, inl, ⊎_elim, arith}
+use Rattle.std.proofs.Common.{◌≡◌, ℕ, zero, suc, ◌+◌, ◌<◌, Bool, List, [], ◌∷◌, Some, refl, ap, sym, ◌∙◌, inl, ⊎_elim, arith}
 use Rattle.std.specs.Prelude.{slice_get, slice_set, remove}
 use Rattle.std.proofs.lemmas.Bool.{false_from_ne_true, true≢false}
 use Rattle.std.proofs.lemmas.Option.{same_Some}
@@ -12,7 +12,7 @@ use Rattle.fol_base.specs.Order.{TreeGreater, equivalent_literals, literal_great
 use Rattle.fol_base.proofs.CountLemmas.{times-cons}
 use Rattle.fol_base.proofs.OrderLemmas.{literal_greater_decided, clause_greater_decided, clauses_equivalence}
 use Rattle.kbo_order.specs.Laws.{SmallerSidesMakeSmaller, SmallerLiteralsMakeSmaller, PartsAreNotGreater, ProperPartsAreSmaller}
-use Rattle.kbo_order.proofs.TallyLemmas.{bit}
+use Rattle.kbo_order.proofs.BitLemmas.{bit}
 use Rattle.kbo_order.proofs.MultisetLemmas.{make, greater-some, dominating-greater}
 use Rattle.kbo_order.proofs.StrictOrderLemmas.{sides, literals_ordered}
 use Rattle.kbo_order.proofs.SideLemmas.{Exceeds, copies-count, greater_is, greater-differ, beside}

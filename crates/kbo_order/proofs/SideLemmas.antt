@@ -15,7 +15,7 @@ use Rattle.kbo_order.specs.declared.sides.SidePairs.{SidePairs}
 use Rattle.kbo_order.specs.Cmp.{comparison_of, is_greater, is_equal, reversed}
 use Rattle.kbo_order.specs.Block.{Answers}
 use Rattle.kbo_order.specs.Sides.{ComparesSides, all_below, all_reached, exceeds_beside_equals, sides_exceed, sides_same}
-use Rattle.kbo_order.proofs.TallyLemmas.{bit, bit-most}
+use Rattle.kbo_order.proofs.BitLemmas.{bit, bit-most}
 use Rattle.kbo_order.proofs.MemberLemmas.{In}
 use Rattle.kbo_order.proofs.MultisetLemmas.{Over, above, make, listed, outdoing, dominating-greater, level-right}
 use Rattle.kbo_order.proofs.FurtherLemmas.{greater-true}

@@ -1,5 +1,5 @@
 pub mod Cmp
-pub mod Tally
+pub mod Reading
 pub mod Block
 pub mod Balance
 pub mod Further

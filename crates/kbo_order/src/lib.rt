@@ -7,15 +7,16 @@ mod cmp;
 pub mod laws;
 mod limits;
 mod literals;
+mod reading;
 mod sides;
-mod tally;
 mod terms;
+mod walk;
 
 pub use clauses::compare_clauses;
 pub use cmp::Cmp;
 pub use limits::COMPARED_SIZE_LIMIT;
 pub use literals::compare_literals;
-pub use terms::compare;
+pub use terms::{compare, compare_under};
 
 #[cfg(test)]
 mod tests;
