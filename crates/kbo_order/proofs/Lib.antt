@@ -12,6 +12,9 @@ pub mod StableLemmas
 pub mod SubtermLemmas
 pub mod GroundLemmas
 pub mod AnswerLemmas
+pub mod TruthLemmas
+pub mod LiteralLemmas
+pub mod HeadLemmas
 pub mod SideLemmas
 pub mod PartLemmas
 pub mod ClauseLoops

@@ -19,13 +19,13 @@ use Rattle.kbo_order.proofs.SideLemmas.{Exceeds, copies-count, greater_is, great
 
 -- ---- a smaller side
 
-smaller-left : (p : Bool) (s t u : Tree) → TreeGreater s t → Exceeds (sides p s u) (sides p t u)
+pub smaller-left : (p : Bool) (s t u : Tree) → TreeGreater s t → Exceeds (sides p s u) (sides p t u)
 smaller-left p s t u g =
     (beside p (sides p s u) (sides p t u) u s t
     (λ z. omega (arith, copies-count p z s u)) (λ z. omega (arith, copies-count p z t u)) (greater-differ s t g)).1
     g
 
-smaller-right : (p : Bool) (s t u : Tree) → TreeGreater s t → Exceeds (sides p u s) (sides p u t)
+pub smaller-right : (p : Bool) (s t u : Tree) → TreeGreater s t → Exceeds (sides p u s) (sides p u t)
 smaller-right p s t u g =
     (beside p (sides p u s) (sides p u t) u s t (λ z. copies-count p z u s) (λ z. copies-count p z u t) (greater-differ s t g)).1 g
 

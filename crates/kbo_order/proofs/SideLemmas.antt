@@ -46,7 +46,7 @@ hit-some z t h =
     (λ e. let none : hit z t ≡ 0 = ap bit e in absurd (omega arith))
     (cases_Bool (tree_eq z t))
 
-cases_same : (z t : Tree) → (z ≡ t) ⊎ (z ≡ t → ⊥)
+pub cases_same : (z t : Tree) → (z ≡ t) ⊎ (z ≡ t → ⊥)
 cases_same z t =
     ⊎_elim
     (λ e. inl ((tree_equality_decided z t).0 e))
@@ -123,7 +123,7 @@ sides-above p s t ys z greater over =
 
 -- ---- each side below
 
-AllBelow-greater : (p q : Bool) (s t u v : Tree) → Above s t u × Above s t v → Exceeds (sides p s t) (sides q u v)
+pub AllBelow-greater : (p q : Bool) (s t u v : Tree) → Above s t u × Above s t v → Exceeds (sides p s t) (sides q u v)
 AllBelow-greater p q s t u v h =
     let one : (y z : Tree) → y ≡ z → Above s t z → (x : Tree) × In x (sides p s t) × (tree_greater x y ≡ true) = λ y z e k.
     ⊎_elim

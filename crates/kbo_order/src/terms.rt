@@ -1,7 +1,7 @@
 // The comparison of two terms.
 
 ghost use Rattle.std.specs.Prelude.{◌≡◌, ◌+◌, ◌<◌, ◌≤◌, ◌^◌};
-ghost use Rattle.fol_base.specs.Tree.{tree_size};
+ghost use Rattle.fol_base.specs.Tree.{tree_size, true_tree};
 ghost use Rattle.fol_base.specs.Instance.{instance};
 ghost use Rattle.fol_base.specs.Term.{tree_of};
 ghost use Rattle.fol_base.specs.Order.{compare_trees};
@@ -12,7 +12,7 @@ ghost use Rattle.kbo_order.specs.Further.{IsNumbered, IsClear};
 use crate::balance::Balance;
 use crate::cmp::Cmp;
 use crate::limits::COMPARED_SIZE_LIMIT;
-use crate::reading::Unbound;
+use crate::reading::{Unbound, head};
 use fol_base::{LendsTerms, Term};
 
 /// The end of the variables' numbers.
@@ -32,8 +32,49 @@ pub fn compare(left: &Term, right: &Term) -> Cmp
 /// What the instances of two terms are to each other, each under its own substitution. The instances aren't built, and no memory is
 /// taken. The condition is that of `compare`, on the instances.
 ///
-/// One walk down both, as in Löchner (2006), for each block of 32 variables that has one of theirs.
+/// `$true` is told by the heads. Else one walk down both, as in Löchner (2006), for each block of 32 variables that has one of theirs.
 pub fn compare_under<S: LendsTerms, T: LendsTerms>(
+    left: &Term,
+    left_bind: &S,
+    right: &Term,
+    right_bind: &T,
+) -> Cmp
+    requires left_size { tree_size (instance (S.meaning left_bind.now) (tree_of left.now)) < COMPARED_SIZE_LIMIT }
+    requires right_size { tree_size (instance (T.meaning right_bind.now) (tree_of right.now)) < COMPARED_SIZE_LIMIT }
+    ensures { comparison_of result ≡ compare_trees
+        (instance (S.meaning left_bind.now) (tree_of left.now))
+        (instance (T.meaning right_bind.now) (tree_of right.now)) }
+{
+    let of_right = against_truth(right, right_bind);
+    if of_right.is_equal() {
+        return against_truth(left, left_bind);
+    }
+    let of_left = against_truth(left, left_bind);
+    if of_left.is_equal() {
+        return of_right.reversed();
+    }
+    compare_walked(left, left_bind, right, right_bind)
+}
+
+/// What an instance is to `$true`, which is below every other term that isn't a variable: its head tells.
+fn against_truth<S: LendsTerms>(term: &Term, bind: &S) -> Cmp
+    ensures { comparison_of result ≡ compare_trees (instance (S.meaning bind.now) (tree_of term.now)) true_tree }
+{
+    let top = head(term, bind, false);
+    match top.term {
+        Term::Var(_) => Cmp::Unordered,
+        Term::App(_, _) => {
+            if top.term.is_truth() {
+                Cmp::Equal
+            } else {
+                Cmp::Greater
+            }
+        }
+    }
+}
+
+/// The comparison of two instances by walks.
+fn compare_walked<S: LendsTerms, T: LendsTerms>(
     left: &Term,
     left_bind: &S,
     right: &Term,
