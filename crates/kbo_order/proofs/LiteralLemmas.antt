@@ -1,6 +1,6 @@
 -- The answer for two literals by the answers for their sides.
 use mathlib.Core.Bool.{beq}
-use Rattle.std.proofs.Common.{◌≡◌, Bool, true, false, refl, ap, ap₂, sym, ◌∙◌, subst, inl, inr, ⊎_elim, arith}
+use Rattle.std.proofs.Common.{◌≡◌, List, [], ◌∷◌, Bool, true, false, refl, ap, ap₂, sym, ◌∙◌, subst, inl, inr, ⊎_elim, arith}
 use Rattle.std.specs.Bool.{Decides}
 use Rattle.std.proofs.lemmas.Bool.{false_from_ne_true, true≢false}
 use Rattle.std.proofs.lemmas.Bool.Decides.{same_from_decides}
@@ -8,7 +8,7 @@ use Rattle.fol_base.specs.Tree.{Tree, tree_eq}
 use Rattle.fol_base.specs.Instance.{instance}
 use Rattle.fol_base.specs.Tree.{variable}
 use Rattle.fol_base.specs.Clause.{TreeLiteral, literal_instance}
-use Rattle.fol_base.specs.Multiset.{greater, less}
+use Rattle.fol_base.specs.Ground.{literals_instance}
 use Rattle.fol_base.specs.Order.{compare_trees, TreeGreater, equivalent_literals, literal_greater, LiteralGreater, compare_literals}
 use Rattle.fol_base.proofs.OrderLemmas.{tree_greater_decided, equivalent_literals-decided, literal_greater_decided, SameLiteral}
 use Rattle.kbo_order.specs.declared.cmp.Cmp.{Cmp}
@@ -26,6 +26,10 @@ with_sides p s t = record { positive = p; left = s; right = t }
 
 pub literal-itself : (l : TreeLiteral) → literal_instance variable l ≡ l
 literal-itself l = ap₂ (with_sides l.positive) (instance-itself l.left) (instance-itself l.right)
+
+pub literals-themselves : (ls : List TreeLiteral) → literals_instance variable ls ≡ ls
+literals-themselves [] = refl
+literals-themselves (l ∷ ls) = ap₂ (λ (k : TreeLiteral) (ks : List TreeLiteral). k ∷ ks) (literal-itself l) (literals-themselves ls)
 
 -- ---- the answer by its three tests
 
