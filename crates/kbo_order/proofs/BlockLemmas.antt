@@ -191,12 +191,12 @@ by_size-level n m tie h =
     ∙ ap (λ (b : Bool). cond b Less tie) (le-ltb n m (omega arith))
 
 pub decided :
-    (C : ℕ → Type 0) (s t : Tree) (tie : Cmp) (base n m la ra : ℕ)
-    → Answers (TieOn C) tie s t → n ≡ base + tree_size s → m ≡ base + tree_size t
+    (C : ℕ → Type 0) (s t : Tree) (tie : Cmp) (n m la ra : ℕ)
+    → Answers (TieOn C) tie s t → n + tree_size t ≡ m + tree_size s
     → (ra ≡ 0 → HasVariablesOn C s t) → (HasVariablesOn C s t → ra ≡ 0)
     → (la ≡ 0 → HasVariablesOn C t s) → (HasVariablesOn C t s → la ≡ 0)
     → Answers (GreaterOn C) (by_variables la ra (by_size n m tie)) s t
-decided C s t tie base n m la ra answer left right rs rf ls lf =
+decided C s t tie n m la ra answer weights rs rf ls lf =
     let Good : Cmp → Type 0 = λ c. Answers (GreaterOn C) (by_variables la ra c) s t in
     ⊎_elim
     (λ e. subst Good (sym (by_size-level n m tie e)) (level_decided C s t tie la ra answer (omega arith) rs rf ls lf))

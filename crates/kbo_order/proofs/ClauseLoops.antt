@@ -15,7 +15,7 @@ use Rattle.kbo_order.specs.declared.cmp.Cmp.{Cmp}
 use Rattle.kbo_order.specs.declared.cmp.Cmp.TheVariants.{Greater, Less, Equal, Unordered}
 use Rattle.kbo_order.specs.Cmp.{comparison_of, is_greater}
 use Rattle.kbo_order.proofs.MemberLemmas.{In, In-at, all-In}
-use Rattle.kbo_order.proofs.TallyLemmas.{bit}
+use Rattle.kbo_order.proofs.BitLemmas.{bit}
 use Rattle.kbo_order.proofs.FurtherLemmas.{by_tests}
 use Rattle.kbo_order.proofs.StrictOrderLemmas.{literals_ordered}
 

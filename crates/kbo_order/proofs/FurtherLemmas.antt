@@ -223,7 +223,7 @@ cover-next :
 cover-next start next t clear v below =
     ⊎_elim
     (λ before. inl before)
-    (λ from. ⊎_elim (λ inside. inr (inl (from, inside))) (λ past. inr (inr (clear v past below))) (cases_lt v (start + 64)))
+    (λ from. ⊎_elim (λ inside. inr (inl (from, inside))) (λ past. inr (inr (clear v past below))) (cases_lt v (start + 32)))
     (cases_lt v start)
 
 pub answer-next :
@@ -244,7 +244,7 @@ answer-first c s t next strict left right h =
         ⊎_elim
         (λ inside. inl (omega arith, omega arith))
         (λ past. inr (inr (clear v (omega arith) below)))
-        (cases_lt v 64)
+        (cases_lt v 32)
 
 -- past all numbers
 pub answer-last :

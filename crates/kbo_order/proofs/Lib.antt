@@ -1,5 +1,7 @@
-pub mod TallyLemmas
-pub mod AddedLemmas
+pub mod BitLemmas
+pub mod LevelLemmas
+pub mod ReadingLemmas
+pub mod MetLemmas
 pub mod BlockLemmas
 pub mod BalanceLemmas
 pub mod FurtherLemmas
@@ -10,6 +12,9 @@ pub mod StableLemmas
 pub mod SubtermLemmas
 pub mod GroundLemmas
 pub mod AnswerLemmas
+pub mod TruthLemmas
+pub mod LiteralLemmas
+pub mod HeadLemmas
 pub mod SideLemmas
 pub mod PartLemmas
 pub mod ClauseLoops

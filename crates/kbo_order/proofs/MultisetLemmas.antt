@@ -8,7 +8,7 @@ use Rattle.std.proofs.lemmas.List.Elements.{All-contains}
 use Rattle.fol_base.specs.Multiset.{times, same_multiset, more_often, multiset_greater, Outdoing, MultisetGreater}
 use Rattle.fol_base.proofs.CountLemmas.{times-cons, times-same, same_multiset-counts, same_multiset-from, same_multiset-equivalence, multiset_greater-itself, multiset_greater-decided}
 use Rattle.kbo_order.specs.StrictOrder.{IsStrictOrder}
-use Rattle.kbo_order.proofs.TallyLemmas.{bit}
+use Rattle.kbo_order.proofs.BitLemmas.{bit}
 use Rattle.kbo_order.proofs.MemberLemmas.{In, In-contains, contains-In, In-left, In-right, In-map, map-In, any-In, none-In, sum_by-map}
 
 -- a function of what is the same up to sameness

@@ -1,5 +1,5 @@
 -- A clause with a smaller side, with a smaller literal, or with fewer literals.
-use Rattle.std.proofs.Common.{◌≡◌, ℕ, zero, suc, ◌+◌, ◌<◌, Bool, true, List, [], ◌∷◌, Some, refl, ap, sym, ◌∙◌, inl, ⊎_elim, arith}
+use Rattle.std.proofs.Common.{◌≡◌, ℕ, zero, suc, ◌+◌, ◌<◌, Bool, List, [], ◌∷◌, Some, refl, ap, sym, ◌∙◌, inl, ⊎_elim, arith}
 use Rattle.std.specs.Prelude.{slice_get, slice_set, remove}
 use Rattle.std.proofs.lemmas.Bool.{false_from_ne_true, true≢false}
 use Rattle.std.proofs.lemmas.Option.{same_Some}
@@ -12,20 +12,20 @@ use Rattle.fol_base.specs.Order.{TreeGreater, equivalent_literals, literal_great
 use Rattle.fol_base.proofs.CountLemmas.{times-cons}
 use Rattle.fol_base.proofs.OrderLemmas.{literal_greater_decided, clause_greater_decided, clauses_equivalence}
 use Rattle.kbo_order.specs.Laws.{SmallerSidesMakeSmaller, SmallerLiteralsMakeSmaller, PartsAreNotGreater, ProperPartsAreSmaller}
-use Rattle.kbo_order.proofs.TallyLemmas.{bit}
+use Rattle.kbo_order.proofs.BitLemmas.{bit}
 use Rattle.kbo_order.proofs.MultisetLemmas.{make, greater-some, dominating-greater}
 use Rattle.kbo_order.proofs.StrictOrderLemmas.{sides, literals_ordered}
 use Rattle.kbo_order.proofs.SideLemmas.{Exceeds, copies-count, greater_is, greater-differ, beside}
 
 -- ---- a smaller side
 
-smaller-left : (p : Bool) (s t u : Tree) → TreeGreater s t → Exceeds (sides p s u) (sides p t u)
+pub smaller-left : (p : Bool) (s t u : Tree) → TreeGreater s t → Exceeds (sides p s u) (sides p t u)
 smaller-left p s t u g =
     (beside p (sides p s u) (sides p t u) u s t
     (λ z. omega (arith, copies-count p z s u)) (λ z. omega (arith, copies-count p z t u)) (greater-differ s t g)).1
     g
 
-smaller-right : (p : Bool) (s t u : Tree) → TreeGreater s t → Exceeds (sides p u s) (sides p u t)
+pub smaller-right : (p : Bool) (s t u : Tree) → TreeGreater s t → Exceeds (sides p u s) (sides p u t)
 smaller-right p s t u g =
     (beside p (sides p u s) (sides p u t) u s t (λ z. copies-count p z u s) (λ z. copies-count p z u t) (greater-differ s t g)).1 g
 

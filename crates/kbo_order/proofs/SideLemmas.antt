@@ -15,7 +15,7 @@ use Rattle.kbo_order.specs.declared.sides.SidePairs.{SidePairs}
 use Rattle.kbo_order.specs.Cmp.{comparison_of, is_greater, is_equal, reversed}
 use Rattle.kbo_order.specs.Block.{Answers}
 use Rattle.kbo_order.specs.Sides.{ComparesSides, all_below, all_reached, exceeds_beside_equals, sides_exceed, sides_same}
-use Rattle.kbo_order.proofs.TallyLemmas.{bit, bit-most}
+use Rattle.kbo_order.proofs.BitLemmas.{bit, bit-most}
 use Rattle.kbo_order.proofs.MemberLemmas.{In}
 use Rattle.kbo_order.proofs.MultisetLemmas.{Over, above, make, listed, outdoing, dominating-greater, level-right}
 use Rattle.kbo_order.proofs.FurtherLemmas.{greater-true}
@@ -46,7 +46,7 @@ hit-some z t h =
     (λ e. let none : hit z t ≡ 0 = ap bit e in absurd (omega arith))
     (cases_Bool (tree_eq z t))
 
-cases_same : (z t : Tree) → (z ≡ t) ⊎ (z ≡ t → ⊥)
+pub cases_same : (z t : Tree) → (z ≡ t) ⊎ (z ≡ t → ⊥)
 cases_same z t =
     ⊎_elim
     (λ e. inl ((tree_equality_decided z t).0 e))
@@ -123,7 +123,7 @@ sides-above p s t ys z greater over =
 
 -- ---- each side below
 
-AllBelow-greater : (p q : Bool) (s t u v : Tree) → Above s t u × Above s t v → Exceeds (sides p s t) (sides q u v)
+pub AllBelow-greater : (p q : Bool) (s t u v : Tree) → Above s t u × Above s t v → Exceeds (sides p s t) (sides q u v)
 AllBelow-greater p q s t u v h =
     let one : (y z : Tree) → y ≡ z → Above s t z → (x : Tree) × In x (sides p s t) × (tree_greater x y ≡ true) = λ y z e k.
     ⊎_elim

@@ -60,7 +60,7 @@ greater-variables (variable v) t h = h.0
 greater-variables (application f ts) (variable w) h = h.0
 greater-variables (application f ts) (application g us) h = h.0
 
-greater-size : (s t : Tree) → TreeGreater s t → tree_size t ≤ tree_size s
+pub greater-size : (s t : Tree) → TreeGreater s t → tree_size t ≤ tree_size s
 greater-size (variable v) t h = ⊎_elim (λ e. omega arith) (λ e. absurd e.1) h.1
 greater-size (application f ts) (variable w) h = ⊎_elim (λ e. omega arith) (λ e. absurd e.1) h.1
 greater-size (application f ts) (application g us) h =

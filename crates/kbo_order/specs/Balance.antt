@@ -1,30 +1,64 @@
--- What a walk down two terms has met on both sides.
-use Rattle.std.specs.Prelude.{◌≡◌, ℕ, ◌==◌, nat_lt, if◌then◌else◌, List, slice_index}
+-- What a walk down two terms has met more often on one side than on the other.
+use Rattle.std.specs.Prelude.{◌≡◌, ℕ, ◌+◌, ◌^◌, ◌<◌, ◌≤◌, ◌==◌, nat_lt, if◌then◌else◌, List, [], slice_index, length, sum_by}
+use Rattle.fol_base.specs.declared.clause.Side.{Side}
+use Rattle.fol_base.specs.declared.clause.Side.TheVariants.{Left, Right}
+use Rattle.fol_base.specs.Multiset.{times}
 use Rattle.kbo_order.specs.declared.cmp.Cmp.{Cmp}
 use Rattle.kbo_order.specs.declared.cmp.Cmp.TheVariants.{Greater, Less, Equal, Unordered}
 use Rattle.kbo_order.specs.declared.balance.Balance.{Balance}
-use Rattle.kbo_order.specs.Tally.{Consistent, Added}
+
+-- how many counts are above the level, and how many below
+abbrev pub above_level : List ℕ → ℕ
+above_level counts = sum_by (λ n. if nat_lt (2 ^ 63) n then 1 else 0) counts
+
+abbrev pub below_level : List ℕ → ℕ
+below_level counts = sum_by (λ n. if nat_lt n (2 ^ 63) then 1 else 0) counts
+
+-- what is kept of the counts is right
+pub record Consistent (balance : Balance) : Type 0 where
+  pub width : length balance.counts ≡ 32
+  pub more_left : balance.more_left ≡ above_level balance.counts
+  pub more_right : balance.more_right ≡ below_level balance.counts
+
+-- so many occurrences more can be counted, on either side
+pub record HasRoom (balance : Balance) (n : ℕ) : Type 0 where
+  pub weight_up : balance.weight + n < 2 ^ 64
+  pub weight_down : n ≤ balance.weight
+  pub up : (k : ℕ) → k < 32 → slice_index balance.counts k + n < 2 ^ 64
+  pub down : (k : ℕ) → k < 32 → n ≤ slice_index balance.counts k
 
 -- the same was met on both sides, so far as it counts
 pub record IsLevel (balance : Balance) : Type 0 where
-  pub consistent : Consistent balance.left balance.right
-  pub counts : (k : ℕ) → slice_index balance.left.counts k ≡ slice_index balance.right.counts k
-  pub size : balance.left.size ≡ balance.right.size
+  pub consistent : Consistent balance
+  pub weight : balance.weight ≡ 2 ^ 63
+  pub counts : (k : ℕ) → k < 32 → slice_index balance.counts k ≡ 2 ^ 63
 
--- after variables and so many occurrences were met on the left, and others on the right
+-- after variables and n occurrences in all were met on the left, and others on the right
 pub record Met (before after : Balance) (lefts : List ℕ) (n : ℕ) (rights : List ℕ) (m : ℕ) : Type 0 where
   pub start : after.start ≡ before.start
-  pub consistent : Consistent after.left after.right
-  pub left : Added before.start before.left after.left lefts n
-  pub right : Added before.start before.right after.right rights m
+  pub consistent : Consistent after
+  pub weight : after.weight + m ≡ before.weight + n
+  pub counts : (k : ℕ) → k < 32
+      → slice_index after.counts k + times ◌==◌ (before.start + k) rights ≡ slice_index before.counts k + times ◌==◌ (before.start + k) lefts
+  pub left_numbers : (v : ℕ) → 2 ^ 32 ≤ v → times ◌==◌ v lefts ≡ 0
+  pub right_numbers : (v : ℕ) → 2 ^ 32 ≤ v → times ◌==◌ v rights ≡ 0
+  pub next_falls : after.next ≤ before.next
+  pub next_past : before.start + 32 ≤ before.next → before.start + 32 ≤ after.next
+  pub left_least : (v : ℕ) → before.start + 32 ≤ v → v < after.next → times ◌==◌ v lefts ≡ 0
+  pub right_least : (v : ℕ) → before.start + 32 ≤ v → v < after.next → times ◌==◌ v rights ≡ 0
 
--- the greater size decides, and at equal sizes what is handed in
+-- after they were met on one side
+abbrev pub MetOn : Side → Balance → Balance → List ℕ → ℕ → Type 0
+MetOn Left before after variables n = Met before after variables n [] 0
+MetOn Right before after variables n = Met before after [] 0 variables n
+
+-- the greater number decides, and of equal ones what is handed in
 abbrev pub by_size : ℕ → ℕ → Cmp → Cmp
 by_size n m tie = if nat_lt m n then Greater else (if nat_lt n m then Less else tie)
 
 -- only who has the other one's variables is greater
 abbrev pub by_variables : ℕ → ℕ → Cmp → Cmp
-by_variables left_ahead right_ahead Greater = if right_ahead == 0 then Greater else Unordered
-by_variables left_ahead right_ahead Less = if left_ahead == 0 then Less else Unordered
-by_variables left_ahead right_ahead Equal = Equal
-by_variables left_ahead right_ahead Unordered = Unordered
+by_variables more_left more_right Greater = if more_right == 0 then Greater else Unordered
+by_variables more_left more_right Less = if more_left == 0 then Less else Unordered
+by_variables more_left more_right Equal = Equal
+by_variables more_left more_right Unordered = Unordered

@@ -13,9 +13,9 @@ Answers Exceeds Less x y = Exceeds y x
 Answers Exceeds Equal x y = x ≡ y
 Answers Exceeds Unordered x y = (x ≡ y → ⊥) × (Exceeds x y → ⊥) × (Exceeds y x → ⊥)
 
--- the 64 variables from start on
+-- the 32 variables from start on
 abbrev pub InBlock : ℕ → ℕ → Type 0
-InBlock start v = (start ≤ v) × (v < start + 64)
+InBlock start v = (start ≤ v) × (v < start + 32)
 
 -- the variables before start
 abbrev pub Below : ℕ → ℕ → Type 0

@@ -9,4 +9,4 @@ IsNumbered t = (v : ℕ) → 2 ^ 32 ≤ v → occurrences v t ≡ 0
 
 -- no variable past the block that begins at start and before next stands in the term
 abbrev pub IsClear : ℕ → ℕ → Tree → Type 0
-IsClear start next t = (v : ℕ) → start + 64 ≤ v → v < next → occurrences v t ≡ 0
+IsClear start next t = (v : ℕ) → start + 32 ≤ v → v < next → occurrences v t ≡ 0

@@ -1,5 +1,6 @@
 pub mod Cmp
-pub mod Tally
+pub mod Reading
+pub mod Heads
 pub mod Block
 pub mod Balance
 pub mod Further

@@ -27,6 +27,13 @@ impl Cmp {
         }
     }
 
+    /// Whether the right one is greater.
+    pub fn is_less(self) -> bool
+        ensures { result ≡ is_greater (reversed self) }
+    {
+        self.reversed().is_greater()
+    }
+
     /// Whether the two are the same for the order.
     pub fn is_equal(self) -> bool
         ensures { result ≡ is_equal self }

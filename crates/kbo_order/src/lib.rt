@@ -4,18 +4,22 @@
 mod balance;
 mod clauses;
 mod cmp;
+mod greater;
 pub mod laws;
 mod limits;
 mod literals;
+mod reading;
 mod sides;
-mod tally;
 mod terms;
+mod walk;
 
 pub use clauses::compare_clauses;
 pub use cmp::Cmp;
+pub use greater::greater_under;
 pub use limits::COMPARED_SIZE_LIMIT;
-pub use literals::compare_literals;
-pub use terms::compare;
+pub use literals::{compare_literals, compare_literals_under};
+pub use reading::Unbound;
+pub use terms::{compare, compare_under};
 
 #[cfg(test)]
 mod tests;

@@ -2,13 +2,17 @@
 
 ghost use mathlib.Core.Bool.{beq};
 ghost use Rattle.std.specs.Prelude.{◌≡◌, ◌<◌, ◌&&◌};
-ghost use Rattle.fol_base.specs.Clause.{literal_size};
+ghost use Rattle.fol_base.specs.Instance.{instance};
+ghost use Rattle.fol_base.specs.Term.{tree_of};
+ghost use Rattle.fol_base.specs.Order.{compare_trees};
+ghost use Rattle.fol_base.specs.Clause.{literal_size, literal_instance};
+ghost use Rattle.kbo_order.specs.Cmp.{comparison_of};
 ghost use Rattle.fol_base.specs.Lent.{lent_of};
 
 use crate::cmp::Cmp;
 use crate::limits::COMPARED_SIZE_LIMIT;
-use crate::terms::compare;
-use fol_base::LiteralRef;
+use crate::terms::compare_under;
+use fol_base::{LendsTerms, LiteralRef};
 
 /// What each side of one literal is to each side of another: the first word of a name is the side of
 /// the first literal.
@@ -31,17 +35,30 @@ impl SidePairs {
       sides_same,
     };
 
-    /// Compares the sides of two literals.
-    pub fn of(left: LiteralRef<'_>, right: LiteralRef<'_>) -> SidePairs
-        requires left_size { literal_size (lent_of left) < COMPARED_SIZE_LIMIT }
-        requires right_size { literal_size (lent_of right) < COMPARED_SIZE_LIMIT }
-        ensures { ComparesSides result (lent_of left.entry) (lent_of right.entry) }
+    /// Compares the sides of the instances of two literals, of which the two left and the two right ones were compared.
+    pub fn of<S: LendsTerms, T: LendsTerms>(
+        left: LiteralRef<'_>,
+        left_bind: &S,
+        right: LiteralRef<'_>,
+        right_bind: &T,
+        lefts: Cmp,
+        rights: Cmp,
+    ) -> SidePairs
+        requires left_size { literal_size (literal_instance (S.meaning left_bind.now) (lent_of left)) < COMPARED_SIZE_LIMIT }
+        requires right_size { literal_size (literal_instance (T.meaning right_bind.now) (lent_of right)) < COMPARED_SIZE_LIMIT }
+        requires lefts { comparison_of lefts ≡ compare_trees
+            (instance (S.meaning left_bind.now) (tree_of left.left.now)) (instance (T.meaning right_bind.now) (tree_of right.left.now)) }
+        requires rights { comparison_of rights ≡ compare_trees
+            (instance (S.meaning left_bind.now) (tree_of left.right.now)) (instance (T.meaning right_bind.now) (tree_of right.right.now)) }
+        ensures { ComparesSides result
+            (literal_instance (S.meaning left_bind.now) (lent_of left.entry))
+            (literal_instance (T.meaning right_bind.now) (lent_of right.entry)) }
     {
         SidePairs {
-            left_left: compare(left.left, right.left),
-            left_right: compare(left.left, right.right),
-            right_left: compare(left.right, right.left),
-            right_right: compare(left.right, right.right),
+            left_left: lefts,
+            left_right: compare_under(left.left, left_bind, right.right, right_bind),
+            right_left: compare_under(left.right, left_bind, right.left, right_bind),
+            right_right: rights,
         }
     }
 

@@ -134,6 +134,12 @@ In-others (y ∷ xs) zero (suc k) x e other = In-index xs k x e
 In-others (y ∷ xs) (suc i) zero x e other = inl (sym (same_Some y x e))
 In-others (y ∷ xs) (suc i) (suc k) x e other = inr (In-others xs i k x e (λ s. other (ap suc s)))
 
+-- an item of the instance is the instance of the item
+pub instance-item :
+    (σ : Substitution) (ls : List TreeLiteral) (i : ℕ) (l : TreeLiteral) → slice_get ls i ≡ Some l
+    → slice_get (literals_instance σ ls) i ≡ Some (literal_instance σ l)
+instance-item σ ls i l e = slice_get-map (literal_instance σ) ls i ∙ ap (option_map (literal_instance σ)) e
+
 -- the literal itself is passed over
 pub itself-passed :
     (strict : Bool) (ls : List TreeLiteral) (i k : ℕ) (l : TreeLiteral) → slice_get ls i ≡ Some l → k ≡ i

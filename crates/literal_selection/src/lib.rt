@@ -6,7 +6,7 @@ mod eligibility;
 pub mod laws;
 
 pub use choice::{Selection, selected};
-pub use eligibility::eligible;
+pub use eligibility::{eligible, eligible_under};
 
 #[cfg(test)]
 mod tests;

@@ -1,22 +1,17 @@
-use Rattle.std.proofs.Common.{sym, subst, ⊎_elim}
+use Rattle.std.proofs.Common.{ap, ap₂, ◌∙◌, arith}
+use Rattle.fol_base.specs.Tree.{tree_size}
 use Rattle.fol_base.specs.Term.{tree_of}
-use Rattle.kbo_order.specs.Block.{IsStrict, InBlock}
-use Rattle.kbo_order.proofs.FurtherLemmas.{answer-plain, answer-compared, answer-first}
+use Rattle.fol_base.specs.Order.{compare_trees}
+use Rattle.kbo_order.proofs.ReadingLemmas.{instance-itself}
 use Rattle.kbo_order.proofs.terms.compare.Goals as goal
 
-pub compare_in_blocks-requires-clause-answered : goal.compare_in_blocks-requires-clause-answered
-compare_in_blocks-requires-clause-answered c =
-    let first = c.compare_in_block-first.result in
-    let strict : IsStrict first.answer = ⊎_elim (λ e. subst IsStrict (sym e) tt) (λ e. subst IsStrict (sym e) tt) c.in-Greater.is in
-    answer-first first.answer (tree_of c.args.left.now) (tree_of c.args.right.now) first.next strict
-    c.compare_in_block-first.ensures.left_clear c.compare_in_block-first.ensures.right_clear c.compare_in_block-first.ensures.answer
+pub compare_under-requires : goal.compare_under-requires
+compare_under-requires c = record {
+  left_size = omega (arith, ap tree_size (instance-itself (tree_of c.args.left.now)), c.requires.left_size);
+  right_size = omega (arith, ap tree_size (instance-itself (tree_of c.args.right.now)), c.requires.right_size);
+}
 
-pub returns-in-Equal : goal.returns-in-Equal
-returns-in-Equal c =
-    let first = c.compare_in_block-first.result in
-    let s = tree_of c.args.left.now in
-    let t = tree_of c.args.right.now in
-    answer-compared first.answer s t
-    (answer-plain (InBlock 0) first.answer s t
-    (λ h. ⊎_elim (λ e. subst IsStrict e h) (λ e. subst IsStrict e h) c.in-Equal.is)
-    c.compare_in_block-first.ensures.answer)
+pub returns : goal.returns
+returns c =
+    c.compare_under.ensures
+    ∙ ap₂ compare_trees (instance-itself (tree_of c.args.left.now)) (instance-itself (tree_of c.args.right.now))

@@ -1,10 +1,13 @@
 use Rattle.std.proofs.Common.{◌-◌, ◌^◌}
+use Rattle.fol_base.specs.Instance.{instance}
 use Rattle.fol_base.specs.Term.{tree_of}
 use Rattle.kbo_order.specs.Block.{Answers, Below, GreaterOn}
 use Rattle.kbo_order.proofs.terms.compare_in_blocks.Given as goal
 
 abbrev pub invariant-loop-start : goal.invariant-loop-start
-invariant-loop-start l = Answers (GreaterOn (Below l.start)) l.answer (tree_of l.left) (tree_of l.right)
+invariant-loop-start g l =
+    Answers (GreaterOn (Below l.start)) l.answer
+    (instance (g.S.LendsTerms.meaning l.left_bind) (tree_of l.left)) (instance (g.T.LendsTerms.meaning l.right_bind) (tree_of l.right))
 
 abbrev pub decreases-loop-start : goal.decreases-loop-start
-decreases-loop-start l = 2 ^ 32 - l.start
+decreases-loop-start g l = 2 ^ 32 - l.start
