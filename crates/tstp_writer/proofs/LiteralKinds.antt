@@ -1,5 +1,5 @@
 -- How a literal over the symbols of a list is made: `$true`, an atom of a predicate, or an equation between function terms.
-use Rattle.std.proofs.Common.{◌≡◌, ◌⊎◌, ⊎_elim, ℕ, Bool, true, false, not, ◌&&◌, ◌||◌, ◌==◌, List, ap, sym, ◌∙◌, subst}
+use Rattle.std.proofs.Common.{◌≡◌, ⊎_elim, ℕ, Bool, true, false, not, ◌&&◌, ◌||◌, ◌==◌, List, ap, sym, ◌∙◌, subst}
 use Rattle.std.proofs.lemmas.Bool.{and_parts, or_cases, not-true, true≢false, false≢true, false_from_ne_true}
 use Rattle.fol_base.specs.Tree.{Tree, variable, application, Trees, no_trees, tree_then, trees_count, trees_eq, is_truth, true_tree}
 use Rattle.fol_base.specs.Kind.{is_function_term, are_function_terms, is_predicate_term, is_literal}

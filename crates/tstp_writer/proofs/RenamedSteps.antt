@@ -1,9 +1,9 @@
 -- A step under renamed variables concludes the renamed clause; and a canonical clause keeps its variables when its line is read.
-use Rattle.std.proofs.Common.{◌≡◌, ℕ, zero, suc, ◌+◌, ◌<◌, ◌≤◌, max, Bool, true, false, not, ◌&&◌, ◌==◌, nat_le, List, [], ◌∷◌, ◌++◌, length, map, get_or, Option, Some, None, refl, ap, ap₂, sym, ◌∙◌, subst, arith, eqb-true}
-use Rattle.std.specs.Prelude.{option_map, option_and_then, flat_map, is_some, unwrap_or, sum_by}
+use Rattle.std.proofs.Common.{◌≡◌, ℕ, zero, suc, ◌+◌, ◌<◌, ◌≤◌, max, true, not, ◌&&◌, ◌==◌, nat_le, List, [], ◌∷◌, ◌++◌, length, map, get_or, Option, Some, refl, ap, ap₂, sym, ◌∙◌, subst, arith, eqb-true}
+use Rattle.std.specs.Prelude.{option_map, flat_map, is_some, unwrap_or, sum_by}
 use Rattle.std.specs.List.{list_all, AllByRecursion}
 use Rattle.std.proofs.lemmas.Bool.{and_parts, and_from}
-use Rattle.fol_base.specs.Tree.{Tree, variable, application, tree_size, tree_variables, is_truth}
+use Rattle.fol_base.specs.Tree.{Tree, variable, application, tree_variables, is_truth}
 use Rattle.fol_base.specs.Instance.{Substitution, instance, substitution}
 use Rattle.fol_base.specs.InstanceLaws.{after}
 use Rattle.fol_base.specs.Clause.{TreeLiteral, TreeClause, literal_size, clause_size, clause_variables, clause_instance}
@@ -19,7 +19,7 @@ use Rattle.kernel_steps.specs.Conclusion.{bound_clause, bound_literals, binds, c
 use Rattle.kernel_steps.specs.declared.step.Step.{Step}
 use Rattle.kernel_steps.proofs.BoundLemmas.{is_truth-application}
 use Rattle.kernel_steps.proofs.VerdictParts.{OneParts, TwoParts, by_one-parts, by_two-parts}
-use Rattle.tstp_writer.specs.ReadableLines.{bound_by, line_variables, read_renaming, read_terms}
+use Rattle.tstp_writer.specs.ReadableLines.{bound_by, read_renaming, read_terms}
 
 -- ---- canonical clauses
 

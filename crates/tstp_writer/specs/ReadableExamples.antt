@@ -1,5 +1,5 @@
 -- A line with variables and equations: from f(X) = a | f(Y) = b, by factoring, a != b | f(X) = b.
-use Rattle.std.specs.Prelude.{ℕ, true, List, [], ◌∷◌, ◌++◌, codes}
+use Rattle.std.specs.Prelude.{ℕ, true, List, [], ◌∷◌, codes}
 use Rattle.fol_base.specs.Tree.{Tree, variable, application, trees_of}
 use Rattle.fol_base.specs.Clause.{TreeClause}
 use Rattle.fol_base.specs.Rules.{disequation}
@@ -7,7 +7,7 @@ use Rattle.fol_base.specs.declared.clause.Side.TheVariants.{Left}
 use Rattle.signature.specs.declared.symbol.Symbol.{Symbol}
 use Rattle.signature.specs.Symbol.{true_symbol, function_symbol}
 use Rattle.kernel_steps.specs.declared.step.Step.{Step}
-use Rattle.kernel_steps.specs.declared.step.Step.TheVariants.{Factor}
+use Rattle.kernel_steps.specs.declared.step.Step.TheVariants.{Refl, Factor}
 use Rattle.tstp_writer.specs.LineTrees.{Script, Layout}
 
 -- f, a and b, behind `$true`
@@ -28,7 +28,11 @@ factor_clause = record {
   names = [];
 }
 
--- it is line 1, behind its parent
+-- a step that binds a variable which its clause doesn't have
+abbrev pub other_step : Step
+other_step = Refl 0 0 (variable 7 ∷ variable 0 ∷ [])
+
+-- the factor line is line 1, behind its parent
 abbrev pub script : Script
 script = record { file = codes "f.p"; formulas = []; symbols = symbols; origins = []; prefix = codes "spl" }
 

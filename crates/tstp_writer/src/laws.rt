@@ -8,14 +8,15 @@ ghost use Rattle.kernel_steps.specs.declared.step.Step.TheVariants.{Component, O
 ghost use Rattle.tstp_writer.specs.Cone.{needs, IsCone};
 ghost use Rattle.tstp_writer.specs.ConeExamples.{split_lines};
 ghost use Rattle.tstp_writer.specs.ConeLaws.{DerivationsNeedEarlier};
-ghost use Rattle.tptp_tree.specs.Term.{variable, no_terms};
+ghost use Rattle.fol_base.specs.Tree.{variable};
+ghost use Rattle.tptp_tree.specs.Term.{variable as named_variable, no_terms};
 ghost use Rattle.tptp_tree.specs.Formula.{implies, for_all, truth, falsity, predicate, equation, negation, conjunction, connected, quantified, no_formulas, formula_then};
 ghost use Rattle.tstp_writer.specs.Levels.{formula_levels};
 ghost use Rattle.tstp_writer.specs.DerivedLines.{DerivedLinesAreTaken};
 ghost use Rattle.tstp_writer.specs.LineTexts.{line_text, lines_text};
 ghost use Rattle.tstp_writer.specs.LineTrees.{script_of, derived_name, step_source, clause_tree, derivation_trees};
 ghost use Rattle.tstp_writer.specs.ReadableExamples as factor;
-ghost use Rattle.tstp_writer.specs.ReadableLines.{IsReadable};
+ghost use Rattle.tstp_writer.specs.ReadableLines.{IsReadable, read_renaming, read_terms};
 ghost use Rattle.tstp_writer.specs.Printable.{PrintedLinesAreSpelled};
 ghost use Rattle.tstp_writer.specs.ProblemLaws.{ProblemFormulasArePrintable, ProblemLinesArePrintable, ScriptFormulasArePrintable, BeginningsArePrintable, LineNamesAreShown};
 ghost use Rattle.tstp_writer.specs.WrittenTexts.{FormSymbolsAreShown, ReadableLinesArePrintable, ReadableDerivationsArePrintable, ReadableDerivationsAreSpelled, WrittenTextsAreAccepted};
@@ -49,7 +50,7 @@ pub fn cone_examples()
 /// atom. An operand has them where it is joined.
 pub fn printed_level_examples()
     ensures negated_quantifier { formula_levels (negation (quantified for_all (codes "X" ∷ []) (predicate (codes "p") no_terms))) ≡ 4 }
-    ensures negated_equation { formula_levels (negation (equation true (variable (codes "X")) (variable (codes "Y")))) ≡ 2 }
+    ensures negated_equation { formula_levels (negation (equation true (named_variable (codes "X")) (named_variable (codes "Y")))) ≡ 2 }
     ensures negated_twice { formula_levels (negation (negation (predicate (codes "p") no_terms))) ≡ 2 }
     ensures joined_operand { formula_levels (connected implies
         (conjunction (formula_then truth (formula_then falsity no_formulas))) (negation truth)) ≡ 1 }
@@ -85,6 +86,12 @@ pub fn factor_line_examples()
     ensures text { line_text (clause_tree factor.script (derived_name factor.layout 1) factor.factor_clause
         (step_source factor.script factor.layout factor.factor_step)) ≡ factor.factor_text }
     ensures readable { IsReadable factor.symbols factor.factor_step factor.factor_clause }
+{}
+
+/// A canonical clause keeps its variables when its line is read. A variable that a bound term alone has is numbered behind them.
+pub fn read_variable_examples()
+    ensures of_clause { read_terms (read_renaming factor.factor_step factor.factor_clause) (variable 0 ∷ []) ≡ variable 0 ∷ [] }
+    ensures alone { read_terms (read_renaming factor.other_step factor.factor_clause) (variable 7 ∷ variable 0 ∷ []) ≡ variable 1 ∷ variable 0 ∷ [] }
 {}
 
 /// The printed text of lines that can be printed spells them.
