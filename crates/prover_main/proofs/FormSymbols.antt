@@ -34,7 +34,7 @@ use Rattle.clausal_form.proofs.LoopLemmas.{all-come, fold-append}
 use Rattle.clausal_form.proofs.MeasureLemmas.{length-append}
 use Rattle.clausal_form.proofs.NameLemmas.{closed-known}
 use Rattle.clausal_form.proofs.ShapeLemmas.{product_by}
-use Rattle.tstp_writer.specs.PlainLines.{is_symbol_in}
+use Rattle.tstp_writer.specs.ReadableLines.{is_symbol_in}
 
 -- ---- places in lists
 

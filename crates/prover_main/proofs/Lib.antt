@@ -4,7 +4,7 @@ pub mod AnswerLemmas
 pub mod WordLemmas
 pub mod OriginLemmas
 pub mod FormSymbols
-pub mod PlainLemmas
+pub mod ReadableLemmas
 pub mod TextLemmas
 pub mod SatisfiedLemmas
 pub mod RunLemmas

@@ -16,22 +16,16 @@ use Rattle.kernel_steps.specs.Derivation.{IsRefutation}
 use Rattle.kernel_steps.specs.declared.step.Line.{Line}
 use Rattle.ground_loop.specs.GroundLines.{AreGroundLines}
 use Rattle.ground_loop.specs.Scope.{IsInScope}
-use Rattle.clausal_form.specs.DerivationLine.{LineTree}
 use Rattle.clausal_form.specs.DerivationTexts.{IsAcceptedDerivation}
-use Rattle.tstp_writer.specs.Cone.{IsCone}
-use Rattle.tstp_writer.specs.Places.{IsCounted}
 use Rattle.tstp_writer.specs.Printable.{IsShown}
-use Rattle.tstp_writer.specs.LineTexts.{lines_text}
-use Rattle.tstp_writer.specs.LineTrees.{script_of, layout_of, derivation_trees}
+use Rattle.tstp_writer.specs.Written.{IsAcceptedWhereReadable}
 use Rattle.tstp_writer.specs.DerivedLines.{HasNumberedForm}
-use Rattle.tstp_writer.specs.WrittenLaws.{IsPlainRefutation}
-use Rattle.tstp_writer.proofs.PlainTrees.{derivation-spelled}
-use Rattle.tstp_writer.proofs.WrittenLines.{written-accepted}
+use Rattle.tstp_writer.specs.WrittenLaws.{IsReadableRefutation}
 use Rattle.prover_main.specs.Words.{is_filled}
 use Rattle.prover_main.specs.Names.{shown_byte, shown}
 use Rattle.prover_main.specs.AnswerShape.{IsFormedFrom, WasFormed}
 use Rattle.prover_main.specs.declared.problem.FormedProblem.{FormedProblem}
-use Rattle.prover_main.proofs.PlainLemmas.{plain-refutation, small-clauses}
+use Rattle.prover_main.proofs.ReadableLemmas.{readable-refutation}
 
 -- ---- a file's name as it is shown
 
@@ -57,16 +51,14 @@ refutation-some form lines r = omega (arith, ap length r.ends, length-append r.b
 -- ---- the text
 
 pub text-accepted :
-    (formed : FormedProblem) (name : List ℕ) (lines : List Line) (last : ℕ) (numbers text : List ℕ)
+    (formed : FormedProblem) (name : List ℕ) (lines : List Line) (last : ℕ) (text : List ℕ)
     → WasFormed formed → IsShown name → IsInScope (map clause_of formed.form.clauses)
     → IsRefutation (map clause_of formed.form.clauses) lines → AreGroundLines lines
     → IsSignature formed.form.signature → length formed.form.clauses < 2 ^ 64 → suc last ≡ length lines
-    → IsCone lines last numbers → IsCounted (layout_of (script_of name formed.problem.formulas) lines numbers)
-    → text ≡ lines_text (derivation_trees (script_of name formed.problem.formulas) lines numbers)
+    → IsAcceptedWhereReadable name formed.problem.formulas lines last text
     → (count : ℕ) × IsAcceptedDerivation formed.problem.formulas text count
-text-accepted formed name lines last numbers text was shown scope refutes ground signature few end cone counted printed =
+text-accepted formed name lines last text was shown scope refutes ground signature few end accepted =
     let fs : List Annotated = formed.problem.formulas in
-    let trees : List LineTree = derivation_trees (script_of name fs) lines numbers in
     let h : IsFormedFrom was.told was.source formed = was.formed_from in
     let e : map clause_of formed.form.clauses ≡ (clausal_form fs).clauses = ap (λ (f : ClausalForm). f.clauses) h.form in
     let numbered : HasNumberedForm fs =
@@ -74,14 +66,7 @@ text-accepted formed name lines last numbers text was shown scope refutes ground
       symbols = subst IsSignature (ap (λ (f : ClausalForm). f.symbols) h.form) signature;
       clauses = omega (arith, few, ap length e, length-map formed.form.clauses clause_of);
     } in
-    let plain : IsPlainRefutation fs lines last numbers =
-    plain-refutation fs lines last numbers (subst IsGroundForm e scope.0) (subst (λ cs. IsRefutation cs lines) e refutes) ground numbered end cone in
-    let sizes : form_size (clausal_form fs).clauses ≤ MOST_SYMBOLS = subst (λ cs. form_size cs ≤ MOST_SYMBOLS) e scope.1 in (
-      length trees,
-      subst (λ t. IsAcceptedDerivation fs t (length trees)) (sym printed) (
-        trees,
-        derivation-spelled was.told was.source.file was.source.root fs h.read name shown lines numbers
-            (small-clauses (clausal_form fs).clauses sizes) plain.derived plain.plain,
-        written-accepted name fs lines last numbers plain counted,
-      ),
-    )
+    let sizes : form_size (clausal_form fs).clauses ≤ MOST_SYMBOLS = subst (λ cs. form_size cs ≤ MOST_SYMBOLS) e scope.1 in
+    let readable : IsReadableRefutation fs lines last =
+    readable-refutation fs lines last (subst IsGroundForm e scope.0) sizes (subst (λ cs. IsRefutation cs lines) e refutes) ground numbered end in
+    accepted (record { told = was.told; file = was.source.file; root = was.source.root; read = h.read }) shown readable

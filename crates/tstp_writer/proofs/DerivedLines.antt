@@ -15,24 +15,23 @@ use Rattle.kernel_steps.specs.Derivation.{is_clause_step, ComesBy}
 use Rattle.kernel_steps.specs.declared.step.Step.{Step}
 use Rattle.kernel_steps.specs.declared.step.Step.TheVariants.{Input, Negate, Clausify, Para, Refl, Factor, Merge, Component, Opposite, Split, Chain}
 use Rattle.kernel_steps.specs.declared.step.Line.{Line}
-use Rattle.clausal_form.specs.DerivationSteps.{kind_of}
-use Rattle.clausal_form.specs.DerivationLine.{LineTree, same_entry, entry_of, kernel_line, NamedLine, names_with}
+use Rattle.clausal_form.specs.DerivationLine.{LineTree, same_entry, entry_of, NamedLine}
 use Rattle.clausal_form.specs.DerivationParts.{Setting, setting_of, entry_at, line_place}
 use Rattle.clausal_form.specs.DerivationCauses.{fits, is_conjecture_at as is_conjecture_in, taken, line_verdict}
-use Rattle.tstp_writer.specs.Cone.{parents_of, has_number, IsRising}
+use Rattle.tstp_writer.specs.Cone.{parents_of, has_number, IsRising, IsCone}
 use Rattle.tstp_writer.specs.LineTrees.{Script, script_of, is_conjecture_at, origin, Layout, comes_from, lines_at, layout_of, line_name, place_in, cited_name, negated_name, derived_name, step_source, input_at, negate_at, clause_tree, line_tree, derived_tree}
-use Rattle.tstp_writer.specs.PlainLines.{is_plain_step, IsPlainLine, written_place, placed_step, first_place, taken_as, inputs_taken, negations_taken, derived_taken, all_written}
+use Rattle.tstp_writer.specs.ReadableLines.{IsReadableLine, written_place, placed_line, first_place, taken_as, inputs_taken, negations_taken, derived_taken, all_written}
 use Rattle.tstp_writer.specs.DerivedLines.{ParentIsTaken, OriginIsTaken, SourcesAreTaken}
 use Rattle.tstp_writer.specs.Places.{IsCounted}
-use Rattle.tstp_writer.specs.WrittenLaws.{IsPlainRefutation}
+use Rattle.tstp_writer.specs.WrittenLaws.{IsReadableRefutation}
 use Rattle.tstp_writer.proofs.StepTrees.{line_tree_by}
 use Rattle.tstp_writer.proofs.SameLemmas.{entry-turned, same-conjecture}
 use Rattle.tstp_writer.proofs.PlaceLemmas.{there-below, kept-there, there-behind, number-there, has-passing, has-between, all-passing, passing-pass, all-from, all-below, rising-passing, rising-numbers, AllPlaced, rising-placed, stands-before, AreNamed, named-joined, name-new}
 use Rattle.tstp_writer.proofs.WalkLemmas.{state, Walks, walk-none, walk-line}
 use Rattle.tstp_writer.proofs.InputLines.{IsFirstPlace, first-place, entry-there, input_taken, negation_taken, inputs-walk, HasInputs, HasNegations, has-inputs, has-negations, found-there, negations-walk, inputs-length, negations-length, inputs-named, negations-named, inputs-stand, negations-stand}
 use Rattle.tstp_writer.proofs.OriginLemmas.{IsBelow, form-origin}
-use Rattle.tstp_writer.proofs.ConeLemmas.{IsClauseLine, plain-there, cone-line, IsConeParent, cone-parent}
-use Rattle.tstp_writer.proofs.DerivedLemmas.{derived-taken}
+use Rattle.tstp_writer.proofs.ConeLemmas.{IsClauseLine, readable-there, cone-line, IsConeParent, cone-parent}
+use Rattle.tstp_writer.proofs.DerivedLemmas.{names-stay, derived-taken}
 
 -- ---- lists
 
@@ -83,20 +82,6 @@ tree-is script layout name c (Component n) h = refl
 tree-is script layout name c (Opposite n) h = refl
 tree-is script layout name c (Split parent definitions parts) h = refl
 tree-is script layout name c (Chain numbers pivots) h = refl
-
-no-name :
-    (script : Script) (layout : Layout) (step : Step) → is_plain_step step ≡ true → names_with [] (kind_of (step_source script layout step)) ≡ []
-no-name script layout (Input place) h = refl
-no-name script layout (Negate place) h = refl
-no-name script layout (Clausify i) h = refl
-no-name script layout (Para first second from from_side into into_side place first_bind second_bind) h = refl
-no-name script layout (Refl parent literal bind) h = refl
-no-name script layout (Factor parent becomes becomes_side other other_side bind) h = refl
-no-name script layout (Merge parent stays goes bind) h = refl
-no-name script layout (Component n) h = absurd (false≢true h)
-no-name script layout (Opposite n) h = absurd (false≢true h)
-no-name script layout (Split parent definitions parts) h = refl
-no-name script layout (Chain numbers pivots) h = refl
 
 -- ---- what stands behind the lines of the formulas
 
@@ -150,7 +135,7 @@ module _ (file : List ℕ) (problem : List Annotated) (lines : List Line) (numbe
   -- ---- what stands when lines of the derivation were taken
 
   abbrev pub derived_line : ℕ → Line → NamedLine
-  derived_line m line = taken_as (derived_name layout m) (kernel_line (placed_step layout line.step) (clause_of line.clause))
+  derived_line m line = taken_as (derived_name layout m) (placed_line layout line.step (clause_of line.clause))
 
   pub record Stands (ls : List NamedLine) (before : List ℕ) : Type 0 where
     pub named : AreNamed 0 ls
@@ -182,7 +167,7 @@ module _ (file : List ℕ) (problem : List Annotated) (lines : List Line) (numbe
       (n : ℕ) (line : Line) → slice_get lines n ≡ Some line → derived_taken layout lines n ≡ Some (derived_line n line)
   derived-there n line at =
       ap
-      (option_map (λ (l : Line). taken_as (derived_name layout n) (kernel_line (placed_step layout l.step) (clause_of l.clause))))
+      (option_map (λ (l : Line). taken_as (derived_name layout n) (placed_line layout l.step (clause_of l.clause))))
       at
 
   pub written-more :
@@ -319,30 +304,30 @@ module _ (file : List ℕ) (problem : List Annotated) (lines : List Line) (numbe
 
   -- ---- all lines of the derivation
 
-  module _ (last : ℕ) (r : IsPlainRefutation problem lines last numbers) (counted : IsCounted layout) where
+  module _ (last : ℕ) (r : IsReadableRefutation problem lines last) (cone : IsCone lines last numbers) (counted : IsCounted layout) where
     line-taken :
         (ls : List NamedLine) (before : List ℕ) (n : ℕ) (after : List ℕ) (c : IsClauseLine lines n) → Stands ls before
         → before ++ n ∷ after ≡ numbers → place_in n numbers ≡ length before → has_number numbers n ≡ true
         → line_verdict s (state ls)
         (clause_tree script (derived_name layout n) (clause_of (c.line).clause) (step_source script layout (c.line).step))
-        ≡ taken (kernel_line (placed_step layout (c.line).step) (clause_of (c.line).clause))
+        ≡ taken (placed_line layout (c.line).step (clause_of (c.line).clause))
     line-taken ls before n after c st whole place has =
         let counted_lines : length layout.cited + length layout.negated + length numbers < 2 ^ 64 = counted in
         let number : written_place layout n ≡ length ls = omega (arith, st.long, place) in
         let low : place_in n numbers < length numbers = (number-there numbers n has).0 in
         let small : length ls < 2 ^ 64 = omega (arith, counted_lines, st.long, place, low) in
-        let plain : IsPlainLine (clausal_form problem).symbols c.line = plain-there problem lines last numbers r n c.line c.there in
-        derived-taken problem file layout lines (state ls) n c.line r.form plain c.is_clause (r.derived n c.line c.there) refl
+        let readable : IsReadableLine (clausal_form problem).symbols c.line = readable-there problem lines last numbers r cone n c.line c.there in
+        derived-taken problem file layout lines (state ls) n c.line r.form readable c.is_clause (r.derived n c.line c.there) refl
         (ap (λ k. list_any (λ (l : NamedLine). bytes_eq (line_name k) l.name) ls) number
         ∙ name-new (length ls) 0 ls small (omega arith) st.named)
         (sources-taken ls before n c.line (c.line).step st (omega (arith, small)) c.there has refl (r.derived n c.line c.there)
         λ m parent.
-        let p : IsConeParent problem lines last numbers r n m =
-        cone-parent problem lines last numbers r n m c.line c.there has parent in
-        let d : IsClauseLine lines m = cone-line problem lines last numbers r m p.has in
+        let p : IsConeParent problem lines last numbers r cone n m =
+        cone-parent problem lines last numbers r cone n m c.line c.there has parent in
+        let d : IsClauseLine lines m = cone-line problem lines last numbers r cone m p.has in
         let stands =
         st.has_derived m d.line
-        (stands-before before n after m (subst IsRising (sym whole) (r.cone).rising)
+        (stands-before before n after m (subst IsRising (sym whole) cone.rising)
         (subst (λ ns. has_number ns m ≡ true) (sym whole) p.has) p.earlier)
         d.there in
         record {
@@ -359,13 +344,13 @@ module _ (file : List ℕ) (problem : List Annotated) (lines : List Line) (numbe
     derived-walk ls before [] st whole placed = walk-none s ls
     derived-walk ls before (n ∷ more) st whole placed =
         let has : has_number numbers n ≡ true = subst (λ ns. has_number ns n ≡ true) whole (has-middle before n more) in
-        let c : IsClauseLine lines n = cone-line problem lines last numbers r n has in
+        let c : IsClauseLine lines n = cone-line problem lines last numbers r cone n has in
         let clause : TreeClause = clause_of (c.line).clause in
         let t : LineTree = clause_tree script (derived_name layout n) clause (step_source script layout (c.line).step) in
         let ts : List LineTree = filter_map (derived_tree script layout lines) more in
         let ms : List NamedLine = filter_map (derived_taken layout lines) more in
         let one : List NamedLine = derived_line n c.line ∷ [] in
-        let verdict : line_verdict s (state ls) t ≡ taken (kernel_line (placed_step layout (c.line).step) clause) =
+        let verdict : line_verdict s (state ls) t ≡ taken (placed_line layout (c.line).step clause) =
         line-taken ls before n more c st whole placed.0 has in
         let longer : length before + 1 ≡ length (before ++ n ∷ []) = omega (arith, length-append before (n ∷ [])) in
         let rest : Walks s (ls ++ one) ts ms =
@@ -376,10 +361,10 @@ module _ (file : List ℕ) (problem : List Annotated) (lines : List Line) (numbe
         ∙ tree-is script layout (derived_name layout n) clause (c.line).step c.is_clause in
         subst (λ o. Walks s ls (cons_option o ts) (cons_option (derived_taken layout lines n) ms)) (sym tree)
         (subst (λ o. Walks s ls (t ∷ ts) (cons_option o ms)) (sym (derived-there n c.line c.there))
-        (walk-line s ls t (derived_name layout n) (kernel_line (placed_step layout (c.line).step) clause) ts ms refl
-        (no-name script layout (c.line).step (plain-there problem lines last numbers r n c.line c.there).step) verdict rest))
+        (walk-line s ls t (derived_name layout n) (placed_line layout (c.line).step clause) ts ms refl
+        (names-stay [] script layout (c.line).step (readable-there problem lines last numbers r cone n c.line c.there).nameless) verdict rest))
 
     pub derived-walked :
         Walks s (inputs ++ negations) (filter_map (derived_tree script layout lines) numbers) (filter_map (derived_taken layout lines) numbers)
     derived-walked =
-        derived-walk (inputs ++ negations) [] numbers stands-first refl (rising-placed numbers (r.cone).rising)
+        derived-walk (inputs ++ negations) [] numbers stands-first refl (rising-placed numbers cone.rising)

@@ -16,7 +16,7 @@ use Rattle.clausal_form.specs.DerivationParts.{Setting, setting_of, line_place}
 use Rattle.clausal_form.specs.DerivationCauses.{leaf, rule, order, unknown_parent, conclusion, fault, gives_formula, negation_from, given_by, compared, LineVerdict, refused, taken, line_verdict}
 use Rattle.tstp_writer.specs.Cone.{has_number}
 use Rattle.tstp_writer.specs.LineTrees.{Script, script_of, Layout, line_name, place_in, cited_name, negated_name, input_tree, negate_tree, input_at, negate_at}
-use Rattle.tstp_writer.specs.PlainLines.{first_place, taken_as, inputs_taken, negations_taken}
+use Rattle.tstp_writer.specs.ReadableLines.{first_place, taken_as, inputs_taken, negations_taken}
 use Rattle.tstp_writer.proofs.SameLemmas.{formula-self, negation-same, entry-parts, entry-self, same-conjecture}
 use Rattle.tstp_writer.proofs.PlaceLemmas.{there-below, kept-there, IsFirst, first-there, position-there, number-there, AllPlaced, AreNamed, named-joined, name-new, name-there}
 use Rattle.tstp_writer.proofs.WalkLemmas.{state, Walks, walk-none, walk-line}

@@ -14,7 +14,7 @@ use Rattle.kernel_steps.specs.declared.step.Step.{Step}
 use Rattle.kernel_steps.specs.declared.step.Step.TheVariants.{Input, Negate, Clausify, Para, Refl, Factor, Merge, Component, Opposite, Split, Chain}
 use Rattle.kernel_steps.specs.Keys.{commas_before, with_commas}
 use Rattle.signature.specs.declared.symbol.Symbol.{Symbol}
-use Rattle.tptp_token.specs.Spelling.{is_digit, is_lower, is_upper, is_word_byte, is_lower_word}
+use Rattle.tptp_token.specs.Spelling.{is_digit, is_lower, is_upper, is_word_byte, is_lower_word, is_variable_word}
 use Rattle.tptp_token.specs.Words.{name_text, quoted_text}
 use Rattle.tptp_tree.specs.Formula.{FormulaTree, truth, predicate, equation, formulas_of}
 use Rattle.tptp_tree.specs.Term.{TermTree, variable as named_variable, application as named_application, TermTrees, no_terms, term_then}
@@ -23,7 +23,7 @@ use Rattle.tptp_source.specs.General.{GeneralTree, number, trees_of}
 use Rattle.tptp_source.specs.Sources.{inference_source, component_source, opposite_source, word_of as word_term, list_of as list_term}
 use Rattle.tptp_source.specs.declared.sign.NumberSign.TheVariants.{Unsigned}
 use Rattle.tstp_writer.specs.SourceTexts.{general_text, arguments_text as general_arguments, items_text, more_text, is_number_name, name_term, source_text}
-use Rattle.tstp_writer.specs.ClauseTrees.{symbol_name, term_tree, term_trees, with_sign, atom_formula, literal_formula, introduced_name, signed_name_formula, one_of, clause_formula}
+use Rattle.tstp_writer.specs.ClauseTrees.{symbol_name, variable_name, term_tree, term_trees, with_sign, atom_formula, literal_formula, introduced_name, signed_name_formula, one_of, clause_formula}
 use Rattle.tptp_source.specs.Sources.{SourceTree}
 use Rattle.tptp_tree.specs.Entries.{AnnotatedTree, language_word, role_word}
 use Rattle.clausal_form.specs.DerivationLine.{LineTree}
@@ -138,6 +138,9 @@ digits-words (d ∷ ds) h =
     and_from (is_word_byte d) (list_all is_word_byte ds) (digit-word d each.0) (digits-words ds each.1)
 
 -- ---- names
+
+pub variable_name-word : (v : ℕ) → is_variable_word (variable_name v) ≡ true
+variable_name-word v = digits-words (decimal v) (decimal-digits v)
 
 -- a lower word with a number behind it is one
 pub numbered-lower : (prefix : List ℕ) (n : ℕ) → is_lower_word prefix ≡ true → is_lower_word (prefix ++ decimal n) ≡ true

@@ -7,7 +7,7 @@ use Rattle.clausal_form.specs.DerivationParts.{Setting}
 use Rattle.clausal_form.specs.DerivationCauses.{LineVerdict, taken, line_verdict}
 use Rattle.clausal_form.specs.DerivationLines.{LinesVerdict, all_taken, after_line, lines_verdict_from}
 use Rattle.clausal_form.proofs.TextLemmas.{verdict-joined}
-use Rattle.tstp_writer.specs.PlainLines.{taken_as}
+use Rattle.tstp_writer.specs.ReadableLines.{taken_as}
 
 -- what was taken, where no name was introduced
 abbrev pub state : List NamedLine → Taken

@@ -10,14 +10,14 @@ use Rattle.fol_base.specs.Place.{subterm}
 use Rattle.fol_base.specs.Sides.{side_of}
 use Rattle.fol_base.specs.Clause.{TreeLiteral, TreeClause, literal_size, clause_size, clause_variables}
 use Rattle.fol_base.specs.Canonical.{bound_of}
-use Rattle.fol_base.specs.Rules.{superposed, resolved, merged}
+use Rattle.fol_base.specs.Rules.{superposed, resolved, factored, merged}
 use Rattle.fol_base.specs.declared.clause.Side.{Side}
 use Rattle.fol_base.specs.declared.clause.Side.TheVariants.{Left, Right}
 use Rattle.fol_base.specs.declared.limits.TheConstants.{MOST_BOUND_SYMBOLS}
 use Rattle.fol_base.proofs.TreeLemmas.{tree_size-positive}
-use Rattle.fol_base.proofs.RuleLemmas.{superposed-parts, superposed_literal-parts, resolved-parts, merged-parts}
+use Rattle.fol_base.proofs.RuleLemmas.{superposed-parts, superposed_literal-parts, resolved-parts, factored-parts, merged-parts}
 use Rattle.kernel_steps.specs.Conclusion.{bound_clause, bound_literals, binds}
-use Rattle.tstp_writer.specs.DerivedLines.{Fits}
+use Rattle.tstp_writer.specs.ReadableLines.{Fits}
 
 -- ---- terms
 
@@ -82,33 +82,43 @@ pub record ParaFits (from into : ℕ) (place : List ℕ) : Type 0 where
   pub place_fits : AllByRecursion Fits place
 
 pub para-fits :
-    (first second : TreeClause) (from into : ℕ) (from_side into_side : Side) (place : List ℕ) (made : List TreeLiteral)
-    → binds [] first ≡ true → binds [] second ≡ true
-    → superposed (bound_literals [] first) from from_side (bound_literals [] second) into into_side place ≡ Some made → ParaFits from into place
-para-fits first second from into from_side into_side place made first_bound second_bound h =
-    let parts = superposed-parts (bound_literals [] first) from from_side (bound_literals [] second) into into_side place made h in
+    (first second : TreeClause) (first_bind second_bind : List Tree) (from into : ℕ) (from_side into_side : Side) (place : List ℕ)
+    (made : List TreeLiteral)
+    → binds first_bind first ≡ true → binds second_bind second ≡ true
+    → superposed (bound_literals first_bind first) from from_side (bound_literals second_bind second) into into_side place ≡ Some made
+    → ParaFits from into place
+para-fits first second first_bind second_bind from into from_side into_side place made first_bound second_bound h =
+    let parts =
+    superposed-parts (bound_literals first_bind first) from from_side (bound_literals second_bind second) into into_side place made h in
     let literal = superposed_literal-parts parts.from from_side parts.into into_side place parts.literal parts.literal_made in
-    let into_small = literal-small (bound_literals [] second) into parts.into parts.into_there in
+    let into_small = literal-small (bound_literals second_bind second) into parts.into parts.into_there in
     let small : tree_size (side_of into_side parts.into) ≤ 8000 =
-    omega (arith, side-small into_side parts.into, into_small.1, bound-small [] second second_bound) in
+    omega (arith, side-small into_side parts.into, into_small.1, bound-small second_bind second second_bound) in
     record {
-      from_fits = literal-fits [] first from parts.from first_bound parts.from_there;
-      into_fits = literal-fits [] second into parts.into second_bound parts.into_there;
+      from_fits = literal-fits first_bind first from parts.from first_bound parts.from_there;
+      into_fits = literal-fits second_bind second into parts.into second_bound parts.into_there;
       place_fits =
           all-fit place
           (place-below 8000 place (side_of into_side parts.into) (side_of from_side parts.from) literal.old_there small);
     }
 
 pub refl-fits :
-    (c : TreeClause) (literal : ℕ) (made : List TreeLiteral) → binds [] c ≡ true → resolved (bound_literals [] c) literal ≡ Some made → Fits literal
-refl-fits c literal made bound h =
-    let parts = resolved-parts (bound_literals [] c) literal made h in
-    literal-fits [] c literal parts.literal bound parts.literal_there
+    (c : TreeClause) (bind : List Tree) (literal : ℕ) (made : List TreeLiteral)
+    → binds bind c ≡ true → resolved (bound_literals bind c) literal ≡ Some made → Fits literal
+refl-fits c bind literal made bound h =
+    let parts = resolved-parts (bound_literals bind c) literal made h in
+    literal-fits bind c literal parts.literal bound parts.literal_there
+
+pub factor-fits :
+    (c : TreeClause) (bind : List Tree) (becomes : ℕ) (becomes_side : Side) (other : ℕ) (other_side : Side) (made : List TreeLiteral)
+    → binds bind c ≡ true → factored (bound_literals bind c) becomes becomes_side other other_side ≡ Some made → Fits becomes × Fits other
+factor-fits c bind becomes becomes_side other other_side made bound h =
+    let parts = factored-parts (bound_literals bind c) becomes becomes_side other other_side made h in
+    (literal-fits bind c becomes parts.literal_i bound parts.i_there, literal-fits bind c other parts.literal_j bound parts.j_there)
 
 pub merge-fits :
-    (c : TreeClause) (stays goes : ℕ) (made : List TreeLiteral) → binds [] c ≡ true → merged (bound_literals [] c) stays goes ≡ Some made
-    → Fits stays × Fits goes
-merge-fits c stays goes made bound h =
-    let ls : List TreeLiteral = bound_literals [] c in
-    let parts = merged-parts ls stays goes made h in
-    (literal-fits [] c stays parts.literal_i bound parts.i_there, literal-fits [] c goes parts.literal_j bound parts.j_there)
+    (c : TreeClause) (bind : List Tree) (stays goes : ℕ) (made : List TreeLiteral)
+    → binds bind c ≡ true → merged (bound_literals bind c) stays goes ≡ Some made → Fits stays × Fits goes
+merge-fits c bind stays goes made bound h =
+    let parts = merged-parts (bound_literals bind c) stays goes made h in
+    (literal-fits bind c stays parts.literal_i bound parts.i_there, literal-fits bind c goes parts.literal_j bound parts.j_there)

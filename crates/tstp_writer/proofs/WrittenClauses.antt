@@ -1,33 +1,33 @@
--- The formula as which a clause without variables and names is written is that clause when it is read again.
-use Rattle.std.proofs.Common.{◌≡◌, ◌⊎◌, inl, inr, ℕ, zero, suc, ◌+◌, Bool, true, false, not, ◌&&◌, ◌||◌, ◌==◌, List, [], ◌∷◌, ◌++◌, map, Option, Some, None, cond, refl, ap, ap₂, sym, ◌∙◌, subst, arith}
+-- The formula as which a clause without names is written is read as that clause, each variable as what its name stands for.
+use mathlib.Core.Bool.{beq}
+use Rattle.std.proofs.Common.{◌≡◌, ℕ, zero, suc, ◌+◌, Bool, true, false, not, ◌==◌, List, [], ◌∷◌, ◌++◌, map, Option, Some, None, cond, refl, ap, ap₂, sym, ◌∙◌, subst, arith}
 use Rattle.std.specs.Prelude.{filter, filter_map, flat_map, slice_get, unwrap_or, option_map, is_none, is_some, if◌then◌else◌}
 use Rattle.std.specs.List.{list_all, list_any, position_or_len}
-use Rattle.std.proofs.lemmas.Bool.{and_parts, and_from, or_left, or_right, or_cases, not-true, eqb-true, ne_eqb, true≢false, false≢true, false_from_ne_true}
+use Rattle.std.proofs.lemmas.Bool.{and_parts, and_from, or_left, or_right, not-true, eqb-true, true≢false, false≢true, false_from_ne_true}
 use Rattle.std.proofs.lemmas.Option.{none-some, same_Some}
-use Rattle.std.proofs.lemmas.List.{append-nil}
+use Rattle.std.proofs.lemmas.List.{append-nil, map-append}
 use Rattle.plain_types.specs.declared.sequence.NameLit.{NameLit}
 use Rattle.kernel_steps.specs.Names.{are_sorted}
-use Rattle.fol_base.specs.Tree.{Tree, variable, application, Trees, no_trees, tree_then, trees_count, is_truth, true_tree}
-use Rattle.fol_base.specs.Ground.{is_ground, are_ground}
-use Rattle.fol_base.specs.Kind.{is_function_term, are_function_terms, is_predicate_term, is_literal}
-use Rattle.fol_base.specs.Clause.{TreeLiteral, TreeClause}
-use Rattle.fol_base.proofs.TreeLemmas.{tree_eq-true}
+use Rattle.fol_base.specs.Tree.{Tree, variable, application, Trees, no_trees, tree_then, trees_count, tree_variables, trees_variables, true_tree}
+use Rattle.fol_base.specs.Instance.{Substitution, instance, instances}
+use Rattle.fol_base.specs.Clause.{TreeLiteral, TreeClause, literal_variables, clause_variables, literal_instance, clause_instance}
 use Rattle.fol_base.proofs.TestLemmas.{list_all-joined}
 use Rattle.tptp_tree.specs.Term.{no_terms, term_then}
 use Rattle.tptp_tree.specs.Formula.{FormulaTree, truth, falsity, predicate, equation, negation, conjunction, disjunction, connected, quantified, formulas_of, list_of_formulas}
 use Rattle.signature.specs.declared.symbol.Symbol.{Symbol}
 use Rattle.signature.specs.declared.symbol.SymbolKind.{SymbolKind}
 use Rattle.signature.specs.declared.symbol.SymbolKind.TheVariants.{Predicate, Function}
-use Rattle.signature.specs.Symbol.{is_predicate_kind, predicate_symbol, function_symbol, true_symbol, same_symbol, has_symbol, number_of, are_different}
+use Rattle.signature.specs.Symbol.{is_predicate_kind, predicate_symbol, function_symbol, same_symbol, has_symbol, number_of, are_different}
 use Rattle.signature.specs.SymbolLaws.{same_symbol-refl, same_symbol-true}
 use Rattle.signature.specs.Occurrences.{terms_count, term_symbols, terms_symbols, formula_symbols}
-use Rattle.signature.specs.Environment.{Environment, term_under, terms_under}
+use Rattle.signature.specs.Environment.{Environment, term_names, terms_names, free_names, term_under, terms_under}
 use Rattle.signature.specs.Clausal.{atom_literal}
-use Rattle.kernel_steps.specs.Symbols.{symbols_pass, all_symbols_pass}
 use Rattle.clausal_form.specs.FormFunctions.{is_predicate_in}
 use Rattle.clausal_form.specs.DerivationClause.{literals_of, is_positive, atom_of, is_literal as is_literal_formula, signed, clause_by, atom_name, literal_name, ordinary_literals, names_come_last, is_written_clause, Numbering, literal_by}
-use Rattle.tstp_writer.specs.ClauseTrees.{symbol_name, term_tree, term_trees, with_sign, atom_formula, literal_formula, signed_name_formula, one_of, clause_formula}
-use Rattle.tstp_writer.specs.PlainLines.{is_plain_literal, is_symbol_in, is_literal_over}
+use Rattle.tstp_writer.specs.ClauseTrees.{symbol_name, variable_name, term_tree, term_trees, with_sign, atom_formula, literal_formula, signed_name_formula, one_of, clause_formula}
+use Rattle.tstp_writer.specs.ReadableLines.{is_symbol_in, is_literal_over}
+use Rattle.tstp_writer.proofs.LiteralKinds.{IsTermOver, AreTermsOver, first-term, more-terms, IsHeadOver, function-head, IsEquationOver, by-kind}
+use Rattle.tstp_writer.proofs.VariableNames.{IsReadBy, AreReadBy, all-front, all-back}
 
 -- ---- symbols by their numbers
 
@@ -114,250 +114,264 @@ listed-formulas (f ∷ fs) = ap (λ gs. f ∷ gs) (listed-formulas fs)
 abbrev pub AreKnown : List Symbol → List Symbol → Type 0
 AreKnown symbols ss = list_all (λ s. has_symbol s symbols) ss ≡ true
 
-module _ (symbols : List Symbol) (different : are_different symbols ≡ true) (environment : Environment) where
-  terms_count-same : (ts : Trees) → terms_count (term_trees symbols ts) ≡ trees_count ts
-  terms_count-same no_trees = refl
-  terms_count-same (tree_then t ts) = ap (λ n. 1 + n) (terms_count-same ts)
+terms_count-same : (symbols : List Symbol) (ts : Trees) → terms_count (term_trees symbols ts) ≡ trees_count ts
+terms_count-same symbols no_trees = refl
+terms_count-same symbols (tree_then t ts) = ap (λ n. 1 + n) (terms_count-same symbols ts)
 
-  -- what holds of a term that is read back
-  record IsFunctionTermOver (t : Tree) : Type 0 where
-    ground : is_ground t ≡ true
-    function : is_function_term (is_predicate_in symbols) t ≡ true
-    pass : symbols_pass (is_symbol_in symbols) t ≡ true
+-- the names of a term's variables
+mutual
+  pub term-names : (symbols : List Symbol) (t : Tree) → term_names (term_tree symbols t) ≡ map variable_name (tree_variables t)
+  term-names symbols (variable v) = refl
+  term-names symbols (application f ts) = terms-names symbols ts
 
-  record AreFunctionTermsOver (ts : Trees) : Type 0 where
-    ground : are_ground ts ≡ true
-    functions : are_function_terms (is_predicate_in symbols) ts ≡ true
-    pass : all_symbols_pass (is_symbol_in symbols) ts ≡ true
+  terms-names : (symbols : List Symbol) (ts : Trees) → terms_names (term_trees symbols ts) ≡ map variable_name (trees_variables ts)
+  terms-names symbols no_trees = refl
+  terms-names symbols (tree_then t ts) =
+      ap₂ ◌++◌ (term-names symbols t) (terms-names symbols ts) ∙ sym (map-append variable_name (tree_variables t) (trees_variables ts))
 
-  first-term : (t : Tree) (ts : Trees) → AreFunctionTermsOver (tree_then t ts) → IsFunctionTermOver t
-  first-term t ts h = record {
-    ground = (and_parts (is_ground t) (are_ground ts) h.ground).0;
-    function = (and_parts (is_function_term (is_predicate_in symbols) t) (are_function_terms (is_predicate_in symbols) ts) h.functions).0;
-    pass = (and_parts (symbols_pass (is_symbol_in symbols) t) (all_symbols_pass (is_symbol_in symbols) ts) h.pass).0;
-  }
-
-  more-terms : (t : Tree) (ts : Trees) → AreFunctionTermsOver (tree_then t ts) → AreFunctionTermsOver ts
-  more-terms t ts h = record {
-    ground = (and_parts (is_ground t) (are_ground ts) h.ground).1;
-    functions = (and_parts (is_function_term (is_predicate_in symbols) t) (are_function_terms (is_predicate_in symbols) ts) h.functions).1;
-    pass = (and_parts (symbols_pass (is_symbol_in symbols) t) (all_symbols_pass (is_symbol_in symbols) ts) h.pass).1;
-  }
-
-  -- the head of a term, and its arguments
+module _ (symbols : List Symbol) where
+  -- the symbol at the head of a term or an atom
   head-there :
-      (f : ℕ) (ts : Trees) → IsFunctionTermOver (application f ts)
-      → slice_get symbols f ≡ Some (function_symbol (symbol_name symbols f) (terms_count (term_trees symbols ts)))
-  head-there f ts h =
-      let kinds = and_parts (not (f == 0)) (not (is_predicate_in symbols f) && are_function_terms (is_predicate_in symbols) ts) h.function in
-      let function = and_parts (not (is_predicate_in symbols f)) (are_function_terms (is_predicate_in symbols) ts) kinds.1 in
-      let passes = and_parts (is_symbol_in symbols f (trees_count ts)) (all_symbols_pass (is_symbol_in symbols) ts) h.pass in
-      symbol-at symbols f (terms_count (term_trees symbols ts)) Function (ap (is_symbol_in symbols f) (terms_count-same ts) ∙ passes.0)
-      (not-true (is_predicate_in symbols f) function.0)
-
-  arguments-over : (f : ℕ) (ts : Trees) → IsFunctionTermOver (application f ts) → AreFunctionTermsOver ts
-  arguments-over f ts h =
-      let kinds = and_parts (not (f == 0)) (not (is_predicate_in symbols f) && are_function_terms (is_predicate_in symbols) ts) h.function in
-      record {
-        ground = h.ground;
-        functions = (and_parts (not (is_predicate_in symbols f)) (are_function_terms (is_predicate_in symbols) ts) kinds.1).1;
-        pass = (and_parts (is_symbol_in symbols f (trees_count ts)) (all_symbols_pass (is_symbol_in symbols) ts) h.pass).1;
-      }
+      (f : ℕ) (ts : Trees) (kind : SymbolKind) → IsHeadOver symbols f ts (is_predicate_kind kind)
+      → slice_get symbols f ≡ Some (record { kind = kind; name = symbol_name symbols f; arity = terms_count (term_trees symbols ts) })
+  head-there f ts kind h =
+      symbol-at symbols f (terms_count (term_trees symbols ts)) kind (ap (is_symbol_in symbols f) (terms_count-same symbols ts) ∙ h.there) h.kind
 
   mutual
-    term-back : (t : Tree) → IsFunctionTermOver t → term_under symbols environment (term_tree symbols t) ≡ t
-    term-back (variable v) h = absurd (false≢true h.ground)
-    term-back (application f ts) h =
-        ap₂ application (number-back symbols f _ different (head-there f ts h)) (terms-back ts (arguments-over f ts h))
-
-    terms-back : (ts : Trees) → AreFunctionTermsOver ts → terms_under symbols environment (term_trees symbols ts) ≡ ts
-    terms-back no_trees h = refl
-    terms-back (tree_then t ts) h = ap₂ tree_then (term-back t (first-term t ts h)) (terms-back ts (more-terms t ts h))
-
-  mutual
-    term-known : (t : Tree) → IsFunctionTermOver t → AreKnown symbols (term_symbols (term_tree symbols t))
+    pub term-known : (t : Tree) → IsTermOver symbols t → AreKnown symbols (term_symbols (term_tree symbols t))
     term-known (variable v) h = refl
     term-known (application f ts) h =
         let head : Symbol = function_symbol (symbol_name symbols f) (terms_count (term_trees symbols ts)) in
-        and_from (has_symbol head symbols) _ (symbol-there symbols f head (head-there f ts h)) (terms-known ts (arguments-over f ts h))
+        let over : IsHeadOver symbols f ts false = function-head symbols f ts h in
+        and_from (has_symbol head symbols) _ (symbol-there symbols f head (head-there f ts Function over)) (terms-known ts over.arguments)
 
-    terms-known : (ts : Trees) → AreFunctionTermsOver ts → AreKnown symbols (terms_symbols (term_trees symbols ts))
+    terms-known : (ts : Trees) → AreTermsOver symbols ts → AreKnown symbols (terms_symbols (term_trees symbols ts))
     terms-known no_trees h = refl
     terms-known (tree_then t ts) h =
         list_all-joined (λ s. has_symbol s symbols) (term_symbols (term_tree symbols t)) (terms_symbols (term_trees symbols ts))
-        (term-known t (first-term t ts h)) (terms-known ts (more-terms t ts h))
+        (term-known t (first-term symbols t ts h)) (terms-known ts (more-terms symbols t ts h))
 
   -- ---- literals
 
-  abbrev pub numbered : Numbering
-  numbered = record { symbols = symbols; variables = environment }
-
-  -- a formula is read as a literal
-  pub record IsReadAs (f : FormulaTree) (l : TreeLiteral) : Type 0 where
+  -- a formula is written as the literal is
+  pub record IsWrittenAs (f : FormulaTree) (l : TreeLiteral) : Type 0 where
     pub written : is_literal_formula f ≡ true
     pub alone : literals_of f ≡ f ∷ []
-    pub same : literal_by numbered f ≡ l
+    pub names : free_names f ≡ map variable_name (literal_variables l)
     pub known : AreKnown symbols (formula_symbols f)
 
-  truth-read : (b : Bool) → IsReadAs (with_sign b truth) (atom_literal b true_tree)
-  truth-read true = record { written = refl; alone = refl; same = refl; known = refl }
-  truth-read false = record { written = refl; alone = refl; same = refl; known = refl }
+  truth-written : (b : Bool) → IsWrittenAs (with_sign b truth) (atom_literal b true_tree)
+  truth-written true = record { written = refl; alone = refl; names = refl; known = refl }
+  truth-written false = record { written = refl; alone = refl; names = refl; known = refl }
 
-  predicate-read :
-      (b : Bool) (f : ℕ) (ts : Trees) → is_predicate_in symbols f ≡ true → is_symbol_in symbols f (trees_count ts) ≡ true → AreFunctionTermsOver ts
-      → IsReadAs (with_sign b (predicate (symbol_name symbols f) (term_trees symbols ts))) (atom_literal b (application f ts))
-  predicate-read b f ts predicate_is there h = by b
+  -- a predicate isn't written as `$true` is
+  apart-false : (f : ℕ) → not (f == 0) ≡ true → (f == 0) ≡ false
+  apart-false f h = not-true (f == 0) h
+
+  predicate-written :
+      (b : Bool) (f : ℕ) (ts : Trees) → IsHeadOver symbols f ts true
+      → IsWrittenAs (literal_formula symbols (atom_literal b (application f ts))) (atom_literal b (application f ts))
+  predicate-written b f ts over =
+      subst (λ c. IsWrittenAs (with_sign b (if c then truth else atom)) (atom_literal b (application f ts))) (sym (apart-false f over.apart)) (by b)
     where
+      atom : FormulaTree
+      atom = predicate (symbol_name symbols f) (term_trees symbols ts)
+
       head : Symbol
       head = predicate_symbol (symbol_name symbols f) (terms_count (term_trees symbols ts))
 
-      at : slice_get symbols f ≡ Some head
-      at = symbol-at symbols f (terms_count (term_trees symbols ts)) Predicate (ap (is_symbol_in symbols f) (terms_count-same ts) ∙ there) predicate_is
-
-      atom : application (number_of symbols head) (terms_under symbols environment (term_trees symbols ts)) ≡ application f ts
-      atom = ap₂ application (number-back symbols f head different at) (terms-back ts h)
-
       all : AreKnown symbols (head ∷ terms_symbols (term_trees symbols ts))
-      all = and_from (has_symbol head symbols) _ (symbol-there symbols f head at) (terms-known ts h)
+      all =
+          and_from (has_symbol head symbols) _ (symbol-there symbols f head (head-there f ts Predicate over)) (terms-known ts over.arguments)
 
-      by : (b : Bool) → IsReadAs (with_sign b (predicate (symbol_name symbols f) (term_trees symbols ts))) (atom_literal b (application f ts))
-      by true = record { written = refl; alone = refl; same = ap (atom_literal true) atom; known = all }
-      by false = record { written = refl; alone = refl; same = ap (atom_literal false) atom; known = all }
+      names : terms_names (term_trees symbols ts) ≡ map variable_name (trees_variables ts ++ [])
+      names = terms-names symbols ts ∙ ap (map variable_name) (sym (append-nil (trees_variables ts)))
 
-  module _ (truth_first : slice_get symbols 0 ≡ Some true_symbol) where
-    -- `$true` has no arguments
-    none-behind : (ts : Trees) → is_symbol_in symbols 0 (trees_count ts) ≡ true → ts ≡ no_trees
-    none-behind no_trees h = refl
-    none-behind (tree_then t ts) h =
-        let apart : (0 == trees_count (tree_then t ts)) ≡ false = ne_eqb 0 (trees_count (tree_then t ts)) λ e. omega (arith, e) in
-        absurd
-        (false≢true
-        (sym apart ∙ sym (ap (λ o. unwrap_or (option_map (λ (s : Symbol). s.arity == trees_count (tree_then t ts)) o) false) truth_first) ∙ h))
+      by : (b : Bool) → IsWrittenAs (with_sign b atom) (atom_literal b (application f ts))
+      by true = record { written = refl; alone = refl; names = names; known = all }
+      by false = record { written = refl; alone = refl; names = names; known = all }
 
-    -- an atom with `$true` on its right is `$true`, or a predicate's
-    atom-kinds :
-        (f : ℕ) (ts : Trees) → is_literal (is_predicate_in symbols) (atom_literal true (application f ts)) ≡ true → (f == 0) ≡ false
-        → (is_predicate_in symbols f && are_function_terms (is_predicate_in symbols) ts) ≡ true
-    atom-kinds f ts h apart =
-        by (or_cases (is_function_term (is_predicate_in symbols) (application f ts) && false) ((is_predicate_term (is_predicate_in symbols) (application f ts) || is_truth (application f ts)) && true) h)
+  equation-written : (l : TreeLiteral) → IsEquationOver symbols l → IsWrittenAs (literal_formula symbols l) l
+  equation-written l over =
+      subst (λ c. IsWrittenAs (if c then with_sign l.positive (atom_formula symbols l.left) else both) l) (sym over.no_truth)
+      (record {
+        written = refl;
+        alone = refl;
+        names =
+            ap₂ ◌++◌ (term-names symbols l.left) (term-names symbols l.right)
+            ∙ sym (map-append variable_name (tree_variables l.left) (tree_variables l.right));
+        known =
+            list_all-joined (λ s. has_symbol s symbols) (term_symbols (term_tree symbols l.left)) (term_symbols (term_tree symbols l.right))
+            (term-known l.left over.left) (term-known l.right over.right);
+      })
+    where
+      both : FormulaTree
+      both = equation l.positive (term_tree symbols l.left) (term_tree symbols l.right)
+
+  literal-written : (l : TreeLiteral) → is_literal_over symbols l ≡ true → IsWrittenAs (literal_formula symbols l) l
+  literal-written =
+      by-kind symbols (λ l. IsWrittenAs (literal_formula symbols l) l) truth-written predicate-written equation-written
+
+  -- ---- lists of literals
+
+  abbrev pub written_literals : List TreeLiteral → List FormulaTree
+  written_literals ls = map (literal_formula symbols) ls
+
+  abbrev AreOver : List TreeLiteral → Type 0
+  AreOver ls = list_all (is_literal_over symbols) ls ≡ true
+
+  first-over : (l : TreeLiteral) (ls : List TreeLiteral) → AreOver (l ∷ ls) → is_literal_over symbols l ≡ true
+  first-over l ls h = (and_parts (is_literal_over symbols l) (list_all (is_literal_over symbols) ls) h).0
+
+  more-over : (l : TreeLiteral) (ls : List TreeLiteral) → AreOver (l ∷ ls) → AreOver ls
+  more-over l ls h = (and_parts (is_literal_over symbols l) (list_all (is_literal_over symbols) ls) h).1
+
+  first-written : (l : TreeLiteral) (ls : List TreeLiteral) → AreOver (l ∷ ls) → IsWrittenAs (literal_formula symbols l) l
+  first-written l ls h = literal-written l (first-over l ls h)
+
+  all-written : (ls : List TreeLiteral) → AreOver ls → list_all is_literal_formula (written_literals ls) ≡ true
+  all-written [] h = refl
+  all-written (l ∷ ls) h =
+      and_from (is_literal_formula (literal_formula symbols l)) _ (first-written l ls h).written (all-written ls (more-over l ls h))
+
+  pub all-known : (ls : List TreeLiteral) → AreOver ls → AreKnown symbols (flat_map formula_symbols (written_literals ls))
+  all-known [] h = refl
+  all-known (l ∷ ls) h =
+      list_all-joined (λ s. has_symbol s symbols) (formula_symbols (literal_formula symbols l)) (flat_map formula_symbols (written_literals ls))
+      (first-written l ls h).known (all-known ls (more-over l ls h))
+
+  pub all-names :
+      (ls : List TreeLiteral) → AreOver ls → flat_map free_names (written_literals ls) ≡ map variable_name (flat_map literal_variables ls)
+  all-names [] h = refl
+  all-names (l ∷ ls) h =
+      ap₂ ◌++◌ (first-written l ls h).names (all-names ls (more-over l ls h))
+      ∙ sym (map-append variable_name (literal_variables l) (flat_map literal_variables ls))
+
+  literals-back : (ls : List TreeLiteral) → AreOver ls → literals_of (one_of (written_literals ls)) ≡ written_literals ls
+  literals-back [] h = refl
+  literals-back (l ∷ []) h = (first-written l [] h).alone
+  literals-back (l ∷ m ∷ ls) h = listed-formulas (written_literals (l ∷ m ∷ ls))
+
+  -- ---- the formula of a clause
+
+  pub record IsClauseFormula (f : FormulaTree) (c : TreeClause) : Type 0 where
+    pub written : is_written_clause [] f ≡ true
+    pub ordinary : ordinary_literals [] f ≡ written_literals c.literals
+
+  pub clause-formula :
+      (prefix : List ℕ) (c : TreeClause) → c.names ≡ [] → AreOver c.literals → IsClauseFormula (clause_formula symbols prefix c) c
+  clause-formula prefix c no_names h =
+      record {
+        written =
+            and_from (list_all is_literal_formula (literals_of f)) _
+            (ap (list_all is_literal_formula) literals_are ∙ all-written c.literals h)
+            (and_from (names_come_last [] (literals_of f)) _ (names-last (literals_of f)) (ap are_sorted (no-clause_names (literals_of f))));
+        ordinary = all-ordinary (literals_of f) ∙ literals_are;
+      }
+    where
+      f : FormulaTree
+      f = clause_formula symbols prefix c
+
+      formula_is : f ≡ one_of (written_literals c.literals)
+      formula_is =
+          ap (λ ns. one_of (written_literals c.literals ++ map (signed_name_formula prefix) ns)) no_names
+          ∙ ap one_of (append-nil (written_literals c.literals))
+
+      literals_are : literals_of f ≡ written_literals c.literals
+      literals_are = ap literals_of formula_is ∙ literals-back c.literals h
+
+  -- ---- what is read again, where the variables are read by a substitution
+
+  module _ (different : are_different symbols ≡ true) (environment : Environment) (σ : Substitution) where
+    mutual
+      pub term-back :
+          (t : Tree) → IsTermOver symbols t → AreReadBy environment σ (tree_variables t)
+          → term_under symbols environment (term_tree symbols t) ≡ instance σ t
+      term-back (variable v) h read = read.0
+      term-back (application f ts) h read =
+          let over : IsHeadOver symbols f ts false = function-head symbols f ts h in
+          ap₂ application (number-back symbols f _ different (head-there f ts Function over)) (terms-back ts over.arguments read)
+
+      terms-back :
+          (ts : Trees) → AreTermsOver symbols ts → AreReadBy environment σ (trees_variables ts)
+          → terms_under symbols environment (term_trees symbols ts) ≡ instances σ ts
+      terms-back no_trees h read = refl
+      terms-back (tree_then t ts) h read =
+          ap₂ tree_then
+          (term-back t (first-term symbols t ts h) (all-front (IsReadBy environment σ) (tree_variables t) (trees_variables ts) read))
+          (terms-back ts (more-terms symbols t ts h) (all-back (IsReadBy environment σ) (tree_variables t) (trees_variables ts) read))
+
+    abbrev pub numbered : Numbering
+    numbered = record { symbols = symbols; variables = environment }
+
+    -- the literal is read as its instance
+    abbrev IsBack : TreeLiteral → Type 0
+    IsBack l = AreReadBy environment σ (literal_variables l) → literal_by numbered (literal_formula symbols l) ≡ literal_instance σ l
+
+    truth-back : (b : Bool) → IsBack (atom_literal b true_tree)
+    truth-back true read = refl
+    truth-back false read = refl
+
+    predicate-back : (b : Bool) (f : ℕ) (ts : Trees) → IsHeadOver symbols f ts true → IsBack (atom_literal b (application f ts))
+    predicate-back b f ts over read =
+        ap (λ c. literal_by numbered (with_sign b (if c then truth else predicate (symbol_name symbols f) (term_trees symbols ts))))
+        (apart-false f over.apart)
+        ∙ by b
       where
-        predicate_part : Bool
-        predicate_part = is_predicate_in symbols f && are_function_terms (is_predicate_in symbols) ts
+        head : Symbol
+        head = predicate_symbol (symbol_name symbols f) (terms_count (term_trees symbols ts))
+
+        atom : application (number_of symbols head) (terms_under symbols environment (term_trees symbols ts)) ≡ application f (instances σ ts)
+        atom =
+            ap₂ application (number-back symbols f head different (head-there f ts Predicate over))
+            (terms-back ts over.arguments (all-front (IsReadBy environment σ) (trees_variables ts) [] read))
 
         by :
-            ((is_function_term (is_predicate_in symbols) (application f ts) && false) ≡ true)
-            ⊎ (((is_predicate_term (is_predicate_in symbols) (application f ts) || is_truth (application f ts)) && true) ≡ true)
-            → predicate_part ≡ true
-        by (inl both) = absurd (false≢true (and_parts (is_function_term (is_predicate_in symbols) (application f ts)) false both).1)
-        by (inr atom) =
-            later
-            (or_cases (is_predicate_term (is_predicate_in symbols) (application f ts)) (is_truth (application f ts))
-            (and_parts (is_predicate_term (is_predicate_in symbols) (application f ts) || is_truth (application f ts)) true atom).0)
-          where
-            later :
-                (is_predicate_term (is_predicate_in symbols) (application f ts) ≡ true) ⊎ (is_truth (application f ts) ≡ true)
-                → predicate_part ≡ true
-            later (inl one) = (and_parts (not (f == 0)) predicate_part one).1
-            later (inr one) = absurd (false≢true (sym apart ∙ (and_parts (f == 0) _ one).0))
+            (b : Bool)
+            → literal_by numbered (with_sign b (predicate (symbol_name symbols f) (term_trees symbols ts)))
+            ≡ literal_instance σ (atom_literal b (application f ts))
+        by true = ap (atom_literal true) atom
+        by false = ap (atom_literal false) atom
 
-    atom-read :
-        (b : Bool) (t : Tree) → is_ground t ≡ true → is_literal (is_predicate_in symbols) (atom_literal true t) ≡ true
-        → symbols_pass (is_symbol_in symbols) t ≡ true → IsReadAs (with_sign b (atom_formula symbols t)) (atom_literal b t)
-    atom-read b (variable v) ground kind pass = absurd (false≢true ground)
-    atom-read b (application f ts) ground kind pass = by (f == 0) refl
+    equation-back : (l : TreeLiteral) → IsEquationOver symbols l → IsBack l
+    equation-back l over read =
+        ap (λ c. literal_by numbered (if c then with_sign l.positive (atom_formula symbols l.left) else both)) over.no_truth
+        ∙ ap₂ make (term-back l.left over.left (all-front (IsReadBy environment σ) (tree_variables l.left) (tree_variables l.right) read))
+        (term-back l.right over.right (all-back (IsReadBy environment σ) (tree_variables l.left) (tree_variables l.right) read))
+        ∙ ap signed_literal (same l.positive)
       where
-        passes : (is_symbol_in symbols f (trees_count ts) ≡ true) × (all_symbols_pass (is_symbol_in symbols) ts ≡ true)
-        passes = and_parts (is_symbol_in symbols f (trees_count ts)) (all_symbols_pass (is_symbol_in symbols) ts) pass
+        both : FormulaTree
+        both = equation l.positive (term_tree symbols l.left) (term_tree symbols l.right)
 
-        by :
-            (c : Bool) → (f == 0) ≡ c
-            → IsReadAs (with_sign b (if c then truth else predicate (symbol_name symbols f) (term_trees symbols ts))) (atom_literal b (application f ts))
-        by true e =
-            let zero_is : f ≡ 0 = eqb-true f 0 e in
-            let none : ts ≡ no_trees = none-behind ts (ap (λ g. is_symbol_in symbols g (trees_count ts)) (sym zero_is) ∙ passes.0) in
-            subst (λ t. IsReadAs (with_sign b truth) (atom_literal b t)) (sym (ap₂ application zero_is none)) (truth-read b)
-        by false e =
-            let kinds = and_parts (is_predicate_in symbols f) (are_function_terms (is_predicate_in symbols) ts) (atom-kinds f ts kind e) in
-            predicate-read b f ts kinds.0 passes.0 (record { ground = ground; functions = kinds.1; pass = passes.1 })
+        make : Tree → Tree → TreeLiteral
+        make t u = record { positive = beq l.positive true; left = t; right = u }
 
-    pub literal-read : (l : TreeLiteral) → is_literal_over symbols l ≡ true → IsReadAs (literal_formula symbols l) l
-    literal-read l h =
-        let parts = and_parts (is_plain_literal l) _ h in
-        let plain = and_parts (is_ground l.left) (is_truth l.right) parts.0 in
-        let over = and_parts (is_literal (is_predicate_in symbols) l) _ parts.1 in
-        let passes = and_parts (symbols_pass (is_symbol_in symbols) l.left) (symbols_pass (is_symbol_in symbols) l.right) over.1 in
-        let right : l.right ≡ true_tree = tree_eq-true l.right true_tree plain.1 in
-        let make : Tree → TreeLiteral = λ t. record { positive = l.positive; left = l.left; right = t } in
-        let same : atom_literal l.positive l.left ≡ l = ap make (sym right) in
-        subst (λ k. IsReadAs (literal_formula symbols k) k) same
-        (atom-read l.positive l.left plain.0 (ap (λ k. is_literal (is_predicate_in symbols) k) same ∙ over.0) passes.0)
+        signed_literal : Bool → TreeLiteral
+        signed_literal b = record { positive = b; left = instance σ l.left; right = instance σ l.right }
 
-    -- ---- clauses
+        same : (b : Bool) → beq b true ≡ b
+        same true = refl
+        same false = refl
 
-    abbrev written_literals : List TreeLiteral → List FormulaTree
-    written_literals ls = map (literal_formula symbols) ls
+    literal-back : (l : TreeLiteral) → is_literal_over symbols l ≡ true → IsBack l
+    literal-back = by-kind symbols IsBack truth-back predicate-back equation-back
 
-    abbrev AreOver : List TreeLiteral → Type 0
-    AreOver ls = list_all (is_literal_over symbols) ls ≡ true
-
-    first-over : (l : TreeLiteral) (ls : List TreeLiteral) → AreOver (l ∷ ls) → IsReadAs (literal_formula symbols l) l
-    first-over l ls h = literal-read l (and_parts (is_literal_over symbols l) (list_all (is_literal_over symbols) ls) h).0
-
-    more-over : (l : TreeLiteral) (ls : List TreeLiteral) → AreOver (l ∷ ls) → AreOver ls
-    more-over l ls h = (and_parts (is_literal_over symbols l) (list_all (is_literal_over symbols) ls) h).1
-
-    all-written : (ls : List TreeLiteral) → AreOver ls → list_all is_literal_formula (written_literals ls) ≡ true
-    all-written [] h = refl
-    all-written (l ∷ ls) h =
-        and_from (is_literal_formula (literal_formula symbols l)) _ (first-over l ls h).written (all-written ls (more-over l ls h))
-
-    all-same : (ls : List TreeLiteral) → AreOver ls → map (literal_by numbered) (written_literals ls) ≡ ls
-    all-same [] h = refl
-    all-same (l ∷ ls) h = ap₂ ◌∷◌ (first-over l ls h).same (all-same ls (more-over l ls h))
-
-    all-known : (ls : List TreeLiteral) → AreOver ls → AreKnown symbols (flat_map formula_symbols (written_literals ls))
-    all-known [] h = refl
-    all-known (l ∷ ls) h =
-        list_all-joined (λ s. has_symbol s symbols) (formula_symbols (literal_formula symbols l)) (flat_map formula_symbols (written_literals ls))
-        (first-over l ls h).known (all-known ls (more-over l ls h))
-
-    literals-back : (ls : List TreeLiteral) → AreOver ls → literals_of (one_of (written_literals ls)) ≡ written_literals ls
-    literals-back [] h = refl
-    literals-back (l ∷ []) h = (first-over l [] h).alone
-    literals-back (l ∷ m ∷ ls) h = listed-formulas (written_literals (l ∷ m ∷ ls))
-
-    -- a clause that is read again as it was written
-    pub record IsClauseBack (f : FormulaTree) (c : TreeClause) : Type 0 where
-      pub written : is_written_clause [] f ≡ true
-      pub same : clause_by numbered [] f ≡ c
-      pub known : AreKnown symbols (flat_map formula_symbols (ordinary_literals [] f))
+    literals-again :
+        (ls : List TreeLiteral) → AreOver ls → AreReadBy environment σ (flat_map literal_variables ls)
+        → map (literal_by numbered) (written_literals ls) ≡ map (literal_instance σ) ls
+    literals-again [] h read = refl
+    literals-again (l ∷ ls) h read =
+        ap₂ ◌∷◌
+        (literal-back l (first-over l ls h)
+        (all-front (IsReadBy environment σ) (literal_variables l) (flat_map literal_variables ls) read))
+        (literals-again ls (more-over l ls h) (all-back (IsReadBy environment σ) (literal_variables l) (flat_map literal_variables ls) read))
 
     pub clause-back :
-        (prefix : List ℕ) (c : TreeClause) → c.names ≡ [] → list_all (is_literal_over symbols) c.literals ≡ true
-        → IsClauseBack (clause_formula symbols prefix c) c
-    clause-back prefix c no_names h =
-        record {
-          written =
-              and_from (list_all is_literal_formula (literals_of f)) _
-              (ap (list_all is_literal_formula) literals_are ∙ all-written c.literals h)
-              (and_from (names_come_last [] (literals_of f)) _ (names-last (literals_of f)) (ap are_sorted (no-clause_names (literals_of f))));
-          same = ap₂ make (ap (map (literal_by numbered)) ordinary ∙ all-same c.literals h) (no-clause_names (literals_of f) ∙ sym no_names);
-          known = ap (λ fs. list_all (λ s. has_symbol s symbols) (flat_map formula_symbols fs)) ordinary ∙ all-known c.literals h;
-        }
+        (f : FormulaTree) (c : TreeClause) → IsClauseFormula f c → c.names ≡ [] → AreOver c.literals
+        → AreReadBy environment σ (clause_variables c) → clause_by numbered [] f ≡ clause_instance σ c
+    clause-back f c formula no_names h read =
+        ap₂ make (ap (map (literal_by numbered)) formula.ordinary ∙ literals-again c.literals h read)
+        (no-clause_names (literals_of f) ∙ sym no_names)
       where
-        f : FormulaTree
-        f = clause_formula symbols prefix c
-
         make : List TreeLiteral → List NameLit → TreeClause
         make ls ns = record { literals = ls; names = ns }
-
-        formula_is : f ≡ one_of (written_literals c.literals)
-        formula_is =
-            ap (λ ns. one_of (written_literals c.literals ++ map (signed_name_formula prefix) ns)) no_names
-            ∙ ap one_of (append-nil (written_literals c.literals))
-
-        literals_are : literals_of f ≡ written_literals c.literals
-        literals_are = ap literals_of formula_is ∙ literals-back c.literals h
-
-        ordinary : ordinary_literals [] f ≡ written_literals c.literals
-        ordinary = all-ordinary (literals_of f) ∙ literals_are

@@ -1,7 +1,8 @@
--- What is written of a refutation in plain lines is accepted.
+-- What is written of a refutation whose lines can be read again is accepted.
 use Rattle.std.proofs.Common.{◌≡◌, ℕ, true, List, [], ◌∷◌, ◌++◌, length, filter_map, refl, ap, sym, ◌∙◌}
 use Rattle.std.specs.Prelude.{if◌then◌else◌}
 use Rattle.std.proofs.lemmas.Bool.{and_from}
+use Rattle.fol_base.specs.Instance.{Substitution}
 use Rattle.fol_base.specs.Clause.{clause_eq}
 use Rattle.fol_base.specs.Literal.{clause_of}
 use Rattle.tptp_tree.specs.declared.problem.Annotated.{Annotated}
@@ -15,10 +16,11 @@ use Rattle.clausal_form.specs.DerivationParts.{Setting, setting_of}
 use Rattle.clausal_form.specs.DerivationCauses.{no_empty_clause}
 use Rattle.clausal_form.specs.DerivationLines.{is_empty_clause_line, ends_empty, accepted, refused_line, ended}
 use Rattle.clausal_form.proofs.TakenLemmas.{kernel_line-clause}
+use Rattle.tstp_writer.specs.Cone.{IsCone}
 use Rattle.tstp_writer.specs.LineTrees.{Script, script_of, Layout, layout_of, cited_name, negated_name, input_at, negate_at, derived_tree, derivation_trees}
-use Rattle.tstp_writer.specs.PlainLines.{placed_step, derived_taken, all_written}
+use Rattle.tstp_writer.specs.ReadableLines.{read_renaming, placed_step, derived_taken, all_written}
 use Rattle.tstp_writer.specs.Places.{IsCounted}
-use Rattle.tstp_writer.specs.WrittenLaws.{IsPlainRefutation, WrittenLinesAreAccepted}
+use Rattle.tstp_writer.specs.WrittenLaws.{IsReadableRefutation, WrittenLinesAreAccepted}
 use Rattle.tstp_writer.proofs.PlaceLemmas.{stands-last}
 use Rattle.tstp_writer.proofs.WalkLemmas.{Walks, walk-both}
 use Rattle.tstp_writer.proofs.ConeLemmas.{last-there, last-greatest}
@@ -31,22 +33,23 @@ ends-end [] l = refl
 ends-end (k ∷ []) l = refl
 ends-end (k ∷ m ∷ ms) l = ends-end (m ∷ ms) l
 
-placed-clause : (layout : Layout) (step : Step) → is_clause_step step ≡ true → is_clause_step (placed_step layout step) ≡ true
-placed-clause layout (Input place) h = h
-placed-clause layout (Negate place) h = h
-placed-clause layout (Clausify i) h = refl
-placed-clause layout (Para first second from from_side into into_side place first_bind second_bind) h = refl
-placed-clause layout (Refl parent literal bind) h = refl
-placed-clause layout (Factor parent becomes becomes_side other other_side bind) h = refl
-placed-clause layout (Merge parent stays goes bind) h = refl
-placed-clause layout (Component name) h = refl
-placed-clause layout (Opposite name) h = refl
-placed-clause layout (Split parent definitions parts) h = refl
-placed-clause layout (Chain numbers pivots) h = refl
+placed-clause : (layout : Layout) (σ : Substitution) (step : Step) → is_clause_step step ≡ true → is_clause_step (placed_step layout σ step) ≡ true
+placed-clause layout σ (Input place) h = h
+placed-clause layout σ (Negate place) h = h
+placed-clause layout σ (Clausify i) h = refl
+placed-clause layout σ (Para first second from from_side into into_side place first_bind second_bind) h = refl
+placed-clause layout σ (Refl parent literal bind) h = refl
+placed-clause layout σ (Factor parent becomes becomes_side other other_side bind) h = refl
+placed-clause layout σ (Merge parent stays goes bind) h = refl
+placed-clause layout σ (Component name) h = refl
+placed-clause layout σ (Opposite name) h = refl
+placed-clause layout σ (Split parent definitions parts) h = refl
+placed-clause layout σ (Chain numbers pivots) h = refl
 
 module _
     (file : List ℕ) (problem : List Annotated) (lines : List Line) (last : ℕ) (numbers : List ℕ)
-    (r : IsPlainRefutation problem lines last numbers) (counted : IsCounted (layout_of (script_of file problem) lines numbers)) where
+    (r : IsReadableRefutation problem lines last) (cone : IsCone lines last numbers)
+    (counted : IsCounted (layout_of (script_of file problem) lines numbers)) where
   abbrev s : Setting
   s = setting_of problem
 
@@ -61,15 +64,16 @@ module _
 
   last-empty : is_empty_clause_line (derived_line file problem lines numbers last r.line).line ≡ true
   last-empty =
-      and_from (is_clause_step (placed_step layout (r.line).step))
-      (clause_eq (clause_of (kernel_line (placed_step layout (r.line).step) (clause_of (r.line).clause)).clause) empty_clause)
-      (placed-clause layout (r.line).step r.is_clause)
-      (ap (λ c. clause_eq c empty_clause) (kernel_line-clause (placed_step layout (r.line).step) (clause_of (r.line).clause) ∙ r.is_empty))
+      let σ : Substitution = read_renaming (r.line).step (clause_of (r.line).clause) in
+      and_from (is_clause_step (placed_step layout σ (r.line).step))
+      (clause_eq (clause_of (kernel_line (placed_step layout σ (r.line).step) (clause_of (r.line).clause)).clause) empty_clause)
+      (placed-clause layout σ (r.line).step r.is_clause)
+      (ap (λ c. clause_eq c empty_clause) (kernel_line-clause (placed_step layout σ (r.line).step) (clause_of (r.line).clause) ∙ r.is_empty))
 
   all-end : ends_empty all ≡ true
   all-end =
       let split =
-      stands-last numbers last (r.cone).rising (last-there problem lines last numbers r) (last-greatest problem lines last numbers r) in
+      stands-last numbers last cone.rising (last-there problem lines last numbers r cone) (last-greatest problem lines last numbers r cone) in
       ap (λ ns. ends_empty (all_written problem layout lines ns)) split.1
       ∙ ap ends_empty (sym (written-more file problem lines numbers split.0 last r.line r.ends))
       ∙ ends-end (all_written problem layout lines split.0) (derived_line file problem lines numbers last r.line)
@@ -83,14 +87,14 @@ module _
       (inputs file problem lines numbers ++ negations file problem lines numbers) (filter_map (derived_taken layout lines) numbers)
       (walk-both s [] cited negated (inputs file problem lines numbers) (negations file problem lines numbers)
       (inputs-walked file problem lines numbers counted) (negations-walked file problem lines numbers counted))
-      (derived-walked file problem lines numbers last r counted)
+      (derived-walked file problem lines numbers last r cone counted)
 
 pub written-accepted : WrittenLinesAreAccepted
-written-accepted file problem lines last numbers r counted =
+written-accepted file problem lines last numbers r cone counted =
     let all : List NamedLine = all_written problem (layout_of (script_of file problem) lines numbers) lines numbers in
     let walk : Walks (setting_of problem) [] (derivation_trees (script_of file problem) lines numbers) all =
-    all-walked file problem lines last numbers r counted in
+    all-walked file problem lines last numbers r cone counted in
     ap ended walk.verdict
     ∙ ap (λ b. if b then accepted (length all) else refused_line (length all) no_empty_clause)
-    (all-end file problem lines last numbers r counted)
+    (all-end file problem lines last numbers r cone counted)
     ∙ ap accepted (sym walk.lengths)

@@ -12,7 +12,7 @@ use Rattle.tptp_source.specs.General.{GeneralTree, trees_of, list_of_trees}
 use Rattle.tptp_source.specs.Items.{is_decimal, value_behind, below_word, decimal_in, number_before, all_numbers}
 use Rattle.clausal_form.specs.DerivationItems.{numbers_in}
 use Rattle.tstp_writer.specs.LineTrees.{number_item, numbers_item}
-use Rattle.tstp_writer.specs.DerivedLines.{Fits}
+use Rattle.tstp_writer.specs.ReadableLines.{Fits}
 
 -- the first digit isn't 0
 abbrev is_led : List ℕ → Bool

@@ -1,8 +1,10 @@
--- The steps by which plain lines come about, when they are read again: their items, and their parents at other places.
+-- The steps by which lines without names come about, when they are read again: their items, and their parents at other places.
 use Rattle.std.proofs.Common.{◌≡◌, ℕ, Bool, true, List, [], ◌∷◌, take, Option, Some, None, refl, ap, ap₂, sym, ◌∙◌}
 use Rattle.std.specs.Prelude.{option_map, option_and_then, slice_get, codes, if◌then◌else◌}
 use Rattle.std.specs.List.{AllByRecursion}
 use Rattle.std.proofs.lemmas.Option.{same_Some, slice_get-map}
+use Rattle.fol_base.specs.Tree.{Tree}
+use Rattle.fol_base.specs.Instance.{Substitution}
 use Rattle.fol_base.specs.Clause.{TreeClause}
 use Rattle.fol_base.specs.Literal.{clause_of}
 use Rattle.fol_base.specs.declared.clause.Side.{Side}
@@ -20,8 +22,8 @@ use Rattle.clausal_form.specs.DerivationLine.{NamedLine, Taken, kernel_line, ker
 use Rattle.clausal_form.specs.DerivationParts.{parent_lines}
 use Rattle.clausal_form.proofs.TakenLemmas.{kernel_line-clause}
 use Rattle.tstp_writer.specs.LineTrees.{Script, Layout, number_item, numbers_item, side_item, status_item, step_items}
-use Rattle.tstp_writer.specs.PlainLines.{written_place, placed_step}
-use Rattle.tstp_writer.specs.DerivedLines.{Fits, ParentIsTaken}
+use Rattle.tstp_writer.specs.ReadableLines.{Fits, written_place, read_renaming, placed_step}
+use Rattle.tstp_writer.specs.DerivedLines.{ParentIsTaken}
 use Rattle.tstp_writer.proofs.WrittenNumbers.{decimal-back, listed-back}
 
 -- ---- items
@@ -38,18 +40,21 @@ literal-back i z fits =
     ap (option_and_then (λ n. option_map (λ s. at_side n s) (side_of (side_item z)))) (decimal-back i fits)
     ∙ ap (option_map (at_side i)) (side-back z)
 
+-- What was written for a binding isn't looked at here; what it is read as is handed in.
 pub para-back :
-    (script : Script) (first second from into a b : ℕ) (from_side into_side : Side) (place : List ℕ)
+    (script : Script) (first second from into a b : ℕ) (from_side into_side : Side) (place : List ℕ) (first_bind second_bind x y : List Tree)
     → Fits from → Fits into → AllByRecursion Fits place
     → rule_step kind.para_kind []
-    (status_item (codes "thm") ∷ step_items script (Para first second from from_side into into_side place [] [])) (a ∷ b ∷ []) ([] ∷ [] ∷ [])
-    ≡ Some (Para a b from from_side into into_side place [] [])
-para-back script first second from into a b from_side into_side place from_fits into_fits place_fits =
+    (status_item (codes "thm") ∷ step_items script (Para first second from from_side into into_side place first_bind second_bind)) (a ∷ b ∷ [])
+    (x ∷ y ∷ [])
+    ≡ Some (Para a b from from_side into into_side place x y)
+para-back script first second from into a b from_side into_side place first_bind second_bind x y from_fits into_fits place_fits =
     ap₂ made (literal-back from from_side from_fits) into_back
   where
     made : Option OfLiteral → Option (OfLiteral × List ℕ) → Option Step
     made o p =
-        option_and_then (λ (i : OfLiteral). option_map (λ (j : OfLiteral × List ℕ). Para a b i.literal i.side (j.0).literal (j.0).side j.1 [] []) p) o
+        option_and_then
+        (λ (i : OfLiteral). option_map (λ (j : OfLiteral × List ℕ). Para a b i.literal i.side (j.0).literal (j.0).side j.1 x y) p) o
 
     into_back : into_literal (number_item into ∷ side_item into_side ∷ numbers_item place ∷ []) ≡ Some (at_side into into_side, place)
     into_back =
@@ -57,47 +62,57 @@ para-back script first second from into a b from_side into_side place from_fits 
         ∙ ap (option_map (λ p. (at_side into into_side, p))) (listed-back place place_fits)
 
 pub refl-back :
-    (script : Script) (parent literal a : ℕ) → Fits literal
-    → rule_step kind.refl_kind [] (status_item (codes "thm") ∷ step_items script (Refl parent literal [])) (a ∷ []) ([] ∷ [])
-    ≡ Some (Refl a literal [])
-refl-back script parent literal a fits = ap (option_map (λ i. Refl a i [])) (decimal-back literal fits)
+    (script : Script) (parent literal a : ℕ) (bind x : List Tree) → Fits literal
+    → rule_step kind.refl_kind [] (status_item (codes "thm") ∷ step_items script (Refl parent literal bind)) (a ∷ []) (x ∷ []) ≡ Some (Refl a literal x)
+refl-back script parent literal a bind x fits = ap (option_map (λ i. Refl a i x)) (decimal-back literal fits)
+
+pub factor-back :
+    (script : Script) (parent becomes other a : ℕ) (becomes_side other_side : Side) (bind x : List Tree) → Fits becomes → Fits other
+    → rule_step kind.factor_kind []
+    (status_item (codes "thm") ∷ step_items script (Factor parent becomes becomes_side other other_side bind)) (a ∷ []) (x ∷ [])
+    ≡ Some (Factor a becomes becomes_side other other_side x)
+factor-back script parent becomes other a becomes_side other_side bind x becomes_fits other_fits =
+    ap₂ made (literal-back becomes becomes_side becomes_fits) (literal-back other other_side other_fits)
+  where
+    made : Option OfLiteral → Option OfLiteral → Option Step
+    made o p = option_and_then (λ (i : OfLiteral). option_map (λ (j : OfLiteral). Factor a i.literal i.side j.literal j.side x) p) o
 
 pub merge-back :
-    (script : Script) (parent stays goes a : ℕ) → Fits stays → Fits goes
-    → rule_step kind.merge_kind [] (status_item (codes "thm") ∷ step_items script (Merge parent stays goes [])) (a ∷ []) ([] ∷ [])
-    ≡ Some (Merge a stays goes [])
-merge-back script parent stays goes a stays_fits goes_fits = ap₂ made (decimal-back stays stays_fits) (decimal-back goes goes_fits)
+    (script : Script) (parent stays goes a : ℕ) (bind x : List Tree) → Fits stays → Fits goes
+    → rule_step kind.merge_kind [] (status_item (codes "thm") ∷ step_items script (Merge parent stays goes bind)) (a ∷ []) (x ∷ [])
+    ≡ Some (Merge a stays goes x)
+merge-back script parent stays goes a bind x stays_fits goes_fits = ap₂ made (decimal-back stays stays_fits) (decimal-back goes goes_fits)
   where
     made : Option ℕ → Option ℕ → Option Step
-    made o p = option_and_then (λ i. option_map (λ j. Merge a i j []) p) o
+    made o p = option_and_then (λ i. option_map (λ j. Merge a i j x) p) o
 
 -- ---- parents
 
-placed-clause : (layout : Layout) (step : Step) → is_clause_step (placed_step layout step) ≡ is_clause_step step
-placed-clause layout (Input place) = refl
-placed-clause layout (Negate place) = refl
-placed-clause layout (Clausify i) = refl
-placed-clause layout (Para first second from from_side into into_side place first_bind second_bind) = refl
-placed-clause layout (Refl parent literal bind) = refl
-placed-clause layout (Factor parent becomes becomes_side other other_side bind) = refl
-placed-clause layout (Merge parent stays goes bind) = refl
-placed-clause layout (Component name) = refl
-placed-clause layout (Opposite name) = refl
-placed-clause layout (Split parent definitions parts) = refl
-placed-clause layout (Chain parents pivots) = refl
+placed-clause : (layout : Layout) (σ : Substitution) (step : Step) → is_clause_step (placed_step layout σ step) ≡ is_clause_step step
+placed-clause layout σ (Input place) = refl
+placed-clause layout σ (Negate place) = refl
+placed-clause layout σ (Clausify i) = refl
+placed-clause layout σ (Para first second from from_side into into_side place first_bind second_bind) = refl
+placed-clause layout σ (Refl parent literal bind) = refl
+placed-clause layout σ (Factor parent becomes becomes_side other other_side bind) = refl
+placed-clause layout σ (Merge parent stays goes bind) = refl
+placed-clause layout σ (Component name) = refl
+placed-clause layout σ (Opposite name) = refl
+placed-clause layout σ (Split parent definitions parts) = refl
+placed-clause layout σ (Chain parents pivots) = refl
 
-placed-introduces : (layout : Layout) (step : Step) → introduces_name (placed_step layout step) ≡ introduces_name step
-placed-introduces layout (Input place) = refl
-placed-introduces layout (Negate place) = refl
-placed-introduces layout (Clausify i) = refl
-placed-introduces layout (Para first second from from_side into into_side place first_bind second_bind) = refl
-placed-introduces layout (Refl parent literal bind) = refl
-placed-introduces layout (Factor parent becomes becomes_side other other_side bind) = refl
-placed-introduces layout (Merge parent stays goes bind) = refl
-placed-introduces layout (Component name) = refl
-placed-introduces layout (Opposite name) = refl
-placed-introduces layout (Split parent definitions parts) = refl
-placed-introduces layout (Chain parents pivots) = refl
+placed-introduces : (layout : Layout) (σ : Substitution) (step : Step) → introduces_name (placed_step layout σ step) ≡ introduces_name step
+placed-introduces layout σ (Input place) = refl
+placed-introduces layout σ (Negate place) = refl
+placed-introduces layout σ (Clausify i) = refl
+placed-introduces layout σ (Para first second from from_side into into_side place first_bind second_bind) = refl
+placed-introduces layout σ (Refl parent literal bind) = refl
+placed-introduces layout σ (Factor parent becomes becomes_side other other_side bind) = refl
+placed-introduces layout σ (Merge parent stays goes bind) = refl
+placed-introduces layout σ (Component name) = refl
+placed-introduces layout σ (Opposite name) = refl
+placed-introduces layout σ (Split parent definitions parts) = refl
+placed-introduces layout σ (Chain parents pivots) = refl
 
 -- the line of a parent is a parent as before
 pub parent-back :
@@ -112,8 +127,11 @@ parent-back layout lines e n k p before h =
     same_line : h.line ≡ old.line
     same_line = same_Some h.line old.line (sym h.there ∙ old.there)
 
+    σ : Substitution
+    σ = read_renaming (h.line).step (clause_of (h.line).clause)
+
     new : Line
-    new = kernel_line (placed_step layout (h.line).step) (clause_of (h.line).clause)
+    new = kernel_line (placed_step layout σ (h.line).step) (clause_of (h.line).clause)
 
     at : slice_get (kernel_lines e) (written_place layout k) ≡ Some new
     at = slice_get-map (λ (l : NamedLine). l.line) e.lines (written_place layout k) ∙ ap (option_map (λ (l : NamedLine). l.line)) h.taken
@@ -126,7 +144,7 @@ parent-back layout lines e n k p before h =
 
     same_parent : line_parent new ≡ Some p
     same_parent =
-        ap (λ b. if b then Some (make (clause_of new.clause) (introduces_name new.step)) else None) (placed-clause layout (h.line).step ∙ is_clause)
+        ap (λ b. if b then Some (make (clause_of new.clause) (introduces_name new.step)) else None) (placed-clause layout σ (h.line).step ∙ is_clause)
         ∙ ap Some
-        (ap₂ make (kernel_line-clause (placed_step layout (h.line).step) (clause_of (h.line).clause)) (placed-introduces layout (h.line).step)
+        (ap₂ make (kernel_line-clause (placed_step layout σ (h.line).step) (clause_of (h.line).clause)) (placed-introduces layout σ (h.line).step)
         ∙ ap (λ (l : Line). make (clause_of l.clause) (introduces_name l.step)) same_line ∙ old.gives)

@@ -1,5 +1,5 @@
--- A line of a derivation without variables and names is taken when it is read again, behind lines among which its parents are.
-use Rattle.std.specs.Prelude.{◌≡◌, ℕ, ◌^◌, ◌<◌, true, false, List, [], take, length, Some, slice_get, bytes_eq, IsTrue}
+-- A line of a derivation that can be read again is taken when it is read, behind lines among which its parents are.
+use Rattle.std.specs.Prelude.{◌≡◌, ℕ, true, false, List, [], take, length, Some, slice_get, bytes_eq, IsTrue}
 use Rattle.std.specs.List.{list_any, AllByRecursion}
 use Rattle.fol_base.specs.Literal.{clause_of}
 use Rattle.tptp_tree.specs.declared.problem.Annotated.{Annotated}
@@ -9,16 +9,12 @@ use Rattle.kernel_steps.specs.Derivation.{is_clause_step, ComesBy}
 use Rattle.kernel_steps.specs.declared.step.Step.{Step}
 use Rattle.kernel_steps.specs.declared.step.Step.TheVariants.{Clausify}
 use Rattle.kernel_steps.specs.declared.step.Line.{Line}
-use Rattle.clausal_form.specs.DerivationLine.{NamedLine, Taken, kernel_line}
+use Rattle.clausal_form.specs.DerivationLine.{NamedLine, Taken}
 use Rattle.clausal_form.specs.DerivationParts.{setting_of, line_place}
 use Rattle.clausal_form.specs.DerivationCauses.{is_line_of, taken, line_verdict}
 use Rattle.tstp_writer.specs.Cone.{parents_of}
 use Rattle.tstp_writer.specs.LineTrees.{Script, script_of, origin, Layout, derived_name, origin_name, step_source, clause_tree}
-use Rattle.tstp_writer.specs.PlainLines.{IsPlainLine, written_place, placed_step, taken_as}
-
--- a number that can be read again
-abbrev pub Fits : ℕ → Type 0
-Fits n = n < 2 ^ 64
+use Rattle.tstp_writer.specs.ReadableLines.{Fits, IsReadableLine, written_place, placed_line, taken_as}
 
 -- the symbols of a problem's clausal form are those of a signature, and the numbers of its clauses can be read again
 pub record HasNumberedForm (problem : List Annotated) : Type 0 where
@@ -32,7 +28,7 @@ pub record ParentIsTaken (layout : Layout) (lines : List Line) (e : Taken) (n : 
   pub place : line_place e (derived_name layout n) ≡ Some (written_place layout n)
   pub taken :
       slice_get e.lines (written_place layout n)
-      ≡ Some (taken_as (derived_name layout n) (kernel_line (placed_step layout line.step) (clause_of line.clause)))
+      ≡ Some (taken_as (derived_name layout n) (placed_line layout line.step (clause_of line.clause)))
 
 -- the line was taken from which a clause of the form comes
 pub record OriginIsTaken (problem : List Annotated) (script : Script) (layout : Layout) (e : Taken) (i : ℕ) : Type 0 where
@@ -54,10 +50,10 @@ IsNewLine layout e n = list_any (λ (l : NamedLine). bytes_eq (derived_name layo
 abbrev pub DerivedLinesAreTaken : Type 0
 DerivedLinesAreTaken =
     (problem : List Annotated) (file : List ℕ) (layout : Layout) (lines : List Line) (e : Taken) (n : ℕ) (line : Line)
-    → HasNumberedForm problem → IsPlainLine (clausal_form problem).symbols line → IsTrue (is_clause_step line.step)
+    → HasNumberedForm problem → IsReadableLine (clausal_form problem).symbols line → IsTrue (is_clause_step line.step)
     → ComesBy line.step (clausal_form problem).clauses (take n lines) (clause_of line.clause)
     → e.introduced ≡ [] → IsNewLine layout e n → SourcesAreTaken problem (script_of file problem) layout lines e line.step
     → line_verdict (setting_of problem) e
     (clause_tree (script_of file problem) (derived_name layout n) (clause_of line.clause)
     (step_source (script_of file problem) layout line.step))
-    ≡ taken (kernel_line (placed_step layout line.step) (clause_of line.clause))
+    ≡ taken (placed_line layout line.step (clause_of line.clause))

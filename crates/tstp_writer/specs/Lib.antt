@@ -7,7 +7,8 @@ pub mod SourceTexts
 pub mod LineTexts
 pub mod ClauseTrees
 pub mod LineTrees
-pub mod PlainLines
+pub mod ReadableLines
+pub mod ReadableExamples
 pub mod WrittenTexts
 pub mod DerivedLines
 pub mod NameTexts

@@ -1,4 +1,4 @@
--- A law of written derivations: of plain lines, the lines that are written are accepted.
+-- A law of written derivations: of lines that can be read again, the lines that are written are accepted.
 use Rattle.std.specs.Prelude.{◌≡◌, ℕ, List, length, Some, slice_get, IsTrue}
 use Rattle.std.specs.List.{AllByRecursion}
 use Rattle.fol_base.specs.Literal.{clause_of}
@@ -10,25 +10,25 @@ use Rattle.kernel_steps.specs.declared.step.Line.{Line}
 use Rattle.clausal_form.specs.DerivationLines.{accepted, verdict_on_lines}
 use Rattle.tstp_writer.specs.Cone.{IsCone}
 use Rattle.tstp_writer.specs.LineTrees.{script_of, layout_of, derivation_trees}
-use Rattle.tstp_writer.specs.PlainLines.{IsPlainLine}
+use Rattle.tstp_writer.specs.ReadableLines.{IsReadableLine}
 use Rattle.tstp_writer.specs.DerivedLines.{HasNumberedForm}
 use Rattle.tstp_writer.specs.Places.{IsCounted}
 
--- A refutation in plain lines: a derivation with a clause line that is the empty clause, and the lines that this one needs.
-pub record IsPlainRefutation (problem : List Annotated) (lines : List Line) (last : ℕ) (numbers : List ℕ) : Type 0 where
+-- A refutation whose text can be read again: a derivation from the problem's form, by lines that can be read again, in which the line
+-- `last` is a clause line with the empty clause.
+pub record IsReadableRefutation (problem : List Annotated) (lines : List Line) (last : ℕ) : Type 0 where
   pub form : HasNumberedForm problem
   pub derived : IsDerivation (clausal_form problem).clauses lines
-  pub plain : AllByRecursion (IsPlainLine (clausal_form problem).symbols) lines
+  pub readable : AllByRecursion (IsReadableLine (clausal_form problem).symbols) lines
   pub line : Line
   pub ends : slice_get lines last ≡ Some line
   pub is_clause : IsTrue (is_clause_step line.step)
   pub is_empty : clause_of line.clause ≡ empty_clause
-  pub cone : IsCone lines last numbers
 
 -- what is written of such a refutation is accepted, where its lines are counted by a machine word
 abbrev pub WrittenLinesAreAccepted : Type 0
 WrittenLinesAreAccepted =
     (file : List ℕ) (problem : List Annotated) (lines : List Line) (last : ℕ) (numbers : List ℕ)
-    → IsPlainRefutation problem lines last numbers → IsCounted (layout_of (script_of file problem) lines numbers)
+    → IsReadableRefutation problem lines last → IsCone lines last numbers → IsCounted (layout_of (script_of file problem) lines numbers)
     → verdict_on_lines problem (derivation_trees (script_of file problem) lines numbers)
     ≡ accepted (length (derivation_trees (script_of file problem) lines numbers))

@@ -8,15 +8,18 @@ ghost use Rattle.kernel_steps.specs.declared.step.Step.TheVariants.{Component, O
 ghost use Rattle.tstp_writer.specs.Cone.{needs, IsCone};
 ghost use Rattle.tstp_writer.specs.ConeExamples.{split_lines};
 ghost use Rattle.tstp_writer.specs.ConeLaws.{DerivationsNeedEarlier};
-ghost use Rattle.tptp_tree.specs.Term.{variable, no_terms};
+ghost use Rattle.fol_base.specs.Tree.{variable};
+ghost use Rattle.tptp_tree.specs.Term.{variable as named_variable, no_terms};
 ghost use Rattle.tptp_tree.specs.Formula.{implies, for_all, truth, falsity, predicate, equation, negation, conjunction, connected, quantified, no_formulas, formula_then};
 ghost use Rattle.tstp_writer.specs.Levels.{formula_levels};
 ghost use Rattle.tstp_writer.specs.DerivedLines.{DerivedLinesAreTaken};
-ghost use Rattle.tstp_writer.specs.LineTexts.{lines_text};
-ghost use Rattle.tstp_writer.specs.LineTrees.{script_of, derivation_trees};
+ghost use Rattle.tstp_writer.specs.LineTexts.{line_text, lines_text};
+ghost use Rattle.tstp_writer.specs.LineTrees.{script_of, derived_name, step_source, clause_tree, derivation_trees};
+ghost use Rattle.tstp_writer.specs.ReadableExamples as factor;
+ghost use Rattle.tstp_writer.specs.ReadableLines.{IsReadable, read_renaming, read_terms};
 ghost use Rattle.tstp_writer.specs.Printable.{PrintedLinesAreSpelled};
 ghost use Rattle.tstp_writer.specs.ProblemLaws.{ProblemFormulasArePrintable, ProblemLinesArePrintable, ScriptFormulasArePrintable, BeginningsArePrintable, LineNamesAreShown};
-ghost use Rattle.tstp_writer.specs.WrittenTexts.{FormSymbolsAreShown, PlainLinesHaveSmallAtoms, PlainLinesArePrintable, PlainDerivationsArePrintable, PlainDerivationsAreSpelled, WrittenTextsAreAccepted};
+ghost use Rattle.tstp_writer.specs.WrittenTexts.{FormSymbolsAreShown, ReadableLinesArePrintable, ReadableDerivationsArePrintable, ReadableDerivationsAreSpelled, WrittenTextsAreAccepted};
 ghost use Rattle.tstp_writer.specs.WrittenLaws.{WrittenLinesAreAccepted};
 ghost use Rattle.tstp_writer.specs.TextExamples.{implication_steps, implication_numbers, implication_text, components_steps, components_numbers, components_text};
 
@@ -47,7 +50,7 @@ pub fn cone_examples()
 /// atom. An operand has them where it is joined.
 pub fn printed_level_examples()
     ensures negated_quantifier { formula_levels (negation (quantified for_all (codes "X" ∷ []) (predicate (codes "p") no_terms))) ≡ 4 }
-    ensures negated_equation { formula_levels (negation (equation true (variable (codes "X")) (variable (codes "Y")))) ≡ 2 }
+    ensures negated_equation { formula_levels (negation (equation true (named_variable (codes "X")) (named_variable (codes "Y")))) ≡ 2 }
     ensures negated_twice { formula_levels (negation (negation (predicate (codes "p") no_terms))) ≡ 2 }
     ensures joined_operand { formula_levels (connected implies
         (conjunction (formula_then truth (formula_then falsity no_formulas))) (negation truth)) ≡ 1 }
@@ -78,6 +81,19 @@ pub fn written_examples()
     ensures components_text { lines_text example.components_lines ≡ components_text }
 {}
 
+/// A factor line with variables and equations, and its text.
+pub fn factor_line_examples()
+    ensures text { line_text (clause_tree factor.script (derived_name factor.layout 1) factor.factor_clause
+        (step_source factor.script factor.layout factor.factor_step)) ≡ factor.factor_text }
+    ensures readable { IsReadable factor.symbols factor.factor_step factor.factor_clause }
+{}
+
+/// A canonical clause keeps its variables when its line is read. A variable that a bound term alone has is numbered behind them.
+pub fn read_variable_examples()
+    ensures of_clause { read_terms (read_renaming factor.factor_step factor.factor_clause) (variable 0 ∷ []) ≡ variable 0 ∷ [] }
+    ensures alone { read_terms (read_renaming factor.other_step factor.factor_clause) (variable 7 ∷ variable 0 ∷ []) ≡ variable 1 ∷ variable 0 ∷ [] }
+{}
+
 /// The printed text of lines that can be printed spells them.
 pub fn printed_lines_are_spelled()
     ensures { PrintedLinesAreSpelled }
@@ -88,30 +104,25 @@ pub fn form_symbols_are_shown()
     ensures { FormSymbolsAreShown }
 {}
 
-/// A derivation in plain lines from clauses of so many symbols has no larger atoms.
-pub fn plain_lines_have_small_atoms()
-    ensures { PlainLinesHaveSmallAtoms }
+/// What is written for lines that can be read again, over the form of a problem that was read, can be printed; so the printed text of a
+/// derivation in such lines spells what is written for it.
+pub fn readable_derivations_are_spelled()
+    ensures lines { ReadableLinesArePrintable }
+    ensures derivations { ReadableDerivationsArePrintable }
+    ensures texts { ReadableDerivationsAreSpelled }
 {}
 
-/// What is written for plain lines over the form of a problem that was read can be printed, where their atoms are small; so the
-/// printed text of a derivation in such lines spells what is written for it, where the form's clauses are small.
-pub fn plain_derivations_are_spelled()
-    ensures lines { PlainLinesArePrintable }
-    ensures derivations { PlainDerivationsArePrintable }
-    ensures texts { PlainDerivationsAreSpelled }
-{}
-
-/// A line of a derivation without variables and names is taken when it is read again, behind lines among which its parents are.
+/// A line of a derivation that can be read again is taken when it is read, behind lines among which its parents are.
 pub fn derived_lines_are_taken()
     ensures { DerivedLinesAreTaken }
 {}
 
-/// The lines that are written for a refutation in plain lines are accepted.
+/// The lines that are written for a refutation whose lines can be read again are accepted.
 pub fn written_lines_are_accepted()
     ensures { WrittenLinesAreAccepted }
 {}
 
-/// The printed text of what is written for a refutation in plain lines is an accepted derivation.
+/// The printed text of what is written for such a refutation is an accepted derivation.
 pub fn written_texts_are_accepted()
     ensures { WrittenTextsAreAccepted }
 {}

@@ -5,7 +5,7 @@ ghost use Rattle.tptp_tree.specs.ProblemSize.{HasProblemSize};
 ghost use Rattle.signature.specs.Form.{clausal_form};
 ghost use Rattle.clausal_form.specs.Form.{form_of};
 ghost use Rattle.tstp_writer.specs.Cone.{NeedEarlier};
-ghost use Rattle.tstp_writer.specs.Written.{IsWritten};
+ghost use Rattle.tstp_writer.specs.Written.{IsWritten, IsAcceptedWhereReadable};
 
 use crate::layout::lay_out;
 use crate::needed::cone;
@@ -20,7 +20,8 @@ use std::alloc::Global;
 use tptp_tree::Problem;
 
 /// The text of the lines that the line `last` needs, with the formulas of the problem that they stand on. The file is the name that
-/// is shown. Linear in the formulas, the symbols, the lines and the text. Over 2^64 written lines are want of memory.
+/// is shown. Of a refutation whose lines can be read again it is an accepted derivation of the problem. Linear in the formulas, the
+/// symbols, the lines and the text. Over 2^64 written lines are want of memory.
 pub fn write_lines(
     alloc: Global,
     problem: &Problem,
@@ -33,7 +34,8 @@ pub fn write_lines(
     requires earlier { NeedEarlier lines.now }
     requires form { form_of form.now ≡ clausal_form problem.now.formulas }
     requires size { HasProblemSize problem.now.formulas }
-    ensures { IfOk result (IsWritten file.now problem.now.formulas lines.now last) }
+    ensures written { IfOk result (IsWritten file.now problem.now.formulas lines.now last) }
+    ensures accepted { IfOk result (IsAcceptedWhereReadable file.now problem.now.formulas lines.now last) }
 {
     let prefix = fresh_prefix(alloc, &form.signature, "spl")?;
     let script = Script {

@@ -8,11 +8,11 @@ use Rattle.prover_main.proofs.prove.derivation_text.Goals as goal
 pub returns : goal.returns
 returns c =
     IfOk-weaker c.write_lines.result _ _
-    (λ text w. text-accepted c.args.formed.now c.as_slice.result.now c.args.lines.now _ w.numbers text c.requires.formed
+    (λ text accepted. text-accepted c.args.formed.now c.as_slice.result.now c.args.lines.now _ text c.requires.formed
     (subst IsShown (sym (c.as_slice.ensures ∙ c.in_ok-name.ensures)) (file-shown c.args.file.now c.requires.filled))
     c.requires.scope c.requires.refutation c.requires.ground c.prove_counts.ensures.symbols c.prove_counts.ensures.clauses
-    (omega (arith, c.len.ensures, refutation-some _ _ c.requires.refutation)) w.cone w.counted w.printed)
-    c.write_lines.ensures
+    (omega (arith, c.len.ensures, refutation-some _ _ c.requires.refutation)) accepted)
+    c.write_lines.ensures.accepted
 
 pub write_lines-requires-clause-earlier : goal.write_lines-requires-clause-earlier
 write_lines-requires-clause-earlier c = need-earlier _ _ c.requires.refutation.derived

@@ -3,6 +3,8 @@ use Rattle.std.specs.List.{AllByRecursion}
 use Rattle.tptp_token.specs.Spelling.{is_lower_word}
 use Rattle.clausal_form.specs.Form.{form_of}
 use Rattle.kernel_steps.specs.declared.step.Line.{Line}
+use Rattle.tstp_writer.specs.Written.{IsWritten}
+use Rattle.tstp_writer.proofs.AcceptedTexts.{text-accepted}
 use Rattle.tstp_writer.proofs.LayoutLemmas.{cone-below}
 use Rattle.tstp_writer.proofs.ScriptLemmas.{prefix-lower, script_with, script-is, written}
 use Rattle.tstp_writer.proofs.write.write_lines.Goals as goal
@@ -18,6 +20,7 @@ push_lines-requires-clause-lower c =
 
 pub returns : goal.returns
 returns c =
+    let text : IsWritten c.args.file.now c.args.problem.now.formulas c.args.lines.now c.args.last c.into_text.result =
     written c.args.file.now c.args.problem.now.formulas c.args.lines.now c.args.last c.in_ok-lines_needed.lines_needed
     c.into_text.result c.push_lines.new.page c.new-page.result
     (script_with c.args.file.now c.as_slice.result.now c.as_slice-2.result.now c.as_slice-3.result.now c.as_slice-4.result.now)
@@ -27,4 +30,8 @@ returns c =
     c.as_slice-2.result.now c.as_slice-3.result.now c.as_slice-4.result.now
     c.requires.form c.as_slice.ensures c.as_slice-2.ensures c.as_slice-3.ensures (c.as_slice-4.ensures ∙ c.in_ok-prefix.ensures))
     c.as_slice-5.ensures c.as_slice-6.ensures c.in_ok-layout.ensures.layout c.in_ok-layout.ensures.counted
-    c.new-page.ensures c.in_ok-push_lines.ensures c.into_text.ensures
+    c.new-page.ensures c.in_ok-push_lines.ensures c.into_text.ensures in
+    record {
+      written = text;
+      accepted = text-accepted c.args.file.now c.args.problem.now.formulas c.args.lines.now c.args.last c.into_text.result text;
+    }

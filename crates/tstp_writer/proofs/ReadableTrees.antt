@@ -1,5 +1,6 @@
--- What is written for the plain lines of a derivation can be printed.
-use Rattle.std.proofs.Common.{◌≡◌, ℕ, zero, suc, true, false, List, [], ◌∷◌, ◌++◌, map, Option, None, Some, refl, arith}
+-- What is written for the lines of a derivation that can be read again can be printed.
+use Rattle.std.proofs.Common.{ℕ, zero, suc, List, [], ◌∷◌, ◌++◌, map, Option, None, Some, refl, arith}
+use Rattle.std.proofs.lemmas.Bool.{false≢true}
 use Rattle.std.specs.Prelude.{filter_map, option_and_then, slice_get, IfSome}
 use Rattle.std.specs.List.{AllByRecursion, cons_option}
 use Rattle.outside.specs.Library.{Holdings}
@@ -9,36 +10,35 @@ use Rattle.tptp_tree.specs.Printing.{formula_text}
 use Rattle.tptp_tree.specs.declared.problem.Annotated.{Annotated}
 use Rattle.tptp_problem.specs.Formulas.{placed}
 use Rattle.tptp_problem.specs.Problem.{IsProblem}
-use Rattle.signature.specs.declared.symbol.Symbol.{Symbol}
 use Rattle.signature.specs.Form.{clausal_form}
 use Rattle.kernel_steps.specs.declared.step.Step.{Step}
 use Rattle.kernel_steps.specs.declared.step.Step.TheVariants.{Input, Negate, Clausify, Para, Refl, Factor, Merge, Component, Opposite, Split, Chain}
-use Rattle.kernel_steps.specs.Derivation.{IsDerivation}
 use Rattle.kernel_steps.specs.declared.step.Line.{Line}
 use Rattle.clausal_form.specs.DerivationLine.{LineTree}
 use Rattle.tstp_writer.specs.ClauseTrees.{clause_formula}
 use Rattle.tstp_writer.specs.LineTrees.{Script, script_of, Layout, layout_of, lines_at, cited_name, negated_name, derived_name, input_at, negate_at, step_source, clause_tree, line_tree, derived_tree, derivation_trees}
-use Rattle.tstp_writer.specs.PlainLines.{is_plain_step, IsPlainLine}
+use Rattle.tstp_writer.specs.ReadableLines.{IsReadable, IsReadableLine}
 use Rattle.tstp_writer.specs.Printable.{IsShown, IsPrintable}
 use Rattle.tstp_writer.specs.ProblemLaws.{HasPrintableFormulas}
-use Rattle.tstp_writer.specs.WrittenTexts.{AreShownSymbols, HasSmallAtoms, IsSmallPlainLine, AreSmallClauses, IsSpelledByText}
+use Rattle.tstp_writer.specs.WrittenTexts.{AreShownSymbols, IsSpelledByText}
 use Rattle.tstp_writer.proofs.StepTrees.{line_tree_by}
 use Rattle.tstp_writer.proofs.ProblemLemmas.{line_name-shown}
 use Rattle.tstp_writer.proofs.ProblemTrees.{front-printable, script-printable, beginning-printable}
 use Rattle.tstp_writer.proofs.ShownSymbols.{form-symbols-shown}
-use Rattle.tstp_writer.proofs.PlainTexts.{IsPrintableFormula, clause-printable, formula-spelled}
-use Rattle.tstp_writer.proofs.PlainSources.{IsWrittenStep, source-small}
-use Rattle.tstp_writer.proofs.SmallAtoms.{atoms-small}
+use Rattle.tstp_writer.proofs.ReadableTexts.{IsPrintableFormula, clause-printable, formula-spelled}
+use Rattle.tstp_writer.proofs.ReadableSources.{IsWrittenStep, source-small}
 use Rattle.tstp_writer.proofs.LineLemmas.{lines-spelled}
 
 -- ---- one line
 
 clause-line :
     (script : Script) (layout : Layout) (name : List ℕ) (c : TreeClause) (step : Step)
-    → IsShown name → IsPrintableFormula (clause_formula script.symbols script.prefix c) → IsWrittenStep step → is_plain_step step ≡ true
+    → IsShown name → AreShownSymbols script.symbols → IsReadable script.symbols step c → IsWrittenStep step
     → IsPrintable (clause_tree script name c (step_source script layout step))
-clause-line script layout name c step shown h w plain =
-    let source = source-small script layout step w plain in
+clause-line script layout name c step shown symbols r w =
+    let h : IsPrintableFormula (clause_formula script.symbols script.prefix c) =
+    clause-printable script.symbols script.prefix c symbols r.names r.literals r.sides in
+    let source = source-small script layout step symbols w r.nameless r.binds r.small in
     record {
       name = shown;
       role = refl;
@@ -52,40 +52,39 @@ clause-line script layout name c step shown h w plain =
 
 step-line :
     (script : Script) (layout : Layout) (name : List ℕ) (c : TreeClause) (step : Step)
-    → HasPrintableFormulas script → IsShown name → IsPrintableFormula (clause_formula script.symbols script.prefix c)
-    → is_plain_step step ≡ true → IfSome (line_tree_by script layout name c step) IsPrintable
-step-line script layout name c (Input place) each shown h p = each.input name place shown
-step-line script layout name c (Negate place) each shown h p = absurd (let e : false ≡ true = p in cc)
-step-line script layout name c (Clausify i) each shown h p = clause-line script layout name c (Clausify i) shown h tt p
-step-line script layout name c (Para first second from from_side into into_side place first_bind second_bind) each shown h p =
-    clause-line script layout name c (Para first second from from_side into into_side place first_bind second_bind) shown h tt p
-step-line script layout name c (Refl parent literal bind) each shown h p =
-    clause-line script layout name c (Refl parent literal bind) shown h tt p
-step-line script layout name c (Factor parent becomes becomes_side other other_side bind) each shown h p =
-    absurd (let e : false ≡ true = p in cc)
-step-line script layout name c (Merge parent stays goes bind) each shown h p =
-    clause-line script layout name c (Merge parent stays goes bind) shown h tt p
-step-line script layout name c (Component n) each shown h p = absurd (let e : false ≡ true = p in cc)
-step-line script layout name c (Opposite n) each shown h p = absurd (let e : false ≡ true = p in cc)
-step-line script layout name c (Split parent definitions parts) each shown h p = absurd (let e : false ≡ true = p in cc)
-step-line script layout name c (Chain parents pivots) each shown h p = absurd (let e : false ≡ true = p in cc)
+    → AreShownSymbols script.symbols → HasPrintableFormulas script → IsShown name → IsReadable script.symbols step c
+    → IfSome (line_tree_by script layout name c step) IsPrintable
+step-line script layout name c (Input place) symbols each shown r = each.input name place shown
+step-line script layout name c (Negate place) symbols each shown r = absurd (false≢true r.nameless)
+step-line script layout name c (Clausify i) symbols each shown r = clause-line script layout name c (Clausify i) shown symbols r tt
+step-line script layout name c (Para first second from from_side into into_side place first_bind second_bind) symbols each shown r =
+    clause-line script layout name c (Para first second from from_side into into_side place first_bind second_bind) shown symbols r tt
+step-line script layout name c (Refl parent literal bind) symbols each shown r =
+    clause-line script layout name c (Refl parent literal bind) shown symbols r tt
+step-line script layout name c (Factor parent becomes becomes_side other other_side bind) symbols each shown r =
+    clause-line script layout name c (Factor parent becomes becomes_side other other_side bind) shown symbols r tt
+step-line script layout name c (Merge parent stays goes bind) symbols each shown r =
+    clause-line script layout name c (Merge parent stays goes bind) shown symbols r tt
+step-line script layout name c (Component n) symbols each shown r = absurd (false≢true r.nameless)
+step-line script layout name c (Opposite n) symbols each shown r = absurd (false≢true r.nameless)
+step-line script layout name c (Split parent definitions parts) symbols each shown r = absurd (false≢true r.nameless)
+step-line script layout name c (Chain parents pivots) symbols each shown r = absurd (false≢true r.nameless)
 
-plain-line :
+readable-line :
     (script : Script) (layout : Layout) (name : List ℕ) (o : Option Line)
-    → AreShownSymbols script.symbols → HasPrintableFormulas script → IsShown name → IfSome o (IsSmallPlainLine script.symbols)
+    → AreShownSymbols script.symbols → HasPrintableFormulas script → IsShown name → IfSome o (IsReadableLine script.symbols)
     → IfSome (option_and_then (line_tree script layout name) o) IsPrintable
-plain-line script layout name None symbols each shown h = tt
-plain-line script layout name (Some line) symbols each shown h =
-    step-line script layout name (clause_of line.clause) line.step each shown
-    (clause-printable script.symbols script.prefix (clause_of line.clause) symbols h.plain.names h.plain.literals h.small) h.plain.step
+readable-line script layout name None symbols each shown h = tt
+readable-line script layout name (Some line) symbols each shown h =
+    step-line script layout name (clause_of line.clause) line.step symbols each shown h
 
 pub lines-printable :
     (told : Option Holdings) (file : List ℕ) (root : Option (List ℕ)) (problem : List Annotated)
     → IsProblem told file root (map placed problem) → (name : List ℕ) → IsShown name → (layout : Layout) (lines : List Line) (n : ℕ)
-    → IfSome (slice_get lines n) (IsSmallPlainLine (clausal_form problem).symbols)
+    → IfSome (slice_get lines n) (IsReadableLine (clausal_form problem).symbols)
     → IfSome (derived_tree (script_of name problem) layout lines n) IsPrintable
 lines-printable told file root problem h name shown layout lines n line =
-    plain-line (script_of name problem) layout (derived_name layout n) (slice_get lines n) (form-symbols-shown told file root problem h)
+    readable-line (script_of name problem) layout (derived_name layout n) (slice_get lines n) (form-symbols-shown told file root problem h)
     (script-printable told file root problem h name shown) (line_name-shown _) line
 
 -- ---- a derivation
@@ -97,7 +96,7 @@ both-printable (t ∷ ts) us h k = (h.0, both-printable ts us h.1 k)
 numbers-printable :
     (script : Script) (layout : Layout) (lines : List Line) (numbers : List ℕ)
     → AreShownSymbols script.symbols → HasPrintableFormulas script
-    → AllByRecursion (IsSmallPlainLine script.symbols) (lines_at lines numbers)
+    → AllByRecursion (IsReadableLine script.symbols) (lines_at lines numbers)
     → AllByRecursion IsPrintable (filter_map (derived_tree script layout lines) numbers)
 numbers-printable script layout lines [] symbols each h = tt
 numbers-printable script layout lines (n ∷ numbers) symbols each h =
@@ -107,39 +106,31 @@ numbers-printable script layout lines (n ∷ numbers) symbols each h =
     rest = filter_map (derived_tree script layout lines) numbers
 
     by :
-        (o : Option Line) → AllByRecursion (IsSmallPlainLine script.symbols) (cons_option o (lines_at lines numbers))
-        → (AllByRecursion (IsSmallPlainLine script.symbols) (lines_at lines numbers) → AllByRecursion IsPrintable rest)
+        (o : Option Line) → AllByRecursion (IsReadableLine script.symbols) (cons_option o (lines_at lines numbers))
+        → (AllByRecursion (IsReadableLine script.symbols) (lines_at lines numbers) → AllByRecursion IsPrintable rest)
         → AllByRecursion IsPrintable (cons_option (option_and_then (line_tree script layout (derived_name layout n)) o) rest)
     by None k more = more k
     by (Some line) k more =
         front-printable (line_tree script layout (derived_name layout n) line) rest
-        (plain-line script layout (derived_name layout n) (Some line) symbols each (line_name-shown _) k.0) (more k.1)
+        (readable-line script layout (derived_name layout n) (Some line) symbols each (line_name-shown _) k.0) (more k.1)
 
 pub derivation-printable :
     (told : Option Holdings) (file : List ℕ) (root : Option (List ℕ)) (problem : List Annotated)
     → IsProblem told file root (map placed problem) → (name : List ℕ) → IsShown name → (lines : List Line) (numbers : List ℕ)
-    → AllByRecursion (IsSmallPlainLine (clausal_form problem).symbols) (lines_at lines numbers)
+    → AllByRecursion (IsReadableLine (clausal_form problem).symbols) (lines_at lines numbers)
     → AllByRecursion IsPrintable (derivation_trees (script_of name problem) lines numbers)
-derivation-printable told file root problem h name shown lines numbers plain =
+derivation-printable told file root problem h name shown lines numbers readable =
     let script : Script = script_of name problem in
     let layout : Layout = layout_of script lines numbers in
     let begun = beginning-printable told file root problem h name shown lines numbers in
     let derived = numbers-printable script layout lines numbers (form-symbols-shown told file root problem h)
-    (script-printable told file root problem h name shown) plain in
+    (script-printable told file root problem h name shown) readable in
     let cited : List LineTree = filter_map (λ place. input_at script (cited_name layout place) place) layout.cited in
     let negated : List LineTree = filter_map (λ place. negate_at script layout (negated_name layout place) place) layout.negated in
     both-printable (cited ++ negated) (filter_map (derived_tree script layout lines) numbers)
     (both-printable cited negated begun.cited begun.negated) derived
 
--- ---- of lines that are all plain and small
-
-small-plain :
-    (symbols : List Symbol) (lines : List Line)
-    → AllByRecursion (IsPlainLine symbols) lines → AllByRecursion HasSmallAtoms lines
-    → AllByRecursion (IsSmallPlainLine symbols) lines
-small-plain symbols [] h k = tt
-small-plain symbols (l ∷ ls) h k =
-    let line : IsSmallPlainLine symbols l = record { plain = h.0; small = k.0 } in (line, small-plain symbols ls h.1 k.1)
+-- ---- of lines all of which can be read again
 
 at-place : (P : Line → Type 0) (lines : List Line) (n : ℕ) → AllByRecursion P lines → IfSome (slice_get lines n) P
 at-place P [] n h = tt
@@ -158,12 +149,9 @@ at-places P lines (n ∷ numbers) h = by (slice_get lines n) (at-place P lines n
 pub derivation-spelled :
     (told : Option Holdings) (file : List ℕ) (root : Option (List ℕ)) (problem : List Annotated)
     → IsProblem told file root (map placed problem) → (name : List ℕ) → IsShown name → (lines : List Line) (numbers : List ℕ)
-    → AreSmallClauses (clausal_form problem).clauses → IsDerivation (clausal_form problem).clauses lines
-    → AllByRecursion (IsPlainLine (clausal_form problem).symbols) lines
+    → AllByRecursion (IsReadableLine (clausal_form problem).symbols) lines
     → IsSpelledByText (derivation_trees (script_of name problem) lines numbers)
-derivation-spelled told file root problem h name shown lines numbers sizes derived plain =
-    let symbols : List Symbol = (clausal_form problem).symbols in
-    let small : AllByRecursion HasSmallAtoms lines = atoms-small symbols (clausal_form problem).clauses lines sizes derived plain in
+derivation-spelled told file root problem h name shown lines numbers readable =
     lines-spelled (derivation_trees (script_of name problem) lines numbers)
     (derivation-printable told file root problem h name shown lines numbers
-    (at-places (IsSmallPlainLine symbols) lines numbers (small-plain symbols lines plain small)))
+    (at-places (IsReadableLine (clausal_form problem).symbols) lines numbers readable))

@@ -1,12 +1,10 @@
--- The formulas of plain clauses can be printed.
-use Rattle.std.proofs.Common.{◌≡◌, ℕ, zero, suc, ◌+◌, ◌≤◌, Bool, true, false, not, ◌&&◌, ◌||◌, ◌==◌, List, [], ◌∷◌, ◌++◌, map, Option, None, Some, refl, ap, sym, ◌∙◌, subst, arith, append-nil, leb-true, ⊎_elim}
-use Rattle.std.specs.Prelude.{nat_le, max, option_map, unwrap_or, slice_get, if◌then◌else◌}
+-- The formulas of clauses that can be read again can be printed.
+use Rattle.std.proofs.Common.{◌≡◌, ℕ, zero, suc, ◌+◌, ◌≤◌, Bool, true, false, not, ◌==◌, List, [], ◌∷◌, ◌++◌, map, Option, None, Some, refl, ap, sym, ◌∙◌, subst, arith, append-nil, leb-true}
+use Rattle.std.specs.Prelude.{max, option_map, unwrap_or, slice_get, if◌then◌else◌}
 use Rattle.std.specs.List.{list_all, AllByRecursion}
-use Rattle.std.proofs.lemmas.Bool.{and_parts, and_from, or_cases, true≢false}
+use Rattle.std.proofs.lemmas.Bool.{and_parts, and_from, not-true}
 use Rattle.std.proofs.Math.Nat.{max-le}
-use Rattle.fol_base.specs.Tree.{Tree, variable, application, Trees, no_trees, tree_then, trees_count, tree_size, trees_size, trees_eq, is_truth}
-use Rattle.fol_base.specs.Ground.{is_ground, are_ground}
-use Rattle.fol_base.specs.Kind.{is_function_term, are_function_terms, is_predicate_term, is_literal}
+use Rattle.fol_base.specs.Tree.{Tree, variable, application, Trees, no_trees, tree_then, trees_count, tree_size, trees_size}
 use Rattle.fol_base.specs.Clause.{TreeLiteral, TreeClause}
 use Rattle.fol_base.specs.declared.limits.TheConstants.{MOST_SYMBOLS}
 use Rattle.tptp_token.specs.Lexemes.{IsLexedAs}
@@ -19,14 +17,15 @@ use Rattle.tptp_tree.specs.Spelling.{phrase_lexemes, SpellsFormula}
 use Rattle.tptp_tree.proofs.CanonicalLemmas.{WellTerm, WellTerms, WellFormula, WellFormulas, phrase_of, formula-meant}
 use Rattle.tptp_tree.proofs.LexingLemmas.{formula-lexes}
 use Rattle.signature.specs.declared.symbol.Symbol.{Symbol}
-use Rattle.kernel_steps.specs.Symbols.{symbols_pass, all_symbols_pass, literal_symbols_pass}
-use Rattle.clausal_form.specs.FormFunctions.{is_predicate_in}
+use Rattle.signature.specs.Clausal.{atom_literal}
 use Rattle.tstp_writer.specs.Levels.{term_levels, arguments_levels, terms_levels, with_parentheses, formula_levels, operands_levels}
 use Rattle.tstp_writer.specs.ClauseTrees.{symbol_name, term_tree, term_trees, with_sign, atom_formula, literal_formula, signed_name_formula, one_of, clause_formula}
-use Rattle.tstp_writer.specs.PlainLines.{is_plain_literal, is_symbol_in, is_literal_over}
+use Rattle.tstp_writer.specs.ReadableLines.{is_symbol_in, is_literal_over, is_small_term, has_small_sides}
 use Rattle.tstp_writer.specs.Printable.{IsShown, is_literal_formula, is_clause_formula}
-use Rattle.tstp_writer.specs.WrittenTexts.{AreShownSymbols, has_small_atoms}
+use Rattle.tstp_writer.specs.WrittenTexts.{AreShownSymbols}
+use Rattle.tstp_writer.proofs.LiteralKinds.{IsTermOver, AreTermsOver, first-term, more-terms, IsHeadOver, function-head, IsEquationOver, by-kind}
 use Rattle.tstp_writer.proofs.TermTexts.{well}
+use Rattle.tstp_writer.proofs.TextLemmas.{variable_name-word}
 use Rattle.tstp_writer.proofs.ProblemLevels.{parentheses-some}
 
 -- ---- names
@@ -47,29 +46,18 @@ name-shown symbols (suc f) n each h k = by (slice_get symbols (suc f)) refl k
 -- ---- terms
 
 mutual
-  term-well :
-      (symbols : List Symbol) (t : Tree)
-      → AreShownSymbols symbols → is_ground t ≡ true → is_function_term (is_predicate_in symbols) t ≡ true
-      → symbols_pass (is_symbol_in symbols) t ≡ true → WellTerm (term_tree symbols t)
-  term-well symbols (variable v) each g k p = absurd (let e : false ≡ true = g in cc)
-  term-well symbols (application f ts) each g k p =
-      let kinds = and_parts (not (f == 0)) (not (is_predicate_in symbols f) && are_function_terms (is_predicate_in symbols) ts) k in
-      let inner = and_parts (not (is_predicate_in symbols f)) (are_function_terms (is_predicate_in symbols) ts) kinds.1 in
-      let passed = and_parts (is_symbol_in symbols f (trees_count ts)) (all_symbols_pass (is_symbol_in symbols) ts) p in (
-        well (symbol_name symbols f) (name-shown symbols f (trees_count ts) each kinds.0 passed.0),
-        terms-well symbols ts each g inner.1 passed.1,
+  pub term-well : (symbols : List Symbol) (t : Tree) → AreShownSymbols symbols → IsTermOver symbols t → WellTerm (term_tree symbols t)
+  term-well symbols (variable v) each h = variable_name-word v
+  term-well symbols (application f ts) each h =
+      let over : IsHeadOver symbols f ts false = function-head symbols f ts h in (
+        well (symbol_name symbols f) (name-shown symbols f (trees_count ts) each over.apart over.there),
+        terms-well symbols ts each over.arguments,
       )
 
-  terms-well :
-      (symbols : List Symbol) (ts : Trees)
-      → AreShownSymbols symbols → are_ground ts ≡ true → are_function_terms (is_predicate_in symbols) ts ≡ true
-      → all_symbols_pass (is_symbol_in symbols) ts ≡ true → WellTerms (term_trees symbols ts)
-  terms-well symbols no_trees each g k p = tt
-  terms-well symbols (tree_then t ts) each g k p =
-      let ground = and_parts (is_ground t) (are_ground ts) g in
-      let kinds = and_parts (is_function_term (is_predicate_in symbols) t) (are_function_terms (is_predicate_in symbols) ts) k in
-      let passed = and_parts (symbols_pass (is_symbol_in symbols) t) (all_symbols_pass (is_symbol_in symbols) ts) p in
-      (term-well symbols t each ground.0 kinds.0 passed.0, terms-well symbols ts each ground.1 kinds.1 passed.1)
+  terms-well : (symbols : List Symbol) (ts : Trees) → AreShownSymbols symbols → AreTermsOver symbols ts → WellTerms (term_trees symbols ts)
+  terms-well symbols no_trees each h = tt
+  terms-well symbols (tree_then t ts) each h =
+      (term-well symbols t each (first-term symbols t ts h), terms-well symbols ts each (more-terms symbols t ts h))
 
 -- ---- levels: fewer than symbols
 
@@ -81,7 +69,7 @@ one-more a b (suc k) h g =
     omega (arith, max-le first second)
 
 mutual
-  term-few : (symbols : List Symbol) (t : Tree) → suc (term_levels (term_tree symbols t)) ≤ tree_size t
+  pub term-few : (symbols : List Symbol) (t : Tree) → suc (term_levels (term_tree symbols t)) ≤ tree_size t
   term-few symbols (variable v) = omega arith
   term-few symbols (application f ts) = omega (arith, arguments-few symbols ts)
 
@@ -117,67 +105,53 @@ signed-predicate :
 signed-predicate true p ts h w l = record { well = (well p h, w); literal = refl; levels = omega (arith, l) }
 signed-predicate false p ts h w l = record { well = (well p h, w); literal = refl; levels = omega (arith, l) }
 
-atom-printable :
-    (symbols : List Symbol) (sign : Bool) (t : Tree)
-    → AreShownSymbols symbols → is_ground t ≡ true → (is_predicate_term (is_predicate_in symbols) t || is_truth t) ≡ true
-    → symbols_pass (is_symbol_in symbols) t ≡ true → tree_size t ≤ MOST_SYMBOLS → IsPrintableLiteral (with_sign sign (atom_formula symbols t))
-atom-printable symbols sign (variable v) each g k p small = absurd (let e : false ≡ true = g in cc)
-atom-printable symbols sign (application f ts) each g k p small = by (f == 0) refl
-  where
-    by :
-        (b : Bool) → (f == 0) ≡ b
-        → IsPrintableLiteral (with_sign sign (if b then truth else predicate (symbol_name symbols f) (term_trees symbols ts)))
-    by true e = signed-truth sign
-    by false e =
-        let kind : is_predicate_term (is_predicate_in symbols) (application f ts) ≡ true =
-        ⊎_elim (λ h. h) (λ h. absurd (true≢false (sym (and_parts (f == 0) (trees_eq ts no_trees) h).0 ∙ e)))
-        (or_cases (is_predicate_term (is_predicate_in symbols) (application f ts)) (is_truth (application f ts)) k) in
-        let kinds = and_parts (not (f == 0)) (is_predicate_in symbols f && are_function_terms (is_predicate_in symbols) ts) kind in
-        let inner = and_parts (is_predicate_in symbols f) (are_function_terms (is_predicate_in symbols) ts) kinds.1 in
-        let passed = and_parts (is_symbol_in symbols f (trees_count ts)) (all_symbols_pass (is_symbol_in symbols) ts) p in
-        signed-predicate sign (symbol_name symbols f) (term_trees symbols ts)
-        (name-shown symbols f (trees_count ts) each kinds.0 passed.0) (terms-well symbols ts each g inner.1 passed.1)
-        (omega (arith, arguments-few symbols ts, small))
+-- a literal with small sides
+abbrev IsPrinted : List Symbol → TreeLiteral → Type 0
+IsPrinted symbols l = has_small_sides l ≡ true → IsPrintableLiteral (literal_formula symbols l)
 
-truth-no_function : (is_predicate : ℕ → Bool) (t : Tree) → is_truth t ≡ true → is_function_term is_predicate t ≡ false
-truth-no_function is_predicate (variable v) h = absurd (let e : false ≡ true = h in cc)
-truth-no_function is_predicate (application f ts) h =
-    ap (λ b. not b && (not (is_predicate f) && are_function_terms is_predicate ts)) (and_parts (f == 0) (trees_eq ts no_trees) h).0
+small-sides : (l : TreeLiteral) → has_small_sides l ≡ true → (tree_size l.left ≤ MOST_SYMBOLS) × (tree_size l.right ≤ MOST_SYMBOLS)
+small-sides l h =
+    let parts = and_parts (is_small_term l.left) (is_small_term l.right) h in
+    (leb-true (tree_size l.left) MOST_SYMBOLS parts.0, leb-true (tree_size l.right) MOST_SYMBOLS parts.1)
 
-literal-printable :
-    (symbols : List Symbol) (l : TreeLiteral)
-    → AreShownSymbols symbols → is_literal_over symbols l ≡ true → nat_le (tree_size l.left) MOST_SYMBOLS ≡ true
-    → IsPrintableLiteral (literal_formula symbols l)
-literal-printable symbols l each h small =
-    let all = and_parts (is_plain_literal l) (is_literal (is_predicate_in symbols) l && literal_symbols_pass (is_symbol_in symbols) l) h in
-    let plain = and_parts (is_ground l.left) (is_truth l.right) all.0 in
-    let rest = and_parts (is_literal (is_predicate_in symbols) l) (literal_symbols_pass (is_symbol_in symbols) l) all.1 in
-    let passed = and_parts (symbols_pass (is_symbol_in symbols) l.left) (symbols_pass (is_symbol_in symbols) l.right) rest.1 in
-    subst IsPrintableLiteral
-    (sym (ap (λ b. if b then with_sign l.positive (atom_formula symbols l.left) else equation l.positive (term_tree symbols l.left) (term_tree symbols l.right)) plain.1))
-    (atom-printable symbols l.positive l.left each plain.0 (atom plain.1 rest.0) passed.0 (leb-true (tree_size l.left) MOST_SYMBOLS small))
-  where
-    atom : is_truth l.right ≡ true → is_literal (is_predicate_in symbols) l ≡ true → (is_predicate_term (is_predicate_in symbols) l.left || is_truth l.left) ≡ true
-    atom e k =
-        ⊎_elim
-        (λ g.
-        absurd
-        (true≢false
-        (sym (and_parts (is_function_term (is_predicate_in symbols) l.left) (is_function_term (is_predicate_in symbols) l.right) g).1
-        ∙ truth-no_function (is_predicate_in symbols) l.right e)))
-        (λ g. (and_parts (is_predicate_term (is_predicate_in symbols) l.left || is_truth l.left) (is_truth l.right) g).0)
-        (or_cases (is_function_term (is_predicate_in symbols) l.left && is_function_term (is_predicate_in symbols) l.right)
-        ((is_predicate_term (is_predicate_in symbols) l.left || is_truth l.left) && is_truth l.right) k)
+predicate-printable :
+    (symbols : List Symbol) → AreShownSymbols symbols → (b : Bool) (f : ℕ) (ts : Trees) → IsHeadOver symbols f ts true
+    → IsPrinted symbols (atom_literal b (application f ts))
+predicate-printable symbols each b f ts over small =
+    let size : 1 + trees_size ts ≤ MOST_SYMBOLS = (small-sides (atom_literal b (application f ts)) small).0 in
+    subst (λ c. IsPrintableLiteral (with_sign b (if c then truth else predicate (symbol_name symbols f) (term_trees symbols ts))))
+    (sym (not-true (f == 0) over.apart))
+    (signed-predicate b (symbol_name symbols f) (term_trees symbols ts)
+    (name-shown symbols f (trees_count ts) each over.apart over.there) (terms-well symbols ts each over.arguments)
+    (omega (arith, arguments-few symbols ts, size)))
+
+equation-printable :
+    (symbols : List Symbol) → AreShownSymbols symbols → (l : TreeLiteral) → IsEquationOver symbols l → IsPrinted symbols l
+equation-printable symbols each l over small =
+    let sizes = small-sides l small in
+    let left : term_levels (term_tree symbols l.left) ≤ MOST_DERIVATION_NESTING = omega (arith, term-few symbols l.left, sizes.0) in
+    let right : term_levels (term_tree symbols l.right) ≤ MOST_DERIVATION_NESTING = omega (arith, term-few symbols l.right, sizes.1) in
+    subst
+    (λ c. IsPrintableLiteral (if c then with_sign l.positive (atom_formula symbols l.left) else equation l.positive (term_tree symbols l.left) (term_tree symbols l.right)))
+    (sym over.no_truth)
+    (record {
+      well = (term-well symbols l.left each over.left, term-well symbols l.right each over.right);
+      literal = refl;
+      levels = max-le left right;
+    })
+
+literal-printable : (symbols : List Symbol) (l : TreeLiteral) → AreShownSymbols symbols → is_literal_over symbols l ≡ true → IsPrinted symbols l
+literal-printable symbols l each =
+    by-kind symbols (IsPrinted symbols) (λ b small. signed-truth b) (predicate-printable symbols each) (equation-printable symbols each) l
 
 literals-printable :
     (symbols : List Symbol) (ls : List TreeLiteral)
-    → AreShownSymbols symbols → list_all (is_literal_over symbols) ls ≡ true
-    → list_all (λ (l : TreeLiteral). nat_le (tree_size l.left) MOST_SYMBOLS) ls ≡ true
+    → AreShownSymbols symbols → list_all (is_literal_over symbols) ls ≡ true → list_all has_small_sides ls ≡ true
     → AllByRecursion IsPrintableLiteral (map (literal_formula symbols) ls)
 literals-printable symbols [] each h small = tt
 literals-printable symbols (l ∷ ls) each h small =
     let over = and_parts (is_literal_over symbols l) (list_all (is_literal_over symbols) ls) h in
-    let sizes = and_parts (nat_le (tree_size l.left) MOST_SYMBOLS) (list_all (λ (k : TreeLiteral). nat_le (tree_size k.left) MOST_SYMBOLS) ls) small in
+    let sizes = and_parts (has_small_sides l) (list_all has_small_sides ls) small in
     (literal-printable symbols l each over.0 sizes.0, literals-printable symbols ls each over.1 sizes.1)
 
 -- ---- clauses
@@ -228,7 +202,7 @@ one-printable (f ∷ g ∷ fs) h =
 
 pub clause-printable :
     (symbols : List Symbol) (prefix : List ℕ) (c : TreeClause)
-    → AreShownSymbols symbols → c.names ≡ [] → list_all (is_literal_over symbols) c.literals ≡ true → has_small_atoms c ≡ true
+    → AreShownSymbols symbols → c.names ≡ [] → list_all (is_literal_over symbols) c.literals ≡ true → list_all has_small_sides c.literals ≡ true
     → IsPrintableFormula (clause_formula symbols prefix c)
 clause-printable symbols prefix c each names over small =
     let fs : List FormulaTree = map (literal_formula symbols) c.literals in

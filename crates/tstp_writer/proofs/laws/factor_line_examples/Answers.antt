@@ -1,0 +1,19 @@
+use Rattle.std.proofs.Common.{refl, arith}
+use Rattle.std.specs.Fmt.{digits}
+use Rattle.tstp_writer.proofs.laws.factor_line_examples.Goals as goal
+
+pub returns : goal.returns
+unfolding digits
+returns c = record {
+  text = refl;
+  readable = record {
+    nameless = refl;
+    names = refl;
+    literals = refl;
+    sides = refl;
+    binds = refl;
+    small = refl;
+    canonical = refl;
+    variables = (omega arith, (omega arith, (omega arith, tt)));
+  };
+}

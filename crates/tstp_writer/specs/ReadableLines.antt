@@ -1,0 +1,151 @@
+-- Lines whose text can be read again: canonical clauses without names, over the symbols of a form; and what is taken of them when they
+-- are read again.
+use Rattle.std.specs.Prelude.{◌≡◌, ℕ, ◌+◌, ◌^◌, ◌<◌, nat_le, Bool, true, false, ◌&&◌, ◌==◌, List, [], ◌∷◌, ◌++◌, map, filter_map, flat_map, length, Option, option_map, unwrap_or, slice_get, position, IsTrue}
+use Rattle.std.specs.List.{list_all, AllByRecursion}
+use Rattle.fol_base.specs.Tree.{Tree, tree_size, tree_variables}
+use Rattle.fol_base.specs.Kind.{is_function_term, is_literal}
+use Rattle.fol_base.specs.Clause.{TreeLiteral, TreeClause, clause_variables}
+use Rattle.fol_base.specs.Instance.{Substitution, instance}
+use Rattle.fol_base.specs.Canonical.{distinct, renaming, IsCanonical}
+use Rattle.fol_base.specs.Literal.{clause_of}
+use Rattle.fol_base.specs.declared.limits.TheConstants.{MOST_SYMBOLS}
+use Rattle.tptp_tree.specs.declared.problem.Annotated.{Annotated}
+use Rattle.signature.specs.declared.symbol.Symbol.{Symbol}
+use Rattle.kernel_steps.specs.Conclusion.{empty_clause}
+use Rattle.kernel_steps.specs.Soundness.{bindings_of, binds_each}
+use Rattle.kernel_steps.specs.Symbols.{symbols_pass, literal_symbols_pass}
+use Rattle.kernel_steps.specs.declared.step.Step.{Step}
+use Rattle.kernel_steps.specs.declared.step.Step.TheVariants.{Input, Negate, Clausify, Para, Refl, Factor, Merge}
+use Rattle.kernel_steps.specs.declared.step.Line.{Line}
+use Rattle.clausal_form.specs.DerivationLine.{NamedLine, kernel_line, same_entry, entry_of}
+use Rattle.clausal_form.specs.FormFunctions.{is_predicate_in}
+use Rattle.tstp_writer.specs.LineTrees.{Layout, line_name, place_in, derived_name}
+
+-- ---- steps
+
+-- an input, a clause of the form, or a conclusion of a rule on literals; the other steps are about names
+abbrev pub is_nameless_step : Step → Bool
+is_nameless_step (Input place) = true
+is_nameless_step (Clausify i) = true
+is_nameless_step (Para first second from from_side into into_side place first_bind second_bind) = true
+is_nameless_step (Refl parent literal bind) = true
+is_nameless_step (Factor parent becomes becomes_side other other_side bind) = true
+is_nameless_step (Merge parent stays goes bind) = true
+is_nameless_step _ = false
+
+-- ---- symbols
+
+-- the list has a symbol of that number, with so many arguments
+abbrev pub is_symbol_in : List Symbol → ℕ → ℕ → Bool
+is_symbol_in symbols f n = unwrap_or (option_map (λ (s : Symbol). s.arity == n) (slice_get symbols f)) false
+
+-- the literal's symbols are those of the list, predicates and functions each in their places
+abbrev pub is_literal_over : List Symbol → TreeLiteral → Bool
+is_literal_over symbols l = is_literal (is_predicate_in symbols) l && literal_symbols_pass (is_symbol_in symbols) l
+
+-- a function term of such symbols
+abbrev pub is_term_over : List Symbol → Tree → Bool
+is_term_over symbols t = is_function_term (is_predicate_in symbols) t && symbols_pass (is_symbol_in symbols) t
+
+-- ---- sizes: a text may have 5,000 levels of brackets, and no term has more levels than symbols
+
+-- no more symbols than a clause of the program may have
+abbrev pub is_small_term : Tree → Bool
+is_small_term t = nat_le (tree_size t) MOST_SYMBOLS
+
+abbrev pub has_small_sides : TreeLiteral → Bool
+has_small_sides l = is_small_term l.left && is_small_term l.right
+
+-- ---- variables
+
+-- the terms to which a step binds variables
+abbrev pub bound_by : Step → List Tree
+bound_by step = flat_map (λ ts. ts) (bindings_of step)
+
+-- the variables of a clause, and then those of what its step binds, with repetitions
+abbrev pub line_variables : Step → TreeClause → List ℕ
+line_variables step c = clause_variables c ++ flat_map tree_variables (bound_by step)
+
+-- a number that can be read again
+abbrev pub Fits : ℕ → Type 0
+Fits n = n < 2 ^ 64
+
+-- ---- lines
+
+-- a clause with the step that gave it, of which the text can be read again
+pub record IsReadable (symbols : List Symbol) (step : Step) (c : TreeClause) : Type 0 where
+  pub nameless : IsTrue (is_nameless_step step)
+  pub names : c.names ≡ []
+  pub literals : IsTrue (list_all (is_literal_over symbols) c.literals)
+  pub sides : IsTrue (list_all has_small_sides c.literals)
+  pub binds : IsTrue (binds_each (is_term_over symbols) step)
+  pub small : IsTrue (binds_each is_small_term step)
+  pub canonical : IsCanonical c
+  pub variables : AllByRecursion Fits (line_variables step c)
+
+abbrev pub IsReadableLine : List Symbol → Line → Type 0
+IsReadableLine symbols line = IsReadable symbols line.step (clause_of line.clause)
+
+-- ---- what is taken when they are read again
+
+-- the place of the line of a derivation's line among all that are written
+abbrev pub written_place : Layout → ℕ → ℕ
+written_place layout n = length layout.cited + length layout.negated + place_in n layout.numbers
+
+-- Variables are read by their first places. Those of a canonical clause keep their numbers; those that the step's terms alone have are
+-- numbered behind them.
+abbrev pub read_renaming : Step → TreeClause → Substitution
+read_renaming step c = renaming (distinct (line_variables step c))
+
+abbrev pub read_terms : Substitution → List Tree → List Tree
+read_terms σ ts = map (instance σ) ts
+
+-- the step with its parents' places, and with the terms that it binds as they are read
+abbrev pub placed_step : Layout → Substitution → Step → Step
+placed_step layout σ (Para first second from from_side into into_side place first_bind second_bind) =
+    Para (written_place layout first) (written_place layout second) from from_side into into_side place
+    (read_terms σ first_bind) (read_terms σ second_bind)
+placed_step layout σ (Refl parent literal bind) = Refl (written_place layout parent) literal (read_terms σ bind)
+placed_step layout σ (Factor parent becomes becomes_side other other_side bind) =
+    Factor (written_place layout parent) becomes becomes_side other other_side (read_terms σ bind)
+placed_step layout σ (Merge parent stays goes bind) = Merge (written_place layout parent) stays goes (read_terms σ bind)
+placed_step layout σ step = step
+
+abbrev pub placed_line : Layout → Step → TreeClause → Line
+placed_line layout step c = kernel_line (placed_step layout (read_renaming step c) step) c
+
+-- the first formula that says the same as the one at a place
+abbrev pub first_place : List Annotated → ℕ → ℕ
+first_place problem place =
+    unwrap_or
+    (option_map (λ found. unwrap_or found 0)
+    (option_map (λ (a : Annotated). position (λ b. same_entry (entry_of a) (entry_of b)) problem) (slice_get problem place)))
+    0
+
+abbrev pub taken_as : List ℕ → Line → NamedLine
+taken_as name line = record { name = name; line = line }
+
+-- the formulas' lines from a number on, then those of their negations
+abbrev pub inputs_taken : List Annotated → ℕ → List ℕ → List NamedLine
+inputs_taken problem k [] = []
+inputs_taken problem k (place ∷ places) =
+    taken_as (line_name k) (kernel_line (Input (first_place problem place)) empty_clause) ∷ inputs_taken problem (k + 1) places
+
+abbrev pub negations_taken : List Annotated → ℕ → List ℕ → List NamedLine
+negations_taken problem k [] = []
+negations_taken problem k (place ∷ places) =
+    taken_as (line_name k) (kernel_line (Negate (first_place problem place)) empty_clause) ∷ negations_taken problem (k + 1) places
+
+-- and a derivation's line
+abbrev pub derived_taken : Layout → List Line → ℕ → Option NamedLine
+derived_taken layout lines n =
+    option_map
+    (λ (l : Line). taken_as (derived_name layout n) (placed_line layout l.step (clause_of l.clause)))
+    (slice_get lines n)
+
+-- all that is taken, with the lines of these numbers of the derivation
+abbrev pub all_written : List Annotated → Layout → List Line → List ℕ → List NamedLine
+all_written problem layout lines numbers =
+    inputs_taken problem 0 layout.cited
+    ++ negations_taken problem (length layout.cited) layout.negated
+    ++ filter_map (derived_taken layout lines) numbers
