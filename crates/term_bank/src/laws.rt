@@ -3,12 +3,14 @@
 
 ghost use Rattle.std.specs.Prelude.{◌≡◌, [], ◌∷◌};
 ghost use Rattle.fol_base.specs.Examples.{x, a, f};
-ghost use Rattle.term_bank.specs.Bank.{interned, NoTreeTwice};
+ghost use Rattle.term_bank.specs.Entry.{interned, NoTreeTwice};
 ghost use Rattle.term_bank.specs.Interning.{first_seen};
 ghost use Rattle.term_bank.specs.Laws.{
   LacksDefaults,
   KeepsNumbers,
   KeepsAllNumbers,
+  KeepsNumbersOnTheWay,
+  NumbersOnce,
   InternsOne,
   InternsOnward,
   LearnsOnlyThese,
@@ -22,11 +24,16 @@ pub fn references_of_no_bank()
     ensures { LacksDefaults }
 {}
 
-/// A table keeps its numbers when a tree is interned, or several are, so equal trees that one table interned
-/// have equal numbers.
+/// A table keeps its numbers when a tree is interned, or several are, also where memory runs out on the way.
 pub fn kept_numbers()
     ensures one { KeepsNumbers }
     ensures several { KeepsAllNumbers }
+    ensures on_the_way { KeepsNumbersOnTheWay }
+{}
+
+/// Equal trees that one table interned have equal numbers.
+pub fn equal_numbers()
+    ensures { NumbersOnce }
 {}
 
 /// Interning several trees, one after another: a table learns none but these trees, and the same trees again
