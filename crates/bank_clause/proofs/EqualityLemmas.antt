@@ -1,11 +1,20 @@
 -- What is equal by numbers, one literal after another.
 use Rattle.std.proofs.Common.{◌≡◌, ℕ, zero, suc, ◌<◌, ◌&&◌, Bool, true, false, nat_eq, List, [], ◌∷◌, map, length, get_or, refl, sym, ap, ◌∙◌, true≢false, arith}
 use Rattle.std.specs.Bool.{beq}
-use Rattle.std.proofs.lemmas.Bool.{eqb-true, and_parts}
+use Rattle.std.proofs.lemmas.Bool.{eqb-true, eq-eqb, and_parts}
+use Rattle.std.proofs.lemmas.List.Elements.{All-head, All-tail}
+use Rattle.std.specs.List.{All}
+use Rattle.plain_types.specs.declared.sequence.NameLit.{NameLit}
+use Rattle.fol_base.specs.Clause.{TreeLiteral}
+use Rattle.bank_clause.specs.Parts.{assertion}
 use lib.Pointwise.{pointwise}
 use Rattle.term_bank.specs.Bank.{number, tree_at, same_number}
 use Rattle.term_bank.specs.Literal.{same_numbers, literal_at, literals_at}
+use Rattle.term_bank.proofs.InterningLemmas.{numbers_once}
 use Rattle.term_bank.specs.declared.literal.BankLit.{BankLit}
+use Rattle.term_bank.specs.declared.table.Table.{Table}
+use Rattle.bank_clause.specs.Clause.{IsKnown}
+use Rattle.bank_clause.specs.Laws.{SameAreEqual}
 
 -- lists that are equal by numbers have one length
 pub same-length : (xs ys : List BankLit) → pointwise same_numbers xs ys ≡ true → length xs ≡ length ys
@@ -62,3 +71,59 @@ same-names (n ∷ ns) (m ∷ ms) h =
     let one : n ≡ m = eqb-true n m both.0 in
     let rest : ns ≡ ms = same-names ns ms both.1 in
     (λ j. one j ∷ rest j)
+
+-- ---- what is the same, and known to one table, is equal by numbers
+
+signs-equal : (x y : Bool) → x ≡ y → beq x y ≡ true
+signs-equal true true e = refl
+signs-equal true false e = absurd (true≢false e)
+signs-equal false true e = absurd (true≢false (sym e))
+signs-equal false false e = refl
+
+same-literals : (table : Table) (l m : BankLit) → IsKnown table l → IsKnown table m → literal_at l ≡ literal_at m → same_numbers l m ≡ true
+same-literals table l m known known_too same =
+    let left : number l.left ≡ number m.left = numbers_once table l.left m.left known.0 known_too.0 (ap (λ k. k.left) same) in
+    let right : number l.right ≡ number m.right = numbers_once table l.right m.right known.1 known_too.1 (ap (λ k. k.right) same) in
+    let sign : beq l.positive m.positive ≡ true = signs-equal l.positive m.positive (ap (λ k. k.positive) same) in
+    ap (λ b. b && (same_number l.left m.left && same_number l.right m.right)) sign
+    ∙ ap (λ b. b && same_number l.right m.right) (eq-eqb (number l.left) (number m.left) left)
+    ∙ eq-eqb (number l.right) (number m.right) right
+
+all-same-literals :
+    (table : Table) (ls ms : List BankLit)
+    → All (IsKnown table) ls → All (IsKnown table) ms → literals_at ls ≡ literals_at ms → pointwise same_numbers ls ms ≡ true
+all-same-literals table [] [] known known_too same = refl
+all-same-literals table [] (m ∷ ms) known known_too same = absurd (cc)
+all-same-literals table (l ∷ ls) [] known known_too same = absurd (cc)
+all-same-literals table (l ∷ ls) (m ∷ ms) known known_too same =
+    ap (λ b. b && pointwise same_numbers ls ms)
+    (same-literals table l m (All-head (IsKnown table) l ls known) (All-head (IsKnown table) m ms known_too) (ap (first-of (literal_at l)) same))
+    ∙ all-same-literals table ls ms (All-tail (IsKnown table) l ls known) (All-tail (IsKnown table) m ms known_too) (ap rest-of same)
+  where
+    first-of : TreeLiteral → List TreeLiteral → TreeLiteral
+    first-of d [] = d
+    first-of d (k ∷ ks) = k
+
+    rest-of : List TreeLiteral → List TreeLiteral
+    rest-of [] = []
+    rest-of (k ∷ ks) = ks
+
+same-numbered : (ns ms : List ℕ) → map assertion ns ≡ map assertion ms → pointwise nat_eq ns ms ≡ true
+same-numbered [] [] same = refl
+same-numbered [] (m ∷ ms) same = absurd (cc)
+same-numbered (n ∷ ns) [] same = absurd (cc)
+same-numbered (n ∷ ns) (m ∷ ms) same =
+    ap (λ b. b && pointwise nat_eq ns ms) (eq-eqb n m (ap (first-of n) same)) ∙ same-numbered ns ms (ap rest-of same)
+  where
+    first-of : ℕ → List NameLit → ℕ
+    first-of d [] = d
+    first-of d (k ∷ ks) = k.name
+
+    rest-of : List NameLit → List NameLit
+    rest-of [] = []
+    rest-of (k ∷ ks) = ks
+
+pub same-are-equal : SameAreEqual
+same-are-equal table c d known known_too same =
+    ap (λ b. b && pointwise nat_eq c.names d.names) (all-same-literals table c.literals d.literals known known_too (ap (λ k. k.literals) same))
+    ∙ same-numbered c.names d.names (ap (λ k. k.names) same)

@@ -10,7 +10,8 @@ use Rattle.fol_base.specs.Clause.{TreeLiteral}
 use Rattle.fol_base.specs.Literal.{literal_of}
 use Rattle.fol_base.specs.declared.clause.Literal.{Literal}
 use Rattle.fol_base.proofs.ListLemmas.{map-take_more_item}
-use Rattle.term_bank.specs.Bank.{number, tree_at, entries, number_in}
+use Rattle.term_bank.specs.Bank.{number, tree_at}
+use Rattle.term_bank.specs.Table.{entries, number_in}
 use Rattle.term_bank.specs.Interning.{InternsAll, InternsFirst}
 use Rattle.term_bank.specs.Literal.{IsLiteralOf, AreLiteralsOf, literal_at, literals_at}
 use Rattle.term_bank.proofs.LookupLemmas.{lookup-more}
@@ -20,7 +21,7 @@ use Rattle.term_bank.specs.declared.reference.TermRef.{TermRef}
 use Rattle.term_bank.specs.declared.bank.Bank.{Bank}
 use Rattle.term_bank.specs.declared.table.Table.{Table}
 use Rattle.bank_clause.specs.Clause.{IsKnown, literal_sides, sides}
-use Rattle.bank_clause.specs.Laws.{KeepsKnownLiterals}
+use Rattle.bank_clause.specs.Laws.{KeepsKnownLiterals, KeepsLiteralsOnTheWay}
 
 -- ---- nothing is forgotten
 
@@ -41,6 +42,9 @@ known-literals-kept trees known learned ls all has k d below =
     let right : number_in learned (tree_at l.right) ≡ Some (number l.right) =
     known-kept trees known learned l.right (tree_at l.right) all refl (has k d below).1 in
     (left, right)
+
+pub literals-kept-on-the-way : KeepsLiteralsOnTheWay
+literals-kept-on-the-way trees known learned ls part has = known-literals-kept part.0 known learned ls part.3 has
 
 -- one more literal, after its sides are interned
 pub literals-push :

@@ -1,41 +1,34 @@
--- Clauses in a bank: what they stand for, and what holds of each that is of the bank.
-use Rattle.std.specs.Prelude.{◌≡◌, ℕ, nat_eq, Bool, false, List, [], ◌∷◌, map, flat_map, Some}
+-- Clauses in a bank: what they stand for, and which are of the bank.
+use Rattle.std.specs.Prelude.{◌≡◌, nat_eq, Bool, false, List, [], ◌∷◌, map, flat_map, Some}
 use Rattle.std.specs.Ordering.{on, eq_of_both}
 use lib.Pointwise.{pointwise}
 use Rattle.std.specs.List.{All}
 use Rattle.std.specs.List.Sorted.{IsStrictlyIncreasing}
 use Rattle.plain_types.specs.declared.sequence.NameLit.{NameLit}
 use Rattle.fol_base.specs.Tree.{Tree}
-use Rattle.fol_base.specs.Clause.{TreeLiteral, TreeClause, clause_size, clause_variables}
-use Rattle.fol_base.specs.Canonical.{IsCanonical, bound_of}
-use Rattle.term_bank.specs.Bank.{number, tree_at, number_in}
-use Rattle.term_bank.specs.Literal.{AreLiteralsOf, literals_at, same_numbers}
+use Rattle.fol_base.specs.Clause.{TreeLiteral, TreeClause}
+use Rattle.term_bank.specs.Bank.{number, tree_at}
+use Rattle.term_bank.specs.Table.{number_in}
+use Rattle.term_bank.specs.Literal.{AreLiteralsOf, same_numbers}
 use Rattle.term_bank.specs.declared.literal.BankLit.{BankLit}
 use Rattle.term_bank.specs.declared.bank.Bank.{Bank}
 use Rattle.term_bank.specs.declared.table.Table.{Table}
+use Rattle.bank_clause.specs.Parts.{clause_over}
 use Rattle.bank_clause.specs.declared.clause.BankClause.{BankClause}
 use Rattle.bank_clause.specs.declared.member.Member.{Member}
 
--- an asserted name, as it stands in a clause: negative
-abbrev pub assertion : ℕ → NameLit
-assertion n = record { positive = false; name = n }
-
 -- the clause for which a clause of a bank stands
 abbrev pub clause_at : BankClause → TreeClause
-clause_at c = record { literals = literals_at c.literals; names = map assertion c.names }
+clause_at c = clause_over c.literals c.names
 
 -- the names are negative, and their numbers rise
 pub record AreAssertions (ns : List NameLit) : Type 0 where
   pub negative : All (λ n. n.positive ≡ false) ns
   pub rise : IsStrictlyIncreasing (map (λ n. n.name) ns)
 
--- the clause is of the bank: its references are, its variables are canonical, and its size and its number of variables are
--- those of its trees
-pub record IsClauseOf (bank : Bank) (c : BankClause) : Type 0 where
-  pub references : AreLiteralsOf bank c.literals
-  pub canonical : IsCanonical (clause_at c)
-  pub size : c.size ≡ clause_size (clause_at c)
-  pub variables : c.variables ≡ bound_of (clause_variables (clause_at c))
+-- the clause is of the bank: all its references are
+abbrev pub IsClauseOf : Bank → BankClause → Type 0
+IsClauseOf bank c = AreLiteralsOf bank c.literals
 
 -- the clauses have the same signs, the same numbers on all sides, and the same names
 abbrev pub equal_by_numbers : BankClause → BankClause → Bool

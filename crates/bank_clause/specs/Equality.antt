@@ -1,5 +1,5 @@
 -- Equality of bank clauses by numbers is an equivalence, and what is equal by numbers is hashed alike.
-use Rattle.std.specs.Prelude.{ℕ, nat_eq, ◌++◌}
+use Rattle.std.specs.Prelude.{nat_eq, ◌++◌}
 use Rattle.std.specs.Cmp.{IsEquivalence, on_equiv, and_equiv}
 use Rattle.std.specs.Cmp.Lexicographic.{lists_equiv, nat_list_eq_equiv}
 use Rattle.std.specs.Hash as fed

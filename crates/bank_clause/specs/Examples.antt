@@ -1,5 +1,5 @@
 -- Worked examples: the clause p(X0) | X0 != a with the assertion of the name 3, in a bank that has its four sides.
-use Rattle.std.specs.Prelude.{◌≡◌, ℕ, true, false, [], ◌∷◌}
+use Rattle.std.specs.Prelude.{◌≡◌, true, false, [], ◌∷◌}
 use Rattle.fol_base.specs.Tree.{true_tree}
 use Rattle.fol_base.specs.Clause.{TreeClause}
 use Rattle.fol_base.specs.Examples.{x, a, p}
@@ -8,7 +8,8 @@ use Rattle.term_bank.specs.Bank.{tree_at, AreOf}
 use Rattle.term_bank.specs.declared.bank.Bank.{Bank}
 use Rattle.term_bank.specs.declared.literal.BankLit.{BankLit}
 use Rattle.term_bank.specs.declared.reference.TermRef.{TermRef}
-use Rattle.bank_clause.specs.Clause.{assertion, clause_at, IsClauseOf}
+use Rattle.bank_clause.specs.Parts.{assertion}
+use Rattle.bank_clause.specs.Clause.{clause_at, IsClauseOf}
 use Rattle.bank_clause.specs.declared.clause.BankClause.{BankClause}
 
 abbrev pub row : TreeClause
@@ -27,28 +28,18 @@ pub record HasSides (bank : Bank) (first second third fourth : TermRef) : Type 0
   pub constant : tree_at fourth ≡ a
 
 -- the bank clause of these references
-abbrev pub over : TermRef → TermRef → TermRef → TermRef → ℕ → ℕ → BankClause
-over first second third fourth symbols variables =
+abbrev pub over : TermRef → TermRef → TermRef → TermRef → BankClause
+over first second third fourth =
     let atom : BankLit = record { positive = true; left = first; right = second } in
     let other_than_a : BankLit = record { positive = false; left = third; right = fourth } in
-    record { literals = atom ∷ other_than_a ∷ []; names = 3 ∷ []; size = symbols; variables = variables }
+    record { literals = atom ∷ other_than_a ∷ []; names = 3 ∷ [] }
 
 abbrev pub StandsForRow : Type 0
 StandsForRow =
-    (bank : Bank) (first second third fourth : TermRef) (symbols variables : ℕ)
-    → HasSides bank first second third fourth → clause_at (over first second third fourth symbols variables) ≡ row
+    (bank : Bank) (first second third fourth : TermRef)
+    → HasSides bank first second third fourth → clause_at (over first second third fourth) ≡ row
 
 abbrev pub IsOfItsBank : Type 0
 IsOfItsBank =
     (bank : Bank) (first second third fourth : TermRef)
-    → HasSides bank first second third fourth → IsClauseOf bank (over first second third fourth 5 1)
-
-abbrev pub CountsNoNames : Type 0
-CountsNoNames =
-    (bank : Bank) (first second third fourth : TermRef)
-    → HasSides bank first second third fourth → ¬ IsClauseOf bank (over first second third fourth 6 1)
-
-abbrev pub CountsVariables : Type 0
-CountsVariables =
-    (bank : Bank) (first second third fourth : TermRef)
-    → HasSides bank first second third fourth → ¬ IsClauseOf bank (over first second third fourth 5 0)
+    → HasSides bank first second third fourth → IsClauseOf bank (over first second third fourth)

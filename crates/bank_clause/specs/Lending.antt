@@ -1,9 +1,8 @@
--- That literals are of a bank has at most one proof, so a lender can carry it.
+-- What contracts see of the literals that a clause of a bank lends.
 use Rattle.std.specs.Prelude.{List}
-use Rattle.std.proofs.Props.{props}
-use Rattle.term_bank.specs.Literal.{AreLiteralsOf}
-use Rattle.term_bank.specs.declared.literal.BankLit.{BankLit}
-use Rattle.term_bank.specs.declared.bank.Bank.{Bank}
+use Rattle.std.specs.Coded.{Coded, codes}
+use Rattle.fol_base.specs.TreeCode.{tree_code}
+use Rattle.fol_base.specs.Clause.{TreeLiteral}
 
-pub are-literals-prop : (bank : Bank) (ls : List BankLit) → IsProp (AreLiteralsOf bank ls)
-are-literals-prop bank ls = hlevel props
+pub tree_literals_code : Coded (List TreeLiteral)
+tree_literals_code = hlevel (codes, tree_code)

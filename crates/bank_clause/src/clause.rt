@@ -1,14 +1,13 @@
 // Clauses in a bank.
 
-ghost use Rattle.std.specs.Prelude.{◌≡◌, ◌<◌, map, IfOk, OnOk, OnErr};
+ghost use Rattle.std.specs.Prelude.{◌≡◌, ◌<◌, ◌≤◌, IfOk, OnOk, OnErr};
 ghost use Rattle.std.specs.List.{All};
 ghost use Rattle.std.specs.List.Sorted.{IsStrictlyIncreasing};
 ghost use Rattle.fol_base.specs.Clause.{clause_size, clause_variables};
 ghost use Rattle.fol_base.specs.Canonical.{IsCanonical, bound_of};
 ghost use Rattle.fol_base.specs.Literal.{clause_of};
-ghost use Rattle.term_bank.specs.Bank.{IsTableOf};
+ghost use Rattle.term_bank.specs.Table.{IsTableOf};
 ghost use Rattle.term_bank.specs.Interning.{InternsAll, InternsFirst};
-ghost use Rattle.term_bank.specs.declared.bank.Bank.{Bank as ABank};
 ghost use Rattle.bank_clause.specs.Clause.{
   AreAssertions,
   IsClauseOf,
@@ -37,23 +36,19 @@ pub struct BankClause {
     literals: BankLits,
     names: Vec<u32>,
     symbols: u32,
-    variables: u64,
+    variables: u32,
 }
 
 impl Model for BankClause {
-    ghost use Rattle.bank_clause.specs.Parts.{ClauseParts, clause_parts_code};
+    ghost use Rattle.bank_clause.specs.Parts.{ClauseParts, IsClauseOver, clause_parts_code};
 
     ghost Value = { ClauseParts };
 
     ghost coded = { clause_parts_code };
 
-    ghost view = { λ c. record { literals = c.literals.items; names = c.names.items; size = c.symbols; variables = c.variables } };
+    ghost view = { λ c. record { literals = c.literals.items; names = c.names.items } };
 
-    ghost use Rattle.std.specs.Prelude.{◌<◌};
-    ghost use Rattle.std.specs.List.Sorted.{IsStrictlyIncreasing};
-    ghost use Rattle.fol_base.specs.declared.limits.TheConstants.{SIZE_LIMIT};
-
-    ghost invariant = { λ c. IsStrictlyIncreasing c.names.items × (c.symbols < SIZE_LIMIT) };
+    ghost invariant = { λ c. IsClauseOver c.literals.items c.names.items c.symbols c.variables };
 }
 
 impl BankClause {
@@ -85,7 +80,7 @@ impl BankClause {
             literals,
             names,
             symbols: clause.size() as u32,
-            variables: clause.variable_bound(),
+            variables: clause.variable_bound() as u32,
         })
     }
 
@@ -103,9 +98,10 @@ impl BankClause {
         })
     }
 
-    /// The literals, lent.
+    /// The literals, lent. Their variables are numbered by first occurrence.
     pub fn literals(&self) -> &[BankLit]
-        ensures { result.now ≡ self.now.literals }
+        ensures literals { result.now ≡ self.now.literals }
+        ensures canonical { IsCanonical (clause_at self.now) }
     {
         self.literals.as_slice()
     }
@@ -120,17 +116,17 @@ impl BankClause {
 
     /// The sizes of both sides of all literals together. Names count nothing.
     pub fn size(&self) -> u32
-        ensures size { (bank : ABank) → IsClauseOf bank self.now → result ≡ clause_size (clause_at self.now) }
-        ensures kept { result ≡ self.now.size }
+        ensures size { result ≡ clause_size (clause_at self.now) }
         ensures limit { result < SIZE_LIMIT }
     {
         self.symbols
     }
 
     /// How many variables there are: they have the numbers below it.
-    pub fn variable_bound(&self) -> u64
-        ensures variables { (bank : ABank) → IsClauseOf bank self.now → result ≡ bound_of (clause_variables (clause_at self.now)) }
-        ensures kept { result ≡ self.now.variables }
+    pub fn variable_bound(&self) -> u32
+        ensures variables { result ≡ bound_of (clause_variables (clause_at self.now)) }
+        ensures few { result ≤ clause_size (clause_at self.now) }
+        ensures limit { result < SIZE_LIMIT }
     {
         self.variables
     }

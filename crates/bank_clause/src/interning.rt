@@ -3,7 +3,7 @@
 ghost use Rattle.std.specs.Prelude.{◌≡◌, map, IfOk, OnOk, OnErr};
 ghost use Rattle.std.specs.List.{All};
 ghost use Rattle.fol_base.specs.Literal.{literal_of};
-ghost use Rattle.term_bank.specs.Bank.{IsTableOf};
+ghost use Rattle.term_bank.specs.Table.{IsTableOf};
 ghost use Rattle.term_bank.specs.Literal.{IsLiteralOf, AreLiteralsOf, literal_at, literals_at};
 ghost use Rattle.term_bank.specs.Interning.{InternsAll, InternsFirst};
 ghost use Rattle.bank_clause.specs.Clause.{IsKnown, literal_sides, sides};

@@ -1,28 +1,40 @@
 // A clause of a bank lends its literals: no term is copied to be looked at.
 
 ghost use Rattle.std.specs.Prelude.{◌≡◌};
-ghost use Rattle.term_bank.specs.Literal.{AreLiteralsOf, literals_at};
-ghost use Rattle.bank_clause.specs.Clause.{IsClauseOf};
-ghost use Rattle.bank_clause.specs.Lending.{are-literals-prop};
+ghost use Rattle.bank_clause.specs.Clause.{IsClauseOf, clause_at};
 
 use crate::clause::BankClause;
 use fol_base::{LendsLiterals, LiteralRef};
+use std::marker::Model;
 use term_bank::{Bank, BankLit};
 
 /// The literals of a clause of a bank, lent with the bank, whose terms are their sides.
-#[derive(Clone, Copy)]
+#[derive(Drop)]
 pub struct BankLiterals<'a> {
     bank: &'a Bank,
     literals: &'a [BankLit],
-    ghost of_bank: { AreLiteralsOf bank.now literals.now } by { are-literals-prop bank.now literals.now },
+}
+
+impl<'a> Model for BankLiterals<'a> {
+    ghost use Rattle.std.specs.Prelude.{List};
+    ghost use Rattle.fol_base.specs.Clause.{TreeLiteral};
+    ghost use Rattle.term_bank.specs.Literal.{AreLiteralsOf, literals_at};
+    ghost use Rattle.bank_clause.specs.Lending.{tree_literals_code};
+
+    ghost Value = { List TreeLiteral };
+
+    ghost coded = { tree_literals_code };
+
+    ghost view = { λ lent. literals_at lent.literals.now };
+
+    ghost invariant = { λ lent. AreLiteralsOf lent.bank.now lent.literals.now };
 }
 
 impl BankClause {
     /// The literals as literals of terms, lent.
     pub fn lend<'a>(&'a self, bank: &'a Bank) -> BankLiterals<'a>
         requires { IsClauseOf bank.now self.now }
-        ensures bank { result.bank.now ≡ bank.entry.now }
-        ensures literals { result.literals.now ≡ self.entry.now.literals }
+        ensures { result ≡ (clause_at self.entry.now).literals }
     {
         BankLiterals {
             bank,
@@ -32,14 +44,15 @@ impl BankClause {
 }
 
 impl<'a> LendsLiterals for BankLiterals<'a> {
-    ghost meaning = { λ lent. literals_at lent.literals.now };
+    ghost meaning = { λ lent. lent };
 
     fn count(&self) -> usize {
         self.literals.len()
     }
 
     fn literal(&self, index: usize) -> LiteralRef<'_> {
-        let literal = &self.literals[index];
+        let literals = self.literals;
+        let literal = &literals[index];
         LiteralRef {
             positive: literal.positive,
             left: self.bank.tree(&literal.left),

@@ -14,5 +14,3 @@ pub use member::{Member, Members};
 pub use term_bank::BankLit;
 
 pub mod laws;
-#[cfg(test)]
-mod tests;

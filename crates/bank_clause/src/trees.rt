@@ -3,7 +3,7 @@
 ghost use Rattle.std.specs.Prelude.{◌≡◌, map, IfOk};
 ghost use Rattle.fol_base.specs.Literal.{literal_of};
 ghost use Rattle.term_bank.specs.Literal.{IsLiteralOf, AreLiteralsOf, literal_at, literals_at};
-ghost use Rattle.bank_clause.specs.Clause.{assertion};
+ghost use Rattle.bank_clause.specs.Parts.{assertion};
 
 use fol_base::Literal;
 use plain_types::{Mem, NameLit};

@@ -1,5 +1,5 @@
 -- The chains of a table: a walk down one finds a tree exactly where the table has it.
-use Rattle.std.proofs.Common.{◌≡◌, ℕ, zero, suc, Bool, true, false, cond, List, [], ◌∷◌, ◌++◌, length, take, get_or, nat_eq, None, Some, ◌<◌, ◌≤◌, ◌+◌, ◌⊎◌, inl, inr, if◌then◌else◌, refl, sym, ap, subst, ◌∙◌, true≢false, arith}
+use Rattle.std.proofs.Common.{◌≡◌, ℕ, zero, suc, Bool, true, false, cond, List, [], ◌∷◌, ◌++◌, length, take, get_or, nat_eq, None, Some, ◌<◌, ◌≤◌, ◌⊎◌, inl, inr, if◌then◌else◌, refl, sym, ap, subst, ◌∙◌, true≢false, arith}
 use Rattle.std.proofs.lemmas.Bool.{eqb-true, eq-eqb, cases_lt}
 use Rattle.std.proofs.lemmas.List.{get_or_append_left, length-append, take_all}
 use Rattle.std.specs.Option.{unwrap_or}
@@ -7,7 +7,7 @@ use Rattle.std.specs.Map.{lookup}
 use Rattle.fol_base.specs.Tree.{Tree, variable, tree_eq}
 use Rattle.fol_base.proofs.TreeLemmas.{tree_eq-true}
 use Rattle.term_bank.specs.Hash.{tree_hash}
-use Rattle.term_bank.specs.Bank.{NoTreeTwice}
+use Rattle.term_bank.specs.Entry.{NoTreeTwice}
 use Rattle.term_bank.specs.Chain.{hash_at, newest_below, IsChained}
 use Rattle.term_bank.proofs.LookupLemmas.{lookup-push, lookup-past, not-before}
 

@@ -5,12 +5,13 @@ use Rattle.std.proofs.lemmas.List.Elements.{All-nil, All-cons, All-head, All-tai
 use Rattle.std.specs.Prelude.{Contains}
 use Rattle.std.proofs.lemmas.List.Folds.{list_any-append}
 use Rattle.std.specs.List.{All, list_any}
+use Rattle.std.specs.Option.{unwrap_or}
 use Rattle.std.specs.Map.{lookup}
 use Rattle.fol_base.specs.Tree.{Tree, tree_eq}
 use Rattle.fol_base.proofs.TreeLemmas.{tree_eq-refl}
-use Rattle.term_bank.specs.Bank.{entries}
+use Rattle.term_bank.specs.Table.{entries, number_in}
 use Rattle.term_bank.proofs.LookupLemmas.{lookup-more}
-use Rattle.term_bank.specs.Laws.{InternsOne, InternsOnward, LearnsOnlyThese, InternedAgain, KeepsAllNumbers, NumbersThese, InternsAfterFirst}
+use Rattle.term_bank.specs.Laws.{InternsOne, InternsOnward, LearnsOnlyThese, InternedAgain, KeepsAllNumbers, KeepsNumbersOnTheWay, NumbersOnce, NumbersThese, InternsAfterFirst}
 use Rattle.term_bank.specs.Interning.{first_seen, trees_in, InternsAll}
 use Rattle.term_bank.specs.declared.table.Table.{Table}
 
@@ -159,6 +160,13 @@ interned_again trees first second third once again =
 pub keeps_all_numbers : KeepsAllNumbers
 keeps_all_numbers trees known learned u m all has =
     ap (lookup (tree_eq u)) all.table ∙ lookup-more (tree_eq u) (entries known) all.more m has
+
+pub keeps_numbers_on_the_way : KeepsNumbersOnTheWay
+keeps_numbers_on_the_way trees known learned u m part has = keeps_all_numbers part.0 known learned u m part.3 has
+
+pub numbers_once : NumbersOnce
+numbers_once table r s first second same =
+    ap (λ n. unwrap_or n 0) (sym first ∙ ap (number_in table) same ∙ second)
 
 pub numbers_these : NumbersThese
 numbers_these trees known learned all k d below =

@@ -1,3 +1,4 @@
+pub mod RowLemmas
 pub mod LookupLemmas
 pub mod ChainLemmas
 pub mod TableLemmas

@@ -3,7 +3,7 @@ use Rattle.std.proofs.Common.{◌≡◌, ℕ, zero, suc, Bool, true, false, cond
 use Rattle.std.specs.Map.{lookup}
 use Rattle.fol_base.specs.Tree.{Tree, variable, tree_eq}
 use Rattle.fol_base.proofs.TreeLemmas.{tree_eq-true, tree_eq-refl}
-use Rattle.term_bank.specs.Bank.{interned, NoTreeTwice}
+use Rattle.term_bank.specs.Entry.{interned, NoTreeTwice}
 
 module _ {K X : Type 0} (test : K → Bool) where
   -- where nothing is found, neither the first entry nor a later one passes

@@ -6,11 +6,12 @@ use Rattle.std.specs.Option.{unwrap_or}
 use Rattle.std.specs.Map.{lookup}
 use Rattle.fol_base.specs.Tree.{Tree, variable, tree_eq}
 use Rattle.term_bank.specs.Hash.{tree_hash}
-use Rattle.term_bank.specs.Bank.{IsOf, entry_of, number, tree_at, NoTreeTwice, AreEntriesOf}
+use Rattle.term_bank.specs.Bank.{IsOf, number, tree_at}
+use Rattle.term_bank.specs.Entry.{entry_of, NoTreeTwice, AreEntriesOf}
 use Rattle.term_bank.specs.Chain.{IsChained, hash_at, newest_below}
 use Rattle.term_bank.specs.declared.bank.Bank.{Bank}
 use Rattle.term_bank.specs.declared.reference.TermRef.{TermRef}
-use Rattle.term_bank.specs.declared.table.Entry.{Entry}
+use Rattle.term_bank.specs.declared.chains.Entry.{Entry}
 use Rattle.term_bank.proofs.LookupLemmas.{NoTreeTwice-push}
 use Rattle.term_bank.proofs.ChainLemmas.{chain-push, newest-under, Looks, looks-on, looks-found}
 

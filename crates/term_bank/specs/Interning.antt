@@ -2,7 +2,7 @@
 use Rattle.std.specs.Prelude.{◌≡◌, ℕ, List, [], ◌∷◌, ◌++◌, map, if◌then◌else◌}
 use Rattle.std.specs.List.{list_any}
 use Rattle.fol_base.specs.Tree.{Tree, tree_eq}
-use Rattle.term_bank.specs.Bank.{entries}
+use Rattle.term_bank.specs.Table.{entries}
 use Rattle.term_bank.specs.declared.table.Table.{Table}
 
 -- those of the trees that aren't among the known ones, each once, in the order in which they first occur

@@ -2,7 +2,9 @@
 use Rattle.std.specs.Prelude.{◌≡◌, ℕ, true, List, ◌++◌, [], ◌∷◌, Some, is_some, Contains}
 use Rattle.std.specs.List.{All}
 use Rattle.fol_base.specs.Tree.{Tree}
-use Rattle.term_bank.specs.Bank.{IsOf, IsDefault, entries, interned, number_in}
+use Rattle.term_bank.specs.Bank.{IsOf, IsDefault, number, tree_at}
+use Rattle.term_bank.specs.Entry.{interned}
+use Rattle.term_bank.specs.Table.{entries, number_in}
 use Rattle.term_bank.specs.Interning.{trees_in, InternsAll, InternsFirst}
 use Rattle.term_bank.specs.declared.reference.TermRef.{TermRef}
 use Rattle.term_bank.specs.declared.bank.Bank.{Bank}
@@ -23,6 +25,18 @@ abbrev pub KeepsAllNumbers : Type 0
 KeepsAllNumbers =
     (trees : List Tree) (known learned : Table) (u : Tree) (m : ℕ)
     → InternsAll trees known learned → number_in known u ≡ Some m → number_in learned u ≡ Some m
+
+-- and where only some first ones were, as where memory ran out on the way
+abbrev pub KeepsNumbersOnTheWay : Type 0
+KeepsNumbersOnTheWay =
+    (trees : List Tree) (known learned : Table) (u : Tree) (m : ℕ)
+    → InternsFirst trees known learned → number_in known u ≡ Some m → number_in learned u ≡ Some m
+
+-- references that one table has for equal trees have equal numbers
+abbrev pub NumbersOnce : Type 0
+NumbersOnce =
+    (table : Table) (r s : TermRef) → number_in table (tree_at r) ≡ Some (number r) → number_in table (tree_at s) ≡ Some (number s)
+    → tree_at r ≡ tree_at s → number r ≡ number s
 
 -- a tree that is interned is a list of one
 abbrev pub InternsOne : Type 0

@@ -1,7 +1,11 @@
 pub mod Hash
+pub mod Rows
 pub mod Reference
+pub mod Contents
 pub mod Chain
 pub mod Bank
+pub mod Entry
+pub mod Table
 pub mod Literal
 pub mod Equality
 pub mod Interning

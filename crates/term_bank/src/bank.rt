@@ -1,13 +1,14 @@
 // The bank.
 
-ghost use Rattle.std.specs.Prelude.{◌≡◌, [], None, Some, IfOk, OnErr};
+ghost use Rattle.std.specs.Prelude.{◌≡◌, [], Some, IfOk, OnErr};
 ghost use Rattle.fol_base.specs.Term.{tree_of};
-ghost use Rattle.term_bank.specs.Hash.{tree_hash};
-ghost use Rattle.term_bank.specs.Bank.{number, tree_at, entries, number_in, interned, IsOf, IsTableOf};
+ghost use Rattle.term_bank.specs.Bank.{identity, number, tree_at, IsOf};
+ghost use Rattle.term_bank.specs.Entry.{interned};
+ghost use Rattle.term_bank.specs.Table.{entries, number_in, IsTableOf};
 
 use crate::hash::term_hash;
 use crate::reference::TermRef;
-use crate::rows::{Anything, Rows, Shown, laid, located, no_rows};
+use crate::rows::{AllRows, Rows, Shown, laid, located, rows_to_lay};
 use crate::table::Table;
 use boxcar::slot::{OnceSlot, Written};
 use boxcar::tag::Tag;
@@ -21,7 +22,7 @@ use std::sync::atomic::{AtomicU64, Ordering};
 /// A bank of terms, which threads share. It only grows, and a reference of it stands for one tree for good.
 #[derive(Drop)]
 pub struct Bank {
-    rows: OnceSlot<Rows, Anything>,
+    rows: OnceSlot<Rows, AllRows>,
     shown: Written<Rows>,
     next: AtomicU64,
 }
@@ -43,21 +44,29 @@ impl Bank {
         ensures empty { IfOk result (λ made. entries made.1 ≡ []) }
     {
         let rows = OnceSlot::new(&Tag::empty());
-        let Ok(shown) = rows.set_written(no_rows(alloc)?) else {
+        let Ok(shown) = rows.set_written(rows_to_lay(alloc)?) else {
             return Err(NoMemory);
         };
+        let table = Table::new(alloc, shown.again());
         let bank = Bank {
             rows,
             shown,
             next: AtomicU64::new(0),
         };
-        Ok((bank, Table::new(alloc)))
+        Ok((bank, table))
+    }
+
+    /// A further table of the bank, empty. Two tables may have different numbers for one tree.
+    pub fn empty_table(&self, alloc: Global) -> Table
+        ensures { result ≡ record { bank = identity self.now; entries = [] } }
+    {
+        Table::new(alloc, self.shown.again())
     }
 
     /// The reference of a term's tree, with the number that the table has for it; a tree that the table
     /// doesn't have is added. After want of memory the table is as before.
     ///
-    /// A term that is there is read once, and a new one is hashed once and copied once.
+    /// A term that is there is hashed, and compared with the bank's own; a new one is hashed once and copied once.
     pub fn intern<R: Wait>(
         &self,
         rt: &R,
@@ -72,13 +81,13 @@ impl Bank {
         ensures entries { IfOk result (λ reference.
             entries table.new ≡ interned (entries table.old) (tree_of term.now) (number reference)) }
         ensures table { IsTableOf self.now table.new }
-        ensures table_unchanged { OnErr result (entries table.new ≡ entries table.old) }
+        ensures table_unchanged { OnErr result (table.new ≡ table.old) }
     {
         let hash = term_hash(0, term);
         if let Some(reference) = table.find(self, hash, term) {
             return Ok(reference.copy());
         }
-        self.add(rt, alloc, table, hash, term.copy(alloc)?)
+        table.add(rt, alloc, self, hash, term.copy(alloc)?)
     }
 
     /// As `intern`, for a term that is handed over: a new one is moved into the bank, and not copied.
@@ -96,60 +105,32 @@ impl Bank {
         ensures entries { IfOk result (λ reference.
             entries table.new ≡ interned (entries table.old) (tree_of term) (number reference)) }
         ensures table { IsTableOf self.now table.new }
-        ensures table_unchanged { OnErr result (entries table.new ≡ entries table.old) }
+        ensures table_unchanged { OnErr result (table.new ≡ table.old) }
     {
         let hash = term_hash(0, &term);
         if let Some(reference) = table.find(self, hash, &term) {
             return Ok(reference.copy());
         }
-        self.add(rt, alloc, table, hash, term)
+        table.add(rt, alloc, self, hash, term)
     }
 
-    /// Adds a term whose tree the table doesn't have, and lets the table know. The table's memory is taken first,
-    /// so that no term is put into the bank that nobody can find.
-    fn add<R: Wait>(
-        &self,
-        rt: &R,
-        alloc: Global,
-        table: &mut Table,
-        hash: u64,
-        term: Term,
-    ) -> Mem<TermRef>
-        requires table { IsTableOf self.now table.old }
-        requires new { number_in table.old (tree_of term) ≡ None }
-        requires hash { hash ≡ tree_hash 0 (tree_of term) }
-        ensures reference { IfOk result (IsOf self.now) }
-        ensures tree { IfOk result (λ reference. tree_at reference ≡ tree_of term) }
-        ensures known { IfOk result (λ reference. number_in table.new (tree_of term) ≡ Some (number reference)) }
-        ensures entries { IfOk result (λ reference.
-            entries table.new ≡ interned (entries table.old) (tree_of term) (number reference)) }
-        ensures table { IsTableOf self.now table.new }
-        ensures table_unchanged { OnErr result (entries table.new ≡ entries table.old) }
-    {
-        table.make_room()?;
-        let reference = self.put(rt, alloc, term)?;
-        table.learn(hash, reference.copy());
-        Ok(reference)
-    }
-
-    /// Puts a term at the next place.
-    fn put<R: Wait>(&self, rt: &R, alloc: Global, term: Term) -> Mem<TermRef>
+    /// Puts a term at the next place. The place's row is made before the place is taken, so a refusal uses up no place, but where
+    /// other threads take the last ones of a row meanwhile.
+    pub(crate) fn put<R: Wait>(&self, rt: &R, alloc: Global, term: Term) -> Mem<TermRef>
         ensures reference { IfOk result (IsOf self.now) }
         ensures tree { IfOk result (λ reference. tree_at reference ≡ tree_of term) }
     {
+        let rows = self.rows.value(&self.shown);
+        let Some((ahead, _)) = located(self.next.load(Ordering::SeqCst)) else {
+            return Err(NoMemory);
+        };
+        laid(rt, alloc, &rows[usize::from(ahead)], ahead)?;
         let Some((row, place)) = located(self.next.fetch_add(1, Ordering::SeqCst)) else {
             return Err(NoMemory);
         };
-        let rows = self.rows.value(&self.shown);
-        if usize::from(row) >= rows.len() {
-            return Err(NoMemory);
-        }
         let written = laid(rt, alloc, &rows[usize::from(row)], row)?;
-        let slots = rows[usize::from(row)].value(&written);
-        if place as usize >= slots.len() {
-            return Err(NoMemory);
-        }
-        let Ok(item) = slots[place as usize].set_written(term) else {
+        let places = rows[usize::from(row)].value(&written);
+        let Ok(item) = places[place as usize].set_written(term) else {
             return Err(NoMemory);
         };
         let shown = Shown {

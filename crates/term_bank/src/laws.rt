@@ -3,12 +3,15 @@
 
 ghost use Rattle.std.specs.Prelude.{◌≡◌, [], ◌∷◌};
 ghost use Rattle.fol_base.specs.Examples.{x, a, f};
-ghost use Rattle.term_bank.specs.Bank.{interned, NoTreeTwice};
+ghost use Rattle.term_bank.specs.Entry.{interned, NoTreeTwice};
 ghost use Rattle.term_bank.specs.Interning.{first_seen};
+ghost use Rattle.term_bank.specs.Rows.{IsPlaceOf};
 ghost use Rattle.term_bank.specs.Laws.{
   LacksDefaults,
   KeepsNumbers,
   KeepsAllNumbers,
+  KeepsNumbersOnTheWay,
+  NumbersOnce,
   InternsOne,
   InternsOnward,
   LearnsOnlyThese,
@@ -22,11 +25,16 @@ pub fn references_of_no_bank()
     ensures { LacksDefaults }
 {}
 
-/// A table keeps its numbers when a tree is interned, or several are, so equal trees that one table interned
-/// have equal numbers.
+/// A table keeps its numbers when a tree is interned, or several are, also where memory runs out on the way.
 pub fn kept_numbers()
     ensures one { KeepsNumbers }
     ensures several { KeepsAllNumbers }
+    ensures on_the_way { KeepsNumbersOnTheWay }
+{}
+
+/// Equal trees that one table interned have equal numbers.
+pub fn equal_numbers()
+    ensures { NumbersOnce }
 {}
 
 /// Interning several trees, one after another: a table learns none but these trees, and the same trees again
@@ -41,7 +49,8 @@ pub fn several_trees()
     ensures after_first { InternsAfterFirst }
 {}
 
-/// What a table's entries become, what is right of them, and which of several trees a table learns, in which order.
+/// What a table's entries become, what is right of them, and which of several trees a table learns, in which order; and where terms
+/// stand.
 pub fn examples()
     ensures known_again { interned ((a, 0) ∷ []) a 7 ≡ (a, 0) ∷ [] }
     ensures new_last { interned ((a, 0) ∷ []) (f a) 1 ≡ (a, 0) ∷ (f a, 1) ∷ [] }
@@ -51,4 +60,7 @@ pub fn examples()
     ensures known { first_seen (a ∷ []) (f a ∷ a ∷ []) ≡ f a ∷ [] }
     ensures repeated { first_seen [] (f a ∷ a ∷ f a ∷ x 0 ∷ a ∷ []) ≡ f a ∷ a ∷ x 0 ∷ [] }
     ensures both_known { first_seen (a ∷ x 0 ∷ []) (x 0 ∷ a ∷ x 0 ∷ []) ≡ [] }
+    ensures first_place { IsPlaceOf 0 0 0 }
+    ensures end_of_row { IsPlaceOf 31 0 31 }
+    ensures next_row { IsPlaceOf 32 1 0 }
 {}

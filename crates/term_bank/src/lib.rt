@@ -2,6 +2,7 @@
 #![tactic(auto)]
 
 mod bank;
+mod chains;
 mod hash;
 mod literal;
 mod reference;
@@ -9,14 +10,12 @@ mod rows;
 mod table;
 
 pub use bank::Bank;
+#[doc(hidden)]
+pub use chains::{Chains, Entry};
 pub use literal::BankLit;
 pub use reference::TermRef;
 #[doc(hidden)]
-pub use rows::{Anything, Shown};
-#[doc(hidden)]
-pub use table::Entry;
+pub use rows::{AllRows, AnyTerm, FullLength, Shown};
 pub use table::Table;
 
 pub mod laws;
-#[cfg(test)]
-mod tests;

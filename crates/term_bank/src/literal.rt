@@ -10,13 +10,16 @@ use std::default::Default;
 use std::hash::{Hash, Hasher};
 
 /// A literal in a bank: an equation between two of the bank's terms, or its negation. An atom has its
-/// predicate term on the left and `$true`, the symbol 0, on the right.
+/// predicate term on the left and `$true`, the symbol 0, on the right. Literals are equal, and hashed, by their signs and the numbers
+/// of their sides, which means something only inside one bank.
 #[derive(Drop)]
 pub struct BankLit {
     pub positive: bool,
     pub left: TermRef,
     pub right: TermRef,
 }
+
+const _: () = prove!(size_of::<BankLit>() == 20);
 
 impl BankLit {
     /// An equal literal. It takes no memory.

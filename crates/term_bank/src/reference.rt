@@ -12,7 +12,8 @@ use std::marker::Model;
 
 /// A reference to a term of a bank. It stands for one tree for good, in every thread.
 ///
-/// It has 8 bytes: a place in a row, and whether it is of a bank.
+/// It has 8 bytes: a row, a place in it, and whether it is of a bank. References are equal, and hashed, by their numbers alone, which
+/// tells trees apart only inside one bank.
 #[derive(Drop)]
 pub struct TermRef {
     pub(crate) place: u32,
@@ -63,6 +64,8 @@ impl TermRef {
     }
 }
 
+const _: () = prove!(size_of::<TermRef>() == 8);
+
 fn shown_again(shown: &Option<Shown>) -> Option<Shown>
     ensures { result ≡ shown.now }
 {
@@ -99,11 +102,12 @@ impl Hash for TermRef {
 impl Default for TermRef {
     ghost is_default = { IsDefault };
 
-    /// A reference of no bank, to fill places that aren't used yet.
+    /// A reference of no bank, to fill places that aren't used yet. No reference of a bank has its number, since no row has this
+    /// number.
     fn default() -> TermRef {
         TermRef {
             place: 0,
-            row: 0,
+            row: u8::MAX,
             shown: None,
         }
     }

@@ -1,47 +1,55 @@
 // The table of a bank: which trees were interned through it, and with which references.
 
-ghost use Rattle.std.specs.Prelude.{◌≡◌, ℕ, ◌<◌, ◌+◌, [], ◌∷◌, ◌++◌, length, get_or, map, nat_eq, cond, Some, IfSome, OnOk, vec_len, vec_capacity};
-ghost use Rattle.std.specs.Option.{option_map, unwrap_or};
-ghost use Rattle.indexmap.specs.IndexMap.{get, spare};
-ghost use Rattle.fol_base.specs.Tree.{variable};
+ghost use Rattle.std.specs.Prelude.{◌≡◌, [], None, Some, IfSome, IfOk, OnErr};
+ghost use Rattle.std.specs.Option.{option_map};
 ghost use Rattle.fol_base.specs.Term.{tree_of};
 ghost use Rattle.term_bank.specs.Hash.{tree_hash};
-ghost use Rattle.term_bank.specs.Bank.{number, tree_at, number_in, IsOf, IsTableOf};
-ghost use Rattle.term_bank.specs.declared.table.Entry.{Entry};
+ghost use Rattle.term_bank.specs.Bank.{number, tree_at, IsOf};
+ghost use Rattle.term_bank.specs.Entry.{interned};
+ghost use Rattle.term_bank.specs.Table.{entries, number_in, IsTableOf};
 
 use crate::bank::Bank;
-use crate::hash::term_hash;
+use crate::chains::Chains;
 use crate::reference::TermRef;
-use fol_base::{Term, same_term};
-use indexmap::IndexMap;
+use crate::rows::Rows;
+use boxcar::slot::Written;
+use fol_base::Term;
 use plain_types::Mem;
 use std::alloc::Global;
+use std::marker::Model;
+use std::sync::Wait;
 
 /// The terms that were interned through it, each with its reference. No tree stands in it twice, and none is
 /// copied: a term is found by its hash, and compared with the bank's own.
 #[derive(Drop)]
 pub struct Table {
-    entries: Vec<Entry>,
-    /// One more than the place of the newest entry of each hash.
-    newest: IndexMap<u64, usize>,
+    shown: Written<Rows>,
+    chains: Chains,
 }
 
-/// A reference, with one more than the place of the entry before it of the same hash, or 0.
-#[derive(Drop)]
-pub struct Entry {
-    reference: TermRef,
-    older: usize,
+impl Model for Table {
+    ghost use Rattle.std.specs.Prelude.{map};
+    ghost use Rattle.term_bank.specs.Contents.{Contents, contents_code};
+
+    ghost Value = { Contents };
+
+    ghost coded = { contents_code };
+
+    ghost use Rattle.term_bank.specs.Entry.{entry_of, AreEntriesOf};
+
+    ghost view = { λ t. record { bank = t.shown.of; entries = map entry_of t.chains.entries.items } };
+
+    ghost invariant = { λ t. AreEntriesOf t.shown.of t.chains.entries.items t.chains.newest.entries };
 }
 
 impl Table {
-    /// An empty table.
-    pub(crate) fn new(alloc: Global) -> Table
-        ensures entries { result.entries.items ≡ [] }
-        ensures newest { result.newest.entries ≡ [] }
+    /// An empty table of the bank whose rows are shown.
+    pub(crate) fn new(alloc: Global, shown: Written<Rows>) -> Table
+        ensures { result ≡ record { bank = shown.of; entries = [] } }
     {
         Table {
-            entries: Vec::new(alloc),
-            newest: IndexMap::new(alloc),
+            shown,
+            chains: Chains::new(alloc),
         }
     }
 
@@ -53,58 +61,33 @@ impl Table {
         ensures of_bank { IfSome result (λ r. IsOf bank.now r.now) }
         ensures tree { IfSome result (λ r. tree_at r.now ≡ tree_of term.now) }
     {
-        let mut next = self.newest_of(hash);
-        while next > 0 {
-            let entry = self.entry(next - 1);
-            if same_term(term, bank.tree(&entry.reference)) {
-                return Some(&entry.reference);
-            }
-            next = entry.older;
-        }
-        None
+        self.chains.find(bank, hash, term)
     }
 
-    /// The entry at a place.
-    fn entry(&self, place: usize) -> &Entry
-        requires { place < length self.now.entries.items }
-        ensures { (d : Entry) → result.now ≡ get_or self.now.entries.items place d }
+    /// Adds a term whose tree the table doesn't have to the bank, and takes in its reference. The table's memory is taken first,
+    /// so that no term is put into the bank that nobody can find.
+    pub(crate) fn add<R: Wait>(
+        &mut self,
+        rt: &R,
+        alloc: Global,
+        bank: &Bank,
+        hash: u64,
+        term: Term,
+    ) -> Mem<TermRef>
+        requires table { IsTableOf bank.now self.old }
+        requires new { number_in self.old (tree_of term) ≡ None }
+        requires hash { hash ≡ tree_hash 0 (tree_of term) }
+        ensures reference { IfOk result (IsOf bank.now) }
+        ensures tree { IfOk result (λ reference. tree_at reference ≡ tree_of term) }
+        ensures known { IfOk result (λ reference. number_in self.new (tree_of term) ≡ Some (number reference)) }
+        ensures entries { IfOk result (λ reference.
+            entries self.new ≡ interned (entries self.old) (tree_of term) (number reference)) }
+        ensures table { IsTableOf bank.now self.new }
+        ensures unchanged { OnErr result (self.new ≡ self.old) }
     {
-        &self.entries[place]
-    }
-
-    /// One more than the place of the newest entry of a hash, or 0.
-    fn newest_of(&self, hash: u64) -> usize
-        ensures { result ≡ unwrap_or (get nat_eq self.now.newest hash) 0 }
-    {
-        match self.newest.get(&hash) {
-            Some(place) => *place,
-            None => 0,
-        }
-    }
-
-    /// Makes room for one more entry, and leaves the table as it is.
-    pub(crate) fn make_room(&mut self) -> Mem<()>
-        ensures entries { self.new.entries.items ≡ self.old.entries.items }
-        ensures newest { self.new.newest.entries ≡ self.old.newest.entries }
-        ensures room { OnOk result (vec_len self.new.entries < vec_capacity self.new.entries) }
-        ensures spare { OnOk result (0 < spare self.new.newest) }
-    {
-        self.entries.reserve(1)?;
-        self.newest.reserve(1)?;
-        Ok(())
-    }
-
-    /// Adds an entry at the end. There is room for it.
-    pub(crate) fn learn(&mut self, hash: u64, reference: TermRef)
-        requires room { vec_len self.old.entries < vec_capacity self.old.entries }
-        requires spare { 0 < spare self.old.newest }
-        ensures entries { self.new.entries.items ≡ self.old.entries.items ++
-            record { reference = reference; older = unwrap_or (get nat_eq self.old.newest hash) 0 } ∷ [] }
-        ensures newest { (h : ℕ) → get nat_eq self.new.newest h
-            ≡ cond (nat_eq hash h) (Some (length self.old.entries.items + 1)) (get nat_eq self.old.newest h) }
-    {
-        let older = self.newest_of(hash);
-        self.entries.push_reserved(Entry { reference, older });
-        self.newest.insert(hash, self.entries.len()).unwrap();
+        self.chains.make_room()?;
+        let reference = bank.put(rt, alloc, term)?;
+        self.chains.learn(hash, reference.copy());
+        Ok(reference)
     }
 }

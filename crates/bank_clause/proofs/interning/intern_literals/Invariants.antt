@@ -1,7 +1,7 @@
 use Rattle.std.proofs.Common.{◌≡◌, map, take}
 use Rattle.std.specs.List.{All}
 use Rattle.fol_base.specs.Literal.{literal_of}
-use Rattle.term_bank.specs.Bank.{IsTableOf}
+use Rattle.term_bank.specs.Table.{IsTableOf}
 use Rattle.term_bank.specs.Interning.{InternsAll}
 use Rattle.term_bank.specs.Literal.{AreLiteralsOf, literals_at}
 use Rattle.bank_clause.specs.Clause.{IsKnown, sides}

@@ -1,5 +1,5 @@
 use Rattle.std.proofs.Common.{◌≡◌, map, take}
-use Rattle.bank_clause.specs.Clause.{assertion}
+use Rattle.bank_clause.specs.Parts.{assertion}
 use Rattle.bank_clause.proofs.trees.negative_names.Given as goal
 
 abbrev pub invariant-loop-name : goal.invariant-loop-name
