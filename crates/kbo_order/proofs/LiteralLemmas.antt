@@ -1,20 +1,18 @@
 -- The answer for two literals by the answers for their sides.
 use mathlib.Core.Bool.{beq}
-use Rattle.std.proofs.Common.{◌≡◌, List, [], ◌∷◌, Bool, true, false, refl, ap, ap₂, sym, ◌∙◌, subst, inl, inr, ⊎_elim, arith}
-use Rattle.std.specs.Bool.{Decides}
+use Rattle.std.proofs.Common.{◌≡◌, List, [], ◌∷◌, Bool, true, false, refl, ap₂, sym, ◌∙◌, subst, inl, inr, ⊎_elim, arith}
 use Rattle.std.proofs.lemmas.Bool.{false_from_ne_true, true≢false}
 use Rattle.std.proofs.lemmas.Bool.Decides.{same_from_decides}
-use Rattle.fol_base.specs.Tree.{Tree, tree_eq}
-use Rattle.fol_base.specs.Instance.{instance}
+use Rattle.fol_base.specs.Tree.{Tree}
 use Rattle.fol_base.specs.Tree.{variable}
 use Rattle.fol_base.specs.Clause.{TreeLiteral, literal_instance}
 use Rattle.fol_base.specs.Ground.{literals_instance}
 use Rattle.fol_base.specs.Order.{compare_trees, TreeGreater, equivalent_literals, literal_greater, LiteralGreater, compare_literals}
-use Rattle.fol_base.proofs.OrderLemmas.{tree_greater_decided, equivalent_literals-decided, literal_greater_decided, SameLiteral}
+use Rattle.fol_base.proofs.OrderLemmas.{equivalent_literals-decided, literal_greater_decided, SameLiteral}
 use Rattle.kbo_order.specs.declared.cmp.Cmp.{Cmp}
 use Rattle.kbo_order.specs.declared.cmp.Cmp.TheVariants.{Greater, Less, Equal, Unordered}
 use Rattle.kbo_order.specs.Cmp.{comparison_of, is_greater, is_equal, reversed}
-use Rattle.kbo_order.proofs.FurtherLemmas.{by_tests, tests-agree, tree-itself}
+use Rattle.kbo_order.proofs.FurtherLemmas.{by_tests, tests-agree}
 use Rattle.kbo_order.proofs.AnswerLemmas.{Decides-same, compared-answer, compared-reversed, greater-decides, equal-decides}
 use Rattle.kbo_order.proofs.StrictOrderLemmas.{sides, literals_ordered}
 use Rattle.kbo_order.proofs.ReadingLemmas.{instance-itself}

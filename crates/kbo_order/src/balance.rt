@@ -117,6 +117,7 @@ impl Balance {
     }
 
     /// Counts an occurrence of whatever it is on one side.
+    #[inline(always)]
     fn weigh(&mut self, side: Side)
         requires consistent { Consistent self.old }
         requires up { self.old.weight + 1 < 2 ^ 64 }
@@ -175,6 +176,7 @@ impl Balance {
     }
 
     /// The answer for two terms that were met, once it is known what decides at equal sizes.
+    #[inline(always)]
     pub fn decide(&self, tie: Cmp) -> Cmp
         ensures { result ≡ by_variables self.now.more_left self.now.more_right (by_size self.now.weight (2 ^ 63) tie) }
     {

@@ -31,6 +31,7 @@ pub struct HeadTerm<'a> {
 }
 
 /// The term at which the head of an instance stands: a variable is followed to what it is bound to, once.
+#[inline(always)]
 pub fn head<'a, S: LendsTerms>(term: &'a Term, bind: &'a S, is_bound: bool) -> HeadTerm<'a>
     ensures same { seen result.is_bound (S.meaning bind.entry.now) (tree_of result.term.now)
         ≡ seen is_bound (S.meaning bind.entry.now) (tree_of term.entry.now) }

@@ -54,6 +54,7 @@ impl Balance {
 
     /// What decides at equal sizes: the heads, and then the arguments.
     #[cycle(compare)]
+    #[inline(always)]
     fn tie<S: LendsTerms, T: LendsTerms>(
         &mut self,
         left: &Term,
@@ -207,6 +208,7 @@ impl Balance {
         self.add(Side::Right, right, right_bind, right_bound);
     }
     /// Counts what stands in the terms of two lists from an index on.
+    #[inline(always)]
     fn meet_rest<S: LendsTerms, T: LendsTerms>(
         &mut self,
         left: &[Term],

@@ -1,6 +1,6 @@
-use Rattle.std.proofs.Common.{ap, length, sym, ◌∙◌, arith}
+use Rattle.std.proofs.Common.{ap, ◌∙◌, arith}
 use Rattle.std.specs.Prelude.{sum_by}
-use Rattle.fol_base.specs.Clause.{TreeLiteral, literal_size}
+use Rattle.fol_base.specs.Clause.{literal_size}
 use Rattle.fol_base.specs.Selection.{eligible}
 use Rattle.kbo_order.proofs.LiteralLemmas.{literals-themselves}
 use Rattle.literal_selection.proofs.eligibility.eligible.Goals as goal

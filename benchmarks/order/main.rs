@@ -1,0 +1,145 @@
+// Times the comparison of two terms, and of two literals of a predicate.
+#![tactic(auto)]
+
+use fol_base::{LiteralRef, Term, Terms};
+use kbo_order::{COMPARED_SIZE_LIMIT, Cmp, compare, compare_literals};
+use plain_types::Mem;
+use sample_terms::{binary, constant, unary};
+use std::alloc::Global;
+use std::io;
+use std::time::Instant;
+
+fn tower(alloc: Global, height: u32, last: u32) -> Mem<Term> {
+    let mut made = constant(alloc, last);
+    for _ in 0..height {
+        made = unary(alloc, 3, made)?;
+    }
+    Ok(made)
+}
+
+/// A full binary tree of that depth, the last leaf of which is given.
+fn balanced(alloc: Global, depth: u32, last: u32) -> Mem<Term> {
+    let mut whole = constant(alloc, 1);
+    let mut edge = constant(alloc, last);
+    for _ in 0..depth {
+        edge = binary(alloc, 3, whole.copy(alloc)?, edge)?;
+        whole = binary(alloc, 3, whole.copy(alloc)?, whole)?;
+    }
+    Ok(edge)
+}
+
+fn wide(alloc: Global, count: u32, last: u32) -> Mem<Term> {
+    let mut arguments = Terms::new(alloc);
+    for _ in 1..count {
+        arguments.push(constant(alloc, 1))?;
+    }
+    arguments.push(constant(alloc, last))?;
+    Ok(Term::App(3, arguments))
+}
+
+/// A symbol over that many occurrences of different variables in turn.
+fn over_variables(alloc: Global, head: u32, count: u32, different: u32) -> Mem<Term> {
+    let mut arguments = Terms::new(alloc);
+    for index in 0..count {
+        arguments.push(Term::Var(index.checked_rem(different).unwrap_or(0)))?;
+    }
+    Ok(Term::App(head, arguments))
+}
+
+/// How often the first is greater, of so many comparisons.
+fn greater_times(left: &Term, right: &Term, rounds: u64) -> u64 {
+    let mut found: u64 = 0;
+    if left.size() < COMPARED_SIZE_LIMIT && right.size() < COMPARED_SIZE_LIMIT {
+        for _ in 0..rounds {
+            found = found.saturating_add(u64::from(compare(left, right) == Cmp::Greater));
+        }
+    }
+    found
+}
+
+fn greater_literals(left: &Term, right: &Term, truth: &Term, rounds: u64) -> u64 {
+    let first = LiteralRef {
+        positive: true,
+        left,
+        right: truth,
+    };
+    let second = LiteralRef {
+        positive: true,
+        left: right,
+        right: truth,
+    };
+    let mut found: u64 = 0;
+    if first.size() < COMPARED_SIZE_LIMIT && second.size() < COMPARED_SIZE_LIMIT {
+        for _ in 0..rounds {
+            found = found.saturating_add(u64::from(compare_literals(first, second) == Cmp::Greater));
+        }
+    }
+    found
+}
+
+fn row(rt: &HostRuntime, name: &str, pair: Mem<(Term, Term)>, rounds: u64) -> io::Result<()> {
+    let Ok((left, right)) = pair else {
+        println!(rt; "no memory")?;
+        return Ok(());
+    };
+    let start = Instant::now(rt)?;
+    let found = greater_times(&left, &right, rounds);
+    let time = start.elapsed(rt)?.as_micros();
+    println!(rt; "{name}: {found} times greater, {time} microseconds for {rounds}")?;
+    Ok(())
+}
+
+fn literal_row(rt: &HostRuntime, name: &str, pair: Mem<(Term, Term)>, rounds: u64) -> io::Result<()> {
+    let alloc = rt.alloc();
+    let Ok((left, right)) = pair else {
+        println!(rt; "no memory")?;
+        return Ok(());
+    };
+    let truth = Term::truth(alloc);
+    let start = Instant::now(rt)?;
+    let found = greater_literals(&left, &right, &truth, rounds);
+    let time = start.elapsed(rt)?.as_micros();
+    println!(rt; "literals {name}: {found} times greater, {time} microseconds for {rounds}")?;
+    Ok(())
+}
+
+fn towers(alloc: Global, size: u32) -> Mem<(Term, Term)> {
+    let first = tower(alloc, size, 2)?;
+    let second = tower(alloc, size, 1)?;
+    Ok((first, second))
+}
+
+fn trees(alloc: Global, depth: u32) -> Mem<(Term, Term)> {
+    let first = balanced(alloc, depth, 2)?;
+    let second = balanced(alloc, depth, 1)?;
+    Ok((first, second))
+}
+
+fn rows_of_constants(alloc: Global, size: u32) -> Mem<(Term, Term)> {
+    let first = wide(alloc, size, 2)?;
+    let second = wide(alloc, size, 1)?;
+    Ok((first, second))
+}
+
+fn rows_of_variables(alloc: Global, size: u32, different: u32) -> Mem<(Term, Term)> {
+    let first = over_variables(alloc, 4, size, different)?;
+    let second = over_variables(alloc, 3, size, different)?;
+    Ok((first, second))
+}
+
+fn main(rt: HostRuntime) -> io::Result<()> {
+    let alloc = rt.alloc();
+    row(&rt, "towers 20", towers(alloc, 19), 2000000)?;
+    row(&rt, "balanced 15", trees(alloc, 3), 2000000)?;
+    row(&rt, "last argument 20", rows_of_constants(alloc, 19), 2000000)?;
+    row(&rt, "4 variables 20", rows_of_variables(alloc, 19, 4), 2000000)?;
+    row(&rt, "19 variables 20", rows_of_variables(alloc, 19, 19), 2000000)?;
+    row(&rt, "towers 1000", towers(alloc, 999), 20000)?;
+    row(&rt, "balanced 1023", trees(alloc, 9), 20000)?;
+    row(&rt, "last argument 1000", rows_of_constants(alloc, 999), 20000)?;
+    row(&rt, "64 variables 1000", rows_of_variables(alloc, 999, 64), 20000)?;
+    row(&rt, "999 variables 1000", rows_of_variables(alloc, 999, 999), 2000)?;
+    literal_row(&rt, "towers 20", towers(alloc, 19), 1000000)?;
+    literal_row(&rt, "4 variables 20", rows_of_variables(alloc, 19, 4), 1000000)?;
+    Ok(())
+}
