@@ -311,4 +311,25 @@ pub(crate) const REFUSED_TOO: &[Row] = &[
         ),
         answer: Outcome::Refused(4, Cause::Conclusion),
     },
+    Row {
+        example: ExampleName::OneImplication,
+        change: Change::Line(1, b"fof(c1,axiom,p(X),file('r5.p',b))."),
+        answer: Outcome::Refused(2, Cause::Text),
+    },
+    Row {
+        example: ExampleName::TwoUnits,
+        change: Change::Line(
+            2,
+            b"cnf(c2,unknown,p,inference(clausify,[status(esa),index(0)],[c0])).",
+        ),
+        answer: Outcome::Refused(3, Cause::Text),
+    },
+    Row {
+        example: ExampleName::TwoUnits,
+        change: Change::Line(
+            2,
+            b"cnf(c2,plain,p,inference(clausify,[status(esa),index(0)],[c0]),[useful]).",
+        ),
+        answer: Outcome::Refused(3, Cause::Text),
+    },
 ];
