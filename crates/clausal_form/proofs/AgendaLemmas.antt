@@ -11,7 +11,7 @@ use Rattle.skolem.specs.Matrix.{MatrixTree, falsity, literal, matrix_size, Matri
 use Rattle.skolem.specs.Shape.{matrix_tree}
 use Rattle.skolem.specs.declared.matrix.Matrix.{Matrix}
 use Rattle.clausal_form.specs.Written.{written, all_written, product_written}
-use Rattle.clausal_form.specs.Agenda.{products_before, agenda_clauses, agenda_size, finished, placed}
+use Rattle.clausal_form.specs.Agenda.{products_before, agenda_clauses, agenda_size, canonical_after, placed}
 use Rattle.clausal_form.proofs.PairLemmas.{pairs-append, pairs-assoc, unit-pairs, product-written-first}
 
 -- ---- the agenda's last matrix
@@ -40,10 +40,10 @@ nothing-left (m ∷ ms) h = absurd (omega (arith, h))
 
 pub clause-left :
     (ls : Literals) (made new : List TreeClause) (ms : List (Bor Matrix))
-    → length ms ≡ 0 → new ≡ made ++ canonical_literals ls ∷ [] → new ≡ made ++ map (finished ls) (agenda_clauses ms)
+    → length ms ≡ 0 → new ≡ made ++ canonical_literals ls ∷ [] → new ≡ made ++ map (canonical_after ls) (agenda_clauses ms)
 clause-left ls made new ms h k =
     k ∙ ap (λ c. made ++ canonical_literals c ∷ []) (sym (append-nil ls))
-    ∙ ap (λ cs. made ++ map (finished ls) cs) (sym (nothing-left ms h))
+    ∙ ap (λ cs. made ++ map (canonical_after ls) cs) (sym (nothing-left ms h))
 
 pub place-left :
     (place : ℕ) (made new : List ℕ) (ms : List (Bor Matrix))
@@ -58,10 +58,10 @@ pub false-left :
 false-left f m made new cs e h =
     h ∙ ap (λ ds. made ++ map f ds) (sym (unit-pairs cs)) ∙ ap (λ t. made ++ map f (all_pairs (written t) cs)) (sym e)
 
-literal-before : (ls : Literals) (l : TreeLiteral) (cs : List Literals) → map (finished (ls ++ l ∷ [])) cs ≡ map (finished ls) (all_pairs ((l ∷ []) ∷ []) cs)
+literal-before : (ls : Literals) (l : TreeLiteral) (cs : List Literals) → map (canonical_after (ls ++ l ∷ [])) cs ≡ map (canonical_after ls) (all_pairs ((l ∷ []) ∷ []) cs)
 literal-before ls l [] = refl
 literal-before ls l (c ∷ cs) =
-    ap (λ d. canonical_literals d ∷ map (finished (ls ++ l ∷ [])) cs) (append_assoc ls (l ∷ []) c)
+    ap (λ d. canonical_literals d ∷ map (canonical_after (ls ++ l ∷ [])) cs) (append_assoc ls (l ∷ []) c)
     ∙ ap (λ ds. canonical_literals (ls ++ l ∷ c) ∷ ds) (literal-before ls l cs)
 
 place-before : (place : ℕ) (l : TreeLiteral) (cs : List Literals) → map (placed place) cs ≡ map (placed place) (all_pairs ((l ∷ []) ∷ []) cs)
@@ -70,10 +70,10 @@ place-before place l (c ∷ cs) = ap (λ ds. place ∷ ds) (place-before place l
 
 pub literal-left :
     (ls all : Literals) (l : TreeLiteral) (m : MatrixTree) (made new : List TreeClause) (cs : List Literals)
-    → m ≡ literal l → all ≡ ls ++ l ∷ [] → new ≡ made ++ map (finished all) cs → new ≡ made ++ map (finished ls) (all_pairs (written m) cs)
+    → m ≡ literal l → all ≡ ls ++ l ∷ [] → new ≡ made ++ map (canonical_after all) cs → new ≡ made ++ map (canonical_after ls) (all_pairs (written m) cs)
 literal-left ls all l m made new cs e h k =
-    k ∙ ap (λ ks. made ++ map (finished ks) cs) h ∙ ap (λ ds. made ++ ds) (literal-before ls l cs)
-    ∙ ap (λ t. made ++ map (finished ls) (all_pairs (written t) cs)) (sym e)
+    k ∙ ap (λ ks. made ++ map (canonical_after ks) cs) h ∙ ap (λ ds. made ++ ds) (literal-before ls l cs)
+    ∙ ap (λ t. made ++ map (canonical_after ls) (all_pairs (written t) cs)) (sym e)
 
 pub literal-place :
     (place : ℕ) (l : TreeLiteral) (m : MatrixTree) (made new : List ℕ) (cs : List Literals)

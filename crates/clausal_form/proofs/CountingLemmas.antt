@@ -1,7 +1,6 @@
 -- Counts of Skolem symbols over lists of formulas.
 use Rattle.std.proofs.Common.{◌≡◌, ℕ, ◌+◌, ◌-◌, ◌^◌, ◌<◌, ◌≤◌, min, Bool, true, false, not, List, [], ◌∷◌, length, map, drop, get_or, refl, ap, ◌∙◌, arith}
 use Rattle.std.specs.Prelude.{nat_lt, if◌then◌else◌}
-use Rattle.std.proofs.lemmas.Bool.{ltb-true, ltb-false}
 use Rattle.tptp_tree.specs.Entries.{is_conjecture}
 use Rattle.tptp_tree.specs.declared.problem.Annotated.{Annotated}
 use Rattle.tptp_tree.specs.Formula.{formulas_of}
@@ -37,30 +36,26 @@ pub counted-end : (fs : List Annotated) (i total : ℕ) → length fs ≤ i → 
 counted-end fs i total h c = expandable-none fs (expandable (drop i fs)) total (ap expandable (drop-end fs i h)) c.0 c.1
 
 pub counted-stop :
-    (fs : List Annotated) (i : ℕ) (a : Annotated) (total written : ℕ) → i < length fs → a ≡ get_or fs i a
-    → written ≡ min (expanded_count (formula_of a.formula)) (2 ^ 64 - 1) → most_expanded < written → IsCounted fs i total
+    (fs : List Annotated) (i : ℕ) (a : Annotated) (total : ℕ) → i < length fs → a ≡ get_or fs i a
+    → nat_lt most_expanded (expanded_count (formula_of a.formula)) ≡ true → IsCounted fs i total
     → total ≡ counted_skolem fs
-counted-stop fs i a total written h e w b c =
-    expandable-none fs (expandable (drop i fs)) total (ap expandable (drop-item fs i a h e) ∙ by (nat_lt most_expanded (expanded_count (formula_of a.formula))) refl) c.0 c.1
-  where
-    by :
-        (t : Bool) → nat_lt most_expanded (expanded_count (formula_of a.formula)) ≡ t
-        → (if t then [] else a ∷ expandable (drop (i + 1) fs)) ≡ []
-    by true g = refl
-    by false g = let few = ltb-false most_expanded (expanded_count (formula_of a.formula)) g in absurd (let none : ⊥ = omega (arith, few, w, b) in none)
+counted-stop fs i a total h e b c =
+    expandable-none fs (expandable (drop i fs)) total
+    (ap expandable (drop-item fs i a h e) ∙ ap (λ t. if t then [] else a ∷ expandable (drop (i + 1) fs)) b) c.0 c.1
 
 pub counted-then :
-    (fs : List Annotated) (i : ℕ) (a : Annotated) (total written count new : ℕ) → i < length fs → a ≡ get_or fs i a
-    → written ≡ min (expanded_count (formula_of a.formula)) (2 ^ 64 - 1) → written ≤ most_expanded
+    (fs : List Annotated) (i : ℕ) (a : Annotated) (total count new : ℕ) → i < length fs → a ≡ get_or fs i a
+    → nat_lt most_expanded (expanded_count (formula_of a.formula)) ≡ false
     → count ≡ skolem_count (closed a) (not (is_conjecture a.role)) → new ≡ min (total + count) most_form_symbols → IsCounted fs i total
     → IsCounted fs (i + 1) new
-counted-then fs i a total written count new h e w b k n c = (
-  omega (arith, ap problem_skolem_count (ap expandable (drop-item fs i a h e) ∙ by (nat_lt most_expanded (expanded_count (formula_of a.formula))) refl), k, n, c.0, c.1),
+counted-then fs i a total count new h e b k n c = (
+  omega (
+    arith,
+    ap problem_skolem_count (ap expandable (drop-item fs i a h e) ∙ ap (λ t. if t then [] else a ∷ expandable (drop (i + 1) fs)) b),
+    k,
+    n,
+    c.0,
+    c.1,
+  ),
   omega (arith, n),
 )
-  where
-    by :
-        (t : Bool) → nat_lt most_expanded (expanded_count (formula_of a.formula)) ≡ t
-        → (if t then [] else a ∷ expandable (drop (i + 1) fs)) ≡ a ∷ expandable (drop (i + 1) fs)
-    by false g = refl
-    by true g = let many = ltb-true most_expanded (expanded_count (formula_of a.formula)) g in absurd (let none : ⊥ = omega (arith, many, w, b) in none)

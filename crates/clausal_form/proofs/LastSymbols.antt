@@ -6,13 +6,12 @@ use Rattle.std.specs.Fmt.{decimal}
 use Rattle.tptp_tree.specs.declared.problem.Annotated.{Annotated}
 use Rattle.fol_base.specs.Literal.{clause_of}
 use Rattle.signature.specs.declared.symbol.Symbol.{Symbol}
-use Rattle.signature.specs.Symbol.{predicate_symbol, function_symbol}
+use Rattle.signature.specs.Symbol.{is_named, predicate_symbol, function_symbol}
 use Rattle.signature.specs.Occurrences.{problem_symbols}
 use Rattle.signature.specs.Prefix.{fresh_prefix_of}
 use Rattle.signature.specs.Clausal.{Made, Formed, formed}
-use Rattle.signature.specs.Form.{ClausalForm, numbered_symbols, nothing_made, with_skolem, with_naming, form_symbols, problem_form, clausal_form}
+use Rattle.signature.specs.Form.{AreUnused, ClausalForm, numbered_symbols, nothing_made, with_skolem, with_naming, form_symbols, problem_form, clausal_form}
 use Rattle.signature.proofs.OccurrenceLemmas.{drop-item}
-use Rattle.skolem.specs.Skolemized.{is_named, AreUnused}
 use Rattle.skolem.proofs.ListLemmas.{added, any-last}
 use Rattle.skolem.proofs.SymbolLemmas.{unused-then}
 use Rattle.skolem.proofs.ProblemLemmas.{later_names_are_unused}
@@ -21,7 +20,7 @@ use Rattle.clausal_form.specs.Form.{form_of}
 use Rattle.clausal_form.specs.Progress.{IsFormed, formed_formulas}
 use Rattle.clausal_form.specs.Symbols.{with_names, with_spare}
 use Rattle.clausal_form.specs.declared.finished.Clausal.{Clausal}
-use Rattle.clausal_form.specs.declared.form.Form.{Form}
+use Rattle.clausal_form.specs.declared.form.FormSoFar.{FormSoFar}
 use Rattle.clausal_form.proofs.FaultLemmas.{numbers_without_fault}
 
 -- ---- names that no symbol has
@@ -112,13 +111,13 @@ pub prefix-of : (fs : List Annotated) (symbols : List Symbol) (base prefix : Lis
 prefix-of fs symbols base prefix e h = h ∙ ap (λ xs. fresh_prefix_of xs base) e
 
 skolem-named :
-    (fs : List Annotated) (skolem : List ℕ) (form : Form)
+    (fs : List Annotated) (skolem : List ℕ) (form : FormSoFar)
     → skolem ≡ problem_prefix fs (codes "sk") → IsFormed fs skolem form → form.signature ≡ with_skolem (problem_symbols fs) (formed_formulas fs).made
 skolem-named fs skolem form s h =
     h.made.signature ∙ ap (λ xs. problem_symbols fs ++ numbered_symbols function_symbol xs 0 (formed_formulas fs).made.skolem_arities) s
 
 new-names :
-    (fs : List Annotated) (skolem naming : List ℕ) (form : Form)
+    (fs : List Annotated) (skolem naming : List ℕ) (form : FormSoFar)
     → skolem ≡ problem_prefix fs (codes "sk") → naming ≡ problem_prefix fs (codes "nm") → IsFormed fs skolem form → AreUnused form.signature naming 0
 new-names fs skolem naming form s p h k l b =
     ap (λ xs. list_any (is_named (xs ++ decimal k)) form.signature) p
@@ -127,7 +126,7 @@ new-names fs skolem naming form s p h k l b =
 
 -- the symbols with the Skolem and naming symbols
 all-names :
-    (fs : List Annotated) (skolem naming : List ℕ) (form : Form)
+    (fs : List Annotated) (skolem naming : List ℕ) (form : FormSoFar)
     → skolem ≡ problem_prefix fs (codes "sk") → naming ≡ problem_prefix fs (codes "nm") → IsFormed fs skolem form
     → with_names naming form.naming.arities.items form.signature ≡ with_naming (problem_symbols fs) (formed_formulas fs).made
 all-names fs skolem naming form s p h =
@@ -136,7 +135,7 @@ all-names fs skolem naming form s p h =
     ∙ ap (with_names (problem_prefix fs (codes "nm")) (formed_formulas fs).made.naming_arities) (skolem-named fs skolem form s h)
 
 new-spare :
-    (fs : List Annotated) (skolem naming spare : List ℕ) (form : Form)
+    (fs : List Annotated) (skolem naming spare : List ℕ) (form : FormSoFar)
     → skolem ≡ problem_prefix fs (codes "sk") → naming ≡ problem_prefix fs (codes "nm") → spare ≡ problem_prefix fs (codes "hc") → IsFormed fs skolem form
     → AreUnused (with_names naming form.naming.arities.items form.signature) spare 0
 new-spare fs skolem naming spare form s p q h k l b =
@@ -145,7 +144,7 @@ new-spare fs skolem naming spare form s p q h k l b =
     ∙ spare-unused (problem_symbols fs) (formed_formulas fs).made k b
 
 whole-form :
-    (fs : List Annotated) (skolem naming spare : List ℕ) (form : Form) (clausal : Clausal)
+    (fs : List Annotated) (skolem naming spare : List ℕ) (form : FormSoFar) (clausal : Clausal)
     → skolem ≡ problem_prefix fs (codes "sk") → naming ≡ problem_prefix fs (codes "nm") → spare ≡ problem_prefix fs (codes "hc")
     → IsFormed fs skolem form → form_fault fs ≡ None
     → clausal.signature ≡ with_spare spare (with_names naming form.naming.arities.items form.signature)
@@ -173,14 +172,14 @@ whole-form fs skolem naming spare form clausal s p q h w es ec eo =
 -- ---- the same, where the prefixes are asked of a signature of the problem's symbols
 
 pub names-are-new :
-    (fs : List Annotated) (symbols : List Symbol) (skolem naming : List ℕ) (form : Form)
+    (fs : List Annotated) (symbols : List Symbol) (skolem naming : List ℕ) (form : FormSoFar)
     → symbols ≡ problem_symbols fs → skolem ≡ fresh_prefix_of symbols (codes "sk") → naming ≡ fresh_prefix_of symbols (codes "nm")
     → IsFormed fs skolem form → AreUnused form.signature naming 0
 names-are-new fs symbols skolem naming form e s p h =
     new-names fs skolem naming form (prefix-of fs symbols (codes "sk") skolem e s) (prefix-of fs symbols (codes "nm") naming e p) h
 
 pub spare-is-new :
-    (fs : List Annotated) (symbols : List Symbol) (skolem naming spare : List ℕ) (form : Form)
+    (fs : List Annotated) (symbols : List Symbol) (skolem naming spare : List ℕ) (form : FormSoFar)
     → symbols ≡ problem_symbols fs → skolem ≡ fresh_prefix_of symbols (codes "sk") → naming ≡ fresh_prefix_of symbols (codes "nm")
     → spare ≡ fresh_prefix_of symbols (codes "hc") → IsFormed fs skolem form
     → AreUnused (with_names naming form.naming.arities.items form.signature) spare 0
@@ -189,7 +188,7 @@ spare-is-new fs symbols skolem naming spare form e s p q h =
     (prefix-of fs symbols (codes "hc") spare e q) h
 
 pub form-so :
-    (fs : List Annotated) (symbols : List Symbol) (skolem naming spare : List ℕ) (form : Form) (clausal : Clausal)
+    (fs : List Annotated) (symbols : List Symbol) (skolem naming spare : List ℕ) (form : FormSoFar) (clausal : Clausal)
     → symbols ≡ problem_symbols fs → skolem ≡ fresh_prefix_of symbols (codes "sk") → naming ≡ fresh_prefix_of symbols (codes "nm")
     → spare ≡ fresh_prefix_of symbols (codes "hc") → IsFormed fs skolem form → form_fault fs ≡ None
     → clausal.signature ≡ with_spare spare (with_names naming form.naming.arities.items form.signature)

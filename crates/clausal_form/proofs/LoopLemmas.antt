@@ -12,9 +12,9 @@ use Rattle.signature.specs.SymbolLaws.{same_symbol-refl}
 use Rattle.signature.specs.Occurrences.{formula_symbols, annotated_symbols, problem_symbols}
 use Rattle.signature.specs.Prefix.{fresh_prefix_of}
 use Rattle.signature.specs.Clausal.{SymbolNumbers, Made, Formed, Literals, annotated_clauses, canonical_literals, formed}
-use Rattle.signature.specs.Form.{symbol_numbers, numbered_symbols, nothing_made}
+use Rattle.signature.specs.Form.{AreUnused, symbol_numbers, numbered_symbols, nothing_made}
 use Rattle.signature.proofs.OccurrenceLemmas.{drop-item, drop-end}
-use Rattle.skolem.specs.Skolemized.{AreKnown, AreUnused}
+use Rattle.skolem.specs.Skolemized.{AreKnown}
 use Rattle.skolem.proofs.ProblemLemmas.{later_names_are_unused}
 use Rattle.clausal_form.specs.Agenda.{placed}
 use Rattle.clausal_form.specs.Fault.{counted_in, formula_fault, fault_or, first_fault, form_fault, IsFormFault}
@@ -22,7 +22,7 @@ use Rattle.clausal_form.specs.Progress.{HasMade, IsStep, IsRefusal, IsEmpty, IsF
 use Rattle.clausal_form.specs.declared.fault.FormCause.{FormCause}
 use Rattle.clausal_form.specs.declared.fault.FormFault.{FormFault}
 use Rattle.clausal_form.specs.declared.fault.FormFault.TheVariants.{NoMemory, Refused}
-use Rattle.clausal_form.specs.declared.form.Form.{Form}
+use Rattle.clausal_form.specs.declared.form.FormSoFar.{FormSoFar}
 use Rattle.clausal_form.proofs.ShapeLemmas.{sizes-without-numbers}
 
 -- ---- known symbols
@@ -97,17 +97,17 @@ abbrev left : List Annotated → ℕ → Made → Formed
 left fs i m = formed (counted_numbers fs) i (drop i fs) m
 
 -- what was made so far, and what is left of the form and of the search for a fault
-pub record IsAt (fs : List Annotated) (prefix : List ℕ) (i : ℕ) (f : Form) (m : Made) : Type 0 where
+pub record IsAt (fs : List Annotated) (prefix : List ℕ) (i : ℕ) (f : FormSoFar) (m : Made) : Type 0 where
   pub made : HasMade (counted_numbers fs) prefix m f
   pub clauses : map clause_of f.output.clauses.items ++ (left fs i m).clauses ≡ (formed_formulas fs).clauses
   pub origins : f.output.origins.items ++ (left fs i m).origins ≡ (formed_formulas fs).origins
   pub all_made : (left fs i m).made ≡ (formed_formulas fs).made
   pub fault : first_fault (counted_numbers fs) (drop i fs) f.counted m ≡ form_fault fs
 
-abbrev pub IsUnder : List Annotated → List ℕ → ℕ → Form → Type 0
+abbrev pub IsUnder : List Annotated → List ℕ → ℕ → FormSoFar → Type 0
 IsUnder fs prefix i f = (m : Made) × IsAt fs prefix i f m
 
-pub under-begin : (fs : List Annotated) (prefix : List ℕ) (f : Form) → HasMade (counted_numbers fs) prefix nothing_made f → IsEmpty f → IsUnder fs prefix 0 f
+pub under-begin : (fs : List Annotated) (prefix : List ℕ) (f : FormSoFar) → HasMade (counted_numbers fs) prefix nothing_made f → IsEmpty f → IsUnder fs prefix 0 f
 under-begin fs prefix f h e = (
   nothing_made,
   record {
@@ -120,14 +120,14 @@ under-begin fs prefix f h e = (
 )
 
 pub under-known :
-    (fs : List Annotated) (prefix : List ℕ) (i : ℕ) (a : Annotated) (f : Form) → i < length fs → a ≡ get_or fs i a → IsUnder fs prefix i f
+    (fs : List Annotated) (prefix : List ℕ) (i : ℕ) (a : Annotated) (f : FormSoFar) → i < length fs → a ≡ get_or fs i a → IsUnder fs prefix i f
     → AreKnown f.signature (formula_symbols (formula_of a.formula))
 under-known fs prefix i a f h e u =
     subst (λ known. AreKnown known (formula_symbols (formula_of a.formula))) (sym u.1.made.signature)
     (known-more (problem_symbols fs) (numbered_symbols function_symbol prefix 0 u.0.skolem_arities) (formula_symbols (formula_of a.formula)) (symbols-known fs i a h e))
 
 pub under-unused :
-    (fs : List Annotated) (prefix : List ℕ) (i : ℕ) (f : Form) → prefix ≡ fresh_prefix_of (problem_symbols fs) (codes "sk") → IsUnder fs prefix i f
+    (fs : List Annotated) (prefix : List ℕ) (i : ℕ) (f : FormSoFar) → prefix ≡ fresh_prefix_of (problem_symbols fs) (codes "sk") → IsUnder fs prefix i f
     → AreUnused f.signature prefix f.next
 under-unused fs prefix i f p u =
     subst (λ k. AreUnused f.signature prefix k) (sym u.1.made.next)
@@ -136,7 +136,7 @@ under-unused fs prefix i f p u =
     (later_names_are_unused (problem_symbols fs) (codes "sk") u.0.skolem_arities)))
 
 pub under-then :
-    (fs : List Annotated) (prefix : List ℕ) (i : ℕ) (a : Annotated) (old new : Form)
+    (fs : List Annotated) (prefix : List ℕ) (i : ℕ) (a : Annotated) (old new : FormSoFar)
     → i < length fs → a ≡ get_or fs i a
     → ((n : SymbolNumbers) (m : Made) → HasMade n prefix m old → AreKnown n.symbols (formula_symbols (formula_of a.formula)) → IsStep n a i prefix m old new)
     → IsUnder fs prefix i old → IsUnder fs prefix (i + 1) new
@@ -185,7 +185,7 @@ under-then fs prefix i a old new h e g u = (
     whole = ap (λ gs. formed n i gs m) (sym (drop-item fs i a h e))
 
 pub under-end :
-    (fs : List Annotated) (prefix : List ℕ) (i : ℕ) (f : Form) → length fs ≤ i → IsUnder fs prefix i f
+    (fs : List Annotated) (prefix : List ℕ) (i : ℕ) (f : FormSoFar) → length fs ≤ i → IsUnder fs prefix i f
     → IsFormed fs prefix f × (form_fault fs ≡ None)
 under-end fs prefix i f h u = (
   record {
@@ -200,7 +200,7 @@ under-end fs prefix i f h u = (
     done = ap (λ gs. formed (counted_numbers fs) i gs u.0) (sym (drop-end fs i h))
 
 pub under-refused :
-    (fs : List Annotated) (prefix : List ℕ) (i : ℕ) (a : Annotated) (old : Form) (fault : FormFault)
+    (fs : List Annotated) (prefix : List ℕ) (i : ℕ) (a : Annotated) (old : FormSoFar) (fault : FormFault)
     → i < length fs → a ≡ get_or fs i a
     → ((n : SymbolNumbers) (m : Made) → HasMade n prefix m old → AreKnown n.symbols (formula_symbols (formula_of a.formula)) → IsRefusal n a m old.counted fault)
     → IsUnder fs prefix i old → IsFormFault fs fault
@@ -216,7 +216,7 @@ under-refused fs prefix i a old (Refused cause name) h e g u =
 -- ---- the beginning
 
 pub begun-so :
-    (fs gs : List Annotated) (symbols : List Symbol) (skolem : ℕ) (prefix : List ℕ) (form : Form)
+    (fs gs : List Annotated) (symbols : List Symbol) (skolem : ℕ) (prefix : List ℕ) (form : FormSoFar)
     → gs ≡ fs → symbols ≡ problem_symbols fs → skolem ≡ counted_skolem gs
     → ((p : List ℕ) → HasMade (numbers_with symbols skolem) p nothing_made form) → HasMade (counted_numbers gs) prefix nothing_made form
 begun-so fs gs symbols skolem prefix form g s k h =
@@ -229,7 +229,7 @@ pub prefix-so :
 prefix-so fs gs prefix g p = p ∙ ap (λ hs. fresh_prefix_of (problem_symbols hs) (codes "sk")) (sym g)
 
 pub formed-so :
-    (fs gs : List Annotated) (prefix : List ℕ) (form : Form) → gs ≡ fs → IsFormed gs prefix form → IsFormed fs prefix form
+    (fs gs : List Annotated) (prefix : List ℕ) (form : FormSoFar) → gs ≡ fs → IsFormed gs prefix form → IsFormed fs prefix form
 formed-so fs gs prefix form g h = subst (λ hs. IsFormed hs prefix form) g h
 
 pub fault-of :

@@ -13,7 +13,8 @@ use Rattle.skolem.specs.Shape.{matrix_tree}
 use Rattle.clausal_form.specs.Written.{written}
 use Rattle.clausal_form.specs.Naming.{definition_clauses}
 use Rattle.clausal_form.specs.declared.naming.Definition.{Definition}
-use Rattle.clausal_form.specs.Measure.{literals_size, symbols_in, largest, ClauseMeasure, measured, sum_measure, product_largest, product_measure, capped, capped_measure, measure_of, capped_measured}
+use Rattle.clausal_form.specs.Measure.{literals_size, symbols_in, largest, ClauseMeasure, measured, sum_measure, product_largest, product_measure, capped_measure, measure_of, capped_measured}
+use Rattle.formula_nnf.specs.CappedCount.{capped}
 use Rattle.clausal_form.specs.declared.measure.Measure.{Measure}
 use Rattle.clausal_form.proofs.PairLemmas.{pairs-unit, unit-pairs}
 

@@ -1,18 +1,17 @@
 -- Works on matrices, as the program's naming does them step by step.
-use Rattle.std.proofs.Common.{◌≡◌, ℕ, ◌+◌, ◌<◌, ◌≤◌, Bool, true, false, not, List, [], ◌∷◌, ◌++◌, length, map, drop, get_or, refl, ap, sym, ◌∙◌, append-nil, append_assoc, arith}
+use Rattle.std.proofs.Common.{◌≡◌, ℕ, ◌+◌, ◌<◌, ◌≤◌, Bool, true, false, not, List, [], ◌∷◌, ◌++◌, length, map, refl, ap, sym, ◌∙◌, append-nil, append_assoc, arith}
 use Rattle.std.specs.Prelude.{nat_lt, if◌then◌else◌}
 use Rattle.std.proofs.lemmas.Bool.{lt-ltb, ltb-true}
 use Rattle.fol_base.specs.Tree.{Tree, true_tree}
 use Rattle.fol_base.specs.Clause.{TreeLiteral}
-use Rattle.signature.specs.Clausal.{SymbolNumbers, Made, Worked, Literals, all_pairs, atom_literal, applied, made_in_order, named, product}
-use Rattle.signature.proofs.OccurrenceLemmas.{drop-item, drop-end}
-use Rattle.skolem.specs.Matrix.{MatrixTree, matrices_of}
+use Rattle.signature.specs.Clausal.{SymbolNumbers, Made, Worked, Literals, all_pairs, atom_literal, applied, made_in_order, named, is_large_count, product}
+use Rattle.skolem.specs.Matrix.{MatrixTree, matrix_size, matrices_size, matrices_of}
 use Rattle.skolem.specs.Shape.{matrix_tree}
 use Rattle.skolem.specs.declared.matrix.Matrix.{Matrix}
 use Rattle.skolem.specs.MatrixClauses.{matrix_clauses, listed_matrices, product_of_matrices}
 use Rattle.clausal_form.specs.Measure.{ClauseMeasure, capped_measured}
 use Rattle.clausal_form.specs.Occurring.{clauses_variables}
-use Rattle.clausal_form.specs.Naming.{IsMeasured, IsWork, defining_clauses, naming_made, naming_numbers, is_large_count}
+use Rattle.clausal_form.specs.Naming.{IsMeasured, IsWork, defining_clauses, naming_made, naming_numbers}
 use Rattle.clausal_form.specs.declared.measure.Measure.{Measure}
 use Rattle.clausal_form.specs.declared.naming.Naming.{Naming}
 
@@ -26,21 +25,33 @@ pub record IsListing (n : SymbolNumbers) (ms : List Matrix) (s : Naming) (cs : L
   pub clauses : cs ++ (listed_left n ms s).clauses ≡ all.clauses
   pub made : (listed_left n ms s).made ≡ all.made
 
-pub listing-begin : (n : SymbolNumbers) (ms : List Matrix) (s : Naming) → IsListing n (drop 0 ms) s [] (listed_left n ms s)
-listing-begin n ms s = record { clauses = refl; made = refl }
+pub listing-begin :
+    (n : SymbolNumbers) (ms : List Matrix) (all : List MatrixTree) (s : Naming) → map matrix_tree ms ≡ all
+    → IsListing n ms s [] (listed_matrices n (matrices_of all) (naming_made s))
+listing-begin n ms all s e =
+    record {
+      clauses = ap (λ us. (listed_matrices n (matrices_of us) (naming_made s)).clauses) e;
+      made = ap (λ us. (listed_matrices n (matrices_of us) (naming_made s)).made) e;
+    }
+
+-- the first matrix of a list, and those that are left
+pub first-size :
+    (ms rest : List Matrix) (m : Matrix) → ms ≡ m ∷ rest
+    → matrices_size (matrices_of (map matrix_tree ms)) ≡ matrix_size (matrix_tree m) + matrices_size (matrices_of (map matrix_tree rest))
+first-size ms rest m e = ap (λ ns. matrices_size (matrices_of (map matrix_tree ns))) e
 
 pub listing-then :
-    (first : ℕ) (ms : List Matrix) (i : ℕ) (m : Matrix) (old new : Naming) (before after cs : List Literals) (a : Measure) (all : Worked)
-    → i < length ms → m ≡ get_or ms i m → old.first ≡ first
+    (first : ℕ) (ms rest : List Matrix) (m : Matrix) (old new : Naming) (before after cs : List Literals) (a : Measure) (all : Worked)
+    → ms ≡ m ∷ rest → old.first ≡ first
     → IsWork new (matrix_clauses (naming_numbers old.first) (matrix_tree m) (naming_made old)) cs a
     → after ≡ before ++ cs
-    → IsListing (naming_numbers first) (drop i ms) old before all
-    → IsListing (naming_numbers first) (drop (i + 1) ms) new after all
-listing-then first ms i m old new before after cs a all h e f w g l =
+    → IsListing (naming_numbers first) ms old before all
+    → IsListing (naming_numbers first) rest new after all
+listing-then first ms rest m old new before after cs a all e f w g l =
     record {
       clauses =
-          ap (λ xs. xs ++ rest.clauses) g ∙ append_assoc before cs rest.clauses
-          ∙ ap (λ xs. before ++ (xs ++ rest.clauses)) here
+          ap (λ xs. xs ++ later.clauses) g ∙ append_assoc before cs later.clauses
+          ∙ ap (λ xs. before ++ (xs ++ later.clauses)) here
           ∙ ap (λ (m : Made). before ++ (one.clauses ++ (listed_matrices n left m).clauses)) made
           ∙ ap (λ (v : Worked). before ++ v.clauses) (sym whole) ∙ l.clauses;
       made = ap (λ (m : Made). (listed_matrices n left m).made) made ∙ ap (λ (v : Worked). v.made) (sym whole) ∙ l.made;
@@ -50,13 +61,13 @@ listing-then first ms i m old new before after cs a all h e f w g l =
     n = naming_numbers first
 
     left : Rattle.skolem.specs.Matrix.MatrixTrees
-    left = matrices_of (map matrix_tree (drop (i + 1) ms))
+    left = matrices_of (map matrix_tree rest)
 
     one : Worked
     one = matrix_clauses n (matrix_tree m) (naming_made old)
 
-    rest : Worked
-    rest = listed_matrices n left (naming_made new)
+    later : Worked
+    later = listed_matrices n left (naming_made new)
 
     here : cs ≡ one.clauses
     here = w.clauses ∙ ap (λ k. (matrix_clauses (naming_numbers k) (matrix_tree m) (naming_made old)).clauses) f
@@ -64,17 +75,17 @@ listing-then first ms i m old new before after cs a all h e f w g l =
     made : naming_made new ≡ one.made
     made = w.made ∙ ap (λ k. (matrix_clauses (naming_numbers k) (matrix_tree m) (naming_made old)).made) f
 
-    whole : listed_left n (drop i ms) old ≡ record { clauses = one.clauses ++ (listed_matrices n left one.made).clauses; made = (listed_matrices n left one.made).made }
-    whole = ap (λ ns. listed_left n ns old) (drop-item ms i m h e)
+    whole : listed_left n ms old ≡ record { clauses = one.clauses ++ (listed_matrices n left one.made).clauses; made = (listed_matrices n left one.made).made }
+    whole = ap (λ ns. listed_left n ns old) e
 
 pub listing-end :
-    (n : SymbolNumbers) (ms : List Matrix) (i : ℕ) (s : Naming) (cs : List Literals) (a : Measure) (all : Worked)
-    → length ms ≤ i → IsListing n (drop i ms) s cs all → IsMeasured a cs → IsMeasured s.measure (defining_clauses s)
+    (n : SymbolNumbers) (ms : List Matrix) (s : Naming) (cs : List Literals) (a : Measure) (all : Worked)
+    → ms ≡ [] → IsListing n ms s cs all → IsMeasured a cs → IsMeasured s.measure (defining_clauses s)
     → IsWork s all cs a
-listing-end n ms i s cs a all h l k d =
+listing-end n ms s cs a all e l k d =
     record {
-      clauses = sym (append-nil cs) ∙ ap (λ ns. cs ++ (listed_left n ns s).clauses) (sym (drop-end ms i h)) ∙ l.clauses;
-      made = ap (λ ns. (listed_left n ns s).made) (sym (drop-end ms i h)) ∙ l.made;
+      clauses = sym (append-nil cs) ∙ ap (λ ns. cs ++ (listed_left n ns s).clauses) (sym e) ∙ l.clauses;
+      made = ap (λ ns. (listed_left n ns s).made) (sym e) ∙ l.made;
       measured = k;
       defining = d;
     }
@@ -85,16 +96,16 @@ abbrev product_left : SymbolNumbers → ℕ → List Literals → List Matrix �
 product_left n began cs ms s = product_of_matrices n began cs (matrices_of (map matrix_tree ms)) (naming_made s)
 
 pub product-then :
-    (first began : ℕ) (ms : List Matrix) (i : ℕ) (m : Matrix) (old mid new : Naming) (before cs after : List Literals) (a b : Measure) (all : Worked)
-    → i < length ms → m ≡ get_or ms i m → old.first ≡ first → mid.first ≡ old.first
+    (first began : ℕ) (ms rest : List Matrix) (m : Matrix) (old mid new : Naming) (before cs after : List Literals) (a b : Measure) (all : Worked)
+    → ms ≡ m ∷ rest → old.first ≡ first → mid.first ≡ old.first
     → IsWork mid (matrix_clauses (naming_numbers old.first) (matrix_tree m) (naming_made old)) cs a
     → IsWork new (product (naming_numbers mid.first) began before cs (naming_made mid)) after b
-    → product_left (naming_numbers first) began before (drop i ms) old ≡ all
-    → product_left (naming_numbers first) began after (drop (i + 1) ms) new ≡ all
-product-then first began ms i m old mid new before cs after a b all h e f g w v l =
-    ap (λ ds. product_left n began ds (drop (i + 1) ms) new) (v.clauses ∙ ap (λ (u : Worked). u.clauses) second)
-    ∙ ap (product_of_matrices n began two.clauses (matrices_of (map matrix_tree (drop (i + 1) ms)))) (v.made ∙ ap (λ (u : Worked). u.made) second)
-    ∙ ap (λ ns. product_left n began before ns old) (sym (drop-item ms i m h e)) ∙ l
+    → product_left (naming_numbers first) began before ms old ≡ all
+    → product_left (naming_numbers first) began after rest new ≡ all
+product-then first began ms rest m old mid new before cs after a b all e f g w v l =
+    ap (λ ds. product_left n began ds rest new) (v.clauses ∙ ap (λ (u : Worked). u.clauses) second)
+    ∙ ap (product_of_matrices n began two.clauses (matrices_of (map matrix_tree rest))) (v.made ∙ ap (λ (u : Worked). u.made) second)
+    ∙ ap (λ ns. product_left n began before ns old) (sym e) ∙ l
   where
     n : SymbolNumbers
     n = naming_numbers first
@@ -117,10 +128,10 @@ product-then first began ms i m old mid new before cs after a b all h e f g w v 
         ∙ ap (λ ds. product n began before ds (naming_made mid)) here ∙ ap (product n began before one.clauses) made
 
 pub product-end :
-    (n : SymbolNumbers) (began : ℕ) (ms : List Matrix) (i : ℕ) (s : Naming) (cs : List Literals) (a : Measure) (all : Worked)
-    → length ms ≤ i → product_left n began cs (drop i ms) s ≡ all → IsMeasured a cs → IsMeasured s.measure (defining_clauses s)
+    (n : SymbolNumbers) (began : ℕ) (ms : List Matrix) (s : Naming) (cs : List Literals) (a : Measure) (all : Worked)
+    → ms ≡ [] → product_left n began cs ms s ≡ all → IsMeasured a cs → IsMeasured s.measure (defining_clauses s)
     → IsWork s all cs a
-product-end n began ms i s cs a all h l k d =
+product-end n began ms s cs a all e l k d =
     record {
       clauses = ap (λ (w : Worked). w.clauses) whole;
       made = ap (λ (w : Worked). w.made) whole;
@@ -132,7 +143,7 @@ product-end n began ms i s cs a all h l k d =
     done = record { clauses = cs; made = naming_made s }
 
     whole : done ≡ all
-    whole = ap (λ ns. product_left n began cs ns s) (sym (drop-end ms i h)) ∙ l
+    whole = ap (λ ns. product_left n began cs ns s) (sym e) ∙ l
 
 -- ---- one product
 

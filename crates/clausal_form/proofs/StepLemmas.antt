@@ -13,19 +13,20 @@ use Rattle.signature.specs.Clausal.{SymbolNumbers, Made, Worked, Literals, annot
 use Rattle.signature.specs.Form.{numbered_symbols}
 use Rattle.formula_nnf.specs.Expanded.{expanded_count}
 use Rattle.formula_nnf.specs.NormalForm.{normal_form}
+use Rattle.formula_nnf.specs.CappedCount.{capped}
 use Rattle.skolem.specs.Matrix.{MatrixTree}
 use Rattle.skolem.specs.Skolemized.{AreKnown}
 use Rattle.skolem.specs.MatrixClauses.{matrix_clauses}
 use Rattle.skolem.specs.ProblemLaws.{AreAllSymbols}
 use Rattle.skolem.proofs.ProblemLemmas.{skolem_symbols_are_numbered_on}
 use Rattle.clausal_form.specs.Formula.{form_by_itself}
-use Rattle.clausal_form.specs.Measure.{symbols_in, largest, ClauseMeasure, measure_of, capped, capped_measure, capped_measured, sum_measure}
+use Rattle.clausal_form.specs.Measure.{symbols_in, largest, ClauseMeasure, measure_of, capped_measure, capped_measured, sum_measure}
 use Rattle.clausal_form.specs.Naming.{IsMeasured, IsWork, defining_clauses, definition_clauses, naming_made, naming_numbers}
 use Rattle.clausal_form.specs.Fault.{most_expanded, limit_fault, counted_in, formula_fault}
 use Rattle.clausal_form.specs.Progress.{HasMade}
 use Rattle.clausal_form.specs.declared.fault.FormCause.{FormCause}
 use Rattle.clausal_form.specs.declared.fault.FormCause.TheVariants.{Expansion, TooHeavy, TotalLimit}
-use Rattle.clausal_form.specs.declared.form.Form.{Form}
+use Rattle.clausal_form.specs.declared.form.FormSoFar.{FormSoFar}
 use Rattle.clausal_form.specs.declared.measure.Measure.{Measure}
 use Rattle.clausal_form.specs.declared.naming.Naming.{Naming}
 use Rattle.clausal_form.proofs.FrameLemmas.{formula_made, IsAdded, added-by-matrix}
@@ -43,7 +44,7 @@ pub record IsNamed (n : SymbolNumbers) (a : Annotated) (m : Made) (cs : List Lit
   pub naming_made : (annotated_clauses n a m).made.naming_arities ≡ naming
 
 pub named-formula :
-    (n : SymbolNumbers) (a : Annotated) (prefix : List ℕ) (m : Made) (old : Form) (matrix : MatrixTree) (before after : Naming) (cs : List Literals) (b : Measure)
+    (n : SymbolNumbers) (a : Annotated) (prefix : List ℕ) (m : Made) (old : FormSoFar) (matrix : MatrixTree) (before after : Naming) (cs : List Literals) (b : Measure)
     → HasMade n prefix m old → AreKnown n.symbols (formula_symbols (formula_of a.formula))
     → matrix ≡ (form_by_itself old.signature a).matrix
     → before.arities.items ≡ old.naming.arities.items → before.first ≡ old.naming.first → before.definitions.items ≡ []
@@ -118,27 +119,20 @@ none-small l total h = by (nat_lt 4000 l) (nat_lt (2 ^ 28) total) refl h
     by true true e k = cc
     by false true e k = cc
 
-not-expanded : (e result : ℕ) → result ≡ min e (2 ^ 64 - 1) → result ≤ most_expanded → nat_lt most_expanded e ≡ false
-not-expanded e result h k = by (nat_lt most_expanded e) refl
-  where
-    by : (t : Bool) → nat_lt most_expanded e ≡ t → t ≡ false
-    by false l = refl
-    by true l = absurd (omega (arith, h, k, ltb-true most_expanded e l))
-
 -- the program's test is the formula's
 pub fault-so :
     (n : SymbolNumbers) (a : Annotated) (m : Made) (cs : List Literals) (skolem naming : List ℕ) (part defining measure : Measure)
-    (part_clauses defining_clauses : List Literals) (counted next before written_out : ℕ) (fault : Option FormCause)
+    (part_clauses defining_clauses : List Literals) (counted next before : ℕ) (fault : Option FormCause)
     → IsNamed n a m cs skolem naming → cs ≡ part_clauses ++ defining_clauses
     → IsMeasured part part_clauses → IsMeasured defining defining_clauses
     → measure_of measure ≡ capped_measure (sum_measure (measure_of part) (measure_of defining))
     → before ≡ length m.skolem_arities → next ≡ before + length skolem
-    → written_out ≡ min (expanded_count (formula_of a.formula)) (2 ^ 64 - 1) → written_out ≤ most_expanded
+    → nat_lt most_expanded (expanded_count (formula_of a.formula)) ≡ false
     → limit_fault measure.largest (counted + measure.clauses + measure.symbols + next) ≡ fault
     → formula_fault n a counted m ≡ fault
-fault-so n a m cs skolem naming part defining measure ps ds counted next before out fault w g p d s b x o ol f =
+fault-so n a m cs skolem naming part defining measure ps ds counted next before fault w g p d s b x o f =
     ap (λ t. if t then Some Expansion else limit_fault (largest work.clauses) (counted + counted_in work.clauses + length work.made.skolem_arities))
-    (not-expanded (expanded_count (formula_of a.formula)) out o ol)
+    o
     ∙ ap (λ es. limit_fault (largest es) (counted + counted_in es + length work.made.skolem_arities)) w.clauses
     ∙ ap (λ y. limit_fault (largest cs) (counted + counted_in cs + y)) count
     ∙ sym (limit-exact (largest cs) counted (length cs) (symbols_in cs) next)
@@ -177,7 +171,7 @@ counted-so n a m cs skolem naming part defining measure ps ds counted next total
 -- ---- what there is after the formula
 
 pub made-then :
-    (n : SymbolNumbers) (a : Annotated) (prefix : List ℕ) (m : Made) (old new : Form) (cs : List Literals)
+    (n : SymbolNumbers) (a : Annotated) (prefix : List ℕ) (m : Made) (old new : FormSoFar) (cs : List Literals)
     → HasMade n prefix m old
     → IsNamed n a m cs (form_by_itself old.signature a).made.skolem_arities new.naming.arities.items
     → new.next ≡ old.next + length (form_by_itself old.signature a).made.skolem_arities

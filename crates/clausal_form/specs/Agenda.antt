@@ -21,8 +21,8 @@ agenda_size [] = 0
 agenda_size (m ∷ ms) = matrix_size (matrix_tree m.now) + agenda_size ms
 
 -- the canonical clause of the literals that are there and further ones
-abbrev pub finished : Literals → Literals → TreeClause
-finished before c = canonical_literals (before ++ c)
+abbrev pub canonical_after : Literals → Literals → TreeClause
+canonical_after before c = canonical_literals (before ++ c)
 
 abbrev pub placed : ℕ → Literals → ℕ
 placed place c = place

@@ -1,7 +1,8 @@
 -- How many clauses a list has, and how large they are, in occurrences of symbols and variables.
-use Rattle.std.specs.Prelude.{ℕ, zero, suc, ◌+◌, ◌*◌, ◌-◌, ◌^◌, max, min, List, [], ◌∷◌, length, sum_by}
+use Rattle.std.specs.Prelude.{ℕ, zero, suc, ◌+◌, ◌*◌, max, List, [], ◌∷◌, length, sum_by}
 use Rattle.fol_base.specs.Clause.{literal_size}
 use Rattle.signature.specs.Clausal.{Literals}
+use Rattle.formula_nnf.specs.CappedCount.{capped}
 use Rattle.clausal_form.specs.declared.measure.Measure.{Measure}
 
 -- the symbols of one clause
@@ -46,9 +47,6 @@ product_measure a b =
     }
 
 -- ---- the program's measures, of which the symbols stop at u64's last value
-
-abbrev pub capped : ℕ → ℕ
-capped n = min n (2 ^ 64 - 1)
 
 abbrev pub capped_measure : ClauseMeasure → ClauseMeasure
 capped_measure a = record { clauses = a.clauses; symbols = capped a.symbols; largest = capped a.largest }

@@ -1,5 +1,5 @@
 -- What the program's naming is: the names that were made, and the matrices for which they stand.
-use Rattle.std.specs.Prelude.{◌≡◌, ℕ, Bool, ◌&&◌, nat_le, nat_lt, ◌*◌, List, [], ◌∷◌, map, flat_map}
+use Rattle.std.specs.Prelude.{◌≡◌, ℕ, List, [], ◌∷◌, map, flat_map}
 use Rattle.fol_base.specs.Literal.{literal_of}
 use Rattle.signature.specs.Clausal.{SymbolNumbers, Made, Worked, Literals}
 use Rattle.skolem.specs.Shape.{matrix_tree}
@@ -25,10 +25,6 @@ naming_numbers first = record { symbols = []; first_skolem = 0; first_naming = f
 
 abbrev pub IsMeasured : Measure → List Literals → Type 0
 IsMeasured a cs = measure_of a ≡ capped_measured cs
-
--- a product of two lists of so many clauses is named
-abbrev pub is_large_count : ℕ → ℕ → Bool
-is_large_count a b = nat_le 2 a && (nat_le 2 b && nat_lt 64 (a * b))
 
 -- The program's clauses are those of a work from what was made before, and are measured; so are the defining ones.
 pub record IsWork (s : Naming) (w : Worked) (cs : List Literals) (a : Measure) : Type 0 where

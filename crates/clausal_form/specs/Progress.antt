@@ -13,10 +13,10 @@ use Rattle.clausal_form.specs.Agenda.{placed}
 use Rattle.clausal_form.specs.Fault.{most_expanded, most_form_symbols, formula_fault, counted_in}
 use Rattle.clausal_form.specs.declared.fault.FormFault.{FormFault}
 use Rattle.clausal_form.specs.declared.fault.FormFault.TheVariants.{NoMemory, Refused}
-use Rattle.clausal_form.specs.declared.form.Form.{Form}
+use Rattle.clausal_form.specs.declared.form.FormSoFar.{FormSoFar}
 
 -- What was made so far: the Skolem symbols stand after the problem's, and the names are counted.
-pub record HasMade (n : SymbolNumbers) (prefix : List ℕ) (m : Made) (f : Form) : Type 0 where
+pub record HasMade (n : SymbolNumbers) (prefix : List ℕ) (m : Made) (f : FormSoFar) : Type 0 where
   pub signature : f.signature ≡ n.symbols ++ numbered_symbols function_symbol prefix 0 m.skolem_arities
   pub skolem : n.first_skolem ≡ length n.symbols
   pub next : f.next ≡ length m.skolem_arities
@@ -24,7 +24,7 @@ pub record HasMade (n : SymbolNumbers) (prefix : List ℕ) (m : Made) (f : Form)
   pub naming : f.naming.arities.items ≡ m.naming_arities
 
 -- A formula's clauses are added, and it passes no limit.
-pub record IsStep (n : SymbolNumbers) (a : Annotated) (place : ℕ) (prefix : List ℕ) (m : Made) (old new : Form) : Type 0 where
+pub record IsStep (n : SymbolNumbers) (a : Annotated) (place : ℕ) (prefix : List ℕ) (m : Made) (old new : FormSoFar) : Type 0 where
   pub made : HasMade n prefix (annotated_clauses n a m).made new
   pub clauses : map clause_of new.output.clauses.items ≡ map clause_of old.output.clauses.items ++ map canonical_literals (annotated_clauses n a m).clauses
   pub origins : new.output.origins.items ≡ old.output.origins.items ++ map (placed place) (annotated_clauses n a m).clauses
@@ -39,7 +39,7 @@ IsRefusal n a m counted (Refused cause name) = (formula_fault n a counted m ≡ 
 -- ---- the formulas of a problem
 
 -- nothing is written yet
-pub record IsEmpty (f : Form) : Type 0 where
+pub record IsEmpty (f : FormSoFar) : Type 0 where
   pub clauses : map clause_of f.output.clauses.items ≡ []
   pub origins : f.output.origins.items ≡ []
   pub counted : f.counted ≡ 0
@@ -65,7 +65,7 @@ abbrev pub formed_formulas : List Annotated → Formed
 formed_formulas fs = formed (counted_numbers fs) 0 fs nothing_made
 
 -- all formulas are added
-pub record IsFormed (fs : List Annotated) (prefix : List ℕ) (f : Form) : Type 0 where
+pub record IsFormed (fs : List Annotated) (prefix : List ℕ) (f : FormSoFar) : Type 0 where
   pub made : HasMade (counted_numbers fs) prefix (formed_formulas fs).made f
   pub clauses : map clause_of f.output.clauses.items ≡ (formed_formulas fs).clauses
   pub origins : f.output.origins.items ≡ (formed_formulas fs).origins

@@ -1,14 +1,8 @@
 -- The symbols that come after the Skolem symbols.
 use Rattle.std.specs.Prelude.{ℕ, List, ◌++◌}
-use Rattle.std.specs.Fmt.{decimal}
 use Rattle.signature.specs.declared.symbol.Symbol.{Symbol}
-use Rattle.signature.specs.declared.symbol.SymbolKind.{SymbolKind}
 use Rattle.signature.specs.Symbol.{predicate_symbol}
 use Rattle.signature.specs.Form.{numbered_symbols, spare_constant}
-
--- a symbol that is named by a prefix and its number
-abbrev pub numbered_symbol : SymbolKind → List ℕ → ℕ → ℕ → Symbol
-numbered_symbol kind prefix number arity = record { kind = kind; name = prefix ++ decimal number; arity = arity }
 
 -- the symbols with the naming symbols after them
 abbrev pub with_names : List ℕ → List ℕ → List Symbol → List Symbol

@@ -3,14 +3,14 @@
 ghost use Rattle.std.specs.Prelude.{◌≡◌, ◌++◌, not, map, IfOk, bytes_eq};
 ghost use Rattle.std.specs.List.{list_any};
 ghost use Rattle.tptp_tree.specs.Entries.{is_conjecture};
-ghost use Rattle.tptp_tree.specs.Formula.{for_all, formulas_of, quantified};
+ghost use Rattle.tptp_tree.specs.Formula.{formulas_of};
 ghost use Rattle.tptp_tree.specs.Shape.{formula_of, term_of};
 ghost use Rattle.tptp_tree.specs.Term.{terms_of};
 ghost use Rattle.signature.specs.Environment.{closed, different_names, free_names, all_free_names, term_names, terms_names, without_names};
-ghost use Rattle.formula_nnf.specs.NormalForm.{normal_form, quantifier_form};
+ghost use Rattle.formula_nnf.specs.NormalForm.{normal_form};
 ghost use Rattle.formula_nnf.specs.Shape.{nnf_tree};
 
-use formula_nnf::{Nnf, NnfBox, nnf};
+use formula_nnf::{Nnf, NnfBox, nnf, quantified_form};
 use indexmap::IndexSet;
 use plain_types::{Mem, Text, Texts};
 use skolem::VariableRef;
@@ -31,18 +31,7 @@ pub(crate) fn closed_form(alloc: Global, annotated: &Annotated) -> Mem<Nnf>
         return Ok(form);
     }
     let body = NnfBox::new(alloc, form)?;
-    Ok(bound(positive, names, body))
-}
-
-/// A form under `!` (`positive`) or `?`.
-fn bound(positive: bool, names: Texts, body: NnfBox) -> Nnf
-    ensures { nnf_tree result ≡ quantified (quantifier_form positive for_all) names body }
-{
-    if positive {
-        Nnf::All(names, body)
-    } else {
-        Nnf::Ex(names, body)
-    }
+    Ok(quantified_form(positive, names, body))
 }
 
 /// The different names of a formula's free variables, in the order of their first places.

@@ -9,9 +9,8 @@ ghost use Rattle.tptp_tree.specs.Entries.{is_conjecture};
 ghost use Rattle.clausal_form.specs.Progress.{counted_skolem};
 
 use crate::closing::different_free_names;
-use crate::fault::MOST_EXPANDED;
+use crate::fault::expands_too_far;
 use fol_base::MOST_FORM_SYMBOLS;
-use formula_nnf::expanded;
 use plain_types::{Mem, NoMemory};
 use std::alloc::Global;
 use tptp_tree::{Annotated, Formula};
@@ -30,7 +29,7 @@ pub(crate) fn count_skolem_symbols(alloc: Global, formulas: &[Annotated]) -> Mem
 {
     let mut total = 0;
     for annotated in formulas {
-        if expanded(&annotated.formula) > MOST_EXPANDED {
+        if expands_too_far(&annotated.formula) {
             return Ok(total);
         }
         total = sum(total, formula_skolem_symbols(alloc, annotated)?)?.min(MOST_FORM_SYMBOLS);
@@ -54,7 +53,7 @@ fn formula_skolem_symbols(alloc: Global, annotated: &Annotated) -> Mem<u64>
     Ok(total)
 }
 
-/// The Skolem symbols of a formula under both signs. More than a u64 counts are more than fit a memory.
+/// The Skolem symbols of a formula under both signs. A formula that doesn't expand too far has far fewer than a u64 counts.
 #[cycle(skolem_counts)]
 fn skolem_counts(formula: &Formula) -> Mem<SkolemCount>
     ensures positive { IfOk result (λ count. count.positive ≡ skolem_count (formula_of formula.now) true) }

@@ -1,17 +1,20 @@
 // Why a problem has no clausal form here.
 
-ghost use Rattle.std.specs.Prelude.{◌≡◌, ◌+◌, IfOk, IfErr, Some, None};
-ghost use Rattle.clausal_form.specs.Fault.{limit_fault};
+ghost use Rattle.std.specs.Prelude.{◌≡◌, ◌+◌, nat_lt, IfOk, IfErr, Some, None};
+ghost use Rattle.tptp_tree.specs.Shape.{formula_of};
+ghost use Rattle.formula_nnf.specs.Expanded.{expanded_count};
+ghost use Rattle.clausal_form.specs.Fault.{limit_fault, most_expanded};
 ghost use Rattle.clausal_form.specs.Cause.{IsCauseOr};
 
 use crate::measure::Measure;
 use fol_base::{MOST_FORM_SYMBOLS, MOST_SYMBOLS};
+use formula_nnf::expanded;
 use plain_types::{NoMemory, Text};
 use std::alloc::Global;
-use tptp_tree::Annotated;
+use tptp_tree::{Annotated, Formula};
 
 /// The most atoms and quantified variables of a formula after its equivalences are written out.
-pub(crate) const MOST_EXPANDED: u64 = 1_000_000;
+const MOST_EXPANDED: u64 = 1_000_000;
 
 /// The limit that a formula passes: of several the first in this order.
 #[derive(Clone, Copy, Debug, PartialEq, Eq)]
@@ -50,6 +53,13 @@ pub(crate) fn refused(alloc: Global, cause: FormCause, annotated: &Annotated) ->
         Ok(name) => FormFault::Refused(cause, name),
         Err(_) => FormFault::NoMemory,
     }
+}
+
+/// Whether a formula has over 1,000,000 atoms and quantified variables after its equivalences are written out.
+pub(crate) fn expands_too_far(formula: &Formula) -> bool
+    ensures { result ≡ nat_lt most_expanded (expanded_count (formula_of formula.now)) }
+{
+    expanded(formula) > MOST_EXPANDED
 }
 
 /// The symbols and clauses so far with those of a formula, if these pass no limit. So many Skolem symbols were made by then.

@@ -1,10 +1,10 @@
 // A clausal form with all its symbols.
 
 ghost use Rattle.std.specs.Prelude.{◌≡◌, IfOk};
-ghost use Rattle.skolem.specs.Skolemized.{AreUnused};
+ghost use Rattle.signature.specs.Form.{AreUnused};
 ghost use Rattle.clausal_form.specs.Symbols.{with_names, with_spare};
 
-use crate::form::Form;
+use crate::form::FormSoFar;
 use crate::symbols::{Prefixes, add_naming_symbols, add_spare_constant};
 use fol_base::Clause;
 use plain_types::{Mem, Numbers, Sequence};
@@ -21,7 +21,7 @@ pub struct Clausal {
 }
 
 /// The form with its naming symbols and its spare constant.
-pub(crate) fn finished(alloc: Global, form: Form, prefixes: &Prefixes) -> Mem<Clausal>
+pub(crate) fn finished(alloc: Global, form: FormSoFar, prefixes: &Prefixes) -> Mem<Clausal>
     requires naming { AreUnused form.signature prefixes.now.naming 0 }
     requires spare { AreUnused (with_names prefixes.now.naming form.naming.arities.items form.signature) prefixes.now.spare 0 }
     ensures signature { IfOk result (λ clausal. clausal.signature
@@ -29,7 +29,7 @@ pub(crate) fn finished(alloc: Global, form: Form, prefixes: &Prefixes) -> Mem<Cl
     ensures clauses { IfOk result (λ clausal. clausal.clauses ≡ form.output.clauses.items) }
     ensures origins { IfOk result (λ clausal. clausal.origins ≡ form.output.origins.items) }
 {
-    let Form {
+    let FormSoFar {
         mut signature,
         naming,
         output,

@@ -5,9 +5,9 @@ ghost use Rattle.tptp_tree.specs.Shape.{formula_of};
 ghost use Rattle.fol_base.specs.Literal.{clause_of};
 ghost use Rattle.signature.specs.Occurrences.{formula_symbols, problem_symbols};
 ghost use Rattle.signature.specs.Prefix.{fresh_prefix_of};
-ghost use Rattle.signature.specs.Form.{nothing_made};
+ghost use Rattle.signature.specs.Form.{AreUnused, nothing_made};
 ghost use Rattle.signature.specs.Clausal.{SymbolNumbers, Made, Worked, annotated_clauses, canonical_literals};
-ghost use Rattle.skolem.specs.Skolemized.{AreKnown, AreUnused};
+ghost use Rattle.skolem.specs.Skolemized.{AreKnown};
 ghost use Rattle.clausal_form.specs.Agenda.{placed};
 ghost use Rattle.clausal_form.specs.Cause.{IsCauseOr};
 ghost use Rattle.clausal_form.specs.Fault.{formula_fault, counted_in, form_fault, IsFormFault};
@@ -15,12 +15,11 @@ ghost use Rattle.clausal_form.specs.Naming.{IsMeasured, defining_clauses};
 ghost use Rattle.clausal_form.specs.Progress.{HasMade, IsStep, IsRefusal, IsEmpty, IsFormed, counted_numbers, numbers_with};
 
 use crate::counting::count_skolem_symbols;
-use crate::fault::{FormCause, FormFault, MOST_EXPANDED, counted_with, refused};
+use crate::fault::{FormCause, FormFault, counted_with, expands_too_far, refused};
 use crate::formula::{formula_matrix, write_formula};
 use crate::measure::Measure;
 use crate::naming::{Naming, named_matrix};
 use crate::writing::Output;
-use formula_nnf::expanded;
 use plain_types::{Mem, NoMemory, Text};
 use signature::Signature;
 use std::alloc::Global;
@@ -29,7 +28,7 @@ use tptp_tree::{Annotated, Problem};
 /// What there is of a form: the problem's symbols with the Skolem symbols, the number of the next Skolem symbol, the names, the clauses,
 /// and how many symbols and clauses these are.
 #[derive(Drop)]
-pub(crate) struct Form {
+pub(crate) struct FormSoFar {
     pub signature: Signature,
     pub next: u32,
     pub naming: Naming,
@@ -43,7 +42,7 @@ pub(crate) fn add_formula(
     annotated: &Annotated,
     place: u64,
     prefix: &Text,
-    form: &mut Form,
+    form: &mut FormSoFar,
 ) -> Result<(), FormFault>
     requires known { AreKnown form.old.signature (formula_symbols (formula_of annotated.now.formula)) }
     requires unused { AreUnused form.old.signature prefix.now form.old.next }
@@ -54,13 +53,13 @@ pub(crate) fn add_formula(
         → AreKnown n.symbols (formula_symbols (formula_of annotated.now.formula))
         → IsRefusal n annotated.now m form.old.counted fault) }
 {
-    if expanded(&annotated.formula) > MOST_EXPANDED {
+    if expands_too_far(&annotated.formula) {
         return Err(refused(alloc, FormCause::Expansion, annotated));
     }
     let (matrix, next) = formula_matrix(alloc, annotated, &mut form.signature, prefix, form.next)?;
     form.next = next;
     forget_definitions(&mut form.naming);
-    let part = named_matrix(alloc, &matrix, &mut form.naming)?;
+    let part = named_matrix(alloc, matrix, &mut form.naming)?;
     let measure = part.measure.sum(form.naming.measure)?;
     match counted_with(measure, form.counted, next) {
         Err(cause) => Err(refused(alloc, cause, annotated)),
@@ -89,7 +88,7 @@ pub(crate) fn add_formulas(
     alloc: Global,
     formulas: &[Annotated],
     prefix: &Text,
-    form: &mut Form,
+    form: &mut FormSoFar,
 ) -> Result<(), FormFault>
     requires begun { HasMade (counted_numbers formulas.now) prefix.now nothing_made form.old }
     requires empty { IsEmpty form.old }
@@ -107,7 +106,7 @@ pub(crate) fn add_formulas(
 }
 
 /// The form of a problem before its first formula. Naming symbols come after so many Skolem symbols.
-fn begun_form(alloc: Global, signature: Signature, skolem: u64) -> Mem<Form>
+fn begun_form(alloc: Global, signature: Signature, skolem: u64) -> Mem<FormSoFar>
     ensures made { IfOk result (λ form. (prefix : List ℕ) → HasMade (numbers_with signature skolem) prefix nothing_made form) }
     ensures empty { IfOk result (λ form. IsEmpty form) }
 {
@@ -118,7 +117,7 @@ fn begun_form(alloc: Global, signature: Signature, skolem: u64) -> Mem<Form>
         definitions: Vec::new(alloc),
         measure: Measure::none(),
     };
-    Ok(Form {
+    Ok(FormSoFar {
         signature,
         next: 0,
         naming,
@@ -137,7 +136,7 @@ pub(crate) fn form_of_formulas(
     problem: &Problem,
     signature: Signature,
     prefix: &Text,
-) -> Result<Form, FormFault>
+) -> Result<FormSoFar, FormFault>
     requires signature { signature ≡ problem_symbols problem.now.formulas }
     requires prefix { prefix.now ≡ fresh_prefix_of (problem_symbols problem.now.formulas) (codes "sk") }
     ensures formed { IfOk result (λ form. IsFormed problem.now.formulas prefix.now form) }

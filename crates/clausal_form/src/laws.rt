@@ -1,10 +1,14 @@
 // Laws and worked examples of the definitions: each is the contract of a function with an empty body.
 
-ghost use Rattle.std.specs.Prelude.{◌≡◌, ◌+◌, ◌-◌, ◌^◌, [], ◌∷◌, codes, Some, None};
+ghost use Rattle.std.specs.Prelude.{◌≡◌, ◌+◌, ◌-◌, ◌^◌, ◌++◌, [], ◌∷◌, codes, Some, None};
 ghost use Rattle.signature.specs.Examples.{cnf_axiom, p, mixed};
 ghost use Rattle.signature.specs.Form.{symbol_numbers, nothing_made};
-ghost use Rattle.skolem.specs.Matrix.{truth};
+ghost use Rattle.signature.specs.Symbol.{function_symbol};
+ghost use Rattle.skolem.specs.Matrix.{truth, literal, conjunction, disjunction, matrices_of};
+ghost use Rattle.skolem.specs.Examples.{known, p_literal};
 ghost use Rattle.clausal_form.specs.Examples.{proposition, all_of, one_of};
+ghost use Rattle.clausal_form.specs.FormFunctions.{functions_of};
+ghost use Rattle.clausal_form.specs.Occurring.{matrix_variables};
 ghost use Rattle.clausal_form.specs.Written.{written};
 ghost use Rattle.clausal_form.specs.Measure.{measured};
 ghost use Rattle.clausal_form.specs.Fault.{limit_fault, formula_fault, fault_or, form_fault};
@@ -42,6 +46,13 @@ pub fn measure_examples()
     ensures product { measured (written (one_of (all_of (1 ∷ 2 ∷ []) ∷ all_of (3 ∷ 4 ∷ []) ∷ [])))
         ≡ record { clauses = 4; symbols = 16; largest = 4 } }
     ensures none { measured [] ≡ record { clauses = 0; symbols = 0; largest = 0 } }
+{}
+
+/// A product with a member that has no clauses has none of its variables; function symbols keep their numbers among the predicates.
+pub fn occurring_examples()
+    ensures left_out { matrix_variables (conjunction (matrices_of (disjunction 0 (matrices_of (literal (p_literal 0) ∷ truth ∷ [])) ∷ literal (p_literal 1) ∷ [])))
+        ≡ 1 ∷ [] }
+    ensures functions { functions_of (known ++ function_symbol (codes "f") 2 ∷ []) ≡ record { number = 3; arity = 2 } ∷ [] }
 {}
 
 /// A limit itself isn't passed. Of two limits that are passed the fault is that of the clause.

@@ -1,7 +1,8 @@
 // How many clauses a list has and how large they are, counted without making them.
 
 ghost use Rattle.std.specs.Prelude.{◌≡◌, ◌+◌, [], ◌∷◌, IfOk};
-ghost use Rattle.clausal_form.specs.Measure.{measure_of, capped_measure, capped_measured, sum_measure, product_measure, product_largest, capped};
+ghost use Rattle.formula_nnf.specs.CappedCount.{capped};
+ghost use Rattle.clausal_form.specs.Measure.{measure_of, capped_measure, capped_measured, sum_measure, product_measure, product_largest};
 
 use plain_types::{Mem, NoMemory};
 
@@ -44,7 +45,7 @@ impl Measure {
         }
     }
 
-    /// Two lists, one after the other. More clauses than a u64 counts are more than fit a memory.
+    /// Two lists, one after the other. More clauses than a u64 counts are want of memory; a formula that doesn't expand too far has far fewer.
     pub(crate) fn sum(self, other: Measure) -> Mem<Measure>
         ensures { IfOk result (λ made. measure_of made ≡ capped_measure (sum_measure (measure_of self) (measure_of other))) }
     {

@@ -9,17 +9,15 @@ ghost use Rattle.skolem.specs.Shape.{matrix_tree};
 ghost use Rattle.skolem.specs.MatrixClauses.{matrix_clauses, listed_matrices, product_of_matrices};
 ghost use Rattle.clausal_form.specs.Measure.{measure_of, capped_measured};
 ghost use Rattle.clausal_form.specs.Written.{written, all_written, product_written};
-ghost use Rattle.clausal_form.specs.Naming.{IsMeasured, IsWork, defining_clauses, definition_clauses, naming_made, naming_numbers, is_large_count};
+ghost use Rattle.clausal_form.specs.Naming.{IsMeasured, IsWork, defining_clauses, definition_clauses, naming_made, naming_numbers};
 
 use crate::arguments::name_arguments;
 use crate::measure::Measure;
 use fol_base::{Literal, Term};
+use formula_nnf::is_large;
 use plain_types::{Mem, NoMemory};
 use skolem::{Matrices, Matrix, applied};
 use std::alloc::Global;
-
-/// Over so many clauses a product of two lists is named.
-const LARGEST_PRODUCT: u64 = 64;
 
 /// A name: its negated atom, and the matrix for which it stands.
 #[derive(Drop)]
@@ -45,12 +43,12 @@ pub(crate) struct Part {
     pub measure: Measure,
 }
 
-/// The matrix with names for the lists of its large products.
+/// The matrix with names for the lists of its large products. Its literals are moved.
 #[cycle(named_matrix)]
-pub(crate) fn named_matrix(alloc: Global, matrix: &Matrix, naming: &mut Naming) -> Mem<Part>
+pub(crate) fn named_matrix(alloc: Global, matrix: Matrix, naming: &mut Naming) -> Mem<Part>
     requires { IsMeasured naming.old.measure (defining_clauses naming.old) }
     ensures work { IfOk result (λ part. IsWork naming.new
-        (matrix_clauses (naming_numbers naming.old.first) (matrix_tree matrix.now) (naming_made naming.old))
+        (matrix_clauses (naming_numbers naming.old.first) (matrix_tree matrix) (naming_made naming.old))
         (written (matrix_tree part.matrix)) part.measure) }
     ensures first { IfOk result (λ _. naming.new.first ≡ naming.old.first) }
 {
@@ -63,18 +61,18 @@ pub(crate) fn named_matrix(alloc: Global, matrix: &Matrix, naming: &mut Naming) 
             matrix: Matrix::False,
             measure: Measure::empty_clause(),
         }),
-        Matrix::Lit(literal) => Ok(literal_part(literal.copy(alloc)?)),
-        Matrix::And(members) => named_list(alloc, members.as_slice(), naming),
-        Matrix::Or { made, members } => named_product(alloc, *made, members.as_slice(), naming),
+        Matrix::Lit(literal) => Ok(literal_part(literal)),
+        Matrix::And(members) => named_list(alloc, members, naming),
+        Matrix::Or { made, members } => named_product(alloc, made, members, naming),
     }
 }
 
 /// Matrices one after another. Those without clauses are left out.
 #[cycle(named_matrix)]
-fn named_list(alloc: Global, members: &[Matrix], naming: &mut Naming) -> Mem<Part>
+fn named_list(alloc: Global, members: Matrices, naming: &mut Naming) -> Mem<Part>
     requires { IsMeasured naming.old.measure (defining_clauses naming.old) }
     ensures work { IfOk result (λ part. IsWork naming.new
-        (listed_matrices (naming_numbers naming.old.first) (matrices_of (map matrix_tree members.now)) (naming_made naming.old))
+        (listed_matrices (naming_numbers naming.old.first) (matrices_of members) (naming_made naming.old))
         (written (matrix_tree part.matrix)) part.measure) }
     ensures first { IfOk result (λ _. naming.new.first ≡ naming.old.first) }
 {
@@ -82,7 +80,7 @@ fn named_list(alloc: Global, members: &[Matrix], naming: &mut Naming) -> Mem<Par
         matrix: Matrix::True,
         measure: Measure::none(),
     };
-    for member in members {
+    for member in members.into_vec() {
         let part = named_matrix(alloc, member, naming)?;
         list = joined(alloc, list, part)?;
     }
@@ -130,10 +128,10 @@ fn listed(alloc: Global, matrix: Matrix) -> Mem<Matrices>
 
 /// The product of matrices, from left to right.
 #[cycle(named_matrix)]
-fn named_product(alloc: Global, made: u32, members: &[Matrix], naming: &mut Naming) -> Mem<Part>
+fn named_product(alloc: Global, made: u32, members: Matrices, naming: &mut Naming) -> Mem<Part>
     requires { IsMeasured naming.old.measure (defining_clauses naming.old) }
     ensures work { IfOk result (λ part. IsWork naming.new
-        (product_of_matrices (naming_numbers naming.old.first) made ([] ∷ []) (matrices_of (map matrix_tree members.now)) (naming_made naming.old))
+        (product_of_matrices (naming_numbers naming.old.first) made ([] ∷ []) (matrices_of members) (naming_made naming.old))
         (written (matrix_tree part.matrix)) part.measure) }
     ensures first { IfOk result (λ _. naming.new.first ≡ naming.old.first) }
 {
@@ -141,7 +139,7 @@ fn named_product(alloc: Global, made: u32, members: &[Matrix], naming: &mut Nami
         matrix: Matrix::False,
         measure: Measure::empty_clause(),
     };
-    for member in members {
+    for member in members.into_vec() {
         let part = named_matrix(alloc, member, naming)?;
         product = multiplied(alloc, made, product, part, naming)?;
     }
@@ -167,13 +165,6 @@ fn multiplied(alloc: Global, made: u32, first: Part, second: Part, naming: &mut 
     }
     let name = named(alloc, made, first, naming)?;
     written_out(alloc, made, name, second)
-}
-
-/// Whether a product of two lists of so many clauses is named.
-fn is_large(first: u64, second: u64) -> bool
-    ensures { result ≡ is_large_count first second }
-{
-    first >= 2 && second >= 2 && first.saturating_mul(second) > LARGEST_PRODUCT
 }
 
 /// The product of two parts without a name. The empty clause alone is left out, so that a product of one part is that part; and one
@@ -251,7 +242,8 @@ fn literal_part(literal: Literal) -> Part
     }
 }
 
-/// Names the clauses of a part: the next naming symbol, applied to those of their variables that were made before, stands for them.
+/// Names the clauses of a part: the next naming symbol stands for them, applied to those of their variables that were made before the work
+/// on the product began.
 fn named(alloc: Global, made: u32, part: Part, naming: &mut Naming) -> Mem<Part>
     requires defining { IsMeasured naming.old.measure (defining_clauses naming.old) }
     requires part { IsMeasured part.measure (written (matrix_tree part.matrix)) }

@@ -1,12 +1,10 @@
 // The symbols that a form has beyond its problem's: the prefixes of their names, the naming symbols and the spare constant.
 
-ghost use Rattle.std.specs.Prelude.{◌≡◌, ◌+◌, ◌++◌, [], ◌∷◌, codes, IfOk};
-ghost use Rattle.std.specs.Fmt.{decimal};
+ghost use Rattle.std.specs.Prelude.{◌≡◌, ◌+◌, codes, IfOk};
 ghost use Rattle.std.specs.List.{list_any};
 ghost use Rattle.signature.specs.Prefix.{fresh_prefix_of};
-ghost use Rattle.signature.specs.Form.{is_constant};
-ghost use Rattle.skolem.specs.Skolemized.{AreUnused};
-ghost use Rattle.clausal_form.specs.Symbols.{numbered_symbol, with_names, with_spare};
+ghost use Rattle.signature.specs.Form.{AreUnused, is_constant};
+ghost use Rattle.clausal_form.specs.Symbols.{with_names, with_spare};
 
 use plain_types::{Mem, NoMemory, Text};
 use signature::{Signature, Symbol, SymbolKind, fresh_prefix};
@@ -46,14 +44,7 @@ pub(crate) fn add_naming_symbols(
 {
     let mut number = 0;
     for arity in arities {
-        push_symbol(
-            alloc,
-            signature,
-            SymbolKind::Predicate,
-            prefix,
-            number,
-            *arity,
-        )?;
+        signature.add_numbered(alloc, SymbolKind::Predicate, prefix, number, *arity)?;
         number = number_after(number)?;
     }
     Ok(())
@@ -67,64 +58,29 @@ pub(crate) fn add_spare_constant(alloc: Global, signature: &mut Signature, prefi
     if has_constant(signature.as_slice()) {
         return Ok(());
     }
-    push_symbol(alloc, signature, SymbolKind::Function, prefix, 0, 0)
+    signature.add_numbered(alloc, SymbolKind::Function, prefix, 0, 0)
 }
 
-/// Whether a term without arguments can be made.
+/// Whether one of them is a constant.
 fn has_constant(symbols: &[Symbol]) -> bool
     ensures { result ≡ list_any is_constant symbols.now }
 {
     for symbol in symbols {
-        if makes_constant(symbol) {
+        if is_a_constant(symbol) {
             return true;
         }
     }
     false
 }
 
-/// Whether the symbol is a term.
-fn makes_constant(symbol: &Symbol) -> bool
+/// Whether the symbol is a constant.
+fn is_a_constant(symbol: &Symbol) -> bool
     ensures { result ≡ is_constant symbol.now }
 {
     match symbol.kind {
         SymbolKind::Predicate => false,
         SymbolKind::Function => symbol.arity == 0,
     }
-}
-
-/// Adds a symbol that is named by a prefix and its number.
-fn push_symbol(
-    alloc: Global,
-    signature: &mut Signature,
-    kind: SymbolKind,
-    prefix: &Text,
-    number: u32,
-    arity: u32,
-) -> Mem<()>
-    requires unused { AreUnused signature.old prefix.now number }
-    ensures { IfOk result (λ _. signature.new ≡ signature.old ++ numbered_symbol kind prefix.now number arity ∷ []) }
-{
-    let symbol = Symbol {
-        kind,
-        name: numbered_name(alloc, prefix, number)?,
-        arity,
-    };
-    if signature.len() > u64::from(u32::MAX) {
-        return Err(NoMemory);
-    }
-    signature.add(symbol)?;
-    Ok(())
-}
-
-/// The prefix followed by a number.
-fn numbered_name(alloc: Global, prefix: &Text, number: u32) -> Mem<Text>
-    ensures { IfOk result (λ name. name ≡ prefix.now ++ decimal number) }
-{
-    let digits = number.to_string(alloc)?;
-    let mut name = Vec::new(alloc);
-    name.extend_from_slice(prefix.as_slice())?;
-    name.extend_from_slice(digits.as_bytes())?;
-    Ok(Text::from_vec(name))
 }
 
 /// The next number, where there is one.

@@ -7,7 +7,7 @@ ghost use Rattle.skolem.specs.Matrix.{matrices_of, matrices_size};
 ghost use Rattle.skolem.specs.Shape.{matrix_tree};
 ghost use Rattle.signature.specs.Clausal.{all_pairs, canonical_literals};
 ghost use Rattle.clausal_form.specs.Written.{written, all_written, product_written};
-ghost use Rattle.clausal_form.specs.Agenda.{agenda_clauses, agenda_size, finished, placed};
+ghost use Rattle.clausal_form.specs.Agenda.{agenda_clauses, agenda_size, canonical_after, placed};
 
 use fol_base::{Clause, LiteralRef, Literals, renumbered};
 use plain_types::{Mem, Names};
@@ -37,7 +37,7 @@ fn write_agenda<'a>(
     output: &mut Output,
 ) -> Mem<()>
     ensures clauses { IfOk result (λ _. map clause_of output.new.clauses.items ≡ map clause_of output.old.clauses.items
-        ++ map (finished (map lent_of agenda.old.literals.items)) (agenda_clauses agenda.old.matrices.items)) }
+        ++ map (canonical_after (map lent_of agenda.old.literals.items)) (agenda_clauses agenda.old.matrices.items)) }
     ensures origins { IfOk result (λ _. output.new.origins.items ≡ output.old.origins.items
         ++ map (placed place) (agenda_clauses agenda.old.matrices.items)) }
     ensures literals { IfOk result (λ _. agenda.new.literals.items ≡ agenda.old.literals.items) }
@@ -63,7 +63,7 @@ pub(crate) fn write_matrix<'a>(
     output: &mut Output,
 ) -> Mem<()>
     ensures clauses { IfOk result (λ _. map clause_of output.new.clauses.items ≡ map clause_of output.old.clauses.items
-        ++ map (finished (map lent_of agenda.old.literals.items)) (all_pairs (written (matrix_tree matrix.now)) (agenda_clauses agenda.old.matrices.items))) }
+        ++ map (canonical_after (map lent_of agenda.old.literals.items)) (all_pairs (written (matrix_tree matrix.now)) (agenda_clauses agenda.old.matrices.items))) }
     ensures origins { IfOk result (λ _. output.new.origins.items ≡ output.old.origins.items
         ++ map (placed place) (all_pairs (written (matrix_tree matrix.now)) (agenda_clauses agenda.old.matrices.items))) }
     ensures literals { IfOk result (λ _. agenda.new.literals.items ≡ agenda.old.literals.items) }
@@ -99,7 +99,7 @@ fn write_each<'a>(
     output: &mut Output,
 ) -> Mem<()>
     ensures clauses { IfOk result (λ _. map clause_of output.new.clauses.items ≡ map clause_of output.old.clauses.items
-        ++ map (finished (map lent_of agenda.old.literals.items)) (all_pairs (all_written (matrices_of (map matrix_tree members.now))) (agenda_clauses agenda.old.matrices.items))) }
+        ++ map (canonical_after (map lent_of agenda.old.literals.items)) (all_pairs (all_written (matrices_of (map matrix_tree members.now))) (agenda_clauses agenda.old.matrices.items))) }
     ensures origins { IfOk result (λ _. output.new.origins.items ≡ output.old.origins.items
         ++ map (placed place) (all_pairs (all_written (matrices_of (map matrix_tree members.now))) (agenda_clauses agenda.old.matrices.items))) }
     ensures literals { IfOk result (λ _. agenda.new.literals.items ≡ agenda.old.literals.items) }

@@ -6,7 +6,8 @@ use Rattle.tptp_tree.specs.Formula.{FormulaTree, FormulaTrees, no_formulas, form
 use Rattle.tptp_tree.specs.Shape.{formula_of}
 use Rattle.tptp_tree.specs.declared.formula.Formula.{Formula}
 use Rattle.signature.proofs.OccurrenceLemmas.{drop-item, drop-end}
-use Rattle.formula_nnf.specs.ClauseCount.{ClauseCount, sum_count, is_large_count, product_count, joined_count, constant_count, clause_counts, listed_counts, product_counts, several_counts}
+use Rattle.signature.specs.Clausal.{is_large_count}
+use Rattle.formula_nnf.specs.ClauseCount.{ClauseCount, sum_count, product_count, joined_count, constant_count, clause_counts, listed_counts, product_counts, several_counts}
 use Rattle.formula_nnf.specs.CappedCount.{capped, capped_count, total_count}
 
 same : (a b : ClauseCount) → a.clauses ≡ b.clauses → a.defining ≡ b.defining → a ≡ b

@@ -3,8 +3,8 @@ use Rattle.std.proofs.Common.{◌≡◌, ℕ, suc, ◌+◌, ◌*◌, ◌<◌, �
 use Rattle.std.specs.Prelude.{nat_lt, if◌then◌else◌}
 use Rattle.tptp_tree.specs.Formula.{implies, implied, equivalent, different, nor, nand, FormulaTree, truth, falsity, predicate, equation, negation, conjunction, disjunction, connected, quantified, FormulaTrees, no_formulas, formula_then}
 use Rattle.signature.specs.Environment.{Environment, free_names}
-use Rattle.signature.specs.Clausal.{SymbolNumbers, Made, Worked, Scope, Literals, Work, all_pairs, is_large, named, product, joined, truth_value, with_variables, with_skolem_terms, scope_of, makes_variables, clauses_of, listed_clauses, product_clauses}
-use Rattle.formula_nnf.specs.ClauseCount.{ClauseCount, is_large_count, product_count, joined_count, plain_count, constant_count, clause_counts, listed_counts, product_counts}
+use Rattle.signature.specs.Clausal.{SymbolNumbers, Made, Worked, Scope, Literals, Work, all_pairs, is_large_count, is_large, named, product, joined, truth_value, with_variables, with_skolem_terms, scope_of, makes_variables, clauses_of, listed_clauses, product_clauses}
+use Rattle.formula_nnf.specs.ClauseCount.{ClauseCount, product_count, joined_count, plain_count, constant_count, clause_counts, listed_counts, product_counts}
 use Rattle.formula_nnf.specs.ClauseCountLaws.{IsCounted, ClausesAreCounted}
 
 length-append : {X : Type 0} (xs ys : List X) → length (xs ++ ys) ≡ length xs + length ys

@@ -1,5 +1,6 @@
 -- How many clauses the work on a formula gives, and how many that define names, counted without making them.
-use Rattle.std.specs.Prelude.{ℕ, ◌+◌, ◌*◌, min, max, Bool, true, false, not, ◌&&◌, nat_le, nat_lt, if◌then◌else◌}
+use Rattle.std.specs.Prelude.{ℕ, ◌+◌, ◌*◌, min, max, Bool, true, false, not, if◌then◌else◌}
+use Rattle.signature.specs.Clausal.{is_large_count}
 use Rattle.tptp_tree.specs.Formula.{implies, implied, equivalent, different, nor, nand, FormulaTree, truth, falsity, predicate, equation, negation, conjunction, disjunction, connected, quantified, FormulaTrees, no_formulas, formula_then}
 
 -- the clauses of the formula, and those that define the names made in it
@@ -10,9 +11,6 @@ pub record ClauseCount : Type 0 where
 -- one list after another
 abbrev pub sum_count : ClauseCount → ClauseCount → ClauseCount
 sum_count a b = record { clauses = a.clauses + b.clauses; defining = a.defining + b.defining }
-
-abbrev pub is_large_count : ℕ → ℕ → Bool
-is_large_count a b = nat_le 2 a && (nat_le 2 b && nat_lt 64 (a * b))
 
 -- Of a large product the longer list becomes defining clauses, and the other stays.
 abbrev pub product_count : ClauseCount → ClauseCount → ClauseCount

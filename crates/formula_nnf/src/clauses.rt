@@ -4,6 +4,7 @@ ghost use Rattle.std.specs.Prelude.{◌≡◌, map};
 ghost use Rattle.tptp_tree.specs.Formula.{formulas_of, connected, equivalent};
 ghost use Rattle.tptp_tree.specs.Shape.{formula_of};
 ghost use Rattle.formula_nnf.specs.ClauseCount.{clause_counts, several_counts, plain_count, constant_count, sum_count, product_count, joined_count};
+ghost use Rattle.signature.specs.Clausal.{is_large_count};
 ghost use Rattle.formula_nnf.specs.CappedCount.{count_of, capped, capped_count, total_count};
 
 use tptp_tree::Formula;
@@ -137,13 +138,22 @@ fn sum(first: Count, second: Count) -> Count
 fn product(first: Count, second: Count) -> Count
     ensures { count_of result ≡ capped_count (product_count (count_of first) (count_of second)) }
 {
-    let clauses = first.clauses.saturating_mul(second.clauses);
     let defining = first.defining.saturating_add(second.defining);
-    if first.clauses < 2 || second.clauses < 2 || clauses <= LARGEST_PRODUCT {
-        return Count { clauses, defining };
+    if is_large(first.clauses, second.clauses) {
+        return Count {
+            clauses: first.clauses.min(second.clauses),
+            defining: defining.saturating_add(first.clauses.max(second.clauses)),
+        };
     }
     Count {
-        clauses: first.clauses.min(second.clauses),
-        defining: defining.saturating_add(first.clauses.max(second.clauses)),
+        clauses: first.clauses.saturating_mul(second.clauses),
+        defining,
     }
+}
+
+/// Whether a product of two lists of so many clauses is named.
+pub fn is_large(first: u64, second: u64) -> bool
+    ensures { result ≡ is_large_count first second }
+{
+    first >= 2 && second >= 2 && first.saturating_mul(second) > LARGEST_PRODUCT
 }

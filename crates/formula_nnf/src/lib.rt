@@ -8,10 +8,7 @@ mod form;
 pub mod laws;
 mod normal;
 
-pub use clauses::clause_count;
+pub use clauses::{clause_count, is_large};
 pub use count::expanded;
 pub use form::{Nnf, NnfBox, Nnfs};
-pub use normal::nnf;
-
-#[cfg(test)]
-mod tests;
+pub use normal::{nnf, quantified_form};

@@ -162,11 +162,11 @@ fn quantified(alloc: Global, all: bool, variables: &Texts, body: Nnf) -> Mem<Nnf
 {
     let names = copy_texts(alloc, variables)?;
     let body = NnfBox::new(alloc, body)?;
-    Ok(bound(all, names, body))
+    Ok(quantified_form(all, names, body))
 }
 
 /// A boxed form under `!` (`all`) or `?`.
-fn bound(all: bool, names: Texts, body: NnfBox) -> Nnf
+pub fn quantified_form(all: bool, names: Texts, body: NnfBox) -> Nnf
     ensures { nnf_tree result ≡ quantified (quantifier_form all for_all) names body }
 {
     if all {

@@ -1,6 +1,7 @@
 -- That the symbols of a problem are those of a signature, and stay so.
-use Rattle.std.proofs.Common.{◌≡◌, ℕ, zero, suc, ◌+◌, ◌<◌, ◌≤◌, ◌^◌, Bool, true, false, not, ◌||◌, List, [], ◌∷◌, ◌++◌, length, take, drop, get_or, cond, subst, refl, ap, sym, ◌∙◌, arith}
-use Rattle.std.specs.Prelude.{fold, flat_map, slice_get, Some, IsFalse, if◌then◌else◌}
+use Rattle.std.proofs.Common.{◌≡◌, ℕ, zero, suc, ◌+◌, ◌<◌, ◌≤◌, ◌^◌, Bool, true, false, not, ◌&&◌, ◌||◌, ◌==◌, List, [], ◌∷◌, ◌++◌, length, take, drop, get_or, cond, subst, refl, ap, sym, ◌∙◌, arith}
+use mathlib.Core.Bool.{beq}
+use Rattle.std.specs.Prelude.{bytes_eq, fold, flat_map, slice_get, Some, IsFalse, if◌then◌else◌}
 use Rattle.std.specs.List.{list_any, position_or_len}
 use Rattle.std.proofs.lemmas.Bool.{and_parts, and_from}
 use Rattle.tptp_tree.specs.declared.problem.Annotated.{Annotated}
@@ -8,7 +9,7 @@ use Rattle.tptp_tree.specs.Term.{TermTree, variable, application, TermTrees, no_
 use Rattle.tptp_tree.specs.Formula.{FormulaTree, truth, falsity, predicate, equation, negation, conjunction, disjunction, connected, quantified, FormulaTrees, no_formulas, formula_then}
 use Rattle.tptp_tree.specs.Shape.{formula_of}
 use Rattle.signature.specs.declared.symbol.Symbol.{Symbol}
-use Rattle.signature.specs.Symbol.{true_symbol, same_symbol, has_symbol, with_symbol, are_different, IsSignature}
+use Rattle.signature.specs.Symbol.{is_predicate_kind, is_named, true_symbol, same_symbol, has_symbol, with_symbol, are_different, IsSignature}
 use Rattle.signature.specs.SymbolLaws.{same_symbol-refl, same_symbol-true}
 use Rattle.signature.proofs.OccurrenceLemmas.{annotated-end, drop-item, drop-end}
 use Rattle.signature.specs.Occurrences.{term_symbols, terms_symbols, formula_symbols, formulas_symbols, annotated_symbols, problem_symbols}
@@ -259,3 +260,24 @@ pub symbols-step :
     (known ss : List Symbol) (i : ℕ) (s : Symbol)
     → i < length ss → s ≡ get_or ss i s → fold with_symbol (with_symbol known s) (drop (i + 1) ss) ≡ fold with_symbol known (drop i ss)
 symbols-step known ss i s h e = ap (fold with_symbol known) (sym (drop-item ss i s h e))
+
+-- ---- a symbol whose name no other has is new
+
+and-false : (t : Bool) → (t && false) ≡ false
+and-false true = refl
+and-false false = refl
+
+other-name : (s t : Symbol) → bytes_eq s.name t.name ≡ false → same_symbol s t ≡ false
+other-name s t h =
+    ap (λ u. beq (is_predicate_kind s.kind) (is_predicate_kind t.kind) && (u && s.arity == t.arity)) h
+    ∙ and-false (beq (is_predicate_kind s.kind) (is_predicate_kind t.kind))
+
+pub new-symbol : (known : List Symbol) (s : Symbol) → list_any (is_named s.name) known ≡ false → has_symbol s known ≡ false
+new-symbol [] s h = refl
+new-symbol (k ∷ known) s h = by (bytes_eq s.name k.name) refl h (new-symbol known s)
+  where
+    by :
+        (t : Bool) → bytes_eq s.name k.name ≡ t → (t || list_any (is_named s.name) known) ≡ false
+        → (list_any (is_named s.name) known ≡ false → has_symbol s known ≡ false) → has_symbol s (k ∷ known) ≡ false
+    by true e g f = cc
+    by false e g f = ap (λ u. u || has_symbol s known) (other-name s k e) ∙ f g

@@ -93,9 +93,12 @@ scope_of n new xs body env m = if new then with_variables xs env m else with_sko
 abbrev pub all_pairs : List Literals → List Literals → List Literals
 all_pairs first second = flat_map (λ c. map (λ d. c ++ d) second) first
 
--- a product that is named: each list has at least 2 clauses, and the product would have over 64
+-- A product of lists of so many clauses is named: each has at least 2, and the product would have over 64.
+abbrev pub is_large_count : ℕ → ℕ → Bool
+is_large_count first second = nat_le 2 first && (nat_le 2 second && nat_lt 64 (first * second))
+
 abbrev pub is_large : List Literals → List Literals → Bool
-is_large first second = nat_le 2 (length first) && (nat_le 2 (length second) && nat_lt 64 (length first * length second))
+is_large first second = is_large_count (length first) (length second)
 
 abbrev pub atom_literal : Bool → Tree → TreeLiteral
 atom_literal sign atom = record { positive = sign; left = atom; right = true_tree }

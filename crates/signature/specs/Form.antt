@@ -1,5 +1,5 @@
 -- The clausal form of a problem and its signature.
-use Rattle.std.specs.Prelude.{ℕ, ◌+◌, Bool, true, false, not, ◌&&◌, ◌==◌, List, [], ◌∷◌, ◌++◌, length, codes, if◌then◌else◌}
+use Rattle.std.specs.Prelude.{ℕ, ◌≤◌, ◌<◌, ◌^◌, ◌+◌, Bool, true, false, not, ◌&&◌, ◌==◌, List, [], ◌∷◌, ◌++◌, length, codes, IsFalse, if◌then◌else◌}
 use Rattle.std.specs.List.{list_any}
 use Rattle.std.specs.Fmt.{decimal}
 use Rattle.tptp_tree.specs.Formula.{implies, implied, equivalent, different, nor, nand, FormulaTree, truth, falsity, predicate, equation, negation, conjunction, disjunction, connected, quantified, FormulaTrees, no_formulas, formula_then}
@@ -7,7 +7,8 @@ use Rattle.tptp_tree.specs.Entries.{is_conjecture}
 use Rattle.tptp_tree.specs.declared.problem.Annotated.{Annotated}
 use Rattle.fol_base.specs.Clause.{TreeClause}
 use Rattle.signature.specs.declared.symbol.Symbol.{Symbol}
-use Rattle.signature.specs.Symbol.{is_predicate_kind, predicate_symbol, function_symbol}
+use Rattle.signature.specs.declared.symbol.SymbolKind.{SymbolKind}
+use Rattle.signature.specs.Symbol.{is_predicate_kind, is_named, predicate_symbol, function_symbol}
 use Rattle.signature.specs.Occurrences.{problem_symbols}
 use Rattle.signature.specs.Environment.{closed}
 use Rattle.signature.specs.Prefix.{fresh_prefix_of}
@@ -57,6 +58,14 @@ abbrev pub problem_form : List Annotated → Formed
 problem_form fs = formed (symbol_numbers fs) 0 fs nothing_made
 
 -- ---- the signature
+
+-- a symbol that is named by a prefix and its number
+abbrev pub numbered_symbol : SymbolKind → List ℕ → ℕ → ℕ → Symbol
+numbered_symbol kind prefix number arity = record { kind = kind; name = prefix ++ decimal number; arity = arity }
+
+-- no symbol's name is the prefix followed by a number from that one on
+abbrev pub AreUnused : List Symbol → List ℕ → ℕ → Type 0
+AreUnused known prefix next = (k : ℕ) → next ≤ k → k < 2 ^ 32 → IsFalse (list_any (is_named (prefix ++ decimal k)) known)
 
 -- symbols that are named by a prefix and their numbers, from that number on
 abbrev pub numbered_symbols : (List ℕ → ℕ → Symbol) → List ℕ → ℕ → List ℕ → List Symbol

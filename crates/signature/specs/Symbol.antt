@@ -25,6 +25,9 @@ true_symbol = predicate_symbol [] 0
 abbrev pub same_symbol : Symbol → Symbol → Bool
 same_symbol s t = beq (is_predicate_kind s.kind) (is_predicate_kind t.kind) && (bytes_eq s.name t.name && s.arity == t.arity)
 
+abbrev pub is_named : List ℕ → Symbol → Bool
+is_named name s = bytes_eq name s.name
+
 abbrev pub has_symbol : Symbol → List Symbol → Bool
 has_symbol s known = list_any (same_symbol s) known
 

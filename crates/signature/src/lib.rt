@@ -10,6 +10,3 @@ mod symbol;
 pub use prefix::fresh_prefix;
 pub use signature::Signature;
 pub use symbol::{Symbol, SymbolKind, SymbolRef};
-
-#[cfg(test)]
-mod tests;

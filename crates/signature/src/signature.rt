@@ -1,14 +1,16 @@
 // The symbols of a problem by their numbers.
 
+ghost use Rattle.std.specs.Fmt.{decimal};
 ghost use Rattle.std.specs.Prelude.{◌≡◌, ◌<◌, ◌≤◌, ◌^◌, ◌++◌, ◌∷◌, [], IfOk, OnErr, Some, is_some, List, length, map, fold, position, take, slice_get, IsFalse};
 ghost use Rattle.signature.specs.Symbol.{same_symbol, has_symbol, with_symbol, symbol_of, IsSignature};
+ghost use Rattle.signature.specs.Form.{AreUnused, numbered_symbol};
 ghost use Rattle.signature.specs.Occurrences.{problem_symbols};
 ghost use Rattle.tptp_tree.specs.ProblemSize.{HasProblemSize};
 
 use crate::meeting::meet_problem;
-use crate::symbol::{Symbol, SymbolRef};
+use crate::symbol::{Symbol, SymbolKind, SymbolRef};
 use indexmap::IndexSet;
-use plain_types::Mem;
+use plain_types::{Mem, NoMemory, Text};
 use std::alloc::Global;
 use std::marker::Model;
 use tptp_tree::Problem;
@@ -106,6 +108,32 @@ impl Signature {
         Ok(place as u32)
     }
 
+    /// Adds a symbol whose name is the prefix followed by the number; with it and later numbers no symbol is named. After want of memory the
+    /// signature is as before.
+    pub fn add_numbered(
+        &mut self,
+        alloc: Global,
+        kind: SymbolKind,
+        prefix: &Text,
+        number: u32,
+        arity: u32,
+    ) -> Mem<()>
+        requires unused { AreUnused self.old prefix.now number }
+        ensures added { IfOk result (λ _. self.new ≡ self.old ++ numbered_symbol kind prefix.now number arity ∷ []) }
+        ensures unchanged { OnErr result (self.new ≡ self.old) }
+    {
+        let symbol = Symbol {
+            kind,
+            name: numbered_name(alloc, prefix, number)?,
+            arity,
+        };
+        if self.len() > u64::from(u32::MAX) {
+            return Err(NoMemory);
+        }
+        self.add(symbol)?;
+        Ok(())
+    }
+
     /// Drops the symbols from that number on. `$true` stays.
     pub fn truncate(&mut self, len: u64)
         requires { 1 ≤ len }
@@ -113,4 +141,15 @@ impl Signature {
     {
         self.symbols.truncate(len as usize);
     }
+}
+
+/// The prefix followed by a number.
+fn numbered_name(alloc: Global, prefix: &Text, number: u32) -> Mem<Text>
+    ensures { IfOk result (λ name. name ≡ prefix.now ++ decimal number) }
+{
+    let digits = number.to_string(alloc)?;
+    let mut name = Vec::new(alloc);
+    name.extend_from_slice(prefix.as_slice())?;
+    name.extend_from_slice(digits.as_bytes())?;
+    Ok(Text::from_vec(name))
 }

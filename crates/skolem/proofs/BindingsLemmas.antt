@@ -7,19 +7,19 @@ use Rattle.std.proofs.lemmas.Bool.{cases_lt}
 use Rattle.std.proofs.lemmas.List.{get_or_append_left, length-append, take_all}
 use Rattle.std.proofs.lemmas.Slice.Eq.{bytes_eq-Decides}
 use Rattle.fol_base.specs.Tree.{variable}
-use Rattle.fol_base.specs.Term.{tree_of}
 use Rattle.signature.specs.Environment.{Environment, term_in_force}
 use Rattle.skolem.specs.declared.name.VariableName.{VariableName}
 use Rattle.skolem.specs.declared.bindings.Binding.{Binding}
 use Rattle.skolem.specs.declared.bindings.Entry.{Entry}
+use Rattle.skolem.specs.BoundTerm.{bound_tree}
 use Rattle.skolem.specs.Name.{same_name}
 use Rattle.skolem.specs.Bindings.{no_entry, name_at, innermost_below, place_in, IsChained, bindings_of}
 use Rattle.skolem.specs.Progress.{environment_of}
 
 -- the last binding comes first
-pub environment-last : (bs : List Binding) (b : Binding) → environment_of (bs ++ b ∷ []) ≡ (b.name, tree_of b.term) ∷ environment_of bs
+pub environment-last : (bs : List Binding) (b : Binding) → environment_of (bs ++ b ∷ []) ≡ (b.name, bound_tree b.term) ∷ environment_of bs
 environment-last [] b = refl
-environment-last (c ∷ bs) b = ap (λ (env : Environment). env ++ (c.name, tree_of c.term) ∷ []) (environment-last bs b)
+environment-last (c ∷ bs) b = ap (λ (env : Environment). env ++ (c.name, bound_tree c.term) ∷ []) (environment-last bs b)
 
 take-bindings :
     (es : List Entry) (n : ℕ) → n < length es
@@ -32,7 +32,7 @@ take-bindings (e ∷ es) (suc n) h = ap (λ bs. e.binding ∷ bs) (take-bindings
 one-more :
     (es : List Entry) (x : List ℕ) (n : ℕ) → n < length es
     → term_in_force (environment_of (take (suc n) (bindings_of es))) x
-    ≡ (if bytes_eq (name_at es n) x then tree_of (get_or es n no_entry).binding.term else term_in_force (environment_of (take n (bindings_of es))) x)
+    ≡ (if bytes_eq (name_at es n) x then bound_tree (get_or es n no_entry).binding.term else term_in_force (environment_of (take n (bindings_of es))) x)
 one-more es x n h =
     ap (λ bs. term_in_force (environment_of bs) x) (take-bindings es n h)
     ∙ ap (λ env. term_in_force env x) (environment-last (take n (bindings_of es)) (get_or es n no_entry).binding)
@@ -55,23 +55,23 @@ none-below x es (suc n) l h =
     by :
         (t : Bool) → (if t then suc n else innermost_below x es n) ≡ 0
         → (innermost_below x es n ≡ 0 → term_in_force (environment_of (take n (bindings_of es))) x ≡ variable 0)
-        → (if t then tree_of (get_or es n no_entry).binding.term else term_in_force (environment_of (take n (bindings_of es))) x) ≡ variable 0
+        → (if t then bound_tree (get_or es n no_entry).binding.term else term_in_force (environment_of (take n (bindings_of es))) x) ≡ variable 0
     by true g f = absurd (omega (arith, g))
     by false g f = f g
 
 some-below :
     (x : List ℕ) (es : List Entry) (n i : ℕ) → n ≤ length es → innermost_below x es n ≡ i + 1
-    → term_in_force (environment_of (take n (bindings_of es))) x ≡ tree_of (get_or es i no_entry).binding.term
+    → term_in_force (environment_of (take n (bindings_of es))) x ≡ bound_tree (get_or es i no_entry).binding.term
 some-below x es zero i l h = absurd (omega (arith, h))
 some-below x es (suc n) i l h =
     one-more es x n (omega (arith, l)) ∙ by (bytes_eq (name_at es n) x) h (some-below x es n i (omega (arith, l)))
   where
     by :
         (t : Bool) → (if t then suc n else innermost_below x es n) ≡ i + 1
-        → (innermost_below x es n ≡ i + 1 → term_in_force (environment_of (take n (bindings_of es))) x ≡ tree_of (get_or es i no_entry).binding.term)
-        → (if t then tree_of (get_or es n no_entry).binding.term else term_in_force (environment_of (take n (bindings_of es))) x)
-        ≡ tree_of (get_or es i no_entry).binding.term
-    by true g f = ap (λ j. tree_of (get_or es j no_entry).binding.term) place
+        → (innermost_below x es n ≡ i + 1 → term_in_force (environment_of (take n (bindings_of es))) x ≡ bound_tree (get_or es i no_entry).binding.term)
+        → (if t then bound_tree (get_or es n no_entry).binding.term else term_in_force (environment_of (take n (bindings_of es))) x)
+        ≡ bound_tree (get_or es i no_entry).binding.term
+    by true g f = ap (λ j. bound_tree (get_or es j no_entry).binding.term) place
       where
         place : n ≡ i
         place = omega (arith, g)
@@ -100,9 +100,9 @@ found-place es heads x place c p h = omega (arith, innermost-under x es (length 
 pub found-some :
     (es : List Entry) (heads : List (VariableName × ℕ)) (bs : List Binding) (x : List ℕ) (place : ℕ) (e : Entry)
     → IsChained es heads → bindings_of es ≡ bs → place ≡ place_in heads x → 0 < place → e ≡ get_or es (place - 1) no_entry
-    → tree_of e.binding.term ≡ term_in_force (environment_of bs) x
+    → bound_tree e.binding.term ≡ term_in_force (environment_of bs) x
 found-some es heads bs x place e c v p h g =
-    ap (λ (f : Entry). tree_of f.binding.term) g
+    ap (λ (f : Entry). bound_tree f.binding.term) g
     ∙ sym (ap (λ cs. term_in_force (environment_of cs) x) (sym v)
     ∙ sym (whole es x) ∙ some-below x es (length es) (place - 1) (omega arith) (sym (c.innermost x) ∙ sym p ∙ one))
   where

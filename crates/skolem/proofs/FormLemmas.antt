@@ -9,7 +9,8 @@ use Rattle.tptp_tree.specs.Term.{TermTrees}
 use Rattle.tptp_tree.specs.Formula.{predicate, formulas_of}
 use Rattle.fol_base.specs.Tree.{Tree, variable, application, true_tree, trees_of, tree_variables, trees_variables}
 use Rattle.fol_base.specs.Term.{tree_of}
-use Rattle.fol_base.specs.declared.term.Term.{Term}
+use Rattle.skolem.specs.declared.bound_term.BoundTerm.{BoundTerm}
+use Rattle.skolem.specs.BoundTerm.{bound_tree}
 use Rattle.signature.specs.declared.symbol.Symbol.{Symbol}
 use Rattle.signature.specs.Symbol.{predicate_symbol, has_symbol, number_of}
 use Rattle.signature.specs.Occurrences.{terms_count, formula_symbols, formulas_symbols}
@@ -23,6 +24,7 @@ use Rattle.skolem.specs.Matrix.{MatrixTree, literal, MatrixTrees, no_matrices, m
 use Rattle.skolem.specs.Skolemized.{Skolemized, SkolemizedList, skolemized, skolemized_list, numbers_after, AreKnown}
 use Rattle.skolem.specs.Progress.{environment_of, variable_term, made_of, scope_of_progress, skolem_step, skolem_steps, occurring_in}
 use Rattle.skolem.proofs.ListLemmas.{added, all-parts}
+use Rattle.skolem.proofs.BoundTermLemmas.{variables-of}
 use Rattle.skolem.proofs.BindingsLemmas.{environment-last}
 use Rattle.skolem.proofs.OccurringLemmas.{is_in, in-some, turned}
 
@@ -51,8 +53,8 @@ pub variables-done :
 variables-done names i p all h m = ap (λ xs. with_variables xs (environment_of p.bindings) (made_of p)) (sym (drop-end names i h)) ∙ m
 
 pub scope-step :
-    (known : List Symbol) (x : List ℕ) (p q : Progress) (arguments : List ℕ) (t : Term) (symbol arity : ℕ)
-    → symbol ≡ length known + length p.arities.items → arity ≡ length arguments → tree_of t ≡ applied symbol arguments
+    (known : List Symbol) (x : List ℕ) (p q : Progress) (arguments : List ℕ) (t : BoundTerm) (symbol arity : ℕ)
+    → symbol ≡ length known + length p.arities.items → arity ≡ length arguments → bound_tree t ≡ applied symbol arguments
     → q.bindings ≡ p.bindings ++ record { name = x; term = t } ∷ []
     → q.variables ≡ p.variables → q.arities.items ≡ p.arities.items ++ arity ∷ []
     → scope_of_progress q ≡ skolem_step (numbers_after known) arguments x (scope_of_progress p)
@@ -123,10 +125,6 @@ any-filtered p ns v h =
     and-true : (t : Bool) → (t && true) ≡ t
     and-true true = refl
     and-true false = refl
-
-variables-of : (vs : List ℕ) → trees_variables (trees_of (map variable vs)) ≡ vs
-variables-of [] = refl
-variables-of (v ∷ vs) = ap (λ ws. v ∷ ws) (variables-of vs)
 
 -- A name that is bound to the symbol applied to the arguments adds no variable to them.
 adds-none :

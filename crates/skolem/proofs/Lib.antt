@@ -1,4 +1,5 @@
 pub mod ListLemmas
+pub mod BoundTermLemmas
 pub mod BindingsLemmas
 pub mod OccurringLemmas
 pub mod OrderLemmas

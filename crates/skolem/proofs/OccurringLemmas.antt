@@ -10,7 +10,6 @@ use Rattle.tptp_tree.specs.Formula.{exists_some, FormulaTree, truth, falsity, pr
 use Rattle.tptp_tree.specs.Shape.{term_of}
 use Rattle.tptp_tree.specs.declared.term.TreeTerm.{TreeTerm}
 use Rattle.fol_base.specs.Tree.{tree_variables, true_tree}
-use Rattle.fol_base.specs.Term.{tree_of}
 use Rattle.fol_base.specs.Canonical.{numbers_from}
 use Rattle.fol_base.proofs.TestLemmas.{list_any-agree}
 use Rattle.signature.specs.Environment.{Environment, term_names, terms_names, free_names, all_free_names, without_names, term_in_force}
@@ -19,6 +18,7 @@ use Rattle.signature.proofs.OccurrenceLemmas.{drop-item, drop-end}
 use Rattle.formula_nnf.specs.declared.form.Nnf.{Nnf}
 use Rattle.formula_nnf.specs.Shape.{nnf_tree}
 use Rattle.skolem.specs.declared.bindings.Binding.{Binding}
+use Rattle.skolem.specs.BoundTerm.{bound_tree}
 use Rattle.skolem.specs.Progress.{environment_of, occurring_in, with_closed, occurring, all_occurring}
 use Rattle.skolem.proofs.ListLemmas.{added}
 use Rattle.skolem.proofs.BindingsLemmas.{environment-last}
@@ -82,7 +82,7 @@ form-item-is fs i f h e = omega (arith, form-item fs i f h, ap (λ g. formula_si
 
 pub closed-then :
     (names : List (List ℕ)) (i : ℕ) (x : List ℕ) (b : Binding) (bs new : List Binding) (all : Environment)
-    → i < length names → x ≡ get_or names i x → tree_of b.term ≡ true_tree → b.name ≡ x → new ≡ bs ++ b ∷ []
+    → i < length names → x ≡ get_or names i x → bound_tree b.term ≡ true_tree → b.name ≡ x → new ≡ bs ++ b ∷ []
     → with_closed (drop i names) (environment_of bs) ≡ all
     → with_closed (drop (i + 1) names) (environment_of new) ≡ all
 closed-then names i x b bs new all h e t n a m =

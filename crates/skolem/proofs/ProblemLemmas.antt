@@ -10,16 +10,16 @@ use Rattle.tptp_tree.specs.Term.{TermTree, variable as named_variable, applicati
 use Rattle.tptp_tree.specs.Formula.{implies, implied, equivalent, different, nor, nand, FormulaTree, truth, falsity, predicate, equation, negation, conjunction, disjunction, connected, quantified, FormulaTrees, no_formulas, formula_then}
 use Rattle.fol_base.specs.Tree.{application, tree_then}
 use Rattle.signature.specs.declared.symbol.Symbol.{Symbol}
-use Rattle.signature.specs.Symbol.{predicate_symbol, function_symbol, same_symbol, has_symbol}
+use Rattle.signature.specs.Symbol.{is_named, predicate_symbol, function_symbol, same_symbol, has_symbol}
 use Rattle.signature.specs.Occurrences.{terms_count, term_symbols, terms_symbols, formula_symbols, formulas_symbols}
 use Rattle.signature.specs.Environment.{Environment, free_names, without_names, term_under, terms_under}
 use Rattle.signature.specs.Prefix.{fresh_prefix_of, some_begins_with}
 use Rattle.signature.specs.Clausal.{SymbolNumbers, Made, Scope, atom_literal, applied, skolem_arguments, with_variables, with_skolem_terms, scope_of, makes_variables, begun}
-use Rattle.signature.specs.Form.{nothing_made, numbered_symbols}
+use Rattle.signature.specs.Form.{AreUnused, nothing_made, numbered_symbols}
 use Rattle.signature.proofs.PrefixLemmas.{prefix_is_least}
 use Rattle.formula_nnf.specs.NormalForm.{list_form, pair_form, normal_form, normal_forms}
 use Rattle.skolem.specs.Matrix.{literal, conjunction as all_of, disjunction as some_of, matrix_then, negated}
-use Rattle.skolem.specs.Skolemized.{Skolemized, SkolemizedList, skolemized, skolemized_list, numbers_after, skolemized_form, AreKnown, AreUnused, is_named}
+use Rattle.skolem.specs.Skolemized.{Skolemized, SkolemizedList, skolemized, skolemized_list, numbers_after, skolemized_form, AreKnown}
 use Rattle.skolem.specs.MatrixClauses.{matrix_clauses}
 use Rattle.skolem.specs.ProblemLaws.{MatrixOfFormIsThatInProblem, ClausesInProblemAreThoseOfMatrix, NormalFormKeepsKnownSymbols, SkolemSymbolsAreNumberedOn, LaterNamesAreUnused}
 use Rattle.skolem.proofs.ListLemmas.{all-parts}

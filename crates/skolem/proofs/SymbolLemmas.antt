@@ -1,37 +1,15 @@
 -- Skolem symbols are new.
-use Rattle.std.proofs.Common.{◌≡◌, ℕ, zero, suc, ◌+◌, ◌<◌, ◌≤◌, ◌^◌, Bool, true, false, ◌&&◌, ◌||◌, ◌==◌, List, [], ◌∷◌, ◌++◌, length, take, drop, get_or, subst, refl, ap, sym, ◌∙◌, arith, append-nil}
-use mathlib.Core.Bool.{beq}
+use Rattle.std.proofs.Common.{◌≡◌, ℕ, zero, suc, ◌+◌, ◌<◌, ◌≤◌, ◌^◌, Bool, true, false, List, [], ◌∷◌, ◌++◌, length, take, drop, get_or, subst, refl, ap, sym, ◌∙◌, arith, append-nil}
 use Rattle.std.specs.Prelude.{bytes_eq, slice_get, Some}
 use Rattle.std.specs.List.{list_any}
 use Rattle.std.specs.Fmt.{decimal}
 use Rattle.std.proofs.lemmas.Fmt.{decimal_injective}
 use Rattle.std.proofs.lemmas.Slice.Eq.{bytes_eq-Decides}
 use Rattle.signature.specs.declared.symbol.Symbol.{Symbol}
-use Rattle.signature.specs.Symbol.{is_predicate_kind, function_symbol, true_symbol, same_symbol, has_symbol, IsSignature}
-use Rattle.signature.specs.Form.{numbered_symbols}
+use Rattle.signature.specs.Symbol.{is_named, function_symbol, true_symbol, IsSignature}
+use Rattle.signature.specs.Form.{AreUnused, numbered_symbols}
 use Rattle.signature.proofs.OccurrenceLemmas.{drop-item, drop-end}
-use Rattle.skolem.specs.Skolemized.{is_named, AreUnused}
 use Rattle.skolem.proofs.ListLemmas.{added, any-last, take-kept, length-last}
-
-and-false : (t : Bool) → (t && false) ≡ false
-and-false true = refl
-and-false false = refl
-
-other-name : (s t : Symbol) → bytes_eq s.name t.name ≡ false → same_symbol s t ≡ false
-other-name s t h =
-    ap (λ u. beq (is_predicate_kind s.kind) (is_predicate_kind t.kind) && (u && s.arity == t.arity)) h
-    ∙ and-false (beq (is_predicate_kind s.kind) (is_predicate_kind t.kind))
-
--- a symbol whose name no other has
-pub new-symbol : (known : List Symbol) (s : Symbol) → list_any (is_named s.name) known ≡ false → has_symbol s known ≡ false
-new-symbol [] s h = refl
-new-symbol (k ∷ known) s h = by (bytes_eq s.name k.name) refl h (new-symbol known s)
-  where
-    by :
-        (t : Bool) → bytes_eq s.name k.name ≡ t → (t || list_any (is_named s.name) known) ≡ false
-        → (list_any (is_named s.name) known ≡ false → has_symbol s known ≡ false) → has_symbol s (k ∷ known) ≡ false
-    by true e g f = cc
-    by false e g f = ap (λ u. u || has_symbol s known) (other-name s k e) ∙ f g
 
 prefix-off : (prefix xs ys : List ℕ) → prefix ++ xs ≡ prefix ++ ys → xs ≡ ys
 prefix-off [] xs ys h = h

@@ -2,13 +2,13 @@
 use Rattle.std.specs.Prelude.{◌≡◌, ℕ, zero, suc, ◌<◌, List, [], length, map, get_or, bytes_eq, if◌then◌else◌}
 use Rattle.std.specs.Option.{unwrap_or}
 use Rattle.std.specs.Map.{lookup}
-use Rattle.fol_base.specs.declared.term.Term.TheVariants.{Var}
 use Rattle.skolem.specs.declared.name.VariableName.{VariableName}
+use Rattle.skolem.specs.declared.bound_term.BoundTerm.TheVariants.{Closed}
 use Rattle.skolem.specs.declared.bindings.Binding.{Binding}
 use Rattle.skolem.specs.declared.bindings.Entry.{Entry}
 
 abbrev pub no_entry : Entry
-no_entry = record { binding = record { name = []; term = Var 0 }; hidden = 0 }
+no_entry = record { binding = record { name = []; term = Closed }; hidden = 0 }
 
 abbrev pub name_at : List Entry → ℕ → List ℕ
 name_at es i = (get_or es i no_entry).binding.name

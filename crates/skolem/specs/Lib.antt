@@ -5,6 +5,7 @@ pub mod Falls
 pub mod Skolemized
 pub mod MatrixClauses
 pub mod Name
+pub mod BoundTerm
 pub mod Bindings
 pub mod Progress
 pub mod Examples

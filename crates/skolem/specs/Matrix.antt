@@ -38,7 +38,7 @@ abbrev mutual
   matrices_size no_matrices = 0
   matrices_size (matrix_then m ms) = matrix_size m + matrices_size ms
 
--- the negation of a literal
+-- The negation of a literal, and of a truth value. Nothing else stands under a negation; lists stay as they are.
 abbrev pub negated : MatrixTree → MatrixTree
 negated truth = falsity
 negated falsity = truth

@@ -6,9 +6,9 @@ use Rattle.signature.specs.Symbol.{function_symbol}
 use Rattle.signature.specs.Occurrences.{formula_symbols}
 use Rattle.signature.specs.Prefix.{fresh_prefix_of}
 use Rattle.signature.specs.Clausal.{SymbolNumbers, Made, clauses_of, begun}
-use Rattle.signature.specs.Form.{numbered_symbols}
+use Rattle.signature.specs.Form.{AreUnused, numbered_symbols}
 use Rattle.formula_nnf.specs.NormalForm.{normal_form}
-use Rattle.skolem.specs.Skolemized.{Skolemized, skolemized, skolemized_form, skolemized_symbols, AreKnown, AreUnused}
+use Rattle.skolem.specs.Skolemized.{Skolemized, skolemized, skolemized_form, skolemized_symbols, AreKnown}
 use Rattle.skolem.specs.MatrixClauses.{matrix_clauses}
 
 -- What was made in a problem after a form: the Skolem symbols of the form come after those that were made before it, and no name is made

@@ -2,24 +2,24 @@
 use Rattle.std.specs.Prelude.{ℕ, ◌+◌, List, [], ◌∷◌, ◌++◌, length, flat_map}
 use Rattle.tptp_tree.specs.Formula.{FormulaTree, truth, falsity, predicate, equation, negation, conjunction, disjunction, connected, quantified, FormulaTrees, no_formulas, formula_then}
 use Rattle.fol_base.specs.Tree.{tree_variables, true_tree}
-use Rattle.fol_base.specs.Term.{tree_of}
-use Rattle.fol_base.specs.declared.term.Term.{Term}
-use Rattle.fol_base.specs.declared.term.Term.TheVariants.{Var}
 use Rattle.signature.specs.Environment.{Environment, term_names, terms_names, term_in_force}
 use Rattle.signature.specs.Clausal.{SymbolNumbers, Made, Scope, applied}
+use Rattle.skolem.specs.declared.bound_term.BoundTerm.{BoundTerm}
+use Rattle.skolem.specs.declared.bound_term.BoundTerm.TheVariants.{Var}
 use Rattle.skolem.specs.declared.bindings.Binding.{Binding}
 use Rattle.skolem.specs.declared.progress.Progress.{Progress}
+use Rattle.skolem.specs.BoundTerm.{bound_tree}
 
 -- the last binding is the innermost
 abbrev pub environment_of : List Binding → Environment
 environment_of [] = []
-environment_of (b ∷ bs) = environment_of bs ++ (b.name, tree_of b.term) ∷ []
+environment_of (b ∷ bs) = environment_of bs ++ (b.name, bound_tree b.term) ∷ []
 
 -- the variables in the terms of names
 abbrev pub occurring_in : Environment → List (List ℕ) → List ℕ
 occurring_in env xs = flat_map (λ x. tree_variables (term_in_force env x)) xs
 
-abbrev pub variable_term : ℕ → Term
+abbrev pub variable_term : ℕ → BoundTerm
 variable_term v = Var v
 
 -- no names are made here

@@ -1,5 +1,5 @@
 -- The matrix of a normal form: its quantifiers go, and for their variables stand new variables and Skolem terms.
-use Rattle.std.specs.Prelude.{ℕ, ◌≤◌, ◌<◌, ◌^◌, Bool, true, List, [], ◌++◌, length, bytes_eq, IsTrue, IsFalse}
+use Rattle.std.specs.Prelude.{ℕ, Bool, true, List, [], ◌++◌, length, IsTrue}
 use Rattle.std.specs.List.{list_any, list_all}
 use Rattle.std.specs.Fmt.{decimal}
 use Rattle.tptp_tree.specs.Formula.{FormulaTree, truth, falsity, predicate, equation, negation, conjunction, disjunction, connected, quantified, FormulaTrees, no_formulas, formula_then}
@@ -22,8 +22,8 @@ pub record SkolemizedList : Type 0 where
   pub matrices : MatrixTrees
   pub made : Made
 
--- The matrix of a formula in negation normal form. Negation stands before predicates alone, and there is no other connective; of one the
--- matrix is `$true`.
+-- The matrix of a formula in negation normal form. Negation stands before predicates alone, and there is no other connective; where one
+-- stands, the matrix is `$true`, which says nothing.
 abbrev mutual
   pub skolemized : SymbolNumbers → FormulaTree → Environment → Made → Skolemized
   skolemized n truth env m = record { matrix = true_matrix; made = m }
@@ -79,10 +79,3 @@ IsKnown known s = IsTrue (has_symbol s known)
 
 abbrev pub AreKnown : List Symbol → List Symbol → Type 0
 AreKnown known symbols = IsTrue (list_all (λ s. has_symbol s known) symbols)
-
-abbrev pub is_named : List ℕ → Symbol → Bool
-is_named name s = bytes_eq name s.name
-
--- no symbol's name is the prefix followed by a number from that one on
-abbrev pub AreUnused : List Symbol → List ℕ → ℕ → Type 0
-AreUnused known prefix next = (k : ℕ) → next ≤ k → k < 2 ^ 32 → IsFalse (list_any (is_named (prefix ++ decimal k)) known)

@@ -3,14 +3,14 @@
 ghost use Rattle.std.specs.Prelude.{◌≡◌, ◌<◌, ◌-◌, ◌++◌, ◌∷◌, [], length, take, get_or, IfOk};
 ghost use Rattle.std.specs.Option.{option_map, unwrap_or};
 ghost use Rattle.fol_base.specs.Tree.{variable};
-ghost use Rattle.fol_base.specs.Term.{tree_of};
 ghost use Rattle.signature.specs.Environment.{term_in_force};
 ghost use Rattle.skolem.specs.declared.bindings.Entry.{Entry};
+ghost use Rattle.skolem.specs.BoundTerm.{bound_tree};
 ghost use Rattle.skolem.specs.Bindings.{place_in};
 ghost use Rattle.skolem.specs.Progress.{environment_of};
 
+use crate::bound_term::BoundTerm;
 use crate::name::{VariableName, VariableRef};
-use fol_base::Term;
 use indexmap::IndexMap;
 use plain_types::{Mem, Text};
 use std::alloc::Global;
@@ -19,11 +19,11 @@ use std::marker::Model;
 /// What a name without a variable in force stands for. A form without free variables has none.
 pub(crate) const NO_VARIABLE_IN_FORCE: u32 = 0;
 
-/// A variable in force, and the term that stands for it.
+/// A variable in force, and the term to which it is bound.
 #[derive(Drop)]
 pub(crate) struct Binding {
     pub name: Text,
-    pub term: Term,
+    pub term: BoundTerm,
 }
 
 /// A binding, with one more than the place of the binding of its name that it hides, or 0.
@@ -77,8 +77,8 @@ impl Bindings {
     }
 
     /// The term of the innermost variable of that name; none where there is no such variable.
-    pub(crate) fn find(&self, name: &Text) -> Option<&Term>
-        ensures { unwrap_or (option_map (λ term. tree_of term.now) result) (variable 0) ≡ term_in_force (environment_of self.now) name.now }
+    pub(crate) fn find(&self, name: &Text) -> Option<&BoundTerm>
+        ensures { unwrap_or (option_map (λ term. bound_tree term.now) result) (variable 0) ≡ term_in_force (environment_of self.now) name.now }
     {
         let place = place_of(&self.innermost, name);
         if place == 0 {
@@ -89,7 +89,7 @@ impl Bindings {
     }
 
     /// Adds a binding, the innermost.
-    pub(crate) fn push(&mut self, alloc: Global, name: &Text, term: Term) -> Mem<()>
+    pub(crate) fn push(&mut self, alloc: Global, name: &Text, term: BoundTerm) -> Mem<()>
         ensures { IfOk result (λ _. self.new ≡ self.old ++ record { name = name.now; term = term } ∷ []) }
     {
         let key = VariableName {

@@ -10,18 +10,21 @@ ghost use Rattle.signature.specs.Clausal.{with_variables, with_skolem_terms};
 ghost use Rattle.formula_nnf.specs.Shape.{nnf_tree, signed};
 ghost use Rattle.skolem.specs.Matrix.{matrices_of};
 ghost use Rattle.skolem.specs.Shape.{matrix_tree};
-ghost use Rattle.skolem.specs.Skolemized.{skolemized, skolemized_list, numbers_after, skolemized_form, skolemized_symbols, AreKnown, AreUnused};
+ghost use Rattle.signature.specs.Form.{AreUnused};
+ghost use Rattle.skolem.specs.Skolemized.{skolemized, skolemized_list, numbers_after, skolemized_form, skolemized_symbols, AreKnown};
 ghost use Rattle.skolem.specs.Progress.{environment_of, made_of, scope_of_progress, skolem_step, skolem_steps};
 
+use crate::bound_term::BoundTerm;
 use crate::matrix::{Matrices, Matrix};
 use crate::progress::Progress;
 use crate::symbols::add_symbols;
-use crate::terms::{applied, number_in, term_under, terms_under};
+use crate::terms::{number_in, term_under, terms_under};
 use fol_base::{Literal, Term};
 use formula_nnf::{Nnf, NnfBox};
 use plain_types::{Mem, NoMemory, Text};
 use signature::{Signature, SymbolKind};
 use std::alloc::Global;
+use std::rc::Rc;
 use tptp_tree::{TreeTerm, TreeTerms};
 
 /// The matrix of a normal form without free variables, and the number after the last of its Skolem symbols. These come after the symbols
@@ -195,8 +198,9 @@ fn bind_skolem_terms(
     ensures bindings { IfOk result (λ _.
         take (length progress.old.bindings) progress.new.bindings ≡ progress.old.bindings) }
 {
-    let arguments = progress.arguments(alloc, names, body)?;
-    bind_applied(alloc, signature, names, arguments.as_slice(), progress)
+    let found = progress.arguments(alloc, names, body)?;
+    let arguments = Rc::new(alloc, found)?;
+    bind_applied(alloc, signature, names, &arguments, progress)
 }
 
 /// Each name is bound to the next Skolem symbol, applied to those variables.
@@ -204,11 +208,11 @@ fn bind_applied(
     alloc: Global,
     signature: &Signature,
     names: &[Text],
-    arguments: &[u32],
+    arguments: &Rc<Vec<u32>>,
     progress: &mut Progress,
 ) -> Mem<()>
     ensures scope { IfOk result (λ _. scope_of_progress progress.new
-        ≡ skolem_steps (numbers_after signature.now) arguments.now names.now (scope_of_progress progress.old)) }
+        ≡ skolem_steps (numbers_after signature.now) arguments.now.value.items names.now (scope_of_progress progress.old)) }
     ensures bindings { IfOk result (λ _.
         take (length progress.old.bindings) progress.new.bindings ≡ progress.old.bindings) }
 {
@@ -222,19 +226,22 @@ fn bind_applied(
 fn bind_skolem_term(
     alloc: Global,
     signature: &Signature,
-    arguments: &[u32],
+    arguments: &Rc<Vec<u32>>,
     name: &Text,
     progress: &mut Progress,
 ) -> Mem<()>
     ensures scope { IfOk result (λ _.
-        scope_of_progress progress.new ≡ skolem_step (numbers_after signature.now) arguments.now name.now (scope_of_progress progress.old)) }
+        scope_of_progress progress.new ≡ skolem_step (numbers_after signature.now) arguments.now.value.items name.now (scope_of_progress progress.old)) }
     ensures bindings { IfOk result (λ _.
         take (length progress.old.bindings) progress.new.bindings ≡ progress.old.bindings) }
 {
     let made = progress.arities.as_slice();
     let symbol = next_symbol(signature, made.len())?;
-    let arity = arity_of(arguments.len())?;
-    let term = applied(alloc, symbol, arguments)?;
+    let arity = arity_of(arguments.as_slice().len())?;
+    let term = BoundTerm::Skolem {
+        symbol,
+        arguments: arguments.clone()?,
+    };
     progress.bind_term(alloc, name, term, arity)?;
     Ok(())
 }

@@ -1,4 +1,4 @@
-// Worked examples of the definitions: each is the contract of a function with an empty body.
+// Laws and worked examples of the definitions: each is the contract of a function with an empty body.
 
 ghost use Rattle.std.specs.Prelude.{◌≡◌, [], ◌∷◌, codes, true};
 ghost use Rattle.tptp_tree.specs.Formula.{for_all, exists_some, quantified, conjunction as formula_conjunction, disjunction as formula_disjunction, formula_then, no_formulas};

@@ -2,6 +2,7 @@
 #![tactic(auto)]
 
 mod bindings;
+mod bound_term;
 mod forms;
 pub mod laws;
 mod matrix;
@@ -16,6 +17,3 @@ pub use matrix::{Matrices, Matrix};
 pub use name::{VariableName, VariableRef};
 pub use progress::made_in_order;
 pub use terms::applied;
-
-#[cfg(test)]
-mod tests;

@@ -60,6 +60,13 @@ impl Matrices {
         }
     }
 
+    /// The vector of the list's matrices. It takes no memory.
+    pub fn into_vec(self) -> Vec<Matrix>
+        ensures { map matrix_tree result.items ≡ self }
+    {
+        self.items
+    }
+
     /// The matrices, lent.
     pub fn as_slice(&self) -> &[Matrix]
         ensures { map matrix_tree result.now ≡ self.now }

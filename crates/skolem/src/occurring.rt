@@ -10,7 +10,7 @@ ghost use Rattle.formula_nnf.specs.Shape.{nnf_tree};
 ghost use Rattle.skolem.specs.Progress.{environment_of, occurring_in, with_closed, occurring, all_occurring};
 
 use crate::bindings::{Bindings, NO_VARIABLE_IN_FORCE};
-use fol_base::{Term, push_variables};
+use crate::bound_term::BoundTerm;
 use formula_nnf::{Nnf, NnfBox};
 use plain_types::{Mem, Text};
 use std::alloc::Global;
@@ -87,7 +87,7 @@ fn close_names(alloc: Global, names: &[Text], bindings: &mut Bindings) -> Mem<()
     ensures before { IfOk result (λ _. take (length bindings.old) bindings.new ≡ bindings.old) }
 {
     for name in names {
-        bindings.push(alloc, name, Term::truth(alloc))?;
+        bindings.push(alloc, name, BoundTerm::Closed)?;
     }
     Ok(())
 }
@@ -122,7 +122,7 @@ fn push_of_name(name: &Text, bindings: &Bindings, found: &mut Vec<u32>) -> Mem<(
         ≡ found.old.items ++ tree_variables (term_in_force (environment_of bindings.now) name.now)) }
 {
     match bindings.find(name) {
-        Some(term) => push_variables(term, found),
+        Some(term) => term.push_variables(found),
         None => Ok(found.push(NO_VARIABLE_IN_FORCE)?),
     }
 }

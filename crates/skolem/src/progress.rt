@@ -9,6 +9,7 @@ ghost use Rattle.signature.specs.Form.{nothing_made};
 ghost use Rattle.skolem.specs.Progress.{environment_of, variable_term, made_of};
 
 use crate::bindings::{Bindings, NO_VARIABLE_IN_FORCE};
+use crate::bound_term::BoundTerm;
 use crate::occurring::push_occurring_under;
 use fol_base::Term;
 use formula_nnf::NnfBox;
@@ -41,7 +42,7 @@ impl Progress {
         ensures { IfOk result (λ term. tree_of term ≡ term_in_force (environment_of self.now.bindings) name.now) }
     {
         match self.bindings.find(name) {
-            Some(term) => Ok(term.copy(alloc)?),
+            Some(term) => term.to_term(alloc),
             None => Ok(Term::Var(NO_VARIABLE_IN_FORCE)),
         }
     }
@@ -54,7 +55,8 @@ impl Progress {
         ensures arities { self.new.arities.items ≡ self.old.arities.items }
     {
         let next = self.variables.checked_add(1).ok_or(NoMemory)?;
-        self.bindings.push(alloc, name, Term::Var(self.variables))?;
+        self.bindings
+            .push(alloc, name, BoundTerm::Var(self.variables))?;
         self.variables = next;
         Ok(())
     }
@@ -64,7 +66,7 @@ impl Progress {
         &mut self,
         alloc: Global,
         name: &Text,
-        term: Term,
+        term: BoundTerm,
         arity: u32,
     ) -> Mem<()>
         ensures bindings { IfOk result (λ _. self.new.bindings

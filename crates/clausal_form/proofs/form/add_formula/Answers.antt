@@ -16,11 +16,11 @@ returns-in-Err-clause-refused c n m h k =
     refusal-so n c.args.annotated.now m c.args.form.now.counted c.in-Err.cause c.refused-in-Err.result
     (fault-so n c.args.annotated.now m _ _ _ c.in_ok-part.part.measure c.named_matrix.new.naming.measure c.in_ok-measure.measure
     (written (matrix_tree c.in_ok-part.part.matrix)) (defining_clauses c.named_matrix.new.naming)
-    c.args.form.now.counted c.in_ok-matrix.next c.args.form.now.next c.expanded.result (Some c.in-Err.cause)
+    c.args.form.now.counted c.in_ok-matrix.next c.args.form.now.next (Some c.in-Err.cause)
     (named-formula n c.args.annotated.now c.args.prefix.now m c.args.form.now _ c.forget_definitions.new.naming c.named_matrix.new.naming _ _ h k c.in_ok-matrix.ensures.matrix
     c.forget_definitions.ensures.arities c.forget_definitions.ensures.first c.forget_definitions.ensures.definitions c.in_ok-part.ensures.work)
     refl c.in_ok-part.ensures.work.measured c.in_ok-part.ensures.work.defining c.in_ok-measure.ensures
-    h.next c.in_ok-matrix.ensures.number c.expanded.ensures c.if-expanded-gt-MOST_EXPANDED.false c.in-Err.ensures.beyond)
+    h.next c.in_ok-matrix.ensures.number (sym c.if-expands_too_far.ensures) c.in-Err.ensures.beyond)
     c.refused-in-Err.ensures
 
 pub returns-clause-step : goal.returns-clause-step
@@ -49,7 +49,7 @@ returns-clause-step c n m h k =
           c.in_ok-measure.ensures c.in-Ok.ensures.within c.in-Ok.ensures.total;
       within =
           fault-so n c.args.annotated.now m _ _ _ c.in_ok-part.part.measure c.named_matrix.new.naming.measure c.in_ok-measure.measure part defining
-          c.args.form.now.counted c.in_ok-matrix.next c.args.form.now.next c.expanded.result None
+          c.args.form.now.counted c.in_ok-matrix.next c.args.form.now.next None
           named refl c.in_ok-part.ensures.work.measured c.in_ok-part.ensures.work.defining c.in_ok-measure.ensures
-          h.next c.in_ok-matrix.ensures.number c.expanded.ensures c.if-expanded-gt-MOST_EXPANDED.false c.in-Ok.ensures.within;
+          h.next c.in_ok-matrix.ensures.number (sym c.if-expands_too_far.ensures) c.in-Ok.ensures.within;
     }

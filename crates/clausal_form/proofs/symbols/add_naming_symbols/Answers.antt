@@ -8,4 +8,4 @@ loop-arity-preserved c =
     names-then c.loop-arity.signature _ _ c.args.prefix.now c.loop-arity.number _ c.args.arities.now
     c.loop-arity.arity-index (get_or c.args.arities.now c.loop-arity.arity-index 0) c.loop-arity-test.true
     (same-item c.args.arities.now c.loop-arity.arity-index 0 _ c.loop-arity-test.true)
-    c.in_ok-push_symbol.ensures c.in_ok-number.ensures c.loop-arity.invariant
+    c.in_ok-add_numbered.ensures.added c.in_ok-number.ensures c.loop-arity.invariant

@@ -1,7 +1,6 @@
 use Rattle.std.proofs.Common.{◌≡◌, ◌++◌, drop}
 use Rattle.signature.specs.Symbol.{predicate_symbol}
-use Rattle.signature.specs.Form.{numbered_symbols}
-use Rattle.skolem.specs.Skolemized.{AreUnused}
+use Rattle.signature.specs.Form.{AreUnused, numbered_symbols}
 use Rattle.clausal_form.specs.Symbols.{with_names}
 use Rattle.clausal_form.proofs.symbols.add_naming_symbols.Given as goal
 

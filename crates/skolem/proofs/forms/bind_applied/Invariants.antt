@@ -5,7 +5,7 @@ use Rattle.skolem.proofs.forms.bind_applied.Given as goal
 
 abbrev pub invariant-loop-name : goal.invariant-loop-name
 invariant-loop-name l =
-    (skolem_steps (numbers_after l.signature) l.arguments (drop l.name-index l.names) (scope_of_progress l.progress)
-    ≡ skolem_steps (numbers_after l.signature) l.arguments l.names (scope_of_progress l.initial.progress))
+    (skolem_steps (numbers_after l.signature) l.arguments.value.items (drop l.name-index l.names) (scope_of_progress l.progress)
+    ≡ skolem_steps (numbers_after l.signature) l.arguments.value.items l.names (scope_of_progress l.initial.progress))
     × ((take (length l.initial.progress.bindings) l.progress.bindings ≡ l.initial.progress.bindings)
     × (length l.initial.progress.bindings ≤ length l.progress.bindings))

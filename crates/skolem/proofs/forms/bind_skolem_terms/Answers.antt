@@ -1,4 +1,4 @@
-use Rattle.std.proofs.Common.{◌∙◌, ap}
+use Rattle.std.proofs.Common.{ℕ, Vec, Global, ◌∙◌, ap}
 use Rattle.signature.specs.Environment.{free_names}
 use Rattle.skolem.specs.Skolemized.{numbers_after}
 use Rattle.skolem.specs.Progress.{scope_of_progress, skolem_steps}
@@ -10,7 +10,9 @@ pub returns-clause-scope : goal.returns-clause-scope
 returns-clause-scope c =
     if-ok c.bind_applied.result _ _
     (λ u h. terms-bound (numbers_after c.args.signature.now) (free_names c.args.body.now) c.args.names.now c.args.progress.now c.arguments.new.self
-    c.bind_applied.new.progress c.in_ok-arguments.arguments.items
-    c.in_ok-arguments.ensures.found c.in_ok-arguments.ensures.bindings c.in_ok-arguments.ensures.variables c.in_ok-arguments.ensures.arities
-    (h ∙ ap (λ vs. skolem_steps (numbers_after c.args.signature.now) vs c.args.names.now (scope_of_progress c.arguments.new.self)) c.as_slice.ensures.value))
+    c.bind_applied.new.progress c.in_ok-found.found.items
+    c.in_ok-found.ensures.found c.in_ok-found.ensures.bindings c.in_ok-found.ensures.variables c.in_ok-found.ensures.arities
+    (h
+    ∙ ap (λ (v : Vec ℕ Global). skolem_steps (numbers_after c.args.signature.now) v.items c.args.names.now (scope_of_progress c.arguments.new.self))
+    c.in_ok-arguments.ensures.ok))
     c.bind_applied.ensures.scope

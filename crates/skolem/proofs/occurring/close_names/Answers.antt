@@ -1,12 +1,13 @@
 use Rattle.std.proofs.Common.{refl}
+use Rattle.skolem.specs.declared.bound_term.BoundTerm.TheVariants.{Closed}
 use Rattle.skolem.proofs.ListLemmas.{take-kept, longer-kept}
 use Rattle.skolem.proofs.OccurringLemmas.{closed-then}
 use Rattle.skolem.proofs.occurring.close_names.Goals as goal
 
 pub loop-name-preserved : goal.loop-name-preserved
 loop-name-preserved c = (
-  closed-then c.args.names.now c.loop-name.name-index c.name-item.result (record { name = c.name-item.result; term = c.truth.result })
-      c.loop-name.bindings c.push.new.self _ c.loop-name-test.true c.name-item.is c.truth.ensures refl c.in_ok-push.ensures
+  closed-then c.args.names.now c.loop-name.name-index c.name-item.result (record { name = c.name-item.result; term = Closed })
+      c.loop-name.bindings c.push.new.self _ c.loop-name-test.true c.name-item.is refl refl c.in_ok-push.ensures
       c.loop-name.invariant.0,
   (
     take-kept c.args.bindings.now c.loop-name.bindings _ _ c.loop-name.invariant.1.0 c.in_ok-push.ensures c.loop-name.invariant.1.1,

@@ -1,7 +1,6 @@
 use Rattle.std.proofs.Common.{◌≡◌, ◌++◌, ◌+◌, ◌≤◌, length, take, drop}
 use Rattle.signature.specs.Symbol.{function_symbol}
-use Rattle.signature.specs.Form.{numbered_symbols}
-use Rattle.skolem.specs.Skolemized.{AreUnused}
+use Rattle.signature.specs.Form.{AreUnused, numbered_symbols}
 use Rattle.skolem.proofs.symbols.push_symbols.Given as goal
 
 abbrev pub invariant-loop-arity : goal.invariant-loop-arity
