@@ -1,0 +1,4 @@
+pub mod PlaceLemmas
+pub mod ForestLemmas
+pub mod GroupLemmas
+pub mod ComponentLemmas
