@@ -65,7 +65,7 @@ are-apart ls (part ∷ parts) apart =
 
 -- ---- components
 
-same-says : (a b : Bool) → a ≡ b → beq a b ≡ true
+pub same-says : (a b : Bool) → a ≡ b → beq a b ≡ true
 same-says true true e = refl
 same-says true false e = absurd (true≢false e)
 same-says false true e = absurd (true≢false (sym e))

@@ -98,24 +98,48 @@ pub follows-variable :
 follows-variable ls f v i j follows one other =
     follows i j (some-passes (λ w. has_number w (variables_at ls j)) v (variables_at ls i) one other)
 
+-- the variables of literals at places are those of the first, and those of the others
+places-first :
+    (ls : List TreeLiteral) (k : ℕ) (ks : List ℕ)
+    → flat_map literal_variables (literals_at ls (k ∷ ks)) ≡ variables_at ls k ++ flat_map literal_variables (literals_at ls ks)
+places-first ls k ks = by (slice_get ls k)
+  where
+    by :
+        (o : Option TreeLiteral)
+        → flat_map literal_variables (cons_option o (literals_at ls ks))
+        ≡ flat_map literal_variables (cons_option o []) ++ flat_map literal_variables (literals_at ls ks)
+    by None = refl
+    by (Some l) = ap (λ vs. vs ++ flat_map literal_variables (literals_at ls ks)) (sym (append-nil (literal_variables l)))
+
+places-cases :
+    (ls : List TreeLiteral) (v k : ℕ) (ks : List ℕ)
+    → has_number v (flat_map literal_variables (literals_at ls (k ∷ ks)))
+    ≡ (has_number v (variables_at ls k) || has_number v (flat_map literal_variables (literals_at ls ks)))
+places-cases ls v k ks =
+    ap (has_number v) (places-first ls k ks) ∙ list_any-append (λ w. v == w) (variables_at ls k) (flat_map literal_variables (literals_at ls ks))
+
 -- a variable of literals at places is one of the literal at some of them
 pub has-at_places :
     (ls : List TreeLiteral) (v : ℕ) (ks : List ℕ)
     → has_number v (flat_map literal_variables (literals_at ls ks)) ≡ true → (i : ℕ) × ((has_number i ks ≡ true) × (has_number v (variables_at ls i) ≡ true))
 has-at_places ls v [] h = absurd (true≢false (sym h))
-has-at_places ls v (k ∷ ks) h = by (λ there. has-at_places ls v ks there) (slice_get ls k) refl
-  where
-    by :
-        (rest :
-        has_number v (flat_map literal_variables (literals_at ls ks)) ≡ true
-        → (i : ℕ) × ((has_number i ks ≡ true) × (has_number v (variables_at ls i) ≡ true)))
-        (o : Option TreeLiteral) → slice_get ls k ≡ o → (i : ℕ) × ((has_number i (k ∷ ks) ≡ true) × (has_number v (variables_at ls i) ≡ true))
-    by rest None e =
-        let later = rest (ap (λ (o : Option TreeLiteral). has_number v (flat_map literal_variables (cons_option o (literals_at ls ks)))) (sym e) ∙ h) in (later.0, (or_right (later.0 == k) (has_number later.0 ks) later.1.0, later.1.1))
-    by rest (Some l) e =
-        ⊎_elim
-        (λ first. (k, (or_left (k == k) (has_number k ks) (eq-eqb k k refl), ap (has_number v) (variables_at-there ls k l e) ∙ first)))
-        (λ there. let later = rest there in (later.0, (or_right (later.0 == k) (has_number later.0 ks) later.1.0, later.1.1)))
-        (or_cases (has_number v (literal_variables l)) (has_number v (flat_map literal_variables (literals_at ls ks)))
-        (sym (list_any-append (λ w. v == w) (literal_variables l) (flat_map literal_variables (literals_at ls ks)))
-        ∙ (ap (λ (o : Option TreeLiteral). has_number v (flat_map literal_variables (cons_option o (literals_at ls ks)))) (sym e) ∙ h)))
+has-at_places ls v (k ∷ ks) h =
+    ⊎_elim
+    (λ here. (k, (or_left (k == k) (has_number k ks) (eq-eqb k k refl), here)))
+    (λ there. let later = has-at_places ls v ks there in (later.0, (or_right (later.0 == k) (has_number later.0 ks) later.1.0, later.1.1)))
+    (or_cases (has_number v (variables_at ls k)) (has_number v (flat_map literal_variables (literals_at ls ks))) (sym (places-cases ls v k ks) ∙ h))
+
+-- and the other way round
+pub has-in_places :
+    (ls : List TreeLiteral) (v i : ℕ) (ks : List ℕ)
+    → has_number i ks ≡ true → has_number v (variables_at ls i) ≡ true → has_number v (flat_map literal_variables (literals_at ls ks)) ≡ true
+has-in_places ls v i [] h its = absurd (true≢false (sym h))
+has-in_places ls v i (k ∷ ks) h its =
+    places-cases ls v k ks
+    ∙ ⊎_elim
+    (λ here.
+    or_left (has_number v (variables_at ls k)) (has_number v (flat_map literal_variables (literals_at ls ks)))
+    (ap (λ j. has_number v (variables_at ls j)) (sym (eqb-true i k here)) ∙ its))
+    (λ later.
+    or_right (has_number v (variables_at ls k)) (has_number v (flat_map literal_variables (literals_at ls ks))) (has-in_places ls v i ks later its))
+    (or_cases (i == k) (has_number i ks) h)

@@ -2,6 +2,7 @@
 #![tactic(auto)]
 
 mod forest;
+pub mod laws;
 mod parts;
 
 pub use parts::components;
