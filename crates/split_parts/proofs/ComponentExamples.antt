@@ -1,5 +1,5 @@
 -- Components of small clauses.
-use Rattle.std.proofs.Common.{◌≡◌, Bool, true, ◌&&◌, List, [], ◌∷◌, refl, ap, ap₂, ◌∙◌}
+use Rattle.std.proofs.Common.{Bool, true, ◌&&◌, [], ◌∷◌, refl, ap, ap₂, ◌∙◌}
 use Rattle.fol_base.specs.Examples.{x, a, b, p, q, equation}
 use Rattle.split_parts.specs.Components.{IsComponents}
 use Rattle.split_parts.proofs.ComponentLemmas.{same-says}

@@ -1,15 +1,15 @@
 -- That the classes of the literals are the components.
 use mathlib.Core.Bool.{beq}
-use Rattle.std.proofs.Common.{◌≡◌, ℕ, zero, suc, ◌+◌, ◌<◌, ◌≤◌, Bool, true, false, ◌&&◌, ◌||◌, ◌==◌, List, [], ◌∷◌, ◌++◌, length, map, get_or, refl, ap, ap₂, sym, ◌∙◌, ⊎_elim, arith, subst}
-use Rattle.std.specs.Prelude.{not, slice_index, slice_index_or, sum_by, nat_lt, flat_map}
+use Rattle.std.proofs.Common.{◌≡◌, ℕ, zero, suc, ◌<◌, Bool, true, false, ◌==◌, List, [], ◌∷◌, length, map, get_or, refl, ap, sym, ◌∙◌, arith}
+use Rattle.std.specs.Prelude.{not, slice_index, slice_index_or, nat_lt, flat_map}
 use Rattle.std.specs.List.{list_all}
-use Rattle.std.proofs.lemmas.Bool.{and_parts, and_from, lt-ltb, eq-eqb, true≢false, or_left, or_right, false_from_ne_true, not_from_false}
+use Rattle.std.proofs.lemmas.Bool.{and_from, lt-ltb, eq-eqb, true≢false, or_right, false_from_ne_true, not_from_false}
 use Rattle.std.proofs.lemmas.List.Concat.{length-flat_map}
 use Rattle.std.proofs.lemmas.List.Folds.{list_all-map, list_any-append}
 use Rattle.fol_base.specs.Clause.{TreeLiteral, literal_variables}
-use Rattle.kernel_steps.specs.Split.{has_number, has_all_below, is_part, rises_from, share_out, literals_at, share_variable, share_no_variables}
-use Rattle.split_parts.specs.Components.{IsComponents, FollowsVariables, first_places, rise, is_constant_on}
-use Rattle.split_parts.specs.Forest.{IsClass, IsGrouped, IsLinked, variables_at}
+use Rattle.kernel_steps.specs.Split.{has_number, has_all_below, is_part, rises_from, literals_at, share_variable, share_no_variables}
+use Rattle.split_parts.specs.Components.{IsComponents, first_places, rise, is_constant_on}
+use Rattle.split_parts.specs.Forest.{IsGrouped, IsLinked}
 use Rattle.split_parts.proofs.PlaceLemmas.{passing, all-pass, has-at_places, has-more}
 use Rattle.split_parts.proofs.GroupLemmas.{first-in}
 
@@ -82,10 +82,10 @@ grouped-components ls links slots parts is grouped =
     record {
       are_parts = each-passes is_part parts [] (λ p h. (grouped.classes p h).rises);
       shared_out =
-      and_from (length (flat_map (λ ks. ks) parts) == length ls) (has_all_below (length ls) (flat_map (λ ks. ks) parts))
-      (eq-eqb (length (flat_map (λ ks. ks) parts)) (length ls) (length-flat_map (λ ks. ks) parts ∙ grouped.count))
-      (all-below (length ls) (flat_map (λ ks. ks) parts)
-      (λ j h. has-in_parts j parts (slice_index slots j) (grouped.each j h).0 (grouped.each j h).1));
+          and_from (length (flat_map (λ ks. ks) parts) == length ls) (has_all_below (length ls) (flat_map (λ ks. ks) parts))
+          (eq-eqb (length (flat_map (λ ks. ks) parts)) (length ls) (length-flat_map (λ ks. ks) parts ∙ grouped.count))
+          (all-below (length ls) (flat_map (λ ks. ks) parts)
+          (λ j h. has-in_parts j parts (slice_index slots j) (grouped.each j h).0 (grouped.each j h).1));
       apart = are-apart ls parts (λ p q l h. false_from_ne_true (share_variable (literals_at ls (slice_index_or parts p [])) (literals_at ls (slice_index_or parts q []))) (shares_none p q l h));
       in_order = firsts-rise parts (λ p h. (grouped.classes p h).rises) grouped.in_order;
       whole = λ f follows.

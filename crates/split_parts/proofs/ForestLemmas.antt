@@ -1,13 +1,12 @@
 -- Steps of the joining of classes.
-use Rattle.std.proofs.Common.{◌≡◌, ℕ, zero, suc, ◌+◌, ◌<◌, ◌≤◌, min, max, Bool, true, false, ◌==◌, cond, nat_eq, List, [], ◌∷◌, length, map, take, get_or, Option, Some, None, refl, ap, sym, ◌∙◌, ⊎_elim, arith, subst}
+use Rattle.std.proofs.Common.{◌≡◌, ℕ, ◌+◌, ◌<◌, ◌≤◌, min, max, Bool, true, ◌==◌, nat_eq, List, length, get_or, Some, None, refl, ap, sym, ◌∙◌, ⊎_elim, arith}
 use Rattle.std.specs.Prelude.{slice_index, slice_set}
-use Rattle.std.specs.HashMap.{HashMap, get, Updates}
+use Rattle.std.specs.HashMap.{get, Updates}
 use Rattle.std.proofs.lemmas.Bool.{eqb-true, eq-eqb, ne_eqb, cond-true, cond-false, cond_both, cases_eq, cases_lt, cases_Bool, true≢false}
 use Rattle.std.proofs.lemmas.List.{take_all, length-set, get_or-set_same, get_or-set_other}
 use Rattle.std.proofs.lemmas.Option.{same_Some, none-some}
 use Rattle.fol_base.specs.Clause.{TreeLiteral}
 use Rattle.kernel_steps.specs.Split.{has_number}
-use Rattle.split_parts.specs.Components.{FollowsVariables}
 use Rattle.split_parts.specs.Forest.{IsColouring, IsJoined, IsLinked, Table, merged, variables_at}
 use Rattle.split_parts.proofs.PlaceLemmas.{has-taken, has-at, follows-variable, variables_at-within}
 

@@ -1,7 +1,7 @@
 -- Steps of the grouping of places by their classes.
-use Rattle.std.proofs.Common.{◌≡◌, ℕ, zero, suc, ◌+◌, ◌<◌, ◌≤◌, Bool, true, false, ◌&&◌, ◌==◌, List, [], ◌∷◌, ◌++◌, length, get_or, refl, ap, sym, ◌∙◌, ⊎_elim, arith, subst}
-use Rattle.std.specs.Prelude.{slice_index, slice_index_or, slice_set, sum_by, nat_lt}
-use Rattle.std.proofs.lemmas.Bool.{cases_eq, cases_lt, and_parts, and_from, ltb-true, lt-ltb, eq-eqb, true≢false, or_left, or_right}
+use Rattle.std.proofs.Common.{◌≡◌, ℕ, ◌+◌, ◌<◌, ◌≤◌, true, ◌==◌, List, [], ◌∷◌, ◌++◌, length, refl, ap, sym, ◌∙◌, ⊎_elim, arith, subst}
+use Rattle.std.specs.Prelude.{slice_index, slice_index_or, slice_set, nat_lt}
+use Rattle.std.proofs.lemmas.Bool.{cases_eq, cases_lt, and_parts, and_from, lt-ltb, eq-eqb, true≢false, or_left, or_right}
 use Rattle.std.proofs.lemmas.List.{length_push, length-set, get_or_append_left, get_or_push, get_or-set_same, get_or-set_other}
 use Rattle.std.proofs.lemmas.List.Sums.{sum_by-append, sum_by-set}
 use Rattle.kernel_steps.specs.Split.{has_number, is_part, rises_from}
@@ -111,19 +111,21 @@ module _ (colour : ℕ → ℕ) (place : ℕ) (slots : List ℕ) (parts : List (
             ⊎_elim
             (λ below.
             let slot : slice_index (slots ++ length parts ∷ []) j ≡ slice_index slots j = slot-before (length parts) j below in
-            let there = is.each j below in
-            (omega (arith, slot, there.0, length_push parts (place ∷ [])),
-            ap (λ p. has_number j (slice_index_or (parts ++ (place ∷ []) ∷ []) p [])) slot
-            ∙ ap (has_number j) (before (slice_index slots j) there.0)
-            ∙ there.1))
+            let there = is.each j below in (
+              omega (arith, slot, there.0, length_push parts (place ∷ [])),
+              ap (λ p. has_number j (slice_index_or (parts ++ (place ∷ []) ∷ []) p [])) slot
+                  ∙ ap (has_number j) (before (slice_index slots j) there.0)
+                  ∙ there.1,
+            ))
             (λ (past : place ≤ j).
             let same : j ≡ place = omega (arith, past, h) in
-            let slot : slice_index (slots ++ length parts ∷ []) j ≡ length parts = slot-last (length parts) j same in
-            (omega (arith, slot, length_push parts (place ∷ [])),
-            ap (λ p. has_number j (slice_index_or (parts ++ (place ∷ []) ∷ []) p [])) slot
-            ∙ ap (has_number j) (last (length parts) refl)
-            ∙ ap (λ k. has_number k (place ∷ [])) same
-            ∙ has-one place))
+            let slot : slice_index (slots ++ length parts ∷ []) j ≡ length parts = slot-last (length parts) j same in (
+              omega (arith, slot, length_push parts (place ∷ [])),
+              ap (λ p. has_number j (slice_index_or (parts ++ (place ∷ []) ∷ []) p [])) slot
+                  ∙ ap (has_number j) (last (length parts) refl)
+                  ∙ ap (λ k. has_number k (place ∷ [])) same
+                  ∙ has-one place,
+            ))
             (cases_lt j place);
       }
     where
@@ -154,18 +156,20 @@ module _ (colour : ℕ → ℕ) (place : ℕ) (slots : List ℕ) (parts : List (
             ⊎_elim
             (λ below.
             let slot_is : slice_index (slots ++ slot ∷ []) j ≡ slice_index slots j = slot-before slot j below in
-            let there = is.each j below in
-            (omega (arith, slot_is, there.0, length-set parts slot (part ++ place ∷ [])),
-            ap (λ p. has_number j (slice_index_or (slice_set parts slot (part ++ place ∷ [])) p [])) slot_is
-            ∙ still j (slice_index slots j) there.1))
+            let there = is.each j below in (
+              omega (arith, slot_is, there.0, length-set parts slot (part ++ place ∷ [])),
+              ap (λ p. has_number j (slice_index_or (slice_set parts slot (part ++ place ∷ [])) p [])) slot_is
+                  ∙ still j (slice_index slots j) there.1,
+            ))
             (λ (past : place ≤ j).
             let same : j ≡ place = omega (arith, past, h) in
-            let slot_is : slice_index (slots ++ slot ∷ []) j ≡ slot = slot-last slot j same in
-            (omega (arith, slot_is, within, length-set parts slot (part ++ place ∷ [])),
-            ap (λ p. has_number j (slice_index_or (slice_set parts slot (part ++ place ∷ [])) p [])) slot_is
-            ∙ ap (has_number j) (changed slot refl)
-            ∙ ap (λ k. has_number k (part ++ place ∷ [])) same
-            ∙ has-end place part))
+            let slot_is : slice_index (slots ++ slot ∷ []) j ≡ slot = slot-last slot j same in (
+              omega (arith, slot_is, within, length-set parts slot (part ++ place ∷ [])),
+              ap (λ p. has_number j (slice_index_or (slice_set parts slot (part ++ place ∷ [])) p [])) slot_is
+                  ∙ ap (has_number j) (changed slot refl)
+                  ∙ ap (λ k. has_number k (part ++ place ∷ [])) same
+                  ∙ has-end place part,
+            ))
             (cases_lt j place);
       }
     where

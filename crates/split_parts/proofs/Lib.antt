@@ -5,3 +5,5 @@ pub mod ComponentLemmas
 pub mod UniqueLemmas
 pub mod SplitLemmas
 pub mod ComponentExamples
+pub mod TagLemmas
+pub mod TagLawLemmas

@@ -1,5 +1,5 @@
 -- Numbers in lists, and the variables of the literal at a place.
-use Rattle.std.proofs.Common.{◌≡◌, ℕ, zero, suc, ◌+◌, ◌<◌, ◌≤◌, Bool, true, false, ◌&&◌, ◌||◌, ◌==◌, List, [], ◌∷◌, ◌++◌, length, map, take, get_or, append-nil, Option, Some, None, refl, ap, sym, ◌∙◌, ◌⊎◌, inl, inr, ⊎_elim, arith, subst}
+use Rattle.std.proofs.Common.{◌≡◌, ℕ, zero, suc, ◌+◌, ◌<◌, Bool, true, false, ◌||◌, ◌==◌, List, [], ◌∷◌, ◌++◌, length, map, take, get_or, append-nil, Option, Some, None, refl, ap, sym, ◌∙◌, ◌⊎◌, inl, inr, ⊎_elim, arith}
 use Rattle.std.specs.Prelude.{flat_map, filter_map, slice_get, option_map}
 use Rattle.std.specs.List.{list_any, list_all, cons_option}
 use Rattle.std.proofs.lemmas.Bool.{or_cases, or_left, or_right, eq-eqb, eqb-true, true≢false, cases_lt, and_from}
@@ -9,7 +9,7 @@ use Rattle.std.proofs.lemmas.Option.{slice_get-map, slice_get_read, slice_get_pa
 use Rattle.fol_base.specs.Clause.{TreeLiteral, literal_variables}
 use Rattle.fol_base.specs.Literal.{literal_of}
 use Rattle.fol_base.specs.declared.clause.Literal.{Literal}
-use Rattle.kernel_steps.specs.Split.{has_number, literals_at, share_variable}
+use Rattle.kernel_steps.specs.Split.{has_number, literals_at}
 use Rattle.split_parts.specs.Components.{FollowsVariables}
 use Rattle.split_parts.specs.Forest.{variables_at}
 

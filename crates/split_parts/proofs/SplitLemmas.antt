@@ -1,6 +1,6 @@
 -- That components meet the condition of a split.
-use Rattle.std.proofs.Common.{◌≡◌, ℕ, ◌+◌, Bool, true, false, ◌&&◌, ◌==◌, List, [], ◌∷◌, length, map, refl, ap, sym, ◌∙◌, arith}
-use Rattle.std.specs.Prelude.{not, flat_map, Option}
+use Rattle.std.proofs.Common.{◌≡◌, ℕ, true, false, ◌&&◌, ◌==◌, List, [], ◌∷◌, length, map, ap, sym, ◌∙◌, arith}
+use Rattle.std.specs.Prelude.{not, Option}
 use Rattle.std.specs.List.{list_all}
 use Rattle.std.proofs.lemmas.Bool.{and_parts, and_from, eqb-true, ne_eqb, not_from_false, true≢false}
 use Rattle.fol_base.specs.Clause.{TreeLiteral}

@@ -1,14 +1,14 @@
 -- That two lists of components of the same literals are equal.
 use mathlib.Core.Bool.{beq}
-use Rattle.std.proofs.Common.{◌≡◌, ℕ, zero, suc, ◌+◌, ◌<◌, ◌≤◌, Bool, true, false, ◌&&◌, ◌||◌, ◌==◌, List, [], ◌∷◌, ◌++◌, length, map, cond, refl, ap, ap₂, sym, ◌∙◌, ◌⊎◌, inl, inr, ⊎_elim, arith}
+use Rattle.std.proofs.Common.{◌≡◌, ℕ, zero, suc, ◌+◌, ◌<◌, ◌≤◌, Bool, true, false, ◌||◌, ◌==◌, List, [], ◌∷◌, length, map, refl, ap, ap₂, sym, ◌∙◌, ◌⊎◌, inl, inr, ⊎_elim, arith}
 use Rattle.std.specs.Prelude.{not, slice_index, slice_index_or, nat_lt, flat_map, if◌then◌else◌}
 use Rattle.std.specs.List.{list_all}
-use Rattle.std.proofs.lemmas.Bool.{and_parts, and_from, ltb-true, eq-eqb, eqb-true, true≢false, or_left, or_right, or_cases, not-true, cond-true, cond-false, cases_eq, cases_lt, cases_order, cases_Bool, ne_eqb}
+use Rattle.std.proofs.lemmas.Bool.{and_parts, ltb-true, eq-eqb, eqb-true, true≢false, or_left, or_right, or_cases, not-true, cond-true, cond-false, cases_eq, cases_lt, cases_order, cases_Bool, ne_eqb}
 use Rattle.std.proofs.lemmas.List.{length-map}
 use Rattle.std.proofs.lemmas.List.Folds.{list_all-map, list_any-append}
 use Rattle.std.proofs.lemmas.Map.Steps.{le-length_from_below}
 use Rattle.fol_base.specs.Clause.{TreeLiteral, literal_variables}
-use Rattle.kernel_steps.specs.Split.{has_number, has_all_below, is_part, rises_from, share_out, literals_at, share_variable, share_no_variables}
+use Rattle.kernel_steps.specs.Split.{has_number, has_all_below, is_part, rises_from, literals_at, share_variable, share_no_variables}
 use Rattle.split_parts.specs.Components.{IsComponents, FollowsVariables, first_places, rise, is_constant_on}
 use Rattle.split_parts.specs.Forest.{variables_at}
 use Rattle.split_parts.proofs.PlaceLemmas.{passing, some-passes, has-in_places, variables_at-within}
@@ -304,16 +304,20 @@ among-others ls parts others is other a within =
     (is.whole (λ j. has_number j its) (part-follows ls others other b found.1.0)) within in
     let two : is_constant_on (λ j. has_number j part) its ≡ true =
     passes-at (is_constant_on (λ j. has_number j part)) others [] b
-    (other.whole (λ j. has_number j part) (part-follows ls parts is a within)) found.1.0 in
-    (b, (found.1.0,
-    rise-equal part its (part-rises part rises) (part-rises its rises')
-    (λ i.
-    iff-same (has_number i part) (has_number i its)
-    (λ here. constant-first (λ j. has_number j its) part i one here ∙ found.1.1)
-    (λ here.
-    constant-first (λ j. has_number j part) its i two here
-    ∙ sym (constant-first (λ j. has_number j part) its k two found.1.1)
-    ∙ first-in part rises))))
+    (other.whole (λ j. has_number j part) (part-follows ls parts is a within)) found.1.0 in (
+      b,
+      (
+        found.1.0,
+        rise-equal part its (part-rises part rises) (part-rises its rises')
+            (λ i.
+            iff-same (has_number i part) (has_number i its)
+            (λ here. constant-first (λ j. has_number j its) part i one here ∙ found.1.1)
+            (λ here.
+            constant-first (λ j. has_number j part) its i two here
+            ∙ sym (constant-first (λ j. has_number j part) its k two found.1.1)
+            ∙ first-in part rises)),
+      ),
+    )
 
 pub components-unique : (ls : List TreeLiteral) (parts others : List (List ℕ)) → IsComponents ls parts → IsComponents ls others → parts ≡ others
 components-unique ls parts others is other =

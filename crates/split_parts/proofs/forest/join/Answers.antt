@@ -1,4 +1,4 @@
-use Rattle.std.proofs.Common.{◌≡◌, ℕ, ◌<◌, ◌≤◌, min, max, length, sym, ◌∙◌, arith}
+use Rattle.std.proofs.Common.{◌≡◌, arith}
 use Rattle.split_parts.specs.Forest.{IsColouring}
 use Rattle.split_parts.proofs.ForestLemmas.{linked-roots}
 use Rattle.split_parts.proofs.forest.join.Goals as goal

@@ -1,7 +1,6 @@
-use Rattle.std.proofs.Common.{◌≡◌, ℕ, ◌<◌, ◌≤◌, ◌+◌, List, length, map, nat_eq, get_or, Some, None, ap, sym, ◌∙◌, arith, subst}
-use Rattle.std.specs.HashMap.{get}
+use Rattle.std.proofs.Common.{◌≡◌, ℕ, ◌<◌, ◌+◌, length, map, get_or, ap, sym, ◌∙◌, arith, subst}
 use Rattle.fol_base.specs.Literal.{literal_of}
-use Rattle.split_parts.specs.Forest.{IsJoined, variables_at, Falls, Table}
+use Rattle.split_parts.specs.Forest.{IsJoined, variables_at, Falls}
 use Rattle.split_parts.proofs.PlaceLemmas.{variables_at-read}
 use Rattle.split_parts.proofs.ForestLemmas.{joined-again, joined-new, joined-next}
 use Rattle.split_parts.proofs.parts.join_literal.Goals.{in-Some, in-None+in_ok-insert-in-None}
@@ -32,19 +31,19 @@ loop-variable-preserved c =
           record {
             falls = subst Falls (sym w.links-is) w.join.ensures.falls;
             joined =
-            subst (IsJoined ls place (t + 1) c.match-copied.links) (sym w.places-is)
-            (subst (λ ks. IsJoined ls place (t + 1) ks table) (sym w.links-is)
-            (joined-again ls place t links table c.loop-variable.invariant.joined v within its w.in-Some.first w.join.new.links
-            (omega arith) (found ∙ w.in-Some.is) (w.join.ensures.colouring c.loop-variable.invariant.joined.colour c.loop-variable.invariant.joined.colouring)));
+                subst (IsJoined ls place (t + 1) c.match-copied.links) (sym w.places-is)
+                (subst (λ ks. IsJoined ls place (t + 1) ks table) (sym w.links-is)
+                (joined-again ls place t links table c.loop-variable.invariant.joined v within its w.in-Some.first w.join.new.links
+                (omega arith) (found ∙ w.in-Some.is) (w.join.ensures.colouring c.loop-variable.invariant.joined.colour c.loop-variable.invariant.joined.colouring)));
           }
       | in-None+in_ok-insert-in-None w ↦
           record {
             falls = subst Falls (sym w.links-is) c.loop-variable.invariant.falls;
             joined =
-            subst (IsJoined ls place (t + 1) c.match-copied.links) (sym w.places-is)
-            (subst (λ ks. IsJoined ls place (t + 1) ks w.insert.new.self) (sym w.links-is)
-            (joined-new ls place t links table c.loop-variable.invariant.joined v within its w.insert.new.self
-            (omega arith) (found ∙ w.in-None.is) w.in_ok-insert-in-None.ensures.updates));
+                subst (IsJoined ls place (t + 1) c.match-copied.links) (sym w.places-is)
+                (subst (λ ks. IsJoined ls place (t + 1) ks w.insert.new.self) (sym w.links-is)
+                (joined-new ls place t links table c.loop-variable.invariant.joined v within its w.insert.new.self
+                (omega arith) (found ∙ w.in-None.is) w.in_ok-insert-in-None.ensures.updates));
           }
     ]
 

@@ -1,4 +1,4 @@
-use Rattle.std.proofs.Common.{◌≡◌, ℕ, ◌<◌, length, map, nat_eq, ap, arith}
+use Rattle.std.proofs.Common.{map, nat_eq, ap, arith}
 use Rattle.std.specs.Map.{lookup}
 use Rattle.std.proofs.lemmas.List.{length-map}
 use Rattle.fol_base.specs.Literal.{literal_of}
@@ -11,9 +11,9 @@ loop-place-init c =
       len = c.in_ok-links.ensures.len;
       falls = λ j h. omega (arith, c.in_ok-links.ensures.own j (omega (arith, h, c.in_ok-links.ensures.len)));
       joined =
-      joined-first (map literal_of c.args.literals.now) c.in_ok-links.links.items c.new-places.result
-      (λ j h. c.in_ok-links.ensures.own j (omega (arith, h, c.in_ok-links.ensures.len)))
-      (λ v. ap (λ es. lookup (nat_eq v) es) c.new-places.ensures.empty);
+          joined-first (map literal_of c.args.literals.now) c.in_ok-links.links.items c.new-places.result
+          (λ j h. c.in_ok-links.ensures.own j (omega (arith, h, c.in_ok-links.ensures.len)))
+          (λ v. ap (λ es. lookup (nat_eq v) es) c.new-places.ensures.empty);
     }
 
 pub returns-clause-linked : goal.returns-clause-linked
