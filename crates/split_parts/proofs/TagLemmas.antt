@@ -1,11 +1,10 @@
 -- Parts of a table, by its keys.
-use Rattle.std.proofs.Common.{◌≡◌, ℕ, suc, ◌+◌, ◌<◌, ◌≤◌, Bool, true, false, ◌||◌, cond, List, [], ◌∷◌, ◌++◌, length, map, Option, Some, None, refl, ap, ap₂, sym, ◌∙◌, arith}
-use Rattle.std.specs.Prelude.{not, nat_lt, position, if◌then◌else◌}
+use Rattle.std.proofs.Common.{◌≡◌, ℕ, suc, ◌+◌, Bool, true, false, ◌||◌, cond, List, [], ◌∷◌, ◌++◌, length, map, Some, None, refl, ap, sym, ◌∙◌, arith}
+use Rattle.std.specs.Prelude.{not, nat_lt, position}
 use Rattle.std.specs.List.{list_any, position_or_len}
 use Rattle.std.proofs.lemmas.Bool.{cond-true, cond-false}
 use Rattle.std.proofs.lemmas.Option.{same_Some, none-some}
 use Rattle.fol_base.specs.Clause.{TreeLiteral, literals_eq}
-use Rattle.fol_base.specs.Literal.{literal_of}
 use Rattle.split_parts.specs.declared.key.PartKey.{PartKey}
 use Rattle.split_parts.specs.PartKeys.{key_part}
 use Rattle.split_parts.specs.Tags.{has_part, with_part, tag_of}
