@@ -1,0 +1,9 @@
+pub mod PlaceLemmas
+pub mod ForestLemmas
+pub mod GroupLemmas
+pub mod ComponentLemmas
+pub mod UniqueLemmas
+pub mod SplitLemmas
+pub mod ComponentExamples
+pub mod TagLemmas
+pub mod TagLawLemmas

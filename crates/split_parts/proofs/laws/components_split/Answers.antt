@@ -1,0 +1,5 @@
+use Rattle.split_parts.proofs.SplitLemmas.{components-split}
+use Rattle.split_parts.proofs.laws.components_split.Goals as goal
+
+pub returns : goal.returns
+returns c = components-split
