@@ -1,22 +1,26 @@
 -- From the answers of the stages to the answer of a command.
 use Rattle.std.proofs.Common.{◌≡◌, ℕ, List, Option, None, Some, subst, sym, inl}
-use Rattle.outside.specs.Library.{Holdings, HoldsExactly}
+use Rattle.signature.specs.Form.{clausal_form}
+use Rattle.ground_loop.specs.Scope.{first_outside}
+use Rattle.tptp_tree.specs.declared.problem.Annotated.{Annotated}
 use Rattle.prover_main.specs.Outside.{Outside}
-use Rattle.prover_main.specs.Answer.{Source, Answer as Answered, refuted, spent, closed, not_built, accepted, refused, unloaded, unread, unformed, IsFormed, IsLoaded, IsProveAnswer, IsCheckAnswer}
-use Rattle.prover_main.specs.AnswerShape.{IsFormedFrom, IsStop, IsStopAnswer, IsJudgement, IsProofAnswer}
+use Rattle.prover_main.specs.declared.answer.Answer.{Answer}
+use Rattle.prover_main.specs.declared.answer.Answer.TheVariants.{Refuted, Spent, Closed, NotBuilt, Accepted, Refused, Unloaded, Unread, Unformed}
+use Rattle.prover_main.specs.Answer.{Source, IsFormed, IsBuilt, IsLoaded, IsProveAnswer, IsCheckAnswer}
+use Rattle.prover_main.specs.AnswerShape.{IsFormedFrom, IsStop, IsStopAnswer, IsJudgement, IsGroundProof, IsProofAnswer, IsNotBuiltAnswer}
 use Rattle.prover_main.specs.declared.problem.FormedProblem.{FormedProblem}
 use Rattle.prover_main.specs.declared.problem.Stop.{Stop}
 use Rattle.prover_main.specs.declared.problem.Stop.TheVariants.{NoMemory, Unread as NotRead, Unformed as NotFormed}
 
 pub stop_proves :
-    (outside : Outside) (source : Source) (limit : ℕ) (stop : Stop) (answer : Answered)
+    (outside : Outside) (source : Source) (limit : ℕ) (stop : Stop) (answer : Answer)
     → IsStop outside source stop → IsStopAnswer stop answer → IsProveAnswer outside source limit answer
 stop_proves outside source limit NoMemory answer h e = absurd e
 stop_proves outside source limit (NotRead cause file place) answer h e = subst (IsProveAnswer outside source limit) (sym e) h
 stop_proves outside source limit (NotFormed cause name) answer h e = subst (IsProveAnswer outside source limit) (sym e) h
 
 pub stop_checks :
-    (outside : Outside) (source : Source) (derivation : List ℕ) (stop : Stop) (answer : Answered)
+    (outside : Outside) (source : Source) (derivation : List ℕ) (stop : Stop) (answer : Answer)
     → IsStop outside source stop → IsStopAnswer stop answer → IsCheckAnswer outside source derivation answer
 stop_checks outside source derivation NoMemory answer h e = absurd e
 stop_checks outside source derivation (NotRead cause file place) answer h e = subst (IsCheckAnswer outside source derivation) (sym e) h
@@ -25,29 +29,55 @@ stop_checks outside source derivation (NotFormed cause name) answer h e = subst 
 is_formed : (outside : Outside) (source : Source) (formed : FormedProblem) → IsFormedFrom outside.told source formed → IsFormed outside source formed.problem.formulas
 is_formed outside source formed h = record { read = h.read; within = h.within }
 
+-- what the ground loop answers, where it takes the form
+pub ground_proves :
+    (formulas : List Annotated) (limit : ℕ) (answer : Answer)
+    → first_outside (clausal_form formulas).clauses ≡ None → IsGroundProof formulas limit answer → IsProofAnswer formulas limit answer
+ground_proves formulas limit (NotBuilt name) none p = absurd p
+ground_proves formulas limit (Refuted conjecture derivation) none p = (p, none)
+ground_proves formulas limit (Spent count allowed) none p = (p, none)
+ground_proves formulas limit Closed none p = (p, none)
+ground_proves formulas limit (Accepted lines) none p = absurd p
+ground_proves formulas limit (Refused line cause) none p = absurd p
+ground_proves formulas limit (Unloaded name) none p = absurd p
+ground_proves formulas limit (Unread cause name place) none p = absurd p
+ground_proves formulas limit (Unformed cause name) none p = absurd p
+
+-- and what the first other clause answers
+pub not_built_proves :
+    (formulas : List Annotated) (limit index : ℕ) (answer : Answer)
+    → first_outside (clausal_form formulas).clauses ≡ Some index → IsNotBuiltAnswer formulas index answer → IsProofAnswer formulas limit answer
+not_built_proves formulas limit index answer first h =
+    subst (IsProofAnswer formulas limit) (sym h.1) (record { index = index; is_outside = first; name_is = h.2 })
+
 pub proof_proves :
-    (outside : Outside) (source : Source) (limit : ℕ) (formed : FormedProblem) (answer : Answered)
+    (outside : Outside) (source : Source) (limit : ℕ) (formed : FormedProblem) (answer : Answer)
     → IsFormedFrom outside.told source formed → IsProofAnswer formed.problem.formulas limit answer → IsProveAnswer outside source limit answer
-proof_proves outside source limit formed (refuted conjecture derivation) h p =
+proof_proves outside source limit formed (Refuted conjecture derivation) h p =
     record {
       formulas = formed.problem.formulas;
-      formed = is_formed outside source formed h;
-      conjecture_is = p.conjecture_is;
-      lines = p.lines;
-      accepted = p.accepted;
-      herbrand = p.herbrand;
+      built = record { formed = is_formed outside source formed h; none_outside = p.1 };
+      conjecture_is = p.0.conjecture_is;
+      lines = p.0.lines;
+      accepted = p.0.accepted;
+      herbrand = p.0.herbrand;
     }
-proof_proves outside source limit formed (spent count allowed) h p =
+proof_proves outside source limit formed (Spent count allowed) h p =
     record {
       formulas = formed.problem.formulas;
-      formed = is_formed outside source formed h;
-      count_is = p.0;
-      allowed_is = p.1;
-      triples = p.2;
+      built = record { formed = is_formed outside source formed h; none_outside = p.1 };
+      count_is = p.0.0;
+      allowed_is = p.0.1;
+      triples = p.0.2;
     }
-proof_proves outside source limit formed closed h p =
-    record { formulas = formed.problem.formulas; formed = is_formed outside source formed h; sets = p.0; satisfied = p.1 }
-proof_proves outside source limit formed (not_built name) h p =
+proof_proves outside source limit formed Closed h p =
+    record {
+      formulas = formed.problem.formulas;
+      built = record { formed = is_formed outside source formed h; none_outside = p.1 };
+      sets = p.0.0;
+      satisfied = p.0.1;
+    }
+proof_proves outside source limit formed (NotBuilt name) h p =
     record {
       formulas = formed.problem.formulas;
       formed = is_formed outside source formed h;
@@ -55,17 +85,17 @@ proof_proves outside source limit formed (not_built name) h p =
       is_outside = p.is_outside;
       name_is = p.name_is;
     }
-proof_proves outside source limit formed (accepted lines) h e = absurd e
-proof_proves outside source limit formed (refused line cause) h e = absurd e
-proof_proves outside source limit formed (unloaded name) h e = absurd e
-proof_proves outside source limit formed (unread cause name place) h e = absurd e
-proof_proves outside source limit formed (unformed cause name) h e = absurd e
+proof_proves outside source limit formed (Accepted lines) h p = absurd p.0
+proof_proves outside source limit formed (Refused line cause) h p = absurd p.0
+proof_proves outside source limit formed (Unloaded name) h p = absurd p.0
+proof_proves outside source limit formed (Unread cause name place) h p = absurd p.0
+proof_proves outside source limit formed (Unformed cause name) h p = absurd p.0
 
 pub judgement_checks :
-    (outside : Outside) (source : Source) (derivation text : List ℕ) (formed : FormedProblem) (answer : Answered)
+    (outside : Outside) (source : Source) (derivation text : List ℕ) (formed : FormedProblem) (answer : Answer)
     → IsFormedFrom outside.told source formed → IsLoaded outside derivation text → IsJudgement formed.problem.formulas text answer
     → IsCheckAnswer outside source derivation answer
-judgement_checks outside source derivation text formed (accepted lines) h l j =
+judgement_checks outside source derivation text formed (Accepted lines) h l j =
     record {
       formulas = formed.problem.formulas;
       formed = is_formed outside source formed h;
@@ -74,7 +104,7 @@ judgement_checks outside source derivation text formed (accepted lines) h l j =
       accepted = j.0;
       herbrand = j.1;
     }
-judgement_checks outside source derivation text formed (refused line cause) h l j =
+judgement_checks outside source derivation text formed (Refused line cause) h l j =
     inl (record {
       formulas = formed.problem.formulas;
       formed = is_formed outside source formed h;
@@ -82,10 +112,10 @@ judgement_checks outside source derivation text formed (refused line cause) h l 
       loaded = l;
       refused = j;
     })
-judgement_checks outside source derivation text formed (unloaded name) h l j = absurd j
-judgement_checks outside source derivation text formed (unread cause name place) h l j = absurd j
-judgement_checks outside source derivation text formed (unformed cause name) h l j = absurd j
-judgement_checks outside source derivation text formed (refuted conjecture t) h l j = absurd j
-judgement_checks outside source derivation text formed (spent count allowed) h l j = absurd j
-judgement_checks outside source derivation text formed closed h l j = absurd j
-judgement_checks outside source derivation text formed (not_built name) h l j = absurd j
+judgement_checks outside source derivation text formed (Unloaded name) h l j = absurd j
+judgement_checks outside source derivation text formed (Unread cause name place) h l j = absurd j
+judgement_checks outside source derivation text formed (Unformed cause name) h l j = absurd j
+judgement_checks outside source derivation text formed (Refuted conjecture t) h l j = absurd j
+judgement_checks outside source derivation text formed (Spent count allowed) h l j = absurd j
+judgement_checks outside source derivation text formed Closed h l j = absurd j
+judgement_checks outside source derivation text formed (NotBuilt name) h l j = absurd j

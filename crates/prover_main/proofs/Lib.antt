@@ -8,3 +8,7 @@ pub mod ReadableLemmas
 pub mod TextLemmas
 pub mod SatisfiedLemmas
 pub mod RunLemmas
+pub mod DeliveryLemmas
+pub mod PlacedLemmas
+pub mod OneAnswer
+pub mod RunLaws

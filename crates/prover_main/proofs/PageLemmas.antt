@@ -2,7 +2,6 @@
 use Rattle.std.proofs.Common.{Result, Ok, Err, IfOk, ◌≡◌, ℕ, List, ◌++◌, ap, sym, subst, ◌∙◌}
 use Rattle.std.proofs.lemmas.List.{append_assoc}
 use Rattle.prover_main.specs.Reports.{report_of}
-use Rattle.prover_main.specs.AnswerShape.{answer_meant}
 use Rattle.prover_main.specs.declared.answer.Answer.{Answer}
 
 joined : (old m n x y : List ℕ) → m ≡ old ++ x → n ≡ m ++ y → n ≡ old ++ (x ++ y)
@@ -33,8 +32,8 @@ five_added r old p q s t n x y z w v e f g h k = four_added r old q s t n (x ++ 
 -- the report of an answer of that form
 pub told :
     {E : Type 0} (r : Result (Unit {0}) E) (file old n : List ℕ) (a b : Answer)
-    → a ≡ b → IfOk r (λ _. n ≡ old ++ report_of file (answer_meant b)) → IfOk r (λ _. n ≡ old ++ report_of file (answer_meant a))
-told r file old n a b e h = subst (λ k. IfOk r (λ _. n ≡ old ++ report_of file (answer_meant k))) (sym e) h
+    → a ≡ b → IfOk r (λ _. n ≡ old ++ report_of file b) → IfOk r (λ _. n ≡ old ++ report_of file a)
+told r file old n a b e h = subst (λ k. IfOk r (λ _. n ≡ old ++ report_of file k)) (sym e) h
 
 -- the second by other names of what it is made of
 pub two_added_by :

@@ -1,4 +1,4 @@
--- What a command answers, and when each answer comes.
+-- When each answer of a command comes.
 use Rattle.std.specs.Prelude.{◌≡◌, ◌≤◌, ◌⊎◌, ℕ, Bool, List, length, map, Option, None, Some, IfSome, option_map, option_and_then, slice_get}
 use Rattle.std.specs.List.{list_any}
 use Rattle.outside.specs.Faults.{Rose}
@@ -23,29 +23,8 @@ use Rattle.tstp_checker.specs.declared.cause.Cause.{Cause}
 use Rattle.tstp_checker.specs.declared.cause.Cause.TheVariants.{Text}
 use Rattle.prover_main.specs.Outside.{Outside}
 use Rattle.prover_main.specs.Words.{Command, prove, check}
-
-pub data Answer : Type 0 where
-  -- ---- of `prove`
-  -- the problem is refuted: whether it has a conjecture, and the text of the derivation
-  refuted : Bool → List ℕ → Answer
-  -- so many inferences were counted, of so many that are allowed
-  spent : ℕ → ℕ → Answer
-  -- no inference is left, and the empty clause wasn't derived
-  closed : Answer
-  -- the clauses of the formula of a name aren't built yet
-  not_built : List ℕ → Answer
-  -- ---- of `check`
-  -- the derivation is accepted, with so many lines
-  accepted : ℕ → Answer
-  -- its first bad line, and the first cause there
-  refused : ℕ → Cause → Answer
-  -- its file couldn't be loaded
-  unloaded : List ℕ → Answer
-  -- ---- of both
-  -- the problem isn't read, for a cause in a file at a place
-  unread : ReadCause → List ℕ → ℕ → Answer
-  -- it has no clausal form, because of the formula of a name
-  unformed : FormCause → List ℕ → Answer
+use Rattle.prover_main.specs.declared.answer.Answer.{Answer}
+use Rattle.prover_main.specs.declared.answer.Answer.TheVariants.{Refuted, Spent, Closed, NotBuilt, Accepted, Refused, Unloaded, Unread, Unformed}
 
 -- ---- the problem
 
@@ -82,10 +61,15 @@ has_conjecture formulas = list_any (λ (a : Annotated). is_conjecture a.role) fo
 abbrev pub formula_of_clause : List Annotated → ℕ → Option Annotated
 formula_of_clause formulas i = option_and_then (slice_get formulas) (slice_get (clausal_form formulas).origins i)
 
+-- The formulas are those of the problem's file, within the limits, and each clause of their form is one that the ground loop takes.
+pub record IsBuilt (outside : Outside) (source : Source) (formulas : List Annotated) : Type 0 where
+  pub formed : IsFormed outside source formulas
+  pub none_outside : first_outside (clausal_form formulas).clauses ≡ None
+
 -- The derivation is accepted, and so some finite list of ground instances of the clausal form is true in no interpretation.
 pub record IsRefuted (outside : Outside) (source : Source) (conjecture : Bool) (derivation : List ℕ) : Type 0 where
   pub formulas : List Annotated
-  pub formed : IsFormed outside source formulas
+  pub built : IsBuilt outside source formulas
   pub conjecture_is : conjecture ≡ has_conjecture formulas
   pub lines : ℕ
   pub accepted : IsAcceptedDerivation formulas derivation lines
@@ -94,7 +78,7 @@ pub record IsRefuted (outside : Outside) (source : Source) (conjecture : Bool) (
 -- As many different inferences as the limit.
 pub record IsSpent (outside : Outside) (source : Source) (limit count allowed : ℕ) : Type 0 where
   pub formulas : List Annotated
-  pub formed : IsFormed outside source formulas
+  pub built : IsBuilt outside source formulas
   pub count_is : count ≡ limit
   pub allowed_is : allowed ≡ limit
   pub triples : HasTriples (clausal_form formulas).clauses limit
@@ -102,7 +86,7 @@ pub record IsSpent (outside : Outside) (source : Source) (limit count allowed : 
 -- A closed list of sets without the empty set, and so a finite interpretation that makes all clauses true.
 pub record IsClosed (outside : Outside) (source : Source) : Type 0 where
   pub formulas : List Annotated
-  pub formed : IsFormed outside source formulas
+  pub built : IsBuilt outside source formulas
   pub sets : HasClosedSets (clausal_form formulas).clauses
   pub satisfied : Satisfied (is_predicate_in (clausal_form formulas).symbols) (clausal_form formulas).clauses
 
@@ -157,27 +141,22 @@ pub record IsUnloaded (outside : Outside) (source : Source) (derivation name : L
 -- ---- by the command
 
 abbrev pub IsProveAnswer : Outside → Source → ℕ → Answer → Type 0
-IsProveAnswer outside source limit (refuted conjecture derivation) = IsRefuted outside source conjecture derivation
-IsProveAnswer outside source limit (spent count allowed) = IsSpent outside source limit count allowed
-IsProveAnswer outside source limit closed = IsClosed outside source
-IsProveAnswer outside source limit (not_built name) = IsNotBuilt outside source name
-IsProveAnswer outside source limit (unread cause file place) = IsUnread outside source cause file place
-IsProveAnswer outside source limit (unformed cause name) = IsUnformed outside source cause name
-IsProveAnswer outside source limit (accepted lines) = ⊥
-IsProveAnswer outside source limit (refused line cause) = ⊥
-IsProveAnswer outside source limit (unloaded name) = ⊥
+IsProveAnswer outside source limit (Refuted conjecture derivation) = IsRefuted outside source conjecture derivation
+IsProveAnswer outside source limit (Spent count allowed) = IsSpent outside source limit count allowed
+IsProveAnswer outside source limit Closed = IsClosed outside source
+IsProveAnswer outside source limit (NotBuilt name) = IsNotBuilt outside source name
+IsProveAnswer outside source limit (Unread cause file place) = IsUnread outside source cause file place
+IsProveAnswer outside source limit (Unformed cause name) = IsUnformed outside source cause name
+IsProveAnswer outside source limit of_check = ⊥
 
 abbrev pub IsCheckAnswer : Outside → Source → List ℕ → Answer → Type 0
-IsCheckAnswer outside source derivation (accepted lines) = IsAccepted outside source derivation lines
-IsCheckAnswer outside source derivation (refused line cause) =
+IsCheckAnswer outside source derivation (Accepted lines) = IsAccepted outside source derivation lines
+IsCheckAnswer outside source derivation (Refused line cause) =
     IsRefused outside source derivation line cause ⊎ IsTooLong outside source derivation line cause
-IsCheckAnswer outside source derivation (unloaded name) = IsUnloaded outside source derivation name
-IsCheckAnswer outside source derivation (unread cause file place) = IsUnread outside source cause file place
-IsCheckAnswer outside source derivation (unformed cause name) = IsUnformed outside source cause name
-IsCheckAnswer outside source derivation (refuted conjecture text) = ⊥
-IsCheckAnswer outside source derivation (spent count allowed) = ⊥
-IsCheckAnswer outside source derivation closed = ⊥
-IsCheckAnswer outside source derivation (not_built name) = ⊥
+IsCheckAnswer outside source derivation (Unloaded name) = IsUnloaded outside source derivation name
+IsCheckAnswer outside source derivation (Unread cause file place) = IsUnread outside source cause file place
+IsCheckAnswer outside source derivation (Unformed cause name) = IsUnformed outside source cause name
+IsCheckAnswer outside source derivation of_prove = ⊥
 
 abbrev pub IsAnswer : Outside → Command → Answer → Type 0
 IsAnswer outside (prove file root limit) answer = IsProveAnswer outside (record { file = file; root = root }) limit answer

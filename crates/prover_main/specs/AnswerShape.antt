@@ -1,4 +1,4 @@
--- The program's answers in the words of the definitions.
+-- What the stages of a command answer, in the words of the definitions.
 use Rattle.std.specs.Prelude.{◌≡◌, ⊤, ℕ, Bool, List, map, Option, None, Some, option_map}
 use Rattle.outside.specs.Library.{Holdings}
 use Rattle.tptp_tree.specs.ProblemSize.{HasProblemSize}
@@ -15,23 +15,12 @@ use Rattle.prover_main.specs.Outside.{Outside}
 use Rattle.ground_loop.specs.Answer.{HasClosedSets, HasTriples}
 use Rattle.ground_loop.specs.Satisfaction.{Satisfied}
 use Rattle.ground_loop.specs.Scope.{first_outside}
-use Rattle.prover_main.specs.Answer.{Source, IsUnread, IsUnformed, has_conjecture, formula_of_clause, Answer as Answered, refuted, spent, closed, not_built, accepted, refused, unloaded, unread, unformed}
+use Rattle.prover_main.specs.Answer.{Source, IsUnread, IsUnformed, has_conjecture, formula_of_clause}
 use Rattle.prover_main.specs.declared.answer.Answer.{Answer}
 use Rattle.prover_main.specs.declared.answer.Answer.TheVariants.{Refuted, Spent, Closed, NotBuilt, Accepted, Refused, Unloaded, Unread, Unformed}
 use Rattle.prover_main.specs.declared.problem.FormedProblem.{FormedProblem}
 use Rattle.prover_main.specs.declared.problem.Stop.{Stop}
 use Rattle.prover_main.specs.declared.problem.Stop.TheVariants.{NoMemory, Unread as NotRead, Unformed as NotFormed}
-
-abbrev pub answer_meant : Answer → Answered
-answer_meant (Refuted conjecture derivation) = refuted conjecture derivation
-answer_meant (Spent count allowed) = spent count allowed
-answer_meant Closed = closed
-answer_meant (NotBuilt name) = not_built name
-answer_meant (Accepted lines) = accepted lines
-answer_meant (Refused line cause) = refused line cause
-answer_meant (Unloaded name) = unloaded name
-answer_meant (Unread cause name place) = unread cause name place
-answer_meant (Unformed cause name) = unformed cause name
 
 -- ---- stages
 
@@ -48,22 +37,16 @@ IsStop outside source NoMemory = ⊤
 IsStop outside source (NotRead cause file place) = IsUnread outside source cause file place
 IsStop outside source (NotFormed cause name) = IsUnformed outside source cause name
 
-abbrev pub IsStopAnswer : Stop → Answered → Type 0
+abbrev pub IsStopAnswer : Stop → Answer → Type 0
 IsStopAnswer NoMemory answer = ⊥
-IsStopAnswer (NotRead cause file place) answer = answer ≡ unread cause file place
-IsStopAnswer (NotFormed cause name) answer = answer ≡ unformed cause name
+IsStopAnswer (NotRead cause file place) answer = answer ≡ Unread cause file place
+IsStopAnswer (NotFormed cause name) answer = answer ≡ Unformed cause name
 
 -- what is said of a text that is checked
-abbrev pub IsJudgement : List Annotated → List ℕ → Answered → Type 0
-IsJudgement formulas text (accepted lines) = IsAcceptedDerivation formulas text lines × IsHerbrandRefuted formulas
-IsJudgement formulas text (refused line cause) = IsRefusedDerivation formulas text line (cause_meant cause)
-IsJudgement formulas text (unloaded name) = ⊥
-IsJudgement formulas text (unread cause name place) = ⊥
-IsJudgement formulas text (unformed cause name) = ⊥
-IsJudgement formulas text (refuted conjecture derivation) = ⊥
-IsJudgement formulas text (spent count allowed) = ⊥
-IsJudgement formulas text closed = ⊥
-IsJudgement formulas text (not_built name) = ⊥
+abbrev pub IsJudgement : List Annotated → List ℕ → Answer → Type 0
+IsJudgement formulas text (Accepted lines) = IsAcceptedDerivation formulas text lines × IsHerbrandRefuted formulas
+IsJudgement formulas text (Refused line cause) = IsRefusedDerivation formulas text line (cause_meant cause)
+IsJudgement formulas text other = ⊥
 
 -- ---- proofs
 
@@ -86,22 +69,22 @@ pub record IsOutsideIn (formulas : List Annotated) (name : List ℕ) : Type 0 wh
   pub is_outside : first_outside (clausal_form formulas).clauses ≡ Some index
   pub name_is : option_map (λ (a : Annotated). a.name) (formula_of_clause formulas index) ≡ Some name
 
--- what is said of a problem by its formulas
-abbrev pub IsProofAnswer : List Annotated → ℕ → Answered → Type 0
-IsProofAnswer formulas limit (refuted conjecture derivation) = IsRefutation formulas conjecture derivation
-IsProofAnswer formulas limit (spent count allowed) =
+-- what is said of a problem whose clauses the ground loop takes
+abbrev pub IsGroundProof : List Annotated → ℕ → Answer → Type 0
+IsGroundProof formulas limit (Refuted conjecture derivation) = IsRefutation formulas conjecture derivation
+IsGroundProof formulas limit (Spent count allowed) =
     (count ≡ limit) × (allowed ≡ limit) × HasTriples (clausal_form formulas).clauses limit
-IsProofAnswer formulas limit closed =
+IsGroundProof formulas limit Closed =
     HasClosedSets (clausal_form formulas).clauses × Satisfied (is_predicate_in (clausal_form formulas).symbols) (clausal_form formulas).clauses
-IsProofAnswer formulas limit (not_built name) = IsOutsideIn formulas name
-IsProofAnswer formulas limit (accepted lines) = ⊥
-IsProofAnswer formulas limit (refused line cause) = ⊥
-IsProofAnswer formulas limit (unloaded name) = ⊥
-IsProofAnswer formulas limit (unread cause name place) = ⊥
-IsProofAnswer formulas limit (unformed cause name) = ⊥
+IsGroundProof formulas limit other = ⊥
+
+-- what is said of a problem by its formulas
+abbrev pub IsProofAnswer : List Annotated → ℕ → Answer → Type 0
+IsProofAnswer formulas limit (NotBuilt name) = IsOutsideIn formulas name
+IsProofAnswer formulas limit answer = IsGroundProof formulas limit answer × (first_outside (clausal_form formulas).clauses ≡ None)
 
 -- the answer for the clause of that number
-abbrev pub IsNotBuiltAnswer : List Annotated → ℕ → Answered → Type 0
+abbrev pub IsNotBuiltAnswer : List Annotated → ℕ → Answer → Type 0
 IsNotBuiltAnswer formulas index answer =
-    (name : List ℕ) × (answer ≡ not_built name)
+    (name : List ℕ) × (answer ≡ NotBuilt name)
     × (option_map (λ (a : Annotated). a.name) (formula_of_clause formulas index) ≡ Some name)

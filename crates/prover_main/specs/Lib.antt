@@ -6,3 +6,4 @@ pub mod Answer
 pub mod AnswerShape
 pub mod Reports
 pub mod Run
+pub mod Laws

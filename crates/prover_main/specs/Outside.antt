@@ -9,3 +9,14 @@ pub record Outside : Type 0 where
   pub faults_after : ℕ
   pub found_after : ℕ
   pub failed_after : Option (List ℕ)
+
+-- by what a library tells of itself
+abbrev pub outside_by : {L : Type 0} → (L → Option Holdings) → (L → ℕ) → (L → ℕ) → (L → Option (List ℕ)) → L → L → Outside
+outside_by told faults found failed before after =
+    record {
+      told = told before;
+      faults_before = faults before;
+      faults_after = faults after;
+      found_after = found after;
+      failed_after = failed after;
+    }

@@ -10,7 +10,8 @@ use Rattle.clausal_form.specs.declared.fault.FormCause.TheVariants.{Expansion, T
 use Rattle.tstp_checker.specs.declared.cause.Cause.{Cause}
 use Rattle.tstp_checker.specs.declared.cause.Cause.TheVariants.{Text, Order, UnknownParent, Leaf, Clausify, Binding, Rule, Conclusion, NewSymbol, NoEmptyClause}
 use Rattle.tstp_writer.specs.LineTexts.{formula_name_text}
-use Rattle.prover_main.specs.Answer.{Answer, refuted, spent, closed, not_built, accepted, refused, unloaded, unread, unformed}
+use Rattle.prover_main.specs.declared.answer.Answer.{Answer}
+use Rattle.prover_main.specs.declared.answer.Answer.TheVariants.{Refuted, Spent, Closed, NotBuilt, Accepted, Refused, Unloaded, Unread, Unformed}
 use Rattle.prover_main.specs.Names.{shown, problem_name}
 
 -- ---- causes by their names
@@ -115,27 +116,31 @@ fault_line Load name place = load_line name
 fault_line cause name place = place_line (read_word cause) name place
 
 abbrev pub status_of : Answer → ℕ
-status_of (refuted conjecture derivation) = 0
-status_of (accepted lines) = 0
-status_of (spent count allowed) = 2
-status_of (not_built name) = 3
-status_of (unformed cause name) = 3
-status_of (unloaded name) = 4
-status_of (unread cause name place) = read_status cause
-status_of (refused line cause) = 9
-status_of closed = 10
+status_of (Refuted conjecture derivation) = 0
+status_of (Accepted lines) = 0
+status_of (Spent count allowed) = 2
+status_of (NotBuilt name) = 3
+status_of (Unformed cause name) = 3
+status_of (Unloaded name) = 4
+status_of (Unread cause name place) = read_status cause
+status_of (Refused line cause) = 9
+status_of Closed = 10
 
 -- what is told of the problem in a file
 abbrev pub report_of : List ℕ → Answer → List ℕ
-report_of file (refuted conjecture derivation) = refuted_report file conjecture derivation
-report_of file (accepted lines) = accepted_line lines
-report_of file (spent count allowed) = status_line (codes "GaveUp") file ++ spent_line count allowed
-report_of file (not_built name) = status_line (codes "InputError") file ++ formula_line (codes "NotBuilt") name
-report_of file (unformed cause name) = status_line (codes "InputError") file ++ formula_line (limit_word cause) name
-report_of file (unloaded name) = status_line (codes "OSError") file ++ load_line name
-report_of file (unread cause name place) = status_line (read_status_word cause) file ++ fault_line cause name place
-report_of file (refused line cause) = refused_line line cause
-report_of file closed = status_line (codes "Unknown") file ++ codes "% closed\n"
+report_of file (Refuted conjecture derivation) = refuted_report file conjecture derivation
+report_of file (Accepted lines) = accepted_line lines
+report_of file (Spent count allowed) = status_line (codes "GaveUp") file ++ spent_line count allowed
+report_of file (NotBuilt name) = status_line (codes "InputError") file ++ formula_line (codes "NotBuilt") name
+report_of file (Unformed cause name) = status_line (codes "InputError") file ++ formula_line (limit_word cause) name
+report_of file (Unloaded name) = status_line (codes "OSError") file ++ load_line name
+report_of file (Unread cause name place) = status_line (read_status_word cause) file ++ fault_line cause name place
+report_of file (Refused line cause) = refused_line line cause
+report_of file Closed = status_line (codes "Unknown") file ++ codes "% closed\n"
+
+-- memory was wanted
+abbrev pub memory_out_report : List ℕ → List ℕ
+memory_out_report file = status_line (codes "MemoryOut") file
 
 abbrev pub usage_report : List ℕ
 usage_report = codes "usage: prove FILE [--inferences=N] [--tptp=DIR]\n       check FILE DERIVATION [--tptp=DIR]\n"

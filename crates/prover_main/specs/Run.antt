@@ -1,11 +1,13 @@
 -- What a run answers and prints, and why.
-use Rattle.std.specs.Prelude.{◌≡◌, ℕ, List, Option, None, Some, IsSome}
+use Rattle.std.specs.Prelude.{◌≡◌, ◌⊎◌, ℕ, List, Option, None, Some, Result, Ok, Err}
 use Rattle.outside.specs.Faults.{Rose}
 use Rattle.outside.specs.Sink.{with_bytes, HasPrefixAfter}
+use Rattle.outside.specs.declared.fault.SinkFault.{SinkFault}
 use Rattle.prover_main.specs.Outside.{Outside}
 use Rattle.prover_main.specs.Words.{Command, prove, check, command_of}
-use Rattle.prover_main.specs.Answer.{Answer, IsAnswer}
-use Rattle.prover_main.specs.Reports.{status_of, report_of, usage_report}
+use Rattle.prover_main.specs.Answer.{IsAnswer}
+use Rattle.prover_main.specs.declared.answer.Answer.{Answer}
+use Rattle.prover_main.specs.Reports.{status_of, report_of, memory_out_report, usage_report}
 
 -- ---- what is due
 
@@ -15,11 +17,18 @@ file_of (prove file root limit) = file
 file_of (check file derivation root) = file
 
 -- An answer with its cause is told.
-pub record IsDueTo (command : Command) (outside : Outside) (status : ℕ) (text : List ℕ) : Type 0 where
+pub record IsAnswered (command : Command) (outside : Outside) (status : ℕ) (text : List ℕ) : Type 0 where
   pub answer : Answer
   pub due : IsAnswer outside command answer
   pub status_is : status ≡ status_of answer
   pub prints : text ≡ report_of (file_of command) answer
+
+-- Memory was wanted, which may happen to each command at any time.
+abbrev pub IsMemoryOut : Command → ℕ → List ℕ → Type 0
+IsMemoryOut command status text = (status ≡ 7) × (text ≡ memory_out_report (file_of command))
+
+abbrev pub IsDueTo : Command → Outside → ℕ → List ℕ → Type 0
+IsDueTo command outside status text = IsAnswered command outside status text ⊎ IsMemoryOut command status text
 
 -- 6 exactly where the words are usage, and then the library's count of faults is as it was
 abbrev pub IsDue : Option Command → Outside → ℕ → List ℕ → Type 0
@@ -28,32 +37,40 @@ IsDue (Some command) outside status text = IsDueTo command outside status text
 
 -- ---- what the sink takes
 
+-- the bytes that a sink tells that it has taken, and its count of faults, before some writes and after them
 pub record Taken : Type 0 where
   pub bytes_before : Option (List ℕ)
   pub bytes_after : Option (List ℕ)
   pub faults_before : ℕ
   pub faults_after : ℕ
 
--- the sink took the text and its count of faults stayed, or it failed and took a prefix
-pub data Delivered (taken : Taken) (due : ℕ) (text : List ℕ) (status : ℕ) : Type 0 where
-  all_taken :
-      status ≡ due → taken.bytes_after ≡ with_bytes taken.bytes_before text → taken.faults_after ≡ taken.faults_before
-      → Delivered taken due text status
-  prefix_taken :
-      status ≡ 5 → Rose taken.faults_before taken.faults_after → HasPrefixAfter taken.bytes_before taken.bytes_after text
-      → Delivered taken due text status
+-- by what a sink tells of itself
+abbrev pub taken_by : {S : Type 0} → (S → Option (List ℕ)) → (S → ℕ) → S → S → Taken
+taken_by taken faults before after =
+    record { bytes_before = taken before; bytes_after = taken after; faults_before = faults before; faults_after = faults after }
 
--- The sink took the whole report that was due. Or it failed: then the status is 5, and it took a prefix of that report. Or memory
--- was wanted: then the status is 7, the words are no usage and the sink took nothing. Where the status isn't 5 its count of faults
--- is as it was.
-pub data IsRun (words : List (List ℕ)) (outside : Outside) (taken : Taken) (status : ℕ) : Type 0 where
-  whole :
-      (text : List ℕ) → IsDue (command_of words) outside status text → taken.bytes_after ≡ with_bytes taken.bytes_before text
-      → taken.faults_after ≡ taken.faults_before → IsRun words outside taken status
-  cut_off :
-      status ≡ 5 → (due : ℕ) (text : List ℕ) → IsDue (command_of words) outside due text
-      → Rose taken.faults_before taken.faults_after → HasPrefixAfter taken.bytes_before taken.bytes_after text
-      → IsRun words outside taken status
-  no_memory :
-      status ≡ 7 → IsSome (command_of words) → taken.bytes_after ≡ taken.bytes_before → taken.faults_after ≡ taken.faults_before
-      → IsRun words outside taken status
+-- the sink took the text and its count of faults stayed, or it failed and took a prefix
+abbrev pub IsDelivery : Taken → List ℕ → Result (Unit {0}) SinkFault → Type 0
+IsDelivery taken text (Ok done) =
+    (taken.bytes_after ≡ with_bytes taken.bytes_before text) × (taken.faults_after ≡ taken.faults_before)
+IsDelivery taken text (Err fault) =
+    Rose taken.faults_before taken.faults_after × HasPrefixAfter taken.bytes_before taken.bytes_after text
+
+-- the status that is due, or 5 where the sink failed
+abbrev pub status_after : {E : Type 0} → ℕ → Result (Unit {0}) E → ℕ
+status_after due (Ok done) = due
+status_after due (Err fault) = 5
+
+-- a report was delivered, and the status is its own or 5
+pub record Delivered (taken : Taken) (due : ℕ) (text : List ℕ) (status : ℕ) : Type 0 where
+  pub outcome : Result (Unit {0}) SinkFault
+  pub delivery : IsDelivery taken text outcome
+  pub status_is : status ≡ status_after due outcome
+
+-- Some report was due, and was delivered: the sink took the whole of it and its count of faults stayed; or it failed, and then the
+-- status is 5 and it took a prefix of that report.
+pub record IsRun (words : List (List ℕ)) (outside : Outside) (taken : Taken) (status : ℕ) : Type 0 where
+  pub due : ℕ
+  pub text : List ℕ
+  pub is_due : IsDue (command_of words) outside due text
+  pub delivered : Delivered taken due text status

@@ -1,9 +1,8 @@
 -- The words behind a command as the program counts them: none, one, two, or more; and its values.
-use Rattle.std.specs.Prelude.{⊤, ℕ, ◌≤◌, IsTrue, List, [], ◌∷◌, ◌&&◌, not, fold, Option, None, Some, is_some, unwrap_or, if◌then◌else◌}
+use Rattle.std.specs.Prelude.{⊤, ℕ, ◌≤◌, IsTrue, List, [], ◌∷◌, fold, Option}
 use Rattle.std.specs.Borrow.{Bor}
 use Rattle.std.specs.Option.{option_map}
-use Rattle.plain_types.specs.declared.limits.TheConstants.{DEFAULT_INFERENCES}
-use Rattle.prover_main.specs.Words.{Options as GivenOptions, Command as Commanded, prove, check, is_filled}
+use Rattle.prover_main.specs.Words.{Options as GivenOptions, Command as Commanded, prove, check, is_filled, prove_with, check_with}
 use Rattle.prover_main.specs.declared.words.Command.{Command}
 use Rattle.prover_main.specs.declared.words.Command.TheVariants.{Prove, Check}
 use Rattle.prover_main.specs.declared.words.Options.{Options}
@@ -42,22 +41,19 @@ abbrev pub command_meant : Command → Commanded
 command_meant (Prove file root inferences) = prove file.now (lent root) inferences
 command_meant (Check file derivation root) = check file.now derivation.now (lent root)
 
+-- words that are counted so; for more than two, three that are empty
+abbrev pub few_listed : FewWords → List (List ℕ)
+few_listed no_word = []
+few_listed (one_word file) = file ∷ []
+few_listed (two_words file other) = file ∷ other ∷ []
+few_listed more_words = [] ∷ [] ∷ [] ∷ []
+
 -- commands by their counted words
 abbrev pub prove_few : FewWords → Option GivenOptions → Option Commanded
-prove_few no_word given = None
-prove_few (one_word file) None = None
-prove_few (one_word file) (Some given) =
-    if is_filled file then Some (prove file given.root (unwrap_or given.inferences DEFAULT_INFERENCES)) else None
-prove_few (two_words file other) given = None
-prove_few more_words given = None
+prove_few words given = prove_with (few_listed words) given
 
 abbrev pub check_few : FewWords → Option GivenOptions → Option Commanded
-check_few no_word given = None
-check_few (one_word file) given = None
-check_few (two_words file derivation) None = None
-check_few (two_words file derivation) (Some given) =
-    if is_filled file && (is_filled derivation && not (is_some given.inferences)) then Some (check file derivation given.root) else None
-check_few more_words given = None
+check_few words given = check_with (few_listed words) given
 
 -- some inference may be counted, and the file has a name
 abbrev pub IsFit : Commanded → Type 0

@@ -1,7 +1,6 @@
 // What commands answer.
 
 ghost use Rattle.std.specs.Prelude.{◌≡◌};
-ghost use Rattle.prover_main.specs.AnswerShape.{answer_meant};
 ghost use Rattle.prover_main.specs.Reports.{status_of, read_status};
 
 use clausal_form::FormCause;
@@ -12,10 +11,16 @@ use tstp_checker::Cause;
 /// What a command answers.
 #[derive(Drop)]
 pub enum Answer {
-    /// The problem is refuted: whether it has a conjecture, and the text of the derivation.
-    Refuted(bool, Text),
+    /// The problem is refuted.
+    Refuted {
+        conjecture: bool,
+        derivation: Text,
+    },
     /// So many inferences were counted, of so many that are allowed.
-    Spent(u32, u32),
+    Spent {
+        count: u32,
+        allowed: u32,
+    },
     /// No inference is left, and the empty clause wasn't derived.
     Closed,
     /// The clauses of the formula of a name aren't built yet.
@@ -23,11 +28,18 @@ pub enum Answer {
     /// The derivation is accepted, with so many lines.
     Accepted(u32),
     /// The derivation's first bad line, and the first cause there. A file over the limit is refused as a text, at line 0.
-    Refused(u32, Cause),
+    Refused {
+        line: u32,
+        cause: Cause,
+    },
     /// The derivation's file couldn't be loaded.
     Unloaded(Text),
     /// The problem isn't read, for a cause in a file at a place.
-    Unread(ReadCause, Text, u32),
+    Unread {
+        cause: ReadCause,
+        file: Text,
+        place: u32,
+    },
     /// The problem has no clausal form, because of the formula of a name.
     Unformed(FormCause, Text),
 }
@@ -35,15 +47,15 @@ pub enum Answer {
 impl Answer {
     /// The status with which the program ends.
     pub fn status(&self) -> u8
-        ensures { result ≡ status_of (answer_meant self.now) }
+        ensures { result ≡ status_of self.now }
     {
         match self {
-            Answer::Refuted(_, _) | Answer::Accepted(_) => 0,
-            Answer::Spent(_, _) => 2,
+            Answer::Refuted { .. } | Answer::Accepted(_) => 0,
+            Answer::Spent { .. } => 2,
             Answer::NotBuilt(_) | Answer::Unformed(_, _) => 3,
             Answer::Unloaded(_) => 4,
-            Answer::Unread(cause, _, _) => read_status(*cause),
-            Answer::Refused(_, _) => 9,
+            Answer::Unread { cause, .. } => read_status(*cause),
+            Answer::Refused { .. } => 9,
             Answer::Closed => 10,
         }
     }

@@ -4,8 +4,9 @@ ghost use Rattle.std.specs.Prelude.{◌≡◌, ◌≤◌, IfOk, length};
 ghost use Rattle.std.specs.Option.{option_copied};
 ghost use Rattle.signature.specs.Form.{clausal_form};
 ghost use Rattle.clausal_form.specs.Form.{form_of};
+ghost use Rattle.prover_main.specs.Outside.{outside_by};
 ghost use Rattle.prover_main.specs.Answer.{IsCheckAnswer};
-ghost use Rattle.prover_main.specs.AnswerShape.{answer_meant, IsJudgement};
+ghost use Rattle.prover_main.specs.AnswerShape.{IsJudgement};
 
 use crate::answer::Answer;
 use crate::problem::{FormedProblem, formed_problem};
@@ -24,15 +25,9 @@ pub fn check_answer<L: Library>(
     root: Option<&str>,
 ) -> Mem<Answer>
     ensures { IfOk result (λ answer. IsCheckAnswer
-        (record {
-          told = L.told library.old;
-          faults_before = L.faults library.old;
-          faults_after = L.faults library.new;
-          found_after = L.found library.new;
-          failed_after = L.failed library.new;
-        })
+        (outside_by L.told L.faults L.found L.failed library.old library.new)
         (record { file = file.now; root = option_copied root.entry })
-        derivation.now (answer_meant answer)) }
+        derivation.now answer) }
 {
     let formed = match formed_problem(alloc, library, file, root) {
         Ok(formed) => formed,
@@ -40,7 +35,10 @@ pub fn check_answer<L: Library>(
     };
     match library.load(alloc, derivation, MOST_TEXT_BYTES) {
         Ok(text) => judged(alloc, &formed, text.as_slice()),
-        Err(LoadFault::TooLong) => Ok(Answer::Refused(0, Cause::Text)),
+        Err(LoadFault::TooLong) => Ok(Answer::Refused {
+            line: 0,
+            cause: Cause::Text,
+        }),
         Err(LoadFault::Failed) => Ok(Answer::Unloaded(Text::from_slice(
             alloc,
             derivation.as_bytes(),
@@ -53,11 +51,11 @@ pub fn check_answer<L: Library>(
 fn judged(alloc: Global, formed: &FormedProblem, text: &[u8]) -> Mem<Answer>
     requires form { form_of formed.now.form ≡ clausal_form formed.now.problem.formulas }
     requires small { length text.now ≤ MOST_TEXT_BYTES }
-    ensures { IfOk result (λ answer. IsJudgement formed.now.problem.formulas text.now (answer_meant answer)) }
+    ensures { IfOk result (λ answer. IsJudgement formed.now.problem.formulas text.now answer) }
 {
     match check(alloc, &formed.problem, &formed.form, text) {
         Ok(Accepted { lines }) => Ok(Answer::Accepted(lines)),
-        Err(CheckFault::Refused { line, cause }) => Ok(Answer::Refused(line, cause)),
+        Err(CheckFault::Refused { line, cause }) => Ok(Answer::Refused { line, cause }),
         Err(CheckFault::NoMemory) => Err(NoMemory),
     }
 }

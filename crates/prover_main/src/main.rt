@@ -3,6 +3,8 @@
 
 mod answer;
 mod check;
+pub mod laws;
+mod memory_out;
 mod names;
 mod problem;
 mod prove;

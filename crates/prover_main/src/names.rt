@@ -16,7 +16,8 @@ pub fn push_shown(page: &mut Page, bytes: &[u8]) -> Mem<()>
     Ok(())
 }
 
-fn shown_byte(byte: u8) -> u8
+/// A byte as it is shown.
+pub fn shown_byte(byte: u8) -> u8
     ensures { result ≡ shown_as byte }
 {
     if 32 <= byte && byte <= 126 {
@@ -48,9 +49,16 @@ fn without_suffix(bytes: &[u8]) -> &[u8]
     }
 }
 
-/// Adds the name of the problem in a file: what stands behind its last slash, without a final `.p`.
+/// What the name of the problem in a file shows: what stands behind the file's last slash, without a final `.p`.
+pub fn problem_bytes(file: &str) -> &[u8]
+    ensures { shown result.now ≡ problem_name file.entry.now }
+{
+    without_suffix(after_last_slash(file.as_bytes()))
+}
+
+/// Adds the name of the problem in a file.
 pub fn push_problem_name(page: &mut Page, file: &str) -> Mem<()>
     ensures { IfOk result (λ _. page.new ≡ page.old ++ problem_name file.now) }
 {
-    push_shown(page, without_suffix(after_last_slash(file.as_bytes())))
+    push_shown(page, problem_bytes(file))
 }

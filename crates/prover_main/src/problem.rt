@@ -2,7 +2,8 @@
 
 ghost use Rattle.std.specs.Prelude.{◌≡◌, ◌≤◌, IfOk, IfErr};
 ghost use Rattle.std.specs.Option.{option_copied};
-ghost use Rattle.prover_main.specs.AnswerShape.{IsFormedFrom, IsStop, IsStopAnswer, answer_meant};
+ghost use Rattle.prover_main.specs.Outside.{outside_by};
+ghost use Rattle.prover_main.specs.AnswerShape.{IsFormedFrom, IsStop, IsStopAnswer};
 
 use crate::answer::Answer;
 use clausal_form::{Clausal, FormCause, FormFault, clausal};
@@ -33,11 +34,11 @@ pub enum Stop {
 impl Stop {
     /// The answer; want of memory is none.
     pub fn answer(self) -> Mem<Answer>
-        ensures { IfOk result (λ answer. IsStopAnswer self (answer_meant answer)) }
+        ensures { IfOk result (λ answer. IsStopAnswer self answer) }
     {
         match self {
             Stop::NoMemory => Err(NoMemory),
-            Stop::Unread(cause, file, place) => Ok(Answer::Unread(cause, file, place)),
+            Stop::Unread(cause, file, place) => Ok(Answer::Unread { cause, file, place }),
             Stop::Unformed(cause, name) => Ok(Answer::Unformed(cause, name)),
         }
     }
@@ -53,13 +54,7 @@ pub fn formed_problem<L: Library>(
     ensures formed { IfOk result (IsFormedFrom (L.told library.old)
         (record { file = file.now; root = option_copied root.entry })) }
     ensures stopped { IfErr result (IsStop
-        (record {
-          told = L.told library.old;
-          faults_before = L.faults library.old;
-          faults_after = L.faults library.new;
-          found_after = L.found library.new;
-          failed_after = L.failed library.new;
-        })
+        (outside_by L.told L.faults L.found L.failed library.old library.new)
         (record { file = file.now; root = option_copied root.entry })) }
     ensures told { L.told library.new ≡ L.told library.old }
     ensures later { L.faults library.old ≤ L.faults library.new }

@@ -7,13 +7,14 @@ ghost use Rattle.kernel_steps.specs.Derivation.{IsRefutation};
 ghost use Rattle.ground_loop.specs.GroundLines.{AreGroundLines};
 ghost use Rattle.ground_loop.specs.Scope.{IsInScope};
 ghost use Rattle.prover_main.specs.Words.{is_filled};
+ghost use Rattle.prover_main.specs.Outside.{outside_by};
 ghost use Rattle.prover_main.specs.Names.{shown};
 ghost use Rattle.clausal_form.specs.DerivationTexts.{IsAcceptedDerivation};
 ghost use Rattle.signature.specs.Symbol.{IsSignature};
 ghost use Rattle.signature.specs.Form.{clausal_form};
 ghost use Rattle.clausal_form.specs.Form.{form_of};
 ghost use Rattle.prover_main.specs.Answer.{IsProveAnswer, has_conjecture};
-ghost use Rattle.prover_main.specs.AnswerShape.{answer_meant, WasFormed, IsProofAnswer, IsNotBuiltAnswer};
+ghost use Rattle.prover_main.specs.AnswerShape.{WasFormed, IsProofAnswer, IsGroundProof, IsNotBuiltAnswer};
 
 use crate::answer::Answer;
 use crate::names::push_shown;
@@ -38,15 +39,9 @@ pub fn prove_answer<L: Library>(
     requires counted { 1 ≤ limit }
     requires filled { IsTrue (is_filled file.now) }
     ensures { IfOk result (λ answer. IsProveAnswer
-        (record {
-          told = L.told library.old;
-          faults_before = L.faults library.old;
-          faults_after = L.faults library.new;
-          found_after = L.found library.new;
-          failed_after = L.failed library.new;
-        })
+        (outside_by L.told L.faults L.found L.failed library.old library.new)
         (record { file = file.now; root = option_copied root.entry })
-        limit (answer_meant answer)) }
+        limit answer) }
 {
     match formed_problem(alloc, library, file, root) {
         Ok(formed) => proof_answer(alloc, file, &formed, limit),
@@ -59,12 +54,12 @@ fn proof_answer(alloc: Global, file: &str, formed: &FormedProblem, limit: u32) -
     requires formed { WasFormed formed.now }
     requires counted { 1 ≤ limit }
     requires filled { IsTrue (is_filled file.now) }
-    ensures { IfOk result (λ answer. IsProofAnswer formed.now.problem.formulas limit (answer_meant answer)) }
+    ensures { IfOk result (λ answer. IsProofAnswer formed.now.problem.formulas limit answer) }
 {
-    if let Some(index) = first_outside(&formed.form.clauses) {
-        return not_built(alloc, formed, index);
+    match first_outside(&formed.form.clauses) {
+        Some(index) => not_built(alloc, formed, index),
+        None => ground_answer(alloc, file, formed, limit),
     }
-    ground_answer(alloc, file, formed, limit)
 }
 
 /// The answer on a problem whose clauses the ground loop takes.
@@ -73,15 +68,18 @@ fn ground_answer(alloc: Global, file: &str, formed: &FormedProblem, limit: u32) 
     requires counted { 1 ≤ limit }
     requires filled { IsTrue (is_filled file.now) }
     requires scope { IsInScope (map clause_of formed.now.form.clauses) }
-    ensures { IfOk result (λ answer. IsProofAnswer formed.now.problem.formulas limit (answer_meant answer)) }
+    ensures { IfOk result (λ answer. IsGroundProof formed.now.problem.formulas limit answer) }
 {
     match prove_ground(alloc, &formed.form.clauses, limit)? {
-        Ground::Refuted(lines) => Ok(Answer::Refuted(
-            has_conjecture(formed.problem.formulas.as_slice()),
-            derivation_text(alloc, file, formed, &lines)?,
-        )),
+        Ground::Refuted(lines) => Ok(Answer::Refuted {
+            conjecture: has_conjecture(formed.problem.formulas.as_slice()),
+            derivation: derivation_text(alloc, file, formed, &lines)?,
+        }),
         Ground::Closed => Ok(Answer::Closed),
-        Ground::Spent(count) => Ok(Answer::Spent(count, limit)),
+        Ground::Spent(count) => Ok(Answer::Spent {
+            count,
+            allowed: limit,
+        }),
     }
 }
 
@@ -89,7 +87,7 @@ fn ground_answer(alloc: Global, file: &str, formed: &FormedProblem, limit: u32) 
 fn not_built(alloc: Global, formed: &FormedProblem, index: usize) -> Mem<Answer>
     requires form { form_of formed.now.form ≡ clausal_form formed.now.problem.formulas }
     requires index { index < length formed.now.form.clauses }
-    ensures { IfOk result (λ answer. IsNotBuiltAnswer formed.now.problem.formulas index (answer_meant answer)) }
+    ensures { IfOk result (λ answer. IsNotBuiltAnswer formed.now.problem.formulas index answer) }
 {
     let place = origin(formed.form.origins.as_slice(), index);
     let name = name_at(alloc, formed.problem.formulas.as_slice(), place)?;

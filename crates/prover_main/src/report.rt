@@ -1,7 +1,6 @@
 // The reports.
 
 ghost use Rattle.std.specs.Prelude.{◌≡◌, ◌++◌, IfOk};
-ghost use Rattle.prover_main.specs.AnswerShape.{answer_meant};
 ghost use Rattle.prover_main.specs.Reports.{for_problem, status_line, output_line, spent_line, load_line, place_line, formula_line, accepted_line, refused_line, refutation_word, refuted_report, read_status_word, fault_line, report_of};
 
 use crate::answer::Answer;
@@ -150,7 +149,7 @@ fn push_fault(page: &mut Page, cause: ReadCause, name: &[u8], place: u32) -> Mem
 
 /// The report of an answer on the problem in a file.
 pub fn report_of(alloc: Global, file: &str, answer: &Answer) -> Mem<Text>
-    ensures { IfOk result (λ text. text ≡ report_of file.now (answer_meant answer.now)) }
+    ensures { IfOk result (λ text. text ≡ report_of file.now answer.now) }
 {
     let mut page = Page::new(alloc);
     push_report(&mut page, file, answer)?;
@@ -159,13 +158,14 @@ pub fn report_of(alloc: Global, file: &str, answer: &Answer) -> Mem<Text>
 
 /// Adds the report of an answer on the problem in a file.
 fn push_report(page: &mut Page, file: &str, answer: &Answer) -> Mem<()>
-    ensures { IfOk result (λ _. page.new ≡ page.old ++ report_of file.now (answer_meant answer.now)) }
+    ensures { IfOk result (λ _. page.new ≡ page.old ++ report_of file.now answer.now) }
 {
     match answer {
-        Answer::Refuted(conjecture, derivation) => {
-            push_refuted(page, file, *conjecture, derivation.as_slice())
-        }
-        Answer::Spent(count, allowed) => {
+        Answer::Refuted {
+            conjecture,
+            derivation,
+        } => push_refuted(page, file, *conjecture, derivation.as_slice()),
+        Answer::Spent { count, allowed } => {
             push_status(page, b"GaveUp", file)?;
             push_spent(page, *count, *allowed)
         }
@@ -178,12 +178,16 @@ fn push_report(page: &mut Page, file: &str, answer: &Answer) -> Mem<()>
             push_formula(page, b"NotBuilt", name.as_slice())
         }
         Answer::Accepted(lines) => push_accepted(page, *lines),
-        Answer::Refused(line, cause) => push_refused(page, *line, *cause),
+        Answer::Refused { line, cause } => push_refused(page, *line, *cause),
         Answer::Unloaded(name) => {
             push_status(page, b"OSError", file)?;
             push_load(page, name.as_slice())
         }
-        Answer::Unread(cause, name, place) => {
+        Answer::Unread {
+            cause,
+            file: name,
+            place,
+        } => {
             push_status(page, read_status_word(*cause), file)?;
             push_fault(page, *cause, name.as_slice(), *place)
         }

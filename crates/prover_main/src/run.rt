@@ -1,17 +1,19 @@
 // One run of the program.
 
 ghost use Rattle.std.specs.Prelude.{◌≡◌, ◌≤◌, IfOk};
-ghost use Rattle.prover_main.specs.AnswerShape.{answer_meant};
+ghost use Rattle.prover_main.specs.Outside.{outside_by};
 ghost use Rattle.prover_main.specs.Answer.{IsAnswer};
 ghost use Rattle.prover_main.specs.WordParts.{command_meant, IsFit};
-ghost use Rattle.prover_main.specs.Run.{file_of, IsDueTo, IsRun, Delivered};
+ghost use Rattle.prover_main.specs.Reports.{memory_out_report};
+ghost use Rattle.prover_main.specs.Run.{file_of, taken_by, status_after, IsAnswered, IsRun, Delivered};
 
 use crate::answer::Answer;
 use crate::check::check_answer;
+use crate::memory_out::deliver_memory_out;
 use crate::prove::prove_answer;
 use crate::report::report_of;
 use crate::words::{Command, Words};
-use outside::{Library, Sink, deliver};
+use outside::{Library, Sink, SinkFault, deliver};
 use plain_types::{Mem, NoMemory, Text};
 use std::alloc::Global;
 
@@ -26,30 +28,19 @@ struct Report {
 }
 
 /// What the program does with the words of its command line: it proves a problem or checks a derivation, and writes the
-/// report. The answer is the status of the report; 5 where the sink failed, and 7 where memory was wanted. For words that
-/// are usage it takes no memory.
+/// report. The answer is the status of the report, or 5 where the sink failed. For words that are usage it takes no memory,
+/// and none for the report that memory was wanted.
 pub fn run<L: Library, S: Sink>(alloc: Global, words: &Words, library: &mut L, sink: &mut S) -> u8
     ensures { IsRun words.now
-        (record {
-          told = L.told library.old;
-          faults_before = L.faults library.old;
-          faults_after = L.faults library.new;
-          found_after = L.found library.new;
-          failed_after = L.failed library.new;
-        })
-        (record {
-          bytes_before = S.taken sink.old;
-          bytes_after = S.taken sink.new;
-          faults_before = S.faults sink.old;
-          faults_after = S.faults sink.new;
-        })
+        (outside_by L.told L.faults L.found L.failed library.old library.new)
+        (taken_by S.taken S.faults sink.old sink.new)
         result }
 {
     match words.command() {
         None => deliver_report(sink, USAGE, 6),
         Some(command) => match report_to(alloc, command, library) {
             Ok(report) => deliver_report(sink, report.text.as_slice(), report.status),
-            Err(NoMemory) => 7,
+            Err(NoMemory) => report_memory_out(sink, file_of(command)),
         },
     }
 }
@@ -57,16 +48,25 @@ pub fn run<L: Library, S: Sink>(alloc: Global, words: &Words, library: &mut L, s
 /// Writes a report. The answer is its status, or 5 where the sink failed.
 fn deliver_report<S: Sink>(sink: &mut S, text: &[u8], status: u8) -> u8
     ensures { Delivered
-        (record {
-          bytes_before = S.taken sink.old;
-          bytes_after = S.taken sink.new;
-          faults_before = S.faults sink.old;
-          faults_after = S.faults sink.new;
-        })
+        (taken_by S.taken S.faults sink.old sink.new)
         status text.now result }
 {
-    match deliver(sink, text) {
-        Ok(()) => status,
+    status_after(status, deliver(sink, text))
+}
+
+/// Writes that memory was wanted for the problem in a file. The answer is 7, or 5 where the sink failed.
+fn report_memory_out<S: Sink>(sink: &mut S, file: &str) -> u8
+    ensures { Delivered (taken_by S.taken S.faults sink.old sink.new) 7 (memory_out_report file.now) result }
+{
+    status_after(7, deliver_memory_out(sink, file))
+}
+
+/// The status that is due, or 5 where the sink failed.
+fn status_after(due: u8, delivered: Result<(), SinkFault>) -> u8
+    ensures { result ≡ status_after due delivered }
+{
+    match delivered {
+        Ok(()) => due,
         Err(_) => 5,
     }
 }
@@ -75,14 +75,8 @@ fn deliver_report<S: Sink>(sink: &mut S, text: &[u8], status: u8) -> u8
 fn report_to<L: Library>(alloc: Global, command: Command<'_>, library: &mut L) -> Mem<Report>
     requires fit { IsFit (command_meant command) }
     ensures { IfOk result (λ report.
-        IsDueTo (command_meant command.entry)
-        (record {
-          told = L.told library.old;
-          faults_before = L.faults library.old;
-          faults_after = L.faults library.new;
-          found_after = L.found library.new;
-          failed_after = L.failed library.new;
-        })
+        IsAnswered (command_meant command.entry)
+        (outside_by L.told L.faults L.found L.failed library.old library.new)
         report.status report.text) }
 {
     let answer = answer_to(alloc, command, library)?;
@@ -106,14 +100,8 @@ fn file_of<'a>(command: Command<'a>) -> &'a str
 fn answer_to<L: Library>(alloc: Global, command: Command<'_>, library: &mut L) -> Mem<Answer>
     requires fit { IsFit (command_meant command) }
     ensures { IfOk result (λ answer. IsAnswer
-        (record {
-          told = L.told library.old;
-          faults_before = L.faults library.old;
-          faults_after = L.faults library.new;
-          found_after = L.found library.new;
-          failed_after = L.failed library.new;
-        })
-        (command_meant command.entry) (answer_meant answer)) }
+        (outside_by L.told L.faults L.found L.failed library.old library.new)
+        (command_meant command.entry) answer) }
 {
     match command {
         Command::Prove {

@@ -1,167 +1,13 @@
 // What no clause says: that runs end with the report that they should, over memory.
+mod cases;
+
 use super::*;
+use crate::memory_out::deliver_memory_out;
+use cases::{CASES, Case, GROUP, GROUP_AXIOMS, TWO_UNITS};
 use outside::{Files, MemFile, MemLibrary, MemSink};
 use plain_types::Numbers;
 use std::alloc::Global;
 use std::test::Fail;
-
-/// The words, the files' names and bytes, the status, and the report.
-#[derive(Drop)]
-struct Case {
-    words: &'static [&'static str],
-    files: &'static [(&'static str, &'static [u8])],
-    status: u8,
-    report: &'static [u8],
-}
-
-/// What is printed where the words are no command.
-const USAGE: &[u8] =
-    b"usage: prove FILE [--inferences=N] [--tptp=DIR]\n       check FILE DERIVATION [--tptp=DIR]\n";
-
-const TWO_UNITS: &[u8] = b"cnf(a,axiom,p). cnf(b,negated_conjecture,~p).";
-
-const TWO_UNITS_DERIVATION: &[u8] = b"cnf(c0,axiom,p,file('r1.p',a)).\n\
-cnf(c1,negated_conjecture,~p,file('r1.p',b)).\n\
-cnf(c2,plain,p,inference(clausify,[status(esa),index(0)],[c0])).\n\
-cnf(c3,plain,~p,inference(clausify,[status(esa),index(1)],[c1])).\n\
-cnf(c4,plain,~$true,inference(para,[status(thm),from(0,left),into(0,left,[]),bind([]),bind([])],[c2,c3])).\n\
-cnf(c5,plain,$false,inference(refl,[status(thm),lit(0),bind([])],[c4])).\n";
-
-const TWO_UNITS_REPORT: &[u8] = b"% SZS status Unsatisfiable for r1\n\
-% SZS output start CNFRefutation for r1\n\
-cnf(c0,axiom,p,file('r1.p',a)).\n\
-cnf(c1,negated_conjecture,~p,file('r1.p',b)).\n\
-cnf(c2,plain,p,inference(clausify,[status(esa),index(0)],[c0])).\n\
-cnf(c3,plain,~p,inference(clausify,[status(esa),index(1)],[c1])).\n\
-cnf(c4,plain,~$true,inference(para,[status(thm),from(0,left),into(0,left,[]),bind([]),bind([])],[c2,c3])).\n\
-cnf(c5,plain,$false,inference(refl,[status(thm),lit(0),bind([])],[c4])).\n\
-% SZS output end CNFRefutation for r1\n";
-
-const CLAUSES: &[u8] =
-    b"cnf(a,axiom,p|q). cnf(b,axiom,~p|q). cnf(c,axiom,p|~q). cnf(d,axiom,~p|~q).";
-
-const IMPLICATION: &[u8] =
-    b"fof(a,axiom,! [X] : (p(X) => q(X))). fof(b,axiom,p(a)). fof(c,conjecture,q(a)).";
-
-const CASES: &[Case] = &[
-    Case {
-        words: &["prove", "r1.p"],
-        files: &[("r1.p", TWO_UNITS)],
-        status: 0,
-        report: TWO_UNITS_REPORT,
-    },
-    Case {
-        words: &["prove", "q.p"],
-        files: &[("q.p", b"cnf(a,axiom,p(c)).")],
-        status: 10,
-        report: b"% SZS status Unknown for q\n% closed\n",
-    },
-    Case {
-        words: &["prove", "--inferences=1", "r11.p"],
-        files: &[("r11.p", CLAUSES)],
-        status: 2,
-        report: b"% SZS status GaveUp for r11\n% spent 1 of 1\n",
-    },
-    Case {
-        words: &["prove", "r5.p"],
-        files: &[("r5.p", IMPLICATION)],
-        status: 3,
-        report: b"% SZS status InputError for r5\n% NotBuilt in a\n",
-    },
-    Case {
-        words: &["prove", "r13.p"],
-        files: &[("r13.p", b"fof(a,axiom,p & q | r).")],
-        status: 3,
-        report: b"% SZS status InputError for r13\n% Syntax at r13.p:18\n",
-    },
-    Case {
-        words: &["prove", "h.p"],
-        files: &[(
-            "h.p",
-            b"fof(12,axiom,? [X] : ~(p(X) & $true)). fof('A b',axiom,X = X).",
-        )],
-        status: 3,
-        report: b"% SZS status InputError for h\n% FreeVariable at h.p:55\n",
-    },
-    Case {
-        words: &["prove", "n.p"],
-        files: &[("n.p", b"fof(12,axiom,a = b).")],
-        status: 3,
-        report: b"% SZS status InputError for n\n% NotBuilt in 12\n",
-    },
-    Case {
-        words: &["prove", "r21.p"],
-        files: &[("r21.p", b"tff(a,axiom,p).")],
-        status: 8,
-        report: b"% SZS status Inappropriate for r21\n% Typed at r21.p:0\n",
-    },
-    Case {
-        words: &["prove", "none.p"],
-        files: &[],
-        status: 4,
-        report: b"% SZS status OSError for none\n% Load none.p\n",
-    },
-    Case {
-        words: &["prove", "i.p", "--tptp=LIB"],
-        files: &[("i.p", b"include('f.ax').")],
-        status: 4,
-        report: b"% SZS status OSError for i\n% Load LIB/f.ax\n",
-    },
-    Case {
-        words: &["check", "r1.p", "d"],
-        files: &[("r1.p", TWO_UNITS), ("d", TWO_UNITS_DERIVATION)],
-        status: 0,
-        report: b"% accepted 6 lines\n",
-    },
-    Case {
-        words: &["check", "r1.p", "d"],
-        files: &[("r1.p", TWO_UNITS), ("d", b"")],
-        status: 9,
-        report: b"% refused at line 0: NoEmptyClause\n",
-    },
-    Case {
-        words: &["check", "r1.p", "d"],
-        files: &[("r1.p", TWO_UNITS)],
-        status: 4,
-        report: b"% SZS status OSError for r1\n% Load d\n",
-    },
-    Case {
-        words: &["prove"],
-        files: &[],
-        status: 6,
-        report: USAGE,
-    },
-    Case {
-        words: &["--help"],
-        files: &[],
-        status: 6,
-        report: USAGE,
-    },
-    Case {
-        words: &["prove", "--inferences=01", "q.p"],
-        files: &[],
-        status: 6,
-        report: USAGE,
-    },
-    Case {
-        words: &["check", "r1.p", "d", "--tptp=a", "--tptp=a"],
-        files: &[],
-        status: 6,
-        report: USAGE,
-    },
-    Case {
-        words: &["prove", "dir/sub/.p"],
-        files: &[("dir/sub/.p", b"")],
-        status: 10,
-        report: b"% SZS status Unknown for \n% closed\n",
-    },
-    Case {
-        words: &["prove", "d/\x01 x.p.p"],
-        files: &[("d/\x01 x.p.p", b"!")],
-        status: 3,
-        report: b"% SZS status InputError for ? x.p\n% Syntax at d/? x.p.p:0\n",
-    },
-];
 
 fn words_of(alloc: Global, words: &[&str]) -> Result<Words, Fail> {
     let mut list = Words::new(alloc);
@@ -171,18 +17,19 @@ fn words_of(alloc: Global, words: &[&str]) -> Result<Words, Fail> {
     Ok(list)
 }
 
-fn library_of(alloc: Global, files: &[(&str, &[u8])]) -> Result<MemLibrary, Fail> {
+/// A library of these files, whose calls with these numbers fail.
+fn library_of(alloc: Global, files: &[(&str, &[u8])], fail: &[u64]) -> Result<MemLibrary, Fail> {
     let mut list = Files::new(alloc);
     for (name, bytes) in files {
         list.push(MemFile::new(alloc, name, bytes)?)?;
     }
-    Ok(MemLibrary::new(alloc, list, Numbers::new(alloc)))
+    Ok(MemLibrary::new(alloc, list, Numbers::from_slice(alloc, fail)?))
 }
 
 /// The status of a run, and whether its report is the one that is wanted.
 fn outcome(alloc: Global, case: &Case) -> Result<(u8, bool), Fail> {
     let words = words_of(alloc, case.words)?;
-    let mut library = library_of(alloc, case.files)?;
+    let mut library = library_of(alloc, case.files, &[])?;
     let mut sink = MemSink::new(alloc, 64, 100_000, Numbers::new(alloc))?;
     let status = run(alloc, &words, &mut library, &mut sink);
     Ok((status, sink.bytes() == case.report))
@@ -198,16 +45,38 @@ fn runs_report_as_stated(rt: HostRuntime) -> Result<(), Fail> {
     Ok(())
 }
 
+/// What is said of the two units where they are cut off behind so many bytes; none where they are read.
+fn cause_of_cut(end: usize) -> Option<(&'static str, usize)> {
+    match end {
+        0 | 15 | 16 | 45 => None,
+        1 | 2 => Some(("Syntax", 0)),
+        7..=10 => Some(("Role", 6)),
+        17 | 18 => Some(("Syntax", 16)),
+        23..=39 => Some(("Role", 22)),
+        _ => Some(("Syntax", end)),
+    }
+}
+
 #[test]
-fn a_text_that_is_cut_off_is_refused(rt: HostRuntime) -> Result<(), Fail> {
+fn a_text_that_is_cut_off_is_told_where(rt: HostRuntime) -> Result<(), Fail> {
     let alloc = rt.alloc();
     for end in 0..TWO_UNITS.len() {
         let words = words_of(alloc, &["prove", "r1.p"])?;
-        let mut library = library_of(alloc, &[("r1.p", &TWO_UNITS[..end])])?;
+        let mut library = library_of(alloc, &[("r1.p", &TWO_UNITS[..end])], &[])?;
         let mut sink = MemSink::new(alloc, 1000, 1000, Numbers::new(alloc))?;
         let status = run(alloc, &words, &mut library, &mut sink);
-        let whole = end == 0 || end == 15 || end == 16;
-        assert_eq!(rt; status, if whole { 10 } else { 3 }, "cut at {end}");
+        let (wanted, report) = match cause_of_cut(end) {
+            None => (
+                10,
+                format!(in alloc; "% SZS status Unknown for r1\n% closed\n")?,
+            ),
+            Some((cause, place)) => (
+                3,
+                format!(in alloc; "% SZS status InputError for r1\n% {cause} at r1.p:{place}\n")?,
+            ),
+        };
+        assert_eq!(rt; status, wanted, "cut at {end}");
+        assert!(rt; sink.bytes() == report.as_bytes(), "cut at {end}");
     }
     Ok(())
 }
@@ -217,7 +86,7 @@ fn a_file_over_the_limit_is_refused(rt: HostRuntime) -> Result<(), Fail> {
     let alloc = rt.alloc();
     let words = words_of(alloc, &["prove", "r1.p"])?;
     let bytes = vec![in alloc; 32u8; 67_108_865]?;
-    let mut library = library_of(alloc, &[("r1.p", bytes.as_slice())])?;
+    let mut library = library_of(alloc, &[("r1.p", bytes.as_slice())], &[])?;
     let mut sink = MemSink::new(alloc, 1000, 1000, Numbers::new(alloc))?;
     assert_eq!(rt; run(alloc, &words, &mut library, &mut sink), 3);
     assert!(rt;
@@ -230,10 +99,104 @@ fn a_file_over_the_limit_is_refused(rt: HostRuntime) -> Result<(), Fail> {
 fn a_sink_that_fails_ends_the_report(rt: HostRuntime) -> Result<(), Fail> {
     let alloc = rt.alloc();
     let words = words_of(alloc, &["prove", "r2.p"])?;
-    let mut library = library_of(alloc, &[("r2.p", b"")])?;
+    let mut library = library_of(alloc, &[("r2.p", b"")], &[])?;
     let mut sink = MemSink::new(alloc, 8, 1000, Numbers::from_slice(alloc, &[3])?)?;
     assert_eq!(rt; run(alloc, &words, &mut library, &mut sink), 5);
     assert!(rt; sink.bytes() == b"% SZS status Unk".as_slice());
+    Ok(())
+}
+
+// A sink of one byte a call fails at each of its calls in turn, and has taken what came before.
+#[test]
+fn a_report_is_cut_where_the_sink_fails(rt: HostRuntime) -> Result<(), Fail> {
+    let alloc = rt.alloc();
+    let report = b"% SZS status InputError for r4\n% NotBuilt in a\n".as_slice();
+    for call in 1..=report.len() {
+        let words = words_of(alloc, &["prove", "r4.p"])?;
+        let mut library = library_of(alloc, &[("r4.p", b"cnf(a,axiom,p(X)).")], &[])?;
+        let mut sink = MemSink::new(alloc, 1, 1000, Numbers::from_slice(alloc, &[call as u64])?)?;
+        assert_eq!(rt;
+            run(alloc, &words, &mut library, &mut sink),
+            5,
+            "call {call}"
+        );
+        assert!(rt; sink.bytes() == &report[..call - 1], "call {call}");
+    }
+    Ok(())
+}
+
+#[test]
+fn a_library_that_fails_is_told_by_the_name(rt: HostRuntime) -> Result<(), Fail> {
+    let alloc = rt.alloc();
+    let files: [(&str, &[u8]); 2] = [("probs/r7.p", GROUP), ("LIB/Axioms/grp.ax", GROUP_AXIOMS)];
+    for (call, name) in [(1, "probs/r7.p"), (2, "LIB/Axioms/grp.ax")] {
+        let words = words_of(alloc, &["prove", "--tptp=LIB", "probs/r7.p"])?;
+        let mut library = library_of(alloc, files.as_slice(), &[call])?;
+        let mut sink = MemSink::new(alloc, 64, 1000, Numbers::new(alloc))?;
+        assert_eq!(rt; run(alloc, &words, &mut library, &mut sink), 4);
+        let report = format!(in alloc; "% SZS status OSError for r7\n% Load {name}\n")?;
+        assert!(rt; sink.bytes() == report.as_bytes());
+    }
+    Ok(())
+}
+
+// What is printed where memory is wanted, in pieces, and where the sink fails in the third of them.
+#[test]
+fn want_of_memory_is_told_in_pieces(rt: HostRuntime) -> Result<(), Fail> {
+    let alloc = rt.alloc();
+    let mut sink = MemSink::new(alloc, 64, 1000, Numbers::new(alloc))?;
+    assert!(rt; deliver_memory_out(&mut sink, "dir/\x01r1.p").is_ok());
+    assert!(rt; sink.bytes() == b"% SZS status MemoryOut for ?r1\n".as_slice());
+    let mut failing = MemSink::new(alloc, 64, 1000, Numbers::from_slice(alloc, &[4])?)?;
+    assert!(rt; deliver_memory_out(&mut failing, "r1.p").is_err());
+    assert!(rt; failing.bytes() == b"% SZS status MemoryOut for r".as_slice());
+    Ok(())
+}
+
+/// The lines of a report that aren't comments.
+fn derivation_in(alloc: Global, report: &[u8]) -> Result<Vec<u8>, Fail> {
+    let mut lines = Vec::new(alloc);
+    for line in report.split(|byte| *byte == b'\n') {
+        if !line.starts_with(b"%".as_slice()) && !line.is_empty() {
+            lines.extend_from_slice(line)?;
+            lines.push(b'\n')?;
+        }
+    }
+    Ok(lines)
+}
+
+// What is printed between the output lines is accepted by `check`.
+#[test]
+fn printed_refutations_are_accepted(rt: HostRuntime) -> Result<(), Fail> {
+    let alloc = rt.alloc();
+    let problems: [(&str, &[u8]); 3] = [
+        (
+            "Theorem",
+            b"fof(a,axiom,p <=> q). fof(b,axiom,p). fof(c,conjecture,q).",
+        ),
+        (
+            "Unsatisfiable",
+            b"cnf(a,axiom,p|q). cnf(b,axiom,~p|q). cnf(c,axiom,p|~q). cnf(d,axiom,~p|~q).",
+        ),
+        ("Unsatisfiable", b"cnf(a,axiom,$false)."),
+    ];
+    for (word, problem) in problems {
+        let words = words_of(alloc, &["prove", "b.p"])?;
+        let mut library = library_of(alloc, &[("b.p", problem)], &[])?;
+        let mut sink = MemSink::new(alloc, 1000, 100_000, Numbers::new(alloc))?;
+        assert_eq!(rt; run(alloc, &words, &mut library, &mut sink), 0, "{word}");
+        let first = format!(in alloc; "% SZS status {word} for b\n")?;
+        assert!(rt; sink.bytes().starts_with(first.as_bytes()));
+        let derivation = derivation_in(alloc, sink.bytes())?;
+        let checking = words_of(alloc, &["check", "b.p", "d"])?;
+        let mut library = library_of(
+            alloc,
+            &[("b.p", problem), ("d", derivation.as_slice())],
+            &[],
+        )?;
+        let mut sink = MemSink::new(alloc, 1000, 1000, Numbers::new(alloc))?;
+        assert_eq!(rt; run(alloc, &checking, &mut library, &mut sink), 0, "{word}");
+    }
     Ok(())
 }
 
@@ -256,6 +219,54 @@ fn unit_text(alloc: Global, levels: usize, arguments: usize) -> Result<Vec<u8>, 
     Ok(text)
 }
 
+// The text of a clause in so many pairs of brackets.
+fn bracketed_text(alloc: Global, opened: usize, closed: usize) -> Result<Vec<u8>, Fail> {
+    let mut text = Vec::new(alloc);
+    text.extend_from_slice(b"cnf(a,axiom,")?;
+    push_repeated(&mut text, b"(", opened)?;
+    if closed > 0 {
+        text.extend_from_slice(b"p")?;
+        push_repeated(&mut text, b")", closed)?;
+        text.extend_from_slice(b").")?;
+    }
+    Ok(text)
+}
+
+// The text of a clause of so many literals, each of two symbols.
+fn literals_text(alloc: Global, further: usize) -> Result<Vec<u8>, Fail> {
+    let mut text = Vec::new(alloc);
+    text.extend_from_slice(b"cnf(a,axiom,p")?;
+    push_repeated(&mut text, b"|p", further)?;
+    text.extend_from_slice(b").")?;
+    Ok(text)
+}
+
+/// The status of a proof of a problem, and whether the report is the one that is wanted.
+fn outcome_on(alloc: Global, problem: &[u8], report: &[u8]) -> Result<(u8, bool), Fail> {
+    let words = words_of(alloc, &["prove", "d.p"])?;
+    let mut library = library_of(alloc, &[("d.p", problem)], &[])?;
+    let mut sink = MemSink::new(alloc, 64, 1000, Numbers::new(alloc))?;
+    let status = run(alloc, &words, &mut library, &mut sink);
+    Ok((status, sink.bytes() == report))
+}
+
+#[test]
+fn what_passes_a_limit_is_told(rt: HostRuntime) -> Result<(), Fail> {
+    let alloc = rt.alloc();
+    let closed = b"% SZS status Unknown for d\n% closed\n".as_slice();
+    let nesting = b"% SZS status InputError for d\n% Nesting at d.p:512\n".as_slice();
+    let heavy = b"% SZS status InputError for d\n% TooHeavy in a\n".as_slice();
+    assert!(rt;
+        outcome_on(alloc, bracketed_text(alloc, 500, 500)?.as_slice(), closed)? == (10, true)
+    );
+    assert!(rt;
+        outcome_on(alloc, bracketed_text(alloc, 501, 0)?.as_slice(), nesting)? == (3, true)
+    );
+    assert!(rt; outcome_on(alloc, literals_text(alloc, 1999)?.as_slice(), closed)? == (10, true));
+    assert!(rt; outcome_on(alloc, literals_text(alloc, 2000)?.as_slice(), heavy)? == (3, true));
+    Ok(())
+}
+
 // 500 levels, the atom's own among them, and 4,000 symbols are read, `p`, `c` and `$true` among them; beyond either limit the answer is 3, not 7.
 #[test]
 fn limits_of_a_problem_are_told(rt: HostRuntime) -> Result<(), Fail> {
@@ -263,7 +274,7 @@ fn limits_of_a_problem_are_told(rt: HostRuntime) -> Result<(), Fail> {
     let words = words_of(alloc, ["prove", "w.p"].as_slice())?;
     for (levels, arguments, status) in [(499, 0, 10), (500, 0, 3), (0, 3997, 10), (0, 3998, 3)] {
         let text = unit_text(alloc, levels, arguments)?;
-        let mut library = library_of(alloc, &[("w.p", text.as_slice())])?;
+        let mut library = library_of(alloc, &[("w.p", text.as_slice())], &[])?;
         let mut sink = MemSink::new(alloc, 64, 100, Numbers::new(alloc))?;
         assert_eq!(rt;
             run(alloc, &words, &mut library, &mut sink),

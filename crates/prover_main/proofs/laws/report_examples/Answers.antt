@@ -1,0 +1,21 @@
+use Rattle.std.proofs.Common.{refl}
+use Rattle.std.specs.Fmt.{digits}
+use Rattle.prover_main.proofs.laws.report_examples.Goals as goal
+
+pub returns : goal.returns
+unfolding digits
+returns c = record {
+  theorem = refl;
+  unsatisfiable = refl;
+  accepted = refl;
+  spent = refl;
+  syntax = refl;
+  too_heavy = refl;
+  not_built = refl;
+  problem_lost = refl;
+  derivation_lost = refl;
+  memory_out = refl;
+  typed = refl;
+  refused = refl;
+  closed = refl;
+}

@@ -1,0 +1,11 @@
+use Rattle.std.proofs.Common.{◌≡◌, take}
+use Rattle.outside.specs.Sink.{with_bytes}
+use Rattle.prover_main.specs.Names.{shown}
+use Rattle.prover_main.proofs.memory_out.deliver_shown.Given as goal
+
+-- the bytes up to this one were taken, as they are shown
+abbrev pub invariant-loop-byte : goal.invariant-loop-byte
+invariant-loop-byte g l = record {
+  taken : g.S.Sink.taken l.sink ≡ with_bytes (g.S.Sink.taken l.fn.sink) (shown (take l.byte-index l.bytes));
+  stays : g.S.Sink.faults l.sink ≡ g.S.Sink.faults l.fn.sink;
+}
