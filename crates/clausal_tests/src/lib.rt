@@ -4,4 +4,8 @@
 #[cfg(test)]
 mod forms;
 #[cfg(test)]
+mod printing;
+#[cfg(test)]
+mod stages;
+#[cfg(test)]
 mod texts;

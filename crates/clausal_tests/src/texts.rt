@@ -22,14 +22,34 @@ pub(crate) fn problem_of(alloc: Global, text: &[u8]) -> Mem<Problem>
     }
 }
 
-/// `(p0&q0)|(p1&q1)|..`, so many conjunctions.
-pub(crate) fn conjunctions(alloc: Global, count: u32) -> Mem<Vec<u8>> {
+/// `(p0&q0)|(p1&q1)|..`, so many conjunctions, behind a quantifier or nothing. Each predicate has the arguments, or none.
+pub(crate) fn conjunctions(
+    alloc: Global,
+    count: u32,
+    quantifier: &str,
+    arguments: &str,
+) -> Mem<Vec<u8>> {
     let mut text = Vec::new(alloc);
-    text.extend_from_slice(b"fof(a,axiom,(p&q)")?;
-    for number in 1..count {
-        text.extend_from_slice(format!(in alloc; "|(p{number}&q{number})")?.as_bytes())?;
+    text.extend_from_slice(format!(in alloc; "fof(a,axiom,{quantifier}(")?.as_bytes())?;
+    for number in 0..count {
+        if number > 0 {
+            text.push(b'|')?;
+        }
+        let member = format!(in alloc; "(p{number}{arguments}&q{number}{arguments})")?;
+        text.extend_from_slice(member.as_bytes())?;
     }
-    text.extend_from_slice(b").")?;
+    text.extend_from_slice(b")).")?;
+    Ok(text)
+}
+
+/// `((p|p|..)&q&..&q)|(r&..&r)`: so many times `p`, eight times `q` and eight times `r`. The nine clauses of the first part get a name.
+pub(crate) fn named_clause(alloc: Global, count: u32) -> Mem<Vec<u8>> {
+    let mut text = Vec::new(alloc);
+    text.extend_from_slice(b"fof(a,axiom,((p")?;
+    for _ in 1..count {
+        text.extend_from_slice(b"|p")?;
+    }
+    text.extend_from_slice(b")&q&q&q&q&q&q&q&q)|(r&r&r&r&r&r&r&r)).")?;
     Ok(text)
 }
 
