@@ -1,6 +1,6 @@
 -- Two formulas say the same where the first that says the same is one.
 use Rattle.std.proofs.Common.{◌≡◌, ℕ, zero, suc, ◌+◌, ◌<◌, ◌≤◌, Bool, true, false, ◌==◌, List, [], ◌∷◌, ◌++◌, map, drop, length, get_or, Option, Some, None, refl, ap, ap₂, sym, ◌∙◌, append-nil, arith}
-use Rattle.std.specs.Prelude.{option_map, option_and_then, unwrap_or, slice_get, position, if◌then◌else◌}
+use Rattle.std.specs.Prelude.{option_map, option_and_then, unwrap_or, slice_get, if◌then◌else◌}
 use Rattle.std.proofs.lemmas.Bool.{eqb-true, eq-eqb, true≢false, false_from_ne_true}
 use Rattle.std.proofs.lemmas.Option.{slice_get-map, none-some}
 use Rattle.signature.proofs.OccurrenceLemmas.{drop-item, drop-end}

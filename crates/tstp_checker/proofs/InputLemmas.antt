@@ -3,7 +3,6 @@ use Rattle.std.proofs.Common.{◌≡◌, ℕ, suc, ◌+◌, ◌<◌, Bool, true,
 use Rattle.std.specs.Prelude.{Option, None, Some, position, nat_lt, if◌then◌else◌}
 use Rattle.std.specs.List.{position_or_len}
 use Rattle.std.proofs.lemmas.Bool.{ltb-true, ltb-false, lt-ltb, le-ltb}
-use Rattle.indexmap.specs.IndexMap.{get, Updates}
 use Rattle.signature.proofs.OccurrenceLemmas.{drop-item}
 use Rattle.tptp_tree.specs.Entries.{AnnotatedTree}
 use Rattle.tptp_tree.specs.declared.problem.Annotated.{Annotated}

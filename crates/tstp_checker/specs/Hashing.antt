@@ -1,6 +1,6 @@
 -- What an annotated formula feeds to a hasher: its names in their order, a number before each for what it is, and a mark where a list
 -- ends, so that different formulas feed different writes.
-use Rattle.std.specs.Prelude.{ℕ, ◌+◌, true, false, List, [], ◌∷◌, ◌++◌}
+use Rattle.std.specs.Prelude.{◌+◌, true, false, [], ◌∷◌, ◌++◌}
 use Rattle.std.specs.Hash.{HashWrites, u8}
 use Rattle.tptp_tree.specs.Term.{TermTree, variable, application, TermTrees, no_terms, term_then}
 use Rattle.tptp_tree.specs.Formula.{FormulaTree, truth, falsity, predicate, equation, negation, conjunction, disjunction, connected, quantified, FormulaTrees, no_formulas, formula_then}
