@@ -5,7 +5,7 @@ use Rattle.std.specs.List.{list_all}
 use Rattle.std.proofs.lemmas.Bool.{and_parts}
 use Rattle.std.proofs.lemmas.Grind.{flat_map-append}
 use Rattle.fol_base.specs.Tree.{Tree, variable, application, trees_of, tree_then as then_trees}
-use Rattle.tptp_tree.specs.Term.{TermTree, application as named_application, term_then}
+use Rattle.tptp_tree.specs.Term.{TermTree, application as named_application}
 use Rattle.tptp_source.specs.General.{GeneralTree, variable as general_variable, word, dollar, number as general_number, distinct, negated, listed, joined, GeneralTrees, no_trees, tree_then, list_of_trees, trees_of as generals_of, tree_size as general_size, trees_size as generals_size}
 use Rattle.tptp_source.specs.Shape.{tree_of as general_of}
 use Rattle.tptp_source.specs.declared.term.GeneralTerm.{GeneralTerm}

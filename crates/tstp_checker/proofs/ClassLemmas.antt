@@ -1,6 +1,6 @@
 -- Two formulas say the same where the first that says the same is one.
 use Rattle.std.proofs.Common.{◌≡◌, ℕ, zero, suc, ◌+◌, ◌<◌, ◌≤◌, Bool, true, false, ◌==◌, List, [], ◌∷◌, ◌++◌, map, drop, length, get_or, Option, Some, None, refl, ap, ap₂, sym, ◌∙◌, append-nil, arith}
-use Rattle.std.specs.Prelude.{option_map, option_and_then, unwrap_or, slice_get, position, if◌then◌else◌}
+use Rattle.std.specs.Prelude.{option_map, option_and_then, unwrap_or, slice_get, if◌then◌else◌}
 use Rattle.std.proofs.lemmas.Bool.{eqb-true, eq-eqb, true≢false, false_from_ne_true}
 use Rattle.std.proofs.lemmas.Option.{slice_get-map, none-some}
 use Rattle.signature.proofs.OccurrenceLemmas.{drop-item, drop-end}
@@ -8,9 +8,10 @@ use Rattle.tptp_tree.specs.declared.problem.Annotated.{Annotated}
 use Rattle.clausal_form.specs.DerivationLine.{same_entry, entry_of}
 use Rattle.tstp_checker.specs.Classes.{class_of, same_at, same_place, AreClasses}
 use Rattle.tstp_checker.specs.declared.classes.Classes.{Classes}
-use Rattle.tstp_checker.proofs.InputLemmas.{found_from, whole-search, matches}
+use Rattle.tstp_checker.specs.Inputs.{first_from}
+use Rattle.tstp_checker.proofs.InputLemmas.{whole-search, matches}
 use Rattle.tstp_checker.proofs.NumberLemmas.{append-more}
-use Rattle.tstp_checker.proofs.EntryLemmas.{same_entry-refl, same_entry-like}
+use Rattle.tstp_checker.specs.EntryLaws.{same_entry-refl, same_entry-like}
 
 -- ---- a list made of another, one after another
 
@@ -36,43 +37,43 @@ map-ends f xs i made h w = sym (append-nil made) ∙ ap (λ us. made ++ map f us
 
 -- ---- searches by two tests
 
-found-above : (P : Annotated → Bool) (i : ℕ) (fs : List Annotated) (k : ℕ) → found_from P i fs ≡ Some k → i ≤ k
+found-above : (P : Annotated → Bool) (i : ℕ) (fs : List Annotated) (k : ℕ) → first_from P i fs ≡ Some k → i ≤ k
 found-above P i [] k h = absurd (none-some k h)
 found-above P i (f ∷ fs) k h = by (P f) (found-above P (i + 1) fs k) h
   where
-    by : (b : Bool) → (found_from P (i + 1) fs ≡ Some k → i + 1 ≤ k) → (if b then Some i else found_from P (i + 1) fs) ≡ Some k → i ≤ k
+    by : (b : Bool) → (first_from P (i + 1) fs ≡ Some k → i + 1 ≤ k) → (if b then Some i else first_from P (i + 1) fs) ≡ Some k → i ≤ k
     by true above g = let same : i ≡ k = cc in omega (arith, same)
     by false above g = omega (arith, above g)
 
 found-both :
     (P Q : Annotated → Bool) (i : ℕ) (fs : List Annotated) (k : ℕ)
-    → found_from P i fs ≡ Some k → found_from Q i fs ≡ Some k → (f : Annotated) × (P f ≡ true) × (Q f ≡ true)
+    → first_from P i fs ≡ Some k → first_from Q i fs ≡ Some k → (f : Annotated) × (P f ≡ true) × (Q f ≡ true)
 found-both P Q i [] k h g = absurd (none-some k h)
 found-both P Q i (f ∷ fs) k h g = by (P f) (Q f) refl refl (found-both P Q (i + 1) fs k) h g
   where
     by :
         (a b : Bool) → P f ≡ a → Q f ≡ b
-        → (found_from P (i + 1) fs ≡ Some k → found_from Q (i + 1) fs ≡ Some k → (f' : Annotated) × (P f' ≡ true) × (Q f' ≡ true))
-        → (if a then Some i else found_from P (i + 1) fs) ≡ Some k → (if b then Some i else found_from Q (i + 1) fs) ≡ Some k
+        → (first_from P (i + 1) fs ≡ Some k → first_from Q (i + 1) fs ≡ Some k → (f' : Annotated) × (P f' ≡ true) × (Q f' ≡ true))
+        → (if a then Some i else first_from P (i + 1) fs) ≡ Some k → (if b then Some i else first_from Q (i + 1) fs) ≡ Some k
         → (f' : Annotated) × (P f' ≡ true) × (Q f' ≡ true)
     by true true p q more u v = (f, p, q)
     by true false p q more u v = let same : i ≡ k = cc in absurd (omega (arith, same, found-above Q (i + 1) fs k v))
     by false true p q more u v = let same : i ≡ k = cc in absurd (omega (arith, same, found-above P (i + 1) fs k u))
     by false false p q more u v = more u v
 
-found-alike : (P Q : Annotated → Bool) (i : ℕ) (fs : List Annotated) → ((f : Annotated) → P f ≡ Q f) → found_from P i fs ≡ found_from Q i fs
+found-alike : (P Q : Annotated → Bool) (i : ℕ) (fs : List Annotated) → ((f : Annotated) → P f ≡ Q f) → first_from P i fs ≡ first_from Q i fs
 found-alike P Q i [] same = refl
 found-alike P Q i (f ∷ fs) same =
-    ap (λ b. if b then Some i else found_from P (i + 1) fs) (same f) ∙ ap (λ o. if Q f then Some i else o) (found-alike P Q (i + 1) fs same)
+    ap (λ b. if b then Some i else first_from P (i + 1) fs) (same f) ∙ ap (λ o. if Q f then Some i else o) (found-alike P Q (i + 1) fs same)
 
 found-there :
     (P : Annotated → Bool) (i : ℕ) (fs : List Annotated) (q : ℕ) (f : Annotated)
-    → slice_get fs q ≡ Some f → P f ≡ true → (k : ℕ) × (found_from P i fs ≡ Some k)
+    → slice_get fs q ≡ Some f → P f ≡ true → (k : ℕ) × (first_from P i fs ≡ Some k)
 found-there P i [] q f h p = absurd (none-some f h)
-found-there P i (g ∷ gs) zero f h p = let same : g ≡ f = cc in (i, ap (λ b. if b then Some i else found_from P (i + 1) gs) (ap P same ∙ p))
+found-there P i (g ∷ gs) zero f h p = let same : g ≡ f = cc in (i, ap (λ b. if b then Some i else first_from P (i + 1) gs) (ap P same ∙ p))
 found-there P i (g ∷ gs) (suc q) f h p = by (P g) (found-there P (i + 1) gs q f h p)
   where
-    by : (b : Bool) → ((k : ℕ) × (found_from P (i + 1) gs ≡ Some k)) → (k : ℕ) × ((if b then Some i else found_from P (i + 1) gs) ≡ Some k)
+    by : (b : Bool) → ((k : ℕ) × (first_from P (i + 1) gs ≡ Some k)) → (k : ℕ) × ((if b then Some i else first_from P (i + 1) gs) ≡ Some k)
     by true more = (i, refl)
     by false more = more
 
@@ -83,13 +84,13 @@ class-same :
     → slice_get fs q ≡ Some b → same_entry (entry_of a) (entry_of b) ≡ same_place (class_of fs a) (class_of fs b)
 class-same fs q a b there = by (same_entry (entry_of a) (entry_of b)) refl
   where
-    of_a : class_of fs a ≡ found_from (matches (entry_of a)) 0 fs
+    of_a : class_of fs a ≡ first_from (matches (entry_of a)) 0 fs
     of_a = sym (whole-search (matches (entry_of a)) fs)
 
-    of_b : class_of fs b ≡ found_from (matches (entry_of b)) 0 fs
+    of_b : class_of fs b ≡ first_from (matches (entry_of b)) 0 fs
     of_b = sym (whole-search (matches (entry_of b)) fs)
 
-    self : (k : ℕ) × (found_from (matches (entry_of b)) 0 fs ≡ Some k)
+    self : (k : ℕ) × (first_from (matches (entry_of b)) 0 fs ≡ Some k)
     self = found-there (matches (entry_of b)) 0 fs q b there (same_entry-refl (entry_of b))
 
     no : (o p : Option ℕ) → class_of fs a ≡ o → class_of fs b ≡ p → same_entry (entry_of a) (entry_of b) ≡ false → false ≡ same_place o p

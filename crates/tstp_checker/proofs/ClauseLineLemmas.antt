@@ -1,12 +1,11 @@
 -- The verdict on lines of clauses that come from the form or introduce a name.
 use mathlib.Core.Bool.{beq}
-use Rattle.std.proofs.Common.{◌≡◌, ℕ, ◌+◌, Bool, true, false, not, ◌&&◌, ◌||◌, ◌==◌, List, [], ◌∷◌, Option, Some, None, refl, ap, ap₂, sym, ◌∙◌, subst, arith}
-use Rattle.std.specs.Prelude.{option_map, option_and_then, unwrap_or, slice_get, codes, bytes_eq, Result, if◌then◌else◌}
-use Rattle.std.proofs.lemmas.Bool.{and_parts, eq-eqb, true≢false}
+use Rattle.std.proofs.Common.{◌≡◌, ℕ, Bool, true, false, not, ◌&&◌, ◌||◌, List, [], ◌∷◌, Option, Some, None, refl, ap, ap₂, sym, ◌∙◌, subst}
+use Rattle.std.specs.Prelude.{option_map, option_and_then, unwrap_or, codes, Result, if◌then◌else◌}
+use Rattle.std.proofs.lemmas.Bool.{eq-eqb}
 use Rattle.plain_types.specs.declared.sequence.NameLit.{NameLit}
-use Rattle.plain_types.specs.Names.{same_name}
 use Rattle.fol_base.specs.Tree.{Tree, Trees, no_trees, tree_then, variable, application, tree_eq, trees_eq}
-use Rattle.fol_base.specs.Clause.{TreeLiteral, TreeClause, literal_eq, literals_eq, names_eq, clause_eq}
+use Rattle.fol_base.specs.Clause.{TreeLiteral, TreeClause, literals_eq, names_eq, clause_eq}
 use Rattle.fol_base.specs.Ground.{is_ground_literal}
 use Rattle.fol_base.specs.Literal.{clause_of}
 use Rattle.tptp_source.specs.General.{GeneralTree}
@@ -18,8 +17,8 @@ use Rattle.clausal_form.specs.DerivationClause.{is_written_clause, name_number}
 use Rattle.clausal_form.specs.DerivationItems.{only_one, row_arguments}
 use Rattle.clausal_form.specs.DerivationSteps.{of_number}
 use Rattle.clausal_form.specs.DerivationLine.{LineTree, Taken, kernel_line, kernel_lines}
-use Rattle.clausal_form.specs.DerivationParts.{Setting, line_kind, line_names, parents_of, only_parent_step, line_clause}
-use Rattle.clausal_form.specs.DerivationCauses.{Cause, text, clausification, rule, conclusion, new_symbol, Given, fault, gives_clause, is_line_of, is_clausified, index_in, given_by_clausify, opposite_from, given_by_opposite, given_by, is_formula_kind, is_written, has_new_symbol, is_old_name, LineVerdict, refused, taken, compared, line_verdict}
+use Rattle.clausal_form.specs.DerivationParts.{Setting, line_kind, line_names, line_clause}
+use Rattle.clausal_form.specs.DerivationCauses.{text, clausification, rule, conclusion, new_symbol, Given, fault, gives_clause, is_clausified, given_by_clausify, opposite_from, given_by_opposite, given_by, is_formula_kind, has_new_symbol, is_old_name, LineVerdict, refused, taken, compared, line_verdict}
 use Rattle.clausal_form.proofs.GivenLemmas.{clause_eq-says}
 use Rattle.tstp_checker.specs.declared.parts.LineParts.{LineParts}
 use Rattle.tstp_checker.specs.declared.refusal.Refusal.{Refusal}

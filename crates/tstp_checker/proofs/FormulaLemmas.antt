@@ -1,7 +1,7 @@
 -- Lists that are compared item by item.
 use Rattle.std.proofs.Common.{◌≡◌, ℕ, suc, Bool, true, false, ◌&&◌, List, [], ◌∷◌, length, refl, ap, ◌∙◌}
 use Rattle.std.specs.Prelude.{bytes_eq}
-use Rattle.tptp_tree.specs.Term.{TermTree, variable, terms_of}
+use Rattle.tptp_tree.specs.Term.{TermTree, terms_of}
 use Rattle.tptp_tree.specs.Formula.{FormulaTree, formulas_of}
 use Rattle.tptp_tree.specs.Codes.{encoded, text_terms, encoded_formulas}
 use Rattle.clausal_form.specs.DerivationLine.{same_term, same_terms}

@@ -15,7 +15,7 @@ use Rattle.clausal_form.specs.DerivationParts.{Setting, line_kind, parent_places
 use Rattle.clausal_form.specs.DerivationCauses.{text, order, unknown_parent, leaf, conclusion, Given, fault, gives_formula, cited, place_of_entry, given_by_file, given_by, is_formula_kind, is_written, LineVerdict, refused, taken, compared, line_verdict}
 use Rattle.tstp_checker.specs.FormulaLines.{cited_at}
 use Rattle.tstp_checker.specs.Verdicts.{with_names_asked}
-use Rattle.tstp_checker.proofs.EntryLemmas.{same_formula-refl}
+use Rattle.tstp_checker.specs.EntryLaws.{same_formula-refl}
 
 -- a line of a formula is always written as one
 pub formula-asked :

@@ -9,7 +9,7 @@ use Rattle.std.specs.Borrow.{Bor}
 use Rattle.std.proofs.lemmas.Bool.{eqb-true}
 use Rattle.std.specs.List.{list_any}
 use Rattle.signature.proofs.OccurrenceLemmas.{drop-item, drop-end}
-use Rattle.tptp_source.specs.General.{GeneralTree, word, listed, no_trees, trees_of, list_of_trees}
+use Rattle.tptp_source.specs.General.{GeneralTree, word, listed, trees_of}
 use Rattle.tptp_source.specs.Shape.{tree_of}
 use Rattle.tptp_source.specs.declared.term.GeneralTerm.{GeneralTerm}
 use Rattle.clausal_form.specs.DerivationItems.{arguments, has_word, plain_word, is_plain, is_one_word, have_words, items_with, row_arguments, list_in, numbers_in}

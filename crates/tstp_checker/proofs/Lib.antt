@@ -12,7 +12,6 @@ pub mod StepLemmas
 pub mod ReadingLemmas
 pub mod CheckLemmas
 pub mod TakenLemmas
-pub mod EntryLemmas
 pub mod ClassLemmas
 pub mod RuleStepLemmas
 pub mod FormulaLineLemmas

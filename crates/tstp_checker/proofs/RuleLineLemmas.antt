@@ -1,17 +1,16 @@
 -- The verdict on lines of clauses by rules with parents.
-use Rattle.std.proofs.Common.{◌≡◌, ℕ, ◌+◌, ◌<◌, ◌≤◌, Bool, true, false, not, ◌&&◌, ◌==◌, List, [], ◌∷◌, length, map, drop, get_or, Option, Some, None, refl, ap, sym, ◌∙◌, arith}
+use Rattle.std.proofs.Common.{◌≡◌, ℕ, ◌+◌, ◌<◌, ◌≤◌, Bool, true, false, ◌&&◌, ◌==◌, List, [], ◌∷◌, length, map, drop, get_or, Option, Some, None, refl, ap, sym, ◌∙◌, arith}
 use Rattle.std.specs.Prelude.{option_map, unwrap_or, zip, Err, if◌then◌else◌}
 use Rattle.std.specs.List.{list_all}
 use Rattle.fol_base.specs.Tree.{Tree}
-use Rattle.fol_base.specs.Clause.{TreeClause}
 use Rattle.tptp_source.specs.General.{GeneralTree}
 use Rattle.signature.proofs.OccurrenceLemmas.{drop-item, drop-end}
 use Rattle.kernel_steps.specs.Conclusion.{verdict}
 use Rattle.kernel_steps.specs.declared.step.Step.{Step}
 use Rattle.clausal_form.specs.DerivationSteps.{LineKind, bindings_count, rule_step}
 use Rattle.clausal_form.specs.DerivationLine.{LineTree, Taken}
-use Rattle.clausal_form.specs.DerivationParts.{Setting, line_kind, parents_of, parent_lines, items_of, line_bindings}
-use Rattle.clausal_form.specs.DerivationCauses.{binding, rule, Given, fault, gives_clause, is_bound, are_bound, line_step, concluded, given_by_rule, refused, compared}
+use Rattle.clausal_form.specs.DerivationParts.{Setting, line_kind, parents_of, parent_lines, items_of}
+use Rattle.clausal_form.specs.DerivationCauses.{binding, rule, Given, fault, is_bound, concluded, given_by_rule, refused, compared}
 use Rattle.tstp_checker.specs.declared.parts.LineParts.{LineParts}
 use Rattle.tstp_checker.specs.declared.refusal.Refusal.{Refusal}
 use Rattle.tstp_checker.specs.declared.refusal.Refusal.TheVariants.{Cause, NoMemory}

@@ -1,19 +1,18 @@
 -- The lines that were taken, by their tables.
 use Rattle.std.proofs.Common.{◌≡◌, ℕ, zero, suc, ◌+◌, ◌<◌, ◌≤◌, Bool, true, false, not, ◌||◌, ◌==◌, List, [], ◌∷◌, ◌++◌, map, drop, length, get_or, Option, Some, None, refl, ap, ap₂, sym, ◌∙◌, subst, append-nil, arith}
-use Rattle.std.specs.Prelude.{option_map, option_and_then, slice_get, position, nat_lt, bytes_eq, if◌then◌else◌}
+use Rattle.std.specs.Prelude.{option_map, option_and_then, slice_get, nat_lt, bytes_eq, if◌then◌else◌}
 use Rattle.std.specs.List.{list_any, position_or_len}
 use Rattle.std.proofs.lemmas.Bool.{eqb-true, eq-eqb, false_from_ne_true}
-use Rattle.std.proofs.lemmas.Option.{slice_get_within, slice_get_past}
 use Rattle.fol_base.specs.Clause.{TreeClause}
 use Rattle.fol_base.specs.Literal.{clause_of}
 use Rattle.signature.proofs.OccurrenceLemmas.{drop-item, drop-end}
 use Rattle.kernel_steps.specs.Parents.{all_there}
-use Rattle.kernel_steps.specs.Derivation.{is_component_of, is_component, component_clause}
+use Rattle.kernel_steps.specs.Derivation.{is_component_of, component_clause}
 use Rattle.kernel_steps.specs.declared.step.Step.{Step}
 use Rattle.kernel_steps.specs.declared.step.Step.TheVariants as step
 use Rattle.kernel_steps.specs.declared.step.Line.{Line}
 use Rattle.clausal_form.specs.DerivationClause.{name_number}
-use Rattle.clausal_form.specs.DerivationLine.{NamedLine, Taken, kernel_lines}
+use Rattle.clausal_form.specs.DerivationLine.{NamedLine, kernel_lines}
 use Rattle.clausal_form.specs.DerivationParts.{line_place}
 use Rattle.tstp_checker.specs.declared.taken.TakenLines.{TakenLines}
 use Rattle.tstp_checker.specs.Taken.{named_lines, taken_of, clause_at, IsKept, IsNext, introduced_by, components_with}

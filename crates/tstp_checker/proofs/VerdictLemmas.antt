@@ -1,6 +1,6 @@
 -- The verdict on a line, by its kind.
-use Rattle.std.proofs.Common.{◌≡◌, ◌⊎◌, inl, inr, ℕ, ◌+◌, ◌-◌, Bool, true, false, not, ◌&&◌, ◌||◌, ◌==◌, List, [], ◌∷◌, ◌++◌, length, map, take, Option, Some, None, refl, ap, ap₂, sym, ◌∙◌, subst, arith}
-use Rattle.std.specs.Prelude.{Result, Ok, Err, IfOk, OnErr, IsErrAnd, is_some, is_none, option_map, unwrap_or, flat_map, bytes_eq, if◌then◌else◌}
+use Rattle.std.proofs.Common.{◌≡◌, ◌⊎◌, inl, inr, ℕ, ◌+◌, Bool, true, false, not, ◌&&◌, ◌||◌, ◌==◌, List, [], ◌∷◌, ◌++◌, length, map, Option, refl, ap, ap₂, sym, ◌∙◌, subst, arith}
+use Rattle.std.specs.Prelude.{Result, Ok, Err, IfOk, OnErr, IsErrAnd, option_map, unwrap_or, flat_map, bytes_eq, if◌then◌else◌}
 use Rattle.std.specs.List.{list_any, list_all, position_or_len}
 use Rattle.std.proofs.lemmas.Bool.{true≢false}
 use Rattle.std.proofs.lemmas.Cmp.{nat_list_eq_equiv}
@@ -16,12 +16,12 @@ use Rattle.kernel_steps.specs.declared.step.Step.{Step}
 use Rattle.kernel_steps.specs.declared.step.Step.TheVariants as step
 use Rattle.kernel_steps.specs.declared.step.Line.{Line}
 use Rattle.clausal_form.specs.DerivationClause.{is_written_clause, ordinary_literals, symbols_in, Numbering, numbering, term_by, clause_by}
-use Rattle.clausal_form.specs.DerivationItems.{is_plain, bindings_in}
+use Rattle.clausal_form.specs.DerivationItems.{bindings_in}
 use Rattle.clausal_form.specs.DerivationSteps as kind
 use Rattle.clausal_form.specs.DerivationSteps.{LineKind, rule_kind, kind_of, bindings_count}
 use Rattle.clausal_form.specs.DerivationLine.{LineTree, Taken, names_with}
-use Rattle.clausal_form.specs.DerivationParts.{Setting, line_kind, items_of, parents_of, bound_terms, line_names}
-use Rattle.clausal_form.specs.DerivationCauses.{text, Given, given_by, given_by_rule, given_by_clausify, given_by_opposite, is_formula_kind, has_new_symbol, is_old_name, LineVerdict, refused, compared, line_verdict}
+use Rattle.clausal_form.specs.DerivationParts.{Setting, line_kind, items_of, bound_terms, line_names}
+use Rattle.clausal_form.specs.DerivationCauses.{text, given_by, given_by_rule, is_formula_kind, is_old_name, LineVerdict, refused, compared, line_verdict}
 use Rattle.tstp_checker.specs.declared.parts.LineParts.{LineParts}
 use Rattle.tstp_checker.specs.declared.numbers.LineNumbers.{LineNumbers}
 use Rattle.tstp_checker.specs.declared.steps.Kind.{Kind}
@@ -29,7 +29,6 @@ use Rattle.tstp_checker.specs.declared.steps.Kind.TheVariants as told
 use Rattle.tstp_checker.specs.declared.refusal.Refusal.{Refusal}
 use Rattle.tstp_checker.specs.declared.refusal.Refusal.TheVariants.{Cause, NoMemory}
 use Rattle.tstp_checker.specs.Bindings.{all_bound}
-use Rattle.tstp_checker.specs.Causes.{cause_meant}
 use Rattle.tstp_checker.specs.ClauseLines.{is_component_kind}
 use Rattle.tstp_checker.specs.Parts.{parts_numbering}
 use Rattle.tstp_checker.specs.Sources.{bound_items}

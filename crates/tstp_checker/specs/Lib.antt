@@ -3,6 +3,8 @@ pub mod Numbers
 pub mod Written
 pub mod LineClause
 pub mod Bindings
+pub mod Hashing
+pub mod EntryLaws
 pub mod Entries
 pub mod Items
 pub mod Steps

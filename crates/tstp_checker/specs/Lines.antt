@@ -1,5 +1,5 @@
 -- The lines that were taken, and what judging a line more answers.
-use Rattle.std.specs.Prelude.{◌≡◌, List, [], length, Option, None, Some}
+use Rattle.std.specs.Prelude.{◌≡◌, [], length, Option, None, Some}
 use Rattle.tptp_reader.specs.Shape.{tree_of as entry_read}
 use Rattle.tptp_tree.specs.declared.problem.Annotated.{Annotated}
 use Rattle.tptp_source.specs.SourceShape.{source_of}

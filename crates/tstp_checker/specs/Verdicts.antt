@@ -1,9 +1,8 @@
 -- The program's answers on a line, against the verdict.
-use Rattle.std.specs.Prelude.{◌≡◌, ℕ, Bool, false, not, ◌||◌, List, map, Result, Ok, Err, is_some, bytes_eq, if◌then◌else◌}
+use Rattle.std.specs.Prelude.{◌≡◌, ℕ, Bool, false, not, List, Result, Ok, Err, is_some, bytes_eq, if◌then◌else◌}
 use Rattle.std.specs.List.{list_any, list_all, position_or_len}
 use Rattle.fol_base.specs.Literal.{clause_of}
 use Rattle.fol_base.specs.declared.clause.Clause.{Clause}
-use Rattle.tptp_tree.specs.Entries.{AnnotatedTree}
 use Rattle.tptp_source.specs.General.{GeneralTree}
 use Rattle.tptp_source.specs.Sources.{component_source}
 use Rattle.kernel_steps.specs.Conclusion.{Verdict, concludes}

@@ -2,12 +2,10 @@
 
 ghost use Rattle.std.specs.Prelude.{◌≡◌, List, IfOk, option_and_then, slice_get};
 ghost use Rattle.tptp_tree.specs.declared.problem.Annotated.{Annotated};
-ghost use Rattle.clausal_form.specs.DerivationLine.{entry_of};
-ghost use Rattle.tstp_checker.specs.Entries.{entry_meant};
 ghost use Rattle.tstp_checker.specs.Inputs.{KnowsAll};
 ghost use Rattle.tstp_checker.specs.Classes.{same_place, same_at, AreClasses};
 
-use crate::formulas::Entry;
+use crate::entries::entry_of;
 use crate::inputs::Inputs;
 use plain_types::Mem;
 use std::alloc::Global;
@@ -20,7 +18,7 @@ pub(crate) struct Classes {
 }
 
 impl Classes {
-    /// The classes of a problem's formulas. Each is looked up once among those of its name.
+    /// The classes of a problem's formulas. Each is looked up once.
     pub(crate) fn new(alloc: Global, inputs: &Inputs<'_>) -> Mem<Classes>
         requires { KnowsAll inputs.now }
         ensures { IfOk result (AreClasses inputs.now.formulas.now) }
@@ -47,18 +45,6 @@ impl Classes {
     {
         let first = self.firsts.get(place as usize)?;
         *first
-    }
-}
-
-/// What an annotated formula says.
-fn entry_of(formula: &Annotated) -> Entry<'_>
-    ensures { entry_meant result ≡ entry_of formula.now }
-{
-    Entry {
-        name: formula.name.as_slice(),
-        role: formula.role,
-        clause: formula.clause,
-        formula: &formula.formula,
     }
 }
 

@@ -18,7 +18,8 @@ ghost use Rattle.tstp_checker.specs.FormulaLines.{cited_at, conjecture_of, lent_
 ghost use Rattle.tstp_checker.specs.Lines.{line_meant, setting_in, taken_in, IsReady};
 
 use crate::cause::Cause;
-use crate::formulas::{Entry, same_formula};
+use crate::entries::Entry;
+use crate::formulas::same_formula;
 use crate::items::row_arguments;
 use crate::lines::Lines;
 use crate::refusal::Refusal;

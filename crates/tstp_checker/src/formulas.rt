@@ -5,30 +5,10 @@ ghost use Rattle.tptp_tree.specs.Codes.{encoded, text_terms, encoded_formulas};
 ghost use Rattle.tptp_tree.specs.Term.{terms_of, term_then};
 ghost use Rattle.tptp_tree.specs.Formula.{formulas_of};
 ghost use Rattle.tptp_tree.specs.Shape.{term_of, formula_of};
-ghost use Rattle.clausal_form.specs.DerivationLine.{same_term, same_terms, same_formula, same_entry, entry_of};
-ghost use Rattle.tstp_checker.specs.Entries.{entry_meant};
+ghost use Rattle.clausal_form.specs.DerivationLine.{same_term, same_terms, same_formula};
 
 use plain_types::{Text, Texts};
-use tptp_tree::{Annotated, Formula, FormulaBox, Role, TreeTerm, TreeTerms};
-
-/// What an annotated formula says, lent.
-#[derive(Clone, Copy)]
-pub(crate) struct Entry<'a> {
-    pub name: &'a [u8],
-    pub role: Role,
-    pub clause: bool,
-    pub formula: &'a Formula,
-}
-
-/// Whether a formula of a problem says the same.
-pub(crate) fn same_entry(one: Entry<'_>, other: &Annotated) -> bool
-    ensures { result ≡ same_entry (entry_meant one.entry) (entry_of other.now) }
-{
-    one.name == other.name.as_slice()
-        && one.role.word() == other.role.word()
-        && one.clause == other.clause
-        && same_formula(one.formula, &other.formula)
-}
+use tptp_tree::{Formula, FormulaBox, TreeTerm, TreeTerms};
 
 /// Whether two formulas are the same. The time is linear in the smaller one.
 #[cycle(same_formula)]

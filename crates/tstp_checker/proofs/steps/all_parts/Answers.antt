@@ -1,4 +1,4 @@
-use Rattle.std.proofs.Common.{ap, sym, ◌∙◌}
+use Rattle.std.proofs.Common.{sym, ◌∙◌}
 use Rattle.clausal_form.specs.DerivationItems.{numbers_in}
 use Rattle.tstp_checker.proofs.ItemLemmas.{all-starts, all-none, all-more, all-end}
 use Rattle.tstp_checker.proofs.steps.all_parts.Goals as goal

@@ -1,4 +1,3 @@
-use Rattle.std.proofs.Common.{sym, ◌∙◌}
 use Rattle.clausal_form.specs.DerivationItems.{introduced_in}
 use Rattle.tstp_checker.proofs.ItemLemmas.{all-starts, all-none, all-more, all-end}
 use Rattle.tstp_checker.proofs.steps.all_pivots.Goals as goal

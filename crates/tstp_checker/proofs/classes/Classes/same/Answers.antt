@@ -1,4 +1,4 @@
-use Rattle.std.proofs.Common.{ap, sym, ◌∙◌}
+use Rattle.std.proofs.Common.{ap, ◌∙◌}
 use Rattle.std.specs.Prelude.{option_and_then, slice_get}
 use Rattle.tstp_checker.proofs.ClassLemmas.{classes-tell}
 use Rattle.tstp_checker.proofs.classes.Classes.same.Goals as goal

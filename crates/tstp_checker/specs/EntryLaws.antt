@@ -1,15 +1,17 @@
--- Formulas that say the same are alike in all that is compared.
+-- Formulas that say the same: an equivalence, and alike in all that is compared or fed to a hasher.
 use mathlib.Core.Bool.{beq}
-use Rattle.std.proofs.Common.{◌≡◌, ℕ, Bool, true, false, ◌&&◌, List, [], ◌∷◌, refl, ap, ap₂, sym, ◌∙◌}
-use Rattle.std.specs.Prelude.{bytes_eq}
+use Rattle.std.proofs.Common.{◌≡◌, ℕ, Bool, true, false, ◌&&◌, List, ◌∷◌, refl, ap, ap₂, sym, ◌∙◌}
+use Rattle.std.specs.Prelude.{bytes_eq, IsTrue}
+use Rattle.std.specs.Cmp.{IsEquivalence}
 use Rattle.std.proofs.lemmas.Bool.{and_parts, true≢false}
 use Rattle.std.proofs.lemmas.Cmp.{nat_list_eq_equiv}
 use Rattle.std.proofs.lemmas.Slice.Eq.{bytes_eq-Decides}
 use Rattle.tptp_tree.specs.Term.{TermTree, variable, application, TermTrees, no_terms, term_then}
 use Rattle.tptp_tree.specs.Formula.{FormulaTree, negation}
-use Rattle.tptp_tree.specs.Codes.{encoded}
+use Rattle.tptp_tree.specs.Codes.{encoded, decoded, decoded-formula}
 use Rattle.tptp_tree.specs.Entries.{AnnotatedTree, role_word}
 use Rattle.clausal_form.specs.DerivationLine.{same_term, same_terms, same_formula, same_entry}
+use Rattle.tstp_checker.specs.Hashing.{formula_writes, entry_writes}
 
 bytes-refl : (x : List ℕ) → bytes_eq x x ≡ true
 bytes-refl x = nat_list_eq_equiv.refl x
@@ -86,3 +88,24 @@ same_entry-like a b x h =
     ∙ ap (λ r. same_parts b.name r a.is_clause (encoded a.formula) x) ((bytes_eq-Decides (role_word a.role) (role_word b.role)).0 second.0)
     ∙ ap (λ k. same_parts b.name (role_word b.role) k (encoded a.formula) x) (beq-says a.is_clause b.is_clause third.0)
     ∙ ap (λ e. same_parts b.name (role_word b.role) b.is_clause e x) (same_term-says (encoded a.formula) (encoded b.formula) third.1)
+
+pub same_entry-symm : (a b : AnnotatedTree) → same_entry a b ≡ same_entry b a
+same_entry-symm a b = by (same_entry a b) (same_entry b a) refl refl
+  where
+    by : (s t : Bool) → same_entry a b ≡ s → same_entry b a ≡ t → same_entry a b ≡ same_entry b a
+    by true t h g = h ∙ sym (same_entry-refl a) ∙ same_entry-like a b a h
+    by false true h g = absurd (true≢false (sym (same_entry-refl b) ∙ same_entry-like b a b g ∙ h))
+    by false false h g = h ∙ sym g
+
+pub same_entry_equivalence : IsEquivalence same_entry
+same_entry_equivalence = record { refl = same_entry-refl; symm = same_entry-symm; congr = same_entry-like }
+
+formula-is : (f g : FormulaTree) → same_formula f g ≡ true → f ≡ g
+formula-is f g h = sym (decoded-formula f) ∙ ap decoded (same_term-says (encoded f) (encoded g) h) ∙ decoded-formula g
+
+pub same_entry_feeds_alike : (a b : AnnotatedTree) → IsTrue (same_entry a b) → entry_writes a ≡ entry_writes b
+same_entry_feeds_alike a b h =
+    let first = and_parts (bytes_eq a.name b.name) (bytes_eq (role_word a.role) (role_word b.role) && (beq a.is_clause b.is_clause && same_formula a.formula b.formula)) h in
+    let second = and_parts (bytes_eq (role_word a.role) (role_word b.role)) (beq a.is_clause b.is_clause && same_formula a.formula b.formula) first.1 in
+    let third = and_parts (beq a.is_clause b.is_clause) (same_formula a.formula b.formula) second.1 in
+    ap₂ (λ n f. n ∷ formula_writes f) ((bytes_eq-Decides a.name b.name).0 first.0) (formula-is a.formula b.formula third.1)
