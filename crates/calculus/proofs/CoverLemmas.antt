@@ -29,7 +29,7 @@ use Rattle.kernel_steps.specs.Symbols.{symbols_pass, literal_symbols_pass}
 use Rattle.kernel_steps.proofs.RuleTruth.{complement-truth, equivalent-truth}
 use Rattle.calculus.specs.Symbols.{is_allowed, HasSymbolsOf}
 use Rattle.calculus.specs.Coverage.{DroppedLiteralsCovered, SubsumedCovered, TautologiesCovered, RenamedCovered}
-use Rattle.calculus.proofs.ClauseLemmas.{In-either, All-In, removed-not_greater}
+use Rattle.calculus.proofs.ClauseLemmas.{In-either, All-In, some-In, removed-not_greater}
 use Rattle.calculus.proofs.SymbolLemmas.{literal-variable-passes, function_term-over}
 use Rattle.calculus.proofs.PlacedLemmas.{Placed, placed, placed-instance, placed-true, placed-part}
 use Rattle.kbo_order.proofs.PartLemmas.{parts_are_not_greater}
@@ -159,14 +159,6 @@ subsumed_covered is_predicate functions c d symbols s g made =
     (subsumed is_predicate functions c d symbols s g made)
 
 -- ---- tautologies
-
-some-In : {X : Type 0} (p : X → Bool) (xs : List X) (x : X) → In x xs → p x ≡ true → list_any p xs ≡ true
-some-In p [] x there passes = absurd there
-some-In p (y ∷ ys) x there passes =
-    ⊎_elim
-    (λ e. or_left (p y) (list_any p ys) (ap p (sym e) ∙ passes))
-    (λ later. or_right (p y) (list_any p ys) (some-In p ys x later passes))
-    there
 
 equal_sides-true :
     (i : Interpretation) (ρ : Assignment) (l : TreeLiteral) → (l.positive && tree_eq l.left l.right) ≡ true → literal_true_under i ρ l ≡ true

@@ -11,3 +11,4 @@ mod ReachLemmas
 mod ClosureLemmas
 mod ClosureExamples
 mod ExampleLemmas
+mod VariantLemmas

@@ -1,3 +1,4 @@
 pub mod Symbols
 pub mod Coverage
 pub mod Lifting
+pub mod Variants

@@ -3,6 +3,7 @@
 mod coverage;
 mod examples;
 mod lifting;
+mod variants;
 
 pub use coverage::{
     dropped_literals_covered, reduced_away_covered, reductions_compose, reductions_covered,
@@ -15,3 +16,4 @@ pub use examples::{
 pub use lifting::{
     factorings_lift, ground_conclusions_covered, resolutions_lift, superpositions_lift,
 };
+pub use variants::{conclusions_have_variants, variant_examples};
