@@ -6,8 +6,8 @@ mod lifting;
 mod variants;
 
 pub use coverage::{
-    dropped_literals_covered, reduced_away_covered, reductions_compose, reductions_covered,
-    reductions_keep_symbols, renamed_covered, subsumed_covered, tautologies_covered,
+    dropped_literals_covered, parts_cover, reduced_away_covered, reductions_compose,
+    reductions_covered, reductions_keep, renamed_covered, subsumed_covered, tautologies_covered,
 };
 pub use examples::{
     closure_examples, rewriting_at_a_root, steps_examples, superposition_at_a_variable,
