@@ -169,9 +169,10 @@ first_member zero c there = same_Some chooses c there
 first_member (suc n) c there =
     absurd (none-some c (sym (cond-false (suc n == 0) (slice_get two (suc n)) None (ne_eqb (suc n) 0 (λ e. omega arith))) ∙ there))
 
--- its first literal is chosen
-is_chosen : (c : TreeClause) → chooses ≡ c → chosen select_negative c.literals ≡ None → ⊥
-is_chosen c is none = absurd (none-some 0 (sym (ap (λ (e : TreeClause). chosen select_negative e.literals) is ∙ none)))
+-- a clause whose first literal is chosen
+is_chosen : (c d : TreeClause) → chosen select_negative c.literals ≡ Some 0 → c ≡ d → chosen select_negative d.literals ≡ None → ⊥
+is_chosen c d first is none =
+    absurd (none-some 0 (sym none ∙ ap (λ (e : TreeClause). chosen select_negative e.literals) (sym is) ∙ first))
 
 no_resolution : (i : ℕ) (d : TreeClause) → NamedResolution select_negative chooses i d → ⊥
 no_resolution zero d n =
@@ -185,13 +186,13 @@ no_resolution (suc i) d n = absurd (omega (arith, eqb-true (suc i) 0 n.is_eligib
 
 pub no_member : HasConclusionsOf is_predicate select_negative (λ n. n == 0) (slice_get two) (Contains [])
 no_member (Para first i s second j z place) d it =
-    absurd (is_chosen it.first_clause (first_member first it.first_clause it.first_there) it.infers.from_eligible.nothing_chosen)
+    absurd (is_chosen chooses it.first_clause refl (first_member first it.first_clause it.first_there) it.infers.from_eligible.nothing_chosen)
 no_member (Refl k i) d it =
     absurd
     (no_resolution i d
     (subst (λ (c : TreeClause). NamedResolution select_negative c i d) (sym (first_member k it.clause it.there)) it.infers))
 no_member (Factor k i s j z) d it =
-    absurd (is_chosen it.clause (first_member k it.clause it.there) it.infers.i_eligible.nothing_chosen)
+    absurd (is_chosen chooses it.clause refl (first_member k it.clause it.there) it.infers.i_eligible.nothing_chosen)
 no_member (Replaced k) d it = absurd it
 
 -- ---- X0 != a | p(X1) has the conclusion p(X1), and p(X2) too
@@ -201,9 +202,6 @@ resolves = clause (disequation (x 0) a ∷ p (x 1) ∷ [])
 
 abbrev resolved_to : TreeClause
 resolved_to = clause (p (x 1) ∷ [])
-
-first_is_chosen : (c : TreeClause) → resolves ≡ c → chosen select_negative c.literals ≡ None → ⊥
-first_is_chosen c is none = absurd (none-some 0 (sym (ap (λ (e : TreeClause). chosen select_negative e.literals) is ∙ none)))
 
 resolution : NamedResolution select_negative resolves 0 resolved_to
 resolution = record {
@@ -224,7 +222,7 @@ pub one_listed :
     HasConclusionsOf is_predicate select_negative (λ n. true) (slice_get (clause (disequation (x 0) a ∷ p (x 1) ∷ []) ∷ []))
     (Contains (clause (p (x 1) ∷ []) ∷ []))
 one_listed (Para first i s second j z place) d it =
-    absurd (first_is_chosen it.first_clause (only resolves it.first_clause first it.first_there) it.infers.from_eligible.nothing_chosen)
+    absurd (is_chosen resolves it.first_clause refl (only resolves it.first_clause first it.first_there) it.infers.from_eligible.nothing_chosen)
 one_listed (Refl k i) d it =
     let is : resolves ≡ it.clause = only resolves it.clause k it.there in (
       resolved_to,
@@ -238,5 +236,5 @@ one_listed (Refl k i) d it =
       },
     )
 one_listed (Factor k i s j z) d it =
-    absurd (first_is_chosen it.clause (only resolves it.clause k it.there) it.infers.i_eligible.nothing_chosen)
+    absurd (is_chosen resolves it.clause refl (only resolves it.clause k it.there) it.infers.i_eligible.nothing_chosen)
 one_listed (Replaced k) d it = absurd it

@@ -15,11 +15,12 @@ use Rattle.fol_base.specs.Entails.{Entails}
 use Rattle.fol_base.specs.Order.{clause_greater}
 use Rattle.fol_base.specs.Selection.{select_nothing}
 use Rattle.fol_base.specs.Covered.{InstanceOf, Covers}
-use Rattle.fol_base.specs.Examples.{x, a, b, f, p, equation, clause, is_predicate, functions, all_b}
+use Rattle.fol_base.specs.Examples.{x, a, b, f, p, r, equation, clause, is_predicate, functions, all_b}
 use Rattle.fol_base.specs.declared.clause.Side.{Side}
 use Rattle.fol_base.specs.declared.clause.Side.TheVariants.{Left, Right}
 use Rattle.kernel_steps.specs.Inference.{are_of_one_kind, NamedSuperposition}
 use Rattle.calculus.specs.Coverage.{CoversInstancesOf}
+use Rattle.calculus.proofs.CoverLemmas.{subsumed_covered}
 
 -- ---- b = a and p(X0)
 
@@ -125,3 +126,17 @@ entailed i ok all =
 
 pub instances_not_covered : CoversInstancesOf functions both (clause whole) → ⊥
 instances_not_covered covers = not_covered (covers whole (record { trees = all_b; trees_ground = λ v. refl; literals = refl }))
+
+-- ---- p(X0) and p(X1) | r
+
+pub subsumed_instances : CoversInstancesOf functions (clause (p (x 0) ∷ []) ∷ []) (clause (p (x 1) ∷ r ∷ []))
+subsumed_instances =
+    subsumed_covered is_predicate functions (clause (p (x 0) ∷ [])) (clause (p (x 1) ∷ r ∷ [])) refl
+    (record {
+      matcher = λ v. x 1;
+      function_terms = λ v. refl;
+      places = 0 ∷ [];
+      different = refl;
+      mapped = refl;
+      asserted = refl;
+    })

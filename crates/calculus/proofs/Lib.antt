@@ -12,3 +12,5 @@ mod ClosureLemmas
 mod ClosureExamples
 mod ExampleLemmas
 mod VariantLemmas
+mod OnGroundLemmas
+mod RefusedExamples

@@ -69,6 +69,11 @@ pub fn superposition_at_a_variable()
         → NamedSuperposition is_predicate select_nothing (clause (equation b a ∷ [])) i s (clause (p (x 0) ∷ [])) j z place d → ⊥ }
 {}
 
+/// The instances of `p(X1) | r` are covered by `p(X0)`.
+pub fn covering_example()
+    ensures { CoversInstancesOf functions (clause (p (x 0) ∷ []) ∷ []) (clause (p (x 1) ∷ r ∷ [])) }
+{}
+
 /// `f(a) = b` would rewrite `f(a) = a` at its root to `b = a`, which with it entails the clause. But the unit is greater than
 /// `f(a) = a`, so the two don't cover it, nor its instances.
 pub fn rewriting_at_a_root()
