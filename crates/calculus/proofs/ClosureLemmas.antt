@@ -1,5 +1,5 @@
 -- Conclusions of the named inferences among clauses cover the conclusions of the ground inferences among them.
-use Rattle.std.proofs.Common.{◌≡◌, ℕ, Bool, true, List, [], Some, ap, sym, ◌∙◌, subst, ⊎_elim, Option, None, false}
+use Rattle.std.proofs.Common.{◌≡◌, ℕ, Bool, true, List, [], Some, sym, ◌∙◌, subst, ⊎_elim, Option, None, false}
 use Rattle.std.specs.Prelude.{Contains}
 use Rattle.std.specs.List.{list_any}
 use Rattle.std.proofs.lemmas.Bool.{or_left, cases_Bool, cond-true, cond-false}

@@ -1,12 +1,10 @@
--- What each condition of the named inferences and of cutting refuses, and a ground superposition by a right side.
-use Rattle.std.proofs.Common.{◌≡◌, ℕ, zero, suc, Bool, true, false, ◌&&◌, List, [], ◌∷◌, Some, length, get_or, refl, ap, ap₂, sym, ◌∙◌, inl, ⊎_elim, arith}
+-- What single conditions of the named inferences and of cutting refuse, and a ground superposition by a right side.
+use Rattle.std.proofs.Common.{◌≡◌, ℕ, zero, suc, ◌&&◌, List, [], ◌∷◌, Some, length, get_or, refl, ap, ap₂, sym, ◌∙◌, inl, ⊎_elim, arith}
 use Rattle.std.specs.Prelude.{slice_get, remove, IsFalse}
 use Rattle.std.proofs.lemmas.Bool.{true≢false}
 use Rattle.std.proofs.lemmas.Option.{none-some, same_Some}
 use Rattle.fol_base.specs.Tree.{Tree, true_tree, is_truth}
-use Rattle.fol_base.specs.Instance.{Substitution}
 use Rattle.fol_base.specs.Clause.{TreeLiteral, TreeClause}
-use Rattle.fol_base.specs.Sides.{side_of}
 use Rattle.fol_base.specs.Rules.{disequation}
 use Rattle.fol_base.specs.Selection.{select_nothing, select_negative}
 use Rattle.fol_base.specs.GroundInference.{GroundSuperposition}

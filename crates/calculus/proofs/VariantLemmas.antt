@@ -1,19 +1,18 @@
 -- A substitution that can be undone on a clause is one, there, that can be undone everywhere: the other variables become variables
 -- past all that it puts in. Under it a most general unifier stays one.
-use Rattle.std.proofs.Common.{◌≡◌, ℕ, zero, suc, max, ◌+◌, ◌-◌, ◌<◌, ◌≤◌, ◌==◌, Bool, true, false, nat_lt, if◌then◌else◌, Option, None, Some, List, [], ◌∷◌, ◌++◌, get_or, refl, ap, ap₂, sym, ◌∙◌, subst, inl, inr, ⊎_elim, arith}
+use Rattle.std.proofs.Common.{◌≡◌, ℕ, suc, max, ◌+◌, ◌-◌, ◌≤◌, ◌==◌, Bool, true, false, nat_lt, if◌then◌else◌, Option, None, Some, List, [], ◌∷◌, get_or, refl, ap, ap₂, sym, ◌∙◌, subst, inl, inr, ⊎_elim, arith}
 use Rattle.std.specs.Prelude.{flat_map, option_map, remove, unwrap_or}
 use Rattle.std.specs.List.{AllByRecursion, list_any}
 use Rattle.std.specs.Option.{is_some}
 use Rattle.std.proofs.lemmas.Bool.{cases_Bool, cond-true, cond-false, eqb-true, eq-eqb, lt-ltb, ltb-true, true≢false, false_from_ne_true}
 use Rattle.fol_base.specs.Tree.{Tree, variable, application, Trees, no_trees, tree_then, tree_eq, tree_variables, trees_variables, is_truth, is_variable}
 use Rattle.fol_base.specs.Instance.{Substitution, instance, instances}
-use Rattle.fol_base.specs.Clause.{TreeLiteral, TreeClause, literal_instance, literal_variables, clause_variables, clause_instance}
-use Rattle.fol_base.specs.Canonical.{distinct, place_of, renaming, bound_of, canonical_renaming, canonical_clause}
+use Rattle.fol_base.specs.Clause.{TreeLiteral, TreeClause, literal_instance, literal_variables, clause_variables}
+use Rattle.fol_base.specs.Canonical.{distinct, place_of, renaming, bound_of, canonical_renaming}
 use Rattle.fol_base.specs.Ground.{literals_instance}
 use Rattle.fol_base.specs.Sides.{side_of, other_side_of}
 use Rattle.fol_base.specs.Rules.{superposed, resolved, factored}
 use Rattle.fol_base.specs.Unifier.{IsMostGeneralUnifier, IsMostGeneralUnifierApart}
-use Rattle.fol_base.specs.Numbering.{with_variables}
 use Rattle.fol_base.specs.Examples.{x, a, p, q₂, clause}
 use Rattle.fol_base.specs.InstanceLaws.{after, PutsNoTruth}
 use Rattle.fol_base.proofs.TreeLemmas.{tree_eq-true, tree_eq-refl}

@@ -1,4 +1,4 @@
-// Named inferences of ground clauses, and what each condition refuses.
+// Named inferences of ground clauses, and what single conditions of inferences refuse.
 
 ghost use Rattle.std.specs.Prelude.{List, [], ◌∷◌};
 ghost use Rattle.fol_base.specs.Clause.{TreeClause};
