@@ -1,7 +1,8 @@
 -- Members of lists, and clauses that are smaller or not greater.
-use Rattle.std.proofs.Common.{◌≡◌, ℕ, ◌⊎◌, true, false, List, [], ◌∷◌, ◌++◌, Some, get_or, sym, ◌∙◌, subst, inl, inr, ⊎_elim, arith}
+use Rattle.std.proofs.Common.{◌≡◌, ℕ, ◌⊎◌, Bool, true, false, List, [], ◌∷◌, ◌++◌, Some, get_or, ap, sym, ◌∙◌, subst, inl, inr, ⊎_elim, arith}
 use Rattle.std.specs.Prelude.{All, slice_get, remove}
-use Rattle.std.proofs.lemmas.Bool.{false_from_ne_true, true≢false}
+use Rattle.std.specs.List.{list_any}
+use Rattle.std.proofs.lemmas.Bool.{false_from_ne_true, or_left, or_right, true≢false}
 use Rattle.fol_base.specs.Clause.{TreeLiteral}
 use Rattle.fol_base.specs.Ground.{GroundClause}
 use Rattle.fol_base.specs.Order.{equivalent_literals, literal_greater, clause_greater}
@@ -20,6 +21,14 @@ In-either x (z ∷ zs) ys h =
 
 pub All-In : {X : Type 0} (P : X → Type 0) (xs : List X) → ((x : X) → In x xs → P x) → All P xs
 All-In P xs h = λ k d in_range. h (get_or xs k d) (In-at xs k d in_range)
+
+pub some-In : {X : Type 0} (p : X → Bool) (xs : List X) (x : X) → In x xs → p x ≡ true → list_any p xs ≡ true
+some-In p [] x there passes = absurd there
+some-In p (y ∷ ys) x there passes =
+    ⊎_elim
+    (λ e. or_left (p y) (list_any p ys) (ap p (sym e) ∙ passes))
+    (λ later. or_right (p y) (list_any p ys) (some-In p ys x later passes))
+    there
 
 -- ---- what isn't greater
 

@@ -1,21 +1,23 @@
 -- Worked examples of steps one after another, and of clauses that have the conclusions of what is named among others.
-use Rattle.std.proofs.Common.{◌≡◌, ℕ, zero, suc, true, false, ◌==◌, List, [], ◌∷◌, Some, refl, ap, sym, ◌∙◌, subst, inl, inr, arith}
+use Rattle.std.proofs.Common.{◌≡◌, ℕ, zero, suc, Bool, true, false, ◌==◌, List, [], ◌∷◌, None, Some, refl, ap, sym, ◌∙◌, subst, inl, inr, arith}
 use Rattle.std.specs.Prelude.{slice_get, Contains, IsTrue, IsFalse}
-use Rattle.std.proofs.lemmas.Bool.{true≢false}
+use Rattle.std.proofs.lemmas.Bool.{cond-false, eqb-true, ne_eqb, true≢false}
 use Rattle.std.proofs.lemmas.Option.{none-some, same_Some}
 use Rattle.std.proofs.lemmas.List.Elements.{All-nil}
-use Rattle.fol_base.specs.Tree.{Tree, true_tree, tree_eq}
+use Rattle.fol_base.specs.Tree.{Tree, true_tree, tree_eq, is_truth}
 use Rattle.fol_base.specs.Instance.{Substitution, instance}
 use Rattle.fol_base.specs.Place.{subterm}
-use Rattle.fol_base.specs.Clause.{TreeLiteral, TreeClause}
+use Rattle.fol_base.specs.Clause.{TreeLiteral, TreeClause, literal_instance}
 use Rattle.fol_base.specs.Sides.{side_of, other_side_of}
 use Rattle.fol_base.specs.Rules.{disequation}
 use Rattle.fol_base.specs.Ground.{literals_instance}
-use Rattle.fol_base.specs.Selection.{select_nothing, select_negative}
-use Rattle.fol_base.specs.Examples.{x, a, b, f, p, q, r, equation, clause, is_predicate, all_a}
+use Rattle.fol_base.specs.Selection.{select_nothing, select_negative, chosen}
+use Rattle.fol_base.specs.Examples.{x, a, b, f, p, q, r, equation, clause, is_predicate, all_a, first_is_a}
 use Rattle.fol_base.specs.declared.clause.Side.{Side}
 use Rattle.fol_base.specs.declared.clause.Side.TheVariants.{Left, Right}
 use Rattle.fol_base.proofs.RuleLemmas.{resolved-parts, factored-parts}
+use Rattle.fol_base.proofs.MatchingExamples.{first_is_a_general}
+use Rattle.kbo_order.proofs.MemberLemmas.{In-contains}
 use Rattle.kernel_steps.specs.Examples.{not_p, not_true}
 use Rattle.kernel_steps.specs.Inference.{are_of_one_kind, NamedSuperposition, NamedResolution, NamedFactoring}
 use Rattle.kernel_steps.specs.Named.{IsInference}
@@ -23,7 +25,7 @@ use Rattle.kernel_steps.specs.declared.key.Key.{Key}
 use Rattle.kernel_steps.specs.declared.key.Key.TheVariants.{Para, Refl, Factor, Replaced}
 use Rattle.kernel_steps.proofs.SuperpositionExamples.{superposition}
 use Rattle.calculus.specs.Coverage.{ReducesThrough}
-use Rattle.calculus.specs.Lifting.{HasConclusionsOf}
+use Rattle.calculus.specs.Lifting.{among, HasConclusionsOf}
 
 -- ---- f(b) != f(a) | r, by a = b
 
@@ -85,6 +87,9 @@ no_superposition Right z place old σ τ there kind others_differ = true≢false
 abbrev alone : TreeClause
 alone = clause (r ∷ [])
 
+abbrev every : ℕ → Bool
+every n = true
+
 superposition_of_r :
     (i : ℕ) (s : Side) (j : ℕ) (z : Side) (place : List ℕ) (d : TreeClause)
     → NamedSuperposition is_predicate select_nothing alone i s alone j z place d → ⊥
@@ -115,7 +120,7 @@ factoring_of_r i s j z d n =
     let parts = factored-parts (literals_instance n.unifier (r ∷ [])) i s j z d.literals n.concludes in
     two_places i j n.literal_i n.literal_j n.i_there n.j_there parts.differ
 
-none_among_r : (key : Key) (d : TreeClause) → IsInference is_predicate select_nothing (slice_get (alone ∷ [])) key d → ⊥
+none_among_r : (key : Key) (d : TreeClause) → IsInference is_predicate select_nothing (among every (slice_get (alone ∷ []))) key d → ⊥
 none_among_r (Para first from s second into z place) d it =
     superposition_of_r from s into z place d
     (subst (λ (c : TreeClause). NamedSuperposition is_predicate select_nothing alone from s c into z place d)
@@ -130,24 +135,106 @@ none_among_r (Factor k i s j z) d it =
     (subst (λ (c : TreeClause). NamedFactoring is_predicate select_nothing c i s j z d) (sym (only alone it.clause k it.there)) it.infers)
 none_among_r (Replaced k) d it = it
 
-pub nothing_named : HasConclusionsOf is_predicate select_nothing (clause (r ∷ []) ∷ []) []
+pub nothing_named : HasConclusionsOf is_predicate select_nothing (λ n. true) (slice_get (clause (r ∷ []) ∷ [])) (Contains [])
 nothing_named key d it = absurd (none_among_r key d it)
 
 -- ---- ~p(X0) | q(X0) and p(a) have a superposition
 
+abbrev chooses : TreeClause
+chooses = clause (not_p (x 0) ∷ q (x 0) ∷ [])
+
+abbrev two : List TreeClause
+two = chooses ∷ clause (p a ∷ []) ∷ []
+
 nothing_there : (c : TreeClause) → Contains [] c → ⊥
 nothing_there c there = absurd (omega (arith, there.1))
 
-pub one_missing :
-    HasConclusionsOf is_predicate select_negative (clause (not_p (x 0) ∷ q (x 0) ∷ []) ∷ clause (p a ∷ []) ∷ []) [] → ⊥
+pub one_missing : HasConclusionsOf is_predicate select_negative (λ n. true) (slice_get two) (Contains []) → ⊥
 one_missing closed =
     let found =
     closed (Para 1 0 Left 0 0 Left []) (clause (not_true ∷ q a ∷ []))
     (record {
       first_clause = clause (p a ∷ []);
       first_there = refl;
-      second_clause = clause (not_p (x 0) ∷ q (x 0) ∷ []);
+      second_clause = chooses;
       second_there = refl;
       infers = superposition;
     }) in
     nothing_there found.0 found.1
+
+-- ---- but where p(a) is no member, none is asked for
+
+first_member : (n : ℕ) (c : TreeClause) → among (λ k. k == 0) (slice_get two) n ≡ Some c → chooses ≡ c
+first_member zero c there = same_Some chooses c there
+first_member (suc n) c there =
+    absurd (none-some c (sym (cond-false (suc n == 0) (slice_get two (suc n)) None (ne_eqb (suc n) 0 (λ e. omega arith))) ∙ there))
+
+-- a clause whose first literal is chosen
+is_chosen : (c d : TreeClause) → chosen select_negative c.literals ≡ Some 0 → c ≡ d → chosen select_negative d.literals ≡ None → ⊥
+is_chosen c d first is none =
+    absurd (none-some 0 (sym none ∙ ap (λ (e : TreeClause). chosen select_negative e.literals) (sym is) ∙ first))
+
+no_resolution : (i : ℕ) (d : TreeClause) → NamedResolution select_negative chooses i d → ⊥
+no_resolution zero d n =
+    let parts = resolved-parts (literals_instance n.unifier chooses.literals) 0 d.literals n.concludes in
+    let literal_is : literal_instance n.unifier (not_p (x 0)) ≡ parts.literal =
+    same_Some (literal_instance n.unifier (not_p (x 0))) parts.literal parts.literal_there in
+    let same : is_truth (literal_instance n.unifier (not_p (x 0))).left ≡ is_truth (literal_instance n.unifier (not_p (x 0))).right =
+    ap (λ (l : TreeLiteral). is_truth l.left) literal_is ∙ ap is_truth parts.same ∙ ap (λ (l : TreeLiteral). is_truth l.right) (sym literal_is) in
+    true≢false (sym same)
+no_resolution (suc i) d n = absurd (omega (arith, eqb-true (suc i) 0 n.is_eligible))
+
+pub no_member : HasConclusionsOf is_predicate select_negative (λ n. n == 0) (slice_get two) (Contains [])
+no_member (Para first i s second j z place) d it =
+    absurd (is_chosen chooses it.first_clause refl (first_member first it.first_clause it.first_there) it.infers.from_eligible.nothing_chosen)
+no_member (Refl k i) d it =
+    absurd
+    (no_resolution i d
+    (subst (λ (c : TreeClause). NamedResolution select_negative c i d) (sym (first_member k it.clause it.there)) it.infers))
+no_member (Factor k i s j z) d it =
+    absurd (is_chosen chooses it.clause refl (first_member k it.clause it.there) it.infers.i_eligible.nothing_chosen)
+no_member (Replaced k) d it = absurd it
+
+-- ---- X0 != a | p(X1) has the conclusion p(X1), and p(X2) too
+
+abbrev resolves : TreeClause
+resolves = clause (disequation (x 0) a ∷ p (x 1) ∷ [])
+
+abbrev resolved_to : TreeClause
+resolved_to = clause (p (x 1) ∷ [])
+
+resolution : NamedResolution select_negative resolves 0 resolved_to
+resolution = record {
+  literal = disequation (x 0) a;
+  literal_there = refl;
+  unifier = first_is_a;
+  most_general = first_is_a_general;
+  is_eligible = refl;
+  concludes = refl;
+  names = refl;
+}
+
+only_resolution : (i : ℕ) (d : TreeClause) → NamedResolution select_negative resolves i d → NamedResolution select_negative resolves i resolved_to
+only_resolution zero d n = resolution
+only_resolution (suc i) d n = absurd (omega (arith, eqb-true (suc i) 0 n.is_eligible))
+
+pub one_listed :
+    HasConclusionsOf is_predicate select_negative (λ n. true) (slice_get (clause (disequation (x 0) a ∷ p (x 1) ∷ []) ∷ []))
+    (Contains (clause (p (x 1) ∷ []) ∷ []))
+one_listed (Para first i s second j z place) d it =
+    absurd (is_chosen resolves it.first_clause refl (only resolves it.first_clause first it.first_there) it.infers.from_eligible.nothing_chosen)
+one_listed (Refl k i) d it =
+    let is : resolves ≡ it.clause = only resolves it.clause k it.there in (
+      resolved_to,
+      In-contains resolved_to (resolved_to ∷ []) (inl refl),
+      record {
+        clause = it.clause;
+        there = it.there;
+        infers =
+            subst (λ (c : TreeClause). NamedResolution select_negative c i resolved_to) is
+            (only_resolution i d (subst (λ (c : TreeClause). NamedResolution select_negative c i d) (sym is) it.infers));
+      },
+    )
+one_listed (Factor k i s j z) d it =
+    absurd (is_chosen resolves it.clause refl (only resolves it.clause k it.there) it.infers.i_eligible.nothing_chosen)
+one_listed (Replaced k) d it = absurd it

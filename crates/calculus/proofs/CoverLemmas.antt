@@ -1,9 +1,9 @@
 -- The ground instances of clauses that are reduced by fewer literals, subsumed, renamed or tautologies are covered.
 use Rattle.std.proofs.Common.{◌≡◌, ℕ, Bool, true, false, not, ◌&&◌, List, [], ◌∷◌, Some, map, refl, ap, sym, ◌∙◌, subst, inl, inr, ◌⊎◌, ⊎_elim, zero, suc}
-use Rattle.std.specs.Prelude.{All, Contains, slice_get, remove, flat_map, IsTrue}
+use Rattle.std.specs.Prelude.{◌<◌, length, All, Contains, slice_get, remove, flat_map, IsTrue}
 use Rattle.std.specs.List.{list_any, list_all}
 use Rattle.std.proofs.lemmas.Bool.{and_parts, or_cases, or_left, or_right, cases_Bool, eq-eqb}
-use Rattle.std.proofs.lemmas.List.Elements.{All-nil, All-cons}
+use Rattle.std.proofs.lemmas.List.Elements.{All-nil, All-cons, recursion_from_All}
 use Rattle.fol_base.specs.Tree.{tree_eq}
 use Rattle.fol_base.specs.Instance.{Substitution}
 use Rattle.fol_base.specs.Clause.{TreeLiteral, TreeClause, literal_instance, literal_variables, clause_variables}
@@ -13,25 +13,26 @@ use Rattle.fol_base.specs.Ground.{is_over, GroundClause, GroundInstance, literal
 use Rattle.fol_base.specs.Interpretation.{Interpretation, Assignment, no_values, tree_value, sides_true, literal_true_under, literals_true_under, clause_true}
 use Rattle.fol_base.specs.Order.{equivalent_literals, clause_greater}
 use Rattle.fol_base.specs.Covered.{InstanceOf, Covered}
-use Rattle.fol_base.specs.Subsumption.{Subsumes}
+use Rattle.fol_base.specs.Subsumption.{Subsumes, all_different}
 use Rattle.fol_base.proofs.TreeLemmas.{tree_eq-true}
 use Rattle.fol_base.proofs.TestLemmas.{list_all-item}
-use Rattle.fol_base.proofs.MeaningLemmas.{truth_of_instances}
+use Rattle.fol_base.proofs.MeaningLemmas.{truth_of_instances, ground_instances_are_ground}
 use Rattle.fol_base.proofs.OrderLemmas.{literals_equivalence}
 use Rattle.fol_base.proofs.RuleLemmas.{resolved-parts, merged-parts}
 use Rattle.fol_base.proofs.InferenceLemmas.{literal_in_instance, map-remove}
 use Rattle.fol_base.proofs.GroundInstanceLemmas.{ground_instances_of_instances, ground_instances_of_canonical}
-use Rattle.fol_base.proofs.CoverageLemmas.{Covered-instance, Covered-more}
+use Rattle.fol_base.proofs.CoverageLemmas.{Covered-instance, Covered-more, Covered-across}
 use Rattle.kbo_order.proofs.MemberLemmas.{In, In-contains, contains-In, any-In}
 use Rattle.kernel_steps.specs.Derivation.{complement}
 use Rattle.kernel_steps.specs.Inference.{DropsTrivial, MergesEqual, CutsBy, makes_tautology, is_tautology}
+use Rattle.kernel_steps.specs.Split.{literals_at}
 use Rattle.kernel_steps.specs.Symbols.{symbols_pass, literal_symbols_pass}
 use Rattle.kernel_steps.proofs.RuleTruth.{complement-truth, equivalent-truth}
 use Rattle.calculus.specs.Symbols.{is_allowed, HasSymbolsOf}
-use Rattle.calculus.specs.Coverage.{DroppedLiteralsCovered, SubsumedCovered, TautologiesCovered, RenamedCovered}
-use Rattle.calculus.proofs.ClauseLemmas.{In-either, All-In, removed-not_greater}
+use Rattle.calculus.specs.Coverage.{DroppedLiteralsCovered, SubsumedCovered, PartsCover, TautologiesCovered, RenamedCovered}
+use Rattle.calculus.proofs.ClauseLemmas.{In-either, All-In, some-In, removed-not_greater}
 use Rattle.calculus.proofs.SymbolLemmas.{literal-variable-passes, function_term-over}
-use Rattle.calculus.proofs.PlacedLemmas.{Placed, placed, placed-instance, placed-true, placed-part}
+use Rattle.calculus.proofs.PlacedLemmas.{Placed, placed, placed-there, placed-instance, placed-true, placed-part}
 use Rattle.kbo_order.proofs.PartLemmas.{parts_are_not_greater}
 
 -- one ground instance that isn't greater and entails the clause covers it
@@ -158,15 +159,52 @@ subsumed_covered is_predicate functions c d symbols s g made =
     Covered-more is_predicate functions (λ e. e ≡ c) (Contains (c ∷ [])) g (listed-alone c)
     (subsumed is_predicate functions c d symbols s g made)
 
--- ---- tautologies
+-- ---- parts
 
-some-In : {X : Type 0} (p : X → Bool) (xs : List X) (x : X) → In x xs → p x ≡ true → list_any p xs ≡ true
-some-In p [] x there passes = absurd there
-some-In p (y ∷ ys) x there passes =
+part_covers :
+    (is_predicate : ℕ → Bool) (functions : FunctionSymbols is_predicate) (c d : TreeClause) (places : List ℕ)
+    → all_different places ≡ true → All (λ k. k < length c.literals) places → d.literals ≡ literals_at c.literals places
+    → CoversEach functions (λ e. e ≡ d) c
+part_covers is_predicate functions c d places different within gives g made =
+    let τ : Substitution = made.trees in
+    let whole : GroundClause = literals_instance τ c.literals in
+    let part : GroundClause = literals_instance τ d.literals in
+    let at : Placed d.literals places c.literals =
+    subst (λ (ls : List TreeLiteral). Placed ls places c.literals) (sym gives)
+    (placed-there c.literals places (recursion_from_All (λ k. k < length c.literals) places within)) in
+    let ground_at : Placed part places whole = placed-instance τ d.literals places c.literals at in
+    subst (λ (h : GroundClause). Covered functions (λ e. e ≡ d) h) (sym made.literals)
+    (covered-by_one functions (λ e. e ≡ d) d part whole refl
+    (record { trees = τ; trees_ground = made.trees_ground; literals = refl })
+    (parts_are_not_greater part whole (placed-part part places whole different ground_at))
+    (λ i holds. placed-true i no_values part places whole ground_at holds))
+
+-- what covers a clause still does where one clause takes its canonical form
+pub canonical_covers :
+    (is_predicate : ℕ → Bool) (functions : FunctionSymbols is_predicate) (Holds Takes : TreeClause → Type 0) (c d : TreeClause)
+    → ((e : TreeClause) → Holds e → Takes e ⊎ (e ≡ d)) → Takes (canonical_clause d)
+    → CoversEach functions Holds c → CoversEach functions Takes c
+canonical_covers is_predicate functions Holds Takes c d kept takes covers g made =
+    Covered-across is_predicate functions Holds Takes g (ground_instances_are_ground is_predicate functions c g made)
+    (λ e one h of_e.
     ⊎_elim
-    (λ e. or_left (p y) (list_any p ys) (ap p (sym e) ∙ passes))
-    (λ later. or_right (p y) (list_any p ys) (some-In p ys x later passes))
-    there
+    (λ there. Covered-instance is_predicate functions Takes e h there of_e)
+    (λ same.
+    Covered-instance is_predicate functions Takes (canonical_clause d) h takes
+    ((ground_instances_of_canonical is_predicate functions d h).0 (subst (λ (f : TreeClause). GroundInstance functions f h) same of_e)))
+    (kept e one))
+    (covers g made)
+
+pub parts_cover : PartsCover
+parts_cover is_predicate functions c d places different within gives =
+    let canonical : TreeClause = canonical_clause d in
+    let covers : CoversEach functions (λ e. e ≡ d) c = part_covers is_predicate functions c d places different within gives in (
+      λ g made. Covered-more is_predicate functions (λ e. e ≡ d) (Contains (d ∷ [])) g (listed-alone d) (covers g made),
+      canonical_covers is_predicate functions (λ e. e ≡ d) (Contains (canonical ∷ [])) c d (λ e same. inr same)
+          (listed-alone canonical canonical refl) covers,
+    )
+
+-- ---- tautologies
 
 equal_sides-true :
     (i : Interpretation) (ρ : Assignment) (l : TreeLiteral) → (l.positive && tree_eq l.left l.right) ≡ true → literal_true_under i ρ l ≡ true

@@ -1,7 +1,7 @@
 -- The worked examples that don't just compute.
-use Rattle.std.proofs.Common.{◌≡◌, ℕ, zero, suc, ◌<◌, true, false, List, [], ◌∷◌, Some, get_or, refl, ap, sym, ◌∙◌, arith}
+use Rattle.std.proofs.Common.{◌≡◌, ℕ, zero, suc, ◌<◌, true, false, List, [], ◌∷◌, Some, get_or, refl, ap, sym, ◌∙◌, ⊎_elim, arith}
 use Rattle.std.specs.Prelude.{All, slice_get, Contains}
-use Rattle.std.proofs.lemmas.Bool.{and_from, true≢false}
+use Rattle.std.proofs.lemmas.Bool.{and_parts, and_from, or_cases, or_left, eqb-true, eq-eqb, true≢false}
 use Rattle.std.proofs.lemmas.Option.{none-some, same_Some}
 use Rattle.std.proofs.lemmas.List.Elements.{All-head, All-tail}
 use Rattle.fol_base.specs.Tree.{Tree, is_variable, true_tree}
@@ -10,14 +10,17 @@ use Rattle.fol_base.specs.Place.{subterm}
 use Rattle.fol_base.specs.Clause.{TreeLiteral, TreeClause}
 use Rattle.fol_base.specs.Ground.{GroundClause, literals_instance}
 use Rattle.fol_base.specs.Sides.{side_of}
-use Rattle.fol_base.specs.Interpretation.{Interpretation, clause_true, clauses_true}
+use Rattle.fol_base.specs.Interpretation.{Interpretation, no_values, tree_value, literal_true_under, clause_true, clauses_true}
+use Rattle.fol_base.specs.Entails.{Entails}
 use Rattle.fol_base.specs.Order.{clause_greater}
 use Rattle.fol_base.specs.Selection.{select_nothing}
 use Rattle.fol_base.specs.Covered.{InstanceOf, Covers}
-use Rattle.fol_base.specs.Examples.{x, a, b, f, p, equation, clause, is_predicate, functions}
+use Rattle.fol_base.specs.Examples.{x, a, b, f, p, r, equation, clause, is_predicate, functions, all_b}
 use Rattle.fol_base.specs.declared.clause.Side.{Side}
 use Rattle.fol_base.specs.declared.clause.Side.TheVariants.{Left, Right}
 use Rattle.kernel_steps.specs.Inference.{are_of_one_kind, NamedSuperposition}
+use Rattle.calculus.specs.Coverage.{CoversInstancesOf}
+use Rattle.calculus.proofs.CoverLemmas.{subsumed_covered}
 
 -- ---- b = a and p(X0)
 
@@ -107,3 +110,33 @@ pub not_covered : Covers functions both whole → ⊥
 not_covered covered =
     true≢false
     (sym (covered.entailed apart (record { has_value = omega arith; rows_in_range = refl }) (instances-true covered.by covered.instances covered.none_greater)))
+
+-- though they entail it
+alone_true : (i : Interpretation) (l : TreeLiteral) → clause_true i (l ∷ []) ≡ true → literal_true_under i no_values l ≡ true
+alone_true i l h = ⊎_elim (λ e. e) (λ none. absurd (true≢false (sym none))) (or_cases (literal_true_under i no_values l) false h)
+
+pub entailed : Entails is_predicate (unit ∷ result ∷ []) whole
+entailed i ok all =
+    let value : Tree → ℕ = tree_value i no_values in
+    let parts = and_parts (clause_true i unit) (clauses_true i (result ∷ [])) all in
+    let first : value (f a) ≡ value b = eqb-true (value (f a)) (value b) (alone_true i (equation (f a) b) parts.0) in
+    let second : value b ≡ value a =
+    eqb-true (value b) (value a) (alone_true i (equation b a) (and_parts (clause_true i result) true parts.1).0) in
+    or_left (literal_true_under i no_values (equation (f a) a)) false (eq-eqb (value (f a)) (value a) (first ∙ second))
+
+pub instances_not_covered : CoversInstancesOf functions both (clause whole) → ⊥
+instances_not_covered covers = not_covered (covers whole (record { trees = all_b; trees_ground = λ v. refl; literals = refl }))
+
+-- ---- p(X0) and p(X1) | r
+
+pub subsumed_instances : CoversInstancesOf functions (clause (p (x 0) ∷ []) ∷ []) (clause (p (x 1) ∷ r ∷ []))
+subsumed_instances =
+    subsumed_covered is_predicate functions (clause (p (x 0) ∷ [])) (clause (p (x 1) ∷ r ∷ [])) refl
+    (record {
+      matcher = λ v. x 1;
+      function_terms = λ v. refl;
+      places = 0 ∷ [];
+      different = refl;
+      mapped = refl;
+      asserted = refl;
+    })

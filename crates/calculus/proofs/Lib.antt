@@ -11,3 +11,6 @@ mod ReachLemmas
 mod ClosureLemmas
 mod ClosureExamples
 mod ExampleLemmas
+mod VariantLemmas
+mod OnGroundLemmas
+mod RefusedExamples

@@ -2,7 +2,7 @@
 -- before, and a conclusion under it is an instance of the one before.
 use Rattle.std.proofs.Common.{◌≡◌, ℕ, Bool, true, false, not, ◌&&◌, ◌==◌, List, [], ◌∷◌, Some, refl, ap, ap₂, sym, ◌∙◌, ⊎_elim}
 use Rattle.std.specs.Prelude.{slice_get, flat_map}
-use Rattle.std.proofs.lemmas.Bool.{and_from, or_left, or_right, cases_Bool, not_from_false, false_from_ne_true, true≢false}
+use Rattle.std.proofs.lemmas.Bool.{and_parts, and_from, not-true, or_left, or_right, cases_Bool, not_from_false, false_from_ne_true, true≢false}
 use Rattle.std.proofs.lemmas.Option.{same_Some, slice_get-map}
 use Rattle.fol_base.specs.Tree.{Tree, variable, application, Trees, tree_eq, is_truth, true_symbol}
 use Rattle.fol_base.specs.Instance.{Substitution, instance, instances}
@@ -17,7 +17,7 @@ use Rattle.fol_base.specs.Rules.{superposed, resolved, factored}
 use Rattle.fol_base.specs.GroundInference.{is_greater_side, UnchosenEligible}
 use Rattle.fol_base.specs.InstanceLaws.{after, PutsNoTruth}
 use Rattle.fol_base.specs.declared.clause.Side.{Side}
-use Rattle.fol_base.proofs.TreeLemmas.{tree_eq-true}
+use Rattle.fol_base.proofs.TreeLemmas.{tree_eq-true, tree_eq-refl}
 use Rattle.fol_base.proofs.TestLemmas.{option_map-some}
 use Rattle.fol_base.proofs.InstancePlaces.{subterms_of_instances}
 use Rattle.fol_base.proofs.InstanceLemmas.{Agree, literals_instance-again, literals-agree}
@@ -70,25 +70,45 @@ unchosen_between mode κ σ τ goes c i strict h = record {
 
 -- ---- the order
 
-pub not_above :
+-- of the greater side the other one isn't above
+greater-not_above : (σ : Substitution) (side : Side) (l : TreeLiteral) → is_greater_side σ side l ≡ true → other_side_not_above σ side l ≡ true
+greater-not_above σ side l above =
+    let s : Tree = instance σ (side_of side l) in
+    let t : Tree = instance σ (other_side_of side l) in
+    and_from (not (tree_greater t s)) (not (tree_eq t s))
+    (not_from_false (tree_greater t s)
+    (false_from_ne_true (tree_greater t s) (λ e.
+    true≢false (sym (trees_ordered.is_transitive s t s above e) ∙ trees_ordered.is_irreflexive s))))
+    (not_from_false (tree_eq t s)
+    (false_from_ne_true (tree_eq t s) (λ e.
+    true≢false (sym above ∙ ap (tree_greater s) (tree_eq-true t s e) ∙ trees_ordered.is_irreflexive s))))
+
+-- what isn't above in an instance isn't before
+pub not_above_before :
     (κ σ τ : Substitution) → Goes κ σ τ → (side : Side) (l : TreeLiteral)
-    → is_greater_side τ side l ≡ true → other_side_not_above σ side l ≡ true
-not_above κ σ τ goes side l above =
+    → other_side_not_above τ side l ≡ true → other_side_not_above σ side l ≡ true
+not_above_before κ σ τ goes side l h =
     let s : Tree = side_of side l in
     let t : Tree = other_side_of side l in
     let s_is = instance-again κ σ τ goes s in
     let t_is = instance-again κ σ τ goes t in
+    let parts = and_parts (not (tree_greater (instance τ t) (instance τ s))) (not (tree_eq (instance τ t) (instance τ s))) h in
     and_from (not (tree_greater (instance σ t) (instance σ s))) (not (tree_eq (instance σ t) (instance σ s)))
     (not_from_false (tree_greater (instance σ t) (instance σ s))
     (false_from_ne_true (tree_greater (instance σ t) (instance σ s)) (λ e.
-    let back : tree_greater (instance τ t) (instance τ s) ≡ true =
+    let later : tree_greater (instance τ t) (instance τ s) ≡ true =
     ap₂ tree_greater (sym t_is) (sym s_is) ∙ trees_stable κ (instance σ t) (instance σ s) e in
-    true≢false
-    (sym (trees_ordered.is_transitive (instance τ s) (instance τ t) (instance τ s) above back) ∙ trees_ordered.is_irreflexive (instance τ s)))))
+    true≢false (sym later ∙ not-true (tree_greater (instance τ t) (instance τ s)) parts.0))))
     (not_from_false (tree_eq (instance σ t) (instance σ s))
     (false_from_ne_true (tree_eq (instance σ t) (instance σ s)) (λ e.
     let same : instance τ t ≡ instance τ s = sym t_is ∙ ap (instance κ) (tree_eq-true (instance σ t) (instance σ s) e) ∙ s_is in
-    true≢false (sym above ∙ ap (tree_greater (instance τ s)) same ∙ trees_ordered.is_irreflexive (instance τ s)))))
+    let later : tree_eq (instance τ t) (instance τ s) ≡ true = ap (tree_eq (instance τ t)) (sym same) ∙ tree_eq-refl (instance τ t) in
+    true≢false (sym later ∙ not-true (tree_eq (instance τ t) (instance τ s)) parts.1))))
+
+pub not_above :
+    (κ σ τ : Substitution) → Goes κ σ τ → (side : Side) (l : TreeLiteral)
+    → is_greater_side τ side l ≡ true → other_side_not_above σ side l ≡ true
+not_above κ σ τ goes side l above = not_above_before κ σ τ goes side l (greater-not_above τ side l above)
 
 -- ---- kinds
 

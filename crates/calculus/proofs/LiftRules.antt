@@ -258,9 +258,12 @@ superpositions_lift is_predicate functions mode first second g r =
     ∙ equal_sides-set z q.new p.into (sym (ap (λ (l : TreeLiteral). l.positive) into_is) ∙ out.0) new_is in
     let exchanged : List TreeLiteral = slice_set (literals_instance π second.literals) r.j p.literal in
     let others : List TreeLiteral = remove (literals_instance ρ first.literals) r.i in
-    inr
-    (ap (list_any has_equal_sides) (sym p.gives)
-    ∙ list_any-append has_equal_sides exchanged others
-    ∙ or_left (list_any has_equal_sides exchanged) (list_any has_equal_sides others)
-    (list_any-set_passing has_equal_sides (literals_instance π second.literals) r.j p.into p.literal p.into_there equal_there)))
+    inr (
+      out.0,
+      out.1,
+      ap (list_any has_equal_sides) (sym p.gives)
+          ∙ list_any-append has_equal_sides exchanged others
+          ∙ or_left (list_any has_equal_sides exchanged) (list_any has_equal_sides others)
+          (list_any-set_passing has_equal_sides (literals_instance π second.literals) r.j p.into p.literal p.into_there equal_there),
+    ))
     (left_out r.into.positive r.place equal)

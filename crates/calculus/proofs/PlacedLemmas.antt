@@ -1,9 +1,11 @@
 -- Literals that stand at different places of a clause, as subsumption has them.
-use Rattle.std.proofs.Common.{◌≡◌, ℕ, zero, suc, ◌+◌, ◌≤◌, true, false, ◌==◌, List, [], ◌∷◌, Option, None, Some, map, refl, ap, sym, ◌∙◌, ⊎_elim, arith, if◌then◌else◌}
+use Rattle.std.proofs.Common.{◌≡◌, ℕ, zero, suc, ◌+◌, ◌<◌, ◌≤◌, true, false, ◌==◌, List, [], ◌∷◌, Option, None, Some, map, length, get_or, refl, ap, sym, ◌∙◌, subst, inl, ⊎_elim, arith, if◌then◌else◌}
 use Rattle.std.specs.Prelude.{not, slice_get, sum_by}
-use Rattle.std.specs.List.{list_any}
+use Rattle.std.specs.List.{AllByRecursion, cons_option, list_any}
 use Rattle.std.proofs.lemmas.Bool.{and_parts, or_cases, or_parts, not-true, eq-eqb, true≢false}
 use Rattle.std.proofs.lemmas.List.Sums.{sum_by-cons}
+use Rattle.std.proofs.lemmas.Option.{slice_get-get_or}
+use Rattle.fol_base.specs.Tree.{true_tree}
 use Rattle.fol_base.specs.Instance.{Substitution}
 use Rattle.fol_base.specs.Clause.{TreeLiteral, literal_instance}
 use Rattle.fol_base.specs.Multiset.{times}
@@ -11,10 +13,11 @@ use Rattle.fol_base.specs.Order.{equivalent_literals, literal_greater}
 use Rattle.fol_base.specs.Interpretation.{Interpretation, Assignment, literal_true_under, literals_true_under}
 use Rattle.fol_base.specs.Subsumption.{stand_at, is_there, all_different}
 use Rattle.fol_base.proofs.CountLemmas.{times-cons}
-use Rattle.fol_base.proofs.OrderLemmas.{literals_equivalence}
+use Rattle.fol_base.proofs.OrderLemmas.{literals_equivalence, equivalent_literals-decided}
 use Rattle.fol_base.proofs.InferenceLemmas.{literal_in_instance, equivalent_literals-instance}
 use Rattle.kbo_order.proofs.MultisetLemmas.{Fits-times}
 use Rattle.kbo_order.proofs.StrictOrderLemmas.{literals_ordered}
+use Rattle.kernel_steps.specs.Split.{literals_at}
 use Rattle.kernel_steps.proofs.ItemLemmas.{list_any-item}
 use Rattle.kernel_steps.proofs.RuleTruth.{equivalent-truth}
 
@@ -89,6 +92,10 @@ Placed [] (k ∷ places) ds = ⊥
 Placed (l ∷ ls) [] ds = ⊥
 Placed (l ∷ ls) (k ∷ places) ds = ((m : TreeLiteral) × (slice_get ds k ≡ Some m) × (equivalent_literals l m ≡ true)) × Placed ls places ds
 
+-- one that is read nowhere
+abbrev no_literal : TreeLiteral
+no_literal = record { positive = true; left = true_tree; right = true_tree }
+
 there : (l : TreeLiteral) (o : Option TreeLiteral) → is_there l o ≡ true → (m : TreeLiteral) × (o ≡ Some m) × (equivalent_literals l m ≡ true)
 there l None h = absurd (true≢false (sym h))
 there l (Some m) h = (m, refl, h)
@@ -102,6 +109,16 @@ placed σ (l ∷ ls) [] ds h = absurd (true≢false (sym h))
 placed σ (l ∷ ls) (k ∷ places) ds h =
     let parts = and_parts (is_there (literal_instance σ l) (slice_get ds k)) (stand_at σ ls places ds) h in
     (there (literal_instance σ l) (slice_get ds k) parts.0, placed σ ls places ds parts.1)
+
+-- the literals that are taken from places
+pub placed-there :
+    (ds : List TreeLiteral) (places : List ℕ) → AllByRecursion (λ k. k < length ds) places → Placed (literals_at ds places) places ds
+placed-there ds [] within = tt
+placed-there ds (k ∷ places) within =
+    let m : TreeLiteral = get_or ds k no_literal in
+    let at : slice_get ds k ≡ Some m = slice_get-get_or ds k no_literal within.0 in
+    subst (λ (o : Option TreeLiteral). Placed (cons_option o (literals_at ds places)) (k ∷ places) ds) (sym at)
+    ((m, at, (equivalent_literals-decided m m).1 (refl, inl (refl, refl))), placed-there ds places within.1)
 
 pub placed-instance :
     (τ : Substitution) (ls : List TreeLiteral) (places : List ℕ) (ds : List TreeLiteral)

@@ -9,6 +9,7 @@ use Rattle.std.proofs.lemmas.List.Elements.{All-nil, All-cons, All-contains}
 use Rattle.fol_base.specs.Tree.{Tree, tree_variables}
 use Rattle.fol_base.specs.Instance.{Substitution, instance}
 use Rattle.fol_base.specs.Clause.{TreeLiteral, TreeClause, literal_instance, literal_variables, clause_variables}
+use Rattle.fol_base.specs.Canonical.{canonical_clause}
 use Rattle.fol_base.specs.Symbols.{FunctionSymbols}
 use Rattle.fol_base.specs.Ground.{is_over, GroundClause, GroundInstance, literals_instance}
 use Rattle.fol_base.specs.Sides.{side_of, other_side_of}
@@ -32,11 +33,11 @@ use Rattle.kernel_steps.specs.Inference.{RewritesBy, AllowsRoot, Reduces, is_tau
 use Rattle.kernel_steps.specs.Symbols.{symbols_pass, clause_symbols_pass, literal_symbols_pass}
 use Rattle.kernel_steps.proofs.ItemLemmas.{list_any-set}
 use Rattle.calculus.specs.Symbols.{is_allowed, HasSymbolsOf}
-use Rattle.calculus.specs.Coverage.{ReductionsCovered, ReducesThrough, end_of, ReductionsCompose, ReductionsKeepSymbols, ReducedAwayCovered}
+use Rattle.calculus.specs.Coverage.{ReductionsCovered, ReducesThrough, end_of, ReductionsCompose, ReductionsKeepSymbols, ReductionsKeepNames, ReducedAwayCovered}
 use Rattle.calculus.proofs.ClauseLemmas.{In-either, All-In, smaller-not_greater, smaller_unit-smaller}
 use Rattle.calculus.proofs.SymbolLemmas.{subterm-passes, variable-passes, function_term-over, instance-passes}
 use Rattle.calculus.proofs.LiteralLemmas.{rewriting-smaller}
-use Rattle.calculus.proofs.CoverLemmas.{CoversEach, Together, together-listed, dropped_literals, tautologies, subsumed}
+use Rattle.calculus.proofs.CoverLemmas.{CoversEach, Together, together-listed, canonical_covers, dropped_literals, tautologies, subsumed}
 use Rattle.fol_base.proofs.TestLemmas.{list_all-item, list_all-remove}
 use Rattle.kbo_order.proofs.PartLemmas.{smaller_sides_make_smaller, smaller_literals_make_smaller}
 use Rattle.kernel_steps.proofs.RuleTruth.{superposed_literal-truth}
@@ -167,39 +168,52 @@ fewer-pass :
 fewer-pass test c d k gives pass =
     ap (list_all (literal_symbols_pass test)) gives ∙ list_all-remove (literal_symbols_pass test) c.literals k pass
 
--- what may be used has no other symbols
-abbrev pub AllHaveSymbols : {is_predicate : ℕ → Bool} → FunctionSymbols is_predicate → (TreeClause → Type 0) → Type 0
-AllHaveSymbols functions Holds = (e : TreeClause) → Holds e → HasSymbolsOf functions e
+-- the symbols of what may be used pass
+abbrev pub AllPass : (ℕ → ℕ → Bool) → (TreeClause → Type 0) → Type 0
+AllPass test Holds = (e : TreeClause) → Holds e → clause_symbols_pass test e ≡ true
 
-listed_symbols :
-    {is_predicate : ℕ → Bool} (functions : FunctionSymbols is_predicate) (used : List TreeClause)
-    → All (HasSymbolsOf functions) used → AllHaveSymbols functions (Contains used)
-listed_symbols functions used all e there = All-contains (HasSymbolsOf functions) used e all there
+listed_pass :
+    (test : ℕ → ℕ → Bool) (used : List TreeClause) → All (λ u. IsTrue (clause_symbols_pass test u)) used → AllPass test (Contains used)
+listed_pass test used all e there = All-contains (λ u. IsTrue (clause_symbols_pass test u)) used e all there
 
 pub step_keeps_symbols :
-    (is_predicate : ℕ → Bool) (functions : FunctionSymbols is_predicate) (Holds : TreeClause → Type 0) (c d : TreeClause)
-    → AllHaveSymbols functions Holds → HasSymbolsOf functions c → Reduces is_predicate Holds c d → HasSymbolsOf functions d
-step_keeps_symbols is_predicate functions Holds c d all symbols step =
-    let test : ℕ → ℕ → Bool = is_allowed functions in
+    (is_predicate : ℕ → Bool) (test : ℕ → ℕ → Bool) (Holds : TreeClause → Type 0) (c d : TreeClause)
+    → AllPass test Holds → clause_symbols_pass test c ≡ true → Reduces is_predicate Holds c d → clause_symbols_pass test d ≡ true
+step_keeps_symbols is_predicate test Holds c d all pass step =
     ⊎_elim
-    (λ trivial. fewer-pass test c d trivial.i (sym (resolved-parts c.literals trivial.i d.literals trivial.gives).gives) symbols)
+    (λ trivial. fewer-pass test c d trivial.i (sym (resolved-parts c.literals trivial.i d.literals trivial.gives).gives) pass)
     (λ more.
     ⊎_elim
     (λ merging.
-    fewer-pass test c d merging.goes (sym (merged-parts c.literals merging.stays merging.goes d.literals merging.gives).gives) symbols)
+    fewer-pass test c d merging.goes (sym (merged-parts c.literals merging.stays merging.goes d.literals merging.gives).gives) pass)
     (λ by.
     ⊎_elim
     (λ rewrite_by.
     rewritten-passes is_predicate test rewrite_by.clause c d rewrite_by.does
-    (all rewrite_by.clause rewrite_by.holds) symbols)
-    (λ cut. fewer-pass test c d cut.does.j cut.does.gives symbols)
+    (all rewrite_by.clause rewrite_by.holds) pass)
+    (λ cut. fewer-pass test c d cut.does.j cut.does.gives pass)
     by)
     more)
     step
 
-pub reductions_keep_symbols : ReductionsKeepSymbols
-reductions_keep_symbols is_predicate functions used c d all symbols step =
-    step_keeps_symbols is_predicate functions (Contains used) c d (listed_symbols functions used all) symbols step
+-- ---- names are kept
+
+step_keeps_names : (is_predicate : ℕ → Bool) (Holds : TreeClause → Type 0) (c d : TreeClause) → Reduces is_predicate Holds c d → d.names ≡ c.names
+step_keeps_names is_predicate Holds c d step =
+    ⊎_elim
+    (λ trivial. trivial.names)
+    (λ more. ⊎_elim (λ merging. merging.names) (λ by. ⊎_elim (λ rewrite_by. rewrite_by.does.names) (λ cut. cut.does.names) by) more)
+    step
+
+pub steps_keep_names :
+    (is_predicate : ℕ → Bool) (Holds : TreeClause → Type 0) (c : TreeClause) (ds : List TreeClause)
+    → ReducesThrough is_predicate Holds c ds → (end_of c ds).names ≡ c.names
+steps_keep_names is_predicate Holds c [] through = refl
+steps_keep_names is_predicate Holds c (d ∷ ds) through =
+    steps_keep_names is_predicate Holds d ds through.1 ∙ step_keeps_names is_predicate Holds c d through.0
+
+pub reductions_keep_names : ReductionsKeepNames
+reductions_keep_names is_predicate used c ds through = steps_keep_names is_predicate (Contains used) c ds through
 
 -- ---- coverage
 
@@ -288,22 +302,26 @@ reductions_covered is_predicate functions used c d symbols step g made =
 
 -- ---- steps one after another
 
-steps_keep_symbols :
-    (is_predicate : ℕ → Bool) (functions : FunctionSymbols is_predicate) (Holds : TreeClause → Type 0) (c : TreeClause) (ds : List TreeClause)
-    → AllHaveSymbols functions Holds → HasSymbolsOf functions c → ReducesThrough is_predicate Holds c ds → HasSymbolsOf functions (end_of c ds)
-steps_keep_symbols is_predicate functions Holds c [] all symbols through = symbols
-steps_keep_symbols is_predicate functions Holds c (d ∷ ds) all symbols through =
-    steps_keep_symbols is_predicate functions Holds d ds all (step_keeps_symbols is_predicate functions Holds c d all symbols through.0) through.1
+pub steps_keep_symbols :
+    (is_predicate : ℕ → Bool) (test : ℕ → ℕ → Bool) (Holds : TreeClause → Type 0) (c : TreeClause) (ds : List TreeClause)
+    → AllPass test Holds → clause_symbols_pass test c ≡ true → ReducesThrough is_predicate Holds c ds → clause_symbols_pass test (end_of c ds) ≡ true
+steps_keep_symbols is_predicate test Holds c [] all pass through = pass
+steps_keep_symbols is_predicate test Holds c (d ∷ ds) all pass through =
+    steps_keep_symbols is_predicate test Holds d ds all (step_keeps_symbols is_predicate test Holds c d all pass through.0) through.1
+
+pub reductions_keep_symbols : ReductionsKeepSymbols
+reductions_keep_symbols is_predicate test used c ds all pass through =
+    steps_keep_symbols is_predicate test (Contains used) c ds (listed_pass test used all) pass through
 
 pub steps :
     (is_predicate : ℕ → Bool) (functions : FunctionSymbols is_predicate) (Holds : TreeClause → Type 0) (c : TreeClause) (ds : List TreeClause)
-    → AllHaveSymbols functions Holds → HasSymbolsOf functions c → ReducesThrough is_predicate Holds c ds
+    → AllPass (is_allowed functions) Holds → HasSymbolsOf functions c → ReducesThrough is_predicate Holds c ds
     → CoversEach functions (Together Holds (end_of c ds)) c
 steps is_predicate functions Holds c [] all symbols through g made =
     Covered-instance is_predicate functions (Together Holds c) c g (inr refl) made
 steps is_predicate functions Holds c (d ∷ ds) all symbols through g made =
     let End : TreeClause → Type 0 = Together Holds (end_of d ds) in
-    let kept : HasSymbolsOf functions d = step_keeps_symbols is_predicate functions Holds c d all symbols through.0 in
+    let kept : HasSymbolsOf functions d = step_keeps_symbols is_predicate (is_allowed functions) Holds c d all symbols through.0 in
     Covered-across is_predicate functions (Together Holds d) End g
     (ground_instances_are_ground is_predicate functions c g made)
     (λ e one h of_e.
@@ -315,20 +333,28 @@ steps is_predicate functions Holds c (d ∷ ds) all symbols through g made =
     (reductions is_predicate functions Holds c d symbols through.0 g made)
 
 pub reductions_compose : ReductionsCompose
-reductions_compose is_predicate functions used c ds all symbols through g made =
-    Covered-more is_predicate functions (Together (Contains used) (end_of c ds)) (Contains (end_of c ds ∷ used)) g (together-listed used (end_of c ds))
-    (steps is_predicate functions (Contains used) c ds (listed_symbols functions used all) symbols through g made)
+reductions_compose is_predicate functions used c ds all symbols through =
+    let Used : TreeClause → Type 0 = Contains used in
+    let end : TreeClause = end_of c ds in
+    let canonical : TreeClause = canonical_clause end in
+    let covers : CoversEach functions (Together Used end) c =
+    steps is_predicate functions Used c ds (listed_pass (is_allowed functions) used all) symbols through in (
+      λ g made. Covered-more is_predicate functions (Together Used end) (Contains (end ∷ used)) g (together-listed used end) (covers g made),
+      canonical_covers is_predicate functions (Together Used end) (Contains (canonical ∷ used)) c end
+          (λ e one. ⊎_elim (λ there. inl (together-listed used canonical e (inl there))) (λ same. inr same) one)
+          (together-listed used canonical canonical (inr refl)) covers,
+    )
 
 -- ---- reduced away
 
 pub reduced_away :
     (is_predicate : ℕ → Bool) (functions : FunctionSymbols is_predicate) (Holds : TreeClause → Type 0) (c : TreeClause) (ds : List TreeClause)
-    → AllHaveSymbols functions Holds → HasSymbolsOf functions c → ReducesThrough is_predicate Holds c ds
+    → AllPass (is_allowed functions) Holds → HasSymbolsOf functions c → ReducesThrough is_predicate Holds c ds
     → (is_tautology (end_of c ds) ≡ true) ⊎ SomeClause Holds (λ u. Subsumes is_predicate u (end_of c ds))
     → CoversEach functions Holds c
 reduced_away is_predicate functions Holds c ds all symbols through away g made =
     let end : TreeClause = end_of c ds in
-    let kept : HasSymbolsOf functions end = steps_keep_symbols is_predicate functions Holds c ds all symbols through in
+    let kept : HasSymbolsOf functions end = steps_keep_symbols is_predicate (is_allowed functions) Holds c ds all symbols through in
     let end_covered : CoversEach functions Holds end = λ h of_end.
     ⊎_elim
     (λ tautology. tautologies is_predicate functions Holds end tautology h of_end)
@@ -348,4 +374,4 @@ reduced_away is_predicate functions Holds c ds all symbols through away g made =
 
 pub reduced_away_covered : ReducedAwayCovered
 reduced_away_covered is_predicate functions used c ds all symbols through away g made =
-    reduced_away is_predicate functions (Contains used) c ds (listed_symbols functions used all) symbols through away g made
+    reduced_away is_predicate functions (Contains used) c ds (listed_pass (is_allowed functions) used all) symbols through away g made

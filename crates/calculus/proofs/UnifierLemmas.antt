@@ -17,15 +17,15 @@ abbrev symbol_of : Tree → ℕ
 symbol_of (variable v) = 0
 symbol_of (application f ts) = f
 
-abbrev arguments_of : Tree → Trees
+abbrev pub arguments_of : Tree → Trees
 arguments_of (variable v) = no_trees
 arguments_of (application f ts) = ts
 
-abbrev first_of : Trees → Tree
+abbrev pub first_of : Trees → Tree
 first_of no_trees = variable 0
 first_of (tree_then t ts) = t
 
-abbrev rest_of : Trees → Trees
+abbrev pub rest_of : Trees → Trees
 rest_of no_trees = no_trees
 rest_of (tree_then t ts) = ts
 

@@ -1,13 +1,15 @@
 -- What simplification keeps: the ground instances of a clause that is reduced, subsumed, renamed or a tautology are covered by what
 -- takes its place and what was used (Bachmair and Ganzinger 1994). Covering clauses are none greater, which is part of "covered".
-use Rattle.std.specs.Prelude.{◌⊎◌, ℕ, Bool, List, [], ◌∷◌, All, Contains, IsTrue}
+use Rattle.std.specs.Prelude.{◌≡◌, ◌⊎◌, ℕ, ◌<◌, Bool, List, [], ◌∷◌, length, All, Contains, IsTrue}
 use Rattle.fol_base.specs.Clause.{TreeClause}
 use Rattle.fol_base.specs.Canonical.{canonical_clause}
 use Rattle.fol_base.specs.Symbols.{FunctionSymbols}
 use Rattle.fol_base.specs.Ground.{GroundClause, GroundInstance}
-use Rattle.fol_base.specs.Subsumption.{Subsumes}
+use Rattle.fol_base.specs.Subsumption.{Subsumes, all_different}
 use Rattle.fol_base.specs.Covered.{Covers}
 use Rattle.kernel_steps.specs.Inference.{DropsTrivial, MergesEqual, CutsBy, Reduces, SomeClause, is_tautology}
+use Rattle.kernel_steps.specs.Split.{literals_at}
+use Rattle.kernel_steps.specs.Symbols.{clause_symbols_pass}
 use Rattle.calculus.specs.Symbols.{HasSymbolsOf}
 
 -- each ground instance of c over the list of function symbols is covered by the clauses ds
@@ -37,11 +39,18 @@ SubsumedCovered =
     → HasSymbolsOf functions d → Subsumes is_predicate c d
     → CoversInstancesOf functions (c ∷ []) d
 
--- a tautology: by nothing
+-- a tautology: it needs no clauses
 abbrev pub TautologiesCovered : Type 0
 TautologiesCovered =
     (is_predicate : ℕ → Bool) (functions : FunctionSymbols is_predicate) (c : TreeClause)
     → IsTrue (is_tautology c) → CoversInstancesOf functions [] c
+
+-- a clause of which some literals, at different places, are a clause: by that, or its canonical form, whatever the names
+abbrev pub PartsCover : Type 0
+PartsCover =
+    (is_predicate : ℕ → Bool) (functions : FunctionSymbols is_predicate) (c d : TreeClause) (places : List ℕ)
+    → IsTrue (all_different places) → All (λ k. k < length c.literals) places → d.literals ≡ literals_at c.literals places
+    → CoversInstancesOf functions (d ∷ []) c × CoversInstancesOf functions (canonical_clause d ∷ []) c
 
 -- a clause whose variables are numbered anew: by its canonical form, and the other way round
 abbrev pub RenamedCovered : Type 0
@@ -61,19 +70,26 @@ abbrev pub end_of : TreeClause → List TreeClause → TreeClause
 end_of c [] = c
 end_of c (d ∷ ds) = end_of d ds
 
--- no step brings in a symbol that neither the clause nor those that may be used have
+-- no step brings in a symbol that neither the clause nor those that may be used have: what test their symbols pass, the result's pass
 abbrev pub ReductionsKeepSymbols : Type 0
 ReductionsKeepSymbols =
-    (is_predicate : ℕ → Bool) (functions : FunctionSymbols is_predicate) (used : List TreeClause) (c d : TreeClause)
-    → All (HasSymbolsOf functions) used → HasSymbolsOf functions c → Reduces is_predicate (Contains used) c d
-    → HasSymbolsOf functions d
+    (is_predicate : ℕ → Bool) (test : ℕ → ℕ → Bool) (used : List TreeClause) (c : TreeClause) (ds : List TreeClause)
+    → All (λ u. IsTrue (clause_symbols_pass test u)) used → IsTrue (clause_symbols_pass test c)
+    → ReducesThrough is_predicate (Contains used) c ds
+    → IsTrue (clause_symbols_pass test (end_of c ds))
 
--- a clause that is reduced by steps one after another: by the last result and the clauses that may be used
+-- nor do steps change a clause's names
+abbrev pub ReductionsKeepNames : Type 0
+ReductionsKeepNames =
+    (is_predicate : ℕ → Bool) (used : List TreeClause) (c : TreeClause) (ds : List TreeClause)
+    → ReducesThrough is_predicate (Contains used) c ds → (end_of c ds).names ≡ c.names
+
+-- a clause that is reduced by steps one after another: by the last result, or its canonical form, and the clauses that may be used
 abbrev pub ReductionsCompose : Type 0
 ReductionsCompose =
     (is_predicate : ℕ → Bool) (functions : FunctionSymbols is_predicate) (used : List TreeClause) (c : TreeClause) (ds : List TreeClause)
     → All (HasSymbolsOf functions) used → HasSymbolsOf functions c → ReducesThrough is_predicate (Contains used) c ds
-    → CoversInstancesOf functions (end_of c ds ∷ used) c
+    → CoversInstancesOf functions (end_of c ds ∷ used) c × CoversInstancesOf functions (canonical_clause (end_of c ds) ∷ used) c
 
 -- a clause that is reduced away, to a tautology or to what one of the clauses that may be used subsumes: by these alone
 abbrev pub ReducedAwayCovered : Type 0

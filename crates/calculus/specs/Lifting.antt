@@ -1,6 +1,6 @@
--- Lifting: the conclusion of each ground inference is a ground instance of the conclusion of one named inference (Bachmair and
--- Ganzinger 1994). The named inference has the numbers of the literals, the sides and the place of the ground one.
-use Rattle.std.specs.Prelude.{◌⊎◌, ℕ, Bool, ◌&&◌, IsTrue, List, Contains, slice_get}
+-- Lifting: the conclusion of each ground inference is a ground instance of the conclusion of one named inference, or has a literal
+-- `t = t` (Bachmair and Ganzinger 1994). The named inference has the numbers of the literals, the sides and the place of the ground one.
+use Rattle.std.specs.Prelude.{◌≡◌, ◌⊎◌, ℕ, Bool, ◌&&◌, if◌then◌else◌, IsTrue, List, [], Contains, Option, None, Some}
 use Rattle.std.specs.List.{list_any}
 use Rattle.fol_base.specs.Tree.{tree_eq}
 use Rattle.fol_base.specs.Clause.{TreeLiteral, TreeClause}
@@ -12,6 +12,7 @@ use Rattle.fol_base.specs.Covered.{InstanceOf, Covers}
 use Rattle.kernel_steps.specs.Inference.{NamedSuperposition, NamedResolution, NamedFactoring}
 use Rattle.kernel_steps.specs.Named.{IsInference}
 use Rattle.kernel_steps.specs.declared.key.Key.{Key}
+use Rattle.calculus.specs.Coverage.{CoversInstancesOf}
 
 -- a literal `t = t`
 abbrev pub has_equal_sides : TreeLiteral → Bool
@@ -29,13 +30,14 @@ FactoringsLift =
     → (r : GroundFactoring functions mode c g)
     → InstanceOf functions (NamedFactoring is_predicate mode c r.i r.side_i r.j r.side_j) g
 
--- Or the conclusion has a literal `t = t`: where the other sides become equal at the root of a positive literal, no inference is named.
+-- Or the conclusion has a literal `t = t`: where the other sides become equal at the root of a positive literal, no inference is named,
+-- and nowhere else.
 abbrev pub SuperpositionsLift : Type 0
 SuperpositionsLift =
     (is_predicate : ℕ → Bool) (functions : FunctionSymbols is_predicate) (mode : SelectionMode) (first second : TreeClause) (g : GroundClause)
     → (r : GroundSuperposition functions mode first second g)
     → InstanceOf functions (NamedSuperposition is_predicate mode first r.i r.from_side second r.j r.into_side r.place) g
-    ⊎ IsTrue (list_any has_equal_sides g)
+    ⊎ (IsTrue r.into.positive × (r.place ≡ []) × IsTrue (list_any has_equal_sides g))
 
 -- ---- whichever most general unifier
 
@@ -59,17 +61,36 @@ SuperpositionsReachAll =
     → (d : TreeClause) → NamedSuperposition is_predicate mode first r.i r.from_side second r.j r.into_side r.place d
     → GroundInstance functions d g
 
--- ---- closed under named inferences
+-- ---- conclusions of what is named among members
 
--- For each inference that is named among the clauses cs, by their places there, one of its conclusions is among ds.
-abbrev pub HasConclusionsOf : (ℕ → Bool) → SelectionMode → List TreeClause → List TreeClause → Type 0
-HasConclusionsOf is_predicate mode cs ds =
-    (key : Key) (d : TreeClause) → IsInference is_predicate mode (slice_get cs) key d
-    → (e : TreeClause) × Contains ds e × IsInference is_predicate mode (slice_get cs) key e
+-- The members are those of the clauses, by their numbers, that pass a test. The others are looked up as if they weren't there.
+abbrev pub among : (ℕ → Bool) → (ℕ → Option TreeClause) → ℕ → Option TreeClause
+among is_member clauses n = if is_member n then clauses n else None
 
--- Then they cover the conclusion of each ground inference among cs.
+-- a clause that has a member's number
+abbrev pub IsMember : (ℕ → Bool) → (ℕ → Option TreeClause) → TreeClause → Type 0
+IsMember is_member clauses c = (n : ℕ) × (among is_member clauses n ≡ Some c)
+
+-- For each inference that is named among the members, one of its conclusions satisfies the predicate.
+abbrev pub HasConclusionsOf : (ℕ → Bool) → SelectionMode → (ℕ → Bool) → (ℕ → Option TreeClause) → (TreeClause → Type 0) → Type 0
+HasConclusionsOf is_predicate mode is_member clauses Holds =
+    (key : Key) (d : TreeClause) → IsInference is_predicate mode (among is_member clauses) key d
+    → (e : TreeClause) × Holds e × IsInference is_predicate mode clauses key e
+
+-- Clauses that cover the instances of one conclusion of each cover the conclusion of each ground inference among the members,
 abbrev pub GroundConclusionsCovered : Type 0
 GroundConclusionsCovered =
-    (is_predicate : ℕ → Bool) (functions : FunctionSymbols is_predicate) (mode : SelectionMode) (cs ds : List TreeClause) (g : GroundClause)
-    → HasConclusionsOf is_predicate mode cs ds → GroundConclusion functions mode (Contains cs) g
+    (is_predicate : ℕ → Bool) (functions : FunctionSymbols is_predicate) (mode : SelectionMode)
+    (is_member : ℕ → Bool) (clauses : ℕ → Option TreeClause) (ds : List TreeClause) (g : GroundClause)
+    → HasConclusionsOf is_predicate mode is_member clauses (CoversInstancesOf functions ds)
+    → GroundConclusion functions mode (IsMember is_member clauses) g
+    → Covers functions ds g
+
+-- and so do clauses that have one conclusion of each.
+abbrev pub GroundConclusionsListed : Type 0
+GroundConclusionsListed =
+    (is_predicate : ℕ → Bool) (functions : FunctionSymbols is_predicate) (mode : SelectionMode)
+    (is_member : ℕ → Bool) (clauses : ℕ → Option TreeClause) (ds : List TreeClause) (g : GroundClause)
+    → HasConclusionsOf is_predicate mode is_member clauses (Contains ds)
+    → GroundConclusion functions mode (IsMember is_member clauses) g
     → Covers functions ds g

@@ -4,9 +4,11 @@ ghost use Rattle.calculus.specs.Coverage.{
   DroppedLiteralsCovered,
   ReductionsCovered,
   SubsumedCovered,
+  PartsCover,
   TautologiesCovered,
   RenamedCovered,
   ReductionsKeepSymbols,
+  ReductionsKeepNames,
   ReductionsCompose,
   ReducedAwayCovered,
 };
@@ -23,12 +25,19 @@ pub fn reductions_covered()
     ensures { ReductionsCovered }
 {}
 
-/// The ground instances of a clause that is subsumed are covered by the clause that subsumes it.
+/// The ground instances of a clause that is subsumed are covered by the clause that subsumes it, for every list of function symbols
+/// that holds those of the subsumed clause.
 pub fn subsumed_covered()
     ensures { SubsumedCovered }
 {}
 
-/// The ground instances of a tautology are covered by nothing.
+/// The ground instances of a clause are covered by some of its literals, at different places, and by the canonical form of these,
+/// under whatever names.
+pub fn parts_cover()
+    ensures { PartsCover }
+{}
+
+/// The ground instances of a tautology are covered by the empty list.
 pub fn tautologies_covered()
     ensures { TautologiesCovered }
 {}
@@ -38,19 +47,21 @@ pub fn renamed_covered()
     ensures { RenamedCovered }
 {}
 
-/// A reducing step brings in no symbol that neither the clause nor those that may be used have.
-pub fn reductions_keep_symbols()
-    ensures { ReductionsKeepSymbols }
+/// Reducing steps one after another bring in no symbol that neither the clause nor those that may be used have: each test of symbols
+/// and their numbers of arguments that all of these pass, the last result passes. They keep the clause's names.
+pub fn reductions_keep()
+    ensures symbols { ReductionsKeepSymbols }
+    ensures names { ReductionsKeepNames }
 {}
 
-/// The ground instances of a clause that is reduced by steps one after another are covered by the last result and the clauses that
-/// may be used.
+/// The ground instances of a clause that is reduced by steps one after another are covered by the last result, or its canonical form,
+/// and the clauses that may be used, for every list of function symbols that holds those of all these clauses.
 pub fn reductions_compose()
     ensures { ReductionsCompose }
 {}
 
 /// The ground instances of a clause that is reduced to a tautology, or to what one of the clauses that may be used subsumes, are
-/// covered by these.
+/// covered by the clauses that may be used, for every list of function symbols that holds those of all these clauses.
 pub fn reduced_away_covered()
     ensures { ReducedAwayCovered }
 {}

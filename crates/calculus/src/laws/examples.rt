@@ -1,27 +1,31 @@
 // Worked examples: of the words that the laws use; why the places at and below variables are left out; why a root is rewritten only
 // below the other side.
 
-ghost use Rattle.std.specs.Prelude.{◌≡◌, ℕ, List, [], ◌∷◌, Some, Contains, IsTrue, IsFalse};
+ghost use Rattle.std.specs.Prelude.{◌≡◌, ℕ, true, ◌==◌, List, [], ◌∷◌, None, Some, Contains, slice_get, IsTrue, IsFalse};
+ghost use Rattle.std.specs.List.{list_any};
 ghost use Rattle.fol_base.specs.Clause.{TreeClause};
 ghost use Rattle.fol_base.specs.Ground.{literals_instance};
 ghost use Rattle.fol_base.specs.Rules.{disequation, superposed};
-ghost use Rattle.fol_base.specs.Selection.{select_nothing, select_negative};
+ghost use Rattle.fol_base.specs.Selection.{select_nothing, select_negative, chosen, eligible_in_instance};
+ghost use Rattle.fol_base.specs.GroundInference.{is_greater_side};
+ghost use Rattle.fol_base.specs.Order.{clause_greater};
 ghost use Rattle.fol_base.specs.Covered.{Covers};
+ghost use Rattle.fol_base.specs.Entails.{Entails};
 ghost use Rattle.fol_base.specs.Examples.{x, a, b, f, f₂, g, p, q, r, equation, clause, is_predicate, functions, all_b};
 ghost use Rattle.fol_base.specs.declared.clause.Side.{Side};
 ghost use Rattle.fol_base.specs.declared.clause.Side.TheVariants.{Left};
 ghost use Rattle.kernel_steps.specs.Examples.{not_p};
 ghost use Rattle.kernel_steps.specs.Inference.{NamedSuperposition};
-ghost use Rattle.kernel_steps.specs.Symbols.{clause_symbols_pass};
-ghost use Rattle.calculus.specs.Symbols.{is_allowed, HasSymbolsOf};
-ghost use Rattle.calculus.specs.Coverage.{ReducesThrough, end_of};
+ghost use Rattle.calculus.specs.Symbols.{HasSymbolsOf};
+ghost use Rattle.calculus.specs.Coverage.{CoversInstancesOf, ReducesThrough, end_of};
 ghost use Rattle.calculus.specs.Lifting.{has_equal_sides, HasConclusionsOf};
 
 /// Lists of function symbols that hold those of a clause: the list has a, b, and f with one argument.
 pub fn symbol_examples()
     ensures held { HasSymbolsOf functions (clause (p (f (x 0)) ∷ equation a b ∷ [])) }
-    ensures another_symbol { IsFalse (clause_symbols_pass (is_allowed functions) (clause (p (g a) ∷ []))) }
-    ensures two_arguments { IsFalse (clause_symbols_pass (is_allowed functions) (clause (p (f₂ a b) ∷ []))) }
+    ensures another_symbol { HasSymbolsOf functions (clause (p (g a) ∷ [])) → ⊥ }
+    ensures another_later { HasSymbolsOf functions (clause (p a ∷ p (g a) ∷ [])) → ⊥ }
+    ensures two_arguments { HasSymbolsOf functions (clause (p (f₂ a b) ∷ [])) → ⊥ }
 {}
 
 /// Reducing steps one after another: `a = b` leads `f(b) != f(a) | r` to `f(a) != f(a) | r`, which is reduced to `r`.
@@ -32,27 +36,51 @@ pub fn steps_examples()
     ensures no_step { end_of (clause (r ∷ [])) [] ≡ clause (r ∷ []) }
 {}
 
-/// A literal `t = t`; and clauses that have, or don't have, the conclusions of what is named among others.
+/// A literal `t = t`; and clauses that have, or don't have, one conclusion of each inference that is named among members.
 pub fn closure_examples()
     ensures equal_sides { IsTrue (has_equal_sides (equation (f a) (f a))) }
     ensures other_sides { IsFalse (has_equal_sides (equation (f a) a)) }
     ensures negative { IsFalse (has_equal_sides (disequation a a)) }
-    ensures nothing_named { HasConclusionsOf is_predicate select_nothing (clause (r ∷ []) ∷ []) [] }
-    ensures one_missing { HasConclusionsOf is_predicate select_negative (clause (not_p (x 0) ∷ q (x 0) ∷ []) ∷ clause (p a ∷ []) ∷ []) [] → ⊥ }
+    ensures nothing_named { HasConclusionsOf is_predicate select_nothing (λ n. true) (slice_get (clause (r ∷ []) ∷ [])) (Contains []) }
+    ensures one_missing { HasConclusionsOf is_predicate select_negative (λ n. true)
+        (slice_get (clause (not_p (x 0) ∷ q (x 0) ∷ []) ∷ clause (p a ∷ []) ∷ [])) (Contains []) → ⊥ }
+    ensures no_member { HasConclusionsOf is_predicate select_negative (λ n. n == 0)
+        (slice_get (clause (not_p (x 0) ∷ q (x 0) ∷ []) ∷ clause (p a ∷ []) ∷ [])) (Contains []) }
+    ensures one_listed { HasConclusionsOf is_predicate select_negative (λ n. true)
+        (slice_get (clause (disequation (x 0) a ∷ p (x 1) ∷ []) ∷ [])) (Contains (clause (p (x 1) ∷ []) ∷ [])) }
 {}
 
-/// `b = a` can be superposed into the instance `p(b)` of `p(X0)`, at the place of the variable, but no superposition of `b = a`
-/// into `p(X0)` is named: there the ground inferences have to leave that place out.
+/// `b = a` can be superposed into the instance `p(b)` of `p(X0)`, at the place of the variable, and all else that a ground
+/// superposition asks holds there. But no superposition of `b = a` into `p(X0)` is named, and the conclusion has no literal `t = t`: so
+/// the ground inferences have to leave that place out, and those below it, as that of b in the instance `p(f(b))`.
 pub fn superposition_at_a_variable()
     ensures instance { literals_instance all_b (p (x 0) ∷ []) ≡ p b ∷ [] }
     ensures superposed_there { superposed (equation b a ∷ []) 0 Left (p b ∷ []) 0 Left (0 ∷ []) ≡ Some (p a ∷ []) }
+    ensures from_greater { IsTrue (is_greater_side all_b Left (equation b a)) }
+    ensures from_unchosen { chosen select_nothing (equation b a ∷ []) ≡ None }
+    ensures from_eligible { IsTrue (eligible_in_instance select_nothing (equation b a ∷ []) all_b 0 true) }
+    ensures into_greater { IsTrue (is_greater_side all_b Left (p (x 0))) }
+    ensures into_unchosen { chosen select_nothing (p (x 0) ∷ []) ≡ None }
+    ensures into_eligible { IsTrue (eligible_in_instance select_nothing (p (x 0) ∷ []) all_b 0 true) }
+    ensures no_equal_sides { IsFalse (list_any has_equal_sides (p a ∷ [])) }
+    ensures instance_below { literals_instance (λ v. f b) (p (x 0) ∷ []) ≡ p (f b) ∷ [] }
+    ensures superposed_below { superposed (equation b a ∷ []) 0 Left (p (f b) ∷ []) 0 Left (0 ∷ 0 ∷ []) ≡ Some (p (f a) ∷ []) }
     ensures none_named { (i : ℕ) (s : Side) (j : ℕ) (z : Side) (place : List ℕ) (d : TreeClause)
         → NamedSuperposition is_predicate select_nothing (clause (equation b a ∷ [])) i s (clause (p (x 0) ∷ [])) j z place d → ⊥ }
 {}
 
+/// The instances of `p(X1) | r` are covered by `p(X0)`.
+pub fn covering_example()
+    ensures { CoversInstancesOf functions (clause (p (x 0) ∷ []) ∷ []) (clause (p (x 1) ∷ r ∷ [])) }
+{}
+
 /// `f(a) = b` would rewrite `f(a) = a` at its root to `b = a`, which with it entails the clause. But the unit is greater than
-/// `f(a) = a`, so the two don't cover it.
+/// `f(a) = a`, so the two don't cover it, nor its instances.
 pub fn rewriting_at_a_root()
     ensures result { superposed (equation (f a) b ∷ []) 0 Left (equation (f a) a ∷ []) 0 Left [] ≡ Some (equation b a ∷ []) }
+    ensures entailed { Entails is_predicate ((equation (f a) b ∷ []) ∷ (equation b a ∷ []) ∷ []) (equation (f a) a ∷ []) }
+    ensures unit_greater { IsTrue (clause_greater (equation (f a) b ∷ []) (equation (f a) a ∷ [])) }
     ensures not_covered { Covers functions (clause (equation (f a) b ∷ []) ∷ clause (equation b a ∷ []) ∷ []) (equation (f a) a ∷ []) → ⊥ }
+    ensures instances_not_covered { CoversInstancesOf functions (clause (equation (f a) b ∷ []) ∷ clause (equation b a ∷ []) ∷ [])
+        (clause (equation (f a) a ∷ [])) → ⊥ }
 {}

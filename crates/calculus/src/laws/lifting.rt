@@ -8,6 +8,7 @@ ghost use Rattle.calculus.specs.Lifting.{
   FactoringsReachAll,
   SuperpositionsReachAll,
   GroundConclusionsCovered,
+  GroundConclusionsListed,
 };
 
 /// The conclusion of an equality resolution of a ground instance is a ground instance of the conclusion of an inference that is named
@@ -24,14 +25,15 @@ pub fn factorings_lift()
 {}
 
 /// The conclusion of a superposition between ground instances of two clauses, or of one under two substitutions, likewise; or it has
-/// a literal `t = t`.
+/// a literal `t = t`, at the root of a positive literal alone.
 pub fn superpositions_lift()
     ensures to_one { SuperpositionsLift }
     ensures to_all { SuperpositionsReachAll }
 {}
 
-/// Clauses that have a conclusion of each inference that is named among others cover the conclusion of each ground inference among
-/// these.
+/// Clauses that cover the instances of one conclusion of each inference that is named among members, by their numbers, cover the
+/// conclusion of each ground inference among these; and so do clauses that have one conclusion of each.
 pub fn ground_conclusions_covered()
-    ensures { GroundConclusionsCovered }
+    ensures covered { GroundConclusionsCovered }
+    ensures listed { GroundConclusionsListed }
 {}

@@ -1,0 +1,5 @@
+use Rattle.calculus.proofs.CoverLemmas.{parts_cover}
+use Rattle.calculus.proofs.laws.coverage.parts_cover.Goals as goal
+
+pub returns : goal.returns
+returns c = parts_cover

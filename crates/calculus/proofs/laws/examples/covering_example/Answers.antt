@@ -1,0 +1,5 @@
+use Rattle.calculus.proofs.ExampleLemmas.{subsumed_instances}
+use Rattle.calculus.proofs.laws.examples.covering_example.Goals as goal
+
+pub returns : goal.returns
+returns c = subsumed_instances

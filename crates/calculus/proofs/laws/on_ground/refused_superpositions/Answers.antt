@@ -1,0 +1,14 @@
+use Rattle.calculus.proofs.RefusedExamples.{smaller_side, not_maximal, not_chosen, other_kind}
+use Rattle.calculus.proofs.laws.on_ground.refused_superpositions.Goals as goal
+
+pub returns-clause-smaller_side : goal.returns-clause-smaller_side
+returns-clause-smaller_side c = smaller_side
+
+pub returns-clause-not_maximal : goal.returns-clause-not_maximal
+returns-clause-not_maximal c = not_maximal
+
+pub returns-clause-not_chosen : goal.returns-clause-not_chosen
+returns-clause-not_chosen c = not_chosen
+
+pub returns-clause-other_kind : goal.returns-clause-other_kind
+returns-clause-other_kind c = other_kind
