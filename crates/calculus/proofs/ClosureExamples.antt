@@ -1,5 +1,5 @@
--- Worked examples of steps one after another, and of clauses that have the conclusions of what is named among others.
-use Rattle.std.proofs.Common.{◌≡◌, ℕ, zero, suc, Bool, true, false, ◌==◌, List, [], ◌∷◌, None, Some, refl, ap, sym, ◌∙◌, subst, inl, inr, arith}
+-- Worked examples of reducing steps, also one after another, and of clauses that have the conclusions of what is named among others.
+use Rattle.std.proofs.Common.{◌≡◌, ℕ, zero, suc, Bool, true, false, ◌==◌, List, [], ◌∷◌, None, Some, length, refl, ap, sym, ◌∙◌, subst, inl, inr, arith}
 use Rattle.std.specs.Prelude.{slice_get, Contains, IsTrue, IsFalse}
 use Rattle.std.proofs.lemmas.Bool.{cond-false, eqb-true, ne_eqb, true≢false}
 use Rattle.std.proofs.lemmas.Option.{none-some, same_Some}
@@ -12,20 +12,65 @@ use Rattle.fol_base.specs.Sides.{side_of, other_side_of}
 use Rattle.fol_base.specs.Rules.{disequation}
 use Rattle.fol_base.specs.Ground.{literals_instance}
 use Rattle.fol_base.specs.Selection.{select_nothing, select_negative, chosen}
-use Rattle.fol_base.specs.Examples.{x, a, b, f, p, q, r, equation, clause, is_predicate, all_a, first_is_a}
+use Rattle.fol_base.specs.Examples.{x, a, b, f, p, q, r, equation, clause, is_predicate, functions, all_a, first_is_a}
 use Rattle.fol_base.specs.declared.clause.Side.{Side}
 use Rattle.fol_base.specs.declared.clause.Side.TheVariants.{Left, Right}
 use Rattle.fol_base.proofs.RuleLemmas.{resolved-parts, factored-parts}
 use Rattle.fol_base.proofs.MatchingExamples.{first_is_a_general}
 use Rattle.kbo_order.proofs.MemberLemmas.{In-contains}
 use Rattle.kernel_steps.specs.Examples.{not_p, not_true}
-use Rattle.kernel_steps.specs.Inference.{are_of_one_kind, NamedSuperposition, NamedResolution, NamedFactoring}
+use Rattle.kernel_steps.specs.Inference.{are_of_one_kind, NamedSuperposition, NamedResolution, NamedFactoring, RewritesBy, CutsBy}
 use Rattle.kernel_steps.specs.Named.{IsInference}
 use Rattle.kernel_steps.specs.declared.key.Key.{Key}
 use Rattle.kernel_steps.specs.declared.key.Key.TheVariants.{Para, Refl, Factor, Replaced}
 use Rattle.kernel_steps.proofs.SuperpositionExamples.{superposition}
-use Rattle.calculus.specs.Coverage.{ReducesThrough}
-use Rattle.calculus.specs.Lifting.{among, HasConclusionsOf}
+use Rattle.calculus.specs.Coverage.{ReducesThrough, CoversInstancesOf}
+use Rattle.calculus.specs.Lifting.{among, IsMember, HasConclusionsOf}
+use Rattle.calculus.proofs.CoverLemmas.{subsumed_covered}
+
+-- ---- a left side, a negative literal
+
+-- f(b) != a, by b = a
+pub by_left_side : RewritesBy is_predicate (clause (equation b a ∷ [])) (clause (disequation (f b) a ∷ [])) (clause (disequation (f a) a ∷ []))
+by_left_side = record {
+  equation = equation b a;
+  is_unit = refl;
+  from_side = Left;
+  j = 0;
+  literal = disequation (f b) a;
+  literal_there = refl;
+  into_side = Left;
+  place = 0 ∷ [];
+  old = b;
+  old_there = refl;
+  one_kind = refl;
+  matcher = all_a;
+  function_terms = λ v. refl;
+  matches = refl;
+  greater = refl;
+  no_new_variables = All-nil _;
+  root_allowed = λ positive root. absurd (true≢false (sym positive));
+  asserted = refl;
+  gives = refl;
+  names = refl;
+}
+
+-- ~p(a) | r, by p(X0)
+pub negative_cut : CutsBy is_predicate (clause (p (x 0) ∷ [])) (clause (not_p a ∷ r ∷ [])) (clause (r ∷ []))
+negative_cut = record {
+  unit_literal = p (x 0);
+  is_unit = refl;
+  j = 0;
+  literal = not_p a;
+  literal_there = refl;
+  no_truths = refl;
+  matcher = all_a;
+  function_terms = λ v. refl;
+  matches = refl;
+  asserted = refl;
+  gives = refl;
+  names = refl;
+}
 
 -- ---- f(b) != f(a) | r, by a = b
 
@@ -169,6 +214,14 @@ first_member zero c there = same_Some chooses c there
 first_member (suc n) c there =
     absurd (none-some c (sym (cond-false (suc n == 0) (slice_get two (suc n)) None (ne_eqb (suc n) 0 (λ e. omega arith))) ∙ there))
 
+pub member : IsMember (λ n. n == 0) (slice_get two) chooses
+member = (0, refl)
+
+pub not_a_member : IsMember (λ n. n == 0) (slice_get two) (clause (p a ∷ [])) → ⊥
+not_a_member m =
+    let lengths : 2 ≡ 1 = ap (λ (c : TreeClause). length c.literals) (first_member m.0 (clause (p a ∷ [])) m.1) in
+    absurd (omega (arith, lengths))
+
 -- a clause whose first literal is chosen
 is_chosen : (c d : TreeClause) → chosen select_negative c.literals ≡ Some 0 → c ≡ d → chosen select_negative d.literals ≡ None → ⊥
 is_chosen c d first is none =
@@ -218,15 +271,14 @@ only_resolution : (i : ℕ) (d : TreeClause) → NamedResolution select_negative
 only_resolution zero d n = resolution
 only_resolution (suc i) d n = absurd (omega (arith, eqb-true (suc i) 0 n.is_eligible))
 
-pub one_listed :
-    HasConclusionsOf is_predicate select_negative (λ n. true) (slice_get (clause (disequation (x 0) a ∷ p (x 1) ∷ []) ∷ []))
-    (Contains (clause (p (x 1) ∷ []) ∷ []))
-one_listed (Para first i s second j z place) d it =
+-- what holds of p(X1) holds of one conclusion of each
+has_resolved : (Holds : TreeClause → Type 0) → Holds resolved_to → HasConclusionsOf is_predicate select_negative every (slice_get (resolves ∷ [])) Holds
+has_resolved Holds holds (Para first i s second j z place) d it =
     absurd (is_chosen resolves it.first_clause refl (only resolves it.first_clause first it.first_there) it.infers.from_eligible.nothing_chosen)
-one_listed (Refl k i) d it =
+has_resolved Holds holds (Refl k i) d it =
     let is : resolves ≡ it.clause = only resolves it.clause k it.there in (
       resolved_to,
-      In-contains resolved_to (resolved_to ∷ []) (inl refl),
+      holds,
       record {
         clause = it.clause;
         there = it.there;
@@ -235,6 +287,28 @@ one_listed (Refl k i) d it =
             (only_resolution i d (subst (λ (c : TreeClause). NamedResolution select_negative c i d) (sym is) it.infers));
       },
     )
-one_listed (Factor k i s j z) d it =
+has_resolved Holds holds (Factor k i s j z) d it =
     absurd (is_chosen resolves it.clause refl (only resolves it.clause k it.there) it.infers.i_eligible.nothing_chosen)
-one_listed (Replaced k) d it = absurd it
+has_resolved Holds holds (Replaced k) d it = absurd it
+
+pub one_listed :
+    HasConclusionsOf is_predicate select_negative (λ n. true) (slice_get (clause (disequation (x 0) a ∷ p (x 1) ∷ []) ∷ []))
+    (Contains (clause (p (x 1) ∷ []) ∷ []))
+one_listed = has_resolved (Contains (resolved_to ∷ [])) (In-contains resolved_to (resolved_to ∷ []) (inl refl))
+
+-- ---- p(X0) covers the instances of p(X1)
+
+pub one_covered :
+    HasConclusionsOf is_predicate select_negative (λ n. true) (slice_get (clause (disequation (x 0) a ∷ p (x 1) ∷ []) ∷ []))
+    (CoversInstancesOf functions (clause (p (x 0) ∷ []) ∷ []))
+one_covered =
+    has_resolved (CoversInstancesOf functions (clause (p (x 0) ∷ []) ∷ []))
+    (subsumed_covered is_predicate functions (clause (p (x 0) ∷ [])) resolved_to refl
+    (record {
+      matcher = λ v. x 1;
+      function_terms = λ v. refl;
+      places = 0 ∷ [];
+      different = refl;
+      mapped = refl;
+      asserted = refl;
+    }))

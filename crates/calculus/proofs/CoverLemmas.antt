@@ -1,9 +1,9 @@
 -- The ground instances of clauses that are reduced by fewer literals, subsumed, renamed or tautologies are covered.
 use Rattle.std.proofs.Common.{◌≡◌, ℕ, Bool, true, false, not, ◌&&◌, List, [], ◌∷◌, Some, map, refl, ap, sym, ◌∙◌, subst, inl, inr, ◌⊎◌, ⊎_elim, zero, suc}
-use Rattle.std.specs.Prelude.{◌<◌, length, All, Contains, slice_get, remove, flat_map, IsTrue}
+use Rattle.std.specs.Prelude.{All, Contains, slice_get, remove, flat_map, IsTrue}
 use Rattle.std.specs.List.{list_any, list_all}
 use Rattle.std.proofs.lemmas.Bool.{and_parts, or_cases, or_left, or_right, cases_Bool, eq-eqb}
-use Rattle.std.proofs.lemmas.List.Elements.{All-nil, All-cons, recursion_from_All}
+use Rattle.std.proofs.lemmas.List.Elements.{All-nil, All-cons}
 use Rattle.fol_base.specs.Tree.{tree_eq}
 use Rattle.fol_base.specs.Instance.{Substitution}
 use Rattle.fol_base.specs.Clause.{TreeLiteral, TreeClause, literal_instance, literal_variables, clause_variables}
@@ -32,7 +32,7 @@ use Rattle.calculus.specs.Symbols.{is_allowed, HasSymbolsOf}
 use Rattle.calculus.specs.Coverage.{DroppedLiteralsCovered, SubsumedCovered, PartsCover, TautologiesCovered, RenamedCovered}
 use Rattle.calculus.proofs.ClauseLemmas.{In-either, All-In, some-In, removed-not_greater}
 use Rattle.calculus.proofs.SymbolLemmas.{literal-variable-passes, function_term-over}
-use Rattle.calculus.proofs.PlacedLemmas.{Placed, placed, placed-there, placed-instance, placed-true, placed-part}
+use Rattle.calculus.proofs.PlacedLemmas.{Placed, placed, places_in, places_in-different, placed-there, placed-instance, placed-true, placed-part}
 use Rattle.kbo_order.proofs.PartLemmas.{parts_are_not_greater}
 
 -- one ground instance that isn't greater and entails the clause covers it
@@ -163,21 +163,21 @@ subsumed_covered is_predicate functions c d symbols s g made =
 
 part_covers :
     (is_predicate : ℕ → Bool) (functions : FunctionSymbols is_predicate) (c d : TreeClause) (places : List ℕ)
-    → all_different places ≡ true → All (λ k. k < length c.literals) places → d.literals ≡ literals_at c.literals places
+    → all_different places ≡ true → d.literals ≡ literals_at c.literals places
     → CoversEach functions (λ e. e ≡ d) c
-part_covers is_predicate functions c d places different within gives g made =
+part_covers is_predicate functions c d places different gives g made =
     let τ : Substitution = made.trees in
     let whole : GroundClause = literals_instance τ c.literals in
     let part : GroundClause = literals_instance τ d.literals in
-    let at : Placed d.literals places c.literals =
-    subst (λ (ls : List TreeLiteral). Placed ls places c.literals) (sym gives)
-    (placed-there c.literals places (recursion_from_All (λ k. k < length c.literals) places within)) in
-    let ground_at : Placed part places whole = placed-instance τ d.literals places c.literals at in
+    let there : List ℕ = places_in c.literals places in
+    let at : Placed d.literals there c.literals =
+    subst (λ (ls : List TreeLiteral). Placed ls there c.literals) (sym gives) (placed-there c.literals places) in
+    let ground_at : Placed part there whole = placed-instance τ d.literals there c.literals at in
     subst (λ (h : GroundClause). Covered functions (λ e. e ≡ d) h) (sym made.literals)
     (covered-by_one functions (λ e. e ≡ d) d part whole refl
     (record { trees = τ; trees_ground = made.trees_ground; literals = refl })
-    (parts_are_not_greater part whole (placed-part part places whole different ground_at))
-    (λ i holds. placed-true i no_values part places whole ground_at holds))
+    (parts_are_not_greater part whole (placed-part part there whole (places_in-different c.literals places different) ground_at))
+    (λ i holds. placed-true i no_values part there whole ground_at holds))
 
 -- what covers a clause still does where one clause takes its canonical form
 pub canonical_covers :
@@ -196,9 +196,9 @@ canonical_covers is_predicate functions Holds Takes c d kept takes covers g made
     (covers g made)
 
 pub parts_cover : PartsCover
-parts_cover is_predicate functions c d places different within gives =
+parts_cover is_predicate functions c d places different gives =
     let canonical : TreeClause = canonical_clause d in
-    let covers : CoversEach functions (λ e. e ≡ d) c = part_covers is_predicate functions c d places different within gives in (
+    let covers : CoversEach functions (λ e. e ≡ d) c = part_covers is_predicate functions c d places different gives in (
       λ g made. Covered-more is_predicate functions (λ e. e ≡ d) (Contains (d ∷ [])) g (listed-alone d) (covers g made),
       canonical_covers is_predicate functions (λ e. e ≡ d) (Contains (canonical ∷ [])) c d (λ e same. inr same)
           (listed-alone canonical canonical refl) covers,

@@ -12,5 +12,6 @@ mod ClosureLemmas
 mod ClosureExamples
 mod ExampleLemmas
 mod VariantLemmas
+mod ConclusionLemmas
 mod OnGroundLemmas
 mod RefusedExamples

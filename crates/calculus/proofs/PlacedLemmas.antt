@@ -1,11 +1,9 @@
 -- Literals that stand at different places of a clause, as subsumption has them.
-use Rattle.std.proofs.Common.{◌≡◌, ℕ, zero, suc, ◌+◌, ◌<◌, ◌≤◌, true, false, ◌==◌, List, [], ◌∷◌, Option, None, Some, map, length, get_or, refl, ap, sym, ◌∙◌, subst, inl, ⊎_elim, arith, if◌then◌else◌}
+use Rattle.std.proofs.Common.{◌≡◌, ℕ, zero, suc, ◌+◌, ◌≤◌, Bool, true, false, ◌||◌, ◌==◌, List, [], ◌∷◌, Option, None, Some, map, refl, ap, sym, ◌∙◌, inl, ⊎_elim, arith, if◌then◌else◌}
 use Rattle.std.specs.Prelude.{not, slice_get, sum_by}
-use Rattle.std.specs.List.{AllByRecursion, cons_option, list_any}
-use Rattle.std.proofs.lemmas.Bool.{and_parts, or_cases, or_parts, not-true, eq-eqb, true≢false}
+use Rattle.std.specs.List.{cons_option, list_any}
+use Rattle.std.proofs.lemmas.Bool.{and_parts, and_from, or_cases, or_parts, not-true, eq-eqb, true≢false}
 use Rattle.std.proofs.lemmas.List.Sums.{sum_by-cons}
-use Rattle.std.proofs.lemmas.Option.{slice_get-get_or}
-use Rattle.fol_base.specs.Tree.{true_tree}
 use Rattle.fol_base.specs.Instance.{Substitution}
 use Rattle.fol_base.specs.Clause.{TreeLiteral, literal_instance}
 use Rattle.fol_base.specs.Multiset.{times}
@@ -92,10 +90,6 @@ Placed [] (k ∷ places) ds = ⊥
 Placed (l ∷ ls) [] ds = ⊥
 Placed (l ∷ ls) (k ∷ places) ds = ((m : TreeLiteral) × (slice_get ds k ≡ Some m) × (equivalent_literals l m ≡ true)) × Placed ls places ds
 
--- one that is read nowhere
-abbrev no_literal : TreeLiteral
-no_literal = record { positive = true; left = true_tree; right = true_tree }
-
 there : (l : TreeLiteral) (o : Option TreeLiteral) → is_there l o ≡ true → (m : TreeLiteral) × (o ≡ Some m) × (equivalent_literals l m ≡ true)
 there l None h = absurd (true≢false (sym h))
 there l (Some m) h = (m, refl, h)
@@ -110,15 +104,60 @@ placed σ (l ∷ ls) (k ∷ places) ds h =
     let parts = and_parts (is_there (literal_instance σ l) (slice_get ds k)) (stand_at σ ls places ds) h in
     (there (literal_instance σ l) (slice_get ds k) parts.0, placed σ ls places ds parts.1)
 
--- the literals that are taken from places
-pub placed-there :
-    (ds : List TreeLiteral) (places : List ℕ) → AllByRecursion (λ k. k < length ds) places → Placed (literals_at ds places) places ds
-placed-there ds [] within = tt
-placed-there ds (k ∷ places) within =
-    let m : TreeLiteral = get_or ds k no_literal in
-    let at : slice_get ds k ≡ Some m = slice_get-get_or ds k no_literal within.0 in
-    subst (λ (o : Option TreeLiteral). Placed (cons_option o (literals_at ds places)) (k ∷ places) ds) (sym at)
-    ((m, at, (equivalent_literals-decided m m).1 (refl, inl (refl, refl))), placed-there ds places within.1)
+-- ---- the literals that are taken from places
+
+-- a place more, if there is a literal
+abbrev pub and_place : Option TreeLiteral → ℕ → List ℕ → List ℕ
+and_place None k places = places
+and_place (Some m) k places = k ∷ places
+
+-- the places at which there is a literal
+abbrev pub places_in : List TreeLiteral → List ℕ → List ℕ
+places_in ds [] = []
+places_in ds (k ∷ places) = and_place (slice_get ds k) k (places_in ds places)
+
+one_more_placed :
+    (ds : List TreeLiteral) (k : ℕ) (o : Option TreeLiteral) (ls : List TreeLiteral) (places : List ℕ)
+    → slice_get ds k ≡ o → Placed ls places ds → Placed (cons_option o ls) (and_place o k places) ds
+one_more_placed ds k None ls places at rest = rest
+one_more_placed ds k (Some m) ls places at rest = ((m, at, (equivalent_literals-decided m m).1 (refl, inl (refl, refl))), rest)
+
+pub placed-there : (ds : List TreeLiteral) (places : List ℕ) → Placed (literals_at ds places) (places_in ds places) ds
+placed-there ds [] = tt
+placed-there ds (k ∷ places) =
+    one_more_placed ds k (slice_get ds k) (literals_at ds places) (places_in ds places) refl (placed-there ds places)
+
+-- those places are different, where all are
+one_more_absent :
+    (i k : ℕ) (o : Option TreeLiteral) (places : List ℕ)
+    → (i == k) ≡ false → list_any (λ j. i == j) places ≡ false → list_any (λ j. i == j) (and_place o k places) ≡ false
+one_more_absent i k None places here later = later
+one_more_absent i k (Some m) places here later = ap (λ (b : Bool). b || list_any (λ j. i == j) places) here ∙ later
+
+absent_in :
+    (i : ℕ) (ds : List TreeLiteral) (places : List ℕ)
+    → list_any (λ j. i == j) places ≡ false → list_any (λ j. i == j) (places_in ds places) ≡ false
+absent_in i ds [] h = h
+absent_in i ds (k ∷ places) h =
+    let parts = or_parts (i == k) (list_any (λ j. i == j) places) h in
+    one_more_absent i k (slice_get ds k) (places_in ds places) parts.0 (absent_in i ds places parts.1)
+
+one_more_different :
+    (k : ℕ) (o : Option TreeLiteral) (places : List ℕ)
+    → list_any (λ j. k == j) places ≡ false → all_different places ≡ true → all_different (and_place o k places) ≡ true
+one_more_different k None places absent different = different
+one_more_different k (Some m) places absent different =
+    and_from (not (list_any (λ j. k == j) places)) (all_different places) (ap not absent) different
+
+pub places_in-different :
+    (ds : List TreeLiteral) (places : List ℕ) → all_different places ≡ true → all_different (places_in ds places) ≡ true
+places_in-different ds [] different = different
+places_in-different ds (k ∷ places) different =
+    let parts = and_parts (not (list_any (λ j. k == j) places)) (all_different places) different in
+    one_more_different k (slice_get ds k) (places_in ds places)
+    (absent_in k ds places (not-true (list_any (λ j. k == j) places) parts.0)) (places_in-different ds places parts.1)
+
+-- ---- instances and truth
 
 pub placed-instance :
     (τ : Substitution) (ls : List TreeLiteral) (places : List ℕ) (ds : List TreeLiteral)

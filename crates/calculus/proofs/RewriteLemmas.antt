@@ -9,7 +9,7 @@ use Rattle.std.proofs.lemmas.List.Elements.{All-nil, All-cons, All-contains}
 use Rattle.fol_base.specs.Tree.{Tree, tree_variables}
 use Rattle.fol_base.specs.Instance.{Substitution, instance}
 use Rattle.fol_base.specs.Clause.{TreeLiteral, TreeClause, literal_instance, literal_variables, clause_variables}
-use Rattle.fol_base.specs.Canonical.{canonical_clause}
+use Rattle.fol_base.specs.Canonical.{canonical_clause, distinct}
 use Rattle.fol_base.specs.Symbols.{FunctionSymbols}
 use Rattle.fol_base.specs.Ground.{is_over, GroundClause, GroundInstance, literals_instance}
 use Rattle.fol_base.specs.Sides.{side_of, other_side_of}
@@ -35,7 +35,7 @@ use Rattle.kernel_steps.proofs.ItemLemmas.{list_any-set}
 use Rattle.calculus.specs.Symbols.{is_allowed, HasSymbolsOf}
 use Rattle.calculus.specs.Coverage.{ReductionsCovered, ReducesThrough, end_of, ReductionsCompose, ReductionsKeepSymbols, ReductionsKeepNames, ReducedAwayCovered}
 use Rattle.calculus.proofs.ClauseLemmas.{In-either, All-In, smaller-not_greater, smaller_unit-smaller}
-use Rattle.calculus.proofs.SymbolLemmas.{subterm-passes, variable-passes, function_term-over, instance-passes}
+use Rattle.calculus.proofs.SymbolLemmas.{subterm-passes, variable-passes, function_term-over, instance-passes, renamed-pass}
 use Rattle.calculus.proofs.LiteralLemmas.{rewriting-smaller}
 use Rattle.calculus.proofs.CoverLemmas.{CoversEach, Together, together-listed, canonical_covers, dropped_literals, tautologies, subsumed}
 use Rattle.fol_base.proofs.TestLemmas.{list_all-item, list_all-remove}
@@ -311,7 +311,10 @@ steps_keep_symbols is_predicate test Holds c (d ∷ ds) all pass through =
 
 pub reductions_keep_symbols : ReductionsKeepSymbols
 reductions_keep_symbols is_predicate test used c ds all pass through =
-    steps_keep_symbols is_predicate test (Contains used) c ds (listed_pass test used all) pass through
+    let end : TreeClause = end_of c ds in
+    let kept : clause_symbols_pass test end ≡ true =
+    steps_keep_symbols is_predicate test (Contains used) c ds (listed_pass test used all) pass through in
+    (kept, renamed-pass test (distinct (clause_variables end)) end.literals kept)
 
 pub steps :
     (is_predicate : ℕ → Bool) (functions : FunctionSymbols is_predicate) (Holds : TreeClause → Type 0) (c : TreeClause) (ds : List TreeClause)

@@ -1,14 +1,16 @@
 -- What a matcher puts in has the symbols of what is matched.
 use Rattle.std.proofs.Common.{◌≡◌, ℕ, Bool, true, false, ◌||◌, ◌==◌, List, [], ◌∷◌, ◌++◌, Some, refl, ap, sym, ◌∙◌, ⊎_elim, inl}
 use Rattle.std.specs.Prelude.{slice_get}
+use Rattle.std.specs.List.{list_all}
 use Rattle.std.proofs.lemmas.Bool.{and_parts, and_from}
 use Rattle.std.proofs.lemmas.Option.{same_Some, option_and_then_some}
 use Rattle.fol_base.specs.Tree.{Tree, variable, application, Trees, no_trees, tree_then, trees_count, tree_variables, trees_variables, true_symbol}
 use Rattle.fol_base.specs.Instance.{Substitution, instance, instances}
 use Rattle.fol_base.specs.Place.{argument, subterm}
 use Rattle.fol_base.specs.Clause.{TreeLiteral, TreeClause, literal_instance}
+use Rattle.fol_base.specs.Canonical.{renaming}
 use Rattle.fol_base.specs.Symbols.{FunctionSymbols}
-use Rattle.fol_base.specs.Ground.{has_symbol, is_over, are_over}
+use Rattle.fol_base.specs.Ground.{has_symbol, is_over, are_over, literals_instance}
 use Rattle.fol_base.specs.Kind.{is_function_term, are_function_terms}
 use Rattle.fol_base.specs.Order.{equivalent_literals}
 use Rattle.fol_base.specs.declared.clause.Side.TheVariants.{Left, Right}
@@ -92,6 +94,20 @@ mutual
       and_from (symbols_pass test (instance σ t)) (all_symbols_pass test (instances σ ts))
       (instance-passes test σ t (λ v k. puts v (In-left v (tree_variables t) (trees_variables ts) k)) both.0)
       (instances-pass test σ ts (λ v k. puts v (In-right v (tree_variables t) (trees_variables ts) k)) both.1)
+
+-- variables that are numbered anew change no symbol
+pub renamed-pass :
+    (test : SymbolTest) (order : List ℕ) (ls : List TreeLiteral)
+    → list_all (literal_symbols_pass test) ls ≡ true → list_all (literal_symbols_pass test) (literals_instance (renaming order) ls) ≡ true
+renamed-pass test order [] h = refl
+renamed-pass test order (l ∷ ls) h =
+    let σ : Substitution = renaming order in
+    let both = and_parts (literal_symbols_pass test l) (list_all (literal_symbols_pass test) ls) h in
+    and_from (literal_symbols_pass test (literal_instance σ l)) (list_all (literal_symbols_pass test) (literals_instance σ ls))
+    (and_from (symbols_pass test (instance σ l.left)) (symbols_pass test (instance σ l.right))
+    (instance-passes test σ l.left (λ v there. refl) (side-passes test Left l both.0))
+    (instance-passes test σ l.right (λ v there. refl) (side-passes test Right l both.0)))
+    (renamed-pass test order ls both.1)
 
 -- ---- function terms
 

@@ -32,7 +32,7 @@ use Rattle.calculus.proofs.LiftLemmas.{Goes, eligible_between, unchosen_between,
 -- ---- what is left as it is
 
 mutual
-  kept_variable : (κ : Substitution) (t : Tree) (v : ℕ) → instance κ t ≡ t → In v (tree_variables t) → κ v ≡ variable v
+  pub kept_variable : (κ : Substitution) (t : Tree) (v : ℕ) → instance κ t ≡ t → In v (tree_variables t) → κ v ≡ variable v
   kept_variable κ (variable w) v e there = ⊎_elim (λ same. ap κ same ∙ e ∙ ap variable (sym same)) (λ none. absurd none) there
   kept_variable κ (application f ts) v e there = kept_variables κ ts v (ap arguments_of e) there
 

@@ -1,6 +1,6 @@
 -- What simplification keeps: the ground instances of a clause that is reduced, subsumed, renamed or a tautology are covered by what
 -- takes its place and what was used (Bachmair and Ganzinger 1994). Covering clauses are none greater, which is part of "covered".
-use Rattle.std.specs.Prelude.{◌≡◌, ◌⊎◌, ℕ, ◌<◌, Bool, List, [], ◌∷◌, length, All, Contains, IsTrue}
+use Rattle.std.specs.Prelude.{◌≡◌, ◌⊎◌, ℕ, Bool, List, [], ◌∷◌, All, Contains, IsTrue}
 use Rattle.fol_base.specs.Clause.{TreeClause}
 use Rattle.fol_base.specs.Canonical.{canonical_clause}
 use Rattle.fol_base.specs.Symbols.{FunctionSymbols}
@@ -49,7 +49,7 @@ TautologiesCovered =
 abbrev pub PartsCover : Type 0
 PartsCover =
     (is_predicate : ℕ → Bool) (functions : FunctionSymbols is_predicate) (c d : TreeClause) (places : List ℕ)
-    → IsTrue (all_different places) → All (λ k. k < length c.literals) places → d.literals ≡ literals_at c.literals places
+    → IsTrue (all_different places) → d.literals ≡ literals_at c.literals places
     → CoversInstancesOf functions (d ∷ []) c × CoversInstancesOf functions (canonical_clause d ∷ []) c
 
 -- a clause whose variables are numbered anew: by its canonical form, and the other way round
@@ -70,13 +70,14 @@ abbrev pub end_of : TreeClause → List TreeClause → TreeClause
 end_of c [] = c
 end_of c (d ∷ ds) = end_of d ds
 
--- no step brings in a symbol that neither the clause nor those that may be used have: what test their symbols pass, the result's pass
+-- no step brings in a symbol that neither the clause nor those that may be used have: what test their symbols pass, the result's pass,
+-- and those of its canonical form
 abbrev pub ReductionsKeepSymbols : Type 0
 ReductionsKeepSymbols =
     (is_predicate : ℕ → Bool) (test : ℕ → ℕ → Bool) (used : List TreeClause) (c : TreeClause) (ds : List TreeClause)
     → All (λ u. IsTrue (clause_symbols_pass test u)) used → IsTrue (clause_symbols_pass test c)
     → ReducesThrough is_predicate (Contains used) c ds
-    → IsTrue (clause_symbols_pass test (end_of c ds))
+    → IsTrue (clause_symbols_pass test (end_of c ds)) × IsTrue (clause_symbols_pass test (canonical_clause (end_of c ds)))
 
 -- nor do steps change a clause's names
 abbrev pub ReductionsKeepNames : Type 0

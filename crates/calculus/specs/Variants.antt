@@ -44,3 +44,9 @@ abbrev pub InferencesHaveVariants : Type 0
 InferencesHaveVariants =
     (is_predicate : ℕ → Bool) (mode : SelectionMode) (clauses : ℕ → Option TreeClause) (key : Key) (d e : TreeClause)
     → AreVariants d e → IsInference is_predicate mode clauses key d → IsInference is_predicate mode clauses key e
+
+-- And all conclusions of an inference are variants of one another.
+abbrev pub ConclusionsAreVariants : Type 0
+ConclusionsAreVariants =
+    (is_predicate : ℕ → Bool) (mode : SelectionMode) (clauses : ℕ → Option TreeClause) (key : Key) (d e : TreeClause)
+    → IsInference is_predicate mode clauses key d → IsInference is_predicate mode clauses key e → AreVariants d e

@@ -18,7 +18,7 @@ pub use lifting::{
     factorings_lift, ground_conclusions_covered, resolutions_lift, superpositions_lift,
 };
 pub use on_ground::{
-    ground_superposition_example, named_on_ground, refused_cuts, refused_factorings,
+    ground_inference_examples, named_on_ground, refused_cuts, refused_factorings,
     refused_resolutions, refused_superpositions,
 };
 pub use variants::{conclusions_have_variants, variant_examples};

@@ -48,7 +48,7 @@ pub fn renamed_covered()
 {}
 
 /// Reducing steps one after another bring in no symbol that neither the clause nor those that may be used have: each test of symbols
-/// and their numbers of arguments that all of these pass, the last result passes. They keep the clause's names.
+/// and their numbers of arguments that all of these pass, the last result and its canonical form pass. They keep the clause's names.
 pub fn reductions_keep()
     ensures symbols { ReductionsKeepSymbols }
     ensures names { ReductionsKeepNames }

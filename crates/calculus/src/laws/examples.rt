@@ -15,10 +15,10 @@ ghost use Rattle.fol_base.specs.Examples.{x, a, b, f, f₂, g, p, q, r, equation
 ghost use Rattle.fol_base.specs.declared.clause.Side.{Side};
 ghost use Rattle.fol_base.specs.declared.clause.Side.TheVariants.{Left};
 ghost use Rattle.kernel_steps.specs.Examples.{not_p};
-ghost use Rattle.kernel_steps.specs.Inference.{NamedSuperposition};
+ghost use Rattle.kernel_steps.specs.Inference.{NamedSuperposition, RewritesBy, CutsBy};
 ghost use Rattle.calculus.specs.Symbols.{HasSymbolsOf};
 ghost use Rattle.calculus.specs.Coverage.{CoversInstancesOf, ReducesThrough, end_of};
-ghost use Rattle.calculus.specs.Lifting.{has_equal_sides, HasConclusionsOf};
+ghost use Rattle.calculus.specs.Lifting.{has_equal_sides, IsMember, HasConclusionsOf};
 
 /// Lists of function symbols that hold those of a clause: the list has a, b, and f with one argument.
 pub fn symbol_examples()
@@ -28,19 +28,27 @@ pub fn symbol_examples()
     ensures two_arguments { HasSymbolsOf functions (clause (p (f₂ a b) ∷ [])) → ⊥ }
 {}
 
-/// Reducing steps one after another: `a = b` leads `f(b) != f(a) | r` to `f(a) != f(a) | r`, which is reduced to `r`.
+/// Reducing steps: by its left side `b = a` rewrites `f(b) != a`, and `p(X0)` cuts `~p(a)`. One after another: `a = b` leads
+/// `f(b) != f(a) | r` to `f(a) != f(a) | r`, which is reduced to `r`.
 pub fn steps_examples()
+    ensures by_left_side { RewritesBy is_predicate (clause (equation b a ∷ [])) (clause (disequation (f b) a ∷ [])) (clause (disequation (f a) a ∷ [])) }
+    ensures negative_cut { CutsBy is_predicate (clause (p (x 0) ∷ [])) (clause (not_p a ∷ r ∷ [])) (clause (r ∷ [])) }
     ensures two_steps { ReducesThrough is_predicate (Contains (clause (equation a b ∷ []) ∷ [])) (clause (disequation (f b) (f a) ∷ r ∷ []))
         (clause (disequation (f a) (f a) ∷ r ∷ []) ∷ clause (r ∷ []) ∷ []) }
     ensures end { end_of (clause (disequation (f b) (f a) ∷ r ∷ [])) (clause (disequation (f a) (f a) ∷ r ∷ []) ∷ clause (r ∷ []) ∷ []) ≡ clause (r ∷ []) }
     ensures no_step { end_of (clause (r ∷ [])) [] ≡ clause (r ∷ []) }
 {}
 
-/// A literal `t = t`; and clauses that have, or don't have, one conclusion of each inference that is named among members.
+/// A literal `t = t`; what is a member; and clauses that have, or don't have, one conclusion of each inference that is named among
+/// members, or cover its instances.
 pub fn closure_examples()
     ensures equal_sides { IsTrue (has_equal_sides (equation (f a) (f a))) }
     ensures other_sides { IsFalse (has_equal_sides (equation (f a) a)) }
     ensures negative { IsFalse (has_equal_sides (disequation a a)) }
+    ensures member { IsMember (λ n. n == 0)
+        (slice_get (clause (not_p (x 0) ∷ q (x 0) ∷ []) ∷ clause (p a ∷ []) ∷ [])) (clause (not_p (x 0) ∷ q (x 0) ∷ [])) }
+    ensures not_a_member { IsMember (λ n. n == 0)
+        (slice_get (clause (not_p (x 0) ∷ q (x 0) ∷ []) ∷ clause (p a ∷ []) ∷ [])) (clause (p a ∷ [])) → ⊥ }
     ensures nothing_named { HasConclusionsOf is_predicate select_nothing (λ n. true) (slice_get (clause (r ∷ []) ∷ [])) (Contains []) }
     ensures one_missing { HasConclusionsOf is_predicate select_negative (λ n. true)
         (slice_get (clause (not_p (x 0) ∷ q (x 0) ∷ []) ∷ clause (p a ∷ []) ∷ [])) (Contains []) → ⊥ }
@@ -48,11 +56,13 @@ pub fn closure_examples()
         (slice_get (clause (not_p (x 0) ∷ q (x 0) ∷ []) ∷ clause (p a ∷ []) ∷ [])) (Contains []) }
     ensures one_listed { HasConclusionsOf is_predicate select_negative (λ n. true)
         (slice_get (clause (disequation (x 0) a ∷ p (x 1) ∷ []) ∷ [])) (Contains (clause (p (x 1) ∷ []) ∷ [])) }
+    ensures one_covered { HasConclusionsOf is_predicate select_negative (λ n. true)
+        (slice_get (clause (disequation (x 0) a ∷ p (x 1) ∷ []) ∷ [])) (CoversInstancesOf functions (clause (p (x 0) ∷ []) ∷ [])) }
 {}
 
-/// `b = a` can be superposed into the instance `p(b)` of `p(X0)`, at the place of the variable, and all else that a ground
-/// superposition asks holds there. But no superposition of `b = a` into `p(X0)` is named, and the conclusion has no literal `t = t`: so
-/// the ground inferences have to leave that place out, and those below it, as that of b in the instance `p(f(b))`.
+/// `b = a` can be superposed into the instance `p(b)` of `p(X0)`, at the place of the variable, and into the instance `p(f(b))`, below
+/// it, and all else that a ground superposition asks holds in both. But no superposition of `b = a` into `p(X0)` is named, and the
+/// conclusions have no literal `t = t`: so the ground inferences have to leave out the places at and below variables.
 pub fn superposition_at_a_variable()
     ensures instance { literals_instance all_b (p (x 0) ∷ []) ≡ p b ∷ [] }
     ensures superposed_there { superposed (equation b a ∷ []) 0 Left (p b ∷ []) 0 Left (0 ∷ []) ≡ Some (p a ∷ []) }
@@ -65,6 +75,9 @@ pub fn superposition_at_a_variable()
     ensures no_equal_sides { IsFalse (list_any has_equal_sides (p a ∷ [])) }
     ensures instance_below { literals_instance (λ v. f b) (p (x 0) ∷ []) ≡ p (f b) ∷ [] }
     ensures superposed_below { superposed (equation b a ∷ []) 0 Left (p (f b) ∷ []) 0 Left (0 ∷ 0 ∷ []) ≡ Some (p (f a) ∷ []) }
+    ensures into_greater_below { IsTrue (is_greater_side (λ v. f b) Left (p (x 0))) }
+    ensures into_eligible_below { IsTrue (eligible_in_instance select_nothing (p (x 0) ∷ []) (λ v. f b) 0 true) }
+    ensures no_equal_sides_below { IsFalse (list_any has_equal_sides (p (f a) ∷ [])) }
     ensures none_named { (i : ℕ) (s : Side) (j : ℕ) (z : Side) (place : List ℕ) (d : TreeClause)
         → NamedSuperposition is_predicate select_nothing (clause (equation b a ∷ [])) i s (clause (p (x 0) ∷ [])) j z place d → ⊥ }
 {}

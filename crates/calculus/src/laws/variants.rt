@@ -9,16 +9,18 @@ ghost use Rattle.calculus.specs.Variants.{
   FactoringsHaveVariants,
   SuperpositionsHaveVariants,
   InferencesHaveVariants,
+  ConclusionsAreVariants,
 };
 
-/// A clause whose variables are renamed so that it can be undone on that clause: a variant of a conclusion is a conclusion of the
-/// same inference. The canonical form of a clause is one of its variants.
+/// A variant of an inference's conclusion, a clause with its variables renamed so that it can be undone, is a conclusion of the same
+/// inference, and all conclusions of an inference are variants of one another. The canonical form of a clause is one of its variants.
 pub fn conclusions_have_variants()
     ensures canonical { CanonicalFormsAreVariants }
     ensures of_resolution { ResolutionsHaveVariants }
     ensures of_factoring { FactoringsHaveVariants }
     ensures of_superposition { SuperpositionsHaveVariants }
     ensures of_each_name { InferencesHaveVariants }
+    ensures no_others { ConclusionsAreVariants }
 {}
 
 /// `q(X0,X1)` and `q(X3,X2)` are variants. `p(X0)` and `p(a)` aren't, nor are `q(X0,X1)` and `q(X0,X0)`.

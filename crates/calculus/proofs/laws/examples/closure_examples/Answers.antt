@@ -1,5 +1,11 @@
-use Rattle.calculus.proofs.ClosureExamples.{nothing_named, one_missing, no_member, one_listed}
+use Rattle.calculus.proofs.ClosureExamples.{member, not_a_member, nothing_named, one_missing, no_member, one_listed, one_covered}
 use Rattle.calculus.proofs.laws.examples.closure_examples.Goals as goal
+
+pub returns-clause-member : goal.returns-clause-member
+returns-clause-member c = member
+
+pub returns-clause-not_a_member : goal.returns-clause-not_a_member
+returns-clause-not_a_member c = not_a_member
 
 pub returns-clause-nothing_named : goal.returns-clause-nothing_named
 returns-clause-nothing_named c = nothing_named
@@ -12,3 +18,6 @@ returns-clause-no_member c = no_member
 
 pub returns-clause-one_listed : goal.returns-clause-one_listed
 returns-clause-one_listed c = one_listed
+
+pub returns-clause-one_covered : goal.returns-clause-one_covered
+returns-clause-one_covered c = one_covered

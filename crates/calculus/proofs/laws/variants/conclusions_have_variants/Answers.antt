@@ -1,4 +1,5 @@
 use Rattle.calculus.proofs.VariantLemmas.{canonical_forms_are_variants, resolutions_have_variants, factorings_have_variants, superpositions_have_variants, inferences_have_variants}
+use Rattle.calculus.proofs.ConclusionLemmas.{conclusions_are_variants}
 use Rattle.calculus.proofs.laws.variants.conclusions_have_variants.Goals as goal
 
 pub returns-clause-canonical : goal.returns-clause-canonical
@@ -15,3 +16,6 @@ returns-clause-of_superposition c = superpositions_have_variants
 
 pub returns-clause-of_each_name : goal.returns-clause-of_each_name
 returns-clause-of_each_name c = inferences_have_variants
+
+pub returns-clause-no_others : goal.returns-clause-no_others
+returns-clause-no_others c = conclusions_are_variants
