@@ -1,5 +1,5 @@
 // Random terms of 5 to 20 symbols and variables, and what the queries and a scan of all entries find among them. With larger
-// numbers this is the benchmark of docs/BENCHMARKS.md.
+// numbers this is the benchmark of benchmarks/README.md.
 
 use disc_tree::*;
 use fol_base::Term;
