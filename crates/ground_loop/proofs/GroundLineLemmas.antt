@@ -1,6 +1,6 @@
 -- What the lines of a derivation are that goes by ground steps alone.
 use Rattle.fol_base.specs.declared.limits.TheConstants.{MOST_SYMBOLS}
-use Rattle.std.proofs.Common.{◌≡◌, ℕ, zero, suc, ◌<◌, ◌≤◌, Bool, true, ◌&&◌, ◌==◌, nat_le, List, [], ◌∷◌, ◌++◌, length, map, take, get_or, Some, refl, ap, ap₂, sym, ◌∙◌, subst, arith}
+use Rattle.std.proofs.Common.{◌≡◌, ℕ, zero, suc, ◌<◌, ◌≤◌, Bool, true, ◌&&◌, ◌==◌, nat_le, List, [], ◌∷◌, ◌++◌, length, take, get_or, Some, refl, ap, ap₂, sym, ◌∙◌, subst, arith}
 use Rattle.std.specs.Prelude.{slice_get, slice_set, remove, sum_by, All}
 use Rattle.std.specs.List.{list_all, AllByRecursion}
 use Rattle.std.proofs.lemmas.Bool.{and_parts, and_from, le-leb, leb-true, eqb-true, true≢false}
@@ -24,7 +24,7 @@ use Rattle.fol_base.proofs.RuleLemmas.{SuperposedLiteralParts, superposed_litera
 use Rattle.fol_base.proofs.TestLemmas.{list_all-item, list_all-joined, list_all-set, list_all-remove}
 use Rattle.fol_base.proofs.WellFormedLemmas.{well_formed_superpositions, well_formed_resolutions, well_formed_merges}
 use Rattle.kernel_steps.specs.Parents.{Parent}
-use Rattle.kernel_steps.specs.Conclusion.{empty_clause, clause_with}
+use Rattle.kernel_steps.specs.Conclusion.{clause_with}
 use Rattle.kernel_steps.specs.Derivation.{line_parents, is_component, ComesBy, IsDerivation}
 use Rattle.kernel_steps.specs.Names.{sorted_names}
 use Rattle.kernel_steps.specs.Soundness.{binds_each}
@@ -37,8 +37,7 @@ use Rattle.kernel_steps.proofs.LineLemmas.{parent_line}
 use Rattle.kernel_steps.proofs.SymbolLemmas.{derivations_keep_symbols}
 use Rattle.kernel_steps.proofs.VerdictParts.{by_one-parts, by_two-parts}
 use Rattle.ground_loop.specs.Lines.{is_loop_step, AreLoopLines}
-use Rattle.ground_loop.specs.Inputs.{shifted_step, shifted_line, input_of, inputs_of, with_inputs_of}
-use Rattle.ground_loop.specs.GroundLines.{is_ground_step, are_ground_steps, is_ground_with_truth, IsPlainClause, has_lefts_up_to, AreGroundLines, GroundStepsKeepPlain, GroundStepsKeepSymbols, GroundStepsKeepUse, GroundStepsKeepSizes, GroundStepsStaySmall}
+use Rattle.ground_loop.specs.GroundLines.{are_ground_steps, is_ground_with_truth, IsPlainClause, has_lefts_up_to, AreGroundLines, GroundStepsKeepPlain, GroundStepsKeepSymbols, GroundStepsKeepUse, GroundStepsKeepSizes, GroundStepsStaySmall}
 use Rattle.ground_loop.proofs.DeriveSteps.{bound-none}
 
 -- ---- steps that bind nothing
@@ -46,13 +45,12 @@ use Rattle.ground_loop.proofs.DeriveSteps.{bound-none}
 none_of : {X : Type 0} (xs : List X) → (length xs == 0) ≡ true → xs ≡ []
 none_of xs e = nil_from_length xs (eqb-true (length xs) 0 e)
 
-line_step : (lines : List Line) (n : ℕ) (line : Line) → are_ground_steps lines ≡ true → slice_get lines n ≡ Some line → is_ground_step line.step ≡ true
-line_step lines n line all at = list_all-item (λ (l : Line). is_ground_step l.step) lines n line at all
+line_step : (lines : List Line) (n : ℕ) (line : Line) → are_ground_steps lines ≡ true → slice_get lines n ≡ Some line → is_loop_step line.step ≡ true
+line_step lines n line all at = list_all-item (λ (l : Line). is_loop_step l.step) lines n line at all
 
 -- ---- what holds of the form's clauses, and what the rules keep, holds of every line
 
 record KeptByRules (P : TreeClause → Type 0) : Type 0 where
-  of_none : P empty_clause
   by_superposition :
       (c d : TreeClause) (made : List TreeLiteral) (i j : ℕ) (s z : Side) (place : List ℕ)
       → P c → P d → superposed c.literals i s d.literals j z place ≡ Some made → P (clause_with (c.names ++ d.names) made)
@@ -72,8 +70,8 @@ parent-holds P lines n earlier k p there =
 
 line-holds :
     (P : TreeClause → Type 0) (form : List TreeClause) (lines : List Line) (n : ℕ) (step : Step) (c : TreeClause)
-    → KeptByRules P → All P form → HoldsBefore P lines n → is_ground_step step ≡ true → ComesBy step form (take n lines) c → P c
-line-holds P form lines n (Input place) c kept forms earlier ground comes = subst P (sym comes) kept.of_none
+    → KeptByRules P → All P form → HoldsBefore P lines n → is_loop_step step ≡ true → ComesBy step form (take n lines) c → P c
+line-holds P form lines n (Input place) c kept forms earlier ground comes = absurd (true≢false (sym ground))
 line-holds P form lines n (Clausify k) c kept forms earlier ground comes = All-contains P form c forms (Contains-item form k c comes)
 line-holds P form lines n (Para a b i s j z place first second) c kept forms earlier ground comes =
     let none = and_parts (length first == 0) (length second == 0) ground in
@@ -132,7 +130,6 @@ ground_steps_keep_use usage form lines forms ground derived =
 
     kept : KeptByRules (λ c. are_literals_of usage c.literals ≡ true)
     kept = record {
-      of_none = refl;
       by_superposition = λ c d made i j s z place first second h. well_formed_superpositions usage c.literals d.literals made i j s z place first second h;
       by_resolution = λ c made i all h. well_formed_resolutions usage c.literals made i all h;
       by_merge = λ c made i j all h. well_formed_merges usage c.literals made i j all h;
@@ -140,7 +137,7 @@ ground_steps_keep_use usage form lines forms ground derived =
 
 -- ---- symbols
 
-no_component : (step : Step) → is_ground_step step ≡ true → is_component step ≡ true → ⊥
+no_component : (step : Step) → is_loop_step step ≡ true → is_component step ≡ true → ⊥
 no_component (Component name) ground is = true≢false (sym ground)
 no_component (Input place) ground is = true≢false (sym is)
 no_component (Negate place) ground is = true≢false (sym is)
@@ -156,7 +153,7 @@ no_component (Chain parents pivots) ground is = true≢false (sym is)
 none-bound : (p : Tree → Bool) (ts : List Tree) → (length ts == 0) ≡ true → list_all p ts ≡ true
 none-bound p ts none = ap (list_all p) (none_of ts none)
 
-step-binds : (p : Tree → Bool) (step : Step) → is_ground_step step ≡ true → binds_each p step ≡ true
+step-binds : (p : Tree → Bool) (step : Step) → is_loop_step step ≡ true → binds_each p step ≡ true
 step-binds p (Para a b i s j z place first second) ground =
     let none = and_parts (length first == 0) (length second == 0) ground in
     and_from (list_all p first) (list_all p second && true) (none-bound p first none.0)
@@ -175,7 +172,7 @@ step-binds p (Chain parents pivots) ground = refl
 lines-bind : (test : ℕ → ℕ → Bool) (lines : List Line) → are_ground_steps lines ≡ true → bound_symbols_pass test lines ≡ true
 lines-bind test [] ground = refl
 lines-bind test (l ∷ ls) ground =
-    let parts = and_parts (is_ground_step l.step) (are_ground_steps ls) ground in
+    let parts = and_parts (is_loop_step l.step) (are_ground_steps ls) ground in
     and_from (binds_each (symbols_pass test) l.step) (bound_symbols_pass test ls) (step-binds (symbols_pass test) l.step parts.0) (lines-bind test ls parts.1)
 
 pub ground_steps_keep_symbols : GroundStepsKeepSymbols
@@ -256,7 +253,6 @@ passing_superposition test kept first second made i j s z place first_all second
 
 plain_kept : KeptByRules IsPlainClause
 plain_kept = record {
-  of_none = (refl, refl);
   by_superposition = λ c d made i j s z place first second h. (
     ap₂ (λ ns ms. sorted_names (ns ++ ms)) first.0 second.0,
     passing_superposition is_ground_with_truth superposed-ground c.literals d.literals made i j s z place first.1 second.1 h,
@@ -347,7 +343,6 @@ IsPlainUpTo most c = list_all (is_plain_up_to most) c.literals ≡ true
 
 sizes_kept : (most : ℕ) → KeptByRules (IsPlainUpTo most)
 sizes_kept most = record {
-  of_none = refl;
   by_superposition = λ c d made i j s z place first second h.
       passing_superposition (is_plain_up_to most) (superposed-small most) c.literals d.literals made i j s z place first second h;
   by_resolution = λ c made i all h.
@@ -406,50 +401,15 @@ ground_steps_stay_small form lines ground small steps derived =
     from_each (λ (l : Line). has_lefts_up_to MOST_SYMBOLS (clause_of l.clause) ≡ true) lines
     (ground_steps_keep_sizes MOST_SYMBOLS form lines ground (clauses-up_to MOST_SYMBOLS form small) steps derived)
 
--- ---- lines below their input lines
+-- ---- lines of the loop
 
-shifted-ground : (k : ℕ) (step : Step) → is_loop_step step ≡ true → is_ground_step (shifted_step k step) ≡ true
-shifted-ground k (Clausify i) h = h
-shifted-ground k (Para a b i s j z place first second) h = h
-shifted-ground k (Refl a i bind) h = h
-shifted-ground k (Merge a i j bind) h = h
-shifted-ground k (Input place) h = refl
-shifted-ground k (Negate place) h = h
-shifted-ground k (Factor a i s j z bind) h = h
-shifted-ground k (Component name) h = h
-shifted-ground k (Opposite name) h = h
-shifted-ground k (Split a definitions parts) h = h
-shifted-ground k (Chain parents pivots) h = h
+loop-steps : (ls : List Line) → AreLoopLines ls → are_ground_steps ls ≡ true
+loop-steps [] loop = refl
+loop-steps (l ∷ ls) loop =
+    and_from (is_loop_step l.step) (are_ground_steps ls) (loop 0 l refl) (loop-steps ls (λ n m at. loop (suc n) m at))
 
-shifted-steps : (k : ℕ) (ls : List Line) → AreLoopLines ls → are_ground_steps (map (shifted_line k) ls) ≡ true
-shifted-steps k [] loop = refl
-shifted-steps k (l ∷ ls) loop =
-    and_from (is_ground_step (shifted_step k l.step)) (are_ground_steps (map (shifted_line k) ls))
-    (shifted-ground k l.step (loop 0 l refl)) (shifted-steps k ls (λ n m at. loop (suc n) m at))
-
-input-steps : (step : Step) → are_ground_steps (input_of step) ≡ true
-input-steps (Clausify i) = refl
-input-steps (Input place) = refl
-input-steps (Negate place) = refl
-input-steps (Para a b i s j z place first second) = refl
-input-steps (Refl a i bind) = refl
-input-steps (Factor a i s j z bind) = refl
-input-steps (Merge a i j bind) = refl
-input-steps (Component name) = refl
-input-steps (Opposite name) = refl
-input-steps (Split a definitions parts) = refl
-input-steps (Chain parents pivots) = refl
-
-inputs-steps : (ls : List Line) → are_ground_steps (inputs_of ls) ≡ true
-inputs-steps [] = refl
-inputs-steps (l ∷ ls) =
-    list_all-joined (λ (m : Line). is_ground_step m.step) (input_of l.step) (inputs_of ls) (input-steps l.step) (inputs-steps ls)
-
-pub AreGroundLines-with_inputs :
-    (form : List TreeClause) (ls : List Line)
-    → IsGroundForm form → AreLoopLines ls → IsDerivation form (with_inputs_of ls) → AreGroundLines (with_inputs_of ls)
-AreGroundLines-with_inputs form ls ground loop derived =
-    let steps : are_ground_steps (with_inputs_of ls) ≡ true =
-    list_all-joined (λ (m : Line). is_ground_step m.step) (inputs_of ls) (map (shifted_line (length (inputs_of ls))) ls) (inputs-steps ls)
-    (shifted-steps (length (inputs_of ls)) ls loop) in
-    record { by_steps = steps; plain = ground_steps_keep_plain form (with_inputs_of ls) ground steps derived }
+pub AreGroundLines-from :
+    (form : List TreeClause) (ls : List Line) → IsGroundForm form → AreLoopLines ls → IsDerivation form ls → AreGroundLines ls
+AreGroundLines-from form ls ground loop derived =
+    let steps : are_ground_steps ls ≡ true = loop-steps ls loop in
+    record { by_steps = steps; plain = ground_steps_keep_plain form ls ground steps derived }

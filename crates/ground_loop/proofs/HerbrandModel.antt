@@ -390,6 +390,6 @@ closed_forms_are_satisfied is_predicate form ground predicates closed = record {
 -- the loop's answers mean what they say
 pub answer_meaning : (form : List TreeClause) (limit : ℕ) (answer : Ground) → IsGroundForm form → IsGroundAnswer form limit answer → HasMeaning form answer
 answer_meaning form limit (Refuted lines) ground is =
-    λ is_predicate functions. ground_refutations_herbrand_refute is_predicate functions form lines ground is.refutes
+    λ is_predicate functions. ground_refutations_herbrand_refute is_predicate functions form lines ground is
 answer_meaning form limit Closed ground is = λ is_predicate predicates. closed_forms_are_satisfied is_predicate form ground predicates is
 answer_meaning form limit (Spent count) ground is = tt

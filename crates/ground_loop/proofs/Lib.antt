@@ -1,4 +1,3 @@
-pub mod SourcedLemmas
 pub mod DeriveLemmas
 pub mod DeriveLines
 pub mod DeriveSteps

@@ -3,7 +3,7 @@ use Rattle.std.specs.Prelude.{◌≡◌, ℕ, Bool, ◌&&◌, List, [], length, 
 use Rattle.std.specs.List.{list_any}
 use Rattle.fol_base.specs.Tree.{Tree, tree_eq}
 use Rattle.fol_base.specs.Clause.{TreeClause}
-use Rattle.kernel_steps.specs.Derivation.{IsSourcedRefutation}
+use Rattle.kernel_steps.specs.Derivation.{IsRefutation}
 use Rattle.ground_loop.specs.Resolution.{LiteralSet, same_set, is_tautology, can_resolve, resolvent, Follows}
 use Rattle.ground_loop.specs.declared.answer.Ground.{Ground}
 use Rattle.ground_loop.specs.declared.answer.Ground.TheVariants.{Refuted, Closed, Spent}
@@ -48,8 +48,8 @@ pub record HasTriples (form : List TreeClause) (count : ℕ) : Type 0 where
   pub lawful : All (IsTripleOf form) triples
   pub different : AllPairs (λ t u. IsFalse (same_triple t u)) triples
 
--- A refutation with its input lines; a closed list without the empty set; or as many different triples as the limit asks for, and no more.
+-- A refutation; a closed list without the empty set; or as many different triples as the limit asks for, and no more.
 abbrev pub IsGroundAnswer : List TreeClause → ℕ → Ground → Type 0
-IsGroundAnswer form limit (Refuted lines) = IsSourcedRefutation form lines
+IsGroundAnswer form limit (Refuted lines) = IsRefutation form lines
 IsGroundAnswer form limit Closed = HasClosedSets form
 IsGroundAnswer form limit (Spent count) = (count ≡ limit) × HasTriples form count

@@ -1,6 +1,6 @@
 -- What the lines of the loop's refutations are.
 use Rattle.fol_base.specs.declared.limits.TheConstants.{MOST_SYMBOLS}
-use Rattle.std.specs.Prelude.{◌≡◌, ℕ, ◌≤◌, Bool, true, ◌&&◌, nat_le, List, [], Some, slice_get, All, IsTrue}
+use Rattle.std.specs.Prelude.{◌≡◌, ℕ, ◌≤◌, Bool, ◌&&◌, nat_le, List, [], Some, slice_get, All, IsTrue}
 use Rattle.std.specs.List.{list_all, AllByRecursion}
 use Rattle.fol_base.specs.Tree.{tree_size, is_truth}
 use Rattle.fol_base.specs.Ground.{is_ground}
@@ -10,20 +10,14 @@ use Rattle.fol_base.specs.GroundForm.{IsGroundForm, form_size}
 use Rattle.fol_base.specs.WellFormed.{SymbolUse, are_literals_of}
 use Rattle.kernel_steps.specs.Derivation.{IsDerivation}
 use Rattle.kernel_steps.specs.Symbols.{clause_symbols_pass}
-use Rattle.kernel_steps.specs.declared.step.Step.{Step}
-use Rattle.kernel_steps.specs.declared.step.Step.TheVariants.{Input}
 use Rattle.kernel_steps.specs.declared.step.Line.{Line}
 use Rattle.ground_loop.specs.Lines.{is_loop_step}
 use Rattle.ground_loop.specs.declared.answer.Ground.{Ground}
 use Rattle.ground_loop.specs.declared.answer.Ground.TheVariants.{Refuted, Closed, Spent}
 
--- an input; or a clause of the form, a superposition, an equality resolution or a merge, which bind no variables
-abbrev pub is_ground_step : Step → Bool
-is_ground_step (Input place) = true
-is_ground_step step = is_loop_step step
-
+-- clauses of the form, superpositions, equality resolutions and merges, which bind no variables
 abbrev pub are_ground_steps : List Line → Bool
-are_ground_steps lines = list_all (λ (l : Line). is_ground_step l.step) lines
+are_ground_steps lines = list_all (λ (l : Line). is_loop_step l.step) lines
 
 -- A ground term with `$true` on the right. The term may be `$true` too: superposition of an atom into its negation leaves
 -- `$true != $true`.

@@ -2,7 +2,6 @@ pub mod Resolution
 pub mod Entries
 pub mod Answer
 pub mod Search
-pub mod Inputs
 pub mod Lines
 pub mod Codes
 pub mod Sets

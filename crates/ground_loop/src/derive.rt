@@ -8,7 +8,9 @@ mod tests;
 ghost use Rattle.std.specs.Prelude.{◌≡◌, ◌<◌, ◌≤◌, map, length, IfOk};
 ghost use Rattle.fol_base.specs.GroundForm.{IsGroundForm, form_size};
 ghost use Rattle.fol_base.specs.Literal.{clause_of};
-ghost use Rattle.ground_loop.specs.Search.{ReachesEmpty, IsClauseRefutation};
+ghost use Rattle.ground_loop.specs.Search.{ReachesEmpty};
+ghost use Rattle.ground_loop.specs.GroundLines.{AreGroundLines};
+ghost use Rattle.kernel_steps.specs.Derivation.{IsRefutation};
 ghost use Rattle.ground_loop.specs.Lines.{AddsClause, AddsClauses, AreGroundEntries, IsNext, AddsEntry, IsPrepared, AddsEntries};
 
 use crate::derive::cone::{Cone, cone_of_last};
@@ -24,7 +26,8 @@ pub fn derive(alloc: Global, form: &Clauses, atoms: &Terms, entries: &Entries) -
     requires ground { IsGroundForm (map clause_of form.now) }
     requires small { form_size (map clause_of form.now) ≤ MOST_SYMBOLS }
     requires reaches { ReachesEmpty (map clause_of form.now) atoms.now entries.now }
-    ensures { IfOk result (IsClauseRefutation (map clause_of form.now)) }
+    ensures refutation { IfOk result (IsRefutation (map clause_of form.now)) }
+    ensures lines { IfOk result AreGroundLines }
 {
     let entries = entries.as_slice();
     let last = entries.len() - 1;

@@ -10,7 +10,8 @@ ghost use Rattle.ground_loop.specs.Satisfaction.{ClosedFormsAreSatisfied, Satisf
 ghost use Rattle.fol_base.specs.Kind.{are_predicate_atoms};
 ghost use Rattle.ground_loop.specs.Scope.{first_outside, FirstOutsideIsFirst};
 ghost use Rattle.ground_loop.specs.ScopeExamples.{constant, tower, fact, equation, named, truth};
-ghost use Rattle.ground_loop.specs.GroundLines.{is_ground_step, is_ground_with_truth, has_lefts_up_to, GroundStepsKeepPlain, GroundStepsKeepSymbols, GroundStepsKeepUse, GroundStepsKeepSizes, GroundStepsStaySmall};
+ghost use Rattle.ground_loop.specs.Lines.{is_loop_step};
+ghost use Rattle.ground_loop.specs.GroundLines.{is_ground_with_truth, has_lefts_up_to, GroundStepsKeepPlain, GroundStepsKeepSymbols, GroundStepsKeepUse, GroundStepsKeepSizes, GroundStepsStaySmall};
 ghost use Rattle.ground_loop.specs.ResolutionExamples.{p, q, is, is_not, units, implication, implied_sets, all_predicates, no_predicates};
 
 /// A form that has a closed list without the empty set: no resolutions from it reach the empty set, and so
@@ -75,11 +76,11 @@ pub fn scope_examples()
 
 /// Steps and literals that the loop's lines have, and others; and how large left sides are.
 pub fn ground_line_examples()
-    ensures input { IsTrue (is_ground_step (Input 3)) }
-    ensures clause { IsTrue (is_ground_step (Clausify 0)) }
-    ensures merge { IsTrue (is_ground_step (Merge 1 0 1 [])) }
-    ensures binding { IsFalse (is_ground_step (Merge 1 0 1 (constant ∷ []))) }
-    ensures negation { IsFalse (is_ground_step (Negate 0)) }
+    ensures input { IsFalse (is_loop_step (Input 3)) }
+    ensures clause { IsTrue (is_loop_step (Clausify 0)) }
+    ensures merge { IsTrue (is_loop_step (Merge 1 0 1 [])) }
+    ensures binding { IsFalse (is_loop_step (Merge 1 0 1 (constant ∷ []))) }
+    ensures negation { IsFalse (is_loop_step (Negate 0)) }
     ensures atom { IsTrue (is_ground_with_truth (is_not p)) }
     ensures truth { IsTrue (is_ground_with_truth (is_not true_tree)) }
     ensures variable { IsFalse (is_ground_with_truth (is (variable 0))) }

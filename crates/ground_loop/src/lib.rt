@@ -4,7 +4,6 @@
 mod answer;
 mod derive;
 mod entry;
-mod inputs;
 mod laws;
 mod prove;
 mod scope;

@@ -10,7 +10,6 @@ ghost use Rattle.ground_loop.specs.Satisfaction.{HasMeaning};
 use crate::answer::Ground;
 use crate::derive::derive;
 use crate::entry::Found;
-use crate::inputs::with_inputs;
 use crate::search::search;
 use fol_base::{Clauses, MOST_SYMBOLS};
 use plain_types::Mem;
@@ -38,11 +37,9 @@ fn answer(alloc: Global, form: &Clauses, limit: u32) -> Mem<Ground>
     ensures lines { IfOk result HasGroundLines }
 {
     match search(alloc, form, limit)? {
-        Found::Empty(atoms, entries) => Ok(Ground::Refuted(with_inputs(
-            alloc,
-            form,
-            derive(alloc, form, &atoms, &entries)?,
-        )?)),
+        Found::Empty(atoms, entries) => {
+            Ok(Ground::Refuted(derive(alloc, form, &atoms, &entries)?))
+        }
         Found::Closed => Ok(Ground::Closed),
         Found::Spent(count) => Ok(Ground::Spent(count)),
     }

@@ -1,6 +1,5 @@
 -- Derivations: each line comes about by a step from earlier lines.
-use Rattle.std.specs.Prelude.{◌≡◌, ℕ, ◌-◌, ◌<◌, Bool, true, false, not, ◌==◌, nat_lt, if◌then◌else◌, List, [], ◌∷◌, ◌++◌, take, length, Option, None, Some, option_and_then, unwrap_or, slice_get, IsTrue}
-use Rattle.std.specs.List.{list_any}
+use Rattle.std.specs.Prelude.{◌≡◌, ℕ, ◌-◌, Bool, true, false, not, ◌==◌, nat_lt, if◌then◌else◌, List, [], ◌∷◌, ◌++◌, take, length, Option, None, Some, option_and_then, unwrap_or, slice_get, IsTrue}
 use Rattle.plain_types.specs.declared.sequence.NameLit.{NameLit}
 use Rattle.fol_base.specs.Clause.{TreeLiteral, TreeClause}
 use Rattle.fol_base.specs.Ground.{is_ground_literal}
@@ -125,24 +124,3 @@ reduced_parents clauses c n =
     if nat_lt n CLAUSE_NUMBERS
     then clauses n
     else (if n == CLAUSE_NUMBERS then Some (record { clause = c; introduces = false }) else None)
-
--- ---- input lines
-
--- whether a step is the input of that formula
-abbrev pub is_input_of : ℕ → Step → Bool
-is_input_of place (Input p) = p == place
-is_input_of place _ = false
-
--- An input line names a formula of the problem, there is no conjecture to negate, and a clausify line stands below an input line of its formula, where clause number i
--- comes from formula i
-abbrev pub IsSourced : ℕ → List Line → Step → Type 0
-IsSourced formulas earlier (Input place) = place < formulas
-IsSourced formulas earlier (Negate place) = ⊥
-IsSourced formulas earlier (Clausify i) = IsTrue (list_any (λ (l : Line). is_input_of i l.step) earlier)
-IsSourced formulas earlier _ = Unit {0}
-
--- a refutation with its input lines, of a problem with one formula for each clause of the form
-pub record IsSourcedRefutation (form : List TreeClause) (lines : List Line) : Type 0 where
-  pub refutes : IsRefutation form lines
-  pub sourced :
-      (n : ℕ) (line : Line) → slice_get lines n ≡ Some line → IsSourced (length form) (take n lines) line.step

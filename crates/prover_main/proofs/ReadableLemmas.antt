@@ -25,7 +25,8 @@ use Rattle.kernel_steps.specs.declared.step.Step.{Step}
 use Rattle.kernel_steps.specs.declared.step.Step.TheVariants.{Input, Negate, Clausify, Para, Refl, Factor, Merge, Component, Opposite, Split, Chain}
 use Rattle.kernel_steps.specs.declared.step.Line.{Line}
 use Rattle.kernel_steps.proofs.LineLemmas.{last-there}
-use Rattle.ground_loop.specs.GroundLines.{is_ground_step, is_ground_with_truth, IsPlainClause, has_lefts_up_to, AreGroundLines}
+use Rattle.ground_loop.specs.Lines.{is_loop_step}
+use Rattle.ground_loop.specs.GroundLines.{is_ground_with_truth, IsPlainClause, has_lefts_up_to, AreGroundLines}
 use Rattle.ground_loop.proofs.GroundLineLemmas.{ground_steps_keep_use, ground_steps_keep_symbols, ground_steps_stay_small}
 use Rattle.clausal_form.specs.FormFunctions.{is_predicate_in}
 use Rattle.clausal_form.specs.FormLaws.{use_of}
@@ -59,8 +60,8 @@ one-unbound step bind nameless bindings none =
       nothing = ap (flat_map (λ ts. ts)) bound;
     }
 
-step-unbound : (step : Step) → is_ground_step step ≡ true → BindsNothing step
-step-unbound (Input place) ground = record { nameless = refl; each = λ test. refl; nothing = refl }
+step-unbound : (step : Step) → is_loop_step step ≡ true → BindsNothing step
+step-unbound (Input place) ground = absurd (true≢false (sym ground))
 step-unbound (Clausify i) ground = record { nameless = refl; each = λ test. refl; nothing = refl }
 step-unbound (Para a b i s j z place first second) ground =
     let none = and_parts (length first == 0) (length second == 0) ground in
@@ -125,7 +126,7 @@ sides-small (l ∷ ls) plain small =
     (sides-small ls one.1 two.1)
 
 line-readable :
-    (symbols : List Symbol) (line : Line) → is_ground_step line.step ≡ true → IsPlainClause (clause_of line.clause)
+    (symbols : List Symbol) (line : Line) → is_loop_step line.step ≡ true → IsPlainClause (clause_of line.clause)
     → are_literals_of (use_of symbols) (clause_of line.clause).literals ≡ true
     → clause_symbols_pass (is_symbol_in symbols) (clause_of line.clause) ≡ true
     → has_lefts_up_to MOST_SYMBOLS (clause_of line.clause) ≡ true → IsReadableLine symbols line
@@ -175,7 +176,7 @@ readable-lines problem lines is_ground sizes refutes ground =
     let form : List TreeClause = (clausal_form problem).clauses in
     let small = ground_steps_stay_small form lines is_ground sizes ground.by_steps refutes.derived in
     from-each (IsReadableLine symbols) lines λ n line at.
-    line-readable symbols line (list_all-item (λ (l : Line). is_ground_step l.step) lines n line at ground.by_steps) (ground.plain n line at)
+    line-readable symbols line (list_all-item (λ (l : Line). is_loop_step l.step) lines n line at ground.by_steps) (ground.plain n line at)
     (ground_steps_keep_use (use_of symbols) form lines (form-used problem) ground.by_steps refutes.derived n line at)
     (ground_steps_keep_symbols (is_symbol_in symbols) form lines (all-pass (is_symbol_in symbols) form (form-symbols-pass problem)) ground.by_steps
     refutes.derived n line at)

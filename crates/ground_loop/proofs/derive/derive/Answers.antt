@@ -7,6 +7,7 @@ use Rattle.ground_loop.specs.Lines.{AddsClause, AddsClauses}
 use Rattle.ground_loop.specs.declared.entry.Entry.{Entry}
 use Rattle.ground_loop.proofs.DeriveEntries.{HasOrigins-from}
 use Rattle.ground_loop.proofs.DeriveWhole.{IsEmptyClause-from, IsRefutation-from_clause, IsRefutation-from_two}
+use Rattle.ground_loop.proofs.GroundLineLemmas.{AreGroundLines-from}
 use Rattle.ground_loop.proofs.derive.derive.Goals as goal
 use Rattle.ground_loop.proofs.derive.derive.Goals.{in-Clause+in_ok-push_clause-in-Clause, in-Resolvent+in_ok-cone-in-Resolvent+in_ok-clause_lines-in-Resolvent+in_ok-push_entries-in-Resolvent}
 
@@ -39,14 +40,16 @@ returns c =
     elim c.match-entries-last.branch [
       | in-Clause+in_ok-push_clause-in-Clause w ↦
           let R = λ (ls : List Line). AddsClause form w.in-Clause.number ls w.push_clause.new.lines in
-          subst Q (sym w.lines-is)
+          let r = subst Q (sym w.lines-is)
           (IsRefutation-from_clause form w.in-Clause.number w.push_clause.new.lines
           (IsEmptyClause-from _ _ _ _ _ c.requires.ground reaches w.in-Clause.is)
-          (subst R c.new-lines.ensures w.in_ok-push_clause-in-Clause.ensures))
+          (subst R c.new-lines.ensures w.in_ok-push_clause-in-Clause.ensures)) in
+          record { refutation = r.refutes; lines = AreGroundLines-from form _ c.requires.ground r.loop_lines r.refutes.derived }
       | in-Resolvent+in_ok-cone-in-Resolvent+in_ok-clause_lines-in-Resolvent+in_ok-push_entries-in-Resolvent w ↦
           let R = λ (ls : List Line).
           AddsClauses form w.in_ok-cone-in-Resolvent.cone.clauses.items ls w.push_clauses.new.lines w.in_ok-clause_lines-in-Resolvent.clause_lines in
-          subst Q (sym w.lines-is)
+          let r = subst Q (sym w.lines-is)
           (IsRefutation-from_two form _ _ _ _ _ _ _ _ _ w.push_entries.new.lines _ reaches w.in-Resolvent.is w.in_ok-cone-in-Resolvent.ensures
-          (subst R c.new-lines.ensures w.in_ok-clause_lines-in-Resolvent.ensures) w.in_ok-push_entries-in-Resolvent.ensures)
+          (subst R c.new-lines.ensures w.in_ok-clause_lines-in-Resolvent.ensures) w.in_ok-push_entries-in-Resolvent.ensures) in
+          record { refutation = r.refutes; lines = AreGroundLines-from form _ c.requires.ground r.loop_lines r.refutes.derived }
     ]
