@@ -1,7 +1,7 @@
 // The comparisons on rows worked out by hand.
 
-use kbo_order::*;
 use fol_base::{Clause, Literal, Literals, Term, Terms};
+use kbo_order::*;
 use plain_types::Names;
 use sample_terms::{binary, constant, unary};
 use std::alloc::Global;

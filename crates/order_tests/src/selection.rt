@@ -1,8 +1,8 @@
 // Chosen and eligible literals on rows worked out by hand.
 
-use literal_selection::*;
 use fol_base::{Clause, Literal, Literals, Term};
 use kbo_order::COMPARED_SIZE_LIMIT;
+use literal_selection::*;
 use plain_types::Names;
 use sample_terms::{constant, unary};
 use std::alloc::Global;

@@ -2,9 +2,9 @@
 
 ghost use Rattle.std.specs.Prelude.{◌<◌, ◌≤◌};
 
-use sat_core::*;
 use plain_types::{Mem, NameLit, Names};
 use sample_numbers::Random;
+use sat_core::*;
 use std::alloc::Global;
 use std::process::Abort;
 
