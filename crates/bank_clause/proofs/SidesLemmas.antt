@@ -1,5 +1,5 @@
 -- The sides of a clause's literals, interned one literal after another.
-use Rattle.std.proofs.Common.{◌≡◌, ℕ, zero, suc, ◌+◌, ◌<◌, List, [], ◌∷◌, ◌++◌, length, map, take, drop, get_or, Some, refl, sym, ap, ◌∙◌, subst, append_assoc, append-nil, arith, Result, Ok, Err, OnErr}
+use Rattle.std.proofs.Common.{◌≡◌, ℕ, zero, suc, ◌+◌, ◌<◌, List, [], ◌∷◌, ◌++◌, length, map, take, drop, get_or, Some, refl, sym, ap, ◌∙◌, subst, append-nil, arith, Result, Ok, Err, OnErr}
 use Rattle.std.proofs.lemmas.List.{map-append}
 use Rattle.std.proofs.lemmas.List.Elements.{All-push}
 use Rattle.std.proofs.lemmas.Grind.{flat_map-append}
@@ -15,7 +15,7 @@ use Rattle.term_bank.specs.Table.{entries, number_in}
 use Rattle.term_bank.specs.Interning.{InternsAll, InternsFirst}
 use Rattle.term_bank.specs.Literal.{IsLiteralOf, AreLiteralsOf, literal_at, literals_at}
 use Rattle.term_bank.proofs.LookupLemmas.{lookup-more}
-use Rattle.term_bank.proofs.InterningLemmas.{interns_onward}
+use Rattle.term_bank.proofs.InterningLemmas.{interns_onward, interns_partly_onward, interns_first_of_more}
 use Rattle.term_bank.specs.declared.literal.BankLit.{BankLit}
 use Rattle.term_bank.specs.declared.reference.TermRef.{TermRef}
 use Rattle.term_bank.specs.declared.bank.Bank.{Bank}
@@ -77,6 +77,12 @@ sides-split (x ∷ xs) zero l below is = ap (λ y. literal_sides (literal_of y) 
 sides-split (x ∷ xs) (suc i) l below is =
     ap (λ ts. literal_sides (literal_of x) ++ ts) (sides-split xs i l (omega (arith, below)) is)
 
+part-of :
+    (front its behind : List Tree) (first second third : Table)
+    → InternsAll front first second → InternsFirst its second third → InternsFirst (front ++ (its ++ behind)) first third
+part-of front its behind first second third near far =
+    interns_partly_onward front (its ++ behind) first second third near (interns_first_of_more its behind second third far)
+
 -- all of the trees are some first ones of them
 pub interned-whole :
     (trees : List Tree) (known learned : Table) → InternsAll trees known learned → InternsFirst trees known learned
@@ -106,13 +112,31 @@ pub interned-part :
     → InternsFirst (literal_sides (literal_of l)) second third
     → InternsFirst (sides (map literal_of ls)) first third
 interned-part ls i l first second third below is near far =
-    let front : List Tree = sides (map literal_of (take i ls)) in
-    let behind : List Tree = sides (map literal_of (drop (suc i) ls)) in (
-      front ++ far.0,
-      far.1 ++ behind,
-      sides-split ls i l below is
-          ∙ ap (λ ts. front ++ (ts ++ behind)) far.2
-          ∙ ap (λ ts. front ++ ts) (append_assoc far.0 far.1 behind)
-          ∙ sym (append_assoc front far.0 (far.1 ++ behind)),
-      interns_onward front far.0 first second third near far.3,
-    )
+    subst (λ ts. InternsFirst ts first third) (sym (sides-split ls i l below is))
+    (part-of (sides (map literal_of (take i ls))) (literal_sides (literal_of l)) (sides (map literal_of (drop (suc i) ls))) first second third near far)
+
+-- ---- literals that are handed over, one after another
+
+-- the sides of one more
+pub handed-literal :
+    (front : List Literal) (l : Literal) (first second third : Table)
+    → InternsAll (sides (map literal_of front)) first second
+    → InternsAll (literal_sides (literal_of l)) second third
+    → InternsAll (sides (map literal_of (front ++ l ∷ []))) first third
+handed-literal front l first second third near far =
+    subst (λ ts. InternsAll ts first third)
+    (sym (ap sides (map-append literal_of front (l ∷ [])) ∙ flat_map-append literal_sides (map literal_of front) (literal_of l ∷ [])))
+    (interns_onward (sides (map literal_of front)) (literal_sides (literal_of l)) first second third near far)
+
+-- the first ones of them are first ones of all
+pub handed-part :
+    (ls front behind : List Literal) (l : Literal) (first second third : Table)
+    → front ++ l ∷ behind ≡ ls
+    → InternsAll (sides (map literal_of front)) first second
+    → InternsFirst (literal_sides (literal_of l)) second third
+    → InternsFirst (sides (map literal_of ls)) first third
+handed-part ls front behind l first second third all near far =
+    subst (λ ks. InternsFirst (sides (map literal_of ks)) first third) all
+    (subst (λ ts. InternsFirst ts first third)
+    (sym (ap sides (map-append literal_of front (l ∷ behind)) ∙ flat_map-append literal_sides (map literal_of front) (map literal_of (l ∷ behind))))
+    (part-of (sides (map literal_of front)) (literal_sides (literal_of l)) (sides (map literal_of behind)) first second third near far))

@@ -1,12 +1,17 @@
 -- Laws of clauses in banks.
-use Rattle.std.specs.Prelude.{◌≡◌, true, List}
+use Rattle.std.specs.Prelude.{◌≡◌, ◌↔◌, ℕ, true, List, map}
 use Rattle.std.specs.List.{All}
+use Rattle.std.specs.List.Sorted.{IsStrictlyIncreasing}
 use Rattle.fol_base.specs.Tree.{Tree}
 use Rattle.term_bank.specs.Interning.{InternsAll, InternsFirst}
 use Rattle.term_bank.specs.declared.literal.BankLit.{BankLit}
 use Rattle.term_bank.specs.declared.table.Table.{Table}
-use Rattle.bank_clause.specs.Clause.{IsKnown, clause_at, equal_by_numbers}
+use Rattle.term_bank.specs.Literal.{AreLiteralsOf}
+use Rattle.term_bank.specs.declared.bank.Bank.{Bank}
+use Rattle.bank_clause.specs.Parts.{assertion}
+use Rattle.bank_clause.specs.Clause.{AreAssertions, AreMembersOf, IsKnown, clause_at, equal_by_numbers}
 use Rattle.bank_clause.specs.declared.clause.BankClause.{BankClause}
+use Rattle.bank_clause.specs.declared.member.Member.{Member}
 
 -- literals whose references a table has keep them when further trees are interned through it
 abbrev pub KeepsKnownLiterals : Type 0
@@ -19,6 +24,14 @@ abbrev pub KeepsLiteralsOnTheWay : Type 0
 KeepsLiteralsOnTheWay =
     (trees : List Tree) (known learned : Table) (ls : List BankLit)
     → InternsFirst trees known learned → All (IsKnown known) ls → All (IsKnown learned) ls
+
+-- rising numbers are assertions with the negative sign
+abbrev pub RisingNamesAreAssertions : Type 0
+RisingNamesAreAssertions = (ns : List ℕ) → IsStrictlyIncreasing ns → AreAssertions (map assertion ns)
+
+-- members are of a bank exactly where the literals of each of their clauses are
+abbrev pub MembersHaveLiterals : Type 0
+MembersHaveLiterals = (bank : Bank) (ms : List Member) → AreMembersOf bank ms ↔ All (λ m. AreLiteralsOf bank m.clause.literals) ms
 
 -- clauses that are the same, and whose references one table has, are equal by numbers
 abbrev pub SameAreEqual : Type 0

@@ -16,7 +16,7 @@ ghost use Rattle.bank_clause.specs.Clause.{
   sides,
 };
 
-use crate::interning::{bare_names, intern_literals};
+use crate::interning::{bare_names, intern_literals, move_literals};
 use crate::trees::{negative_names, tree_literals};
 use fol_base::{Clause, Literals, SIZE_LIMIT};
 use plain_types::{Mem, Names};
@@ -30,7 +30,8 @@ use term_bank::{Bank, BankLit, Table};
 pub(crate) type BankLits = SmallVec<BankLit, 4>;
 
 /// A clause whose literals' sides are terms of a bank, with the names of the split-off parts that it
-/// asserts. Its variables are numbered by first occurrence.
+/// asserts. Its variables are numbered by first occurrence. Clauses are equal, and hashed, by their signs, the numbers of their sides and
+/// their names, which means something only inside one bank.
 #[derive(Drop)]
 pub struct BankClause {
     literals: BankLits,
@@ -38,6 +39,8 @@ pub struct BankClause {
     symbols: u32,
     variables: u32,
 }
+
+const _: () = prove!(size_of::<BankClause>() == 128);
 
 impl Model for BankClause {
     ghost use Rattle.bank_clause.specs.Parts.{ClauseParts, IsClauseOver, clause_parts_code};
@@ -84,10 +87,47 @@ impl BankClause {
         })
     }
 
-    /// The same clause as trees.
+    /// As `of_clause`, for a clause that is handed over: its new terms are moved into the bank, and not copied.
+    pub fn of_clause_owned<R: Wait>(
+        rt: &R,
+        alloc: Global,
+        bank: &Bank,
+        table: &mut Table,
+        clause: Clause,
+    ) -> Mem<BankClause>
+        requires table { IsTableOf bank.now table.old }
+        requires canonical { IsCanonical (clause_of clause) }
+        requires names { AreAssertions clause.names }
+        requires size { clause_size (clause_of clause) < SIZE_LIMIT }
+        ensures of_bank { IfOk result (IsClauseOf bank.now) }
+        ensures same { IfOk result (λ made. clause_at made ≡ clause_of clause) }
+        ensures known { IfOk result (λ made. All (IsKnown table.new) made.literals) }
+        ensures table { IsTableOf bank.now table.new }
+        ensures interned { OnOk result
+            (InternsAll (sides (clause_of clause).literals) table.old table.new) }
+        ensures interned_first { OnErr result
+            (InternsFirst (sides (clause_of clause).literals) table.old table.new) }
+    {
+        let symbols = clause.size() as u32;
+        let variables = clause.variable_bound() as u32;
+        let Clause { literals, names } = clause;
+        let names = bare_names(alloc, names.as_slice())?;
+        let literals = move_literals(rt, alloc, bank, table, literals.into_vec())?;
+        Ok(BankClause {
+            literals,
+            names,
+            symbols,
+            variables,
+        })
+    }
+
+    /// The same clause as trees. `of_clause` takes it back.
     pub fn to_clause(&self, bank: &Bank) -> Mem<Clause>
         requires { IsClauseOf bank.now self.now }
-        ensures { IfOk result (λ clause. clause_of clause ≡ clause_at self.now) }
+        ensures same { IfOk result (λ clause. clause_of clause ≡ clause_at self.now) }
+        ensures canonical { IfOk result (λ clause. IsCanonical (clause_of clause)) }
+        ensures names { IfOk result (λ clause. AreAssertions clause.names) }
+        ensures size { IfOk result (λ clause. clause_size (clause_of clause) < SIZE_LIMIT) }
     {
         let alloc = *self.literals.allocator();
         let literals = tree_literals(alloc, bank, self.literals.as_slice())?;

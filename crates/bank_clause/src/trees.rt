@@ -17,7 +17,7 @@ pub(crate) fn tree_literals(alloc: Global, bank: &Bank, literals: &[BankLit]) ->
 {
     let mut made = Vec::with_capacity(alloc, literals.len())?;
     for literal in literals {
-        made.push(tree_literal(alloc, bank, literal)?)?;
+        made.push_reserved(tree_literal(alloc, bank, literal)?);
     }
     Ok(made)
 }
@@ -42,10 +42,10 @@ pub(crate) fn negative_names(alloc: Global, names: &[u32]) -> Mem<Vec<NameLit>>
 {
     let mut signed = Vec::with_capacity(alloc, names.len())?;
     for name in names {
-        signed.push(NameLit {
+        signed.push_reserved(NameLit {
             positive: false,
             name: *name,
-        })?;
+        });
     }
     Ok(signed)
 }

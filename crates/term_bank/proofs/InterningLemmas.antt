@@ -11,7 +11,7 @@ use Rattle.fol_base.specs.Tree.{Tree, tree_eq}
 use Rattle.fol_base.proofs.TreeLemmas.{tree_eq-refl}
 use Rattle.term_bank.specs.Table.{entries, number_in}
 use Rattle.term_bank.proofs.LookupLemmas.{lookup-more}
-use Rattle.term_bank.specs.Laws.{InternsOne, InternsOnward, LearnsOnlyThese, InternedAgain, KeepsAllNumbers, KeepsNumbersOnTheWay, NumbersOnce, NumbersThese, InternsAfterFirst}
+use Rattle.term_bank.specs.Laws.{InternsNone, InternsOne, InternsOnward, InternsPartlyOnward, InternsFirstOfMore, LearnsOnlyThese, InternedAgain, KeepsAllNumbers, KeepsNumbersOnTheWay, NumbersOnce, NumbersThese, InternsAfterFirst}
 use Rattle.term_bank.specs.Interning.{first_seen, trees_in, InternsAll}
 use Rattle.term_bank.specs.declared.table.Table.{Table}
 
@@ -118,8 +118,8 @@ interns_one known learned t n table =
 
 -- ---- no tree, and several
 
-pub interns-nothing : (known learned : Table) → entries learned ≡ entries known → InternsAll [] known learned
-interns-nothing known learned table = record {
+pub interns_none : InternsNone
+interns_none known learned table = record {
   more = [];
   table = table ∙ sym (append-nil (entries known));
   first = refl;
@@ -141,6 +141,18 @@ interns_onward trees further first second third near far = record {
       ∙ (λ j. near.first j ++ (far.first ∙ ap (λ ks. first_seen ks further) (trees-learned trees first second near)) j)
       ∙ sym (first_seen-append (trees_in (entries first)) trees further);
 }
+
+pub interns_partly_onward : InternsPartlyOnward
+interns_partly_onward trees further first second third near part = (
+  trees ++ part.0,
+  part.1,
+  ap (λ us. trees ++ us) part.2 ∙ sym (append_assoc trees part.0 part.1),
+  interns_onward trees part.0 first second third near part.3,
+)
+
+pub interns_first_of_more : InternsFirstOfMore
+interns_first_of_more trees further first second part =
+    (part.0, part.1 ++ further, ap (λ us. us ++ further) part.2 ∙ append_assoc part.0 part.1 further, part.3)
 
 pub learns_only_these : LearnsOnlyThese
 learns_only_these trees known learned all =

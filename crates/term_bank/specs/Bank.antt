@@ -5,6 +5,7 @@ use Rattle.std.specs.List.{All}
 use Rattle.fol_base.specs.Tree.{Tree, variable}
 use Rattle.term_bank.specs.declared.reference.TermRef.{TermRef}
 use Rattle.term_bank.specs.declared.bank.Bank.{Bank}
+use Rattle.term_bank.specs.declared.rows.TheConstants.{ROWS}
 
 -- which bank this is, for good: a number that contracts alone see
 abbrev pub identity : Bank → ℕ
@@ -30,6 +31,6 @@ same_number r s = nat_eq (number r) (number s)
 abbrev pub AreOf : Bank → List TermRef → Type 0
 AreOf bank rs = All (IsOf bank) rs
 
--- the reference that fills places which aren't used yet: it is of no bank, and has a number of no place
+-- the reference that fills places which aren't used yet: it is of no bank, and its number is that of the first row that no bank has
 abbrev pub IsDefault : TermRef → Type 0
-IsDefault r = r ≡ record { number = 255 * 2 ^ 32; bank = 0; tree = variable 0 }
+IsDefault r = r ≡ record { number = ROWS * 2 ^ 32; bank = 0; tree = variable 0 }

@@ -1,5 +1,5 @@
 -- Laws of the words on banks: what callers may use without a look into a table.
-use Rattle.std.specs.Prelude.{◌≡◌, ℕ, true, List, ◌++◌, [], ◌∷◌, Some, is_some, Contains}
+use Rattle.std.specs.Prelude.{◌≡◌, ℕ, ◌*◌, ◌^◌, ◌≤◌, true, List, ◌++◌, [], ◌∷◌, Some, is_some, Contains}
 use Rattle.std.specs.List.{All}
 use Rattle.fol_base.specs.Tree.{Tree}
 use Rattle.term_bank.specs.Bank.{IsOf, IsDefault, number, tree_at}
@@ -7,12 +7,17 @@ use Rattle.term_bank.specs.Entry.{interned}
 use Rattle.term_bank.specs.Table.{entries, number_in}
 use Rattle.term_bank.specs.Interning.{trees_in, InternsAll, InternsFirst}
 use Rattle.term_bank.specs.declared.reference.TermRef.{TermRef}
+use Rattle.term_bank.specs.declared.rows.TheConstants.{ROWS}
 use Rattle.term_bank.specs.declared.bank.Bank.{Bank}
 use Rattle.term_bank.specs.declared.table.Table.{Table}
 
 -- a default reference is of no bank
 abbrev pub LacksDefaults : Type 0
 LacksDefaults = (bank : Bank) (r : TermRef) → IsDefault r → ¬ IsOf bank r
+
+-- and its number is past those that `TermRef::number` tells of references of a bank
+abbrev pub LacksPlaces : Type 0
+LacksPlaces = (r : TermRef) → IsDefault r → ROWS * 2 ^ 32 ≤ number r
 
 -- a table keeps its numbers when a tree is interned
 abbrev pub KeepsNumbers : Type 0
@@ -44,11 +49,26 @@ InternsOne =
     (known learned : Table) (t : Tree) (n : ℕ) → entries learned ≡ interned (entries known) t n
     → InternsAll (t ∷ []) known learned
 
+-- no tree at all is interned where the entries stay
+abbrev pub InternsNone : Type 0
+InternsNone = (known learned : Table) → entries learned ≡ entries known → InternsAll [] known learned
+
 -- interning a list of trees and then a further one is interning both as one list
 abbrev pub InternsOnward : Type 0
 InternsOnward =
     (trees further : List Tree) (first second third : Table)
     → InternsAll trees first second → InternsAll further second third → InternsAll (trees ++ further) first third
+
+-- interning a list of trees and then some first ones of a further one is interning some first ones of both as one list
+abbrev pub InternsPartlyOnward : Type 0
+InternsPartlyOnward =
+    (trees further : List Tree) (first second third : Table)
+    → InternsAll trees first second → InternsFirst further second third → InternsFirst (trees ++ further) first third
+
+-- some first ones of a list are some first ones of a longer list
+abbrev pub InternsFirstOfMore : Type 0
+InternsFirstOfMore =
+    (trees further : List Tree) (first second : Table) → InternsFirst trees first second → InternsFirst (trees ++ further) first second
 
 -- the table learns none but these trees
 abbrev pub LearnsOnlyThese : Type 0

@@ -10,3 +10,4 @@ pub mod Literal
 pub mod Equality
 pub mod Interning
 pub mod Laws
+pub mod Examples

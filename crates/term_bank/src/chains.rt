@@ -104,8 +104,8 @@ impl Chains {
         ensures newest { (h : ℕ) → get nat_eq self.new.newest h
             ≡ cond (nat_eq hash h) (Some (length self.old.entries.items + 1)) (get nat_eq self.old.newest h) }
     {
-        let older = self.newest_of(hash);
+        let newest = self.entries.len() + 1;
+        let older = self.newest.insert(hash, newest).unwrap().unwrap_or(0);
         self.entries.push_reserved(Entry { reference, older });
-        self.newest.insert(hash, self.entries.len()).unwrap();
     }
 }

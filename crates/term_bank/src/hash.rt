@@ -1,4 +1,4 @@
-// The hash of a term, by which a table finds it.
+// The hash of a term, by which tables find it.
 
 ghost use Rattle.std.specs.Prelude.{◌≡◌, map};
 ghost use Rattle.fol_base.specs.Tree.{trees_of};
@@ -9,7 +9,7 @@ use fol_base::Term;
 
 /// A term's hash from an earlier one, over its symbols and variables from left to right.
 #[cycle(hash)]
-pub(crate) fn term_hash(hash: u64, term: &Term) -> u64
+pub fn term_hash(hash: u64, term: &Term) -> u64
     ensures { result ≡ tree_hash hash (tree_of term.now) }
 {
     match term {
@@ -32,10 +32,13 @@ fn terms_hash(hash: u64, terms: &[Term]) -> u64
     all
 }
 
-/// A step of the hash: a polynomial modulo 2^64, with the multiplier of the MMIX generator (Knuth, 1999).
+/// A step of the hash: one of the MMIX generator (Knuth, 1999), of which the upper half goes into the lower one. Without that a hash
+/// would be a polynomial modulo 2^64, and the Thue-Morse words of 2^11 letters are equal under all of these.
 fn mix(hash: u64, value: u64) -> u64
     ensures { result ≡ mixed hash value }
 {
-    hash.wrapping_mul(6_364_136_223_846_793_005)
-        .wrapping_add(value)
+    let step = hash
+        .wrapping_mul(6_364_136_223_846_793_005)
+        .wrapping_add(value);
+    step ^ (step >> 32)
 }

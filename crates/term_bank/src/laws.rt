@@ -1,28 +1,34 @@
 // The laws of the words on banks, and worked examples: the contracts of functions without arguments and
 // with empty bodies.
 
-ghost use Rattle.std.specs.Prelude.{◌≡◌, [], ◌∷◌};
+ghost use Rattle.std.specs.Prelude.{◌≡◌, ◌-◌, ◌^◌, [], ◌∷◌};
 ghost use Rattle.fol_base.specs.Examples.{x, a, f};
 ghost use Rattle.term_bank.specs.Entry.{interned, NoTreeTwice};
-ghost use Rattle.term_bank.specs.Interning.{first_seen};
+ghost use Rattle.term_bank.specs.Examples.{table_of};
+ghost use Rattle.term_bank.specs.Interning.{first_seen, InternsAll, InternsFirst};
 ghost use Rattle.term_bank.specs.Rows.{IsPlaceOf};
 ghost use Rattle.term_bank.specs.Laws.{
   LacksDefaults,
+  LacksPlaces,
   KeepsNumbers,
   KeepsAllNumbers,
   KeepsNumbersOnTheWay,
   NumbersOnce,
+  InternsNone,
   InternsOne,
   InternsOnward,
+  InternsPartlyOnward,
+  InternsFirstOfMore,
   LearnsOnlyThese,
   InternedAgain,
   NumbersThese,
   InternsAfterFirst,
 };
 
-/// A default reference is of no bank.
+/// A default reference is of no bank, and has a number of no place.
 pub fn references_of_no_bank()
-    ensures { LacksDefaults }
+    ensures of_none { LacksDefaults }
+    ensures of_no_place { LacksPlaces }
 {}
 
 /// A table keeps its numbers when a tree is interned, or several are, also where memory runs out on the way.
@@ -41,8 +47,11 @@ pub fn equal_numbers()
 /// change nothing. The table has a number for each of them then, also where
 /// memory ran out on the way and they were interned once more.
 pub fn several_trees()
+    ensures none { InternsNone }
     ensures one { InternsOne }
     ensures onward { InternsOnward }
+    ensures partly_onward { InternsPartlyOnward }
+    ensures first_of_more { InternsFirstOfMore }
     ensures only_these { LearnsOnlyThese }
     ensures again { InternedAgain }
     ensures numbers { NumbersThese }
@@ -60,7 +69,14 @@ pub fn examples()
     ensures known { first_seen (a ∷ []) (f a ∷ a ∷ []) ≡ f a ∷ [] }
     ensures repeated { first_seen [] (f a ∷ a ∷ f a ∷ x 0 ∷ a ∷ []) ≡ f a ∷ a ∷ x 0 ∷ [] }
     ensures both_known { first_seen (a ∷ x 0 ∷ []) (x 0 ∷ a ∷ x 0 ∷ []) ≡ [] }
+    ensures all_interned { InternsAll (f a ∷ a ∷ []) (table_of ((a, 0) ∷ [])) (table_of ((a, 0) ∷ (f a, 1) ∷ [])) }
+    ensures not_interned { ¬ InternsAll (f a ∷ a ∷ []) (table_of ((a, 0) ∷ [])) (table_of ((a, 0) ∷ [])) }
+    ensures first_interned { InternsFirst (f a ∷ x 0 ∷ []) (table_of ((a, 0) ∷ [])) (table_of ((a, 0) ∷ (f a, 1) ∷ [])) }
     ensures first_place { IsPlaceOf 0 0 0 }
     ensures end_of_row { IsPlaceOf 31 0 31 }
     ensures next_row { IsPlaceOf 32 1 0 }
+    ensures next_of_the_longest { IsPlaceOf (2 ^ 33 - 32) 28 0 }
+    ensures row_not_full { ¬ IsPlaceOf 31 1 0 }
+    ensures past_the_row { ¬ IsPlaceOf 32 0 32 }
+    ensures place_left_out { ¬ IsPlaceOf 1 0 0 }
 {}

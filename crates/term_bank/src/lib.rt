@@ -1,4 +1,4 @@
-// A bank of terms: each term is kept once, and is named by a small reference.
+// A bank of terms: each term is kept once for each table, and is named by a small reference.
 #![tactic(auto)]
 
 mod bank;
@@ -12,6 +12,7 @@ mod table;
 pub use bank::Bank;
 #[doc(hidden)]
 pub use chains::{Chains, Entry};
+pub use hash::term_hash;
 pub use literal::BankLit;
 pub use reference::TermRef;
 #[doc(hidden)]

@@ -1,19 +1,20 @@
 // References to the terms of a bank.
 
-ghost use Rattle.std.specs.Prelude.{◌≡◌};
+ghost use Rattle.std.specs.Prelude.{◌≡◌, ◌<◌, ◌*◌, ◌^◌};
 ghost use Rattle.std.specs.Cmp.{partial_equiv_from_equiv};
-ghost use Rattle.term_bank.specs.Bank.{number, same_number, IsDefault};
+ghost use Rattle.term_bank.specs.Bank.{number, same_number, IsDefault, IsOf};
 ghost use Rattle.term_bank.specs.Equality.{reference_input, same_number_equiv, references_alike};
 
-use crate::rows::Shown;
+use crate::bank::Bank;
+use crate::rows::{ROWS, Shown};
 use std::default::Default;
 use std::hash::{Hash, Hasher};
 use std::marker::Model;
 
 /// A reference to a term of a bank. It stands for one tree for good, in every thread.
 ///
-/// It has 8 bytes: a row, a place in it, and whether it is of a bank. References are equal, and hashed, by their numbers alone, which
-/// tells trees apart only inside one bank.
+/// It has 8 bytes: a row, a place in it, and whether it is of a bank. References are equal, and hashed, by their numbers alone. Inside one
+/// bank equal numbers mean equal trees; different numbers mean different trees only where one table has both.
 #[derive(Drop)]
 pub struct TermRef {
     pub(crate) place: u32,
@@ -27,6 +28,7 @@ impl Model for TermRef {
     ghost use Rattle.boxcar.specs.Table.{id_at};
     ghost use Rattle.fol_base.specs.Tree.{variable};
     ghost use Rattle.fol_base.specs.Term.{tree_of};
+    ghost use Rattle.term_bank.specs.declared.rows.TheConstants.{ROWS};
     ghost use Rattle.term_bank.specs.Reference.{Reference, reference_code};
 
     ghost Value = { Reference };
@@ -40,14 +42,16 @@ impl Model for TermRef {
     } };
 
     ghost invariant = { λ r. (r.place < 2 ^ 32) × IfSome r.shown (λ s.
-        (r.row < length s.rows.value.items) × (s.row.of ≡ id_at s.rows.value.items r.row)
+        (r.row < ROWS) × (r.row < length s.rows.value.items) × (s.row.of ≡ id_at s.rows.value.items r.row)
         × (r.place < length s.row.value.items) × (s.item.of ≡ id_at s.row.value.items r.place)) };
 }
 
 impl TermRef {
-    /// The reference's number. Two references of one bank with equal numbers stand for equal trees.
+    /// The reference's number. Two references of one bank with equal numbers stand for equal trees, and no reference of a bank has
+    /// the number of the default one.
     pub fn number(&self) -> u64
-        ensures { result ≡ number self.now }
+        ensures number { result ≡ number self.now }
+        ensures of_a_place { (bank : Bank) → IsOf bank self.now → result < ROWS * 2 ^ 32 }
     {
         u64::from(self.row) * (1 << 32) + u64::from(self.place)
     }
@@ -102,12 +106,11 @@ impl Hash for TermRef {
 impl Default for TermRef {
     ghost is_default = { IsDefault };
 
-    /// A reference of no bank, to fill places that aren't used yet. No reference of a bank has its number, since no row has this
-    /// number.
+    /// A reference of no bank, to fill places that aren't used yet. Its row is the first that no bank has.
     fn default() -> TermRef {
         TermRef {
             place: 0,
-            row: u8::MAX,
+            row: ROWS as u8,
             shown: None,
         }
     }

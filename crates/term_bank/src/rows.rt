@@ -1,8 +1,10 @@
-// The rows of places in which a bank keeps its terms. A place is written once and read by any thread, and each
-// row has twice as many places as the one before, so no term is ever moved.
+// The rows of places in which a bank keeps its terms. A place is written once and read by any thread, and no term
+// is ever moved. Each row has twice as many places as the one before, up to 2^32, as many as a u32 numbers; all
+// later rows have so many. There are as many rows as a u8 numbers, but for the one that the default reference names.
 
-ghost use Rattle.std.specs.Prelude.{◌≡◌, ◌<◌, ◌≤◌, ◌+◌, ◌^◌, [], ◌∷◌, length, ⊤, IfOk, IfSome, IfNone};
-ghost use Rattle.term_bank.specs.Rows.{row_length as length_of, IsPlaceOf, AreNumbered, HasLength};
+ghost use Rattle.std.specs.Prelude.{◌≡◌, ◌<◌, ◌≤◌, ◌+◌, ◌*◌, ◌^◌, [], ◌∷◌, length, ⊤, IfOk, IfSome, IfNone};
+ghost use Rattle.term_bank.specs.declared.rows.TheConstants.{ROWS};
+ghost use Rattle.term_bank.specs.Rows.{row_length as length_of, places_before, IsPlaceOf, AreNumbered, HasLength};
 
 use boxcar::slot::{OnceSlot, SlotRule, Written};
 use boxcar::tag::{Names, Tag};
@@ -33,17 +35,26 @@ pub(crate) type Rows = Vec<OnceSlot<Row, FullLength>>;
 pub struct AllRows;
 
 impl SlotRule<Rows> for AllRows {
-    ghost holds = { λ _ rows. AreNumbered 28 rows.items };
+    ghost holds = { λ _ rows. AreNumbered ROWS rows.items };
 }
 
-/// How many rows there are: the last has 2^32 places.
-const ROWS: usize = 28;
+/// How many rows there are.
+pub(crate) const ROWS: usize = 255;
+
+/// The binary logarithm of the first row's length.
+const FIRST_BITS: u32 = 5;
 
 /// How many places the first row has.
-const FIRST: u64 = 32;
+const FIRST: u64 = 1 << FIRST_BITS;
 
-/// How many places all rows have together.
-const PLACES: u64 = (1 << 33) - FIRST;
+/// How many rows are shorter than the longest ones.
+const SHORTER: usize = 27;
+
+/// How many places each of the longest rows has.
+const LONGEST: u64 = 1 << 32;
+
+/// How many places all rows have together: those of the shorter rows are `LONGEST - FIRST`.
+const PLACES: u64 = 229 * LONGEST - 32;
 
 /// What shows that a row is of a bank, and a term of the row. It has no bytes.
 #[derive(Drop)]
@@ -74,7 +85,7 @@ impl Names<usize> for Itself {
 
 /// The rows of a new bank, none of which has its places yet.
 pub(crate) fn rows_to_lay(alloc: Global) -> Mem<Rows>
-    ensures { IfOk result (λ rows. AreNumbered 28 rows.items) }
+    ensures { IfOk result (λ rows. AreNumbered ROWS rows.items) }
 {
     let mut rows = Vec::with_capacity(alloc, ROWS)?;
     for row in 0..ROWS {
@@ -85,25 +96,41 @@ pub(crate) fn rows_to_lay(alloc: Global) -> Mem<Rows>
 
 /// How many places a row has.
 fn row_length(row: usize) -> usize
-    requires { row < 28 }
     ensures length { result ≡ length_of row }
-    ensures limit { result ≤ 2 ^ 32 }
+    ensures limit { result ≤ LONGEST }
 {
-    32 << row
+    (FIRST as usize) << row.min(SHORTER)
 }
 
 /// The row and the place in it of the term that comes after so many others; none where all rows are full.
 pub(crate) fn located(index: u64) -> Option<(u8, u32)>
     ensures place { IfSome result (λ found. IsPlaceOf index found.0 found.1) }
-    ensures full { IfNone result (2 ^ 33 ≤ index + 32) }
+    ensures full { IfNone result (places_before ROWS ≤ index) }
 {
     if index >= PLACES {
         return None;
     }
     let shifted = index + FIRST;
-    let row = shifted.ilog2() - 5;
-    let place = shifted - row_length(row as usize) as u64;
-    Some((row as u8, place as u32))
+    if shifted < LONGEST {
+        Some(among_shorter(shifted))
+    } else {
+        Some((
+            (shifted / LONGEST) as u8 + (SHORTER - 1) as u8,
+            (shifted % LONGEST) as u32,
+        ))
+    }
+}
+
+/// The row and the place where rows double, of the term that comes after `shifted - 32` others: the highest bit tells the row.
+fn among_shorter(shifted: u64) -> (u8, u32)
+    requires low { FIRST ≤ shifted }
+    requires high { shifted < LONGEST }
+    ensures row { result.0 < SHORTER }
+    ensures below { result.1 < 32 * 2 ^ result.0 }
+    ensures place { 32 * 2 ^ result.0 + result.1 ≡ shifted }
+{
+    let row = shifted.ilog2() - FIRST_BITS;
+    (row as u8, (shifted - (FIRST << row)) as u32)
 }
 
 /// A row's places, which it makes where there are none yet. It waits only for a thread that is storing them.
@@ -113,8 +140,7 @@ pub(crate) fn laid<R: Wait>(
     slot: &OnceSlot<Row, FullLength>,
     row: u8,
 ) -> Mem<Written<Row>>
-    requires row { row < 28 }
-    requires tag { slot.now.tag ≡ row ∷ [] }
+    requires { slot.now.tag ≡ row ∷ [] }
     ensures { IfOk result (λ written. written.of ≡ slot.now.id) }
 {
     if let Some(written) = slot.witness() {
@@ -147,7 +173,6 @@ fn laid_meanwhile(slot: &OnceSlot<Row, FullLength>) -> Mem<Written<Row>>
 
 /// The places of a row, none of them written.
 fn empty_row(alloc: Global, row: usize) -> Mem<Row>
-    requires { row < 28 }
     ensures { IfOk result (λ places. length places.items ≡ length_of row) }
 {
     let count = row_length(row);

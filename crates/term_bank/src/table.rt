@@ -5,7 +5,7 @@ ghost use Rattle.std.specs.Option.{option_map};
 ghost use Rattle.fol_base.specs.Term.{tree_of};
 ghost use Rattle.term_bank.specs.Hash.{tree_hash};
 ghost use Rattle.term_bank.specs.Bank.{number, tree_at, IsOf};
-ghost use Rattle.term_bank.specs.Entry.{interned};
+ghost use Rattle.term_bank.specs.Entry.{interned, NoTreeTwice};
 ghost use Rattle.term_bank.specs.Table.{entries, number_in, IsTableOf};
 
 use crate::bank::Bank;
@@ -51,6 +51,13 @@ impl Table {
             shown,
             chains: Chains::new(alloc),
         }
+    }
+
+    /// Shows that no tree stands in the table twice. It does nothing.
+    pub fn once(&self)
+        ensures { NoTreeTwice (entries self.now) }
+    {
+        let _ = &self.chains;
     }
 
     /// The reference of a term's tree, where the table has one.

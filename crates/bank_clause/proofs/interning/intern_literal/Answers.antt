@@ -3,7 +3,7 @@ use Rattle.fol_base.specs.Literal.{literal_of}
 use Rattle.fol_base.specs.Clause.{TreeLiteral}
 use Rattle.term_bank.specs.Table.{entries, number_in}
 use Rattle.term_bank.specs.Interning.{InternsAll}
-use Rattle.term_bank.proofs.InterningLemmas.{interns_one, interns-nothing, interns_onward}
+use Rattle.term_bank.proofs.InterningLemmas.{interns_one, interns_none, interns_onward}
 use Rattle.bank_clause.proofs.SidesLemmas.{known-kept, on-err}
 use Rattle.bank_clause.proofs.interning.intern_literal.Goals as goal
 
@@ -25,12 +25,12 @@ returns-clause-interned g c =
 pub returns-in_err-left-clause-interned_first : goal.returns-in_err-left-clause-interned_first
 returns-in_err-left-clause-interned_first g c =
     let l : TreeLiteral = literal_of c.args.literal.now in
-    on-err c.from_residual.result ([], l.left ∷ l.right ∷ [], refl, interns-nothing _ _ (ap entries c.in_err-left.ensures.table_unchanged))
+    on-err c.from_residual.result ([], l.left ∷ l.right ∷ [], refl, interns_none _ _ (ap entries c.in_err-left.ensures.table_unchanged))
 
 pub returns-in_err-right-clause-interned_first : goal.returns-in_err-right-clause-interned_first
 returns-in_err-right-clause-interned_first g c =
     let l : TreeLiteral = literal_of c.args.literal.now in
     let near : InternsAll (l.left ∷ []) c.args.table.now c.intern.new.table = interns_one _ _ _ _ c.in_ok-left.ensures.entries in
-    let far : InternsAll [] c.intern.new.table c.intern-2.new.table = interns-nothing _ _ (ap entries c.in_err-right.ensures.table_unchanged) in
+    let far : InternsAll [] c.intern.new.table c.intern-2.new.table = interns_none _ _ (ap entries c.in_err-right.ensures.table_unchanged) in
     on-err c.from_residual-in_err-right.result
     (l.left ∷ [], l.right ∷ [], refl, interns_onward (l.left ∷ []) [] _ _ _ near far)
