@@ -7,3 +7,7 @@ pub mod SplitLemmas
 pub mod ComponentExamples
 pub mod TagLemmas
 pub mod TagLawLemmas
+pub mod SignedLemmas
+pub mod EntryLemmas
+pub mod SignedLawLemmas
+pub mod OppositeLemmas

@@ -6,3 +6,6 @@ pub mod PartHash
 pub mod PartKeys
 pub mod Tags
 pub mod TagLaws
+pub mod SignedNames
+pub mod SignedLaws
+pub mod TagEntries

@@ -9,16 +9,22 @@ use Rattle.fol_base.specs.Tree.{tree_eq}
 use Rattle.fol_base.specs.Clause.{TreeLiteral, literal_eq, literals_eq}
 use Rattle.fol_base.specs.Literal.{literal_of}
 use Rattle.fol_base.proofs.TreeLemmas.{tree_eq-refl}
+use Rattle.kernel_steps.specs.Derivation.{complement}
 use Rattle.kernel_steps.proofs.SplitTests.{literals_eq-says}
 use Rattle.split_parts.specs.PartHash.{part_hash}
 use Rattle.split_parts.specs.declared.key.PartKey.{PartKey}
 use Rattle.split_parts.specs.declared.key.PartRef.{PartRef}
+use Rattle.split_parts.specs.declared.key.OppositeRef.{OppositeRef}
 
 abbrev pub key_part : PartKey → List TreeLiteral
 key_part k = map literal_of k.literals
 
 abbrev pub lent_part : PartRef → List TreeLiteral
 lent_part r = map literal_of r.literals.now
+
+-- the part of one literal with the opposite sign
+abbrev pub opposite_part : OppositeRef → List TreeLiteral
+opposite_part r = complement (literal_of r.literal.now) ∷ []
 
 abbrev pub same_part : PartKey → PartKey → Bool
 same_part k j = literals_eq (key_part k) (key_part j)

@@ -1,54 +1,42 @@
 // The hash of a part, by which the table finds it.
 
 ghost use Rattle.std.specs.Prelude.{◌≡◌, map};
-ghost use Rattle.fol_base.specs.Tree.{trees_of};
-ghost use Rattle.fol_base.specs.Term.{tree_of};
 ghost use Rattle.fol_base.specs.Literal.{literal_of};
-ghost use Rattle.split_parts.specs.PartHash.{tree_hash, trees_hash, part_hash, mixed};
+ghost use Rattle.kernel_steps.specs.Derivation.{complement};
+ghost use Rattle.term_bank.specs.Hash.{tree_hash};
+ghost use Rattle.split_parts.specs.PartHash.{literal_hash, part_hash, signed};
 
-use fol_base::{Literal, Term};
+use fol_base::Literal;
+use term_bank::term_hash;
 
-/// A part's hash, over its terms from left to right. Signs count nothing.
+/// A part's hash, over its literals from left to right.
 pub(crate) fn part_hash(literals: &[Literal]) -> u64
     ensures { result ≡ part_hash 0 (map literal_of literals.now) }
 {
     let mut hash = 0;
     for literal in literals {
-        hash = term_hash(hash, &literal.left);
-        hash = term_hash(hash, &literal.right);
+        hash = sides_hash(with_sign(hash, literal.positive), literal);
     }
     hash
 }
 
-/// A term's hash from an earlier one, over its symbols and variables from left to right.
-#[cycle(hash)]
-fn term_hash(hash: u64, term: &Term) -> u64
-    ensures { result ≡ tree_hash hash (tree_of term.now) }
+/// The hash of the part that is the literal with the opposite sign.
+pub(crate) fn complement_hash(literal: &Literal) -> u64
+    ensures { result ≡ literal_hash 0 (complement (literal_of literal.now)) }
 {
-    match term {
-        Term::Var(variable) => mix(hash, 2 * u64::from(*variable)),
-        Term::App(symbol, arguments) => {
-            let head = mix(hash, 2 * u64::from(*symbol) + 1);
-            terms_hash(head, arguments.as_slice())
-        }
-    }
+    sides_hash(with_sign(0, !literal.positive), literal)
 }
 
-#[cycle(hash)]
-fn terms_hash(hash: u64, terms: &[Term]) -> u64
-    ensures { result ≡ trees_hash hash (trees_of (map tree_of terms.now)) }
+/// A hash after a sign.
+fn with_sign(hash: u64, positive: bool) -> u64
+    ensures { result ≡ signed hash positive }
 {
-    let mut all = hash;
-    for index in 0..terms.len() {
-        all = term_hash(all, &terms[index]);
-    }
-    all
+    if positive { hash } else { hash.wrapping_add(1) }
 }
 
-/// A step of the hash: a polynomial modulo 2^64, with the multiplier of the MMIX generator (Knuth, 1999).
-fn mix(hash: u64, value: u64) -> u64
-    ensures { result ≡ mixed hash value }
+/// A hash after the sides of a literal.
+fn sides_hash(hash: u64, literal: &Literal) -> u64
+    ensures { result ≡ tree_hash (tree_hash hash (literal_of literal.now).left) (literal_of literal.now).right }
 {
-    hash.wrapping_mul(6_364_136_223_846_793_005)
-        .wrapping_add(value)
+    term_hash(term_hash(hash, &literal.left), &literal.right)
 }

@@ -1,15 +1,18 @@
 // Parts as keys of a table: owned, and lent for a look-up.
 
-ghost use Rattle.std.specs.Prelude.{◌≡◌};
+ghost use Rattle.std.specs.Prelude.{◌≡◌, ◌&&◌, [], ◌∷◌, map};
 ghost use Rattle.std.specs.Cmp.{on_equiv, partial_equiv_from_equiv};
 ghost use Rattle.std.specs.Hash as fed;
 ghost use Rattle.std.specs.Ordering.{on};
+ghost use Rattle.fol_base.specs.Tree.{tree_eq};
 ghost use Rattle.fol_base.specs.Clause.{literals_eq};
+ghost use Rattle.fol_base.specs.Literal.{literal_of};
+ghost use Rattle.kernel_steps.specs.Derivation.{complement};
 ghost use Rattle.split_parts.specs.PartHash.{part_hash};
-ghost use Rattle.split_parts.specs.PartKeys.{key_part, lent_part, same_part, same_parts, literals_equiv, parts_hash_alike};
+ghost use Rattle.split_parts.specs.PartKeys.{key_part, lent_part, opposite_part, same_part, same_parts, literals_equiv, parts_hash_alike};
 
-use crate::hash::part_hash;
-use fol_base::{Literal, Literals, same_literals};
+use crate::hash::{complement_hash, part_hash};
+use fol_base::{Literal, Literals, same_literals, same_term};
 use indexmap::Equivalent;
 use std::hash::{Hash, Hasher};
 
@@ -83,4 +86,62 @@ impl<'a> Equivalent<PartKey> for PartRef<'a> {
     fn equivalent(&self, key: &PartKey) -> bool {
         same_literals(&self.literals, &key.literals)
     }
+}
+
+/// The part of one literal with the opposite sign of the literal that is lent.
+#[derive(Clone, Copy)]
+pub struct OppositeRef<'a> {
+    pub literal: &'a Literal,
+}
+
+impl<'a> PartialEq for OppositeRef<'a> {
+    ghost eq = { on opposite_part literals_eq };
+
+    ghost laws = { partial_equiv_from_equiv (on_equiv opposite_part literals_equiv) };
+
+    fn eq(&self, other: &OppositeRef<'a>) -> bool {
+        self.literal.positive == other.literal.positive && same_sides(self.literal, other.literal)
+    }
+}
+
+impl<'a> Eq for OppositeRef<'a> {
+    ghost laws = { on_equiv opposite_part literals_equiv };
+}
+
+impl<'a> Hash for OppositeRef<'a> {
+    ghost hash_input = { λ r. fed.u64 (part_hash 0 (opposite_part r)) };
+
+    ghost respects_eq = { λ r s. parts_hash_alike (opposite_part r) (opposite_part s) };
+
+    fn hash<H: Hasher>(&self, state: &mut H) {
+        state.write_u64(complement_hash(self.literal));
+    }
+}
+
+impl<'a> Equivalent<PartKey> for OppositeRef<'a> {
+    ghost equivalent = { λ r k. literals_eq (opposite_part r) (key_part k) };
+
+    ghost respects_hash = { λ r k. parts_hash_alike (opposite_part r) (key_part k) };
+
+    ghost respects_eq = { λ r k j. literals_equiv.congr (opposite_part r) (key_part k) (key_part j) };
+
+    fn equivalent(&self, key: &PartKey) -> bool {
+        is_opposite(self.literal, key.literals.as_slice())
+    }
+}
+
+/// Whether literals are one, with the same sides and the opposite sign.
+fn is_opposite(literal: &Literal, literals: &[Literal]) -> bool
+    ensures { result ≡ literals_eq (complement (literal_of literal.now) ∷ []) (map literal_of literals.now) }
+{
+    literals.len() == 1
+        && literal.positive != literals[0].positive
+        && same_sides(literal, &literals[0])
+}
+
+fn same_sides(literal: &Literal, other: &Literal) -> bool
+    ensures { result ≡ (tree_eq (literal_of literal.now).left (literal_of other.now).left
+        && tree_eq (literal_of literal.now).right (literal_of other.now).right) }
+{
+    same_term(&literal.left, &other.left) && same_term(&literal.right, &other.right)
 }

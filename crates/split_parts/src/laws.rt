@@ -1,11 +1,15 @@
 // The laws of the definitions: each is the contract of a function without arguments and with an empty body.
 
-ghost use Rattle.std.specs.Prelude.{◌≡◌, [], ◌∷◌, IsFalse};
+ghost use Rattle.std.specs.Prelude.{◌≡◌, true, false, [], ◌∷◌, IsFalse};
 ghost use Rattle.fol_base.specs.Examples.{x, a, b, p, q, equation};
+ghost use Rattle.fol_base.specs.Rules.{disequation};
+ghost use Rattle.kernel_steps.specs.Derivation.{complement};
 ghost use Rattle.split_parts.specs.Components.{IsComponents};
 ghost use Rattle.split_parts.specs.ComponentLaws.{ComponentsAreUnique, ComponentsSplit};
 ghost use Rattle.split_parts.specs.Tags.{has_part, with_part, tag_of};
-ghost use Rattle.split_parts.specs.TagLaws.{TagsTellParts, TagsStay};
+ghost use Rattle.split_parts.specs.TagLaws.{TagsTellParts, TagsStay, PartsStandAtTheirTags, MetPartsAreThere};
+ghost use Rattle.split_parts.specs.SignedNames.{is_ground_negative, named, signed_name};
+ghost use Rattle.split_parts.specs.SignedLaws.{SignedNamesStay, SignedNamesTellParts, ComplementsAreOpposite, NamesAreBelow};
 
 /// Two lists of components of the same literals are equal.
 pub fn components_are_unique()
@@ -35,11 +39,43 @@ pub fn tags_stay()
     ensures { TagsStay }
 {}
 
+/// A part that was met is there, and stands at its tag.
+pub fn parts_stand_at_their_tags()
+    ensures there { MetPartsAreThere }
+    ensures at { PartsStandAtTheirTags }
+{}
+
+/// A part keeps its signed name when another is met, different parts have different ones, and their names count from 0.
+pub fn signed_names_tell_parts()
+    ensures stay { SignedNamesStay }
+    ensures tell { SignedNamesTellParts }
+    ensures below { NamesAreBelow }
+{}
+
+/// A ground literal and its complement have opposite signed names.
+pub fn complements_are_opposite()
+    ensures { ComplementsAreOpposite }
+{}
+
 /// Tags of parts with one literal.
 pub fn tag_examples()
+    ensures none { tag_of [] (p (x 0) ∷ []) ≡ 0 }
     ensures first { with_part [] (p (x 0) ∷ []) ≡ (p (x 0) ∷ []) ∷ [] }
     ensures next { tag_of ((p (x 0) ∷ []) ∷ []) (q (x 0) ∷ []) ≡ 1 }
     ensures known { tag_of ((p (x 0) ∷ []) ∷ (q (x 0) ∷ []) ∷ []) (p (x 0) ∷ []) ≡ 0 }
     ensures met_again { with_part ((p (x 0) ∷ []) ∷ (q (x 0) ∷ []) ∷ []) (p (x 0) ∷ []) ≡ (p (x 0) ∷ []) ∷ (q (x 0) ∷ []) ∷ [] }
     ensures sides_exchanged { IsFalse (has_part (equation (x 0) (x 1) ∷ []) ((equation (x 1) (x 0) ∷ []) ∷ [])) }
+{}
+
+/// Signed names: `~p(a), p(a)` share the name 0; after `q(X0)` they share the name 1; parts of more literals, and those with variables,
+/// are positive; an equation and the one with its sides exchanged have two names.
+pub fn signed_examples()
+    ensures negative_first { signed_name ((complement (p a) ∷ []) ∷ []) (complement (p a) ∷ []) ≡ record { positive = false; name = 0 } }
+    ensures positive_second { signed_name ((complement (p a) ∷ []) ∷ (p a ∷ []) ∷ []) (p a ∷ []) ≡ record { positive = true; name = 0 } }
+    ensures after_another { signed_name ((q (x 0) ∷ []) ∷ (complement (p a) ∷ []) ∷ (p a ∷ []) ∷ []) (complement (p a) ∷ [])
+        ≡ record { positive = false; name = 1 } }
+    ensures named { named ((q (x 0) ∷ []) ∷ (complement (p a) ∷ []) ∷ (p a ∷ []) ∷ []) ≡ (q (x 0) ∷ []) ∷ (p a ∷ []) ∷ [] }
+    ensures with_variables { is_ground_negative (complement (p (x 0)) ∷ []) ≡ false }
+    ensures of_two_literals { is_ground_negative (complement (p a) ∷ complement (q a) ∷ []) ≡ false }
+    ensures sides_exchanged { named ((disequation a b ∷ []) ∷ (equation b a ∷ []) ∷ []) ≡ (equation a b ∷ []) ∷ (equation b a ∷ []) ∷ [] }
 {}

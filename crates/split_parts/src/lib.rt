@@ -1,7 +1,8 @@
-// The parts into which a clause splits, and their tags.
+// The parts into which a clause splits, with their tags and signed names.
 #![tactic(auto)]
 
 mod forest;
+mod ground;
 mod hash;
 mod key;
 pub mod laws;

@@ -1,8 +1,8 @@
 use Rattle.std.proofs.Common.{◌≡◌, arith, map, refl}
 use Rattle.fol_base.specs.Term.{tree_of}
 use Rattle.fol_base.proofs.TermLemmas.{tree_size-item}
-use Rattle.split_parts.proofs.hash.+hash.Goals as goal
+use Rattle.split_parts.proofs.ground.+ground.Goals as goal
 
-pub terms_hash-term_hash-all-requires : goal.terms_hash-term_hash-all-requires
-terms_hash-term_hash-all-requires t c =
+pub are_ground_terms-is_ground_term-requires : goal.are_ground_terms-is_ground_term-requires
+are_ground_terms-is_ground_term-requires t c =
     (omega (arith, tree_size-item _ _ _ _ (let e : map tree_of c.args.terms.now ≡ map tree_of c.args.terms.now = refl in e) c.loop-index-test.true c.index-terms-index.is, c.decreases), tt)

@@ -1,0 +1,5 @@
+use Rattle.split_parts.proofs.TagLawLemmas.{met-there, stands-at}
+use Rattle.split_parts.proofs.laws.parts_stand_at_their_tags.Goals as goal
+
+pub returns : goal.returns
+returns c = record { there = met-there; at = stands-at }
