@@ -14,7 +14,7 @@ ghost use Rattle.clausal_form.specs.Formula.{form_by_itself, definitions_clauses
 ghost use Rattle.clausal_form.specs.Naming.{definition_clauses};
 ghost use Rattle.clausal_form.specs.Written.{written};
 
-use crate::closing::closed_form;
+use crate::closing::{closed_form, closing_names};
 use crate::naming::Definition;
 use crate::writing::{Agenda, Output, write_matrix};
 use plain_types::{Mem, Text};
@@ -38,7 +38,8 @@ pub(crate) fn formula_matrix(
     ensures symbols { IfOk result (λ _. signature.new
         ≡ signature.old ++ numbered_symbols function_symbol prefix.now next (form_by_itself signature.old annotated.now).made.skolem_arities) }
 {
-    let form = closed_form(alloc, annotated)?;
+    let names = closing_names(alloc, annotated)?;
+    let form = closed_form(alloc, annotated, &names)?;
     skolemize(alloc, &form, signature, prefix, next)
 }
 

@@ -84,7 +84,7 @@ fn a_symbol_stands_for_a_variable(rt: HostRuntime) -> Result<(), Fail> {
     let mut signature = Signature::of_problem(alloc, &problem)?;
     let mut names = Texts::new(alloc);
     names.push(Text::from_slice(alloc, b"X")?)?;
-    let form = Nnf::Ex(names, NnfBox::new(alloc, Nnf::True)?);
+    let form = Nnf::Ex(&names, NnfBox::new(alloc, Nnf::True)?);
     let prefix = Text::from_slice(alloc, b"sk")?;
     let (matrix, next) = skolemize(alloc, &form, &mut signature, &prefix, 7)?;
     assert!(rt; matches!(matrix, Matrix::True));

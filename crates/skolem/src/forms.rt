@@ -31,7 +31,7 @@ use tptp_tree::{TreeTerm, TreeTerms};
 /// of the signature, each named by the prefix and its number, from `next` on. After want of memory the signature is as before.
 pub fn skolemize(
     alloc: Global,
-    form: &Nnf,
+    form: &Nnf<'_>,
     signature: &mut Signature,
     prefix: &Text,
     next: u32,
@@ -54,7 +54,7 @@ pub fn skolemize(
 fn matrix_of(
     alloc: Global,
     signature: &Signature,
-    form: &Nnf,
+    form: &Nnf<'_>,
     progress: &mut Progress,
 ) -> Mem<Matrix>
     requires known { AreKnown signature.now (formula_symbols (nnf_tree form.now)) }
@@ -105,7 +105,7 @@ fn matrix_of(
 fn matrices_of(
     alloc: Global,
     signature: &Signature,
-    forms: &[Nnf],
+    forms: &[Nnf<'_>],
     progress: &mut Progress,
 ) -> Mem<Matrices>
     requires known { AreKnown signature.now (formulas_symbols (formulas_of (map nnf_tree forms.now))) }
@@ -190,7 +190,7 @@ fn bind_skolem_terms(
     alloc: Global,
     signature: &Signature,
     names: &[Text],
-    body: &NnfBox,
+    body: &NnfBox<'_>,
     progress: &mut Progress,
 ) -> Mem<()>
     ensures scope { IfOk result (λ _. scope_of_progress progress.new

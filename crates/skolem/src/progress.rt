@@ -84,7 +84,7 @@ impl Progress {
         &mut self,
         alloc: Global,
         names: &[Text],
-        body: &NnfBox,
+        body: &NnfBox<'_>,
     ) -> Mem<Vec<u32>>
         ensures found { IfOk result (λ found. found.items
             ≡ skolem_arguments (without_names names.now (free_names body.now)) (environment_of self.old.bindings) (made_of self.old)) }
