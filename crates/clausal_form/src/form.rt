@@ -11,18 +11,20 @@ ghost use Rattle.skolem.specs.Skolemized.{AreKnown};
 ghost use Rattle.clausal_form.specs.Agenda.{placed};
 ghost use Rattle.clausal_form.specs.Cause.{IsCauseOr};
 ghost use Rattle.clausal_form.specs.Fault.{formula_fault, counted_in, form_fault, IsFormFault};
-ghost use Rattle.clausal_form.specs.Naming.{IsMeasured, defining_clauses};
-ghost use Rattle.clausal_form.specs.Progress.{HasMade, IsStep, IsRefusal, IsEmpty, IsFormed, counted_numbers, numbers_with};
+ghost use Rattle.clausal_form.specs.Formula.{form_by_itself};
+ghost use Rattle.clausal_form.specs.Progress.{HasMade, IsAddition, IsStep, IsRefusal, IsEmpty, IsFormed, counted_numbers, numbers_with};
 
 use crate::counting::count_skolem_symbols;
 use crate::fault::{FormCause, FormFault, counted_with, expands_too_far, refused};
+use crate::closing::closing_names;
 use crate::formula::{formula_matrix, write_formula};
-use crate::measure::Measure;
-use crate::naming::{Naming, named_matrix};
+use crate::naming::{Names, Naming, named_matrix};
 use crate::writing::Output;
 use plain_types::{Mem, NoMemory, Text};
 use signature::Signature;
+use skolem::add_skolem_symbols;
 use std::alloc::Global;
+use std::mem;
 use tptp_tree::{Annotated, Problem};
 
 /// What there is of a form: the problem's symbols with the Skolem symbols, the number of the next Skolem symbol, the names, the clauses,
@@ -31,12 +33,12 @@ use tptp_tree::{Annotated, Problem};
 pub(crate) struct FormSoFar {
     pub signature: Signature,
     pub next: u32,
-    pub naming: Naming,
+    pub naming: Names,
     pub output: Output,
     pub counted: u64,
 }
 
-/// Adds a formula's clauses, those that define its names after them.
+/// Adds a formula's clauses, those that define its names after them, and its Skolem symbols.
 pub(crate) fn add_formula(
     alloc: Global,
     annotated: &Annotated,
@@ -53,34 +55,65 @@ pub(crate) fn add_formula(
         → AreKnown n.symbols (formula_symbols (formula_of annotated.now.formula))
         → IsRefusal n annotated.now m form.old.counted fault) }
 {
-    if expands_too_far(&annotated.formula) {
-        return Err(refused(alloc, FormCause::Expansion, annotated));
-    }
-    let (matrix, next) = formula_matrix(alloc, annotated, &mut form.signature, prefix, form.next)?;
-    form.next = next;
-    forget_definitions(&mut form.naming);
-    let part = named_matrix(alloc, matrix, &mut form.naming)?;
-    let measure = part.measure.sum(form.naming.measure)?;
-    match counted_with(measure, form.counted, next) {
-        Err(cause) => Err(refused(alloc, cause, annotated)),
-        Ok(counted) => {
-            form.counted = counted;
-            let definitions = form.naming.definitions.as_slice();
-            write_formula(alloc, place, &part.matrix, definitions, &mut form.output)?;
+    match add_clauses(alloc, annotated, place, form) {
+        Err(fault) => Err(fault),
+        Ok(arities) => {
+            let next = form.next;
+            let symbols = arities.as_slice();
+            form.next = add_skolem_symbols(alloc, &mut form.signature, prefix, next, symbols)?;
             Ok(())
         }
     }
 }
 
-/// The names stay, and their definitions go: each formula defines its own names.
-fn forget_definitions(naming: &mut Naming)
-    ensures arities { naming.new.arities.items ≡ naming.old.arities.items }
-    ensures first { naming.new.first ≡ naming.old.first }
-    ensures definitions { naming.new.definitions.items ≡ [] }
-    ensures measured { IsMeasured naming.new.measure (defining_clauses naming.new) }
+/// Adds a formula's clauses, and gives its Skolem symbols by their numbers of arguments. No term is made before the formula is known to pass
+/// no limit: its matrix has only what tells the sizes.
+fn add_clauses(
+    alloc: Global,
+    annotated: &Annotated,
+    place: u64,
+    form: &mut FormSoFar,
+) -> Result<Vec<u32>, FormFault>
+    requires known { AreKnown form.old.signature (formula_symbols (formula_of annotated.now.formula)) }
+    ensures arities { IfOk result (λ arities. arities.items ≡ (form_by_itself form.old.signature annotated.now).made.skolem_arities) }
+    ensures signature { form.new.signature ≡ form.old.signature }
+    ensures next { form.new.next ≡ form.old.next }
+    ensures first { form.new.naming.first ≡ form.old.naming.first }
+    ensures added { IfOk result (λ _. (n : SymbolNumbers) (prefix : List ℕ) (m : Made) → HasMade n prefix m form.old
+        → AreKnown n.symbols (formula_symbols (formula_of annotated.now.formula))
+        → IsAddition n annotated.now place m form.old form.new) }
+    ensures refused { IfErr result (λ fault. (n : SymbolNumbers) (prefix : List ℕ) (m : Made) → HasMade n prefix m form.old
+        → AreKnown n.symbols (formula_symbols (formula_of annotated.now.formula))
+        → IsRefusal n annotated.now m form.old.counted fault) }
 {
-    naming.definitions.clear();
-    naming.measure = Measure::none();
+    if expands_too_far(&annotated.formula) {
+        return Err(refused(alloc, FormCause::Expansion, annotated));
+    }
+    let names = closing_names(alloc, annotated)?;
+    let made = formula_matrix(alloc, annotated, &names, &form.signature)?;
+    let skolem = sum_of(form.next, made.arities.len())?;
+    let so_far = mem::replace(&mut form.naming.arities, Vec::new(alloc));
+    let mut naming = Naming::new(alloc, form.naming.first, so_far);
+    let part = named_matrix(alloc, made.matrix, &mut naming)?;
+    let measure = part.measure.sum(naming.measure)?;
+    match counted_with(measure, form.counted, skolem) {
+        Err(cause) => Err(refused(alloc, cause, annotated)),
+        Ok(counted) => {
+            let definitions = naming.definitions.as_slice();
+            write_formula(alloc, place, &part.matrix, definitions, &mut form.output)?;
+            form.counted = counted;
+            form.naming.arities = naming.arities;
+            Ok(made.arities)
+        }
+    }
+}
+
+/// The number after so many more.
+fn sum_of(number: u32, more: usize) -> Mem<u32>
+    ensures { IfOk result (λ sum. sum ≡ number + more) }
+{
+    let more = u32::try_from(more).map_err(|_| NoMemory)?;
+    number.checked_add(more).ok_or(NoMemory)
 }
 
 /// Adds the formulas of a problem, in order. The form has the symbols of the problem, and nothing was made.
@@ -111,11 +144,9 @@ fn begun_form(alloc: Global, signature: Signature, skolem: u64) -> Mem<FormSoFar
     ensures empty { IfOk result (λ form. IsEmpty form) }
 {
     let first = signature.len().checked_add(skolem).ok_or(NoMemory)?;
-    let naming = Naming {
+    let naming = Names {
         first: u32::try_from(first).map_err(|_| NoMemory)?,
         arities: Vec::new(alloc),
-        definitions: Vec::new(alloc),
-        measure: Measure::none(),
     };
     Ok(FormSoFar {
         signature,

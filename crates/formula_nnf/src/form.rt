@@ -53,7 +53,7 @@ impl<'a> Model for NnfBox<'a> {
 impl<'a> NnfBox<'a> {
     /// The form in a box.
     pub fn new(alloc: Global, form: Nnf<'a>) -> Mem<NnfBox<'a>>
-        ensures { IfOk result (λ boxed. boxed ≡ nnf_tree form) }
+        ensures { IfOk result (λ boxed. boxed ≡ nnf_tree form.entry) }
     {
         Ok(NnfBox {
             form: Box::new(alloc, form)?,
@@ -116,7 +116,7 @@ impl<'a> Nnfs<'a> {
 
     /// Adds a form at the end. After want of memory the list is as before.
     pub fn push(&mut self, form: Nnf<'a>) -> Mem<()>
-        ensures ok { IfOk result (λ _. self.new ≡ self.old ++ nnf_tree form ∷ []) }
+        ensures ok { IfOk result (λ _. self.new ≡ self.old ++ nnf_tree form.entry ∷ []) }
         ensures err { OnErr result (self.new ≡ self.old) }
     {
         self.items.push(form)?;

@@ -106,14 +106,14 @@ fn constant<'a>(positive: bool) -> Nnf<'a>
 
 /// The conjunction (`all`) or disjunction of forms.
 fn list<'a>(all: bool, forms: Nnfs<'a>) -> Nnf<'a>
-    ensures { nnf_tree result ≡ list_form all (formulas_of forms) }
+    ensures { nnf_tree result ≡ list_form all (formulas_of forms.entry) }
 {
     if all { Nnf::And(forms) } else { Nnf::Or(forms) }
 }
 
 /// The conjunction (`all`) or disjunction of two forms.
 fn pair<'a>(alloc: Global, all: bool, left: Nnf<'a>, right: Nnf<'a>) -> Mem<Nnf<'a>>
-    ensures { IfOk result (λ form. nnf_tree form ≡ pair_form all (nnf_tree left) (nnf_tree right)) }
+    ensures { IfOk result (λ form. nnf_tree form ≡ pair_form all (nnf_tree left.entry) (nnf_tree right.entry)) }
 {
     let mut forms = Nnfs::new(alloc);
     forms.push(left)?;
@@ -123,7 +123,7 @@ fn pair<'a>(alloc: Global, all: bool, left: Nnf<'a>, right: Nnf<'a>) -> Mem<Nnf<
 
 /// A boxed form under `!` (`all`) or `?`.
 pub fn quantified_form<'a>(all: bool, names: &'a Texts, body: NnfBox<'a>) -> Nnf<'a>
-    ensures { nnf_tree result ≡ quantified (quantifier_form all for_all) names.now body }
+    ensures { nnf_tree result ≡ quantified (quantifier_form all for_all) names.now body.entry }
 {
     if all {
         Nnf::All(names, body)
