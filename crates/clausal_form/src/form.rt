@@ -1,6 +1,6 @@
 // The form of a problem, formula by formula.
 
-ghost use Rattle.std.specs.Prelude.{◌≡◌, ℕ, ◌+◌, ◌++◌, List, [], map, length, codes, IfOk, IfErr, Some, None};
+ghost use Rattle.std.specs.Prelude.{◌≡◌, ℕ, ◌+◌, ◌++◌, false, nat_lt, List, [], map, length, codes, IfOk, IfErr, Some, None};
 ghost use Rattle.tptp_tree.specs.Shape.{formula_of};
 ghost use Rattle.fol_base.specs.Literal.{clause_of};
 ghost use Rattle.signature.specs.Occurrences.{formula_symbols, problem_symbols};
@@ -9,7 +9,10 @@ ghost use Rattle.signature.specs.Form.{AreUnused, nothing_made};
 ghost use Rattle.signature.specs.Clausal.{SymbolNumbers, Made, Worked, annotated_clauses, canonical_literals};
 ghost use Rattle.skolem.specs.Skolemized.{AreKnown};
 ghost use Rattle.clausal_form.specs.Agenda.{placed};
+ghost use Rattle.signature.specs.Environment.{closed, under_for_all};
+ghost use Rattle.formula_nnf.specs.Expanded.{expanded_count};
 ghost use Rattle.clausal_form.specs.Cause.{IsCauseOr};
+ghost use Rattle.clausal_form.specs.declared.fault.TheConstants.{MOST_EXPANDED};
 ghost use Rattle.clausal_form.specs.Fault.{formula_fault, counted_in, form_fault, IsFormFault};
 ghost use Rattle.clausal_form.specs.Formula.{form_by_itself};
 ghost use Rattle.clausal_form.specs.Progress.{HasMade, IsAddition, IsStep, IsRefusal, IsEmpty, IsFormed, counted_numbers, numbers_with};
@@ -17,12 +20,12 @@ ghost use Rattle.clausal_form.specs.Progress.{HasMade, IsAddition, IsStep, IsRef
 use crate::counting::count_skolem_symbols;
 use crate::fault::{FormCause, FormFault, counted_with, expands_too_far, refused};
 use crate::closing::closing_names;
-use crate::formula::{formula_matrix, write_formula};
-use crate::naming::{Names, Naming, named_matrix};
+use crate::formula::{Named, formula_matrix, write_formula};
+use crate::naming::{Names, Naming, Part, named_matrix};
 use crate::writing::Output;
-use plain_types::{Mem, NoMemory, Text};
+use plain_types::{Mem, NoMemory, Text, Texts};
 use signature::Signature;
-use skolem::add_skolem_symbols;
+use skolem::{Skolemized, add_skolem_symbols};
 use std::alloc::Global;
 use std::mem;
 use tptp_tree::{Annotated, Problem};
@@ -55,7 +58,11 @@ pub(crate) fn add_formula(
         → AreKnown n.symbols (formula_symbols (formula_of annotated.now.formula))
         → IsRefusal n annotated.now m form.old.counted fault) }
 {
-    match add_clauses(alloc, annotated, place, form) {
+    if expands_too_far(&annotated.formula) {
+        return Err(refused(alloc, FormCause::Expansion, annotated));
+    }
+    let names = closing_names(alloc, annotated)?;
+    match add_clauses(alloc, annotated, &names, place, form) {
         Err(fault) => Err(fault),
         Ok(arities) => {
             let next = form.next;
@@ -66,14 +73,17 @@ pub(crate) fn add_formula(
     }
 }
 
-/// Adds a formula's clauses, and gives its Skolem symbols by their numbers of arguments. No term is made before the formula is known to pass
-/// no limit: its matrix has only what tells the sizes.
-fn add_clauses(
+/// Adds the clauses of a formula that doesn't expand too far, and gives its Skolem symbols by their numbers of arguments. No term is made
+/// before the formula is known to pass no limit: its matrix has only what tells the sizes.
+fn add_clauses<'a>(
     alloc: Global,
-    annotated: &Annotated,
+    annotated: &'a Annotated,
+    names: &'a Texts,
     place: u64,
     form: &mut FormSoFar,
 ) -> Result<Vec<u32>, FormFault>
+    requires expands { nat_lt MOST_EXPANDED (expanded_count (formula_of annotated.now.formula)) ≡ false }
+    requires closing { under_for_all names.now (formula_of annotated.now.formula) ≡ closed annotated.now }
     requires known { AreKnown form.old.signature (formula_symbols (formula_of annotated.now.formula)) }
     ensures arities { IfOk result (λ arities. arities.items ≡ (form_by_itself form.old.signature annotated.now).made.skolem_arities) }
     ensures signature { form.new.signature ≡ form.old.signature }
@@ -86,24 +96,23 @@ fn add_clauses(
         → AreKnown n.symbols (formula_symbols (formula_of annotated.now.formula))
         → IsRefusal n annotated.now m form.old.counted fault) }
 {
-    if expands_too_far(&annotated.formula) {
-        return Err(refused(alloc, FormCause::Expansion, annotated));
-    }
-    let names = closing_names(alloc, annotated)?;
-    let made = formula_matrix(alloc, annotated, &names, &form.signature)?;
-    let skolem = sum_of(form.next, made.arities.len())?;
+    let Skolemized { matrix, arities } = formula_matrix(alloc, annotated, names, &form.signature)?;
+    let skolem = sum_of(form.next, arities.as_slice().len())?;
     let so_far = mem::replace(&mut form.naming.arities, Vec::new(alloc));
     let mut naming = Naming::new(alloc, form.naming.first, so_far);
-    let part = named_matrix(alloc, made.matrix, &mut naming)?;
-    let measure = part.measure.sum(naming.measure)?;
+    let Part { matrix, measure } = named_matrix(alloc, matrix, &mut naming)?;
+    let measure = measure.sum(naming.measure)?;
     match counted_with(measure, form.counted, skolem) {
         Err(cause) => Err(refused(alloc, cause, annotated)),
         Ok(counted) => {
-            let definitions = naming.definitions.as_slice();
-            write_formula(alloc, place, &part.matrix, definitions, &mut form.output)?;
             form.counted = counted;
             form.naming.arities = naming.arities;
-            Ok(made.arities)
+            let named = Named {
+                matrix,
+                definitions: naming.definitions,
+            };
+            write_formula(alloc, place, &named, &mut form.output)?;
+            Ok(arities)
         }
     }
 }

@@ -38,32 +38,38 @@ pub(crate) fn formula_matrix<'a>(
     skolemize(alloc, &form, signature)
 }
 
+/// A matrix without large products, and the definitions of its names.
+#[derive(Drop)]
+pub(crate) struct Named<'a> {
+    pub matrix: Matrix<'a>,
+    pub definitions: Vec<Definition<'a>>,
+}
+
 /// Writes the clauses of a matrix without large products, and those that define its names.
-pub(crate) fn write_formula<'a>(
+pub(crate) fn write_formula(
     alloc: Global,
     place: u64,
-    matrix: &'a Matrix<'a>,
-    definitions: &'a [Definition<'a>],
+    named: &Named<'_>,
     output: &mut Output,
 ) -> Mem<()>
     ensures clauses { IfOk result (λ _. map clause_of output.new.clauses.items ≡ map clause_of output.old.clauses.items
-        ++ map canonical_literals (written (matrix_tree matrix.now) ++ definitions_clauses definitions.now)) }
+        ++ map canonical_literals (written (matrix_tree named.now.matrix) ++ definitions_clauses named.now.definitions.items)) }
     ensures origins { IfOk result (λ _. output.new.origins.items ≡ output.old.origins.items
-        ++ map (placed place) (written (matrix_tree matrix.now) ++ definitions_clauses definitions.now)) }
+        ++ map (placed place) (written (matrix_tree named.now.matrix) ++ definitions_clauses named.now.definitions.items)) }
 {
     let mut agenda = Agenda {
         literals: Vec::new(alloc),
         matrices: Vec::new(alloc),
     };
-    write_matrix(alloc, place, matrix, &mut agenda, output)?;
-    write_definitions(alloc, place, definitions, output)
+    write_matrix(alloc, place, &named.matrix, &mut agenda, output)?;
+    write_definitions(alloc, place, named.definitions.as_slice(), output)
 }
 
 /// Writes the clauses that define names.
-fn write_definitions<'a>(
+fn write_definitions(
     alloc: Global,
     place: u64,
-    definitions: &'a [Definition<'a>],
+    definitions: &[Definition<'_>],
     output: &mut Output,
 ) -> Mem<()>
     ensures clauses { IfOk result (λ _. map clause_of output.new.clauses.items ≡ map clause_of output.old.clauses.items
@@ -78,10 +84,10 @@ fn write_definitions<'a>(
 }
 
 /// Writes the clauses that define a name.
-fn write_definition<'a>(
+fn write_definition(
     alloc: Global,
     place: u64,
-    definition: &'a Definition<'a>,
+    definition: &Definition<'_>,
     output: &mut Output,
 ) -> Mem<()>
     ensures clauses { IfOk result (λ _. map clause_of output.new.clauses.items ≡ map clause_of output.old.clauses.items

@@ -22,17 +22,17 @@ pub(crate) struct Output {
 
 /// What a clause still has to get: the literals that it has, and the matrices of which it gets a clause each, the next one last.
 #[derive(Drop)]
-pub(crate) struct Agenda<'a> {
-    pub literals: Vec<&'a MatrixLiteral<'a>>,
-    pub matrices: Vec<&'a Matrix<'a>>,
+pub(crate) struct Agenda<'m, 'a> {
+    pub literals: Vec<&'m MatrixLiteral<'a>>,
+    pub matrices: Vec<&'m Matrix<'a>>,
 }
 
 /// Writes, for each clause of the matrices that are left, the literals that are there and the clause's own. The agenda is as before.
 #[cycle(write)]
-fn write_agenda<'a>(
+fn write_agenda<'m, 'a>(
     alloc: Global,
     place: u64,
-    agenda: &mut Agenda<'a>,
+    agenda: &mut Agenda<'m, 'a>,
     output: &mut Output,
 ) -> Mem<()>
     ensures clauses { IfOk result (λ _. map clause_of output.new.clauses.items ≡ map clause_of output.old.clauses.items
@@ -54,11 +54,11 @@ fn write_agenda<'a>(
 
 /// The same, with a clause of the matrix before those of the matrices that are left.
 #[cycle(write)]
-pub(crate) fn write_matrix<'a>(
+pub(crate) fn write_matrix<'m, 'a>(
     alloc: Global,
     place: u64,
-    matrix: &'a Matrix<'a>,
-    agenda: &mut Agenda<'a>,
+    matrix: &'m Matrix<'a>,
+    agenda: &mut Agenda<'m, 'a>,
     output: &mut Output,
 ) -> Mem<()>
     ensures clauses { IfOk result (λ _. map clause_of output.new.clauses.items ≡ map clause_of output.old.clauses.items
@@ -90,11 +90,11 @@ pub(crate) fn write_matrix<'a>(
 
 /// The same for each of several matrices, one after another.
 #[cycle(write)]
-fn write_each<'a>(
+fn write_each<'m, 'a>(
     alloc: Global,
     place: u64,
-    members: &'a [Matrix<'a>],
-    agenda: &mut Agenda<'a>,
+    members: &'m [Matrix<'a>],
+    agenda: &mut Agenda<'m, 'a>,
     output: &mut Output,
 ) -> Mem<()>
     ensures clauses { IfOk result (λ _. map clause_of output.new.clauses.items ≡ map clause_of output.old.clauses.items
@@ -111,7 +111,7 @@ fn write_each<'a>(
 }
 
 /// Puts matrices at the end, the first of them last.
-fn push_members<'a>(members: &'a [Matrix<'a>], matrices: &mut Vec<&'a Matrix<'a>>) -> Mem<()>
+fn push_members<'m, 'a>(members: &'m [Matrix<'a>], matrices: &mut Vec<&'m Matrix<'a>>) -> Mem<()>
     ensures clauses { IfOk result (λ _. agenda_clauses matrices.new.items
         ≡ all_pairs (product_written ([] ∷ []) (matrices_of (map matrix_tree members.now))) (agenda_clauses matrices.old.items)) }
     ensures size { IfOk result (λ _. agenda_size matrices.new.items
