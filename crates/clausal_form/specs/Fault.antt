@@ -1,5 +1,5 @@
 -- The first formula of a problem that passes a limit, and the limit.
-use Rattle.std.specs.Prelude.{◌≡◌, ⊤, ℕ, ◌+◌, ◌^◌, nat_lt, List, [], ◌∷◌, length, Option, None, Some, if◌then◌else◌}
+use Rattle.std.specs.Prelude.{◌≡◌, ⊤, ℕ, ◌+◌, nat_lt, List, [], ◌∷◌, length, Option, None, Some, if◌then◌else◌}
 use Rattle.tptp_tree.specs.Shape.{formula_of}
 use Rattle.tptp_tree.specs.declared.problem.Annotated.{Annotated}
 use Rattle.signature.specs.Clausal.{SymbolNumbers, Made, Worked, Literals, annotated_clauses}

@@ -17,9 +17,9 @@ ghost use Rattle.clausal_form.specs.Fault.{formula_fault, counted_in, form_fault
 ghost use Rattle.clausal_form.specs.Formula.{form_by_itself};
 ghost use Rattle.clausal_form.specs.Progress.{HasMade, IsAddition, IsStep, IsRefusal, IsEmpty, IsFormed, counted_numbers, numbers_with};
 
+use crate::closing::closing_names;
 use crate::counting::count_skolem_symbols;
 use crate::fault::{FormCause, FormFault, counted_with, expands_too_far, refused};
-use crate::closing::closing_names;
 use crate::formula::{Named, formula_matrix, write_formula};
 use crate::naming::{Names, Naming, Part, named_matrix};
 use crate::writing::Output;

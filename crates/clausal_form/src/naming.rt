@@ -95,11 +95,7 @@ pub(crate) fn named_matrix<'a>(
 
 /// Matrices one after another. Those without clauses are left out.
 #[cycle(named_matrix)]
-fn named_list<'a>(
-    alloc: Global,
-    members: Matrices<'a>,
-    naming: &mut Naming<'a>,
-) -> Mem<Part<'a>>
+fn named_list<'a>(alloc: Global, members: Matrices<'a>, naming: &mut Naming<'a>) -> Mem<Part<'a>>
     requires { IsMeasured naming.old.measure (defining_clauses naming.old) }
     ensures work { IfOk result (λ part. IsWork naming.new
         (listed_matrices (naming_numbers naming.old.first) (matrices_of members.entry) (naming_made naming.old))
@@ -138,11 +134,7 @@ fn joined<'a>(alloc: Global, first: Part<'a>, second: Part<'a>) -> Mem<Part<'a>>
 }
 
 /// One matrix after another, in the same list where the first is one.
-fn joined_matrix<'a>(
-    alloc: Global,
-    first: Matrix<'a>,
-    second: Matrix<'a>,
-) -> Mem<Matrix<'a>>
+fn joined_matrix<'a>(alloc: Global, first: Matrix<'a>, second: Matrix<'a>) -> Mem<Matrix<'a>>
     ensures { IfOk result (λ matrix. written (matrix_tree matrix) ≡ written (matrix_tree first.entry) ++ written (matrix_tree second.entry)) }
 {
     let mut members = listed(alloc, first)?;
@@ -214,12 +206,7 @@ fn multiplied<'a>(
 
 /// The product of two parts without a name. The empty clause alone is left out, so that a product of one part is that part; and one
 /// without clauses is `$true`, so that nothing of it is walked again.
-fn written_out<'a>(
-    alloc: Global,
-    made: u32,
-    first: Part<'a>,
-    second: Part<'a>,
-) -> Mem<Part<'a>>
+fn written_out<'a>(alloc: Global, made: u32, first: Part<'a>, second: Part<'a>) -> Mem<Part<'a>>
     requires first { IsMeasured first.measure (written (matrix_tree first.matrix)) }
     requires second { IsMeasured second.measure (written (matrix_tree second.matrix)) }
     ensures clauses { IfOk result (λ part. written (matrix_tree part.matrix)
@@ -299,12 +286,7 @@ fn literal_part<'a>(literal: MatrixLiteral<'a>) -> Part<'a>
 
 /// Names the clauses of a part: the next naming symbol stands for them, applied to those of their variables that were made before the work
 /// on the product began.
-fn named<'a>(
-    alloc: Global,
-    made: u32,
-    part: Part<'a>,
-    naming: &mut Naming<'a>,
-) -> Mem<Part<'a>>
+fn named<'a>(alloc: Global, made: u32, part: Part<'a>, naming: &mut Naming<'a>) -> Mem<Part<'a>>
     requires defining { IsMeasured naming.old.measure (defining_clauses naming.old) }
     requires part { IsMeasured part.measure (written (matrix_tree part.matrix)) }
     ensures work { IfOk result (λ name. IsWork naming.new

@@ -7,7 +7,7 @@ use Rattle.fol_base.proofs.TestLemmas.{list_any-agree}
 use Rattle.fol_base.specs.Canonical.{numbers_from}
 use Rattle.tptp_tree.specs.Term.{TermTrees}
 use Rattle.tptp_tree.specs.Formula.{predicate, formulas_of}
-use Rattle.fol_base.specs.Tree.{Tree, variable, application, true_tree, trees_of, tree_variables, trees_variables}
+use Rattle.fol_base.specs.Tree.{variable, application, tree_variables}
 use Rattle.fol_base.specs.Clause.{TreeLiteral}
 use Rattle.skolem.specs.declared.bound_term.BoundTerm.{BoundTerm}
 use Rattle.skolem.specs.BoundTerm.{bound_tree}

@@ -6,8 +6,8 @@ use Rattle.std.proofs.lemmas.Grind.{flat_map-append}
 use Rattle.tptp_tree.specs.Term.{TermTree, variable as named_variable, application as named_application, TermTrees, no_terms, term_then, terms_of}
 use Rattle.tptp_tree.specs.Shape.{term_of}
 use Rattle.tptp_tree.specs.declared.term.TreeTerm.{TreeTerm}
-use Rattle.fol_base.specs.Tree.{Tree, variable, application, Trees, no_trees, tree_then, trees_of, list_of, tree_size, trees_size, tree_variables, trees_variables}
-use Rattle.fol_base.specs.Clause.{TreeLiteral, literal_size, literal_variables}
+use Rattle.fol_base.specs.Tree.{Tree, application, Trees, no_trees, tree_then, trees_of, list_of, tree_size, trees_size, tree_variables, trees_variables}
+use Rattle.fol_base.specs.Clause.{literal_size, literal_variables}
 use Rattle.signature.specs.declared.symbol.Symbol.{Symbol}
 use Rattle.signature.specs.declared.symbol.SymbolKind.{SymbolKind}
 use Rattle.signature.specs.Symbol.{function_symbol, predicate_symbol, number_of}
@@ -19,7 +19,7 @@ use Rattle.skolem.specs.declared.literal.Atom.TheVariants.{Pred, Equal}
 use Rattle.skolem.specs.declared.literal.BoundLiteral.{BoundLiteral}
 use Rattle.skolem.specs.BoundTerm.{bound_tree}
 use Rattle.skolem.specs.Skolemized.{AreKnown}
-use Rattle.skolem.specs.Literal.{terms_in_force, filled, filled_terms, size_under, sizes_under, atom_symbols, atom_names, atom_size, atom_under, atom_filled, bound_literal, IsBound}
+use Rattle.skolem.specs.Literal.{terms_in_force, filled, filled_terms, size_under, sizes_under, atom_symbols, atom_names, atom_size, atom_under, atom_filled, IsBound}
 use Rattle.skolem.proofs.ListLemmas.{added}
 use Rattle.skolem.proofs.TermLemmas.{head-same}
 

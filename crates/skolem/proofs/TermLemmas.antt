@@ -7,11 +7,10 @@ use Rattle.tptp_tree.specs.Term.{TermTree}
 use Rattle.tptp_tree.specs.declared.term.TreeTerm.{TreeTerm}
 use Rattle.std.proofs.lemmas.Bool.{and_parts}
 use Rattle.signature.specs.declared.symbol.SymbolKind.{SymbolKind}
-use Rattle.fol_base.specs.Tree.{Tree, variable, application, Trees, no_trees, tree_then, trees_of, list_of}
+use Rattle.fol_base.specs.Tree.{Tree, variable, Trees, no_trees, tree_then, trees_of, list_of}
 use Rattle.signature.specs.declared.symbol.Symbol.{Symbol}
-use Rattle.signature.specs.Symbol.{has_symbol, number_of}
+use Rattle.signature.specs.Symbol.{has_symbol}
 use Rattle.signature.specs.Occurrences.{terms_count, term_symbols, terms_symbols}
-use Rattle.signature.specs.Environment.{Environment, term_under, terms_under}
 use Rattle.signature.proofs.OccurrenceLemmas.{drop-item, drop-end, count_length}
 use Rattle.skolem.specs.Skolemized.{IsKnown, AreKnown}
 use Rattle.skolem.proofs.ListLemmas.{added, all-parts}

@@ -31,11 +31,7 @@ pub(crate) struct BoundTerms {
 
 /// Adds what a term's variables are bound to, and its size.
 #[cycle(push_bound)]
-pub(crate) fn push_bound(
-    bindings: &Bindings,
-    term: &TreeTerm,
-    bound: &mut BoundTerms,
-) -> Mem<()>
+pub(crate) fn push_bound(bindings: &Bindings, term: &TreeTerm, bound: &mut BoundTerms) -> Mem<()>
     ensures terms { IfOk result (λ _. map bound_tree bound.new.terms.items
         ≡ map bound_tree bound.old.terms.items ++ terms_in_force (environment_of bindings.now) (term_names (term_of term.now))) }
     ensures size { IfOk result (λ _. bound.new.size

@@ -33,11 +33,7 @@ pub struct Skolemized<'a> {
 
 /// The matrix of a normal form without free variables, over the signature with the form's Skolem symbols, which come after those that are
 /// there. The matrix lends the signature and the form's terms, and makes none; `add_skolem_symbols` adds the symbols when it is done with.
-pub fn skolemize<'a>(
-    alloc: Global,
-    form: &Nnf<'a>,
-    signature: &'a Signature,
-) -> Mem<Skolemized<'a>>
+pub fn skolemize<'a>(alloc: Global, form: &Nnf<'a>, signature: &'a Signature) -> Mem<Skolemized<'a>>
     requires known { AreKnown signature.now (formula_symbols (nnf_tree form.now)) }
     ensures matrix { IfOk result (λ made. matrix_tree made.matrix ≡ (skolemized_form signature.now (nnf_tree form.now)).matrix) }
     ensures arities { IfOk result (λ made. made.arities.items ≡ (skolemized_form signature.now (nnf_tree form.now)).made.skolem_arities) }
