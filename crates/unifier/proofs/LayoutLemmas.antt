@@ -15,7 +15,8 @@ use Rattle.unifier.specs.declared.cells.Cell.TheVariants.{Variable, Application,
 use Rattle.unifier.specs.declared.layout.Place.{Place}
 use Rattle.unifier.specs.declared.layout.Layout.{Layout}
 use Rattle.unifier.specs.Cells.{Value, tree, trees, as_tree, as_trees, cell_at, value_of, is_list, is_variable, IsAfterParts, AreOrdered, HasKinds, AreKinded, IsValuation}
-use Rattle.unifier.specs.Layout.{code_of, of_side, cell_of, all_pass, AreRising, IsLayout, Grows, IsWithVariable, TermLaidOut, TermsLaidOut, IsPushed}
+use Rattle.unifier.specs.SolvedForm.{code_of, of_side}
+use Rattle.unifier.specs.Layout.{cell_of, all_pass, AreRising, IsLayout, Grows, IsWithVariable, TermLaidOut, TermsLaidOut, IsPushed}
 use Rattle.unifier.proofs.PlaceLemmas.{ltb-not, cell_of-front, cell_of-back, not-found, all_pass-push, rising-push}
 
 -- ---- cells

@@ -7,6 +7,7 @@ pub mod ClosingLemmas
 pub mod JoiningLemmas
 pub mod PlacingLemmas
 pub mod ValueLemmas
+pub mod SolutionLemmas
 pub mod CellLemmas
 pub mod OccursLemmas
 pub mod SolveLemmas

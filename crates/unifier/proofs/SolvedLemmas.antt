@@ -13,7 +13,7 @@ use Rattle.unifier.specs.Layout.{cell_of, AreRising, IsLayout}
 use Rattle.unifier.specs.InOrder.{InOrder}
 use Rattle.unifier.specs.Classes.{parent, schema, IsDiscrete, CannotFollow, AreClosed}
 use Rattle.unifier.specs.Placing.{place, IsPlacedAs, IsOrdering}
-use Rattle.unifier.specs.Bindings.{joint_by, CannotMeet, Meets}
+use Rattle.unifier.specs.Solution.{joint_by, CannotMeet, Meets}
 use Rattle.unifier.specs.Solving.{relocated, IsRelocated}
 use Rattle.unifier.proofs.CellLemmas.{refuted-cannot-meet}
 use Rattle.unifier.proofs.OccursLemmas.{Stands, cells_of, schema-kind, stuck-cannot-meet}

@@ -1,4 +1,6 @@
 pub mod Matching
+pub mod SolvedForm
+pub mod SolvedFormCode
 pub mod Walk
 pub mod Cells
 pub mod Layout
@@ -6,6 +8,7 @@ pub mod InOrder
 pub mod Classes
 pub mod Joining
 pub mod Placing
+pub mod Solution
 pub mod Bindings
 pub mod Solving
 pub mod Sizes

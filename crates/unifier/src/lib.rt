@@ -11,6 +11,7 @@ mod matched;
 mod matching;
 mod placing;
 mod sizes;
+mod solution;
 mod solving;
 mod substs;
 mod unifying;

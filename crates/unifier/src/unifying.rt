@@ -8,9 +8,8 @@ ghost use Rattle.unifier.specs.Renaming.{fits, CountsVariables};
 
 use crate::bindings::Bindings;
 use crate::clash::clash;
-use crate::layout::Layout;
-use crate::solving::solve;
-use fol_base::{Side, Term};
+use crate::solving::unify_by_classes;
+use fol_base::Term;
 use plain_types::Mem;
 use std::alloc::Global;
 
@@ -20,10 +19,7 @@ use std::alloc::Global;
 /// not above 2^31, meets the condition of `Bindings::substs`; so does, where the sides aren't taken apart, one
 /// such count above the variables of both terms, whatever the other is.
 ///
-/// Terms with different symbols at one place are told first. Else both are laid out as cells, with one for
-/// each variable; classes of cells that must be equal are closed under their parts (as in unification
-/// closure, Huet 1976); the classes are then put into an order in which parts come first, which fails
-/// exactly where a variable would have to contain itself.
+/// Terms with different symbols at one place are told first.
 pub fn unify(alloc: Global, left: &Term, right: &Term, apart: bool) -> Mem<Option<Bindings>>
     ensures unified { IfOk result (IsUnified apart (tree_of left.now) (tree_of right.now)) }
     ensures others { IfOk result (λ found. IfSome found (LeavesOthers apart (tree_of left.now) (tree_of right.now))) }
@@ -37,8 +33,8 @@ pub fn unify(alloc: Global, left: &Term, right: &Term, apart: bool) -> Mem<Optio
     if clash(left, right) {
         return Ok(None);
     }
-    let mut layout = Layout::new(alloc, apart, left, right)?;
-    let first = layout.lay_term(apart, Side::Left, left)?;
-    let second = layout.lay_term(apart, Side::Right, right)?;
-    solve(alloc, &layout, apart, first, second)
+    match unify_by_classes(alloc, left, right, apart)? {
+        Some(solution) => Ok(Some(Bindings::of_solution(solution))),
+        None => Ok(None),
+    }
 }

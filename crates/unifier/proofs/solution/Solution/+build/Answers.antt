@@ -1,7 +1,7 @@
 use Rattle.std.proofs.Common.{slice_index, refl, ap, sym, ◌∙◌, arith}
 use Rattle.unifier.specs.Cells.{list_parts}
 use Rattle.unifier.proofs.RenameLemmas.{renamed-variable, renamed-application, renamed-nothing, building-starts, building-more, building-done}
-use Rattle.unifier.proofs.bindings.Bindings.+build.Goals as goal
+use Rattle.unifier.proofs.solution.Solution.+build.Goals as goal
 
 pub term_at-renamed_variable-requires : goal.term_at-renamed_variable-requires
 term_at-renamed_variable-requires t c =

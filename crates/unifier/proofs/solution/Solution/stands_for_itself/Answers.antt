@@ -1,7 +1,7 @@
 use Rattle.std.proofs.Common.{ap, sym, ◌∙◌}
 use Rattle.unifier.specs.Layout.{cell_of}
 use Rattle.unifier.proofs.RenameLemmas.{itself-bound, itself-free}
-use Rattle.unifier.proofs.bindings.Bindings.stands_for_itself.Goals as goal
+use Rattle.unifier.proofs.solution.Solution.stands_for_itself.Goals as goal
 
 pub cell-requires : goal.cell-requires
 cell-requires c = (c.args.self.now.in_order.terms c.args.code c.in-Some.cell (sym (c.in-Some.ensures ∙ ap (cell_of c.args.code) c.as_slice.ensures.value))).0

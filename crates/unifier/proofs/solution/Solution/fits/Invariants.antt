@@ -1,7 +1,7 @@
 use Rattle.std.proofs.Common.{◌≡◌, drop}
 use Rattle.unifier.specs.Layout.{all_pass}
 use Rattle.unifier.specs.Renaming.{is_within}
-use Rattle.unifier.proofs.bindings.Bindings.fits.Given as goal
+use Rattle.unifier.proofs.solution.Solution.fits.Given as goal
 
 abbrev pub invariant-loop-place : goal.invariant-loop-place
 invariant-loop-place l =

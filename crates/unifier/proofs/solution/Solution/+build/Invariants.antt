@@ -1,6 +1,6 @@
 use Rattle.std.proofs.Common.{slice_index}
 use Rattle.unifier.proofs.RenameLemmas.{Building}
-use Rattle.unifier.proofs.bindings.Bindings.+build.Given as goal
+use Rattle.unifier.proofs.solution.Solution.+build.Given as goal
 
 abbrev pub decreases-term_at : goal.decreases-term_at
 decreases-term_at l = l.cell

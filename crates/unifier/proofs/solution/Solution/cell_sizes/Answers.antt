@@ -1,7 +1,7 @@
 use Rattle.std.proofs.Common.{◌<◌, List, ℕ, length, ap, ◌∙◌, arith}
 use Rattle.unifier.specs.Sizes.{size_by}
 use Rattle.unifier.proofs.SizeLemmas.{sizes-push, cell-read, after-parts}
-use Rattle.unifier.proofs.bindings.Bindings.cell_sizes.Goals as goal
+use Rattle.unifier.proofs.solution.Solution.cell_sizes.Goals as goal
 
 pub size_from_parts-size-requires : goal.size_from_parts-size-requires
 size_from_parts-size-requires c =
