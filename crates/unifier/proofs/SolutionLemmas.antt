@@ -17,7 +17,7 @@ use Rattle.unifier.specs.Solution.{value_at, bound, joint_by, pair_at, solved_fo
 
 -- ---- what stands for a variable
 
-pairs-term :
+pub pairs-term :
     (cells : List Cell) (ps : List Place) (w : ℕ)
     → unwrap_or (term_for w (map (pair_at cells) ps)) (variable w) ≡ bound cells (cell_of w ps) w
 pairs-term cells [] w = refl

@@ -10,7 +10,11 @@ pub mod Joining
 pub mod Placing
 pub mod Solution
 pub mod Bindings
+pub mod Attempt
 pub mod Solving
+pub mod Equations
+pub mod Agreeing
+pub mod Resolving
 pub mod Sizes
 pub mod Renaming
 pub mod Clashing

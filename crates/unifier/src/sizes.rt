@@ -13,7 +13,7 @@ ghost use Rattle.unifier.specs.Solution.{solved_form};
 ghost use Rattle.unifier.specs.Sizes.{AreSizes, size_by, stopped};
 
 use crate::cells::Cell;
-use crate::layout::{code, find_place};
+use crate::layout::code;
 use crate::solution::Solution;
 use fol_base::{Side, Term};
 use plain_types::Mem;
@@ -81,7 +81,7 @@ impl Solution {
         requires { AreSizes self.now.cells.items sizes.now (length self.now.cells.items) }
         ensures { result ≡ stopped (tree_size (substitution_of (solved_form self.now) side variable)) }
     {
-        match find_place(self.places.as_slice(), code(self.apart, side, variable)) {
+        match self.cell_of(code(self.apart, side, variable)) {
             Some(cell) => size_at(sizes, cell),
             None => 1,
         }

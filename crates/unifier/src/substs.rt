@@ -20,7 +20,7 @@ ghost use Rattle.unifier.specs.Renaming.{
 };
 
 use crate::cells::Cell;
-use crate::layout::{code, find_place};
+use crate::layout::code;
 use crate::solution::Solution;
 use fol_base::{SIZE_LIMIT, Side, Subst, Term, Terms};
 use plain_types::Mem;
@@ -88,7 +88,7 @@ impl Solution {
     fn stands_for_itself(&self, code: u64) -> bool
         ensures { result ≡ tree_eq (joint (solved_form self.now) code) (variable code) }
     {
-        match find_place(self.places.as_slice(), code) {
+        match self.cell_of(code) {
             None => true,
             Some(cell) => self.cell(cell).is_variable_of(code),
         }
@@ -121,7 +121,7 @@ impl Solution {
         requires inside { code < length names.now }
         ensures { IfOk result (λ term. tree_of term ≡ renamed (slice_index names.now) (joint (solved_form self.now) code)) }
     {
-        match find_place(self.places.as_slice(), code) {
+        match self.cell_of(code) {
             Some(cell) => self.term_at(alloc, names, cell),
             None => Ok(renamed_variable(names, code)),
         }

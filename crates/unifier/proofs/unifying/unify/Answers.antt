@@ -1,11 +1,6 @@
-use Rattle.std.proofs.Common.{sym}
 use Rattle.fol_base.specs.Term.{tree_of}
-use Rattle.unifier.proofs.ClashLemmas.{clash-answer}
 use Rattle.unifier.proofs.BoundLemmas.{found-some, found-leaves, found-fits, found-fits-together}
 use Rattle.unifier.proofs.unifying.unify.Goals as goal
-
-pub returns-then-clash-clause-unified : goal.returns-then-clash-clause-unified
-returns-then-clash-clause-unified c = clash-answer c.args.apart (tree_of c.args.left.now) (tree_of c.args.right.now) (sym c.if-clash.ensures)
 
 pub returns-in-Some-clause-others : goal.returns-in-Some-clause-others
 returns-in-Some-clause-others c =
