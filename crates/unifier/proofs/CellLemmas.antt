@@ -12,7 +12,7 @@ use Rattle.unifier.specs.declared.classes.Classes.{Classes}
 use Rattle.unifier.specs.Cells.{Value, tree, trees, as_tree, as_trees, cell_at, value_of, is_list, relate, IsAfterParts, AreOrdered, HasKinds, AreKinded, IsValuation}
 use Rattle.unifier.specs.Layout.{IsLayout}
 use Rattle.unifier.specs.Classes.{IsConstantOn, IsCongruent, IsDiscrete, CannotFollow, PartsAgree}
-use Rattle.unifier.specs.Bindings.{CannotMeet}
+use Rattle.unifier.specs.Solution.{CannotMeet}
 
 -- ---- kinds
 

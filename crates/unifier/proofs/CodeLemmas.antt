@@ -12,7 +12,8 @@ use Rattle.fol_base.specs.Term.{tree_of}
 use Rattle.fol_base.specs.declared.term.Term.{Term}
 use Rattle.fol_base.specs.declared.clause.Side.TheVariants.{Left, Right}
 use Rattle.unifier.specs.declared.layout.Layout.{Layout}
-use Rattle.unifier.specs.Layout.{code_of, codes_of, has_place, HavePlaces, HasVariables, IsWithVariable}
+use Rattle.unifier.specs.SolvedForm.{code_of, codes_of}
+use Rattle.unifier.specs.Layout.{has_place, HavePlaces, HasVariables, IsWithVariable}
 use Rattle.unifier.proofs.PlaceLemmas.{ltb-is, all-have-places}
 
 -- ---- tests of lists

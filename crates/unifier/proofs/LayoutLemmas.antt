@@ -15,12 +15,13 @@ use Rattle.unifier.specs.declared.cells.Cell.TheVariants.{Variable, Application,
 use Rattle.unifier.specs.declared.layout.Place.{Place}
 use Rattle.unifier.specs.declared.layout.Layout.{Layout}
 use Rattle.unifier.specs.Cells.{Value, tree, trees, as_tree, as_trees, cell_at, value_of, is_list, is_variable, IsAfterParts, AreOrdered, HasKinds, AreKinded, IsValuation}
-use Rattle.unifier.specs.Layout.{code_of, of_side, cell_of, all_pass, AreRising, IsLayout, Grows, IsWithVariable, TermLaidOut, TermsLaidOut, IsPushed}
+use Rattle.unifier.specs.SolvedForm.{code_of, of_side}
+use Rattle.unifier.specs.Layout.{cell_of, all_pass, AreRising, IsLayout, Grows, IsWithVariable, TermLaidOut, TermsLaidOut, IsPushed}
 use Rattle.unifier.proofs.PlaceLemmas.{ltb-not, cell_of-front, cell_of-back, not-found, all_pass-push, rising-push}
 
 -- ---- cells
 
-length-push : (cs : List Cell) (c : Cell) → length (cs ++ c ∷ []) ≡ length cs + 1
+pub length-push : (cs : List Cell) (c : Cell) → length (cs ++ c ∷ []) ≡ length cs + 1
 length-push cs c = length-append cs (c ∷ [])
 
 pub cell_at-front : (cs more : List Cell) (i : ℕ) → i < length cs → cell_at (cs ++ more) i ≡ cell_at cs i
@@ -32,7 +33,7 @@ cell_at-last cs c = get_or-append_seam cs c [] (Variable 0)
 split : (i n : ℕ) → i < n + 1 → (i < n) ⊎ (i ≡ n)
 split i n h = ⊎_elim inl (λ ge. inr (omega arith)) (cases_lt i n)
 
-last_or_front : (cs : List Cell) (c : Cell) (i : ℕ) (P : Type 0) → i < length (cs ++ c ∷ []) → (i < length cs → P) → (i ≡ length cs → P) → P
+pub last_or_front : (cs : List Cell) (c : Cell) (i : ℕ) (P : Type 0) → i < length (cs ++ c ∷ []) → (i < length cs → P) → (i ≡ length cs → P) → P
 last_or_front cs c i P h front last = ⊎_elim front last (split i (length cs) (omega (arith, h, length-push cs c)))
 
 -- what holds of the cells and of one more holds of all
@@ -57,7 +58,7 @@ kinds-grow cs more NoTrees i le after h = tt
 kinds-grow cs more (TreeThen a b) i le after h =
     (ap is_list (cell_at-front cs more a (omega (arith, after.0))) ∙ h.0, ap is_list (cell_at-front cs more b (omega (arith, after.1))) ∙ h.1)
 
-kinded-push :
+pub kinded-push :
     (cs : List Cell) (c : Cell)
     → AreOrdered cs → AreKinded cs → IsAfterParts (length cs) c → HasKinds cs c → AreKinded (cs ++ c ∷ [])
 kinded-push cs c ordered kinded after here =

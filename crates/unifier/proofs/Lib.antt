@@ -7,11 +7,16 @@ pub mod ClosingLemmas
 pub mod JoiningLemmas
 pub mod PlacingLemmas
 pub mod ValueLemmas
+pub mod SolutionLemmas
+pub mod EquationLemmas
+pub mod WalkLemmas
+pub mod ResolveLemmas
 pub mod CellLemmas
 pub mod OccursLemmas
 pub mod SolveLemmas
 pub mod SolvedLemmas
 pub mod UnifyLemmas
+pub mod FoundLemmas
 pub mod SizeLemmas
 pub mod RenameLemmas
 pub mod BoundLemmas

@@ -11,7 +11,7 @@ use Rattle.unifier.specs.Cells.{Value, tree, trees, as_tree, as_trees, cell_at, 
 use Rattle.unifier.specs.Layout.{IsLayout}
 use Rattle.unifier.specs.Classes.{parent, schema, AreClasses, IsConstantOn, IsCongruent, IsDiscrete, AreClosed}
 use Rattle.unifier.specs.Placing.{place, Waits, IsOrdering}
-use Rattle.unifier.specs.Bindings.{CannotMeet}
+use Rattle.unifier.specs.Solution.{CannotMeet}
 use Rattle.unifier.proofs.CellLemmas.{kind_of, kind, kind_of-same, kinds-congruent, list-value, tree-value, values-congruent, discrete-constant}
 
 -- ---- classes that contain each other

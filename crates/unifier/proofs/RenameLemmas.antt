@@ -1,6 +1,6 @@
 -- The two sides' substitutions into shared variables.
 use Rattle.std.proofs.Common.{◌≡◌, ◌⊎◌, inl, inr, ℕ, zero, suc, ◌+◌, ◌-◌, ◌*◌, ◌/◌, ◌%◌, ◌<◌, ◌≤◌, max, Bool, true, false, ◌&&◌, ◌==◌, cond, Option, None, Some, List, [], ◌∷◌, ◌++◌, length, map, get_or, slice_index, refl, ap, ap₂, sym, ◌∙◌, subst, ⊎_elim, arith, eq-eqb}
-use Rattle.std.specs.Prelude.{nat_lt}
+use Rattle.std.specs.Prelude.{nat_lt, Result, Ok, Err, IfOk}
 use Rattle.std.proofs.lemmas.Bool.{cases_lt, cond-true, cond-false, cases_Bool}
 use Rattle.std.proofs.lemmas.List.{length-append, map-append, append_assoc, append-nil}
 use Rattle.std.proofs.Math.ListN.{get_or-append}
@@ -13,13 +13,15 @@ use Rattle.unifier.specs.declared.cells.Cell.{Cell}
 use Rattle.unifier.specs.declared.cells.Cell.TheVariants.{Variable, Application, NoTrees, TreeThen}
 use Rattle.fol_base.specs.declared.clause.Side.{Side}
 use Rattle.fol_base.specs.declared.clause.Side.TheVariants.{Left, Right}
-use Rattle.unifier.specs.declared.bindings.Bindings.{Bindings}
+use Rattle.unifier.specs.declared.solution.Solution.{Solution}
 use Rattle.unifier.specs.Cells.{Value, as_tree, as_trees, cell_at, value_of, is_list, is_variable_of, list_parts, IsAfterParts, AreOrdered}
 use Rattle.unifier.specs.InOrder.{InOrder}
-use Rattle.unifier.specs.Layout.{cell_of, code_of}
-use Rattle.unifier.specs.Bindings.{value_at, bound, joint, substitution_of}
-use Rattle.unifier.specs.Renaming.{renamed, renamed_trees, side_terms, AreRenamed, code_count, is_within, fits, is_shared, rank, AreNames, HasNames}
+use Rattle.unifier.specs.SolvedForm.{code_of, joint, substitution_of}
+use Rattle.unifier.specs.Layout.{cell_of, all_pass}
+use Rattle.unifier.specs.Solution.{value_at, bound, solved_form}
+use Rattle.unifier.specs.Renaming.{renamed, renamed_trees, side_terms, AreRenamed, code_count, is_within, is_shared, rank, AreNames, HasNames}
 use Rattle.unifier.proofs.ValueLemmas.{value_at-valuation}
+use Rattle.unifier.proofs.SolutionLemmas.{joint-is, joint-found, joint-free}
 use Rattle.plain_types.proofs.Parity.{halves, even-half, odd-half}
 use Rattle.unifier.proofs.PlaceLemmas.{found-passes, ltb-is, ltb-less}
 
@@ -39,18 +41,18 @@ variable-of f w NoTrees = refl
 variable-of f w (TreeThen a b) = refl
 
 pub itself-bound :
-    (b : Bindings) (w k : ℕ) (q : Cell)
+    (b : Solution) (w k : ℕ) (q : Cell)
     → InOrder b.cells.items b.places.items → cell_of w b.places.items ≡ Some k → q ≡ cell_at b.cells.items k
-    → is_variable_of w q ≡ tree_eq (joint b w) (variable w)
+    → is_variable_of w q ≡ tree_eq (joint (solved_form b) w) (variable w)
 itself-bound b w k q order found is =
     let cells : List Cell = b.cells.items in
     ap (is_variable_of w) is
     ∙ variable-of (own cells) w (cell_at cells k)
     ∙ ap (λ v. tree_eq (as_tree v) (variable w)) (sym (value_at-valuation variable cells order.ordered k (order.terms w k found).0))
-    ∙ ap (λ o. tree_eq (bound cells o w) (variable w)) (sym found)
+    ∙ ap (λ t. tree_eq t (variable w)) (sym (joint-found b w k found))
 
-pub itself-free : (b : Bindings) (w : ℕ) → cell_of w b.places.items ≡ None → true ≡ tree_eq (joint b w) (variable w)
-itself-free b w none = sym (ap (λ o. tree_eq (bound b.cells.items o w) (variable w)) none ∙ tree_eq-refl (variable w))
+pub itself-free : (b : Solution) (w : ℕ) → cell_of w b.places.items ≡ None → true ≡ tree_eq (joint (solved_form b) w) (variable w)
+itself-free b w none = sym (ap (λ t. tree_eq t (variable w)) (joint-free b w none) ∙ tree_eq-refl (variable w))
 
 -- ---- ranks
 
@@ -133,8 +135,8 @@ names-push test names new next given later n passes h g e is l =
     at_most false = omega arith
 
 pub names-done :
-    (b : Bindings) (l r : ℕ) (names : List ℕ) (next n count : ℕ)
-    → SoFar (is_shared b l r) names next n → n ≡ count → count ≡ code_count b.apart l r → AreNames b l r names
+    (b : Solution) (l r : ℕ) (names : List ℕ) (next n count : ℕ)
+    → SoFar (is_shared (solved_form b) l r) names next n → n ≡ count → count ≡ code_count b.apart l r → AreNames (solved_form b) l r names
 names-done b l r names next n count h all is = record { many = h.many ∙ all ∙ is; each = λ w less. h.each w (omega (arith, h.many)) }
 
 -- ---- the terms of cells
@@ -238,12 +240,20 @@ building-done cells names items terms at list ordered inside h parts is =
 -- ---- what stands for a variable
 
 pub renamed-bound :
-    (b : Bindings) (names : ℕ → ℕ) (w k : ℕ) (t : Tree)
-    → cell_of w b.places.items ≡ Some k → t ≡ renamed names (as_tree (own b.cells.items k)) → t ≡ renamed names (joint b w)
-renamed-bound b names w k t found is = is ∙ ap (λ o. renamed names (bound b.cells.items o w)) (sym found)
+    (b : Solution) (names : ℕ → ℕ) (w k : ℕ) (t : Tree)
+    → cell_of w b.places.items ≡ Some k → t ≡ renamed names (as_tree (own b.cells.items k)) → t ≡ renamed names (joint (solved_form b) w)
+renamed-bound b names w k t found is = is ∙ ap (renamed names) (sym (joint-found b w k found))
 
-pub renamed-free : (b : Bindings) (names : ℕ → ℕ) (w : ℕ) (t : Tree) → cell_of w b.places.items ≡ None → t ≡ variable (names w) → t ≡ renamed names (joint b w)
-renamed-free b names w t none is = is ∙ ap (λ o. renamed names (bound b.cells.items o w)) (sym none)
+-- as the code has it
+pub renamed-answer :
+    {E : Type 0} (r : Result Term E) (b : Solution) (names : ℕ → ℕ) (w k : ℕ)
+    → cell_of w b.places.items ≡ Some k → IfOk r (λ t. tree_of t ≡ renamed names (as_tree (own b.cells.items k)))
+    → IfOk r (λ t. tree_of t ≡ renamed names (joint (solved_form b) w))
+renamed-answer (Err e) b names w k found is = tt
+renamed-answer (Ok t) b names w k found is = renamed-bound b names w k (tree_of t) found is
+
+pub renamed-free : (b : Solution) (names : ℕ → ℕ) (w : ℕ) (t : Tree) → cell_of w b.places.items ≡ None → t ≡ variable (names w) → t ≡ renamed names (joint (solved_form b) w)
+renamed-free b names w t none is = is ∙ ap (renamed names) (sym (joint-free b w none))
 
 -- ---- numbers that are used
 
@@ -291,53 +301,53 @@ within-inside apart l r w h =
 
 -- so is a variable that has a cell
 bound-within :
-    (b : Bindings) (l r w k : ℕ) → fits b l r ≡ true → cell_of w b.places.items ≡ Some k
+    (b : Solution) (l r w k : ℕ) → all_pass (is_within b.apart l r) b.places.items ≡ true → cell_of w b.places.items ≡ Some k
     → (is_within b.apart l r w ≡ true) × (w < code_count b.apart l r)
 bound-within b l r w k h found =
     let within : is_within b.apart l r w ≡ true = found-passes (is_within b.apart l r) w k b.places.items h found in
     (within, within-inside b.apart l r w within)
 
 pub has-names :
-    (b : Bindings) (l r : ℕ) (names : List ℕ) → fits b l r ≡ true → AreNames b l r names → HasNames b names
+    (b : Solution) (l r : ℕ) (names : List ℕ) → all_pass (is_within b.apart l r) b.places.items ≡ true → AreNames (solved_form b) l r names → HasNames b names
 has-names b l r names h are w k found = omega (arith, (bound-within b l r w k h found).1, are.many)
 
 -- ---- the renaming can be undone
 
-pub record Naming (b : Bindings) (l : ℕ) (r : ℕ) (names : List ℕ) : Type 0 where
+pub record Naming (b : Solution) (l : ℕ) (r : ℕ) (names : List ℕ) : Type 0 where
   pub order : InOrder b.cells.items b.places.items
-  pub counts : fits b l r ≡ true
-  pub are : AreNames b l r names
+  pub counts : all_pass (is_within b.apart l r) b.places.items ≡ true
+  pub are : AreNames (solved_form b) l r names
 
-abbrev count_of : Bindings → ℕ → ℕ → ℕ
-count_of b l r = rank (is_shared b l r) (code_count b.apart l r)
+abbrev count_of : Solution → ℕ → ℕ → ℕ
+count_of b l r = rank (is_shared (solved_form b) l r) (code_count b.apart l r)
 
-back_by : (b : Bindings) (l r k : ℕ) → (k < count_of b l r) ⊎ (count_of b l r ≤ k) → ℕ
-back_by b l r k (inl less) = (rank-of (is_shared b l r) (code_count b.apart l r) k less).0
+back_by : (b : Solution) (l r k : ℕ) → (k < count_of b l r) ⊎ (count_of b l r ≤ k) → ℕ
+back_by b l r k (inl less) = (rank-of (is_shared (solved_form b) l r) (code_count b.apart l r) k less).0
 back_by b l r k (inr ge) = 0
 
-back_of : Bindings → ℕ → ℕ → ℕ → ℕ
+back_of : Solution → ℕ → ℕ → ℕ → ℕ
 back_of b l r k = back_by b l r k (cases_lt k (count_of b l r))
 
 back_by-is :
-    (b : Bindings) (l r k m : ℕ) (o : (k < count_of b l r) ⊎ (count_of b l r ≤ k))
-    → m < code_count b.apart l r → is_shared b l r m ≡ true → rank (is_shared b l r) m ≡ k → back_by b l r k o ≡ m
+    (b : Solution) (l r k m : ℕ) (o : (k < count_of b l r) ⊎ (count_of b l r ≤ k))
+    → m < code_count b.apart l r → is_shared (solved_form b) l r m ≡ true → rank (is_shared (solved_form b) l r) m ≡ k → back_by b l r k o ≡ m
 unfolding back_by
 back_by-is b l r k m (inl less) inside shared e =
-    let there = rank-of (is_shared b l r) (code_count b.apart l r) k less in
-    rank-same (is_shared b l r) there.0 m there.2 shared (there.3 ∙ sym e)
+    let there = rank-of (is_shared (solved_form b) l r) (code_count b.apart l r) k less in
+    rank-same (is_shared (solved_form b) l r) there.0 m there.2 shared (there.3 ∙ sym e)
 back_by-is b l r k m (inr ge) inside shared e =
-    absurd (omega (arith, rank-below (is_shared b l r) m (code_count b.apart l r) inside shared))
+    absurd (omega (arith, rank-below (is_shared (solved_form b) l r) m (code_count b.apart l r) inside shared))
 
 -- a shared variable's name is below the count, and leads back
 shared-name :
-    (b : Bindings) (l r : ℕ) (names : List ℕ) (w : ℕ)
-    → Naming b l r names → w < code_count b.apart l r → is_shared b l r w ≡ true
+    (b : Solution) (l r : ℕ) (names : List ℕ) (w : ℕ)
+    → Naming b l r names → w < code_count b.apart l r → is_shared (solved_form b) l r w ≡ true
     → (back_of b l r (slice_index names w) ≡ w) × (slice_index names w < count_of b l r)
 unfolding back_of
 shared-name b l r names w h inside shared =
-    let e : slice_index names w ≡ rank (is_shared b l r) w = h.are.each w (omega (arith, h.are.many)) in (
+    let e : slice_index names w ≡ rank (is_shared (solved_form b) l r) w = h.are.each w (omega (arith, h.are.many)) in (
       back_by-is b l r (slice_index names w) w (cases_lt (slice_index names w) (count_of b l r)) inside shared (sym e),
-      omega (arith, e, rank-below (is_shared b l r) w (code_count b.apart l r) inside shared),
+      omega (arith, e, rank-below (is_shared (solved_form b) l r) w (code_count b.apart l r) inside shared),
     )
 
 and-true : (a b : Bool) → a ≡ true → b ≡ true → (a && b) ≡ true
@@ -345,20 +355,20 @@ and-true true b h k = k
 and-true false b h k = cc
 
 cell-shared :
-    (b : Bindings) (l r : ℕ) (names : List ℕ) (k w : ℕ)
+    (b : Solution) (l r : ℕ) (names : List ℕ) (k w : ℕ)
     → Naming b l r names → k < length b.cells.items → Variable w ≡ cell_at b.cells.items k
-    → (is_shared b l r w ≡ true) × (w < code_count b.apart l r)
+    → (is_shared (solved_form b) l r w ≡ true) × (w < code_count b.apart l r)
 cell-shared b l r names k w h inside is =
     let found : cell_of w b.places.items ≡ Some k = h.order.own k w inside (sym is) in
     let within = bound-within b l r w k h.counts found in
-    let itself : joint b w ≡ variable w =
-    ap (λ o. bound b.cells.items o w) found ∙ ap as_tree (own-is b.cells.items k (Variable w) h.order.ordered inside is) in (
-      and-true (is_within b.apart l r w) (tree_eq (joint b w) (variable w)) within.0 (ap (λ t. tree_eq t (variable w)) itself ∙ tree_eq-refl (variable w)),
+    let itself : joint (solved_form b) w ≡ variable w =
+    joint-found b w k found ∙ ap as_tree (own-is b.cells.items k (Variable w) h.order.ordered inside is) in (
+      and-true (is_within b.apart l r w) (tree_eq (joint (solved_form b) w) (variable w)) within.0 (ap (λ t. tree_eq t (variable w)) itself ∙ tree_eq-refl (variable w)),
       within.1,
     )
 
 -- what is renamed leads back, and has its variables below the count
-abbrev Undone : Bindings → ℕ → ℕ → List ℕ → Value → Type 0
+abbrev Undone : Solution → ℕ → ℕ → List ℕ → Value → Type 0
 Undone b l r names v =
     (renamed (back_of b l r) (renamed (slice_index names) (as_tree v)) ≡ as_tree v)
     × (renamed_trees (back_of b l r) (renamed_trees (slice_index names) (as_trees v)) ≡ as_trees v)
@@ -366,7 +376,7 @@ Undone b l r names v =
     × AllVariablesBelow (count_of b l r) (renamed_trees (slice_index names) (as_trees v))
 
 undone-by :
-    (b : Bindings) (l r : ℕ) (names : List ℕ) (k : ℕ) (q : Cell)
+    (b : Solution) (l r : ℕ) (names : List ℕ) (k : ℕ) (q : Cell)
     → Naming b l r names → k < length b.cells.items → q ≡ cell_at b.cells.items k → IsAfterParts k q
     → ((j : ℕ) → j < k → Undone b l r names (own b.cells.items j)) → Undone b l r names (value_of variable (own b.cells.items) q)
 undone-by b l r names k (Variable w) h inside is after parts =
@@ -383,7 +393,7 @@ undone-by b l r names k (TreeThen a d) h inside is after parts =
     (refl, ap₂ tree_then first.0 rest.1, tt, (first.2, rest.3))
 
 undone :
-    (b : Bindings) (l r : ℕ) (names : List ℕ) (limit k : ℕ)
+    (b : Solution) (l r : ℕ) (names : List ℕ) (limit k : ℕ)
     → Naming b l r names → k < limit → k < length b.cells.items → Undone b l r names (own b.cells.items k)
 undone b l r names zero k h less inside = absurd (omega arith)
 undone b l r names (suc limit) k h less inside =
@@ -394,13 +404,13 @@ undone b l r names (suc limit) k h less inside =
     (λ j before. undone b l r names limit j h (omega arith) (omega arith)))
 
 undone-joint :
-    (b : Bindings) (l r : ℕ) (names : List ℕ) (w : ℕ) (o : Option ℕ)
+    (b : Solution) (l r : ℕ) (names : List ℕ) (w : ℕ) (o : Option ℕ)
     → Naming b l r names → cell_of w b.places.items ≡ o → is_within b.apart l r w ≡ true → w < code_count b.apart l r
     → (renamed (back_of b l r) (renamed (slice_index names) (bound b.cells.items o w)) ≡ bound b.cells.items o w)
     × VariablesBelow (count_of b l r) (renamed (slice_index names) (bound b.cells.items o w))
 undone-joint b l r names w None h e within inside =
-    let shared : is_shared b l r w ≡ true =
-    and-true (is_within b.apart l r w) (tree_eq (joint b w) (variable w)) within (sym (itself-free b w e)) in
+    let shared : is_shared (solved_form b) l r w ≡ true =
+    and-true (is_within b.apart l r w) (tree_eq (joint (solved_form b) w) (variable w)) within (sym (itself-free b w e)) in
     let name = shared-name b l r names w h inside shared in
     (ap variable name.0, name.1)
 undone-joint b l r names w (Some k) h e within inside =
@@ -408,43 +418,46 @@ undone-joint b l r names w (Some k) h e within inside =
     (all.0, all.2)
 
 undone-side :
-    (b : Bindings) (l r : ℕ) (names : List ℕ) (side : Side) (v : ℕ)
+    (b : Solution) (l r : ℕ) (names : List ℕ) (side : Side) (v : ℕ)
     → Naming b l r names → v < side_count l r side
-    → (renamed (back_of b l r) (renamed (slice_index names) (substitution_of b side v)) ≡ substitution_of b side v)
-    × VariablesBelow (count_of b l r) (renamed (slice_index names) (substitution_of b side v))
+    → (renamed (back_of b l r) (renamed (slice_index names) (substitution_of (solved_form b) side v)) ≡ substitution_of (solved_form b) side v)
+    × VariablesBelow (count_of b l r) (renamed (slice_index names) (substitution_of (solved_form b) side v))
 undone-side b l r names side v h less =
-    undone-joint b l r names (code_of b.apart side v) (cell_of (code_of b.apart side v) b.places.items) h refl
-    (code-within b.apart l r side v less) (code-inside b.apart l r side v less)
+    let w : ℕ = code_of b.apart side v in
+    let P : Tree → Type 0 =
+    λ t. (renamed (back_of b l r) (renamed (slice_index names) t) ≡ t) × VariablesBelow (count_of b l r) (renamed (slice_index names) t) in
+    subst P (sym (joint-is b w))
+    (undone-joint b l r names w (cell_of w b.places.items) h refl (code-within b.apart l r side v less) (code-inside b.apart l r side v less))
 
 no-gaps :
-    (b : Bindings) (l r : ℕ) (names : List ℕ) (k : ℕ)
+    (b : Solution) (l r : ℕ) (names : List ℕ) (k : ℕ)
     → Naming b l r names → k < count_of b l r
-    → (side : Side) × (v : ℕ) × (v < side_count l r side) × (renamed (slice_index names) (substitution_of b side v) ≡ variable k)
+    → (side : Side) × (v : ℕ) × (v < side_count l r side) × (renamed (slice_index names) (substitution_of (solved_form b) side v) ≡ variable k)
 no-gaps b l r names k h less =
-    let there = rank-of (is_shared b l r) (code_count b.apart l r) k less in
+    let there = rank-of (is_shared (solved_form b) l r) (code_count b.apart l r) k less in
     let m : ℕ = there.0 in
-    let within : is_within b.apart l r m ≡ true = and_left (is_within b.apart l r m) (tree_eq (joint b m) (variable m)) there.2 in
-    let itself : joint b m ≡ variable m = tree_eq-true (joint b m) (variable m) (and_right (is_within b.apart l r m) (tree_eq (joint b m) (variable m)) there.2) in
+    let within : is_within b.apart l r m ≡ true = and_left (is_within b.apart l r m) (tree_eq (joint (solved_form b) m) (variable m)) there.2 in
+    let itself : joint (solved_form b) m ≡ variable m = tree_eq-true (joint (solved_form b) m) (variable m) (and_right (is_within b.apart l r m) (tree_eq (joint (solved_form b) m) (variable m)) there.2) in
     let at = within-side b.apart l r m within in
     let name : slice_index names m ≡ k = h.are.each m (omega (arith, h.are.many, there.1)) ∙ there.3 in (
       at.0,
       at.1,
       at.2,
-      ap (λ u. renamed (slice_index names) (joint b u)) at.3 ∙ ap (renamed (slice_index names)) itself ∙ ap variable name,
+      ap (λ u. renamed (slice_index names) (joint (solved_form b) u)) at.3 ∙ ap (renamed (slice_index names)) itself ∙ ap variable name,
     )
 
 by-side :
-    (b : Bindings) (l r : ℕ) (names : ℕ → ℕ) (k : ℕ)
-    → (side : Side) → (v : ℕ) → v < side_count l r side → renamed names (substitution_of b side v) ≡ variable k
-    → ((v : ℕ) × (v < l) × (renamed names (substitution_of b Left v) ≡ variable k))
-    ⊎ ((v : ℕ) × (v < r) × (renamed names (substitution_of b Right v) ≡ variable k))
+    (b : Solution) (l r : ℕ) (names : ℕ → ℕ) (k : ℕ)
+    → (side : Side) → (v : ℕ) → v < side_count l r side → renamed names (substitution_of (solved_form b) side v) ≡ variable k
+    → ((v : ℕ) × (v < l) × (renamed names (substitution_of (solved_form b) Left v) ≡ variable k))
+    ⊎ ((v : ℕ) × (v < r) × (renamed names (substitution_of (solved_form b) Right v) ≡ variable k))
 by-side b l r names k Left v less e = inl (v, less, e)
 by-side b l r names k Right v less e = inr (v, less, e)
 
 pub are-renamed :
-    (b : Bindings) (l r : ℕ) (names : List ℕ) (left right : List Tree)
-    → InOrder b.cells.items b.places.items → fits b l r ≡ true → AreNames b l r names
-    → left ≡ side_terms b (slice_index names) Left l → right ≡ side_terms b (slice_index names) Right r → AreRenamed b l r left right
+    (b : Solution) (l r : ℕ) (names : List ℕ) (left right : List Tree)
+    → InOrder b.cells.items b.places.items → all_pass (is_within b.apart l r) b.places.items ≡ true → AreNames (solved_form b) l r names
+    → left ≡ side_terms (solved_form b) (slice_index names) Left l → right ≡ side_terms (solved_form b) (slice_index names) Right r → AreRenamed (solved_form b) l r left right
 are-renamed b l r names left right order h are left_is right_is =
     let h : Naming b l r names = record { order = order; counts = h; are = are } in
     record {

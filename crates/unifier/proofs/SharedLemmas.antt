@@ -12,7 +12,7 @@ use Rattle.fol_base.specs.Ground.{literals_instance}
 use Rattle.fol_base.specs.Kind.{is_function_term, are_function_terms, PutsFunctionTerms}
 use Rattle.fol_base.specs.declared.clause.Side.TheVariants.{Left, Right}
 use Rattle.fol_base.proofs.InstanceLemmas.{instances_of_instances, instances_agree_below}
-use Rattle.unifier.specs.Bindings.{substitution_of}
+use Rattle.unifier.specs.SolvedForm.{substitution_of}
 use Rattle.unifier.specs.Renaming.{renamed, renamed_trees}
 use Rattle.unifier.specs.SharedLaws.{HasSizesOf, SharedUnifyApart, SharedUnify, SharedUnifyOne, SharedKeepSizes, SharedPutFunctionTerms}
 use Rattle.unifier.proofs.MatchLemmas.{listed-at}

@@ -19,13 +19,15 @@ use Rattle.term_bank.specs.Literal.{literals_at, literal_at}
 use Rattle.unifier.specs.declared.cells.Cell.{Cell}
 use Rattle.unifier.specs.declared.cells.Cell.TheVariants.{Variable, Application, NoTrees, TreeThen}
 use Rattle.unifier.specs.declared.layout.Place.{Place}
-use Rattle.unifier.specs.declared.bindings.Bindings.{Bindings}
+use Rattle.unifier.specs.declared.solution.Solution.{Solution}
 use Rattle.unifier.specs.Cells.{Value, tree, trees, as_tree, as_trees, cell_at, value_of, IsAfterParts, AreOrdered, HasKinds, AreKinded, IsValuation}
 use Rattle.unifier.specs.InOrder.{InOrder}
 use Rattle.unifier.specs.Layout.{cell_of}
-use Rattle.unifier.specs.Bindings.{value_at, bound, joint}
+use Rattle.unifier.specs.SolvedForm.{joint}
+use Rattle.unifier.specs.Solution.{value_at, solved_form}
 use Rattle.unifier.specs.Sizes.{value_size, stopped, AreSizes, size_by}
 use Rattle.unifier.proofs.ValueLemmas.{value_at-valuation}
+use Rattle.unifier.proofs.SolutionLemmas.{joint-found, joint-free}
 use Rattle.unifier.proofs.CellLemmas.{list-value, tree-value}
 
 -- ---- sizes that stop
@@ -93,9 +95,9 @@ sizes-push cells places sizes new n size order h inside is e =
 
 -- a variable that has a cell
 pub size-bound :
-    (b : Bindings) (sizes : List ℕ) (w k size : ℕ)
+    (b : Solution) (sizes : List ℕ) (w k size : ℕ)
     → InOrder b.cells.items b.places.items → AreSizes b.cells.items sizes (length b.cells.items)
-    → cell_of w b.places.items ≡ Some k → size ≡ get_or sizes k 0 → size ≡ stopped (tree_size (joint b w))
+    → cell_of w b.places.items ≡ Some k → size ≡ get_or sizes k 0 → size ≡ stopped (tree_size (joint (solved_form b) w))
 size-bound b sizes w k size order h found is =
     let cells : List Cell = b.cells.items in
     let there = order.terms w k found in
@@ -103,10 +105,10 @@ size-bound b sizes w k size order h found is =
     tree-value variable cells (own cells) k (value_at-valuation variable cells order.ordered) there.0 there.1 in
     is ∙ h.each k there.0
     ∙ ap (λ v. stopped (value_size v)) one
-    ∙ ap (λ o. stopped (tree_size (bound cells o w))) (sym found)
+    ∙ ap (λ t. stopped (tree_size t)) (sym (joint-found b w k found))
 
-pub size-free : (b : Bindings) (w : ℕ) → cell_of w b.places.items ≡ None → 1 ≡ stopped (tree_size (joint b w))
-size-free b w none = ap (λ o. stopped (tree_size (bound b.cells.items o w))) (sym none)
+pub size-free : (b : Solution) (w : ℕ) → cell_of w b.places.items ≡ None → 1 ≡ stopped (tree_size (joint (solved_form b) w))
+size-free b w none = ap (λ t. stopped (tree_size t)) (sym (joint-free b w none))
 
 -- the sizes of one more term
 pub size-more :

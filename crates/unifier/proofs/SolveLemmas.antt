@@ -16,7 +16,7 @@ use Rattle.unifier.specs.Cells.{Value, tree, trees, as_tree, as_trees, cell_at, 
 use Rattle.unifier.specs.Layout.{cell_of, IsLayout}
 use Rattle.unifier.specs.Classes.{parent, schema, AreClasses, IsConstantOn, ArePartsJoined}
 use Rattle.unifier.specs.Placing.{place, IsPlacedAs, IsPlacing, IsPlaced}
-use Rattle.unifier.specs.Bindings.{value_at, bound, joint_by, Meets}
+use Rattle.unifier.specs.Solution.{value_at, bound, joint_by, Meets}
 use Rattle.unifier.specs.Solving.{relocated, IsRelocated}
 use Rattle.unifier.proofs.ValueLemmas.{value_at-valuation, instance_value, valuation-instance, tree-instance}
 use Rattle.unifier.proofs.CellLemmas.{made-tree}

@@ -13,7 +13,7 @@ use Rattle.unifier.specs.Layout.{cell_of, AreRising, IsLayout}
 use Rattle.unifier.specs.InOrder.{InOrder}
 use Rattle.unifier.specs.Classes.{parent, schema, IsDiscrete, CannotFollow, AreClosed}
 use Rattle.unifier.specs.Placing.{place, IsPlacedAs, IsOrdering}
-use Rattle.unifier.specs.Bindings.{joint_by, CannotMeet, Meets}
+use Rattle.unifier.specs.Solution.{joint_by, CannotMeet, Meets}
 use Rattle.unifier.specs.Solving.{relocated, IsRelocated}
 use Rattle.unifier.proofs.CellLemmas.{refuted-cannot-meet}
 use Rattle.unifier.proofs.OccursLemmas.{Stands, cells_of, schema-kind, stuck-cannot-meet}
@@ -104,7 +104,7 @@ solved-in-order layout first second start c p ps h solved =
           let s_is : cell_at cells s ≡ Variable w = placed-variable c p (cell_at cells s) (cell_at p.cells.items k) w there.as_schema is in
           bound-place layout c p ps w s solved (h.is_layout.placed s w s_in s_is)
           ∙ ap Some (spot-is c p s k (ap (place p) (h.closed.settled.own from.0 from.1 ∙ there.smallest) ∙ from.2));
-      rising = subst AreRising (sym solved.places) (relocated-rising c p layout.places.items h.is_layout.rising);
+      findable = λ many. subst AreRising (sym solved.places) (relocated-rising c p layout.places.items h.is_layout.rising);
     }
 
 -- ---- as the code has them: the cells are borrowed as a slice

@@ -6,13 +6,16 @@ use Rattle.fol_base.specs.Instance.{Substitution, instance, instances}
 use Rattle.fol_base.specs.Unifier.{IsUnifier, IsUnifierApart, IsMostGeneralUnifier, IsMostGeneralUnifierApart}
 use Rattle.fol_base.specs.declared.clause.Side.TheVariants.{Left, Right}
 use Rattle.unifier.specs.declared.layout.Layout.{Layout}
-use Rattle.unifier.specs.declared.bindings.Bindings.{Bindings}
+use Rattle.unifier.specs.declared.solution.Solution.{Solution}
 use Rattle.unifier.specs.Cells.{Value, tree, AreOrdered, IsValuation}
-use Rattle.unifier.specs.Layout.{of_side, TermLaidOut}
-use Rattle.unifier.specs.Bindings.{value_at, joint, IsUnified, CannotMeet, Meets, IsMeeting}
+use Rattle.unifier.specs.SolvedForm.{SolvedForm, codes_of, of_side, joint}
+use Rattle.unifier.specs.Layout.{all_pass, HasVariables, TermLaidOut}
+use Rattle.unifier.specs.Solution.{value_at, joint_by, solved_form, CannotMeet, Meets, IsMeeting}
+use Rattle.unifier.specs.Bindings.{IsUnified, IsFound}
 use Rattle.plain_types.proofs.Parity.{even-half, odd-half}
 use Rattle.unifier.proofs.ValueLemmas.{value_at-valuation}
 use Rattle.unifier.proofs.LayoutLemmas.{denotes-kept}
+use Rattle.unifier.proofs.SolutionLemmas.{joint-is, variables-pass, meets-same}
 
 -- ---- a substitution of both sides
 
@@ -65,17 +68,17 @@ meet-together layout first second s t σ both e =
     both.left σ (value_at σ layout.cells.items) valuation ∙ ap tree e ∙ sym (both.right σ (value_at σ layout.cells.items) valuation)
 
 unify-apart :
-    (layout : Layout) (first second : ℕ) (s t : Tree) (b : Bindings)
-    → AreBoth layout true first second s t → Meets layout.cells.items first second (joint b)
-    → IsMostGeneralUnifierApart s t (of_side true Left (joint b)) (of_side true Right (joint b))
-unify-apart layout first second s t b both m = record {
+    (layout : Layout) (first second : ℕ) (s t : Tree) (σ : Substitution)
+    → AreBoth layout true first second s t → Meets layout.cells.items first second σ
+    → IsMostGeneralUnifierApart s t (of_side true Left σ) (of_side true Right σ)
+unify-apart layout first second s t σ both m = record {
   unifies =
-      let e : tree (instance (of_side true Left (joint b)) s) ≡ tree (instance (of_side true Right (joint b)) t) =
-      sym (both.left (joint b) m.val m.valuation) ∙ m.same ∙ both.right (joint b) m.val m.valuation in
+      let e : tree (instance (of_side true Left σ) s) ≡ tree (instance (of_side true Right σ) t) =
+      sym (both.left σ m.val m.valuation) ∙ m.same ∙ both.right σ m.val m.valuation in
       cc;
   is_general = λ ρ π e.
       let θ : Substitution = joint_of ρ π in
-      let all : (w : ℕ) → θ w ≡ instance θ (joint b w) =
+      let all : (w : ℕ) → θ w ≡ instance θ (σ w) =
       m.general θ (value_at θ layout.cells.items) (value_at-valuation θ layout.cells.items both.ordered) (meet-apart layout first second s t ρ π both e) in (
         θ,
         (λ v. sym (joint_of-left ρ π v) ∙ all (2 * v)),
@@ -84,13 +87,12 @@ unify-apart layout first second s t b both m = record {
 }
 
 unify-together :
-    (layout : Layout) (first second : ℕ) (s t : Tree) (b : Bindings)
-    → AreBoth layout false first second s t → Meets layout.cells.items first second (joint b)
-    → IsMostGeneralUnifier s t (of_side false Left (joint b))
-unify-together layout first second s t b both m = record {
+    (layout : Layout) (first second : ℕ) (s t : Tree) (σ : Substitution)
+    → AreBoth layout false first second s t → Meets layout.cells.items first second σ
+    → IsMostGeneralUnifier s t (of_side false Left σ)
+unify-together layout first second s t σ both m = record {
   unifies =
-      let e : tree (instance (joint b) s) ≡ tree (instance (joint b) t) =
-      sym (both.left (joint b) m.val m.valuation) ∙ m.same ∙ both.right (joint b) m.val m.valuation in
+      let e : tree (instance σ s) ≡ tree (instance σ t) = sym (both.left σ m.val m.valuation) ∙ m.same ∙ both.right σ m.val m.valuation in
       cc;
   is_general = λ ρ e. (
     ρ,
@@ -98,36 +100,65 @@ unify-together layout first second s t b both m = record {
   );
 }
 
-unified :
-    (layout : Layout) (apart : Bool) (first second : ℕ) (s t : Tree) (found : Option Bindings)
-    → AreBoth layout apart first second s t
-    → MatchOption found (CannotMeet layout.cells.items first second) (IsMeeting layout apart first second)
-    → IsUnified apart s t found
-unified layout true first second s t None both h = λ σ τ e.
+cannot-unify :
+    (layout : Layout) (apart : Bool) (first second : ℕ) (s t : Tree)
+    → AreBoth layout apart first second s t → CannotMeet layout.cells.items first second → IsUnified apart s t None
+cannot-unify layout true first second s t both h = λ σ τ e.
     h (joint_of σ τ) (value_at (joint_of σ τ) layout.cells.items) (value_at-valuation (joint_of σ τ) layout.cells.items both.ordered)
     (meet-apart layout first second s t σ τ both e)
-unified layout true first second s t (Some b) both h =
-    let P : Bool → Type 0 = λ a. IsMostGeneralUnifierApart s t (of_side a Left (joint b)) (of_side a Right (joint b)) in
-    subst P (sym h.0) (unify-apart layout first second s t b both h.1)
-unified layout false first second s t None both h = λ σ e.
+cannot-unify layout false first second s t both h = λ σ e.
     h σ (value_at σ layout.cells.items) (value_at-valuation σ layout.cells.items both.ordered) (meet-together layout first second s t σ both e)
-unified layout false first second s t (Some b) both h =
+
+-- a solved form whose sides are apart or not as was asked
+pub unified-by :
+    (apart : Bool) (s t : Tree) (b : SolvedForm) → b.apart ≡ apart
+    → (apart ≡ true → IsMostGeneralUnifierApart s t (of_side true Left (joint b)) (of_side true Right (joint b)))
+    → (apart ≡ false → IsMostGeneralUnifier s t (of_side false Left (joint b))) → IsUnified apart s t (Some b)
+unified-by true s t b is parted together =
+    let P : Bool → Type 0 = λ a. IsMostGeneralUnifierApart s t (of_side a Left (joint b)) (of_side a Right (joint b)) in
+    subst P (sym is) (parted refl)
+unified-by false s t b is parted together =
     let P : Bool → Type 0 =
     λ a. IsMostGeneralUnifier s t (of_side a Left (joint b)) × ((v : ℕ) → of_side a Right (joint b) v ≡ of_side a Left (joint b) v) in
-    subst P (sym h.0) (unify-together layout first second s t b both h.1, λ v. refl)
+    subst P (sym is) (together refl, λ v. refl)
+
+unified :
+    (layout : Layout) (apart : Bool) (first second : ℕ) (s t : Tree) (b : Solution)
+    → AreBoth layout apart first second s t → IsMeeting layout apart first second b → IsUnified apart s t (Some (solved_form b))
+unified layout apart first second s t b both h =
+    let meets : Meets layout.cells.items first second (joint (solved_form b)) =
+    meets-same layout.cells.items first second (joint_by b.cells.items b.places.items) (joint (solved_form b)) (λ w. sym (joint-is b w)) h.1 in
+    let P : Bool → Type 0 = λ a. AreBoth layout a first second s t in
+    unified-by apart s t (solved_form b) h.0
+    (λ is. unify-apart layout first second s t (joint (solved_form b)) (subst P is both) meets)
+    (λ is. unify-together layout first second s t (joint (solved_form b)) (subst P is both) meets)
 
 -- as the code has it
-pub unified-answer :
-    {E : Type 0} (r : Result (Option Bindings) E) (start mid layout : Layout) (apart : Bool) (first second : ℕ) (s t : Tree)
-    → TermLaidOut start mid apart Left s first → TermLaidOut mid layout apart Right t second
+pub found-answer :
+    {E : Type 0} (r : Result (Option Solution) E) (start mid layout : Layout) (apart : Bool) (first second : ℕ) (s t : Tree)
+    → HasVariables (codes_of apart s t) start → TermLaidOut start mid apart Left s first → TermLaidOut mid layout apart Right t second
     → IfOk r (λ found. MatchOption found (CannotMeet layout.cells.items first second) (IsMeeting layout apart first second))
-    → IfOk r (IsUnified apart s t)
-unified-answer (Err e) start mid layout apart first second s t one other h = tt
-unified-answer (Ok found) start mid layout apart first second s t one other h =
-    unified layout apart first second s t found
-    (record {
+    → IfOk r (λ found. MatchOption found (IsUnified apart s t None) (λ b. IsFound apart s t (solved_form b)))
+found-answer (Err e) start mid layout apart first second s t laid one other h = tt
+found-answer (Ok found) start mid layout apart first second s t laid one other h = by found h
+  where
+    both : AreBoth layout apart first second s t
+    both = record {
       ordered = other.layout.ordered;
       left = λ θ val valuation. denotes-kept start mid layout apart s first Left θ val one other.grows valuation;
       right = other.denotes;
-    })
-    h
+    }
+
+    by :
+        (o : Option Solution) → MatchOption o (CannotMeet layout.cells.items first second) (IsMeeting layout apart first second)
+        → MatchOption o (IsUnified apart s t None) (λ b. IsFound apart s t (solved_form b))
+    by None met = cannot-unify layout apart first second s t both met
+    by (Some b) met = record {
+      sides = met.0;
+      unified = unified layout apart first second s t b both met;
+      variables = λ test.
+          variables-pass test b.cells.items b.places.items
+          ∙ met.2 test
+          ∙ ap (all_pass test) (other.places ∙ one.places)
+          ∙ laid.exactly test;
+    }

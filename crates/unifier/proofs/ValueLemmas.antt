@@ -8,7 +8,7 @@ use Rattle.fol_base.specs.Instance.{Substitution, instance, instances}
 use Rattle.unifier.specs.declared.cells.Cell.{Cell}
 use Rattle.unifier.specs.declared.cells.Cell.TheVariants.{Variable, Application, NoTrees, TreeThen}
 use Rattle.unifier.specs.Cells.{Value, tree, trees, as_tree, as_trees, cell_at, value_of, IsAfterParts, AreOrdered, IsValuation}
-use Rattle.unifier.specs.Bindings.{value_in, values_after, value_at}
+use Rattle.unifier.specs.Solution.{value_in, values_after, value_at}
 
 -- ---- the values of cells, one after another
 

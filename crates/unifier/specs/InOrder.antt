@@ -8,13 +8,13 @@ use Rattle.unifier.specs.Cells.{cell_at, is_list, IsAfterParts, AreOrdered, HasK
 use Rattle.unifier.specs.Layout.{cell_of, AreRising}
 
 -- cells in an order in which parts come first, each of its kind; the places are cells of terms, and a variable's cell is its place;
--- the places are in the order of the variables' numbers
+-- the places are few, or in the order of the variables' numbers
 pub record InOrder (cells : List Cell) (places : List Place) : Type 0 where
   pub ordered : AreOrdered cells
   pub kinded : AreKinded cells
   pub terms : (w k : ℕ) → cell_of w places ≡ Some k → (k < length cells) × (is_list (cell_at cells k) ≡ false)
   pub own : (k w : ℕ) → k < length cells → cell_at cells k ≡ Variable w → cell_of w places ≡ Some k
-  pub rising : AreRising places
+  pub findable : 16 < length places → AreRising places
 
 -- such facts have at most one proof
 

@@ -1,26 +1,15 @@
 -- The cells of two terms, with one cell for each variable.
-use Rattle.std.specs.Prelude.{◌≡◌, ℕ, ◌+◌, ◌*◌, ◌<◌, Bool, true, false, ◌&&◌, ◌==◌, List, [], ◌∷◌, ◌++◌, Option, None, Some, is_some, length, map, slice_index_or, if◌then◌else◌, All}
+use Rattle.std.specs.Prelude.{◌≡◌, ℕ, ◌<◌, Bool, true, false, ◌&&◌, ◌==◌, List, [], ◌∷◌, ◌++◌, Option, None, Some, is_some, length, slice_index_or, if◌then◌else◌, All}
 use Rattle.std.specs.List.{list_all}
-use Rattle.fol_base.specs.Tree.{Tree, Trees, tree_variables}
+use Rattle.fol_base.specs.Tree.{Tree, Trees}
 use Rattle.fol_base.specs.Instance.{Substitution, instance, instances}
 use Rattle.fol_base.specs.declared.clause.Side.{Side}
-use Rattle.fol_base.specs.declared.clause.Side.TheVariants.{Left, Right}
 use Rattle.unifier.specs.declared.cells.Cell.{Cell}
 use Rattle.unifier.specs.declared.cells.Cell.TheVariants.{Variable, NoTrees}
 use Rattle.unifier.specs.declared.layout.Place.{Place}
 use Rattle.unifier.specs.declared.layout.Layout.{Layout}
+use Rattle.unifier.specs.SolvedForm.{code_of, of_side}
 use Rattle.unifier.specs.Cells.{Value, tree, trees, cell_at, is_list, AreOrdered, AreKinded, IsValuation}
-
--- the number of a side's variable among the variables of both: where the sides are taken apart, the left ones get the
--- even numbers and the right ones the odd ones
-abbrev pub code_of : Bool → Side → ℕ → ℕ
-code_of true Left v = 2 * v
-code_of true Right v = 2 * v + 1
-code_of false side v = v
-
--- a side's part of a substitution of both
-abbrev pub of_side : Bool → Side → Substitution → Substitution
-of_side apart side θ v = θ (code_of apart side v)
 
 -- the cell of a variable
 abbrev pub cell_of : ℕ → List Place → Option ℕ
@@ -55,10 +44,6 @@ pub record IsLayout (layout : Layout) : Type 0 where
       → (i < length layout.cells.items) × (cell_at layout.cells.items i ≡ Variable w)
   pub known : All (λ (p : Place). p.cell < length layout.cells.items) layout.places.items
   pub rising : AreRising layout.places.items
-
--- the numbers of the variables of two terms, with repetitions
-abbrev pub codes_of : Bool → Tree → Tree → List ℕ
-codes_of apart s t = map (code_of apart Left) (tree_variables s) ++ map (code_of apart Right) (tree_variables t)
 
 -- the variables that have places are those of a list: what all of one pass, all of the other pass
 pub record HasVariables (codes : List ℕ) (layout : Layout) : Type 0 where

@@ -1,4 +1,6 @@
 pub mod Matching
+pub mod SolvedForm
+pub mod SolvedFormCode
 pub mod Walk
 pub mod Cells
 pub mod Layout
@@ -6,8 +8,13 @@ pub mod InOrder
 pub mod Classes
 pub mod Joining
 pub mod Placing
+pub mod Solution
 pub mod Bindings
+pub mod Attempt
 pub mod Solving
+pub mod Equations
+pub mod Agreeing
+pub mod Resolving
 pub mod Sizes
 pub mod Renaming
 pub mod Clashing

@@ -6,9 +6,10 @@ use Rattle.fol_base.specs.Instance.{instance, instances}
 use Rattle.fol_base.specs.Canonical.{terms_from}
 use Rattle.fol_base.specs.declared.clause.Side.{Side}
 use Rattle.fol_base.specs.declared.clause.Side.TheVariants.{Left, Right}
-use Rattle.unifier.specs.declared.bindings.Bindings.{Bindings}
-use Rattle.unifier.specs.Layout.{cell_of, code_of, codes_of, all_pass}
-use Rattle.unifier.specs.Bindings.{joint, substitution_of}
+use Rattle.unifier.specs.declared.solution.Solution.{Solution}
+use Rattle.unifier.specs.SolvedForm.{SolvedForm, code_of, codes_of, joint, substitution_of}
+use Rattle.unifier.specs.Matching.{variables_of}
+use Rattle.unifier.specs.Layout.{cell_of}
 
 -- the variable of that number is below its side's count; where the sides aren't apart, it is a variable of both, and below
 -- one of the counts
@@ -16,12 +17,12 @@ abbrev pub is_within : Bool → ℕ → ℕ → ℕ → Bool
 is_within true left_count right_count w = if w % 2 == 0 then nat_lt (w / 2) left_count else nat_lt (w / 2) right_count
 is_within false left_count right_count w = nat_lt w (max left_count right_count)
 
--- all variables of the two terms are: each has a place, also where it stands for itself
-abbrev pub fits : Bindings → ℕ → ℕ → Bool
-fits b left_count right_count = all_pass (is_within b.apart left_count right_count) b.places.items
+-- all variables of the two terms are: each has a pair, also where it stands for itself
+abbrev pub fits : SolvedForm → ℕ → ℕ → Bool
+fits b left_count right_count = list_all (is_within b.apart left_count right_count) (variables_of b.pairs)
 
 -- the sides were taken apart or not, and the counts fit exactly where each variable of the two terms is below its side's
-pub record CountsVariables (apart : Bool) (s : Tree) (t : Tree) (b : Bindings) : Type 0 where
+pub record CountsVariables (apart : Bool) (s : Tree) (t : Tree) (b : SolvedForm) : Type 0 where
   pub sides : b.apart ≡ apart
   pub counts :
       (left_count right_count : ℕ)
@@ -30,14 +31,14 @@ pub record CountsVariables (apart : Bool) (s : Tree) (t : Tree) (b : Bindings) :
 -- so each variable that isn't below its side's count stands for itself, by its number among the variables of both sides
 abbrev pub FitLeavesOthersApart : Type 0
 FitLeavesOthersApart =
-    (b : Bindings) (left_count right_count : ℕ) → b.apart ≡ true → fits b left_count right_count ≡ true
+    (b : SolvedForm) (left_count right_count : ℕ) → b.apart ≡ true → fits b left_count right_count ≡ true
     → ((v : ℕ) → left_count ≤ v → substitution_of b Left v ≡ variable (code_of true Left v))
     × ((v : ℕ) → right_count ≤ v → substitution_of b Right v ≡ variable (code_of true Right v))
 
 -- and, not apart, each that is below neither count
 abbrev pub FitLeavesOthers : Type 0
 FitLeavesOthers =
-    (b : Bindings) (left_count right_count : ℕ) → b.apart ≡ false → fits b left_count right_count ≡ true
+    (b : SolvedForm) (left_count right_count : ℕ) → b.apart ≡ false → fits b left_count right_count ≡ true
     → (v : ℕ) → max left_count right_count ≤ v
     → (substitution_of b Left v ≡ variable v) × (substitution_of b Right v ≡ variable v)
 
@@ -46,12 +47,12 @@ abbrev pub renamed : (ℕ → ℕ) → Tree → Tree
 renamed names = instance (λ w. variable (names w))
 
 -- the terms for the first variables of a side, with the shared variables renamed
-abbrev pub side_terms : Bindings → (ℕ → ℕ) → Side → ℕ → List Tree
+abbrev pub side_terms : SolvedForm → (ℕ → ℕ) → Side → ℕ → List Tree
 side_terms b names side count = terms_from 0 count (λ v. renamed names (substitution_of b side v))
 
 -- two substitutions of a unifier's sides: the shared variables are renamed to the numbers from 0 on, each of which some
 -- variable of a side stands for, and the renaming can be undone
-pub record AreRenamed (b : Bindings) (left_count : ℕ) (right_count : ℕ) (left : List Tree) (right : List Tree) : Type 0 where
+pub record AreRenamed (b : SolvedForm) (left_count : ℕ) (right_count : ℕ) (left : List Tree) (right : List Tree) : Type 0 where
   pub names : ℕ → ℕ
   pub back : ℕ → ℕ
   pub count : ℕ
@@ -74,7 +75,7 @@ code_count true left_count right_count = 2 * max left_count right_count
 code_count false left_count right_count = max left_count right_count
 
 -- a variable below its count that stands for itself is shared
-abbrev pub is_shared : Bindings → ℕ → ℕ → ℕ → Bool
+abbrev pub is_shared : SolvedForm → ℕ → ℕ → ℕ → Bool
 is_shared b left_count right_count w = is_within b.apart left_count right_count w && tree_eq (joint b w) (variable w)
 
 -- how many numbers below n pass the test
@@ -83,12 +84,12 @@ rank test zero = 0
 rank test (suc n) = rank test n + (if test n then 1 else 0)
 
 -- the new names
-pub record AreNames (b : Bindings) (left_count : ℕ) (right_count : ℕ) (names : List ℕ) : Type 0 where
+pub record AreNames (b : SolvedForm) (left_count : ℕ) (right_count : ℕ) (names : List ℕ) : Type 0 where
   pub many : length names ≡ code_count b.apart left_count right_count
   pub each : (w : ℕ) → w < length names → slice_index names w ≡ rank (is_shared b left_count right_count) w
 
 -- each variable that has a cell of its own has a name
-abbrev pub HasNames : Bindings → List ℕ → Type 0
+abbrev pub HasNames : Solution → List ℕ → Type 0
 HasNames b names = (w k : ℕ) → cell_of w b.places.items ≡ Some k → w < length names
 
 abbrev pub renamed_trees : (ℕ → ℕ) → Trees → Trees

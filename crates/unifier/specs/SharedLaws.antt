@@ -8,8 +8,8 @@ use Rattle.fol_base.specs.Ground.{literals_instance}
 use Rattle.fol_base.specs.Kind.{PutsFunctionTerms}
 use Rattle.fol_base.specs.Unifier.{IsUnifier, IsUnifierApart}
 use Rattle.fol_base.specs.declared.clause.Side.TheVariants.{Left, Right}
-use Rattle.unifier.specs.declared.bindings.Bindings.{Bindings}
-use Rattle.unifier.specs.Bindings.{substitution_of, IsUnified}
+use Rattle.unifier.specs.SolvedForm.{SolvedForm, substitution_of}
+use Rattle.unifier.specs.Bindings.{IsUnified}
 use Rattle.unifier.specs.Renaming.{AreRenamed}
 use Rattle.unifier.specs.Laws.{are_of_one_kind}
 
@@ -22,7 +22,7 @@ pub record IsAfterBoth (left : List Tree) (right : List Tree) (another : Substit
 -- were asked for
 abbrev pub SharedUnifyApart : Type 0
 SharedUnifyApart =
-    (s t : Tree) (b : Bindings) (left_count right_count : ℕ) (left right : List Tree)
+    (s t : Tree) (b : SolvedForm) (left_count right_count : ℕ) (left right : List Tree)
     → IsUnified true s t (Some b) → VariablesBelow left_count s → VariablesBelow right_count t
     → AreRenamed b left_count right_count left right
     → IsUnifierApart s t (substitution left) (substitution right)
@@ -32,7 +32,7 @@ SharedUnifyApart =
 -- not apart, likewise, and a variable that both lists have becomes the same in both
 abbrev pub SharedUnify : Type 0
 SharedUnify =
-    (s t : Tree) (b : Bindings) (left_count right_count : ℕ) (left right : List Tree)
+    (s t : Tree) (b : SolvedForm) (left_count right_count : ℕ) (left right : List Tree)
     → IsUnified false s t (Some b) → VariablesBelow left_count s → VariablesBelow right_count t
     → AreRenamed b left_count right_count left right
     → (instance (substitution left) s ≡ instance (substitution right) t)
@@ -44,7 +44,7 @@ SharedUnify =
 -- substitution that does is another after it, on the variables that were asked for
 abbrev pub SharedUnifyOne : Type 0
 SharedUnifyOne =
-    (s t : Tree) (b : Bindings) (left_count right_count : ℕ) (left right : List Tree)
+    (s t : Tree) (b : SolvedForm) (left_count right_count : ℕ) (left right : List Tree)
     → IsUnified false s t (Some b) → VariablesBelow left_count s → VariablesBelow left_count t
     → AreRenamed b left_count right_count left right
     → IsUnifier s t (substitution left)
@@ -59,14 +59,14 @@ HasSizesOf terms count σ =
 
 abbrev pub SharedKeepSizes : Type 0
 SharedKeepSizes =
-    (b : Bindings) (left_count right_count : ℕ) (left right : List Tree)
+    (b : SolvedForm) (left_count right_count : ℕ) (left right : List Tree)
     → AreRenamed b left_count right_count left right
     → HasSizesOf left left_count (substitution_of b Left) × HasSizesOf right right_count (substitution_of b Right)
 
 -- where the two terms are of one kind, they put in function terms alone
 abbrev pub SharedPutFunctionTerms : Type 0
 SharedPutFunctionTerms =
-    (is_predicate : ℕ → Bool) (apart : Bool) (s t : Tree) (b : Bindings) (left_count right_count : ℕ) (left right : List Tree)
+    (is_predicate : ℕ → Bool) (apart : Bool) (s t : Tree) (b : SolvedForm) (left_count right_count : ℕ) (left right : List Tree)
     → IsTrue (are_of_one_kind is_predicate s t) → IsUnified apart s t (Some b)
     → AreRenamed b left_count right_count left right
     → PutsFunctionTerms is_predicate (substitution left) × PutsFunctionTerms is_predicate (substitution right)

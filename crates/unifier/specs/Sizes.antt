@@ -4,7 +4,7 @@ use Rattle.fol_base.specs.Tree.{variable, tree_size, trees_size}
 use Rattle.unifier.specs.declared.cells.Cell.{Cell}
 use Rattle.unifier.specs.declared.cells.Cell.TheVariants.{Variable, Application, NoTrees, TreeThen}
 use Rattle.unifier.specs.Cells.{Value, tree, trees}
-use Rattle.unifier.specs.Bindings.{value_at}
+use Rattle.unifier.specs.Solution.{value_at}
 
 -- the occurrences of symbols and variables
 abbrev pub value_size : Value → ℕ

@@ -1,16 +1,79 @@
 // What a unification finds.
 
-ghost use Rattle.unifier.specs.InOrder.{InOrder, in-order-prop};
+ghost use Rattle.std.specs.Prelude.{◌≡◌, ◌≤◌, true, sum_by, IfOk};
+ghost use Rattle.fol_base.specs.Clause.{literal_size};
+ghost use Rattle.fol_base.specs.Ground.{literals_instance};
+ghost use Rattle.term_bank.specs.Literal.{AreLiteralsOf, literals_at};
+ghost use Rattle.unifier.specs.SolvedForm.{substitution_of};
+ghost use Rattle.unifier.specs.Renaming.{AreRenamed, fits};
+ghost use Rattle.unifier.specs.Sizes.{stopped};
 
-use crate::cells::Cell;
-use crate::layout::Place;
+use crate::solution::Solution;
+use fol_base::{SIZE_LIMIT, Side, Subst};
+use plain_types::Mem;
+use std::marker::Model;
+use term_bank::{Bank, BankLit};
 
-/// A most general unifier. It shares the common parts of its terms, so it has at most as many cells as were laid
-/// out for them.
+/// A most general unifier. Contracts see it as a solved form: whether the sides were taken apart, and the
+/// variables of the two terms with the trees that they become.
 #[derive(Drop)]
 pub struct Bindings {
-    pub(crate) apart: bool,
-    pub(crate) cells: Vec<Cell>,
-    pub(crate) places: Vec<Place>,
-    ghost in_order: { InOrder cells.items places.items } by { in-order-prop cells.items places.items },
+    solution: Solution,
+}
+
+impl Model for Bindings {
+    ghost use Rattle.unifier.specs.SolvedForm.{SolvedForm};
+    ghost use Rattle.unifier.specs.SolvedFormCode.{solved_form_code};
+
+    ghost Value = { SolvedForm };
+
+    ghost coded = { solved_form_code };
+
+    ghost use Rattle.unifier.specs.Solution.{solved_form};
+
+    ghost view = { λ b. solved_form b.solution };
+}
+
+impl Bindings {
+    ghost use Rattle.unifier.specs.Solution.{solved_form};
+
+    /// What was solved.
+    pub(crate) fn of_solution(solution: Solution) -> Bindings
+        ensures { result ≡ solved_form solution }
+    {
+        Bindings { solution }
+    }
+
+    /// The two substitutions into shared variables, for the first `left_vars` variables of the left side
+    /// and the first `right_vars` of the right one. The shared variables have the numbers from 0 on,
+    /// without gaps. The condition is that neither count is above 2^31, and that each variable of the two terms
+    /// has a number below its side's count, or below one of both counts where the sides aren't taken apart;
+    /// `unify` says which counts meet that, and `fits` tells it too.
+    pub fn substs(&self, left_vars: u32, right_vars: u32) -> Mem<(Subst, Subst)>
+        requires fits { fits self.now left_vars right_vars ≡ true }
+        requires left_room { left_vars ≤ SIZE_LIMIT }
+        requires right_room { right_vars ≤ SIZE_LIMIT }
+        ensures { IfOk result (λ made. AreRenamed self.now left_vars right_vars made.0 made.1) }
+    {
+        self.solution.substs(left_vars, right_vars)
+    }
+
+    /// Whether each variable of the two terms has a number below its side's count, also where it stands for
+    /// itself; below one of both counts where the sides aren't taken apart, since a variable is one of both
+    /// sides then.
+    pub fn fits(&self, left_vars: u32, right_vars: u32) -> bool
+        ensures { result ≡ fits self.now left_vars right_vars }
+    {
+        self.solution.fits(left_vars, right_vars)
+    }
+
+    /// The size of a side's literals after the unifier: the occurrences of symbols and variables in both
+    /// sides of each, stopping at u64's last value. The instance isn't built.
+    pub fn instance_size(&self, bank: &Bank, side: Side, literals: &[BankLit]) -> Mem<u64>
+        requires { AreLiteralsOf bank.now literals.now }
+        ensures { IfOk result (λ size. size
+            ≡ stopped (sum_by literal_size (literals_instance (substitution_of self.now side) (literals_at literals.now)))) }
+    {
+        self.solution.instance_size(bank, side, literals)
+    }
 }

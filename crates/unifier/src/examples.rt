@@ -4,15 +4,14 @@ ghost use Rattle.std.specs.Prelude.{◌≡◌, ◌+◌, ◌-◌, ◌/◌, ◌^�
 ghost use Rattle.fol_base.specs.Clause.{literal_instance, literal_size};
 ghost use Rattle.fol_base.specs.declared.clause.Side.TheVariants.{Left, Right};
 ghost use Rattle.fol_base.specs.Examples.{x, a, b, f₂, p, equation, is_predicate, all_a};
-ghost use Rattle.unifier.specs.Layout.{code_of};
-ghost use Rattle.unifier.specs.Bindings.{IsUnified, LeavesOthers, occurs, substitution_of};
-ghost use Rattle.unifier.specs.declared.bindings.Bindings.{Bindings};
+ghost use Rattle.unifier.specs.SolvedForm.{code_of, substitution_of};
+ghost use Rattle.unifier.specs.Bindings.{IsUnified, LeavesOthers, occurs};
 ghost use Rattle.unifier.specs.Matching.{IsMatched, NoMatcher, are_below, with_further};
 ghost use Rattle.unifier.specs.Renaming.{AreRenamed, fits, is_within, renamed};
 ghost use Rattle.unifier.specs.Sizes.{stopped};
 ghost use Rattle.unifier.specs.Laws.{AreFunctionPairs, are_of_one_kind};
 ghost use Rattle.unifier.specs.SharedLaws.{IsAfterBoth};
-ghost use Rattle.unifier.specs.Examples.{AreExampleBindings};
+ghost use Rattle.unifier.specs.Examples.{example};
 
 /// Variables of two sides, and what is below their counts.
 pub fn variable_examples()
@@ -51,13 +50,13 @@ pub fn size_examples()
 
 /// The answer of a unification of `f(X0,b)` and `f(a,X0)` apart, and its two substitutions.
 pub fn bindings_examples()
-    ensures left { (found : Bindings) → AreExampleBindings found → substitution_of found Left 0 ≡ a }
-    ensures right { (found : Bindings) → AreExampleBindings found → substitution_of found Right 0 ≡ b }
-    ensures unified { (found : Bindings) → AreExampleBindings found → IsUnified true (f₂ (x 0) b) (f₂ a (x 0)) (Some found) }
-    ensures others { (found : Bindings) → AreExampleBindings found → LeavesOthers true (f₂ (x 0) b) (f₂ a (x 0)) found }
-    ensures counts { (found : Bindings) → AreExampleBindings found → fits found 1 1 ≡ true }
-    ensures no_count { (found : Bindings) → AreExampleBindings found → fits found 0 1 ≡ false }
-    ensures lists { (found : Bindings) → AreExampleBindings found → AreRenamed found 1 1 (a ∷ []) (b ∷ []) }
+    ensures left { substitution_of example Left 0 ≡ a }
+    ensures right { substitution_of example Right 0 ≡ b }
+    ensures unified { IsUnified true (f₂ (x 0) b) (f₂ a (x 0)) (Some example) }
+    ensures others { LeavesOthers true (f₂ (x 0) b) (f₂ a (x 0)) example }
+    ensures counts { fits example 1 1 ≡ true }
+    ensures no_count { fits example 0 1 ≡ false }
+    ensures lists { AreRenamed example 1 1 (a ∷ []) (b ∷ []) }
 {}
 
 /// Pairs without a unifier, and substitutions after two lists; pairs of function terms.

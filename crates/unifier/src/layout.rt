@@ -5,7 +5,8 @@ ghost use Rattle.std.specs.List.{list_any};
 ghost use Rattle.std.specs.List.Sorted.{IsNonDecreasing};
 ghost use Rattle.fol_base.specs.Tree.{tree_variables, trees_variables, trees_of};
 ghost use Rattle.fol_base.specs.Term.{tree_of};
-ghost use Rattle.unifier.specs.Layout.{AreRising, HavePlaces, all_pass, cell_of, code_of, has_place};
+ghost use Rattle.unifier.specs.SolvedForm.{code_of};
+ghost use Rattle.unifier.specs.Layout.{AreRising, HavePlaces, all_pass, cell_of, has_place};
 
 use crate::cells::Cell;
 use fol_base::{Side, Term};
@@ -38,15 +39,8 @@ pub struct Place {
 
 impl Layout {
     ghost use Rattle.unifier.specs.Cells.{HasKinds, IsAfterParts, cell_at, is_list, is_variable};
-    ghost use Rattle.unifier.specs.Layout.{
-      codes_of,
-      HasVariables,
-      IsLayout,
-      IsPushed,
-      IsWithVariable,
-      TermLaidOut,
-      TermsLaidOut,
-    };
+    ghost use Rattle.unifier.specs.SolvedForm.{codes_of};
+    ghost use Rattle.unifier.specs.Layout.{HasVariables, IsLayout, IsPushed, IsWithVariable, TermLaidOut, TermsLaidOut};
 
     /// The empty list, and a cell for each variable of two terms.
     pub fn new(alloc: Global, apart: bool, left: &Term, right: &Term) -> Mem<Layout>

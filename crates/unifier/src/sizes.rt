@@ -8,23 +8,23 @@ ghost use Rattle.fol_base.specs.Ground.{literals_instance};
 ghost use Rattle.fol_base.specs.Term.{tree_of};
 ghost use Rattle.term_bank.specs.Literal.{AreLiteralsOf, literals_at};
 ghost use Rattle.unifier.specs.Cells.{IsAfterParts};
-ghost use Rattle.unifier.specs.Bindings.{substitution_of};
+ghost use Rattle.unifier.specs.SolvedForm.{substitution_of};
+ghost use Rattle.unifier.specs.Solution.{solved_form};
 ghost use Rattle.unifier.specs.Sizes.{AreSizes, size_by, stopped};
 
-use crate::bindings::Bindings;
 use crate::cells::Cell;
-use crate::layout::{code, find_place};
+use crate::layout::code;
+use crate::solution::Solution;
 use fol_base::{Side, Term};
 use plain_types::Mem;
 use term_bank::{Bank, BankLit};
 
-impl Bindings {
-    /// The size of a side's literals after the unifier: the occurrences of symbols and variables in both
-    /// sides of each, stopping at u64's last value. The instance isn't built.
+impl Solution {
+    /// The size of a side's literals after the unifier, as `Bindings::instance_size` has it.
     pub fn instance_size(&self, bank: &Bank, side: Side, literals: &[BankLit]) -> Mem<u64>
         requires { AreLiteralsOf bank.now literals.now }
         ensures { IfOk result (λ size. size
-            ≡ stopped (sum_by literal_size (literals_instance (substitution_of self.now side) (literals_at literals.now)))) }
+            ≡ stopped (sum_by literal_size (literals_instance (substitution_of (solved_form self.now) side) (literals_at literals.now)))) }
     {
         let sizes = self.cell_sizes()?;
         let mut total: u64 = 0;
@@ -52,7 +52,7 @@ impl Bindings {
     #[cycle(instance)]
     fn term_size(&self, sizes: &[u64], side: Side, term: &Term) -> u64
         requires { AreSizes self.now.cells.items sizes.now (length self.now.cells.items) }
-        ensures { result ≡ stopped (tree_size (instance (substitution_of self.now side) (tree_of term.now))) }
+        ensures { result ≡ stopped (tree_size (instance (substitution_of (solved_form self.now) side) (tree_of term.now))) }
     {
         match term {
             Term::Var(variable) => self.variable_size(sizes, side, *variable),
@@ -67,7 +67,7 @@ impl Bindings {
     #[cycle(instance)]
     fn terms_size(&self, sizes: &[u64], side: Side, terms: &[Term]) -> u64
         requires { AreSizes self.now.cells.items sizes.now (length self.now.cells.items) }
-        ensures { result ≡ stopped (trees_size (instances (substitution_of self.now side) (trees_of (map tree_of terms.now)))) }
+        ensures { result ≡ stopped (trees_size (instances (substitution_of (solved_form self.now) side) (trees_of (map tree_of terms.now)))) }
     {
         let mut total: u64 = 0;
         for term in terms {
@@ -79,9 +79,9 @@ impl Bindings {
     /// The size of what stands for a side's variable.
     fn variable_size(&self, sizes: &[u64], side: Side, variable: u32) -> u64
         requires { AreSizes self.now.cells.items sizes.now (length self.now.cells.items) }
-        ensures { result ≡ stopped (tree_size (substitution_of self.now side variable)) }
+        ensures { result ≡ stopped (tree_size (substitution_of (solved_form self.now) side variable)) }
     {
-        match find_place(self.places.as_slice(), code(self.apart, side, variable)) {
+        match self.cell_of(code(self.apart, side, variable)) {
             Some(cell) => size_at(sizes, cell),
             None => 1,
         }

@@ -4,14 +4,14 @@ ghost use Rattle.std.specs.Prelude.{◌≡◌, ℕ, true, ◌≤◌, ◌<◌, �
 ghost use Rattle.fol_base.specs.Tree.{variable, application, no_trees, tree_eq, trees_of};
 ghost use Rattle.fol_base.specs.Term.{tree_of};
 ghost use Rattle.unifier.specs.Cells.{as_tree, as_trees, cell_at};
-ghost use Rattle.unifier.specs.Layout.{code_of};
-ghost use Rattle.unifier.specs.Bindings.{joint, value_at};
+ghost use Rattle.unifier.specs.SolvedForm.{code_of, joint};
+ghost use Rattle.unifier.specs.Layout.{all_pass};
+ghost use Rattle.unifier.specs.Solution.{solved_form, value_at};
 ghost use Rattle.unifier.specs.Renaming.{
   AreNames,
   AreRenamed,
   HasNames,
   code_count,
-  fits,
   is_shared,
   is_within,
   renamed,
@@ -19,24 +19,20 @@ ghost use Rattle.unifier.specs.Renaming.{
   side_terms,
 };
 
-use crate::bindings::Bindings;
 use crate::cells::Cell;
-use crate::layout::{code, find_place};
+use crate::layout::code;
+use crate::solution::Solution;
 use fol_base::{SIZE_LIMIT, Side, Subst, Term, Terms};
 use plain_types::Mem;
 use std::alloc::Global;
 
-impl Bindings {
-    /// The two substitutions into shared variables, for the first `left_vars` variables of the left side
-    /// and the first `right_vars` of the right one. The shared variables have the numbers from 0 on,
-    /// without gaps. The condition is that neither count is above 2^31, and that each variable of the two terms
-    /// has a number below its side's count, or below one of both counts where the sides aren't taken apart;
-    /// `unify` says which counts meet that, and `fits` tells it too.
+impl Solution {
+    /// The two substitutions into shared variables, as `Bindings::substs` has them.
     pub fn substs(&self, left_vars: u32, right_vars: u32) -> Mem<(Subst, Subst)>
-        requires fits { fits self.now left_vars right_vars ≡ true }
+        requires fits { all_pass (is_within self.now.apart left_vars right_vars) self.now.places.items ≡ true }
         requires left_room { left_vars ≤ SIZE_LIMIT }
         requires right_room { right_vars ≤ SIZE_LIMIT }
-        ensures { IfOk result (λ made. AreRenamed self.now left_vars right_vars made.0 made.1) }
+        ensures { IfOk result (λ made. AreRenamed (solved_form self.now) left_vars right_vars made.0 made.1) }
     {
         let alloc = *self.cells.allocator();
         let names = self.names(alloc, left_vars, right_vars)?;
@@ -45,11 +41,9 @@ impl Bindings {
         Ok((left, right))
     }
 
-    /// Whether each variable of the two terms has a number below its side's count, also where it stands for
-    /// itself; below one of both counts where the sides aren't taken apart, since a variable is one of both
-    /// sides then.
+    /// Whether each variable of a place has a number that `Bindings::fits` allows.
     pub fn fits(&self, left_vars: u32, right_vars: u32) -> bool
-        ensures { result ≡ fits self.now left_vars right_vars }
+        ensures { result ≡ all_pass (is_within self.now.apart left_vars right_vars) self.now.places.items }
     {
         for place in self.places.as_slice() {
             if !is_within(self.apart, place.code, left_vars, right_vars) {
@@ -63,7 +57,7 @@ impl Bindings {
     fn names(&self, alloc: Global, left_vars: u32, right_vars: u32) -> Mem<Vec<u32>>
         requires left_room { left_vars ≤ SIZE_LIMIT }
         requires right_room { right_vars ≤ SIZE_LIMIT }
-        ensures { IfOk result (λ names. AreNames self.now left_vars right_vars names.items) }
+        ensures { IfOk result (λ names. AreNames (solved_form self.now) left_vars right_vars names.items) }
     {
         let count = self.code_count(left_vars, right_vars);
         let mut names = Vec::with_capacity(alloc, count as usize)?;
@@ -85,16 +79,16 @@ impl Bindings {
 
     /// Whether a variable below its count stands for itself.
     fn is_shared(&self, code: u64, left_vars: u32, right_vars: u32) -> bool
-        ensures { result ≡ is_shared self.now left_vars right_vars code }
+        ensures { result ≡ is_shared (solved_form self.now) left_vars right_vars code }
     {
         is_within(self.apart, code, left_vars, right_vars) && self.stands_for_itself(code)
     }
 
     /// Whether a variable stands for itself.
     fn stands_for_itself(&self, code: u64) -> bool
-        ensures { result ≡ tree_eq (joint self.now code) (variable code) }
+        ensures { result ≡ tree_eq (joint (solved_form self.now) code) (variable code) }
     {
-        match find_place(self.places.as_slice(), code) {
+        match self.cell_of(code) {
             None => true,
             Some(cell) => self.cell(cell).is_variable_of(code),
         }
@@ -112,7 +106,7 @@ impl Bindings {
     fn side(&self, alloc: Global, names: &[u32], side: Side, count: u32) -> Mem<Subst>
         requires names { HasNames self.now names.now }
         requires all { (v : ℕ) → v < count → code_of self.now.apart side v < length names.now }
-        ensures { IfOk result (λ terms. terms ≡ side_terms self.now (slice_index names.now) side count) }
+        ensures { IfOk result (λ terms. terms ≡ side_terms (solved_form self.now) (slice_index names.now) side count) }
     {
         let mut items = Vec::with_capacity(alloc, count as usize)?;
         for variable in 0..count {
@@ -125,9 +119,9 @@ impl Bindings {
     fn named(&self, alloc: Global, names: &[u32], code: u64) -> Mem<Term>
         requires names { HasNames self.now names.now }
         requires inside { code < length names.now }
-        ensures { IfOk result (λ term. tree_of term ≡ renamed (slice_index names.now) (joint self.now code)) }
+        ensures { IfOk result (λ term. tree_of term ≡ renamed (slice_index names.now) (joint (solved_form self.now) code)) }
     {
-        match find_place(self.places.as_slice(), code) {
+        match self.cell_of(code) {
             Some(cell) => self.term_at(alloc, names, cell),
             None => Ok(renamed_variable(names, code)),
         }

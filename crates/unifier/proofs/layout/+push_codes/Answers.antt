@@ -4,7 +4,7 @@ use Rattle.fol_base.specs.Tree.{trees_of, tree_variables, trees_variables}
 use Rattle.fol_base.specs.Term.{tree_of}
 use Rattle.fol_base.proofs.TermLemmas.{tree_size-item}
 use Rattle.fol_base.proofs.VariableLemmas.{trees_variables-take_more}
-use Rattle.unifier.specs.Layout.{code_of}
+use Rattle.unifier.specs.SolvedForm.{code_of}
 use Rattle.unifier.proofs.layout.+push_codes.Goals as goal
 
 pub push_all_codes-push_codes-requires : goal.push_all_codes-push_codes-requires

@@ -1,7 +1,7 @@
 use Rattle.std.proofs.Common.{◌≡◌, ◌+◌, ◌*◌, ◌++◌, map, take}
 use Rattle.fol_base.specs.Tree.{tree_size, trees_size, trees_of, trees_variables}
 use Rattle.fol_base.specs.Term.{tree_of}
-use Rattle.unifier.specs.Layout.{code_of}
+use Rattle.unifier.specs.SolvedForm.{code_of}
 use Rattle.unifier.proofs.layout.+push_codes.Given as goal
 
 abbrev pub decreases-push_codes : goal.decreases-push_codes

@@ -1,0 +1,11 @@
+use Rattle.std.proofs.Common.{ap, sym, ◌∙◌}
+use Rattle.unifier.specs.SolvedForm.{SolvedForm}
+use Rattle.unifier.specs.Renaming.{fits, is_within}
+use Rattle.unifier.proofs.SolutionLemmas.{variables-pass}
+use Rattle.unifier.proofs.bindings.Bindings.fits.Goals as goal
+
+pub returns : goal.returns
+returns c =
+    c.fits.ensures
+    ∙ sym (variables-pass (is_within c.self.inside.solution.apart c.args.left_vars c.args.right_vars) c.self.inside.solution.cells.items c.self.inside.solution.places.items)
+    ∙ ap (λ (found : SolvedForm). fits found c.args.left_vars c.args.right_vars) c.self.view_is

@@ -1,6 +1,0 @@
-use Rattle.unifier.specs.Renaming.{is_shared}
-use Rattle.unifier.proofs.RenameLemmas.{SoFar}
-use Rattle.unifier.proofs.bindings.Bindings.names.Given as goal
-
-abbrev pub invariant-loop-code : goal.invariant-loop-code
-invariant-loop-code l = SoFar (is_shared l.self l.left_vars l.right_vars) l.names.items l.next l.code

@@ -1,7 +1,0 @@
-use Rattle.std.proofs.Common.{◌≡◌, map, slice_index}
-use Rattle.fol_base.specs.Term.{tree_of}
-use Rattle.unifier.specs.Renaming.{side_terms}
-use Rattle.unifier.proofs.bindings.Bindings.side.Given as goal
-
-abbrev pub invariant-loop-variable : goal.invariant-loop-variable
-invariant-loop-variable l = map tree_of l.items.items ≡ side_terms l.self (slice_index l.names) l.side l.variable

@@ -1,0 +1,55 @@
+// A few equations of a variable and a term, which take no memory.
+
+ghost use Rattle.std.specs.Prelude.{◌≡◌, ◌<◌, ℕ, None, length, option_map, slice_set, MatchBool};
+ghost use Rattle.unifier.specs.Equations.{IsWithEquation, bound_in, item_of};
+
+use crate::equation::{Equation, Equations, MOST_EQUATIONS, SideTerm};
+
+impl<'a> Equations<'a> {
+    /// No equations. The term stands where none is.
+    pub fn none(anything: SideTerm<'a>) -> Equations<'a>
+        ensures { (w : ℕ) → bound_in result w ≡ None }
+    {
+        let nothing = Equation {
+            code: 0,
+            bound: anything,
+        };
+        Equations {
+            items: [nothing; MOST_EQUATIONS],
+            len: 0,
+        }
+    }
+
+    /// What a variable is equal to.
+    pub fn find(&self, code: u64) -> Option<SideTerm<'a>>
+        ensures { option_map item_of result ≡ bound_in self.now code }
+    {
+        for equation in self.items[..self.len.min(MOST_EQUATIONS)].iter() {
+            if equation.code == code {
+                return Some(equation.bound);
+            }
+        }
+        None
+    }
+
+    /// Adds an equation of a variable that has none. False where there is no room.
+    pub fn add(&mut self, code: u64, bound: SideTerm<'a>) -> bool
+        requires { bound_in self.old code ≡ None }
+        ensures { MatchBool result (IsWithEquation self.old self.new code (item_of bound.entry)) (self.new ≡ self.old) }
+    {
+        let place = self.len;
+        if place >= MOST_EQUATIONS {
+            return false;
+        }
+        store(&mut self.items, place, Equation { code, bound });
+        self.len = place + 1;
+        true
+    }
+}
+
+fn store<'a>(items: &mut [Equation<'a>], place: usize, equation: Equation<'a>)
+    requires { place < length items.old }
+    ensures { items.new ≡ slice_set items.old place equation.entry }
+{
+    items[place] = equation;
+}

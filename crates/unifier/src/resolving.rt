@@ -1,0 +1,218 @@
+// Laying out what variables are equal to, so that no bound variable is left: the bound terms alone become cells.
+
+ghost use Rattle.std.specs.Prelude.{◌≡◌, None, Some, true, map, MatchBool, IfOk, IfSome, OnOk};
+ghost use Rattle.fol_base.specs.Tree.{tree_variables, trees_of, trees_variables};
+ghost use Rattle.fol_base.specs.Term.{tree_of};
+ghost use Rattle.unifier.specs.Layout.{cell_of};
+ghost use Rattle.unifier.specs.Equations.{ItemPasses, bound_in, item_of};
+ghost use Rattle.unifier.specs.Agreeing.{ItemsPass};
+ghost use Rattle.unifier.specs.Resolving.{
+  AreResolved,
+  AreTermsResolved,
+  IsCellAdded,
+  IsPlaceAdded,
+  IsResolving,
+  IsTermResolved,
+  IsVariableResolved,
+};
+
+use crate::cells::Cell;
+use crate::equation::{Equations, SideTerm, SideTerms};
+use crate::layout::{Layout, Place, code};
+use fol_base::{Side, Term};
+use plain_types::Mem;
+
+/// So many levels of terms and of bindings are laid out at most.
+const MOST_LEVELS: u32 = 64;
+
+impl Layout {
+    /// Gives a place to each variable of a side's term. False where some tree is too deep, as where a variable
+    /// would have to contain itself.
+    #[cycle(resolve_all)]
+    pub fn resolve_variables<'a>(
+        &mut self,
+        equations: &Equations<'a>,
+        apart: bool,
+        side: Side,
+        term: &Term,
+    ) -> Mem<bool>
+        requires { IsResolving apart equations.now self.old }
+        ensures { IfOk result (λ complete. complete ≡ true → AreResolved apart equations.now self.old self.new side
+            (tree_variables (tree_of term.now)) (λ test. ItemPasses apart test (side, tree_of term.now))) }
+    {
+        match term {
+            Term::Var(variable) => {
+                let cell = self.resolve_variable(
+                    equations,
+                    apart,
+                    MOST_LEVELS,
+                    code(apart, side, *variable),
+                )?;
+                Ok(cell.is_some())
+            }
+            Term::App(_, arguments) => {
+                self.resolve_all_variables(equations, apart, side, arguments.as_slice())
+            }
+        }
+    }
+
+    /// The same for a list of terms, the last one first.
+    #[cycle(resolve_all)]
+    fn resolve_all_variables<'a>(
+        &mut self,
+        equations: &Equations<'a>,
+        apart: bool,
+        side: Side,
+        terms: &[Term],
+    ) -> Mem<bool>
+        requires { IsResolving apart equations.now self.old }
+        ensures { IfOk result (λ complete. complete ≡ true → AreResolved apart equations.now self.old self.new side
+            (trees_variables (trees_of (map tree_of terms.now))) (λ test. ItemsPass apart test side (trees_of (map tree_of terms.now)))) }
+    {
+        for index in (0..terms.len()).rev() {
+            if !self.resolve_variables(equations, apart, side, &terms[index])? {
+                return Ok(false);
+            }
+        }
+        Ok(true)
+    }
+
+    /// The cell of a variable's tree. None where the tree is too deep.
+    #[cycle(resolve)]
+    fn resolve_variable<'a>(
+        &mut self,
+        equations: &Equations<'a>,
+        apart: bool,
+        levels: u32,
+        variable: u64,
+    ) -> Mem<Option<usize>>
+        requires { IsResolving apart equations.now self.old }
+        ensures { IfOk result (λ found. IfSome found (IsVariableResolved apart equations.now self.old self.new variable)) }
+    {
+        if let Some(cell) = place_among(self.places.as_slice(), variable) {
+            return Ok(Some(cell));
+        }
+        match equations.find(variable) {
+            Some(bound) => self.resolve_bound(equations, apart, levels, variable, bound),
+            None => {
+                let cell = self.add_cell(Cell::Variable(variable))?;
+                self.add_place(variable, cell)?;
+                Ok(Some(cell))
+            }
+        }
+    }
+
+    /// The cell of the tree of a variable that has an equation, and no place yet. If it has one after its tree
+    /// is laid out, it contains itself.
+    #[cycle(resolve)]
+    fn resolve_bound<'a>(
+        &mut self,
+        equations: &Equations<'a>,
+        apart: bool,
+        levels: u32,
+        variable: u64,
+        bound: SideTerm<'a>,
+    ) -> Mem<Option<usize>>
+        requires resolving { IsResolving apart equations.now self.old }
+        requires bound { bound_in equations.now variable ≡ Some (item_of bound) }
+        ensures { IfOk result (λ found. IfSome found (IsVariableResolved apart equations.now self.old self.new variable)) }
+    {
+        if levels == 0 {
+            return Ok(None);
+        }
+        let Some(cell) = self.resolve_term(equations, apart, levels - 1, bound)? else {
+            return Ok(None);
+        };
+        if place_among(self.places.as_slice(), variable).is_some() {
+            return Ok(None);
+        }
+        self.add_place(variable, cell)?;
+        Ok(Some(cell))
+    }
+
+    /// The cell of a term. None where it is too deep.
+    #[cycle(resolve)]
+    fn resolve_term<'a>(
+        &mut self,
+        equations: &Equations<'a>,
+        apart: bool,
+        levels: u32,
+        bound: SideTerm<'a>,
+    ) -> Mem<Option<usize>>
+        requires { IsResolving apart equations.now self.old }
+        ensures { IfOk result (λ found. IfSome found (IsTermResolved apart equations.now self.old self.new (item_of bound.entry))) }
+    {
+        match bound.term {
+            Term::Var(variable) => {
+                self.resolve_variable(equations, apart, levels, code(apart, bound.side, *variable))
+            }
+            Term::App(symbol, arguments) => {
+                if levels == 0 {
+                    return Ok(None);
+                }
+                let arguments = SideTerms {
+                    side: bound.side,
+                    terms: arguments.as_slice(),
+                };
+                match self.resolve_terms(equations, apart, levels - 1, arguments)? {
+                    Some(list) => Ok(Some(self.add_cell(Cell::Application(*symbol, list))?)),
+                    None => Ok(None),
+                }
+            }
+        }
+    }
+
+    /// The cell of a list of terms, of which the last one is laid out first.
+    #[cycle(resolve)]
+    fn resolve_terms<'a>(
+        &mut self,
+        equations: &Equations<'a>,
+        apart: bool,
+        levels: u32,
+        bound: SideTerms<'a>,
+    ) -> Mem<Option<usize>>
+        requires { IsResolving apart equations.now self.old }
+        ensures { IfOk result (λ found. IfSome found (AreTermsResolved apart equations.now self.old self.new
+            bound.entry.side (trees_of (map tree_of bound.entry.terms.now)))) }
+    {
+        let mut list = self.add_cell(Cell::NoTrees)?;
+        for index in (0..bound.terms.len()).rev() {
+            let item = SideTerm {
+                side: bound.side,
+                term: &bound.terms[index],
+            };
+            match self.resolve_term(equations, apart, levels, item)? {
+                Some(first) => list = self.add_cell(Cell::TreeThen(first, list))?,
+                None => return Ok(None),
+            }
+        }
+        Ok(Some(list))
+    }
+
+    fn add_cell(&mut self, cell: Cell) -> Mem<usize>
+        ensures { IfOk result (IsCellAdded self.old self.new cell) }
+    {
+        let number = self.cells.len();
+        self.cells.push(cell)?;
+        Ok(number)
+    }
+
+    fn add_place(&mut self, code: u64, cell: usize) -> Mem<()>
+        ensures { OnOk result (IsPlaceAdded self.old self.new code cell) }
+    {
+        self.places.push(Place { code, cell })?;
+        Ok(())
+    }
+}
+
+/// The cell of a variable among a few places.
+pub fn place_among(places: &[Place], code: u64) -> Option<usize>
+    ensures { result ≡ cell_of code places.now }
+{
+    for place in places {
+        if place.code == code {
+            return Some(place.cell);
+        }
+    }
+    None
+}
