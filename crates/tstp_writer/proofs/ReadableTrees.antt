@@ -1,5 +1,5 @@
 -- What is written for the lines of a derivation that can be read again can be printed.
-use Rattle.std.proofs.Common.{ℕ, zero, suc, List, [], ◌∷◌, ◌++◌, map, Option, None, Some, refl, arith}
+use Rattle.std.proofs.Common.{ℕ, List, [], ◌∷◌, ◌++◌, Option, None, Some, refl, arith}
 use Rattle.std.proofs.lemmas.Bool.{false≢true}
 use Rattle.std.specs.Prelude.{filter_map, option_and_then, slice_get, IfSome}
 use Rattle.std.specs.List.{AllByRecursion, cons_option}

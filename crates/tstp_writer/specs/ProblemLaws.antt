@@ -2,7 +2,6 @@
 use Rattle.std.specs.Prelude.{◌≡◌, ℕ, ◌*◌, ◌≤◌, true, false, ◌&&◌, List, map, filter_map, Option, IfSome}
 use Rattle.std.specs.List.{AllByRecursion}
 use Rattle.outside.specs.Library.{Holdings}
-use Rattle.tptp_tree.specs.declared.limits.TheConstants.{MOST_NESTING}
 use Rattle.tptp_tree.specs.declared.problem.Annotated.{Annotated}
 use Rattle.tptp_tree.specs.Printing.{formula_text}
 use Rattle.tptp_tree.specs.Spelling.{SpellsFormula}
