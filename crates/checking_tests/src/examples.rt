@@ -8,8 +8,10 @@ pub(crate) enum ExampleName {
     TwoRewrites,
     TwoComponents,
     SignedNames,
+    SignedNamesAndMore,
     Merged,
     UnequalVariable,
+    UnequalVariables,
     NamedProduct,
 }
 
@@ -21,8 +23,10 @@ impl ExampleName {
             ExampleName::TwoRewrites => TWO_REWRITES,
             ExampleName::TwoComponents => TWO_COMPONENTS,
             ExampleName::SignedNames => SIGNED_NAMES,
+            ExampleName::SignedNamesAndMore => SIGNED_NAMES_AND_MORE,
             ExampleName::Merged => MERGED,
             ExampleName::UnequalVariable => UNEQUAL_VARIABLE,
+            ExampleName::UnequalVariables => UNEQUAL_VARIABLES,
             ExampleName::NamedProduct => NAMED_PRODUCT,
         }
     }
@@ -105,29 +109,37 @@ const TWO_COMPONENTS: Example = Example {
 
 /// A ground literal and its complement share a name.
 const SIGNED_NAMES: Example = Example {
-    problem: b"cnf(a,axiom,p | q). cnf(b,axiom,~p | q). cnf(c,axiom,p | ~q). cnf(d,axiom,~p | ~q). cnf(e,axiom,r(a)).",
-    lines: &[
-        b"cnf(c0,axiom,p | q,file('r11.p',a)).",
-        b"cnf(c1,axiom,~p | q,file('r11.p',b)).",
-        b"cnf(c2,axiom,p | ~q,file('r11.p',c)).",
-        b"cnf(c3,axiom,~p | ~q,file('r11.p',d)).",
-        b"cnf(c4,plain,p | q,inference(clausify,[status(esa),index(0)],[c0])).",
-        b"cnf(c5,plain,~p | q,inference(clausify,[status(esa),index(1)],[c1])).",
-        b"cnf(c6,plain,p | ~q,inference(clausify,[status(esa),index(2)],[c2])).",
-        b"cnf(c7,plain,~p | ~q,inference(clausify,[status(esa),index(3)],[c3])).",
-        b"cnf(c8,plain,p | ~spl0,introduced(definition,[component(spl0)])).",
-        b"cnf(c9,plain,q | ~spl1,introduced(definition,[component(spl1)])).",
-        b"cnf(c10,plain,~p | spl0,introduced(definition,[opposite(spl0)])).",
-        b"cnf(c11,plain,~q | spl1,introduced(definition,[opposite(spl1)])).",
-        b"cnf(c12,plain,spl0 | spl1,inference(split,[status(esa),parts([[0],[1]])],[c4,c8,c9])).",
-        b"cnf(c13,plain,~spl0 | spl1,inference(split,[status(esa),parts([[0],[1]])],[c5,c10,c9])).",
-        b"cnf(c14,plain,spl0 | ~spl1,inference(split,[status(esa),parts([[0],[1]])],[c6,c8,c11])).",
-        b"cnf(c15,plain,~spl0 | ~spl1,inference(split,[status(esa),parts([[0],[1]])],[c7,c10,c11])).",
-        b"cnf(c16,plain,spl1,inference(chain,[status(thm),pivots([spl0])],[c12,c13])).",
-        b"cnf(c17,plain,~spl1,inference(chain,[status(thm),pivots([spl0])],[c14,c15])).",
-        b"cnf(c18,plain,$false,inference(chain,[status(thm),pivots([spl1])],[c16,c17])).",
-    ],
+    problem: b"cnf(a,axiom,p | q). cnf(b,axiom,~p | q). cnf(c,axiom,p | ~q). cnf(d,axiom,~p | ~q).",
+    lines: SIGNED_LINES,
 };
+
+/// The same over a further clause, which the lines don't use.
+const SIGNED_NAMES_AND_MORE: Example = Example {
+    problem: b"cnf(a,axiom,p | q). cnf(b,axiom,~p | q). cnf(c,axiom,p | ~q). cnf(d,axiom,~p | ~q). cnf(e,axiom,r(a)).",
+    lines: SIGNED_LINES,
+};
+
+const SIGNED_LINES: &[&[u8]] = &[
+    b"cnf(c0,axiom,p | q,file('r11.p',a)).",
+    b"cnf(c1,axiom,~p | q,file('r11.p',b)).",
+    b"cnf(c2,axiom,p | ~q,file('r11.p',c)).",
+    b"cnf(c3,axiom,~p | ~q,file('r11.p',d)).",
+    b"cnf(c4,plain,p | q,inference(clausify,[status(esa),index(0)],[c0])).",
+    b"cnf(c5,plain,~p | q,inference(clausify,[status(esa),index(1)],[c1])).",
+    b"cnf(c6,plain,p | ~q,inference(clausify,[status(esa),index(2)],[c2])).",
+    b"cnf(c7,plain,~p | ~q,inference(clausify,[status(esa),index(3)],[c3])).",
+    b"cnf(c8,plain,p | ~spl0,introduced(definition,[component(spl0)])).",
+    b"cnf(c9,plain,q | ~spl1,introduced(definition,[component(spl1)])).",
+    b"cnf(c10,plain,~p | spl0,introduced(definition,[opposite(spl0)])).",
+    b"cnf(c11,plain,~q | spl1,introduced(definition,[opposite(spl1)])).",
+    b"cnf(c12,plain,spl0 | spl1,inference(split,[status(esa),parts([[0],[1]])],[c4,c8,c9])).",
+    b"cnf(c13,plain,~spl0 | spl1,inference(split,[status(esa),parts([[0],[1]])],[c5,c10,c9])).",
+    b"cnf(c14,plain,spl0 | ~spl1,inference(split,[status(esa),parts([[0],[1]])],[c6,c8,c11])).",
+    b"cnf(c15,plain,~spl0 | ~spl1,inference(split,[status(esa),parts([[0],[1]])],[c7,c10,c11])).",
+    b"cnf(c16,plain,spl1,inference(chain,[status(thm),pivots([spl0])],[c12,c13])).",
+    b"cnf(c17,plain,~spl1,inference(chain,[status(thm),pivots([spl0])],[c14,c15])).",
+    b"cnf(c18,plain,$false,inference(chain,[status(thm),pivots([spl1])],[c16,c17])).",
+];
 
 /// Two literals that are merged.
 const MERGED: Example = Example {
@@ -150,6 +162,16 @@ const UNEQUAL_VARIABLE: Example = Example {
         b"cnf(c0,axiom,X != X,file('r.p',a)).",
         b"cnf(c1,plain,X0 != X0,inference(clausify,[status(esa),index(0)],[c0])).",
         b"cnf(c2,plain,$false,inference(refl,[status(thm),lit(0),bind([hc0])],[c1])).",
+    ],
+};
+
+/// Two variables that differ, bound to one constant.
+const UNEQUAL_VARIABLES: Example = Example {
+    problem: b"cnf(a,axiom,X != Y).",
+    lines: &[
+        b"cnf(c0,axiom,X != Y,file('r.p',a)).",
+        b"cnf(c1,plain,X0 != X1,inference(clausify,[status(esa),index(0)],[c0])).",
+        b"cnf(c2,plain,$false,inference(refl,[status(thm),lit(0),bind([hc0,hc0])],[c1])).",
     ],
 };
 

@@ -1,4 +1,5 @@
-// The tests of the checker on whole problems and derivations. They stand apart, since a crate with tests is proved twice.
+// The tests of the checker and of the writer on whole problems and derivations. They stand apart, since a crate with tests is proved
+// twice.
 #![tactic(auto)]
 
 #[cfg(test)]
@@ -11,3 +12,5 @@ mod outcome;
 mod rows;
 #[cfg(test)]
 mod tests;
+#[cfg(test)]
+mod written;

@@ -72,6 +72,25 @@ pub(crate) const ACCEPTED: &[Row] = &[
         ),
         answer: Outcome::Accepted(3),
     },
+    Row {
+        example: ExampleName::UnequalVariables,
+        change: Change::None,
+        answer: Outcome::Accepted(3),
+    },
+    Row {
+        example: ExampleName::SignedNamesAndMore,
+        change: Change::None,
+        answer: Outcome::Accepted(19),
+    },
+    // Comments, blanks and ends of lines inside a line, and an item that is ignored.
+    Row {
+        example: ExampleName::TwoUnits,
+        change: Change::Line(
+            5,
+            b"cnf( c5 ,plain, % the end\n\t$false,inference(refl,\n[status(thm),note(x),lit(0),bind([])],[c4])/* last */ ) .",
+        ),
+        answer: Outcome::Accepted(6),
+    },
 ];
 
 /// Derivations that are refused.
@@ -188,12 +207,53 @@ pub(crate) const REFUSED: &[Row] = &[
         answer: Outcome::Refused(9, Cause::Rule),
     },
     Row {
-        example: ExampleName::SignedNames,
+        example: ExampleName::SignedNamesAndMore,
         change: Change::Line(
             8,
             b"cnf(c8,plain,p | r(a) | ~spl0,introduced(definition,[component(spl0)])).",
         ),
         answer: Outcome::Refused(11, Cause::Rule),
+    },
+    // Each of these is refused by one word of a definition.
+    Row {
+        example: ExampleName::UnequalVariables,
+        change: Change::Line(
+            2,
+            b"cnf(c2,plain,$false,inference(refl,[status(thm),lit(0),bind([zz,yy])],[c1])).",
+        ),
+        answer: Outcome::Refused(3, Cause::Rule),
+    },
+    Row {
+        example: ExampleName::TwoUnits,
+        change: Change::Line(
+            5,
+            b"cnf(c5,plain,$false,inference(refl,[status(thm),lit(0),bind([]),lit(1)],[c4])).",
+        ),
+        answer: Outcome::Refused(6, Cause::Rule),
+    },
+    Row {
+        example: ExampleName::TwoUnits,
+        change: Change::Line(
+            5,
+            b"cnf(c5,plain,$false,inference(refl,[status(thm,x),lit(0),bind([])],[c4])).",
+        ),
+        answer: Outcome::Refused(6, Cause::Rule),
+    },
+    Row {
+        example: ExampleName::TwoUnits,
+        change: Change::Line(
+            4,
+            b"cnf(c4,plain,~$true,inference(para,[status(thm),from(0,left,7),into(0,left,[]),bind([]),bind([])],[c2,c3])).",
+        ),
+        answer: Outcome::Refused(5, Cause::Rule),
+    },
+    Row {
+        example: ExampleName::TwoUnits,
+        change: Change::Line(
+            4,
+            b"cnf(c4,plain,~$true,inference(para(x),[status(thm),from(0,left),into(0,left,[])],[c2,c3])).",
+        ),
+        answer: Outcome::Refused(5, Cause::Rule),
     },
 ];
 

@@ -1,7 +1,7 @@
 // What no clause says: outside rows, and that checks succeed.
 
 use crate::examples::TWO_UNITS;
-use crate::large::{bound_to, bracketed};
+use crate::large::{NESTED, bound_to, bracketed, nested};
 use crate::outcome::{Outcome, answer_on};
 use crate::rows::{ACCEPTED, Change, REFUSED, REFUSED_TOO, Row};
 use plain_types::Mem;
@@ -59,6 +59,10 @@ fn deep_lines_are_read(rt: HostRuntime) -> Result<(), Fail> {
             answer_on(alloc, TWO_UNITS.problem, text.as_slice())?,
             wanted
         );
+    }
+    for row in NESTED {
+        let text = nested(alloc, row)?;
+        assert_eq!(rt; answer_on(alloc, row.problem, text.as_slice())?, row.answer);
     }
     Ok(())
 }

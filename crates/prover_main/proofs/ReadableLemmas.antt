@@ -32,7 +32,6 @@ use Rattle.clausal_form.specs.FormFunctions.{is_predicate_in}
 use Rattle.clausal_form.specs.FormLaws.{use_of}
 use Rattle.clausal_form.proofs.MeasureLemmas.{length-append}
 use Rattle.clausal_form.proofs.WellFormedLemmas.{forms-are-well-formed}
-use Rattle.tstp_writer.specs.DerivedLines.{HasNumberedForm}
 use Rattle.tstp_writer.specs.ReadableLines.{is_nameless_step, is_symbol_in, is_literal_over, is_term_over, is_small_term, has_small_sides, bound_by, line_variables, Fits, IsReadableLine}
 use Rattle.tstp_writer.specs.WrittenLaws.{IsReadableRefutation}
 use Rattle.tstp_writer.proofs.PlaceLemmas.{all-there}
@@ -192,11 +191,11 @@ pub readable-refutation :
     (problem : List Annotated) (lines : List Line) (last : ℕ)
     → IsGroundForm (clausal_form problem).clauses → form_size (clausal_form problem).clauses ≤ MOST_SYMBOLS
     → IsRefutation (clausal_form problem).clauses lines → AreGroundLines lines
-    → HasNumberedForm problem → suc last ≡ length lines → IsReadableRefutation problem lines last
-readable-refutation problem lines last is_ground sizes refutes ground numbered ends = record {
-  form = numbered;
+    → suc last ≡ length lines → IsReadableRefutation problem lines last
+readable-refutation problem lines last is_ground sizes refutes ground ends = record {
   derived = refutes.derived;
-  readable = readable-lines problem lines is_ground sizes refutes ground;
+  readable = λ n line at needed.
+      all-there (IsReadableLine (clausal_form problem).symbols) lines n line (readable-lines problem lines is_ground sizes refutes ground) at;
   line = refutes.last;
   ends =
       subst (λ n. slice_get lines n ≡ Some refutes.last) (last-place (clausal_form problem).clauses lines last refutes ends)

@@ -19,8 +19,8 @@ use Rattle.ground_loop.specs.Scope.{IsInScope}
 use Rattle.clausal_form.specs.DerivationTexts.{IsAcceptedDerivation}
 use Rattle.tstp_writer.specs.Printable.{IsShown}
 use Rattle.tstp_writer.specs.Written.{IsAcceptedWhereReadable}
-use Rattle.tstp_writer.specs.DerivedLines.{HasNumberedForm}
 use Rattle.tstp_writer.specs.WrittenLaws.{IsReadableRefutation}
+use Rattle.tstp_writer.proofs.ProblemLemmas.{formulas-printable}
 use Rattle.prover_main.specs.Words.{is_filled}
 use Rattle.prover_main.specs.Names.{shown_byte, shown}
 use Rattle.prover_main.specs.AnswerShape.{IsFormedFrom, WasFormed}
@@ -54,19 +54,14 @@ pub text-accepted :
     (formed : FormedProblem) (name : List ℕ) (lines : List Line) (last : ℕ) (text : List ℕ)
     → WasFormed formed → IsShown name → IsInScope (map clause_of formed.form.clauses)
     → IsRefutation (map clause_of formed.form.clauses) lines → AreGroundLines lines
-    → IsSignature formed.form.signature → length formed.form.clauses < 2 ^ 64 → suc last ≡ length lines
+    → suc last ≡ length lines
     → IsAcceptedWhereReadable name formed.problem.formulas lines last text
     → (count : ℕ) × IsAcceptedDerivation formed.problem.formulas text count
-text-accepted formed name lines last text was shown scope refutes ground signature few end accepted =
+text-accepted formed name lines last text was shown scope refutes ground end accepted =
     let fs : List Annotated = formed.problem.formulas in
     let h : IsFormedFrom was.told was.source formed = was.formed_from in
     let e : map clause_of formed.form.clauses ≡ (clausal_form fs).clauses = ap (λ (f : ClausalForm). f.clauses) h.form in
-    let numbered : HasNumberedForm fs =
-    record {
-      symbols = subst IsSignature (ap (λ (f : ClausalForm). f.symbols) h.form) signature;
-      clauses = omega (arith, few, ap length e, length-map formed.form.clauses clause_of);
-    } in
     let sizes : form_size (clausal_form fs).clauses ≤ MOST_SYMBOLS = subst (λ cs. form_size cs ≤ MOST_SYMBOLS) e scope.1 in
     let readable : IsReadableRefutation fs lines last =
-    readable-refutation fs lines last (subst IsGroundForm e scope.0) sizes (subst (λ cs. IsRefutation cs lines) e refutes) ground numbered end in
-    accepted (record { told = was.told; file = was.source.file; root = was.source.root; read = h.read }) shown readable
+    readable-refutation fs lines last (subst IsGroundForm e scope.0) sizes (subst (λ cs. IsRefutation cs lines) e refutes) ground end in
+    accepted (formulas-printable was.told was.source.file was.source.root fs h.read) shown readable

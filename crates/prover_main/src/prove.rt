@@ -10,7 +10,6 @@ ghost use Rattle.prover_main.specs.Words.{is_filled};
 ghost use Rattle.prover_main.specs.Outside.{outside_by};
 ghost use Rattle.prover_main.specs.Names.{shown};
 ghost use Rattle.clausal_form.specs.DerivationTexts.{IsAcceptedDerivation};
-ghost use Rattle.signature.specs.Symbol.{IsSignature};
 ghost use Rattle.signature.specs.Form.{clausal_form};
 ghost use Rattle.clausal_form.specs.Form.{form_of};
 ghost use Rattle.prover_main.specs.Answer.{IsProveAnswer, has_conjecture};
@@ -132,7 +131,6 @@ fn derivation_text(
     ensures { IfOk result (λ text. (count : ℕ) × IsAcceptedDerivation formed.now.problem.formulas text count) }
 {
     let name = shown_name(alloc, file)?;
-    prove_counts(&formed.form);
     let last = lines.len() as u64 - 1;
     write_lines(
         alloc,
@@ -151,13 +149,4 @@ fn shown_name(alloc: Global, file: &str) -> Mem<Text>
     let mut page = Page::new(alloc);
     push_shown(&mut page, file.as_bytes())?;
     Ok(page.into_text())
-}
-
-/// The symbols of a form are a signature's, and its clauses are counted by a machine word.
-fn prove_counts(form: &Clausal)
-    ensures symbols { IsSignature form.now.signature }
-    ensures clauses { length form.now.clauses < 2 ^ 64 }
-{
-    let _ = form.signature.len();
-    let _ = form.clauses.len();
 }

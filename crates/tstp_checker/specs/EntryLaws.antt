@@ -1,6 +1,7 @@
--- Formulas that say the same: an equivalence, and alike in all that is compared or fed to a hasher.
+-- Formulas that say the same: they are equal; an equivalence, and alike in all that is compared or fed to a hasher. The proofs stand
+-- here, since an implementation's laws cite them.
 use mathlib.Core.Bool.{beq}
-use Rattle.std.proofs.Common.{◌≡◌, ℕ, Bool, true, false, ◌&&◌, List, ◌∷◌, refl, ap, ap₂, sym, ◌∙◌}
+use Rattle.std.proofs.Common.{◌≡◌, ℕ, Bool, true, false, ◌&&◌, ◌↔◌, List, ◌∷◌, refl, ap, ap₂, sym, ◌∙◌, subst}
 use Rattle.std.specs.Prelude.{bytes_eq, IsTrue}
 use Rattle.std.specs.Cmp.{IsEquivalence}
 use Rattle.std.proofs.lemmas.Bool.{and_parts, true≢false}
@@ -109,3 +110,10 @@ same_entry_feeds_alike a b h =
     let second = and_parts (bytes_eq (role_word a.role) (role_word b.role)) (beq a.is_clause b.is_clause && same_formula a.formula b.formula) first.1 in
     let third = and_parts (beq a.is_clause b.is_clause) (same_formula a.formula b.formula) second.1 in
     ap₂ (λ n f. n ∷ formula_writes f) ((bytes_eq-Decides a.name b.name).0 first.0) (formula-is a.formula b.formula third.1)
+
+-- formulas are the same exactly where they are equal
+abbrev pub SameFormulasAreEqual : Type 0
+SameFormulasAreEqual = (f g : FormulaTree) → IsTrue (same_formula f g) ↔ (f ≡ g)
+
+pub same_formulas_are_equal : SameFormulasAreEqual
+same_formulas_are_equal f g = (formula-is f g, λ e. subst (λ h. IsTrue (same_formula f h)) e (same_formula-refl f))

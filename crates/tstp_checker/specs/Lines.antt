@@ -36,7 +36,7 @@ pub record IsReady (x : Lines) : Type 0 where
   pub symbols : x.numbers.symbols ≡ x.form.now.signature
   pub variables : x.numbers.variables ≡ []
 
--- A line was judged: it is refused, or the lines are those before and this one.
+-- A line was judged: the lines are those before and this one; or it is refused, and the lines are those before.
 abbrev pub IsJudged : Setting → Taken → LineTree → Option Cause → Taken → Type 0
 IsJudged s e t None after = (line : Line) × (line_verdict s e t ≡ taken line) × (after ≡ with_line e t line)
-IsJudged s e t (Some cause) after = line_verdict s e t ≡ refused (cause_meant cause)
+IsJudged s e t (Some cause) after = (line_verdict s e t ≡ refused (cause_meant cause)) × (after ≡ e)

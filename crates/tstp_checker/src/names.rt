@@ -93,10 +93,11 @@ impl NameTable {
         self.names.pop();
     }
 
-    /// Takes all names back.
+    /// Takes all names back. What it costs follows the names that are there, and not the most that ever were: a line with few
+    /// variables costs little behind one with many.
     pub(crate) fn clear(&mut self)
         ensures { self.new ≡ [] }
     {
-        self.names.clear();
+        self.names.truncate(0);
     }
 }

@@ -1,7 +1,7 @@
 -- The cone of a refutation without names: all its lines are clause lines, and `last` is the highest of their numbers.
-use Rattle.std.proofs.Common.{◌≡◌, ℕ, ◌<◌, ◌≤◌, Bool, true, false, ◌==◌, List, [], ◌∷◌, take, Option, None, Some, refl, ap, sym, ◌∙◌, arith, ⊎_elim}
+use Rattle.std.proofs.Common.{◌≡◌, ℕ, ◌<◌, ◌≤◌, Bool, true, false, ◌&&◌, ◌==◌, List, [], ◌∷◌, take, Option, None, Some, refl, ap, sym, ◌∙◌, arith, ⊎_elim}
 use Rattle.std.specs.Prelude.{slice_get, option_map, unwrap_or, nat_le}
-use Rattle.std.proofs.lemmas.Bool.{or_cases, eqb-true, le-leb, leb-true, false≢true}
+use Rattle.std.proofs.lemmas.Bool.{and_parts, and_from, or_cases, eqb-true, le-leb, leb-true, false≢true}
 use Rattle.fol_base.specs.Rules.{superposed, resolved, factored, merged}
 use Rattle.fol_base.specs.Clause.{TreeClause}
 use Rattle.fol_base.specs.Literal.{clause_of}
@@ -18,7 +18,6 @@ use Rattle.tstp_writer.specs.Cone.{parents_of, has_number, needs, IsClosed, IsCo
 use Rattle.tstp_writer.specs.ReadableLines.{is_nameless_step, IsReadableLine}
 use Rattle.tstp_writer.specs.WrittenLaws.{IsReadableRefutation}
 use Rattle.tstp_writer.proofs.EarlierLemmas.{need-earlier}
-use Rattle.tstp_writer.proofs.PlaceLemmas.{all-there}
 
 -- ---- parents of steps without names
 
@@ -90,15 +89,17 @@ pub record IsClauseLine (lines : List Line) (n : ℕ) : Type 0 where
   pub is_clause : is_clause_step line.step ≡ true
 
 module _ (problem : List Annotated) (lines : List Line) (last : ℕ) (numbers : List ℕ) (r : IsReadableRefutation problem lines last) (cone : IsCone lines last numbers) where
-  pub readable-there : (n : ℕ) (line : Line) → slice_get lines n ≡ Some line → IsReadableLine (clausal_form problem).symbols line
-  readable-there n line at = all-there (IsReadableLine (clausal_form problem).symbols) lines n line r.readable at
+  pub readable-there :
+      (n : ℕ) (line : Line) → slice_get lines n ≡ Some line → has_number numbers n ≡ true → IsReadableLine (clausal_form problem).symbols line
+  readable-there n line at inside = r.readable n line at ((cone.exact n).0 inside)
 
   parent-of :
-      (n m : ℕ) (line : Line) → slice_get lines n ≡ Some line → has_number (parents_of line.step) m ≡ true
+      (n m : ℕ) (line : Line) → slice_get lines n ≡ Some line → has_number numbers n ≡ true → has_number (parents_of line.step) m ≡ true
       → (p : Parent) × ParentLine lines n m p
-  parent-of n m line at has =
+  parent-of n m line at inside has =
       let found =
-      parent-there (clausal_form problem).clauses (take n lines) line.step (clause_of line.clause) m (readable-there n line at).nameless (r.derived n line at) has in
+      parent-there (clausal_form problem).clauses (take n lines) line.step (clause_of line.clause) m (readable-there n line at inside).nameless
+      (r.derived n line at) has in
       (found.0, parent_line lines n m found.0 found.1)
 
   abbrev is_clause_at : ℕ → Bool
@@ -107,20 +108,34 @@ module _ (problem : List Annotated) (lines : List Line) (last : ℕ) (numbers : 
   clause-at : (n : ℕ) (line : Line) → slice_get lines n ≡ Some line → is_clause_step line.step ≡ true → is_clause_at n ≡ true
   clause-at n line at h = ap (λ o. unwrap_or (option_map (λ (l : Line). is_clause_step l.step) o) false) at ∙ h
 
-  clauses-closed : IsClosed lines is_clause_at
-  clauses-closed n m line other at other_at set need =
-      let found = parent-of n m line at (needs-parent line.step m other (readable-there n line at).nameless need) in
-      clause-at m (found.1).line (found.1).there (found.1).is_clause
+  -- what a line of the cone needs is in the cone
+  kept-in :
+      (n m : ℕ) (line other : Line)
+      → slice_get lines n ≡ Some line → slice_get lines m ≡ Some other → has_number numbers n ≡ true → needs line.step m other ≡ true
+      → has_number numbers m ≡ true
+  kept-in n m line other at other_at inside need =
+      (cone.exact m).1 (λ set h closed. closed n m line other at other_at ((cone.exact n).0 inside set h closed) need)
+
+  clauses-closed : IsClosed lines (λ n. has_number numbers n && is_clause_at n)
+  clauses-closed n m line other at other_at both need =
+      let inside : has_number numbers n ≡ true = (and_parts (has_number numbers n) (is_clause_at n) both).0 in
+      let found = parent-of n m line at inside (needs-parent line.step m other (readable-there n line at inside).nameless need) in
+      and_from (has_number numbers m) (is_clause_at m) (kept-in n m line other at other_at inside need)
+      (clause-at m (found.1).line (found.1).there (found.1).is_clause)
+
+  pub last-there : has_number numbers last ≡ true
+  last-there = (cone.exact last).1 (λ set h closed. h)
 
   pub cone-line : (n : ℕ) → has_number numbers n ≡ true → IsClauseLine lines n
-  cone-line n has = by (slice_get lines n) refl ((cone.exact n).0 has is_clause_at (clause-at last r.line r.ends r.is_clause) clauses-closed)
+  cone-line n has =
+      by (slice_get lines n) refl
+      (and_parts (has_number numbers n) (is_clause_at n)
+      ((cone.exact n).0 has (λ k. has_number numbers k && is_clause_at k)
+      (and_from (has_number numbers last) (is_clause_at last) last-there (clause-at last r.line r.ends r.is_clause)) clauses-closed)).1
     where
       by : (o : Option Line) → slice_get lines n ≡ o → unwrap_or (option_map (λ (l : Line). is_clause_step l.step) o) false ≡ true → IsClauseLine lines n
       by None e h = absurd (false≢true h)
       by (Some line) e h = record { line = line; there = e; is_clause = h }
-
-  pub last-there : has_number numbers last ≡ true
-  last-there = (cone.exact last).1 (λ set h closed. h)
 
   low-closed : IsClosed lines (λ n. nat_le n last)
   low-closed n m line other at other_at low need =
@@ -140,11 +155,6 @@ module _ (problem : List Annotated) (lines : List Line) (last : ℕ) (numbers : 
       (n m : ℕ) (line : Line) → slice_get lines n ≡ Some line → has_number numbers n ≡ true → has_number (parents_of line.step) m ≡ true
       → IsConeParent n m
   cone-parent n m line at has parent =
-      let found = parent-of n m line at parent in
-      let need : needs line.step m (found.1).line ≡ true = step-needs line.step m (found.1).line (readable-there n line at).nameless parent in
-      record {
-        earlier = (found.1).earlier;
-        has =
-            (cone.exact m).1
-            (λ set h closed. closed n m line (found.1).line at (found.1).there ((cone.exact n).0 has set h closed) need);
-      }
+      let found = parent-of n m line at has parent in
+      let need : needs line.step m (found.1).line ≡ true = step-needs line.step m (found.1).line (readable-there n line at has).nameless parent in
+      record { earlier = (found.1).earlier; has = kept-in n m line (found.1).line at (found.1).there has need }

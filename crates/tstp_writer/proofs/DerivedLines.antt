@@ -21,7 +21,7 @@ use Rattle.clausal_form.specs.DerivationCauses.{fits, is_conjecture_at as is_con
 use Rattle.tstp_writer.specs.Cone.{parents_of, has_number, IsRising, IsCone}
 use Rattle.tstp_writer.specs.LineTrees.{Script, script_of, is_conjecture_at, origin, Layout, comes_from, lines_at, layout_of, line_name, place_in, cited_name, negated_name, derived_name, step_source, input_at, negate_at, clause_tree, line_tree, derived_tree}
 use Rattle.tstp_writer.specs.ReadableLines.{IsReadableLine, written_place, placed_line, first_place, taken_as, inputs_taken, negations_taken, derived_taken, all_written}
-use Rattle.tstp_writer.specs.DerivedLines.{ParentIsTaken, OriginIsTaken, SourcesAreTaken}
+use Rattle.tstp_writer.specs.DerivedLines.{HasNumberedForm, ParentIsTaken, OriginIsTaken, SourcesAreTaken}
 use Rattle.tstp_writer.specs.Places.{IsCounted}
 use Rattle.tstp_writer.specs.WrittenLaws.{IsReadableRefutation}
 use Rattle.tstp_writer.proofs.StepTrees.{line_tree_by}
@@ -304,7 +304,7 @@ module _ (file : List ℕ) (problem : List Annotated) (lines : List Line) (numbe
 
   -- ---- all lines of the derivation
 
-  module _ (last : ℕ) (r : IsReadableRefutation problem lines last) (cone : IsCone lines last numbers) (counted : IsCounted layout) where
+  module _ (last : ℕ) (form : HasNumberedForm problem) (r : IsReadableRefutation problem lines last) (cone : IsCone lines last numbers) (counted : IsCounted layout) where
     line-taken :
         (ls : List NamedLine) (before : List ℕ) (n : ℕ) (after : List ℕ) (c : IsClauseLine lines n) → Stands ls before
         → before ++ n ∷ after ≡ numbers → place_in n numbers ≡ length before → has_number numbers n ≡ true
@@ -316,8 +316,8 @@ module _ (file : List ℕ) (problem : List Annotated) (lines : List Line) (numbe
         let number : written_place layout n ≡ length ls = omega (arith, st.long, place) in
         let low : place_in n numbers < length numbers = (number-there numbers n has).0 in
         let small : length ls < 2 ^ 64 = omega (arith, counted_lines, st.long, place, low) in
-        let readable : IsReadableLine (clausal_form problem).symbols c.line = readable-there problem lines last numbers r cone n c.line c.there in
-        derived-taken problem file layout lines (state ls) n c.line r.form readable c.is_clause (r.derived n c.line c.there) refl
+        let readable : IsReadableLine (clausal_form problem).symbols c.line = readable-there problem lines last numbers r cone n c.line c.there has in
+        derived-taken problem file layout lines (state ls) n c.line form readable c.is_clause (r.derived n c.line c.there) refl
         (ap (λ k. list_any (λ (l : NamedLine). bytes_eq (line_name k) l.name) ls) number
         ∙ name-new (length ls) 0 ls small (omega arith) st.named)
         (sources-taken ls before n c.line (c.line).step st (omega (arith, small)) c.there has refl (r.derived n c.line c.there)
@@ -362,7 +362,7 @@ module _ (file : List ℕ) (problem : List Annotated) (lines : List Line) (numbe
         subst (λ o. Walks s ls (cons_option o ts) (cons_option (derived_taken layout lines n) ms)) (sym tree)
         (subst (λ o. Walks s ls (t ∷ ts) (cons_option o ms)) (sym (derived-there n c.line c.there))
         (walk-line s ls t (derived_name layout n) (placed_line layout (c.line).step clause) ts ms refl
-        (names-stay [] script layout (c.line).step (readable-there problem lines last numbers r cone n c.line c.there).nameless) verdict rest))
+        (names-stay [] script layout (c.line).step (readable-there problem lines last numbers r cone n c.line c.there has).nameless) verdict rest))
 
     pub derived-walked :
         Walks s (inputs ++ negations) (filter_map (derived_tree script layout lines) numbers) (filter_map (derived_taken layout lines) numbers)

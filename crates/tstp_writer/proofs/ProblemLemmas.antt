@@ -38,7 +38,7 @@ use Rattle.tstp_writer.specs.SourceTexts.{is_number_name, name_term, source_term
 use Rattle.tstp_writer.specs.Levels.{formula_levels, general_levels}
 use Rattle.tstp_writer.specs.LineTrees.{Script, Layout, line_name, cited_name, step_source, input_tree, negate_tree}
 use Rattle.tstp_writer.specs.Printable.{IsShown, IsWritable, is_clause_formula, IsFormOf, IsPrintable}
-use Rattle.tstp_writer.specs.ProblemLaws.{IsPrintableEntry, HasPrintableLines}
+use Rattle.tstp_writer.specs.ProblemLaws.{IsPrintableEntry, ArePrintableEntries, HasPrintableLines}
 use Rattle.tstp_writer.proofs.ProblemLevels.{parentheses-one, body-levels}
 use Rattle.tstp_writer.proofs.ProblemForms.{clause-form, closed-form}
 
@@ -152,7 +152,7 @@ entries-printable (a ∷ more) r c n =
       role = no-clause (entry_of a).is_clause (is_conjecture (entry_of a).role) n.0;
       spelled = read.spelled;
       form = form-of (entry_of a).is_clause (entry_of a).formula read.form c.0;
-      levels = read.levels;
+      levels = omega (arith, read.levels);
     } in
     (entry, entries-printable more r.1 c.1 n.1)
 
@@ -223,16 +223,11 @@ negation-printable a e script layout name place c shown =
     no_cnf true h = absurd (let x : true ≡ false = h in cc)
     no_cnf false h = refl
 
-lines-printable :
-    (formulas : List Annotated) → AllByRecursion (λ (a : Annotated). IsPrintableEntry (entry_of a)) formulas
+pub problem-lines-printable :
+    (formulas : List Annotated) → ArePrintableEntries formulas
     → AllByRecursion (λ (a : Annotated). HasPrintableLines (entry_of a)) formulas
-lines-printable [] h = tt
-lines-printable (a ∷ more) h =
+problem-lines-printable [] h = tt
+problem-lines-printable (a ∷ more) h =
     let lines : HasPrintableLines (entry_of a) =
     record { input = input-printable (entry_of a) h.0; negated = negation-printable (entry_of a) h.0 } in
-    (lines, lines-printable more h.1)
-
-pub problem-lines-printable :
-    (told : Option Holdings) (file : List ℕ) (root : Option (List ℕ)) (formulas : List Annotated) → IsProblem told file root (map placed formulas)
-    → AllByRecursion (λ (a : Annotated). HasPrintableLines (entry_of a)) formulas
-problem-lines-printable told file root formulas h = lines-printable formulas (formulas-printable told file root formulas h)
+    (lines, problem-lines-printable more h.1)

@@ -2,16 +2,13 @@
 use Rattle.std.proofs.Common.{◌≡◌, ℕ, zero, suc, Bool, true, false, cond, List, [], ◌∷◌, map, Option, None, Some, refl}
 use Rattle.std.specs.Prelude.{IfSome, filter, filter_map, option_map, unwrap_or, slice_get}
 use Rattle.std.specs.List.{AllByRecursion, cons_option}
-use Rattle.outside.specs.Library.{Holdings}
 use Rattle.tptp_tree.specs.declared.problem.Annotated.{Annotated}
 use Rattle.tptp_tree.specs.Entries.{AnnotatedTree, is_conjecture}
-use Rattle.tptp_problem.specs.Formulas.{placed}
-use Rattle.tptp_problem.specs.Problem.{IsProblem}
 use Rattle.kernel_steps.specs.declared.step.Line.{Line}
 use Rattle.clausal_form.specs.DerivationLine.{LineTree, entry_of}
 use Rattle.tstp_writer.specs.LineTrees.{Script, script_of, is_conjecture_at, Layout, layout_of, lines_at, cited_places, cited_name, negated_name, input_tree, negate_tree, input_at, negate_at}
 use Rattle.tstp_writer.specs.Printable.{IsShown, IsPrintable}
-use Rattle.tstp_writer.specs.ProblemLaws.{HasPrintableLines, HasPrintableFormulas, HasPrintableBeginning}
+use Rattle.tstp_writer.specs.ProblemLaws.{ArePrintableEntries, HasPrintableLines, HasPrintableFormulas, HasPrintableBeginning}
 use Rattle.tstp_writer.proofs.ProblemLemmas.{line_name-shown, problem-lines-printable}
 
 -- ---- formulas by their places
@@ -37,10 +34,10 @@ negation-of script layout name place None h c shown = tt
 negation-of script layout name place (Some a) h c shown = h.negated script layout name place c shown
 
 pub script-printable :
-    (told : Option Holdings) (file : List ℕ) (root : Option (List ℕ)) (formulas : List Annotated) → IsProblem told file root (map placed formulas)
+    (formulas : List Annotated) → ArePrintableEntries formulas
     → (name : List ℕ) → IsShown name → HasPrintableFormulas (script_of name formulas)
-script-printable told file root formulas h name shown =
-    let all = problem-lines-printable told file root formulas h in
+script-printable formulas h name shown =
+    let all = problem-lines-printable formulas h in
     let script : Script = script_of name formulas in
     record {
       input = λ line place l. input-of script line (slice_get script.formulas place) (lines-at-place formulas place all) shown l;
@@ -73,14 +70,14 @@ passing-printable line test each (place ∷ more) = by (test place) refl (passin
     by false e rest = rest
 
 pub beginning-printable :
-    (told : Option Holdings) (file : List ℕ) (root : Option (List ℕ)) (formulas : List Annotated) → IsProblem told file root (map placed formulas)
+    (formulas : List Annotated) → ArePrintableEntries formulas
     → (name : List ℕ) → IsShown name → (lines : List Line) (numbers : List ℕ)
     → HasPrintableBeginning (script_of name formulas) (layout_of (script_of name formulas) lines numbers)
-beginning-printable told file root formulas h name shown lines numbers =
+beginning-printable formulas h name shown lines numbers =
     let script : Script = script_of name formulas in
     let layout : Layout = layout_of script lines numbers in
     let places : List ℕ = cited_places script (lines_at lines numbers) in
-    let each = script-printable told file root formulas h name shown in
+    let each = script-printable formulas h name shown in
     record {
       cited =
           all-printable (λ place. input_at script (cited_name layout place) place)

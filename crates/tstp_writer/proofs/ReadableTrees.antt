@@ -1,15 +1,12 @@
 -- What is written for the lines of a derivation that can be read again can be printed.
-use Rattle.std.proofs.Common.{ℕ, zero, suc, List, [], ◌∷◌, ◌++◌, map, Option, None, Some, refl, arith}
+use Rattle.std.proofs.Common.{ℕ, List, [], ◌∷◌, ◌++◌, Option, None, Some, refl, arith}
 use Rattle.std.proofs.lemmas.Bool.{false≢true}
 use Rattle.std.specs.Prelude.{filter_map, option_and_then, slice_get, IfSome}
 use Rattle.std.specs.List.{AllByRecursion, cons_option}
-use Rattle.outside.specs.Library.{Holdings}
 use Rattle.fol_base.specs.Clause.{TreeClause}
 use Rattle.fol_base.specs.Literal.{clause_of}
 use Rattle.tptp_tree.specs.Printing.{formula_text}
 use Rattle.tptp_tree.specs.declared.problem.Annotated.{Annotated}
-use Rattle.tptp_problem.specs.Formulas.{placed}
-use Rattle.tptp_problem.specs.Problem.{IsProblem}
 use Rattle.signature.specs.Form.{clausal_form}
 use Rattle.kernel_steps.specs.declared.step.Step.{Step}
 use Rattle.kernel_steps.specs.declared.step.Step.TheVariants.{Input, Negate, Clausify, Para, Refl, Factor, Merge, Component, Opposite, Split, Chain}
@@ -19,7 +16,7 @@ use Rattle.tstp_writer.specs.ClauseTrees.{clause_formula}
 use Rattle.tstp_writer.specs.LineTrees.{Script, script_of, Layout, layout_of, lines_at, cited_name, negated_name, derived_name, input_at, negate_at, step_source, clause_tree, line_tree, derived_tree, derivation_trees}
 use Rattle.tstp_writer.specs.ReadableLines.{IsReadable, IsReadableLine}
 use Rattle.tstp_writer.specs.Printable.{IsShown, IsPrintable}
-use Rattle.tstp_writer.specs.ProblemLaws.{HasPrintableFormulas}
+use Rattle.tstp_writer.specs.ProblemLaws.{ArePrintableEntries, HasPrintableFormulas}
 use Rattle.tstp_writer.specs.WrittenTexts.{AreShownSymbols, IsSpelledByText}
 use Rattle.tstp_writer.proofs.StepTrees.{line_tree_by}
 use Rattle.tstp_writer.proofs.ProblemLemmas.{line_name-shown}
@@ -79,13 +76,12 @@ readable-line script layout name (Some line) symbols each shown h =
     step-line script layout name (clause_of line.clause) line.step symbols each shown h
 
 pub lines-printable :
-    (told : Option Holdings) (file : List ℕ) (root : Option (List ℕ)) (problem : List Annotated)
-    → IsProblem told file root (map placed problem) → (name : List ℕ) → IsShown name → (layout : Layout) (lines : List Line) (n : ℕ)
+    (problem : List Annotated) → ArePrintableEntries problem → (name : List ℕ) → IsShown name → (layout : Layout) (lines : List Line) (n : ℕ)
     → IfSome (slice_get lines n) (IsReadableLine (clausal_form problem).symbols)
     → IfSome (derived_tree (script_of name problem) layout lines n) IsPrintable
-lines-printable told file root problem h name shown layout lines n line =
-    readable-line (script_of name problem) layout (derived_name layout n) (slice_get lines n) (form-symbols-shown told file root problem h)
-    (script-printable told file root problem h name shown) (line_name-shown _) line
+lines-printable problem h name shown layout lines n line =
+    readable-line (script_of name problem) layout (derived_name layout n) (slice_get lines n) (form-symbols-shown problem h)
+    (script-printable problem h name shown) (line_name-shown _) line
 
 -- ---- a derivation
 
@@ -115,43 +111,24 @@ numbers-printable script layout lines (n ∷ numbers) symbols each h =
         (readable-line script layout (derived_name layout n) (Some line) symbols each (line_name-shown _) k.0) (more k.1)
 
 pub derivation-printable :
-    (told : Option Holdings) (file : List ℕ) (root : Option (List ℕ)) (problem : List Annotated)
-    → IsProblem told file root (map placed problem) → (name : List ℕ) → IsShown name → (lines : List Line) (numbers : List ℕ)
+    (problem : List Annotated) → ArePrintableEntries problem → (name : List ℕ) → IsShown name → (lines : List Line) (numbers : List ℕ)
     → AllByRecursion (IsReadableLine (clausal_form problem).symbols) (lines_at lines numbers)
     → AllByRecursion IsPrintable (derivation_trees (script_of name problem) lines numbers)
-derivation-printable told file root problem h name shown lines numbers readable =
+derivation-printable problem h name shown lines numbers readable =
     let script : Script = script_of name problem in
     let layout : Layout = layout_of script lines numbers in
-    let begun = beginning-printable told file root problem h name shown lines numbers in
-    let derived = numbers-printable script layout lines numbers (form-symbols-shown told file root problem h)
-    (script-printable told file root problem h name shown) readable in
+    let begun = beginning-printable problem h name shown lines numbers in
+    let derived = numbers-printable script layout lines numbers (form-symbols-shown problem h)
+    (script-printable problem h name shown) readable in
     let cited : List LineTree = filter_map (λ place. input_at script (cited_name layout place) place) layout.cited in
     let negated : List LineTree = filter_map (λ place. negate_at script layout (negated_name layout place) place) layout.negated in
     both-printable (cited ++ negated) (filter_map (derived_tree script layout lines) numbers)
     (both-printable cited negated begun.cited begun.negated) derived
 
--- ---- of lines all of which can be read again
-
-at-place : (P : Line → Type 0) (lines : List Line) (n : ℕ) → AllByRecursion P lines → IfSome (slice_get lines n) P
-at-place P [] n h = tt
-at-place P (l ∷ ls) zero h = h.0
-at-place P (l ∷ ls) (suc n) h = at-place P ls n h.1
-
-at-places :
-    (P : Line → Type 0) (lines : List Line) (numbers : List ℕ) → AllByRecursion P lines → AllByRecursion P (lines_at lines numbers)
-at-places P lines [] h = tt
-at-places P lines (n ∷ numbers) h = by (slice_get lines n) (at-place P lines n h) (at-places P lines numbers h)
-  where
-    by : (o : Option Line) → IfSome o P → AllByRecursion P (lines_at lines numbers) → AllByRecursion P (cons_option o (lines_at lines numbers))
-    by None l more = more
-    by (Some line) l more = (l, more)
-
 pub derivation-spelled :
-    (told : Option Holdings) (file : List ℕ) (root : Option (List ℕ)) (problem : List Annotated)
-    → IsProblem told file root (map placed problem) → (name : List ℕ) → IsShown name → (lines : List Line) (numbers : List ℕ)
-    → AllByRecursion (IsReadableLine (clausal_form problem).symbols) lines
+    (problem : List Annotated) → ArePrintableEntries problem → (name : List ℕ) → IsShown name → (lines : List Line) (numbers : List ℕ)
+    → AllByRecursion (IsReadableLine (clausal_form problem).symbols) (lines_at lines numbers)
     → IsSpelledByText (derivation_trees (script_of name problem) lines numbers)
-derivation-spelled told file root problem h name shown lines numbers readable =
+derivation-spelled problem h name shown lines numbers readable =
     lines-spelled (derivation_trees (script_of name problem) lines numbers)
-    (derivation-printable told file root problem h name shown lines numbers
-    (at-places (IsReadableLine (clausal_form problem).symbols) lines numbers readable))
+    (derivation-printable problem h name shown lines numbers readable)

@@ -1,17 +1,24 @@
 -- What the lines of a derivation are written over, and the text of them all.
-use Rattle.std.proofs.Common.{◌≡◌, ℕ, zero, suc, true, List, [], ◌++◌, map, refl, ap, ap₂, ◌∙◌, subst}
+use Rattle.std.proofs.Common.{◌≡◌, ℕ, zero, suc, true, List, [], ◌++◌, map, length, refl, ap, ap₂, ◌∙◌, subst, arith}
 use Rattle.std.specs.Prelude.{codes}
 use Rattle.std.specs.List.{list_all}
+use Rattle.std.proofs.lemmas.List.{length-map}
+use Rattle.fol_base.specs.Literal.{clause_of}
 use Rattle.tptp_token.specs.Spelling.{is_lower_word, is_word_byte}
 use Rattle.tptp_tree.specs.declared.problem.Annotated.{Annotated}
 use Rattle.signature.specs.declared.symbol.Symbol.{Symbol}
+use Rattle.signature.specs.Symbol.{IsSignature}
 use Rattle.signature.specs.Form.{ClausalForm, clausal_form}
 use Rattle.signature.specs.Prefix.{underscores, needed, fresh_prefix_of}
 use Rattle.kernel_steps.specs.declared.step.Line.{Line}
+use Rattle.clausal_form.specs.declared.finished.Clausal.{Clausal}
+use Rattle.clausal_form.specs.Form.{form_of}
 use Rattle.clausal_form.specs.DerivationLine.{entry_of}
 use Rattle.tstp_writer.specs.Cone.{IsCone}
 use Rattle.tstp_writer.specs.LineTexts.{lines_text}
 use Rattle.tstp_writer.specs.LineTrees.{Script, script_of, Layout, layout_of, laid_out_trees}
+use Rattle.tstp_writer.specs.DerivedLines.{HasNumberedForm}
+use Rattle.tstp_writer.specs.ReadableLines.{Fits}
 use Rattle.tstp_writer.specs.Places.{IsCounted}
 use Rattle.tstp_writer.specs.Written.{IsWritten}
 
@@ -40,6 +47,18 @@ script-is file problem formulas form symbols origins prefix is_form is_formulas 
     ∙ ap (λ ns. script_with file problem form.symbols ns prefix) is_origins
     ∙ ap (λ p. script_with file problem form.symbols form.origins p) is_prefix
     ∙ ap (λ (f : ClausalForm). script_with file problem f.symbols f.origins (fresh_prefix_of f.symbols (codes "spl"))) is_form
+
+-- ---- the form's numbers
+
+pub numbered :
+    (problem : List Annotated) (form : Clausal)
+    → form_of form ≡ clausal_form problem → IsSignature form.signature → Fits (length form.clauses) → HasNumberedForm problem
+numbered problem form is signature few =
+    let same : map clause_of form.clauses ≡ (clausal_form problem).clauses = ap (λ (f : ClausalForm). f.clauses) is in
+    record {
+      symbols = subst IsSignature (ap (λ (f : ClausalForm). f.symbols) is) signature;
+      clauses = omega (arith, few, ap length same, length-map form.clauses clause_of);
+    }
 
 -- ---- the text
 

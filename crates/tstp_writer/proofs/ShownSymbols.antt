@@ -1,12 +1,11 @@
 -- The symbols of the form of a problem that was read, `$true` aside, have names that are shown.
-use Rattle.std.proofs.Common.{◌≡◌, ℕ, zero, suc, ◌+◌, Bool, true, false, List, [], ◌∷◌, ◌++◌, map, codes, Option, Some, refl, ◌∙◌, subst, arith, length-append}
+use Rattle.std.proofs.Common.{◌≡◌, ℕ, zero, suc, ◌+◌, Bool, true, false, List, [], ◌∷◌, ◌++◌, codes, Some, refl, ◌∙◌, subst, arith, length-append}
 use Rattle.std.specs.Prelude.{fold, flat_map, slice_get, if◌then◌else◌}
 use Rattle.std.specs.Fmt.{decimal}
 use Rattle.std.specs.List.{list_any, list_all, AllByRecursion}
 use Rattle.std.proofs.lemmas.Bool.{and_from}
 use Rattle.std.proofs.lemmas.List.Folds.{list_all-append}
 use Rattle.std.proofs.lemmas.Option.{none-some, same_Some}
-use Rattle.outside.specs.Library.{Holdings}
 use Rattle.tptp_token.specs.Spelling.{is_printable}
 use Rattle.tptp_tree.specs.Term.{TermTree, variable, application, TermTrees, no_terms, term_then}
 use Rattle.tptp_tree.specs.Formula.{FormulaTree, truth, falsity, predicate, equation, negation, conjunction, disjunction, connected, quantified, FormulaTrees, no_formulas, formula_then}
@@ -17,8 +16,6 @@ use Rattle.tptp_tree.specs.declared.problem.Annotated.{Annotated}
 use Rattle.tptp_tree.proofs.NameLemmas.{WellName}
 use Rattle.tptp_tree.proofs.CanonicalLemmas.{WellTerm, WellTerms, WellFormula, WellFormulas}
 use Rattle.tptp_tree.proofs.WellLemmas.{spelled-well}
-use Rattle.tptp_problem.specs.Formulas.{placed}
-use Rattle.tptp_problem.specs.Problem.{IsProblem}
 use Rattle.signature.specs.declared.symbol.Symbol.{Symbol}
 use Rattle.signature.specs.Symbol.{predicate_symbol, function_symbol, true_symbol, has_symbol, with_symbol}
 use Rattle.signature.specs.Occurrences.{term_symbols, terms_symbols, formula_symbols, formulas_symbols, annotated_symbols, problem_symbols}
@@ -27,9 +24,9 @@ use Rattle.signature.specs.Clausal.{Made}
 use Rattle.signature.specs.Form.{numbered_symbols, is_constant, spare_constant, with_skolem, with_naming, form_symbols, problem_form, clausal_form}
 use Rattle.clausal_form.specs.DerivationLine.{entry_of}
 use Rattle.tstp_writer.specs.Printable.{IsShown}
-use Rattle.tstp_writer.specs.ProblemLaws.{IsPrintableEntry}
+use Rattle.tstp_writer.specs.ProblemLaws.{IsPrintableEntry, ArePrintableEntries}
 use Rattle.tstp_writer.specs.WrittenTexts.{AreShownSymbols}
-use Rattle.tstp_writer.proofs.ProblemLemmas.{decimal-printable, formulas-printable}
+use Rattle.tstp_writer.proofs.ProblemLemmas.{decimal-printable}
 
 -- ---- lists of symbols
 
@@ -95,7 +92,7 @@ entry-well : (a : AnnotatedTree) → IsPrintableEntry a → WellFormula a.formul
 entry-well a e = subst WellFormula e.spelled.2 (spelled-well (formula_text a.formula) e.spelled.0 e.spelled.1)
 
 entries-shown :
-    (fs : List Annotated) → AllByRecursion (λ (a : Annotated). IsPrintableEntry (entry_of a)) fs → AreShown (flat_map annotated_symbols fs)
+    (fs : List Annotated) → ArePrintableEntries fs → AreShown (flat_map annotated_symbols fs)
 entries-shown [] h = tt
 entries-shown (a ∷ fs) h =
     both-shown (annotated_symbols a) (flat_map annotated_symbols fs) (formula-shown (formula_of a.formula) (entry-well (entry_of a) h.0))
@@ -166,10 +163,9 @@ form-shown symbols m h =
     (made-shown (codes "hc") (record { printable = refl; some = omega arith }) symbols 0))
 
 pub form-symbols-shown :
-    (told : Option Holdings) (file : List ℕ) (root : Option (List ℕ)) (problem : List Annotated)
-    → IsProblem told file root (map placed problem) → AreShownSymbols (clausal_form problem).symbols
-form-symbols-shown told file root problem h =
+    (problem : List Annotated) → ArePrintableEntries problem → AreShownSymbols (clausal_form problem).symbols
+form-symbols-shown problem h =
     all-shown (clausal_form problem).symbols
     (form-shown (problem_symbols problem) (problem_form problem).made
     (met-shown (true_symbol ∷ []) (flat_map annotated_symbols problem) tt
-    (entries-shown problem (formulas-printable told file root problem h))))
+    (entries-shown problem h)))

@@ -19,6 +19,7 @@ use Rattle.clausal_form.proofs.TakenLemmas.{kernel_line-clause}
 use Rattle.tstp_writer.specs.Cone.{IsCone}
 use Rattle.tstp_writer.specs.LineTrees.{Script, script_of, Layout, layout_of, cited_name, negated_name, input_at, negate_at, derived_tree, derivation_trees}
 use Rattle.tstp_writer.specs.ReadableLines.{read_renaming, placed_step, derived_taken, all_written}
+use Rattle.tstp_writer.specs.DerivedLines.{HasNumberedForm}
 use Rattle.tstp_writer.specs.Places.{IsCounted}
 use Rattle.tstp_writer.specs.WrittenLaws.{IsReadableRefutation, WrittenLinesAreAccepted}
 use Rattle.tstp_writer.proofs.PlaceLemmas.{stands-last}
@@ -48,7 +49,7 @@ placed-clause layout σ (Chain numbers pivots) h = refl
 
 module _
     (file : List ℕ) (problem : List Annotated) (lines : List Line) (last : ℕ) (numbers : List ℕ)
-    (r : IsReadableRefutation problem lines last) (cone : IsCone lines last numbers)
+    (form : HasNumberedForm problem) (r : IsReadableRefutation problem lines last) (cone : IsCone lines last numbers)
     (counted : IsCounted (layout_of (script_of file problem) lines numbers)) where
   abbrev s : Setting
   s = setting_of problem
@@ -87,14 +88,14 @@ module _
       (inputs file problem lines numbers ++ negations file problem lines numbers) (filter_map (derived_taken layout lines) numbers)
       (walk-both s [] cited negated (inputs file problem lines numbers) (negations file problem lines numbers)
       (inputs-walked file problem lines numbers counted) (negations-walked file problem lines numbers counted))
-      (derived-walked file problem lines numbers last r cone counted)
+      (derived-walked file problem lines numbers last form r cone counted)
 
 pub written-accepted : WrittenLinesAreAccepted
-written-accepted file problem lines last numbers r cone counted =
+written-accepted file problem lines last numbers form r cone counted =
     let all : List NamedLine = all_written problem (layout_of (script_of file problem) lines numbers) lines numbers in
     let walk : Walks (setting_of problem) [] (derivation_trees (script_of file problem) lines numbers) all =
-    all-walked file problem lines last numbers r cone counted in
+    all-walked file problem lines last numbers form r cone counted in
     ap ended walk.verdict
     ∙ ap (λ b. if b then accepted (length all) else refused_line (length all) no_empty_clause)
-    (all-end file problem lines last numbers r cone counted)
+    (all-end file problem lines last numbers form r cone counted)
     ∙ ap accepted (sym walk.lengths)

@@ -2,7 +2,6 @@
 use Rattle.std.specs.Prelude.{◌≡◌, ℕ, ◌*◌, ◌≤◌, true, false, ◌&&◌, List, map, filter_map, Option, IfSome}
 use Rattle.std.specs.List.{AllByRecursion}
 use Rattle.outside.specs.Library.{Holdings}
-use Rattle.tptp_tree.specs.declared.limits.TheConstants.{MOST_NESTING}
 use Rattle.tptp_tree.specs.declared.problem.Annotated.{Annotated}
 use Rattle.tptp_tree.specs.Printing.{formula_text}
 use Rattle.tptp_tree.specs.Spelling.{SpellsFormula}
@@ -15,14 +14,21 @@ use Rattle.tstp_writer.specs.Levels.{formula_levels}
 use Rattle.tstp_writer.specs.LineTrees.{Script, script_of, is_conjecture_at, Layout, layout_of, line_name, cited_name, negated_name, input_tree, negate_tree, input_at, negate_at}
 use Rattle.tstp_writer.specs.Printable.{IsShown, IsFormOf, IsPrintable}
 
--- The printed formula spells it, is of its language's form, and has at most twice the levels that the formula of a text may have:
--- what stood behind `~` without brackets may stand in parentheses.
+-- The levels that a printed formula may have: twice those of a text of nesting 1,000, since what stood behind `~` without brackets may
+-- stand in parentheses.
+abbrev pub most_printed_levels : ℕ
+most_printed_levels = 2 * 1000
+
+-- The printed formula spells it, is of its language's form, and isn't too deep.
 pub record IsPrintableEntry (a : AnnotatedTree) : Type 0 where
   pub name : IsShown a.name
   pub role : (a.is_clause && is_conjecture a.role) ≡ false
   pub spelled : SpellsFormula (formula_text a.formula) a.formula
   pub form : IsFormOf a.is_clause a.formula
-  pub levels : formula_levels a.formula ≤ 2 * MOST_NESTING
+  pub levels : formula_levels a.formula ≤ most_printed_levels
+
+abbrev pub ArePrintableEntries : List Annotated → Type 0
+ArePrintableEntries formulas = AllByRecursion (λ (a : Annotated). IsPrintableEntry (entry_of a)) formulas
 
 -- the lines of a formula of a problem, whatever names they have
 pub record HasPrintableLines (a : AnnotatedTree) : Type 0 where
@@ -49,23 +55,22 @@ pub record HasPrintableBeginning (script : Script) (layout : Layout) : Type 0 wh
 abbrev pub ProblemFormulasArePrintable : Type 0
 ProblemFormulasArePrintable =
     (told : Option Holdings) (file : List ℕ) (root : Option (List ℕ)) (formulas : List Annotated)
-    → IsProblem told file root (map placed formulas) → AllByRecursion (λ (a : Annotated). IsPrintableEntry (entry_of a)) formulas
+    → IsProblem told file root (map placed formulas) → ArePrintableEntries formulas
+
+-- ---- problems whose formulas can be printed
 
 abbrev pub ProblemLinesArePrintable : Type 0
 ProblemLinesArePrintable =
-    (told : Option Holdings) (file : List ℕ) (root : Option (List ℕ)) (formulas : List Annotated)
-    → IsProblem told file root (map placed formulas) → AllByRecursion (λ (a : Annotated). HasPrintableLines (entry_of a)) formulas
+    (formulas : List Annotated) → ArePrintableEntries formulas → AllByRecursion (λ (a : Annotated). HasPrintableLines (entry_of a)) formulas
 
 -- the same by places, where the file's name is shown
 abbrev pub ScriptFormulasArePrintable : Type 0
 ScriptFormulasArePrintable =
-    (told : Option Holdings) (file : List ℕ) (root : Option (List ℕ)) (formulas : List Annotated)
-    → IsProblem told file root (map placed formulas) → (name : List ℕ) → IsShown name → HasPrintableFormulas (script_of name formulas)
+    (formulas : List Annotated) → ArePrintableEntries formulas → (name : List ℕ) → IsShown name → HasPrintableFormulas (script_of name formulas)
 
 abbrev pub BeginningsArePrintable : Type 0
 BeginningsArePrintable =
-    (told : Option Holdings) (file : List ℕ) (root : Option (List ℕ)) (formulas : List Annotated)
-    → IsProblem told file root (map placed formulas) → (name : List ℕ) → IsShown name → (lines : List Line) (numbers : List ℕ)
+    (formulas : List Annotated) → ArePrintableEntries formulas → (name : List ℕ) → IsShown name → (lines : List Line) (numbers : List ℕ)
     → HasPrintableBeginning (script_of name formulas) (layout_of (script_of name formulas) lines numbers)
 
 abbrev pub LineNamesAreShown : Type 0

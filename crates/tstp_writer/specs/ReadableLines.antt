@@ -1,4 +1,4 @@
--- Lines whose text can be read again: canonical clauses without names, over the symbols of a form; and what is taken of them when they
+-- Clause lines whose text can be read again: canonical clauses without names, over the symbols of a form; and what is taken of them when they
 -- are read again.
 use Rattle.std.specs.Prelude.{◌≡◌, ℕ, ◌+◌, ◌^◌, ◌<◌, nat_le, Bool, true, false, ◌&&◌, ◌==◌, List, [], ◌∷◌, ◌++◌, map, filter_map, flat_map, length, Option, option_map, unwrap_or, slice_get, position, IsTrue}
 use Rattle.std.specs.List.{list_all, AllByRecursion}
@@ -23,9 +23,8 @@ use Rattle.tstp_writer.specs.LineTrees.{Layout, line_name, place_in, derived_nam
 
 -- ---- steps
 
--- an input, a clause of the form, or a conclusion of a rule on literals; the other steps are about names
+-- a clause of the form, or a conclusion of a rule on literals; the other steps are about formulas or names
 abbrev pub is_nameless_step : Step → Bool
-is_nameless_step (Input place) = true
 is_nameless_step (Clausify i) = true
 is_nameless_step (Para first second from from_side into into_side place first_bind second_bind) = true
 is_nameless_step (Refl parent literal bind) = true

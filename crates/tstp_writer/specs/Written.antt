@@ -1,9 +1,6 @@
 -- The text of a derivation: of the lines that one of them needs; and where it is an accepted derivation.
-use Rattle.std.specs.Prelude.{◌≡◌, ℕ, List, map, Option}
-use Rattle.outside.specs.Library.{Holdings}
+use Rattle.std.specs.Prelude.{◌≡◌, ℕ, List}
 use Rattle.tptp_tree.specs.declared.problem.Annotated.{Annotated}
-use Rattle.tptp_problem.specs.Formulas.{placed}
-use Rattle.tptp_problem.specs.Problem.{IsProblem}
 use Rattle.kernel_steps.specs.declared.step.Line.{Line}
 use Rattle.clausal_form.specs.DerivationTexts.{IsAcceptedDerivation}
 use Rattle.tstp_writer.specs.Cone.{IsCone}
@@ -11,6 +8,7 @@ use Rattle.tstp_writer.specs.LineTexts.{lines_text}
 use Rattle.tstp_writer.specs.LineTrees.{script_of, layout_of, derivation_trees}
 use Rattle.tstp_writer.specs.Places.{IsCounted}
 use Rattle.tstp_writer.specs.Printable.{IsShown}
+use Rattle.tstp_writer.specs.ProblemLaws.{ArePrintableEntries}
 use Rattle.tstp_writer.specs.WrittenLaws.{IsReadableRefutation}
 
 -- What is written for the lines that the line `last` needs. The lines are counted by a machine word.
@@ -20,15 +18,8 @@ pub record IsWritten (file : List ℕ) (problem : List Annotated) (lines : List 
   pub counted : IsCounted (layout_of (script_of file problem) lines numbers)
   pub printed : text ≡ lines_text (derivation_trees (script_of file problem) lines numbers)
 
--- a problem that was read from a file
-pub record WasRead (problem : List Annotated) : Type 0 where
-  pub told : Option Holdings
-  pub file : List ℕ
-  pub root : Option (List ℕ)
-  pub read : IsProblem told file root (map placed problem)
-
--- Where the problem was read, the shown name isn't empty, and the lines are a refutation that can be read again, the text is an accepted
--- derivation of the problem.
+-- Where the problem's formulas can be printed, as those that were read can, the shown name isn't empty, and the lines are a refutation
+-- that can be read again, the text is an accepted derivation of the problem.
 abbrev pub IsAcceptedWhereReadable : List ℕ → List Annotated → List Line → ℕ → List ℕ → Type 0
 IsAcceptedWhereReadable file problem lines last text =
-    WasRead problem → IsShown file → IsReadableRefutation problem lines last → (count : ℕ) × IsAcceptedDerivation problem text count
+    ArePrintableEntries problem → IsShown file → IsReadableRefutation problem lines last → (count : ℕ) × IsAcceptedDerivation problem text count

@@ -1,10 +1,7 @@
 -- Lines that can be read again can be printed, and their printed text spells them.
-use Rattle.std.specs.Prelude.{◌≡◌, ℕ, suc, List, map, Option, Some, slice_get, IfSome}
+use Rattle.std.specs.Prelude.{◌≡◌, ℕ, suc, List, Some, slice_get, IfSome}
 use Rattle.std.specs.List.{AllByRecursion}
-use Rattle.outside.specs.Library.{Holdings}
 use Rattle.tptp_tree.specs.declared.problem.Annotated.{Annotated}
-use Rattle.tptp_problem.specs.Formulas.{placed}
-use Rattle.tptp_problem.specs.Problem.{IsProblem}
 use Rattle.signature.specs.declared.symbol.Symbol.{Symbol}
 use Rattle.signature.specs.Form.{clausal_form}
 use Rattle.kernel_steps.specs.declared.step.Line.{Line}
@@ -14,6 +11,8 @@ use Rattle.tstp_writer.specs.LineTexts.{lines_text}
 use Rattle.tstp_writer.specs.LineTrees.{script_of, Layout, lines_at, derived_tree, derivation_trees}
 use Rattle.tstp_writer.specs.ReadableLines.{IsReadableLine}
 use Rattle.tstp_writer.specs.Printable.{IsShown, IsPrintable}
+use Rattle.tstp_writer.specs.ProblemLaws.{ArePrintableEntries}
+use Rattle.tstp_writer.specs.DerivedLines.{HasNumberedForm}
 use Rattle.tstp_writer.specs.Written.{IsWritten, IsAcceptedWhereReadable}
 
 -- ---- symbols
@@ -24,16 +23,14 @@ AreShownSymbols symbols = (n : ℕ) (s : Symbol) → slice_get symbols (suc n) �
 
 abbrev pub FormSymbolsAreShown : Type 0
 FormSymbolsAreShown =
-    (told : Option Holdings) (file : List ℕ) (root : Option (List ℕ)) (problem : List Annotated)
-    → IsProblem told file root (map placed problem) → AreShownSymbols (clausal_form problem).symbols
+    (problem : List Annotated) → ArePrintableEntries problem → AreShownSymbols (clausal_form problem).symbols
 
 -- ---- lines
 
 -- what is written for a line that can be read again, under whatever layout
 abbrev pub ReadableLinesArePrintable : Type 0
 ReadableLinesArePrintable =
-    (told : Option Holdings) (file : List ℕ) (root : Option (List ℕ)) (problem : List Annotated)
-    → IsProblem told file root (map placed problem) → (name : List ℕ) → IsShown name → (layout : Layout) (lines : List Line) (n : ℕ)
+    (problem : List Annotated) → ArePrintableEntries problem → (name : List ℕ) → IsShown name → (layout : Layout) (lines : List Line) (n : ℕ)
     → IfSome (slice_get lines n) (IsReadableLine (clausal_form problem).symbols)
     → IfSome (derived_tree (script_of name problem) layout lines n) IsPrintable
 
@@ -42,8 +39,7 @@ ReadableLinesArePrintable =
 -- all that is written for lines of a derivation, those with these numbers
 abbrev pub ReadableDerivationsArePrintable : Type 0
 ReadableDerivationsArePrintable =
-    (told : Option Holdings) (file : List ℕ) (root : Option (List ℕ)) (problem : List Annotated)
-    → IsProblem told file root (map placed problem) → (name : List ℕ) → IsShown name → (lines : List Line) (numbers : List ℕ)
+    (problem : List Annotated) → ArePrintableEntries problem → (name : List ℕ) → IsShown name → (lines : List Line) (numbers : List ℕ)
     → AllByRecursion (IsReadableLine (clausal_form problem).symbols) (lines_at lines numbers)
     → AllByRecursion IsPrintable (derivation_trees (script_of name problem) lines numbers)
 
@@ -53,13 +49,12 @@ IsSpelledByText trees = SpellsDerivation (lines_text trees) trees
 -- and so its text spells it
 abbrev pub ReadableDerivationsAreSpelled : Type 0
 ReadableDerivationsAreSpelled =
-    (told : Option Holdings) (file : List ℕ) (root : Option (List ℕ)) (problem : List Annotated)
-    → IsProblem told file root (map placed problem) → (name : List ℕ) → IsShown name → (lines : List Line) (numbers : List ℕ)
-    → AllByRecursion (IsReadableLine (clausal_form problem).symbols) lines
+    (problem : List Annotated) → ArePrintableEntries problem → (name : List ℕ) → IsShown name → (lines : List Line) (numbers : List ℕ)
+    → AllByRecursion (IsReadableLine (clausal_form problem).symbols) (lines_at lines numbers)
     → IsSpelledByText (derivation_trees (script_of name problem) lines numbers)
 
 -- what is written of a refutation that can be read again is an accepted derivation
 abbrev pub WrittenTextsAreAccepted : Type 0
 WrittenTextsAreAccepted =
     (file : List ℕ) (problem : List Annotated) (lines : List Line) (last : ℕ) (text : List ℕ)
-    → IsWritten file problem lines last text → IsAcceptedWhereReadable file problem lines last text
+    → HasNumberedForm problem → IsWritten file problem lines last text → IsAcceptedWhereReadable file problem lines last text

@@ -21,7 +21,7 @@ ghost use Rattle.tstp_writer.specs.Printable.{PrintedLinesAreSpelled};
 ghost use Rattle.tstp_writer.specs.ProblemLaws.{ProblemFormulasArePrintable, ProblemLinesArePrintable, ScriptFormulasArePrintable, BeginningsArePrintable, LineNamesAreShown};
 ghost use Rattle.tstp_writer.specs.WrittenTexts.{FormSymbolsAreShown, ReadableLinesArePrintable, ReadableDerivationsArePrintable, ReadableDerivationsAreSpelled, WrittenTextsAreAccepted};
 ghost use Rattle.tstp_writer.specs.WrittenLaws.{WrittenLinesAreAccepted};
-ghost use Rattle.tstp_writer.specs.TextExamples.{implication_steps, implication_numbers, implication_text, components_steps, components_numbers, components_text};
+ghost use Rattle.tstp_writer.specs.TextExamples.{implication_steps, implication_numbers, implication_text, components_steps, components_numbers, components_text, split_or_q, signed_steps, signed_numbers, signed_text};
 
 /// The lines of a derivation need earlier lines alone.
 pub fn derivations_need_earlier()
@@ -41,9 +41,11 @@ pub fn needed_line_examples()
     ensures clause_of_form { needs (Clausify 0) 0 (line (Clausify 0) []) ≡ false }
 {}
 
-/// The last line needs itself, its parent, the definitions of both parts, and the component line of the second one's name.
+/// The last line needs itself, its parent, the definitions of both parts, and the component line of the second one's name. In the
+/// other derivation a clausify line isn't needed, and stands in no cone.
 pub fn cone_examples()
     ensures split { IsCone split_lines 5 (0 ∷ 1 ∷ 2 ∷ 4 ∷ 5 ∷ []) }
+    ensures implication { IsCone implication_steps 7 implication_numbers }
 {}
 
 /// What stands behind `~` has parentheses of its own where it is quantified or an equation, and none where it is negated or another
@@ -71,7 +73,8 @@ pub fn line_names_are_shown()
     ensures { LineNamesAreShown }
 {}
 
-/// The lines that are written for two derivations, and their texts: one implication, and two components.
+/// The lines that are written for derivations, and their texts: one implication, where the fourth line isn't needed; two components;
+/// and an opposite line with a negative pivot, over a problem with a symbol that begins with `spl`.
 pub fn written_examples()
     ensures implication_lines { derivation_trees (script_of (codes "r5.p") example.implication) implication_steps implication_numbers
         ≡ example.implication_lines }
@@ -79,6 +82,7 @@ pub fn written_examples()
     ensures components_lines { derivation_trees (script_of (codes "r10.p") example.components) components_steps components_numbers
         ≡ example.components_lines }
     ensures components_text { lines_text example.components_lines ≡ components_text }
+    ensures signed_text { lines_text (derivation_trees (script_of (codes "r11.p") split_or_q) signed_steps signed_numbers) ≡ signed_text }
 {}
 
 /// A factor line with variables and equations, and its text.

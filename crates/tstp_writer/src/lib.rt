@@ -20,6 +20,3 @@ pub use lines::push_formula_name;
 pub use needed::cone;
 pub use page::Page;
 pub use write::write_lines;
-
-#[cfg(test)]
-mod tests;

@@ -12,7 +12,7 @@ use plain_types::{Mem, Numbers};
 use std::alloc::Global;
 
 /// The lines that the line `last` needs, itself among them, rising: its parents and theirs, and for an opposite line the
-/// component line of its name. Linear in the lines up to `last`.
+/// component line of its name. Linear in the lines up to `last` and their parents.
 pub fn cone(alloc: Global, lines: &Derivation, last: u64) -> Mem<Numbers>
     requires last { last < length lines.now }
     requires earlier { NeedEarlier lines.now }

@@ -2,9 +2,11 @@
 
 ghost use Rattle.std.specs.Prelude.{◌≡◌, ◌<◌, length, IfOk};
 ghost use Rattle.tptp_tree.specs.ProblemSize.{HasProblemSize};
+ghost use Rattle.signature.specs.Symbol.{IsSignature};
 ghost use Rattle.signature.specs.Form.{clausal_form};
 ghost use Rattle.clausal_form.specs.Form.{form_of};
 ghost use Rattle.tstp_writer.specs.Cone.{NeedEarlier};
+ghost use Rattle.tstp_writer.specs.ReadableLines.{Fits};
 ghost use Rattle.tstp_writer.specs.Written.{IsWritten, IsAcceptedWhereReadable};
 
 use crate::layout::lay_out;
@@ -20,8 +22,9 @@ use std::alloc::Global;
 use tptp_tree::Problem;
 
 /// The text of the lines that the line `last` needs, with the formulas of the problem that they stand on. The file is the name that
-/// is shown. Of a refutation whose lines can be read again it is an accepted derivation of the problem. Linear in the formulas, the
-/// symbols, the lines and the text. Over 2^64 written lines are want of memory.
+/// is shown. Where that name is shown, the problem's formulas can be printed, as those that were read can, and the lines are a
+/// refutation of which those that `last` needs can be read again, it is an accepted derivation of the problem. Linear in the formulas,
+/// the symbols, the lines and the text. Over 2^64 written lines are want of memory.
 pub fn write_lines(
     alloc: Global,
     problem: &Problem,
@@ -45,9 +48,19 @@ pub fn write_lines(
         origins: form.origins.as_slice(),
         prefix: prefix.as_slice(),
     };
+    prove_counts(form);
     let lines_needed = cone(alloc, lines, last)?;
     let layout = lay_out(alloc, script, lines.as_slice(), lines_needed)?;
     let mut page = Page::new(alloc);
     push_lines(alloc, &mut page, script, &layout, lines.as_slice())?;
     Ok(page.into_text())
+}
+
+/// The symbols of a form are a signature's, and its clauses are counted by a machine word.
+fn prove_counts(form: &Clausal)
+    ensures symbols { IsSignature form.now.signature }
+    ensures clauses { Fits (length form.now.clauses) }
+{
+    let _ = form.signature.len();
+    let _ = form.clauses.len();
 }

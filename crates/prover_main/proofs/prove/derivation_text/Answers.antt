@@ -10,7 +10,7 @@ returns c =
     IfOk-weaker c.write_lines.result _ _
     (λ text accepted. text-accepted c.args.formed.now c.as_slice.result.now c.args.lines.now _ text c.requires.formed
     (subst IsShown (sym (c.as_slice.ensures ∙ c.in_ok-name.ensures)) (file-shown c.args.file.now c.requires.filled))
-    c.requires.scope c.requires.refutation c.requires.ground c.prove_counts.ensures.symbols c.prove_counts.ensures.clauses
+    c.requires.scope c.requires.refutation c.requires.ground
     (omega (arith, c.len.ensures, refutation-some _ _ c.requires.refutation)) accepted)
     c.write_lines.ensures.accepted
 

@@ -6,7 +6,7 @@ use Rattle.kernel_steps.specs.declared.step.Line.{Line}
 use Rattle.tstp_writer.specs.Written.{IsWritten}
 use Rattle.tstp_writer.proofs.AcceptedTexts.{text-accepted}
 use Rattle.tstp_writer.proofs.LayoutLemmas.{cone-below}
-use Rattle.tstp_writer.proofs.ScriptLemmas.{prefix-lower, script_with, script-is, written}
+use Rattle.tstp_writer.proofs.ScriptLemmas.{prefix-lower, script_with, script-is, written, numbered}
 use Rattle.tstp_writer.proofs.write.write_lines.Goals as goal
 
 pub lay_out-requires : goal.lay_out-requires
@@ -33,5 +33,8 @@ returns c =
     c.new-page.ensures c.in_ok-push_lines.ensures c.into_text.ensures in
     record {
       written = text;
-      accepted = text-accepted c.args.file.now c.args.problem.now.formulas c.args.lines.now c.args.last c.into_text.result text;
+      accepted =
+          text-accepted c.args.file.now c.args.problem.now.formulas c.args.lines.now c.args.last c.into_text.result
+          (numbered c.args.problem.now.formulas c.args.form.now c.requires.form c.prove_counts.ensures.symbols c.prove_counts.ensures.clauses)
+          text;
     }
