@@ -1,14 +1,14 @@
-// Times `skolemize` on made-up forms.
+// Times `skolemize` on the normal forms of made-up formulas.
 #![tactic(auto)]
 
-use formula_nnf::{Nnf, NnfBox, Nnfs};
+use formula_nnf::{Nnf, nnf};
 use plain_types::{Mem, NoMemory, Text, Texts};
 use signature::{Signature, Symbol, SymbolKind};
 use skolem::skolemize;
 use std::alloc::Global;
 use std::io;
 use std::time::Instant;
-use tptp_tree::{AnnotatedList, Problem, TreeTerm, TreeTerms};
+use tptp_tree::{AnnotatedList, Formula, FormulaBox, Formulas, Problem, TreeTerm, TreeTerms};
 
 fn name(alloc: Global, letter: &[u8], number: u32) -> Mem<Text> {
     let digits = number.to_string(alloc)?;
@@ -32,94 +32,98 @@ fn one(alloc: Global, letter: &[u8], number: u32) -> Mem<Texts> {
     Ok(all)
 }
 
-fn p(alloc: Global, positive: bool, variable: Text) -> Mem<Nnf> {
+fn p(alloc: Global, positive: bool, variable: Text) -> Mem<Formula> {
     let mut terms = TreeTerms::new(alloc);
     terms.push(TreeTerm::Var(variable))?;
-    Ok(Nnf::Pred(positive, Text::from_slice(alloc, b"p")?, terms))
+    let atom = Formula::Pred(Text::from_slice(alloc, b"p")?, terms);
+    if positive {
+        return Ok(atom);
+    }
+    Ok(Formula::Not(FormulaBox::new(alloc, atom)?))
 }
 
-fn r(alloc: Global, left: Text, right: Text) -> Mem<Nnf> {
+fn r(alloc: Global, left: Text, right: Text) -> Mem<Formula> {
     let mut terms = TreeTerms::new(alloc);
     terms.push(TreeTerm::Var(left))?;
     terms.push(TreeTerm::Var(right))?;
-    Ok(Nnf::Pred(true, Text::from_slice(alloc, b"r")?, terms))
+    Ok(Formula::Pred(Text::from_slice(alloc, b"r")?, terms))
 }
 
-fn all_p(alloc: Global, letter: &[u8], count: u32) -> Mem<Nnf> {
-    let mut forms = Nnfs::new(alloc);
+fn all_p(alloc: Global, letter: &[u8], count: u32) -> Mem<Formula> {
+    let mut forms = Formulas::new(alloc);
     for number in 0..count {
         forms.push(p(alloc, true, name(alloc, letter, number)?)?)?;
     }
-    Ok(Nnf::And(forms))
+    Ok(Formula::And(forms))
 }
 
-fn two(alloc: Global, first: Nnf, second: Nnf, all: bool) -> Mem<Nnf> {
-    let mut forms = Nnfs::new(alloc);
+fn two(alloc: Global, first: Formula, second: Formula, all: bool) -> Mem<Formula> {
+    let mut forms = Formulas::new(alloc);
     forms.push(first)?;
     forms.push(second)?;
-    Ok(if all { Nnf::And(forms) } else { Nnf::Or(forms) })
+    Ok(if all { Formula::And(forms) } else { Formula::Or(forms) })
 }
 
 // `! [X0, ..] : (p(X0) & ..)`
-fn listed_all(alloc: Global, count: u32) -> Mem<Nnf> {
-    Ok(Nnf::All(names(alloc, b"X", count)?, NnfBox::new(alloc, all_p(alloc, b"X", count)?)?))
+fn listed_all(alloc: Global, count: u32) -> Mem<Formula> {
+    Ok(Formula::All(names(alloc, b"X", count)?, FormulaBox::new(alloc, all_p(alloc, b"X", count)?)?))
 }
 
 // `? [X0, ..] : (p(X0) & ..)`
-fn listed_some(alloc: Global, count: u32) -> Mem<Nnf> {
-    Ok(Nnf::Ex(names(alloc, b"X", count)?, NnfBox::new(alloc, all_p(alloc, b"X", count)?)?))
+fn listed_some(alloc: Global, count: u32) -> Mem<Formula> {
+    Ok(Formula::Ex(names(alloc, b"X", count)?, FormulaBox::new(alloc, all_p(alloc, b"X", count)?)?))
 }
 
 // `! [X0, ..] : ? [Y] : (p(X0) & .. & p(Y))`
-fn wide(alloc: Global, count: u32) -> Mem<Nnf> {
+fn wide(alloc: Global, count: u32) -> Mem<Formula> {
     let body = two(alloc, all_p(alloc, b"X", count)?, p(alloc, true, name(alloc, b"Y", 0)?)?, true)?;
-    let inner = Nnf::Ex(one(alloc, b"Y", 0)?, NnfBox::new(alloc, body)?);
-    Ok(Nnf::All(names(alloc, b"X", count)?, NnfBox::new(alloc, inner)?))
+    let inner = Formula::Ex(one(alloc, b"Y", 0)?, FormulaBox::new(alloc, body)?);
+    Ok(Formula::All(names(alloc, b"X", count)?, FormulaBox::new(alloc, inner)?))
 }
 
 // `! [X0] : ! [X1] : .. (p(X0) & ..)`
-fn nested_all(alloc: Global, count: u32) -> Mem<Nnf> {
+fn nested_all(alloc: Global, count: u32) -> Mem<Formula> {
     let mut form = all_p(alloc, b"X", count)?;
     for number in 0..count {
-        form = Nnf::All(one(alloc, b"X", count - 1 - number)?, NnfBox::new(alloc, form)?);
+        form = Formula::All(one(alloc, b"X", count - 1 - number)?, FormulaBox::new(alloc, form)?);
     }
     Ok(form)
 }
 
 // `? [X0] : ? [X1] : .. (p(X0) & ..)`
-fn nested_some(alloc: Global, count: u32) -> Mem<Nnf> {
+fn nested_some(alloc: Global, count: u32) -> Mem<Formula> {
     let mut form = all_p(alloc, b"X", count)?;
     for number in 0..count {
-        form = Nnf::Ex(one(alloc, b"X", count - 1 - number)?, NnfBox::new(alloc, form)?);
+        form = Formula::Ex(one(alloc, b"X", count - 1 - number)?, FormulaBox::new(alloc, form)?);
     }
     Ok(form)
 }
 
 // `! [X0] : (p(X0) & ? [Y0] : (r(X0,Y0) & ! [X1] : ..))`
-fn alternating(alloc: Global, count: u32) -> Mem<Nnf> {
-    let mut form = Nnf::True;
+fn alternating(alloc: Global, count: u32) -> Mem<Formula> {
+    let mut form = Formula::True;
     for place in 0..count {
         let number = count - 1 - place;
         let atom = r(alloc, name(alloc, b"X", number)?, name(alloc, b"Y", number)?)?;
         let body = two(alloc, atom, form, true)?;
-        let some = Nnf::Ex(one(alloc, b"Y", number)?, NnfBox::new(alloc, body)?);
+        let some = Formula::Ex(one(alloc, b"Y", number)?, FormulaBox::new(alloc, body)?);
         let atom = p(alloc, true, name(alloc, b"X", number)?)?;
         let body = two(alloc, atom, some, true)?;
-        form = Nnf::All(one(alloc, b"X", number)?, NnfBox::new(alloc, body)?);
+        form = Formula::All(one(alloc, b"X", number)?, FormulaBox::new(alloc, body)?);
     }
     Ok(form)
 }
 
 // the conjunction of as many `! [X] : (p(X) => ? [Y] : r(X,Y))`
-fn implications(alloc: Global, count: u32) -> Mem<Nnf> {
-    let mut forms = Nnfs::new(alloc);
+fn implications(alloc: Global, count: u32) -> Mem<Formula> {
+    let mut forms = Formulas::new(alloc);
     for _ in 0..count {
         let atom = r(alloc, name(alloc, b"X", 0)?, name(alloc, b"Y", 0)?)?;
-        let some = Nnf::Ex(one(alloc, b"Y", 0)?, NnfBox::new(alloc, atom)?);
+        let some = Formula::Ex(one(alloc, b"Y", 0)?, FormulaBox::new(alloc, atom)?);
         let body = two(alloc, p(alloc, false, name(alloc, b"X", 0)?)?, some, false)?;
-        forms.push(Nnf::All(one(alloc, b"X", 0)?, NnfBox::new(alloc, body)?))?;
+        forms.push(Formula::All(one(alloc, b"X", 0)?, FormulaBox::new(alloc, body)?))?;
     }
-    Ok(Nnf::And(forms))
+    Ok(Formula::And(forms))
 }
 
 fn symbols(alloc: Global) -> Mem<Signature> {
@@ -132,16 +136,19 @@ fn symbols(alloc: Global) -> Mem<Signature> {
     Ok(signature)
 }
 
-fn worked(alloc: Global, form: &Nnf) -> Mem<u32> {
-    let mut signature = symbols(alloc)?;
-    let prefix = Text::from_slice(alloc, b"sk")?;
-    let (_matrix, number) = skolemize(alloc, form, &mut signature, &prefix, 0)?;
-    Ok(number)
+fn worked(alloc: Global, form: &Nnf<'_>) -> Mem<usize> {
+    let signature = symbols(alloc)?;
+    let made = skolemize(alloc, form, &signature)?;
+    Ok(made.arities.len())
 }
 
-fn time(rt: &HostRuntime, what: &str, form: Mem<Nnf>) -> io::Result<()> {
+fn time(rt: &HostRuntime, what: &str, formula: Mem<Formula>) -> io::Result<()> {
     let alloc = rt.alloc();
-    let Ok(form) = form else {
+    let Ok(formula) = formula else {
+        println!(rt; "{what}: no memory")?;
+        return Ok(());
+    };
+    let Ok(form) = nnf(alloc, &formula, true) else {
         println!(rt; "{what}: no memory")?;
         return Ok(());
     };

@@ -3,15 +3,13 @@ use Rattle.std.proofs.Common.{◌≡◌, ℕ, zero, suc, ◌+◌, ◌<◌, ◌�
 use Rattle.std.proofs.lemmas.List.{map-append}
 use denote.Ref.{Bor}
 use Rattle.fol_base.specs.Clause.{TreeLiteral, TreeClause}
-use Rattle.fol_base.specs.Lent.{lent_of}
-use Rattle.fol_base.specs.declared.literal_ref.LiteralRef.{LiteralRef}
 use Rattle.signature.specs.Clausal.{Literals, all_pairs, canonical_literals}
 use Rattle.signature.proofs.OccurrenceLemmas.{drop-item, drop-end}
 use Rattle.skolem.specs.Matrix.{MatrixTree, falsity, literal, matrix_size, MatrixTrees, matrices_size, matrices_of}
 use Rattle.skolem.specs.Shape.{matrix_tree}
 use Rattle.skolem.specs.declared.matrix.Matrix.{Matrix}
 use Rattle.clausal_form.specs.Written.{written, all_written, product_written}
-use Rattle.clausal_form.specs.Agenda.{products_before, agenda_clauses, agenda_size, canonical_after, placed}
+use Rattle.clausal_form.specs.Agenda.{lent_literal, products_before, agenda_clauses, agenda_size, canonical_after, placed}
 use Rattle.clausal_form.proofs.PairLemmas.{pairs-append, pairs-assoc, unit-pairs, product-written-first}
 
 -- ---- the agenda's last matrix
@@ -83,8 +81,8 @@ literal-place place l m made new cs e k =
 
 -- the literals with one more, lent
 pub lent-last :
-    (old new : List LiteralRef) (r : LiteralRef) (l : TreeLiteral) → new ≡ old ++ r ∷ [] → lent_of r ≡ l → map lent_of new ≡ map lent_of old ++ l ∷ []
-lent-last old new r l h e = ap (map lent_of) h ∙ map-append lent_of old (r ∷ []) ∙ ap (λ k. map lent_of old ++ k ∷ []) e
+    (old new : List (Bor TreeLiteral)) (r : Bor TreeLiteral) (l : TreeLiteral) → new ≡ old ++ r ∷ [] → lent_literal r ≡ l → map lent_literal new ≡ map lent_literal old ++ l ∷ []
+lent-last old new r l h e = ap (map lent_literal) h ∙ map-append lent_literal old (r ∷ []) ∙ ap (λ k. map lent_literal old ++ k ∷ []) e
 
 -- ---- sizes
 

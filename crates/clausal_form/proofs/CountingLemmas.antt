@@ -1,5 +1,5 @@
 -- Counts of Skolem symbols over lists of formulas.
-use Rattle.std.proofs.Common.{◌≡◌, ℕ, ◌+◌, ◌-◌, ◌^◌, ◌<◌, ◌≤◌, min, Bool, true, false, not, List, [], ◌∷◌, length, map, drop, get_or, refl, ap, ◌∙◌, arith}
+use Rattle.std.proofs.Common.{◌≡◌, ℕ, ◌+◌, ◌<◌, ◌≤◌, min, Bool, true, false, not, List, [], ◌∷◌, length, map, drop, get_or, ap, ◌∙◌, arith}
 use Rattle.std.specs.Prelude.{nat_lt, if◌then◌else◌}
 use Rattle.tptp_tree.specs.Entries.{is_conjecture}
 use Rattle.tptp_tree.specs.declared.problem.Annotated.{Annotated}
@@ -10,8 +10,9 @@ use Rattle.signature.specs.Environment.{closed}
 use Rattle.signature.specs.Form.{skolem_count, all_skolem_count, problem_skolem_count}
 use Rattle.signature.proofs.OccurrenceLemmas.{drop-item, drop-end}
 use Rattle.formula_nnf.specs.Expanded.{expanded_count}
-use Rattle.clausal_form.specs.Fault.{most_expanded, most_form_symbols}
 use Rattle.clausal_form.specs.Progress.{expandable, counted_skolem}
+use Rattle.fol_base.specs.declared.limits.TheConstants.{MOST_FORM_SYMBOLS}
+use Rattle.clausal_form.specs.declared.fault.TheConstants.{MOST_EXPANDED}
 
 pub count-then :
     (fs : List Formula) (i : ℕ) (f : Formula) (sign : Bool) → i < length fs → f ≡ get_or fs i f
@@ -24,12 +25,12 @@ count-then fs i f sign h e = ap (λ gs. all_skolem_count (formulas_of (map formu
 -- the Skolem symbols of those before a place are counted, up to the limit
 abbrev pub IsCounted : List Annotated → ℕ → ℕ → Type 0
 IsCounted fs i total =
-    (min (total + problem_skolem_count (expandable (drop i fs))) most_form_symbols ≡ counted_skolem fs) × (total ≤ most_form_symbols)
+    (min (total + problem_skolem_count (expandable (drop i fs))) MOST_FORM_SYMBOLS ≡ counted_skolem fs) × (total ≤ MOST_FORM_SYMBOLS)
 
 pub counted-begin : (fs : List Annotated) → IsCounted fs 0 0
 counted-begin fs = (omega arith, omega arith)
 
-expandable-none : (fs gs : List Annotated) (total : ℕ) → gs ≡ [] → (min (total + problem_skolem_count gs) most_form_symbols ≡ counted_skolem fs) → total ≤ most_form_symbols → total ≡ counted_skolem fs
+expandable-none : (fs gs : List Annotated) (total : ℕ) → gs ≡ [] → (min (total + problem_skolem_count gs) MOST_FORM_SYMBOLS ≡ counted_skolem fs) → total ≤ MOST_FORM_SYMBOLS → total ≡ counted_skolem fs
 expandable-none fs gs total e h k = let none : problem_skolem_count gs ≡ 0 = ap problem_skolem_count e in omega (arith, none, h, k)
 
 pub counted-end : (fs : List Annotated) (i total : ℕ) → length fs ≤ i → IsCounted fs i total → total ≡ counted_skolem fs
@@ -37,7 +38,7 @@ counted-end fs i total h c = expandable-none fs (expandable (drop i fs)) total (
 
 pub counted-stop :
     (fs : List Annotated) (i : ℕ) (a : Annotated) (total : ℕ) → i < length fs → a ≡ get_or fs i a
-    → nat_lt most_expanded (expanded_count (formula_of a.formula)) ≡ true → IsCounted fs i total
+    → nat_lt MOST_EXPANDED (expanded_count (formula_of a.formula)) ≡ true → IsCounted fs i total
     → total ≡ counted_skolem fs
 counted-stop fs i a total h e b c =
     expandable-none fs (expandable (drop i fs)) total
@@ -45,8 +46,8 @@ counted-stop fs i a total h e b c =
 
 pub counted-then :
     (fs : List Annotated) (i : ℕ) (a : Annotated) (total count new : ℕ) → i < length fs → a ≡ get_or fs i a
-    → nat_lt most_expanded (expanded_count (formula_of a.formula)) ≡ false
-    → count ≡ skolem_count (closed a) (not (is_conjecture a.role)) → new ≡ min (total + count) most_form_symbols → IsCounted fs i total
+    → nat_lt MOST_EXPANDED (expanded_count (formula_of a.formula)) ≡ false
+    → count ≡ skolem_count (closed a) (not (is_conjecture a.role)) → new ≡ min (total + count) MOST_FORM_SYMBOLS → IsCounted fs i total
     → IsCounted fs (i + 1) new
 counted-then fs i a total count new h e b k n c = (
   omega (

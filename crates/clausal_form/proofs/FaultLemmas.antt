@@ -11,10 +11,12 @@ use Rattle.signature.specs.Form.{skolem_count, problem_skolem_count, symbol_numb
 use Rattle.signature.proofs.SkolemLemmas.{skolem_symbols_are_counted}
 use Rattle.formula_nnf.specs.Expanded.{expanded_count}
 use Rattle.clausal_form.specs.Measure.{largest}
-use Rattle.clausal_form.specs.Fault.{most_expanded, most_symbols, most_form_symbols, limit_fault, counted_in, formula_fault, fault_or, first_fault, form_fault}
+use Rattle.clausal_form.specs.Fault.{limit_fault, counted_in, formula_fault, fault_or, first_fault, form_fault}
 use Rattle.clausal_form.specs.Progress.{expandable, counted_skolem, numbers_with, counted_numbers}
 use Rattle.clausal_form.specs.declared.fault.FormCause.{FormCause}
 use Rattle.clausal_form.specs.declared.fault.FormCause.TheVariants.{Expansion, TooHeavy, TotalLimit}
+use Rattle.fol_base.specs.declared.limits.TheConstants.{MOST_SYMBOLS, MOST_FORM_SYMBOLS}
+use Rattle.clausal_form.specs.declared.fault.TheConstants.{MOST_EXPANDED}
 
 abbrev pub Fault : Type 0
 Fault = Option (FormCause × List ℕ)
@@ -29,7 +31,7 @@ rest-none (Some c) name rest h = cc
 expandable-all : (n : SymbolNumbers) (fs : List Annotated) (counted : ℕ) (m : Made) → first_fault n fs counted m ≡ no_fault → expandable fs ≡ fs
 expandable-all n [] counted m h = refl
 expandable-all n (a ∷ fs) counted m h =
-    by (nat_lt most_expanded (expanded_count (formula_of a.formula))) h (λ k. expandable-all n fs (counted + counted_in (annotated_clauses n a m).clauses) (annotated_clauses n a m).made k)
+    by (nat_lt MOST_EXPANDED (expanded_count (formula_of a.formula))) h (λ k. expandable-all n fs (counted + counted_in (annotated_clauses n a m).clauses) (annotated_clauses n a m).made k)
   where
     w : Worked
     w = annotated_clauses n a m
@@ -59,7 +61,7 @@ formula-within :
     → limit_fault (largest (annotated_clauses n a m).clauses)
     (counted + counted_in (annotated_clauses n a m).clauses + length (annotated_clauses n a m).made.skolem_arities)
     ≡ None
-formula-within n a counted m h = by (nat_lt most_expanded (expanded_count (formula_of a.formula))) h
+formula-within n a counted m h = by (nat_lt MOST_EXPANDED (expanded_count (formula_of a.formula))) h
   where
     limits : Option FormCause
     limits =
@@ -73,9 +75,9 @@ formula-within n a counted m h = by (nat_lt most_expanded (expanded_count (formu
 -- the largest clause, and all that there is behind the formula
 pub formula-limits :
     (n : SymbolNumbers) (a : Annotated) (counted : ℕ) (m : Made) → formula_fault n a counted m ≡ None
-    → (largest (annotated_clauses n a m).clauses ≤ most_symbols)
-    × (counted + counted_in (annotated_clauses n a m).clauses + length (annotated_clauses n a m).made.skolem_arities ≤ most_form_symbols)
-formula-limits n a counted m h = (ltb-false most_symbols size none.0, ltb-false most_form_symbols total none.1)
+    → (largest (annotated_clauses n a m).clauses ≤ MOST_SYMBOLS)
+    × (counted + counted_in (annotated_clauses n a m).clauses + length (annotated_clauses n a m).made.skolem_arities ≤ MOST_FORM_SYMBOLS)
+formula-limits n a counted m h = (ltb-false MOST_SYMBOLS size none.0, ltb-false MOST_FORM_SYMBOLS total none.1)
   where
     size : ℕ
     size = largest (annotated_clauses n a m).clauses
@@ -83,16 +85,16 @@ formula-limits n a counted m h = (ltb-false most_symbols size none.0, ltb-false 
     total : ℕ
     total = counted + counted_in (annotated_clauses n a m).clauses + length (annotated_clauses n a m).made.skolem_arities
 
-    none : (nat_lt most_symbols size ≡ false) × (nat_lt most_form_symbols total ≡ false)
-    none = limits-none (nat_lt most_symbols size) (nat_lt most_form_symbols total) (formula-within n a counted m h)
+    none : (nat_lt MOST_SYMBOLS size ≡ false) × (nat_lt MOST_FORM_SYMBOLS total ≡ false)
+    none = limits-none (nat_lt MOST_SYMBOLS size) (nat_lt MOST_FORM_SYMBOLS total) (formula-within n a counted m h)
 
 pub first-none : (cause : Option FormCause) (name : List ℕ) (rest : Fault) → fault_or cause name rest ≡ no_fault → cause ≡ None
 first-none None name rest h = refl
 first-none (Some c) name rest h = absurd (cc)
 
 skolem-within :
-    (n : SymbolNumbers) (fs : List Annotated) (counted : ℕ) (m : Made) → length m.skolem_arities ≤ most_form_symbols
-    → first_fault n fs counted m ≡ no_fault → length m.skolem_arities + problem_skolem_count fs ≤ most_form_symbols
+    (n : SymbolNumbers) (fs : List Annotated) (counted : ℕ) (m : Made) → length m.skolem_arities ≤ MOST_FORM_SYMBOLS
+    → first_fault n fs counted m ≡ no_fault → length m.skolem_arities + problem_skolem_count fs ≤ MOST_FORM_SYMBOLS
 skolem-within n [] counted m small h = omega (arith, small)
 skolem-within n (a ∷ fs) counted m small h =
     let w : Worked = annotated_clauses n a m in

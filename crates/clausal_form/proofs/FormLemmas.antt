@@ -10,10 +10,11 @@ use Rattle.fol_base.proofs.CanonicalLemmas.{canonical_forms_are_canonical, canon
 use Rattle.signature.specs.Clausal.{SymbolNumbers, Made, Worked, Literals, annotated_clauses, canonical_literals, formed}
 use Rattle.signature.specs.Form.{symbol_numbers, nothing_made}
 use Rattle.clausal_form.specs.Measure.{literals_size, largest}
-use Rattle.clausal_form.specs.Fault.{most_symbols, most_form_symbols, counted_in, formula_fault, first_fault}
+use Rattle.clausal_form.specs.Fault.{counted_in, formula_fault, first_fault}
 use Rattle.clausal_form.specs.FormLaws.{FormsAreCanonical, FormsHaveSmallClauses, FormsAreSmall}
 use Rattle.clausal_form.proofs.FaultLemmas.{no_fault, rest-none, first-none, formula-limits}
 use Rattle.clausal_form.proofs.MeasureLemmas.{length-append}
+use Rattle.fol_base.specs.declared.limits.TheConstants.{MOST_SYMBOLS, MOST_FORM_SYMBOLS}
 
 both-hold : (P : TreeClause → Type 0) (xs ys : List TreeClause) → AllByRecursion P xs → AllByRecursion P ys → AllByRecursion P (xs ++ ys)
 both-hold P [] ys h k = k
@@ -41,12 +42,12 @@ forms-are-canonical fs = formed-canonical (symbol_numbers fs) 0 fs nothing_made
 -- ---- sizes
 
 abbrev IsSmall : TreeClause → Type 0
-IsSmall c = clause_size c ≤ most_symbols
+IsSmall c = clause_size c ≤ MOST_SYMBOLS
 
 own-size : (c : Literals) → clause_size (canonical_literals c) ≡ literals_size c
 own-size c = canonical_forms_keep_sizes (record { literals = c; names = [] })
 
-literals-small : (cs : List Literals) → largest cs ≤ most_symbols → AllByRecursion IsSmall (map canonical_literals cs)
+literals-small : (cs : List Literals) → largest cs ≤ MOST_SYMBOLS → AllByRecursion IsSmall (map canonical_literals cs)
 literals-small [] h = tt
 literals-small (c ∷ cs) h = (omega (arith, own-size c, h), literals-small cs (omega (arith, h)))
 
@@ -79,8 +80,8 @@ formed-small n place (a ∷ fs) counted m h =
     (formed-small n (place + 1) fs (counted + counted_in w.clauses) w.made (rest-none (formula_fault n a counted m) a.name _ h))
 
 formed-total :
-    (n : SymbolNumbers) (place : ℕ) (fs : List Annotated) (counted : ℕ) (m : Made) → counted ≤ most_form_symbols
-    → first_fault n fs counted m ≡ no_fault → counted + total (formed n place fs m).clauses ≤ most_form_symbols
+    (n : SymbolNumbers) (place : ℕ) (fs : List Annotated) (counted : ℕ) (m : Made) → counted ≤ MOST_FORM_SYMBOLS
+    → first_fault n fs counted m ≡ no_fault → counted + total (formed n place fs m).clauses ≤ MOST_FORM_SYMBOLS
 formed-total n place [] counted m small h = omega (arith, small)
 formed-total n place (a ∷ fs) counted m small h =
     let w : Worked = annotated_clauses n a m in

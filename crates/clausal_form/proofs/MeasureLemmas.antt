@@ -7,7 +7,6 @@ use Rattle.fol_base.specs.Clause.{TreeLiteral, literal_size}
 use Rattle.signature.specs.Clausal.{Literals, all_pairs}
 use Rattle.std.specs.Prelude.{flat_map}
 use Rattle.std.proofs.lemmas.Grind.{flat_map-append}
-use Rattle.fol_base.specs.Literal.{literal_of}
 use Rattle.fol_base.proofs.TreeLemmas.{tree_size-positive}
 use Rattle.skolem.specs.Shape.{matrix_tree}
 use Rattle.clausal_form.specs.Written.{written}
@@ -234,11 +233,11 @@ pub defining-then :
     → es ≡ ds ++ d ∷ []
     → measure_of old ≡ capped_measured (flat_map definition_clauses ds)
     → measure_of part ≡ capped_measured (written (matrix_tree d.matrix))
-    → measure_of one ≡ capped_measured ((literal_of d.negated ∷ []) ∷ [])
+    → measure_of one ≡ capped_measured ((d.negated ∷ []) ∷ [])
     → measure_of clauses ≡ capped_measure (product_measure (measure_of one) (measure_of part))
     → measure_of new ≡ capped_measure (sum_measure (measure_of old) (measure_of clauses))
     → measure_of new ≡ capped_measured (flat_map definition_clauses es)
 defining-then ds es d old part one clauses new e h k l m n =
-    measured-sum old clauses new _ _ h (measured-product one part clauses ((literal_of d.negated ∷ []) ∷ []) (written (matrix_tree d.matrix)) l k m) n
+    measured-sum old clauses new _ _ h (measured-product one part clauses ((d.negated ∷ []) ∷ []) (written (matrix_tree d.matrix)) l k m) n
     ∙ ap capped_measured (sym (flat_map-append definition_clauses ds (d ∷ [])))
     ∙ ap (λ fs. capped_measured (flat_map definition_clauses fs)) (sym e)

@@ -15,8 +15,9 @@ use Rattle.signature.specs.Environment.{Environment, free_names, without_names, 
 use Rattle.signature.specs.Clausal.{SymbolNumbers, Made, Worked, Scope, Literals, Work, made_in_order, applied, with_variables, skolem_arguments, with_skolem_terms, makes_variables, scope_of, all_pairs, is_large, atom_literal, named, product, joined, truth_value, one_literal, clauses_of, listed_clauses, product_clauses, begun, annotated_clauses}
 use Rattle.formula_nnf.specs.Expanded.{expanded_count}
 use Rattle.clausal_form.specs.Measure.{literals_size, symbols_in, largest}
-use Rattle.clausal_form.specs.Fault.{most_expanded, limit_fault, counted_in, formula_fault, fault_or, first_fault}
+use Rattle.clausal_form.specs.Fault.{limit_fault, counted_in, formula_fault, fault_or, first_fault}
 use Rattle.clausal_form.specs.declared.fault.FormCause.TheVariants.{Expansion}
+use Rattle.clausal_form.specs.declared.fault.TheConstants.{MOST_EXPANDED}
 
 -- ---- the shape of a tree: all its symbols have one number
 
@@ -429,7 +430,7 @@ fault-same :
     (n k : SymbolNumbers) (a : Annotated) (counted : ℕ) (m o : Made) → SameMade m o → formula_fault n a counted m ≡ formula_fault k a counted o
 fault-same n k a counted m o g =
     let w = annotated-same n k a m o g in
-    ap (λ c. if nat_lt most_expanded (expanded_count (formula_of a.formula)) then Some Expansion else c)
+    ap (λ c. if nat_lt MOST_EXPANDED (expanded_count (formula_of a.formula)) then Some Expansion else c)
     (ap₂ limit_fault (largest-same (annotated_clauses n a m).clauses (annotated_clauses k a o).clauses w.clauses)
     (ap₂ (λ x y. counted + x + length y) (counted-same (annotated_clauses n a m).clauses (annotated_clauses k a o).clauses w.clauses) w.made.skolem))
 

@@ -1,5 +1,5 @@
 -- One formula's part of the form.
-use Rattle.std.proofs.Common.{◌≡◌, ℕ, ◌+◌, ◌-◌, ◌^◌, ◌<◌, ◌≤◌, min, Bool, true, false, not, List, [], ◌∷◌, ◌++◌, length, refl, ap, sym, ◌∙◌, arith}
+use Rattle.std.proofs.Common.{◌≡◌, ℕ, ◌+◌, ◌<◌, ◌≤◌, Bool, true, false, not, List, [], ◌∷◌, ◌++◌, length, refl, ap, sym, ◌∙◌, arith}
 use Rattle.std.specs.Prelude.{nat_lt, Option, None, Some, flat_map, if◌then◌else◌}
 use Rattle.std.proofs.lemmas.Bool.{ltb-true, ltb-false}
 use Rattle.tptp_tree.specs.Entries.{is_conjecture}
@@ -22,8 +22,9 @@ use Rattle.skolem.proofs.ProblemLemmas.{skolem_symbols_are_numbered_on}
 use Rattle.clausal_form.specs.Formula.{form_by_itself}
 use Rattle.clausal_form.specs.Measure.{symbols_in, largest, ClauseMeasure, measure_of, capped_measure, capped_measured, sum_measure}
 use Rattle.clausal_form.specs.Naming.{IsMeasured, IsWork, defining_clauses, definition_clauses, naming_made, naming_numbers}
-use Rattle.clausal_form.specs.Fault.{most_expanded, limit_fault, counted_in, formula_fault}
+use Rattle.clausal_form.specs.Fault.{limit_fault, counted_in, formula_fault}
 use Rattle.clausal_form.specs.Progress.{HasMade}
+use Rattle.fol_base.specs.declared.limits.TheConstants.{MOST_SYMBOLS, MOST_FORM_SYMBOLS}
 use Rattle.clausal_form.specs.declared.fault.FormCause.{FormCause}
 use Rattle.clausal_form.specs.declared.fault.FormCause.TheVariants.{Expansion, TooHeavy, TotalLimit}
 use Rattle.clausal_form.specs.declared.form.FormSoFar.{FormSoFar}
@@ -32,6 +33,7 @@ use Rattle.clausal_form.specs.declared.naming.Naming.{Naming}
 use Rattle.clausal_form.proofs.FrameLemmas.{formula_made, IsAdded, added-by-matrix}
 use Rattle.clausal_form.proofs.MeasureLemmas.{length-append, measured-sum}
 use Rattle.clausal_form.proofs.NameLemmas.{closed-known}
+use Rattle.clausal_form.specs.declared.fault.TheConstants.{MOST_EXPANDED}
 
 numbered-length : (prefix : List ℕ) (k : ℕ) (arities : List ℕ) → length (numbered_symbols function_symbol prefix k arities) ≡ length arities
 numbered-length prefix k [] = refl
@@ -101,21 +103,21 @@ lt-same b x y f g = by (nat_lt b x) (nat_lt b y) refl refl
 
 limit-exact : (l k c s z : ℕ) → limit_fault (capped l) (k + c + capped s + z) ≡ limit_fault l (k + (c + s) + z)
 limit-exact l k c s z =
-    ap (λ t. if t then Some TooHeavy else if nat_lt (2 ^ 28) (k + c + capped s + z) then Some TotalLimit else None)
-    (lt-same 4000 (capped l) l (λ h. omega (arith, h)) (λ h. omega (arith, h)))
-    ∙ ap (λ t. if nat_lt 4000 l then Some TooHeavy else if t then Some TotalLimit else None)
-    (lt-same (2 ^ 28) (k + c + capped s + z) (k + (c + s) + z) (λ h. omega (arith, h)) (λ h. omega (arith, h)))
+    ap (λ t. if t then Some TooHeavy else if nat_lt MOST_FORM_SYMBOLS (k + c + capped s + z) then Some TotalLimit else None)
+    (lt-same MOST_SYMBOLS (capped l) l (λ h. omega (arith, h)) (λ h. omega (arith, h)))
+    ∙ ap (λ t. if nat_lt MOST_SYMBOLS l then Some TooHeavy else if t then Some TotalLimit else None)
+    (lt-same MOST_FORM_SYMBOLS (k + c + capped s + z) (k + (c + s) + z) (λ h. omega (arith, h)) (λ h. omega (arith, h)))
 
 abbrev nothing : Option FormCause
 nothing = None
 
-pub none-small : (l total : ℕ) → limit_fault l total ≡ None → total ≤ 2 ^ 28
-none-small l total h = by (nat_lt 4000 l) (nat_lt (2 ^ 28) total) refl h
+pub none-small : (l total : ℕ) → limit_fault l total ≡ None → total ≤ MOST_FORM_SYMBOLS
+none-small l total h = by (nat_lt MOST_SYMBOLS l) (nat_lt MOST_FORM_SYMBOLS total) refl h
   where
     by :
-        (t u : Bool) → nat_lt (2 ^ 28) total ≡ u
-        → (if t then Some TooHeavy else if u then Some TotalLimit else None) ≡ nothing → total ≤ 2 ^ 28
-    by t false e k = ltb-false (2 ^ 28) total e
+        (t u : Bool) → nat_lt MOST_FORM_SYMBOLS total ≡ u
+        → (if t then Some TooHeavy else if u then Some TotalLimit else None) ≡ nothing → total ≤ MOST_FORM_SYMBOLS
+    by t false e k = ltb-false MOST_FORM_SYMBOLS total e
     by true true e k = cc
     by false true e k = cc
 
@@ -127,7 +129,7 @@ pub fault-so :
     → IsMeasured part part_clauses → IsMeasured defining defining_clauses
     → measure_of measure ≡ capped_measure (sum_measure (measure_of part) (measure_of defining))
     → before ≡ length m.skolem_arities → next ≡ before + length skolem
-    → nat_lt most_expanded (expanded_count (formula_of a.formula)) ≡ false
+    → nat_lt MOST_EXPANDED (expanded_count (formula_of a.formula)) ≡ false
     → limit_fault measure.largest (counted + measure.clauses + measure.symbols + next) ≡ fault
     → formula_fault n a counted m ≡ fault
 fault-so n a m cs skolem naming part defining measure ps ds counted next before fault w g p d s b x o f =
@@ -171,30 +173,31 @@ counted-so n a m cs skolem naming part defining measure ps ds counted next total
 -- ---- what there is after the formula
 
 pub made-then :
-    (n : SymbolNumbers) (a : Annotated) (prefix : List ℕ) (m : Made) (old new : FormSoFar) (cs : List Literals)
+    (n : SymbolNumbers) (a : Annotated) (prefix : List ℕ) (m : Made) (old new : FormSoFar)
     → HasMade n prefix m old
-    → IsNamed n a m cs (form_by_itself old.signature a).made.skolem_arities new.naming.arities.items
+    → (annotated_clauses n a m).made.skolem_arities ≡ m.skolem_arities ++ (form_by_itself old.signature a).made.skolem_arities
+    → (annotated_clauses n a m).made.naming_arities ≡ new.naming.arities.items
     → new.next ≡ old.next + length (form_by_itself old.signature a).made.skolem_arities
     → new.signature ≡ old.signature ++ numbered_symbols function_symbol prefix old.next (form_by_itself old.signature a).made.skolem_arities
     → new.naming.first ≡ old.naming.first
     → HasMade n prefix (annotated_clauses n a m).made new
-made-then n a prefix m old new cs h w x s f =
+made-then n a prefix m old new h w y x s f =
     record {
       signature =
           s ∙ ap (λ k. old.signature ++ numbered_symbols function_symbol prefix k (form_by_itself old.signature a).made.skolem_arities) h.next
           ∙ ap (λ known. known ++ numbered_symbols function_symbol prefix (length m.skolem_arities) (form_by_itself known a).made.skolem_arities) h.signature
           ∙ skolem_symbols_are_numbered_on n.symbols prefix m.skolem_arities (normal_form (closed a) (not (is_conjecture a.role)))
           ∙ ap (λ known. n.symbols ++ numbered_symbols function_symbol prefix 0 (m.skolem_arities ++ (form_by_itself known a).made.skolem_arities)) (sym h.signature)
-          ∙ ap (λ xs. n.symbols ++ numbered_symbols function_symbol prefix 0 xs) (sym w.skolem_made);
+          ∙ ap (λ xs. n.symbols ++ numbered_symbols function_symbol prefix 0 xs) (sym w);
       skolem = h.skolem;
       next =
           omega (
             arith,
             x,
             h.next,
-            ap length w.skolem_made,
+            ap length w,
             length-append m.skolem_arities (form_by_itself old.signature a).made.skolem_arities,
           );
       first = f ∙ h.first;
-      naming = sym w.naming_made;
+      naming = sym y;
     }

@@ -3,12 +3,10 @@ use Rattle.std.proofs.Common.{◌≡◌, ℕ, ◌+◌, ◌<◌, ◌≤◌, List,
 use Rattle.std.proofs.lemmas.List.{map-append}
 use denote.Ref.{Bor}
 use Rattle.fol_base.specs.Clause.{TreeLiteral, TreeClause}
-use Rattle.fol_base.specs.Lent.{lent_of}
-use Rattle.fol_base.specs.declared.literal_ref.LiteralRef.{LiteralRef}
 use Rattle.signature.specs.Clausal.{Literals, all_pairs, canonical_literals}
 use Rattle.signature.proofs.OccurrenceLemmas.{drop-item, drop-end}
 use Rattle.skolem.specs.declared.matrix.Matrix.{Matrix}
-use Rattle.clausal_form.specs.Agenda.{agenda_clauses, canonical_after, placed}
+use Rattle.clausal_form.specs.Agenda.{lent_literal, agenda_clauses, canonical_after, placed}
 use Rattle.clausal_form.specs.Naming.{definition_clauses}
 use Rattle.clausal_form.specs.Formula.{definitions_clauses}
 use Rattle.clausal_form.specs.declared.naming.Definition.{Definition}
@@ -21,10 +19,10 @@ alone :
 alone f w ms h = ap (λ ns. map f (all_pairs w (agenda_clauses ns))) h ∙ ap (map f) (pairs-unit w)
 
 pub matrix-clauses :
-    (ls : List LiteralRef) (ms : List (Bor Matrix)) (w : List Literals) (made new : List TreeClause)
-    → ls ≡ [] → ms ≡ [] → new ≡ made ++ map (canonical_after (map lent_of ls)) (all_pairs w (agenda_clauses ms)) → new ≡ made ++ map canonical_literals w
+    (ls : List (Bor TreeLiteral)) (ms : List (Bor Matrix)) (w : List Literals) (made new : List TreeClause)
+    → ls ≡ [] → ms ≡ [] → new ≡ made ++ map (canonical_after (map lent_literal ls)) (all_pairs w (agenda_clauses ms)) → new ≡ made ++ map canonical_literals w
 matrix-clauses ls ms w made new h k e =
-    e ∙ ap (λ ks. made ++ map (canonical_after (map lent_of ks)) (all_pairs w (agenda_clauses ms))) h ∙ ap (λ cs. made ++ cs) (alone canonical_literals w ms k)
+    e ∙ ap (λ ks. made ++ map (canonical_after (map lent_literal ks)) (all_pairs w (agenda_clauses ms))) h ∙ ap (λ cs. made ++ cs) (alone canonical_literals w ms k)
 
 pub matrix-places :
     (place : ℕ) (ms : List (Bor Matrix)) (w : List Literals) (made new : List ℕ)
@@ -40,13 +38,13 @@ places-each place l [] = refl
 places-each place l (c ∷ w) = ap (λ cs. place ∷ cs) (places-each place l w)
 
 pub definition-written :
-    (old ls : List LiteralRef) (r : LiteralRef) (l : TreeLiteral) (ms : List (Bor Matrix)) (w : List Literals) (made new : List TreeClause)
-    → old ≡ [] → ls ≡ old ++ r ∷ [] → lent_of r ≡ l → ms ≡ []
-    → new ≡ made ++ map (canonical_after (map lent_of ls)) (all_pairs w (agenda_clauses ms))
+    (old ls : List (Bor TreeLiteral)) (r : Bor TreeLiteral) (l : TreeLiteral) (ms : List (Bor Matrix)) (w : List Literals) (made new : List TreeClause)
+    → old ≡ [] → ls ≡ old ++ r ∷ [] → lent_literal r ≡ l → ms ≡ []
+    → new ≡ made ++ map (canonical_after (map lent_literal ls)) (all_pairs w (agenda_clauses ms))
     → new ≡ made ++ map canonical_literals (map (λ c. l ∷ c) w)
 definition-written old ls r l ms w made new o h g k e =
-    e ∙ ap (λ ks. made ++ map (canonical_after (map lent_of ks)) (all_pairs w (agenda_clauses ms))) (h ∙ ap (λ ks. ks ++ r ∷ []) o)
-    ∙ ap (λ cs. made ++ cs) (alone (canonical_after (lent_of r ∷ [])) w ms k ∙ ap (λ x. map (canonical_after (x ∷ [])) w) g ∙ before-each l w)
+    e ∙ ap (λ ks. made ++ map (canonical_after (map lent_literal ks)) (all_pairs w (agenda_clauses ms))) (h ∙ ap (λ ks. ks ++ r ∷ []) o)
+    ∙ ap (λ cs. made ++ cs) (alone (canonical_after (lent_literal r ∷ [])) w ms k ∙ ap (λ x. map (canonical_after (x ∷ [])) w) g ∙ before-each l w)
 
 pub definition-placed :
     (place : ℕ) (l : TreeLiteral) (ms : List (Bor Matrix)) (w : List Literals) (made new : List ℕ)

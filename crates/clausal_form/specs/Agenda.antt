@@ -1,12 +1,15 @@
 -- What the program still has to write of a matrix: the clauses of the matrices that are left, each with the literals that are there.
 use Rattle.std.specs.Prelude.{ℕ, ◌+◌, List, [], ◌∷◌, ◌++◌}
 use denote.Ref.{Bor}
-use Rattle.fol_base.specs.Clause.{TreeClause}
+use Rattle.fol_base.specs.Clause.{TreeLiteral, TreeClause}
 use Rattle.signature.specs.Clausal.{Literals, all_pairs, canonical_literals}
 use Rattle.skolem.specs.Matrix.{matrix_size}
 use Rattle.skolem.specs.Shape.{matrix_tree}
 use Rattle.skolem.specs.declared.matrix.Matrix.{Matrix}
 use Rattle.clausal_form.specs.Written.{written}
+
+abbrev pub lent_literal : Bor TreeLiteral → TreeLiteral
+lent_literal l = l.now
 
 -- the product of the matrices' clauses, the last one first, and then those that are given
 abbrev pub products_before : List Literals → List (Bor Matrix) → List Literals

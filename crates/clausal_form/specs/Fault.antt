@@ -1,5 +1,5 @@
 -- The first formula of a problem that passes a limit, and the limit.
-use Rattle.std.specs.Prelude.{◌≡◌, ⊤, ℕ, ◌+◌, ◌^◌, nat_lt, List, [], ◌∷◌, length, Option, None, Some, if◌then◌else◌}
+use Rattle.std.specs.Prelude.{◌≡◌, ⊤, ℕ, ◌+◌, nat_lt, List, [], ◌∷◌, length, Option, None, Some, if◌then◌else◌}
 use Rattle.tptp_tree.specs.Shape.{formula_of}
 use Rattle.tptp_tree.specs.declared.problem.Annotated.{Annotated}
 use Rattle.signature.specs.Clausal.{SymbolNumbers, Made, Worked, Literals, annotated_clauses}
@@ -10,23 +10,13 @@ use Rattle.clausal_form.specs.declared.fault.FormCause.{FormCause}
 use Rattle.clausal_form.specs.declared.fault.FormCause.TheVariants.{Expansion, TooHeavy, TotalLimit}
 use Rattle.clausal_form.specs.declared.fault.FormFault.{FormFault}
 use Rattle.clausal_form.specs.declared.fault.FormFault.TheVariants.{NoMemory, Refused}
-
--- the most atoms and quantified variables of a formula after its equivalences are written out
-abbrev pub most_expanded : ℕ
-most_expanded = 1000000
-
--- the most symbols of a clause
-abbrev pub most_symbols : ℕ
-most_symbols = 4000
-
--- the most symbols, clauses and Skolem symbols of a form
-abbrev pub most_form_symbols : ℕ
-most_form_symbols = 2 ^ 28
+use Rattle.fol_base.specs.declared.limits.TheConstants.{MOST_SYMBOLS, MOST_FORM_SYMBOLS}
+use Rattle.clausal_form.specs.declared.fault.TheConstants.{MOST_EXPANDED}
 
 -- The limits on a formula's clauses: on the symbols of the largest, and on the symbols, clauses and Skolem symbols that there are by then.
 abbrev pub limit_fault : ℕ → ℕ → Option FormCause
 limit_fault size total =
-    if nat_lt most_symbols size then Some TooHeavy else if nat_lt most_form_symbols total then Some TotalLimit else None
+    if nat_lt MOST_SYMBOLS size then Some TooHeavy else if nat_lt MOST_FORM_SYMBOLS total then Some TotalLimit else None
 
 -- the clauses and their symbols
 abbrev pub counted_in : List Literals → ℕ
@@ -36,7 +26,7 @@ counted_in cs = length cs + symbols_in cs
 abbrev pub formula_fault : SymbolNumbers → Annotated → ℕ → Made → Option FormCause
 formula_fault n a counted m =
     let w : Worked = annotated_clauses n a m in
-    if nat_lt most_expanded (expanded_count (formula_of a.formula)) then Some Expansion
+    if nat_lt MOST_EXPANDED (expanded_count (formula_of a.formula)) then Some Expansion
     else limit_fault (largest w.clauses) (counted + counted_in w.clauses + length w.made.skolem_arities)
 
 -- a formula's fault with its name, or else what comes after it

@@ -7,8 +7,9 @@ use Rattle.fol_base.specs.Canonical.{IsCanonical}
 use Rattle.fol_base.specs.WellFormed.{SymbolUse, WellFormed}
 use Rattle.signature.specs.declared.symbol.Symbol.{Symbol}
 use Rattle.signature.specs.Form.{clausal_form}
-use Rattle.clausal_form.specs.Fault.{most_symbols, most_form_symbols, form_fault}
+use Rattle.clausal_form.specs.Fault.{form_fault}
 use Rattle.clausal_form.specs.FormFunctions.{is_predicate_in}
+use Rattle.fol_base.specs.declared.limits.TheConstants.{MOST_SYMBOLS, MOST_FORM_SYMBOLS}
 
 -- each is canonical and has no names
 abbrev pub FormsAreCanonical : Type 0
@@ -19,13 +20,13 @@ FormsAreCanonical =
 abbrev pub FormsHaveSmallClauses : Type 0
 FormsHaveSmallClauses =
     (fs : List Annotated) → form_fault fs ≡ None
-    → AllByRecursion (λ (c : TreeClause). clause_size c ≤ most_symbols) (clausal_form fs).clauses
+    → AllByRecursion (λ (c : TreeClause). clause_size c ≤ MOST_SYMBOLS) (clausal_form fs).clauses
 
 -- and all together aren't too large either
 abbrev pub FormsAreSmall : Type 0
 FormsAreSmall =
     (fs : List Annotated) → form_fault fs ≡ None
-    → length (clausal_form fs).clauses + sum_by clause_size (clausal_form fs).clauses ≤ most_form_symbols
+    → length (clausal_form fs).clauses + sum_by clause_size (clausal_form fs).clauses ≤ MOST_FORM_SYMBOLS
 
 -- ---- symbols
 

@@ -1,6 +1,5 @@
 -- What the program's naming is: the names that were made, and the matrices for which they stand.
 use Rattle.std.specs.Prelude.{◌≡◌, ℕ, List, [], ◌∷◌, map, flat_map}
-use Rattle.fol_base.specs.Literal.{literal_of}
 use Rattle.signature.specs.Clausal.{SymbolNumbers, Made, Worked, Literals}
 use Rattle.skolem.specs.Shape.{matrix_tree}
 use Rattle.clausal_form.specs.Written.{written}
@@ -11,7 +10,7 @@ use Rattle.clausal_form.specs.declared.naming.Naming.{Naming}
 
 -- the negated atom of the name before each clause
 abbrev pub definition_clauses : Definition → List Literals
-definition_clauses d = map (λ c. literal_of d.negated ∷ c) (written (matrix_tree d.matrix))
+definition_clauses d = map (λ c. d.negated ∷ c) (written (matrix_tree d.matrix))
 
 abbrev pub defining_clauses : Naming → List Literals
 defining_clauses s = flat_map definition_clauses s.definitions.items

@@ -10,10 +10,13 @@ use Rattle.tptp_tree.specs.Shape.{formula_of}
 use Rattle.tptp_tree.specs.declared.problem.Annotated.{Annotated}
 use Rattle.fol_base.specs.Literal.{clause_of}
 use Rattle.clausal_form.specs.Agenda.{placed}
-use Rattle.clausal_form.specs.Fault.{most_expanded, most_form_symbols, formula_fault, counted_in}
+use Rattle.clausal_form.specs.Formula.{form_by_itself}
+use Rattle.clausal_form.specs.Fault.{formula_fault, counted_in}
 use Rattle.clausal_form.specs.declared.fault.FormFault.{FormFault}
 use Rattle.clausal_form.specs.declared.fault.FormFault.TheVariants.{NoMemory, Refused}
 use Rattle.clausal_form.specs.declared.form.FormSoFar.{FormSoFar}
+use Rattle.fol_base.specs.declared.limits.TheConstants.{MOST_FORM_SYMBOLS}
+use Rattle.clausal_form.specs.declared.fault.TheConstants.{MOST_EXPANDED}
 
 -- What was made so far: the Skolem symbols stand after the problem's, and the names are counted.
 pub record HasMade (n : SymbolNumbers) (prefix : List ℕ) (m : Made) (f : FormSoFar) : Type 0 where
@@ -22,6 +25,15 @@ pub record HasMade (n : SymbolNumbers) (prefix : List ℕ) (m : Made) (f : FormS
   pub next : f.next ≡ length m.skolem_arities
   pub first : f.naming.first ≡ n.first_naming
   pub naming : f.naming.arities.items ≡ m.naming_arities
+
+-- A formula's clauses are added, and it passes no limit. Its Skolem symbols are still to be added.
+pub record IsAddition (n : SymbolNumbers) (a : Annotated) (place : ℕ) (m : Made) (old new : FormSoFar) : Type 0 where
+  pub skolem : (annotated_clauses n a m).made.skolem_arities ≡ m.skolem_arities ++ (form_by_itself old.signature a).made.skolem_arities
+  pub naming : (annotated_clauses n a m).made.naming_arities ≡ new.naming.arities.items
+  pub clauses : map clause_of new.output.clauses.items ≡ map clause_of old.output.clauses.items ++ map canonical_literals (annotated_clauses n a m).clauses
+  pub origins : new.output.origins.items ≡ old.output.origins.items ++ map (placed place) (annotated_clauses n a m).clauses
+  pub counted : new.counted ≡ old.counted + counted_in (annotated_clauses n a m).clauses
+  pub within : formula_fault n a old.counted m ≡ None
 
 -- A formula's clauses are added, and it passes no limit.
 pub record IsStep (n : SymbolNumbers) (a : Annotated) (place : ℕ) (prefix : List ℕ) (m : Made) (old new : FormSoFar) : Type 0 where
@@ -47,11 +59,11 @@ pub record IsEmpty (f : FormSoFar) : Type 0 where
 -- the formulas before the first that is too large when it is written out
 abbrev pub expandable : List Annotated → List Annotated
 expandable [] = []
-expandable (a ∷ fs) = if nat_lt most_expanded (expanded_count (formula_of a.formula)) then [] else a ∷ expandable fs
+expandable (a ∷ fs) = if nat_lt MOST_EXPANDED (expanded_count (formula_of a.formula)) then [] else a ∷ expandable fs
 
 -- the program's count of Skolem symbols, which stops where a form has too many
 abbrev pub counted_skolem : List Annotated → ℕ
-counted_skolem fs = min (problem_skolem_count (expandable fs)) most_form_symbols
+counted_skolem fs = min (problem_skolem_count (expandable fs)) MOST_FORM_SYMBOLS
 
 -- those symbols, and then so many Skolem symbols
 abbrev pub numbers_with : List Symbol → ℕ → SymbolNumbers

@@ -7,13 +7,12 @@ ghost use Rattle.skolem.specs.Shape.{matrix_tree};
 ghost use Rattle.clausal_form.specs.Occurring.{clauses_variables, has_clauses, some_have_clauses, all_have_clauses, matrix_variables, matrices_variables};
 ghost use Rattle.clausal_form.specs.Written.{written};
 
-use fol_base::push_variables;
 use plain_types::Mem;
 use skolem::{Matrix, made_in_order};
 use std::alloc::Global;
 
 /// The variables below `made` that occur in the clauses of a matrix, in rising order.
-pub(crate) fn name_arguments(alloc: Global, made: u32, matrix: &Matrix) -> Mem<Vec<u32>>
+pub(crate) fn name_arguments(alloc: Global, made: u32, matrix: &Matrix<'_>) -> Mem<Vec<u32>>
     ensures { IfOk result (λ found. found.items ≡ made_in_order made (clauses_variables (written (matrix_tree matrix.now)))) }
 {
     let mut occurring = Vec::new(alloc);
@@ -23,7 +22,7 @@ pub(crate) fn name_arguments(alloc: Global, made: u32, matrix: &Matrix) -> Mem<V
 
 /// Adds the variables of a matrix's clauses, and says whether it has clauses.
 #[cycle(push_matrix_variables)]
-fn push_matrix_variables(matrix: &Matrix, found: &mut Vec<u32>) -> Mem<bool>
+fn push_matrix_variables(matrix: &Matrix<'_>, found: &mut Vec<u32>) -> Mem<bool>
     ensures some { IfOk result (λ some. some ≡ has_clauses (matrix_tree matrix.now)) }
     ensures added { IfOk result (λ _. found.new.items ≡ found.old.items ++ matrix_variables (matrix_tree matrix.now)) }
 {
@@ -31,8 +30,7 @@ fn push_matrix_variables(matrix: &Matrix, found: &mut Vec<u32>) -> Mem<bool>
         Matrix::True => Ok(false),
         Matrix::False => Ok(true),
         Matrix::Lit(literal) => {
-            push_variables(&literal.left, found)?;
-            push_variables(&literal.right, found)?;
+            literal.push_variables(found)?;
             Ok(true)
         }
         Matrix::And(members) => push_listed_variables(members.as_slice(), found),
@@ -42,7 +40,7 @@ fn push_matrix_variables(matrix: &Matrix, found: &mut Vec<u32>) -> Mem<bool>
 
 /// The same for matrices one after another.
 #[cycle(push_matrix_variables)]
-fn push_listed_variables(members: &[Matrix], found: &mut Vec<u32>) -> Mem<bool>
+fn push_listed_variables(members: &[Matrix<'_>], found: &mut Vec<u32>) -> Mem<bool>
     ensures some { IfOk result (λ some. some ≡ some_have_clauses (matrices_of (map matrix_tree members.now))) }
     ensures added { IfOk result (λ _. found.new.items ≡ found.old.items ++ matrices_variables (matrices_of (map matrix_tree members.now))) }
 {
@@ -56,7 +54,7 @@ fn push_listed_variables(members: &[Matrix], found: &mut Vec<u32>) -> Mem<bool>
 
 /// The same for a product.
 #[cycle(push_matrix_variables)]
-fn push_product_variables(members: &[Matrix], found: &mut Vec<u32>) -> Mem<bool>
+fn push_product_variables(members: &[Matrix<'_>], found: &mut Vec<u32>) -> Mem<bool>
     ensures some { IfOk result (λ some. some ≡ all_have_clauses (matrices_of (map matrix_tree members.now))) }
     ensures added { IfOk result (λ _. found.new.items ≡ found.old.items
         ++ (if all_have_clauses (matrices_of (map matrix_tree members.now)) then matrices_variables (matrices_of (map matrix_tree members.now)) else [])) }

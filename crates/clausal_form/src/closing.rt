@@ -6,7 +6,7 @@ ghost use Rattle.tptp_tree.specs.Entries.{is_conjecture};
 ghost use Rattle.tptp_tree.specs.Formula.{formulas_of};
 ghost use Rattle.tptp_tree.specs.Shape.{formula_of, term_of};
 ghost use Rattle.tptp_tree.specs.Term.{terms_of};
-ghost use Rattle.signature.specs.Environment.{closed, different_names, free_names, all_free_names, term_names, terms_names, without_names};
+ghost use Rattle.signature.specs.Environment.{closed, under_for_all, different_names, free_names, all_free_names, term_names, terms_names, without_names};
 ghost use Rattle.formula_nnf.specs.NormalForm.{normal_form};
 ghost use Rattle.formula_nnf.specs.Shape.{nnf_tree};
 
@@ -17,16 +17,28 @@ use skolem::VariableRef;
 use std::alloc::Global;
 use tptp_tree::{Annotated, Formula, TreeTerm};
 
-/// The normal form of a formula, of the conjecture that of its negation. The variables of a `cnf` formula are universally quantified.
-pub(crate) fn closed_form(alloc: Global, annotated: &Annotated) -> Mem<Nnf>
+/// The names that are universally quantified before a formula is worked: the variables of a `cnf` formula, none of a `fof` formula.
+pub(crate) fn closing_names(alloc: Global, annotated: &Annotated) -> Mem<Texts>
+    ensures { IfOk result (λ names. under_for_all names (formula_of annotated.now.formula) ≡ closed annotated.now) }
+{
+    if annotated.clause {
+        different_free_names(alloc, &annotated.formula)
+    } else {
+        Ok(Texts::new(alloc))
+    }
+}
+
+/// The normal form of a formula under its closing names, of the conjecture that of its negation.
+pub(crate) fn closed_form<'a>(
+    alloc: Global,
+    annotated: &'a Annotated,
+    names: &'a Texts,
+) -> Mem<Nnf<'a>>
+    requires { under_for_all names.now (formula_of annotated.now.formula) ≡ closed annotated.now }
     ensures { IfOk result (λ form. nnf_tree form ≡ normal_form (closed annotated.now) (not (is_conjecture annotated.now.role))) }
 {
     let positive = !annotated.role.is_conjecture();
     let form = nnf(alloc, &annotated.formula, positive)?;
-    if !annotated.clause {
-        return Ok(form);
-    }
-    let names = different_free_names(alloc, &annotated.formula)?;
     if names.is_empty() {
         return Ok(form);
     }

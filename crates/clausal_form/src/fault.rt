@@ -3,8 +3,9 @@
 ghost use Rattle.std.specs.Prelude.{◌≡◌, ◌+◌, nat_lt, IfOk, IfErr, Some, None};
 ghost use Rattle.tptp_tree.specs.Shape.{formula_of};
 ghost use Rattle.formula_nnf.specs.Expanded.{expanded_count};
-ghost use Rattle.clausal_form.specs.Fault.{limit_fault, most_expanded};
+ghost use Rattle.clausal_form.specs.Fault.{limit_fault};
 ghost use Rattle.clausal_form.specs.Cause.{IsCauseOr};
+ghost use Rattle.clausal_form.specs.declared.fault.TheConstants.{MOST_EXPANDED};
 
 use crate::measure::Measure;
 use fol_base::{MOST_FORM_SYMBOLS, MOST_SYMBOLS};
@@ -14,16 +15,16 @@ use std::alloc::Global;
 use tptp_tree::{Annotated, Formula};
 
 /// The most atoms and quantified variables of a formula after its equivalences are written out.
-const MOST_EXPANDED: u64 = 1_000_000;
+pub const MOST_EXPANDED: u64 = 1_000_000;
 
 /// The limit that a formula passes: of several the first in this order.
 #[derive(Clone, Copy, Debug, PartialEq, Eq)]
 pub enum FormCause {
-    /// Over 1,000,000 atoms and quantified variables, after equivalences are written out.
+    /// Over `MOST_EXPANDED` atoms and quantified variables, after equivalences are written out.
     Expansion,
-    /// A clause of over 4,000 symbols, which may also be one that defines a name.
+    /// A clause of over `MOST_SYMBOLS` symbols, which may also be one that defines a name.
     TooHeavy,
-    /// Over 2^28 symbols, clauses and Skolem symbols, counted together up to and with this formula.
+    /// Over `MOST_FORM_SYMBOLS` symbols, clauses and Skolem symbols, counted together up to and with this formula.
     TotalLimit,
 }
 
@@ -55,9 +56,9 @@ pub(crate) fn refused(alloc: Global, cause: FormCause, annotated: &Annotated) ->
     }
 }
 
-/// Whether a formula has over 1,000,000 atoms and quantified variables after its equivalences are written out.
+/// Whether a formula has over `MOST_EXPANDED` atoms and quantified variables after its equivalences are written out.
 pub(crate) fn expands_too_far(formula: &Formula) -> bool
-    ensures { result ≡ nat_lt most_expanded (expanded_count (formula_of formula.now)) }
+    ensures { result ≡ nat_lt MOST_EXPANDED (expanded_count (formula_of formula.now)) }
 {
     expanded(formula) > MOST_EXPANDED
 }

@@ -1,6 +1,6 @@
 // The form of a problem, formula by formula.
 
-ghost use Rattle.std.specs.Prelude.{◌≡◌, ℕ, ◌+◌, ◌++◌, List, [], map, length, codes, IfOk, IfErr, Some, None};
+ghost use Rattle.std.specs.Prelude.{◌≡◌, ℕ, ◌+◌, ◌++◌, false, nat_lt, List, [], map, length, codes, IfOk, IfErr, Some, None};
 ghost use Rattle.tptp_tree.specs.Shape.{formula_of};
 ghost use Rattle.fol_base.specs.Literal.{clause_of};
 ghost use Rattle.signature.specs.Occurrences.{formula_symbols, problem_symbols};
@@ -9,20 +9,25 @@ ghost use Rattle.signature.specs.Form.{AreUnused, nothing_made};
 ghost use Rattle.signature.specs.Clausal.{SymbolNumbers, Made, Worked, annotated_clauses, canonical_literals};
 ghost use Rattle.skolem.specs.Skolemized.{AreKnown};
 ghost use Rattle.clausal_form.specs.Agenda.{placed};
+ghost use Rattle.signature.specs.Environment.{closed, under_for_all};
+ghost use Rattle.formula_nnf.specs.Expanded.{expanded_count};
 ghost use Rattle.clausal_form.specs.Cause.{IsCauseOr};
+ghost use Rattle.clausal_form.specs.declared.fault.TheConstants.{MOST_EXPANDED};
 ghost use Rattle.clausal_form.specs.Fault.{formula_fault, counted_in, form_fault, IsFormFault};
-ghost use Rattle.clausal_form.specs.Naming.{IsMeasured, defining_clauses};
-ghost use Rattle.clausal_form.specs.Progress.{HasMade, IsStep, IsRefusal, IsEmpty, IsFormed, counted_numbers, numbers_with};
+ghost use Rattle.clausal_form.specs.Formula.{form_by_itself};
+ghost use Rattle.clausal_form.specs.Progress.{HasMade, IsAddition, IsStep, IsRefusal, IsEmpty, IsFormed, counted_numbers, numbers_with};
 
+use crate::closing::closing_names;
 use crate::counting::count_skolem_symbols;
 use crate::fault::{FormCause, FormFault, counted_with, expands_too_far, refused};
-use crate::formula::{formula_matrix, write_formula};
-use crate::measure::Measure;
-use crate::naming::{Naming, named_matrix};
+use crate::formula::{Named, formula_matrix, write_formula};
+use crate::naming::{Names, Naming, Part, named_matrix};
 use crate::writing::Output;
-use plain_types::{Mem, NoMemory, Text};
+use plain_types::{Mem, NoMemory, Text, Texts};
 use signature::Signature;
+use skolem::{Skolemized, add_skolem_symbols};
 use std::alloc::Global;
+use std::mem;
 use tptp_tree::{Annotated, Problem};
 
 /// What there is of a form: the problem's symbols with the Skolem symbols, the number of the next Skolem symbol, the names, the clauses,
@@ -31,12 +36,12 @@ use tptp_tree::{Annotated, Problem};
 pub(crate) struct FormSoFar {
     pub signature: Signature,
     pub next: u32,
-    pub naming: Naming,
+    pub naming: Names,
     pub output: Output,
     pub counted: u64,
 }
 
-/// Adds a formula's clauses, those that define its names after them.
+/// Adds a formula's clauses, those that define its names after them, and its Skolem symbols.
 pub(crate) fn add_formula(
     alloc: Global,
     annotated: &Annotated,
@@ -56,31 +61,68 @@ pub(crate) fn add_formula(
     if expands_too_far(&annotated.formula) {
         return Err(refused(alloc, FormCause::Expansion, annotated));
     }
-    let (matrix, next) = formula_matrix(alloc, annotated, &mut form.signature, prefix, form.next)?;
-    form.next = next;
-    forget_definitions(&mut form.naming);
-    let part = named_matrix(alloc, matrix, &mut form.naming)?;
-    let measure = part.measure.sum(form.naming.measure)?;
-    match counted_with(measure, form.counted, next) {
-        Err(cause) => Err(refused(alloc, cause, annotated)),
-        Ok(counted) => {
-            form.counted = counted;
-            let definitions = form.naming.definitions.as_slice();
-            write_formula(alloc, place, &part.matrix, definitions, &mut form.output)?;
+    let names = closing_names(alloc, annotated)?;
+    match add_clauses(alloc, annotated, &names, place, form) {
+        Err(fault) => Err(fault),
+        Ok(arities) => {
+            let next = form.next;
+            let symbols = arities.as_slice();
+            form.next = add_skolem_symbols(alloc, &mut form.signature, prefix, next, symbols)?;
             Ok(())
         }
     }
 }
 
-/// The names stay, and their definitions go: each formula defines its own names.
-fn forget_definitions(naming: &mut Naming)
-    ensures arities { naming.new.arities.items ≡ naming.old.arities.items }
-    ensures first { naming.new.first ≡ naming.old.first }
-    ensures definitions { naming.new.definitions.items ≡ [] }
-    ensures measured { IsMeasured naming.new.measure (defining_clauses naming.new) }
+/// Adds the clauses of a formula that doesn't expand too far, and gives its Skolem symbols by their numbers of arguments. No term is made
+/// before the formula is known to pass no limit: its matrix has only what tells the sizes.
+fn add_clauses<'a>(
+    alloc: Global,
+    annotated: &'a Annotated,
+    names: &'a Texts,
+    place: u64,
+    form: &mut FormSoFar,
+) -> Result<Vec<u32>, FormFault>
+    requires expands { nat_lt MOST_EXPANDED (expanded_count (formula_of annotated.now.formula)) ≡ false }
+    requires closing { under_for_all names.now (formula_of annotated.now.formula) ≡ closed annotated.now }
+    requires known { AreKnown form.old.signature (formula_symbols (formula_of annotated.now.formula)) }
+    ensures arities { IfOk result (λ arities. arities.items ≡ (form_by_itself form.old.signature annotated.now).made.skolem_arities) }
+    ensures signature { form.new.signature ≡ form.old.signature }
+    ensures next { form.new.next ≡ form.old.next }
+    ensures first { form.new.naming.first ≡ form.old.naming.first }
+    ensures added { IfOk result (λ _. (n : SymbolNumbers) (prefix : List ℕ) (m : Made) → HasMade n prefix m form.old
+        → AreKnown n.symbols (formula_symbols (formula_of annotated.now.formula))
+        → IsAddition n annotated.now place m form.old form.new) }
+    ensures refused { IfErr result (λ fault. (n : SymbolNumbers) (prefix : List ℕ) (m : Made) → HasMade n prefix m form.old
+        → AreKnown n.symbols (formula_symbols (formula_of annotated.now.formula))
+        → IsRefusal n annotated.now m form.old.counted fault) }
 {
-    naming.definitions.clear();
-    naming.measure = Measure::none();
+    let Skolemized { matrix, arities } = formula_matrix(alloc, annotated, names, &form.signature)?;
+    let skolem = sum_of(form.next, arities.as_slice().len())?;
+    let so_far = mem::replace(&mut form.naming.arities, Vec::new(alloc));
+    let mut naming = Naming::new(alloc, form.naming.first, so_far);
+    let Part { matrix, measure } = named_matrix(alloc, matrix, &mut naming)?;
+    let measure = measure.sum(naming.measure)?;
+    match counted_with(measure, form.counted, skolem) {
+        Err(cause) => Err(refused(alloc, cause, annotated)),
+        Ok(counted) => {
+            form.counted = counted;
+            form.naming.arities = naming.arities;
+            let named = Named {
+                matrix,
+                definitions: naming.definitions,
+            };
+            write_formula(alloc, place, &named, &mut form.output)?;
+            Ok(arities)
+        }
+    }
+}
+
+/// The number after so many more.
+fn sum_of(number: u32, more: usize) -> Mem<u32>
+    ensures { IfOk result (λ sum. sum ≡ number + more) }
+{
+    let more = u32::try_from(more).map_err(|_| NoMemory)?;
+    number.checked_add(more).ok_or(NoMemory)
 }
 
 /// Adds the formulas of a problem, in order. The form has the symbols of the problem, and nothing was made.
@@ -111,11 +153,9 @@ fn begun_form(alloc: Global, signature: Signature, skolem: u64) -> Mem<FormSoFar
     ensures empty { IfOk result (λ form. IsEmpty form) }
 {
     let first = signature.len().checked_add(skolem).ok_or(NoMemory)?;
-    let naming = Naming {
+    let naming = Names {
         first: u32::try_from(first).map_err(|_| NoMemory)?,
         arities: Vec::new(alloc),
-        definitions: Vec::new(alloc),
-        measure: Measure::none(),
     };
     Ok(FormSoFar {
         signature,

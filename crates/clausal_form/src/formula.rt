@@ -1,12 +1,11 @@
 // One formula of a problem: its matrix, and the writing of its clauses.
 
-ghost use Rattle.std.specs.Prelude.{◌≡◌, ◌+◌, ◌++◌, [], ◌∷◌, map, length, IfOk, OnErr};
+ghost use Rattle.std.specs.Prelude.{◌≡◌, ◌++◌, map, IfOk};
 ghost use Rattle.tptp_tree.specs.Shape.{formula_of};
 ghost use Rattle.fol_base.specs.Literal.{clause_of};
 ghost use Rattle.signature.specs.Occurrences.{formula_symbols};
 ghost use Rattle.signature.specs.Clausal.{canonical_literals};
-ghost use Rattle.signature.specs.Form.{AreUnused, numbered_symbols};
-ghost use Rattle.signature.specs.Symbol.{function_symbol};
+ghost use Rattle.signature.specs.Environment.{closed, under_for_all};
 ghost use Rattle.skolem.specs.Shape.{matrix_tree};
 ghost use Rattle.skolem.specs.Skolemized.{AreKnown};
 ghost use Rattle.clausal_form.specs.Agenda.{placed};
@@ -17,57 +16,60 @@ ghost use Rattle.clausal_form.specs.Written.{written};
 use crate::closing::closed_form;
 use crate::naming::Definition;
 use crate::writing::{Agenda, Output, write_matrix};
-use plain_types::{Mem, Text};
+use plain_types::{Mem, Texts};
 use signature::Signature;
-use skolem::{Matrix, skolemize};
+use skolem::{Matrix, Skolemized, skolemize};
 use std::alloc::Global;
 use tptp_tree::Annotated;
 
-/// The matrix of a formula, and the number after the last of its Skolem symbols, which are added to the signature.
-pub(crate) fn formula_matrix(
+/// The matrix of a formula under its closing names, and its Skolem symbols by their numbers of arguments.
+pub(crate) fn formula_matrix<'a>(
     alloc: Global,
-    annotated: &Annotated,
-    signature: &mut Signature,
-    prefix: &Text,
-    next: u32,
-) -> Mem<(Matrix, u32)>
-    requires known { AreKnown signature.old (formula_symbols (formula_of annotated.now.formula)) }
-    requires unused { AreUnused signature.old prefix.now next }
-    ensures matrix { IfOk result (λ r. matrix_tree r.0 ≡ (form_by_itself signature.old annotated.now).matrix) }
-    ensures number { IfOk result (λ r. r.1 ≡ next + length (form_by_itself signature.old annotated.now).made.skolem_arities) }
-    ensures symbols { IfOk result (λ _. signature.new
-        ≡ signature.old ++ numbered_symbols function_symbol prefix.now next (form_by_itself signature.old annotated.now).made.skolem_arities) }
+    annotated: &'a Annotated,
+    names: &'a Texts,
+    signature: &'a Signature,
+) -> Mem<Skolemized<'a>>
+    requires closing { under_for_all names.now (formula_of annotated.now.formula) ≡ closed annotated.now }
+    requires known { AreKnown signature.now (formula_symbols (formula_of annotated.now.formula)) }
+    ensures matrix { IfOk result (λ made. matrix_tree made.matrix ≡ (form_by_itself signature.now annotated.now).matrix) }
+    ensures arities { IfOk result (λ made. made.arities.items ≡ (form_by_itself signature.now annotated.now).made.skolem_arities) }
 {
-    let form = closed_form(alloc, annotated)?;
-    skolemize(alloc, &form, signature, prefix, next)
+    let form = closed_form(alloc, annotated, names)?;
+    skolemize(alloc, &form, signature)
+}
+
+/// A matrix without large products, and the definitions of its names.
+#[derive(Drop)]
+pub(crate) struct Named<'a> {
+    pub matrix: Matrix<'a>,
+    pub definitions: Vec<Definition<'a>>,
 }
 
 /// Writes the clauses of a matrix without large products, and those that define its names.
 pub(crate) fn write_formula(
     alloc: Global,
     place: u64,
-    matrix: &Matrix,
-    definitions: &[Definition],
+    named: &Named<'_>,
     output: &mut Output,
 ) -> Mem<()>
     ensures clauses { IfOk result (λ _. map clause_of output.new.clauses.items ≡ map clause_of output.old.clauses.items
-        ++ map canonical_literals (written (matrix_tree matrix.now) ++ definitions_clauses definitions.now)) }
+        ++ map canonical_literals (written (matrix_tree named.now.matrix) ++ definitions_clauses named.now.definitions.items)) }
     ensures origins { IfOk result (λ _. output.new.origins.items ≡ output.old.origins.items
-        ++ map (placed place) (written (matrix_tree matrix.now) ++ definitions_clauses definitions.now)) }
+        ++ map (placed place) (written (matrix_tree named.now.matrix) ++ definitions_clauses named.now.definitions.items)) }
 {
     let mut agenda = Agenda {
         literals: Vec::new(alloc),
         matrices: Vec::new(alloc),
     };
-    write_matrix(alloc, place, matrix, &mut agenda, output)?;
-    write_definitions(alloc, place, definitions, output)
+    write_matrix(alloc, place, &named.matrix, &mut agenda, output)?;
+    write_definitions(alloc, place, named.definitions.as_slice(), output)
 }
 
 /// Writes the clauses that define names.
 fn write_definitions(
     alloc: Global,
     place: u64,
-    definitions: &[Definition],
+    definitions: &[Definition<'_>],
     output: &mut Output,
 ) -> Mem<()>
     ensures clauses { IfOk result (λ _. map clause_of output.new.clauses.items ≡ map clause_of output.old.clauses.items
@@ -85,7 +87,7 @@ fn write_definitions(
 fn write_definition(
     alloc: Global,
     place: u64,
-    definition: &Definition,
+    definition: &Definition<'_>,
     output: &mut Output,
 ) -> Mem<()>
     ensures clauses { IfOk result (λ _. map clause_of output.new.clauses.items ≡ map clause_of output.old.clauses.items
@@ -97,6 +99,6 @@ fn write_definition(
         literals: Vec::new(alloc),
         matrices: Vec::new(alloc),
     };
-    agenda.literals.push(definition.negated.lend())?;
+    agenda.literals.push(&definition.negated)?;
     write_matrix(alloc, place, &definition.matrix, &mut agenda, output)
 }

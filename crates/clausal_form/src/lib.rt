@@ -15,6 +15,6 @@ mod problem;
 mod symbols;
 mod writing;
 
-pub use fault::{FormCause, FormFault};
+pub use fault::{FormCause, FormFault, MOST_EXPANDED};
 pub use finished::Clausal;
 pub use problem::clausal;

@@ -1,9 +1,7 @@
 // Names for lists of clauses whose products would be large. What is left is a matrix whose products can be written out.
 
 ghost use Rattle.std.specs.Prelude.{◌≡◌, [], ◌∷◌, ◌++◌, ◌+◌, ◌==◌, ◌&&◌, map, length, IfOk};
-ghost use Rattle.fol_base.specs.Literal.{literal_of};
-ghost use Rattle.fol_base.specs.Term.{tree_of};
-ghost use Rattle.signature.specs.Clausal.{all_pairs, atom_literal, named, product};
+ghost use Rattle.signature.specs.Clausal.{all_pairs, named, product};
 ghost use Rattle.skolem.specs.Matrix.{matrices_of};
 ghost use Rattle.skolem.specs.Shape.{matrix_tree};
 ghost use Rattle.skolem.specs.MatrixClauses.{matrix_clauses, listed_matrices, product_of_matrices};
@@ -13,42 +11,70 @@ ghost use Rattle.clausal_form.specs.Naming.{IsMeasured, IsWork, defining_clauses
 
 use crate::arguments::name_arguments;
 use crate::measure::Measure;
-use fol_base::{Literal, Term};
 use formula_nnf::is_large;
 use plain_types::{Mem, NoMemory};
-use skolem::{Matrices, Matrix, applied};
+use skolem::{Matrices, Matrix, MatrixLiteral};
 use std::alloc::Global;
+use std::rc::Rc;
 
 /// A name: its negated atom, and the matrix for which it stands.
 #[derive(Drop)]
-pub(crate) struct Definition {
-    pub negated: Literal,
-    pub matrix: Matrix,
+pub(crate) struct Definition<'a> {
+    pub negated: MatrixLiteral<'a>,
+    pub matrix: Matrix<'a>,
 }
 
-/// The number of the first naming symbol, the naming symbols by their numbers of arguments, the definitions of the names, and the measure
-/// of the clauses that define them.
+/// The names of a form so far: the number of the first naming symbol, and the naming symbols by their numbers of arguments.
 #[derive(Drop)]
-pub(crate) struct Naming {
+pub(crate) struct Names {
     pub first: u32,
     pub arities: Vec<u32>,
-    pub definitions: Vec<Definition>,
+}
+
+/// The naming in a formula: the names so far, the definitions of those that the formula makes, and the measure of the clauses that define
+/// them.
+#[derive(Drop)]
+pub(crate) struct Naming<'a> {
+    pub first: u32,
+    pub arities: Vec<u32>,
+    pub definitions: Vec<Definition<'a>>,
     pub measure: Measure,
 }
 
 /// A matrix without large products, and the measure of its clauses.
 #[derive(Drop)]
-pub(crate) struct Part {
-    pub matrix: Matrix,
+pub(crate) struct Part<'a> {
+    pub matrix: Matrix<'a>,
     pub measure: Measure,
+}
+
+impl<'a> Naming<'a> {
+    /// No name is made yet in the formula.
+    pub(crate) fn new(alloc: Global, first: u32, arities: Vec<u32>) -> Naming<'a>
+        ensures first { result.first ≡ first }
+        ensures arities { result.arities.items ≡ arities.items }
+        ensures definitions { result.definitions.items ≡ [] }
+        ensures measured { IsMeasured result.measure (defining_clauses result) }
+    {
+        Naming {
+            first,
+            arities,
+            definitions: Vec::new(alloc),
+            measure: Measure::none(),
+        }
+    }
 }
 
 /// The matrix with names for the lists of its large products. Its literals are moved.
 #[cycle(named_matrix)]
-pub(crate) fn named_matrix(alloc: Global, matrix: Matrix, naming: &mut Naming) -> Mem<Part>
+pub(crate) fn named_matrix<'a>(
+    alloc: Global,
+    matrix: Matrix<'a>,
+    naming: &mut Naming<'a>,
+) -> Mem<Part<'a>>
     requires { IsMeasured naming.old.measure (defining_clauses naming.old) }
     ensures work { IfOk result (λ part. IsWork naming.new
-        (matrix_clauses (naming_numbers naming.old.first) (matrix_tree matrix) (naming_made naming.old))
+        (matrix_clauses (naming_numbers naming.old.first) (matrix_tree matrix.entry) (naming_made naming.old))
         (written (matrix_tree part.matrix)) part.measure) }
     ensures first { IfOk result (λ _. naming.new.first ≡ naming.old.first) }
 {
@@ -69,10 +95,10 @@ pub(crate) fn named_matrix(alloc: Global, matrix: Matrix, naming: &mut Naming) -
 
 /// Matrices one after another. Those without clauses are left out.
 #[cycle(named_matrix)]
-fn named_list(alloc: Global, members: Matrices, naming: &mut Naming) -> Mem<Part>
+fn named_list<'a>(alloc: Global, members: Matrices<'a>, naming: &mut Naming<'a>) -> Mem<Part<'a>>
     requires { IsMeasured naming.old.measure (defining_clauses naming.old) }
     ensures work { IfOk result (λ part. IsWork naming.new
-        (listed_matrices (naming_numbers naming.old.first) (matrices_of members) (naming_made naming.old))
+        (listed_matrices (naming_numbers naming.old.first) (matrices_of members.entry) (naming_made naming.old))
         (written (matrix_tree part.matrix)) part.measure) }
     ensures first { IfOk result (λ _. naming.new.first ≡ naming.old.first) }
 {
@@ -88,13 +114,13 @@ fn named_list(alloc: Global, members: Matrices, naming: &mut Naming) -> Mem<Part
 }
 
 /// One part after another. Without clauses it is left out, so that a list of one part is that part.
-fn joined(alloc: Global, first: Part, second: Part) -> Mem<Part>
+fn joined<'a>(alloc: Global, first: Part<'a>, second: Part<'a>) -> Mem<Part<'a>>
     requires first { IsMeasured first.measure (written (matrix_tree first.matrix)) }
     requires second { IsMeasured second.measure (written (matrix_tree second.matrix)) }
     ensures clauses { IfOk result (λ part. written (matrix_tree part.matrix)
-        ≡ written (matrix_tree first.matrix) ++ written (matrix_tree second.matrix)) }
+        ≡ written (matrix_tree first.entry.matrix) ++ written (matrix_tree second.entry.matrix)) }
     ensures measured { IfOk result (λ part. IsMeasured part.measure
-        (written (matrix_tree first.matrix) ++ written (matrix_tree second.matrix))) }
+        (written (matrix_tree first.entry.matrix) ++ written (matrix_tree second.entry.matrix))) }
 {
     if second.measure.clauses == 0 {
         return Ok(first);
@@ -108,8 +134,8 @@ fn joined(alloc: Global, first: Part, second: Part) -> Mem<Part>
 }
 
 /// One matrix after another, in the same list where the first is one.
-fn joined_matrix(alloc: Global, first: Matrix, second: Matrix) -> Mem<Matrix>
-    ensures { IfOk result (λ matrix. written (matrix_tree matrix) ≡ written (matrix_tree first) ++ written (matrix_tree second)) }
+fn joined_matrix<'a>(alloc: Global, first: Matrix<'a>, second: Matrix<'a>) -> Mem<Matrix<'a>>
+    ensures { IfOk result (λ matrix. written (matrix_tree matrix) ≡ written (matrix_tree first.entry) ++ written (matrix_tree second.entry)) }
 {
     let mut members = listed(alloc, first)?;
     members.push(second)?;
@@ -117,8 +143,8 @@ fn joined_matrix(alloc: Global, first: Matrix, second: Matrix) -> Mem<Matrix>
 }
 
 /// The matrices of a list, and any other matrix alone.
-fn listed(alloc: Global, matrix: Matrix) -> Mem<Matrices>
-    ensures { IfOk result (λ members. all_written (matrices_of members) ≡ written (matrix_tree matrix)) }
+fn listed<'a>(alloc: Global, matrix: Matrix<'a>) -> Mem<Matrices<'a>>
+    ensures { IfOk result (λ members. all_written (matrices_of members) ≡ written (matrix_tree matrix.entry)) }
 {
     match matrix {
         Matrix::And(members) => Ok(members),
@@ -128,10 +154,15 @@ fn listed(alloc: Global, matrix: Matrix) -> Mem<Matrices>
 
 /// The product of matrices, from left to right.
 #[cycle(named_matrix)]
-fn named_product(alloc: Global, made: u32, members: Matrices, naming: &mut Naming) -> Mem<Part>
+fn named_product<'a>(
+    alloc: Global,
+    made: u32,
+    members: Matrices<'a>,
+    naming: &mut Naming<'a>,
+) -> Mem<Part<'a>>
     requires { IsMeasured naming.old.measure (defining_clauses naming.old) }
     ensures work { IfOk result (λ part. IsWork naming.new
-        (product_of_matrices (naming_numbers naming.old.first) made ([] ∷ []) (matrices_of members) (naming_made naming.old))
+        (product_of_matrices (naming_numbers naming.old.first) made ([] ∷ []) (matrices_of members.entry) (naming_made naming.old))
         (written (matrix_tree part.matrix)) part.measure) }
     ensures first { IfOk result (λ _. naming.new.first ≡ naming.old.first) }
 {
@@ -147,12 +178,18 @@ fn named_product(alloc: Global, made: u32, members: Matrices, naming: &mut Namin
 }
 
 /// The product of two parts. Of a large one the longer list is named first, what is there where they are equally long.
-fn multiplied(alloc: Global, made: u32, first: Part, second: Part, naming: &mut Naming) -> Mem<Part>
+fn multiplied<'a>(
+    alloc: Global,
+    made: u32,
+    first: Part<'a>,
+    second: Part<'a>,
+    naming: &mut Naming<'a>,
+) -> Mem<Part<'a>>
     requires defining { IsMeasured naming.old.measure (defining_clauses naming.old) }
     requires first { IsMeasured first.measure (written (matrix_tree first.matrix)) }
     requires second { IsMeasured second.measure (written (matrix_tree second.matrix)) }
     ensures work { IfOk result (λ part. IsWork naming.new
-        (product (naming_numbers naming.old.first) made (written (matrix_tree first.matrix)) (written (matrix_tree second.matrix)) (naming_made naming.old))
+        (product (naming_numbers naming.old.first) made (written (matrix_tree first.entry.matrix)) (written (matrix_tree second.entry.matrix)) (naming_made naming.old))
         (written (matrix_tree part.matrix)) part.measure) }
     ensures first { IfOk result (λ _. naming.new.first ≡ naming.old.first) }
 {
@@ -169,13 +206,13 @@ fn multiplied(alloc: Global, made: u32, first: Part, second: Part, naming: &mut 
 
 /// The product of two parts without a name. The empty clause alone is left out, so that a product of one part is that part; and one
 /// without clauses is `$true`, so that nothing of it is walked again.
-fn written_out(alloc: Global, made: u32, first: Part, second: Part) -> Mem<Part>
+fn written_out<'a>(alloc: Global, made: u32, first: Part<'a>, second: Part<'a>) -> Mem<Part<'a>>
     requires first { IsMeasured first.measure (written (matrix_tree first.matrix)) }
     requires second { IsMeasured second.measure (written (matrix_tree second.matrix)) }
     ensures clauses { IfOk result (λ part. written (matrix_tree part.matrix)
-        ≡ all_pairs (written (matrix_tree first.matrix)) (written (matrix_tree second.matrix))) }
+        ≡ all_pairs (written (matrix_tree first.entry.matrix)) (written (matrix_tree second.entry.matrix))) }
     ensures measured { IfOk result (λ part. IsMeasured part.measure
-        (all_pairs (written (matrix_tree first.matrix)) (written (matrix_tree second.matrix)))) }
+        (all_pairs (written (matrix_tree first.entry.matrix)) (written (matrix_tree second.entry.matrix)))) }
 {
     if is_empty_clause(second.measure) {
         return Ok(first);
@@ -202,8 +239,13 @@ fn is_empty_clause(measure: Measure) -> bool
 }
 
 /// The product of two matrices, with the members of the first where it is one.
-fn product_matrix(alloc: Global, made: u32, first: Matrix, second: Matrix) -> Mem<Matrix>
-    ensures { IfOk result (λ matrix. written (matrix_tree matrix) ≡ all_pairs (written (matrix_tree first)) (written (matrix_tree second))) }
+fn product_matrix<'a>(
+    alloc: Global,
+    made: u32,
+    first: Matrix<'a>,
+    second: Matrix<'a>,
+) -> Mem<Matrix<'a>>
+    ensures { IfOk result (λ matrix. written (matrix_tree matrix) ≡ all_pairs (written (matrix_tree first.entry)) (written (matrix_tree second.entry))) }
 {
     let mut members = factors(alloc, first)?;
     members.push(second)?;
@@ -211,8 +253,8 @@ fn product_matrix(alloc: Global, made: u32, first: Matrix, second: Matrix) -> Me
 }
 
 /// The members of a product, and any other matrix alone.
-fn factors(alloc: Global, matrix: Matrix) -> Mem<Matrices>
-    ensures { IfOk result (λ members. product_written ([] ∷ []) (matrices_of members) ≡ written (matrix_tree matrix)) }
+fn factors<'a>(alloc: Global, matrix: Matrix<'a>) -> Mem<Matrices<'a>>
+    ensures { IfOk result (λ members. product_written ([] ∷ []) (matrices_of members) ≡ written (matrix_tree matrix.entry)) }
 {
     match matrix {
         Matrix::Or { made: _, members } => Ok(members),
@@ -221,9 +263,9 @@ fn factors(alloc: Global, matrix: Matrix) -> Mem<Matrices>
 }
 
 /// One matrix.
-fn single(alloc: Global, matrix: Matrix) -> Mem<Matrices>
-    ensures list { IfOk result (λ members. all_written (matrices_of members) ≡ written (matrix_tree matrix)) }
-    ensures product { IfOk result (λ members. product_written ([] ∷ []) (matrices_of members) ≡ written (matrix_tree matrix)) }
+fn single<'a>(alloc: Global, matrix: Matrix<'a>) -> Mem<Matrices<'a>>
+    ensures list { IfOk result (λ members. all_written (matrices_of members) ≡ written (matrix_tree matrix.entry)) }
+    ensures product { IfOk result (λ members. product_written ([] ∷ []) (matrices_of members) ≡ written (matrix_tree matrix.entry)) }
 {
     let mut members = Matrices::new(alloc);
     members.push(matrix)?;
@@ -231,9 +273,9 @@ fn single(alloc: Global, matrix: Matrix) -> Mem<Matrices>
 }
 
 /// A literal as a matrix.
-fn literal_part(literal: Literal) -> Part
-    ensures clauses { written (matrix_tree result.matrix) ≡ (literal_of literal ∷ []) ∷ [] }
-    ensures measured { IsMeasured result.measure ((literal_of literal ∷ []) ∷ []) }
+fn literal_part<'a>(literal: MatrixLiteral<'a>) -> Part<'a>
+    ensures clauses { written (matrix_tree result.matrix) ≡ (literal.entry ∷ []) ∷ [] }
+    ensures measured { IsMeasured result.measure ((literal.entry ∷ []) ∷ []) }
 {
     let measure = Measure::one_clause(literal.size());
     Part {
@@ -244,33 +286,25 @@ fn literal_part(literal: Literal) -> Part
 
 /// Names the clauses of a part: the next naming symbol stands for them, applied to those of their variables that were made before the work
 /// on the product began.
-fn named(alloc: Global, made: u32, part: Part, naming: &mut Naming) -> Mem<Part>
+fn named<'a>(alloc: Global, made: u32, part: Part<'a>, naming: &mut Naming<'a>) -> Mem<Part<'a>>
     requires defining { IsMeasured naming.old.measure (defining_clauses naming.old) }
     requires part { IsMeasured part.measure (written (matrix_tree part.matrix)) }
     ensures work { IfOk result (λ name. IsWork naming.new
-        (named (naming_numbers naming.old.first) made (written (matrix_tree part.matrix)) (naming_made naming.old))
+        (named (naming_numbers naming.old.first) made (written (matrix_tree part.entry.matrix)) (naming_made naming.old))
         (written (matrix_tree name.matrix)) name.measure) }
     ensures first { IfOk result (λ _. naming.new.first ≡ naming.old.first) }
 {
     let arguments = name_arguments(alloc, made, &part.matrix)?;
     let symbol = next_symbol(naming)?;
     let arity = u32::try_from(arguments.len()).map_err(|_| NoMemory)?;
-    let atom = applied(alloc, symbol, arguments.as_slice())?;
-    let negated = Literal {
-        positive: false,
-        left: atom.copy(alloc)?,
-        right: Term::truth(alloc),
-    };
+    let arguments = Rc::new(alloc, arguments)?;
+    let negated = MatrixLiteral::of_name(false, symbol, arguments.clone()?);
     define(naming, arity, negated, part)?;
-    Ok(literal_part(Literal {
-        positive: true,
-        left: atom,
-        right: Term::truth(alloc),
-    }))
+    Ok(literal_part(MatrixLiteral::of_name(true, symbol, arguments)))
 }
 
 /// The number of the next naming symbol.
-fn next_symbol(naming: &Naming) -> Mem<u32>
+fn next_symbol(naming: &Naming<'_>) -> Mem<u32>
     ensures { IfOk result (λ symbol. symbol ≡ naming.now.first + length naming.now.arities.items) }
 {
     let made = u32::try_from(naming.arities.len()).map_err(|_| NoMemory)?;
@@ -278,12 +312,17 @@ fn next_symbol(naming: &Naming) -> Mem<u32>
 }
 
 /// Adds a name, by its negated atom and its number of arguments, and the matrix for which it stands.
-fn define(naming: &mut Naming, arity: u32, negated: Literal, part: Part) -> Mem<()>
+fn define<'a>(
+    naming: &mut Naming<'a>,
+    arity: u32,
+    negated: MatrixLiteral<'a>,
+    part: Part<'a>,
+) -> Mem<()>
     requires defining { IsMeasured naming.old.measure (defining_clauses naming.old) }
     requires part { IsMeasured part.measure (written (matrix_tree part.matrix)) }
     ensures arities { IfOk result (λ _. naming.new.arities.items ≡ naming.old.arities.items ++ arity ∷ []) }
     ensures clauses { IfOk result (λ _. defining_clauses naming.new
-        ≡ defining_clauses naming.old ++ map (λ c. literal_of negated ∷ c) (written (matrix_tree part.matrix))) }
+        ≡ defining_clauses naming.old ++ map (λ c. negated.entry ∷ c) (written (matrix_tree part.entry.matrix))) }
     ensures measured { IfOk result (λ _. IsMeasured naming.new.measure (defining_clauses naming.new)) }
     ensures first { naming.new.first ≡ naming.old.first }
 {

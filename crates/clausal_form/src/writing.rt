@@ -2,16 +2,15 @@
 
 ghost use Rattle.std.specs.Prelude.{◌≡◌, ◌+◌, ◌++◌, [], ◌∷◌, map, length, take, IfOk};
 ghost use Rattle.fol_base.specs.Literal.{clause_of};
-ghost use Rattle.fol_base.specs.Lent.{lent_of};
 ghost use Rattle.skolem.specs.Matrix.{matrices_of, matrices_size};
 ghost use Rattle.skolem.specs.Shape.{matrix_tree};
 ghost use Rattle.signature.specs.Clausal.{all_pairs, canonical_literals};
 ghost use Rattle.clausal_form.specs.Written.{written, all_written, product_written};
-ghost use Rattle.clausal_form.specs.Agenda.{agenda_clauses, agenda_size, canonical_after, placed};
+ghost use Rattle.clausal_form.specs.Agenda.{lent_literal, agenda_clauses, agenda_size, canonical_after, placed};
 
-use fol_base::{Clause, LiteralRef, Literals, renumbered};
+use fol_base::{Clause, Literals, renumbered};
 use plain_types::{Mem, Names};
-use skolem::Matrix;
+use skolem::{Matrix, MatrixLiteral};
 use std::alloc::Global;
 
 /// The clauses that were written, and for each the place of its formula.
@@ -23,21 +22,21 @@ pub(crate) struct Output {
 
 /// What a clause still has to get: the literals that it has, and the matrices of which it gets a clause each, the next one last.
 #[derive(Drop)]
-pub(crate) struct Agenda<'a> {
-    pub literals: Vec<LiteralRef<'a>>,
-    pub matrices: Vec<&'a Matrix>,
+pub(crate) struct Agenda<'m, 'a> {
+    pub literals: Vec<&'m MatrixLiteral<'a>>,
+    pub matrices: Vec<&'m Matrix<'a>>,
 }
 
 /// Writes, for each clause of the matrices that are left, the literals that are there and the clause's own. The agenda is as before.
 #[cycle(write)]
-fn write_agenda<'a>(
+fn write_agenda<'m, 'a>(
     alloc: Global,
     place: u64,
-    agenda: &mut Agenda<'a>,
+    agenda: &mut Agenda<'m, 'a>,
     output: &mut Output,
 ) -> Mem<()>
     ensures clauses { IfOk result (λ _. map clause_of output.new.clauses.items ≡ map clause_of output.old.clauses.items
-        ++ map (canonical_after (map lent_of agenda.old.literals.items)) (agenda_clauses agenda.old.matrices.items)) }
+        ++ map (canonical_after (map lent_literal agenda.old.literals.items)) (agenda_clauses agenda.old.matrices.items)) }
     ensures origins { IfOk result (λ _. output.new.origins.items ≡ output.old.origins.items
         ++ map (placed place) (agenda_clauses agenda.old.matrices.items)) }
     ensures literals { IfOk result (λ _. agenda.new.literals.items ≡ agenda.old.literals.items) }
@@ -55,15 +54,15 @@ fn write_agenda<'a>(
 
 /// The same, with a clause of the matrix before those of the matrices that are left.
 #[cycle(write)]
-pub(crate) fn write_matrix<'a>(
+pub(crate) fn write_matrix<'m, 'a>(
     alloc: Global,
     place: u64,
-    matrix: &'a Matrix,
-    agenda: &mut Agenda<'a>,
+    matrix: &'m Matrix<'a>,
+    agenda: &mut Agenda<'m, 'a>,
     output: &mut Output,
 ) -> Mem<()>
     ensures clauses { IfOk result (λ _. map clause_of output.new.clauses.items ≡ map clause_of output.old.clauses.items
-        ++ map (canonical_after (map lent_of agenda.old.literals.items)) (all_pairs (written (matrix_tree matrix.now)) (agenda_clauses agenda.old.matrices.items))) }
+        ++ map (canonical_after (map lent_literal agenda.old.literals.items)) (all_pairs (written (matrix_tree matrix.now)) (agenda_clauses agenda.old.matrices.items))) }
     ensures origins { IfOk result (λ _. output.new.origins.items ≡ output.old.origins.items
         ++ map (placed place) (all_pairs (written (matrix_tree matrix.now)) (agenda_clauses agenda.old.matrices.items))) }
     ensures literals { IfOk result (λ _. agenda.new.literals.items ≡ agenda.old.literals.items) }
@@ -73,7 +72,7 @@ pub(crate) fn write_matrix<'a>(
         Matrix::True => Ok(()),
         Matrix::False => write_agenda(alloc, place, agenda, output),
         Matrix::Lit(literal) => {
-            agenda.literals.push(literal.lend())?;
+            agenda.literals.push(literal)?;
             write_agenda(alloc, place, agenda, output)?;
             agenda.literals.pop();
             Ok(())
@@ -91,15 +90,15 @@ pub(crate) fn write_matrix<'a>(
 
 /// The same for each of several matrices, one after another.
 #[cycle(write)]
-fn write_each<'a>(
+fn write_each<'m, 'a>(
     alloc: Global,
     place: u64,
-    members: &'a [Matrix],
-    agenda: &mut Agenda<'a>,
+    members: &'m [Matrix<'a>],
+    agenda: &mut Agenda<'m, 'a>,
     output: &mut Output,
 ) -> Mem<()>
     ensures clauses { IfOk result (λ _. map clause_of output.new.clauses.items ≡ map clause_of output.old.clauses.items
-        ++ map (canonical_after (map lent_of agenda.old.literals.items)) (all_pairs (all_written (matrices_of (map matrix_tree members.now))) (agenda_clauses agenda.old.matrices.items))) }
+        ++ map (canonical_after (map lent_literal agenda.old.literals.items)) (all_pairs (all_written (matrices_of (map matrix_tree members.now))) (agenda_clauses agenda.old.matrices.items))) }
     ensures origins { IfOk result (λ _. output.new.origins.items ≡ output.old.origins.items
         ++ map (placed place) (all_pairs (all_written (matrices_of (map matrix_tree members.now))) (agenda_clauses agenda.old.matrices.items))) }
     ensures literals { IfOk result (λ _. agenda.new.literals.items ≡ agenda.old.literals.items) }
@@ -112,7 +111,7 @@ fn write_each<'a>(
 }
 
 /// Puts matrices at the end, the first of them last.
-fn push_members<'a>(members: &'a [Matrix], matrices: &mut Vec<&'a Matrix>) -> Mem<()>
+fn push_members<'m, 'a>(members: &'m [Matrix<'a>], matrices: &mut Vec<&'m Matrix<'a>>) -> Mem<()>
     ensures clauses { IfOk result (λ _. agenda_clauses matrices.new.items
         ≡ all_pairs (product_written ([] ∷ []) (matrices_of (map matrix_tree members.now))) (agenda_clauses matrices.old.items)) }
     ensures size { IfOk result (λ _. agenda_size matrices.new.items
@@ -131,11 +130,11 @@ fn push_members<'a>(members: &'a [Matrix], matrices: &mut Vec<&'a Matrix>) -> Me
 fn write_clause(
     alloc: Global,
     place: u64,
-    literals: &[LiteralRef<'_>],
+    literals: &[&MatrixLiteral<'_>],
     output: &mut Output,
 ) -> Mem<()>
     ensures clauses { IfOk result (λ _. map clause_of output.new.clauses.items
-        ≡ map clause_of output.old.clauses.items ++ canonical_literals (map lent_of literals.now) ∷ []) }
+        ≡ map clause_of output.old.clauses.items ++ canonical_literals (map lent_literal literals.now) ∷ []) }
     ensures origins { IfOk result (λ _. output.new.origins.items ≡ output.old.origins.items ++ place ∷ []) }
 {
     let clause = clause_of_literals(alloc, literals)?;
@@ -144,16 +143,16 @@ fn write_clause(
     Ok(())
 }
 
-/// The clause of those literals, without names.
-fn clause_of_literals(alloc: Global, literals: &[LiteralRef<'_>]) -> Mem<Clause>
-    ensures { IfOk result (λ clause. clause_of clause ≡ record { literals = map lent_of literals.now; names = [] }) }
+/// The clause of those literals, without names. Their terms are made here.
+fn clause_of_literals(alloc: Global, literals: &[&MatrixLiteral<'_>]) -> Mem<Clause>
+    ensures { IfOk result (λ clause. clause_of clause ≡ record { literals = map lent_literal literals.now; names = [] }) }
 {
-    let mut copies = Vec::with_capacity(alloc, literals.len())?;
+    let mut made = Vec::with_capacity(alloc, literals.len())?;
     for literal in literals {
-        copies.push(literal.copy(alloc)?)?;
+        made.push(literal.to_literal(alloc)?)?;
     }
     Ok(Clause {
-        literals: Literals::from_vec(copies),
+        literals: Literals::from_vec(made),
         names: Names::new(alloc),
     })
 }

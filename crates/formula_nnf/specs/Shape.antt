@@ -14,9 +14,9 @@ signed false f = negation f
 abbrev pub nnf_tree : Nnf → FormulaTree
 nnf_tree True = truth
 nnf_tree False = falsity
-nnf_tree (Pred positive p ts) = signed positive (predicate p (terms_of ts))
-nnf_tree (Equal positive s t) = equation positive (term_of s) (term_of t)
+nnf_tree (Pred positive p ts) = signed positive (predicate p.now (terms_of ts.now))
+nnf_tree (Equal positive s t) = equation positive (term_of s.now) (term_of t.now)
 nnf_tree (And fs) = conjunction (formulas_of fs)
 nnf_tree (Or fs) = disjunction (formulas_of fs)
-nnf_tree (All xs f) = quantified for_all xs f
-nnf_tree (Ex xs f) = quantified exists_some xs f
+nnf_tree (All xs f) = quantified for_all xs.now f
+nnf_tree (Ex xs f) = quantified exists_some xs.now f

@@ -2,7 +2,6 @@
 #![tactic(auto)]
 
 mod clauses;
-mod copy;
 mod count;
 mod form;
 pub mod laws;

@@ -1,6 +1,7 @@
 -- The variables of the terms to which variables are bound.
-use Rattle.std.proofs.Common.{◌≡◌, ℕ, List, [], ◌∷◌, ◌++◌, map, refl, ap, sym, ◌∙◌}
-use Rattle.fol_base.specs.Tree.{Tree, variable, trees_of, tree_variables, trees_variables}
+use Rattle.std.proofs.Common.{◌≡◌, ℕ, ◌+◌, ◌-◌, ◌^◌, List, [], ◌∷◌, ◌++◌, length, map, refl, ap, sym, ◌∙◌, arith}
+use Rattle.std.specs.Prelude.{min}
+use Rattle.fol_base.specs.Tree.{Tree, variable, trees_of, tree_size, trees_size, tree_variables, trees_variables}
 use Rattle.signature.specs.Clausal.{applied}
 
 pub variables-of : (vs : List ℕ) → trees_variables (trees_of (map variable vs)) ≡ vs
@@ -11,3 +12,12 @@ pub arguments-added :
     (made new vs : List ℕ) (symbol : ℕ) (t : Tree) → new ≡ made ++ vs → t ≡ applied symbol vs → new ≡ made ++ tree_variables t
 arguments-added made new vs symbol t h e =
     h ∙ ap (λ ws. made ++ ws) (sym (variables-of vs)) ∙ ap (λ u. made ++ tree_variables u) (sym e)
+
+sizes-of : (vs : List ℕ) → trees_size (trees_of (map variable vs)) ≡ length vs
+sizes-of [] = refl
+sizes-of (v ∷ vs) = omega (arith, sizes-of vs)
+
+pub size-of-applied :
+    (symbol : ℕ) (vs : List ℕ) (count total : ℕ) (t : Tree)
+    → count ≡ length vs → total ≡ min (count + 1) (2 ^ 64 - 1) → t ≡ applied symbol vs → total ≡ min (tree_size t) (2 ^ 64 - 1)
+size-of-applied symbol vs count total t h k e = omega (arith, h, k, ap tree_size e, sizes-of vs)

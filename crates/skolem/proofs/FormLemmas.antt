@@ -7,15 +7,15 @@ use Rattle.fol_base.proofs.TestLemmas.{list_any-agree}
 use Rattle.fol_base.specs.Canonical.{numbers_from}
 use Rattle.tptp_tree.specs.Term.{TermTrees}
 use Rattle.tptp_tree.specs.Formula.{predicate, formulas_of}
-use Rattle.fol_base.specs.Tree.{Tree, variable, application, true_tree, trees_of, tree_variables, trees_variables}
-use Rattle.fol_base.specs.Term.{tree_of}
+use Rattle.fol_base.specs.Tree.{variable, application, tree_variables}
+use Rattle.fol_base.specs.Clause.{TreeLiteral}
 use Rattle.skolem.specs.declared.bound_term.BoundTerm.{BoundTerm}
 use Rattle.skolem.specs.BoundTerm.{bound_tree}
 use Rattle.signature.specs.declared.symbol.Symbol.{Symbol}
 use Rattle.signature.specs.Symbol.{predicate_symbol, has_symbol, number_of}
 use Rattle.signature.specs.Occurrences.{terms_count, formula_symbols, formulas_symbols}
 use Rattle.signature.specs.Environment.{Environment, terms_under, without_names, term_in_force}
-use Rattle.signature.specs.Clausal.{SymbolNumbers, Made, Scope, with_variables, with_skolem_terms, skolem_arguments, applied}
+use Rattle.signature.specs.Clausal.{SymbolNumbers, Made, Scope, atom_literal, with_variables, with_skolem_terms, skolem_arguments, applied}
 use Rattle.signature.proofs.OccurrenceLemmas.{drop-item, drop-end}
 use Rattle.formula_nnf.specs.declared.form.Nnf.{Nnf}
 use Rattle.formula_nnf.specs.Shape.{nnf_tree, signed}
@@ -309,9 +309,8 @@ forms-known known fs i f h e a =
 
 -- a predicate's literal
 pub atom-matrix :
-    (known : List Symbol) (positive : Bool) (p : List ℕ) (ts : TermTrees) (env : Environment) (m : Made) (left right : Tree)
-    → left ≡ application (number_of known (predicate_symbol p (terms_count ts))) (terms_under known env ts) → right ≡ true_tree
-    → literal (record { positive = positive; left = left; right = right })
-    ≡ (skolemized (numbers_after known) (signed positive (predicate p ts)) env m).matrix
-atom-matrix known true p ts env m left right h k = λ i. literal (record { positive = true; left = h i; right = k i })
-atom-matrix known false p ts env m left right h k = λ i. literal (record { positive = false; left = h i; right = k i })
+    (known : List Symbol) (positive : Bool) (p : List ℕ) (ts : TermTrees) (env : Environment) (m : Made) (l : TreeLiteral)
+    → l ≡ atom_literal positive (application (number_of known (predicate_symbol p (terms_count ts))) (terms_under known env ts))
+    → literal l ≡ (skolemized (numbers_after known) (signed positive (predicate p ts)) env m).matrix
+atom-matrix known true p ts env m l h = ap literal h
+atom-matrix known false p ts env m l h = ap literal h

@@ -5,6 +5,7 @@ pub mod OccurringLemmas
 pub mod OrderLemmas
 pub mod SymbolLemmas
 pub mod TermLemmas
+pub mod LiteralLemmas
 pub mod FormLemmas
 pub mod CountLemmas
 pub mod ClauseLemmas

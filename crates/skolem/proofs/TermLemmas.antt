@@ -7,11 +7,10 @@ use Rattle.tptp_tree.specs.Term.{TermTree}
 use Rattle.tptp_tree.specs.declared.term.TreeTerm.{TreeTerm}
 use Rattle.std.proofs.lemmas.Bool.{and_parts}
 use Rattle.signature.specs.declared.symbol.SymbolKind.{SymbolKind}
-use Rattle.fol_base.specs.Tree.{Tree, variable, application, Trees, no_trees, tree_then, trees_of, list_of}
+use Rattle.fol_base.specs.Tree.{Tree, variable, Trees, no_trees, tree_then, trees_of, list_of}
 use Rattle.signature.specs.declared.symbol.Symbol.{Symbol}
-use Rattle.signature.specs.Symbol.{has_symbol, number_of}
+use Rattle.signature.specs.Symbol.{has_symbol}
 use Rattle.signature.specs.Occurrences.{terms_count, term_symbols, terms_symbols}
-use Rattle.signature.specs.Environment.{Environment, term_under, terms_under}
 use Rattle.signature.proofs.OccurrenceLemmas.{drop-item, drop-end, count_length}
 use Rattle.skolem.specs.Skolemized.{IsKnown, AreKnown}
 use Rattle.skolem.proofs.ListLemmas.{added, all-parts}
@@ -19,27 +18,6 @@ use Rattle.skolem.proofs.ListLemmas.{added, all-parts}
 pub listed : (ts : Trees) → trees_of (list_of ts) ≡ ts
 listed no_trees = refl
 listed (tree_then t ts) = ap (tree_then t) (listed ts)
-
-abbrev pub trees_left : List Symbol → Environment → List TreeTerm → ℕ → List Tree
-trees_left known env ts i = list_of (terms_under known env (terms_of (map term_of (drop i ts))))
-
-pub trees-added :
-    (made new : List Tree) (known : List Symbol) (env : Environment) (ts : List TreeTerm) (i : ℕ) (t : TreeTerm) (u : Tree) (all : Trees)
-    → i < length ts → t ≡ get_or ts i t → u ≡ term_under known env (term_of t) → new ≡ made ++ u ∷ []
-    → trees_of (made ++ trees_left known env ts i) ≡ all
-    → trees_of (new ++ trees_left known env ts (i + 1)) ≡ all
-trees-added made new known env ts i t u all h e g n m =
-    ap trees_of
-    (added made new (u ∷ []) (trees_left known env ts (i + 1)) _ n refl
-    ∙ ap (λ x. made ++ x ∷ trees_left known env ts (i + 1)) g
-    ∙ ap (λ us. made ++ list_of (terms_under known env (terms_of (map term_of us)))) (sym (drop-item ts i t h e)))
-    ∙ m
-
-pub trees-done :
-    (made : List Tree) (known : List Symbol) (env : Environment) (ts : List TreeTerm) (i : ℕ) (all : Trees)
-    → length ts ≤ i → trees_of (made ++ trees_left known env ts i) ≡ all → trees_of made ≡ all
-trees-done made known env ts i all h m =
-    ap trees_of (sym (append-nil made) ∙ ap (λ us. made ++ list_of (terms_under known env (terms_of (map term_of us)))) (sym (drop-end ts i h))) ∙ m
 
 -- the symbols of the next term are known, and those after it
 pub known-then :
@@ -90,16 +68,3 @@ pub arguments-known :
     → AreKnown known (terms_symbols (terms_of (map term_of items)))
 arguments-known known s arguments items a h =
     ap (λ us. list_all (λ s. has_symbol s known) (terms_symbols (terms_of us))) a ∙ (and_parts _ _ h).1
-
-pub head-under :
-    (known : List Symbol) (env : Environment) (kind : SymbolKind) (name lent : List ℕ) (arguments : List TermTree)
-    (items others : List TreeTerm) (number : ℕ) (trees : List Tree)
-    → lent ≡ name → map term_of items ≡ arguments → map term_of others ≡ arguments
-    → number ≡ number_of known (record { kind = kind; name = lent; arity = length items })
-    → trees_of trees ≡ terms_under known env (terms_of (map term_of others))
-    → application number (trees_of trees)
-    ≡ application (number_of known (record { kind = kind; name = name; arity = terms_count (terms_of arguments) })) (terms_under known env (terms_of arguments))
-head-under known env kind name lent arguments items others number trees n a b k t =
-    ap (λ f. application f (trees_of trees)) (k ∙ ap (number_of known) (head-same kind name lent arguments items n a))
-    ∙ ap (application (number_of known (record { kind = kind; name = name; arity = terms_count (terms_of arguments) })))
-    (t ∙ ap (λ us. terms_under known env (terms_of us)) b)

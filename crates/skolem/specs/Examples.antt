@@ -1,6 +1,6 @@
 -- The forms of the worked examples, over the names p, r, X, Y, Z.
 use Rattle.std.specs.Prelude.{ℕ, true, List, [], ◌∷◌, codes}
-use Rattle.tptp_tree.specs.Term.{variable, no_terms, term_then}
+use Rattle.tptp_tree.specs.Term.{TermTree, variable, application as application_of, no_terms, term_then}
 use Rattle.tptp_tree.specs.Formula.{FormulaTree, predicate}
 use Rattle.fol_base.specs.Tree.{variable as numbered, application, no_trees, tree_then}
 use Rattle.fol_base.specs.Clause.{TreeLiteral}
@@ -22,6 +22,9 @@ p_of v = predicate (codes "p") (term_then (variable v) no_terms)
 
 abbrev pub r_of : List ℕ → List ℕ → FormulaTree
 r_of v w = predicate (codes "r") (term_then (variable v) (term_then (variable w) no_terms))
+
+abbrev pub f_of : List ℕ → List ℕ → TermTree
+f_of v w = application_of (codes "f") (term_then (variable v) (term_then (variable w) no_terms))
 
 -- `$true`, p, r
 abbrev pub known : List Symbol

@@ -3,6 +3,7 @@ pub mod MatrixCode
 pub mod Shape
 pub mod Falls
 pub mod Skolemized
+pub mod Literal
 pub mod MatrixClauses
 pub mod Name
 pub mod BoundTerm

@@ -1,7 +1,6 @@
 -- The matrix of a normal form: its quantifiers go, and for their variables stand new variables and Skolem terms.
-use Rattle.std.specs.Prelude.{ℕ, Bool, true, List, [], ◌++◌, length, IsTrue}
-use Rattle.std.specs.List.{list_any, list_all}
-use Rattle.std.specs.Fmt.{decimal}
+use Rattle.std.specs.Prelude.{ℕ, true, List, [], ◌++◌, length, IsTrue}
+use Rattle.std.specs.List.{list_all}
 use Rattle.tptp_tree.specs.Formula.{FormulaTree, truth, falsity, predicate, equation, negation, conjunction, disjunction, connected, quantified, FormulaTrees, no_formulas, formula_then}
 use Rattle.fol_base.specs.Tree.{application}
 use Rattle.signature.specs.declared.symbol.Symbol.{Symbol}

@@ -88,6 +88,16 @@ impl Bindings {
         Some(&entry.binding.term)
     }
 
+    /// The term of the innermost variable of that name, or else of one that isn't in force.
+    pub(crate) fn term_in_force(&self, name: &Text) -> Mem<BoundTerm>
+        ensures { IfOk result (λ term. bound_tree term ≡ term_in_force (environment_of self.now) name.now) }
+    {
+        match self.find(name) {
+            Some(term) => term.share(),
+            None => Ok(BoundTerm::Var(NO_VARIABLE_IN_FORCE)),
+        }
+    }
+
     /// Adds a binding, the innermost.
     pub(crate) fn push(&mut self, alloc: Global, name: &Text, term: BoundTerm) -> Mem<()>
         ensures { IfOk result (λ _. self.new ≡ self.old ++ record { name = name.now; term = term } ∷ []) }

@@ -1,7 +1,7 @@
 // What the variables in force are bound to.
 
-ghost use Rattle.std.specs.Prelude.{◌≡◌, ◌++◌, IfOk};
-ghost use Rattle.fol_base.specs.Tree.{tree_variables};
+ghost use Rattle.std.specs.Prelude.{◌≡◌, ◌++◌, ◌-◌, ◌^◌, min, IfOk};
+ghost use Rattle.fol_base.specs.Tree.{tree_size, tree_variables};
 ghost use Rattle.fol_base.specs.Term.{tree_of};
 ghost use Rattle.skolem.specs.BoundTerm.{bound_tree};
 
@@ -36,6 +36,33 @@ impl BoundTerm {
                 applied(alloc, *symbol, arguments.as_slice())
             }
             BoundTerm::Closed => Ok(Term::truth(alloc)),
+        }
+    }
+
+    /// The term's occurrences of symbols and variables, stopping at u64's last value.
+    pub(crate) fn size(&self) -> u64
+        ensures { result ≡ min (tree_size (bound_tree self.now)) (2 ^ 64 - 1) }
+    {
+        match self {
+            BoundTerm::Var(_) | BoundTerm::Closed => 1,
+            BoundTerm::Skolem {
+                symbol: _,
+                arguments,
+            } => (arguments.as_slice().len() as u64).saturating_add(1),
+        }
+    }
+
+    /// An equal term. The arguments of a Skolem term are shared.
+    pub(crate) fn share(&self) -> Mem<BoundTerm>
+        ensures { IfOk result (λ shared. bound_tree shared ≡ bound_tree self.now) }
+    {
+        match self {
+            BoundTerm::Var(number) => Ok(BoundTerm::Var(*number)),
+            BoundTerm::Skolem { symbol, arguments } => Ok(BoundTerm::Skolem {
+                symbol: *symbol,
+                arguments: arguments.clone()?,
+            }),
+            BoundTerm::Closed => Ok(BoundTerm::Closed),
         }
     }
 

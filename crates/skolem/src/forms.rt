@@ -1,6 +1,6 @@
 // The matrix of a normal form.
 
-ghost use Rattle.std.specs.Prelude.{◌≡◌, ◌+◌, ◌++◌, [], ◌∷◌, map, length, take, IfOk, OnErr};
+ghost use Rattle.std.specs.Prelude.{◌≡◌, ◌+◌, ◌++◌, map, length, take, IfOk};
 ghost use Rattle.tptp_tree.specs.Term.{terms_of};
 ghost use Rattle.tptp_tree.specs.Shape.{term_of};
 ghost use Rattle.tptp_tree.specs.Formula.{formulas_of, predicate, equation};
@@ -10,53 +10,50 @@ ghost use Rattle.signature.specs.Clausal.{with_variables, with_skolem_terms};
 ghost use Rattle.formula_nnf.specs.Shape.{nnf_tree, signed};
 ghost use Rattle.skolem.specs.Matrix.{matrices_of};
 ghost use Rattle.skolem.specs.Shape.{matrix_tree};
-ghost use Rattle.signature.specs.Form.{AreUnused};
-ghost use Rattle.skolem.specs.Skolemized.{skolemized, skolemized_list, numbers_after, skolemized_form, skolemized_symbols, AreKnown};
+ghost use Rattle.skolem.specs.Skolemized.{skolemized, skolemized_list, numbers_after, skolemized_form, AreKnown};
 ghost use Rattle.skolem.specs.Progress.{environment_of, made_of, scope_of_progress, skolem_step, skolem_steps};
 
 use crate::bound_term::BoundTerm;
+use crate::literal::{Atom, MatrixLiteral};
 use crate::matrix::{Matrices, Matrix};
 use crate::progress::Progress;
-use crate::symbols::add_symbols;
-use crate::terms::{number_in, term_under, terms_under};
-use fol_base::{Literal, Term};
 use formula_nnf::{Nnf, NnfBox};
 use plain_types::{Mem, NoMemory, Text};
-use signature::{Signature, SymbolKind};
+use signature::Signature;
 use std::alloc::Global;
 use std::rc::Rc;
 use tptp_tree::{TreeTerm, TreeTerms};
 
-/// The matrix of a normal form without free variables, and the number after the last of its Skolem symbols. These come after the symbols
-/// of the signature, each named by the prefix and its number, from `next` on. After want of memory the signature is as before.
-pub fn skolemize(
-    alloc: Global,
-    form: &Nnf,
-    signature: &mut Signature,
-    prefix: &Text,
-    next: u32,
-) -> Mem<(Matrix, u32)>
-    requires known { AreKnown signature.old (formula_symbols (nnf_tree form.now)) }
-    requires unused { AreUnused signature.old prefix.now next }
-    ensures matrix { IfOk result (λ r. matrix_tree r.0 ≡ (skolemized_form signature.old (nnf_tree form.now)).matrix) }
-    ensures number { IfOk result (λ r. r.1 ≡ next + length (skolemized_form signature.old (nnf_tree form.now)).made.skolem_arities) }
-    ensures symbols { IfOk result (λ _. signature.new ≡ skolemized_symbols signature.old prefix.now next (nnf_tree form.now)) }
-    ensures unchanged { OnErr result (signature.new ≡ signature.old) }
+/// The matrix of a normal form, and the numbers of arguments of its Skolem symbols.
+#[derive(Drop)]
+pub struct Skolemized<'a> {
+    pub matrix: Matrix<'a>,
+    pub arities: Vec<u32>,
+}
+
+/// The matrix of a normal form without free variables, over the signature with the form's Skolem symbols, which come after those that are
+/// there. The matrix lends the signature and the form's terms, and makes none; `add_skolem_symbols` adds the symbols when it is done with.
+pub fn skolemize<'a>(alloc: Global, form: &Nnf<'a>, signature: &'a Signature) -> Mem<Skolemized<'a>>
+    requires known { AreKnown signature.now (formula_symbols (nnf_tree form.now)) }
+    ensures matrix { IfOk result (λ made. matrix_tree made.matrix ≡ (skolemized_form signature.now (nnf_tree form.now)).matrix) }
+    ensures arities { IfOk result (λ made. made.arities.items ≡ (skolemized_form signature.now (nnf_tree form.now)).made.skolem_arities) }
 {
     let mut progress = Progress::new(alloc);
     let matrix = matrix_of(alloc, signature, form, &mut progress)?;
-    let number = add_symbols(alloc, signature, prefix, next, progress.arities.as_slice())?;
-    Ok((matrix, number))
+    Ok(Skolemized {
+        matrix,
+        arities: progress.arities,
+    })
 }
 
 /// The matrix of a form under the variables in force.
 #[cycle(matrix_of)]
-fn matrix_of(
+fn matrix_of<'a>(
     alloc: Global,
-    signature: &Signature,
-    form: &Nnf,
+    signature: &'a Signature,
+    form: &Nnf<'a>,
     progress: &mut Progress,
-) -> Mem<Matrix>
+) -> Mem<Matrix<'a>>
     requires known { AreKnown signature.now (formula_symbols (nnf_tree form.now)) }
     ensures matrix { IfOk result (λ matrix. matrix_tree matrix
         ≡ (skolemized (numbers_after signature.now) (nnf_tree form.now) (environment_of progress.old.bindings) (made_of progress.old)).matrix) }
@@ -102,12 +99,12 @@ fn matrix_of(
 
 /// The matrices of forms.
 #[cycle(matrix_of)]
-fn matrices_of(
+fn matrices_of<'a>(
     alloc: Global,
-    signature: &Signature,
-    forms: &[Nnf],
+    signature: &'a Signature,
+    forms: &[Nnf<'a>],
     progress: &mut Progress,
-) -> Mem<Matrices>
+) -> Mem<Matrices<'a>>
     requires known { AreKnown signature.now (formulas_symbols (formulas_of (map nnf_tree forms.now))) }
     ensures matrices { IfOk result (λ matrices. matrices_of matrices
         ≡ (skolemized_list (numbers_after signature.now) (formulas_of (map nnf_tree forms.now)) (environment_of progress.old.bindings) (made_of progress.old)).matrices) }
@@ -123,52 +120,41 @@ fn matrices_of(
 }
 
 /// A predicate's literal.
-fn atom(
+fn atom<'a>(
     alloc: Global,
-    signature: &Signature,
+    signature: &'a Signature,
     progress: &Progress,
     positive: bool,
-    name: &Text,
-    arguments: &TreeTerms,
-) -> Mem<Matrix>
+    name: &'a Text,
+    arguments: &'a TreeTerms,
+) -> Mem<Matrix<'a>>
     requires known { AreKnown signature.now (formula_symbols (predicate name.now (terms_of arguments.now))) }
     ensures { IfOk result (λ matrix. matrix_tree matrix
         ≡ (skolemized (numbers_after signature.now) (signed positive (predicate name.now (terms_of arguments.now)))
         (environment_of progress.now.bindings) (made_of progress.now)).matrix) }
 {
-    let number = number_in(
-        signature,
-        SymbolKind::Predicate,
-        name.as_slice(),
-        arguments.as_slice().len(),
-    )?;
-    let arguments = terms_under(alloc, signature, progress, arguments.as_slice())?;
-    Ok(Matrix::Lit(Literal {
-        positive,
-        left: Term::App(number, arguments),
-        right: Term::truth(alloc),
-    }))
+    let atom = Atom::Pred(name, arguments);
+    let literal = MatrixLiteral::of_atom(alloc, signature, &progress.bindings, positive, atom)?;
+    Ok(Matrix::Lit(literal))
 }
 
 /// An equation's literal.
-fn equation(
+fn equation<'a>(
     alloc: Global,
-    signature: &Signature,
+    signature: &'a Signature,
     progress: &Progress,
     positive: bool,
-    left: &TreeTerm,
-    right: &TreeTerm,
-) -> Mem<Matrix>
+    left: &'a TreeTerm,
+    right: &'a TreeTerm,
+) -> Mem<Matrix<'a>>
     requires known { AreKnown signature.now (term_symbols (term_of left.now) ++ term_symbols (term_of right.now)) }
     ensures { IfOk result (λ matrix. matrix_tree matrix
         ≡ (skolemized (numbers_after signature.now) (equation positive (term_of left.now) (term_of right.now))
         (environment_of progress.now.bindings) (made_of progress.now)).matrix) }
 {
-    Ok(Matrix::Lit(Literal {
-        positive,
-        left: term_under(alloc, signature, progress, left)?,
-        right: term_under(alloc, signature, progress, right)?,
-    }))
+    let atom = Atom::Equal(left, right);
+    let literal = MatrixLiteral::of_atom(alloc, signature, &progress.bindings, positive, atom)?;
+    Ok(Matrix::Lit(literal))
 }
 
 /// Each name is bound to a new variable.
@@ -190,7 +176,7 @@ fn bind_skolem_terms(
     alloc: Global,
     signature: &Signature,
     names: &[Text],
-    body: &NnfBox,
+    body: &NnfBox<'_>,
     progress: &mut Progress,
 ) -> Mem<()>
     ensures scope { IfOk result (λ _. scope_of_progress progress.new

@@ -11,7 +11,8 @@ ghost use Rattle.skolem.specs.MatrixClauses.{matrix_clauses};
 ghost use Rattle.skolem.specs.Skolemized.{skolemized_form, skolemized_symbols, numbers_after};
 ghost use Rattle.skolem.specs.SkolemizedLaws.{SkolemSymbolsOfMatrixAreCounted, MatrixKeepsClauses, MatrixOfNormalFormKeepsClauses};
 ghost use Rattle.skolem.specs.ProblemLaws.{MatrixOfFormIsThatInProblem, ClausesInProblemAreThoseOfMatrix, NormalFormKeepsKnownSymbols, SkolemSymbolsAreNumberedOn, LaterNamesAreUnused};
-ghost use Rattle.skolem.specs.Examples.{x, y, z, p_of, r_of, known, p_literal};
+ghost use Rattle.skolem.specs.Literal.{filled, size_under};
+ghost use Rattle.skolem.specs.Examples.{x, y, z, p_of, r_of, f_of, known, p_literal};
 
 /// The matrix of `! [X] : ? [Y] : r(X,Y)` is `r(X0,sk0(X0))`, and sk0 comes after the symbols that are there.
 pub fn argument_examples()
@@ -30,6 +31,14 @@ pub fn scope_examples()
         (formula_then (quantified for_all (x ∷ []) (p_of x)) no_formulas)))).matrix
         ≡ conjunction (matrix_then (literal (atom_literal true (application 1 (tree_then (variable 0) no_trees))))
         (matrix_then (literal (atom_literal true (application 1 (tree_then (variable 1) no_trees)))) no_matrices)) }
+{}
+
+/// The terms for the variables of `f(X,Y)` stand there from left to right: with X0 and sk0(X0) it is `f(X0,sk0(X0))`, of four symbols. Here f
+/// has the number 3, and sk0 the number 4.
+pub fn filling_examples()
+    ensures filled { filled known (f_of x y) (variable 0 ∷ application 4 (tree_then (variable 0) no_trees) ∷ [])
+        ≡ application 3 (tree_then (variable 0) (tree_then (application 4 (tree_then (variable 0) no_trees)) no_trees)) }
+    ensures size { size_under ((x, variable 0) ∷ (y, application 4 (tree_then (variable 0) no_trees)) ∷ []) (f_of x y) ≡ 4 }
 {}
 
 /// A conjunction's clauses come one after the other; `(p(X0) & p(X1)) | p(X2)` has the two clauses of its product; `$false` has the empty

@@ -3,8 +3,10 @@
 
 mod bindings;
 mod bound_term;
+mod filling;
 mod forms;
 pub mod laws;
+mod literal;
 mod matrix;
 mod name;
 mod occurring;
@@ -12,8 +14,9 @@ mod progress;
 mod symbols;
 mod terms;
 
-pub use forms::skolemize;
+pub use forms::{Skolemized, skolemize};
+pub use literal::MatrixLiteral;
 pub use matrix::{Matrices, Matrix};
 pub use name::{VariableName, VariableRef};
 pub use progress::made_in_order;
-pub use terms::applied;
+pub use symbols::add_skolem_symbols;

@@ -3,7 +3,7 @@
 ghost use Rattle.std.specs.Prelude.{◌≡◌, ◌++◌, [], ◌∷◌, map, IfOk, OnErr};
 ghost use Rattle.skolem.specs.Shape.{matrix_tree};
 
-use fol_base::Literal;
+use crate::literal::MatrixLiteral;
 use plain_types::Mem;
 use std::alloc::Global;
 use std::marker::Model;
@@ -11,24 +11,24 @@ use std::marker::Model;
 /// A formula without quantifiers, over literals of clauses.
 #[derive(Drop)]
 #[cycle(matrices)]
-pub enum Matrix {
+pub enum Matrix<'a> {
     True,
     False,
-    Lit(Literal),
-    And(Matrices),
+    Lit(MatrixLiteral<'a>),
+    And(Matrices<'a>),
     /// How many variables of the formula were made before the work on the disjunction began: they alone may be arguments of a name
     /// that is given to a part of its product.
-    Or { made: u32, members: Matrices },
+    Or { made: u32, members: Matrices<'a> },
 }
 
 /// A list of matrices, which contracts see as the list of their trees.
 #[derive(Drop)]
 #[cycle(matrices)]
-pub struct Matrices {
-    items: Vec<Matrix>,
+pub struct Matrices<'a> {
+    items: Vec<Matrix<'a>>,
 }
 
-impl Model for Matrices {
+impl<'a> Model for Matrices<'a> {
     ghost use Rattle.std.specs.Prelude.{List, map};
     ghost use Rattle.std.specs.Coded.{coded_list};
     ghost use Rattle.skolem.specs.Matrix.{MatrixTree, matrices_size, matrices_of};
@@ -50,9 +50,9 @@ impl Model for Matrices {
     ghost size_decreases = { λ a h. Prim.omega (arith, most-deep-Matrix-≤ a.items.items) };
 }
 
-impl Matrices {
+impl<'a> Matrices<'a> {
     /// The empty list. It takes no memory.
-    pub fn new(alloc: Global) -> Matrices
+    pub fn new(alloc: Global) -> Matrices<'a>
         ensures { result ≡ [] }
     {
         Matrices {
@@ -61,22 +61,22 @@ impl Matrices {
     }
 
     /// The vector of the list's matrices. It takes no memory.
-    pub fn into_vec(self) -> Vec<Matrix>
-        ensures { map matrix_tree result.items ≡ self }
+    pub fn into_vec(self) -> Vec<Matrix<'a>>
+        ensures { map matrix_tree result.items ≡ self.entry }
     {
         self.items
     }
 
     /// The matrices, lent.
-    pub fn as_slice(&self) -> &[Matrix]
+    pub fn as_slice(&self) -> &[Matrix<'a>]
         ensures { map matrix_tree result.now ≡ self.now }
     {
         self.items.as_slice()
     }
 
     /// Adds a matrix at the end. After want of memory the list is as before.
-    pub fn push(&mut self, matrix: Matrix) -> Mem<()>
-        ensures ok { IfOk result (λ _. self.new ≡ self.old ++ matrix_tree matrix ∷ []) }
+    pub fn push(&mut self, matrix: Matrix<'a>) -> Mem<()>
+        ensures ok { IfOk result (λ _. self.new ≡ self.old ++ matrix_tree matrix.entry ∷ []) }
         ensures err { OnErr result (self.new ≡ self.old) }
     {
         self.items.push(matrix)?;

@@ -20,7 +20,7 @@ use tptp_tree::TreeTerm;
 #[cycle(push_occurring)]
 fn push_occurring(
     alloc: Global,
-    form: &Nnf,
+    form: &Nnf<'_>,
     bindings: &mut Bindings,
     found: &mut Vec<u32>,
 ) -> Mem<()>
@@ -47,7 +47,7 @@ fn push_occurring(
 #[cycle(push_occurring)]
 fn push_all_occurring(
     alloc: Global,
-    forms: &[Nnf],
+    forms: &[Nnf<'_>],
     bindings: &mut Bindings,
     found: &mut Vec<u32>,
 ) -> Mem<()>
@@ -66,7 +66,7 @@ fn push_all_occurring(
 pub(crate) fn push_occurring_under(
     alloc: Global,
     names: &[Text],
-    body: &NnfBox,
+    body: &NnfBox<'_>,
     bindings: &mut Bindings,
     found: &mut Vec<u32>,
 ) -> Mem<()>

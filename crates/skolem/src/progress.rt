@@ -2,16 +2,14 @@
 
 ghost use Rattle.std.specs.Prelude.{◌≡◌, ◌+◌, ◌∷◌, [], ◌++◌, IfOk};
 ghost use Rattle.std.specs.List.Sorted.{IsNonDecreasingBy};
-ghost use Rattle.fol_base.specs.Term.{tree_of};
-ghost use Rattle.signature.specs.Environment.{term_in_force, free_names, without_names};
+ghost use Rattle.signature.specs.Environment.{free_names, without_names};
 ghost use Rattle.signature.specs.Clausal.{skolem_arguments, made_in_order};
 ghost use Rattle.signature.specs.Form.{nothing_made};
 ghost use Rattle.skolem.specs.Progress.{environment_of, variable_term, made_of};
 
-use crate::bindings::{Bindings, NO_VARIABLE_IN_FORCE};
+use crate::bindings::Bindings;
 use crate::bound_term::BoundTerm;
 use crate::occurring::push_occurring_under;
-use fol_base::Term;
 use formula_nnf::NnfBox;
 use plain_types::{Mem, NoMemory, Text};
 use std::alloc::Global;
@@ -34,16 +32,6 @@ impl Progress {
             bindings: Bindings::new(alloc),
             variables: 0,
             arities: Vec::new(alloc),
-        }
-    }
-
-    /// The term of the innermost variable of that name.
-    pub(crate) fn term_in_force(&self, alloc: Global, name: &Text) -> Mem<Term>
-        ensures { IfOk result (λ term. tree_of term ≡ term_in_force (environment_of self.now.bindings) name.now) }
-    {
-        match self.bindings.find(name) {
-            Some(term) => term.to_term(alloc),
-            None => Ok(Term::Var(NO_VARIABLE_IN_FORCE)),
         }
     }
 
@@ -84,7 +72,7 @@ impl Progress {
         &mut self,
         alloc: Global,
         names: &[Text],
-        body: &NnfBox,
+        body: &NnfBox<'_>,
     ) -> Mem<Vec<u32>>
         ensures found { IfOk result (λ found. found.items
             ≡ skolem_arguments (without_names names.now (free_names body.now)) (environment_of self.old.bindings) (made_of self.old)) }

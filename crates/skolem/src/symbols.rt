@@ -10,7 +10,7 @@ use std::alloc::Global;
 
 /// Adds the symbols of those numbers of arguments, named by the prefix and the numbers from `next` on, and gives the number after the
 /// last. After want of memory the signature is as before.
-pub(crate) fn add_symbols(
+pub fn add_skolem_symbols(
     alloc: Global,
     signature: &mut Signature,
     prefix: &Text,

@@ -1,4 +1,4 @@
-use Rattle.fol_base.specs.Literal.{literal_of}
+use Rattle.std.proofs.Common.{refl}
 use Rattle.clausal_form.proofs.ResultLemmas.{ok-then}
 use Rattle.clausal_form.proofs.WritingLemmas.{definition-written, definition-placed}
 use Rattle.clausal_form.proofs.formula.write_definition.Goals as goal
@@ -6,9 +6,9 @@ use Rattle.clausal_form.proofs.formula.write_definition.Goals as goal
 pub returns-clause-clauses : goal.returns-clause-clauses
 returns-clause-clauses c =
     ok-then c.write_matrix.result
-    (λ _ h. definition-written _ _ _ _ _ _ _ _ c.new.ensures.items c.in_ok-push.ensures.items c.lend.ensures c.new-2.ensures.items h) c.write_matrix.ensures.clauses
+    (λ _ h. definition-written _ _ _ _ _ _ _ _ c.new.ensures.items c.in_ok-push.ensures.items refl c.new-2.ensures.items h) c.write_matrix.ensures.clauses
 
 pub returns-clause-origins : goal.returns-clause-origins
 returns-clause-origins c =
     ok-then c.write_matrix.result
-    (λ _ h. definition-placed c.args.place (literal_of c.args.definition.now.negated) _ _ _ _ c.new-2.ensures.items h) c.write_matrix.ensures.origins
+    (λ _ h. definition-placed c.args.place c.args.definition.now.negated _ _ _ _ c.new-2.ensures.items h) c.write_matrix.ensures.origins

@@ -1,7 +1,6 @@
-use Rattle.std.proofs.Common.{arith, ap, map}
-use Rattle.fol_base.specs.Lent.{lent_of}
+use Rattle.std.proofs.Common.{arith, ap, map, refl}
 use Rattle.skolem.specs.Shape.{matrix_tree}
-use Rattle.clausal_form.specs.Agenda.{agenda_size, canonical_after, placed}
+use Rattle.clausal_form.specs.Agenda.{lent_literal, agenda_size, canonical_after, placed}
 use Rattle.clausal_form.proofs.ResultLemmas.{ok-then}
 use Rattle.clausal_form.proofs.AgendaLemmas.{taken-last, false-left, literal-left, literal-place, lent-last, popped-size, member-size}
 use Rattle.clausal_form.proofs.writing.+write.Goals as goal
@@ -11,7 +10,7 @@ write_agenda-write_matrix-requires t c = omega (arith, popped-size _ _ _ c.in-So
 
 pub write_agenda-returns-in_ok-push-in-Some-clause-clauses : goal.write_agenda-returns-in_ok-push-in-Some-clause-clauses
 write_agenda-returns-in_ok-push-in-Some-clause-clauses t c =
-    taken-last (canonical_after (map lent_of c.args.agenda.now.literals.items)) _ _ _ _ _ c.in-Some.ensures.items c.in_ok-write_matrix-in-Some.ensures.clauses
+    taken-last (canonical_after (map lent_literal c.args.agenda.now.literals.items)) _ _ _ _ _ c.in-Some.ensures.items c.in_ok-write_matrix-in-Some.ensures.clauses
 
 pub write_agenda-returns-in_ok-push-in-Some-clause-origins : goal.write_agenda-returns-in_ok-push-in-Some-clause-origins
 write_agenda-returns-in_ok-push-in-Some-clause-origins t c =
@@ -23,7 +22,7 @@ write_each-write_matrix-requires t c =
 
 pub write_matrix-returns-in-False-clause-clauses : goal.write_matrix-returns-in-False-clause-clauses
 write_matrix-returns-in-False-clause-clauses t c =
-    ok-then c.write_agenda.result (λ _ h. false-left (canonical_after (map lent_of c.args.agenda.now.literals.items)) _ _ _ _ (ap matrix_tree c.in-False.is) h)
+    ok-then c.write_agenda.result (λ _ h. false-left (canonical_after (map lent_literal c.args.agenda.now.literals.items)) _ _ _ _ (ap matrix_tree c.in-False.is) h)
     c.write_agenda.ensures.clauses
 
 pub write_matrix-returns-in-False-clause-origins : goal.write_matrix-returns-in-False-clause-origins
@@ -32,7 +31,7 @@ write_matrix-returns-in-False-clause-origins t c =
 
 pub write_matrix-returns-in_ok-write_agenda-in-Lit-clause-clauses : goal.write_matrix-returns-in_ok-write_agenda-in-Lit-clause-clauses
 write_matrix-returns-in_ok-write_agenda-in-Lit-clause-clauses t c =
-    literal-left _ _ _ _ _ _ _ (ap matrix_tree c.in-Lit.is) (lent-last _ _ _ _ c.in_ok-push-in-Lit.ensures.items c.lend.ensures)
+    literal-left _ _ _ _ _ _ _ (ap matrix_tree c.in-Lit.is) (lent-last _ _ _ _ c.in_ok-push-in-Lit.ensures.items refl)
     c.in_ok-write_agenda-in-Lit.ensures.clauses
 
 pub write_matrix-returns-in_ok-write_agenda-in-Lit-clause-origins : goal.write_matrix-returns-in_ok-write_agenda-in-Lit-clause-origins

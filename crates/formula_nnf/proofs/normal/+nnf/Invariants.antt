@@ -12,10 +12,13 @@ abbrev pub decreases-nnfs : goal.decreases-nnfs
 decreases-nnfs l = 4 * formulas_size (formulas_of (map formula_of l.formulas.now)) + 3
 
 abbrev pub decreases-joined : goal.decreases-joined
-decreases-joined l = 4 * (formula_size (formula_of l.left.now) + formula_size (formula_of l.right.now)) + 1
+decreases-joined l = 4 * (formula_size l.left.now + formula_size l.right.now) + 1
 
 abbrev pub decreases-doubled : goal.decreases-doubled
-decreases-doubled l = 4 * (formula_size (formula_of l.left.now) + formula_size (formula_of l.right.now)) + 2
+decreases-doubled l = 4 * (formula_size l.left.now + formula_size l.right.now) + 2
+
+abbrev pub decreases-quantified : goal.decreases-quantified
+decreases-quantified l = 4 * formula_size l.body.now + 1
 
 abbrev pub invariant-nnfs-loop-formula : goal.invariant-nnfs-loop-formula
 invariant-nnfs-loop-formula l =
