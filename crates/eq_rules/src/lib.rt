@@ -1,0 +1,8 @@
+// Equality resolution and equality factoring: the generating rules that have one premise; and what an inference is, for all of them.
+#![tactic(auto)]
+
+mod renaming;
+mod renumbering;
+
+pub use renaming::{number_instance, number_literals, number_term, renamed_terms};
+pub use renumbering::Renumbering;
