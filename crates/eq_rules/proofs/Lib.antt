@@ -1,1 +1,4 @@
 pub mod RenumberedLemmas
+pub mod WideLemmas
+pub mod ConclusionLemmas
+pub mod PremiseLemmas
