@@ -1,2 +1,6 @@
 pub mod Renumbered
+pub mod Inferences
 pub mod Concluding
+pub mod Unified
+pub mod Steps
+pub mod Trying

@@ -1,8 +1,12 @@
 // Equality resolution and equality factoring: the generating rules that have one premise; and what an inference is, for all of them.
 #![tactic(auto)]
 
+mod concluding;
+mod inference;
 mod renaming;
 mod renumbering;
 
+pub use concluding::conclude_resolution;
+pub use inference::{Inference, Inferences, Made};
 pub use renaming::{number_instance, number_literals, number_term, renamed_terms};
 pub use renumbering::Renumbering;
