@@ -2,7 +2,7 @@
 
 ghost use Rattle.std.specs.Prelude.{◌<◌, ◌≤◌};
 
-use crate::*;
+use sat_core::*;
 use plain_types::{Mem, NameLit, Names};
 use sample_numbers::Random;
 use std::alloc::Global;

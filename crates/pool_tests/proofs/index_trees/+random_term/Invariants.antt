@@ -1,4 +1,4 @@
-use Rattle.disc_tree.proofs.tests.+random_term.Given as goal
+use Rattle.pool_tests.proofs.index_trees.+random_term.Given as goal
 
 abbrev pub decreases-random_term : goal.decreases-random_term
 decreases-random_term l = l.depth

@@ -1,6 +1,6 @@
 // Chosen and eligible literals on rows worked out by hand.
 
-use super::*;
+use literal_selection::*;
 use fol_base::{Clause, Literal, Literals, Term};
 use kbo_order::COMPARED_SIZE_LIMIT;
 use plain_types::Names;

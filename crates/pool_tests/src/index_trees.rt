@@ -2,7 +2,7 @@
 
 ghost use Rattle.std.specs.Prelude.{◌≡◌, ◌<◌};
 
-use super::*;
+use disc_tree::*;
 use fol_base::Term;
 use plain_types::{Mem, Numbers};
 use sample_numbers::Random;

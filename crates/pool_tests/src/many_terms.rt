@@ -1,7 +1,7 @@
 // Random terms of 5 to 20 symbols and variables, and what the queries and a scan of all entries find among them. With larger
-// numbers this is the benchmark of docs/BENCHMARKS.md.
+// numbers this is the benchmark of benchmarks/README.md.
 
-use super::*;
+use disc_tree::*;
 use fol_base::Term;
 use plain_types::{Mem, Numbers};
 use sample_numbers::Random;

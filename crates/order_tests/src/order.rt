@@ -1,6 +1,6 @@
 // The comparisons on rows worked out by hand.
 
-use super::*;
+use kbo_order::*;
 use fol_base::{Clause, Literal, Literals, Term, Terms};
 use plain_types::Names;
 use sample_terms::{binary, constant, unary};

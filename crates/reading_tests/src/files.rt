@@ -1,5 +1,5 @@
 // What no clause says: that calls succeed, and what the system's files and output do.
-use super::*;
+use outside::*;
 use plain_types::{Mem, Numbers};
 use std::alloc::Global;
 use std::fs;
