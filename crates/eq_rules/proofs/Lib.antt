@@ -4,3 +4,7 @@ pub mod ConclusionLemmas
 pub mod PremiseLemmas
 pub mod InferenceLists
 pub mod StepLemmas
+pub mod ResolutionLemmas
+pub mod MadeLemmas
+pub mod ResolutionLists
+pub mod ResolutionAnswers

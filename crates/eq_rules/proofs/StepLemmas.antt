@@ -5,7 +5,6 @@ use Rattle.std.specs.List.{AllByRecursion}
 use Rattle.std.specs.Option.{is_some}
 use Rattle.std.proofs.lemmas.Bool.{true≢false}
 use Rattle.std.proofs.lemmas.Grind.{flat_map-append}
-use Rattle.std.proofs.lemmas.List.{append_assoc}
 use Rattle.std.proofs.lemmas.Option.{same_Some}
 use Rattle.fol_base.specs.Tree.{Tree, tree_variables, trees_of, trees_variables}
 use Rattle.fol_base.specs.Instance.{Substitution, instance, substitution}
@@ -69,8 +68,9 @@ exchanged-variables σ ls i count new within many =
     let front : List TreeLiteral = map (literal_instance σ) (take i ls) in
     let rest : List TreeLiteral = map (literal_instance σ) (drop (i + 1) ls) in
     ap₂ (λ us vs. (us ++ literal_variables new) ++ vs) (front-variables σ ls i) (rest-variables σ ls i count many)
-    ∙ append_assoc (flat_map literal_variables front) (literal_variables new) (flat_map literal_variables rest)
-    ∙ sym (flat_map-append literal_variables front (new ∷ rest))
+    ∙ ap (λ us. (flat_map literal_variables front ++ us) ++ flat_map literal_variables rest) (sym (append-nil (literal_variables new)))
+    ∙ ap (λ us. us ++ flat_map literal_variables rest) (sym (flat_map-append literal_variables front (new ∷ [])))
+    ∙ sym (flat_map-append literal_variables (front ++ new ∷ []) rest)
     ∙ ap (flat_map literal_variables) (sym (set-parts (literal_instance σ) ls i new within))
 
 -- ---- equality resolution
@@ -84,7 +84,7 @@ module _
     (order_met : order ≡ with_variables second (trees_variables (trees_of terms)))
     (renamed : bind ≡ map (instance (renaming order)) terms)
     (applies : is_some (resolved (literals_instance (substitution terms) c.literals) i) ≡ true) where
-  plain : List TreeLiteral
+  abbrev plain : List TreeLiteral
   plain = remove (literals_instance (substitution terms) c.literals) i
 
   given : resolved (literals_instance (substitution terms) c.literals) i ≡ Some plain

@@ -5,8 +5,9 @@ mod concluding;
 mod inference;
 mod renaming;
 mod renumbering;
+mod resolving;
 
-pub use concluding::conclude_resolution;
 pub use inference::{Inference, Inferences, Made};
 pub use renaming::{number_instance, number_literals, number_term, renamed_terms};
 pub use renumbering::Renumbering;
+pub use resolving::resolutions;

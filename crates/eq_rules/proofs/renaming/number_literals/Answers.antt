@@ -1,12 +1,7 @@
 use Rattle.fol_base.specs.Lent.{lent_of}
 use Rattle.eq_rules.proofs.RenumberedLemmas.{literals_met}
-use Rattle.eq_rules.proofs.WideLemmas.{wide-general, wide-literals, renamed-literals, literals_back, term_back, renamed-literals_size}
-use Rattle.eq_rules.proofs.InferenceLists.{inferences-same, inferences-push}
-use Rattle.eq_rules.specs.Trying.{IsTriedOf}
-use Rattle.eq_rules.specs.Unified.{ResolvesBy}
-use Rattle.eq_rules.specs.Inferences.{AreInferencesOf}
-use Rattle.eq_rules.proofs.PremiseLemmas.{terms_of, sides_no_truth, literals-onward, unifier-after_terms, has-literals, not_large, literal-below, clause-below}
-use Rattle.eq_rules.proofs.ConclusionLemmas.{conclusion_numbered, bindings_numbered, binds_renamed, verdict_by_one, numbered_literals, numbered-has}
+use Rattle.eq_rules.proofs.ResolutionLemmas.{resolution_heavy}
+use Rattle.eq_rules.proofs.InferenceLists.{inferences-push}
 use Rattle.eq_rules.proofs.renaming.number_literals.Goals as goal
 
 pub loop-index-preserved : goal.loop-index-preserved
