@@ -52,3 +52,15 @@ pub made_by_resolution :
 made_by_resolution p mode clauses number c i terms Heavy is by = absurd is
 made_by_resolution p mode clauses number c i terms (Conclusion st clause) is by =
     subst (λ (s : Step). IsConcluded p mode clauses (Refl number i) s (clause_of clause)) (sym is.1) (by is.0 (clause_of clause) is.2)
+
+pub made_by_factoring :
+    (p : ℕ → Bool) (mode : SelectionMode) (clauses : ℕ → Option TreeClause) (number : ℕ) (c : TreeClause)
+    (i : ℕ) (side_i : Side) (j : ℕ) (side_j : Side) (terms : List Tree) (made : Made)
+    → IsFactoringStep number c i side_i j side_j terms made
+    → ((bind : List Tree) (d : TreeClause) → GivesNumbered (λ ls. factored ls i side_i j side_j) c terms bind d
+    → IsConcluded p mode clauses (Factor number i side_i j side_j) (step.Factor number i side_i j side_j bind) d)
+    → IsMade p mode clauses (Factor number i side_i j side_j) made
+made_by_factoring p mode clauses number c i side_i j side_j terms Heavy is by = absurd is
+made_by_factoring p mode clauses number c i side_i j side_j terms (Conclusion st clause) is by =
+    subst (λ (s : Step). IsConcluded p mode clauses (Factor number i side_i j side_j) s (clause_of clause)) (sym is.1)
+    (by is.0 (clause_of clause) is.2)

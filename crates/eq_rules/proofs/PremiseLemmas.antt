@@ -129,7 +129,7 @@ has-append order [] ws h k = k
 has-append order (v ∷ vs) ws h k = (h.0, has-append order vs ws h.1 k)
 
 mutual
-  has-instance :
+  pub has-instance :
       (order : List ℕ) (terms : List Tree) (t : Tree)
       → Has order (trees_variables (trees_of terms)) → VariablesBelow (length terms) t → Has order (tree_variables (instance (substitution terms) t))
   has-instance order terms (variable v) all below = Has-item order terms v (variable v) below all

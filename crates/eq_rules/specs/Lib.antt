@@ -4,3 +4,5 @@ pub mod Concluding
 pub mod Unified
 pub mod Steps
 pub mod Trying
+pub mod Factoring
+pub mod Examples

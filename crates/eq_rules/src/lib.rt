@@ -2,12 +2,16 @@
 #![tactic(auto)]
 
 mod concluding;
+mod factoring;
 mod inference;
 mod renaming;
 mod renumbering;
 mod resolving;
 
+pub use factoring::factorings;
 pub use inference::{Inference, Inferences, Made};
 pub use renaming::{number_instance, number_literals, number_term, renamed_terms};
 pub use renumbering::Renumbering;
 pub use resolving::resolutions;
+
+pub mod laws;
