@@ -88,12 +88,12 @@ alike-parts l s m z h =
       others = one.1;
     }
 
-function-head : (p : ℕ → Bool) (t : Tree) → is_function_term p t ≡ true → has_predicate_head p t ≡ false
+pub function-head : (p : ℕ → Bool) (t : Tree) → is_function_term p t ≡ true → has_predicate_head p t ≡ false
 function-head p (variable v) h = refl
 function-head p (application f ts) h =
     ap (λ b. not (f == true_symbol) && b) (is_function_term-parts p f ts h).no_predicate ∙ and-false (not (f == true_symbol))
 
-predicate-head : (p : ℕ → Bool) (t : Tree) → is_predicate_term p t ≡ true → has_predicate_head p t ≡ true
+pub predicate-head : (p : ℕ → Bool) (t : Tree) → is_predicate_term p t ≡ true → has_predicate_head p t ≡ true
 predicate-head p (variable v) h = absurd (true≢false (sym h))
 predicate-head p (application f ts) h =
     let parts = is_predicate_term-parts p f ts h in
@@ -194,7 +194,7 @@ pub sides-size : (s : Side) (l : TreeLiteral) → literal_size l ≡ tree_size (
 sides-size Left l = refl
 sides-size Right l = let swap : tree_size l.left + tree_size l.right ≡ tree_size l.right + tree_size l.left = omega arith in swap
 
-side-below : (n : ℕ) (s : Side) (l : TreeLiteral) → LiteralVariablesBelow n l → VariablesBelow n (side_of s l)
+pub side-below : (n : ℕ) (s : Side) (l : TreeLiteral) → LiteralVariablesBelow n l → VariablesBelow n (side_of s l)
 side-below n Left l h = h.0
 side-below n Right l h = h.1
 

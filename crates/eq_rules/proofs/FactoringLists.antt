@@ -204,3 +204,58 @@ module _ (p : ℕ → Bool) (mode : SelectionMode) (m : Member) where
           let low = side-below i (length (clause_at m.clause).literals) s (inside i j s z c here).0 in
           before-first a 0 (side_number i s) (side_number j z) (omega (arith, low, many))
       back (Replaced q) c h it = h
+
+  -- a pair without an inference
+  pub factorings-none :
+      (place : FactorPlace) (found : List Inference)
+      → AreInferences p mode (alone m) (factors_before (number_of place.becomes) (number_of place.other)) found
+      → IsTried p mode (alone m) (factor_key m.number place) None
+      → AreInferences p mode (alone m) (factors_before (number_of place.becomes) (number_of place.other + 1)) found
+  factorings-none place found are tried =
+      let a : ℕ = number_of place.becomes in
+      let b : ℕ = number_of place.other in
+      factorings-same a b a (b + 1) found
+      (λ x y h. ⊎_elim (λ less. inl less) (λ both. inr (both.0, omega (arith, both.1))) h)
+      (λ i j s z c h it.
+      ⊎_elim
+      (λ less. inl less)
+      (λ both.
+      elim (cases_lt (side_number j z) b) [
+        | inl less ↦ inr (both.0, less)
+        | inr past ↦
+            (let last : side_number j z ≡ side_number place.other.literal place.other.side = omega (arith, both.1, past) in
+            let first_is = side-once i place.becomes.literal s place.becomes.side both.0 in
+            let second_is = side-once j place.other.literal z place.other.side last in
+            let key_is : Factor m.number i s j z ≡ factor_key m.number place =
+            ap₂ (λ (x : ℕ) (w : Side). Factor m.number x w j z) first_is.0 first_is.1
+            ∙ ap₂ (λ (x : ℕ) (w : Side). Factor m.number place.becomes.literal place.becomes.side x w) second_is.0 second_is.1 in
+            absurd (tried c (subst (λ (k : Key). IsInference p mode (alone m) k c) key_is it)))
+      ])
+      h)
+      are
+
+  -- a side without an inference
+  pub factorings-skip :
+      (side : LiteralSide) (found : List Inference)
+      → ((j : ℕ) (z : Side) (c : TreeClause) → IsInference p mode (alone m) (Factor m.number side.literal side.side j z) c → ⊥)
+      → AreInferences p mode (alone m) (factors_before (number_of side) 0) found
+      → AreInferences p mode (alone m) (factors_before (number_of side + 1) 0) found
+  factorings-skip side found none are =
+      let a : ℕ = number_of side in
+      factorings-same a 0 (a + 1) 0 found
+      (λ x y h. ⊎_elim (λ less. inl (omega (arith, less))) (λ both. absurd (omega (arith, both.1))) h)
+      (λ i j s z c h it.
+      ⊎_elim
+      (λ less.
+      elim (cases_lt (side_number i s) a) [
+        | inl before ↦ inl before
+        | inr past ↦
+            (let here : side_number i s ≡ side_number side.literal side.side = omega (arith, less, past) in
+            let is = side-once i side.literal s side.side here in
+            let key_is : Factor m.number i s j z ≡ Factor m.number side.literal side.side j z =
+            ap₂ (λ (x : ℕ) (w : Side). Factor m.number x w j z) is.0 is.1 in
+            absurd (none j z c (subst (λ (k : Key). IsInference p mode (alone m) k c) key_is it)))
+      ])
+      (λ both. absurd (omega (arith, both.1)))
+      h)
+      are

@@ -12,3 +12,5 @@ pub mod FactoringLemmas
 pub mod FactoringLists
 pub mod ExampleLemmas
 pub mod FactorStepLemmas
+pub mod FactorRefused
+pub mod FactorAnswers

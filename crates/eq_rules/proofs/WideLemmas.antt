@@ -68,16 +68,13 @@ numbered_back order (v ∷ vs) all =
     )
 
 mutual
-  itself : (t : Tree) → instance variable t ≡ t
+  pub itself : (t : Tree) → instance variable t ≡ t
   itself (variable v) = refl
   itself (application f ts) = ap (application f) (all_itself ts)
 
   all_itself : (ts : Trees) → instances variable ts ≡ ts
   all_itself no_trees = refl
   all_itself (tree_then t ts) = ap₂ tree_then (itself t) (all_itself ts)
-
-literal : Bool → Tree → Tree → TreeLiteral
-literal positive t u = record { positive = positive; left = t; right = u }
 
 literals_itself : (ls : List TreeLiteral) → literals_instance variable ls ≡ ls
 literals_itself [] = refl
