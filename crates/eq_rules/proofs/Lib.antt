@@ -1,0 +1,16 @@
+pub mod RenumberedLemmas
+pub mod WideLemmas
+pub mod ConclusionLemmas
+pub mod PremiseLemmas
+pub mod InferenceLists
+pub mod StepLemmas
+pub mod ResolutionLemmas
+pub mod MadeLemmas
+pub mod ResolutionLists
+pub mod ResolutionAnswers
+pub mod FactoringLemmas
+pub mod FactoringLists
+pub mod ExampleLemmas
+pub mod FactorStepLemmas
+pub mod FactorRefused
+pub mod FactorAnswers

@@ -1,0 +1,328 @@
+use Rattle.std.proofs.Common.{◌≡◌, ◌⊎◌, ℕ, ◌+◌, ◌-◌, ◌^◌, ◌<◌, ◌≤◌, min, false, None, List, length, inl, inr, arith, ap, sym, ◌∙◌, subst}
+use Rattle.std.specs.Prelude.{sum_by, slice_get}
+use Rattle.std.proofs.lemmas.Option.{slice_get_within}
+use Rattle.fol_base.specs.Tree.{Tree, tree_size}
+use Rattle.fol_base.specs.Instance.{instance, substitution}
+use Rattle.fol_base.specs.Clause.{TreeLiteral, clause_size, clause_instance, clause_variables, literal_size, literal_instance}
+use Rattle.fol_base.specs.Ground.{literals_instance}
+use Rattle.fol_base.specs.Canonical.{bound_of}
+use Rattle.fol_base.specs.Lent.{lent_of}
+use Rattle.fol_base.specs.Selection.{eligible, select_nothing}
+use Rattle.fol_base.specs.Sides.{side_of, other_side_of}
+use Rattle.fol_base.specs.declared.clause.Side.TheVariants.{Left}
+use Rattle.fol_base.specs.declared.limits.TheConstants.{MOST_SYMBOLS, SIZE_LIMIT}
+use Rattle.kernel_steps.specs.Inference.{other_side_not_above}
+use Rattle.term_bank.specs.Literal.{literals_at}
+use Rattle.bank_clause.specs.Clause.{clause_at}
+use Rattle.unifier.specs.Bindings.{substitution_of}
+use Rattle.unifier.specs.Renaming.{AreRenamed}
+use Rattle.unifier.specs.Sizes.{stopped}
+use Rattle.eq_rules.specs.Inferences.{alone}
+use Rattle.eq_rules.proofs.FactorAnswers.{lent_there, part_size, sides_size, total_size, told_size}
+use Rattle.eq_rules.proofs.FactoringLemmas.{alike-kinds, factor_terms, factoring_not_eligible, factoring_not_ordered, factoring_applies, plain_size, factoring_heavy, factoring_concluded}
+use Rattle.eq_rules.proofs.MadeLemmas.{size_above, size_within, alone_there, made_by_factoring}
+use Rattle.eq_rules.proofs.PremiseLemmas.{literal-kind}
+use Rattle.eq_rules.proofs.factoring.factoring_by.Goals as goal
+
+pub is_not_below-requires : goal.is_not_below-requires
+is_not_below-requires c =
+    let m = c.args.given.now in
+    let d = clause_at m.clause in
+    let place = c.args.place in
+    let b = c.args.unifier.now in
+    let r = c.requires.unified in
+    let n = bound_of (clause_variables d) in
+    let terms = c.in_ok-terms.terms in
+    let h : AreRenamed b n 0 terms c.in_ok-terms.field-0-1 =
+    subst (λ (k : ℕ). AreRenamed b k 0 terms c.in_ok-terms.field-0-1) c.variable_bound.ensures.variables c.in_ok-terms.ensures in
+    let σ = substitution_of b Left in
+    let size : c.in_ok-size.size ≡ stopped (clause_size (clause_instance σ d)) =
+    c.in_ok-size.ensures ∙ ap (λ ls. stopped (sum_by literal_size (literals_instance σ (literals_at ls)))) c.literals.ensures.literals in
+    let lent_is = lent_there c.lend-literals.result d.literals place.becomes.literal (lent_of c.literal-becomes.result) r.literal_i c.lend-literals.ensures c.literal-becomes.ensures r.i_there in
+    let total = total_size c.in_ok-size.size (clause_size (clause_instance σ d)) size (omega (arith, c.if-size-ge-SIZE_LIMIT.false)) in
+    let t = factor_terms (λ f. false) select_nothing (alone m) m.number d place (alone_there m) b r terms c.in_ok-terms.field-0-1 h in
+    let here = ap (λ l. literal_size (literal_instance (substitution terms) l)) lent_is in
+    let low = part_size (substitution terms) d.literals place.becomes.literal r.literal_i r.i_there in
+    omega (arith, here, low, t.size, total, c.if-size-ge-SIZE_LIMIT.false)
+
+pub returns-then-not-is_not_below : goal.returns-then-not-is_not_below
+returns-then-not-is_not_below c mode none usage used e it =
+    let m = c.args.given.now in
+    let d = clause_at m.clause in
+    let place = c.args.place in
+    let b = c.args.unifier.now in
+    let r = c.requires.unified in
+    let n = bound_of (clause_variables d) in
+    let terms = c.in_ok-terms.terms in
+    let h : AreRenamed b n 0 terms c.in_ok-terms.field-0-1 =
+    subst (λ (k : ℕ). AreRenamed b k 0 terms c.in_ok-terms.field-0-1) c.variable_bound.ensures.variables c.in_ok-terms.ensures in
+    let lent_is = lent_there c.lend-literals.result d.literals place.becomes.literal (lent_of c.literal-becomes.result) r.literal_i c.lend-literals.ensures c.literal-becomes.ensures r.i_there in
+    factoring_not_ordered usage.is_predicate mode (alone m) m.number d place (alone_there m) b r terms c.in_ok-terms.field-0-1 h
+    (ap (λ l. other_side_not_above (substitution terms) place.becomes.side l) (sym lent_is) ∙ sym c.if-not-is_not_below.ensures) e it
+
+pub eligible_under-requires-clause-in_range : goal.eligible_under-requires-clause-in_range
+eligible_under-requires-clause-in_range c =
+    let d = clause_at c.args.given.now.clause in
+    let r = c.requires.unified in
+    omega (arith, ap (λ (ls : List TreeLiteral). length ls) c.lend-literals.ensures, slice_get_within d.literals c.args.place.becomes.literal r.literal_i r.i_there)
+
+pub eligible_under-requires-clause-size : goal.eligible_under-requires-clause-size
+eligible_under-requires-clause-size c =
+    let m = c.args.given.now in
+    let d = clause_at m.clause in
+    let place = c.args.place in
+    let b = c.args.unifier.now in
+    let r = c.requires.unified in
+    let n = bound_of (clause_variables d) in
+    let terms = c.in_ok-terms.terms in
+    let h : AreRenamed b n 0 terms c.in_ok-terms.field-0-1 =
+    subst (λ (k : ℕ). AreRenamed b k 0 terms c.in_ok-terms.field-0-1) c.variable_bound.ensures.variables c.in_ok-terms.ensures in
+    let σ = substitution_of b Left in
+    let size : c.in_ok-size.size ≡ stopped (clause_size (clause_instance σ d)) =
+    c.in_ok-size.ensures ∙ ap (λ ls. stopped (sum_by literal_size (literals_instance σ (literals_at ls)))) c.literals.ensures.literals in
+    let total = total_size c.in_ok-size.size (clause_size (clause_instance σ d)) size (omega (arith, c.if-size-ge-SIZE_LIMIT.false)) in
+    let t = factor_terms (λ f. false) select_nothing (alone m) m.number d place (alone_there m) b r terms c.in_ok-terms.field-0-1 h in
+    let lent : sum_by literal_size (literals_instance (substitution terms) c.lend-literals.result) ≡ sum_by literal_size (literals_instance (substitution terms) d.literals) =
+    ap (λ ls. sum_by literal_size (literals_instance (substitution terms) ls)) c.lend-literals.ensures in
+    omega (arith, lent, t.size, total, c.if-size-ge-SIZE_LIMIT.false)
+
+pub returns-then-not-eligible_under : goal.returns-then-not-eligible_under
+returns-then-not-eligible_under c mode none usage used e it =
+    let m = c.args.given.now in
+    let d = clause_at m.clause in
+    let place = c.args.place in
+    let b = c.args.unifier.now in
+    let r = c.requires.unified in
+    let n = bound_of (clause_variables d) in
+    let terms = c.in_ok-terms.terms in
+    let h : AreRenamed b n 0 terms c.in_ok-terms.field-0-1 =
+    subst (λ (k : ℕ). AreRenamed b k 0 terms c.in_ok-terms.field-0-1) c.variable_bound.ensures.variables c.in_ok-terms.ensures in
+    factoring_not_eligible usage.is_predicate mode (alone m) m.number d place (alone_there m) b r terms c.in_ok-terms.field-0-1 h none
+    (ap (λ ls. eligible (literals_instance (substitution terms) ls) place.becomes.literal None false) (sym c.lend-literals.ensures)
+    ∙ sym c.if-not-eligible_under.ensures) e it
+
+pub returns-then-size-gt-MOST_SYMBOLS : goal.returns-then-size-gt-MOST_SYMBOLS
+returns-then-size-gt-MOST_SYMBOLS c mode none usage used =
+    let m = c.args.given.now in
+    let d = clause_at m.clause in
+    let place = c.args.place in
+    let b = c.args.unifier.now in
+    let r = c.requires.unified in
+    let n = bound_of (clause_variables d) in
+    let terms = c.in_ok-terms.terms in
+    let h : AreRenamed b n 0 terms c.in_ok-terms.field-0-1 =
+    subst (λ (k : ℕ). AreRenamed b k 0 terms c.in_ok-terms.field-0-1) c.variable_bound.ensures.variables c.in_ok-terms.ensures in
+    let σ = substitution_of b Left in
+    let size : c.in_ok-size.size ≡ stopped (clause_size (clause_instance σ d)) =
+    c.in_ok-size.ensures ∙ ap (λ ls. stopped (sum_by literal_size (literals_instance σ (literals_at ls)))) c.literals.ensures.literals in
+    let lent_is = lent_there c.lend-literals.result d.literals place.becomes.literal (lent_of c.literal-becomes.result) r.literal_i c.lend-literals.ensures c.literal-becomes.ensures r.i_there in
+    let kinds =
+    alike-kinds usage.is_predicate r.literal_i place.becomes.side r.literal_j place.other.side
+    (literal-kind usage d place.becomes.literal r.literal_i used r.i_there) (literal-kind usage d place.other.literal r.literal_j used r.j_there) r.alike in
+    let ordered = ap (λ l. other_side_not_above (substitution terms) place.becomes.side l) (sym lent_is) ∙ sym c.if-not-is_not_below.ensures in
+    let is_eligible = ap (λ ls. eligible (literals_instance (substitution terms) ls) place.becomes.literal None false) (sym c.lend-literals.ensures) ∙ sym c.if-not-eligible_under.ensures in
+    factoring_heavy usage.is_predicate mode (alone m) m.number d place (alone_there m) b r terms c.in_ok-terms.field-0-1 h none kinds ordered is_eligible
+    (inl (size_above c.in_ok-size.size (clause_size (clause_instance σ d)) MOST_SYMBOLS size c.if-size-gt-MOST_SYMBOLS.true))
+
+pub literal-other-requires : goal.literal-other-requires
+literal-other-requires c =
+    let d = clause_at c.args.given.now.clause in
+    let r = c.requires.unified in
+    omega (arith, ap (λ (ls : List TreeLiteral). length ls) c.lend-literals.ensures, slice_get_within d.literals c.args.place.other.literal r.literal_j r.j_there)
+
+pub overflow_sub-size : goal.overflow_sub-size
+overflow_sub-size c =
+    let m = c.args.given.now in
+    let d = clause_at m.clause in
+    let place = c.args.place in
+    let b = c.args.unifier.now in
+    let r = c.requires.unified in
+    let n = bound_of (clause_variables d) in
+    let terms = c.in_ok-terms.terms in
+    let h : AreRenamed b n 0 terms c.in_ok-terms.field-0-1 =
+    subst (λ (k : ℕ). AreRenamed b k 0 terms c.in_ok-terms.field-0-1) c.variable_bound.ensures.variables c.in_ok-terms.ensures in
+    let σ = substitution_of b Left in
+    let size : c.in_ok-size.size ≡ stopped (clause_size (clause_instance σ d)) =
+    c.in_ok-size.ensures ∙ ap (λ ls. stopped (sum_by literal_size (literals_instance σ (literals_at ls)))) c.literals.ensures.literals in
+    let lent_is = lent_there c.lend-literals.result d.literals place.becomes.literal (lent_of c.literal-becomes.result) r.literal_i c.lend-literals.ensures c.literal-becomes.ensures r.i_there in
+    let total = total_size c.in_ok-size.size (clause_size (clause_instance σ d)) size (omega (arith, c.if-size-ge-SIZE_LIMIT.false)) in
+    let t = factor_terms (λ f. false) select_nothing (alone m) m.number d place (alone_there m) b r terms c.in_ok-terms.field-0-1 h in
+    let other_is = lent_there c.lend-literals.result d.literals place.other.literal (lent_of c.literal-other.result) r.literal_j c.lend-literals.ensures c.literal-other.ensures r.j_there in
+    let s = side_of place.becomes.side r.literal_i in
+    let v = other_side_of place.other.side r.literal_j in
+    let goes : c.instance_size-goes.result ≡ min (tree_size (instance (substitution terms) s)) (2 ^ 64 - 1) =
+    c.instance_size-goes.ensures ∙ ap (λ x. min (tree_size (instance (substitution terms) x)) (2 ^ 64 - 1)) (c.side.ensures ∙ ap (side_of place.becomes.side) lent_is) in
+    let comes : c.instance_size-comes.result ≡ min (tree_size (instance (substitution terms) v)) (2 ^ 64 - 1) =
+    c.instance_size-comes.ensures ∙ ap (λ x. min (tree_size (instance (substitution terms) x)) (2 ^ 64 - 1)) (c.other_side.ensures ∙ ap (other_side_of place.other.side) other_is) in
+    let whole_is : sum_by literal_size (literals_instance (substitution terms) d.literals) ≡ c.in_ok-size.size = t.size ∙ total in
+    let first = part_size (substitution terms) d.literals place.becomes.literal r.literal_i r.i_there in
+    let second = part_size (substitution terms) d.literals place.other.literal r.literal_j r.j_there in
+    let told =
+    told_size _ (tree_size (instance (substitution terms) s)) (tree_size (instance (substitution terms) v))
+    (sum_by literal_size (literals_instance (substitution terms) d.literals)) c.in_ok-size.size c.instance_size-goes.result c.instance_size-comes.result
+    (plain_size (λ f. false) select_nothing (alone m) m.number d place (alone_there m) b r terms c.in_ok-terms.field-0-1 h) whole_is
+    (omega (arith, first, sides_size (substitution terms) place.becomes.side r.literal_i, whole_is))
+    (omega (arith, second, sides_size (substitution terms) place.other.side r.literal_j, whole_is))
+    (omega (arith, c.if-size-gt-MOST_SYMBOLS.false)) goes comes in
+    told.0
+
+pub overflow_add-size : goal.overflow_add-size
+overflow_add-size c =
+    let m = c.args.given.now in
+    let d = clause_at m.clause in
+    let place = c.args.place in
+    let b = c.args.unifier.now in
+    let r = c.requires.unified in
+    let n = bound_of (clause_variables d) in
+    let terms = c.in_ok-terms.terms in
+    let h : AreRenamed b n 0 terms c.in_ok-terms.field-0-1 =
+    subst (λ (k : ℕ). AreRenamed b k 0 terms c.in_ok-terms.field-0-1) c.variable_bound.ensures.variables c.in_ok-terms.ensures in
+    let σ = substitution_of b Left in
+    let size : c.in_ok-size.size ≡ stopped (clause_size (clause_instance σ d)) =
+    c.in_ok-size.ensures ∙ ap (λ ls. stopped (sum_by literal_size (literals_instance σ (literals_at ls)))) c.literals.ensures.literals in
+    let lent_is = lent_there c.lend-literals.result d.literals place.becomes.literal (lent_of c.literal-becomes.result) r.literal_i c.lend-literals.ensures c.literal-becomes.ensures r.i_there in
+    let total = total_size c.in_ok-size.size (clause_size (clause_instance σ d)) size (omega (arith, c.if-size-ge-SIZE_LIMIT.false)) in
+    let t = factor_terms (λ f. false) select_nothing (alone m) m.number d place (alone_there m) b r terms c.in_ok-terms.field-0-1 h in
+    let other_is = lent_there c.lend-literals.result d.literals place.other.literal (lent_of c.literal-other.result) r.literal_j c.lend-literals.ensures c.literal-other.ensures r.j_there in
+    let s = side_of place.becomes.side r.literal_i in
+    let v = other_side_of place.other.side r.literal_j in
+    let goes : c.instance_size-goes.result ≡ min (tree_size (instance (substitution terms) s)) (2 ^ 64 - 1) =
+    c.instance_size-goes.ensures ∙ ap (λ x. min (tree_size (instance (substitution terms) x)) (2 ^ 64 - 1)) (c.side.ensures ∙ ap (side_of place.becomes.side) lent_is) in
+    let comes : c.instance_size-comes.result ≡ min (tree_size (instance (substitution terms) v)) (2 ^ 64 - 1) =
+    c.instance_size-comes.ensures ∙ ap (λ x. min (tree_size (instance (substitution terms) x)) (2 ^ 64 - 1)) (c.other_side.ensures ∙ ap (other_side_of place.other.side) other_is) in
+    let whole_is : sum_by literal_size (literals_instance (substitution terms) d.literals) ≡ c.in_ok-size.size = t.size ∙ total in
+    let first = part_size (substitution terms) d.literals place.becomes.literal r.literal_i r.i_there in
+    let second = part_size (substitution terms) d.literals place.other.literal r.literal_j r.j_there in
+    let told =
+    told_size _ (tree_size (instance (substitution terms) s)) (tree_size (instance (substitution terms) v))
+    (sum_by literal_size (literals_instance (substitution terms) d.literals)) c.in_ok-size.size c.instance_size-goes.result c.instance_size-comes.result
+    (plain_size (λ f. false) select_nothing (alone m) m.number d place (alone_there m) b r terms c.in_ok-terms.field-0-1 h) whole_is
+    (omega (arith, first, sides_size (substitution terms) place.becomes.side r.literal_i, whole_is))
+    (omega (arith, second, sides_size (substitution terms) place.other.side r.literal_j, whole_is))
+    (omega (arith, c.if-size-gt-MOST_SYMBOLS.false)) goes comes in
+    omega (arith, told.0, told.2, c.if-size-gt-MOST_SYMBOLS.false)
+
+pub returns-then-size-goes-gt-MOST_SYMBOLS : goal.returns-then-size-goes-gt-MOST_SYMBOLS
+returns-then-size-goes-gt-MOST_SYMBOLS c mode none usage used =
+    let m = c.args.given.now in
+    let d = clause_at m.clause in
+    let place = c.args.place in
+    let b = c.args.unifier.now in
+    let r = c.requires.unified in
+    let n = bound_of (clause_variables d) in
+    let terms = c.in_ok-terms.terms in
+    let h : AreRenamed b n 0 terms c.in_ok-terms.field-0-1 =
+    subst (λ (k : ℕ). AreRenamed b k 0 terms c.in_ok-terms.field-0-1) c.variable_bound.ensures.variables c.in_ok-terms.ensures in
+    let σ = substitution_of b Left in
+    let size : c.in_ok-size.size ≡ stopped (clause_size (clause_instance σ d)) =
+    c.in_ok-size.ensures ∙ ap (λ ls. stopped (sum_by literal_size (literals_instance σ (literals_at ls)))) c.literals.ensures.literals in
+    let lent_is = lent_there c.lend-literals.result d.literals place.becomes.literal (lent_of c.literal-becomes.result) r.literal_i c.lend-literals.ensures c.literal-becomes.ensures r.i_there in
+    let total = total_size c.in_ok-size.size (clause_size (clause_instance σ d)) size (omega (arith, c.if-size-ge-SIZE_LIMIT.false)) in
+    let t = factor_terms (λ f. false) select_nothing (alone m) m.number d place (alone_there m) b r terms c.in_ok-terms.field-0-1 h in
+    let other_is = lent_there c.lend-literals.result d.literals place.other.literal (lent_of c.literal-other.result) r.literal_j c.lend-literals.ensures c.literal-other.ensures r.j_there in
+    let s = side_of place.becomes.side r.literal_i in
+    let v = other_side_of place.other.side r.literal_j in
+    let goes : c.instance_size-goes.result ≡ min (tree_size (instance (substitution terms) s)) (2 ^ 64 - 1) =
+    c.instance_size-goes.ensures ∙ ap (λ x. min (tree_size (instance (substitution terms) x)) (2 ^ 64 - 1)) (c.side.ensures ∙ ap (side_of place.becomes.side) lent_is) in
+    let comes : c.instance_size-comes.result ≡ min (tree_size (instance (substitution terms) v)) (2 ^ 64 - 1) =
+    c.instance_size-comes.ensures ∙ ap (λ x. min (tree_size (instance (substitution terms) x)) (2 ^ 64 - 1)) (c.other_side.ensures ∙ ap (other_side_of place.other.side) other_is) in
+    let whole_is : sum_by literal_size (literals_instance (substitution terms) d.literals) ≡ c.in_ok-size.size = t.size ∙ total in
+    let first = part_size (substitution terms) d.literals place.becomes.literal r.literal_i r.i_there in
+    let second = part_size (substitution terms) d.literals place.other.literal r.literal_j r.j_there in
+    let told =
+    told_size _ (tree_size (instance (substitution terms) s)) (tree_size (instance (substitution terms) v))
+    (sum_by literal_size (literals_instance (substitution terms) d.literals)) c.in_ok-size.size c.instance_size-goes.result c.instance_size-comes.result
+    (plain_size (λ f. false) select_nothing (alone m) m.number d place (alone_there m) b r terms c.in_ok-terms.field-0-1 h) whole_is
+    (omega (arith, first, sides_size (substitution terms) place.becomes.side r.literal_i, whole_is))
+    (omega (arith, second, sides_size (substitution terms) place.other.side r.literal_j, whole_is))
+    (omega (arith, c.if-size-gt-MOST_SYMBOLS.false)) goes comes in
+    let kinds =
+    alike-kinds usage.is_predicate r.literal_i place.becomes.side r.literal_j place.other.side
+    (literal-kind usage d place.becomes.literal r.literal_i used r.i_there) (literal-kind usage d place.other.literal r.literal_j used r.j_there) r.alike in
+    let ordered = ap (λ l. other_side_not_above (substitution terms) place.becomes.side l) (sym lent_is) ∙ sym c.if-not-is_not_below.ensures in
+    let is_eligible = ap (λ ls. eligible (literals_instance (substitution terms) ls) place.becomes.literal None false) (sym c.lend-literals.ensures) ∙ sym c.if-not-eligible_under.ensures in
+    factoring_heavy usage.is_predicate mode (alone m) m.number d place (alone_there m) b r terms c.in_ok-terms.field-0-1 h none kinds ordered is_eligible
+    (inr (omega (arith, told.1, c.if-size-goes-gt-MOST_SYMBOLS.true)))
+
+pub conclude_factoring-requires-clause-becomes_inside : goal.conclude_factoring-requires-clause-becomes_inside
+conclude_factoring-requires-clause-becomes_inside c =
+    let d = clause_at c.args.given.now.clause in
+    let r = c.requires.unified in
+    slice_get_within d.literals c.args.place.becomes.literal r.literal_i r.i_there
+
+pub conclude_factoring-requires-clause-other_inside : goal.conclude_factoring-requires-clause-other_inside
+conclude_factoring-requires-clause-other_inside c =
+    let d = clause_at c.args.given.now.clause in
+    let r = c.requires.unified in
+    slice_get_within d.literals c.args.place.other.literal r.literal_j r.j_there
+
+pub conclude_factoring-requires-clause-covers : goal.conclude_factoring-requires-clause-covers
+conclude_factoring-requires-clause-covers c =
+    let m = c.args.given.now in
+    let d = clause_at m.clause in
+    let place = c.args.place in
+    let b = c.args.unifier.now in
+    let r = c.requires.unified in
+    let n = bound_of (clause_variables d) in
+    let terms = c.in_ok-terms.terms in
+    let h : AreRenamed b n 0 terms c.in_ok-terms.field-0-1 =
+    subst (λ (k : ℕ). AreRenamed b k 0 terms c.in_ok-terms.field-0-1) c.variable_bound.ensures.variables c.in_ok-terms.ensures in
+    (factor_terms (λ f. false) select_nothing (alone m) m.number d place (alone_there m) b r terms c.in_ok-terms.field-0-1 h).many
+
+pub conclude_factoring-requires-clause-applies : goal.conclude_factoring-requires-clause-applies
+conclude_factoring-requires-clause-applies c =
+    let m = c.args.given.now in
+    let d = clause_at m.clause in
+    let place = c.args.place in
+    let b = c.args.unifier.now in
+    let r = c.requires.unified in
+    let n = bound_of (clause_variables d) in
+    let terms = c.in_ok-terms.terms in
+    let h : AreRenamed b n 0 terms c.in_ok-terms.field-0-1 =
+    subst (λ (k : ℕ). AreRenamed b k 0 terms c.in_ok-terms.field-0-1) c.variable_bound.ensures.variables c.in_ok-terms.ensures in
+    factoring_applies (λ f. false) select_nothing (alone m) m.number d place (alone_there m) b r terms c.in_ok-terms.field-0-1 h
+
+pub returns : goal.returns
+returns c mode none usage used =
+    let m = c.args.given.now in
+    let d = clause_at m.clause in
+    let place = c.args.place in
+    let b = c.args.unifier.now in
+    let r = c.requires.unified in
+    let n = bound_of (clause_variables d) in
+    let terms = c.in_ok-terms.terms in
+    let h : AreRenamed b n 0 terms c.in_ok-terms.field-0-1 =
+    subst (λ (k : ℕ). AreRenamed b k 0 terms c.in_ok-terms.field-0-1) c.variable_bound.ensures.variables c.in_ok-terms.ensures in
+    let σ = substitution_of b Left in
+    let size : c.in_ok-size.size ≡ stopped (clause_size (clause_instance σ d)) =
+    c.in_ok-size.ensures ∙ ap (λ ls. stopped (sum_by literal_size (literals_instance σ (literals_at ls)))) c.literals.ensures.literals in
+    let lent_is = lent_there c.lend-literals.result d.literals place.becomes.literal (lent_of c.literal-becomes.result) r.literal_i c.lend-literals.ensures c.literal-becomes.ensures r.i_there in
+    let total = total_size c.in_ok-size.size (clause_size (clause_instance σ d)) size (omega (arith, c.if-size-ge-SIZE_LIMIT.false)) in
+    let t = factor_terms (λ f. false) select_nothing (alone m) m.number d place (alone_there m) b r terms c.in_ok-terms.field-0-1 h in
+    let other_is = lent_there c.lend-literals.result d.literals place.other.literal (lent_of c.literal-other.result) r.literal_j c.lend-literals.ensures c.literal-other.ensures r.j_there in
+    let s = side_of place.becomes.side r.literal_i in
+    let v = other_side_of place.other.side r.literal_j in
+    let goes : c.instance_size-goes.result ≡ min (tree_size (instance (substitution terms) s)) (2 ^ 64 - 1) =
+    c.instance_size-goes.ensures ∙ ap (λ x. min (tree_size (instance (substitution terms) x)) (2 ^ 64 - 1)) (c.side.ensures ∙ ap (side_of place.becomes.side) lent_is) in
+    let comes : c.instance_size-comes.result ≡ min (tree_size (instance (substitution terms) v)) (2 ^ 64 - 1) =
+    c.instance_size-comes.ensures ∙ ap (λ x. min (tree_size (instance (substitution terms) x)) (2 ^ 64 - 1)) (c.other_side.ensures ∙ ap (other_side_of place.other.side) other_is) in
+    let whole_is : sum_by literal_size (literals_instance (substitution terms) d.literals) ≡ c.in_ok-size.size = t.size ∙ total in
+    let first = part_size (substitution terms) d.literals place.becomes.literal r.literal_i r.i_there in
+    let second = part_size (substitution terms) d.literals place.other.literal r.literal_j r.j_there in
+    let told =
+    told_size _ (tree_size (instance (substitution terms) s)) (tree_size (instance (substitution terms) v))
+    (sum_by literal_size (literals_instance (substitution terms) d.literals)) c.in_ok-size.size c.instance_size-goes.result c.instance_size-comes.result
+    (plain_size (λ f. false) select_nothing (alone m) m.number d place (alone_there m) b r terms c.in_ok-terms.field-0-1 h) whole_is
+    (omega (arith, first, sides_size (substitution terms) place.becomes.side r.literal_i, whole_is))
+    (omega (arith, second, sides_size (substitution terms) place.other.side r.literal_j, whole_is))
+    (omega (arith, c.if-size-gt-MOST_SYMBOLS.false)) goes comes in
+    let kinds =
+    alike-kinds usage.is_predicate r.literal_i place.becomes.side r.literal_j place.other.side
+    (literal-kind usage d place.becomes.literal r.literal_i used r.i_there) (literal-kind usage d place.other.literal r.literal_j used r.j_there) r.alike in
+    let ordered = ap (λ l. other_side_not_above (substitution terms) place.becomes.side l) (sym lent_is) ∙ sym c.if-not-is_not_below.ensures in
+    let is_eligible = ap (λ ls. eligible (literals_instance (substitution terms) ls) place.becomes.literal None false) (sym c.lend-literals.ensures) ∙ sym c.if-not-eligible_under.ensures in
+    made_by_factoring usage.is_predicate mode (alone m) m.number d place.becomes.literal place.becomes.side place.other.literal place.other.side terms
+    c.in_ok-conclude_factoring.field-0 c.in_ok-conclude_factoring.ensures
+    (factoring_concluded usage.is_predicate mode (alone m) m.number d place (alone_there m) b r terms c.in_ok-terms.field-0-1 h none kinds ordered is_eligible
+    (size_within c.in_ok-size.size (clause_size (clause_instance σ d)) MOST_SYMBOLS (omega arith) size c.if-size-gt-MOST_SYMBOLS.false)
+    (omega (arith, told.1, c.if-size-goes-gt-MOST_SYMBOLS.false)))

@@ -1,0 +1,147 @@
+use Rattle.std.proofs.Common.{◌≡◌, ℕ, ◌<◌, ◌≤◌, ◌^◌, ◌-◌, true, false, List, length, arith, ap, sym, ◌∙◌, subst}
+use Rattle.std.specs.Prelude.{sum_by}
+use Rattle.std.proofs.lemmas.Option.{slice_get_within}
+use Rattle.fol_base.specs.Clause.{TreeLiteral, clause_size, clause_instance, clause_variables, literal_size}
+use Rattle.fol_base.specs.Instance.{substitution}
+use Rattle.fol_base.specs.Ground.{literals_instance}
+use Rattle.fol_base.specs.Canonical.{bound_of}
+use Rattle.fol_base.specs.Selection.{chosen, eligible, select_nothing}
+use Rattle.fol_base.specs.declared.clause.Side.TheVariants.{Left}
+use Rattle.fol_base.specs.declared.limits.TheConstants.{MOST_SYMBOLS, SIZE_LIMIT}
+use Rattle.term_bank.specs.Literal.{literals_at}
+use Rattle.bank_clause.specs.Clause.{clause_at}
+use Rattle.unifier.specs.Bindings.{substitution_of}
+use Rattle.unifier.specs.Renaming.{AreRenamed}
+use Rattle.unifier.specs.Sizes.{stopped}
+use Rattle.eq_rules.specs.Inferences.{alone}
+use Rattle.eq_rules.proofs.MadeLemmas.{size_above, size_within, alone_there, made_by_resolution}
+use Rattle.eq_rules.proofs.PremiseLemmas.{Terms, terms_of, literal-below, literal-kind}
+use Rattle.eq_rules.proofs.ResolutionLemmas.{chosen_eligible, resolution_heavy, eligible_before, resolution_not_eligible, resolution_applies, resolution_concluded}
+use Rattle.eq_rules.proofs.resolving.resolution_by.Goals as goal
+
+pub returns-then-size-gt-MOST_SYMBOLS : goal.returns-then-size-gt-MOST_SYMBOLS
+returns-then-size-gt-MOST_SYMBOLS c mode choice_is usage used =
+    let m = c.args.given.now in
+    let d = clause_at m.clause in
+    let i = c.args.index in
+    let b = c.args.unifier.now in
+    let σ = substitution_of b Left in
+    let size : c.in_ok-size.size ≡ stopped (clause_size (clause_instance σ d)) =
+    c.in_ok-size.ensures ∙ ap (λ ls. stopped (sum_by literal_size (literals_instance σ (literals_at ls)))) c.literals.ensures.literals in
+    resolution_heavy usage.is_predicate mode (alone m) m.number d i (alone_there m) b c.requires.unified
+    (ap (λ o. eligible (literals_instance σ d.literals) i o false) (sym choice_is)
+    ∙ chosen_eligible c.args.choice (literals_instance σ d.literals) i false (sym c.is_some.ensures ∙ c.if-is_some.true) c.requires.not_other)
+    (size_above c.in_ok-size.size (clause_size (clause_instance σ d)) MOST_SYMBOLS size c.if-size-gt-MOST_SYMBOLS.true)
+
+pub eligible_under-requires-clause-in_range : goal.eligible_under-requires-clause-in_range
+eligible_under-requires-clause-in_range c =
+    let d = clause_at c.args.given.now.clause in
+    let r = c.requires.unified in
+    omega (arith, ap (λ (ls : List TreeLiteral). length ls) c.lend.ensures, slice_get_within d.literals c.args.index r.literal r.there)
+
+pub eligible_under-requires-clause-size : goal.eligible_under-requires-clause-size
+eligible_under-requires-clause-size c =
+    let d = clause_at c.args.given.now.clause in
+    let r = c.requires.unified in
+    let b = c.args.unifier.now in
+    let σ = substitution_of b Left in
+    let n = bound_of (clause_variables d) in
+    let terms = c.in_ok-terms.terms in
+    let below = literal-below d c.args.index r.literal r.there in
+    let h : AreRenamed b n 0 terms c.in_ok-terms.field-0-1 =
+    subst (λ (k : ℕ). AreRenamed b k 0 terms c.in_ok-terms.field-0-1) c.variable_bound.ensures.variables c.in_ok-terms.ensures in
+    let t : Terms d r.literal.left r.literal.right b terms =
+    terms_of d r.literal.left r.literal.right b terms c.in_ok-terms.field-0-1 r.unified below.0 below.1 h in
+    let size : c.in_ok-size.size ≡ stopped (clause_size (clause_instance σ d)) =
+    c.in_ok-size.ensures ∙ ap (λ ls. stopped (sum_by literal_size (literals_instance σ (literals_at ls)))) c.literals.ensures.literals in
+    let lent : sum_by literal_size (literals_instance (substitution terms) c.lend.result) ≡ sum_by literal_size (literals_instance (substitution terms) d.literals) =
+    ap (λ ls. sum_by literal_size (literals_instance (substitution terms) ls)) c.lend.ensures in
+    let small : c.in_ok-size.size ≤ SIZE_LIMIT = omega (arith, c.if-size-ge-SIZE_LIMIT.false) in
+    let within = size_within c.in_ok-size.size (clause_size (clause_instance σ d)) SIZE_LIMIT (omega arith) size small in
+    omega (arith, lent, t.size, within)
+
+pub returns-then-not-eligible_under : goal.returns-then-not-eligible_under
+returns-then-not-eligible_under c mode choice_is usage used =
+    let m = c.args.given.now in
+    let d = clause_at m.clause in
+    let i = c.args.index in
+    let b = c.args.unifier.now in
+    let n = bound_of (clause_variables d) in
+    let terms = c.in_ok-terms.terms in
+    let h : AreRenamed b n 0 terms c.in_ok-terms.field-0-1 =
+    subst (λ (k : ℕ). AreRenamed b k 0 terms c.in_ok-terms.field-0-1) c.variable_bound.ensures.variables c.in_ok-terms.ensures in
+    resolution_not_eligible usage.is_predicate mode (alone m) m.number d i (alone_there m) b c.requires.unified terms c.in_ok-terms.field-0-1 h
+    (ap (λ o. eligible (literals_instance (substitution terms) d.literals) i o false) (sym choice_is)
+    ∙ ap (λ ls. eligible (literals_instance (substitution terms) ls) i c.args.choice false) (sym c.lend.ensures)
+    ∙ sym c.if-not-eligible_under.ensures)
+
+pub returns-then-size-gt-MOST_SYMBOLS-2 : goal.returns-then-size-gt-MOST_SYMBOLS-2
+returns-then-size-gt-MOST_SYMBOLS-2 c mode choice_is usage used =
+    let m = c.args.given.now in
+    let d = clause_at m.clause in
+    let i = c.args.index in
+    let b = c.args.unifier.now in
+    let σ = substitution_of b Left in
+    let n = bound_of (clause_variables d) in
+    let terms = c.in_ok-terms.terms in
+    let h : AreRenamed b n 0 terms c.in_ok-terms.field-0-1 =
+    subst (λ (k : ℕ). AreRenamed b k 0 terms c.in_ok-terms.field-0-1) c.variable_bound.ensures.variables c.in_ok-terms.ensures in
+    let size : c.in_ok-size.size ≡ stopped (clause_size (clause_instance σ d)) =
+    c.in_ok-size.ensures ∙ ap (λ ls. stopped (sum_by literal_size (literals_instance σ (literals_at ls)))) c.literals.ensures.literals in
+    resolution_heavy usage.is_predicate mode (alone m) m.number d i (alone_there m) b c.requires.unified
+    (eligible_before usage.is_predicate mode (alone m) m.number d i (alone_there m) b c.requires.unified terms c.in_ok-terms.field-0-1 h
+    (ap (λ o. eligible (literals_instance (substitution terms) d.literals) i o false) (sym choice_is)
+    ∙ ap (λ ls. eligible (literals_instance (substitution terms) ls) i c.args.choice false) (sym c.lend.ensures)
+    ∙ sym c.if-not-eligible_under.ensures))
+    (size_above c.in_ok-size.size (clause_size (clause_instance σ d)) MOST_SYMBOLS size c.if-size-gt-MOST_SYMBOLS-2.true)
+
+pub conclude_resolution-requires-clause-inside : goal.conclude_resolution-requires-clause-inside
+conclude_resolution-requires-clause-inside c =
+    let d = clause_at c.args.given.now.clause in
+    let r = c.requires.unified in
+    slice_get_within d.literals c.args.index r.literal r.there
+
+pub conclude_resolution-requires-clause-covers : goal.conclude_resolution-requires-clause-covers
+conclude_resolution-requires-clause-covers c =
+    let d = clause_at c.args.given.now.clause in
+    let r = c.requires.unified in
+    let b = c.args.unifier.now in
+    let n = bound_of (clause_variables d) in
+    let terms = c.in_ok-terms.terms in
+    let below = literal-below d c.args.index r.literal r.there in
+    let h : AreRenamed b n 0 terms c.in_ok-terms.field-0-1 =
+    subst (λ (k : ℕ). AreRenamed b k 0 terms c.in_ok-terms.field-0-1) c.variable_bound.ensures.variables c.in_ok-terms.ensures in
+    (terms_of d r.literal.left r.literal.right b terms c.in_ok-terms.field-0-1 r.unified below.0 below.1 h).many
+
+pub conclude_resolution-requires-clause-applies : goal.conclude_resolution-requires-clause-applies
+conclude_resolution-requires-clause-applies c =
+    let m = c.args.given.now in
+    let d = clause_at m.clause in
+    let b = c.args.unifier.now in
+    let n = bound_of (clause_variables d) in
+    let terms = c.in_ok-terms.terms in
+    let h : AreRenamed b n 0 terms c.in_ok-terms.field-0-1 =
+    subst (λ (k : ℕ). AreRenamed b k 0 terms c.in_ok-terms.field-0-1) c.variable_bound.ensures.variables c.in_ok-terms.ensures in
+    resolution_applies (λ f. false) select_nothing (alone m) m.number d c.args.index (alone_there m) b c.requires.unified terms c.in_ok-terms.field-0-1 h
+
+pub returns : goal.returns
+returns c mode choice_is usage used =
+    let m = c.args.given.now in
+    let d = clause_at m.clause in
+    let i = c.args.index in
+    let b = c.args.unifier.now in
+    let r = c.requires.unified in
+    let σ = substitution_of b Left in
+    let n = bound_of (clause_variables d) in
+    let terms = c.in_ok-terms.terms in
+    let h : AreRenamed b n 0 terms c.in_ok-terms.field-0-1 =
+    subst (λ (k : ℕ). AreRenamed b k 0 terms c.in_ok-terms.field-0-1) c.variable_bound.ensures.variables c.in_ok-terms.ensures in
+    let size : c.in_ok-size.size ≡ stopped (clause_size (clause_instance σ d)) =
+    c.in_ok-size.ensures ∙ ap (λ ls. stopped (sum_by literal_size (literals_instance σ (literals_at ls)))) c.literals.ensures.literals in
+    made_by_resolution usage.is_predicate mode (alone m) m.number d i terms c.in_ok-conclude_resolution.field-0 c.in_ok-conclude_resolution.ensures
+    (resolution_concluded usage.is_predicate mode (alone m) m.number d i (alone_there m) b r terms c.in_ok-terms.field-0-1 h
+    (literal-kind usage d i r.literal used r.there)
+    (ap (λ o. eligible (literals_instance (substitution terms) d.literals) i o false) (sym choice_is)
+    ∙ ap (λ ls. eligible (literals_instance (substitution terms) ls) i c.args.choice false) (sym c.lend.ensures)
+    ∙ sym c.if-not-eligible_under.ensures)
+    (size_within c.in_ok-size.size (clause_size (clause_instance σ d)) MOST_SYMBOLS (omega arith) size c.if-size-gt-MOST_SYMBOLS-2.false))

@@ -1,0 +1,9 @@
+-- A clause by its number, for the worked examples.
+use Rattle.std.specs.Prelude.{ℕ, [], ◌∷◌, ◌==◌, Option, None, Some, if◌then◌else◌}
+use Rattle.fol_base.specs.Clause.{TreeClause}
+use Rattle.fol_base.specs.Examples.{x, a, p, clause}
+use Rattle.fol_base.specs.Rules.{disequation}
+
+-- X0 != a | p(X0) has the number 3
+abbrev pub found_at_three : ℕ → Option TreeClause
+found_at_three n = if n == 3 then Some (clause (disequation (x 0) a ∷ p (x 0) ∷ [])) else None

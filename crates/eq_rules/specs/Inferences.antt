@@ -1,0 +1,127 @@
+-- Inferences of clauses by their names, each with what becomes of it: which are made, which are set aside for their size, and lists of
+-- exactly those of some names (Bachmair and Ganzinger 1994).
+use Rattle.std.specs.Prelude.{◌≡◌, ℕ, Bool, true, false, ◌||◌, ◌==◌, nat_lt, List, [], ◌++◌, All, Contains, slice_get, Option, None, Some, option_map, IsTrue, if◌then◌else◌}
+use Rattle.fol_base.specs.Tree.{Tree, trees_of, trees_variables}
+use Rattle.fol_base.specs.Clause.{TreeClause, clause_size, clause_instance, clause_variables}
+use Rattle.fol_base.specs.Literal.{clause_of}
+use Rattle.fol_base.specs.Selection.{SelectionMode}
+use Rattle.fol_base.specs.WellFormed.{SymbolUse, are_literals_of}
+use Rattle.fol_base.specs.declared.clause.Side.{Side}
+use Rattle.fol_base.specs.declared.limits.TheConstants.{MOST_SYMBOLS}
+use Rattle.kernel_steps.specs.Inference.{NamedSuperposition, NamedResolution, NamedFactoring}
+use Rattle.kernel_steps.specs.Named.{OfOne, OfTwo, IsInference}
+use Rattle.kernel_steps.specs.Parents.{Parent, Parents}
+use Rattle.kernel_steps.specs.Conclusion.{verdict, concludes}
+use Rattle.kernel_steps.specs.declared.key.Key.{Key}
+use Rattle.kernel_steps.specs.declared.key.Key.TheVariants.{Para, Refl, Factor, Replaced}
+use Rattle.kernel_steps.specs.declared.step.Step.{Step}
+use Rattle.kernel_steps.specs.declared.step.Step.TheVariants as step
+use Rattle.bank_clause.specs.Clause.{clause_at}
+use Rattle.bank_clause.specs.declared.member.Member.{Member}
+use Rattle.eq_rules.specs.Renumbered.{AreNumberedInOrder}
+use Rattle.eq_rules.specs.declared.inference.Made.{Made}
+use Rattle.eq_rules.specs.declared.inference.Made.TheVariants.{Conclusion, Heavy}
+use Rattle.eq_rules.specs.declared.inference.Inference.{Inference}
+
+-- ---- sizes
+
+-- more symbols than a clause may have that is kept
+abbrev pub is_large : TreeClause → Bool
+is_large c = nat_lt MOST_SYMBOLS (clause_size c)
+
+-- the inferences with a conclusion, and whether that or a premise under the unifier is large
+
+pub record SizedSuperposition
+    (is_predicate : ℕ → Bool) (mode : SelectionMode) (first : TreeClause) (i : ℕ) (from_side : Side)
+    (second : TreeClause) (j : ℕ) (into_side : Side) (place : List ℕ) (conclusion : TreeClause) (heavy : Bool) : Type 0 where
+  pub named : NamedSuperposition is_predicate mode first i from_side second j into_side place conclusion
+  pub size :
+      (is_large (clause_instance named.first_unifier first) || (is_large (clause_instance named.second_unifier second) || is_large conclusion))
+      ≡ heavy
+
+pub record SizedResolution (mode : SelectionMode) (c : TreeClause) (i : ℕ) (conclusion : TreeClause) (heavy : Bool) : Type 0 where
+  pub named : NamedResolution mode c i conclusion
+  pub size : (is_large (clause_instance named.unifier c) || is_large conclusion) ≡ heavy
+
+pub record SizedFactoring
+    (is_predicate : ℕ → Bool) (mode : SelectionMode) (c : TreeClause) (i : ℕ) (side_i : Side) (j : ℕ) (side_j : Side)
+    (conclusion : TreeClause) (heavy : Bool) : Type 0 where
+  pub named : NamedFactoring is_predicate mode c i side_i j side_j conclusion
+  pub size : (is_large (clause_instance named.unifier c) || is_large conclusion) ≡ heavy
+
+-- The inference of that name has this conclusion, and is heavy or not.
+abbrev pub IsSizedInference : (ℕ → Bool) → SelectionMode → (ℕ → Option TreeClause) → Key → TreeClause → Bool → Type 0
+IsSizedInference is_predicate mode clauses (Para first from from_side second into into_side place) c heavy =
+    OfTwo clauses first second (λ p q. SizedSuperposition is_predicate mode p from from_side q into into_side place c heavy)
+IsSizedInference is_predicate mode clauses (Refl clause literal) c heavy = OfOne clauses clause (λ p. SizedResolution mode p literal c heavy)
+IsSizedInference is_predicate mode clauses (Factor clause becomes becomes_side other other_side) c heavy =
+    OfOne clauses clause (λ p. SizedFactoring is_predicate mode p becomes becomes_side other other_side c heavy)
+IsSizedInference is_predicate mode clauses (Replaced clause) c heavy = ⊥
+
+-- ---- steps
+
+-- the name of the inference that a step makes, where its parents are clause numbers
+abbrev pub key_of : Step → Option Key
+key_of (step.Para first second from from_side into into_side place first_bind second_bind) =
+    Some (Para first from from_side second into into_side place)
+key_of (step.Refl parent literal bind) = Some (Refl parent literal)
+key_of (step.Factor parent becomes becomes_side other other_side bind) = Some (Factor parent becomes becomes_side other other_side)
+key_of _ = None
+
+-- the terms that it puts in, one premise after another
+abbrev pub bindings_of : Step → List Tree
+bindings_of (step.Para first second from from_side into into_side place first_bind second_bind) = first_bind ++ second_bind
+bindings_of (step.Refl parent literal bind) = bind
+bindings_of (step.Factor parent becomes becomes_side other other_side bind) = bind
+bindings_of _ = []
+
+-- clauses as the parents of a step
+abbrev pub premises : (ℕ → Option TreeClause) → Parents
+premises clauses n = option_map (λ c. let p : Parent = record { clause = c; introduces = false } in p) (clauses n)
+
+-- ---- what becomes of an inference
+
+-- A conclusion and its step: it is the conclusion of the inference of that name, which isn't heavy; the step makes that inference, and
+-- the kernel's verdict on it is the conclusion. The variables are numbered by first occurrence in the conclusion, and then in what the
+-- step puts in.
+pub record IsConcluded
+    (is_predicate : ℕ → Bool) (mode : SelectionMode) (clauses : ℕ → Option TreeClause) (key : Key) (by : Step) (c : TreeClause) : Type 0 where
+  pub inferred : IsSizedInference is_predicate mode clauses key c false
+  pub of_key : key_of by ≡ Some key
+  pub right_step : verdict by (premises clauses) ≡ concludes c
+  pub numbered : AreNumberedInOrder (clause_variables c)
+  pub bindings_numbered : AreNumberedInOrder (clause_variables c ++ trees_variables (trees_of (bindings_of by)))
+
+abbrev pub IsMade : (ℕ → Bool) → SelectionMode → (ℕ → Option TreeClause) → Key → Made → Type 0
+IsMade is_predicate mode clauses key (Conclusion by clause) = IsConcluded is_predicate mode clauses key by (clause_of clause)
+IsMade is_predicate mode clauses key Heavy = (c : TreeClause) × IsSizedInference is_predicate mode clauses key c true
+
+-- ---- lists of inferences
+
+-- Exactly the inferences whose names pass a test, each once.
+pub record AreInferences
+    (is_predicate : ℕ → Bool) (mode : SelectionMode) (clauses : ℕ → Option TreeClause) (passes : Key → Bool) (found : List Inference) : Type 0 where
+  pub made : All (λ (e : Inference). IsTrue (passes e.key) × IsMade is_predicate mode clauses e.key e.result) found
+  pub complete :
+      (key : Key) (c : TreeClause) → IsTrue (passes key) → IsInference is_predicate mode clauses key c
+      → (e : Inference) × Contains found e × (e.key ≡ key)
+  pub once :
+      (m n : ℕ) (d e : Inference) → slice_get found m ≡ Some d → slice_get found n ≡ Some e → d.key ≡ e.key → m ≡ n
+
+-- the clause of a member, by its number
+abbrev pub alone : Member → ℕ → Option TreeClause
+alone m n = if n == m.number then Some (clause_at m.clause) else None
+
+-- of a member alone, under each use of the symbols under which its clause is well-formed
+abbrev pub AreInferencesOf : SelectionMode → Member → (Key → Bool) → List Inference → Type 0
+AreInferencesOf mode m passes found =
+    (usage : SymbolUse) → IsTrue (are_literals_of usage (clause_at m.clause).literals)
+    → AreInferences usage.is_predicate mode (alone m) passes found
+
+abbrev pub is_resolution : Key → Bool
+is_resolution (Refl clause literal) = true
+is_resolution _ = false
+
+abbrev pub is_factoring : Key → Bool
+is_factoring (Factor clause becomes becomes_side other other_side) = true
+is_factoring _ = false

@@ -1,0 +1,24 @@
+// Inferences by name, with what becomes of each.
+
+use fol_base::Clause;
+use kernel_steps::{Key, Step};
+use plain_types::Sequence;
+
+/// What becomes of an inference.
+#[derive(Drop)]
+pub enum Made {
+    /// The step, whose parents are the numbers of the premises, and its conclusion.
+    Conclusion(Step, Clause),
+    /// A premise under the unifier, or the conclusion, has over `MOST_SYMBOLS` symbols, so the inference is set aside.
+    Heavy,
+}
+
+/// An inference, by its name.
+#[derive(Drop)]
+pub struct Inference {
+    pub key: Key,
+    pub result: Made,
+}
+
+/// Inferences, in order.
+pub type Inferences = Sequence<Inference>;
