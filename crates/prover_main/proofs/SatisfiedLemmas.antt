@@ -18,6 +18,7 @@ use Rattle.signature.specs.Form.{clausal_form}
 use Rattle.clausal_form.specs.FormLaws.{use_of}
 use Rattle.clausal_form.specs.FormFunctions.{is_predicate_in}
 use Rattle.clausal_form.proofs.WellFormedLemmas.{forms-are-well-formed}
+use Rattle.prover_main.specs.Answer.{IsClosed}
 
 -- `$true` is no function term, and no head of a ground atom is `$true`
 no-function : (p : ℕ → Bool) (t : Tree) → is_truth t ≡ true → is_function_term p t ≡ false
@@ -84,13 +85,14 @@ form-predicates fs g =
 pub closed-answer :
     (fs : List Annotated) (clauses : List TreeClause) (limit : ℕ) (answer : Ground)
     → clauses ≡ (clausal_form fs).clauses → IsGroundForm clauses → IsGroundAnswer clauses limit answer → HasMeaning clauses answer → answer ≡ Closed
-    → HasClosedSets (clausal_form fs).clauses × Satisfied (is_predicate_in (clausal_form fs).symbols) (clausal_form fs).clauses
+    → IsClosed fs
 closed-answer fs clauses limit answer e ground is means closed =
     let sets : HasClosedSets clauses = subst (IsGroundAnswer clauses limit) closed is in
-    let meaning : (p : ℕ → Bool) → IsTrue (are_predicate_atoms p clauses) → Satisfied p clauses = subst (HasMeaning clauses) closed means in (
-      subst HasClosedSets e sets,
-      subst (Satisfied (is_predicate_in (clausal_form fs).symbols)) e
+    let meaning : (p : ℕ → Bool) → IsTrue (are_predicate_atoms p clauses) → Satisfied p clauses = subst (HasMeaning clauses) closed means in
+    record {
+      sets = subst HasClosedSets e sets;
+      satisfied = subst (Satisfied (is_predicate_in (clausal_form fs).symbols)) e
           (meaning (is_predicate_in (clausal_form fs).symbols)
           (subst (λ cs. IsTrue (are_predicate_atoms (is_predicate_in (clausal_form fs).symbols) cs)) (sym e)
-          (form-predicates fs (subst IsGroundForm e ground)))),
-    )
+          (form-predicates fs (subst IsGroundForm e ground))));
+    }
