@@ -15,8 +15,3 @@ mod work;
 pub use scan::is_compatible;
 pub use steps::Steps;
 pub use tree::DiscTree;
-
-#[cfg(test)]
-mod many_tests;
-#[cfg(test)]
-mod tests;

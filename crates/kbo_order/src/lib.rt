@@ -20,6 +20,3 @@ pub use limits::COMPARED_SIZE_LIMIT;
 pub use literals::{compare_literals, compare_literals_under};
 pub use reading::Unbound;
 pub use terms::{compare, compare_under};
-
-#[cfg(test)]
-mod tests;

@@ -2,6 +2,10 @@ pub mod DerivationExamples
 pub mod NameLemmas
 pub mod NameTruth
 pub mod SortedNames
+pub mod NameRanks
+pub mod NameSorts
+pub mod SplitTables
+pub mod NameSetLemmas
 pub mod BoundLemmas
 pub mod PushLemmas
 pub mod ItemLemmas

@@ -1,11 +1,10 @@
 -- A list of names is sorted by putting one after another at its place.
-use Rattle.std.proofs.Common.{◌≡◌, ◌⊎◌, inl, inr, ⊎_elim, ℕ, Bool, true, false, not, ◌&&◌, ◌||◌, ◌==◌, nat_lt, cond, List, [], ◌∷◌, refl, ap, sym, ◌∙◌, arith}
+use Rattle.std.proofs.Common.{◌≡◌, ⊎_elim, ℕ, Bool, true, false, not, ◌&&◌, ◌||◌, ◌==◌, nat_lt, List, [], ◌∷◌, refl, ap, sym, ◌∙◌}
 use mathlib.Core.Bool.{beq}
-use Rattle.std.specs.Prelude.{if◌then◌else◌}
-use Rattle.std.proofs.lemmas.Bool.{and_parts, and_from, or_left, or_right, cond-true, cond-false, cases_Bool, true≢false, eq-eqb, lt-ltb, cases_order}
+use Rattle.std.proofs.lemmas.Bool.{and_parts, and_from, or_left, or_right, cond-true, cond-false, true≢false, eq-eqb, lt-ltb, cases_order}
 use Rattle.plain_types.specs.declared.sequence.NameLit.{NameLit}
-use Rattle.plain_types.specs.Names.{same_name, has_name}
-use Rattle.kernel_steps.specs.Names.{name_before, with_name, with_names, sorted_names, are_sorted, SortedNames}
+use Rattle.plain_types.specs.Names.{same_name}
+use Rattle.kernel_steps.specs.Names.{name_before, with_name, with_names, are_sorted, SortedNames}
 use Rattle.kernel_steps.proofs.NameTruth.{has_name-sorted_names}
 
 -- of two names that are not the same one comes before the other
@@ -62,7 +61,7 @@ behind n m (k ∷ ms) before h rest = by (same_name n k) refl (name_before n k) 
         ∙ and_from (name_before m k) (are_sorted (k ∷ with_name n ms)) first
         (sym (ap are_sorted (cond-false (same_name n k) _ _ other ∙ cond-false (name_before n k) _ _ e)) ∙ rest)
 
-with_name-sorted : (n : NameLit) (ms : List NameLit) → are_sorted ms ≡ true → are_sorted (with_name n ms) ≡ true
+pub with_name-sorted : (n : NameLit) (ms : List NameLit) → are_sorted ms ≡ true → are_sorted (with_name n ms) ≡ true
 with_name-sorted n [] h = refl
 with_name-sorted n (m ∷ ms) h = by (with_name-sorted n ms (tail_sorted m ms h)) (same_name n m) refl (name_before n m) refl
   where
@@ -77,7 +76,7 @@ with_name-sorted n (m ∷ ms) h = by (with_name-sorted n ms (tail_sorted m ms h)
         ap are_sorted (cond-false (same_name n m) _ _ other ∙ cond-false (name_before n m) _ _ e)
         ∙ behind n m ms (before-other n m other e) h rest
 
-with_names-sorted : (ns ms : List NameLit) → are_sorted ms ≡ true → are_sorted (with_names ns ms) ≡ true
+pub with_names-sorted : (ns ms : List NameLit) → are_sorted ms ≡ true → are_sorted (with_names ns ms) ≡ true
 with_names-sorted [] ms h = h
 with_names-sorted (n ∷ ns) ms h = with_names-sorted ns (with_name n ms) (with_name-sorted n ms h)
 

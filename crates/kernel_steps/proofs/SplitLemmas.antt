@@ -1,5 +1,5 @@
 -- Splits whose definitions are looked up.
-use Rattle.std.proofs.Common.{◌≡◌, ℕ, suc, ◌≤◌, Bool, true, false, ◌&&◌, ◌||◌, ◌==◌, List, [], ◌∷◌, ◌++◌, length, map, Option, Some, None, refl, ap, ap₂, sym, ◌∙◌, ⊎_elim}
+use Rattle.std.proofs.Common.{◌≡◌, ℕ, ◌≤◌, Bool, true, false, ◌&&◌, ◌||◌, ◌==◌, List, [], ◌∷◌, ◌++◌, length, map, Option, Some, None, refl, ap, ap₂, sym, ◌∙◌, ⊎_elim}
 use Rattle.std.specs.Prelude.{not, slice_get, option_map, option_and_then, flat_map, filter, if◌then◌else◌}
 use Rattle.std.specs.List.{list_all, cons_option}
 use Rattle.std.proofs.lemmas.Bool.{and_parts, or_parts, or_cases, cond-true, cond-false, true≢false, eqb-true, eq-eqb, ne_eqb, cases_Bool}
@@ -7,7 +7,7 @@ use Rattle.std.proofs.lemmas.Option.{none-some, same_Some, slice_get_past}
 use Rattle.std.proofs.lemmas.List.{map-append, append-nil}
 use Rattle.plain_types.specs.Names.{opposite}
 use Rattle.fol_base.specs.Clause.{TreeLiteral, TreeClause, literal_variables}
-use Rattle.fol_base.specs.Canonical.{distinct, place_of}
+use Rattle.fol_base.specs.Canonical.{distinct}
 use Rattle.fol_base.proofs.TestLemmas.{option_map-some}
 use Rattle.kernel_steps.specs.Parents.{Parent, all_there}
 use Rattle.kernel_steps.specs.Split.{has_number, is_part, share_out, literals_at, share_no_variables, defines, is_split, are_defined, can_split, opposites, share_number, share_no_numbers}
@@ -153,36 +153,6 @@ distinct-old (k ∷ ks) n there =
     ∙ ap (λ b. filter (λ j. not (j == k)) (distinct ks) ++ (if not b then n ∷ [] else [])) here
     ∙ append-nil (filter (λ j. not (j == k)) (distinct ks))))
     (cases_Bool (has_number n ks))
-
--- ---- places
-
--- the first place of a number that isn't before it
-pub place_of-found :
-    (ks js : List ℕ) (n k : ℕ) → place_of n ks ≡ None → (n == k) ≡ true → place_of n (ks ++ k ∷ js) ≡ Some (length ks)
-place_of-found [] js n k before here = cond-true (n == k) (Some 0) (option_map suc (place_of n js)) here
-place_of-found (j ∷ ks) js n k before here =
-    let rest = else_none (n == j) (place_of n ks) before in
-    cond-false (n == j) (Some 0) (option_map suc (place_of n (ks ++ k ∷ js))) rest.0
-    ∙ ap (option_map suc) (place_of-found ks js n k rest.1 here)
-  where
-    else_none : (b : Bool) (o : Option ℕ) → (if b then Some 0 else option_map suc o) ≡ None → (b ≡ false) × (o ≡ None)
-    else_none true o h = absurd (none-some 0 (sym h))
-    else_none false None h = (refl, refl)
-    else_none false (Some m) h = absurd (none-some (suc m) (sym h))
-
--- a number that isn't the next one either
-pub place_of-not_yet :
-    (ks : List ℕ) (n k : ℕ) → place_of n ks ≡ None → (n == k) ≡ false → place_of n (ks ++ k ∷ []) ≡ None
-place_of-not_yet [] n k before other = cond-false (n == k) (Some 0) None other
-place_of-not_yet (j ∷ ks) n k before other = kept (n == j) (place_of n ks) before (place_of-not_yet ks n k)
-  where
-    kept :
-        (b : Bool) (o : Option ℕ) → (if b then Some 0 else option_map suc o) ≡ None
-        → (o ≡ None → (n == k) ≡ false → place_of n (ks ++ k ∷ []) ≡ None)
-        → (if b then Some 0 else option_map suc (place_of n (ks ++ k ∷ []))) ≡ None
-    kept true o h rest = absurd (none-some 0 (sym h))
-    kept false None h rest = ap (option_map suc) (rest refl other)
-    kept false (Some m) h rest = absurd (none-some (suc m) (sym h))
 
 -- ---- literals at places
 

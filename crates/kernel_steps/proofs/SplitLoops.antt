@@ -1,83 +1,19 @@
 -- Steps of the loops that try whether a clause can be split.
-use Rattle.std.proofs.Common.{◌≡◌, ℕ, zero, suc, ◌+◌, ◌<◌, ◌≤◌, Bool, true, false, ◌&&◌, List, [], ◌∷◌, ◌++◌, length, map, take, drop, get_or, Option, Some, None, refl, ap, ap₂, sym, ◌∙◌, arith}
-use Rattle.std.specs.Prelude.{not, flat_map, option_map}
+use Rattle.std.proofs.Common.{◌≡◌, ℕ, zero, suc, ◌+◌, ◌<◌, ◌≤◌, Bool, true, false, ◌&&◌, List, [], ◌∷◌, ◌++◌, length, map, take, drop, get_or, Option, Some, None, append_assoc, refl, ap, ap₂, sym, ◌∙◌, arith}
+use Rattle.std.specs.Prelude.{flat_map, option_map}
 use Rattle.std.specs.List.{list_all}
-use Rattle.std.proofs.lemmas.Bool.{eq-eqb, ne_eqb}
 use Rattle.std.proofs.lemmas.Simd.{map-map}
-use Rattle.std.proofs.lemmas.List.{take-append-drop, take_more, drop_more, take_all, length-take-le, length-map}
-use Rattle.std.proofs.lemmas.List.Folds.{list_all-map, list_all_more}
+use Rattle.std.proofs.lemmas.List.{take_more, drop_more, take_all, length-map}
+use Rattle.std.proofs.lemmas.List.Folds.{list_all_more}
 use Rattle.std.proofs.lemmas.Option.{slice_get-map, slice_get_read}
 use Rattle.plain_types.specs.declared.sequence.NameLit.{NameLit}
 use Rattle.plain_types.specs.Names.{opposite}
 use Rattle.fol_base.specs.Clause.{TreeLiteral, literal_variables}
-use Rattle.fol_base.specs.Canonical.{distinct, place_of}
 use Rattle.fol_base.specs.Literal.{literal_of}
 use Rattle.fol_base.specs.declared.clause.Literal.{Literal}
-use Rattle.kernel_steps.specs.Names.{with_names}
 use Rattle.kernel_steps.specs.Parents.{Parent}
-use Rattle.kernel_steps.specs.Split.{has_number, has_all_below, literals_at, share_number, share_no_variables, share_no_numbers, there_defines, are_defined, opposites}
-use Rattle.kernel_steps.proofs.NameLemmas.{with_names-append}
-use Rattle.kernel_steps.proofs.SplitLemmas.{share_no_variables-numbers, place_of-found, place_of-not_yet, has_number-distinct, distinct-new, distinct-old, literals_at-more, literals_at-past}
-
--- ---- places of numbers
-
--- a number that is at a place, and at none before it
-pub place_of-read :
-    (ks : List ℕ) (i n : ℕ)
-    → i < length ks → place_of n (take i ks) ≡ None → n ≡ get_or ks i 0 → place_of n ks ≡ Some i
-place_of-read ks i n within before here =
-    ap (place_of n) (sym (take-append-drop i ks))
-    ∙ ap (λ js. place_of n (take i ks ++ js)) (drop_more ks i 0 within)
-    ∙ place_of-found (take i ks) (drop (i + 1) ks) n (get_or ks i 0) before (eq-eqb n (get_or ks i 0) here)
-    ∙ ap (λ m. let o : Option ℕ = Some m in o) (length-take-le i ks (omega arith))
-
--- or not there either
-pub place_of-unread :
-    (ks : List ℕ) (i n : ℕ)
-    → i < length ks → place_of n (take i ks) ≡ None → (n ≡ get_or ks i 0 → ⊥) → place_of n (take (i + 1) ks) ≡ None
-place_of-unread ks i n within before other =
-    ap (place_of n) (take_more ks i 0 within)
-    ∙ place_of-not_yet (take i ks) n (get_or ks i 0) before (ne_eqb n (get_or ks i 0) other)
-
--- ---- different numbers
-
--- a number that is there already
-pub distinct-read_old :
-    (ks order : List ℕ) (i : ℕ)
-    → i < length ks → order ≡ distinct (take i ks) → has_number (get_or ks i 0) order ≡ true → order ≡ distinct (take (i + 1) ks)
-distinct-read_old ks order i within so_far there =
-    so_far
-    ∙ sym
-    (ap distinct (take_more ks i 0 within)
-    ∙ distinct-old (take i ks) (get_or ks i 0)
-    (sym (has_number-distinct (get_or ks i 0) (take i ks)) ∙ ap (has_number (get_or ks i 0)) (sym so_far) ∙ there))
-
--- or is new
-pub distinct-read_new :
-    (ks order more : List ℕ) (i : ℕ)
-    → i < length ks → order ≡ distinct (take i ks) → has_number (get_or ks i 0) order ≡ false
-    → more ≡ order ++ get_or ks i 0 ∷ [] → more ≡ distinct (take (i + 1) ks)
-distinct-read_new ks order more i within so_far new pushed =
-    pushed
-    ∙ ap (λ js. js ++ get_or ks i 0 ∷ []) so_far
-    ∙ sym
-    (ap distinct (take_more ks i 0 within)
-    ∙ distinct-new (take i ks) (get_or ks i 0)
-    (sym (has_number-distinct (get_or ks i 0) (take i ks)) ∙ ap (has_number (get_or ks i 0)) (sym so_far) ∙ new))
-
--- no number of the list at a place in one of the later lists
-pub share_no_numbers-read :
-    {X : Type 0} (f : X → List ℕ) (xs rest : List X) (i : ℕ) (x : X) (numbers : List ℕ) (apart : Bool)
-    → i < length xs → x ≡ get_or xs i x → numbers ≡ f x → rest ≡ drop (i + 1) xs
-    → apart ≡ list_all (λ y. not (share_number numbers (f y))) rest
-    → share_no_numbers (map f (drop i xs)) ≡ (apart && share_no_numbers (map f (drop (i + 1) xs)))
-share_no_numbers-read f xs rest i x numbers apart within read numbers_of rest_of tested =
-    ap (λ ys. share_no_numbers (map f ys)) (drop_more xs i x within ∙ ap (λ y. y ∷ drop (i + 1) xs) (sym read))
-    ∙ ap (λ ns. list_all (λ ms. not (share_number ns ms)) (map f (drop (i + 1) xs)) && share_no_numbers (map f (drop (i + 1) xs))) (sym numbers_of)
-    ∙ ap (λ b. b && share_no_numbers (map f (drop (i + 1) xs)))
-    (list_all-map (λ ms. not (share_number numbers ms)) f (drop (i + 1) xs)
-    ∙ ap (list_all (λ y. not (share_number numbers (f y)))) (sym rest_of)
-    ∙ sym tested)
+use Rattle.kernel_steps.specs.Split.{has_number, has_all_below, literals_at, share_no_variables, share_no_numbers, there_defines, are_defined, opposites}
+use Rattle.kernel_steps.proofs.SplitLemmas.{share_no_variables-numbers, literals_at-more, literals_at-past}
 
 -- ---- literals at places
 
@@ -112,24 +48,24 @@ literals_at-missing xs places i part within past so_far =
 -- the names of a definition that is there
 pub opposites-read :
     (look : ℕ → Option Parent) (ds : List ℕ) (i : ℕ) (p : Parent) (before after : List NameLit)
-    → i < length ds → look (get_or ds i 0) ≡ Some p → after ≡ with_names (map opposite p.clause.names) before
-    → with_names (opposites (map look (drop (i + 1) ds))) after ≡ with_names (opposites (map look (drop i ds))) before
-opposites-read look ds i p before after within there put =
-    ap (with_names (opposites (map look (drop (i + 1) ds)))) put
+    → i < length ds → look (get_or ds i 0) ≡ Some p → after ≡ before ++ map opposite p.clause.names
+    → after ++ opposites (map look (drop (i + 1) ds)) ≡ before ++ opposites (map look (drop i ds))
+opposites-read look ds i p before after within there pushed =
+    ap (λ ns. ns ++ opposites (map look (drop (i + 1) ds))) pushed
+    ∙ append_assoc before (map opposite p.clause.names) (opposites (map look (drop (i + 1) ds)))
     ∙ sym
-    (ap (λ ks. with_names (opposites (map look ks)) before) (drop_more ds i 0 within)
-    ∙ ap (λ o. with_names (opposites (o ∷ map look (drop (i + 1) ds))) before) there
-    ∙ with_names-append (map opposite p.clause.names) (opposites (map look (drop (i + 1) ds))) before)
+    (ap (λ ks. before ++ opposites (map look ks)) (drop_more ds i 0 within)
+    ∙ ap (λ o. before ++ opposites (o ∷ map look (drop (i + 1) ds))) there)
 
 -- one that isn't has none
 pub opposites-missing :
     (look : ℕ → Option Parent) (ds : List ℕ) (i : ℕ) (names : List NameLit)
     → i < length ds → look (get_or ds i 0) ≡ None
-    → with_names (opposites (map look (drop (i + 1) ds))) names ≡ with_names (opposites (map look (drop i ds))) names
+    → names ++ opposites (map look (drop (i + 1) ds)) ≡ names ++ opposites (map look (drop i ds))
 opposites-missing look ds i names within missing =
     sym
-    (ap (λ ks. with_names (opposites (map look ks)) names) (drop_more ds i 0 within)
-    ∙ ap (λ o. with_names (opposites (o ∷ map look (drop (i + 1) ds))) names) missing)
+    (ap (λ ks. names ++ opposites (map look ks)) (drop_more ds i 0 within)
+    ∙ ap (λ o. names ++ opposites (o ∷ map look (drop (i + 1) ds))) missing)
 
 -- ---- numbers below a bound
 

@@ -1,5 +1,6 @@
 pub mod Bound
 pub mod Names
+pub mod NameSet
 pub mod Parents
 pub mod Split
 pub mod Conclusion

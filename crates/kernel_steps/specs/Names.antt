@@ -1,5 +1,5 @@
 -- Lists of signed names in the order in which clauses have them, and resolution on names (Robinson 1965).
-use Rattle.std.specs.Prelude.{◌≡◌, Bool, true, not, ◌&&◌, ◌||◌, ◌==◌, nat_lt, List, [], ◌∷◌, Option, None, Some, if◌then◌else◌, IsTrue}
+use Rattle.std.specs.Prelude.{◌≡◌, ℕ, ◌+◌, ◌*◌, Bool, true, not, ◌&&◌, ◌||◌, ◌==◌, nat_lt, List, [], ◌∷◌, Option, None, Some, if◌then◌else◌, IsTrue}
 use Rattle.plain_types.specs.declared.sequence.NameLit.{NameLit}
 use Rattle.plain_types.specs.Names.{same_name, has_name, can_resolve, resolvent}
 
@@ -47,3 +47,9 @@ are_sorted (n ∷ m ∷ ms) = name_before n m && are_sorted (m ∷ ms)
 -- the names of a list, sorted, are its names, each before the next
 abbrev pub SortedNames : Type 0
 SortedNames = (ns : List NameLit) → IsTrue (are_sorted (sorted_names ns)) × ((n : NameLit) → has_name n (sorted_names ns) ≡ has_name n ns)
+
+-- ---- what only the private functions cite
+
+-- a number that rises with the names
+abbrev pub name_rank : NameLit → ℕ
+name_rank n = 2 * n.name + (if n.positive then 1 else 0)

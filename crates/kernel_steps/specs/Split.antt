@@ -1,9 +1,14 @@
 -- Splitting of a clause into parts that share no variables (Voronkov 2014, with the names of ground literals and their complements
 -- as one).
-use Rattle.std.specs.Prelude.{ℕ, zero, suc, Bool, true, false, not, ◌&&◌, ◌==◌, nat_lt, List, [], ◌∷◌, ◌++◌, length, flat_map, map, filter_map, slice_get, Option, None, Some}
+use Rattle.std.specs.Prelude.{ℕ, zero, suc, Bool, true, false, not, ◌&&◌, ◌==◌, nat_lt, List, [], ◌∷◌, ◌++◌, length, flat_map, map, filter_map, slice_get, nat_eq, unwrap_or, Option, None, Some}
 use Rattle.std.specs.List.{list_any, list_all}
+use Rattle.std.specs.HashMap.{HashMap, get}
+use Rattle.std.specs.declared.hash.FoldHasher.{FoldHasher}
+use Rattle.std.specs.declared.hash.BuildHasherDefault.{BuildHasherDefault}
 use Rattle.plain_types.specs.declared.sequence.NameLit.{NameLit}
 use Rattle.plain_types.specs.Names.{opposite}
+use Rattle.fol_base.specs.Tree.{variable}
+use Rattle.fol_base.specs.Instance.{Substitution}
 use Rattle.fol_base.specs.Clause.{TreeLiteral, literals_eq, literal_variables}
 use Rattle.fol_base.specs.Canonical.{canonical_clause}
 use Rattle.kernel_steps.specs.Parents.{Parent}
@@ -88,3 +93,7 @@ share_number ns ms = list_any (λ n. has_number n ms) ns
 abbrev pub share_no_numbers : List (List ℕ) → Bool
 share_no_numbers [] = true
 share_no_numbers (ns ∷ nss) = list_all (λ ms. not (share_number ns ms)) nss && share_no_numbers nss
+
+-- a variable becomes its place in a table; one that isn't there stands for itself
+abbrev pub renamed : HashMap ℕ ℕ (BuildHasherDefault FoldHasher) → Substitution
+renamed places v = variable (unwrap_or (get nat_eq places v) v)

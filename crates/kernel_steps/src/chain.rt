@@ -6,7 +6,7 @@ ghost use Rattle.kernel_steps.specs.Names.{chained};
 ghost use Rattle.kernel_steps.specs.Parents.{all_there};
 ghost use Rattle.kernel_steps.specs.Conclusion.{names_at, clause_of_names, verdict_of, IsAnswerTo};
 
-use crate::names::{resolve, sorted_names};
+use crate::name_set::NameSet;
 use crate::parents::LendsParents;
 use crate::step::StepFault;
 use fol_base::{Clause, Literals};
@@ -31,19 +31,19 @@ pub fn chain<P: LendsParents>(
     let Some(start) = names_of(parents, numbers[0]) else {
         return Err(StepFault::Rule);
     };
-    let mut names = sorted_names(alloc, start)?;
+    let mut names = NameSet::new(alloc);
+    names.put_all(start)?;
     for index in 0..pivots.len() {
         let Some(others) = names_of(parents, numbers[index + 1]) else {
             return Err(StepFault::Rule);
         };
-        match resolve(alloc, pivots[index], names.as_slice(), others)? {
-            Some(made) => names = made,
-            None => return Err(StepFault::Rule),
+        if !names.resolve(pivots[index], others)? {
+            return Err(StepFault::Rule);
         }
     }
     Ok(Clause {
         literals: Literals::new(alloc),
-        names: Names::from_vec(names),
+        names: Names::from_vec(names.sorted(alloc)?),
     })
 }
 

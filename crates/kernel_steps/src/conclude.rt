@@ -14,7 +14,7 @@ ghost use Rattle.fol_base.specs.declared.limits.TheConstants.{MOST_BOUND_SYMBOLS
 ghost use Rattle.kernel_steps.specs.Conclusion.{bound_clause, binds, binds_parent, verdict, verdict_of, clause_with, by_one, by_two, is_rule_step, IsAnswerTo, IsRefusal};
 
 use crate::chain::chain;
-use crate::names::{put_names, sorted_names};
+use crate::names::{sorted_names, united_names};
 use crate::parents::{LendsParents, ParentRef};
 use crate::rules::{self, Bound};
 use crate::split::split;
@@ -148,8 +148,11 @@ fn conclude_para(
     match made {
         None => Err(StepFault::Rule),
         Some(literals) => {
-            let mut names = sorted_names(alloc, first.clause.names.as_slice())?;
-            put_names(&mut names, second.clause.names.as_slice())?;
+            let names = united_names(
+                alloc,
+                first.clause.names.as_slice(),
+                second.clause.names.as_slice(),
+            )?;
             Ok(with_names(literals, names))
         }
     }

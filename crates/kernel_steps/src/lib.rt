@@ -5,6 +5,7 @@ mod chain;
 mod conclude;
 mod instance;
 mod key;
+mod name_set;
 mod names;
 mod parents;
 mod rules;
@@ -13,7 +14,7 @@ mod step;
 
 pub use conclude::{bound_size, conclusion};
 pub use key::Key;
-pub use names::{put_names, sorted_names};
+pub use names::sorted_names;
 pub use parents::{LendsParents, ParentRef};
 pub use rules::{Bound, factor, merge, para, refl};
 pub use step::{CLAUSE_NUMBERS, Derivation, Line, Reduced, Step, StepFault};

@@ -1,8 +1,8 @@
-// Lists of signed names: sorted, each name once, as clauses have them; and resolution on names.
+// Lists of signed names: sorted, each name once, as clauses have them.
 
-ghost use Rattle.std.specs.Prelude.{◌≡◌, ◌++◌, [], IfOk, option_map, if◌then◌else◌, Some, None};
-ghost use Rattle.plain_types.specs.Names.{has_name, opposite, without, can_resolve, resolvent};
-ghost use Rattle.kernel_steps.specs.Names.{name_before, with_name, with_names, sorted_names};
+ghost use Rattle.std.specs.Prelude.{◌≡◌, ◌++◌, IfOk};
+ghost use Rattle.plain_types.specs.Names.{has_name, opposite};
+ghost use Rattle.kernel_steps.specs.Names.{are_sorted, name_rank, sorted_names};
 
 use plain_types::{Mem, NameLit};
 use std::alloc::Global;
@@ -17,46 +17,11 @@ pub fn opposite(name: NameLit) -> NameLit
     }
 }
 
-/// Whether a name comes before another: the lower number, or the negative one of one number.
-fn comes_before(name: NameLit, other: NameLit) -> bool
-    ensures { result ≡ name_before name other }
-{
-    name.name < other.name || (name.name == other.name && !name.positive && other.positive)
-}
-
 /// Whether a signed name stands in the list.
-fn has_name(names: &[NameLit], name: NameLit) -> bool
+pub(crate) fn has_name(names: &[NameLit], name: NameLit) -> bool
     ensures { result ≡ has_name name names.now }
 {
     names.iter().any(|other| name == *other)
-}
-
-/// Puts a name at its place in a sorted list, unless it is there.
-pub fn put_name(sorted: &mut Vec<NameLit>, name: NameLit) -> Mem<()>
-    ensures { IfOk result (λ _. sorted.new.items ≡ with_name name sorted.old.items) }
-{
-    for place in 0..sorted.len() {
-        let other = sorted[place];
-        if name == other {
-            return Ok(());
-        }
-        if comes_before(name, other) {
-            sorted.insert(place, name)?;
-            return Ok(());
-        }
-    }
-    sorted.push(name)?;
-    Ok(())
-}
-
-/// Puts several names into a sorted list, one after another.
-pub fn put_names(sorted: &mut Vec<NameLit>, names: &[NameLit]) -> Mem<()>
-    ensures { IfOk result (λ _. sorted.new.items ≡ with_names names.now sorted.old.items) }
-{
-    for name in names {
-        put_name(sorted, *name)?;
-    }
-    Ok(())
 }
 
 /// The names of a list, sorted, each once.
@@ -64,40 +29,51 @@ pub fn sorted_names(alloc: Global, names: &[NameLit]) -> Mem<Vec<NameLit>>
     ensures { IfOk result (λ sorted. sorted.items ≡ sorted_names names.now) }
 {
     let mut sorted = Vec::new(alloc);
-    put_names(&mut sorted, names)?;
+    sorted.extend_from_slice(names)?;
+    sort_names(&mut sorted);
     Ok(sorted)
 }
 
-/// Puts the names of a list but one into a sorted list.
-fn put_others(sorted: &mut Vec<NameLit>, names: &[NameLit], left_out: NameLit) -> Mem<()>
-    ensures { IfOk result (λ _. sorted.new.items ≡ with_names (without left_out names.now) sorted.old.items) }
-{
-    for name in names {
-        if left_out != *name {
-            put_name(sorted, *name)?;
-        }
-    }
-    Ok(())
-}
-
-/// The names after resolution on a pivot. None where it isn't there, or its opposite isn't in the other list.
-pub fn resolve(
+/// The names of two lists, sorted, each once.
+pub(crate) fn united_names(
     alloc: Global,
-    pivot: NameLit,
     names: &[NameLit],
     others: &[NameLit],
-) -> Mem<Option<Vec<NameLit>>>
-    ensures { IfOk result (λ made. option_map (λ v. v.items) made
-        ≡ (if can_resolve pivot names.now others.now then Some (sorted_names (resolvent pivot names.now others.now)) else None)) }
+) -> Mem<Vec<NameLit>>
+    ensures { IfOk result (λ united. united.items ≡ sorted_names (names.now ++ others.now)) }
 {
-    if !has_name(names, pivot) {
-        return Ok(None);
+    let mut united = Vec::new(alloc);
+    united.extend_from_slice(names)?;
+    united.extend_from_slice(others)?;
+    sort_names(&mut united);
+    Ok(united)
+}
+
+/// Sorts names and leaves each once. A list that is sorted already, as those of conclusions are, is only read.
+pub(crate) fn sort_names(names: &mut Vec<NameLit>)
+    ensures { names.new.items ≡ sorted_names names.old.items }
+{
+    if !are_sorted(names.as_slice()) {
+        names.sort_unstable_by_key(|name| rank(*name));
+        names.dedup();
     }
-    if !has_name(others, opposite(pivot)) {
-        return Ok(None);
+}
+
+/// Whether each name comes before the next.
+fn are_sorted(names: &[NameLit]) -> bool
+    ensures { result ≡ are_sorted names.now }
+{
+    for index in 1..names.len() {
+        if rank(names[index - 1]) >= rank(names[index]) {
+            return false;
+        }
     }
-    let mut sorted = Vec::new(alloc);
-    put_others(&mut sorted, names, pivot)?;
-    put_others(&mut sorted, others, opposite(pivot))?;
-    Ok(Some(sorted))
+    true
+}
+
+/// A number by which names are sorted: by their own numbers, and of one number the negative name first.
+fn rank(name: NameLit) -> u64
+    ensures { result ≡ name_rank name }
+{
+    2 * u64::from(name.name) + u64::from(name.positive)
 }

@@ -1,26 +1,29 @@
 // Splitting of a clause into parts that share no variables.
 
-ghost use Rattle.std.specs.Prelude.{◌≡◌, ◌==◌, not, map, flat_map, option_and_then, unwrap_or, IfOk};
-ghost use Rattle.std.specs.List.{list_all};
+ghost use Rattle.std.specs.Prelude.{◌≡◌, ◌==◌, ◌||◌, ◌++◌, ℕ, map, flat_map, option_and_then, unwrap_or, nat_eq, IfOk};
+ghost use Rattle.std.specs.List.{list_all, list_any};
+ghost use Rattle.std.specs.HashMap.{get};
+ghost use Rattle.std.specs.HashSet.{contains};
 ghost use Rattle.plain_types.specs.Names.{opposite};
 ghost use Rattle.fol_base.specs.Tree.{tree_eq, trees_eq, trees_of};
 ghost use Rattle.fol_base.specs.Term.{tree_of};
 ghost use Rattle.fol_base.specs.Instance.{instance, instances};
 ghost use Rattle.fol_base.specs.Clause.{literal_eq, literals_eq, literal_instance, literal_variables};
-ghost use Rattle.fol_base.specs.Canonical.{distinct, place_of, renaming};
+ghost use Rattle.fol_base.specs.Canonical.{distinct, place_of};
 ghost use Rattle.fol_base.specs.Literal.{literal_of};
 ghost use Rattle.fol_base.specs.Lent.{lent_of};
-ghost use Rattle.kernel_steps.specs.Names.{with_names};
+ghost use Rattle.kernel_steps.specs.Names.{sorted_names};
 ghost use Rattle.kernel_steps.specs.Parents.{parent_of, all_there};
-ghost use Rattle.kernel_steps.specs.Split.{has_number, is_part, has_all_below, share_out, literals_at, share_no_variables, share_number, share_no_numbers, defines, are_defined, can_split, opposites};
+ghost use Rattle.kernel_steps.specs.Split.{has_number, is_part, has_all_below, share_out, literals_at, share_no_variables, share_no_numbers, renamed, defines, are_defined, can_split, opposites};
 ghost use Rattle.kernel_steps.specs.Conclusion.{split_from, verdict_of, IsAnswerTo};
 
-use crate::names::{opposite, put_name, sorted_names};
+use crate::names::{opposite, sort_names};
 use crate::parents::{LendsParents, ParentRef};
 use crate::step::StepFault;
 use fol_base::{Clause, Literal, LiteralRef, Literals, Term, push_variables};
 use plain_types::{Mem, NameLit, Names, Numbers};
 use std::alloc::Global;
+use std::collections::{HashMap, HashSet};
 
 /// What the split of a clause into parts gives: its names, and for each part the opposite of the name that its
 /// definition introduces. `Rule` exactly where the condition fails.
@@ -39,37 +42,53 @@ pub fn split<P: LendsParents>(
     if !can_split(alloc, literals, parents, definitions, parts)? {
         return Err(StepFault::Rule);
     }
-    let mut names = sorted_names(alloc, parent.clause.names.as_slice())?;
-    put_opposites(&mut names, parents, definitions)?;
+    let names = names_left(alloc, parent.clause.names.as_slice(), parents, definitions)?;
     Ok(Clause {
         literals: Literals::new(alloc),
         names: Names::from_vec(names),
     })
 }
 
-/// Puts the opposites of the names of the definitions that are there into a sorted list.
-fn put_opposites<P: LendsParents>(
+/// The names of a split: those of the clause, and the opposites of those of the definitions that are there.
+fn names_left<P: LendsParents>(
+    alloc: Global,
+    names: &[NameLit],
+    parents: &P,
+    definitions: &[u64],
+) -> Mem<Vec<NameLit>>
+    ensures { IfOk result (λ left. left.items
+        ≡ sorted_names (names.now ++ opposites (map (P.meaning parents.now) definitions.now))) }
+{
+    let mut left = Vec::new(alloc);
+    left.extend_from_slice(names)?;
+    push_opposites(&mut left, parents, definitions)?;
+    sort_names(&mut left);
+    Ok(left)
+}
+
+/// Adds the opposites of the names of the definitions that are there at the end.
+fn push_opposites<P: LendsParents>(
     names: &mut Vec<NameLit>,
     parents: &P,
     definitions: &[u64],
 ) -> Mem<()>
     ensures { IfOk result (λ _. names.new.items
-        ≡ with_names (opposites (map (P.meaning parents.now) definitions.now)) names.old.items) }
+        ≡ names.old.items ++ opposites (map (P.meaning parents.now) definitions.now)) }
 {
     for number in definitions {
         if let Some(definition) = parents.parent(*number) {
-            put_opposites_of(names, definition.clause.names.as_slice())?;
+            push_opposites_of(names, definition.clause.names.as_slice())?;
         }
     }
     Ok(())
 }
 
-/// Puts the opposites of names into a sorted list.
-fn put_opposites_of(names: &mut Vec<NameLit>, others: &[NameLit]) -> Mem<()>
-    ensures { IfOk result (λ _. names.new.items ≡ with_names (map opposite others.now) names.old.items) }
+/// Adds the opposites of names at the end.
+fn push_opposites_of(names: &mut Vec<NameLit>, others: &[NameLit]) -> Mem<()>
+    ensures { IfOk result (λ _. names.new.items ≡ names.old.items ++ map opposite others.now) }
 {
     for other in others {
-        put_name(names, opposite(*other))?;
+        names.push(opposite(*other))?;
     }
     Ok(())
 }
@@ -168,41 +187,38 @@ fn share_no_variables(alloc: Global, literals: &[Literal], parts: &[Numbers]) ->
         let literals_of_part = literals_at(alloc, literals, part.as_slice())?;
         lists.push(variables_of(alloc, literals_of_part.as_slice())?)?;
     }
-    Ok(share_no_numbers(lists.as_slice()))
+    share_no_numbers(alloc, lists.as_slice())
 }
 
 /// Whether no number is in two lists.
-fn share_no_numbers(lists: &[Vec<u32>]) -> bool
-    ensures { result ≡ share_no_numbers (map (λ list. list.items) lists.now) }
+fn share_no_numbers(alloc: Global, lists: &[Vec<u32>]) -> Mem<bool>
+    ensures { IfOk result (λ apart. apart ≡ share_no_numbers (map (λ list. list.items) lists.now)) }
 {
-    for index in 0..lists.len() {
-        if !is_apart(lists[index].as_slice(), &lists[index + 1..]) {
-            return false;
+    let mut met = HashSet::new(alloc);
+    for list in lists {
+        if has_any(&met, list.as_slice()) {
+            return Ok(false);
         }
+        put_all(&mut met, list.as_slice())?;
     }
-    true
+    Ok(true)
 }
 
-/// Whether no number of a list is in one of the others.
-fn is_apart(numbers: &[u32], others: &[Vec<u32>]) -> bool
-    ensures { result ≡ list_all (λ other. not (share_number numbers.now other.items)) others.now }
+/// Whether one of the numbers is in a set.
+fn has_any(met: &HashSet<u32>, numbers: &[u32]) -> bool
+    ensures { result ≡ list_any (contains nat_eq met.now) numbers.now }
 {
-    others
-        .iter()
-        .all(|other| !share_number(numbers, other.as_slice()))
+    numbers.iter().any(|number| met.contains(number))
 }
 
-/// Whether a number is in both lists.
-fn share_number(numbers: &[u32], others: &[u32]) -> bool
-    ensures { result ≡ share_number numbers.now others.now }
+/// Adds numbers to a set.
+fn put_all(met: &mut HashSet<u32>, numbers: &[u32]) -> Mem<()>
+    ensures { IfOk result (λ _. (n : ℕ) → contains nat_eq met.new n ≡ (has_number n numbers.now || contains nat_eq met.old n)) }
 {
-    numbers.iter().any(|number| has_number(others, *number))
-}
-
-fn has_number(numbers: &[u32], number: u32) -> bool
-    ensures { result ≡ has_number number numbers.now }
-{
-    numbers.iter().any(|other| number == *other)
+    for number in numbers {
+        met.insert(*number)?;
+    }
+    Ok(())
 }
 
 /// Whether each definition is there and defines its part.
@@ -241,12 +257,8 @@ fn defines(alloc: Global, definition: ParentRef<'_>, part: &[LiteralRef<'_>]) ->
         return Ok(false);
     }
     let variables = variables_of(alloc, part)?;
-    let order = distinct(alloc, variables.as_slice())?;
-    Ok(are_renamed(
-        part,
-        order.as_slice(),
-        definition.clause.literals.as_slice(),
-    ))
+    let places = first_places(alloc, variables.as_slice())?;
+    Ok(are_renamed(part, &places, definition.clause.literals.as_slice()))
 }
 
 /// The literals at places.
@@ -279,83 +291,86 @@ fn variables_of(alloc: Global, part: &[LiteralRef<'_>]) -> Mem<Vec<u32>>
     Ok(found)
 }
 
-/// The different numbers of a list, in the order of their first places.
-fn distinct(alloc: Global, numbers: &[u32]) -> Mem<Vec<u32>>
-    ensures { IfOk result (λ order. order.items ≡ distinct numbers.now) }
+/// For each number of a list its place among the different ones, in the order in which these first stand.
+fn first_places(alloc: Global, numbers: &[u32]) -> Mem<HashMap<u32, usize>>
+    ensures { IfOk result (λ places. (n : ℕ) → get nat_eq places n ≡ place_of n (distinct numbers.now)) }
 {
-    let mut order = Vec::new(alloc);
+    let mut places = HashMap::new(alloc);
     for number in numbers {
-        if !has_number(order.as_slice(), *number) {
-            order.push(*number)?;
+        if !places.contains_key(number) {
+            let next = places.len();
+            places.insert(*number, next)?;
         }
     }
-    Ok(order)
+    Ok(places)
 }
 
-/// Whether literals become others where each variable gets its place in the order as its number.
-fn are_renamed(part: &[LiteralRef<'_>], order: &[u32], targets: &[Literal]) -> bool
-    ensures { result ≡ literals_eq (map (literal_instance (renaming order.now)) (map lent_of part.now)) (map literal_of targets.now) }
+/// Whether literals become others where each variable gets its place as its number.
+fn are_renamed(part: &[LiteralRef<'_>], places: &HashMap<u32, usize>, targets: &[Literal]) -> bool
+    ensures { result ≡ literals_eq (map (literal_instance (renamed places.now)) (map lent_of part.now)) (map literal_of targets.now) }
 {
     if part.len() != targets.len() {
         return false;
     }
     for index in 0..part.len() {
-        if !is_renamed_literal(part[index], order, targets[index].lend()) {
+        if !is_renamed_literal(part[index], places, targets[index].lend()) {
             return false;
         }
     }
     true
 }
 
-fn is_renamed_literal(literal: LiteralRef<'_>, order: &[u32], target: LiteralRef<'_>) -> bool
-    ensures { result ≡ literal_eq (literal_instance (renaming order.now) (lent_of literal.entry)) (lent_of target.entry) }
+fn is_renamed_literal(
+    literal: LiteralRef<'_>,
+    places: &HashMap<u32, usize>,
+    target: LiteralRef<'_>,
+) -> bool
+    ensures { result ≡ literal_eq (literal_instance (renamed places.now) (lent_of literal.entry)) (lent_of target.entry) }
 {
     literal.positive == target.positive
-        && is_renamed(literal.left, order, target.left)
-        && is_renamed(literal.right, order, target.right)
+        && is_renamed(literal.left, places, target.left)
+        && is_renamed(literal.right, places, target.right)
 }
 
 #[cycle(is_renamed)]
-fn is_renamed(term: &Term, order: &[u32], target: &Term) -> bool
-    ensures { result ≡ tree_eq (instance (renaming order.now) (tree_of term.now)) (tree_of target.now) }
+fn is_renamed(term: &Term, places: &HashMap<u32, usize>, target: &Term) -> bool
+    ensures { result ≡ tree_eq (instance (renamed places.now) (tree_of term.now)) (tree_of target.now) }
 {
     match term {
         Term::Var(variable) => match target {
-            Term::Var(number) => is_number_of(order, *variable, *number),
+            Term::Var(number) => is_number_of(places, *variable, *number),
             Term::App(_, _) => false,
         },
         Term::App(first, ones) => match target {
             Term::Var(_) => false,
             Term::App(second, others) => {
-                *first == *second && are_all_renamed(ones.as_slice(), order, others.as_slice())
+                *first == *second && are_all_renamed(ones.as_slice(), places, others.as_slice())
             }
         },
     }
 }
 
 #[cycle(is_renamed)]
-fn are_all_renamed(terms: &[Term], order: &[u32], targets: &[Term]) -> bool
-    ensures { result ≡ trees_eq (instances (renaming order.now) (trees_of (map tree_of terms.now))) (trees_of (map tree_of targets.now)) }
+fn are_all_renamed(terms: &[Term], places: &HashMap<u32, usize>, targets: &[Term]) -> bool
+    ensures { result ≡ trees_eq (instances (renamed places.now) (trees_of (map tree_of terms.now))) (trees_of (map tree_of targets.now)) }
 {
     if terms.len() != targets.len() {
         return false;
     }
     for index in 0..terms.len() {
-        if !is_renamed(&terms[index], order, &targets[index]) {
+        if !is_renamed(&terms[index], places, &targets[index]) {
             return false;
         }
     }
     true
 }
 
-/// Whether a variable gets a number: its place in the order, or its own number where it isn't there.
-fn is_number_of(order: &[u32], variable: u32, number: u32) -> bool
-    ensures { result ≡ (unwrap_or (place_of variable order.now) variable == number) }
+/// Whether a variable gets a number: its place, or its own number where it has none.
+fn is_number_of(places: &HashMap<u32, usize>, variable: u32, number: u32) -> bool
+    ensures { result ≡ (unwrap_or (get nat_eq places.now variable) variable == number) }
 {
-    for place in 0..order.len() {
-        if variable == order[place] {
-            return place as u64 == u64::from(number);
-        }
+    match places.get(&variable) {
+        Some(place) => *place as u64 == u64::from(number),
+        None => variable == number,
     }
-    variable == number
 }

@@ -7,6 +7,3 @@ pub mod laws;
 
 pub use choice::{Selection, selected};
 pub use eligibility::{eligible, eligible_under};
-
-#[cfg(test)]
-mod tests;

@@ -19,6 +19,3 @@ pub use memory::{Files, MemFile, MemLibrary, SureLibrary};
 pub use memory_sink::MemSink;
 pub use sink::Sink;
 pub use stdout::StdoutSink;
-
-#[cfg(test)]
-mod tests;

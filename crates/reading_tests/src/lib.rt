@@ -5,6 +5,8 @@
 #[cfg(test)]
 mod entries;
 #[cfg(test)]
+mod files;
+#[cfg(test)]
 mod problems;
 #[cfg(test)]
 mod sources;

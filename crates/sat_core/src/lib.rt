@@ -17,5 +17,3 @@ pub use answer::{Answer, Chain, Link, Links, Log, PropClauses, Truths, names_are
 pub use solver::solve;
 
 pub mod laws;
-#[cfg(test)]
-mod tests;

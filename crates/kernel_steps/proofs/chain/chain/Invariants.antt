@@ -7,6 +7,6 @@ use Rattle.kernel_steps.proofs.chain.chain.Given as goal
 
 abbrev pub invariant-loop-index : goal.invariant-loop-index
 invariant-loop-index g l =
-    option_and_then (chained_from l.names.items (drop l.index l.pivots))
+    option_and_then (chained_from l.names (drop l.index l.pivots))
     (all_there (map (names_at (g.P.LendsParents.meaning l.parents)) (drop (l.index + 1) l.numbers)))
     ≡ option_and_then (λ nss. chained nss l.pivots) (all_there (map (names_at (g.P.LendsParents.meaning l.parents)) l.numbers))

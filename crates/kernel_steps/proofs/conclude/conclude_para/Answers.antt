@@ -8,10 +8,9 @@ use Rattle.fol_base.specs.Ground.{literals_instance}
 use Rattle.fol_base.specs.Literal.{literal_of}
 use Rattle.fol_base.specs.Rules.{superposed}
 use Rattle.fol_base.specs.declared.clause.Literal.{Literal}
-use Rattle.kernel_steps.specs.Names.{with_names, sorted_names}
+use Rattle.kernel_steps.specs.Names.{sorted_names}
 use Rattle.kernel_steps.specs.Parents.{parent_of}
 use Rattle.kernel_steps.specs.Conclusion.{verdict_of, concludes, clause_with}
-use Rattle.kernel_steps.proofs.NameLemmas.{with_names-append}
 use Rattle.kernel_steps.proofs.CallLemmas.{by_two-there}
 use Rattle.kernel_steps.proofs.conclude.conclude_para.Goals as goal
 
@@ -33,8 +32,8 @@ returns-in-None c =
     ∙ ap₂ (λ ls b. given ls b c.bound-2.result.literals.now c.bound-2.result.bind.now) c.bound.ensures.literals c.bound.ensures.bind
     ∙ ap₂ (λ ks d. given c.in-Some.first.clause.now.literals c.args.first_bind.now ks d) c.bound-2.ensures.literals c.bound-2.ensures.bind))
 
-pub returns-in_ok-put_names-in-Some-made : goal.returns-in_ok-put_names-in-Some-made
-returns-in_ok-put_names-in-Some-made c =
+pub returns-in_ok-names-in-Some-made : goal.returns-in_ok-names-in-Some-made
+returns-in_ok-names-in-Some-made c =
     let rule = λ (ls ks : List TreeLiteral). superposed ls c.args.from c.args.from_side ks c.args.into c.args.into_side c.args.place.now in
     let given = λ (ls : List Literal) (b : List Tree) (ks : List Literal) (d : List Tree).
     rule (literals_instance (substitution b) (map literal_of ls)) (literals_instance (substitution d) (map literal_of ks)) in
@@ -52,8 +51,6 @@ returns-in_ok-put_names-in-Some-made c =
     ∙ ap₂ (λ ks d. given c.in-Some.first.clause.now.literals c.args.first_bind.now ks d) c.bound-2.ensures.literals c.bound-2.ensures.bind))
     ∙ ap₂ (λ (ls : List TreeLiteral) (ns : List NameLit). concludes (record { literals = ls; names = ns }))
     (ap (map literal_of) (sym c.with_names.ensures.literals))
-    (with_names-append p.clause.names q.clause.names _
-    ∙ ap (with_names q.clause.names) (ap sorted_names (sym c.as_slice.ensures) ∙ sym c.in_ok-names-in-Some-made.ensures)
-    ∙ ap (λ ns. with_names ns c.in_ok-names-in-Some-made.names.items) (sym c.as_slice-in-Some-made.ensures)
-    ∙ sym c.in_ok-put_names-in-Some-made.ensures
+    (ap₂ (λ (ns ms : List NameLit). sorted_names (ns ++ ms)) (sym c.as_slice.ensures) (sym c.as_slice-in-Some-made.ensures)
+    ∙ sym c.in_ok-names-in-Some-made.ensures
     ∙ sym c.with_names.ensures.names)

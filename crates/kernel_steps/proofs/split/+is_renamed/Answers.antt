@@ -2,7 +2,7 @@ use Rattle.std.proofs.Common.{◌<◌, ◌+◌, ◌*◌, map, refl, ap, sym, ◌
 use Rattle.std.proofs.lemmas.List.{length-map}
 use Rattle.fol_base.specs.Tree.{tree_size, trees_size, trees_eq, trees_of}
 use Rattle.fol_base.specs.Instance.{instance}
-use Rattle.fol_base.specs.Canonical.{renaming}
+use Rattle.kernel_steps.specs.Split.{renamed}
 use Rattle.fol_base.specs.Term.{tree_of}
 use Rattle.fol_base.proofs.TreeLemmas.{trees_eq-lengths, instances-trees_of}
 use Rattle.fol_base.proofs.TermLemmas.{tree_size-item, length-trees}
@@ -10,7 +10,7 @@ use Rattle.kernel_steps.proofs.split.+is_renamed.Goals as goal
 
 pub are_all_renamed-returns-then-terms-targets : goal.are_all_renamed-returns-then-terms-targets
 are_all_renamed-returns-then-terms-targets t c =
-    let σ = renaming c.args.order.now in
+    let σ = renamed c.args.places.now in
     let ts = map tree_of c.args.terms.now in
     trees_eq-lengths (map (instance σ) ts) (map tree_of c.args.targets.now)
     (λ e. c.if-terms-targets.true

@@ -1,7 +1,7 @@
 use Rattle.std.proofs.Common.{◌≡◌, ◌+◌, ◌*◌, map, drop}
 use Rattle.fol_base.specs.Tree.{tree_size, trees_size, trees_of, trees_eq}
 use Rattle.fol_base.specs.Term.{tree_of}
-use Rattle.fol_base.specs.Canonical.{renaming}
+use Rattle.kernel_steps.specs.Split.{renamed}
 use Rattle.fol_base.specs.Instance.{instances}
 use Rattle.kernel_steps.proofs.split.+is_renamed.Given as goal
 
@@ -13,5 +13,5 @@ decreases-are_all_renamed l = 2 * trees_size (trees_of (map tree_of l.terms.now)
 
 abbrev pub invariant-are_all_renamed-loop-index : goal.invariant-are_all_renamed-loop-index
 invariant-are_all_renamed-loop-index l =
-    trees_eq (instances (renaming l.order) (trees_of (map tree_of (drop l.index l.terms)))) (trees_of (map tree_of (drop l.index l.targets)))
-    ≡ trees_eq (instances (renaming l.order) (trees_of (map tree_of l.terms))) (trees_of (map tree_of l.targets))
+    trees_eq (instances (renamed l.places) (trees_of (map tree_of (drop l.index l.terms)))) (trees_of (map tree_of (drop l.index l.targets)))
+    ≡ trees_eq (instances (renamed l.places) (trees_of (map tree_of l.terms))) (trees_of (map tree_of l.targets))

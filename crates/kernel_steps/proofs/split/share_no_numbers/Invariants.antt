@@ -1,7 +1,11 @@
-use Rattle.std.proofs.Common.{◌≡◌, map, drop}
+use Rattle.std.proofs.Common.{◌≡◌, ◌&&◌, nat_eq, map, drop}
+use Rattle.std.specs.HashSet.{contains}
 use Rattle.kernel_steps.specs.Split.{share_no_numbers}
+use Rattle.kernel_steps.proofs.SplitTables.{none_passes}
 use Rattle.kernel_steps.proofs.split.share_no_numbers.Given as goal
 
-abbrev pub invariant-loop-index : goal.invariant-loop-index
-invariant-loop-index l =
-    share_no_numbers (map (λ list. list.items) (drop l.index l.lists)) ≡ share_no_numbers (map (λ list. list.items) l.lists)
+abbrev pub invariant-loop-list : goal.invariant-loop-list
+invariant-loop-list l =
+    (none_passes (contains nat_eq l.met) (map (λ list. list.items) (drop l.list-index l.lists))
+    && share_no_numbers (map (λ list. list.items) (drop l.list-index l.lists)))
+    ≡ share_no_numbers (map (λ list. list.items) l.lists)

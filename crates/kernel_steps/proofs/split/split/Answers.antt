@@ -1,12 +1,11 @@
-use Rattle.std.proofs.Common.{List, [], map, ap, ap₂, sym, ◌∙◌}
+use Rattle.std.proofs.Common.{List, ◌++◌, map, ap, ap₂, sym, ◌∙◌}
 use Rattle.plain_types.specs.declared.sequence.NameLit.{NameLit}
 use Rattle.fol_base.specs.Clause.{TreeLiteral}
 use Rattle.fol_base.specs.Literal.{literal_of}
-use Rattle.kernel_steps.specs.Names.{with_names, sorted_names}
+use Rattle.kernel_steps.specs.Names.{sorted_names}
 use Rattle.kernel_steps.specs.Parents.{parent_of}
 use Rattle.kernel_steps.specs.Split.{can_split, opposites}
 use Rattle.kernel_steps.specs.Conclusion.{verdict_of, concludes}
-use Rattle.kernel_steps.proofs.NameLemmas.{with_names-append}
 use Rattle.kernel_steps.proofs.SplitLemmas.{split-made, split-none}
 use Rattle.kernel_steps.proofs.split.split.Goals as goal
 
@@ -30,7 +29,4 @@ returns g c =
     ∙ c.if-not-branch.false))
     ∙ ap₂ (λ (ls : List TreeLiteral) (ns : List NameLit). concludes (record { literals = ls; names = ns }))
     (sym (ap (map literal_of) c.new.ensures))
-    (with_names-append p.clause.names (opposites os) []
-    ∙ ap (with_names (opposites os)) (ap sorted_names (sym c.as_slice.ensures) ∙ sym c.in_ok-names.ensures)
-    ∙ sym c.in_ok-put_opposites.ensures
-    ∙ sym c.from_vec.ensures)
+    (ap (λ ns. sorted_names (ns ++ opposites os)) (sym c.as_slice.ensures) ∙ sym c.in_ok-names.ensures ∙ sym c.from_vec.ensures)

@@ -1,9 +1,0 @@
-use Rattle.std.proofs.Common.{◌≡◌, drop}
-use Rattle.plain_types.specs.Names.{without}
-use Rattle.kernel_steps.specs.Names.{with_names}
-use Rattle.kernel_steps.proofs.names.put_others.Given as goal
-
-abbrev pub invariant-loop-name : goal.invariant-loop-name
-invariant-loop-name l =
-    with_names (without l.left_out (drop l.name-index l.names)) l.sorted.items
-    ≡ with_names (without l.left_out l.names) l.initial.sorted.items
