@@ -1,5 +1,5 @@
 -- From the answers of the stages to the answer of a command.
-use Rattle.std.proofs.Common.{◌≡◌, ℕ, List, Option, None, Some, subst, sym, inl}
+use Rattle.std.proofs.Common.{◌≡◌, ℕ, List, None, Some, subst, sym, inl}
 use Rattle.signature.specs.Form.{clausal_form}
 use Rattle.ground_loop.specs.Scope.{first_outside}
 use Rattle.tptp_tree.specs.declared.problem.Annotated.{Annotated}

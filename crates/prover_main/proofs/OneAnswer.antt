@@ -14,7 +14,7 @@ use Rattle.ground_loop.specs.Scope.{first_outside}
 use Rattle.clausal_form.specs.Fault.{form_fault}
 use Rattle.clausal_form.specs.DerivationCauses.{Cause as LineCause, text, order, unknown_parent, leaf, clausification, binding, rule, conclusion, new_symbol, no_empty_clause}
 use Rattle.clausal_form.specs.DerivationLines.{Answer as LineAnswer, accepted, refused_line}
-use Rattle.clausal_form.specs.DerivationTexts.{IsAnswerOn, IsAcceptedDerivation, IsRefusedDerivation}
+use Rattle.clausal_form.specs.DerivationTexts.{IsAnswerOn}
 use Rattle.clausal_form.specs.declared.fault.FormCause.{FormCause}
 use Rattle.clausal_form.specs.DerivationLaws.{TextsHaveOneAnswer}
 use Rattle.tstp_checker.specs.Causes.{cause_meant}

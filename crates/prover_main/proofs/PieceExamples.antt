@@ -1,5 +1,5 @@
 -- What no delivery in pieces does at a sink that is given its answers: it makes no write behind one that failed.
-use Rattle.std.proofs.Common.{◌≡◌, ◌⊎◌, inl, inr, ℕ, List, [], ◌∷◌, ap, sym, subst, refl, ◌∙◌}
+use Rattle.std.proofs.Common.{◌≡◌, ℕ, List, [], ◌∷◌, ap, sym, subst, refl, ◌∙◌}
 use Rattle.std.specs.Prelude.{Result, Ok, Err}
 use Rattle.outside.specs.Examples.{Script, script_gives}
 use Rattle.outside.specs.Sink.{Delivers, none_left, takes, fails}

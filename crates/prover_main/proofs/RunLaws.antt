@@ -1,14 +1,14 @@
 -- The statuses of runs come for their causes, and valid inputs are answered.
 use Rattle.std.proofs.Common.{◌≡◌, ◌⊎◌, inl, inr, ℕ, List, ◌++◌, Option, None, Some, refl, ap, sym, subst, ◌∙◌, arith}
-use Rattle.std.specs.Prelude.{Bool, true, false, Result, Ok, Err, IfSome, codes}
+use Rattle.std.specs.Prelude.{true, Result, Ok, Err, IfSome, codes}
 use Rattle.outside.specs.Faults.{Rose}
 use Rattle.outside.specs.Sink.{with_bytes}
 use Rattle.outside.specs.declared.fault.SinkFault.{SinkFault}
 use Rattle.tptp_tree.specs.declared.problem.Annotated.{Annotated}
 use Rattle.tptp_reader.specs.declared.cause.ReadCause.{ReadCause}
 use Rattle.tptp_reader.specs.declared.cause.ReadCause.TheVariants.{Inappropriate, Load}
-use Rattle.clausal_form.specs.DerivationLines.{Answer as LineAnswer, accepted, refused_line}
-use Rattle.clausal_form.specs.DerivationTexts.{IsAcceptedDerivation, IsRefusedDerivation, IsAnswerOn}
+use Rattle.clausal_form.specs.DerivationLines.{accepted, refused_line}
+use Rattle.clausal_form.specs.DerivationTexts.{IsAcceptedDerivation, IsRefusedDerivation}
 use Rattle.clausal_form.specs.DerivationLaws.{TextsHaveOneAnswer}
 use Rattle.tstp_checker.specs.Causes.{cause_meant}
 use Rattle.tstp_checker.specs.declared.cause.Cause.{Cause}
@@ -16,9 +16,9 @@ use Rattle.prover_main.specs.Outside.{Outside}
 use Rattle.prover_main.specs.Words.{Command, prove, check, command_of}
 use Rattle.prover_main.specs.declared.answer.Answer.{Answer}
 use Rattle.prover_main.specs.declared.answer.Answer.TheVariants.{Refuted, Spent, Closed, NotBuilt, Accepted, Refused, Unloaded, Unread, Unformed}
-use Rattle.prover_main.specs.Answer.{Source, IsFormed, IsUnread, IsUnformed, IsLoaded, IsJudged, IsTooLong, IsLoadAnswer, IsProveAnswer, IsCheckAnswer, IsAnswer}
+use Rattle.prover_main.specs.Answer.{Source, IsUnread, IsLoaded, IsJudged, IsTooLong, IsProveAnswer, IsCheckAnswer, IsAnswer}
 use Rattle.prover_main.specs.Reports.{status_of, read_status, report_of, status_line, load_line}
-use Rattle.prover_main.specs.Run.{file_of, Taken, IsAnswered, IsMemoryOut, IsDueTo, IsDue, IsDelivery, status_after, IsRun}
+use Rattle.prover_main.specs.Run.{file_of, Taken, IsDueTo, IsDue, IsDelivery, status_after, IsRun}
 use Rattle.prover_main.specs.Laws.{IsTold, is_exact, EndsWith, EndsInMemoryOut, UsageIsSix, CommandsAreAnswered, EndsInLoadFault, FaultsAreCounted, HasCause, FaultsComeForCauses, IsValid, FormedIsValid, Reported, ProveEnds, with_refutation, with_limit_reached, with_closed_sets, with_clause_not_built, without_memory, ValidProblemsAreAnswered, CheckEnds, with_acceptance, with_refusal, check_without_memory, LoadedDerivationsAreAnswered}
 use Rattle.prover_main.proofs.OneAnswer.{fault-read, not-load, unformed-formed, text-one, loaded-short, faults-are-the-only-answer, checks-have-one-answer}
 

@@ -1,9 +1,9 @@
 -- A ground form without equations has predicates in front of its literals, so that a closed list of sets gives an interpretation.
-use Rattle.std.proofs.Common.{◌≡◌, ◌<◌, ℕ, suc, Bool, true, false, not, ◌&&◌, ◌||◌, ◌==◌, List, [], ◌∷◌, length, refl, ap, sym, ◌∙◌, subst, arith}
-use Rattle.std.specs.Prelude.{All, IsTrue}
+use Rattle.std.proofs.Common.{◌≡◌, ℕ, suc, Bool, true, false, not, ◌&&◌, ◌||◌, ◌==◌, List, [], ◌∷◌, refl, ap, sym, subst, arith}
+use Rattle.std.specs.Prelude.{IsTrue}
 use Rattle.std.specs.List.{list_all}
 use Rattle.std.proofs.lemmas.Bool.{true≢false, false≢true, and_parts, and_from}
-use Rattle.fol_base.specs.Tree.{Tree, variable, application, Trees, no_trees, true_symbol, is_truth, trees_eq}
+use Rattle.fol_base.specs.Tree.{Tree, variable, application, no_trees, true_symbol, is_truth, trees_eq}
 use Rattle.fol_base.specs.Ground.{are_ground}
 use Rattle.fol_base.specs.GroundForm.{is_ground_atom, is_atom_literal, IsGroundClause, IsGroundForm}
 use Rattle.fol_base.specs.Clause.{TreeLiteral, TreeClause}

@@ -1,6 +1,6 @@
 -- The values of the worked examples.
-use Rattle.std.specs.Prelude.{ℕ, List, [], ◌∷◌, false, codes, Result}
-use Rattle.outside.specs.Examples.{Script, script_gives}
+use Rattle.std.specs.Prelude.{ℕ, List, [], false, codes, Result}
+use Rattle.outside.specs.Examples.{script_gives}
 use Rattle.outside.specs.declared.fault.SinkFault.{SinkFault}
 use Rattle.tptp_tree.specs.declared.formula.Formula.TheVariants.{Pred}
 use Rattle.tptp_tree.specs.declared.problem.Annotated.{Annotated}

@@ -1,5 +1,5 @@
 -- The laws of runs: statuses come for their causes, each exactly where it says so, and a valid input is answered.
-use Rattle.std.specs.Prelude.{◌≡◌, ◌⊎◌, ◌==◌, ◌||◌, ◌++◌, ℕ, true, Bool, List, Option, None, Some, IfSome, codes}
+use Rattle.std.specs.Prelude.{◌≡◌, ◌⊎◌, ◌==◌, ◌||◌, ◌++◌, ℕ, true, Bool, List, None, Some, IfSome, codes}
 use Rattle.outside.specs.Faults.{Rose}
 use Rattle.outside.specs.Library.{Holdings}
 use Rattle.outside.specs.Sink.{with_bytes}
