@@ -1,13 +1,13 @@
 -- From the answers of the stages to the answer of a command.
-use Rattle.std.proofs.Common.{◌≡◌, ℕ, List, Option, None, Some, subst, sym, inl}
+use Rattle.std.proofs.Common.{◌≡◌, ℕ, List, None, Some, subst, sym, inl}
 use Rattle.signature.specs.Form.{clausal_form}
 use Rattle.ground_loop.specs.Scope.{first_outside}
 use Rattle.tptp_tree.specs.declared.problem.Annotated.{Annotated}
 use Rattle.prover_main.specs.Outside.{Outside}
 use Rattle.prover_main.specs.declared.answer.Answer.{Answer}
 use Rattle.prover_main.specs.declared.answer.Answer.TheVariants.{Refuted, Spent, Closed, NotBuilt, Accepted, Refused, Unloaded, Unread, Unformed}
-use Rattle.prover_main.specs.Answer.{Source, IsFormed, IsBuilt, IsLoaded, IsProveAnswer, IsCheckAnswer}
-use Rattle.prover_main.specs.AnswerShape.{IsFormedFrom, IsStop, IsStopAnswer, IsJudgement, IsGroundProof, IsProofAnswer, IsNotBuiltAnswer}
+use Rattle.prover_main.specs.Answer.{Source, IsFormed, OfFormed, IsProofAnswer, IsLoaded, IsJudgement, IsProveAnswer, IsCheckAnswer}
+use Rattle.prover_main.specs.AnswerShape.{IsFormedFrom, IsStop, IsStopAnswer, IsGroundProof, IsNotBuiltAnswer}
 use Rattle.prover_main.specs.declared.problem.FormedProblem.{FormedProblem}
 use Rattle.prover_main.specs.declared.problem.Stop.{Stop}
 use Rattle.prover_main.specs.declared.problem.Stop.TheVariants.{NoMemory, Unread as NotRead, Unformed as NotFormed}
@@ -29,14 +29,20 @@ stop_checks outside source derivation (NotFormed cause name) answer h e = subst 
 is_formed : (outside : Outside) (source : Source) (formed : FormedProblem) → IsFormedFrom outside.told source formed → IsFormed outside source formed.problem.formulas
 is_formed outside source formed h = record { read = h.read; within = h.within }
 
+-- what is said of the formulas of a problem that was formed
+of_formed :
+    (outside : Outside) (source : Source) (formed : FormedProblem) (Says : List Annotated → Type 0)
+    → IsFormedFrom outside.told source formed → Says formed.problem.formulas → OfFormed outside source Says
+of_formed outside source formed Says h says = record { formulas = formed.problem.formulas; formed = is_formed outside source formed h; says = says }
+
 -- what the ground loop answers, where it takes the form
 pub ground_proves :
     (formulas : List Annotated) (limit : ℕ) (answer : Answer)
     → first_outside (clausal_form formulas).clauses ≡ None → IsGroundProof formulas limit answer → IsProofAnswer formulas limit answer
 ground_proves formulas limit (NotBuilt name) none p = absurd p
-ground_proves formulas limit (Refuted conjecture derivation) none p = (p, none)
-ground_proves formulas limit (Spent count allowed) none p = (p, none)
-ground_proves formulas limit Closed none p = (p, none)
+ground_proves formulas limit (Refuted conjecture derivation) none p = (none, p)
+ground_proves formulas limit (Spent count allowed) none p = (none, p)
+ground_proves formulas limit Closed none p = (none, p)
 ground_proves formulas limit (Accepted lines) none p = absurd p
 ground_proves formulas limit (Refused line cause) none p = absurd p
 ground_proves formulas limit (Unloaded name) none p = absurd p
@@ -53,65 +59,24 @@ not_built_proves formulas limit index answer first h =
 pub proof_proves :
     (outside : Outside) (source : Source) (limit : ℕ) (formed : FormedProblem) (answer : Answer)
     → IsFormedFrom outside.told source formed → IsProofAnswer formed.problem.formulas limit answer → IsProveAnswer outside source limit answer
-proof_proves outside source limit formed (Refuted conjecture derivation) h p =
-    record {
-      formulas = formed.problem.formulas;
-      built = record { formed = is_formed outside source formed h; none_outside = p.1 };
-      conjecture_is = p.0.conjecture_is;
-      lines = p.0.lines;
-      accepted = p.0.accepted;
-      herbrand = p.0.herbrand;
-    }
-proof_proves outside source limit formed (Spent count allowed) h p =
-    record {
-      formulas = formed.problem.formulas;
-      built = record { formed = is_formed outside source formed h; none_outside = p.1 };
-      count_is = p.0.0;
-      allowed_is = p.0.1;
-      triples = p.0.2;
-    }
-proof_proves outside source limit formed Closed h p =
-    record {
-      formulas = formed.problem.formulas;
-      built = record { formed = is_formed outside source formed h; none_outside = p.1 };
-      sets = p.0.0;
-      satisfied = p.0.1;
-    }
-proof_proves outside source limit formed (NotBuilt name) h p =
-    record {
-      formulas = formed.problem.formulas;
-      formed = is_formed outside source formed h;
-      index = p.index;
-      is_outside = p.is_outside;
-      name_is = p.name_is;
-    }
-proof_proves outside source limit formed (Accepted lines) h p = absurd p.0
-proof_proves outside source limit formed (Refused line cause) h p = absurd p.0
-proof_proves outside source limit formed (Unloaded name) h p = absurd p.0
-proof_proves outside source limit formed (Unread cause name place) h p = absurd p.0
-proof_proves outside source limit formed (Unformed cause name) h p = absurd p.0
+proof_proves outside source limit formed (Refuted conjecture derivation) h p = of_formed outside source formed _ h p
+proof_proves outside source limit formed (Spent count allowed) h p = of_formed outside source formed _ h p
+proof_proves outside source limit formed Closed h p = of_formed outside source formed _ h p
+proof_proves outside source limit formed (NotBuilt name) h p = of_formed outside source formed _ h p
+proof_proves outside source limit formed (Accepted lines) h p = absurd p
+proof_proves outside source limit formed (Refused line cause) h p = absurd p
+proof_proves outside source limit formed (Unloaded name) h p = absurd p
+proof_proves outside source limit formed (Unread cause name place) h p = absurd p
+proof_proves outside source limit formed (Unformed cause name) h p = absurd p
 
 pub judgement_checks :
     (outside : Outside) (source : Source) (derivation text : List ℕ) (formed : FormedProblem) (answer : Answer)
     → IsFormedFrom outside.told source formed → IsLoaded outside derivation text → IsJudgement formed.problem.formulas text answer
     → IsCheckAnswer outside source derivation answer
 judgement_checks outside source derivation text formed (Accepted lines) h l j =
-    record {
-      formulas = formed.problem.formulas;
-      formed = is_formed outside source formed h;
-      text = text;
-      loaded = l;
-      accepted = j.0;
-      herbrand = j.1;
-    }
+    of_formed outside source formed _ h (record { text = text; loaded = l; judgement = j })
 judgement_checks outside source derivation text formed (Refused line cause) h l j =
-    inl (record {
-      formulas = formed.problem.formulas;
-      formed = is_formed outside source formed h;
-      text = text;
-      loaded = l;
-      refused = j;
-    })
+    of_formed outside source formed _ h (inl (record { text = text; loaded = l; judgement = j }))
 judgement_checks outside source derivation text formed (Unloaded name) h l j = absurd j
 judgement_checks outside source derivation text formed (Unread cause name place) h l j = absurd j
 judgement_checks outside source derivation text formed (Unformed cause name) h l j = absurd j

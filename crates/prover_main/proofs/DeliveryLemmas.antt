@@ -4,10 +4,10 @@ use Rattle.std.specs.Prelude.{Result, Ok, Err, OnOk, OnErr, IsErrAnd}
 use Rattle.std.proofs.lemmas.List.{append_assoc, append-nil, length-append, map-append, take_more, take-append-le, take-append-drop}
 use Rattle.std.proofs.Math.Seq.{take-append-add}
 use Rattle.outside.specs.Faults.{Rose}
-use Rattle.outside.specs.Sink.{with_bytes, HasPrefixAfter}
+use Rattle.outside.specs.Sink.{with_bytes, HasPrefixAfter, Delivers, none_left}
 use Rattle.outside.specs.declared.fault.SinkFault.{SinkFault}
 use Rattle.prover_main.specs.Names.{shown_byte, shown}
-use Rattle.prover_main.specs.Run.{Taken, IsDelivery}
+use Rattle.prover_main.specs.Run.{Taken, IsDelivery, DeliversInPieces, at_once, front_and_back, front_alone}
 
 -- what `deliver` ensures, in one
 pub delivered :
@@ -104,3 +104,52 @@ cut_at before between after bytes i x e is h p =
     sym (map-append shown_byte (take (i + 1) bytes) (drop (i + 1) bytes)) ∙ ap shown (take-append-drop (i + 1) bytes) in
     subst (HasPrefixAfter before after) all
     (in_front before after (shown (take (i + 1) bytes)) (shown (drop (i + 1) bytes)) (subst (HasPrefixAfter before after) more here))
+
+-- ---- the writes of pieces
+
+-- a piece and those behind it
+pub pieces-both :
+    {S : Type 0} (gives : S → List ℕ → Result ℕ SinkFault → S → Type 0) (before between after : S) (a b : List ℕ) (r : Result (Unit {0}) SinkFault)
+    → DeliversInPieces gives before a (Ok tt) between → DeliversInPieces gives between b r after → DeliversInPieces gives before (a ++ b) r after
+pieces-both gives before between after a b r d e = front_and_back a b d e
+
+-- a piece that failed, and none behind it
+pub pieces-cut :
+    {S : Type 0} (gives : S → List ℕ → Result ℕ SinkFault → S → Type 0) (before after : S) (a b : List ℕ) (fault : SinkFault)
+    → DeliversInPieces gives before a (Err fault) after → DeliversInPieces gives before (a ++ b) (Err fault) after
+pieces-cut gives before after a b fault d = front_alone a b d
+
+-- the failure is handed on
+pub pieces-handed_on :
+    {S : Type 0} (gives : S → List ℕ → Result ℕ SinkFault → S → Type 0) (before after : S) (text : List ℕ) (r : Result (Unit {0}) SinkFault)
+    (fault : SinkFault)
+    → IsErrAnd r (λ e. e ≡ fault) → DeliversInPieces gives before text (Err fault) after → DeliversInPieces gives before text r after
+pieces-handed_on gives before after text (Ok u) fault is d = absurd is
+pieces-handed_on gives before after text (Err e) fault is d = subst (λ (f : SinkFault). DeliversInPieces gives before text (Err f) after) (sym is) d
+
+-- no byte, and a byte more
+pub pieces-none : {S : Type 0} (gives : S → List ℕ → Result ℕ SinkFault → S → Type 0) (before : S) → DeliversInPieces gives before [] (Ok tt) before
+pieces-none gives before = at_once none_left
+
+pub pieces-byte :
+    {S : Type 0} (gives : S → List ℕ → Result ℕ SinkFault → S → Type 0) (before between after : S) (bytes : List ℕ) (i x : ℕ)
+    → x ≡ shown_byte (get_or bytes i 0) → i < length bytes
+    → DeliversInPieces gives before (shown (take i bytes)) (Ok tt) between → Delivers gives between (x ∷ []) (Ok tt) after
+    → DeliversInPieces gives before (shown (take (i + 1) bytes)) (Ok tt) after
+pieces-byte gives before between after bytes i x is h d w =
+    let more : shown (take i bytes) ++ x ∷ [] ≡ shown (take (i + 1) bytes) = ap (λ (y : ℕ). shown (take i bytes) ++ y ∷ []) is ∙ shown-more bytes i h in
+    subst (λ (t : List ℕ). DeliversInPieces gives before t (Ok tt) after) more (front_and_back (shown (take i bytes)) (x ∷ []) d (at_once w))
+
+-- the byte that failed
+pub pieces-byte_cut :
+    {S : Type 0} (gives : S → List ℕ → Result ℕ SinkFault → S → Type 0) (before between after : S) (bytes : List ℕ) (i x : ℕ) (fault : SinkFault)
+    → x ≡ shown_byte (get_or bytes i 0) → i < length bytes
+    → DeliversInPieces gives before (shown (take i bytes)) (Ok tt) between → Delivers gives between (x ∷ []) (Err fault) after
+    → DeliversInPieces gives before (shown bytes) (Err fault) after
+pieces-byte_cut gives before between after bytes i x fault is h d w =
+    let more : shown (take i bytes) ++ x ∷ [] ≡ shown (take (i + 1) bytes) = ap (λ (y : ℕ). shown (take i bytes) ++ y ∷ []) is ∙ shown-more bytes i h in
+    let all : shown (take (i + 1) bytes) ++ shown (drop (i + 1) bytes) ≡ shown bytes =
+    sym (map-append shown_byte (take (i + 1) bytes) (drop (i + 1) bytes)) ∙ ap shown (take-append-drop (i + 1) bytes) in
+    subst (λ (t : List ℕ). DeliversInPieces gives before t (Err fault) after) all
+    (pieces-cut gives before after (shown (take (i + 1) bytes)) (shown (drop (i + 1) bytes)) fault
+    (subst (λ (t : List ℕ). DeliversInPieces gives before t (Err fault) after) more (front_and_back (shown (take i bytes)) (x ∷ []) d (at_once w))))

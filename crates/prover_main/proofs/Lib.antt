@@ -12,3 +12,4 @@ pub mod DeliveryLemmas
 pub mod PlacedLemmas
 pub mod OneAnswer
 pub mod RunLaws
+pub mod PieceExamples

@@ -14,7 +14,7 @@ use Rattle.ground_loop.specs.Scope.{first_outside}
 use Rattle.clausal_form.specs.Fault.{form_fault}
 use Rattle.clausal_form.specs.DerivationCauses.{Cause as LineCause, text, order, unknown_parent, leaf, clausification, binding, rule, conclusion, new_symbol, no_empty_clause}
 use Rattle.clausal_form.specs.DerivationLines.{Answer as LineAnswer, accepted, refused_line}
-use Rattle.clausal_form.specs.DerivationTexts.{IsAnswerOn, IsAcceptedDerivation, IsRefusedDerivation}
+use Rattle.clausal_form.specs.DerivationTexts.{IsAnswerOn}
 use Rattle.clausal_form.specs.declared.fault.FormCause.{FormCause}
 use Rattle.clausal_form.specs.DerivationLaws.{TextsHaveOneAnswer}
 use Rattle.tstp_checker.specs.Causes.{cause_meant}
@@ -23,8 +23,7 @@ use Rattle.tstp_checker.specs.declared.cause.Cause.TheVariants.{Text, Order, Unk
 use Rattle.prover_main.specs.Outside.{Outside}
 use Rattle.prover_main.specs.declared.answer.Answer.{Answer}
 use Rattle.prover_main.specs.declared.answer.Answer.TheVariants.{Refuted, Spent, Closed, NotBuilt, Accepted, Refused, Unloaded, Unread, Unformed}
-use Rattle.prover_main.specs.Answer.{Source, IsRead, IsFormed, IsUnread, IsUnformed, IsLoaded, IsProveAnswer, IsCheckAnswer, formula_of_clause}
-use Rattle.prover_main.specs.AnswerShape.{IsOutsideIn}
+use Rattle.prover_main.specs.Answer.{Source, IsRead, IsFormed, IsUnread, IsUnformed, IsNotBuilt, IsLoaded, IsJudged, IsTooLong, IsProveAnswer, IsCheckAnswer, formula_of_clause}
 use Rattle.prover_main.specs.Reports.{status_of}
 use Rattle.prover_main.specs.Laws.{IsTold, is_exact, ChecksHaveOneAnswer, FaultsAreTheOnlyAnswer}
 use Rattle.prover_main.proofs.PlacedLemmas.{placed-one}
@@ -103,7 +102,7 @@ stage-one outside source behind a b t one (at_work fs h v) (at_work gs k w) =
 -- ---- `prove`: a clause isn't built, or the loop takes all
 
 data Worked (fs : List Annotated) (a : Answer) : Type 0 where
-  out_of_scope : (n : List ℕ) → IsOutsideIn fs n → a ≡ NotBuilt n → Worked fs a
+  out_of_scope : (n : List ℕ) → IsNotBuilt fs n → a ≡ NotBuilt n → Worked fs a
   in_scope : first_outside (clausal_form fs).clauses ≡ None → is_exact (status_of a) ≡ false → Worked fs a
 
 of_name : Option (List ℕ) → Answer
@@ -114,7 +113,7 @@ of_clause : List Annotated → Option ℕ → Answer
 of_clause fs None = Closed
 of_clause fs (Some i) = of_name (option_map (λ (a : Annotated). a.name) (formula_of_clause fs i))
 
-not-built-one : (fs : List Annotated) (n m : List ℕ) → IsOutsideIn fs n → IsOutsideIn fs m → NotBuilt n ≡ NotBuilt m
+not-built-one : (fs : List Annotated) (n m : List ℕ) → IsNotBuilt fs n → IsNotBuilt fs m → NotBuilt n ≡ NotBuilt m
 unfolding of_name of_clause
 not-built-one fs n m h k =
     let same : Some h.index ≡ Some k.index = sym h.is_outside ∙ k.is_outside in
@@ -129,16 +128,15 @@ worked-one fs a b x (out_of_scope n h e) (in_scope none i) = absurd (some-none h
 worked-one fs a b x (in_scope none e) w = true-false (is_exact (status_of a)) x e
 
 prove-stage : (outside : Outside) (source : Source) (limit : ℕ) (a : Answer) → IsProveAnswer outside source limit a → Stage outside source Worked a
-prove-stage outside source limit (Refuted c d) h = at_work h.formulas h.built.formed (in_scope h.built.none_outside refl)
-prove-stage outside source limit (Spent n m) h = at_work h.formulas h.built.formed (in_scope h.built.none_outside refl)
-prove-stage outside source limit Closed h = at_work h.formulas h.built.formed (in_scope h.built.none_outside refl)
-prove-stage outside source limit (NotBuilt n) h =
-    at_work h.formulas h.formed (out_of_scope n (record { index = h.index; is_outside = h.is_outside; name_is = h.name_is }) refl)
+prove-stage outside source limit (Refuted c d) h = at_work h.formulas h.formed (in_scope h.says.0 refl)
+prove-stage outside source limit (Spent n m) h = at_work h.formulas h.formed (in_scope h.says.0 refl)
+prove-stage outside source limit Closed h = at_work h.formulas h.formed (in_scope h.says.0 refl)
+prove-stage outside source limit (NotBuilt n) h = at_work h.formulas h.formed (out_of_scope n h.says refl)
 prove-stage outside source limit (Unread c f p) h = at_reading c f p h refl
 prove-stage outside source limit (Unformed c n) h = at_forming c n h refl
-prove-stage outside source limit (Accepted n) h = absurd h
-prove-stage outside source limit (Refused n c) h = absurd h
-prove-stage outside source limit (Unloaded n) h = absurd h
+prove-stage outside source limit (Accepted n) h = absurd h.says
+prove-stage outside source limit (Refused n c) h = absurd h.says
+prove-stage outside source limit (Unloaded n) h = absurd h.says
 
 pub faults-are-the-only-answer : FaultsAreTheOnlyAnswer
 faults-are-the-only-answer outside source limit a b t x h k =
@@ -210,17 +208,21 @@ judged-one one outside derivation t fs a b (too_long f e) (on_text y w m k i) = 
 judged-one one outside derivation t fs a b (too_long f e) (too_long g i) = e ∙ sym i
 
 check-stage : (outside : Outside) (source : Source) (derivation : List ℕ) (t : IsTold outside) (a : Answer) → IsCheckAnswer outside source derivation a → Stage outside source (Judged outside derivation) a
-check-stage outside source derivation t (Accepted n) h = at_work h.formulas h.formed (on_text h.text (accepted n) h.loaded h.accepted (accepted-back n))
-check-stage outside source derivation t (Refused n c) (inl h) =
-    at_work h.formulas h.formed (on_text h.text (refused_line n (cause_meant c)) h.loaded h.refused (refused-back n c))
-check-stage outside source derivation t (Refused n c) (inr h) = at_work h.formulas h.formed (too_long h.found (ap₂ Refused h.line_is h.cause_is))
-check-stage outside source derivation t (Unloaded n) h = absurd (t.stays h.rose)
+check-stage outside source derivation t (Accepted n) h =
+    at_work h.formulas h.formed (on_text h.says.text (accepted n) h.says.loaded h.says.judgement.0 (accepted-back n))
+check-stage outside source derivation t (Refused n c) h = at_work h.formulas h.formed (by h.says)
+  where
+    by :
+        IsJudged outside derivation h.formulas (Refused n c) ⊎ IsTooLong outside derivation n c → Judged outside derivation h.formulas (Refused n c)
+    by (inl j) = on_text j.text (refused_line n (cause_meant c)) j.loaded j.judgement (refused-back n c)
+    by (inr l) = too_long l.found (ap₂ Refused l.line_is l.cause_is)
+check-stage outside source derivation t (Unloaded n) h = absurd (t.stays h.says.rose)
 check-stage outside source derivation t (Unread c f p) h = at_reading c f p h refl
 check-stage outside source derivation t (Unformed c n) h = at_forming c n h refl
-check-stage outside source derivation t (Refuted c d) h = absurd h
-check-stage outside source derivation t (Spent n m) h = absurd h
-check-stage outside source derivation t Closed h = absurd h
-check-stage outside source derivation t (NotBuilt n) h = absurd h
+check-stage outside source derivation t (Refuted c d) h = absurd h.says.judgement
+check-stage outside source derivation t (Spent n m) h = absurd h.says.judgement
+check-stage outside source derivation t Closed h = absurd h.says.judgement
+check-stage outside source derivation t (NotBuilt n) h = absurd h.says.judgement
 
 pub checks-have-one-answer : TextsHaveOneAnswer → ChecksHaveOneAnswer
 checks-have-one-answer one outside source derivation a b t h k =

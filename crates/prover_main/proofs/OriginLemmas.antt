@@ -1,11 +1,10 @@
 -- Where the clauses of a clausal form come from: for each there is a formula of the problem.
 use Rattle.std.proofs.Common.{◌≡◌, ◌≤◌, ◌<◌, ℕ, zero, suc, ◌+◌, List, [], ◌∷◌, ◌++◌, length, map, get_or, refl, ap, sym, ◌∙◌, subst, arith}
-use Rattle.std.specs.Prelude.{Option, None, Some, slice_get, option_map, option_and_then}
+use Rattle.std.specs.Prelude.{Option, Some, slice_get, option_map, option_and_then}
 use Rattle.std.proofs.lemmas.Option.{get_or_from_slice_get}
 use Rattle.prover_main.specs.Answer.{formula_of_clause}
 use Rattle.std.proofs.lemmas.List.{length-append, length-map}
 use Rattle.tptp_tree.specs.declared.problem.Annotated.{Annotated}
-use Rattle.fol_base.specs.Clause.{TreeClause}
 use Rattle.fol_base.specs.Literal.{clause_of}
 use Rattle.signature.specs.Form.{ClausalForm, symbol_numbers, nothing_made, clausal_form}
 use Rattle.clausal_form.specs.Form.{form_of}

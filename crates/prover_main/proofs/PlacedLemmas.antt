@@ -1,8 +1,8 @@
 -- A problem's formulas are told by their trees, files and places.
 use Rattle.std.proofs.Common.{◌≡◌, List, [], ◌∷◌, map, refl, ap, ap₂, sym, ◌∙◌}
 use Rattle.std.specs.Prelude.{true, false}
-use Rattle.tptp_tree.specs.Term.{TermTree, TermTrees, variable, application, terms_of, list_of_terms}
-use Rattle.tptp_tree.specs.Formula.{FormulaTree, FormulaTrees, truth, falsity, predicate, equation, negation, conjunction, disjunction, connected, quantified, implies, implied, equivalent, different, nor, nand, for_all, exists_some, formulas_of, list_of_formulas}
+use Rattle.tptp_tree.specs.Term.{TermTree, variable, application, terms_of, list_of_terms}
+use Rattle.tptp_tree.specs.Formula.{FormulaTree, truth, falsity, predicate, equation, negation, conjunction, disjunction, connected, quantified, implies, implied, equivalent, different, nor, nand, for_all, exists_some, formulas_of, list_of_formulas}
 use Rattle.tptp_tree.specs.Shape.{term_of, formula_of}
 use Rattle.tptp_tree.specs.declared.term.TreeTerm.{TreeTerm}
 use Rattle.tptp_tree.specs.declared.term.TreeTerm.TheVariants.{Var, App}

@@ -1,25 +1,29 @@
 -- From what was delivered to what a run answers.
 use Rattle.std.proofs.Common.{◌≡◌, ℕ, Option, None, Some, List, refl, subst}
+use Rattle.std.specs.Prelude.{Result}
+use Rattle.outside.specs.declared.fault.SinkFault.{SinkFault}
 use Rattle.prover_main.specs.Words.{Command, command_of}
 use Rattle.prover_main.specs.Outside.{Outside}
 use Rattle.prover_main.specs.Reports.{usage_report}
-use Rattle.prover_main.specs.Run.{IsAnswered, IsDueTo, IsDue, Taken, Delivered, IsRun}
+use Rattle.prover_main.specs.Run.{IsAnswered, IsDueTo, IsDue, Taken, DeliveredBy, IsRunBy}
 
 pub run_usage :
+    {S : Type 0} (gives : S → List ℕ → Result ℕ SinkFault → S → Type 0) (before after : S)
     (words : List (List ℕ)) (outside : Outside) (taken : Taken) (status : ℕ)
-    → None ≡ command_of words → outside.faults_after ≡ outside.faults_before → Delivered taken 6 usage_report status
-    → IsRun words outside taken status
-run_usage words outside taken status e calm d =
+    → None ≡ command_of words → outside.faults_after ≡ outside.faults_before → DeliveredBy gives before after taken 6 usage_report status
+    → IsRunBy gives before after words outside taken status
+run_usage gives before after words outside taken status e calm d =
     let P : Option Command → Type 0 = λ k. IsDue k outside 6 usage_report in
-    record { due = 6; text = usage_report; is_due = subst P e (refl, refl, calm); delivered = d }
+    record { run = record { due = 6; text = usage_report; is_due = subst P e (refl, refl, calm); delivered = d.0 }; writes = d.1 }
 
 pub run_due :
+    {S : Type 0} (gives : S → List ℕ → Result ℕ SinkFault → S → Type 0) (before after : S)
     (words : List (List ℕ)) (outside : Outside) (taken : Taken) (command : Command) (due : ℕ) (text : List ℕ) (status : ℕ)
-    → Some command ≡ command_of words → IsDueTo command outside due text → Delivered taken due text status
-    → IsRun words outside taken status
-run_due words outside taken command due text status e cause d =
+    → Some command ≡ command_of words → IsDueTo command outside due text → DeliveredBy gives before after taken due text status
+    → IsRunBy gives before after words outside taken status
+run_due gives before after words outside taken command due text status e cause d =
     let P : Option Command → Type 0 = λ k. IsDue k outside due text in
-    record { due = due; text = text; is_due = subst P e cause; delivered = d }
+    record { run = record { due = due; text = text; is_due = subst P e cause; delivered = d.0 }; writes = d.1 }
 
 pub due_text :
     (outside : Outside) (command : Command) (status : ℕ) (text shown : List ℕ)

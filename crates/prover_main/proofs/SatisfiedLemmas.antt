@@ -1,9 +1,9 @@
 -- A ground form without equations has predicates in front of its literals, so that a closed list of sets gives an interpretation.
-use Rattle.std.proofs.Common.{◌≡◌, ◌<◌, ℕ, suc, Bool, true, false, not, ◌&&◌, ◌||◌, ◌==◌, List, [], ◌∷◌, length, refl, ap, sym, ◌∙◌, subst, arith}
-use Rattle.std.specs.Prelude.{All, IsTrue}
+use Rattle.std.proofs.Common.{◌≡◌, ℕ, suc, Bool, true, false, not, ◌&&◌, ◌||◌, ◌==◌, List, [], ◌∷◌, refl, ap, sym, subst, arith}
+use Rattle.std.specs.Prelude.{IsTrue}
 use Rattle.std.specs.List.{list_all}
 use Rattle.std.proofs.lemmas.Bool.{true≢false, false≢true, and_parts, and_from}
-use Rattle.fol_base.specs.Tree.{Tree, variable, application, Trees, no_trees, true_symbol, is_truth, trees_eq}
+use Rattle.fol_base.specs.Tree.{Tree, variable, application, no_trees, true_symbol, is_truth, trees_eq}
 use Rattle.fol_base.specs.Ground.{are_ground}
 use Rattle.fol_base.specs.GroundForm.{is_ground_atom, is_atom_literal, IsGroundClause, IsGroundForm}
 use Rattle.fol_base.specs.Clause.{TreeLiteral, TreeClause}
@@ -18,6 +18,7 @@ use Rattle.signature.specs.Form.{clausal_form}
 use Rattle.clausal_form.specs.FormLaws.{use_of}
 use Rattle.clausal_form.specs.FormFunctions.{is_predicate_in}
 use Rattle.clausal_form.proofs.WellFormedLemmas.{forms-are-well-formed}
+use Rattle.prover_main.specs.Answer.{IsClosed}
 
 -- `$true` is no function term, and no head of a ground atom is `$true`
 no-function : (p : ℕ → Bool) (t : Tree) → is_truth t ≡ true → is_function_term p t ≡ false
@@ -84,13 +85,14 @@ form-predicates fs g =
 pub closed-answer :
     (fs : List Annotated) (clauses : List TreeClause) (limit : ℕ) (answer : Ground)
     → clauses ≡ (clausal_form fs).clauses → IsGroundForm clauses → IsGroundAnswer clauses limit answer → HasMeaning clauses answer → answer ≡ Closed
-    → HasClosedSets (clausal_form fs).clauses × Satisfied (is_predicate_in (clausal_form fs).symbols) (clausal_form fs).clauses
+    → IsClosed fs
 closed-answer fs clauses limit answer e ground is means closed =
     let sets : HasClosedSets clauses = subst (IsGroundAnswer clauses limit) closed is in
-    let meaning : (p : ℕ → Bool) → IsTrue (are_predicate_atoms p clauses) → Satisfied p clauses = subst (HasMeaning clauses) closed means in (
-      subst HasClosedSets e sets,
-      subst (Satisfied (is_predicate_in (clausal_form fs).symbols)) e
+    let meaning : (p : ℕ → Bool) → IsTrue (are_predicate_atoms p clauses) → Satisfied p clauses = subst (HasMeaning clauses) closed means in
+    record {
+      sets = subst HasClosedSets e sets;
+      satisfied = subst (Satisfied (is_predicate_in (clausal_form fs).symbols)) e
           (meaning (is_predicate_in (clausal_form fs).symbols)
           (subst (λ cs. IsTrue (are_predicate_atoms (is_predicate_in (clausal_form fs).symbols) cs)) (sym e)
-          (form-predicates fs (subst IsGroundForm e ground)))),
-    )
+          (form-predicates fs (subst IsGroundForm e ground))));
+    }

@@ -9,7 +9,7 @@ use Rattle.tptp_source.specs.Items.{decimal_in}
 use Rattle.std.proofs.lemmas.List.{take-append-drop}
 use Rattle.std.proofs.lemmas.Slice.Eq.{bytes_eq-Decides}
 use Rattle.prover_main.specs.Words.{Options, Command, prove, check, is_option, is_filled, file_words, value_behind, no_options, within_limits, limit_in, with_root, with_inferences, with_limit, with_option_by, with_option, options_in, prove_with, check_with, command_of}
-use Rattle.prover_main.specs.WordParts.{IsFit, FewWords, no_word, one_word, two_words, more_words, few_with, few_of, prove_few, check_few}
+use Rattle.prover_main.specs.WordParts.{IsFit, FewWords, more_words, few_with, few_of, prove_few, check_few}
 
 -- ---- counted words
 

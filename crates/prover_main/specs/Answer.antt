@@ -52,7 +52,13 @@ pub record IsUnformed (outside : Outside) (source : Source) (cause : FormCause) 
   pub read : IsRead outside source formulas
   pub fault : form_fault formulas ≡ Some (cause, name)
 
--- ---- `prove`
+-- The problem is within the limits, and this is said of its formulas.
+pub record OfFormed (outside : Outside) (source : Source) (Says : List Annotated → Type 0) : Type 0 where
+  pub formulas : List Annotated
+  pub formed : IsFormed outside source formulas
+  pub says : Says formulas
+
+-- ---- what `prove` says of the formulas
 
 abbrev pub has_conjecture : List Annotated → Bool
 has_conjecture formulas = list_any (λ (a : Annotated). is_conjecture a.role) formulas
@@ -61,102 +67,89 @@ has_conjecture formulas = list_any (λ (a : Annotated). is_conjecture a.role) fo
 abbrev pub formula_of_clause : List Annotated → ℕ → Option Annotated
 formula_of_clause formulas i = option_and_then (slice_get formulas) (slice_get (clausal_form formulas).origins i)
 
--- The formulas are those of the problem's file, within the limits, and each clause of their form is one that the ground loop takes.
-pub record IsBuilt (outside : Outside) (source : Source) (formulas : List Annotated) : Type 0 where
-  pub formed : IsFormed outside source formulas
-  pub none_outside : first_outside (clausal_form formulas).clauses ≡ None
+-- each clause of the form is one that the ground loop takes
+abbrev pub IsBuilt : List Annotated → Type 0
+IsBuilt formulas = first_outside (clausal_form formulas).clauses ≡ None
 
 -- The derivation is accepted, and so some finite list of ground instances of the clausal form is true in no interpretation.
-pub record IsRefuted (outside : Outside) (source : Source) (conjecture : Bool) (derivation : List ℕ) : Type 0 where
-  pub formulas : List Annotated
-  pub built : IsBuilt outside source formulas
+pub record IsRefuted (formulas : List Annotated) (conjecture : Bool) (derivation : List ℕ) : Type 0 where
   pub conjecture_is : conjecture ≡ has_conjecture formulas
   pub lines : ℕ
   pub accepted : IsAcceptedDerivation formulas derivation lines
   pub herbrand : IsHerbrandRefuted formulas
 
 -- As many different inferences as the limit.
-pub record IsSpent (outside : Outside) (source : Source) (limit count allowed : ℕ) : Type 0 where
-  pub formulas : List Annotated
-  pub built : IsBuilt outside source formulas
+pub record IsSpent (formulas : List Annotated) (limit count allowed : ℕ) : Type 0 where
   pub count_is : count ≡ limit
   pub allowed_is : allowed ≡ limit
   pub triples : HasTriples (clausal_form formulas).clauses limit
 
 -- A closed list of sets without the empty set, and so a finite interpretation that makes all clauses true.
-pub record IsClosed (outside : Outside) (source : Source) : Type 0 where
-  pub formulas : List Annotated
-  pub built : IsBuilt outside source formulas
+pub record IsClosed (formulas : List Annotated) : Type 0 where
   pub sets : HasClosedSets (clausal_form formulas).clauses
   pub satisfied : Satisfied (is_predicate_in (clausal_form formulas).symbols) (clausal_form formulas).clauses
 
 -- The first clause that has a variable, an equation or a name, or with which the form has too many symbols, is one of that formula.
-pub record IsNotBuilt (outside : Outside) (source : Source) (name : List ℕ) : Type 0 where
-  pub formulas : List Annotated
-  pub formed : IsFormed outside source formulas
+pub record IsNotBuilt (formulas : List Annotated) (name : List ℕ) : Type 0 where
   pub index : ℕ
   pub is_outside : first_outside (clausal_form formulas).clauses ≡ Some index
   pub name_is : option_map (λ (a : Annotated). a.name) (formula_of_clause formulas index) ≡ Some name
 
--- ---- `check`
+abbrev pub IsProofAnswer : List Annotated → ℕ → Answer → Type 0
+IsProofAnswer formulas limit (Refuted conjecture derivation) = IsBuilt formulas × IsRefuted formulas conjecture derivation
+IsProofAnswer formulas limit (Spent count allowed) = IsBuilt formulas × IsSpent formulas limit count allowed
+IsProofAnswer formulas limit Closed = IsBuilt formulas × IsClosed formulas
+IsProofAnswer formulas limit (NotBuilt name) = IsNotBuilt formulas name
+IsProofAnswer formulas limit other = ⊥
+
+-- ---- what `check` says of the formulas
 
 -- The text is that of the derivation's file.
 pub record IsLoaded (outside : Outside) (derivation : List ℕ) (text : List ℕ) : Type 0 where
   pub held : HoldsExactly outside.told derivation text
   pub short : length text ≤ MOST_TEXT_BYTES
 
--- Accepted, and so some finite list of ground instances of the clausal form is true in no interpretation.
-pub record IsAccepted (outside : Outside) (source : Source) (derivation : List ℕ) (lines : ℕ) : Type 0 where
-  pub formulas : List Annotated
-  pub formed : IsFormed outside source formulas
-  pub text : List ℕ
-  pub loaded : IsLoaded outside derivation text
-  pub accepted : IsAcceptedDerivation formulas text lines
-  pub herbrand : IsHerbrandRefuted formulas
+-- accepted, and so some finite list of ground instances of the clausal form is true in no interpretation; or refused at a line
+abbrev pub IsJudgement : List Annotated → List ℕ → Answer → Type 0
+IsJudgement formulas text (Accepted lines) = IsAcceptedDerivation formulas text lines × IsHerbrandRefuted formulas
+IsJudgement formulas text (Refused line cause) = IsRefusedDerivation formulas text line (cause_meant cause)
+IsJudgement formulas text other = ⊥
 
--- Refused at a line.
-pub record IsRefused (outside : Outside) (source : Source) (derivation : List ℕ) (line : ℕ) (cause : Cause) : Type 0 where
-  pub formulas : List Annotated
-  pub formed : IsFormed outside source formulas
+-- This is judged of the text of the derivation's file.
+pub record IsJudged (outside : Outside) (derivation : List ℕ) (formulas : List Annotated) (answer : Answer) : Type 0 where
   pub text : List ℕ
   pub loaded : IsLoaded outside derivation text
-  pub refused : IsRefusedDerivation formulas text line (cause_meant cause)
+  pub judgement : IsJudgement formulas text answer
 
 -- A file over the limit is refused as a text, at line 0.
-pub record IsTooLong (outside : Outside) (source : Source) (derivation : List ℕ) (line : ℕ) (cause : Cause) : Type 0 where
-  pub formulas : List Annotated
-  pub formed : IsFormed outside source formulas
+pub record IsTooLong (outside : Outside) (derivation : List ℕ) (line : ℕ) (cause : Cause) : Type 0 where
   pub found : FoundMore outside.told outside.found_after derivation MOST_TEXT_BYTES
   pub line_is : line ≡ 0
   pub cause_is : cause ≡ Text
 
 -- The library failed on the derivation's file.
-pub record IsUnloaded (outside : Outside) (source : Source) (derivation name : List ℕ) : Type 0 where
-  pub formulas : List Annotated
-  pub formed : IsFormed outside source formulas
+pub record IsUnloaded (outside : Outside) (derivation name : List ℕ) : Type 0 where
   pub rose : Rose outside.faults_before outside.faults_after
   pub name_is : name ≡ derivation
   pub failed : IfSome outside.failed_after (λ failed. failed ≡ derivation)
 
--- ---- by the command
+abbrev pub IsLoadAnswer : Outside → List ℕ → List Annotated → Answer → Type 0
+IsLoadAnswer outside derivation formulas (Unloaded name) = IsUnloaded outside derivation name
+IsLoadAnswer outside derivation formulas (Refused line cause) =
+    IsJudged outside derivation formulas (Refused line cause) ⊎ IsTooLong outside derivation line cause
+IsLoadAnswer outside derivation formulas answer = IsJudged outside derivation formulas answer
+
+-- ---- by the command: the first stage that fails answers
 
 abbrev pub IsProveAnswer : Outside → Source → ℕ → Answer → Type 0
-IsProveAnswer outside source limit (Refuted conjecture derivation) = IsRefuted outside source conjecture derivation
-IsProveAnswer outside source limit (Spent count allowed) = IsSpent outside source limit count allowed
-IsProveAnswer outside source limit Closed = IsClosed outside source
-IsProveAnswer outside source limit (NotBuilt name) = IsNotBuilt outside source name
 IsProveAnswer outside source limit (Unread cause file place) = IsUnread outside source cause file place
 IsProveAnswer outside source limit (Unformed cause name) = IsUnformed outside source cause name
-IsProveAnswer outside source limit of_check = ⊥
+IsProveAnswer outside source limit answer = OfFormed outside source (λ formulas. IsProofAnswer formulas limit answer)
 
 abbrev pub IsCheckAnswer : Outside → Source → List ℕ → Answer → Type 0
-IsCheckAnswer outside source derivation (Accepted lines) = IsAccepted outside source derivation lines
-IsCheckAnswer outside source derivation (Refused line cause) =
-    IsRefused outside source derivation line cause ⊎ IsTooLong outside source derivation line cause
-IsCheckAnswer outside source derivation (Unloaded name) = IsUnloaded outside source derivation name
 IsCheckAnswer outside source derivation (Unread cause file place) = IsUnread outside source cause file place
 IsCheckAnswer outside source derivation (Unformed cause name) = IsUnformed outside source cause name
-IsCheckAnswer outside source derivation of_prove = ⊥
+IsCheckAnswer outside source derivation answer = OfFormed outside source (λ formulas. IsLoadAnswer outside derivation formulas answer)
 
 abbrev pub IsAnswer : Outside → Command → Answer → Type 0
 IsAnswer outside (prove file root limit) answer = IsProveAnswer outside (record { file = file; root = root }) limit answer

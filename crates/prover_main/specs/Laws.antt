@@ -1,5 +1,5 @@
--- The laws of runs: where nothing fails, statuses come exactly for their causes, and a valid input is answered.
-use Rattle.std.specs.Prelude.{◌≡◌, ◌⊎◌, ◌==◌, ◌||◌, ℕ, true, Bool, List, Option, None, Some}
+-- The laws of runs: statuses come for their causes, each exactly where it says so, and a valid input is answered.
+use Rattle.std.specs.Prelude.{◌≡◌, ◌⊎◌, ◌==◌, ◌||◌, ◌++◌, ℕ, true, Bool, List, None, Some, IfSome, codes}
 use Rattle.outside.specs.Faults.{Rose}
 use Rattle.outside.specs.Library.{Holdings}
 use Rattle.outside.specs.Sink.{with_bytes}
@@ -7,13 +7,16 @@ use Rattle.tptp_tree.specs.declared.problem.Annotated.{Annotated}
 use Rattle.tptp_reader.specs.declared.cause.ReadCause.{ReadCause}
 use Rattle.tptp_reader.specs.declared.cause.ReadCause.TheVariants.{Load}
 use Rattle.tptp_problem.specs.Problem.{IsProblemFault}
-use Rattle.clausal_form.specs.DerivationTexts.{IsAcceptedDerivation}
+use Rattle.clausal_form.specs.DerivationTexts.{IsAcceptedDerivation, IsRefusedDerivation}
 use Rattle.clausal_form.specs.declared.fault.FormCause.{FormCause}
+use Rattle.tstp_checker.specs.Causes.{cause_meant}
+use Rattle.tstp_checker.specs.declared.cause.Cause.{Cause}
 use Rattle.prover_main.specs.Outside.{Outside}
 use Rattle.prover_main.specs.Words.{Command, prove, check, command_of}
 use Rattle.prover_main.specs.declared.answer.Answer.{Answer}
-use Rattle.prover_main.specs.Answer.{Source, IsFormed, IsUnformed, IsRefuted, IsSpent, IsClosed, IsNotBuilt, IsLoaded, IsProveAnswer, IsCheckAnswer, IsAnswer}
-use Rattle.prover_main.specs.Reports.{status_of, report_of, memory_out_report}
+use Rattle.prover_main.specs.declared.answer.Answer.TheVariants.{Refuted, Spent, Closed, NotBuilt, Accepted, Refused}
+use Rattle.prover_main.specs.Answer.{Source, IsFormed, IsUnformed, IsLoaded, IsProveAnswer, IsCheckAnswer, IsAnswer}
+use Rattle.prover_main.specs.Reports.{status_of, report_of, memory_out_report, status_line, load_line}
 use Rattle.prover_main.specs.Run.{file_of, Taken, IsRun}
 
 -- ---- where nothing fails
@@ -23,10 +26,6 @@ pub record IsTold (outside : Outside) : Type 0 where
   pub holds : Holdings
   pub told : outside.told ≡ Some holds
   pub stays : Rose outside.faults_before outside.faults_after → ⊥
-
--- the sink's count of faults didn't rise
-abbrev pub StaysSound : Taken → Type 0
-StaysSound taken = Rose taken.faults_before taken.faults_after → ⊥
 
 -- ---- one answer
 
@@ -49,42 +48,63 @@ FaultsAreTheOnlyAnswer =
 
 -- ---- statuses and causes
 
+-- The sink took the report of an answer.
+abbrev pub Reported : Command → Taken → Answer → Type 0
+Reported command taken answer = taken.bytes_after ≡ with_bytes taken.bytes_before (report_of (file_of command) answer)
+
 -- The status and the report are those of an answer.
 pub record EndsWith (command : Command) (taken : Taken) (status : ℕ) (answer : Answer) : Type 0 where
   pub status_is : status ≡ status_of answer
-  pub report_is : taken.bytes_after ≡ with_bytes taken.bytes_before (report_of (file_of command) answer)
+  pub report_is : Reported command taken answer
 
 -- They are those of want of memory.
 pub record EndsInMemoryOut (command : Command) (taken : Taken) (status : ℕ) : Type 0 where
   pub status_is : status ≡ 7
   pub report_is : taken.bytes_after ≡ with_bytes taken.bytes_before (memory_out_report (file_of command))
 
--- 6 comes exactly where the words are usage.
+-- 6 comes exactly where the words are usage, but that a write that fails takes its place.
 abbrev pub UsageIsSix : Type 0
 UsageIsSix =
-    (words : List (List ℕ)) (outside : Outside) (taken : Taken) (status : ℕ)
-    → StaysSound taken → IsRun words outside taken status
-    → (status ≡ 6 → command_of words ≡ None) × (command_of words ≡ None → status ≡ 6)
+    (words : List (List ℕ)) (outside : Outside) (taken : Taken) (status : ℕ) → IsRun words outside taken status
+    → (status ≡ 6 → command_of words ≡ None) × (command_of words ≡ None → (status ≡ 6) ⊎ (status ≡ 5))
 
--- Where they are a command, an answer whose cause is there is told in full, or memory was wanted.
+-- Where they are a command and no write failed, an answer whose cause is there is told in full, or memory was wanted.
 abbrev pub CommandsAreAnswered : Type 0
 CommandsAreAnswered =
     (words : List (List ℕ)) (outside : Outside) (taken : Taken) (status : ℕ) (command : Command)
-    → StaysSound taken → command_of words ≡ Some command → IsRun words outside taken status
+    → command_of words ≡ Some command → IsRun words outside taken status → (status ≡ 5 → ⊥)
     → ((answer : Answer) × IsAnswer outside command answer × EndsWith command taken status answer)
     ⊎ EndsInMemoryOut command taken status
+
+-- The library failed on a file that the report names, which is that of the library's last load that failed, where it tells.
+pub record EndsInLoadFault (command : Command) (outside : Outside) (taken : Taken) : Type 0 where
+  pub rose : Rose outside.faults_before outside.faults_after
+  pub name : List ℕ
+  pub failed : IfSome outside.failed_after (λ failed. failed ≡ name)
+  pub report_is :
+      taken.bytes_after ≡ with_bytes taken.bytes_before (status_line (codes "OSError") (file_of command) ++ load_line name)
+
+-- 5 comes only where the sink's count of faults rose, and 4 only where the library's did.
+pub record FaultsAreCounted : Type 0 where
+  pub of_sink :
+      (words : List (List ℕ)) (outside : Outside) (taken : Taken) (status : ℕ) → IsRun words outside taken status
+      → status ≡ 5 → Rose taken.faults_before taken.faults_after
+  pub of_library :
+      (words : List (List ℕ)) (outside : Outside) (taken : Taken) (status : ℕ) → IsRun words outside taken status
+      → status ≡ 4 → (command : Command) × (command_of words ≡ Some command) × EndsInLoadFault command outside taken
 
 -- an answer of that status has its cause
 abbrev pub HasCause : Outside → Command → ℕ → Type 0
 HasCause outside command status = (answer : Answer) × IsAnswer outside command answer × (status_of answer ≡ status)
 
--- 3, 8 and 9 come exactly for their causes, up to want of memory.
+-- 3, 8 and 9 come only for their causes; where the library tells and no load failed, they come for these always, but that want of
+-- memory and a write that fails take their place.
 abbrev pub FaultsComeForCauses : Type 0
 FaultsComeForCauses =
     (words : List (List ℕ)) (outside : Outside) (taken : Taken) (status : ℕ) (command : Command) (fault : ℕ)
-    → IsTold outside → StaysSound taken → command_of words ≡ Some command → IsRun words outside taken status
-    → is_exact fault ≡ true
-    → (status ≡ fault → HasCause outside command fault) × (HasCause outside command fault → (status ≡ fault) ⊎ (status ≡ 7))
+    → command_of words ≡ Some command → IsRun words outside taken status → is_exact fault ≡ true
+    → (status ≡ fault → HasCause outside command fault)
+    × (IsTold outside → HasCause outside command fault → (status ≡ fault) ⊎ ((status ≡ 7) ⊎ (status ≡ 5)))
 
 -- ---- completeness
 
@@ -101,33 +121,44 @@ FormedIsValid =
     (outside : Outside) (source : Source) (formulas : List Annotated) → IsTold outside → IsFormed outside source formulas
     → IsValid outside source
 
--- how `prove` ends on a valid input
-pub data ProveEnds (outside : Outside) (source : Source) (limit status : ℕ) : Type 0 where
+-- How `prove` ends on a valid input: its report is that of an answer that is so, or memory was wanted.
+pub data ProveEnds (outside : Outside) (source : Source) (limit : ℕ) (taken : Taken) (status : ℕ) : Type 0 where
   with_refutation :
-      (conjecture : Bool) (derivation : List ℕ) → status ≡ 0 → IsRefuted outside source conjecture derivation
-      → ProveEnds outside source limit status
-  with_limit_reached : (count allowed : ℕ) → status ≡ 2 → IsSpent outside source limit count allowed → ProveEnds outside source limit status
-  with_closed_sets : status ≡ 10 → IsClosed outside source → ProveEnds outside source limit status
-  with_clause_not_built : (name : List ℕ) → status ≡ 3 → IsNotBuilt outside source name → ProveEnds outside source limit status
-  without_memory : status ≡ 7 → ProveEnds outside source limit status
+      (conjecture : Bool) (derivation : List ℕ) → status ≡ 0
+      → IsProveAnswer outside source limit (Refuted conjecture derivation)
+      → Reported (prove source.file source.root limit) taken (Refuted conjecture derivation) → ProveEnds outside source limit taken status
+  with_limit_reached :
+      (count allowed : ℕ) → status ≡ 2 → IsProveAnswer outside source limit (Spent count allowed)
+      → Reported (prove source.file source.root limit) taken (Spent count allowed) → ProveEnds outside source limit taken status
+  with_closed_sets :
+      status ≡ 10 → IsProveAnswer outside source limit Closed → Reported (prove source.file source.root limit) taken Closed
+      → ProveEnds outside source limit taken status
+  with_clause_not_built :
+      (name : List ℕ) → status ≡ 3 → IsProveAnswer outside source limit (NotBuilt name)
+      → Reported (prove source.file source.root limit) taken (NotBuilt name) → ProveEnds outside source limit taken status
+  without_memory : EndsInMemoryOut (prove source.file source.root limit) taken status → ProveEnds outside source limit taken status
 
 abbrev pub ValidProblemsAreAnswered : Type 0
 ValidProblemsAreAnswered =
-    (words : List (List ℕ)) (outside : Outside) (taken : Taken) (status : ℕ) (file : List ℕ) (root : Option (List ℕ)) (limit : ℕ)
-    → IsTold outside → StaysSound taken → command_of words ≡ Some (prove file root limit) → IsRun words outside taken status
-    → IsValid outside (record { file = file; root = root })
-    → ProveEnds outside (record { file = file; root = root }) limit status
+    (words : List (List ℕ)) (outside : Outside) (taken : Taken) (status : ℕ) (source : Source) (limit : ℕ)
+    → IsTold outside → (status ≡ 5 → ⊥) → command_of words ≡ Some (prove source.file source.root limit) → IsRun words outside taken status
+    → IsValid outside source → ProveEnds outside source limit taken status
 
--- how `check` ends on a problem and the text of a derivation
-pub data CheckEnds (formulas : List Annotated) (text : List ℕ) (status : ℕ) : Type 0 where
-  with_acceptance : (lines : ℕ) → status ≡ 0 → IsAcceptedDerivation formulas text lines → CheckEnds formulas text status
-  with_refusal : status ≡ 9 → ((lines : ℕ) → IsAcceptedDerivation formulas text lines → ⊥) → CheckEnds formulas text status
-  check_without_memory : status ≡ 7 → CheckEnds formulas text status
+-- How `check` ends on a valid input and the text of a derivation: it tells whether the text is an accepted derivation of the
+-- problem's formulas, or memory was wanted.
+pub data CheckEnds (outside : Outside) (source : Source) (derivation text : List ℕ) (taken : Taken) (status : ℕ) : Type 0 where
+  with_acceptance :
+      (formulas : List Annotated) (lines : ℕ) → status ≡ 0 → IsFormed outside source formulas → IsAcceptedDerivation formulas text lines
+      → Reported (check source.file derivation source.root) taken (Accepted lines) → CheckEnds outside source derivation text taken status
+  with_refusal :
+      (formulas : List Annotated) (line : ℕ) (cause : Cause) → status ≡ 9 → IsFormed outside source formulas
+      → IsRefusedDerivation formulas text line (cause_meant cause) → ((lines : ℕ) → IsAcceptedDerivation formulas text lines → ⊥)
+      → Reported (check source.file derivation source.root) taken (Refused line cause) → CheckEnds outside source derivation text taken status
+  check_without_memory :
+      EndsInMemoryOut (check source.file derivation source.root) taken status → CheckEnds outside source derivation text taken status
 
 abbrev pub LoadedDerivationsAreAnswered : Type 0
 LoadedDerivationsAreAnswered =
-    (words : List (List ℕ)) (outside : Outside) (taken : Taken) (status : ℕ) (file derivation : List ℕ) (root : Option (List ℕ))
-    (formulas : List Annotated) (text : List ℕ)
-    → IsTold outside → StaysSound taken → command_of words ≡ Some (check file derivation root) → IsRun words outside taken status
-    → IsFormed outside (record { file = file; root = root }) formulas → IsLoaded outside derivation text
-    → CheckEnds formulas text status
+    (words : List (List ℕ)) (outside : Outside) (taken : Taken) (status : ℕ) (source : Source) (derivation text : List ℕ)
+    → IsTold outside → (status ≡ 5 → ⊥) → command_of words ≡ Some (check source.file derivation source.root) → IsRun words outside taken status
+    → IsValid outside source → IsLoaded outside derivation text → CheckEnds outside source derivation text taken status

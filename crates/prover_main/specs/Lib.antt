@@ -7,3 +7,4 @@ pub mod AnswerShape
 pub mod Reports
 pub mod Run
 pub mod Laws
+pub mod Examples

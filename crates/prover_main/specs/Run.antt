@@ -1,7 +1,7 @@
 -- What a run answers and prints, and why.
-use Rattle.std.specs.Prelude.{◌≡◌, ◌⊎◌, ℕ, List, Option, None, Some, Result, Ok, Err}
+use Rattle.std.specs.Prelude.{◌≡◌, ◌⊎◌, ℕ, List, ◌++◌, Option, None, Some, Result, Ok, Err}
 use Rattle.outside.specs.Faults.{Rose}
-use Rattle.outside.specs.Sink.{with_bytes, HasPrefixAfter}
+use Rattle.outside.specs.Sink.{with_bytes, HasPrefixAfter, Delivers}
 use Rattle.outside.specs.declared.fault.SinkFault.{SinkFault}
 use Rattle.prover_main.specs.Outside.{Outside}
 use Rattle.prover_main.specs.Words.{Command, prove, check, command_of}
@@ -67,6 +67,31 @@ pub record Delivered (taken : Taken) (due : ℕ) (text : List ℕ) (status : ℕ
   pub delivery : IsDelivery taken text outcome
   pub status_is : status ≡ status_after due outcome
 
+-- The writes of a text that is delivered in pieces; `gives` says how a sink answers a write and what it becomes. No piece is begun
+-- behind one that failed.
+pub data DeliversInPieces {S : Type 0} (gives : S → List ℕ → Result ℕ SinkFault → S → Type 0) : S → List ℕ → Result (Unit {0}) SinkFault → S → Type 0 where
+  at_once :
+      {sink after : S} {text : List ℕ} {result : Result (Unit {0}) SinkFault}
+      → Delivers gives sink text result after → DeliversInPieces gives sink text result after
+  front_and_back :
+      {sink next after : S} {result : Result (Unit {0}) SinkFault} (front back : List ℕ)
+      → DeliversInPieces gives sink front (Ok tt) next → DeliversInPieces gives next back result after
+      → DeliversInPieces gives sink (front ++ back) result after
+  front_alone :
+      {sink after : S} {fault : SinkFault} (front back : List ℕ)
+      → DeliversInPieces gives sink front (Err fault) after → DeliversInPieces gives sink (front ++ back) (Err fault) after
+
+-- A report is built whole before the first write, and each write is handed all bytes not yet taken; that memory was wanted is
+-- written in pieces. None is made behind one that failed.
+abbrev pub AreWrites : {S : Type 0} → (S → List ℕ → Result ℕ SinkFault → S → Type 0) → S → S → ℕ → List ℕ → Result (Unit {0}) SinkFault → Type 0
+AreWrites gives before after due text outcome =
+    Delivers gives before text outcome after ⊎ ((due ≡ 7) × DeliversInPieces gives before text outcome after)
+
+-- a report was delivered, by such writes
+abbrev pub DeliveredBy : {S : Type 0} → (S → List ℕ → Result ℕ SinkFault → S → Type 0) → S → S → Taken → ℕ → List ℕ → ℕ → Type 0
+DeliveredBy gives before after taken due text status =
+    (delivered : Delivered taken due text status) × AreWrites gives before after due text delivered.outcome
+
 -- Some report was due, and was delivered: the sink took the whole of it and its count of faults stayed; or it failed, and then the
 -- status is 5 and it took a prefix of that report.
 pub record IsRun (words : List (List ℕ)) (outside : Outside) (taken : Taken) (status : ℕ) : Type 0 where
@@ -74,3 +99,9 @@ pub record IsRun (words : List (List ℕ)) (outside : Outside) (taken : Taken) (
   pub text : List ℕ
   pub is_due : IsDue (command_of words) outside due text
   pub delivered : Delivered taken due text status
+
+-- and by such writes
+pub record IsRunBy {S : Type 0} (gives : S → List ℕ → Result ℕ SinkFault → S → Type 0) (before after : S)
+    (words : List (List ℕ)) (outside : Outside) (taken : Taken) (status : ℕ) : Type 0 where
+  pub run : IsRun words outside taken status
+  pub writes : AreWrites gives before after run.due run.text run.delivered.outcome

@@ -1,5 +1,5 @@
 -- The rule on the words of the command line, and the values that it gives.
-use Rattle.std.specs.Prelude.{ℕ, Bool, true, false, not, ◌&&◌, ◌||◌, ◌==◌, nat_le, List, [], ◌∷◌, length, take, drop, fold, Option, None, Some, option_map, option_and_then, unwrap_or, is_some, bytes_eq, if◌then◌else◌, codes}
+use Rattle.std.specs.Prelude.{ℕ, Bool, true, false, not, ◌&&◌, ◌==◌, nat_le, List, [], ◌∷◌, length, take, drop, fold, Option, None, Some, option_and_then, unwrap_or, is_some, bytes_eq, if◌then◌else◌, codes}
 use Rattle.std.specs.List.{filter}
 use Rattle.plain_types.specs.declared.limits.TheConstants.{DEFAULT_INFERENCES, MOST_INFERENCES}
 use Rattle.tptp_source.specs.Items.{decimal_in}

@@ -16,7 +16,8 @@ pub enum Answer {
         conjecture: bool,
         derivation: Text,
     },
-    /// So many inferences were counted, of so many that are allowed.
+    /// So many inferences were counted, of so many that are allowed. The ground loop stops at the limit, so today the two are one
+    /// number.
     Spent {
         count: u32,
         allowed: u32,

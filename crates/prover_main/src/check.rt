@@ -5,8 +5,7 @@ ghost use Rattle.std.specs.Option.{option_copied};
 ghost use Rattle.signature.specs.Form.{clausal_form};
 ghost use Rattle.clausal_form.specs.Form.{form_of};
 ghost use Rattle.prover_main.specs.Outside.{outside_by};
-ghost use Rattle.prover_main.specs.Answer.{IsCheckAnswer};
-ghost use Rattle.prover_main.specs.AnswerShape.{IsJudgement};
+ghost use Rattle.prover_main.specs.Answer.{IsCheckAnswer, IsJudgement};
 
 use crate::answer::Answer;
 use crate::problem::{FormedProblem, formed_problem};

@@ -1,14 +1,21 @@
-// The laws of runs, and worked reports: each is the contract of a function without arguments, whose body is empty or names the laws on which
-// it stands.
+// The laws of runs, and worked examples: each is the contract of a function without arguments, whose body is empty or
+// names the laws on which it stands.
 
-ghost use Rattle.std.specs.Prelude.{◌≡◌, true, false, codes};
-ghost use Rattle.clausal_form.specs.declared.fault.FormCause.TheVariants.{TooHeavy};
-ghost use Rattle.tptp_reader.specs.declared.cause.Form.TheVariants.{Typed};
-ghost use Rattle.tptp_reader.specs.declared.cause.ReadCause.TheVariants.{Syntax, Inappropriate, Load};
-ghost use Rattle.tstp_checker.specs.declared.cause.Cause.TheVariants.{Rule};
+ghost use Rattle.std.specs.Prelude.{◌≡◌, ℕ, true, false, [], ◌∷◌, List, None, Some, Ok, Err, Result, codes, map};
+ghost use Rattle.outside.specs.declared.fault.SinkFault.{SinkFault};
+ghost use Rattle.outside.specs.declared.fault.SinkFault.TheVariants.{Failed};
+ghost use Rattle.tptp_tree.specs.declared.role.Role.TheVariants.{Axiom, Conjecture, NegatedConjecture};
+ghost use Rattle.clausal_form.specs.declared.fault.FormCause.TheVariants.{Expansion, TooHeavy, TotalLimit};
+ghost use Rattle.tptp_reader.specs.declared.cause.Form.TheVariants.{Typed, RoleForm, Number, Distinct, Dollar};
+ghost use Rattle.tptp_reader.specs.declared.cause.ReadCause.TheVariants as read;
+ghost use Rattle.tstp_checker.specs.declared.cause.Cause.TheVariants as line;
 ghost use Rattle.prover_main.specs.declared.answer.Answer.TheVariants.{Refuted, Spent, Closed, NotBuilt, Accepted, Refused, Unloaded, Unread, Unformed};
-ghost use Rattle.prover_main.specs.Reports.{status_of, report_of, memory_out_report};
-ghost use Rattle.prover_main.specs.Laws.{ChecksHaveOneAnswer, FaultsAreTheOnlyAnswer, UsageIsSix, CommandsAreAnswered, FaultsComeForCauses, FormedIsValid, ValidProblemsAreAnswered, LoadedDerivationsAreAnswered};
+ghost use Rattle.prover_main.specs.Words.{command_of, prove, check};
+ghost use Rattle.prover_main.specs.Names.{shown, problem_name};
+ghost use Rattle.prover_main.specs.Answer.{has_conjecture};
+ghost use Rattle.prover_main.specs.Reports.{status_of, report_of, memory_out_report, read_word, form_word, limit_word, cause_word};
+ghost use Rattle.prover_main.specs.Laws.{is_exact, ChecksHaveOneAnswer, FaultsAreTheOnlyAnswer, UsageIsSix, CommandsAreAnswered, FaultsAreCounted, FaultsComeForCauses, FormedIsValid, ValidProblemsAreAnswered, LoadedDerivationsAreAnswered};
+ghost use Rattle.prover_main.specs.Examples.{formula_in, DeliversInPiecesBy};
 
 use clausal_form::laws::texts_have_one_answer;
 
@@ -21,12 +28,13 @@ pub fn one_answer()
     texts_have_one_answer();
 }
 
-/// Where no write failed, 6 comes exactly where the words are usage, and every other run tells an answer whose cause is
-/// there, or that memory was wanted. Where moreover the library tells and no load failed, 3, 8 and 9 come exactly for
-/// their causes, up to want of memory.
+/// 6 comes only where the words are usage. Every other run whose writes didn't fail tells an answer whose cause is there, or
+/// that memory was wanted. 5 and 4 come only where a count of faults rose. Where the library tells and no load failed,
+/// 3, 8 and 9 come exactly for their causes, up to want of memory and a write that fails.
 pub fn statuses_come_for_causes()
     ensures usage { UsageIsSix }
     ensures answered { CommandsAreAnswered }
+    ensures counted { FaultsAreCounted }
     ensures exactly { FaultsComeForCauses }
 {
     texts_have_one_answer();
@@ -43,8 +51,75 @@ pub fn valid_inputs_are_answered()
     texts_have_one_answer();
 }
 
-/// What is printed and with which status, for each answer: a problem's name is what stands behind the file's last slash,
-/// without a final `.p`.
+/// Words that are a command: options stand in any place behind it.
+pub fn command_examples()
+    ensures plain { command_of (codes "prove" ∷ codes "a" ∷ []) ≡ Some (prove (codes "a") None 100000) }
+    ensures root { command_of (codes "prove" ∷ codes "--tptp=D" ∷ codes "a" ∷ []) ≡ Some (prove (codes "a") (Some (codes "D")) 100000) }
+    ensures least { command_of (codes "prove" ∷ codes "a" ∷ codes "--inferences=1" ∷ []) ≡ Some (prove (codes "a") None 1) }
+    ensures most { command_of (codes "prove" ∷ codes "--inferences=1000000" ∷ codes "--tptp=D" ∷ codes "a" ∷ [])
+        ≡ Some (prove (codes "a") (Some (codes "D")) 1000000) }
+    ensures checked { command_of (codes "check" ∷ codes "a" ∷ codes "d" ∷ []) ≡ Some (check (codes "a") (codes "d") None) }
+    ensures checked_with_root { command_of (codes "check" ∷ codes "a" ∷ codes "d" ∷ codes "--tptp=D" ∷ [])
+        ≡ Some (check (codes "a") (codes "d") (Some (codes "D"))) }
+{}
+
+/// Words that are usage: another command; a number of files that isn't the command's, or one that is empty; an option that isn't
+/// the command's, stands twice, has no value, or has no number from 1 to 1,000,000 in plain digits.
+pub fn usage_examples()
+    ensures none { command_of [] ≡ None }
+    ensures other { command_of (codes "bench" ∷ codes "1" ∷ []) ≡ None }
+    ensures no_file { command_of (codes "prove" ∷ []) ≡ None }
+    ensures two_files { command_of (codes "prove" ∷ codes "a" ∷ codes "b" ∷ []) ≡ None }
+    ensures empty_file { command_of (codes "prove" ∷ [] ∷ []) ≡ None }
+    ensures no_derivation { command_of (codes "check" ∷ codes "a" ∷ []) ≡ None }
+    ensures empty_derivation { command_of (codes "check" ∷ codes "a" ∷ [] ∷ []) ≡ None }
+    ensures three_files { command_of (codes "check" ∷ codes "a" ∷ codes "d" ∷ codes "e" ∷ []) ≡ None }
+    ensures check_counts { command_of (codes "check" ∷ codes "a" ∷ codes "d" ∷ codes "--inferences=5" ∷ []) ≡ None }
+    ensures no_root { command_of (codes "prove" ∷ codes "a" ∷ codes "--tptp=" ∷ []) ≡ None }
+    ensures no_number { command_of (codes "prove" ∷ codes "a" ∷ codes "--inferences=" ∷ []) ≡ None }
+    ensures dash { command_of (codes "prove" ∷ codes "a" ∷ codes "-" ∷ []) ≡ None }
+    ensures unknown { command_of (codes "prove" ∷ codes "a" ∷ codes "--workers=2" ∷ []) ≡ None }
+    ensures twice { command_of (codes "prove" ∷ codes "--inferences=1" ∷ codes "a" ∷ codes "--inferences=1" ∷ []) ≡ None }
+    ensures two_roots { command_of (codes "prove" ∷ codes "--tptp=D" ∷ codes "a" ∷ codes "--tptp=E" ∷ []) ≡ None }
+    ensures no_inferences { command_of (codes "prove" ∷ codes "a" ∷ codes "--inferences=0" ∷ []) ≡ None }
+    ensures too_many { command_of (codes "prove" ∷ codes "a" ∷ codes "--inferences=1000001" ∷ []) ≡ None }
+    ensures leading_zero { command_of (codes "prove" ∷ codes "a" ∷ codes "--inferences=01" ∷ []) ≡ None }
+    ensures sign { command_of (codes "prove" ∷ codes "a" ∷ codes "--inferences=+1" ∷ []) ≡ None }
+    ensures letter { command_of (codes "prove" ∷ codes "a" ∷ codes "--inferences=1x" ∷ []) ≡ None }
+{}
+
+/// The names that reports show: what stands behind the file's last slash, without a final `.p`; bytes outside 32 to 126 as
+/// question marks.
+pub fn name_examples()
+    ensures in_folders { problem_name (codes "dir/sub/r1.p") ≡ codes "r1" }
+    ensures plain { problem_name (codes "r1") ≡ codes "r1" }
+    ensures other_end { problem_name (codes "a.ax") ≡ codes "a.ax" }
+    ensures letter { problem_name (codes "p") ≡ codes "p" }
+    ensures twice { problem_name (codes "x.p.p") ≡ codes "x.p" }
+    ensures folder { problem_name (codes "a.p/b") ≡ codes "b" }
+    ensures nothing { problem_name (codes "dir/.p") ≡ [] }
+    ensures bytes { shown (31 ∷ 32 ∷ 126 ∷ 127 ∷ []) ≡ 63 ∷ 32 ∷ 126 ∷ 63 ∷ [] }
+{}
+
+/// The words for causes, in the order of their tables.
+pub fn word_examples()
+    ensures of_reading { map read_word
+        (read.BadByte ∷ read.Unclosed ∷ read.Syntax ∷ read.FreeVariable ∷ read.Role ∷ read.SecondConjecture ∷ read.SelectionMissing
+        ∷ read.IncludeDepth ∷ read.TooLong ∷ read.Nesting ∷ read.Load ∷ [])
+        ≡ codes "BadByte" ∷ codes "Unclosed" ∷ codes "Syntax" ∷ codes "FreeVariable" ∷ codes "Role" ∷ codes "SecondConjecture"
+        ∷ codes "SelectionMissing" ∷ codes "IncludeDepth" ∷ codes "TooLong" ∷ codes "Nesting" ∷ codes "Load" ∷ [] }
+    ensures of_forms { map form_word (Typed ∷ RoleForm ∷ Number ∷ Distinct ∷ Dollar ∷ [])
+        ≡ codes "Typed" ∷ codes "RoleForm" ∷ codes "Number" ∷ codes "Distinct" ∷ codes "Dollar" ∷ [] }
+    ensures of_limits { map limit_word (Expansion ∷ TooHeavy ∷ TotalLimit ∷ [])
+        ≡ codes "Expansion" ∷ codes "TooHeavy" ∷ codes "TotalLimit" ∷ [] }
+    ensures of_lines { map cause_word
+        (line.Text ∷ line.Order ∷ line.UnknownParent ∷ line.Leaf ∷ line.Clausify ∷ line.Binding ∷ line.Rule ∷ line.Conclusion
+        ∷ line.NewSymbol ∷ line.NoEmptyClause ∷ [])
+        ≡ codes "Text" ∷ codes "Order" ∷ codes "UnknownParent" ∷ codes "Leaf" ∷ codes "Clausify" ∷ codes "Binding" ∷ codes "Rule"
+        ∷ codes "Conclusion" ∷ codes "NewSymbol" ∷ codes "NoEmptyClause" ∷ [] }
+{}
+
+/// What is printed, for each answer.
 pub fn report_examples()
     ensures theorem { report_of (codes "dir/r5.p") (Refuted true (codes "cnf(c0,axiom,p).\n"))
         ≡ codes "% SZS status Theorem for r5\n% SZS output start CNFRefutation for r5\ncnf(c0,axiom,p).\n% SZS output end CNFRefutation for r5\n" }
@@ -52,29 +127,50 @@ pub fn report_examples()
         ≡ codes "% SZS status Unsatisfiable for r1\n% SZS output start CNFRefutation for r1\ncnf(c0,axiom,p).\n% SZS output end CNFRefutation for r1\n" }
     ensures accepted { report_of (codes "r5.p") (Accepted 11) ≡ codes "% accepted 11 lines\n" }
     ensures spent { report_of (codes "r15.p") (Spent 10 10) ≡ codes "% SZS status GaveUp for r15\n% spent 10 of 10\n" }
-    ensures syntax { report_of (codes "r13.p") (Unread Syntax (codes "r13.p") 18)
+    ensures syntax { report_of (codes "r13.p") (Unread read.Syntax (codes "r13.p") 18)
         ≡ codes "% SZS status InputError for r13\n% Syntax at r13.p:18\n" }
     ensures too_heavy { report_of (codes "h.p") (Unformed TooHeavy (codes "it's"))
         ≡ codes "% SZS status InputError for h\n% TooHeavy in 'it\\'s'\n" }
     ensures not_built { report_of (codes "r4.p") (NotBuilt (codes "12")) ≡ codes "% SZS status InputError for r4\n% NotBuilt in 12\n" }
-    ensures problem_lost { report_of (codes "none.p") (Unread Load (codes "none.p") 0)
+    ensures problem_lost { report_of (codes "none.p") (Unread read.Load (codes "none.p") 0)
         ≡ codes "% SZS status OSError for none\n% Load none.p\n" }
     ensures derivation_lost { report_of (codes "r1.p") (Unloaded (codes "d")) ≡ codes "% SZS status OSError for r1\n% Load d\n" }
     ensures memory_out { memory_out_report (codes "dir/r1.p") ≡ codes "% SZS status MemoryOut for r1\n" }
-    ensures typed { report_of (codes "r21.p") (Unread (Inappropriate Typed) (codes "r21.p") 0)
+    ensures typed { report_of (codes "r21.p") (Unread (read.Inappropriate Typed) (codes "r21.p") 0)
         ≡ codes "% SZS status Inappropriate for r21\n% Typed at r21.p:0\n" }
-    ensures refused { report_of (codes "r5.p") (Refused 8 Rule) ≡ codes "% refused at line 8: Rule\n" }
+    ensures refused { report_of (codes "r5.p") (Refused 8 line.Rule) ≡ codes "% refused at line 8: Rule\n" }
     ensures closed { report_of (codes "q.p") Closed ≡ codes "% SZS status Unknown for q\n% closed\n" }
 {}
 
-/// The statuses of these answers.
+/// The statuses of the answers, and which of all statuses come exactly for their causes.
 pub fn status_examples()
     ensures refuted { status_of (Refuted true (codes "cnf(c0,axiom,p).\n")) ≡ 0 }
     ensures accepted { status_of (Accepted 11) ≡ 0 }
     ensures spent { status_of (Spent 10 10) ≡ 2 }
-    ensures syntax { status_of (Unread Syntax (codes "r13.p") 18) ≡ 3 }
-    ensures lost { status_of (Unread Load (codes "none.p") 0) ≡ 4 }
-    ensures typed { status_of (Unread (Inappropriate Typed) (codes "r21.p") 0) ≡ 8 }
-    ensures refused { status_of (Refused 8 Rule) ≡ 9 }
+    ensures not_built { status_of (NotBuilt (codes "12")) ≡ 3 }
+    ensures unformed { status_of (Unformed TotalLimit (codes "a")) ≡ 3 }
+    ensures syntax { status_of (Unread read.Syntax (codes "r13.p") 18) ≡ 3 }
+    ensures too_long { status_of (Unread read.TooLong (codes "r13.p") 0) ≡ 3 }
+    ensures problem_lost { status_of (Unread read.Load (codes "none.p") 0) ≡ 4 }
+    ensures derivation_lost { status_of (Unloaded (codes "d")) ≡ 4 }
+    ensures typed { status_of (Unread (read.Inappropriate Typed) (codes "r21.p") 0) ≡ 8 }
+    ensures refused { status_of (Refused 8 line.Rule) ≡ 9 }
     ensures closed { status_of Closed ≡ 10 }
+    ensures exact { map is_exact (0 ∷ 2 ∷ 3 ∷ 4 ∷ 5 ∷ 6 ∷ 7 ∷ 8 ∷ 9 ∷ 10 ∷ [])
+        ≡ false ∷ false ∷ true ∷ false ∷ false ∷ false ∷ false ∷ true ∷ true ∷ false ∷ [] }
+{}
+
+/// A problem has a conjecture in whatever place it stands.
+pub fn conjecture_examples()
+    ensures none { has_conjecture (formula_in Axiom ∷ formula_in NegatedConjecture ∷ []) ≡ false }
+    ensures first { has_conjecture (formula_in Conjecture ∷ formula_in Axiom ∷ []) ≡ true }
+    ensures last { has_conjecture (formula_in Axiom ∷ formula_in Conjecture ∷ []) ≡ true }
+{}
+
+/// Deliveries of a text in pieces: of two, and of two of which the first fails. None goes on behind a write that failed.
+pub fn piece_examples()
+    ensures two { DeliversInPiecesBy (Ok 3 ∷ Ok 1 ∷ []) (codes "abcd") (Ok tt) (codes "abc" ∷ codes "d" ∷ []) [] }
+    ensures cut { DeliversInPiecesBy (Err Failed ∷ Ok 1 ∷ []) (codes "abcd") (Err Failed) (codes "abc" ∷ []) (Ok 1 ∷ []) }
+    ensures no_more { (text : List ℕ) (result : Result Unit SinkFault) (handed : List (List ℕ)) →
+        DeliversInPiecesBy (Err Failed ∷ Ok 1 ∷ []) text result handed [] → ⊥ }
 {}

@@ -3,14 +3,15 @@
 ghost use Rattle.std.specs.Prelude.{◌≡◌};
 ghost use Rattle.prover_main.specs.Names.{shown, problem_name};
 ghost use Rattle.prover_main.specs.Reports.{for_problem, memory_out_report};
-ghost use Rattle.prover_main.specs.Run.{taken_by, IsDelivery};
+ghost use Rattle.prover_main.specs.Run.{taken_by, IsDelivery, DeliversInPieces};
 
 use crate::names::{problem_bytes, shown_byte};
 use outside::{Sink, SinkFault, deliver};
 
 /// Writes that memory was wanted for the problem in a file. It takes no memory.
 pub fn deliver_memory_out<S: Sink>(sink: &mut S, file: &str) -> Result<(), SinkFault>
-    ensures { IsDelivery (taken_by S.taken S.faults sink.old sink.new) (memory_out_report file.now) result }
+    ensures taken { IsDelivery (taken_by S.taken S.faults sink.old sink.new) (memory_out_report file.now) result }
+    ensures writes { DeliversInPieces S.gives sink.old (memory_out_report file.now) result sink.new }
 {
     deliver(sink, b"% SZS status MemoryOut")?;
     deliver_for(sink, file)
@@ -18,7 +19,8 @@ pub fn deliver_memory_out<S: Sink>(sink: &mut S, file: &str) -> Result<(), SinkF
 
 /// Writes the end of a line that names the problem.
 fn deliver_for<S: Sink>(sink: &mut S, file: &str) -> Result<(), SinkFault>
-    ensures { IsDelivery (taken_by S.taken S.faults sink.old sink.new) (for_problem file.now) result }
+    ensures taken { IsDelivery (taken_by S.taken S.faults sink.old sink.new) (for_problem file.now) result }
+    ensures writes { DeliversInPieces S.gives sink.old (for_problem file.now) result sink.new }
 {
     deliver(sink, b" for ")?;
     deliver_problem_name(sink, file)?;
@@ -27,14 +29,16 @@ fn deliver_for<S: Sink>(sink: &mut S, file: &str) -> Result<(), SinkFault>
 
 /// Writes the name of the problem in a file.
 fn deliver_problem_name<S: Sink>(sink: &mut S, file: &str) -> Result<(), SinkFault>
-    ensures { IsDelivery (taken_by S.taken S.faults sink.old sink.new) (problem_name file.now) result }
+    ensures taken { IsDelivery (taken_by S.taken S.faults sink.old sink.new) (problem_name file.now) result }
+    ensures writes { DeliversInPieces S.gives sink.old (problem_name file.now) result sink.new }
 {
     deliver_shown(sink, problem_bytes(file))
 }
 
 /// Writes bytes as they are shown, one after another.
 fn deliver_shown<S: Sink>(sink: &mut S, bytes: &[u8]) -> Result<(), SinkFault>
-    ensures { IsDelivery (taken_by S.taken S.faults sink.old sink.new) (shown bytes.now) result }
+    ensures taken { IsDelivery (taken_by S.taken S.faults sink.old sink.new) (shown bytes.now) result }
+    ensures writes { DeliversInPieces S.gives sink.old (shown bytes.now) result sink.new }
 {
     for byte in bytes {
         deliver(sink, &[shown_byte(*byte)])?;

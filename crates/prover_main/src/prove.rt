@@ -12,8 +12,8 @@ ghost use Rattle.prover_main.specs.Names.{shown};
 ghost use Rattle.clausal_form.specs.DerivationTexts.{IsAcceptedDerivation};
 ghost use Rattle.signature.specs.Form.{clausal_form};
 ghost use Rattle.clausal_form.specs.Form.{form_of};
-ghost use Rattle.prover_main.specs.Answer.{IsProveAnswer, has_conjecture};
-ghost use Rattle.prover_main.specs.AnswerShape.{WasFormed, IsProofAnswer, IsGroundProof, IsNotBuiltAnswer};
+ghost use Rattle.prover_main.specs.Answer.{IsProveAnswer, IsProofAnswer, has_conjecture};
+ghost use Rattle.prover_main.specs.AnswerShape.{WasFormed, IsGroundProof, IsNotBuiltAnswer};
 
 use crate::answer::Answer;
 use crate::names::push_shown;

@@ -5,7 +5,7 @@ ghost use Rattle.prover_main.specs.Outside.{outside_by};
 ghost use Rattle.prover_main.specs.Answer.{IsAnswer};
 ghost use Rattle.prover_main.specs.WordParts.{command_meant, IsFit};
 ghost use Rattle.prover_main.specs.Reports.{memory_out_report};
-ghost use Rattle.prover_main.specs.Run.{file_of, taken_by, status_after, IsAnswered, IsRun, Delivered};
+ghost use Rattle.prover_main.specs.Run.{file_of, taken_by, status_after, IsAnswered, IsRunBy, DeliveredBy};
 
 use crate::answer::Answer;
 use crate::check::check_answer;
@@ -31,7 +31,7 @@ struct Report {
 /// report. The answer is the status of the report, or 5 where the sink failed. For words that are usage it takes no memory,
 /// and none for the report that memory was wanted.
 pub fn run<L: Library, S: Sink>(alloc: Global, words: &Words, library: &mut L, sink: &mut S) -> u8
-    ensures { IsRun words.now
+    ensures { IsRunBy S.gives sink.old sink.new words.now
         (outside_by L.told L.faults L.found L.failed library.old library.new)
         (taken_by S.taken S.faults sink.old sink.new)
         result }
@@ -47,7 +47,7 @@ pub fn run<L: Library, S: Sink>(alloc: Global, words: &Words, library: &mut L, s
 
 /// Writes a report. The answer is its status, or 5 where the sink failed.
 fn deliver_report<S: Sink>(sink: &mut S, text: &[u8], status: u8) -> u8
-    ensures { Delivered
+    ensures { DeliveredBy S.gives sink.old sink.new
         (taken_by S.taken S.faults sink.old sink.new)
         status text.now result }
 {
@@ -56,7 +56,9 @@ fn deliver_report<S: Sink>(sink: &mut S, text: &[u8], status: u8) -> u8
 
 /// Writes that memory was wanted for the problem in a file. The answer is 7, or 5 where the sink failed.
 fn report_memory_out<S: Sink>(sink: &mut S, file: &str) -> u8
-    ensures { Delivered (taken_by S.taken S.faults sink.old sink.new) 7 (memory_out_report file.now) result }
+    ensures { DeliveredBy S.gives sink.old sink.new
+        (taken_by S.taken S.faults sink.old sink.new)
+        7 (memory_out_report file.now) result }
 {
     status_after(7, deliver_memory_out(sink, file))
 }

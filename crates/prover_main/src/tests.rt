@@ -1,9 +1,11 @@
 // What no clause says: that runs end with the report that they should, over memory.
 mod cases;
+mod derivations;
 
 use super::*;
 use crate::memory_out::deliver_memory_out;
 use cases::{CASES, Case, GROUP, GROUP_AXIOMS, TWO_UNITS};
+use derivations::{ROWS, Row};
 use outside::{Files, MemFile, MemLibrary, MemSink};
 use plain_types::Numbers;
 use std::alloc::Global;
@@ -41,6 +43,44 @@ fn runs_report_as_stated(rt: HostRuntime) -> Result<(), Fail> {
         let (status, right) = outcome(rt.alloc(), case)?;
         assert_eq!(rt; status, case.status, "{}", case.report.len());
         assert!(rt; right, "{}", case.report.len());
+    }
+    Ok(())
+}
+
+/// The text of a row's derivation.
+fn derivation_of(alloc: Global, row: &Row) -> Result<Vec<u8>, Fail> {
+    let mut text = Vec::new(alloc);
+    for (index, line) in row.example.example().lines.iter().enumerate() {
+        match row.change {
+            Some((place, other)) if place == index => text.extend_from_slice(other)?,
+            _ => text.extend_from_slice(line)?,
+        }
+        text.push(b'\n')?;
+    }
+    Ok(text)
+}
+
+/// The status of a check, and whether its report is the one that is wanted.
+fn checked(alloc: Global, row: &Row) -> Result<(u8, bool), Fail> {
+    let example = row.example.example();
+    let derivation = derivation_of(alloc, row)?;
+    let words = words_of(alloc, &["check", example.file, "d"])?;
+    let files = [
+        (example.file, example.problem),
+        ("d", derivation.as_slice()),
+    ];
+    let mut library = library_of(alloc, files.as_slice(), &[])?;
+    let mut sink = MemSink::new(alloc, 64, 1000, Numbers::new(alloc))?;
+    let status = run(alloc, &words, &mut library, &mut sink);
+    Ok((status, sink.bytes() == row.report))
+}
+
+#[test]
+fn changed_derivations_are_refused_by_their_causes(rt: HostRuntime) -> Result<(), Fail> {
+    for (index, row) in ROWS.iter().enumerate() {
+        let (status, right) = checked(rt.alloc(), row)?;
+        assert_eq!(rt; status, row.status, "{index}");
+        assert!(rt; right, "{index}");
     }
     Ok(())
 }
@@ -172,7 +212,7 @@ fn printed_refutations_are_accepted(rt: HostRuntime) -> Result<(), Fail> {
     let problems: [(&str, &[u8]); 3] = [
         (
             "Theorem",
-            b"fof(a,axiom,p <=> q). fof(b,axiom,p). fof(c,conjecture,q).",
+            b"fof(c,conjecture,q). fof(a,axiom,p <=> q). fof(b,axiom,p).",
         ),
         (
             "Unsatisfiable",
@@ -267,7 +307,8 @@ fn what_passes_a_limit_is_told(rt: HostRuntime) -> Result<(), Fail> {
     Ok(())
 }
 
-// 500 levels, the atom's own among them, and 4,000 symbols are read, `p`, `c` and `$true` among them; beyond either limit the answer is 3, not 7.
+// 500 levels, the atom's own among them, and 4,000 symbols are read, `p`, `c` and `$true` among them; beyond either limit
+// the answer is 3, not 7.
 #[test]
 fn limits_of_a_problem_are_told(rt: HostRuntime) -> Result<(), Fail> {
     let alloc = rt.alloc();

@@ -1,9 +1,6 @@
 // The words of the command line, and the rule on them.
 
-ghost use Rattle.std.specs.Prelude.{◌≡◌, ◌<◌, ◌^◌, ◌↔◌, [], ◌∷◌, ◌++◌, length, map, codes, ℕ, List, IfOk, OnErr, IsTrue, String, string_bytes};
-ghost use Rattle.std.specs.Global.{Global};
-ghost use Rattle.std.specs.Slice.Iter.{iter_rest};
-ghost use Rattle.std.specs.Iterator.Adapters.{IterYieldsInOrder, IterYieldsInReverse};
+ghost use Rattle.std.specs.Prelude.{◌≡◌, [], ◌∷◌, ◌++◌, map, IfOk, OnErr, string_bytes};
 ghost use Rattle.std.specs.Option.{option_map, option_and_then};
 ghost use Rattle.prover_main.specs.Words.{command_of, is_option as option_word, value_behind, limit_in, with_root, with_limit, with_option, file_words, options_in};
 ghost use Rattle.prover_main.specs.WordParts.{few_with, few_of, few_meant, lent, options_meant, command_meant, prove_few, check_few};
@@ -11,7 +8,6 @@ ghost use Rattle.prover_main.specs.WordParts.{few_with, few_of, few_meant, lent,
 use plain_types::{DEFAULT_INFERENCES, MOST_INFERENCES, Mem};
 use std::alloc::Global;
 use std::marker::Model;
-use std::slice::Iter;
 use tptp_source::decimal;
 
 /// The words after the program's name, which contracts see as the list of their bytes.
@@ -241,24 +237,6 @@ impl Words {
     {
         self.words.push(word)?;
         Ok(())
-    }
-
-    /// Whether there are none.
-    pub fn is_empty(&self) -> bool
-        ensures { IsTrue result ↔ (self.now ≡ []) }
-    {
-        self.words.is_empty()
-    }
-
-    /// The words, lent one after another.
-    pub fn iter(&self) -> Iter<'_, String>
-        ensures rest { map string_bytes (iter_rest result) ≡ self.now }
-        ensures len { length (iter_rest result) ≡ length self.now }
-        ensures bound { length (iter_rest result) < 2 ^ 64 }
-        ensures runs { IterYieldsInOrder (String Global) }
-        ensures runs_back { IterYieldsInReverse (String Global) }
-    {
-        self.words.iter()
     }
 
     /// The command that the words are. None exactly where they are usage. It takes no memory.

@@ -38,28 +38,6 @@ const CLAUSES: &[u8] =
 const IMPLICATION: &[u8] =
     b"fof(a,axiom,! [X] : (p(X) => q(X))). fof(b,axiom,p(a)). fof(c,conjecture,q(a)).";
 
-const IMPLICATION_DERIVATION: &[u8] = b"fof(c0,axiom,! [X] : (p(X) => q(X)),file('r5.p',a)).\n\
-fof(c1,axiom,p(a),file('r5.p',b)).\n\
-fof(c2,conjecture,q(a),file('r5.p',c)).\n\
-fof(c3,negated_conjecture,~q(a),inference(negate,[status(cth)],[c2])).\n\
-cnf(c4,plain,~p(X0) | q(X0),inference(clausify,[status(esa),index(0)],[c0])).\n\
-cnf(c5,plain,p(a),inference(clausify,[status(esa),index(1)],[c1])).\n\
-cnf(c6,plain,~q(a),inference(clausify,[status(esa),index(2)],[c3])).\n\
-cnf(c7,plain,~$true | q(a),inference(para,[status(thm),from(0,left),into(0,left,[]),bind([]),bind([a])],[c5,c4])).\n\
-cnf(c8,plain,q(a),inference(refl,[status(thm),lit(0),bind([])],[c7])).\n\
-cnf(c9,plain,~$true,inference(para,[status(thm),from(0,left),into(0,left,[]),bind([]),bind([])],[c8,c6])).\n\
-cnf(c10,plain,$false,inference(refl,[status(thm),lit(0),bind([])],[c9])).\n";
-
-const UNEQUAL: &[u8] = b"cnf(a,axiom,X != X).";
-
-const UNEQUAL_TO_NEW: &[u8] = b"cnf(c0,axiom,X != X,file('r25.p',a)).\n\
-cnf(c1,plain,X0 != X0,inference(clausify,[status(esa),index(0)],[c0])).\n\
-cnf(c2,plain,$false,inference(refl,[status(thm),lit(0),bind([zz])],[c1])).\n";
-
-const UNEQUAL_TO_SPARE: &[u8] = b"cnf(c0,axiom,X != X,file('r25.p',a)).\n\
-cnf(c1,plain,X0 != X0,inference(clausify,[status(esa),index(0)],[c0])).\n\
-cnf(c2,plain,$false,inference(refl,[status(thm),lit(0),bind([hc0])],[c1])).\n";
-
 /// Twenty atoms in nested equivalences.
 const EQUIVALENCES: &[u8] =
     b"fof(a,axiom,p0 <=> (p1 <=> (p2 <=> (p3 <=> (p4 <=> (p5 <=> (p6 <=> (p7 <=> (p8 <=> (p9 <=> \
@@ -261,23 +239,5 @@ cnf(c1,plain,$false,inference(clausify,[status(esa),index(0)],[c0])).\n\
         files: &[("x.p", EQUIVALENCES)],
         status: 3,
         report: b"% SZS status InputError for x\n% Expansion in a\n",
-    },
-    Case {
-        words: &["check", "r5.p", "d"],
-        files: &[("r5.p", IMPLICATION), ("d", IMPLICATION_DERIVATION)],
-        status: 0,
-        report: b"% accepted 11 lines\n",
-    },
-    Case {
-        words: &["check", "r25.p", "d"],
-        files: &[("r25.p", UNEQUAL), ("d", UNEQUAL_TO_NEW)],
-        status: 9,
-        report: b"% refused at line 3: NewSymbol\n",
-    },
-    Case {
-        words: &["check", "r25.p", "d"],
-        files: &[("r25.p", UNEQUAL), ("d", UNEQUAL_TO_SPARE)],
-        status: 0,
-        report: b"% accepted 3 lines\n",
     },
 ];

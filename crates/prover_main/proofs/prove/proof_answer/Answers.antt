@@ -7,7 +7,8 @@ use Rattle.signature.specs.Form.{ClausalForm, clausal_form}
 use Rattle.clausal_form.specs.Form.{form_of}
 use Rattle.ground_loop.specs.Scope.{first_outside}
 use Rattle.ground_loop.proofs.ScopeLemmas.{first_outside_is_first}
-use Rattle.prover_main.specs.AnswerShape.{IsGroundProof, IsProofAnswer, IsNotBuiltAnswer}
+use Rattle.prover_main.specs.Answer.{IsProofAnswer}
+use Rattle.prover_main.specs.AnswerShape.{IsGroundProof, IsNotBuiltAnswer}
 use Rattle.prover_main.proofs.AnswerLemmas.{ground_proves, not_built_proves}
 use Rattle.prover_main.proofs.prove.proof_answer.Goals as goal
 

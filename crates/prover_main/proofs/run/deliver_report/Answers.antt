@@ -1,10 +1,14 @@
+use Rattle.std.proofs.Common.{inl}
 use Rattle.prover_main.proofs.DeliveryLemmas.{delivered}
 use Rattle.prover_main.proofs.run.deliver_report.Goals as goal
 
 pub returns : goal.returns
-returns g c = record {
-  outcome = c.deliver.result;
-  delivery =
-      delivered _ c.args.text.now c.deliver.result c.deliver.ensures.whole c.deliver.ensures.stays c.deliver.ensures.cause c.deliver.ensures.prefix;
-  status_is = c.status_after.ensures;
-}
+returns g c = (
+  record {
+    outcome = c.deliver.result;
+    delivery =
+        delivered _ c.args.text.now c.deliver.result c.deliver.ensures.whole c.deliver.ensures.stays c.deliver.ensures.cause c.deliver.ensures.prefix;
+    status_is = c.status_after.ensures;
+  },
+  inl c.deliver.ensures.writes,
+)

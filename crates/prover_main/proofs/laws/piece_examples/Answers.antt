@@ -1,0 +1,21 @@
+use Rattle.std.proofs.Common.{refl, lit<, codes, ap}
+use Rattle.outside.specs.Sink.{none_left, takes, fails}
+use Rattle.prover_main.specs.Run.{at_once}
+use Rattle.prover_main.proofs.DeliveryLemmas.{pieces-both, pieces-cut}
+use Rattle.outside.specs.Examples.{Script, script_gives}
+use Rattle.prover_main.proofs.PieceExamples.{pieces-begin, nothing, one_write, no-more}
+use Rattle.prover_main.proofs.laws.piece_examples.Goals as goal
+
+pub returns-clause-two : goal.returns-clause-two
+returns-clause-two c =
+    pieces-both script_gives _ _ _ (codes "abc") (codes "d") _ (at_once (takes (lit< tt) (refl, refl) none_left))
+    (at_once (takes (lit< tt) (refl, refl) none_left))
+
+pub returns-clause-cut : goal.returns-clause-cut
+returns-clause-cut c = pieces-cut script_gives _ _ (codes "abc") (codes "d") _ (at_once (fails (lit< tt) (refl, refl)))
+
+pub returns-clause-no_more : goal.returns-clause-no_more
+returns-clause-no_more c text result handed delivers = elim (pieces-begin _ _ refl delivers) [
+  | nothing same ↦ no-more (ap (λ (s : Script). s.answers) same)
+  | one_write fault left failed ↦ no-more left
+]

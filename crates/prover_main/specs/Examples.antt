@@ -1,0 +1,18 @@
+-- The values of the worked examples.
+use Rattle.std.specs.Prelude.{ℕ, List, [], false, codes, Result}
+use Rattle.outside.specs.Examples.{script_gives}
+use Rattle.outside.specs.declared.fault.SinkFault.{SinkFault}
+use Rattle.tptp_tree.specs.declared.formula.Formula.TheVariants.{Pred}
+use Rattle.tptp_tree.specs.declared.problem.Annotated.{Annotated}
+use Rattle.tptp_tree.specs.declared.role.Role.{Role}
+use Rattle.prover_main.specs.Run.{DeliversInPieces}
+
+-- the proposition p in this role
+abbrev pub formula_in : Role → Annotated
+formula_in role = record { name = codes "a"; role = role; clause = false; formula = Pred (codes "p") []; file = codes "r"; place = 0 }
+
+-- by these answers of a sink a text is delivered in pieces with this result, by writes that are handed these bytes in turn; and some
+-- answers are left
+abbrev pub DeliversInPiecesBy : List (Result ℕ SinkFault) → List ℕ → Result (Unit {0}) SinkFault → List (List ℕ) → List (Result ℕ SinkFault) → Type 0
+DeliversInPiecesBy answers text result handed left =
+    DeliversInPieces script_gives (record { answers = answers; handed = [] }) text result (record { answers = left; handed = handed })
