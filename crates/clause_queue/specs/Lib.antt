@@ -4,3 +4,4 @@ pub mod Pairs
 pub mod Pick
 pub mod Room
 pub mod TreeFalls
+pub mod QueueLaws

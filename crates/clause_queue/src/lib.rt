@@ -2,6 +2,7 @@
 #![tactic(auto)]
 
 mod choice;
+pub mod laws;
 mod queue;
 mod tree;
 

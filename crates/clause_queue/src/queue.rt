@@ -2,7 +2,7 @@
 ghost use Rattle.std.specs.Prelude.{◌≡◌, ◌≤◌, ◌<◌, ◌+◌, ◌-◌, ◌^◌, ◌↔◌, [], Contains, IsTrue, IsOk, OnOk, OnErr, IfOk, IfSome, IfNone, IsNone, max, length, vec_capacity, if◌then◌else◌};
 ghost use Rattle.std.specs.List.{AllByRecursion};
 ghost use Rattle.clause_queue.specs.Node.{IsBare};
-ghost use Rattle.clause_queue.specs.Pairs.{with_pair, without, numbers};
+ghost use Rattle.clause_queue.specs.Pairs.{with_pair, without, numbers, IsRising};
 ghost use Rattle.clause_queue.specs.Pick.{IsPick};
 
 use crate::choice::Choice;
@@ -82,6 +82,28 @@ impl Queue {
         self.tree.put(node, TOP_BIT);
         self.len += 1;
         Ok(())
+    }
+
+    /// Whether nothing waits. It takes no memory.
+    pub fn is_empty(&self) -> bool
+        ensures { IsTrue result ↔ (self.now.pairs ≡ []) }
+    {
+        self.len == 0
+    }
+
+    /// Shows that the numbers of the waiting clauses rise. It does nothing.
+    pub fn rise(&self)
+        ensures { IsRising self.now.pairs }
+    {
+        let _ = &self.tree;
+    }
+
+    /// The clause that `pick` would take out, or None where nothing waits. It takes no memory.
+    pub fn peek(&self, choice: Choice) -> Option<u32>
+        ensures picked { IfSome result (IsPick choice self.now.pairs) }
+        ensures none { IsNone result ↔ (self.now.pairs ≡ []) }
+    {
+        self.tree.peek(choice)
     }
 
     /// Takes out a clause by its weight or its number, or answers None where nothing waits. It takes no memory.

@@ -113,6 +113,18 @@ impl Tree {
         }
     }
 
+    /// The number of the entry that is picked. None where the tree is empty.
+    pub fn peek(&self, choice: Choice) -> Option<u32>
+        ensures picked { IfSome result (IsPick choice self.now) }
+        ensures none { IfNone result (self.now ≡ []) }
+    {
+        let number = self.top.as_ref()?.entry.number;
+        match choice {
+            Choice::Light => Some(number),
+            Choice::Old => Some(self.least_number(number)),
+        }
+    }
+
     /// Takes out the entry that is picked, in a node that is bare. None where the tree is empty.
     pub fn pick(&mut self, choice: Choice) -> Option<Box<Node>>
         ensures taken { IfSome result (λ b. Takes b self.old self.new) }
