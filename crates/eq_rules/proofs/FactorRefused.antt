@@ -1,6 +1,6 @@
 -- Sides of a clause by which nothing is factored.
 use mathlib.Core.Bool.{beq}
-use Rattle.std.proofs.Common.{◌≡◌, ◌⊎◌, ℕ, Bool, true, false, ◌&&◌, ◌||◌, ◌==◌, not, Option, None, Some, List, refl, ap, ap₂, sym, ◌∙◌, subst, ⊎_elim}
+use Rattle.std.proofs.Common.{◌≡◌, ℕ, Bool, true, false, ◌&&◌, ◌==◌, not, Option, None, Some, ap, ap₂, sym, ◌∙◌, subst, ⊎_elim}
 use Rattle.std.specs.Prelude.{slice_get}
 use Rattle.std.proofs.lemmas.Bool.{true≢false, not-true, not_from_false, and_parts, and_from, or_cases, false_from_ne_true}
 use Rattle.std.proofs.lemmas.Option.{same_Some}
@@ -16,7 +16,6 @@ use Rattle.fol_base.specs.declared.clause.Side.{Side}
 use Rattle.fol_base.proofs.InferenceLemmas.{literal_in_instance}
 use Rattle.fol_base.proofs.KindLemmas.{function_term-no_truth}
 use Rattle.fol_base.proofs.RuleLemmas.{factored-parts}
-use Rattle.fol_base.proofs.TreeLemmas.{tree_eq-true}
 use Rattle.fol_base.proofs.WellFormedLemmas.{sides_of_one_kind}
 use Rattle.literal_selection.proofs.EligibleLemmas.{eligible_lifts}
 use Rattle.kernel_steps.specs.Inference.{NamedFactoring, has_predicate_head, are_of_one_kind, other_side_not_above}

@@ -1,6 +1,6 @@
 -- Equality factoring by two sides of a clause, by a most general unifier of them.
 use mathlib.Core.Bool.{beq}
-use Rattle.std.proofs.Common.{◌≡◌, ◌⊎◌, ℕ, ◌+◌, ◌<◌, ◌≤◌, Bool, true, false, ◌&&◌, ◌||◌, ◌==◌, not, nat_lt, Option, None, Some, List, [], ◌∷◌, length, map, get_or, refl, ap, ap₂, sym, ◌∙◌, subst, inl, inr, ⊎_elim, arith}
+use Rattle.std.proofs.Common.{◌≡◌, ◌⊎◌, ℕ, ◌+◌, ◌<◌, ◌≤◌, Bool, true, false, ◌&&◌, ◌||◌, ◌==◌, not, Option, None, Some, List, [], length, get_or, refl, ap, ap₂, sym, ◌∙◌, subst, ⊎_elim, arith}
 use Rattle.std.specs.Prelude.{sum_by, slice_get, slice_set}
 use Rattle.std.specs.List.{AllByRecursion}
 use Rattle.std.specs.Option.{is_some, option_map}
@@ -22,17 +22,16 @@ use Rattle.fol_base.specs.Rules.{factored, disequation}
 use Rattle.fol_base.specs.Selection.{SelectionMode, chosen, eligible}
 use Rattle.fol_base.specs.Sides.{side_of, other_side_of}
 use Rattle.fol_base.specs.Unifier.{IsUnifier}
-use Rattle.fol_base.specs.WellFormed.{SymbolUse, are_literals_of}
 use Rattle.fol_base.specs.declared.clause.Side.{Side}
 use Rattle.fol_base.specs.declared.clause.Side.TheVariants.{Left, Right}
 use Rattle.fol_base.specs.declared.limits.TheConstants.{MOST_SYMBOLS, MOST_BOUND_SYMBOLS}
 use Rattle.fol_base.proofs.InferenceLemmas.{literal_in_instance, factorings_in_instances, side_of-instance, other_side_of-instance, is_truth-instance}
 use Rattle.fol_base.proofs.InstanceLemmas.{instances_of_instances, instances_agree_below}
-use Rattle.fol_base.proofs.KindLemmas.{is_function_term-parts, is_predicate_term-parts, function_term-no_truth, predicate_term-no_truth, puts_no_truth}
+use Rattle.fol_base.proofs.KindLemmas.{is_function_term-parts, is_predicate_term-parts, function_term-no_truth, puts_no_truth}
 use Rattle.fol_base.proofs.NumberingLemmas.{with_variables-have}
-use Rattle.fol_base.proofs.RuleLemmas.{factored-parts, factored-from}
+use Rattle.fol_base.proofs.RuleLemmas.{factored-from}
 use Rattle.fol_base.proofs.TreeLemmas.{tree_eq-refl, tree_eq-true}
-use Rattle.fol_base.proofs.WellFormedLemmas.{SidesOfOneKind, sides_of_one_kind}
+use Rattle.fol_base.proofs.WellFormedLemmas.{sides_of_one_kind}
 use Rattle.kbo_order.proofs.StableLemmas.{trees_stable}
 use Rattle.literal_selection.proofs.EligibleLemmas.{eligible_lifts}
 use Rattle.kernel_steps.proofs.BoundLemmas.{is_truth-application}
@@ -41,9 +40,8 @@ use Rattle.kernel_steps.specs.Inference as kernel
 use Rattle.kernel_steps.specs.Names.{sorted_names}
 use Rattle.kernel_steps.specs.Named.{IsInference}
 use Rattle.kernel_steps.specs.Parents.{Parent}
-use Rattle.kernel_steps.specs.declared.key.Key.TheVariants.{Factor}
 use Rattle.kernel_steps.specs.declared.step.Step.TheVariants as step
-use Rattle.unifier.specs.Bindings.{IsUnified, substitution_of}
+use Rattle.unifier.specs.Bindings.{substitution_of}
 use Rattle.unifier.specs.Laws as unifying
 use Rattle.unifier.specs.Renaming.{AreRenamed}
 use Rattle.unifier.specs.declared.bindings.Bindings.{Bindings}
@@ -52,11 +50,11 @@ use Rattle.eq_rules.specs.Inferences.{is_large, SizedFactoring, IsConcluded, IsM
 use Rattle.eq_rules.specs.Concluding.{GivesNumbered, IsGeneralBelow}
 use Rattle.eq_rules.specs.Factoring.{are_alike, FactorsBy, factor_key}
 use Rattle.eq_rules.specs.declared.concluding.FactorPlace.{FactorPlace}
-use Rattle.eq_rules.specs.declared.inference.Made.TheVariants.{Conclusion, Heavy}
-use Rattle.eq_rules.proofs.WideLemmas.{Has, wide, numbered, wide-general, wide-instance, wide-literals, renamed-literals, term_back, renamed-size, renamed-literals_size}
+use Rattle.eq_rules.specs.declared.inference.Made.TheVariants.{Heavy}
+use Rattle.eq_rules.proofs.WideLemmas.{Has, wide, numbered, wide-general, wide-instance, wide-literals, renamed-literals, term_back, renamed-literals_size}
 use Rattle.eq_rules.proofs.ConclusionLemmas.{conclusion_numbered, bindings_numbered, binds_renamed, verdict_by_one, numbered_literals, numbered-has}
 use Rattle.eq_rules.proofs.StepLemmas.{renaming-no_truth}
-use Rattle.eq_rules.proofs.PremiseLemmas.{Terms, terms_of, clause-below, literal-below, literal-kind, unifier-after_terms, has-instance, not_large}
+use Rattle.eq_rules.proofs.PremiseLemmas.{Terms, terms_of, clause-below, literal-below, unifier-after_terms, has-instance, not_large}
 use Rattle.eq_rules.proofs.ResolutionLemmas.{eligible_wide}
 
 -- ---- kinds
