@@ -14,7 +14,7 @@ use Rattle.fol_base.specs.declared.clause.Side.{Side}
 use Rattle.fol_base.specs.declared.limits.TheConstants.{MOST_SYMBOLS, SIZE_LIMIT}
 use Rattle.fol_base.proofs.InferenceLemmas.{literal_in_instance, side_of-instance, other_side_of-instance}
 use Rattle.unifier.specs.Sizes.{stopped}
-use Rattle.eq_rules.proofs.FactoringLemmas.{sides-size}
+use Rattle.eq_rules.proofs.SideLemmas.{sides-size}
 use Rattle.eq_rules.proofs.WideLemmas.{itself}
 
 -- the literal that is lent is the one that is there

@@ -22,7 +22,7 @@ use Rattle.kernel_steps.specs.Inference.{NamedFactoring, has_predicate_head, are
 use Rattle.kernel_steps.specs.Named.{IsInference}
 use Rattle.kernel_steps.specs.declared.key.Key.TheVariants.{Factor}
 use Rattle.eq_rules.specs.Factoring.{are_alike, literal_may_become, may_become}
-use Rattle.eq_rules.proofs.FactoringLemmas.{function-head, predicate-head, not_above_by}
+use Rattle.eq_rules.proofs.SideLemmas.{function-head, predicate-head, not_above_by}
 use Rattle.eq_rules.proofs.WideLemmas.{itself}
 
 -- a predicate's head is no `$true`

@@ -11,7 +11,7 @@ use Rattle.bank_clause.specs.Clause.{clause_at}
 use Rattle.unifier.specs.Bindings.{IsUnified}
 use Rattle.eq_rules.specs.Inferences.{alone}
 use Rattle.eq_rules.proofs.FactorRefused.{unlike_unfactored}
-use Rattle.eq_rules.proofs.FactoringLemmas.{side-below}
+use Rattle.eq_rules.proofs.SideLemmas.{side-below}
 use Rattle.eq_rules.proofs.MadeLemmas.{alone_there}
 use Rattle.eq_rules.proofs.PremiseLemmas.{literal-below, literal-kind}
 use Rattle.eq_rules.proofs.ResolutionAnswers.{fits_one}

@@ -19,7 +19,8 @@ use Rattle.unifier.specs.Renaming.{AreRenamed}
 use Rattle.unifier.specs.Sizes.{stopped}
 use Rattle.eq_rules.specs.Inferences.{alone}
 use Rattle.eq_rules.proofs.FactorAnswers.{lent_there, part_size, sides_size, total_size, told_size}
-use Rattle.eq_rules.proofs.FactoringLemmas.{alike-kinds, factor_terms, factoring_not_eligible, factoring_not_ordered, factoring_applies, plain_size, factoring_heavy, factoring_concluded}
+use Rattle.eq_rules.proofs.FactoringLemmas.{factor_terms, factoring_not_eligible, factoring_not_ordered, factoring_applies, plain_size, factoring_heavy, factoring_concluded}
+use Rattle.eq_rules.proofs.SideLemmas.{alike-kinds}
 use Rattle.eq_rules.proofs.MadeLemmas.{size_above, size_within, alone_there, made_by_factoring}
 use Rattle.eq_rules.proofs.PremiseLemmas.{literal-kind}
 use Rattle.eq_rules.proofs.factoring.factoring_by.Goals as goal
