@@ -1,5 +1,5 @@
 -- Equality factoring by two sides of a clause, by a most general unifier of them.
-use Rattle.std.proofs.Common.{◌≡◌, ◌⊎◌, ℕ, ◌+◌, ◌<◌, ◌≤◌, Bool, true, false, ◌&&◌, ◌||◌, ◌==◌, not, Option, None, Some, List, [], length, get_or, refl, ap, ap₂, sym, ◌∙◌, subst, ⊎_elim, arith}
+use Rattle.std.proofs.Common.{◌≡◌, ◌⊎◌, ℕ, ◌+◌, ◌<◌, ◌≤◌, Bool, true, false, ◌||◌, Option, None, Some, List, [], length, get_or, refl, ap, ap₂, sym, ◌∙◌, subst, ⊎_elim, arith}
 use Rattle.std.specs.Prelude.{sum_by, slice_get, slice_set}
 use Rattle.std.specs.List.{AllByRecursion}
 use Rattle.std.specs.Option.{is_some, option_map}
@@ -8,7 +8,7 @@ use Rattle.std.proofs.lemmas.List.{length-map}
 use Rattle.std.proofs.lemmas.List.Sums.{sum_by-set}
 use Rattle.std.proofs.lemmas.Option.{same_Some, slice_get_within, get_or_from_slice_get}
 use Rattle.fol_base.specs.Tree.{Tree, tree_size, VariablesBelow, trees_of, trees_variables, is_truth}
-use Rattle.fol_base.specs.Instance.{Substitution, instance, substitution}
+use Rattle.fol_base.specs.Instance.{instance, substitution}
 use Rattle.fol_base.specs.InstanceLaws.{after}
 use Rattle.fol_base.specs.Clause.{TreeLiteral, TreeClause, LiteralVariablesBelow, literal_size, literal_instance, clause_size, clause_instance, clause_variables}
 use Rattle.fol_base.specs.Ground.{literals_instance}
@@ -18,8 +18,7 @@ use Rattle.fol_base.specs.Rules.{factored, disequation}
 use Rattle.fol_base.specs.Selection.{SelectionMode, chosen, eligible}
 use Rattle.fol_base.specs.Sides.{side_of, other_side_of}
 use Rattle.fol_base.specs.Unifier.{IsUnifier}
-use Rattle.fol_base.specs.declared.clause.Side.{Side}
-use Rattle.fol_base.specs.declared.clause.Side.TheVariants.{Left, Right}
+use Rattle.fol_base.specs.declared.clause.Side.TheVariants.{Left}
 use Rattle.fol_base.specs.declared.limits.TheConstants.{MOST_SYMBOLS, MOST_BOUND_SYMBOLS}
 use Rattle.fol_base.proofs.InferenceLemmas.{literal_in_instance, factorings_in_instances, side_of-instance, other_side_of-instance}
 use Rattle.fol_base.proofs.InstanceLemmas.{instances_of_instances, instances_agree_below}

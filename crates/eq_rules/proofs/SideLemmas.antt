@@ -1,6 +1,6 @@
 -- Two sides of a clause that are alike: their kinds, their order and their sizes.
 use mathlib.Core.Bool.{beq}
-use Rattle.std.proofs.Common.{◌≡◌, ℕ, ◌+◌, ◌<◌, Bool, true, false, ◌&&◌, ◌||◌, ◌==◌, not, List, length, refl, ap, ap₂, sym, ◌∙◌, ⊎_elim, arith}
+use Rattle.std.proofs.Common.{◌≡◌, ℕ, ◌+◌, Bool, true, false, ◌&&◌, ◌||◌, ◌==◌, not, List, length, refl, ap, ap₂, sym, ◌∙◌, ⊎_elim, arith}
 use Rattle.std.proofs.lemmas.Bool.{true≢false, not-true, not_from_false, and_parts, and_from, or_left, or_right, false_from_ne_true}
 use Rattle.std.proofs.Math.Bool.{and-false}
 use Rattle.fol_base.specs.Tree.{Tree, variable, application, tree_size, tree_eq, VariablesBelow, is_truth, true_symbol}
