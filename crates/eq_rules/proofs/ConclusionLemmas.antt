@@ -1,5 +1,5 @@
 -- The conclusion of a rule with one premise, with its variables numbered: it is numbered by first occurrence, and the kernel's verdict.
-use Rattle.std.proofs.Common.{◌≡◌, ℕ, zero, suc, ◌+◌, ◌<◌, ◌≤◌, Bool, true, false, ◌&&◌, ◌==◌, not, nat_le, Option, Some, List, [], ◌∷◌, ◌++◌, length, map, get_or, append-nil, refl, ap, ap₂, sym, ◌∙◌, subst, arith}
+use Rattle.std.proofs.Common.{◌≡◌, ℕ, suc, ◌+◌, ◌<◌, ◌≤◌, true, false, ◌&&◌, ◌==◌, not, nat_le, Option, Some, List, [], ◌∷◌, ◌++◌, length, map, get_or, append-nil, refl, ap, ap₂, sym, ◌∙◌, subst, arith}
 use Rattle.std.specs.Prelude.{sum_by, flat_map}
 use Rattle.std.specs.List.{AllByRecursion, list_all}
 use Rattle.std.specs.Option.{option_map}
@@ -10,7 +10,7 @@ use Rattle.std.proofs.lemmas.List.Sums.{fold-append}
 use Rattle.std.proofs.lemmas.Option.{same_Some}
 use Rattle.plain_types.specs.declared.sequence.NameLit.{NameLit}
 use Rattle.fol_base.specs.Tree.{Tree, variable, application, true_tree, trees_of, trees_variables, is_truth}
-use Rattle.fol_base.specs.Instance.{Substitution, instance, instances, substitution}
+use Rattle.fol_base.specs.Instance.{instance, instances, substitution}
 use Rattle.fol_base.specs.Clause.{TreeLiteral, TreeClause, LiteralVariablesBelow, literal_size, literal_instance, literal_variables, clause_size, clause_instance, clause_variables}
 use Rattle.fol_base.specs.Ground.{literals_instance}
 use Rattle.fol_base.specs.Canonical.{renaming, distinct, bound_of}
@@ -24,7 +24,7 @@ use Rattle.fol_base.proofs.TreeLemmas.{instances-trees_of}
 use Rattle.fol_base.proofs.WalkLemmas.{renaming-kept}
 use Rattle.kernel_steps.specs.Names.{sorted_names}
 use Rattle.kernel_steps.specs.Parents.{Parent, Parents}
-use Rattle.kernel_steps.specs.Conclusion.{Verdict, concludes, verdict_of, binding_fault, clause_with, binds, bound_literals, by_one}
+use Rattle.kernel_steps.specs.Conclusion.{concludes, verdict_of, binding_fault, clause_with, binds, bound_literals, by_one}
 use Rattle.kernel_steps.proofs.BoundLemmas.{is_truth-application}
 use Rattle.eq_rules.specs.Renumbered.{AreNumberedInOrder}
 use Rattle.eq_rules.specs.Concluding.{GivesNumbered}

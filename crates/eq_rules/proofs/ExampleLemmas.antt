@@ -1,6 +1,5 @@
 -- Proofs of the worked examples.
-use Rattle.std.proofs.Common.{◌≡◌, ℕ, ◌+◌, max, false, List, [], ◌∷◌, refl, ap, sym, arith}
-use Rattle.fol_base.specs.Tree.{Tree}
+use Rattle.std.proofs.Common.{◌≡◌, ℕ, false, List, [], ◌∷◌, refl, ap, arith}
 use Rattle.fol_base.specs.Unifier.{IsMostGeneralUnifier}
 use Rattle.fol_base.specs.Canonical.{bound_of}
 use Rattle.fol_base.specs.Examples.{x, a, p, clause, is_predicate, first_is_a}

@@ -1,6 +1,6 @@
 -- Sides of a clause by which nothing is factored.
 use mathlib.Core.Bool.{beq}
-use Rattle.std.proofs.Common.{◌≡◌, ◌⊎◌, ℕ, Bool, true, false, ◌&&◌, ◌||◌, ◌==◌, not, Option, None, Some, List, refl, ap, ap₂, sym, ◌∙◌, subst, ⊎_elim}
+use Rattle.std.proofs.Common.{◌≡◌, ℕ, Bool, true, false, ◌&&◌, ◌==◌, not, Option, None, Some, ap, ap₂, sym, ◌∙◌, subst, ⊎_elim}
 use Rattle.std.specs.Prelude.{slice_get}
 use Rattle.std.proofs.lemmas.Bool.{true≢false, not-true, not_from_false, and_parts, and_from, or_cases, false_from_ne_true}
 use Rattle.std.proofs.lemmas.Option.{same_Some}
@@ -16,14 +16,13 @@ use Rattle.fol_base.specs.declared.clause.Side.{Side}
 use Rattle.fol_base.proofs.InferenceLemmas.{literal_in_instance}
 use Rattle.fol_base.proofs.KindLemmas.{function_term-no_truth}
 use Rattle.fol_base.proofs.RuleLemmas.{factored-parts}
-use Rattle.fol_base.proofs.TreeLemmas.{tree_eq-true}
 use Rattle.fol_base.proofs.WellFormedLemmas.{sides_of_one_kind}
 use Rattle.literal_selection.proofs.EligibleLemmas.{eligible_lifts}
 use Rattle.kernel_steps.specs.Inference.{NamedFactoring, has_predicate_head, are_of_one_kind, other_side_not_above}
 use Rattle.kernel_steps.specs.Named.{IsInference}
 use Rattle.kernel_steps.specs.declared.key.Key.TheVariants.{Factor}
 use Rattle.eq_rules.specs.Factoring.{are_alike, literal_may_become, may_become}
-use Rattle.eq_rules.proofs.FactoringLemmas.{function-head, predicate-head, not_above_by}
+use Rattle.eq_rules.proofs.SideLemmas.{function-head, predicate-head, not_above_by}
 use Rattle.eq_rules.proofs.WideLemmas.{itself}
 
 -- a predicate's head is no `$true`

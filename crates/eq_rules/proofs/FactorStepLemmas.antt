@@ -1,11 +1,10 @@
 -- The walk that numbers the variables of a factoring's conclusion, and what is built after it.
-use Rattle.std.proofs.Common.{◌≡◌, ℕ, ◌+◌, ◌<◌, true, false, Option, None, Some, List, [], ◌∷◌, ◌++◌, length, map, refl, ap, ap₂, sym, ◌∙◌, subst}
+use Rattle.std.proofs.Common.{◌≡◌, ℕ, ◌+◌, true, Option, None, Some, List, [], ◌++◌, length, map, ap, ap₂, sym, ◌∙◌, subst}
 use Rattle.std.specs.Prelude.{flat_map, slice_get, slice_set, option_and_then, unwrap_or}
 use Rattle.std.specs.List.{AllByRecursion}
 use Rattle.std.specs.Option.{is_some, option_map}
 use Rattle.std.proofs.lemmas.Bool.{true≢false}
-use Rattle.std.proofs.lemmas.List.{append_assoc}
-use Rattle.std.proofs.lemmas.Option.{same_Some, slice_get_within, slice_get-map}
+use Rattle.std.proofs.lemmas.Option.{slice_get_within, slice_get-map}
 use Rattle.fol_base.specs.Tree.{Tree, tree_variables, trees_of, trees_variables}
 use Rattle.fol_base.specs.Instance.{Substitution, instance, substitution}
 use Rattle.fol_base.specs.Clause.{TreeLiteral, TreeClause, LiteralVariablesBelow, literal_instance, literal_variables, clause_variables}
@@ -14,7 +13,6 @@ use Rattle.fol_base.specs.Canonical.{renaming, bound_of}
 use Rattle.fol_base.specs.Numbering.{with_variables}
 use Rattle.fol_base.specs.Rules.{factored, disequation}
 use Rattle.fol_base.specs.Sides.{other_side_of}
-use Rattle.fol_base.specs.declared.clause.Side.{Side}
 use Rattle.fol_base.proofs.InferenceLemmas.{factorings_in_instances, other_side_of-instance}
 use Rattle.fol_base.proofs.RuleLemmas.{factored-parts}
 use Rattle.fol_base.proofs.TestLemmas.{option_map-some}

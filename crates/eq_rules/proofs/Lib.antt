@@ -8,6 +8,7 @@ pub mod ResolutionLemmas
 pub mod MadeLemmas
 pub mod ResolutionLists
 pub mod ResolutionAnswers
+pub mod SideLemmas
 pub mod FactoringLemmas
 pub mod FactoringLists
 pub mod ExampleLemmas

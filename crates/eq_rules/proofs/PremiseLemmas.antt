@@ -1,5 +1,5 @@
 -- One premise under a most general unifier of two of its terms, and under the terms that the unifier gives for its variables.
-use Rattle.std.proofs.Common.{◌≡◌, ◌⊎◌, ℕ, ◌<◌, ◌≤◌, Bool, true, false, ◌&&◌, ◌||◌, nat_lt, List, [], ◌∷◌, ◌++◌, length, map, get_or, Option, Some, refl, ap, ap₂, sym, ◌∙◌, subst, ⊎_elim, inl, inr, arith}
+use Rattle.std.proofs.Common.{◌≡◌, ℕ, ◌≤◌, Bool, true, false, ◌&&◌, ◌||◌, nat_lt, List, [], ◌∷◌, ◌++◌, length, Some, ap, sym, ◌∙◌, subst, ⊎_elim, arith}
 use Rattle.std.specs.Prelude.{sum_by, flat_map, slice_get}
 use Rattle.std.specs.List.{AllByRecursion}
 use Rattle.std.proofs.lemmas.Bool.{and_from, or_left, or_right, false_from_ne_true, ltb-true}
@@ -8,15 +8,15 @@ use Rattle.std.proofs.lemmas.Option.{get_or_from_slice_get, slice_get_within}
 use Rattle.fol_base.specs.Tree.{Tree, variable, application, Trees, no_trees, tree_then, trees_of, tree_variables, trees_variables, VariablesBelow, AllVariablesBelow, is_truth}
 use Rattle.fol_base.specs.Instance.{Substitution, instance, instances, substitution}
 use Rattle.fol_base.specs.InstanceLaws.{after}
-use Rattle.fol_base.specs.Clause.{TreeLiteral, TreeClause, LiteralVariablesBelow, ClauseVariablesBelow, literal_size, literal_variables, clause_size, clause_instance, clause_variables}
+use Rattle.fol_base.specs.Clause.{TreeLiteral, TreeClause, LiteralVariablesBelow, literal_size, literal_variables, clause_variables}
 use Rattle.fol_base.specs.Ground.{literals_instance}
 use Rattle.fol_base.specs.Canonical.{bound_of}
 use Rattle.fol_base.specs.Kind.{is_function_term, is_predicate_term, is_literal}
 use Rattle.fol_base.specs.WellFormed.{SymbolUse, is_literal_of, are_literals_of}
-use Rattle.fol_base.specs.Unifier.{IsUnifier, IsMostGeneralUnifier}
-use Rattle.fol_base.specs.declared.clause.Side.TheVariants.{Left, Right}
+use Rattle.fol_base.specs.Unifier.{IsUnifier}
+use Rattle.fol_base.specs.declared.clause.Side.TheVariants.{Left}
 use Rattle.fol_base.proofs.CanonicalLemmas.{length-terms_from}
-use Rattle.fol_base.proofs.InstanceLemmas.{Agree, instance-agree, literals_instance-again, literals-agree}
+use Rattle.fol_base.proofs.InstanceLemmas.{Agree, literals_instance-again, literals-agree}
 use Rattle.fol_base.proofs.KindLemmas.{puts_no_truth}
 use Rattle.fol_base.proofs.TestLemmas.{list_all-item}
 use Rattle.fol_base.proofs.VariableLemmas.{ClauseVariablesBelow-bound}

@@ -1,12 +1,12 @@
 -- Numbers that variables get one after another, and walks over instances of which nothing is built.
-use Rattle.std.proofs.Common.{◌≡◌, ℕ, suc, ◌+◌, ◌-◌, ◌≤◌, Bool, false, ◌==◌, cond, if◌then◌else◌, Option, None, Some, List, [], ◌∷◌, ◌++◌, length, map, take, drop, append-nil, refl, ap, ap₂, sym, ◌∙◌, ⊎_elim}
+use Rattle.std.proofs.Common.{◌≡◌, ℕ, suc, ◌+◌, ◌-◌, ◌≤◌, false, ◌==◌, cond, Option, None, Some, List, [], ◌∷◌, ◌++◌, length, map, take, drop, append-nil, refl, ap, sym, ◌∙◌, ⊎_elim}
 use Rattle.std.specs.Prelude.{flat_map, slice_get, slice_index_or}
 use Rattle.std.specs.Option.{is_some, option_map}
 use Rattle.std.proofs.lemmas.Bool.{cases_Bool, cond-true, cond-false, eqb-true}
 use Rattle.std.proofs.lemmas.Grind.{flat_map-append}
 use Rattle.std.proofs.lemmas.List.{map-append}
 use Rattle.std.proofs.lemmas.List.Sums.{fold-append}
-use Rattle.fol_base.specs.Tree.{Tree, trees_of, tree_variables, trees_variables}
+use Rattle.fol_base.specs.Tree.{trees_of, tree_variables, trees_variables}
 use Rattle.fol_base.specs.Instance.{Substitution, instance, instances}
 use Rattle.fol_base.specs.Clause.{TreeLiteral, literal_instance, literal_variables}
 use Rattle.fol_base.specs.Canonical.{place_of}

@@ -1,5 +1,5 @@
 -- Equality resolution of a literal, by a most general unifier of its sides.
-use Rattle.std.proofs.Common.{◌≡◌, ℕ, ◌<◌, ◌≤◌, Bool, true, false, ◌||◌, ◌==◌, not, nat_lt, Option, None, Some, List, [], ◌∷◌, length, map, get_or, refl, ap, ap₂, sym, ◌∙◌, subst, arith}
+use Rattle.std.proofs.Common.{◌≡◌, ℕ, ◌<◌, ◌≤◌, Bool, true, false, ◌||◌, ◌==◌, not, Option, None, Some, List, length, refl, ap, ap₂, sym, ◌∙◌, subst, arith}
 use Rattle.std.specs.Prelude.{sum_by, slice_get, remove}
 use Rattle.std.specs.List.{AllByRecursion}
 use Rattle.std.specs.Option.{is_some, option_map}
@@ -7,7 +7,7 @@ use Rattle.std.proofs.lemmas.Bool.{true≢false, not-true, or_left, lt-ltb}
 use Rattle.std.proofs.lemmas.List.{length-map}
 use Rattle.std.proofs.lemmas.List.Sums.{sum_by-remove}
 use Rattle.std.proofs.lemmas.Option.{same_Some, slice_get_within}
-use Rattle.fol_base.specs.Tree.{Tree, VariablesBelow, trees_of, trees_variables}
+use Rattle.fol_base.specs.Tree.{Tree, trees_of, trees_variables}
 use Rattle.fol_base.specs.Instance.{Substitution, instance, substitution}
 use Rattle.fol_base.specs.Clause.{TreeLiteral, TreeClause, LiteralVariablesBelow, literal_size, literal_instance, clause_size, clause_instance, clause_variables}
 use Rattle.fol_base.specs.Ground.{literals_instance}
@@ -16,7 +16,7 @@ use Rattle.fol_base.specs.Kind.{is_literal}
 use Rattle.fol_base.specs.Rules.{resolved}
 use Rattle.fol_base.specs.Selection.{SelectionMode, chosen, eligible}
 use Rattle.fol_base.specs.Unifier.{IsUnifier}
-use Rattle.fol_base.specs.declared.clause.Side.TheVariants.{Left, Right}
+use Rattle.fol_base.specs.declared.clause.Side.TheVariants.{Left}
 use Rattle.fol_base.specs.declared.limits.TheConstants.{MOST_SYMBOLS, MOST_BOUND_SYMBOLS}
 use Rattle.fol_base.proofs.InferenceLemmas.{literal_in_instance, resolutions_in_instances}
 use Rattle.fol_base.proofs.RuleLemmas.{resolved-parts, resolved-from}
@@ -27,13 +27,13 @@ use Rattle.kernel_steps.specs.Named.{IsInference}
 use Rattle.kernel_steps.specs.Parents.{Parent}
 use Rattle.kernel_steps.specs.declared.key.Key.TheVariants.{Refl}
 use Rattle.kernel_steps.specs.declared.step.Step.TheVariants as step
-use Rattle.unifier.specs.Bindings.{IsUnified, substitution_of}
+use Rattle.unifier.specs.Bindings.{substitution_of}
 use Rattle.unifier.specs.Renaming.{AreRenamed}
 use Rattle.unifier.specs.declared.bindings.Bindings.{Bindings}
 use Rattle.eq_rules.specs.Inferences.{is_large, IsConcluded, IsMade, premises}
 use Rattle.eq_rules.specs.Concluding.{GivesNumbered, other_chosen}
 use Rattle.eq_rules.specs.Unified.{ResolvesBy}
-use Rattle.eq_rules.specs.declared.inference.Made.TheVariants.{Conclusion, Heavy}
+use Rattle.eq_rules.specs.declared.inference.Made.TheVariants.{Heavy}
 use Rattle.eq_rules.proofs.WideLemmas.{Has, wide, numbered, wide-general, wide-literals, renamed-literals, literals_back, renamed-literals_size}
 use Rattle.eq_rules.proofs.ConclusionLemmas.{conclusion_numbered, bindings_numbered, binds_renamed, verdict_by_one, numbered_literals, numbered-has}
 use Rattle.eq_rules.proofs.PremiseLemmas.{Terms, terms_of, clause-below, literal-below, sides_no_truth, literals-onward, unifier-after_terms, has-literals, not_large}

@@ -1,24 +1,21 @@
 -- The walks that number the variables of a conclusion, and what is built after them.
-use Rattle.std.proofs.Common.{◌≡◌, ℕ, suc, ◌+◌, ◌-◌, ◌<◌, Bool, true, false, Option, None, Some, List, [], ◌∷◌, ◌++◌, length, map, take, drop, append-nil, refl, ap, ap₂, sym, ◌∙◌, subst, arith}
-use Rattle.std.specs.Prelude.{flat_map, slice_get, slice_set, remove}
+use Rattle.std.proofs.Common.{◌≡◌, ℕ, ◌+◌, ◌-◌, ◌<◌, true, Option, None, Some, List, [], ◌∷◌, ◌++◌, length, map, take, drop, append-nil, refl, ap, ap₂, sym, ◌∙◌, subst, arith}
+use Rattle.std.specs.Prelude.{flat_map, slice_set, remove}
 use Rattle.std.specs.List.{AllByRecursion}
 use Rattle.std.specs.Option.{is_some}
 use Rattle.std.proofs.lemmas.Bool.{true≢false}
 use Rattle.std.proofs.lemmas.Grind.{flat_map-append}
-use Rattle.std.proofs.lemmas.Option.{same_Some}
-use Rattle.fol_base.specs.Tree.{Tree, tree_variables, trees_of, trees_variables}
+use Rattle.fol_base.specs.Tree.{Tree, trees_of, trees_variables}
 use Rattle.fol_base.specs.Instance.{Substitution, instance, substitution}
 use Rattle.fol_base.specs.InstanceLaws.{PutsNoTruth}
 use Rattle.fol_base.specs.Clause.{TreeLiteral, TreeClause, LiteralVariablesBelow, literal_instance, literal_variables, clause_variables}
 use Rattle.fol_base.specs.Ground.{literals_instance}
 use Rattle.fol_base.specs.Canonical.{renaming, bound_of}
 use Rattle.fol_base.specs.Numbering.{with_variables}
-use Rattle.fol_base.specs.Rules.{resolved, factored, disequation}
-use Rattle.fol_base.specs.Sides.{other_side_of}
-use Rattle.fol_base.specs.declared.clause.Side.{Side}
-use Rattle.fol_base.proofs.InferenceLemmas.{resolutions_in_instances, factorings_in_instances}
+use Rattle.fol_base.specs.Rules.{resolved}
+use Rattle.fol_base.proofs.InferenceLemmas.{resolutions_in_instances}
 use Rattle.fol_base.proofs.ListLemmas.{remove-parts, set-parts, rest_after}
-use Rattle.fol_base.proofs.RuleLemmas.{resolved-parts, factored-parts}
+use Rattle.fol_base.proofs.RuleLemmas.{resolved-parts}
 use Rattle.kernel_steps.specs.Names.{sorted_names}
 use Rattle.eq_rules.specs.Concluding.{GivesNumbered}
 use Rattle.eq_rules.proofs.RenumberedLemmas.{variables_between, met_onward}

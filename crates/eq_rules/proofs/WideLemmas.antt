@@ -1,6 +1,6 @@
 -- Terms for the first variables that are most general among all that unify, with their variables numbered anew, make a most general
 -- unifier: beyond them each variable becomes one that is new.
-use Rattle.std.proofs.Common.{◌≡◌, ℕ, zero, suc, ◌+◌, ◌-◌, ◌<◌, ◌≤◌, Bool, true, false, ◌==◌, nat_lt, get_or, if◌then◌else◌, Option, None, Some, List, [], ◌∷◌, ◌++◌, length, map, refl, ap, ap₂, sym, ◌∙◌, ⊎_elim, inl, inr, arith}
+use Rattle.std.proofs.Common.{◌≡◌, ℕ, zero, suc, ◌+◌, ◌-◌, ◌<◌, ◌≤◌, true, false, ◌==◌, nat_lt, get_or, if◌then◌else◌, Option, None, Some, List, [], ◌∷◌, ◌++◌, length, map, refl, ap, ap₂, sym, ◌∙◌, ⊎_elim, inl, inr, arith}
 use Rattle.std.specs.Prelude.{unwrap_or, sum_by, flat_map}
 use Rattle.std.specs.List.{AllByRecursion}
 use Rattle.std.specs.Option.{is_some, option_map}
@@ -13,7 +13,7 @@ use Rattle.fol_base.specs.InstanceLaws.{after}
 use Rattle.fol_base.specs.Clause.{TreeLiteral, LiteralVariablesBelow, literal_size, literal_instance, literal_variables}
 use Rattle.fol_base.specs.Ground.{literals_instance}
 use Rattle.fol_base.specs.Canonical.{place_of, renaming}
-use Rattle.fol_base.specs.Unifier.{IsUnifier, IsMostGeneralUnifier}
+use Rattle.fol_base.specs.Unifier.{IsMostGeneralUnifier}
 use Rattle.fol_base.proofs.InstanceLemmas.{Agree, instance-agree, instances_of_instances, instances_agree_below, literals_instance-again, literals-agree}
 use Rattle.eq_rules.specs.Concluding.{IsGeneralBelow}
 

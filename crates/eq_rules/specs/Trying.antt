@@ -1,5 +1,5 @@
 -- What is known of a name that was tried.
-use Rattle.std.specs.Prelude.{ℕ, Bool, List, Option, None, Some, IsTrue}
+use Rattle.std.specs.Prelude.{ℕ, Bool, Option, None, Some, IsTrue}
 use Rattle.fol_base.specs.Clause.{TreeClause}
 use Rattle.fol_base.specs.Selection.{SelectionMode}
 use Rattle.fol_base.specs.WellFormed.{SymbolUse, are_literals_of}
@@ -7,9 +7,8 @@ use Rattle.kernel_steps.specs.Named.{IsInference}
 use Rattle.kernel_steps.specs.declared.key.Key.{Key}
 use Rattle.bank_clause.specs.Clause.{clause_at}
 use Rattle.bank_clause.specs.declared.member.Member.{Member}
-use Rattle.eq_rules.specs.Inferences.{IsMade, AreInferences, alone}
+use Rattle.eq_rules.specs.Inferences.{IsMade, alone}
 use Rattle.eq_rules.specs.declared.inference.Made.{Made}
-use Rattle.eq_rules.specs.declared.inference.Inference.{Inference}
 
 -- the inference of that name has this result, or there is none
 abbrev pub IsTried : (ℕ → Bool) → SelectionMode → (ℕ → Option TreeClause) → Key → Option Made → Type 0

@@ -1,9 +1,7 @@
 -- Unifiers of two sides within one clause.
-use Rattle.std.specs.Prelude.{◌≡◌, ℕ, Bool, true, false, ◌==◌, Some, slice_get}
+use Rattle.std.specs.Prelude.{◌≡◌, ℕ, true, false, Some, slice_get}
 use Rattle.fol_base.specs.Clause.{TreeLiteral, TreeClause, clause_variables}
 use Rattle.fol_base.specs.Canonical.{bound_of}
-use Rattle.fol_base.specs.Sides.{side_of}
-use Rattle.fol_base.specs.declared.clause.Side.{Side}
 use Rattle.unifier.specs.Bindings.{IsUnified}
 use Rattle.unifier.specs.Renaming.{fits}
 use Rattle.unifier.specs.declared.bindings.Bindings.{Bindings}

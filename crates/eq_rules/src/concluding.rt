@@ -49,7 +49,8 @@ pub fn conclude_resolution(
     requires member { IsMemberOf bank.now given.now }
     requires inside { index < length (clause_at given.now.clause).literals }
     requires covers { length terms.now ≡ bound_of (clause_variables (clause_at given.now.clause)) }
-    requires applies { is_some (resolved (literals_instance (substitution terms.now) (clause_at given.now.clause).literals) index) ≡ true }
+    requires applies { is_some
+        (resolved (literals_instance (substitution terms.now) (clause_at given.now.clause).literals) index) ≡ true }
     ensures { IfOk result (IsResolutionStep given.now.number (clause_at given.now.clause) index terms.now) }
 {
     let literals = given.clause.lend(bank);

@@ -27,7 +27,8 @@ ghost use Rattle.eq_rules.specs.Renumbered.{AreNumberedInOrder};
 pub fn size_examples()
     ensures small { IsFalse (is_large (clause (p (x 0) ∷ p a ∷ []))) }
     ensures resolution { SizedResolution select_negative (clause (disequation (x 0) a ∷ p (x 0) ∷ [])) 0 (clause (p a ∷ [])) false }
-    ensures factoring { SizedFactoring is_predicate select_nothing (clause (p (x 0) ∷ p a ∷ [])) 0 Left 1 Left (clause (not_true ∷ p a ∷ [])) false }
+    ensures factoring { SizedFactoring is_predicate select_nothing
+        (clause (p (x 0) ∷ p a ∷ [])) 0 Left 1 Left (clause (not_true ∷ p a ∷ [])) false }
 {}
 
 /// Names and steps: the clause `X0 != a | p(X0)` has the number 3.
@@ -36,7 +37,8 @@ pub fn step_examples()
     ensures of_factoring { key_of (step.Factor 3 0 Left 1 Right []) ≡ Some (Factor 3 0 Left 1 Right) }
     ensures of_merging { key_of (step.Merge 3 0 1 []) ≡ None }
     ensures bindings { bindings_of (step.Refl 3 0 (a ∷ [])) ≡ a ∷ [] }
-    ensures concluded { IsConcluded is_predicate select_negative found_at_three (Refl 3 0) (step.Refl 3 0 (a ∷ [])) (clause (p a ∷ [])) }
+    ensures concluded { IsConcluded is_predicate select_negative found_at_three
+        (Refl 3 0) (step.Refl 3 0 (a ∷ [])) (clause (p a ∷ [])) }
     ensures is_resolution { IsTrue (is_resolution (Refl 3 0)) }
     ensures is_no_factoring { IsFalse (is_factoring (Refl 3 0)) }
 {}

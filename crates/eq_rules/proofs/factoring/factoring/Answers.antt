@@ -1,4 +1,4 @@
-use Rattle.std.proofs.Common.{◌≡◌, ℕ, ◌==◌, false, Some, List, arith, ap, ap₂, sym, refl, ◌∙◌, subst}
+use Rattle.std.proofs.Common.{◌≡◌, ◌==◌, false, Some, List, ap, sym, refl, ◌∙◌, subst}
 use Rattle.std.specs.Prelude.{slice_get}
 use Rattle.std.proofs.lemmas.Bool.{eqb-true, false_from_ne_true}
 use Rattle.fol_base.specs.Tree.{Tree, VariablesBelow}
@@ -11,7 +11,7 @@ use Rattle.bank_clause.specs.Clause.{clause_at}
 use Rattle.unifier.specs.Bindings.{IsUnified}
 use Rattle.eq_rules.specs.Inferences.{alone}
 use Rattle.eq_rules.proofs.FactorRefused.{unlike_unfactored}
-use Rattle.eq_rules.proofs.FactoringLemmas.{side-below}
+use Rattle.eq_rules.proofs.SideLemmas.{side-below}
 use Rattle.eq_rules.proofs.MadeLemmas.{alone_there}
 use Rattle.eq_rules.proofs.PremiseLemmas.{literal-below, literal-kind}
 use Rattle.eq_rules.proofs.ResolutionAnswers.{fits_one}

@@ -1,7 +1,7 @@
-use Rattle.std.proofs.Common.{◌≡◌, ◌⊎◌, ℕ, ◌+◌, ◌-◌, ◌^◌, ◌<◌, ◌≤◌, min, false, None, List, length, inl, inr, arith, ap, sym, ◌∙◌, subst}
-use Rattle.std.specs.Prelude.{sum_by, slice_get}
+use Rattle.std.proofs.Common.{◌≡◌, ℕ, ◌-◌, ◌^◌, min, false, None, List, length, inl, inr, arith, ap, sym, ◌∙◌, subst}
+use Rattle.std.specs.Prelude.{sum_by}
 use Rattle.std.proofs.lemmas.Option.{slice_get_within}
-use Rattle.fol_base.specs.Tree.{Tree, tree_size}
+use Rattle.fol_base.specs.Tree.{tree_size}
 use Rattle.fol_base.specs.Instance.{instance, substitution}
 use Rattle.fol_base.specs.Clause.{TreeLiteral, clause_size, clause_instance, clause_variables, literal_size, literal_instance}
 use Rattle.fol_base.specs.Ground.{literals_instance}
@@ -10,7 +10,7 @@ use Rattle.fol_base.specs.Lent.{lent_of}
 use Rattle.fol_base.specs.Selection.{eligible, select_nothing}
 use Rattle.fol_base.specs.Sides.{side_of, other_side_of}
 use Rattle.fol_base.specs.declared.clause.Side.TheVariants.{Left}
-use Rattle.fol_base.specs.declared.limits.TheConstants.{MOST_SYMBOLS, SIZE_LIMIT}
+use Rattle.fol_base.specs.declared.limits.TheConstants.{MOST_SYMBOLS}
 use Rattle.kernel_steps.specs.Inference.{other_side_not_above}
 use Rattle.term_bank.specs.Literal.{literals_at}
 use Rattle.bank_clause.specs.Clause.{clause_at}
@@ -19,7 +19,8 @@ use Rattle.unifier.specs.Renaming.{AreRenamed}
 use Rattle.unifier.specs.Sizes.{stopped}
 use Rattle.eq_rules.specs.Inferences.{alone}
 use Rattle.eq_rules.proofs.FactorAnswers.{lent_there, part_size, sides_size, total_size, told_size}
-use Rattle.eq_rules.proofs.FactoringLemmas.{alike-kinds, factor_terms, factoring_not_eligible, factoring_not_ordered, factoring_applies, plain_size, factoring_heavy, factoring_concluded}
+use Rattle.eq_rules.proofs.FactoringLemmas.{factor_terms, factoring_not_eligible, factoring_not_ordered, factoring_applies, plain_size, factoring_heavy, factoring_concluded}
+use Rattle.eq_rules.proofs.SideLemmas.{alike-kinds}
 use Rattle.eq_rules.proofs.MadeLemmas.{size_above, size_within, alone_there, made_by_factoring}
 use Rattle.eq_rules.proofs.PremiseLemmas.{literal-kind}
 use Rattle.eq_rules.proofs.factoring.factoring_by.Goals as goal

@@ -1,5 +1,3 @@
-use Rattle.std.specs.Prelude.{IsTrue}
-use Rattle.fol_base.specs.Selection.{chosen}
 use Rattle.literal_selection.specs.Mode.{mode_of}
 use Rattle.eq_rules.specs.Factoring.{AreFactoringsBefore}
 use Rattle.eq_rules.proofs.factoring.factorings.Given as goal

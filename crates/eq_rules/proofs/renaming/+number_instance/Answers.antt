@@ -1,4 +1,4 @@
-use Rattle.std.proofs.Common.{arith, rules, ◌<◌, ◌+◌, ◌*◌, ap, sym, refl, map, ◌∙◌}
+use Rattle.std.proofs.Common.{arith, rules, ◌<◌, ◌+◌, ◌*◌, ap, refl, map, ◌∙◌}
 use Rattle.std.specs.Prelude.{flat_map}
 use Rattle.std.proofs.lemmas.List.{take_all}
 use Rattle.fol_base.specs.Tree.{tree_size, trees_size, trees_of}

@@ -1,10 +1,8 @@
-use Rattle.std.proofs.Common.{◌≡◌, ℕ, false, Some, List, arith, ap, sym, refl, ◌∙◌, subst}
-use Rattle.std.specs.Prelude.{slice_get, IfSome}
+use Rattle.std.proofs.Common.{◌≡◌, false, Some, List, ap, sym, refl, ◌∙◌, subst}
+use Rattle.std.specs.Prelude.{slice_get}
 use Rattle.fol_base.specs.Clause.{TreeLiteral, clause_variables}
 use Rattle.fol_base.specs.Canonical.{bound_of}
 use Rattle.fol_base.specs.Lent.{lent_of}
-use Rattle.fol_base.specs.Tree.{VariablesBelow}
-use Rattle.fol_base.specs.Term.{tree_of}
 use Rattle.bank_clause.specs.Clause.{clause_at}
 use Rattle.unifier.specs.Bindings.{IsUnified}
 use Rattle.eq_rules.proofs.PremiseLemmas.{literal-below}

@@ -1,11 +1,11 @@
-use Rattle.std.proofs.Common.{◌≡◌, ℕ, ◌<◌, ◌≤◌, ◌^◌, ◌-◌, true, false, List, length, arith, ap, sym, ◌∙◌, subst}
+use Rattle.std.proofs.Common.{◌≡◌, ℕ, ◌≤◌, false, List, length, arith, ap, sym, ◌∙◌, subst}
 use Rattle.std.specs.Prelude.{sum_by}
 use Rattle.std.proofs.lemmas.Option.{slice_get_within}
 use Rattle.fol_base.specs.Clause.{TreeLiteral, clause_size, clause_instance, clause_variables, literal_size}
 use Rattle.fol_base.specs.Instance.{substitution}
 use Rattle.fol_base.specs.Ground.{literals_instance}
 use Rattle.fol_base.specs.Canonical.{bound_of}
-use Rattle.fol_base.specs.Selection.{chosen, eligible, select_nothing}
+use Rattle.fol_base.specs.Selection.{eligible, select_nothing}
 use Rattle.fol_base.specs.declared.clause.Side.TheVariants.{Left}
 use Rattle.fol_base.specs.declared.limits.TheConstants.{MOST_SYMBOLS, SIZE_LIMIT}
 use Rattle.term_bank.specs.Literal.{literals_at}
