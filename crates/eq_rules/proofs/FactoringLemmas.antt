@@ -31,9 +31,7 @@ use Rattle.kernel_steps.specs.Names.{sorted_names}
 use Rattle.kernel_steps.specs.Named.{IsInference}
 use Rattle.kernel_steps.specs.Parents.{Parent}
 use Rattle.kernel_steps.specs.declared.step.Step.TheVariants as step
-use Rattle.unifier.specs.Bindings.{substitution_of}
 use Rattle.unifier.specs.Renaming.{AreRenamed}
-use Rattle.unifier.specs.declared.bindings.Bindings.{Bindings}
 use Rattle.unifier.proofs.SharedLemmas.{shared_put_function_terms}
 use Rattle.eq_rules.specs.Inferences.{is_large, SizedFactoring, IsConcluded, IsMade, premises}
 use Rattle.eq_rules.specs.Concluding.{GivesNumbered}
@@ -46,12 +44,13 @@ use Rattle.eq_rules.proofs.StepLemmas.{renaming-no_truth}
 use Rattle.eq_rules.proofs.PremiseLemmas.{Terms, terms_of, clause-below, literal-below, unifier-after_terms, has-instance, not_large}
 use Rattle.eq_rules.proofs.ResolutionLemmas.{eligible_wide}
 use Rattle.eq_rules.proofs.SideLemmas.{Alike, Kinds, alike-parts, not_above_by, sides-size, side-below, other_side-below, side_no_truth}
+use Rattle.unifier.specs.SolvedForm.{SolvedForm, substitution_of}
 
 -- ---- two sides, by a unifier
 
 module _
     (p : ℕ → Bool) (mode : SelectionMode) (clauses : ℕ → Option TreeClause) (number : ℕ) (c : TreeClause) (place : FactorPlace)
-    (there : clauses number ≡ Some c) (b : Bindings) (r : FactorsBy b c place)
+    (there : clauses number ≡ Some c) (b : SolvedForm) (r : FactorsBy b c place)
     (terms right : List Tree) (h : AreRenamed b (bound_of (clause_variables c)) 0 terms right) where
   parts : Alike r.literal_i place.becomes.side r.literal_j place.other.side
   parts = alike-parts r.literal_i place.becomes.side r.literal_j place.other.side r.alike

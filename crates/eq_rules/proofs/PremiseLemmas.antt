@@ -21,13 +21,13 @@ use Rattle.fol_base.proofs.KindLemmas.{puts_no_truth}
 use Rattle.fol_base.proofs.TestLemmas.{list_all-item}
 use Rattle.fol_base.proofs.VariableLemmas.{ClauseVariablesBelow-bound}
 use Rattle.fol_base.proofs.WellFormedLemmas.{is_literal-cases, is_literal_of-parts}
-use Rattle.unifier.specs.Bindings.{IsUnified, substitution_of}
+use Rattle.unifier.specs.Bindings.{IsUnified}
 use Rattle.unifier.specs.Laws.{are_of_one_kind}
 use Rattle.unifier.specs.Renaming.{AreRenamed, renamed}
-use Rattle.unifier.specs.declared.bindings.Bindings.{Bindings}
 use Rattle.unifier.proofs.SharedLemmas.{shared_unify_one, shared_keep_sizes, shared_put_function_terms}
 use Rattle.eq_rules.specs.Concluding.{IsGeneralBelow}
 use Rattle.eq_rules.proofs.WideLemmas.{Has, Has-item, literals-below}
+use Rattle.unifier.specs.SolvedForm.{SolvedForm, substitution_of}
 
 -- ---- a clause's variables
 
@@ -45,13 +45,13 @@ literal-below c i l there =
 
 -- ---- the terms
 
-pub record Terms (c : TreeClause) (s t : Tree) (b : Bindings) (terms : List Tree) : Type 0 where
+pub record Terms (c : TreeClause) (s t : Tree) (b : SolvedForm) (terms : List Tree) : Type 0 where
   pub general : IsGeneralBelow s t terms
   pub many : length terms ≡ bound_of (clause_variables c)
   pub size : sum_by literal_size (literals_instance (substitution terms) c.literals) ≡ sum_by literal_size (literals_instance (substitution_of b Left) c.literals)
 
 pub terms_of :
-    (c : TreeClause) (s t : Tree) (b : Bindings) (terms right : List Tree)
+    (c : TreeClause) (s t : Tree) (b : SolvedForm) (terms right : List Tree)
     → IsUnified false s t (Some b)
     → VariablesBelow (bound_of (clause_variables c)) s → VariablesBelow (bound_of (clause_variables c)) t
     → AreRenamed b (bound_of (clause_variables c)) 0 terms right → Terms c s t b terms
@@ -90,7 +90,7 @@ pub literal-kind :
 literal-kind usage c i l used there = (is_literal_of-parts usage l (list_all-item (is_literal_of usage) c.literals i l there used)).kind
 
 pub sides_no_truth :
-    (p : ℕ → Bool) (l : TreeLiteral) (b : Bindings) (count : ℕ) (terms right : List Tree)
+    (p : ℕ → Bool) (l : TreeLiteral) (b : SolvedForm) (count : ℕ) (terms right : List Tree)
     → is_literal p l ≡ true → IsUnified false l.left l.right (Some b) → AreRenamed b count 0 terms right
     → (v : ℕ) → is_truth (substitution terms v) ≡ false
 sides_no_truth p l b count terms right kind unified h v =

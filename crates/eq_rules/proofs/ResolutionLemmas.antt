@@ -27,9 +27,7 @@ use Rattle.kernel_steps.specs.Named.{IsInference}
 use Rattle.kernel_steps.specs.Parents.{Parent}
 use Rattle.kernel_steps.specs.declared.key.Key.TheVariants.{Refl}
 use Rattle.kernel_steps.specs.declared.step.Step.TheVariants as step
-use Rattle.unifier.specs.Bindings.{substitution_of}
 use Rattle.unifier.specs.Renaming.{AreRenamed}
-use Rattle.unifier.specs.declared.bindings.Bindings.{Bindings}
 use Rattle.eq_rules.specs.Inferences.{is_large, IsConcluded, IsMade, premises}
 use Rattle.eq_rules.specs.Concluding.{GivesNumbered, other_chosen}
 use Rattle.eq_rules.specs.Unified.{ResolvesBy}
@@ -37,6 +35,7 @@ use Rattle.eq_rules.specs.declared.inference.Made.TheVariants.{Heavy}
 use Rattle.eq_rules.proofs.WideLemmas.{Has, wide, numbered, wide-general, wide-literals, renamed-literals, literals_back, renamed-literals_size}
 use Rattle.eq_rules.proofs.ConclusionLemmas.{conclusion_numbered, bindings_numbered, binds_renamed, verdict_by_one, numbered_literals, numbered-has}
 use Rattle.eq_rules.proofs.PremiseLemmas.{Terms, terms_of, clause-below, literal-below, sides_no_truth, literals-onward, unifier-after_terms, has-literals, not_large}
+use Rattle.unifier.specs.SolvedForm.{SolvedForm, substitution_of}
 
 -- ---- eligible literals
 
@@ -73,7 +72,7 @@ chosen_eligible (Some k) ls i strict some h = chosen_is (i == k) h
 
 module _
     (p : ℕ → Bool) (mode : SelectionMode) (clauses : ℕ → Option TreeClause) (number : ℕ) (c : TreeClause) (i : ℕ)
-    (there : clauses number ≡ Some c) (b : Bindings) (r : ResolvesBy b c i) where
+    (there : clauses number ≡ Some c) (b : SolvedForm) (r : ResolvesBy b c i) where
   -- an inference of the name is one of this clause and literal
   abbrev NamedHere : TreeClause → Type 0
   NamedHere e = NamedResolution mode c i e

@@ -16,11 +16,11 @@ use Rattle.bank_clause.specs.Clause.{clause_at}
 use Rattle.bank_clause.specs.declared.member.Member.{Member}
 use Rattle.unifier.specs.Bindings.{IsUnified}
 use Rattle.unifier.specs.Renaming.{fits}
-use Rattle.unifier.specs.declared.bindings.Bindings.{Bindings}
 use Rattle.eq_rules.specs.Inferences.{AreInferences, alone}
 use Rattle.eq_rules.specs.declared.concluding.LiteralSide.{LiteralSide}
 use Rattle.eq_rules.specs.declared.concluding.FactorPlace.{FactorPlace}
 use Rattle.eq_rules.specs.declared.inference.Inference.{Inference}
+use Rattle.unifier.specs.SolvedForm.{SolvedForm}
 
 -- ---- sides by numbers
 
@@ -64,7 +64,7 @@ are_alike l s m z =
     && beq (is_truth (other_side_of s l)) (is_truth (other_side_of z m))
 
 -- a most general unifier of two sides that are alike, of different literals, with no variables but the clause's
-pub record FactorsBy (b : Bindings) (c : TreeClause) (place : FactorPlace) : Type 0 where
+pub record FactorsBy (b : SolvedForm) (c : TreeClause) (place : FactorPlace) : Type 0 where
   pub literal_i : TreeLiteral
   pub i_there : slice_get c.literals place.becomes.literal ≡ Some literal_i
   pub literal_j : TreeLiteral

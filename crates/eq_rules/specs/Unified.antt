@@ -4,10 +4,10 @@ use Rattle.fol_base.specs.Clause.{TreeLiteral, TreeClause, clause_variables}
 use Rattle.fol_base.specs.Canonical.{bound_of}
 use Rattle.unifier.specs.Bindings.{IsUnified}
 use Rattle.unifier.specs.Renaming.{fits}
-use Rattle.unifier.specs.declared.bindings.Bindings.{Bindings}
+use Rattle.unifier.specs.SolvedForm.{SolvedForm}
 
 -- a most general unifier of the sides of a negative literal, with no variables but the clause's
-pub record ResolvesBy (b : Bindings) (c : TreeClause) (i : ℕ) : Type 0 where
+pub record ResolvesBy (b : SolvedForm) (c : TreeClause) (i : ℕ) : Type 0 where
   pub literal : TreeLiteral
   pub there : slice_get c.literals i ≡ Some literal
   pub negative : literal.positive ≡ false

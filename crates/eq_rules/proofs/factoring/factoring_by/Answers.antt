@@ -14,7 +14,6 @@ use Rattle.fol_base.specs.declared.limits.TheConstants.{MOST_SYMBOLS}
 use Rattle.kernel_steps.specs.Inference.{other_side_not_above}
 use Rattle.term_bank.specs.Literal.{literals_at}
 use Rattle.bank_clause.specs.Clause.{clause_at}
-use Rattle.unifier.specs.Bindings.{substitution_of}
 use Rattle.unifier.specs.Renaming.{AreRenamed}
 use Rattle.unifier.specs.Sizes.{stopped}
 use Rattle.eq_rules.specs.Inferences.{alone}
@@ -24,6 +23,7 @@ use Rattle.eq_rules.proofs.SideLemmas.{alike-kinds}
 use Rattle.eq_rules.proofs.MadeLemmas.{size_above, size_within, alone_there, made_by_factoring}
 use Rattle.eq_rules.proofs.PremiseLemmas.{literal-kind}
 use Rattle.eq_rules.proofs.factoring.factoring_by.Goals as goal
+use Rattle.unifier.specs.SolvedForm.{substitution_of}
 
 pub is_not_below-requires : goal.is_not_below-requires
 is_not_below-requires c =

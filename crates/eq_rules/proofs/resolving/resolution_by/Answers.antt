@@ -10,7 +10,6 @@ use Rattle.fol_base.specs.declared.clause.Side.TheVariants.{Left}
 use Rattle.fol_base.specs.declared.limits.TheConstants.{MOST_SYMBOLS, SIZE_LIMIT}
 use Rattle.term_bank.specs.Literal.{literals_at}
 use Rattle.bank_clause.specs.Clause.{clause_at}
-use Rattle.unifier.specs.Bindings.{substitution_of}
 use Rattle.unifier.specs.Renaming.{AreRenamed}
 use Rattle.unifier.specs.Sizes.{stopped}
 use Rattle.eq_rules.specs.Inferences.{alone}
@@ -18,6 +17,7 @@ use Rattle.eq_rules.proofs.MadeLemmas.{size_above, size_within, alone_there, mad
 use Rattle.eq_rules.proofs.PremiseLemmas.{Terms, terms_of, literal-below, literal-kind}
 use Rattle.eq_rules.proofs.ResolutionLemmas.{chosen_eligible, resolution_heavy, eligible_before, resolution_not_eligible, resolution_applies, resolution_concluded}
 use Rattle.eq_rules.proofs.resolving.resolution_by.Goals as goal
+use Rattle.unifier.specs.SolvedForm.{substitution_of}
 
 pub returns-then-size-gt-MOST_SYMBOLS : goal.returns-then-size-gt-MOST_SYMBOLS
 returns-then-size-gt-MOST_SYMBOLS c mode choice_is usage used =
