@@ -99,7 +99,7 @@ pub(crate) const NESTED: &[Nested] = &[
 ];
 
 /// The text of a nested part and what stands round it.
-pub(crate) fn nested(alloc: Global, row: &Nested) -> Mem<Vec<u8>> {
+pub(crate) fn nested_text(alloc: Global, row: &Nested) -> Mem<Vec<u8>> {
     let mut page = Vec::new(alloc);
     page.extend_from_slice(row.before)?;
     for _ in 0..row.times {

@@ -1,7 +1,7 @@
 // What no clause says: outside rows, and that checks succeed.
 
 use crate::examples::TWO_UNITS;
-use crate::large::{NESTED, bound_to, bracketed, nested};
+use crate::large::{NESTED, bound_to, bracketed, nested_text};
 use crate::outcome::{Outcome, answer_on};
 use crate::rows::{ACCEPTED, Change, REFUSED, REFUSED_TOO, Row};
 use plain_types::Mem;
@@ -61,7 +61,7 @@ fn deep_lines_are_read(rt: HostRuntime) -> Result<(), Fail> {
         );
     }
     for row in NESTED {
-        let text = nested(alloc, row)?;
+        let text = nested_text(alloc, row)?;
         assert_eq!(rt; answer_on(alloc, row.problem, text.as_slice())?, row.answer);
     }
     Ok(())
