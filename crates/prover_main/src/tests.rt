@@ -65,11 +65,10 @@ fn checked(alloc: Global, row: &Row) -> Result<(u8, bool), Fail> {
     let example = row.example.example();
     let derivation = derivation_of(alloc, row)?;
     let words = words_of(alloc, &["check", example.file, "d"])?;
-    let files = [
-        (example.file, example.problem),
-        ("d", derivation.as_slice()),
-    ];
-    let mut library = library_of(alloc, files.as_slice(), &[])?;
+    let mut files = Files::new(alloc);
+    files.push(MemFile::new(alloc, example.file, example.problem)?)?;
+    files.push(MemFile::new(alloc, "d", derivation.as_slice())?)?;
+    let mut library = MemLibrary::new(alloc, files, Numbers::new(alloc));
     let mut sink = MemSink::new(alloc, 64, 1000, Numbers::new(alloc))?;
     let status = run(alloc, &words, &mut library, &mut sink);
     Ok((status, sink.bytes() == row.report))
