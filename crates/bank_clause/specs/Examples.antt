@@ -1,11 +1,11 @@
 -- Worked examples: the clause p(X0) | X0 != a with the assertion of the name 3, in a bank that has its four sides.
-use Rattle.std.specs.Prelude.{◌≡◌, ℕ, true, false, [], ◌∷◌}
-use Rattle.fol_base.specs.Tree.{Tree, true_tree}
+use Rattle.std.specs.Prelude.{◌≡◌, true, false, [], ◌∷◌}
+use Rattle.fol_base.specs.Tree.{true_tree}
 use Rattle.fol_base.specs.Clause.{TreeClause}
 use Rattle.fol_base.specs.Examples.{x, a, p}
 use Rattle.fol_base.specs.Rules.{disequation}
 use Rattle.term_bank.specs.Bank.{tree_at, AreOf}
-use Rattle.term_bank.specs.Examples.{table_of}
+use Rattle.term_bank.specs.Examples.{table_of, under}
 use Rattle.term_bank.specs.declared.table.Table.{Table}
 use Rattle.term_bank.specs.declared.bank.Bank.{Bank}
 use Rattle.term_bank.specs.declared.literal.BankLit.{BankLit}
@@ -49,10 +49,6 @@ IsOfItsBank =
 -- a table that has the numbers 0 to 3 for these sides
 abbrev pub known_sides : Table
 known_sides = table_of (((p (x 0)).left, 0) ∷ (true_tree, 1) ∷ (x 0, 2) ∷ (a, 3) ∷ [])
-
--- the reference with this number to this tree
-abbrev pub under : ℕ → Tree → TermRef
-under n t = record { number = n; bank = 1; tree = t }
 
 -- the clause under these numbers, and under another one of its constant
 abbrev pub first_clause : BankClause

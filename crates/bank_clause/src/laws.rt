@@ -1,13 +1,16 @@
 // The laws of clauses in banks, and worked examples of their definitions: the contracts of functions
 // without arguments and with empty bodies.
 
-ghost use Rattle.std.specs.Prelude.{◌≡◌, true, false, [], ◌∷◌};
+ghost use Rattle.std.specs.Prelude.{◌≡◌, true, false, [], ◌∷◌, ◌++◌};
+ghost use Rattle.std.specs.Hash as fed;
 ghost use Rattle.std.specs.List.{All};
 ghost use Rattle.fol_base.specs.Tree.{true_tree};
 ghost use Rattle.fol_base.specs.Examples.{x, a, p};
 ghost use Rattle.plain_types.specs.Examples.{positive_name};
 ghost use Rattle.fol_base.specs.Canonical.{IsCanonical, bound_of};
 ghost use Rattle.fol_base.specs.Clause.{clause_size, clause_variables};
+ghost use Rattle.term_bank.specs.Equality.{literal_input};
+ghost use Rattle.bank_clause.specs.Equality.{clause_input};
 ghost use Rattle.bank_clause.specs.Parts.{assertion};
 ghost use Rattle.bank_clause.specs.Clause.{AreAssertions, IsKnown, equal_by_numbers, sides};
 ghost use Rattle.bank_clause.specs.Examples.{IsOfItsBank, StandsForRow, first_clause, known_sides, other_clause, row, row_of_another};
@@ -40,7 +43,7 @@ pub fn same_clauses()
     ensures { SameAreEqual }
 {}
 
-/// What a bank clause stands for, and which clauses are of a bank.
+/// What a bank clause stands for, which clauses are of a bank, and what is hashed of one.
 pub fn examples()
     ensures stands_for { StandsForRow }
     ensures of_bank { IsOfItsBank }
@@ -48,6 +51,7 @@ pub fn examples()
     ensures variables_counted { bound_of (clause_variables row) ≡ 1 }
     ensures known { All (IsKnown known_sides) first_clause.literals }
     ensures not_known { ¬ All (IsKnown known_sides) other_clause.literals }
+    ensures hashed { clause_input first_clause ≡ fed.slice literal_input first_clause.literals ++ fed.slice fed.u32 (3 ∷ []) }
     ensures equal { equal_by_numbers first_clause first_clause ≡ true }
     ensures other_number { equal_by_numbers first_clause other_clause ≡ false }
     ensures other_name { equal_by_numbers first_clause (record { literals = first_clause.literals; names = [] }) ≡ false }

@@ -1,12 +1,14 @@
 -- Laws of the words on banks: what callers may use without a look into a table.
-use Rattle.std.specs.Prelude.{◌≡◌, ℕ, ◌*◌, ◌^◌, ◌≤◌, true, List, ◌++◌, [], ◌∷◌, Some, is_some, Contains}
+use Rattle.std.specs.Prelude.{◌≡◌, ℕ, ◌*◌, ◌^◌, ◌≤◌, true, false, List, ◌++◌, [], ◌∷◌, Some, is_some, Contains}
 use Rattle.std.specs.List.{All}
 use Rattle.fol_base.specs.Tree.{Tree}
 use Rattle.term_bank.specs.Bank.{IsOf, IsDefault, number, tree_at}
 use Rattle.term_bank.specs.Entry.{interned}
+use Rattle.term_bank.specs.Literal.{IsLiteralOf, IsDefaultLiteral}
 use Rattle.term_bank.specs.Table.{entries, number_in}
 use Rattle.term_bank.specs.Interning.{trees_in, InternsAll, InternsFirst}
 use Rattle.term_bank.specs.declared.reference.TermRef.{TermRef}
+use Rattle.term_bank.specs.declared.literal.BankLit.{BankLit}
 use Rattle.term_bank.specs.declared.rows.TheConstants.{ROWS}
 use Rattle.term_bank.specs.declared.bank.Bank.{Bank}
 use Rattle.term_bank.specs.declared.table.Table.{Table}
@@ -18,6 +20,13 @@ LacksDefaults = (bank : Bank) (r : TermRef) → IsDefault r → ¬ IsOf bank r
 -- and its number is past those that `TermRef::number` tells of references of a bank
 abbrev pub LacksPlaces : Type 0
 LacksPlaces = (r : TermRef) → IsDefault r → ROWS * 2 ^ 32 ≤ number r
+
+-- a default literal is negative, and of no bank
+abbrev pub DefaultsAreNegative : Type 0
+DefaultsAreNegative = (l : BankLit) → IsDefaultLiteral l → l.positive ≡ false
+
+abbrev pub LacksDefaultLiterals : Type 0
+LacksDefaultLiterals = (bank : Bank) (l : BankLit) → IsDefaultLiteral l → ¬ IsLiteralOf bank l
 
 -- a table keeps its numbers when a tree is interned
 abbrev pub KeepsNumbers : Type 0

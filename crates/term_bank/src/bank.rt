@@ -1,6 +1,6 @@
 // The bank.
 
-ghost use Rattle.std.specs.Prelude.{◌≡◌, [], Some, IfOk, OnErr};
+ghost use Rattle.std.specs.Prelude.{◌≡◌, [], None, Some, IfOk, OnErr};
 ghost use Rattle.fol_base.specs.Term.{tree_of};
 ghost use Rattle.term_bank.specs.Bank.{identity, number, tree_at, IsOf};
 ghost use Rattle.term_bank.specs.Entry.{interned};
@@ -64,7 +64,8 @@ impl Bank {
     }
 
     /// The reference of a term's tree, with the number that the table has for it; a tree that the table
-    /// doesn't have is added. After want of memory the table is as before.
+    /// doesn't have is added. Want of memory comes only for a tree that the table doesn't have, and leaves the table
+    /// as before.
     ///
     /// A term that is there is hashed, and compared with the bank's own; a new one is hashed once and copied once.
     pub fn intern<R: Wait>(
@@ -82,6 +83,7 @@ impl Bank {
             entries table.new ≡ interned (entries table.old) (tree_of term.now) (number reference)) }
         ensures table { IsTableOf self.now table.new }
         ensures table_unchanged { OnErr result (table.new ≡ table.old) }
+        ensures known_given { OnErr result (number_in table.old (tree_of term.now) ≡ None) }
     {
         let hash = term_hash(0, term);
         if let Some(reference) = table.find(self, hash, term) {
@@ -106,6 +108,7 @@ impl Bank {
             entries table.new ≡ interned (entries table.old) (tree_of term) (number reference)) }
         ensures table { IsTableOf self.now table.new }
         ensures table_unchanged { OnErr result (table.new ≡ table.old) }
+        ensures known_given { OnErr result (number_in table.old (tree_of term) ≡ None) }
     {
         let hash = term_hash(0, &term);
         if let Some(reference) = table.find(self, hash, &term) {

@@ -54,7 +54,7 @@ const SHORTER: usize = 27;
 const LONGEST: u64 = 1 << 32;
 
 /// How many places all rows have together: those of the shorter rows are `LONGEST - FIRST`.
-const PLACES: u64 = 229 * LONGEST - 32;
+const PLACES: u64 = (ROWS - SHORTER + 1) as u64 * LONGEST - FIRST;
 
 /// What shows that a row is of a bank, and a term of the row. It has no bytes.
 #[derive(Drop)]

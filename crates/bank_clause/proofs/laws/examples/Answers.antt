@@ -2,7 +2,7 @@ use Rattle.std.proofs.Common.{◌≡◌, ℕ, true≢false, true, false, [], ap,
 use Rattle.std.specs.Option.{unwrap_or}
 use Rattle.fol_base.specs.Examples.{a}
 use Rattle.term_bank.specs.declared.literal.BankLit.{BankLit}
-use Rattle.bank_clause.specs.Examples.{under}
+use Rattle.term_bank.specs.Examples.{under}
 use Rattle.std.proofs.lemmas.List.Elements.{All-head}
 use Rattle.bank_clause.proofs.ExampleLemmas.{stands_for_row, is_of_its_bank}
 use Rattle.bank_clause.proofs.laws.examples.Goals as goal
