@@ -15,29 +15,31 @@ const A: u32 = 1;
 
 const F: u32 = 2;
 
-/// Whether a term has one number, lent and handed over, and its reference lends it.
-fn keeps_its_number<R: Wait>(
-    rt: &R,
-    alloc: Global,
-    bank: &Bank,
-    table: &mut Table,
-    term: &Term,
-) -> Mem<bool>
+const G: u32 = 3;
+
+/// Whether `f(a)`, lent and later handed over, has one number, `g(a)` another one, and each reference lends its term.
+fn keep_their_numbers<R: Wait>(rt: &R, alloc: Global, bank: &Bank, table: &mut Table) -> Mem<bool>
     requires { IsTableOf bank.now table.old }
-    ensures { IsTableOf bank.now table.new }
 {
-    let first = bank.intern(rt, alloc, table, term)?;
-    let again = bank.intern_owned(rt, alloc, table, term.copy(alloc)?)?;
-    Ok(first == again && first != TermRef::default() && same_term(bank.tree(&again), term))
+    let f_of_a = unary(alloc, F, constant(alloc, A))?;
+    let g_of_a = unary(alloc, G, constant(alloc, A))?;
+    let first = bank.intern(rt, alloc, table, &f_of_a)?;
+    let second = bank.intern(rt, alloc, table, &g_of_a)?;
+    let third = bank.intern_owned(rt, alloc, table, f_of_a.copy(alloc)?)?;
+    Ok(
+        first == third
+            && first != second
+            && first != TermRef::default()
+            && same_term(bank.tree(&first), &f_of_a)
+            && same_term(bank.tree(&second), &g_of_a),
+    )
 }
 
 #[test]
 fn known_terms_keep_their_numbers(rt: HostRuntime) -> Result<(), Fail> {
     let alloc = rt.alloc();
-    let term = unary(alloc, F, constant(alloc, A))?;
     let (bank, mut table) = Bank::new(alloc)?;
-    assert!(rt; keeps_its_number(&rt, alloc, &bank, &mut table, &term)?);
-    assert!(rt; keeps_its_number(&rt, alloc, &bank, &mut table, &constant(alloc, A))?);
+    assert!(rt; keep_their_numbers(&rt, alloc, &bank, &mut table)?);
     Ok(())
 }
 

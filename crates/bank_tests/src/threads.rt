@@ -1,13 +1,16 @@
 // Threads that read and intern in one bank.
 
-ghost use Rattle.std.specs.Prelude.{IfOk};
-ghost use Rattle.term_bank.specs.Bank.{AreOf};
+ghost use Rattle.std.specs.Prelude.{◌≡◌, suc, [], ◌∷◌, get_or, IfOk};
+ghost use Rattle.term_bank.specs.Bank.{identity, AreOf};
 ghost use Rattle.term_bank.specs.Table.{IsTableOf};
 
+use boxcar::Keeps;
+use boxcar::tag::{Names, Tag};
 use fol_base::{Term, same_term};
-use plain_types::Mem;
+use plain_types::{Mem, NoMemory};
 use std::alloc::Global;
 use std::sync::Wait;
+use std::sync::atomic::{AtomicBool, Ordering};
 use std::test::Fail;
 use std::thread;
 use std::thread::Threads;
@@ -16,10 +19,23 @@ use term_bank::{Bank, Table, TermRef};
 /// How many terms are there before.
 const KNOWN: u32 = 1_000;
 
-/// Up to which variable each of two threads interns: rows of up to 32,768 places are made while both are at work.
+/// Up to which variable a thread interns: rows of up to 32,768 places are made while others are at work.
 const TERMS: u32 = 20_000;
 
-const ROUNDS: u32 = 10;
+/// References that a thread hands to others which run already. Each is of the bank by whose identity they are tagged.
+type Handed = boxcar::Vec<TermRef, Global, OfTaggedBank>;
+
+struct OfTaggedBank;
+
+impl Keeps<TermRef> for OfTaggedBank {
+    ghost holds = { λ tag _ r. r.bank ≡ suc (get_or tag 0 0) };
+}
+
+struct Identity;
+
+impl Names<Bank> for Identity {
+    ghost numbers = { λ bank. identity bank ∷ [] };
+}
 
 /// The variables with these numbers.
 fn variables(alloc: Global, first: u32, end: u32) -> Mem<Vec<Term>> {
@@ -49,15 +65,13 @@ fn taken_in<R: Wait>(
     Ok(made)
 }
 
-/// Whether each reference lends its term, each time that it is asked.
-fn read_their_own(bank: &Bank, references: &[TermRef], terms: &[Term]) -> bool
+/// Whether each reference lends its term.
+fn lend_their_terms(bank: &Bank, references: &[TermRef], terms: &[Term]) -> bool
     requires { AreOf bank.now references.now }
 {
-    for _ in 0..ROUNDS {
-        for index in 0..references.len().min(terms.len()) {
-            if !same_term(bank.tree(&references[index]), &terms[index]) {
-                return false;
-            }
+    for index in 0..references.len().min(terms.len()) {
+        if !same_term(bank.tree(&references[index]), &terms[index]) {
+            return false;
         }
     }
     references.len() == terms.len()
@@ -116,14 +130,112 @@ fn get_their_own<R: Threads + Wait + Sync>(
     let mut second = bank.empty_table(alloc);
     let (one, other) = both_intern(rt, alloc, bank, first, &mut second, terms)?;
     Ok(
-        read_their_own(bank, one.as_slice(), terms)
-            && read_their_own(bank, other.as_slice(), terms)
+        lend_their_terms(bank, one.as_slice(), terms)
+            && lend_their_terms(bank, other.as_slice(), terms)
             && numbers_differ(alloc, one.as_slice(), other.as_slice())?,
     )
 }
 
-/// Whether a thread that reads sees its terms while two others intern, and these get theirs.
-fn read_while_two_intern<R: Threads + Wait + Sync>(
+#[test]
+fn two_threads_intern_in_one_bank(rt: HostRuntime) -> Result<(), Fail> {
+    let alloc = rt.alloc();
+    let terms = variables(alloc, 0, TERMS)?;
+    let (bank, mut table) = Bank::new(alloc)?;
+    assert!(rt; get_their_own(&rt, alloc, &bank, &mut table, terms.as_slice())?);
+    Ok(())
+}
+
+/// A list of references of the bank to be handed on, none yet.
+fn none_handed(alloc: Global, bank: &Bank) -> Mem<Handed>
+    ensures { IfOk result (λ handed. handed.tag ≡ identity bank.now ∷ []) }
+{
+    Ok(boxcar::Vec::with_rule(alloc, Tag::of::<Bank, Identity>(bank))?)
+}
+
+/// Interns terms one after another, and hands on each reference.
+fn hand_on<R: Wait>(
+    rt: &R,
+    alloc: Global,
+    bank: &Bank,
+    table: &mut Table,
+    terms: &[Term],
+    handed: &Handed,
+) -> Mem<()>
+    requires table { IsTableOf bank.now table.old }
+    requires handed { handed.now.tag ≡ identity bank.now ∷ [] }
+    ensures { IsTableOf bank.now table.new }
+{
+    for term in terms {
+        let reference = bank.intern(rt, alloc, table, term)?;
+        if handed.push(rt, reference).is_err() {
+            return Err(NoMemory);
+        }
+    }
+    Ok(())
+}
+
+/// Whether each reference that is handed on by now lends its term.
+fn handed_lend_their_terms(bank: &Bank, handed: &Handed, terms: &[Term]) -> bool
+    requires { handed.now.tag ≡ identity bank.now ∷ [] }
+{
+    for index in 0..handed.count().min(terms.len()) {
+        let Some(reference) = handed.get(index) else {
+            return false;
+        };
+        if !same_term(bank.tree(reference), &terms[index]) {
+            return false;
+        }
+    }
+    true
+}
+
+/// Reads references that were there before, again and again until the interning has ended.
+fn read_known<R: Wait>(
+    rt: &R,
+    bank: &Bank,
+    references: &[TermRef],
+    terms: &[Term],
+    ended: &AtomicBool,
+) -> bool
+    requires { AreOf bank.now references.now }
+{
+    for _ in rt.forever() {
+        let last = ended.load(Ordering::SeqCst);
+        if !lend_their_terms(bank, references, terms) {
+            return false;
+        }
+        if last {
+            return true;
+        }
+    }
+    unreachable!()
+}
+
+/// Reads what is handed on, again and again until the interning has ended. The last time all of them are there.
+fn read_handed<R: Wait>(
+    rt: &R,
+    bank: &Bank,
+    handed: &Handed,
+    terms: &[Term],
+    ended: &AtomicBool,
+) -> bool
+    requires { handed.now.tag ≡ identity bank.now ∷ [] }
+{
+    for _ in rt.forever() {
+        let last = ended.load(Ordering::SeqCst);
+        if !handed_lend_their_terms(bank, handed, terms) {
+            return false;
+        }
+        if last {
+            return handed.count() == terms.len();
+        }
+    }
+    unreachable!()
+}
+
+/// Whether two readers see their own for as long as another thread interns: one reads terms that were there before, the other what
+/// it is handed meanwhile.
+fn read_while_one_interns<R: Threads + Wait + Sync>(
     rt: &R,
     alloc: Global,
     bank: &Bank,
@@ -135,24 +247,37 @@ fn read_while_two_intern<R: Threads + Wait + Sync>(
 {
     let references = taken_in(rt, alloc, bank, table, known)?;
     let lent = references.as_slice();
-    let (interned, read) = thread::join(
+    let handed = none_handed(alloc, bank)?;
+    let ended = AtomicBool::new(false);
+    let (interned, (first, second)) = thread::join(
         rt,
         ||
             requires { IsTableOf bank.now table.now }
-        { get_their_own(rt, alloc, bank, table, terms) },
-        || read_their_own(bank, lent, known),
+        {
+            let interned = hand_on(rt, alloc, bank, table, terms, &handed);
+            ended.store(true, Ordering::SeqCst);
+            interned
+        },
+        || {
+            thread::join(
+                rt,
+                || read_known(rt, bank, lent, known, &ended),
+                || read_handed(rt, bank, &handed, terms, &ended),
+            )
+        },
     );
-    Ok(interned? && read)
+    interned?;
+    Ok(first && second)
 }
 
 #[test]
-fn a_thread_reads_while_two_intern(rt: HostRuntime) -> Result<(), Fail> {
+fn two_threads_read_while_one_interns(rt: HostRuntime) -> Result<(), Fail> {
     let alloc = rt.alloc();
     let known = variables(alloc, 0, KNOWN)?;
     let terms = variables(alloc, KNOWN, TERMS)?;
     let (bank, mut table) = Bank::new(alloc)?;
     assert!(rt;
-        read_while_two_intern(
+        read_while_one_interns(
             &rt,
             alloc,
             &bank,

@@ -6,8 +6,8 @@ use Rattle.tptp_tree.specs.declared.problem.Annotated.{Annotated}
 use Rattle.prover_main.specs.Outside.{Outside}
 use Rattle.prover_main.specs.declared.answer.Answer.{Answer}
 use Rattle.prover_main.specs.declared.answer.Answer.TheVariants.{Refuted, Spent, Closed, NotBuilt, Accepted, Refused, Unloaded, Unread, Unformed}
-use Rattle.prover_main.specs.Answer.{Source, IsFormed, OfFormed, IsProofAnswer, IsLoaded, IsJudgement, IsProveAnswer, IsCheckAnswer}
-use Rattle.prover_main.specs.AnswerShape.{IsFormedFrom, IsStop, IsStopAnswer, IsGroundProof, IsNotBuiltAnswer}
+use Rattle.prover_main.specs.Answer.{Source, IsFormed, OfFormed, IsGroundProof, IsProofAnswer, IsLoaded, IsJudgement, IsProveAnswer, IsCheckAnswer}
+use Rattle.prover_main.specs.AnswerShape.{IsFormedFrom, IsStop, IsStopAnswer, IsNotBuiltAnswer}
 use Rattle.prover_main.specs.declared.problem.FormedProblem.{FormedProblem}
 use Rattle.prover_main.specs.declared.problem.Stop.{Stop}
 use Rattle.prover_main.specs.declared.problem.Stop.TheVariants.{NoMemory, Unread as NotRead, Unformed as NotFormed}
@@ -37,37 +37,37 @@ of_formed outside source formed Says h says = record { formulas = formed.problem
 
 -- what the ground loop answers, where it takes the form
 pub ground_proves :
-    (formulas : List Annotated) (limit : ℕ) (answer : Answer)
-    → first_outside (clausal_form formulas).clauses ≡ None → IsGroundProof formulas limit answer → IsProofAnswer formulas limit answer
-ground_proves formulas limit (NotBuilt name) none p = absurd p
-ground_proves formulas limit (Refuted conjecture derivation) none p = (none, p)
-ground_proves formulas limit (Spent count allowed) none p = (none, p)
-ground_proves formulas limit Closed none p = (none, p)
-ground_proves formulas limit (Accepted lines) none p = absurd p
-ground_proves formulas limit (Refused line cause) none p = absurd p
-ground_proves formulas limit (Unloaded name) none p = absurd p
-ground_proves formulas limit (Unread cause name place) none p = absurd p
-ground_proves formulas limit (Unformed cause name) none p = absurd p
+    (file : List ℕ) (formulas : List Annotated) (limit : ℕ) (answer : Answer)
+    → first_outside (clausal_form formulas).clauses ≡ None → IsGroundProof file formulas limit answer → IsProofAnswer file formulas limit answer
+ground_proves file formulas limit (NotBuilt name) none p = absurd p
+ground_proves file formulas limit (Refuted conjecture derivation) none p = (none, p)
+ground_proves file formulas limit (Spent count allowed) none p = (none, p)
+ground_proves file formulas limit Closed none p = (none, p)
+ground_proves file formulas limit (Accepted lines) none p = absurd p
+ground_proves file formulas limit (Refused line cause) none p = absurd p
+ground_proves file formulas limit (Unloaded name) none p = absurd p
+ground_proves file formulas limit (Unread cause name place) none p = absurd p
+ground_proves file formulas limit (Unformed cause name) none p = absurd p
 
 -- and what the first other clause answers
 pub not_built_proves :
-    (formulas : List Annotated) (limit index : ℕ) (answer : Answer)
-    → first_outside (clausal_form formulas).clauses ≡ Some index → IsNotBuiltAnswer formulas index answer → IsProofAnswer formulas limit answer
-not_built_proves formulas limit index answer first h =
-    subst (IsProofAnswer formulas limit) (sym h.1) (record { index = index; is_outside = first; name_is = h.2 })
+    (file : List ℕ) (formulas : List Annotated) (limit index : ℕ) (answer : Answer)
+    → first_outside (clausal_form formulas).clauses ≡ Some index → IsNotBuiltAnswer formulas index answer → IsProofAnswer file formulas limit answer
+not_built_proves file formulas limit index answer first h =
+    subst (IsProofAnswer file formulas limit) (sym h.1) (record { index = index; is_outside = first; name_is = h.2 })
 
 pub proof_proves :
     (outside : Outside) (source : Source) (limit : ℕ) (formed : FormedProblem) (answer : Answer)
-    → IsFormedFrom outside.told source formed → IsProofAnswer formed.problem.formulas limit answer → IsProveAnswer outside source limit answer
+    → IsFormedFrom outside.told source formed → IsProofAnswer source.file formed.problem.formulas limit answer → IsProveAnswer outside source limit answer
 proof_proves outside source limit formed (Refuted conjecture derivation) h p = of_formed outside source formed _ h p
 proof_proves outside source limit formed (Spent count allowed) h p = of_formed outside source formed _ h p
 proof_proves outside source limit formed Closed h p = of_formed outside source formed _ h p
 proof_proves outside source limit formed (NotBuilt name) h p = of_formed outside source formed _ h p
-proof_proves outside source limit formed (Accepted lines) h p = absurd p
-proof_proves outside source limit formed (Refused line cause) h p = absurd p
-proof_proves outside source limit formed (Unloaded name) h p = absurd p
-proof_proves outside source limit formed (Unread cause name place) h p = absurd p
-proof_proves outside source limit formed (Unformed cause name) h p = absurd p
+proof_proves outside source limit formed (Accepted lines) h p = absurd p.1
+proof_proves outside source limit formed (Refused line cause) h p = absurd p.1
+proof_proves outside source limit formed (Unloaded name) h p = absurd p.1
+proof_proves outside source limit formed (Unread cause name place) h p = absurd p.1
+proof_proves outside source limit formed (Unformed cause name) h p = absurd p.1
 
 pub judgement_checks :
     (outside : Outside) (source : Source) (derivation text : List ℕ) (formed : FormedProblem) (answer : Answer)

@@ -13,3 +13,4 @@ pub mod PlacedLemmas
 pub mod OneAnswer
 pub mod RunLaws
 pub mod PieceExamples
+pub mod TruthLaws

@@ -134,9 +134,9 @@ prove-stage outside source limit Closed h = at_work h.formulas h.formed (in_scop
 prove-stage outside source limit (NotBuilt n) h = at_work h.formulas h.formed (out_of_scope n h.says refl)
 prove-stage outside source limit (Unread c f p) h = at_reading c f p h refl
 prove-stage outside source limit (Unformed c n) h = at_forming c n h refl
-prove-stage outside source limit (Accepted n) h = absurd h.says
-prove-stage outside source limit (Refused n c) h = absurd h.says
-prove-stage outside source limit (Unloaded n) h = absurd h.says
+prove-stage outside source limit (Accepted n) h = absurd h.says.1
+prove-stage outside source limit (Refused n c) h = absurd h.says.1
+prove-stage outside source limit (Unloaded n) h = absurd h.says.1
 
 pub faults-are-the-only-answer : FaultsAreTheOnlyAnswer
 faults-are-the-only-answer outside source limit a b t x h k =

@@ -1,5 +1,5 @@
 -- What no delivery in pieces does at a sink that is given its answers: it makes no write behind one that failed.
-use Rattle.std.proofs.Common.{◌≡◌, ℕ, List, [], ◌∷◌, ap, sym, subst, refl, ◌∙◌}
+use Rattle.std.proofs.Common.{◌≡◌, ◌<◌, ℕ, List, [], ◌∷◌, ◌++◌, length, ap, sym, subst, refl, ◌∙◌, append_assoc, append-nil, arith}
 use Rattle.std.specs.Prelude.{Result, Ok, Err}
 use Rattle.outside.specs.Examples.{Script, script_gives}
 use Rattle.outside.specs.Sink.{Delivers, none_left, takes, fails}
@@ -40,3 +40,29 @@ pub pieces-begin :
 pieces-begin fault rest e (at_once d) = whole-begins fault rest e d
 pieces-begin fault rest e (front_and_back front back d then) = joined fault rest e (pieces-begin fault rest e d) (λ f. pieces-begin fault rest f then)
 pieces-begin fault rest e (front_alone front back d) = pieces-begin fault rest e d
+
+-- ---- a text that is delivered at once
+
+pub heads : {A : Type 0} {x y : A} {xs ys : List A} → x ∷ xs ≡ y ∷ ys → x ≡ y
+heads e = cc
+
+-- what a delivery hands the sink comes behind what it was handed before
+handed-more :
+    {before after : Script} {text : List ℕ} {result : Result (Unit {0}) SinkFault}
+    → Delivers script_gives before text result after → (more : List (List ℕ)) × (after.handed ≡ before.handed ++ more)
+handed-more {before = before} none_left = ([], sym (append-nil before.handed))
+handed-more {before = before} {text = text} (takes some given delivers) =
+    let rest = handed-more delivers in
+    (text ∷ rest.0, rest.1 ∙ ap (λ hs. hs ++ rest.0) given.1 ∙ append_assoc before.handed (text ∷ []) rest.0)
+handed-more {text = text} (fails some given) = (text ∷ [], given.1)
+
+-- and its first write is handed the whole text
+pub handed-first :
+    {before after : Script} {text : List ℕ} {result : Result (Unit {0}) SinkFault}
+    → 0 < length text → Delivers script_gives before text result after
+    → (more : List (List ℕ)) × (after.handed ≡ before.handed ++ text ∷ more)
+handed-first filled none_left = absurd (omega (arith, filled))
+handed-first {before = before} {text = text} filled (takes some given delivers) =
+    let rest = handed-more delivers in
+    (rest.0, rest.1 ∙ ap (λ hs. hs ++ rest.0) given.1 ∙ append_assoc before.handed (text ∷ []) rest.0)
+handed-first filled (fails some given) = ([], given.1)

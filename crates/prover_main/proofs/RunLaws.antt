@@ -19,7 +19,7 @@ use Rattle.prover_main.specs.declared.answer.Answer.TheVariants.{Refuted, Spent,
 use Rattle.prover_main.specs.Answer.{Source, IsUnread, IsLoaded, IsJudged, IsTooLong, IsProveAnswer, IsCheckAnswer, IsAnswer}
 use Rattle.prover_main.specs.Reports.{status_of, read_status, report_of, status_line, load_line}
 use Rattle.prover_main.specs.Run.{file_of, Taken, IsDueTo, IsDue, IsDelivery, status_after, IsRun}
-use Rattle.prover_main.specs.Laws.{IsTold, is_exact, EndsWith, EndsInMemoryOut, UsageIsSix, CommandsAreAnswered, EndsInLoadFault, FaultsAreCounted, HasCause, FaultsComeForCauses, IsValid, FormedIsValid, Reported, ProveEnds, with_refutation, with_limit_reached, with_closed_sets, with_clause_not_built, without_memory, ValidProblemsAreAnswered, CheckEnds, with_acceptance, with_refusal, check_without_memory, LoadedDerivationsAreAnswered}
+use Rattle.prover_main.specs.Laws.{IsTold, is_exact, EndsWith, EndsInMemoryOut, EndsInUsage, UsageIsTold, CommandsAreAnswered, EndsInLoadFault, FaultsAreCounted, HasCause, FaultsComeForCauses, IsValid, FormedIsValid, Reported, ProveEnds, with_refutation, with_limit_reached, with_closed_sets, with_clause_not_built, without_memory, ValidProblemsAreAnswered, CheckEnds, with_acceptance, with_refusal, check_without_memory, LoadedDerivationsAreAnswered}
 use Rattle.prover_main.proofs.OneAnswer.{fault-read, not-load, unformed-formed, text-one, loaded-short, faults-are-the-only-answer, checks-have-one-answer}
 
 -- ---- the statuses of answers
@@ -58,9 +58,9 @@ answer-not-six (Unformed c n) e = omega (arith, e)
 
 due-not-five :
     (outside : Outside) (due : ℕ) (text : List ℕ) (k : Option Command) → IsDue k outside due text → due ≡ 5 → ⊥
-due-not-five outside due text None d e = omega (arith, sym d.0 ∙ e)
+due-not-five outside due text None d e = let clash : 6 ≡ 5 = sym d.0 ∙ e in omega (arith, clash)
 due-not-five outside due text (Some command) (inl a) e = answer-not-five a.answer (sym a.status_is ∙ e)
-due-not-five outside due text (Some command) (inr m) e = omega (arith, sym m.0 ∙ e)
+due-not-five outside due text (Some command) (inr m) e = let clash : 7 ≡ 5 = sym m.0 ∙ e in omega (arith, clash)
 
 -- ---- what was due, where no write failed
 
@@ -102,23 +102,33 @@ end-not-six :
 end-not-six outside taken status command s (inl (a, h, w)) = answer-not-six a (sym w.status_is ∙ s)
 end-not-six outside taken status command s (inr m) = let e : 7 ≡ 6 = sym m.status_is ∙ s in omega (arith, e)
 
-pub usage-is-six : UsageIsSix
-usage-is-six words outside taken status r = (λ s. by (command_of words) s refl, six)
+usage-only :
+    (words : List (List ℕ)) (outside : Outside) (taken : Taken) (status : ℕ) → IsRun words outside taken status
+    → status ≡ 6 → command_of words ≡ None
+usage-only words outside taken status r s = by (command_of words) s refl
   where
     by : (k : Option Command) → status ≡ 6 → command_of words ≡ k → k ≡ None
     by None s e = refl
     by (Some command) s e =
         absurd (end-not-six outside taken status command s
-        (commands-are-answered words outside taken status command e r (λ f. omega (arith, sym s ∙ f))))
+        (commands-are-answered words outside taken status command e r (λ f. let clash : 6 ≡ 5 = sym s ∙ f in omega (arith, clash))))
 
-    after : (o : Result (Unit {0}) SinkFault) → status ≡ status_after r.due o → r.due ≡ 6 → (status ≡ 6) ⊎ (status ≡ 5)
-    after (Ok u) s d = inl (s ∙ d)
-    after (Err f) s d = inr s
+usage-always :
+    (words : List (List ℕ)) (outside : Outside) (taken : Taken) (status : ℕ) → IsRun words outside taken status
+    → command_of words ≡ None → EndsInUsage taken status ⊎ (status ≡ 5)
+usage-always words outside taken status r e = after r.delivered.outcome r.delivered.delivery r.delivered.status_is
+  where
+    due : IsDue None outside r.due r.text
+    due = subst (λ (k : Option Command). IsDue k outside r.due r.text) e r.is_due
 
-    six : command_of words ≡ None → (status ≡ 6) ⊎ (status ≡ 5)
-    six e =
-        let due : IsDue None outside r.due r.text = subst (λ (k : Option Command). IsDue k outside r.due r.text) e r.is_due in
-        after r.delivered.outcome r.delivered.status_is due.0
+    after :
+        (o : Result (Unit {0}) SinkFault) → IsDelivery taken r.text o → status ≡ status_after r.due o
+        → EndsInUsage taken status ⊎ (status ≡ 5)
+    after (Ok u) d s = inl (record { status_is = s ∙ due.0; report_is = d.0 ∙ ap (with_bytes taken.bytes_before) due.1.0 })
+    after (Err f) d s = inr s
+
+pub usage-is-told : UsageIsTold
+usage-is-told = record { only = usage-only; always = usage-always }
 
 -- ---- counts of faults
 
@@ -154,7 +164,7 @@ load-fault outside (prove file root limit) taken (Unread c f p) h s told =
     unread-load outside (record { file = file; root = root }) (prove file root limit) taken c f p h s told
 load-fault outside (check file derivation root) taken (Unread c f p) h s told =
     unread-load outside (record { file = file; root = root }) (check file derivation root) taken c f p h s told
-load-fault outside (prove file root limit) taken (Unloaded n) h s told = absurd h.says
+load-fault outside (prove file root limit) taken (Unloaded n) h s told = absurd h.says.1
 load-fault outside (check file derivation root) taken (Unloaded n) h s told =
     load-told outside (check file derivation root) taken (Unloaded n) n told refl h.says.rose
     (subst (λ (m : List ℕ). IfSome outside.failed_after (λ failed. failed ≡ m)) (sym h.says.name_is) h.says.failed)
@@ -247,9 +257,9 @@ prove-end outside source limit taken status Closed t v h s w = with_closed_sets 
 prove-end outside source limit taken status (NotBuilt n) t v h s w = with_clause_not_built n s h w
 prove-end outside source limit taken status (Unread c f p) t v h s w = absurd (v.read c f p (not-load outside source t c f p h) h.fault)
 prove-end outside source limit taken status (Unformed c n) t v h s w = absurd (v.formed c n h)
-prove-end outside source limit taken status (Accepted n) t v h s w = absurd h.says
-prove-end outside source limit taken status (Refused n c) t v h s w = absurd h.says
-prove-end outside source limit taken status (Unloaded n) t v h s w = absurd h.says
+prove-end outside source limit taken status (Accepted n) t v h s w = absurd h.says.1
+prove-end outside source limit taken status (Refused n c) t v h s w = absurd h.says.1
+prove-end outside source limit taken status (Unloaded n) t v h s w = absurd h.says.1
 
 pub valid-problems-are-answered : ValidProblemsAreAnswered
 valid-problems-are-answered words outside taken status source limit t written e r v =

@@ -15,12 +15,15 @@ use Rattle.clausal_form.specs.Fault.{form_fault}
 use Rattle.clausal_form.specs.FormFunctions.{is_predicate_in, IsHerbrandRefuted}
 use Rattle.clausal_form.specs.DerivationTexts.{IsAcceptedDerivation, IsRefusedDerivation}
 use Rattle.clausal_form.specs.declared.fault.FormCause.{FormCause}
+use Rattle.kernel_steps.specs.declared.step.Line.{Line}
 use Rattle.ground_loop.specs.Answer.{HasClosedSets, HasTriples}
 use Rattle.ground_loop.specs.Satisfaction.{Satisfied}
 use Rattle.ground_loop.specs.Scope.{first_outside}
 use Rattle.tstp_checker.specs.Causes.{cause_meant}
 use Rattle.tstp_checker.specs.declared.cause.Cause.{Cause}
 use Rattle.tstp_checker.specs.declared.cause.Cause.TheVariants.{Text}
+use Rattle.tstp_writer.specs.Written.{IsWritten}
+use Rattle.prover_main.specs.Names.{shown}
 use Rattle.prover_main.specs.Outside.{Outside}
 use Rattle.prover_main.specs.Words.{Command, prove, check}
 use Rattle.prover_main.specs.declared.answer.Answer.{Answer}
@@ -71,11 +74,18 @@ formula_of_clause formulas i = option_and_then (slice_get formulas) (slice_get (
 abbrev pub IsBuilt : List Annotated → Type 0
 IsBuilt formulas = first_outside (clausal_form formulas).clauses ≡ None
 
+-- The text is what is written of the lines that some line needs, with the problem's file as it is shown.
+pub record IsDerivationText (file : List ℕ) (formulas : List Annotated) (text : List ℕ) : Type 0 where
+  pub lines : List Line
+  pub last : ℕ
+  pub written : IsWritten (shown file) formulas lines last text
+
 -- The derivation is accepted, and so some finite list of ground instances of the clausal form is true in no interpretation.
-pub record IsRefuted (formulas : List Annotated) (conjecture : Bool) (derivation : List ℕ) : Type 0 where
+pub record IsRefuted (file : List ℕ) (formulas : List Annotated) (conjecture : Bool) (derivation : List ℕ) : Type 0 where
   pub conjecture_is : conjecture ≡ has_conjecture formulas
-  pub lines : ℕ
-  pub accepted : IsAcceptedDerivation formulas derivation lines
+  pub printed : IsDerivationText file formulas derivation
+  pub count : ℕ
+  pub accepted : IsAcceptedDerivation formulas derivation count
   pub herbrand : IsHerbrandRefuted formulas
 
 -- As many different inferences as the limit.
@@ -84,23 +94,35 @@ pub record IsSpent (formulas : List Annotated) (limit count allowed : ℕ) : Typ
   pub allowed_is : allowed ≡ limit
   pub triples : HasTriples (clausal_form formulas).clauses limit
 
+-- a finite interpretation makes all clauses of the form true
+abbrev pub IsSatisfied : List Annotated → Type 0
+IsSatisfied formulas = Satisfied (is_predicate_in (clausal_form formulas).symbols) (clausal_form formulas).clauses
+
 -- A closed list of sets without the empty set, and so a finite interpretation that makes all clauses true.
 pub record IsClosed (formulas : List Annotated) : Type 0 where
   pub sets : HasClosedSets (clausal_form formulas).clauses
-  pub satisfied : Satisfied (is_predicate_in (clausal_form formulas).symbols) (clausal_form formulas).clauses
+  pub satisfied : IsSatisfied formulas
+
+-- what the ground loop answers
+abbrev pub IsGroundProof : List ℕ → List Annotated → ℕ → Answer → Type 0
+IsGroundProof file formulas limit (Refuted conjecture derivation) = IsRefuted file formulas conjecture derivation
+IsGroundProof file formulas limit (Spent count allowed) = IsSpent formulas limit count allowed
+IsGroundProof file formulas limit Closed = IsClosed formulas
+IsGroundProof file formulas limit other = ⊥
+
+-- the clause of that number is one of the formula of this name
+abbrev pub IsClauseOfName : List Annotated → ℕ → List ℕ → Type 0
+IsClauseOfName formulas index name = option_map (λ (a : Annotated). a.name) (formula_of_clause formulas index) ≡ Some name
 
 -- The first clause that has a variable, an equation or a name, or with which the form has too many symbols, is one of that formula.
 pub record IsNotBuilt (formulas : List Annotated) (name : List ℕ) : Type 0 where
   pub index : ℕ
   pub is_outside : first_outside (clausal_form formulas).clauses ≡ Some index
-  pub name_is : option_map (λ (a : Annotated). a.name) (formula_of_clause formulas index) ≡ Some name
+  pub name_is : IsClauseOfName formulas index name
 
-abbrev pub IsProofAnswer : List Annotated → ℕ → Answer → Type 0
-IsProofAnswer formulas limit (Refuted conjecture derivation) = IsBuilt formulas × IsRefuted formulas conjecture derivation
-IsProofAnswer formulas limit (Spent count allowed) = IsBuilt formulas × IsSpent formulas limit count allowed
-IsProofAnswer formulas limit Closed = IsBuilt formulas × IsClosed formulas
-IsProofAnswer formulas limit (NotBuilt name) = IsNotBuilt formulas name
-IsProofAnswer formulas limit other = ⊥
+abbrev pub IsProofAnswer : List ℕ → List Annotated → ℕ → Answer → Type 0
+IsProofAnswer file formulas limit (NotBuilt name) = IsNotBuilt formulas name
+IsProofAnswer file formulas limit answer = IsBuilt formulas × IsGroundProof file formulas limit answer
 
 -- ---- what `check` says of the formulas
 
@@ -144,7 +166,7 @@ IsLoadAnswer outside derivation formulas answer = IsJudged outside derivation fo
 abbrev pub IsProveAnswer : Outside → Source → ℕ → Answer → Type 0
 IsProveAnswer outside source limit (Unread cause file place) = IsUnread outside source cause file place
 IsProveAnswer outside source limit (Unformed cause name) = IsUnformed outside source cause name
-IsProveAnswer outside source limit answer = OfFormed outside source (λ formulas. IsProofAnswer formulas limit answer)
+IsProveAnswer outside source limit answer = OfFormed outside source (λ formulas. IsProofAnswer source.file formulas limit answer)
 
 abbrev pub IsCheckAnswer : Outside → Source → List ℕ → Answer → Type 0
 IsCheckAnswer outside source derivation (Unread cause file place) = IsUnread outside source cause file place

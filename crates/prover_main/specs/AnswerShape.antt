@@ -1,5 +1,5 @@
 -- What the stages of a command answer, in the words of the definitions.
-use Rattle.std.specs.Prelude.{◌≡◌, ⊤, ℕ, List, map, Option, None, Some, option_map}
+use Rattle.std.specs.Prelude.{◌≡◌, ⊤, ℕ, List, map, Option, None}
 use Rattle.outside.specs.Library.{Holdings}
 use Rattle.tptp_tree.specs.ProblemSize.{HasProblemSize}
 use Rattle.tptp_tree.specs.declared.problem.Annotated.{Annotated}
@@ -9,9 +9,9 @@ use Rattle.signature.specs.Form.{clausal_form}
 use Rattle.clausal_form.specs.Form.{form_of}
 use Rattle.clausal_form.specs.Fault.{form_fault}
 use Rattle.prover_main.specs.Outside.{Outside}
-use Rattle.prover_main.specs.Answer.{Source, IsUnread, IsUnformed, formula_of_clause, IsRefuted, IsSpent, IsClosed}
+use Rattle.prover_main.specs.Answer.{Source, IsUnread, IsUnformed, IsClauseOfName}
 use Rattle.prover_main.specs.declared.answer.Answer.{Answer}
-use Rattle.prover_main.specs.declared.answer.Answer.TheVariants.{Refuted, Spent, Closed, NotBuilt, Unread, Unformed}
+use Rattle.prover_main.specs.declared.answer.Answer.TheVariants.{NotBuilt, Unread, Unformed}
 use Rattle.prover_main.specs.declared.problem.FormedProblem.{FormedProblem}
 use Rattle.prover_main.specs.declared.problem.Stop.{Stop}
 use Rattle.prover_main.specs.declared.problem.Stop.TheVariants.{NoMemory, Unread as NotRead, Unformed as NotFormed}
@@ -44,15 +44,7 @@ pub record WasFormed (formed : FormedProblem) : Type 0 where
   pub source : Source
   pub formed_from : IsFormedFrom told source formed
 
--- what is said of a problem whose clauses the ground loop takes
-abbrev pub IsGroundProof : List Annotated → ℕ → Answer → Type 0
-IsGroundProof formulas limit (Refuted conjecture derivation) = IsRefuted formulas conjecture derivation
-IsGroundProof formulas limit (Spent count allowed) = IsSpent formulas limit count allowed
-IsGroundProof formulas limit Closed = IsClosed formulas
-IsGroundProof formulas limit other = ⊥
-
 -- the answer for the clause of that number
 abbrev pub IsNotBuiltAnswer : List Annotated → ℕ → Answer → Type 0
 IsNotBuiltAnswer formulas index answer =
-    (name : List ℕ) × (answer ≡ NotBuilt name)
-    × (option_map (λ (a : Annotated). a.name) (formula_of_clause formulas index) ≡ Some name)
+    (name : List ℕ) × (answer ≡ NotBuilt name) × IsClauseOfName formulas index name

@@ -1,15 +1,26 @@
 -- The values of the worked examples.
-use Rattle.std.specs.Prelude.{ℕ, List, [], false, codes, Result}
+use Rattle.std.specs.Prelude.{ℕ, List, [], false, Some, None, codes, Result}
 use Rattle.outside.specs.Examples.{script_gives}
 use Rattle.outside.specs.declared.fault.SinkFault.{SinkFault}
 use Rattle.tptp_tree.specs.declared.formula.Formula.TheVariants.{Pred}
 use Rattle.tptp_tree.specs.declared.problem.Annotated.{Annotated}
 use Rattle.tptp_tree.specs.declared.role.Role.{Role}
-use Rattle.prover_main.specs.Run.{DeliversInPieces}
+use Rattle.prover_main.specs.Outside.{Outside}
+use Rattle.prover_main.specs.Run.{AreWrites, DeliversInPieces}
 
 -- the proposition p in this role
 abbrev pub formula_in : Role → Annotated
 formula_in role = record { name = codes "a"; role = role; clause = false; formula = Pred (codes "p") []; file = codes "r"; place = 0 }
+
+-- a library that holds no file, with its count of faults before a run and after it
+abbrev pub holding_nothing : ℕ → ℕ → Outside
+holding_nothing before after =
+    record { told = Some (λ name. None); faults_before = before; faults_after = after; found_after = 0; failed_after = None }
+
+-- by these answers of a sink a text that is due with this status is delivered, by writes that are handed these bytes in turn
+abbrev pub AreWritesBy : List (Result ℕ SinkFault) → ℕ → List ℕ → Result (Unit {0}) SinkFault → List (List ℕ) → List (Result ℕ SinkFault) → Type 0
+AreWritesBy answers due text result handed left =
+    AreWrites script_gives (record { answers = answers; handed = [] }) (record { answers = left; handed = handed }) due text result
 
 -- by these answers of a sink a text is delivered in pieces with this result, by writes that are handed these bytes in turn; and some
 -- answers are left

@@ -7,6 +7,7 @@ use Rattle.tptp_tree.specs.declared.problem.Annotated.{Annotated}
 use Rattle.tptp_reader.specs.declared.cause.ReadCause.{ReadCause}
 use Rattle.tptp_reader.specs.declared.cause.ReadCause.TheVariants.{Load}
 use Rattle.tptp_problem.specs.Problem.{IsProblemFault}
+use Rattle.clausal_form.specs.FormFunctions.{IsHerbrandRefuted}
 use Rattle.clausal_form.specs.DerivationTexts.{IsAcceptedDerivation, IsRefusedDerivation}
 use Rattle.clausal_form.specs.declared.fault.FormCause.{FormCause}
 use Rattle.tstp_checker.specs.Causes.{cause_meant}
@@ -15,8 +16,9 @@ use Rattle.prover_main.specs.Outside.{Outside}
 use Rattle.prover_main.specs.Words.{Command, prove, check, command_of}
 use Rattle.prover_main.specs.declared.answer.Answer.{Answer}
 use Rattle.prover_main.specs.declared.answer.Answer.TheVariants.{Refuted, Spent, Closed, NotBuilt, Accepted, Refused}
-use Rattle.prover_main.specs.Answer.{Source, IsFormed, IsUnformed, IsLoaded, IsProveAnswer, IsCheckAnswer, IsAnswer}
-use Rattle.prover_main.specs.Reports.{status_of, report_of, memory_out_report, status_line, load_line}
+use Rattle.prover_main.specs.declared.status.TheConstants.{SINK_FAILED, USAGE_SHOWN, MEMORY_OUT}
+use Rattle.prover_main.specs.Answer.{Source, IsFormed, IsUnformed, IsLoaded, OfFormed, IsSatisfied, IsProveAnswer, IsCheckAnswer, IsAnswer}
+use Rattle.prover_main.specs.Reports.{status_of, report_of, memory_out_report, usage_report, status_line, load_line}
 use Rattle.prover_main.specs.Run.{file_of, Taken, IsRun}
 
 -- ---- where nothing fails
@@ -59,20 +61,28 @@ pub record EndsWith (command : Command) (taken : Taken) (status : ℕ) (answer :
 
 -- They are those of want of memory.
 pub record EndsInMemoryOut (command : Command) (taken : Taken) (status : ℕ) : Type 0 where
-  pub status_is : status ≡ 7
+  pub status_is : status ≡ MEMORY_OUT
   pub report_is : taken.bytes_after ≡ with_bytes taken.bytes_before (memory_out_report (file_of command))
 
--- 6 comes exactly where the words are usage, but that a write that fails takes its place.
-abbrev pub UsageIsSix : Type 0
-UsageIsSix =
-    (words : List (List ℕ)) (outside : Outside) (taken : Taken) (status : ℕ) → IsRun words outside taken status
-    → (status ≡ 6 → command_of words ≡ None) × (command_of words ≡ None → (status ≡ 6) ⊎ (status ≡ 5))
+-- The status and the report are those of usage.
+pub record EndsInUsage (taken : Taken) (status : ℕ) : Type 0 where
+  pub status_is : status ≡ USAGE_SHOWN
+  pub report_is : taken.bytes_after ≡ with_bytes taken.bytes_before usage_report
+
+-- Usage is told exactly where the words are usage, but that a write that fails takes its place.
+pub record UsageIsTold : Type 0 where
+  pub only :
+      (words : List (List ℕ)) (outside : Outside) (taken : Taken) (status : ℕ) → IsRun words outside taken status
+      → status ≡ USAGE_SHOWN → command_of words ≡ None
+  pub always :
+      (words : List (List ℕ)) (outside : Outside) (taken : Taken) (status : ℕ) → IsRun words outside taken status
+      → command_of words ≡ None → EndsInUsage taken status ⊎ (status ≡ SINK_FAILED)
 
 -- Where they are a command and no write failed, an answer whose cause is there is told in full, or memory was wanted.
 abbrev pub CommandsAreAnswered : Type 0
 CommandsAreAnswered =
     (words : List (List ℕ)) (outside : Outside) (taken : Taken) (status : ℕ) (command : Command)
-    → command_of words ≡ Some command → IsRun words outside taken status → (status ≡ 5 → ⊥)
+    → command_of words ≡ Some command → IsRun words outside taken status → (status ≡ SINK_FAILED → ⊥)
     → ((answer : Answer) × IsAnswer outside command answer × EndsWith command taken status answer)
     ⊎ EndsInMemoryOut command taken status
 
@@ -84,11 +94,11 @@ pub record EndsInLoadFault (command : Command) (outside : Outside) (taken : Take
   pub report_is :
       taken.bytes_after ≡ with_bytes taken.bytes_before (status_line (codes "OSError") (file_of command) ++ load_line name)
 
--- 5 comes only where the sink's count of faults rose, and 4 only where the library's did.
+-- A failed sink is told only where its count of faults rose, and 4 comes only where the library's did.
 pub record FaultsAreCounted : Type 0 where
   pub of_sink :
       (words : List (List ℕ)) (outside : Outside) (taken : Taken) (status : ℕ) → IsRun words outside taken status
-      → status ≡ 5 → Rose taken.faults_before taken.faults_after
+      → status ≡ SINK_FAILED → Rose taken.faults_before taken.faults_after
   pub of_library :
       (words : List (List ℕ)) (outside : Outside) (taken : Taken) (status : ℕ) → IsRun words outside taken status
       → status ≡ 4 → (command : Command) × (command_of words ≡ Some command) × EndsInLoadFault command outside taken
@@ -104,7 +114,25 @@ FaultsComeForCauses =
     (words : List (List ℕ)) (outside : Outside) (taken : Taken) (status : ℕ) (command : Command) (fault : ℕ)
     → command_of words ≡ Some command → IsRun words outside taken status → is_exact fault ≡ true
     → (status ≡ fault → HasCause outside command fault)
-    × (IsTold outside → HasCause outside command fault → (status ≡ fault) ⊎ ((status ≡ 7) ⊎ (status ≡ 5)))
+    × (IsTold outside → HasCause outside command fault → (status ≡ fault) ⊎ ((status ≡ MEMORY_OUT) ⊎ (status ≡ SINK_FAILED)))
+
+-- ---- soundness
+
+abbrev pub source_of : Command → Source
+source_of (prove file root limit) = record { file = file; root = root }
+source_of (check file derivation root) = record { file = file; root = root }
+
+-- What 0 and 10 say of the problem: 0 comes only where some finite list of ground instances of its clausal form is true in no
+-- interpretation, and 10 only where a finite interpretation makes all its clauses true.
+pub record StatusesAreTrue : Type 0 where
+  pub refuted :
+      (words : List (List ℕ)) (outside : Outside) (taken : Taken) (status : ℕ) (command : Command)
+      → command_of words ≡ Some command → IsRun words outside taken status → status ≡ 0
+      → OfFormed outside (source_of command) IsHerbrandRefuted
+  pub satisfied :
+      (words : List (List ℕ)) (outside : Outside) (taken : Taken) (status : ℕ) (command : Command)
+      → command_of words ≡ Some command → IsRun words outside taken status → status ≡ 10
+      → OfFormed outside (source_of command) IsSatisfied
 
 -- ---- completeness
 
@@ -141,7 +169,7 @@ pub data ProveEnds (outside : Outside) (source : Source) (limit : ℕ) (taken : 
 abbrev pub ValidProblemsAreAnswered : Type 0
 ValidProblemsAreAnswered =
     (words : List (List ℕ)) (outside : Outside) (taken : Taken) (status : ℕ) (source : Source) (limit : ℕ)
-    → IsTold outside → (status ≡ 5 → ⊥) → command_of words ≡ Some (prove source.file source.root limit) → IsRun words outside taken status
+    → IsTold outside → (status ≡ SINK_FAILED → ⊥) → command_of words ≡ Some (prove source.file source.root limit) → IsRun words outside taken status
     → IsValid outside source → ProveEnds outside source limit taken status
 
 -- How `check` ends on a valid input and the text of a derivation: it tells whether the text is an accepted derivation of the
@@ -160,5 +188,5 @@ pub data CheckEnds (outside : Outside) (source : Source) (derivation text : List
 abbrev pub LoadedDerivationsAreAnswered : Type 0
 LoadedDerivationsAreAnswered =
     (words : List (List ℕ)) (outside : Outside) (taken : Taken) (status : ℕ) (source : Source) (derivation text : List ℕ)
-    → IsTold outside → (status ≡ 5 → ⊥) → command_of words ≡ Some (check source.file derivation source.root) → IsRun words outside taken status
+    → IsTold outside → (status ≡ SINK_FAILED → ⊥) → command_of words ≡ Some (check source.file derivation source.root) → IsRun words outside taken status
     → IsValid outside source → IsLoaded outside derivation text → CheckEnds outside source derivation text taken status

@@ -4,6 +4,7 @@ use Rattle.outside.specs.Faults.{Rose}
 use Rattle.outside.specs.Sink.{with_bytes, HasPrefixAfter, Delivers}
 use Rattle.outside.specs.declared.fault.SinkFault.{SinkFault}
 use Rattle.prover_main.specs.Outside.{Outside}
+use Rattle.prover_main.specs.declared.status.TheConstants.{SINK_FAILED, USAGE_SHOWN, MEMORY_OUT}
 use Rattle.prover_main.specs.Words.{Command, prove, check, command_of}
 use Rattle.prover_main.specs.Answer.{IsAnswer}
 use Rattle.prover_main.specs.declared.answer.Answer.{Answer}
@@ -25,14 +26,14 @@ pub record IsAnswered (command : Command) (outside : Outside) (status : ℕ) (te
 
 -- Memory was wanted, which may happen to each command at any time.
 abbrev pub IsMemoryOut : Command → ℕ → List ℕ → Type 0
-IsMemoryOut command status text = (status ≡ 7) × (text ≡ memory_out_report (file_of command))
+IsMemoryOut command status text = (status ≡ MEMORY_OUT) × (text ≡ memory_out_report (file_of command))
 
 abbrev pub IsDueTo : Command → Outside → ℕ → List ℕ → Type 0
 IsDueTo command outside status text = IsAnswered command outside status text ⊎ IsMemoryOut command status text
 
--- 6 exactly where the words are usage, and then the library's count of faults is as it was
+-- usage is told exactly where the words are usage, and then the library's count of faults is as it was
 abbrev pub IsDue : Option Command → Outside → ℕ → List ℕ → Type 0
-IsDue None outside status text = (status ≡ 6) × (text ≡ usage_report) × (outside.faults_after ≡ outside.faults_before)
+IsDue None outside status text = (status ≡ USAGE_SHOWN) × (text ≡ usage_report) × (outside.faults_after ≡ outside.faults_before)
 IsDue (Some command) outside status text = IsDueTo command outside status text
 
 -- ---- what the sink takes
@@ -56,12 +57,12 @@ IsDelivery taken text (Ok done) =
 IsDelivery taken text (Err fault) =
     Rose taken.faults_before taken.faults_after × HasPrefixAfter taken.bytes_before taken.bytes_after text
 
--- the status that is due, or 5 where the sink failed
+-- the status that is due, or that of a sink that failed
 abbrev pub status_after : {E : Type 0} → ℕ → Result (Unit {0}) E → ℕ
 status_after due (Ok done) = due
-status_after due (Err fault) = 5
+status_after due (Err fault) = SINK_FAILED
 
--- a report was delivered, and the status is its own or 5
+-- a report was delivered, and the status is its own or that of a sink that failed
 pub record Delivered (taken : Taken) (due : ℕ) (text : List ℕ) (status : ℕ) : Type 0 where
   pub outcome : Result (Unit {0}) SinkFault
   pub delivery : IsDelivery taken text outcome
@@ -85,7 +86,7 @@ pub data DeliversInPieces {S : Type 0} (gives : S → List ℕ → Result ℕ Si
 -- written in pieces. None is made behind one that failed.
 abbrev pub AreWrites : {S : Type 0} → (S → List ℕ → Result ℕ SinkFault → S → Type 0) → S → S → ℕ → List ℕ → Result (Unit {0}) SinkFault → Type 0
 AreWrites gives before after due text outcome =
-    Delivers gives before text outcome after ⊎ ((due ≡ 7) × DeliversInPieces gives before text outcome after)
+    Delivers gives before text outcome after ⊎ ((due ≡ MEMORY_OUT) × DeliversInPieces gives before text outcome after)
 
 -- a report was delivered, by such writes
 abbrev pub DeliveredBy : {S : Type 0} → (S → List ℕ → Result ℕ SinkFault → S → Type 0) → S → S → Taken → ℕ → List ℕ → ℕ → Type 0
@@ -93,7 +94,7 @@ DeliveredBy gives before after taken due text status =
     (delivered : Delivered taken due text status) × AreWrites gives before after due text delivered.outcome
 
 -- Some report was due, and was delivered: the sink took the whole of it and its count of faults stayed; or it failed, and then the
--- status is 5 and it took a prefix of that report.
+-- status is `SINK_FAILED` and it took a prefix of that report.
 pub record IsRun (words : List (List ℕ)) (outside : Outside) (taken : Taken) (status : ℕ) : Type 0 where
   pub due : ℕ
   pub text : List ℕ

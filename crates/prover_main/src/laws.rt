@@ -1,7 +1,8 @@
 // The laws of runs, and worked examples: each is the contract of a function without arguments, whose body is empty or
 // names the laws on which it stands.
 
-ghost use Rattle.std.specs.Prelude.{◌≡◌, ℕ, true, false, [], ◌∷◌, List, None, Some, Ok, Err, Result, codes, map};
+ghost use Rattle.std.specs.Prelude.{◌≡◌, ◌^◌, ◌-◌, ℕ, true, false, [], ◌∷◌, List, None, Some, Ok, Err, Result, codes, map};
+ghost use Rattle.outside.specs.Faults.{Rose};
 ghost use Rattle.outside.specs.declared.fault.SinkFault.{SinkFault};
 ghost use Rattle.outside.specs.declared.fault.SinkFault.TheVariants.{Failed};
 ghost use Rattle.tptp_tree.specs.declared.role.Role.TheVariants.{Axiom, Conjecture, NegatedConjecture};
@@ -13,9 +14,11 @@ ghost use Rattle.prover_main.specs.declared.answer.Answer.TheVariants.{Refuted, 
 ghost use Rattle.prover_main.specs.Words.{command_of, prove, check};
 ghost use Rattle.prover_main.specs.Names.{shown, problem_name};
 ghost use Rattle.prover_main.specs.Answer.{has_conjecture};
-ghost use Rattle.prover_main.specs.Reports.{status_of, report_of, memory_out_report, read_word, form_word, limit_word, cause_word};
-ghost use Rattle.prover_main.specs.Laws.{is_exact, ChecksHaveOneAnswer, FaultsAreTheOnlyAnswer, UsageIsSix, CommandsAreAnswered, FaultsAreCounted, FaultsComeForCauses, FormedIsValid, ValidProblemsAreAnswered, LoadedDerivationsAreAnswered};
-ghost use Rattle.prover_main.specs.Examples.{formula_in, DeliversInPiecesBy};
+ghost use Rattle.prover_main.specs.Reports.{status_of, read_status, read_status_word, report_of, memory_out_report, usage_report, read_word, form_word, limit_word, cause_word};
+ghost use Rattle.prover_main.specs.Laws.{is_exact, IsTold, ChecksHaveOneAnswer, FaultsAreTheOnlyAnswer, UsageIsTold, CommandsAreAnswered, FaultsAreCounted, FaultsComeForCauses, StatusesAreTrue, FormedIsValid, ValidProblemsAreAnswered, LoadedDerivationsAreAnswered};
+ghost use Rattle.prover_main.specs.Examples.{formula_in, holding_nothing, AreWritesBy, DeliversInPiecesBy};
+ghost use Rattle.prover_main.specs.Run.{IsDue};
+ghost use Rattle.prover_main.specs.declared.status.TheConstants.{SINK_FAILED, USAGE_SHOWN, MEMORY_OUT};
 
 use clausal_form::laws::texts_have_one_answer;
 
@@ -28,17 +31,23 @@ pub fn one_answer()
     texts_have_one_answer();
 }
 
-/// 6 comes only where the words are usage. Every other run whose writes didn't fail tells an answer whose cause is there, or
+/// Usage is told exactly where the words are usage, but for a write that fails. Every other run whose writes didn't fail tells an answer whose cause is there, or
 /// that memory was wanted. 5 and 4 come only where a count of faults rose. Where the library tells and no load failed,
 /// 3, 8 and 9 come exactly for their causes, up to want of memory and a write that fails.
 pub fn statuses_come_for_causes()
-    ensures usage { UsageIsSix }
+    ensures usage { UsageIsTold }
     ensures answered { CommandsAreAnswered }
     ensures counted { FaultsAreCounted }
     ensures exactly { FaultsComeForCauses }
 {
     texts_have_one_answer();
 }
+
+/// Soundness: 0 comes only where some finite list of ground instances of the problem's clausal form is true in no
+/// interpretation, and 10 only where a finite interpretation makes all its clauses true.
+pub fn statuses_are_true()
+    ensures { StatusesAreTrue }
+{}
 
 /// Completeness: where the library tells, nothing failed and nothing is wrong with the problem, `prove` ends with 0, 2 or
 /// 10 and what each means, names a clause that isn't built, or wants memory; and `check` ends with 0 where the derivation is accepted
@@ -72,6 +81,7 @@ pub fn usage_examples()
     ensures two_files { command_of (codes "prove" ∷ codes "a" ∷ codes "b" ∷ []) ≡ None }
     ensures empty_file { command_of (codes "prove" ∷ [] ∷ []) ≡ None }
     ensures no_derivation { command_of (codes "check" ∷ codes "a" ∷ []) ≡ None }
+    ensures no_problem { command_of (codes "check" ∷ [] ∷ codes "d" ∷ []) ≡ None }
     ensures empty_derivation { command_of (codes "check" ∷ codes "a" ∷ [] ∷ []) ≡ None }
     ensures three_files { command_of (codes "check" ∷ codes "a" ∷ codes "d" ∷ codes "e" ∷ []) ≡ None }
     ensures check_counts { command_of (codes "check" ∷ codes "a" ∷ codes "d" ∷ codes "--inferences=5" ∷ []) ≡ None }
@@ -108,6 +118,8 @@ pub fn word_examples()
         ∷ read.IncludeDepth ∷ read.TooLong ∷ read.Nesting ∷ read.Load ∷ [])
         ≡ codes "BadByte" ∷ codes "Unclosed" ∷ codes "Syntax" ∷ codes "FreeVariable" ∷ codes "Role" ∷ codes "SecondConjecture"
         ∷ codes "SelectionMissing" ∷ codes "IncludeDepth" ∷ codes "TooLong" ∷ codes "Nesting" ∷ codes "Load" ∷ [] }
+    ensures of_statuses { map read_status_word (read.Syntax ∷ read.SecondConjecture ∷ read.Nesting ∷ read.Load ∷ read.Inappropriate Dollar ∷ [])
+        ≡ codes "InputError" ∷ codes "InputError" ∷ codes "InputError" ∷ codes "OSError" ∷ codes "Inappropriate" ∷ [] }
     ensures of_forms { map form_word (Typed ∷ RoleForm ∷ Number ∷ Distinct ∷ Dollar ∷ [])
         ≡ codes "Typed" ∷ codes "RoleForm" ∷ codes "Number" ∷ codes "Distinct" ∷ codes "Dollar" ∷ [] }
     ensures of_limits { map limit_word (Expansion ∷ TooHeavy ∷ TotalLimit ∷ [])
@@ -136,6 +148,8 @@ pub fn report_examples()
         ≡ codes "% SZS status OSError for none\n% Load none.p\n" }
     ensures derivation_lost { report_of (codes "r1.p") (Unloaded (codes "d")) ≡ codes "% SZS status OSError for r1\n% Load d\n" }
     ensures memory_out { memory_out_report (codes "dir/r1.p") ≡ codes "% SZS status MemoryOut for r1\n" }
+    ensures lost_under_a_name_of_other_bytes { report_of (codes "r1.p") (Unloaded (7 ∷ codes "d"))
+        ≡ codes "% SZS status OSError for r1\n% Load ?d\n" }
     ensures typed { report_of (codes "r21.p") (Unread (read.Inappropriate Typed) (codes "r21.p") 0)
         ≡ codes "% SZS status Inappropriate for r21\n% Typed at r21.p:0\n" }
     ensures refused { report_of (codes "r5.p") (Refused 8 line.Rule) ≡ codes "% refused at line 8: Rule\n" }
@@ -153,9 +167,16 @@ pub fn status_examples()
     ensures too_long { status_of (Unread read.TooLong (codes "r13.p") 0) ≡ 3 }
     ensures problem_lost { status_of (Unread read.Load (codes "none.p") 0) ≡ 4 }
     ensures derivation_lost { status_of (Unloaded (codes "d")) ≡ 4 }
+    ensures unread { map read_status
+        (read.BadByte ∷ read.Unclosed ∷ read.Syntax ∷ read.FreeVariable ∷ read.Role ∷ read.SecondConjecture ∷ read.SelectionMissing
+        ∷ read.IncludeDepth ∷ read.TooLong ∷ read.Nesting ∷ read.Load ∷ [])
+        ≡ 3 ∷ 3 ∷ 3 ∷ 3 ∷ 3 ∷ 3 ∷ 3 ∷ 3 ∷ 3 ∷ 3 ∷ 4 ∷ [] }
+    ensures forms { map (λ form. read_status (read.Inappropriate form)) (Typed ∷ RoleForm ∷ Number ∷ Distinct ∷ Dollar ∷ [])
+        ≡ 8 ∷ 8 ∷ 8 ∷ 8 ∷ 8 ∷ [] }
     ensures typed { status_of (Unread (read.Inappropriate Typed) (codes "r21.p") 0) ≡ 8 }
     ensures refused { status_of (Refused 8 line.Rule) ≡ 9 }
     ensures closed { status_of Closed ≡ 10 }
+    ensures without_answer { SINK_FAILED ∷ USAGE_SHOWN ∷ MEMORY_OUT ∷ [] ≡ 5 ∷ 6 ∷ 7 ∷ [] }
     ensures exact { map is_exact (0 ∷ 2 ∷ 3 ∷ 4 ∷ 5 ∷ 6 ∷ 7 ∷ 8 ∷ 9 ∷ 10 ∷ [])
         ≡ false ∷ false ∷ true ∷ false ∷ false ∷ false ∷ false ∷ true ∷ true ∷ false ∷ [] }
 {}
@@ -167,9 +188,22 @@ pub fn conjecture_examples()
     ensures last { has_conjecture (formula_in Axiom ∷ formula_in Conjecture ∷ []) ≡ true }
 {}
 
-/// Deliveries of a text in pieces: of two, and of two of which the first fails. None goes on behind a write that failed.
+/// Counts of faults that rose, or stand at the end of their type, and others. What a library tells counts where its count stayed.
+pub fn fault_examples()
+    ensures rose { Rose 3 4 }
+    ensures stayed { ¬ Rose 4 4 }
+    ensures at_the_end { Rose 0 (2 ^ 64 - 1) }
+    ensures told { IsTold (holding_nothing 3 3) }
+    ensures failed { ¬ IsTold (holding_nothing 3 4) }
+    ensures usage { IsDue None (holding_nothing 3 3) 6 usage_report }
+    ensures usage_after_a_fault { ¬ IsDue None (holding_nothing 3 4) 6 usage_report }
+{}
+
+/// Deliveries of a text in pieces: of two, as only want of memory is told, and of two of
+/// which the first fails. None goes on behind a write that failed.
 pub fn piece_examples()
     ensures two { DeliversInPiecesBy (Ok 3 ∷ Ok 1 ∷ []) (codes "abcd") (Ok tt) (codes "abc" ∷ codes "d" ∷ []) [] }
+    ensures one_status { ¬ AreWritesBy (Ok 3 ∷ Ok 1 ∷ []) 0 (codes "abcd") (Ok tt) (codes "abc" ∷ codes "d" ∷ []) [] }
     ensures cut { DeliversInPiecesBy (Err Failed ∷ Ok 1 ∷ []) (codes "abcd") (Err Failed) (codes "abc" ∷ []) (Ok 1 ∷ []) }
     ensures no_more { (text : List ℕ) (result : Result Unit SinkFault) (handed : List (List ℕ)) →
         DeliversInPiecesBy (Err Failed ∷ Ok 1 ∷ []) text result handed [] → ⊥ }

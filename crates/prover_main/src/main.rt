@@ -11,11 +11,13 @@ mod prove;
 mod report;
 mod report_words;
 mod run;
+mod status;
 mod words;
 
 use outside::{FileLibrary, StdoutSink};
 use plain_types::{Mem, NoMemory};
 pub use run::run;
+use status::MEMORY_OUT;
 use std::env;
 use std::io::ErrorKind;
 use std::process::ExitCode;
@@ -38,7 +40,7 @@ fn command_words(rt: &HostRuntime) -> Mem<Words> {
 
 fn main(rt: HostRuntime) -> ExitCode {
     let Ok(words) = command_words(&rt) else {
-        return ExitCode::from(7);
+        return ExitCode::from(MEMORY_OUT);
     };
     let mut library = FileLibrary::new(&rt);
     let mut sink = StdoutSink::new(&rt);

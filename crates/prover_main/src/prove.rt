@@ -12,8 +12,8 @@ ghost use Rattle.prover_main.specs.Names.{shown};
 ghost use Rattle.clausal_form.specs.DerivationTexts.{IsAcceptedDerivation};
 ghost use Rattle.signature.specs.Form.{clausal_form};
 ghost use Rattle.clausal_form.specs.Form.{form_of};
-ghost use Rattle.prover_main.specs.Answer.{IsProveAnswer, IsProofAnswer, has_conjecture};
-ghost use Rattle.prover_main.specs.AnswerShape.{WasFormed, IsGroundProof, IsNotBuiltAnswer};
+ghost use Rattle.prover_main.specs.Answer.{IsDerivationText, IsGroundProof, IsProveAnswer, IsProofAnswer, has_conjecture};
+ghost use Rattle.prover_main.specs.AnswerShape.{WasFormed, IsNotBuiltAnswer};
 
 use crate::answer::Answer;
 use crate::names::push_shown;
@@ -53,7 +53,7 @@ fn proof_answer(alloc: Global, file: &str, formed: &FormedProblem, limit: u32) -
     requires formed { WasFormed formed.now }
     requires counted { 1 ≤ limit }
     requires filled { IsTrue (is_filled file.now) }
-    ensures { IfOk result (λ answer. IsProofAnswer formed.now.problem.formulas limit answer) }
+    ensures { IfOk result (λ answer. IsProofAnswer file.now formed.now.problem.formulas limit answer) }
 {
     match first_outside(&formed.form.clauses) {
         Some(index) => not_built(alloc, formed, index),
@@ -67,7 +67,7 @@ fn ground_answer(alloc: Global, file: &str, formed: &FormedProblem, limit: u32) 
     requires counted { 1 ≤ limit }
     requires filled { IsTrue (is_filled file.now) }
     requires scope { IsInScope (map clause_of formed.now.form.clauses) }
-    ensures { IfOk result (λ answer. IsGroundProof formed.now.problem.formulas limit answer) }
+    ensures { IfOk result (λ answer. IsGroundProof file.now formed.now.problem.formulas limit answer) }
 {
     match prove_ground(alloc, &formed.form.clauses, limit)? {
         Ground::Refuted(lines) => Ok(Answer::Refuted {
@@ -128,7 +128,8 @@ fn derivation_text(
     requires ground { AreGroundLines lines.now }
     requires filled { IsTrue (is_filled file.now) }
     requires scope { IsInScope (map clause_of formed.now.form.clauses) }
-    ensures { IfOk result (λ text. (count : ℕ) × IsAcceptedDerivation formed.now.problem.formulas text count) }
+    ensures accepted { IfOk result (λ text. (count : ℕ) × IsAcceptedDerivation formed.now.problem.formulas text count) }
+    ensures printed { IfOk result (IsDerivationText file.now formed.now.problem.formulas) }
 {
     let name = shown_name(alloc, file)?;
     let last = lines.len() as u64 - 1;

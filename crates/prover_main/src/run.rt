@@ -12,6 +12,7 @@ use crate::check::check_answer;
 use crate::memory_out::deliver_memory_out;
 use crate::prove::prove_answer;
 use crate::report::report_of;
+use crate::status::{MEMORY_OUT, SINK_FAILED, USAGE_SHOWN};
 use crate::words::{Command, Words};
 use outside::{Library, Sink, SinkFault, deliver};
 use plain_types::{Mem, NoMemory, Text};
@@ -28,7 +29,7 @@ struct Report {
 }
 
 /// What the program does with the words of its command line: it proves a problem or checks a derivation, and writes the
-/// report. The answer is the status of the report, or 5 where the sink failed. For words that are usage it takes no memory,
+/// report. The answer is the status of the report, or `SINK_FAILED`. For words that are usage it takes no memory,
 /// and none for the report that memory was wanted.
 pub fn run<L: Library, S: Sink>(alloc: Global, words: &Words, library: &mut L, sink: &mut S) -> u8
     ensures { IsRunBy S.gives sink.old sink.new words.now
@@ -37,7 +38,7 @@ pub fn run<L: Library, S: Sink>(alloc: Global, words: &Words, library: &mut L, s
         result }
 {
     match words.command() {
-        None => deliver_report(sink, USAGE, 6),
+        None => deliver_report(sink, USAGE, USAGE_SHOWN),
         Some(command) => match report_to(alloc, command, library) {
             Ok(report) => deliver_report(sink, report.text.as_slice(), report.status),
             Err(NoMemory) => report_memory_out(sink, file_of(command)),
@@ -45,7 +46,7 @@ pub fn run<L: Library, S: Sink>(alloc: Global, words: &Words, library: &mut L, s
     }
 }
 
-/// Writes a report. The answer is its status, or 5 where the sink failed.
+/// Writes a report. The answer is its status, or `SINK_FAILED`.
 fn deliver_report<S: Sink>(sink: &mut S, text: &[u8], status: u8) -> u8
     ensures { DeliveredBy S.gives sink.old sink.new
         (taken_by S.taken S.faults sink.old sink.new)
@@ -54,22 +55,22 @@ fn deliver_report<S: Sink>(sink: &mut S, text: &[u8], status: u8) -> u8
     status_after(status, deliver(sink, text))
 }
 
-/// Writes that memory was wanted for the problem in a file. The answer is 7, or 5 where the sink failed.
+/// Writes that memory was wanted for the problem in a file. The answer is `MEMORY_OUT`, or `SINK_FAILED`.
 fn report_memory_out<S: Sink>(sink: &mut S, file: &str) -> u8
     ensures { DeliveredBy S.gives sink.old sink.new
         (taken_by S.taken S.faults sink.old sink.new)
-        7 (memory_out_report file.now) result }
+        MEMORY_OUT (memory_out_report file.now) result }
 {
-    status_after(7, deliver_memory_out(sink, file))
+    status_after(MEMORY_OUT, deliver_memory_out(sink, file))
 }
 
-/// The status that is due, or 5 where the sink failed.
+/// The status that is due, or `SINK_FAILED`.
 fn status_after(due: u8, delivered: Result<(), SinkFault>) -> u8
     ensures { result ≡ status_after due delivered }
 {
     match delivered {
         Ok(()) => due,
-        Err(_) => 5,
+        Err(_) => SINK_FAILED,
     }
 }
 

@@ -4,7 +4,7 @@ mod derivations;
 
 use super::*;
 use crate::memory_out::deliver_memory_out;
-use cases::{CASES, Case, GROUP, GROUP_AXIOMS, TWO_UNITS};
+use cases::{CASES, GROUP, GROUP_AXIOMS, TWO_UNITS};
 use derivations::{ROWS, Row};
 use outside::{Files, MemFile, MemLibrary, MemSink};
 use plain_types::Numbers;
@@ -28,19 +28,24 @@ fn library_of(alloc: Global, files: &[(&str, &[u8])], fail: &[u64]) -> Result<Me
     Ok(MemLibrary::new(alloc, list, Numbers::from_slice(alloc, fail)?))
 }
 
-/// The status of a run, and whether its report is the one that is wanted.
-fn outcome(alloc: Global, case: &Case) -> Result<(u8, bool), Fail> {
-    let words = words_of(alloc, case.words)?;
-    let mut library = library_of(alloc, case.files, &[])?;
+/// The status of a run over a library, and whether its report is the one that is wanted.
+fn outcome(
+    alloc: Global,
+    words: &[&str],
+    library: &mut MemLibrary,
+    report: &[u8],
+) -> Result<(u8, bool), Fail> {
+    let words = words_of(alloc, words)?;
     let mut sink = MemSink::new(alloc, 64, 100_000, Numbers::new(alloc))?;
-    let status = run(alloc, &words, &mut library, &mut sink);
-    Ok((status, sink.bytes() == case.report))
+    let status = run(alloc, &words, library, &mut sink);
+    Ok((status, sink.bytes() == report))
 }
 
 #[test]
 fn runs_report_as_stated(rt: HostRuntime) -> Result<(), Fail> {
     for case in CASES {
-        let (status, right) = outcome(rt.alloc(), case)?;
+        let mut library = library_of(rt.alloc(), case.files, &[])?;
+        let (status, right) = outcome(rt.alloc(), case.words, &mut library, case.report)?;
         assert_eq!(rt; status, case.status, "{}", case.report.len());
         assert!(rt; right, "{}", case.report.len());
     }
@@ -64,14 +69,17 @@ fn derivation_of(alloc: Global, row: &Row) -> Result<Vec<u8>, Fail> {
 fn checked(alloc: Global, row: &Row) -> Result<(u8, bool), Fail> {
     let example = row.example.example();
     let derivation = derivation_of(alloc, row)?;
-    let words = words_of(alloc, &["check", example.file, "d"])?;
-    let mut files = Files::new(alloc);
-    files.push(MemFile::new(alloc, example.file, example.problem)?)?;
-    files.push(MemFile::new(alloc, "d", derivation.as_slice())?)?;
-    let mut library = MemLibrary::new(alloc, files, Numbers::new(alloc));
-    let mut sink = MemSink::new(alloc, 64, 1000, Numbers::new(alloc))?;
-    let status = run(alloc, &words, &mut library, &mut sink);
-    Ok((status, sink.bytes() == row.report))
+    let files = [
+        (example.file, example.problem),
+        ("d", derivation.as_slice()),
+    ];
+    let mut library = library_of(alloc, files.as_slice(), &[])?;
+    outcome(
+        alloc,
+        &["check", example.file, "d"],
+        &mut library,
+        row.report,
+    )
 }
 
 #[test]
@@ -87,7 +95,7 @@ fn changed_derivations_are_refused_by_their_causes(rt: HostRuntime) -> Result<()
 /// What is said of the two units where they are cut off behind so many bytes; none where they are read.
 fn cause_of_cut(end: usize) -> Option<(&'static str, usize)> {
     match end {
-        0 | 15 | 16 | 45 => None,
+        0 | 15 | 16 => None,
         1 | 2 => Some(("Syntax", 0)),
         7..=10 => Some(("Role", 6)),
         17 | 18 => Some(("Syntax", 16)),
@@ -100,10 +108,7 @@ fn cause_of_cut(end: usize) -> Option<(&'static str, usize)> {
 fn a_text_that_is_cut_off_is_told_where(rt: HostRuntime) -> Result<(), Fail> {
     let alloc = rt.alloc();
     for end in 0..TWO_UNITS.len() {
-        let words = words_of(alloc, &["prove", "r1.p"])?;
         let mut library = library_of(alloc, &[("r1.p", &TWO_UNITS[..end])], &[])?;
-        let mut sink = MemSink::new(alloc, 1000, 1000, Numbers::new(alloc))?;
-        let status = run(alloc, &words, &mut library, &mut sink);
         let (wanted, report) = match cause_of_cut(end) {
             None => (
                 10,
@@ -114,23 +119,23 @@ fn a_text_that_is_cut_off_is_told_where(rt: HostRuntime) -> Result<(), Fail> {
                 format!(in alloc; "% SZS status InputError for r1\n% {cause} at r1.p:{place}\n")?,
             ),
         };
-        assert_eq!(rt; status, wanted, "cut at {end}");
-        assert!(rt; sink.bytes() == report.as_bytes(), "cut at {end}");
+        let told = outcome(alloc, &["prove", "r1.p"], &mut library, report.as_bytes())?;
+        assert!(rt; told == (wanted, true), "cut at {end}");
     }
     Ok(())
 }
 
+// A problem's file, and a derivation's.
 #[test]
 fn a_file_over_the_limit_is_refused(rt: HostRuntime) -> Result<(), Fail> {
     let alloc = rt.alloc();
-    let words = words_of(alloc, &["prove", "r1.p"])?;
     let bytes = vec![in alloc; 32u8; 67_108_865]?;
     let mut library = library_of(alloc, &[("r1.p", bytes.as_slice())], &[])?;
-    let mut sink = MemSink::new(alloc, 1000, 1000, Numbers::new(alloc))?;
-    assert_eq!(rt; run(alloc, &words, &mut library, &mut sink), 3);
-    assert!(rt;
-        sink.bytes() == b"% SZS status InputError for r1\n% TooLong at r1.p:0\n".as_slice()
-    );
+    let too_long = b"% SZS status InputError for r1\n% TooLong at r1.p:0\n".as_slice();
+    assert!(rt; outcome(alloc, &["prove", "r1.p"], &mut library, too_long)? == (3, true));
+    let mut library = library_of(alloc, &[("r1.p", TWO_UNITS), ("d", bytes.as_slice())], &[])?;
+    let refused = b"% refused at line 0: Text\n".as_slice();
+    assert!(rt; outcome(alloc, &["check", "r1.p", "d"], &mut library, refused)? == (9, true));
     Ok(())
 }
 
@@ -164,17 +169,28 @@ fn a_report_is_cut_where_the_sink_fails(rt: HostRuntime) -> Result<(), Fail> {
     Ok(())
 }
 
+// The first load that fails is told, of the problem's file, of one that it includes, and last of a derivation.
 #[test]
 fn a_library_that_fails_is_told_by_the_name(rt: HostRuntime) -> Result<(), Fail> {
     let alloc = rt.alloc();
-    let files: [(&str, &[u8]); 2] = [("probs/r7.p", GROUP), ("LIB/Axioms/grp.ax", GROUP_AXIOMS)];
-    for (call, name) in [(1, "probs/r7.p"), (2, "LIB/Axioms/grp.ax")] {
-        let words = words_of(alloc, &["prove", "--tptp=LIB", "probs/r7.p"])?;
+    let proof = ["prove", "--tptp=LIB", "probs/r7.p"];
+    let check = ["check", "probs/r7.p", "d", "--tptp=LIB"];
+    let files: [(&str, &[u8]); 3] = [
+        ("probs/r7.p", GROUP),
+        ("LIB/Axioms/grp.ax", GROUP_AXIOMS),
+        ("d", b""),
+    ];
+    for (words, call, name) in [
+        (proof.as_slice(), 1, "probs/r7.p"),
+        (proof.as_slice(), 2, "LIB/Axioms/grp.ax"),
+        (check.as_slice(), 1, "probs/r7.p"),
+        (check.as_slice(), 2, "LIB/Axioms/grp.ax"),
+        (check.as_slice(), 3, "d"),
+    ] {
         let mut library = library_of(alloc, files.as_slice(), &[call])?;
-        let mut sink = MemSink::new(alloc, 64, 1000, Numbers::new(alloc))?;
-        assert_eq!(rt; run(alloc, &words, &mut library, &mut sink), 4);
         let report = format!(in alloc; "% SZS status OSError for r7\n% Load {name}\n")?;
-        assert!(rt; sink.bytes() == report.as_bytes());
+        let told = outcome(alloc, words, &mut library, report.as_bytes())?;
+        assert!(rt; told == (4, true), "{name}");
     }
     Ok(())
 }
@@ -227,14 +243,10 @@ fn printed_refutations_are_accepted(rt: HostRuntime) -> Result<(), Fail> {
         let first = format!(in alloc; "% SZS status {word} for b\n")?;
         assert!(rt; sink.bytes().starts_with(first.as_bytes()));
         let derivation = derivation_in(alloc, sink.bytes())?;
-        let checking = words_of(alloc, &["check", "b.p", "d"])?;
-        let mut library = library_of(
-            alloc,
-            &[("b.p", problem), ("d", derivation.as_slice())],
-            &[],
-        )?;
-        let mut sink = MemSink::new(alloc, 1000, 1000, Numbers::new(alloc))?;
-        assert_eq!(rt; run(alloc, &checking, &mut library, &mut sink), 0, "{word}");
+        let files = [("b.p", problem), ("d", derivation.as_slice())];
+        let mut library = library_of(alloc, files.as_slice(), &[])?;
+        let (status, _) = outcome(alloc, &["check", "b.p", "d"], &mut library, b"")?;
+        assert_eq!(rt; status, 0, "{word}");
     }
     Ok(())
 }
@@ -271,56 +283,42 @@ fn bracketed_text(alloc: Global, opened: usize, closed: usize) -> Result<Vec<u8>
     Ok(text)
 }
 
-// The text of a clause of so many literals, each of two symbols.
+// The text of two clauses, of so many literals and of one more, each of two symbols.
 fn literals_text(alloc: Global, further: usize) -> Result<Vec<u8>, Fail> {
     let mut text = Vec::new(alloc);
     text.extend_from_slice(b"cnf(a,axiom,p")?;
     push_repeated(&mut text, b"|p", further)?;
+    text.extend_from_slice(b"). cnf(b,axiom,p")?;
+    push_repeated(&mut text, b"|p", further + 1)?;
     text.extend_from_slice(b").")?;
     Ok(text)
 }
 
-/// The status of a proof of a problem, and whether the report is the one that is wanted.
-fn outcome_on(alloc: Global, problem: &[u8], report: &[u8]) -> Result<(u8, bool), Fail> {
-    let words = words_of(alloc, &["prove", "d.p"])?;
-    let mut library = library_of(alloc, &[("d.p", problem)], &[])?;
-    let mut sink = MemSink::new(alloc, 64, 1000, Numbers::new(alloc))?;
-    let status = run(alloc, &words, &mut library, &mut sink);
-    Ok((status, sink.bytes() == report))
-}
-
-#[test]
-fn what_passes_a_limit_is_told(rt: HostRuntime) -> Result<(), Fail> {
-    let alloc = rt.alloc();
-    let closed = b"% SZS status Unknown for d\n% closed\n".as_slice();
-    let nesting = b"% SZS status InputError for d\n% Nesting at d.p:512\n".as_slice();
-    let heavy = b"% SZS status InputError for d\n% TooHeavy in a\n".as_slice();
-    assert!(rt;
-        outcome_on(alloc, bracketed_text(alloc, 500, 500)?.as_slice(), closed)? == (10, true)
-    );
-    assert!(rt;
-        outcome_on(alloc, bracketed_text(alloc, 501, 0)?.as_slice(), nesting)? == (3, true)
-    );
-    assert!(rt; outcome_on(alloc, literals_text(alloc, 1999)?.as_slice(), closed)? == (10, true));
-    assert!(rt; outcome_on(alloc, literals_text(alloc, 2000)?.as_slice(), heavy)? == (3, true));
-    Ok(())
-}
-
-// 500 levels, the atom's own among them, and 4,000 symbols are read, `p`, `c` and `$true` among them; beyond either limit
-// the answer is 3, not 7.
+// 500 levels, an atom's own among them; 4,000 symbols of a clause, `$true` among them, and 4,000 of all clauses for the ground loop;
+// and the first formula that passes a limit.
 #[test]
 fn limits_of_a_problem_are_told(rt: HostRuntime) -> Result<(), Fail> {
     let alloc = rt.alloc();
-    let words = words_of(alloc, ["prove", "w.p"].as_slice())?;
-    for (levels, arguments, status) in [(499, 0, 10), (500, 0, 3), (0, 3997, 10), (0, 3998, 3)] {
-        let text = unit_text(alloc, levels, arguments)?;
-        let mut library = library_of(alloc, &[("w.p", text.as_slice())], &[])?;
-        let mut sink = MemSink::new(alloc, 64, 100, Numbers::new(alloc))?;
-        assert_eq!(rt;
-            run(alloc, &words, &mut library, &mut sink),
-            status,
-            "{levels} {arguments}"
-        );
+    let closed = b"% SZS status Unknown for d\n% closed\n".as_slice();
+    let brackets = b"% SZS status InputError for d\n% Nesting at d.p:512\n".as_slice();
+    let arguments = b"% SZS status InputError for d\n% Nesting at d.p:1013\n".as_slice();
+    let heavy = b"% SZS status InputError for d\n% TooHeavy in a\n".as_slice();
+    let second_heavy = b"% SZS status InputError for d\n% TooHeavy in b\n".as_slice();
+    let not_built = b"% SZS status InputError for d\n% NotBuilt in b\n".as_slice();
+    for (text, status, report) in [
+        (bracketed_text(alloc, 500, 500)?, 10, closed),
+        (bracketed_text(alloc, 501, 0)?, 3, brackets),
+        (unit_text(alloc, 499, 0)?, 10, closed),
+        (unit_text(alloc, 500, 0)?, 3, arguments),
+        (unit_text(alloc, 0, 3997)?, 10, closed),
+        (unit_text(alloc, 0, 3998)?, 3, heavy),
+        (literals_text(alloc, 998)?, 10, closed),
+        (literals_text(alloc, 999)?, 3, not_built),
+        (literals_text(alloc, 1999)?, 3, second_heavy),
+    ] {
+        let mut library = library_of(alloc, &[("d.p", text.as_slice())], &[])?;
+        let told = outcome(alloc, &["prove", "d.p"], &mut library, report)?;
+        assert!(rt; told == (status, true), "{}", text.len());
     }
     Ok(())
 }

@@ -102,6 +102,12 @@ pub(crate) const CASES: &[Case] = &[
         report: b"% SZS status InputError for n\n% NotBuilt in 12\n",
     },
     Case {
+        words: &["prove", "o.p"],
+        files: &[("o.p", b"fof(a,axiom,p & q). cnf(b,axiom,a = c).")],
+        status: 3,
+        report: b"% SZS status InputError for o\n% NotBuilt in b\n",
+    },
+    Case {
         words: &["prove", "r21.p"],
         files: &[("r21.p", b"tff(a,axiom,p).")],
         status: 8,
@@ -174,12 +180,12 @@ pub(crate) const CASES: &[Case] = &[
         report: b"% SZS status InputError for ? x.p\n% Syntax at d/? x.p.p:0\n",
     },
     Case {
-        words: &["prove", "r3.p"],
-        files: &[("r3.p", b"cnf(a,axiom,$false).")],
+        words: &["prove", "dir/r3.p"],
+        files: &[("dir/r3.p", b"cnf(a,axiom,$false).")],
         status: 0,
         report: b"% SZS status Unsatisfiable for r3\n\
 % SZS output start CNFRefutation for r3\n\
-cnf(c0,axiom,$false,file('r3.p',a)).\n\
+cnf(c0,axiom,$false,file('dir/r3.p',a)).\n\
 cnf(c1,plain,$false,inference(clausify,[status(esa),index(0)],[c0])).\n\
 % SZS output end CNFRefutation for r3\n",
     },

@@ -9,9 +9,10 @@ pub returns-in_ok-derivation_text-in-Refuted : goal.returns-in_ok-derivation_tex
 returns-in_ok-derivation_text-in-Refuted c =
     record {
       conjecture_is = c.has_conjecture.ensures ∙ ap has_conjecture c.as_slice.ensures;
-      lines = c.in_ok-derivation_text-in-Refuted.ensures.0;
-      accepted = c.in_ok-derivation_text-in-Refuted.ensures.1;
-      herbrand = accepted_derivations_refute _ _ _ c.in_ok-derivation_text-in-Refuted.ensures.1;
+      printed = c.in_ok-derivation_text-in-Refuted.ensures.printed;
+      count = c.in_ok-derivation_text-in-Refuted.ensures.accepted.0;
+      accepted = c.in_ok-derivation_text-in-Refuted.ensures.accepted.1;
+      herbrand = accepted_derivations_refute _ _ _ c.in_ok-derivation_text-in-Refuted.ensures.accepted.1;
     }
 
 pub returns-in-Closed : goal.returns-in-Closed

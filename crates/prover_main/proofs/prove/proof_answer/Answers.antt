@@ -7,8 +7,8 @@ use Rattle.signature.specs.Form.{ClausalForm, clausal_form}
 use Rattle.clausal_form.specs.Form.{form_of}
 use Rattle.ground_loop.specs.Scope.{first_outside}
 use Rattle.ground_loop.proofs.ScopeLemmas.{first_outside_is_first}
-use Rattle.prover_main.specs.Answer.{IsProofAnswer}
-use Rattle.prover_main.specs.AnswerShape.{IsGroundProof, IsNotBuiltAnswer}
+use Rattle.prover_main.specs.Answer.{IsGroundProof, IsProofAnswer}
+use Rattle.prover_main.specs.AnswerShape.{IsNotBuiltAnswer}
 use Rattle.prover_main.proofs.AnswerLemmas.{ground_proves, not_built_proves}
 use Rattle.prover_main.proofs.prove.proof_answer.Goals as goal
 
@@ -27,16 +27,16 @@ pub returns-in-Some : goal.returns-in-Some
 returns-in-Some c =
     IfOk-weaker c.not_built.result
     (λ answer. IsNotBuiltAnswer c.args.formed.now.problem.formulas c.in-Some.index answer)
-    (λ answer. IsProofAnswer c.args.formed.now.problem.formulas c.args.limit answer)
-    (λ answer h. not_built_proves c.args.formed.now.problem.formulas c.args.limit c.in-Some.index answer
+    (λ answer. IsProofAnswer c.args.file.now c.args.formed.now.problem.formulas c.args.limit answer)
+    (λ answer h. not_built_proves c.args.file.now c.args.formed.now.problem.formulas c.args.limit c.in-Some.index answer
     (is_first (form_of c.args.formed.now.form) c.args.formed.now.problem.formulas (Some c.in-Some.index)
     c.requires.formed.formed_from.form (sym c.in-Some.ensures.first)) h) c.not_built.ensures
 
 pub returns-in-None : goal.returns-in-None
 returns-in-None c =
     IfOk-weaker c.ground_answer.result
-    (λ answer. IsGroundProof c.args.formed.now.problem.formulas c.args.limit answer)
-    (λ answer. IsProofAnswer c.args.formed.now.problem.formulas c.args.limit answer)
-    (λ answer h. ground_proves c.args.formed.now.problem.formulas c.args.limit answer
+    (λ answer. IsGroundProof c.args.file.now c.args.formed.now.problem.formulas c.args.limit answer)
+    (λ answer. IsProofAnswer c.args.file.now c.args.formed.now.problem.formulas c.args.limit answer)
+    (λ answer h. ground_proves c.args.file.now c.args.formed.now.problem.formulas c.args.limit answer
     (is_first (form_of c.args.formed.now.form) c.args.formed.now.problem.formulas None
     c.requires.formed.formed_from.form (sym c.in-None.ensures.first)) h) c.ground_answer.ensures

@@ -1,0 +1,5 @@
+use Rattle.prover_main.proofs.TruthLaws.{statuses-are-true}
+use Rattle.prover_main.proofs.laws.statuses_are_true.Goals as goal
+
+pub returns : goal.returns
+returns c = statuses-are-true
