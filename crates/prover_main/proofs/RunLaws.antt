@@ -124,7 +124,7 @@ usage-always words outside taken status r e = after r.delivered.outcome r.delive
     after :
         (o : Result (Unit {0}) SinkFault) → IsDelivery taken r.text o → status ≡ status_after r.due o
         → EndsInUsage taken status ⊎ (status ≡ 5)
-    after (Ok u) d s = inl (record { status_is = s ∙ due.0; report_is = d.0 ∙ ap (with_bytes taken.bytes_before) due.1.0 })
+    after (Ok u) d s = inl (record { status_is = s ∙ due.0; report_is = d.0 ∙ ap (with_bytes taken.bytes_before) due.1 })
     after (Err f) d s = inr s
 
 pub usage-is-told : UsageIsTold

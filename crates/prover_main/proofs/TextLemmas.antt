@@ -1,8 +1,8 @@
 -- The text of a refutation that the ground loop made is an accepted derivation.
-use Rattle.std.proofs.Common.{◌≡◌, ◌≤◌, ◌<◌, ◌^◌, ℕ, suc, Bool, true, false, ◌&&◌, List, [], ◌∷◌, length, map, refl, ap, sym, ◌∙◌, subst, arith}
+use Rattle.std.proofs.Common.{◌≡◌, ◌≤◌, ℕ, suc, Bool, true, false, ◌&&◌, List, [], ◌∷◌, length, map, refl, ap, sym, ◌∙◌, subst, arith}
 use Rattle.std.specs.Prelude.{nat_le, if◌then◌else◌, IsTrue}
 use Rattle.std.proofs.lemmas.Bool.{true≢false}
-use Rattle.std.proofs.lemmas.List.{length-map, length-append}
+use Rattle.std.proofs.lemmas.List.{length-append}
 use Rattle.std.specs.List.{list_all}
 use Rattle.fol_base.specs.Clause.{TreeClause}
 use Rattle.fol_base.specs.Literal.{clause_of}
@@ -10,7 +10,6 @@ use Rattle.fol_base.specs.GroundForm.{IsGroundForm, form_size}
 use Rattle.fol_base.specs.declared.limits.TheConstants.{MOST_SYMBOLS}
 use Rattle.tptp_token.specs.Spelling.{is_printable}
 use Rattle.tptp_tree.specs.declared.problem.Annotated.{Annotated}
-use Rattle.signature.specs.Symbol.{IsSignature}
 use Rattle.signature.specs.Form.{ClausalForm, clausal_form}
 use Rattle.kernel_steps.specs.Derivation.{IsRefutation}
 use Rattle.kernel_steps.specs.declared.step.Line.{Line}
@@ -18,11 +17,12 @@ use Rattle.ground_loop.specs.GroundLines.{AreGroundLines}
 use Rattle.ground_loop.specs.Scope.{IsInScope}
 use Rattle.clausal_form.specs.DerivationTexts.{IsAcceptedDerivation}
 use Rattle.tstp_writer.specs.Printable.{IsShown}
-use Rattle.tstp_writer.specs.Written.{IsAcceptedWhereReadable}
+use Rattle.tstp_writer.specs.Written.{IsWritten, IsAcceptedWhereReadable}
 use Rattle.tstp_writer.specs.WrittenLaws.{IsReadableRefutation}
 use Rattle.tstp_writer.proofs.ProblemLemmas.{formulas-printable}
 use Rattle.prover_main.specs.Words.{is_filled}
 use Rattle.prover_main.specs.Names.{shown_byte, shown}
+use Rattle.prover_main.specs.Answer.{IsDerivationText}
 use Rattle.prover_main.specs.AnswerShape.{IsFormedFrom, WasFormed}
 use Rattle.prover_main.specs.declared.problem.FormedProblem.{FormedProblem}
 use Rattle.prover_main.proofs.ReadableLemmas.{readable-refutation}
@@ -65,3 +65,9 @@ text-accepted formed name lines last text was shown scope refutes ground end acc
     let readable : IsReadableRefutation fs lines last =
     readable-refutation fs lines last (subst IsGroundForm e scope.0) sizes (subst (λ cs. IsRefutation cs lines) e refutes) ground end in
     accepted (formulas-printable was.told was.source.file was.source.root fs h.read) shown readable
+
+pub text-printed :
+    (name file : List ℕ) (formulas : List Annotated) (lines : List Line) (last : ℕ) (text : List ℕ)
+    → name ≡ shown file → IsWritten name formulas lines last text → IsDerivationText file formulas text
+text-printed name file formulas lines last text is_shown written =
+    record { lines = lines; last = last; written = subst (λ word. IsWritten word formulas lines last text) is_shown written }

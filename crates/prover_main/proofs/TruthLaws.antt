@@ -70,8 +70,8 @@ pub statuses-are-true : StatusesAreTrue
 statuses-are-true = record {
   refuted = λ words outside taken status command e r s.
       let x = answered words outside taken status 0 command e r s (λ f. omega (arith, f)) (λ f. omega (arith, f)) in
-      zero-refutes outside command x.0 x.1.0 x.1.1;
+      zero-refutes outside command x.0 x.1 x.2;
   satisfied = λ words outside taken status command e r s.
       let x = answered words outside taken status 10 command e r s (λ f. omega (arith, f)) (λ f. omega (arith, f)) in
-      ten-satisfies outside command x.0 x.1.0 x.1.1;
+      ten-satisfies outside command x.0 x.1 x.2;
 }

@@ -4,7 +4,7 @@ mod derivations;
 
 use super::*;
 use crate::memory_out::deliver_memory_out;
-use cases::{CASES, GROUP, GROUP_AXIOMS, TWO_UNITS};
+use cases::{CASES, GROUP, GROUP_AXIOMS, LIMITS, TWO_UNITS};
 use derivations::{ROWS, Row};
 use outside::{Files, MemFile, MemLibrary, MemSink};
 use plain_types::Numbers;
@@ -69,11 +69,10 @@ fn derivation_of(alloc: Global, row: &Row) -> Result<Vec<u8>, Fail> {
 fn checked(alloc: Global, row: &Row) -> Result<(u8, bool), Fail> {
     let example = row.example.example();
     let derivation = derivation_of(alloc, row)?;
-    let files = [
-        (example.file, example.problem),
-        ("d", derivation.as_slice()),
-    ];
-    let mut library = library_of(alloc, files.as_slice(), &[])?;
+    let mut files = Files::new(alloc);
+    files.push(MemFile::new(alloc, example.file, example.problem)?)?;
+    files.push(MemFile::new(alloc, "d", derivation.as_slice())?)?;
+    let mut library = MemLibrary::new(alloc, files, Numbers::new(alloc));
     outcome(
         alloc,
         &["check", example.file, "d"],
@@ -243,82 +242,36 @@ fn printed_refutations_are_accepted(rt: HostRuntime) -> Result<(), Fail> {
         let first = format!(in alloc; "% SZS status {word} for b\n")?;
         assert!(rt; sink.bytes().starts_with(first.as_bytes()));
         let derivation = derivation_in(alloc, sink.bytes())?;
-        let files = [("b.p", problem), ("d", derivation.as_slice())];
-        let mut library = library_of(alloc, files.as_slice(), &[])?;
+        let mut library = library_of(
+            alloc,
+            &[("b.p", problem), ("d", derivation.as_slice())],
+            &[],
+        )?;
         let (status, _) = outcome(alloc, &["check", "b.p", "d"], &mut library, b"")?;
         assert_eq!(rt; status, 0, "{word}");
     }
     Ok(())
 }
 
-fn push_repeated(text: &mut Vec<u8>, piece: &[u8], count: usize) -> Result<(), Fail> {
-    for _ in 0..count {
-        text.extend_from_slice(piece)?;
-    }
-    Ok(())
-}
-
-// The text of a unit clause whose atom's first argument nests so many levels, with so many further arguments.
-fn unit_text(alloc: Global, levels: usize, arguments: usize) -> Result<Vec<u8>, Fail> {
+/// The text of pieces, each so many times.
+fn text_of(alloc: Global, pieces: &[(&[u8], usize)]) -> Result<Vec<u8>, Fail> {
     let mut text = Vec::new(alloc);
-    text.extend_from_slice(b"cnf(a,axiom,p(")?;
-    push_repeated(&mut text, b"f(", levels)?;
-    text.extend_from_slice(b"c")?;
-    push_repeated(&mut text, b")", levels)?;
-    push_repeated(&mut text, b",c", arguments)?;
-    text.extend_from_slice(b")).")?;
-    Ok(text)
-}
-
-// The text of a clause in so many pairs of brackets.
-fn bracketed_text(alloc: Global, opened: usize, closed: usize) -> Result<Vec<u8>, Fail> {
-    let mut text = Vec::new(alloc);
-    text.extend_from_slice(b"cnf(a,axiom,")?;
-    push_repeated(&mut text, b"(", opened)?;
-    if closed > 0 {
-        text.extend_from_slice(b"p")?;
-        push_repeated(&mut text, b")", closed)?;
-        text.extend_from_slice(b").")?;
+    for (piece, times) in pieces {
+        for _ in 0..*times {
+            text.extend_from_slice(piece)?;
+        }
     }
     Ok(text)
 }
 
-// The text of two clauses, of so many literals and of one more, each of two symbols.
-fn literals_text(alloc: Global, further: usize) -> Result<Vec<u8>, Fail> {
-    let mut text = Vec::new(alloc);
-    text.extend_from_slice(b"cnf(a,axiom,p")?;
-    push_repeated(&mut text, b"|p", further)?;
-    text.extend_from_slice(b"). cnf(b,axiom,p")?;
-    push_repeated(&mut text, b"|p", further + 1)?;
-    text.extend_from_slice(b").")?;
-    Ok(text)
-}
-
-// 500 levels, an atom's own among them; 4,000 symbols of a clause, `$true` among them, and 4,000 of all clauses for the ground loop;
-// and the first formula that passes a limit.
 #[test]
 fn limits_of_a_problem_are_told(rt: HostRuntime) -> Result<(), Fail> {
     let alloc = rt.alloc();
-    let closed = b"% SZS status Unknown for d\n% closed\n".as_slice();
-    let brackets = b"% SZS status InputError for d\n% Nesting at d.p:512\n".as_slice();
-    let arguments = b"% SZS status InputError for d\n% Nesting at d.p:1013\n".as_slice();
-    let heavy = b"% SZS status InputError for d\n% TooHeavy in a\n".as_slice();
-    let second_heavy = b"% SZS status InputError for d\n% TooHeavy in b\n".as_slice();
-    let not_built = b"% SZS status InputError for d\n% NotBuilt in b\n".as_slice();
-    for (text, status, report) in [
-        (bracketed_text(alloc, 500, 500)?, 10, closed),
-        (bracketed_text(alloc, 501, 0)?, 3, brackets),
-        (unit_text(alloc, 499, 0)?, 10, closed),
-        (unit_text(alloc, 500, 0)?, 3, arguments),
-        (unit_text(alloc, 0, 3997)?, 10, closed),
-        (unit_text(alloc, 0, 3998)?, 3, heavy),
-        (literals_text(alloc, 998)?, 10, closed),
-        (literals_text(alloc, 999)?, 3, not_built),
-        (literals_text(alloc, 1999)?, 3, second_heavy),
-    ] {
+    for limit in LIMITS {
+        let text = text_of(alloc, limit.pieces)?;
         let mut library = library_of(alloc, &[("d.p", text.as_slice())], &[])?;
-        let told = outcome(alloc, &["prove", "d.p"], &mut library, report)?;
-        assert!(rt; told == (status, true), "{}", text.len());
+        let told = outcome(alloc, &["prove", "d.p"], &mut library, limit.report)?;
+        assert!(rt; told == (limit.status, true), "{}", text.len());
     }
     Ok(())
 }

@@ -247,3 +247,99 @@ cnf(c1,plain,$false,inference(clausify,[status(esa),index(0)],[c0])).\n\
         report: b"% SZS status InputError for x\n% Expansion in a\n",
     },
 ];
+
+/// A problem `d.p` of pieces, each so many times, with the status and the report of its proof.
+pub(crate) struct Limit {
+    pub pieces: &'static [(&'static [u8], usize)],
+    pub status: u8,
+    pub report: &'static [u8],
+}
+
+const LIMIT_KEPT: &[u8] = b"% SZS status Unknown for d\n% closed\n";
+
+const HEAVY: &[u8] = b"% SZS status InputError for d\n% TooHeavy in a\n";
+
+/// 500 levels, an atom's own among them; 4,000 symbols of a clause, `p`, `c` and `$true` among them; and 4,000 of all clauses for the
+/// ground loop. Beyond each limit the first formula that passes it is told.
+pub(crate) const LIMITS: &[Limit] = &[
+    Limit {
+        pieces: &[
+            (b"cnf(a,axiom,", 1),
+            (b"(", 500),
+            (b"p", 1),
+            (b")", 500),
+            (b").", 1),
+        ],
+        status: 10,
+        report: LIMIT_KEPT,
+    },
+    Limit {
+        pieces: &[(b"cnf(a,axiom,", 1), (b"(", 501)],
+        status: 3,
+        report: b"% SZS status InputError for d\n% Nesting at d.p:512\n",
+    },
+    Limit {
+        pieces: &[
+            (b"cnf(a,axiom,p(", 1),
+            (b"f(", 499),
+            (b"c", 1),
+            (b")", 499),
+            (b")).", 1),
+        ],
+        status: 10,
+        report: LIMIT_KEPT,
+    },
+    Limit {
+        pieces: &[
+            (b"cnf(a,axiom,p(", 1),
+            (b"f(", 500),
+            (b"c", 1),
+            (b")", 500),
+            (b")).", 1),
+        ],
+        status: 3,
+        report: b"% SZS status InputError for d\n% Nesting at d.p:1013\n",
+    },
+    Limit {
+        pieces: &[(b"cnf(a,axiom,p(c", 1), (b",c", 3997), (b")).", 1)],
+        status: 10,
+        report: LIMIT_KEPT,
+    },
+    Limit {
+        pieces: &[(b"cnf(a,axiom,p(c", 1), (b",c", 3998), (b")).", 1)],
+        status: 3,
+        report: HEAVY,
+    },
+    Limit {
+        pieces: &[(b"cnf(a,axiom,p", 1), (b"|p", 1999), (b").", 1)],
+        status: 10,
+        report: LIMIT_KEPT,
+    },
+    Limit {
+        pieces: &[(b"cnf(a,axiom,p", 1), (b"|p", 2000), (b").", 1)],
+        status: 3,
+        report: HEAVY,
+    },
+    Limit {
+        pieces: &[
+            (b"cnf(a,axiom,p", 1),
+            (b"|p", 998),
+            (b"). cnf(b,axiom,p", 1),
+            (b"|p", 999),
+            (b").", 1),
+        ],
+        status: 10,
+        report: LIMIT_KEPT,
+    },
+    Limit {
+        pieces: &[
+            (b"cnf(a,axiom,p", 1),
+            (b"|p", 999),
+            (b"). cnf(b,axiom,p", 1),
+            (b"|p", 1000),
+            (b").", 1),
+        ],
+        status: 3,
+        report: b"% SZS status InputError for d\n% NotBuilt in b\n",
+    },
+];

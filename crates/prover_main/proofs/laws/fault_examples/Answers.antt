@@ -1,4 +1,4 @@
-use Rattle.std.proofs.Common.{◌≡◌, ◌⊎◌, ◌<◌, ◌≤◌, ◌^◌, ◌-◌, ℕ, inl, inr, refl, arith}
+use Rattle.std.proofs.Common.{◌<◌, ◌≤◌, ◌^◌, ◌-◌, ℕ, inl, inr, refl, arith}
 use Rattle.outside.specs.Faults.{Rose}
 use Rattle.prover_main.proofs.laws.fault_examples.Goals as goal
 
@@ -23,4 +23,4 @@ pub returns-clause-failed : goal.returns-clause-failed
 returns-clause-failed c h = h.stays (inl (omega arith))
 
 pub returns-clause-usage_after_a_fault : goal.returns-clause-usage_after_a_fault
-returns-clause-usage_after_a_fault c h = omega (arith, h.1.1)
+returns-clause-usage_after_a_fault c h = omega (arith, h.2)

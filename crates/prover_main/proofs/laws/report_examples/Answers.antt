@@ -15,6 +15,7 @@ returns c = record {
   problem_lost = refl;
   derivation_lost = refl;
   memory_out = refl;
+  lost_under_a_name_of_other_bytes = refl;
   typed = refl;
   refused = refl;
   closed = refl;

@@ -2,9 +2,7 @@ use Rattle.std.proofs.Common.{◌∙◌, sym, subst, arith}
 use Rattle.std.proofs.lemmas.Result.{IfOk-weaker}
 use Rattle.tstp_writer.specs.Printable.{IsShown}
 use Rattle.tstp_writer.proofs.EarlierLemmas.{need-earlier}
-use Rattle.tstp_writer.specs.Written.{IsWritten}
-use Rattle.prover_main.specs.Answer.{IsDerivationText}
-use Rattle.prover_main.proofs.TextLemmas.{file-shown, text-accepted, refutation-some}
+use Rattle.prover_main.proofs.TextLemmas.{file-shown, text-accepted, text-printed, refutation-some}
 use Rattle.prover_main.proofs.prove.derivation_text.Goals as goal
 
 pub returns-clause-accepted : goal.returns-clause-accepted
@@ -21,10 +19,7 @@ write_lines-requires-clause-earlier c = need-earlier _ _ c.requires.refutation.d
 
 pub returns-clause-printed : goal.returns-clause-printed
 returns-clause-printed c =
-    IfOk-weaker c.write_lines.result _ (IsDerivationText c.args.file.now c.args.formed.now.problem.formulas)
-    (λ text written. record {
-      lines = c.args.lines.now;
-      last = _;
-      written = subst (λ name. IsWritten name c.args.formed.now.problem.formulas c.args.lines.now _ text) (c.as_slice.ensures ∙ c.in_ok-name.ensures) written;
-    })
+    IfOk-weaker c.write_lines.result _ _
+    (λ text written. text-printed c.as_slice.result.now c.args.file.now c.args.formed.now.problem.formulas c.args.lines.now _ text
+    (c.as_slice.ensures ∙ c.in_ok-name.ensures) written)
     c.write_lines.ensures.written
