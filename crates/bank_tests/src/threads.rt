@@ -145,11 +145,22 @@ fn two_threads_intern_in_one_bank(rt: HostRuntime) -> Result<(), Fail> {
     Ok(())
 }
 
-/// A list of references of the bank to be handed on, none yet.
-fn none_handed(alloc: Global, bank: &Bank) -> Mem<Handed>
-    ensures { IfOk result (λ handed. handed.tag ≡ identity bank.now ∷ []) }
+/// References that a thread hands to others, which run already, and whether it has ended.
+#[derive(Drop)]
+struct Handing {
+    references: Handed,
+    ended: AtomicBool,
+}
+
+/// None is handed on yet.
+fn none_handed(alloc: Global, bank: &Bank) -> Mem<Handing>
+    ensures { IfOk result (λ handing. handing.references.tag ≡ identity bank.now ∷ []) }
 {
-    Ok(boxcar::Vec::with_rule(alloc, Tag::of::<Bank, Identity>(bank))?)
+    let references = boxcar::Vec::with_rule(alloc, Tag::of::<Bank, Identity>(bank))?;
+    Ok(Handing {
+        references,
+        ended: AtomicBool::new(false),
+    })
 }
 
 /// Interns terms one after another, and hands on each reference.
@@ -159,27 +170,44 @@ fn hand_on<R: Wait>(
     bank: &Bank,
     table: &mut Table,
     terms: &[Term],
-    handed: &Handed,
+    handing: &Handing,
 ) -> Mem<()>
     requires table { IsTableOf bank.now table.old }
-    requires handed { handed.now.tag ≡ identity bank.now ∷ [] }
+    requires handing { handing.now.references.tag ≡ identity bank.now ∷ [] }
     ensures { IsTableOf bank.now table.new }
 {
     for term in terms {
         let reference = bank.intern(rt, alloc, table, term)?;
-        if handed.push(rt, reference).is_err() {
+        if handing.references.push(rt, reference).is_err() {
             return Err(NoMemory);
         }
     }
     Ok(())
 }
 
-/// Whether each reference that is handed on by now lends its term.
-fn handed_lend_their_terms(bank: &Bank, handed: &Handed, terms: &[Term]) -> bool
-    requires { handed.now.tag ≡ identity bank.now ∷ [] }
+/// The same, and tells that it has ended, whether or not it came to all terms.
+fn hand_on_and_end<R: Wait>(
+    rt: &R,
+    alloc: Global,
+    bank: &Bank,
+    table: &mut Table,
+    terms: &[Term],
+    handing: &Handing,
+) -> Mem<()>
+    requires table { IsTableOf bank.now table.old }
+    requires handing { handing.now.references.tag ≡ identity bank.now ∷ [] }
 {
-    for index in 0..handed.count().min(terms.len()) {
-        let Some(reference) = handed.get(index) else {
+    let handed = hand_on(rt, alloc, bank, table, terms, handing);
+    handing.ended.store(true, Ordering::SeqCst);
+    handed
+}
+
+/// Whether each reference that is handed on by now lends its term.
+fn handed_lend_their_terms(bank: &Bank, handing: &Handing, terms: &[Term]) -> bool
+    requires { handing.now.references.tag ≡ identity bank.now ∷ [] }
+{
+    for index in 0..handing.references.count().min(terms.len()) {
+        let Some(reference) = handing.references.get(index) else {
             return false;
         };
         if !same_term(bank.tree(reference), &terms[index]) {
@@ -189,7 +217,7 @@ fn handed_lend_their_terms(bank: &Bank, handed: &Handed, terms: &[Term]) -> bool
     true
 }
 
-/// Reads references that were there before, again and again until the interning has ended.
+/// Reads references that were there before, again and again until the other thread has ended.
 fn read_known<R: Wait>(
     rt: &R,
     bank: &Bank,
@@ -211,80 +239,83 @@ fn read_known<R: Wait>(
     unreachable!()
 }
 
-/// Reads what is handed on, again and again until the interning has ended. The last time all of them are there.
-fn read_handed<R: Wait>(
-    rt: &R,
-    bank: &Bank,
-    handed: &Handed,
-    terms: &[Term],
-    ended: &AtomicBool,
-) -> bool
-    requires { handed.now.tag ≡ identity bank.now ∷ [] }
+/// Reads what is handed on, again and again until the other thread has ended. The last time all of them are there.
+fn read_handed<R: Wait>(rt: &R, bank: &Bank, handing: &Handing, terms: &[Term]) -> bool
+    requires { handing.now.references.tag ≡ identity bank.now ∷ [] }
 {
     for _ in rt.forever() {
-        let last = ended.load(Ordering::SeqCst);
-        if !handed_lend_their_terms(bank, handed, terms) {
+        let last = handing.ended.load(Ordering::SeqCst);
+        if !handed_lend_their_terms(bank, handing, terms) {
             return false;
         }
         if last {
-            return handed.count() == terms.len();
+            return handing.references.count() == terms.len();
         }
     }
     unreachable!()
 }
 
-/// Whether two readers see their own for as long as another thread interns: one reads terms that were there before, the other what
-/// it is handed meanwhile.
+/// The terms that a bank has before, with their references, and those that a thread interns.
+#[derive(Clone, Copy)]
+struct Terms<'a> {
+    references: &'a [TermRef],
+    known: &'a [Term],
+    new: &'a [Term],
+}
+
+/// Whether both readers see their own: one reads terms that were there before, the other what it is handed.
+fn both_read<R: Threads + Wait + Sync>(
+    rt: &R,
+    bank: &Bank,
+    terms: &Terms<'_>,
+    handing: &Handing,
+) -> bool
+    requires known { AreOf bank.now terms.now.references.now }
+    requires handing { handing.now.references.tag ≡ identity bank.now ∷ [] }
+{
+    let (first, second) = thread::join(
+        rt,
+        || read_known(rt, bank, terms.references, terms.known, &handing.ended),
+        || read_handed(rt, bank, handing, terms.new),
+    );
+    first && second
+}
+
+/// Whether two readers see their own for as long as another thread interns, and that one comes to all terms.
 fn read_while_one_interns<R: Threads + Wait + Sync>(
     rt: &R,
     alloc: Global,
     bank: &Bank,
     table: &mut Table,
-    known: &[Term],
-    terms: &[Term],
+    terms: &Terms<'_>,
+    handing: &Handing,
 ) -> Mem<bool>
-    requires { IsTableOf bank.now table.old }
+    requires table { IsTableOf bank.now table.old }
+    requires known { AreOf bank.now terms.now.references.now }
+    requires handing { handing.now.references.tag ≡ identity bank.now ∷ [] }
 {
-    let references = taken_in(rt, alloc, bank, table, known)?;
-    let lent = references.as_slice();
-    let handed = none_handed(alloc, bank)?;
-    let ended = AtomicBool::new(false);
-    let (interned, (first, second)) = thread::join(
+    let (interned, read) = thread::join(
         rt,
-        ||
-            requires { IsTableOf bank.now table.now }
-        {
-            let interned = hand_on(rt, alloc, bank, table, terms, &handed);
-            ended.store(true, Ordering::SeqCst);
-            interned
-        },
-        || {
-            thread::join(
-                rt,
-                || read_known(rt, bank, lent, known, &ended),
-                || read_handed(rt, bank, &handed, terms, &ended),
-            )
-        },
+        || hand_on_and_end(rt, alloc, bank, table, terms.new, handing),
+        || both_read(rt, bank, terms, handing),
     );
     interned?;
-    Ok(first && second)
+    Ok(read)
 }
 
 #[test]
 fn two_threads_read_while_one_interns(rt: HostRuntime) -> Result<(), Fail> {
     let alloc = rt.alloc();
     let known = variables(alloc, 0, KNOWN)?;
-    let terms = variables(alloc, KNOWN, TERMS)?;
+    let new = variables(alloc, KNOWN, TERMS)?;
     let (bank, mut table) = Bank::new(alloc)?;
-    assert!(rt;
-        read_while_one_interns(
-            &rt,
-            alloc,
-            &bank,
-            &mut table,
-            known.as_slice(),
-            terms.as_slice(),
-        )?
-    );
+    let references = taken_in(&rt, alloc, &bank, &mut table, known.as_slice())?;
+    let handing = none_handed(alloc, &bank)?;
+    let terms = Terms {
+        references: references.as_slice(),
+        known: known.as_slice(),
+        new: new.as_slice(),
+    };
+    assert!(rt; read_while_one_interns(&rt, alloc, &bank, &mut table, &terms, &handing)?);
     Ok(())
 }
