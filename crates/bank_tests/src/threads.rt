@@ -297,7 +297,10 @@ fn read_while_one_interns<R: Threads + Wait + Sync>(
     let (interned, read) = thread::join(
         rt,
         || hand_on_and_end(rt, alloc, bank, table, terms.new, handing),
-        || both_read(rt, bank, terms, handing),
+        ||
+            requires known { AreOf bank.now terms.now.references.now }
+            requires handing { handing.now.references.tag ≡ identity bank.now ∷ [] }
+        { both_read(rt, bank, terms, handing) },
     );
     interned?;
     Ok(read)
