@@ -127,6 +127,12 @@ const ONE_FILE: &[Alone] = &[
     ),
 ];
 
+#[test]
+fn reads_one_file(rt: HostRuntime) -> Result<(), Fail> {
+    assert_eq!(rt; first_failure_alone(rt.alloc(), ONE_FILE)?, ONE_FILE.len());
+    Ok(())
+}
+
 /// Where the tokens of an include can't go on, before anything is loaded.
 const INCLUDES: &[Alone] = &[
     (b"include('f.ax',*).", b"Syntax@a.p:15 "),
@@ -148,10 +154,8 @@ const INCLUDES: &[Alone] = &[
 ];
 
 #[test]
-fn reads_one_file(rt: HostRuntime) -> Result<(), Fail> {
-    for rows in [ONE_FILE, INCLUDES] {
-        assert_eq!(rt; first_failure_alone(rt.alloc(), rows)?, rows.len());
-    }
+fn refuses_includes(rt: HostRuntime) -> Result<(), Fail> {
+    assert_eq!(rt; first_failure_alone(rt.alloc(), INCLUDES)?, INCLUDES.len());
     Ok(())
 }
 
@@ -195,6 +199,12 @@ const NAMES: &[Row] = &[
         answer: b"Load@none.p:0 ",
     },
 ];
+
+#[test]
+fn names_included_files(rt: HostRuntime) -> Result<(), Fail> {
+    assert_eq!(rt; first_failure(rt.alloc(), NAMES)?, NAMES.len());
+    Ok(())
+}
 
 /// Which formulas a selection takes, and which names it misses.
 const SELECTIONS: &[Row] = &[
@@ -247,6 +257,12 @@ const SELECTIONS: &[Row] = &[
     },
 ];
 
+#[test]
+fn selects_formulas(rt: HostRuntime) -> Result<(), Fail> {
+    assert_eq!(rt; first_failure(rt.alloc(), SELECTIONS)?, SELECTIONS.len());
+    Ok(())
+}
+
 /// Which conjectures count.
 const CONJECTURES: &[Row] = &[
     Row {
@@ -292,6 +308,12 @@ const CONJECTURES: &[Row] = &[
     },
 ];
 
+#[test]
+fn counts_conjectures(rt: HostRuntime) -> Result<(), Fail> {
+    assert_eq!(rt; first_failure(rt.alloc(), CONJECTURES)?, CONJECTURES.len());
+    Ok(())
+}
+
 /// How deep includes may be nested.
 const DEPTHS: &[Row] = &[
     Row {
@@ -315,10 +337,8 @@ const DEPTHS: &[Row] = &[
 ];
 
 #[test]
-fn reads_several_files(rt: HostRuntime) -> Result<(), Fail> {
-    for rows in [NAMES, SELECTIONS, CONJECTURES, DEPTHS] {
-        assert_eq!(rt; first_failure(rt.alloc(), rows)?, rows.len());
-    }
+fn bounds_depth(rt: HostRuntime) -> Result<(), Fail> {
+    assert_eq!(rt; first_failure(rt.alloc(), DEPTHS)?, DEPTHS.len());
     Ok(())
 }
 
