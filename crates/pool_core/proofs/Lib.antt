@@ -1,0 +1,3 @@
+mod GoingExample
+mod AnswerExamples
+mod LawfulExamples

@@ -1,0 +1,15 @@
+use Rattle.pool_core.proofs.GoingExample.{rewritten_goes}
+use Rattle.pool_core.proofs.LawfulExamples.{tautology_goes, subsumed_goes, given_up}
+use Rattle.pool_core.proofs.laws.lawful.lawful_examples.Goals as goal
+
+pub returns-clause-tautology : goal.returns-clause-tautology
+returns-clause-tautology c = tautology_goes
+
+pub returns-clause-subsumed : goal.returns-clause-subsumed
+returns-clause-subsumed c = subsumed_goes
+
+pub returns-clause-given_up : goal.returns-clause-given_up
+returns-clause-given_up c = given_up
+
+pub returns-clause-rewritten : goal.returns-clause-rewritten
+returns-clause-rewritten c = rewritten_goes

@@ -1,0 +1,19 @@
+// Worked examples of the definitions: each is the contract of a function without arguments and with an empty body.
+
+mod claiming;
+mod components;
+mod counting;
+mod lawful;
+mod resolving;
+mod rewriting;
+mod splitting;
+mod stale;
+
+pub use claiming::{answer_examples, claim_examples, given_up_examples};
+pub use components::{component_examples, signed_name_examples};
+pub use counting::{heavy_examples, spent_examples};
+pub use lawful::{lawful_examples, unlawful_examples};
+pub use resolving::resolved_units;
+pub use rewriting::rewritten_unit;
+pub use splitting::{denied_parts, shared_names};
+pub use stale::stale_return;
