@@ -1,7 +1,7 @@
 -- The answers of a pool to claims and returns, and what each adds to the history.
 use Rattle.std.specs.Prelude.{◌≡◌, ℕ, suc, ◌<◌, ◌==◌, List, [], ◌∷◌, ◌++◌, map, find, length, Option, None, Some, option_map, IsTrue, IsFalse}
 use Rattle.bank_clause.specs.Clause.{clause_at}
-use Rattle.pool_core.specs.SignedNames.{name_count}
+use Rattle.pool_core.specs.Tags.{name_count}
 use Rattle.pool_core.specs.Record.{PoolRecord, GivenJob, Death, clauses_of, given_job, lives, is_dead, position_of, propositional_clauses, jobs_out}
 use Rattle.pool_core.specs.Solving.{must_solve}
 use Rattle.pool_core.specs.Claiming.{can_give, next_given}

@@ -36,9 +36,9 @@ can_give r = is_some (next_given r)
 abbrev pub activated : ℕ → PoolRecord → PoolRecord
 activated n r = if has_number n r.positions then r else record r { positions = r.positions ++ n ∷ [] }
 
--- a job that is told what is told after this event
-abbrev pub told_job : Options → ℕ → ℕ → PoolRecord → GivenJob
-told_job options job n r = record {
+-- a job on a clause, which is told what is told after this event, and how many inferences may still be counted
+abbrev pub new_job : Options → ℕ → ℕ → PoolRecord → GivenJob
+new_job options job n r = record {
   job = job;
   number = n;
   told = told_now r;
@@ -48,7 +48,7 @@ told_job options job n r = record {
 
 abbrev pub given_out : Options → ℕ → ℕ → PoolRecord → PoolRecord
 given_out options job n r = record r {
-  given = r.given ++ told_job options job n r ∷ [];
+  given = r.given ++ new_job options job n r ∷ [];
   jobs = job;
   claims = r.claims + 1;
 }

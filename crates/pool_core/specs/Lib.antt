@@ -1,5 +1,5 @@
 pub mod Components
-pub mod SignedNames
+pub mod Tags
 pub mod Record
 pub mod Lines
 pub mod Registering
@@ -15,7 +15,6 @@ pub mod Lawful
 pub mod News
 pub mod Answers
 pub mod Saturated
-pub mod Carried
 pub mod Inputs
-pub mod Promises
+pub mod Laws
 pub mod Examples

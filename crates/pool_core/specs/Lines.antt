@@ -13,7 +13,7 @@ use Rattle.kernel_steps.specs.declared.step.TheConstants.{CLAUSE_NUMBERS}
 use Rattle.kernel_steps.specs.declared.step.Step.{Step}
 use Rattle.kernel_steps.specs.declared.step.Step.TheVariants.{Para, Refl, Factor, Merge, Component, Opposite}
 use Rattle.kernel_steps.specs.declared.step.Line.{Line}
-use Rattle.pool_core.specs.SignedNames.{line_names}
+use Rattle.pool_core.specs.Tags.{line_names}
 use Rattle.pool_core.specs.Record.{PoolRecord, Registered}
 
 -- ---- a step with its clause as a line

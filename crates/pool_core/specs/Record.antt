@@ -9,7 +9,7 @@ use Rattle.kernel_steps.specs.Split.{has_number}
 use Rattle.kernel_steps.specs.declared.key.Key.{Key}
 use Rattle.kernel_steps.specs.declared.step.Line.{Line}
 use Rattle.sat_core.specs.Clause.{Valuation, literal_true, valuation_of}
-use Rattle.pool_core.specs.SignedNames.{signed_name}
+use Rattle.pool_core.specs.Tags.{name_of_tag}
 use Rattle.pool_core.specs.declared.outcome.Outcome.{Outcome}
 
 -- a registered clause, whose assertions are negative names with tags as their numbers, and the number of its line
@@ -115,7 +115,7 @@ has_living r c = list_any (λ n. lives r n && clause_eq c (clause_numbered r n))
 
 -- the signed name of each asserted tag is true
 abbrev pub is_awake_under : Valuation → List (List TreeLiteral) → TreeClause → Bool
-is_awake_under truth parts c = list_all (λ tag. literal_true truth (signed_name parts tag)) (assertions c.names)
+is_awake_under truth parts c = list_all (λ tag. literal_true truth (name_of_tag parts tag)) (assertions c.names)
 
 -- under the current model, where a name that the model doesn't have is false
 abbrev pub is_awake : PoolRecord → ℕ → Bool

@@ -9,7 +9,8 @@ use Rattle.kernel_steps.specs.declared.step.Step.TheVariants.{Clausify, Componen
 use Rattle.kernel_steps.specs.declared.step.Line.{Line}
 use Rattle.split_parts.specs.Tags.{has_part, with_part, tag_of}
 use Rattle.pool_core.specs.Components.{components_of, parts_of, is_to_split}
-use Rattle.pool_core.specs.SignedNames.{body_of, bodies, name_of_part, line_names}
+use Rattle.split_parts.specs.SignedNames.{affirmed, named, signed_name}
+use Rattle.pool_core.specs.Tags.{line_names}
 use Rattle.pool_core.specs.Record.{PoolRecord, has_living}
 use Rattle.pool_core.specs.Lines.{line_of, with_lines, last_number, definition_of}
 use Rattle.pool_core.specs.declared.outcome.Outcome.TheVariants.{Refuted}
@@ -19,10 +20,13 @@ over ls names = record { literals = ls; names = names }
 
 -- ---- registered clauses
 
--- unless an equal clause with equal assertions lives; its line is that of the number
-abbrev pub with_clause : TreeClause → ℕ → PoolRecord → PoolRecord
-with_clause c line r =
-    if has_living r c then r else record r { registered = r.registered ++ record { clause = c; line = line } ∷ [] }
+-- the clause gets the next number; its line is that of the number
+abbrev pub registered_by : ℕ → TreeClause → PoolRecord → PoolRecord
+registered_by line c r = record r { registered = r.registered ++ record { clause = c; line = line } ∷ [] }
+
+-- by the last line
+abbrev pub registered_last : TreeClause → PoolRecord → PoolRecord
+registered_last c r = registered_by (last_number r) c r
 
 -- ---- clauses over names
 
@@ -36,13 +40,13 @@ with_propositional names r =
 -- The lines that a new part brings: the component line of its name where that is new, and for a ground negative literal the opposite line.
 abbrev pub definitions : List (List TreeLiteral) → List TreeLiteral → NameLit → List Line
 definitions parts part n =
-    (if has_part (body_of part) (bodies parts) then [] else line_of (Component n.name) (over (body_of part) (negative_of n.name ∷ [])) ∷ [])
+    (if has_part (affirmed part) (named parts) then [] else line_of (Component n.name) (over (affirmed part) (negative_of n.name ∷ [])) ∷ [])
     ++ (if n.positive then [] else line_of (Opposite n.name) (over part (positive_of n.name ∷ [])) ∷ [])
 
 -- a part gets its tag from the table
 abbrev pub with_new_part : List TreeLiteral → List (List TreeLiteral) → PoolRecord → PoolRecord
 with_new_part part parts r =
-    record r { parts = parts; lines = r.lines ++ definitions r.parts part (name_of_part parts part) }
+    record r { parts = parts; lines = r.lines ++ definitions r.parts part (signed_name parts part) }
 
 abbrev pub with_tag : PoolRecord → List TreeLiteral → PoolRecord
 with_tag r part = if has_part part r.parts then r else with_new_part part (with_part r.parts part) r
@@ -50,7 +54,8 @@ with_tag r part = if has_part part r.parts then r else with_new_part part (with_
 -- a part is registered under its tag, unless that has a living clause
 abbrev pub with_part_clause : PoolRecord → List TreeLiteral → PoolRecord
 with_part_clause r part =
-    with_clause (over part (negative_of (tag_of r.parts part) ∷ [])) (definition_of r.lines (name_of_part r.parts part)) r
+    let c = over part (negative_of (tag_of r.parts part) ∷ []) in
+    if has_living r c then r else registered_by (definition_of r.lines (signed_name r.parts part)) c r
 
 -- the propositional clause of a split comes by its line
 abbrev pub with_split : Step → List NameLit → PoolRecord → PoolRecord
@@ -64,7 +69,7 @@ split_tagged c line parts names r =
     parts
 
 abbrev pub split_named : TreeClause → ℕ → List (List TreeLiteral) → PoolRecord → PoolRecord
-split_named c line parts r = split_tagged c line parts (map (name_of_part r.parts) parts) r
+split_named c line parts r = split_tagged c line parts (map (signed_name r.parts) parts) r
 
 -- The clause of the last line falls into its components: the signed names of the parts and the opposites of those of the clause's tags
 -- give one propositional clause, by a split line; and the parts are registered.
@@ -84,7 +89,7 @@ with_refutation r = record r { ended = Some Refuted }
 abbrev pub empty_comes : TreeClause → PoolRecord → PoolRecord
 empty_comes c r =
     if has_none c.names
-    then with_refutation (with_clause c (last_number r) r)
+    then with_refutation (registered_last c r)
     else with_propositional (line_names r.parts c.names) r
 
 -- By lines, of which the last has its literals, and the opposites of the signed names of its tags. Where an equal clause lives, nothing
@@ -95,7 +100,7 @@ comes split lines c r =
     then empty_comes c (with_lines r lines)
     else (if is_to_split split c.literals
     then split_up c (with_lines r lines)
-    else (if has_living r c then r else with_clause c (last_number (with_lines r lines)) (with_lines r lines)))
+    else (if has_living r c then r else registered_last c (with_lines r lines)))
 
 -- nothing is changed once the pool is refuted or spent
 abbrev pub unless_ended : (PoolRecord → PoolRecord) → PoolRecord → PoolRecord

@@ -1,11 +1,11 @@
 -- The replay of a history: event by event, from the first on.
 use Rattle.std.specs.Prelude.{ℕ, ◌+◌, ◌==◌, if◌then◌else◌, List, map, fold, Option, None, Some}
 use Rattle.fol_base.specs.Clause.{TreeClause}
-use Rattle.pool_core.specs.Record.{PoolRecord, GivenJob, SolverJob, nothing_registered, without_job}
+use Rattle.pool_core.specs.Record.{PoolRecord, GivenJob, SolverJob, nothing_registered, without_job, told_now}
 use Rattle.pool_core.specs.Registering.{with_inputs}
 use Rattle.pool_core.specs.Returning.{returned}
 use Rattle.pool_core.specs.Solving.{solver_claimed, model_returned, refutation_returned}
-use Rattle.pool_core.specs.Claiming.{claimed, told_job}
+use Rattle.pool_core.specs.Claiming.{claimed}
 use Rattle.pool_core.specs.declared.options.Options.{Options}
 use Rattle.pool_core.specs.declared.event.Event.{Event}
 use Rattle.pool_core.specs.declared.event.Event.TheVariants.{Claim, Return, Stale, Void, ClaimSolve, ReturnModel, ReturnRefuted, Abandon}
@@ -17,10 +17,12 @@ pub record Origin : Type 0 where
 
 -- ---- the jobs that no batch ends
 
--- the job is told anew
-abbrev pub told_anew : Options → ℕ → PoolRecord → PoolRecord
-told_anew options job r =
-    record r { given = map (λ (j : GivenJob). if j.job == job then told_job options job j.number r else j) r.given }
+-- the job is told what is told after this event
+abbrev pub retold : PoolRecord → GivenJob → GivenJob
+retold r j = record j { told = told_now r; as_of = r.events + 1 }
+
+abbrev pub told_anew : ℕ → PoolRecord → PoolRecord
+told_anew job r = record r { given = map (λ (j : GivenJob). if j.job == job then retold r j else j) r.given }
 
 -- the job of the given clause is no longer out
 abbrev pub dismissed : ℕ → PoolRecord → PoolRecord
@@ -39,7 +41,7 @@ abandoned job r = record r { given = without_job job r.given; solver = without_s
 abbrev pub change_by : Options → Event → PoolRecord → PoolRecord
 change_by options (Claim job) r = claimed options job r
 change_by options (Return batch) r = returned options batch r
-change_by options (Stale job justifier) r = told_anew options job r
+change_by options (Stale job justifier) r = told_anew job r
 change_by options (Void job) r = dismissed job r
 change_by options (ClaimSolve job) r = solver_claimed job r
 change_by options (ReturnModel job truths) r = model_returned truths r

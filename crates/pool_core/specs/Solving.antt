@@ -9,7 +9,7 @@ use Rattle.kernel_steps.specs.declared.step.Step.TheVariants.{Chain}
 use Rattle.kernel_steps.specs.declared.step.Line.{Line}
 use Rattle.sat_core.specs.declared.answer.Link.{Link}
 use Rattle.sat_core.specs.declared.answer.Chain as log
-use Rattle.pool_core.specs.SignedNames.{name_count}
+use Rattle.pool_core.specs.Tags.{name_count}
 use Rattle.pool_core.specs.Record.{PoolRecord, SolverJob, PropositionalClause, propositional_clauses}
 use Rattle.pool_core.specs.Lines.{line_of}
 use Rattle.pool_core.specs.declared.outcome.Outcome.TheVariants.{Refuted}

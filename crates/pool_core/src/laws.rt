@@ -10,7 +10,7 @@ mod splitting;
 mod stale;
 
 pub use claiming::{answer_examples, claim_examples, given_up_examples};
-pub use components::{component_examples, signed_name_examples};
+pub use components::{component_examples, line_name_examples};
 pub use counting::{heavy_examples, spent_examples};
 pub use lawful::{lawful_examples, unlawful_examples};
 pub use resolving::resolved_units;

@@ -5,7 +5,7 @@ ghost use Rattle.fol_base.specs.Examples.{x, a, p, q, equation};
 ghost use Rattle.kernel_steps.specs.Derivation.{positive_of, negative_of};
 ghost use Rattle.kernel_steps.specs.Examples.{not_p, not_q};
 ghost use Rattle.pool_core.specs.Components.{components_of, parts_of, is_to_split};
-ghost use Rattle.pool_core.specs.SignedNames.{name_count, signed_name, line_names};
+ghost use Rattle.pool_core.specs.Tags.{name_count, line_names};
 
 /// Literals that share variables with one another, directly or through others.
 pub fn component_examples()
@@ -19,11 +19,8 @@ pub fn component_examples()
     ensures off { IsFalse (is_to_split false (p (x 0) ∷ q (x 1) ∷ [])) }
 {}
 
-/// A ground negative literal has the negative sign and the name of its complement, whichever came first.
-pub fn signed_name_examples()
-    ensures negated_first { signed_name ((not_p a ∷ []) ∷ (p a ∷ []) ∷ []) 0 ≡ negative_of 0 }
-    ensures then_positive { signed_name ((not_p a ∷ []) ∷ (p a ∷ []) ∷ []) 1 ≡ positive_of 0 }
-    ensures next_name { signed_name ((not_p a ∷ []) ∷ (p a ∷ []) ∷ (not_q (x 0) ∷ []) ∷ []) 2 ≡ positive_of 1 }
+/// A line has the opposites of the signed names of a clause's tags; a ground negative part has the negative sign.
+pub fn line_name_examples()
     ensures count { name_count ((not_p a ∷ []) ∷ (p a ∷ []) ∷ (not_q (x 0) ∷ []) ∷ []) ≡ 2 }
     ensures opposites { line_names ((not_p a ∷ []) ∷ (q (x 0) ∷ []) ∷ []) (negative_of 0 ∷ negative_of 1 ∷ [])
         ≡ positive_of 0 ∷ negative_of 1 ∷ [] }

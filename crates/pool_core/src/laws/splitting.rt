@@ -10,7 +10,7 @@ ghost use Rattle.pool_core.specs.Lines.{line_of};
 ghost use Rattle.pool_core.specs.Outcomes.{outcome_of};
 ghost use Rattle.pool_core.specs.Record.{is_awake, propositional_clauses};
 ghost use Rattle.pool_core.specs.Replay.{start, replay};
-ghost use Rattle.pool_core.specs.SignedNames.{name_count};
+ghost use Rattle.pool_core.specs.Tags.{name_count};
 ghost use Rattle.pool_core.specs.Solving.{must_solve};
 ghost use Rattle.pool_core.specs.Examples.{split, first_denied, both_denied, split_history, signed, signed_history};
 ghost use Rattle.pool_core.specs.declared.outcome.Outcome.TheVariants.{Refuted};
