@@ -1,5 +1,5 @@
 -- Laws of lawful histories, for every list of events.
-use Rattle.std.specs.Prelude.{◌≡◌, ℕ, ◌+◌, ◌*◌, ◌<◌, ◌≤◌, Bool, true, false, not, ◌&&◌, ◌==◌, nat_lt, List, [], ◌∷◌, ◌++◌, length, take, Some, count_by, IsTrue, IsFalse}
+use Rattle.std.specs.Prelude.{◌≡◌, ℕ, ◌+◌, ◌*◌, ◌<◌, ◌≤◌, Bool, true, false, not, ◌&&◌, ◌==◌, nat_lt, List, [], ◌∷◌, ◌++◌, length, take, Some, filter, IsTrue, IsFalse}
 use Rattle.std.specs.List.{list_any, list_all}
 use Rattle.pool_core.specs.Record.{Death, has_died, lives, waits, is_awake}
 use Rattle.pool_core.specs.Replay.{Origin, replay}
@@ -25,7 +25,7 @@ ClaimedInTime =
     (is_predicate : ℕ → Bool) (origin : Origin) (before later : List Event) (n : ℕ)
     → IsLawful is_predicate origin (before ++ later) → n < length (replay origin before).registered
     → ((k : ℕ) → IsTrue (lives (replay origin (before ++ take k later)) n && is_awake (replay origin (before ++ take k later)) n))
-    → IsFalse (list_any is_abandon later) → 6 * (n + 1) ≤ count_by is_claim later
+    → IsFalse (list_any is_abandon later) → 6 * (n + 1) ≤ length (filter is_claim later)
     → IsFalse (waits (replay origin (before ++ later)) n)
 
 -- ---- the count

@@ -3,6 +3,7 @@
 mod claiming;
 mod components;
 mod counting;
+mod histories;
 mod lawful;
 mod resolving;
 mod rewriting;
@@ -12,6 +13,7 @@ mod stale;
 pub use claiming::{answer_examples, claim_examples, given_up_examples};
 pub use components::{component_examples, line_name_examples};
 pub use counting::{heavy_examples, spent_examples};
+pub use histories::{claimed_in_time, deaths_are_justified, spent_is_the_count};
 pub use lawful::{lawful_examples, unlawful_examples};
 pub use resolving::resolved_units;
 pub use rewriting::rewritten_unit;
