@@ -5,18 +5,20 @@ use Rattle.plain_types.specs.declared.sequence.NameLit.{NameLit}
 use Rattle.fol_base.specs.Clause.{TreeLiteral, TreeClause}
 use Rattle.kernel_steps.specs.declared.step.Step.TheVariants.{Clausify}
 use Rattle.kernel_steps.specs.declared.step.Line.{Line}
-use Rattle.split_parts.specs.Tags.{has_part}
+use Rattle.split_parts.specs.Tags.{has_part, tag_of}
+use Rattle.split_parts.specs.SignedNames.{signed_name}
+use Rattle.kernel_steps.specs.Derivation.{negative_of}
 use Rattle.pool_core.specs.Components.{parts_of, is_to_split}
 use Rattle.pool_core.specs.Record.{PoolRecord, Registered, has_living}
-use Rattle.pool_core.specs.Lines.{line_of, with_lines, last_number, result_of, pool_line}
-use Rattle.pool_core.specs.Registering.{over, registered_by, with_propositional, with_tag, with_part_clause, with_split, split_named, split_up, has_none, with_refutation, empty_comes, comes, unless_ended, with_inputs}
+use Rattle.pool_core.specs.Lines.{line_of, with_lines, last_number, definition_of, result_of, pool_line}
+use Rattle.pool_core.specs.Registering.{over, registered_by, registered_unless_living, with_propositional, with_tag, with_part_clause, with_split, split_named, split_up, has_none, with_refutation, empty_comes, comes, unless_ended, with_inputs}
 use Rattle.pool_core.specs.Counting.{comes_by, result_comes}
 use Rattle.pool_core.specs.declared.outcome.Outcome.TheVariants.{Refuted}
 
 -- what holds of both holds of either
 pub by-if : {X : Type 0} (P : X → Type 0) (b : Bool) (x y : X) → P x → P y → P (if b then x else y)
-by-if P true x y yes no = yes
-by-if P false x y yes no = no
+by-if P true x y h k = h
+by-if P false x y h k = k
 
 -- Registering adds parts, registered clauses, propositional clauses and lines, and may refute; all else stays.
 pub record Registers (r r' : PoolRecord) : Type 0 where
@@ -79,7 +81,11 @@ with_tag-registers r part =
     (record { same = refl; more = ([], sym (append-nil r.registered)); ends = inl refl })
 
 with_part_clause-registers : (r : PoolRecord) (part : List TreeLiteral) → Registers r (with_part_clause r part)
-with_part_clause-registers r part = by-if (Registers r) (has_living r _) r _ (unchanged r) (registered_by-registers _ _ r)
+with_part_clause-registers r part =
+    unless_living (definition_of r.lines (signed_name r.parts part)) (over part (negative_of (tag_of r.parts part) ∷ [])) r
+  where
+    unless_living : (line : ℕ) (c : TreeClause) (r : PoolRecord) → Registers r (registered_unless_living line c r)
+    unless_living line c r = by-if (Registers r) (has_living r c) r (registered_by line c r) (unchanged r) (registered_by-registers line c r)
 
 split_up-registers : (c : TreeClause) (r : PoolRecord) → Registers r (split_up c r)
 split_up-registers c r =

@@ -25,14 +25,11 @@ rising-high low high higher (j ∷ js) more rise = (rise.0, rising-high j.job hi
 
 pub rising-filter : (keep : GivenJob → Bool) (low high : ℕ) (js : List GivenJob) → Rising low high js → Rising low high (filter keep js)
 rising-filter keep low high [] rise = rise
-rising-filter keep low high (j ∷ js) rise = by (keep j)
+rising-filter keep low high (j ∷ js) rise = by (keep j) (rising-filter keep j.job high js rise.1)
   where
-    rest : Rising j.job high (filter keep js)
-    rest = rising-filter keep j.job high js rise.1
-
-    by : (b : Bool) → Rising low high (cond b (j ∷ filter keep js) (filter keep js))
-    by true = (rise.0, rest)
-    by false = rising-from j.job low high (filter keep js) (omega (arith, rise.0)) rest
+    by : (b : Bool) → Rising j.job high (filter keep js) → Rising low high (cond b (j ∷ filter keep js) (filter keep js))
+    by true rest = (rise.0, rest)
+    by false rest = rising-from j.job low high (filter keep js) (omega (arith, rise.0)) rest
 
 pub rising-end : (low high : ℕ) (js : List GivenJob) (j : GivenJob) → Rising low high js → high < j.job → Rising low j.job (js ++ j ∷ [])
 rising-end low high [] j rise above = (omega (arith, rise, above), omega arith)
@@ -48,10 +45,11 @@ none-removed : (job low high : ℕ) (js : List GivenJob) → job ≤ low → Ris
 none-removed job low high [] below rise = refl
 none-removed job low high (j ∷ js) below rise =
     by (j.job == job) (ne_eqb j.job job (λ e. absurd (omega (arith, e, below, rise.0))))
+    (none-removed job j.job high js (omega (arith, below, rise.0)) rise.1)
   where
-    by : (b : Bool) → b ≡ false → cond (not b) (j ∷ without_job job js) (without_job job js) ≡ j ∷ js
-    by true is = absurd (true≢false is)
-    by false is = ap (λ ks. j ∷ ks) (none-removed job j.job high js (omega (arith, below, rise.0)) rise.1)
+    by : (b : Bool) → b ≡ false → without_job job js ≡ js → cond (not b) (j ∷ without_job job js) (without_job job js) ≡ j ∷ js
+    by true is rest = absurd (true≢false is)
+    by false is rest = ap (λ ks. j ∷ ks) rest
 
 -- A clause that is in no other job's hand than that of a job is in no hand, if it isn't that job's.
 pub only-of-the-job :
@@ -60,18 +58,21 @@ pub only-of-the-job :
     → list_any (λ (k : GivenJob). n == k.number) (without_job job js) ≡ false
     → list_any (λ (k : GivenJob). n == k.number) js ≡ false
 only-of-the-job job n low high [] j rise found other none = refl
-only-of-the-job job n low high (k ∷ ks) j rise found other none = by (k.job == job) refl found none
+only-of-the-job job n low high (k ∷ ks) j rise found other none =
+    by (k.job == job) refl (λ found none. only-of-the-job job n k.job high ks j rise.1 found other none) found none
   where
     by :
         (b : Bool) → (k.job == job) ≡ b
+        → (find (λ (k : GivenJob). k.job == job) ks ≡ Some j
+        → list_any (λ (k : GivenJob). n == k.number) (without_job job ks) ≡ false → list_any (λ (k : GivenJob). n == k.number) ks ≡ false)
         → cond b (Some k) (find (λ (k : GivenJob). k.job == job) ks) ≡ Some j
         → list_any (λ (k : GivenJob). n == k.number) (cond (not b) (k ∷ without_job job ks) (without_job job ks)) ≡ false
         → list_any (λ (k : GivenJob). n == k.number) (k ∷ ks) ≡ false
-    by true is found none =
+    by true is rest found none =
         or_from (n == k.number) (list_any (λ (k : GivenJob). n == k.number) ks)
         (ap (λ (i : GivenJob). n == i.number) (same_Some k j found) ∙ other)
         (ap (list_any (λ (k : GivenJob). n == k.number)) (sym (none-removed job k.job high ks (let e : k.job ≡ job = eqb-true k.job job is in omega (arith, e)) rise.1)) ∙ none)
-    by false is found none =
+    by false is rest found none =
         let parts = or_parts (n == k.number) (list_any (λ (k : GivenJob). n == k.number) (without_job job ks)) none in
         or_from (n == k.number) (list_any (λ (k : GivenJob). n == k.number) ks) parts.0
-        (only-of-the-job job n k.job high ks j rise.1 found other parts.1)
+        (rest found parts.1)

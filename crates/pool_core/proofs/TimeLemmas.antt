@@ -208,6 +208,14 @@ module _ (is_predicate : ℕ → Bool) (options : Options) where
       weaker : (k : ℕ) → k < suc n → waits (after options r e) k ≡ true → waits r k ≡ true
       weaker k below after = event-busy is_predicate options 0 r.jobs k r e allowed kept rise (omega (arith, below, there)) after
 
+      plain :
+          (e : Event) → (after options r e).claims ≡ r.claims + 0
+          → ((k : ℕ) → k < suc n → waits (after options r e) k ≡ true → waits r k ≡ true)
+          → 0 + 6 * waiting (suc n) (after options r e) + place r ≤ 6 * waiting (suc n) r + place (after options r e)
+      plain e claims weaker =
+          falls-by-none (waiting (suc n) r) (waiting (suc n) (after options r e)) r.claims (after options r e).claims
+          (passing-less (waits r) (waits (after options r e)) (suc n) weaker) claims
+
       by :
           (e : Event) → IsAllowed is_predicate options r e → is_abandon e ≡ false
           → (after options r e).claims ≡ r.claims + claims_of e
@@ -229,14 +237,6 @@ module _ (is_predicate : ℕ → Bool) (options : Options) where
       by (ReturnModel job truths) allowed kept claims weaker = plain (ReturnModel job truths) claims weaker
       by (ReturnRefuted job chains) allowed kept claims weaker = plain (ReturnRefuted job chains) claims weaker
       by (Abandon job) allowed kept claims weaker = absurd (true≢false kept)
-
-      plain :
-          (e : Event) → (after options r e).claims ≡ r.claims + 0
-          → ((k : ℕ) → k < suc n → waits (after options r e) k ≡ true → waits r k ≡ true)
-          → 0 + 6 * waiting (suc n) (after options r e) + place r ≤ 6 * waiting (suc n) r + place (after options r e)
-      plain e claims weaker =
-          falls-by-none (waiting (suc n) r) (waiting (suc n) (after options r e)) r.claims (after options r e).claims
-          (passing-less (waits r) (waits (after options r e)) (suc n) weaker) claims
 
   -- ---- a list of events
 

@@ -33,13 +33,13 @@ KeepsBusy r r' = (k : ℕ) → k < length r.registered → waits r' k ≡ true �
 module _ (is_predicate : ℕ → Bool) (options : Options) where
   -- ---- claims
 
-  -- what waits after a claim waited before, and is another clause
+  -- what waits still a claim waited before, and is another clause
   given-busy :
       (job q : ℕ) (r : PoolRecord) (positions : List ℕ) (k : ℕ)
       → waits (given_out options job q (record r { positions = positions })) k ≡ true → (waits r k ≡ true) × ((k == q) ≡ false)
-  given-busy job q r positions k after =
+  given-busy job q r positions k still =
       let s : PoolRecord = record r { positions = positions } in
-      let is = waiting-parts (given_out options job q s) k after in
+      let is = waiting-parts (given_out options job q s) k still in
       let hands = or_parts (is_out r k) ((k == q) || false)
       (sym (list_any-append (λ (j : GivenJob). k == j.number) r.given (new_job options job q s ∷ [])) ∙ is.in_hand) in
       (waiting-from r k (record { alive = is.alive; in_hand = hands.0; idle = is.idle }), (or_parts (k == q) false hands.1).0)
@@ -76,14 +76,14 @@ module _ (is_predicate : ℕ → Bool) (options : Options) where
       → ((k == j.number) ≡ true → waits s k ≡ true → ⊥)
       → (lives s k ≡ true → lives r k ≡ true) → (has_number k s.active ≡ false → has_number k r.active ≡ false)
       → waits s k ≡ true → waits r k ≡ true
-  back-busy job low high k j r rise found s given own living idle after = ⊎_elim mine other (cases_Bool (k == j.number))
+  back-busy job low high k j r rise found s given own living idle still = ⊎_elim mine other (cases_Bool (k == j.number))
     where
       mine : (k == j.number) ≡ true → waits r k ≡ true
-      mine is = absurd (own is after)
+      mine is = absurd (own is still)
 
       other : (k == j.number) ≡ false → waits r k ≡ true
       other is =
-          let parts = waiting-parts s k after in
+          let parts = waiting-parts s k still in
           waiting-from r k (record {
             alive = living parts.alive;
             in_hand =
@@ -106,13 +106,13 @@ module _ (is_predicate : ℕ → Bool) (options : Options) where
       → Rising low high r.given → given_job r job ≡ Some j → k < length r.registered
       → Grows (becomes_active j.number (without job r)) s
       → waits s k ≡ true → waits r k ≡ true
-  active-busy job low high k j r s rise found there grown after =
+  active-busy job low high k j r s rise found there grown still =
       let mid : PoolRecord = becomes_active j.number (without job r) in
       back-busy job low high k j r rise found mid refl
       (λ is waiting. absurd (true≢false (sym is ∙ (active-end r.active j.number k (waiting-parts mid k waiting).idle).1)))
       (λ alive. alive)
       (λ idle. (active-end r.active j.number k idle).0)
-      (waits-before mid s k grown there after)
+      (waits-before mid s k grown there still)
 
   -- where it dies
   pub dead-busy :
@@ -120,13 +120,13 @@ module _ (is_predicate : ℕ → Bool) (options : Options) where
       → Rising low high r.given → given_job r job ≡ Some j → k < length r.registered
       → Grows (dies j.number justifiers (without job r)) s
       → waits s k ≡ true → waits r k ≡ true
-  dead-busy job low high k justifiers j r s rise found there grown after =
+  dead-busy job low high k justifiers j r s rise found there grown still =
       let mid : PoolRecord = dies j.number justifiers (without job r) in
       back-busy job low high k j r rise found mid refl
       (λ is waiting. dead-waits r job justifiers j k is waiting)
       (λ alive. lives-before r mid k (record { victim = j.number; event = r.events; justifiers = justifiers } ∷ [], refl) there alive)
       (λ idle. idle)
-      (waits-before mid s k grown there after)
+      (waits-before mid s k grown there still)
     where
       dead-waits :
           (r : PoolRecord) (job : ℕ) (justifiers : List ℕ) (j : GivenJob) (k : ℕ)
@@ -184,32 +184,33 @@ module _ (is_predicate : ℕ → Bool) (options : Options) where
       ∙ ap (λ b. (k == j.number) || b) (stale-hands job k r js)
 
   stale-busy : (job k : ℕ) (r : PoolRecord) → waits (told_anew job r) k ≡ true → waits r k ≡ true
-  stale-busy job k r after =
-      let is = waiting-parts (told_anew job r) k after in
+  stale-busy job k r still =
+      let is = waiting-parts (told_anew job r) k still in
       waiting-from r k (record { alive = is.alive; in_hand = sym (stale-hands job k r r.given) ∙ is.in_hand; idle = is.idle })
 
   modelled-busy : (o : Option SolverJob) (truths : List Bool) (k : ℕ) (r : PoolRecord) → waits (modelled_by o truths r) k ≡ true → waits r k ≡ true
-  modelled-busy None truths k r after = after
-  modelled-busy (Some s) truths k r after = after
+  modelled-busy None truths k r still = still
+  modelled-busy (Some s) truths k r still = still
 
   refuted-busy : (o : Option SolverJob) (chains : List log.Chain) (k : ℕ) (r : PoolRecord) → waits (refuted_by o chains r) k ≡ true → waits r k ≡ true
-  refuted-busy None chains k r after = after
-  refuted-busy (Some s) chains k r = by-if (λ t. waits t k ≡ true → waits r k ≡ true) (is_none r.ended) _ _ (λ after. after) (λ after. after)
+  refuted-busy None chains k r still = still
+  refuted-busy (Some s) chains k r still =
+      by-if (λ t. waits t k ≡ true → waits r k ≡ true) (is_none r.ended) _ _ (λ h. h) (λ h. h) still
 
   claim-busy : (job : ℕ) (o : Option ℕ) (k : ℕ) (r : PoolRecord) → waits (claimed_by options job o r) k ≡ true → waits r k ≡ true
-  claim-busy job None k r after = after
-  claim-busy job (Some q) k r after = (claimed-busy job q r k after).0
+  claim-busy job None k r still = still
+  claim-busy job (Some q) k r still = (claimed-busy job q r k still).0
 
   pub event-busy :
       (low high k : ℕ) (r : PoolRecord) (e : Event)
       → IsAllowed is_predicate options r e → is_abandon e ≡ false → Rising low high r.given → k < length r.registered
       → waits (after options r e) k ≡ true → waits r k ≡ true
-  event-busy low high k r (Claim job) allowed stays rise there after = claim-busy job (next_given r) k r after
-  event-busy low high k r (Return batch) allowed stays rise there after =
-      return-busy batch low high k allowed.given r rise allowed.out there (allowed.says).2 after
-  event-busy low high k r (Stale job justifier) allowed stays rise there after = stale-busy job k r after
-  event-busy low high k r (Void job) allowed stays rise there after = void-busy job low high k allowed.given r rise allowed.out allowed.says after
-  event-busy low high k r (ClaimSolve job) allowed stays rise there after = after
-  event-busy low high k r (ReturnModel job truths) allowed stays rise there after = modelled-busy r.solver truths k r after
-  event-busy low high k r (ReturnRefuted job chains) allowed stays rise there after = refuted-busy r.solver chains k r after
-  event-busy low high k r (Abandon job) allowed stays rise there after = absurd (true≢false stays)
+  event-busy low high k r (Claim job) allowed stays rise there still = claim-busy job (next_given r) k r still
+  event-busy low high k r (Return batch) allowed stays rise there still =
+      return-busy batch low high k allowed.given r rise allowed.out there (allowed.says).2 still
+  event-busy low high k r (Stale job justifier) allowed stays rise there still = stale-busy job k r still
+  event-busy low high k r (Void job) allowed stays rise there still = void-busy job low high k allowed.given r rise allowed.out allowed.says still
+  event-busy low high k r (ClaimSolve job) allowed stays rise there still = still
+  event-busy low high k r (ReturnModel job truths) allowed stays rise there still = modelled-busy r.solver truths k r still
+  event-busy low high k r (ReturnRefuted job chains) allowed stays rise there still = refuted-busy r.solver chains k r still
+  event-busy low high k r (Abandon job) allowed stays rise there still = absurd (true≢false stays)

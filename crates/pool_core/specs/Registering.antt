@@ -24,6 +24,10 @@ over ls names = record { literals = ls; names = names }
 abbrev pub registered_by : ℕ → TreeClause → PoolRecord → PoolRecord
 registered_by line c r = record r { registered = r.registered ++ record { clause = c; line = line } ∷ [] }
 
+-- unless an equal clause with equal assertions lives
+abbrev pub registered_unless_living : ℕ → TreeClause → PoolRecord → PoolRecord
+registered_unless_living line c r = if has_living r c then r else registered_by line c r
+
 -- by the last line
 abbrev pub registered_last : TreeClause → PoolRecord → PoolRecord
 registered_last c r = registered_by (last_number r) c r
@@ -54,8 +58,7 @@ with_tag r part = if has_part part r.parts then r else with_new_part part (with_
 -- a part is registered under its tag, unless that has a living clause
 abbrev pub with_part_clause : PoolRecord → List TreeLiteral → PoolRecord
 with_part_clause r part =
-    let c = over part (negative_of (tag_of r.parts part) ∷ []) in
-    if has_living r c then r else registered_by (definition_of r.lines (signed_name r.parts part)) c r
+    registered_unless_living (definition_of r.lines (signed_name r.parts part)) (over part (negative_of (tag_of r.parts part) ∷ [])) r
 
 -- the propositional clause of a split comes by its line
 abbrev pub with_split : Step → List NameLit → PoolRecord → PoolRecord
