@@ -46,7 +46,7 @@ spends-right :
     (options : Options) (r : PoolRecord) (o : Option (List Line))
     → r.ended ≡ None → options.inferences ≤ length r.counted
     → IsSpentRight options.inferences (spends options.split o r).ended (spends options.split o r).counted
-spends-right options r None is_open reached count spent =
+spends-right options r None is_open reached = λ count spent.
     let is : length r.counted ≡ count = same_Some (length r.counted) count (ap count_told spent) in
     (sym is, subst (λ n. options.inferences ≤ n) is reached)
 spends-right options r (Some lines) is_open reached =

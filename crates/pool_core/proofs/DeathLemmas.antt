@@ -25,7 +25,7 @@ use Rattle.pool_core.proofs.FrameLemmas.{Registers, by-if, result-registers, res
 
 -- ---- lists
 
-all-weaker :
+pub all-weaker :
     {X : Type 0} (p q : X → Bool) → ((x : X) → p x ≡ true → q x ≡ true) → (xs : List X) → list_all p xs ≡ true → list_all q xs ≡ true
 all-weaker p q weaker [] all = refl
 all-weaker p q weaker (x ∷ xs) all =
@@ -70,7 +70,7 @@ justified-end earlier (e ∷ es) d before last =
     and_from (is_justified earlier e) (are_justified (earlier ++ e ∷ []) (es ++ d ∷ [])) parts.0
     (justified-end (earlier ++ e ∷ []) es d parts.1 (ap (λ ds. is_justified ds d) (append_assoc earlier (e ∷ []) es) ∙ last))
 
-known-more :
+pub known-more :
     (clauses more events later : ℕ) → clauses ≤ more → events ≤ later → (d : Death)
     → is_known clauses events d ≡ true → is_known more later d ≡ true
 known-more clauses more events later wider longer d known =

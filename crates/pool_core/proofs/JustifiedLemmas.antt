@@ -12,7 +12,7 @@ use Rattle.pool_core.specs.Returning.{dies, removed, takes_effect, proposed, bec
 use Rattle.pool_core.specs.Solving.{modelled_by, refuted_by}
 use Rattle.pool_core.specs.Claiming.{next_given, given_out, claimed_by}
 use Rattle.pool_core.specs.Replay.{change_by, after, start, replay}
-use Rattle.pool_core.specs.Reduction.{Lookup, units_of, subsumers}
+use Rattle.pool_core.specs.Reduction.{Lookup, end_of, units_of, subsumers}
 use Rattle.pool_core.specs.Batches.{is_told, IsRightRemovalBy, IsRightRemoval, IsRightWork}
 use Rattle.pool_core.specs.Lawful.{justifiers_live, IsTaken, IsAllowed, IsLawfulFrom}
 use Rattle.pool_core.specs.Laws.{is_known, DeathsAreJustified}
@@ -41,7 +41,7 @@ module _ (is_predicate : ℕ → Bool) (options : Options) where
       same-others victim justifiers (units_of right.moves ++ subsumers redundancy) right.justified
       (append-others victim (units_of right.moves) (subsumers redundancy)
       (units-others is_predicate clauses (is_told j) victim right.clause right.moves right.moved)
-      (subsumers-others is_predicate clauses (is_told j) victim _ redundancy right.redundant))
+      (subsumers-others is_predicate clauses (is_told j) victim (end_of right.clause right.moves) redundancy right.redundant))
   removal-others clauses j victim justifiers Heavy right = absurd right
 
   removed-events : (m : Removal) (r : PoolRecord) → (removed options m r).events ≡ r.events
@@ -93,7 +93,7 @@ module _ (is_predicate : ℕ → Bool) (options : Options) where
       let counted : Keeps s (counts options (keys_of entries) (lines_of_entries entries) s) =
       counts-keeps options (keys_of entries) (lines_of_entries entries) s in
       all-proposed-right events clauses j removals (counts options (keys_of entries) (lines_of_entries entries) s)
-      (omega (arith, before, counted.events)) (recursion_from_All removals work.right_removals)
+      (omega (arith, before, counted.events)) (recursion_from_All (IsRightRemoval is_predicate options clauses j) removals work.right_removals)
       (keeps-right events s (counts options (keys_of entries) (lines_of_entries entries) s) counted
       (record { justified = right.justified; known = right.known }))
 

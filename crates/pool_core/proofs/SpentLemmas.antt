@@ -39,8 +39,8 @@ module _ (options : Options) where
   if-open change r opens other keeps = by (is_none r.ended) (λ h. opens (is-open r.ended h))
     where
       by : (b : Bool) → (b ≡ true → Right (change r)) → Right (if b then change r else other)
-      by true yes = yes refl
-      by false yes = keeps
+      by true opened = opened refl
+      by false opened = keeps
 
   -- ---- returns
 
