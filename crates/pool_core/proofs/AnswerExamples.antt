@@ -2,7 +2,7 @@
 use Rattle.std.proofs.Common.{[], ◌∷◌, ◌++◌, take, refl, arith}
 use Rattle.std.proofs.lemmas.Option.{none-some}
 use Rattle.pool_core.specs.Answers.{IsAnswerToClaim, IsAnswerToReturn}
-use Rattle.pool_core.specs.Examples.{three, units, units_history, justified, removing}
+use Rattle.pool_core.specs.Examples.{pool_of, three, units, units_history, justified, removing}
 use Rattle.pool_core.specs.declared.batch.Work.TheVariants as work
 use Rattle.pool_core.specs.declared.event.Event.TheVariants as event
 use Rattle.pool_core.specs.declared.outcome.Outcome.TheVariants.{Refuted, Saturated}
@@ -21,6 +21,12 @@ pub not_saturated : IsAnswerToClaim units (take 2 units_history) 0 (answer.Ended
 not_saturated h = none-some Saturated h.0
 
 pub void :
-    IsAnswerToReturn justified removing 0 (record { job = 1; number = 0; told = 0 ∷ []; as_of = 1; left = 100 })
+    IsAnswerToReturn justified removing 0
     (record { job = 1; work = work.Met [] [] }) (back.Void 3) (removing ++ event.Void 1 ∷ [])
-void = (refl, refl)
+void = (record { given = _; out = refl; says = refl }, refl)
+
+pub nothing_out : IsAnswerToClaim (pool_of []) [] 0 (answer.Idle 0) [] → ⊥
+nothing_out h = absurd (omega (arith, h.4))
+
+pub saturated : IsAnswerToClaim (pool_of []) [] 0 (answer.Ended Saturated) []
+saturated = (refl, refl)

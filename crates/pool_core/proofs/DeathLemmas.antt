@@ -1,6 +1,6 @@
 -- Deaths are justified: it holds at the start, and each event of a lawful history keeps it.
 use Rattle.std.proofs.Common.{◌≡◌, ℕ, ◌<◌, ◌≤◌, Bool, true, false, not, ◌&&◌, ◌==◌, List, [], ◌∷◌, ◌++◌, length, append-nil, append_assoc, refl, ap, sym, ◌∙◌, ⊎_elim, arith}
-use Rattle.std.specs.Prelude.{Option, None, Some, nat_le, nat_lt, fold, find, if◌then◌else◌}
+use Rattle.std.specs.Prelude.{Option, None, Some, nat_le, nat_lt, cond, fold, find, filter, flat_map, if◌then◌else◌}
 use Rattle.std.specs.List.{list_any, list_all, cons_option}
 use Rattle.std.proofs.lemmas.Bool.{and_parts, and_from, or_cases, eqb-true, true≢false, ltb-true, lt-ltb}
 use Rattle.std.proofs.lemmas.List.{length-append}
@@ -10,11 +10,12 @@ use Rattle.fol_base.specs.Subsumption.{is_among}
 use Rattle.kernel_steps.specs.declared.key.Key.{Key}
 use Rattle.kernel_steps.specs.declared.key.Key.TheVariants.{Replaced}
 use Rattle.kernel_steps.specs.declared.step.Line.{Line}
+use Rattle.kernel_steps.specs.declared.step.TheConstants.{CLAUSE_NUMBERS}
 use Rattle.calculus.specs.Lifting.{among}
 use Rattle.pool_core.specs.Record.{PoolRecord, Death, has_died, lives}
 use Rattle.pool_core.specs.Counting.{refutes, spends, counts, result_comes}
 use Rattle.pool_core.specs.Returning.{dies, replaced}
-use Rattle.pool_core.specs.Reduction.{Lookup, Move, AreMoves, IsMove, units_of, IsRedundant, subsumers, same_numbers}
+use Rattle.pool_core.specs.Reduction.{Lookup, Move, AreMoves, IsMove, units_of, clauses_used, parent_numbers, IsRedundant, subsumers, same_numbers}
 use Rattle.pool_core.specs.Laws.{is_justified, are_justified, is_known}
 use Rattle.pool_core.specs.declared.options.Options.{Options}
 use Rattle.pool_core.specs.declared.batch.Fate.{Fate}
@@ -31,6 +32,15 @@ all-weaker p q weaker [] all = refl
 all-weaker p q weaker (x ∷ xs) all =
     let parts = and_parts (p x) (list_all p xs) all in
     and_from (q x) (list_all q xs) (weaker x parts.0) (all-weaker p q weaker xs parts.1)
+
+-- what a filter keeps passes what its test implies
+kept-pass : (p q : ℕ → Bool) → ((n : ℕ) → p n ≡ true → q n ≡ true) → (ns : List ℕ) → list_all q (filter p ns) ≡ true
+kept-pass p q weaker [] = refl
+kept-pass p q weaker (n ∷ ns) = by (p n) refl (kept-pass p q weaker ns)
+  where
+    by : (b : Bool) → p n ≡ b → list_all q (filter p ns) ≡ true → list_all q (cond b (n ∷ filter p ns) (filter p ns)) ≡ true
+    by true is rest = and_from (q n) (list_all q (filter p ns)) (weaker n is) rest
+    by false is rest = rest
 
 all-end : {X : Type 0} (p : X → Bool) (xs : List X) (x : X) → list_all p xs ≡ true → p x ≡ true → list_all p (xs ++ x ∷ []) ≡ true
 all-end p [] x all last = and_from (p x) true last refl
@@ -194,18 +204,26 @@ module _ (is_predicate : ℕ → Bool) (clauses : Lookup) (told : ℕ → Bool) 
 
   pub units-others : (c : TreeClause) (ms : List Move) → AreMoves is_predicate beside c ms → are_others victim (units_of ms) ≡ true
   units-others c [] moved = refl
-  units-others c (m ∷ ms) moved = by m.by moved.0 (units-others m.gives ms moved.1)
+  units-others c (m ∷ ms) moved = by m.by moved.0.result moved.0.step (units-others m.gives ms moved.1)
     where
       by :
-          (o : Option ℕ) → IsMove is_predicate beside c o m.gives → are_others victim (units_of ms) ≡ true
+          (o : Option ℕ) (d : TreeClause) → IsMove is_predicate beside c o d → are_others victim (units_of ms) ≡ true
           → are_others victim (cons_option o (units_of ms)) ≡ true
-      by None move rest = rest
-      by (Some n) move rest = and_from (not (n == victim)) (are_others victim (units_of ms)) (beside-other n move.clause move.there) rest
+      by None d move rest = rest
+      by (Some n) d move rest = and_from (not (n == victim)) (are_others victim (units_of ms)) (beside-other n move.clause move.there) rest
 
   pub subsumers-others :
       (c : TreeClause) (redundancy : Redundancy) → IsRedundant is_predicate beside c redundancy → are_others victim (subsumers redundancy) ≡ true
   subsumers-others c Tautology redundant = refl
   subsumers-others c (Subsumed n) redundant = and_from (not (n == victim)) true (beside-other n redundant.clause redundant.there) refl
+
+-- what is used beside the victim
+pub used-others : (victim : ℕ) (lines : List Line) → are_others victim (clauses_used victim lines) ≡ true
+used-others victim lines = among-kept (flat_map (λ (l : Line). parent_numbers l.step) lines)
+  where
+    among-kept : (ns : List ℕ) → are_others victim (filter (λ n. nat_lt n CLAUSE_NUMBERS && not (n == victim)) ns) ≡ true
+    among-kept ns = kept-pass (λ n. nat_lt n CLAUSE_NUMBERS && not (n == victim)) (λ n. not (n == victim))
+        (λ n h. (and_parts (nat_lt n CLAUSE_NUMBERS) (not (n == victim)) h).1) ns
 
 pub append-others : (victim : ℕ) (ns ms : List ℕ) → are_others victim ns ≡ true → are_others victim ms ≡ true → are_others victim (ns ++ ms) ≡ true
 append-others victim [] ms one other = other

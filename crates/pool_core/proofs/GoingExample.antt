@@ -7,7 +7,6 @@ use Rattle.std.proofs.lemmas.List.Elements.{All-nil, All-cons}
 use Rattle.fol_base.specs.Tree.{Tree, tree_eq}
 use Rattle.fol_base.specs.Instance.{Substitution, instance}
 use Rattle.fol_base.specs.Place.{subterm}
-use Rattle.fol_base.specs.Canonical.{IsCanonical}
 use Rattle.fol_base.specs.Clause.{TreeLiteral, TreeClause, literal_instance}
 use Rattle.fol_base.specs.Sides.{side_of, other_side_of}
 use Rattle.fol_base.specs.Order.{tree_greater, equivalent_literals}
@@ -26,8 +25,8 @@ use Rattle.kernel_steps.specs.declared.step.Line.{Line}
 use Rattle.calculus.specs.Lifting.{among, IsMember}
 use Rattle.pool_core.specs.Record.{GivenJob, clauses_of}
 use Rattle.pool_core.specs.Lines.{line_of}
-use Rattle.pool_core.specs.Reduction.{Lookup, parents_of, AreLinesFrom}
-use Rattle.pool_core.specs.Batches.{is_told_beside, clauses_cited, IsReducedBeside, IsRightGone}
+use Rattle.pool_core.specs.Reduction.{Lookup, parents_of, IsNumbered, AreLinesFrom}
+use Rattle.pool_core.specs.Batches.{is_told_beside, told_clauses, IsReducedBeside, IsRightGone}
 use Rattle.pool_core.specs.Lawful.{IsLawful}
 use Rattle.pool_core.specs.Replay.{start}
 use Rattle.pool_core.specs.Examples.{rewrites, rewrites_history, rewritten, para_at_roots}
@@ -85,11 +84,12 @@ symbols-pass test of_unit of_victim =
     let c_pass = (and_parts (symbols_pass test (f a)) (symbols_pass test c) (and_parts (symbols_pass test (f a) && symbols_pass test c) true of_victim).0).1 in
     and_from (symbols_pass test b && symbols_pass test c) true (and_from (symbols_pass test b) (symbols_pass test c) b_pass c_pass) refl
 
-are_lines : AreLinesFrom (clauses_cited is_predicate rewrites.options registered job 1 (0 ∷ [])) (the_line ∷ [])
+are_lines : AreLinesFrom is_predicate (told_clauses is_predicate rewrites.options registered job) (the_line ∷ [])
 are_lines = record {
   kinds = refl;
   steps = steps;
-  canonical = All-cons (λ (l : Line). IsCanonical (clause_of l.clause)) the_line [] refl (All-nil _);
+  numbered = All-cons IsNumbered the_line [] (record { canonical = refl; bindings = refl }) (All-nil _);
+  terms = refl;
   small = refl;
   symbols = λ test truth each. (
     and_from (clause_symbols_pass test (clause (result ∷ []))) true
@@ -100,10 +100,10 @@ are_lines = record {
   where
     steps :
         (n : ℕ) (l : Line) → slice_get (the_line ∷ []) n ≡ Some l
-        → verdict l.step (continued CLAUSE_NUMBERS (parents_of (clauses_cited is_predicate rewrites.options registered job 1 (0 ∷ []))) (take n (the_line ∷ [])))
+        → verdict l.step (continued CLAUSE_NUMBERS (parents_of (told_clauses is_predicate rewrites.options registered job)) (take n (the_line ∷ [])))
         ≡ concludes (clause_of l.clause)
     steps zero l there =
-        subst (λ (k : Line). verdict k.step (continued CLAUSE_NUMBERS (parents_of (clauses_cited is_predicate rewrites.options registered job 1 (0 ∷ []))) []) ≡ concludes (clause_of k.clause))
+        subst (λ (k : Line). verdict k.step (continued CLAUSE_NUMBERS (parents_of (told_clauses is_predicate rewrites.options registered job)) []) ≡ concludes (clause_of k.clause))
         (same_Some the_line l there) refl
     steps (suc n) l there = absurd (none-some l there)
 
@@ -213,7 +213,14 @@ going = record {
         result = clause (result ∷ []);
         reduced =
             record {
-              moved = (record { clause = clause (unit ∷ []); there = refl; does = inl rewriting }, tt);
+              moved = (
+                  record {
+                    result = clause (result ∷ []);
+                    step = record { clause = clause (unit ∷ []); there = refl; does = inl rewriting };
+                    canonical = refl;
+                  },
+                  tt,
+                );
               ends = refl;
               led = refl;
             };

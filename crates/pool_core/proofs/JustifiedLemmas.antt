@@ -12,7 +12,7 @@ use Rattle.pool_core.specs.Returning.{dies, removed, takes_effect, proposed, bec
 use Rattle.pool_core.specs.Solving.{modelled_by, refuted_by}
 use Rattle.pool_core.specs.Claiming.{next_given, given_out, claimed_by}
 use Rattle.pool_core.specs.Replay.{change_by, after, start, replay}
-use Rattle.pool_core.specs.Reduction.{Lookup, end_of, units_of, subsumers}
+use Rattle.pool_core.specs.Reduction.{Lookup, end_of, units_of, clauses_used, subsumers}
 use Rattle.pool_core.specs.Batches.{is_told, IsRightRemovalBy, IsRightRemoval, IsRightWork}
 use Rattle.pool_core.specs.Lawful.{justifiers_live, IsTaken, IsAllowed, IsLawfulFrom}
 use Rattle.pool_core.specs.Laws.{is_known, DeathsAreJustified}
@@ -26,7 +26,7 @@ use Rattle.pool_core.specs.declared.batch.Work.TheVariants.{Gone, Met}
 use Rattle.pool_core.specs.declared.event.Event.{Event}
 use Rattle.pool_core.specs.declared.event.Event.TheVariants.{Claim, Return, Stale, Void, ClaimSolve, ReturnModel, ReturnRefuted, Abandon}
 use Rattle.pool_core.proofs.FrameLemmas.{by-if, inputs-register}
-use Rattle.pool_core.proofs.DeathLemmas.{AreRight, Keeps, keeps-all, keeps-right, registers-keeps, counts-keeps, replaced-keeps, are_others, dies-right, known-more, all-weaker, units-others, subsumers-others, append-others, same-others}
+use Rattle.pool_core.proofs.DeathLemmas.{AreRight, Keeps, keeps-all, keeps-right, registers-keeps, counts-keeps, replaced-keeps, are_others, dies-right, known-more, all-weaker, units-others, subsumers-others, used-others, append-others, same-others}
 
 module _ (is_predicate : ℕ → Bool) (options : Options) where
   -- ---- removals
@@ -35,8 +35,10 @@ module _ (is_predicate : ℕ → Bool) (options : Options) where
       (clauses : Lookup) (j : GivenJob) (victim : ℕ) (justifiers : List ℕ) (fate : Fate)
       → IsRightRemovalBy is_predicate options clauses j victim justifiers fate → are_others victim justifiers ≡ true
   removal-others clauses j victim justifiers (Kept lines results) right =
-      same-others victim justifiers (units_of (right.move ∷ right.moves)) right.justified
+      same-others victim justifiers (units_of (right.move ∷ right.moves) ++ clauses_used victim lines) right.justified
+      (append-others victim (units_of (right.move ∷ right.moves)) (clauses_used victim lines)
       (units-others is_predicate clauses (is_told j) victim right.clause (right.move ∷ right.moves) right.reduced.moved)
+      (used-others victim lines))
   removal-others clauses j victim justifiers (Dropped redundancy) right =
       same-others victim justifiers (units_of right.moves ++ subsumers redundancy) right.justified
       (append-others victim (units_of right.moves) (subsumers redundancy)

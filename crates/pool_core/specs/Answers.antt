@@ -1,15 +1,18 @@
 -- The answers of a pool to claims and returns, and what each adds to the history.
 use Rattle.std.specs.Prelude.{◌≡◌, ℕ, suc, ◌<◌, ◌==◌, List, [], ◌∷◌, ◌++◌, map, find, length, Option, None, Some, option_map, IsTrue, IsFalse}
 use Rattle.bank_clause.specs.Clause.{clause_at}
+use Rattle.sat_core.specs.declared.answer.Answer.{Answer}
+use Rattle.sat_core.specs.declared.answer.Answer.TheVariants.{Model, Refuted}
 use Rattle.pool_core.specs.Tags.{name_count}
 use Rattle.pool_core.specs.Record.{PoolRecord, GivenJob, Death, clauses_of, given_job, lives, is_dead, position_of, propositional_clauses, jobs_out}
 use Rattle.pool_core.specs.Solving.{must_solve}
 use Rattle.pool_core.specs.Claiming.{can_give, next_given}
 use Rattle.pool_core.specs.Outcomes.{outcome_of}
 use Rattle.pool_core.specs.Replay.{Origin, replay}
+use Rattle.pool_core.specs.Lawful.{IsGivenOut}
 use Rattle.pool_core.specs.News.{change_of, news_since}
 use Rattle.pool_core.specs.declared.event.Event.{Event}
-use Rattle.pool_core.specs.declared.event.Event.TheVariants.{Claim, ClaimSolve, Return, Stale as StaleReturn, Void as VoidReturn}
+use Rattle.pool_core.specs.declared.event.Event.TheVariants.{Claim, ClaimSolve, Return, ReturnModel, ReturnRefuted, Stale as StaleReturn, Void as VoidReturn}
 use Rattle.pool_core.specs.declared.batch.Batch.{Batch}
 use Rattle.pool_core.specs.declared.batch.Work.{Work}
 use Rattle.pool_core.specs.declared.batch.Work.TheVariants.{Gone, Met}
@@ -69,15 +72,21 @@ abbrev pub dead_justifier : PoolRecord → Work → Option ℕ
 dead_justifier r (Gone m) = find (is_dead r) m.justifiers
 dead_justifier r (Met entries removals) = None
 
--- An answer to a return of a batch for a job that is out, after which the history is the new one. The given clause has died; or it lives, but a
+-- An answer to a return of a batch for a job that is out, after which the history is the new one: the given clause has died; or it lives, but a
 -- justifier by which it goes has died; or the batch is taken.
-abbrev pub IsAnswerToReturn : Origin → List Event → ℕ → GivenJob → Batch → Back → List Event → Type 0
-IsAnswerToReturn origin history told j batch (Void event) new =
-    (death_of (replay origin history) j.number ≡ Some event) × (new ≡ history ++ VoidReturn batch.job ∷ [])
-IsAnswerToReturn origin history told j batch (Stale justifier event ticket) new =
+abbrev pub IsAnswerToReturn : Origin → List Event → ℕ → Batch → Back → List Event → Type 0
+IsAnswerToReturn origin history told batch (Void event) new =
     let r = replay origin history in
-    IsTrue (lives r j.number) × (dead_justifier r batch.work ≡ Some justifier) × (death_of r justifier ≡ Some event)
+    IsGivenOut r batch.job (λ j. death_of r j.number ≡ Some event) × (new ≡ history ++ VoidReturn batch.job ∷ [])
+IsAnswerToReturn origin history told batch (Stale justifier event ticket) new =
+    let r = replay origin history in
+    IsGivenOut r batch.job (λ j. IsTrue (lives r j.number)) × (dead_justifier r batch.work ≡ Some justifier) × (death_of r justifier ≡ Some event)
     × (new ≡ history ++ StaleReturn batch.job justifier ∷ []) × (ticket.job ≡ batch.job) × IsTicket origin new told ticket
-IsAnswerToReturn origin history told j batch Taken new =
+IsAnswerToReturn origin history told batch Taken new =
     let r = replay origin history in
-    IsTrue (lives r j.number) × (dead_justifier r batch.work ≡ None) × (new ≡ history ++ Return batch ∷ [])
+    IsGivenOut r batch.job (λ j. IsTrue (lives r j.number)) × (dead_justifier r batch.work ≡ None) × (new ≡ history ++ Return batch ∷ [])
+
+-- the event by which an answer of the solver comes back
+abbrev pub event_of : ℕ → Answer → Event
+event_of job (Model truths) = ReturnModel job truths
+event_of job (Refuted log) = ReturnRefuted job log

@@ -1,8 +1,7 @@
 -- When a batch is right for the job of a given clause.
-use Rattle.std.specs.Prelude.{◌≡◌, ◌≢◌, ◌⊎◌, ℕ, ◌≤◌, Bool, not, ◌&&◌, ◌||◌, ◌==◌, nat_lt, List, [], ◌∷◌, ◌++◌, map, length, take_while, All, AllPairs, Contains, Some, IsTrue}
+use Rattle.std.specs.Prelude.{◌≡◌, ◌≢◌, ◌⊎◌, ℕ, ◌≤◌, Bool, true, false, not, ◌&&◌, ◌||◌, ◌==◌, nat_lt, List, [], ◌∷◌, ◌++◌, map, length, take_while, All, AllPairs, Contains, Some, IsTrue}
 use Rattle.std.specs.List.{list_any, list_all}
 use Rattle.fol_base.specs.Clause.{TreeClause, clause_size, clause_instance}
-use Rattle.fol_base.specs.Canonical.{canonical_clause}
 use Rattle.fol_base.specs.Literal.{clause_of}
 use Rattle.fol_base.specs.Selection.{SelectionMode}
 use Rattle.fol_base.specs.Subsumption.{Subsumes}
@@ -19,7 +18,7 @@ use Rattle.pool_core.specs.Record.{GivenJob}
 use Rattle.pool_core.specs.Lines.{result_of}
 use Rattle.pool_core.specs.Counting.{keys_of}
 use Rattle.pool_core.specs.Outcomes.{premises}
-use Rattle.pool_core.specs.Reduction.{Lookup, Numbered, Move, AreMoves, end_of, units_of, AreLinesFrom, handed_back, IsRedundant, subsumers, same_numbers}
+use Rattle.pool_core.specs.Reduction.{Lookup, Numbered, Move, AreMoves, end_of, units_of, AreLinesFrom, clauses_used, key_of, handed_back, IsRedundant, subsumers, same_numbers}
 use Rattle.pool_core.specs.declared.options.Options.{Options}
 use Rattle.pool_core.specs.declared.batch.Entry.{Entry}
 use Rattle.pool_core.specs.declared.batch.Fate.{Fate}
@@ -55,18 +54,23 @@ bound_clauses is_predicate mode clauses (Factor clause becomes becomes_side othe
     clause_instance i.infers.unifier i.clause ∷ c ∷ []
 bound_clauses is_predicate mode clauses (Replaced clause) c i = absurd i
 
--- the inference of that name has a conclusion, or a premise under the unifier, of over 4,000 symbols
-abbrev pub IsHeavy : (ℕ → Bool) → SelectionMode → Lookup → Key → Type 0
-IsHeavy is_predicate mode clauses key =
-    (c : TreeClause) × (i : IsInference is_predicate mode clauses key c)
-    × IsTrue (list_any (λ d. nat_lt MOST_SYMBOLS (clause_size d)) (bound_clauses is_predicate mode clauses key c i))
+-- one of them has over 4,000 symbols
+abbrev pub is_heavy :
+    (is_predicate : ℕ → Bool) (mode : SelectionMode) (clauses : Lookup) (key : Key) (c : TreeClause)
+    → IsInference is_predicate mode clauses key c → Bool
+is_heavy is_predicate mode clauses key c i = list_any (λ d. nat_lt MOST_SYMBOLS (clause_size d)) (bound_clauses is_predicate mode clauses key c i)
+
+-- The inference of that name has the conclusion, and is heavy or not.
+abbrev pub IsSized : (ℕ → Bool) → SelectionMode → Lookup → Key → TreeClause → Bool → Type 0
+IsSized is_predicate mode clauses key c heavy =
+    (i : IsInference is_predicate mode clauses key c) × (is_heavy is_predicate mode clauses key c i ≡ heavy)
 
 -- ---- a clause that is reduced
 
--- Reducing steps lead from c to a clause whose canonical form is the result, to which the lines lead.
+-- Moves lead from c to the result, to which the lines lead.
 pub record IsReducedTo (is_predicate : ℕ → Bool) (clauses : Lookup) (c : TreeClause) (moves : List Move) (lines : List Line) (result : TreeClause) : Type 0 where
   pub moved : AreMoves is_predicate clauses c moves
-  pub ends : canonical_clause (end_of c moves) ≡ result
+  pub ends : end_of c moves ≡ result
   pub led : result_of lines ≡ Some result
 
 -- ---- entries
@@ -87,54 +91,49 @@ module _ (is_predicate : ℕ → Bool) (options : Options) (clauses : Lookup) (j
   abbrev pub IsReducedBeside : ℕ → TreeClause → Type 0
   IsReducedBeside n c = IsIrreducible is_predicate (IsMember (is_told_beside j n) clauses) c
 
-  -- The first line is the inference; steps by told clauses lead from its conclusion to the result, which is irreducible.
+  -- The first line is the inference; moves by told clauses lead from its conclusion to the result, which is irreducible.
   pub record IsRightlyKept (key : Key) (lines : List Line) (results : List TreeClause) : Type 0 where
     pub first : Line
     pub others : List Line
     pub begins : lines ≡ first ∷ others
-    pub inferred : IsInference is_predicate (mode_of options.select) told_clauses key (clause_of first.clause)
-    pub are_lines : AreLinesFrom told_clauses lines
+    pub of_key : key_of first.step ≡ Some key
+    pub inferred : IsSized is_predicate (mode_of options.select) told_clauses key (clause_of first.clause) false
+    pub are_lines : AreLinesFrom is_predicate told_clauses lines
     pub moves : List Move
     pub result : TreeClause
     pub reduced : IsReducedTo is_predicate told_clauses (clause_of first.clause) moves lines result
     pub irreducible : IsReduced result
     pub given : results ≡ handed_back options.split result
 
-  -- steps by told clauses lead from the conclusion to a clause that is a tautology, or that the told clause of a number subsumes
+  -- moves by told clauses lead from the conclusion to a clause that is a tautology, or that the told clause of a number subsumes
   pub record IsRightlyDropped (key : Key) (redundancy : Redundancy) : Type 0 where
     pub conclusion : TreeClause
-    pub inferred : IsInference is_predicate (mode_of options.select) told_clauses key conclusion
+    pub inferred : IsSized is_predicate (mode_of options.select) told_clauses key conclusion false
     pub moves : List Move
     pub moved : AreMoves is_predicate told_clauses conclusion moves
     pub redundant : IsRedundant is_predicate told_clauses (end_of conclusion moves) redundancy
 
   -- it is set aside exactly where it is heavy
   abbrev pub IsRightFate : Key → Fate → Type 0
-  IsRightFate key (Kept lines results) =
-      (IsHeavy is_predicate (mode_of options.select) told_clauses key → ⊥) × IsRightlyKept key lines (map clause_of results)
-  IsRightFate key (Dropped redundancy) =
-      (IsHeavy is_predicate (mode_of options.select) told_clauses key → ⊥) × IsRightlyDropped key redundancy
-  IsRightFate key Heavy = IsHeavy is_predicate (mode_of options.select) told_clauses key
+  IsRightFate key (Kept lines results) = IsRightlyKept key lines (map clause_of results)
+  IsRightFate key (Dropped redundancy) = IsRightlyDropped key redundancy
+  IsRightFate key Heavy = (c : TreeClause) × IsSized is_predicate (mode_of options.select) told_clauses key c true
 
   -- ---- removals
 
-  -- those that the lines of a removal may cite: the victim and its justifiers
-  abbrev pub clauses_cited : ℕ → List ℕ → Lookup
-  clauses_cited victim justifiers = among (λ n. is_told j n && ((n == victim) || has_number n justifiers)) clauses
-
-  -- At least one step by other told clauses leads from the victim to the result; those used are the justifiers.
+  -- At least one move by other told clauses leads from the victim to the result. Those used, by moves or lines, are the justifiers.
   pub record IsRightlyReplaced (victim : ℕ) (justifiers : List ℕ) (lines : List Line) (results : List TreeClause) : Type 0 where
     pub clause : TreeClause
     pub there : told_clauses victim ≡ Some clause
-    pub are_lines : AreLinesFrom (clauses_cited victim justifiers) lines
+    pub are_lines : AreLinesFrom is_predicate told_clauses lines
     pub move : Move
     pub moves : List Move
     pub result : TreeClause
     pub reduced : IsReducedTo is_predicate (clauses_beside victim) clause (move ∷ moves) lines result
-    pub justified : IsTrue (same_numbers justifiers (units_of (move ∷ moves)))
+    pub justified : IsTrue (same_numbers justifiers (units_of (move ∷ moves) ++ clauses_used victim lines))
     pub given : results ≡ handed_back options.split result
 
-  -- Steps by other told clauses lead from the victim to a clause that is a tautology, or that another told clause subsumes; those used are
+  -- Moves by other told clauses lead from the victim to a clause that is a tautology, or that another told clause subsumes. Those used are
   -- the justifiers.
   pub record IsRightlyRemoved (victim : ℕ) (justifiers : List ℕ) (redundancy : Redundancy) : Type 0 where
     pub clause : TreeClause

@@ -1,11 +1,11 @@
 -- The worked examples: what pools begin with, and their histories. The symbols are those of the base's examples.
-use Rattle.std.specs.Prelude.{ℕ, ◌+◌, Bool, true, false, List, [], ◌∷◌, ◌++◌}
+use Rattle.std.specs.Prelude.{ℕ, zero, suc, ◌+◌, Bool, true, false, List, [], ◌∷◌, ◌++◌, take}
 use Rattle.plain_types.specs.declared.sequence.NameLit.{NameLit}
 use Rattle.fol_base.specs.Tree.{Tree}
 use Rattle.fol_base.specs.Clause.{TreeLiteral, TreeClause}
-use Rattle.fol_base.specs.Examples.{x, a, b, c, f, p, q, r, equation, clause}
+use Rattle.fol_base.specs.Examples.{x, a, b, c, f, p, q, q₂, r, equation, clause}
 use Rattle.fol_base.specs.declared.clause.Side.TheVariants.{Left}
-use Rattle.kernel_steps.specs.Derivation.{negative_of}
+use Rattle.kernel_steps.specs.Derivation.{complement, negative_of}
 use Rattle.kernel_steps.specs.Examples.{not_p, not_q, not_true, with, opposites, components, four_clauses}
 use Rattle.kernel_steps.specs.declared.step.TheConstants.{CLAUSE_NUMBERS}
 use Rattle.kernel_steps.specs.declared.step.Step.{Step}
@@ -67,21 +67,33 @@ resolved first second first_bind second_bind rest names =
     ∷ line_of (Refl (batch_line 0) 0 []) (with rest names)
     ∷ []
 
--- ---- two units that resolve: p(a) and its negation
+-- ---- two units that resolve, of which neither cuts the other: q(X0, a), and not q(b, X0)
+
+abbrev pub unifying : List TreeClause
+unifying = clause (q₂ (x 0) a ∷ []) ∷ clause (complement (q₂ b (x 0)) ∷ []) ∷ []
 
 abbrev pub units : Origin
-units = pool_of opposites
+units = pool_of unifying
 
 abbrev pub units_resolved : Entry
-units_resolved = entry (at_roots 0 1) (kept (resolved 0 1 [] [] [] []) (clause []))
+units_resolved = entry (at_roots 0 1) (kept (resolved 0 1 (b ∷ []) (a ∷ []) [] []) (clause []))
 
 abbrev pub units_history : List Event
 units_history = Claim 1 ∷ return 1 (Met [] []) ∷ Claim 2 ∷ return 2 (Met (units_resolved ∷ []) []) ∷ []
+
+-- ---- a unit that cuts another: p(a) and its negation
+
+abbrev pub cut_away : List Event
+cut_away = Claim 1 ∷ return 1 (Met [] []) ∷ Claim 2 ∷ return 2 (Gone (removal 1 (0 ∷ []) (kept (resolved 0 1 [] [] [] []) (clause [])))) ∷ []
 
 -- ---- two rewrites: f(a) = b and f(a) = c, where the first rewrites the second to b = c
 
 abbrev pub rewrites : Origin
 rewrites = pool_of (clause (equation (f a) b ∷ []) ∷ clause (equation (f a) c ∷ []) ∷ [])
+
+-- where one counted inference is the limit
+abbrev pub limited : Origin
+limited = record { inputs = rewrites.inputs; options = record { select = Negative; split = true; inferences = 1 } }
 
 abbrev pub rewritten : Removal
 rewritten =
@@ -91,6 +103,13 @@ rewritten =
 -- both are out, the second goes, then the first returns
 abbrev pub rewrites_history : List Event
 rewrites_history = Claim 1 ∷ Claim 2 ∷ return 2 (Gone rewritten) ∷ return 1 (Met [] []) ∷ []
+
+-- where b = c is there before
+abbrev pub thrice : Origin
+thrice = pool_of (clause (equation (f a) b ∷ []) ∷ clause (equation (f a) c ∷ []) ∷ clause (equation b c ∷ []) ∷ [])
+
+abbrev pub thrice_history : List Event
+thrice_history = Claim 1 ∷ Claim 2 ∷ Claim 3 ∷ return 3 (Gone rewritten) ∷ []
 
 -- ---- a justifier that dies: q(a) and q(X0), and not q(a) or r
 
@@ -104,6 +123,11 @@ cut_by unit bind = removal 2 (unit ∷ []) (kept (resolved unit 2 bind [] (r ∷
 -- all three are out; q(X0) removes q(a), by which the third clause was cut
 abbrev pub removing : List Event
 removing = Claim 1 ∷ Claim 2 ∷ Claim 3 ∷ return 2 (Met [] (removal 0 (1 ∷ []) (Dropped (Subsumed 1)) ∷ [])) ∷ []
+
+-- the same return with a further removal, by the clause that has died then
+abbrev pub removing_by_dead : List Event
+removing_by_dead =
+    take 3 removing ++ return 2 (Met [] (removal 0 (1 ∷ []) (Dropped (Subsumed 1)) ∷ cut_by 0 [] ∷ [])) ∷ []
 
 -- which is refused, and cut by q(X0) then; and the first job is void
 abbrev pub stale_history : List Event
@@ -168,7 +192,7 @@ one_step = entry (at_roots 0 1) (kept (resolved 0 1 [] (a ∷ []) (p (f a) ∷ [
 abbrev pub growing_history : List Event
 growing_history = Claim 1 ∷ return 1 (Met [] []) ∷ Claim 2 ∷ return 2 (Met (one_step ∷ []) []) ∷ []
 
--- the same inference set aside
+-- the same inference set aside, as if it were heavy: the replay asks nothing of a batch
 abbrev pub heavy_history : List Event
 heavy_history = Claim 1 ∷ return 1 (Met [] []) ∷ Claim 2 ∷ return 2 (Met (entry (at_roots 0 1) Heavy ∷ []) []) ∷ []
 
@@ -179,6 +203,27 @@ three = pool_of (clause (p a ∷ []) ∷ clause (not_p (x 0) ∷ q (x 0) ∷ [])
 
 abbrev pub abandon_history : List Event
 abandon_history = Claim 1 ∷ return 1 (Met [] []) ∷ Claim 2 ∷ Abandon 2 ∷ Claim 3 ∷ []
+
+-- two parts alone, of which the first is asserted
+abbrev pub parted : Origin
+parted = pool_of (clause (p (x 0) ∷ q (x 1) ∷ []) ∷ [])
+
+abbrev pub parted_history : List Event
+parted_history = ClaimSolve 1 ∷ ReturnModel 1 (true ∷ false ∷ []) ∷ Claim 2 ∷ return 2 (Met [] []) ∷ []
+
+-- the clause that denies the first part comes while the solver is out, so its model is of one clause alone
+abbrev pub late_model : List Event
+late_model =
+    ClaimSolve 1
+    ∷ Claim 2
+    ∷ return 2 (Met (denied 0 2 (a ∷ []) 0 ∷ []) [])
+    ∷ ReturnModel 1 (true ∷ false ∷ [])
+    ∷ []
+
+-- a job that is claimed and given up, n times from job k on
+abbrev pub given_up_from : ℕ → ℕ → List Event
+given_up_from k zero = []
+given_up_from k (suc n) = Claim k ∷ Abandon k ∷ given_up_from (suc k) n
 
 -- ---- one clause that meets nothing: r, with no literal chosen
 

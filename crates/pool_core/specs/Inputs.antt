@@ -6,8 +6,11 @@ use Rattle.fol_base.specs.Clause.{TreeClause, clause_size}
 use Rattle.fol_base.specs.Canonical.{IsCanonical}
 use Rattle.fol_base.specs.WellFormed.{SymbolUse, WellFormed, are_literals_of}
 use Rattle.fol_base.specs.declared.limits.TheConstants.{MOST_SYMBOLS, MOST_FORM_SYMBOLS}
-use Rattle.pool_core.specs.Lawful.{IsLawful}
-use Rattle.pool_core.specs.Replay.{Origin}
+use Rattle.pool_core.specs.Record.{clauses_of}
+use Rattle.pool_core.specs.Lawful.{IsLawful, IsGivenOut}
+use Rattle.pool_core.specs.Batches.{IsRightWork}
+use Rattle.pool_core.specs.Replay.{Origin, replay}
+use Rattle.pool_core.specs.declared.batch.Batch.{Batch}
 use Rattle.pool_core.specs.declared.event.Event.{Event}
 use Rattle.pool_core.specs.declared.options.Options.{Options}
 
@@ -25,6 +28,13 @@ IsLimit options = (1 ≤ options.inferences) × (options.inferences ≤ MOST_INF
 -- the symbols are used so in the inputs
 abbrev pub IsUseOf : List TreeClause → SymbolUse → Type 0
 IsUseOf inputs usage = IsTrue (list_all (λ (c : TreeClause). are_literals_of usage c.literals) inputs)
+
+-- the batch is right for its job, which is out, whichever symbols are taken for predicates, as long as the inputs use them so
+abbrev pub IsRightBatch : Origin → List Event → Batch → Type 0
+IsRightBatch origin history batch =
+    let r = replay origin history in
+    IsGivenOut r batch.job
+    (λ j. (usage : SymbolUse) → IsUseOf origin.inputs usage → IsRightWork usage.is_predicate origin.options (clauses_of r) j batch.work)
 
 -- lawful whichever symbols are taken for predicates, as long as the inputs use them so
 abbrev pub IsHistoryOf : Origin → List Event → Type 0

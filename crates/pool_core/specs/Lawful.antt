@@ -2,7 +2,9 @@
 use Rattle.std.specs.Prelude.{◌≡◌, ◌⊎◌, ℕ, suc, Bool, true, List, [], ◌∷◌, None, Some, IsTrue, IsFalse}
 use Rattle.std.specs.List.{list_all}
 use Rattle.kernel_steps.specs.Split.{has_number}
-use Rattle.sat_core.specs.Answer.{IsRightModel, IsRightLog}
+use Rattle.sat_core.specs.Answer.{IsRightAnswer}
+use Rattle.sat_core.specs.declared.answer.Answer.{Answer}
+use Rattle.sat_core.specs.declared.answer.Answer.TheVariants.{Model, Refuted}
 use Rattle.pool_core.specs.Record.{PoolRecord, GivenJob, SolverJob, clauses_of, lives, is_dead, given_job}
 use Rattle.pool_core.specs.Solving.{must_solve, handed}
 use Rattle.pool_core.specs.Claiming.{can_give}
@@ -40,6 +42,14 @@ abbrev pub justifiers_live : PoolRecord → Work → Bool
 justifiers_live r (Gone m) = list_all (lives r) m.justifiers
 justifiers_live r (Met entries removals) = true
 
+-- the job is out, whichever it is
+abbrev pub IsOut : PoolRecord → ℕ → Type 0
+IsOut r job = IsGivenOut r job (λ j. Unit {0}) ⊎ IsSolverOut r job (λ s. Unit {0})
+
+-- the answer is right for the solver's job that is out
+abbrev pub IsRightSolution : PoolRecord → ℕ → Answer → Type 0
+IsRightSolution r job answer = IsSolverOut r job (λ s. IsRightAnswer s.names (handed r s) answer)
+
 -- the batch is right for the job, the given clause lives, and where it goes its justifiers do
 abbrev pub IsTaken : (ℕ → Bool) → Options → PoolRecord → Work → GivenJob → Type 0
 IsTaken is_predicate options r work j =
@@ -59,9 +69,9 @@ IsAllowed is_predicate options r (Return batch) = IsGivenOut r batch.job (IsTake
 IsAllowed is_predicate options r (Stale job justifier) = IsGivenOut r job (IsStale is_predicate options r justifier)
 IsAllowed is_predicate options r (Void job) = IsGivenOut r job (λ j. IsTrue (is_dead r j.number))
 IsAllowed is_predicate options r (ClaimSolve job) = IsNextJob r job × IsTrue (must_solve r)
-IsAllowed is_predicate options r (ReturnModel job truths) = IsSolverOut r job (λ s. IsRightModel s.names (handed r s) truths)
-IsAllowed is_predicate options r (ReturnRefuted job log) = IsSolverOut r job (λ s. IsRightLog (handed r s) log)
-IsAllowed is_predicate options r (Abandon job) = IsGivenOut r job (λ j. Unit {0}) ⊎ IsSolverOut r job (λ s. Unit {0})
+IsAllowed is_predicate options r (ReturnModel job truths) = IsRightSolution r job (Model truths)
+IsAllowed is_predicate options r (ReturnRefuted job log) = IsRightSolution r job (Refuted log)
+IsAllowed is_predicate options r (Abandon job) = IsOut r job
 
 -- ---- histories
 

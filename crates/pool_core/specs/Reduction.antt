@@ -1,17 +1,19 @@
 -- Clauses that are reduced by told ones: the reducing steps with the clauses that they use, and lines that lead to the result.
-use Rattle.std.specs.Prelude.{◌≡◌, ◌⊎◌, ℕ, Bool, true, false, ◌&&◌, nat_le, List, [], ◌∷◌, map, filter_map, Option, None, Some, option_map, All, IsTrue, if◌then◌else◌}
+use Rattle.std.specs.Prelude.{◌≡◌, ◌⊎◌, ℕ, Bool, true, false, not, ◌&&◌, ◌==◌, nat_lt, nat_le, List, [], ◌∷◌, ◌++◌, map, filter, flat_map, filter_map, length, Option, None, Some, option_map, All, IsTrue, if◌then◌else◌}
 use Rattle.std.specs.List.{list_all}
-use Rattle.fol_base.specs.Tree.{Tree, true_symbol, tree_size}
-use Rattle.fol_base.specs.Clause.{TreeLiteral, TreeClause}
-use Rattle.fol_base.specs.Canonical.{IsCanonical}
+use Rattle.fol_base.specs.Tree.{Tree, true_symbol, tree_size, trees_of, trees_variables}
+use Rattle.fol_base.specs.Clause.{TreeLiteral, TreeClause, clause_variables}
+use Rattle.fol_base.specs.Canonical.{canonical_clause, distinct, numbers_from, IsCanonical}
 use Rattle.fol_base.specs.Literal.{clause_of}
 use Rattle.fol_base.specs.Subsumption.{is_among, Subsumes}
 use Rattle.fol_base.specs.declared.limits.TheConstants.{MOST_SYMBOLS}
 use Rattle.kernel_steps.specs.Parents.{Parents}
 use Rattle.kernel_steps.specs.Derivation.{AreSteps}
-use Rattle.kernel_steps.specs.Soundness.{binds_each}
+use Rattle.kernel_steps.specs.Soundness.{bindings_of, binds_each, BindsFunctionTerms}
 use Rattle.kernel_steps.specs.Symbols.{clause_symbols_pass, bound_symbols_pass}
 use Rattle.kernel_steps.specs.Inference.{DropsTrivial, MergesEqual, RewritesBy, CutsBy, is_tautology}
+use Rattle.kernel_steps.specs.declared.key.Key.{Key}
+use Rattle.kernel_steps.specs.declared.key.Key.TheVariants as key
 use Rattle.kernel_steps.specs.declared.step.TheConstants.{CLAUSE_NUMBERS}
 use Rattle.kernel_steps.specs.declared.step.Step.{Step}
 use Rattle.kernel_steps.specs.declared.step.Step.TheVariants.{Para, Refl, Factor, Merge}
@@ -44,10 +46,16 @@ abbrev pub IsMove : (ℕ → Bool) → Lookup → TreeClause → Option ℕ → 
 IsMove is_predicate clauses c None d = DropsTrivial c d ⊎ MergesEqual c d
 IsMove is_predicate clauses c (Some n) d = Numbered clauses n (λ unit. RewritesBy is_predicate unit c d ⊎ CutsBy is_predicate unit c d)
 
+-- and its result is brought into canonical form
+pub record MovesTo (is_predicate : ℕ → Bool) (clauses : Lookup) (c : TreeClause) (m : Move) : Type 0 where
+  pub result : TreeClause
+  pub step : IsMove is_predicate clauses c m.by result
+  pub canonical : m.gives ≡ canonical_clause result
+
 -- one after another, from c on
 abbrev pub AreMoves : (ℕ → Bool) → Lookup → TreeClause → List Move → Type 0
 AreMoves is_predicate clauses c [] = Unit {0}
-AreMoves is_predicate clauses c (m ∷ ms) = IsMove is_predicate clauses c m.by m.gives × AreMoves is_predicate clauses m.gives ms
+AreMoves is_predicate clauses c (m ∷ ms) = MovesTo is_predicate clauses c m × AreMoves is_predicate clauses m.gives ms
 
 abbrev pub end_of : TreeClause → List Move → TreeClause
 end_of c [] = c
@@ -86,14 +94,45 @@ is_on_literals (Factor parent becomes becomes_side other other_side bind) = true
 is_on_literals (Merge parent stays goes bind) = true
 is_on_literals step = false
 
--- Lines that go on from clauses: kernel steps whose clauses are canonical, small and of the clauses' symbols. A parent below 2^32 is a
--- clause, 2^32 + i is line i.
-pub record AreLinesFrom (clauses : Lookup) (lines : List Line) : Type 0 where
+-- the variables of a line's clause, and then those of what its step binds
+abbrev pub line_variables : Line → List ℕ
+line_variables l = clause_variables (clause_of l.clause) ++ flat_map (λ b. trees_variables (trees_of b)) (bindings_of l.step)
+
+-- The clause is canonical, and the variables that stand in the bindings alone have the next numbers.
+pub record IsNumbered (l : Line) : Type 0 where
+  pub canonical : IsCanonical (clause_of l.clause)
+  pub bindings : let order = distinct (line_variables l) in order ≡ numbers_from 0 (length order)
+
+-- Lines that go on from clauses: kernel steps that bind function terms, small and of the clauses' symbols. A parent below 2^32 is a clause,
+-- 2^32 + i is line i.
+pub record AreLinesFrom (is_predicate : ℕ → Bool) (clauses : Lookup) (lines : List Line) : Type 0 where
   pub kinds : IsTrue (list_all (λ (l : Line). is_on_literals l.step) lines)
   pub steps : AreSteps CLAUSE_NUMBERS (parents_of clauses) lines
-  pub canonical : All (λ (l : Line). IsCanonical (clause_of l.clause)) lines
+  pub numbered : All IsNumbered lines
+  pub terms : BindsFunctionTerms is_predicate lines
   pub small : IsTrue (list_all is_small_line lines)
   pub symbols : HaveSymbolsOf clauses lines
+
+-- the parents of such a step
+abbrev pub parent_numbers : Step → List ℕ
+parent_numbers (Para first second from from_side into into_side place first_bind second_bind) = first ∷ second ∷ []
+parent_numbers (Refl parent literal bind) = parent ∷ []
+parent_numbers (Factor parent becomes becomes_side other other_side bind) = parent ∷ []
+parent_numbers (Merge parent stays goes bind) = parent ∷ []
+parent_numbers step = []
+
+-- the clauses that lines use, beside the one of that number
+abbrev pub clauses_used : ℕ → List Line → List ℕ
+clauses_used victim lines =
+    filter (λ n. nat_lt n CLAUSE_NUMBERS && not (n == victim)) (flat_map (λ (l : Line). parent_numbers l.step) lines)
+
+-- the inference that a step makes, where its parents are clauses by their numbers
+abbrev pub key_of : Step → Option Key
+key_of (Para first second from from_side into into_side place first_bind second_bind) =
+    Some (key.Para first from from_side second into into_side place)
+key_of (Refl parent literal bind) = Some (key.Refl parent literal)
+key_of (Factor parent becomes becomes_side other other_side bind) = Some (key.Factor parent becomes becomes_side other other_side)
+key_of step = None
 
 -- ---- results
 
