@@ -1,13 +1,13 @@
 -- Worked histories that are lawful, and events that aren't allowed.
 use Rattle.std.proofs.Common.{◌≡◌, ℕ, [], ◌∷◌, ◌++◌, List, refl, sym, inl, inr, arith}
-use Rattle.std.specs.Prelude.{IsTrue}
+use Rattle.std.specs.Prelude.{take, IsTrue}
 use Rattle.std.proofs.lemmas.Bool.{true≢false}
 use Rattle.std.proofs.lemmas.Option.{none-some}
 use Rattle.fol_base.specs.Examples.{x, a, p, equation, clause, all_a, is_predicate}
 use Rattle.fol_base.specs.Subsumption.{is_among}
 use Rattle.pool_core.specs.Lawful.{IsLawful}
 use Rattle.pool_core.specs.Reduction.{units_of}
-use Rattle.pool_core.specs.Examples.{pool_of, three, split, return, removal}
+use Rattle.pool_core.specs.Examples.{pool_of, three, split, justified, removing, return, removal}
 use Rattle.pool_core.specs.declared.batch.Fate.TheVariants.{Dropped}
 use Rattle.pool_core.specs.declared.batch.Redundancy.TheVariants.{Tautology, Subsumed}
 use Rattle.pool_core.specs.declared.batch.Work.TheVariants as work
@@ -91,10 +91,22 @@ given_up = (
   (inl (record { given = _; out = refl; says = tt }), (((refl, refl), refl, refl), tt)),
 )
 
+pub solver_and_clause : IsLawful is_predicate split (event.ClaimSolve 1 ∷ event.Claim 2 ∷ [])
+solver_and_clause = (((refl, refl), refl), (((refl, refl), refl, refl), tt))
+
 -- ---- what isn't allowed
 
+pub number_of_solver : IsLawful is_predicate split (event.ClaimSolve 1 ∷ event.Claim 1 ∷ []) → ⊥
+number_of_solver h = let same : ◌≡◌ {A = ℕ} 1 2 = h.1.0.0.0 in absurd (omega (arith, same))
+
+pub number_given_up : IsLawful is_predicate three (event.Claim 1 ∷ event.Abandon 1 ∷ event.Claim 1 ∷ []) → ⊥
+number_given_up h = let same : ◌≡◌ {A = ℕ} 1 2 = h.1.1.0.0.0 in absurd (omega (arith, same))
+
+pub justifier_lives : IsLawful is_predicate justified (take 3 removing ++ event.Stale 3 0 ∷ []) → ⊥
+justifier_lives h = true≢false (sym h.1.1.1.0.says.1)
+
 pub number_twice : IsLawful is_predicate three (event.Claim 1 ∷ event.Claim 1 ∷ []) → ⊥
-number_twice h = let same : 1 ≡ 2 = h.1.0.0.0 in omega arith
+number_twice h = let same : ◌≡◌ {A = ℕ} 1 2 = h.1.0.0.0 in absurd (omega (arith, same))
 
 pub solver_first : IsLawful is_predicate split (event.Claim 1 ∷ []) → ⊥
 solver_first h = true≢false h.0.1

@@ -1,5 +1,5 @@
 use Rattle.pool_core.proofs.GoingExample.{rewritten_goes}
-use Rattle.pool_core.proofs.LawfulExamples.{tautology_goes, subsumed_goes, given_up}
+use Rattle.pool_core.proofs.LawfulExamples.{tautology_goes, subsumed_goes, given_up, solver_and_clause}
 use Rattle.pool_core.proofs.laws.lawful.lawful_examples.Goals as goal
 
 pub returns-clause-tautology : goal.returns-clause-tautology
@@ -13,3 +13,6 @@ returns-clause-given_up c = given_up
 
 pub returns-clause-rewritten : goal.returns-clause-rewritten
 returns-clause-rewritten c = rewritten_goes
+
+pub returns-clause-solver_and_clause : goal.returns-clause-solver_and_clause
+returns-clause-solver_and_clause c = solver_and_clause

@@ -1,4 +1,4 @@
-use Rattle.pool_core.proofs.LawfulExamples.{number_twice, solver_first, nothing_to_solve, not_out, not_void, never_given, justifier_missing}
+use Rattle.pool_core.proofs.LawfulExamples.{number_twice, number_of_solver, number_given_up, justifier_lives, solver_first, nothing_to_solve, not_out, not_void, never_given, justifier_missing}
 use Rattle.pool_core.proofs.laws.lawful.unlawful_examples.Goals as goal
 
 pub returns-clause-number_twice : goal.returns-clause-number_twice
@@ -21,3 +21,12 @@ returns-clause-never_given c = never_given
 
 pub returns-clause-justifier_missing : goal.returns-clause-justifier_missing
 returns-clause-justifier_missing c = justifier_missing
+
+pub returns-clause-number_of_solver : goal.returns-clause-number_of_solver
+returns-clause-number_of_solver c = number_of_solver
+
+pub returns-clause-number_given_up : goal.returns-clause-number_given_up
+returns-clause-number_given_up c = number_given_up
+
+pub returns-clause-justifier_lives : goal.returns-clause-justifier_lives
+returns-clause-justifier_lives c = justifier_lives
