@@ -15,5 +15,6 @@ mod DeathLemmas
 mod JustifiedLemmas
 -- Worked examples.
 mod GoingExample
+mod MeetingExample
 mod AnswerExamples
 mod LawfulExamples

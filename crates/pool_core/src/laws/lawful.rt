@@ -5,14 +5,14 @@ ghost use Rattle.fol_base.specs.Examples.{x, a, p, equation, clause, is_predicat
 ghost use Rattle.pool_core.specs.Lawful.{IsLawful};
 ghost use Rattle.pool_core.specs.Replay.{replay};
 ghost use Rattle.pool_core.specs.Saturated.{members_of};
-ghost use Rattle.pool_core.specs.Examples.{pool_of, three, rewrites, rewrites_history, split, justified, removing, return, removal};
+ghost use Rattle.pool_core.specs.Examples.{pool_of, alone, alone_history, three, rewrites, rewrites_history, split, justified, removing, return, removal};
 ghost use Rattle.pool_core.specs.declared.batch.Fate.TheVariants.{Dropped};
 ghost use Rattle.pool_core.specs.declared.batch.Redundancy.TheVariants.{Tautology, Subsumed};
 ghost use Rattle.pool_core.specs.declared.batch.Work.TheVariants as work;
 ghost use Rattle.pool_core.specs.declared.event.Event.TheVariants as event;
 
 /// A tautology goes; a clause that another subsumes goes; so does one that another rewrites, by a line to an irreducible
-/// result; a job is given up; a clause is given while the solver is out.
+/// result; one that is alone and meets nothing stays; a job is given up; a clause is given while the solver is out.
 pub fn lawful_examples()
     ensures tautology { IsLawful is_predicate (pool_of (clause (equation a a ∷ []) ∷ []))
         (event.Claim 1 ∷ return 1 (work.Gone (removal 0 [] (Dropped Tautology))) ∷ []) }
@@ -22,6 +22,7 @@ pub fn lawful_examples()
         (event.Claim 1 ∷ event.Claim 2 ∷ return 2 (work.Gone (removal 1 (0 ∷ []) (Dropped (Subsumed 0)))) ∷ []) }
     ensures rewritten { IsLawful is_predicate rewrites (take 3 rewrites_history) }
     ensures solver_and_clause { IsLawful is_predicate split (event.ClaimSolve 1 ∷ event.Claim 2 ∷ []) }
+    ensures stays { IsLawful is_predicate alone alone_history }
     ensures given_up { IsLawful is_predicate three (event.Claim 1 ∷ event.Abandon 1 ∷ event.Claim 2 ∷ []) }
 {}
 

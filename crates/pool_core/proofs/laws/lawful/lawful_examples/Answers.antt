@@ -1,3 +1,4 @@
+use Rattle.pool_core.proofs.MeetingExample.{r_stays}
 use Rattle.pool_core.proofs.GoingExample.{rewritten_goes}
 use Rattle.pool_core.proofs.LawfulExamples.{tautology_goes, subsumed_goes, given_up, solver_and_clause}
 use Rattle.pool_core.proofs.laws.lawful.lawful_examples.Goals as goal
@@ -16,3 +17,6 @@ returns-clause-rewritten c = rewritten_goes
 
 pub returns-clause-solver_and_clause : goal.returns-clause-solver_and_clause
 returns-clause-solver_and_clause c = solver_and_clause
+
+pub returns-clause-stays : goal.returns-clause-stays
+returns-clause-stays c = r_stays
