@@ -13,6 +13,8 @@ mod CountLemmas
 mod SpentLemmas
 mod DeathLemmas
 mod JustifiedLemmas
+-- The pool: RegisterLemmas (the register).
+mod RegisterLemmas
 -- Worked examples.
 mod GoingExample
 mod MeetingExample

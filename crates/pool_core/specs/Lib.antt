@@ -17,4 +17,8 @@ pub mod Answers
 pub mod Saturated
 pub mod Inputs
 pub mod Laws
+pub mod Events
+pub mod RegisterCode
+pub mod Register
+pub mod RegisterLiving
 pub mod Examples

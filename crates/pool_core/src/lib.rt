@@ -3,12 +3,15 @@
 
 mod batch;
 mod event;
+mod history;
 mod options;
 mod outcome;
+mod register;
 mod ticket;
 
 pub use batch::{Batch, Entry, Fate, MetEntries, Redundancy, Removal, Removals, Work};
 pub use event::Event;
+pub use history::History;
 pub use options::Options;
 pub use outcome::Outcome;
 pub use ticket::{Back, Change, Claimed, News, PropTicket, Ticket};
