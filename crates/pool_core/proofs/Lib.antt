@@ -13,8 +13,9 @@ mod CountLemmas
 mod SpentLemmas
 mod DeathLemmas
 mod JustifiedLemmas
--- The pool: RegisterLemmas (the register).
+-- The pool: RegisterLemmas (the register), StartLemmas (the inputs).
 mod RegisterLemmas
+mod StartLemmas
 -- Worked examples.
 mod GoingExample
 mod MeetingExample

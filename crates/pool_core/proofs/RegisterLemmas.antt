@@ -16,10 +16,10 @@ use Rattle.pool_core.specs.declared.register.Registration.{Registration}
 -- ---- the first that passes
 
 module _ {X : Type 0} (p : X → Bool) (xs : List X) where
-  place-bound : position_or_len p xs ≤ length xs
+  pub place-bound : position_or_len p xs ≤ length xs
   place-bound = prefix_len-le-length _ xs
 
-  none-place : position p xs ≡ None → position_or_len p xs ≡ length xs
+  pub none-place : position p xs ≡ None → position_or_len p xs ≡ length xs
   none-place none = by (nat_lt (position_or_len p xs) (length xs)) refl none
     where
       by :

@@ -21,4 +21,5 @@ pub mod Events
 pub mod RegisterCode
 pub mod Register
 pub mod RegisterLiving
+pub mod Started
 pub mod Examples

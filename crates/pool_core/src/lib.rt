@@ -7,6 +7,7 @@ mod history;
 mod options;
 mod outcome;
 mod register;
+mod start;
 mod ticket;
 
 pub use batch::{Batch, Entry, Fate, MetEntries, Redundancy, Removal, Removals, Work};

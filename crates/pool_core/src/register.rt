@@ -1,6 +1,6 @@
 // The registered clauses of a pool: by number, and the living ones by what they say.
 
-ghost use Rattle.std.specs.Prelude.{◌≡◌, ◌<◌, ◌^◌, ◌++◌, [], ◌∷◌, None, false, length, position, OnOk, OnErr};
+ghost use Rattle.std.specs.Prelude.{◌≡◌, ◌<◌, ◌^◌, ◌++◌, [], ◌∷◌, None, Some, false, length, position, slice_get, IfSome, OnOk, OnErr};
 ghost use Rattle.pool_core.specs.Register.{is_living_copy};
 
 use bank_clause::BankClause;
@@ -67,9 +67,18 @@ impl Register {
 
     /// The number of the living clause that is equal to this one by the numbers of its terms.
     pub(crate) fn find(&self, clause: &BankClause) -> Option<u32>
-        ensures { result ≡ position (is_living_copy clause.now) self.now }
+        ensures found { result ≡ position (is_living_copy clause.now) self.now }
+        ensures within { IfSome result (λ number. number < length self.now) }
     {
         self.living.get(clause).copied()
+    }
+
+    /// The registered clause of a number.
+    pub(crate) fn get(&self, number: usize) -> &Registration
+        requires { number < length self.now }
+        ensures { slice_get self.now number ≡ Some result.now }
+    {
+        &self.registrations[number]
     }
 
     /// Registers a clause of which no living one is a copy. After want of memory the register is as before.
