@@ -1,15 +1,17 @@
 -- What is registered before the first event.
-use Rattle.std.proofs.Common.{◌≡◌, ℕ, zero, suc, ◌+◌, ◌-◌, ◌<◌, ◌≤◌, Bool, true, false, not, ◌&&◌, ◌||◌, ◌==◌, List, [], ◌∷◌, ◌++◌, map, length, refl, ap, ap₂, sym, ◌∙◌, subst, ⊎_elim, arith}
+use Rattle.std.proofs.Common.{◌≡◌, ℕ, zero, suc, ◌+◌, ◌-◌, ◌<◌, ◌≤◌, Bool, true, false, not, ◌&&◌, ◌||◌, ◌==◌, List, [], ◌∷◌, ◌++◌, map, length, take, get_or, refl, ap, ap₂, sym, ◌∙◌, subst, ⊎_elim, arith}
 use Rattle.std.specs.Prelude.{Option, None, Some, cond, nat_lt, is_none, is_some, position, slice_get, unwrap_or, option_map, if◌then◌else◌, All, Contains}
 use Rattle.std.specs.List.{list_any, range_with_len, position_or_len}
 use Rattle.std.proofs.lemmas.Bool.{true≢false, and_parts, and_from, lt-ltb, le-ltb, or_parts, or_left, or_right, or_from, ne_eqb, false_from_ne_true, cond-true, cond-false}
-use Rattle.std.proofs.lemmas.List.{length-append, map-append}
+use Rattle.std.proofs.lemmas.List.{length-append, length-map, length-take, map-append, take_more}
 use Rattle.std.proofs.lemmas.List.Elements.{All-nil, All-cons, All-contains, All-push, All-weaker, All-head, All-tail}
 use Rattle.std.proofs.lemmas.List.Quantifiers.{position-Some}
-use Rattle.std.proofs.lemmas.Option.{none-some, same_Some, slice_get_within, slice_get-map, get_or_from_slice_get}
+use Rattle.std.proofs.lemmas.Option.{none-some, same_Some, slice_get_within, slice_get-map, slice_get_read, get_or_from_slice_get}
 use Rattle.plain_types.specs.declared.sequence.NameLit.{NameLit}
 use Rattle.fol_base.specs.Clause.{TreeLiteral, TreeClause, clause_eq, literals_eq, names_eq, clause_size}
 use Rattle.fol_base.specs.Tree.{Tree}
+use Rattle.fol_base.specs.Literal.{clause_of}
+use Rattle.fol_base.specs.declared.clause.Clause.{Clause}
 use Rattle.kernel_steps.specs.Conclusion.{empty_clause}
 use Rattle.kernel_steps.proofs.SplitTests.{literals_eq-says}
 use Rattle.split_parts.specs.PartKeys.{literals_eq-refl}
@@ -358,3 +360,37 @@ next-absent bank table a r k pairs is next same there =
     subst (λ ps. All (λ m. m < k) (map (λ (p : ℕ × ℕ). p.0) ps)) (sym (same ∙ is.queue)) (sized-numbers 0 r.registered k (omega (arith, many, next))) in
     let below : k < k = All-contains (λ m. m < k) (map (λ (p : ℕ × ℕ). p.0) pairs) k all there in
     absurd (omega (arith, below))
+
+-- ---- all inputs
+
+pub inputs-end :
+    (i : ℕ) (cs : List TreeClause) (c : TreeClause) (r : PoolRecord)
+    → with_inputs false i (cs ++ c ∷ []) r ≡ with_input (i + length cs) c (with_inputs false i cs r)
+inputs-end i [] c r = ap (λ k. with_input k c r) (let e : i ≡ i + 0 = omega arith in e)
+inputs-end i (d ∷ ds) c r =
+    inputs-end (suc i) ds c (with_input i d r)
+    ∙ ap (λ k. with_input k c (with_inputs false (suc i) ds (with_input i d r))) (let e : suc i + length ds ≡ i + suc (length ds) = omega arith in e)
+
+pub input-at :
+    (P : TreeClause → Type 0) (cs : List Clause) (i : ℕ) (c : Clause)
+    → All P (map clause_of cs) → i < length cs → c ≡ get_or cs i c → P (clause_of c)
+input-at P cs i c all below read =
+    all-at P (map clause_of cs) i (clause_of c) all
+    (slice_get-map clause_of cs i ∙ ap (option_map clause_of) (slice_get_read cs (length cs) i c refl below read))
+
+pub inputs-more :
+    (cs : List Clause) (i : ℕ) (c : Clause)
+    → i < length cs → c ≡ get_or cs i c
+    → with_inputs false 0 (map clause_of (take (i + 1) cs)) nothing_registered
+    ≡ with_input i (clause_of c) (with_inputs false 0 (map clause_of (take i cs)) nothing_registered)
+inputs-more cs i c below read =
+    let front : List TreeClause = map clause_of (take i cs) in
+    let one : take (i + 1) cs ≡ take i cs ++ c ∷ [] = take_more cs i c below ∙ ap (λ x. take i cs ++ x ∷ []) (sym read) in
+    let whole : map clause_of (take (i + 1) cs) ≡ front ++ clause_of c ∷ [] = ap (map clause_of) one ∙ map-append clause_of (take i cs) (c ∷ []) in
+    let long : length front ≡ i = length-map (take i cs) clause_of ∙ length_front cs i below in
+    ap (λ xs. with_inputs false 0 xs nothing_registered) whole
+    ∙ inputs-end 0 front (clause_of c) nothing_registered
+    ∙ ap (λ k. with_input k (clause_of c) (with_inputs false 0 front nothing_registered)) (let e : 0 + length front ≡ i = omega (arith, long) in e)
+  where
+    length_front : (cs : List Clause) (i : ℕ) → i < length cs → length (take i cs) ≡ i
+    length_front cs i below = omega (arith, length-take i cs, below)

@@ -22,4 +22,6 @@ pub mod RegisterCode
 pub mod Register
 pub mod RegisterLiving
 pub mod Started
+pub mod View
+pub mod State
 pub mod Examples

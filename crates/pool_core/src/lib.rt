@@ -6,6 +6,7 @@ mod event;
 mod history;
 mod options;
 mod outcome;
+mod pool;
 mod register;
 mod start;
 mod ticket;
@@ -15,6 +16,7 @@ pub use event::Event;
 pub use history::History;
 pub use options::Options;
 pub use outcome::Outcome;
+pub use pool::{Keys, Pool};
 pub use ticket::{Back, Change, Claimed, News, PropTicket, Ticket};
 
 pub mod laws;
