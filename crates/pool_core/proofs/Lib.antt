@@ -13,9 +13,10 @@ mod CountLemmas
 mod SpentLemmas
 mod DeathLemmas
 mod JustifiedLemmas
--- The pool: RegisterLemmas (the register), StartLemmas (the inputs).
+-- The pool: RegisterLemmas (the register), StartLemmas (the inputs), BegunLemmas (the new pool).
 mod RegisterLemmas
 mod StartLemmas
+mod BegunLemmas
 -- Worked examples.
 mod GoingExample
 mod MeetingExample

@@ -187,7 +187,7 @@ steps-of (l ∷ ls) = ap suc (steps-of ls)
 
 -- ---- the start with one more input
 
-all-at : {X : Type 0} (P : X → Type 0) (xs : List X) (n : ℕ) (x : X) → All P xs → slice_get xs n ≡ Some x → P x
+pub all-at : {X : Type 0} (P : X → Type 0) (xs : List X) (n : ℕ) (x : X) → All P xs → slice_get xs n ≡ Some x → P x
 all-at P [] n x all there = absurd (none-some x there)
 all-at P (y ∷ ys) zero x all there = subst P (same_Some y x there) (All-head P y ys all)
 all-at P (y ∷ ys) (suc n) x all there = all-at P ys n x (All-tail P y ys all) there
