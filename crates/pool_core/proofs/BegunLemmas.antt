@@ -61,10 +61,10 @@ map-by-place (x ∷ xs) f base each =
 
 -- ---- what waits at the start
 
-awake-without : (r : PoolRecord) (c : TreeClause) → c.names ≡ [] → is_awake_under (valuation_of r.model) r.parts c ≡ true
+pub awake-without : (r : PoolRecord) (c : TreeClause) → c.names ≡ [] → is_awake_under (valuation_of r.model) r.parts c ≡ true
 awake-without r c no_names = ap (λ (ns : List NameLit). list_all (λ tag. literal_true (valuation_of r.model) (name_of_tag r.parts tag)) (assertions ns)) no_names
 
-numbered : (r : PoolRecord) (n : ℕ) (x : Registered) → slice_get r.registered n ≡ Some x → clause_numbered r n ≡ x.clause
+pub numbered : (r : PoolRecord) (n : ℕ) (x : Registered) → slice_get r.registered n ≡ Some x → clause_numbered r n ≡ x.clause
 numbered r n x there = ap (λ (o : Option Registered). unwrap_or (option_map (λ (y : Registered). y.clause) o) empty_clause) there
 
 ready-start :
@@ -114,6 +114,7 @@ module _ (a : Inside) (bank : Bank) (st : Start) (r : PoolRecord) where
     place = place ∙ sym (ap (λ (t : PoolRecord). t.claims % 6) is.start);
     no_propositional = ap (λ (t : PoolRecord). t.propositional) is.start;
     no_solver = ap (λ (t : PoolRecord). t.solver) is.start;
+    no_names = is.no_names;
     queue_room = let none : length r.given ≡ 0 = ap (λ (t : PoolRecord). length t.given) is.start in omega (arith, none);
     history_room = let none : length r.given ≡ 0 = ap (λ (t : PoolRecord). length t.given) is.start in omega (arith, none, room);
   }

@@ -13,10 +13,12 @@ mod CountLemmas
 mod SpentLemmas
 mod DeathLemmas
 mod JustifiedLemmas
--- The pool: RegisterLemmas (the register), StartLemmas (the inputs), BegunLemmas (the new pool).
+-- The pool: RegisterLemmas (the register), StartLemmas (the inputs), BegunLemmas (the new pool), LivingLemmas (what lives,
+-- and how it ends).
 mod RegisterLemmas
 mod StartLemmas
 mod BegunLemmas
+mod LivingLemmas
 -- Worked examples.
 mod GoingExample
 mod MeetingExample

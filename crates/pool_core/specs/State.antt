@@ -70,6 +70,7 @@ pub record IsStateOf (a : Inside) (r : PoolRecord) : Type 0 where
   -- nothing is split
   pub no_propositional : r.propositional ≡ []
   pub no_solver : r.solver ≡ None
+  pub no_names : All (λ (c : Registered). c.clause.names ≡ []) r.registered
   -- there is room for what a job that is given up needs
   pub queue_room : length r.given ≤ a.queue.spare
   pub history_room : vec_len a.history.events + length r.given ≤ vec_capacity a.history.events

@@ -1,12 +1,13 @@
 // The pool of clauses: how it begins, and what it tells of itself.
 
-ghost use Rattle.std.specs.Prelude.{◌≡◌, ◌<◌, [], false, length, map, slice_get, Some, IfOk};
+ghost use Rattle.std.specs.Prelude.{◌≡◌, ◌<◌, ◌&&◌, [], false, length, map, position, slice_get, Some, IfOk};
 ghost use Rattle.fol_base.specs.Literal.{clause_of};
 ghost use Rattle.term_bank.specs.Bank.{identity};
 ghost use Rattle.term_bank.specs.Table.{IsTableOf};
 ghost use Rattle.pool_core.specs.Events.{events_of};
 ghost use Rattle.pool_core.specs.Inputs.{AreInputs, IsLimit, IsHistoryOf};
-ghost use Rattle.pool_core.specs.Outcomes.{outcome_of};
+ghost use Rattle.pool_core.specs.Outcomes.{is_of_living, outcome_of};
+ghost use Rattle.pool_core.specs.Record.{is_awake, lives};
 ghost use Rattle.pool_core.specs.Replay.{replay};
 
 use crate::history::History;
@@ -155,6 +156,49 @@ impl Pool {
         ensures { slice_get (replay self.now.origin self.now.history).set_aside place ≡ Some result.now }
     {
         &self.set_aside.as_slice()[place as usize]
+    }
+
+    /// How the pool ends, or None while there is something to do.
+    pub fn outcome(&self) -> Option<Outcome>
+        ensures { result ≡ outcome_of (replay self.now.origin self.now.history) }
+    {
+        if self.ended.is_some() {
+            return self.ended;
+        }
+        if !self.queue.is_empty() || !self.jobs.is_empty() {
+            return None;
+        }
+        match self.heavy_place() {
+            Some(place) => Some(Outcome::Heavy(place as u64)),
+            None => Some(Outcome::Saturated),
+        }
+    }
+
+    /// The place of the first inference that was set aside and whose premises live.
+    fn heavy_place(&self) -> Option<usize>
+        ensures { let r = replay self.now.origin self.now.history in result ≡ position (is_of_living r) r.set_aside }
+    {
+        self.set_aside.as_slice().iter().position(|key| self.is_of_living(key))
+    }
+
+    /// Whether all premises of an inference live.
+    fn is_of_living(&self, key: &Key) -> bool
+        ensures { result ≡ is_of_living (replay self.now.origin self.now.history) key.now }
+    {
+        match key {
+            Key::Para { first, second, .. } => self.is_living(*first) && self.is_living(*second),
+            Key::Refl { clause, .. } | Key::Factor { clause, .. } | Key::Replaced(clause) => {
+                self.is_living(*clause)
+            }
+        }
+    }
+
+    /// Whether the clause of a number lives. All clauses are awake, since none has assertions.
+    fn is_living(&self, number: u32) -> bool
+        ensures { let r = replay self.now.origin self.now.history in result ≡ (lives r number && is_awake r number) }
+    {
+        let number = number as usize;
+        number < self.register.len() && self.register.get(number).death.is_none()
     }
 
     /// The events so far. They are lawful.
