@@ -55,8 +55,8 @@ map-by-place (x ∷ xs) f base each =
     let one_more : base + 1 ≡ suc base = omega arith in
     ap₂ (λ (p : ℕ × ℕ) (ps : List (ℕ × ℕ)). p ∷ ps) here
     (map-by-place xs f (base + 1) (λ n y there.
-      let e : base + 1 + n ≡ base + suc n = omega arith in
-      ap f e ∙ each (suc n) y there ∙ ap (λ (k : ℕ). let p : ℕ × ℕ = (k, clause_size y.clause) in p) (sym e))
+    let e : base + 1 + n ≡ base + suc n = omega arith in
+    ap f e ∙ each (suc n) y there ∙ ap (λ (k : ℕ). let p : ℕ × ℕ = (k, clause_size y.clause) in p) (sym e))
     ∙ ap (λ k. sized k xs) one_more)
 
 -- ---- what waits at the start
@@ -72,15 +72,15 @@ ready-start :
 ready-start r no_names =
     ap (map (pair_of (at_start r)))
     (filter-by-place r.registered (λ n. waits (at_start r) n && is_awake (at_start r) n) 0 (λ n x there.
-      let same : 0 + n ≡ n = omega arith in
-      ap (λ m. waits (at_start r) m && is_awake (at_start r) m) same
-      ∙ ap (λ b. ((b && true) && (true && true)) && is_awake (at_start r) n) (lt-ltb n (length r.registered) (slice_get_within r.registered n x there))
-      ∙ awake-without (at_start r) (clause_numbered (at_start r) n)
-      (ap (λ (d : TreeClause). d.names) (numbered r n x there) ∙ all-at (λ (c : Registered). c.clause.names ≡ []) r.registered n x no_names there)))
+    let same : 0 + n ≡ n = omega arith in
+    ap (λ m. waits (at_start r) m && is_awake (at_start r) m) same
+    ∙ ap (λ b. ((b && true) && (true && true)) && is_awake (at_start r) n) (lt-ltb n (length r.registered) (slice_get_within r.registered n x there))
+    ∙ awake-without (at_start r) (clause_numbered (at_start r) n)
+    (ap (λ (d : TreeClause). d.names) (numbered r n x there) ∙ all-at (λ (c : Registered). c.clause.names ≡ []) r.registered n x no_names there)))
     ∙ map-by-place r.registered (pair_of (at_start r)) 0 (λ n x there.
-      let same : 0 + n ≡ n = omega arith in
-      ap (λ m. let p : ℕ × ℕ = (0 + n, clause_size (clause_numbered (at_start r) m)) in p) same
-      ∙ ap (λ (d : TreeClause). let p : ℕ × ℕ = (0 + n, clause_size d) in p) (numbered r n x there))
+    let same : 0 + n ≡ n = omega arith in
+    ap (λ m. let p : ℕ × ℕ = (0 + n, clause_size (clause_numbered (at_start r) m)) in p) same
+    ∙ ap (λ (d : TreeClause). let p : ℕ × ℕ = (0 + n, clause_size d) in p) (numbered r n x there))
 
 -- ---- the pool
 

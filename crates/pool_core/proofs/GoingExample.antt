@@ -214,13 +214,13 @@ going = record {
         reduced =
             record {
               moved = (
-                  record {
-                    result = clause (result ∷ []);
-                    step = record { clause = clause (unit ∷ []); there = refl; does = inl rewriting };
-                    canonical = refl;
-                  },
-                  tt,
-                );
+                record {
+                  result = clause (result ∷ []);
+                  step = record { clause = clause (unit ∷ []); there = refl; does = inl rewriting };
+                  canonical = refl;
+                },
+                tt,
+              );
               ends = refl;
               led = refl;
             };

@@ -99,11 +99,11 @@ module _ (bank : Bank) (table : Table) where
       let parts = or_parts (is_living_copy made s) (list_any (is_living_copy made) ss) none in
       or_from (clause_eq c (clause_at s.clause)) (list_any (λ (x : Registered). clause_eq c x.clause) (map registered_at ss))
       (false_from_ne_true (clause_eq c (clause_at s.clause)) (λ equal.
-        true≢false
-        (sym (and_from (is_none s.death) (equal_by_numbers made s.clause)
-        (ap is_none (All-head IsFresh s ss fresh).death)
-        (same-are-equal table made s.clause known (All-head (IsOfTable bank table) s ss of_table).known (same ∙ clause_eq-says c (clause_at s.clause) no_names equal)))
-        ∙ parts.0)))
+      true≢false
+      (sym (and_from (is_none s.death) (equal_by_numbers made s.clause)
+      (ap is_none (All-head IsFresh s ss fresh).death)
+      (same-are-equal table made s.clause known (All-head (IsOfTable bank table) s ss of_table).known (same ∙ clause_eq-says c (clause_at s.clause) no_names equal)))
+      ∙ parts.0)))
       (none-equal made c ss same no_names known (All-tail (IsOfTable bank table) s ss of_table) (All-tail IsFresh s ss fresh) parts.1)
 
 -- the registered clauses that are equal, where nothing has happened yet
@@ -111,11 +111,11 @@ living-at-start : (r : PoolRecord) (c : TreeClause) → has_living (at_start r) 
 living-at-start r c =
     any-by-place r.registered (λ n. lives (at_start r) n && clause_eq c (clause_numbered (at_start r) n)) (λ (x : Registered). clause_eq c x.clause) 0
     (λ n x there.
-      let k : ℕ = 0 + n in
-      let same : 0 + n ≡ n = omega arith in
-      ap (λ m. lives (at_start r) m && clause_eq c (clause_numbered (at_start r) m)) same
-      ∙ ap (λ b. (b && true) && clause_eq c (clause_numbered (at_start r) n)) (lt-ltb n (length r.registered) (slice_get_within r.registered n x there))
-      ∙ ap (λ (o : Option Registered). clause_eq c (unwrap_or (option_map (λ (y : Registered). y.clause) o) empty_clause)) there)
+    let k : ℕ = 0 + n in
+    let same : 0 + n ≡ n = omega arith in
+    ap (λ m. lives (at_start r) m && clause_eq c (clause_numbered (at_start r) m)) same
+    ∙ ap (λ b. (b && true) && clause_eq c (clause_numbered (at_start r) n)) (lt-ltb n (length r.registered) (slice_get_within r.registered n x there))
+    ∙ ap (λ (o : Option Registered). clause_eq c (unwrap_or (option_map (λ (y : Registered). y.clause) o) empty_clause)) there)
 
 pub has-living : (r : PoolRecord) (c : TreeClause) → r ≡ at_start r → has_living r c ≡ list_any (λ (x : Registered). clause_eq c x.clause) r.registered
 has-living r c start = ap (λ s. has_living s c) start ∙ living-at-start r c

@@ -82,8 +82,8 @@ module _ (is_predicate : ℕ → Bool) (options : Options) where
         let same : length mid.registered ≡ length r.registered = ap length registered in
         omega (arith, longer, same);
     rising = λ rise.
-      subst (λ n. Rising 0 n s.given) (sym (grown.jobs ∙ jobs))
-      (subst (λ js. Rising 0 r.jobs js) (sym (grown.given ∙ given)) (rising-filter _ 0 r.jobs r.given rise));
+        subst (λ n. Rising 0 n s.given) (sym (grown.jobs ∙ jobs))
+        (subst (λ js. Rising 0 r.jobs js) (sym (grown.given ∙ given)) (rising-filter _ 0 r.jobs r.given rise));
   }
 
   worked-moves : (job n : ℕ) (r : PoolRecord) (work : Work) → Moves 0 r (worked options n work (without job r))
@@ -111,10 +111,10 @@ module _ (is_predicate : ℕ → Bool) (options : Options) where
     claimed = claimed-claims is_predicate options job q r;
     clauses = let same = ap length (claimed-clauses is_predicate options job (Some q) r) in omega (arith, same);
     rising = λ rise.
-      by-if (λ s. Rising 0 (given_out options job q s).jobs (given_out options job q s).given) (has_number q r.positions) r
-      (record r { positions = r.positions ++ q ∷ [] })
-      (rising-end 0 r.jobs r.given (new_job options job q r) rise above)
-      (rising-end 0 r.jobs r.given (new_job options job q (record r { positions = r.positions ++ q ∷ [] })) rise above);
+        by-if (λ s. Rising 0 (given_out options job q s).jobs (given_out options job q s).given) (has_number q r.positions) r
+        (record r { positions = r.positions ++ q ∷ [] })
+        (rising-end 0 r.jobs r.given (new_job options job q r) rise above)
+        (rising-end 0 r.jobs r.given (new_job options job q (record r { positions = r.positions ++ q ∷ [] })) rise above);
   }
 
   modelled-moves : (o : Option SolverJob) (truths : List Bool) (r : PoolRecord) → Moves 0 r (modelled_by o truths r)
@@ -192,8 +192,7 @@ module _ (is_predicate : ℕ → Bool) (options : Options) where
       let found = first-passes (λ k. waits r k && is_awake r k) 0 (length r.registered) n (omega arith) (omega (arith, there)) (and_from (waits r n) (is_awake r n) waiting awake) in
       let choice : next_choice r ≡ Old = ap (λ b. if b then Old else Light) (eq-eqb (r.claims % 6) 5 last) in
       let same : q ≡ found.0 =
-      same_Some q found.0 (sym given ∙ ap (λ c. picked r c (ready r)) choice ∙ picked-old r (ready r) ∙ found.1) in
-      (
+      same_Some q found.0 (sym given ∙ ap (λ c. picked r c (ready r)) choice ∙ picked-old r (ready r) ∙ found.1) in (
         subst (λ k. k ≤ n) (sym same) found.2,
         subst (λ k. waits r k ≡ true) (sym same) (and_parts (waits r found.0) (is_awake r found.0) found.3).0,
       )
@@ -225,9 +224,9 @@ module _ (is_predicate : ℕ → Bool) (options : Options) where
           let given = some-given r (allowed.2) in
           falls-by-one (waiting (suc n) r) (waiting (suc n) (after options r (Claim job))) r.claims (after options r (Claim job)).claims
           (λ last.
-            let old = oldest r n given.0 last given.1 there was awake in
-            passing-fewer (waits r) (waits (after options r (Claim job))) (suc n) given.0 weaker (omega (arith, old.0)) old.1
-            (subst (λ o. waits (claimed_by options job o r) given.0 ≡ false) (sym given.1) (claimed-taken is_predicate options job given.0 r)))
+          let old = oldest r n given.0 last given.1 there was awake in
+          passing-fewer (waits r) (waits (after options r (Claim job))) (suc n) given.0 weaker (omega (arith, old.0)) old.1
+          (subst (λ o. waits (claimed_by options job o r) given.0 ≡ false) (sym given.1) (claimed-taken is_predicate options job given.0 r)))
           (passing-less (waits r) (waits (after options r (Claim job))) (suc n) weaker)
           claims
       by (Return batch) allowed kept claims weaker = plain (Return batch) claims weaker
@@ -264,13 +263,12 @@ module _ (is_predicate : ℕ → Bool) (options : Options) where
       let parts = or_parts (is_abandon e) (list_any is_abandon es) kept in
       let longer : length r.registered ≤ length (after options r e).registered = moved.clauses in
       let rest = all-falls n es (after options r e) lawful.1 (moved.rising rise) (omega (arith, there, longer)) (λ k. awake (suc k)) parts.1 waiting_then in
-      let was = event-busy is_predicate options 0 r.jobs n r e lawful.0 parts.0 rise there rest.0 in
-      (
+      let was = event-busy is_predicate options 0 r.jobs n r e lawful.0 parts.0 rise there rest.0 in (
         was,
         falls-together (claims_of e) (length (filter is_claim es)) (length (filter is_claim (e ∷ es)))
-        (waiting (suc n) r) (waiting (suc n) (after options r e)) (waiting (suc n) (later_of r (e ∷ es)))
-        (place r) (place (after options r e)) (place (later_of r (e ∷ es)))
-        (claims-count e es) (event-falls n r e lawful.0 parts.0 rise there (awake 0) was) rest.1,
+            (waiting (suc n) r) (waiting (suc n) (after options r e)) (waiting (suc n) (later_of r (e ∷ es)))
+            (place r) (place (after options r e)) (place (later_of r (e ∷ es)))
+            (claims-count e es) (event-falls n r e lawful.0 parts.0 rise there (awake 0) was) rest.1,
       )
 
   all-move : (es : List Event) (r : PoolRecord) → IsLawfulFrom is_predicate options r es → Rising 0 r.jobs r.given → Rising 0 (later_of r es).jobs (later_of r es).given
@@ -297,15 +295,15 @@ claimed_in_time is_predicate origin before later n lawful there stays kept many 
     subst (λ k. Rising 0 k (start origin).given) (sym begun.jobs) (subst (λ js. Rising 0 0 js) (sym begun.given) (omega arith)) in
     let rise : Rising 0 r.jobs r.given = all-move is_predicate origin.options before (start origin) parts.0 rise_then in
     false_from_ne_true (waits (replay origin (before ++ later)) n) (λ waiting_then.
-      let falls =
-      all-falls is_predicate origin.options n later r parts.1 rise there awake kept
-      (ap (λ s. waits s n) (sym (later-append is_predicate origin.options before later (start origin))) ∙ waiting_then) in
-      too-many n (length (filter is_claim later)) (passing (waits r) (suc n))
-      (passing (waits (fold (after origin.options) r later)) (suc n)) r.claims (fold (after origin.options) r later).claims
-      many (passing-bound (waits r) (suc n))
-      (passing-some (waits (fold (after origin.options) r later)) (suc n) n (omega arith)
-      (ap (λ s. waits s n) (sym (later-append is_predicate origin.options before later (start origin))) ∙ waiting_then))
-      falls.1)
+    let falls =
+    all-falls is_predicate origin.options n later r parts.1 rise there awake kept
+    (ap (λ s. waits s n) (sym (later-append is_predicate origin.options before later (start origin))) ∙ waiting_then) in
+    too-many n (length (filter is_claim later)) (passing (waits r) (suc n))
+    (passing (waits (fold (after origin.options) r later)) (suc n)) r.claims (fold (after origin.options) r later).claims
+    many (passing-bound (waits r) (suc n))
+    (passing-some (waits (fold (after origin.options) r later)) (suc n) n (omega arith)
+    (ap (λ s. waits s n) (sym (later-append is_predicate origin.options before later (start origin))) ∙ waiting_then))
+    falls.1)
   where
     r : PoolRecord
     r = replay origin before

@@ -170,8 +170,8 @@ module _ (is_predicate : ℕ → Bool) (options : Options) where
   void-busy job low high k j r rise found dead =
       back-busy job low high k j r rise found (without job r) refl
       (λ is waiting.
-        true≢false
-        (sym dead ∙ ap (is_dead r) (sym (eqb-true k j.number is)) ∙ living-not-dead r k (waiting-parts (without job r) k waiting).alive))
+      true≢false
+      (sym dead ∙ ap (is_dead r) (sym (eqb-true k j.number is)) ∙ living-not-dead r k (waiting-parts (without job r) k waiting).alive))
       (λ alive. alive) (λ idle. idle)
 
   retold-number : (job : ℕ) (r : PoolRecord) (j : GivenJob) → (if j.job == job then retold r j else j).number ≡ j.number

@@ -103,9 +103,9 @@ impl Pool {
         requires limit { IsLimit options }
         requires unsplit { options.split ≡ false }
         ensures { IfOk result (λ pool. pool ≡ record {
-            bank = identity bank.now;
-            origin = record { inputs = map clause_of inputs.now; options = options };
-            history = [];
+          bank = identity bank.now;
+          origin = record { inputs = map clause_of inputs.now; options = options };
+          history = [];
         }) }
     {
         let mut table = table;
@@ -178,7 +178,10 @@ impl Pool {
     fn heavy_place(&self) -> Option<usize>
         ensures { let r = replay self.now.origin self.now.history in result ≡ position (is_of_living r) r.set_aside }
     {
-        self.set_aside.as_slice().iter().position(|key| self.is_of_living(key))
+        self.set_aside
+            .as_slice()
+            .iter()
+            .position(|key| self.is_of_living(key))
     }
 
     /// Whether all premises of an inference live.
