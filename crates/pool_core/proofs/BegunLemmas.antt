@@ -1,19 +1,18 @@
 -- A pool as it begins: its fields are those of the record with the inputs.
-use Rattle.std.proofs.Common.{◌≡◌, ℕ, zero, suc, ◌+◌, ◌%◌, ◌<◌, ◌≤◌, Bool, true, false, not, ◌&&◌, ◌==◌, List, [], ◌∷◌, map, length, refl, ap, ap₂, sym, ◌∙◌, subst, arith}
-use Rattle.std.specs.Prelude.{Option, None, Some, cond, nat_lt, filter, fold, position, slice_get, take, unwrap_or, option_map, vec_len, vec_capacity, All}
-use Rattle.std.specs.List.{list_any, list_all, range_with_len}
+use Rattle.std.proofs.Common.{◌≡◌, ℕ, suc, ◌+◌, ◌%◌, ◌≤◌, Bool, true, false, ◌&&◌, ◌==◌, List, [], ◌∷◌, map, length, refl, ap, ap₂, sym, ◌∙◌, subst, arith}
+use Rattle.std.specs.Prelude.{Option, Some, filter, position, slice_get, unwrap_or, option_map, vec_len, vec_capacity, All}
+use Rattle.std.specs.List.{list_all, range_with_len}
 use Rattle.std.proofs.lemmas.Bool.{lt-ltb, cond-true}
-use Rattle.std.proofs.lemmas.Option.{none-some, same_Some, slice_get_within}
+use Rattle.std.proofs.lemmas.Option.{none-some, slice_get_within}
 use Rattle.plain_types.specs.declared.sequence.NameLit.{NameLit}
 use Rattle.fol_base.specs.Clause.{TreeClause, clause_size}
 use Rattle.fol_base.specs.Subsumption.{assertions}
 use Rattle.kernel_steps.specs.Conclusion.{empty_clause}
 use Rattle.kernel_steps.specs.Split.{has_number}
-use Rattle.kernel_steps.specs.declared.step.Line.{Line}
 use Rattle.sat_core.specs.Clause.{literal_true, valuation_of}
 use Rattle.term_bank.specs.declared.bank.Bank.{Bank}
 use Rattle.pool_core.specs.Tags.{name_of_tag}
-use Rattle.pool_core.specs.Record.{PoolRecord, Registered, clause_numbered, numbers_of, waits, lives, is_out, is_awake, is_awake_under, nothing_registered}
+use Rattle.pool_core.specs.Record.{PoolRecord, Registered, clause_numbered, waits, is_awake, is_awake_under, nothing_registered}
 use Rattle.pool_core.specs.Claiming.{ready}
 use Rattle.pool_core.specs.Registering.{with_inputs}
 use Rattle.pool_core.specs.Replay.{start, replay}
@@ -23,9 +22,8 @@ use Rattle.pool_core.specs.News.{changes_from}
 use Rattle.pool_core.specs.Inputs.{AreInputs, IsLimit}
 use Rattle.pool_core.specs.Lawful.{IsLawful}
 use Rattle.pool_core.specs.Started.{registered_at, IsOfTable, sized, IsFresh, at_start, IsStarted}
-use Rattle.pool_core.specs.State.{origin_of, IsRegistration, job_entry, pair_of, change_at, IsStateOf, HasNews, IsPool}
+use Rattle.pool_core.specs.State.{origin_of, job_entry, pair_of, change_at, IsStateOf, IsPool}
 use Rattle.pool_core.specs.declared.event.Event.{Event}
-use Rattle.pool_core.specs.declared.register.Registration.{Registration}
 use Rattle.pool_core.specs.declared.start.Start.{Start}
 use Rattle.pool_core.specs.declared.pool.Pool.TheInside.{Inside}
 use Rattle.pool_core.proofs.StartLemmas.{all-at}

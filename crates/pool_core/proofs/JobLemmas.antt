@@ -1,9 +1,9 @@
 -- The numbers of the jobs that are out rise, so each is of one job.
 use Rattle.std.proofs.Common.{◌≡◌, ℕ, ◌<◌, ◌≤◌, Bool, true, false, not, ◌==◌, List, [], ◌∷◌, ◌++◌, map, refl, ap, sym, ◌∙◌, subst, arith}
-use Rattle.std.specs.Prelude.{Option, None, Some, cond, find, filter}
+use Rattle.std.specs.Prelude.{Some, cond, find, filter}
 use Rattle.std.specs.List.{list_any}
 use Rattle.std.proofs.lemmas.Bool.{or_parts, or_from, eqb-true, ne_eqb, true≢false}
-use Rattle.std.proofs.lemmas.Option.{same_Some, none-some}
+use Rattle.std.proofs.lemmas.Option.{same_Some}
 use Rattle.pool_core.specs.Record.{GivenJob, without_job}
 
 -- the numbers rise, above the first number and up to the second

@@ -1,18 +1,15 @@
 -- What a pool's fields tell of living clauses and of its end.
-use Rattle.std.proofs.Common.{◌≡◌, ℕ, suc, ◌+◌, ◌<◌, Bool, true, false, not, ◌&&◌, ◌||◌, ◌==◌, List, [], ◌∷◌, map, length, refl, ap, sym, ◌∙◌, arith}
+use Rattle.std.proofs.Common.{◌≡◌, ℕ, suc, ◌+◌, Bool, true, false, not, ◌&&◌, ◌||◌, ◌==◌, List, [], ◌∷◌, map, length, refl, ap, sym, ◌∙◌, arith}
 use Rattle.std.specs.Prelude.{Option, None, Some, cond, nat_lt, is_none, is_some, find, position, slice_get, option_map, if◌then◌else◌}
-use Rattle.std.specs.List.{list_any}
 use Rattle.std.proofs.lemmas.Bool.{lt-ltb, le-ltb, ne_eqb, true≢false}
-use Rattle.std.proofs.lemmas.Option.{none-some, slice_get-map, slice_get_within}
+use Rattle.std.proofs.lemmas.Option.{slice_get-map, slice_get_within}
 use Rattle.fol_base.specs.Clause.{TreeClause}
 use Rattle.clause_queue.specs.declared.choice.Choice.{Choice}
 use Rattle.clause_queue.specs.declared.choice.Choice.TheVariants.{Light, Old}
-use Rattle.kernel_steps.specs.declared.key.Key.{Key}
 use Rattle.pool_core.specs.Record.{PoolRecord, Registered, Death, GivenJob, SolverJob, PropositionalClause, clause_numbered, has_died, lives, is_awake, jobs_out}
 use Rattle.pool_core.specs.Claiming.{ready, picked, next_choice, can_give}
 use Rattle.pool_core.specs.Solving.{must_solve}
 use Rattle.pool_core.specs.Outcomes.{is_at_rest, is_of_living, heavy_or_saturated, outcome_of, outcome_by}
-use Rattle.pool_core.specs.Answers.{death_of}
 use Rattle.pool_core.specs.Started.{registered_at}
 use Rattle.pool_core.specs.State.{IsStateOf, pair_of, job_entry}
 use Rattle.pool_core.specs.declared.outcome.Outcome.{Outcome}

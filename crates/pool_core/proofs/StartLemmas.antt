@@ -1,8 +1,8 @@
 -- What is registered before the first event.
-use Rattle.std.proofs.Common.{◌≡◌, ℕ, zero, suc, ◌+◌, ◌-◌, ◌<◌, ◌≤◌, Bool, true, false, not, ◌&&◌, ◌||◌, ◌==◌, List, [], ◌∷◌, ◌++◌, map, length, take, get_or, refl, ap, ap₂, sym, ◌∙◌, subst, ⊎_elim, arith}
+use Rattle.std.proofs.Common.{◌≡◌, ℕ, zero, suc, ◌+◌, ◌-◌, ◌<◌, ◌≤◌, Bool, true, false, not, ◌&&◌, ◌||◌, ◌==◌, List, [], ◌∷◌, ◌++◌, map, length, take, get_or, refl, ap, ap₂, sym, ◌∙◌, subst, arith}
 use Rattle.std.specs.Prelude.{Option, None, Some, cond, nat_lt, is_none, is_some, position, slice_get, unwrap_or, option_map, if◌then◌else◌, All, Contains}
 use Rattle.std.specs.List.{list_any, range_with_len, position_or_len}
-use Rattle.std.proofs.lemmas.Bool.{true≢false, and_parts, and_from, lt-ltb, le-ltb, or_parts, or_left, or_right, or_from, ne_eqb, false_from_ne_true, cond-true, cond-false}
+use Rattle.std.proofs.lemmas.Bool.{true≢false, and_parts, and_from, lt-ltb, le-ltb, or_parts, or_left, or_right, or_from, false_from_ne_true, cond-true, cond-false}
 use Rattle.std.proofs.lemmas.List.{length-append, length-map, length-take, map-append, take_more}
 use Rattle.std.proofs.lemmas.List.Elements.{All-nil, All-cons, All-contains, All-push, All-weaker, All-head, All-tail}
 use Rattle.std.proofs.lemmas.List.Quantifiers.{position-Some}
@@ -15,7 +15,6 @@ use Rattle.fol_base.specs.declared.clause.Clause.{Clause}
 use Rattle.kernel_steps.specs.Conclusion.{empty_clause}
 use Rattle.kernel_steps.proofs.SplitTests.{literals_eq-says}
 use Rattle.split_parts.specs.PartKeys.{literals_eq-refl}
-use Rattle.kernel_steps.specs.declared.step.Step.{Step}
 use Rattle.kernel_steps.specs.declared.step.Step.TheVariants.{Clausify}
 use Rattle.kernel_steps.specs.declared.step.Line.{Line}
 use Rattle.clause_queue.specs.Pairs.{with_pair}
@@ -30,7 +29,7 @@ use Rattle.bank_clause.proofs.EqualityLemmas.{same-are-equal}
 use Rattle.bank_clause.proofs.SidesLemmas.{known-literals-kept}
 use Rattle.pool_core.specs.Record.{PoolRecord, Registered, nothing_registered, has_living, lives, clause_numbered}
 use Rattle.pool_core.specs.Lines.{line_of, with_lines}
-use Rattle.pool_core.specs.Registering.{comes, unless_ended, with_propositional, has_none, registered_last, empty_comes, with_refutation, with_inputs}
+use Rattle.pool_core.specs.Registering.{comes, with_propositional, has_none, registered_last, empty_comes, with_refutation, with_inputs}
 use Rattle.pool_core.specs.Register.{is_living_copy}
 use Rattle.pool_core.specs.Tags.{line_names}
 use Rattle.pool_core.specs.Started.{registered_at, IsOfTable, sized, IsFresh, at_start, IsStarted, with_input}

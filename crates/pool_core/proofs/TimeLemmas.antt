@@ -1,21 +1,20 @@
 -- The bound on claims. What falls with each given claim is six times the number of first clauses that wait, less the place of the claim among
 -- six; the sixth takes the oldest.
-use Rattle.std.proofs.Common.{◌≡◌, ℕ, suc, ◌+◌, ◌*◌, ◌%◌, ◌<◌, ◌≤◌, Bool, true, false, ◌&&◌, ◌||◌, ◌==◌, List, [], ◌∷◌, ◌++◌, length, take, refl, ap, sym, ◌∙◌, subst, ⊎_elim, arith}
+use Rattle.std.proofs.Common.{◌≡◌, ℕ, suc, ◌+◌, ◌*◌, ◌%◌, ◌<◌, ◌≤◌, Bool, true, false, ◌&&◌, ◌==◌, List, [], ◌∷◌, ◌++◌, length, take, refl, ap, sym, ◌∙◌, subst, ⊎_elim, arith}
 use Rattle.std.specs.Prelude.{Option, None, Some, is_some, is_none, cond, fold, filter, if◌then◌else◌}
-use Rattle.std.specs.List.{list_any, range_with_len}
+use Rattle.std.specs.List.{list_any}
 use Rattle.std.proofs.lemmas.Bool.{true≢false, and_parts, and_from, or_parts, eq-eqb, cases_eq, false_from_ne_true}
 use Rattle.std.proofs.lemmas.List.{length-append}
-use Rattle.std.proofs.lemmas.Option.{same_Some, none-some}
-use Rattle.clause_queue.specs.declared.choice.Choice.{Choice}
+use Rattle.std.proofs.lemmas.Option.{same_Some}
 use Rattle.clause_queue.specs.declared.choice.Choice.TheVariants.{Light, Old}
 use Rattle.kernel_steps.specs.Split.{has_number}
 use Rattle.sat_core.specs.declared.answer.Chain as log
 use Rattle.pool_core.specs.Record.{PoolRecord, GivenJob, SolverJob, lives, waits, is_awake, given_job, without_job, nothing_registered}
-use Rattle.pool_core.specs.Returning.{becomes_active, worked, taken, returns_to, removed, dies}
+use Rattle.pool_core.specs.Returning.{becomes_active, worked, returns_to, removed}
 use Rattle.pool_core.specs.Solving.{modelled_by, refuted_by}
 use Rattle.pool_core.specs.Claiming.{ready, picked, next_choice, next_given, given_out, claimed_by, new_job}
-use Rattle.pool_core.specs.Replay.{Origin, after, start, replay, retold}
-use Rattle.pool_core.specs.Lawful.{IsAllowed, IsLawfulFrom, IsLawful}
+use Rattle.pool_core.specs.Replay.{after, start, replay, retold}
+use Rattle.pool_core.specs.Lawful.{IsAllowed, IsLawfulFrom}
 use Rattle.pool_core.specs.Laws.{is_claim, is_abandon, ClaimedInTime}
 use Rattle.pool_core.specs.declared.options.Options.{Options}
 use Rattle.pool_core.specs.declared.batch.Batch.{Batch}
@@ -24,10 +23,10 @@ use Rattle.pool_core.specs.declared.batch.Work.TheVariants.{Gone, Met}
 use Rattle.pool_core.specs.declared.event.Event.{Event}
 use Rattle.pool_core.specs.declared.event.Event.TheVariants.{Claim, Return, Stale, Void, ClaimSolve, ReturnModel, ReturnRefuted, Abandon}
 use Rattle.pool_core.proofs.FrameLemmas.{by-if, inputs-register}
-use Rattle.pool_core.proofs.GrowthLemmas.{Grows, grows-all, grows-then, dies-grows, removed-grows, met-grows, registers-grows}
+use Rattle.pool_core.proofs.GrowthLemmas.{Grows, grows-all, removed-grows, met-grows, registers-grows}
 use Rattle.pool_core.proofs.JobLemmas.{Rising, rising-filter, rising-end, rising-map, rising-high}
 use Rattle.pool_core.proofs.CountedClaims.{passing, passing-bound, passing-some, passing-less, passing-fewer, first_of, first-passes}
-use Rattle.pool_core.proofs.WaitLemmas.{claimed-busy, claimed-taken, claimed-claims, claimed-clauses, event-busy}
+use Rattle.pool_core.proofs.WaitLemmas.{claimed-taken, claimed-claims, claimed-clauses, event-busy}
 
 -- what an event leaves of claims, jobs and clauses
 pub record Moves (claims : ℕ) (r r' : PoolRecord) : Type 0 where

@@ -1,29 +1,27 @@
 -- No event but a job that is given up makes an older clause wait again, and a claim takes one of those that wait.
-use Rattle.std.proofs.Common.{◌≡◌, ℕ, ◌+◌, ◌<◌, ◌≤◌, Bool, true, false, not, ◌&&◌, ◌||◌, ◌==◌, List, [], ◌∷◌, ◌++◌, length, map, refl, ap, sym, ◌∙◌, subst, ⊎_elim, arith}
-use Rattle.std.specs.Prelude.{Option, None, Some, is_none, fold, filter, if◌then◌else◌}
-use Rattle.std.specs.List.{list_any, list_all}
-use Rattle.std.proofs.lemmas.Bool.{true≢false, or_parts, or_left, or_right, or_from, eqb-true, eq-eqb, cases_Bool}
+use Rattle.std.proofs.Common.{◌≡◌, ℕ, ◌+◌, ◌<◌, Bool, true, false, ◌||◌, ◌==◌, List, [], ◌∷◌, ◌++◌, length, map, refl, ap, sym, ◌∙◌, subst, ⊎_elim}
+use Rattle.std.specs.Prelude.{Option, None, Some, is_none, if◌then◌else◌}
+use Rattle.std.specs.List.{list_any}
+use Rattle.std.proofs.lemmas.Bool.{true≢false, or_parts, or_left, or_right, eqb-true, eq-eqb, cases_Bool}
 use Rattle.std.proofs.lemmas.List.Folds.{list_any-append}
 use Rattle.kernel_steps.specs.Split.{has_number}
 use Rattle.sat_core.specs.declared.answer.Chain as log
 use Rattle.pool_core.specs.Record.{PoolRecord, GivenJob, SolverJob, Death, clauses_of, lives, is_out, is_dead, waits, given_job, without_job}
-use Rattle.pool_core.specs.Counting.{counts, keys_of, lines_of_entries}
-use Rattle.pool_core.specs.Returning.{removed, dies, proposed, becomes_active, sets_aside, worked, taken, returns_to}
+use Rattle.pool_core.specs.Returning.{removed, dies, becomes_active, worked, returns_to}
 use Rattle.pool_core.specs.Solving.{modelled_by, refuted_by}
 use Rattle.pool_core.specs.Claiming.{new_job, given_out, claimed_by, next_given}
-use Rattle.pool_core.specs.Replay.{change_by, after, told_anew, retold}
+use Rattle.pool_core.specs.Replay.{after, told_anew, retold}
 use Rattle.pool_core.specs.Batches.{IsRightWork}
-use Rattle.pool_core.specs.Lawful.{IsTaken, IsAllowed}
+use Rattle.pool_core.specs.Lawful.{IsAllowed}
 use Rattle.pool_core.specs.Laws.{is_abandon}
 use Rattle.pool_core.specs.declared.options.Options.{Options}
 use Rattle.pool_core.specs.declared.batch.Batch.{Batch}
-use Rattle.pool_core.specs.declared.batch.Removal.{Removal}
 use Rattle.pool_core.specs.declared.batch.Work.{Work}
 use Rattle.pool_core.specs.declared.batch.Work.TheVariants.{Gone, Met}
 use Rattle.pool_core.specs.declared.event.Event.{Event}
 use Rattle.pool_core.specs.declared.event.Event.TheVariants.{Claim, Return, Stale, Void, ClaimSolve, ReturnModel, ReturnRefuted, Abandon}
 use Rattle.pool_core.proofs.FrameLemmas.{by-if}
-use Rattle.pool_core.proofs.GrowthLemmas.{Grows, grows-all, grows-then, counts-grows, all-proposed-grows, replaced-after-death, met-grows, IsWaiting, living-not-dead, waiting-parts, waiting-from, waits-before, lives-before}
+use Rattle.pool_core.proofs.GrowthLemmas.{Grows, grows-all, replaced-after-death, met-grows, living-not-dead, waiting-parts, waiting-from, waits-before, lives-before}
 use Rattle.pool_core.proofs.JobLemmas.{Rising, only-of-the-job}
 
 -- a clause of the first ones that waits after waited before

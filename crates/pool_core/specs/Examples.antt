@@ -6,7 +6,7 @@ use Rattle.fol_base.specs.Clause.{TreeLiteral, TreeClause}
 use Rattle.fol_base.specs.Examples.{x, a, b, c, f, p, q, q₂, r, equation, clause}
 use Rattle.fol_base.specs.declared.clause.Side.TheVariants.{Left}
 use Rattle.kernel_steps.specs.Derivation.{complement, negative_of}
-use Rattle.kernel_steps.specs.Examples.{not_p, not_q, not_true, with, opposites, components, four_clauses}
+use Rattle.kernel_steps.specs.Examples.{not_p, not_q, not_true, with, components, four_clauses}
 use Rattle.kernel_steps.specs.declared.step.TheConstants.{CLAUSE_NUMBERS}
 use Rattle.kernel_steps.specs.declared.step.Step.{Step}
 use Rattle.kernel_steps.specs.declared.step.Step.TheVariants.{Para, Refl}

@@ -1,7 +1,6 @@
 -- What is registered before the first event, and the record that it stands for. Only private functions cite this.
-use Rattle.std.specs.Prelude.{◌≡◌, ℕ, suc, Bool, false, List, [], ◌∷◌, map, length, Option, None, All}
+use Rattle.std.specs.Prelude.{◌≡◌, ℕ, suc, false, List, [], ◌∷◌, map, None, All}
 use Rattle.fol_base.specs.Clause.{TreeClause, clause_size}
-use Rattle.kernel_steps.specs.declared.step.Step.{Step}
 use Rattle.kernel_steps.specs.declared.step.Step.TheVariants.{Clausify}
 use Rattle.kernel_steps.specs.declared.step.Line.{Line}
 use Rattle.term_bank.specs.Literal.{AreLiteralsOf}

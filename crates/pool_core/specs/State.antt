@@ -1,5 +1,5 @@
 -- What a pool keeps: each field is what the replay of its history has.
-use Rattle.std.specs.Prelude.{◌≡◌, ℕ, ◌+◌, ◌<◌, ◌≤◌, ◌%◌, ◌==◌, Bool, false, List, [], ◌∷◌, map, length, take, position, slice_get, Option, None, Some, option_map, unwrap_or, vec_len, vec_capacity, All}
+use Rattle.std.specs.Prelude.{◌≡◌, ℕ, ◌+◌, ◌≤◌, ◌%◌, ◌==◌, false, List, [], map, length, take, position, slice_get, None, Some, option_map, unwrap_or, vec_len, vec_capacity, All}
 use Rattle.fol_base.specs.Clause.{TreeClause, clause_size}
 use Rattle.fol_base.specs.Literal.{clause_of}
 use Rattle.kernel_steps.specs.Conclusion.{empty_clause}
@@ -15,7 +15,6 @@ use Rattle.pool_core.specs.News.{TreeChange, activated, died, changes_from}
 use Rattle.pool_core.specs.Answers.{death_of}
 use Rattle.pool_core.specs.Inputs.{AreInputs, IsLimit, IsHistoryOf}
 use Rattle.pool_core.specs.Started.{registered_at, IsOfTable}
-use Rattle.pool_core.specs.declared.event.Event.{Event}
 use Rattle.pool_core.specs.declared.register.Registration.{Registration}
 use Rattle.pool_core.specs.declared.pool.Note.{Note}
 use Rattle.pool_core.specs.declared.pool.Note.TheVariants.{Activated, Died}

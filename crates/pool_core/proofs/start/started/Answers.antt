@@ -1,4 +1,4 @@
-use Rattle.std.proofs.Common.{◌≡◌, ◌≤◌, List, [], map, take, sym, subst, arith}
+use Rattle.std.proofs.Common.{◌≡◌, ◌≤◌, [], map, take, sym, subst, arith}
 use Rattle.std.specs.Prelude.{false}
 use Rattle.fol_base.specs.Canonical.{IsCanonical}
 use Rattle.fol_base.specs.Clause.{TreeClause, clause_size}

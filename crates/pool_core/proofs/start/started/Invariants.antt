@@ -1,4 +1,4 @@
-use Rattle.std.proofs.Common.{◌≡◌, ◌≤◌, List, [], map, length, take}
+use Rattle.std.proofs.Common.{◌≤◌, map, length, take}
 use Rattle.std.specs.Prelude.{false}
 use Rattle.fol_base.specs.Literal.{clause_of}
 use Rattle.term_bank.specs.Table.{IsTableOf}

@@ -1,4 +1,4 @@
-use Rattle.std.proofs.Common.{◌≡◌, ◌&&◌, ap, ◌∙◌}
+use Rattle.std.proofs.Common.{◌&&◌, ap, ◌∙◌}
 use Rattle.pool_core.specs.Record.{lives, is_awake}
 use Rattle.pool_core.specs.Replay.{replay}
 use Rattle.pool_core.specs.Events.{events_of}

@@ -1,5 +1,5 @@
-use Rattle.std.proofs.Common.{◌≡◌, ℕ, Bool, true, ◌==◌, List, [], ◌∷◌, ◌++◌, length, refl, sym, ap, ◌∙◌, arith}
-use Rattle.std.specs.Prelude.{Option, None, Some, false, position, slice_get}
+use Rattle.std.proofs.Common.{◌≡◌, ℕ, ◌==◌, List, [], ◌∷◌, ◌++◌, length, refl, sym, ap, ◌∙◌, arith}
+use Rattle.std.specs.Prelude.{None, Some, false}
 use Rattle.fol_base.specs.Clause.{clause_size}
 use Rattle.fol_base.specs.Literal.{clause_of}
 use Rattle.clause_queue.specs.Pairs.{with_pair}
@@ -8,12 +8,9 @@ use Rattle.kernel_steps.specs.declared.step.Step.TheVariants.{Clausify}
 use Rattle.bank_clause.specs.declared.clause.BankClause.{BankClause}
 use Rattle.term_bank.specs.declared.literal.BankLit.{BankLit}
 use Rattle.pool_core.specs.declared.outcome.Outcome.TheVariants.{Refuted}
-use Rattle.pool_core.specs.Record.{PoolRecord}
-use Rattle.pool_core.specs.Register.{is_living_copy}
-use Rattle.pool_core.specs.Started.{IsStarted}
 use Rattle.pool_core.specs.declared.register.Registration.{Registration}
 use Rattle.pool_core.specs.declared.start.Start.{Start}
-use Rattle.pool_core.proofs.StartLemmas.{passes-at, living-equal, no-outcome, no-literals, started-with, copy-of-bank, again, pushed-clause, pushed-empty, next-absent}
+use Rattle.pool_core.proofs.StartLemmas.{living-equal, no-outcome, no-literals, started-with, copy-of-bank, again, pushed-clause, pushed-empty, next-absent}
 use Rattle.pool_core.proofs.start.Start.add.Goals as goal
 
 pub agree-requires-clause-second : goal.agree-requires-clause-second
