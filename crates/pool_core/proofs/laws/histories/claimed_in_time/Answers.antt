@@ -1,0 +1,5 @@
+use Rattle.pool_core.proofs.TimeLemmas.{claimed_in_time}
+use Rattle.pool_core.proofs.laws.histories.claimed_in_time.Goals as goal
+
+pub returns : goal.returns
+returns c = claimed_in_time

@@ -1,0 +1,22 @@
+use Rattle.pool_core.proofs.MeetingExample.{r_stays}
+use Rattle.pool_core.proofs.GoingExample.{rewritten_goes}
+use Rattle.pool_core.proofs.LawfulExamples.{tautology_goes, subsumed_goes, given_up, solver_and_clause}
+use Rattle.pool_core.proofs.laws.lawful.lawful_examples.Goals as goal
+
+pub returns-clause-tautology : goal.returns-clause-tautology
+returns-clause-tautology c = tautology_goes
+
+pub returns-clause-subsumed : goal.returns-clause-subsumed
+returns-clause-subsumed c = subsumed_goes
+
+pub returns-clause-given_up : goal.returns-clause-given_up
+returns-clause-given_up c = given_up
+
+pub returns-clause-rewritten : goal.returns-clause-rewritten
+returns-clause-rewritten c = rewritten_goes
+
+pub returns-clause-solver_and_clause : goal.returns-clause-solver_and_clause
+returns-clause-solver_and_clause c = solver_and_clause
+
+pub returns-clause-stays : goal.returns-clause-stays
+returns-clause-stays c = r_stays

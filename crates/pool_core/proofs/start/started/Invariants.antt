@@ -1,0 +1,15 @@
+use Rattle.std.proofs.Common.{◌≤◌, map, length, take}
+use Rattle.std.specs.Prelude.{false}
+use Rattle.fol_base.specs.Literal.{clause_of}
+use Rattle.term_bank.specs.Table.{IsTableOf}
+use Rattle.pool_core.specs.Record.{nothing_registered}
+use Rattle.pool_core.specs.Registering.{with_inputs}
+use Rattle.pool_core.specs.Started.{IsStarted}
+use Rattle.pool_core.proofs.start.started.Given as goal
+
+abbrev pub invariant-loop-number : goal.invariant-loop-number
+invariant-loop-number g l = record {
+  table : IsTableOf l.bank l.table;
+  started : IsStarted l.bank l.table l.start (with_inputs false 0 (map clause_of (take l.number l.inputs)) nothing_registered);
+  few : length l.start.register ≤ l.number;
+}

@@ -1,0 +1,62 @@
+-- Laws of lawful histories, for every list of events.
+use Rattle.std.specs.Prelude.{◌≡◌, ℕ, ◌+◌, ◌*◌, ◌<◌, ◌≤◌, Bool, true, false, not, ◌&&◌, ◌==◌, nat_lt, List, [], ◌∷◌, ◌++◌, length, take, Some, filter, IsTrue, IsFalse}
+use Rattle.std.specs.List.{list_any, list_all}
+use Rattle.pool_core.specs.Record.{Death, has_died, lives, waits, is_awake}
+use Rattle.pool_core.specs.Replay.{Origin, replay}
+use Rattle.pool_core.specs.Lawful.{IsLawful}
+use Rattle.pool_core.specs.declared.event.Event.{Event}
+use Rattle.pool_core.specs.declared.event.Event.TheVariants.{Claim, Abandon}
+use Rattle.pool_core.specs.declared.outcome.Outcome.TheVariants.{Spent}
+
+-- ---- claims
+
+abbrev pub is_claim : Event → Bool
+is_claim (Claim job) = true
+is_claim e = false
+
+abbrev pub is_abandon : Event → Bool
+is_abandon (Abandon job) = true
+is_abandon e = false
+
+-- A registered clause that stays awake and alive, and has m older ones, is claimed within 6(m + 1) given claims, while no claim is given up:
+-- it doesn't wait after them.
+abbrev pub ClaimedInTime : Type 0
+ClaimedInTime =
+    (is_predicate : ℕ → Bool) (origin : Origin) (before later : List Event) (n : ℕ)
+    → IsLawful is_predicate origin (before ++ later) → n < length (replay origin before).registered
+    → ((k : ℕ) → IsTrue (lives (replay origin (before ++ take k later)) n && is_awake (replay origin (before ++ take k later)) n))
+    → IsFalse (list_any is_abandon later) → 6 * (n + 1) ≤ length (filter is_claim later)
+    → IsFalse (waits (replay origin (before ++ later)) n)
+
+-- ---- the count
+
+-- Spent carries the length of the counted list, which has reached the limit: so for every list of events, lawful or not.
+abbrev pub SpentIsTheCount : Type 0
+SpentIsTheCount =
+    (origin : Origin) (history : List Event) (count : ℕ)
+    → (replay origin history).ended ≡ Some (Spent count)
+    → (count ≡ length (replay origin history).counted) × (origin.options.inferences ≤ count)
+
+-- ---- deaths
+
+-- The victim didn't die before, its justifiers are other clauses, and none of them died before.
+abbrev pub is_justified : List Death → Death → Bool
+is_justified earlier d =
+    not (has_died earlier d.victim) && list_all (λ n. not (n == d.victim) && not (has_died earlier n)) d.justifiers
+
+abbrev pub are_justified : List Death → List Death → Bool
+are_justified earlier [] = true
+are_justified earlier (d ∷ ds) = is_justified earlier d && are_justified (earlier ++ d ∷ []) ds
+
+-- the victim and the justifiers are below a count of clauses, the event below a count of events
+abbrev pub is_known : ℕ → ℕ → Death → Bool
+is_known clauses events d =
+    nat_lt d.event events && (nat_lt d.victim clauses && list_all (λ n. nat_lt n clauses) d.justifiers)
+
+-- So a clause dies once, by other clauses alone, which die later or never.
+abbrev pub DeathsAreJustified : Type 0
+DeathsAreJustified =
+    (is_predicate : ℕ → Bool) (origin : Origin) (history : List Event)
+    → IsLawful is_predicate origin history
+    → let r = replay origin history in
+    IsTrue (are_justified [] r.deaths) × IsTrue (list_all (is_known (length r.registered) (length history)) r.deaths)

@@ -1,0 +1,91 @@
+-- What a pool keeps: each field is what the replay of its history has.
+use Rattle.std.specs.Prelude.{◌≡◌, ℕ, ◌+◌, ◌≤◌, ◌%◌, ◌==◌, false, List, [], map, length, take, position, slice_get, None, Some, option_map, unwrap_or, vec_len, vec_capacity, All}
+use Rattle.fol_base.specs.Clause.{TreeClause, clause_size}
+use Rattle.fol_base.specs.Literal.{clause_of}
+use Rattle.kernel_steps.specs.Conclusion.{empty_clause}
+use Rattle.kernel_steps.specs.Split.{has_number}
+use Rattle.kernel_steps.specs.declared.step.Line.{Line}
+use Rattle.bank_clause.specs.Clause.{clause_at}
+use Rattle.pool_core.specs.View.{PoolView}
+use Rattle.pool_core.specs.Events.{events_of}
+use Rattle.pool_core.specs.Record.{PoolRecord, Registered, GivenJob, clause_numbered}
+use Rattle.pool_core.specs.Claiming.{ready}
+use Rattle.pool_core.specs.Replay.{Origin, start, replay}
+use Rattle.pool_core.specs.News.{TreeChange, activated, died, changes_from}
+use Rattle.pool_core.specs.Answers.{death_of}
+use Rattle.pool_core.specs.Inputs.{AreInputs, IsLimit, IsHistoryOf}
+use Rattle.pool_core.specs.Started.{registered_at, IsOfTable}
+use Rattle.pool_core.specs.declared.register.Registration.{Registration}
+use Rattle.pool_core.specs.declared.pool.Note.{Note}
+use Rattle.pool_core.specs.declared.pool.Note.TheVariants.{Activated, Died}
+use Rattle.pool_core.specs.declared.pool.OutJob.{OutJob}
+use Rattle.pool_core.specs.declared.pool.Pool.TheInside.{Inside}
+
+abbrev pub origin_of : Inside → Origin
+origin_of a = record { inputs = map clause_of a.inputs.value; options = a.options }
+
+abbrev pub view_of : Inside → PoolView
+view_of a = record { bank = a.table.bank; origin = origin_of a; history = events_of a.history }
+
+-- ---- parts
+
+-- what became of the clause of a number
+pub record IsRegistration (r : PoolRecord) (n : ℕ) (s : Registration) : Type 0 where
+  pub position : s.position ≡ position (λ m. n == m) r.positions
+  pub death : s.death ≡ death_of r n
+  pub active : s.is_active ≡ has_number n r.active
+
+-- a job that is out, by its number
+abbrev pub job_entry : GivenJob → ℕ × OutJob
+job_entry j = (j.job, record { number = j.number; left = j.left })
+
+-- a clause that waits, with its size
+abbrev pub pair_of : PoolRecord → ℕ → ℕ × ℕ
+pair_of r n = (n, clause_size (clause_numbered r n))
+
+abbrev pub clause_in : List Registration → ℕ → TreeClause
+clause_in ss n = unwrap_or (option_map (λ (s : Registration). clause_at s.clause) (slice_get ss n)) empty_clause
+
+abbrev pub change_at : List Registration → Note → TreeChange
+change_at ss (Activated n) = activated n (clause_in ss n)
+change_at ss (Died n) = died n
+
+-- ---- the whole
+
+-- the fields are those of the record
+pub record IsStateOf (a : Inside) (r : PoolRecord) : Type 0 where
+  pub registered : map registered_at a.register ≡ r.registered
+  pub of_table : All (IsOfTable a.table.bank a.table) a.register
+  pub registrations : (n : ℕ) (s : Registration) → slice_get a.register n ≡ Some s → IsRegistration r n s
+  pub positions : a.positions.items ≡ r.positions
+  pub queue : a.queue.pairs ≡ map (pair_of r) (ready r)
+  pub jobs : a.jobs.entries ≡ map job_entry r.given
+  pub steps : a.steps.items ≡ map (λ (l : Line). l.step) r.lines
+  pub counted : a.counted ≡ r.counted
+  pub set_aside : a.set_aside ≡ r.set_aside
+  pub ended : a.ended ≡ r.ended
+  pub last_job : a.last_job ≡ r.jobs
+  pub place : a.place ≡ r.claims % 6
+  -- nothing is split
+  pub no_propositional : r.propositional ≡ []
+  pub no_solver : r.solver ≡ None
+  pub no_names : All (λ (c : Registered). c.clause.names ≡ []) r.registered
+  -- there is room for what a job that is given up needs
+  pub queue_room : length r.given ≤ a.queue.spare
+  pub history_room : vec_len a.history.events + length r.given ≤ vec_capacity a.history.events
+
+-- the activations and deaths of the history, with how many came before each event
+pub record HasNews (a : Inside) : Type 0 where
+  pub all : map (change_at a.register) a.notes.items ≡ changes_from a.options (start (origin_of a)) (events_of a.history)
+  pub count : length a.notes_before.items ≡ length (events_of a.history)
+  pub before :
+      (k n : ℕ) → slice_get a.notes_before.items k ≡ Some n
+      → n ≡ length (changes_from a.options (start (origin_of a)) (take k (events_of a.history)))
+
+pub record IsPool (a : Inside) : Type 0 where
+  pub inputs : AreInputs (origin_of a).inputs
+  pub limit : IsLimit a.options
+  pub unsplit : a.options.split ≡ false
+  pub lawful : IsHistoryOf (origin_of a) (events_of a.history)
+  pub state : IsStateOf a (replay (origin_of a) (events_of a.history))
+  pub news : HasNews a

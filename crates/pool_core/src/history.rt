@@ -1,0 +1,53 @@
+// The history of a pool, as contracts see it.
+
+ghost use Rattle.std.specs.Prelude.{◌≡◌, ◌+◌, ◌<◌, ◌≤◌, ◌++◌, [], ◌∷◌, length, vec_len, vec_capacity, OnOk};
+ghost use Rattle.pool_core.specs.Events.{events_of};
+
+use crate::event::Event;
+use plain_types::Mem;
+use std::alloc::Global;
+use std::snapshot::Snapshot;
+
+/// The events of a pool, in order. What they hold stands in the pool's clauses, lines and keys and isn't kept twice: contracts alone see
+/// of an event more than that it happened.
+#[derive(Drop)]
+pub struct History {
+    pub(crate) events: Vec<Snapshot<Event>>,
+}
+
+impl History {
+    /// No events.
+    pub(crate) fn new(alloc: Global) -> History
+        ensures { events_of result ≡ [] }
+    {
+        History {
+            events: Vec::new(alloc),
+        }
+    }
+
+    /// How many events there were.
+    pub fn len(&self) -> u64
+        ensures { result ≡ length (events_of self.now) }
+    {
+        self.events.len() as u64
+    }
+
+    /// Makes room for so many more events, and leaves the events as they are.
+    pub(crate) fn reserve(&mut self, more: usize) -> Mem<()>
+        ensures events { events_of self.new ≡ events_of self.old }
+        ensures room { OnOk result (vec_len self.new.events + more ≤ vec_capacity self.new.events) }
+    {
+        self.events.reserve(more)?;
+        Ok(())
+    }
+
+    /// Adds an event. There is room for it.
+    pub(crate) fn push(&mut self, event: &Event)
+        requires { vec_len self.old.events < vec_capacity self.old.events }
+        ensures events { events_of self.new ≡ events_of self.old ++ event.now ∷ [] }
+        ensures len { vec_len self.new.events ≡ vec_len self.old.events + 1 }
+        ensures room { vec_capacity self.new.events ≡ vec_capacity self.old.events }
+    {
+        self.events.push_reserved(Snapshot::of(event));
+    }
+}

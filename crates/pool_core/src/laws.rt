@@ -1,0 +1,21 @@
+// Worked examples of the definitions: each is the contract of a function without arguments and with an empty body.
+
+mod claiming;
+mod components;
+mod counting;
+mod histories;
+mod lawful;
+mod resolving;
+mod rewriting;
+mod splitting;
+mod stale;
+
+pub use claiming::{answer_examples, claim_examples, given_up_examples};
+pub use components::{component_examples, line_name_examples};
+pub use counting::{after_spent_examples, heavy_examples, spent_examples};
+pub use histories::{claimed_in_time, deaths_are_justified, spent_is_the_count};
+pub use lawful::{lawful_examples, unlawful_examples};
+pub use resolving::{cut_unit, resolved_units};
+pub use rewriting::rewritten_unit;
+pub use splitting::{denied_parts, shared_names, sleeping_part};
+pub use stale::stale_return;

@@ -1,0 +1,22 @@
+// The pool of clauses: what is claimed and returned, and what the history of it amounts to.
+#![tactic(auto)]
+
+mod batch;
+mod event;
+mod history;
+mod options;
+mod outcome;
+mod pool;
+mod register;
+mod start;
+mod ticket;
+
+pub use batch::{Batch, Entry, Fate, MetEntries, Redundancy, Removal, Removals, Work};
+pub use event::Event;
+pub use history::History;
+pub use options::Options;
+pub use outcome::Outcome;
+pub use pool::{Keys, Pool};
+pub use ticket::{Back, Change, Claimed, News, PropTicket, Ticket};
+
+pub mod laws;

@@ -1,0 +1,214 @@
+// The pool of clauses: how it begins, and what it tells of itself.
+
+ghost use Rattle.std.specs.Prelude.{◌≡◌, ◌<◌, ◌&&◌, [], false, length, map, position, slice_get, Some, IfOk};
+ghost use Rattle.fol_base.specs.Literal.{clause_of};
+ghost use Rattle.term_bank.specs.Bank.{identity};
+ghost use Rattle.term_bank.specs.Table.{IsTableOf};
+ghost use Rattle.pool_core.specs.Events.{events_of};
+ghost use Rattle.pool_core.specs.Inputs.{AreInputs, IsLimit, IsHistoryOf};
+ghost use Rattle.pool_core.specs.Outcomes.{is_of_living, outcome_of};
+ghost use Rattle.pool_core.specs.Record.{is_awake, lives};
+ghost use Rattle.pool_core.specs.Replay.{replay};
+
+use crate::history::History;
+use crate::options::Options;
+use crate::outcome::Outcome;
+use crate::register::Register;
+use crate::start::{Start, started};
+use clause_queue::Queue;
+use fol_base::Clauses;
+use kernel_steps::{Key, Step};
+use plain_types::{Mem, Sequence};
+use std::alloc::Global;
+use std::collections::BTreeMap;
+use std::marker::Model;
+use std::snapshot::Snapshot;
+use std::sync::Wait;
+use term_bank::{Bank, Table};
+
+/// Names of inferences, in order.
+pub type Keys = Sequence<Key>;
+
+/// A job on a given clause that is out.
+#[derive(Clone, Copy)]
+pub struct OutJob {
+    pub(crate) number: u32,
+    /// With so many entries a batch may stop.
+    pub(crate) left: u32,
+}
+
+/// An activation or a death, by the number of the clause.
+#[derive(Clone, Copy)]
+pub enum Note {
+    Activated(u32),
+    Died(u32),
+}
+
+/// A pool of clauses. Contracts see which bank it is of, what it began with, and its history: the list of its events, which is lawful. All
+/// that it answers follows from these.
+#[derive(Drop)]
+pub struct Pool {
+    inputs: Snapshot<Clauses>,
+    options: Options,
+    table: Table,
+    register: Register,
+    /// The activated clauses, by their positions.
+    positions: Vec<u32>,
+    /// The clauses that wait and are awake, with their sizes. It has room for those whose jobs are out.
+    queue: Queue,
+    /// The jobs on given clauses that are out, by their numbers.
+    jobs: BTreeMap<u64, OutJob>,
+    /// It has room for an event of each job that is out.
+    history: History,
+    /// All activations and deaths, and for each event how many came before it.
+    notes: Vec<Note>,
+    notes_before: Vec<usize>,
+    /// The steps of the lines.
+    steps: Vec<Step>,
+    counted: Keys,
+    set_aside: Keys,
+    /// Refuted or spent.
+    ended: Option<Outcome>,
+    last_job: u64,
+    /// The place of the next given claim among six.
+    place: u64,
+}
+
+impl Model for Pool {
+    ghost use Rattle.pool_core.specs.View.{PoolView, view_code};
+
+    ghost Value = { PoolView };
+
+    ghost coded = { view_code };
+
+    ghost use Rattle.pool_core.specs.State.{view_of, IsPool};
+
+    ghost view = { view_of };
+
+    ghost invariant = { IsPool };
+}
+
+impl Pool {
+    /// A pool of the inputs, which are registered in order. The empty clause among them refutes the pool.
+    pub fn new<R: Wait>(
+        rt: &R,
+        alloc: Global,
+        bank: &Bank,
+        table: Table,
+        inputs: &Clauses,
+        options: Options,
+    ) -> Mem<Pool>
+        requires table { IsTableOf bank.now table }
+        requires inputs { AreInputs (map clause_of inputs.now) }
+        requires limit { IsLimit options }
+        requires unsplit { options.split ≡ false }
+        ensures { IfOk result (λ pool. pool ≡ record {
+          bank = identity bank.now;
+          origin = record { inputs = map clause_of inputs.now; options = options };
+          history = [];
+        }) }
+    {
+        let mut table = table;
+        let start = started(rt, alloc, bank, &mut table, inputs.as_slice())?;
+        let Start {
+            register,
+            queue,
+            steps,
+            ended,
+        } = start;
+        Ok(Pool {
+            inputs: Snapshot::of(inputs),
+            options,
+            table,
+            register,
+            positions: Vec::new(alloc),
+            queue,
+            jobs: BTreeMap::new(alloc),
+            history: History::new(alloc),
+            notes: Vec::new(alloc),
+            notes_before: Vec::new(alloc),
+            steps,
+            counted: Keys::new(alloc),
+            set_aside: Keys::new(alloc),
+            ended,
+            last_job: 0,
+            place: 0,
+        })
+    }
+
+    /// The options that it began with.
+    pub fn options(&self) -> Options
+        ensures { result ≡ self.now.origin.options }
+    {
+        self.options
+    }
+
+    /// How many inferences were counted.
+    pub fn counted(&self) -> u64
+        ensures { result ≡ length (replay self.now.origin self.now.history).counted }
+    {
+        self.counted.len() as u64
+    }
+
+    /// The name of the inference at a place among those that were set aside as too heavy.
+    pub fn heavy_key(&self, place: u64) -> &Key
+        requires { place < length (replay self.now.origin self.now.history).set_aside }
+        ensures { slice_get (replay self.now.origin self.now.history).set_aside place ≡ Some result.now }
+    {
+        &self.set_aside.as_slice()[place as usize]
+    }
+
+    /// How the pool ends, or None while there is something to do.
+    pub fn outcome(&self) -> Option<Outcome>
+        ensures { result ≡ outcome_of (replay self.now.origin self.now.history) }
+    {
+        if self.ended.is_some() {
+            return self.ended;
+        }
+        if !self.queue.is_empty() || !self.jobs.is_empty() {
+            return None;
+        }
+        match self.heavy_place() {
+            Some(place) => Some(Outcome::Heavy(place as u64)),
+            None => Some(Outcome::Saturated),
+        }
+    }
+
+    /// The place of the first inference that was set aside and whose premises live.
+    fn heavy_place(&self) -> Option<usize>
+        ensures { let r = replay self.now.origin self.now.history in result ≡ position (is_of_living r) r.set_aside }
+    {
+        self.set_aside
+            .as_slice()
+            .iter()
+            .position(|key| self.is_of_living(key))
+    }
+
+    /// Whether all premises of an inference live.
+    fn is_of_living(&self, key: &Key) -> bool
+        ensures { result ≡ is_of_living (replay self.now.origin self.now.history) key.now }
+    {
+        match key {
+            Key::Para { first, second, .. } => self.is_living(*first) && self.is_living(*second),
+            Key::Refl { clause, .. } | Key::Factor { clause, .. } | Key::Replaced(clause) => {
+                self.is_living(*clause)
+            }
+        }
+    }
+
+    /// Whether the clause of a number lives. All clauses are awake, since none has assertions.
+    fn is_living(&self, number: u32) -> bool
+        ensures { let r = replay self.now.origin self.now.history in result ≡ (lives r number && is_awake r number) }
+    {
+        let number = number as usize;
+        number < self.register.len() && self.register.get(number).death.is_none()
+    }
+
+    /// The events so far. They are lawful.
+    pub fn history(&self) -> &History
+        ensures events { events_of result.now ≡ self.now.history }
+        ensures lawful { IsHistoryOf self.now.origin self.now.history }
+    {
+        &self.history
+    }
+}
