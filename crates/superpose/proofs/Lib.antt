@@ -1,0 +1,6 @@
+pub mod ApartLemmas
+pub mod AllowLemmas
+pub mod KindLemmas
+pub mod PlaceLemmas
+pub mod TermsLemmas
+pub mod SuperposeLemmas

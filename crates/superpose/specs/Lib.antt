@@ -1,0 +1,4 @@
+pub mod Sites
+pub mod Superposing
+pub mod Concluding
+pub mod Pairing
