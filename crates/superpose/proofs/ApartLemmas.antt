@@ -1,10 +1,10 @@
 -- Terms for the first variables of two sides, most general among all that unify two trees of different variables, with their variables
 -- numbered anew, make a most general unifier: beyond them each variable of a side becomes one that is new.
-use Rattle.std.proofs.Common.{◌≡◌, ℕ, ◌+◌, ◌*◌, ◌-◌, ◌/◌, ◌%◌, ◌<◌, ◌≤◌, true, false, ◌==◌, nat_lt, get_or, if◌then◌else◌, Option, List, [], ◌∷◌, length, refl, ap, ap₂, sym, ◌∙◌, inl, inr, arith}
+use Rattle.std.proofs.Common.{◌≡◌, ℕ, suc, ◌+◌, ◌*◌, ◌-◌, ◌/◌, ◌%◌, ◌<◌, ◌≤◌, true, false, ◌==◌, nat_lt, get_or, if◌then◌else◌, Option, None, Some, List, [], ◌∷◌, length, refl, ap, ap₂, sym, ◌∙◌, inl, inr, ⊎_elim, arith}
 use Rattle.std.specs.Prelude.{unwrap_or, flat_map}
 use Rattle.std.specs.List.{AllByRecursion}
-use Rattle.std.specs.Option.{is_some}
-use Rattle.std.proofs.lemmas.Bool.{cond-true, cond-false, eq-eqb, eqb-true, false_from_ne_true, lt-ltb, ltb-true, cases_lt}
+use Rattle.std.specs.Option.{is_some, option_map}
+use Rattle.std.proofs.lemmas.Bool.{true≢false, cases_Bool, cond-true, cond-false, eq-eqb, eqb-true, false_from_ne_true, lt-ltb, ltb-true, cases_lt}
 use Rattle.fol_base.specs.Tree.{Tree, variable, tree_variables, trees_variables, trees_of, VariablesBelow}
 use Rattle.fol_base.specs.Instance.{Substitution, instance, substitution}
 use Rattle.fol_base.specs.InstanceLaws.{after}
@@ -14,7 +14,7 @@ use Rattle.fol_base.specs.Canonical.{place_of, renaming}
 use Rattle.fol_base.specs.Unifier.{IsUnifierApart, IsMostGeneralUnifierApart}
 use Rattle.fol_base.proofs.InstanceLemmas.{Agree, instance-agree, instances_of_instances, instances_agree_below, literals_instance-again}
 use Rattle.eq_rules.proofs.PremiseLemmas.{has-literals}
-use Rattle.eq_rules.proofs.WideLemmas.{Has, Has-item, place_found, numbered, literals_back, literals-below}
+use Rattle.eq_rules.proofs.WideLemmas.{Has, Has-item, numbered, literals_back, literals-below}
 
 -- terms for the first variables of each side that make two trees equal, and after which every two substitutions go on that do so
 pub record IsGeneralApart (s : Tree) (t : Tree) (left : List Tree) (right : List Tree) : Type 0 where
@@ -66,6 +66,24 @@ module _ (fresh : ℕ → ℕ) (order : List ℕ) (terms : List Tree) where
   wide_by-back ls has all =
       ap (literals_instance (numbered order)) (wide_by-literals ls all)
       ∙ literals_back order (literals_instance (substitution terms) ls) (has-literals order terms ls has all)
+
+-- a variable that has a number stands at that place
+some_mapped : (o : Option ℕ) → is_some (option_map suc o) ≡ true → is_some o ≡ true
+some_mapped None h = h
+some_mapped (Some k) h = refl
+
+place_found :
+    (v : ℕ) (ws : List ℕ) → is_some (place_of v ws) ≡ true
+    → (k : ℕ) × (place_of v ws ≡ Some k) × (k < length ws) × ((d : ℕ) → get_or ws k d ≡ v)
+place_found v [] h = absurd (true≢false (sym h))
+place_found v (w ∷ ws) h =
+    ⊎_elim
+    (λ e. (0, cond-true (v == w) (Some 0) (option_map suc (place_of v ws)) e, omega arith, λ d. sym (eqb-true v w e)))
+    (λ e.
+    let later : place_of v (w ∷ ws) ≡ option_map suc (place_of v ws) = cond-false (v == w) (Some 0) (option_map suc (place_of v ws)) e in
+    let found = place_found v ws (some_mapped (place_of v ws) (sym (ap is_some later) ∙ h)) in
+    (suc found.0, later ∙ ap (option_map suc) found.1, omega (arith, found.2), found.3))
+    (cases_Bool (v == w))
 
 -- what goes on from it: from the numbers as from the variables, and from the new variables as they become
 abbrev onward : List ℕ → Substitution → Substitution → Substitution

@@ -3,4 +3,6 @@ pub mod AllowLemmas
 pub mod KindLemmas
 pub mod PlaceLemmas
 pub mod TermsLemmas
+pub mod NumberingLemmas
+pub mod StepLemmas
 pub mod SuperposeLemmas

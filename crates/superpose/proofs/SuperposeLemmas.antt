@@ -50,16 +50,8 @@ use Rattle.superpose.specs.declared.sites.LiteralPlace.{LiteralPlace}
 use Rattle.superpose.proofs.AllowLemmas.{Allowed, allows-parts, allows-from, allowed_lifts, coincide_says, named-allowed}
 use Rattle.superpose.proofs.ApartLemmas.{wide_by, left_fresh, right_fresh, wide_by-literals, wide_by-back, wide_apart}
 use Rattle.superpose.proofs.KindLemmas.{kinds-alike}
-use Rattle.superpose.proofs.PlaceLemmas.{trees_variables-listed}
+use Rattle.superpose.proofs.StepLemmas.{appended_variables}
 use Rattle.superpose.proofs.TermsLemmas.{left-many, right-many, left-below, right-below, s-below, old-below, general, left-size, right-size, plain, superposition_gives, plain_size}
-
--- ---- lists of terms one after another
-
-appended_variables :
-    (left right : List Tree) → trees_variables (trees_of (left ++ right)) ≡ trees_variables (trees_of left) ++ trees_variables (trees_of right)
-appended_variables left right =
-    trees_variables-listed (left ++ right) ∙ flat_map-append tree_variables left right
-    ∙ ap₂ ◌++◌ (sym (trees_variables-listed left)) (sym (trees_variables-listed right))
 
 -- ---- the verdict
 

@@ -1,5 +1,5 @@
 -- Two premises under the terms that a most general unifier gives for their variables: what the rule gives, and its size.
-use Rattle.std.proofs.Common.{◌≡◌, ℕ, ◌+◌, ◌*◌, ◌<◌, true, false, Option, Some, List, [], ◌∷◌, ◌++◌, length, get_or, refl, ap, ap₂, sym, ◌∙◌, subst, arith}
+use Rattle.std.proofs.Common.{◌≡◌, ℕ, zero, suc, ◌+◌, ◌*◌, ◌<◌, true, false, Option, Some, List, [], ◌∷◌, ◌++◌, length, get_or, refl, ap, ap₂, sym, ◌∙◌, subst, arith}
 use Rattle.std.specs.Prelude.{sum_by, slice_get, slice_set, remove}
 use Rattle.std.specs.List.{AllByRecursion}
 use Rattle.std.proofs.lemmas.Bool.{true≢false, and_parts, not-true}
@@ -36,7 +36,7 @@ use Rattle.superpose.proofs.PlaceLemmas.{replaced-there, replaced-size}
 
 item-below : (n k : ℕ) (ts : Trees) (a : Tree) → slice_get (list_of ts) k ≡ Some a → AllVariablesBelow n ts → VariablesBelow n a
 item-below n k no_trees a there below = absurd (cc)
-item-below n 0 (tree_then t ts) a there below = subst (λ (u : Tree). VariablesBelow n u) (same_Some t a there) below.0
+item-below n zero (tree_then t ts) a there below = subst (λ (u : Tree). VariablesBelow n u) (same_Some t a there) below.0
 item-below n (suc k) (tree_then t ts) a there below = item-below n k ts a there below.1
 
 argument-below : (n k : ℕ) (t a : Tree) → argument k t ≡ Some a → VariablesBelow n t → VariablesBelow n a
@@ -147,13 +147,13 @@ module _
       ∙ subterms_of_instances τ t.place (side_of t.at.side m) r.enters.old r.enters.old_there
       ∙ ap (λ u. let o : Option Tree = Some u in o) old_is
 
-  made : (new : Tree) × (replaced t.place (other_side_of s.side (literal_instance σ l)) (side_of t.at.side (literal_instance τ m)) ≡ Some new)
-  made =
+  pub new_side : (new : Tree) × (replaced t.place (other_side_of s.side (literal_instance σ l)) (side_of t.at.side (literal_instance τ m)) ≡ Some new)
+  new_side =
       replaced-there t.place (other_side_of s.side (literal_instance σ l)) (side_of t.at.side (literal_instance τ m))
       (side_of s.side (literal_instance σ l)) old_there
 
   abbrev target : TreeLiteral
-  target = with_side t.at.side made.0 (literal_instance τ m)
+  target = with_side t.at.side new_side.0 (literal_instance τ m)
 
   abbrev pub plain : List TreeLiteral
   plain = slice_set (literals_instance τ d.literals) t.at.literal target ++ remove (literals_instance σ c.literals) s.literal
@@ -171,8 +171,8 @@ module _
               positive = r.starts.positive;
               no_truth = ap is_truth (sym old_is) ∙ instance-no_truth τ r.enters.old r.enters.no_variable old-no_truth;
               old_there = old_there;
-              new = made.0;
-              new_made = made.1;
+              new = new_side.0;
+              new_made = new_side.1;
               gives = refl;
             });
         gives = refl;
@@ -199,8 +199,8 @@ module _
       let from_read : literal_size (get_or ls s.literal from) ≡ literal_size from =
       ap literal_size (get_or_from_slice_get ls s.literal from from from_there) in
       let from_sides : literal_size from ≡ tree_size (side_of s.side from) + tree_size (other_side_of s.side from) = sides-size s.side from in
-      let target_sides = with_side-size t.at.side made.0 into in
-      let inner : tree_size made.0 + tree_size (side_of s.side from) ≡ tree_size (side_of t.at.side into) + tree_size (other_side_of s.side from) =
-      replaced-size t.place (other_side_of s.side from) (side_of t.at.side into) (side_of s.side from) made.0 old_there made.1 in
+      let target_sides = with_side-size t.at.side new_side.0 into in
+      let inner : tree_size new_side.0 + tree_size (side_of s.side from) ≡ tree_size (side_of t.at.side into) + tree_size (other_side_of s.side from) =
+      replaced-size t.place (other_side_of s.side from) (side_of t.at.side into) (side_of s.side from) new_side.0 old_there new_side.1 in
       let side_is : tree_size (side_of s.side from) ≡ tree_size (instance σ (side_of s.side l)) = ap tree_size (side_of-instance σ s.side l) in
       omega (arith, whole, exchanged, into_read, removed, from_read, from_sides, target_sides, inner, side_is)

@@ -1,6 +1,6 @@
 -- The sites of a clause: the sides from which a superposition can start, and the places into which one can go, as far as the clause alone
 -- tells it, before any unifier.
-use Rattle.std.specs.Prelude.{◌≡◌, ℕ, suc, Bool, false, ◌&&◌, not, List, [], ◌∷◌, ◌++◌, map, flat_map, filter, length, slice_get, Contains, Option, None, Some, if◌then◌else◌}
+use Rattle.std.specs.Prelude.{◌≡◌, ℕ, suc, Bool, true, false, ◌&&◌, not, List, [], ◌∷◌, ◌++◌, map, flat_map, filter, length, slice_get, Contains, Option, None, Some, if◌then◌else◌}
 use Rattle.std.specs.Option.{is_some}
 use Rattle.fol_base.specs.Tree.{Tree, variable, application, Trees, no_trees, tree_then, is_truth}
 use Rattle.fol_base.specs.Clause.{TreeLiteral, TreeClause}

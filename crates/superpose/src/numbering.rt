@@ -37,19 +37,16 @@ pub fn number_superposed<L: LendsLiterals, S: LendsTerms, M: LendsLiterals, T: L
         (literals_instance (T.meaning second_terms.now) (M.meaning second.now)) ≡ Some plain
         → numbers.new ≡ with_variables numbers.old (flat_map literal_variables plain)) }
 {
-    let target = second.literal(into.at.literal);
+    let first_count = first.count();
+    let second_count = second.count();
+    let index = into.at.literal;
+    let target = second.literal(index);
     let new = first.literal(from.literal).other_side(from.side);
-    number_literals(numbers, second, second_terms, 0, into.at.literal)?;
+    number_literals(numbers, second, second_terms, 0, index)?;
     number_target(numbers, target, second_terms, into, new, first_terms)?;
-    number_literals(
-        numbers,
-        second,
-        second_terms,
-        into.at.literal + 1,
-        second.count(),
-    )?;
+    number_literals(numbers, second, second_terms, index + 1, second_count)?;
     number_literals(numbers, first, first_terms, 0, from.literal)?;
-    number_literals(numbers, first, first_terms, from.literal + 1, first.count())
+    number_literals(numbers, first, first_terms, from.literal + 1, first_count)
 }
 
 /// Numbers the variables of a literal's instance with a new term at a place of a side.
