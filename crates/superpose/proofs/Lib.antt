@@ -6,3 +6,4 @@ pub mod TermsLemmas
 pub mod NumberingLemmas
 pub mod StepLemmas
 pub mod SuperposeLemmas
+pub mod SizeLemmas

@@ -152,11 +152,9 @@ fn superposition_by(
         return Ok(None);
     }
     let equation = left_literals.literal(from.literal);
-    let gone = 2 * instance_size(equation.side(from.side), &left_terms);
-    if left_size > MOST_SYMBOLS
-        || right_size > MOST_SYMBOLS
-        || left_size + right_size - gone > MOST_SYMBOLS
-    {
+    let gone = instance_size(equation.side(from.side), &left_terms);
+    let made_size = left_size + right_size - 2 * gone;
+    if left_size.max(right_size).max(made_size) > MOST_SYMBOLS {
         return Ok(Some(Made::Heavy));
     }
     let made = conclude_superposition(
