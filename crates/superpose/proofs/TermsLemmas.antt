@@ -43,7 +43,7 @@ argument-below : (n k : ℕ) (t a : Tree) → argument k t ≡ Some a → Variab
 argument-below n k (variable v) a there below = absurd (cc)
 argument-below n k (application f ts) a there below = item-below n k ts a there below
 
-subterm-below : (n : ℕ) (place : List ℕ) (t u : Tree) → subterm place t ≡ Some u → VariablesBelow n t → VariablesBelow n u
+pub subterm-below : (n : ℕ) (place : List ℕ) (t u : Tree) → subterm place t ≡ Some u → VariablesBelow n t → VariablesBelow n u
 subterm-below n [] t u there below = subst (λ (w : Tree). VariablesBelow n w) (same_Some t u there) below
 subterm-below n (k ∷ place) t u there below =
     option_and_then_some (subterm place) (argument k t) u there λ a a_is a_there.
