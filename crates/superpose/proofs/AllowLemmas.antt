@@ -11,7 +11,8 @@ use Rattle.fol_base.specs.Ground.{literals_instance}
 use Rattle.fol_base.specs.Selection.{SelectionMode, chosen, eligible}
 use Rattle.fol_base.specs.Sides.{side_of, other_side_of}
 use Rattle.fol_base.specs.declared.clause.Side.{Side}
-use Rattle.fol_base.proofs.InferenceLemmas.{literal_in_instance, side_of-instance, other_side_of-instance}
+use Rattle.fol_base.proofs.InferenceLemmas.{literal_in_instance, side_of-instance, other_side_of-instance, is_truth-instance}
+use Rattle.fol_base.proofs.KindLemmas.{is_truth-subterm}
 use Rattle.fol_base.proofs.RuleLemmas.{superposed-parts, superposed_literal-parts}
 use Rattle.fol_base.proofs.TreeLemmas.{tree_eq-refl, tree_eq-true}
 use Rattle.literal_selection.proofs.EligibleLemmas.{eligible_lifts}
@@ -195,3 +196,28 @@ module _
       (same_Some (literal_instance n.first_unifier n.from) parts.from
       (sym (literal_in_instance n.first_unifier c.literals s.literal n.from n.from_there) ∙ parts.from_there))
       ∙ literal.positive
+
+  -- neither of the two sides is `$true`
+  from_instance_no_truth : is_truth (instance n.first_unifier (side_of s.side n.from)) ≡ false
+  from_instance_no_truth =
+      let parts =
+      superposed-parts (literals_instance n.first_unifier c.literals) s.literal s.side (literals_instance n.second_unifier d.literals)
+      t.at.literal t.at.side t.place e.literals n.concludes in
+      let literal = superposed_literal-parts parts.from s.side parts.into t.at.side t.place parts.literal parts.literal_made in
+      ap is_truth (sym (side_of-instance n.first_unifier s.side n.from))
+      ∙ ap (λ (k : TreeLiteral). is_truth (side_of s.side k))
+      (same_Some (literal_instance n.first_unifier n.from) parts.from
+      (sym (literal_in_instance n.first_unifier c.literals s.literal n.from n.from_there) ∙ parts.from_there))
+      ∙ literal.no_truth
+
+  pub from_no_truth : is_truth (side_of s.side n.from) ≡ false
+  from_no_truth =
+      false_from_ne_true (is_truth (side_of s.side n.from)) (λ h.
+      true≢false (sym (is_truth-instance n.first_unifier (side_of s.side n.from) h) ∙ from_instance_no_truth))
+
+  pub into_no_truth : is_truth (side_of t.at.side n.into) ≡ false
+  into_no_truth =
+      false_from_ne_true (is_truth (side_of t.at.side n.into)) (λ h.
+      true≢false
+      (sym (is_truth-instance n.second_unifier n.old (is_truth-subterm t.place (side_of t.at.side n.into) n.old n.old_there h))
+      ∙ ap is_truth (sym n.most_general.unifies) ∙ from_instance_no_truth))

@@ -7,3 +7,6 @@ pub mod NumberingLemmas
 pub mod StepLemmas
 pub mod SuperposeLemmas
 pub mod SizeLemmas
+pub mod ListLemmas
+pub mod SiteLemmas
+pub mod SitesThere

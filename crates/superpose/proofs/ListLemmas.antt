@@ -36,8 +36,8 @@ In-mapped f y (z ∷ xs) h =
     h
 
 pub In-flat_map : {X Y : Type 0} (f : X → List Y) (x : X) (y : Y) (xs : List X) → In x xs → In y (f x) → In y (flat_map f xs)
-In-flat_map f x y [] h k = absurd h
-In-flat_map f x y (z ∷ xs) h k =
+In-flat_map {X = X} {Y = Y} f x y [] h k = absurd h
+In-flat_map {X = X} {Y = Y} f x y (z ∷ xs) h k =
     ⊎_elim
     (λ e. In-left y (f z) (flat_map f xs) (subst (λ (w : X). In y (f w)) e k))
     (λ e. In-right y (f z) (flat_map f xs) (In-flat_map f x y xs e k))
@@ -52,8 +52,8 @@ In-flat_mapped f y (z ∷ xs) h =
     (In-either y (f z) (flat_map f xs) h)
 
 pub In-filter : {X : Type 0} (test : X → Bool) (x : X) (xs : List X) → In x xs → test x ≡ true → In x (filter test xs)
-In-filter test x [] h passes = absurd h
-In-filter test x (z ∷ xs) h passes =
+In-filter {X = X} test x [] h passes = absurd h
+In-filter {X = X} test x (z ∷ xs) h passes =
     ⊎_elim
     (λ e.
     subst (λ (ys : List X). In x ys) (sym (cond-true (test z) (z ∷ filter test xs) (filter test xs) (ap test (sym e) ∙ passes))) (inl e))
@@ -65,8 +65,8 @@ In-filter test x (z ∷ xs) h passes =
     h
 
 pub In-filtered : {X : Type 0} (test : X → Bool) (x : X) (xs : List X) → In x (filter test xs) → In x xs × (test x ≡ true)
-In-filtered test x [] h = absurd h
-In-filtered test x (z ∷ xs) h =
+In-filtered {X = X} test x [] h = absurd h
+In-filtered {X = X} test x (z ∷ xs) h =
     ⊎_elim
     (λ kept.
     ⊎_elim
@@ -79,8 +79,8 @@ In-filtered test x (z ∷ xs) h =
     (cases_Bool (test z))
 
 pub In-contained : {X : Type 0} (x : X) (xs : List X) → In x xs → Contains xs x
-In-contained x [] h = absurd h
-In-contained x (z ∷ xs) h =
+In-contained {X = X} x [] h = absurd h
+In-contained {X = X} x (z ∷ xs) h =
     ⊎_elim
     (λ e. subst (λ (w : X). Contains (z ∷ xs) w) (sym e) (Contains-append_left (z ∷ []) xs z (Contains-get_or (z ∷ []) 0 z (omega arith))))
     (λ e. Contains-append_right (z ∷ []) xs x (In-contained x xs e))
@@ -101,8 +101,8 @@ Once-append (x ∷ xs) ys h k apart = (
 )
 
 pub Once-map : {X Y : Type 0} (f : X → Y) (xs : List X) → ((x y : X) → f x ≡ f y → x ≡ y) → Once xs → Once (map f xs)
-Once-map f [] apart h = tt
-Once-map f (x ∷ xs) apart h = (
+Once-map {X = X} f [] apart h = tt
+Once-map {X = X} f (x ∷ xs) apart h = (
   (λ e.
       let found = In-mapped f (f x) xs e in
       h.0 (subst (λ (z : X). In z xs) (sym (apart x found.0 found.2)) found.1)),
@@ -110,8 +110,8 @@ Once-map f (x ∷ xs) apart h = (
 )
 
 pub Once-filter : {X : Type 0} (test : X → Bool) (xs : List X) → Once xs → Once (filter test xs)
-Once-filter test [] h = tt
-Once-filter test (x ∷ xs) h =
+Once-filter {X = X} test [] h = tt
+Once-filter {X = X} test (x ∷ xs) h =
     ⊎_elim
     (λ kept.
     subst (λ (ys : List X). Once ys) (sym (cond-true (test x) (x ∷ filter test xs) (filter test xs) kept))
@@ -124,8 +124,8 @@ Once-filter test (x ∷ xs) h =
 pub Once-flat_map :
     {X Y : Type 0} (f : X → List Y) (xs : List X)
     → ((x : X) → Once (f x)) → ((x z : X) (y : Y) → In y (f x) → In y (f z) → x ≡ z) → Once xs → Once (flat_map f xs)
-Once-flat_map f [] each apart h = tt
-Once-flat_map f (x ∷ xs) each apart h =
+Once-flat_map {X = X} f [] each apart h = tt
+Once-flat_map {X = X} f (x ∷ xs) each apart h =
     Once-append (f x) (flat_map f xs) (each x) (Once-flat_map f xs each apart h.1)
     (λ y here later.
     let found = In-flat_mapped f y xs later in
