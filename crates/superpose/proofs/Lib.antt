@@ -10,3 +10,4 @@ pub mod SizeLemmas
 pub mod ListLemmas
 pub mod SiteLemmas
 pub mod SitesThere
+pub mod TriedLemmas

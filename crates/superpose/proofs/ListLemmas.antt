@@ -1,7 +1,8 @@
 -- Members of lists, and lists that have each element once.
-use Rattle.std.proofs.Common.{◌≡◌, ◌⊎◌, ℕ, zero, suc, ◌+◌, ◌<◌, Bool, true, false, List, [], ◌∷◌, ◌++◌, length, map, get_or, refl, ap, sym, ◌∙◌, subst, inl, inr, ⊎_elim, arith}
+use Rattle.std.proofs.Common.{◌≡◌, ◌⊎◌, ℕ, zero, suc, ◌+◌, ◌<◌, Bool, true, false, Option, None, Some, List, [], ◌∷◌, ◌++◌, length, map, get_or, refl, ap, sym, ◌∙◌, subst, inl, inr, ⊎_elim, arith}
 use Rattle.std.specs.Prelude.{flat_map, filter, Contains}
-use Rattle.std.proofs.lemmas.Bool.{cases_Bool, cond-true, cond-false}
+use Rattle.std.specs.Option.{option_to_list, IsSome}
+use Rattle.std.proofs.lemmas.Bool.{true≢false, cases_Bool, cond-true, cond-false}
 use Rattle.std.proofs.lemmas.List.Elements.{Contains-append_left, Contains-append_right, Contains-get_or}
 
 -- ---- members
@@ -130,3 +131,26 @@ Once-flat_map {X = X} f (x ∷ xs) each apart h =
     (λ y here later.
     let found = In-flat_mapped f y xs later in
     h.0 (subst (λ (z : X). In z xs) (sym (apart x found.0 y here found.2)) found.1))
+
+-- ---- the last element
+
+not_empty : {X : Type 0} (ys : List X) (y : X) → [] ≡ ys ++ y ∷ [] → ⊥
+not_empty [] y e = absurd (cc)
+not_empty (z ∷ ys) y e = absurd (cc)
+
+fronts_same : {X : Type 0} (xs ys : List X) (x y : X) → xs ++ x ∷ [] ≡ ys ++ y ∷ [] → xs ≡ ys
+fronts_same [] [] x y e = refl
+fronts_same [] (b ∷ ys) x y e = absurd (not_empty ys y (cc))
+fronts_same (a ∷ xs) [] x y e = absurd (not_empty xs x (cc))
+fronts_same {X = X} (a ∷ xs) (b ∷ ys) x y e =
+    let rest : xs ++ x ∷ [] ≡ ys ++ y ∷ [] = cc in
+    let same : xs ≡ ys = fronts_same xs ys x y rest in
+    let head : a ≡ b = cc in
+    cc
+
+-- what was pushed last leaves
+pub popped :
+    (front pushed rest : List ℕ) (x : ℕ) (r : Option ℕ)
+    → pushed ≡ front ++ x ∷ [] → pushed ≡ rest ++ option_to_list r → IsSome r → rest ≡ front
+popped front pushed rest x None is left some = absurd (true≢false (sym some))
+popped front pushed rest x (Some y) is left some = sym (fronts_same front rest x y (sym is ∙ left))

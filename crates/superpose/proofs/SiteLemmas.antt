@@ -30,14 +30,15 @@ use Rattle.superpose.specs.declared.sites.LiteralPlace.{LiteralPlace}
 
 -- ---- one literal more
 
-numbers_more : (first n : ℕ) → numbers_from first (n + 1) ≡ numbers_from first n ++ (first + n) ∷ []
+numbers_more : (first n : ℕ) → numbers_from first (suc n) ≡ numbers_from first n ++ (first + n) ∷ []
 numbers_more first zero = ap (λ k. k ∷ []) (let e : first ≡ first + 0 = omega arith in e)
 numbers_more first (suc n) =
     ap (λ ks. first ∷ ks) (numbers_more (suc first) n ∙ ap (λ k. numbers_from (suc first) n ++ k ∷ []) (let e : suc first + n ≡ first + suc n = omega arith in e))
 
 sides_more : (n : ℕ) → all_sides (n + 1) ≡ all_sides n ++ both_sides n
 sides_more n =
-    ap (flat_map both_sides) (numbers_more 0 n) ∙ flat_map-append both_sides (numbers_from 0 n) ((0 + n) ∷ [])
+    ap all_sides (let e : n + 1 ≡ suc n = omega arith in e)
+    ∙ ap (flat_map both_sides) (numbers_more 0 n) ∙ flat_map-append both_sides (numbers_from 0 n) ((0 + n) ∷ [])
     ∙ ap (λ ss. all_sides n ++ ss) (append-nil (both_sides (0 + n)) ∙ ap both_sides (let e : 0 + n ≡ n = omega arith in e))
 
 -- ---- the sides from which superposition can start
