@@ -18,7 +18,9 @@ use Rattle.literal_selection.proofs.EligibleLemmas.{eligible_lifts}
 use Rattle.kernel_steps.specs.Inference.{NamedSuperposition, other_side_not_above}
 use Rattle.eq_rules.proofs.SideLemmas.{not_above_by}
 use Rattle.eq_rules.proofs.WideLemmas.{itself}
-use Rattle.superpose.specs.Sites.{all_sides, both_sides, places, places_from, below_path, is_usable, literal_starts, can_start, literal_enters, can_enter, start_sites, side_places, entered_places, enter_sites, SuperpositionsHaveSites}
+use Rattle.superpose.specs.Sites.{all_sides, both_sides, places, places_from, below_path, is_usable, literal_starts, can_start, literal_enters, can_enter, start_sites, side_places, entered_places, enter_sites, AreSitesOf, SuperpositionsHaveSites}
+use Rattle.superpose.specs.declared.sites.Sites.{Sites}
+use Rattle.literal_selection.specs.Mode.{mode_of}
 use Rattle.superpose.specs.Superposing.{StartsAt, EntersAt}
 use Rattle.superpose.specs.declared.sites.LiteralSide.{LiteralSide}
 use Rattle.superpose.specs.declared.sites.LiteralPlace.{LiteralPlace}
@@ -326,3 +328,24 @@ superpositions_have_sites p mode c d s t e n = (
   In-contained s (start_sites mode c.literals) (start_in p mode c s d t e n),
   In-contained t (enter_sites mode d.literals) (enter_in p mode c s d t e n),
 )
+
+-- ---- a site by its index
+
+item_in : {X : Type 0} (xs : List X) (k : ℕ) (x : X) → slice_get xs k ≡ Some x → In x xs
+item_in [] k x h = absurd (cc)
+item_in (y ∷ ys) zero x h = inl (sym (same_Some y x h))
+item_in (y ∷ ys) (suc k) x h = inr (item_in ys k x h)
+
+module _ (c : TreeClause) (sites : Sites) (are : AreSitesOf c sites) where
+  pub start_at :
+      (k : ℕ) (s : LiteralSide) → slice_get sites.from.items k ≡ Some s → can_start (mode_of sites.mode) c.literals s ≡ true
+  start_at k s h =
+      (In-filtered (can_start (mode_of sites.mode) c.literals) s (all_sides (length c.literals))
+      (subst (λ (ss : List LiteralSide). In s ss) are.from (item_in sites.from.items k s h))).1
+
+  pub enter_at :
+      (k : ℕ) (t : LiteralPlace) → slice_get sites.into.items k ≡ Some t
+      → (can_enter (mode_of sites.mode) c.literals t.at ≡ true) × EntersAt c.literals t
+  enter_at k t h =
+      enter_there (mode_of sites.mode) c.literals t
+      (subst (λ (ts : List LiteralPlace). In t ts) are.into (item_in sites.into.items k t h))

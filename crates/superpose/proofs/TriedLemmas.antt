@@ -5,11 +5,13 @@ use Rattle.std.proofs.lemmas.Bool.{true≢false, cases_Bool, cond-true, cond-fal
 use Rattle.std.proofs.lemmas.Grind.{flat_map-append}
 use Rattle.std.proofs.lemmas.List.{map-append, append_assoc}
 use Rattle.std.proofs.lemmas.List.Elements.{All-push, Contains-append_left, Contains-append_right, Contains-get_or}
-use Rattle.std.proofs.lemmas.Option.{same_Some}
+use Rattle.std.proofs.lemmas.Option.{same_Some, slice_get-get_or, get_or_from_slice_get}
 use Rattle.fol_base.specs.Clause.{TreeClause}
 use Rattle.fol_base.specs.Selection.{SelectionMode}
 use Rattle.fol_base.specs.WellFormed.{SymbolUse, are_literals_of}
 use Rattle.fol_base.specs.declared.clause.Side.{Side}
+use Rattle.fol_base.specs.declared.clause.Side.TheVariants.{Left}
+use Rattle.fol_base.proofs.ListLemmas.{take_more_item, map-take_more_item}
 use Rattle.kernel_steps.specs.Named.{IsInference}
 use Rattle.kernel_steps.specs.declared.key.Key.{Key}
 use Rattle.kernel_steps.specs.declared.key.Key.TheVariants.{Para, Refl, Factor, Replaced}
@@ -20,7 +22,9 @@ use Rattle.eq_rules.specs.Trying.{IsTried}
 use Rattle.eq_rules.specs.declared.inference.Made.{Made}
 use Rattle.eq_rules.specs.declared.inference.Inference.{Inference}
 use Rattle.eq_rules.proofs.MadeLemmas.{alone_there, alone_number}
-use Rattle.superpose.specs.Sites.{start_sites, enter_sites}
+use Rattle.literal_selection.specs.Mode.{mode_of}
+use Rattle.superpose.specs.Sites.{start_sites, enter_sites, AreSitesOf}
+use Rattle.superpose.specs.declared.sites.Sites.{Sites}
 use Rattle.superpose.specs.Superposing.{para_key, IsSuperposition}
 use Rattle.superpose.specs.Pairing.{entry_of, AreTried, keys_from, keys_between, AddsTried, pair_keys, two, is_between, is_superposition}
 use Rattle.superpose.specs.declared.sites.LiteralSide.{LiteralSide}
@@ -51,12 +55,19 @@ module _ (p : ℕ → Bool) (mode : SelectionMode) (clauses : ℕ → Option Tre
   abbrev Fact : (Key → Bool) → Inference → Type 0
   Fact passes e = (passes e.key ≡ true) × IsMade p mode clauses e.key e.result
 
+  all-more : (P : Inference → Type 0) (e : Inference) (es : List Inference) → P e → All P es → All P (e ∷ es)
+  all-more P e es h all = at
+    where
+      at : (k : ℕ) (d : Inference) → k < length (e ∷ es) → P (get_or (e ∷ es) k d)
+      at zero d less = h
+      at (suc k) d less = all k d (omega (arith, less))
+
   entry-made :
       (passes : Key → Bool) (key : Key) (made : Option Made) (rest : List Inference)
       → passes key ≡ true → IsTried p mode clauses key made → All (Fact passes) rest → All (Fact passes) (entry_of key made ++ rest)
   entry-made passes key None rest h tried all = all
-  entry-made passes key (Some made) rest h tried all zero d less = (h, tried)
-  entry-made passes key (Some made) rest h tried all (suc k) d less = all k d (omega (arith, less))
+  entry-made passes key (Some made) rest h tried all =
+      all-more (Fact passes) (record { key = key; result = made }) rest (h, tried) all
 
   tried-made :
       (passes : Key → Bool) (keys : List Key) (found : List Inference)
@@ -176,6 +187,61 @@ adds-one mode m n s t made before now is tried usage clauses used second_used th
   is,
   tried-one usage.is_predicate mode clauses (para_key m.number s n.number t) made (tried usage clauses used second_used there second_there),
 )
+
+-- one more place
+pub adds-place :
+    (mode : SelectionMode) (m n : Member) (s : LiteralSide) (into : List LiteralPlace) (i : ℕ) (t : LiteralPlace) (made : Option Made)
+    (initial before now : List Inference)
+    → i < length into → t ≡ get_or into i t
+    → AddsTried mode m n (keys_from m.number s n.number (take i into)) initial before
+    → now ≡ before ++ entry_of (para_key m.number s n.number t) made → IsSuperposition mode m s n t made
+    → AddsTried mode m n (keys_from m.number s n.number (take (i + 1) into)) initial now
+adds-place mode m n s into i t made initial before now less read adds is tried =
+    subst (λ (keys : List Key). AddsTried mode m n keys initial now)
+    (sym (map-take_more_item (para_key m.number s n.number) into i t less read))
+    (adds-more mode m n (keys_from m.number s n.number (take i into)) (para_key m.number s n.number t ∷ []) initial before now adds
+    (adds-one mode m n s t made before now is tried))
+
+-- one more side
+pub adds-side :
+    (mode : SelectionMode) (m n : Member) (from : List LiteralSide) (into : List LiteralPlace) (i : ℕ) (s : LiteralSide)
+    (initial before now : List Inference)
+    → i < length from → s ≡ get_or from i s
+    → AddsTried mode m n (keys_between m.number (take i from) n.number into) initial before
+    → AddsTried mode m n (keys_from m.number s n.number into) before now
+    → AddsTried mode m n (keys_between m.number (take (i + 1) from) n.number into) initial now
+adds-side mode m n from into i s initial before now less read adds step =
+    let keys : LiteralSide → List Key = λ z. keys_from m.number z n.number into in
+    let more : keys_between m.number (take (i + 1) from) n.number into ≡ keys_between m.number (take i from) n.number into ++ keys s =
+    ap (flat_map keys) (take_more_item from i s less read) ∙ flat_map-append keys (take i from) (s ∷ [])
+    ∙ ap (λ ks. keys_between m.number (take i from) n.number into ++ ks) (append-nil (keys s)) in
+    subst (λ (ks : List Key). AddsTried mode m n ks initial now) (sym more)
+    (adds-more mode m n (keys_between m.number (take i from) n.number into) (keys s) initial before now adds step)
+
+-- one more side, which is that of the index
+pub adds-next :
+    (mode : SelectionMode) (m n : Member) (from : List LiteralSide) (into : List LiteralPlace) (i : ℕ) (initial before now : List Inference)
+    → i < length from → AddsTried mode m n (keys_between m.number (take i from) n.number into) initial before
+    → ((s : LiteralSide) → slice_get from i ≡ Some s → AddsTried mode m n (keys_from m.number s n.number into) before now)
+    → AddsTried mode m n (keys_between m.number (take (i + 1) from) n.number into) initial now
+adds-next mode m n from into i initial before now less adds step =
+    let any : LiteralSide = record { literal = 0; side = Left } in
+    let s : LiteralSide = get_or from i any in
+    let at : slice_get from i ≡ Some s = slice_get-get_or from i any less in
+    adds-side mode m n from into i s initial before now less (sym (get_or_from_slice_get from i s s at)) adds (step s at)
+
+-- all sites of both clauses
+pub adds-all :
+    (m n : Member) (sites others : Sites) → AreSitesOf (clause_at m.clause) sites → AreSitesOf (clause_at n.clause) others → sites.mode ≡ others.mode
+    → (from : List LiteralSide) (initial now : List Inference) → from ≡ sites.from.items
+    → AddsTried (mode_of sites.mode) m n (keys_between m.number from n.number others.into.items) initial now
+    → AddsTried (mode_of sites.mode) m n (pair_keys (mode_of sites.mode) m n) initial now
+adds-all m n sites others are others_are same from initial now all adds =
+    let mode : SelectionMode = mode_of sites.mode in
+    let into_is : others.into.items ≡ enter_sites mode (clause_at n.clause).literals =
+    others_are.into ∙ ap (λ k. enter_sites (mode_of k) (clause_at n.clause).literals) (sym same) in
+    subst (λ (keys : List Key). AddsTried mode m n keys initial now)
+    (ap₂ (λ ss ts. keys_between m.number ss n.number ts) (all ∙ are.from) into_is) adds
 
 -- ---- the names
 

@@ -1,6 +1,6 @@
 // All superpositions of one clause into another, or into a renamed copy of itself.
 
-ghost use Rattle.std.specs.Prelude.{◌≡◌, ◌≢◌, ◌<◌, Some, length, slice_get, IfOk};
+ghost use Rattle.std.specs.Prelude.{◌≡◌, ◌≢◌, ◌<◌, ◌++◌, Some, length, slice_get, IfOk};
 ghost use Rattle.literal_selection.specs.Mode.{mode_of};
 ghost use Rattle.bank_clause.specs.Clause.{clause_at, IsMemberOf};
 ghost use Rattle.eq_rules.specs.Inferences.{AreInferencesOf};
@@ -9,6 +9,7 @@ ghost use Rattle.superpose.specs.Superposing.{para_key};
 ghost use Rattle.superpose.specs.Pairing.{
   AddsTried,
   AreInferencesBetween,
+  entry_of,
   is_between,
   is_superposition,
   keys_from,
@@ -18,7 +19,7 @@ ghost use Rattle.superpose.specs.Pairing.{
 use crate::sites::{LiteralPlace, LiteralSide, Premise, Sites};
 use crate::superposing::superposition;
 use bank_clause::Member;
-use eq_rules::{Inference, Inferences};
+use eq_rules::{Inference, Inferences, Made};
 use kernel_steps::Key;
 use literal_selection::Selection;
 use plain_types::Mem;
@@ -114,17 +115,29 @@ fn superpositions_from(
 {
     let start = first.sites.from[from];
     for into in 0..second.sites.into.len() {
-        if let Some(result) = superposition(alloc, bank, first, from, second, into)? {
-            let target = &second.sites.into[into];
-            let key = para_key(
-                alloc,
-                first.member.number,
-                start,
-                second.member.number,
-                target,
-            )?;
-            found.push(Inference { key, result })?;
-        }
+        let made = superposition(alloc, bank, first, from, second, into)?;
+        let target = &second.sites.into[into];
+        push_made(alloc, first.member, start, second.member, target, made, found)?;
+    }
+    Ok(())
+}
+
+/// Adds the inference of a name, if there is one.
+fn push_made(
+    alloc: Global,
+    first: &Member,
+    from: LiteralSide,
+    second: &Member,
+    into: &LiteralPlace,
+    made: Option<Made>,
+    found: &mut Inferences,
+) -> Mem<()>
+    ensures { IfOk result (λ _.
+        found.new ≡ found.old ++ entry_of (para_key first.now.number from second.now.number into.now) made) }
+{
+    if let Some(result) = made {
+        let key = para_key(alloc, first.number, from, second.number, into)?;
+        found.push(Inference { key, result })?;
     }
     Ok(())
 }
