@@ -3,3 +3,5 @@
 
 #[cfg(test)]
 mod one_premise;
+#[cfg(test)]
+mod two_premises;
