@@ -182,7 +182,7 @@ pub superposed_met :
     → (plain : List TreeLiteral) → superposed_at s t (literals_instance σ ls) (literals_instance τ ks) ≡ Some plain
     → last ≡ with_variables none (flat_map literal_variables plain)
 superposed_met σ τ ls ks s t l m new first_count second_count none front target rest others last l_there m_there new_is first_many second_many
-  front_met target_met rest_met others_met last_met plain given =
+    front_met target_met rest_met others_met last_met plain given =
     let i : ℕ = s.literal in
     let j : ℕ = t.at.literal in
     let parts = superposed-parts (literals_instance σ ls) i s.side (literals_instance τ ks) j t.at.side t.place plain given in

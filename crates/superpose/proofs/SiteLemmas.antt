@@ -26,8 +26,6 @@ use Rattle.superpose.specs.Superposing.{StartsAt, EntersAt}
 use Rattle.superpose.specs.declared.sites.LiteralSide.{LiteralSide}
 use Rattle.superpose.specs.declared.sites.LiteralPlace.{LiteralPlace}
 
-
-
 -- ---- one literal more
 
 numbers_more : (first n : ℕ) → numbers_from first (suc n) ≡ numbers_from first n ++ (first + n) ∷ []
@@ -167,4 +165,3 @@ arguments_more s path longer xs i x initial before after less read longer_is is 
     ∙ ap₂ ◌++◌ is (ap (λ q. map (below_path s q) (places (tree_of x))) longer_is ∙ below_longer s path i (places (tree_of x)))
     ∙ append_assoc initial (map (below_path s path) front) (map (below_path s path) new)
     ∙ ap (λ ts. initial ++ ts) (sym (map-append (below_path s path) front new) ∙ ap (map (below_path s path)) (sym whole))
-

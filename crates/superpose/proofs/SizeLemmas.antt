@@ -142,7 +142,7 @@ module _
       (ap (λ o. allows c.literals s d.literals t o (substitution left) (substitution right)) (sym sites.choice_is) ∙ refused)
 
   module _ (mode : SelectionMode) (choice : Option ℕ) (sites : AreSites mode c s d t choice)
-    (allowed : allows c.literals s d.literals t choice (substitution left) (substitution right) ≡ true) where
+      (allowed : allows c.literals s d.literals t choice (substitution left) (substitution right) ≡ true) where
     allowed_here : allows c.literals s d.literals t (chosen mode d.literals) (substitution left) (substitution right) ≡ true
     allowed_here = ap (λ o. allows c.literals s d.literals t o (substitution left) (substitution right)) (sym sites.choice_is) ∙ allowed
 

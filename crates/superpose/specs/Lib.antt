@@ -2,3 +2,4 @@ pub mod Sites
 pub mod Superposing
 pub mod Concluding
 pub mod Pairing
+pub mod Examples

@@ -117,7 +117,15 @@ fn superpositions_from(
     for into in 0..second.sites.into.len() {
         let made = superposition(alloc, bank, first, from, second, into)?;
         let target = &second.sites.into[into];
-        push_made(alloc, first.member, start, second.member, target, made, found)?;
+        push_made(
+            alloc,
+            first.member,
+            start,
+            second.member,
+            target,
+            made,
+            found,
+        )?;
     }
     Ok(())
 }
