@@ -1,6 +1,6 @@
 // Superposition, on clauses worked out by hand.
 
-ghost use Rattle.std.specs.Prelude.{◌≡◌, ◌×◌, IfOk, IfSome};
+ghost use Rattle.std.specs.Prelude.{◌≡◌, IfOk, IfSome};
 ghost use Rattle.term_bank.specs.Table.{IsTableOf};
 ghost use Rattle.bank_clause.specs.Clause.{IsMemberOf};
 

@@ -1,14 +1,14 @@
 -- Terms for the first variables of two sides, most general among all that unify two trees of different variables, with their variables
 -- numbered anew, make a most general unifier: beyond them each variable of a side becomes one that is new.
-use Rattle.std.proofs.Common.{◌≡◌, ℕ, suc, ◌+◌, ◌*◌, ◌-◌, ◌/◌, ◌%◌, ◌<◌, ◌≤◌, true, false, ◌==◌, nat_lt, get_or, if◌then◌else◌, Option, None, Some, List, [], ◌∷◌, length, refl, ap, ap₂, sym, ◌∙◌, inl, inr, ⊎_elim, arith}
-use Rattle.std.specs.Prelude.{unwrap_or, flat_map}
+use Rattle.std.proofs.Common.{◌≡◌, ℕ, suc, ◌+◌, ◌*◌, ◌-◌, ◌/◌, ◌%◌, ◌<◌, ◌≤◌, true, false, ◌==◌, nat_lt, get_or, if◌then◌else◌, Option, None, Some, List, [], ◌∷◌, length, refl, ap, sym, ◌∙◌, inl, inr, ⊎_elim, arith}
+use Rattle.std.specs.Prelude.{unwrap_or}
 use Rattle.std.specs.List.{AllByRecursion}
 use Rattle.std.specs.Option.{is_some, option_map}
 use Rattle.std.proofs.lemmas.Bool.{true≢false, cases_Bool, cond-true, cond-false, eq-eqb, eqb-true, false_from_ne_true, lt-ltb, ltb-true, cases_lt}
 use Rattle.fol_base.specs.Tree.{Tree, variable, tree_variables, trees_variables, trees_of, VariablesBelow}
 use Rattle.fol_base.specs.Instance.{Substitution, instance, substitution}
 use Rattle.fol_base.specs.InstanceLaws.{after}
-use Rattle.fol_base.specs.Clause.{TreeLiteral, LiteralVariablesBelow, literal_variables}
+use Rattle.fol_base.specs.Clause.{TreeLiteral, LiteralVariablesBelow}
 use Rattle.fol_base.specs.Ground.{literals_instance}
 use Rattle.fol_base.specs.Canonical.{place_of, renaming}
 use Rattle.fol_base.specs.Unifier.{IsUnifierApart, IsMostGeneralUnifierApart}

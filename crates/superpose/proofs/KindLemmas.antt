@@ -2,7 +2,6 @@
 use mathlib.Core.Bool.{beq}
 use Rattle.std.proofs.Common.{◌≡◌, ◌⊎◌, ℕ, Bool, true, false, ◌&&◌, ◌||◌, not, List, [], ◌∷◌, Some, refl, ap, ap₂, sym, ◌∙◌, inl, inr, ⊎_elim}
 use Rattle.std.proofs.lemmas.Bool.{true≢false, not-true, not_from_false, and_parts, and_from, or_left, or_right, or_cases}
-use Rattle.std.proofs.Math.Bool.{and-false}
 use Rattle.std.proofs.lemmas.Option.{same_Some}
 use Rattle.fol_base.specs.Tree.{Tree, is_truth}
 use Rattle.fol_base.specs.Place.{subterm}
@@ -13,7 +12,6 @@ use Rattle.fol_base.proofs.KindLemmas.{function_term-no_truth, predicate_term-no
 use Rattle.fol_base.proofs.WellFormedLemmas.{SidesOfOneKind, sides_of_one_kind}
 use Rattle.kernel_steps.specs.Inference.{has_predicate_head}
 use Rattle.kernel_steps.specs.Inference as kernel
-use Rattle.unifier.specs.Laws as unifying
 use Rattle.eq_rules.proofs.SideLemmas.{Kinds, function-head, predicate-head}
 use Rattle.superpose.specs.Superposing.{is_root, are_alike}
 use Rattle.superpose.specs.declared.sites.LiteralSide.{LiteralSide}

@@ -1,12 +1,11 @@
 -- Walks over the conclusion of a superposition: the parts of a term with a new one at a place, and of a literal.
-use Rattle.std.proofs.Common.{◌≡◌, ℕ, suc, ◌+◌, ◌-◌, ◌<◌, ◌≤◌, true, Option, None, Some, List, [], ◌∷◌, ◌++◌, length, map, take, drop, get_or, append-nil, refl, ap, ap₂, sym, ◌∙◌, ⊎_elim, inl, inr, arith}
+use Rattle.std.proofs.Common.{◌≡◌, ℕ, ◌+◌, ◌-◌, ◌<◌, ◌≤◌, true, Option, None, Some, List, [], ◌∷◌, ◌++◌, length, map, take, drop, get_or, append-nil, refl, ap, ap₂, sym, ◌∙◌, ⊎_elim, arith}
 use Rattle.std.specs.Prelude.{flat_map, option_and_then, slice_get, slice_set, remove}
-use Rattle.std.specs.Option.{is_some, option_map}
+use Rattle.std.specs.Option.{is_some}
 use Rattle.std.proofs.lemmas.Bool.{true≢false, cases_lt}
 use Rattle.std.proofs.lemmas.Grind.{flat_map-append}
-use Rattle.std.proofs.lemmas.List.{map-append, take_all, length-drop}
 use Rattle.std.proofs.lemmas.Option.{same_Some, slice_get_within}
-use Rattle.fol_base.specs.Tree.{Tree, variable, application, trees_of, list_of, tree_variables, trees_variables}
+use Rattle.fol_base.specs.Tree.{Tree, variable, application, trees_of, list_of, tree_variables}
 use Rattle.fol_base.specs.Instance.{Substitution, instance, instances}
 use Rattle.fol_base.specs.Place.{argument, subterm, replaced}
 use Rattle.fol_base.specs.Clause.{TreeLiteral, literal_instance, literal_variables}

@@ -1,14 +1,12 @@
 -- Replacing a subterm: that it can be done, sizes, and the variables of what is made.
-use Rattle.std.proofs.Common.{◌≡◌, ℕ, zero, suc, ◌+◌, ◌<◌, true, Option, None, Some, List, [], ◌∷◌, ◌++◌, length, map, take, drop, get_or, append-nil, refl, ap, ap₂, sym, ◌∙◌, subst, arith}
+use Rattle.std.proofs.Common.{◌≡◌, ℕ, zero, suc, ◌+◌, Some, List, [], ◌∷◌, ◌++◌, refl, ap, sym, ◌∙◌, arith}
 use Rattle.std.specs.Prelude.{flat_map, slice_get, slice_set, option_and_then}
-use Rattle.std.specs.Option.{is_some, option_map}
-use Rattle.std.proofs.lemmas.Bool.{true≢false}
-use Rattle.std.proofs.lemmas.Grind.{flat_map-append}
+use Rattle.std.specs.Option.{option_map}
 use Rattle.std.proofs.lemmas.Option.{same_Some, option_and_then_some}
-use Rattle.fol_base.specs.Tree.{Tree, variable, application, Trees, no_trees, tree_then, trees_of, list_of, tree_size, trees_size, tree_variables, trees_variables}
+use Rattle.fol_base.specs.Tree.{Tree, variable, application, trees_of, list_of, tree_size, trees_size, tree_variables, trees_variables}
 use Rattle.fol_base.specs.Place.{argument, with_argument, subterm, replaced}
 use Rattle.fol_base.proofs.PlaceLemmas.{replaced-parts}
-use Rattle.fol_base.proofs.TreeLemmas.{list_of-trees_of, trees_of-list_of}
+use Rattle.fol_base.proofs.TreeLemmas.{trees_of-list_of}
 
 -- a subterm that is there can be replaced
 pub replaced-there : (place : List ℕ) (new t old : Tree) → subterm place t ≡ Some old → (made : Tree) × (replaced place new t ≡ Some made)

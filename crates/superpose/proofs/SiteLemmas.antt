@@ -1,28 +1,21 @@
 -- The sites of a clause: the walks that find them, that each is there once, and that each superposition has its own among them.
-use Rattle.std.proofs.Common.{◌≡◌, ◌⊎◌, ℕ, zero, suc, ◌+◌, ◌<◌, ◌≤◌, Bool, true, false, ◌&&◌, not, Option, None, Some, List, [], ◌∷◌, ◌++◌, length, map, take, get_or, append-nil, refl, ap, ap₂, sym, ◌∙◌, subst, inl, inr, ⊎_elim, arith}
-use Rattle.std.specs.Prelude.{flat_map, filter, slice_get, Contains, if◌then◌else◌}
+use Rattle.std.proofs.Common.{◌≡◌, ℕ, zero, suc, ◌+◌, ◌<◌, Bool, true, false, ◌&&◌, not, None, Some, List, [], ◌∷◌, ◌++◌, length, map, take, get_or, append-nil, refl, ap, ap₂, sym, ◌∙◌, arith}
+use Rattle.std.specs.Prelude.{flat_map, filter, slice_get}
 use Rattle.std.specs.Option.{is_some}
-use Rattle.std.proofs.lemmas.Bool.{true≢false, and_parts, and_from, not-true, not_from_false, cond-true, cond-false}
+use Rattle.std.proofs.lemmas.Bool.{cond-true, cond-false}
 use Rattle.std.proofs.lemmas.Grind.{flat_map-append}
 use Rattle.std.proofs.lemmas.List.{map-append, append_assoc}
 use Rattle.std.proofs.lemmas.List.Elements.{filter-append}
-use Rattle.std.proofs.lemmas.Option.{same_Some, option_and_then_some, slice_get_within}
-use Rattle.fol_base.specs.Tree.{Tree, variable, application, Trees, no_trees, tree_then, trees_of, list_of, is_truth, is_variable}
-use Rattle.fol_base.specs.Instance.{instance}
-use Rattle.fol_base.specs.Place.{argument, subterm}
-use Rattle.fol_base.specs.Clause.{TreeLiteral, TreeClause}
-use Rattle.fol_base.specs.Ground.{literals_instance}
+use Rattle.fol_base.specs.Tree.{Tree, application, Trees, trees_of}
+use Rattle.fol_base.specs.Clause.{TreeLiteral}
 use Rattle.fol_base.specs.Canonical.{numbers_from}
 use Rattle.fol_base.specs.Selection.{SelectionMode, chosen, eligible}
 use Rattle.fol_base.specs.Sides.{side_of}
 use Rattle.fol_base.specs.Term.{tree_of}
-use Rattle.fol_base.specs.declared.clause.Side.{Side}
 use Rattle.fol_base.specs.declared.clause.Side.TheVariants.{Left, Right}
 use Rattle.fol_base.specs.declared.term.Term.{Term}
 use Rattle.fol_base.proofs.ListLemmas.{take_more_item}
-use Rattle.kernel_steps.specs.Inference.{NamedSuperposition, other_side_not_above}
-use Rattle.superpose.specs.Sites.{all_sides, both_sides, places, places_from, below_path, is_usable, literal_starts, can_start, literal_enters, can_enter, start_sites, side_places, entered_places, enter_sites, SuperpositionsHaveSites}
-use Rattle.superpose.specs.Superposing.{StartsAt, EntersAt}
+use Rattle.superpose.specs.Sites.{all_sides, both_sides, places, places_from, below_path, literal_starts, can_start, can_enter, side_places, entered_places}
 use Rattle.superpose.specs.declared.sites.LiteralSide.{LiteralSide}
 use Rattle.superpose.specs.declared.sites.LiteralPlace.{LiteralPlace}
 

@@ -1,11 +1,11 @@
 -- The walk that numbers the variables of a superposition's conclusion, and what is built after it.
-use Rattle.std.proofs.Common.{◌≡◌, ℕ, true, Option, None, Some, List, [], ◌++◌, length, map, refl, ap, ap₂, sym, ◌∙◌, subst}
+use Rattle.std.proofs.Common.{◌≡◌, ℕ, true, None, Some, List, [], ◌++◌, length, map, ap, ap₂, sym, ◌∙◌, subst}
 use Rattle.std.specs.Prelude.{flat_map}
 use Rattle.std.specs.List.{AllByRecursion}
 use Rattle.std.specs.Option.{is_some}
 use Rattle.std.proofs.lemmas.Bool.{true≢false}
 use Rattle.std.proofs.lemmas.Grind.{flat_map-append}
-use Rattle.fol_base.specs.Tree.{Tree, variable, application, Trees, no_trees, trees_of, list_of, tree_variables, trees_variables}
+use Rattle.fol_base.specs.Tree.{Tree, variable, application, trees_of, list_of, tree_variables, trees_variables}
 use Rattle.fol_base.specs.Instance.{instance, substitution}
 use Rattle.fol_base.specs.Clause.{TreeLiteral, TreeClause, LiteralVariablesBelow, literal_variables, clause_variables}
 use Rattle.fol_base.specs.Ground.{literals_instance}

@@ -1,14 +1,13 @@
 -- Superposition from a side into a place, by a most general unifier: where there is none, and what it is where the order allows it.
-use Rattle.std.proofs.Common.{◌≡◌, ◌⊎◌, ℕ, ◌+◌, ◌<◌, ◌≤◌, Bool, true, false, ◌&&◌, ◌||◌, Option, None, Some, List, [], ◌++◌, length, map, refl, ap, ap₂, sym, ◌∙◌, subst, inl, inr, ⊎_elim, arith}
-use Rattle.std.specs.Prelude.{sum_by, slice_get}
+use Rattle.std.proofs.Common.{◌≡◌, ◌⊎◌, ℕ, ◌<◌, ◌≤◌, Bool, true, false, ◌&&◌, ◌||◌, Option, None, Some, List, [], ◌++◌, length, map, refl, ap, ap₂, sym, ◌∙◌, subst, inl, inr, ⊎_elim, arith}
+use Rattle.std.specs.Prelude.{sum_by}
 use Rattle.std.specs.List.{AllByRecursion}
-use Rattle.std.specs.Option.{is_some, option_map}
-use Rattle.std.proofs.lemmas.Bool.{true≢false, cond-true, and_from, and_parts, or_left, or_right, not-true, lt-ltb, false_from_ne_true, cases_Bool}
-use Rattle.std.proofs.lemmas.Grind.{flat_map-append}
+use Rattle.std.specs.Option.{option_map}
+use Rattle.std.proofs.lemmas.Bool.{true≢false, cond-true, and_from, or_left, or_right, lt-ltb, cases_Bool}
 use Rattle.std.proofs.lemmas.List.{map-append, length-map}
 use Rattle.std.proofs.lemmas.Option.{same_Some}
 use Rattle.plain_types.specs.declared.sequence.NameLit.{NameLit}
-use Rattle.fol_base.specs.Tree.{Tree, tree_size, tree_variables, trees_of, trees_variables, VariablesBelow, is_truth}
+use Rattle.fol_base.specs.Tree.{Tree, trees_of, trees_variables}
 use Rattle.fol_base.specs.Instance.{Substitution, instance, substitution}
 use Rattle.fol_base.specs.InstanceLaws.{after}
 use Rattle.fol_base.specs.Place.{subterm}
@@ -18,7 +17,7 @@ use Rattle.fol_base.specs.Canonical.{renaming, bound_of}
 use Rattle.fol_base.specs.Kind.{is_literal}
 use Rattle.fol_base.specs.Numbering.{with_variables}
 use Rattle.fol_base.specs.Selection.{SelectionMode, chosen, eligible}
-use Rattle.fol_base.specs.Sides.{side_of, other_side_of}
+use Rattle.fol_base.specs.Sides.{side_of}
 use Rattle.fol_base.specs.Unifier.{IsUnifierApart}
 use Rattle.fol_base.specs.declared.clause.Side.TheVariants.{Left, Right}
 use Rattle.fol_base.specs.declared.limits.TheConstants.{MOST_SYMBOLS, MOST_BOUND_SYMBOLS}
@@ -51,7 +50,7 @@ use Rattle.superpose.proofs.AllowLemmas.{Allowed, allows-parts, allows-from, all
 use Rattle.superpose.proofs.ApartLemmas.{wide_by, left_fresh, right_fresh, wide_by-literals, wide_by-back, wide_apart}
 use Rattle.superpose.proofs.KindLemmas.{kinds-alike}
 use Rattle.superpose.proofs.StepLemmas.{appended_variables}
-use Rattle.superpose.proofs.TermsLemmas.{left-many, right-many, left-below, right-below, s-below, old-below, general, left-size, right-size, plain, superposition_gives, plain_size}
+use Rattle.superpose.proofs.TermsLemmas.{left-many, right-many, left-below, right-below, s-below, old-below, general, left-size, right-size, plain, superposition_gives}
 
 -- ---- the verdict
 

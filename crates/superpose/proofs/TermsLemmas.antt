@@ -1,5 +1,5 @@
 -- Two premises under the terms that a most general unifier gives for their variables: what the rule gives, and its size.
-use Rattle.std.proofs.Common.{◌≡◌, ℕ, zero, suc, ◌+◌, ◌*◌, ◌<◌, true, false, Option, Some, List, [], ◌∷◌, ◌++◌, length, get_or, refl, ap, ap₂, sym, ◌∙◌, subst, arith}
+use Rattle.std.proofs.Common.{◌≡◌, ℕ, zero, suc, ◌+◌, ◌*◌, false, Option, Some, List, [], ◌∷◌, ◌++◌, length, get_or, refl, ap, sym, ◌∙◌, subst, arith}
 use Rattle.std.specs.Prelude.{sum_by, slice_get, slice_set, remove}
 use Rattle.std.specs.List.{AllByRecursion}
 use Rattle.std.proofs.lemmas.Bool.{true≢false, and_parts, not-true}
@@ -15,7 +15,7 @@ use Rattle.fol_base.specs.Sides.{side_of, other_side_of, with_side}
 use Rattle.fol_base.specs.declared.clause.Side.{Side}
 use Rattle.fol_base.specs.declared.clause.Side.TheVariants.{Left, Right}
 use Rattle.fol_base.proofs.CanonicalLemmas.{length-terms_from}
-use Rattle.fol_base.proofs.InferenceLemmas.{literal_in_instance, side_of-instance, other_side_of-instance}
+use Rattle.fol_base.proofs.InferenceLemmas.{literal_in_instance, side_of-instance}
 use Rattle.fol_base.proofs.InstancePlaces.{subterms_of_instances}
 use Rattle.fol_base.proofs.RuleLemmas.{superposed_literal-from, superposed-from}
 use Rattle.fol_base.proofs.VariableLemmas.{ClauseVariablesBelow-bound}
@@ -25,7 +25,7 @@ use Rattle.unifier.specs.SolvedForm.{SolvedForm, substitution_of}
 use Rattle.unifier.proofs.SharedLemmas.{shared_unify_apart, shared_keep_sizes}
 use Rattle.eq_rules.proofs.PremiseLemmas.{clause-below, literal-below}
 use Rattle.eq_rules.proofs.SideLemmas.{side-below, sides-size}
-use Rattle.superpose.specs.Superposing.{StartsAt, EntersAt, SuperposesBy}
+use Rattle.superpose.specs.Superposing.{SuperposesBy}
 use Rattle.superpose.specs.Concluding.{superposed_at}
 use Rattle.superpose.specs.declared.sites.LiteralSide.{LiteralSide}
 use Rattle.superpose.specs.declared.sites.LiteralPlace.{LiteralPlace}

@@ -1,6 +1,6 @@
 -- Superposition from one site into another.
 use mathlib.Core.Bool.{beq}
-use Rattle.std.specs.Prelude.{◌≡◌, ℕ, Bool, true, false, ◌&&◌, not, List, [], ◌∷◌, slice_get, Option, None, Some, option_map, IsTrue, if◌then◌else◌, ◌==◌}
+use Rattle.std.specs.Prelude.{◌≡◌, ℕ, Bool, true, false, ◌&&◌, not, List, [], ◌∷◌, slice_get, Option, None, Some, IsTrue}
 use Rattle.fol_base.specs.Tree.{Tree, tree_eq, is_truth, is_variable}
 use Rattle.fol_base.specs.Instance.{Substitution, instance}
 use Rattle.fol_base.specs.Place.{subterm}

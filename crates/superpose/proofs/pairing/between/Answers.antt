@@ -1,4 +1,4 @@
-use Rattle.std.proofs.Common.{◌≡◌, List, [], ap, sym, ◌∙◌, subst}
+use Rattle.std.proofs.Common.{List, [], ap, subst}
 use Rattle.fol_base.specs.Selection.{SelectionMode}
 use Rattle.literal_selection.specs.Mode.{mode_of}
 use Rattle.eq_rules.specs.declared.inference.Inference.{Inference}

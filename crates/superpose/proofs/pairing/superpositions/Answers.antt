@@ -1,11 +1,6 @@
-use Rattle.std.proofs.Common.{◌≡◌, ◌<◌, ◌≤◌, ℕ, List, Some, length, take, ap, refl, sym, ◌∙◌, subst, arith}
-use Rattle.std.specs.Prelude.{slice_get}
+use Rattle.std.proofs.Common.{◌≡◌, ◌<◌, length, take, arith}
 use Rattle.std.proofs.lemmas.List.{take_all}
-use Rattle.std.proofs.lemmas.Option.{slice_get-get_or}
 use Rattle.literal_selection.specs.Mode.{mode_of}
-use Rattle.superpose.specs.Pairing.{AddsTried, keys_between}
-use Rattle.superpose.specs.declared.sites.LiteralSide.{LiteralSide}
-use Rattle.superpose.specs.declared.sites.LiteralPlace.{LiteralPlace}
 use Rattle.superpose.proofs.TriedLemmas.{adds-nothing, adds-next, adds-all}
 use Rattle.superpose.proofs.pairing.superpositions.Goals as goal
 

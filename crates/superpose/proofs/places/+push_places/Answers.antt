@@ -4,7 +4,7 @@ use Rattle.fol_base.specs.Tree.{tree_size, trees_size, trees_of}
 use Rattle.fol_base.specs.Term.{tree_of}
 use Rattle.fol_base.proofs.TermLemmas.{tree_size-item}
 use Rattle.superpose.proofs.ListLemmas.{popped}
-use Rattle.superpose.proofs.SiteLemmas.{arguments_more, place_pushed}
+use Rattle.superpose.proofs.SiteLemmas.{arguments_more}
 use Rattle.superpose.proofs.places.+push_places.Goals as goal
 
 pub push_argument_places-push_places-requires : goal.push_argument_places-push_places-requires

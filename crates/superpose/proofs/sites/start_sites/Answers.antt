@@ -1,11 +1,10 @@
-use Rattle.std.proofs.Common.{◌≡◌, ◌++◌, ◌∷◌, [], ℕ, true, false, Option, None, Some, List, length, ap, refl, sym, ◌∙◌, arith}
+use Rattle.std.proofs.Common.{◌≡◌, ◌++◌, ◌∷◌, [], ℕ, false, Option, None, Some, List, length, ap, refl, sym, ◌∙◌, arith}
 use Rattle.std.proofs.lemmas.Bool.{true≢false}
 use Rattle.std.specs.Prelude.{filter}
 use Rattle.std.specs.Option.{is_some}
 use Rattle.std.proofs.lemmas.List.{length-map}
 use Rattle.term_bank.specs.Literal.{literal_at}
 use Rattle.term_bank.specs.declared.literal.BankLit.{BankLit}
-use Rattle.fol_base.specs.Clause.{TreeLiteral}
 use Rattle.bank_clause.specs.Clause.{clause_at}
 use Rattle.superpose.specs.Sites.{all_sides, can_start}
 use Rattle.superpose.specs.declared.sites.LiteralSide.{LiteralSide}

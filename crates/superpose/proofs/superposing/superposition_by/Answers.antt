@@ -1,4 +1,4 @@
-use Rattle.std.proofs.Common.{◌≡◌, ℕ, ◌+◌, ◌*◌, ◌-◌, ◌^◌, ◌<◌, ◌≤◌, min, max, true, false, Some, List, length, arith, ap, ap₂, sym, ◌∙◌, subst}
+use Rattle.std.proofs.Common.{◌≡◌, ℕ, ◌-◌, ◌^◌, ◌<◌, min, List, length, arith, ap, ap₂, sym, ◌∙◌, subst}
 use Rattle.std.specs.Prelude.{sum_by, slice_get}
 use Rattle.std.specs.Option.{is_some}
 use Rattle.std.proofs.lemmas.Option.{slice_get_within, same_Some}
@@ -10,14 +10,13 @@ use Rattle.fol_base.specs.Canonical.{bound_of}
 use Rattle.fol_base.specs.Lent.{lent_of}
 use Rattle.fol_base.specs.Sides.{side_of}
 use Rattle.fol_base.specs.declared.clause.Side.TheVariants.{Left, Right}
-use Rattle.fol_base.specs.declared.limits.TheConstants.{MOST_SYMBOLS, SIZE_LIMIT}
+use Rattle.fol_base.specs.declared.limits.TheConstants.{SIZE_LIMIT}
 use Rattle.term_bank.specs.Literal.{literals_at}
 use Rattle.bank_clause.specs.Clause.{clause_at}
 use Rattle.unifier.specs.Renaming.{AreRenamed}
 use Rattle.unifier.specs.Sizes.{stopped}
 use Rattle.unifier.specs.SolvedForm.{substitution_of}
 use Rattle.superpose.specs.Superposing.{allows}
-use Rattle.superpose.specs.Concluding.{superposed_at}
 use Rattle.superpose.proofs.TermsLemmas.{left-many, right-many, superposition_gives}
 use Rattle.superpose.proofs.SizeLemmas.{left_sum, right_sum, side_low, made_size, allowed_none, heavy_by_size, concluded_by_step}
 use Rattle.superpose.proofs.superposing.superposition_by.Goals as goal
