@@ -1,6 +1,6 @@
 // Superposition, on clauses worked out by hand.
 
-ghost use Rattle.std.specs.Prelude.{◌≡◌, IfOk, IfSome};
+ghost use Rattle.std.specs.Prelude.{IfOk, IfSome};
 ghost use Rattle.term_bank.specs.Table.{IsTableOf};
 ghost use Rattle.bank_clause.specs.Clause.{IsMemberOf};
 
@@ -70,7 +70,7 @@ fn member<R: Wait>(
     clause: &Clause,
 ) -> Mem<Option<Member>>
     requires { IsTableOf bank.now table.old }
-    ensures made { IfOk result (λ made. IfSome made (λ m. IsMemberOf bank.now m × (m.number ≡ number))) }
+    ensures made { IfOk result (λ made. IfSome made (IsMemberOf bank.now)) }
     ensures table { IsTableOf bank.now table.new }
 {
     if !clause.names.is_empty() || !is_canonical(clause) || clause.size() >= SIZE_LIMIT {
@@ -95,6 +95,9 @@ fn found_between<R: Wait>(
     let Some(second) = member(rt, alloc, &bank, &mut table, 1, second)? else {
         return Ok(None);
     };
+    if first.number == second.number {
+        return Ok(None);
+    }
     Ok(Some(between(alloc, &bank, &first, &second, Selection::Negative)?))
 }
 
