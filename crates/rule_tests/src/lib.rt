@@ -3,5 +3,3 @@
 
 #[cfg(test)]
 mod one_premise;
-#[cfg(test)]
-mod two_premises;
