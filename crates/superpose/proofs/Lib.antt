@@ -1,0 +1,13 @@
+pub mod ApartLemmas
+pub mod AllowLemmas
+pub mod KindLemmas
+pub mod PlaceLemmas
+pub mod TermsLemmas
+pub mod NumberingLemmas
+pub mod StepLemmas
+pub mod SuperposeLemmas
+pub mod SizeLemmas
+pub mod ListLemmas
+pub mod SiteLemmas
+pub mod SitesThere
+pub mod TriedLemmas

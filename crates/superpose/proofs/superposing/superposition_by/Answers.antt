@@ -1,0 +1,322 @@
+use Rattle.std.proofs.Common.{◌≡◌, ℕ, ◌-◌, ◌^◌, ◌<◌, min, List, length, arith, ap, ap₂, sym, ◌∙◌, subst}
+use Rattle.std.specs.Prelude.{sum_by, slice_get}
+use Rattle.std.specs.Option.{is_some}
+use Rattle.std.proofs.lemmas.Option.{slice_get_within, same_Some}
+use Rattle.fol_base.specs.Tree.{Tree, tree_size}
+use Rattle.fol_base.specs.Instance.{instance, substitution}
+use Rattle.fol_base.specs.Clause.{TreeLiteral, literal_size, clause_size, clause_instance, clause_variables}
+use Rattle.fol_base.specs.Ground.{literals_instance}
+use Rattle.fol_base.specs.Canonical.{bound_of}
+use Rattle.fol_base.specs.Lent.{lent_of}
+use Rattle.fol_base.specs.Sides.{side_of}
+use Rattle.fol_base.specs.declared.clause.Side.TheVariants.{Left, Right}
+use Rattle.fol_base.specs.declared.limits.TheConstants.{SIZE_LIMIT}
+use Rattle.term_bank.specs.Literal.{literals_at}
+use Rattle.bank_clause.specs.Clause.{clause_at}
+use Rattle.unifier.specs.Renaming.{AreRenamed}
+use Rattle.unifier.specs.Sizes.{stopped}
+use Rattle.unifier.specs.SolvedForm.{substitution_of}
+use Rattle.superpose.specs.Superposing.{allows}
+use Rattle.superpose.proofs.TermsLemmas.{left-many, right-many, superposition_gives}
+use Rattle.superpose.proofs.SizeLemmas.{left_sum, right_sum, side_low, made_size, allowed_none, heavy_by_size, concluded_by_step}
+use Rattle.superpose.proofs.superposing.superposition_by.Goals as goal
+
+pub allows-requires-clause-first_size : goal.allows-requires-clause-first_size
+allows-requires-clause-first_size c =
+    let m = c.args.first.now.member.now in
+    let n = c.args.second.now.member.now in
+    let first = clause_at m.clause in
+    let second = clause_at n.clause in
+    let s = c.args.from in
+    let t = c.args.into.now in
+    let b = c.args.unifier.now in
+    let r = c.requires.unified in
+    let left = c.in_ok-left_terms.left_terms in
+    let right = c.in_ok-left_terms.right_terms in
+    let h : AreRenamed b (bound_of (clause_variables first)) (bound_of (clause_variables second)) left right =
+    subst (λ (k : ℕ). AreRenamed b (bound_of (clause_variables first)) k left right) c.variable_bound-2.ensures.variables
+    (subst (λ (k : ℕ). AreRenamed b k c.variable_bound-2.result left right) c.variable_bound.ensures.variables c.in_ok-left_terms.ensures) in
+    let left_told = c.in_ok-left_size.left_size in
+    let right_told = c.in_ok-right_size.right_size in
+    let left_is : left_told ≡ stopped (clause_size (clause_instance (substitution_of b Left) first)) =
+    c.in_ok-left_size.ensures ∙ ap (λ ls. stopped (sum_by literal_size (literals_instance (substitution_of b Left) (literals_at ls)))) c.literals.ensures.literals in
+    let right_is : right_told ≡ stopped (clause_size (clause_instance (substitution_of b Right) second)) =
+    c.in_ok-right_size.ensures ∙ ap (λ ls. stopped (sum_by literal_size (literals_instance (substitution_of b Right) (literals_at ls)))) c.literals-2.ensures.literals in
+    let left_low : left_told < SIZE_LIMIT = omega (arith, c.if-left_size-ge-SIZE_LIMIT.false) in
+    let right_low : right_told < SIZE_LIMIT = omega (arith, c.if-right_size-ge-SIZE_LIMIT.false) in
+    let lent : sum_by literal_size (literals_instance (substitution left) c.lend-left_literals.result)
+    ≡ sum_by literal_size (literals_instance (substitution left) first.literals) =
+    ap (λ ls. sum_by literal_size (literals_instance (substitution left) ls)) c.lend-left_literals.ensures in
+    omega (arith, lent, left_sum m n s t b r left right h left_told right_told left_is right_is left_low right_low, left_low)
+
+pub allows-requires-clause-second_size : goal.allows-requires-clause-second_size
+allows-requires-clause-second_size c =
+    let m = c.args.first.now.member.now in
+    let n = c.args.second.now.member.now in
+    let first = clause_at m.clause in
+    let second = clause_at n.clause in
+    let s = c.args.from in
+    let t = c.args.into.now in
+    let b = c.args.unifier.now in
+    let r = c.requires.unified in
+    let left = c.in_ok-left_terms.left_terms in
+    let right = c.in_ok-left_terms.right_terms in
+    let h : AreRenamed b (bound_of (clause_variables first)) (bound_of (clause_variables second)) left right =
+    subst (λ (k : ℕ). AreRenamed b (bound_of (clause_variables first)) k left right) c.variable_bound-2.ensures.variables
+    (subst (λ (k : ℕ). AreRenamed b k c.variable_bound-2.result left right) c.variable_bound.ensures.variables c.in_ok-left_terms.ensures) in
+    let left_told = c.in_ok-left_size.left_size in
+    let right_told = c.in_ok-right_size.right_size in
+    let left_is : left_told ≡ stopped (clause_size (clause_instance (substitution_of b Left) first)) =
+    c.in_ok-left_size.ensures ∙ ap (λ ls. stopped (sum_by literal_size (literals_instance (substitution_of b Left) (literals_at ls)))) c.literals.ensures.literals in
+    let right_is : right_told ≡ stopped (clause_size (clause_instance (substitution_of b Right) second)) =
+    c.in_ok-right_size.ensures ∙ ap (λ ls. stopped (sum_by literal_size (literals_instance (substitution_of b Right) (literals_at ls)))) c.literals-2.ensures.literals in
+    let left_low : left_told < SIZE_LIMIT = omega (arith, c.if-left_size-ge-SIZE_LIMIT.false) in
+    let right_low : right_told < SIZE_LIMIT = omega (arith, c.if-right_size-ge-SIZE_LIMIT.false) in
+    let lent : sum_by literal_size (literals_instance (substitution right) c.lend-right_literals.result)
+    ≡ sum_by literal_size (literals_instance (substitution right) second.literals) =
+    ap (λ ls. sum_by literal_size (literals_instance (substitution right) ls)) c.lend-right_literals.ensures in
+    omega (arith, lent, right_sum m n s t b r left right h left_told right_told left_is right_is left_low right_low, right_low)
+
+pub returns-then-not-allows : goal.returns-then-not-allows
+returns-then-not-allows c mode sites =
+    let m = c.args.first.now.member.now in
+    let n = c.args.second.now.member.now in
+    let first = clause_at m.clause in
+    let second = clause_at n.clause in
+    let s = c.args.from in
+    let t = c.args.into.now in
+    let b = c.args.unifier.now in
+    let r = c.requires.unified in
+    let left = c.in_ok-left_terms.left_terms in
+    let right = c.in_ok-left_terms.right_terms in
+    let h : AreRenamed b (bound_of (clause_variables first)) (bound_of (clause_variables second)) left right =
+    subst (λ (k : ℕ). AreRenamed b (bound_of (clause_variables first)) k left right) c.variable_bound-2.ensures.variables
+    (subst (λ (k : ℕ). AreRenamed b k c.variable_bound-2.result left right) c.variable_bound.ensures.variables c.in_ok-left_terms.ensures) in
+    let left_told = c.in_ok-left_size.left_size in
+    let right_told = c.in_ok-right_size.right_size in
+    let left_is : left_told ≡ stopped (clause_size (clause_instance (substitution_of b Left) first)) =
+    c.in_ok-left_size.ensures ∙ ap (λ ls. stopped (sum_by literal_size (literals_instance (substitution_of b Left) (literals_at ls)))) c.literals.ensures.literals in
+    let right_is : right_told ≡ stopped (clause_size (clause_instance (substitution_of b Right) second)) =
+    c.in_ok-right_size.ensures ∙ ap (λ ls. stopped (sum_by literal_size (literals_instance (substitution_of b Right) (literals_at ls)))) c.literals-2.ensures.literals in
+    let left_low : left_told < SIZE_LIMIT = omega (arith, c.if-left_size-ge-SIZE_LIMIT.false) in
+    let right_low : right_told < SIZE_LIMIT = omega (arith, c.if-right_size-ge-SIZE_LIMIT.false) in
+    let allowed =
+    ap₂ (λ (ls ks : List TreeLiteral). allows ls s ks t c.args.second.now.sites.now.choice (substitution left) (substitution right))
+    (sym c.lend-left_literals.ensures) (sym c.lend-right_literals.ensures)
+    ∙ sym c.if-not-allows.ensures in
+    allowed_none m n s t b r left right h left_told right_told left_is right_is left_low right_low mode c.args.second.now.sites.now.choice sites allowed
+
+pub literal-equation-requires : goal.literal-equation-requires
+literal-equation-requires c =
+    let r = c.requires.unified in
+    omega (arith, ap (λ (ls : List TreeLiteral). length ls) c.lend-left_literals.ensures, slice_get_within _ c.args.from.literal r.starts.literal r.starts.there)
+
+pub overflow_mul-made_size : goal.overflow_mul-made_size
+overflow_mul-made_size c =
+    let m = c.args.first.now.member.now in
+    let n = c.args.second.now.member.now in
+    let first = clause_at m.clause in
+    let second = clause_at n.clause in
+    let s = c.args.from in
+    let t = c.args.into.now in
+    let b = c.args.unifier.now in
+    let r = c.requires.unified in
+    let left = c.in_ok-left_terms.left_terms in
+    let right = c.in_ok-left_terms.right_terms in
+    let h : AreRenamed b (bound_of (clause_variables first)) (bound_of (clause_variables second)) left right =
+    subst (λ (k : ℕ). AreRenamed b (bound_of (clause_variables first)) k left right) c.variable_bound-2.ensures.variables
+    (subst (λ (k : ℕ). AreRenamed b k c.variable_bound-2.result left right) c.variable_bound.ensures.variables c.in_ok-left_terms.ensures) in
+    let left_told = c.in_ok-left_size.left_size in
+    let right_told = c.in_ok-right_size.right_size in
+    let left_is : left_told ≡ stopped (clause_size (clause_instance (substitution_of b Left) first)) =
+    c.in_ok-left_size.ensures ∙ ap (λ ls. stopped (sum_by literal_size (literals_instance (substitution_of b Left) (literals_at ls)))) c.literals.ensures.literals in
+    let right_is : right_told ≡ stopped (clause_size (clause_instance (substitution_of b Right) second)) =
+    c.in_ok-right_size.ensures ∙ ap (λ ls. stopped (sum_by literal_size (literals_instance (substitution_of b Right) (literals_at ls)))) c.literals-2.ensures.literals in
+    let left_low : left_told < SIZE_LIMIT = omega (arith, c.if-left_size-ge-SIZE_LIMIT.false) in
+    let right_low : right_told < SIZE_LIMIT = omega (arith, c.if-right_size-ge-SIZE_LIMIT.false) in
+    let equation : lent_of c.literal-equation.result ≡ r.starts.literal =
+    same_Some (lent_of c.literal-equation.result) r.starts.literal
+    (sym c.literal-equation.ensures ∙ ap (λ (ls : List TreeLiteral). slice_get ls s.literal) c.lend-left_literals.ensures ∙ r.starts.there) in
+    let size_is : tree_size (instance (substitution left) (side_of s.side (lent_of c.literal-equation.result)))
+    ≡ tree_size (instance (substitution left) (side_of s.side r.starts.literal)) =
+    ap (λ (l : TreeLiteral). tree_size (instance (substitution left) (side_of s.side l))) equation in
+    let told : c.instance_size-gone.result ≡ min (tree_size (instance (substitution left) (side_of s.side r.starts.literal))) (2 ^ 64 - 1) =
+    c.instance_size-gone.ensures ∙ ap (λ (u : Tree). min (tree_size (instance (substitution left) u)) (2 ^ 64 - 1)) c.side.ensures
+    ∙ ap (λ k. min k (2 ^ 64 - 1)) size_is in
+    let low = side_low m n s t b r left right h left_told right_told left_is right_is left_low right_low in
+    let gone_is : c.instance_size-gone.result ≡ tree_size (instance (substitution left) (side_of s.side r.starts.literal)) = omega (arith, told, low, left_low) in
+    omega (arith, gone_is, low, left_low)
+
+pub overflow_sub-made_size : goal.overflow_sub-made_size
+overflow_sub-made_size c =
+    let m = c.args.first.now.member.now in
+    let n = c.args.second.now.member.now in
+    let first = clause_at m.clause in
+    let second = clause_at n.clause in
+    let s = c.args.from in
+    let t = c.args.into.now in
+    let b = c.args.unifier.now in
+    let r = c.requires.unified in
+    let left = c.in_ok-left_terms.left_terms in
+    let right = c.in_ok-left_terms.right_terms in
+    let h : AreRenamed b (bound_of (clause_variables first)) (bound_of (clause_variables second)) left right =
+    subst (λ (k : ℕ). AreRenamed b (bound_of (clause_variables first)) k left right) c.variable_bound-2.ensures.variables
+    (subst (λ (k : ℕ). AreRenamed b k c.variable_bound-2.result left right) c.variable_bound.ensures.variables c.in_ok-left_terms.ensures) in
+    let left_told = c.in_ok-left_size.left_size in
+    let right_told = c.in_ok-right_size.right_size in
+    let left_is : left_told ≡ stopped (clause_size (clause_instance (substitution_of b Left) first)) =
+    c.in_ok-left_size.ensures ∙ ap (λ ls. stopped (sum_by literal_size (literals_instance (substitution_of b Left) (literals_at ls)))) c.literals.ensures.literals in
+    let right_is : right_told ≡ stopped (clause_size (clause_instance (substitution_of b Right) second)) =
+    c.in_ok-right_size.ensures ∙ ap (λ ls. stopped (sum_by literal_size (literals_instance (substitution_of b Right) (literals_at ls)))) c.literals-2.ensures.literals in
+    let left_low : left_told < SIZE_LIMIT = omega (arith, c.if-left_size-ge-SIZE_LIMIT.false) in
+    let right_low : right_told < SIZE_LIMIT = omega (arith, c.if-right_size-ge-SIZE_LIMIT.false) in
+    let equation : lent_of c.literal-equation.result ≡ r.starts.literal =
+    same_Some (lent_of c.literal-equation.result) r.starts.literal
+    (sym c.literal-equation.ensures ∙ ap (λ (ls : List TreeLiteral). slice_get ls s.literal) c.lend-left_literals.ensures ∙ r.starts.there) in
+    let size_is : tree_size (instance (substitution left) (side_of s.side (lent_of c.literal-equation.result)))
+    ≡ tree_size (instance (substitution left) (side_of s.side r.starts.literal)) =
+    ap (λ (l : TreeLiteral). tree_size (instance (substitution left) (side_of s.side l))) equation in
+    let told : c.instance_size-gone.result ≡ min (tree_size (instance (substitution left) (side_of s.side r.starts.literal))) (2 ^ 64 - 1) =
+    c.instance_size-gone.ensures ∙ ap (λ (u : Tree). min (tree_size (instance (substitution left) u)) (2 ^ 64 - 1)) c.side.ensures
+    ∙ ap (λ k. min k (2 ^ 64 - 1)) size_is in
+    let low = side_low m n s t b r left right h left_told right_told left_is right_is left_low right_low in
+    let gone_is : c.instance_size-gone.result ≡ tree_size (instance (substitution left) (side_of s.side r.starts.literal)) = omega (arith, told, low, left_low) in
+    omega (arith, gone_is, made_size m n s t b r left right h left_told right_told left_is right_is left_low right_low)
+
+pub returns-then-max-gt-MOST_SYMBOLS : goal.returns-then-max-gt-MOST_SYMBOLS
+returns-then-max-gt-MOST_SYMBOLS c mode sites =
+    let m = c.args.first.now.member.now in
+    let n = c.args.second.now.member.now in
+    let first = clause_at m.clause in
+    let second = clause_at n.clause in
+    let s = c.args.from in
+    let t = c.args.into.now in
+    let b = c.args.unifier.now in
+    let r = c.requires.unified in
+    let left = c.in_ok-left_terms.left_terms in
+    let right = c.in_ok-left_terms.right_terms in
+    let h : AreRenamed b (bound_of (clause_variables first)) (bound_of (clause_variables second)) left right =
+    subst (λ (k : ℕ). AreRenamed b (bound_of (clause_variables first)) k left right) c.variable_bound-2.ensures.variables
+    (subst (λ (k : ℕ). AreRenamed b k c.variable_bound-2.result left right) c.variable_bound.ensures.variables c.in_ok-left_terms.ensures) in
+    let left_told = c.in_ok-left_size.left_size in
+    let right_told = c.in_ok-right_size.right_size in
+    let left_is : left_told ≡ stopped (clause_size (clause_instance (substitution_of b Left) first)) =
+    c.in_ok-left_size.ensures ∙ ap (λ ls. stopped (sum_by literal_size (literals_instance (substitution_of b Left) (literals_at ls)))) c.literals.ensures.literals in
+    let right_is : right_told ≡ stopped (clause_size (clause_instance (substitution_of b Right) second)) =
+    c.in_ok-right_size.ensures ∙ ap (λ ls. stopped (sum_by literal_size (literals_instance (substitution_of b Right) (literals_at ls)))) c.literals-2.ensures.literals in
+    let left_low : left_told < SIZE_LIMIT = omega (arith, c.if-left_size-ge-SIZE_LIMIT.false) in
+    let right_low : right_told < SIZE_LIMIT = omega (arith, c.if-right_size-ge-SIZE_LIMIT.false) in
+    let allowed =
+    ap₂ (λ (ls ks : List TreeLiteral). allows ls s ks t c.args.second.now.sites.now.choice (substitution left) (substitution right))
+    (sym c.lend-left_literals.ensures) (sym c.lend-right_literals.ensures)
+    ∙ sym c.if-not-allows.ensures in
+    let equation : lent_of c.literal-equation.result ≡ r.starts.literal =
+    same_Some (lent_of c.literal-equation.result) r.starts.literal
+    (sym c.literal-equation.ensures ∙ ap (λ (ls : List TreeLiteral). slice_get ls s.literal) c.lend-left_literals.ensures ∙ r.starts.there) in
+    let size_is : tree_size (instance (substitution left) (side_of s.side (lent_of c.literal-equation.result)))
+    ≡ tree_size (instance (substitution left) (side_of s.side r.starts.literal)) =
+    ap (λ (l : TreeLiteral). tree_size (instance (substitution left) (side_of s.side l))) equation in
+    let told : c.instance_size-gone.result ≡ min (tree_size (instance (substitution left) (side_of s.side r.starts.literal))) (2 ^ 64 - 1) =
+    c.instance_size-gone.ensures ∙ ap (λ (u : Tree). min (tree_size (instance (substitution left) u)) (2 ^ 64 - 1)) c.side.ensures
+    ∙ ap (λ k. min k (2 ^ 64 - 1)) size_is in
+    let low = side_low m n s t b r left right h left_told right_told left_is right_is left_low right_low in
+    let gone_is : c.instance_size-gone.result ≡ tree_size (instance (substitution left) (side_of s.side r.starts.literal)) = omega (arith, told, low, left_low) in
+    heavy_by_size m n s t b r left right h left_told right_told left_is right_is left_low right_low mode c.args.second.now.sites.now.choice sites allowed
+    c.instance_size-gone.result gone_is (omega (arith, c.max.ensures, c.max-2.ensures, c.if-max-gt-MOST_SYMBOLS.true))
+
+pub conclude_superposition-requires-clause-from_inside : goal.conclude_superposition-requires-clause-from_inside
+conclude_superposition-requires-clause-from_inside c =
+    let r = c.requires.unified in slice_get_within _ c.args.from.literal r.starts.literal r.starts.there
+
+pub conclude_superposition-requires-clause-first_covers : goal.conclude_superposition-requires-clause-first_covers
+conclude_superposition-requires-clause-first_covers c =
+    let m = c.args.first.now.member.now in
+    let n = c.args.second.now.member.now in
+    let first = clause_at m.clause in
+    let second = clause_at n.clause in
+    let s = c.args.from in
+    let t = c.args.into.now in
+    let b = c.args.unifier.now in
+    let r = c.requires.unified in
+    let left = c.in_ok-left_terms.left_terms in
+    let right = c.in_ok-left_terms.right_terms in
+    let h : AreRenamed b (bound_of (clause_variables first)) (bound_of (clause_variables second)) left right =
+    subst (λ (k : ℕ). AreRenamed b (bound_of (clause_variables first)) k left right) c.variable_bound-2.ensures.variables
+    (subst (λ (k : ℕ). AreRenamed b k c.variable_bound-2.result left right) c.variable_bound.ensures.variables c.in_ok-left_terms.ensures) in
+    left-many first s second t b r left right h
+
+pub conclude_superposition-requires-clause-second_covers : goal.conclude_superposition-requires-clause-second_covers
+conclude_superposition-requires-clause-second_covers c =
+    let m = c.args.first.now.member.now in
+    let n = c.args.second.now.member.now in
+    let first = clause_at m.clause in
+    let second = clause_at n.clause in
+    let s = c.args.from in
+    let t = c.args.into.now in
+    let b = c.args.unifier.now in
+    let r = c.requires.unified in
+    let left = c.in_ok-left_terms.left_terms in
+    let right = c.in_ok-left_terms.right_terms in
+    let h : AreRenamed b (bound_of (clause_variables first)) (bound_of (clause_variables second)) left right =
+    subst (λ (k : ℕ). AreRenamed b (bound_of (clause_variables first)) k left right) c.variable_bound-2.ensures.variables
+    (subst (λ (k : ℕ). AreRenamed b k c.variable_bound-2.result left right) c.variable_bound.ensures.variables c.in_ok-left_terms.ensures) in
+    right-many first s second t b r left right h
+
+pub conclude_superposition-requires-clause-applies : goal.conclude_superposition-requires-clause-applies
+conclude_superposition-requires-clause-applies c =
+    let m = c.args.first.now.member.now in
+    let n = c.args.second.now.member.now in
+    let first = clause_at m.clause in
+    let second = clause_at n.clause in
+    let s = c.args.from in
+    let t = c.args.into.now in
+    let b = c.args.unifier.now in
+    let r = c.requires.unified in
+    let left = c.in_ok-left_terms.left_terms in
+    let right = c.in_ok-left_terms.right_terms in
+    let h : AreRenamed b (bound_of (clause_variables first)) (bound_of (clause_variables second)) left right =
+    subst (λ (k : ℕ). AreRenamed b (bound_of (clause_variables first)) k left right) c.variable_bound-2.ensures.variables
+    (subst (λ (k : ℕ). AreRenamed b k c.variable_bound-2.result left right) c.variable_bound.ensures.variables c.in_ok-left_terms.ensures) in
+    ap is_some (superposition_gives first s second t b r left right h)
+
+pub returns : goal.returns
+returns c mode sites =
+    let m = c.args.first.now.member.now in
+    let n = c.args.second.now.member.now in
+    let first = clause_at m.clause in
+    let second = clause_at n.clause in
+    let s = c.args.from in
+    let t = c.args.into.now in
+    let b = c.args.unifier.now in
+    let r = c.requires.unified in
+    let left = c.in_ok-left_terms.left_terms in
+    let right = c.in_ok-left_terms.right_terms in
+    let h : AreRenamed b (bound_of (clause_variables first)) (bound_of (clause_variables second)) left right =
+    subst (λ (k : ℕ). AreRenamed b (bound_of (clause_variables first)) k left right) c.variable_bound-2.ensures.variables
+    (subst (λ (k : ℕ). AreRenamed b k c.variable_bound-2.result left right) c.variable_bound.ensures.variables c.in_ok-left_terms.ensures) in
+    let left_told = c.in_ok-left_size.left_size in
+    let right_told = c.in_ok-right_size.right_size in
+    let left_is : left_told ≡ stopped (clause_size (clause_instance (substitution_of b Left) first)) =
+    c.in_ok-left_size.ensures ∙ ap (λ ls. stopped (sum_by literal_size (literals_instance (substitution_of b Left) (literals_at ls)))) c.literals.ensures.literals in
+    let right_is : right_told ≡ stopped (clause_size (clause_instance (substitution_of b Right) second)) =
+    c.in_ok-right_size.ensures ∙ ap (λ ls. stopped (sum_by literal_size (literals_instance (substitution_of b Right) (literals_at ls)))) c.literals-2.ensures.literals in
+    let left_low : left_told < SIZE_LIMIT = omega (arith, c.if-left_size-ge-SIZE_LIMIT.false) in
+    let right_low : right_told < SIZE_LIMIT = omega (arith, c.if-right_size-ge-SIZE_LIMIT.false) in
+    let allowed =
+    ap₂ (λ (ls ks : List TreeLiteral). allows ls s ks t c.args.second.now.sites.now.choice (substitution left) (substitution right))
+    (sym c.lend-left_literals.ensures) (sym c.lend-right_literals.ensures)
+    ∙ sym c.if-not-allows.ensures in
+    let equation : lent_of c.literal-equation.result ≡ r.starts.literal =
+    same_Some (lent_of c.literal-equation.result) r.starts.literal
+    (sym c.literal-equation.ensures ∙ ap (λ (ls : List TreeLiteral). slice_get ls s.literal) c.lend-left_literals.ensures ∙ r.starts.there) in
+    let size_is : tree_size (instance (substitution left) (side_of s.side (lent_of c.literal-equation.result)))
+    ≡ tree_size (instance (substitution left) (side_of s.side r.starts.literal)) =
+    ap (λ (l : TreeLiteral). tree_size (instance (substitution left) (side_of s.side l))) equation in
+    let told : c.instance_size-gone.result ≡ min (tree_size (instance (substitution left) (side_of s.side r.starts.literal))) (2 ^ 64 - 1) =
+    c.instance_size-gone.ensures ∙ ap (λ (u : Tree). min (tree_size (instance (substitution left) u)) (2 ^ 64 - 1)) c.side.ensures
+    ∙ ap (λ k. min k (2 ^ 64 - 1)) size_is in
+    let low = side_low m n s t b r left right h left_told right_told left_is right_is left_low right_low in
+    let gone_is : c.instance_size-gone.result ≡ tree_size (instance (substitution left) (side_of s.side r.starts.literal)) = omega (arith, told, low, left_low) in
+    concluded_by_step m n s t b r left right h left_told right_told left_is right_is left_low right_low mode c.args.second.now.sites.now.choice sites allowed
+    c.instance_size-gone.result c.in_ok-made.made gone_is
+    (omega (arith, c.max.ensures, c.max-2.ensures, c.if-max-gt-MOST_SYMBOLS.false)) c.in_ok-made.ensures

@@ -1,0 +1,5 @@
+pub mod Sites
+pub mod Superposing
+pub mod Concluding
+pub mod Pairing
+pub mod Examples

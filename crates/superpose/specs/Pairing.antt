@@ -1,0 +1,72 @@
+-- All superpositions of one clause into another.
+use Rattle.std.specs.Prelude.{◌≡◌, ℕ, Bool, true, false, not, ◌==◌, List, [], ◌∷◌, ◌++◌, map, flat_map, Option, None, Some, IsTrue, if◌then◌else◌}
+use Rattle.fol_base.specs.Clause.{TreeClause}
+use Rattle.fol_base.specs.Selection.{SelectionMode}
+use Rattle.fol_base.specs.WellFormed.{SymbolUse, are_literals_of}
+use Rattle.kernel_steps.specs.declared.key.Key.{Key}
+use Rattle.kernel_steps.specs.declared.key.Key.TheVariants.{Para}
+use Rattle.bank_clause.specs.Clause.{clause_at}
+use Rattle.bank_clause.specs.declared.member.Member.{Member}
+use Rattle.eq_rules.specs.Inferences.{AreInferences, alone}
+use Rattle.eq_rules.specs.Trying.{IsTried}
+use Rattle.eq_rules.specs.declared.inference.Made.{Made}
+use Rattle.eq_rules.specs.declared.inference.Inference.{Inference}
+use Rattle.superpose.specs.Sites.{start_sites, enter_sites}
+use Rattle.superpose.specs.Superposing.{para_key}
+use Rattle.superpose.specs.declared.sites.LiteralSide.{LiteralSide}
+use Rattle.superpose.specs.declared.sites.LiteralPlace.{LiteralPlace}
+
+-- ---- names that are tried one after another
+
+-- the entry of a name that has an inference
+abbrev pub entry_of : Key → Option Made → List Inference
+entry_of key None = []
+entry_of key (Some made) = record { key = key; result = made } ∷ []
+
+-- the list has the inferences of these names, in order
+abbrev pub AreTried : (ℕ → Bool) → SelectionMode → (ℕ → Option TreeClause) → List Key → List Inference → Type 0
+AreTried is_predicate mode clauses [] found = found ≡ []
+AreTried is_predicate mode clauses (key ∷ keys) found =
+    (made : Option Made) × (rest : List Inference) × (found ≡ entry_of key made ++ rest) × IsTried is_predicate mode clauses key made
+    × AreTried is_predicate mode clauses keys rest
+
+-- the names from sides of one clause into places of another
+abbrev pub keys_from : ℕ → LiteralSide → ℕ → List LiteralPlace → List Key
+keys_from first s second into = map (para_key first s second) into
+
+abbrev pub keys_between : ℕ → List LiteralSide → ℕ → List LiteralPlace → List Key
+keys_between first from second into = flat_map (λ s. keys_from first s second into) from
+
+-- the list grew by the inferences of these names, wherever the two clauses are looked up
+abbrev pub AddsTried : SelectionMode → Member → Member → List Key → List Inference → List Inference → Type 0
+AddsTried mode m n keys before now =
+    (usage : SymbolUse) (clauses : ℕ → Option TreeClause)
+    → IsTrue (are_literals_of usage (clause_at m.clause).literals) → IsTrue (are_literals_of usage (clause_at n.clause).literals)
+    → clauses m.number ≡ Some (clause_at m.clause) → clauses n.number ≡ Some (clause_at n.clause)
+    → (more : List Inference) × (now ≡ before ++ more) × AreTried usage.is_predicate mode clauses keys more
+
+-- all names from sites of the first into sites of the second
+abbrev pub pair_keys : SelectionMode → Member → Member → List Key
+pair_keys mode m n =
+    keys_between m.number (start_sites mode (clause_at m.clause).literals) n.number (enter_sites mode (clause_at n.clause).literals)
+
+-- ---- lists of inferences
+
+-- the clauses of two members, by their numbers
+abbrev pub two : Member → Member → ℕ → Option TreeClause
+two m n k = if k == m.number then Some (clause_at m.clause) else alone n k
+
+-- superpositions of different clauses
+abbrev pub is_between : Key → Bool
+is_between (Para first i s second j z place) = not (first == second)
+is_between _ = false
+
+abbrev pub is_superposition : Key → Bool
+is_superposition (Para first i s second j z place) = true
+is_superposition _ = false
+
+-- of two members alone, under each use of the symbols under which both clauses are well-formed
+abbrev pub AreInferencesBetween : SelectionMode → Member → Member → (Key → Bool) → List Inference → Type 0
+AreInferencesBetween mode m n passes found =
+    (usage : SymbolUse) → IsTrue (are_literals_of usage (clause_at m.clause).literals) → IsTrue (are_literals_of usage (clause_at n.clause).literals)
+    → AreInferences usage.is_predicate mode (two m n) passes found

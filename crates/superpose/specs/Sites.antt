@@ -1,0 +1,96 @@
+-- The sites of a clause: the sides from which a superposition can start, and the places into which one can go, as far as the clause alone
+-- tells it, before any unifier.
+use Rattle.std.specs.Prelude.{◌≡◌, ℕ, suc, Bool, true, false, ◌&&◌, not, List, [], ◌∷◌, ◌++◌, map, flat_map, filter, length, slice_get, Contains, Option, None, Some, if◌then◌else◌}
+use Rattle.std.specs.Option.{is_some}
+use Rattle.fol_base.specs.Tree.{Tree, variable, application, Trees, no_trees, tree_then, is_truth}
+use Rattle.fol_base.specs.Clause.{TreeLiteral, TreeClause}
+use Rattle.fol_base.specs.Canonical.{numbers_from}
+use Rattle.fol_base.specs.Selection.{SelectionMode, chosen, eligible}
+use Rattle.fol_base.specs.Sides.{side_of}
+use Rattle.fol_base.specs.declared.clause.Side.{Side}
+use Rattle.fol_base.specs.declared.clause.Side.TheVariants.{Left, Right}
+use Rattle.kernel_steps.specs.Inference.{NamedSuperposition, other_side_not_above}
+use Rattle.literal_selection.specs.Mode.{mode_of}
+use Rattle.superpose.specs.declared.sites.LiteralSide.{LiteralSide}
+use Rattle.superpose.specs.declared.sites.LiteralPlace.{LiteralPlace}
+use Rattle.superpose.specs.declared.sites.Sites.{Sites}
+
+-- ---- sides and places
+
+abbrev pub both_sides : ℕ → List LiteralSide
+both_sides i = record { literal = i; side = Left } ∷ record { literal = i; side = Right } ∷ []
+
+-- the sides of that many literals
+abbrev pub all_sides : ℕ → List LiteralSide
+all_sides n = flat_map both_sides (numbers_from 0 n)
+
+-- the places of a tree at which no variable stands, a term before its arguments
+abbrev mutual
+  pub places : Tree → List (List ℕ)
+  places (variable v) = []
+  places (application f ts) = [] ∷ places_from 0 ts
+
+  pub places_from : ℕ → Trees → List (List ℕ)
+  places_from i no_trees = []
+  places_from i (tree_then t ts) = map (λ p. i ∷ p) (places t) ++ places_from (suc i) ts
+
+-- a place of a term that stands at a path of a side, as a place of the side
+abbrev pub below_path : LiteralSide → List ℕ → List ℕ → LiteralPlace
+below_path s path place = record { at = s; place = path ++ place }
+
+-- ---- what a clause tells
+
+-- the side isn't `$true`, and the other side isn't greater than or equal to it
+abbrev pub is_usable : Side → TreeLiteral → Bool
+is_usable s l = not (is_truth (side_of s l)) && other_side_not_above variable s l
+
+abbrev pub literal_starts : Side → Option TreeLiteral → Bool
+literal_starts s None = false
+literal_starts s (Some l) = l.positive && is_usable s l
+
+-- nothing is chosen, and the side is one of a positive literal that is strictly eligible
+abbrev pub can_start : SelectionMode → List TreeLiteral → LiteralSide → Bool
+can_start mode ls s =
+    not (is_some (chosen mode ls)) && (literal_starts s.side (slice_get ls s.literal) && eligible ls s.literal None true)
+
+abbrev pub literal_enters : List TreeLiteral → Option ℕ → LiteralSide → Option TreeLiteral → Bool
+literal_enters ls choice s None = false
+literal_enters ls choice s (Some l) =
+    is_usable s.side l && (not (l.positive && is_some choice) && eligible ls s.literal choice l.positive)
+
+-- the side is one of an eligible literal: of a positive one only where nothing is chosen, and then strictly
+abbrev pub can_enter : SelectionMode → List TreeLiteral → LiteralSide → Bool
+can_enter mode ls s = literal_enters ls (chosen mode ls) s (slice_get ls s.literal)
+
+-- ---- the sites
+
+abbrev pub start_sites : SelectionMode → List TreeLiteral → List LiteralSide
+start_sites mode ls = filter (can_start mode ls) (all_sides (length ls))
+
+abbrev pub side_places : Side → Option TreeLiteral → List (List ℕ)
+side_places s None = []
+side_places s (Some l) = places (side_of s l)
+
+abbrev pub entered_places : SelectionMode → List TreeLiteral → LiteralSide → List LiteralPlace
+entered_places mode ls s =
+    if can_enter mode ls s
+    then map (below_path s []) (side_places s.side (slice_get ls s.literal))
+    else []
+
+abbrev pub enter_sites : SelectionMode → List TreeLiteral → List LiteralPlace
+enter_sites mode ls = flat_map (entered_places mode ls) (all_sides (length ls))
+
+-- the sites of a clause for a mode, with its chosen literal
+pub record AreSitesOf (c : TreeClause) (sites : Sites) : Type 0 where
+  pub choice : sites.choice ≡ chosen (mode_of sites.mode) c.literals
+  pub from : sites.from.items ≡ start_sites (mode_of sites.mode) c.literals
+  pub into : sites.into.items ≡ enter_sites (mode_of sites.mode) c.literals
+
+-- ---- law
+
+-- Each superposition starts from a site of the first clause and goes into one of the second.
+abbrev pub SuperpositionsHaveSites : Type 0
+SuperpositionsHaveSites =
+    (is_predicate : ℕ → Bool) (mode : SelectionMode) (first second : TreeClause) (s : LiteralSide) (t : LiteralPlace) (conclusion : TreeClause)
+    → NamedSuperposition is_predicate mode first s.literal s.side second t.at.literal t.at.side t.place conclusion
+    → Contains (start_sites mode first.literals) s × Contains (enter_sites mode second.literals) t

@@ -1,0 +1,225 @@
+// Superposition from one site into another: the side of an equation is unified with the term at a place, and the order is asked under the
+// unifier before anything is built.
+
+ghost use Rattle.std.specs.Prelude.{◌≡◌, ◌<◌, Some, length, slice_get, sum_by, IfOk};
+ghost use Rattle.fol_base.specs.Instance.{substitution};
+ghost use Rattle.fol_base.specs.Clause.{literal_size};
+ghost use Rattle.fol_base.specs.Ground.{literals_instance};
+ghost use Rattle.fol_base.specs.Term.{tree_of};
+ghost use Rattle.fol_base.specs.Lent.{lent_of};
+ghost use Rattle.fol_base.specs.Selection.{SelectionMode};
+ghost use Rattle.literal_selection.specs.Mode.{mode_of};
+ghost use Rattle.bank_clause.specs.Clause.{clause_at, IsMemberOf};
+ghost use Rattle.superpose.specs.Sites.{AreSitesOf};
+ghost use Rattle.superpose.specs.Superposing.{
+  AreSites,
+  EntersAt,
+  IsSuperposition,
+  StartsAt,
+  SuperposesBy,
+  allows,
+  others_coincide,
+  are_alike,
+};
+
+use crate::concluding::conclude_superposition;
+use crate::sites::{LiteralPlace, LiteralSide, Premise, is_not_below};
+use bank_clause::BankLiterals;
+use eq_rules::Made;
+use fol_base::{
+    LendsLiterals, LiteralRef, MOST_SYMBOLS, SIZE_LIMIT, Side, Term, Terms, at, instance_size,
+    same_instance,
+};
+use kbo_order::COMPARED_SIZE_LIMIT;
+use literal_selection::eligible_under;
+use plain_types::{Mem, NoMemory};
+use std::alloc::Global;
+use term_bank::Bank;
+use unifier::{Bindings, unify};
+
+/// The superposition from a site of the first clause into one of the second, by the sites' indices: what becomes of the inference of that
+/// name. None exactly where there is none. `Heavy` exactly where the conclusion, or a clause under the unifier, has over `MOST_SYMBOLS`
+/// symbols. Memory is also wanting where such a clause, which has to be looked at, has `SIZE_LIMIT` symbols or more.
+pub fn superposition(
+    alloc: Global,
+    bank: &Bank,
+    first: &Premise<'_>,
+    from: usize,
+    second: &Premise<'_>,
+    into: usize,
+) -> Mem<Option<Made>>
+    requires first_member { IsMemberOf bank.now first.now.member.now }
+    requires first_sites { AreSitesOf (clause_at first.now.member.now.clause) first.now.sites.now }
+    requires second_member { IsMemberOf bank.now second.now.member.now }
+    requires second_sites { AreSitesOf (clause_at second.now.member.now.clause) second.now.sites.now }
+    requires same_mode { first.now.sites.now.mode ≡ second.now.sites.now.mode }
+    requires from_inside { from < length first.now.sites.now.from.items }
+    requires into_inside { into < length second.now.sites.now.into.items }
+    ensures { IfOk result (λ made. (s : LiteralSide) (t : LiteralPlace)
+        → slice_get first.now.sites.now.from.items from ≡ Some s → slice_get second.now.sites.now.into.items into ≡ Some t
+        → IsSuperposition (mode_of first.now.sites.now.mode) first.now.member.now s second.now.member.now t made) }
+{
+    let start = first.sites.from[from];
+    let target = &second.sites.into[into];
+    superposition_at(alloc, bank, first, start, second, target)
+}
+
+/// The same for a side and a place that may be sites.
+pub fn superposition_at(
+    alloc: Global,
+    bank: &Bank,
+    first: &Premise<'_>,
+    from: LiteralSide,
+    second: &Premise<'_>,
+    into: &LiteralPlace,
+) -> Mem<Option<Made>>
+    requires first_member { IsMemberOf bank.now first.now.member.now }
+    requires second_member { IsMemberOf bank.now second.now.member.now }
+    requires starts { StartsAt (clause_at first.now.member.now.clause).literals from }
+    requires enters { EntersAt (clause_at second.now.member.now.clause).literals into.now }
+    ensures { IfOk result (λ made. (mode : SelectionMode)
+        → AreSites mode (clause_at first.now.member.now.clause) from (clause_at second.now.member.now.clause) into.now second.now.sites.now.choice
+        → IsSuperposition mode first.now.member.now from second.now.member.now into.now made) }
+{
+    let first_literals = first.member.clause.lend(bank);
+    let second_literals = second.member.clause.lend(bank);
+    let equation = first_literals.literal(from.literal);
+    let target = second_literals.literal(into.at.literal);
+    let Some(old) = at(target.side(into.at.side), &into.place) else {
+        unreachable!();
+    };
+    if !are_alike(equation, from, target, into, old) {
+        return Ok(None);
+    }
+    match unify(alloc, equation.side(from.side), old, true)? {
+        None => Ok(None),
+        Some(unifier) => superposition_by(alloc, bank, first, from, second, into, &unifier),
+    }
+}
+
+/// Whether a side and the term at a place are of one kind: an atom's other side is `$true`, and below the root function terms stand.
+fn are_alike(
+    equation: LiteralRef<'_>,
+    from: LiteralSide,
+    target: LiteralRef<'_>,
+    into: &LiteralPlace,
+    old: &Term,
+) -> bool
+    ensures { result ≡ are_alike from into.now (lent_of equation.entry) (lent_of target.entry) (tree_of old.now) }
+{
+    let is_atom = equation.other_side(from.side).is_truth();
+    let is_atom_here = into.place.is_empty() && target.other_side(into.at.side).is_truth();
+    !old.is_truth() && is_atom == is_atom_here
+}
+
+/// What becomes of the superposition by a unifier of the side and the term at the place.
+fn superposition_by(
+    alloc: Global,
+    bank: &Bank,
+    first: &Premise<'_>,
+    from: LiteralSide,
+    second: &Premise<'_>,
+    into: &LiteralPlace,
+    unifier: &Bindings,
+) -> Mem<Option<Made>>
+    requires first_member { IsMemberOf bank.now first.now.member.now }
+    requires second_member { IsMemberOf bank.now second.now.member.now }
+    requires unified { SuperposesBy unifier.now
+        (clause_at first.now.member.now.clause) from (clause_at second.now.member.now.clause) into.now }
+    ensures { IfOk result (λ made. (mode : SelectionMode)
+        → AreSites mode (clause_at first.now.member.now.clause) from (clause_at second.now.member.now.clause) into.now second.now.sites.now.choice
+        → IsSuperposition mode first.now.member.now from second.now.member.now into.now made) }
+{
+    let left = &first.member.clause;
+    let right = &second.member.clause;
+    let left_size = unifier.instance_size(bank, Side::Left, left.literals())?;
+    let right_size = unifier.instance_size(bank, Side::Right, right.literals())?;
+    if left_size >= SIZE_LIMIT || right_size >= SIZE_LIMIT {
+        return Err(NoMemory);
+    }
+    let (left_terms, right_terms) = unifier.substs(left.variable_bound(), right.variable_bound())?;
+    let left_literals = left.lend(bank);
+    let right_literals = right.lend(bank);
+    if !allows(
+        &left_literals,
+        from,
+        &left_terms,
+        &right_literals,
+        into,
+        &right_terms,
+        second.sites.choice,
+    ) {
+        return Ok(None);
+    }
+    let equation = left_literals.literal(from.literal);
+    let gone = instance_size(equation.side(from.side), &left_terms);
+    let made_size = left_size + right_size - 2 * gone;
+    if left_size.max(right_size).max(made_size) > MOST_SYMBOLS {
+        return Ok(Some(Made::Heavy));
+    }
+    let made = conclude_superposition(
+        alloc,
+        bank,
+        first.member,
+        from,
+        &left_terms,
+        second.member,
+        into,
+        &right_terms,
+    )?;
+    Ok(Some(made))
+}
+
+/// Whether the order allows the superposition under terms: the chosen sides aren't below the others, both literals are eligible, and at
+/// the root of a positive literal the other sides differ.
+fn allows(
+    first: &BankLiterals<'_>,
+    from: LiteralSide,
+    first_terms: &Terms,
+    second: &BankLiterals<'_>,
+    into: &LiteralPlace,
+    second_terms: &Terms,
+    choice: Option<usize>,
+) -> bool
+    requires from_inside { from.literal < length first.now }
+    requires into_inside { into.now.at.literal < length second.now }
+    requires first_size { sum_by literal_size (literals_instance (substitution first_terms.now) first.now) < COMPARED_SIZE_LIMIT }
+    requires second_size { sum_by literal_size (literals_instance (substitution second_terms.now) second.now) < COMPARED_SIZE_LIMIT }
+    ensures { result ≡ allows first.now from second.now into.now choice (substitution first_terms.now) (substitution second_terms.now) }
+{
+    let equation = first.literal(from.literal);
+    let target = second.literal(into.at.literal);
+    is_not_below(equation, from.side, first_terms)
+        && is_not_below(target, into.at.side, second_terms)
+        && !others_coincide(equation, from, first_terms, target, into, second_terms)
+        && eligible_under(first, first_terms, from.literal, None, true)
+        && eligible_under(
+            second,
+            second_terms,
+            into.at.literal,
+            choice,
+            target.positive,
+        )
+}
+
+/// Whether the place is the root of a positive literal, and the other sides become one term.
+fn others_coincide(
+    equation: LiteralRef<'_>,
+    from: LiteralSide,
+    equation_terms: &Terms,
+    target: LiteralRef<'_>,
+    into: &LiteralPlace,
+    target_terms: &Terms,
+) -> bool
+    ensures { result ≡ others_coincide from into.now
+        (substitution equation_terms.now) (substitution target_terms.now) (lent_of equation.entry) (lent_of target.entry) }
+{
+    target.positive
+        && into.place.is_empty()
+        && same_instance(
+            equation.other_side(from.side),
+            equation_terms,
+            target.other_side(into.at.side),
+            target_terms,
+        )
+}
