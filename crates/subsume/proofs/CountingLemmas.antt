@@ -1,0 +1,64 @@
+-- Counting what an index tells clauses apart by.
+use mathlib.Core.Bool.{beq}
+use Rattle.std.proofs.Common.{◌≡◌, ℕ, zero, suc, ◌+◌, ◌<◌, ◌≤◌, Bool, true, false, List, [], ◌∷◌, ◌++◌, map, take, get_or, min, length, Some, refl, ap, sym, ◌∙◌, arith}
+use Rattle.std.specs.Prelude.{if◌then◌else◌, slice_get, slice_index, sum_by}
+use Rattle.std.proofs.lemmas.List.Sums.{sum_by-cons}
+use Rattle.fol_base.specs.Tree.{Tree, Trees, trees_of}
+use Rattle.fol_base.specs.Term.{tree_of}
+use Rattle.fol_base.specs.declared.term.Term.{Term}
+use Rattle.fol_base.proofs.ListLemmas.{map-take_more_item}
+use Rattle.fol_base.specs.Clause.{TreeLiteral}
+use Rattle.subsume.specs.declared.features.TheConstants.{MEASURES, MOST}
+use Rattle.subsume.specs.Features.{by_sign, measured, literal_measure, slot, AreFeaturesOf, trees_weight, tree_weight, tree_measure, trees_measure, for_symbol, for_variable}
+
+-- counting on from a number that was counted up to a limit
+pub saturated :
+    (counts : Bool) (most old mid new a x more : ℕ)
+    → mid ≡ min (old + (if counts then a else 0)) most → new ≡ min (mid + (if counts then x else 0)) most → more ≡ a + x
+    → new ≡ min (old + (if counts then more else 0)) most
+saturated true most old mid new a x more h k e = omega arith
+saturated false most old mid new a x more h k e = omega arith
+
+weight-push :
+    (weight : ℕ → ℕ) (each : ℕ) (ts : List Tree) (t : Tree)
+    → trees_weight weight each (trees_of (ts ++ t ∷ [])) ≡ trees_weight weight each (trees_of ts) + tree_weight weight each t
+weight-push weight each [] t = omega arith
+weight-push weight each (s ∷ ts) t = omega (arith, weight-push weight each ts t)
+
+-- one term more of a slice
+pub measure-take_more :
+    (k : ℕ) (xs : List Term) (i : ℕ) (x : Term) → i < length xs → x ≡ get_or xs i x
+    → trees_measure k (trees_of (map tree_of (take (i + 1) xs)))
+    ≡ trees_measure k (trees_of (map tree_of (take i xs))) + tree_measure k (tree_of x)
+measure-take_more k xs i x h r =
+    ap (λ us. trees_measure k (trees_of us)) (map-take_more_item tree_of xs i x h r)
+    ∙ weight-push (for_symbol k) (for_variable k) (map tree_of (take i xs)) (tree_of x)
+
+-- one element more of a list
+pub sum-take_more :
+    {X : Type 0} (w : X → ℕ) (xs : List X) (i : ℕ) (x : X) → slice_get xs i ≡ Some x
+    → sum_by w (take (i + 1) xs) ≡ sum_by w (take i xs) + w x
+sum-take_more w [] i x h = absurd cc
+sum-take_more w (y ∷ ys) zero x h =
+    let same : y ≡ x = cc in
+    omega (arith, sum_by-cons w y [], ap w same)
+sum-take_more w (y ∷ ys) (suc i) x h =
+    let later : sum_by w (take (suc i + 1) (y ∷ ys)) ≡ sum_by w (y ∷ take (i + 1) ys) =
+    ap (λ n. sum_by w (take n (y ∷ ys))) (next i) in
+    omega (arith, later, sum_by-cons w y (take i ys), sum_by-cons w y (take (i + 1) ys), sum-take_more w ys i x h)
+  where
+    next : (i : ℕ) → suc i + 1 ≡ suc (i + 1)
+    next i = omega arith
+
+-- features of one literal more
+pub features-more :
+    (ls : List TreeLiteral) (i : ℕ) (l : TreeLiteral) (before after : List ℕ)
+    → slice_get ls i ≡ Some l → AreFeaturesOf (take i ls) before
+    → ((positive : Bool) (k : ℕ) → k < MEASURES → slice_index before (slot positive k) ≤ MOST
+    → slice_index after (slot positive k)
+    ≡ min (slice_index before (slot positive k) + (if beq l.positive positive then literal_measure k l else 0)) MOST)
+    → AreFeaturesOf (take (i + 1) ls) after
+features-more ls i l before after at known added = λ positive k h.
+    let old = known positive k h in
+    let more = sum-take_more (by_sign positive (literal_measure k)) ls i l at in
+    omega (arith, old, more, added positive k h (omega (arith, old)))

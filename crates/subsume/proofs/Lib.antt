@@ -1,0 +1,4 @@
+pub mod PlaceSums
+pub mod FeatureLemmas
+pub mod CountingLemmas
+pub mod PlacingLemmas

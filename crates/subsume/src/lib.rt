@@ -1,0 +1,8 @@
+// Subsumption of clauses: one by another, and by sets of clauses that are found by their features.
+#![tactic(auto)]
+
+mod features;
+mod matching;
+mod placing;
+
+pub mod laws;
