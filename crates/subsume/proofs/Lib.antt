@@ -2,3 +2,6 @@ pub mod PlaceSums
 pub mod FeatureLemmas
 pub mod CountingLemmas
 pub mod PlacingLemmas
+pub mod OnceLemmas
+pub mod ListLemmas
+pub mod OrderingLemmas

@@ -410,7 +410,7 @@ within [] k x h = absurd cc
 within (y ∷ ys) zero x h = omega arith
 within (y ∷ ys) (suc k) x h = omega (arith, within ys k x h)
 
-there-within : (l : TreeLiteral) (ds : List TreeLiteral) (k : ℕ) → is_there l (slice_get ds k) ≡ true → k < length ds
+pub there-within : (l : TreeLiteral) (ds : List TreeLiteral) (k : ℕ) → is_there l (slice_get ds k) ≡ true → k < length ds
 there-within l [] k h = absurd (true≢false (sym h))
 there-within l (d ∷ ds) zero h = omega arith
 there-within l (d ∷ ds) (suc k) h = omega (arith, there-within l ds k h)

@@ -1,3 +1,5 @@
 pub mod Kinds
 pub mod Placing
+pub mod Ordering
+pub mod Target
 pub mod Features

@@ -3,6 +3,11 @@
 
 mod features;
 mod matching;
+mod ordering;
 mod placing;
+mod subsuming;
+mod target;
+
+pub use subsuming::subsumes;
 
 pub mod laws;

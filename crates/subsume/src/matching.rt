@@ -6,7 +6,8 @@ ghost use Rattle.fol_base.specs.Term.{tree_of};
 ghost use Rattle.fol_base.specs.Instance.{Substitution, instance};
 ghost use Rattle.fol_base.specs.Clause.{LiteralVariablesBelow};
 ghost use Rattle.fol_base.specs.Lent.{lent_of};
-ghost use Rattle.unifier.specs.Matching.{HasPairs, are_below};
+ghost use Rattle.fol_base.specs.Subsumption.{all_different};
+ghost use Rattle.unifier.specs.Matching.{HasPairs, are_below, variables_of};
 ghost use Rattle.unifier.specs.Laws.{AreFunctionPairs, are_of_one_kind};
 ghost use Rattle.subsume.specs.Kinds.{TurnsInto, are_alike};
 
@@ -24,7 +25,7 @@ pub(crate) fn are_alike(pattern: LiteralRef<'_>, target: LiteralRef<'_>) -> bool
 }
 
 /// Whether the heads of two terms leave it open that some substitution turns the first into the second.
-pub(crate) fn heads_match(pattern: &Term, target: &Term) -> bool
+fn heads_match(pattern: &Term, target: &Term) -> bool
     ensures { (σ : Substitution) → instance σ (tree_of pattern.now) ≡ tree_of target.now → result ≡ true }
 {
     match pattern {
@@ -34,6 +35,13 @@ pub(crate) fn heads_match(pattern: &Term, target: &Term) -> bool
             Term::App(other, _) => *symbol == *other,
         },
     }
+}
+
+/// Whether the heads of the sides leave it open that some substitution turns each side of a literal into the same side of another one.
+pub(crate) fn may_turn(pattern: LiteralRef<'_>, target: LiteralRef<'_>) -> bool
+    ensures { (σ : Substitution) → TurnsInto σ (lent_of pattern.entry) (lent_of target.entry) → result ≡ true }
+{
+    heads_match(pattern.left, target.left) && heads_match(pattern.right, target.right)
 }
 
 /// The pairs handed in and those that turn each side of a literal into the same side of another one. None exactly where no substitution
@@ -50,12 +58,14 @@ pub(crate) fn match_sides<'a>(
             ↔ (HasPairs so_far.now σ × TurnsInto σ (lent_of pattern.entry) (lent_of target.entry)))) }
     ensures below { IfOk result (λ found. (count : ℕ) → LiteralVariablesBelow count (lent_of pattern.entry)
         → are_below count so_far.now ≡ true → IfSome found (λ pairs. are_below count pairs ≡ true)) }
+    ensures once { IfOk result (λ found. all_different (variables_of so_far.now) ≡ true
+        → IfSome found (λ pairs. all_different (variables_of pairs) ≡ true)) }
     ensures function_terms { IfOk result (λ found. (is_predicate : ℕ → Bool)
         → IsTrue (are_of_one_kind is_predicate (tree_of pattern.entry.left.now) (tree_of target.entry.left.now))
         → IsTrue (are_of_one_kind is_predicate (tree_of pattern.entry.right.now) (tree_of target.entry.right.now))
         → AreFunctionPairs is_predicate so_far.now → IfSome found (AreFunctionPairs is_predicate)) }
 {
-    if !heads_match(pattern.left, target.left) || !heads_match(pattern.right, target.right) {
+    if !may_turn(pattern, target) {
         return Ok(None);
     }
     match match_onto(alloc, pattern.left, target.left, so_far)? {

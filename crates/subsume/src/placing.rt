@@ -5,9 +5,10 @@ ghost use Rattle.std.specs.Prelude.{◌≡◌, ◌≤◌, ◌<◌, ◌+◌, ℕ,
 ghost use Rattle.fol_base.specs.Clause.{LiteralVariablesBelow, literal_instance};
 ghost use Rattle.fol_base.specs.Kind.{is_literal};
 ghost use Rattle.fol_base.specs.Order.{equivalent_literals};
+ghost use Rattle.fol_base.specs.Subsumption.{all_different};
 ghost use Rattle.fol_base.specs.Lent.{lent_of};
 ghost use Rattle.fol_base.specs.Term.{tree_of};
-ghost use Rattle.unifier.specs.Matching.{are_below};
+ghost use Rattle.unifier.specs.Matching.{are_below, variables_of};
 ghost use Rattle.unifier.specs.Laws.{AreFunctionPairs, are_of_one_kind};
 ghost use Rattle.subsume.specs.Kinds.{AreLiterals, TurnsInto, are_alike};
 ghost use Rattle.subsume.specs.Placing.{IsFoundFor, Places};
@@ -36,6 +37,8 @@ pub(crate) fn place<'a>(
     ensures marks { IfOk result (λ found. MatchOption found (used.new ≡ used.old) (λ _. ⊤)) }
     ensures below { IfOk result (λ found. (count : ℕ) → All (LiteralVariablesBelow count) (map lent_of patterns.now)
         → are_below count so_far.entry ≡ true → IfSome found (λ pairs. are_below count pairs ≡ true)) }
+    ensures once { IfOk result (λ found. all_different (variables_of so_far.entry) ≡ true
+        → IfSome found (λ pairs. all_different (variables_of pairs) ≡ true)) }
     ensures function_terms { IfOk result (λ found. (is_predicate : ℕ → Bool)
         → AreLiterals is_predicate (map lent_of patterns.now) → AreLiterals is_predicate (map lent_of targets.now)
         → AreFunctionPairs is_predicate so_far.entry → IfSome found (AreFunctionPairs is_predicate)) }
@@ -79,6 +82,8 @@ fn place_onto<'a>(
     ensures marks { IfOk result (λ found. MatchOption found (used.new ≡ used.old) (λ _. ⊤)) }
     ensures below { IfOk result (λ found. (count : ℕ) → LiteralVariablesBelow count (lent_of pattern.entry) → All (LiteralVariablesBelow count) (map lent_of patterns.now)
         → are_below count so_far.now ≡ true → IfSome found (λ pairs. are_below count pairs ≡ true)) }
+    ensures once { IfOk result (λ found. all_different (variables_of so_far.now) ≡ true
+        → IfSome found (λ pairs. all_different (variables_of pairs) ≡ true)) }
     ensures function_terms { IfOk result (λ found. (is_predicate : ℕ → Bool)
         → AreLiterals is_predicate (map lent_of patterns.now) → AreLiterals is_predicate (map lent_of targets.now)
         → IsTrue (is_literal is_predicate (lent_of pattern.entry)) → IsTrue (is_literal is_predicate (lent_of target.entry))
@@ -110,6 +115,8 @@ fn place_sides<'a>(
     ensures marks { IfOk result (λ found. MatchOption found (used.new ≡ used.old) (λ _. ⊤)) }
     ensures below { IfOk result (λ found. (count : ℕ) → LiteralVariablesBelow count (lent_of pattern.entry) → All (LiteralVariablesBelow count) (map lent_of patterns.now)
         → are_below count so_far.now ≡ true → IfSome found (λ pairs. are_below count pairs ≡ true)) }
+    ensures once { IfOk result (λ found. all_different (variables_of so_far.now) ≡ true
+        → IfSome found (λ pairs. all_different (variables_of pairs) ≡ true)) }
     ensures function_terms { IfOk result (λ found. (is_predicate : ℕ → Bool)
         → AreLiterals is_predicate (map lent_of patterns.now) → AreLiterals is_predicate (map lent_of targets.now)
         → IsTrue (are_of_one_kind is_predicate (tree_of pattern.entry.left.now) (tree_of target.entry.left.now))
