@@ -5,3 +5,4 @@ pub mod PlacingLemmas
 pub mod OnceLemmas
 pub mod ListLemmas
 pub mod OrderingLemmas
+pub mod SubsumingLemmas
