@@ -1,6 +1,6 @@
 -- Counting what an index tells clauses apart by.
 use mathlib.Core.Bool.{beq}
-use Rattle.std.proofs.Common.{◌≡◌, ℕ, zero, suc, ◌+◌, ◌<◌, ◌≤◌, Bool, true, false, List, [], ◌∷◌, ◌++◌, map, take, get_or, min, length, Some, refl, ap, sym, ◌∙◌, arith}
+use Rattle.std.proofs.Common.{◌≡◌, ◌⊎◌, ℕ, zero, suc, ◌+◌, ◌/◌, ◌%◌, ◌<◌, ◌≤◌, inl, inr, ⊎_elim, Bool, true, false, List, [], ◌∷◌, ◌++◌, map, take, get_or, min, length, Some, refl, ap, sym, ◌∙◌, arith}
 use Rattle.std.specs.Prelude.{if◌then◌else◌, slice_get, slice_index, sum_by}
 use Rattle.std.proofs.lemmas.List.Sums.{sum_by-cons}
 use Rattle.fol_base.specs.Tree.{Tree, Trees, trees_of}
@@ -62,3 +62,12 @@ features-more ls i l before after at known added = λ positive k h.
     let old = known positive k h in
     let more = sum-take_more (by_sign positive (literal_measure k)) ls i l at in
     omega (arith, old, more, added positive k h (omega (arith, old)))
+
+-- each place is that of a measure over the literals of a sign
+pub slot-of : (i : ℕ) → (i ≡ slot true (i / 2)) ⊎ (i ≡ slot false (i / 2))
+slot-of i = ⊎_elim (λ e. inl (omega (arith, e))) (λ e. inr (omega (arith, e))) (parity (i % 2) (omega arith))
+  where
+    parity : (n : ℕ) → n < 2 → (n ≡ 0) ⊎ (n ≡ 1)
+    parity zero h = inl refl
+    parity (suc zero) h = inr refl
+    parity (suc (suc n)) h = absurd (omega arith)

@@ -6,3 +6,4 @@ pub mod OnceLemmas
 pub mod ListLemmas
 pub mod OrderingLemmas
 pub mod SubsumingLemmas
+pub mod SearchLemmas

@@ -3,3 +3,7 @@ pub mod Placing
 pub mod Ordering
 pub mod Target
 pub mod Features
+pub mod MemberCode
+pub mod Tree
+pub mod Searching
+pub mod Query

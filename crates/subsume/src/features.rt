@@ -2,7 +2,7 @@
 // clauses that come into question.
 
 ghost use mathlib.Core.Bool.{beq};
-ghost use Rattle.std.specs.Prelude.{◌≡◌, ◌+◌, ◌<◌, ◌≤◌, ◌==◌, ℕ, Bool, IsTrue, map, min, slice_index, if◌then◌else◌};
+ghost use Rattle.std.specs.Prelude.{◌≡◌, ◌+◌, ◌<◌, ◌≤◌, ◌==◌, ℕ, Bool, IsTrue, true, map, min, slice_index, if◌then◌else◌};
 ghost use Rattle.fol_base.specs.Term.{tree_of};
 ghost use Rattle.fol_base.specs.Tree.{trees_of};
 ghost use Rattle.fol_base.specs.Lent.{lent_of};
@@ -14,7 +14,7 @@ use fol_base::{LendsLiterals, LiteralRef, Term, Terms};
 pub(crate) const FEATURES: usize = 16;
 
 /// The measures: how many literals there are, how many symbols and variables, and how many symbols of each class.
-const MEASURES: usize = 8;
+pub(crate) const MEASURES: usize = 8;
 
 /// The measure that counts literals.
 const LITERALS: usize = 0;
@@ -53,6 +53,27 @@ impl Features {
             features.count_literal(literals.literal(index));
         }
         features
+    }
+
+    /// The value of a measure over the literals of a sign.
+    pub(crate) fn value(&self, positive: bool, measure: usize) -> u16
+        requires { measure < MEASURES }
+        ensures { result ≡ slice_index self.now.values (slot positive measure) }
+    {
+        self.values[slot(positive, measure)]
+    }
+
+    /// Whether no value is greater than the other's.
+    pub(crate) fn are_at_most(&self, other: &Features) -> bool
+        ensures { ((positive : Bool) (k : ℕ) → k < MEASURES
+            → slice_index self.now.values (slot positive k) ≤ slice_index other.now.values (slot positive k)) → result ≡ true }
+    {
+        for index in 0..FEATURES {
+            if self.values[index] > other.values[index] {
+                return false;
+            }
+        }
+        true
     }
 
     /// Counts a literal, and its symbols and variables.

@@ -1,12 +1,16 @@
 // Subsumption of clauses: one by another, and by sets of clauses that are found by their features.
 #![tactic(auto)]
 
+mod collecting;
+mod entry;
 mod features;
+mod lowest;
 mod matching;
 mod ordering;
 mod placing;
 mod subsuming;
 mod target;
+mod tree;
 
 pub use subsuming::subsumes;
 
