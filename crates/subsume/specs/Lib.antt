@@ -7,3 +7,4 @@ pub mod MemberCode
 pub mod Tree
 pub mod Searching
 pub mod Query
+pub mod Editing

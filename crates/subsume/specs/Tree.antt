@@ -24,10 +24,14 @@ IsEntry e = AreFeaturesOf (clause_at e.member.clause).literals e.features.values
 abbrev pub members_of : List Entry → List Member
 members_of es = map (λ (e : Entry). e.member) es
 
+-- the members on both sides of a division
+abbrev pub both_sides : Division → List Member
+both_sides d = d.low.0 ++ d.high.0
+
 -- the members of a node, and how many divisions there are
 abbrev pub content : Node → List Member × ℕ
 content (Leaf entries) = (members_of entries.items, 0)
-content (Branch b) = (b.value.low.0 ++ b.value.high.0, suc (b.value.low.1 + b.value.high.1))
+content (Branch b) = (both_sides b.value, suc (b.value.low.1 + b.value.high.1))
 
 -- a division by a feature: what has no more of it, and what has more
 pub record IsDivision (d : Division) : Type 0 where

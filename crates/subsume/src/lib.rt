@@ -2,6 +2,7 @@
 #![tactic(auto)]
 
 mod collecting;
+mod editing;
 mod entry;
 mod features;
 mod lowest;

@@ -11,9 +11,6 @@ use plain_types::Mem;
 use std::alloc::Global;
 use std::marker::Model;
 
-/// A leaf of more entries is divided.
-const LEAF_ENTRIES: usize = 16;
-
 /// Members by their features. Contracts see them as a list, with the number of divisions.
 #[derive(Drop)]
 #[cycle(tree)]
