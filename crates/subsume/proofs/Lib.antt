@@ -7,3 +7,4 @@ pub mod ListLemmas
 pub mod OrderingLemmas
 pub mod SubsumingLemmas
 pub mod SearchLemmas
+pub mod EditLemmas

@@ -172,13 +172,26 @@ fn divided(alloc: Global, entries: Vec<Entry>) -> Node
         Err(_) => return Node::Leaf(entries),
     };
     share_out(entries, cut, &mut low, &mut high);
+    set_sides(&mut division, low, high);
+    Node::Branch(division)
+}
+
+/// Gives a division its members.
+fn set_sides(division: &mut Division, low: Vec<Entry>, high: Vec<Entry>)
+    requires low { All IsEntry low.items }
+    requires high { All IsEntry high.items }
+    ensures positive { division.new.positive ≡ division.old.positive }
+    ensures measure { division.new.measure ≡ division.old.measure }
+    ensures most { division.new.most ≡ division.old.most }
+    ensures low { division.new.low.0 ≡ members_of low.items }
+    ensures high { division.new.high.0 ≡ members_of high.items }
+{
     division.low = FeatureTree {
         node: Node::Leaf(low),
     };
     division.high = FeatureTree {
         node: Node::Leaf(high),
     };
-    Node::Branch(division)
 }
 
 /// A division without members.
