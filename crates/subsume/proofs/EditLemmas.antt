@@ -19,7 +19,7 @@ use Rattle.subsume.proofs.SearchLemmas.{All-front, All-back}
 abbrev member : Entry → Member
 member e = e.member
 
-none : {X : Type 0} (P : X → Type 0) → All P []
+pub none : {X : Type 0} (P : X → Type 0) → All P []
 none P k d h = absurd (omega arith)
 
 -- what holds of each entry's member

@@ -8,3 +8,5 @@ pub mod OrderingLemmas
 pub mod SubsumingLemmas
 pub mod SearchLemmas
 pub mod EditLemmas
+pub mod MembersLemmas
+pub mod NumberLemmas

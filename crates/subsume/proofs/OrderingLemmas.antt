@@ -116,7 +116,7 @@ times-different (k ∷ ks) h =
     (cases_Bool (list_any (λ i. k == i) ks)))
     (times-different ks (λ n. omega (arith, h n, sum_by-cons (one_of n) k ks)))
 
-different-permutation : (ks js : List ℕ) → IsPermutation ks js → all_different ks ≡ true → all_different js ≡ true
+pub different-permutation : (ks js : List ℕ) → IsPermutation ks js → all_different ks ≡ true → all_different js ≡ true
 different-permutation ks js p h =
     times-different js (λ n. omega (arith, different-times ks h n, sum_by-IsPermutation (one_of n) ks js p))
 

@@ -11,7 +11,7 @@ use Rattle.bank_clause.specs.Clause.{clause_at}
 use Rattle.bank_clause.specs.declared.member.Member.{Member}
 use Rattle.subsume.specs.declared.features.TheConstants.{MEASURES, MOST}
 use Rattle.subsume.specs.Features.{measured, literal_measure, slot, AreFeaturesOf}
-use Rattle.subsume.specs.Searching.{IsMemberOfUse, IsSubsumedBy, AddsSubsumed, IsBelow, IsLowestBelow, IsSubsumer, SomeMember, AreNumbersWhere}
+use Rattle.subsume.specs.Searching.{IsLowest, IsMemberOfUse, IsSubsumedBy, AddsSubsumed, IsBelow, IsLowestBelow, IsSubsumer, SomeMember, AreNumbersWhere}
 use Rattle.subsume.specs.Tree.{feature, member_feature, IsEntry}
 use Rattle.subsume.specs.Query.{IsQueryFor, IsLowering, IsLowestSubsumer}
 use Rattle.subsume.specs.declared.lowest.Query.{Query}
@@ -211,3 +211,14 @@ entry-unsubsumed by mine e usage answer known entry asked no_ s =
     true≢false
     (sym (asked (λ positive k h. omega (arith, entry positive k h, known positive k h,
     feature-grows usage.is_predicate (clause_at by.clause) (clause_at e.member.clause) positive k s.subsumed))) ∙ no_)
+
+-- the lowest of all
+pub lowest-of-all : (Does : Member → Type 0) (ms : List Member) (found : Option ℕ) → IsLowestBelow Does ms None found → IsLowest Does ms found
+lowest-of-all Does ms None l = λ m there does. l.none_lower m there does tt
+lowest-of-all Does ms (Some n) l = (
+  ⊎_elim (λ e. absurd cc) (λ s. let same : s.0 ≡ n = cc in subst (SomeMember Does ms) same s.2) l.from,
+  λ m there does. not-below m.number n (l.none_lower m there does),
+)
+  where
+    not-below : (k n : ℕ) → (k < n → ⊥) → n ≤ k
+    not-below k n h = omega (arith, h)

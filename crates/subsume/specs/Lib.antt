@@ -8,3 +8,4 @@ pub mod Tree
 pub mod Searching
 pub mod Query
 pub mod Editing
+pub mod Members

@@ -1,5 +1,6 @@
 -- What searches of a set of members answer.
-use Rattle.std.specs.Prelude.{◌≡◌, ◌⊎◌, ℕ, ◌<◌, Bool, List, [], ◌∷◌, ◌++◌, Option, None, Some, All, Contains, IsTrue, ⊤}
+use Rattle.std.specs.Prelude.{◌≡◌, ◌↔◌, ◌⊎◌, ℕ, ◌<◌, ◌≤◌, Bool, List, [], ◌∷◌, ◌++◌, Option, None, Some, All, Contains, IsTrue, ⊤}
+use Rattle.std.specs.List.Sorted.{IsStrictlyIncreasing}
 use Rattle.fol_base.specs.Clause.{TreeClause}
 use Rattle.fol_base.specs.Subsumption.{Subsumes}
 use Rattle.fol_base.specs.WellFormed.{SymbolUse, are_literals_of}
@@ -29,6 +30,16 @@ pub record SomeMember (Does : Member → Type 0) (ms : List Member) (n : ℕ) : 
   pub there : Contains ms member
   pub does : Does member
   pub number : member.number ≡ n
+
+-- the lowest number of a member that does it; none where no member does
+abbrev pub IsLowest : (Member → Type 0) → List Member → Option ℕ → Type 0
+IsLowest Does ms None = (m : Member) → Contains ms m → Does m → ⊥
+IsLowest Does ms (Some n) = SomeMember Does ms n × ((m : Member) → Contains ms m → Does m → n ≤ m.number)
+
+-- the numbers of exactly the members that do it, rising
+pub record AreNumbersOf (Does : Member → Type 0) (ms : List Member) (ns : List ℕ) : Type 0 where
+  pub rise : IsStrictlyIncreasing ns
+  pub exact : (n : ℕ) → Contains ns n ↔ SomeMember Does ms n
 
 -- below a bound, if there is one
 abbrev pub IsBelow : ℕ → Option ℕ → Type 0

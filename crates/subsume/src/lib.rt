@@ -9,10 +9,14 @@ mod lowest;
 mod matching;
 mod ordering;
 mod placing;
+mod searching;
+mod subsumers;
 mod subsuming;
 mod target;
 mod tree;
 
+pub use searching::{backward, forward, forward_except};
+pub use subsumers::Subsumers;
 pub use subsuming::subsumes;
 
 pub mod laws;

@@ -17,7 +17,7 @@ collect-requires-in-Branch t c =
     ∙ ap (λ (x : Division). (x.low.0 ++ x.high.0, suc (x.low.1 + x.high.1))) (sym c.deref-division.ensures) in
     (omega (arith, ap (λ (v : List Member × ℕ). v.1) parts, c.decreases),
     (All-back (IsMemberOf c.args.bank.now) D.low.0 D.high.0 (subst (λ (v : List Member × ℕ). AreMembersOf c.args.bank.now v.0) parts c.requires.members),
-    (c.requires.by, (c.requires.features, tt))))
+    (c.requires.by, c.requires.features)))
 
 pub returns-after-value-division : goal.returns-after-value-division
 returns-after-value-division t c =
