@@ -7,8 +7,9 @@ use Rattle.fol_base.specs.Tree.{Tree, Trees, trees_of}
 use Rattle.fol_base.specs.Term.{tree_of}
 use Rattle.fol_base.specs.declared.term.Term.{Term}
 use Rattle.fol_base.proofs.ListLemmas.{map-take_more_item}
-use Rattle.fol_base.specs.Clause.{TreeLiteral}
-use Rattle.subsume.specs.declared.features.TheConstants.{MEASURES, MOST}
+use Rattle.fol_base.specs.Clause.{TreeLiteral, literal_size}
+use Rattle.fol_base.proofs.TreeLemmas.{tree_size-positive}
+use Rattle.subsume.specs.declared.vector.TheConstants.{MEASURES, MOST}
 use Rattle.subsume.specs.Features.{by_sign, measured, literal_measure, slot, AreFeaturesOf, trees_weight, tree_weight, tree_measure, trees_measure, for_symbol, for_variable}
 
 -- counting on from a number that was counted up to a limit
@@ -71,3 +72,50 @@ slot-of i = ⊎_elim (λ e. inl (omega (arith, e))) (λ e. inr (omega (arith, e)
     parity zero h = inl refl
     parity (suc zero) h = inr refl
     parity (suc (suc n)) h = absurd (omega arith)
+
+-- a measure over one literal more
+pub measured-more :
+    (positive : Bool) (w : TreeLiteral → ℕ) (ls : List TreeLiteral) (i : ℕ) (l : TreeLiteral) → slice_get ls i ≡ Some l
+    → measured positive w (take (i + 1) ls) ≡ measured positive w (take i ls) + (if beq l.positive positive then w l else 0)
+measured-more positive w ls i l h = sum-take_more (by_sign positive w) ls i l h
+
+-- and over a part of the literals
+pub measured-part : (positive : Bool) (w : TreeLiteral → ℕ) (ls : List TreeLiteral) → measured positive w ls ≤ sum_by w ls
+measured-part positive w [] = omega arith
+measured-part positive w (l ∷ ls) =
+    omega (arith, sum_by-cons (by_sign positive w) l ls, sum_by-cons w l ls, measured-part positive w ls, part (beq l.positive positive) (w l))
+  where
+    part : (b : Bool) (n : ℕ) → (if b then n else 0) ≤ n
+    part true n = omega arith
+    part false n = omega arith
+
+pub counted-few : (ls : List TreeLiteral) → sum_by (λ (l : TreeLiteral). 1) ls ≤ sum_by literal_size ls
+counted-few [] = omega arith
+counted-few (l ∷ ls) =
+    omega (arith, sum_by-cons (λ (k : TreeLiteral). 1) l ls, sum_by-cons literal_size l ls, counted-few ls, tree_size-positive l.left)
+
+pub counting-step :
+    (positive : Bool) (w : TreeLiteral → ℕ) (ls : List TreeLiteral) (i : ℕ) (l : TreeLiteral) (before after most : ℕ)
+    → slice_get ls i ≡ Some l → before ≡ min (measured positive w (take i ls)) most
+    → after ≡ min (before + (if beq l.positive positive then w l else 0)) most
+    → after ≡ min (measured positive w (take (i + 1) ls)) most
+counting-step positive w ls i l before after most there known added = omega (arith, known, added, measured-more positive w ls i l there)
+
+pub counting-yes :
+    (counts : Bool) (before after n added most : ℕ) → counts ≡ true → added ≡ min n most → after ≡ min (before + added) most
+    → after ≡ min (before + (if counts then n else 0)) most
+counting-yes true before after n added most yes_ a h = omega (arith, a, h)
+counting-yes false before after n added most yes_ a h = absurd cc
+
+pub counting-no :
+    (counts : Bool) (before after n most : ℕ) → counts ≡ false → before ≤ most → after ≡ before → after ≡ min (before + (if counts then n else 0)) most
+counting-no true before after n most no_ fits h = absurd cc
+counting-no false before after n most no_ fits h = omega (arith, fits, h)
+
+-- four elements, pushed one after another
+pub four-pushed :
+    {X : Type 0} (none one two three four : List X) (a b c d : X)
+    → none ≡ [] → one ≡ none ++ a ∷ [] → two ≡ one ++ b ∷ [] → three ≡ two ++ c ∷ [] → four ≡ three ++ d ∷ []
+    → four ≡ a ∷ b ∷ c ∷ d ∷ []
+four-pushed none one two three four a b c d n o t h f =
+    f ∙ ap (λ xs. xs ++ d ∷ []) (h ∙ ap (λ xs. xs ++ c ∷ []) (t ∙ ap (λ xs. xs ++ b ∷ []) (o ∙ ap (λ xs. xs ++ a ∷ []) n)))

@@ -9,7 +9,7 @@ use Rattle.bank_clause.specs.Clause.{clause_at}
 use Rattle.bank_clause.specs.declared.member.Member.{Member}
 use Rattle.subsume.specs.declared.entry.Entry.{Entry}
 use Rattle.subsume.specs.declared.editing.Cut.{Cut}
-use Rattle.subsume.specs.declared.features.TheConstants.{MEASURES, MOST}
+use Rattle.subsume.specs.declared.vector.TheConstants.{MEASURES, MOST}
 use Rattle.subsume.specs.Features.{slot, AreFeaturesOf}
 use Rattle.subsume.specs.declared.tree.Division.{Division}
 use Rattle.subsume.specs.Tree.{IsDivision, IsEntry, member_feature, members_of}

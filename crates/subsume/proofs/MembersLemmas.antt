@@ -9,7 +9,7 @@ use Rattle.std.proofs.lemmas.List.Sorted.{IsPermutation-map, All-permutation}
 use Rattle.fol_base.specs.Subsumption.{all_different}
 use Rattle.bank_clause.specs.Clause.{clause_at}
 use Rattle.bank_clause.specs.declared.member.Member.{Member}
-use Rattle.subsume.specs.declared.features.Features.{Features}
+use Rattle.subsume.specs.declared.vector.Features.{Features}
 use Rattle.subsume.specs.Features.{AreFeaturesOf}
 use Rattle.subsume.specs.Editing.{HasNone, HasNoNumber, IsNumbered}
 use Rattle.subsume.specs.Members.{AreKnown, IsKnownIn, numbers_of}

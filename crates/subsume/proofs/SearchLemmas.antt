@@ -9,7 +9,7 @@ use Rattle.fol_base.specs.WellFormed.{SymbolUse}
 use Rattle.fol_base.proofs.ListLemmas.{map-take_more_item}
 use Rattle.bank_clause.specs.Clause.{clause_at}
 use Rattle.bank_clause.specs.declared.member.Member.{Member}
-use Rattle.subsume.specs.declared.features.TheConstants.{MEASURES, MOST}
+use Rattle.subsume.specs.declared.vector.TheConstants.{MEASURES, MOST}
 use Rattle.subsume.specs.Features.{measured, literal_measure, slot, AreFeaturesOf}
 use Rattle.subsume.specs.Searching.{IsLowest, IsMemberOfUse, IsSubsumedBy, AddsSubsumed, IsBelow, IsLowestBelow, IsSubsumer, SomeMember, AreNumbersWhere}
 use Rattle.subsume.specs.Tree.{feature, member_feature, IsEntry}

@@ -5,7 +5,7 @@ use Rattle.fol_base.specs.Subsumption.{all_different}
 use Rattle.bank_clause.specs.Clause.{clause_at}
 use Rattle.bank_clause.specs.declared.member.Member.{Member}
 use Rattle.subsume.specs.Features.{AreFeaturesOf}
-use Rattle.subsume.specs.declared.features.Features.{Features}
+use Rattle.subsume.specs.declared.vector.Features.{Features}
 
 abbrev pub numbers_of : List Member → List ℕ
 numbers_of ms = map (λ (m : Member). m.number) ms

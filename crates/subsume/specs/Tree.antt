@@ -4,7 +4,7 @@ use Rattle.fol_base.specs.Clause.{TreeClause}
 use Rattle.bank_clause.specs.Clause.{clause_at}
 use Rattle.bank_clause.specs.declared.member.Member.{Member}
 use Rattle.subsume.specs.declared.entry.Entry.{Entry}
-use Rattle.subsume.specs.declared.features.TheConstants.{MEASURES, MOST}
+use Rattle.subsume.specs.declared.vector.TheConstants.{MEASURES, MOST}
 use Rattle.subsume.specs.declared.tree.Node.{Node}
 use Rattle.subsume.specs.declared.tree.Node.TheVariants.{Leaf, Branch}
 use Rattle.subsume.specs.declared.tree.Division.{Division}

@@ -8,7 +8,7 @@ ghost use Rattle.subsume.specs.Searching.{AddsSubsumed, IsMemberOfUse, IsSubsume
 ghost use Rattle.subsume.specs.Tree.{IsEntry, members_of};
 
 use crate::entry::Entry;
-use crate::features::Features;
+use crate::vector::Features;
 use crate::subsuming::is_subsumed;
 use crate::target::{Target, lent_literals};
 use crate::tree::{Division, FeatureTree, Node};

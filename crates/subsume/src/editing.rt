@@ -7,7 +7,7 @@ ghost use Rattle.subsume.specs.Tree.{IsDivision, IsEntry, IsSound, both_sides, c
 ghost use Rattle.subsume.specs.Editing.{HasAtMost, HasMore, HasNone, HasNoNumber, IsNumbered, IsPlaceOf};
 
 use crate::entry::Entry;
-use crate::features::{Features, MEASURES};
+use crate::vector::{Features, MEASURES};
 use crate::tree::{Division, FeatureTree, Node};
 use plain_types::Mem;
 use std::alloc::Global;

@@ -1,6 +1,6 @@
 // What an index keeps of a member.
 
-use crate::features::Features;
+use crate::vector::Features;
 use bank_clause::Member;
 
 /// A member with the features of its clause.

@@ -2,9 +2,10 @@
 #![tactic(auto)]
 
 mod collecting;
+mod counting;
 mod editing;
 mod entry;
-mod features;
+
 mod lowest;
 mod matching;
 mod ordering;
@@ -14,7 +15,9 @@ mod subsumers;
 mod subsuming;
 mod target;
 mod tree;
+mod vector;
 
+pub use counting::features;
 pub use searching::{backward, forward, forward_except};
 pub use subsumers::Subsumers;
 pub use subsuming::subsumes;

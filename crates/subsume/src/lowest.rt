@@ -7,7 +7,7 @@ ghost use Rattle.subsume.specs.Searching.{IsBelow};
 ghost use Rattle.subsume.specs.Tree.{IsEntry, members_of};
 
 use crate::entry::Entry;
-use crate::features::Features;
+use crate::vector::Features;
 use crate::subsuming::is_subsumed;
 use crate::target::Target;
 use crate::tree::{Division, FeatureTree, Node};

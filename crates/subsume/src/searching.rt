@@ -6,7 +6,7 @@ ghost use Rattle.fol_base.specs.WellFormed.{SymbolUse, are_literals_of};
 ghost use Rattle.bank_clause.specs.Clause.{AreMembersOf, IsMemberOf};
 ghost use Rattle.subsume.specs.Searching.{AreMembersOfUse, AreNumbersOf, IsLowest, IsMemberOfUse, IsSubsumedBy, IsSubsumer};
 
-use crate::features::Features;
+use crate::vector::Features;
 use crate::lowest::Query;
 use crate::subsumers::Subsumers;
 use crate::target::{Target, asserted_numbers, lent_literals};

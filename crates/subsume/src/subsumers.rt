@@ -5,7 +5,7 @@ ghost use Rattle.bank_clause.specs.Clause.{IsMemberOf};
 ghost use Rattle.subsume.specs.Editing.{HasNoNumber, IsNumbered};
 
 use crate::entry::Entry;
-use crate::features::Features;
+use crate::vector::Features;
 use crate::tree::FeatureTree;
 use bank_clause::Member;
 use indexmap::IndexMap;

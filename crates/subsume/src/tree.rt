@@ -6,7 +6,7 @@ ghost use Rattle.bank_clause.specs.declared.member.Member.{Member};
 ghost use Rattle.subsume.specs.Features.{AreFeaturesOf};
 
 use crate::entry::Entry;
-use crate::features::Features;
+use crate::vector::Features;
 use plain_types::Mem;
 use std::alloc::Global;
 use std::marker::Model;

@@ -1,5 +1,5 @@
 use Rattle.std.proofs.Common.{◌<◌}
-use Rattle.subsume.specs.declared.features.TheConstants.{MEASURES}
+use Rattle.subsume.specs.declared.vector.TheConstants.{MEASURES}
 use Rattle.subsume.proofs.editing.widest.Given as goal
 
 abbrev pub invariant-loop-measure : goal.invariant-loop-measure

@@ -1,6 +1,6 @@
 use Rattle.fol_base.specs.Lent.{lent_of}
 use Rattle.subsume.proofs.CountingLemmas.{features-more}
-use Rattle.subsume.proofs.features.Features.of.Goals as goal
+use Rattle.subsume.proofs.vector.Features.of.Goals as goal
 
 pub loop-index-preserved : goal.loop-index-preserved
 loop-index-preserved g c =

@@ -2,7 +2,7 @@ use Rattle.std.proofs.Common.{◌≡◌, ◌<◌, ◌≤◌, ◌/◌, true, fals
 use Rattle.std.specs.Prelude.{slice_index}
 use Rattle.subsume.specs.Features.{slot}
 use Rattle.subsume.proofs.CountingLemmas.{slot-of}
-use Rattle.subsume.proofs.features.Features.are_at_most.Goals as goal
+use Rattle.subsume.proofs.vector.Features.are_at_most.Goals as goal
 
 pub returns-then-self-index : goal.returns-then-self-index
 returns-then-self-index c = λ below.

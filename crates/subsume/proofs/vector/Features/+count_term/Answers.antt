@@ -6,7 +6,7 @@ use Rattle.fol_base.specs.Term.{tree_of}
 use Rattle.fol_base.proofs.TermLemmas.{tree_size-item}
 use Rattle.subsume.specs.Features.{tree_measure, trees_measure}
 use Rattle.subsume.proofs.CountingLemmas.{measure-take_more, saturated}
-use Rattle.subsume.proofs.features.Features.+count_term.Goals as goal
+use Rattle.subsume.proofs.vector.Features.+count_term.Goals as goal
 
 pub count_terms-count_term-requires : goal.count_terms-count_term-requires
 count_terms-count_term-requires t c =

@@ -4,8 +4,8 @@ use Rattle.std.specs.Prelude.{slice_index, if◌then◌else◌}
 use Rattle.fol_base.specs.Tree.{tree_size, trees_size, trees_of}
 use Rattle.fol_base.specs.Term.{tree_of}
 use Rattle.subsume.specs.Features.{slot, trees_measure}
-use Rattle.subsume.specs.declared.features.TheConstants.{MEASURES, MOST}
-use Rattle.subsume.proofs.features.Features.+count_term.Given as goal
+use Rattle.subsume.specs.declared.vector.TheConstants.{MEASURES, MOST}
+use Rattle.subsume.proofs.vector.Features.+count_term.Given as goal
 
 abbrev pub decreases-count_term : goal.decreases-count_term
 decreases-count_term l = 2 * tree_size (tree_of l.term.now)
