@@ -98,6 +98,7 @@ no_feature_greater is_predicate c d s = (count true, (count false, (size true, (
     count positive =
         sum-subsumed (by_sign positive (λ l. 1)) (by_sign-monotone positive (λ l. 1) (λ σ l. omega arith) (λ l m h. refl))
         s.matcher c.literals s.places d.literals s.different s.mapped
+
     size : (positive : Bool) → measured positive literal_size c.literals ≤ measured positive literal_size d.literals
     size positive =
         sum-subsumed (by_sign positive literal_size) (by_sign-monotone positive literal_size

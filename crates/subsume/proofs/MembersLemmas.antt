@@ -58,11 +58,19 @@ pub known-inserted :
 known-inserted ms new m old known f before others perm features there keeps = record {
   once =
       different-permutation (numbers_of (m ∷ ms)) (numbers_of new) (IsPermutation-map (λ (k : Member). k.number) (m ∷ ms) new perm)
-          (and_from (not (list_any (λ i. m.number == i) (numbers_of ms))) (all_different (numbers_of ms)) (ap not (absent-number m.number ms others)) before.once);
+      (and_from (not (list_any (λ i. m.number == i) (numbers_of ms))) (all_different (numbers_of ms)) (ap not (absent-number m.number ms others)) before.once);
   found =
       All-permutation (IsKnownIn known) (m ∷ ms) new perm
-          (All-cons (IsKnownIn known) m ms (f, there, features) (known-kept m.number ms old known keeps others before.found));
+      (All-cons (IsKnownIn known) m ms (f, there, features) (known-kept m.number ms old known keeps others before.found));
 }
+
+-- once a number is taken out, it isn't there
+pub number-gone : (n : ℕ) (ms new : List Member) → all_different (numbers_of ms) ≡ true → IsNumbered n ms new → HasNoNumber n new
+number-gone n ms new once gone =
+    let parts =
+    and_parts (not (list_any (λ i. gone.member.number == i) (numbers_of new))) (all_different (numbers_of new))
+    (different-permutation (numbers_of ms) (numbers_of (gone.member ∷ new)) (IsPermutation-map (λ (k : Member). k.number) ms (gone.member ∷ new) gone.gone) once) in
+    no-number n new (subst (λ k. list_any (λ i. k == i) (numbers_of new) ≡ false) gone.named (not-true (list_any (λ i. gone.member.number == i) (numbers_of new)) parts.0))
 
 pub known-removed :
     (n : ℕ) (ms new : List Member) (old known : Known) → AreKnown ms old → IsNumbered n ms new → KeepsOthers n old known → AreKnown new known
@@ -70,11 +78,11 @@ known-removed n ms new old known before gone keeps =
     let once =
     and_parts (not (list_any (λ i. gone.member.number == i) (numbers_of new))) (all_different (numbers_of new))
     (different-permutation (numbers_of ms) (numbers_of (gone.member ∷ new)) (IsPermutation-map (λ (k : Member). k.number) ms (gone.member ∷ new) gone.gone) before.once) in
-    let others : HasNoNumber n new =
-    no-number n new (subst (λ k. list_any (λ i. k == i) (numbers_of new) ≡ false) gone.named (not-true (list_any (λ i. gone.member.number == i) (numbers_of new)) once.0)) in
     record {
       once = once.1;
-      found = known-kept n new old known keeps others (All-tail (IsKnownIn old) gone.member new (All-permutation (IsKnownIn old) ms (gone.member ∷ new) gone.gone before.found));
+      found =
+          known-kept n new old known keeps (number-gone n ms new before.once gone)
+          (All-tail (IsKnownIn old) gone.member new (All-permutation (IsKnownIn old) ms (gone.member ∷ new) gone.gone before.found));
     }
 
 -- no member has a number of which nothing is known
@@ -121,3 +129,11 @@ known-taken n ms new old known f false before there keeps removed unchanged abse
 pub on-ok : {T E : Type 0} (r : Result T E) (P : Type 0) → IsOk r → OnOk r P → P
 on-ok (Ok x) P ok h = h
 on-ok (Err e) P ok h = absurd (true≢false (sym ok))
+
+pub taken-gone :
+    (n : ℕ) (ms new : List Member) (old : Known) (f : Features) (answer : Bool)
+    → AreKnown ms old → lookup (nat_eq n) old ≡ Some f
+    → (IsTrue answer → IsNumbered n ms new) → (answer ≡ false → new ≡ ms) → (answer ≡ false → HasNone f.values n ms) → HasNoNumber n new
+taken-gone n ms new old f true before there removed unchanged absent = number-gone n ms new before.once (removed refl)
+taken-gone n ms new old f false before there removed unchanged absent =
+    subst (HasNoNumber n) (sym (unchanged refl)) (unfound-number n ms old f there (absent refl) before.found)

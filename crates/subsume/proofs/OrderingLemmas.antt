@@ -233,6 +233,7 @@ started n len items used e l h =
     none : (k : ℕ) → take {A = Bool} k [] ≡ []
     none zero = refl
     none (suc k) = refl
+
     less : n - len ≡ n
     less = omega (arith, l)
 

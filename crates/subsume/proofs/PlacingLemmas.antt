@@ -135,6 +135,7 @@ alike-needed p σ l m puts hl hm h =
   where
     straight : instance σ l.right ≡ m.right → is_truth l.right ≡ is_truth m.right
     straight e = sym (truth-kept p σ puts l.right) ∙ ap is_truth e
+
     crossed : instance σ l.left ≡ m.right → instance σ l.right ≡ m.left → is_truth l.right ≡ is_truth m.right
     crossed e d =
         let left : is_truth l.left ≡ is_truth m.right = sym (truth-kept p σ puts l.left) ∙ ap is_truth e in

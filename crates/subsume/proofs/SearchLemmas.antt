@@ -79,6 +79,7 @@ lowest-one Does m bound does below = record {
   where
     here : (m : Member) → Contains (m ∷ []) m
     here m = Contains-push [] m
+
     only : (k m : Member) → Contains (m ∷ []) k → k ≡ m
     only k m h = ⊎_elim (λ e. absurd (All-contains (λ (x : Member). ⊥) [] k (λ i d lt. absurd (omega arith)) e)) (λ e. sym e) (Contains-push_cases [] m k h)
 
@@ -133,8 +134,12 @@ pub entry-excluded :
     → answer ≡ false → IsSubsumer usage query.except d e.member → ⊥
 entry-excluded query e bound usage d answer entry q asked no_ s =
     true≢false
-    (sym (asked (λ positive k h. omega (arith, entry positive k h, q.features positive k h,
-    feature-grows usage.is_predicate (clause_at e.member.clause) d positive k s.subsumes))) ∙ no_)
+    (sym (asked (λ positive k h. omega (
+      arith,
+      entry positive k h,
+      q.features positive k h,
+      feature-grows usage.is_predicate (clause_at e.member.clause) d positive k s.subsumes,
+    ))) ∙ no_)
 
 -- ---- numbers of members
 
@@ -209,8 +214,12 @@ pub entry-unsubsumed :
     → answer ≡ false → IsSubsumedBy usage by e.member → ⊥
 entry-unsubsumed by mine e usage answer known entry asked no_ s =
     true≢false
-    (sym (asked (λ positive k h. omega (arith, entry positive k h, known positive k h,
-    feature-grows usage.is_predicate (clause_at by.clause) (clause_at e.member.clause) positive k s.subsumed))) ∙ no_)
+    (sym (asked (λ positive k h. omega (
+      arith,
+      entry positive k h,
+      known positive k h,
+      feature-grows usage.is_predicate (clause_at by.clause) (clause_at e.member.clause) positive k s.subsumed,
+    ))) ∙ no_)
 
 -- the lowest of all
 pub lowest-of-all : (Does : Member → Type 0) (ms : List Member) (found : Option ℕ) → IsLowestBelow Does ms None found → IsLowest Does ms found

@@ -9,3 +9,4 @@ pub mod Searching
 pub mod Query
 pub mod Editing
 pub mod Members
+pub mod Examples

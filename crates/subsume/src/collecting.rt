@@ -8,10 +8,10 @@ ghost use Rattle.subsume.specs.Searching.{AddsSubsumed, IsMemberOfUse, IsSubsume
 ghost use Rattle.subsume.specs.Tree.{IsEntry, members_of};
 
 use crate::entry::Entry;
-use crate::vector::Features;
 use crate::subsuming::is_subsumed;
 use crate::target::{Target, lent_literals};
 use crate::tree::{Division, FeatureTree, Node};
+use crate::vector::Features;
 use bank_clause::Member;
 use plain_types::Mem;
 use std::alloc::Global;

@@ -7,8 +7,8 @@ ghost use Rattle.subsume.specs.Tree.{IsDivision, IsEntry, IsSound, both_sides, c
 ghost use Rattle.subsume.specs.Editing.{HasAtMost, HasMore, HasNone, HasNoNumber, IsNumbered, IsPlaceOf};
 
 use crate::entry::Entry;
-use crate::vector::{Features, MEASURES};
 use crate::tree::{Division, FeatureTree, Node};
+use crate::vector::{Features, MEASURES};
 use plain_types::Mem;
 use std::alloc::Global;
 use std::mem;

@@ -5,7 +5,6 @@ mod collecting;
 mod counting;
 mod editing;
 mod entry;
-
 mod lowest;
 mod matching;
 mod ordering;

@@ -7,10 +7,10 @@ ghost use Rattle.subsume.specs.Searching.{IsBelow};
 ghost use Rattle.subsume.specs.Tree.{IsEntry, members_of};
 
 use crate::entry::Entry;
-use crate::vector::Features;
 use crate::subsuming::is_subsumed;
 use crate::target::Target;
 use crate::tree::{Division, FeatureTree, Node};
+use crate::vector::Features;
 use plain_types::Mem;
 use std::alloc::Global;
 use term_bank::Bank;

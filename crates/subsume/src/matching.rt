@@ -55,7 +55,7 @@ pub(crate) fn match_sides<'a>(
     ensures found { IfOk result (λ found. MatchOption found
         ((σ : Substitution) → HasPairs so_far.now σ → TurnsInto σ (lent_of pattern.entry) (lent_of target.entry) → ⊥)
         (λ pairs. (σ : Substitution) → HasPairs pairs σ
-            ↔ (HasPairs so_far.now σ × TurnsInto σ (lent_of pattern.entry) (lent_of target.entry)))) }
+        ↔ (HasPairs so_far.now σ × TurnsInto σ (lent_of pattern.entry) (lent_of target.entry)))) }
     ensures below { IfOk result (λ found. (count : ℕ) → LiteralVariablesBelow count (lent_of pattern.entry)
         → are_below count so_far.now ≡ true → IfSome found (λ pairs. are_below count pairs ≡ true)) }
     ensures once { IfOk result (λ found. all_different (variables_of so_far.now) ≡ true

@@ -51,7 +51,9 @@ pub(crate) fn place<'a>(
         let target = targets[at];
         if !used[at] && are_alike(pattern, target) {
             used[at] = true;
-            let found = place_onto(alloc, patterns, index, targets, used, pattern, target, &so_far)?;
+            let found = place_onto(
+                alloc, patterns, index, targets, used, pattern, target, &so_far,
+            )?;
             if found.is_some() {
                 return Ok(found);
             }
@@ -89,11 +91,22 @@ fn place_onto<'a>(
         → IsTrue (is_literal is_predicate (lent_of pattern.entry)) → IsTrue (is_literal is_predicate (lent_of target.entry))
         → AreFunctionPairs is_predicate so_far.now → IfSome found (AreFunctionPairs is_predicate)) }
 {
-    let found = place_sides(alloc, patterns, index, targets, used, pattern, target, so_far)?;
+    let found = place_sides(
+        alloc, patterns, index, targets, used, pattern, target, so_far,
+    )?;
     if found.is_some() || target.right.is_truth() {
         return Ok(found);
     }
-    place_sides(alloc, patterns, index, targets, used, pattern, target.exchanged(), so_far)
+    place_sides(
+        alloc,
+        patterns,
+        index,
+        targets,
+        used,
+        pattern,
+        target.exchanged(),
+        so_far,
+    )
 }
 
 /// The same where each side of a pattern becomes the same side of the target.

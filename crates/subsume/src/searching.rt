@@ -6,10 +6,10 @@ ghost use Rattle.fol_base.specs.WellFormed.{SymbolUse, are_literals_of};
 ghost use Rattle.bank_clause.specs.Clause.{AreMembersOf, IsMemberOf};
 ghost use Rattle.subsume.specs.Searching.{AreMembersOfUse, AreNumbersOf, IsLowest, IsMemberOfUse, IsSubsumedBy, IsSubsumer};
 
-use crate::vector::Features;
 use crate::lowest::Query;
 use crate::subsumers::Subsumers;
 use crate::target::{Target, asserted_numbers, lent_literals};
+use crate::vector::Features;
 use bank_clause::Member;
 use fol_base::Clause;
 use plain_types::{Mem, Numbers};
@@ -17,12 +17,7 @@ use std::alloc::Global;
 use term_bank::Bank;
 
 /// The lowest number of a member that subsumes a clause. None exactly where none does.
-pub fn forward(
-    alloc: Global,
-    bank: &Bank,
-    set: &Subsumers,
-    clause: &Clause,
-) -> Mem<Option<u32>>
+pub fn forward(alloc: Global, bank: &Bank, set: &Subsumers, clause: &Clause) -> Mem<Option<u32>>
     requires { AreMembersOf bank.now set.now }
     ensures { IfOk result (λ found. (usage : SymbolUse) → IsTrue (are_literals_of usage (clause_of clause.now).literals)
         → AreMembersOfUse usage set.now → IsLowest (IsSubsumer usage None (clause_of clause.now)) set.now found) }

@@ -1,12 +1,14 @@
 // Sets of members, which tell of a clause which members subsume it, and of a member which others it subsumes.
 
-ghost use Rattle.std.specs.Prelude.{◌≡◌, [], ◌∷◌, IfOk, OnErr, IsTrue, IsPermutation, false};
+ghost use Rattle.std.specs.Prelude.{◌≡◌, [], ◌∷◌, IfOk, OnErr, IsTrue, IsPermutation, true, false};
+ghost use Rattle.fol_base.specs.Subsumption.{all_different};
 ghost use Rattle.bank_clause.specs.Clause.{IsMemberOf};
 ghost use Rattle.subsume.specs.Editing.{HasNoNumber, IsNumbered};
+ghost use Rattle.subsume.specs.Members.{numbers_of};
 
 use crate::entry::Entry;
-use crate::vector::Features;
 use crate::tree::FeatureTree;
+use crate::vector::Features;
 use bank_clause::Member;
 use indexmap::IndexMap;
 use plain_types::Mem;
@@ -52,6 +54,13 @@ impl Subsumers {
         })
     }
 
+    /// Shows that no number stands twice. It changes nothing.
+    pub fn once(&self)
+        ensures { all_different (numbers_of self.now) ≡ true }
+    {
+        let _ = &self.known;
+    }
+
     /// Adds an equal member. The condition is that the member is of the bank, and that none with its number is there. After want of
     /// memory the set is as before.
     pub fn insert(&mut self, bank: &Bank, member: &Member) -> Mem<()>
@@ -78,6 +87,7 @@ impl Subsumers {
         ensures removed { IsTrue result → IsNumbered number self.old self.new }
         ensures unchanged { result ≡ false → self.new ≡ self.old }
         ensures absent { result ≡ false → HasNoNumber number self.old }
+        ensures gone { HasNoNumber number self.new }
     {
         match self.known.swap_remove(&number) {
             None => false,

@@ -81,9 +81,7 @@ fn find_matcher<'a, L: LendsLiterals>(
     }
     match ordered_literals(alloc, literals, target.literals.as_slice())? {
         None => Ok(None),
-        Some(patterns) => {
-            find_places(alloc, patterns.as_slice(), target.literals.as_slice())
-        }
+        Some(patterns) => { find_places(alloc, patterns.as_slice(), target.literals.as_slice()) }
     }
 }
 
@@ -104,5 +102,12 @@ fn find_places<'a>(
 {
     let mut used = Vec::new(alloc);
     used.resize(targets.len(), false)?;
-    place(alloc, patterns, 0, targets, used.as_mut_slice(), Matched::empty(alloc))
+    place(
+        alloc,
+        patterns,
+        0,
+        targets,
+        used.as_mut_slice(),
+        Matched::empty(alloc),
+    )
 }

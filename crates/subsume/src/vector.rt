@@ -81,7 +81,7 @@ impl Features {
         ensures { (positive : Bool) (k : ℕ) → k < MEASURES → slice_index self.old.values (slot positive k) ≤ MOST
             → slice_index self.new.values (slot positive k)
             ≡ min (slice_index self.old.values (slot positive k)
-                + (if beq (lent_of literal.entry).positive positive then literal_measure k (lent_of literal.entry) else 0)) MOST }
+            + (if beq (lent_of literal.entry).positive positive then literal_measure k (lent_of literal.entry) else 0)) MOST }
     {
         self.count(literal.positive, LITERALS);
         self.count_term(literal.positive, literal.left);
@@ -108,7 +108,7 @@ impl Features {
         ensures { (sign : Bool) (k : ℕ) → k < MEASURES → slice_index self.old.values (slot sign k) ≤ MOST
             → slice_index self.new.values (slot sign k)
             ≡ min (slice_index self.old.values (slot sign k)
-                + (if beq positive sign then trees_measure k (trees_of terms.now) else 0)) MOST }
+            + (if beq positive sign then trees_measure k (trees_of terms.now) else 0)) MOST }
     {
         for term in terms.as_slice() {
             self.count_term(positive, term);
@@ -132,5 +132,9 @@ fn slot(positive: bool, measure: usize) -> usize
     ensures value { result ≡ slot positive measure }
     ensures inside { result < FEATURES }
 {
-    if positive { 2 * measure } else { 2 * measure + 1 }
+    if positive {
+        2 * measure
+    } else {
+        2 * measure + 1
+    }
 }

@@ -26,11 +26,11 @@ loop-entry-preserved c =
     subst (λ ms. AddsSubsumed by ms c.args.found.now.items c.if-branch.found.items)
     (sym (map-take_more_item (λ (x : Entry). x.member) es i e c.loop-entry-test.true c.entry-item.is))
     (elim c.if-branch.branch [
-      then-branch+in_ok-push w ↦
-        adds-answered by (members_of (take i es)) e.member c.args.found.now.items c.loop-entry.found.items c.if-branch.found.items c.in_ok-does_subsume.field-0 exact
-        (λ yes_. ap (λ v. v.items) w.found-is ∙ w.in_ok-push.ensures.items ∙ ap (λ n. c.loop-entry.found.items ++ n ∷ []) w.from.ensures)
-        (λ no_. absurd (true≢false (sym w.if-branch.true ∙ no_))) c.loop-entry.invariant
+      | then-branch+in_ok-push w ↦
+          adds-answered by (members_of (take i es)) e.member c.args.found.now.items c.loop-entry.found.items c.if-branch.found.items c.in_ok-does_subsume.field-0 exact
+          (λ yes_. ap (λ v. v.items) w.found-is ∙ w.in_ok-push.ensures.items ∙ ap (λ n. c.loop-entry.found.items ++ n ∷ []) w.from.ensures)
+          (λ no_. absurd (true≢false (sym w.if-branch.true ∙ no_))) c.loop-entry.invariant
       | else-branch w ↦
-        adds-answered by (members_of (take i es)) e.member c.args.found.now.items c.loop-entry.found.items c.if-branch.found.items c.in_ok-does_subsume.field-0 exact
-        (λ yes_. absurd (true≢false (sym yes_ ∙ w.if-branch.false))) (λ no_. ap (λ v. v.items) w.found-is) c.loop-entry.invariant
+          adds-answered by (members_of (take i es)) e.member c.args.found.now.items c.loop-entry.found.items c.if-branch.found.items c.in_ok-does_subsume.field-0 exact
+          (λ yes_. absurd (true≢false (sym yes_ ∙ w.if-branch.false))) (λ no_. ap (λ v. v.items) w.found-is) c.loop-entry.invariant
     ])

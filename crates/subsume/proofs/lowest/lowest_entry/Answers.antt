@@ -31,12 +31,12 @@ loop-entry-preserved c =
     subst (λ ms. IsLowestSubsumer c.args.query.now ms c.args.bound c.if-branch.lowest)
     (sym (map-take_more_item (λ (x : Entry). x.member) es i e c.loop-entry-test.true c.entry-item.is))
     (elim c.if-branch.branch [
-      then-branch w ↦
-        lowest-answered c.args.query.now (members_of (take i es)) e.member c.args.bound c.loop-entry.lowest c.if-branch.lowest c.in_ok-does_lower.field-0
-        c.in_ok-does_lower.ensures (λ yes_. w.lowest-is) (λ no_. absurd (true≢false (sym w.if-branch.true ∙ no_))) c.loop-entry.invariant
+      | then-branch w ↦
+          lowest-answered c.args.query.now (members_of (take i es)) e.member c.args.bound c.loop-entry.lowest c.if-branch.lowest c.in_ok-does_lower.field-0
+          c.in_ok-does_lower.ensures (λ yes_. w.lowest-is) (λ no_. absurd (true≢false (sym w.if-branch.true ∙ no_))) c.loop-entry.invariant
       | else-branch w ↦
-        lowest-answered c.args.query.now (members_of (take i es)) e.member c.args.bound c.loop-entry.lowest c.if-branch.lowest c.in_ok-does_lower.field-0
-        c.in_ok-does_lower.ensures (λ yes_. absurd (true≢false (sym yes_ ∙ w.if-branch.false))) (λ no_. w.lowest-is) c.loop-entry.invariant
+          lowest-answered c.args.query.now (members_of (take i es)) e.member c.args.bound c.loop-entry.lowest c.if-branch.lowest c.in_ok-does_lower.field-0
+          c.in_ok-does_lower.ensures (λ yes_. absurd (true≢false (sym yes_ ∙ w.if-branch.false))) (λ no_. w.lowest-is) c.loop-entry.invariant
     ])
 
 pub returns : goal.returns

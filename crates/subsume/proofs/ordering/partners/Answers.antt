@@ -13,7 +13,7 @@ loop-target-preserved c =
     let l = lent_of c.args.literal in
     let i = c.loop-target.target-index in
     elim c.if-may_stand.branch [
-      then-may_stand w ↦ (omega (arith, w.count-is, c.loop-target.invariant.0), λ e. absurd (omega (arith, w.count-is, e)))
+      | then-may_stand w ↦ (omega (arith, w.count-is, c.loop-target.invariant.0), λ e. absurd (omega (arith, w.count-is, e)))
       | else-may_stand w ↦ (
         omega (arith, w.count-is, c.loop-target.invariant.0),
         λ e.

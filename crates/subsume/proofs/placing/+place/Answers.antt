@@ -64,28 +64,30 @@ place-loop-at-preserved t c =
     let l = lent_of c.index-patterns-index.result in
     let m = lent_of c.index-targets-at.result in
     elim c.if-not-used-at.branch [
-      place-then-not-used-at+then-are_alike+in_ok-found+else-is_some w ↦
-        let none : is_some w.in_ok-found.found ≡ false = search rules in
-        let free : get_or c.loop-at.used c.loop-at.at false ≡ false = search rules in
-        let within : c.loop-at.at < length c.loop-at.used = omega arith in
-        let marks : w.place_onto.new.used ≡ slice_set c.loop-at.used c.loop-at.at true =
-        marks-kept w.in_ok-found.found _ _ none w.in_ok-found.ensures.marks in
-        let back : c.if-not-used-at.used ≡ c.loop-at.used = w.used-is ∙ ap (λ us. slice_set us c.loop-at.at false) marks ∙ set-back c.loop-at.used c.loop-at.at within free in
-        (back ∙ used,
-        subst (λ us. StandsAtNone ls ds c.args.index us c.args.so_far (c.loop-at.at + 1)) (sym back)
-        (none-found ls ds c.args.index c.loop-at.at c.loop-at.used c.args.so_far l m w.in_ok-found.found here there none w.in_ok-found.ensures.found before))
+      | place-then-not-used-at+then-are_alike+in_ok-found+else-is_some w ↦
+          let none : is_some w.in_ok-found.found ≡ false = search rules in
+          let free : get_or c.loop-at.used c.loop-at.at false ≡ false = search rules in
+          let within : c.loop-at.at < length c.loop-at.used = omega arith in
+          let marks : w.place_onto.new.used ≡ slice_set c.loop-at.used c.loop-at.at true =
+          marks-kept w.in_ok-found.found _ _ none w.in_ok-found.ensures.marks in
+          let back : c.if-not-used-at.used ≡ c.loop-at.used = w.used-is ∙ ap (λ us. slice_set us c.loop-at.at false) marks ∙ set-back c.loop-at.used c.loop-at.at within free in (
+            back ∙ used,
+            subst (λ us. StandsAtNone ls ds c.args.index us c.args.so_far (c.loop-at.at + 1)) (sym back)
+                (none-found ls ds c.args.index c.loop-at.at c.loop-at.used c.args.so_far l m w.in_ok-found.found here there none w.in_ok-found.ensures.found before),
+          )
       | place-else-not-used-at w ↦
-        let same : c.if-not-used-at.used ≡ c.loop-at.used = w.used-is in
-        (same ∙ used,
-        subst (λ us. StandsAtNone ls ds c.args.index us c.args.so_far (c.loop-at.at + 1)) (sym same)
-        (elim w.else-not-used-at.branch [
-          place-else-not-used-at-via-then-not-used-at+else-are_alike w' ↦
-            let unlike : are_alike l m ≡ false = search rules in
-            none-alike ls ds c.args.index c.loop-at.at c.loop-at.used c.args.so_far l m here there unlike before
-          | place-else-not-used-at-via-else-not-used-at w' ↦
-            let taken : get_or c.loop-at.used c.loop-at.at false ≡ true = search rules in
-            none-free ls ds c.args.index c.loop-at.at c.loop-at.used c.args.so_far l m here there (taken-marked c.loop-at.used c.loop-at.at (omega arith) taken) before
-        ]))
+          let same : c.if-not-used-at.used ≡ c.loop-at.used = w.used-is in (
+            same ∙ used,
+            subst (λ us. StandsAtNone ls ds c.args.index us c.args.so_far (c.loop-at.at + 1)) (sym same)
+                (elim w.else-not-used-at.branch [
+                  | place-else-not-used-at-via-then-not-used-at+else-are_alike w' ↦
+                      let unlike : are_alike l m ≡ false = search rules in
+                      none-alike ls ds c.args.index c.loop-at.at c.loop-at.used c.args.so_far l m here there unlike before
+                  | place-else-not-used-at-via-else-not-used-at w' ↦
+                      let taken : get_or c.loop-at.used c.loop-at.at false ≡ true = search rules in
+                      none-free ls ds c.args.index c.loop-at.at c.loop-at.used c.args.so_far l m here there (taken-marked c.loop-at.used c.loop-at.at (omega arith) taken) before
+                ]),
+          )
     ]
 
 pub place-returns-clause-found : goal.place-returns-clause-found
@@ -102,7 +104,7 @@ pub place_onto-returns-then-is_some-clause-found : goal.place_onto-returns-then-
 place_onto-returns-then-is_some-clause-found t c =
     let ends : (is_some c.in_ok-found.found ≡ true) ⊎ (Rattle.fol_base.specs.Tree.is_truth (lent_of c.args.target).right ≡ true) =
     elim c.then-is_some.branch [
-      place_onto-then-is_some-via-then-is_some w ↦ inl (search rules)
+      | place_onto-then-is_some-via-then-is_some w ↦ inl (search rules)
       | place_onto-then-is_some-via-else-is_some+then-is_truth w ↦ inr (search rules)
     ] in
     onto-first (map lent_of c.args.patterns.now) (map lent_of c.args.targets.now) (lent_of c.args.pattern) (lent_of c.args.target)

@@ -15,9 +15,9 @@ loop-name-preserved c =
     let name : NameLit = slice_index_or names i nothing in
     let more = ap assertions (take_more names i nothing c.loop-name-test.true) in
     elim c.if-not-name.branch [
-      then-not-name+in_ok-push w ↦
-        ap (λ v. v.items) w.numbers-is ∙ w.in_ok-push.ensures.items ∙ ap (λ ns. ns ++ name.name ∷ []) c.loop-name.invariant
-        ∙ sym (one_asserted (take i names) name w.if-not-name.true) ∙ sym more
+      | then-not-name+in_ok-push w ↦
+          ap (λ v. v.items) w.numbers-is ∙ w.in_ok-push.ensures.items ∙ ap (λ ns. ns ++ name.name ∷ []) c.loop-name.invariant
+          ∙ sym (one_asserted (take i names) name w.if-not-name.true) ∙ sym more
       | else-not-name w ↦
-        ap (λ v. v.items) w.numbers-is ∙ c.loop-name.invariant ∙ sym (none_asserted (take i names) name w.if-not-name.false) ∙ sym more
+          ap (λ v. v.items) w.numbers-is ∙ c.loop-name.invariant ∙ sym (none_asserted (take i names) name w.if-not-name.false) ∙ sym more
     ]

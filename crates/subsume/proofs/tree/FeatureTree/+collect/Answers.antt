@@ -14,10 +14,13 @@ collect-requires-in-Branch t c =
     let D : Division = c.deref-division.result.now in
     let parts : c.args.self.now ≡ (D.low.0 ++ D.high.0, suc (D.low.1 + D.high.1)) =
     sym c.self.view_is ∙ ap content c.in-Branch.is
-    ∙ ap (λ (x : Division). (x.low.0 ++ x.high.0, suc (x.low.1 + x.high.1))) (sym c.deref-division.ensures) in
-    (omega (arith, ap (λ (v : List Member × ℕ). v.1) parts, c.decreases),
-    (All-back (IsMemberOf c.args.bank.now) D.low.0 D.high.0 (subst (λ (v : List Member × ℕ). AreMembersOf c.args.bank.now v.0) parts c.requires.members),
-    (c.requires.by, c.requires.features)))
+    ∙ ap (λ (x : Division). (x.low.0 ++ x.high.0, suc (x.low.1 + x.high.1))) (sym c.deref-division.ensures) in (
+      omega (arith, ap (λ (v : List Member × ℕ). v.1) parts, c.decreases),
+      (
+        All-back (IsMemberOf c.args.bank.now) D.low.0 D.high.0 (subst (λ (v : List Member × ℕ). AreMembersOf c.args.bank.now v.0) parts c.requires.members),
+        (c.requires.by, c.requires.features),
+      ),
+    )
 
 pub returns-after-value-division : goal.returns-after-value-division
 returns-after-value-division t c =
@@ -29,13 +32,13 @@ returns-after-value-division t c =
     let by = c.args.by.now in
     let low : AddsSubsumed by D.low.0 c.args.found.now.items c.if-value-division.found.items =
     elim c.if-value-division.branch [
-      then-value-division+in_ok-collect-in-Branch w ↦
-        subst (λ v. AddsSubsumed by D.low.0 c.args.found.now.items v.items) (sym w.found-is) w.in_ok-collect-in-Branch.ensures
+      | then-value-division+in_ok-collect-in-Branch w ↦
+          subst (λ v. AddsSubsumed by D.low.0 c.args.found.now.items v.items) (sym w.found-is) w.in_ok-collect-in-Branch.ensures
       | else-value-division w ↦
-        let more : D.most < member_feature D.positive D.measure by =
-        omega (arith, w.if-value-division.false, c.value.ensures, c.requires.features D.positive D.measure sound.inside) in
-        subst (λ v. AddsSubsumed by D.low.0 c.args.found.now.items v.items) (sym w.found-is)
-        (less-stays by D.positive D.measure D.most D.low.0 c.args.found.now.items sound.low more)
+          let more : D.most < member_feature D.positive D.measure by =
+          omega (arith, w.if-value-division.false, c.value.ensures, c.requires.features D.positive D.measure sound.inside) in
+          subst (λ v. AddsSubsumed by D.low.0 c.args.found.now.items v.items) (sym w.found-is)
+          (less-stays by D.positive D.measure D.most D.low.0 c.args.found.now.items sound.low more)
     ] in
     IfOk-weaker c.collect-in-Branch.result _ _
     (λ done h.

@@ -13,9 +13,10 @@ lowest-requires-in-Branch t c =
     let D : Division = c.deref-division.result.now in
     let parts : c.args.self.now ≡ (D.low.0 ++ D.high.0, suc (D.low.1 + D.high.1)) =
     sym c.self.view_is ∙ ap content c.in-Branch.is
-    ∙ ap (λ (x : Division). (x.low.0 ++ x.high.0, suc (x.low.1 + x.high.1))) (sym c.deref-division.ensures) in
-    (omega (arith, ap (λ (v : List Member × ℕ). v.1) parts, c.decreases),
-    All-back (IsMemberOf c.args.bank.now) D.low.0 D.high.0 (subst (λ (v : List Member × ℕ). AreMembersOf c.args.bank.now v.0) parts c.requires))
+    ∙ ap (λ (x : Division). (x.low.0 ++ x.high.0, suc (x.low.1 + x.high.1))) (sym c.deref-division.ensures) in (
+      omega (arith, ap (λ (v : List Member × ℕ). v.1) parts, c.decreases),
+      All-back (IsMemberOf c.args.bank.now) D.low.0 D.high.0 (subst (λ (v : List Member × ℕ). AreMembersOf c.args.bank.now v.0) parts c.requires),
+    )
 
 pub returns-then-value-division : goal.returns-then-value-division
 returns-then-value-division t c = λ usage d q all.
