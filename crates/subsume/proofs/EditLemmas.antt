@@ -1,20 +1,16 @@
 -- Members that are put in, taken out and divided.
-use Rattle.std.proofs.Common.{◌≡◌, ℕ, ◌+◌, ◌<◌, ◌≤◌, Bool, true, false, List, [], ◌∷◌, ◌++◌, Result, Ok, Err, map, length, get_or, refl, ap, sym, ◌∙◌, subst, append_assoc, arith}
-use Rattle.std.specs.Prelude.{All, IfOk, OnErr, IsTrue, IsPermutation, slice_index}
-use Rattle.std.proofs.lemmas.Bool.{true≢false}
+use Rattle.std.proofs.Common.{◌≡◌, ℕ, ◌<◌, ◌≤◌, Bool, true, false, List, [], ◌∷◌, ◌++◌, Result, Ok, Err, length, get_or, refl, ap, sym, ◌∙◌, subst, append_assoc, arith}
+use Rattle.std.specs.Prelude.{All, IfOk, OnErr, IsTrue, IsPermutation}
 use Rattle.std.proofs.lemmas.List.{map-append}
 use Rattle.std.proofs.lemmas.List.Elements.{All-head, All-tail, All-cons}
-use Rattle.std.proofs.lemmas.List.Sorted.{IsPermutation-refl, IsPermutation-sym, IsPermutation-trans, IsPermutation-map, IsPermutation-append_left, IsPermutation-append_right, IsPermutation-middle, IsPermutation-to_front, IsPermutation-swap_remove, All-permutation}
-use Rattle.bank_clause.specs.Clause.{clause_at}
+use Rattle.std.proofs.lemmas.List.Sorted.{IsPermutation-sym, IsPermutation-trans, IsPermutation-map, IsPermutation-append_left, IsPermutation-append_right, IsPermutation-middle, IsPermutation-to_front, All-permutation}
 use Rattle.bank_clause.specs.declared.member.Member.{Member}
 use Rattle.subsume.specs.declared.entry.Entry.{Entry}
 use Rattle.subsume.specs.declared.editing.Cut.{Cut}
-use Rattle.subsume.specs.declared.vector.TheConstants.{MEASURES, MOST}
-use Rattle.subsume.specs.Features.{slot, AreFeaturesOf}
+use Rattle.subsume.specs.declared.vector.TheConstants.{MEASURES}
 use Rattle.subsume.specs.declared.tree.Division.{Division}
 use Rattle.subsume.specs.Tree.{IsDivision, IsEntry, member_feature, members_of}
 use Rattle.subsume.specs.Editing.{HasAtMost, HasMore, IsNumbered}
-use Rattle.subsume.proofs.SearchLemmas.{All-front, All-back}
 
 abbrev member : Entry → Member
 member e = e.member

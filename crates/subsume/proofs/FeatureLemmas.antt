@@ -1,15 +1,12 @@
 -- Features of instances, and of what a clause subsumes.
 use mathlib.Core.Bool.{beq}
-use Rattle.std.proofs.Common.{◌≡◌, ℕ, zero, suc, ◌+◌, ◌≤◌, Bool, true, false, ◌==◌, List, [], ◌∷◌, refl, ap, ap₂, sym, ◌∙◌, inl, inr, ⊎_elim, arith}
-use Rattle.std.specs.Prelude.{if◌then◌else◌, sum_by}
+use Rattle.std.proofs.Common.{◌≡◌, ℕ, zero, suc, ◌+◌, ◌≤◌, Bool, true, false, refl, ap, ap₂, ⊎_elim, arith}
+use Rattle.std.specs.Prelude.{if◌then◌else◌}
 use Rattle.fol_base.specs.Tree.{Tree, variable, application, Trees, no_trees, tree_then, tree_size, trees_size}
 use Rattle.fol_base.specs.Instance.{Substitution, instance, instances}
-use Rattle.fol_base.specs.Clause.{TreeLiteral, TreeClause, literal_instance, literal_size}
-use Rattle.fol_base.specs.Order.{equivalent_literals}
-use Rattle.fol_base.specs.Subsumption.{Subsumes}
-use Rattle.fol_base.proofs.TreeLemmas.{tree_size-positive}
+use Rattle.fol_base.specs.Clause.{TreeLiteral, literal_instance, literal_size}
 use Rattle.fol_base.proofs.OrderLemmas.{SameLiteral, SameSides, equivalent_literals-decided}
-use Rattle.subsume.specs.Features.{by_sign, measured, clause_features, AreAtMost, tree_weight, trees_weight, for_literal, for_symbol, for_variable, tree_measure, literal_measure, NoFeatureGreater, NoMeasureGreater}
+use Rattle.subsume.specs.Features.{by_sign, measured, tree_weight, trees_weight, for_literal, for_symbol, for_variable, tree_measure, literal_measure, NoFeatureGreater, NoMeasureGreater}
 use Rattle.subsume.proofs.PlaceSums.{IsMonotone, sum-subsumed}
 
 -- ---- weights of instances

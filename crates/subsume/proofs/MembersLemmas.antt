@@ -1,5 +1,5 @@
 -- Sets of members whose features are found by their numbers.
-use Rattle.std.proofs.Common.{◌≡◌, ℕ, ◌<◌, Bool, true, false, ◌||◌, ◌==◌, Option, None, Some, Result, Ok, Err, List, [], ◌∷◌, map, refl, ap, sym, ◌∙◌, subst, ⊎_elim, arith}
+use Rattle.std.proofs.Common.{◌≡◌, ℕ, Bool, true, false, ◌||◌, ◌==◌, None, Some, Result, Ok, Err, List, [], ◌∷◌, refl, ap, sym, ◌∙◌, subst, ⊎_elim}
 use Rattle.std.specs.Prelude.{not, nat_eq, All, IsTrue, IsOk, OnOk, IsPermutation}
 use Rattle.std.specs.List.{list_any}
 use Rattle.std.specs.Map.{lookup}

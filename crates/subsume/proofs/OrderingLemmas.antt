@@ -1,5 +1,5 @@
 -- Literals in another order, and literals without partners.
-use Rattle.std.proofs.Common.{◌≡◌, ◌⊎◌, ℕ, zero, suc, ◌+◌, ◌-◌, ◌<◌, ◌≤◌, Bool, true, false, ◌&&◌, ◌||◌, ◌==◌, cond, Option, None, Some, List, [], ◌∷◌, ◌++◌, length, map, take, replicate, get_or, refl, ap, sym, ◌∙◌, inl, inr, ⊎_elim, subst, arith}
+use Rattle.std.proofs.Common.{◌≡◌, ◌⊎◌, ℕ, zero, suc, ◌-◌, ◌<◌, ◌≤◌, Bool, true, false, ◌==◌, cond, Option, None, Some, List, [], ◌∷◌, ◌++◌, length, map, take, replicate, refl, ap, sym, ◌∙◌, inl, inr, ⊎_elim, subst, arith}
 use Rattle.std.specs.Prelude.{not, slice_get, sum_by, IsTrue, All, IsPermutation}
 use Rattle.std.specs.List.{list_all, list_any, swap}
 use Rattle.std.specs.List.Sorted.{apply_swaps, SwapsInRange}
@@ -12,15 +12,15 @@ use Rattle.fol_base.specs.Instance.{Substitution}
 use Rattle.fol_base.specs.Clause.{TreeLiteral, literal_instance}
 use Rattle.fol_base.specs.Sides.{exchanged}
 use Rattle.fol_base.specs.Order.{equivalent_literals}
-use Rattle.fol_base.specs.Kind.{is_literal, PutsFunctionTerms}
+use Rattle.fol_base.specs.Kind.{is_literal}
 use Rattle.fol_base.specs.Subsumption.{stand_at, is_there, all_different, is_among}
 use Rattle.fol_base.proofs.OrderLemmas.{equivalent_literals-decided}
 use Rattle.fol_base.proofs.TestLemmas.{list_all-item}
 use Rattle.unifier.specs.Matching.{HasPairs}
 use Rattle.unifier.proofs.MatchLemmas.{Pairs}
-use Rattle.subsume.specs.Kinds.{AreLiterals, TurnsInto, are_alike}
+use Rattle.subsume.specs.Kinds.{AreLiterals, TurnsInto}
 use Rattle.subsume.specs.Ordering.{HasNoPartner, IsNoPartner}
-use Rattle.subsume.specs.Placing.{IsFoundFor, Places, IsPlaced, is_free}
+use Rattle.subsume.specs.Placing.{IsFoundFor, Places, is_free}
 use Rattle.subsume.specs.Target.{IsMapped, Maps}
 use Rattle.subsume.proofs.PlacingLemmas.{alike-needed, below-item, length-mapped, there-within}
 

@@ -1,16 +1,15 @@
 -- Searches of members: those of two lists, and what features exclude.
-use Rattle.std.proofs.Common.{◌≡◌, ◌⊎◌, ◌↔◌, ℕ, zero, suc, ◌+◌, ◌<◌, ◌≤◌, Bool, true, false, Option, None, Some, List, [], ◌∷◌, ◌++◌, map, take, length, get_or, min, append_assoc, append-nil, refl, ap, sym, ◌∙◌, inl, inr, ⊎_elim, subst, arith}
-use Rattle.std.specs.Prelude.{All, Contains, IsTrue, slice_index, ⊤}
+use Rattle.std.proofs.Common.{◌≡◌, ◌↔◌, ℕ, ◌<◌, ◌≤◌, Bool, true, false, Option, None, Some, List, [], ◌∷◌, ◌++◌, append_assoc, append-nil, refl, ap, sym, ◌∙◌, inl, inr, ⊎_elim, subst, arith}
+use Rattle.std.specs.Prelude.{All, Contains, IsTrue, slice_index}
 use Rattle.std.proofs.lemmas.Bool.{true≢false}
 use Rattle.std.proofs.lemmas.List.Elements.{All-contains, All-head, All-tail, All-cons, Contains-append_cases, Contains-push, Contains-push_cases, Contains-append_left, Contains-append_right}
 use Rattle.fol_base.specs.Clause.{TreeClause}
 use Rattle.fol_base.specs.Subsumption.{Subsumes}
 use Rattle.fol_base.specs.WellFormed.{SymbolUse}
-use Rattle.fol_base.proofs.ListLemmas.{map-take_more_item}
 use Rattle.bank_clause.specs.Clause.{clause_at}
 use Rattle.bank_clause.specs.declared.member.Member.{Member}
-use Rattle.subsume.specs.declared.vector.TheConstants.{MEASURES, MOST}
-use Rattle.subsume.specs.Features.{measured, literal_measure, slot, AreFeaturesOf}
+use Rattle.subsume.specs.declared.vector.TheConstants.{MEASURES}
+use Rattle.subsume.specs.Features.{slot, AreFeaturesOf}
 use Rattle.subsume.specs.Searching.{IsLowest, IsMemberOfUse, IsSubsumedBy, AddsSubsumed, IsBelow, IsLowestBelow, IsSubsumer, SomeMember, AreNumbersWhere}
 use Rattle.subsume.specs.Tree.{feature, member_feature, IsEntry}
 use Rattle.subsume.specs.Query.{IsQueryFor, IsLowering, IsLowestSubsumer}

@@ -5,7 +5,7 @@ use Rattle.std.specs.Prelude.{◌≡◌, ℕ, zero, suc, ◌+◌, ◌*◌, ◌%�
 use Rattle.fol_base.specs.Tree.{Tree, variable, application, Trees, no_trees, tree_then}
 use Rattle.fol_base.specs.Clause.{TreeLiteral, TreeClause, literal_size}
 use Rattle.fol_base.specs.Subsumption.{Subsumes}
-use Rattle.subsume.specs.declared.vector.TheConstants.{FEATURES, MEASURES, CLASSES, MOST}
+use Rattle.subsume.specs.declared.vector.TheConstants.{MEASURES, CLASSES, MOST}
 
 -- summed up over the literals of a sign
 abbrev pub by_sign : Bool → (TreeLiteral → ℕ) → TreeLiteral → ℕ

@@ -1,4 +1,4 @@
-use Rattle.std.proofs.Common.{◌≡◌, ◌≤◌, ◌<◌}
+use Rattle.std.proofs.Common.{◌≤◌, ◌<◌}
 use Rattle.bank_clause.specs.declared.member.Member.{Member}
 use Rattle.subsume.specs.Tree.{member_feature}
 use Rattle.subsume.proofs.EditLemmas.{all-removed, removed-low, removed-high}

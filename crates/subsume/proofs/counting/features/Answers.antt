@@ -1,7 +1,7 @@
-use Rattle.std.proofs.Common.{◌≡◌, ℕ, ◌-◌, ◌^◌, ◌≤◌, ◌<◌, ◌∷◌, ◌++◌, [], Bool, true, false, List, min, sym, ◌∙◌, ap, subst, arith}
+use Rattle.std.proofs.Common.{◌≡◌, ℕ, ◌-◌, ◌^◌, ◌≤◌, ◌∷◌, [], Bool, true, false, List, min, ◌∙◌, ap, subst, arith}
 use Rattle.fol_base.specs.Clause.{TreeLiteral, literal_size}
 use Rattle.bank_clause.specs.Clause.{clause_at}
-use Rattle.subsume.specs.Features.{clause_features, measured}
+use Rattle.subsume.specs.Features.{measured}
 use Rattle.subsume.proofs.CountingLemmas.{measured-part, counted-few, four-pushed}
 use Rattle.subsume.proofs.counting.features.Goals as goal
 

@@ -1,9 +1,8 @@
-use Rattle.std.proofs.Common.{◌≡◌, ◌++◌, sym, subst, ap, ◌∙◌}
-use Rattle.std.specs.Prelude.{All, IsPermutation}
+use Rattle.std.proofs.Common.{◌++◌, sym, subst, ap, ◌∙◌}
+use Rattle.std.specs.Prelude.{IsPermutation}
 use Rattle.std.proofs.lemmas.List.Sorted.{All-permutation}
-use Rattle.bank_clause.specs.declared.member.Member.{Member}
 use Rattle.subsume.specs.declared.tree.Division.{Division}
-use Rattle.subsume.specs.Tree.{IsEntry, both_sides, members_of}
+use Rattle.subsume.specs.Tree.{IsEntry, members_of}
 use Rattle.subsume.proofs.SearchLemmas.{All-front, All-back}
 use Rattle.subsume.proofs.EditLemmas.{division-made, sides-permuted}
 use Rattle.subsume.proofs.editing.divided.Goals as goal

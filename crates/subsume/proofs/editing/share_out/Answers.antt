@@ -1,4 +1,4 @@
-use Rattle.std.proofs.Common.{◌≡◌, ◌≤◌, ◌<◌, ◌∷◌, ◌++◌, [], List, sym, ◌∙◌, ap, subst, arith}
+use Rattle.std.proofs.Common.{◌++◌, List, sym, subst, arith}
 use Rattle.std.specs.Prelude.{All, IsPermutation}
 use Rattle.std.proofs.lemmas.List.Elements.{All-push}
 use Rattle.subsume.specs.declared.entry.Entry.{Entry}

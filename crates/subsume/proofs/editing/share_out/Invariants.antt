@@ -1,4 +1,4 @@
-use Rattle.std.proofs.Common.{◌≡◌, ◌+◌, ◌≤◌, ◌++◌, length}
+use Rattle.std.proofs.Common.{◌+◌, ◌≤◌, ◌++◌}
 use Rattle.std.specs.Prelude.{All, IsPermutation, vec_len, vec_capacity}
 use Rattle.subsume.specs.Editing.{HasAtMost, HasMore}
 use Rattle.subsume.proofs.editing.share_out.Given as goal

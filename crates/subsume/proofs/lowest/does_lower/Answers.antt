@@ -1,4 +1,4 @@
-use Rattle.std.proofs.Common.{◌≡◌, true, false, sym}
+use Rattle.std.proofs.Common.{sym}
 use Rattle.std.proofs.lemmas.Bool.{true≢false}
 use Rattle.subsume.proofs.SearchLemmas.{entry-excluded}
 use Rattle.subsume.proofs.lowest.does_lower.Goals as goal

@@ -1,6 +1,5 @@
-use Rattle.std.proofs.Common.{◌≡◌, ◌∷◌, ◌++◌, [], true, false, Some, take, sym, ◌∙◌, ap, subst, arith, refl}
+use Rattle.std.proofs.Common.{[], take, sym, ◌∙◌, subst, arith}
 use Rattle.std.proofs.lemmas.List.{take_all}
-use Rattle.std.proofs.lemmas.Result.{IfOk-weaker}
 use Rattle.bank_clause.specs.Clause.{IsMemberOf}
 use Rattle.fol_base.proofs.ListLemmas.{map-take_more_item}
 use Rattle.subsume.specs.declared.entry.Entry.{Entry}

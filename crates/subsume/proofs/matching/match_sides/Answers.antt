@@ -1,7 +1,6 @@
 use Rattle.std.proofs.Common.{◌≡◌, ◌↔◌, Option, None, Some}
 use Rattle.std.specs.Prelude.{MatchOption, IfSome, true}
 use Rattle.std.proofs.lemmas.Result.{IfOk-weaker}
-use Rattle.fol_base.specs.Tree.{Tree}
 use Rattle.fol_base.specs.Instance.{Substitution}
 use Rattle.fol_base.specs.Clause.{TreeLiteral}
 use Rattle.fol_base.specs.Lent.{lent_of}

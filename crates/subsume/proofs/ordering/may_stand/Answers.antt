@@ -1,7 +1,6 @@
-use Rattle.std.proofs.Common.{◌≡◌, true, false, sym, ◌∙◌, ⊎_elim, subst}
+use Rattle.std.proofs.Common.{sym, ◌∙◌, ⊎_elim, subst}
 use Rattle.std.proofs.lemmas.Bool.{true≢false}
 use Rattle.fol_base.specs.Clause.{TreeLiteral}
-use Rattle.fol_base.specs.Sides.{exchanged}
 use Rattle.fol_base.specs.Lent.{lent_of}
 use Rattle.subsume.specs.Kinds.{TurnsInto}
 use Rattle.subsume.proofs.OrderingLemmas.{stands}

@@ -1,4 +1,4 @@
-use Rattle.std.proofs.Common.{◌≡◌, ◌++◌, [], List, ℕ, sym, ◌∙◌, ap, subst}
+use Rattle.std.proofs.Common.{◌≡◌, ◌++◌, List, ℕ, sym, ◌∙◌, ap, subst}
 use Rattle.std.specs.Prelude.{IsPermutation}
 use Rattle.subsume.specs.Searching.{AreMembersOfUse, AreNumbersOf, IsSubsumedBy}
 use Rattle.subsume.proofs.NumberLemmas.{numbers-sorted}

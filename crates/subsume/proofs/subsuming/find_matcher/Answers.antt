@@ -1,11 +1,11 @@
-use Rattle.std.proofs.Common.{◌≡◌, ◌∷◌, true, map, refl, sym, ◌∙◌, ap, subst, rules}
-use Rattle.std.specs.Prelude.{IsTrue, All, IsPermutation}
+use Rattle.std.proofs.Common.{◌≡◌, true, map, sym, subst, rules}
+use Rattle.std.specs.Prelude.{IsTrue, IsPermutation}
 use Rattle.std.proofs.lemmas.Result.{IfOk-weaker}
 use Rattle.std.proofs.lemmas.List.Sorted.{All-permutation}
 use Rattle.fol_base.specs.Clause.{LiteralVariablesBelow}
 use Rattle.fol_base.specs.Lent.{lent_of}
 use Rattle.fol_base.specs.Subsumption.{is_among}
-use Rattle.subsume.specs.Target.{Maps, IsMapped}
+use Rattle.subsume.specs.Target.{IsMapped}
 use Rattle.subsume.specs.Placing.{IsFoundFor}
 use Rattle.subsume.specs.Kinds.{AreLiterals}
 use Rattle.subsume.proofs.OrderingLemmas.{found-in-order, literals-permutation}

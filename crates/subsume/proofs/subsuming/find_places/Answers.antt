@@ -1,4 +1,4 @@
-use Rattle.std.proofs.Common.{◌≡◌, map, length, sym, ◌∙◌, ap}
+use Rattle.std.proofs.Common.{map, length, sym, ◌∙◌}
 use Rattle.std.proofs.lemmas.Result.{IfOk-weaker}
 use Rattle.fol_base.specs.Lent.{lent_of}
 use Rattle.subsume.proofs.PlacingLemmas.{length-mapped}

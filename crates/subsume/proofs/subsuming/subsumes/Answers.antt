@@ -1,6 +1,6 @@
-use Rattle.std.proofs.Common.{◌≡◌, ◌≤◌, Some, None, map, refl, sym, ◌∙◌, ap, subst, arith}
-use Rattle.std.specs.Prelude.{IsTrue, All}
-use Rattle.fol_base.specs.Clause.{ClauseVariablesBelow, LiteralVariablesBelow}
+use Rattle.std.proofs.Common.{Some, None, map, sym, ◌∙◌, ap, subst, arith}
+use Rattle.std.specs.Prelude.{All}
+use Rattle.fol_base.specs.Clause.{LiteralVariablesBelow}
 use Rattle.fol_base.specs.Literal.{clause_of}
 use Rattle.fol_base.specs.Lent.{lent_of}
 use Rattle.fol_base.specs.Subsumption.{assertions}

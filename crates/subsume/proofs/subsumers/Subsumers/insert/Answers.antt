@@ -1,4 +1,4 @@
-use Rattle.std.proofs.Common.{◌≡◌, ◌∷◌, sym, ◌∙◌, ap, subst, rules}
+use Rattle.std.proofs.Common.{◌≡◌, ◌∷◌, sym, ap, subst, rules}
 use Rattle.std.specs.Prelude.{IsOk, IsPermutation}
 use Rattle.bank_clause.specs.declared.member.Member.{Member}
 use Rattle.bank_clause.specs.declared.clause.BankClause.{BankClause}

@@ -1,4 +1,4 @@
-use Rattle.std.proofs.Common.{◌≡◌, sym, subst}
+use Rattle.std.proofs.Common.{sym, subst}
 use Rattle.subsume.specs.Editing.{HasNoNumber}
 use Rattle.subsume.proofs.MembersLemmas.{known-taken, taken-gone, unknown-number, unfound-number}
 use Rattle.subsume.proofs.subsumers.Subsumers.remove.Goals as goal

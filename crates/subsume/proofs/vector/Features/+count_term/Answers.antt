@@ -1,10 +1,6 @@
 use mathlib.Core.Bool.{beq}
-use Rattle.std.proofs.Common.{◌≡◌, ℕ, zero, suc, ◌+◌, ◌<◌, ◌≤◌, Bool, true, false, List, map, take, get_or, min, length, refl, ap, sym, ◌∙◌, arith}
-use Rattle.std.specs.Prelude.{if◌then◌else◌}
-use Rattle.fol_base.specs.Tree.{Tree, Trees, trees_of}
-use Rattle.fol_base.specs.Term.{tree_of}
+use Rattle.std.proofs.Common.{arith}
 use Rattle.fol_base.proofs.TermLemmas.{tree_size-item}
-use Rattle.subsume.specs.Features.{tree_measure, trees_measure}
 use Rattle.subsume.proofs.CountingLemmas.{measure-take_more, saturated}
 use Rattle.subsume.proofs.vector.Features.+count_term.Goals as goal
 
