@@ -1,0 +1,12 @@
+pub mod Kinds
+pub mod Placing
+pub mod Ordering
+pub mod Target
+pub mod Features
+pub mod MemberCode
+pub mod Tree
+pub mod Searching
+pub mod Query
+pub mod Editing
+pub mod Members
+pub mod Examples

@@ -1,0 +1,11 @@
+// What an index keeps of a member.
+
+use crate::vector::Features;
+use bank_clause::Member;
+
+/// A member with the features of its clause.
+#[derive(Drop)]
+pub(crate) struct Entry {
+    pub(crate) features: Features,
+    pub(crate) member: Member,
+}

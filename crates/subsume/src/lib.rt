@@ -1,0 +1,24 @@
+// Subsumption of clauses: one by another, and by sets of clauses that are found by their features.
+#![tactic(auto)]
+
+mod collecting;
+mod counting;
+mod editing;
+mod entry;
+mod lowest;
+mod matching;
+mod ordering;
+mod placing;
+mod searching;
+mod subsumers;
+mod subsuming;
+mod target;
+mod tree;
+mod vector;
+
+pub use counting::features;
+pub use searching::{backward, forward, forward_except};
+pub use subsumers::Subsumers;
+pub use subsuming::subsumes;
+
+pub mod laws;
