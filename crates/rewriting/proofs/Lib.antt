@@ -1,0 +1,5 @@
+mod IndexLemmas
+mod UnitLemmas
+mod PairLemmas
+mod TryLemmas
+mod SearchLemmas

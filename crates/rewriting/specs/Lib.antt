@@ -1,0 +1,5 @@
+pub mod Units
+pub mod Redex
+pub mod Spots
+pub mod Index
+pub mod Searching

@@ -1,0 +1,11 @@
+// Units, and where they rewrite a clause: the search for redexes (Knuth and Bendix 1970), over a tree of the units' sides.
+#![tactic(auto)]
+
+mod index;
+mod searching;
+mod spot;
+mod trying;
+mod units;
+
+pub use searching::{Found, Rewrite, Rewriters};
+pub use units::Units;
