@@ -3,3 +3,6 @@ mod UnitLemmas
 mod PairLemmas
 mod TryLemmas
 mod SearchLemmas
+mod KindLemmas
+mod LawLemmas
+mod RewritableLemmas

@@ -19,7 +19,6 @@ use Rattle.disc_tree.proofs.EditLemmas.{is_in-append}
 use Rattle.bank_clause.specs.Clause.{clause_at}
 use Rattle.bank_clause.specs.declared.clause.BankClause.{BankClause}
 use Rattle.bank_clause.specs.declared.member.Member.{Member}
-use Rattle.plain_types.specs.declared.sequence.NameLit.{NameLit}
 use Rattle.fol_base.specs.Subsumption.{assertions, is_among}
 use Rattle.fol_base.specs.Compatible.{compatible_generalisation}
 use Rattle.disc_tree.proofs.UnifierLemmas.{generalisation-compatible}
@@ -51,15 +50,15 @@ variable-no_redex clauses spot v h =
     above-or (suc (suc n)) h = inl (omega arith)
 
 usable-same :
-    (out : Option ℕ) (names : List NameLit) (n : ℕ) (c : BankClause) (d : TreeClause) → usable_clause out names n c ≡ Some d → clause_at c ≡ d
-usable-same out names n c d h = same (is_kept out n && is_among (assertions (clause_at c).names) (assertions names)) h
+    (out : Option ℕ) (names : List ℕ) (n : ℕ) (c : BankClause) (d : TreeClause) → usable_clause out names n c ≡ Some d → clause_at c ≡ d
+usable-same out names n c d h = same (is_kept out n && is_among (assertions (clause_at c).names) names) h
   where
     same : (b : Bool) → (if b then Some (clause_at c) else None) ≡ Some d → clause_at c ≡ d
     same true e = same_Some (clause_at c) d e
     same false e = absurd (none-some d e)
 
 usable-from :
-    (ms : List Member) (out : Option ℕ) (names : List NameLit) (n : ℕ) (d : TreeClause) → usable ms out names n ≡ Some d
+    (ms : List Member) (out : Option ℕ) (names : List ℕ) (n : ℕ) (d : TreeClause) → usable ms out names n ≡ Some d
     → (c : BankClause) × (clause_numbered n ms ≡ Some c) × (clause_at c ≡ d)
 usable-from ms out names n d h = from (clause_numbered n ms) refl h
   where
@@ -71,7 +70,7 @@ usable-from ms out names n d h = from (clause_numbered n ms) refl h
 
 -- no entry that was found gives a redex, so there is none
 pub none-found :
-    (ms : List Member) (out : Option ℕ) (names : List NameLit) (spot : Spot) (old : Tree) (numbers : List ℕ)
+    (ms : List Member) (out : Option ℕ) (names : List ℕ) (spot : Spot) (old : Tree) (numbers : List ℕ)
     → HasCandidates ms old numbers
     → ((x : ℕ) → IsIn x numbers → NotBy (usable ms out names) spot old x)
     → HasRedex (usable ms out names) spot old → ⊥

@@ -2,7 +2,6 @@
 use Rattle.std.proofs.Common.{◌≡◌, ℕ, Bool, true, false, ◌&&◌, List, [], ◌∷◌, map, refl, ap, ap₂, sym, ◌∙◌, subst, ⊎_elim, arith, Bor}
 use Rattle.std.specs.Prelude.{Option, None, Some, IsTrue, IfSome, MatchOption, slice_get, option_map, option_and_then, not, ◌||◌, ◌==◌, if◌then◌else◌}
 use Rattle.std.specs.List.{list_any, list_all}
-use Rattle.plain_types.specs.declared.sequence.NameLit.{NameLit}
 use Rattle.fol_base.specs.Subsumption.{assertions, is_among}
 use Rattle.bank_clause.specs.Clause.{clause_at}
 use Rattle.bank_clause.specs.Parts.{assertion}
@@ -18,7 +17,7 @@ use Rattle.fol_base.specs.Order.{tree_greater}
 use Rattle.fol_base.specs.declared.clause.Side.{Side}
 use Rattle.unifier.specs.Laws.{are_of_one_kind, AreFunctionPairs}
 use Rattle.unifier.specs.Matching.{by_pairs, are_below, IsMatched, NoMatcher}
-use Rattle.rewriting.specs.Units.{has_other_variables, side_number, usable, usable_clause, is_kept, is_asserted, clause_numbered}
+use Rattle.rewriting.specs.Units.{has_other_variables, side_number, usable, usable_clause, is_kept, clause_numbered}
 use Rattle.rewriting.specs.Redex.{Spot, IsRedex, HasRedex, is_within}
 use Rattle.rewriting.specs.Searching.{IsMatchedBy, NotBy}
 use Rattle.rewriting.proofs.IndexLemmas.{side_number-unit, side_number-side}
@@ -181,55 +180,36 @@ alone-lent lent ls l e same alone at =
     same_Some l e (sym at ∙ ap (λ (ks : List TreeLiteral). slice_get ks 0) (same ∙ alone))
 
 pub usable-unit :
-    (ms : List Member) (out : Option ℕ) (names : List NameLit) (n : ℕ) (o : Option (Bor Unit)) (u : Bor Unit)
+    (ms : List Member) (out : Option ℕ) (names : List ℕ) (n : ℕ) (o : Option (Bor Unit)) (u : Bor Unit)
     → option_map (λ (b : Bor Unit). clause_at b.now.clause) o ≡ usable ms out names n → o ≡ Some u
     → usable ms out names n ≡ Some (clause_at u.now.clause)
 usable-unit ms out names n o u is some = sym is ∙ ap (option_map (λ (b : Bor Unit). clause_at b.now.clause)) some
 
 pub usable-none :
-    (ms : List Member) (out : Option ℕ) (names : List NameLit) (n : ℕ) (o : Option (Bor Unit))
+    (ms : List Member) (out : Option ℕ) (names : List ℕ) (n : ℕ) (o : Option (Bor Unit))
     → option_map (λ (b : Bor Unit). clause_at b.now.clause) o ≡ usable ms out names n → o ≡ None
     → usable ms out names n ≡ None
 usable-none ms out names n o is none = sym is ∙ ap (option_map (λ (b : Bor Unit). clause_at b.now.clause)) none
 
 -- the unit that is looked up, where it may rewrite and where it may not
 pub usable-is :
-    (ms : List Member) (out : Option ℕ) (names : List NameLit) (n : ℕ) (o : Option (Bor Unit)) (u : Bor Unit) (may : Bool)
+    (ms : List Member) (out : Option ℕ) (names : List ℕ) (n : ℕ) (o : Option (Bor Unit)) (u : Bor Unit) (may : Bool)
     → option_map (λ (b : Bor Unit). b.now.clause) o ≡ clause_numbered n ms → o ≡ Some u
-    → may ≡ (is_kept out n && is_among (assertions (clause_at u.now.clause).names) (assertions names))
+    → may ≡ (is_kept out n && is_among (assertions (clause_at u.now.clause).names) names)
     → usable ms out names n ≡ (if may then Some (clause_at u.now.clause) else None)
 usable-is ms out names n o u may is some may_is =
     ap (option_and_then (usable_clause out names n)) (sym is ∙ ap (option_map (λ (b : Bor Unit). b.now.clause)) some)
     ∙ ap (λ (b : Bool). if b then Some (clause_at u.now.clause) else None) (sym may_is)
 
-asserted-step :
-    (b : Bool) (n name : ℕ) (rest : Bool) (ms : List ℕ) → rest ≡ list_any (λ k. n == k) ms
-    → (not b && (n == name)) || rest ≡ list_any (λ k. n == k) (if b then ms else name ∷ ms)
-asserted-step true n name rest ms h = h
-asserted-step false n name rest ms h = ap (λ (r : Bool). (n == name) || r) h
-
-asserted-one : (n : ℕ) (names : List NameLit) → is_asserted n names ≡ list_any (λ m. n == m) (assertions names)
-asserted-one n [] = refl
-asserted-one n (m ∷ ms) = asserted-step m.positive n m.name (is_asserted n ms) (assertions ms) (asserted-one n ms)
-
-numbers-asserted : (ns : List ℕ) → assertions (map assertion ns) ≡ ns
+pub numbers-asserted : (ns : List ℕ) → assertions (map assertion ns) ≡ ns
 numbers-asserted [] = refl
 numbers-asserted (n ∷ ns) = ap (λ ms. n ∷ ms) (numbers-asserted ns)
 
-each-asserted : (names : List NameLit) (ns : List ℕ) → list_all (λ n. is_asserted n names) ns ≡ is_among ns (assertions names)
-each-asserted names [] = refl
-each-asserted names (n ∷ ns) = ap₂ ◌&&◌ (asserted-one n names) (each-asserted names ns)
-
-pub asserted-among :
-    (names : List NameLit) (ns : List ℕ) → list_all (λ n. is_asserted n names) ns ≡ is_among (assertions (map assertion ns)) (assertions names)
-asserted-among names ns = each-asserted names ns ∙ ap (λ ms. is_among ms (assertions names)) (sym (numbers-asserted ns))
-
 pub may-use :
-    (names : List NameLit) (lent ns : List ℕ) (kept kept_is among : Bool)
-    → lent ≡ ns → kept ≡ true → kept ≡ kept_is → among ≡ list_all (λ n. is_asserted n names) lent
-    → among ≡ (kept_is && is_among (assertions (map assertion ns)) (assertions names))
-may-use names lent ns kept kept_is among same held is listed =
+    (asserted lent ns : List ℕ) (kept kept_is among : Bool)
+    → lent ≡ ns → kept ≡ true → kept ≡ kept_is → among ≡ is_among lent asserted
+    → among ≡ (kept_is && is_among (assertions (map assertion ns)) asserted)
+may-use asserted lent ns kept kept_is among same held is listed =
     listed
-    ∙ ap (λ (ms : List ℕ). list_all (λ n. is_asserted n names) ms) same
-    ∙ asserted-among names ns
-    ∙ ap (λ (b : Bool). b && is_among (assertions (map assertion ns)) (assertions names)) (sym held ∙ is)
+    ∙ ap (λ (ms : List ℕ). is_among ms asserted) (same ∙ sym (numbers-asserted ns))
+    ∙ ap (λ (b : Bool). b && is_among (assertions (map assertion ns)) asserted) (sym held ∙ is)

@@ -3,3 +3,5 @@ pub mod Redex
 pub mod Spots
 pub mod Index
 pub mod Searching
+pub mod Laws
+pub mod Rewritable

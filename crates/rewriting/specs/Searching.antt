@@ -17,7 +17,7 @@ use Rattle.rewriting.specs.declared.searching.Rewriters.{Rewriters}
 
 -- the clauses of the units that may rewrite, by their numbers
 abbrev pub usable_by : Rewriters → ℕ → Option TreeClause
-usable_by r = usable r.units.now r.left_out r.names.now
+usable_by r = usable r.units.now r.left_out r.asserted.now
 
 -- what a side of an equation gives at a term: the pairs of the matcher, or no redex
 pub record IsMatchedBy (e : TreeLiteral) (s : Side) (spot : Spot) (old : Tree) (pairs : List (ℕ × Tree)) : Type 0 where

@@ -2,7 +2,6 @@
 use Rattle.std.specs.Prelude.{◌≡◌, ℕ, ◌+◌, ◌*◌, Bool, true, not, ◌&&◌, ◌==◌, List, [], ◌∷◌, map, Option, None, Some, option_and_then, All, IsTrue, if◌then◌else◌}
 use Rattle.std.specs.Coded.{Coded, codes}
 use Rattle.std.specs.List.{list_any, list_all}
-use Rattle.plain_types.specs.declared.sequence.NameLit.{NameLit}
 use Rattle.fol_base.specs.Tree.{Tree, tree_variables}
 use Rattle.fol_base.specs.Clause.{TreeLiteral, TreeClause}
 use Rattle.fol_base.specs.Compatible.{compatible_generalisation}
@@ -44,17 +43,13 @@ abbrev pub is_kept : Option ℕ → ℕ → Bool
 is_kept None n = true
 is_kept (Some out) n = not (n == out)
 
-abbrev pub usable_clause : Option ℕ → List NameLit → ℕ → BankClause → Option TreeClause
-usable_clause out names n c =
-    if is_kept out n && is_among (assertions (clause_at c).names) (assertions names) then Some (clause_at c) else None
+abbrev pub usable_clause : Option ℕ → List ℕ → ℕ → BankClause → Option TreeClause
+usable_clause out asserted n c =
+    if is_kept out n && is_among (assertions (clause_at c).names) asserted then Some (clause_at c) else None
 
--- The clause of a member that may rewrite a clause of these names: it isn't left out, and its assertions are among those of the names.
-abbrev pub usable : List Member → Option ℕ → List NameLit → ℕ → Option TreeClause
-usable ms out names n = option_and_then (usable_clause out names n) (clause_numbered n ms)
-
--- whether a name stands among others with the negative sign
-abbrev pub is_asserted : ℕ → List NameLit → Bool
-is_asserted n names = list_any (λ (m : NameLit). not m.positive && (n == m.name)) names
+-- The clause of a member that may rewrite a clause with these assertions: it isn't left out, and its own are among them.
+abbrev pub usable : List Member → Option ℕ → List ℕ → ℕ → Option TreeClause
+usable ms out asserted n = option_and_then (usable_clause out asserted n) (clause_numbered n ms)
 
 -- ---- the index
 

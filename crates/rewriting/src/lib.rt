@@ -2,10 +2,13 @@
 #![tactic(auto)]
 
 mod index;
+pub mod laws;
+mod members;
 mod searching;
 mod spot;
 mod trying;
 mod units;
 
+pub use members::rewritable;
 pub use searching::{Found, Rewrite, Rewriters};
 pub use units::Units;

@@ -1,10 +1,9 @@
 // The search for a redex: in a term from the inside out, in a clause from left to right.
 
-ghost use Rattle.std.specs.Prelude.{◌≡◌, ◌<◌, ℕ, IfOk, map, MatchOption};
+ghost use Rattle.std.specs.Prelude.{◌≡◌, ◌<◌, ℕ, IfOk, map, sum_by, MatchOption};
 ghost use Rattle.fol_base.specs.Tree.{tree_size, trees_size, trees_of};
 ghost use Rattle.fol_base.specs.Term.{tree_of};
-ghost use Rattle.fol_base.specs.Clause.{clause_size, literal_size};
-ghost use Rattle.fol_base.specs.Literal.{literal_of, clause_of};
+ghost use Rattle.fol_base.specs.Clause.{literal_size};
 ghost use Rattle.fol_base.specs.Lent.{lent_of};
 ghost use Rattle.fol_base.specs.declared.limits.TheConstants.{SIZE_LIMIT};
 ghost use Rattle.rewriting.specs.Units.{AreUnitsOf};
@@ -14,18 +13,19 @@ ghost use Rattle.rewriting.specs.Spots.{LimitFits, spot_of};
 
 use crate::spot::Spot;
 use crate::units::Units;
-use fol_base::{Clause, LiteralRef, Position, Side, Term};
-use plain_types::{Mem, NameLit};
+use fol_base::{LendsLiterals, LiteralRef, Position, Side, Term};
+use plain_types::Mem;
 use std::alloc::Global;
 use term_bank::Bank;
 use unifier::Matched;
 
-/// The units that may rewrite a clause with these names: those that aren't left out, and whose assertions are among the clause's.
+/// The units that may rewrite a clause: those that aren't left out, and whose assertions are among the clause's.
 #[derive(Clone, Copy)]
 pub struct Rewriters<'a> {
     pub units: &'a Units,
     pub bank: &'a Bank,
-    pub names: &'a [NameLit],
+    /// The numbers of the names that the clause asserts.
+    pub asserted: &'a [u32],
     /// The number of a unit that isn't used, as that of the clause itself.
     pub left_out: Option<u32>,
 }
@@ -50,15 +50,18 @@ pub struct Found<'t> {
 impl<'a> Rewriters<'a> {
     /// A redex of a clause: the first one, literal by literal, left side before right, from the inside out. None exactly where the
     /// clause has none.
-    pub fn find<'t>(&self, alloc: Global, clause: &'t Clause) -> Mem<Option<Found<'t>>>
+    pub fn find<'t, L: LendsLiterals>(
+        &self,
+        alloc: Global,
+        literals: &'t L,
+    ) -> Mem<Option<Found<'t>>>
         requires units { AreUnitsOf self.now.bank.now self.now.units.now }
-        requires size { clause_size (clause_of clause.now) < SIZE_LIMIT }
-        ensures { IfOk result (λ found. MatchOption found (AreNormal (usable_by self.now) (clause_of clause.now).literals)
-            (IsFoundOf (usable_by self.now) (clause_of clause.now).literals)) }
+        requires size { sum_by literal_size (L.meaning literals.now) < SIZE_LIMIT }
+        ensures { IfOk result (λ found. MatchOption found (AreNormal (usable_by self.now) (L.meaning literals.now))
+            (IsFoundOf (usable_by self.now) (L.meaning literals.now))) }
     {
-        let literals = clause.literals.as_slice();
-        for index in 0..literals.len() {
-            let literal = literals[index].lend();
+        for index in 0..literals.count() {
+            let literal = literals.literal(index);
             if let Some(found) = self.find_in_literal(alloc, literal, index)? {
                 return Ok(Some(found));
             }

@@ -1,7 +1,7 @@
 // Which unit rewrites one term, at the spot where it stands.
 
-ghost use Rattle.std.specs.Prelude.{◌≡◌, ◌&&◌, ◌<◌, IfOk, IfSome, IsTrue};
-ghost use Rattle.std.specs.List.{list_all};
+ghost use Rattle.std.specs.Prelude.{◌≡◌, ◌==◌, ◌&&◌, ◌<◌, IfOk, IfSome, IsTrue};
+ghost use Rattle.std.specs.List.{list_any};
 ghost use Rattle.fol_base.specs.Lent.{lent_of};
 ghost use Rattle.fol_base.specs.Subsumption.{assertions, is_among};
 ghost use Rattle.fol_base.specs.Instance.{instance};
@@ -13,7 +13,7 @@ ghost use Rattle.fol_base.specs.Tree.{is_variable, tree_size};
 ghost use Rattle.fol_base.specs.Term.{tree_of};
 ghost use Rattle.fol_base.specs.declared.limits.TheConstants.{SIZE_LIMIT};
 ghost use Rattle.bank_clause.specs.Clause.{clause_at, IsClauseOf};
-ghost use Rattle.rewriting.specs.Units.{AreUnitsOf, IsRecorded, has_other_variables, is_asserted, is_kept};
+ghost use Rattle.rewriting.specs.Units.{AreUnitsOf, IsRecorded, has_other_variables, is_kept};
 ghost use Rattle.rewriting.specs.Spots.{LimitFits, spot_of};
 ghost use Rattle.rewriting.specs.Searching.{IsFoundAt, IsMatchedSide, IsTried, usable_by};
 
@@ -23,7 +23,7 @@ use crate::spot::{Spot, is_smaller};
 use crate::units::Unit;
 use bank_clause::BankClause;
 use fol_base::{LendsLiterals, LiteralRef, Side, Term};
-use plain_types::{Mem, NameLit};
+use plain_types::Mem;
 use std::alloc::Global;
 use unifier::{Matched, match_onto};
 
@@ -97,9 +97,9 @@ impl<'a> Rewriters<'a> {
 
     /// Whether the clause with a number may be used: it isn't left out, and its assertions are among the clause's.
     fn may_use(&self, number: u64, clause: &BankClause) -> bool
-        ensures { result ≡ (is_kept self.now.left_out number && is_among (assertions (clause_at clause.now).names) (assertions self.now.names.now)) }
+        ensures { result ≡ (is_kept self.now.left_out number && is_among (assertions (clause_at clause.now).names) self.now.asserted.now) }
     {
-        is_kept(self.left_out, number) && are_among(clause.names(), self.names)
+        is_kept(self.left_out, number) && are_among(clause.names(), self.asserted)
     }
 }
 
@@ -160,20 +160,17 @@ fn is_kept(left_out: Option<u32>, number: u64) -> bool
     }
 }
 
-/// Whether asserted names are among the assertions of a clause.
-fn are_among(asserted: &[u32], names: &[NameLit]) -> bool
-    ensures { result ≡ list_all (λ n. is_asserted n names.now) asserted.now }
+/// Whether all numbers of a list are in another one.
+fn are_among(numbers: &[u32], others: &[u32]) -> bool
+    ensures { result ≡ is_among numbers.now others.now }
 {
-    asserted.iter().all(|name| is_asserted(*name, names))
+    numbers.iter().all(|number| is_among(*number, others))
 }
 
-/// Whether a name stands among others with the negative sign.
-fn is_asserted(name: u32, names: &[NameLit]) -> bool
-    ensures { result ≡ is_asserted name names.now }
+fn is_among(number: u32, others: &[u32]) -> bool
+    ensures { result ≡ list_any (λ m. number == m) others.now }
 {
-    names
-        .iter()
-        .any(|other| !other.positive && name == other.name)
+    others.iter().any(|other| number == *other)
 }
 
 /// Whether a term is a variable.

@@ -23,6 +23,6 @@ pub returns : goal.returns
 returns c =
     let items = c.as_slice-entry-items.result.now in
     let P = λ (x : ℕ). NotBy (usable_by c.args.self.now) (spot_of c.args.spot) (tree_of c.args.term.now) x in
-    none-found c.args.self.now.units.now c.args.self.now.left_out c.args.self.now.names.now (spot_of c.args.spot) (tree_of c.args.term.now)
+    none-found c.args.self.now.units.now c.args.self.now.left_out c.args.self.now.asserted.now (spot_of c.args.spot) (tree_of c.args.term.now)
     c.in_ok-found.found c.in_ok-found.ensures
     (λ x there. c.loop-entry.invariant x (subst (IsIn x) (sym (take_all c.loop-entry.entry-index items (omega arith) ∙ c.as_slice-entry-items.ensures)) there))
