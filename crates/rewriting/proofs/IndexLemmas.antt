@@ -49,7 +49,6 @@ side_number-side n m Left Right h = absurd (omega arith)
 side_number-side n m Right Left h = absurd (omega arith)
 side_number-side n m Right Right h = refl
 
-
 -- an entry taken away, or none
 pub taken-keeps :
     (number : ℕ) (z : Side) (u : Tree) (k : ℕ) (removed : Bool) (old new : List (Tree × ℕ))

@@ -99,11 +99,13 @@ kind-at p z l place old literal there =
 
     atom : (z : Side) (place : List ℕ) → IsAtom p l → subterm place (side_of z l) ≡ Some old → KindAt p (spot_at (root_spot z l) place) old
     atom Left [] a at =
-        inr
-        (⊎_elim
-        (λ h. inl (ap (is_predicate_term p) (sym (same_Some l.left old at)) ∙ h))
-        (λ h. inr (ap is_truth (sym (same_Some l.left old at)) ∙ h))
-        a.0, a.1)
+        inr (
+          ⊎_elim
+              (λ h. inl (ap (is_predicate_term p) (sym (same_Some l.left old at)) ∙ h))
+              (λ h. inr (ap is_truth (sym (same_Some l.left old at)) ∙ h))
+              a.0,
+          a.1,
+        )
     atom Left (k ∷ place) a at =
         ⊎_elim (λ h. inl (is_predicate_term-subterm p k place l.left old at h)) (λ h. absurd (truth-no_argument k place l.left old h at)) a.0
     atom Right [] a at = inr (inr (ap is_truth (sym (same_Some l.right old at)) ∙ a.1), a.1)

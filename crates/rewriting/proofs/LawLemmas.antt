@@ -59,7 +59,6 @@ root-within l z [] new within positive root =
     ap (λ (b : Bool). is_within (if b then Some (other_side_of z l) else None) new) (sym positive) ∙ within
 root-within l z (i ∷ place) new within positive root = absurd cc
 
-
 head-same : (e f : TreeLiteral) → e ∷ [] ≡ f ∷ [] → e ≡ f
 head-same e f h = cc
 

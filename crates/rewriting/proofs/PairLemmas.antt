@@ -15,7 +15,6 @@ use Rattle.fol_base.proofs.InstanceLemmas.{instances_agree}
 use Rattle.unifier.specs.Matching.{variables_of, term_for, by_pairs, NoVariableTwice, HasPairs, with_further, IsMatched}
 use Rattle.rewriting.specs.Units.{has_other_variables}
 
-
 -- ---- no variable twice
 
 abbrev Distinct : List ℕ → Type 0
@@ -32,11 +31,10 @@ other-way v w h = ⊎_elim (λ yes. absurd (true≢false (sym (eq-eqb v w (sym (
 distinct-push : (vs : List ℕ) (w : ℕ) → list_any (λ v. w == v) vs ≡ false → Distinct vs → Distinct (vs ++ w ∷ [])
 distinct-push [] w h d = (refl, tt)
 distinct-push (v ∷ vs) w h d =
-    let both : ((w == v) ≡ false) × (list_any (λ u. w == u) vs ≡ false) = or_parts (w == v) (list_any (λ u. w == u) vs) h in
-    (
+    let both : ((w == v) ≡ false) × (list_any (λ u. w == u) vs ≡ false) = or_parts (w == v) (list_any (λ u. w == u) vs) h in (
       list_any-append (λ u. v == u) vs (w ∷ [])
-      ∙ ap (λ (b : Bool). b || ((v == w) || false)) d.0
-      ∙ ap (λ (b : Bool). b || false) (other-way w v both.0),
+          ∙ ap (λ (b : Bool). b || ((v == w) || false)) d.0
+          ∙ ap (λ (b : Bool). b || false) (other-way w v both.0),
       distinct-push vs w both.1 d.1,
     )
 

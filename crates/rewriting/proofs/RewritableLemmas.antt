@@ -79,7 +79,7 @@ formed :
 formed usage ms unit m asserted alone of_unit of_member = (
   of_member,
   λ n d there.
-  subst (λ (k : TreeClause). IsTrue (are_literals_of usage k.literals)) (the-unit ms unit m.number n asserted d alone there).same of_unit,
+      subst (λ (k : TreeClause). IsTrue (are_literals_of usage k.literals)) (the-unit ms unit m.number n asserted d alone there).same of_unit,
 )
 
 own-assertions : (m : Member) → assertions (clause_at m.clause).names ≡ m.clause.names

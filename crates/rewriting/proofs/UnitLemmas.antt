@@ -8,10 +8,12 @@ use Rattle.fol_base.specs.Tree.{Tree}
 use Rattle.fol_base.specs.Clause.{TreeLiteral}
 use Rattle.fol_base.specs.Sides.{side_of}
 use Rattle.fol_base.specs.Compatible.{compatible_generalisation}
-use Rattle.bank_clause.specs.Clause.{clause_at}
+use Rattle.term_bank.specs.declared.bank.Bank.{Bank}
+use Rattle.bank_clause.specs.declared.member.Member.{Member}
+use Rattle.bank_clause.specs.Clause.{clause_at, IsClauseOf}
 use Rattle.bank_clause.specs.declared.clause.BankClause.{BankClause}
 use Rattle.disc_tree.specs.Entries.{IsIn, numbers_where}
-use Rattle.rewriting.specs.Units.{clause_numbered, member_of, oriented, IsUnit, side_number, has_other_variables, HasCandidates, IsRecorded, IsUnitAt}
+use Rattle.rewriting.specs.Units.{clause_numbered, member_of, AreUnitsOf, oriented, IsUnit, side_number, has_other_variables, HasCandidates, IsRecorded, IsUnitAt}
 use Rattle.rewriting.specs.Index.{KeepsOthers}
 use Rattle.rewriting.specs.declared.index.Orientation.{Orientation}
 use Rattle.fol_base.specs.declared.clause.Side.{Side}
@@ -162,3 +164,27 @@ found-numbered number key es o same is =
 
 pub on_ok-at : {A E P : Type 0} (r : Result A E) (x : A) → r ≡ Ok x → OnOk r P → P
 on_ok-at {A} {E} {P} r x is h = subst (λ (s : Result A E). OnOk s P) is h
+
+-- ---- the units' bank
+
+pub put-of-bank :
+    (bank : Bank) (old new : List Member) (number : ℕ) (clause : BankClause)
+    → ((n : ℕ) → clause_numbered n new ≡ (if number == n then Some clause else clause_numbered n old)) → IsClauseOf bank clause
+    → AreUnitsOf bank old → AreUnitsOf bank new
+put-of-bank bank old new number clause put of_bank all n c there =
+    ⊎_elim
+    (λ yes.
+    subst (λ d. IsClauseOf bank d)
+    (same_Some clause c (sym (cond-true (number == n) (Some clause) (clause_numbered n old) yes) ∙ sym (put n) ∙ there)) of_bank)
+    (λ no_it. all n c (sym (cond-false (number == n) (Some clause) (clause_numbered n old) no_it) ∙ sym (put n) ∙ there))
+    (cases_Bool (number == n))
+
+pub taken-of-bank :
+    (bank : Bank) (old new : List Member) (number : ℕ)
+    → ((n : ℕ) → clause_numbered n new ≡ (if number == n then None else clause_numbered n old))
+    → AreUnitsOf bank old → AreUnitsOf bank new
+taken-of-bank bank old new number taken all n c there =
+    ⊎_elim
+    (λ yes. absurd (none-some c (sym (cond-true (number == n) None (clause_numbered n old) yes) ∙ sym (taken n) ∙ there)))
+    (λ no_it. all n c (sym (cond-false (number == n) None (clause_numbered n old) no_it) ∙ sym (taken n) ∙ there))
+    (cases_Bool (number == n))

@@ -74,7 +74,9 @@ pub(crate) fn orient(alloc: Global, equation: LiteralRef<'_>) -> Mem<Orientation
 fn are_listed(variables: &[u32], within: &[u32]) -> bool
     ensures { result ≡ list_all (λ v. list_any (λ w. v == w) within.now) variables.now }
 {
-    variables.iter().all(|variable| is_listed(*variable, within))
+    variables
+        .iter()
+        .all(|variable| is_listed(*variable, within))
 }
 
 fn is_listed(variable: u32, within: &[u32]) -> bool

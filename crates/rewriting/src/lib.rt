@@ -11,4 +11,4 @@ mod units;
 
 pub use members::rewritable;
 pub use searching::{Found, Rewrite, Rewriters};
-pub use units::Units;
+pub use units::{Units, is_unit};

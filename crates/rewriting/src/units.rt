@@ -4,6 +4,7 @@ ghost use Rattle.std.specs.Prelude.{◌≡◌, ◌↔◌, ◌==◌, ℕ, [], Non
 ghost use Rattle.std.specs.Option.{is_some, option_map};
 ghost use Rattle.bank_clause.specs.Clause.{clause_at, IsClauseOf, IsMemberOf};
 ghost use Rattle.fol_base.specs.Term.{tree_of};
+ghost use Rattle.term_bank.specs.declared.bank.Bank.{Bank};
 ghost use Rattle.rewriting.specs.Units.{AreUnitsOf, HasCandidates, IsRecorded, IsUnit, clause_numbered};
 
 use crate::index::{Orientation, orient, put_sides, take_sides};
@@ -33,6 +34,14 @@ pub(crate) struct Unit {
     pub(crate) by: Orientation,
 }
 
+/// Whether a clause is one equation.
+pub fn is_unit(clause: &BankClause) -> bool
+    ensures { IsTrue result ↔ IsUnit (clause_at clause.now) }
+{
+    let literals = clause.literals();
+    literals.len() == 1 && literals[0].positive
+}
+
 impl Model for Units {
     ghost use Rattle.std.specs.Prelude.{◌≡◌, ℕ, List, map, nat_eq, Some};
     ghost use Rattle.indexmap.specs.IndexMap.{get};
@@ -52,7 +61,8 @@ impl Model for Units {
 impl Units {
     /// No units.
     pub fn new(alloc: Global) -> Mem<Units>
-        ensures { IfOk result (λ units. units ≡ []) }
+        ensures none { IfOk result (λ units. units ≡ []) }
+        ensures of_bank { IfOk result (λ units. (bank : Bank) → AreUnitsOf bank units) }
     {
         let sides = DiscTree::new(alloc)?;
         Ok(Units {
@@ -69,6 +79,7 @@ impl Units {
         requires number { clause_numbered member.now.number self.old ≡ None }
         ensures ok { IfOk result (λ _. (n : ℕ) → clause_numbered n self.new
             ≡ (if member.now.number == n then Some member.now.clause else clause_numbered n self.old)) }
+        ensures of_bank { IfOk result (λ _. AreUnitsOf bank.now self.old → AreUnitsOf bank.now self.new) }
         ensures err { OnErr result (self.new ≡ self.old) }
     {
         let alloc = self.alloc;
@@ -89,6 +100,7 @@ impl Units {
         requires { AreUnitsOf bank.now self.old }
         ensures there { result ≡ is_some (clause_numbered number self.old) }
         ensures removed { (n : ℕ) → clause_numbered n self.new ≡ (if number == n then None else clause_numbered n self.old) }
+        ensures of_bank { AreUnitsOf bank.now self.new }
     {
         match self.clauses.swap_remove(&u64::from(number)) {
             None => false,

@@ -77,7 +77,7 @@ pub find_in_terms-returns : goal.find_in_terms-returns
 find_in_terms-returns t c = (
   c.loop-index.invariant.path_kept,
   λ i u there.
-  c.loop-index.invariant.normal i u
+      c.loop-index.invariant.normal i u
       (let low = slice_get_within (map tree_of c.args.terms.now) i u there in
       omega (arith, low, length-trees c.args.terms.now)) there,
 )

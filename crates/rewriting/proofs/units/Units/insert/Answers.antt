@@ -6,7 +6,7 @@ use Rattle.bank_clause.specs.Clause.{clause_at}
 use Rattle.rewriting.specs.Units.{IsUnitAt, clause_numbered}
 use Rattle.rewriting.specs.declared.units.Unit.{Unit}
 use Rattle.rewriting.proofs.TryLemmas.{alone-lent}
-use Rattle.rewriting.proofs.UnitLemmas.{absent-kept, made-unit, put-unit, put-numbered, on_ok-at}
+use Rattle.rewriting.proofs.UnitLemmas.{absent-kept, made-unit, put-unit, put-numbered, put-of-bank, on_ok-at}
 use Rattle.rewriting.proofs.units.Units.insert.Goals as goal
 
 pub invariant_of-self-in_err-put_sides : goal.invariant_of-self-in_err-put_sides
@@ -34,3 +34,7 @@ returns-clause-ok c =
     (put-numbered c.args.member.now.number c.from.result c.self.inside.clauses.entries c.insert.new.self.entries unit c.args.member.now.clause
     c.from.ensures c.in_ok-clause.ensures
     (λ n. updates.0 n ∙ ap (λ es. cond (nat_eq c.from.result n) (Some unit) (lookup (nat_eq n) es)) c.reserve.ensures.entries))
+
+pub returns-clause-of_bank : goal.returns-clause-of_bank
+returns-clause-of_bank c = λ all.
+    put-of-bank c.args.bank.now c.args.self.now _ c.args.member.now.number c.args.member.now.clause (returns-clause-ok c) c.requires.member all

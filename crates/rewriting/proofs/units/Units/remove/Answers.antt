@@ -3,7 +3,7 @@ use Rattle.std.specs.Prelude.{option_map}
 use Rattle.std.specs.Option.{is_some}
 use Rattle.fol_base.specs.Clause.{TreeLiteral}
 use Rattle.rewriting.specs.Units.{clause_numbered, member_of}
-use Rattle.rewriting.proofs.UnitLemmas.{clause_of_unit, taken-units, taken-numbered, found-numbered}
+use Rattle.rewriting.proofs.UnitLemmas.{clause_of_unit, taken-units, taken-numbered, taken-of-bank, found-numbered}
 use Rattle.rewriting.proofs.units.Units.remove.Goals as goal
 
 pub lend-literals-requires : goal.lend-literals-requires
@@ -51,3 +51,11 @@ returns-in-Some-clause-removed c =
     rw (← c.self.view_is)
     (taken-numbered c.args.number c.from.result c.self.inside.clauses.entries c.swap_remove.new.self.entries c.from.ensures
     c.swap_remove.ensures.updates.0)
+
+pub returns-in-None-clause-of_bank : goal.returns-in-None-clause-of_bank
+returns-in-None-clause-of_bank c =
+    taken-of-bank c.args.bank.now c.args.self.now _ c.args.number (returns-in-None-clause-removed c) c.requires
+
+pub returns-in-Some-clause-of_bank : goal.returns-in-Some-clause-of_bank
+returns-in-Some-clause-of_bank c =
+    taken-of-bank c.args.bank.now c.args.self.now _ c.args.number (returns-in-Some-clause-removed c) c.requires
