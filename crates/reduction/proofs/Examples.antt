@@ -1,6 +1,6 @@
 -- The worked reduction, and lines and numbers that are none.
-use Rattle.std.proofs.Common.{◌≡◌, ℕ, zero, suc, ◌+◌, List, [], ◌∷◌, refl, ap, sym, ◌∙◌, subst, inl, inr, length, arith}
-use Rattle.std.specs.Prelude.{Option, None, Some, slice_get, take, All, Contains, IsTrue, IsFalse}
+use Rattle.std.proofs.Common.{◌≡◌, ℕ, zero, suc, ◌+◌, List, [], ◌∷◌, refl, sym, ◌∙◌, subst, inl, inr, arith}
+use Rattle.std.specs.Prelude.{Some, take, Contains, IsTrue, IsFalse}
 use Rattle.std.proofs.lemmas.Bool.{true≢false}
 use Rattle.std.proofs.lemmas.Option.{none-some, same_Some}
 use Rattle.std.proofs.lemmas.List.Elements.{All-nil, All-cons}
@@ -14,16 +14,16 @@ use Rattle.fol_base.specs.Order.{tree_greater}
 use Rattle.fol_base.specs.Canonical.{canonical_clause}
 use Rattle.fol_base.specs.declared.clause.Side.{Side}
 use Rattle.kernel_steps.specs.Inference.{are_of_one_kind}
-use Rattle.fol_base.specs.Clause.{TreeLiteral, TreeClause}
+use Rattle.fol_base.specs.Clause.{TreeLiteral}
 use Rattle.fol_base.specs.Examples.{a, b, c, f, equation, clause, is_predicate, all_a}
 use Rattle.fol_base.specs.Rules.{disequation, superposed}
 use Rattle.fol_base.specs.Literal.{clause_of}
 use Rattle.fol_base.specs.declared.clause.Side.TheVariants.{Left, Right}
 use Rattle.kernel_steps.specs.Derivation.{AreSteps, continued, reduced_parents}
-use Rattle.kernel_steps.specs.Conclusion.{Verdict, binding_fault, rule_fault, concludes, verdict}
+use Rattle.kernel_steps.specs.Conclusion.{concludes, verdict}
 use Rattle.kernel_steps.specs.declared.step.TheConstants.{CLAUSE_NUMBERS}
 use Rattle.kernel_steps.specs.declared.step.Line.{Line}
-use Rattle.reduction.specs.Reduced.{IsReduced, IsNumbered, IsOneOf, BindsSymbolsOf, MovesTo, clause_parents, clauses_named}
+use Rattle.reduction.specs.Reduced.{IsReduced, IsNumbered, IsOneOf, BindsSymbolsOf, MovesTo, clause_parents}
 use Rattle.reduction.specs.Examples.{units, given, first_line, second_line, rewriting_lines, reduced_to}
 
 are_steps : AreSteps (CLAUSE_NUMBERS + 1) (reduced_parents (clause_parents units) given) (rewriting_lines (CLAUSE_NUMBERS + 1))

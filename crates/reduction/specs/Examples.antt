@@ -1,5 +1,5 @@
 -- The worked reduction: f(b) != c by a = b, which has the number 0, and f(a) = c, which has the number 1.
-use Rattle.std.specs.Prelude.{ℕ, ◌+◌, List, [], ◌∷◌, map, Option, slice_get}
+use Rattle.std.specs.Prelude.{ℕ, List, [], ◌∷◌, map, Option, slice_get}
 use Rattle.fol_base.specs.Clause.{TreeLiteral, TreeClause}
 use Rattle.fol_base.specs.Examples.{a, b, c, f, equation, clause}
 use Rattle.fol_base.specs.Rules.{disequation}

@@ -1,5 +1,5 @@
 -- Entries of the index of sides.
-use Rattle.std.proofs.Common.{◌≡◌, ℕ, ◌+◌, ◌*◌, true, false, Bool, List, [], ◌∷◌, ◌++◌, refl, ap, sym, ◌∙◌, subst, inl, inr, ◌⊎◌, ⊎_elim, arith}
+use Rattle.std.proofs.Common.{◌≡◌, ℕ, true, false, Bool, List, [], ◌∷◌, ◌++◌, refl, ap, sym, ◌∙◌, subst, inl, inr, ◌⊎◌, ⊎_elim, arith}
 use Rattle.std.specs.Prelude.{if◌then◌else◌}
 use Rattle.std.proofs.lemmas.Bool.{true≢false}
 use Rattle.fol_base.specs.Tree.{Tree}
@@ -8,7 +8,7 @@ use Rattle.fol_base.specs.declared.clause.Side.TheVariants.{Left, Right}
 use Rattle.disc_tree.specs.Entries.{IsIn, IsWith, numbers_where}
 use Rattle.disc_tree.proofs.EditLemmas.{is_in-append}
 use Rattle.rewriting.specs.Units.{side_number}
-use Rattle.rewriting.specs.Index.{KeepsOthers, KeepsAll}
+use Rattle.rewriting.specs.Index.{KeepsOthers}
 
 in-left : {X : Type 0} (x : X) (xs ys : List X) → IsIn x xs → IsIn x (xs ++ ys)
 in-left x [] ys h = absurd h

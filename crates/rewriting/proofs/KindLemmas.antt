@@ -1,11 +1,11 @@
 -- The kinds of the terms of a redex: what a unit's side matches is of its kind.
 use Rattle.std.proofs.Common.{◌≡◌, ℕ, Bool, true, false, not, ◌&&◌, ◌||◌, ◌==◌, List, [], ◌∷◌, refl, ap, ap₂, sym, ◌∙◌, subst, ⊎_elim, ◌⊎◌, inl, inr, arith}
-use Rattle.std.specs.Prelude.{Option, None, Some, IsTrue}
-use Rattle.std.proofs.lemmas.Bool.{true≢false, and_from, or_left, or_right, not_from_false}
+use Rattle.std.specs.Prelude.{Some}
+use Rattle.std.proofs.lemmas.Bool.{true≢false, and_from, or_left, or_right}
 use Rattle.std.proofs.lemmas.Option.{none-some, same_Some}
-use Rattle.fol_base.specs.Tree.{Tree, variable, application, Trees, no_trees, true_tree, true_symbol, is_truth, is_variable, tree_size, trees_eq}
+use Rattle.fol_base.specs.Tree.{Tree, variable, application, Trees, no_trees, true_tree, true_symbol, is_truth, is_variable, trees_eq}
 use Rattle.fol_base.specs.Instance.{Substitution, instance, instances}
-use Rattle.fol_base.specs.Place.{argument, subterm}
+use Rattle.fol_base.specs.Place.{subterm}
 use Rattle.fol_base.specs.Kind.{is_function_term, is_predicate_term, is_literal}
 use Rattle.fol_base.specs.Clause.{TreeLiteral}
 use Rattle.fol_base.specs.Order.{tree_greater, TreeGreater}
@@ -13,9 +13,8 @@ use Rattle.fol_base.specs.Sides.{side_of, other_side_of}
 use Rattle.fol_base.specs.declared.clause.Side.{Side}
 use Rattle.fol_base.specs.declared.clause.Side.TheVariants.{Left, Right}
 use Rattle.fol_base.proofs.TreeLemmas.{tree_eq-true, and_left}
-use Rattle.fol_base.proofs.TestLemmas.{option_map-some}
 use Rattle.fol_base.proofs.OrderLemmas.{tree_greater_decided}
-use Rattle.fol_base.proofs.KindLemmas.{is_function_term-parts, is_predicate_term-parts, no_predicate_term, function_term-no_truth, predicate_term-no_truth, is_function_term-subterm, is_predicate_term-subterm}
+use Rattle.fol_base.proofs.KindLemmas.{is_function_term-parts, is_predicate_term-parts, function_term-no_truth, predicate_term-no_truth, is_function_term-subterm, is_predicate_term-subterm}
 use Rattle.fol_base.proofs.WellFormedLemmas.{IsEquation, IsAtom, is_literal-cases}
 use Rattle.kernel_steps.specs.Inference as kernel
 use Rattle.kernel_steps.specs.Inference.{has_predicate_head}

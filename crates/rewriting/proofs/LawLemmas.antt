@@ -1,9 +1,9 @@
 -- Redexes and rewriting steps.
-use Rattle.std.proofs.Common.{◌≡◌, ℕ, Bool, true, false, ◌&&◌, ◌==◌, List, [], ◌∷◌, ◌++◌, refl, ap, ap₂, sym, ◌∙◌, subst, append-nil, arith, not, ⊎_elim}
+use Rattle.std.proofs.Common.{◌≡◌, ℕ, Bool, true, false, ◌&&◌, ◌==◌, List, [], ◌∷◌, refl, ap, sym, ◌∙◌, append-nil, not, ⊎_elim}
 use Rattle.std.specs.Prelude.{Option, None, Some, All, IsTrue, slice_get, slice_set, is_some, if◌then◌else◌}
 use Rattle.std.specs.List.{list_any, list_all}
-use Rattle.std.proofs.lemmas.Bool.{true≢false, and_from, and_parts, cases_Bool, false_from_ne_true, not-true}
-use Rattle.std.proofs.lemmas.Option.{none-some, same_Some}
+use Rattle.std.proofs.lemmas.Bool.{true≢false, and_from, and_parts, false_from_ne_true, not-true}
+use Rattle.std.proofs.lemmas.Option.{same_Some}
 use Rattle.std.proofs.lemmas.List.Elements.{All-nil, All-cons, All-head, All-tail}
 use Rattle.fol_base.specs.Tree.{Tree, variable, application, tree_variables, is_variable, is_truth}
 use Rattle.fol_base.specs.Instance.{Substitution, instance}
@@ -11,7 +11,6 @@ use Rattle.fol_base.specs.Place.{subterm, replaced}
 use Rattle.fol_base.specs.Clause.{TreeLiteral, TreeClause, literal_instance}
 use Rattle.fol_base.specs.Ground.{literals_instance}
 use Rattle.fol_base.specs.Sides.{side_of, other_side_of, with_side}
-use Rattle.fol_base.specs.Order.{tree_greater}
 use Rattle.fol_base.specs.WellFormed.{SymbolUse, are_literals_of, is_literal_of}
 use Rattle.fol_base.specs.Rules.{superposed, superposed_literal}
 use Rattle.fol_base.specs.Kind.{is_literal, is_function_term, PutsFunctionTerms}
@@ -23,15 +22,12 @@ use Rattle.fol_base.proofs.RuleLemmas.{superposed-from, superposed_literal-from}
 use Rattle.fol_base.proofs.InferenceLemmas.{side_of-instance, other_side_of-instance, no_truth-instance}
 use Rattle.fol_base.proofs.KindLemmas.{puts_no_truth, function_term-no_truth, no_predicate_term}
 use Rattle.fol_base.proofs.WellFormedLemmas.{IsAtom, is_literal-cases, is_literal_of-parts}
-use Rattle.kernel_steps.specs.Inference.{RewritesBy, AllowsRoot, has_predicate_head, are_of_one_kind}
+use Rattle.kernel_steps.specs.Inference.{AllowsRoot, has_predicate_head, are_of_one_kind}
 use Rattle.unifier.specs.Matching.{by_pairs}
 use Rattle.unifier.proofs.KindLemmas.{matchers_put_function_terms}
-use Rattle.rewriting.specs.Units.{IsUnit, has_other_variables}
-use Rattle.rewriting.specs.Redex.{Spot, spot_at, root_spot, IsRedex, HasRedex, is_within, AreNormal}
-use Rattle.rewriting.specs.Searching.{IsFoundOf}
-use Rattle.rewriting.specs.Laws.{NormalClausesStay, RedexesRewrite, OneRewrites}
-use Rattle.rewriting.specs.declared.searching.Found.{Found}
-use Rattle.rewriting.proofs.KindLemmas.{KindAt, kind-at, redex-kinds, predicate-head}
+use Rattle.rewriting.specs.Redex.{spot_at, root_spot, is_within}
+use Rattle.rewriting.specs.Laws.{NormalClausesStay, RedexesRewrite}
+use Rattle.rewriting.proofs.KindLemmas.{kind-at, redex-kinds, predicate-head}
 
 -- ---- from a rewriting step to a redex
 

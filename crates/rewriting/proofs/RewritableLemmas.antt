@@ -1,5 +1,5 @@
 -- From the search of a member to whether a unit rewrites it.
-use Rattle.std.proofs.Common.{◌≡◌, ℕ, Bool, true, false, not, ◌&&◌, ◌==◌, List, [], ◌∷◌, ◌++◌, map, refl, ap, ap₂, sym, ◌∙◌, subst, inl, inr, ◌⊎◌, ⊎_elim, ◌<◌, length, get_or}
+use Rattle.std.proofs.Common.{◌≡◌, ℕ, Bool, true, false, not, ◌&&◌, ◌==◌, List, [], ◌∷◌, ◌++◌, refl, ap, sym, ◌∙◌, subst, inl, inr, ⊎_elim, ◌<◌, length, get_or}
 use Rattle.std.specs.Prelude.{Option, None, Some, option_and_then, IsTrue, All, if◌then◌else◌, MatchOption, MatchBool, is_some}
 use Rattle.std.proofs.lemmas.Bool.{true≢false, cases_Bool, cond-true, cond-false, eqb-true, eq-eqb, and_from, and_parts, false_from_ne_true}
 use Rattle.std.proofs.lemmas.Option.{none-some, same_Some}
@@ -9,8 +9,6 @@ use Rattle.fol_base.specs.WellFormed.{SymbolUse, are_literals_of}
 use Rattle.fol_base.specs.Subsumption.{assertions, is_among}
 use Rattle.kernel_steps.specs.Inference.{RewritesBy}
 use Rattle.bank_clause.specs.Clause.{clause_at}
-use Rattle.bank_clause.specs.Parts.{assertion}
-use Rattle.bank_clause.specs.declared.clause.BankClause.{BankClause}
 use Rattle.bank_clause.specs.declared.member.Member.{Member}
 use Rattle.rewriting.specs.Units.{IsUnit, clause_numbered, is_kept, usable, usable_clause}
 use Rattle.rewriting.specs.Redex.{AreNormal}

@@ -1,15 +1,14 @@
 -- The search of a term, from the inside out.
 use Rattle.std.proofs.Common.{◌≡◌, ℕ, zero, suc, ◌+◌, ◌<◌, ◌≤◌, Bool, true, false, List, [], ◌∷◌, ◌++◌, length, map, take, ◌-◌, length-append, refl, ap, ap₂, sym, ◌∙◌, subst, ⊎_elim, ◌⊎◌, inl, inr, arith, get_or, append_assoc, append-nil}
 use Rattle.std.proofs.Math.Seq.{take-append_seam}
-use Rattle.std.specs.Prelude.{Option, None, Some, IsTrue, IfSome, slice_get, option_and_then, ◌&&◌, if◌then◌else◌}
+use Rattle.std.specs.Prelude.{Option, None, Some, slice_get, option_and_then, ◌&&◌, if◌then◌else◌}
 use Rattle.std.proofs.lemmas.Bool.{true≢false}
 use Rattle.std.proofs.lemmas.Option.{none-some, same_Some}
 use Rattle.fol_base.specs.Term.{tree_of}
 use Rattle.fol_base.specs.declared.term.Term.{Term}
 use Rattle.fol_base.specs.Tree.{Tree, variable, application, Trees, trees_of, list_of, tree_size}
-use Rattle.fol_base.specs.Instance.{Substitution, instance}
-use Rattle.fol_base.specs.Place.{argument, subterm}
-use Rattle.fol_base.specs.Order.{tree_greater}
+use Rattle.fol_base.specs.Instance.{instance}
+use Rattle.fol_base.specs.Place.{subterm}
 use Rattle.fol_base.specs.Clause.{TreeLiteral, TreeClause}
 use Rattle.fol_base.specs.Sides.{side_of, other_side_of}
 use Rattle.fol_base.proofs.TreeLemmas.{tree_size-positive, list_of-trees_of}
@@ -20,10 +19,9 @@ use Rattle.bank_clause.specs.Clause.{clause_at}
 use Rattle.bank_clause.specs.declared.clause.BankClause.{BankClause}
 use Rattle.bank_clause.specs.declared.member.Member.{Member}
 use Rattle.fol_base.specs.Subsumption.{assertions, is_among}
-use Rattle.fol_base.specs.Compatible.{compatible_generalisation}
 use Rattle.disc_tree.proofs.UnifierLemmas.{generalisation-compatible}
 use Rattle.rewriting.specs.Units.{HasCandidates, usable, usable_clause, clause_numbered, side_number, is_kept}
-use Rattle.rewriting.specs.Redex.{Spot, spot_at, inner, root_spot, IsRedex, HasRedex, IsNormal, IsNormalLiteral}
+use Rattle.rewriting.specs.Redex.{Spot, spot_at, inner, root_spot, HasRedex, IsNormal, IsNormalLiteral}
 use Rattle.rewriting.specs.Searching.{IsPlaced, IsFoundIn, IsFoundInSome, IsFoundAt, IsFoundAtSide, IsFoundOf, IsFoundOfLiteral, IsFoundOfSide, IsRewrite, NotBy}
 use Rattle.rewriting.specs.declared.searching.Rewrite.{Rewrite}
 use Rattle.rewriting.specs.declared.searching.Found.{Found}

@@ -1,7 +1,6 @@
 -- One entry of the index at a term: what it gives.
-use Rattle.std.proofs.Common.{◌≡◌, ℕ, Bool, true, false, ◌&&◌, List, [], ◌∷◌, map, refl, ap, ap₂, sym, ◌∙◌, subst, ⊎_elim, arith, Bor}
-use Rattle.std.specs.Prelude.{Option, None, Some, IsTrue, IfSome, MatchOption, slice_get, option_map, option_and_then, not, ◌||◌, ◌==◌, if◌then◌else◌}
-use Rattle.std.specs.List.{list_any, list_all}
+use Rattle.std.proofs.Common.{◌≡◌, ℕ, Bool, true, false, ◌&&◌, List, [], ◌∷◌, map, refl, ap, sym, ◌∙◌, subst, Bor}
+use Rattle.std.specs.Prelude.{Option, None, Some, IsTrue, IfSome, MatchOption, slice_get, option_map, option_and_then, if◌then◌else◌}
 use Rattle.fol_base.specs.Subsumption.{assertions, is_among}
 use Rattle.bank_clause.specs.Clause.{clause_at}
 use Rattle.bank_clause.specs.Parts.{assertion}
@@ -18,7 +17,7 @@ use Rattle.fol_base.specs.declared.clause.Side.{Side}
 use Rattle.unifier.specs.Laws.{are_of_one_kind, AreFunctionPairs}
 use Rattle.unifier.specs.Matching.{by_pairs, are_below, IsMatched, NoMatcher}
 use Rattle.rewriting.specs.Units.{has_other_variables, side_number, usable, usable_clause, is_kept, clause_numbered}
-use Rattle.rewriting.specs.Redex.{Spot, IsRedex, HasRedex, is_within}
+use Rattle.rewriting.specs.Redex.{Spot, IsRedex, is_within}
 use Rattle.rewriting.specs.Searching.{IsMatchedBy, NotBy}
 use Rattle.rewriting.proofs.IndexLemmas.{side_number-unit, side_number-side}
 use Rattle.rewriting.proofs.PairLemmas.{pairs-match, matchers-agree}

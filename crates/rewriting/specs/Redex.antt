@@ -1,5 +1,5 @@
 -- Redexes: places of a clause that an equation rewrites (Knuth and Bendix 1970), stated on the terms alone.
-use Rattle.std.specs.Prelude.{◌≡◌, ℕ, Bool, true, false, ◌&&◌, List, [], ◌∷◌, slice_get, Option, None, Some, IsTrue, IsFalse, if◌then◌else◌}
+use Rattle.std.specs.Prelude.{◌≡◌, ℕ, Bool, true, false, ◌&&◌, List, [], ◌∷◌, slice_get, Option, None, Some, IsTrue, if◌then◌else◌}
 use Rattle.fol_base.specs.Tree.{Tree, is_variable, is_truth}
 use Rattle.fol_base.specs.Instance.{Substitution, instance}
 use Rattle.fol_base.specs.Place.{subterm}

@@ -1,8 +1,7 @@
 -- What a search for redexes finds.
-use Rattle.std.specs.Prelude.{◌≡◌, ℕ, Bool, true, List, [], ◌∷◌, ◌++◌, slice_get, Option, None, Some, option_map, IsTrue}
+use Rattle.std.specs.Prelude.{◌≡◌, ℕ, Bool, true, List, [], ◌∷◌, ◌++◌, slice_get, Option, None, Some, IsTrue}
 use Rattle.fol_base.specs.Tree.{Tree, VariablesBelow}
 use Rattle.fol_base.specs.Instance.{Substitution}
-use Rattle.fol_base.specs.Term.{tree_of}
 use Rattle.fol_base.specs.Clause.{TreeLiteral, TreeClause}
 use Rattle.fol_base.specs.Place.{subterm}
 use Rattle.fol_base.specs.Sides.{side_of}

@@ -1,6 +1,6 @@
 -- Spots as the program has them.
-use Rattle.std.specs.Prelude.{ℕ, ◌<◌, Option, None, Some, option_map, IfSome}
-use Rattle.fol_base.specs.Tree.{Tree, tree_size}
+use Rattle.std.specs.Prelude.{◌<◌, option_map, IfSome}
+use Rattle.fol_base.specs.Tree.{tree_size}
 use Rattle.fol_base.specs.Term.{tree_of}
 use Rattle.fol_base.specs.declared.limits.TheConstants.{SIZE_LIMIT}
 use Rattle.rewriting.specs.Redex as redex

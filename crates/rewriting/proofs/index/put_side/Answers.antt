@@ -1,11 +1,5 @@
-use Rattle.std.proofs.Common.{◌∙◌, ap₂, subst}
-use Rattle.fol_base.specs.Tree.{Tree}
-use Rattle.fol_base.specs.Sides.{side_of}
-use Rattle.fol_base.specs.Lent.{lent_of}
 use Rattle.fol_base.specs.Term.{tree_of}
-use Rattle.disc_tree.specs.Entries.{IsIn}
 use Rattle.disc_tree.proofs.EntryLemmas.{in-with}
-use Rattle.rewriting.specs.Units.{side_number}
 use Rattle.rewriting.proofs.IndexLemmas.{in-more}
 use Rattle.rewriting.proofs.index.put_side.Goals as goal
 

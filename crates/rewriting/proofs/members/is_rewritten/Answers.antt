@@ -1,7 +1,6 @@
-use Rattle.std.proofs.Common.{◌≡◌, ◌<◌, List, ap, arith}
+use Rattle.std.proofs.Common.{List, ap, arith}
 use Rattle.std.specs.Prelude.{sum_by}
 use Rattle.fol_base.specs.Clause.{TreeLiteral, literal_size}
-use Rattle.fol_base.specs.declared.limits.TheConstants.{SIZE_LIMIT}
 use Rattle.rewriting.proofs.RewritableLemmas.{answer-is}
 use Rattle.rewriting.proofs.members.is_rewritten.Goals as goal
 

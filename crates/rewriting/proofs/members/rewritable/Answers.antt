@@ -1,4 +1,4 @@
-use Rattle.std.proofs.Common.{◌≡◌, ℕ, List, [], ap, sym, ◌∙◌, subst, take, arith}
+use Rattle.std.proofs.Common.{ℕ, List, sym, ◌∙◌, subst, take, arith}
 use Rattle.std.proofs.lemmas.List.{take_all}
 use Rattle.fol_base.proofs.ListLemmas.{take_more_item}
 use Rattle.bank_clause.specs.declared.member.Member.{Member}

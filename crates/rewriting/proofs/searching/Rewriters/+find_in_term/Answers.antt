@@ -1,7 +1,7 @@
-use Rattle.std.proofs.Common.{◌≡◌, ℕ, ◌+◌, ◌*◌, ◌<◌, ◌++◌, ◌∷◌, [], List, Some, None, arith, rules, refl, ap, sym, ◌∙◌, subst, map}
-use Rattle.std.specs.Prelude.{Option, slice_get}
+use Rattle.std.proofs.Common.{ℕ, ◌+◌, ◌*◌, ◌<◌, ◌++◌, ◌∷◌, [], List, arith, rules, refl, ap, ◌∙◌, subst, map}
+use Rattle.std.specs.Prelude.{Option}
 use Rattle.std.proofs.lemmas.Option.{slice_get_within}
-use Rattle.fol_base.specs.Tree.{Tree, tree_size, trees_size, trees_of}
+use Rattle.fol_base.specs.Tree.{tree_size, trees_size, trees_of}
 use Rattle.fol_base.specs.Term.{tree_of}
 use Rattle.fol_base.specs.declared.limits.TheConstants.{SIZE_LIMIT}
 use Rattle.fol_base.proofs.TermLemmas.{tree_size-item, length-trees}

@@ -1,9 +1,7 @@
-use Rattle.std.proofs.Common.{◌≡◌, ◌<◌, List, Some, None, ap, sym, ◌∙◌, subst, arith}
+use Rattle.std.proofs.Common.{subst, arith}
 use Rattle.std.specs.Prelude.{Option}
 use Rattle.std.proofs.lemmas.Option.{slice_get_within}
-use Rattle.fol_base.specs.Clause.{TreeLiteral, literal_size}
 use Rattle.fol_base.specs.Lent.{lent_of}
-use Rattle.fol_base.specs.declared.limits.TheConstants.{SIZE_LIMIT}
 use Rattle.kbo_order.proofs.ClauseLoops.{item-size}
 use Rattle.rewriting.specs.Searching.{IsFoundOfLiteral, usable_by}
 use Rattle.rewriting.specs.declared.searching.Found.{Found}

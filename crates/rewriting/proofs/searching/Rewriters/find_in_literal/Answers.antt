@@ -1,7 +1,7 @@
-use Rattle.std.proofs.Common.{subst, None, Some}
+use Rattle.std.proofs.Common.{subst}
 use Rattle.std.specs.Prelude.{Option}
 use Rattle.fol_base.specs.Lent.{lent_of}
-use Rattle.fol_base.specs.declared.clause.Side.TheVariants.{Left, Right}
+use Rattle.fol_base.specs.declared.clause.Side.TheVariants.{Left}
 use Rattle.rewriting.specs.Searching.{IsFoundOfSide, usable_by}
 use Rattle.rewriting.specs.declared.searching.Found.{Found}
 use Rattle.rewriting.proofs.SearchLemmas.{literal-found}

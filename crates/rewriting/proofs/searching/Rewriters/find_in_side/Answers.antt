@@ -1,4 +1,4 @@
-use Rattle.std.proofs.Common.{subst, None}
+use Rattle.std.proofs.Common.{subst}
 use Rattle.std.specs.Prelude.{Option}
 use Rattle.fol_base.specs.Term.{tree_of}
 use Rattle.fol_base.specs.Lent.{lent_of}

@@ -1,6 +1,6 @@
-use Rattle.std.proofs.Common.{◌≡◌, ◌<◌, ap, sym, ◌∙◌, subst, arith, Bor}
-use Rattle.std.specs.Prelude.{Some, Option, IfSome, option_map}
-use Rattle.fol_base.specs.Tree.{Tree, tree_size, variable}
+use Rattle.std.proofs.Common.{◌<◌, ap, sym, ◌∙◌, subst, arith, Bor}
+use Rattle.std.specs.Prelude.{Option, IfSome, option_map}
+use Rattle.fol_base.specs.Tree.{tree_size, variable}
 use Rattle.fol_base.specs.Instance.{instance}
 use Rattle.fol_base.specs.Order.{tree_greater}
 use Rattle.fol_base.specs.Term.{tree_of}

@@ -1,4 +1,3 @@
-use Rattle.std.proofs.Common.{sym, subst}
 use Rattle.fol_base.specs.Term.{tree_of}
 use Rattle.rewriting.specs.Units.{HasCandidates}
 use Rattle.rewriting.proofs.UnitLemmas.{candidates}

@@ -1,9 +1,7 @@
-use Rattle.std.proofs.Common.{◌≡◌, ℕ, Some, ◌∙◌, sym, ap, subst}
+use Rattle.std.proofs.Common.{Some, ◌∙◌, ap}
 use Rattle.std.specs.Prelude.{nat_eq, cond}
 use Rattle.std.specs.Map.{lookup}
 use Rattle.fol_base.specs.Lent.{lent_of}
-use Rattle.bank_clause.specs.Clause.{clause_at}
-use Rattle.rewriting.specs.Units.{IsUnitAt, clause_numbered}
 use Rattle.rewriting.specs.declared.units.Unit.{Unit}
 use Rattle.rewriting.proofs.TryLemmas.{alone-lent}
 use Rattle.rewriting.proofs.UnitLemmas.{absent-kept, made-unit, put-unit, put-numbered, put-of-bank, on_ok-at}

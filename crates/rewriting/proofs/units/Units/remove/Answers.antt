@@ -1,8 +1,8 @@
-use Rattle.std.proofs.Common.{◌≡◌, ℕ, ◌<◌, Some, None, List, [], ◌∷◌, ◌∙◌, sym, ap, subst, length, arith, map}
+use Rattle.std.proofs.Common.{◌≡◌, List, ◌∙◌, sym, ap, length, arith}
 use Rattle.std.specs.Prelude.{option_map}
 use Rattle.std.specs.Option.{is_some}
 use Rattle.fol_base.specs.Clause.{TreeLiteral}
-use Rattle.rewriting.specs.Units.{clause_numbered, member_of}
+use Rattle.rewriting.specs.Units.{clause_numbered}
 use Rattle.rewriting.proofs.UnitLemmas.{clause_of_unit, taken-units, taken-numbered, taken-of-bank, found-numbered}
 use Rattle.rewriting.proofs.units.Units.remove.Goals as goal
 

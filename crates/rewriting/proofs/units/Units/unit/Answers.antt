@@ -1,4 +1,3 @@
-use Rattle.std.proofs.Common.{sym, subst}
 use Rattle.rewriting.proofs.UnitLemmas.{lent-clause, lent-recorded}
 use Rattle.rewriting.proofs.units.Units.unit.Goals as goal
 
