@@ -1,0 +1,2 @@
+-- The worked reduction (Examples).
+mod Examples

@@ -1,0 +1,9 @@
+// Reduced clauses: what lines of steps lead from a clause to a simpler one, and by which other clauses.
+#![tactic(auto)]
+
+mod reduced;
+
+pub use kernel_steps::Reduced;
+pub use reduced::{put_used, unreduced};
+
+pub mod laws;

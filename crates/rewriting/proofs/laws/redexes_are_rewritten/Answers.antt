@@ -1,0 +1,8 @@
+use Rattle.rewriting.proofs.LawLemmas.{normal_clauses_stay, redexes_rewrite}
+use Rattle.rewriting.proofs.laws.redexes_are_rewritten.Goals as goal
+
+pub returns-clause-normal : goal.returns-clause-normal
+returns-clause-normal c = normal_clauses_stay
+
+pub returns-clause-found : goal.returns-clause-found
+returns-clause-found c = redexes_rewrite

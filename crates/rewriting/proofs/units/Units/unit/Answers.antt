@@ -1,0 +1,10 @@
+use Rattle.rewriting.proofs.UnitLemmas.{lent-clause, lent-recorded}
+use Rattle.rewriting.proofs.units.Units.unit.Goals as goal
+
+pub returns-clause-clause : goal.returns-clause-clause
+returns-clause-clause c =
+    rw (← c.self.view_is) (lent-clause c.args.number c.self.inside.clauses.entries c.get.result c.get.ensures.value)
+
+pub returns-clause-recorded : goal.returns-clause-recorded
+returns-clause-recorded c =
+    lent-recorded c.self.inside.sides c.args.number c.self.inside.clauses.entries c.get.result c.self.invariant c.get.ensures.value

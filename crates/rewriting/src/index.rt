@@ -1,0 +1,139 @@
+// The index of the units' sides.
+
+ghost use Rattle.std.specs.Prelude.{◌≡◌, ℕ, ◌==◌, IfOk, IsTrue};
+ghost use Rattle.std.specs.List.{list_any, list_all};
+ghost use Rattle.fol_base.specs.Sides.{side_of};
+ghost use Rattle.fol_base.specs.Lent.{lent_of};
+ghost use Rattle.fol_base.specs.declared.clause.Side.{Side};
+ghost use Rattle.disc_tree.specs.Entries.{IsIn};
+ghost use Rattle.rewriting.specs.Units.{has_other_variables, oriented, side_number};
+ghost use Rattle.rewriting.specs.Index.{KeepsOthers, KeepsAll};
+
+use disc_tree::DiscTree;
+use fol_base::{LiteralRef, Side, push_variables};
+use plain_types::Mem;
+use std::alloc::Global;
+
+/// The number of a side of a unit.
+pub(crate) fn side_number(number: u32, side: Side) -> u64
+    ensures { result ≡ side_number number side }
+{
+    let twice = 2 * u64::from(number);
+    match side {
+        Side::Left => twice,
+        Side::Right => twice + 1,
+    }
+}
+
+/// The unit and the side that a number stands for.
+pub(crate) fn side_of_number(entry: u64) -> (u64, Side)
+    ensures { entry ≡ side_number result.0 result.1 }
+{
+    let side = if entry % 2 == 0 {
+        Side::Left
+    } else {
+        Side::Right
+    };
+    (entry / 2, side)
+}
+
+/// The sides of a unit by which it may rewrite: those in which each variable of the other side occurs.
+#[derive(Clone, Copy)]
+pub(crate) struct Orientation {
+    pub(crate) left: bool,
+    pub(crate) right: bool,
+}
+
+impl Orientation {
+    /// Whether a side is one of them.
+    pub(crate) fn has(self, side: Side) -> bool
+        ensures { result ≡ oriented side self }
+    {
+        match side {
+            Side::Left => self.left,
+            Side::Right => self.right,
+        }
+    }
+}
+
+/// By which sides an equation may rewrite.
+pub(crate) fn orient(alloc: Global, equation: LiteralRef<'_>) -> Mem<Orientation>
+    ensures { IfOk result (λ made. (s : Side) → oriented s made ≡ has_other_variables s (lent_of equation.entry)) }
+{
+    let mut left = Vec::new(alloc);
+    push_variables(equation.left, &mut left)?;
+    let mut right = Vec::new(alloc);
+    push_variables(equation.right, &mut right)?;
+    Ok(Orientation {
+        left: are_listed(&right, &left),
+        right: are_listed(&left, &right),
+    })
+}
+
+/// Whether each variable of a list is in another one.
+fn are_listed(variables: &[u32], within: &[u32]) -> bool
+    ensures { result ≡ list_all (λ v. list_any (λ w. v == w) within.now) variables.now }
+{
+    variables
+        .iter()
+        .all(|variable| is_listed(*variable, within))
+}
+
+fn is_listed(variable: u32, within: &[u32]) -> bool
+    ensures { result ≡ list_any (λ w. variable == w) within.now }
+{
+    within.iter().any(|other| variable == *other)
+}
+
+/// Adds the sides by which an equation may rewrite. After want of memory none of them is there.
+pub(crate) fn put_sides(
+    sides: &mut DiscTree,
+    number: u32,
+    equation: LiteralRef<'_>,
+    by: Orientation,
+) -> Mem<()>
+    ensures put { IfOk result (λ _. (s : Side) → IsTrue (oriented s by) → IsIn (side_of s (lent_of equation.entry), side_number number s) sides.new) }
+    ensures kept { KeepsOthers number sides.old sides.new }
+{
+    put_side(sides, number, equation, Side::Left, by)?;
+    match put_side(sides, number, equation, Side::Right, by) {
+        Ok(()) => Ok(()),
+        Err(refused) => {
+            take_side(sides, number, equation, Side::Left);
+            Err(refused)
+        }
+    }
+}
+
+/// Takes away the sides of an equation.
+pub(crate) fn take_sides(sides: &mut DiscTree, number: u32, equation: LiteralRef<'_>)
+    ensures { KeepsOthers number sides.old sides.new }
+{
+    take_side(sides, number, equation, Side::Left);
+    take_side(sides, number, equation, Side::Right);
+}
+
+/// Adds a side of an equation, if the equation may rewrite by it.
+fn put_side(
+    sides: &mut DiscTree,
+    number: u32,
+    equation: LiteralRef<'_>,
+    side: Side,
+    by: Orientation,
+) -> Mem<()>
+    ensures put { IfOk result (λ _. IsTrue (oriented side by) → IsIn (side_of side (lent_of equation.entry), side_number number side) sides.new) }
+    ensures kept { KeepsAll sides.old sides.new }
+{
+    if !by.has(side) {
+        return Ok(());
+    }
+    sides.insert(equation.side(side), side_number(number, side))?;
+    Ok(())
+}
+
+/// Takes away a side of an equation, if it is there.
+fn take_side(sides: &mut DiscTree, number: u32, equation: LiteralRef<'_>, side: Side)
+    ensures { KeepsOthers number sides.old sides.new }
+{
+    sides.remove(equation.side(side), side_number(number, side));
+}
