@@ -1,5 +1,5 @@
 -- Proofs of the worked examples.
-use Rattle.std.proofs.Common.{◌≡◌, ℕ, false, List, [], ◌∷◌, refl, ap, arith}
+use Rattle.std.proofs.Common.{◌≡◌, ℕ, Bool, true, false, ◌&&◌, List, [], ◌∷◌, refl, ap, arith}
 use Rattle.fol_base.specs.Unifier.{IsMostGeneralUnifier}
 use Rattle.fol_base.specs.Canonical.{bound_of}
 use Rattle.fol_base.specs.Examples.{x, a, p, clause, is_predicate, first_is_a}
@@ -8,6 +8,7 @@ use Rattle.fol_base.specs.Selection.{select_nothing, select_negative}
 use Rattle.fol_base.specs.declared.clause.Side.TheVariants.{Left}
 use Rattle.fol_base.proofs.MatchingExamples.{first_is_a_general}
 use Rattle.kernel_steps.specs.Examples.{not_true}
+use Rattle.kernel_steps.specs.Symbols.{literal_symbols_pass}
 use Rattle.kernel_steps.specs.declared.key.Key.TheVariants.{Refl}
 use Rattle.kernel_steps.specs.declared.step.Step.TheVariants as step
 use Rattle.kernel_steps.proofs.InferenceExamples.{argument_of}
@@ -50,6 +51,10 @@ factoring = record {
   size = refl;
 }
 
+a_passes : (b rest : Bool) → ((b && true) && rest) ≡ true → (((b && true) && true) && true) ≡ true
+a_passes true rest h = refl
+a_passes false rest h = h
+
 pub concluded : IsConcluded is_predicate select_negative found_at_three (Refl 3 0) (step.Refl 3 0 (a ∷ [])) (clause (p a ∷ []))
 concluded = record {
   inferred = record { clause = clause (disequation (x 0) a ∷ p (x 0) ∷ []); there = refl; infers = resolution };
@@ -57,6 +62,9 @@ concluded = record {
   right_step = refl;
   numbered = refl;
   bindings_numbered = refl;
+  terms = refl;
+  small = refl;
+  symbols = λ test pass. a_passes (test 1 0) (literal_symbols_pass test (p (x 0)) && true) (pass (clause (disequation (x 0) a ∷ p (x 0) ∷ [])) refl);
 }
 
 pub not_from_zero : AreNumberedInOrder (1 ∷ []) → ⊥

@@ -1,9 +1,9 @@
 -- Equality factoring by two sides of a clause, by a most general unifier of them.
 use Rattle.std.proofs.Common.{◌≡◌, ◌⊎◌, ℕ, ◌+◌, ◌<◌, ◌≤◌, Bool, true, false, ◌||◌, Option, None, Some, List, [], length, get_or, refl, ap, ap₂, sym, ◌∙◌, subst, ⊎_elim, arith}
 use Rattle.std.specs.Prelude.{sum_by, slice_get, slice_set}
-use Rattle.std.specs.List.{AllByRecursion}
+use Rattle.std.specs.List.{AllByRecursion, list_all}
 use Rattle.std.specs.Option.{is_some, option_map}
-use Rattle.std.proofs.lemmas.Bool.{true≢false, or_left, or_right, lt-ltb}
+use Rattle.std.proofs.lemmas.Bool.{true≢false, and_from, or_left, or_right, lt-ltb}
 use Rattle.std.proofs.lemmas.List.{length-map}
 use Rattle.std.proofs.lemmas.List.Sums.{sum_by-set}
 use Rattle.std.proofs.lemmas.Option.{same_Some, slice_get_within, get_or_from_slice_get}
@@ -13,6 +13,7 @@ use Rattle.fol_base.specs.InstanceLaws.{after}
 use Rattle.fol_base.specs.Clause.{TreeLiteral, TreeClause, LiteralVariablesBelow, literal_size, literal_instance, clause_size, clause_instance, clause_variables}
 use Rattle.fol_base.specs.Ground.{literals_instance}
 use Rattle.fol_base.specs.Canonical.{renaming, bound_of}
+use Rattle.fol_base.specs.Kind.{is_function_term, PutsFunctionTerms}
 use Rattle.fol_base.specs.Numbering.{with_variables}
 use Rattle.fol_base.specs.Rules.{factored, disequation}
 use Rattle.fol_base.specs.Selection.{SelectionMode, chosen, eligible}
@@ -25,21 +26,26 @@ use Rattle.fol_base.proofs.InstanceLemmas.{instances_of_instances, instances_agr
 use Rattle.fol_base.proofs.KindLemmas.{puts_no_truth}
 use Rattle.fol_base.proofs.NumberingLemmas.{with_variables-have}
 use Rattle.fol_base.proofs.RuleLemmas.{factored-from}
+use Rattle.fol_base.proofs.TestLemmas.{list_all-item}
 use Rattle.literal_selection.proofs.EligibleLemmas.{eligible_lifts}
 use Rattle.kernel_steps.specs.Inference.{NamedFactoring, other_side_not_above}
 use Rattle.kernel_steps.specs.Names.{sorted_names}
 use Rattle.kernel_steps.specs.Named.{IsInference}
 use Rattle.kernel_steps.specs.Parents.{Parent}
+use Rattle.kernel_steps.specs.Symbols.{symbols_pass, literal_symbols_pass}
 use Rattle.kernel_steps.specs.declared.step.Step.TheVariants as step
+use Rattle.kernel_steps.proofs.SymbolLemmas.{side-passes}
 use Rattle.unifier.specs.Renaming.{AreRenamed}
 use Rattle.unifier.proofs.SharedLemmas.{shared_put_function_terms}
-use Rattle.eq_rules.specs.Inferences.{is_large, SizedFactoring, IsConcluded, IsMade, premises}
+use Rattle.eq_rules.specs.Inferences.{is_large, is_small_term, SizedFactoring, IsConcluded, IsMade, premises}
 use Rattle.eq_rules.specs.Concluding.{GivesNumbered}
 use Rattle.eq_rules.specs.Factoring.{FactorsBy, factor_key}
 use Rattle.eq_rules.specs.declared.concluding.FactorPlace.{FactorPlace}
 use Rattle.eq_rules.specs.declared.inference.Made.TheVariants.{Heavy}
 use Rattle.eq_rules.proofs.WideLemmas.{Has, wide, numbered, wide-general, wide-instance, wide-literals, renamed-literals, term_back, renamed-literals_size}
 use Rattle.eq_rules.proofs.ConclusionLemmas.{conclusion_numbered, bindings_numbered, binds_renamed, verdict_by_one, numbered_literals, numbered-has}
+use Rattle.eq_rules.proofs.BindingLemmas.{bound_functions, bound_small, bound_symbols, unified_small, unified_symbols}
+use Rattle.eq_rules.proofs.FactorAnswers.{part_size, sides_size}
 use Rattle.eq_rules.proofs.StepLemmas.{renaming-no_truth}
 use Rattle.eq_rules.proofs.PremiseLemmas.{Terms, terms_of, clause-below, literal-below, unifier-after_terms, has-instance, not_large}
 use Rattle.eq_rules.proofs.ResolutionLemmas.{eligible_wide}
@@ -311,6 +317,13 @@ module _
         let terms_small : clause_size (clause_instance (substitution terms) c) ≤ MOST_BOUND_SYMBOLS = omega (arith, factor_terms.size, small) in
         let many : length bind ≡ bound_of (clause_variables c) =
         ap length g.renamed ∙ length-map terms (instance (renaming g.order)) ∙ factor_terms.many in
+        let put : PutsFunctionTerms p (substitution terms) =
+        (shared_put_function_terms p false (side_of place.becomes.side r.literal_i) (side_of place.other.side r.literal_j) b
+        (bound_of (clause_variables c)) 0 terms right kinds.unifier r.unified h).0 in
+        let part = part_size (substitution terms) c.literals place.becomes.literal r.literal_i r.i_there in
+        let sides = sides_size (substitution terms) place.becomes.side r.literal_i in
+        let side_small : tree_size (instance (substitution terms) (side_of place.becomes.side r.literal_i)) ≤ MOST_SYMBOLS =
+        omega (arith, part, sides, factor_terms.size, small) in
         record {
           inferred = record {
             clause = c;
@@ -325,11 +338,21 @@ module _
               verdict_by_one (premises clauses) number c d bind rule
               (ap (option_map (λ q. let o : Parent = record { clause = q; introduces = false } in o)) there)
               (binds_renamed c g.order terms bind g.renamed many below
-              (puts_no_truth p (substitution terms)
-              (shared_put_function_terms p false (side_of place.becomes.side r.literal_i) (side_of place.other.side r.literal_j) b
-              (bound_of (clause_variables c)) 0 terms right kinds.unifier r.unified h).0)
-              terms_small)
+              (puts_no_truth p (substitution terms) put) terms_small)
               g.gives g.names;
           numbered = conclusion_numbered g.plain (trees_variables (trees_of terms)) g.order d g.met d_is;
           bindings_numbered = bindings_numbered g.plain terms bind g.order d g.met g.renamed d_is;
+          terms = and_from (list_all (is_function_term p) bind) true (bound_functions p g.order terms bind g.renamed put) refl;
+          small =
+              and_from (list_all is_small_term bind) true
+              (bound_small g.order terms bind g.renamed
+              (unified_small (side_of place.becomes.side r.literal_i) (side_of place.other.side r.literal_j) terms MOST_SYMBOLS
+              factor_terms.general side_small (omega arith))) refl;
+          symbols = λ test pass.
+              let i_passes = list_all-item (literal_symbols_pass test) c.literals place.becomes.literal r.literal_i r.i_there (pass c there) in
+              let j_passes = list_all-item (literal_symbols_pass test) c.literals place.other.literal r.literal_j r.j_there (pass c there) in
+              and_from (list_all (symbols_pass test) bind) true
+              (bound_symbols test g.order terms bind g.renamed
+              (unified_symbols test (side_of place.becomes.side r.literal_i) (side_of place.other.side r.literal_j) terms factor_terms.general
+              (side-passes test place.becomes.side r.literal_i i_passes) (side-passes test place.other.side r.literal_j j_passes))) refl;
         }

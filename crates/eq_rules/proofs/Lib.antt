@@ -1,6 +1,7 @@
 pub mod RenumberedLemmas
 pub mod WideLemmas
 pub mod ConclusionLemmas
+pub mod BindingLemmas
 pub mod PremiseLemmas
 pub mod InferenceLists
 pub mod StepLemmas

@@ -11,7 +11,7 @@ use Rattle.fol_base.specs.InstanceLaws.{after}
 use Rattle.fol_base.specs.Clause.{TreeLiteral, TreeClause, LiteralVariablesBelow, literal_size, literal_variables, clause_variables}
 use Rattle.fol_base.specs.Ground.{literals_instance}
 use Rattle.fol_base.specs.Canonical.{bound_of}
-use Rattle.fol_base.specs.Kind.{is_function_term, is_predicate_term, is_literal}
+use Rattle.fol_base.specs.Kind.{is_function_term, is_predicate_term, is_literal, PutsFunctionTerms}
 use Rattle.fol_base.specs.WellFormed.{SymbolUse, is_literal_of, are_literals_of}
 use Rattle.fol_base.specs.Unifier.{IsUnifier}
 use Rattle.fol_base.specs.declared.clause.Side.TheVariants.{Left}
@@ -69,7 +69,7 @@ terms_of c s t b terms right unified s_below t_below h =
       size = (shared_keep_sizes b n 0 terms right h).0 c.literals (ClauseVariablesBelow-bound n c (omega arith));
     }
 
--- ---- no `$true` is put in
+-- ---- function terms are put in, and no `$true`
 
 sides_unify : (p : ℕ → Bool) (l : TreeLiteral) → is_literal p l ≡ true → are_of_one_kind p l.left l.right ≡ true
 sides_unify p l h =
@@ -89,13 +89,19 @@ pub literal-kind :
     → are_literals_of usage c.literals ≡ true → slice_get c.literals i ≡ Some l → is_literal usage.is_predicate l ≡ true
 literal-kind usage c i l used there = (is_literal_of-parts usage l (list_all-item (is_literal_of usage) c.literals i l there used)).kind
 
+pub sides_put :
+    (p : ℕ → Bool) (l : TreeLiteral) (b : SolvedForm) (count : ℕ) (terms right : List Tree)
+    → is_literal p l ≡ true → IsUnified false l.left l.right (Some b) → AreRenamed b count 0 terms right
+    → PutsFunctionTerms p (substitution terms)
+sides_put p l b count terms right kind unified h =
+    (shared_put_function_terms p false l.left l.right b count 0 terms right (sides_unify p l kind) unified h).0
+
 pub sides_no_truth :
     (p : ℕ → Bool) (l : TreeLiteral) (b : SolvedForm) (count : ℕ) (terms right : List Tree)
     → is_literal p l ≡ true → IsUnified false l.left l.right (Some b) → AreRenamed b count 0 terms right
     → (v : ℕ) → is_truth (substitution terms v) ≡ false
-sides_no_truth p l b count terms right kind unified h v =
-    puts_no_truth p (substitution terms)
-    (shared_put_function_terms p false l.left l.right b count 0 terms right (sides_unify p l kind) unified h).0 v
+sides_no_truth p l b count terms right kind unified h =
+    puts_no_truth p (substitution terms) (sides_put p l b count terms right kind unified h)
 
 -- ---- one unifier after another
 

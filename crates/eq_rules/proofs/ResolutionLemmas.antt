@@ -1,40 +1,45 @@
 -- Equality resolution of a literal, by a most general unifier of its sides.
-use Rattle.std.proofs.Common.{◌≡◌, ℕ, ◌<◌, ◌≤◌, Bool, true, false, ◌||◌, ◌==◌, not, Option, None, Some, List, length, refl, ap, ap₂, sym, ◌∙◌, subst, arith}
+use Rattle.std.proofs.Common.{◌≡◌, ℕ, ◌+◌, ◌<◌, ◌≤◌, Bool, true, false, ◌||◌, ◌==◌, not, Option, None, Some, List, length, refl, ap, ap₂, sym, ◌∙◌, subst, arith}
 use Rattle.std.specs.Prelude.{sum_by, slice_get, remove}
-use Rattle.std.specs.List.{AllByRecursion}
+use Rattle.std.specs.List.{AllByRecursion, list_all}
 use Rattle.std.specs.Option.{is_some, option_map}
-use Rattle.std.proofs.lemmas.Bool.{true≢false, not-true, or_left, lt-ltb}
+use Rattle.std.proofs.lemmas.Bool.{true≢false, not-true, and_from, or_left, lt-ltb}
 use Rattle.std.proofs.lemmas.List.{length-map}
 use Rattle.std.proofs.lemmas.List.Sums.{sum_by-remove}
 use Rattle.std.proofs.lemmas.Option.{same_Some, slice_get_within}
-use Rattle.fol_base.specs.Tree.{Tree, trees_of, trees_variables}
+use Rattle.fol_base.specs.Tree.{Tree, tree_size, trees_of, trees_variables}
 use Rattle.fol_base.specs.Instance.{Substitution, instance, substitution}
 use Rattle.fol_base.specs.Clause.{TreeLiteral, TreeClause, LiteralVariablesBelow, literal_size, literal_instance, clause_size, clause_instance, clause_variables}
 use Rattle.fol_base.specs.Ground.{literals_instance}
 use Rattle.fol_base.specs.Canonical.{renaming, bound_of}
-use Rattle.fol_base.specs.Kind.{is_literal}
+use Rattle.fol_base.specs.Kind.{is_function_term, is_literal}
 use Rattle.fol_base.specs.Rules.{resolved}
 use Rattle.fol_base.specs.Selection.{SelectionMode, chosen, eligible}
 use Rattle.fol_base.specs.Unifier.{IsUnifier}
-use Rattle.fol_base.specs.declared.clause.Side.TheVariants.{Left}
+use Rattle.fol_base.specs.declared.clause.Side.TheVariants.{Left, Right}
 use Rattle.fol_base.specs.declared.limits.TheConstants.{MOST_SYMBOLS, MOST_BOUND_SYMBOLS}
 use Rattle.fol_base.proofs.InferenceLemmas.{literal_in_instance, resolutions_in_instances}
 use Rattle.fol_base.proofs.RuleLemmas.{resolved-parts, resolved-from}
+use Rattle.fol_base.proofs.TestLemmas.{list_all-item}
 use Rattle.literal_selection.proofs.EligibleLemmas.{eligible_lifts}
 use Rattle.kernel_steps.specs.Inference.{NamedResolution}
 use Rattle.kernel_steps.specs.Names.{sorted_names}
 use Rattle.kernel_steps.specs.Named.{IsInference}
 use Rattle.kernel_steps.specs.Parents.{Parent}
+use Rattle.kernel_steps.specs.Symbols.{symbols_pass, literal_symbols_pass}
 use Rattle.kernel_steps.specs.declared.key.Key.TheVariants.{Refl}
 use Rattle.kernel_steps.specs.declared.step.Step.TheVariants as step
+use Rattle.kernel_steps.proofs.SymbolLemmas.{side-passes}
 use Rattle.unifier.specs.Renaming.{AreRenamed}
-use Rattle.eq_rules.specs.Inferences.{is_large, IsConcluded, IsMade, premises}
+use Rattle.eq_rules.specs.Inferences.{is_large, is_small_term, IsConcluded, IsMade, premises}
 use Rattle.eq_rules.specs.Concluding.{GivesNumbered, other_chosen}
 use Rattle.eq_rules.specs.Unified.{ResolvesBy}
 use Rattle.eq_rules.specs.declared.inference.Made.TheVariants.{Heavy}
 use Rattle.eq_rules.proofs.WideLemmas.{Has, wide, numbered, wide-general, wide-literals, renamed-literals, literals_back, renamed-literals_size}
 use Rattle.eq_rules.proofs.ConclusionLemmas.{conclusion_numbered, bindings_numbered, binds_renamed, verdict_by_one, numbered_literals, numbered-has}
-use Rattle.eq_rules.proofs.PremiseLemmas.{Terms, terms_of, clause-below, literal-below, sides_no_truth, literals-onward, unifier-after_terms, has-literals, not_large}
+use Rattle.eq_rules.proofs.BindingLemmas.{bound_functions, bound_small, bound_symbols, unified_small, unified_symbols}
+use Rattle.eq_rules.proofs.FactorAnswers.{part_size, sides_size}
+use Rattle.eq_rules.proofs.PremiseLemmas.{Terms, terms_of, clause-below, literal-below, sides_put, sides_no_truth, literals-onward, unifier-after_terms, has-literals, not_large}
 use Rattle.unifier.specs.SolvedForm.{SolvedForm, substitution_of}
 
 -- ---- eligible literals
@@ -190,6 +195,11 @@ module _
         let d_small : clause_size d ≤ MOST_SYMBOLS = omega (arith, made, less, size_bound, small) in
         let premise_small : clause_size (clause_instance σ c) ≤ MOST_SYMBOLS = omega (arith, size_under, small) in
         let terms_small : clause_size (clause_instance (substitution terms) c) ≤ MOST_BOUND_SYMBOLS = omega (arith, terms_here.size, small) in
+        let part = part_size (substitution terms) c.literals i r.literal r.there in
+        let sides : literal_size (literal_instance (substitution terms) r.literal)
+        ≡ tree_size (instance (substitution terms) r.literal.left) + tree_size (instance (substitution terms) r.literal.right) =
+        sides_size (substitution terms) Left r.literal in
+        let left_small : tree_size (instance (substitution terms) r.literal.left) ≤ MOST_SYMBOLS = omega (arith, part, sides, terms_here.size, small) in
         let d_is : d.literals ≡ literals_instance (renaming g.order) g.plain =
         numbered_literals (λ ms. resolved ms i) c terms bind d g (λ e. resolutions_in_instances (renaming g.order) ls g.plain i e) below in
         let many : length bind ≡ bound_of (clause_variables c) =
@@ -223,6 +233,20 @@ module _
               g.gives g.names;
           numbered = conclusion_numbered g.plain (trees_variables (trees_of terms)) g.order d g.met d_is;
           bindings_numbered = bindings_numbered g.plain terms bind g.order d g.met g.renamed d_is;
+          terms =
+              and_from (list_all (is_function_term p) bind) true
+              (bound_functions p g.order terms bind g.renamed
+              (sides_put p r.literal b (bound_of (clause_variables c)) terms right kind r.unified h)) refl;
+          small =
+              and_from (list_all is_small_term bind) true
+              (bound_small g.order terms bind g.renamed
+              (unified_small r.literal.left r.literal.right terms MOST_SYMBOLS terms_here.general left_small (omega arith))) refl;
+          symbols = λ test pass.
+              let l_passes = list_all-item (literal_symbols_pass test) c.literals i r.literal r.there (pass c there) in
+              and_from (list_all (symbols_pass test) bind) true
+              (bound_symbols test g.order terms bind g.renamed
+              (unified_symbols test r.literal.left r.literal.right terms terms_here.general
+              (side-passes test Left r.literal l_passes) (side-passes test Right r.literal l_passes))) refl;
         }
 
 -- ---- a literal that has no resolution

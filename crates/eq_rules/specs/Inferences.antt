@@ -1,8 +1,9 @@
 -- Inferences of clauses by their names, each with what becomes of it: which are made, which are set aside for their size, and lists of
 -- exactly those of some names (Bachmair and Ganzinger 1994).
-use Rattle.std.specs.Prelude.{◌≡◌, ℕ, Bool, true, false, ◌||◌, ◌==◌, nat_lt, List, [], ◌++◌, All, Contains, slice_get, Option, None, Some, option_map, IsTrue, if◌then◌else◌}
-use Rattle.fol_base.specs.Tree.{Tree, trees_of, trees_variables}
+use Rattle.std.specs.Prelude.{◌≡◌, ◌⊎◌, ℕ, Bool, true, false, ◌||◌, ◌==◌, nat_lt, nat_le, List, [], ◌++◌, All, Contains, slice_get, Option, None, Some, option_map, IsTrue, if◌then◌else◌}
+use Rattle.fol_base.specs.Tree.{Tree, tree_size, trees_of, trees_variables}
 use Rattle.fol_base.specs.Clause.{TreeClause, clause_size, clause_instance, clause_variables}
+use Rattle.fol_base.specs.Kind.{is_function_term}
 use Rattle.fol_base.specs.Literal.{clause_of}
 use Rattle.fol_base.specs.Selection.{SelectionMode}
 use Rattle.fol_base.specs.WellFormed.{SymbolUse, are_literals_of}
@@ -12,6 +13,8 @@ use Rattle.kernel_steps.specs.Inference.{NamedSuperposition, NamedResolution, Na
 use Rattle.kernel_steps.specs.Named.{OfOne, OfTwo, IsInference}
 use Rattle.kernel_steps.specs.Parents.{Parent, Parents}
 use Rattle.kernel_steps.specs.Conclusion.{verdict, concludes}
+use Rattle.kernel_steps.specs.Soundness.{binds_each}
+use Rattle.kernel_steps.specs.Symbols.{symbols_pass, clause_symbols_pass}
 use Rattle.kernel_steps.specs.declared.key.Key.{Key}
 use Rattle.kernel_steps.specs.declared.key.Key.TheVariants.{Para, Refl, Factor, Replaced}
 use Rattle.kernel_steps.specs.declared.step.Step.{Step}
@@ -28,6 +31,10 @@ use Rattle.eq_rules.specs.declared.inference.Inference.{Inference}
 -- more symbols than a clause may have that is kept
 abbrev pub is_large : TreeClause → Bool
 is_large c = nat_lt MOST_SYMBOLS (clause_size c)
+
+-- no more symbols than that
+abbrev pub is_small_term : Tree → Bool
+is_small_term t = nat_le (tree_size t) MOST_SYMBOLS
 
 -- the inferences with a conclusion, and whether that or a premise under the unifier is large
 
@@ -79,11 +86,18 @@ bindings_of _ = []
 abbrev pub premises : (ℕ → Option TreeClause) → Parents
 premises clauses n = option_map (λ c. let p : Parent = record { clause = c; introduces = false } in p) (clauses n)
 
+-- the premises of the inference of that name
+abbrev pub IsPremise : (ℕ → Option TreeClause) → Key → TreeClause → Type 0
+IsPremise clauses (Para first from from_side second into into_side place) c = (clauses first ≡ Some c) ⊎ (clauses second ≡ Some c)
+IsPremise clauses (Refl clause literal) c = clauses clause ≡ Some c
+IsPremise clauses (Factor clause becomes becomes_side other other_side) c = clauses clause ≡ Some c
+IsPremise clauses (Replaced clause) c = ⊥
+
 -- ---- what becomes of an inference
 
 -- A conclusion and its step: it is the conclusion of the inference of that name, which isn't heavy; the step makes that inference, and
 -- the kernel's verdict on it is the conclusion. The variables are numbered by first occurrence in the conclusion, and then in what the
--- step puts in.
+-- step puts in. These are small function terms with no symbols but the premises': each test of symbols that the premises pass, they pass.
 pub record IsConcluded
     (is_predicate : ℕ → Bool) (mode : SelectionMode) (clauses : ℕ → Option TreeClause) (key : Key) (by : Step) (c : TreeClause) : Type 0 where
   pub inferred : IsSizedInference is_predicate mode clauses key c false
@@ -91,6 +105,11 @@ pub record IsConcluded
   pub right_step : verdict by (premises clauses) ≡ concludes c
   pub numbered : AreNumberedInOrder (clause_variables c)
   pub bindings_numbered : AreNumberedInOrder (clause_variables c ++ trees_variables (trees_of (bindings_of by)))
+  pub terms : IsTrue (binds_each (is_function_term is_predicate) by)
+  pub small : IsTrue (binds_each is_small_term by)
+  pub symbols :
+      (test : ℕ → ℕ → Bool) → ((d : TreeClause) → IsPremise clauses key d → IsTrue (clause_symbols_pass test d))
+      → IsTrue (binds_each (symbols_pass test) by)
 
 abbrev pub IsMade : (ℕ → Bool) → SelectionMode → (ℕ → Option TreeClause) → Key → Made → Type 0
 IsMade is_predicate mode clauses key (Conclusion by clause) = IsConcluded is_predicate mode clauses key by (clause_of clause)
