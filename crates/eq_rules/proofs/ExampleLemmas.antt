@@ -1,5 +1,6 @@
 -- Proofs of the worked examples.
-use Rattle.std.proofs.Common.{◌≡◌, ℕ, Bool, true, false, ◌&&◌, List, [], ◌∷◌, refl, ap, arith}
+use Rattle.std.proofs.Common.{◌≡◌, ℕ, Bool, true, false, ◌&&◌, List, [], ◌∷◌, refl, ap, sym, arith}
+use Rattle.std.proofs.lemmas.Bool.{true≢false}
 use Rattle.fol_base.specs.Unifier.{IsMostGeneralUnifier}
 use Rattle.fol_base.specs.Canonical.{bound_of}
 use Rattle.fol_base.specs.Examples.{x, a, p, clause, is_predicate, first_is_a}
@@ -13,7 +14,7 @@ use Rattle.kernel_steps.specs.declared.key.Key.TheVariants.{Refl}
 use Rattle.kernel_steps.specs.declared.step.Step.TheVariants as step
 use Rattle.kernel_steps.proofs.InferenceExamples.{argument_of}
 use Rattle.eq_rules.specs.Inferences.{IsConcluded, SizedFactoring, SizedResolution}
-use Rattle.eq_rules.specs.Examples.{found_at_three}
+use Rattle.eq_rules.specs.Examples.{found_at_three, found_at_four}
 use Rattle.eq_rules.specs.Renumbered.{AreNumberedInOrder}
 
 pub resolution : SizedResolution select_negative (clause (disequation (x 0) a ∷ p (x 0) ∷ [])) 0 (clause (p a ∷ [])) false
@@ -66,6 +67,10 @@ concluded = record {
   small = refl;
   symbols = λ test pass. a_passes (test 1 0) (literal_symbols_pass test (p (x 0)) && true) (pass (clause (disequation (x 0) a ∷ p (x 0) ∷ [])) refl);
 }
+
+pub no_predicates_bound :
+    IsConcluded is_predicate select_negative found_at_four (Refl 4 0) (step.Refl 4 0 ((p a).left ∷ (p a).left ∷ [])) (clause (p a ∷ [])) → ⊥
+no_predicates_bound h = true≢false (sym h.terms)
 
 pub not_from_zero : AreNumberedInOrder (1 ∷ []) → ⊥
 not_from_zero h = let e : 2 ≡ 1 = ap (λ (vs : List ℕ). bound_of vs) h in absurd (omega (arith, e))

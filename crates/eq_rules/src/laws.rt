@@ -5,6 +5,7 @@ ghost use Rattle.fol_base.specs.Examples.{x, a, p, clause, is_predicate};
 ghost use Rattle.fol_base.specs.Rules.{disequation};
 ghost use Rattle.fol_base.specs.Selection.{select_negative, select_nothing};
 ghost use Rattle.fol_base.specs.declared.clause.Side.TheVariants.{Left, Right};
+ghost use Rattle.kernel_steps.specs.Conclusion.{concludes, verdict};
 ghost use Rattle.kernel_steps.specs.Examples.{not_true};
 ghost use Rattle.kernel_steps.specs.declared.key.Key.TheVariants.{Factor, Refl};
 ghost use Rattle.kernel_steps.specs.declared.step.Step.TheVariants as step;
@@ -18,8 +19,9 @@ ghost use Rattle.eq_rules.specs.Inferences.{
   is_large,
   is_resolution,
   key_of,
+  premises,
 };
-ghost use Rattle.eq_rules.specs.Examples.{found_at_three};
+ghost use Rattle.eq_rules.specs.Examples.{found_at_four, found_at_three};
 ghost use Rattle.eq_rules.specs.Factoring.{are_alike, factors_before, side_number};
 ghost use Rattle.eq_rules.specs.Renumbered.{AreNumberedInOrder};
 
@@ -31,7 +33,8 @@ pub fn size_examples()
         (clause (p (x 0) ∷ p a ∷ [])) 0 Left 1 Left (clause (not_true ∷ p a ∷ [])) false }
 {}
 
-/// Names and steps: the clause `X0 != a | p(X0)` has the number 3.
+/// Names and steps: the clause `X0 != a | p(X0)` has the number 3, and `X0 != X1 | p(a)` the number 4. A step of this one that puts in atoms
+/// for its variables has the right verdict, and is no step of a conclusion.
 pub fn step_examples()
     ensures of_step { key_of (step.Refl 3 0 (a ∷ [])) ≡ Some (Refl 3 0) }
     ensures of_factoring { key_of (step.Factor 3 0 Left 1 Right []) ≡ Some (Factor 3 0 Left 1 Right) }
@@ -39,6 +42,9 @@ pub fn step_examples()
     ensures bindings { bindings_of (step.Refl 3 0 (a ∷ [])) ≡ a ∷ [] }
     ensures concluded { IsConcluded is_predicate select_negative found_at_three
         (Refl 3 0) (step.Refl 3 0 (a ∷ [])) (clause (p a ∷ [])) }
+    ensures right_with_predicates { verdict (step.Refl 4 0 ((p a).left ∷ (p a).left ∷ [])) (premises found_at_four) ≡ concludes (clause (p a ∷ [])) }
+    ensures no_predicates_bound { ¬ IsConcluded is_predicate select_negative found_at_four
+        (Refl 4 0) (step.Refl 4 0 ((p a).left ∷ (p a).left ∷ [])) (clause (p a ∷ [])) }
     ensures is_resolution { IsTrue (is_resolution (Refl 3 0)) }
     ensures is_no_factoring { IsFalse (is_factoring (Refl 3 0)) }
 {}

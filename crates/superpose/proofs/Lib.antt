@@ -5,6 +5,7 @@ pub mod PlaceLemmas
 pub mod TermsLemmas
 pub mod NumberingLemmas
 pub mod StepLemmas
+pub mod BoundLemmas
 pub mod SuperposeLemmas
 pub mod SizeLemmas
 pub mod ListLemmas

@@ -1,20 +1,20 @@
 -- Superposition from a side into a place, by a most general unifier: where there is none, and what it is where the order allows it.
 use Rattle.std.proofs.Common.{◌≡◌, ◌⊎◌, ℕ, ◌<◌, ◌≤◌, Bool, true, false, ◌&&◌, ◌||◌, Option, None, Some, List, [], ◌++◌, length, map, refl, ap, ap₂, sym, ◌∙◌, subst, inl, inr, ⊎_elim, arith}
 use Rattle.std.specs.Prelude.{sum_by}
-use Rattle.std.specs.List.{AllByRecursion}
+use Rattle.std.specs.List.{AllByRecursion, list_all}
 use Rattle.std.specs.Option.{option_map}
 use Rattle.std.proofs.lemmas.Bool.{true≢false, cond-true, and_from, or_left, or_right, lt-ltb, cases_Bool}
 use Rattle.std.proofs.lemmas.List.{map-append, length-map}
 use Rattle.std.proofs.lemmas.Option.{same_Some}
 use Rattle.plain_types.specs.declared.sequence.NameLit.{NameLit}
-use Rattle.fol_base.specs.Tree.{Tree, trees_of, trees_variables}
+use Rattle.fol_base.specs.Tree.{Tree, tree_size, trees_of, trees_variables}
 use Rattle.fol_base.specs.Instance.{Substitution, instance, substitution}
 use Rattle.fol_base.specs.InstanceLaws.{after}
 use Rattle.fol_base.specs.Place.{subterm}
 use Rattle.fol_base.specs.Clause.{TreeLiteral, TreeClause, LiteralVariablesBelow, literal_size, clause_size, clause_instance, clause_variables}
 use Rattle.fol_base.specs.Ground.{literals_instance}
 use Rattle.fol_base.specs.Canonical.{renaming, bound_of}
-use Rattle.fol_base.specs.Kind.{is_literal}
+use Rattle.fol_base.specs.Kind.{is_function_term, is_literal}
 use Rattle.fol_base.specs.Numbering.{with_variables}
 use Rattle.fol_base.specs.Selection.{SelectionMode, chosen, eligible}
 use Rattle.fol_base.specs.Sides.{side_of}
@@ -25,18 +25,23 @@ use Rattle.fol_base.proofs.InferenceLemmas.{superpositions_in_instances}
 use Rattle.fol_base.proofs.InstanceLemmas.{literals_instance-again}
 use Rattle.fol_base.proofs.KindLemmas.{puts_no_truth}
 use Rattle.fol_base.proofs.NumberingLemmas.{with_variables-have}
+use Rattle.fol_base.proofs.TestLemmas.{list_all-item}
 use Rattle.kernel_steps.specs.Conclusion.{concludes, verdict_of, binding_fault, clause_with, binds, bound_literals, by_two}
 use Rattle.kernel_steps.specs.Inference.{NamedSuperposition}
 use Rattle.kernel_steps.specs.Inference as kernel
 use Rattle.kernel_steps.specs.Names.{sorted_names}
 use Rattle.kernel_steps.specs.Named.{IsInference}
 use Rattle.kernel_steps.specs.Parents.{Parent}
+use Rattle.kernel_steps.specs.Symbols.{symbols_pass, literal_symbols_pass}
 use Rattle.kernel_steps.specs.declared.step.Step.TheVariants as step
+use Rattle.kernel_steps.proofs.SymbolLemmas.{side-passes}
 use Rattle.unifier.specs.Renaming.{AreRenamed}
 use Rattle.unifier.specs.SolvedForm.{SolvedForm, substitution_of}
 use Rattle.unifier.proofs.SharedLemmas.{shared_put_function_terms}
-use Rattle.eq_rules.specs.Inferences.{is_large, SizedSuperposition, IsConcluded, IsMade, premises}
+use Rattle.eq_rules.specs.Inferences.{is_large, is_small_term, SizedSuperposition, IsConcluded, IsMade, premises}
 use Rattle.eq_rules.specs.declared.inference.Made.TheVariants.{Heavy}
+use Rattle.eq_rules.proofs.BindingLemmas.{bound_functions, bound_small, bound_symbols}
+use Rattle.eq_rules.proofs.FactorAnswers.{part_size, sides_size}
 use Rattle.eq_rules.proofs.ConclusionLemmas.{conclusion_numbered, bindings_numbered, binds_renamed, numbered-has}
 use Rattle.eq_rules.proofs.PremiseLemmas.{not_large}
 use Rattle.eq_rules.proofs.SideLemmas.{Kinds}
@@ -48,6 +53,7 @@ use Rattle.superpose.specs.declared.sites.LiteralSide.{LiteralSide}
 use Rattle.superpose.specs.declared.sites.LiteralPlace.{LiteralPlace}
 use Rattle.superpose.proofs.AllowLemmas.{Allowed, allows-parts, allows-from, allowed_lifts, coincide_says, named-allowed}
 use Rattle.superpose.proofs.ApartLemmas.{wide_by, left_fresh, right_fresh, wide_by-literals, wide_by-back, wide_apart}
+use Rattle.superpose.proofs.BoundLemmas.{binds_two, subterm-passes, left_terms_small, right_terms_small, left_terms_pass, right_terms_pass}
 use Rattle.superpose.proofs.KindLemmas.{kinds-alike}
 use Rattle.superpose.proofs.StepLemmas.{appended_variables}
 use Rattle.superpose.proofs.TermsLemmas.{left-many, right-many, left-below, right-below, s-below, old-below, general, left-size, right-size, plain, superposition_gives}
@@ -341,6 +347,10 @@ module _
           let put =
           shared_put_function_terms p true (side_of s.side l) r.enters.old b (bound_of (clause_variables c)) (bound_of (clause_variables d)) left right
           kinds.unifier r.unified h in
+          let part = part_size (substitution left) c.literals s.literal l r.starts.there in
+          let sides = sides_size (substitution left) s.side l in
+          let side_small : tree_size (instance (substitution left) (side_of s.side l)) ≤ MOST_SYMBOLS =
+          omega (arith, part, sides, left-size c s d t b r left right h, first_small) in
           let renamed : first_bind ++ second_bind ≡ map (instance (renaming g.order)) (left ++ right) =
           ap₂ ◌++◌ g.first_renamed g.second_renamed ∙ sym (map-append (instance (renaming g.order)) left right) in
           record {
@@ -367,4 +377,24 @@ module _
                 g.gives g.names;
             numbered = conclusion_numbered g.plain (trees_variables (trees_of (left ++ right))) g.order e g.met e_is;
             bindings_numbered = bindings_numbered g.plain (left ++ right) (first_bind ++ second_bind) g.order e g.met renamed e_is;
+            terms =
+                binds_two (list_all (is_function_term p) first_bind) (list_all (is_function_term p) second_bind)
+                (bound_functions p g.order left first_bind g.first_renamed put.0)
+                (bound_functions p g.order right second_bind g.second_renamed put.1);
+            small =
+                binds_two (list_all is_small_term first_bind) (list_all is_small_term second_bind)
+                (bound_small g.order left first_bind g.first_renamed
+                (left_terms_small (side_of s.side l) r.enters.old left right (general c s d t b r left right h) MOST_SYMBOLS side_small (omega arith)))
+                (bound_small g.order right second_bind g.second_renamed
+                (right_terms_small (side_of s.side l) r.enters.old left right (general c s d t b r left right h) MOST_SYMBOLS side_small (omega arith)));
+            symbols = λ test pass.
+                let l_passes = list_all-item (literal_symbols_pass test) c.literals s.literal l r.starts.there (pass c (inl there)) in
+                let m_passes = list_all-item (literal_symbols_pass test) d.literals t.at.literal m r.enters.there (pass d (inr partner_there)) in
+                let s_passes = side-passes test s.side l l_passes in
+                let old_passes = subterm-passes test t.place (side_of t.at.side m) r.enters.old r.enters.old_there (side-passes test t.at.side m m_passes) in
+                binds_two (list_all (symbols_pass test) first_bind) (list_all (symbols_pass test) second_bind)
+                (bound_symbols test g.order left first_bind g.first_renamed
+                (left_terms_pass (side_of s.side l) r.enters.old left right (general c s d t b r left right h) test s_passes old_passes))
+                (bound_symbols test g.order right second_bind g.second_renamed
+                (right_terms_pass (side_of s.side l) r.enters.old left right (general c s d t b r left right h) test s_passes old_passes));
           }
