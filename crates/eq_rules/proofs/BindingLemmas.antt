@@ -13,7 +13,7 @@ use Rattle.fol_base.proofs.KindLemmas.{is_function_term-instance}
 use Rattle.fol_base.proofs.TestLemmas.{list_all-map_from}
 use Rattle.kernel_steps.specs.Symbols.{symbols_pass, all_symbols_pass}
 use Rattle.eq_rules.specs.Concluding.{IsGeneralBelow}
-use Rattle.eq_rules.specs.Inferences.{is_small_term}
+use Rattle.kernel_steps.specs.Lines.{is_small_term}
 use Rattle.eq_rules.proofs.WideLemmas.{renamed-size}
 
 abbrev pub SymbolTest : Type 0

@@ -13,7 +13,8 @@ use Rattle.kernel_steps.specs.Symbols.{literal_symbols_pass}
 use Rattle.kernel_steps.specs.declared.key.Key.TheVariants.{Refl}
 use Rattle.kernel_steps.specs.declared.step.Step.TheVariants as step
 use Rattle.kernel_steps.proofs.InferenceExamples.{argument_of}
-use Rattle.eq_rules.specs.Inferences.{IsConcluded, SizedFactoring, SizedResolution}
+use Rattle.kernel_steps.specs.Sized.{SizedFactoring, SizedResolution}
+use Rattle.eq_rules.specs.Inferences.{IsConcluded}
 use Rattle.eq_rules.specs.Examples.{found_at_three, found_at_four}
 use Rattle.eq_rules.specs.Renumbered.{AreNumberedInOrder}
 

@@ -37,7 +37,9 @@ use Rattle.kernel_steps.specs.declared.step.Step.TheVariants as step
 use Rattle.kernel_steps.proofs.SymbolLemmas.{side-passes}
 use Rattle.unifier.specs.Renaming.{AreRenamed}
 use Rattle.unifier.proofs.SharedLemmas.{shared_put_function_terms}
-use Rattle.eq_rules.specs.Inferences.{is_large, is_small_term, SizedFactoring, IsConcluded, IsMade, premises}
+use Rattle.kernel_steps.specs.Sized.{is_large, SizedFactoring}
+use Rattle.kernel_steps.specs.Lines.{is_small_term, clause_parents}
+use Rattle.eq_rules.specs.Inferences.{IsConcluded, IsMade}
 use Rattle.eq_rules.specs.Concluding.{GivesNumbered}
 use Rattle.eq_rules.specs.Factoring.{FactorsBy, factor_key}
 use Rattle.eq_rules.specs.declared.concluding.FactorPlace.{FactorPlace}
@@ -335,7 +337,7 @@ module _
           };
           of_key = refl;
           right_step =
-              verdict_by_one (premises clauses) number c d bind rule
+              verdict_by_one (clause_parents clauses) number c d bind rule
               (ap (option_map (λ q. let o : Parent = record { clause = q; introduces = false } in o)) there)
               (binds_renamed c g.order terms bind g.renamed many below
               (puts_no_truth p (substitution terms) put) terms_small)

@@ -31,7 +31,9 @@ use Rattle.kernel_steps.specs.declared.key.Key.TheVariants.{Refl}
 use Rattle.kernel_steps.specs.declared.step.Step.TheVariants as step
 use Rattle.kernel_steps.proofs.SymbolLemmas.{side-passes}
 use Rattle.unifier.specs.Renaming.{AreRenamed}
-use Rattle.eq_rules.specs.Inferences.{is_large, is_small_term, IsConcluded, IsMade, premises}
+use Rattle.kernel_steps.specs.Sized.{is_large}
+use Rattle.kernel_steps.specs.Lines.{is_small_term, clause_parents}
+use Rattle.eq_rules.specs.Inferences.{IsConcluded, IsMade}
 use Rattle.eq_rules.specs.Concluding.{GivesNumbered, other_chosen}
 use Rattle.eq_rules.specs.Unified.{ResolvesBy}
 use Rattle.eq_rules.specs.declared.inference.Made.TheVariants.{Heavy}
@@ -226,7 +228,7 @@ module _
           };
           of_key = refl;
           right_step =
-              verdict_by_one (premises clauses) number c d bind (λ ms. resolved ms i)
+              verdict_by_one (clause_parents clauses) number c d bind (λ ms. resolved ms i)
               (ap (option_map (λ q. let o : Parent = record { clause = q; introduces = false } in o)) there)
               (binds_renamed c g.order terms bind g.renamed many below
               (sides_no_truth p r.literal b (bound_of (clause_variables c)) terms right kind r.unified h) terms_small)

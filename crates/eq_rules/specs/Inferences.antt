@@ -1,17 +1,15 @@
 -- Inferences of clauses by their names, each with what becomes of it: which are made, which are set aside for their size, and lists of
 -- exactly those of some names (Bachmair and Ganzinger 1994).
-use Rattle.std.specs.Prelude.{◌≡◌, ◌⊎◌, ℕ, Bool, true, false, ◌||◌, ◌==◌, nat_lt, nat_le, List, [], ◌++◌, All, Contains, slice_get, Option, None, Some, option_map, IsTrue, if◌then◌else◌}
-use Rattle.fol_base.specs.Tree.{Tree, tree_size, trees_of, trees_variables}
-use Rattle.fol_base.specs.Clause.{TreeClause, clause_size, clause_instance, clause_variables}
+use Rattle.std.specs.Prelude.{◌≡◌, ◌⊎◌, ℕ, Bool, true, false, ◌==◌, List, [], ◌++◌, All, Contains, slice_get, Option, None, Some, IsTrue, if◌then◌else◌}
+use Rattle.fol_base.specs.Tree.{Tree, trees_of, trees_variables}
+use Rattle.fol_base.specs.Clause.{TreeClause, clause_variables}
 use Rattle.fol_base.specs.Kind.{is_function_term}
 use Rattle.fol_base.specs.Literal.{clause_of}
 use Rattle.fol_base.specs.Selection.{SelectionMode}
 use Rattle.fol_base.specs.WellFormed.{SymbolUse, are_literals_of}
-use Rattle.fol_base.specs.declared.clause.Side.{Side}
-use Rattle.fol_base.specs.declared.limits.TheConstants.{MOST_SYMBOLS}
-use Rattle.kernel_steps.specs.Inference.{NamedSuperposition, NamedResolution, NamedFactoring}
-use Rattle.kernel_steps.specs.Named.{OfOne, OfTwo, IsInference}
-use Rattle.kernel_steps.specs.Parents.{Parent, Parents}
+use Rattle.kernel_steps.specs.Named.{IsInference}
+use Rattle.kernel_steps.specs.Sized.{IsSizedInference}
+use Rattle.kernel_steps.specs.Lines.{clause_parents, key_of, is_small_term}
 use Rattle.kernel_steps.specs.Conclusion.{verdict, concludes}
 use Rattle.kernel_steps.specs.Soundness.{binds_each}
 use Rattle.kernel_steps.specs.Symbols.{symbols_pass, clause_symbols_pass}
@@ -26,54 +24,7 @@ use Rattle.eq_rules.specs.declared.inference.Made.{Made}
 use Rattle.eq_rules.specs.declared.inference.Made.TheVariants.{Conclusion, Heavy}
 use Rattle.eq_rules.specs.declared.inference.Inference.{Inference}
 
--- ---- sizes
-
--- more symbols than a clause may have that is kept
-abbrev pub is_large : TreeClause → Bool
-is_large c = nat_lt MOST_SYMBOLS (clause_size c)
-
--- no more symbols than that
-abbrev pub is_small_term : Tree → Bool
-is_small_term t = nat_le (tree_size t) MOST_SYMBOLS
-
--- the inferences with a conclusion, and whether that or a premise under the unifier is large
-
-pub record SizedSuperposition
-    (is_predicate : ℕ → Bool) (mode : SelectionMode) (first : TreeClause) (i : ℕ) (from_side : Side)
-    (second : TreeClause) (j : ℕ) (into_side : Side) (place : List ℕ) (conclusion : TreeClause) (heavy : Bool) : Type 0 where
-  pub named : NamedSuperposition is_predicate mode first i from_side second j into_side place conclusion
-  pub size :
-      (is_large (clause_instance named.first_unifier first) || (is_large (clause_instance named.second_unifier second) || is_large conclusion))
-      ≡ heavy
-
-pub record SizedResolution (mode : SelectionMode) (c : TreeClause) (i : ℕ) (conclusion : TreeClause) (heavy : Bool) : Type 0 where
-  pub named : NamedResolution mode c i conclusion
-  pub size : (is_large (clause_instance named.unifier c) || is_large conclusion) ≡ heavy
-
-pub record SizedFactoring
-    (is_predicate : ℕ → Bool) (mode : SelectionMode) (c : TreeClause) (i : ℕ) (side_i : Side) (j : ℕ) (side_j : Side)
-    (conclusion : TreeClause) (heavy : Bool) : Type 0 where
-  pub named : NamedFactoring is_predicate mode c i side_i j side_j conclusion
-  pub size : (is_large (clause_instance named.unifier c) || is_large conclusion) ≡ heavy
-
--- The inference of that name has this conclusion, and is heavy or not.
-abbrev pub IsSizedInference : (ℕ → Bool) → SelectionMode → (ℕ → Option TreeClause) → Key → TreeClause → Bool → Type 0
-IsSizedInference is_predicate mode clauses (Para first from from_side second into into_side place) c heavy =
-    OfTwo clauses first second (λ p q. SizedSuperposition is_predicate mode p from from_side q into into_side place c heavy)
-IsSizedInference is_predicate mode clauses (Refl clause literal) c heavy = OfOne clauses clause (λ p. SizedResolution mode p literal c heavy)
-IsSizedInference is_predicate mode clauses (Factor clause becomes becomes_side other other_side) c heavy =
-    OfOne clauses clause (λ p. SizedFactoring is_predicate mode p becomes becomes_side other other_side c heavy)
-IsSizedInference is_predicate mode clauses (Replaced clause) c heavy = ⊥
-
 -- ---- steps
-
--- the name of the inference that a step makes, where its parents are clause numbers
-abbrev pub key_of : Step → Option Key
-key_of (step.Para first second from from_side into into_side place first_bind second_bind) =
-    Some (Para first from from_side second into into_side place)
-key_of (step.Refl parent literal bind) = Some (Refl parent literal)
-key_of (step.Factor parent becomes becomes_side other other_side bind) = Some (Factor parent becomes becomes_side other other_side)
-key_of _ = None
 
 -- the terms that it puts in, one premise after another
 abbrev pub bindings_of : Step → List Tree
@@ -81,10 +32,6 @@ bindings_of (step.Para first second from from_side into into_side place first_bi
 bindings_of (step.Refl parent literal bind) = bind
 bindings_of (step.Factor parent becomes becomes_side other other_side bind) = bind
 bindings_of _ = []
-
--- clauses as the parents of a step
-abbrev pub premises : (ℕ → Option TreeClause) → Parents
-premises clauses n = option_map (λ c. let p : Parent = record { clause = c; introduces = false } in p) (clauses n)
 
 -- the premises of the inference of that name
 abbrev pub IsPremise : (ℕ → Option TreeClause) → Key → TreeClause → Type 0
@@ -102,7 +49,7 @@ pub record IsConcluded
     (is_predicate : ℕ → Bool) (mode : SelectionMode) (clauses : ℕ → Option TreeClause) (key : Key) (by : Step) (c : TreeClause) : Type 0 where
   pub inferred : IsSizedInference is_predicate mode clauses key c false
   pub of_key : key_of by ≡ Some key
-  pub right_step : verdict by (premises clauses) ≡ concludes c
+  pub right_step : verdict by (clause_parents clauses) ≡ concludes c
   pub numbered : AreNumberedInOrder (clause_variables c)
   pub bindings_numbered : AreNumberedInOrder (clause_variables c ++ trees_variables (trees_of (bindings_of by)))
   pub terms : IsTrue (binds_each (is_function_term is_predicate) by)

@@ -9,18 +9,9 @@ ghost use Rattle.kernel_steps.specs.Conclusion.{concludes, verdict};
 ghost use Rattle.kernel_steps.specs.Examples.{not_true};
 ghost use Rattle.kernel_steps.specs.declared.key.Key.TheVariants.{Factor, Refl};
 ghost use Rattle.kernel_steps.specs.declared.step.Step.TheVariants as step;
-ghost use Rattle.eq_rules.specs.Inferences.{
-  IsConcluded,
-  IsSizedInference,
-  SizedFactoring,
-  SizedResolution,
-  bindings_of,
-  is_factoring,
-  is_large,
-  is_resolution,
-  key_of,
-  premises,
-};
+ghost use Rattle.kernel_steps.specs.Sized.{IsSizedInference, SizedFactoring, SizedResolution, is_large};
+ghost use Rattle.kernel_steps.specs.Lines.{key_of, clause_parents};
+ghost use Rattle.eq_rules.specs.Inferences.{IsConcluded, bindings_of, is_factoring, is_resolution};
 ghost use Rattle.eq_rules.specs.Examples.{found_at_four, found_at_three};
 ghost use Rattle.eq_rules.specs.Factoring.{are_alike, factors_before, side_number};
 ghost use Rattle.eq_rules.specs.Renumbered.{AreNumberedInOrder};
@@ -42,7 +33,7 @@ pub fn step_examples()
     ensures bindings { bindings_of (step.Refl 3 0 (a ∷ [])) ≡ a ∷ [] }
     ensures concluded { IsConcluded is_predicate select_negative found_at_three
         (Refl 3 0) (step.Refl 3 0 (a ∷ [])) (clause (p a ∷ [])) }
-    ensures right_with_predicates { verdict (step.Refl 4 0 ((p a).left ∷ (p a).left ∷ [])) (premises found_at_four) ≡ concludes (clause (p a ∷ [])) }
+    ensures right_with_predicates { verdict (step.Refl 4 0 ((p a).left ∷ (p a).left ∷ [])) (clause_parents found_at_four) ≡ concludes (clause (p a ∷ [])) }
     ensures no_predicates_bound { ¬ IsConcluded is_predicate select_negative found_at_four
         (Refl 4 0) (step.Refl 4 0 ((p a).left ∷ (p a).left ∷ [])) (clause (p a ∷ [])) }
     ensures is_resolution { IsTrue (is_resolution (Refl 3 0)) }

@@ -10,4 +10,7 @@ pub mod Symbols
 pub mod Inference
 pub mod Keys
 pub mod Named
+pub mod Sized
+pub mod Lines
+pub mod Moves
 pub mod Examples

@@ -15,7 +15,9 @@ use Rattle.calculus.specs.Lifting.{among}
 use Rattle.pool_core.specs.Record.{PoolRecord, Death, has_died, lives}
 use Rattle.pool_core.specs.Counting.{refutes, spends, counts, result_comes}
 use Rattle.pool_core.specs.Returning.{dies, replaced}
-use Rattle.pool_core.specs.Reduction.{Lookup, Move, AreMoves, IsMove, units_of, clauses_used, parent_numbers, IsRedundant, subsumers, same_numbers}
+use Rattle.kernel_steps.specs.Lines.{clauses_named}
+use Rattle.kernel_steps.specs.Moves.{Move, AreMoves, IsMove, units_of}
+use Rattle.pool_core.specs.Reduction.{Lookup, clauses_used, IsRedundant, subsumers, same_numbers}
 use Rattle.pool_core.specs.Laws.{is_justified, are_justified, is_known}
 use Rattle.pool_core.specs.declared.options.Options.{Options}
 use Rattle.pool_core.specs.declared.batch.Fate.{Fate}
@@ -219,11 +221,7 @@ module _ (is_predicate : ℕ → Bool) (clauses : Lookup) (told : ℕ → Bool) 
 
 -- what is used beside the victim
 pub used-others : (victim : ℕ) (lines : List Line) → are_others victim (clauses_used victim lines) ≡ true
-used-others victim lines = among-kept (flat_map (λ (l : Line). parent_numbers l.step) lines)
-  where
-    among-kept : (ns : List ℕ) → are_others victim (filter (λ n. nat_lt n CLAUSE_NUMBERS && not (n == victim)) ns) ≡ true
-    among-kept ns = kept-pass (λ n. nat_lt n CLAUSE_NUMBERS && not (n == victim)) (λ n. not (n == victim))
-        (λ n h. (and_parts (nat_lt n CLAUSE_NUMBERS) (not (n == victim)) h).1) ns
+used-others victim lines = kept-pass (λ n. not (n == victim)) (λ n. not (n == victim)) (λ n h. h) (clauses_named lines)
 
 pub append-others : (victim : ℕ) (ns ms : List ℕ) → are_others victim ns ≡ true → are_others victim ms ≡ true → are_others victim (ns ++ ms) ≡ true
 append-others victim [] ms one other = other

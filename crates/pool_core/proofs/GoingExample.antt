@@ -19,13 +19,14 @@ use Rattle.fol_base.proofs.RuleLemmas.{resolved-parts, merged-parts}
 use Rattle.kernel_steps.specs.Conclusion.{verdict, concludes}
 use Rattle.kernel_steps.specs.Derivation.{complement, continued}
 use Rattle.kernel_steps.specs.Inference.{RewritesBy, CutsBy, Reduces}
+use Rattle.kernel_steps.specs.Lines.{clause_parents, IsNumbered}
 use Rattle.kernel_steps.specs.Symbols.{symbols_pass, clause_symbols_pass}
 use Rattle.kernel_steps.specs.declared.step.TheConstants.{CLAUSE_NUMBERS}
 use Rattle.kernel_steps.specs.declared.step.Line.{Line}
 use Rattle.calculus.specs.Lifting.{among, IsMember}
 use Rattle.pool_core.specs.Record.{GivenJob, clauses_of}
 use Rattle.pool_core.specs.Lines.{line_of}
-use Rattle.pool_core.specs.Reduction.{Lookup, parents_of, IsNumbered, AreLinesFrom}
+use Rattle.pool_core.specs.Reduction.{Lookup, AreLinesFrom}
 use Rattle.pool_core.specs.Batches.{is_told_beside, told_clauses, IsReducedBeside, IsRightGone}
 use Rattle.pool_core.specs.Lawful.{IsLawful}
 use Rattle.pool_core.specs.Replay.{start}
@@ -86,11 +87,14 @@ symbols-pass test of_unit of_victim =
 
 are_lines : AreLinesFrom is_predicate (told_clauses is_predicate rewrites.options registered job) (the_line ∷ [])
 are_lines = record {
-  kinds = refl;
-  steps = steps;
-  numbered = All-cons IsNumbered the_line [] (record { canonical = refl; bindings = refl }) (All-nil _);
-  terms = refl;
-  small = refl;
+  lines_right =
+      record {
+        kinds = refl;
+        steps = steps;
+        numbered = All-cons IsNumbered the_line [] (record { canonical = refl; bindings = refl }) (All-nil _);
+        terms = refl;
+        small = refl;
+      };
   symbols = λ test truth each. (
     and_from (clause_symbols_pass test (clause (result ∷ []))) true
         (symbols-pass test (each 0 (clause (unit ∷ [])) refl) (each 1 (clause (equation (f a) c ∷ [])) refl)) refl,
@@ -100,10 +104,10 @@ are_lines = record {
   where
     steps :
         (n : ℕ) (l : Line) → slice_get (the_line ∷ []) n ≡ Some l
-        → verdict l.step (continued CLAUSE_NUMBERS (parents_of (told_clauses is_predicate rewrites.options registered job)) (take n (the_line ∷ [])))
+        → verdict l.step (continued CLAUSE_NUMBERS (clause_parents (told_clauses is_predicate rewrites.options registered job)) (take n (the_line ∷ [])))
         ≡ concludes (clause_of l.clause)
     steps zero l there =
-        subst (λ (k : Line). verdict k.step (continued CLAUSE_NUMBERS (parents_of (told_clauses is_predicate rewrites.options registered job)) []) ≡ concludes (clause_of k.clause))
+        subst (λ (k : Line). verdict k.step (continued CLAUSE_NUMBERS (clause_parents (told_clauses is_predicate rewrites.options registered job)) []) ≡ concludes (clause_of k.clause))
         (same_Some the_line l there) refl
     steps (suc n) l there = absurd (none-some l there)
 
@@ -216,7 +220,7 @@ going = record {
               moved = (
                 record {
                   result = clause (result ∷ []);
-                  step = record { clause = clause (unit ∷ []); there = refl; does = inl rewriting };
+                  step = record { clause = clause (unit ∷ []); there = refl; infers = inl rewriting };
                   canonical = refl;
                 },
                 tt,

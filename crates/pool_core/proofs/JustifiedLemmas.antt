@@ -12,7 +12,8 @@ use Rattle.pool_core.specs.Returning.{dies, removed, takes_effect, proposed, bec
 use Rattle.pool_core.specs.Solving.{modelled_by, refuted_by}
 use Rattle.pool_core.specs.Claiming.{next_given, given_out, claimed_by}
 use Rattle.pool_core.specs.Replay.{change_by, after, start, replay}
-use Rattle.pool_core.specs.Reduction.{Lookup, end_of, units_of, clauses_used, subsumers}
+use Rattle.kernel_steps.specs.Moves.{end_of_moves, units_of}
+use Rattle.pool_core.specs.Reduction.{Lookup, clauses_used, subsumers}
 use Rattle.pool_core.specs.Batches.{is_told, IsRightRemovalBy, IsRightRemoval, IsRightWork}
 use Rattle.pool_core.specs.Lawful.{justifiers_live, IsTaken, IsAllowed, IsLawfulFrom}
 use Rattle.pool_core.specs.Laws.{is_known, DeathsAreJustified}
@@ -43,7 +44,7 @@ module _ (is_predicate : ℕ → Bool) (options : Options) where
       same-others victim justifiers (units_of right.moves ++ subsumers redundancy) right.justified
       (append-others victim (units_of right.moves) (subsumers redundancy)
       (units-others is_predicate clauses (is_told j) victim right.clause right.moves right.moved)
-      (subsumers-others is_predicate clauses (is_told j) victim (end_of right.clause right.moves) redundancy right.redundant))
+      (subsumers-others is_predicate clauses (is_told j) victim (end_of_moves right.clause right.moves) redundancy right.redundant))
   removal-others clauses j victim justifiers Heavy right = absurd right
 
   removed-events : (m : Removal) (r : PoolRecord) → (removed options m r).events ≡ r.events

@@ -6,7 +6,7 @@ use Rattle.std.proofs.lemmas.Option.{none-some}
 use Rattle.fol_base.specs.Examples.{x, a, p, equation, clause, all_a, is_predicate}
 use Rattle.fol_base.specs.Subsumption.{is_among}
 use Rattle.pool_core.specs.Lawful.{IsLawful}
-use Rattle.pool_core.specs.Reduction.{units_of}
+use Rattle.kernel_steps.specs.Moves.{units_of}
 use Rattle.pool_core.specs.Examples.{pool_of, three, split, justified, removing, return, removal}
 use Rattle.pool_core.specs.declared.batch.Fate.TheVariants.{Dropped}
 use Rattle.pool_core.specs.declared.batch.Redundancy.TheVariants.{Tautology, Subsumed}
@@ -64,7 +64,7 @@ subsumed_goes = (
                       record {
                         clause = clause (p (x 0) ∷ []);
                         there = refl;
-                        does =
+                        infers =
                             record {
                               matcher = all_a;
                               function_terms = λ v. refl;

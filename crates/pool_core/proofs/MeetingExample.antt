@@ -144,7 +144,7 @@ none_among_r (Replaced k) d it = it
 
 meeting : IsRightMeeting is_predicate alone.options registered job [] []
 meeting = record {
-  given_irreducible = record { clause = the_clause; there = refl; does = irreducible };
+  given_irreducible = record { clause = the_clause; there = refl; infers = irreducible };
   keys_differ = λ i j d before within. absurd (omega (arith, within));
   keys_met = refl;
   right_entries = All-nil _;

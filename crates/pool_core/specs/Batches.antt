@@ -1,16 +1,16 @@
 -- When a batch is right for the job of a given clause.
-use Rattle.std.specs.Prelude.{◌≡◌, ◌≢◌, ◌⊎◌, ℕ, ◌≤◌, Bool, true, false, not, ◌&&◌, ◌||◌, ◌==◌, nat_lt, List, [], ◌∷◌, ◌++◌, map, length, take_while, All, AllPairs, Contains, Some, IsTrue}
+use Rattle.std.specs.Prelude.{◌≡◌, ◌≢◌, ◌⊎◌, ℕ, ◌≤◌, Bool, true, false, not, ◌&&◌, ◌||◌, ◌==◌, List, [], ◌∷◌, ◌++◌, map, length, take_while, All, AllPairs, Contains, Some, IsTrue}
 use Rattle.std.specs.List.{list_any, list_all}
-use Rattle.fol_base.specs.Clause.{TreeClause, clause_size, clause_instance}
+use Rattle.fol_base.specs.Clause.{TreeClause}
 use Rattle.fol_base.specs.Literal.{clause_of}
-use Rattle.fol_base.specs.Selection.{SelectionMode}
 use Rattle.fol_base.specs.Subsumption.{Subsumes}
-use Rattle.fol_base.specs.declared.limits.TheConstants.{MOST_SYMBOLS}
 use Rattle.kernel_steps.specs.Split.{has_number}
 use Rattle.kernel_steps.specs.Inference.{RewritesBy, CutsBy, IsIrreducible}
-use Rattle.kernel_steps.specs.Named.{IsInference}
+use Rattle.kernel_steps.specs.Named.{OfOne, IsInference}
+use Rattle.kernel_steps.specs.Sized.{IsSizedInference}
+use Rattle.kernel_steps.specs.Lines.{key_of}
+use Rattle.kernel_steps.specs.Moves.{Move, AreMoves, end_of_moves, units_of}
 use Rattle.kernel_steps.specs.declared.key.Key.{Key}
-use Rattle.kernel_steps.specs.declared.key.Key.TheVariants.{Para, Refl, Factor, Replaced}
 use Rattle.kernel_steps.specs.declared.step.Line.{Line}
 use Rattle.literal_selection.specs.Mode.{mode_of}
 use Rattle.calculus.specs.Lifting.{among, IsMember}
@@ -18,7 +18,7 @@ use Rattle.pool_core.specs.Record.{GivenJob}
 use Rattle.pool_core.specs.Lines.{result_of}
 use Rattle.pool_core.specs.Counting.{keys_of}
 use Rattle.pool_core.specs.Outcomes.{premises}
-use Rattle.pool_core.specs.Reduction.{Lookup, Numbered, Move, AreMoves, end_of, units_of, AreLinesFrom, clauses_used, key_of, handed_back, IsRedundant, subsumers, same_numbers}
+use Rattle.pool_core.specs.Reduction.{Lookup, AreLinesFrom, clauses_used, handed_back, IsRedundant, subsumers, same_numbers}
 use Rattle.pool_core.specs.declared.options.Options.{Options}
 use Rattle.pool_core.specs.declared.batch.Entry.{Entry}
 use Rattle.pool_core.specs.declared.batch.Fate.{Fate}
@@ -41,36 +41,12 @@ is_told_beside j victim n = is_told j n && not (n == victim)
 abbrev pub told_before : GivenJob → List ℕ
 told_before j = take_while (λ n. not (n == j.number)) j.told
 
--- ---- heavy inferences
-
--- an inference's premises under its unifier, and its conclusion
-abbrev pub bound_clauses :
-    (is_predicate : ℕ → Bool) (mode : SelectionMode) (clauses : Lookup) (key : Key) (c : TreeClause)
-    → IsInference is_predicate mode clauses key c → List TreeClause
-bound_clauses is_predicate mode clauses (Para first from from_side second into into_side place) c i =
-    clause_instance i.infers.first_unifier i.first_clause ∷ clause_instance i.infers.second_unifier i.second_clause ∷ c ∷ []
-bound_clauses is_predicate mode clauses (Refl clause literal) c i = clause_instance i.infers.unifier i.clause ∷ c ∷ []
-bound_clauses is_predicate mode clauses (Factor clause becomes becomes_side other other_side) c i =
-    clause_instance i.infers.unifier i.clause ∷ c ∷ []
-bound_clauses is_predicate mode clauses (Replaced clause) c i = absurd i
-
--- one of them has over 4,000 symbols
-abbrev pub is_heavy :
-    (is_predicate : ℕ → Bool) (mode : SelectionMode) (clauses : Lookup) (key : Key) (c : TreeClause)
-    → IsInference is_predicate mode clauses key c → Bool
-is_heavy is_predicate mode clauses key c i = list_any (λ d. nat_lt MOST_SYMBOLS (clause_size d)) (bound_clauses is_predicate mode clauses key c i)
-
--- The inference of that name has the conclusion, and is heavy or not.
-abbrev pub IsSized : (ℕ → Bool) → SelectionMode → Lookup → Key → TreeClause → Bool → Type 0
-IsSized is_predicate mode clauses key c heavy =
-    (i : IsInference is_predicate mode clauses key c) × (is_heavy is_predicate mode clauses key c i ≡ heavy)
-
 -- ---- a clause that is reduced
 
 -- Moves lead from c to the result, to which the lines lead.
 pub record IsReducedTo (is_predicate : ℕ → Bool) (clauses : Lookup) (c : TreeClause) (moves : List Move) (lines : List Line) (result : TreeClause) : Type 0 where
   pub moved : AreMoves is_predicate clauses c moves
-  pub ends : end_of c moves ≡ result
+  pub ends : end_of_moves c moves ≡ result
   pub led : result_of lines ≡ Some result
 
 -- ---- entries
@@ -97,7 +73,7 @@ module _ (is_predicate : ℕ → Bool) (options : Options) (clauses : Lookup) (j
     pub others : List Line
     pub begins : lines ≡ first ∷ others
     pub of_key : key_of first.step ≡ Some key
-    pub inferred : IsSized is_predicate (mode_of options.select) told_clauses key (clause_of first.clause) false
+    pub inferred : IsSizedInference is_predicate (mode_of options.select) told_clauses key (clause_of first.clause) false
     pub are_lines : AreLinesFrom is_predicate told_clauses lines
     pub moves : List Move
     pub result : TreeClause
@@ -108,16 +84,16 @@ module _ (is_predicate : ℕ → Bool) (options : Options) (clauses : Lookup) (j
   -- moves by told clauses lead from the conclusion to a clause that is a tautology, or that the told clause of a number subsumes
   pub record IsRightlyDropped (key : Key) (redundancy : Redundancy) : Type 0 where
     pub conclusion : TreeClause
-    pub inferred : IsSized is_predicate (mode_of options.select) told_clauses key conclusion false
+    pub inferred : IsSizedInference is_predicate (mode_of options.select) told_clauses key conclusion false
     pub moves : List Move
     pub moved : AreMoves is_predicate told_clauses conclusion moves
-    pub redundant : IsRedundant is_predicate told_clauses (end_of conclusion moves) redundancy
+    pub redundant : IsRedundant is_predicate told_clauses (end_of_moves conclusion moves) redundancy
 
   -- it is set aside exactly where it is heavy
   abbrev pub IsRightFate : Key → Fate → Type 0
   IsRightFate key (Kept lines results) = IsRightlyKept key lines (map clause_of results)
   IsRightFate key (Dropped redundancy) = IsRightlyDropped key redundancy
-  IsRightFate key Heavy = (c : TreeClause) × IsSized is_predicate (mode_of options.select) told_clauses key c true
+  IsRightFate key Heavy = (c : TreeClause) × IsSizedInference is_predicate (mode_of options.select) told_clauses key c true
 
   -- ---- removals
 
@@ -140,7 +116,7 @@ module _ (is_predicate : ℕ → Bool) (options : Options) (clauses : Lookup) (j
     pub there : told_clauses victim ≡ Some clause
     pub moves : List Move
     pub moved : AreMoves is_predicate (clauses_beside victim) clause moves
-    pub redundant : IsRedundant is_predicate (clauses_beside victim) (end_of clause moves) redundancy
+    pub redundant : IsRedundant is_predicate (clauses_beside victim) (end_of_moves clause moves) redundancy
     pub justified : IsTrue (same_numbers justifiers (units_of moves ++ subsumers redundancy))
 
   -- a told clause goes
@@ -190,7 +166,7 @@ module _ (is_predicate : ℕ → Bool) (options : Options) (clauses : Lookup) (j
 
   -- the given clause stays
   pub record IsRightMeeting (entries : List Entry) (removals : List Removal) : Type 0 where
-    pub given_irreducible : Numbered told_clauses j.number (IsReducedBeside j.number)
+    pub given_irreducible : OfOne told_clauses j.number (IsReducedBeside j.number)
     pub keys_differ : AllPairs (λ k l. k ≢ l) (keys_of entries)
     pub keys_met : IsTrue (list_all is_to_meet (keys_of entries))
     pub right_entries : All (λ (e : Entry). IsRightFate e.key e.fate) entries

@@ -32,7 +32,8 @@ use Rattle.clausal_form.specs.FormFunctions.{is_predicate_in}
 use Rattle.clausal_form.specs.FormLaws.{use_of}
 use Rattle.clausal_form.proofs.MeasureLemmas.{length-append}
 use Rattle.clausal_form.proofs.WellFormedLemmas.{forms-are-well-formed}
-use Rattle.tstp_writer.specs.ReadableLines.{is_nameless_step, is_symbol_in, is_literal_over, is_term_over, is_small_term, has_small_sides, bound_by, line_variables, Fits, IsReadableLine}
+use Rattle.kernel_steps.specs.Lines.{is_small_term, has_small_sides}
+use Rattle.tstp_writer.specs.ReadableLines.{is_nameless_step, is_symbol_in, is_literal_over, is_term_over, bound_by, line_variables, Fits, IsReadableLine}
 use Rattle.tstp_writer.specs.WrittenLaws.{IsReadableRefutation}
 use Rattle.tstp_writer.proofs.PlaceLemmas.{all-there}
 use Rattle.prover_main.proofs.FormSymbols.{form-symbols-pass}

@@ -23,7 +23,9 @@ use Rattle.kernel_steps.specs.Derivation.{AreSteps, continued, reduced_parents}
 use Rattle.kernel_steps.specs.Conclusion.{concludes, verdict}
 use Rattle.kernel_steps.specs.declared.step.TheConstants.{CLAUSE_NUMBERS}
 use Rattle.kernel_steps.specs.declared.step.Line.{Line}
-use Rattle.reduction.specs.Reduced.{IsReduced, IsNumbered, IsOneOf, BindsSymbolsOf, MovesTo, clause_parents}
+use Rattle.kernel_steps.specs.Lines.{clause_parents, IsNumbered}
+use Rattle.kernel_steps.specs.Moves.{MovesTo}
+use Rattle.reduction.specs.Reduced.{IsReduced, BindsSymbolsOf}
 use Rattle.reduction.specs.Examples.{units, given, first_line, second_line, rewriting_lines, reduced_to}
 
 are_steps : AreSteps (CLAUSE_NUMBERS + 1) (reduced_parents (clause_parents units) given) (rewriting_lines (CLAUSE_NUMBERS + 1))
@@ -42,23 +44,22 @@ are_steps (suc (suc n)) line there = absurd (none-some line there)
 -- literal m, on its own, by a unit of the list with this number
 step_by :
     (number : ℕ) (l m made : TreeLiteral) (side : Side) (place : List ℕ) (old : Tree)
-    → units number ≡ Some (clause (l ∷ [])) → Contains (0 ∷ 1 ∷ []) number
+    → units number ≡ Some (clause (l ∷ []))
     → subterm place m.left ≡ Some old → IsTrue (are_of_one_kind is_predicate (side_of side l) old)
     → IsMatcher (side_of side l) old all_a → IsTrue (tree_greater old (instance all_a (other_side_of side l)))
     → tree_variables (other_side_of side l) ≡ [] → IsFalse m.positive
     → superposed (literals_instance all_a (l ∷ [])) 0 side (m ∷ []) 0 Left place ≡ Some (made ∷ [])
     → clause (made ∷ []) ≡ canonical_clause (clause (made ∷ []))
-    → MovesTo is_predicate (IsOneOf units (0 ∷ 1 ∷ [])) (clause (m ∷ [])) (clause (made ∷ []))
-step_by number l m made side place old unit listed there kind matches greater none negative gives canonical = record {
+    → MovesTo is_predicate units (clause (m ∷ [])) (record { by = Some number; gives = clause (made ∷ []) })
+step_by number l m made side place old unit there kind matches greater none negative gives canonical = record {
   result = clause (made ∷ []);
-  reduces =
-      inr
-      (inr
-      (inl
-      (record {
+  step =
+      record {
         clause = clause (l ∷ []);
-        holds = record { number = number; listed = listed; there = unit };
-        does =
+        there = unit;
+        infers =
+            inl
+            (
             record {
               equation = l;
               is_unit = refl;
@@ -80,8 +81,9 @@ step_by number l m made side place old unit listed there kind matches greater no
               asserted = refl;
               gives = gives;
               names = refl;
-            };
-      })));
+            }
+            );
+      };
   canonical = canonical;
 }
 
@@ -94,23 +96,32 @@ pub rewritten :
 rewritten =
     let last : Line = second_line (CLAUSE_NUMBERS + 1) in
     record {
-      derived = are_steps;
+      are_lines =
+          record {
+            kinds = refl;
+            steps = are_steps;
+            numbered =
+                All-cons IsNumbered first_line (last ∷ []) (record { canonical = refl; bindings = refl })
+                (All-cons IsNumbered last [] (record { canonical = refl; bindings = refl }) (All-nil IsNumbered));
+            terms = refl;
+            small = refl;
+          };
       ends = refl;
-      numbered =
-          All-cons IsNumbered first_line (last ∷ []) (record { canonical = refl; bindings = refl })
-          (All-cons IsNumbered last [] (record { canonical = refl; bindings = refl }) (All-nil IsNumbered));
-      small = refl;
       symbols = symbols_kept;
       used = refl;
-      moves = clause (disequation (f a) c ∷ []) ∷ clause (disequation c c ∷ []) ∷ [];
+      moves =
+          record { by = Some 0; gives = clause (disequation (f a) c ∷ []) } ∷ record { by = Some 1; gives = clause (disequation c c ∷ []) } ∷ [];
       moved = (
-        step_by 0 (equation a b) (disequation (f b) c) (disequation (f a) c) Right (0 ∷ []) b refl (0, omega arith, refl) refl refl refl refl refl refl refl refl,
+        step_by 0 (equation a b) (disequation (f b) c) (disequation (f a) c) Right (0 ∷ []) b refl refl refl refl refl refl refl refl refl,
         (
-          step_by 1 (equation (f a) c) (disequation (f a) c) (disequation c c) Left [] (f a) refl (1, omega arith, refl) refl refl refl refl refl refl refl refl,
+          step_by 1 (equation (f a) c) (disequation (f a) c) (disequation c c) Left [] (f a) refl refl refl refl refl refl refl refl refl,
           tt,
         ),
       );
       moved_to = refl;
+      by_used =
+          All-cons (Contains (0 ∷ 1 ∷ [])) 0 (1 ∷ []) (0, omega arith, refl)
+          (All-cons (Contains (0 ∷ 1 ∷ [])) 1 [] (1, omega arith, refl) (All-nil (Contains (0 ∷ 1 ∷ []))));
     }
 
 -- a line that isn't there yet is no parent
@@ -118,4 +129,4 @@ pub later_parent :
     IsReduced is_predicate units given
     (reduced_to (disequation c c ∷ []) (rewriting_lines (CLAUSE_NUMBERS + 2)) (0 ∷ 1 ∷ []))
     → ⊥
-later_parent it = let e = it.derived 1 _ refl in cc
+later_parent it = let e = it.are_lines.steps 1 _ refl in cc

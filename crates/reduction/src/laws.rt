@@ -4,7 +4,8 @@ ghost use Rattle.std.specs.Prelude.{◌≡◌, ◌+◌, [], ◌∷◌};
 ghost use Rattle.fol_base.specs.Examples.{a, b, c, f, is_predicate};
 ghost use Rattle.fol_base.specs.Rules.{disequation};
 ghost use Rattle.kernel_steps.specs.declared.step.TheConstants.{CLAUSE_NUMBERS};
-ghost use Rattle.reduction.specs.Reduced.{IsReduced, clauses_named, with_number};
+ghost use Rattle.kernel_steps.specs.Lines.{clauses_named};
+ghost use Rattle.reduction.specs.Reduced.{IsReduced, with_number};
 ghost use Rattle.reduction.specs.Examples.{units, given, rewriting_lines, reduced_to};
 
 /// Two rewrites one after another, and what is no reduced clause: a list of used clauses that leaves one out, a line that has a later

@@ -38,7 +38,9 @@ use Rattle.kernel_steps.proofs.SymbolLemmas.{side-passes}
 use Rattle.unifier.specs.Renaming.{AreRenamed}
 use Rattle.unifier.specs.SolvedForm.{SolvedForm, substitution_of}
 use Rattle.unifier.proofs.SharedLemmas.{shared_put_function_terms}
-use Rattle.eq_rules.specs.Inferences.{is_large, is_small_term, SizedSuperposition, IsConcluded, IsMade, premises}
+use Rattle.kernel_steps.specs.Sized.{is_large, SizedSuperposition}
+use Rattle.kernel_steps.specs.Lines.{is_small_term, clause_parents}
+use Rattle.eq_rules.specs.Inferences.{IsConcluded, IsMade}
 use Rattle.eq_rules.specs.declared.inference.Made.TheVariants.{Heavy}
 use Rattle.eq_rules.proofs.BindingLemmas.{bound_functions, bound_small, bound_symbols}
 use Rattle.eq_rules.proofs.FactorAnswers.{part_size, sides_size}
@@ -367,7 +369,7 @@ module _
             };
             of_key = refl;
             right_step =
-                verdict_by_two (premises clauses number) (premises clauses partner) c d e first_bind second_bind (superposed_at s t)
+                verdict_by_two (clause_parents clauses number) (clause_parents clauses partner) c d e first_bind second_bind (superposed_at s t)
                 (ap (option_map (λ q. let o : Parent = record { clause = q; introduces = false } in o)) there)
                 (ap (option_map (λ q. let o : Parent = record { clause = q; introduces = false } in o)) partner_there)
                 (binds_renamed c g.order left first_bind g.first_renamed first_many (left-below c s d t b r left right h)

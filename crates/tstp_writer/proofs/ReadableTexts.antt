@@ -20,7 +20,8 @@ use Rattle.signature.specs.declared.symbol.Symbol.{Symbol}
 use Rattle.signature.specs.Clausal.{atom_literal}
 use Rattle.tstp_writer.specs.Levels.{term_levels, arguments_levels, terms_levels, with_parentheses, formula_levels, operands_levels}
 use Rattle.tstp_writer.specs.ClauseTrees.{symbol_name, term_tree, term_trees, with_sign, atom_formula, literal_formula, signed_name_formula, one_of, clause_formula}
-use Rattle.tstp_writer.specs.ReadableLines.{is_symbol_in, is_literal_over, is_small_term, has_small_sides}
+use Rattle.kernel_steps.specs.Lines.{is_small_term, has_small_sides}
+use Rattle.tstp_writer.specs.ReadableLines.{is_symbol_in, is_literal_over}
 use Rattle.tstp_writer.specs.Printable.{IsShown, is_literal_formula, is_clause_formula}
 use Rattle.tstp_writer.specs.WrittenTexts.{AreShownSymbols}
 use Rattle.tstp_writer.proofs.LiteralKinds.{IsTermOver, AreTermsOver, first-term, more-terms, IsHeadOver, function-head, IsEquationOver, by-kind}

@@ -1,18 +1,18 @@
 -- Clause lines whose text can be read again: canonical clauses without names, over the symbols of a form; and what is taken of them when they
 -- are read again.
-use Rattle.std.specs.Prelude.{◌≡◌, ℕ, ◌+◌, ◌^◌, ◌<◌, nat_le, Bool, true, false, ◌&&◌, ◌==◌, List, [], ◌∷◌, ◌++◌, map, filter_map, flat_map, length, Option, option_map, unwrap_or, slice_get, position, IsTrue}
+use Rattle.std.specs.Prelude.{◌≡◌, ℕ, ◌+◌, ◌^◌, ◌<◌, Bool, true, false, ◌&&◌, ◌==◌, List, [], ◌∷◌, ◌++◌, map, filter_map, flat_map, length, Option, option_map, unwrap_or, slice_get, position, IsTrue}
 use Rattle.std.specs.List.{list_all, AllByRecursion}
-use Rattle.fol_base.specs.Tree.{Tree, tree_size, tree_variables}
+use Rattle.fol_base.specs.Tree.{Tree, tree_variables}
 use Rattle.fol_base.specs.Kind.{is_function_term, is_literal}
 use Rattle.fol_base.specs.Clause.{TreeLiteral, TreeClause, clause_variables}
 use Rattle.fol_base.specs.Instance.{Substitution, instance}
 use Rattle.fol_base.specs.Canonical.{distinct, renaming, IsCanonical}
 use Rattle.fol_base.specs.Literal.{clause_of}
-use Rattle.fol_base.specs.declared.limits.TheConstants.{MOST_SYMBOLS}
 use Rattle.tptp_tree.specs.declared.problem.Annotated.{Annotated}
 use Rattle.signature.specs.declared.symbol.Symbol.{Symbol}
 use Rattle.kernel_steps.specs.Conclusion.{empty_clause}
 use Rattle.kernel_steps.specs.Soundness.{bindings_of, binds_each}
+use Rattle.kernel_steps.specs.Lines.{is_small_term, has_small_sides}
 use Rattle.kernel_steps.specs.Symbols.{symbols_pass, literal_symbols_pass}
 use Rattle.kernel_steps.specs.declared.step.Step.{Step}
 use Rattle.kernel_steps.specs.declared.step.Step.TheVariants.{Input, Negate, Clausify, Para, Refl, Factor, Merge}
@@ -46,15 +46,6 @@ is_literal_over symbols l = is_literal (is_predicate_in symbols) l && literal_sy
 abbrev pub is_term_over : List Symbol → Tree → Bool
 is_term_over symbols t = is_function_term (is_predicate_in symbols) t && symbols_pass (is_symbol_in symbols) t
 
--- ---- sizes: a text may have 5,000 levels of brackets, and no term has more levels than symbols
-
--- no more symbols than a clause of the program may have
-abbrev pub is_small_term : Tree → Bool
-is_small_term t = nat_le (tree_size t) MOST_SYMBOLS
-
-abbrev pub has_small_sides : TreeLiteral → Bool
-has_small_sides l = is_small_term l.left && is_small_term l.right
-
 -- ---- variables
 
 -- the terms to which a step binds variables
@@ -71,7 +62,8 @@ Fits n = n < 2 ^ 64
 
 -- ---- lines
 
--- a clause with the step that gave it, of which the text can be read again
+-- A clause with the step that gave it, of which the text can be read again. A text may have 5,000 levels of brackets, and no term has more
+-- levels than symbols.
 pub record IsReadable (symbols : List Symbol) (step : Step) (c : TreeClause) : Type 0 where
   pub nameless : IsTrue (is_nameless_step step)
   pub names : c.names ≡ []
