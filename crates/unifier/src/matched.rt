@@ -1,6 +1,6 @@
 // The pairs of a matcher.
 
-ghost use Rattle.std.specs.Prelude.{◌≡◌, [], ◌∷◌, ◌++◌, true, None, option_map, IfOk, OnErr, OnOk};
+ghost use Rattle.std.specs.Prelude.{◌≡◌, [], ◌∷◌, ◌++◌, true, None, length, take, option_map, IfOk, OnErr, OnOk};
 ghost use Rattle.fol_base.specs.Term.{tree_of};
 ghost use Rattle.fol_base.specs.Instance.{substitution};
 ghost use Rattle.fol_base.specs.Canonical.{terms_from};
@@ -73,6 +73,20 @@ impl<'a> Matched<'a> {
     {
         self.pairs.push(Pair { variable, term })?;
         Ok(())
+    }
+
+    /// How many pairs there are.
+    pub(crate) fn len(&self) -> usize
+        ensures { result ≡ length self.now }
+    {
+        self.pairs.len()
+    }
+
+    /// Keeps so many pairs.
+    pub(crate) fn cut(&mut self, count: usize)
+        ensures { self.new ≡ take count self.old }
+    {
+        self.pairs.truncate(count);
     }
 
     /// The substitution of that length. A variable without a pair stands for itself. The condition is that
