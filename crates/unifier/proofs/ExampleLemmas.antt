@@ -1,5 +1,5 @@
 -- The examples of matchers and unifiers.
-use Rattle.std.proofs.Common.{◌≡◌, ℕ, zero, suc, ◌+◌, ◌*◌, ◌<◌, true, false, Some, None, List, [], ◌∷◌, refl, ap, ap₂, sym, ◌∙◌, subst, arith}
+use Rattle.std.proofs.Common.{◌≡◌, ℕ, zero, suc, ◌+◌, ◌*◌, ◌<◌, true, false, Some, None, [], ◌∷◌, refl, ap, sym, ◌∙◌, arith}
 use Rattle.std.proofs.lemmas.Bool.{true≢false}
 use Rattle.fol_base.specs.Tree.{Tree, variable, application, tree_size, VariablesBelow}
 use Rattle.fol_base.specs.Instance.{Substitution, instance, substitution}

@@ -17,11 +17,11 @@ use Rattle.unifier.specs.declared.solution.Solution.{Solution}
 use Rattle.unifier.specs.Cells.{Value, as_tree, as_trees, cell_at, value_of, is_list, is_variable_of, list_parts, IsAfterParts, AreOrdered}
 use Rattle.unifier.specs.InOrder.{InOrder}
 use Rattle.fol_base.specs.Canonical.{terms_from}
-use Rattle.fol_base.specs.Instance.{Substitution}
+use Rattle.fol_base.specs.Instance.{Substitution, instance}
 use Rattle.unifier.specs.SolvedForm.{SolvedForm, code_of, joint, substitution_of}
 use Rattle.unifier.specs.Layout.{cell_of, all_pass}
 use Rattle.unifier.specs.Solution.{value_at, bound, solved_form}
-use Rattle.unifier.specs.Renaming.{renamed, renamed_trees, side_terms, AreNamedTerms, AreRenamed, code_count, is_within, is_shared, rank, AreNames, HasNames}
+use Rattle.unifier.specs.Renaming.{renamed, renamed_trees, side_terms, AreRenamed, code_count, is_within, is_shared, rank, AreNames, HasNames}
 use Rattle.unifier.proofs.ValueLemmas.{value_at-valuation}
 use Rattle.unifier.proofs.SolutionLemmas.{joint-is, joint-found, joint-free}
 use Rattle.plain_types.proofs.Parity.{halves, even-half, odd-half}
@@ -502,6 +502,22 @@ pub own-answer :
     → IfOk r (λ ts. ts ≡ side_terms b (λ w. w) side count) → IfOk r (λ ts. ts ≡ terms_from 0 count (substitution_of b side))
 own-answer (Err e) b side count h = tt
 own-answer (Ok ts) b side count h = h ∙ own-terms b side count
+
+pub filled-variable :
+    {E : Type 0} (r : Result Term E) (b : SolvedForm) (side : Side) (v code : ℕ) (t : Tree)
+    → t ≡ variable v → code ≡ code_of b.apart side v → IfOk r (λ made. tree_of made ≡ renamed (λ w. w) (joint b code))
+    → IfOk r (λ made. tree_of made ≡ instance (substitution_of b side) t)
+filled-variable (Err e) b side v code t t_is code_is h = tt
+filled-variable (Ok made) b side v code t t_is code_is h =
+    h ∙ renamed-itself (joint b code) ∙ ap (joint b) code_is ∙ sym (ap (instance (substitution_of b side)) t_is)
+
+-- one of several terms whose variables are below a number
+pub item-below :
+    (n : ℕ) (xs : List Term) (i : ℕ) (x : Term)
+    → i < length xs → x ≡ get_or xs i x → AllVariablesBelow n (trees_of (map tree_of xs)) → VariablesBelow n (tree_of x)
+item-below n [] i x less is all = absurd (omega arith)
+item-below n (y ∷ ys) zero x less is all = let P : Term → Type 0 = λ u. VariablesBelow n (tree_of u) in subst P (sym is) all.0
+item-below n (y ∷ ys) (suc i) x less is all = item-below n ys i x (omega arith) is all.1
 
 -- numbers below 2^31 have names of 32 bits on both sides
 pub own-names :

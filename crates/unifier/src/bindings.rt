@@ -5,7 +5,7 @@ ghost use Rattle.fol_base.specs.Canonical.{terms_from};
 ghost use Rattle.fol_base.specs.Clause.{literal_size};
 ghost use Rattle.fol_base.specs.Instance.{instance};
 ghost use Rattle.fol_base.specs.Term.{tree_of};
-ghost use Rattle.fol_base.specs.Tree.{tree_size};
+ghost use Rattle.fol_base.specs.Tree.{VariablesBelow, tree_size};
 ghost use Rattle.fol_base.specs.Ground.{literals_instance};
 ghost use Rattle.term_bank.specs.Literal.{AreLiteralsOf, literals_at};
 ghost use Rattle.unifier.specs.SolvedForm.{substitution_of};
@@ -71,6 +71,15 @@ impl Bindings {
         ensures { IfOk result (λ terms. terms ≡ terms_from 0 count (substitution_of self.now side)) }
     {
         self.solution.terms(side, count)
+    }
+
+    /// The instance of a side's term, in the unifier's own variables as `terms` has them.
+    pub fn apply(&self, side: Side, term: &Term) -> Mem<Term>
+        requires fits { fits self.now SIZE_LIMIT SIZE_LIMIT ≡ true }
+        requires below { VariablesBelow SIZE_LIMIT (tree_of term.now) }
+        ensures { IfOk result (λ made. tree_of made ≡ instance (substitution_of self.now side) (tree_of term.now)) }
+    {
+        self.solution.apply(side, term)
     }
 
     /// Whether each variable of the two terms has a number below its side's count, also where it stands for

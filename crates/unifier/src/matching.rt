@@ -122,4 +122,3 @@ impl<'a> Matched<'a> {
         }
     }
 }
-

@@ -1,9 +1,10 @@
 // The substitutions of the two sides into shared variables.
 
-ghost use Rattle.std.specs.Prelude.{◌≡◌, ℕ, true, ◌≤◌, ◌<◌, ◌^◌, length, IfOk};
-ghost use Rattle.fol_base.specs.Tree.{variable, application, no_trees, tree_eq, trees_of};
+ghost use Rattle.std.specs.Prelude.{◌≡◌, ℕ, true, ◌≤◌, ◌<◌, ◌^◌, length, map, IfOk};
+ghost use Rattle.fol_base.specs.Tree.{AllVariablesBelow, VariablesBelow, variable, application, no_trees, tree_eq, trees_of};
 ghost use Rattle.fol_base.specs.Term.{tree_of};
 ghost use Rattle.fol_base.specs.Canonical.{terms_from};
+ghost use Rattle.fol_base.specs.Instance.{instance};
 ghost use Rattle.unifier.specs.Cells.{as_tree, as_trees, cell_at};
 ghost use Rattle.unifier.specs.SolvedForm.{code_of, joint, substitution_of};
 ghost use Rattle.unifier.specs.Layout.{all_pass};
@@ -50,6 +51,15 @@ impl Solution {
         ensures { IfOk result (λ terms. terms ≡ terms_from 0 count (substitution_of (solved_form self.now) side)) }
     {
         self.side(*self.cells.allocator(), &OwnNumbers, side, count)
+    }
+
+    /// The instance of a side's term, as `Bindings::apply` has it.
+    pub fn apply(&self, side: Side, term: &Term) -> Mem<Term>
+        requires fits { all_pass (is_within self.now.apart SIZE_LIMIT SIZE_LIMIT) self.now.places.items ≡ true }
+        requires below { VariablesBelow SIZE_LIMIT (tree_of term.now) }
+        ensures { IfOk result (λ made. tree_of made ≡ instance (substitution_of (solved_form self.now) side) (tree_of term.now)) }
+    {
+        self.filled(*self.cells.allocator(), side, term)
     }
 
     /// Whether each variable of a place has a number that `Bindings::fits` allows.
@@ -122,6 +132,36 @@ impl Solution {
         let mut items = Vec::with_capacity(alloc, count as usize)?;
         for variable in 0..count {
             items.push(self.named(alloc, names, code(self.apart, side, variable))?)?;
+        }
+        Ok(Terms::from_vec(items))
+    }
+
+    /// The instance of a side's term, whose variables have names.
+    #[cycle(filled)]
+    fn filled(&self, alloc: Global, side: Side, term: &Term) -> Mem<Term>
+        requires names { HasNames self.now (2 ^ 32) }
+        requires below { VariablesBelow SIZE_LIMIT (tree_of term.now) }
+        ensures { IfOk result (λ made. tree_of made ≡ instance (substitution_of (solved_form self.now) side) (tree_of term.now)) }
+    {
+        match term {
+            Term::Var(variable) => {
+                self.named(alloc, &OwnNumbers, code(self.apart, side, *variable))
+            }
+            Term::App(symbol, arguments) => {
+                Ok(Term::App(*symbol, self.all_filled(alloc, side, arguments.as_slice())?))
+            }
+        }
+    }
+
+    #[cycle(filled)]
+    fn all_filled(&self, alloc: Global, side: Side, terms: &[Term]) -> Mem<Terms>
+        requires names { HasNames self.now (2 ^ 32) }
+        requires below { AllVariablesBelow SIZE_LIMIT (trees_of (map tree_of terms.now)) }
+        ensures { IfOk result (λ made. made ≡ map (instance (substitution_of (solved_form self.now) side)) (map tree_of terms.now)) }
+    {
+        let mut items = Vec::with_capacity(alloc, terms.len())?;
+        for term in terms {
+            items.push(self.filled(alloc, side, term)?)?;
         }
         Ok(Terms::from_vec(items))
     }

@@ -1,5 +1,4 @@
 use Rattle.std.proofs.Common.{ap, ◌∙◌, subst, sym}
-use Rattle.fol_base.specs.Term.{tree_of}
 use Rattle.unifier.specs.Laws.{AreFunctionPairs}
 use Rattle.unifier.specs.Matching.{are_below}
 use Rattle.unifier.proofs.MatchLemmas.{extended-found, extended-none}

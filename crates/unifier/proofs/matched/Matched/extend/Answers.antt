@@ -1,4 +1,4 @@
-use Rattle.std.proofs.Common.{length, take, ap, refl, ◌∙◌}
+use Rattle.std.proofs.Common.{take, ap, refl, ◌∙◌}
 use Rattle.fol_base.specs.Term.{tree_of}
 use Rattle.unifier.proofs.MatchLemmas.{answer-below, extended, not-extended}
 use Rattle.unifier.proofs.KindLemmas.{answer-functions}

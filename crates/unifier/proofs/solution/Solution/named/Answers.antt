@@ -1,4 +1,4 @@
-use Rattle.std.proofs.Common.{ap, sym, ◌∙◌}
+use Rattle.std.proofs.Common.{ap, sym}
 use Rattle.fol_base.specs.Tree.{variable}
 use Rattle.unifier.proofs.RenameLemmas.{renamed-answer, renamed-free}
 use Rattle.unifier.proofs.solution.Solution.named.Goals as goal
