@@ -6,7 +6,7 @@ use Rattle.term_bank.specs.Literal.{literals_at}
 use Rattle.unifier.specs.Solution.{solved_form}
 use Rattle.unifier.specs.SolvedForm.{substitution_of}
 use Rattle.unifier.specs.Sizes.{stopped}
-use Rattle.unifier.proofs.solution.Solution.instance_size.Given as goal
+use Rattle.unifier.proofs.solution.Solution.literals_size.Given as goal
 
 abbrev pub invariant-loop-literal : goal.invariant-loop-literal
 invariant-loop-literal l =
