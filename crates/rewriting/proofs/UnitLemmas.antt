@@ -13,7 +13,7 @@ use Rattle.bank_clause.specs.declared.member.Member.{Member}
 use Rattle.bank_clause.specs.Clause.{clause_at, IsClauseOf}
 use Rattle.bank_clause.specs.declared.clause.BankClause.{BankClause}
 use Rattle.disc_tree.specs.Entries.{IsIn, numbers_where}
-use Rattle.rewriting.specs.Units.{clause_numbered, member_of, AreUnitsOf, oriented, IsUnit, side_number, has_other_variables, HasCandidates, IsRecorded, IsUnitAt}
+use Rattle.rewriting.specs.Units.{clause_numbered, member_of, AreClausesOf, oriented, IsUnit, side_number, has_other_variables, HasCandidates, IsRecorded, IsUnitAt}
 use Rattle.rewriting.specs.Index.{KeepsOthers}
 use Rattle.rewriting.specs.declared.index.Orientation.{Orientation}
 use Rattle.fol_base.specs.declared.clause.Side.{Side}
@@ -170,7 +170,7 @@ on_ok-at {A} {E} {P} r x is h = subst (λ (s : Result A E). OnOk s P) is h
 pub put-of-bank :
     (bank : Bank) (old new : List Member) (number : ℕ) (clause : BankClause)
     → ((n : ℕ) → clause_numbered n new ≡ (if number == n then Some clause else clause_numbered n old)) → IsClauseOf bank clause
-    → AreUnitsOf bank old → AreUnitsOf bank new
+    → AreClausesOf bank old → AreClausesOf bank new
 put-of-bank bank old new number clause put of_bank all n c there =
     ⊎_elim
     (λ yes.
@@ -182,7 +182,7 @@ put-of-bank bank old new number clause put of_bank all n c there =
 pub taken-of-bank :
     (bank : Bank) (old new : List Member) (number : ℕ)
     → ((n : ℕ) → clause_numbered n new ≡ (if number == n then None else clause_numbered n old))
-    → AreUnitsOf bank old → AreUnitsOf bank new
+    → AreClausesOf bank old → AreClausesOf bank new
 taken-of-bank bank old new number taken all n c there =
     ⊎_elim
     (λ yes. absurd (none-some c (sym (cond-true (number == n) None (clause_numbered n old) yes) ∙ sym (taken n) ∙ there)))

@@ -35,8 +35,8 @@ pub record IsUnit (c : TreeClause) : Type 0 where
   pub positive : equation.positive ≡ true
 
 -- each member's clause is of the bank
-abbrev pub AreUnitsOf : Bank → List Member → Type 0
-AreUnitsOf bank ms = (n : ℕ) (c : BankClause) → clause_numbered n ms ≡ Some c → IsClauseOf bank c
+abbrev pub AreClausesOf : Bank → List Member → Type 0
+AreClausesOf bank ms = (n : ℕ) (c : BankClause) → clause_numbered n ms ≡ Some c → IsClauseOf bank c
 
 -- the number is not the one that is left out
 abbrev pub is_kept : Option ℕ → ℕ → Bool

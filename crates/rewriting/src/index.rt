@@ -85,7 +85,7 @@ fn is_listed(variable: u32, within: &[u32]) -> bool
     within.iter().any(|other| variable == *other)
 }
 
-/// Adds the sides by which an equation may rewrite. After want of memory none of them is there.
+/// Adds the sides by which an equation may rewrite. After want of memory the sides of other equations are as before.
 pub(crate) fn put_sides(
     sides: &mut DiscTree,
     number: u32,

@@ -6,13 +6,14 @@ ghost use Rattle.fol_base.specs.Rules.{disequation};
 ghost use Rattle.fol_base.specs.declared.clause.Side.TheVariants.{Left, Right};
 ghost use Rattle.rewriting.specs.Units.{has_other_variables, is_kept, side_number};
 ghost use Rattle.rewriting.specs.Redex.{inner, is_within, root_spot, spot_at};
-ghost use Rattle.rewriting.specs.Laws.{NormalClausesStay, RedexesRewrite};
+ghost use Rattle.rewriting.specs.Laws.{NormalClausesStay, RedexesGive, RedexesRewrite};
 
 /// A clause without a redex is rewritten by no unit, and one in which a redex is found is rewritten by the unit that was found. So the
 /// search finds a redex exactly where some unit rewrites the clause.
 pub fn redexes_are_rewritten()
     ensures normal { NormalClausesStay }
     ensures found { RedexesRewrite }
+    ensures given { RedexesGive }
 {}
 
 /// Which sides have the other's variables, and the spots of a literal: what is put at the root of a side of an equation has to be below
