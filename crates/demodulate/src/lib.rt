@@ -1,4 +1,6 @@
-// Normal forms by units (Knuth and Bendix 1970): so far, that rewriting ends.
+// Normal forms by units (Knuth and Bendix 1970).
 #![tactic(auto)]
+
+mod line;
 
 pub mod laws;

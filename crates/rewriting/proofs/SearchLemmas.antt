@@ -76,7 +76,7 @@ none-found ms out names spot old numbers all none h =
     let unit = usable-from ms out names h.number h.unit h.there in
     none (side_number h.number h.side)
     (all h.number unit.0 h.equation h.side unit.1
-    (ap (λ (d : TreeClause). d.literals) unit.2 ∙ h.alone) h.redex.no_new_variables
+    (ap (λ (d : TreeClause). d.literals) unit.2 ∙ h.alone) (redex-may h.equation h.side spot old h.matcher h.redex)
     (generalisation-compatible (side_of h.side h.equation) old h.matcher h.redex.matches))
     h refl
 

@@ -1,6 +1,6 @@
 // The set of units: by their numbers, and by the sides by which they may rewrite.
 
-ghost use Rattle.std.specs.Prelude.{◌≡◌, ◌↔◌, ◌==◌, ℕ, [], None, Some, IfOk, IfSome, OnErr, IsTrue, if◌then◌else◌};
+ghost use Rattle.std.specs.Prelude.{◌≡◌, ◌↔◌, ◌==◌, ◌<◌, ◌^◌, ℕ, [], None, Some, IfOk, IfSome, OnErr, IsTrue, if◌then◌else◌};
 ghost use Rattle.std.specs.Option.{is_some, option_map};
 ghost use Rattle.bank_clause.specs.Clause.{clause_at, IsClauseOf, IsMemberOf};
 ghost use Rattle.fol_base.specs.Term.{tree_of};
@@ -10,7 +10,7 @@ ghost use Rattle.rewriting.specs.Units.{AreClausesOf, HasCandidates, IsRecorded,
 use crate::index::{Orientation, orient, put_sides, take_sides};
 use bank_clause::{BankClause, Member};
 use disc_tree::DiscTree;
-use fol_base::{LendsLiterals, Term};
+use fol_base::{LendsLiterals, SIZE_LIMIT, Term};
 use indexmap::IndexMap;
 use plain_types::{Mem, Numbers};
 use std::alloc::Global;
@@ -82,6 +82,8 @@ impl Units {
         ensures of_bank { IfOk result (λ _. AreClausesOf bank.now self.old → AreClausesOf bank.now self.new) }
         ensures err { OnErr result (self.new ≡ self.old) }
     {
+        let is_small = u64::from(member.clause.size()) < SIZE_LIMIT;
+        prove!(is_small);
         let alloc = self.alloc;
         let clause = member.clause.copied()?;
         self.clauses.reserve(1)?;
@@ -114,7 +116,8 @@ impl Units {
 
     /// The clause of the unit with a number.
     pub fn clause(&self, number: u64) -> Option<&BankClause>
-        ensures { option_map (λ c. c.now) result ≡ clause_numbered number self.now }
+        ensures clause { option_map (λ c. c.now) result ≡ clause_numbered number self.now }
+        ensures numbered { IfSome result (λ _. number < 2 ^ 32) }
     {
         match self.unit(number) {
             None => None,
@@ -126,6 +129,7 @@ impl Units {
     pub(crate) fn unit(&self, number: u64) -> Option<&Unit>
         ensures clause { option_map (λ u. u.now.clause) result ≡ clause_numbered number self.now }
         ensures recorded { IfSome result (λ u. IsRecorded u.now) }
+        ensures numbered { IfSome result (λ _. number < 2 ^ 32) }
     {
         self.clauses.get(&number)
     }
