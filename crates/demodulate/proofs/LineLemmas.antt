@@ -1,24 +1,24 @@
 -- The line of a rewrite that was found: the kernel's verdict, and what else is asked of lines.
-use Rattle.std.proofs.Common.{◌≡◌, ℕ, ◌+◌, ◌<◌, ◌≤◌, Bool, true, false, ◌&&◌, ◌==◌, Option, Some, List, [], ◌∷◌, ◌++◌, length, map, append-nil, append_assoc, refl, ap, ap₂, sym, ◌∙◌, subst, arith}
+use Rattle.std.proofs.Common.{◌≡◌, ℕ, ◌+◌, ◌<◌, ◌≤◌, Bool, true, false, ◌&&◌, ◌==◌, Option, Some, List, [], ◌∷◌, ◌++◌, length, map, append-nil, append_assoc, refl, ap, ap₂, sym, ◌∙◌, subst, ⊎_elim, arith}
 use Rattle.std.specs.Prelude.{flat_map, sum_by}
 use Rattle.std.specs.List.{AllByRecursion, list_any, list_all}
 use Rattle.std.specs.Option.{option_map}
-use Rattle.std.proofs.lemmas.Bool.{and_from, cond-true}
+use Rattle.std.proofs.lemmas.Bool.{and_from, cond-true, cases_lt}
 use Rattle.std.proofs.lemmas.List.{map-append, length-map}
 use Rattle.std.proofs.lemmas.List.Sums.{sum_by-cons}
 use Rattle.plain_types.specs.declared.sequence.NameLit.{NameLit}
-use Rattle.fol_base.specs.Tree.{Tree, variable, tree_size, tree_variables, trees_of, trees_variables}
+use Rattle.fol_base.specs.Tree.{Tree, variable, application, Trees, no_trees, tree_then, trees_count, tree_size, tree_variables, trees_of, trees_variables}
 use Rattle.fol_base.specs.Instance.{Substitution, instance, substitution}
 use Rattle.fol_base.specs.Clause.{TreeLiteral, TreeClause, LiteralVariablesBelow, literal_size, literal_instance, literal_variables, clause_variables, clause_size, clause_instance}
 use Rattle.fol_base.specs.Ground.{literals_instance}
-use Rattle.fol_base.specs.Canonical.{bound_of, renaming, distinct, canonical_clause, IsCanonical}
+use Rattle.fol_base.specs.Canonical.{bound_of, renaming, distinct, canonical_clause, canonical_renaming, IsCanonical}
 use Rattle.fol_base.specs.Kind.{is_function_term, PutsFunctionTerms}
 use Rattle.fol_base.specs.Literal.{clause_of}
 use Rattle.fol_base.specs.Numbering.{with_variables}
 use Rattle.fol_base.specs.Rules.{superposed}
 use Rattle.fol_base.specs.Sides.{side_of, other_side_of}
 use Rattle.fol_base.specs.Subsumption.{assertions, is_among}
-use Rattle.fol_base.specs.WellFormed.{SymbolUse}
+use Rattle.fol_base.specs.WellFormed.{SymbolUse, has_arities, have_arities, is_literal_of, are_literals_of, PutsFunctionTermsOf}
 use Rattle.fol_base.specs.declared.limits.TheConstants.{MOST_SYMBOLS, MOST_BOUND_SYMBOLS}
 use Rattle.fol_base.proofs.CanonicalLemmas.{length-terms_from, canonical_forms_are_canonical, canonical_forms_keep_sizes}
 use Rattle.fol_base.proofs.InferenceLemmas.{superpositions_in_instances, side_of-instance, other_side_of-instance}
@@ -28,6 +28,7 @@ use Rattle.fol_base.proofs.NumberingLemmas.{all_met}
 use Rattle.fol_base.proofs.OrderLemmas.{tree_greater_decided}
 use Rattle.fol_base.proofs.TestLemmas.{list_all-item}
 use Rattle.fol_base.proofs.WalkLemmas.{renaming-kept}
+use Rattle.fol_base.proofs.WellFormedLemmas.{is_literal_of-parts, side_arities, well_formed_instances, well_formed_superpositions}
 use Rattle.kbo_order.proofs.ClauseLoops.{item-size}
 use Rattle.kbo_order.proofs.MemberLemmas.{In}
 use Rattle.kbo_order.proofs.SubtermLemmas.{greater-size}
@@ -37,7 +38,7 @@ use Rattle.kernel_steps.specs.Lines.{IsNumbered, line_variables, is_small_term, 
 use Rattle.kernel_steps.specs.Names.{sorted_names, are_sorted}
 use Rattle.kernel_steps.specs.Parents.{Parent, Parents}
 use Rattle.kernel_steps.specs.Soundness.{bindings_of, binds_each}
-use Rattle.kernel_steps.specs.Symbols.{symbols_pass, literal_symbols_pass, clause_symbols_pass}
+use Rattle.kernel_steps.specs.Symbols.{symbols_pass, all_symbols_pass, literal_symbols_pass, clause_symbols_pass}
 use Rattle.kernel_steps.specs.declared.step.Step.{Step}
 use Rattle.kernel_steps.specs.declared.step.Line.{Line}
 use Rattle.kernel_steps.proofs.SymbolLemmas.{side-passes}
@@ -60,7 +61,7 @@ use Rattle.demodulate.proofs.StepParts.{Rewrites, of_found, tests-all}
 use Rattle.demodulate.proofs.SymbolLemmas.{subterm-passes, variable-passes}
 use Rattle.demodulate.proofs.RankLemmas.{side-smaller, step_size}
 use Rattle.demodulate.proofs.NameLemmas.{names-stay}
-use Rattle.demodulate.proofs.TermLemmas.{literals-stay, term-there, own-there, puts-functions, side-has, variable-small, subterm-size, small-sides}
+use Rattle.demodulate.proofs.TermLemmas.{literals-stay, term-there, term-past, own-there, puts-functions, side-has, variable-small, subterm-size, small-sides}
 
 -- ---- the verdict of a step on two parents
 
@@ -98,6 +99,16 @@ numbered-first plain ws order met =
     ap (λ o. literals_instance (renaming o) plain) met
     ∙ sym (literals-agree (renaming (with_variables [] vs)) (renaming (with_variables (with_variables [] vs) ws)) plain (renaming-kept [] vs ws))
     ∙ ap (λ o. literals_instance (renaming o) plain) (all_met vs)
+
+-- numbers of arguments are a test of symbols
+mutual
+  arities-pass : (arity : ℕ → ℕ) (t : Tree) → symbols_pass (λ f k. arity f == k) t ≡ has_arities arity t
+  arities-pass arity (variable v) = refl
+  arities-pass arity (application f ts) = ap (λ b. (arity f == trees_count ts) && b) (all-arities-pass arity ts)
+
+  all-arities-pass : (arity : ℕ → ℕ) (ts : Trees) → all_symbols_pass (λ f k. arity f == k) ts ≡ have_arities arity ts
+  all-arities-pass arity no_trees = refl
+  all-arities-pass arity (tree_then t ts) = ap₂ ◌&&◌ (arities-pass arity t) (all-arities-pass arity ts)
 
 two-hold : (a b : Bool) → a ≡ true → b ≡ true → (a && (b && true)) ≡ true
 two-hold a b h k = and_from a (b && true) h (and_from b true k refl)
@@ -329,3 +340,32 @@ module _
 
     pub line_rewrites : RewritesBy p unit c h.made
     line_rewrites = it.rewrites
+
+    -- the result is well-formed
+
+    whole-arities : symbols_pass (λ f k. usage.arity f == k) (instance σ (side_of f.rewrite.side e)) ≡ true
+    whole-arities =
+        let test : ℕ → ℕ → Bool = λ g k. usage.arity g == k in
+        let literal = is_literal_of-parts usage found.literal (list_all-item (is_literal_of usage) c.literals f.literal found.literal found.literal_there formed.0) in
+        ap (symbols_pass test) found.rewrite.matched.redex.matches
+        ∙ subterm-passes test f.place (side_of f.side found.literal) found.old found.old_there
+        (arities-pass usage.arity (side_of f.side found.literal) ∙ side_arities usage f.side found.literal literal)
+
+    puts-arities : PutsFunctionTermsOf usage (substitution left)
+    puts-arities v =
+        and_from (is_function_term p (substitution left v)) (has_arities usage.arity (substitution left v)) (puts v)
+        (⊎_elim
+        (λ less.
+        ap (has_arities usage.arity) (term-there n σ v less)
+        ∙ sym (arities-pass usage.arity (σ v))
+        ∙ variable-passes (λ g k. usage.arity g == k) σ (side_of f.rewrite.side e) v whole-arities (stands v (omega (arith, less, left-many))))
+        (λ past. ap (has_arities usage.arity) (term-past n σ v past))
+        (cases_lt v n))
+
+    pub line_formed : are_literals_of usage (canonical_clause h.made).literals ≡ true
+    line_formed =
+        well_formed_instances usage (canonical_renaming h.made) h.made.literals (λ v. refl)
+        (well_formed_superpositions usage (literals_instance (substitution left) unit.literals) c.literals h.made.literals 0 f.literal f.rewrite.side f.side f.place
+        (well_formed_instances usage (substitution left) unit.literals puts-arities (formed.1 f.rewrite.number unit found.rewrite.there))
+        formed.0
+        (ap (λ (ls : List TreeLiteral). superposed ls 0 f.rewrite.side c.literals f.literal f.side f.place) under-left ∙ h.becomes.gives))

@@ -50,7 +50,7 @@ pub term-there : (n : ℕ) (σ : Substitution) (v : ℕ) → v < n → substitut
 term-there n σ v less =
     let same : 0 + v ≡ v = omega arith in terms_from-at 0 n v σ (variable v) less ∙ ap σ same
 
-term-past : (n : ℕ) (σ : Substitution) (v : ℕ) → n ≤ v → substitution (terms_from 0 n σ) v ≡ variable v
+pub term-past : (n : ℕ) (σ : Substitution) (v : ℕ) → n ≤ v → substitution (terms_from 0 n σ) v ≡ variable v
 term-past n σ v past = get_or_past (terms_from 0 n σ) v (variable v) (omega (arith, length-terms_from 0 n σ, past))
 
 pub own-there : (n v : ℕ) → substitution (terms_from 0 n variable) v ≡ variable v

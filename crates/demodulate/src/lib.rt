@@ -2,5 +2,10 @@
 #![tactic(auto)]
 
 mod line;
+mod normal;
+mod step;
+
+pub use normal::normal_form;
+pub use step::rewrite_once;
 
 pub mod laws;
