@@ -1,5 +1,5 @@
 -- From the search of a member to whether a unit rewrites it.
-use Rattle.std.proofs.Common.{◌≡◌, ℕ, Bool, true, false, not, ◌&&◌, ◌==◌, List, [], ◌∷◌, ◌++◌, refl, ap, sym, ◌∙◌, subst, inl, inr, ⊎_elim, ◌<◌, length, get_or, eqb, arith}
+use Rattle.std.proofs.Common.{◌≡◌, ◌⊎◌, ℕ, Bool, true, false, not, ◌&&◌, ◌==◌, List, [], ◌∷◌, ◌++◌, refl, ap, sym, ◌∙◌, subst, inl, inr, ⊎_elim, ◌<◌, length, get_or, eqb, arith}
 use Rattle.std.specs.Prelude.{Option, None, Some, option_and_then, IsTrue, All, if◌then◌else◌, MatchOption, MatchBool, is_some}
 use Rattle.std.proofs.lemmas.Bool.{true≢false, cases_Bool, cond-true, cond-false, eqb-true, eq-eqb, and_from, and_parts, false_from_ne_true}
 use Rattle.std.proofs.lemmas.Option.{none-some, same_Some}

@@ -1,4 +1,4 @@
-use Rattle.std.proofs.Common.{ℕ, List, eqb, sym, ◌∙◌, subst, take, arith}
+use Rattle.std.proofs.Common.{ℕ, List, [], eqb, sym, ◌∙◌, subst, take, arith}
 use Rattle.std.proofs.lemmas.List.{take_all}
 use Rattle.std.proofs.lemmas.List.Filters.{dedup_is}
 use Rattle.fol_base.proofs.ListLemmas.{take_more_item}
@@ -6,6 +6,10 @@ use Rattle.bank_clause.specs.declared.member.Member.{Member}
 use Rattle.rewriting.specs.Rewritable.{AreNumbersOf, IsRewrittenBy}
 use Rattle.rewriting.proofs.RewritableLemmas.{AreListed, one-told, member-formed, numbers-rising}
 use Rattle.rewriting.proofs.members.rewritable.Goals as goal
+
+pub loop-member-init : goal.loop-member-init
+loop-member-init c = λ usage of_unit of_members.
+    subst (λ (ns : List ℕ). AreListed (IsRewrittenBy usage.is_predicate c.args.unit.now) [] ns) (sym c.new-found.ensures.items) tt
 
 pub loop-member-preserved : goal.loop-member-preserved
 loop-member-preserved c = λ usage of_unit of_members.

@@ -1,4 +1,4 @@
-use Rattle.std.proofs.Common.{arith, Some, ◌∙◌, ap}
+use Rattle.std.proofs.Common.{arith, sym, Some, ◌∙◌, ap}
 use Rattle.std.specs.Prelude.{nat_eq, cond}
 use Rattle.std.specs.Map.{lookup}
 use Rattle.fol_base.specs.Lent.{lent_of}
@@ -6,6 +6,12 @@ use Rattle.rewriting.specs.declared.units.Unit.{Unit}
 use Rattle.rewriting.proofs.TryLemmas.{alone-lent}
 use Rattle.rewriting.proofs.UnitLemmas.{absent-kept, made-unit, put-unit, put-numbered, put-of-bank, on_ok-at}
 use Rattle.rewriting.proofs.units.Units.insert.Goals as goal
+
+pub invariant_of-self : goal.invariant_of-self
+invariant_of-self c = λ n u there. c.self.invariant n u (ap (lookup (nat_eq n)) (sym c.reserve.ensures.entries) ∙ there)
+
+pub invariant_of-self-in_err-by : goal.invariant_of-self-in_err-by
+invariant_of-self-in_err-by c = λ n u there. c.self.invariant n u (ap (lookup (nat_eq n)) (sym c.reserve.ensures.entries) ∙ there)
 
 pub invariant_of-self-in_err-put_sides : goal.invariant_of-self-in_err-put_sides
 invariant_of-self-in_err-put_sides c =
