@@ -1,5 +1,5 @@
 -- From the calls to the line of a rewrite.
-use Rattle.std.proofs.Common.{◌≡◌, ℕ, ◌-◌, ◌≤◌, true, None, Some, List, [], ◌∷◌, ◌++◌, length, map, take, refl, ap, ap₂, sym, ◌∙◌, subst, arith}
+use Rattle.std.proofs.Common.{◌≡◌, ℕ, ◌-◌, ◌<◌, ◌≤◌, ◌^◌, true, None, Some, List, [], ◌∷◌, ◌++◌, length, map, take, refl, ap, ap₂, sym, ◌∙◌, subst, arith}
 use Rattle.std.specs.Prelude.{Option, flat_map, slice_get}
 use Rattle.std.proofs.lemmas.List.{take_all}
 use Rattle.std.proofs.lemmas.Option.{none-some, same_Some}
@@ -7,7 +7,7 @@ use Rattle.fol_base.specs.Tree.{Tree, variable, application, Trees, trees_of, li
 use Rattle.fol_base.specs.Instance.{instance, substitution}
 use Rattle.fol_base.specs.Clause.{TreeLiteral, TreeClause, literal_instance, literal_variables, clause_variables, LiteralVariablesBelow}
 use Rattle.fol_base.specs.Ground.{literals_instance}
-use Rattle.fol_base.specs.Canonical.{bound_of, terms_from, renaming, canonical_clause}
+use Rattle.fol_base.specs.Canonical.{bound_of, terms_from, renaming, canonical_clause, IsCanonical}
 use Rattle.fol_base.specs.Literal.{clause_of}
 use Rattle.fol_base.specs.Numbering.{with_variables}
 use Rattle.fol_base.specs.Rules.{superposed}
@@ -18,9 +18,15 @@ use Rattle.kernel_steps.specs.declared.step.Step.TheVariants.{Para}
 use Rattle.kernel_steps.specs.declared.step.Line.{Line}
 use Rattle.unifier.specs.Matching.{by_pairs, are_below}
 use Rattle.eq_rules.proofs.PremiseLemmas.{literal-below}
-use Rattle.eq_rules.proofs.RenumberedLemmas.{met_onward}
+use Rattle.eq_rules.proofs.RenumberedLemmas.{variables_between, met_onward}
 use Rattle.eq_rules.proofs.SideLemmas.{side-below}
+use Rattle.bank_clause.specs.Clause.{clause_at}
+use Rattle.bank_clause.specs.declared.clause.BankClause.{BankClause}
+use Rattle.bank_clause.specs.declared.member.Member.{Member}
 use Rattle.rewriting.specs.Searching.{IsFoundOf}
+use Rattle.rewriting.specs.Units.{clause_numbered, usable}
+use Rattle.rewriting.proofs.SearchLemmas.{usable-from}
+use Rattle.demodulate.specs.Normal.{IsNextLine}
 use Rattle.rewriting.specs.Laws.{Becomes}
 use Rattle.rewriting.specs.declared.searching.Found.{Found}
 use Rattle.rewriting.proofs.LawLemmas.{redexes_give}
@@ -97,7 +103,7 @@ pub line-is :
     → line.step ≡ Para f.rewrite.number parent 0 f.rewrite.side f.literal f.side f.place first_bind second_bind
     → own ≡ own_terms c → terms ≡ matched_terms u f
     → none ≡ [] → count ≡ length made.literals
-    → walked ≡ with_variables none (flat_map literal_variables (map (literal_instance (substitution own)) (take count made.literals)))
+    → walked ≡ with_variables none (variables_between (substitution own) made.literals 0 count)
     → now ≡ with_variables walked (trees_variables (trees_of terms)) → first_bind ≡ map (instance (renaming now)) terms
     → order ≡ with_variables now (trees_variables (trees_of own)) → second_bind ≡ map (instance (renaming order)) own
     → IsLineOf u c f parent line
@@ -106,10 +112,10 @@ line-is u c f parent made line count own terms first_bind second_bind none walke
     λ ls.
     ap (λ ts. literals_instance (substitution ts) ls) own_is
     ∙ literals-stay (substitution (own_terms c)) (own-there (bound_of (clause_variables c))) ls in
-    let whole : take count made.literals ≡ made.literals = take_all count made.literals (omega (arith, count_is)) in
+    let whole : take (count - 0) made.literals ≡ made.literals = take_all (count - 0) made.literals (omega (arith, count_is)) in
     let walked_is : walked ≡ with_variables [] (flat_map literal_variables made.literals) =
     walked_met
-    ∙ ap₂ (λ o (ls : List TreeLiteral). with_variables o (flat_map literal_variables ls)) none_is (stays (take count made.literals) ∙ whole) in
+    ∙ ap₂ (λ o (ls : List TreeLiteral). with_variables o (flat_map literal_variables ls)) none_is (stays (take (count - 0) made.literals) ∙ whole) in
     record {
       made = made;
       becomes = becomes;
@@ -126,4 +132,49 @@ line-is u c f parent made line count own terms first_bind second_bind none walke
           first_form ∙ terms-kept walked now order terms (trees_variables (trees_of own)) now_met order_met
           ∙ ap (map (instance (renaming order))) terms_is;
       second_numbered = second_form ∙ ap (map (instance (renaming order))) own_is;
+    }
+
+-- ---- the next line
+
+module _
+    (ms : List Member) (out : Option ℕ) (names : List ℕ) (c : TreeClause) (f : Found) (found : IsFoundOf (usable ms out names) c.literals f) where
+  looked-up : (u : BankClause) × (clause_numbered f.rewrite.number ms ≡ Some u) × (clause_at u ≡ found.rewrite.unit)
+  looked-up = usable-from ms out names f.rewrite.number found.rewrite.unit found.rewrite.there
+
+  pub some-unit : None ≡ clause_numbered f.rewrite.number ms → ⊥
+  some-unit none = none-some looked-up.0 (none ∙ looked-up.1)
+
+  module _ (u : BankClause) (there : Some u ≡ clause_numbered f.rewrite.number ms) where
+    is-unit : clause_at u ≡ found.rewrite.unit
+    is-unit = ap clause_at (same_Some u looked-up.0 (there ∙ looked-up.1)) ∙ looked-up.2
+
+    pub always-found : IsFoundOf (always (clause_at u)) c.literals f
+    always-found = record {
+      literal = found.literal;
+      literal_there = found.literal_there;
+      old = found.old;
+      old_there = found.old_there;
+      rewrite =
+          record {
+            unit = found.rewrite.unit;
+            there = ap (λ (d : TreeClause). let o : Option TreeClause = Some d in o) is-unit;
+            equation = found.rewrite.equation;
+            alone = found.rewrite.alone;
+            positive = found.rewrite.positive;
+            matched = found.rewrite.matched;
+          };
+    }
+
+    pub next-is :
+        (parent : ℕ) (line : Line) → IsLineOf (clause_at u) c f parent line → f.rewrite.number < 2 ^ 32 → IsCanonical (clause_at u)
+        → IsNextLine (usable ms out names) c parent (record { unit = f.rewrite.number; line = line })
+    next-is parent line it low canonical = record {
+      redex = f;
+      found = found;
+      of_unit = refl;
+      numbered = omega (arith, low);
+      line = subst (λ (d : TreeClause). IsLineOf d c f parent line) is-unit it;
+      canonical = subst (λ (d : TreeClause). IsCanonical d) is-unit canonical;
+      asserted = u.names;
+      names = ap (λ (d : TreeClause). d.names) (sym is-unit);
     }

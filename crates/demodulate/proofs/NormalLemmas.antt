@@ -1,6 +1,6 @@
 -- The loop to the normal form: what lasts, and that it ends.
-use Rattle.std.proofs.Common.{◌≡◌, ℕ, ◌+◌, ◌<◌, ◌≤◌, max, Bool, true, false, ◌&&◌, ◌==◌, nat_lt, List, [], ◌∷◌, ◌++◌, refl, ap, sym, ◌∙◌, subst, ⊎_elim, arith}
-use Rattle.std.specs.Prelude.{Option, None, Some, option_map, IsTrue, take, if◌then◌else◌}
+use Rattle.std.proofs.Common.{◌≡◌, ℕ, ◌+◌, ◌<◌, ◌≤◌, max, Bool, true, false, ◌&&◌, ◌==◌, nat_lt, List, [], ◌∷◌, map, refl, ap, sym, ◌∙◌, subst, ⊎_elim, arith}
+use Rattle.std.specs.Prelude.{Option, None, Some, option_map, IsTrue, MatchBool, filter, not, if◌then◌else◌}
 use Rattle.std.specs.List.{list_all}
 use Rattle.std.proofs.lemmas.Bool.{and_from, cases_Bool, cond-true, cond-false, lt-ltb}
 use Rattle.std.proofs.lemmas.Option.{none-some, same_Some}
@@ -17,7 +17,7 @@ use Rattle.bank_clause.specs.Clause.{clause_at}
 use Rattle.bank_clause.specs.declared.clause.BankClause.{BankClause}
 use Rattle.bank_clause.specs.declared.member.Member.{Member}
 use Rattle.reduction.specs.Reduced.{IsReduced}
-use Rattle.reduction.proofs.ExtendingLemmas.{steps_go_on}
+use Rattle.reduction.specs.Extending.{StepsGoOn}
 use Rattle.rewriting.specs.Units.{clause_numbered, is_kept}
 use Rattle.rewriting.specs.Laws.{AreWellFormed}
 use Rattle.demodulate.specs.Rank.{clause_rank, has_symbols_below}
@@ -129,15 +129,15 @@ begins ms out c made canonical reduced same = record {
 }
 
 pub goes_on :
-    (ms : List Member) (out : Option ℕ) (c : TreeClause) (old new : Reduced)
+    (law : StepsGoOn) (ms : List Member) (out : Option ℕ) (c : TreeClause) (old new : Reduced)
     → Lasts ms out c old → IsRewritten (kept ms out) old new → Lasts ms out c new
-goes_on ms out c old new before step = record {
+goes_on law ms out c old new before step = record {
   canonical = step.canonical;
   names = step.names ∙ before.names;
   size = omega (arith, step.size, before.size);
   below = (step.lower (bound_for c ms) (clause_size c) (omega arith) before.size (members-below c ms out) before.below).1;
   reduced = λ usage all some formed.
-      steps_go_on usage.is_predicate all c (Some step.number) old new (before.reduced usage all some formed)
+      law usage.is_predicate all c (Some step.number) old new (before.reduced usage all some formed)
       (step.goes_on usage all some (before.formed usage formed)).0;
   formed = λ usage formed.
       ((step.goes_on usage (kept ms out) (λ n d h. h) (before.formed usage formed)).1, formed.1);
@@ -166,16 +166,21 @@ ends ms out c old new before left =
 
 -- ---- the asserted names
 
-pub assertions-more :
-    (xs : List NameLit) (x : NameLit) → assertions (xs ++ x ∷ []) ≡ (if x.positive then assertions xs else (assertions xs ++ x.name ∷ []))
-assertions-more [] x = refl
-assertions-more (y ∷ xs) x = from y.positive x.positive (assertions-more xs x)
+pub asserted-are : (ns : List NameLit) → map (λ (n : NameLit). n.name) (filter (λ (n : NameLit). not n.positive) ns) ≡ assertions ns
+asserted-are [] = refl
+asserted-are (n ∷ ns) = from n.positive (asserted-are ns)
   where
     from :
-        (p q : Bool) → assertions (xs ++ x ∷ []) ≡ (if q then assertions xs else (assertions xs ++ x.name ∷ []))
-        → (if p then assertions (xs ++ x ∷ []) else (y.name ∷ assertions (xs ++ x ∷ [])))
-        ≡ (if q then (if p then assertions xs else (y.name ∷ assertions xs)) else ((if p then assertions xs else (y.name ∷ assertions xs)) ++ x.name ∷ []))
-    from true true h = h
-    from true false h = h
-    from false true h = ap (λ ns. y.name ∷ ns) h
-    from false false h = ap (λ ns. y.name ∷ ns) h
+        (b : Bool) → map (λ (k : NameLit). k.name) (filter (λ (k : NameLit). not k.positive) ns) ≡ assertions ns
+        → map (λ (k : NameLit). k.name) (if not b then n ∷ filter (λ (k : NameLit). not k.positive) ns else filter (λ (k : NameLit). not k.positive) ns)
+        ≡ (if b then assertions ns else (n.name ∷ assertions ns))
+    from true h = h
+    from false h = ap (λ ks. n.name ∷ ks) h
+
+-- ---- answers
+
+pub held : (P Q : Type 0) (b : Bool) → MatchBool b P Q → b ≡ true → P
+held P Q b h is = subst (λ a. MatchBool a P Q) is h
+
+pub refused : (P Q : Type 0) (b : Bool) → MatchBool b P Q → b ≡ false → Q
+refused P Q b h is = subst (λ a. MatchBool a P Q) is h

@@ -51,7 +51,7 @@ mutual
       (in-either v (tree_variables t) (trees_variables ts) there)
 
 mutual
-  instance-passes :
+  pub instance-passes :
       (test : ℕ → ℕ → Bool) (σ : Substitution) (t : Tree)
       → ((v : ℕ) → In v (tree_variables t) → symbols_pass test (σ v) ≡ true) → symbols_pass test t ≡ true → symbols_pass test (instance σ t) ≡ true
   instance-passes test σ (variable v) puts h = puts v (inl refl)

@@ -1,10 +1,9 @@
 // Normal forms: a clause rewritten until no unit rewrites it.
 
-ghost use Rattle.std.specs.Prelude.{◌≡◌, ◌≤◌, IfOk, IsTrue};
+ghost use Rattle.std.specs.Prelude.{◌≡◌, ◌≤◌, IfOk, IsTrue, filter, map, not};
 ghost use Rattle.fol_base.specs.Clause.{clause_size};
 ghost use Rattle.fol_base.specs.Canonical.{IsCanonical};
 ghost use Rattle.fol_base.specs.Literal.{clause_of};
-ghost use Rattle.fol_base.specs.Subsumption.{assertions};
 ghost use Rattle.fol_base.specs.declared.limits.TheConstants.{MOST_SYMBOLS};
 ghost use Rattle.kernel_steps.specs.Names.{are_sorted};
 ghost use Rattle.rewriting.specs.Units.{AreClausesOf};
@@ -14,6 +13,7 @@ use crate::step::rewrite_once;
 use fol_base::Clause;
 use kernel_steps::Reduced;
 use plain_types::{Mem, NameLit};
+use reduction::laws::moves_extend_reductions;
 use reduction::unreduced;
 use rewriting::{Rewriters, Units};
 use std::alloc::Global;
@@ -41,23 +41,24 @@ pub fn normal_form(
         asserted: asserted.as_slice(),
         left_out,
     };
+    moves_extend_reductions();
     let mut made = unreduced(alloc, clause)?;
     'steps: loop {
-        if !rewrite_once(alloc, &by, &mut made)? {
+        let stepped = rewrite_once(alloc, &by, &mut made)?;
+        if !stepped {
             return Ok(made);
         }
     }
 }
 
-/// The numbers of the names that are asserted.
+/// The numbers of the names that are asserted: the negative ones.
 fn asserted_numbers(alloc: Global, names: &[NameLit]) -> Mem<Vec<u32>>
-    ensures { IfOk result (λ asserted. asserted.items ≡ assertions names.now) }
+    ensures { IfOk result (λ asserted. asserted.items ≡ map (λ n. n.name) (filter (λ n. not n.positive) names.now)) }
 {
-    let mut asserted = Vec::new(alloc);
-    for name in names {
-        if !name.positive {
-            asserted.push(name.name)?;
-        }
-    }
+    let asserted = names
+        .iter()
+        .filter(|name| !name.positive)
+        .map(|name| name.name)
+        .collect(alloc)?;
     Ok(asserted)
 }
