@@ -1,13 +1,13 @@
 -- From the calls to the line of a rewrite.
-use Rattle.std.proofs.Common.{◌≡◌, ℕ, ◌-◌, ◌<◌, ◌≤◌, ◌^◌, true, None, Some, List, [], ◌∷◌, ◌++◌, length, map, take, refl, ap, ap₂, sym, ◌∙◌, subst, arith}
+use Rattle.std.proofs.Common.{◌≡◌, ℕ, ◌-◌, ◌<◌, ◌^◌, true, None, Some, List, [], ◌++◌, length, map, take, refl, ap, ap₂, sym, ◌∙◌, subst, arith}
 use Rattle.std.specs.Prelude.{Option, flat_map, slice_get}
 use Rattle.std.proofs.lemmas.List.{take_all}
 use Rattle.std.proofs.lemmas.Option.{none-some, same_Some}
-use Rattle.fol_base.specs.Tree.{Tree, variable, application, Trees, trees_of, list_of, tree_variables, trees_variables, VariablesBelow}
+use Rattle.fol_base.specs.Tree.{Tree, variable, application, trees_of, list_of, trees_variables, VariablesBelow}
 use Rattle.fol_base.specs.Instance.{instance, substitution}
-use Rattle.fol_base.specs.Clause.{TreeLiteral, TreeClause, literal_instance, literal_variables, clause_variables, LiteralVariablesBelow}
+use Rattle.fol_base.specs.Clause.{TreeLiteral, TreeClause, literal_variables, clause_variables, LiteralVariablesBelow}
 use Rattle.fol_base.specs.Ground.{literals_instance}
-use Rattle.fol_base.specs.Canonical.{bound_of, terms_from, renaming, canonical_clause, IsCanonical}
+use Rattle.fol_base.specs.Canonical.{bound_of, renaming, canonical_clause, IsCanonical}
 use Rattle.fol_base.specs.Literal.{clause_of}
 use Rattle.fol_base.specs.Numbering.{with_variables}
 use Rattle.fol_base.specs.Rules.{superposed}

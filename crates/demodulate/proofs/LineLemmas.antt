@@ -19,7 +19,7 @@ use Rattle.fol_base.specs.Rules.{superposed}
 use Rattle.fol_base.specs.Sides.{side_of, other_side_of}
 use Rattle.fol_base.specs.Subsumption.{assertions, is_among}
 use Rattle.fol_base.specs.WellFormed.{SymbolUse, has_arities, have_arities, is_literal_of, are_literals_of, PutsFunctionTermsOf}
-use Rattle.fol_base.specs.declared.limits.TheConstants.{MOST_SYMBOLS, MOST_BOUND_SYMBOLS}
+use Rattle.fol_base.specs.declared.limits.TheConstants.{MOST_SYMBOLS}
 use Rattle.fol_base.proofs.CanonicalLemmas.{length-terms_from, canonical_forms_are_canonical, canonical_forms_keep_sizes}
 use Rattle.fol_base.proofs.InferenceLemmas.{superpositions_in_instances, side_of-instance, other_side_of-instance}
 use Rattle.fol_base.proofs.InstanceLemmas.{literals-agree}
@@ -32,7 +32,7 @@ use Rattle.fol_base.proofs.WellFormedLemmas.{is_literal_of-parts, side_arities, 
 use Rattle.kbo_order.proofs.ClauseLoops.{item-size}
 use Rattle.kbo_order.proofs.MemberLemmas.{In}
 use Rattle.kbo_order.proofs.SubtermLemmas.{greater-size}
-use Rattle.kernel_steps.specs.Conclusion.{Verdict, concludes, verdict, verdict_of, binding_fault, clause_with, binds, bound_literals, by_two}
+use Rattle.kernel_steps.specs.Conclusion.{concludes, verdict, verdict_of, binding_fault, clause_with, binds, bound_literals, by_two}
 use Rattle.kernel_steps.specs.Inference.{RewritesBy}
 use Rattle.kernel_steps.specs.Lines.{IsNumbered, line_variables, is_small_term, has_small_sides, has_small_terms, is_on_literals, step_parents}
 use Rattle.kernel_steps.specs.Names.{sorted_names, are_sorted}

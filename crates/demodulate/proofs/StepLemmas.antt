@@ -1,42 +1,38 @@
 -- From the next line to a rewriting step of a reduced clause.
-use Rattle.std.proofs.Common.{◌≡◌, ℕ, zero, suc, ◌+◌, ◌<◌, ◌≤◌, Bool, true, false, ◌&&◌, ◌==◌, not, nat_lt, List, [], ◌∷◌, ◌++◌, map, take, append-nil, refl, ap, ap₂, sym, ◌∙◌, subst, inl, ⊎_elim, arith}
-use Rattle.std.specs.Prelude.{Option, None, Some, option_map, option_and_then, filter, slice_get, All, Contains, IsTrue, if◌then◌else◌}
+use Rattle.std.proofs.Common.{◌≡◌, ℕ, zero, suc, ◌+◌, ◌<◌, ◌≤◌, Bool, true, false, ◌&&◌, ◌==◌, nat_lt, List, [], ◌∷◌, append-nil, refl, ap, sym, ◌∙◌, subst, inl, arith}
+use Rattle.std.specs.Prelude.{Option, None, Some, option_map, option_and_then, filter, IsTrue, if◌then◌else◌}
 use Rattle.std.specs.List.{list_all}
-use Rattle.std.proofs.lemmas.Bool.{true≢false, and_from, and_parts, cond-true, cond-false, eq-eqb, lt-ltb, false_from_ne_true, ltb-true, cases_lt}
+use Rattle.std.proofs.lemmas.Bool.{and_from, and_parts, cond-true, cond-false, eq-eqb, lt-ltb, false_from_ne_true, ltb-true}
 use Rattle.std.proofs.lemmas.List.Elements.{All-cons, All-nil, Contains-push}
 use Rattle.std.proofs.lemmas.Option.{none-some, same_Some}
-use Rattle.fol_base.specs.Tree.{Tree, variable, application, Trees, no_trees, tree_then, trees_count, tree_variables}
-use Rattle.fol_base.specs.Instance.{Substitution, instance, instances, substitution}
-use Rattle.fol_base.specs.Clause.{TreeLiteral, TreeClause, clause_size, literal_instance, clause_variables}
+use Rattle.fol_base.specs.Instance.{Substitution, instance}
+use Rattle.fol_base.specs.Clause.{TreeLiteral, TreeClause, clause_size, literal_instance}
 use Rattle.fol_base.specs.Ground.{literals_instance}
-use Rattle.fol_base.specs.Canonical.{IsCanonical, canonical_clause, canonical_renaming, bound_of, terms_from}
+use Rattle.fol_base.specs.Canonical.{IsCanonical, canonical_clause, canonical_renaming}
 use Rattle.fol_base.specs.Literal.{clause_of}
 use Rattle.fol_base.specs.Subsumption.{assertions, is_among}
-use Rattle.fol_base.specs.WellFormed.{SymbolUse, has_arities, have_arities, are_literals_of}
+use Rattle.fol_base.specs.WellFormed.{SymbolUse, are_literals_of}
 use Rattle.fol_base.specs.declared.limits.TheConstants.{MOST_SYMBOLS}
 use Rattle.kernel_steps.specs.Conclusion.{verdict, concludes}
 use Rattle.kernel_steps.specs.Derivation.{AreSteps, continued}
-use Rattle.kernel_steps.specs.Inference.{RewritesBy}
-use Rattle.kernel_steps.specs.Lines.{AreLines, IsNumbered, clause_parents, clauses_named, is_on_literals, has_small_terms, step_parents}
-use Rattle.kernel_steps.specs.Moves.{Move, MovesTo}
+use Rattle.kernel_steps.specs.Lines.{IsNumbered, clause_parents, clauses_named, is_on_literals, has_small_terms, step_parents}
+use Rattle.kernel_steps.specs.Moves.{Move}
 use Rattle.kernel_steps.specs.Names.{are_sorted}
 use Rattle.kernel_steps.specs.Parents.{Parent, Parents}
-use Rattle.kernel_steps.specs.Symbols.{symbols_pass, all_symbols_pass, literal_symbols_pass, clause_symbols_pass}
+use Rattle.kernel_steps.specs.Symbols.{symbols_pass, literal_symbols_pass, clause_symbols_pass}
 use Rattle.kernel_steps.specs.declared.step.TheConstants.{CLAUSE_NUMBERS}
-use Rattle.kernel_steps.specs.declared.step.Step.{Step}
 use Rattle.kernel_steps.specs.declared.step.Line.{Line}
 use Rattle.kernel_steps.specs.declared.step.Reduced.{Reduced}
 use Rattle.bank_clause.specs.Clause.{clause_at}
 use Rattle.bank_clause.specs.declared.clause.BankClause.{BankClause}
 use Rattle.bank_clause.specs.declared.member.Member.{Member}
-use Rattle.reduction.specs.Reduced.{BindsSymbolsOf}
 use Rattle.reduction.specs.Extending.{AreLinesOfMove, GoesOn, IsExtended, last_number, parents_with}
 use Rattle.rewriting.specs.Units.{clause_numbered, is_kept, usable}
 use Rattle.rewriting.specs.Redex.{AreNormal}
 use Rattle.rewriting.specs.Laws.{AreWellFormed, MayRewrite, NoneRewrites}
 use Rattle.rewriting.proofs.LawLemmas.{normal_clauses_stay}
-use Rattle.demodulate.specs.Rank.{clause_rank, has_symbols_below}
-use Rattle.demodulate.specs.Normal.{kept, AreSomeOf, HaveSymbolsBelow, IsLower, IsRewritten, IsLeft, IsNextLine}
+use Rattle.demodulate.specs.Rank.{clause_rank}
+use Rattle.demodulate.specs.Normal.{kept, AreSomeOf, IsLower, IsRewritten, IsNextLine}
 use Rattle.demodulate.specs.declared.step.NextLine.{NextLine}
 use Rattle.demodulate.proofs.StepParts.{of_found}
 use Rattle.demodulate.proofs.SymbolLemmas.{made-passes, instance-passes}

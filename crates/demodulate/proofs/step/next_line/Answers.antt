@@ -1,4 +1,4 @@
-use Rattle.std.proofs.Common.{ap, sym, ◌∙◌, subst}
+use Rattle.std.proofs.Common.{subst}
 use Rattle.std.specs.Prelude.{Option, MatchOption}
 use Rattle.fol_base.specs.Literal.{clause_of}
 use Rattle.rewriting.specs.Redex.{AreNormal}
