@@ -7,7 +7,7 @@ use Rattle.std.proofs.lemmas.List.Sums.{sum_by-cons, sum_by-set}
 use Rattle.std.proofs.lemmas.Option.{none-some, same_Some, slice_get_within, get_or_from_slice_get}
 use Rattle.fol_base.specs.Tree.{Tree, variable, application, Trees, no_trees, tree_then, true_tree, tree_size, trees_size, trees_count}
 use Rattle.fol_base.specs.Instance.{Substitution, instance, instances}
-use Rattle.fol_base.specs.Clause.{TreeLiteral, literal_instance, literal_size, clause_variables}
+use Rattle.fol_base.specs.Clause.{TreeLiteral, TreeClause, literal_instance, literal_size, clause_size, clause_variables}
 use Rattle.fol_base.specs.Canonical.{renaming, distinct}
 use Rattle.fol_base.specs.Ground.{is_ground, are_ground, literals_instance}
 use Rattle.fol_base.specs.Rules.{superposed, superposed_literal}
@@ -26,6 +26,7 @@ use Rattle.kbo_order.proofs.ClauseLoops.{item-size}
 use Rattle.kernel_steps.specs.Symbols.{symbols_pass, all_symbols_pass, literal_symbols_pass, clause_symbols_pass}
 use Rattle.kernel_steps.proofs.SymbolLemmas.{side-passes}
 use Rattle.demodulate.specs.Rank.{grounded, ground_trees, tree_rank, literal_rank, clause_rank, RanksFall, RanksKept}
+use Rattle.demodulate.proofs.StepParts.{Rewrites, of_step}
 use Rattle.demodulate.proofs.SymbolLemmas.{made-passes}
 use Rattle.demodulate.proofs.RankLists.{In, tree-listed}
 
@@ -140,7 +141,7 @@ clause-rank-falls bound n ls j l m there less =
     let read = ap (literal_rank bound n) (get_or_from_slice_get ls j l l there) in
     omega (arith, set, read, less)
 
-side-smaller : (z : Side) (l : TreeLiteral) → tree_size (side_of z l) ≤ literal_size l
+pub side-smaller : (z : Side) (l : TreeLiteral) → tree_size (side_of z l) ≤ literal_size l
 side-smaller Left l = omega arith
 side-smaller Right l = omega arith
 
@@ -153,8 +154,20 @@ slice_get-set [] j l m there = absurd (none-some l there)
 slice_get-set (k ∷ ks) zero l m there = refl
 slice_get-set (k ∷ ks) (suc j) l m there = slice_get-set ks j l m there
 
-pub ranks_fall : RanksFall
-ranks_fall is_predicate bound n unit c d some small unit_below below r =
+-- ---- steps
+
+-- one side becomes a smaller term
+pub record Exchanges (c d : TreeClause) : Type 0 where
+  pub j : ℕ
+  pub z : Side
+  pub into : TreeLiteral
+  pub there : slice_get c.literals j ≡ Some into
+  pub new : Tree
+  pub smaller : tree_greater (side_of z into) new ≡ true
+  pub literals : slice_set c.literals j (with_side z new into) ≡ d.literals
+
+pub exchanges : (unit c d : TreeClause) → Rewrites unit c d → Exchanges c d
+exchanges unit c d r =
     let σ : Substitution = r.matcher in
     let e : TreeLiteral = literal_instance σ r.equation in
     let s : Side = r.from_side in
@@ -168,25 +181,61 @@ ranks_fall is_predicate bound n unit c d some small unit_below below r =
     let q = superposed_literal-parts e s one.into z r.place one.literal step in
     let ordered : tree_greater (side_of s e) (other_side_of s e) ≡ true =
     ap₂ tree_greater (side_of-instance σ s r.equation ∙ r.matches) (other_side_of-instance σ s r.equation) ∙ r.greater in
-    let smaller : tree_greater (side_of z one.into) q.new ≡ true =
-    smaller_subterms_make_smaller r.place (side_of z one.into) (side_of s e) (other_side_of s e) q.new q.old_there q.new_made ordered in
-    let d_is : slice_set c.literals r.j one.literal ≡ d.literals = sym (append-nil (slice_set c.literals r.j one.literal)) ∙ one.gives in
-    let kept : clause_symbols_pass (Below bound) d ≡ true = made-passes is_predicate (Below bound) unit c d r unit_below below in
-    let made_passes : literal_symbols_pass (Below bound) one.literal ≡ true =
-    list_all-item (literal_symbols_pass (Below bound)) d.literals r.j one.literal
-    (ap (λ (ls : List TreeLiteral). slice_get ls r.j) (sym d_is) ∙ slice_get-set c.literals r.j one.into one.literal one.into_there) kept in
-    let new_passes : symbols_pass (Below bound) q.new ≡ true =
-    ap (symbols_pass (Below bound)) (sym (with-side-of z q.new one.into) ∙ ap (side_of z) q.gives)
-    ∙ side-passes (Below bound) z one.literal made_passes in
-    let size = greater-size (side_of z one.into) q.new ((tree_greater_decided (side_of z one.into) q.new).0 smaller) in
-    let whole = item-size c.literals r.j one.into one.into_there in
-    let side_size = side-smaller z one.into in
-    let new_small : tree_size q.new ≤ n = omega (arith, size, whole, side_size, small) in
-    let falls = side-rank-falls bound n one.into z q.new (rank-falls bound n (side_of z one.into) q.new some new_small new_passes smaller) in
-    let made_falls : literal_rank bound n one.literal < literal_rank bound n one.into =
-    subst (λ (m : TreeLiteral). literal_rank bound n m < literal_rank bound n one.into) q.gives falls in
-    subst (λ (ls : List TreeLiteral). sum_by (literal_rank bound n) ls < clause_rank bound n c) d_is
-    (clause-rank-falls bound n c.literals r.j one.into one.literal one.into_there made_falls)
+    record {
+      j = r.j;
+      z = z;
+      into = one.into;
+      there = one.into_there;
+      new = q.new;
+      smaller = smaller_subterms_make_smaller r.place (side_of z one.into) (side_of s e) (other_side_of s e) q.new q.old_there q.new_made ordered;
+      literals =
+          ap (slice_set c.literals r.j) q.gives
+          ∙ sym (append-nil (slice_set c.literals r.j one.literal)) ∙ one.gives;
+    }
+
+-- which isn't larger
+exchanged-size : (c d : TreeClause) (x : Exchanges c d) → tree_size x.new ≤ tree_size (side_of x.z x.into)
+exchanged-size c d x = greater-size (side_of x.z x.into) x.new ((tree_greater_decided (side_of x.z x.into) x.new).0 x.smaller)
+
+with-side-size :
+    (z : Side) (new : Tree) (l : TreeLiteral) → tree_size new ≤ tree_size (side_of z l) → literal_size (with_side z new l) ≤ literal_size l
+with-side-size Left new l less = omega (arith, less)
+with-side-size Right new l less = omega (arith, less)
+
+pub step_size : (unit c d : TreeClause) → Rewrites unit c d → clause_size d ≤ clause_size c
+step_size unit c d r =
+    let x = exchanges unit c d r in
+    let m : TreeLiteral = with_side x.z x.new x.into in
+    let less = with-side-size x.z x.new x.into (exchanged-size c d x) in
+    let set = sum_by-set literal_size c.literals x.j m x.into (slice_get_within c.literals x.j x.into x.there) in
+    let read = ap literal_size (get_or_from_slice_get c.literals x.j x.into x.into x.there) in
+    let whole : clause_size d ≡ sum_by literal_size (slice_set c.literals x.j m) = ap (sum_by literal_size) (sym x.literals) in
+    omega (arith, less, set, read, whole)
+
+pub rank_falls :
+    (bound n : ℕ) (unit c d : TreeClause)
+    → 0 < bound → clause_size c ≤ n → clause_symbols_pass (Below bound) unit ≡ true → clause_symbols_pass (Below bound) c ≡ true
+    → Rewrites unit c d → clause_rank bound n d < clause_rank bound n c
+rank_falls bound n unit c d some small unit_below below r =
+    let x = exchanges unit c d r in
+    let z : Side = x.z in
+    let m : TreeLiteral = with_side z x.new x.into in
+    let kept : clause_symbols_pass (Below bound) d ≡ true = made-passes (Below bound) unit c d r unit_below below in
+    let made_passes : literal_symbols_pass (Below bound) m ≡ true =
+    list_all-item (literal_symbols_pass (Below bound)) d.literals x.j m
+    (ap (λ (ls : List TreeLiteral). slice_get ls x.j) (sym x.literals) ∙ slice_get-set c.literals x.j x.into m x.there) kept in
+    let new_passes : symbols_pass (Below bound) x.new ≡ true =
+    ap (symbols_pass (Below bound)) (sym (with-side-of z x.new x.into)) ∙ side-passes (Below bound) z m made_passes in
+    let size = exchanged-size c d x in
+    let whole = item-size c.literals x.j x.into x.there in
+    let side_size = side-smaller z x.into in
+    let new_small : tree_size x.new ≤ n = omega (arith, size, whole, side_size, small) in
+    let falls = side-rank-falls bound n x.into z x.new (rank-falls bound n (side_of z x.into) x.new some new_small new_passes x.smaller) in
+    subst (λ (ls : List TreeLiteral). sum_by (literal_rank bound n) ls < clause_rank bound n c) x.literals
+    (clause-rank-falls bound n c.literals x.j x.into m x.there falls)
+
+pub ranks_fall : RanksFall
+ranks_fall is_predicate bound n unit c d some small unit_below below r = rank_falls bound n unit c d some small unit_below below (of_step is_predicate unit c d r)
 
 -- ---- renaming
 

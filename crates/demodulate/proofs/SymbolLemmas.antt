@@ -17,24 +17,24 @@ use Rattle.fol_base.proofs.InstanceLemmas.{trees_count-instances}
 use Rattle.fol_base.proofs.InferenceLemmas.{side_of-instance, other_side_of-instance}
 use Rattle.fol_base.proofs.TestLemmas.{list_all-item}
 use Rattle.kbo_order.proofs.MemberLemmas.{In, In-contains, any-In, In-left, In-right}
-use Rattle.kernel_steps.specs.Inference.{RewritesBy}
+use Rattle.demodulate.proofs.StepParts.{Rewrites}
 use Rattle.kernel_steps.specs.Symbols.{symbols_pass, all_symbols_pass, literal_symbols_pass, clause_symbols_pass}
 use Rattle.kernel_steps.proofs.SymbolLemmas.{passes-argument, side-passes, superposed-passes}
 
-subterm-passes :
+pub subterm-passes :
     (test : ℕ → ℕ → Bool) (place : List ℕ) (t u : Tree) → subterm place t ≡ Some u → symbols_pass test t ≡ true → symbols_pass test u ≡ true
 subterm-passes test [] t u there h = ap (symbols_pass test) (sym (same_Some t u there)) ∙ h
 subterm-passes test (k ∷ place) t u there h =
     option_and_then_some (subterm place) (argument k t) u there λ a a_is u_is.
     subterm-passes test place a u u_is (passes-argument test k t a a_is h)
 
-in-either : (v : ℕ) (xs ys : List ℕ) → In v (xs ++ ys) → In v xs ⊎ In v ys
+pub in-either : (v : ℕ) (xs ys : List ℕ) → In v (xs ++ ys) → In v xs ⊎ In v ys
 in-either v [] ys h = inr h
 in-either v (x ∷ xs) ys h =
     ⊎_elim (λ e. inl (inl e)) (λ later. ⊎_elim (λ l. inl (inr l)) (λ r. inr r) (in-either v xs ys later)) h
 
 mutual
-  variable-passes :
+  pub variable-passes :
       (test : ℕ → ℕ → Bool) (σ : Substitution) (t : Tree) (v : ℕ)
       → symbols_pass test (instance σ t) ≡ true → In v (tree_variables t) → symbols_pass test (σ v) ≡ true
   variable-passes test σ (variable w) v h there = ⊎_elim (λ e. ap (λ u. symbols_pass test (σ u)) e ∙ h) (λ none. absurd none) there
@@ -51,7 +51,7 @@ mutual
       (in-either v (tree_variables t) (trees_variables ts) there)
 
 mutual
-  instance-passes :
+  pub instance-passes :
       (test : ℕ → ℕ → Bool) (σ : Substitution) (t : Tree)
       → ((v : ℕ) → In v (tree_variables t) → symbols_pass test (σ v) ≡ true) → symbols_pass test t ≡ true → symbols_pass test (instance σ t) ≡ true
   instance-passes test σ (variable v) puts h = puts v (inl refl)
@@ -77,10 +77,10 @@ other-passes test Right l h = side-passes test Left l h
 
 -- the other side of the unit, as it is put in
 pub put-passes :
-    (is_predicate : ℕ → Bool) (test : ℕ → ℕ → Bool) (unit c d : TreeClause) (r : RewritesBy is_predicate unit c d)
+    (test : ℕ → ℕ → Bool) (unit c d : TreeClause) (r : Rewrites unit c d)
     → clause_symbols_pass test unit ≡ true → clause_symbols_pass test c ≡ true
     → symbols_pass test (instance r.matcher (other_side_of r.from_side r.equation)) ≡ true
-put-passes is_predicate test unit c d r unit_passes passes =
+put-passes test unit c d r unit_passes passes =
     let σ : Substitution = r.matcher in
     let side : Tree = side_of r.from_side r.equation in
     let other : Tree = other_side_of r.from_side r.equation in
@@ -107,9 +107,9 @@ both-sides test l Right h k = and_from (symbols_pass test l.left) (symbols_pass 
 
 -- so the symbols of the result are those of the clause and of the unit
 pub made-passes :
-    (is_predicate : ℕ → Bool) (test : ℕ → ℕ → Bool) (unit c d : TreeClause)
-    → RewritesBy is_predicate unit c d → clause_symbols_pass test unit ≡ true → clause_symbols_pass test c ≡ true → clause_symbols_pass test d ≡ true
-made-passes is_predicate test unit c d r unit_passes passes =
+    (test : ℕ → ℕ → Bool) (unit c d : TreeClause)
+    → Rewrites unit c d → clause_symbols_pass test unit ≡ true → clause_symbols_pass test c ≡ true → clause_symbols_pass test d ≡ true
+made-passes test unit c d r unit_passes passes =
     let σ : Substitution = r.matcher in
     let e : TreeLiteral = literal_instance σ r.equation in
     let p : TreeLiteral → Bool = literal_symbols_pass test in
@@ -118,6 +118,6 @@ made-passes is_predicate test unit c d r unit_passes passes =
     ∙ subterm-passes test r.place (side_of r.into_side r.literal) r.old r.old_there
     (side-passes test r.into_side r.literal (list_all-item p c.literals r.j r.literal r.literal_there passes)) in
     let other : symbols_pass test (other_side_of r.from_side e) ≡ true =
-    ap (symbols_pass test) (other_side_of-instance σ r.from_side r.equation) ∙ put-passes is_predicate test unit c d r unit_passes passes in
+    ap (symbols_pass test) (other_side_of-instance σ r.from_side r.equation) ∙ put-passes test unit c d r unit_passes passes in
     superposed-passes test (literals_instance σ unit.literals) 0 r.from_side c.literals r.j r.into_side r.place d.literals r.gives
     (ap (λ (ls : List TreeLiteral). list_all p (literals_instance σ ls)) r.is_unit ∙ and_from (p e) true (both-sides test e r.from_side side other) refl) passes

@@ -1,1 +1,3 @@
 pub mod Rank
+pub mod Steps
+pub mod Normal

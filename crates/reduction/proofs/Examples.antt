@@ -1,5 +1,5 @@
 -- The worked reduction, and lines and numbers that are none.
-use Rattle.std.proofs.Common.{◌≡◌, ℕ, zero, suc, ◌+◌, List, [], ◌∷◌, refl, sym, ◌∙◌, subst, inl, inr, arith}
+use Rattle.std.proofs.Common.{◌≡◌, ℕ, zero, suc, ◌+◌, List, [], ◌∷◌, refl, sym, ◌∙◌, subst, inl, arith}
 use Rattle.std.specs.Prelude.{Some, take, Contains, IsTrue, IsFalse}
 use Rattle.std.proofs.lemmas.Bool.{true≢false}
 use Rattle.std.proofs.lemmas.Option.{none-some, same_Some}
@@ -26,7 +26,8 @@ use Rattle.kernel_steps.specs.declared.step.Line.{Line}
 use Rattle.kernel_steps.specs.Lines.{clause_parents, IsNumbered}
 use Rattle.kernel_steps.specs.Moves.{MovesTo}
 use Rattle.reduction.specs.Reduced.{IsReduced, BindsSymbolsOf}
-use Rattle.reduction.specs.Examples.{units, given, first_line, second_line, rewriting_lines, reduced_to}
+use Rattle.reduction.specs.Extending.{AreLinesOfMove, parents_with}
+use Rattle.reduction.specs.Examples.{units, given, first_line, second_line, rewriting_lines, reduced_to, move_to}
 
 are_steps : AreSteps (CLAUSE_NUMBERS + 1) (reduced_parents (clause_parents units) given) (rewriting_lines (CLAUSE_NUMBERS + 1))
 are_steps zero line there =
@@ -130,3 +131,35 @@ pub later_parent :
     (reduced_to (disequation c c ∷ []) (rewriting_lines (CLAUSE_NUMBERS + 2)) (0 ∷ 1 ∷ []))
     → ⊥
 later_parent it = let e = it.are_lines.steps 1 _ refl in cc
+
+-- ---- one move
+
+second_step : AreSteps (CLAUSE_NUMBERS + 2) (parents_with (clause_parents units) (CLAUSE_NUMBERS + 1) (clause (disequation (f a) c ∷ []))) (second_line (CLAUSE_NUMBERS + 1) ∷ [])
+second_step zero line there =
+    subst
+    (λ (l : Line). verdict l.step
+    (continued (CLAUSE_NUMBERS + 2) (parents_with (clause_parents units) (CLAUSE_NUMBERS + 1) (clause (disequation (f a) c ∷ []))) [])
+    ≡ concludes (clause_of l.clause))
+    (same_Some _ line there) refl
+second_step (suc n) line there = absurd (none-some line there)
+
+pub one_move :
+    AreLinesOfMove is_predicate units (clause (disequation (f a) c ∷ [])) (CLAUSE_NUMBERS + 1)
+    (move_to (Some 1) (disequation c c ∷ [])) (second_line (CLAUSE_NUMBERS + 1) ∷ [])
+one_move =
+    let last : Line = second_line (CLAUSE_NUMBERS + 1) in
+    record {
+      are_lines =
+          record {
+            kinds = refl;
+            steps = second_step;
+            numbered = All-cons IsNumbered last [] (record { canonical = refl; bindings = refl }) (All-nil IsNumbered);
+            terms = refl;
+            small = refl;
+          };
+      named = refl;
+      symbols = λ test truth pass all. refl;
+      ends = refl;
+      moved =
+          step_by 1 (equation (f a) c) (disequation (f a) c) (disequation c c) Left [] (f a) refl refl refl refl refl refl refl refl refl;
+    }

@@ -5,6 +5,7 @@ use Rattle.fol_base.specs.Examples.{a, b, c, f, equation, clause}
 use Rattle.fol_base.specs.Rules.{disequation}
 use Rattle.fol_base.specs.declared.clause.Side.TheVariants.{Left, Right}
 use Rattle.kernel_steps.specs.Examples.{line, literal_from}
+use Rattle.kernel_steps.specs.Moves.{Move}
 use Rattle.kernel_steps.specs.declared.step.TheConstants.{CLAUSE_NUMBERS}
 use Rattle.kernel_steps.specs.declared.step.Step.TheVariants.{Para}
 use Rattle.kernel_steps.specs.declared.step.Line.{Line}
@@ -31,3 +32,7 @@ rewriting_lines parent = first_line ∷ second_line parent ∷ []
 -- a clause of these literals and these lines, by the clauses of these numbers
 abbrev pub reduced_to : List TreeLiteral → List Line → List ℕ → Reduced
 reduced_to ls lines used = record { clause = record { literals = map literal_from ls; names = [] }; lines = lines; used = used }
+
+-- a move by the unit of a number, if by one, to these literals
+abbrev pub move_to : Option ℕ → List TreeLiteral → Move
+move_to by ls = record { by = by; gives = clause ls }

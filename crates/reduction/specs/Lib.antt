@@ -1,2 +1,3 @@
 pub mod Reduced
 pub mod Examples
+pub mod Extending

@@ -38,7 +38,7 @@ pub fn put_used(used: &mut Numbers, number: u32) -> Mem<()>
 }
 
 /// Whether a number stands in a list.
-fn is_listed(numbers: &[u64], number: u64) -> bool
+pub(crate) fn is_listed(numbers: &[u64], number: u64) -> bool
     ensures { result ≡ list_any (λ m. m == number) numbers.now }
 {
     numbers.iter().any(|known| *known == number)

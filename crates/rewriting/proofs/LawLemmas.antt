@@ -1,37 +1,42 @@
 -- Redexes and rewriting steps.
-use Rattle.std.proofs.Common.{◌≡◌, ℕ, Bool, true, false, ◌&&◌, ◌==◌, List, [], ◌∷◌, refl, ap, sym, ◌∙◌, append-nil, not, ⊎_elim}
+use Rattle.std.proofs.Common.{◌≡◌, ℕ, Bool, true, false, ◌&&◌, ◌==◌, List, [], ◌∷◌, refl, ap, sym, ◌∙◌, subst, append-nil, not, ⊎_elim, arith}
 use Rattle.std.specs.Prelude.{Option, None, Some, All, IsTrue, slice_get, slice_set, is_some, if◌then◌else◌}
 use Rattle.std.specs.List.{list_any, list_all}
 use Rattle.std.proofs.lemmas.Bool.{true≢false, and_from, and_parts, false_from_ne_true, not-true}
 use Rattle.std.proofs.lemmas.Option.{same_Some}
 use Rattle.std.proofs.lemmas.List.Elements.{All-nil, All-cons, All-head, All-tail}
-use Rattle.fol_base.specs.Tree.{Tree, variable, application, tree_variables, is_variable, is_truth}
+use Rattle.fol_base.specs.Tree.{Tree, variable, application, true_tree, tree_variables, is_variable, is_truth}
 use Rattle.fol_base.specs.Instance.{Substitution, instance}
 use Rattle.fol_base.specs.Place.{subterm, replaced}
 use Rattle.fol_base.specs.Clause.{TreeLiteral, TreeClause, literal_instance}
+use Rattle.rewriting.specs.Searching.{IsFoundOf}
+use Rattle.rewriting.specs.declared.searching.Found.{Found}
 use Rattle.fol_base.specs.Ground.{literals_instance}
 use Rattle.fol_base.specs.Sides.{side_of, other_side_of, with_side}
 use Rattle.fol_base.specs.WellFormed.{SymbolUse, are_literals_of, is_literal_of}
 use Rattle.fol_base.specs.Rules.{superposed, superposed_literal}
 use Rattle.fol_base.specs.Kind.{is_literal, is_function_term, PutsFunctionTerms}
+use Rattle.fol_base.specs.Order.{tree_greater, TreeGreater}
+use Rattle.fol_base.specs.Subsumption.{assertions}
 use Rattle.fol_base.specs.declared.clause.Side.{Side}
 use Rattle.fol_base.specs.declared.clause.Side.TheVariants.{Left, Right}
 use Rattle.fol_base.proofs.TestLemmas.{list_all-item}
 use Rattle.fol_base.proofs.ConversePlaces.{replaced_where_there}
-use Rattle.fol_base.proofs.RuleLemmas.{superposed-from, superposed_literal-from}
-use Rattle.fol_base.proofs.InferenceLemmas.{side_of-instance, other_side_of-instance, no_truth-instance}
-use Rattle.fol_base.proofs.KindLemmas.{puts_no_truth, function_term-no_truth, no_predicate_term}
+use Rattle.fol_base.proofs.RuleLemmas.{superposed-parts, superposed_literal-parts, superposed-from, superposed_literal-from}
+use Rattle.fol_base.proofs.InferenceLemmas.{side_of-instance}
+use Rattle.fol_base.proofs.KindLemmas.{function_term-no_truth, no_predicate_term}
+use Rattle.fol_base.proofs.OrderLemmas.{tree_equality_decided, tree_greater_decided}
 use Rattle.fol_base.proofs.WellFormedLemmas.{IsAtom, is_literal-cases, is_literal_of-parts}
-use Rattle.kernel_steps.specs.Inference.{AllowsRoot, has_predicate_head, are_of_one_kind}
+use Rattle.kernel_steps.specs.Inference.{RewritesBy, AllowsRoot, has_predicate_head, are_of_one_kind}
 use Rattle.unifier.specs.Matching.{by_pairs}
 use Rattle.unifier.proofs.KindLemmas.{matchers_put_function_terms}
 use Rattle.rewriting.specs.Redex.{spot_at, root_spot, is_within}
-use Rattle.rewriting.specs.Laws.{NormalClausesStay, RedexesRewrite}
+use Rattle.rewriting.specs.Laws.{MayRewrite, AreWellFormed, Becomes, NormalClausesStay, RedexesRewrite, RedexesGive}
 use Rattle.rewriting.proofs.KindLemmas.{kind-at, redex-kinds, predicate-head}
 
 -- ---- from a rewriting step to a redex
 
-all-tests : (p : ℕ → Bool) (vs : List ℕ) → All (λ v. IsTrue (p v)) vs → list_all p vs ≡ true
+pub all-tests : (p : ℕ → Bool) (vs : List ℕ) → All (λ v. IsTrue (p v)) vs → list_all p vs ≡ true
 all-tests p [] all = refl
 all-tests p (v ∷ vs) all =
     and_from (p v) (list_all p vs) (All-head (λ w. IsTrue (p w)) v vs all) (all-tests p vs (All-tail (λ w. IsTrue (p w)) v vs all))
@@ -54,9 +59,6 @@ root-within : (l : TreeLiteral) (z : Side) (place : List ℕ) (new : Tree) → i
 root-within l z [] new within positive root =
     ap (λ (b : Bool). is_within (if b then Some (other_side_of z l) else None) new) (sym positive) ∙ within
 root-within l z (i ∷ place) new within positive root = absurd cc
-
-head-same : (e f : TreeLiteral) → e ∷ [] ≡ f ∷ [] → e ≡ f
-head-same e f h = cc
 
 literal-kind : (usage : SymbolUse) (ls : List TreeLiteral) (j : ℕ) (l : TreeLiteral) → IsTrue (are_literals_of usage ls) → slice_get ls j ≡ Some l → is_literal usage.is_predicate l ≡ true
 literal-kind usage ls j l all there = (is_literal_of-parts usage l (list_all-item (is_literal_of usage) ls j l there all)).kind
@@ -103,6 +105,15 @@ no-atom p l z place old (variable v) literal there kind =
     other.0)
     (kind-at p z l place old literal there))
 
+-- what a step uses is an equation
+step-positive :
+    (e : TreeLiteral) (s : Side) (ls : List TreeLiteral) (j : ℕ) (z : Side) (place : List ℕ) (made : List TreeLiteral)
+    → superposed (e ∷ []) 0 s ls j z place ≡ Some made → e.positive ≡ true
+step-positive e s ls j z place made gives =
+    let one = superposed-parts (e ∷ []) 0 s ls j z place made gives in
+    let from_is : e ≡ one.from = same_Some e one.from one.from_there in
+    ap (λ (k : TreeLiteral). k.positive) from_is ∙ (superposed_literal-parts one.from s one.into z place one.literal one.literal_made).positive
+
 pub normal_clauses_stay : NormalClausesStay
 normal_clauses_stay usage clauses c formed normal n unit d there r =
     let p : ℕ → Bool = usage.is_predicate in
@@ -116,6 +127,9 @@ normal_clauses_stay usage clauses c formed normal n unit d there r =
       there = there;
       equation = r.equation;
       alone = r.is_unit;
+      positive =
+          step-positive (literal_instance r.matcher r.equation) r.from_side c.literals r.j r.into_side r.place d.literals
+          (ap (λ (ls : List TreeLiteral). superposed (literals_instance r.matcher ls) 0 r.from_side c.literals r.j r.into_side r.place) (sym r.is_unit) ∙ r.gives);
       side = r.from_side;
       matcher = r.matcher;
       redex =
@@ -138,8 +152,76 @@ some-replaced place new t old there = from (replaced place new t) refl (replaced
     from None is h = absurd (true≢false (sym h ∙ ap is_some is))
     from (Some made) is h = (made, is)
 
-pub redexes_rewrite : RedexesRewrite
-redexes_rewrite usage clauses c f may formed found =
+-- `$true` is above nothing
+truth-lowest : (t : Tree) → TreeGreater true_tree t → ⊥
+truth-lowest (variable w) greater = ⊎_elim (λ less. absurd (omega (arith, less))) (λ tie. tie.1) greater.1
+truth-lowest (application g us) greater =
+    ⊎_elim
+    (λ less. absurd (omega (arith, less)))
+    (λ tie. ⊎_elim (λ low. absurd (omega (arith, low))) (λ same. same.1) tie.1)
+    greater.1
+
+no-truth : (old new : Tree) → tree_greater old new ≡ true → is_truth old ≡ false
+no-truth old new greater =
+    false_from_ne_true (is_truth old)
+    (λ is.
+    truth-lowest new
+    (subst (λ (t : Tree). TreeGreater t new) ((tree_equality_decided old true_tree).0 is) ((tree_greater_decided old new).0 greater)))
+
+-- so a redex gives something
+pub redexes_give : RedexesGive
+redexes_give clauses c f found =
+    let w = found.rewrite in
+    let e : TreeLiteral = w.equation in
+    let s : Side = f.rewrite.side in
+    let z : Side = f.side in
+    let l : TreeLiteral = found.literal in
+    let σ : Substitution = by_pairs f.rewrite.terms in
+    let e_σ : TreeLiteral = literal_instance σ e in
+    let made = some-replaced f.place (other_side_of s e_σ) (side_of z l) found.old found.old_there in
+    let m : TreeLiteral = with_side z made.0 l in
+    let d : TreeClause = record c { literals = slice_set c.literals f.literal m } in
+    let side_is : side_of s e_σ ≡ found.old = side_of-instance σ s e ∙ w.matched.redex.matches in
+    let no_truth : is_truth (side_of s e_σ) ≡ false =
+    ap is_truth side_is ∙ no-truth found.old (instance σ (other_side_of s e)) w.matched.redex.greater in
+    let step : superposed_literal e_σ s l z f.place ≡ Some m =
+    superposed_literal-from e_σ s l z f.place m
+    (record {
+      positive = w.positive;
+      no_truth = no_truth;
+      old_there = found.old_there ∙ ap Some (sym side_is);
+      new = made.0;
+      new_made = made.1;
+      gives = refl;
+    }) in (
+      d,
+      record {
+        gives =
+            ap (λ (ls : List TreeLiteral). superposed (literals_instance σ ls) 0 s c.literals f.literal z f.place) w.alone
+            ∙ superposed-from (e_σ ∷ []) 0 s c.literals f.literal z f.place d.literals
+            (record {
+              from = e_σ;
+              from_there = refl;
+              into = l;
+              into_there = found.literal_there;
+              literal = m;
+              literal_made = step;
+              gives = append-nil d.literals;
+            });
+        names = refl;
+      },
+    )
+
+-- what a rewrite that was found puts in are function terms, and its unit rewrites the clause
+pub record RewritesFound (p : ℕ → Bool) (c : TreeClause) (f : Found) (unit d : TreeClause) : Type 0 where
+  pub function_terms : PutsFunctionTerms p (by_pairs f.rewrite.terms)
+  pub rewrites : RewritesBy p unit c d
+
+pub found_rewrites :
+    (usage : SymbolUse) (clauses : ℕ → Option TreeClause) (c : TreeClause) (f : Found) (found : IsFoundOf clauses c.literals f)
+    → MayRewrite clauses (assertions c.names) → AreWellFormed usage clauses c
+    → (d : TreeClause) → Becomes found.rewrite.unit c f d → RewritesFound usage.is_predicate c f found.rewrite.unit d
+found_rewrites usage clauses c f found may formed d made =
     let p : ℕ → Bool = usage.is_predicate in
     let w = found.rewrite in
     let e : TreeLiteral = w.equation in
@@ -147,34 +229,13 @@ redexes_rewrite usage clauses c f may formed found =
     let z : Side = f.side in
     let l : TreeLiteral = found.literal in
     let σ : Substitution = by_pairs f.rewrite.terms in
-    let new : Tree = instance σ (other_side_of s e) in
     let unit_formed : IsTrue (are_literals_of usage (e ∷ [])) = ap (are_literals_of usage) (sym w.alone) ∙ formed.1 f.rewrite.number w.unit w.there in
     let equation_kind = literal-kind usage (e ∷ []) 0 e unit_formed refl in
     let literal = literal-kind usage c.literals f.literal l formed.0 found.literal_there in
     let kinds = redex-kinds p e s (spot_at (root_spot z l) f.place) found.old σ equation_kind (kind-at p z l f.place found.old literal found.old_there) w.matched.redex in
-    let is_unit = (may f.rewrite.number w.unit w.there).0 in
-    let equal : e ∷ [] ≡ is_unit.equation ∷ [] = sym w.alone ∙ is_unit.alone in
-    let positive : e.positive ≡ true = ap (λ (k : TreeLiteral). k.positive) (head-same e is_unit.equation equal) ∙ is_unit.positive in
     let function_terms : PutsFunctionTerms p σ = (matchers_put_function_terms p f.rewrite.terms 0 (w.matched.function_terms p kinds.for_matcher)).0 in
-    let made = some-replaced f.place new (side_of z l) found.old found.old_there in
-    let result : TreeClause = record c { literals = slice_set c.literals f.literal (with_side z made.0 l) } in
-    let e_σ : TreeLiteral = literal_instance σ e in
-    let step : superposed_literal e_σ s l z f.place ≡ Some (with_side z made.0 l) =
-    superposed_literal-from e_σ s l z f.place (with_side z made.0 l)
-    (record {
-      positive = positive;
-      no_truth =
-          ap is_truth (side_of-instance σ s e)
-          ∙ no_truth-instance σ (puts_no_truth p σ function_terms) (side_of s e) kinds.no_truth;
-      old_there = found.old_there ∙ ap Some (sym w.matched.redex.matches ∙ sym (side_of-instance σ s e));
-      new = made.0;
-      new_made = ap (λ t. replaced f.place t (side_of z l)) (other_side_of-instance σ s e) ∙ made.1;
-      gives = refl;
-    }) in
     record {
-      unit = w.unit;
-      there = w.there;
-      result = result;
+      function_terms = function_terms;
       rewrites =
           record {
             equation = e;
@@ -194,20 +255,12 @@ redexes_rewrite usage clauses c f may formed found =
             greater = w.matched.redex.greater;
             no_new_variables =
                 tests-all (λ v. list_any (λ u. v == u) (tree_variables (side_of s e))) (tree_variables (other_side_of s e)) w.matched.redex.no_new_variables;
-            root_allowed = root-within l z f.place new w.matched.redex.within;
-            asserted = (may f.rewrite.number w.unit w.there).1;
-            gives =
-                ap (λ (ls : List TreeLiteral). superposed (literals_instance σ ls) 0 s c.literals f.literal z f.place) w.alone
-                ∙ superposed-from (e_σ ∷ []) 0 s c.literals f.literal z f.place result.literals
-                (record {
-                  from = e_σ;
-                  from_there = refl;
-                  into = l;
-                  into_there = found.literal_there;
-                  literal = with_side z made.0 l;
-                  literal_made = step;
-                  gives = append-nil result.literals;
-                });
-            names = refl;
+            root_allowed = root-within l z f.place (instance σ (other_side_of s e)) w.matched.redex.within;
+            asserted = may f.rewrite.number w.unit w.there;
+            gives = made.gives;
+            names = made.names;
           };
     }
+
+pub redexes_rewrite : RedexesRewrite
+redexes_rewrite usage clauses c f found may formed d made = (found_rewrites usage clauses c f found may formed d made).rewrites

@@ -4,8 +4,8 @@
 mod IndexLemmas
 mod UnitLemmas
 mod PairLemmas
-mod TryLemmas
-mod SearchLemmas
-mod KindLemmas
-mod LawLemmas
+pub mod TryLemmas
+pub mod SearchLemmas
+pub mod KindLemmas
+pub mod LawLemmas
 mod RewritableLemmas

@@ -1,23 +1,30 @@
 -- From the search of a member to whether a unit rewrites it.
-use Rattle.std.proofs.Common.{◌≡◌, ℕ, Bool, true, false, not, ◌&&◌, ◌==◌, List, [], ◌∷◌, ◌++◌, refl, ap, sym, ◌∙◌, subst, inl, inr, ⊎_elim, ◌<◌, length, get_or}
+use Rattle.std.proofs.Common.{◌≡◌, ◌⊎◌, ℕ, Bool, true, false, not, ◌&&◌, ◌==◌, List, [], ◌∷◌, ◌++◌, refl, ap, sym, ◌∙◌, subst, inl, inr, ⊎_elim, ◌<◌, length, get_or, eqb, arith}
 use Rattle.std.specs.Prelude.{Option, None, Some, option_and_then, IsTrue, All, if◌then◌else◌, MatchOption, MatchBool, is_some}
 use Rattle.std.proofs.lemmas.Bool.{true≢false, cases_Bool, cond-true, cond-false, eqb-true, eq-eqb, and_from, and_parts, false_from_ne_true}
 use Rattle.std.proofs.lemmas.Option.{none-some, same_Some}
-use Rattle.std.proofs.lemmas.List.Elements.{All-contains}
+use Rattle.std.specs.Prelude.{Contains}
+use Rattle.std.specs.List.{dedup}
+use Rattle.std.specs.List.Sorted.{IsPermutation, IsSorted, IsStrictlyIncreasing}
+use Rattle.std.specs.Ordering.{nat_cmp}
+use Rattle.std.proofs.lemmas.List.Elements.{All-contains, Contains-append_cases, Contains-append_left, Contains-append_right, Contains-push, Contains-push_cases}
+use Rattle.std.proofs.lemmas.List.Kept.{Contains-dedup_nat, Contains-from_dedup}
+use Rattle.std.proofs.lemmas.List.Sorted.{IsPermutation-sym, Contains-permutation}
+use Rattle.std.proofs.lemmas.Map.Keys.{IsStrictlyIncreasing-dedup}
 use Rattle.fol_base.specs.Clause.{TreeLiteral, TreeClause}
 use Rattle.fol_base.specs.WellFormed.{SymbolUse, are_literals_of}
 use Rattle.fol_base.specs.Subsumption.{assertions, is_among}
 use Rattle.kernel_steps.specs.Inference.{RewritesBy}
 use Rattle.bank_clause.specs.Clause.{clause_at}
 use Rattle.bank_clause.specs.declared.member.Member.{Member}
-use Rattle.rewriting.specs.Units.{IsUnit, clause_numbered, is_kept, usable, usable_clause}
+use Rattle.rewriting.specs.Units.{clause_numbered, is_kept, usable, usable_clause}
 use Rattle.rewriting.specs.Redex.{AreNormal}
 use Rattle.rewriting.specs.Searching.{IsFoundOf}
 use Rattle.rewriting.specs.Laws.{AreWellFormed, MayRewrite}
-use Rattle.rewriting.specs.Rewritable.{IsFormed, IsRewrittenBy, AreNumbersOf}
+use Rattle.rewriting.specs.Rewritable.{IsFormed, IsRewrittenBy, SomeMember, AreNumbersOf}
 use Rattle.rewriting.specs.declared.searching.Found.{Found}
 use Rattle.rewriting.proofs.TryLemmas.{numbers-asserted}
-use Rattle.rewriting.proofs.LawLemmas.{normal_clauses_stay, redexes_rewrite}
+use Rattle.rewriting.proofs.LawLemmas.{normal_clauses_stay, redexes_rewrite, redexes_give}
 
 -- the unit stands alone in the list
 abbrev pub IsAlone : List Member → Member → Type 0
@@ -85,23 +92,23 @@ own-assertions m = numbers-asserted m.clause.names
 
 pub found-rewritten :
     (usage : SymbolUse) (ms : List Member) (unit m : Member) (asserted : List ℕ) (f : Found)
-    → IsAlone ms unit → IsUnit (clause_at unit.clause) → asserted ≡ m.clause.names → IsFormed usage unit → IsFormed usage m
+    → IsAlone ms unit → asserted ≡ m.clause.names → IsFormed usage unit → IsFormed usage m
     → IsFoundOf (usable ms (Some m.number) asserted) (clause_at m.clause).literals f
     → IsRewrittenBy usage.is_predicate unit m
-found-rewritten usage ms unit m asserted f alone is_unit own of_unit of_member found =
+found-rewritten usage ms unit m asserted f alone own of_unit of_member found =
     let clauses : ℕ → Option TreeClause = usable ms (Some m.number) asserted in
     let may : MayRewrite clauses (assertions (clause_at m.clause).names) = λ n d there.
-    let u = the-unit ms unit m.number n asserted d alone there in (
-      subst IsUnit u.same is_unit,
-      subst (λ (k : TreeClause). is_among (assertions k.names) (assertions (clause_at m.clause).names) ≡ true) u.same
-          (ap (is_among (assertions (clause_at unit.clause).names)) (own-assertions m ∙ sym own) ∙ u.among),
-    ) in
-    let one = redexes_rewrite usage clauses (clause_at m.clause) f may (formed usage ms unit m asserted alone of_unit of_member) found in
-    let u = the-unit ms unit m.number f.rewrite.number asserted one.unit alone one.there in
+    let u = the-unit ms unit m.number n asserted d alone there in
+    subst (λ (k : TreeClause). is_among (assertions k.names) (assertions (clause_at m.clause).names) ≡ true) u.same
+    (ap (is_among (assertions (clause_at unit.clause).names)) (own-assertions m ∙ sym own) ∙ u.among) in
+    let made = redexes_give clauses (clause_at m.clause) f found in
+    let rewrites =
+    redexes_rewrite usage clauses (clause_at m.clause) f found may (formed usage ms unit m asserted alone of_unit of_member) made.0 made.1 in
+    let u = the-unit ms unit m.number f.rewrite.number asserted found.rewrite.unit alone found.rewrite.there in
     record {
       another = u.another;
-      result = one.result;
-      rewrites = subst (λ (k : TreeClause). RewritesBy usage.is_predicate k (clause_at m.clause) one.result) (sym u.same) one.rewrites;
+      result = made.0;
+      rewrites = subst (λ (k : TreeClause). RewritesBy usage.is_predicate k (clause_at m.clause) made.0) (sym u.same) rewrites;
     }
 
 pub normal-stays :
@@ -118,9 +125,17 @@ normal-stays usage ms unit m asserted alone own of_unit of_member normal r =
 
 -- ---- the list
 
+-- the numbers of the members that satisfy the predicate, in their order
+abbrev pub AreListed : (Member → Type 0) → List Member → List ℕ → Type 0
+AreListed Holds [] [] = Unit {0}
+AreListed Holds [] (n ∷ ns) = ⊥
+AreListed Holds (m ∷ ms) [] = (Holds m → ⊥) × AreListed Holds ms []
+AreListed Holds (m ∷ ms) (n ∷ ns) =
+    ((Holds m → ⊥) × AreListed Holds ms (n ∷ ns)) ⊎ (Holds m × (n ≡ m.number) × AreListed Holds ms ns)
+
 pub one-not :
     (Holds : Member → Type 0) (ms : List Member) (ns : List ℕ) (m : Member)
-    → AreNumbersOf Holds ms ns → (Holds m → ⊥) → AreNumbersOf Holds (ms ++ m ∷ []) ns
+    → AreListed Holds ms ns → (Holds m → ⊥) → AreListed Holds (ms ++ m ∷ []) ns
 one-not Holds [] [] m h refused = (refused, tt)
 one-not Holds [] (n ∷ ns) m h refused = absurd h
 one-not Holds (k ∷ ms) [] m h refused = (h.0, one-not Holds ms [] m h.1 refused)
@@ -132,7 +147,7 @@ one-not Holds (k ∷ ms) (n ∷ ns) m h refused =
 
 pub one-more :
     (Holds : Member → Type 0) (ms : List Member) (ns : List ℕ) (m : Member)
-    → AreNumbersOf Holds ms ns → Holds m → AreNumbersOf Holds (ms ++ m ∷ []) (ns ++ m.number ∷ [])
+    → AreListed Holds ms ns → Holds m → AreListed Holds (ms ++ m ∷ []) (ns ++ m.number ∷ [])
 one-more Holds [] [] m h held = inr (held, refl, tt)
 one-more Holds [] (n ∷ ns) m h held = absurd h
 one-more Holds (k ∷ ms) [] m h held = inl (h.0, one-more Holds ms [] m h.1 held)
@@ -142,28 +157,101 @@ one-more Holds (k ∷ ms) (n ∷ ns) m h held =
     (λ b. inr (b.0, b.1, one-more Holds ms ns m b.2 held))
     h
 
+-- ---- each once, rising
+
+empty : {X : Type 0} (x : X) → Contains [] x → ⊥
+empty {X} x h = All-contains (λ (y : X). ⊥) [] x (λ i d lt. absurd (omega arith)) h
+
+first-or-later : {X : Type 0} (x : X) (xs : List X) (y : X) → Contains (x ∷ xs) y → (x ≡ y) ⊎ Contains xs y
+first-or-later x xs y h =
+    ⊎_elim (λ e. ⊎_elim (λ a. absurd (empty y a)) (λ a. inl a) (Contains-push_cases [] x y e)) (λ e. inr e) (Contains-append_cases (x ∷ []) xs y h)
+
+first : {X : Type 0} (x : X) (xs : List X) → Contains (x ∷ xs) x
+first x xs = Contains-append_left (x ∷ []) xs x (Contains-push [] x)
+
+later : {X : Type 0} (x : X) (xs : List X) (y : X) → Contains xs y → Contains (x ∷ xs) y
+later x xs y h = Contains-append_right (x ∷ []) xs y h
+
+one-later : (Holds : Member → Type 0) (m : Member) (ms : List Member) (n : ℕ) → SomeMember Holds ms n → SomeMember Holds (m ∷ ms) n
+one-later Holds m ms n s = record { member = s.member; there = later m ms s.member s.there; holds = s.holds; number = s.number }
+
+told : (Holds : Member → Type 0) (ms : List Member) (ns : List ℕ) → AreListed Holds ms ns → (n : ℕ) → Contains ns n → SomeMember Holds ms n
+told Holds [] [] h n there = absurd (empty n there)
+told Holds [] (k ∷ ns) h n there = absurd h
+told Holds (m ∷ ms) [] h n there = absurd (empty n there)
+told Holds (m ∷ ms) (k ∷ ns) h n there =
+    ⊎_elim
+    (λ a. one-later Holds m ms n (told Holds ms (k ∷ ns) a.1 n there))
+    (λ b.
+    ⊎_elim
+    (λ e. record { member = m; there = first m ms; holds = b.0; number = sym b.1 ∙ e })
+    (λ e. one-later Holds m ms n (told Holds ms ns b.2 n e))
+    (first-or-later k ns n there))
+    h
+
+listed :
+    (Holds : Member → Type 0) (ms : List Member) (ns : List ℕ)
+    → AreListed Holds ms ns → (k : Member) → Contains ms k → Holds k → Contains ns k.number
+listed Holds [] [] h k there holds = absurd (empty k there)
+listed Holds [] (n ∷ ns) h k there holds = absurd h
+listed Holds (m ∷ ms) [] h k there holds =
+    ⊎_elim
+    (λ e. absurd (h.0 (subst Holds (sym e) holds)))
+    (λ e. listed Holds ms [] h.1 k e holds)
+    (first-or-later m ms k there)
+listed Holds (m ∷ ms) (n ∷ ns) h k there holds =
+    ⊎_elim
+    (λ a.
+    ⊎_elim
+    (λ e. absurd (a.0 (subst Holds (sym e) holds)))
+    (λ e. listed Holds ms (n ∷ ns) a.1 k e holds)
+    (first-or-later m ms k there))
+    (λ b.
+    ⊎_elim
+    (λ e. subst (Contains (n ∷ ns)) (b.1 ∙ ap (λ (x : Member). x.number) e) (first n ns))
+    (λ e. later n ns k.number (listed Holds ms ns b.2 k e holds))
+    (first-or-later m ms k there))
+    h
+
+pub numbers-rising :
+    (Holds : Member → Type 0) (ms : List Member) (ns sorted made : List ℕ)
+    → AreListed Holds ms ns → IsPermutation ns sorted → IsSorted nat_cmp sorted → made ≡ dedup eqb sorted → AreNumbersOf Holds ms made
+numbers-rising Holds ms ns sorted made h p s is = record {
+  rise = subst IsStrictlyIncreasing (sym is) (IsStrictlyIncreasing-dedup sorted s);
+  exact = λ n. (
+    λ there.
+        told Holds ms ns h n
+        (Contains-permutation sorted ns n (IsPermutation-sym ns sorted p)
+        (Contains-from_dedup eqb sorted n (subst (λ ks. Contains ks n) is there))),
+    λ one.
+        subst (λ ks. Contains ks n) (sym is)
+        (Contains-dedup_nat sorted n
+        (Contains-permutation ns sorted n p (subst (Contains ns) one.number (listed Holds ms ns h one.member one.there one.holds)))),
+  );
+}
+
 -- ---- from the calls
 
 pub answer-is :
     (usage : SymbolUse) (ms : List Member) (unit m : Member) (asserted : List ℕ) (ls : List TreeLiteral) (o : Option Found) (answer : Bool)
-    → IsAlone ms unit → IsUnit (clause_at unit.clause) → asserted ≡ m.clause.names → ls ≡ (clause_at m.clause).literals
+    → IsAlone ms unit → asserted ≡ m.clause.names → ls ≡ (clause_at m.clause).literals
     → MatchOption o (AreNormal (usable ms (Some m.number) asserted) ls) (IsFoundOf (usable ms (Some m.number) asserted) ls)
     → answer ≡ is_some o → IsFormed usage unit → IsFormed usage m
     → MatchBool answer (IsRewrittenBy usage.is_predicate unit m) (IsRewrittenBy usage.is_predicate unit m → ⊥)
-answer-is usage ms unit m asserted ls None answer alone is_unit own same found told of_unit of_member =
+answer-is usage ms unit m asserted ls None answer alone own same found told of_unit of_member =
     subst (λ b. MatchBool b (IsRewrittenBy usage.is_predicate unit m) (IsRewrittenBy usage.is_predicate unit m → ⊥)) (sym told)
     (normal-stays usage ms unit m asserted alone own of_unit of_member (subst (λ ks. AreNormal (usable ms (Some m.number) asserted) ks) same found))
-answer-is usage ms unit m asserted ls (Some f) answer alone is_unit own same found told of_unit of_member =
+answer-is usage ms unit m asserted ls (Some f) answer alone own same found told of_unit of_member =
     subst (λ b. MatchBool b (IsRewrittenBy usage.is_predicate unit m) (IsRewrittenBy usage.is_predicate unit m → ⊥)) (sym told)
-    (found-rewritten usage ms unit m asserted f alone is_unit own of_unit of_member
+    (found-rewritten usage ms unit m asserted f alone own of_unit of_member
     (subst (λ ks. IsFoundOf (usable ms (Some m.number) asserted) ks f) same found))
 
 pub one-told :
     (Holds : Member → Type 0) (ms : List Member) (old new : List ℕ) (m : Member) (answer : Bool)
-    → AreNumbersOf Holds ms old → MatchBool answer (Holds m) (Holds m → ⊥) → new ≡ (if answer then old ++ m.number ∷ [] else old)
-    → AreNumbersOf Holds (ms ++ m ∷ []) new
-one-told Holds ms old new m true h told is = subst (λ ns. AreNumbersOf Holds (ms ++ m ∷ []) ns) (sym is) (one-more Holds ms old m h told)
-one-told Holds ms old new m false h told is = subst (λ ns. AreNumbersOf Holds (ms ++ m ∷ []) ns) (sym is) (one-not Holds ms old m h told)
+    → AreListed Holds ms old → MatchBool answer (Holds m) (Holds m → ⊥) → new ≡ (if answer then old ++ m.number ∷ [] else old)
+    → AreListed Holds (ms ++ m ∷ []) new
+one-told Holds ms old new m true h told is = subst (λ ns. AreListed Holds (ms ++ m ∷ []) ns) (sym is) (one-more Holds ms old m h told)
+one-told Holds ms old new m false h told is = subst (λ ns. AreListed Holds (ms ++ m ∷ []) ns) (sym is) (one-not Holds ms old m h told)
 
 pub member-formed : (usage : SymbolUse) (ms read : List Member) (i : ℕ) (m : Member) → read ≡ ms → i < length read → m ≡ get_or read i m → All (IsFormed usage) ms → IsFormed usage m
 member-formed usage ms read i m same less is all =

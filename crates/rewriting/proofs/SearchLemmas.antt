@@ -20,6 +20,7 @@ use Rattle.bank_clause.specs.declared.clause.BankClause.{BankClause}
 use Rattle.bank_clause.specs.declared.member.Member.{Member}
 use Rattle.fol_base.specs.Subsumption.{assertions, is_among}
 use Rattle.disc_tree.proofs.UnifierLemmas.{generalisation-compatible}
+use Rattle.rewriting.proofs.TryLemmas.{redex-may}
 use Rattle.rewriting.specs.Units.{HasCandidates, usable, usable_clause, clause_numbered, side_number, is_kept}
 use Rattle.rewriting.specs.Redex.{Spot, spot_at, inner, root_spot, HasRedex, IsNormal, IsNormalLiteral}
 use Rattle.rewriting.specs.Searching.{IsPlaced, IsFoundIn, IsFoundInSome, IsFoundAt, IsFoundAtSide, IsFoundOf, IsFoundOfLiteral, IsFoundOfSide, IsRewrite, NotBy}
@@ -55,7 +56,7 @@ usable-same out names n c d h = same (is_kept out n && is_among (assertions (cla
     same true e = same_Some (clause_at c) d e
     same false e = absurd (none-some d e)
 
-usable-from :
+pub usable-from :
     (ms : List Member) (out : Option ℕ) (names : List ℕ) (n : ℕ) (d : TreeClause) → usable ms out names n ≡ Some d
     → (c : BankClause) × (clause_numbered n ms ≡ Some c) × (clause_at c ≡ d)
 usable-from ms out names n d h = from (clause_numbered n ms) refl h
@@ -76,7 +77,7 @@ none-found ms out names spot old numbers all none h =
     let unit = usable-from ms out names h.number h.unit h.there in
     none (side_number h.number h.side)
     (all h.number unit.0 h.equation h.side unit.1
-    (ap (λ (d : TreeClause). d.literals) unit.2 ∙ h.alone) h.redex.no_new_variables
+    (ap (λ (d : TreeClause). d.literals) unit.2 ∙ h.alone) (redex-may h.equation h.side spot old h.matcher h.redex)
     (generalisation-compatible (side_of h.side h.equation) old h.matcher h.redex.matches))
     h refl
 

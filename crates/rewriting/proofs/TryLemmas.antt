@@ -1,12 +1,12 @@
 -- One entry of the index at a term: what it gives.
-use Rattle.std.proofs.Common.{◌≡◌, ℕ, Bool, true, false, ◌&&◌, List, [], ◌∷◌, map, refl, ap, sym, ◌∙◌, subst, Bor}
+use Rattle.std.proofs.Common.{◌≡◌, ℕ, Bool, true, false, not, ◌&&◌, List, [], ◌∷◌, map, refl, ap, sym, ◌∙◌, subst, Bor}
 use Rattle.std.specs.Prelude.{Option, None, Some, IsTrue, IfSome, MatchOption, slice_get, option_map, option_and_then, if◌then◌else◌}
 use Rattle.fol_base.specs.Subsumption.{assertions, is_among}
 use Rattle.bank_clause.specs.Clause.{clause_at}
 use Rattle.bank_clause.specs.Parts.{assertion}
 use Rattle.bank_clause.specs.declared.member.Member.{Member}
 use Rattle.rewriting.specs.declared.units.Unit.{Unit}
-use Rattle.std.proofs.lemmas.Bool.{true≢false, and_parts, and_from}
+use Rattle.std.proofs.lemmas.Bool.{true≢false, false_from_ne_true, and_parts, and_from}
 use Rattle.std.proofs.lemmas.Option.{none-some, same_Some}
 use Rattle.fol_base.specs.Tree.{Tree, is_variable, VariablesBelow}
 use Rattle.fol_base.specs.Instance.{Substitution, instance}
@@ -14,9 +14,11 @@ use Rattle.fol_base.specs.Clause.{TreeLiteral, TreeClause}
 use Rattle.fol_base.specs.Sides.{side_of, other_side_of}
 use Rattle.fol_base.specs.Order.{tree_greater}
 use Rattle.fol_base.specs.declared.clause.Side.{Side}
+use Rattle.fol_base.proofs.TreeOrderLemmas.{tree_greater-itself, tree_greater-trans}
+use Rattle.kbo_order.proofs.StableLemmas.{trees_stable}
 use Rattle.unifier.specs.Laws.{are_of_one_kind, AreFunctionPairs}
 use Rattle.unifier.specs.Matching.{by_pairs, are_below, IsMatched, NoMatcher}
-use Rattle.rewriting.specs.Units.{has_other_variables, side_number, usable, usable_clause, is_kept, clause_numbered}
+use Rattle.rewriting.specs.Units.{has_other_variables, may_rewrite, side_number, usable, usable_clause, is_kept, clause_numbered}
 use Rattle.rewriting.specs.Redex.{Spot, IsRedex, is_within}
 use Rattle.rewriting.specs.Searching.{IsMatchedBy, NotBy}
 use Rattle.rewriting.proofs.IndexLemmas.{side_number-unit, side_number-side}
@@ -169,9 +171,26 @@ entry-refused clauses spot old entry number side unit e is there alone refused =
     let equal : e ≡ f = cc in
     refused σ (subst (λ (k : TreeLiteral). IsRedex k side spot old σ) (sym equal) r))
 
+-- an equation has a redex only by a side by which it may rewrite
+pub redex-may : (e : TreeLiteral) (s : Side) (spot : Spot) (old : Tree) (σ : Substitution) → IsRedex e s spot old σ → may_rewrite s e ≡ true
+redex-may e s spot old σ r =
+    let side : Tree = side_of s e in
+    let other : Tree = other_side_of s e in
+    and_from (has_other_variables s e) (not (tree_greater other side)) r.no_new_variables
+    (ap not
+    (false_from_ne_true (tree_greater other side)
+    (λ above.
+    let above_here : tree_greater (instance σ other) old ≡ true =
+    ap (tree_greater (instance σ other)) (sym r.matches) ∙ trees_stable σ other side above in
+    true≢false (sym (tree_greater-trans old (instance σ other) old r.greater above_here) ∙ tree_greater-itself old))))
+
 pub one-way :
-    (e : TreeLiteral) (s : Side) (spot : Spot) (old : Tree) → has_other_variables s e ≡ false → (σ : Substitution) → IsRedex e s spot old σ → ⊥
-one-way e s spot old refused σ r = true≢false (sym r.no_new_variables ∙ refused)
+    (e : TreeLiteral) (s : Side) (spot : Spot) (old : Tree) → may_rewrite s e ≡ false → (σ : Substitution) → IsRedex e s spot old σ → ⊥
+one-way e s spot old refused σ r = true≢false (sym (redex-may e s spot old σ r) ∙ refused)
+
+-- such a side has the other's variables
+pub may-has : (e : TreeLiteral) (s : Side) → may_rewrite s e ≡ true → has_other_variables s e ≡ true
+may-has e s may = (and_parts (has_other_variables s e) (not (tree_greater (other_side_of s e) (side_of s e))) may).0
 
 -- the one literal of a unit, as it is lent
 pub alone-lent : (lent ls : List TreeLiteral) (l e : TreeLiteral) → lent ≡ ls → ls ≡ e ∷ [] → slice_get lent 0 ≡ Some l → l ≡ e

@@ -1,5 +1,5 @@
 -- Units by their numbers: as the map has them, and as contracts see them.
-use Rattle.std.proofs.Common.{◌≡◌, ℕ, Bool, true, false, List, [], ◌∷◌, map, refl, ap, ap₂, sym, ◌∙◌, subst, ⊎_elim, Bor}
+use Rattle.std.proofs.Common.{◌≡◌, ℕ, ◌<◌, ◌^◌, Bool, true, false, List, [], ◌∷◌, map, refl, ap, ap₂, sym, ◌∙◌, subst, ⊎_elim, Bor}
 use Rattle.std.specs.Prelude.{Option, None, Some, option_map, option_copied, cond, nat_eq, if◌then◌else◌, IfSome, IsTrue, ◌==◌, Result, Ok, OnOk}
 use Rattle.std.specs.Map.{lookup}
 use Rattle.std.proofs.lemmas.Bool.{cases_Bool, cond-true, cond-false, eq-eqb, eqb-true, true≢false}
@@ -13,7 +13,7 @@ use Rattle.bank_clause.specs.declared.member.Member.{Member}
 use Rattle.bank_clause.specs.Clause.{clause_at, IsClauseOf}
 use Rattle.bank_clause.specs.declared.clause.BankClause.{BankClause}
 use Rattle.disc_tree.specs.Entries.{IsIn, numbers_where}
-use Rattle.rewriting.specs.Units.{clause_numbered, member_of, AreUnitsOf, oriented, IsUnit, side_number, has_other_variables, HasCandidates, IsRecorded, IsUnitAt}
+use Rattle.rewriting.specs.Units.{clause_numbered, member_of, AreClausesOf, oriented, IsUnit, side_number, may_rewrite, HasCandidates, IsRecorded, IsUnitAt}
 use Rattle.rewriting.specs.Index.{KeepsOthers}
 use Rattle.rewriting.specs.declared.index.Orientation.{Orientation}
 use Rattle.fol_base.specs.declared.clause.Side.{Side}
@@ -52,7 +52,7 @@ candidates sides es t numbers at is n c e s there alone by compatible =
     subst (IsIn (side_number n s)) (sym is)
     (in-found (λ term. compatible_generalisation term t) sides (side_of s e) (side_number n s)
     (subst (λ (f : TreeLiteral). IsIn (side_of s f, side_number n s) sides) same
-    (unit.indexed s (subst (λ (f : TreeLiteral). IsTrue (has_other_variables s f)) (sym same) by)))
+    (unit.indexed s (subst (λ (f : TreeLiteral). IsTrue (may_rewrite s f)) (sym same) by)))
     compatible)
 
 pub lent-clause :
@@ -67,12 +67,19 @@ pub lent-recorded :
 lent-recorded sides n es None at h = tt
 lent-recorded sides n es (Some u) at h = (at n u.now (sym h)).recorded
 
+pub lent-numbered :
+    (sides : List (Tree × ℕ)) (n : ℕ) (es : List (ℕ × Unit)) (o : Option (Bor Unit))
+    → AreUnitsAt sides es → option_copied o ≡ lookup (nat_eq n) es → IfSome o (λ (u : Bor Unit). n < 2 ^ 32)
+lent-numbered sides n es None at h = tt
+lent-numbered sides n es (Some u) at h = (at n u.now (sym h)).numbered
+
 -- ---- a unit more, or fewer
 
 pub kept-others :
     (number : ℕ) (old new : List (Tree × ℕ)) (n : ℕ) (u : Unit)
     → KeepsOthers number old new → (n ≡ number → ⊥) → IsUnitAt old n u → IsUnitAt new n u
 kept-others number old new n u keeps other at = record {
+  numbered = at.numbered;
   recorded = at.recorded;
   indexed = λ s by. keeps (side_of s at.recorded.unit.equation) n s other (at.indexed s by);
 }
@@ -91,10 +98,11 @@ absent-kept number old new es fs same keeps absent at n u there =
 
 pub made-unit :
     (sides : List (Tree × ℕ)) (number : ℕ) (clause made : BankClause) (by : Orientation) (l : TreeLiteral) (is : IsUnit (clause_at clause))
-    → made ≡ clause → l ≡ is.equation → ((s : Side) → oriented s by ≡ has_other_variables s l)
+    → number < 2 ^ 32 → made ≡ clause → l ≡ is.equation → ((s : Side) → oriented s by ≡ may_rewrite s l)
     → ((s : Side) → IsTrue (oriented s by) → IsIn (side_of s l, side_number number s) sides)
     → IsUnitAt sides number (record { clause = made; by = by })
-made-unit sides number clause made by l is same equation flags put = record {
+made-unit sides number clause made by l is low same equation flags put = record {
+  numbered = low;
   recorded = record {
     unit = record { equation = l; alone = ap (λ (c : BankClause). (clause_at c).literals) same ∙ is.alone ∙ ap (λ (e : TreeLiteral). e ∷ []) (sym equation); positive = ap (λ (e : TreeLiteral). e.positive) equation ∙ is.positive };
     rewrites = flags;
@@ -170,7 +178,7 @@ on_ok-at {A} {E} {P} r x is h = subst (λ (s : Result A E). OnOk s P) is h
 pub put-of-bank :
     (bank : Bank) (old new : List Member) (number : ℕ) (clause : BankClause)
     → ((n : ℕ) → clause_numbered n new ≡ (if number == n then Some clause else clause_numbered n old)) → IsClauseOf bank clause
-    → AreUnitsOf bank old → AreUnitsOf bank new
+    → AreClausesOf bank old → AreClausesOf bank new
 put-of-bank bank old new number clause put of_bank all n c there =
     ⊎_elim
     (λ yes.
@@ -182,7 +190,7 @@ put-of-bank bank old new number clause put of_bank all n c there =
 pub taken-of-bank :
     (bank : Bank) (old new : List Member) (number : ℕ)
     → ((n : ℕ) → clause_numbered n new ≡ (if number == n then None else clause_numbered n old))
-    → AreUnitsOf bank old → AreUnitsOf bank new
+    → AreClausesOf bank old → AreClausesOf bank new
 taken-of-bank bank old new number taken all n c there =
     ⊎_elim
     (λ yes. absurd (none-some c (sym (cond-true (number == n) None (clause_numbered n old) yes) ∙ sym (taken n) ∙ there)))

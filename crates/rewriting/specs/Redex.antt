@@ -41,13 +41,14 @@ pub record IsRedex (e : TreeLiteral) (s : Side) (spot : Spot) (old : Tree) (σ :
   pub greater : IsTrue (tree_greater old (instance σ (other_side_of s e)))
   pub within : IsTrue (is_within spot.limit (instance σ (other_side_of s e)))
 
--- some unit, looked up by its number, has a redex in the subterm
+-- some unit, looked up by its number, has a redex in the subterm: its one literal is an equation
 pub record HasRedex (clauses : ℕ → Option TreeClause) (spot : Spot) (old : Tree) : Type 0 where
   pub number : ℕ
   pub unit : TreeClause
   pub there : clauses number ≡ Some unit
   pub equation : TreeLiteral
   pub alone : unit.literals ≡ equation ∷ []
+  pub positive : IsTrue equation.positive
   pub side : Side
   pub matcher : Substitution
   pub redex : IsRedex equation side spot old matcher

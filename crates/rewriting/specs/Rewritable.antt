@@ -1,5 +1,6 @@
 -- Which members of a list a unit rewrites.
-use Rattle.std.specs.Prelude.{◌≡◌, ◌⊎◌, ℕ, Bool, List, [], ◌∷◌, All, IsTrue}
+use Rattle.std.specs.Prelude.{◌≡◌, ◌↔◌, ℕ, Bool, List, All, Contains, IsTrue}
+use Rattle.std.specs.List.Sorted.{IsStrictlyIncreasing}
 use Rattle.fol_base.specs.Clause.{TreeClause}
 use Rattle.fol_base.specs.WellFormed.{SymbolUse, are_literals_of}
 use Rattle.kernel_steps.specs.Inference.{RewritesBy}
@@ -12,13 +13,17 @@ pub record IsRewrittenBy (is_predicate : ℕ → Bool) (unit : Member) (m : Memb
   pub result : TreeClause
   pub rewrites : RewritesBy is_predicate (clause_at unit.clause) (clause_at m.clause) result
 
--- exactly the numbers of the members that satisfy the predicate, in their order
-abbrev pub AreNumbersOf : (Member → Type 0) → List Member → List ℕ → Type 0
-AreNumbersOf Holds [] [] = Unit {0}
-AreNumbersOf Holds [] (n ∷ ns) = ⊥
-AreNumbersOf Holds (m ∷ ms) [] = (Holds m → ⊥) × AreNumbersOf Holds ms []
-AreNumbersOf Holds (m ∷ ms) (n ∷ ns) =
-    ((Holds m → ⊥) × AreNumbersOf Holds ms (n ∷ ns)) ⊎ (Holds m × (n ≡ m.number) × AreNumbersOf Holds ms ns)
+-- a member that satisfies the predicate, with this number
+pub record SomeMember (Holds : Member → Type 0) (ms : List Member) (n : ℕ) : Type 0 where
+  pub member : Member
+  pub there : Contains ms member
+  pub holds : Holds member
+  pub number : member.number ≡ n
+
+-- exactly the numbers of the members that satisfy the predicate, rising
+pub record AreNumbersOf (Holds : Member → Type 0) (ms : List Member) (ns : List ℕ) : Type 0 where
+  pub rise : IsStrictlyIncreasing ns
+  pub exact : (n : ℕ) → Contains ns n ↔ SomeMember Holds ms n
 
 -- a member's clause is well-formed
 abbrev pub IsFormed : SymbolUse → Member → Type 0

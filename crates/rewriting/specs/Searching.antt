@@ -35,6 +35,7 @@ pub record IsRewrite (clauses : ℕ → Option TreeClause) (spot : Spot) (old : 
   pub there : clauses r.number ≡ Some unit
   pub equation : TreeLiteral
   pub alone : unit.literals ≡ equation ∷ []
+  pub positive : IsTrue equation.positive
   pub matched : IsMatchedBy equation r.side spot old r.terms
 
 -- what one entry of the index gives: a rewrite, or no redex of that entry's side

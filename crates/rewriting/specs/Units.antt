@@ -1,10 +1,11 @@
 -- Sets of units: what contracts see of one, and what its index has.
-use Rattle.std.specs.Prelude.{◌≡◌, ℕ, ◌+◌, ◌*◌, Bool, true, not, ◌&&◌, ◌==◌, List, [], ◌∷◌, Option, None, Some, option_and_then, IsTrue, if◌then◌else◌}
+use Rattle.std.specs.Prelude.{◌≡◌, ℕ, ◌+◌, ◌*◌, ◌<◌, ◌^◌, Bool, true, not, ◌&&◌, ◌==◌, List, [], ◌∷◌, Option, None, Some, option_and_then, IsTrue, if◌then◌else◌}
 use Rattle.std.specs.Coded.{Coded, codes}
 use Rattle.std.specs.List.{list_any, list_all}
 use Rattle.fol_base.specs.Tree.{Tree, tree_variables}
 use Rattle.fol_base.specs.Clause.{TreeLiteral, TreeClause}
 use Rattle.fol_base.specs.Compatible.{compatible_generalisation}
+use Rattle.fol_base.specs.Order.{tree_greater}
 use Rattle.fol_base.specs.Sides.{side_of, other_side_of}
 use Rattle.fol_base.specs.Subsumption.{assertions, is_among}
 use Rattle.fol_base.specs.declared.clause.Side.{Side}
@@ -35,8 +36,8 @@ pub record IsUnit (c : TreeClause) : Type 0 where
   pub positive : equation.positive ≡ true
 
 -- each member's clause is of the bank
-abbrev pub AreUnitsOf : Bank → List Member → Type 0
-AreUnitsOf bank ms = (n : ℕ) (c : BankClause) → clause_numbered n ms ≡ Some c → IsClauseOf bank c
+abbrev pub AreClausesOf : Bank → List Member → Type 0
+AreClausesOf bank ms = (n : ℕ) (c : BankClause) → clause_numbered n ms ≡ Some c → IsClauseOf bank c
 
 -- the number is not the one that is left out
 abbrev pub is_kept : Option ℕ → ℕ → Bool
@@ -58,6 +59,10 @@ abbrev pub has_other_variables : Side → TreeLiteral → Bool
 has_other_variables s e =
     list_all (λ v. list_any (λ w. v == w) (tree_variables (side_of s e))) (tree_variables (other_side_of s e))
 
+-- whether it may rewrite by this side: the other one isn't greater, since then none of its instances is smaller
+abbrev pub may_rewrite : Side → TreeLiteral → Bool
+may_rewrite s e = has_other_variables s e && not (tree_greater (other_side_of s e) (side_of s e))
+
 -- the number of an entry: of a member's side
 abbrev pub side_number : ℕ → Side → ℕ
 side_number n Left = 2 * n
@@ -73,16 +78,17 @@ oriented Right by = by.right
 -- what is kept of a unit beside its clause
 pub record IsRecorded (u : Unit) : Type 0 where
   pub unit : IsUnit (clause_at u.clause)
-  pub rewrites : (s : Side) → oriented s u.by ≡ has_other_variables s unit.equation
+  pub rewrites : (s : Side) → oriented s u.by ≡ may_rewrite s unit.equation
 
--- the sides by which it may rewrite are entries of the index
+-- its number is one of 32 bits, and the sides by which it may rewrite are entries of the index
 pub record IsUnitAt (sides : List (Tree × ℕ)) (n : ℕ) (u : Unit) : Type 0 where
+  pub numbered : n < 2 ^ 32
   pub recorded : IsRecorded u
-  pub indexed : (s : Side) → IsTrue (has_other_variables s recorded.unit.equation) → IsIn (side_of s recorded.unit.equation, side_number n s) sides
+  pub indexed : (s : Side) → IsTrue (may_rewrite s recorded.unit.equation) → IsIn (side_of s recorded.unit.equation, side_number n s) sides
 
 -- the numbers have each side of a member that may be a generalisation of a term, and by which the member may rewrite
 abbrev pub HasCandidates : List Member → Tree → List ℕ → Type 0
 HasCandidates ms t numbers =
     (n : ℕ) (c : BankClause) (e : TreeLiteral) (s : Side)
-    → clause_numbered n ms ≡ Some c → (clause_at c).literals ≡ e ∷ [] → IsTrue (has_other_variables s e)
+    → clause_numbered n ms ≡ Some c → (clause_at c).literals ≡ e ∷ [] → IsTrue (may_rewrite s e)
     → compatible_generalisation (side_of s e) t ≡ true → IsIn (side_number n s) numbers

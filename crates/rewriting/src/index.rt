@@ -1,16 +1,22 @@
 // The index of the units' sides.
 
-ghost use Rattle.std.specs.Prelude.{◌≡◌, ℕ, ◌==◌, IfOk, IsTrue};
+ghost use Rattle.std.specs.Prelude.{◌≡◌, ◌<◌, ℕ, ◌==◌, IfOk, IsTrue};
 ghost use Rattle.std.specs.List.{list_any, list_all};
+ghost use Rattle.fol_base.specs.Tree.{tree_size};
+ghost use Rattle.fol_base.specs.Term.{tree_of};
+ghost use Rattle.fol_base.specs.Clause.{literal_size};
+ghost use Rattle.fol_base.specs.Order.{tree_greater};
 ghost use Rattle.fol_base.specs.Sides.{side_of};
+ghost use Rattle.fol_base.specs.declared.limits.TheConstants.{SIZE_LIMIT};
 ghost use Rattle.fol_base.specs.Lent.{lent_of};
 ghost use Rattle.fol_base.specs.declared.clause.Side.{Side};
 ghost use Rattle.disc_tree.specs.Entries.{IsIn};
-ghost use Rattle.rewriting.specs.Units.{has_other_variables, oriented, side_number};
+ghost use Rattle.rewriting.specs.Units.{may_rewrite, oriented, side_number};
 ghost use Rattle.rewriting.specs.Index.{KeepsOthers, KeepsAll};
 
 use disc_tree::DiscTree;
-use fol_base::{LiteralRef, Side, push_variables};
+use fol_base::{LiteralRef, Side, Term, push_variables};
+use kbo_order::{Unbound, greater_under};
 use plain_types::Mem;
 use std::alloc::Global;
 
@@ -37,7 +43,7 @@ pub(crate) fn side_of_number(entry: u64) -> (u64, Side)
     (entry / 2, side)
 }
 
-/// The sides of a unit by which it may rewrite: those in which each variable of the other side occurs.
+/// The sides of a unit by which it may rewrite: those in which each variable of the other side occurs, and that aren't smaller than it.
 #[derive(Clone, Copy)]
 pub(crate) struct Orientation {
     pub(crate) left: bool,
@@ -58,16 +64,26 @@ impl Orientation {
 
 /// By which sides an equation may rewrite.
 pub(crate) fn orient(alloc: Global, equation: LiteralRef<'_>) -> Mem<Orientation>
-    ensures { IfOk result (λ made. (s : Side) → oriented s made ≡ has_other_variables s (lent_of equation.entry)) }
+    requires { literal_size (lent_of equation) < SIZE_LIMIT }
+    ensures { IfOk result (λ made. (s : Side) → oriented s made ≡ may_rewrite s (lent_of equation.entry)) }
 {
     let mut left = Vec::new(alloc);
     push_variables(equation.left, &mut left)?;
     let mut right = Vec::new(alloc);
     push_variables(equation.right, &mut right)?;
     Ok(Orientation {
-        left: are_listed(&right, &left),
-        right: are_listed(&left, &right),
+        left: are_listed(&right, &left) && !is_greater(equation.right, equation.left),
+        right: are_listed(&left, &right) && !is_greater(equation.left, equation.right),
     })
+}
+
+/// Whether a term is greater than another one.
+fn is_greater(one: &Term, other: &Term) -> bool
+    requires one { tree_size (tree_of one.now) < SIZE_LIMIT }
+    requires other { tree_size (tree_of other.now) < SIZE_LIMIT }
+    ensures { result ≡ tree_greater (tree_of one.now) (tree_of other.now) }
+{
+    greater_under(one, &Unbound, other, &Unbound)
 }
 
 /// Whether each variable of a list is in another one.
@@ -85,7 +101,7 @@ fn is_listed(variable: u32, within: &[u32]) -> bool
     within.iter().any(|other| variable == *other)
 }
 
-/// Adds the sides by which an equation may rewrite. After want of memory none of them is there.
+/// Adds the sides by which an equation may rewrite. After want of memory the sides of other equations are as before.
 pub(crate) fn put_sides(
     sides: &mut DiscTree,
     number: u32,

@@ -4,15 +4,16 @@ ghost use Rattle.std.specs.Prelude.{◌≡◌, [], ◌∷◌, None, Some, IsTrue
 ghost use Rattle.fol_base.specs.Examples.{x, a, b, c, f, p, equation};
 ghost use Rattle.fol_base.specs.Rules.{disequation};
 ghost use Rattle.fol_base.specs.declared.clause.Side.TheVariants.{Left, Right};
-ghost use Rattle.rewriting.specs.Units.{has_other_variables, is_kept, side_number};
+ghost use Rattle.rewriting.specs.Units.{has_other_variables, is_kept, may_rewrite, side_number};
 ghost use Rattle.rewriting.specs.Redex.{inner, is_within, root_spot, spot_at};
-ghost use Rattle.rewriting.specs.Laws.{NormalClausesStay, RedexesRewrite};
+ghost use Rattle.rewriting.specs.Laws.{NormalClausesStay, RedexesGive, RedexesRewrite};
 
 /// A clause without a redex is rewritten by no unit, and one in which a redex is found is rewritten by the unit that was found. So the
 /// search finds a redex exactly where some unit rewrites the clause.
 pub fn redexes_are_rewritten()
     ensures normal { NormalClausesStay }
     ensures found { RedexesRewrite }
+    ensures given { RedexesGive }
 {}
 
 /// Which sides have the other's variables, and the spots of a literal: what is put at the root of a side of an equation has to be below
@@ -21,6 +22,8 @@ pub fn redex_examples()
     ensures has_variable { IsTrue (has_other_variables Left (equation (f (x 0)) (x 0))) }
     ensures lacks_variable { IsFalse (has_other_variables Left (equation (f (x 0)) (x 1))) }
     ensures other_side { IsFalse (has_other_variables Left (equation a (f (x 0)))) }
+    ensures smaller_side { IsFalse (may_rewrite Right (equation (f a) b)) }
+    ensures greater_side { IsTrue (may_rewrite Left (equation (f a) b)) }
     ensures left_number { side_number 3 Left ≡ 6 }
     ensures right_number { side_number 3 Right ≡ 7 }
     ensures left_out { IsFalse (is_kept (Some 3) 3) }

@@ -15,8 +15,7 @@ use plain_types::{Mem, Numbers};
 use std::alloc::Global;
 use term_bank::Bank;
 
-/// The numbers of exactly the members that a unit rewrites, in their order. The unit doesn't rewrite itself: a member with its number is
-/// left out.
+/// The numbers of exactly the members that a unit rewrites, rising. The unit doesn't rewrite itself: a member with its number is left out.
 pub fn rewritable(alloc: Global, bank: &Bank, unit: &Member, clauses: &Members) -> Mem<Numbers>
     requires member { IsMemberOf bank.now unit.now }
     requires unit { IsUnit (clause_at unit.now.clause) }
@@ -30,6 +29,8 @@ pub fn rewritable(alloc: Global, bank: &Bank, unit: &Member, clauses: &Members) 
         let rewritten = is_rewritten(alloc, bank, &units, unit, member)?;
         push_where(&mut found, member.number, rewritten)?;
     }
+    found.sort_unstable();
+    found.dedup();
     Ok(Numbers::from_vec(found))
 }
 
@@ -53,7 +54,6 @@ fn is_rewritten(
 ) -> Mem<bool>
     requires alone { (n : ℕ) → clause_numbered n units.now ≡ (if unit.now.number == n then Some unit.now.clause else None) }
     requires of_bank { IsMemberOf bank.now unit.now }
-    requires unit { IsUnit (clause_at unit.now.clause) }
     requires member { IsMemberOf bank.now member.now }
     ensures { IfOk result (λ answer. (usage : SymbolUse) → IsFormed usage unit.now → IsFormed usage member.now
         → MatchBool answer (IsRewrittenBy usage.is_predicate unit.now member.now) (IsRewrittenBy usage.is_predicate unit.now member.now → ⊥)) }

@@ -6,7 +6,7 @@ ghost use Rattle.fol_base.specs.Term.{tree_of};
 ghost use Rattle.fol_base.specs.Clause.{literal_size};
 ghost use Rattle.fol_base.specs.Lent.{lent_of};
 ghost use Rattle.fol_base.specs.declared.limits.TheConstants.{SIZE_LIMIT};
-ghost use Rattle.rewriting.specs.Units.{AreUnitsOf};
+ghost use Rattle.rewriting.specs.Units.{AreClausesOf};
 ghost use Rattle.rewriting.specs.Redex.{AreNormal};
 ghost use Rattle.rewriting.specs.Searching.{IsFoundIn, IsFoundInSome, IsFoundOf, IsFoundOfLiteral, IsFoundOfSide, usable_by};
 ghost use Rattle.rewriting.specs.Spots.{LimitFits, spot_of};
@@ -48,14 +48,13 @@ pub struct Found<'t> {
 }
 
 impl<'a> Rewriters<'a> {
-    /// A redex of a clause: the first one, literal by literal, left side before right, from the inside out. None exactly where the
-    /// clause has none.
+    /// A redex of a clause; which one is not told. None exactly where the clause has none.
     pub fn find<'t, L: LendsLiterals>(
         &self,
         alloc: Global,
         literals: &'t L,
     ) -> Mem<Option<Found<'t>>>
-        requires units { AreUnitsOf self.now.bank.now self.now.units.now }
+        requires units { AreClausesOf self.now.bank.now self.now.units.now }
         requires size { sum_by literal_size (L.meaning literals.now) < SIZE_LIMIT }
         ensures { IfOk result (λ found. MatchOption found (AreNormal (usable_by self.now) (L.meaning literals.now))
             (IsFoundOf (usable_by self.now) (L.meaning literals.now))) }
@@ -76,7 +75,7 @@ impl<'a> Rewriters<'a> {
         literal: LiteralRef<'t>,
         index: usize,
     ) -> Mem<Option<Found<'t>>>
-        requires units { AreUnitsOf self.now.bank.now self.now.units.now }
+        requires units { AreClausesOf self.now.bank.now self.now.units.now }
         requires size { literal_size (lent_of literal) < SIZE_LIMIT }
         ensures { IfOk result (IsFoundOfLiteral (usable_by self.now) (lent_of literal.entry) index) }
     {
@@ -97,7 +96,7 @@ impl<'a> Rewriters<'a> {
         index: usize,
         side: Side,
     ) -> Mem<Option<Found<'t>>>
-        requires units { AreUnitsOf self.now.bank.now self.now.units.now }
+        requires units { AreClausesOf self.now.bank.now self.now.units.now }
         requires size { literal_size (lent_of literal) < SIZE_LIMIT }
         ensures { IfOk result (IsFoundOfSide (usable_by self.now) (lent_of literal.entry) index side) }
     {
@@ -123,7 +122,7 @@ impl<'a> Rewriters<'a> {
         spot: Spot<'_>,
         path: &mut Vec<u64>,
     ) -> Mem<Option<Rewrite<'t>>>
-        requires units { AreUnitsOf self.now.bank.now self.now.units.now }
+        requires units { AreClausesOf self.now.bank.now self.now.units.now }
         requires size { tree_size (tree_of term.now) < SIZE_LIMIT }
         requires limit { LimitFits (spot_of spot) }
         ensures { IfOk result (IsFoundIn (usable_by self.now) (spot_of spot.entry) (tree_of term.now) path.old.items path.new.items) }
@@ -148,7 +147,7 @@ impl<'a> Rewriters<'a> {
         terms: &'t [Term],
         path: &mut Vec<u64>,
     ) -> Mem<Option<Rewrite<'t>>>
-        requires units { AreUnitsOf self.now.bank.now self.now.units.now }
+        requires units { AreClausesOf self.now.bank.now self.now.units.now }
         requires size { trees_size (trees_of (map tree_of terms.now)) < SIZE_LIMIT }
         ensures { IfOk result (IsFoundInSome (usable_by self.now) (map tree_of terms.now) path.old.items path.new.items) }
     {

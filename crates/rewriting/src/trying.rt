@@ -13,7 +13,7 @@ ghost use Rattle.fol_base.specs.Tree.{is_variable, tree_size};
 ghost use Rattle.fol_base.specs.Term.{tree_of};
 ghost use Rattle.fol_base.specs.declared.limits.TheConstants.{SIZE_LIMIT};
 ghost use Rattle.bank_clause.specs.Clause.{clause_at, IsClauseOf};
-ghost use Rattle.rewriting.specs.Units.{AreUnitsOf, IsRecorded, has_other_variables, is_kept};
+ghost use Rattle.rewriting.specs.Units.{AreClausesOf, IsRecorded, has_other_variables, is_kept};
 ghost use Rattle.rewriting.specs.Spots.{LimitFits, spot_of};
 ghost use Rattle.rewriting.specs.Searching.{IsFoundAt, IsMatchedSide, IsTried, usable_by};
 
@@ -35,7 +35,7 @@ impl<'a> Rewriters<'a> {
         term: &'t Term,
         spot: Spot<'_>,
     ) -> Mem<Option<Rewrite<'t>>>
-        requires units { AreUnitsOf self.now.bank.now self.now.units.now }
+        requires units { AreClausesOf self.now.bank.now self.now.units.now }
         requires size { tree_size (tree_of term.now) < SIZE_LIMIT }
         requires limit { LimitFits (spot_of spot) }
         ensures { IfOk result (IsFoundAt (usable_by self.now) (spot_of spot.entry) (tree_of term.now)) }
@@ -57,7 +57,7 @@ impl<'a> Rewriters<'a> {
         term: &'t Term,
         spot: Spot<'_>,
     ) -> Mem<Option<Rewrite<'t>>>
-        requires units { AreUnitsOf self.now.bank.now self.now.units.now }
+        requires units { AreClausesOf self.now.bank.now self.now.units.now }
         requires size { tree_size (tree_of term.now) < SIZE_LIMIT }
         requires limit { LimitFits (spot_of spot) }
         ensures { IfOk result (IsTried (usable_by self.now) (spot_of spot.entry) (tree_of term.now) entry) }
@@ -82,7 +82,7 @@ impl<'a> Rewriters<'a> {
 
     /// The unit with a number, if it may rewrite the clause: it isn't left out, and its assertions are among those of the clause.
     fn usable(&self, number: u64) -> Option<&'a Unit>
-        requires { AreUnitsOf self.now.bank.now self.now.units.now }
+        requires { AreClausesOf self.now.bank.now self.now.units.now }
         ensures clause { option_map (λ u. clause_at u.now.clause) result ≡ usable_by self.now number }
         ensures of_bank { IfSome result (λ u. IsClauseOf self.now.bank.now u.now.clause) }
         ensures recorded { IfSome result (λ u. IsRecorded u.now) }

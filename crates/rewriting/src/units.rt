@@ -1,16 +1,16 @@
 // The set of units: by their numbers, and by the sides by which they may rewrite.
 
-ghost use Rattle.std.specs.Prelude.{◌≡◌, ◌↔◌, ◌==◌, ℕ, [], None, Some, IfOk, IfSome, OnErr, IsTrue, if◌then◌else◌};
+ghost use Rattle.std.specs.Prelude.{◌≡◌, ◌↔◌, ◌==◌, ◌<◌, ◌^◌, ℕ, [], None, Some, IfOk, IfSome, OnErr, IsTrue, if◌then◌else◌};
 ghost use Rattle.std.specs.Option.{is_some, option_map};
 ghost use Rattle.bank_clause.specs.Clause.{clause_at, IsClauseOf, IsMemberOf};
 ghost use Rattle.fol_base.specs.Term.{tree_of};
 ghost use Rattle.term_bank.specs.declared.bank.Bank.{Bank};
-ghost use Rattle.rewriting.specs.Units.{AreUnitsOf, HasCandidates, IsRecorded, IsUnit, clause_numbered};
+ghost use Rattle.rewriting.specs.Units.{AreClausesOf, HasCandidates, IsRecorded, IsUnit, clause_numbered};
 
 use crate::index::{Orientation, orient, put_sides, take_sides};
 use bank_clause::{BankClause, Member};
 use disc_tree::DiscTree;
-use fol_base::{LendsLiterals, Term};
+use fol_base::{LendsLiterals, SIZE_LIMIT, Term};
 use indexmap::IndexMap;
 use plain_types::{Mem, Numbers};
 use std::alloc::Global;
@@ -62,7 +62,7 @@ impl Units {
     /// No units.
     pub fn new(alloc: Global) -> Mem<Units>
         ensures none { IfOk result (λ units. units ≡ []) }
-        ensures of_bank { IfOk result (λ units. (bank : Bank) → AreUnitsOf bank units) }
+        ensures of_bank { IfOk result (λ units. (bank : Bank) → AreClausesOf bank units) }
     {
         let sides = DiscTree::new(alloc)?;
         Ok(Units {
@@ -79,9 +79,11 @@ impl Units {
         requires number { clause_numbered member.now.number self.old ≡ None }
         ensures ok { IfOk result (λ _. (n : ℕ) → clause_numbered n self.new
             ≡ (if member.now.number == n then Some member.now.clause else clause_numbered n self.old)) }
-        ensures of_bank { IfOk result (λ _. AreUnitsOf bank.now self.old → AreUnitsOf bank.now self.new) }
+        ensures of_bank { IfOk result (λ _. AreClausesOf bank.now self.old → AreClausesOf bank.now self.new) }
         ensures err { OnErr result (self.new ≡ self.old) }
     {
+        let is_small = u64::from(member.clause.size()) < SIZE_LIMIT;
+        prove!(is_small);
         let alloc = self.alloc;
         let clause = member.clause.copied()?;
         self.clauses.reserve(1)?;
@@ -97,10 +99,10 @@ impl Units {
 
     /// Takes away the unit with a number. True exactly where there is one. It takes no memory.
     pub fn remove(&mut self, bank: &Bank, number: u32) -> bool
-        requires { AreUnitsOf bank.now self.old }
+        requires { AreClausesOf bank.now self.old }
         ensures there { result ≡ is_some (clause_numbered number self.old) }
         ensures removed { (n : ℕ) → clause_numbered n self.new ≡ (if number == n then None else clause_numbered n self.old) }
-        ensures of_bank { AreUnitsOf bank.now self.new }
+        ensures of_bank { AreClausesOf bank.now self.new }
     {
         match self.clauses.swap_remove(&u64::from(number)) {
             None => false,
@@ -112,10 +114,22 @@ impl Units {
         }
     }
 
+    /// The clause of the unit with a number.
+    pub fn clause(&self, number: u64) -> Option<&BankClause>
+        ensures clause { option_map (λ c. c.now) result ≡ clause_numbered number self.now }
+        ensures numbered { IfSome result (λ _. number < 2 ^ 32) }
+    {
+        match self.unit(number) {
+            None => None,
+            Some(unit) => Some(&unit.clause),
+        }
+    }
+
     /// The unit with a number.
     pub(crate) fn unit(&self, number: u64) -> Option<&Unit>
         ensures clause { option_map (λ u. u.now.clause) result ≡ clause_numbered number self.now }
         ensures recorded { IfSome result (λ u. IsRecorded u.now) }
+        ensures numbered { IfSome result (λ _. number < 2 ^ 32) }
     {
         self.clauses.get(&number)
     }

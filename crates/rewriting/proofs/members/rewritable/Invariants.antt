@@ -1,10 +1,11 @@
 use Rattle.std.proofs.Common.{take}
 use Rattle.std.specs.Prelude.{All}
 use Rattle.fol_base.specs.WellFormed.{SymbolUse}
-use Rattle.rewriting.specs.Rewritable.{AreNumbersOf, IsFormed, IsRewrittenBy}
+use Rattle.rewriting.specs.Rewritable.{IsFormed, IsRewrittenBy}
+use Rattle.rewriting.proofs.RewritableLemmas.{AreListed}
 use Rattle.rewriting.proofs.members.rewritable.Given as goal
 
 abbrev pub invariant-loop-member : goal.invariant-loop-member
 invariant-loop-member l =
     (usage : SymbolUse) → IsFormed usage l.unit → All (IsFormed usage) l.clauses
-    → AreNumbersOf (IsRewrittenBy usage.is_predicate l.unit) (take l.member-index l.member-items) l.found.items
+    → AreListed (IsRewrittenBy usage.is_predicate l.unit) (take l.member-index l.member-items) l.found.items

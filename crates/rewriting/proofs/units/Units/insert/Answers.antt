@@ -1,4 +1,4 @@
-use Rattle.std.proofs.Common.{Some, ◌∙◌, ap}
+use Rattle.std.proofs.Common.{arith, sym, Some, ◌∙◌, ap}
 use Rattle.std.specs.Prelude.{nat_eq, cond}
 use Rattle.std.specs.Map.{lookup}
 use Rattle.fol_base.specs.Lent.{lent_of}
@@ -6,6 +6,12 @@ use Rattle.rewriting.specs.declared.units.Unit.{Unit}
 use Rattle.rewriting.proofs.TryLemmas.{alone-lent}
 use Rattle.rewriting.proofs.UnitLemmas.{absent-kept, made-unit, put-unit, put-numbered, put-of-bank, on_ok-at}
 use Rattle.rewriting.proofs.units.Units.insert.Goals as goal
+
+pub invariant_of-self : goal.invariant_of-self
+invariant_of-self c = λ n u there. c.self.invariant n u (ap (lookup (nat_eq n)) (sym c.reserve.ensures.entries) ∙ there)
+
+pub invariant_of-self-in_err-by : goal.invariant_of-self-in_err-by
+invariant_of-self-in_err-by c = λ n u there. c.self.invariant n u (ap (lookup (nat_eq n)) (sym c.reserve.ensures.entries) ∙ there)
 
 pub invariant_of-self-in_err-put_sides : goal.invariant_of-self-in_err-put_sides
 invariant_of-self-in_err-put_sides c =
@@ -18,7 +24,7 @@ invariant_of-self-2 c =
     let equation = alone-lent c.lend-literals.result _ (lent_of c.literal-equation.result) c.requires.unit.equation c.lend-literals.ensures c.requires.unit.alone c.literal-equation.ensures in
     let made =
     made-unit c.put_sides.new.sides c.args.member.now.number c.args.member.now.clause c.in_ok-clause.clause c.in_ok-by.by
-    (lent_of c.literal-equation.result) c.requires.unit c.in_ok-clause.ensures equation c.in_ok-by.ensures c.in_ok-put_sides.ensures.put in
+    (lent_of c.literal-equation.result) c.requires.unit (omega arith) c.in_ok-clause.ensures equation c.in_ok-by.ensures c.in_ok-put_sides.ensures.put in
     let updates = on_ok-at c.insert.result c.unwrap.result c.unwrap.ensures c.insert.ensures.updates in
     put-unit c.args.member.now.number c.from.result c.self.inside.sides c.put_sides.new.sides c.self.inside.clauses.entries c.insert.new.self.entries unit
     c.from.ensures (λ n. updates.0 n ∙ ap (λ es. cond (nat_eq c.from.result n) (Some unit) (lookup (nat_eq n) es)) c.reserve.ensures.entries)

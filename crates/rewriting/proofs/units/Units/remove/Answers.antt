@@ -19,6 +19,11 @@ literal-requires c =
     let one = ap (λ (ls : List TreeLiteral). length ls) (c.lend-literals.ensures ∙ at.recorded.unit.alone) in
     omega (arith, one)
 
+pub invariant_of-self : goal.invariant_of-self
+invariant_of-self c =
+    taken-units c.args.number c.from.result c.self.inside.sides c.self.inside.sides c.self.inside.clauses.entries c.swap_remove.new.self.entries
+    c.from.ensures c.swap_remove.ensures.updates.0 (λ t n s other there. there) c.self.invariant
+
 pub invariant_of-self-in-Some : goal.invariant_of-self-in-Some
 invariant_of-self-in-Some c =
     taken-units c.args.number c.from.result c.self.inside.sides c.take_sides.new.sides c.self.inside.clauses.entries c.swap_remove.new.self.entries

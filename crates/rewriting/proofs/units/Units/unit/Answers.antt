@@ -1,4 +1,4 @@
-use Rattle.rewriting.proofs.UnitLemmas.{lent-clause, lent-recorded}
+use Rattle.rewriting.proofs.UnitLemmas.{lent-clause, lent-recorded, lent-numbered}
 use Rattle.rewriting.proofs.units.Units.unit.Goals as goal
 
 pub returns-clause-clause : goal.returns-clause-clause
@@ -8,3 +8,7 @@ returns-clause-clause c =
 pub returns-clause-recorded : goal.returns-clause-recorded
 returns-clause-recorded c =
     lent-recorded c.self.inside.sides c.args.number c.self.inside.clauses.entries c.get.result c.self.invariant c.get.ensures.value
+
+pub returns-clause-numbered : goal.returns-clause-numbered
+returns-clause-numbered c =
+    lent-numbered c.self.inside.sides c.args.number c.self.inside.clauses.entries c.get.result c.self.invariant c.get.ensures.value

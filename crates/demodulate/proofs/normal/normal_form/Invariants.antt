@@ -1,0 +1,12 @@
+use Rattle.fol_base.specs.Clause.{clause_size}
+use Rattle.fol_base.specs.Literal.{clause_of}
+use Rattle.demodulate.specs.Rank.{clause_rank}
+use Rattle.demodulate.proofs.NormalLemmas.{Lasts, bound_for}
+use Rattle.demodulate.proofs.normal.normal_form.Given as goal
+
+abbrev pub invariant-steps : goal.invariant-steps
+invariant-steps l = Lasts l.by.units.now l.by.left_out (clause_of l.clause) l.made
+
+abbrev pub decreases-steps : goal.decreases-steps
+decreases-steps l =
+    clause_rank (bound_for (clause_of l.clause) l.by.units.now) (clause_size (clause_of l.clause)) (clause_of l.made.clause)
