@@ -1,0 +1,156 @@
+-- What a pool's fields keep through an event that registers nothing.
+use Rattle.std.proofs.Common.{◌≡◌, ℕ, zero, suc, ◌+◌, ◌<◌, ◌≤◌, Bool, List, [], ◌∷◌, ◌++◌, map, length, take, refl, ap, ap₂, sym, ◌∙◌, subst, inl, inr, ◌⊎◌, ⊎_elim, arith}
+use Rattle.std.specs.Prelude.{Option, None, Some, slice_get, option_map, unwrap_or, vec_len, All}
+use Rattle.std.proofs.lemmas.Option.{none-some, same_Some, slice_get-map, slice_get_within}
+use Rattle.std.proofs.lemmas.List.{length-append, length-map, map-append, take-append-le}
+use Rattle.std.proofs.lemmas.List.Elements.{All-push}
+use Rattle.std.proofs.Math.Seq.{take-append_seam}
+use Rattle.fol_base.specs.Clause.{TreeClause}
+use Rattle.kernel_steps.specs.Conclusion.{empty_clause}
+use Rattle.bank_clause.specs.Clause.{clause_at}
+use Rattle.pool_core.specs.Record.{PoolRecord, Registered, GivenJob, clauses_of, clause_numbered}
+use Rattle.pool_core.specs.Replay.{Origin, after, start, replay}
+use Rattle.pool_core.specs.News.{TreeChange, changes_between, changes_from}
+use Rattle.pool_core.specs.Noted.{IsNoted, clause_in, change_at}
+use Rattle.pool_core.specs.Events.{events_of}
+use Rattle.pool_core.specs.Inputs.{AreInputs, IsLimit, IsHistoryOf}
+use Rattle.pool_core.specs.Lawful.{IsAllowed}
+use Rattle.pool_core.specs.Started.{registered_at}
+use Rattle.pool_core.specs.State.{origin_of, IsStateOf, HasNews, IsPool, job_entry}
+use Rattle.pool_core.specs.declared.options.Options.{Options}
+use Rattle.pool_core.specs.declared.event.Event.{Event}
+use Rattle.pool_core.specs.declared.register.Registration.{Registration}
+use Rattle.pool_core.specs.declared.pool.Note.{Note}
+use Rattle.pool_core.specs.declared.pool.Note.TheVariants.{Activated, Died}
+use Rattle.pool_core.specs.declared.pool.Pool.TheInside.{Inside}
+use Rattle.pool_core.proofs.HistoryLemmas.{replay-end, changes-end, lawful-end}
+use Rattle.pool_core.proofs.JobLemmas.{Rising}
+use Rattle.pool_core.proofs.TimeLemmas.{jobs-rise}
+
+-- ---- one more in a list
+
+pub get-end : {X : Type 0} (xs : List X) (x z : X) (k : ℕ) → slice_get (xs ++ x ∷ []) k ≡ Some z → (slice_get xs k ≡ Some z) ⊎ ((k ≡ length xs) × (x ≡ z))
+get-end [] x z zero there = inr (refl, same_Some x z there)
+get-end [] x z (suc k) there = absurd (none-some z there)
+get-end (y ∷ ys) x z zero there = inl there
+get-end (y ∷ ys) x z (suc k) there =
+    ⊎_elim (λ before. inl before) (λ (last : (k ≡ length ys) × (x ≡ z)). inr (ap suc last.0, last.1)) (get-end ys x z k there)
+
+-- ---- the clauses of a register
+
+pub clause-in : (ss : List Registration) (n : ℕ) → clause_in ss n ≡ unwrap_or (option_map (λ (c : Registered). c.clause) (slice_get (map registered_at ss) n)) empty_clause
+clause-in ss n = by (slice_get ss n) refl ∙ ap (λ (o : Option Registered). unwrap_or (option_map (λ (c : Registered). c.clause) o) empty_clause) (sym (slice_get-map registered_at ss n))
+  where
+    by :
+        (o : Option Registration) → slice_get ss n ≡ o
+        → unwrap_or (option_map (λ (s : Registration). clause_at s.clause) (slice_get ss n)) empty_clause
+        ≡ unwrap_or (option_map (λ (c : Registered). c.clause) (option_map registered_at (slice_get ss n))) empty_clause
+    by None is = ap (λ (o : Option Registration). unwrap_or (option_map (λ (s : Registration). clause_at s.clause) o) empty_clause) is
+        ∙ sym (ap (λ (o : Option Registration). unwrap_or (option_map (λ (c : Registered). c.clause) (option_map registered_at o)) empty_clause) is)
+    by (Some s) is = ap (λ (o : Option Registration). unwrap_or (option_map (λ (s : Registration). clause_at s.clause) o) empty_clause) is
+        ∙ sym (ap (λ (o : Option Registration). unwrap_or (option_map (λ (c : Registered). c.clause) (option_map registered_at o)) empty_clause) is)
+
+-- notes tell the same by registers of the same clauses
+pub note-kept : (ss ts : List Registration) (note : Note) → map registered_at ts ≡ map registered_at ss → change_at ts note ≡ change_at ss note
+note-kept ss ts (Activated n) same =
+    ap (TreeChange.activated n) (clause-in ts n ∙ ap (λ xs. unwrap_or (option_map (λ (c : Registered). c.clause) (slice_get xs n)) empty_clause) same ∙ sym (clause-in ss n))
+note-kept ss ts (Died n) same = refl
+
+pub notes-kept : (ss ts : List Registration) (notes : List Note) → map registered_at ts ≡ map registered_at ss → map (change_at ts) notes ≡ map (change_at ss) notes
+notes-kept ss ts notes same = ap (λ (f : Note → TreeChange). map f notes) (λ i note. note-kept ss ts note same i)
+
+pub long-register : (ss ts : List Registration) → map registered_at ts ≡ map registered_at ss → length ts ≡ length ss
+long-register ss ts same = sym (length-map ts registered_at) ∙ ap length same ∙ length-map ss registered_at
+
+-- the clause of a number
+pub clause-there :
+    (a : Inside) (r : PoolRecord) (n : ℕ) (s : Registration) → IsStateOf a r → slice_get a.register n ≡ Some s → clauses_of r n ≡ Some (clause_at s.clause)
+clause-there a r n s is there =
+    ap (λ xs. option_map (λ (c : Registered). c.clause) (slice_get xs n)) (sym is.registered)
+    ∙ ap (λ (o : Option Registered). option_map (λ (c : Registered). c.clause) o) (slice_get-map registered_at a.register n)
+    ∙ ap (λ (o : Option Registration). option_map (λ (c : Registered). c.clause) (option_map registered_at o)) there
+
+pub clause-numbered : (r : PoolRecord) (n : ℕ) (c : TreeClause) → clauses_of r n ≡ Some c → clause_numbered r n ≡ c
+clause-numbered r n c there = ap (λ (o : Option TreeClause). unwrap_or o empty_clause) there
+
+pub registered-count : (a : Inside) (r : PoolRecord) → IsStateOf a r → length r.registered ≡ length a.register
+registered-count a r is = ap length (sym is.registered) ∙ length-map a.register registered_at
+
+pub given-count : (a : Inside) (r : PoolRecord) → IsStateOf a r → length a.jobs.entries ≡ length r.given
+given-count a r is = ap length is.jobs ∙ length-map r.given job_entry
+
+-- ---- a pool with one more event
+
+abbrev pub record_of : Inside → PoolRecord
+record_of a = replay (origin_of a) (events_of a.history)
+
+pub pool-rises : (a : Inside) → IsPool a → Rising 0 (record_of a).jobs (record_of a).given
+pool-rises a is =
+    let wf = is.inputs.well_formed in
+    jobs-rise wf.usage.is_predicate (origin_of a) (events_of a.history) (is.lawful wf.usage wf.used)
+
+pub one-more-event :
+    (a b : Inside) (e : Event) (notes : List Note)
+    → IsPool a
+    → origin_of b ≡ origin_of a → events_of b.history ≡ events_of a.history ++ e ∷ []
+    → ((is_predicate : ℕ → Bool) → IsAllowed is_predicate a.options (record_of a) e)
+    → IsStateOf b (after a.options (record_of a) e)
+    → map registered_at b.register ≡ map registered_at a.register
+    → b.notes.items ≡ a.notes.items ++ notes
+    → map (change_at a.register) notes ≡ changes_between (record_of a) (after a.options (record_of a) e)
+    → All (IsNoted (length a.register)) b.notes.items
+    → b.notes_before.items ≡ a.notes_before.items ++ length a.notes.items ∷ []
+    → IsPool b
+one-more-event a b e notes is same events allowed state register noted told within before = record {
+  inputs = subst (λ (o : Origin). AreInputs o.inputs) (sym same) is.inputs;
+  limit = subst IsLimit (sym same_options) is.limit;
+  unsplit = ap (λ (o : Options). o.split) same_options ∙ is.unsplit;
+  lawful =
+      subst (λ (o : Origin). IsHistoryOf o (events_of b.history)) (sym same)
+      (subst (λ es. IsHistoryOf (origin_of a) es) (sym events) (λ usage used.
+      lawful-end usage.is_predicate a.options h e (start (origin_of a)) (is.lawful usage used) (allowed usage.is_predicate)));
+  state =
+      subst (λ (o : Origin). IsStateOf b (replay o (events_of b.history))) (sym same)
+      (subst (λ es. IsStateOf b (replay (origin_of a) es)) (sym events) (subst (IsStateOf b) (sym (replay-end (origin_of a) h e)) state));
+  news = record {
+    all =
+        ap (map (change_at b.register)) noted
+        ∙ notes-kept a.register b.register (a.notes.items ++ notes) register
+        ∙ map-append (change_at a.register) a.notes.items notes
+        ∙ ap₂ (λ (xs ys : List TreeChange). xs ++ ys) is.news.all told
+        ∙ sym (changes-end a.options h e (start (origin_of a)))
+        ∙ sym (whole (events_of b.history) ∙ ap (changes_from a.options (start (origin_of a))) events);
+    noted = subst (λ k. All (IsNoted k) b.notes.items) (sym (long-register a.register b.register register)) within;
+    count =
+        let one : length b.notes_before.items ≡ length a.notes_before.items + 1 = ap length before ∙ length-append a.notes_before.items (length a.notes.items ∷ []) in
+        let more : length (events_of b.history) ≡ length h + 1 = ap length events ∙ length-append h (e ∷ []) in
+        omega (arith, one, more, is.news.count);
+    before = λ k n there.
+        ⊎_elim (earlier k n) (λ (last : (k ≡ length a.notes_before.items) × (length a.notes.items ≡ n)). latest k n last.0 last.1)
+        (get-end a.notes_before.items (length a.notes.items) n k (ap (λ xs. slice_get xs k) (sym before) ∙ there));
+  };
+}
+  where
+    h : List Event
+    h = events_of a.history
+
+    same_options : b.options ≡ a.options
+    same_options = ap (λ (o : Origin). o.options) same
+
+    whole : (es : List Event) → changes_from b.options (start (origin_of b)) es ≡ changes_from a.options (start (origin_of a)) es
+    whole es = ap (λ (o : Origin). changes_from o.options (start o) es) same
+
+    earlier : (k n : ℕ) → slice_get a.notes_before.items k ≡ Some n → n ≡ length (changes_from b.options (start (origin_of b)) (take k (events_of b.history)))
+    earlier k n there =
+        let below : k < length a.notes_before.items = slice_get_within a.notes_before.items k n there in
+        is.news.before k n there
+        ∙ ap (λ es. length (changes_from a.options (start (origin_of a)) es))
+        (sym (ap (take k) events ∙ take-append-le k h (e ∷ []) (omega (arith, below, is.news.count))))
+        ∙ ap length (sym (whole (take k (events_of b.history))))
+
+    latest : (k n : ℕ) → k ≡ length a.notes_before.items → length a.notes.items ≡ n → n ≡ length (changes_from b.options (start (origin_of b)) (take k (events_of b.history)))
+    latest k n last many =
+        sym many ∙ sym (length-map a.notes.items (change_at a.register)) ∙ ap length is.news.all
+        ∙ ap (λ es. length (changes_from a.options (start (origin_of a)) es))
+        (sym (ap₂ take (last ∙ is.news.count) events ∙ take-append_seam h (e ∷ [])))
+        ∙ ap length (sym (whole (take k (events_of b.history))))
