@@ -142,7 +142,7 @@ begun a bank st unsplit same_bank is register queue steps ended positions jobs c
           subst (λ (h : List Event). IsStateOf a (replay (origin_of a) h)) (sym events)
           (subst (IsStateOf a) (sym split_is)
           (begun-state a bank st (with_inputs false 0 (origin_of a).inputs nothing_registered) same_bank is register queue steps ended positions jobs
-          counted set_aside last_job place room));
+          counted set_aside last_job place room notes_room));
       news =
           record {
             all =

@@ -61,16 +61,37 @@ absent-place n (m ∷ ms) none =
 -- and that of one that is there is below it
 pub present-place : (n : ℕ) (ns : List ℕ) → has_number n ns ≡ true → position_or_len (λ m. n == m) ns < length ns
 present-place n [] some = absurd (true≢false (sym some))
-present-place n (m ∷ ms) some = by (n == m) refl
+present-place n (m ∷ ms) some = by (n == m) refl (present-place n ms)
   where
-    by : (b : Bool) → (n == m) ≡ b → position_or_len (λ k. n == k) (m ∷ ms) < suc (length ms)
-    by true is =
+    by :
+        (b : Bool) → (n == m) ≡ b → (has_number n ms ≡ true → position_or_len (λ k. n == k) ms < length ms)
+        → position_or_len (λ k. n == k) (m ∷ ms) < suc (length ms)
+    by true is below =
         let here : ◌≡◌ {A = ℕ} (position_or_len (λ k. n == k) (m ∷ ms)) 0 = ap (λ b. cond (not b) (1 + position_or_len (λ k. n == k) ms) 0) is in
         omega (arith, here)
-    by false is =
+    by false is below =
         let later : position_or_len (λ k. n == k) (m ∷ ms) ≡ 1 + position_or_len (λ k. n == k) ms = ap (λ b. cond (not b) (1 + position_or_len (λ k. n == k) ms) 0) is in
-        let rest = present-place n ms (sym (ap (λ b. b || has_number n ms) is) ∙ some) in
+        let rest = below (sym (ap (λ b. b || has_number n ms) is) ∙ some) in
         omega (arith, later, rest)
+
+absent-position : (n : ℕ) (ns : List ℕ) → has_number n ns ≡ false → position (λ m. n == m) ns ≡ None
+absent-position n ns none = cond-false (nat_lt (position_or_len (λ m. n == m) ns) (length ns)) _ _ (le-ltb (position_or_len (λ m. n == m) ns) (length ns) (let e = absent-place n ns none in omega (arith, e)))
+
+-- a number has a position exactly where it is there
+pub has-position : (n p : ℕ) (ns : List ℕ) → position (λ m. n == m) ns ≡ Some p → has_number n ns ≡ true
+has-position n p ns found = by (has_number n ns) refl
+  where
+    by : (b : Bool) → has_number n ns ≡ b → b ≡ true
+    by true is = refl
+    by false is = absurd (none-some p (sym (absent-position n ns is) ∙ found))
+
+pub has-no-position : (n : ℕ) (ns : List ℕ) → position (λ m. n == m) ns ≡ None → has_number n ns ≡ false
+has-no-position n ns none = by (has_number n ns) refl
+  where
+    by : (b : Bool) → has_number n ns ≡ b → b ≡ false
+    by true is =
+        absurd (let below = present-place n ns is in let place : position_or_len (λ m. n == m) ns ≡ length ns = none-place (λ m. n == m) ns none in omega (arith, below, place))
+    by false is = refl
 
 -- ---- the record after a claim
 
@@ -115,18 +136,16 @@ told-first options job n r = by (has_number n r.positions)
 
 pub in-filter : (p : ℕ → Bool) (m from count : ℕ) → In m (filter p (range_with_len from count)) → (p m ≡ true) × (m < from + count)
 in-filter p m from zero there = absurd there
-in-filter p m from (suc count) there = by (p from) refl there
+in-filter p m from (suc count) there = by (p from) refl (in-filter p m (from + 1) count) there
   where
-    rest : In m (filter p (range_with_len (from + 1) count)) → (p m ≡ true) × (m < from + suc count)
-    rest h = let found = in-filter p m (from + 1) count h in (found.0, let below = found.1 in omega (arith, below))
-
     by :
         (b : Bool) → p from ≡ b
+        → (In m (filter p (range_with_len (from + 1) count)) → (p m ≡ true) × (m < from + 1 + count))
         → In m (cond b (from ∷ filter p (range_with_len (from + 1) count)) (filter p (range_with_len (from + 1) count)))
         → (p m ≡ true) × (m < from + suc count)
-    by true is (inl same) = (ap p same ∙ is, omega (arith, same))
-    by true is (inr later) = rest later
-    by false is h = rest h
+    by true is rest (inl same) = (ap p same ∙ is, omega (arith, same))
+    by true is rest (inr later) = let found = rest later in (found.0, let below = found.1 in omega (arith, below))
+    by false is rest later = let found = rest later in (found.0, let below = found.1 in omega (arith, below))
 
 -- the clause that is given waits and is registered
 pub given-waits : (r : PoolRecord) (n : ℕ) → next_given r ≡ Some n → (waits r n ≡ true) × (n < length r.registered)
@@ -251,9 +270,6 @@ pub record IsGivenOutBy (a b : Inside) (n job left : ℕ) : Type 0 where
   pub last_job : b.last_job ≡ job
   pub place : b.place ≡ (a.place + 1) % 6
 
-absent-position : (n : ℕ) (ns : List ℕ) → has_number n ns ≡ false → position (λ m. n == m) ns ≡ None
-absent-position n ns none = cond-false (nat_lt (position_or_len (λ m. n == m) ns) (length ns)) _ _ (le-ltb (position_or_len (λ m. n == m) ns) (length ns) (let e = absent-place n ns none in omega (arith, e)))
-
 pub claimed-pool :
     (a b : Inside) (n job left position : ℕ) (s : Registration)
     → IsPool a → (record_of a).ended ≡ None → IsFalse (must_solve (record_of a)) → next_given (record_of a) ≡ Some n
@@ -369,6 +385,9 @@ claimed-pool a b n job left place s is open_yet solved next there number remaini
 position-kept : (r : PoolRecord) (n : ℕ) → position_or_len (λ m. n == m) (positions_with n r) ≡ position_of r n
 position-kept r n = by (has_number n r.positions) refl
   where
+    more : (k : ℕ) → k + 0 ≡ k
+    more k = omega arith
+
     by : (b : Bool) → has_number n r.positions ≡ b → position_or_len (λ m. n == m) (if b then r.positions else r.positions ++ n ∷ []) ≡ position_of r n
     by true some = refl
     by false none =
@@ -378,9 +397,6 @@ position-kept r n = by (has_number n r.positions) refl
         ∙ more (length r.positions)
         ∙ sym (absent-place n r.positions none)
 
-    more : (k : ℕ) → k + 0 ≡ k
-    more k = omega arith
-
 pub claimed-ticket :
     (origin : Origin) (h : List Event) (told n : ℕ) (ticket : Ticket)
     → Rising 0 (replay origin h).jobs (replay origin h).given → next_given (replay origin h) ≡ Some n → told ≤ length h
@@ -388,11 +404,11 @@ pub claimed-ticket :
 claimed-ticket origin h told n ticket rise next within is = record {
   job = j;
   out =
-      ap (λ (s : PoolRecord). given_job s ticket.job) then
+      ap (λ (s : PoolRecord). given_job s ticket.job) afterwards
       ∙ find-last 0 r.jobs r.given j rise (let e : ticket.job ≡ suc r.jobs = is.job in omega (arith, e));
   number = is.same;
-  position = is.position ∙ sym (position-kept r n) ∙ sym (ap (λ (s : PoolRecord). position_of s n) then);
-  clause = ap (λ (s : PoolRecord). clauses_of s n) then ∙ is.clause;
+  position = is.position ∙ sym (position-kept r n) ∙ sym (ap (λ (s : PoolRecord). position_of s n) afterwards);
+  clause = ap (λ (s : PoolRecord). clauses_of s n) afterwards ∙ is.clause;
   news =
       is.news
       ∙ ap (λ cs. news_since origin h told ++ cs)
@@ -411,8 +427,8 @@ claimed-ticket origin h told n ticket rise next within is = record {
     j : GivenJob
     j = new_job origin.options ticket.job n (record r { positions = positions_with n r })
 
-    then : replay origin (h ++ Claim ticket.job ∷ []) ≡ claim_after origin.options ticket.job n r (positions_with n r)
-    then = replay-end origin h (Claim ticket.job) ∙ after-claim origin.options ticket.job n r next
+    afterwards : replay origin (h ++ Claim ticket.job ∷ []) ≡ claim_after origin.options ticket.job n r (positions_with n r)
+    afterwards = replay-end origin h (Claim ticket.job) ∙ after-claim origin.options ticket.job n r next
 
 -- ---- no other answer
 
@@ -437,3 +453,33 @@ some-out r none solved nothing = by (jobs_out r == 0) refl
         (and_from (not (must_solve r)) (not (can_give r) && (jobs_out r == 0)) (ap not solved)
         (and_from (not (can_give r)) (jobs_out r == 0) (ap (λ (o : Option ℕ). not (is_some o)) nothing) is))))
     by false is = let other : jobs_out r ≡ 0 → ⊥ = eqb-false (jobs_out r) 0 is in omega (arith, other)
+
+-- ---- a clause that is given, by its registration
+
+pub given-registered : (a : Inside) (n : ℕ) → IsPool a → next_given (record_of a) ≡ Some n → n < length a.register
+given-registered a n is next =
+    let below = (given-waits (record_of a) n next).1 in
+    let same : length (record_of a).registered ≡ length a.register = registered-count a (record_of a) is.state in
+    omega (arith, below, same)
+
+-- it has a position, and nothing is told of it
+pub told-before :
+    (a : Inside) (r : PoolRecord) (n p : ℕ) (s : Registration)
+    → IsStateOf a r → slice_get a.register n ≡ Some s → s.position ≡ Some p → (first_told r n ≡ []) × (p ≡ position_of r n)
+told-before a r n p s is there found =
+    let place : position (λ m. n == m) r.positions ≡ Some p = sym (is.registrations n s there).position ∙ found in (
+      cond-true (has_number n r.positions) [] (TreeChange.activated n (clause_numbered r n) ∷ []) (has-position n p r.positions place),
+      sym (found-place (λ m. n == m) r.positions p place).0,
+    )
+
+-- or it gets the next one, and that it is activated is told
+pub told-now :
+    (a : Inside) (r : PoolRecord) (n : ℕ) (s : Registration)
+    → IsStateOf a r → slice_get a.register n ≡ Some s → s.position ≡ None
+    → (first_told r n ≡ TreeChange.activated n (clause_at s.clause) ∷ []) × (length a.positions.items ≡ position_of r n)
+told-now a r n s is there none =
+    let absent = has-no-position n r.positions (sym (is.registrations n s there).position ∙ none) in (
+      cond-false (has_number n r.positions) [] (TreeChange.activated n (clause_numbered r n) ∷ []) absent
+      ∙ ap (λ c. TreeChange.activated n c ∷ []) (clause-numbered r n (clause_at s.clause) (clause-there a r n s is there)),
+      ap length is.positions ∙ sym (absent-place n r.positions absent),
+    )

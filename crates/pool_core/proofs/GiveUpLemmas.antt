@@ -39,6 +39,16 @@ use Rattle.pool_core.proofs.StateLemmas.{record_of, pool-rises, one-more-event, 
 
 -- ---- one job less
 
+or-swap : (b c : Bool) → (b || c) ≡ (c || b)
+or-swap true true = refl
+or-swap true false = refl
+or-swap false true = refl
+or-swap false false = refl
+
+or-assoc : (b c d : Bool) → (b || (c || d)) ≡ ((b || c) || d)
+or-assoc true c d = refl
+or-assoc false c d = refl
+
 module _ (job : ℕ) where
   abbrev is_job : GivenJob → Bool
   is_job j = j.job == job
@@ -55,20 +65,10 @@ module _ (job : ℕ) where
           → (find is_job ks ≡ Some j → list_any p ks ≡ (list_any p (without_job job ks) || p j))
           → (p k || list_any p ks) ≡ (list_any p (cond (not b) (k ∷ without_job job ks) (without_job job ks)) || p j)
       by true is found rest =
-          swap (p k) (list_any p ks)
+          or-swap (p k) (list_any p ks)
           ∙ ap₂ (λ (is : List GivenJob) (i : GivenJob). list_any p is || p i)
           (sym (none-removed job k.job high ks (let e : k.job ≡ job = eqb-true k.job job is in omega (arith, e)) rise.1)) (same_Some k j found)
-      by false is found rest = ap (λ b. p k || b) (rest found) ∙ assoc (p k) (list_any p (without_job job ks)) (p j)
-
-      swap : (b c : Bool) → (b || c) ≡ (c || b)
-      swap true true = refl
-      swap true false = refl
-      swap false true = refl
-      swap false false = refl
-
-      assoc : (b c d : Bool) → (b || (c || d)) ≡ ((b || c) || d)
-      assoc true c d = refl
-      assoc false c d = refl
+      by false is found rest = ap (λ b. p k || b) (rest found) ∙ or-assoc (p k) (list_any p (without_job job ks)) (p j)
 
   pub length-without :
       (low high : ℕ) (js : List GivenJob) (j : GivenJob)
@@ -157,16 +157,17 @@ ready-dead options job low high r j rise found dead =
 -- a number that passes is in the filter
 pub filter-in : (p : ℕ → Bool) (m from count : ℕ) → p m ≡ true → from ≤ m → m < from + count → In m (filter p (range_with_len from count))
 filter-in p m from zero is above below = absurd (omega (arith, above, below))
-filter-in p m from (suc count) is above below = by (p from) refl
+filter-in p m from (suc count) is above below =
+    by (p from) refl (λ more. filter-in p m (from + 1) count is more (omega (arith, below)))
   where
-    by : (b : Bool) → p from ≡ b → In m (cond b (from ∷ filter p (range_with_len (from + 1) count)) (filter p (range_with_len (from + 1) count)))
-    by true here = ⊎_elim (λ (e : m ≡ from). inl e) (λ (more : from + 1 ≤ m). inr (filter-in p m (from + 1) count is more (omega (arith, below)))) (cases m from above)
-      where
-        cases : (m from : ℕ) → from ≤ m → (m ≡ from) ⊎ (from + 1 ≤ m)
-        cases m from above = ⊎_elim (λ (e : m ≡ from). inl e) (λ (ne : m ≡ from → ⊥). inr (omega (arith, ne, above))) (cases_eq m from)
-    by false here =
-        filter-in p m (from + 1) count is
-        (let other : m ≡ from → ⊥ = (λ e. true≢false (sym is ∙ ap p e ∙ here)) in omega (arith, other, above)) (omega (arith, below))
+    at-or-above : (m ≡ from) ⊎ (from + 1 ≤ m)
+    at-or-above = ⊎_elim (λ (e : m ≡ from). inl e) (λ (ne : m ≡ from → ⊥). inr (omega (arith, ne, above))) (cases_eq m from)
+
+    by :
+        (b : Bool) → p from ≡ b → (from + 1 ≤ m → In m (filter p (range_with_len (from + 1) count)))
+        → In m (cond b (from ∷ filter p (range_with_len (from + 1) count)) (filter p (range_with_len (from + 1) count)))
+    by true here rest = ⊎_elim (λ (e : m ≡ from). inl e) (λ (more : from + 1 ≤ m). inr (rest more)) at-or-above
+    by false here rest = rest (let other : m ≡ from → ⊥ = (λ (e : m ≡ from). true≢false (sym is ∙ ap p e ∙ here)) in omega (arith, other, above))
 
 rise-pairs : (r : PoolRecord) (low : ℕ) (ns : List ℕ) → RiseFrom low ns → AllByRecursion (λ (q : ℕ × ℕ). low ≤ q.0) (map (pair_of r) ns) × IsRising (map (pair_of r) ns)
 rise-pairs r low [] rise = (tt, tt)

@@ -109,11 +109,11 @@ all-none n (j ∷ js) all = or_from (n == j.number) (list_any (λ (k : GivenJob)
 -- what holds of all holds of the one that is found
 pub all-found : (P : GivenJob → Type 0) (job : ℕ) (js : List GivenJob) (j : GivenJob) → AllByRecursion P js → find (λ (k : GivenJob). k.job == job) js ≡ Some j → P j
 all-found P job [] j all found = absurd (none-some j found)
-all-found P job (k ∷ ks) j all found = by (k.job == job) found
+all-found P job (k ∷ ks) j all found = by (k.job == job) found (all-found P job ks j all.1)
   where
-    by : (b : Bool) → cond b (Some k) (find (λ (k : GivenJob). k.job == job) ks) ≡ Some j → P j
-    by true found = subst P (same_Some k j found) all.0
-    by false found = all-found P job ks j all.1 found
+    by : (b : Bool) → cond b (Some k) (find (λ (k : GivenJob). k.job == job) ks) ≡ Some j → (find (λ (k : GivenJob). k.job == job) ks ≡ Some j → P j) → P j
+    by true found rest = subst P (same_Some k j found) all.0
+    by false found rest = rest found
 
 -- the others are of other clauses
 pub others-apart :

@@ -168,23 +168,22 @@ module _ (is_predicate : ℕ → Bool) (options : Options) where
       → AllByRecursion (λ (e : Entry). IsRightFate is_predicate options (clauses_of r) j e.key e.fate) entries
       → (before : List Key) → All (λ key. Contains (before ++ keys_of entries) key × IsHeavyAmong is_predicate options r key) (keys_of (heavy_entries entries))
   entries-heavy r j [] right before = All-nil (λ key. Contains (before ++ []) key × IsHeavyAmong is_predicate options r key)
-  entries-heavy r j (e ∷ es) right before = by e.fate right.0
+  entries-heavy r j (e ∷ es) right before =
+      by e.fate right.0
+      (subst (λ ks. All (λ key. Contains ks key × IsHeavyAmong is_predicate options r key) (keys_of (heavy_entries es)))
+      (append_assoc before (e.key ∷ []) (keys_of es)) (entries-heavy r j es right.1 (before ++ e.key ∷ [])))
     where
       there : Contains (before ++ e.key ∷ keys_of es) e.key
       there = Contains-append_right before (e.key ∷ keys_of es) e.key (0, omega arith, refl)
 
-      rest : All (λ key. Contains (before ++ e.key ∷ keys_of es) key × IsHeavyAmong is_predicate options r key) (keys_of (heavy_entries es))
-      rest =
-          subst (λ ks. All (λ key. Contains ks key × IsHeavyAmong is_predicate options r key) (keys_of (heavy_entries es)))
-          (append_assoc before (e.key ∷ []) (keys_of es)) (entries-heavy r j es right.1 (before ++ e.key ∷ []))
-
       by :
           (fate : Fate) → IsRightFate is_predicate options (clauses_of r) j e.key fate
+          → All (λ key. Contains (before ++ e.key ∷ keys_of es) key × IsHeavyAmong is_predicate options r key) (keys_of (heavy_entries es))
           → All (λ key. Contains (before ++ e.key ∷ keys_of es) key × IsHeavyAmong is_predicate options r key)
           (keys_of (cond (is_heavy fate) (e ∷ heavy_entries es) (heavy_entries es)))
-      by (Kept lines results) is = rest
-      by (Dropped redundancy) is = rest
-      by Heavy is =
+      by (Kept lines results) is rest = rest
+      by (Dropped redundancy) is rest = rest
+      by Heavy is rest =
           All-cons (λ key. Contains (before ++ e.key ∷ keys_of es) key × IsHeavyAmong is_predicate options r key) e.key (keys_of (heavy_entries es))
           (there, (is.0, heavy-more is_predicate (mode_of options.select) (among (is_told j) (clauses_of r)) (clauses_of r) (among-more (is_told j) (clauses_of r)) e.key is.0 true is.1)) rest
 

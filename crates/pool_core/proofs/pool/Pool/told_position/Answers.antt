@@ -1,0 +1,32 @@
+use Rattle.std.proofs.Common.{◌≡◌, ◌++◌, [], ◌∷◌, List, map, append-nil, ap, ap₂, sym, ◌∙◌, arith}
+use Rattle.std.specs.Prelude.{Some}
+use Rattle.pool_core.specs.Claiming.{next_given}
+use Rattle.pool_core.specs.Events.{events_of}
+use Rattle.pool_core.specs.News.{TreeChange, change_of}
+use Rattle.pool_core.specs.Noted.{first_told}
+use Rattle.pool_core.specs.Record.{position_of}
+use Rattle.pool_core.specs.Replay.{replay}
+use Rattle.pool_core.specs.State.{origin_of}
+use Rattle.pool_core.specs.View.{PoolView}
+use Rattle.pool_core.proofs.ClaimLemmas.{given-registered, told-before, told-now}
+use Rattle.pool_core.proofs.StateLemmas.{record_of}
+use Rattle.pool_core.proofs.pool.Pool.told_position.Goals as goal
+
+pub get-registration-requires : goal.get-registration-requires
+get-registration-requires c =
+    given-registered c.self.inside c.args.number c.self.invariant
+    (ap (λ (v : PoolView). next_given (replay v.origin v.history)) c.self.view_is ∙ c.requires)
+
+pub returns-in-Some-clause-news : goal.returns-in-Some-clause-news
+returns-in-Some-clause-news c =
+    let r = record_of c.self.inside in
+    sym (append-nil (map change_of c.args.news.now))
+    ∙ ap (λ cs. map change_of c.args.news.now ++ cs)
+    (sym (told-before c.self.inside r c.args.number c.in-Some.position c.get-registration.result.now c.self.invariant.state c.get-registration.ensures c.in-Some.is).0
+    ∙ ap (λ (v : PoolView). first_told (replay v.origin v.history) c.args.number) c.self.view_is)
+
+pub returns-in_ok-push-in-None-clause-position : goal.returns-in_ok-push-in-None-clause-position
+returns-in_ok-push-in-None-clause-position c = ?
+
+pub returns-in_ok-push-in-None-clause-news : goal.returns-in_ok-push-in-None-clause-news
+returns-in_ok-push-in-None-clause-news c = ?
