@@ -35,7 +35,7 @@ use Rattle.pool_core.proofs.HandLemmas.{AreInHand, hands-of, others-apart, all-n
 use Rattle.pool_core.proofs.JobLemmas.{Rising, none-removed}
 use Rattle.pool_core.proofs.LivingLemmas.{lives-there, awake-there, registered-there}
 use Rattle.pool_core.proofs.PickLemmas.{In, RiseFrom, filter-rises, contains-in}
-use Rattle.pool_core.proofs.StateLemmas.{record_of, pool-rises, one-more-event, given-count}
+use Rattle.pool_core.proofs.StateLemmas.{record_of, pool-rises, one-more-event, registered-count}
 
 -- ---- one job less
 
@@ -312,3 +312,41 @@ given-up-pool a b job j is found by queue spare =
     (drop-length (record_of a).positions) (drop-length (record_of a).deaths)))
     (subst (All (IsNoted (length a.register))) (sym by.notes) is.news.noted)
     by.before
+
+-- ---- the job that a pool gives up
+
+pub pool-hands : (a : Inside) → IsPool a → AreInHand (record_of a)
+pool-hands a is =
+    let wf = is.inputs.well_formed in
+    hands-of wf.usage.is_predicate (origin_of a) (events_of a.history) (is.lawful wf.usage wf.used)
+
+-- it is on a given clause, whose entry is there
+pub record IsOutBy (a : Inside) (job : ℕ) : Type 0 where
+  pub given : GivenJob
+  pub found : given_job (record_of a) job ≡ Some given
+  pub entry : lookup (is_at (nat_cmp job)) a.jobs.entries ≡ Some (record { number = given.number; left = given.left })
+  pub there : given.number < length a.register
+  pub spare : 1 ≤ a.queue.spare
+
+pub out-by : (a : Inside) (job : ℕ) → IsPool a → IsOut (record_of a) job → IsOutBy a job
+out-by a job is out =
+    let r : PoolRecord = record_of a in
+    let given = out-given r job is.state.no_solver out in
+    let rise = pool-rises a is in
+    record {
+      given = given.0;
+      found = given.1;
+      entry = entry-out a r job given.0 is.state rise given.1;
+      there =
+          let below = all-found (λ (i : GivenJob). i.number < length r.registered) job r.given given.0 (pool-hands a is).known given.1 in
+          let same = registered-count a r is.state in
+          omega (arith, below, same);
+      spare =
+          let one = length-without job 0 r.jobs r.given given.0 rise given.1 in
+          let room = is.state.queue_room in
+          omega (arith, one, room);
+    }
+
+-- the number of the entry that was there
+pub number-out : (a : Inside) (job : ℕ) (o : Option OutJob) (out : OutJob) (by : IsOutBy a job) → o ≡ lookup (is_at (nat_cmp job)) a.jobs.entries → o ≡ Some out → out.number ≡ by.given.number
+number-out a job o out by was is = ap (λ (e : OutJob). e.number) (same_Some out (record { number = by.given.number; left = by.given.left }) (sym is ∙ was ∙ by.entry))

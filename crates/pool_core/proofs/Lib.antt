@@ -31,6 +31,8 @@ mod PickLemmas
 mod ClaimLemmas
 mod HandLemmas
 mod GiveUpLemmas
+-- MemberLemmas (what a pool hands out).
+mod MemberLemmas
 -- Worked examples.
 mod GoingExample
 mod MeetingExample

@@ -1,6 +1,6 @@
 -- What a pool's fields keep through an event that registers nothing.
 use Rattle.std.proofs.Common.{◌≡◌, ℕ, zero, suc, ◌+◌, ◌<◌, ◌≤◌, Bool, List, [], ◌∷◌, ◌++◌, map, length, take, refl, ap, ap₂, sym, ◌∙◌, subst, inl, inr, ◌⊎◌, ⊎_elim, arith}
-use Rattle.std.specs.Prelude.{Option, None, Some, slice_get, option_map, unwrap_or, vec_len, All}
+use Rattle.std.specs.Prelude.{Option, None, Some, slice_get, option_map, unwrap_or, vec_len, vec_capacity, All}
 use Rattle.std.proofs.lemmas.Option.{none-some, same_Some, slice_get-map, slice_get_within}
 use Rattle.std.proofs.lemmas.List.{length-append, length-map, map-append, take-append-le}
 use Rattle.std.proofs.lemmas.List.Elements.{All-push}
@@ -8,6 +8,8 @@ use Rattle.std.proofs.Math.Seq.{take-append_seam}
 use Rattle.fol_base.specs.Clause.{TreeClause}
 use Rattle.kernel_steps.specs.Conclusion.{empty_clause}
 use Rattle.bank_clause.specs.Clause.{clause_at}
+use Rattle.clause_queue.specs.Pairs.{Waiting}
+use Rattle.term_bank.specs.declared.table.Table.{Table}
 use Rattle.pool_core.specs.Record.{PoolRecord, Registered, GivenJob, clauses_of, clause_numbered}
 use Rattle.pool_core.specs.Replay.{Origin, after, start, replay}
 use Rattle.pool_core.specs.News.{TreeChange, changes_between, changes_from}
@@ -15,7 +17,7 @@ use Rattle.pool_core.specs.Noted.{IsNoted, clause_in, change_at}
 use Rattle.pool_core.specs.Events.{events_of}
 use Rattle.pool_core.specs.Inputs.{AreInputs, IsLimit, IsHistoryOf}
 use Rattle.pool_core.specs.Lawful.{IsAllowed}
-use Rattle.pool_core.specs.Started.{registered_at}
+use Rattle.pool_core.specs.Started.{registered_at, IsOfTable}
 use Rattle.pool_core.specs.State.{origin_of, IsStateOf, HasNews, IsPool, job_entry}
 use Rattle.pool_core.specs.declared.options.Options.{Options}
 use Rattle.pool_core.specs.declared.event.Event.{Event}
@@ -154,3 +156,82 @@ one-more-event a b e notes is same events allowed state register noted told with
         ∙ ap (λ es. length (changes_from a.options (start (origin_of a)) es))
         (sym (ap₂ take (last ∙ is.news.count) events ∙ take-append_seam h (e ∷ [])))
         ∙ ap length (sym (whole (take k (events_of b.history))))
+
+-- ---- a pool that changed nothing but its room
+
+pub record KeepsAll (a b : Inside) : Type 0 where
+  pub origin : origin_of b ≡ origin_of a
+  pub table : b.table ≡ a.table
+  pub register : b.register ≡ a.register
+  pub positions : b.positions.items ≡ a.positions.items
+  pub queue : b.queue ≡ a.queue
+  pub jobs : b.jobs.entries ≡ a.jobs.entries
+  pub history : events_of b.history ≡ events_of a.history
+  pub history_len : vec_len b.history.events ≡ vec_len a.history.events
+  pub history_room : vec_capacity a.history.events ≤ vec_capacity b.history.events
+  pub notes : b.notes.items ≡ a.notes.items
+  pub before : b.notes_before.items ≡ a.notes_before.items
+  pub before_len : vec_len b.notes_before ≡ vec_len a.notes_before
+  pub before_room : vec_capacity a.notes_before ≤ vec_capacity b.notes_before
+  pub steps : b.steps.items ≡ a.steps.items
+  pub counted : b.counted ≡ a.counted
+  pub set_aside : b.set_aside ≡ a.set_aside
+  pub ended : b.ended ≡ a.ended
+  pub last_job : b.last_job ≡ a.last_job
+  pub place : b.place ≡ a.place
+
+kept-state : (a b : Inside) (r : PoolRecord) → KeepsAll a b → IsStateOf a r → IsStateOf b r
+kept-state a b r kept is = record {
+  registered = ap (map registered_at) kept.register ∙ is.registered;
+  of_table =
+      subst (λ (t : Table). All (IsOfTable t.bank t) b.register) (sym kept.table)
+      (subst (All (IsOfTable a.table.bank a.table)) (sym kept.register) is.of_table);
+  registrations = λ n s there. is.registrations n s (ap (λ ss. slice_get ss n) (sym kept.register) ∙ there);
+  positions = kept.positions ∙ is.positions;
+  queue = ap (λ (q : Waiting). q.pairs) kept.queue ∙ is.queue;
+  jobs = kept.jobs ∙ is.jobs;
+  steps = kept.steps ∙ is.steps;
+  counted = kept.counted ∙ is.counted;
+  set_aside = kept.set_aside ∙ is.set_aside;
+  ended = kept.ended ∙ is.ended;
+  last_job = kept.last_job ∙ is.last_job;
+  place = kept.place ∙ is.place;
+  no_propositional = is.no_propositional;
+  no_solver = is.no_solver;
+  no_names = is.no_names;
+  queue_room = let same = ap (λ (q : Waiting). q.spare) kept.queue in let room = is.queue_room in omega (arith, same, room);
+  history_room = let room = is.history_room in omega (arith, kept.history_len, kept.history_room, room);
+  notes_room = let room = is.notes_room in omega (arith, kept.before_len, kept.before_room, room);
+}
+
+pub kept-pool : (a b : Inside) → IsPool a → KeepsAll a b → IsPool b
+kept-pool a b is kept = record {
+  inputs = subst (λ (o : Origin). AreInputs o.inputs) (sym kept.origin) is.inputs;
+  limit = subst IsLimit (sym same_options) is.limit;
+  unsplit = ap (λ (o : Options). o.split) same_options ∙ is.unsplit;
+  lawful =
+      subst (λ (o : Origin). IsHistoryOf o (events_of b.history)) (sym kept.origin)
+      (subst (λ es. IsHistoryOf (origin_of a) es) (sym kept.history) is.lawful);
+  state =
+      subst (λ (o : Origin). IsStateOf b (replay o (events_of b.history))) (sym kept.origin)
+      (subst (λ es. IsStateOf b (replay (origin_of a) es)) (sym kept.history) (kept-state a b (record_of a) kept is.state));
+  news = record {
+    all =
+        ap₂ (λ (ss : List Registration) (ns : List Note). map (change_at ss) ns) kept.register kept.notes
+        ∙ is.news.all ∙ sym (whole (events_of b.history) ∙ ap (changes_from a.options (start (origin_of a))) kept.history);
+    noted =
+        subst (λ ns. All (IsNoted (length b.register)) ns) (sym kept.notes)
+        (subst (λ (ss : List Registration). All (IsNoted (length ss)) a.notes.items) (sym kept.register) is.news.noted);
+    count = ap length kept.before ∙ is.news.count ∙ ap length (sym kept.history);
+    before = λ k n there.
+        is.news.before k n (ap (λ xs. slice_get xs k) (sym kept.before) ∙ there)
+        ∙ ap (λ es. length (changes_from a.options (start (origin_of a)) (take k es))) (sym kept.history)
+        ∙ ap length (sym (whole (take k (events_of b.history))));
+  };
+}
+  where
+    same_options : b.options ≡ a.options
+    same_options = ap (λ (o : Origin). o.options) kept.origin
+
+    whole : (es : List Event) → changes_from b.options (start (origin_of b)) es ≡ changes_from a.options (start (origin_of a)) es
+    whole es = ap (λ (o : Origin). changes_from o.options (start o) es) kept.origin

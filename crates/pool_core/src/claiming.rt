@@ -129,9 +129,10 @@ impl Pool {
         match registration.position {
             Some(position) => Ok(position),
             None => {
+                let position = short(self.positions.len())?;
                 let clause = registration.clause.copied()?;
                 news.push(Change::Activated(Member { number, clause }))?;
-                short(self.positions.len())
+                Ok(position)
             }
         }
     }
