@@ -1,6 +1,6 @@
 -- A pool after a claim.
 use Rattle.std.proofs.Common.{◌≡◌, ℕ, zero, suc, ◌+◌, ◌-◌, ◌%◌, ◌<◌, ◌≤◌, Bool, true, false, not, ◌&&◌, ◌||◌, ◌==◌, List, [], ◌∷◌, ◌++◌, map, length, drop, append-nil, refl, ap, ap₂, sym, ◌∙◌, subst, inl, inr, ◌⊎◌, ⊎_elim, arith}
-use Rattle.std.specs.Prelude.{Option, None, Some, cond, nat_lt, if◌then◌else◌, find, filter, position, slice_get, is_some, option_map, unwrap_or, vec_len, vec_capacity, All, IsTrue, IsFalse}
+use Rattle.std.specs.Prelude.{Option, None, Some, cond, nat_lt, if◌then◌else◌, find, filter, position, slice_get, is_some, option_map, unwrap_or, vec_len, vec_capacity, All, Contains, IsTrue, IsFalse}
 use Rattle.std.specs.List.{list_any, range_with_len, position_or_len}
 use Rattle.std.specs.Ordering.{nat_cmp}
 use Rattle.std.specs.BTreeMap.{insert_entry}
@@ -43,7 +43,7 @@ use Rattle.pool_core.specs.declared.ticket.Ticket.{Ticket}
 use Rattle.pool_core.proofs.EditLemmas.{at-set, filter-less, filter-pairs, RisingBy, insert-last}
 use Rattle.pool_core.proofs.HistoryLemmas.{event-count, replay-end, news-end}
 use Rattle.pool_core.proofs.JobLemmas.{Rising, rising-bound}
-use Rattle.pool_core.proofs.PickLemmas.{In, given-in}
+use Rattle.pool_core.proofs.PickLemmas.{In, given-in, number-in}
 use Rattle.pool_core.proofs.StartLemmas.{all-at}
 use Rattle.pool_core.proofs.RegisterLemmas.{place-bound, none-place, found-place, position-end-new, position-end-old}
 use Rattle.pool_core.proofs.StateLemmas.{clause-in, record_of, pool-rises, one-more-event, clause-there, clause-numbered, registered-count, given-count}
@@ -483,3 +483,28 @@ told-now a r n s is there none =
       ∙ ap (λ c. TreeChange.activated n c ∷ []) (clause-numbered r n (clause_at s.clause) (clause-there a r n s is there)),
       ap length is.positions ∙ sym (absent-place n r.positions absent),
     )
+
+-- ---- the changed fields
+
+pub activated-by :
+    (a b : Inside) (n place : ℕ) (s : Registration) (ps : List ℕ) (notes : List Note)
+    → ps ≡ a.positions.items → notes ≡ a.notes.items
+    → b.register ≡ (if place == length ps then set a.register n (at_position place s) else a.register)
+    → b.positions.items ≡ (if place == length ps then ps ++ n ∷ [] else ps)
+    → b.notes.items ≡ (if place == length ps then notes ++ Activated n ∷ [] else notes)
+    → IsActivated a b n place s
+activated-by a b n place s ps notes same_positions same_notes register positions noted = record {
+  register = register ∙ ap (λ (qs : List ℕ). if place == length qs then set a.register n (at_position place s) else a.register) same_positions;
+  positions = positions ∙ ap (λ (qs : List ℕ). if place == length qs then qs ++ n ∷ [] else qs) same_positions;
+  notes =
+      noted
+      ∙ ap₂ (λ (qs : List ℕ) (xs : List Note). if place == length qs then xs ++ Activated n ∷ [] else xs) same_positions same_notes;
+}
+
+-- the clause that is given leaves the queue
+pub in-queue : (a : Inside) (r : PoolRecord) (n : ℕ) → IsStateOf a r → next_given r ≡ Some n → Contains (numbers a.queue.pairs) n
+in-queue a r n is next = subst (λ ps. Contains (numbers ps) n) (sym is.queue) (number-in r n (ready r) (given-in r n next))
+
+pub one-spare : (b : Bool) (spare now : ℕ) → b ≡ true → now ≡ spare + (if b then 1 else 0) → now ≡ spare + 1
+one-spare true spare now is e = e
+one-spare false spare now is e = absurd (true≢false (sym is))

@@ -6,12 +6,13 @@ use Rattle.std.specs.Ordering.{nat_cmp}
 use Rattle.std.specs.BTreeMap.{is_at}
 use Rattle.std.specs.Map.{remove_entry, lookup}
 use Rattle.std.proofs.Math.Seq.{drop-length}
-use Rattle.std.proofs.lemmas.Bool.{true≢false, and_from, eqb-true, eq-eqb, lt-ltb, or_parts, not_from_false, cases_eq}
+use Rattle.std.proofs.lemmas.Bool.{true≢false, and_from, and_parts, eqb-true, eq-eqb, lt-ltb, or_parts, not_from_false, cases_eq}
 use Rattle.std.proofs.lemmas.Option.{none-some, same_Some, slice_get_within}
 use Rattle.fol_base.specs.Clause.{clause_size}
 use Rattle.kernel_steps.specs.Split.{has_number}
 use Rattle.term_bank.specs.declared.table.Table.{Table}
-use Rattle.clause_queue.specs.Pairs.{with_pair, without, numbers, IsAbsent, IsRising}
+use Rattle.bank_clause.specs.Clause.{clause_at}
+use Rattle.clause_queue.specs.Pairs.{Waiting, with_pair, without, numbers, IsAbsent, IsRising}
 use Rattle.clause_queue.proofs.Numbers.{lacks_from}
 use Rattle.clause_queue.proofs.PairsLemmas.{absent-without}
 use Rattle.clause_queue.proofs.PutBack.{put_back_restores}
@@ -35,7 +36,7 @@ use Rattle.pool_core.proofs.HandLemmas.{AreInHand, hands-of, others-apart, all-n
 use Rattle.pool_core.proofs.JobLemmas.{Rising, none-removed}
 use Rattle.pool_core.proofs.LivingLemmas.{lives-there, awake-there, registered-there}
 use Rattle.pool_core.proofs.PickLemmas.{In, RiseFrom, filter-rises, contains-in}
-use Rattle.pool_core.proofs.StateLemmas.{record_of, pool-rises, one-more-event, registered-count}
+use Rattle.pool_core.proofs.StateLemmas.{clause-there, clause-numbered, record_of, pool-rises, one-more-event, registered-count}
 
 -- ---- one job less
 
@@ -326,6 +327,7 @@ pub record IsOutBy (a : Inside) (job : ℕ) : Type 0 where
   pub found : given_job (record_of a) job ≡ Some given
   pub entry : lookup (is_at (nat_cmp job)) a.jobs.entries ≡ Some (record { number = given.number; left = given.left })
   pub there : given.number < length a.register
+  pub some : 1 ≤ length (record_of a).given
   pub spare : 1 ≤ a.queue.spare
 
 pub out-by : (a : Inside) (job : ℕ) → IsPool a → IsOut (record_of a) job → IsOutBy a job
@@ -341,6 +343,7 @@ out-by a job is out =
           let below = all-found (λ (i : GivenJob). i.number < length r.registered) job r.given given.0 (pool-hands a is).known given.1 in
           let same = registered-count a r is.state in
           omega (arith, below, same);
+      some = let one = length-without job 0 r.jobs r.given given.0 rise given.1 in omega (arith, one);
       spare =
           let one = length-without job 0 r.jobs r.given given.0 rise given.1 in
           let room = is.state.queue_room in
@@ -350,3 +353,57 @@ out-by a job is out =
 -- the number of the entry that was there
 pub number-out : (a : Inside) (job : ℕ) (o : Option OutJob) (out : OutJob) (by : IsOutBy a job) → o ≡ lookup (is_at (nat_cmp job)) a.jobs.entries → o ≡ Some out → out.number ≡ by.given.number
 number-out a job o out by was is = ap (λ (e : OutJob). e.number) (same_Some out (record { number = by.given.number; left = by.given.left }) (sym is ∙ was ∙ by.entry))
+
+-- it isn't in the queue
+pub absent-out : (a : Inside) (job n : ℕ) (by : IsOutBy a job) → IsPool a → n ≡ by.given.number → Contains (numbers a.queue.pairs) n → ⊥
+absent-out a job n by is same there =
+    absent-from-ready a.options job 0 (record_of a).jobs (record_of a) by.given a.queue.pairs (pool-rises a is) by.found is.state.queue
+    (subst (Contains (numbers a.queue.pairs)) same there)
+
+-- where its clause lives it comes back into the queue
+pub given-up-living :
+    (a b : Inside) (job n size : ℕ) (s : Registration) (by : IsOutBy a job)
+    → IsPool a → IsGivenUpBy a b job → n ≡ by.given.number → slice_get a.register n ≡ Some s → is_none s.death ≡ true → size ≡ clause_size (clause_at s.clause)
+    → b.queue.pairs ≡ with_pair (n, size) a.queue.pairs → b.queue.spare ≡ a.queue.spare - 1
+    → IsPool b
+given-up-living a b job n size s by is changed same there alive weight pairs spare =
+    given-up-pool a b job by.given is by.found changed
+    (pairs
+    ∙ ap₂ (λ (p : ℕ × ℕ) (ps : List (ℕ × ℕ)). with_pair p ps)
+    (ap₂ (λ (k w : ℕ). let p : ℕ × ℕ = (k, w) in p) same
+    (weight ∙ ap clause_size (sym (clause-numbered r n (clause_at s.clause) (clause-there a r n s is.state there))) ∙ ap (λ k. clause_size (clause_numbered r k)) same))
+    is.state.queue
+    ∙ put-back a.options job 0 r.jobs r by.given (pool-rises a is) (pool-hands a is) by.found
+    (subst (λ k. lives r k ≡ true) same (and_parts (lives r n) (is_awake r n) both).0)
+    (subst (λ k. is_awake r k ≡ true) same (and_parts (lives r n) (is_awake r n) both).1))
+    (omega (arith, spare))
+  where
+    r : PoolRecord
+    r = record_of a
+
+    both : (lives r n && is_awake r n) ≡ true
+    both = sym (lives-there a r n s is.state there) ∙ alive
+
+-- where it has died the queue stays
+pub given-up-dead :
+    (a b : Inside) (job n : ℕ) (s : Registration) (by : IsOutBy a job)
+    → IsPool a → IsGivenUpBy a b job → n ≡ by.given.number → slice_get a.register n ≡ Some s → is_none s.death ≡ false
+    → b.queue ≡ a.queue
+    → IsPool b
+given-up-dead a b job n s by is changed same there dead queue =
+    given-up-pool a b job by.given is by.found changed
+    (ap (λ (q : Waiting). q.pairs) queue ∙ is.state.queue
+    ∙ ap (map (pair_of r)) (sym (ready-dead a.options job 0 r.jobs r by.given (pool-rises a is) by.found (subst (λ k. lives r k ≡ false) same not_living))))
+    (let equal = ap (λ (q : Waiting). q.spare) queue in omega (arith, equal))
+  where
+    r : PoolRecord
+    r = record_of a
+
+    not_living : lives r n ≡ false
+    not_living =
+        sym (and-true (lives r n)) ∙ ap (λ b. lives r n && b) (sym (awake-there a r n (registered_at s) is.state (registered-there a r n s is.state there)))
+        ∙ sym (lives-there a r n s is.state there) ∙ dead
+      where
+        and-true : (b : Bool) → (b && true) ≡ b
+        and-true true = refl
+        and-true false = refl

@@ -2,7 +2,7 @@
 use Rattle.std.proofs.Common.{◌≡◌, ℕ, ◌+◌, ◌≤◌, Bool, List, [], ◌∷◌, ◌++◌, length, take, drop, append-nil, append_assoc, refl, ap, sym, ◌∙◌, subst, arith}
 use Rattle.std.specs.Prelude.{fold}
 use Rattle.std.proofs.Math.Seq.{drop-append_seam}
-use Rattle.std.proofs.lemmas.List.{take-append-le, drop-append-le, take-append-drop}
+use Rattle.std.proofs.lemmas.List.{length-append, take-append-le, drop-append-le, take-append-drop}
 use Rattle.pool_core.specs.Record.{PoolRecord, nothing_registered}
 use Rattle.pool_core.specs.Replay.{Origin, after, start, replay}
 use Rattle.pool_core.specs.News.{TreeChange, changes_between, changes_from, news_since}
@@ -80,6 +80,11 @@ module _ (origin : Origin) where
   news-drop es told =
       ap (drop (length (changes_from origin.options (start origin) (take told es)))) (sym (news-all es told))
       ∙ drop-append_seam (changes_from origin.options (start origin) (take told es)) (news_since origin es told)
+
+  pub news-bound : (es : List Event) (told : ℕ) → length (changes_from origin.options (start origin) (take told es)) ≤ length (changes_from origin.options (start origin) es)
+  news-bound es told =
+      let all : length (changes_from origin.options (start origin) (take told es) ++ news_since origin es told) ≡ length (changes_from origin.options (start origin) es) = ap length (news-all es told) in
+      omega (arith, all, length-append (changes_from origin.options (start origin) (take told es)) (news_since origin es told))
 
   -- since a place before the last event
   pub news-end :

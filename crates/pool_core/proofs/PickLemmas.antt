@@ -7,6 +7,7 @@ use Rattle.std.proofs.lemmas.List.Elements.{All-nil, All-cons}
 use Rattle.std.proofs.lemmas.Option.{none-some, same_Some}
 use Rattle.fol_base.specs.Clause.{clause_size}
 use Rattle.clause_queue.specs.Order.{IsNoHeavier}
+use Rattle.clause_queue.specs.Pairs.{numbers}
 use Rattle.clause_queue.specs.Pick.{IsPick}
 use Rattle.clause_queue.specs.declared.choice.Choice.{Choice}
 use Rattle.clause_queue.specs.declared.choice.Choice.TheVariants.{Light, Old}
@@ -99,6 +100,11 @@ contains-in r m (n ∷ ns) (inl here) = Contains-from (map (pair_of r) (n ∷ ns
 contains-in r m (n ∷ ns) (inr later) =
     let rest = contains-in r m ns later in
     (suc rest.0, (let b = rest.1 in omega (arith, b)), rest.2)
+
+pub number-in : (r : PoolRecord) (m : ℕ) (ns : List ℕ) → In m ns → Contains (numbers (map (pair_of r) ns)) m
+number-in r m [] there = absurd there
+number-in r m (n ∷ ns) (inl here) = (0, omega arith, sym here)
+number-in r m (n ∷ ns) (inr later) = let rest = number-in r m ns later in (suc rest.0, (let below = rest.1 in omega (arith, below)), rest.2)
 
 all-lightest : (r : PoolRecord) (m : ℕ) (ns : List ℕ) → Lightest r m ns → All (λ q. IsNoHeavier (pair_of r m) q) (map (pair_of r) ns)
 all-lightest r m [] light = All-nil (λ q. IsNoHeavier (pair_of r m) q)

@@ -1,10 +1,10 @@
 -- What a pool's fields keep through an event that registers nothing.
-use Rattle.std.proofs.Common.{◌≡◌, ℕ, zero, suc, ◌+◌, ◌<◌, ◌≤◌, Bool, List, [], ◌∷◌, ◌++◌, map, length, take, refl, ap, ap₂, sym, ◌∙◌, subst, inl, inr, ◌⊎◌, ⊎_elim, arith}
-use Rattle.std.specs.Prelude.{Option, None, Some, slice_get, option_map, unwrap_or, vec_len, vec_capacity, All}
+use Rattle.std.proofs.Common.{◌≡◌, ℕ, zero, suc, ◌+◌, ◌<◌, ◌≤◌, Bool, List, [], ◌∷◌, ◌++◌, map, length, take, drop, refl, ap, ap₂, sym, ◌∙◌, subst, inl, inr, ◌⊎◌, ⊎_elim, arith}
+use Rattle.std.specs.Prelude.{Option, None, Some, Result, Ok, Err, OnOk, slice_get, option_map, unwrap_or, vec_len, vec_capacity, All}
 use Rattle.std.proofs.lemmas.Option.{none-some, same_Some, slice_get-map, slice_get_within}
-use Rattle.std.proofs.lemmas.List.{length-append, length-map, map-append, take-append-le}
+use Rattle.std.proofs.lemmas.List.{length-append, length-map, length-take-le, map-append, take-append-le, take_all}
 use Rattle.std.proofs.lemmas.List.Elements.{All-push}
-use Rattle.std.proofs.Math.Seq.{take-append_seam}
+use Rattle.std.proofs.Math.Seq.{take-append_seam, drop-append_seam}
 use Rattle.fol_base.specs.Clause.{TreeClause}
 use Rattle.kernel_steps.specs.Conclusion.{empty_clause}
 use Rattle.bank_clause.specs.Clause.{clause_at}
@@ -12,7 +12,7 @@ use Rattle.clause_queue.specs.Pairs.{Waiting}
 use Rattle.term_bank.specs.declared.table.Table.{Table}
 use Rattle.pool_core.specs.Record.{PoolRecord, Registered, GivenJob, clauses_of, clause_numbered}
 use Rattle.pool_core.specs.Replay.{Origin, after, start, replay}
-use Rattle.pool_core.specs.News.{TreeChange, changes_between, changes_from}
+use Rattle.pool_core.specs.News.{TreeChange, change_of, changes_between, changes_from, news_since}
 use Rattle.pool_core.specs.Noted.{IsNoted, clause_in, change_at}
 use Rattle.pool_core.specs.Events.{events_of}
 use Rattle.pool_core.specs.Inputs.{AreInputs, IsLimit, IsHistoryOf}
@@ -25,7 +25,8 @@ use Rattle.pool_core.specs.declared.register.Registration.{Registration}
 use Rattle.pool_core.specs.declared.pool.Note.{Note}
 use Rattle.pool_core.specs.declared.pool.Note.TheVariants.{Activated, Died}
 use Rattle.pool_core.specs.declared.pool.Pool.TheInside.{Inside}
-use Rattle.pool_core.proofs.HistoryLemmas.{replay-end, changes-end, lawful-end}
+use Rattle.pool_core.specs.declared.ticket.Change.{Change}
+use Rattle.pool_core.proofs.HistoryLemmas.{replay-end, changes-end, lawful-end, news-drop, news-bound}
 use Rattle.pool_core.proofs.JobLemmas.{Rising}
 use Rattle.pool_core.proofs.TimeLemmas.{jobs-rise}
 
@@ -235,3 +236,48 @@ kept-pool a b is kept = record {
 
     whole : (es : List Event) → changes_from b.options (start (origin_of b)) es ≡ changes_from a.options (start (origin_of a)) es
     whole es = ap (λ (o : Origin). changes_from o.options (start o) es) kept.origin
+
+-- ---- what is told
+
+pub item-at : {X : Type 0} (xs : List X) (n : ℕ) → n < length xs → (x : X) × (slice_get xs n ≡ Some x)
+item-at [] n below = absurd (omega (arith, below))
+item-at (x ∷ xs) zero below = (x, refl)
+item-at (x ∷ xs) (suc n) below = item-at xs n (omega (arith, below))
+
+-- the changes that were collected from a place on are the news
+pub news-told :
+    (a : Inside) (told first at : ℕ) (news : List Change)
+    → IsPool a → first ≡ length (changes_from a.options (start (origin_of a)) (take told (events_of a.history)))
+    → map (change_at a.register) (take first a.notes.items) ++ map change_of news ≡ map (change_at a.register) (take at a.notes.items)
+    → length a.notes.items ≤ at → map change_of news ≡ news_since (origin_of a) (events_of a.history) told
+news-told a told first at news is count so_far whole =
+    sym (drop-append_seam front (map change_of news))
+    ∙ ap₂ drop long (so_far ∙ ap (map (change_at a.register)) (take_all at a.notes.items whole) ∙ is.news.all)
+    ∙ news-drop (origin_of a) (events_of a.history) told
+  where
+    front : List TreeChange
+    front = map (change_at a.register) (take first a.notes.items)
+
+    long : length front ≡ length (changes_from a.options (start (origin_of a)) (take told (events_of a.history)))
+    long =
+        let bound = news-bound (origin_of a) (events_of a.history) told in
+        let all : length a.notes.items ≡ length (changes_from a.options (start (origin_of a)) (events_of a.history)) = sym (length-map a.notes.items (change_at a.register)) ∙ ap length is.news.all in
+        length-map (take first a.notes.items) (change_at a.register) ∙ length-take-le first a.notes.items (omega (arith, bound, all, count)) ∙ count
+
+-- so many were noted before an event
+pub count-before :
+    (a : Inside) (told first : ℕ) → IsPool a → slice_get a.notes_before.items told ≡ Some first
+    → first ≡ length (changes_from a.options (start (origin_of a)) (take told (events_of a.history)))
+count-before a told first is there = is.news.before told first there
+
+pub count-all :
+    (a : Inside) (told first : ℕ) → IsPool a → length a.notes_before.items ≤ told → first ≡ length a.notes.items
+    → first ≡ length (changes_from a.options (start (origin_of a)) (take told (events_of a.history)))
+count-all a told first is past all =
+    all ∙ sym (length-map a.notes.items (change_at a.register)) ∙ ap length is.news.all
+    ∙ ap (λ es. length (changes_from a.options (start (origin_of a)) es)) (sym (take_all told (events_of a.history) (omega (arith, past, is.news.count))))
+
+-- what a clause says of an answer that is a value
+pub at-ok : {T E : Type 0} (result : Result T E) (P : Type 0) (x : T) → result ≡ Ok x → OnOk result P → P
+at-ok (Ok y) P x is says = says
+at-ok (Err e) P x is says = absurd cc

@@ -1,16 +1,16 @@
 // Claims: clauses that are given out.
 
-ghost use Rattle.std.specs.Prelude.{◌≡◌, suc, ◌+◌, ◌<◌, ◌≤◌, ◌==◌, ◌++◌, [], ◌∷◌, None, Some, if◌then◌else◌, map, length, slice_get, slice_set, IfOk, OnOk, OnErr, IsFalse, vec_len, vec_capacity};
+ghost use Rattle.std.specs.Prelude.{◌≡◌, suc, ◌+◌, ◌<◌, ◌≤◌, ◌==◌, ◌++◌, [], ◌∷◌, None, Some, if◌then◌else◌, map, length, take, slice_get, slice_set, IfOk, OnOk, OnErr, IsFalse, vec_len, vec_capacity};
 ghost use Rattle.std.specs.BTreeMap.{insert_entry};
 ghost use Rattle.std.specs.Ordering.{nat_cmp};
 ghost use Rattle.pool_core.specs.Answers.{IsAnswerToClaim, IsTicket};
 ghost use Rattle.pool_core.specs.Claiming.{next_given};
 ghost use Rattle.pool_core.specs.Events.{events_of};
-ghost use Rattle.pool_core.specs.News.{change_of, news_since};
+ghost use Rattle.pool_core.specs.News.{change_of, changes_from, news_since};
 ghost use Rattle.pool_core.specs.Noted.{IsNoted, IsNextTicket, change_at, first_told};
 ghost use Rattle.pool_core.specs.Record.{jobs_out, position_of};
 ghost use Rattle.pool_core.specs.Register.{at_position};
-ghost use Rattle.pool_core.specs.Replay.{replay};
+ghost use Rattle.pool_core.specs.Replay.{start, replay};
 ghost use Rattle.pool_core.specs.Solving.{must_solve};
 ghost use Rattle.pool_core.specs.declared.event.Event.TheVariants.{Claim};
 ghost use Rattle.pool_core.specs.declared.pool.Note.TheVariants.{Activated};
@@ -70,13 +70,14 @@ impl Pool {
         ensures unchanged { OnErr result (self.new ≡ self.old) }
     {
         let ticket = self.ticket(alloc, number, told)?;
+        let job = ticket.job;
         take_memory(
             &mut self.history,
             &mut self.positions,
             &mut self.notes,
             &mut self.notes_before,
             &mut self.jobs,
-            ticket.job,
+            job,
             OutJob {
                 number,
                 left: ticket.left,
@@ -91,8 +92,8 @@ impl Pool {
             number,
             ticket.position,
         );
-        self.history.push(&Event::Claim(ticket.job));
-        self.last_job = ticket.job;
+        self.history.push(&Event::Claim(job));
+        self.last_job = job;
         self.place = (self.place + 1) % GIVEN_CLAIMS;
         Ok(ticket)
     }
@@ -142,15 +143,22 @@ impl Pool {
         requires { told ≤ length self.now.history }
         ensures { IfOk result (λ news. map change_of news ≡ news_since self.now.origin self.now.history told) }
     {
-        let first = match self.notes_before.get(told) {
-            Some(first) => *first,
-            None => self.notes.len(),
-        };
         let mut news = News::new(alloc);
-        for note in &self.notes[first..] {
-            news.push(change(&self.register, *note)?)?;
+        for at in self.note_count(told)..self.notes.len() {
+            news.push(change(&self.register, self.notes[at])?)?;
         }
         Ok(news)
+    }
+
+    /// How many activations and deaths there were before an event.
+    fn note_count(&self, told: usize) -> usize
+        ensures { let origin = self.now.origin in
+            result ≡ length (changes_from origin.options (start origin) (take told self.now.history)) }
+    {
+        match self.notes_before.get(told) {
+            Some(count) => *count,
+            None => self.notes.len(),
+        }
     }
 
     /// The clause that is given next. Nothing is to be solved before, since nothing is split.

@@ -1,7 +1,13 @@
 use Rattle.pool_core.proofs.pool.Pool.news.Goals as goal
 
-pub offset_bounds-deref-first : goal.offset_bounds-deref-first
-offset_bounds-deref-first c = ?
+pub change-requires : goal.change-requires
+change-requires c = ?
+
+pub loop-at-init : goal.loop-at-init
+loop-at-init c = ?
+
+pub loop-at-preserved : goal.loop-at-preserved
+loop-at-preserved c = ?
 
 pub returns : goal.returns
 returns c = ?
