@@ -508,3 +508,7 @@ in-queue a r n is next = subst (λ ps. Contains (numbers ps) n) (sym is.queue) (
 pub one-spare : (b : Bool) (spare now : ℕ) → b ≡ true → now ≡ spare + (if b then 1 else 0) → now ≡ spare + 1
 one-spare true spare now is e = e
 one-spare false spare now is e = absurd (true≢false (sym is))
+
+pub no-value : {X : Type 0} (o : Option X) → ((x : X) → o ≡ Some x → ⊥) → o ≡ None
+no-value None none = refl
+no-value (Some x) none = absurd (none x refl)
