@@ -1,16 +1,16 @@
 -- A pool after a claim.
-use Rattle.std.proofs.Common.{◌≡◌, ℕ, zero, suc, ◌+◌, ◌-◌, ◌%◌, ◌<◌, ◌≤◌, Bool, true, false, not, ◌&&◌, ◌||◌, ◌==◌, List, [], ◌∷◌, ◌++◌, map, length, drop, append-nil, refl, ap, ap₂, sym, ◌∙◌, subst, inl, inr, ◌⊎◌, ⊎_elim, arith}
-use Rattle.std.specs.Prelude.{Option, None, Some, cond, nat_lt, if◌then◌else◌, find, filter, position, slice_get, is_some, option_map, unwrap_or, vec_len, vec_capacity, All, Contains, IsTrue, IsFalse}
-use Rattle.std.specs.List.{list_any, range_with_len, position_or_len}
+use Rattle.std.proofs.Common.{◌≡◌, ℕ, zero, suc, ◌+◌, ◌-◌, ◌%◌, ◌<◌, ◌≤◌, Bool, true, false, not, ◌&&◌, ◌||◌, ◌==◌, List, [], ◌∷◌, ◌++◌, map, length, append-nil, refl, ap, ap₂, sym, ◌∙◌, subst, inl, inr, ⊎_elim, arith}
+use Rattle.std.specs.Prelude.{Option, None, Some, cond, nat_lt, if◌then◌else◌, find, filter, position, slice_get, is_some, option_map, unwrap_or, vec_len, vec_capacity, All, Contains, IsFalse}
+use Rattle.std.specs.List.{range_with_len, position_or_len}
 use Rattle.std.specs.Ordering.{nat_cmp}
 use Rattle.std.specs.BTreeMap.{insert_entry}
 use Rattle.std.proofs.Math.ListN.{set}
 use Rattle.std.proofs.Math.Seq.{map-set_same, drop-append_seam, drop-length}
-use Rattle.std.proofs.lemmas.Bool.{true≢false, and_parts, and_from, lt-ltb, le-ltb, ltb-true, ltb-false, eq-eqb, ne_eqb, eqb-true, eqb-false, cond-true, cond-false, or_left, or_right, or_parts, false_from_ne_true}
+use Rattle.std.proofs.lemmas.Bool.{true≢false, and_parts, and_from, le-ltb, eq-eqb, ne_eqb, eqb-false, cond-true, cond-false, or_parts}
 use Rattle.std.proofs.lemmas.List.{length-append, map-append}
 use Rattle.std.proofs.lemmas.List.Elements.{All-set, All-push}
 use Rattle.std.proofs.lemmas.List.Folds.{list_any-append, position_or_len_push}
-use Rattle.std.proofs.lemmas.Option.{none-some, same_Some, get_or_from_slice_get, slice_get_within}
+use Rattle.std.proofs.lemmas.Option.{none-some, get_or_from_slice_get, slice_get_within}
 use Rattle.fol_base.specs.Clause.{clause_size}
 use Rattle.kernel_steps.specs.Conclusion.{empty_clause}
 use Rattle.kernel_steps.specs.Split.{has_number}
@@ -18,9 +18,9 @@ use Rattle.term_bank.specs.declared.table.Table.{Table}
 use Rattle.bank_clause.specs.Clause.{clause_at}
 use Rattle.clause_queue.specs.Pairs.{without, numbers}
 use Rattle.pool_core.specs.Record.{PoolRecord, Registered, Death, GivenJob, clauses_of, clause_numbered, numbers_of, lives, is_out, waits, is_awake, position_of, given_job, jobs_out}
-use Rattle.pool_core.specs.Claiming.{ready, picked, next_choice, next_given, can_give, activated, new_job, given_out, claimed_by}
+use Rattle.pool_core.specs.Claiming.{ready, next_given, can_give, new_job, given_out, claimed_by}
 use Rattle.pool_core.specs.Replay.{Origin, with_events, after, replay}
-use Rattle.pool_core.specs.News.{TreeChange, change_of, changes_between, news_since}
+use Rattle.pool_core.specs.News.{TreeChange, changes_between, news_since}
 use Rattle.pool_core.specs.Noted.{IsNoted, IsNextTicket, clause_in, change_at, first_told}
 use Rattle.pool_core.specs.Answers.{IsTicket}
 use Rattle.pool_core.specs.Lawful.{IsAllowed}
@@ -45,7 +45,7 @@ use Rattle.pool_core.proofs.HistoryLemmas.{event-count, replay-end, news-end}
 use Rattle.pool_core.proofs.JobLemmas.{Rising, rising-bound}
 use Rattle.pool_core.proofs.PickLemmas.{In, given-in, number-in}
 use Rattle.pool_core.proofs.StartLemmas.{all-at}
-use Rattle.pool_core.proofs.RegisterLemmas.{place-bound, none-place, found-place, position-end-new, position-end-old}
+use Rattle.pool_core.proofs.RegisterLemmas.{none-place, found-place, position-end-new, position-end-old}
 use Rattle.pool_core.proofs.StateLemmas.{clause-in, record_of, pool-rises, one-more-event, clause-there, clause-numbered, registered-count, given-count}
 
 -- ---- numbers in a list
@@ -480,7 +480,7 @@ pub told-now :
 told-now a r n s is there none =
     let absent = has-no-position n r.positions (sym (is.registrations n s there).position ∙ none) in (
       cond-false (has_number n r.positions) [] (TreeChange.activated n (clause_numbered r n) ∷ []) absent
-      ∙ ap (λ c. TreeChange.activated n c ∷ []) (clause-numbered r n (clause_at s.clause) (clause-there a r n s is there)),
+          ∙ ap (λ c. TreeChange.activated n c ∷ []) (clause-numbered r n (clause_at s.clause) (clause-there a r n s is there)),
       ap length is.positions ∙ sym (absent-place n r.positions absent),
     )
 

@@ -1,13 +1,13 @@
 -- Lists after one change: an element set, a key inserted or removed, a number more or less.
-use Rattle.std.proofs.Common.{◌≡◌, ℕ, zero, suc, ◌+◌, ◌<◌, ◌≤◌, Bool, true, false, not, ◌&&◌, ◌||◌, ◌==◌, List, [], ◌∷◌, ◌++◌, map, length, get_or, refl, ap, ap₂, sym, ◌∙◌, subst, inl, inr, ◌⊎◌, arith}
-use Rattle.std.specs.Prelude.{Option, None, Some, cond, nat_lt, slice_get, filter, find, option_map, position}
-use Rattle.std.specs.List.{position_or_len, range_with_len, list_any}
+use Rattle.std.proofs.Common.{◌≡◌, ℕ, zero, suc, ◌+◌, ◌<◌, ◌≤◌, Bool, true, false, not, ◌&&◌, ◌==◌, List, [], ◌∷◌, ◌++◌, map, refl, ap, ap₂, sym, ◌∙◌, inl, inr, ◌⊎◌, arith}
+use Rattle.std.specs.Prelude.{None, Some, cond, nat_lt, slice_get, filter, find, option_map, position}
+use Rattle.std.specs.List.{range_with_len}
 use Rattle.std.specs.Ordering.{nat_cmp, is_eq, match_ordering}
 use Rattle.std.specs.BTreeMap.{insert_entry, is_at}
 use Rattle.std.specs.Map.{remove_entry, lookup}
 use Rattle.std.specs.declared.cmp.Ordering.TheVariants.{Less, Equal, Greater}
 use Rattle.std.proofs.Math.ListN.{set}
-use Rattle.std.proofs.lemmas.Bool.{lt-ltb, le-ltb, ltb-true, eq-eqb, ne_eqb, eqb-true, cond-true, cond-false, true≢false}
+use Rattle.std.proofs.lemmas.Bool.{le-ltb, ltb-true, eq-eqb, ne_eqb, eqb-true, cond-true, cond-false, true≢false}
 use Rattle.std.proofs.lemmas.List.{length-set}
 use Rattle.std.proofs.lemmas.List.Folds.{position_or_len-set}
 use Rattle.std.proofs.lemmas.Option.{none-some, same_Some, get_or_from_slice_get}
@@ -62,6 +62,7 @@ filter-pairs w q (n ∷ ns) = by (q n) (filter-pairs w q ns)
   where
     f : ℕ → ℕ × ℕ
     f k = (k, w k)
+
     by :
         (b : Bool)
         → filter (λ (p : ℕ × ℕ). q p.0) (map (λ k. let p : ℕ × ℕ = (k, w k) in p) ns) ≡ map (λ k. let p : ℕ × ℕ = (k, w k) in p) (filter q ns)

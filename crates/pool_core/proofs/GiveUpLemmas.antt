@@ -1,13 +1,13 @@
 -- A pool after a job is given up.
 use Rattle.std.proofs.Common.{◌≡◌, ℕ, zero, suc, ◌+◌, ◌-◌, ◌<◌, ◌≤◌, Bool, true, false, not, ◌&&◌, ◌||◌, ◌==◌, List, [], ◌∷◌, ◌++◌, map, length, append-nil, refl, ap, ap₂, sym, ◌∙◌, subst, inl, inr, ◌⊎◌, ⊎_elim, arith}
-use Rattle.std.specs.Prelude.{Option, None, Some, cond, nat_lt, find, filter, option_map, slice_get, is_none, vec_len, vec_capacity, All, Contains, if◌then◌else◌}
+use Rattle.std.specs.Prelude.{Option, None, Some, cond, find, filter, option_map, slice_get, is_none, vec_len, vec_capacity, All, Contains}
 use Rattle.std.specs.List.{list_any, range_with_len, AllByRecursion}
 use Rattle.std.specs.Ordering.{nat_cmp}
 use Rattle.std.specs.BTreeMap.{is_at}
 use Rattle.std.specs.Map.{remove_entry, lookup}
 use Rattle.std.proofs.Math.Seq.{drop-length}
-use Rattle.std.proofs.lemmas.Bool.{true≢false, and_from, and_parts, eqb-true, eq-eqb, lt-ltb, or_parts, not_from_false, cases_eq}
-use Rattle.std.proofs.lemmas.Option.{none-some, same_Some, slice_get_within}
+use Rattle.std.proofs.lemmas.Bool.{true≢false, and_from, and_parts, eqb-true, not_from_false, cases_eq}
+use Rattle.std.proofs.lemmas.Option.{none-some, same_Some}
 use Rattle.fol_base.specs.Clause.{clause_size}
 use Rattle.kernel_steps.specs.Split.{has_number}
 use Rattle.term_bank.specs.declared.table.Table.{Table}
@@ -16,22 +16,22 @@ use Rattle.clause_queue.specs.Pairs.{Waiting, with_pair, without, numbers, IsAbs
 use Rattle.clause_queue.proofs.Numbers.{lacks_from}
 use Rattle.clause_queue.proofs.PairsLemmas.{absent-without}
 use Rattle.clause_queue.proofs.PutBack.{put_back_restores}
-use Rattle.pool_core.specs.Record.{PoolRecord, GivenJob, SolverJob, Death, clause_numbered, numbers_of, lives, is_dead, has_died, is_out, waits, is_awake, given_job, without_job}
+use Rattle.pool_core.specs.Record.{PoolRecord, GivenJob, Death, clause_numbered, numbers_of, lives, is_out, waits, is_awake, given_job, without_job}
 use Rattle.pool_core.specs.Claiming.{ready}
 use Rattle.pool_core.specs.Replay.{after, without_solver}
-use Rattle.pool_core.specs.News.{TreeChange, changes_between}
+use Rattle.pool_core.specs.News.{TreeChange}
 use Rattle.pool_core.specs.Noted.{IsNoted}
 use Rattle.pool_core.specs.Started.{registered_at, IsOfTable}
 use Rattle.pool_core.specs.Events.{events_of}
-use Rattle.pool_core.specs.Lawful.{IsOut, IsAllowed, IsGivenOut, IsSolverOut}
-use Rattle.pool_core.specs.State.{origin_of, IsRegistration, IsStateOf, IsPool, job_entry, pair_of}
+use Rattle.pool_core.specs.Lawful.{IsOut}
+use Rattle.pool_core.specs.State.{origin_of, IsStateOf, IsPool, pair_of}
 use Rattle.pool_core.specs.declared.event.Event.TheVariants.{Abandon}
 use Rattle.pool_core.specs.declared.options.Options.{Options}
 use Rattle.pool_core.specs.declared.pool.OutJob.{OutJob}
 use Rattle.pool_core.specs.declared.pool.Pool.TheInside.{Inside}
 use Rattle.pool_core.specs.declared.register.Registration.{Registration}
-use Rattle.pool_core.proofs.EditLemmas.{eq-sym, filter-less, filter-pairs, remove-filter, lookup-find}
-use Rattle.pool_core.proofs.ClaimLemmas.{in-filter, rising-by}
+use Rattle.pool_core.proofs.EditLemmas.{filter-less, filter-pairs, remove-filter, lookup-find}
+use Rattle.pool_core.proofs.ClaimLemmas.{rising-by}
 use Rattle.pool_core.proofs.HandLemmas.{AreInHand, hands-of, others-apart, all-none, all-found}
 use Rattle.pool_core.proofs.JobLemmas.{Rising, none-removed}
 use Rattle.pool_core.proofs.LivingLemmas.{lives-there, awake-there, registered-there}

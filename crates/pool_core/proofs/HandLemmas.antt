@@ -1,18 +1,18 @@
 -- The clauses whose jobs are out: each is registered, is not active, and is in one job's hand.
-use Rattle.std.proofs.Common.{◌≡◌, ℕ, suc, ◌+◌, ◌<◌, ◌≤◌, Bool, true, false, not, ◌&&◌, ◌||◌, ◌==◌, List, [], ◌∷◌, ◌++◌, map, length, refl, ap, sym, ◌∙◌, subst, arith}
+use Rattle.std.proofs.Common.{◌≡◌, ℕ, ◌+◌, ◌<◌, ◌≤◌, Bool, true, false, not, ◌||◌, ◌==◌, List, [], ◌∷◌, ◌++◌, map, length, refl, ap, sym, ◌∙◌, subst, arith}
 use Rattle.std.specs.Prelude.{Option, None, Some, cond, is_none, is_some, find, filter, fold, if◌then◌else◌}
 use Rattle.std.specs.List.{list_any, AllByRecursion}
-use Rattle.std.proofs.lemmas.Bool.{true≢false, or_parts, or_from, eqb-true, eq-eqb, ne_eqb, eqb-false}
+use Rattle.std.proofs.lemmas.Bool.{true≢false, or_parts, or_from}
 use Rattle.std.proofs.lemmas.List.{length-append}
 use Rattle.std.proofs.lemmas.List.Folds.{list_any-append}
 use Rattle.std.proofs.lemmas.Option.{none-some, same_Some}
 use Rattle.kernel_steps.specs.Split.{has_number}
 use Rattle.sat_core.specs.declared.answer.Chain as log
-use Rattle.pool_core.specs.Record.{PoolRecord, GivenJob, SolverJob, Registered, given_job, without_job, nothing_registered}
-use Rattle.pool_core.specs.Claiming.{next_given, given_out, new_job}
-use Rattle.pool_core.specs.Returning.{removed, becomes_active, worked, taken, returns_to}
+use Rattle.pool_core.specs.Record.{PoolRecord, GivenJob, SolverJob, given_job, without_job, nothing_registered}
+use Rattle.pool_core.specs.Claiming.{next_given, new_job}
+use Rattle.pool_core.specs.Returning.{removed, becomes_active, worked, returns_to}
 use Rattle.pool_core.specs.Solving.{modelled_by, refuted_by}
-use Rattle.pool_core.specs.Replay.{Origin, after, start, replay, retold, told_anew}
+use Rattle.pool_core.specs.Replay.{Origin, after, start, replay, retold}
 use Rattle.pool_core.specs.Lawful.{IsAllowed, IsLawfulFrom, IsLawful}
 use Rattle.pool_core.specs.declared.options.Options.{Options}
 use Rattle.pool_core.specs.declared.batch.Batch.{Batch}
@@ -23,7 +23,7 @@ use Rattle.pool_core.specs.declared.event.Event.TheVariants.{Claim, Return, Stal
 use Rattle.pool_core.proofs.EditLemmas.{eq-sym}
 use Rattle.pool_core.proofs.FrameLemmas.{by-if, inputs-register}
 use Rattle.pool_core.proofs.GrowthLemmas.{Grows, grows-all, removed-grows, met-grows, registers-grows, waiting-parts}
-use Rattle.pool_core.proofs.ClaimLemmas.{after-claim, claim_after, positions_with, given-waits}
+use Rattle.pool_core.proofs.ClaimLemmas.{after-claim, positions_with, given-waits}
 
 -- ---- lists of jobs
 
@@ -75,8 +75,8 @@ apart-end [] j apart none = (refl, tt)
 apart-end (k ∷ ks) j apart none =
     let parts = or_parts (j.number == k.number) (list_any (λ (i : GivenJob). j.number == i.number) ks) none in (
       list_any-append (λ (i : GivenJob). k.number == i.number) ks (j ∷ [])
-      ∙ or_from (list_any (λ (i : GivenJob). k.number == i.number) ks) ((k.number == j.number) || false) apart.0
-      (or_from (k.number == j.number) false (eq-sym k.number j.number ∙ parts.0) refl),
+          ∙ or_from (list_any (λ (i : GivenJob). k.number == i.number) ks) ((k.number == j.number) || false) apart.0
+          (or_from (k.number == j.number) false (eq-sym k.number j.number ∙ parts.0) refl),
       apart-end ks j apart.1 parts.1,
     )
 

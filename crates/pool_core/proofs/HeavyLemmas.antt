@@ -1,12 +1,11 @@
 -- What is set aside is heavy: it was so when it was set aside, and clauses stay registered and keys counted.
-use Rattle.std.proofs.Common.{◌≡◌, ℕ, zero, suc, ◌+◌, ◌<◌, Bool, true, false, List, [], ◌∷◌, ◌++◌, map, length, append-nil, append_assoc, get_or, refl, ap, sym, ◌∙◌, subst, inl, inr, arith}
-use Rattle.std.specs.Prelude.{Option, None, Some, cond, nat_le, is_none, fold, find, filter, slice_get, option_map, All, Contains, if◌then◌else◌}
+use Rattle.std.proofs.Common.{◌≡◌, ℕ, zero, suc, Bool, true, false, List, [], ◌∷◌, ◌++◌, length, append-nil, append_assoc, refl, ap, sym, ◌∙◌, subst, arith}
+use Rattle.std.specs.Prelude.{Option, None, Some, cond, nat_le, is_none, fold, find, slice_get, option_map, All, Contains, if◌then◌else◌}
 use Rattle.std.specs.List.{AllByRecursion}
 use Rattle.std.proofs.lemmas.List.Elements.{All-nil, All-cons, All-append, All-weaker, recursion_from_All, Contains-append_left, Contains-append_right}
 use Rattle.std.proofs.lemmas.Option.{none-some}
 use Rattle.fol_base.specs.Clause.{TreeClause}
 use Rattle.fol_base.specs.Selection.{SelectionMode}
-use Rattle.kernel_steps.specs.Named.{OfOne, OfTwo}
 use Rattle.kernel_steps.specs.Sized.{IsSizedInference}
 use Rattle.kernel_steps.specs.Split.{has_number}
 use Rattle.kernel_steps.specs.declared.key.Key.{Key}
@@ -21,7 +20,7 @@ use Rattle.pool_core.specs.Counting.{is_heavy, keys_of, lines_of_entries, refute
 use Rattle.pool_core.specs.Returning.{dies, replaced, removed, takes_effect, proposed, becomes_active, heavy_entries, sets_aside, worked, returns_to}
 use Rattle.pool_core.specs.Solving.{modelled_by, refuted_by}
 use Rattle.pool_core.specs.Batches.{is_told, IsRightFate, IsRightWork}
-use Rattle.pool_core.specs.Replay.{after, start, replay}
+use Rattle.pool_core.specs.Replay.{after, start}
 use Rattle.pool_core.specs.Lawful.{IsAllowed, IsLawfulFrom}
 use Rattle.pool_core.specs.Laws.{IsHeavyAmong, SetAsideAreHeavy}
 use Rattle.pool_core.specs.declared.options.Options.{Options}

@@ -1,11 +1,11 @@
 -- Histories with one more event: the replay, what is told of it, and that it is lawful.
-use Rattle.std.proofs.Common.{◌≡◌, ℕ, ◌+◌, ◌≤◌, Bool, List, [], ◌∷◌, ◌++◌, length, take, drop, append-nil, append_assoc, refl, ap, sym, ◌∙◌, subst, arith}
+use Rattle.std.proofs.Common.{◌≡◌, ℕ, ◌+◌, ◌≤◌, Bool, List, [], ◌∷◌, ◌++◌, length, take, drop, append-nil, append_assoc, refl, ap, sym, ◌∙◌, arith}
 use Rattle.std.specs.Prelude.{fold}
 use Rattle.std.proofs.Math.Seq.{drop-append_seam}
 use Rattle.std.proofs.lemmas.List.{length-append, take-append-le, drop-append-le, take-append-drop}
 use Rattle.pool_core.specs.Record.{PoolRecord, nothing_registered}
 use Rattle.pool_core.specs.Replay.{Origin, after, start, replay}
-use Rattle.pool_core.specs.News.{TreeChange, changes_between, changes_from, news_since}
+use Rattle.pool_core.specs.News.{changes_between, changes_from, news_since}
 use Rattle.pool_core.specs.Lawful.{IsAllowed, IsLawfulFrom}
 use Rattle.pool_core.specs.declared.options.Options.{Options}
 use Rattle.pool_core.specs.declared.event.Event.{Event}

@@ -183,8 +183,7 @@ deaths_are_justified is_predicate origin history lawful =
     let begun = registers-keeps nothing_registered (start origin) (inputs-register origin.options.split 0 origin.inputs nothing_registered) in
     let at_start : AreRight (start origin).events (start origin) =
     keeps-right (start origin).events nothing_registered (start origin) begun (record { justified = refl; known = refl }) in
-    let right = history-right is_predicate origin.options history (start origin) lawful at_start in
-    (
+    let right = history-right is_predicate origin.options history (start origin) lawful at_start in (
       right.justified,
       ap (λ n. list_all (is_known (length (replay origin history).registered) n) (replay origin history).deaths) (sym (event-count origin history)) ∙ right.known,
     )

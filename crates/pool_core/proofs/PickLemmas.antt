@@ -1,6 +1,6 @@
 -- The clause that a queue picks is the one that is given next.
 use Rattle.std.proofs.Common.{◌≡◌, ℕ, zero, suc, ◌+◌, ◌<◌, ◌≤◌, Bool, true, false, ◌&&◌, List, [], ◌∷◌, map, length, get_or, refl, ap, sym, ◌∙◌, subst, inl, inr, ◌⊎◌, ⊎_elim, arith}
-use Rattle.std.specs.Prelude.{Option, None, Some, cond, nat_lt, filter, fold, All, Contains, IfSome, IsNone, ◌==◌, ◌↔◌, ◌%◌}
+use Rattle.std.specs.Prelude.{Option, None, Some, cond, nat_lt, filter, All, Contains, IfSome, IsNone, ◌==◌, ◌↔◌, ◌%◌}
 use Rattle.std.specs.List.{best_of, range_with_len}
 use Rattle.std.proofs.lemmas.Bool.{ltb-true, ltb-false, cond-true, cond-false, eq-eqb, ne_eqb}
 use Rattle.std.proofs.lemmas.List.Elements.{All-nil, All-cons}
@@ -12,7 +12,7 @@ use Rattle.clause_queue.specs.Pick.{IsPick}
 use Rattle.clause_queue.specs.declared.choice.Choice.{Choice}
 use Rattle.clause_queue.specs.declared.choice.Choice.TheVariants.{Light, Old}
 use Rattle.clause_queue.proofs.Numbers.{pick_unique}
-use Rattle.pool_core.specs.Record.{PoolRecord, clause_numbered, numbers_of, waits, is_awake}
+use Rattle.pool_core.specs.Record.{PoolRecord, clause_numbered, waits, is_awake}
 use Rattle.pool_core.specs.Claiming.{ready, picked, next_choice, next_given, is_lighter}
 use Rattle.pool_core.specs.Laws.{PicksAreChosen}
 use Rattle.pool_core.specs.State.{pair_of}
@@ -74,16 +74,14 @@ module _ (r : PoolRecord) where
           → let m = best_of (is_lighter r) (cond b x n) xs in Light-as m n × (Light-as m x × Lightest m xs) × ((m ≡ n) ⊎ ((m ≡ x) ⊎ In m xs))
       by true is new old =
           let less : w x < w n = ltb-true (w x) (w n) is in
-          let m : ℕ = best_of (is_lighter r) x xs in
-          (
+          let m : ℕ = best_of (is_lighter r) x xs in (
             (let at = new.0.0 in omega (arith, at, less), λ e. absurd (let at = new.0.0 in omega (arith, at, less, e))),
             (new.0, new.1),
             inr new.2,
           )
       by false is new old =
           let more : w n ≤ w x = ltb-false (w x) (w n) is in
-          let above = rise.0 in
-          (
+          let above = rise.0 in (
             old.0,
             ((let at = old.0.0 in omega (arith, at, more), λ e. tied n x (best_of (is_lighter r) n xs) old.0 more above e), old.1),
             ⊎_elim (λ here. inl here) (λ later. inr (inr later)) old.2,
@@ -124,9 +122,15 @@ some-pick r Light n ns rise =
     let m : ℕ = best_of (is_lighter r) n ns in
     let found = best r n ns rise.1 in
     (m, refl, (clause_size (clause_numbered r m), contains-in r m (n ∷ ns) found.2, all-lightest r m (n ∷ ns) (found.0, found.1)))
-some-pick r Old n ns rise =
-    (n, refl, ((0, omega arith, refl), All-cons (λ (q : ℕ × ℕ). n ≤ q.0) (pair_of r n) (map (pair_of r) ns) (omega arith)
-    (all-above r n ns (rise-lower (suc n) n ns (omega arith) rise.1))))
+some-pick r Old n ns rise = (
+  n,
+  refl,
+  (
+    (0, omega arith, refl),
+    All-cons (λ (q : ℕ × ℕ). n ≤ q.0) (pair_of r n) (map (pair_of r) ns) (omega arith)
+        (all-above r n ns (rise-lower (suc n) n ns (omega arith) rise.1)),
+  ),
+)
 
 -- what is given is ready
 pub given-in : (r : PoolRecord) (n : ℕ) → next_given r ≡ Some n → In n (ready r)

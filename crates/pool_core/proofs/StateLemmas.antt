@@ -3,14 +3,13 @@ use Rattle.std.proofs.Common.{◌≡◌, ℕ, zero, suc, ◌+◌, ◌<◌, ◌�
 use Rattle.std.specs.Prelude.{Option, None, Some, Result, Ok, Err, OnOk, slice_get, option_map, unwrap_or, vec_len, vec_capacity, All}
 use Rattle.std.proofs.lemmas.Option.{none-some, same_Some, slice_get-map, slice_get_within}
 use Rattle.std.proofs.lemmas.List.{length-append, length-map, length-take-le, map-append, take-append-le, take_all}
-use Rattle.std.proofs.lemmas.List.Elements.{All-push}
 use Rattle.std.proofs.Math.Seq.{take-append_seam, drop-append_seam}
 use Rattle.fol_base.specs.Clause.{TreeClause}
 use Rattle.kernel_steps.specs.Conclusion.{empty_clause}
 use Rattle.bank_clause.specs.Clause.{clause_at}
 use Rattle.clause_queue.specs.Pairs.{Waiting}
 use Rattle.term_bank.specs.declared.table.Table.{Table}
-use Rattle.pool_core.specs.Record.{PoolRecord, Registered, GivenJob, clauses_of, clause_numbered}
+use Rattle.pool_core.specs.Record.{PoolRecord, Registered, clauses_of, clause_numbered}
 use Rattle.pool_core.specs.Replay.{Origin, after, start, replay}
 use Rattle.pool_core.specs.News.{TreeChange, change_of, changes_between, changes_from, news_since}
 use Rattle.pool_core.specs.Noted.{IsNoted, clause_in, change_at}
@@ -18,7 +17,7 @@ use Rattle.pool_core.specs.Events.{events_of}
 use Rattle.pool_core.specs.Inputs.{AreInputs, IsLimit, IsHistoryOf}
 use Rattle.pool_core.specs.Lawful.{IsAllowed}
 use Rattle.pool_core.specs.Started.{registered_at, IsOfTable}
-use Rattle.pool_core.specs.State.{origin_of, IsStateOf, HasNews, IsPool, job_entry}
+use Rattle.pool_core.specs.State.{origin_of, IsStateOf, IsPool, job_entry}
 use Rattle.pool_core.specs.declared.options.Options.{Options}
 use Rattle.pool_core.specs.declared.event.Event.{Event}
 use Rattle.pool_core.specs.declared.register.Registration.{Registration}

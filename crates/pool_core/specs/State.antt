@@ -1,5 +1,5 @@
 -- What a pool keeps: each field is what the replay of its history has.
-use Rattle.std.specs.Prelude.{◌≡◌, ℕ, ◌+◌, ◌≤◌, ◌%◌, ◌==◌, false, List, [], map, length, take, position, slice_get, None, Some, vec_len, vec_capacity, All}
+use Rattle.std.specs.Prelude.{◌≡◌, ℕ, ◌+◌, ◌≤◌, ◌%◌, ◌==◌, false, [], map, length, take, position, slice_get, None, Some, vec_len, vec_capacity, All}
 use Rattle.fol_base.specs.Clause.{clause_size}
 use Rattle.fol_base.specs.Literal.{clause_of}
 use Rattle.kernel_steps.specs.Split.{has_number}

@@ -1,10 +1,9 @@
-use Rattle.std.proofs.Common.{◌≡◌, ◌+◌, ◌≤◌, ◌++◌, [], ◌∷◌, ℕ, List, length, refl, ap, sym, ◌∙◌, subst, arith}
-use Rattle.std.specs.Prelude.{None, Some, Contains}
+use Rattle.std.proofs.Common.{◌≡◌, ◌++◌, [], ◌∷◌, ℕ, length, refl, ap, sym, ◌∙◌, subst, arith}
 use Rattle.std.proofs.lemmas.Option.{none-some}
 use Rattle.pool_core.specs.Lawful.{IsOut}
 use Rattle.pool_core.specs.Replay.{replay}
 use Rattle.pool_core.specs.View.{PoolView}
-use Rattle.pool_core.proofs.GiveUpLemmas.{IsOutBy, IsGivenUpBy, out-by, number-out, absent-out, given-up-living, given-up-dead}
+use Rattle.pool_core.proofs.GiveUpLemmas.{IsOutBy, out-by, number-out, absent-out, given-up-living, given-up-dead}
 use Rattle.pool_core.proofs.LivingLemmas.{not-some}
 use Rattle.pool_core.proofs.StateLemmas.{at-ok}
 use Rattle.pool_core.proofs.pool.Pool.abandon.Goals as goal

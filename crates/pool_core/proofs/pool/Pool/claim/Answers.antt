@@ -1,10 +1,8 @@
-use Rattle.std.proofs.Common.{◌≡◌, ◌<◌, ℕ, refl, ap, sym, ◌∙◌, subst, arith}
-use Rattle.std.specs.Prelude.{Option, None, Some, is_some}
-use Rattle.std.proofs.lemmas.Option.{none-some}
+use Rattle.std.proofs.Common.{◌≡◌, ℕ, refl, ap, sym, ◌∙◌, arith}
+use Rattle.std.specs.Prelude.{Option, None, is_some}
 use Rattle.pool_core.specs.Outcomes.{outcome_of}
 use Rattle.pool_core.specs.Record.{PoolRecord}
 use Rattle.pool_core.specs.Replay.{replay}
-use Rattle.pool_core.specs.declared.outcome.Outcome.{Outcome}
 use Rattle.pool_core.proofs.ClaimLemmas.{open-without, some-out, no-value}
 use Rattle.pool_core.proofs.pool.Pool.claim.Goals as goal
 

@@ -1,11 +1,11 @@
-use Rattle.std.proofs.Common.{◌≡◌, ◌+◌, ◌-◌, ◌++◌, [], ◌∷◌, suc, ℕ, List, map, length, add-one, refl, ap, sym, ◌∙◌, subst, arith}
-use Rattle.std.specs.Prelude.{Option, Some, None}
+use Rattle.std.proofs.Common.{◌≡◌, ◌++◌, [], ◌∷◌, ℕ, List, length, refl, ap, sym, ◌∙◌, subst, arith}
+use Rattle.std.specs.Prelude.{Some, None}
 use Rattle.pool_core.specs.Answers.{IsTicket}
 use Rattle.pool_core.specs.Claiming.{next_given}
 use Rattle.pool_core.specs.Noted.{IsNextTicket}
 use Rattle.pool_core.specs.Record.{PoolRecord}
 use Rattle.pool_core.specs.Replay.{replay}
-use Rattle.pool_core.specs.State.{origin_of, IsStateOf}
+use Rattle.pool_core.specs.State.{origin_of}
 use Rattle.pool_core.specs.Events.{events_of}
 use Rattle.pool_core.specs.View.{PoolView}
 use Rattle.pool_core.specs.declared.event.Event.{Event}

@@ -1,6 +1,4 @@
-use Rattle.std.proofs.Common.{◌≡◌, ◌+◌, ◌++◌, [], ◌∷◌, ℕ, List, map, length, refl, ap, sym, ◌∙◌, subst, arith}
-use Rattle.fol_base.specs.Clause.{TreeClause}
-use Rattle.bank_clause.specs.declared.member.Member.{Member}
+use Rattle.std.proofs.Common.{◌≡◌, ◌+◌, ℕ, map, length, refl, ap, sym, ◌∙◌, subst, arith}
 use Rattle.pool_core.specs.Record.{PoolRecord, clause_numbered}
 use Rattle.pool_core.specs.Replay.{replay}
 use Rattle.pool_core.specs.State.{IsStateOf}
@@ -23,11 +21,11 @@ loop-number-preserved c =
     let is : IsStateOf c.self.inside r = subst (λ (v : PoolView). IsStateOf c.self.inside (replay v.origin v.history)) c.self.view_is c.self.invariant.state in
     let none = not-some c.get-registration.result.now.death c.is_none.result c.is_none.ensures in
     elim c.if-is_none.branch [
-      then-is_none+in_ok-copied+in_ok-push w ↦ subst (AreMembersUpTo r (n + 1)) (sym w.members-is)
-      (one-member c.self.inside r n c.get-registration.result.now (record { number = n; clause = w.in_ok-copied.field-0 }) c.loop-number.members w.push.new.self
-      is c.get-registration.ensures (sym none ∙ w.if-is_none.true) refl w.in_ok-copied.ensures w.in_ok-push.ensures.ok c.loop-number.invariant)
+      | then-is_none+in_ok-copied+in_ok-push w ↦ subst (AreMembersUpTo r (n + 1)) (sym w.members-is)
+          (one-member c.self.inside r n c.get-registration.result.now (record { number = n; clause = w.in_ok-copied.field-0 }) c.loop-number.members w.push.new.self
+          is c.get-registration.ensures (sym none ∙ w.if-is_none.true) refl w.in_ok-copied.ensures w.in_ok-push.ensures.ok c.loop-number.invariant)
       | else-is_none w ↦ subst (AreMembersUpTo r (n + 1)) (sym w.members-is)
-      (no-member c.self.inside r n c.get-registration.result.now c.loop-number.members is c.get-registration.ensures (sym none ∙ w.if-is_none.false) c.loop-number.invariant)
+          (no-member c.self.inside r n c.get-registration.result.now c.loop-number.members is c.get-registration.ensures (sym none ∙ w.if-is_none.false) c.loop-number.invariant)
     ]
 
 pub returns-clause-numbers : goal.returns-clause-numbers

@@ -1,6 +1,4 @@
-use Rattle.std.proofs.Common.{◌≡◌, ℕ, ap, sym, ◌∙◌}
-use Rattle.std.specs.Prelude.{Option}
-use Rattle.clause_queue.specs.declared.choice.Choice.{Choice}
+use Rattle.std.proofs.Common.{◌≡◌, ap, sym, ◌∙◌}
 use Rattle.pool_core.specs.Claiming.{next_given, next_choice}
 use Rattle.pool_core.specs.Events.{events_of}
 use Rattle.pool_core.specs.Record.{PoolRecord}
@@ -18,7 +16,7 @@ returns-clause-next c =
     let r : PoolRecord = replay (origin_of c.self.inside) (events_of c.self.inside.history) in
     let choice : c.if-self.choice ≡ next_choice r =
     elim c.if-self.branch [
-      then-self w ↦ w.choice-is ∙ old-choice r c.self.inside.place c.self.invariant.state.place w.if-self.true
+      | then-self w ↦ w.choice-is ∙ old-choice r c.self.inside.place c.self.invariant.state.place w.if-self.true
       | else-self w ↦ w.choice-is ∙ light-choice r c.self.inside.place c.self.invariant.state.place w.if-self.false
     ] in
     peek-is-given r c.self.inside.queue.pairs c.if-self.choice c.peek.result c.self.invariant.state.queue choice

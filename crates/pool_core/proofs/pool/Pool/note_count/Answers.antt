@@ -1,5 +1,4 @@
 use Rattle.std.proofs.Common.{◌≡◌, ◌<◌, ◌≤◌, ℕ, List, length, take, get_or, refl, ap, sym, ◌∙◌, arith}
-use Rattle.std.specs.Prelude.{Some, nat_lt}
 use Rattle.std.proofs.lemmas.Bool.{ltb-true, ltb-false}
 use Rattle.std.proofs.lemmas.Option.{slice_get_read}
 use Rattle.pool_core.specs.News.{changes_from}

@@ -1,4 +1,4 @@
-use Rattle.std.proofs.Common.{◌≡◌, ◌+◌, ◌-◌, ◌++◌, suc, ℕ, List, map, length, add-one, refl, ap, sym, ◌∙◌, subst, arith}
+use Rattle.std.proofs.Common.{◌≡◌, ◌+◌, ◌++◌, List, map, length, add-one, refl, ap, sym, ◌∙◌, subst, arith}
 use Rattle.std.specs.Prelude.{Option, Some}
 use Rattle.fol_base.specs.Clause.{TreeClause}
 use Rattle.bank_clause.specs.Clause.{clause_at}
@@ -6,7 +6,7 @@ use Rattle.bank_clause.specs.declared.clause.BankClause.{BankClause}
 use Rattle.pool_core.specs.Claiming.{next_given}
 use Rattle.pool_core.specs.News.{TreeChange, change_of}
 use Rattle.pool_core.specs.Noted.{first_told}
-use Rattle.pool_core.specs.Record.{PoolRecord, clauses_of}
+use Rattle.pool_core.specs.Record.{PoolRecord}
 use Rattle.pool_core.specs.Replay.{replay}
 use Rattle.pool_core.specs.State.{IsStateOf}
 use Rattle.pool_core.specs.View.{PoolView}

@@ -1,5 +1,4 @@
-use Rattle.std.proofs.Common.{◌≡◌, ◌++◌, [], ◌∷◌, List, map, length, append-nil, ap, ap₂, sym, ◌∙◌, arith}
-use Rattle.std.specs.Prelude.{Some}
+use Rattle.std.proofs.Common.{◌≡◌, ◌++◌, [], ◌∷◌, map, length, append-nil, ap, sym, ◌∙◌, arith}
 use Rattle.std.proofs.lemmas.List.{map-append}
 use Rattle.bank_clause.specs.Clause.{clause_at}
 use Rattle.bank_clause.specs.declared.clause.BankClause.{BankClause}
@@ -9,7 +8,6 @@ use Rattle.pool_core.specs.Noted.{first_told}
 use Rattle.pool_core.specs.Record.{PoolRecord, position_of}
 use Rattle.pool_core.specs.Replay.{replay}
 use Rattle.pool_core.specs.View.{PoolView}
-use Rattle.pool_core.specs.declared.ticket.Change.{Change}
 use Rattle.pool_core.specs.declared.ticket.Change.TheVariants.{Activated}
 use Rattle.pool_core.proofs.ClaimLemmas.{given-registered, told-before, told-now}
 use Rattle.pool_core.proofs.StateLemmas.{record_of}
