@@ -2,4 +2,6 @@
 #![tactic(auto)]
 
 #[cfg(test)]
+mod claiming;
+#[cfg(test)]
 mod starting;

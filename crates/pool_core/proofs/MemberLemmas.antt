@@ -1,10 +1,11 @@
 -- The members of a pool, number by number.
-use Rattle.std.proofs.Common.{◌≡◌, ℕ, ◌+◌, Bool, true, false, ◌&&◌, List, [], ◌∷◌, ◌++◌, map, add-one, append-nil, refl, ap, ap₂, sym, ◌∙◌, arith}
+use Rattle.std.proofs.Common.{◌≡◌, ℕ, ◌+◌, Bool, true, false, ◌&&◌, List, [], ◌∷◌, ◌++◌, map, add-one, append-nil, refl, ap, ap₂, sym, ◌∙◌, subst, arith}
 use Rattle.std.specs.Prelude.{Some, cond, filter, is_none, slice_get}
 use Rattle.std.specs.List.{range_with_len}
 use Rattle.std.proofs.lemmas.List.{map-append}
+use Rattle.std.proofs.lemmas.List.Elements.{All-nil, All-push}
 use Rattle.fol_base.specs.Clause.{TreeClause}
-use Rattle.bank_clause.specs.Clause.{clause_at}
+use Rattle.bank_clause.specs.Clause.{clause_at, IsClauseOf, IsMemberOf, AreMembersOf}
 use Rattle.bank_clause.specs.declared.member.Member.{Member}
 use Rattle.pool_core.specs.Record.{PoolRecord, clause_numbered, lives, is_awake}
 use Rattle.pool_core.specs.State.{IsStateOf}
@@ -12,7 +13,7 @@ use Rattle.pool_core.specs.declared.register.Registration.{Registration}
 use Rattle.pool_core.specs.declared.pool.Pool.TheInside.{Inside}
 use Rattle.pool_core.proofs.EditLemmas.{filter-more}
 use Rattle.pool_core.proofs.LivingLemmas.{lives-there}
-use Rattle.pool_core.proofs.StateLemmas.{clause-there, clause-numbered}
+use Rattle.pool_core.proofs.StateLemmas.{one-of-bank, clause-there, clause-numbered}
 
 -- the members among the first numbers
 abbrev pub first_members : PoolRecord → ℕ → List ℕ
@@ -26,19 +27,20 @@ members-more r n b is =
     ∙ ap (λ c. first_members r n ++ cond c (n ∷ []) []) is
 
 -- what has been collected
-pub record AreMembersUpTo (r : PoolRecord) (n : ℕ) (members : List Member) : Type 0 where
+pub record AreMembersUpTo (bank : ℕ) (r : PoolRecord) (n : ℕ) (members : List Member) : Type 0 where
   pub numbers : map (λ (m : Member). m.number) members ≡ first_members r n
   pub clauses : map (λ (m : Member). clause_at m.clause) members ≡ map (clause_numbered r) (first_members r n)
+  pub of_bank : AreMembersOf bank members
 
-pub no-members : (r : PoolRecord) → AreMembersUpTo r 0 []
-no-members r = record { numbers = refl; clauses = refl }
+pub no-members : (bank : ℕ) (r : PoolRecord) → AreMembersUpTo bank r 0 []
+no-members bank r = record { numbers = refl; clauses = refl; of_bank = All-nil (IsMemberOf bank) }
 
 -- a living clause is one more
 pub one-member :
-    (a : Inside) (r : PoolRecord) (n : ℕ) (s : Registration) (m : Member) (members more : List Member)
-    → IsStateOf a r → slice_get a.register n ≡ Some s → is_none s.death ≡ true → m.number ≡ n → m.clause ≡ s.clause
-    → more ≡ members ++ m ∷ [] → AreMembersUpTo r n members → AreMembersUpTo r (n + 1) more
-one-member a r n s m members more is there alive number clause one so_far = record {
+    (a : Inside) (bank : ℕ) (r : PoolRecord) (n : ℕ) (s : Registration) (m : Member) (members more : List Member)
+    → bank ≡ a.table.bank → IsStateOf a r → slice_get a.register n ≡ Some s → is_none s.death ≡ true → m.number ≡ n → m.clause ≡ s.clause
+    → more ≡ members ++ m ∷ [] → AreMembersUpTo bank r n members → AreMembersUpTo bank r (n + 1) more
+one-member a bank r n s m members more same_bank is there alive number clause one so_far = record {
   numbers =
       ap (map (λ (m : Member). m.number)) one ∙ map-append (λ (m : Member). m.number) members (m ∷ [])
       ∙ ap₂ (λ (ns : List ℕ) (k : ℕ). ns ++ k ∷ []) so_far.numbers number ∙ sym longer;
@@ -48,6 +50,10 @@ one-member a r n s m members more is there alive number clause one so_far = reco
       (ap clause_at clause ∙ sym (clause-numbered r n (clause_at s.clause) (clause-there a r n s is there)))
       ∙ sym (map-append (clause_numbered r) (first_members r n) (n ∷ []))
       ∙ ap (map (clause_numbered r)) (sym longer);
+  of_bank =
+      subst (AreMembersOf bank) (sym one)
+      (All-push (IsMemberOf bank) members m so_far.of_bank
+      (subst (λ b. IsClauseOf b m.clause) (sym same_bank) (one-of-bank a r n s m.clause is there clause)));
 }
   where
     longer : first_members r (n + 1) ≡ first_members r n ++ n ∷ []
@@ -55,11 +61,12 @@ one-member a r n s m members more is there alive number clause one so_far = reco
 
 -- a dead one is none
 pub no-member :
-    (a : Inside) (r : PoolRecord) (n : ℕ) (s : Registration) (members : List Member)
-    → IsStateOf a r → slice_get a.register n ≡ Some s → is_none s.death ≡ false → AreMembersUpTo r n members → AreMembersUpTo r (n + 1) members
-no-member a r n s members is there dead so_far = record {
+    (a : Inside) (bank : ℕ) (r : PoolRecord) (n : ℕ) (s : Registration) (members : List Member)
+    → IsStateOf a r → slice_get a.register n ≡ Some s → is_none s.death ≡ false → AreMembersUpTo bank r n members → AreMembersUpTo bank r (n + 1) members
+no-member a bank r n s members is there dead so_far = record {
   numbers = so_far.numbers ∙ sym same;
   clauses = so_far.clauses ∙ ap (map (clause_numbered r)) (sym same);
+  of_bank = so_far.of_bank;
 }
   where
     same : first_members r (n + 1) ≡ first_members r n

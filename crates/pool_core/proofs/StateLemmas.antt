@@ -6,13 +6,14 @@ use Rattle.std.proofs.lemmas.List.{length-append, length-map, length-take-le, ma
 use Rattle.std.proofs.Math.Seq.{take-append_seam, drop-append_seam}
 use Rattle.fol_base.specs.Clause.{TreeClause}
 use Rattle.kernel_steps.specs.Conclusion.{empty_clause}
-use Rattle.bank_clause.specs.Clause.{clause_at}
+use Rattle.bank_clause.specs.Clause.{clause_at, IsClauseOf}
+use Rattle.bank_clause.specs.declared.clause.BankClause.{BankClause}
 use Rattle.clause_queue.specs.Pairs.{Waiting}
 use Rattle.term_bank.specs.declared.table.Table.{Table}
 use Rattle.pool_core.specs.Record.{PoolRecord, Registered, clauses_of, clause_numbered}
 use Rattle.pool_core.specs.Replay.{Origin, after, start, replay}
 use Rattle.pool_core.specs.News.{TreeChange, change_of, changes_between, changes_from, news_since}
-use Rattle.pool_core.specs.Noted.{IsNoted, clause_in, change_at}
+use Rattle.pool_core.specs.Noted.{AreOfBank, IsNoted, clause_in, change_at}
 use Rattle.pool_core.specs.Events.{events_of}
 use Rattle.pool_core.specs.Inputs.{AreInputs, IsLimit, IsHistoryOf}
 use Rattle.pool_core.specs.Lawful.{IsAllowed}
@@ -27,6 +28,7 @@ use Rattle.pool_core.specs.declared.pool.Pool.TheInside.{Inside}
 use Rattle.pool_core.specs.declared.ticket.Change.{Change}
 use Rattle.pool_core.proofs.HistoryLemmas.{replay-end, changes-end, lawful-end, news-drop, news-bound}
 use Rattle.pool_core.proofs.JobLemmas.{Rising}
+use Rattle.pool_core.proofs.StartLemmas.{all-at}
 use Rattle.pool_core.proofs.TimeLemmas.{jobs-rise}
 
 -- ---- one more in a list
@@ -280,3 +282,15 @@ count-all a told first is past all =
 pub at-ok : {T E : Type 0} (result : Result T E) (P : Type 0) (x : T) → result ≡ Ok x → OnOk result P → P
 at-ok (Ok y) P x is says = says
 at-ok (Err e) P x is says = absurd cc
+
+-- ---- clauses of the bank
+
+pub all-of-bank : (a : Inside) (r : PoolRecord) → IsStateOf a r → AreOfBank a.table.bank a.register
+all-of-bank a r is =
+    All-weaker (IsOfTable a.table.bank a.table) (λ (s : Registration). IsClauseOf a.table.bank s.clause) (λ s of_table. of_table.of_bank) a.register is.of_table
+
+pub one-of-bank :
+    (a : Inside) (r : PoolRecord) (n : ℕ) (s : Registration) (made : BankClause)
+    → IsStateOf a r → slice_get a.register n ≡ Some s → made ≡ s.clause → IsClauseOf a.table.bank made
+one-of-bank a r n s made is there same =
+    subst (IsClauseOf a.table.bank) (sym same) (all-at (λ (s : Registration). IsClauseOf a.table.bank s.clause) a.register n s (all-of-bank a r is) there)

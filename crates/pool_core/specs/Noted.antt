@@ -1,9 +1,9 @@
 -- What a pool's notes tell, and the ticket of the clause that is given next. Only private functions cite this.
-use Rattle.std.specs.Prelude.{◌≡◌, ℕ, suc, ◌+◌, ◌-◌, ◌<◌, List, [], ◌∷◌, ◌++◌, map, length, Some, slice_get, option_map, unwrap_or, if◌then◌else◌}
+use Rattle.std.specs.Prelude.{◌≡◌, ℕ, suc, ◌+◌, ◌-◌, ◌<◌, List, [], ◌∷◌, ◌++◌, map, length, Some, slice_get, option_map, unwrap_or, All, if◌then◌else◌}
 use Rattle.fol_base.specs.Clause.{TreeClause}
 use Rattle.kernel_steps.specs.Conclusion.{empty_clause}
 use Rattle.kernel_steps.specs.Split.{has_number}
-use Rattle.bank_clause.specs.Clause.{clause_at}
+use Rattle.bank_clause.specs.Clause.{clause_at, IsClauseOf}
 use Rattle.pool_core.specs.Record.{PoolRecord, clauses_of, clause_numbered, position_of}
 use Rattle.pool_core.specs.Replay.{Origin, replay}
 use Rattle.pool_core.specs.News.{TreeChange, activated, died, change_of, news_since}
@@ -26,6 +26,10 @@ change_at ss (Died n) = died n
 abbrev pub IsNoted : ℕ → Note → Type 0
 IsNoted count (Activated n) = n < count
 IsNoted count (Died n) = Unit {0}
+
+-- all clauses of a register are of the bank
+abbrev pub AreOfBank : ℕ → List Registration → Type 0
+AreOfBank bank ss = All (λ (s : Registration). IsClauseOf bank s.clause) ss
 
 -- ---- tickets
 

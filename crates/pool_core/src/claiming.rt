@@ -1,13 +1,13 @@
 // Claims: clauses that are given out.
 
-ghost use Rattle.std.specs.Prelude.{◌≡◌, suc, ◌+◌, ◌<◌, ◌≤◌, ◌==◌, ◌++◌, [], ◌∷◌, None, Some, if◌then◌else◌, map, length, take, slice_get, slice_set, IfOk, OnOk, OnErr, IsFalse, vec_len, vec_capacity};
+ghost use Rattle.std.specs.Prelude.{◌≡◌, ℕ, suc, ◌+◌, ◌<◌, ◌≤◌, ◌==◌, ◌++◌, [], ◌∷◌, None, Some, if◌then◌else◌, map, length, take, All, slice_get, slice_set, IfOk, OnOk, OnErr, IsFalse, vec_len, vec_capacity};
 ghost use Rattle.std.specs.BTreeMap.{insert_entry};
 ghost use Rattle.std.specs.Ordering.{nat_cmp};
-ghost use Rattle.pool_core.specs.Answers.{IsAnswerToClaim, IsTicket};
+ghost use Rattle.pool_core.specs.Answers.{IsAnswerToClaim, IsTicket, IsChangeOf, IsTicketOf, IsClaimedOf};
 ghost use Rattle.pool_core.specs.Claiming.{next_given};
 ghost use Rattle.pool_core.specs.Events.{events_of};
 ghost use Rattle.pool_core.specs.News.{change_of, changes_from, news_since};
-ghost use Rattle.pool_core.specs.Noted.{IsNoted, IsNextTicket, change_at, first_told};
+ghost use Rattle.pool_core.specs.Noted.{AreOfBank, IsNoted, IsNextTicket, change_at, first_told};
 ghost use Rattle.pool_core.specs.Record.{jobs_out, position_of};
 ghost use Rattle.pool_core.specs.Register.{at_position};
 ghost use Rattle.pool_core.specs.Replay.{start, replay};
@@ -38,6 +38,7 @@ impl Pool {
         ensures bank { self.new.bank ≡ self.old.bank }
         ensures origin { self.new.origin ≡ self.old.origin }
         ensures answer { IfOk result (λ answer. IsAnswerToClaim self.old.origin self.old.history told answer self.new.history) }
+        ensures of_bank { IfOk result (IsClaimedOf self.old.bank) }
         ensures unchanged { OnErr result (self.new ≡ self.old) }
     {
         if let Some(outcome) = self.outcome() {
@@ -67,6 +68,7 @@ impl Pool {
         ensures job { IfOk result (λ ticket. ticket.job ≡ suc (replay self.old.origin self.old.history).jobs) }
         ensures history { IfOk result (λ ticket. self.new.history ≡ self.old.history ++ Claim ticket.job ∷ []) }
         ensures ticket { IfOk result (λ ticket. IsTicket self.old.origin self.new.history told ticket) }
+        ensures of_bank { IfOk result (IsTicketOf self.old.bank) }
         ensures unchanged { OnErr result (self.new ≡ self.old) }
     {
         let ticket = self.ticket(alloc, number, told)?;
@@ -102,7 +104,8 @@ impl Pool {
     fn ticket(&self, alloc: Global, number: u32, told: u64) -> Mem<Ticket>
         requires next { next_given (replay self.now.origin self.now.history) ≡ Some number }
         requires told { told ≤ length self.now.history }
-        ensures { IfOk result (IsNextTicket self.now.origin self.now.history told number) }
+        ensures next { IfOk result (IsNextTicket self.now.origin self.now.history told number) }
+        ensures of_bank { IfOk result (IsTicketOf self.now.bank) }
     {
         let clause = self.register.get(number as usize).clause.copied()?;
         let mut news = self.news(alloc, told as usize)?;
@@ -125,6 +128,7 @@ impl Pool {
         ensures position { IfOk result (λ position. position ≡ position_of (replay self.now.origin self.now.history) number) }
         ensures news { OnOk result
             (map change_of news.new ≡ map change_of news.old ++ first_told (replay self.now.origin self.now.history) number) }
+        ensures of_bank { OnOk result (All (IsChangeOf self.now.bank) news.old → All (IsChangeOf self.now.bank) news.new) }
     {
         let registration = self.register.get(number as usize);
         match registration.position {
@@ -141,7 +145,8 @@ impl Pool {
     /// The activations and deaths since a place in the history.
     fn news(&self, alloc: Global, told: usize) -> Mem<News>
         requires { told ≤ length self.now.history }
-        ensures { IfOk result (λ news. map change_of news ≡ news_since self.now.origin self.now.history told) }
+        ensures told { IfOk result (λ news. map change_of news ≡ news_since self.now.origin self.now.history told) }
+        ensures of_bank { IfOk result (All (IsChangeOf self.now.bank)) }
     {
         let mut news = News::new(alloc);
         for at in self.note_count(told)..self.notes.len() {
@@ -178,7 +183,8 @@ impl Pool {
 /// What a note tells.
 fn change(register: &Register, note: Note) -> Mem<Change>
     requires { IsNoted (length register.now) note }
-    ensures { IfOk result (λ change. change_of change ≡ change_at register.now note) }
+    ensures told { IfOk result (λ change. change_of change ≡ change_at register.now note) }
+    ensures of_bank { IfOk result (λ change. (bank : ℕ) → AreOfBank bank register.now → IsChangeOf bank change) }
 {
     match note {
         Note::Activated(number) => {

@@ -17,6 +17,7 @@ impl Pool {
     pub fn members(&self, alloc: Global) -> Mem<Members>
         ensures numbers { IfOk result (λ members. map (λ m. m.number) members ≡ member_numbers (replay self.now.origin self.now.history)) }
         ensures clauses { IfOk result (λ members. map (λ m. clause_at m.clause) members ≡ members_of (replay self.now.origin self.now.history)) }
+        ensures of_bank { IfOk result (AreMembersOf self.now.bank) }
     {
         let mut members = Members::new(alloc);
         for number in 0..self.register.len() {

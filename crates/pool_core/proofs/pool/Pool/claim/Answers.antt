@@ -29,5 +29,6 @@ returns-in_ok-jobs_out-in-None c =
         (let some = some-out r none c.next_given.ensures.solved nothing in let same = c.in_ok-jobs_out-in-None.ensures in omega (arith, some, same)),
         refl,
       );
+      of_bank = tt;
       unchanged = tt;
     }

@@ -51,7 +51,7 @@ invariant_of-self-2 c =
     let next : next_given r ≡ Some c.args.number = ap (λ (v : PoolView). next_given (replay v.origin v.history)) c.self.view_is ∙ c.requires.next in
     let open_yet : r.ended ≡ None = ap (λ (v : PoolView). (replay v.origin v.history).ended) c.self.view_is ∙ c.requires.open in
     let is : IsNextTicket (origin_of c.self.inside) (events_of c.self.inside.history) c.args.told c.args.number c.in_ok-ticket.ticket =
-    subst (λ (v : PoolView). IsNextTicket v.origin v.history c.args.told c.args.number c.in_ok-ticket.ticket) (sym c.self.view_is) c.in_ok-ticket.ensures in
+    subst (λ (v : PoolView). IsNextTicket v.origin v.history c.args.told c.args.number c.in_ok-ticket.ticket) (sym c.self.view_is) c.in_ok-ticket.ensures.next in
     let there = item-at c.self.inside.register c.args.number (given-registered c.self.inside c.args.number c.self.invariant next) in
     let many : c.len.result ≡ length c.self.inside.notes.items = omega (arith, c.take_memory.new.notes.ok.0, ap length c.take_memory.ensures.notes) in
     claimed-pool c.self.inside _ c.args.number c.in_ok-ticket.ticket.job c.in_ok-ticket.ticket.left c.in_ok-ticket.ticket.position there.0
@@ -92,10 +92,10 @@ pub returns-clause-origin : goal.returns-clause-origin
 returns-clause-origin c = ap (λ (v : PoolView). v.origin) c.self.view_is
 
 pub returns-clause-number : goal.returns-clause-number
-returns-clause-number c = c.in_ok-ticket.ensures.same
+returns-clause-number c = c.in_ok-ticket.ensures.next.same
 
 pub returns-clause-job : goal.returns-clause-job
-returns-clause-job c = c.in_ok-ticket.ensures.job
+returns-clause-job c = c.in_ok-ticket.ensures.next.job
 
 pub returns-clause-history : goal.returns-clause-history
 returns-clause-history c =
@@ -109,4 +109,7 @@ returns-clause-ticket c =
     subst (λ (es : List Event). IsTicket c.args.self.now.origin es c.args.told c.in_ok-ticket.ticket)
     (sym (c.push.ensures.events
     ∙ ap (λ (es : List Event). es ++ Claim c.in_ok-ticket.ticket.job ∷ []) (c.take_memory.ensures.events ∙ ap (λ (v : PoolView). v.history) c.self.view_is)))
-    (claimed-ticket c.args.self.now.origin c.args.self.now.history c.args.told c.args.number c.in_ok-ticket.ticket rise c.requires.next c.requires.told c.in_ok-ticket.ensures)
+    (claimed-ticket c.args.self.now.origin c.args.self.now.history c.args.told c.args.number c.in_ok-ticket.ticket rise c.requires.next c.requires.told c.in_ok-ticket.ensures.next)
+
+pub returns-clause-of_bank : goal.returns-clause-of_bank
+returns-clause-of_bank c = c.in_ok-ticket.ensures.of_bank

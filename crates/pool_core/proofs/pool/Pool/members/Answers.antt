@@ -12,7 +12,7 @@ use Rattle.pool_core.proofs.pool.Pool.members.Goals.{then-is_none+in_ok-copied+i
 pub loop-number-init : goal.loop-number-init
 loop-number-init c =
     let r : PoolRecord = replay c.args.self.now.origin c.args.self.now.history in
-    subst (AreMembersUpTo r 0) (sym c.new-members.ensures) (no-members r)
+    subst (AreMembersUpTo c.args.self.now.bank r 0) (sym c.new-members.ensures) (no-members c.args.self.now.bank r)
 
 pub loop-number-preserved : goal.loop-number-preserved
 loop-number-preserved c =
@@ -21,11 +21,11 @@ loop-number-preserved c =
     let is : IsStateOf c.self.inside r = subst (λ (v : PoolView). IsStateOf c.self.inside (replay v.origin v.history)) c.self.view_is c.self.invariant.state in
     let none = not-some c.get-registration.result.now.death c.is_none.result c.is_none.ensures in
     elim c.if-is_none.branch [
-      | then-is_none+in_ok-copied+in_ok-push w ↦ subst (AreMembersUpTo r (n + 1)) (sym w.members-is)
-          (one-member c.self.inside r n c.get-registration.result.now (record { number = n; clause = w.in_ok-copied.field-0 }) c.loop-number.members w.push.new.self
+      | then-is_none+in_ok-copied+in_ok-push w ↦ subst (AreMembersUpTo c.args.self.now.bank r (n + 1)) (sym w.members-is)
+          (one-member c.self.inside c.args.self.now.bank r n c.get-registration.result.now (record { number = n; clause = w.in_ok-copied.field-0 }) c.loop-number.members w.push.new.self (ap (λ (v : PoolView). v.bank) (sym c.self.view_is))
           is c.get-registration.ensures (sym none ∙ w.if-is_none.true) refl w.in_ok-copied.ensures w.in_ok-push.ensures.ok c.loop-number.invariant)
-      | else-is_none w ↦ subst (AreMembersUpTo r (n + 1)) (sym w.members-is)
-          (no-member c.self.inside r n c.get-registration.result.now c.loop-number.members is c.get-registration.ensures (sym none ∙ w.if-is_none.false) c.loop-number.invariant)
+      | else-is_none w ↦ subst (AreMembersUpTo c.args.self.now.bank r (n + 1)) (sym w.members-is)
+          (no-member c.self.inside c.args.self.now.bank r n c.get-registration.result.now c.loop-number.members (ap (λ (v : PoolView). v.bank) (sym c.self.view_is)) is c.get-registration.ensures (sym none ∙ w.if-is_none.false) c.loop-number.invariant)
     ]
 
 pub returns-clause-numbers : goal.returns-clause-numbers
@@ -43,3 +43,6 @@ returns-clause-clauses c =
     let many = registered-count c.self.inside r is in
     let all : c.loop-number.number ≡ length r.registered = omega (arith, many, c.len-number-end.ensures.len) in
     c.loop-number.invariant.clauses ∙ ap (λ k. map (clause_numbered r) (first_members r k)) all
+
+pub returns-clause-of_bank : goal.returns-clause-of_bank
+returns-clause-of_bank c = c.loop-number.invariant.of_bank

@@ -1,7 +1,10 @@
-use Rattle.std.proofs.Common.{◌≡◌, ◌++◌, [], ◌∷◌, map, length, append-nil, ap, sym, ◌∙◌, arith}
+use Rattle.std.proofs.Common.{ℕ, ◌≡◌, ◌++◌, [], ◌∷◌, map, length, append-nil, ap, sym, ◌∙◌, subst, arith}
+use Rattle.std.specs.Prelude.{All}
 use Rattle.std.proofs.lemmas.List.{map-append}
-use Rattle.bank_clause.specs.Clause.{clause_at}
+use Rattle.std.proofs.lemmas.List.Elements.{All-push}
+use Rattle.bank_clause.specs.Clause.{clause_at, IsClauseOf}
 use Rattle.bank_clause.specs.declared.clause.BankClause.{BankClause}
+use Rattle.pool_core.specs.Answers.{IsChangeOf}
 use Rattle.pool_core.specs.Claiming.{next_given}
 use Rattle.pool_core.specs.News.{TreeChange, change_of}
 use Rattle.pool_core.specs.Noted.{first_told}
@@ -10,7 +13,7 @@ use Rattle.pool_core.specs.Replay.{replay}
 use Rattle.pool_core.specs.View.{PoolView}
 use Rattle.pool_core.specs.declared.ticket.Change.TheVariants.{Activated}
 use Rattle.pool_core.proofs.ClaimLemmas.{given-registered, told-before, told-now}
-use Rattle.pool_core.proofs.StateLemmas.{record_of}
+use Rattle.pool_core.proofs.StateLemmas.{record_of, one-of-bank}
 use Rattle.pool_core.proofs.pool.Pool.told_position.Goals as goal
 
 pub get-registration-requires : goal.get-registration-requires
@@ -49,3 +52,15 @@ returns-in_ok-push-in-None-clause-news c =
     ∙ ap (λ cs. map change_of c.args.news.now ++ cs)
     (sym (told-now c.self.inside r c.args.number c.get-registration.result.now c.self.invariant.state c.get-registration.ensures c.in-None.is).0
     ∙ ap (λ (v : PoolView). first_told (replay v.origin v.history) c.args.number) c.self.view_is)
+
+pub returns-in-Some-clause-of_bank : goal.returns-in-Some-clause-of_bank
+returns-in-Some-clause-of_bank c = λ all. all
+
+pub returns-in_ok-push-in-None-clause-of_bank : goal.returns-in_ok-push-in-None-clause-of_bank
+returns-in_ok-push-in-None-clause-of_bank c = λ all.
+    let bank : ℕ = c.args.self.now.bank in
+    subst (All (IsChangeOf bank)) (sym c.in_ok-push-in-None.ensures.ok)
+    (All-push (IsChangeOf bank) c.args.news.now (Activated (record { number = c.args.number; clause = c.in_ok-clause-in-None.clause })) all
+    (subst (λ (v : PoolView). IsClauseOf v.bank c.in_ok-clause-in-None.clause) c.self.view_is
+    (one-of-bank c.self.inside (record_of c.self.inside) c.args.number c.get-registration.result.now c.in_ok-clause-in-None.clause
+    c.self.invariant.state c.get-registration.ensures c.in_ok-clause-in-None.ensures)))
