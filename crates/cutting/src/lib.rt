@@ -5,6 +5,7 @@ mod asserted;
 mod cut_lines;
 mod cutting;
 mod dropping;
+pub mod laws;
 mod matching;
 mod removing;
 mod superposing;
