@@ -25,7 +25,7 @@ loop-number-preserved c =
           (one-member c.self.inside c.args.self.now.bank r n c.get-registration.result.now (record { number = n; clause = w.in_ok-copied.field-0 }) c.loop-number.members w.push.new.self (ap (λ (v : PoolView). v.bank) (sym c.self.view_is))
           is c.get-registration.ensures (sym none ∙ w.if-is_none.true) refl w.in_ok-copied.ensures w.in_ok-push.ensures.ok c.loop-number.invariant)
       | else-is_none w ↦ subst (AreMembersUpTo c.args.self.now.bank r (n + 1)) (sym w.members-is)
-          (no-member c.self.inside c.args.self.now.bank r n c.get-registration.result.now c.loop-number.members (ap (λ (v : PoolView). v.bank) (sym c.self.view_is)) is c.get-registration.ensures (sym none ∙ w.if-is_none.false) c.loop-number.invariant)
+          (no-member c.self.inside c.args.self.now.bank r n c.get-registration.result.now c.loop-number.members is c.get-registration.ensures (sym none ∙ w.if-is_none.false) c.loop-number.invariant)
     ]
 
 pub returns-clause-numbers : goal.returns-clause-numbers
