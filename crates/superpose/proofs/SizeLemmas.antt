@@ -4,11 +4,11 @@ use Rattle.std.specs.Prelude.{sum_by, slice_get}
 use Rattle.std.specs.Option.{is_some}
 use Rattle.std.proofs.lemmas.Bool.{true≢false, and_parts, cases_lt}
 use Rattle.fol_base.specs.Tree.{Tree, tree_size}
-use Rattle.fol_base.specs.Instance.{instance, substitution}
+use Rattle.fol_base.specs.Instance.{Substitution, instance, substitution}
 use Rattle.fol_base.specs.Clause.{TreeLiteral, TreeClause, literal_size, clause_size, clause_instance, clause_variables}
 use Rattle.fol_base.specs.Literal.{clause_of}
 use Rattle.fol_base.specs.Ground.{literals_instance}
-use Rattle.fol_base.specs.Canonical.{bound_of}
+use Rattle.fol_base.specs.Canonical.{bound_of, terms_from}
 use Rattle.fol_base.specs.Selection.{SelectionMode, chosen, eligible}
 use Rattle.fol_base.specs.Sides.{side_of}
 use Rattle.fol_base.specs.WellFormed.{SymbolUse, are_literals_of}
@@ -22,10 +22,12 @@ use Rattle.unifier.specs.Bindings.{IsUnified}
 use Rattle.unifier.specs.Renaming.{AreNamedTerms}
 use Rattle.unifier.specs.Sizes.{stopped}
 use Rattle.unifier.specs.SolvedForm.{SolvedForm, substitution_of}
+use Rattle.unifier.proofs.SharedLemmas.{own_terms_are_named}
 use Rattle.eq_rules.specs.Inferences.{IsConcluded, IsMade}
 use Rattle.eq_rules.specs.declared.inference.Made.{Made}
 use Rattle.eq_rules.specs.declared.inference.Made.TheVariants.{Conclusion, Heavy}
 use Rattle.eq_rules.proofs.FactorAnswers.{part_size, sides_size, total_size}
+use Rattle.eq_rules.proofs.MadeLemmas.{size_above}
 use Rattle.eq_rules.proofs.PremiseLemmas.{literal-kind}
 use Rattle.eq_rules.proofs.SideLemmas.{Kinds}
 use Rattle.superpose.specs.Sites.{is_usable, can_start, can_enter, literal_starts, literal_enters}
@@ -93,6 +95,39 @@ made_by_superposition p mode clauses number c s partner d t left right (Conclusi
     (by is.0 is.1 (clause_of clause) is.3)
 
 -- ---- by a unifier
+
+-- where the order allows it whatever is put in, a clause that is too large need not be built
+pub heavy_settled :
+    (m n : Member) (s : LiteralSide) (t : LiteralPlace) (b : SolvedForm) (r : SuperposesBy b (clause_at m.clause) s (clause_at n.clause) t)
+    (left_told right_told : ℕ)
+    → left_told ≡ stopped (clause_size (clause_instance (substitution_of b Left) (clause_at m.clause)))
+    → right_told ≡ stopped (clause_size (clause_instance (substitution_of b Right) (clause_at n.clause)))
+    → MOST_SYMBOLS < max left_told right_told
+    → (mode : SelectionMode) (choice : Option ℕ) → AreSites mode (clause_at m.clause) s (clause_at n.clause) t choice
+    → ((σ τ : Substitution) → allows (clause_at m.clause).literals s (clause_at n.clause).literals t choice σ τ ≡ true)
+    → IsSuperposition mode m s n t (Some Heavy)
+heavy_settled m n s t b r left_told right_told left_is right_is over mode choice sites allowed usage clauses used second_used there second_there =
+    let c : TreeClause = clause_at m.clause in
+    let d : TreeClause = clause_at n.clause in
+    let first_bound : ℕ = bound_of (clause_variables c) in
+    let second_bound : ℕ = bound_of (clause_variables d) in
+    let left : List Tree = terms_from 0 first_bound (substitution_of b Left) in
+    let right : List Tree = terms_from 0 second_bound (substitution_of b Right) in
+    superposition_heavy usage.is_predicate mode clauses m.number c there n.number d second_there s t b r left right
+    (own_terms_are_named b first_bound second_bound)
+    (start_unchosen mode c.literals s sites.starts)
+    (enter_unchosen mode d.literals t.at r.enters.literal r.enters.there sites.enters)
+    (alike-kinds usage.is_predicate s t r.starts.literal r.enters.literal r.enters.old
+    (literal-kind usage c s.literal r.starts.literal used r.starts.there)
+    (literal-kind usage d t.at.literal r.enters.literal second_used r.enters.there)
+    r.starts.no_truth r.enters.no_truth r.enters.old_there r.alike)
+    (ap (λ o. allows c.literals s d.literals t o (substitution left) (substitution right)) (sym sites.choice_is)
+    ∙ allowed (substitution left) (substitution right))
+    (elim (cases_lt MOST_SYMBOLS left_told) [
+      | inl first ↦ inl (size_above left_told (clause_size (clause_instance (substitution_of b Left) c)) MOST_SYMBOLS left_is first)
+      | inr first ↦
+          inr (inl (size_above right_told (clause_size (clause_instance (substitution_of b Right) d)) MOST_SYMBOLS right_is (omega (arith, first, over))))
+    ])
 
 module _
     (m n : Member) (s : LiteralSide) (t : LiteralPlace) (b : SolvedForm) (r : SuperposesBy b (clause_at m.clause) s (clause_at n.clause) t)

@@ -10,7 +10,7 @@ use Rattle.fol_base.specs.Instance.{Substitution, instance, substitution}
 use Rattle.fol_base.specs.Place.{argument, subterm, replaced}
 use Rattle.fol_base.specs.Clause.{TreeLiteral, TreeClause, LiteralVariablesBelow, literal_size, literal_instance, clause_variables}
 use Rattle.fol_base.specs.Ground.{literals_instance}
-use Rattle.fol_base.specs.Canonical.{bound_of}
+use Rattle.fol_base.specs.Canonical.{bound_of, terms_from}
 use Rattle.fol_base.specs.Sides.{side_of, other_side_of, with_side}
 use Rattle.fol_base.specs.declared.clause.Side.{Side}
 use Rattle.fol_base.specs.declared.clause.Side.TheVariants.{Left, Right}
@@ -22,7 +22,7 @@ use Rattle.fol_base.proofs.VariableLemmas.{ClauseVariablesBelow-bound}
 use Rattle.kernel_steps.proofs.BoundLemmas.{is_truth-application}
 use Rattle.unifier.specs.Renaming.{AreNamedTerms, renamed}
 use Rattle.unifier.specs.SolvedForm.{SolvedForm, substitution_of}
-use Rattle.unifier.proofs.SharedLemmas.{shared_unify_apart, shared_keep_sizes}
+use Rattle.unifier.proofs.SharedLemmas.{own_terms_are_named, shared_unify_apart, shared_keep_sizes}
 use Rattle.eq_rules.proofs.PremiseLemmas.{clause-below, literal-below}
 use Rattle.eq_rules.proofs.SideLemmas.{side-below, sides-size}
 use Rattle.superpose.specs.Superposing.{SuperposesBy}
@@ -64,6 +64,16 @@ with_side-size Right new l =
     let sum : (tree_size l.left + tree_size new) + tree_size l.right ≡ (tree_size l.left + tree_size l.right) + tree_size new = omega arith in sum
 
 -- ---- the terms
+
+-- the unifier's own terms for the first variables of both sides
+pub own_both :
+    (b : SolvedForm) (n m j k : ℕ) (left right : List Tree) → j ≡ n → k ≡ m
+    → left ≡ terms_from 0 j (substitution_of b Left) → right ≡ terms_from 0 k (substitution_of b Right) → AreNamedTerms b n m left right
+own_both b n m j k left right j_is k_is left_is right_is =
+    subst (λ (ts : List Tree). AreNamedTerms b n m ts right) (sym (left_is ∙ ap (λ i. terms_from 0 i (substitution_of b Left)) j_is))
+    (subst (λ (us : List Tree). AreNamedTerms b n m (terms_from 0 n (substitution_of b Left)) us)
+    (sym (right_is ∙ ap (λ i. terms_from 0 i (substitution_of b Right)) k_is))
+    (own_terms_are_named b n m))
 
 module _
     (c : TreeClause) (s : LiteralSide) (d : TreeClause) (t : LiteralPlace) (b : SolvedForm) (r : SuperposesBy b c s d t)

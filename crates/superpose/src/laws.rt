@@ -1,6 +1,6 @@
 // The law of sites, and worked examples of the definitions: the contracts of functions without arguments and with empty bodies.
 
-ghost use Rattle.std.specs.Prelude.{◌≡◌, [], ◌∷◌, None, IsTrue, IsFalse};
+ghost use Rattle.std.specs.Prelude.{◌≡◌, [], ◌∷◌, None, Some, IsTrue, IsFalse};
 ghost use Rattle.fol_base.specs.Tree.{variable};
 ghost use Rattle.fol_base.specs.Examples.{x, a, b, c, f, f₂, g, p, q, equation};
 ghost use Rattle.fol_base.specs.Selection.{select_negative, select_nothing};
@@ -8,6 +8,7 @@ ghost use Rattle.fol_base.specs.declared.clause.Side.TheVariants.{Left, Right};
 ghost use Rattle.kernel_steps.specs.Examples.{not_p};
 ghost use Rattle.kernel_steps.specs.declared.key.Key.TheVariants.{Para, Refl};
 ghost use Rattle.superpose.specs.Examples.{place_at, side_at};
+ghost use Rattle.superpose.specs.Settled.{IsSettled};
 ghost use Rattle.superpose.specs.Sites.{
   SitesDiffer,
   SuperpositionsHaveSites,
@@ -20,7 +21,7 @@ ghost use Rattle.superpose.specs.Sites.{
   places,
   start_sites,
 };
-ghost use Rattle.superpose.specs.Superposing.{allows, are_alike, others_coincide, para_key};
+ghost use Rattle.superpose.specs.Superposing.{allows, are_alike, enters_under, others_coincide, para_key, starts_under};
 ghost use Rattle.superpose.specs.Pairing.{entry_of, is_between, is_from_into, is_superposition, keys_between};
 
 /// Each superposition starts from a site of the first clause and goes into one of the second: an index of the sites misses none. And no
@@ -43,6 +44,7 @@ pub fn site_examples()
     ensures lower_side { IsFalse (can_start select_nothing (equation (f a) b ∷ []) (side_at 0 Right)) }
     ensures higher_head { start_sites select_nothing (equation (f (x 0)) (g (x 0)) ∷ []) ≡ side_at 0 Right ∷ [] }
     ensures truth { IsFalse (is_usable Right (p a)) }
+    ensures settled { IsSettled (not_p (x 0) ∷ q (x 0) ∷ []) (Some 0) (side_at 0 Left) }
     ensures not_chosen { IsFalse (can_enter select_negative (not_p (x 0) ∷ q (x 0) ∷ []) (side_at 1 Left)) }
 {}
 
@@ -53,6 +55,9 @@ pub fn superposition_examples()
     ensures differ { IsFalse (others_coincide (side_at 0 Left) (place_at 0 Left []) variable variable (equation (f a) b) (equation (f a) c)) }
     ensures below_root { IsFalse (others_coincide
         (side_at 0 Left) (place_at 0 Left (0 ∷ [])) variable variable (equation a b) (equation (f a) b)) }
+    ensures starts { IsTrue (starts_under (equation (f a) b ∷ []) (side_at 0 Left) variable) }
+    ensures enters { IsTrue (enters_under
+        (equation (f a) b ∷ []) (side_at 0 Left) (equation (f a) c ∷ []) (place_at 0 Left []) None variable variable) }
     ensures allowed { IsTrue (allows (equation (f a) b ∷ []) (side_at 0 Left) (equation (f a) c ∷ []) (place_at 0 Left []) None variable variable) }
     ensures not_allowed { IsFalse (allows
         (equation (f a) b ∷ []) (side_at 0 Left) (equation (f a) b ∷ []) (place_at 0 Left []) None variable variable) }

@@ -1,7 +1,7 @@
 // Superposition from one site into another: the side of an equation is unified with the term at a place, and the order is asked under the
 // unifier before anything is built.
 
-ghost use Rattle.std.specs.Prelude.{◌≡◌, ◌<◌, true, List, None, Some, length, slice_get, sum_by, IfOk};
+ghost use Rattle.std.specs.Prelude.{◌≡◌, ◌<◌, ◌&&◌, true, List, None, Some, length, slice_get, sum_by, IfOk};
 ghost use Rattle.fol_base.specs.Instance.{Substitution, substitution};
 ghost use Rattle.fol_base.specs.Clause.{TreeLiteral, literal_size};
 ghost use Rattle.fol_base.specs.Ground.{literals_instance};
@@ -20,6 +20,7 @@ ghost use Rattle.superpose.specs.Superposing.{
   SuperposesBy,
   allows,
   enters_under,
+  is_root,
   starts_under,
   others_coincide,
   are_alike,
@@ -142,19 +143,23 @@ fn superposition_by(
     let right = &second.member.clause;
     let left_size = unifier.instance_size(bank, Side::Left, left.literals())?;
     let right_size = unifier.instance_size(bank, Side::Right, right.literals())?;
-    let is_large = left_size.max(right_size) > MOST_SYMBOLS;
-    if is_large && are_settled(bank, first, from, second, into) {
-        return Ok(Some(Made::Heavy));
+    let largest = left_size.max(right_size);
+    if largest > MOST_SYMBOLS {
+        if are_settled(bank, first, from, second, into) {
+            return Ok(Some(Made::Heavy));
+        }
     }
     if left_size >= SIZE_LIMIT || right_size >= SIZE_LIMIT {
         return Err(NoMemory);
     }
-    let left_terms = unifier.terms(Side::Left, left.variable_bound())?;
+    let left_bound = left.variable_bound();
+    let right_bound = right.variable_bound();
+    let left_terms = unifier.terms(Side::Left, left_bound)?;
     let left_literals = left.lend(bank);
     if !starts_under(first.sites, &left_literals, from, &left_terms) {
         return Ok(None);
     }
-    let right_terms = unifier.terms(Side::Right, right.variable_bound())?;
+    let right_terms = unifier.terms(Side::Right, right_bound)?;
     let right_literals = right.lend(bank);
     if !enters_under(
         second.sites,
@@ -170,7 +175,7 @@ fn superposition_by(
     let equation = left_literals.literal(from.literal);
     let gone = instance_size(equation.side(from.side), &left_terms);
     let made_size = left_size + right_size - 2 * gone;
-    if is_large || made_size > MOST_SYMBOLS {
+    if largest.max(made_size) > MOST_SYMBOLS {
         return Ok(Some(Made::Heavy));
     }
     let made = conclude_superposition(
@@ -206,9 +211,20 @@ fn are_settled(
 {
     let targets = second.member.clause.lend(bank);
     let target = targets.literal(into.at.literal);
-    !(target.positive && into.place.is_empty())
-        && starts_settled(first.sites, from)
-        && second.sites.is_settled(into.at)
+    if is_positive_root(target, into) {
+        return false;
+    }
+    if !starts_settled(first.sites, from) {
+        return false;
+    }
+    second.sites.is_settled(into.at)
+}
+
+/// Whether the place is the root of a positive literal.
+fn is_positive_root(target: LiteralRef<'_>, into: &LiteralPlace) -> bool
+    ensures { result ≡ ((lent_of target.entry).positive && is_root into.now.place) }
+{
+    target.positive && into.place.is_empty()
 }
 
 /// Whether a side from which superposition can start is in order under every substitution.

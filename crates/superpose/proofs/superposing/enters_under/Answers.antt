@@ -1,4 +1,4 @@
-use Rattle.std.proofs.Common.{sym, ◌∙◌, arith}
+use Rattle.std.proofs.Common.{sym, arith}
 use Rattle.fol_base.specs.Instance.{substitution}
 use Rattle.fol_base.specs.Lent.{lent_of}
 use Rattle.eq_rules.proofs.FactorAnswers.{part_size}
