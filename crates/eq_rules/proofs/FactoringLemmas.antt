@@ -35,7 +35,7 @@ use Rattle.kernel_steps.specs.Parents.{Parent}
 use Rattle.kernel_steps.specs.Symbols.{symbols_pass, literal_symbols_pass}
 use Rattle.kernel_steps.specs.declared.step.Step.TheVariants as step
 use Rattle.kernel_steps.proofs.SymbolLemmas.{side-passes}
-use Rattle.unifier.specs.Renaming.{AreRenamed}
+use Rattle.unifier.specs.Renaming.{AreNamedTerms}
 use Rattle.unifier.proofs.SharedLemmas.{shared_put_function_terms}
 use Rattle.kernel_steps.specs.Sized.{is_large, SizedFactoring}
 use Rattle.kernel_steps.specs.Lines.{is_small_term, clause_parents}
@@ -59,7 +59,7 @@ use Rattle.unifier.specs.SolvedForm.{SolvedForm, substitution_of}
 module _
     (p : ℕ → Bool) (mode : SelectionMode) (clauses : ℕ → Option TreeClause) (number : ℕ) (c : TreeClause) (place : FactorPlace)
     (there : clauses number ≡ Some c) (b : SolvedForm) (r : FactorsBy b c place)
-    (terms right : List Tree) (h : AreRenamed b (bound_of (clause_variables c)) 0 terms right) where
+    (terms right : List Tree) (h : AreNamedTerms b (bound_of (clause_variables c)) 0 terms right) where
   parts : Alike r.literal_i place.becomes.side r.literal_j place.other.side
   parts = alike-parts r.literal_i place.becomes.side r.literal_j place.other.side r.alike
 

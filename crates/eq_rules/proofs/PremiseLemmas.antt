@@ -10,7 +10,7 @@ use Rattle.fol_base.specs.Instance.{Substitution, instance, instances, substitut
 use Rattle.fol_base.specs.InstanceLaws.{after}
 use Rattle.fol_base.specs.Clause.{TreeLiteral, TreeClause, LiteralVariablesBelow, literal_size, literal_variables, clause_variables}
 use Rattle.fol_base.specs.Ground.{literals_instance}
-use Rattle.fol_base.specs.Canonical.{bound_of}
+use Rattle.fol_base.specs.Canonical.{bound_of, terms_from}
 use Rattle.fol_base.specs.Kind.{is_function_term, is_predicate_term, is_literal, PutsFunctionTerms}
 use Rattle.fol_base.specs.WellFormed.{SymbolUse, is_literal_of, are_literals_of}
 use Rattle.fol_base.specs.Unifier.{IsUnifier}
@@ -23,8 +23,8 @@ use Rattle.fol_base.proofs.VariableLemmas.{ClauseVariablesBelow-bound}
 use Rattle.fol_base.proofs.WellFormedLemmas.{is_literal-cases, is_literal_of-parts}
 use Rattle.unifier.specs.Bindings.{IsUnified}
 use Rattle.unifier.specs.Laws.{are_of_one_kind}
-use Rattle.unifier.specs.Renaming.{AreRenamed, renamed}
-use Rattle.unifier.proofs.SharedLemmas.{shared_unify_one, shared_keep_sizes, shared_put_function_terms}
+use Rattle.unifier.specs.Renaming.{AreNamedTerms, renamed}
+use Rattle.unifier.proofs.SharedLemmas.{own_terms_are_named, shared_unify_one, shared_keep_sizes, shared_put_function_terms}
 use Rattle.eq_rules.specs.Concluding.{IsGeneralBelow}
 use Rattle.eq_rules.proofs.WideLemmas.{Has, Has-item, literals-below}
 use Rattle.unifier.specs.SolvedForm.{SolvedForm, substitution_of}
@@ -54,7 +54,7 @@ pub terms_of :
     (c : TreeClause) (s t : Tree) (b : SolvedForm) (terms right : List Tree)
     → IsUnified false s t (Some b)
     → VariablesBelow (bound_of (clause_variables c)) s → VariablesBelow (bound_of (clause_variables c)) t
-    → AreRenamed b (bound_of (clause_variables c)) 0 terms right → Terms c s t b terms
+    → AreNamedTerms b (bound_of (clause_variables c)) 0 terms right → Terms c s t b terms
 terms_of c s t b terms right unified s_below t_below h =
     let n : ℕ = bound_of (clause_variables c) in
     let shared = shared_unify_one s t b n 0 terms right unified s_below t_below h in
@@ -68,6 +68,15 @@ terms_of c s t b terms right unified s_below t_below h =
       many = many;
       size = (shared_keep_sizes b n 0 terms right h).0 c.literals (ClauseVariablesBelow-bound n c (omega arith));
     }
+
+-- the unifier's own terms for the first variables of its left side
+pub own_terms :
+    (b : SolvedForm) (n k : ℕ) (terms : List Tree)
+    → k ≡ n → terms ≡ terms_from 0 k (substitution_of b Left) → AreNamedTerms b n 0 terms []
+own_terms b n k terms same is =
+    let right : List Tree = [] in
+    let P : List Tree → Type 0 = λ ts. AreNamedTerms b n 0 ts right in
+    subst P (ap (λ j. terms_from 0 j (substitution_of b Left)) (sym same) ∙ sym is) (own_terms_are_named b n 0)
 
 -- ---- function terms are put in, and no `$true`
 
@@ -91,14 +100,14 @@ literal-kind usage c i l used there = (is_literal_of-parts usage l (list_all-ite
 
 pub sides_put :
     (p : ℕ → Bool) (l : TreeLiteral) (b : SolvedForm) (count : ℕ) (terms right : List Tree)
-    → is_literal p l ≡ true → IsUnified false l.left l.right (Some b) → AreRenamed b count 0 terms right
+    → is_literal p l ≡ true → IsUnified false l.left l.right (Some b) → AreNamedTerms b count 0 terms right
     → PutsFunctionTerms p (substitution terms)
 sides_put p l b count terms right kind unified h =
     (shared_put_function_terms p false l.left l.right b count 0 terms right (sides_unify p l kind) unified h).0
 
 pub sides_no_truth :
     (p : ℕ → Bool) (l : TreeLiteral) (b : SolvedForm) (count : ℕ) (terms right : List Tree)
-    → is_literal p l ≡ true → IsUnified false l.left l.right (Some b) → AreRenamed b count 0 terms right
+    → is_literal p l ≡ true → IsUnified false l.left l.right (Some b) → AreNamedTerms b count 0 terms right
     → (v : ℕ) → is_truth (substitution terms v) ≡ false
 sides_no_truth p l b count terms right kind unified h =
     puts_no_truth p (substitution terms) (sides_put p l b count terms right kind unified h)

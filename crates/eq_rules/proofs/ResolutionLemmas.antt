@@ -30,7 +30,7 @@ use Rattle.kernel_steps.specs.Symbols.{symbols_pass, literal_symbols_pass}
 use Rattle.kernel_steps.specs.declared.key.Key.TheVariants.{Refl}
 use Rattle.kernel_steps.specs.declared.step.Step.TheVariants as step
 use Rattle.kernel_steps.proofs.SymbolLemmas.{side-passes}
-use Rattle.unifier.specs.Renaming.{AreRenamed}
+use Rattle.unifier.specs.Renaming.{AreNamedTerms}
 use Rattle.kernel_steps.specs.Sized.{is_large}
 use Rattle.kernel_steps.specs.Lines.{is_small_term, clause_parents}
 use Rattle.eq_rules.specs.Inferences.{IsConcluded, IsMade}
@@ -126,7 +126,7 @@ module _
         },
       )
 
-  module _ (terms right : List Tree) (h : AreRenamed b (bound_of (clause_variables c)) 0 terms right) where
+  module _ (terms right : List Tree) (h : AreNamedTerms b (bound_of (clause_variables c)) 0 terms right) where
     sides-below : LiteralVariablesBelow (bound_of (clause_variables c)) r.literal
     sides-below = literal-below c i r.literal r.there
 

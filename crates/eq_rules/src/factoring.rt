@@ -133,7 +133,7 @@ fn may_become(bank: &Bank, given: &Member, becomes: LiteralSide) -> bool
 }
 
 /// Whether the other side of a literal isn't greater than or equal to a side, under terms.
-fn is_not_below<S: LendsTerms>(literal: LiteralRef<'_>, side: Side, bind: &S) -> bool
+pub fn is_not_below<S: LendsTerms>(literal: LiteralRef<'_>, side: Side, bind: &S) -> bool
     requires { literal_size (literal_instance (S.meaning bind.now) (lent_of literal)) < COMPARED_SIZE_LIMIT }
     ensures { result ≡ other_side_not_above (S.meaning bind.now) side (lent_of literal.entry) }
 {
@@ -201,7 +201,7 @@ fn factoring_by(
     if size >= SIZE_LIMIT {
         return Err(NoMemory);
     }
-    let (terms, _) = unifier.substs(clause.variable_bound(), 0)?;
+    let terms = unifier.terms(Side::Left, clause.variable_bound())?;
     let literals = clause.lend(bank);
     let becomes = literals.literal(place.becomes.literal);
     if !is_not_below(becomes, place.becomes.side, &terms) {

@@ -8,7 +8,8 @@ mod renaming;
 mod renumbering;
 mod resolving;
 
-pub use factoring::factorings;
+pub use concluding::LiteralSide;
+pub use factoring::{factorings, is_not_below};
 pub use inference::{Inference, Inferences, Made};
 pub use renaming::{number_instance, number_literals, number_term, renamed_terms};
 pub use renumbering::Renumbering;

@@ -40,9 +40,10 @@ impl Renumbering {
         }
     }
 
-    /// The number of a variable, the next one where the variable is new.
+    /// The number of a variable, the next one where the variable is new. After want of memory the list is as before.
     pub fn number(&mut self, variable: u32) -> Mem<u32>
         ensures met { IfOk result (λ _. self.new ≡ with_variable self.old variable) }
+        ensures unchanged { OnErr result (self.new ≡ self.old) }
         ensures number { IfOk result (λ number. place_of variable self.new ≡ Some number) }
     {
         if let Some(number) = number_at(self.numbers.as_slice(), variable) {

@@ -114,7 +114,7 @@ fn resolution_by(
     if size >= SIZE_LIMIT {
         return Err(NoMemory);
     }
-    let (terms, _) = unifier.substs(clause.variable_bound(), 0)?;
+    let terms = unifier.terms(Side::Left, clause.variable_bound())?;
     if !eligible_under(&clause.lend(bank), &terms, index, choice, false) {
         return Ok(None);
     }

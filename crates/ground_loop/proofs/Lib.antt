@@ -15,7 +15,6 @@ pub mod SetLemmas
 pub mod SearchInputLemmas
 pub mod SearchFoundLemmas
 pub mod DeriveWhole
-pub mod DeriveExamples
 pub mod ClosedLemmas
 pub mod ResolutionExamples
 pub mod ValuationLemmas

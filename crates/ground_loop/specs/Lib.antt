@@ -7,7 +7,6 @@ pub mod Codes
 pub mod Sets
 pub mod Table
 pub mod Saturation
-pub mod DeriveExamples
 pub mod ResolutionExamples
 pub mod Satisfaction
 pub mod Scope

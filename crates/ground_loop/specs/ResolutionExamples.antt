@@ -1,10 +1,13 @@
 -- Small forms for the examples of resolution: p and q are propositions.
 use Rattle.std.specs.Prelude.{ℕ, Bool, true, false, List, [], ◌∷◌, map}
-use Rattle.fol_base.specs.Tree.{Tree}
+use Rattle.fol_base.specs.Tree.{Tree, application, no_trees}
 use Rattle.fol_base.specs.Clause.{TreeLiteral, TreeClause}
 use Rattle.fol_base.specs.Interpretation.{Interpretation}
 use Rattle.ground_loop.specs.Resolution.{LiteralSet, atom_literal}
-use Rattle.ground_loop.specs.DeriveExamples.{proposition}
+
+-- a predicate without arguments, by its symbol
+abbrev proposition : ℕ → Tree
+proposition symbol = application symbol no_trees
 
 abbrev pub p : Tree
 p = proposition 1

@@ -2,8 +2,6 @@
 
 mod cone;
 mod steps;
-#[cfg(test)]
-mod tests;
 
 ghost use Rattle.std.specs.Prelude.{◌≡◌, ◌<◌, ◌≤◌, map, length, IfOk};
 ghost use Rattle.fol_base.specs.GroundForm.{IsGroundForm, form_size};

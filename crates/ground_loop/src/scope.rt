@@ -61,6 +61,3 @@ fn is_ground_atom(term: &Term) -> bool
         Term::App(symbol, arguments) => *symbol != TRUE_SYMBOL && arguments.variable_bound() == 0,
     }
 }
-
-#[cfg(test)]
-mod tests;

@@ -40,6 +40,3 @@ pub fn search(alloc: Global, form: &Clauses, limit: u32) -> Mem<Found>
         Progress::Open => Ok(Found::Closed),
     }
 }
-
-#[cfg(test)]
-mod tests;

@@ -3,6 +3,7 @@ use Rattle.std.proofs.Common.{◌≡◌, ℕ, suc, ◌+◌, ◌%◌, ◌≤◌, 
 use Rattle.std.specs.Prelude.{Option, Some, filter, position, slice_get, unwrap_or, option_map, vec_len, vec_capacity, All}
 use Rattle.std.specs.List.{list_all, range_with_len}
 use Rattle.std.proofs.lemmas.Bool.{lt-ltb, cond-true}
+use Rattle.std.proofs.lemmas.List.Elements.{All-nil}
 use Rattle.std.proofs.lemmas.Option.{none-some, slice_get_within}
 use Rattle.plain_types.specs.declared.sequence.NameLit.{NameLit}
 use Rattle.fol_base.specs.Clause.{TreeClause, clause_size}
@@ -19,10 +20,11 @@ use Rattle.pool_core.specs.Replay.{start, replay}
 use Rattle.pool_core.specs.Answers.{death_of}
 use Rattle.pool_core.specs.Events.{events_of}
 use Rattle.pool_core.specs.News.{changes_from}
+use Rattle.pool_core.specs.Noted.{IsNoted, change_at}
 use Rattle.pool_core.specs.Inputs.{AreInputs, IsLimit}
 use Rattle.pool_core.specs.Lawful.{IsLawful}
 use Rattle.pool_core.specs.Started.{registered_at, IsOfTable, sized, IsFresh, at_start, IsStarted}
-use Rattle.pool_core.specs.State.{origin_of, job_entry, pair_of, change_at, IsStateOf, IsPool}
+use Rattle.pool_core.specs.State.{origin_of, job_entry, pair_of, IsStateOf, IsPool}
 use Rattle.pool_core.specs.declared.event.Event.{Event}
 use Rattle.pool_core.specs.declared.start.Start.{Start}
 use Rattle.pool_core.specs.declared.pool.Pool.TheInside.{Inside}
@@ -87,9 +89,9 @@ module _ (a : Inside) (bank : Bank) (st : Start) (r : PoolRecord) where
       a.table.bank ≡ bank → IsStarted bank a.table st r
       → a.register ≡ st.register → a.queue.pairs ≡ st.queue.pairs → a.steps.items ≡ st.steps.items → a.ended ≡ st.ended
       → a.positions.items ≡ [] → a.jobs.entries ≡ [] → a.counted ≡ [] → a.set_aside ≡ [] → a.last_job ≡ 0 → a.place ≡ 0
-      → vec_len a.history.events ≤ vec_capacity a.history.events
+      → vec_len a.history.events ≤ vec_capacity a.history.events → vec_len a.notes_before ≤ vec_capacity a.notes_before
       → IsStateOf a r
-  begun-state same_bank is register queue steps ended positions jobs counted set_aside last_job place room = record {
+  begun-state same_bank is register queue steps ended positions jobs counted set_aside last_job place room notes_room = record {
     registered = ap (map registered_at) register ∙ is.registered;
     of_table =
         subst (All (IsOfTable a.table.bank a.table)) (sym register)
@@ -115,6 +117,7 @@ module _ (a : Inside) (bank : Bank) (st : Start) (r : PoolRecord) where
     no_names = is.no_names;
     queue_room = let none : length r.given ≡ 0 = ap (λ (t : PoolRecord). length t.given) is.start in omega (arith, none);
     history_room = let none : length r.given ≡ 0 = ap (λ (t : PoolRecord). length t.given) is.start in omega (arith, none, room);
+    notes_room = let none : length r.given ≡ 0 = ap (λ (t : PoolRecord). length t.given) is.start in omega (arith, none, notes_room);
   }
 
 pub begun :
@@ -123,11 +126,11 @@ pub begun :
     → IsStarted bank a.table st (with_inputs false 0 (origin_of a).inputs nothing_registered)
     → a.register ≡ st.register → a.queue.pairs ≡ st.queue.pairs → a.steps.items ≡ st.steps.items → a.ended ≡ st.ended
     → a.positions.items ≡ [] → a.jobs.entries ≡ [] → a.counted ≡ [] → a.set_aside ≡ [] → a.last_job ≡ 0 → a.place ≡ 0
-    → vec_len a.history.events ≤ vec_capacity a.history.events
+    → vec_len a.history.events ≤ vec_capacity a.history.events → vec_len a.notes_before ≤ vec_capacity a.notes_before
     → events_of a.history ≡ [] → a.notes.items ≡ [] → a.notes_before.items ≡ []
     → AreInputs (origin_of a).inputs → IsLimit a.options
     → IsPool a
-begun a bank st unsplit same_bank is register queue steps ended positions jobs counted set_aside last_job place room events notes before inputs limit =
+begun a bank st unsplit same_bank is register queue steps ended positions jobs counted set_aside last_job place room notes_room events notes before inputs limit =
     let split_is : start (origin_of a) ≡ with_inputs false 0 (origin_of a).inputs nothing_registered =
     ap (λ b. with_inputs b 0 (origin_of a).inputs nothing_registered) unsplit in
     record {
@@ -139,12 +142,13 @@ begun a bank st unsplit same_bank is register queue steps ended positions jobs c
           subst (λ (h : List Event). IsStateOf a (replay (origin_of a) h)) (sym events)
           (subst (IsStateOf a) (sym split_is)
           (begun-state a bank st (with_inputs false 0 (origin_of a).inputs nothing_registered) same_bank is register queue steps ended positions jobs
-          counted set_aside last_job place room));
+          counted set_aside last_job place room notes_room));
       news =
           record {
             all =
                 ap (map (change_at a.register)) notes
                 ∙ sym (ap (changes_from a.options (start (origin_of a))) events);
+            noted = subst (All (IsNoted (length a.register))) (sym notes) (All-nil (IsNoted (length a.register)));
             count = ap length before ∙ sym (ap length events);
             before = λ k n there. absurd (none-some n (ap (λ xs. slice_get xs k) (sym before) ∙ there));
           };

@@ -1,6 +1,6 @@
 -- Deaths are justified: it holds at the start, and each event of a lawful history keeps it.
 use Rattle.std.proofs.Common.{◌≡◌, ℕ, ◌<◌, ◌≤◌, Bool, true, false, not, ◌&&◌, ◌==◌, List, [], ◌∷◌, ◌++◌, length, append-nil, append_assoc, refl, ap, sym, ◌∙◌, ⊎_elim, arith}
-use Rattle.std.specs.Prelude.{Option, None, Some, nat_le, nat_lt, cond, fold, find, filter, flat_map, if◌then◌else◌}
+use Rattle.std.specs.Prelude.{Option, None, Some, nat_le, nat_lt, cond, fold, find, filter, if◌then◌else◌}
 use Rattle.std.specs.List.{list_any, list_all, cons_option}
 use Rattle.std.proofs.lemmas.Bool.{and_parts, and_from, or_cases, eqb-true, true≢false, ltb-true, lt-ltb}
 use Rattle.std.proofs.lemmas.List.{length-append}
@@ -10,7 +10,6 @@ use Rattle.fol_base.specs.Subsumption.{is_among}
 use Rattle.kernel_steps.specs.declared.key.Key.{Key}
 use Rattle.kernel_steps.specs.declared.key.Key.TheVariants.{Replaced}
 use Rattle.kernel_steps.specs.declared.step.Line.{Line}
-use Rattle.kernel_steps.specs.declared.step.TheConstants.{CLAUSE_NUMBERS}
 use Rattle.calculus.specs.Lifting.{among}
 use Rattle.pool_core.specs.Record.{PoolRecord, Death, has_died, lives}
 use Rattle.pool_core.specs.Counting.{refutes, spends, counts, result_comes}

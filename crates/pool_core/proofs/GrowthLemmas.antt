@@ -39,7 +39,7 @@ grows-all r = record {
   deaths = ([], sym (append-nil r.deaths));
 }
 
-more-then : {X : Type 0} (xs ys zs : List X) → (more : (ws : List X) × (ys ≡ xs ++ ws)) → (further : (ws : List X) × (zs ≡ ys ++ ws)) → (ws : List X) × (zs ≡ xs ++ ws)
+pub more-then : {X : Type 0} (xs ys zs : List X) → (more : (ws : List X) × (ys ≡ xs ++ ws)) → (further : (ws : List X) × (zs ≡ ys ++ ws)) → (ws : List X) × (zs ≡ xs ++ ws)
 more-then xs ys zs more further =
     (more.0 ++ further.0, further.1 ∙ ap (λ ws. ws ++ further.0) more.1 ∙ append_assoc xs more.0 further.0)
 

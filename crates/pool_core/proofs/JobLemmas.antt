@@ -41,7 +41,7 @@ rising-map f same low high (j ∷ js) rise =
     (subst (λ n. low < n) (sym (same j)) rise.0, subst (λ n. Rising n high (map f js)) (sym (same j)) (rising-map f same j.job high js rise.1))
 
 -- no job has a number that isn't above
-none-removed : (job low high : ℕ) (js : List GivenJob) → job ≤ low → Rising low high js → without_job job js ≡ js
+pub none-removed : (job low high : ℕ) (js : List GivenJob) → job ≤ low → Rising low high js → without_job job js ≡ js
 none-removed job low high [] below rise = refl
 none-removed job low high (j ∷ js) below rise =
     by (j.job == job) (ne_eqb j.job job (λ e. absurd (omega (arith, e, below, rise.0))))

@@ -27,6 +27,7 @@ use Rattle.pool_core.specs.declared.batch.Work.TheVariants.{Gone, Met}
 use Rattle.pool_core.specs.declared.event.Event.{Event}
 use Rattle.pool_core.specs.declared.event.Event.TheVariants.{Claim, Return, Stale, Void, ClaimSolve, ReturnModel, ReturnRefuted, Abandon}
 use Rattle.pool_core.proofs.FrameLemmas.{by-if, inputs-register}
+use Rattle.pool_core.proofs.HistoryLemmas.{event-count}
 use Rattle.pool_core.proofs.DeathLemmas.{AreRight, Keeps, keeps-all, keeps-right, registers-keeps, counts-keeps, replaced-keeps, are_others, dies-right, known-more, all-weaker, units-others, subsumers-others, used-others, append-others, same-others}
 
 module _ (is_predicate : ℕ → Bool) (options : Options) where
@@ -177,21 +178,12 @@ module _ (is_predicate : ℕ → Bool) (options : Options) where
   history-right [] r lawful right = right
   history-right (e ∷ es) r lawful right = history-right es (after options r e) lawful.1 (after-right r e lawful.0 right)
 
-  events-counted : (history : List Event) (r : PoolRecord) → (fold (after options) r history).events ≡ r.events + length history
-  events-counted [] r = omega arith
-  events-counted (e ∷ es) r = omega (arith, events-counted es (after options r e))
-
 pub deaths_are_justified : DeathsAreJustified
 deaths_are_justified is_predicate origin history lawful =
     let begun = registers-keeps nothing_registered (start origin) (inputs-register origin.options.split 0 origin.inputs nothing_registered) in
     let at_start : AreRight (start origin).events (start origin) =
     keeps-right (start origin).events nothing_registered (start origin) begun (record { justified = refl; known = refl }) in
-    let right = history-right is_predicate origin.options history (start origin) lawful at_start in
-    let count : (replay origin history).events ≡ length history =
-    events-counted is_predicate origin.options history (start origin) ∙ ap (λ n. n + length history) begun.events ∙ zero-plus (length history) in (
+    let right = history-right is_predicate origin.options history (start origin) lawful at_start in (
       right.justified,
-      ap (λ n. list_all (is_known (length (replay origin history).registered) n) (replay origin history).deaths) (sym count) ∙ right.known,
+      ap (λ n. list_all (is_known (length (replay origin history).registered) n) (replay origin history).deaths) (sym (event-count origin history)) ∙ right.known,
     )
-  where
-    zero-plus : (n : ℕ) → 0 + n ≡ n
-    zero-plus n = omega arith

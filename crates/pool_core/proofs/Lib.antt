@@ -13,12 +13,26 @@ mod CountLemmas
 mod SpentLemmas
 mod DeathLemmas
 mod JustifiedLemmas
+-- OutcomeLemmas (outcomes stay), HeavyLemmas (what is set aside).
+mod OutcomeLemmas
+mod HeavyLemmas
 -- The pool: RegisterLemmas (the register), StartLemmas (the inputs), BegunLemmas (the new pool), LivingLemmas (what lives,
 -- and how it ends).
 mod RegisterLemmas
 mod StartLemmas
 mod BegunLemmas
 mod LivingLemmas
+-- Claims: EditLemmas (lists after one change), HistoryLemmas (one more event), StateLemmas (what an event keeps), PickLemmas (what is given next),
+-- ClaimLemmas (the pool after a claim), HandLemmas (clauses whose jobs are out), GiveUpLemmas (the pool after a job is given up).
+mod EditLemmas
+mod HistoryLemmas
+mod StateLemmas
+mod PickLemmas
+mod ClaimLemmas
+mod HandLemmas
+mod GiveUpLemmas
+-- MemberLemmas (what a pool hands out).
+mod MemberLemmas
 -- Worked examples.
 mod GoingExample
 mod MeetingExample

@@ -57,7 +57,7 @@ lives-there a r n s is there =
 
 -- ---- whether the pool is at rest
 
-nothing-to-solve : (a : Inside) (r : PoolRecord) → IsStateOf a r → must_solve r ≡ false
+pub nothing-to-solve : (a : Inside) (r : PoolRecord) → IsStateOf a r → must_solve r ≡ false
 nothing-to-solve a r is =
     ap (λ (cs : List PropositionalClause). nat_lt r.modelled (length cs) && is_none r.solver) is.no_propositional
     ∙ ap (λ b. b && is_none r.solver) (le-ltb r.modelled 0 (omega arith))
@@ -77,7 +77,7 @@ gives a r is =
     gives-some r (next_choice r) (ready r)
     ∙ ap (λ k. not (k == 0)) (sym (ready-count r (ready r)) ∙ ap length (sym is.queue))
 
-jobs-count : (a : Inside) (r : PoolRecord) → IsStateOf a r → jobs_out r ≡ length a.jobs.entries
+pub jobs-count : (a : Inside) (r : PoolRecord) → IsStateOf a r → jobs_out r ≡ length a.jobs.entries
 jobs-count a r is =
     ap (λ (o : Option SolverJob). length r.given + (if is_some o then 1 else 0)) is.no_solver
     ∙ plus-none (length r.given) ∙ sym (entries r.given) ∙ ap length (sym is.jobs)

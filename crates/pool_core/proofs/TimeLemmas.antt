@@ -13,8 +13,8 @@ use Rattle.pool_core.specs.Record.{PoolRecord, GivenJob, SolverJob, lives, waits
 use Rattle.pool_core.specs.Returning.{becomes_active, worked, returns_to, removed}
 use Rattle.pool_core.specs.Solving.{modelled_by, refuted_by}
 use Rattle.pool_core.specs.Claiming.{ready, picked, next_choice, next_given, given_out, claimed_by, new_job}
-use Rattle.pool_core.specs.Replay.{after, start, replay, retold}
-use Rattle.pool_core.specs.Lawful.{IsAllowed, IsLawfulFrom}
+use Rattle.pool_core.specs.Replay.{Origin, after, start, replay, retold}
+use Rattle.pool_core.specs.Lawful.{IsAllowed, IsLawfulFrom, IsLawful}
 use Rattle.pool_core.specs.Laws.{is_claim, is_abandon, ClaimedInTime}
 use Rattle.pool_core.specs.declared.options.Options.{Options}
 use Rattle.pool_core.specs.declared.batch.Batch.{Batch}
@@ -24,6 +24,7 @@ use Rattle.pool_core.specs.declared.event.Event.{Event}
 use Rattle.pool_core.specs.declared.event.Event.TheVariants.{Claim, Return, Stale, Void, ClaimSolve, ReturnModel, ReturnRefuted, Abandon}
 use Rattle.pool_core.proofs.FrameLemmas.{by-if, inputs-register}
 use Rattle.pool_core.proofs.GrowthLemmas.{Grows, grows-all, removed-grows, met-grows, registers-grows}
+use Rattle.pool_core.proofs.HistoryLemmas.{later_of, later-append, lawful-append}
 use Rattle.pool_core.proofs.JobLemmas.{Rising, rising-filter, rising-end, rising-map, rising-high}
 use Rattle.pool_core.proofs.CountedClaims.{passing, passing-bound, passing-some, passing-less, passing-fewer, first_of, first-passes}
 use Rattle.pool_core.proofs.WaitLemmas.{claimed-taken, claimed-claims, claimed-clauses, event-busy}
@@ -238,9 +239,6 @@ module _ (is_predicate : ℕ → Bool) (options : Options) where
 
   -- ---- a list of events
 
-  abbrev later_of : PoolRecord → List Event → PoolRecord
-  later_of r es = fold (after options) r es
-
   claims-count : (e : Event) (es : List Event) → length (filter is_claim (e ∷ es)) ≡ claims_of e + length (filter is_claim es)
   claims-count e es = by (is_claim e)
     where
@@ -252,10 +250,10 @@ module _ (is_predicate : ℕ → Bool) (options : Options) where
   all-falls :
       (n : ℕ) (es : List Event) (r : PoolRecord)
       → IsLawfulFrom is_predicate options r es → Rising 0 r.jobs r.given → n < length r.registered
-      → ((k : ℕ) → is_awake (later_of r (take k es)) n ≡ true) → list_any is_abandon es ≡ false
-      → waits (later_of r es) n ≡ true
+      → ((k : ℕ) → is_awake (later_of options r (take k es)) n ≡ true) → list_any is_abandon es ≡ false
+      → waits (later_of options r es) n ≡ true
       → (waits r n ≡ true)
-      × (length (filter is_claim es) + 6 * waiting (suc n) (later_of r es) + place r ≤ 6 * waiting (suc n) r + place (later_of r es))
+      × (length (filter is_claim es) + 6 * waiting (suc n) (later_of options r es) + place r ≤ 6 * waiting (suc n) r + place (later_of options r es))
   all-falls n [] r lawful rise there awake kept waiting_then = (waiting_then, omega arith)
   all-falls n (e ∷ es) r lawful rise there awake kept waiting_then =
       let moved = event-moves r e lawful.0 in
@@ -265,43 +263,35 @@ module _ (is_predicate : ℕ → Bool) (options : Options) where
       let was = event-busy is_predicate options 0 r.jobs n r e lawful.0 parts.0 rise there rest.0 in (
         was,
         falls-together (claims_of e) (length (filter is_claim es)) (length (filter is_claim (e ∷ es)))
-            (waiting (suc n) r) (waiting (suc n) (after options r e)) (waiting (suc n) (later_of r (e ∷ es)))
-            (place r) (place (after options r e)) (place (later_of r (e ∷ es)))
+            (waiting (suc n) r) (waiting (suc n) (after options r e)) (waiting (suc n) (later_of options r (e ∷ es)))
+            (place r) (place (after options r e)) (place (later_of options r (e ∷ es)))
             (claims-count e es) (event-falls n r e lawful.0 parts.0 rise there (awake 0) was) rest.1,
       )
 
-  all-move : (es : List Event) (r : PoolRecord) → IsLawfulFrom is_predicate options r es → Rising 0 r.jobs r.given → Rising 0 (later_of r es).jobs (later_of r es).given
+  all-move : (es : List Event) (r : PoolRecord) → IsLawfulFrom is_predicate options r es → Rising 0 r.jobs r.given → Rising 0 (later_of options r es).jobs (later_of options r es).given
   all-move [] r lawful rise = rise
   all-move (e ∷ es) r lawful rise = all-move es (after options r e) lawful.1 ((event-moves r e lawful.0).rising rise)
 
-  later-append : (es fs : List Event) (r : PoolRecord) → later_of r (es ++ fs) ≡ later_of (later_of r es) fs
-  later-append [] fs r = refl
-  later-append (e ∷ es) fs r = later-append es fs (after options r e)
-
-  lawful-append :
-      (es fs : List Event) (r : PoolRecord)
-      → IsLawfulFrom is_predicate options r (es ++ fs) → IsLawfulFrom is_predicate options r es × IsLawfulFrom is_predicate options (later_of r es) fs
-  lawful-append [] fs r lawful = (tt, lawful)
-  lawful-append (e ∷ es) fs r lawful =
-      let rest = lawful-append es fs (after options r e) lawful.1 in
-      ((lawful.0, rest.0), rest.1)
+-- the numbers of the jobs that are out rise
+pub jobs-rise : (is_predicate : ℕ → Bool) (origin : Origin) (es : List Event) → IsLawful is_predicate origin es → Rising 0 (replay origin es).jobs (replay origin es).given
+jobs-rise is_predicate origin es lawful =
+    let begun = registers-grows nothing_registered (start origin) (inputs-register origin.options.split 0 origin.inputs nothing_registered) in
+    all-move is_predicate origin.options es (start origin) lawful
+    (subst (λ k. Rising 0 k (start origin).given) (sym begun.jobs) (subst (λ js. Rising 0 0 js) (sym begun.given) (omega arith)))
 
 pub claimed_in_time : ClaimedInTime
 claimed_in_time is_predicate origin before later n lawful there stays kept many =
     let parts = lawful-append is_predicate origin.options before later (start origin) lawful in
-    let begun = registers-grows nothing_registered (start origin) (inputs-register origin.options.split 0 origin.inputs nothing_registered) in
-    let rise_then : Rising 0 (start origin).jobs (start origin).given =
-    subst (λ k. Rising 0 k (start origin).given) (sym begun.jobs) (subst (λ js. Rising 0 0 js) (sym begun.given) (omega arith)) in
-    let rise : Rising 0 r.jobs r.given = all-move is_predicate origin.options before (start origin) parts.0 rise_then in
+    let rise : Rising 0 r.jobs r.given = jobs-rise is_predicate origin before parts.0 in
     false_from_ne_true (waits (replay origin (before ++ later)) n) (λ waiting_then.
     let falls =
     all-falls is_predicate origin.options n later r parts.1 rise there awake kept
-    (ap (λ s. waits s n) (sym (later-append is_predicate origin.options before later (start origin))) ∙ waiting_then) in
+    (ap (λ s. waits s n) (sym (later-append origin.options before later (start origin))) ∙ waiting_then) in
     too-many n (length (filter is_claim later)) (passing (waits r) (suc n))
     (passing (waits (fold (after origin.options) r later)) (suc n)) r.claims (fold (after origin.options) r later).claims
     many (passing-bound (waits r) (suc n))
     (passing-some (waits (fold (after origin.options) r later)) (suc n) n (omega arith)
-    (ap (λ s. waits s n) (sym (later-append is_predicate origin.options before later (start origin))) ∙ waiting_then))
+    (ap (λ s. waits s n) (sym (later-append origin.options before later (start origin))) ∙ waiting_then))
     falls.1)
   where
     r : PoolRecord
@@ -310,5 +300,5 @@ claimed_in_time is_predicate origin before later n lawful there stays kept many 
     awake : (k : ℕ) → is_awake (fold (after origin.options) r (take k later)) n ≡ true
     awake k =
         let s : PoolRecord = replay origin (before ++ take k later) in
-        ap (λ s. is_awake s n) (sym (later-append is_predicate origin.options before (take k later) (start origin)))
+        ap (λ s. is_awake s n) (sym (later-append origin.options before (take k later) (start origin)))
         ∙ (and_parts (lives s n) (is_awake s n) (stays k)).1

@@ -1,6 +1,6 @@
 -- The answers of a pool to claims and returns, and what each adds to the history.
-use Rattle.std.specs.Prelude.{◌≡◌, ℕ, suc, ◌<◌, ◌==◌, List, [], ◌∷◌, ◌++◌, map, find, length, Option, None, Some, option_map, IsTrue, IsFalse}
-use Rattle.bank_clause.specs.Clause.{clause_at}
+use Rattle.std.specs.Prelude.{◌≡◌, ℕ, suc, ◌<◌, ◌==◌, List, [], ◌∷◌, ◌++◌, map, find, length, Option, None, Some, option_map, All, IsTrue, IsFalse}
+use Rattle.bank_clause.specs.Clause.{clause_at, IsClauseOf, IsMemberOf}
 use Rattle.sat_core.specs.declared.answer.Answer.{Answer}
 use Rattle.sat_core.specs.declared.answer.Answer.TheVariants.{Model, Refuted}
 use Rattle.pool_core.specs.Tags.{name_count}
@@ -16,6 +16,8 @@ use Rattle.pool_core.specs.declared.event.Event.TheVariants.{Claim, ClaimSolve, 
 use Rattle.pool_core.specs.declared.batch.Batch.{Batch}
 use Rattle.pool_core.specs.declared.batch.Work.{Work}
 use Rattle.pool_core.specs.declared.batch.Work.TheVariants.{Gone, Met}
+use Rattle.pool_core.specs.declared.ticket.Change.{Change}
+use Rattle.pool_core.specs.declared.ticket.Change.TheVariants.{Activated, Died}
 use Rattle.pool_core.specs.declared.ticket.Ticket.{Ticket}
 use Rattle.pool_core.specs.declared.ticket.PropTicket.{PropTicket}
 use Rattle.pool_core.specs.declared.ticket.Claimed.{Claimed}
@@ -42,6 +44,25 @@ pub record IsSolverTicket (r : PoolRecord) (ticket : PropTicket) : Type 0 where
   pub job : ticket.job ≡ suc r.jobs
   pub clauses : ticket.clauses ≡ propositional_clauses r
   pub names : ticket.names ≡ name_count r.parts
+
+-- ---- clauses of the bank
+
+-- a clause that a change tells is of the bank
+abbrev pub IsChangeOf : ℕ → Change → Type 0
+IsChangeOf bank (Activated member) = IsMemberOf bank member
+IsChangeOf bank (Died number) = Unit {0}
+
+-- all clauses that a ticket tells are
+pub record IsTicketOf (bank : ℕ) (ticket : Ticket) : Type 0 where
+  pub given : IsClauseOf bank ticket.clause
+  pub told : All (IsChangeOf bank) ticket.news
+
+-- those of an answer to a claim
+abbrev pub IsClaimedOf : ℕ → Claimed → Type 0
+IsClaimedOf bank (Given ticket) = IsTicketOf bank ticket
+IsClaimedOf bank (Solve ticket) = Unit {0}
+IsClaimedOf bank (Idle n) = Unit {0}
+IsClaimedOf bank (Ended outcome) = Unit {0}
 
 -- ---- claims
 

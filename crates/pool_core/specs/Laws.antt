@@ -1,11 +1,20 @@
 -- Laws of lawful histories, for every list of events.
-use Rattle.std.specs.Prelude.{◌≡◌, ℕ, ◌+◌, ◌*◌, ◌<◌, ◌≤◌, Bool, true, false, not, ◌&&◌, ◌==◌, nat_lt, List, [], ◌∷◌, ◌++◌, length, take, Some, filter, IsTrue, IsFalse}
+use Rattle.std.specs.Prelude.{◌≡◌, ℕ, ◌+◌, ◌*◌, ◌<◌, ◌≤◌, Bool, true, false, not, ◌&&◌, ◌==◌, nat_lt, List, [], ◌∷◌, ◌++◌, map, length, take, Some, filter, All, Contains, IsTrue, IsFalse}
 use Rattle.std.specs.List.{list_any, list_all}
-use Rattle.pool_core.specs.Record.{Death, has_died, lives, waits, is_awake}
+use Rattle.fol_base.specs.Clause.{TreeClause, clause_size}
+use Rattle.kernel_steps.specs.Sized.{IsSizedInference}
+use Rattle.kernel_steps.specs.declared.key.Key.{Key}
+use Rattle.literal_selection.specs.Mode.{mode_of}
+use Rattle.clause_queue.specs.Pick.{IsPick}
+use Rattle.pool_core.specs.Record.{PoolRecord, Death, clauses_of, clause_numbered, has_died, lives, waits, is_awake}
+use Rattle.pool_core.specs.Claiming.{ready, next_choice, next_given}
+use Rattle.pool_core.specs.Outcomes.{outcome_of}
 use Rattle.pool_core.specs.Replay.{Origin, replay}
 use Rattle.pool_core.specs.Lawful.{IsLawful}
+use Rattle.pool_core.specs.declared.options.Options.{Options}
 use Rattle.pool_core.specs.declared.event.Event.{Event}
 use Rattle.pool_core.specs.declared.event.Event.TheVariants.{Claim, Abandon}
+use Rattle.pool_core.specs.declared.outcome.Outcome.{Outcome}
 use Rattle.pool_core.specs.declared.outcome.Outcome.TheVariants.{Spent}
 
 -- ---- claims
@@ -28,6 +37,21 @@ ClaimedInTime =
     → IsFalse (list_any is_abandon later) → 6 * (n + 1) ≤ length (filter is_claim later)
     → IsFalse (waits (replay origin (before ++ later)) n)
 
+-- What is given next is what the queue's rule picks of the clauses that are ready.
+abbrev pub PicksAreChosen : Type 0
+PicksAreChosen =
+    (r : PoolRecord) (n : ℕ)
+    → next_given r ≡ Some n → IsPick (next_choice r) (map (λ k. (k, clause_size (clause_numbered r k))) (ready r)) n
+
+-- ---- outcomes
+
+-- Once an outcome stands it stays.
+abbrev pub OutcomesStay : Type 0
+OutcomesStay =
+    (is_predicate : ℕ → Bool) (origin : Origin) (history later : List Event) (outcome : Outcome)
+    → IsLawful is_predicate origin (history ++ later) → outcome_of (replay origin history) ≡ Some outcome
+    → outcome_of (replay origin (history ++ later)) ≡ Some outcome
+
 -- ---- the count
 
 -- Spent carries the length of the counted list, which has reached the limit: so for every list of events, lawful or not.
@@ -36,6 +60,20 @@ SpentIsTheCount =
     (origin : Origin) (history : List Event) (count : ℕ)
     → (replay origin history).ended ≡ Some (Spent count)
     → (count ≡ length (replay origin history).counted) × (origin.options.inferences ≤ count)
+
+-- ---- what is set aside
+
+-- the key names an inference of registered clauses that is heavy
+abbrev pub IsHeavyAmong : (ℕ → Bool) → Options → PoolRecord → Key → Type 0
+IsHeavyAmong is_predicate options r key = (c : TreeClause) × IsSizedInference is_predicate (mode_of options.select) (clauses_of r) key c true
+
+-- What was set aside was counted, and names a heavy inference.
+abbrev pub SetAsideAreHeavy : Type 0
+SetAsideAreHeavy =
+    (is_predicate : ℕ → Bool) (origin : Origin) (history : List Event)
+    → IsLawful is_predicate origin history
+    → let r = replay origin history in
+    All (λ key. Contains r.counted key × IsHeavyAmong is_predicate origin.options r key) r.set_aside
 
 -- ---- deaths
 

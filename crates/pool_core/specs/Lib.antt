@@ -13,6 +13,7 @@ pub mod Reduction
 pub mod Batches
 pub mod Lawful
 pub mod News
+pub mod Noted
 pub mod Answers
 pub mod Saturated
 pub mod Inputs

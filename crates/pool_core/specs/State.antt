@@ -1,23 +1,20 @@
 -- What a pool keeps: each field is what the replay of its history has.
-use Rattle.std.specs.Prelude.{◌≡◌, ℕ, ◌+◌, ◌≤◌, ◌%◌, ◌==◌, false, List, [], map, length, take, position, slice_get, None, Some, option_map, unwrap_or, vec_len, vec_capacity, All}
-use Rattle.fol_base.specs.Clause.{TreeClause, clause_size}
+use Rattle.std.specs.Prelude.{◌≡◌, ℕ, ◌+◌, ◌≤◌, ◌%◌, ◌==◌, false, [], map, length, take, position, slice_get, None, Some, vec_len, vec_capacity, All}
+use Rattle.fol_base.specs.Clause.{clause_size}
 use Rattle.fol_base.specs.Literal.{clause_of}
-use Rattle.kernel_steps.specs.Conclusion.{empty_clause}
 use Rattle.kernel_steps.specs.Split.{has_number}
 use Rattle.kernel_steps.specs.declared.step.Line.{Line}
-use Rattle.bank_clause.specs.Clause.{clause_at}
 use Rattle.pool_core.specs.View.{PoolView}
 use Rattle.pool_core.specs.Events.{events_of}
 use Rattle.pool_core.specs.Record.{PoolRecord, Registered, GivenJob, clause_numbered}
 use Rattle.pool_core.specs.Claiming.{ready}
 use Rattle.pool_core.specs.Replay.{Origin, start, replay}
-use Rattle.pool_core.specs.News.{TreeChange, activated, died, changes_from}
+use Rattle.pool_core.specs.News.{changes_from}
+use Rattle.pool_core.specs.Noted.{IsNoted, change_at}
 use Rattle.pool_core.specs.Answers.{death_of}
 use Rattle.pool_core.specs.Inputs.{AreInputs, IsLimit, IsHistoryOf}
 use Rattle.pool_core.specs.Started.{registered_at, IsOfTable}
 use Rattle.pool_core.specs.declared.register.Registration.{Registration}
-use Rattle.pool_core.specs.declared.pool.Note.{Note}
-use Rattle.pool_core.specs.declared.pool.Note.TheVariants.{Activated, Died}
 use Rattle.pool_core.specs.declared.pool.OutJob.{OutJob}
 use Rattle.pool_core.specs.declared.pool.Pool.TheInside.{Inside}
 
@@ -43,13 +40,6 @@ job_entry j = (j.job, record { number = j.number; left = j.left })
 abbrev pub pair_of : PoolRecord → ℕ → ℕ × ℕ
 pair_of r n = (n, clause_size (clause_numbered r n))
 
-abbrev pub clause_in : List Registration → ℕ → TreeClause
-clause_in ss n = unwrap_or (option_map (λ (s : Registration). clause_at s.clause) (slice_get ss n)) empty_clause
-
-abbrev pub change_at : List Registration → Note → TreeChange
-change_at ss (Activated n) = activated n (clause_in ss n)
-change_at ss (Died n) = died n
-
 -- ---- the whole
 
 -- the fields are those of the record
@@ -73,10 +63,12 @@ pub record IsStateOf (a : Inside) (r : PoolRecord) : Type 0 where
   -- there is room for what a job that is given up needs
   pub queue_room : length r.given ≤ a.queue.spare
   pub history_room : vec_len a.history.events + length r.given ≤ vec_capacity a.history.events
+  pub notes_room : vec_len a.notes_before + length r.given ≤ vec_capacity a.notes_before
 
 -- the activations and deaths of the history, with how many came before each event
 pub record HasNews (a : Inside) : Type 0 where
   pub all : map (change_at a.register) a.notes.items ≡ changes_from a.options (start (origin_of a)) (events_of a.history)
+  pub noted : All (IsNoted (length a.register)) a.notes.items
   pub count : length a.notes_before.items ≡ length (events_of a.history)
   pub before :
       (k n : ℕ) → slice_get a.notes_before.items k ≡ Some n

@@ -35,7 +35,9 @@ impl History {
     /// Makes room for so many more events, and leaves the events as they are.
     pub(crate) fn reserve(&mut self, more: usize) -> Mem<()>
         ensures events { events_of self.new ≡ events_of self.old }
+        ensures len { vec_len self.new.events ≡ vec_len self.old.events }
         ensures room { OnOk result (vec_len self.new.events + more ≤ vec_capacity self.new.events) }
+        ensures kept { vec_capacity self.old.events ≤ vec_capacity self.new.events }
     {
         self.events.reserve(more)?;
         Ok(())

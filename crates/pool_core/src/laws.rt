@@ -13,7 +13,10 @@ mod stale;
 pub use claiming::{answer_examples, claim_examples, given_up_examples};
 pub use components::{component_examples, line_name_examples};
 pub use counting::{after_spent_examples, heavy_examples, spent_examples};
-pub use histories::{claimed_in_time, deaths_are_justified, spent_is_the_count};
+pub use histories::{
+    claimed_in_time, deaths_are_justified, outcomes_stay, picks_are_chosen, set_aside_are_heavy,
+    spent_is_the_count,
+};
 pub use lawful::{lawful_examples, unlawful_examples};
 pub use resolving::{cut_unit, resolved_units};
 pub use rewriting::rewritten_unit;

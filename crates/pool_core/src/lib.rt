@@ -2,8 +2,11 @@
 #![tactic(auto)]
 
 mod batch;
+mod claiming;
 mod event;
+mod giving_up;
 mod history;
+mod members;
 mod options;
 mod outcome;
 mod pool;

@@ -48,30 +48,30 @@ pub enum Note {
 /// that it answers follows from these.
 #[derive(Drop)]
 pub struct Pool {
-    inputs: Snapshot<Clauses>,
-    options: Options,
-    table: Table,
-    register: Register,
+    pub(crate) inputs: Snapshot<Clauses>,
+    pub(crate) options: Options,
+    pub(crate) table: Table,
+    pub(crate) register: Register,
     /// The activated clauses, by their positions.
-    positions: Vec<u32>,
+    pub(crate) positions: Vec<u32>,
     /// The clauses that wait and are awake, with their sizes. It has room for those whose jobs are out.
-    queue: Queue,
+    pub(crate) queue: Queue,
     /// The jobs on given clauses that are out, by their numbers.
-    jobs: BTreeMap<u64, OutJob>,
+    pub(crate) jobs: BTreeMap<u64, OutJob>,
     /// It has room for an event of each job that is out.
-    history: History,
+    pub(crate) history: History,
     /// All activations and deaths, and for each event how many came before it.
-    notes: Vec<Note>,
-    notes_before: Vec<usize>,
+    pub(crate) notes: Vec<Note>,
+    pub(crate) notes_before: Vec<usize>,
     /// The steps of the lines.
-    steps: Vec<Step>,
-    counted: Keys,
-    set_aside: Keys,
+    pub(crate) steps: Vec<Step>,
+    pub(crate) counted: Keys,
+    pub(crate) set_aside: Keys,
     /// Refuted or spent.
-    ended: Option<Outcome>,
-    last_job: u64,
+    pub(crate) ended: Option<Outcome>,
+    pub(crate) last_job: u64,
     /// The place of the next given claim among six.
-    place: u64,
+    pub(crate) place: u64,
 }
 
 impl Model for Pool {

@@ -1,7 +1,8 @@
 // The registered clauses of a pool: by number, and the living ones by what they say.
 
-ghost use Rattle.std.specs.Prelude.{◌≡◌, ◌<◌, ◌^◌, ◌++◌, [], ◌∷◌, None, Some, false, length, position, slice_get, IfSome, OnOk, OnErr};
-ghost use Rattle.pool_core.specs.Register.{is_living_copy};
+ghost use Rattle.std.specs.Prelude.{◌≡◌, ◌<◌, ◌≤◌, ◌^◌, ◌++◌, [], ◌∷◌, None, Some, false, length, position, slice_get, slice_set, IfSome, OnOk, OnErr};
+ghost use Rattle.pool_core.specs.Register.{is_living_copy, at_position};
+ghost use Rattle.pool_core.specs.declared.register.Registration.{Registration};
 
 use bank_clause::BankClause;
 use indexmap::IndexMap;
@@ -40,11 +41,11 @@ impl Model for Register {
 
     ghost coded = { registrations_code };
 
-    ghost use Rattle.pool_core.specs.RegisterLiving.{FindsLiving};
+    ghost use Rattle.pool_core.specs.RegisterLiving.{IsRegister};
 
     ghost view = { λ a. a.registrations.items };
 
-    ghost invariant = { λ a. FindsLiving a.living a.registrations.items };
+    ghost invariant = { λ a. IsRegister a.living a.registrations.items };
 }
 
 impl Register {
@@ -60,7 +61,8 @@ impl Register {
 
     /// How many clauses were registered.
     pub(crate) fn len(&self) -> usize
-        ensures { result ≡ length self.now }
+        ensures len { result ≡ length self.now }
+        ensures few { result ≤ 2 ^ 32 }
     {
         self.registrations.len()
     }
@@ -100,5 +102,14 @@ impl Register {
             is_active: false,
         });
         Ok(())
+    }
+
+    /// Notes the position of a clause.
+    pub(crate) fn set_position(&mut self, number: usize, position: u32)
+        requires { number < length self.old }
+        ensures { (s : Registration) → slice_get self.old number ≡ Some s
+            → self.new ≡ slice_set self.old number (at_position position s) }
+    {
+        self.registrations[number].position = Some(position);
     }
 }

@@ -68,6 +68,9 @@ const FORMULAS: &[Row] = &[
     (b"fof(a,axiom,p~&q).", b"p ~& q"),
     (b"fof(a,axiom,p<~>(q<=r)).", b"p <~> (q <= r)"),
     (b"fof(a,axiom,p<=>q).", b"p <=> q"),
+    (b"fof(a,axiom,![X]:(p(X)=>q)).", b"! [X] : (p(X) => q)"),
+    (b"fof(a,axiom,~(p&q)).", b"~(p & q)"),
+    (b"fof(a,axiom,![X,Y]:~(X=Y)).", b"! [X,Y] : ~(X = Y)"),
     (b"fof(a,axiom,(((p)))).", b"p"),
     (b"fof(a,axiom,~~ ~p).", b"~~~p"),
     (b"fof(a,axiom,~a=b).", b"~(a = b)"),
@@ -82,16 +85,7 @@ const FORMULAS: &[Row] = &[
     (b"fof(a,axiom,p)./*x*/%", b"p"),
 ];
 
-#[test]
-fn reads_formulas(rt: HostRuntime) -> Result<(), Fail> {
-    assert_eq!(rt;
-        first_failure(rt.alloc(), FORMULAS, MOST_NESTING)?,
-        FORMULAS.len()
-    );
-    Ok(())
-}
-
-/// What can't be read of a formula, a role or a name, with its first place.
+/// What can't be read of a formula, a role or a name, and then of the first word and of arguments and variables, with its first place.
 const FAULTS: &[Row] = &[
     (b"fof(a,axiom,X).", b"FreeVariable@12"),
     (b"fof(a,axiom,(![X]:p(X))&q(X)).", b"FreeVariable@26"),
@@ -118,34 +112,12 @@ const FAULTS: &[Row] = &[
     (b"fof(1.5,axiom,p).", b"Syntax@4"),
     (b"fof(X,axiom,p).", b"Syntax@4"),
     (b"fof(a,axiom,[p] --> [q]).", b"Syntax@12"),
-];
-
-#[test]
-fn tells_faults(rt: HostRuntime) -> Result<(), Fail> {
-    assert_eq!(rt;
-        first_failure(rt.alloc(), FAULTS, MOST_NESTING)?,
-        FAULTS.len()
-    );
-    Ok(())
-}
-
-/// The same of the first word, the role, the arguments and the variables of a quantifier.
-const FAULTS_OF_PARTS: &[Row] = &[
     (b"'fof'(a,axiom,p).", b"Syntax@0"),
     (b"fof(a,'axiom',p).", b"Syntax@6"),
     (b"fof(a,axiom,p(a b)).", b"Syntax@16"),
     (b"fof(a,axiom,!X:p).", b"Syntax@13"),
     (b"fof(a,axiom,![X Y]:p).", b"Syntax@16"),
 ];
-
-#[test]
-fn tells_faults_of_parts(rt: HostRuntime) -> Result<(), Fail> {
-    assert_eq!(rt;
-        first_failure(rt.alloc(), FAULTS_OF_PARTS, MOST_NESTING)?,
-        FAULTS_OF_PARTS.len()
-    );
-    Ok(())
-}
 
 /// Clauses and notes.
 const CLAUSES: &[Row] = &[
@@ -173,11 +145,10 @@ const CLAUSES: &[Row] = &[
 ];
 
 #[test]
-fn reads_clauses_and_notes(rt: HostRuntime) -> Result<(), Fail> {
-    assert_eq!(rt;
-        first_failure(rt.alloc(), CLAUSES, MOST_NESTING)?,
-        CLAUSES.len()
-    );
+fn reads_entries(rt: HostRuntime) -> Result<(), Fail> {
+    for rows in [FORMULAS, FAULTS, CLAUSES] {
+        assert_eq!(rt; first_failure(rt.alloc(), rows, MOST_NESTING)?, rows.len());
+    }
     Ok(())
 }
 

@@ -127,12 +127,6 @@ const ONE_FILE: &[Alone] = &[
     ),
 ];
 
-#[test]
-fn reads_one_file(rt: HostRuntime) -> Result<(), Fail> {
-    assert_eq!(rt; first_failure_alone(rt.alloc(), ONE_FILE)?, ONE_FILE.len());
-    Ok(())
-}
-
 /// Where the tokens of an include can't go on, before anything is loaded.
 const INCLUDES: &[Alone] = &[
     (b"include('f.ax',*).", b"Syntax@a.p:15 "),
@@ -154,8 +148,10 @@ const INCLUDES: &[Alone] = &[
 ];
 
 #[test]
-fn refuses_includes(rt: HostRuntime) -> Result<(), Fail> {
-    assert_eq!(rt; first_failure_alone(rt.alloc(), INCLUDES)?, INCLUDES.len());
+fn reads_one_file(rt: HostRuntime) -> Result<(), Fail> {
+    for rows in [ONE_FILE, INCLUDES] {
+        assert_eq!(rt; first_failure_alone(rt.alloc(), rows)?, rows.len());
+    }
     Ok(())
 }
 
@@ -199,12 +195,6 @@ const NAMES: &[Row] = &[
         answer: b"Load@none.p:0 ",
     },
 ];
-
-#[test]
-fn names_included_files(rt: HostRuntime) -> Result<(), Fail> {
-    assert_eq!(rt; first_failure(rt.alloc(), NAMES)?, NAMES.len());
-    Ok(())
-}
 
 /// Which formulas a selection takes, and which names it misses.
 const SELECTIONS: &[Row] = &[
@@ -257,12 +247,6 @@ const SELECTIONS: &[Row] = &[
     },
 ];
 
-#[test]
-fn selects_formulas(rt: HostRuntime) -> Result<(), Fail> {
-    assert_eq!(rt; first_failure(rt.alloc(), SELECTIONS)?, SELECTIONS.len());
-    Ok(())
-}
-
 /// Which conjectures count.
 const CONJECTURES: &[Row] = &[
     Row {
@@ -308,12 +292,6 @@ const CONJECTURES: &[Row] = &[
     },
 ];
 
-#[test]
-fn counts_conjectures(rt: HostRuntime) -> Result<(), Fail> {
-    assert_eq!(rt; first_failure(rt.alloc(), CONJECTURES)?, CONJECTURES.len());
-    Ok(())
-}
-
 /// How deep includes may be nested.
 const DEPTHS: &[Row] = &[
     Row {
@@ -337,8 +315,10 @@ const DEPTHS: &[Row] = &[
 ];
 
 #[test]
-fn bounds_depth(rt: HostRuntime) -> Result<(), Fail> {
-    assert_eq!(rt; first_failure(rt.alloc(), DEPTHS)?, DEPTHS.len());
+fn reads_several_files(rt: HostRuntime) -> Result<(), Fail> {
+    for rows in [NAMES, SELECTIONS, CONJECTURES, DEPTHS] {
+        assert_eq!(rt; first_failure(rt.alloc(), rows)?, rows.len());
+    }
     Ok(())
 }
 

@@ -36,166 +36,94 @@ fn shown(alloc: Global, text: &[u8]) -> Mem<(Vec<u8>, Option<LexFault>)> {
 /// A text, what is shown of its tokens, and its fault.
 type Row = (&'static [u8], &'static [u8], Option<LexFault>);
 
-/// Whether each text has its tokens and its fault.
-fn pass(alloc: Global, rows: &[Row]) -> Mem<bool> {
-    for (text, wanted, fault) in rows {
+/// The index of the first row whose text has other tokens or another fault; the number of rows where there is none.
+fn first_failure(alloc: Global, rows: &[Row]) -> Mem<usize> {
+    for (index, (text, wanted, fault)) in rows.iter().enumerate() {
         let (all, found) = shown(alloc, text)?;
         if all.as_slice() != *wanted || found != *fault {
-            return Ok(false);
+            return Ok(index);
         }
     }
-    Ok(true)
+    Ok(rows.len())
 }
 
-#[test]
-fn tells_words_apart(rt: HostRuntime) -> Result<(), Fail> {
-    let rows = [
-        (b"p(X)".as_slice(), b"l:p m:( v:X m:) ".as_slice(), None),
-        (
-            b"p _".as_slice(),
-            b"l:p ".as_slice(),
-            Some(LexFault::BadByte(2)),
-        ),
-        (
-            b"'ab".as_slice(),
-            b"".as_slice(),
-            Some(LexFault::Unclosed(0)),
-        ),
-        (b"a_B9c Z".as_slice(), b"l:a_B9c v:Z ".as_slice(), None),
-        (b"$true$$x".as_slice(), b"s:$true s:$$x ".as_slice(), None),
-        (
-            b"a$ b".as_slice(),
-            b"l:a ".as_slice(),
-            Some(LexFault::BadByte(1)),
-        ),
-        (
-            b"$$X".as_slice(),
-            b"".as_slice(),
-            Some(LexFault::BadByte(0)),
-        ),
-        (
-            b"$$$a".as_slice(),
-            b"".as_slice(),
-            Some(LexFault::BadByte(0)),
-        ),
-        (
-            b"\x80".as_slice(),
-            b"".as_slice(),
-            Some(LexFault::BadByte(0)),
-        ),
-        (b"".as_slice(), b"".as_slice(), None),
-    ];
-    assert!(rt; pass(rt.alloc(), rows.as_slice())?);
-    Ok(())
-}
+/// Words of each kind.
+const WORDS: &[Row] = &[
+    (b"p(X)", b"l:p m:( v:X m:) ", None),
+    (b"p _", b"l:p ", Some(LexFault::BadByte(2))),
+    (b"'ab", b"", Some(LexFault::Unclosed(0))),
+    (b"a_B9c Z", b"l:a_B9c v:Z ", None),
+    (b"$true$$x", b"s:$true s:$$x ", None),
+    (b"a$ b", b"l:a ", Some(LexFault::BadByte(1))),
+    (b"$$X", b"", Some(LexFault::BadByte(0))),
+    (b"$$$a", b"", Some(LexFault::BadByte(0))),
+    (b"\x80", b"", Some(LexFault::BadByte(0))),
+    (b"", b"", None),
+];
+
+/// Quotes, and where they end.
+const QUOTES: &[Row] = &[
+    (b"'\\''b", b"q:'\\'' l:b ", None),
+    (b"'\\\\'", b"q:'\\\\' ", None),
+    (b"''", b"", Some(LexFault::BadByte(1))),
+    (b"\"\"", b"d:\"\" ", None),
+    (b"\"'\\\"\"", b"d:\"'\\\"\" ", None),
+    (b"'a\\b'", b"", Some(LexFault::BadByte(2))),
+    (b"'a\\", b"", Some(LexFault::Unclosed(0))),
+    (b"x 'a\nb'", b"l:x ", Some(LexFault::BadByte(4))),
+    (b"x \"a", b"l:x ", Some(LexFault::Unclosed(2))),
+    (b"'a b~'", b"q:'a b~' ", None),
+];
+
+/// Numbers end early where what follows is none of theirs.
+const NUMBERS: &[Row] = &[
+    (b"012 3", b"n:012 n:3 ", None),
+    (b"3.5e2", b"n:3.5e2 ", None),
+    (b"3.", b"n:3 m:. ", None),
+    (b"3.e2", b"n:3 m:. l:e2 ", None),
+    (b"3/4E-1", b"n:3/4E-1 ", None),
+    (b"3/x", b"n:3 o:/ l:x ", None),
+    (b"3E+", b"n:3 v:E o:+ ", None),
+    (b"3e", b"n:3 l:e ", None),
+    (b"1.2.3", b"n:1.2 m:. n:3 ", None),
+    (b"-1", b"o:- n:1 ", None),
+    (b"1/*2*/3", b"n:1 n:3 ", None),
+];
+
+/// The longest sign is taken.
+const SIGNS: &[Row] = &[
+    (b"!=!a=b", b"c:!= c:! l:a c:= l:b ", None),
+    (b"~|~&~~", b"c:~| c:~& c:~ c:~ ", None),
+    (b"<=><~><=<~<", b"c:<=> c:<~> c:<= o:< c:~ o:< ", None),
+    (b"=>=&|?", b"c:=> c:= c:& c:| c:? ", None),
+    (b"()[],.:{}", b"m:( m:) m:[ m:] m:, m:. m:: o:{ o:} ", None),
+    (
+        b"+-*/<>@^;#",
+        b"o:+ o:- o:* o:/ o:< o:> o:@ o:^ o:; o:# ",
+        None,
+    ),
+    (b"`", b"", Some(LexFault::BadByte(0))),
+];
+
+/// Comments and blanks are passed over.
+const COMMENTS: &[Row] = &[
+    (b"a%b\nc", b"l:a l:c ", None),
+    (b"a%b\rc", b"l:a ", None),
+    (b"a%", b"l:a ", None),
+    (b"a/**/b", b"l:a l:b ", None),
+    (b"a/*\xff'*/b", b"l:a l:b ", None),
+    (b"a/*/b", b"l:a ", Some(LexFault::Unclosed(1))),
+    (b"a/*/*/b", b"l:a l:b ", None),
+    (b"/***/a", b"l:a ", None),
+    (b"%/*\na", b"l:a ", None),
+    (b"\t\n\x0b\x0c\r a", b"l:a ", None),
+];
 
 #[test]
-fn ends_quotes_where_they_end(rt: HostRuntime) -> Result<(), Fail> {
-    let rows = [
-        (b"'\\''b".as_slice(), b"q:'\\'' l:b ".as_slice(), None),
-        (b"'\\\\'".as_slice(), b"q:'\\\\' ".as_slice(), None),
-        (b"''".as_slice(), b"".as_slice(), Some(LexFault::BadByte(1))),
-        (b"\"\"".as_slice(), b"d:\"\" ".as_slice(), None),
-        (b"\"'\\\"\"".as_slice(), b"d:\"'\\\"\" ".as_slice(), None),
-        (
-            b"'a\\b'".as_slice(),
-            b"".as_slice(),
-            Some(LexFault::BadByte(2)),
-        ),
-        (
-            b"'a\\".as_slice(),
-            b"".as_slice(),
-            Some(LexFault::Unclosed(0)),
-        ),
-        (
-            b"x 'a\nb'".as_slice(),
-            b"l:x ".as_slice(),
-            Some(LexFault::BadByte(4)),
-        ),
-        (
-            b"x \"a".as_slice(),
-            b"l:x ".as_slice(),
-            Some(LexFault::Unclosed(2)),
-        ),
-        (b"'a b~'".as_slice(), b"q:'a b~' ".as_slice(), None),
-    ];
-    assert!(rt; pass(rt.alloc(), rows.as_slice())?);
-    Ok(())
-}
-
-#[test]
-fn ends_numbers_early(rt: HostRuntime) -> Result<(), Fail> {
-    let rows = [
-        (b"012 3".as_slice(), b"n:012 n:3 ".as_slice(), None),
-        (b"3.5e2".as_slice(), b"n:3.5e2 ".as_slice(), None),
-        (b"3.".as_slice(), b"n:3 m:. ".as_slice(), None),
-        (b"3.e2".as_slice(), b"n:3 m:. l:e2 ".as_slice(), None),
-        (b"3/4E-1".as_slice(), b"n:3/4E-1 ".as_slice(), None),
-        (b"3/x".as_slice(), b"n:3 o:/ l:x ".as_slice(), None),
-        (b"3E+".as_slice(), b"n:3 v:E o:+ ".as_slice(), None),
-        (b"3e".as_slice(), b"n:3 l:e ".as_slice(), None),
-        (b"1.2.3".as_slice(), b"n:1.2 m:. n:3 ".as_slice(), None),
-        (b"-1".as_slice(), b"o:- n:1 ".as_slice(), None),
-        (b"1/*2*/3".as_slice(), b"n:1 n:3 ".as_slice(), None),
-    ];
-    assert!(rt; pass(rt.alloc(), rows.as_slice())?);
-    Ok(())
-}
-
-#[test]
-fn takes_the_longest_sign(rt: HostRuntime) -> Result<(), Fail> {
-    let rows = [
-        (
-            b"!=!a=b".as_slice(),
-            b"c:!= c:! l:a c:= l:b ".as_slice(),
-            None,
-        ),
-        (b"~|~&~~".as_slice(), b"c:~| c:~& c:~ c:~ ".as_slice(), None),
-        (
-            b"<=><~><=<~<".as_slice(),
-            b"c:<=> c:<~> c:<= o:< c:~ o:< ".as_slice(),
-            None,
-        ),
-        (
-            b"=>=&|?".as_slice(),
-            b"c:=> c:= c:& c:| c:? ".as_slice(),
-            None,
-        ),
-        (
-            b"()[],.:{}".as_slice(),
-            b"m:( m:) m:[ m:] m:, m:. m:: o:{ o:} ".as_slice(),
-            None,
-        ),
-        (
-            b"+-*/<>@^;#".as_slice(),
-            b"o:+ o:- o:* o:/ o:< o:> o:@ o:^ o:; o:# ".as_slice(),
-            None,
-        ),
-        (b"`".as_slice(), b"".as_slice(), Some(LexFault::BadByte(0))),
-    ];
-    assert!(rt; pass(rt.alloc(), rows.as_slice())?);
-    Ok(())
-}
-
-#[test]
-fn passes_over_comments(rt: HostRuntime) -> Result<(), Fail> {
-    let rows = [
-        (b"a%b\nc".as_slice(), b"l:a l:c ".as_slice(), None),
-        (b"a%b\rc".as_slice(), b"l:a ".as_slice(), None),
-        (b"a%".as_slice(), b"l:a ".as_slice(), None),
-        (b"a/**/b".as_slice(), b"l:a l:b ".as_slice(), None),
-        (b"a/*\xff'*/b".as_slice(), b"l:a l:b ".as_slice(), None),
-        (
-            b"a/*/b".as_slice(),
-            b"l:a ".as_slice(),
-            Some(LexFault::Unclosed(1)),
-        ),
-        (b"a/*/*/b".as_slice(), b"l:a l:b ".as_slice(), None),
-        (b"/***/a".as_slice(), b"l:a ".as_slice(), None),
-        (b"%/*\na".as_slice(), b"l:a ".as_slice(), None),
-        (b"\t\n\x0b\x0c\r a".as_slice(), b"l:a ".as_slice(), None),
-    ];
-    assert!(rt; pass(rt.alloc(), rows.as_slice())?);
+fn tells_tokens_apart(rt: HostRuntime) -> Result<(), Fail> {
+    for rows in [WORDS, QUOTES, NUMBERS, SIGNS, COMMENTS] {
+        assert_eq!(rt; first_failure(rt.alloc(), rows)?, rows.len());
+    }
     Ok(())
 }
 

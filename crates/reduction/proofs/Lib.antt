@@ -4,4 +4,4 @@ mod Examples
 mod VerdictLemmas
 mod LineLemmas
 mod SymbolLemmas
-mod ExtendingLemmas
+pub mod ExtendingLemmas

@@ -2,4 +2,6 @@
 #![tactic(auto)]
 
 #[cfg(test)]
-mod one_premise;
+mod conclusions;
+#[cfg(test)]
+mod sizes;

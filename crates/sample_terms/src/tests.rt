@@ -1,7 +1,7 @@
 // Each public call once.
 
 use super::*;
-use fol_base::{Term, same_literal, same_term};
+use fol_base::{Literal, Term, same_literal, same_term};
 use sample_numbers::Random;
 use std::test::Fail;
 
@@ -28,5 +28,23 @@ fn random_terms_have_their_sizes(rt: HostRuntime) -> Result<(), Fail> {
     let mut random = Random::new(1);
     assert_eq!(rt; random_term(alloc, &mut random, 9)?.size(), 9);
     assert_eq!(rt; random_terms(alloc, &mut random, 7)?.len(), 7);
+    Ok(())
+}
+
+#[test]
+fn clauses_are_read(rt: HostRuntime) -> Result<(), Fail> {
+    let alloc = rt.alloc();
+    let read = clause(alloc, "~b(X0,a) | f(X1) != $")?;
+    let literals = read.literals.as_slice();
+    assert_eq!(rt; literals.len(), 2);
+    let first = Literal {
+        positive: false,
+        ..atom(alloc, binary(alloc, 2, Term::Var(0), constant(alloc, 1))?)
+    };
+    assert!(rt; same_literal(literals[0].lend(), first.lend()));
+    assert!(rt; !literals[1].positive && literals[1].right.is_truth());
+    assert!(rt; same_term(&literals[1].left, &unary(alloc, 6, Term::Var(1))?));
+    assert_eq!(rt; clauses(alloc, "a = b;p | q; ")?.len(), 3);
+    assert!(rt; clauses(alloc, "")?.is_empty());
     Ok(())
 }

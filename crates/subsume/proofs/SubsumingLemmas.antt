@@ -1,13 +1,14 @@
 -- From what a search finds to subsumption.
-use Rattle.std.proofs.Common.{◌≡◌, ◌↔◌, ℕ, Bool, true, false, Option, None, Some, cond, List, [], ◌∷◌, ◌++◌, map, refl, ap, sym, ◌∙◌, subst}
+use Rattle.std.proofs.Common.{◌≡◌, ◌↔◌, ℕ, Bool, true, false, Option, None, Some, cond, List, [], ◌∷◌, ◌++◌, map, length, refl, ap, sym, ◌∙◌, subst}
 use Rattle.std.specs.Prelude.{IsTrue, IfSome, is_some}
 use Rattle.std.specs.List.{list_all}
 use Rattle.std.proofs.lemmas.Bool.{and_parts, and_from, true≢false, cond-true, cond-false}
 use Rattle.plain_types.specs.declared.sequence.NameLit.{NameLit}
 use Rattle.fol_base.specs.Tree.{Tree}
 use Rattle.fol_base.specs.Instance.{Substitution, substitution}
-use Rattle.fol_base.specs.Canonical.{terms_from}
-use Rattle.fol_base.specs.Clause.{TreeLiteral, TreeClause}
+use Rattle.fol_base.specs.Canonical.{bound_of, terms_from}
+use Rattle.fol_base.specs.Clause.{TreeLiteral, TreeClause, clause_variables}
+use Rattle.fol_base.proofs.CanonicalLemmas.{length-terms_from}
 use Rattle.fol_base.specs.Kind.{is_literal, PutsFunctionTerms}
 use Rattle.fol_base.specs.WellFormed.{SymbolUse, is_literal_of, are_literals_of}
 use Rattle.fol_base.specs.Subsumption.{assertions, all_different, Subsumes}
@@ -78,13 +79,14 @@ none_subsumes p c d wc wd h = λ s. h p wc wd s.matcher s.function_terms (from_s
 pub some_subsumes :
     (p : ℕ → Bool) (c d : TreeClause) (pairs : Pairs) (count : ℕ) (terms : List Tree)
     → IsFoundFor c.literals d.literals (MapsClause c d) (Some pairs) → AreFunctionPairs p pairs
-    → terms ≡ terms_from 0 count (by_pairs pairs) → HasPairs pairs (substitution terms)
+    → count ≡ bound_of (clause_variables c) → terms ≡ terms_from 0 count (by_pairs pairs) → HasPairs pairs (substitution terms)
     → IsSubsumption p c d (Some terms)
 unfolding to_subsumes
-some_subsumes p c d pairs count terms h functions e has = (
+some_subsumes p c d pairs count terms h functions many e has = (
   to_subsumes p c d (substitution terms)
       (subst (λ ts. PutsFunctionTerms p (substitution ts)) (sym e) (matchers_put_function_terms p pairs count functions).1) (h (substitution terms) has),
   refl,
+  ap length e ∙ length-terms_from 0 count (by_pairs pairs) ∙ many,
 )
 
 -- the same of equal lists

@@ -1,8 +1,9 @@
 -- What a search for a subsuming clause looks at, and what it answers.
-use Rattle.std.specs.Prelude.{◌≡◌, ℕ, Bool, List, map, Option, None, Some, IsTrue}
+use Rattle.std.specs.Prelude.{◌≡◌, ℕ, Bool, List, map, length, Option, None, Some, IsTrue}
 use Rattle.fol_base.specs.Tree.{Tree}
 use Rattle.fol_base.specs.Instance.{Substitution, substitution}
-use Rattle.fol_base.specs.Clause.{TreeLiteral, TreeClause}
+use Rattle.fol_base.specs.Clause.{TreeLiteral, TreeClause, clause_variables}
+use Rattle.fol_base.specs.Canonical.{bound_of}
 use Rattle.fol_base.specs.Lent.{lent_of}
 use Rattle.fol_base.specs.Subsumption.{assertions, is_among, all_different, stand_at, Subsumes}
 use Rattle.fol_base.specs.WellFormed.{SymbolUse, are_literals_of}
@@ -29,7 +30,9 @@ pub record AreOfUse (usage : SymbolUse) (c d : TreeClause) : Type 0 where
   pub first : IsTrue (are_literals_of usage c.literals)
   pub second : IsTrue (are_literals_of usage d.literals)
 
--- What `subsumes` answers: the terms of a substitution by which the first clause subsumes the second, or none where it doesn't.
+-- What `subsumes` answers: the terms of a substitution by which the first clause subsumes the second, one for each of its variables by
+-- number, or none where it doesn't.
 abbrev pub IsSubsumption : (ℕ → Bool) → TreeClause → TreeClause → Option (List Tree) → Type 0
 IsSubsumption is_predicate c d None = Subsumes is_predicate c d → ⊥
-IsSubsumption is_predicate c d (Some terms) = (s : Subsumes is_predicate c d) × (s.matcher ≡ substitution terms)
+IsSubsumption is_predicate c d (Some terms) =
+    (s : Subsumes is_predicate c d) × (s.matcher ≡ substitution terms) × (length terms ≡ bound_of (clause_variables c))

@@ -1,6 +1,6 @@
 // Putting members into a tree of features, and taking them out.
 
-ghost use Rattle.std.specs.Prelude.{◌≡◌, ◌∷◌, ◌++◌, [], ◌≤◌, ◌<◌, ℕ, IfOk, OnErr, IsTrue, IsPermutation, All, vec_len, vec_capacity, true, false};
+ghost use Rattle.std.specs.Prelude.{◌≡◌, ◌∷◌, ◌++◌, [], ◌≤◌, ◌<◌, ℕ, IfOk, IfSome, OnErr, IsTrue, IsPermutation, All, vec_len, vec_capacity, true, false};
 ghost use Rattle.bank_clause.specs.Clause.{clause_at};
 ghost use Rattle.subsume.specs.Features.{AreFeaturesOf};
 ghost use Rattle.subsume.specs.Tree.{IsDivision, IsEntry, IsSound, both_sides, content, members_of};
@@ -151,13 +151,16 @@ fn place_of(entries: &[Entry], number: u32) -> Option<usize>
     None
 }
 
-/// The entries as a leaf, or divided by the feature in which they differ most. They stay one leaf where memory is wanting.
+/// The entries as a leaf, or divided by the feature in which they differ most. They stay one leaf where they differ in none, and where
+/// memory is wanting.
 fn divided(alloc: Global, entries: Vec<Entry>) -> Node
     requires { All IsEntry entries.items }
     ensures sound { IsSound result }
     ensures members { IsPermutation (members_of entries.items) (content result).0 }
 {
-    let cut = widest(entries.as_slice());
+    let Some(cut) = widest(entries.as_slice()) else {
+        return Node::Leaf(entries);
+    };
     let count = entries.len();
     let mut low = match Vec::with_capacity(alloc, count) {
         Ok(low) => low,
@@ -231,15 +234,11 @@ fn share_out(entries: Vec<Entry>, cut: Cut, low: &mut Vec<Entry>, high: &mut Vec
     }
 }
 
-/// The cut in the middle of the measure in which entries differ most.
-fn widest(entries: &[Entry]) -> Cut
-    ensures { result.measure < MEASURES }
+/// The cut in the middle of the measure in which entries differ most. None where they differ in none.
+fn widest(entries: &[Entry]) -> Option<Cut>
+    ensures { IfSome result (λ cut. cut.measure < MEASURES) }
 {
-    let mut widest = Cut {
-        positive: true,
-        measure: 0,
-        most: 0,
-    };
+    let mut widest = None;
     let mut spread = 0;
     for measure in 0..MEASURES {
         for sign in 0..2 {
@@ -248,11 +247,11 @@ fn widest(entries: &[Entry]) -> Cut
             let wide = most.saturating_sub(least);
             if wide > spread {
                 spread = wide;
-                widest = Cut {
+                widest = Some(Cut {
                     positive,
                     measure,
                     most: least.saturating_add(wide / 2),
-                };
+                });
             }
         }
     }

@@ -17,6 +17,7 @@ mod tree;
 mod vector;
 
 pub use counting::features;
+pub use matching::{are_alike, match_sides};
 pub use searching::{backward, forward, forward_except};
 pub use subsumers::Subsumers;
 pub use subsuming::subsumes;

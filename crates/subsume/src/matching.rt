@@ -18,7 +18,7 @@ use unifier::{Matched, match_onto};
 
 /// Whether two literals have one sign and are of one kind: an atom has `$true` on its right side, an equation between function terms
 /// hasn't.
-pub(crate) fn are_alike(pattern: LiteralRef<'_>, target: LiteralRef<'_>) -> bool
+pub fn are_alike(pattern: LiteralRef<'_>, target: LiteralRef<'_>) -> bool
     ensures { result ≡ are_alike (lent_of pattern.entry) (lent_of target.entry) }
 {
     pattern.positive == target.positive && pattern.right.is_truth() == target.right.is_truth()
@@ -46,7 +46,7 @@ pub(crate) fn may_turn(pattern: LiteralRef<'_>, target: LiteralRef<'_>) -> bool
 
 /// The pairs handed in and those that turn each side of a literal into the same side of another one. None exactly where no substitution
 /// has all of them.
-pub(crate) fn match_sides<'a>(
+pub fn match_sides<'a>(
     alloc: Global,
     pattern: LiteralRef<'_>,
     target: LiteralRef<'a>,

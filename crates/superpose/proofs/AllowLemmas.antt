@@ -17,8 +17,8 @@ use Rattle.fol_base.proofs.TreeLemmas.{tree_eq-refl, tree_eq-true}
 use Rattle.literal_selection.proofs.EligibleLemmas.{eligible_lifts}
 use Rattle.kernel_steps.specs.Inference.{NamedSuperposition, other_side_not_above}
 use Rattle.eq_rules.proofs.SideLemmas.{not_above_by}
-use Rattle.superpose.specs.Superposing.{is_root, both_literals, others_coincide, sides_allow, allows}
-use Rattle.superpose.specs.declared.sites.LiteralSide.{LiteralSide}
+use Rattle.superpose.specs.Superposing.{is_root, one_literal, both_literals, others_coincide, starts_under, enters_under, allows}
+use Rattle.eq_rules.specs.declared.concluding.LiteralSide.{LiteralSide}
 use Rattle.superpose.specs.declared.sites.LiteralPlace.{LiteralPlace}
 
 -- ---- part by part
@@ -35,13 +35,19 @@ pub record Allowed
 module _
     (ls : List TreeLiteral) (s : LiteralSide) (ks : List TreeLiteral) (t : LiteralPlace) (choice : Option ℕ)
     (l m : TreeLiteral) (l_there : slice_get ls s.literal ≡ Some l) (m_there : slice_get ks t.at.literal ≡ Some m) where
-  abbrev Test : Substitution → Substitution → TreeLiteral → TreeLiteral → Bool
-  Test σ τ k n =
-      sides_allow s t σ τ k n
-      && (eligible (literals_instance σ ls) s.literal None true && eligible (literals_instance τ ks) t.at.literal choice n.positive)
+  abbrev Starts : Substitution → TreeLiteral → Bool
+  Starts σ k = other_side_not_above σ s.side k && eligible (literals_instance σ ls) s.literal None true
 
-  at_literals : (σ τ : Substitution) → allows ls s ks t choice σ τ ≡ Test σ τ l m
-  at_literals σ τ = ap₂ (both_literals (Test σ τ)) l_there m_there
+  abbrev Enters : Substitution → Substitution → TreeLiteral → TreeLiteral → Bool
+  Enters σ τ k n =
+      not (others_coincide s t σ τ k n)
+      && (other_side_not_above τ t.at.side n && eligible (literals_instance τ ks) t.at.literal choice n.positive)
+
+  starts_at : (σ : Substitution) → starts_under ls s σ ≡ Starts σ l
+  starts_at σ = ap (one_literal (Starts σ)) l_there
+
+  enters_at : (σ τ : Substitution) → enters_under ls s ks t choice σ τ ≡ Enters σ τ l m
+  enters_at σ τ = ap₂ (both_literals (Enters σ τ)) l_there m_there
 
   pub allows-parts : (σ τ : Substitution) → allows ls s ks t choice σ τ ≡ true → Allowed ls s ks t choice σ τ l m
   allows-parts σ τ h =
@@ -50,16 +56,16 @@ module _
       let d : Bool = others_coincide s t σ τ l m in
       let e : Bool = eligible (literals_instance σ ls) s.literal None true in
       let f : Bool = eligible (literals_instance τ ks) t.at.literal choice m.positive in
-      let all = and_parts (a && (b && not d)) (e && f) (sym (at_literals σ τ) ∙ h) in
-      let sides = and_parts a (b && not d) all.0 in
-      let rest = and_parts b (not d) sides.1 in
-      let both = and_parts e f all.1 in
+      let all = and_parts (starts_under ls s σ) (enters_under ls s ks t choice σ τ) h in
+      let starts = and_parts a e (sym (starts_at σ) ∙ all.0) in
+      let enters = and_parts (not d) (b && f) (sym (enters_at σ τ) ∙ all.1) in
+      let rest = and_parts b f enters.1 in
       record {
-        from_ordered = sides.0;
+        from_ordered = starts.0;
         into_ordered = rest.0;
-        differ = not-true d rest.1;
-        from_eligible = both.0;
-        into_eligible = both.1;
+        differ = not-true d enters.0;
+        from_eligible = starts.1;
+        into_eligible = rest.1;
       }
 
   pub allows-from : (σ τ : Substitution) → Allowed ls s ks t choice σ τ l m → allows ls s ks t choice σ τ ≡ true
@@ -69,10 +75,9 @@ module _
       let d : Bool = others_coincide s t σ τ l m in
       let e : Bool = eligible (literals_instance σ ls) s.literal None true in
       let f : Bool = eligible (literals_instance τ ks) t.at.literal choice m.positive in
-      at_literals σ τ
-      ∙ and_from (a && (b && not d)) (e && f)
-      (and_from a (b && not d) r.from_ordered (and_from b (not d) r.into_ordered (not_from_false d r.differ)))
-      (and_from e f r.from_eligible r.into_eligible)
+      and_from (starts_under ls s σ) (enters_under ls s ks t choice σ τ)
+      (starts_at σ ∙ and_from a e r.from_ordered r.from_eligible)
+      (enters_at σ τ ∙ and_from (not d) (b && f) (not_from_false d r.differ) (and_from b f r.into_ordered r.into_eligible))
 
 -- ---- the other sides at the root of a positive literal
 

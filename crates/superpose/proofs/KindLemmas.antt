@@ -14,7 +14,7 @@ use Rattle.kernel_steps.specs.Inference.{has_predicate_head}
 use Rattle.kernel_steps.specs.Inference as kernel
 use Rattle.eq_rules.proofs.SideLemmas.{Kinds, function-head, predicate-head}
 use Rattle.superpose.specs.Superposing.{is_root, are_alike}
-use Rattle.superpose.specs.declared.sites.LiteralSide.{LiteralSide}
+use Rattle.eq_rules.specs.declared.concluding.LiteralSide.{LiteralSide}
 use Rattle.superpose.specs.declared.sites.LiteralPlace.{LiteralPlace}
 
 -- a term is a predicate term exactly where the mark is there, and else a function term

@@ -1,3 +1,4 @@
+pub mod SettledLemmas
 pub mod ApartLemmas
 pub mod AllowLemmas
 pub mod KindLemmas

@@ -24,7 +24,7 @@ use Rattle.kernel_steps.proofs.LoopLemmas.{part_more}
 use Rattle.eq_rules.proofs.RenumberedLemmas.{variables_between, met_onward}
 use Rattle.eq_rules.proofs.StepLemmas.{exchanged-variables, others-variables}
 use Rattle.superpose.specs.Concluding.{instance_variables, superposed_at}
-use Rattle.superpose.specs.declared.sites.LiteralSide.{LiteralSide}
+use Rattle.eq_rules.specs.declared.concluding.LiteralSide.{LiteralSide}
 use Rattle.superpose.specs.declared.sites.LiteralPlace.{LiteralPlace}
 use Rattle.superpose.proofs.PlaceLemmas.{trees_variables-listed}
 

@@ -17,14 +17,14 @@ use Rattle.literal_selection.proofs.EligibleLemmas.{eligible_lifts}
 use Rattle.kernel_steps.specs.Inference.{NamedSuperposition, other_side_not_above}
 use Rattle.eq_rules.proofs.SideLemmas.{not_above_by}
 use Rattle.eq_rules.proofs.WideLemmas.{itself}
-use Rattle.superpose.specs.Sites.{all_sides, both_sides, places, places_from, below_path, is_usable, literal_starts, can_start, literal_enters, can_enter, start_sites, side_places, entered_places, enter_sites, AreSitesOf, SuperpositionsHaveSites}
+use Rattle.superpose.specs.Sites.{all_sides, both_sides, places, places_from, below_path, is_usable, literal_starts, can_start, literal_enters, can_enter, start_sites, side_places, entered_places, enter_sites, AreSitesOf, SitesDiffer, SuperpositionsHaveSites}
 use Rattle.superpose.specs.declared.sites.Sites.{Sites}
 use Rattle.literal_selection.specs.Mode.{mode_of}
 use Rattle.superpose.specs.Superposing.{StartsAt, EntersAt}
-use Rattle.superpose.specs.declared.sites.LiteralSide.{LiteralSide}
+use Rattle.eq_rules.specs.declared.concluding.LiteralSide.{LiteralSide}
 use Rattle.superpose.specs.declared.sites.LiteralPlace.{LiteralPlace}
 use Rattle.superpose.proofs.AllowLemmas.{named-allowed, into_unchosen, from_positive, from_no_truth, into_no_truth}
-use Rattle.superpose.proofs.ListLemmas.{In, In-left, In-right, In-either, In-map, In-mapped, In-flat_map, In-flat_mapped, In-filter, In-filtered, In-contained, Once, Once-append, Once-map, Once-filter, Once-flat_map}
+use Rattle.superpose.proofs.ListLemmas.{In, In-left, In-right, In-either, In-map, In-mapped, In-flat_map, In-flat_mapped, In-filter, In-filtered, In-contained, Once, Once-append, Once-map, Once-filter, Once-flat_map, Once-place}
 
 -- ---- sides
 
@@ -348,3 +348,9 @@ module _ (c : TreeClause) (sites : Sites) (are : AreSitesOf c sites) where
   enter_at k t h =
       enter_there (mode_of sites.mode) c.literals t
       (subst (λ (ts : List LiteralPlace). In t ts) are.into (item_in sites.into.items k t h))
+
+pub sites_differ : SitesDiffer
+sites_differ mode ls = (
+  (λ i j s at_i at_j. Once-place (start_sites mode ls) i j s (starts_once mode ls) at_i at_j),
+  (λ i j t at_i at_j. Once-place (enter_sites mode ls) i j t (enters_once mode ls) at_i at_j),
+)

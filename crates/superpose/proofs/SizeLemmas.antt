@@ -19,7 +19,7 @@ use Rattle.kernel_steps.specs.declared.step.Step.TheVariants as step
 use Rattle.bank_clause.specs.Clause.{clause_at}
 use Rattle.bank_clause.specs.declared.member.Member.{Member}
 use Rattle.unifier.specs.Bindings.{IsUnified}
-use Rattle.unifier.specs.Renaming.{AreRenamed}
+use Rattle.unifier.specs.Renaming.{AreNamedTerms}
 use Rattle.unifier.specs.Sizes.{stopped}
 use Rattle.unifier.specs.SolvedForm.{SolvedForm, substitution_of}
 use Rattle.eq_rules.specs.Inferences.{IsConcluded, IsMade}
@@ -31,7 +31,7 @@ use Rattle.eq_rules.proofs.SideLemmas.{Kinds}
 use Rattle.superpose.specs.Sites.{is_usable, can_start, can_enter, literal_starts, literal_enters}
 use Rattle.superpose.specs.Superposing.{para_key, IsSuperposition, AreSites, allows, are_alike, StartsAt, EntersAt, SuperposesBy}
 use Rattle.superpose.specs.Concluding.{IsSuperpositionStep, GivesNumbered}
-use Rattle.superpose.specs.declared.sites.LiteralSide.{LiteralSide}
+use Rattle.eq_rules.specs.declared.concluding.LiteralSide.{LiteralSide}
 use Rattle.superpose.specs.declared.sites.LiteralPlace.{LiteralPlace}
 use Rattle.superpose.proofs.KindLemmas.{alike-kinds}
 use Rattle.superpose.proofs.TermsLemmas.{left-size, right-size, plain, plain_size}
@@ -97,7 +97,7 @@ made_by_superposition p mode clauses number c s partner d t left right (Conclusi
 module _
     (m n : Member) (s : LiteralSide) (t : LiteralPlace) (b : SolvedForm) (r : SuperposesBy b (clause_at m.clause) s (clause_at n.clause) t)
     (left right : List Tree)
-    (h : AreRenamed b (bound_of (clause_variables (clause_at m.clause))) (bound_of (clause_variables (clause_at n.clause))) left right)
+    (h : AreNamedTerms b (bound_of (clause_variables (clause_at m.clause))) (bound_of (clause_variables (clause_at n.clause))) left right)
     (left_told right_told : ℕ)
     (left_is : left_told ≡ stopped (clause_size (clause_instance (substitution_of b Left) (clause_at m.clause))))
     (right_is : right_told ≡ stopped (clause_size (clause_instance (substitution_of b Right) (clause_at n.clause))))

@@ -20,7 +20,7 @@ use Rattle.eq_rules.proofs.RenumberedLemmas.{met_onward}
 use Rattle.eq_rules.proofs.StepLemmas.{some_there, renaming-no_truth}
 use Rattle.eq_rules.proofs.WideLemmas.{renamed-literals}
 use Rattle.superpose.specs.Concluding.{superposed_at, GivesNumbered}
-use Rattle.superpose.specs.declared.sites.LiteralSide.{LiteralSide}
+use Rattle.eq_rules.specs.declared.concluding.LiteralSide.{LiteralSide}
 use Rattle.superpose.specs.declared.sites.LiteralPlace.{LiteralPlace}
 use Rattle.superpose.proofs.PlaceLemmas.{trees_variables-listed}
 

@@ -35,7 +35,7 @@ use Rattle.kernel_steps.specs.Parents.{Parent}
 use Rattle.kernel_steps.specs.Symbols.{symbols_pass, literal_symbols_pass}
 use Rattle.kernel_steps.specs.declared.step.Step.TheVariants as step
 use Rattle.kernel_steps.proofs.SymbolLemmas.{side-passes}
-use Rattle.unifier.specs.Renaming.{AreRenamed}
+use Rattle.unifier.specs.Renaming.{AreNamedTerms}
 use Rattle.unifier.specs.SolvedForm.{SolvedForm, substitution_of}
 use Rattle.unifier.proofs.SharedLemmas.{shared_put_function_terms}
 use Rattle.kernel_steps.specs.Sized.{is_large, SizedSuperposition}
@@ -51,7 +51,7 @@ use Rattle.eq_rules.proofs.StepLemmas.{renaming-no_truth}
 use Rattle.eq_rules.proofs.WideLemmas.{Has, Has-front, Has-back, numbered, literals-below, renamed-literals, renamed-literals_size}
 use Rattle.superpose.specs.Superposing.{para_key, allows, are_alike, StartsAt, EntersAt, SuperposesBy}
 use Rattle.superpose.specs.Concluding.{superposed_at, GivesNumbered}
-use Rattle.superpose.specs.declared.sites.LiteralSide.{LiteralSide}
+use Rattle.eq_rules.specs.declared.concluding.LiteralSide.{LiteralSide}
 use Rattle.superpose.specs.declared.sites.LiteralPlace.{LiteralPlace}
 use Rattle.superpose.proofs.AllowLemmas.{Allowed, allows-parts, allows-from, allowed_lifts, coincide_says, named-allowed}
 use Rattle.superpose.proofs.ApartLemmas.{wide_by, left_fresh, right_fresh, wide_by-literals, wide_by-back, wide_apart}
@@ -137,7 +137,7 @@ module _
 
   module _
       (b : SolvedForm) (r : SuperposesBy b c s d t) (left right : List Tree)
-      (h : AreRenamed b (bound_of (clause_variables c)) (bound_of (clause_variables d)) left right) where
+      (h : AreNamedTerms b (bound_of (clause_variables c)) (bound_of (clause_variables d)) left right) where
     abbrev l : TreeLiteral
     l = r.starts.literal
 

@@ -20,14 +20,14 @@ use Rattle.fol_base.proofs.InstancePlaces.{subterms_of_instances}
 use Rattle.fol_base.proofs.RuleLemmas.{superposed_literal-from, superposed-from}
 use Rattle.fol_base.proofs.VariableLemmas.{ClauseVariablesBelow-bound}
 use Rattle.kernel_steps.proofs.BoundLemmas.{is_truth-application}
-use Rattle.unifier.specs.Renaming.{AreRenamed, renamed}
+use Rattle.unifier.specs.Renaming.{AreNamedTerms, renamed}
 use Rattle.unifier.specs.SolvedForm.{SolvedForm, substitution_of}
 use Rattle.unifier.proofs.SharedLemmas.{shared_unify_apart, shared_keep_sizes}
 use Rattle.eq_rules.proofs.PremiseLemmas.{clause-below, literal-below}
 use Rattle.eq_rules.proofs.SideLemmas.{side-below, sides-size}
 use Rattle.superpose.specs.Superposing.{SuperposesBy}
 use Rattle.superpose.specs.Concluding.{superposed_at}
-use Rattle.superpose.specs.declared.sites.LiteralSide.{LiteralSide}
+use Rattle.eq_rules.specs.declared.concluding.LiteralSide.{LiteralSide}
 use Rattle.superpose.specs.declared.sites.LiteralPlace.{LiteralPlace}
 use Rattle.superpose.proofs.ApartLemmas.{IsGeneralApart}
 use Rattle.superpose.proofs.PlaceLemmas.{replaced-there, replaced-size}
@@ -67,7 +67,7 @@ with_side-size Right new l =
 
 module _
     (c : TreeClause) (s : LiteralSide) (d : TreeClause) (t : LiteralPlace) (b : SolvedForm) (r : SuperposesBy b c s d t)
-    (left right : List Tree) (h : AreRenamed b (bound_of (clause_variables c)) (bound_of (clause_variables d)) left right) where
+    (left right : List Tree) (h : AreNamedTerms b (bound_of (clause_variables c)) (bound_of (clause_variables d)) left right) where
   abbrev l : TreeLiteral
   l = r.starts.literal
 

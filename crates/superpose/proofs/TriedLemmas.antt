@@ -1,9 +1,10 @@
 -- Lists of the inferences of names that were tried one after another.
-use Rattle.std.proofs.Common.{◌≡◌, ◌⊎◌, ℕ, zero, suc, ◌+◌, ◌<◌, Bool, true, false, ◌==◌, Option, None, Some, List, [], ◌∷◌, ◌++◌, length, take, get_or, append-nil, refl, ap, ap₂, sym, ◌∙◌, subst, inl, inr, ⊎_elim, arith}
+use Rattle.std.proofs.Common.{◌≡◌, ◌⊎◌, ℕ, zero, suc, ◌+◌, ◌<◌, ◌≤◌, Bool, true, false, ◌&&◌, ◌==◌, Option, None, Some, List, [], ◌∷◌, ◌++◌, length, take, get_or, append-nil, refl, ap, ap₂, sym, ◌∙◌, subst, inl, inr, ⊎_elim, arith}
 use Rattle.std.specs.Prelude.{flat_map, slice_get, All, Contains}
-use Rattle.std.proofs.lemmas.Bool.{true≢false, cases_Bool, cond-true, cond-false, eq-eqb, eqb-true, false_from_ne_true, not-true, not_from_false}
+use Rattle.std.proofs.lemmas.Bool.{true≢false, and_from, and_parts, cases_Bool, cond-true, cond-false, eq-eqb, eqb-true, false_from_ne_true, not-true, not_from_false}
 use Rattle.std.proofs.lemmas.Grind.{flat_map-append}
-use Rattle.std.proofs.lemmas.List.{append_assoc}
+use Rattle.std.proofs.lemmas.List.{append_assoc, length-take}
+use Rattle.std.proofs.Math.Seq.{take-append_seam, take-length}
 use Rattle.std.proofs.lemmas.List.Elements.{Contains-append_left, Contains-append_right, Contains-get_or}
 use Rattle.std.proofs.lemmas.Option.{same_Some, slice_get-get_or, get_or_from_slice_get}
 use Rattle.fol_base.specs.Clause.{TreeClause}
@@ -26,8 +27,8 @@ use Rattle.literal_selection.specs.Mode.{mode_of}
 use Rattle.superpose.specs.Sites.{start_sites, enter_sites, AreSitesOf}
 use Rattle.superpose.specs.declared.sites.Sites.{Sites}
 use Rattle.superpose.specs.Superposing.{para_key, IsSuperposition}
-use Rattle.superpose.specs.Pairing.{entry_of, AreTried, keys_from, keys_between, AddsTried, pair_keys, two, is_between, is_superposition}
-use Rattle.superpose.specs.declared.sites.LiteralSide.{LiteralSide}
+use Rattle.superpose.specs.Pairing.{entry_of, AreTried, keys_from, keys_between, AddsSuperpositions, AddsTried, Begins, pair_keys, two, is_between, is_from_into, is_superposition}
+use Rattle.eq_rules.specs.declared.concluding.LiteralSide.{LiteralSide}
 use Rattle.superpose.specs.declared.sites.LiteralPlace.{LiteralPlace}
 use Rattle.superpose.proofs.ListLemmas.{In, In-left, In-right, In-either, In-map, In-mapped, In-flat_map, In-flat_mapped, Once, Once-append, Once-map, Once-flat_map}
 use Rattle.superpose.proofs.SitesThere.{starts_once, enters_once, start_in, enter_in}
@@ -293,6 +294,69 @@ inference_key p mode clauses m n s t c there second_there it =
     key_in m.number n.number (start_sites mode (clause_at m.clause).literals) (enter_sites mode (clause_at n.clause).literals) s t
     (subst (λ (q : TreeClause). In s (start_sites mode q.literals)) first_same (start_in p mode it.first_clause s it.second_clause t c it.infers))
     (subst (λ (q : TreeClause). In t (enter_sites mode q.literals)) second_same (enter_in p mode it.first_clause s it.second_clause t c it.infers))
+
+-- ---- of one clause into another
+
+into_number : (a b first second : ℕ) → ((first == a) && (second == b)) ≡ true → (first ≡ a) × (second ≡ b)
+into_number a b first second h =
+    let both = and_parts (first == a) (second == b) h in (eqb-true first a both.0, eqb-true second b both.1)
+
+pub pair_all :
+    (mode : SelectionMode) (m n : Member) (before now : List Inference)
+    → AddsTried mode m n (pair_keys mode m n) before now → AddsSuperpositions mode m n before now
+pair_all mode m n before now h usage clauses used second_used there second_there =
+    let tried = h usage clauses used second_used there second_there in (
+      tried.0,
+      tried.1,
+      tried-all usage.is_predicate mode clauses (is_from_into m.number n.number) (pair_keys mode m n) tried.0
+          (keys_once m.number n.number (start_sites mode (clause_at m.clause).literals) (enter_sites mode (clause_at n.clause).literals)
+          (starts_once mode (clause_at m.clause).literals) (enters_once mode (clause_at n.clause).literals))
+          (λ key here.
+          let named =
+          key_of_pair m.number n.number (start_sites mode (clause_at m.clause).literals) (enter_sites mode (clause_at n.clause).literals) key here in
+          ap (is_from_into m.number n.number) named.2
+          ∙ and_from (m.number == m.number) (n.number == n.number) (eq-eqb m.number m.number refl) (eq-eqb n.number n.number refl))
+          back
+          tried.2,
+    )
+  where
+    back :
+        (key : Key) (c : TreeClause) → is_from_into m.number n.number key ≡ true → IsInference usage.is_predicate mode clauses key c
+        → In key (pair_keys mode m n)
+    back (Para first i s second j z place) c passes it =
+        let numbers = into_number m.number n.number first second passes in
+        let from : LiteralSide = record { literal = i; side = s } in
+        let into : LiteralPlace = record { at = record { literal = j; side = z }; place = place } in
+        let same : Para first i s second j z place ≡ para_key m.number from n.number into =
+        ap₂ (λ (a b : ℕ). para_key a from b into) numbers.0 numbers.1 in
+        subst (λ (key : Key). In key (pair_keys mode m n)) (sym same)
+        (inference_key usage.is_predicate mode clauses m n from into c there second_there
+        (subst (λ (key : Key). IsInference usage.is_predicate mode clauses key c) same it))
+    back (Refl q i) c passes it = absurd (true≢false (sym passes))
+    back (Factor q i s j z) c passes it = absurd (true≢false (sym passes))
+    back (Replaced q) c passes it = absurd (true≢false (sym passes))
+
+-- ---- what a list begins with
+
+pub begins-self : (xs : List Inference) → Begins xs xs
+begins-self xs = take-length xs
+
+pub begins-same : (xs ys : List Inference) → ys ≡ xs → Begins xs ys
+begins-same xs ys e = ap (take (length xs)) e ∙ take-length xs
+
+pub begins-pushed : (xs ys more : List Inference) → ys ≡ xs ++ more → Begins xs ys
+begins-pushed xs ys more e = ap (take (length xs)) e ∙ take-append_seam xs more
+
+pub begins-again : (xs ys zs : List Inference) → Begins xs ys → Begins ys zs → Begins xs zs
+begins-again xs ys zs h k =
+    let shorter : length xs ≤ length ys = omega (arith, sym (ap length h), length-take (length xs) ys) in
+    sym (take-take (length xs) (length ys) zs shorter) ∙ ap (take (length xs)) k ∙ h
+  where
+    take-take : (n m : ℕ) (us : List Inference) → n ≤ m → take n (take m us) ≡ take n us
+    take-take zero m us less = refl
+    take-take (suc n) zero us less = absurd (omega arith)
+    take-take (suc n) (suc m) [] less = refl
+    take-take (suc n) (suc m) (u ∷ us) less = ap (λ (vs : List Inference). u ∷ vs) (take-take n m us (omega arith))
 
 -- ---- within a clause, and between two
 

@@ -14,7 +14,7 @@ use Rattle.kernel_steps.specs.Names.{sorted_names}
 use Rattle.kernel_steps.specs.declared.step.Step.TheVariants as step
 use Rattle.eq_rules.specs.declared.inference.Made.{Made}
 use Rattle.eq_rules.specs.declared.inference.Made.TheVariants.{Conclusion, Heavy}
-use Rattle.superpose.specs.declared.sites.LiteralSide.{LiteralSide}
+use Rattle.eq_rules.specs.declared.concluding.LiteralSide.{LiteralSide}
 use Rattle.superpose.specs.declared.sites.LiteralPlace.{LiteralPlace}
 
 -- the variables of a term's instance

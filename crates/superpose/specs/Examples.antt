@@ -1,7 +1,7 @@
 -- Sides and places by their parts, for the worked examples.
 use Rattle.std.specs.Prelude.{ℕ, List}
 use Rattle.fol_base.specs.declared.clause.Side.{Side}
-use Rattle.superpose.specs.declared.sites.LiteralSide.{LiteralSide}
+use Rattle.eq_rules.specs.declared.concluding.LiteralSide.{LiteralSide}
 use Rattle.superpose.specs.declared.sites.LiteralPlace.{LiteralPlace}
 
 abbrev pub side_at : ℕ → Side → LiteralSide

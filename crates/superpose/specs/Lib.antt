@@ -1,3 +1,4 @@
+pub mod Settled
 pub mod Sites
 pub mod Superposing
 pub mod Concluding

@@ -1,5 +1,5 @@
 -- All superpositions of one clause into another.
-use Rattle.std.specs.Prelude.{◌≡◌, ℕ, Bool, true, false, not, ◌==◌, List, [], ◌∷◌, ◌++◌, map, flat_map, Option, None, Some, IsTrue, if◌then◌else◌}
+use Rattle.std.specs.Prelude.{◌≡◌, ℕ, Bool, true, false, not, ◌&&◌, ◌==◌, List, [], ◌∷◌, ◌++◌, length, take, map, flat_map, Option, None, Some, IsTrue, if◌then◌else◌}
 use Rattle.fol_base.specs.Clause.{TreeClause}
 use Rattle.fol_base.specs.Selection.{SelectionMode}
 use Rattle.fol_base.specs.WellFormed.{SymbolUse, are_literals_of}
@@ -13,7 +13,7 @@ use Rattle.eq_rules.specs.declared.inference.Made.{Made}
 use Rattle.eq_rules.specs.declared.inference.Inference.{Inference}
 use Rattle.superpose.specs.Sites.{start_sites, enter_sites}
 use Rattle.superpose.specs.Superposing.{para_key}
-use Rattle.superpose.specs.declared.sites.LiteralSide.{LiteralSide}
+use Rattle.eq_rules.specs.declared.concluding.LiteralSide.{LiteralSide}
 use Rattle.superpose.specs.declared.sites.LiteralPlace.{LiteralPlace}
 
 -- ---- names that are tried one after another
@@ -50,7 +50,24 @@ abbrev pub pair_keys : SelectionMode → Member → Member → List Key
 pair_keys mode m n =
     keys_between m.number (start_sites mode (clause_at m.clause).literals) n.number (enter_sites mode (clause_at n.clause).literals)
 
+-- the list begins with the one before
+abbrev pub Begins : List Inference → List Inference → Type 0
+Begins before now = take (length before) now ≡ before
+
 -- ---- lists of inferences
+
+-- superpositions of one clause into another, by their numbers
+abbrev pub is_from_into : ℕ → ℕ → Key → Bool
+is_from_into a b (Para first i s second j z place) = (first == a) && (second == b)
+is_from_into a b _ = false
+
+-- the list grew by exactly the superpositions of one clause into another, each once, wherever the two are looked up
+abbrev pub AddsSuperpositions : SelectionMode → Member → Member → List Inference → List Inference → Type 0
+AddsSuperpositions mode m n before now =
+    (usage : SymbolUse) (clauses : ℕ → Option TreeClause)
+    → IsTrue (are_literals_of usage (clause_at m.clause).literals) → IsTrue (are_literals_of usage (clause_at n.clause).literals)
+    → clauses m.number ≡ Some (clause_at m.clause) → clauses n.number ≡ Some (clause_at n.clause)
+    → (more : List Inference) × (now ≡ before ++ more) × AreInferences usage.is_predicate mode clauses (is_from_into m.number n.number) more
 
 -- the clauses of two members, by their numbers
 abbrev pub two : Member → Member → ℕ → Option TreeClause

@@ -11,7 +11,8 @@ use Rattle.fol_base.specs.declared.clause.Side.{Side}
 use Rattle.fol_base.specs.declared.clause.Side.TheVariants.{Left, Right}
 use Rattle.kernel_steps.specs.Inference.{NamedSuperposition, other_side_not_above}
 use Rattle.literal_selection.specs.Mode.{mode_of}
-use Rattle.superpose.specs.declared.sites.LiteralSide.{LiteralSide}
+use Rattle.eq_rules.specs.declared.concluding.LiteralSide.{LiteralSide}
+use Rattle.superpose.specs.Settled.{AreSettled}
 use Rattle.superpose.specs.declared.sites.LiteralPlace.{LiteralPlace}
 use Rattle.superpose.specs.declared.sites.Sites.{Sites}
 
@@ -80,11 +81,12 @@ entered_places mode ls s =
 abbrev pub enter_sites : SelectionMode → List TreeLiteral → List LiteralPlace
 enter_sites mode ls = flat_map (entered_places mode ls) (all_sides (length ls))
 
--- the sites of a clause for a mode, with its chosen literal
+-- the sites of a clause for a mode, with its chosen literal, and which sides are in order under every substitution
 pub record AreSitesOf (c : TreeClause) (sites : Sites) : Type 0 where
   pub choice : sites.choice ≡ chosen (mode_of sites.mode) c.literals
   pub from : sites.from.items ≡ start_sites (mode_of sites.mode) c.literals
   pub into : sites.into.items ≡ enter_sites (mode_of sites.mode) c.literals
+  pub settled : AreSettled c.literals sites.choice sites.settled.items
 
 -- ---- law
 
@@ -94,3 +96,10 @@ SuperpositionsHaveSites =
     (is_predicate : ℕ → Bool) (mode : SelectionMode) (first second : TreeClause) (s : LiteralSide) (t : LiteralPlace) (conclusion : TreeClause)
     → NamedSuperposition is_predicate mode first s.literal s.side second t.at.literal t.at.side t.place conclusion
     → Contains (start_sites mode first.literals) s × Contains (enter_sites mode second.literals) t
+
+-- No site stands twice: those of a clause have different names.
+abbrev pub SitesDiffer : Type 0
+SitesDiffer =
+    (mode : SelectionMode) (ls : List TreeLiteral)
+    → ((i j : ℕ) (s : LiteralSide) → slice_get (start_sites mode ls) i ≡ Some s → slice_get (start_sites mode ls) j ≡ Some s → i ≡ j)
+    × ((i j : ℕ) (t : LiteralPlace) → slice_get (enter_sites mode ls) i ≡ Some t → slice_get (enter_sites mode ls) j ≡ Some t → i ≡ j)

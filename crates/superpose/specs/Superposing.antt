@@ -21,7 +21,7 @@ use Rattle.unifier.specs.SolvedForm.{SolvedForm}
 use Rattle.eq_rules.specs.Trying.{IsTried}
 use Rattle.eq_rules.specs.declared.inference.Made.{Made}
 use Rattle.superpose.specs.Sites.{can_start, can_enter}
-use Rattle.superpose.specs.declared.sites.LiteralSide.{LiteralSide}
+use Rattle.eq_rules.specs.declared.concluding.LiteralSide.{LiteralSide}
 use Rattle.superpose.specs.declared.sites.LiteralPlace.{LiteralPlace}
 
 -- the name of the superposition from a side of one clause into a place of another
@@ -53,18 +53,28 @@ abbrev pub others_coincide : LiteralSide → LiteralPlace → Substitution → S
 others_coincide s t σ τ l m =
     (m.positive && is_root t.place) && tree_eq (instance σ (other_side_of s.side l)) (instance τ (other_side_of t.at.side m))
 
--- the other sides aren't above the chosen ones, nor one term at the root of a positive literal
-abbrev pub sides_allow : LiteralSide → LiteralPlace → Substitution → Substitution → TreeLiteral → TreeLiteral → Bool
-sides_allow s t σ τ l m =
-    other_side_not_above σ s.side l && (other_side_not_above τ t.at.side m && not (others_coincide s t σ τ l m))
+abbrev pub one_literal : (TreeLiteral → Bool) → Option TreeLiteral → Bool
+one_literal test None = false
+one_literal test (Some l) = test l
 
--- and the literals are eligible, each in its clause
-abbrev pub allows : List TreeLiteral → LiteralSide → List TreeLiteral → LiteralPlace → Option ℕ → Substitution → Substitution → Bool
-allows ls s ks t choice σ τ =
+-- the side from which it starts isn't below the other one, and its literal is strictly eligible
+abbrev pub starts_under : List TreeLiteral → LiteralSide → Substitution → Bool
+starts_under ls s σ =
+    one_literal
+    (λ l. other_side_not_above σ s.side l && eligible (literals_instance σ ls) s.literal None true)
+    (slice_get ls s.literal)
+
+-- the other sides don't become one term at the root of a positive literal, the side into which it goes isn't below the other one, and its
+-- literal is eligible
+abbrev pub enters_under : List TreeLiteral → LiteralSide → List TreeLiteral → LiteralPlace → Option ℕ → Substitution → Substitution → Bool
+enters_under ls s ks t choice σ τ =
     both_literals
-    (λ l m. sides_allow s t σ τ l m
-    && (eligible (literals_instance σ ls) s.literal None true && eligible (literals_instance τ ks) t.at.literal choice m.positive))
+    (λ l m. not (others_coincide s t σ τ l m)
+    && (other_side_not_above τ t.at.side m && eligible (literals_instance τ ks) t.at.literal choice m.positive))
     (slice_get ls s.literal) (slice_get ks t.at.literal)
+
+abbrev pub allows : List TreeLiteral → LiteralSide → List TreeLiteral → LiteralPlace → Option ℕ → Substitution → Substitution → Bool
+allows ls s ks t choice σ τ = starts_under ls s σ && enters_under ls s ks t choice σ τ
 
 -- ---- what is known on the way
 

@@ -12,9 +12,9 @@ ghost use Rattle.superpose.specs.Superposing.{EntersAt};
 ghost use Rattle.superpose.specs.Concluding.{IsSuperpositionStep, superposed_at};
 
 use crate::numbering::number_superposed;
-use crate::sites::{LiteralPlace, LiteralSide};
+use crate::sites::LiteralPlace;
 use bank_clause::{BankClause, Member};
-use eq_rules::{Made, Renumbering, renamed_terms};
+use eq_rules::{LiteralSide, Made, Renumbering, renamed_terms};
 use fol_base::{Clause, Terms};
 use kernel_steps::{Bound, Step, para, sorted_names};
 use plain_types::{Mem, NameLit, Names};

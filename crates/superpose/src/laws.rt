@@ -9,6 +9,7 @@ ghost use Rattle.kernel_steps.specs.Examples.{not_p};
 ghost use Rattle.kernel_steps.specs.declared.key.Key.TheVariants.{Para, Refl};
 ghost use Rattle.superpose.specs.Examples.{place_at, side_at};
 ghost use Rattle.superpose.specs.Sites.{
+  SitesDiffer,
   SuperpositionsHaveSites,
   all_sides,
   below_path,
@@ -20,11 +21,13 @@ ghost use Rattle.superpose.specs.Sites.{
   start_sites,
 };
 ghost use Rattle.superpose.specs.Superposing.{allows, are_alike, others_coincide, para_key};
-ghost use Rattle.superpose.specs.Pairing.{entry_of, is_between, is_superposition, keys_between};
+ghost use Rattle.superpose.specs.Pairing.{entry_of, is_between, is_from_into, is_superposition, keys_between};
 
-/// Each superposition starts from a site of the first clause and goes into one of the second: an index of the sites misses none.
+/// Each superposition starts from a site of the first clause and goes into one of the second: an index of the sites misses none. And no
+/// site stands twice, so the names of the superpositions from sites into sites differ.
 pub fn superpositions_have_sites()
-    ensures { SuperpositionsHaveSites }
+    ensures there { SuperpositionsHaveSites }
+    ensures differ { SitesDiffer }
 {}
 
 /// Sites of `p(a)`, of `~p(X0) | q(X0)`, of `f(a) = b` and of `f(X0) = g(X0)`, and the places of `f(X0,g(a))`.
@@ -63,6 +66,8 @@ pub fn name_examples()
     ensures within { IsFalse (is_between (Para 3 0 Right 3 1 Left (2 ∷ []))) }
     ensures superposition { IsTrue (is_superposition (Para 3 0 Right 3 1 Left (2 ∷ []))) }
     ensures resolution { IsFalse (is_superposition (Refl 3 0)) }
+    ensures from_into { IsTrue (is_from_into 3 5 (Para 3 0 Right 5 1 Left (2 ∷ []))) }
+    ensures the_other_way { IsFalse (is_from_into 5 3 (Para 3 0 Right 5 1 Left (2 ∷ []))) }
     ensures no_entry { entry_of (Refl 3 0) None ≡ [] }
     ensures keys { keys_between 3 (side_at 0 Left ∷ []) 5 (place_at 0 Left [] ∷ place_at 1 Right (2 ∷ []) ∷ [])
         ≡ Para 3 0 Left 5 0 Left [] ∷ Para 3 0 Left 5 1 Right (2 ∷ []) ∷ [] }

@@ -14,8 +14,8 @@ ghost use Rattle.fol_base.specs.Lent.{lent_of};
 ghost use Rattle.superpose.specs.Superposing.{EntersAt};
 ghost use Rattle.superpose.specs.Concluding.{instance_variables, superposed_at};
 
-use crate::sites::{LiteralPlace, LiteralSide};
-use eq_rules::{Renumbering, number_instance, number_literals};
+use crate::sites::LiteralPlace;
+use eq_rules::{LiteralSide, Renumbering, number_instance, number_literals};
 use fol_base::{LendsLiterals, LendsTerms, LiteralRef, Side, Term};
 use plain_types::Mem;
 

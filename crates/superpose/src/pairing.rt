@@ -1,14 +1,16 @@
 // All superpositions of one clause into another, or into a renamed copy of itself.
 
-ghost use Rattle.std.specs.Prelude.{◌≡◌, ◌≢◌, ◌<◌, ◌++◌, Some, length, slice_get, IfOk};
+ghost use Rattle.std.specs.Prelude.{◌≡◌, ◌≢◌, ◌<◌, ◌++◌, Some, length, slice_get, IfOk, OnErr};
 ghost use Rattle.literal_selection.specs.Mode.{mode_of};
 ghost use Rattle.bank_clause.specs.Clause.{clause_at, IsMemberOf};
 ghost use Rattle.eq_rules.specs.Inferences.{AreInferencesOf};
 ghost use Rattle.superpose.specs.Sites.{AreSitesOf};
 ghost use Rattle.superpose.specs.Superposing.{para_key};
 ghost use Rattle.superpose.specs.Pairing.{
+  AddsSuperpositions,
   AddsTried,
   AreInferencesBetween,
+  Begins,
   entry_of,
   is_between,
   is_superposition,
@@ -16,10 +18,10 @@ ghost use Rattle.superpose.specs.Pairing.{
   pair_keys,
 };
 
-use crate::sites::{LiteralPlace, LiteralSide, Premise, Sites};
+use crate::sites::{LiteralPlace, Premise, Sites};
 use crate::superposing::superposition;
 use bank_clause::Member;
-use eq_rules::{Inference, Inferences, Made};
+use eq_rules::{Inference, Inferences, LiteralSide, Made};
 use kernel_steps::Key;
 use literal_selection::Selection;
 use plain_types::Mem;
@@ -50,10 +52,10 @@ pub fn between(
         member: partner,
         sites: &partner_sites,
     };
-    let mut found = Inferences::new(alloc);
+    let mut found = Vec::new(alloc);
     superpositions(alloc, bank, &one, &other, &mut found)?;
     superpositions(alloc, bank, &other, &one, &mut found)?;
-    Ok(found)
+    Ok(Inferences::from_vec(found))
 }
 
 /// Every superposition of a clause into a renamed copy of itself, each once. Memory is also wanting where a clause under a unifier has
@@ -67,26 +69,56 @@ pub fn within(alloc: Global, bank: &Bank, given: &Member, mode: Selection) -> Me
         member: given,
         sites: &sites,
     };
-    let mut found = Inferences::new(alloc);
+    let mut found = Vec::new(alloc);
     superpositions(alloc, bank, &premise, &premise, &mut found)?;
-    Ok(found)
+    Ok(Inferences::from_vec(found))
 }
 
-/// Adds every superposition of the first clause into the second, each once.
+/// Adds every superposition of the first clause into the second, each once. After want of memory the list is as before.
 pub fn superpositions(
     alloc: Global,
     bank: &Bank,
     first: &Premise<'_>,
     second: &Premise<'_>,
-    found: &mut Inferences,
+    found: &mut Vec<Inference>,
 ) -> Mem<()>
     requires first_member { IsMemberOf bank.now first.now.member.now }
     requires first_sites { AreSitesOf (clause_at first.now.member.now.clause) first.now.sites.now }
     requires second_member { IsMemberOf bank.now second.now.member.now }
     requires second_sites { AreSitesOf (clause_at second.now.member.now.clause) second.now.sites.now }
     requires same_mode { first.now.sites.now.mode ≡ second.now.sites.now.mode }
-    ensures { IfOk result (λ _. AddsTried (mode_of first.now.sites.now.mode) first.now.member.now second.now.member.now
-        (pair_keys (mode_of first.now.sites.now.mode) first.now.member.now second.now.member.now) found.old found.new) }
+    ensures tried { IfOk result (λ _. AddsTried (mode_of first.now.sites.now.mode) first.now.member.now second.now.member.now
+        (pair_keys (mode_of first.now.sites.now.mode) first.now.member.now second.now.member.now) found.old.items found.new.items) }
+    ensures all { IfOk result (λ _. AddsSuperpositions (mode_of first.now.sites.now.mode)
+        first.now.member.now second.now.member.now found.old.items found.new.items) }
+    ensures err { OnErr result (found.new.items ≡ found.old.items) }
+{
+    let count = found.len();
+    match push_superpositions(alloc, bank, first, second, found) {
+        Ok(()) => Ok(()),
+        Err(refused) => {
+            found.truncate(count);
+            Err(refused)
+        }
+    }
+}
+
+/// Adds every superposition of the first clause into the second. After want of memory some may have been added.
+fn push_superpositions(
+    alloc: Global,
+    bank: &Bank,
+    first: &Premise<'_>,
+    second: &Premise<'_>,
+    found: &mut Vec<Inference>,
+) -> Mem<()>
+    requires first_member { IsMemberOf bank.now first.now.member.now }
+    requires first_sites { AreSitesOf (clause_at first.now.member.now.clause) first.now.sites.now }
+    requires second_member { IsMemberOf bank.now second.now.member.now }
+    requires second_sites { AreSitesOf (clause_at second.now.member.now.clause) second.now.sites.now }
+    requires same_mode { first.now.sites.now.mode ≡ second.now.sites.now.mode }
+    ensures tried { IfOk result (λ _. AddsTried (mode_of first.now.sites.now.mode) first.now.member.now second.now.member.now
+        (pair_keys (mode_of first.now.sites.now.mode) first.now.member.now second.now.member.now) found.old.items found.new.items) }
+    ensures begins { Begins found.old.items found.new.items }
 {
     for from in 0..first.sites.from.len() {
         superpositions_from(alloc, bank, first, from, second, found)?;
@@ -94,14 +126,14 @@ pub fn superpositions(
     Ok(())
 }
 
-/// Adds every superposition from one site of the first clause into the second.
+/// Adds every superposition from one site of the first clause into the second. After want of memory some may have been added.
 fn superpositions_from(
     alloc: Global,
     bank: &Bank,
     first: &Premise<'_>,
     from: usize,
     second: &Premise<'_>,
-    found: &mut Inferences,
+    found: &mut Vec<Inference>,
 ) -> Mem<()>
     requires first_member { IsMemberOf bank.now first.now.member.now }
     requires first_sites { AreSitesOf (clause_at first.now.member.now.clause) first.now.sites.now }
@@ -109,9 +141,10 @@ fn superpositions_from(
     requires second_sites { AreSitesOf (clause_at second.now.member.now.clause) second.now.sites.now }
     requires same_mode { first.now.sites.now.mode ≡ second.now.sites.now.mode }
     requires inside { from < length first.now.sites.now.from.items }
-    ensures { IfOk result (λ _. (s : LiteralSide) → slice_get first.now.sites.now.from.items from ≡ Some s
+    ensures tried { IfOk result (λ _. (s : LiteralSide) → slice_get first.now.sites.now.from.items from ≡ Some s
         → AddsTried (mode_of first.now.sites.now.mode) first.now.member.now second.now.member.now
-        (keys_from first.now.member.now.number s second.now.member.now.number second.now.sites.now.into.items) found.old found.new) }
+        (keys_from first.now.member.now.number s second.now.member.now.number second.now.sites.now.into.items) found.old.items found.new.items) }
+    ensures begins { Begins found.old.items found.new.items }
 {
     let start = first.sites.from[from];
     for into in 0..second.sites.into.len() {
@@ -130,7 +163,7 @@ fn superpositions_from(
     Ok(())
 }
 
-/// Adds the inference of a name, if there is one.
+/// Adds the inference of a name, if there is one. After want of memory the list is as before.
 fn push_made(
     alloc: Global,
     first: &Member,
@@ -138,10 +171,11 @@ fn push_made(
     second: &Member,
     into: &LiteralPlace,
     made: Option<Made>,
-    found: &mut Inferences,
+    found: &mut Vec<Inference>,
 ) -> Mem<()>
-    ensures { IfOk result (λ _.
-        found.new ≡ found.old ++ entry_of (para_key first.now.number from second.now.number into.now) made) }
+    ensures ok { IfOk result (λ _.
+        found.new.items ≡ found.old.items ++ entry_of (para_key first.now.number from second.now.number into.now) made) }
+    ensures err { OnErr result (found.new.items ≡ found.old.items) }
 {
     if let Some(result) = made {
         let key = para_key(alloc, first.number, from, second.number, into)?;
@@ -151,7 +185,7 @@ fn push_made(
 }
 
 /// The name of the superposition from a side of one clause into a place of another.
-fn para_key(
+pub fn para_key(
     alloc: Global,
     first: u32,
     from: LiteralSide,

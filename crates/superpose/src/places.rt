@@ -5,7 +5,8 @@ ghost use Rattle.fol_base.specs.Tree.{trees_of};
 ghost use Rattle.fol_base.specs.Term.{tree_of};
 ghost use Rattle.superpose.specs.Sites.{below_path, places, places_from};
 
-use crate::sites::{LiteralPlace, LiteralSide};
+use crate::sites::LiteralPlace;
+use eq_rules::LiteralSide;
 use fol_base::{Position, Term};
 use plain_types::Mem;
 use std::alloc::Global;

@@ -1,13 +1,13 @@
 // The sites of a clause, which are found once for a clause, whatever its partners: the sides from which superposition can start, and the
 // places into which it can go. They are what an index of clauses holds.
 
-ghost use Rattle.std.specs.Prelude.{◌≡◌, ◌<◌, ◌++◌, ◌&&◌, [], ◌∷◌, true, None, length, filter, slice_get, IfOk};
-ghost use Rattle.fol_base.specs.Clause.{literal_size, literal_instance};
+ghost use Rattle.std.specs.Prelude.{◌≡◌, ◌<◌, ◌++◌, ◌&&◌, [], ◌∷◌, true, List, None, length, filter, slice_get, IfOk};
+ghost use Rattle.fol_base.specs.Clause.{TreeLiteral, literal_size};
 ghost use Rattle.fol_base.specs.Lent.{lent_of};
 ghost use Rattle.fol_base.specs.Selection.{SelectionMode, chosen, eligible};
 ghost use Rattle.fol_base.specs.declared.clause.Side.TheVariants.{Left, Right};
-ghost use Rattle.kernel_steps.specs.Inference.{other_side_not_above};
 ghost use Rattle.bank_clause.specs.Clause.{clause_at, IsMemberOf};
+ghost use Rattle.superpose.specs.Settled.{AreSettled, IsSettled};
 ghost use Rattle.superpose.specs.Sites.{
   AreSitesOf,
   can_start,
@@ -20,20 +20,15 @@ ghost use Rattle.superpose.specs.Sites.{
 };
 
 use crate::places::push_places;
+use crate::settled::{SettledSides, settled_sides};
 use bank_clause::Member;
-use fol_base::{LendsLiterals, LendsTerms, LiteralRef, Position, Side, same_instance};
-use kbo_order::{COMPARED_SIZE_LIMIT, Unbound, greater_under};
+use eq_rules::{LiteralSide, is_not_below};
+use fol_base::{LendsLiterals, LiteralRef, Position, Side};
+use kbo_order::{COMPARED_SIZE_LIMIT, Unbound};
 use literal_selection::{Selection, eligible, selected};
 use plain_types::Mem;
 use std::alloc::Global;
 use term_bank::Bank;
-
-/// A side of a literal of a clause.
-#[derive(Clone, Copy)]
-pub struct LiteralSide {
-    pub literal: usize,
-    pub side: Side,
-}
 
 /// A place in a side of a literal of a clause.
 #[derive(Drop)]
@@ -55,6 +50,8 @@ pub struct Sites {
     /// The places into which it can go, where no variable stands, in sides of eligible literals that aren't below the other side. A term
     /// comes before its arguments.
     pub into: Vec<LiteralPlace>,
+    /// The sides of each literal that are in order under every substitution.
+    pub settled: Vec<SettledSides>,
 }
 
 /// A clause and its sites.
@@ -76,12 +73,26 @@ impl Sites {
         let choice = selected(&member.clause.lend(bank), mode);
         let from = start_sites(alloc, bank, member, choice)?;
         let into = enter_sites(alloc, bank, member, choice)?;
+        let settled = settled_sides(alloc, bank, member, choice)?;
         Ok(Sites {
             mode,
             choice,
             from,
             into,
+            settled,
         })
+    }
+
+    /// Whether a side is in order under every substitution.
+    pub(crate) fn is_settled(&self, at: LiteralSide) -> bool
+        requires { at.literal < length self.now.settled.items }
+        ensures { (ls : List TreeLiteral) → AreSettled ls self.now.choice self.now.settled.items → result ≡ true → IsSettled ls self.now.choice at }
+    {
+        let sides = self.settled[at.literal];
+        match at.side {
+            Side::Left => sides.left,
+            Side::Right => sides.right,
+        }
     }
 }
 
@@ -109,7 +120,7 @@ fn start_sites(
 }
 
 /// The left side of a literal.
-fn left_of(literal: usize) -> LiteralSide
+pub fn left_of(literal: usize) -> LiteralSide
     ensures { result ≡ record { literal = literal; side = Left } }
 {
     LiteralSide {
@@ -119,7 +130,7 @@ fn left_of(literal: usize) -> LiteralSide
 }
 
 /// The right side of a literal.
-fn right_of(literal: usize) -> LiteralSide
+pub fn right_of(literal: usize) -> LiteralSide
     ensures { result ≡ record { literal = literal; side = Right } }
 {
     LiteralSide {
@@ -220,14 +231,4 @@ fn is_usable(literal: LiteralRef<'_>, side: Side) -> bool
     ensures { result ≡ is_usable side (lent_of literal.entry) }
 {
     !literal.side(side).is_truth() && is_not_below(literal, side, &Unbound)
-}
-
-/// Whether the other side of a literal isn't greater than or equal to a side, under terms.
-pub fn is_not_below<S: LendsTerms>(literal: LiteralRef<'_>, side: Side, bind: &S) -> bool
-    requires { literal_size (literal_instance (S.meaning bind.now) (lent_of literal)) < COMPARED_SIZE_LIMIT }
-    ensures { result ≡ other_side_not_above (S.meaning bind.now) side (lent_of literal.entry) }
-{
-    let chosen = literal.side(side);
-    let other = literal.other_side(side);
-    !greater_under(other, bind, chosen, bind) && !same_instance(other, bind, chosen, bind)
 }

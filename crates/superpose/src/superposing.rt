@@ -1,15 +1,16 @@
 // Superposition from one site into another: the side of an equation is unified with the term at a place, and the order is asked under the
 // unifier before anything is built.
 
-ghost use Rattle.std.specs.Prelude.{◌≡◌, ◌<◌, Some, length, slice_get, sum_by, IfOk};
-ghost use Rattle.fol_base.specs.Instance.{substitution};
-ghost use Rattle.fol_base.specs.Clause.{literal_size};
+ghost use Rattle.std.specs.Prelude.{◌≡◌, ◌<◌, true, List, None, Some, length, slice_get, sum_by, IfOk};
+ghost use Rattle.fol_base.specs.Instance.{Substitution, substitution};
+ghost use Rattle.fol_base.specs.Clause.{TreeLiteral, literal_size};
 ghost use Rattle.fol_base.specs.Ground.{literals_instance};
 ghost use Rattle.fol_base.specs.Term.{tree_of};
 ghost use Rattle.fol_base.specs.Lent.{lent_of};
 ghost use Rattle.fol_base.specs.Selection.{SelectionMode};
 ghost use Rattle.literal_selection.specs.Mode.{mode_of};
 ghost use Rattle.bank_clause.specs.Clause.{clause_at, IsMemberOf};
+ghost use Rattle.superpose.specs.Settled.{AreSettled, IsSettled};
 ghost use Rattle.superpose.specs.Sites.{AreSitesOf};
 ghost use Rattle.superpose.specs.Superposing.{
   AreSites,
@@ -18,14 +19,16 @@ ghost use Rattle.superpose.specs.Superposing.{
   StartsAt,
   SuperposesBy,
   allows,
+  enters_under,
+  starts_under,
   others_coincide,
   are_alike,
 };
 
 use crate::concluding::conclude_superposition;
-use crate::sites::{LiteralPlace, LiteralSide, Premise, is_not_below};
+use crate::sites::{LiteralPlace, Premise, Sites};
 use bank_clause::BankLiterals;
-use eq_rules::Made;
+use eq_rules::{LiteralSide, Made, is_not_below};
 use fol_base::{
     LendsLiterals, LiteralRef, MOST_SYMBOLS, SIZE_LIMIT, Side, Term, Terms, at, instance_size,
     same_instance,
@@ -75,6 +78,8 @@ pub fn superposition_at(
 ) -> Mem<Option<Made>>
     requires first_member { IsMemberOf bank.now first.now.member.now }
     requires second_member { IsMemberOf bank.now second.now.member.now }
+    requires first_settled { AreSettled (clause_at first.now.member.now.clause).literals first.now.sites.now.choice first.now.sites.now.settled.items }
+    requires second_settled { AreSettled (clause_at second.now.member.now.clause).literals second.now.sites.now.choice second.now.sites.now.settled.items }
     requires starts { StartsAt (clause_at first.now.member.now.clause).literals from }
     requires enters { EntersAt (clause_at second.now.member.now.clause).literals into.now }
     ensures { IfOk result (λ made. (mode : SelectionMode)
@@ -112,7 +117,8 @@ fn are_alike(
     !old.is_truth() && is_atom == is_atom_here
 }
 
-/// What becomes of the superposition by a unifier of the side and the term at the place.
+/// What becomes of the superposition by a unifier of the side and the term at the place. Where the clauses alone tell that the order allows
+/// it, a clause that is too large isn't built.
 fn superposition_by(
     alloc: Global,
     bank: &Bank,
@@ -124,6 +130,8 @@ fn superposition_by(
 ) -> Mem<Option<Made>>
     requires first_member { IsMemberOf bank.now first.now.member.now }
     requires second_member { IsMemberOf bank.now second.now.member.now }
+    requires first_settled { AreSettled (clause_at first.now.member.now.clause).literals first.now.sites.now.choice first.now.sites.now.settled.items }
+    requires second_settled { AreSettled (clause_at second.now.member.now.clause).literals second.now.sites.now.choice second.now.sites.now.settled.items }
     requires unified { SuperposesBy unifier.now
         (clause_at first.now.member.now.clause) from (clause_at second.now.member.now.clause) into.now }
     ensures { IfOk result (λ made. (mode : SelectionMode)
@@ -134,27 +142,35 @@ fn superposition_by(
     let right = &second.member.clause;
     let left_size = unifier.instance_size(bank, Side::Left, left.literals())?;
     let right_size = unifier.instance_size(bank, Side::Right, right.literals())?;
+    let is_large = left_size.max(right_size) > MOST_SYMBOLS;
+    if is_large && are_settled(bank, first, from, second, into) {
+        return Ok(Some(Made::Heavy));
+    }
     if left_size >= SIZE_LIMIT || right_size >= SIZE_LIMIT {
         return Err(NoMemory);
     }
-    let (left_terms, right_terms) = unifier.substs(left.variable_bound(), right.variable_bound())?;
+    let left_terms = unifier.terms(Side::Left, left.variable_bound())?;
     let left_literals = left.lend(bank);
+    if !starts_under(first.sites, &left_literals, from, &left_terms) {
+        return Ok(None);
+    }
+    let right_terms = unifier.terms(Side::Right, right.variable_bound())?;
     let right_literals = right.lend(bank);
-    if !allows(
+    if !enters_under(
+        second.sites,
         &left_literals,
         from,
         &left_terms,
         &right_literals,
         into,
         &right_terms,
-        second.sites.choice,
     ) {
         return Ok(None);
     }
     let equation = left_literals.literal(from.literal);
     let gone = instance_size(equation.side(from.side), &left_terms);
     let made_size = left_size + right_size - 2 * gone;
-    if left_size.max(right_size).max(made_size) > MOST_SYMBOLS {
+    if is_large || made_size > MOST_SYMBOLS {
         return Ok(Some(Made::Heavy));
     }
     let made = conclude_superposition(
@@ -170,34 +186,92 @@ fn superposition_by(
     Ok(Some(made))
 }
 
-/// Whether the order allows the superposition under terms: the chosen sides aren't below the others, both literals are eligible, and at
-/// the root of a positive literal the other sides differ.
-fn allows(
+/// Whether the clauses alone tell that the order allows the superposition, whatever is put in: both sides are in order under every
+/// substitution, and the place isn't the root of a positive literal, where the other sides may become one term.
+fn are_settled(
+    bank: &Bank,
+    first: &Premise<'_>,
+    from: LiteralSide,
+    second: &Premise<'_>,
+    into: &LiteralPlace,
+) -> bool
+    requires first_member { IsMemberOf bank.now first.now.member.now }
+    requires second_member { IsMemberOf bank.now second.now.member.now }
+    requires first_settled { AreSettled (clause_at first.now.member.now.clause).literals first.now.sites.now.choice first.now.sites.now.settled.items }
+    requires second_settled { AreSettled (clause_at second.now.member.now.clause).literals second.now.sites.now.choice second.now.sites.now.settled.items }
+    requires from_inside { from.literal < length (clause_at first.now.member.now.clause).literals }
+    requires into_inside { into.now.at.literal < length (clause_at second.now.member.now.clause).literals }
+    ensures { result ≡ true → (σ τ : Substitution) → allows (clause_at first.now.member.now.clause).literals from
+        (clause_at second.now.member.now.clause).literals into.now second.now.sites.now.choice σ τ ≡ true }
+{
+    let targets = second.member.clause.lend(bank);
+    let target = targets.literal(into.at.literal);
+    !(target.positive && into.place.is_empty())
+        && starts_settled(first.sites, from)
+        && second.sites.is_settled(into.at)
+}
+
+/// Whether a side from which superposition can start is in order under every substitution.
+fn starts_settled(sites: &Sites, from: LiteralSide) -> bool
+    requires { from.literal < length sites.now.settled.items }
+    ensures { (ls : List TreeLiteral) → AreSettled ls sites.now.choice sites.now.settled.items → result ≡ true → IsSettled ls None from }
+{
+    sites.choice.is_none() && sites.is_settled(from)
+}
+
+/// Whether the order allows that superposition starts from a side, under terms: the side isn't below the other one, and its literal is
+/// strictly eligible.
+fn starts_under(
+    sites: &Sites,
+    literals: &BankLiterals<'_>,
+    from: LiteralSide,
+    terms: &Terms,
+) -> bool
+    requires settled { AreSettled literals.now sites.now.choice sites.now.settled.items }
+    requires inside { from.literal < length literals.now }
+    requires size { sum_by literal_size (literals_instance (substitution terms.now) literals.now) < COMPARED_SIZE_LIMIT }
+    ensures { result ≡ starts_under literals.now from (substitution terms.now) }
+{
+    if starts_settled(sites, from) {
+        return true;
+    }
+    let equation = literals.literal(from.literal);
+    is_not_below(equation, from.side, terms)
+        && eligible_under(literals, terms, from.literal, None, true)
+}
+
+/// Whether the order allows that superposition goes into a place, under terms: the other sides don't become one term at the root of a
+/// positive literal, the side isn't below the other one, and its literal is eligible.
+fn enters_under(
+    sites: &Sites,
     first: &BankLiterals<'_>,
     from: LiteralSide,
     first_terms: &Terms,
     second: &BankLiterals<'_>,
     into: &LiteralPlace,
     second_terms: &Terms,
-    choice: Option<usize>,
 ) -> bool
+    requires settled { AreSettled second.now sites.now.choice sites.now.settled.items }
     requires from_inside { from.literal < length first.now }
     requires into_inside { into.now.at.literal < length second.now }
-    requires first_size { sum_by literal_size (literals_instance (substitution first_terms.now) first.now) < COMPARED_SIZE_LIMIT }
-    requires second_size { sum_by literal_size (literals_instance (substitution second_terms.now) second.now) < COMPARED_SIZE_LIMIT }
-    ensures { result ≡ allows first.now from second.now into.now choice (substitution first_terms.now) (substitution second_terms.now) }
+    requires size { sum_by literal_size (literals_instance (substitution second_terms.now) second.now) < COMPARED_SIZE_LIMIT }
+    ensures { result ≡ enters_under first.now from second.now into.now sites.now.choice
+        (substitution first_terms.now) (substitution second_terms.now) }
 {
     let equation = first.literal(from.literal);
     let target = second.literal(into.at.literal);
-    is_not_below(equation, from.side, first_terms)
-        && is_not_below(target, into.at.side, second_terms)
-        && !others_coincide(equation, from, first_terms, target, into, second_terms)
-        && eligible_under(first, first_terms, from.literal, None, true)
+    if others_coincide(equation, from, first_terms, target, into, second_terms) {
+        return false;
+    }
+    if sites.is_settled(into.at) {
+        return true;
+    }
+    is_not_below(target, into.at.side, second_terms)
         && eligible_under(
             second,
             second_terms,
             into.at.literal,
-            choice,
+            sites.choice,
             target.positive,
         )
 }

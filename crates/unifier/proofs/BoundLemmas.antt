@@ -1,8 +1,8 @@
 -- Which variables `unify` binds: those of its terms alone.
-use Rattle.std.proofs.Common.{◌≡◌, ℕ, ◌+◌, ◌*◌, ◌/◌, ◌%◌, ◌<◌, ◌≤◌, max, Bool, true, false, ◌||◌, ◌==◌, cond, Option, None, Some, List, [], ◌∷◌, map, refl, ap, sym, ◌∙◌, subst, arith, eq-eqb}
-use Rattle.std.specs.Prelude.{MatchOption}
+use Rattle.std.proofs.Common.{◌≡◌, ℕ, ◌+◌, ◌*◌, ◌/◌, ◌%◌, ◌<◌, ◌≤◌, max, Bool, true, false, ◌||◌, ◌==◌, cond, Option, None, Some, List, [], ◌∷◌, map, refl, ap, sym, ◌∙◌, ⊎_elim, subst, arith, eq-eqb}
+use Rattle.std.specs.Prelude.{MatchOption, nat_lt}
 use Rattle.std.specs.List.{list_any, list_all}
-use Rattle.std.proofs.lemmas.Bool.{and_from, or_left, or_right, true≢false}
+use Rattle.std.proofs.lemmas.Bool.{and_from, and_parts, cases_Bool, cond-true, cond-false, or_left, or_right, true≢false}
 use Rattle.std.proofs.lemmas.List.Folds.{list_all-append, list_all-map}
 use Rattle.fol_base.specs.Tree.{Tree, variable, application, Trees, no_trees, tree_then, tree_variables, trees_variables, VariablesBelow, AllVariablesBelow}
 use Rattle.fol_base.specs.declared.clause.Side.TheVariants.{Left, Right}
@@ -15,10 +15,10 @@ use Rattle.unifier.specs.Layout.{all_pass}
 use Rattle.unifier.specs.declared.solution.Solution.{Solution}
 use Rattle.unifier.specs.Solution.{solved_form}
 use Rattle.unifier.specs.Bindings.{occurs, IsUnified, LeavesOthers, IsFound}
-use Rattle.unifier.specs.Renaming.{is_within, fits, CountsVariables, FitLeavesOthers, FitLeavesOthersApart}
+use Rattle.unifier.specs.Renaming.{is_within, fits, CountsVariables, FitLeavesOthers, FitLeavesOthersApart, FitsAbove}
 use Rattle.unifier.specs.Solving.{relocated, IsRelocated}
 use Rattle.plain_types.proofs.Parity.{even-half, odd-half}
-use Rattle.unifier.proofs.PlaceLemmas.{ltb-is, ltb-not}
+use Rattle.unifier.proofs.PlaceLemmas.{ltb-is, ltb-less, ltb-not}
 use Rattle.unifier.proofs.SolutionLemmas.{unbound}
 use Rattle.unifier.proofs.RenameLemmas.{code-within, within-left, within-right}
 
@@ -126,6 +126,31 @@ fit-leaves-others b l r is h v past =
       ap (λ a. joint b (code_of a Left v)) is ∙ free,
       ap (λ a. joint b (code_of a Right v)) is ∙ free,
     )
+
+-- counts above counts that fit
+all-weaker : (p q : ℕ → Bool) → ((w : ℕ) → p w ≡ true → q w ≡ true) → (ws : List ℕ) → list_all p ws ≡ true → list_all q ws ≡ true
+all-weaker p q h [] all = refl
+all-weaker p q h (w ∷ ws) all =
+    let both = and_parts (p w) (list_all p ws) all in and_from (q w) (list_all q ws) (h w both.0) (all-weaker p q h ws both.1)
+
+below-above : (w l m : ℕ) → l ≤ m → nat_lt w l ≡ true → nat_lt w m ≡ true
+below-above w l m more h = ltb-is w m (omega (arith, ltb-less w l h, more))
+
+within-above : (apart : Bool) (l r m n w : ℕ) → l ≤ m → r ≤ n → is_within apart l r w ≡ true → is_within apart m n w ≡ true
+within-above false l r m n w left right h = below-above w (max l r) (max m n) (omega (arith, left, right)) h
+within-above true l r m n w left right h =
+    ⊎_elim
+    (λ even.
+    cond-true (w % 2 == 0) (nat_lt (w / 2) m) (nat_lt (w / 2) n) even
+    ∙ below-above (w / 2) l m left (sym (cond-true (w % 2 == 0) (nat_lt (w / 2) l) (nat_lt (w / 2) r) even) ∙ h))
+    (λ odd.
+    cond-false (w % 2 == 0) (nat_lt (w / 2) m) (nat_lt (w / 2) n) odd
+    ∙ below-above (w / 2) r n right (sym (cond-false (w % 2 == 0) (nat_lt (w / 2) l) (nat_lt (w / 2) r) odd) ∙ h))
+    (cases_Bool (w % 2 == 0))
+
+pub fits-above : FitsAbove
+fits-above b l r m n left right h =
+    all-weaker (is_within b.apart l r) (is_within b.apart m n) (λ w k. within-above b.apart l r m n w left right k) (variables_of b.pairs) h
 
 -- ---- variables that stand in neither term
 

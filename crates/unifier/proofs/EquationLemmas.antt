@@ -1,5 +1,5 @@
 -- Equations, as one is added.
-use Rattle.std.proofs.Common.{◌≡◌, ℕ, ◌==◌, suc, ◌+◌, min, Bool, true, false, ◌<◌, arith, drop, drop-cons, get_or, Option, None, Some, List, [], ◌∷◌, ◌++◌, length, take, refl, ap, sym, ◌∙◌, subst, ⊎_elim, eq-eqb}
+use Rattle.std.proofs.Common.{◌≡◌, ℕ, ◌==◌, suc, ◌+◌, min, ◌<◌, arith, drop, drop-cons, get_or, None, Some, List, [], ◌∷◌, ◌++◌, length, take, ap, sym, ◌∙◌, subst, ⊎_elim, eq-eqb}
 use Rattle.std.proofs.lemmas.Bool.{cond-true, cond-false, cases_Bool, eqb-true, true≢false}
 use Rattle.std.proofs.lemmas.List.{take_more_set}
 use Rattle.std.proofs.Math.ListN.{set}

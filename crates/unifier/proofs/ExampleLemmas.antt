@@ -1,5 +1,5 @@
 -- The examples of matchers and unifiers.
-use Rattle.std.proofs.Common.{◌≡◌, ℕ, zero, suc, ◌+◌, ◌*◌, ◌<◌, true, false, Some, None, List, [], ◌∷◌, refl, ap, ap₂, sym, ◌∙◌, subst, arith}
+use Rattle.std.proofs.Common.{◌≡◌, ℕ, zero, suc, ◌+◌, ◌*◌, ◌<◌, true, false, Some, None, [], ◌∷◌, refl, ap, sym, ◌∙◌, arith}
 use Rattle.std.proofs.lemmas.Bool.{true≢false}
 use Rattle.fol_base.specs.Tree.{Tree, variable, application, tree_size, VariablesBelow}
 use Rattle.fol_base.specs.Instance.{Substitution, instance, substitution}
@@ -101,13 +101,15 @@ are_renamed =
     let left : ℕ → Tree = substitution_of example Left in
     let right : ℕ → Tree = substitution_of example Right in
     record {
-      names = same;
-      back = same;
+      named = record {
+        names = same;
+        back = same;
+        left_terms = refl;
+        right_terms = refl;
+        left_back = first-alone (λ v. renamed same (renamed same (left v)) ≡ left v) refl;
+        right_back = first-alone (λ v. renamed same (renamed same (right v)) ≡ right v) refl;
+      };
       count = 0;
-      left_terms = refl;
-      right_terms = refl;
-      left_back = first-alone (λ v. renamed same (renamed same (left v)) ≡ left v) refl;
-      right_back = first-alone (λ v. renamed same (renamed same (right v)) ≡ right v) refl;
       left_below = first-alone (λ v. VariablesBelow 0 (renamed same (left v))) tt;
       right_below = first-alone (λ v. VariablesBelow 0 (renamed same (right v))) tt;
       no_gaps = λ k less. absurd (omega arith);

@@ -1,5 +1,5 @@
 -- What the way by equations finds is a most general unifier.
-use Rattle.std.proofs.Common.{◌≡◌, ℕ, ◌+◌, ◌*◌, ◌<◌, ◌≤◌, Bool, true, false, ◌&&◌, Option, None, Some, List, [], ◌∷◌, ◌++◌, length, map, refl, ap, sym, ◌∙◌, subst, arith}
+use Rattle.std.proofs.Common.{◌≡◌, ℕ, ◌+◌, ◌*◌, ◌<◌, ◌≤◌, Bool, true, false, Option, None, Some, List, [], ◌∷◌, length, map, refl, ap, sym, ◌∙◌, subst, arith}
 use Rattle.std.specs.Prelude.{is_some}
 use Rattle.std.specs.List.{list_all}
 use Rattle.std.proofs.lemmas.Bool.{and_parts, and_from}
@@ -8,15 +8,13 @@ use Rattle.fol_base.specs.Tree.{Tree, variable, tree_variables}
 use Rattle.fol_base.specs.Instance.{Substitution, instance}
 use Rattle.fol_base.specs.Unifier.{IsUnifierApart, IsMostGeneralUnifier, IsMostGeneralUnifierApart}
 use Rattle.fol_base.specs.declared.clause.Side.TheVariants.{Left, Right}
-use Rattle.unifier.specs.declared.cells.Cell.{Cell}
 use Rattle.unifier.specs.declared.layout.Place.{Place}
 use Rattle.unifier.specs.declared.layout.Layout.{Layout}
 use Rattle.unifier.specs.declared.equation.Equations.{Equations}
 use Rattle.unifier.specs.declared.agreeing.Walked.TheVariants.{Agreed, Clashed}
-use Rattle.unifier.specs.Cells.{Value, tree, as_tree, cell_at, is_list, IsValuation}
+use Rattle.unifier.specs.Cells.{Value, tree, as_tree, IsValuation}
 use Rattle.unifier.specs.InOrder.{InOrder}
 use Rattle.unifier.specs.SolvedForm.{SolvedForm, code_of, codes_of, of_side, joint}
-use Rattle.unifier.specs.Matching.{variables_of}
 use Rattle.unifier.specs.Layout.{cell_of, has_place, HavePlaces, all_pass}
 use Rattle.unifier.specs.Solution.{value_at, bound, pair_at}
 use Rattle.unifier.specs.Bindings.{IsUnified, IsFound}

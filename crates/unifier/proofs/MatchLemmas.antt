@@ -1,9 +1,9 @@
 -- The walk finds exactly the matchers that have the pairs handed in.
-use Rattle.std.proofs.Common.{◌≡◌, ◌↔◌, ℕ, zero, suc, ◌+◌, ◌<◌, get_or, Bool, true, false, ◌&&◌, ◌||◌, ◌==◌, cond, Option, None, Some, List, [], ◌∷◌, ◌++◌, length, map, append-nil, append_assoc, refl, ap, ap₂, sym, ◌∙◌, subst, ⊎_elim, arith, eq-eqb}
+use Rattle.std.proofs.Common.{◌≡◌, ◌↔◌, ℕ, zero, suc, ◌+◌, ◌<◌, ◌≤◌, get_or, Bool, true, false, ◌&&◌, ◌||◌, ◌==◌, cond, Option, None, Some, List, [], ◌∷◌, ◌++◌, length, map, take, append-nil, append_assoc, refl, ap, ap₂, sym, ◌∙◌, subst, ⊎_elim, arith, eq-eqb}
 use Rattle.std.proofs.lemmas.Bool.Decides.{nat_tests}
 use Rattle.std.specs.Prelude.{nat_lt, option_and_then, unwrap_or, if◌then◌else◌}
 use Rattle.std.specs.List.{list_any, list_all}
-use Rattle.std.proofs.lemmas.List.{map-append}
+use Rattle.std.proofs.lemmas.List.{map-append, length-take}
 use Rattle.std.proofs.lemmas.List.Folds.{list_all-append, list_all-map}
 use Rattle.std.proofs.lemmas.Bool.{and_parts, and_from, cond-true, cond-false, cases_Bool, eqb-true, true≢false}
 use Rattle.fol_base.specs.Tree.{Tree, variable, application, Trees, no_trees, tree_then, trees_of, tree_eq, tree_variables, trees_variables, VariablesBelow}
@@ -11,7 +11,7 @@ use Rattle.fol_base.specs.Instance.{Substitution, instance, instances, substitut
 use Rattle.fol_base.specs.Canonical.{terms_from}
 use Rattle.fol_base.proofs.CanonicalLemmas.{terms_from-at}
 use Rattle.fol_base.proofs.TreeLemmas.{tree_eq-refl, tree_eq-true, and_left, and_right}
-use Rattle.unifier.specs.Matching.{variables_of, term_for, by_pairs, are_below, NoVariableTwice, HasPairs, with_further, IsMatched, NoMatcher}
+use Rattle.unifier.specs.Matching.{variables_of, term_for, by_pairs, are_below, NoVariableTwice, HasPairs, with_further, IsMatched, IsExtended, NoMatcher}
 use Rattle.fol_base.specs.Term.{tree_of}
 use Rattle.unifier.specs.declared.matched.Pair.{Pair}
 use Rattle.unifier.specs.Walk.{pair_of, met, walk, walk_all}
@@ -285,6 +285,36 @@ NoVariableTwice-pushed items new p e h k =
     subst NoVariableTwice (sym (ap (map pair_of) e ∙ map-append pair_of items (p ∷ [])))
     (NoVariableTwice-push p.variable (tree_of p.term.now) (map pair_of items) h k)
 
+-- pairs are cut off
+absent-front : (v n : ℕ) (ps : Pairs) → term_for v ps ≡ None → term_for v (take n ps) ≡ None
+absent-front v zero ps h = refl
+absent-front v (suc n) [] h = refl
+absent-front v (suc n) (p ∷ ps) h =
+    ⊎_elim
+    (λ same. let wrong : Some p.1 ≡ None = sym (cond-true (v == p.0) (Some p.1) (term_for v ps) same) ∙ h in absurd cc)
+    (λ other.
+    cond-false (v == p.0) (Some p.1) (term_for v (take n ps)) other
+    ∙ absent-front v n ps (sym (cond-false (v == p.0) (Some p.1) (term_for v ps) other) ∙ h))
+    (cases_Bool (v == p.0))
+
+NoVariableTwice-front : (n : ℕ) (ps : Pairs) → NoVariableTwice ps → NoVariableTwice (take n ps)
+NoVariableTwice-front zero ps h = tt
+NoVariableTwice-front (suc n) [] h = tt
+NoVariableTwice-front (suc n) (p ∷ ps) h = (absent-front p.0 n ps h.0, NoVariableTwice-front n ps h.1)
+
+map-front : (n : ℕ) (items : List Pair) → map pair_of (take n items) ≡ take n (map pair_of items)
+map-front zero items = refl
+map-front (suc n) [] = refl
+map-front (suc n) (p ∷ items) = ap (λ (ps : Pairs). pair_of p ∷ ps) (map-front n items)
+
+pub cut-pairs : (n : ℕ) (items new : List Pair) (ps : Pairs) → new ≡ take n items → map pair_of items ≡ ps → map pair_of new ≡ take n ps
+cut-pairs n items new ps e h = ap (map pair_of) e ∙ map-front n items ∙ ap (take n) h
+
+pub NoVariableTwice-cut :
+    (n : ℕ) (items new : List Pair) → new ≡ take n items → NoVariableTwice (map pair_of items) → NoVariableTwice (map pair_of new)
+NoVariableTwice-cut n items new e h =
+    subst NoVariableTwice (sym (cut-pairs n items new (map pair_of items) e refl)) (NoVariableTwice-front n (map pair_of items) h)
+
 nothing :
     (ts us : Trees) (o : Option Pairs)
     → ((rs : Pairs) → walk_all rs ts us ≡ None)
@@ -313,6 +343,43 @@ pub answer-none :
     → ps ≡ so_far → walk ps t u ≡ (if fits then Some qs else None) → fits ≡ false → NoMatcher so_far t u
 answer-none ps so_far qs t u false e w h = subst (λ (rs : Pairs). NoMatcher rs t u) e (walk-none ps t u w)
 answer-none ps so_far qs t u true e w h = absurd (true≢false h)
+
+-- so `extend` answers
+pub extended :
+    (ps qs : Pairs) (t u : Tree) (fits : Bool) → walk ps t u ≡ (if fits then Some qs else None) → fits ≡ true → IsExtended ps t u qs true
+extended ps qs t u fits w h = answer-found ps ps qs t u fits refl w h
+
+pub not-extended :
+    (ps qs cut : Pairs) (t u : Tree) (fits : Bool)
+    → walk ps t u ≡ (if fits then Some qs else None) → fits ≡ false → cut ≡ ps → IsExtended ps t u cut false
+not-extended ps qs cut t u fits w h same = (answer-none ps ps qs t u fits refl w h, same)
+
+-- and `match_onto`, from a copy of the pairs handed in
+pub extended-found :
+    (ps so_far qs : Pairs) (t u : Tree) (fits : Bool) → ps ≡ so_far → IsExtended ps t u qs fits → fits ≡ true → IsMatched so_far t u qs
+extended-found ps so_far qs t u true e h yes_ = subst (λ (rs : Pairs). IsMatched rs t u qs) e h
+extended-found ps so_far qs t u false e h yes_ = absurd (true≢false (sym yes_))
+
+pub extended-none :
+    (ps so_far qs : Pairs) (t u : Tree) (fits : Bool) → ps ≡ so_far → IsExtended ps t u qs fits → fits ≡ false → NoMatcher so_far t u
+extended-none ps so_far qs t u false e h no_ = subst (λ (rs : Pairs). NoMatcher rs t u) e h.0
+extended-none ps so_far qs t u true e h no_ = absurd (true≢false no_)
+
+-- pairs that begin with others, which begin with others
+pub begins-again : (ps qs rs : Pairs) → take (length ps) qs ≡ ps → take (length qs) rs ≡ qs → take (length ps) rs ≡ ps
+begins-again ps qs rs h k =
+    let longer : length ps ≤ length qs = shorter (length ps) qs ps h in
+    let front : take (length ps) (take (length qs) rs) ≡ take (length ps) rs = take-take (length ps) (length qs) rs longer in
+    sym front ∙ ap (take (length ps)) k ∙ h
+  where
+    shorter : (n : ℕ) (xs ys : Pairs) → take n xs ≡ ys → length ys ≤ length xs
+    shorter n xs ys e = omega (arith, sym (ap length e), length-take n xs)
+
+    take-take : (n m : ℕ) (xs : Pairs) → n ≤ m → take n (take m xs) ≡ take n xs
+    take-take zero m xs less = refl
+    take-take (suc n) zero xs less = absurd (omega arith)
+    take-take (suc n) (suc m) [] less = refl
+    take-take (suc n) (suc m) (x ∷ xs) less = ap (λ (ys : Pairs). x ∷ ys) (take-take n m xs (omega arith))
 
 -- ---- counts above the variables
 

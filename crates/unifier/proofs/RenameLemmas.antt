@@ -1,5 +1,5 @@
 -- The two sides' substitutions into shared variables.
-use Rattle.std.proofs.Common.{◌≡◌, ◌⊎◌, inl, inr, ℕ, zero, suc, ◌+◌, ◌-◌, ◌*◌, ◌/◌, ◌%◌, ◌<◌, ◌≤◌, max, Bool, true, false, ◌&&◌, ◌==◌, cond, Option, None, Some, List, [], ◌∷◌, ◌++◌, length, map, get_or, slice_index, refl, ap, ap₂, sym, ◌∙◌, subst, ⊎_elim, arith, eq-eqb}
+use Rattle.std.proofs.Common.{◌≡◌, ◌⊎◌, inl, inr, ℕ, zero, suc, ◌+◌, ◌-◌, ◌*◌, ◌/◌, ◌%◌, ◌<◌, ◌≤◌, ◌^◌, max, Bool, true, false, ◌&&◌, ◌==◌, cond, Option, None, Some, List, [], ◌∷◌, ◌++◌, length, map, get_or, slice_index, refl, ap, ap₂, sym, ◌∙◌, subst, ⊎_elim, arith, eq-eqb}
 use Rattle.std.specs.Prelude.{nat_lt, Result, Ok, Err, IfOk}
 use Rattle.std.proofs.lemmas.Bool.{cases_lt, cond-true, cond-false, cases_Bool}
 use Rattle.std.proofs.lemmas.List.{length-append, map-append, append_assoc, append-nil}
@@ -16,7 +16,9 @@ use Rattle.fol_base.specs.declared.clause.Side.TheVariants.{Left, Right}
 use Rattle.unifier.specs.declared.solution.Solution.{Solution}
 use Rattle.unifier.specs.Cells.{Value, as_tree, as_trees, cell_at, value_of, is_list, is_variable_of, list_parts, IsAfterParts, AreOrdered}
 use Rattle.unifier.specs.InOrder.{InOrder}
-use Rattle.unifier.specs.SolvedForm.{code_of, joint, substitution_of}
+use Rattle.fol_base.specs.Canonical.{terms_from}
+use Rattle.fol_base.specs.Instance.{Substitution, instance}
+use Rattle.unifier.specs.SolvedForm.{SolvedForm, code_of, joint, substitution_of}
 use Rattle.unifier.specs.Layout.{cell_of, all_pass}
 use Rattle.unifier.specs.Solution.{value_at, bound, solved_form}
 use Rattle.unifier.specs.Renaming.{renamed, renamed_trees, side_terms, AreRenamed, code_count, is_within, is_shared, rank, AreNames, HasNames}
@@ -308,7 +310,7 @@ bound-within b l r w k h found =
     (within, within-inside b.apart l r w within)
 
 pub has-names :
-    (b : Solution) (l r : ℕ) (names : List ℕ) → all_pass (is_within b.apart l r) b.places.items ≡ true → AreNames (solved_form b) l r names → HasNames b names
+    (b : Solution) (l r : ℕ) (names : List ℕ) → all_pass (is_within b.apart l r) b.places.items ≡ true → AreNames (solved_form b) l r names → HasNames b (length names)
 has-names b l r names h are w k found = omega (arith, (bound-within b l r w k h found).1, are.many)
 
 -- ---- the renaming can be undone
@@ -461,14 +463,73 @@ pub are-renamed :
 are-renamed b l r names left right order h are left_is right_is =
     let h : Naming b l r names = record { order = order; counts = h; are = are } in
     record {
-      names = slice_index names;
-      back = back_of b l r;
+      named = record {
+        names = slice_index names;
+        back = back_of b l r;
+        left_terms = left_is;
+        right_terms = right_is;
+        left_back = λ v less. (undone-side b l r names Left v h less).0;
+        right_back = λ v less. (undone-side b l r names Right v h less).0;
+      };
       count = count_of b l r;
-      left_terms = left_is;
-      right_terms = right_is;
-      left_back = λ v less. (undone-side b l r names Left v h less).0;
-      right_back = λ v less. (undone-side b l r names Right v h less).0;
       left_below = λ v less. (undone-side b l r names Left v h less).1;
       right_below = λ v less. (undone-side b l r names Right v h less).1;
       no_gaps = λ k less. let at = no-gaps b l r names k h less in by-side b l r (slice_index names) k at.0 at.1 at.2 at.3;
     }
+
+-- ---- each number as its own name
+
+mutual
+  pub renamed-itself : (t : Tree) → renamed (λ w. w) t ≡ t
+  renamed-itself (variable v) = refl
+  renamed-itself (application f ts) = ap (application f) (renamed_trees-itself ts)
+
+  renamed_trees-itself : (ts : Trees) → renamed_trees (λ w. w) ts ≡ ts
+  renamed_trees-itself no_trees = refl
+  renamed_trees-itself (tree_then t ts) = ap₂ tree_then (renamed-itself t) (renamed_trees-itself ts)
+
+terms_from-same : (first n : ℕ) (σ τ : Substitution) → ((v : ℕ) → σ v ≡ τ v) → terms_from first n σ ≡ terms_from first n τ
+terms_from-same first zero σ τ h = refl
+terms_from-same first (suc n) σ τ h = ap₂ ◌∷◌ (h first) (terms_from-same (suc first) n σ τ h)
+
+pub own-terms : (b : SolvedForm) (side : Side) (count : ℕ) → side_terms b (λ w. w) side count ≡ terms_from 0 count (substitution_of b side)
+own-terms b side count =
+    terms_from-same 0 count (λ v. renamed (λ w. w) (substitution_of b side v)) (substitution_of b side) (λ v. renamed-itself (substitution_of b side v))
+
+-- as the code has it
+pub own-answer :
+    {E : Type 0} (r : Result (List Tree) E) (b : SolvedForm) (side : Side) (count : ℕ)
+    → IfOk r (λ ts. ts ≡ side_terms b (λ w. w) side count) → IfOk r (λ ts. ts ≡ terms_from 0 count (substitution_of b side))
+own-answer (Err e) b side count h = tt
+own-answer (Ok ts) b side count h = h ∙ own-terms b side count
+
+pub filled-variable :
+    {E : Type 0} (r : Result Term E) (b : SolvedForm) (side : Side) (v code : ℕ) (t : Tree)
+    → t ≡ variable v → code ≡ code_of b.apart side v → IfOk r (λ made. tree_of made ≡ renamed (λ w. w) (joint b code))
+    → IfOk r (λ made. tree_of made ≡ instance (substitution_of b side) t)
+filled-variable (Err e) b side v code t t_is code_is h = tt
+filled-variable (Ok made) b side v code t t_is code_is h =
+    h ∙ renamed-itself (joint b code) ∙ ap (joint b) code_is ∙ sym (ap (instance (substitution_of b side)) t_is)
+
+-- one of several terms whose variables are below a number
+pub item-below :
+    (n : ℕ) (xs : List Term) (i : ℕ) (x : Term)
+    → i < length xs → x ≡ get_or xs i x → AllVariablesBelow n (trees_of (map tree_of xs)) → VariablesBelow n (tree_of x)
+item-below n [] i x less is all = absurd (omega arith)
+item-below n (y ∷ ys) zero x less is all = let P : Term → Type 0 = λ u. VariablesBelow n (tree_of u) in subst P (sym is) all.0
+item-below n (y ∷ ys) (suc i) x less is all = item-below n ys i x (omega arith) is all.1
+
+-- numbers below 2^31 have names of 32 bits on both sides
+pub own-names :
+    (b : Solution) (l r : ℕ) → l ≤ 2 ^ 31 → r ≤ 2 ^ 31 → all_pass (is_within b.apart l r) b.places.items ≡ true → HasNames b (2 ^ 32)
+own-names b l r left right h w k found = omega (arith, (bound-within b l r w k h found).1, few b.apart)
+  where
+    few : (apart : Bool) → code_count apart l r ≤ 2 ^ 32
+    few true = omega (arith, left, right)
+    few false = omega (arith, left, right)
+
+pub own-codes : (apart : Bool) (side : Side) (v count : ℕ) → v < count → count ≤ 2 ^ 31 → code_of apart side v < 2 ^ 32
+own-codes true Left v count less few = omega (arith, less, few)
+own-codes true Right v count less few = omega (arith, less, few)
+own-codes false Left v count less few = omega (arith, less, few)
+own-codes false Right v count less few = omega (arith, less, few)

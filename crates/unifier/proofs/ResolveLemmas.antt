@@ -1,12 +1,12 @@
 -- Laying out what variables are equal to, cell by cell and place by place.
-use Rattle.std.proofs.Common.{◌≡◌, ◌⊎◌, inl, inr, ℕ, ◌+◌, ◌<◌, Bool, true, false, ◌&&◌, ◌==◌, Option, None, Some, List, [], ◌∷◌, ◌++◌, length, map, refl, ap, ap₂, sym, ◌∙◌, subst, ⊎_elim, arith, eq-eqb, append_assoc}
+use Rattle.std.proofs.Common.{◌≡◌, ◌⊎◌, inl, inr, ℕ, ◌<◌, Bool, true, false, ◌==◌, Option, None, Some, List, [], ◌∷◌, ◌++◌, length, refl, ap, ap₂, sym, ◌∙◌, subst, ⊎_elim, arith, eq-eqb, append_assoc}
 use Rattle.std.specs.Prelude.{is_some}
 use Rattle.std.specs.List.{list_all}
 use Rattle.std.proofs.lemmas.Bool.{and_parts, and_from, cond-true, cond-false, cases_Bool, eqb-true}
 use Rattle.std.proofs.lemmas.List.{length-append, append-nil}
 use Rattle.std.proofs.lemmas.List.Folds.{list_all-append}
 use Rattle.fol_base.specs.Tree.{Tree, variable, application, Trees, no_trees, tree_then, tree_variables, trees_variables}
-use Rattle.fol_base.specs.Instance.{Substitution, instance, instances}
+use Rattle.fol_base.specs.Instance.{Substitution}
 use Rattle.fol_base.specs.declared.clause.Side.{Side}
 use Rattle.unifier.specs.declared.cells.Cell.{Cell}
 use Rattle.unifier.specs.declared.cells.Cell.TheVariants.{Variable, Application, NoTrees, TreeThen}
@@ -14,11 +14,11 @@ use Rattle.unifier.specs.declared.layout.Place.{Place}
 use Rattle.unifier.specs.declared.layout.Layout.{Layout}
 use Rattle.unifier.specs.declared.equation.Equations.{Equations}
 use Rattle.unifier.specs.Cells.{Value, tree, trees, as_tree, as_trees, cell_at, value_of, is_list, is_variable, IsAfterParts, AreOrdered, HasKinds, AreKinded, IsValuation}
-use Rattle.unifier.specs.SolvedForm.{code_of, of_side}
+use Rattle.unifier.specs.SolvedForm.{code_of}
 use Rattle.unifier.specs.Layout.{cell_of, has_place, HavePlaces, all_pass}
-use Rattle.unifier.specs.Equations.{Item, ItemPasses, item_under, bound_in, Solves, EquationsPass}
+use Rattle.unifier.specs.Equations.{Item, ItemPasses, item_under, bound_in}
 use Rattle.unifier.specs.Agreeing.{ItemsPass}
-use Rattle.unifier.specs.Resolving.{PlacesAgree, IsResolving, GrowsBoth, IsCellAdded, IsPlaceAdded, PassesOn, IsVariableResolved, IsTermResolved, AreTermsResolved, AreResolved}
+use Rattle.unifier.specs.Resolving.{PlacesAgree, IsResolving, GrowsBoth, IsCellAdded, IsPlaceAdded, IsVariableResolved, IsTermResolved, AreTermsResolved, AreResolved}
 use Rattle.unifier.proofs.PlaceLemmas.{cell_of-front, cell_of-back, all_pass-push}
 use Rattle.unifier.proofs.LayoutLemmas.{length-push, last_or_front, cell_at-front, cell_at-last, ordered-push, kinded-push, valuation-front, valuation-last}
 

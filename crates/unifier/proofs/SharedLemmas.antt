@@ -14,8 +14,9 @@ use Rattle.fol_base.specs.declared.clause.Side.TheVariants.{Left, Right}
 use Rattle.fol_base.proofs.InstanceLemmas.{instances_of_instances, instances_agree_below}
 use Rattle.unifier.specs.SolvedForm.{substitution_of}
 use Rattle.unifier.specs.Renaming.{renamed, renamed_trees}
-use Rattle.unifier.specs.SharedLaws.{HasSizesOf, SharedUnifyApart, SharedUnify, SharedUnifyOne, SharedKeepSizes, SharedPutFunctionTerms}
+use Rattle.unifier.specs.SharedLaws.{HasSizesOf, OwnTermsAreNamed, SharedUnifyApart, SharedUnify, SharedUnifyOne, SharedKeepSizes, SharedPutFunctionTerms}
 use Rattle.unifier.proofs.MatchLemmas.{listed-at}
+use Rattle.unifier.proofs.RenameLemmas.{renamed-itself, own-terms}
 use Rattle.unifier.proofs.KindLemmas.{unifiers_put_function_terms, unifiers_apart_put_function_terms, listed-functions}
 
 -- ---- a renaming
@@ -172,3 +173,15 @@ shared_put_function_terms p false s t b left_count right_count left right kinds 
       named-functions p h.names left left_count (substitution_of b Left) h.left_terms one,
       named-functions p h.names right right_count (substitution_of b Right) h.right_terms other,
     )
+
+-- ---- in the unifier's own variables
+
+pub own_terms_are_named : OwnTermsAreNamed
+own_terms_are_named b left_count right_count = record {
+  names = λ v. v;
+  back = λ v. v;
+  left_terms = sym (own-terms b Left left_count);
+  right_terms = sym (own-terms b Right right_count);
+  left_back = λ v less. renamed-itself (renamed (λ w. w) (substitution_of b Left v)) ∙ renamed-itself (substitution_of b Left v);
+  right_back = λ v less. renamed-itself (renamed (λ w. w) (substitution_of b Right v)) ∙ renamed-itself (substitution_of b Right v);
+}

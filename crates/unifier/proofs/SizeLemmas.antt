@@ -1,8 +1,8 @@
 -- Sizes of cells and of instances, which stop at a greatest number.
-use Rattle.std.proofs.Common.{◌≡◌, ℕ, ◌+◌, ◌<◌, None, Some, List, [], ◌∷◌, ◌++◌, length, map, take, get_or, refl, ap, sym, ◌∙◌, subst, ⊎_elim, arith}
-use Rattle.std.specs.Prelude.{sum_by}
+use Rattle.std.proofs.Common.{◌≡◌, ℕ, ◌+◌, ◌<◌, ◌≤◌, None, Some, List, [], ◌∷◌, ◌++◌, length, map, take, get_or, refl, ap, sym, ◌∙◌, subst, ⊎_elim, arith}
+use Rattle.std.specs.Prelude.{sum_by, slice_set}
 use Rattle.std.proofs.lemmas.Bool.{cases_lt}
-use Rattle.std.proofs.lemmas.List.{length-append, map-append, get_or_default}
+use Rattle.std.proofs.lemmas.List.{length-append, length-set, map-append, get_or_default, get_or-set_same, get_or-set_other}
 use Rattle.std.proofs.lemmas.List.Sums.{sum_by-append, sum_by-cons}
 use Rattle.std.proofs.Math.ListN.{get_or-append}
 use Rattle.std.proofs.Math.Seq.{get_or-append_seam}
@@ -65,31 +65,51 @@ size-from-parts cells sizes n (TreeThen a b) ordered kinded h inside after kinds
     let rest_parts : value_size (own cells b) ≡ trees_size (as_trees (own cells b)) = ap value_size list in
     omega (arith, first_size, rest_size, first_parts, rest_parts)
 
-pub sizes-start : (cells : List Cell) (sizes : List ℕ) → sizes ≡ [] → AreSizes cells sizes 0
-sizes-start cells sizes e = record { count = ap length e; each = λ k less. absurd (omega arith) }
+pub sizes-start : (cells : List Cell) (sizes : List ℕ) → AreSizes cells sizes 0
+sizes-start cells sizes = record { count = omega arith; each = λ k less. absurd (omega arith) }
 
-pub sizes-push :
+-- the size of one more cell, where those of the cells before it stay
+sizes-more :
     (cells : List Cell) (places : List Place) (sizes new : List ℕ) (n size : ℕ)
     → InOrder cells places → AreSizes cells sizes n → n < length cells → size ≡ size_by sizes (cell_at cells n)
-    → new ≡ sizes ++ size ∷ [] → AreSizes cells new (n + 1)
-sizes-push cells places sizes new n size order h inside is e =
+    → n < length new → ((k : ℕ) → k < n → get_or new k 0 ≡ get_or sizes k 0) → get_or new n 0 ≡ size → AreSizes cells new (n + 1)
+sizes-more cells places sizes new n size order h inside is long kept written =
     let here : size ≡ stopped (value_size (own cells n)) =
     is
     ∙ size-from-parts cells sizes n (cell_at cells n) order.ordered order.kinded h inside (order.ordered n inside) (order.kinded n inside)
     ∙ ap (λ v. stopped (value_size v)) (sym (value_at-valuation variable cells order.ordered n inside)) in
     record {
-      count = ap length e ∙ omega (arith, length-append sizes (size ∷ []), h.count);
+      count = omega (arith, long);
       each = λ k less.
-          ap (λ ys. get_or ys k 0) e
-          ∙ ⊎_elim
-          (λ front. get_or-append sizes (size ∷ []) 0 k (omega (arith, h.count)) ∙ h.each k front)
+          ⊎_elim
+          (λ front. kept k front ∙ h.each k front)
           (λ ge.
-          let last : k ≡ length sizes = omega (arith, h.count) in
-          let same : n ≡ k = omega (arith, h.count) in
-          ap (λ j. get_or (sizes ++ size ∷ []) j 0) last ∙ get_or-append_seam sizes size [] 0 ∙ here
-          ∙ ap (λ j. stopped (value_size (own cells j))) same)
+          let same : n ≡ k = omega arith in
+          let P : ℕ → Type 0 = λ j. get_or new j 0 ≡ stopped (value_size (own cells j)) in
+          subst P same (written ∙ here))
           (cases_lt k n);
     }
+
+pub sizes-push :
+    (cells : List Cell) (places : List Place) (sizes new : List ℕ) (n size : ℕ)
+    → InOrder cells places → AreSizes cells sizes n → length sizes ≡ n → n < length cells → size ≡ size_by sizes (cell_at cells n)
+    → new ≡ sizes ++ size ∷ [] → AreSizes cells new (n + 1) × (length new ≡ n + 1)
+sizes-push cells places sizes new n size order h long inside is e =
+    let longer : length new ≡ n + 1 = ap length e ∙ omega (arith, length-append sizes (size ∷ []), long) in (
+      sizes-more cells places sizes new n size order h inside is (omega (arith, longer))
+          (λ k less. ap (λ ys. get_or ys k 0) e ∙ get_or-append sizes (size ∷ []) 0 k (omega (arith, long, less)))
+          (ap (λ ys. get_or ys n 0) e ∙ ap (λ j. get_or (sizes ++ size ∷ []) j 0) (sym long) ∙ get_or-append_seam sizes size [] 0),
+      longer,
+    )
+
+pub sizes-set :
+    (cells : List Cell) (places : List Place) (sizes new : List ℕ) (n size : ℕ)
+    → InOrder cells places → AreSizes cells sizes n → n < length sizes → n < length cells → size ≡ size_by sizes (cell_at cells n)
+    → new ≡ slice_set sizes n size → AreSizes cells new (n + 1)
+sizes-set cells places sizes new n size order h room inside is e =
+    sizes-more cells places sizes new n size order h inside is (omega (arith, ap length e, length-set sizes n size, room))
+    (λ k less. ap (λ ys. get_or ys k 0) e ∙ get_or-set_other sizes n k size 0 (λ same. omega (arith, less, same)))
+    (ap (λ ys. get_or ys n 0) e ∙ get_or-set_same sizes n size 0 room)
 
 -- ---- terms
 
@@ -155,6 +175,12 @@ cell-read cells i x h e = e ∙ get_or_default cells i x (Variable 0) h
 
 pub after-parts :
     (cells : List Cell) (places : List Place) (n m : ℕ) (x : Cell)
-    → InOrder cells places → n < length cells → x ≡ cell_at cells n → m ≡ n → IsAfterParts m x
-after-parts cells places n m x order inside is same =
-    subst (IsAfterParts m) (sym is) (subst (λ k. IsAfterParts k (cell_at cells n)) (sym same) (order.ordered n inside))
+    → InOrder cells places → n < length cells → x ≡ cell_at cells n → n ≤ m → IsAfterParts m x
+after-parts cells places n m x order inside is more =
+    after-more n m x more (subst (IsAfterParts n) (sym is) (order.ordered n inside))
+  where
+    after-more : (n m : ℕ) (x : Cell) → n ≤ m → IsAfterParts n x → IsAfterParts m x
+    after-more n m (Variable w) more h = tt
+    after-more n m (Application f l) more h = omega (arith, more, h)
+    after-more n m NoTrees more h = tt
+    after-more n m (TreeThen a b) more h = (omega (arith, more, h.0), omega (arith, more, h.1))

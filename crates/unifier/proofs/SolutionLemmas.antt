@@ -1,6 +1,6 @@
 -- What the cells and places of a solution say, as a solved form.
-use Rattle.std.proofs.Common.{◌≡◌, ℕ, Bool, ◌&&◌, ◌==◌, Option, None, Some, List, [], ◌∷◌, map, refl, ap, sym, ◌∙◌, ⊎_elim, true, false}
-use Rattle.std.specs.Prelude.{unwrap_or, option_map}
+use Rattle.std.proofs.Common.{◌≡◌, ℕ, Bool, ◌&&◌, ◌==◌, None, Some, List, [], ◌∷◌, map, refl, ap, sym, ◌∙◌, ⊎_elim, true, false}
+use Rattle.std.specs.Prelude.{unwrap_or}
 use Rattle.std.specs.List.{list_all}
 use Rattle.std.proofs.lemmas.Bool.{and_parts, cond-true, cond-false, cases_Bool, eqb-true, true≢false}
 use Rattle.fol_base.specs.Tree.{Tree, variable}
@@ -9,8 +9,8 @@ use Rattle.unifier.specs.declared.cells.Cell.{Cell}
 use Rattle.unifier.specs.declared.cells.Cell.TheVariants.{Variable, Application, NoTrees, TreeThen}
 use Rattle.unifier.specs.declared.layout.Place.{Place}
 use Rattle.unifier.specs.declared.solution.Solution.{Solution}
-use Rattle.unifier.specs.Cells.{Value, tree, as_tree, cell_at, value_of, IsValuation}
-use Rattle.unifier.specs.SolvedForm.{SolvedForm, joint}
+use Rattle.unifier.specs.Cells.{Value, tree, as_tree, cell_at, value_of}
+use Rattle.unifier.specs.SolvedForm.{joint}
 use Rattle.unifier.specs.Matching.{by_pairs, term_for, variables_of}
 use Rattle.unifier.specs.Layout.{cell_of, all_pass}
 use Rattle.unifier.specs.Solution.{value_at, bound, joint_by, pair_at, solved_form, Meets}

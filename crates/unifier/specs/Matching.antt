@@ -1,5 +1,5 @@
 -- Matchers that have given pairs, each a variable and its term.
-use Rattle.std.specs.Prelude.{◌≡◌, ◌↔◌, ℕ, Bool, ◌==◌, nat_lt, List, [], ◌∷◌, ◌++◌, map, Option, None, Some, unwrap_or, if◌then◌else◌, ⊤}
+use Rattle.std.specs.Prelude.{◌≡◌, ◌↔◌, ℕ, Bool, true, false, ◌==◌, nat_lt, List, [], ◌∷◌, ◌++◌, map, Option, None, Some, unwrap_or, if◌then◌else◌, ⊤}
 use Rattle.std.specs.List.{AllByRecursion, list_all, list_any}
 use Rattle.fol_base.specs.Tree.{Tree, variable, tree_variables}
 use Rattle.fol_base.specs.Instance.{Substitution}
@@ -47,3 +47,8 @@ pub record IsMatched (so_far : List (ℕ × Tree)) (pattern : Tree) (target : Tr
 -- no substitution has the pairs handed in and turns the pattern into the target
 abbrev pub NoMatcher : List (ℕ × Tree) → Tree → Tree → Type 0
 NoMatcher so_far pattern target = (σ : Substitution) → HasPairs so_far σ → IsMatcher pattern target σ → ⊥
+
+-- what `extend` answers: true with the matcher that was found, or false, where there is none, and the pairs are as before
+abbrev pub IsExtended : List (ℕ × Tree) → Tree → Tree → List (ℕ × Tree) → Bool → Type 0
+IsExtended so_far pattern target found true = IsMatched so_far pattern target found
+IsExtended so_far pattern target found false = NoMatcher so_far pattern target × (found ≡ so_far)

@@ -35,6 +35,12 @@ FitLeavesOthersApart =
     → ((v : ℕ) → left_count ≤ v → substitution_of b Left v ≡ variable (code_of true Left v))
     × ((v : ℕ) → right_count ≤ v → substitution_of b Right v ≡ variable (code_of true Right v))
 
+-- counts above counts that fit do too
+abbrev pub FitsAbove : Type 0
+FitsAbove =
+    (b : SolvedForm) (left_count right_count more_left more_right : ℕ) → left_count ≤ more_left → right_count ≤ more_right
+    → fits b left_count right_count ≡ true → fits b more_left more_right ≡ true
+
 -- and, not apart, each that is below neither count
 abbrev pub FitLeavesOthers : Type 0
 FitLeavesOthers =
@@ -50,22 +56,25 @@ renamed names = instance (λ w. variable (names w))
 abbrev pub side_terms : SolvedForm → (ℕ → ℕ) → Side → ℕ → List Tree
 side_terms b names side count = terms_from 0 count (λ v. renamed names (substitution_of b side v))
 
--- two substitutions of a unifier's sides: the shared variables are renamed to the numbers from 0 on, each of which some
--- variable of a side stands for, and the renaming can be undone
-pub record AreRenamed (b : SolvedForm) (left_count : ℕ) (right_count : ℕ) (left : List Tree) (right : List Tree) : Type 0 where
+-- the terms of a unifier for the first variables of each side, with its variables named by a renaming that can be undone
+pub record AreNamedTerms (b : SolvedForm) (left_count : ℕ) (right_count : ℕ) (left : List Tree) (right : List Tree) : Type 0 where
   pub names : ℕ → ℕ
   pub back : ℕ → ℕ
-  pub count : ℕ
   pub left_terms : left ≡ side_terms b names Left left_count
   pub right_terms : right ≡ side_terms b names Right right_count
   pub left_back : (v : ℕ) → v < left_count → renamed back (renamed names (substitution_of b Left v)) ≡ substitution_of b Left v
   pub right_back : (v : ℕ) → v < right_count → renamed back (renamed names (substitution_of b Right v)) ≡ substitution_of b Right v
-  pub left_below : (v : ℕ) → v < left_count → VariablesBelow count (renamed names (substitution_of b Left v))
-  pub right_below : (v : ℕ) → v < right_count → VariablesBelow count (renamed names (substitution_of b Right v))
+
+-- so, and the names are the numbers from 0 on, each of which some variable of a side stands for
+pub record AreRenamed (b : SolvedForm) (left_count : ℕ) (right_count : ℕ) (left : List Tree) (right : List Tree) : Type 0 where
+  pub named : AreNamedTerms b left_count right_count left right
+  pub count : ℕ
+  pub left_below : (v : ℕ) → v < left_count → VariablesBelow count (renamed named.names (substitution_of b Left v))
+  pub right_below : (v : ℕ) → v < right_count → VariablesBelow count (renamed named.names (substitution_of b Right v))
   pub no_gaps :
       (k : ℕ) → k < count
-      → ((v : ℕ) × (v < left_count) × (renamed names (substitution_of b Left v) ≡ variable k))
-      ⊎ ((v : ℕ) × (v < right_count) × (renamed names (substitution_of b Right v) ≡ variable k))
+      → ((v : ℕ) × (v < left_count) × (renamed named.names (substitution_of b Left v) ≡ variable k))
+      ⊎ ((v : ℕ) × (v < right_count) × (renamed named.names (substitution_of b Right v) ≡ variable k))
 
 -- ---- how the numbers are given
 
@@ -88,9 +97,9 @@ pub record AreNames (b : SolvedForm) (left_count : ℕ) (right_count : ℕ) (nam
   pub many : length names ≡ code_count b.apart left_count right_count
   pub each : (w : ℕ) → w < length names → slice_index names w ≡ rank (is_shared b left_count right_count) w
 
--- each variable that has a cell of its own has a name
-abbrev pub HasNames : Solution → List ℕ → Type 0
-HasNames b names = (w k : ℕ) → cell_of w b.places.items ≡ Some k → w < length names
+-- each variable that has a cell has one of so many names
+abbrev pub HasNames : Solution → ℕ → Type 0
+HasNames b count = (w k : ℕ) → cell_of w b.places.items ≡ Some k → w < count
 
 abbrev pub renamed_trees : (ℕ → ℕ) → Trees → Trees
 renamed_trees names = instances (λ w. variable (names w))

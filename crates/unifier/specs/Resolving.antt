@@ -1,6 +1,6 @@
 -- Cells laid out for what variables are equal to, in which no bound variable is left.
 use Rattle.std.specs.Prelude.{◌≡◌, ℕ, ◌<◌, Bool, true, false, List, [], ◌∷◌, ◌++◌, Some, length}
-use Rattle.fol_base.specs.Tree.{Tree, Trees, tree_variables}
+use Rattle.fol_base.specs.Tree.{Trees}
 use Rattle.fol_base.specs.Instance.{Substitution, instances}
 use Rattle.fol_base.specs.declared.clause.Side.{Side}
 use Rattle.unifier.specs.declared.cells.Cell.{Cell}

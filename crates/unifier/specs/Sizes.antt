@@ -1,5 +1,5 @@
 -- Sizes of instances, from the sizes of the cells.
-use Rattle.std.specs.Prelude.{◌≡◌, ℕ, ◌+◌, ◌-◌, ◌<◌, ◌^◌, min, List, length, slice_index}
+use Rattle.std.specs.Prelude.{◌≡◌, ℕ, ◌+◌, ◌-◌, ◌<◌, ◌≤◌, ◌^◌, min, List, length, slice_index}
 use Rattle.fol_base.specs.Tree.{variable, tree_size, trees_size}
 use Rattle.unifier.specs.declared.cells.Cell.{Cell}
 use Rattle.unifier.specs.declared.cells.Cell.TheVariants.{Variable, Application, NoTrees, TreeThen}
@@ -15,9 +15,9 @@ value_size (trees ts) = trees_size ts
 abbrev pub stopped : ℕ → ℕ
 stopped n = min n (2 ^ 64 - 1)
 
--- the sizes of the first cells
+-- the sizes of the first cells; more may follow
 pub record AreSizes (cells : List Cell) (sizes : List ℕ) (n : ℕ) : Type 0 where
-  pub count : length sizes ≡ n
+  pub count : n ≤ length sizes
   pub each : (k : ℕ) → k < n → slice_index sizes k ≡ stopped (value_size (value_at variable cells k))
 
 -- the size of a cell from those of its parts

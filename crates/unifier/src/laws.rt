@@ -5,8 +5,9 @@ ghost use Rattle.unifier.specs.Laws.{
   UnifiersApartPutFunctionTerms,
   UnifiersPutFunctionTerms,
 };
-ghost use Rattle.unifier.specs.Renaming.{FitLeavesOthers, FitLeavesOthersApart};
+ghost use Rattle.unifier.specs.Renaming.{FitLeavesOthers, FitLeavesOthersApart, FitsAbove};
 ghost use Rattle.unifier.specs.SharedLaws.{
+  OwnTermsAreNamed,
   SharedKeepSizes,
   SharedPutFunctionTerms,
   SharedUnify,
@@ -27,7 +28,13 @@ pub fn matchers_put_function_terms()
     ensures { MatchersPutFunctionTerms }
 {}
 
-/// After `unify`, the two substitutions of `Bindings::substs` make the terms equal, and all substitutions
+/// The terms that `Bindings::terms` gives are those of the unifier by names that can be undone; those of `Bindings::substs` are so too,
+/// as `AreRenamed` says.
+pub fn own_terms_are_named()
+    ensures { OwnTermsAreNamed }
+{}
+
+/// After `unify`, the terms of `Bindings::terms` or `Bindings::substs` make the terms equal, and all substitutions
 /// that do are another after them, on the variables that were asked for. Where the sides aren't taken apart
 /// and the left count is above the variables of both terms, the left one alone does, as for
 /// `substs(count, 0)`.
@@ -50,8 +57,9 @@ pub fn shared_substitutions_put_function_terms()
 {}
 
 /// What `Bindings::fits` tells: each variable that isn't below its side's count stands for itself; where the
-/// sides aren't taken apart, each that is below neither count.
+/// sides aren't taken apart, each that is below neither count. Larger counts fit too.
 pub fn counts_that_fit()
     ensures together { FitLeavesOthers }
     ensures apart { FitLeavesOthersApart }
+    ensures above { FitsAbove }
 {}

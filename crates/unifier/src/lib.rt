@@ -13,6 +13,7 @@ mod joining;
 mod layout;
 mod matched;
 mod matching;
+mod naming;
 mod placing;
 mod resolving;
 mod sizes;

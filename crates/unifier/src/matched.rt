@@ -1,8 +1,8 @@
 // The pairs of a matcher.
 
-ghost use Rattle.std.specs.Prelude.{◌≡◌, [], ◌∷◌, ◌++◌, true, None, option_map, IfOk, OnErr, OnOk};
+ghost use Rattle.std.specs.Prelude.{◌≡◌, [], ◌∷◌, ◌++◌, true, None, length, map, take, option_map, IfOk, OnErr, OnOk};
 ghost use Rattle.fol_base.specs.Term.{tree_of};
-ghost use Rattle.fol_base.specs.Instance.{substitution};
+ghost use Rattle.fol_base.specs.Instance.{instance, substitution};
 ghost use Rattle.fol_base.specs.Canonical.{terms_from};
 ghost use Rattle.unifier.specs.Matching.{HasPairs, are_below, by_pairs, term_for};
 
@@ -75,6 +75,20 @@ impl<'a> Matched<'a> {
         Ok(())
     }
 
+    /// How many pairs there are.
+    pub(crate) fn len(&self) -> usize
+        ensures { result ≡ length self.now }
+    {
+        self.pairs.len()
+    }
+
+    /// Keeps so many pairs.
+    pub(crate) fn cut(&mut self, count: usize)
+        ensures { self.new ≡ take count self.old }
+    {
+        self.pairs.truncate(count);
+    }
+
     /// The substitution of that length. A variable without a pair stands for itself. The condition is that
     /// each variable of a pair has a number below `count`, as it has after `match_onto` where `count` is
     /// above the variables of the pattern and of the pairs handed in.
@@ -99,6 +113,30 @@ impl<'a> Matched<'a> {
             Some(term) => term.copy(alloc),
             None => Ok(Term::Var(variable)),
         }
+    }
+
+    /// The instance of a term: a variable that has a pair becomes its term, and the others stay.
+    #[cycle(apply)]
+    pub fn apply(&self, term: &Term) -> Mem<Term>
+        ensures { IfOk result (λ made. tree_of made ≡ instance (by_pairs self.now) (tree_of term.now)) }
+    {
+        match term {
+            Term::Var(variable) => self.term_or_variable(*self.pairs.allocator(), *variable),
+            Term::App(symbol, arguments) => {
+                Ok(Term::App(*symbol, self.apply_all(arguments.as_slice())?))
+            }
+        }
+    }
+
+    #[cycle(apply)]
+    fn apply_all(&self, terms: &[Term]) -> Mem<Terms>
+        ensures { IfOk result (λ made. made ≡ map (instance (by_pairs self.now)) (map tree_of terms.now)) }
+    {
+        let mut items = Vec::with_capacity(*self.pairs.allocator(), terms.len())?;
+        for term in terms {
+            items.push(self.apply(term)?)?;
+        }
+        Ok(Terms::from_vec(items))
     }
 
     /// An equal list, of the allocator that `match_onto` is handed.

@@ -1,9 +1,9 @@
 // Matching: what turns a pattern into a target.
 
-ghost use Rattle.std.specs.Prelude.{◌≡◌, ℕ, Bool, true, None, Some, map, IfOk, IfSome, IsTrue, MatchOption, if◌then◌else◌};
+ghost use Rattle.std.specs.Prelude.{◌≡◌, ℕ, Bool, true, None, Some, length, map, take, IfOk, IfSome, OnErr, IsTrue, MatchOption, if◌then◌else◌};
 ghost use Rattle.fol_base.specs.Tree.{trees_of, VariablesBelow};
 ghost use Rattle.fol_base.specs.Term.{tree_of};
-ghost use Rattle.unifier.specs.Matching.{IsMatched, NoMatcher, are_below, term_for};
+ghost use Rattle.unifier.specs.Matching.{IsExtended, IsMatched, NoMatcher, are_below, term_for};
 ghost use Rattle.unifier.specs.Laws.{AreFunctionPairs, are_of_one_kind};
 ghost use Rattle.unifier.specs.Walk.{met, walk, walk_all};
 
@@ -40,11 +40,38 @@ pub fn match_onto<'a>(
 }
 
 impl<'a> Matched<'a> {
-    /// Adds what turns the pattern into the target, and says whether it can.
-    #[cycle(extend)]
-    fn extend(&mut self, pattern: &Term, target: &'a Term) -> Mem<bool>
-        ensures { IfOk result (λ fits.
+    /// Adds a pair for each further variable of the pattern, where that makes a matcher, and says whether it does: false exactly where
+    /// no matcher has the pairs that are there. Where the answer is false, and after want of memory, the pairs are as before. Memory is
+    /// taken only for new pairs.
+    pub fn extend(&mut self, pattern: &Term, target: &'a Term) -> Mem<bool>
+        ensures found { IfOk result (λ fits. IsExtended self.old (tree_of pattern.now) (tree_of target.now) self.new fits) }
+        ensures below { IfOk result (λ _. (count : ℕ) → VariablesBelow count (tree_of pattern.now)
+            → are_below count self.old ≡ true → are_below count self.new ≡ true) }
+        ensures function_terms { IfOk result (λ _. (is_predicate : ℕ → Bool)
+            → IsTrue (are_of_one_kind is_predicate (tree_of pattern.now) (tree_of target.now))
+            → AreFunctionPairs is_predicate self.old → AreFunctionPairs is_predicate self.new) }
+        ensures err { OnErr result (self.new ≡ self.old) }
+    {
+        let count = self.len();
+        match self.follow(pattern, target) {
+            Ok(true) => Ok(true),
+            Ok(false) => {
+                self.cut(count);
+                Ok(false)
+            }
+            Err(refused) => {
+                self.cut(count);
+                Err(refused)
+            }
+        }
+    }
+
+    /// Adds what turns the pattern into the target as far as both are followed, and says whether it can.
+    #[cycle(follow)]
+    fn follow(&mut self, pattern: &Term, target: &'a Term) -> Mem<bool>
+        ensures found { IfOk result (λ fits.
             walk self.old (tree_of pattern.now) (tree_of target.now) ≡ (if fits then Some self.new else None)) }
+        ensures grows { take (length self.old) self.new ≡ self.old }
     {
         match pattern {
             Term::Var(variable) => self.meet(*variable, target),
@@ -52,7 +79,7 @@ impl<'a> Matched<'a> {
                 Term::Var(_) => Ok(false),
                 Term::App(other, others) => {
                     if *symbol == *other {
-                        self.extend_all(arguments.as_slice(), others.as_slice())
+                        self.follow_all(arguments.as_slice(), others.as_slice())
                     } else {
                         Ok(false)
                     }
@@ -62,17 +89,18 @@ impl<'a> Matched<'a> {
     }
 
     /// Adds what turns each term of a list into the one at its place.
-    #[cycle(extend)]
-    fn extend_all(&mut self, patterns: &[Term], targets: &'a [Term]) -> Mem<bool>
-        ensures { IfOk result (λ fits.
+    #[cycle(follow)]
+    fn follow_all(&mut self, patterns: &[Term], targets: &'a [Term]) -> Mem<bool>
+        ensures found { IfOk result (λ fits.
             walk_all self.old (trees_of (map tree_of patterns.now)) (trees_of (map tree_of targets.now))
             ≡ (if fits then Some self.new else None)) }
+        ensures grows { take (length self.old) self.new ≡ self.old }
     {
         if patterns.len() != targets.len() {
             return Ok(false);
         }
         for index in 0..patterns.len() {
-            if !self.extend(&patterns[index], &targets[index])? {
+            if !self.follow(&patterns[index], &targets[index])? {
                 return Ok(false);
             }
         }
@@ -81,8 +109,9 @@ impl<'a> Matched<'a> {
 
     /// A variable that has a term must have this one; one that has none gets it.
     fn meet(&mut self, variable: u32, target: &'a Term) -> Mem<bool>
-        ensures { IfOk result (λ fits.
+        ensures found { IfOk result (λ fits.
             met (term_for variable self.old) self.old variable (tree_of target.now) ≡ (if fits then Some self.new else None)) }
+        ensures grows { take (length self.old) self.new ≡ self.old }
     {
         match self.term_for(variable) {
             Some(term) => Ok(same_term(term, target)),

@@ -1,6 +1,6 @@
 // The size of an instance, without building it.
 
-ghost use Rattle.std.specs.Prelude.{◌≡◌, ◌<◌, length, map, slice_index, sum_by, IfOk};
+ghost use Rattle.std.specs.Prelude.{◌≡◌, ◌<◌, ◌≤◌, length, map, slice_index, sum_by, IfOk};
 ghost use Rattle.fol_base.specs.Tree.{tree_size, trees_size, trees_of};
 ghost use Rattle.fol_base.specs.Instance.{instance, instances};
 ghost use Rattle.fol_base.specs.Clause.{literal_size};
@@ -19,6 +19,9 @@ use fol_base::{Side, Term};
 use plain_types::Mem;
 use term_bank::{Bank, BankLit};
 
+/// So many cells have their sizes in an array, and no memory is taken for them.
+const FEW_CELLS: usize = 64;
+
 impl Solution {
     /// The size of a side's literals after the unifier, as `Bindings::instance_size` has it.
     pub fn instance_size(&self, bank: &Bank, side: Side, literals: &[BankLit]) -> Mem<u64>
@@ -26,14 +29,35 @@ impl Solution {
         ensures { IfOk result (λ size. size
             ≡ stopped (sum_by literal_size (literals_instance (substitution_of (solved_form self.now) side) (literals_at literals.now)))) }
     {
-        let sizes = self.cell_sizes()?;
-        let mut total: u64 = 0;
-        for literal in literals {
-            let left = self.term_size(sizes.as_slice(), side, bank.tree(&literal.left));
-            let right = self.term_size(sizes.as_slice(), side, bank.tree(&literal.right));
-            total = total.saturating_add(left.saturating_add(right));
+        if self.cells.len() <= FEW_CELLS {
+            return Ok(self.literals_size(&self.few_sizes(), bank, side, literals));
         }
-        Ok(total)
+        let sizes = self.cell_sizes()?;
+        Ok(self.literals_size(sizes.as_slice(), bank, side, literals))
+    }
+
+    /// The size of a side's term after the unifier, as `Bindings::term_size` has it.
+    pub fn size_of(&self, side: Side, term: &Term) -> Mem<u64>
+        ensures { IfOk result (λ size. size
+            ≡ stopped (tree_size (instance (substitution_of (solved_form self.now) side) (tree_of term.now)))) }
+    {
+        if self.cells.len() <= FEW_CELLS {
+            return Ok(self.term_size(&self.few_sizes(), side, term));
+        }
+        let sizes = self.cell_sizes()?;
+        Ok(self.term_size(sizes.as_slice(), side, term))
+    }
+
+    /// The sizes of few cells, each from those of its parts.
+    fn few_sizes(&self) -> [u64; FEW_CELLS]
+        requires { length self.now.cells.items ≤ FEW_CELLS }
+        ensures { AreSizes self.now.cells.items result (length self.now.cells.items) }
+    {
+        let mut sizes = [0; FEW_CELLS];
+        for cell in 0..self.cells.len() {
+            sizes[cell] = size_from_parts(self.cells[cell], &sizes);
+        }
+        sizes
     }
 
     /// The sizes of the cells, each from those of its parts.
@@ -46,6 +70,22 @@ impl Solution {
             sizes.push(size)?;
         }
         Ok(sizes)
+    }
+
+    /// The size of a side's literals after the unifier.
+    fn literals_size(&self, sizes: &[u64], bank: &Bank, side: Side, literals: &[BankLit]) -> u64
+        requires sizes { AreSizes self.now.cells.items sizes.now (length self.now.cells.items) }
+        requires literals { AreLiteralsOf bank.now literals.now }
+        ensures { result
+            ≡ stopped (sum_by literal_size (literals_instance (substitution_of (solved_form self.now) side) (literals_at literals.now))) }
+    {
+        let mut total: u64 = 0;
+        for literal in literals {
+            let left = self.term_size(sizes, side, bank.tree(&literal.left));
+            let right = self.term_size(sizes, side, bank.tree(&literal.right));
+            total = total.saturating_add(left.saturating_add(right));
+        }
+        total
     }
 
     /// The size of a side's term after the unifier.

@@ -1,10 +1,12 @@
 // The substitutions of the two sides into shared variables.
 
-ghost use Rattle.std.specs.Prelude.{◌≡◌, ℕ, true, ◌≤◌, ◌<◌, ◌^◌, length, slice_index, IfOk};
-ghost use Rattle.fol_base.specs.Tree.{variable, application, no_trees, tree_eq, trees_of};
+ghost use Rattle.std.specs.Prelude.{◌≡◌, ℕ, true, ◌≤◌, ◌<◌, ◌^◌, length, map, IfOk};
+ghost use Rattle.fol_base.specs.Tree.{AllVariablesBelow, VariablesBelow, variable, application, no_trees, tree_eq, trees_of};
 ghost use Rattle.fol_base.specs.Term.{tree_of};
+ghost use Rattle.fol_base.specs.Canonical.{terms_from};
+ghost use Rattle.fol_base.specs.Instance.{instance};
 ghost use Rattle.unifier.specs.Cells.{as_tree, as_trees, cell_at};
-ghost use Rattle.unifier.specs.SolvedForm.{code_of, joint};
+ghost use Rattle.unifier.specs.SolvedForm.{code_of, joint, substitution_of};
 ghost use Rattle.unifier.specs.Layout.{all_pass};
 ghost use Rattle.unifier.specs.Solution.{solved_form, value_at};
 ghost use Rattle.unifier.specs.Renaming.{
@@ -21,6 +23,7 @@ ghost use Rattle.unifier.specs.Renaming.{
 
 use crate::cells::Cell;
 use crate::layout::code;
+use crate::naming::{Naming, OwnNumbers};
 use crate::solution::Solution;
 use fol_base::{SIZE_LIMIT, Side, Subst, Term, Terms};
 use plain_types::Mem;
@@ -36,9 +39,27 @@ impl Solution {
     {
         let alloc = *self.cells.allocator();
         let names = self.names(alloc, left_vars, right_vars)?;
-        let left = self.side(alloc, names.as_slice(), Side::Left, left_vars)?;
-        let right = self.side(alloc, names.as_slice(), Side::Right, right_vars)?;
+        let left = self.side(alloc, &names.as_slice(), Side::Left, left_vars)?;
+        let right = self.side(alloc, &names.as_slice(), Side::Right, right_vars)?;
         Ok((left, right))
+    }
+
+    /// The terms for the first variables of a side, as `Bindings::terms` has them.
+    pub fn terms(&self, side: Side, count: u32) -> Mem<Subst>
+        requires fits { all_pass (is_within self.now.apart SIZE_LIMIT SIZE_LIMIT) self.now.places.items ≡ true }
+        requires room { count ≤ SIZE_LIMIT }
+        ensures { IfOk result (λ terms. terms ≡ terms_from 0 count (substitution_of (solved_form self.now) side)) }
+    {
+        self.side(*self.cells.allocator(), &OwnNumbers, side, count)
+    }
+
+    /// The instance of a side's term, as `Bindings::apply` has it.
+    pub fn apply(&self, side: Side, term: &Term) -> Mem<Term>
+        requires fits { all_pass (is_within self.now.apart SIZE_LIMIT SIZE_LIMIT) self.now.places.items ≡ true }
+        requires below { VariablesBelow SIZE_LIMIT (tree_of term.now) }
+        ensures { IfOk result (λ made. tree_of made ≡ instance (substitution_of (solved_form self.now) side) (tree_of term.now)) }
+    {
+        self.filled(*self.cells.allocator(), side, term)
     }
 
     /// Whether each variable of a place has a number that `Bindings::fits` allows.
@@ -103,10 +124,10 @@ impl Solution {
     }
 
     /// The terms for the first variables of a side.
-    fn side(&self, alloc: Global, names: &[u32], side: Side, count: u32) -> Mem<Subst>
-        requires names { HasNames self.now names.now }
-        requires all { (v : ℕ) → v < count → code_of self.now.apart side v < length names.now }
-        ensures { IfOk result (λ terms. terms ≡ side_terms (solved_form self.now) (slice_index names.now) side count) }
+    fn side<N: Naming>(&self, alloc: Global, names: &N, side: Side, count: u32) -> Mem<Subst>
+        requires names { HasNames self.now (N.count names.now) }
+        requires all { (v : ℕ) → v < count → code_of self.now.apart side v < N.count names.now }
+        ensures { IfOk result (λ terms. terms ≡ side_terms (solved_form self.now) (N.meaning names.now) side count) }
     {
         let mut items = Vec::with_capacity(alloc, count as usize)?;
         for variable in 0..count {
@@ -115,28 +136,58 @@ impl Solution {
         Ok(Terms::from_vec(items))
     }
 
+    /// The instance of a side's term, whose variables have names.
+    #[cycle(filled)]
+    fn filled(&self, alloc: Global, side: Side, term: &Term) -> Mem<Term>
+        requires names { HasNames self.now (2 ^ 32) }
+        requires below { VariablesBelow SIZE_LIMIT (tree_of term.now) }
+        ensures { IfOk result (λ made. tree_of made ≡ instance (substitution_of (solved_form self.now) side) (tree_of term.now)) }
+    {
+        match term {
+            Term::Var(variable) => {
+                self.named(alloc, &OwnNumbers, code(self.apart, side, *variable))
+            }
+            Term::App(symbol, arguments) => {
+                Ok(Term::App(*symbol, self.all_filled(alloc, side, arguments.as_slice())?))
+            }
+        }
+    }
+
+    #[cycle(filled)]
+    fn all_filled(&self, alloc: Global, side: Side, terms: &[Term]) -> Mem<Terms>
+        requires names { HasNames self.now (2 ^ 32) }
+        requires below { AllVariablesBelow SIZE_LIMIT (trees_of (map tree_of terms.now)) }
+        ensures { IfOk result (λ made. made ≡ map (instance (substitution_of (solved_form self.now) side)) (map tree_of terms.now)) }
+    {
+        let mut items = Vec::with_capacity(alloc, terms.len())?;
+        for term in terms {
+            items.push(self.filled(alloc, side, term)?)?;
+        }
+        Ok(Terms::from_vec(items))
+    }
+
     /// What stands for a variable, with the shared variables renamed.
-    fn named(&self, alloc: Global, names: &[u32], code: u64) -> Mem<Term>
-        requires names { HasNames self.now names.now }
-        requires inside { code < length names.now }
-        ensures { IfOk result (λ term. tree_of term ≡ renamed (slice_index names.now) (joint (solved_form self.now) code)) }
+    fn named<N: Naming>(&self, alloc: Global, names: &N, code: u64) -> Mem<Term>
+        requires names { HasNames self.now (N.count names.now) }
+        requires inside { code < N.count names.now }
+        ensures { IfOk result (λ term. tree_of term ≡ renamed (N.meaning names.now) (joint (solved_form self.now) code)) }
     {
         match self.cell_of(code) {
             Some(cell) => self.term_at(alloc, names, cell),
-            None => Ok(renamed_variable(names, code)),
+            None => Ok(Term::Var(names.name(code))),
         }
     }
 
     /// The term of a cell, with the shared variables renamed.
     #[cycle(build)]
-    fn term_at(&self, alloc: Global, names: &[u32], cell: usize) -> Mem<Term>
-        requires names { HasNames self.now names.now }
+    fn term_at<N: Naming>(&self, alloc: Global, names: &N, cell: usize) -> Mem<Term>
+        requires names { HasNames self.now (N.count names.now) }
         requires inside { cell < length self.now.cells.items }
         ensures { IfOk result (λ term.
-            tree_of term ≡ renamed (slice_index names.now) (as_tree (value_at variable self.now.cells.items cell))) }
+            tree_of term ≡ renamed (N.meaning names.now) (as_tree (value_at variable self.now.cells.items cell))) }
     {
         match self.cell(cell) {
-            Cell::Variable(code) => Ok(renamed_variable(names, code)),
+            Cell::Variable(code) => Ok(Term::Var(names.name(code))),
             Cell::Application(symbol, list) => {
                 Ok(Term::App(symbol, self.terms_at(alloc, names, list)?))
             }
@@ -147,11 +198,11 @@ impl Solution {
 
     /// The terms of a list's cell, with the shared variables renamed.
     #[cycle(build)]
-    fn terms_at(&self, alloc: Global, names: &[u32], list: usize) -> Mem<Terms>
-        requires names { HasNames self.now names.now }
+    fn terms_at<N: Naming>(&self, alloc: Global, names: &N, list: usize) -> Mem<Terms>
+        requires names { HasNames self.now (N.count names.now) }
         requires inside { list < length self.now.cells.items }
         ensures { IfOk result (λ terms.
-            trees_of terms ≡ renamed_trees (slice_index names.now) (as_trees (value_at variable self.now.cells.items list))) }
+            trees_of terms ≡ renamed_trees (N.meaning names.now) (as_trees (value_at variable self.now.cells.items list))) }
     {
         let mut items = Vec::new(alloc);
         let mut at = list;
@@ -161,14 +212,6 @@ impl Solution {
         }
         Ok(Terms::from_vec(items))
     }
-}
-
-/// The variable of a new name.
-fn renamed_variable(names: &[u32], code: u64) -> Term
-    requires { code < length names.now }
-    ensures { tree_of result ≡ variable (slice_index names.now code) }
-{
-    Term::Var(names[code as usize])
 }
 
 /// What stands where no term can stand.

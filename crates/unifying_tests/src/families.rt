@@ -117,18 +117,15 @@ fn classical_size<R: Wait>(rt: &R, alloc: Global, depth: u32) -> Mem<Option<u64>
 #[test]
 fn the_classical_family_does_not_blow_up(rt: HostRuntime) -> Result<(), Fail> {
     let alloc = rt.alloc();
-    assert_eq!(rt; classical_size(&rt, alloc, 1)?, Some(4));
-    assert_eq!(rt; classical_size(&rt, alloc, 10)?, Some(2_048));
-    assert_eq!(rt;
-        classical_size(&rt, alloc, 60)?,
-        Some(2_305_843_009_213_693_952)
-    );
-    assert_eq!(rt;
-        classical_size(&rt, alloc, 62)?,
-        Some(9_223_372_036_854_775_808)
-    );
-    assert_eq!(rt; classical_size(&rt, alloc, 63)?, Some(u64::MAX));
-    assert_eq!(rt; classical_size(&rt, alloc, 500)?, Some(u64::MAX));
+    for (depth, size) in [
+        (1, 4),
+        (10, 2_048),
+        (62, 9_223_372_036_854_775_808),
+        (63, u64::MAX),
+        (500, u64::MAX),
+    ] {
+        assert_eq!(rt; classical_size(&rt, alloc, depth)?, Some(size), "{depth}");
+    }
     Ok(())
 }
 

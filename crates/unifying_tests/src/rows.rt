@@ -1,9 +1,8 @@
 // Rows worked out by hand, and a table of small pairs against a plain unifier.
 
-ghost use Rattle.std.specs.Prelude.{◌≤◌, ◌^◌};
 ghost use Rattle.term_bank.specs.Bank.{IsOf};
 
-use fol_base::{SIZE_LIMIT, Side, Subst, Term, Terms, same_term};
+use fol_base::{Side, Subst, Term, same_term};
 use plain_types::Mem;
 use sample_terms::{binary, constant, unary};
 use std::alloc::Global;
@@ -15,12 +14,21 @@ const A: u32 = 1;
 
 const B: u32 = 2;
 
-const F: u32 = 3;
-
+/// The one symbol of two arguments.
 const G: u32 = 4;
 
-/// The one symbol of one argument; f and g have two.
+/// The one symbol of one argument.
 const H: u32 = 5;
+
+/// The terms of a text, by a stack: x, y, z are variables and a, b constants, f takes one term from the stack (its symbol is H here)
+/// and g two.
+fn terms_of(alloc: Global, text: &str) -> Mem<Vec<Term>> {
+    let mut stack = Vec::new(alloc);
+    for byte in text.as_bytes() {
+        step(alloc, &mut stack, *byte)?;
+    }
+    Ok(stack)
+}
 
 /// Whether two lists of terms are the same.
 fn are(terms: &Subst, wanted: &[Term]) -> bool {
@@ -36,162 +44,69 @@ fn are(terms: &Subst, wanted: &[Term]) -> bool {
     true
 }
 
-/// The two substitutions of a most general unifier, for counts above the variables of the terms. None
-/// where no unifier exists, or a count is too small.
-fn unified_terms(
-    alloc: Global,
-    terms: (&Term, &Term),
+/// Two terms, whether their sides are taken apart, and counts above their variables; and the terms for so many first variables of each
+/// side, by a most general unifier.
+struct Unified {
+    terms: &'static str,
     apart: bool,
-    counts: (u32, u32),
-) -> Mem<Option<(Subst, Subst)>>
-    requires left { counts.0 ≤ SIZE_LIMIT }
-    requires right { counts.1 ≤ SIZE_LIMIT }
-{
-    let (left, right) = terms;
-    let (left_vars, right_vars) = counts;
-    if left.variable_bound() > u64::from(left_vars) {
-        return Ok(None);
-    }
-    if right.variable_bound() > u64::from(right_vars) {
-        return Ok(None);
-    }
-    match unify(alloc, left, right, apart)? {
-        Some(found) => Ok(Some(found.substs(left_vars, right_vars)?)),
-        None => Ok(None),
-    }
+    counts: (u8, u8),
+    left: &'static str,
+    right: &'static str,
 }
 
-/// The one substitution that makes two terms equal, for a count above the variables of both. None where no
-/// unifier exists, or the count is too small.
-fn unified_by_one(alloc: Global, terms: (&Term, &Term), count: u32) -> Mem<Option<Subst>>
-    requires { count ≤ SIZE_LIMIT }
-{
-    let (left, right) = terms;
-    if left.variable_bound() > u64::from(count) {
-        return Ok(None);
-    }
-    if right.variable_bound() > u64::from(count) {
-        return Ok(None);
-    }
-    match unify(alloc, left, right, false)? {
-        Some(found) => {
-            let (made, _) = found.substs(count, 0)?;
-            Ok(Some(made))
+const UNIFIED: &[Unified] = &[
+    Unified {
+        terms: "xygyag",
+        apart: false,
+        counts: (2, 0),
+        left: "aa",
+        right: "",
+    },
+    Unified {
+        terms: "xygyag",
+        apart: false,
+        counts: (2, 2),
+        left: "aa",
+        right: "aa",
+    },
+    Unified {
+        terms: "xbgaxg",
+        apart: true,
+        counts: (1, 1),
+        left: "a",
+        right: "b",
+    },
+    Unified {
+        terms: "xxf",
+        apart: true,
+        counts: (1, 1),
+        left: "xf",
+        right: "x",
+    },
+];
+
+/// Whether two terms have the most general unifier of a row.
+fn has_its_unifier(alloc: Global, row: &Unified) -> Mem<bool> {
+    let terms = terms_of(alloc, row.terms)?;
+    let (Some(left), Some(right)) = (terms.first(), terms.last()) else {
+        return Ok(false);
+    };
+    let (first, second) = (u32::from(row.counts.0), u32::from(row.counts.1));
+    match unify(alloc, left, right, row.apart)? {
+        Some(found) if found.fits(first, second) => {
+            let (one, other) = found.substs(first, second)?;
+            let wanted = terms_of(alloc, row.left)?;
+            let wanted_right = terms_of(alloc, row.right)?;
+            Ok(are(&one, wanted.as_slice()) && are(&other, wanted_right.as_slice()))
         }
-        None => Ok(None),
+        _ => Ok(false),
     }
 }
 
 #[test]
-fn one_substitution_for_both_sides(rt: HostRuntime) -> Result<(), Fail> {
-    let alloc = rt.alloc();
-    let left = binary(alloc, F, Term::Var(0), Term::Var(1))?;
-    let right = binary(alloc, F, Term::Var(1), constant(alloc, A))?;
-    if let Some(made) = unified_by_one(alloc, (&left, &right), 2)? {
-        assert!(rt; are(&made, &[constant(alloc, A), constant(alloc, A)]));
-    } else {
-        assert!(rt; false);
-    }
-    Ok(())
-}
-
-#[test]
-fn variables_apart_are_different_ones(rt: HostRuntime) -> Result<(), Fail> {
-    let alloc = rt.alloc();
-    let left = binary(alloc, F, Term::Var(0), constant(alloc, B))?;
-    let right = binary(alloc, F, constant(alloc, A), Term::Var(0))?;
-    assert!(rt; unify(alloc, &left, &right, false)?.is_none());
-    if let Some((first, second)) = unified_terms(alloc, (&left, &right), true, (1, 1))? {
-        assert!(rt; are(&first, &[constant(alloc, A)]));
-        assert!(rt; are(&second, &[constant(alloc, B)]));
-    } else {
-        assert!(rt; false);
-    }
-    Ok(())
-}
-
-#[test]
-fn counts_that_fit(rt: HostRuntime) -> Result<(), Fail> {
-    let alloc = rt.alloc();
-    let left = binary(alloc, F, Term::Var(0), Term::Var(2))?;
-    let right = binary(alloc, F, constant(alloc, A), Term::Var(1))?;
-    if let Some(found) = unify(alloc, &left, &right, true)? {
-        assert!(rt; found.fits(3, 2) && !found.fits(2, 2) && !found.fits(3, 1));
-    } else {
-        assert!(rt; false);
-    }
-    if let Some(found) = unify(alloc, &left, &right, false)? {
-        assert!(rt; found.fits(3, 0) && found.fits(0, 3) && !found.fits(2, 2));
-    } else {
-        assert!(rt; false);
-    }
-    Ok(())
-}
-
-#[test]
-fn unbound_variables_are_counted(rt: HostRuntime) -> Result<(), Fail> {
-    let alloc = rt.alloc();
-    let variable = Term::Var(5);
-    if let Some(found) = unify(alloc, &variable, &variable, false)? {
-        assert!(rt; found.fits(6, 0) && !found.fits(0, 0));
-    } else {
-        assert!(rt; false);
-    }
-    Ok(())
-}
-
-/// Whether two lists of two terms are two different variables and the same two in the other order.
-fn are_swapped(first: &Subst, second: &Subst) -> bool {
-    let first = first.as_slice();
-    let second = second.as_slice();
-    if first.len() != 2 || second.len() != 2 {
-        return false;
-    }
-    let crossed = same_term(&first[0], &second[1]) && same_term(&first[1], &second[0]);
-    crossed && are_both_variables(&first[0], &first[1])
-}
-
-/// Whether one term is X0 and the other X1.
-fn are_both_variables(first: &Term, second: &Term) -> bool {
-    match (first, second) {
-        (Term::Var(one), Term::Var(other)) => (*one == 0 && *other == 1)
-            || (*one == 1 && *other == 0),
-        _ => false,
-    }
-}
-
-#[test]
-fn two_variables_are_shared(rt: HostRuntime) -> Result<(), Fail> {
-    let alloc = rt.alloc();
-    let left = binary(alloc, F, Term::Var(0), Term::Var(1))?;
-    let right = binary(alloc, F, Term::Var(1), Term::Var(0))?;
-    if let Some((first, second)) = unified_terms(alloc, (&left, &right), true, (2, 2))? {
-        assert!(rt; are_swapped(&first, &second));
-    } else {
-        assert!(rt; false);
-    }
-    Ok(())
-}
-
-#[test]
-fn variables_together_are_the_same(rt: HostRuntime) -> Result<(), Fail> {
-    let alloc = rt.alloc();
-    let left = binary(alloc, F, Term::Var(0), Term::Var(1))?;
-    let right = binary(alloc, F, Term::Var(1), constant(alloc, A))?;
-    if let Some((first, second)) = unified_terms(alloc, (&left, &right), false, (2, 2))? {
-        let wanted = [constant(alloc, A), constant(alloc, A)];
-        assert!(rt; are(&first, &wanted) && are(&second, &wanted));
-    } else {
-        assert!(rt; false);
-    }
-    let left = binary(alloc, F, Term::Var(0), Term::Var(2))?;
-    let right = binary(alloc, F, Term::Var(2), Term::Var(0))?;
-    if let Some((first, second)) = unified_terms(alloc, (&left, &right), false, (3, 3))? {
-        let first = first.as_slice();
-        assert!(rt; first.len() == 3 && are(&second, first));
-        assert!(rt; same_term(&first[0], &first[2]) && are_both_variables(&first[0], &first[1]));
-    } else {
-        assert!(rt; false);
+fn pairs_are_unified(rt: HostRuntime) -> Result<(), Fail> {
+    for (index, row) in UNIFIED.iter().enumerate() {
+        assert!(rt; has_its_unifier(rt.alloc(), row)?, "{index}");
     }
     Ok(())
 }
@@ -214,45 +129,23 @@ pub fn size_of_equation(
     found.instance_size(bank, side, &[literal])
 }
 
+/// The sizes of `f(X0,b) = b` and of `f(X0,b) = f(X0,b)` on the left, and of `b = f(X0,b)` on the right, after the unifier of
+/// `f(X0,b)` and `f(a,X0)` apart.
 #[test]
 fn the_size_of_an_instance(rt: HostRuntime) -> Result<(), Fail> {
     let alloc = rt.alloc();
-    let left = binary(alloc, F, Term::Var(0), constant(alloc, B))?;
-    let right = binary(alloc, F, constant(alloc, A), Term::Var(0))?;
+    let left = binary(alloc, G, Term::Var(0), constant(alloc, B))?;
+    let right = binary(alloc, G, constant(alloc, A), Term::Var(0))?;
     let (bank, mut table) = Bank::new(alloc)?;
     let term = bank.intern(&rt, alloc, &mut table, &left)?;
     let b = bank.intern(&rt, alloc, &mut table, &constant(alloc, B))?;
-    if let Some(found) = unify(alloc, &left, &right, true)? {
-        assert_eq!(rt;
-            size_of_equation(&found, &bank, Side::Left, (&term, &b))?,
-            4
-        );
-        assert_eq!(rt;
-            size_of_equation(&found, &bank, Side::Left, (&term, &term))?,
-            6
-        );
-        assert_eq!(rt;
-            size_of_equation(&found, &bank, Side::Right, (&b, &term))?,
-            4
-        );
-    } else {
-        assert!(rt; false);
-    }
-    Ok(())
-}
-
-#[test]
-fn no_variable_contains_itself(rt: HostRuntime) -> Result<(), Fail> {
-    let alloc = rt.alloc();
-    let left = Term::Var(0);
-    let right = unary(alloc, H, Term::Var(0))?;
-    assert!(rt; unify(alloc, &left, &right, false)?.is_none());
-    if let Some((first, second)) = unified_terms(alloc, (&left, &right), true, (1, 1))? {
-        assert!(rt; are(&first, &[unary(alloc, H, Term::Var(0))?]));
-        assert!(rt; are(&second, &[Term::Var(0)]));
-    } else {
-        assert!(rt; false);
-    }
+    let Some(found) = unify(alloc, &left, &right, true)? else {
+        return Err(Fail::new("no unifier"));
+    };
+    let small = size_of_equation(&found, &bank, Side::Left, (&term, &b))?;
+    let large = size_of_equation(&found, &bank, Side::Left, (&term, &term))?;
+    let other = size_of_equation(&found, &bank, Side::Right, (&b, &term))?;
+    assert!(rt; (small, large, other) == (4, 6, 4));
     Ok(())
 }
 
@@ -290,28 +183,26 @@ fn can_go_on<'a>(
 #[test]
 fn a_pattern_is_matched(rt: HostRuntime) -> Result<(), Fail> {
     let alloc = rt.alloc();
-    let pattern = binary(alloc, F, Term::Var(0), Term::Var(0))?;
-    let differs = binary(alloc, F, constant(alloc, A), constant(alloc, B))?;
-    let same = binary(alloc, F, constant(alloc, A), constant(alloc, A))?;
+    let pattern = binary(alloc, G, Term::Var(0), Term::Var(0))?;
+    let differs = binary(alloc, G, constant(alloc, A), constant(alloc, B))?;
+    let same = binary(alloc, G, constant(alloc, A), constant(alloc, A))?;
     let b = constant(alloc, B);
-    let known = Term::Var(0);
-    let further = Term::Var(1);
     assert!(rt; matched_terms(alloc, &pattern, &differs, 1)?.is_none());
-    if let Some(terms) = matched_terms(alloc, &pattern, &same, 1)? {
-        assert!(rt; are(&terms, &[constant(alloc, A)]));
-    } else {
-        assert!(rt; false);
-    }
-    assert!(rt; !can_go_on(alloc, (&pattern, &known), &same, &b)?);
-    assert!(rt; can_go_on(alloc, (&pattern, &further), &same, &b)?);
+    let Some(terms) = matched_terms(alloc, &pattern, &same, 1)? else {
+        return Err(Fail::new("no matcher"));
+    };
+    assert!(rt; are(&terms, &[constant(alloc, A)]));
+    let known = can_go_on(alloc, (&pattern, &Term::Var(0)), &same, &b)?;
+    let further = can_go_on(alloc, (&pattern, &Term::Var(1)), &same, &b)?;
+    assert!(rt; !known && further);
     Ok(())
 }
 
-/// Pairs of terms, by a stack: x, y, z are variables and a, b constants, f takes one term from the stack
-/// (its symbol is H here) and g two. Then a letter says what is known of the two: p where they unify, q where they do apart
+/// Pairs of terms, by a stack. Then a letter says what is known of the two: p where they unify, q where they do apart
 /// alone, r where they don't; small where the second one is an instance of the first. A plain unifier
 /// outside the repository made the answers.
-const TABLE: [&str; 30] = [
+const TABLE: [&str; 31] = [
+    "xxfqxbgaxgQ",
     "yxfyfgfqxbzgffpafffyffPaxagzgRbxagfRaxgffxQbaabggxgRyafpzzgyyggfxPazagRyffxffxagfgR",
     "yfzfgaffxfxggRzbfxgfpbfxPzyyggyffgxygxfgyzgxggRyagygxfxgfRyfxfgagyygRbyzfgbgRxxyyggzgq",
     "bfygafgyxgfxgRbxzgffRxabgffpzfxfffpyygagfxPyyxgyygggaxgQaazggzQbbxfgfRbbgzfgxgxQxyzgfp",
@@ -359,18 +250,18 @@ fn a_table_of_small_pairs(rt: HostRuntime) -> Result<(), Fail> {
             }
         }
     }
-    assert_eq!(rt; rows, 300);
+    assert_eq!(rt; rows, 302);
     Ok(())
 }
 
 /// Whether two terms unify, whether they do apart, and whether the first one matches the second.
-type Row = (bool, bool, bool);
+type Answers = (bool, bool, bool);
 
 fn is_answer(byte: u8) -> bool {
     matches!(byte, b'p' | b'q' | b'r' | b'P' | b'Q' | b'R')
 }
 
-fn wanted(byte: u8) -> Row {
+fn wanted(byte: u8) -> Answers {
     match byte {
         b'p' => (true, true, true),
         b'q' => (false, true, true),
@@ -381,7 +272,7 @@ fn wanted(byte: u8) -> Row {
 }
 
 /// Takes the pair from the stack.
-fn row(alloc: Global, stack: &mut Vec<Term>) -> Mem<Option<Row>> {
+fn row(alloc: Global, stack: &mut Vec<Term>) -> Mem<Option<Answers>> {
     match stack.pop() {
         Some(right) => match stack.pop() {
             Some(left) => Ok(Some(row_of(alloc, &left, &right)?)),
@@ -391,7 +282,7 @@ fn row(alloc: Global, stack: &mut Vec<Term>) -> Mem<Option<Row>> {
     }
 }
 
-fn row_of(alloc: Global, left: &Term, right: &Term) -> Mem<Row> {
+fn row_of(alloc: Global, left: &Term, right: &Term) -> Mem<Answers> {
     let together = unify(alloc, left, right, false)?;
     let apart = unify(alloc, left, right, true)?;
     let empty = Matched::empty(alloc);

@@ -1,6 +1,6 @@
 // Laws of lawful histories: each is the contract of a function without arguments and with an empty body.
 
-ghost use Rattle.pool_core.specs.Laws.{ClaimedInTime, DeathsAreJustified, SpentIsTheCount};
+ghost use Rattle.pool_core.specs.Laws.{ClaimedInTime, DeathsAreJustified, OutcomesStay, PicksAreChosen, SetAsideAreHeavy, SpentIsTheCount};
 
 /// A clause that stays awake and alive, with m older ones, is claimed within 6(m + 1) given claims, while no job is given up.
 pub fn claimed_in_time()
@@ -15,4 +15,19 @@ pub fn spent_is_the_count()
 /// Each clause that died was justified by other clauses alone, all alive at that moment.
 pub fn deaths_are_justified()
     ensures { DeathsAreJustified }
+{}
+
+/// What is given next is what the queue's rule picks of the clauses that are ready.
+pub fn picks_are_chosen()
+    ensures { PicksAreChosen }
+{}
+
+/// Once an outcome stands it stays.
+pub fn outcomes_stay()
+    ensures { OutcomesStay }
+{}
+
+/// What was set aside was counted, and names a heavy inference of registered clauses.
+pub fn set_aside_are_heavy()
+    ensures { SetAsideAreHeavy }
 {}

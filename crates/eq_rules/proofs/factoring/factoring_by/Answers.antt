@@ -1,4 +1,4 @@
-use Rattle.std.proofs.Common.{◌≡◌, ℕ, ◌-◌, ◌^◌, min, false, None, List, length, inl, inr, arith, ap, sym, ◌∙◌, subst}
+use Rattle.std.proofs.Common.{◌≡◌, ◌≤◌, ◌-◌, ◌^◌, min, false, None, List, [], length, inl, inr, arith, ap, sym, ◌∙◌}
 use Rattle.std.specs.Prelude.{sum_by}
 use Rattle.std.proofs.lemmas.Option.{slice_get_within}
 use Rattle.fol_base.specs.Tree.{tree_size}
@@ -10,20 +10,27 @@ use Rattle.fol_base.specs.Lent.{lent_of}
 use Rattle.fol_base.specs.Selection.{eligible, select_nothing}
 use Rattle.fol_base.specs.Sides.{side_of, other_side_of}
 use Rattle.fol_base.specs.declared.clause.Side.TheVariants.{Left}
-use Rattle.fol_base.specs.declared.limits.TheConstants.{MOST_SYMBOLS}
+use Rattle.fol_base.specs.declared.limits.TheConstants.{MOST_SYMBOLS, SIZE_LIMIT}
 use Rattle.kernel_steps.specs.Inference.{other_side_not_above}
 use Rattle.term_bank.specs.Literal.{literals_at}
 use Rattle.bank_clause.specs.Clause.{clause_at}
-use Rattle.unifier.specs.Renaming.{AreRenamed}
+use Rattle.unifier.specs.Renaming.{AreNamedTerms}
 use Rattle.unifier.specs.Sizes.{stopped}
+use Rattle.unifier.proofs.BoundLemmas.{fits-above}
 use Rattle.eq_rules.specs.Inferences.{alone}
 use Rattle.eq_rules.proofs.FactorAnswers.{lent_there, part_size, sides_size, total_size, told_size}
 use Rattle.eq_rules.proofs.FactoringLemmas.{factor_terms, factoring_not_eligible, factoring_not_ordered, factoring_applies, plain_size, factoring_heavy, factoring_concluded}
 use Rattle.eq_rules.proofs.SideLemmas.{alike-kinds}
 use Rattle.eq_rules.proofs.MadeLemmas.{size_above, size_within, alone_there, made_by_factoring}
-use Rattle.eq_rules.proofs.PremiseLemmas.{literal-kind}
+use Rattle.eq_rules.proofs.PremiseLemmas.{own_terms, literal-kind}
 use Rattle.eq_rules.proofs.factoring.factoring_by.Goals as goal
 use Rattle.unifier.specs.SolvedForm.{substitution_of}
+
+pub terms-requires-clause-fits : goal.terms-requires-clause-fits
+terms-requires-clause-fits c =
+    let few : bound_of (clause_variables (clause_at c.args.given.now.clause)) ≤ SIZE_LIMIT =
+    omega (arith, c.variable_bound.ensures.variables, c.variable_bound.ensures.limit) in
+    fits-above c.args.unifier.now (bound_of (clause_variables (clause_at c.args.given.now.clause))) 0 SIZE_LIMIT SIZE_LIMIT few (omega arith) c.requires.unified.counted
 
 pub is_not_below-requires : goal.is_not_below-requires
 is_not_below-requires c =
@@ -34,14 +41,13 @@ is_not_below-requires c =
     let r = c.requires.unified in
     let n = bound_of (clause_variables d) in
     let terms = c.in_ok-terms.terms in
-    let h : AreRenamed b n 0 terms c.in_ok-terms.field-0-1 =
-    subst (λ (k : ℕ). AreRenamed b k 0 terms c.in_ok-terms.field-0-1) c.variable_bound.ensures.variables c.in_ok-terms.ensures in
+    let h : AreNamedTerms b n 0 terms [] = own_terms b n c.variable_bound.result terms c.variable_bound.ensures.variables c.in_ok-terms.ensures in
     let σ = substitution_of b Left in
     let size : c.in_ok-size.size ≡ stopped (clause_size (clause_instance σ d)) =
     c.in_ok-size.ensures ∙ ap (λ ls. stopped (sum_by literal_size (literals_instance σ (literals_at ls)))) c.literals.ensures.literals in
     let lent_is = lent_there c.lend-literals.result d.literals place.becomes.literal (lent_of c.literal-becomes.result) r.literal_i c.lend-literals.ensures c.literal-becomes.ensures r.i_there in
     let total = total_size c.in_ok-size.size (clause_size (clause_instance σ d)) size (omega (arith, c.if-size-ge-SIZE_LIMIT.false)) in
-    let t = factor_terms (λ f. false) select_nothing (alone m) m.number d place (alone_there m) b r terms c.in_ok-terms.field-0-1 h in
+    let t = factor_terms (λ f. false) select_nothing (alone m) m.number d place (alone_there m) b r terms [] h in
     let here = ap (λ l. literal_size (literal_instance (substitution terms) l)) lent_is in
     let low = part_size (substitution terms) d.literals place.becomes.literal r.literal_i r.i_there in
     omega (arith, here, low, t.size, total, c.if-size-ge-SIZE_LIMIT.false)
@@ -55,10 +61,9 @@ returns-then-not-is_not_below c mode none usage used e it =
     let r = c.requires.unified in
     let n = bound_of (clause_variables d) in
     let terms = c.in_ok-terms.terms in
-    let h : AreRenamed b n 0 terms c.in_ok-terms.field-0-1 =
-    subst (λ (k : ℕ). AreRenamed b k 0 terms c.in_ok-terms.field-0-1) c.variable_bound.ensures.variables c.in_ok-terms.ensures in
+    let h : AreNamedTerms b n 0 terms [] = own_terms b n c.variable_bound.result terms c.variable_bound.ensures.variables c.in_ok-terms.ensures in
     let lent_is = lent_there c.lend-literals.result d.literals place.becomes.literal (lent_of c.literal-becomes.result) r.literal_i c.lend-literals.ensures c.literal-becomes.ensures r.i_there in
-    factoring_not_ordered usage.is_predicate mode (alone m) m.number d place (alone_there m) b r terms c.in_ok-terms.field-0-1 h
+    factoring_not_ordered usage.is_predicate mode (alone m) m.number d place (alone_there m) b r terms [] h
     (ap (λ l. other_side_not_above (substitution terms) place.becomes.side l) (sym lent_is) ∙ sym c.if-not-is_not_below.ensures) e it
 
 pub eligible_under-requires-clause-in_range : goal.eligible_under-requires-clause-in_range
@@ -76,13 +81,12 @@ eligible_under-requires-clause-size c =
     let r = c.requires.unified in
     let n = bound_of (clause_variables d) in
     let terms = c.in_ok-terms.terms in
-    let h : AreRenamed b n 0 terms c.in_ok-terms.field-0-1 =
-    subst (λ (k : ℕ). AreRenamed b k 0 terms c.in_ok-terms.field-0-1) c.variable_bound.ensures.variables c.in_ok-terms.ensures in
+    let h : AreNamedTerms b n 0 terms [] = own_terms b n c.variable_bound.result terms c.variable_bound.ensures.variables c.in_ok-terms.ensures in
     let σ = substitution_of b Left in
     let size : c.in_ok-size.size ≡ stopped (clause_size (clause_instance σ d)) =
     c.in_ok-size.ensures ∙ ap (λ ls. stopped (sum_by literal_size (literals_instance σ (literals_at ls)))) c.literals.ensures.literals in
     let total = total_size c.in_ok-size.size (clause_size (clause_instance σ d)) size (omega (arith, c.if-size-ge-SIZE_LIMIT.false)) in
-    let t = factor_terms (λ f. false) select_nothing (alone m) m.number d place (alone_there m) b r terms c.in_ok-terms.field-0-1 h in
+    let t = factor_terms (λ f. false) select_nothing (alone m) m.number d place (alone_there m) b r terms [] h in
     let lent : sum_by literal_size (literals_instance (substitution terms) c.lend-literals.result) ≡ sum_by literal_size (literals_instance (substitution terms) d.literals) =
     ap (λ ls. sum_by literal_size (literals_instance (substitution terms) ls)) c.lend-literals.ensures in
     omega (arith, lent, t.size, total, c.if-size-ge-SIZE_LIMIT.false)
@@ -96,9 +100,8 @@ returns-then-not-eligible_under c mode none usage used e it =
     let r = c.requires.unified in
     let n = bound_of (clause_variables d) in
     let terms = c.in_ok-terms.terms in
-    let h : AreRenamed b n 0 terms c.in_ok-terms.field-0-1 =
-    subst (λ (k : ℕ). AreRenamed b k 0 terms c.in_ok-terms.field-0-1) c.variable_bound.ensures.variables c.in_ok-terms.ensures in
-    factoring_not_eligible usage.is_predicate mode (alone m) m.number d place (alone_there m) b r terms c.in_ok-terms.field-0-1 h none
+    let h : AreNamedTerms b n 0 terms [] = own_terms b n c.variable_bound.result terms c.variable_bound.ensures.variables c.in_ok-terms.ensures in
+    factoring_not_eligible usage.is_predicate mode (alone m) m.number d place (alone_there m) b r terms [] h none
     (ap (λ ls. eligible (literals_instance (substitution terms) ls) place.becomes.literal None false) (sym c.lend-literals.ensures)
     ∙ sym c.if-not-eligible_under.ensures) e it
 
@@ -111,8 +114,7 @@ returns-then-size-gt-MOST_SYMBOLS c mode none usage used =
     let r = c.requires.unified in
     let n = bound_of (clause_variables d) in
     let terms = c.in_ok-terms.terms in
-    let h : AreRenamed b n 0 terms c.in_ok-terms.field-0-1 =
-    subst (λ (k : ℕ). AreRenamed b k 0 terms c.in_ok-terms.field-0-1) c.variable_bound.ensures.variables c.in_ok-terms.ensures in
+    let h : AreNamedTerms b n 0 terms [] = own_terms b n c.variable_bound.result terms c.variable_bound.ensures.variables c.in_ok-terms.ensures in
     let σ = substitution_of b Left in
     let size : c.in_ok-size.size ≡ stopped (clause_size (clause_instance σ d)) =
     c.in_ok-size.ensures ∙ ap (λ ls. stopped (sum_by literal_size (literals_instance σ (literals_at ls)))) c.literals.ensures.literals in
@@ -122,7 +124,7 @@ returns-then-size-gt-MOST_SYMBOLS c mode none usage used =
     (literal-kind usage d place.becomes.literal r.literal_i used r.i_there) (literal-kind usage d place.other.literal r.literal_j used r.j_there) r.alike in
     let ordered = ap (λ l. other_side_not_above (substitution terms) place.becomes.side l) (sym lent_is) ∙ sym c.if-not-is_not_below.ensures in
     let is_eligible = ap (λ ls. eligible (literals_instance (substitution terms) ls) place.becomes.literal None false) (sym c.lend-literals.ensures) ∙ sym c.if-not-eligible_under.ensures in
-    factoring_heavy usage.is_predicate mode (alone m) m.number d place (alone_there m) b r terms c.in_ok-terms.field-0-1 h none kinds ordered is_eligible
+    factoring_heavy usage.is_predicate mode (alone m) m.number d place (alone_there m) b r terms [] h none kinds ordered is_eligible
     (inl (size_above c.in_ok-size.size (clause_size (clause_instance σ d)) MOST_SYMBOLS size c.if-size-gt-MOST_SYMBOLS.true))
 
 pub literal-other-requires : goal.literal-other-requires
@@ -140,14 +142,13 @@ overflow_sub-size c =
     let r = c.requires.unified in
     let n = bound_of (clause_variables d) in
     let terms = c.in_ok-terms.terms in
-    let h : AreRenamed b n 0 terms c.in_ok-terms.field-0-1 =
-    subst (λ (k : ℕ). AreRenamed b k 0 terms c.in_ok-terms.field-0-1) c.variable_bound.ensures.variables c.in_ok-terms.ensures in
+    let h : AreNamedTerms b n 0 terms [] = own_terms b n c.variable_bound.result terms c.variable_bound.ensures.variables c.in_ok-terms.ensures in
     let σ = substitution_of b Left in
     let size : c.in_ok-size.size ≡ stopped (clause_size (clause_instance σ d)) =
     c.in_ok-size.ensures ∙ ap (λ ls. stopped (sum_by literal_size (literals_instance σ (literals_at ls)))) c.literals.ensures.literals in
     let lent_is = lent_there c.lend-literals.result d.literals place.becomes.literal (lent_of c.literal-becomes.result) r.literal_i c.lend-literals.ensures c.literal-becomes.ensures r.i_there in
     let total = total_size c.in_ok-size.size (clause_size (clause_instance σ d)) size (omega (arith, c.if-size-ge-SIZE_LIMIT.false)) in
-    let t = factor_terms (λ f. false) select_nothing (alone m) m.number d place (alone_there m) b r terms c.in_ok-terms.field-0-1 h in
+    let t = factor_terms (λ f. false) select_nothing (alone m) m.number d place (alone_there m) b r terms [] h in
     let other_is = lent_there c.lend-literals.result d.literals place.other.literal (lent_of c.literal-other.result) r.literal_j c.lend-literals.ensures c.literal-other.ensures r.j_there in
     let s = side_of place.becomes.side r.literal_i in
     let v = other_side_of place.other.side r.literal_j in
@@ -161,7 +162,7 @@ overflow_sub-size c =
     let told =
     told_size _ (tree_size (instance (substitution terms) s)) (tree_size (instance (substitution terms) v))
     (sum_by literal_size (literals_instance (substitution terms) d.literals)) c.in_ok-size.size c.instance_size-goes.result c.instance_size-comes.result
-    (plain_size (λ f. false) select_nothing (alone m) m.number d place (alone_there m) b r terms c.in_ok-terms.field-0-1 h) whole_is
+    (plain_size (λ f. false) select_nothing (alone m) m.number d place (alone_there m) b r terms [] h) whole_is
     (omega (arith, first, sides_size (substitution terms) place.becomes.side r.literal_i, whole_is))
     (omega (arith, second, sides_size (substitution terms) place.other.side r.literal_j, whole_is))
     (omega (arith, c.if-size-gt-MOST_SYMBOLS.false)) goes comes in
@@ -176,14 +177,13 @@ overflow_add-size c =
     let r = c.requires.unified in
     let n = bound_of (clause_variables d) in
     let terms = c.in_ok-terms.terms in
-    let h : AreRenamed b n 0 terms c.in_ok-terms.field-0-1 =
-    subst (λ (k : ℕ). AreRenamed b k 0 terms c.in_ok-terms.field-0-1) c.variable_bound.ensures.variables c.in_ok-terms.ensures in
+    let h : AreNamedTerms b n 0 terms [] = own_terms b n c.variable_bound.result terms c.variable_bound.ensures.variables c.in_ok-terms.ensures in
     let σ = substitution_of b Left in
     let size : c.in_ok-size.size ≡ stopped (clause_size (clause_instance σ d)) =
     c.in_ok-size.ensures ∙ ap (λ ls. stopped (sum_by literal_size (literals_instance σ (literals_at ls)))) c.literals.ensures.literals in
     let lent_is = lent_there c.lend-literals.result d.literals place.becomes.literal (lent_of c.literal-becomes.result) r.literal_i c.lend-literals.ensures c.literal-becomes.ensures r.i_there in
     let total = total_size c.in_ok-size.size (clause_size (clause_instance σ d)) size (omega (arith, c.if-size-ge-SIZE_LIMIT.false)) in
-    let t = factor_terms (λ f. false) select_nothing (alone m) m.number d place (alone_there m) b r terms c.in_ok-terms.field-0-1 h in
+    let t = factor_terms (λ f. false) select_nothing (alone m) m.number d place (alone_there m) b r terms [] h in
     let other_is = lent_there c.lend-literals.result d.literals place.other.literal (lent_of c.literal-other.result) r.literal_j c.lend-literals.ensures c.literal-other.ensures r.j_there in
     let s = side_of place.becomes.side r.literal_i in
     let v = other_side_of place.other.side r.literal_j in
@@ -197,7 +197,7 @@ overflow_add-size c =
     let told =
     told_size _ (tree_size (instance (substitution terms) s)) (tree_size (instance (substitution terms) v))
     (sum_by literal_size (literals_instance (substitution terms) d.literals)) c.in_ok-size.size c.instance_size-goes.result c.instance_size-comes.result
-    (plain_size (λ f. false) select_nothing (alone m) m.number d place (alone_there m) b r terms c.in_ok-terms.field-0-1 h) whole_is
+    (plain_size (λ f. false) select_nothing (alone m) m.number d place (alone_there m) b r terms [] h) whole_is
     (omega (arith, first, sides_size (substitution terms) place.becomes.side r.literal_i, whole_is))
     (omega (arith, second, sides_size (substitution terms) place.other.side r.literal_j, whole_is))
     (omega (arith, c.if-size-gt-MOST_SYMBOLS.false)) goes comes in
@@ -212,14 +212,13 @@ returns-then-size-goes-gt-MOST_SYMBOLS c mode none usage used =
     let r = c.requires.unified in
     let n = bound_of (clause_variables d) in
     let terms = c.in_ok-terms.terms in
-    let h : AreRenamed b n 0 terms c.in_ok-terms.field-0-1 =
-    subst (λ (k : ℕ). AreRenamed b k 0 terms c.in_ok-terms.field-0-1) c.variable_bound.ensures.variables c.in_ok-terms.ensures in
+    let h : AreNamedTerms b n 0 terms [] = own_terms b n c.variable_bound.result terms c.variable_bound.ensures.variables c.in_ok-terms.ensures in
     let σ = substitution_of b Left in
     let size : c.in_ok-size.size ≡ stopped (clause_size (clause_instance σ d)) =
     c.in_ok-size.ensures ∙ ap (λ ls. stopped (sum_by literal_size (literals_instance σ (literals_at ls)))) c.literals.ensures.literals in
     let lent_is = lent_there c.lend-literals.result d.literals place.becomes.literal (lent_of c.literal-becomes.result) r.literal_i c.lend-literals.ensures c.literal-becomes.ensures r.i_there in
     let total = total_size c.in_ok-size.size (clause_size (clause_instance σ d)) size (omega (arith, c.if-size-ge-SIZE_LIMIT.false)) in
-    let t = factor_terms (λ f. false) select_nothing (alone m) m.number d place (alone_there m) b r terms c.in_ok-terms.field-0-1 h in
+    let t = factor_terms (λ f. false) select_nothing (alone m) m.number d place (alone_there m) b r terms [] h in
     let other_is = lent_there c.lend-literals.result d.literals place.other.literal (lent_of c.literal-other.result) r.literal_j c.lend-literals.ensures c.literal-other.ensures r.j_there in
     let s = side_of place.becomes.side r.literal_i in
     let v = other_side_of place.other.side r.literal_j in
@@ -233,7 +232,7 @@ returns-then-size-goes-gt-MOST_SYMBOLS c mode none usage used =
     let told =
     told_size _ (tree_size (instance (substitution terms) s)) (tree_size (instance (substitution terms) v))
     (sum_by literal_size (literals_instance (substitution terms) d.literals)) c.in_ok-size.size c.instance_size-goes.result c.instance_size-comes.result
-    (plain_size (λ f. false) select_nothing (alone m) m.number d place (alone_there m) b r terms c.in_ok-terms.field-0-1 h) whole_is
+    (plain_size (λ f. false) select_nothing (alone m) m.number d place (alone_there m) b r terms [] h) whole_is
     (omega (arith, first, sides_size (substitution terms) place.becomes.side r.literal_i, whole_is))
     (omega (arith, second, sides_size (substitution terms) place.other.side r.literal_j, whole_is))
     (omega (arith, c.if-size-gt-MOST_SYMBOLS.false)) goes comes in
@@ -242,7 +241,7 @@ returns-then-size-goes-gt-MOST_SYMBOLS c mode none usage used =
     (literal-kind usage d place.becomes.literal r.literal_i used r.i_there) (literal-kind usage d place.other.literal r.literal_j used r.j_there) r.alike in
     let ordered = ap (λ l. other_side_not_above (substitution terms) place.becomes.side l) (sym lent_is) ∙ sym c.if-not-is_not_below.ensures in
     let is_eligible = ap (λ ls. eligible (literals_instance (substitution terms) ls) place.becomes.literal None false) (sym c.lend-literals.ensures) ∙ sym c.if-not-eligible_under.ensures in
-    factoring_heavy usage.is_predicate mode (alone m) m.number d place (alone_there m) b r terms c.in_ok-terms.field-0-1 h none kinds ordered is_eligible
+    factoring_heavy usage.is_predicate mode (alone m) m.number d place (alone_there m) b r terms [] h none kinds ordered is_eligible
     (inr (omega (arith, told.1, c.if-size-goes-gt-MOST_SYMBOLS.true)))
 
 pub conclude_factoring-requires-clause-becomes_inside : goal.conclude_factoring-requires-clause-becomes_inside
@@ -266,9 +265,8 @@ conclude_factoring-requires-clause-covers c =
     let r = c.requires.unified in
     let n = bound_of (clause_variables d) in
     let terms = c.in_ok-terms.terms in
-    let h : AreRenamed b n 0 terms c.in_ok-terms.field-0-1 =
-    subst (λ (k : ℕ). AreRenamed b k 0 terms c.in_ok-terms.field-0-1) c.variable_bound.ensures.variables c.in_ok-terms.ensures in
-    (factor_terms (λ f. false) select_nothing (alone m) m.number d place (alone_there m) b r terms c.in_ok-terms.field-0-1 h).many
+    let h : AreNamedTerms b n 0 terms [] = own_terms b n c.variable_bound.result terms c.variable_bound.ensures.variables c.in_ok-terms.ensures in
+    (factor_terms (λ f. false) select_nothing (alone m) m.number d place (alone_there m) b r terms [] h).many
 
 pub conclude_factoring-requires-clause-applies : goal.conclude_factoring-requires-clause-applies
 conclude_factoring-requires-clause-applies c =
@@ -279,9 +277,8 @@ conclude_factoring-requires-clause-applies c =
     let r = c.requires.unified in
     let n = bound_of (clause_variables d) in
     let terms = c.in_ok-terms.terms in
-    let h : AreRenamed b n 0 terms c.in_ok-terms.field-0-1 =
-    subst (λ (k : ℕ). AreRenamed b k 0 terms c.in_ok-terms.field-0-1) c.variable_bound.ensures.variables c.in_ok-terms.ensures in
-    factoring_applies (λ f. false) select_nothing (alone m) m.number d place (alone_there m) b r terms c.in_ok-terms.field-0-1 h
+    let h : AreNamedTerms b n 0 terms [] = own_terms b n c.variable_bound.result terms c.variable_bound.ensures.variables c.in_ok-terms.ensures in
+    factoring_applies (λ f. false) select_nothing (alone m) m.number d place (alone_there m) b r terms [] h
 
 pub returns : goal.returns
 returns c mode none usage used =
@@ -292,14 +289,13 @@ returns c mode none usage used =
     let r = c.requires.unified in
     let n = bound_of (clause_variables d) in
     let terms = c.in_ok-terms.terms in
-    let h : AreRenamed b n 0 terms c.in_ok-terms.field-0-1 =
-    subst (λ (k : ℕ). AreRenamed b k 0 terms c.in_ok-terms.field-0-1) c.variable_bound.ensures.variables c.in_ok-terms.ensures in
+    let h : AreNamedTerms b n 0 terms [] = own_terms b n c.variable_bound.result terms c.variable_bound.ensures.variables c.in_ok-terms.ensures in
     let σ = substitution_of b Left in
     let size : c.in_ok-size.size ≡ stopped (clause_size (clause_instance σ d)) =
     c.in_ok-size.ensures ∙ ap (λ ls. stopped (sum_by literal_size (literals_instance σ (literals_at ls)))) c.literals.ensures.literals in
     let lent_is = lent_there c.lend-literals.result d.literals place.becomes.literal (lent_of c.literal-becomes.result) r.literal_i c.lend-literals.ensures c.literal-becomes.ensures r.i_there in
     let total = total_size c.in_ok-size.size (clause_size (clause_instance σ d)) size (omega (arith, c.if-size-ge-SIZE_LIMIT.false)) in
-    let t = factor_terms (λ f. false) select_nothing (alone m) m.number d place (alone_there m) b r terms c.in_ok-terms.field-0-1 h in
+    let t = factor_terms (λ f. false) select_nothing (alone m) m.number d place (alone_there m) b r terms [] h in
     let other_is = lent_there c.lend-literals.result d.literals place.other.literal (lent_of c.literal-other.result) r.literal_j c.lend-literals.ensures c.literal-other.ensures r.j_there in
     let s = side_of place.becomes.side r.literal_i in
     let v = other_side_of place.other.side r.literal_j in
@@ -313,7 +309,7 @@ returns c mode none usage used =
     let told =
     told_size _ (tree_size (instance (substitution terms) s)) (tree_size (instance (substitution terms) v))
     (sum_by literal_size (literals_instance (substitution terms) d.literals)) c.in_ok-size.size c.instance_size-goes.result c.instance_size-comes.result
-    (plain_size (λ f. false) select_nothing (alone m) m.number d place (alone_there m) b r terms c.in_ok-terms.field-0-1 h) whole_is
+    (plain_size (λ f. false) select_nothing (alone m) m.number d place (alone_there m) b r terms [] h) whole_is
     (omega (arith, first, sides_size (substitution terms) place.becomes.side r.literal_i, whole_is))
     (omega (arith, second, sides_size (substitution terms) place.other.side r.literal_j, whole_is))
     (omega (arith, c.if-size-gt-MOST_SYMBOLS.false)) goes comes in
@@ -324,6 +320,6 @@ returns c mode none usage used =
     let is_eligible = ap (λ ls. eligible (literals_instance (substitution terms) ls) place.becomes.literal None false) (sym c.lend-literals.ensures) ∙ sym c.if-not-eligible_under.ensures in
     made_by_factoring usage.is_predicate mode (alone m) m.number d place.becomes.literal place.becomes.side place.other.literal place.other.side terms
     c.in_ok-conclude_factoring.field-0 c.in_ok-conclude_factoring.ensures
-    (factoring_concluded usage.is_predicate mode (alone m) m.number d place (alone_there m) b r terms c.in_ok-terms.field-0-1 h none kinds ordered is_eligible
+    (factoring_concluded usage.is_predicate mode (alone m) m.number d place (alone_there m) b r terms [] h none kinds ordered is_eligible
     (size_within c.in_ok-size.size (clause_size (clause_instance σ d)) MOST_SYMBOLS (omega arith) size c.if-size-gt-MOST_SYMBOLS.false)
     (omega (arith, told.1, c.if-size-goes-gt-MOST_SYMBOLS.false)))

@@ -1,4 +1,4 @@
-use Rattle.std.proofs.Common.{◌≡◌, ℕ, ◌≤◌, false, List, length, arith, ap, sym, ◌∙◌, subst}
+use Rattle.std.proofs.Common.{◌≡◌, ◌≤◌, false, List, [], length, arith, ap, sym, ◌∙◌}
 use Rattle.std.specs.Prelude.{sum_by}
 use Rattle.std.proofs.lemmas.Option.{slice_get_within}
 use Rattle.fol_base.specs.Clause.{TreeLiteral, clause_size, clause_instance, clause_variables, literal_size}
@@ -10,14 +10,21 @@ use Rattle.fol_base.specs.declared.clause.Side.TheVariants.{Left}
 use Rattle.fol_base.specs.declared.limits.TheConstants.{MOST_SYMBOLS, SIZE_LIMIT}
 use Rattle.term_bank.specs.Literal.{literals_at}
 use Rattle.bank_clause.specs.Clause.{clause_at}
-use Rattle.unifier.specs.Renaming.{AreRenamed}
+use Rattle.unifier.specs.Renaming.{AreNamedTerms}
 use Rattle.unifier.specs.Sizes.{stopped}
+use Rattle.unifier.proofs.BoundLemmas.{fits-above}
 use Rattle.eq_rules.specs.Inferences.{alone}
 use Rattle.eq_rules.proofs.MadeLemmas.{size_above, size_within, alone_there, made_by_resolution}
-use Rattle.eq_rules.proofs.PremiseLemmas.{Terms, terms_of, literal-below, literal-kind}
+use Rattle.eq_rules.proofs.PremiseLemmas.{own_terms, Terms, terms_of, literal-below, literal-kind}
 use Rattle.eq_rules.proofs.ResolutionLemmas.{chosen_eligible, resolution_heavy, eligible_before, resolution_not_eligible, resolution_applies, resolution_concluded}
 use Rattle.eq_rules.proofs.resolving.resolution_by.Goals as goal
 use Rattle.unifier.specs.SolvedForm.{substitution_of}
+
+pub terms-requires-clause-fits : goal.terms-requires-clause-fits
+terms-requires-clause-fits c =
+    let few : bound_of (clause_variables (clause_at c.args.given.now.clause)) ≤ SIZE_LIMIT =
+    omega (arith, c.variable_bound.ensures.variables, c.variable_bound.ensures.limit) in
+    fits-above c.args.unifier.now (bound_of (clause_variables (clause_at c.args.given.now.clause))) 0 SIZE_LIMIT SIZE_LIMIT few (omega arith) c.requires.unified.counted
 
 pub returns-then-size-gt-MOST_SYMBOLS : goal.returns-then-size-gt-MOST_SYMBOLS
 returns-then-size-gt-MOST_SYMBOLS c mode choice_is usage used =
@@ -48,10 +55,9 @@ eligible_under-requires-clause-size c =
     let n = bound_of (clause_variables d) in
     let terms = c.in_ok-terms.terms in
     let below = literal-below d c.args.index r.literal r.there in
-    let h : AreRenamed b n 0 terms c.in_ok-terms.field-0-1 =
-    subst (λ (k : ℕ). AreRenamed b k 0 terms c.in_ok-terms.field-0-1) c.variable_bound.ensures.variables c.in_ok-terms.ensures in
+    let h : AreNamedTerms b n 0 terms [] = own_terms b n c.variable_bound.result terms c.variable_bound.ensures.variables c.in_ok-terms.ensures in
     let t : Terms d r.literal.left r.literal.right b terms =
-    terms_of d r.literal.left r.literal.right b terms c.in_ok-terms.field-0-1 r.unified below.0 below.1 h in
+    terms_of d r.literal.left r.literal.right b terms [] r.unified below.0 below.1 h in
     let size : c.in_ok-size.size ≡ stopped (clause_size (clause_instance σ d)) =
     c.in_ok-size.ensures ∙ ap (λ ls. stopped (sum_by literal_size (literals_instance σ (literals_at ls)))) c.literals.ensures.literals in
     let lent : sum_by literal_size (literals_instance (substitution terms) c.lend.result) ≡ sum_by literal_size (literals_instance (substitution terms) d.literals) =
@@ -68,9 +74,8 @@ returns-then-not-eligible_under c mode choice_is usage used =
     let b = c.args.unifier.now in
     let n = bound_of (clause_variables d) in
     let terms = c.in_ok-terms.terms in
-    let h : AreRenamed b n 0 terms c.in_ok-terms.field-0-1 =
-    subst (λ (k : ℕ). AreRenamed b k 0 terms c.in_ok-terms.field-0-1) c.variable_bound.ensures.variables c.in_ok-terms.ensures in
-    resolution_not_eligible usage.is_predicate mode (alone m) m.number d i (alone_there m) b c.requires.unified terms c.in_ok-terms.field-0-1 h
+    let h : AreNamedTerms b n 0 terms [] = own_terms b n c.variable_bound.result terms c.variable_bound.ensures.variables c.in_ok-terms.ensures in
+    resolution_not_eligible usage.is_predicate mode (alone m) m.number d i (alone_there m) b c.requires.unified terms [] h
     (ap (λ o. eligible (literals_instance (substitution terms) d.literals) i o false) (sym choice_is)
     ∙ ap (λ ls. eligible (literals_instance (substitution terms) ls) i c.args.choice false) (sym c.lend.ensures)
     ∙ sym c.if-not-eligible_under.ensures)
@@ -84,12 +89,11 @@ returns-then-size-gt-MOST_SYMBOLS-2 c mode choice_is usage used =
     let σ = substitution_of b Left in
     let n = bound_of (clause_variables d) in
     let terms = c.in_ok-terms.terms in
-    let h : AreRenamed b n 0 terms c.in_ok-terms.field-0-1 =
-    subst (λ (k : ℕ). AreRenamed b k 0 terms c.in_ok-terms.field-0-1) c.variable_bound.ensures.variables c.in_ok-terms.ensures in
+    let h : AreNamedTerms b n 0 terms [] = own_terms b n c.variable_bound.result terms c.variable_bound.ensures.variables c.in_ok-terms.ensures in
     let size : c.in_ok-size.size ≡ stopped (clause_size (clause_instance σ d)) =
     c.in_ok-size.ensures ∙ ap (λ ls. stopped (sum_by literal_size (literals_instance σ (literals_at ls)))) c.literals.ensures.literals in
     resolution_heavy usage.is_predicate mode (alone m) m.number d i (alone_there m) b c.requires.unified
-    (eligible_before usage.is_predicate mode (alone m) m.number d i (alone_there m) b c.requires.unified terms c.in_ok-terms.field-0-1 h
+    (eligible_before usage.is_predicate mode (alone m) m.number d i (alone_there m) b c.requires.unified terms [] h
     (ap (λ o. eligible (literals_instance (substitution terms) d.literals) i o false) (sym choice_is)
     ∙ ap (λ ls. eligible (literals_instance (substitution terms) ls) i c.args.choice false) (sym c.lend.ensures)
     ∙ sym c.if-not-eligible_under.ensures))
@@ -109,9 +113,8 @@ conclude_resolution-requires-clause-covers c =
     let n = bound_of (clause_variables d) in
     let terms = c.in_ok-terms.terms in
     let below = literal-below d c.args.index r.literal r.there in
-    let h : AreRenamed b n 0 terms c.in_ok-terms.field-0-1 =
-    subst (λ (k : ℕ). AreRenamed b k 0 terms c.in_ok-terms.field-0-1) c.variable_bound.ensures.variables c.in_ok-terms.ensures in
-    (terms_of d r.literal.left r.literal.right b terms c.in_ok-terms.field-0-1 r.unified below.0 below.1 h).many
+    let h : AreNamedTerms b n 0 terms [] = own_terms b n c.variable_bound.result terms c.variable_bound.ensures.variables c.in_ok-terms.ensures in
+    (terms_of d r.literal.left r.literal.right b terms [] r.unified below.0 below.1 h).many
 
 pub conclude_resolution-requires-clause-applies : goal.conclude_resolution-requires-clause-applies
 conclude_resolution-requires-clause-applies c =
@@ -120,9 +123,8 @@ conclude_resolution-requires-clause-applies c =
     let b = c.args.unifier.now in
     let n = bound_of (clause_variables d) in
     let terms = c.in_ok-terms.terms in
-    let h : AreRenamed b n 0 terms c.in_ok-terms.field-0-1 =
-    subst (λ (k : ℕ). AreRenamed b k 0 terms c.in_ok-terms.field-0-1) c.variable_bound.ensures.variables c.in_ok-terms.ensures in
-    resolution_applies (λ f. false) select_nothing (alone m) m.number d c.args.index (alone_there m) b c.requires.unified terms c.in_ok-terms.field-0-1 h
+    let h : AreNamedTerms b n 0 terms [] = own_terms b n c.variable_bound.result terms c.variable_bound.ensures.variables c.in_ok-terms.ensures in
+    resolution_applies (λ f. false) select_nothing (alone m) m.number d c.args.index (alone_there m) b c.requires.unified terms [] h
 
 pub returns : goal.returns
 returns c mode choice_is usage used =
@@ -134,12 +136,11 @@ returns c mode choice_is usage used =
     let σ = substitution_of b Left in
     let n = bound_of (clause_variables d) in
     let terms = c.in_ok-terms.terms in
-    let h : AreRenamed b n 0 terms c.in_ok-terms.field-0-1 =
-    subst (λ (k : ℕ). AreRenamed b k 0 terms c.in_ok-terms.field-0-1) c.variable_bound.ensures.variables c.in_ok-terms.ensures in
+    let h : AreNamedTerms b n 0 terms [] = own_terms b n c.variable_bound.result terms c.variable_bound.ensures.variables c.in_ok-terms.ensures in
     let size : c.in_ok-size.size ≡ stopped (clause_size (clause_instance σ d)) =
     c.in_ok-size.ensures ∙ ap (λ ls. stopped (sum_by literal_size (literals_instance σ (literals_at ls)))) c.literals.ensures.literals in
     made_by_resolution usage.is_predicate mode (alone m) m.number d i terms c.in_ok-conclude_resolution.field-0 c.in_ok-conclude_resolution.ensures
-    (resolution_concluded usage.is_predicate mode (alone m) m.number d i (alone_there m) b r terms c.in_ok-terms.field-0-1 h
+    (resolution_concluded usage.is_predicate mode (alone m) m.number d i (alone_there m) b r terms [] h
     (literal-kind usage d i r.literal used r.there)
     (ap (λ o. eligible (literals_instance (substitution terms) d.literals) i o false) (sym choice_is)
     ∙ ap (λ ls. eligible (literals_instance (substitution terms) ls) i c.args.choice false) (sym c.lend.ensures)

@@ -23,11 +23,11 @@ returns-clause-sound c =
     let high = c.share_out.new.high.items in
     let all = All-permutation IsEntry c.args.entries.items (low ++ high) c.share_out.ensures.entries c.requires in
     let given = c.deref_mut.ensures.value ∙ c.in-Ok-new.ensures.ok in
-    division-made c.widest-cut.result c.set_sides.new.division low high
+    division-made c.in-Some.cut c.set_sides.new.division low high
     (sym (c.set_sides.ensures.positive ∙ ap (λ (d : Division). d.positive) given ∙ c.empty_division.ensures.positive))
     (sym (c.set_sides.ensures.measure ∙ ap (λ (d : Division). d.measure) given ∙ c.empty_division.ensures.measure))
     (sym (c.set_sides.ensures.most ∙ ap (λ (d : Division). d.most) given ∙ c.empty_division.ensures.most))
-    c.set_sides.ensures.low c.set_sides.ensures.high c.widest-cut.ensures
+    c.set_sides.ensures.low c.set_sides.ensures.high (rw c.in-Some.is at c.widest.ensures)
     (All-front IsEntry low high all) (All-back IsEntry low high all) c.share_out.ensures.low c.share_out.ensures.high
 
 pub returns-clause-members : goal.returns-clause-members

@@ -42,4 +42,4 @@ returns c = λ usage wf.
     (map lent_of c.in_ok-lent_literals.field-0.items) d.literals (Some c.in-Some.pairs) (c.names.ensures.names ∙ sym (asserted c.args.general.now.names)) c.lend.ensures
     (c.in_ok-asserted_numbers.ensures ∙ ap assertions c.as_slice.ensures) c.in_ok-lent_literals.ensures found)
     (functions p (subst (AreLiterals p) (sym c.lend.ensures) wk) (subst (AreLiterals p) (sym c.in_ok-lent_literals.ensures) wd))
-    c.in_ok-subst-in-Some.ensures.terms c.in_ok-subst-in-Some.ensures.pairs
+    c.variable_bound.ensures.variables c.in_ok-subst-in-Some.ensures.terms c.in_ok-subst-in-Some.ensures.pairs

@@ -1,5 +1,8 @@
-use Rattle.superpose.proofs.SitesThere.{superpositions_have_sites}
+use Rattle.superpose.proofs.SitesThere.{superpositions_have_sites, sites_differ}
 use Rattle.superpose.proofs.laws.superpositions_have_sites.Goals as goal
 
-pub returns : goal.returns
-returns c = superpositions_have_sites
+pub returns-clause-there : goal.returns-clause-there
+returns-clause-there c = superpositions_have_sites
+
+pub returns-clause-differ : goal.returns-clause-differ
+returns-clause-differ c = sites_differ

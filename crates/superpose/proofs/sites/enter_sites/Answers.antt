@@ -5,7 +5,7 @@ use Rattle.term_bank.specs.Literal.{literal_at}
 use Rattle.term_bank.specs.declared.literal.BankLit.{BankLit}
 use Rattle.bank_clause.specs.Clause.{clause_at}
 use Rattle.superpose.specs.Sites.{all_sides, entered_places}
-use Rattle.superpose.specs.declared.sites.LiteralSide.{LiteralSide}
+use Rattle.eq_rules.specs.declared.concluding.LiteralSide.{LiteralSide}
 use Rattle.superpose.proofs.SiteLemmas.{enters_more}
 use Rattle.superpose.proofs.sites.enter_sites.Goals as goal
 

@@ -7,7 +7,7 @@ use Rattle.literal_selection.specs.Mode.{mode_of}
 use Rattle.bank_clause.specs.Clause.{clause_at}
 use Rattle.superpose.specs.Sites.{can_enter}
 use Rattle.superpose.specs.Superposing.{AreSites, IsSuperposition}
-use Rattle.superpose.specs.declared.sites.LiteralSide.{LiteralSide}
+use Rattle.eq_rules.specs.declared.concluding.LiteralSide.{LiteralSide}
 use Rattle.superpose.specs.declared.sites.LiteralPlace.{LiteralPlace}
 use Rattle.superpose.proofs.SitesThere.{start_at, enter_at, start_there}
 use Rattle.superpose.proofs.superposing.superposition.Goals as goal

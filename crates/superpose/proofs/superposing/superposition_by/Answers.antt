@@ -13,7 +13,7 @@ use Rattle.fol_base.specs.declared.clause.Side.TheVariants.{Left, Right}
 use Rattle.fol_base.specs.declared.limits.TheConstants.{SIZE_LIMIT}
 use Rattle.term_bank.specs.Literal.{literals_at}
 use Rattle.bank_clause.specs.Clause.{clause_at}
-use Rattle.unifier.specs.Renaming.{AreRenamed}
+use Rattle.unifier.specs.Renaming.{AreNamedTerms}
 use Rattle.unifier.specs.Sizes.{stopped}
 use Rattle.unifier.specs.SolvedForm.{substitution_of}
 use Rattle.superpose.specs.Superposing.{allows}
@@ -33,9 +33,9 @@ allows-requires-clause-first_size c =
     let r = c.requires.unified in
     let left = c.in_ok-left_terms.left_terms in
     let right = c.in_ok-left_terms.right_terms in
-    let h : AreRenamed b (bound_of (clause_variables first)) (bound_of (clause_variables second)) left right =
-    subst (λ (k : ℕ). AreRenamed b (bound_of (clause_variables first)) k left right) c.variable_bound-2.ensures.variables
-    (subst (λ (k : ℕ). AreRenamed b k c.variable_bound-2.result left right) c.variable_bound.ensures.variables c.in_ok-left_terms.ensures) in
+    let h : AreNamedTerms b (bound_of (clause_variables first)) (bound_of (clause_variables second)) left right =
+    subst (λ (k : ℕ). AreNamedTerms b (bound_of (clause_variables first)) k left right) c.variable_bound-2.ensures.variables
+    (subst (λ (k : ℕ). AreNamedTerms b k c.variable_bound-2.result left right) c.variable_bound.ensures.variables c.in_ok-left_terms.ensures) in
     let left_told = c.in_ok-left_size.left_size in
     let right_told = c.in_ok-right_size.right_size in
     let left_is : left_told ≡ stopped (clause_size (clause_instance (substitution_of b Left) first)) =
@@ -61,9 +61,9 @@ allows-requires-clause-second_size c =
     let r = c.requires.unified in
     let left = c.in_ok-left_terms.left_terms in
     let right = c.in_ok-left_terms.right_terms in
-    let h : AreRenamed b (bound_of (clause_variables first)) (bound_of (clause_variables second)) left right =
-    subst (λ (k : ℕ). AreRenamed b (bound_of (clause_variables first)) k left right) c.variable_bound-2.ensures.variables
-    (subst (λ (k : ℕ). AreRenamed b k c.variable_bound-2.result left right) c.variable_bound.ensures.variables c.in_ok-left_terms.ensures) in
+    let h : AreNamedTerms b (bound_of (clause_variables first)) (bound_of (clause_variables second)) left right =
+    subst (λ (k : ℕ). AreNamedTerms b (bound_of (clause_variables first)) k left right) c.variable_bound-2.ensures.variables
+    (subst (λ (k : ℕ). AreNamedTerms b k c.variable_bound-2.result left right) c.variable_bound.ensures.variables c.in_ok-left_terms.ensures) in
     let left_told = c.in_ok-left_size.left_size in
     let right_told = c.in_ok-right_size.right_size in
     let left_is : left_told ≡ stopped (clause_size (clause_instance (substitution_of b Left) first)) =
@@ -89,9 +89,9 @@ returns-then-not-allows c mode sites =
     let r = c.requires.unified in
     let left = c.in_ok-left_terms.left_terms in
     let right = c.in_ok-left_terms.right_terms in
-    let h : AreRenamed b (bound_of (clause_variables first)) (bound_of (clause_variables second)) left right =
-    subst (λ (k : ℕ). AreRenamed b (bound_of (clause_variables first)) k left right) c.variable_bound-2.ensures.variables
-    (subst (λ (k : ℕ). AreRenamed b k c.variable_bound-2.result left right) c.variable_bound.ensures.variables c.in_ok-left_terms.ensures) in
+    let h : AreNamedTerms b (bound_of (clause_variables first)) (bound_of (clause_variables second)) left right =
+    subst (λ (k : ℕ). AreNamedTerms b (bound_of (clause_variables first)) k left right) c.variable_bound-2.ensures.variables
+    (subst (λ (k : ℕ). AreNamedTerms b k c.variable_bound-2.result left right) c.variable_bound.ensures.variables c.in_ok-left_terms.ensures) in
     let left_told = c.in_ok-left_size.left_size in
     let right_told = c.in_ok-right_size.right_size in
     let left_is : left_told ≡ stopped (clause_size (clause_instance (substitution_of b Left) first)) =
@@ -123,9 +123,9 @@ overflow_mul-made_size c =
     let r = c.requires.unified in
     let left = c.in_ok-left_terms.left_terms in
     let right = c.in_ok-left_terms.right_terms in
-    let h : AreRenamed b (bound_of (clause_variables first)) (bound_of (clause_variables second)) left right =
-    subst (λ (k : ℕ). AreRenamed b (bound_of (clause_variables first)) k left right) c.variable_bound-2.ensures.variables
-    (subst (λ (k : ℕ). AreRenamed b k c.variable_bound-2.result left right) c.variable_bound.ensures.variables c.in_ok-left_terms.ensures) in
+    let h : AreNamedTerms b (bound_of (clause_variables first)) (bound_of (clause_variables second)) left right =
+    subst (λ (k : ℕ). AreNamedTerms b (bound_of (clause_variables first)) k left right) c.variable_bound-2.ensures.variables
+    (subst (λ (k : ℕ). AreNamedTerms b k c.variable_bound-2.result left right) c.variable_bound.ensures.variables c.in_ok-left_terms.ensures) in
     let left_told = c.in_ok-left_size.left_size in
     let right_told = c.in_ok-right_size.right_size in
     let left_is : left_told ≡ stopped (clause_size (clause_instance (substitution_of b Left) first)) =
@@ -159,9 +159,9 @@ overflow_sub-made_size c =
     let r = c.requires.unified in
     let left = c.in_ok-left_terms.left_terms in
     let right = c.in_ok-left_terms.right_terms in
-    let h : AreRenamed b (bound_of (clause_variables first)) (bound_of (clause_variables second)) left right =
-    subst (λ (k : ℕ). AreRenamed b (bound_of (clause_variables first)) k left right) c.variable_bound-2.ensures.variables
-    (subst (λ (k : ℕ). AreRenamed b k c.variable_bound-2.result left right) c.variable_bound.ensures.variables c.in_ok-left_terms.ensures) in
+    let h : AreNamedTerms b (bound_of (clause_variables first)) (bound_of (clause_variables second)) left right =
+    subst (λ (k : ℕ). AreNamedTerms b (bound_of (clause_variables first)) k left right) c.variable_bound-2.ensures.variables
+    (subst (λ (k : ℕ). AreNamedTerms b k c.variable_bound-2.result left right) c.variable_bound.ensures.variables c.in_ok-left_terms.ensures) in
     let left_told = c.in_ok-left_size.left_size in
     let right_told = c.in_ok-right_size.right_size in
     let left_is : left_told ≡ stopped (clause_size (clause_instance (substitution_of b Left) first)) =
@@ -195,9 +195,9 @@ returns-then-max-gt-MOST_SYMBOLS c mode sites =
     let r = c.requires.unified in
     let left = c.in_ok-left_terms.left_terms in
     let right = c.in_ok-left_terms.right_terms in
-    let h : AreRenamed b (bound_of (clause_variables first)) (bound_of (clause_variables second)) left right =
-    subst (λ (k : ℕ). AreRenamed b (bound_of (clause_variables first)) k left right) c.variable_bound-2.ensures.variables
-    (subst (λ (k : ℕ). AreRenamed b k c.variable_bound-2.result left right) c.variable_bound.ensures.variables c.in_ok-left_terms.ensures) in
+    let h : AreNamedTerms b (bound_of (clause_variables first)) (bound_of (clause_variables second)) left right =
+    subst (λ (k : ℕ). AreNamedTerms b (bound_of (clause_variables first)) k left right) c.variable_bound-2.ensures.variables
+    (subst (λ (k : ℕ). AreNamedTerms b k c.variable_bound-2.result left right) c.variable_bound.ensures.variables c.in_ok-left_terms.ensures) in
     let left_told = c.in_ok-left_size.left_size in
     let right_told = c.in_ok-right_size.right_size in
     let left_is : left_told ≡ stopped (clause_size (clause_instance (substitution_of b Left) first)) =
@@ -240,9 +240,9 @@ conclude_superposition-requires-clause-first_covers c =
     let r = c.requires.unified in
     let left = c.in_ok-left_terms.left_terms in
     let right = c.in_ok-left_terms.right_terms in
-    let h : AreRenamed b (bound_of (clause_variables first)) (bound_of (clause_variables second)) left right =
-    subst (λ (k : ℕ). AreRenamed b (bound_of (clause_variables first)) k left right) c.variable_bound-2.ensures.variables
-    (subst (λ (k : ℕ). AreRenamed b k c.variable_bound-2.result left right) c.variable_bound.ensures.variables c.in_ok-left_terms.ensures) in
+    let h : AreNamedTerms b (bound_of (clause_variables first)) (bound_of (clause_variables second)) left right =
+    subst (λ (k : ℕ). AreNamedTerms b (bound_of (clause_variables first)) k left right) c.variable_bound-2.ensures.variables
+    (subst (λ (k : ℕ). AreNamedTerms b k c.variable_bound-2.result left right) c.variable_bound.ensures.variables c.in_ok-left_terms.ensures) in
     left-many first s second t b r left right h
 
 pub conclude_superposition-requires-clause-second_covers : goal.conclude_superposition-requires-clause-second_covers
@@ -257,9 +257,9 @@ conclude_superposition-requires-clause-second_covers c =
     let r = c.requires.unified in
     let left = c.in_ok-left_terms.left_terms in
     let right = c.in_ok-left_terms.right_terms in
-    let h : AreRenamed b (bound_of (clause_variables first)) (bound_of (clause_variables second)) left right =
-    subst (λ (k : ℕ). AreRenamed b (bound_of (clause_variables first)) k left right) c.variable_bound-2.ensures.variables
-    (subst (λ (k : ℕ). AreRenamed b k c.variable_bound-2.result left right) c.variable_bound.ensures.variables c.in_ok-left_terms.ensures) in
+    let h : AreNamedTerms b (bound_of (clause_variables first)) (bound_of (clause_variables second)) left right =
+    subst (λ (k : ℕ). AreNamedTerms b (bound_of (clause_variables first)) k left right) c.variable_bound-2.ensures.variables
+    (subst (λ (k : ℕ). AreNamedTerms b k c.variable_bound-2.result left right) c.variable_bound.ensures.variables c.in_ok-left_terms.ensures) in
     right-many first s second t b r left right h
 
 pub conclude_superposition-requires-clause-applies : goal.conclude_superposition-requires-clause-applies
@@ -274,9 +274,9 @@ conclude_superposition-requires-clause-applies c =
     let r = c.requires.unified in
     let left = c.in_ok-left_terms.left_terms in
     let right = c.in_ok-left_terms.right_terms in
-    let h : AreRenamed b (bound_of (clause_variables first)) (bound_of (clause_variables second)) left right =
-    subst (λ (k : ℕ). AreRenamed b (bound_of (clause_variables first)) k left right) c.variable_bound-2.ensures.variables
-    (subst (λ (k : ℕ). AreRenamed b k c.variable_bound-2.result left right) c.variable_bound.ensures.variables c.in_ok-left_terms.ensures) in
+    let h : AreNamedTerms b (bound_of (clause_variables first)) (bound_of (clause_variables second)) left right =
+    subst (λ (k : ℕ). AreNamedTerms b (bound_of (clause_variables first)) k left right) c.variable_bound-2.ensures.variables
+    (subst (λ (k : ℕ). AreNamedTerms b k c.variable_bound-2.result left right) c.variable_bound.ensures.variables c.in_ok-left_terms.ensures) in
     ap is_some (superposition_gives first s second t b r left right h)
 
 pub returns : goal.returns
@@ -291,9 +291,9 @@ returns c mode sites =
     let r = c.requires.unified in
     let left = c.in_ok-left_terms.left_terms in
     let right = c.in_ok-left_terms.right_terms in
-    let h : AreRenamed b (bound_of (clause_variables first)) (bound_of (clause_variables second)) left right =
-    subst (λ (k : ℕ). AreRenamed b (bound_of (clause_variables first)) k left right) c.variable_bound-2.ensures.variables
-    (subst (λ (k : ℕ). AreRenamed b k c.variable_bound-2.result left right) c.variable_bound.ensures.variables c.in_ok-left_terms.ensures) in
+    let h : AreNamedTerms b (bound_of (clause_variables first)) (bound_of (clause_variables second)) left right =
+    subst (λ (k : ℕ). AreNamedTerms b (bound_of (clause_variables first)) k left right) c.variable_bound-2.ensures.variables
+    (subst (λ (k : ℕ). AreNamedTerms b k c.variable_bound-2.result left right) c.variable_bound.ensures.variables c.in_ok-left_terms.ensures) in
     let left_told = c.in_ok-left_size.left_size in
     let right_told = c.in_ok-right_size.right_size in
     let left_is : left_told ≡ stopped (clause_size (clause_instance (substitution_of b Left) first)) =

@@ -1,4 +1,4 @@
-use Rattle.unifier.proofs.BoundLemmas.{fit-leaves-others, fit-leaves-others-apart}
+use Rattle.unifier.proofs.BoundLemmas.{fit-leaves-others, fit-leaves-others-apart, fits-above}
 use Rattle.unifier.proofs.laws.counts_that_fit.Goals as goal
 
 pub returns-clause-together : goal.returns-clause-together
@@ -6,3 +6,6 @@ returns-clause-together c = fit-leaves-others
 
 pub returns-clause-apart : goal.returns-clause-apart
 returns-clause-apart c = fit-leaves-others-apart
+
+pub returns-clause-above : goal.returns-clause-above
+returns-clause-above c = fits-above

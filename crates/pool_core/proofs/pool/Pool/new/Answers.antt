@@ -17,6 +17,7 @@ invariant_of-result g c =
     refl refl refl refl
     c.new.ensures.items c.new-2.ensures.empty c.new-6.ensures c.new-7.ensures refl refl
     (omega (arith, c.new-3.result.events.ok.1))
+    (omega (arith, c.new-5.result.ok.1))
     c.new-3.ensures c.new-4.ensures.items c.new-5.ensures.items
     (subst (λ (cs : List Clause). AreInputs (map clause_of cs)) (sym c.of.ensures) c.requires.inputs)
     c.requires.limit

@@ -34,7 +34,7 @@ pub push-requires-2 : goal.push-requires-2
 push-requires-2 g c = record {
   absent =
       next-absent c.args.bank.now c.args.table.now c.args.self.now (c.requires.start).0 c.len-place.result c.reserve-2.new.self.pairs
-      (c.requires.start).1 c.len-place.ensures c.reserve-2.ensures.pairs;
+      (c.requires.start).1 c.len-place.ensures.len c.reserve-2.ensures.pairs;
 }
 
 pub returns-else-is_empty-clause-added : goal.returns-else-is_empty-clause-added
@@ -58,7 +58,7 @@ returns-else-is_empty-clause-added g c = λ r started.
     ∙ ap (λ (k : ℕ). let s : Registration = record { clause = made; line = k; position = None; death = None; is_active = false } in a.register ++ s ∷ []) line)
     (c.in_ok-push-2.ensures.pairs
     ∙ ap (λ ps. with_pair (c.len-place.result, c.size-size.result) ps) c.reserve-2.ensures.pairs
-    ∙ ap (λ (k : ℕ). with_pair (k, c.size-size.result) a.queue.pairs) c.len-place.ensures
+    ∙ ap (λ (k : ℕ). with_pair (k, c.size-size.result) a.queue.pairs) c.len-place.ensures.len
     ∙ ap (λ (k : ℕ). with_pair (length a.register, k) a.queue.pairs) (c.size-size.ensures.size ∙ ap clause_size c.in_ok-made.ensures.same))
     (c.push_reserved.ensures.items ∙ ap (λ (xs : List Step). xs ++ Clausify c.args.number ∷ []) c.reserve.ensures.items)
     (is.ended ∙ none)
@@ -83,7 +83,7 @@ returns-then-is_empty-clause-added g c = λ r started.
     ∙ ap (λ (k : ℕ). let s : Registration = record { clause = made; line = k; position = None; death = None; is_active = false } in a.register ++ s ∷ []) line)
     (c.in_ok-push-2.ensures.pairs
     ∙ ap (λ ps. with_pair (c.len-place.result, c.size-size.result) ps) c.reserve-2.ensures.pairs
-    ∙ ap (λ (k : ℕ). with_pair (k, c.size-size.result) a.queue.pairs) c.len-place.ensures
+    ∙ ap (λ (k : ℕ). with_pair (k, c.size-size.result) a.queue.pairs) c.len-place.ensures.len
     ∙ ap (λ (k : ℕ). with_pair (length a.register, k) a.queue.pairs) (c.size-size.ensures.size ∙ ap clause_size c.in_ok-made.ensures.same))
     (c.push_reserved.ensures.items ∙ ap (λ (xs : List Step). xs ++ Clausify c.args.number ∷ []) c.reserve.ensures.items)
     refl

@@ -1,4 +1,4 @@
-use Rattle.std.proofs.Common.{◌++◌, ◌∷◌, [], map, slice_index, ap, ap₂, sym, ◌∙◌}
+use Rattle.std.proofs.Common.{◌++◌, ◌∷◌, [], map, ap, ap₂, sym, ◌∙◌}
 use Rattle.std.proofs.lemmas.List.{map-append}
 use Rattle.fol_base.specs.Term.{tree_of}
 use Rattle.fol_base.proofs.CanonicalLemmas.{terms_from_more}
@@ -8,9 +8,9 @@ use Rattle.unifier.specs.Renaming.{renamed}
 use Rattle.unifier.proofs.solution.Solution.side.Goals as goal
 
 pub loop-variable-preserved : goal.loop-variable-preserved
-loop-variable-preserved c =
+loop-variable-preserved g c =
     ap (map tree_of) c.in_ok-push.ensures.items
     ∙ map-append tree_of c.loop-variable.items.items (c.in_ok-named.field-0 ∷ [])
     ∙ ap₂ (λ ts t. ts ++ t ∷ []) c.loop-variable.invariant
-    (c.in_ok-named.ensures ∙ ap (λ w. renamed (slice_index c.args.names.now) (joint (solved_form c.args.self.now) w)) c.code.ensures)
-    ∙ sym (terms_from_more c.loop-variable.variable (λ v. renamed (slice_index c.args.names.now) (substitution_of (solved_form c.args.self.now) c.args.side v)))
+    (c.in_ok-named.ensures ∙ ap (λ w. renamed (g.N.Naming.meaning c.args.names.now) (joint (solved_form c.args.self.now) w)) c.code.ensures)
+    ∙ sym (terms_from_more c.loop-variable.variable (λ v. renamed (g.N.Naming.meaning c.args.names.now) (substitution_of (solved_form c.args.self.now) c.args.side v)))

@@ -1,4 +1,4 @@
-use Rattle.std.proofs.Common.{ap, sym, ◌∙◌}
+use Rattle.std.proofs.Common.{sym, ◌∙◌}
 use Rattle.unifier.proofs.RenameLemmas.{itself-bound, itself-free}
 use Rattle.unifier.proofs.solution.Solution.stands_for_itself.Goals as goal
 

@@ -7,7 +7,7 @@ use Rattle.unifier.proofs.solution.Solution.substs.Goals as goal
 
 pub side-requires-clause-names : goal.side-requires-clause-names
 side-requires-clause-names c =
-    subst (HasNames c.args.self.now) (sym c.as_slice.ensures.value)
+    subst (HasNames c.args.self.now) (ap length (sym c.as_slice.ensures.value))
     (has-names c.args.self.now c.args.left_vars c.args.right_vars _ c.requires.fits c.in_ok-names.ensures)
 
 pub side-requires-clause-all : goal.side-requires-clause-all
@@ -16,7 +16,7 @@ side-requires-clause-all c v less =
 
 pub side-requires-2-clause-names : goal.side-requires-2-clause-names
 side-requires-2-clause-names c =
-    subst (HasNames c.args.self.now) (sym c.as_slice-2.ensures.value)
+    subst (HasNames c.args.self.now) (ap length (sym c.as_slice-2.ensures.value))
     (has-names c.args.self.now c.args.left_vars c.args.right_vars _ c.requires.fits c.in_ok-names.ensures)
 
 pub side-requires-2-clause-all : goal.side-requires-2-clause-all

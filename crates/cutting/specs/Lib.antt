@@ -1,0 +1,5 @@
+pub mod Fit
+pub mod Removing
+pub mod Superposing
+pub mod Cutting
+pub mod CutSteps

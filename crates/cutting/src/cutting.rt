@@ -1,0 +1,113 @@
+// Units that cut a literal of a clause: it is the complement of an instance of the unit's literal, and goes by two lines, a superposition
+// that makes it a literal without solution, and an equality resolution.
+
+ghost use Rattle.std.specs.Prelude.{◌≡◌, IfOk, IfSome, OnErr, map};
+ghost use Rattle.fol_base.specs.Lent.{lent_of};
+ghost use Rattle.fol_base.specs.Literal.{clause_of, literal_of};
+ghost use Rattle.bank_clause.specs.Clause.{clause_at, IsMemberOf};
+ghost use Rattle.kernel_steps.specs.Derivation.{complement};
+ghost use Rattle.cutting.specs.Cutting.{IsCutOrNone};
+ghost use Rattle.cutting.specs.CutSteps.{AreCutOrNone, IsCutStep, IsCutUnit};
+
+use crate::asserted::has_asserted;
+use crate::cut_lines::{CutLines, cut_lines};
+use crate::matching::{Fitting, fit};
+use bank_clause::Member;
+use fol_base::{Clause, LendsLiterals, LiteralRef, Literals};
+use kernel_steps::Reduced;
+use plain_types::Mem;
+use reduction::{extend, last_number, unreduced};
+use std::alloc::Global;
+use term_bank::Bank;
+
+/// A literal that is cut, by its index, and how.
+#[derive(Drop)]
+pub(crate) struct Cut<'t> {
+    pub(crate) index: usize,
+    pub(crate) fitting: Fitting<'t>,
+}
+
+/// The clause without one literal that the unit cuts, by a superposition and an equality resolution. None exactly where it cuts none.
+pub fn cut_unit(alloc: Global, bank: &Bank, unit: &Member, clause: &Clause) -> Mem<Option<Reduced>>
+    requires { IsMemberOf bank.now unit.now }
+    ensures { IfOk result (IsCutUnit unit.now (clause_of clause.now)) }
+{
+    let mut reduced = unreduced(alloc, clause)?;
+    if cut_by(alloc, bank, unit, &mut reduced)? {
+        Ok(Some(reduced))
+    } else {
+        Ok(None)
+    }
+}
+
+/// A literal that the unit cuts goes from a clause that is reduced, by two lines. False exactly where it cuts none, and then nothing has
+/// changed, as after want of memory.
+pub fn cut_by(alloc: Global, bank: &Bank, unit: &Member, reduced: &mut Reduced) -> Mem<bool>
+    requires { IsMemberOf bank.now unit.now }
+    ensures step { IfOk result (IsCutStep unit.now reduced.old reduced.new) }
+    ensures err { OnErr result (reduced.new ≡ reduced.old) }
+{
+    let number = last_number(reduced)?;
+    match find_lines(alloc, bank, unit, &reduced.clause, number)? {
+        None => Ok(false),
+        Some(lines) => {
+            let CutLines { first, second } = lines;
+            extend(alloc, reduced, Some(first), second, Some(unit.number))?;
+            Ok(true)
+        }
+    }
+}
+
+/// The lines by which a unit cuts a literal of a clause that has a number as a parent. None exactly where it cuts none.
+fn find_lines(
+    alloc: Global,
+    bank: &Bank,
+    unit: &Member,
+    clause: &Clause,
+    number: u64,
+) -> Mem<Option<CutLines>>
+    requires { IsMemberOf bank.now unit.now }
+    ensures { IfOk result (AreCutOrNone unit.now (clause_of clause.now) number) }
+{
+    if unit.clause.literals().len() != 1 {
+        return Ok(None);
+    }
+    if !has_asserted(clause.names.as_slice(), unit.clause.names()) {
+        return Ok(None);
+    }
+    let literals = unit.clause.lend(bank);
+    match find_cut(alloc, complement(literals.literal(0)), &clause.literals)? {
+        None => Ok(None),
+        Some(cut) => {
+            let lines = cut_lines(alloc, bank, unit, clause, number, &cut)?;
+            Ok(Some(lines))
+        }
+    }
+}
+
+/// The literal with the other sign.
+fn complement(literal: LiteralRef<'_>) -> LiteralRef<'_>
+    ensures { lent_of result ≡ complement (lent_of literal.entry) }
+{
+    LiteralRef {
+        positive: !literal.positive,
+        left: literal.left,
+        right: literal.right,
+    }
+}
+
+/// The first literal that is an instance of a wanted one. None exactly where there is none.
+fn find_cut<'t>(
+    alloc: Global,
+    wanted: LiteralRef<'_>,
+    literals: &'t Literals,
+) -> Mem<Option<Cut<'t>>>
+    ensures { IfOk result (IsCutOrNone (lent_of wanted.entry) (map literal_of literals.now)) }
+{
+    for index in 0..literals.count() {
+        if let Some(fitting) = fit(alloc, wanted, literals.literal(index))? {
+            return Ok(Some(Cut { index, fitting }));
+        }
+    }
+    Ok(None)
+}

@@ -1,0 +1,29 @@
+use Rattle.std.proofs.Common.{◌≡◌, ap, sym, ◌∙◌}
+use Rattle.pool_core.specs.Claiming.{next_given, next_choice}
+use Rattle.pool_core.specs.Events.{events_of}
+use Rattle.pool_core.specs.Record.{PoolRecord}
+use Rattle.pool_core.specs.Replay.{replay}
+use Rattle.pool_core.specs.Solving.{must_solve}
+use Rattle.pool_core.specs.View.{PoolView}
+use Rattle.pool_core.specs.State.{origin_of}
+use Rattle.pool_core.proofs.LivingLemmas.{nothing-to-solve}
+use Rattle.pool_core.proofs.PickLemmas.{peek-is-given, old-choice, light-choice}
+use Rattle.pool_core.proofs.pool.Pool.next_given.Goals as goal
+use Rattle.pool_core.proofs.pool.Pool.next_given.Goals.{then-self, else-self}
+
+pub returns-clause-next : goal.returns-clause-next
+returns-clause-next c =
+    let r : PoolRecord = replay (origin_of c.self.inside) (events_of c.self.inside.history) in
+    let choice : c.if-self.choice ≡ next_choice r =
+    elim c.if-self.branch [
+      | then-self w ↦ w.choice-is ∙ old-choice r c.self.inside.place c.self.invariant.state.place w.if-self.true
+      | else-self w ↦ w.choice-is ∙ light-choice r c.self.inside.place c.self.invariant.state.place w.if-self.false
+    ] in
+    peek-is-given r c.self.inside.queue.pairs c.if-self.choice c.peek.result c.self.invariant.state.queue choice
+    c.peek.ensures.picked c.peek.ensures.none
+    ∙ ap (λ (v : PoolView). next_given (replay v.origin v.history)) c.self.view_is
+
+pub returns-clause-solved : goal.returns-clause-solved
+returns-clause-solved c =
+    sym (ap (λ (v : PoolView). must_solve (replay v.origin v.history)) c.self.view_is)
+    ∙ nothing-to-solve c.self.inside (replay (origin_of c.self.inside) (events_of c.self.inside.history)) c.self.invariant.state

@@ -1,0 +1,30 @@
+// Jobs that are given up.
+
+ghost use Rattle.std.specs.Prelude.{◌≡◌, ◌++◌, [], ◌∷◌};
+ghost use Rattle.pool_core.specs.Lawful.{IsOut};
+ghost use Rattle.pool_core.specs.Replay.{replay};
+ghost use Rattle.pool_core.specs.declared.event.Event.TheVariants.{Abandon};
+
+use crate::event::Event;
+use crate::pool::Pool;
+
+impl Pool {
+    /// Gives up a job that is out. Its clause waits again, if it lives, and keeps its position. No memory is taken.
+    pub fn abandon(&mut self, job: u64)
+        requires { IsOut (replay self.old.origin self.old.history) job }
+        ensures bank { self.new.bank ≡ self.old.bank }
+        ensures origin { self.new.origin ≡ self.old.origin }
+        ensures history { self.new.history ≡ self.old.history ++ Abandon job ∷ [] }
+    {
+        let Some(out) = self.jobs.remove(&job) else {
+            unreachable!();
+        };
+        self.notes_before.push_reserved(self.notes.len());
+        self.history.push(&Event::Abandon(job));
+        let registration = self.register.get(out.number as usize);
+        if registration.death.is_none() {
+            let size = registration.clause.size();
+            self.queue.push(out.number, size).unwrap();
+        }
+    }
+}

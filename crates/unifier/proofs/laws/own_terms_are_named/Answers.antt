@@ -1,0 +1,5 @@
+use Rattle.unifier.proofs.SharedLemmas.{own_terms_are_named}
+use Rattle.unifier.proofs.laws.own_terms_are_named.Goals as goal
+
+pub returns : goal.returns
+returns c = own_terms_are_named
