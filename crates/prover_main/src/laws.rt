@@ -1,7 +1,7 @@
 // The laws of runs, and worked examples: each is the contract of a function without arguments, whose body is empty or
 // names the laws on which it stands.
 
-ghost use Rattle.std.specs.Prelude.{◌≡◌, ◌^◌, ◌-◌, ℕ, true, false, [], ◌∷◌, List, None, Some, Ok, Err, Result, codes, map};
+ghost use Rattle.std.specs.Prelude.{◌≡◌, ◌^◌, ◌-◌, ◌++◌, ℕ, true, false, [], ◌∷◌, List, None, Some, Ok, Err, Result, codes, map, replicate};
 ghost use Rattle.outside.specs.Faults.{Rose};
 ghost use Rattle.outside.specs.declared.fault.SinkFault.{SinkFault};
 ghost use Rattle.outside.specs.declared.fault.SinkFault.TheVariants.{Failed};
@@ -31,9 +31,9 @@ pub fn one_answer()
     texts_have_one_answer();
 }
 
-/// Usage is told exactly where the words are usage, but for a write that fails. Every other run whose writes didn't fail tells an answer whose cause is there, or
-/// that memory was wanted. 5 and 4 come only where a count of faults rose. Where the library tells and no load failed,
-/// 3, 8 and 9 come exactly for their causes, up to want of memory and a write that fails.
+/// Usage is told exactly where the words are usage, but for a write that fails. Every other run whose writes didn't fail tells an answer
+/// whose cause is there, or that memory was wanted. 5 and 4 come only where a count of faults rose, or stands at its end. Where the
+/// library tells and no load failed, 3, 8 and 9 come exactly for their causes, up to want of memory and a write that fails.
 pub fn statuses_come_for_causes()
     ensures usage { UsageIsTold }
     ensures answered { CommandsAreAnswered }
@@ -118,8 +118,12 @@ pub fn word_examples()
         ∷ read.IncludeDepth ∷ read.TooLong ∷ read.Nesting ∷ read.Load ∷ [])
         ≡ codes "BadByte" ∷ codes "Unclosed" ∷ codes "Syntax" ∷ codes "FreeVariable" ∷ codes "Role" ∷ codes "SecondConjecture"
         ∷ codes "SelectionMissing" ∷ codes "IncludeDepth" ∷ codes "TooLong" ∷ codes "Nesting" ∷ codes "Load" ∷ [] }
-    ensures of_statuses { map read_status_word (read.Syntax ∷ read.SecondConjecture ∷ read.Nesting ∷ read.Load ∷ read.Inappropriate Dollar ∷ [])
-        ≡ codes "InputError" ∷ codes "InputError" ∷ codes "InputError" ∷ codes "OSError" ∷ codes "Inappropriate" ∷ [] }
+    ensures of_statuses { map read_status_word
+        (read.BadByte ∷ read.Unclosed ∷ read.Syntax ∷ read.FreeVariable ∷ read.Role ∷ read.SecondConjecture ∷ read.SelectionMissing
+        ∷ read.IncludeDepth ∷ read.TooLong ∷ read.Nesting ∷ read.Load ∷ [])
+        ≡ replicate 10 (codes "InputError") ++ codes "OSError" ∷ [] }
+    ensures of_forms_left_out { map (λ form. read_status_word (read.Inappropriate form)) (Typed ∷ RoleForm ∷ Number ∷ Distinct ∷ Dollar ∷ [])
+        ≡ replicate 5 (codes "Inappropriate") }
     ensures of_forms { map form_word (Typed ∷ RoleForm ∷ Number ∷ Distinct ∷ Dollar ∷ [])
         ≡ codes "Typed" ∷ codes "RoleForm" ∷ codes "Number" ∷ codes "Distinct" ∷ codes "Dollar" ∷ [] }
     ensures of_limits { map limit_word (Expansion ∷ TooHeavy ∷ TotalLimit ∷ [])

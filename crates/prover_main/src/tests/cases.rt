@@ -43,6 +43,11 @@ const EQUIVALENCES: &[u8] =
     b"fof(a,axiom,p0 <=> (p1 <=> (p2 <=> (p3 <=> (p4 <=> (p5 <=> (p6 <=> (p7 <=> (p8 <=> (p9 <=> \
 (p10 <=> (p11 <=> (p12 <=> (p13 <=> (p14 <=> (p15 <=> (p16 <=> (p17 <=> (p18 <=> p19))))))))))))))))))).";
 
+/// A disjunction of 13 conjunctions, in whose product names are made.
+const THIRTEEN: &[u8] =
+    b"fof(a,axiom,(p0&q0)|(p1&q1)|(p2&q2)|(p3&q3)|(p4&q4)|(p5&q5)|(p6&q6)|(p7&q7)|(p8&q8)|(p9&q9)|\
+(p10&q10)|(p11&q11)|(p12&q12)).";
+
 /// The problem of a right identity in groups, as it is ordinarily used.
 pub(crate) const GROUP: &[u8] = b"%--------------------------------------------------------------\n\
 % File     : r7.p\n\
@@ -73,6 +78,19 @@ pub(crate) const CASES: &[Case] = &[
         files: &[("r11.p", CLAUSES)],
         status: 2,
         report: b"% SZS status GaveUp for r11\n% spent 1 of 1\n",
+    },
+    // The empty clause comes before the limit.
+    Case {
+        words: &["prove", "--inferences=1", "r1.p"],
+        files: &[("r1.p", TWO_UNITS)],
+        status: 0,
+        report: TWO_UNITS_REPORT,
+    },
+    Case {
+        words: &["prove", "thirteen.p"],
+        files: &[("thirteen.p", THIRTEEN)],
+        status: 10,
+        report: b"% SZS status Unknown for thirteen\n% closed\n",
     },
     Case {
         words: &["prove", "r5.p"],
