@@ -204,10 +204,12 @@ impl Pool {
         number < self.register.len() && self.register.get(number).death.is_none()
     }
 
-    /// The events so far. They are lawful.
+    /// The events so far. They are lawful, and the pool began with inputs and options as it may.
     pub fn history(&self) -> &History
         ensures events { events_of result.now ≡ self.now.history }
         ensures lawful { IsHistoryOf self.now.origin self.now.history }
+        ensures inputs { AreInputs self.now.origin.inputs }
+        ensures limit { IsLimit self.now.origin.options }
     {
         &self.history
     }
