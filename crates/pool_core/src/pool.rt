@@ -44,8 +44,8 @@ pub enum Note {
     Died(u32),
 }
 
-/// A pool of clauses. Contracts see which bank it is of, what it began with, and its history: the list of its events, which is lawful. All
-/// that it answers follows from these.
+/// A pool of clauses. Contracts see which bank it is of, what it began with, and its history, the list of its events. What it answers is told by
+/// the replay of these.
 #[derive(Drop)]
 pub struct Pool {
     pub(crate) inputs: Snapshot<Clauses>,
