@@ -36,5 +36,6 @@ mod MemberLemmas
 -- Worked examples.
 mod GoingExample
 mod MeetingExample
+mod EntryExample
 mod AnswerExamples
 mod LawfulExamples

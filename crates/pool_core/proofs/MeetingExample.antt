@@ -39,7 +39,7 @@ job = record { job = 1; number = 0; told = 0 ∷ []; as_of = 1; left = 100 }
 
 -- ---- no clause but itself was told
 
-no_other : (b : Bool) → ((b || false) && not b) ≡ false
+pub no_other : (b : Bool) → ((b || false) && not b) ≡ false
 no_other true = refl
 no_other false = refl
 
@@ -79,7 +79,7 @@ irreducible = record {
 
 -- ---- nothing is named
 
-none-when : (test : Bool) (o : Option TreeClause) → o ≡ None → (if test then o else None) ≡ None
+pub none-when : (test : Bool) (o : Option TreeClause) → o ≡ None → (if test then o else None) ≡ None
 none-when true o is = is
 none-when false o is = refl
 

@@ -4,6 +4,7 @@ use Rattle.plain_types.specs.declared.sequence.NameLit.{NameLit}
 use Rattle.fol_base.specs.Tree.{Tree}
 use Rattle.fol_base.specs.Clause.{TreeLiteral, TreeClause}
 use Rattle.fol_base.specs.Examples.{x, a, b, c, f, p, q, q₂, r, equation, clause}
+use Rattle.fol_base.specs.Rules.{disequation}
 use Rattle.fol_base.specs.declared.clause.Side.TheVariants.{Left}
 use Rattle.kernel_steps.specs.Derivation.{complement, negative_of}
 use Rattle.kernel_steps.specs.Examples.{not_p, not_q, not_true, with, components, four_clauses}
@@ -232,3 +233,16 @@ alone = record { inputs = clause (r ∷ []) ∷ []; options = record { select = 
 
 abbrev pub alone_history : List Event
 alone_history = Claim 1 ∷ return 1 (Met [] []) ∷ []
+
+-- ---- a clause that meets itself: X0 != a, of which the sides unify
+
+abbrev pub unequal : Origin
+unequal = pool_of (clause (disequation (x 0) a ∷ []) ∷ [])
+
+abbrev pub unequal_resolved : Entry
+unequal_resolved = entry (key.Refl 0 0) (kept (line_of (Refl 0 0 (a ∷ [])) (clause []) ∷ []) (clause []))
+
+-- ---- two clauses that meet: p(a), and p(X0) implies q(X0)
+
+abbrev pub partners : Origin
+partners = pool_of (clause (p a ∷ []) ∷ clause (not_p (x 0) ∷ q (x 0) ∷ []) ∷ [])

@@ -50,7 +50,7 @@ impl Pool {
         }
     }
 
-    /// How many jobs are out. More than a number of 32 bits have no room in memory.
+    /// How many jobs are out. A count past 32 bits is told as want of memory.
     fn jobs_out(&self) -> Mem<u32>
         ensures { IfOk result (λ count. count ≡ jobs_out (replay self.now.origin self.now.history)) }
     {
@@ -254,7 +254,7 @@ fn activate(
     }
 }
 
-/// The next number. There is none only where the numbers before it have no room in memory.
+/// The next number. One past 64 bits is told as want of memory.
 fn one_more(number: u64) -> Mem<u64>
     ensures { IfOk result (λ next. next ≡ number + 1) }
 {
@@ -264,7 +264,7 @@ fn one_more(number: u64) -> Mem<u64>
     }
 }
 
-/// A count in 32 bits. It has none only where what is counted has no room in memory.
+/// A count in 32 bits. One that doesn't fit is told as want of memory.
 fn short(count: usize) -> Mem<u32>
     ensures { IfOk result (λ number. number ≡ count) }
 {

@@ -44,8 +44,8 @@ pub enum Note {
     Died(u32),
 }
 
-/// A pool of clauses. Contracts see which bank it is of, what it began with, and its history: the list of its events, which is lawful. All
-/// that it answers follows from these.
+/// A pool of clauses. Contracts see which bank it is of, what it began with, and its history, the list of its events. What it answers is told by
+/// the replay of these.
 #[derive(Drop)]
 pub struct Pool {
     pub(crate) inputs: Snapshot<Clauses>,
@@ -204,10 +204,12 @@ impl Pool {
         number < self.register.len() && self.register.get(number).death.is_none()
     }
 
-    /// The events so far. They are lawful.
+    /// The events so far. They are lawful, and the pool began with inputs and options as it may.
     pub fn history(&self) -> &History
         ensures events { events_of result.now ≡ self.now.history }
         ensures lawful { IsHistoryOf self.now.origin self.now.history }
+        ensures inputs { AreInputs self.now.origin.inputs }
+        ensures limit { IsLimit self.now.origin.options }
     {
         &self.history
     }

@@ -24,7 +24,7 @@ pub struct Registration {
     pub is_active: bool,
 }
 
-/// The registered clauses, in the order of their numbers. No two living ones are equal.
+/// The registered clauses, in the order of their numbers.
 #[derive(Drop)]
 pub struct Register {
     registrations: Vec<Registration>,

@@ -5,14 +5,15 @@ ghost use Rattle.fol_base.specs.Examples.{x, a, p, equation, clause, is_predicat
 ghost use Rattle.pool_core.specs.Lawful.{IsLawful};
 ghost use Rattle.pool_core.specs.Replay.{replay};
 ghost use Rattle.pool_core.specs.Saturated.{members_of};
-ghost use Rattle.pool_core.specs.Examples.{pool_of, alone, alone_history, three, rewrites, rewrites_history, split, justified, removing, return, removal};
+ghost use Rattle.pool_core.specs.Examples.{pool_of, alone, alone_history, three, rewrites, rewrites_history, split, justified, removing, unequal, unequal_resolved, partners, return, removal};
 ghost use Rattle.pool_core.specs.declared.batch.Fate.TheVariants.{Dropped};
 ghost use Rattle.pool_core.specs.declared.batch.Redundancy.TheVariants.{Tautology, Subsumed};
 ghost use Rattle.pool_core.specs.declared.batch.Work.TheVariants as work;
 ghost use Rattle.pool_core.specs.declared.event.Event.TheVariants as event;
 
 /// A tautology goes; a clause that another subsumes goes; so does one that another rewrites, by a line to an irreducible
-/// result; one that is alone and meets nothing stays; a job is given up; a clause is given while the solver is out.
+/// result; one that is alone and meets nothing stays, and one that meets itself does with an entry for that; a job is given up; a clause is
+/// given while the solver is out.
 pub fn lawful_examples()
     ensures tautology { IsLawful is_predicate (pool_of (clause (equation a a ∷ []) ∷ []))
         (event.Claim 1 ∷ return 1 (work.Gone (removal 0 [] (Dropped Tautology))) ∷ []) }
@@ -23,11 +24,13 @@ pub fn lawful_examples()
     ensures rewritten { IsLawful is_predicate rewrites (take 3 rewrites_history) }
     ensures solver_and_clause { IsLawful is_predicate split (event.ClaimSolve 1 ∷ event.Claim 2 ∷ []) }
     ensures stays { IsLawful is_predicate alone alone_history }
+    ensures met { IsLawful is_predicate unequal (event.Claim 1 ∷ return 1 (work.Met (unequal_resolved ∷ []) []) ∷ []) }
     ensures given_up { IsLawful is_predicate three (event.Claim 1 ∷ event.Abandon 1 ∷ event.Claim 2 ∷ []) }
 {}
 
 /// A job's number that was given before, be the job out, given up or the solver's; a stale return whose justifier lives; a claim of a clause while there is something to be solved, and of the solver while there is
-/// nothing; a return of a job that isn't out; a void return of a clause that lives; and a job given up that isn't out.
+/// nothing; a return of a job that isn't out; a void return of a clause that lives; a job given up that isn't out; and a return without the
+/// entry for an inference, of the clause with itself or with a partner, or with two entries for one.
 pub fn unlawful_examples()
     ensures number_twice { IsLawful is_predicate three (event.Claim 1 ∷ event.Claim 1 ∷ []) → ⊥ }
     ensures number_of_solver { IsLawful is_predicate split (event.ClaimSolve 1 ∷ event.Claim 1 ∷ []) → ⊥ }
@@ -40,4 +43,8 @@ pub fn unlawful_examples()
     ensures never_given { IsLawful is_predicate three (event.Abandon 1 ∷ []) → ⊥ }
     ensures justifier_missing { IsLawful is_predicate (pool_of (clause (p (x 0) ∷ []) ∷ clause (p a ∷ []) ∷ []))
         (event.Claim 1 ∷ event.Claim 2 ∷ return 2 (work.Gone (removal 1 [] (Dropped (Subsumed 0)))) ∷ []) → ⊥ }
+    ensures itself_left_out { IsLawful is_predicate unequal (event.Claim 1 ∷ return 1 (work.Met [] []) ∷ []) → ⊥ }
+    ensures partner_left_out { IsLawful is_predicate partners (event.Claim 1 ∷ event.Claim 2 ∷ return 2 (work.Met [] []) ∷ []) → ⊥ }
+    ensures met_twice { IsLawful is_predicate unequal
+        (event.Claim 1 ∷ return 1 (work.Met (unequal_resolved ∷ unequal_resolved ∷ []) []) ∷ []) → ⊥ }
 {}

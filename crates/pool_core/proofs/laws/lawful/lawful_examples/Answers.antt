@@ -1,4 +1,5 @@
 use Rattle.pool_core.proofs.MeetingExample.{r_stays}
+use Rattle.pool_core.proofs.EntryExample.{met}
 use Rattle.pool_core.proofs.GoingExample.{rewritten_goes}
 use Rattle.pool_core.proofs.LawfulExamples.{tautology_goes, subsumed_goes, given_up, solver_and_clause}
 use Rattle.pool_core.proofs.laws.lawful.lawful_examples.Goals as goal
@@ -20,3 +21,6 @@ returns-clause-solver_and_clause c = solver_and_clause
 
 pub returns-clause-stays : goal.returns-clause-stays
 returns-clause-stays c = r_stays
+
+pub returns-clause-met : goal.returns-clause-met
+returns-clause-met c = met

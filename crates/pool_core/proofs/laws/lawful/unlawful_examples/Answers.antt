@@ -1,3 +1,4 @@
+use Rattle.pool_core.proofs.EntryExample.{itself_left_out, partner_left_out, met_twice}
 use Rattle.pool_core.proofs.LawfulExamples.{number_twice, number_of_solver, number_given_up, justifier_lives, solver_first, nothing_to_solve, not_out, not_void, never_given, justifier_missing}
 use Rattle.pool_core.proofs.laws.lawful.unlawful_examples.Goals as goal
 
@@ -30,3 +31,12 @@ returns-clause-number_given_up c = number_given_up
 
 pub returns-clause-justifier_lives : goal.returns-clause-justifier_lives
 returns-clause-justifier_lives c = justifier_lives
+
+pub returns-clause-itself_left_out : goal.returns-clause-itself_left_out
+returns-clause-itself_left_out c = itself_left_out
+
+pub returns-clause-partner_left_out : goal.returns-clause-partner_left_out
+returns-clause-partner_left_out c = partner_left_out
+
+pub returns-clause-met_twice : goal.returns-clause-met_twice
+returns-clause-met_twice c = met_twice
