@@ -1,0 +1,6 @@
+-- The scan for a cut (CutLemmas). Literals that go (ShorterLemmas); a bound of the symbols (BoundLemmas); single steps (StepLemmas), and the loop over them (LoopLemmas).
+mod CutLemmas
+mod ShorterLemmas
+mod BoundLemmas
+mod StepLemmas
+mod LoopLemmas
