@@ -6,7 +6,7 @@ use Rattle.fol_base.specs.Clause.{TreeClause, clause_size}
 use Rattle.fol_base.specs.Canonical.{IsCanonical}
 use Rattle.fol_base.specs.Literal.{clause_of}
 use Rattle.fol_base.specs.Subsumption.{assertions}
-use Rattle.fol_base.specs.WellFormed.{SymbolUse, are_literals_of}
+use Rattle.fol_base.specs.WellFormed.{SymbolUse}
 use Rattle.fol_base.specs.declared.limits.TheConstants.{MOST_SYMBOLS}
 use Rattle.kernel_steps.specs.Names.{are_sorted}
 use Rattle.kernel_steps.specs.declared.step.Reduced.{Reduced}

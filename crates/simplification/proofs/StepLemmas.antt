@@ -1,6 +1,6 @@
 -- Single steps: what they do to the clause, and what no step means.
-use Rattle.std.proofs.Common.{◌≡◌, ◌⊎◌, ℕ, ◌≤◌, Bool, true, false, List, [], ◌∷◌, length, Option, None, Some, refl, ap, sym, ◌∙◌, subst, inr, ⊎_elim}
-use Rattle.std.specs.Prelude.{Contains, IsTrue, MatchBool, option_map, slice_get, if◌then◌else◌}
+use Rattle.std.proofs.Common.{◌≡◌, ◌⊎◌, ℕ, Bool, true, false, List, [], ◌∷◌, length, Option, None, Some, refl, ap, sym, ◌∙◌, subst, inr, ⊎_elim}
+use Rattle.std.specs.Prelude.{Contains, MatchBool, option_map, if◌then◌else◌}
 use Rattle.std.proofs.lemmas.Bool.{cond-true}
 use Rattle.std.proofs.lemmas.List.Elements.{All-contains}
 use Rattle.std.proofs.lemmas.Option.{none-some, same_Some}
@@ -10,19 +10,16 @@ use Rattle.fol_base.specs.Literal.{clause_of}
 use Rattle.fol_base.specs.Rules.{superposed}
 use Rattle.fol_base.specs.WellFormed.{SymbolUse, are_literals_of}
 use Rattle.fol_base.proofs.RuleLemmas.{resolved-parts, merged-parts, superposed-parts, superposed_literal-parts}
-use Rattle.kernel_steps.specs.Inference.{CutsBy, DropsTrivial, MergesEqual, Reduces, RewritesBy}
-use Rattle.kernel_steps.specs.Moves.{IsMove, MovesTo}
+use Rattle.kernel_steps.specs.Inference.{CutsBy, DropsTrivial, MergesEqual, RewritesBy}
+use Rattle.kernel_steps.specs.Moves.{IsMove}
 use Rattle.kernel_steps.specs.declared.step.Reduced.{Reduced}
 use Rattle.bank_clause.specs.Clause.{clause_at}
-use Rattle.bank_clause.specs.declared.clause.BankClause.{BankClause}
 use Rattle.bank_clause.specs.declared.member.Member.{Member}
-use Rattle.reduction.specs.Extending.{GoesOn}
 use Rattle.rewriting.specs.Laws.{AreWellFormed, NoneRewrites}
 use Rattle.rewriting.specs.Units.{IsUnit, clause_numbered, is_kept}
 use Rattle.subsume.specs.Searching.{IsMemberOfUse}
 use Rattle.subsume.specs.Target.{AreOfUse}
 use Rattle.demodulate.specs.Normal.{AreSomeOf, kept}
-use Rattle.cutting.specs.CutSteps.{CutsTo}
 use Rattle.cutting.specs.Fit.{GoesOnAlone, HasNoEqual, HasNoTrivial, IsFit}
 use Rattle.simplification.specs.Reducing.{NoStepBy}
 use Rattle.simplification.specs.Steps.{IsCutBySome, IsCutOrNone, IsDone, IsStep, NoStep, NoneCuts}

@@ -1,5 +1,5 @@
 -- Which clauses may be used, and the sets that have them.
-use Rattle.std.specs.Prelude.{◌≡◌, ◌↔◌, ℕ, List, length, Option, None, Some, option_map, Contains, IsTrue, if◌then◌else◌}
+use Rattle.std.specs.Prelude.{◌≡◌, ◌↔◌, ℕ, List, length, Option, None, Some, option_map, Contains, IsTrue, ⊤, if◌then◌else◌}
 use Rattle.fol_base.specs.Clause.{TreeClause}
 use Rattle.fol_base.specs.WellFormed.{SymbolUse, are_literals_of}
 use Rattle.bank_clause.specs.Clause.{clause_at}
@@ -39,6 +39,10 @@ HasThose Fits clauses ms = (n : ℕ) (c : TreeClause) → IsMemberWith ms n c �
 
 abbrev pub HasOneLiteral : TreeClause → Type 0
 HasOneLiteral c = length c.literals ≡ 1
+
+-- the list has all of them, and no others
+abbrev pub HasAll : (ℕ → Option TreeClause) → List Member → Type 0
+HasAll clauses ms = HasThose (λ c. ⊤) clauses ms
 
 -- the sets by which clauses are reduced are of one look-up
 pub record AreOfClauses (clauses : ℕ → Option TreeClause) (es us : List Member) : Type 0 where

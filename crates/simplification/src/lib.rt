@@ -4,7 +4,11 @@
 mod cuts;
 mod reducing;
 mod simplifiers;
+mod simplifying;
 mod stepping;
 
 pub use reducing::reduce;
 pub use simplifiers::Simplifiers;
+pub use simplifying::{Simplified, simplify};
+
+pub mod laws;

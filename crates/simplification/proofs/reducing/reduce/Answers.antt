@@ -1,6 +1,5 @@
 use Rattle.std.proofs.Common.{List, ap, sym, ◌∙◌}
 use Rattle.plain_types.specs.declared.sequence.NameLit.{NameLit}
-use Rattle.fol_base.specs.Literal.{clause_of}
 use Rattle.fol_base.specs.Subsumption.{assertions}
 use Rattle.simplification.specs.Steps.{IsDone, IsStep}
 use Rattle.simplification.proofs.LoopLemmas.{asserted-are, begins, ends, stepped}
