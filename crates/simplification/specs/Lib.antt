@@ -1,0 +1,4 @@
+pub mod Usable
+pub mod Steps
+pub mod Reducing
+pub mod Simplified

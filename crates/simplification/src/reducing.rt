@@ -1,0 +1,62 @@
+// A clause reduced until no reducing step applies.
+
+ghost use Rattle.std.specs.Prelude.{◌≡◌, ◌≤◌, IfOk, OnErr, IsTrue, filter, map, not};
+ghost use Rattle.fol_base.specs.Canonical.{IsCanonical};
+ghost use Rattle.fol_base.specs.Clause.{clause_size};
+ghost use Rattle.fol_base.specs.Literal.{clause_of};
+ghost use Rattle.fol_base.specs.declared.limits.TheConstants.{MOST_SYMBOLS};
+ghost use Rattle.kernel_steps.specs.Names.{are_sorted};
+ghost use Rattle.bank_clause.specs.Clause.{AreMembersOf};
+ghost use Rattle.rewriting.specs.Units.{AreClausesOf};
+ghost use Rattle.simplification.specs.Usable.{HaveUse};
+ghost use Rattle.simplification.specs.Reducing.{IsFurther, IsIrreducibleBySteps};
+
+use crate::simplifiers::Simplifiers;
+use crate::stepping::step;
+use demodulate::laws::rewriting_ends;
+use kernel_steps::Reduced;
+use plain_types::{Mem, NameLit};
+use reduction::laws::moves_extend_reductions;
+use rewriting::Rewriters;
+use std::alloc::Global;
+
+/// Reduces a clause until no reducing step applies: literals `t != t` go, equal literals are merged, and units rewrite and cut, but for the
+/// one that is left out. After want of memory the clause is reduced by fewer steps.
+pub fn reduce(alloc: Global, by: &Simplifiers<'_>, reduced: &mut Reduced) -> Mem<()>
+    requires equations { AreClausesOf by.now.bank.now by.now.equations.now }
+    requires units { AreMembersOf by.now.bank.now by.now.units.now }
+    requires canonical { IsCanonical (clause_of reduced.old.clause) }
+    requires names { IsTrue (are_sorted reduced.old.clause.names) }
+    requires size { clause_size (clause_of reduced.old.clause) ≤ MOST_SYMBOLS }
+    requires formed { HaveUse by.now.equations.now by.now.units.now (clause_of reduced.old.clause) }
+    ensures further { IsFurther by.now.equations.now by.now.units.now by.now.left_out reduced.old reduced.new }
+    ensures ok { IfOk result (λ _. IsIrreducibleBySteps by.now.equations.now by.now.units.now by.now.left_out reduced.old reduced.new) }
+{
+    let asserted = asserted_numbers(alloc, reduced.clause.names.as_slice())?;
+    let rewriters = Rewriters {
+        units: by.equations,
+        bank: by.bank,
+        asserted: asserted.as_slice(),
+        left_out: by.left_out,
+    };
+    moves_extend_reductions();
+    rewriting_ends();
+    'steps: loop {
+        let stepped = step(alloc, &rewriters, by.units, reduced)?;
+        if !stepped {
+            return Ok(());
+        }
+    }
+}
+
+/// The numbers of the names that are asserted: the negative ones.
+fn asserted_numbers(alloc: Global, names: &[NameLit]) -> Mem<Vec<u32>>
+    ensures { IfOk result (λ asserted. asserted.items ≡ map (λ n. n.name) (filter (λ n. not n.positive) names.now)) }
+{
+    let asserted = names
+        .iter()
+        .filter(|name| !name.positive)
+        .map(|name| name.name)
+        .collect(alloc)?;
+    Ok(asserted)
+}
