@@ -43,6 +43,8 @@ mod SoundLemmas
 mod BeginningLemmas
 -- PlaceLemmas (positions).
 mod PlaceLemmas
+-- CountedLemmas (no key is counted twice).
+mod CountedLemmas
 -- Worked examples.
 mod GoingExample
 mod MeetingExample

@@ -39,19 +39,19 @@ pub has-first : (n : ℕ) (xs : List ℕ) → has_number n (n ∷ xs) ≡ true
 has-first n xs = or_left (n == n) (has_number n xs) (eq-eqb n n refl)
 
 -- each number of a list is one of a longer one
-has-each : (xs ys : List ℕ) → list_all (λ n. has_number n (xs ++ ys)) ys ≡ true
+pub has-each : (xs ys : List ℕ) → list_all (λ n. has_number n (xs ++ ys)) ys ≡ true
 has-each xs [] = refl
 has-each xs (y ∷ ys) =
     and_from (has_number y (xs ++ y ∷ ys)) (list_all (λ n. has_number n (xs ++ y ∷ ys)) ys) (has-right y xs (y ∷ ys) (has-first y ys))
     (all-weaker (λ n. has_number n ys) (λ n. has_number n (xs ++ y ∷ ys))
     (λ n there. has-right n xs (y ∷ ys) (or_right (n == y) (has_number n ys) there)) ys (has-each [] ys))
 
-all-filter : {X : Type 0} (p q : X → Bool) (xs : List X) → list_all p xs ≡ true → list_all p (filter q xs) ≡ true
-all-filter p q [] all = refl
-all-filter p q (x ∷ xs) all =
+pub all-kept : {X : Type 0} (p q : X → Bool) (xs : List X) → list_all p xs ≡ true → list_all p (filter q xs) ≡ true
+all-kept p q [] all = refl
+all-kept p q (x ∷ xs) all =
     let parts = and_parts (p x) (list_all p xs) all in
     by-test (λ ys. list_all p ys ≡ true) (q x) (x ∷ filter q xs) (filter q xs)
-    (λ kept. and_from (p x) (list_all p (filter q xs)) parts.0 (all-filter p q xs parts.1)) (λ left. all-filter p q xs parts.1)
+    (λ kept. and_from (p x) (list_all p (filter q xs)) parts.0 (all-kept p q xs parts.1)) (λ left. all-kept p q xs parts.1)
 
 get-has : (xs : List ℕ) (k d : ℕ) → k < length xs → has_number (get_or xs k d) xs ≡ true
 get-has [] k d within = absurd (omega (arith, within))
@@ -75,7 +75,7 @@ more-places xs ys j h =
     (all-weaker (λ n. has_number n xs) (λ n. has_number n (xs ++ ys)) (λ n there. has-left n xs ys there) j.told parts.1)
 
 told-places : (r : PoolRecord) → list_all (λ n. has_number n r.positions) (told_now r) ≡ true
-told-places r = all-filter (λ n. has_number n r.positions) (lives r) r.positions (has-each [] r.positions)
+told-places r = all-kept (λ n. has_number n r.positions) (lives r) r.positions (has-each [] r.positions)
 
 placed-grown : (r s : PoolRecord) → Grows r s → Placed r → Placed s
 placed-grown r s grown placed =
@@ -102,7 +102,7 @@ module _ (options : Options) where
   without-placed job r placed = record {
     registered = placed.registered;
     differ = placed.differ;
-    told = all-filter (has_positions r.positions) (λ (j : GivenJob). not (j.job == job)) r.given placed.told;
+    told = all-kept (has_positions r.positions) (λ (j : GivenJob). not (j.job == job)) r.given placed.told;
   }
 
   -- ---- claims

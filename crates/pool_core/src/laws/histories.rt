@@ -1,7 +1,7 @@
 // Laws of lawful histories: each is the contract of a function without arguments and with an empty body.
 
 ghost use Rattle.pool_core.specs.Derived.{LinesAreDerived, RefutedIsRefutation};
-ghost use Rattle.pool_core.specs.Laws.{ClaimedInTime, DeathsAreJustified, OutcomesStay, PicksAreChosen, SetAsideAreHeavy, SpentIsTheCount};
+ghost use Rattle.pool_core.specs.Laws.{ClaimedInTime, CountedOnce, DeathsAreJustified, OutcomesStay, PicksAreChosen, SetAsideAreHeavy, SpentIsTheCount};
 ghost use Rattle.pool_core.specs.Wholeness.{PositionsAreRegistered, RegisteredAreWhole, ToldHavePositions};
 
 /// A clause that stays awake and alive, with m older ones, is claimed within 6(m + 1) given claims, while no job is given up.
@@ -57,4 +57,9 @@ pub fn positions_are_registered()
 /// The clause of a job that is out, and those that it was told, have positions.
 pub fn told_have_positions()
     ensures { ToldHavePositions }
+{}
+
+/// No inference is counted twice, and what is counted is an inference of registered clauses or a clause that was replaced.
+pub fn counted_once()
+    ensures { CountedOnce }
 {}
