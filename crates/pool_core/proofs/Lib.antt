@@ -45,6 +45,8 @@ mod BeginningLemmas
 mod PlaceLemmas
 -- CountedLemmas (no key is counted twice).
 mod CountedLemmas
+-- NumberLemmas (the numbers of clauses, positions and jobs).
+mod NumberLemmas
 -- Worked examples.
 mod GoingExample
 mod MeetingExample

@@ -1,7 +1,7 @@
 // Laws of lawful histories: each is the contract of a function without arguments and with an empty body.
 
 ghost use Rattle.pool_core.specs.Derived.{LinesAreDerived, RefutedIsRefutation};
-ghost use Rattle.pool_core.specs.Laws.{ClaimedInTime, CountedOnce, DeathsAreJustified, OutcomesStay, PicksAreChosen, SetAsideAreHeavy, SpentIsTheCount};
+ghost use Rattle.pool_core.specs.Laws.{ClaimedInTime, CountedOnce, DeathsAreJustified, JobsAreCounted, NumbersFit, OutcomesStay, PicksAreChosen, PositionsStay, SetAsideAreHeavy, SpentIsTheCount};
 ghost use Rattle.pool_core.specs.Wholeness.{PositionsAreRegistered, RegisteredAreWhole, ToldHavePositions};
 
 /// A clause that stays awake and alive, with m older ones, is claimed within 6(m + 1) given claims, while no job is given up.
@@ -62,4 +62,19 @@ pub fn told_have_positions()
 /// No inference is counted twice, and what is counted is an inference of registered clauses or a clause that was replaced.
 pub fn counted_once()
     ensures { CountedOnce }
+{}
+
+/// The jobs that are given out have the numbers 1, 2, 3 and so on, in order.
+pub fn jobs_are_counted()
+    ensures { JobsAreCounted }
+{}
+
+/// A position that was given stays.
+pub fn positions_stay()
+    ensures { PositionsStay }
+{}
+
+/// Where nothing is split, the numbers of clauses and their positions have 32 bits.
+pub fn numbers_fit()
+    ensures { NumbersFit }
 {}
