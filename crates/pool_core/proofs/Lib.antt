@@ -45,8 +45,9 @@ mod BeginningLemmas
 mod PlaceLemmas
 -- CountedLemmas (no key is counted twice).
 mod CountedLemmas
--- NumberLemmas (the numbers of clauses, positions and jobs).
+-- NumberLemmas (the numbers of clauses, positions and jobs), FitLemmas (which have 32 bits).
 mod NumberLemmas
+mod FitLemmas
 -- Worked examples.
 mod GoingExample
 mod MeetingExample
