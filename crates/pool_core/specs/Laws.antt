@@ -59,6 +59,13 @@ JobsAreCounted =
     → IsLawful is_predicate origin history
     → let given = filter is_given history in map job_of given ≡ range_with_len 1 (length given)
 
+-- each event is of a job that was given: so the next job is of none
+abbrev pub JobsWereGiven : Type 0
+JobsWereGiven =
+    (is_predicate : ℕ → Bool) (origin : Origin) (history : List Event)
+    → IsLawful is_predicate origin history
+    → All (λ e. (1 ≤ job_of e) × (job_of e ≤ (replay origin history).jobs)) history
+
 -- ---- positions
 
 -- A position that was given stays: so for every list of events, lawful or not.

@@ -1,7 +1,7 @@
 // Laws of lawful histories: each is the contract of a function without arguments and with an empty body.
 
 ghost use Rattle.pool_core.specs.Derived.{LinesAreDerived, RefutedIsRefutation};
-ghost use Rattle.pool_core.specs.Laws.{ClaimedInTime, CountedOnce, DeathsAreJustified, JobsAreCounted, NumbersFit, OutcomesStay, PicksAreChosen, PositionsStay, SetAsideAreHeavy, SpentIsTheCount};
+ghost use Rattle.pool_core.specs.Laws.{ClaimedInTime, CountedOnce, DeathsAreJustified, JobsAreCounted, JobsWereGiven, NumbersFit, OutcomesStay, PicksAreChosen, PositionsStay, SetAsideAreHeavy, SpentIsTheCount};
 ghost use Rattle.pool_core.specs.Wholeness.{PositionsAreRegistered, RegisteredAreWhole, ToldHavePositions};
 
 /// A clause that stays awake and alive, with m older ones, is claimed within 6(m + 1) given claims, while no job is given up.
@@ -77,4 +77,9 @@ pub fn positions_stay()
 /// Where nothing is split, the numbers of clauses and their positions have 32 bits.
 pub fn numbers_fit()
     ensures { NumbersFit }
+{}
+
+/// Each event is of a job that was given, so the next job is of no event.
+pub fn jobs_were_given()
+    ensures { JobsWereGiven }
 {}
