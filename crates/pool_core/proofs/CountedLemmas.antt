@@ -30,6 +30,7 @@ use Rattle.pool_core.specs.Batches.{is_told, told_before, IsRightFate, IsRightWo
 use Rattle.pool_core.specs.Replay.{Origin, retold, after, start, replay}
 use Rattle.pool_core.specs.Lawful.{IsAllowed, IsLawfulFrom}
 use Rattle.pool_core.specs.Laws.{IsCounted, CountedOnce}
+use Rattle.pool_core.specs.Told.{GivenAreTold}
 use Rattle.pool_core.specs.declared.options.Options.{Options}
 use Rattle.pool_core.specs.declared.batch.Batch.{Batch}
 use Rattle.pool_core.specs.declared.batch.Entry.{Entry}
@@ -136,16 +137,30 @@ front-filter p m (k ∷ ks) kept = by (k == m) (p k) refl refl (front-filter p m
 
 -- ---- what jobs are told
 
--- What a job was told before its clause stands before it among the positions.
+-- What a job was told before its clause stands before it among the positions; and it was told its clause.
 abbrev TellsBefore : List ℕ → GivenJob → Type 0
 TellsBefore positions j =
     (has_number j.number positions ≡ true) × (list_all (λ n. has_number n (front j.number positions)) (front j.number j.told) ≡ true)
+    × (has_number j.number j.told ≡ true)
 
 tells-longer : (ps qs : List ℕ) (j : GivenJob) → TellsBefore ps j → TellsBefore (ps ++ qs) j
 tells-longer ps qs j tells = (
   has-left j.number ps qs tells.0,
   ap (λ ks. list_all (λ n. has_number n ks) (front j.number j.told)) (front-longer j.number ps qs tells.0) ∙ tells.1,
+  tells.2,
 )
+
+-- what is kept is there still
+has-kept : (p : ℕ → Bool) (n : ℕ) (ks : List ℕ) → p n ≡ true → has_number n ks ≡ true → has_number n (filter p ks) ≡ true
+has-kept p n [] kept there = there
+has-kept p n (k ∷ ks) kept there =
+    by-test (λ is. has_number n is ≡ true) (p k) (k ∷ filter p ks) (filter p ks)
+    (λ yes.
+    ⊎_elim (λ (here : (n == k) ≡ true). or_left (n == k) (has_number n (filter p ks)) here)
+    (λ (later : has_number n ks ≡ true). or_right (n == k) (has_number n (filter p ks)) (has-kept p n ks kept later)) (or_cases (n == k) (has_number n ks) there))
+    (λ left.
+    ⊎_elim (λ (here : (n == k) ≡ true). absurd (true≢false (sym kept ∙ ap p (eqb-true n k here) ∙ left)))
+    (λ (later : has_number n ks ≡ true). has-kept p n ks kept later) (or_cases (n == k) (has_number n ks) there))
 
 -- a living clause is told so what lives
 tells-now : (r : PoolRecord) (n : ℕ) → lives r n ≡ true → list_all (λ k. has_number k (front n r.positions)) (front n (told_now r)) ≡ true
@@ -155,8 +170,14 @@ tells-now r n alive =
 
 -- ---- counted keys
 
-abbrev Lookup : List Registered → ℕ → Option TreeClause
+abbrev pub Lookup : List Registered → ℕ → Option TreeClause
 Lookup registered n = option_map (λ (x : Registered). x.clause) (slice_get registered n)
+
+pub lookup-more :
+    (xs ys : List Registered) (n : ℕ) (c : TreeClause) → Lookup xs n ≡ Some c → Lookup (xs ++ ys) n ≡ Some c
+lookup-more xs ys n c there =
+    option_map-some (λ (x : Registered). x.clause) (slice_get xs n) c there λ x x_is gives.
+    ap (λ (o : Option Registered). option_map (λ (y : Registered). y.clause) o) (get-left xs ys n x x_is) ∙ ap Some gives
 
 -- a clause whose job is done, and others of lower positions
 record IsMet (positions active : List ℕ) (key : Key) : Type 0 where
@@ -199,12 +220,6 @@ module _ (is_predicate : ℕ → Bool) (mode : SelectionMode) where
     active = ([], grown.active ∙ sym (append-nil r.active));
     deaths = grown.deaths;
   }
-
-  lookup-more :
-      (xs ys : List Registered) (n : ℕ) (c : TreeClause) → Lookup xs n ≡ Some c → Lookup (xs ++ ys) n ≡ Some c
-  lookup-more xs ys n c there =
-      option_map-some (λ (x : Registered). x.clause) (slice_get xs n) c there λ x x_is gives.
-      ap (λ (o : Option Registered). option_map (λ (y : Registered). y.clause) o) (get-left xs ys n x x_is) ∙ ap Some gives
 
   module _ (few many : ℕ → Option TreeClause) (more : (n : ℕ) (c : TreeClause) → few n ≡ Some c → many n ≡ Some c) where
     inference-more : (key : Key) (c : TreeClause) → IsInference is_predicate mode few key c → IsInference is_predicate mode many key c
@@ -571,7 +586,8 @@ module _ (is_predicate : ℕ → Bool) (options : Options) where
   claimed-tells : (job n : ℕ) (r : PoolRecord) (ps : List ℕ) → lives r n ≡ true → has_number n ps ≡ true → AllByRecursion (TellsBefore ps) r.given
       → AllByRecursion (TellsBefore ps) (r.given ++ new_job options job n (record r { positions = ps }) ∷ [])
   claimed-tells job n r ps alive there tells =
-      all-end (TellsBefore ps) r.given (new_job options job n (record r { positions = ps })) tells (there, tells-now (record r { positions = ps }) n alive)
+      all-end (TellsBefore ps) r.given (new_job options job n (record r { positions = ps })) tells
+      (there, tells-now (record r { positions = ps }) n alive, has-kept (lives r) n ps alive there)
 
   -- a claim
   record ClaimKeeps (job n : ℕ) (r : PoolRecord) (ps : List ℕ) : Type 0 where
@@ -608,7 +624,7 @@ module _ (is_predicate : ℕ → Bool) (options : Options) where
       → AllByRecursion (TellsBefore r.positions) (map (λ (j : GivenJob). if j.job == job then retold r j else j) js)
   retold-tells job r [] alive tells = tt
   retold-tells job r (j ∷ js) alive tells = (
-    by-test (TellsBefore r.positions) (j.job == job) (retold r j) j (λ is. ((tells.0).0, tells-now r j.number (alive.0 is))) (λ other. tells.0),
+    by-test (TellsBefore r.positions) (j.job == job) (retold r j) j (λ is. ((tells.0).0, tells-now r j.number (alive.0 is), has-kept (lives r) j.number r.positions (alive.0 is) (tells.0).0)) (λ other. tells.0),
     retold-tells job r js alive.1 tells.1,
   )
 
@@ -742,3 +758,11 @@ counted_once is_predicate origin history lawful =
     let good = history-good is_predicate origin.options history (start origin) lawful (start-good is_predicate origin) in
     let r : PoolRecord = replay origin history in
     (good.tallied.differ, All-weaker (Accounts is_predicate (mode_of origin.options.select) r) (IsCounted is_predicate origin.options r) (counted-is is_predicate origin r) r.counted good.tallied.accounted)
+
+pub given_are_told : GivenAreTold
+given_are_told is_predicate origin history lawful =
+    all (replay origin history).given (history-good is_predicate origin.options history (start origin) lawful (start-good is_predicate origin)).tells
+  where
+    all : (js : List GivenJob) → AllByRecursion (TellsBefore (replay origin history).positions) js → list_all (λ (j : GivenJob). has_number j.number j.told) js ≡ true
+    all [] tells = refl
+    all (j ∷ js) tells = and_from (has_number j.number j.told) (list_all (λ (k : GivenJob). has_number k.number k.told) js) (tells.0).2 (all js tells.1)

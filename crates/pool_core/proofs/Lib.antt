@@ -48,9 +48,12 @@ mod CountedLemmas
 -- NumberLemmas (the numbers of clauses, positions and jobs), FitLemmas (which have 32 bits).
 mod NumberLemmas
 mod FitLemmas
+-- NewsLemmas (what is told).
+mod NewsLemmas
 -- Worked examples.
 mod GoingExample
 mod MeetingExample
 mod EntryExample
 mod AnswerExamples
 mod LawfulExamples
+mod SaturatedExamples

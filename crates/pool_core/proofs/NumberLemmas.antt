@@ -270,7 +270,7 @@ numbers_fit origin history inputs limit unsplit =
 -- ---- positions stay
 
 module _ (options : Options) where
-  abbrev Extends : List ℕ → List ℕ → Type 0
+  abbrev pub Extends : List ℕ → List ℕ → Type 0
   Extends ps qs = (more : List ℕ) × (qs ≡ ps ++ more)
 
   same-positions : (r s : PoolRecord) → s.positions ≡ r.positions → Extends r.positions s.positions
@@ -301,7 +301,7 @@ module _ (options : Options) where
   refuted-positions None chains r = refl
   refuted-positions (Some s) chains r = by-if (λ (t : PoolRecord). t.positions ≡ r.positions) (is_none r.ended) _ _ refl refl
 
-  after-positions : (r : PoolRecord) (e : Event) → Extends r.positions (after options r e).positions
+  pub after-positions : (r : PoolRecord) (e : Event) → Extends r.positions (after options r e).positions
   after-positions r (Claim job) = claimed-positions job (next_given r) r
   after-positions r (Return batch) = same-positions r (returns_to options batch (given_job r batch.job) r) (returned-positions batch (given_job r batch.job) r)
   after-positions r (Stale job justifier) = same-positions r r refl

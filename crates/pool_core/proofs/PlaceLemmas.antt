@@ -60,12 +60,12 @@ get-has (x ∷ xs) (suc k) d within = or_right (get_or xs k d == x) (has_number 
 
 -- ---- records
 
-record IsPlaced (count : ℕ) (positions : List ℕ) (given : List GivenJob) : Type 0 where
+pub record IsPlaced (count : ℕ) (positions : List ℕ) (given : List GivenJob) : Type 0 where
   pub registered : list_all (λ n. nat_lt n count) positions ≡ true
   pub differ : AllPairs (λ n m. n ≢ m) positions
   pub told : list_all (has_positions positions) given ≡ true
 
-abbrev Placed : PoolRecord → Type 0
+abbrev pub Placed : PoolRecord → Type 0
 Placed r = IsPlaced (length r.registered) r.positions r.given
 
 more-places : (xs ys : List ℕ) (j : GivenJob) → has_positions xs j ≡ true → has_positions (xs ++ ys) j ≡ true
@@ -176,7 +176,7 @@ module _ (options : Options) where
   refuted-placed None chains r placed = placed
   refuted-placed (Some s) chains r placed = by-if Placed (is_none r.ended) _ _ placed placed
 
-  after-placed : (r : PoolRecord) (e : Event) → Placed r → Placed (after options r e)
+  pub after-placed : (r : PoolRecord) (e : Event) → Placed r → Placed (after options r e)
   after-placed r (Claim job) placed = by (next_given r) refl
     where
       by : (o : Option ℕ) → next_given r ≡ o → Placed (after options r (Claim job))
@@ -198,12 +198,14 @@ module _ (options : Options) where
   history-placed [] r placed = placed
   history-placed (e ∷ es) r placed = history-placed es (after options r e) (after-placed r e placed)
 
-replay-placed : (origin : Origin) (history : List Event) → Placed (replay origin history)
-replay-placed origin history =
-    history-placed origin.options history (start origin)
-    (placed-grown nothing_registered (start origin)
+pub start-placed : (origin : Origin) → Placed (start origin)
+start-placed origin =
+    placed-grown nothing_registered (start origin)
     (registers-grows nothing_registered (start origin) (inputs-register origin.options.split 0 origin.inputs nothing_registered))
-    (record { registered = refl; differ = λ i j d before within. absurd (omega (arith, within)); told = refl }))
+    (record { registered = refl; differ = λ i j d before within. absurd (omega (arith, within)); told = refl })
+
+pub replay-placed : (origin : Origin) (history : List Event) → Placed (replay origin history)
+replay-placed origin history = history-placed origin.options history (start origin) (start-placed origin)
 
 pub positions_are_registered : PositionsAreRegistered
 positions_are_registered origin history = let placed = replay-placed origin history in (placed.registered, placed.differ)

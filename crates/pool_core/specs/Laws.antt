@@ -47,19 +47,20 @@ PicksAreChosen =
     (r : PoolRecord) (n : ℕ)
     → next_given r ≡ Some n → IsPick (next_choice r) (map (λ k. (k, clause_size (clause_numbered r k))) (ready r)) n
 
--- A job is never given twice: the first one that is given has the number 1, and each further one the next number.
+-- a job is given, on a clause or to the solver
 abbrev pub is_given : Event → Bool
 is_given (Claim job) = true
 is_given (ClaimSolve job) = true
 is_given e = false
 
+-- No job is given twice: the first one has the number 1, and each further one the next number.
 abbrev pub JobsAreCounted : Type 0
 JobsAreCounted =
     (is_predicate : ℕ → Bool) (origin : Origin) (history : List Event)
     → IsLawful is_predicate origin history
     → let given = filter is_given history in map job_of given ≡ range_with_len 1 (length given)
 
--- each event is of a job that was given: so the next job is of none
+-- Each event is of a job that was given: so the next job is of none.
 abbrev pub JobsWereGiven : Type 0
 JobsWereGiven =
     (is_predicate : ℕ → Bool) (origin : Origin) (history : List Event)

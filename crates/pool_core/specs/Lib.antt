@@ -20,6 +20,7 @@ pub mod Inputs
 pub mod Laws
 pub mod Wholeness
 pub mod Derived
+pub mod Told
 pub mod Events
 pub mod RegisterCode
 pub mod Register

@@ -7,8 +7,10 @@ mod histories;
 mod lawful;
 mod resolving;
 mod rewriting;
+mod saturated;
 mod splitting;
 mod stale;
+mod telling;
 
 pub use claiming::{answer_examples, claim_examples, given_up_examples};
 pub use components::{component_examples, line_name_examples};
@@ -22,5 +24,7 @@ pub use histories::{
 pub use lawful::{lawful_examples, unlawful_examples};
 pub use resolving::{cut_unit, resolved_units};
 pub use rewriting::rewritten_unit;
+pub use saturated::saturated_examples;
 pub use splitting::{denied_parts, shared_names, sleeping_part};
 pub use stale::stale_return;
+pub use telling::{given_are_told, jobs_are_told_now, news_are_registered, told_are_news};
