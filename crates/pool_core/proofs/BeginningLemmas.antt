@@ -1,12 +1,12 @@
 -- The inputs that are registered first are whole, and their lines are a derivation; so the laws on whole clauses and on lines.
 use Rattle.std.proofs.Common.{◌≡◌, ℕ, zero, suc, ◌+◌, ◌-◌, ◌≤◌, Bool, true, false, List, [], ◌∷◌, ◌++◌, map, length, take, append-nil, refl, ap, ap₂, sym, ◌∙◌, subst, arith}
-use Rattle.std.specs.Prelude.{Option, None, Some, is_none, slice_get, sum_by, All}
+use Rattle.std.specs.Prelude.{Some, is_none, slice_get, sum_by}
 use Rattle.std.specs.List.{list_all}
 use Rattle.std.proofs.lemmas.Bool.{and_from, le-leb}
 use Rattle.std.proofs.lemmas.List.Elements.{All-nil, All-cons}
 use Rattle.std.proofs.lemmas.List.Sums.{sum_by-cons}
 use Rattle.std.proofs.lemmas.Option.{none-some, same_Some}
-use Rattle.fol_base.specs.Tree.{Tree, variable, application, list_of, tree_size}
+use Rattle.fol_base.specs.Tree.{Tree, variable, application, tree_size}
 use Rattle.fol_base.specs.Term.{tree_of}
 use Rattle.fol_base.specs.Clause.{TreeLiteral, TreeClause, clause_size, literal_size, clause_variables}
 use Rattle.fol_base.specs.Canonical.{distinct, numbers_from, IsCanonical}
@@ -15,7 +15,7 @@ use Rattle.fol_base.specs.WellFormed.{SymbolUse, are_literals_of}
 use Rattle.fol_base.specs.declared.limits.TheConstants.{MOST_SYMBOLS}
 use Rattle.fol_base.proofs.TreeLemmas.{trees_of-list_of}
 use Rattle.fol_base.proofs.TestLemmas.{list_all-item}
-use Rattle.kernel_steps.specs.Derivation.{ComesBy, IsRefutation}
+use Rattle.kernel_steps.specs.Derivation.{ComesBy}
 use Rattle.kernel_steps.specs.Lines.{is_small_term, has_small_sides}
 use Rattle.kernel_steps.specs.Symbols.{clause_symbols_pass}
 use Rattle.kernel_steps.specs.declared.step.Step.TheVariants.{Clausify}

@@ -1,7 +1,7 @@
 -- No key is counted twice: of two clauses that meet, the one of the later position met the other in its one job; and a clause dies once.
-use Rattle.std.proofs.Common.{◌≡◌, ◌≢◌, ℕ, zero, suc, ◌+◌, ◌<◌, ◌≤◌, ◌⊎◌, Bool, true, false, not, ◌&&◌, ◌||◌, ◌==◌, List, [], ◌∷◌, ◌++◌, map, length, take, append-nil, refl, ap, sym, ◌∙◌, inl, inr, ⊎_elim, subst, arith}
-use Rattle.std.specs.Prelude.{Option, None, Some, cond, is_none, is_some, nat_le, nat_lt, fold, find, filter, take_while, slice_get, option_map, All, AllPairs, if◌then◌else◌}
-use Rattle.std.specs.List.{prefix_len, list_any, list_all, AllByRecursion}
+use Rattle.std.proofs.Common.{◌≡◌, ◌≢◌, ℕ, zero, suc, ◌+◌, ◌≤◌, ◌⊎◌, Bool, true, false, not, ◌&&◌, ◌||◌, ◌==◌, List, [], ◌∷◌, ◌++◌, map, length, take, append-nil, refl, ap, sym, ◌∙◌, inl, inr, ⊎_elim, subst, arith}
+use Rattle.std.specs.Prelude.{Option, None, Some, cond, is_none, nat_le, nat_lt, fold, find, filter, take_while, slice_get, option_map, All, AllPairs, if◌then◌else◌}
+use Rattle.std.specs.List.{prefix_len, list_all, AllByRecursion}
 use Rattle.std.proofs.lemmas.Bool.{true≢false, and_parts, and_from, or_cases, or_left, or_right, not-true, eqb-true, eq-eqb, ne_eqb}
 use Rattle.std.proofs.lemmas.List.Elements.{All-nil, All-cons, All-head, All-tail, All-append, All-weaker, All-from_recursion, recursion_from_All}
 use Rattle.std.proofs.lemmas.List.Folds.{list_any-append}
@@ -10,7 +10,7 @@ use Rattle.std.proofs.lemmas.Option.{none-some, same_Some}
 use Rattle.fol_base.specs.Clause.{TreeClause}
 use Rattle.fol_base.specs.Literal.{clause_of}
 use Rattle.fol_base.specs.Selection.{SelectionMode}
-use Rattle.fol_base.proofs.TestLemmas.{option_map-some, list_all-item}
+use Rattle.fol_base.proofs.TestLemmas.{option_map-some}
 use Rattle.kernel_steps.specs.Named.{IsInference}
 use Rattle.kernel_steps.specs.Sized.{IsSizedInference}
 use Rattle.kernel_steps.specs.Split.{has_number}
@@ -20,7 +20,7 @@ use Rattle.kernel_steps.specs.declared.step.Line.{Line}
 use Rattle.literal_selection.specs.Mode.{mode_of}
 use Rattle.calculus.specs.Lifting.{among}
 use Rattle.sat_core.specs.declared.answer.Chain as log
-use Rattle.pool_core.specs.Record.{PoolRecord, Registered, Death, GivenJob, SolverJob, clauses_of, has_died, lives, is_dead, told_now, given_job, without_job, nothing_registered}
+use Rattle.pool_core.specs.Record.{PoolRecord, Registered, Death, GivenJob, SolverJob, clauses_of, has_died, lives, told_now, given_job, without_job, nothing_registered}
 use Rattle.pool_core.specs.Counting.{keys_of, lines_of_entries, refutes, result_comes, spends, counts}
 use Rattle.pool_core.specs.Returning.{dies, replaced, removed, takes_effect, proposed, becomes_active, sets_aside, worked, returns_to}
 use Rattle.pool_core.specs.Solving.{modelled_by, refuted_by}
@@ -45,9 +45,9 @@ use Rattle.pool_core.proofs.ClaimLemmas.{after-claim, given-waits, positions_wit
 use Rattle.pool_core.proofs.DeathLemmas.{all-weaker}
 use Rattle.pool_core.proofs.EditLemmas.{eq-sym}
 use Rattle.pool_core.proofs.FrameLemmas.{Registers, by-if, inputs-register, result-registers, results-register}
-use Rattle.pool_core.proofs.GrowthLemmas.{Grows, grows-all, registers-grows, removed-grows, met-grows, all-proposed-grows, waiting-parts}
+use Rattle.pool_core.proofs.GrowthLemmas.{Grows, registers-grows, removed-grows, met-grows, waiting-parts}
 use Rattle.pool_core.proofs.HandLemmas.{AreInHand, all-filter, all-end, all-found, after-in-hand, same-in-hand}
-use Rattle.pool_core.proofs.JobLemmas.{Rising, rising-bound}
+use Rattle.pool_core.proofs.JobLemmas.{Rising}
 use Rattle.pool_core.proofs.JoinedLemmas.{by-test, get-left}
 use Rattle.pool_core.proofs.PlaceLemmas.{has-left, has-right, has-first, has-each, all-kept}
 use Rattle.pool_core.proofs.TimeLemmas.{event-moves}

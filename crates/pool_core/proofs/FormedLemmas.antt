@@ -1,9 +1,9 @@
 -- What lines lead to from clauses that are well-formed and have no names: such clauses. The last is canonical.
 use Rattle.std.proofs.Common.{◌≡◌, ℕ, zero, suc, ◌-◌, ◌<◌, Bool, true, false, not, ◌&&◌, ◌||◌, ◌==◌, List, [], ◌∷◌, ◌++◌, take, refl, ap, sym, ◌∙◌, subst, inl, inr, ◌⊎◌, ⊎_elim, arith}
-use Rattle.std.specs.Prelude.{Option, None, Some, slice_get, option_map, nat_lt}
+use Rattle.std.specs.Prelude.{Option, None, Some, slice_get, nat_lt}
 use Rattle.std.specs.List.{list_all, last_or}
 use Rattle.std.proofs.lemmas.Bool.{and_parts, and_from, or_cases, or_right, not-true, true≢false, cond-true, cond-false, cases_Bool}
-use Rattle.std.proofs.lemmas.Option.{none-some, same_Some}
+use Rattle.std.proofs.lemmas.Option.{none-some}
 use Rattle.fol_base.specs.Tree.{Tree, variable, application, Trees, no_trees, tree_then, trees_count, true_symbol}
 use Rattle.fol_base.specs.Instance.{substitution}
 use Rattle.fol_base.specs.Clause.{TreeLiteral, TreeClause}
@@ -16,7 +16,7 @@ use Rattle.fol_base.proofs.TestLemmas.{option_map-some, list_all-item}
 use Rattle.fol_base.proofs.WellFormedLemmas.{is_literal_of-parts, well_formed_instances, well_formed_superpositions, well_formed_resolutions, well_formed_factorings, well_formed_merges}
 use Rattle.kernel_steps.specs.Names.{sorted_names}
 use Rattle.kernel_steps.specs.Parents.{Parent, Parents}
-use Rattle.kernel_steps.specs.Conclusion.{bound_literals, verdict, concludes, clause_with, by_one}
+use Rattle.kernel_steps.specs.Conclusion.{bound_literals, verdict, concludes, by_one}
 use Rattle.kernel_steps.specs.Derivation.{line_parents, continued}
 use Rattle.kernel_steps.specs.Lines.{clause_parents, is_on_literals, IsNumbered}
 use Rattle.kernel_steps.specs.Soundness.{bindings_of, binds_each}

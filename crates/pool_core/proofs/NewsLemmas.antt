@@ -1,20 +1,20 @@
 -- What is told now follows from the news, and a job that was just told was told that.
-use Rattle.std.proofs.Common.{◌≡◌, ℕ, ◌+◌, ◌<◌, ◌≤◌, Bool, true, false, not, ◌&&◌, ◌==◌, List, [], ◌∷◌, ◌++◌, map, length, drop, get_or, append-nil, append_assoc, refl, ap, ap₂, sym, ◌∙◌, subst, arith}
-use Rattle.std.specs.Prelude.{Option, None, Some, cond, is_none, nat_lt, slice_get, option_map, unwrap_or, fold, find, filter, filter_map, All, Contains, if◌then◌else◌}
-use Rattle.std.specs.List.{list_any, list_all, AllByRecursion}
+use Rattle.std.proofs.Common.{◌≡◌, ℕ, ◌+◌, ◌≤◌, Bool, true, not, ◌&&◌, ◌==◌, List, [], ◌∷◌, ◌++◌, map, length, drop, get_or, append-nil, append_assoc, refl, ap, ap₂, sym, ◌∙◌, subst, arith}
+use Rattle.std.specs.Prelude.{Option, None, Some, cond, is_none, nat_lt, slice_get, option_map, unwrap_or, fold, filter, All, if◌then◌else◌}
+use Rattle.std.specs.List.{list_all, AllByRecursion}
 use Rattle.std.proofs.Math.Seq.{drop-append_seam}
 use Rattle.std.proofs.lemmas.Bool.{and_parts, ltb-true}
 use Rattle.std.proofs.lemmas.List.{map-append}
 use Rattle.std.proofs.lemmas.List.Elements.{All-nil, All-append, All-contains, All-map, All-weaker, filter_map-append}
 use Rattle.std.proofs.lemmas.Option.{slice_get-get_or}
 use Rattle.fol_base.specs.Clause.{TreeClause}
-use Rattle.fol_base.proofs.TestLemmas.{list_all-item, list_all-joined, list_any-map}
+use Rattle.fol_base.proofs.TestLemmas.{list_all-item, list_any-map}
 use Rattle.kernel_steps.specs.Conclusion.{empty_clause}
 use Rattle.kernel_steps.specs.Split.{has_number}
 use Rattle.sat_core.specs.declared.answer.Chain as log
 use Rattle.pool_core.specs.Record.{PoolRecord, Registered, Death, GivenJob, SolverJob, clauses_of, clause_numbered, has_died, lives, told_now, given_job, without_job, nothing_registered}
 use Rattle.pool_core.specs.Claiming.{new_job, next_given, given_out, claimed_by}
-use Rattle.pool_core.specs.Returning.{removed, becomes_active, worked, returns_to}
+use Rattle.pool_core.specs.Returning.{becomes_active, worked, returns_to}
 use Rattle.pool_core.specs.Solving.{modelled_by, refuted_by}
 use Rattle.pool_core.specs.News.{TreeChange, activated, died, changes_between, changes_from, news_since}
 use Rattle.pool_core.specs.Replay.{Origin, retold, after, start, replay}
@@ -28,7 +28,7 @@ use Rattle.pool_core.specs.declared.event.Event.TheVariants.{Claim, Return, Stal
 use Rattle.pool_core.proofs.ClaimLemmas.{after-claim, positions_with}
 use Rattle.pool_core.proofs.CountedLemmas.{lookup-more}
 use Rattle.pool_core.proofs.FrameLemmas.{by-if, inputs-register}
-use Rattle.pool_core.proofs.GrowthLemmas.{Grows, grows-all, removed-grows, met-grows, more-then, registers-grows}
+use Rattle.pool_core.proofs.GrowthLemmas.{removed-grows, met-grows, more-then, registers-grows}
 use Rattle.pool_core.proofs.HandLemmas.{all-end, all-filter, all-found, all-weaker}
 use Rattle.pool_core.proofs.HistoryLemmas.{event-count}
 use Rattle.pool_core.proofs.JoinedLemmas.{all-from}

@@ -1,7 +1,7 @@
 -- Numbers: few clauses are registered, so clauses and positions have 32 bits; positions stay; and jobs are counted.
-use Rattle.std.proofs.Common.{◌≡◌, ◌≢◌, ℕ, zero, suc, ◌+◌, ◌-◌, ◌^◌, ◌<◌, ◌≤◌, Bool, true, false, ◌&&◌, ◌==◌, List, [], ◌∷◌, ◌++◌, map, length, append-nil, refl, ap, ap₂, sym, ◌∙◌, subst, ⊎_elim, arith, lit≤}
+use Rattle.std.proofs.Common.{◌≡◌, ◌≢◌, ℕ, suc, ◌+◌, ◌-◌, ◌<◌, ◌≤◌, Bool, true, false, ◌&&◌, ◌==◌, List, [], ◌∷◌, ◌++◌, map, length, append-nil, refl, ap, ap₂, sym, ◌∙◌, subst, ⊎_elim, arith}
 use Rattle.std.specs.Prelude.{Option, None, Some, cond, is_none, is_some, nat_le, nat_lt, fold, find, filter, All, AllPairs, sum_by, if◌then◌else◌}
-use Rattle.std.specs.List.{list_any, list_all, range_with_len, IsDistinct, cons_option}
+use Rattle.std.specs.List.{list_any, list_all, range_with_len, cons_option}
 use Rattle.std.proofs.lemmas.Bool.{true≢false, and_parts, or_cases, leb-false, ltb-true, eqb-true}
 use Rattle.std.proofs.lemmas.Bool.Decides.{Decides-eqb}
 use Rattle.std.proofs.lemmas.List.{length-append}
@@ -26,10 +26,9 @@ use Rattle.pool_core.specs.Returning.{dies, replaced, removed, takes_effect, pro
 use Rattle.pool_core.specs.Solving.{modelled_by, refuted_by}
 use Rattle.pool_core.specs.Claiming.{next_given, given_out, claimed_by}
 use Rattle.pool_core.specs.Events.{job_of}
-use Rattle.pool_core.specs.Inputs.{AreInputs, IsLimit}
 use Rattle.pool_core.specs.Lawful.{IsAllowed, IsLawfulFrom}
 use Rattle.pool_core.specs.Laws.{is_given, JobsAreCounted, JobsWereGiven, PositionsStay, NumbersFit}
-use Rattle.pool_core.specs.Replay.{Origin, without_solver, after, start, replay}
+use Rattle.pool_core.specs.Replay.{without_solver, after, start, replay}
 use Rattle.pool_core.specs.declared.options.Options.{Options}
 use Rattle.pool_core.specs.declared.outcome.Outcome.{Outcome}
 use Rattle.pool_core.specs.declared.outcome.Outcome.TheVariants.{Refuted, Spent}
@@ -42,13 +41,12 @@ use Rattle.pool_core.specs.declared.batch.Work.{Work}
 use Rattle.pool_core.specs.declared.batch.Work.TheVariants.{Gone, Met}
 use Rattle.pool_core.specs.declared.event.Event.{Event}
 use Rattle.pool_core.specs.declared.event.Event.TheVariants.{Claim, Return, Stale, Void, ClaimSolve, ReturnModel, ReturnRefuted, Abandon}
-use Rattle.pool_core.proofs.FrameLemmas.{by-if, Registers, inputs-register, result-registers, results-register}
-use Rattle.pool_core.proofs.GrowthLemmas.{Grows, more-then, removed-grows, met-grows, registers-grows}
+use Rattle.pool_core.proofs.FrameLemmas.{by-if, inputs-register, result-registers, results-register}
+use Rattle.pool_core.proofs.GrowthLemmas.{more-then, removed-grows, met-grows, registers-grows}
 use Rattle.pool_core.proofs.HistoryLemmas.{later-append}
 use Rattle.pool_core.proofs.JobLemmas.{Rising, rising-bound}
 use Rattle.pool_core.proofs.JoinedLemmas.{by-test}
 use Rattle.pool_core.proofs.PlaceLemmas.{positions_are_registered}
-use Rattle.pool_core.proofs.DeathLemmas.{all-weaker}
 use Rattle.pool_core.proofs.SoundLemmas.{open-is}
 use Rattle.pool_core.proofs.TimeLemmas.{event-moves}
 

@@ -1,7 +1,7 @@
 -- Positions hold registered clauses, each once, and what jobs were told: so for every list of events.
-use Rattle.std.proofs.Common.{◌≡◌, ◌≢◌, ℕ, zero, suc, ◌+◌, ◌<◌, ◌≤◌, Bool, true, false, not, ◌&&◌, ◌==◌, List, [], ◌∷◌, ◌++◌, map, length, get_or, refl, ap, sym, ◌∙◌, subst, arith}
-use Rattle.std.specs.Prelude.{Option, None, Some, cond, nat_lt, is_none, fold, filter, AllPairs, if◌then◌else◌}
-use Rattle.std.specs.List.{list_any, list_all}
+use Rattle.std.proofs.Common.{◌≡◌, ◌≢◌, ℕ, zero, suc, ◌+◌, ◌<◌, Bool, true, false, not, ◌==◌, List, [], ◌∷◌, ◌++◌, map, length, get_or, refl, ap, sym, ◌∙◌, subst, arith}
+use Rattle.std.specs.Prelude.{Option, None, Some, nat_lt, is_none, fold, filter, AllPairs, if◌then◌else◌}
+use Rattle.std.specs.List.{list_all}
 use Rattle.std.proofs.lemmas.Bool.{true≢false, and_parts, and_from, or_left, or_right, ltb-true, lt-ltb, eq-eqb}
 use Rattle.std.proofs.lemmas.List.{length-append}
 use Rattle.std.proofs.lemmas.List.Folds.{list_any-append}
@@ -21,10 +21,10 @@ use Rattle.pool_core.specs.declared.batch.Work.{Work}
 use Rattle.pool_core.specs.declared.batch.Work.TheVariants.{Gone, Met}
 use Rattle.pool_core.specs.declared.event.Event.{Event}
 use Rattle.pool_core.specs.declared.event.Event.TheVariants.{Claim, Return, Stale, Void, ClaimSolve, ReturnModel, ReturnRefuted, Abandon}
-use Rattle.pool_core.proofs.ClaimLemmas.{after-claim, given-waits, positions_with}
+use Rattle.pool_core.proofs.ClaimLemmas.{after-claim, given-waits}
 use Rattle.pool_core.proofs.DeathLemmas.{all-weaker}
 use Rattle.pool_core.proofs.FrameLemmas.{by-if, inputs-register}
-use Rattle.pool_core.proofs.GrowthLemmas.{Grows, grows-all, removed-grows, met-grows, registers-grows}
+use Rattle.pool_core.proofs.GrowthLemmas.{Grows, removed-grows, met-grows, registers-grows}
 use Rattle.pool_core.proofs.JoinedLemmas.{by-test}
 
 -- ---- lists of numbers

@@ -1,8 +1,8 @@
 -- Reducing steps make no clause larger.
-use Rattle.std.proofs.Common.{◌≡◌, ℕ, zero, suc, ◌+◌, ◌≤◌, Bool, true, List, [], ◌∷◌, ◌++◌, append-nil, refl, ap, ap₂, sym, ◌∙◌, ⊎_elim, arith}
-use Rattle.std.specs.Prelude.{Option, None, Some, remove, slice_get, slice_set, sum_by}
+use Rattle.std.proofs.Common.{◌≡◌, ℕ, zero, suc, ◌+◌, ◌≤◌, Bool, true, List, [], ◌∷◌, append-nil, ap, ap₂, sym, ◌∙◌, ⊎_elim, arith}
+use Rattle.std.specs.Prelude.{Option, None, Some, remove, slice_set, sum_by}
 use Rattle.std.proofs.lemmas.List.Sums.{sum_by-cons, sum_by-set}
-use Rattle.std.proofs.lemmas.Option.{none-some, same_Some, slice_get_within, get_or_from_slice_get}
+use Rattle.std.proofs.lemmas.Option.{same_Some, slice_get_within, get_or_from_slice_get}
 use Rattle.fol_base.specs.Tree.{Tree, tree_size}
 use Rattle.fol_base.specs.Instance.{Substitution}
 use Rattle.fol_base.specs.Clause.{TreeLiteral, TreeClause, literal_instance, literal_size, clause_size}
@@ -17,7 +17,7 @@ use Rattle.fol_base.proofs.InferenceLemmas.{side_of-instance, other_side_of-inst
 use Rattle.fol_base.proofs.OrderLemmas.{tree_greater_decided}
 use Rattle.fol_base.proofs.RuleLemmas.{superposed_literal-parts, superposed-parts, resolved-parts, merged-parts}
 use Rattle.kbo_order.proofs.SubtermLemmas.{greater-size, smaller_subterms_make_smaller}
-use Rattle.kernel_steps.specs.Inference.{RewritesBy, CutsBy}
+use Rattle.kernel_steps.specs.Inference.{RewritesBy}
 use Rattle.kernel_steps.specs.Moves.{Move, IsMove, AreMoves, end_of_moves}
 
 -- ---- literals that go or change

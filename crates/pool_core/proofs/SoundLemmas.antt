@@ -1,17 +1,17 @@
 -- Where nothing is split, each event of a lawful history keeps the registered clauses whole and the lines a derivation.
-use Rattle.std.proofs.Common.{◌≡◌, ℕ, zero, suc, ◌<◌, ◌≤◌, Bool, true, false, ◌||◌, List, [], ◌∷◌, ◌++◌, map, length, take, append-nil, refl, ap, ap₂, sym, ◌∙◌, subst, arith}
-use Rattle.std.specs.Prelude.{Option, None, Some, is_none, slice_get, option_map, nat_lt, nat_le, fold, find, All, if◌then◌else◌}
+use Rattle.std.proofs.Common.{◌≡◌, ℕ, ◌<◌, ◌≤◌, Bool, true, false, ◌||◌, List, [], ◌∷◌, ◌++◌, map, length, refl, ap, ap₂, sym, ◌∙◌, subst, arith}
+use Rattle.std.specs.Prelude.{Option, None, Some, is_none, slice_get, nat_lt, nat_le, fold, find, if◌then◌else◌}
 use Rattle.std.specs.List.{AllByRecursion, cons_option}
 use Rattle.std.proofs.lemmas.Bool.{true≢false, and_parts, eqb-true, or_parts, ltb-true, ltb-false}
-use Rattle.std.proofs.lemmas.List.Elements.{All-nil, All-cons, recursion_from_All}
+use Rattle.std.proofs.lemmas.List.Elements.{recursion_from_All}
 use Rattle.std.proofs.lemmas.Option.{none-some, same_Some}
-use Rattle.fol_base.specs.Clause.{TreeLiteral, TreeClause, clause_size, clause_instance}
+use Rattle.fol_base.specs.Clause.{TreeClause, clause_size, clause_instance}
 use Rattle.fol_base.specs.Literal.{clause_of}
-use Rattle.fol_base.specs.WellFormed.{SymbolUse, are_literals_of}
+use Rattle.fol_base.specs.WellFormed.{SymbolUse}
 use Rattle.fol_base.specs.declared.limits.TheConstants.{MOST_SYMBOLS}
-use Rattle.fol_base.proofs.TestLemmas.{option_map-some, list_all-item}
+use Rattle.fol_base.proofs.TestLemmas.{option_map-some}
 use Rattle.kernel_steps.specs.Conclusion.{empty_clause}
-use Rattle.kernel_steps.specs.Moves.{Move, AreMoves, end_of_moves}
+use Rattle.kernel_steps.specs.Moves.{end_of_moves}
 use Rattle.kernel_steps.specs.Sized.{IsSizedInference, is_large}
 use Rattle.kernel_steps.specs.Split.{has_number}
 use Rattle.kernel_steps.specs.declared.key.Key.{Key}
@@ -19,21 +19,19 @@ use Rattle.kernel_steps.specs.declared.key.Key.TheVariants.{Para, Refl, Factor, 
 use Rattle.kernel_steps.specs.declared.step.Line.{Line}
 use Rattle.literal_selection.specs.Mode.{mode_of}
 use Rattle.calculus.specs.Lifting.{among}
-use Rattle.sat_core.specs.declared.answer.Chain as log
-use Rattle.pool_core.specs.Record.{PoolRecord, Registered, GivenJob, SolverJob, PropositionalClause, clauses_of, given_job, has_living, without_job}
+use Rattle.pool_core.specs.Record.{PoolRecord, Registered, GivenJob, clauses_of, given_job, has_living, without_job}
 use Rattle.pool_core.specs.Tags.{line_names}
 use Rattle.pool_core.specs.Lines.{with_lines, pool_line, result_of}
-use Rattle.pool_core.specs.Registering.{over, registered_last, has_none, with_refutation, with_propositional, empty_comes, comes, unless_ended}
+use Rattle.pool_core.specs.Registering.{over, registered_last, has_none, with_refutation, with_propositional, empty_comes, comes}
 use Rattle.pool_core.specs.Counting.{lines_of_fate, lines_of_entries, keys_of, comes_by, result_comes, refutes, spends, counts}
 use Rattle.pool_core.specs.Returning.{dies, replaced, removed, takes_effect, proposed, becomes_active, sets_aside, worked, returns_to}
-use Rattle.pool_core.specs.Solving.{must_solve, modelled_by, refuted_by}
+use Rattle.pool_core.specs.Solving.{must_solve}
 use Rattle.pool_core.specs.Claiming.{next_given, given_out, claimed_by}
 use Rattle.pool_core.specs.Batches.{is_told, is_told_beside, IsRightFate, IsRightRemovalBy, IsRightRemoval, IsRightWork}
 use Rattle.pool_core.specs.Reduction.{Lookup}
 use Rattle.pool_core.specs.Replay.{without_solver, after}
 use Rattle.pool_core.specs.Lawful.{IsAllowed, IsLawfulFrom}
 use Rattle.pool_core.specs.Wholeness.{IsWhole}
-use Rattle.pool_core.specs.Derived.{IsPlainLine}
 use Rattle.pool_core.specs.declared.options.Options.{Options}
 use Rattle.pool_core.specs.declared.outcome.Outcome.{Outcome}
 use Rattle.pool_core.specs.declared.outcome.Outcome.TheVariants.{Refuted, Spent}
