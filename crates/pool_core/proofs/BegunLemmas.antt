@@ -1,5 +1,5 @@
 -- A pool as it begins: its fields are those of the record with the inputs.
-use Rattle.std.proofs.Common.{◌≡◌, ℕ, suc, ◌+◌, ◌%◌, ◌≤◌, Bool, true, false, ◌&&◌, ◌==◌, List, [], ◌∷◌, map, length, refl, ap, ap₂, sym, ◌∙◌, subst, arith}
+use Rattle.std.proofs.Common.{◌≡◌, ℕ, suc, ◌+◌, ◌%◌, ◌<◌, ◌≤◌, Bool, true, false, ◌&&◌, ◌==◌, List, [], ◌∷◌, map, length, refl, ap, ap₂, sym, ◌∙◌, subst, arith}
 use Rattle.std.specs.Prelude.{Option, Some, filter, position, slice_get, unwrap_or, option_map, vec_len, vec_capacity, All}
 use Rattle.std.specs.List.{list_all, range_with_len}
 use Rattle.std.proofs.lemmas.Bool.{lt-ltb, cond-true}
@@ -13,7 +13,7 @@ use Rattle.kernel_steps.specs.Split.{has_number}
 use Rattle.sat_core.specs.Clause.{literal_true, valuation_of}
 use Rattle.term_bank.specs.declared.bank.Bank.{Bank}
 use Rattle.pool_core.specs.Tags.{name_of_tag}
-use Rattle.pool_core.specs.Record.{PoolRecord, Registered, clause_numbered, waits, is_awake, is_awake_under, nothing_registered}
+use Rattle.pool_core.specs.Record.{PoolRecord, Registered, GivenJob, Death, clause_numbered, waits, is_awake, is_awake_under, nothing_registered}
 use Rattle.pool_core.specs.Claiming.{ready}
 use Rattle.pool_core.specs.Registering.{with_inputs}
 use Rattle.pool_core.specs.Replay.{start, replay}
@@ -24,7 +24,7 @@ use Rattle.pool_core.specs.Noted.{IsNoted, change_at}
 use Rattle.pool_core.specs.Inputs.{AreInputs, IsLimit}
 use Rattle.pool_core.specs.Lawful.{IsLawful}
 use Rattle.pool_core.specs.Started.{registered_at, IsOfTable, sized, IsFresh, at_start, IsStarted}
-use Rattle.pool_core.specs.State.{origin_of, job_entry, pair_of, IsStateOf, IsPool}
+use Rattle.pool_core.specs.State.{origin_of, job_entry, pair_of, AreOfRegistered, IsStateOf, IsPool}
 use Rattle.pool_core.specs.declared.event.Event.{Event}
 use Rattle.pool_core.specs.declared.start.Start.{Start}
 use Rattle.pool_core.specs.declared.pool.Pool.TheInside.{Inside}
@@ -82,39 +82,53 @@ ready-start r no_names =
     ap (λ m. let p : ℕ × ℕ = (0 + n, clause_size (clause_numbered (at_start r) m)) in p) same
     ∙ ap (λ (d : TreeClause). let p : ℕ × ℕ = (0 + n, clause_size d) in p) (numbered r n x there))
 
+-- nothing is told at the start
+nothing-told : (r : PoolRecord) → AreOfRegistered (at_start r)
+nothing-told r = record {
+  positions = All-nil (λ n. n < length r.registered);
+  active = All-nil (λ n. n < length r.registered);
+  given = All-nil (λ (j : GivenJob). j.number < length r.registered);
+  placed = All-nil (λ (j : GivenJob). has_number j.number [] ≡ true);
+  victims = All-nil (λ (d : Death). d.victim < length r.registered);
+}
+
 -- ---- the pool
 
 module _ (a : Inside) (bank : Bank) (st : Start) (r : PoolRecord) where
   begun-state :
       a.table.bank ≡ bank → IsStarted bank a.table st r
-      → a.register ≡ st.register → a.queue.pairs ≡ st.queue.pairs → a.steps.items ≡ st.steps.items → a.ended ≡ st.ended
-      → a.positions.items ≡ [] → a.jobs.entries ≡ [] → a.counted ≡ [] → a.set_aside ≡ [] → a.last_job ≡ 0 → a.place ≡ 0
+      → a.proof.register.clauses ≡ st.register.clauses → a.proof.queue.pairs ≡ st.queue.pairs → a.proof.steps.items ≡ st.steps.items → a.proof.ended ≡ st.ended
+      → a.positions.items ≡ [] → a.jobs.entries ≡ [] → a.counted.items ≡ [] → a.set_aside.items ≡ [] → a.last_job ≡ 0 → a.place ≡ 0
       → vec_len a.history.events ≤ vec_capacity a.history.events → vec_len a.notes_before ≤ vec_capacity a.notes_before
       → IsStateOf a r
   begun-state same_bank is register queue steps ended positions jobs counted set_aside last_job place room notes_room = record {
-    registered = ap (map registered_at) register ∙ is.registered;
-    of_table =
-        subst (All (IsOfTable a.table.bank a.table)) (sym register)
-        (subst (λ (b : ℕ). All (IsOfTable b a.table) st.register) (sym same_bank) is.of_table);
-    registrations = λ n s there.
-        let fresh = all-at IsFresh st.register n s is.fresh (ap (λ ss. slice_get ss n) (sym register) ∙ there) in
-        record {
-          position = fresh.position ∙ sym (ap (λ (t : PoolRecord). position (λ m. n == m) t.positions) is.start);
-          death = fresh.death ∙ sym (ap (λ (t : PoolRecord). death_of t n) is.start);
-          active = fresh.active ∙ sym (ap (λ (t : PoolRecord). has_number n t.active) is.start);
-        };
+    proof = record {
+      registered = ap (map registered_at) register ∙ is.registered;
+      of_table =
+          subst (All (IsOfTable a.table.bank a.table)) (sym register)
+          (subst (λ (b : ℕ). All (IsOfTable b a.table) st.register.clauses) (sym same_bank) is.of_table);
+      registrations = λ n s there.
+          let fresh = all-at IsFresh st.register.clauses n s is.fresh (ap (λ ss. slice_get ss n) (sym register) ∙ there) in
+          record {
+            position = fresh.position ∙ sym (ap (λ (t : PoolRecord). position (λ m. n == m) t.positions) is.start);
+            death = fresh.death ∙ sym (ap (λ (t : PoolRecord). death_of t n) is.start);
+            active = fresh.active ∙ sym (ap (λ (t : PoolRecord). has_number n t.active) is.start);
+          };
+      queue = queue ∙ is.queue ∙ sym (ready-start r is.no_names) ∙ sym (ap (λ (t : PoolRecord). map (pair_of t) (ready t)) is.start);
+      steps = steps ∙ is.steps;
+      ended = ended ∙ is.ended;
+      of_registered = subst AreOfRegistered (sym is.start) (nothing-told r);
+      no_propositional = ap (λ (t : PoolRecord). t.propositional) is.start;
+      no_names = is.no_names;
+      no_empty = is.no_empty;
+    };
     positions = positions ∙ sym (ap (λ (t : PoolRecord). t.positions) is.start);
-    queue = queue ∙ is.queue ∙ sym (ready-start r is.no_names) ∙ sym (ap (λ (t : PoolRecord). map (pair_of t) (ready t)) is.start);
     jobs = jobs ∙ sym (ap (λ (t : PoolRecord). map job_entry t.given) is.start);
-    steps = steps ∙ is.steps;
     counted = counted ∙ sym (ap (λ (t : PoolRecord). t.counted) is.start);
     set_aside = set_aside ∙ sym (ap (λ (t : PoolRecord). t.set_aside) is.start);
-    ended = ended ∙ is.ended;
     last_job = last_job ∙ sym (ap (λ (t : PoolRecord). t.jobs) is.start);
     place = place ∙ sym (ap (λ (t : PoolRecord). t.claims % 6) is.start);
-    no_propositional = ap (λ (t : PoolRecord). t.propositional) is.start;
     no_solver = ap (λ (t : PoolRecord). t.solver) is.start;
-    no_names = is.no_names;
     queue_room = let none : length r.given ≡ 0 = ap (λ (t : PoolRecord). length t.given) is.start in omega (arith, none);
     history_room = let none : length r.given ≡ 0 = ap (λ (t : PoolRecord). length t.given) is.start in omega (arith, none, room);
     notes_room = let none : length r.given ≡ 0 = ap (λ (t : PoolRecord). length t.given) is.start in omega (arith, none, notes_room);
@@ -124,10 +138,10 @@ pub begun :
     (a : Inside) (bank : Bank) (st : Start)
     → a.options.split ≡ false → a.table.bank ≡ bank
     → IsStarted bank a.table st (with_inputs false 0 (origin_of a).inputs nothing_registered)
-    → a.register ≡ st.register → a.queue.pairs ≡ st.queue.pairs → a.steps.items ≡ st.steps.items → a.ended ≡ st.ended
-    → a.positions.items ≡ [] → a.jobs.entries ≡ [] → a.counted ≡ [] → a.set_aside ≡ [] → a.last_job ≡ 0 → a.place ≡ 0
+    → a.proof.register.clauses ≡ st.register.clauses → a.proof.queue.pairs ≡ st.queue.pairs → a.proof.steps.items ≡ st.steps.items → a.proof.ended ≡ st.ended
+    → a.positions.items ≡ [] → a.jobs.entries ≡ [] → a.counted.items ≡ [] → a.set_aside.items ≡ [] → a.last_job ≡ 0 → a.place ≡ 0
     → vec_len a.history.events ≤ vec_capacity a.history.events → vec_len a.notes_before ≤ vec_capacity a.notes_before
-    → events_of a.history ≡ [] → a.notes.items ≡ [] → a.notes_before.items ≡ []
+    → events_of a.history ≡ [] → a.proof.notes.items ≡ [] → a.notes_before.items ≡ []
     → AreInputs (origin_of a).inputs → IsLimit a.options
     → IsPool a
 begun a bank st unsplit same_bank is register queue steps ended positions jobs counted set_aside last_job place room notes_room events notes before inputs limit =
@@ -146,9 +160,9 @@ begun a bank st unsplit same_bank is register queue steps ended positions jobs c
       news =
           record {
             all =
-                ap (map (change_at a.register)) notes
+                ap (map (change_at a.proof.register.clauses)) notes
                 ∙ sym (ap (changes_from a.options (start (origin_of a))) events);
-            noted = subst (All (IsNoted (length a.register))) (sym notes) (All-nil (IsNoted (length a.register)));
+            noted = subst (All (IsNoted (length a.proof.register.clauses))) (sym notes) (All-nil (IsNoted (length a.proof.register.clauses)));
             count = ap length before ∙ sym (ap length events);
             before = λ k n there. absurd (none-some n (ap (λ xs. slice_get xs k) (sym before) ∙ there));
           };

@@ -6,9 +6,9 @@ use Rattle.std.specs.Ordering.{nat_cmp}
 use Rattle.std.specs.BTreeMap.{insert_entry}
 use Rattle.std.proofs.Math.ListN.{set}
 use Rattle.std.proofs.Math.Seq.{map-set_same, drop-append_seam, drop-length}
-use Rattle.std.proofs.lemmas.Bool.{true≢false, and_parts, and_from, le-ltb, eq-eqb, ne_eqb, eqb-false, cond-true, cond-false, or_parts}
+use Rattle.std.proofs.lemmas.Bool.{true≢false, and_parts, and_from, le-ltb, eq-eqb, ne_eqb, eqb-false, cond-true, cond-false, or_parts, or_left, or_right}
 use Rattle.std.proofs.lemmas.List.{length-append, map-append}
-use Rattle.std.proofs.lemmas.List.Elements.{All-set, All-push}
+use Rattle.std.proofs.lemmas.List.Elements.{All-set, All-push, All-weaker}
 use Rattle.std.proofs.lemmas.List.Folds.{list_any-append, position_or_len_push}
 use Rattle.std.proofs.lemmas.Option.{none-some, get_or_from_slice_get, slice_get_within}
 use Rattle.fol_base.specs.Clause.{clause_size}
@@ -29,7 +29,7 @@ use Rattle.pool_core.specs.Outcomes.{outcome_of, outcome_by, heavy_or_saturated,
 use Rattle.pool_core.specs.Events.{events_of}
 use Rattle.pool_core.specs.Register.{at_position}
 use Rattle.pool_core.specs.Started.{registered_at, IsOfTable}
-use Rattle.pool_core.specs.State.{origin_of, IsRegistration, IsStateOf, IsPool, job_entry, pair_of}
+use Rattle.pool_core.specs.State.{origin_of, IsRegistration, AreOfRegistered, IsStateOf, IsPool, job_entry, pair_of}
 use Rattle.pool_core.specs.declared.options.Options.{Options}
 use Rattle.pool_core.specs.declared.outcome.Outcome.{Outcome}
 use Rattle.pool_core.specs.declared.event.Event.{Event}
@@ -41,6 +41,7 @@ use Rattle.pool_core.specs.declared.pool.Pool.TheInside.{Inside}
 use Rattle.pool_core.specs.declared.register.Registration.{Registration}
 use Rattle.pool_core.specs.declared.ticket.Ticket.{Ticket}
 use Rattle.pool_core.proofs.EditLemmas.{at-set, filter-less, filter-pairs, RisingBy, insert-last}
+use Rattle.pool_core.proofs.FrameLemmas.{by-if}
 use Rattle.pool_core.proofs.HistoryLemmas.{event-count, replay-end, news-end}
 use Rattle.pool_core.proofs.JobLemmas.{Rising, rising-bound}
 use Rattle.pool_core.proofs.PickLemmas.{In, given-in, number-in}
@@ -203,41 +204,81 @@ find-last low high (i ∷ is) j rise above =
 next-place : (c p : ℕ) → p ≡ c % 6 → (p + 1) % 6 ≡ (c + 1) % 6
 next-place c p is = omega (arith, is)
 
+-- what is told then is of registered clauses
+told-of-claimed :
+    (options : Options) (job n : ℕ) (ps : List ℕ) (r : PoolRecord)
+    → next_given r ≡ Some n → ps ≡ positions_with n r → AreOfRegistered r → AreOfRegistered (claim_after options job n r ps)
+told-of-claimed options job n ps r next are told =
+    subst (λ qs. AreOfRegistered (claim_after options job n r qs)) (sym are)
+    (record {
+      positions = by-if (All (λ k. k < length r.registered)) (has_number n r.positions) r.positions (r.positions ++ n ∷ []) told.positions
+          (All-push (λ k. k < length r.registered) r.positions n told.positions below);
+      active = told.active;
+      given = All-push (λ (j : GivenJob). j.number < length r.registered) r.given job_on told.given below;
+      placed = All-push (λ (j : GivenJob). has_number j.number (positions_with n r) ≡ true) r.given job_on
+          (All-weaker (λ (j : GivenJob). has_number j.number r.positions ≡ true) (λ (j : GivenJob). has_number j.number (positions_with n r) ≡ true)
+          (λ j has. by-if (λ qs. has_number j.number qs ≡ true) (has_number n r.positions) r.positions (r.positions ++ n ∷ []) has (still j.number has))
+          r.given told.placed)
+          (placed-now (has_number n r.positions) refl);
+      victims = told.victims;
+    })
+  where
+    job_on : GivenJob
+    job_on = new_job options job n (record r { positions = positions_with n r })
+
+    below : n < length r.registered
+    below = (given-waits r n next).1
+
+    still : (k : ℕ) → has_number k r.positions ≡ true → has_number k (r.positions ++ n ∷ []) ≡ true
+    still k has = list_any-append (λ m. k == m) r.positions (n ∷ []) ∙ ap (λ b. b || has_number k (n ∷ [])) has
+
+    placed-now : (b : Bool) → has_number n r.positions ≡ b → has_number n (if b then r.positions else r.positions ++ n ∷ []) ≡ true
+    placed-now true has = has
+    placed-now false none =
+        list_any-append (λ m. n == m) r.positions (n ∷ []) ∙ or_right (has_number n r.positions) (has_number n (n ∷ []))
+        (or_left (n == n) false (eq-eqb n n refl))
+
 claimed-state :
     (a b : Inside) (r : PoolRecord) (n job left : ℕ) (ps : List ℕ)
     → IsStateOf a r → next_given r ≡ Some n → Rising 0 r.jobs r.given → job ≡ suc r.jobs → left ≡ a.options.inferences - length r.counted
-    → map registered_at b.register ≡ map registered_at a.register
-    → All (IsOfTable b.table.bank b.table) b.register
-    → ((k : ℕ) (s : Registration) → slice_get b.register k ≡ Some s → IsRegistration (claim_after a.options job n r ps) k s)
+    → ps ≡ positions_with n r
+    → map registered_at b.proof.register.clauses ≡ map registered_at a.proof.register.clauses
+    → All (IsOfTable b.table.bank b.table) b.proof.register.clauses
+    → ((k : ℕ) (s : Registration) → slice_get b.proof.register.clauses k ≡ Some s → IsRegistration (claim_after a.options job n r ps) k s)
     → b.positions.items ≡ ps
-    → b.queue.pairs ≡ without n a.queue.pairs → b.queue.spare ≡ a.queue.spare + 1
+    → b.proof.queue.pairs ≡ without n a.proof.queue.pairs → b.proof.queue.spare ≡ a.proof.queue.spare + 1
     → b.jobs.entries ≡ insert_entry nat_cmp a.jobs.entries job (record { number = n; left = left })
-    → b.steps.items ≡ a.steps.items → b.counted ≡ a.counted → b.set_aside ≡ a.set_aside → b.ended ≡ a.ended
+    → b.proof.steps.items ≡ a.proof.steps.items → b.counted.items ≡ a.counted.items → b.set_aside.items ≡ a.set_aside.items
+    → b.proof.ended ≡ a.proof.ended
     → b.last_job ≡ job → b.place ≡ (a.place + 1) % 6
     → vec_len b.history.events + (length r.given + 1) ≤ vec_capacity b.history.events
     → vec_len b.notes_before + (length r.given + 1) ≤ vec_capacity b.notes_before
     → IsStateOf b (claim_after a.options job n r ps)
-claimed-state a b r n job left ps is next rise number remaining register of_table registrations positions queue spare jobs steps counted set_aside ended last_job place events_room before_room = record {
-  registered = register ∙ is.registered;
-  of_table = of_table;
-  registrations = registrations;
+claimed-state a b r n job left ps is next rise number remaining are register of_table registrations positions queue spare jobs steps counted set_aside ended last_job place events_room before_room = record {
+  proof = record {
+    registered = register ∙ is.proof.registered;
+    of_table = of_table;
+    registrations = registrations;
+    queue = queue ∙ ap (without n) is.proof.queue ∙ sym (ready-claimed a.options job n r ps);
+    steps = steps ∙ is.proof.steps;
+    ended = ended ∙ is.proof.ended;
+    of_registered = told-of-claimed a.options job n ps r next are is.proof.of_registered;
+    no_propositional = is.proof.no_propositional;
+    no_names = is.proof.no_names;
+    no_empty = is.proof.no_empty;
+  };
   positions = positions;
-  queue = queue ∙ ap (without n) is.queue ∙ sym (ready-claimed a.options job n r ps);
   jobs =
       jobs
       ∙ ap₂ (λ (es : List (ℕ × OutJob)) (k : ℕ). insert_entry nat_cmp es job (record { number = n; left = k })) is.jobs remaining
       ∙ insert-last (λ (j : GivenJob). j.job) (λ (j : GivenJob). let o : OutJob = record { number = j.number; left = j.left } in o) 0 r.jobs job
       (record { number = n; left = a.options.inferences - length r.counted }) r.given (rising-by 0 r.jobs r.given rise) (omega (arith, number))
       ∙ sym (map-append job_entry r.given (new_job a.options job n (record r { positions = ps }) ∷ []));
-  steps = steps ∙ is.steps;
   counted = counted ∙ is.counted;
   set_aside = set_aside ∙ is.set_aside;
-  ended = ended ∙ is.ended;
   last_job = last_job;
   place = place ∙ next-place r.claims a.place is.place;
-  no_propositional = is.no_propositional;
   no_solver = is.no_solver;
-  no_names = is.no_names;
   queue_room = let more = one-longer in let room = is.queue_room in omega (arith, more, spare, room);
   history_room = let more = one-longer in omega (arith, more, events_room);
   notes_room = let more = one-longer in omega (arith, more, before_room);
@@ -248,32 +289,32 @@ claimed-state a b r n job left ps is next rise number remaining register of_tabl
 
 -- the fields that a claim changes by the position of its clause
 pub record IsActivated (a b : Inside) (n position : ℕ) (s : Registration) : Type 0 where
-  pub register : b.register ≡ (if position == length a.positions.items then set a.register n (at_position position s) else a.register)
+  pub register : b.proof.register.clauses ≡ (if position == length a.positions.items then set a.proof.register.clauses n (at_position position s) else a.proof.register.clauses)
   pub positions : b.positions.items ≡ (if position == length a.positions.items then a.positions.items ++ n ∷ [] else a.positions.items)
-  pub notes : b.notes.items ≡ (if position == length a.positions.items then a.notes.items ++ Activated n ∷ [] else a.notes.items)
+  pub notes : b.proof.notes.items ≡ (if position == length a.positions.items then a.proof.notes.items ++ Activated n ∷ [] else a.proof.notes.items)
 
 -- the fields that it changes in any case, and those that it keeps
 pub record IsGivenOutBy (a b : Inside) (n job left : ℕ) : Type 0 where
   pub origin : origin_of b ≡ origin_of a
   pub table : b.table ≡ a.table
-  pub queue : b.queue.pairs ≡ without n a.queue.pairs
-  pub spare : b.queue.spare ≡ a.queue.spare + 1
+  pub queue : b.proof.queue.pairs ≡ without n a.proof.queue.pairs
+  pub spare : b.proof.queue.spare ≡ a.proof.queue.spare + 1
   pub jobs : b.jobs.entries ≡ insert_entry nat_cmp a.jobs.entries job (record { number = n; left = left })
   pub history : events_of b.history ≡ events_of a.history ++ Claim job ∷ []
   pub history_room : vec_len b.history.events + (length a.jobs.entries + 1) ≤ vec_capacity b.history.events
-  pub before : b.notes_before.items ≡ a.notes_before.items ++ length a.notes.items ∷ []
+  pub before : b.notes_before.items ≡ a.notes_before.items ++ length a.proof.notes.items ∷ []
   pub before_room : vec_len b.notes_before + (length a.jobs.entries + 1) ≤ vec_capacity b.notes_before
-  pub steps : b.steps.items ≡ a.steps.items
-  pub counted : b.counted ≡ a.counted
-  pub set_aside : b.set_aside ≡ a.set_aside
-  pub ended : b.ended ≡ a.ended
+  pub steps : b.proof.steps.items ≡ a.proof.steps.items
+  pub counted : b.counted.items ≡ a.counted.items
+  pub set_aside : b.set_aside.items ≡ a.set_aside.items
+  pub ended : b.proof.ended ≡ a.proof.ended
   pub last_job : b.last_job ≡ job
   pub place : b.place ≡ (a.place + 1) % 6
 
 pub claimed-pool :
     (a b : Inside) (n job left position : ℕ) (s : Registration)
     → IsPool a → (record_of a).ended ≡ None → IsFalse (must_solve (record_of a)) → next_given (record_of a) ≡ Some n
-    → slice_get a.register n ≡ Some s
+    → slice_get a.proof.register.clauses n ≡ Some s
     → job ≡ suc (record_of a).jobs → left ≡ a.options.inferences - length (record_of a).counted → position ≡ position_of (record_of a) n
     → IsActivated a b n position s → IsGivenOutBy a b n job left
     → IsPool b
@@ -301,20 +342,20 @@ claimed-pool a b n job left place s is open_yet solved next there number remaini
     whole :
         (ps : List ℕ) (new : List Note)
         → positions_with n r ≡ ps → b.positions.items ≡ ps
-        → map registered_at b.register ≡ map registered_at a.register
-        → All (IsOfTable a.table.bank a.table) b.register
-        → ((k : ℕ) (z : Registration) → slice_get b.register k ≡ Some z → IsRegistration (claim_after a.options job n r ps) k z)
-        → b.notes.items ≡ a.notes.items ++ new
-        → map (change_at a.register) new ≡ changes_between r (claim_after a.options job n r ps)
-        → All (IsNoted (length a.register)) b.notes.items
+        → map registered_at b.proof.register.clauses ≡ map registered_at a.proof.register.clauses
+        → All (IsOfTable a.table.bank a.table) b.proof.register.clauses
+        → ((k : ℕ) (z : Registration) → slice_get b.proof.register.clauses k ≡ Some z → IsRegistration (claim_after a.options job n r ps) k z)
+        → b.proof.notes.items ≡ a.proof.notes.items ++ new
+        → map (change_at a.proof.register.clauses) new ≡ changes_between r (claim_after a.options job n r ps)
+        → All (IsNoted (length a.proof.register.clauses)) b.proof.notes.items
         → IsPool b
     whole ps new are positions register of_table registrations noted told within =
         let is_after : after a.options r (Claim job) ≡ claim_after a.options job n r ps =
         after-claim a.options job n r next ∙ ap (claim_after a.options job n r) are in
         one-more-event a b (Claim job) new is given.origin given.history allowed
         (subst (IsStateOf b) (sym is_after)
-        (claimed-state a b r n job left ps st next (pool-rises a is) number remaining register
-        (subst (λ (t : Table). All (IsOfTable t.bank t) b.register) (sym given.table) of_table)
+        (claimed-state a b r n job left ps st next (pool-rises a is) number remaining (sym are) register
+        (subst (λ (t : Table). All (IsOfTable t.bank t) b.proof.register.clauses) (sym given.table) of_table)
         registrations positions given.queue given.spare given.jobs given.steps given.counted given.set_aside given.ended given.last_job given.place
         (let many = given-count a r st in let room = given.history_room in omega (arith, many, room))
         (let many = given-count a r st in let room = given.before_room in omega (arith, many, room))))
@@ -329,32 +370,32 @@ claimed-pool a b n job left place s is open_yet solved next there number remaini
     by : (known : Bool) → has_number n r.positions ≡ known → IsPool b
     by true some =
         let no = below-length some in
-        let same : b.register ≡ a.register = again _ _ _ _ no activation.register in
+        let same : b.proof.register.clauses ≡ a.proof.register.clauses = again _ _ _ _ no activation.register in
         whole r.positions [] (cond-true (has_number n r.positions) r.positions (r.positions ++ n ∷ []) some)
         (again _ _ _ _ no activation.positions ∙ st.positions)
         (ap (map registered_at) same)
-        (subst (All (IsOfTable a.table.bank a.table)) (sym same) st.of_table)
+        (subst (All (IsOfTable a.table.bank a.table)) (sym same) st.proof.of_table)
         (λ k z at.
-        let was = st.registrations k z (ap (λ ss. slice_get ss k) (sym same) ∙ at) in
+        let was = st.proof.registrations k z (ap (λ ss. slice_get ss k) (sym same) ∙ at) in
         record { position = was.position; death = was.death; active = was.active })
-        (again _ _ _ _ no activation.notes ∙ sym (append-nil a.notes.items))
+        (again _ _ _ _ no activation.notes ∙ sym (append-nil a.proof.notes.items))
         (sym (changes-claimed a.options job n r []) ∙ ap (λ ps. changes_between r (claim_after a.options job n r ps)) (append-nil r.positions))
-        (subst (All (IsNoted (length a.register))) (sym (again _ _ _ _ no activation.notes)) is.news.noted)
+        (subst (All (IsNoted (length a.proof.register.clauses))) (sym (again _ _ _ _ no activation.notes)) is.news.noted)
     by false none =
         let yes = at-length none in
         let at_place = at_position place s in
-        let changed : b.register ≡ set a.register n at_place = first _ _ _ _ yes activation.register in
+        let changed : b.proof.register.clauses ≡ set a.proof.register.clauses n at_place = first _ _ _ _ yes activation.register in
         let last : place ≡ length r.positions = position ∙ absent-place n r.positions none in
         whole (r.positions ++ n ∷ []) (Activated n ∷ []) (cond-false (has_number n r.positions) r.positions (r.positions ++ n ∷ []) none)
         (first _ _ _ _ yes activation.positions ∙ ap (λ ps. ps ++ n ∷ []) st.positions)
         (ap (map registered_at) changed
-        ∙ map-set_same registered_at a.register n at_place s (ap registered_at (sym (get_or_from_slice_get a.register n s s there))))
+        ∙ map-set_same registered_at a.proof.register.clauses n at_place s (ap registered_at (sym (get_or_from_slice_get a.proof.register.clauses n s s there))))
         (subst (All (IsOfTable a.table.bank a.table)) (sym changed)
-        (All-set (IsOfTable a.table.bank a.table) a.register n at_place
-        (let was = all-at (IsOfTable a.table.bank a.table) a.register n s st.of_table there in record { of_bank = was.of_bank; known = was.known }) st.of_table))
+        (All-set (IsOfTable a.table.bank a.table) a.proof.register.clauses n at_place
+        (let was = all-at (IsOfTable a.table.bank a.table) a.proof.register.clauses n s st.proof.of_table there in record { of_bank = was.of_bank; known = was.known }) st.proof.of_table))
         (λ k z at. ⊎_elim
         (λ (here : (k ≡ n) × (at_place ≡ z)).
-        let was = st.registrations n s there in
+        let was = st.proof.registrations n s there in
         subst (IsRegistration (claim_after a.options job n r (r.positions ++ n ∷ [])) k) here.1
         (subst (λ m. IsRegistration (claim_after a.options job n r (r.positions ++ n ∷ [])) m at_place) (sym here.0)
         (record {
@@ -362,23 +403,23 @@ claimed-pool a b n job left place s is open_yet solved next there number remaini
           death = was.death;
           active = was.active;
         })))
-        (λ (there_too : (k ≡ n → ⊥) × (slice_get a.register k ≡ Some z)).
-        let was = st.registrations k z there_too.1 in
+        (λ (there_too : (k ≡ n → ⊥) × (slice_get a.proof.register.clauses k ≡ Some z)).
+        let was = st.proof.registrations k z there_too.1 in
         record {
           position = was.position ∙ sym (position-end-old (λ m. k == m) r.positions n (ne_eqb k n there_too.0));
           death = was.death;
           active = was.active;
         })
-        (at-set a.register n at_place k z (ap (λ ss. slice_get ss k) (sym changed) ∙ at)))
+        (at-set a.proof.register.clauses n at_place k z (ap (λ ss. slice_get ss k) (sym changed) ∙ at)))
         (first _ _ _ _ yes activation.notes)
         (ap (λ c. TreeChange.activated n c ∷ []) (clause-in-state)
         ∙ sym (changes-claimed a.options job n r (n ∷ [])))
-        (subst (All (IsNoted (length a.register))) (sym (first _ _ _ _ yes activation.notes))
-        (All-push (IsNoted (length a.register)) a.notes.items (Activated n) is.news.noted (slice_get_within a.register n s there)))
+        (subst (All (IsNoted (length a.proof.register.clauses))) (sym (first _ _ _ _ yes activation.notes))
+        (All-push (IsNoted (length a.proof.register.clauses)) a.proof.notes.items (Activated n) is.news.noted (slice_get_within a.proof.register.clauses n s there)))
       where
-        clause-in-state : clause_in a.register n ≡ clause_numbered r n
+        clause-in-state : clause_in a.proof.register.clauses n ≡ clause_numbered r n
         clause-in-state =
-            clause-in a.register n ∙ ap (λ xs. unwrap_or (option_map (λ (c : Registered). c.clause) (slice_get xs n)) empty_clause) st.registered
+            clause-in a.proof.register.clauses n ∙ ap (λ xs. unwrap_or (option_map (λ (c : Registered). c.clause) (slice_get xs n)) empty_clause) st.proof.registered
 
 -- ---- the ticket
 
@@ -456,18 +497,18 @@ some-out r none solved nothing = by (jobs_out r == 0) refl
 
 -- ---- a clause that is given, by its registration
 
-pub given-registered : (a : Inside) (n : ℕ) → IsPool a → next_given (record_of a) ≡ Some n → n < length a.register
+pub given-registered : (a : Inside) (n : ℕ) → IsPool a → next_given (record_of a) ≡ Some n → n < length a.proof.register.clauses
 given-registered a n is next =
     let below = (given-waits (record_of a) n next).1 in
-    let same : length (record_of a).registered ≡ length a.register = registered-count a (record_of a) is.state in
+    let same : length (record_of a).registered ≡ length a.proof.register.clauses = registered-count a (record_of a) is.state in
     omega (arith, below, same)
 
 -- it has a position, and nothing is told of it
 pub told-before :
     (a : Inside) (r : PoolRecord) (n p : ℕ) (s : Registration)
-    → IsStateOf a r → slice_get a.register n ≡ Some s → s.position ≡ Some p → (first_told r n ≡ []) × (p ≡ position_of r n)
+    → IsStateOf a r → slice_get a.proof.register.clauses n ≡ Some s → s.position ≡ Some p → (first_told r n ≡ []) × (p ≡ position_of r n)
 told-before a r n p s is there found =
-    let place : position (λ m. n == m) r.positions ≡ Some p = sym (is.registrations n s there).position ∙ found in (
+    let place : position (λ m. n == m) r.positions ≡ Some p = sym (is.proof.registrations n s there).position ∙ found in (
       cond-true (has_number n r.positions) [] (TreeChange.activated n (clause_numbered r n) ∷ []) (has-position n p r.positions place),
       sym (found-place (λ m. n == m) r.positions p place).0,
     )
@@ -475,10 +516,10 @@ told-before a r n p s is there found =
 -- or it gets the next one, and that it is activated is told
 pub told-now :
     (a : Inside) (r : PoolRecord) (n : ℕ) (s : Registration)
-    → IsStateOf a r → slice_get a.register n ≡ Some s → s.position ≡ None
+    → IsStateOf a r → slice_get a.proof.register.clauses n ≡ Some s → s.position ≡ None
     → (first_told r n ≡ TreeChange.activated n (clause_at s.clause) ∷ []) × (length a.positions.items ≡ position_of r n)
 told-now a r n s is there none =
-    let absent = has-no-position n r.positions (sym (is.registrations n s there).position ∙ none) in (
+    let absent = has-no-position n r.positions (sym (is.proof.registrations n s there).position ∙ none) in (
       cond-false (has_number n r.positions) [] (TreeChange.activated n (clause_numbered r n) ∷ []) absent
           ∙ ap (λ c. TreeChange.activated n c ∷ []) (clause-numbered r n (clause_at s.clause) (clause-there a r n s is there)),
       ap length is.positions ∙ sym (absent-place n r.positions absent),
@@ -488,13 +529,13 @@ told-now a r n s is there none =
 
 pub activated-by :
     (a b : Inside) (n place : ℕ) (s : Registration) (ps : List ℕ) (notes : List Note)
-    → ps ≡ a.positions.items → notes ≡ a.notes.items
-    → b.register ≡ (if place == length ps then set a.register n (at_position place s) else a.register)
+    → ps ≡ a.positions.items → notes ≡ a.proof.notes.items
+    → b.proof.register.clauses ≡ (if place == length ps then set a.proof.register.clauses n (at_position place s) else a.proof.register.clauses)
     → b.positions.items ≡ (if place == length ps then ps ++ n ∷ [] else ps)
-    → b.notes.items ≡ (if place == length ps then notes ++ Activated n ∷ [] else notes)
+    → b.proof.notes.items ≡ (if place == length ps then notes ++ Activated n ∷ [] else notes)
     → IsActivated a b n place s
 activated-by a b n place s ps notes same_positions same_notes register positions noted = record {
-  register = register ∙ ap (λ (qs : List ℕ). if place == length qs then set a.register n (at_position place s) else a.register) same_positions;
+  register = register ∙ ap (λ (qs : List ℕ). if place == length qs then set a.proof.register.clauses n (at_position place s) else a.proof.register.clauses) same_positions;
   positions = positions ∙ ap (λ (qs : List ℕ). if place == length qs then qs ++ n ∷ [] else qs) same_positions;
   notes =
       noted
@@ -502,8 +543,8 @@ activated-by a b n place s ps notes same_positions same_notes register positions
 }
 
 -- the clause that is given leaves the queue
-pub in-queue : (a : Inside) (r : PoolRecord) (n : ℕ) → IsStateOf a r → next_given r ≡ Some n → Contains (numbers a.queue.pairs) n
-in-queue a r n is next = subst (λ ps. Contains (numbers ps) n) (sym is.queue) (number-in r n (ready r) (given-in r n next))
+pub in-queue : (a : Inside) (r : PoolRecord) (n : ℕ) → IsStateOf a r → next_given r ≡ Some n → Contains (numbers a.proof.queue.pairs) n
+in-queue a r n is next = subst (λ ps. Contains (numbers ps) n) (sym is.proof.queue) (number-in r n (ready r) (given-in r n next))
 
 pub one-spare : (b : Bool) (spare now : ℕ) → b ≡ true → now ≡ spare + (if b then 1 else 0) → now ≡ spare + 1
 one-spare true spare now is e = e

@@ -1,5 +1,5 @@
--- Lists after one change: an element set, a key inserted or removed, a number more or less.
-use Rattle.std.proofs.Common.{◌≡◌, ℕ, zero, suc, ◌+◌, ◌<◌, ◌≤◌, Bool, true, false, not, ◌&&◌, ◌==◌, List, [], ◌∷◌, ◌++◌, map, refl, ap, ap₂, sym, ◌∙◌, inl, inr, ◌⊎◌, arith}
+-- Lists after one change: an element set or added, a key inserted or removed, a number more or less.
+use Rattle.std.proofs.Common.{◌≡◌, ℕ, zero, suc, ◌+◌, ◌<◌, ◌≤◌, Bool, true, false, not, ◌&&◌, ◌==◌, List, [], ◌∷◌, ◌++◌, map, length, refl, ap, ap₂, sym, ◌∙◌, inl, inr, ◌⊎◌, ⊎_elim, arith}
 use Rattle.std.specs.Prelude.{None, Some, cond, nat_lt, slice_get, filter, find, option_map, position}
 use Rattle.std.specs.List.{range_with_len}
 use Rattle.std.specs.Ordering.{nat_cmp, is_eq, match_ordering}
@@ -35,6 +35,20 @@ pub position-set :
 position-set p xs n x y there same =
     ap₂ (λ k len. cond (nat_lt k len) (Some k) None)
     (position_or_len-set p xs n y x (same ∙ ap p (sym (get_or_from_slice_get xs n x x there)))) (length-set xs n y)
+
+-- ---- one more
+
+pub get-end : {X : Type 0} (xs : List X) (x z : X) (k : ℕ) → slice_get (xs ++ x ∷ []) k ≡ Some z → (slice_get xs k ≡ Some z) ⊎ ((k ≡ length xs) × (x ≡ z))
+get-end [] x z zero there = inr (refl, same_Some x z there)
+get-end [] x z (suc k) there = absurd (none-some z there)
+get-end (y ∷ ys) x z zero there = inl there
+get-end (y ∷ ys) x z (suc k) there =
+    ⊎_elim (λ before. inl before) (λ (last : (k ≡ length ys) × (x ≡ z)). inr (ap suc last.0, last.1)) (get-end ys x z k there)
+
+-- the one in the middle
+pub get-middle : {X : Type 0} (xs : List X) (x : X) (ys : List X) → slice_get (xs ++ x ∷ ys) (length xs) ≡ Some x
+get-middle [] x ys = refl
+get-middle (z ∷ zs) x ys = get-middle zs x ys
 
 -- ---- filters of numbers
 

@@ -7,6 +7,7 @@ use Rattle.std.specs.BTreeMap.{is_at}
 use Rattle.std.specs.Map.{remove_entry, lookup}
 use Rattle.std.proofs.Math.Seq.{drop-length}
 use Rattle.std.proofs.lemmas.Bool.{true≢false, and_from, and_parts, eqb-true, not_from_false, cases_eq}
+use Rattle.std.proofs.lemmas.List.Elements.{All-filter}
 use Rattle.std.proofs.lemmas.Option.{none-some, same_Some}
 use Rattle.fol_base.specs.Clause.{clause_size}
 use Rattle.kernel_steps.specs.Split.{has_number}
@@ -24,7 +25,7 @@ use Rattle.pool_core.specs.Noted.{IsNoted}
 use Rattle.pool_core.specs.Started.{registered_at, IsOfTable}
 use Rattle.pool_core.specs.Events.{events_of}
 use Rattle.pool_core.specs.Lawful.{IsOut}
-use Rattle.pool_core.specs.State.{origin_of, IsStateOf, IsPool, pair_of}
+use Rattle.pool_core.specs.State.{origin_of, AreOfRegistered, IsStateOf, IsPool, pair_of}
 use Rattle.pool_core.specs.declared.event.Event.TheVariants.{Abandon}
 use Rattle.pool_core.specs.declared.options.Options.{Options}
 use Rattle.pool_core.specs.declared.pool.OutJob.{OutJob}
@@ -245,51 +246,66 @@ entry-out a r job j is rise found =
 pub record IsGivenUpBy (a b : Inside) (job : ℕ) : Type 0 where
   pub origin : origin_of b ≡ origin_of a
   pub table : b.table ≡ a.table
-  pub register : b.register ≡ a.register
+  pub register : b.proof.register.clauses ≡ a.proof.register.clauses
   pub positions : b.positions.items ≡ a.positions.items
   pub jobs : b.jobs.entries ≡ remove_entry (is_at (nat_cmp job)) a.jobs.entries
   pub history : events_of b.history ≡ events_of a.history ++ Abandon job ∷ []
   pub history_len : vec_len b.history.events ≡ vec_len a.history.events + 1
   pub history_room : vec_capacity b.history.events ≡ vec_capacity a.history.events
-  pub notes : b.notes.items ≡ a.notes.items
-  pub before : b.notes_before.items ≡ a.notes_before.items ++ length a.notes.items ∷ []
+  pub notes : b.proof.notes.items ≡ a.proof.notes.items
+  pub before : b.notes_before.items ≡ a.notes_before.items ++ length a.proof.notes.items ∷ []
   pub before_len : vec_len b.notes_before ≡ vec_len a.notes_before + 1
   pub before_room : vec_capacity b.notes_before ≡ vec_capacity a.notes_before
-  pub steps : b.steps.items ≡ a.steps.items
-  pub counted : b.counted ≡ a.counted
-  pub set_aside : b.set_aside ≡ a.set_aside
-  pub ended : b.ended ≡ a.ended
+  pub steps : b.proof.steps.items ≡ a.proof.steps.items
+  pub counted : b.counted.items ≡ a.counted.items
+  pub set_aside : b.set_aside.items ≡ a.set_aside.items
+  pub ended : b.proof.ended ≡ a.proof.ended
   pub last_job : b.last_job ≡ a.last_job
   pub place : b.place ≡ a.place
+
+-- what is told of fewer jobs
+pub told-without : (job : ℕ) (r : PoolRecord) → AreOfRegistered r → AreOfRegistered (record r { given = without_job job r.given })
+told-without job r told = record {
+  positions = told.positions;
+  active = told.active;
+  given = All-filter (λ (j : GivenJob). not (j.job == job)) (λ (j : GivenJob). j.number < length r.registered) r.given told.given;
+  placed = All-filter (λ (j : GivenJob). not (j.job == job)) (λ (j : GivenJob). has_number j.number r.positions ≡ true) r.given told.placed;
+  victims = told.victims;
+}
 
 given-up-state :
     (a b : Inside) (r : PoolRecord) (job : ℕ) (j : GivenJob)
     → IsStateOf a r → Rising 0 r.jobs r.given → given_job r job ≡ Some j → IsGivenUpBy a b job
-    → b.queue.pairs ≡ map (pair_of (given_up a.options job r)) (ready (given_up a.options job r)) → a.queue.spare ≤ b.queue.spare + 1
+    → b.proof.queue.pairs ≡ map (pair_of (given_up a.options job r)) (ready (given_up a.options job r)) → a.proof.queue.spare ≤ b.proof.queue.spare + 1
     → IsStateOf b (given_up a.options job r)
 given-up-state a b r job j is rise found by queue spare = record {
-  registered = ap (map registered_at) by.register ∙ is.registered;
-  of_table =
-      subst (λ (t : Table). All (IsOfTable t.bank t) b.register) (sym by.table)
-      (subst (All (IsOfTable a.table.bank a.table)) (sym by.register) is.of_table);
-  registrations = λ k s there.
-      let was = is.registrations k s (ap (λ ss. slice_get ss k) (sym by.register) ∙ there) in
-      record { position = was.position; death = was.death; active = was.active };
+  proof = record {
+    registered = ap (map registered_at) by.register ∙ is.proof.registered;
+    of_table =
+        subst (λ (t : Table). All (IsOfTable t.bank t) b.proof.register.clauses) (sym by.table)
+        (subst (All (IsOfTable a.table.bank a.table)) (sym by.register) is.proof.of_table);
+    registrations = λ k s there.
+        let was = is.proof.registrations k s (ap (λ ss. slice_get ss k) (sym by.register) ∙ there) in
+        record { position = was.position; death = was.death; active = was.active };
+    queue = queue;
+    steps = by.steps ∙ is.proof.steps;
+    ended = by.ended ∙ is.proof.ended;
+    of_registered = let told = told-without job r is.proof.of_registered in
+        record { positions = told.positions; active = told.active; given = told.given; placed = told.placed; victims = told.victims };
+    no_propositional = is.proof.no_propositional;
+    no_names = is.proof.no_names;
+    no_empty = is.proof.no_empty;
+  };
   positions = by.positions ∙ is.positions;
-  queue = queue;
   jobs =
       by.jobs ∙ ap (remove_entry (is_at (nat_cmp job))) is.jobs
       ∙ remove-filter (λ (i : GivenJob). i.job) (λ (i : GivenJob). let o : OutJob = record { number = i.number; left = i.left } in o) 0 r.jobs job r.given
       (rising-by 0 r.jobs r.given rise);
-  steps = by.steps ∙ is.steps;
   counted = by.counted ∙ is.counted;
   set_aside = by.set_aside ∙ is.set_aside;
-  ended = by.ended ∙ is.ended;
   last_job = by.last_job ∙ is.last_job;
   place = by.place ∙ is.place;
-  no_propositional = is.no_propositional;
   no_solver = ap (without_solver job) is.no_solver;
-  no_names = is.no_names;
   queue_room = let less = one in let room = is.queue_room in omega (arith, less, spare, room);
   history_room = let less = one in let room = is.history_room in omega (arith, less, by.history_len, by.history_room, room);
   notes_room = let less = one in let room = is.notes_room in omega (arith, less, by.before_len, by.before_room, room);
@@ -301,17 +317,17 @@ given-up-state a b r job j is rise found by queue spare = record {
 pub given-up-pool :
     (a b : Inside) (job : ℕ) (j : GivenJob)
     → IsPool a → given_job (record_of a) job ≡ Some j → IsGivenUpBy a b job
-    → b.queue.pairs ≡ map (pair_of (given_up a.options job (record_of a))) (ready (given_up a.options job (record_of a))) → a.queue.spare ≤ b.queue.spare + 1
+    → b.proof.queue.pairs ≡ map (pair_of (given_up a.options job (record_of a))) (ready (given_up a.options job (record_of a))) → a.proof.queue.spare ≤ b.proof.queue.spare + 1
     → IsPool b
 given-up-pool a b job j is found by queue spare =
     one-more-event a b (Abandon job) [] is by.origin by.history
     (λ is_predicate. inl (record { given = j; out = found; says = tt }))
     (given-up-state a b (record_of a) job j is.state (pool-rises a is) found by queue spare)
     (ap (map registered_at) by.register)
-    (by.notes ∙ sym (append-nil a.notes.items))
+    (by.notes ∙ sym (append-nil a.proof.notes.items))
     (sym (ap₂ (λ (ns : List ℕ) (ds : List Death). map (λ k. TreeChange.activated k (clause_numbered (record_of a) k)) ns ++ map (λ (d : Death). TreeChange.died d.victim) ds)
     (drop-length (record_of a).positions) (drop-length (record_of a).deaths)))
-    (subst (All (IsNoted (length a.register))) (sym by.notes) is.news.noted)
+    (subst (All (IsNoted (length a.proof.register.clauses))) (sym by.notes) is.news.noted)
     by.before
 
 -- ---- the job that a pool gives up
@@ -326,9 +342,9 @@ pub record IsOutBy (a : Inside) (job : ℕ) : Type 0 where
   pub given : GivenJob
   pub found : given_job (record_of a) job ≡ Some given
   pub entry : lookup (is_at (nat_cmp job)) a.jobs.entries ≡ Some (record { number = given.number; left = given.left })
-  pub there : given.number < length a.register
+  pub there : given.number < length a.proof.register.clauses
   pub some : 1 ≤ length (record_of a).given
-  pub spare : 1 ≤ a.queue.spare
+  pub spare : 1 ≤ a.proof.queue.spare
 
 pub out-by : (a : Inside) (job : ℕ) → IsPool a → IsOut (record_of a) job → IsOutBy a job
 out-by a job is out =
@@ -355,16 +371,16 @@ pub number-out : (a : Inside) (job : ℕ) (o : Option OutJob) (out : OutJob) (by
 number-out a job o out by was is = ap (λ (e : OutJob). e.number) (same_Some out (record { number = by.given.number; left = by.given.left }) (sym is ∙ was ∙ by.entry))
 
 -- it isn't in the queue
-pub absent-out : (a : Inside) (job n : ℕ) (by : IsOutBy a job) → IsPool a → n ≡ by.given.number → Contains (numbers a.queue.pairs) n → ⊥
+pub absent-out : (a : Inside) (job n : ℕ) (by : IsOutBy a job) → IsPool a → n ≡ by.given.number → Contains (numbers a.proof.queue.pairs) n → ⊥
 absent-out a job n by is same there =
-    absent-from-ready a.options job 0 (record_of a).jobs (record_of a) by.given a.queue.pairs (pool-rises a is) by.found is.state.queue
-    (subst (Contains (numbers a.queue.pairs)) same there)
+    absent-from-ready a.options job 0 (record_of a).jobs (record_of a) by.given a.proof.queue.pairs (pool-rises a is) by.found is.state.proof.queue
+    (subst (Contains (numbers a.proof.queue.pairs)) same there)
 
 -- where its clause lives it comes back into the queue
 pub given-up-living :
     (a b : Inside) (job n size : ℕ) (s : Registration) (by : IsOutBy a job)
-    → IsPool a → IsGivenUpBy a b job → n ≡ by.given.number → slice_get a.register n ≡ Some s → is_none s.death ≡ true → size ≡ clause_size (clause_at s.clause)
-    → b.queue.pairs ≡ with_pair (n, size) a.queue.pairs → b.queue.spare ≡ a.queue.spare - 1
+    → IsPool a → IsGivenUpBy a b job → n ≡ by.given.number → slice_get a.proof.register.clauses n ≡ Some s → is_none s.death ≡ true → size ≡ clause_size (clause_at s.clause)
+    → b.proof.queue.pairs ≡ with_pair (n, size) a.proof.queue.pairs → b.proof.queue.spare ≡ a.proof.queue.spare - 1
     → IsPool b
 given-up-living a b job n size s by is changed same there alive weight pairs spare =
     given-up-pool a b job by.given is by.found changed
@@ -372,7 +388,7 @@ given-up-living a b job n size s by is changed same there alive weight pairs spa
     ∙ ap₂ (λ (p : ℕ × ℕ) (ps : List (ℕ × ℕ)). with_pair p ps)
     (ap₂ (λ (k w : ℕ). let p : ℕ × ℕ = (k, w) in p) same
     (weight ∙ ap clause_size (sym (clause-numbered r n (clause_at s.clause) (clause-there a r n s is.state there))) ∙ ap (λ k. clause_size (clause_numbered r k)) same))
-    is.state.queue
+    is.state.proof.queue
     ∙ put-back a.options job 0 r.jobs r by.given (pool-rises a is) (pool-hands a is) by.found
     (subst (λ k. lives r k ≡ true) same (and_parts (lives r n) (is_awake r n) both).0)
     (subst (λ k. is_awake r k ≡ true) same (and_parts (lives r n) (is_awake r n) both).1))
@@ -387,12 +403,12 @@ given-up-living a b job n size s by is changed same there alive weight pairs spa
 -- where it has died the queue stays
 pub given-up-dead :
     (a b : Inside) (job n : ℕ) (s : Registration) (by : IsOutBy a job)
-    → IsPool a → IsGivenUpBy a b job → n ≡ by.given.number → slice_get a.register n ≡ Some s → is_none s.death ≡ false
-    → b.queue ≡ a.queue
+    → IsPool a → IsGivenUpBy a b job → n ≡ by.given.number → slice_get a.proof.register.clauses n ≡ Some s → is_none s.death ≡ false
+    → b.proof.queue ≡ a.proof.queue
     → IsPool b
 given-up-dead a b job n s by is changed same there dead queue =
     given-up-pool a b job by.given is by.found changed
-    (ap (λ (q : Waiting). q.pairs) queue ∙ is.state.queue
+    (ap (λ (q : Waiting). q.pairs) queue ∙ is.state.proof.queue
     ∙ ap (map (pair_of r)) (sym (ready-dead a.options job 0 r.jobs r by.given (pool-rises a is) by.found (subst (λ k. lives r k ≡ false) same not_living))))
     (let equal = ap (λ (q : Waiting). q.spare) queue in omega (arith, equal))
   where

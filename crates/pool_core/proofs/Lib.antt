@@ -16,21 +16,23 @@ mod JustifiedLemmas
 -- OutcomeLemmas (outcomes stay), HeavyLemmas (what is set aside).
 mod OutcomeLemmas
 mod HeavyLemmas
--- The pool: RegisterLemmas (the register), StartLemmas (the inputs), BegunLemmas (the new pool), LivingLemmas (what lives,
+-- The pool: EditLemmas (lists after one change), RegisterLemmas (the register), StartLemmas (the inputs), BegunLemmas (the new pool), LivingLemmas (what lives,
 -- and how it ends).
+mod EditLemmas
 mod RegisterLemmas
 mod StartLemmas
 mod BegunLemmas
 mod LivingLemmas
--- Claims: EditLemmas (lists after one change), HistoryLemmas (one more event), StateLemmas (what an event keeps), PickLemmas (what is given next),
+-- Claims: HistoryLemmas (one more event), StateLemmas (what an event keeps), PickLemmas (what is given next),
 -- ClaimLemmas (the pool after a claim), HandLemmas (clauses whose jobs are out), GiveUpLemmas (the pool after a job is given up).
-mod EditLemmas
 mod HistoryLemmas
 mod StateLemmas
 mod PickLemmas
 mod ClaimLemmas
 mod HandLemmas
 mod GiveUpLemmas
+-- The work of a batch: ProofStateLemmas (clauses die, are done and come).
+mod ProofStateLemmas
 -- MemberLemmas (what a pool hands out).
 mod MemberLemmas
 -- Whole clauses and lines: JoinedLemmas (lists put together), FormedLemmas (what steps conclude), SizeLemmas (reducing steps), PoolLineLemmas

@@ -20,7 +20,7 @@ use Rattle.pool_core.proofs.BegunLemmas.{awake-without, numbered}
 
 -- ---- a clause of a number
 
-no-death : (ds : List Death) (n : ℕ) → is_none (option_map (λ (d : Death). d.event) (find (λ (d : Death). n == d.victim) ds)) ≡ not (has_died ds n)
+pub no-death : (ds : List Death) (n : ℕ) → is_none (option_map (λ (d : Death). d.event) (find (λ (d : Death). n == d.victim) ds)) ≡ not (has_died ds n)
 no-death [] n = refl
 no-death (d ∷ ds) n = by (n == d.victim) (no-death ds n)
   where
@@ -31,21 +31,21 @@ no-death (d ∷ ds) n = by (n == d.victim) (no-death ds n)
     by false rest = rest
 
 pub registered-there :
-    (a : Inside) (r : PoolRecord) (n : ℕ) (s : Registration) → IsStateOf a r → slice_get a.register n ≡ Some s → slice_get r.registered n ≡ Some (registered_at s)
+    (a : Inside) (r : PoolRecord) (n : ℕ) (s : Registration) → IsStateOf a r → slice_get a.proof.register.clauses n ≡ Some s → slice_get r.registered n ≡ Some (registered_at s)
 registered-there a r n s is there =
-    ap (λ xs. slice_get xs n) (sym is.registered) ∙ slice_get-map registered_at a.register n ∙ ap (λ (o : Option Registration). option_map registered_at o) there
+    ap (λ xs. slice_get xs n) (sym is.proof.registered) ∙ slice_get-map registered_at a.proof.register.clauses n ∙ ap (λ (o : Option Registration). option_map registered_at o) there
 
 pub awake-there : (a : Inside) (r : PoolRecord) (n : ℕ) (x : Registered) → IsStateOf a r → slice_get r.registered n ≡ Some x → is_awake r n ≡ true
 awake-there a r n x is there =
     awake-without r (clause_numbered r n)
-    (ap (λ (d : TreeClause). d.names) (numbered r n x there) ∙ all-at (λ (c : Registered). c.clause.names ≡ []) r.registered n x is.no_names there)
+    (ap (λ (d : TreeClause). d.names) (numbered r n x there) ∙ all-at (λ (c : Registered). c.clause.names ≡ []) r.registered n x is.proof.no_names there)
 
 pub lives-there :
     (a : Inside) (r : PoolRecord) (n : ℕ) (s : Registration)
-    → IsStateOf a r → slice_get a.register n ≡ Some s → is_none s.death ≡ (lives r n && is_awake r n)
+    → IsStateOf a r → slice_get a.proof.register.clauses n ≡ Some s → is_none s.death ≡ (lives r n && is_awake r n)
 lives-there a r n s is there =
     let there_too = registered-there a r n s is there in
-    ap is_none (is.registrations n s there).death
+    ap is_none (is.proof.registrations n s there).death
     ∙ no-death r.deaths n
     ∙ sym (and-true (not (has_died r.deaths n)))
     ∙ ap (λ b. (b && not (has_died r.deaths n)) && true) (sym (lt-ltb n (length r.registered) (slice_get_within r.registered n (registered_at s) there_too)))
@@ -59,7 +59,7 @@ lives-there a r n s is there =
 
 pub nothing-to-solve : (a : Inside) (r : PoolRecord) → IsStateOf a r → must_solve r ≡ false
 nothing-to-solve a r is =
-    ap (λ (cs : List PropositionalClause). nat_lt r.modelled (length cs) && is_none r.solver) is.no_propositional
+    ap (λ (cs : List PropositionalClause). nat_lt r.modelled (length cs) && is_none r.solver) is.proof.no_propositional
     ∙ ap (λ b. b && is_none r.solver) (le-ltb r.modelled 0 (omega arith))
 
 gives-some : (r : PoolRecord) (choice : Choice) (ns : List ℕ) → is_some (picked r choice ns) ≡ not (length ns == 0)
@@ -72,10 +72,10 @@ ready-count : (r : PoolRecord) (ns : List ℕ) → length (map (pair_of r) ns) �
 ready-count r [] = refl
 ready-count r (n ∷ ns) = ap suc (ready-count r ns)
 
-gives : (a : Inside) (r : PoolRecord) → IsStateOf a r → can_give r ≡ not (length a.queue.pairs == 0)
+gives : (a : Inside) (r : PoolRecord) → IsStateOf a r → can_give r ≡ not (length a.proof.queue.pairs == 0)
 gives a r is =
     gives-some r (next_choice r) (ready r)
-    ∙ ap (λ k. not (k == 0)) (sym (ready-count r (ready r)) ∙ ap length (sym is.queue))
+    ∙ ap (λ k. not (k == 0)) (sym (ready-count r (ready r)) ∙ ap length (sym is.proof.queue))
 
 pub jobs-count : (a : Inside) (r : PoolRecord) → IsStateOf a r → jobs_out r ≡ length a.jobs.entries
 jobs-count a r is =
@@ -89,12 +89,12 @@ jobs-count a r is =
     entries [] = refl
     entries (j ∷ js) = ap suc (entries js)
 
-pub rests : (a : Inside) (r : PoolRecord) → IsStateOf a r → is_at_rest r ≡ (length a.queue.pairs == 0 && (length a.jobs.entries == 0))
+pub rests : (a : Inside) (r : PoolRecord) → IsStateOf a r → is_at_rest r ≡ (length a.proof.queue.pairs == 0 && (length a.jobs.entries == 0))
 rests a r is =
     ap (λ b. not b && (not (can_give r) && (jobs_out r == 0))) (nothing-to-solve a r is)
     ∙ ap (λ b. not b && (jobs_out r == 0)) (gives a r is)
-    ∙ ap (λ b. b && (jobs_out r == 0)) (twice (length a.queue.pairs == 0))
-    ∙ ap (λ k. (length a.queue.pairs == 0) && (k == 0)) (jobs-count a r is)
+    ∙ ap (λ b. b && (jobs_out r == 0)) (twice (length a.proof.queue.pairs == 0))
+    ∙ ap (λ k. (length a.proof.queue.pairs == 0) && (k == 0)) (jobs-count a r is)
   where
     twice : (b : Bool) → not (not b) ≡ b
     twice true = refl
@@ -102,8 +102,8 @@ rests a r is =
 
 -- ---- the outcome
 
-pub ended-outcome : (a : Inside) (r : PoolRecord) → IsStateOf a r → is_some a.ended ≡ true → a.ended ≡ outcome_of r
-ended-outcome a r is some = is.ended ∙ by r.ended (ap is_some (sym is.ended) ∙ some)
+pub ended-outcome : (a : Inside) (r : PoolRecord) → IsStateOf a r → is_some a.proof.ended ≡ true → a.proof.ended ≡ outcome_of r
+ended-outcome a r is some = is.proof.ended ∙ by r.ended (ap is_some (sym is.proof.ended) ∙ some)
   where
     by : (o : Option Outcome) → is_some o ≡ true → o ≡ outcome_by o r
     by None h = absurd (true≢false (sym h))
@@ -111,10 +111,10 @@ ended-outcome a r is some = is.ended ∙ by r.ended (ap is_some (sym is.ended) �
 
 pub open-outcome :
     (a : Inside) (r : PoolRecord)
-    → IsStateOf a r → is_some a.ended ≡ false
-    → outcome_of r ≡ (if length a.queue.pairs == 0 && (length a.jobs.entries == 0) then Some (heavy_or_saturated (position (is_of_living r) r.set_aside)) else None)
+    → IsStateOf a r → is_some a.proof.ended ≡ false
+    → outcome_of r ≡ (if length a.proof.queue.pairs == 0 && (length a.jobs.entries == 0) then Some (heavy_or_saturated (position (is_of_living r) r.set_aside)) else None)
 open-outcome a r is none =
-    ap (λ o. outcome_by o r) (sym is.ended ∙ by a.ended none)
+    ap (λ o. outcome_by o r) (sym is.proof.ended ∙ by a.proof.ended none)
     ∙ ap (λ b. if b then Some (heavy_or_saturated (position (is_of_living r) r.set_aside)) else None) (rests a r is)
   where
     by : (o : Option Outcome) → is_some o ≡ false → o ≡ None

@@ -38,7 +38,7 @@ no-members bank r = record { numbers = refl; clauses = refl; of_bank = All-nil (
 -- a living clause is one more
 pub one-member :
     (a : Inside) (bank : ℕ) (r : PoolRecord) (n : ℕ) (s : Registration) (m : Member) (members more : List Member)
-    → bank ≡ a.table.bank → IsStateOf a r → slice_get a.register n ≡ Some s → is_none s.death ≡ true → m.number ≡ n → m.clause ≡ s.clause
+    → bank ≡ a.table.bank → IsStateOf a r → slice_get a.proof.register.clauses n ≡ Some s → is_none s.death ≡ true → m.number ≡ n → m.clause ≡ s.clause
     → more ≡ members ++ m ∷ [] → AreMembersUpTo bank r n members → AreMembersUpTo bank r (n + 1) more
 one-member a bank r n s m members more same_bank is there alive number clause one so_far = record {
   numbers =
@@ -62,7 +62,7 @@ one-member a bank r n s m members more same_bank is there alive number clause on
 -- a dead one is none
 pub no-member :
     (a : Inside) (bank : ℕ) (r : PoolRecord) (n : ℕ) (s : Registration) (members : List Member)
-    → IsStateOf a r → slice_get a.register n ≡ Some s → is_none s.death ≡ false → AreMembersUpTo bank r n members → AreMembersUpTo bank r (n + 1) members
+    → IsStateOf a r → slice_get a.proof.register.clauses n ≡ Some s → is_none s.death ≡ false → AreMembersUpTo bank r n members → AreMembersUpTo bank r (n + 1) members
 no-member a bank r n s members is there dead so_far = record {
   numbers = so_far.numbers ∙ sym same;
   clauses = so_far.clauses ∙ ap (map (clause_numbered r)) (sym same);

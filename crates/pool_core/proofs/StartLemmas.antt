@@ -52,7 +52,7 @@ any-by-place (x ∷ xs) f g base each =
     ∙ ap (λ b. g x || b)
     (any-by-place xs f g (base + 1) (λ n y there. ap f (let e : base + 1 + n ≡ base + suc n = omega arith in e) ∙ each (suc n) y there))
 
-any-at : {X : Type 0} (p : X → Bool) (xs : List X) (n : ℕ) (x : X) → slice_get xs n ≡ Some x → p x ≡ true → list_any p xs ≡ true
+pub any-at : {X : Type 0} (p : X → Bool) (xs : List X) (n : ℕ) (x : X) → slice_get xs n ≡ Some x → p x ≡ true → list_any p xs ≡ true
 any-at p [] n x there passes = absurd (none-some x there)
 any-at p (y ∷ ys) zero x there passes = or_left (p y) (list_any p ys) (ap p (same_Some y x there) ∙ passes)
 any-at p (y ∷ ys) (suc n) x there passes = or_right (p y) (list_any p ys) (any-at p ys n x there passes)
@@ -72,11 +72,11 @@ none-passes p xs none = place-end p xs (none-place p xs none)
 
 -- ---- copies
 
-clause_eq-refl : (c : TreeClause) → c.names ≡ [] → clause_eq c c ≡ true
+pub clause_eq-refl : (c : TreeClause) → c.names ≡ [] → clause_eq c c ≡ true
 clause_eq-refl c no_names =
     and_from (literals_eq c.literals c.literals) (names_eq c.names c.names) (literals_eq-refl c.literals) (ap (λ ns. names_eq ns ns) no_names)
 
-clause_eq-says : (c d : TreeClause) → c.names ≡ [] → clause_eq c d ≡ true → c ≡ d
+pub clause_eq-says : (c d : TreeClause) → c.names ≡ [] → clause_eq c d ≡ true → c ≡ d
 clause_eq-says c d no_names same =
     let parts = and_parts (literals_eq c.literals d.literals) (names_eq c.names d.names) same in
     let make : List TreeLiteral → List NameLit → TreeClause = λ ls ns. record { literals = ls; names = ns } in
@@ -142,7 +142,7 @@ with_one r i c e = record r {
   ended = e;
 }
 
-last-line : (xs : List Line) (l : Line) → length (xs ++ l ∷ []) - 1 ≡ length xs
+pub last-line : (xs : List Line) (l : Line) → length (xs ++ l ∷ []) - 1 ≡ length xs
 last-line xs l = let e : length (xs ++ l ∷ []) ≡ length xs + 1 = length-append xs (l ∷ []) in omega (arith, e)
 
 pub comes-as-clause :
@@ -180,7 +180,7 @@ length-of : (ss : List Registration) → length (map registered_at ss) ≡ lengt
 length-of [] = refl
 length-of (s ∷ ss) = ap suc (length-of ss)
 
-steps-of : (ls : List Line) → length (map (λ (l : Line). l.step) ls) ≡ length ls
+pub steps-of : (ls : List Line) → length (map (λ (l : Line). l.step) ls) ≡ length ls
 steps-of [] = refl
 steps-of (l ∷ ls) = ap suc (steps-of ls)
 
@@ -220,7 +220,7 @@ module _ (bank : Bank) where
   started-with known learned trees a r interned is = record {
     start = is.start;
     registered = is.registered;
-    of_table = of-new-table known learned trees a.register interned is.of_table;
+    of_table = of-new-table known learned trees a.register.clauses interned is.of_table;
     fresh = is.fresh;
     no_names = is.no_names;
     queue = is.queue;
@@ -229,19 +229,19 @@ module _ (bank : Bank) where
     no_empty = is.no_empty;
   }
 
-  pub copy-of-bank : (table : Table) (a : Start) (r : PoolRecord) (n : ℕ) (s : Registration) → IsStarted bank table a r → slice_get a.register n ≡ Some s → AreLiteralsOf bank s.clause.literals
-  copy-of-bank table a r n s is there = (all-at (IsOfTable bank table) a.register n s is.of_table there).of_bank
+  pub copy-of-bank : (table : Table) (a : Start) (r : PoolRecord) (n : ℕ) (s : Registration) → IsStarted bank table a r → slice_get a.register.clauses n ≡ Some s → AreLiteralsOf bank s.clause.literals
+  copy-of-bank table a r n s is there = (all-at (IsOfTable bank table) a.register.clauses n s is.of_table there).of_bank
 
   -- an input that is there
   pub again :
       (table : Table) (a : Start) (r : PoolRecord) (i n : ℕ) (c : TreeClause) (made : BankClause) (s : Registration)
       → IsStarted bank table a r → r.ended ≡ None → clause_at made ≡ c → c.names ≡ []
-      → slice_get a.register n ≡ Some s → clause_at made ≡ clause_at s.clause
+      → slice_get a.register.clauses n ≡ Some s → clause_at made ≡ clause_at s.clause
       → IsStarted bank table a (with_input i c r)
   again table a r i n c made s is open_yet same no_names there agreed = by (has_none c.literals) refl
     where
       there_too : slice_get r.registered n ≡ Some (registered_at s)
-      there_too = ap (λ xs. slice_get xs n) (sym is.registered) ∙ slice_get-map registered_at a.register n ∙ ap (λ (o : Option Registration). option_map registered_at o) there
+      there_too = ap (λ xs. slice_get xs n) (sym is.registered) ∙ slice_get-map registered_at a.register.clauses n ∙ ap (λ (o : Option Registration). option_map registered_at o) there
 
       equal : c ≡ clause_at s.clause
       equal = sym same ∙ agreed
@@ -264,8 +264,8 @@ module _ (bank : Bank) where
       (table : Table) (a b : Start) (r : PoolRecord) (i : ℕ) (c : TreeClause) (made : BankClause) (e : Option Outcome)
       → IsStarted bank table a r → r.ended ≡ None → clause_at made ≡ c → c.names ≡ []
       → AreLiteralsOf bank made.literals → All (IsKnown table) made.literals
-      → b.register ≡ a.register ++ record { clause = made; line = length a.steps.items; position = None; death = None; is_active = false } ∷ []
-      → b.queue.pairs ≡ with_pair (length a.register, clause_size c) a.queue.pairs
+      → b.register.clauses ≡ a.register.clauses ++ record { clause = made; line = length a.steps.items; position = None; death = None; is_active = false } ∷ []
+      → b.queue.pairs ≡ with_pair (length a.register.clauses, clause_size c) a.queue.pairs
       → b.steps.items ≡ a.steps.items ++ Clausify i ∷ []
       → b.ended ≡ e → (e ≡ None → has_none c.literals ≡ false)
       → IsStarted bank table b (with_one r i c e)
@@ -273,16 +273,16 @@ module _ (bank : Bank) where
     start = ap (λ s. with_one (record s { registered = r.registered; lines = r.lines }) i c e) is.start;
     registered =
         ap (map registered_at) register
-        ∙ map-append registered_at a.register (s ∷ [])
+        ∙ map-append registered_at a.register.clauses (s ∷ [])
         ∙ ap₂ (λ xs (x : Registered). xs ++ x ∷ []) is.registered
         (ap₂ (λ (d : TreeClause) (k : ℕ). let x : Registered = record { clause = d; line = k } in x) same lines_long);
-    of_table = subst (All (IsOfTable bank table)) (sym register) (All-push (IsOfTable bank table) a.register s is.of_table (record { of_bank = of_bank; known = known }));
-    fresh = subst (All IsFresh) (sym register) (All-push IsFresh a.register s is.fresh (record { position = refl; death = refl; active = refl }));
+    of_table = subst (All (IsOfTable bank table)) (sym register) (All-push (IsOfTable bank table) a.register.clauses s is.of_table (record { of_bank = of_bank; known = known }));
+    fresh = subst (All IsFresh) (sym register) (All-push IsFresh a.register.clauses s is.fresh (record { position = refl; death = refl; active = refl }));
     no_names = All-push (λ (x : Registered). x.clause.names ≡ []) r.registered (record { clause = c; line = length r.lines }) is.no_names no_names;
     queue =
-        queue ∙ ap (with_pair (length a.register, clause_size c)) is.queue
-        ∙ with_pair-end 0 (clause_size c) r.registered (length a.register) (let k : length a.register ≡ length r.registered = many in omega (arith, k))
-        ∙ ap (λ k. sized 0 r.registered ++ (k, clause_size c) ∷ []) (let k : length a.register ≡ length r.registered = many in let z : length a.register ≡ 0 + length r.registered = omega (arith, k) in z)
+        queue ∙ ap (with_pair (length a.register.clauses, clause_size c)) is.queue
+        ∙ with_pair-end 0 (clause_size c) r.registered (length a.register.clauses) (let k : length a.register.clauses ≡ length r.registered = many in omega (arith, k))
+        ∙ ap (λ k. sized 0 r.registered ++ (k, clause_size c) ∷ []) (let k : length a.register.clauses ≡ length r.registered = many in let z : length a.register.clauses ≡ 0 + length r.registered = omega (arith, k) in z)
         ∙ sym (sized-end 0 r.registered (record { clause = c; line = length r.lines }));
     steps =
         steps ∙ ap (λ xs. xs ++ Clausify i ∷ []) is.steps
@@ -296,8 +296,8 @@ module _ (bank : Bank) where
       s : Registration
       s = record { clause = made; line = length a.steps.items; position = None; death = None; is_active = false }
 
-      many : length a.register ≡ length r.registered
-      many = sym (length-of a.register) ∙ ap length is.registered
+      many : length a.register.clauses ≡ length r.registered
+      many = sym (length-of a.register.clauses) ∙ ap length is.registered
 
       lines_long : length a.steps.items ≡ length r.lines
       lines_long = ap length is.steps ∙ steps-of r.lines
@@ -305,10 +305,10 @@ module _ (bank : Bank) where
   pub pushed-clause :
       (table : Table) (a b : Start) (r : PoolRecord) (i : ℕ) (c : TreeClause) (made : BankClause)
       → IsStarted bank table a r → r.ended ≡ None → clause_at made ≡ c → c.names ≡ []
-      → AreLiteralsOf bank made.literals → All (IsKnown table) made.literals → position (is_living_copy made) a.register ≡ None
+      → AreLiteralsOf bank made.literals → All (IsKnown table) made.literals → position (is_living_copy made) a.register.clauses ≡ None
       → has_none c.literals ≡ false
-      → b.register ≡ a.register ++ record { clause = made; line = length a.steps.items; position = None; death = None; is_active = false } ∷ []
-      → b.queue.pairs ≡ with_pair (length a.register, clause_size c) a.queue.pairs
+      → b.register.clauses ≡ a.register.clauses ++ record { clause = made; line = length a.steps.items; position = None; death = None; is_active = false } ∷ []
+      → b.queue.pairs ≡ with_pair (length a.register.clauses, clause_size c) a.queue.pairs
       → b.steps.items ≡ a.steps.items ++ Clausify i ∷ []
       → b.ended ≡ None
       → IsStarted bank table b (with_input i c r)
@@ -317,7 +317,7 @@ module _ (bank : Bank) where
       (sym (comes-as-clause i c r open_yet some_literal
       (has-living r c is.start
       ∙ ap (list_any (λ (x : Registered). clause_eq c x.clause)) (sym is.registered)
-      ∙ none-equal bank table made c a.register same no_names known is.of_table is.fresh (none-passes (is_living_copy made) a.register new))))
+      ∙ none-equal bank table made c a.register.clauses same no_names known is.of_table is.fresh (none-passes (is_living_copy made) a.register.clauses new))))
       (pushed table a b r i c made None is open_yet same no_names of_bank known register queue steps ended (λ none. some_literal))
 
   pub pushed-empty :
@@ -325,8 +325,8 @@ module _ (bank : Bank) where
       → IsStarted bank table a r → r.ended ≡ None → clause_at made ≡ c → c.names ≡ []
       → AreLiteralsOf bank made.literals → All (IsKnown table) made.literals
       → has_none c.literals ≡ true
-      → b.register ≡ a.register ++ record { clause = made; line = length a.steps.items; position = None; death = None; is_active = false } ∷ []
-      → b.queue.pairs ≡ with_pair (length a.register, clause_size c) a.queue.pairs
+      → b.register.clauses ≡ a.register.clauses ++ record { clause = made; line = length a.steps.items; position = None; death = None; is_active = false } ∷ []
+      → b.queue.pairs ≡ with_pair (length a.register.clauses, clause_size c) a.queue.pairs
       → b.steps.items ≡ a.steps.items ++ Clausify i ∷ []
       → b.ended ≡ Some Refuted
       → IsStarted bank table b (with_input i c r)
@@ -352,9 +352,9 @@ sized-numbers n (x ∷ xs) bound within =
 
 pub next-absent :
     (bank : Bank) (table : Table) (a : Start) (r : PoolRecord) (k : ℕ) (pairs : List (ℕ × ℕ))
-    → IsStarted bank table a r → k ≡ length a.register → pairs ≡ a.queue.pairs → Contains (map (λ (p : ℕ × ℕ). p.0) pairs) k → ⊥
+    → IsStarted bank table a r → k ≡ length a.register.clauses → pairs ≡ a.queue.pairs → Contains (map (λ (p : ℕ × ℕ). p.0) pairs) k → ⊥
 next-absent bank table a r k pairs is next same there =
-    let many : length a.register ≡ length r.registered = sym (length-of a.register) ∙ ap length is.registered in
+    let many : length a.register.clauses ≡ length r.registered = sym (length-of a.register.clauses) ∙ ap length is.registered in
     let all : All (λ m. m < k) (map (λ (p : ℕ × ℕ). p.0) pairs) =
     subst (λ ps. All (λ m. m < k) (map (λ (p : ℕ × ℕ). p.0) ps)) (sym (same ∙ is.queue)) (sized-numbers 0 r.registered k (omega (arith, many, next))) in
     let below : k < k = All-contains (λ m. m < k) (map (λ (p : ℕ × ℕ). p.0) pairs) k all there in

@@ -28,4 +28,5 @@ pub mod RegisterLiving
 pub mod Started
 pub mod View
 pub mod State
+pub mod Placing
 pub mod Examples

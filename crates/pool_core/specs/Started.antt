@@ -43,9 +43,9 @@ at_start r = record nothing_registered { registered = r.registered; lines = r.li
 
 pub record IsStarted (bank : Bank) (table : Table) (a : Start) (r : PoolRecord) : Type 0 where
   pub start : r ≡ at_start r
-  pub registered : map registered_at a.register ≡ r.registered
-  pub of_table : All (IsOfTable bank table) a.register
-  pub fresh : All IsFresh a.register
+  pub registered : map registered_at a.register.clauses ≡ r.registered
+  pub of_table : All (IsOfTable bank table) a.register.clauses
+  pub fresh : All IsFresh a.register.clauses
   pub no_names : All (λ (c : Registered). c.clause.names ≡ []) r.registered
   pub queue : a.queue.pairs ≡ sized 0 r.registered
   pub steps : a.steps.items ≡ map (λ (l : Line). l.step) r.lines

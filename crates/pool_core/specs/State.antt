@@ -1,12 +1,15 @@
 -- What a pool keeps: each field is what the replay of its history has.
-use Rattle.std.specs.Prelude.{◌≡◌, ℕ, ◌+◌, ◌≤◌, ◌%◌, ◌==◌, false, [], map, length, take, position, slice_get, None, Some, vec_len, vec_capacity, All}
+use Rattle.std.specs.Prelude.{◌≡◌, ℕ, ◌+◌, ◌<◌, ◌≤◌, ◌%◌, ◌==◌, true, false, [], map, length, take, position, slice_get, None, Some, vec_len, vec_capacity, All}
 use Rattle.fol_base.specs.Clause.{clause_size}
 use Rattle.fol_base.specs.Literal.{clause_of}
 use Rattle.kernel_steps.specs.Split.{has_number}
 use Rattle.kernel_steps.specs.declared.step.Line.{Line}
+use Rattle.term_bank.specs.declared.bank.Bank.{Bank}
+use Rattle.term_bank.specs.declared.table.Table.{Table}
 use Rattle.pool_core.specs.View.{PoolView}
 use Rattle.pool_core.specs.Events.{events_of}
-use Rattle.pool_core.specs.Record.{PoolRecord, Registered, GivenJob, clause_numbered}
+use Rattle.pool_core.specs.Record.{PoolRecord, Registered, Death, GivenJob, clause_numbered}
+use Rattle.pool_core.specs.Registering.{has_none}
 use Rattle.pool_core.specs.Claiming.{ready}
 use Rattle.pool_core.specs.Replay.{Origin, start, replay}
 use Rattle.pool_core.specs.News.{changes_from}
@@ -16,6 +19,7 @@ use Rattle.pool_core.specs.Inputs.{AreInputs, IsLimit, IsHistoryOf}
 use Rattle.pool_core.specs.Started.{registered_at, IsOfTable}
 use Rattle.pool_core.specs.declared.register.Registration.{Registration}
 use Rattle.pool_core.specs.declared.pool.OutJob.{OutJob}
+use Rattle.pool_core.specs.declared.pool.ProofState.{ProofState}
 use Rattle.pool_core.specs.declared.pool.Pool.TheInside.{Inside}
 
 abbrev pub origin_of : Inside → Origin
@@ -40,35 +44,53 @@ job_entry j = (j.job, record { number = j.number; left = j.left })
 abbrev pub pair_of : PoolRecord → ℕ → ℕ × ℕ
 pair_of r n = (n, clause_size (clause_numbered r n))
 
+-- ---- what the work of batches changes
+
+-- the numbers of which something is told are of registered clauses, and those whose jobs are out have a position
+pub record AreOfRegistered (r : PoolRecord) : Type 0 where
+  pub positions : All (λ n. n < length r.registered) r.positions
+  pub active : All (λ n. n < length r.registered) r.active
+  pub given : All (λ (j : GivenJob). j.number < length r.registered) r.given
+  pub placed : All (λ (j : GivenJob). has_number j.number r.positions ≡ true) r.given
+  pub victims : All (λ (d : Death). d.victim < length r.registered) r.deaths
+
+-- the fields are those of the record, whose table is this one of the bank
+pub record IsProofStateOf (bank : Bank) (table : Table) (s : ProofState) (r : PoolRecord) : Type 0 where
+  pub registered : map registered_at s.register.clauses ≡ r.registered
+  pub of_table : All (IsOfTable bank table) s.register.clauses
+  pub registrations : (n : ℕ) (z : Registration) → slice_get s.register.clauses n ≡ Some z → IsRegistration r n z
+  pub queue : s.queue.pairs ≡ map (pair_of r) (ready r)
+  pub steps : s.steps.items ≡ map (λ (l : Line). l.step) r.lines
+  pub ended : s.ended ≡ r.ended
+  pub of_registered : AreOfRegistered r
+  -- nothing is split
+  pub no_propositional : r.propositional ≡ []
+  pub no_names : All (λ (c : Registered). c.clause.names ≡ []) r.registered
+  -- the empty clause ends the pool
+  pub no_empty : r.ended ≡ None → All (λ (c : Registered). has_none c.clause.literals ≡ false) r.registered
+
 -- ---- the whole
 
 -- the fields are those of the record
 pub record IsStateOf (a : Inside) (r : PoolRecord) : Type 0 where
-  pub registered : map registered_at a.register ≡ r.registered
-  pub of_table : All (IsOfTable a.table.bank a.table) a.register
-  pub registrations : (n : ℕ) (s : Registration) → slice_get a.register n ≡ Some s → IsRegistration r n s
+  pub proof : IsProofStateOf a.table.bank a.table a.proof r
   pub positions : a.positions.items ≡ r.positions
-  pub queue : a.queue.pairs ≡ map (pair_of r) (ready r)
   pub jobs : a.jobs.entries ≡ map job_entry r.given
-  pub steps : a.steps.items ≡ map (λ (l : Line). l.step) r.lines
-  pub counted : a.counted ≡ r.counted
-  pub set_aside : a.set_aside ≡ r.set_aside
-  pub ended : a.ended ≡ r.ended
+  pub counted : a.counted.items ≡ r.counted
+  pub set_aside : a.set_aside.items ≡ r.set_aside
   pub last_job : a.last_job ≡ r.jobs
   pub place : a.place ≡ r.claims % 6
   -- nothing is split
-  pub no_propositional : r.propositional ≡ []
   pub no_solver : r.solver ≡ None
-  pub no_names : All (λ (c : Registered). c.clause.names ≡ []) r.registered
   -- there is room for what a job that is given up needs
-  pub queue_room : length r.given ≤ a.queue.spare
+  pub queue_room : length r.given ≤ a.proof.queue.spare
   pub history_room : vec_len a.history.events + length r.given ≤ vec_capacity a.history.events
   pub notes_room : vec_len a.notes_before + length r.given ≤ vec_capacity a.notes_before
 
 -- the activations and deaths of the history, with how many came before each event
 pub record HasNews (a : Inside) : Type 0 where
-  pub all : map (change_at a.register) a.notes.items ≡ changes_from a.options (start (origin_of a)) (events_of a.history)
-  pub noted : All (IsNoted (length a.register)) a.notes.items
+  pub all : map (change_at a.proof.register.clauses) a.proof.notes.items ≡ changes_from a.options (start (origin_of a)) (events_of a.history)
+  pub noted : All (IsNoted (length a.proof.register.clauses)) a.proof.notes.items
   pub count : length a.notes_before.items ≡ length (events_of a.history)
   pub before :
       (k n : ℕ) → slice_get a.notes_before.items k ≡ Some n

@@ -76,7 +76,7 @@ impl Pool {
         take_memory(
             &mut self.history,
             &mut self.positions,
-            &mut self.notes,
+            &mut self.proof.notes,
             &mut self.notes_before,
             &mut self.jobs,
             job,
@@ -85,12 +85,12 @@ impl Pool {
                 left: ticket.left,
             },
         )?;
-        self.queue.remove(number);
-        self.notes_before.push_reserved(self.notes.len());
+        self.proof.queue.remove(number);
+        self.notes_before.push_reserved(self.proof.notes.len());
         activate(
-            &mut self.register,
+            &mut self.proof.register,
             &mut self.positions,
-            &mut self.notes,
+            &mut self.proof.notes,
             number,
             ticket.position,
         );
@@ -107,7 +107,7 @@ impl Pool {
         ensures next { IfOk result (IsNextTicket self.now.origin self.now.history told number) }
         ensures of_bank { IfOk result (IsTicketOf self.now.bank) }
     {
-        let clause = self.register.get(number as usize).clause.copied()?;
+        let clause = self.proof.register.get(number as usize).clause.copied()?;
         let mut news = self.news(alloc, told as usize)?;
         let position = self.told_position(number, &mut news)?;
         let counted = self.counted.len() as u64;
@@ -130,7 +130,7 @@ impl Pool {
             (map change_of news.new ≡ map change_of news.old ++ first_told (replay self.now.origin self.now.history) number) }
         ensures of_bank { OnOk result (All (IsChangeOf self.now.bank) news.old → All (IsChangeOf self.now.bank) news.new) }
     {
-        let registration = self.register.get(number as usize);
+        let registration = self.proof.register.get(number as usize);
         match registration.position {
             Some(position) => Ok(position),
             None => {
@@ -149,8 +149,8 @@ impl Pool {
         ensures of_bank { IfOk result (All (IsChangeOf self.now.bank)) }
     {
         let mut news = News::new(alloc);
-        for at in self.note_count(told)..self.notes.len() {
-            news.push(change(&self.register, self.notes[at])?)?;
+        for at in self.note_count(told)..self.proof.notes.len() {
+            news.push(change(&self.proof.register, self.proof.notes[at])?)?;
         }
         Ok(news)
     }
@@ -162,7 +162,7 @@ impl Pool {
     {
         match self.notes_before.get(told) {
             Some(count) => *count,
-            None => self.notes.len(),
+            None => self.proof.notes.len(),
         }
     }
 
@@ -176,15 +176,15 @@ impl Pool {
         } else {
             Choice::Light
         };
-        self.queue.peek(choice)
+        self.proof.queue.peek(choice)
     }
 }
 
 /// What a note tells.
 fn change(register: &Register, note: Note) -> Mem<Change>
-    requires { IsNoted (length register.now) note }
-    ensures told { IfOk result (λ change. change_of change ≡ change_at register.now note) }
-    ensures of_bank { IfOk result (λ change. (bank : ℕ) → AreOfBank bank register.now → IsChangeOf bank change) }
+    requires { IsNoted (length register.now.clauses) note }
+    ensures told { IfOk result (λ change. change_of change ≡ change_at register.now.clauses note) }
+    ensures of_bank { IfOk result (λ change. (bank : ℕ) → AreOfBank bank register.now.clauses → IsChangeOf bank change) }
 {
     match note {
         Note::Activated(number) => {
@@ -237,11 +237,12 @@ fn activate(
     number: u32,
     position: u32,
 )
-    requires there { number < length register.old }
+    requires there { number < length register.old.clauses }
     requires positions_room { vec_len positions.old < vec_capacity positions.old }
     requires notes_room { vec_len notes.old < vec_capacity notes.old }
-    ensures register { (s : Registration) → slice_get register.old number ≡ Some s
-        → register.new ≡ (if position == length positions.old.items then slice_set register.old number (at_position position s) else register.old) }
+    ensures register { (s : Registration) → slice_get register.old.clauses number ≡ Some s
+        → register.new.clauses ≡ (if position == length positions.old.items then slice_set register.old.clauses number (at_position position s)
+        else register.old.clauses) }
     ensures positions { positions.new.items
         ≡ (if position == length positions.old.items then positions.old.items ++ number ∷ [] else positions.old.items) }
     ensures notes { notes.new.items

@@ -19,12 +19,12 @@ impl Pool {
         let Some(out) = self.jobs.remove(&job) else {
             unreachable!();
         };
-        self.notes_before.push_reserved(self.notes.len());
+        self.notes_before.push_reserved(self.proof.notes.len());
         self.history.push(&Event::Abandon(job));
-        let registration = self.register.get(out.number as usize);
+        let registration = self.proof.register.get(out.number as usize);
         if registration.death.is_none() {
             let size = registration.clause.size();
-            self.queue.push(out.number, size).unwrap();
+            self.proof.queue.push(out.number, size).unwrap();
         }
     }
 }

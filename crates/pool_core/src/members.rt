@@ -20,8 +20,8 @@ impl Pool {
         ensures of_bank { IfOk result (AreMembersOf self.now.bank) }
     {
         let mut members = Members::new(alloc);
-        for number in 0..self.register.len() {
-            let registration = self.register.get(number);
+        for number in 0..self.proof.register.len() {
+            let registration = self.proof.register.get(number);
             // All living clauses are awake, since none has assertions.
             if registration.death.is_none() {
                 members.push(Member {
@@ -37,6 +37,6 @@ impl Pool {
     pub fn derivation(&self) -> &[Step]
         ensures { result.now ≡ map (λ (l : Line). l.step) (replay self.now.origin self.now.history).lines }
     {
-        self.steps.as_slice()
+        self.proof.steps.as_slice()
     }
 }

@@ -44,6 +44,20 @@ pub enum Note {
     Died(u32),
 }
 
+/// What the work of a batch changes of a pool, beside the count.
+#[derive(Drop)]
+pub struct ProofState {
+    pub(crate) register: Register,
+    /// The clauses that wait and are awake, with their sizes. It has room for those whose jobs are out.
+    pub(crate) queue: Queue,
+    /// All activations and deaths.
+    pub(crate) notes: Vec<Note>,
+    /// The steps of the lines.
+    pub(crate) steps: Vec<Step>,
+    /// Refuted or spent.
+    pub(crate) ended: Option<Outcome>,
+}
+
 /// A pool of clauses. Contracts see which bank it is of, what it began with, and its history, the list of its events. What it answers is told by
 /// the replay of these.
 #[derive(Drop)]
@@ -51,24 +65,17 @@ pub struct Pool {
     pub(crate) inputs: Snapshot<Clauses>,
     pub(crate) options: Options,
     pub(crate) table: Table,
-    pub(crate) register: Register,
+    pub(crate) proof: ProofState,
     /// The activated clauses, by their positions.
     pub(crate) positions: Vec<u32>,
-    /// The clauses that wait and are awake, with their sizes. It has room for those whose jobs are out.
-    pub(crate) queue: Queue,
     /// The jobs on given clauses that are out, by their numbers.
     pub(crate) jobs: BTreeMap<u64, OutJob>,
     /// It has room for an event of each job that is out.
     pub(crate) history: History,
-    /// All activations and deaths, and for each event how many came before it.
-    pub(crate) notes: Vec<Note>,
+    /// For each event how many activations and deaths came before it. It has the room that the history has.
     pub(crate) notes_before: Vec<usize>,
-    /// The steps of the lines.
-    pub(crate) steps: Vec<Step>,
-    pub(crate) counted: Keys,
-    pub(crate) set_aside: Keys,
-    /// Refuted or spent.
-    pub(crate) ended: Option<Outcome>,
+    pub(crate) counted: Vec<Key>,
+    pub(crate) set_aside: Vec<Key>,
     pub(crate) last_job: u64,
     /// The place of the next given claim among six.
     pub(crate) place: u64,
@@ -120,17 +127,19 @@ impl Pool {
             inputs: Snapshot::of(inputs),
             options,
             table,
-            register,
+            proof: ProofState {
+                register,
+                queue,
+                notes: Vec::new(alloc),
+                steps,
+                ended,
+            },
             positions: Vec::new(alloc),
-            queue,
             jobs: BTreeMap::new(alloc),
             history: History::new(alloc),
-            notes: Vec::new(alloc),
             notes_before: Vec::new(alloc),
-            steps,
-            counted: Keys::new(alloc),
-            set_aside: Keys::new(alloc),
-            ended,
+            counted: Vec::new(alloc),
+            set_aside: Vec::new(alloc),
             last_job: 0,
             place: 0,
         })
@@ -155,17 +164,17 @@ impl Pool {
         requires { place < length (replay self.now.origin self.now.history).set_aside }
         ensures { slice_get (replay self.now.origin self.now.history).set_aside place ≡ Some result.now }
     {
-        &self.set_aside.as_slice()[place as usize]
+        &self.set_aside[place as usize]
     }
 
     /// How the pool ends, or None while there is something to do.
     pub fn outcome(&self) -> Option<Outcome>
         ensures { result ≡ outcome_of (replay self.now.origin self.now.history) }
     {
-        if self.ended.is_some() {
-            return self.ended;
+        if self.proof.ended.is_some() {
+            return self.proof.ended;
         }
-        if !self.queue.is_empty() || !self.jobs.is_empty() {
+        if !self.proof.queue.is_empty() || !self.jobs.is_empty() {
             return None;
         }
         match self.heavy_place() {
@@ -201,7 +210,7 @@ impl Pool {
         ensures { let r = replay self.now.origin self.now.history in result ≡ (lives r number && is_awake r number) }
     {
         let number = number as usize;
-        number < self.register.len() && self.register.get(number).death.is_none()
+        number < self.proof.register.len() && self.proof.register.get(number).death.is_none()
     }
 
     /// The events so far. They are lawful, and the pool began with inputs and options as it may.

@@ -1,12 +1,13 @@
 // The registered clauses of a pool: by number, and the living ones by what they say.
 
-ghost use Rattle.std.specs.Prelude.{◌≡◌, ◌<◌, ◌≤◌, ◌^◌, ◌++◌, [], ◌∷◌, None, Some, false, length, position, slice_get, slice_set, IfSome, OnOk, OnErr};
-ghost use Rattle.pool_core.specs.Register.{is_living_copy, at_position};
+ghost use Rattle.std.specs.Prelude.{◌≡◌, ℕ, ◌+◌, ◌<◌, ◌≤◌, ◌^◌, ◌++◌, [], ◌∷◌, None, Some, false, is_none, true, length, position, slice_get, slice_set, IfSome, OnOk};
+ghost use Rattle.pool_core.specs.Register.{is_living_copy, death_at, is_living_at, at_position, dead_in, made_active};
 ghost use Rattle.pool_core.specs.declared.register.Registration.{Registration};
 
 use bank_clause::BankClause;
 use indexmap::IndexMap;
-use plain_types::Mem;
+use kernel_steps::CLAUSE_NUMBERS;
+use plain_types::{Mem, NoMemory};
 use std::alloc::Global;
 use std::marker::Model;
 
@@ -24,7 +25,7 @@ pub struct Registration {
     pub is_active: bool,
 }
 
-/// The registered clauses, in the order of their numbers.
+/// The registered clauses, in the order of their numbers. Contracts see also how many more can be registered without memory.
 #[derive(Drop)]
 pub struct Register {
     registrations: Vec<Registration>,
@@ -33,17 +34,15 @@ pub struct Register {
 }
 
 impl Model for Register {
-    ghost use Rattle.std.specs.Prelude.{List};
-    ghost use Rattle.pool_core.specs.declared.register.Registration.{Registration};
-    ghost use Rattle.pool_core.specs.RegisterCode.{registrations_code};
+    ghost use Rattle.pool_core.specs.RegisterCode.{Registrations, registrations_code};
 
-    ghost Value = { List Registration };
+    ghost Value = { Registrations };
 
     ghost coded = { registrations_code };
 
-    ghost use Rattle.pool_core.specs.RegisterLiving.{IsRegister};
+    ghost use Rattle.pool_core.specs.RegisterLiving.{registrations_of, IsRegister};
 
-    ghost view = { λ a. a.registrations.items };
+    ghost view = { registrations_of };
 
     ghost invariant = { λ a. IsRegister a.living a.registrations.items };
 }
@@ -51,7 +50,7 @@ impl Model for Register {
 impl Register {
     /// No clauses.
     pub(crate) fn new(alloc: Global) -> Register
-        ensures { result ≡ [] }
+        ensures { result.clauses ≡ [] }
     {
         Register {
             registrations: Vec::new(alloc),
@@ -61,39 +60,71 @@ impl Register {
 
     /// How many clauses were registered.
     pub(crate) fn len(&self) -> usize
-        ensures len { result ≡ length self.now }
-        ensures few { result ≤ 2 ^ 32 }
+        ensures len { result ≡ length self.now.clauses }
+        ensures few { result + self.now.spare ≤ 2 ^ 32 }
     {
         self.registrations.len()
     }
 
     /// The number of the living clause that is equal to this one by the numbers of its terms.
     pub(crate) fn find(&self, clause: &BankClause) -> Option<u32>
-        ensures found { result ≡ position (is_living_copy clause.now) self.now }
-        ensures within { IfSome result (λ number. number < length self.now) }
+        ensures found { result ≡ position (is_living_copy clause.now) self.now.clauses }
+        ensures within { IfSome result (λ number. number < length self.now.clauses) }
     {
         self.living.get(clause).copied()
     }
 
     /// The registered clause of a number.
     pub(crate) fn get(&self, number: usize) -> &Registration
-        requires { number < length self.now }
-        ensures { slice_get self.now number ≡ Some result.now }
+        requires { number < length self.now.clauses }
+        ensures { slice_get self.now.clauses number ≡ Some result.now }
     {
         &self.registrations[number]
     }
 
-    /// Registers a clause of which no living one is a copy. After want of memory the register is as before.
-    pub(crate) fn push(&mut self, clause: BankClause, line: u64) -> Mem<()>
-        requires few { length self.old < 2 ^ 32 }
-        requires new { position (is_living_copy clause) self.old ≡ None }
-        ensures pushed { OnOk result (self.new ≡ self.old ++
-            record { clause = clause; line = line; position = None; death = None; is_active = false } ∷ []) }
-        ensures unchanged { OnErr result (self.new ≡ self.old) }
+    /// The place of the event in which the clause of a number died, if there is such a clause and it died.
+    pub(crate) fn death(&self, number: u64) -> Option<u64>
+        ensures { result ≡ death_at self.now.clauses number }
+    {
+        if number < self.len() as u64 {
+            self.get(number as usize).death
+        } else {
+            None
+        }
+    }
+
+    /// Whether there is a clause of that number, and it lives.
+    pub(crate) fn is_living(&self, number: u64) -> bool
+        ensures { result ≡ is_living_at self.now.clauses number }
+    {
+        number < self.len() as u64 && self.death(number).is_none()
+    }
+
+    /// Makes room for so many more clauses, and leaves the clauses as they are. Past 2^32 clauses there are no numbers for more.
+    pub(crate) fn reserve(&mut self, more: usize) -> Mem<()>
+        ensures clauses { self.new.clauses ≡ self.old.clauses }
+        ensures kept { self.old.spare ≤ self.new.spare }
+        ensures room { OnOk result (more ≤ self.new.spare) }
+    {
+        if more > CLAUSE_NUMBERS as usize - self.registrations.len() {
+            return Err(NoMemory);
+        }
+        self.registrations.reserve(more)?;
+        self.living.reserve(more)?;
+        Ok(())
+    }
+
+    /// Registers a clause of which no living one is a copy. The key is equal to it, and there is room.
+    pub(crate) fn push(&mut self, clause: BankClause, key: BankClause, line: u64)
+        requires room { 0 < self.old.spare }
+        requires key { key ≡ clause }
+        requires new { position (is_living_copy clause) self.old.clauses ≡ None }
+        ensures pushed { self.new.clauses ≡ self.old.clauses ++
+            record { clause = clause; line = line; position = None; death = None; is_active = false } ∷ [] }
+        ensures room { self.old.spare ≤ self.new.spare + 1 }
     {
         let number = self.registrations.len() as u32;
-        self.registrations.reserve(1)?;
-        self.living.insert(clause.copied()?, number)?;
+        self.living.insert(key, number).unwrap();
         self.registrations.push_reserved(Registration {
             clause,
             line,
@@ -101,15 +132,36 @@ impl Register {
             death: None,
             is_active: false,
         });
-        Ok(())
     }
 
     /// Notes the position of a clause.
     pub(crate) fn set_position(&mut self, number: usize, position: u32)
-        requires { number < length self.old }
-        ensures { (s : Registration) → slice_get self.old number ≡ Some s
-            → self.new ≡ slice_set self.old number (at_position position s) }
+        requires { number < length self.old.clauses }
+        ensures clauses { (s : Registration) → slice_get self.old.clauses number ≡ Some s
+            → self.new.clauses ≡ slice_set self.old.clauses number (at_position position s) }
+        ensures room { self.new.spare ≡ self.old.spare }
     {
         self.registrations[number].position = Some(position);
+    }
+
+    /// Notes that the job on a clause is done.
+    pub(crate) fn set_active(&mut self, number: usize)
+        requires { number < length self.old.clauses }
+        ensures clauses { (s : Registration) → slice_get self.old.clauses number ≡ Some s
+            → self.new.clauses ≡ slice_set self.old.clauses number (made_active s) }
+        ensures room { self.new.spare ≡ self.old.spare }
+    {
+        self.registrations[number].is_active = true;
+    }
+
+    /// Notes the event in which a living clause died. It isn't found any more.
+    pub(crate) fn bury(&mut self, number: usize, event: u64)
+        requires living { (s : Registration) × (slice_get self.old.clauses number ≡ Some s) × (is_none s.death ≡ true) }
+        ensures clauses { (s : Registration) → slice_get self.old.clauses number ≡ Some s
+            → self.new.clauses ≡ slice_set self.old.clauses number (dead_in event s) }
+        ensures room { self.old.spare ≤ self.new.spare }
+    {
+        self.living.swap_remove(&self.registrations[number].clause);
+        self.registrations[number].death = Some(event);
     }
 }

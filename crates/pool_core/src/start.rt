@@ -1,6 +1,6 @@
 // How a pool begins: the inputs are registered in order.
 
-ghost use Rattle.std.specs.Prelude.{◌≡◌, ◌+◌, ◌<◌, ◌≤◌, ◌^◌, [], false, map, length, OnOk, IfOk};
+ghost use Rattle.std.specs.Prelude.{◌≡◌, ◌≤◌, [], false, map, OnOk, IfOk};
 ghost use Rattle.fol_base.specs.Clause.{clause_size};
 ghost use Rattle.fol_base.specs.Canonical.{IsCanonical};
 ghost use Rattle.fol_base.specs.Literal.{clause_of};
@@ -74,12 +74,10 @@ impl Start {
         requires canonical { IsCanonical (clause_of clause.now) }
         requires names { clause.now.names ≡ [] }
         requires small { clause_size (clause_of clause.now) ≤ MOST_SYMBOLS }
-        requires few { length self.old.register < 2 ^ 32 }
         requires start { IsSomeStart bank.now table.old self.old }
         ensures table { OnOk result (IsTableOf bank.now table.new) }
         ensures added { OnOk result ((r : PoolRecord) → IsStarted bank.now table.old self.old r
             → IsStarted bank.now table.new self.new (with_input number (clause_of clause.now) r)) }
-        ensures len { OnOk result (length self.new.register ≤ length self.old.register + 1) }
     {
         if self.ended.is_some() {
             return Ok(());
@@ -89,13 +87,14 @@ impl Start {
             made.agree(bank, &self.register.get(copy as usize).clause);
             return Ok(());
         }
+        self.register.reserve(1)?;
         self.steps.reserve(1)?;
-        self.queue.reserve(1)?;
         let size = made.size();
         let place = self.register.len() as u32;
         let is_empty = made.literals().is_empty();
-        self.register.push(made, self.steps.len() as u64)?;
+        let key = made.copied()?;
         self.queue.push(place, size)?;
+        self.register.push(made, key, self.steps.len() as u64);
         self.steps.push_reserved(Step::Clausify(number));
         if is_empty {
             self.ended = Some(Outcome::Refuted);

@@ -1,4 +1,4 @@
-use Rattle.std.proofs.Common.{◌≡◌, ◌≤◌, [], map, take, sym, subst, arith}
+use Rattle.std.proofs.Common.{◌≡◌, ◌≤◌, [], map, take, sym, subst}
 use Rattle.std.specs.Prelude.{false}
 use Rattle.fol_base.specs.Canonical.{IsCanonical}
 use Rattle.fol_base.specs.Clause.{TreeClause, clause_size}
@@ -33,5 +33,4 @@ loop-number-preserved g c = record {
       (sym (inputs-more c.args.inputs.now c.loop-number.number c.index-inputs-number.result c.loop-number-test.true c.index-inputs-number.is))
       (c.in_ok-add.ensures.added (with_inputs false 0 (map clause_of (take c.loop-number.number c.args.inputs.now)) nothing_registered)
       c.loop-number.invariant.started);
-  few = omega (arith, c.in_ok-add.ensures.len, c.loop-number.invariant.few);
 }

@@ -1,4 +1,4 @@
-use Rattle.std.proofs.Common.{◌≤◌, map, length, take}
+use Rattle.std.proofs.Common.{map, take}
 use Rattle.std.specs.Prelude.{false}
 use Rattle.fol_base.specs.Literal.{clause_of}
 use Rattle.term_bank.specs.Table.{IsTableOf}
@@ -11,5 +11,4 @@ abbrev pub invariant-loop-number : goal.invariant-loop-number
 invariant-loop-number g l = record {
   table : IsTableOf l.bank l.table;
   started : IsStarted l.bank l.table l.start (with_inputs false 0 (map clause_of (take l.number l.inputs)) nothing_registered);
-  few : length l.start.register ≤ l.number;
 }

@@ -48,7 +48,7 @@ pub invariant_of-self : goal.invariant_of-self
 invariant_of-self c =
     let out : IsOutBy c.self.inside c.args.job =
     out-by c.self.inside c.args.job c.self.invariant (subst (λ (v : PoolView). IsOut (replay v.origin v.history) c.args.job) (sym c.self.view_is) c.requires) in
-    let many : c.len.result ≡ length c.self.inside.notes.items = omega (arith, c.self.inside.notes.ok.0) in
+    let many : c.len.result ≡ length c.self.inside.proof.notes.items = omega (arith, c.self.inside.proof.notes.ok.0) in
     given-up-living c.self.inside _ c.args.job c.in-Some.out.number c.size-size.result c.get-registration.result.now out c.self.invariant
     (record {
       origin = refl;
@@ -81,7 +81,7 @@ pub invariant_of-self-else-is_none : goal.invariant_of-self-else-is_none
 invariant_of-self-else-is_none c =
     let out : IsOutBy c.self.inside c.args.job =
     out-by c.self.inside c.args.job c.self.invariant (subst (λ (v : PoolView). IsOut (replay v.origin v.history) c.args.job) (sym c.self.view_is) c.requires) in
-    let many : c.len.result ≡ length c.self.inside.notes.items = omega (arith, c.self.inside.notes.ok.0) in
+    let many : c.len.result ≡ length c.self.inside.proof.notes.items = omega (arith, c.self.inside.proof.notes.ok.0) in
     given-up-dead c.self.inside _ c.args.job c.in-Some.out.number c.get-registration.result.now out c.self.invariant
     (record {
       origin = refl;

@@ -52,8 +52,8 @@ invariant_of-self-2 c =
     let open_yet : r.ended ≡ None = ap (λ (v : PoolView). (replay v.origin v.history).ended) c.self.view_is ∙ c.requires.open in
     let is : IsNextTicket (origin_of c.self.inside) (events_of c.self.inside.history) c.args.told c.args.number c.in_ok-ticket.ticket =
     subst (λ (v : PoolView). IsNextTicket v.origin v.history c.args.told c.args.number c.in_ok-ticket.ticket) (sym c.self.view_is) c.in_ok-ticket.ensures.next in
-    let there = item-at c.self.inside.register c.args.number (given-registered c.self.inside c.args.number c.self.invariant next) in
-    let many : c.len.result ≡ length c.self.inside.notes.items = omega (arith, c.take_memory.new.notes.ok.0, ap length c.take_memory.ensures.notes) in
+    let there = item-at c.self.inside.proof.register.clauses c.args.number (given-registered c.self.inside c.args.number c.self.invariant next) in
+    let many : c.len.result ≡ length c.self.inside.proof.notes.items = omega (arith, c.take_memory.new.notes.ok.0, ap length c.take_memory.ensures.notes) in
     claimed-pool c.self.inside _ c.args.number c.in_ok-ticket.ticket.job c.in_ok-ticket.ticket.left c.in_ok-ticket.ticket.position there.0
     c.self.invariant open_yet (nothing-to-solve c.self.inside r c.self.invariant.state) next there.1 is.job is.left is.position
     (activated-by c.self.inside _ c.args.number c.in_ok-ticket.ticket.position there.0 c.take_memory.new.positions.items c.take_memory.new.notes.items
@@ -64,7 +64,7 @@ invariant_of-self-2 c =
       table = refl;
       queue = c.remove.ensures.pairs;
       spare =
-          one-spare c.remove.result c.self.inside.queue.spare c.remove.new.self.spare
+          one-spare c.remove.result c.self.inside.proof.queue.spare c.remove.new.self.spare
           (c.remove.ensures.found.1 (in-queue c.self.inside r c.args.number c.self.invariant.state next)) c.remove.ensures.spare;
       jobs = c.in_ok-take_memory.ensures.jobs;
       history = c.push.ensures.events ∙ ap (λ (es : List Event). es ++ Claim c.in_ok-ticket.ticket.job ∷ []) c.take_memory.ensures.events;

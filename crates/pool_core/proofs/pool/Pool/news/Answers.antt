@@ -16,14 +16,14 @@ use Rattle.pool_core.proofs.pool.Pool.news.Goals as goal
 
 pub change-requires : goal.change-requires
 change-requires c =
-    let below : c.loop-at.at < length c.self.inside.notes.items = omega (arith, c.self.inside.notes.ok.0) in
-    all-at (IsNoted (length c.self.inside.register)) c.self.inside.notes.items c.loop-at.at c.index.result.now c.self.invariant.news.noted
-    (slice_get_read c.self.inside.notes.items (length c.self.inside.notes.items) c.loop-at.at c.index.result.now refl below c.index.ensures)
+    let below : c.loop-at.at < length c.self.inside.proof.notes.items = omega (arith, c.self.inside.proof.notes.ok.0) in
+    all-at (IsNoted (length c.self.inside.proof.register.clauses)) c.self.inside.proof.notes.items c.loop-at.at c.index.result.now c.self.invariant.news.noted
+    (slice_get_read c.self.inside.proof.notes.items (length c.self.inside.proof.notes.items) c.loop-at.at c.index.result.now refl below c.index.ensures)
 
 pub loop-at-init : goal.loop-at-init
 loop-at-init c =
-    let f : Note → TreeChange = change_at c.self.inside.register in
-    let front : List Note = take c.note_count-at.result c.self.inside.notes.items in
+    let f : Note → TreeChange = change_at c.self.inside.proof.register.clauses in
+    let front : List Note = take c.note_count-at.result c.self.inside.proof.notes.items in
     record {
       told = ap (λ (cs : List Change). map f front ++ map change_of cs) c.new-news.ensures ∙ append-nil (map f front);
       of_bank = subst (All (IsChangeOf c.args.self.now.bank)) (sym c.new-news.ensures) (All-nil (IsChangeOf c.args.self.now.bank));
@@ -31,12 +31,12 @@ loop-at-init c =
 
 pub loop-at-preserved : goal.loop-at-preserved
 loop-at-preserved c =
-    let f : Note → TreeChange = change_at c.self.inside.register in
-    let front : List Note = take c.note_count-at.result c.self.inside.notes.items in
-    let notes : List Note = c.self.inside.notes.items in
-    let below : c.loop-at.at < length notes = omega (arith, c.self.inside.notes.ok.0) in
-    let all : AreOfBank c.args.self.now.bank c.self.inside.register =
-    subst (λ (v : PoolView). AreOfBank v.bank c.self.inside.register) c.self.view_is (all-of-bank c.self.inside (record_of c.self.inside) c.self.invariant.state) in
+    let f : Note → TreeChange = change_at c.self.inside.proof.register.clauses in
+    let front : List Note = take c.note_count-at.result c.self.inside.proof.notes.items in
+    let notes : List Note = c.self.inside.proof.notes.items in
+    let below : c.loop-at.at < length notes = omega (arith, c.self.inside.proof.notes.ok.0) in
+    let all : AreOfBank c.args.self.now.bank c.self.inside.proof.register.clauses =
+    subst (λ (v : PoolView). AreOfBank v.bank c.self.inside.proof.register.clauses) c.self.view_is (all-of-bank c.self.inside (record_of c.self.inside) c.self.invariant.state) in
     record {
       told =
           ap (λ (cs : List Change). map f front ++ map change_of cs) c.in_ok-push.ensures.ok
@@ -54,7 +54,7 @@ loop-at-preserved c =
 
 pub returns-clause-told : goal.returns-clause-told
 returns-clause-told c =
-    let whole : length c.self.inside.notes.items ≤ c.loop-at.at = omega (arith, c.self.inside.notes.ok.0) in
+    let whole : length c.self.inside.proof.notes.items ≤ c.loop-at.at = omega (arith, c.self.inside.proof.notes.ok.0) in
     news-told c.self.inside c.args.told c.note_count-at.result c.loop-at.at c.loop-at.news c.self.invariant
     (c.note_count-at.ensures ∙ ap (λ (v : PoolView). length (changes_from v.origin.options (start v.origin) (take c.args.told v.history))) (sym c.self.view_is))
     c.loop-at.invariant.told whole

@@ -19,7 +19,7 @@ returns-clause-next c =
       | then-self w ↦ w.choice-is ∙ old-choice r c.self.inside.place c.self.invariant.state.place w.if-self.true
       | else-self w ↦ w.choice-is ∙ light-choice r c.self.inside.place c.self.invariant.state.place w.if-self.false
     ] in
-    peek-is-given r c.self.inside.queue.pairs c.if-self.choice c.peek.result c.self.invariant.state.queue choice
+    peek-is-given r c.self.inside.proof.queue.pairs c.if-self.choice c.peek.result c.self.invariant.state.proof.queue choice
     c.peek.ensures.picked c.peek.ensures.none
     ∙ ap (λ (v : PoolView). next_given (replay v.origin v.history)) c.self.view_is
 

@@ -20,6 +20,6 @@ returns-in-Some c =
 pub returns-in-None : goal.returns-in-None
 returns-in-None c =
     let past : length c.deref.result.now ≤ c.args.told = ltb-false c.args.told (length c.deref.result.now) (sym (c.in-None.ensures.lookup).0) in
-    let all : c.len.result ≡ length c.self.inside.notes.items = omega (arith, c.self.inside.notes.ok.0) in
+    let all : c.len.result ≡ length c.self.inside.proof.notes.items = omega (arith, c.self.inside.proof.notes.ok.0) in
     count-all c.self.inside c.args.told c.len.result c.self.invariant (omega (arith, past, ap length c.deref.ensures.value)) all
     ∙ ap (λ (v : PoolView). length (changes_from v.origin.options (start v.origin) (take c.args.told v.history))) c.self.view_is

@@ -1,0 +1,139 @@
+// The part of a pool that the work of a batch changes: clauses come and die. What is done here takes no memory, since there is room.
+
+ghost use Rattle.std.specs.Prelude.{◌≡◌, ℕ, suc, ◌<◌, ◌≤◌, ◌++◌, [], ◌∷◌, List, false, length, OnOk};
+ghost use Rattle.clause_queue.specs.Pairs.{without};
+ghost use Rattle.kernel_steps.specs.declared.step.Line.{Line};
+ghost use Rattle.term_bank.specs.declared.bank.Bank.{Bank};
+ghost use Rattle.term_bank.specs.declared.table.Table.{Table};
+ghost use Rattle.pool_core.specs.Counting.{result_comes};
+ghost use Rattle.pool_core.specs.Placing.{IsInterned, IsArrival, IsLiving, HasRoom, line_count, with_queue, comes_if, spent_if};
+ghost use Rattle.pool_core.specs.Record.{PoolRecord};
+ghost use Rattle.pool_core.specs.Returning.{dies, becomes_active};
+ghost use Rattle.pool_core.specs.State.{IsProofStateOf};
+ghost use Rattle.pool_core.specs.declared.pool.Note.TheVariants.{Died};
+
+use crate::interning::Interned;
+use crate::outcome::Outcome;
+use crate::placing::place_steps;
+use crate::pool::{Note, ProofState};
+use kernel_steps::Derivation;
+use plain_types::{Mem, NoMemory};
+use term_bank::Bank;
+
+impl ProofState {
+    /// Makes room for so many more clauses that come by so many lines, for so many deaths, and for the clauses of so many jobs that are out. After
+    /// want of memory there may be some of that room.
+    pub(crate) fn reserve(
+        &mut self,
+        clauses: usize,
+        lines: usize,
+        deaths: usize,
+        out: usize,
+    ) -> Mem<()>
+        ensures clauses { self.new.register.clauses ≡ self.old.register.clauses }
+        ensures pairs { self.new.queue.pairs ≡ self.old.queue.pairs }
+        ensures kept { self.old.queue.spare ≤ self.new.queue.spare }
+        ensures notes { self.new.notes.items ≡ self.old.notes.items }
+        ensures steps { self.new.steps.items ≡ self.old.steps.items }
+        ensures ended { self.new.ended ≡ self.old.ended }
+        ensures room { OnOk result ((lss : List (List Line)) → length lss ≤ clauses → line_count lss ≤ lines → HasRoom self.new lss deaths out) }
+    {
+        let Ok(waiting) = u32::try_from(clauses.saturating_add(out)) else {
+            return Err(NoMemory);
+        };
+        self.register.reserve(clauses)?;
+        self.queue.reserve(waiting)?;
+        self.steps.reserve(lines)?;
+        self.notes.reserve(deaths)?;
+        Ok(())
+    }
+
+    /// The result of a batch's lines comes by them, unless the pool is refuted or spent. A result that lives already changes nothing; the empty
+    /// clause refutes.
+    pub(crate) fn arrive(&mut self, bank: &Bank, lines: Derivation, interned: Interned)
+        requires arrival { IsArrival bank.now self.old lines interned }
+        requires room { HasRoom self.old (lines ∷ []) 0 0 }
+        ensures arrived { (table : Table) (r : PoolRecord) → IsInterned bank.now table lines interned
+            → IsProofStateOf bank.now table self.old r → IsProofStateOf bank.now table self.new (result_comes false r lines) }
+        ensures room { (lss : List (List Line)) (deaths out : ℕ) → HasRoom self.old (lines ∷ lss) deaths out → HasRoom self.new lss deaths out }
+        ensures notes { self.new.notes.items ≡ self.old.notes.items }
+    {
+        if self.ended.is_some() {
+            return;
+        }
+        let Interned { clause, key } = interned;
+        if let Some(copy) = self.register.find(&clause) {
+            clause.agree(bank, &self.register.get(copy as usize).clause);
+            return;
+        }
+        let number = self.register.len() as u32;
+        let size = clause.size();
+        let is_empty = clause.literals().is_empty();
+        place_steps(&mut self.steps, &self.register, lines);
+        self.register.push(clause, key, self.steps.len() as u64 - 1);
+        self.queue.push(number, size).unwrap();
+        if is_empty {
+            self.ended = Some(Outcome::Refuted);
+        }
+    }
+
+    /// A result that was counted comes. Where the count has reached the limit only the empty clause does.
+    pub(crate) fn arrive_counted(
+        &mut self,
+        bank: &Bank,
+        is_spent: bool,
+        lines: Derivation,
+        interned: Interned,
+    )
+        requires arrival { IsArrival bank.now self.old lines interned }
+        requires room { HasRoom self.old (lines ∷ []) 0 0 }
+        ensures arrived { (table : Table) (r : PoolRecord) → IsInterned bank.now table lines interned
+            → IsProofStateOf bank.now table self.old r → IsProofStateOf bank.now table self.new (comes_if is_spent r lines) }
+        ensures room { (lss : List (List Line)) (deaths out : ℕ) → HasRoom self.old (lines ∷ lss) deaths out → HasRoom self.new lss deaths out }
+        ensures notes { self.new.notes.items ≡ self.old.notes.items }
+    {
+        if !is_spent || interned.clause.literals().is_empty() {
+            self.arrive(bank, lines, interned);
+        }
+    }
+
+    /// The pool is spent where the count has reached the limit, unless it was refuted.
+    pub(crate) fn spend(&mut self, is_spent: bool, count: u64)
+        ensures spent { (bank : Bank) (table : Table) (r : PoolRecord) → count ≡ length r.counted
+            → IsProofStateOf bank table self.old r → IsProofStateOf bank table self.new (spent_if is_spent r) }
+        ensures room { (lss : List (List Line)) (deaths out : ℕ) → HasRoom self.old lss deaths out → HasRoom self.new lss deaths out }
+        ensures notes { self.new.notes.items ≡ self.old.notes.items }
+    {
+        if is_spent && self.ended.is_none() {
+            self.ended = Some(Outcome::Spent(count));
+        }
+    }
+
+    /// A living clause dies in the event of that place.
+    pub(crate) fn die(&mut self, number: u32, event: u64)
+        requires living { IsLiving self.old.register.clauses number }
+        requires room { HasRoom self.old [] 1 0 }
+        ensures died { (bank : Bank) (table : Table) (r : PoolRecord) (justifiers : List ℕ) (pairs : List (ℕ × ℕ)) → event ≡ r.events
+            → without number self.old.queue.pairs ≡ without number pairs → IsProofStateOf bank table (with_queue pairs self.old) r
+            → IsProofStateOf bank table self.new (dies number justifiers r) }
+        ensures ended { self.new.ended ≡ self.old.ended }
+        ensures room { (lss : List (List Line)) (deaths out : ℕ) → HasRoom self.old lss (suc deaths) out → HasRoom self.new lss deaths out }
+        ensures notes { self.new.notes.items ≡ self.old.notes.items ++ Died number ∷ [] }
+    {
+        self.register.bury(number as usize, event);
+        self.queue.remove(number);
+        self.notes.push_reserved(Note::Died(number));
+    }
+
+    /// The job on a clause is done, and the clause stays. It isn't in the queue.
+    pub(crate) fn finish(&mut self, number: u32)
+        requires there { number < length self.old.register.clauses }
+        ensures finished { (bank : Bank) (table : Table) (r : PoolRecord) (pairs : List (ℕ × ℕ)) → self.old.queue.pairs ≡ without number pairs
+            → IsProofStateOf bank table (with_queue pairs self.old) r → IsProofStateOf bank table self.new (becomes_active number r) }
+        ensures room { (lss : List (List Line)) (deaths out : ℕ) → HasRoom self.old lss deaths out → HasRoom self.new lss deaths out }
+        ensures notes { self.new.notes.items ≡ self.old.notes.items }
+        ensures ended { self.new.ended ≡ self.old.ended }
+    {
+        self.register.set_active(number as usize);
+    }
+}
