@@ -1,6 +1,6 @@
 -- What is said of lines, and not of their parents' numbers, is said of them made anew.
-use Rattle.std.proofs.Common.{◌≡◌, ℕ, zero, suc, Bool, true, List, [], ◌∷◌, refl, ap, ap₂, sym, ◌∙◌, subst}
-use Rattle.std.specs.Prelude.{slice_get, Some, All}
+use Rattle.std.proofs.Common.{◌≡◌, ℕ, suc, Bool, true, List, [], ◌∷◌, refl, sym, ◌∙◌, subst}
+use Rattle.std.specs.Prelude.{slice_get, Some}
 use Rattle.std.specs.List.{list_all}
 use Rattle.std.proofs.lemmas.Bool.{and_from}
 use Rattle.fol_base.specs.Clause.{TreeClause}
@@ -8,7 +8,7 @@ use Rattle.fol_base.specs.Literal.{clause_of}
 use Rattle.fol_base.proofs.TestLemmas.{list_all-item}
 use Rattle.kernel_steps.specs.declared.step.Step.{Step}
 use Rattle.kernel_steps.specs.declared.step.Line.{Line}
-use Rattle.retracing.specs.Laws.{IgnoresParents, TestsCarryOver}
+use Rattle.retracing.specs.Laws.{TestsCarryOver}
 use Rattle.retracing.specs.Renumbered.{place_among, renumbered, IsRetraced}
 use Rattle.retracing.specs.Retraced.{AreRetraced}
 

@@ -1,12 +1,12 @@
 -- What the pass backwards knows, step by step.
 use Rattle.std.proofs.Common.{◌≡◌, ◌⊎◌, ℕ, zero, suc, ◌+◌, ◌-◌, ◌<◌, ◌≤◌, inl, inr, Bool, true, false, ◌||◌, ◌&&◌, ◌==◌, List, [], ◌∷◌, length, Some, refl, ap, ap₂, sym, ◌∙◌, subst, arith, ⊎_elim}
-use Rattle.std.specs.Prelude.{slice_get, unwrap_or, nat_lt, IsTrue}
+use Rattle.std.specs.Prelude.{slice_get, unwrap_or, IsTrue}
 use Rattle.std.proofs.lemmas.Bool.{or_cases, or_left, or_right, eqb-true, eq-eqb, ne_eqb, and_parts, and_from, cases_lt, lt-ltb, false≢true}
-use Rattle.std.proofs.lemmas.Option.{none-some, same_Some, slice_get_past, slice_get_within}
+use Rattle.std.proofs.lemmas.Option.{same_Some, slice_get_past, slice_get_within}
 use Rattle.kernel_steps.specs.Lines.{step_parents}
 use Rattle.kernel_steps.specs.Split.{has_number, rises_from}
 use Rattle.kernel_steps.specs.declared.step.Step.{Step}
-use Rattle.retracing.specs.Needed.{HaveEarlierParents, IsClosed, IsNeeded, is_rising, AreNeeded}
+use Rattle.retracing.specs.Needed.{HaveEarlierParents, IsNeeded, is_rising, AreNeeded}
 use Rattle.retracing.specs.Marks.{is_marked, marked_numbers}
 
 -- the marks after the visit of a step

@@ -1,6 +1,6 @@
 -- The lines that are made anew, one after another.
-use Rattle.std.proofs.Common.{◌≡◌, ◌⊎◌, ℕ, zero, suc, ◌+◌, ◌-◌, ◌<◌, ◌≤◌, inl, inr, Bool, true, false, List, [], ◌∷◌, ◌++◌, map, take, length, get_or, Option, Some, None, refl, ap, ap₂, sym, ◌∙◌, subst, arith, ⊎_elim, length-append}
-use Rattle.std.specs.Prelude.{slice_get, option_and_then, nat_le, IsTrue}
+use Rattle.std.proofs.Common.{◌≡◌, ◌⊎◌, ℕ, zero, suc, ◌+◌, ◌-◌, ◌<◌, ◌≤◌, inl, inr, true, List, [], ◌∷◌, ◌++◌, take, length, get_or, Some, None, refl, ap, ap₂, sym, ◌∙◌, subst, arith, ⊎_elim, length-append}
+use Rattle.std.specs.Prelude.{slice_get, option_and_then, nat_le}
 use Rattle.std.specs.List.{list_all}
 use Rattle.std.proofs.lemmas.Bool.{cond-true, leb-true, le-leb, cases_lt}
 use Rattle.std.proofs.lemmas.List.{take-append-le, length-map}
@@ -9,17 +9,16 @@ use Rattle.std.proofs.lemmas.Option.{none-some, same_Some, slice_get_within, sli
 use Rattle.fol_base.specs.Clause.{TreeClause}
 use Rattle.fol_base.specs.Literal.{clause_of}
 use Rattle.kernel_steps.specs.Parents.{Parent}
-use Rattle.kernel_steps.specs.Conclusion.{empty_clause}
 use Rattle.kernel_steps.specs.Derivation.{is_clause_step, introduces_name, line_parent, line_parents, ComesBy, IsDerivation, IsRefutation}
 use Rattle.kernel_steps.specs.Lines.{step_parents}
 use Rattle.kernel_steps.specs.Split.{has_number}
 use Rattle.kernel_steps.specs.declared.step.Step.{Step}
 use Rattle.kernel_steps.specs.declared.step.Line.{Line}
 use Rattle.kernel_steps.proofs.LineLemmas.{ParentLine, parent_line, last-there}
-use Rattle.retracing.specs.Needed.{is_plain_step, HaveEarlierParents, IsNeeded, AreNeeded}
+use Rattle.retracing.specs.Needed.{is_plain_step, HaveEarlierParents, AreNeeded}
 use Rattle.retracing.specs.Renumbered.{place_among, renumbered, IsRetraced}
-use Rattle.retracing.specs.Retraced.{steps_of, AreRefutingSteps, AreRetraced, IsRetracing}
-use Rattle.retracing.proofs.RisingLemmas.{later-greater, less-earlier, at-has, place-of, there-at-place}
+use Rattle.retracing.specs.Retraced.{steps_of, AreRefutingSteps, IsRetracing}
+use Rattle.retracing.proofs.RisingLemmas.{later-greater, less-earlier, at-has, there-at-place}
 use Rattle.retracing.proofs.StepLemmas.{parent_by, renumbered-parent, renumbered-clause_step, renumbered-plain, comes-once, comes-renumbered, step-at, line-at, plain-at, parent-at, steps-earlier}
 
 -- ---- lists

@@ -1,6 +1,6 @@
 -- Steps in which nothing is split: their parents, and what they conclude where these get other numbers.
-use Rattle.std.proofs.Common.{◌≡◌, ℕ, zero, suc, ◌<◌, Bool, true, false, ◌||◌, ◌==◌, List, [], ◌∷◌, ◌++◌, map, take, length, Option, Some, None, refl, ap, ap₂, sym, ◌∙◌, subst, arith, ⊎_elim}
-use Rattle.std.specs.Prelude.{slice_get, option_map, if◌then◌else◌, IsTrue}
+use Rattle.std.proofs.Common.{◌≡◌, ℕ, true, false, ◌==◌, List, [], ◌∷◌, take, Option, Some, None, refl, ap, ap₂, sym, ◌∙◌, subst, ⊎_elim}
+use Rattle.std.specs.Prelude.{slice_get, option_map, if◌then◌else◌}
 use Rattle.std.specs.List.{list_all}
 use Rattle.std.proofs.lemmas.Bool.{or_cases, or_left, or_right, eqb-true, eq-eqb, false≢true}
 use Rattle.std.proofs.lemmas.Option.{same_Some, slice_get-map}
@@ -9,15 +9,15 @@ use Rattle.fol_base.specs.Literal.{clause_of}
 use Rattle.fol_base.specs.Rules.{superposed, resolved, factored, merged}
 use Rattle.fol_base.proofs.TestLemmas.{option_map-some, list_all-item}
 use Rattle.kernel_steps.specs.Parents.{Parent, Parents}
-use Rattle.kernel_steps.specs.Conclusion.{concludes, verdict, by_one, by_two, is_rule_step}
-use Rattle.kernel_steps.specs.Derivation.{is_clause_step, introduces_name, line_parent, line_parents, ComesBy, IsDerivation}
+use Rattle.kernel_steps.specs.Conclusion.{concludes, by_one, by_two}
+use Rattle.kernel_steps.specs.Derivation.{is_clause_step, introduces_name, line_parents, ComesBy, IsDerivation}
 use Rattle.kernel_steps.specs.Lines.{step_parents}
 use Rattle.kernel_steps.specs.Soundness.{bindings_of}
 use Rattle.kernel_steps.specs.Split.{has_number}
 use Rattle.kernel_steps.specs.declared.step.Step.{Step}
 use Rattle.kernel_steps.specs.declared.step.Step.TheVariants.{Input, Negate, Clausify, Para, Refl, Factor, Merge, Component, Opposite, Split, Chain}
 use Rattle.kernel_steps.specs.declared.step.Line.{Line}
-use Rattle.kernel_steps.proofs.LineLemmas.{ParentLine, parent_line}
+use Rattle.kernel_steps.proofs.LineLemmas.{parent_line}
 use Rattle.kernel_steps.proofs.VerdictParts.{by_one-parts, by_two-parts}
 use Rattle.retracing.specs.Needed.{is_plain_step, HaveEarlierParents}
 use Rattle.retracing.specs.Renumbered.{renumbered}

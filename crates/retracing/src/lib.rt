@@ -1,8 +1,8 @@
 // A refutation made anew from its steps alone: of the lines that the last one needs, each with its clause.
 #![tactic(auto)]
 
-pub mod laws;
 mod cone;
+pub mod laws;
 mod renumber;
 mod retrace;
 

@@ -42,8 +42,7 @@ fn prove_steps(form: &Clauses, steps: &[Step])
     requires { AreRefutingSteps (map clause_of form.now) steps.now }
     ensures some { 0 < length steps.now }
     ensures earlier { HaveEarlierParents steps.now }
-{
-}
+{}
 
 /// The line of a step whose parents are among these lines, at their places.
 fn retraced(

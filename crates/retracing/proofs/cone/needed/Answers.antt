@@ -1,4 +1,4 @@
-use Rattle.std.proofs.Common.{◌≡◌, refl, arith, sym, subst, ap, length, ◌∙◌, ◌-◌, ◌<◌}
+use Rattle.std.proofs.Common.{◌≡◌, refl, arith, sym, subst, ap, length, ◌∙◌, ◌-◌}
 use Rattle.std.proofs.lemmas.Option.{slice_get_read}
 use Rattle.std.proofs.lemmas.Result.{IfOk-weaker}
 use Rattle.retracing.specs.Needed.{AreNeeded}

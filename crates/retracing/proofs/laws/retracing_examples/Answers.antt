@@ -7,6 +7,7 @@ use Rattle.kernel_steps.specs.Lines.{step_parents}
 use Rattle.kernel_steps.specs.Split.{has_number}
 use Rattle.kernel_steps.specs.declared.step.Step.{Step}
 use Rattle.kernel_steps.specs.declared.step.Line.{Line}
+use Rattle.retracing.proofs.ExampleLemmas.{unneeded-refutes}
 use Rattle.retracing.specs.Needed.{IsClosed, IsNeeded}
 use Rattle.retracing.specs.Renumbered.{IsRetraced}
 use Rattle.retracing.specs.Retraced.{steps_of}
@@ -64,6 +65,12 @@ each (suc (suc (suc zero))) line at =
     subst (IsRetraced needed_numbers with_unneeded 3) (same_Some _ line at)
     (record { number = 4; numbered = refl; line = _; there = refl; step = refl; clause = refl })
 each (suc (suc (suc (suc n)))) line at = absurd (none-some line at)
+
+pub returns-clause-refuting : goal.returns-clause-refuting
+returns-clause-refuting c = unneeded-refutes
+
+pub returns-clause-unneeded_kept : goal.returns-clause-unneeded_kept
+returns-clause-unneeded_kept c are = false≢true ((are.exact 0).0 refl (λ k. has_number k needed_numbers) refl closed)
 
 pub returns-clause-needed : goal.returns-clause-needed
 returns-clause-needed c = record {
