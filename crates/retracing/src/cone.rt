@@ -1,0 +1,96 @@
+// The steps that the last one needs: one pass from it backwards, since the parents of a step are earlier.
+
+ghost use Rattle.std.specs.Prelude.{◌≡◌, ◌+◌, ◌<◌, ◌||◌, ◌&&◌, ◌==◌, ℕ, length, IfOk, IsTrue};
+ghost use Rattle.std.specs.List.{list_all};
+ghost use Rattle.kernel_steps.specs.Lines.{step_parents};
+ghost use Rattle.kernel_steps.specs.Split.{has_number};
+ghost use Rattle.retracing.specs.Needed.{is_plain_step, HaveEarlierParents, AreNeeded};
+ghost use Rattle.retracing.specs.Marks.{is_marked, marked_numbers};
+
+use kernel_steps::Step;
+use plain_types::{Mem, Numbers};
+use std::alloc::Global;
+
+/// The numbers of the steps that the last one needs, itself among them, rising. A byte is taken for each step, and a step that isn't
+/// needed is not looked at.
+pub fn needed(alloc: Global, steps: &[Step]) -> Mem<Numbers>
+    requires some { 0 < length steps.now }
+    requires plain { IsTrue (list_all is_plain_step steps.now) }
+    requires earlier { HaveEarlierParents steps.now }
+    ensures { IfOk result (AreNeeded steps.now) }
+{
+    let mut marks = last_marked(alloc, steps.len() - 1)?;
+    let mut left = steps.len();
+    while left > 0 {
+        left -= 1;
+        visit(&mut marks, left, &steps[left]);
+    }
+    marked(alloc, marks.as_slice())
+}
+
+/// Marks for the steps up to the last, which alone is marked.
+fn last_marked(alloc: Global, last: usize) -> Mem<Vec<bool>>
+    ensures room { IfOk result (λ marks. length marks.items ≡ last + 1) }
+    ensures only { IfOk result (λ marks. (n : ℕ) → n < last + 1 → is_marked marks.items n ≡ (last == n)) }
+{
+    let mut marks = Vec::with_capacity(alloc, last.saturating_add(1))?;
+    marks.resize(last, false)?;
+    marks.push(true)?;
+    Ok(marks)
+}
+
+/// Marks the parents of a step, where it is marked.
+fn visit(marks: &mut Vec<bool>, place: usize, step: &Step)
+    requires place { place < length marks.old.items }
+    requires plain { IsTrue (is_plain_step step.now) }
+    ensures room { length marks.new.items ≡ length marks.old.items }
+    ensures visited { (n : ℕ) → n < length marks.old.items
+        → is_marked marks.new.items n ≡ (is_marked marks.old.items n || (is_marked marks.old.items place && has_number n (step_parents step.now))) }
+{
+    if marks[place] {
+        mark_parents(marks, step);
+    }
+}
+
+/// Marks the parents of a step.
+fn mark_parents(marks: &mut Vec<bool>, step: &Step)
+    requires { IsTrue (is_plain_step step.now) }
+    ensures room { length marks.new.items ≡ length marks.old.items }
+    ensures marked { (n : ℕ) → n < length marks.old.items
+        → is_marked marks.new.items n ≡ (is_marked marks.old.items n || has_number n (step_parents step.now)) }
+{
+    match step {
+        Step::Para { first, second, .. } => {
+            mark(marks, *first);
+            mark(marks, *second);
+        }
+        Step::Refl { parent, .. } | Step::Factor { parent, .. } | Step::Merge { parent, .. } => {
+            mark(marks, *parent);
+        }
+        Step::Clausify(_) => {}
+        _ => unreachable!(),
+    }
+}
+
+/// Marks a number, where there is a place for it.
+fn mark(marks: &mut Vec<bool>, number: u64)
+    ensures room { length marks.new.items ≡ length marks.old.items }
+    ensures marked { (n : ℕ) → n < length marks.old.items → is_marked marks.new.items n ≡ (is_marked marks.old.items n || n == number) }
+{
+    if let Some(mark) = marks.get_mut(number as usize) {
+        *mark = true;
+    }
+}
+
+/// The numbers that are marked.
+fn marked(alloc: Global, marks: &[bool]) -> Mem<Numbers>
+    ensures { IfOk result (λ numbers. numbers ≡ marked_numbers 0 marks.now) }
+{
+    let mut numbers = Numbers::new(alloc);
+    for number in 0..marks.len() {
+        if marks[number] {
+            numbers.push(number as u64)?;
+        }
+    }
+    Ok(numbers)
+}
