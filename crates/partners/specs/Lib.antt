@@ -1,0 +1,5 @@
+pub mod SiteTerms
+pub mod Index
+pub mod Partners
+pub mod Known
+pub mod Meeting
