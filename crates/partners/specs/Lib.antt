@@ -3,3 +3,4 @@ pub mod Index
 pub mod Partners
 pub mod Known
 pub mod Meeting
+pub mod Examples

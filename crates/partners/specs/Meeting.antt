@@ -1,5 +1,5 @@
 -- The superpositions between a clause and the members of a set that come before it.
-use Rattle.std.specs.Prelude.{◌≡◌, ℕ, ◌==◌, ◌&&◌, ◌||◌, ◌/◌, ◌%◌, Bool, true, false, List, [], ◌∷◌, ◌++◌, flat_map, slice_get, Contains, Option, None, Some, option_map, option_and_then, IsTrue}
+use Rattle.std.specs.Prelude.{◌≡◌, ℕ, ◌==◌, ◌&&◌, ◌||◌, ◌/◌, ◌%◌, ◌<◌, Bool, true, false, List, [], ◌∷◌, ◌++◌, flat_map, slice_get, Contains, Option, None, Some, option_map, option_and_then, IsTrue}
 use Rattle.std.specs.Option.{is_some, option_to_list}
 use Rattle.std.specs.List.Sorted.{IsStrictlyIncreasing}
 use Rattle.fol_base.specs.Tree.{Tree}
@@ -64,7 +64,7 @@ abbrev pub HasCandidates :
 HasCandidates {S} sites term_in set query numbers =
     (n : ℕ) (p : Placed) (i : ℕ) (site : S) (t : Tree)
     → placed_numbered n set.members ≡ Some p → slice_get (sites (mode_of set.mode) (literals_of p.member)) i ≡ Some site
-    → term_in (literals_of p.member) site ≡ Some t → compatible t query ≡ true → Contains numbers (site_number n i)
+    → term_in (literals_of p.member) site ≡ Some t → compatible t query ≡ true → (i < MOST_SITES) × Contains numbers (site_number n i)
 
 -- in order, each once
 pub record AreCandidates

@@ -1,6 +1,6 @@
 // The set: members by their numbers, each with its position and its sites, and two trees of the terms at their sites.
 
-ghost use Rattle.std.specs.Prelude.{◌≡◌, [], None, Some, IfOk, IfSome, OnErr, IsTrue};
+ghost use Rattle.std.specs.Prelude.{◌≡◌, [], None, Some, nat_lt, IfOk, IfSome, OnErr, if◌then◌else◌};
 ghost use Rattle.std.specs.Option.{is_some, option_map};
 ghost use Rattle.fol_base.specs.Term.{tree_of};
 ghost use Rattle.bank_clause.specs.Clause.{IsMemberOf};
@@ -14,7 +14,7 @@ ghost use Rattle.partners.specs.SiteTerms.{place_term, start_term};
 use crate::index::{in_order, put_sites, take_sites};
 use bank_clause::{BankLiterals, Member};
 use disc_tree::DiscTree;
-use fol_base::Term;
+use fol_base::{SIZE_LIMIT, Term};
 use indexmap::IndexMap;
 use literal_selection::Selection;
 use plain_types::{Mem, Numbers};
@@ -72,6 +72,18 @@ impl Partner {
             sites: &self.sites,
         }
     }
+
+    /// The same, if its position is below the bound.
+    fn premise_before(&self, bound: u32) -> Option<Premise<'_>>
+        ensures member { option_map (λ p. p.member.now) result ≡ (if nat_lt self.now.position bound then Some self.now.member else None) }
+        ensures sites { IfSome result (λ p. p.sites.now ≡ self.now.sites) }
+    {
+        if self.position < bound {
+            Some(self.premise())
+        } else {
+            None
+        }
+    }
 }
 
 impl Partners {
@@ -99,6 +111,8 @@ impl Partners {
         ensures of_bank { IfOk result (λ _. AreOfBank bank.now self.old → AreOfBank bank.now self.new) }
         ensures err { OnErr result (self.new ≡ self.old) }
     {
+        let is_small = u64::from(member.clause.size()) < SIZE_LIMIT;
+        prove!(is_small);
         let sites = Sites::of_member(self.alloc, bank, member, self.mode)?;
         let clause = member.clause.copied()?;
         self.known.reserve(1)?;
@@ -145,8 +159,10 @@ impl Partners {
         ensures member { option_map (λ p. p.member.now) result ≡ option_map (λ p. p.member) (placed_numbered number self.now.members) }
         ensures sites { IfSome result (λ p. AreSitesFor self.now.mode p.member.now p.sites.now) }
     {
-        let partner = self.known.get(&number)?;
-        Some(partner.premise())
+        match self.known.get(&number) {
+            None => None,
+            Some(partner) => Some(partner.premise()),
+        }
     }
 
     /// The same, if its position is below the bound.
@@ -154,11 +170,9 @@ impl Partners {
         ensures member { option_map (λ p. p.member.now) result ≡ partner_before bound self.now number }
         ensures sites { IfSome result (λ p. AreSitesFor self.now.mode p.member.now p.sites.now) }
     {
-        let partner = self.known.get(&number)?;
-        if partner.position < bound {
-            Some(partner.premise())
-        } else {
-            None
+        match self.known.get(&number) {
+            None => None,
+            Some(partner) => partner.premise_before(bound),
         }
     }
 
