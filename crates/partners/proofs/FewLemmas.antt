@@ -1,14 +1,14 @@
 -- A clause has no more sites of a kind than symbols and variables.
-use Rattle.std.proofs.Common.{◌≡◌, ℕ, zero, suc, ◌+◌, ◌*◌, ◌<◌, ◌≤◌, Bool, true, false, List, [], ◌∷◌, ◌++◌, Some, length, map, length-append, length-map, refl, ap, sym, ◌∙◌, subst, ⊎_elim, arith}
+use Rattle.std.proofs.Common.{◌≡◌, ℕ, zero, suc, ◌+◌, ◌<◌, ◌≤◌, Bool, List, [], ◌∷◌, ◌++◌, Some, length, map, length-append, refl, ap, ◌∙◌, ⊎_elim, arith}
 use Rattle.std.specs.Prelude.{filter, flat_map, slice_get, sum_by}
 use Rattle.std.proofs.lemmas.Bool.{cases_Bool, cond-true, cond-false}
+use Rattle.std.proofs.lemmas.List.{length-map}
 use Rattle.std.proofs.lemmas.List.Sums.{sum_by-cons}
 use Rattle.fol_base.specs.Tree.{Tree, variable, application, Trees, no_trees, tree_then, tree_size, trees_size}
 use Rattle.fol_base.specs.Canonical.{numbers_from}
 use Rattle.fol_base.specs.Clause.{TreeLiteral, TreeClause, literal_size, clause_size}
 use Rattle.fol_base.specs.Selection.{SelectionMode}
 use Rattle.fol_base.specs.Sides.{side_of}
-use Rattle.fol_base.specs.declared.clause.Side.{Side}
 use Rattle.fol_base.specs.declared.clause.Side.TheVariants.{Left, Right}
 use Rattle.fol_base.specs.declared.limits.TheConstants.{SIZE_LIMIT}
 use Rattle.fol_base.proofs.TreeLemmas.{tree_size-positive}
@@ -29,8 +29,13 @@ mutual
   arguments-few : (i : ℕ) (ts : Trees) → length (places_from i ts) ≤ trees_size ts
   arguments-few i no_trees = omega arith
   arguments-few i (tree_then t ts) =
-      omega (arith, length-append (map (λ p. i ∷ p) (places t)) (places_from (suc i) ts), length-map (λ p. i ∷ p) (places t),
-      places-few t, arguments-few (suc i) ts)
+      omega (
+        arith,
+        length-append (map (λ p. i ∷ p) (places t)) (places_from (suc i) ts),
+        length-map (places t) (λ p. i ∷ p),
+        places-few t,
+        arguments-few (suc i) ts,
+      )
 
 entered-few :
     (mode : SelectionMode) (ls : List TreeLiteral) (s : LiteralSide) (l : TreeLiteral)
@@ -38,8 +43,12 @@ entered-few :
 entered-few mode ls s l there =
     let all : List LiteralPlace = map (below_path s []) (side_places s.side (slice_get ls s.literal)) in
     let most : length all ≤ tree_size (side_of s.side l) =
-    omega (arith, length-map (below_path s []) (side_places s.side (slice_get ls s.literal)),
-    ap (λ o. length (side_places s.side o)) there, places-few (side_of s.side l)) in
+    omega (
+      arith,
+      length-map (side_places s.side (slice_get ls s.literal)) (below_path s []),
+      ap (λ o. length (side_places s.side o)) there,
+      places-few (side_of s.side l),
+    ) in
     ⊎_elim
     (λ passes. omega (arith, ap (λ (ts : List LiteralPlace). length ts) (cond-true (can_enter mode ls s) all [] passes), most))
     (λ fails. omega (arith, ap (λ (ts : List LiteralPlace). length ts) (cond-false (can_enter mode ls s) all [] fails)))
@@ -57,8 +66,14 @@ sides-few {X} f first (l ∷ ls) h =
     let left : List X = f (record { literal = first; side = Left }) in
     let right : List X = f (record { literal = first; side = Right }) in
     let rest : List X = flat_map f (flat_map both_sides (numbers_from (suc first) (length ls))) in
-    omega (arith, length-append left (right ++ rest), length-append right rest, h 0 first l (omega arith) refl,
-    sides-few f (suc first) ls (λ i k m is there. h (suc i) k m (omega (arith, is)) there), sum_by-cons literal_size l ls)
+    omega (
+      arith,
+      length-append left (right ++ rest),
+      length-append right rest,
+      h 0 first l (omega arith) refl,
+      sides-few f (suc first) ls (λ i k m is there. h (suc i) k m (omega (arith, is)) there),
+      sum_by-cons literal_size l ls,
+    )
 
 filter-few : {X : Type 0} (test : X → Bool) (xs : List X) → length (filter test xs) ≤ length xs
 filter-few {X} test [] = omega arith

@@ -1,6 +1,6 @@
 -- Members by their numbers: as the map has them, as contracts see them, and as the trees give them.
-use Rattle.std.proofs.Common.{◌≡◌, ℕ, ◌<◌, ◌≤◌, Bool, true, false, List, [], ◌∷◌, map, length, refl, ap, ap₂, sym, ◌∙◌, subst, ⊎_elim, Bor, arith}
-use Rattle.std.specs.Prelude.{Option, None, Some, option_map, option_copied, option_and_then, cond, nat_eq, nat_lt, if◌then◌else◌, IfSome, ◌==◌, ◌↔◌, slice_get, Contains}
+use Rattle.std.proofs.Common.{◌≡◌, ℕ, ◌≤◌, Bool, true, false, List, [], ◌∷◌, map, length, refl, ap, ap₂, sym, ◌∙◌, subst, ⊎_elim, arith}
+use Rattle.std.specs.Prelude.{Option, None, Some, option_map, cond, nat_eq, if◌then◌else◌, ◌==◌, ◌↔◌, slice_get, Contains, Result, Ok, OnOk}
 use Rattle.std.specs.List.Sorted.{IsStrictlyIncreasing}
 use Rattle.std.specs.Map.{lookup}
 use Rattle.std.proofs.lemmas.Bool.{cases_Bool, cond-true, cond-false, eq-eqb, eqb-true, true≢false}
@@ -22,9 +22,8 @@ use Rattle.superpose.specs.declared.sites.Premise.{Premise}
 use Rattle.superpose.proofs.ListLemmas.{In-contained}
 use Rattle.partners.specs.Index.{AreIndexed, KeepsOthers, site_number}
 use Rattle.partners.specs.Known.{AreAllIndexed, HaveFewSites, IsKnown, placed_of}
-use Rattle.partners.specs.Meeting.{AreCandidates, HasCandidates}
-use Rattle.partners.specs.Partners.{AreOfBank, AreSitesFor, HasAlso, HasNoMore, PartnerSet, Placed, before, literals_of, partner_before, placed_numbered}
-use Rattle.partners.specs.SiteTerms.{place_term, start_term}
+use Rattle.partners.specs.Meeting.{AreCandidates}
+use Rattle.partners.specs.Partners.{AreOfBank, AreSitesFor, HasAlso, HasNoMore, PartnerSet, Placed, literals_of, placed_numbered}
 use Rattle.partners.specs.declared.index.TheConstants.{MOST_SITES}
 use Rattle.partners.specs.declared.partners.Partner.{Partner}
 use Rattle.partners.proofs.IndexLemmas.{in-found}
@@ -185,6 +184,21 @@ put-known mode number starts places starts_now places_now es fs q put starts_kep
     (known n p (sym (cond-false (nat_eq number n) (Some q) (lookup (nat_eq n) es) no_it) ∙ sym (put n) ∙ there)))
     (cases_Bool (nat_eq number n))
 
+-- a member that was put in is known
+pub made-known :
+    (mode : Selection) (starts places : List (Tree × ℕ)) (m : Member) (clause : BankClause) (position : ℕ) (sites : Sites) (ls : List TreeLiteral)
+    → clause ≡ m.clause → AreSitesOf (clause_at m.clause) sites → sites.mode ≡ mode → HaveFewSites sites
+    → ls ≡ (clause_at m.clause).literals → AreAllIndexed ls m.number sites starts places
+    → IsKnown mode starts places m.number (record { position = position; member = record { number = m.number; clause = clause }; sites = sites })
+made-known mode starts places m clause position sites ls same are mode_is few lent indexed = record {
+  number = refl;
+  sites = record { of_clause = subst (λ (c : BankClause). AreSitesOf (clause_at c) sites) (sym same) are; mode_is = mode_is };
+  few = few;
+  indexed =
+      subst (λ (ks : List TreeLiteral). AreAllIndexed ks m.number sites starts places) (lent ∙ ap (λ (c : BankClause). (clause_at c).literals) (sym same))
+      indexed;
+}
+
 step : (b : Bool) (q : Placed) (x : Option Placed) (o : Option Partner) (p : Partner) (n : ℕ)
     → (b ≡ true → placed_under n p ≡ q) → x ≡ option_map (placed_under n) o
     → option_map (placed_under n) (cond b (Some p) o) ≡ (if b then Some q else x)
@@ -260,3 +274,6 @@ fewer-of-bank bank number old new fewer all n p there =
     (λ yes. absurd (none-some p (sym (cond-true (number == n) None (placed_numbered n old.members) yes) ∙ sym (fewer.members n) ∙ there)))
     (λ no_it. all n p (sym (cond-false (number == n) None (placed_numbered n old.members) no_it) ∙ sym (fewer.members n) ∙ there))
     (cases_Bool (number == n))
+
+pub on_ok-at : {A E P : Type 0} (r : Result A E) (x : A) → r ≡ Ok x → OnOk r P → P
+on_ok-at {A} {E} {P} r x is h = subst (λ (s : Result A E). OnOk s P) is h

@@ -1,6 +1,6 @@
 -- All superpositions between a clause and its partners, from those at each of its sites.
-use Rattle.std.proofs.Common.{◌≡◌, ◌⊎◌, ℕ, ◌+◌, ◌<◌, ◌/◌, ◌%◌, Bool, true, false, ◌&&◌, ◌||◌, Option, None, Some, List, [], ◌∷◌, ◌++◌, refl, ap, ap₂, sym, ◌∙◌, subst, inl, inr, ⊎_elim}
-use Rattle.std.specs.Prelude.{slice_get, option_map, option_and_then, ◌==◌}
+use Rattle.std.proofs.Common.{◌≡◌, ℕ, ◌/◌, Bool, true, false, ◌&&◌, Option, None, Some, List, [], ◌∷◌, ◌++◌, refl, ap, sym, ◌∙◌, subst, inl, inr, ⊎_elim}
+use Rattle.std.specs.Prelude.{option_map, option_and_then, ◌==◌}
 use Rattle.std.specs.Option.{is_some}
 use Rattle.std.proofs.lemmas.Bool.{true≢false, and_from, and_parts, or_cases, or_left, or_right, eq-eqb, eqb-true}
 use Rattle.std.proofs.lemmas.Option.{same_Some}
@@ -68,7 +68,7 @@ names-cons {X} Right Needed x xs first rest apart new once right all others = re
       there;
 }
 
-names-none : {X : Type 0} (Right Needed : X → Key → Type 0) → AreNamesOf {X} Right Needed [] []
+names-none : {X : Type 0} (Right Needed : X → Key → Type 0) → AreNamesOf {X = X} Right Needed [] []
 names-none Right Needed = record { once = tt; right = λ key there. absurd there; all = λ x key there needed. absurd there }
 
 module _ (bound : ℕ) (set : PartnerSet) (g : Member) where
@@ -203,8 +203,7 @@ module _ (bound : ℕ) (set : PartnerSet) (g : Member) where
         same_Some it.second_clause (clause_at m.clause) (sym it.second_there ∙ looked.partners_there number m there) in
         let n : NamedSuperposition p mode (clause_at g.clause) i s (clause_at m.clause) j z place c =
         subst (λ (d : TreeClause). NamedSuperposition p mode (clause_at g.clause) i s d j z place c) second
-        (subst (λ (d : TreeClause). NamedSuperposition p mode d i s it.second_clause j z place c) first it.infers) in
-        (
+        (subst (λ (d : TreeClause). NamedSuperposition p mode d i s it.second_clause j z place c) first it.infers) in (
           start_in p mode (clause_at g.clause) side (clause_at m.clause) into c n,
           record {
             number = number;
@@ -237,8 +236,7 @@ module _ (bound : ℕ) (set : PartnerSet) (g : Member) where
         let second : it.second_clause ≡ clause_at g.clause = same_Some it.second_clause (clause_at g.clause) (sym it.second_there ∙ looked.given_there) in
         let n : NamedSuperposition p mode (clause_at m.clause) i s (clause_at g.clause) j z place c =
         subst (λ (d : TreeClause). NamedSuperposition p mode (clause_at m.clause) i s d j z place c) second
-        (subst (λ (d : TreeClause). NamedSuperposition p mode d i s it.second_clause j z place c) first it.infers) in
-        (
+        (subst (λ (d : TreeClause). NamedSuperposition p mode d i s it.second_clause j z place c) first it.infers) in (
           enter_in p mode (clause_at m.clause) side (clause_at g.clause) into c n,
           record {
             number = number;
@@ -289,8 +287,7 @@ meets-all bound set g sites initial middle now are another places starts usage c
     ⊎_elim
     (λ here. let found = one.2.right key here in into-meets bound set g found.0 key found.2)
     (λ here. let found = two.2.right key here in from-meets bound set g found.0 key found.2)
-    (In-either key one.0 two.0 there) in
-    (
+    (In-either key one.0 two.0 there) in (
       adds.0,
       adds.1,
       tried-all usage.is_predicate mode clauses (is_meeting bound set g.number) keys adds.0 once pass

@@ -1,19 +1,15 @@
 -- The names of candidates: each once, and each that an inference can have.
-use Rattle.std.proofs.Common.{◌≡◌, ℕ, zero, suc, ◌+◌, ◌<◌, ◌/◌, ◌%◌, Bool, true, Option, None, Some, List, [], ◌∷◌, ◌++◌, length, get_or, refl, ap, ap₂, sym, ◌∙◌, subst, inl, inr, ⊎_elim, arith}
-use Rattle.std.specs.Prelude.{flat_map, slice_get, option_map, option_and_then, Contains}
+use Rattle.std.proofs.Common.{◌≡◌, ℕ, zero, suc, ◌<◌, ◌/◌, ◌%◌, true, Option, None, Some, List, [], ◌∷◌, length, get_or, refl, ap, ap₂, sym, ◌∙◌, subst, inl, inr, ⊎_elim, arith}
+use Rattle.std.specs.Prelude.{slice_get, option_map, option_and_then, Contains}
 use Rattle.std.specs.Option.{option_to_list}
 use Rattle.std.specs.List.{AllPairs}
 use Rattle.std.specs.List.Sorted.{IsStrictlyIncreasing}
 use Rattle.std.proofs.lemmas.List.Kept.{AllPairs-from_increasing}
-use Rattle.std.proofs.lemmas.Option.{none-some, same_Some, slice_get-get_or}
+use Rattle.std.proofs.lemmas.Option.{none-some, same_Some}
 use Rattle.fol_base.specs.Tree.{Tree}
-use Rattle.fol_base.specs.Instance.{Substitution, instance}
-use Rattle.fol_base.specs.Clause.{TreeLiteral, TreeClause}
 use Rattle.fol_base.specs.Compatible.{compatible}
-use Rattle.fol_base.specs.Selection.{SelectionMode}
 use Rattle.literal_selection.specs.Mode.{mode_of}
 use Rattle.kernel_steps.specs.declared.key.Key.{Key}
-use Rattle.kernel_steps.specs.declared.key.Key.TheVariants.{Para}
 use Rattle.bank_clause.specs.declared.member.Member.{Member}
 use Rattle.eq_rules.specs.declared.concluding.LiteralSide.{LiteralSide}
 use Rattle.superpose.specs.Sites.{enter_sites, start_sites}
@@ -23,11 +19,11 @@ use Rattle.superpose.proofs.ListLemmas.{In, In-flat_map, In-flat_mapped, Once, O
 use Rattle.superpose.proofs.SitesThere.{enters_once, starts_once}
 use Rattle.partners.specs.Index.{site_number}
 use Rattle.partners.specs.Meeting.{HasCandidates, name_from, name_into, names}
-use Rattle.partners.specs.Partners.{PartnerSet, Placed, literals_of, partner_before, placed_numbered}
+use Rattle.partners.specs.Partners.{PartnerSet, literals_of, partner_before}
 use Rattle.partners.specs.SiteTerms.{place_term, start_term}
 use Rattle.partners.specs.declared.index.TheConstants.{MOST_SITES}
 use Rattle.partners.proofs.IndexLemmas.{index-site_number, member-site_number, same-site_number}
-use Rattle.partners.proofs.NamedLemmas.{IsPartner, from-named, into-named, partner-is}
+use Rattle.partners.proofs.NamedLemmas.{from-named, into-named, partner-is}
 
 -- ---- lists
 
@@ -190,8 +186,7 @@ module _ (bound : ℕ) (set : PartnerSet) (g : ℕ) where
       let parts = same-key g one.partner.number g other.partner.number s z one.place other.place (one.key_is ∙ sym other.key_is) in
       let same = same-partner c d one.partner other.partner one.there other.there parts.2 in
       let at : slice_get (enter_sites (mode_of set.mode) (literals_of one.partner)) (d % MOST_SITES) ≡ Some one.place =
-      ap (λ (m : Member). slice_get (enter_sites (mode_of set.mode) (literals_of m)) (d % MOST_SITES)) same.1 ∙ other.at ∙ ap Some (sym parts.3) in
-      (
+      ap (λ (m : Member). slice_get (enter_sites (mode_of set.mode) (literals_of m)) (d % MOST_SITES)) same.1 ∙ other.at ∙ ap Some (sym parts.3) in (
         parts.1,
         same-site_number c d same.0
             (Once-place (enter_sites (mode_of set.mode) (literals_of one.partner)) (c % MOST_SITES) (d % MOST_SITES) one.place
@@ -204,8 +199,7 @@ module _ (bound : ℕ) (set : PartnerSet) (g : ℕ) where
       let parts = same-key one.partner.number g other.partner.number g one.side other.side t u (one.key_is ∙ sym other.key_is) in
       let same = same-partner c d one.partner other.partner one.there other.there parts.0 in
       let at : slice_get (start_sites (mode_of set.mode) (literals_of one.partner)) (d % MOST_SITES) ≡ Some one.side =
-      ap (λ (m : Member). slice_get (start_sites (mode_of set.mode) (literals_of m)) (d % MOST_SITES)) same.1 ∙ other.at ∙ ap Some (sym parts.1) in
-      (
+      ap (λ (m : Member). slice_get (start_sites (mode_of set.mode) (literals_of m)) (d % MOST_SITES)) same.1 ∙ other.at ∙ ap Some (sym parts.1) in (
         parts.3,
         same-site_number c d same.0
             (Once-place (start_sites (mode_of set.mode) (literals_of one.partner)) (c % MOST_SITES) (d % MOST_SITES) one.side

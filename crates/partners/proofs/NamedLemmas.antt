@@ -1,6 +1,6 @@
 -- Inferences of names that are tried one after another, with the partners of a clause.
-use Rattle.std.proofs.Common.{◌≡◌, ℕ, ◌+◌, ◌<◌, ◌/◌, ◌%◌, Bool, Option, None, Some, List, [], ◌∷◌, ◌++◌, length, take, get_or, append-nil, refl, ap, sym, ◌∙◌, subst, ⊎_elim}
-use Rattle.std.specs.Prelude.{flat_map, nat_eq, nat_lt, slice_get, option_map, option_and_then, ◌==◌, if◌then◌else◌}
+use Rattle.std.proofs.Common.{◌≡◌, ℕ, ◌+◌, ◌<◌, ◌/◌, ◌%◌, Option, None, Some, List, [], ◌∷◌, ◌++◌, length, take, get_or, append-nil, refl, ap, sym, ◌∙◌, subst, ⊎_elim}
+use Rattle.std.specs.Prelude.{nat_lt, slice_get, option_map, option_and_then, ◌==◌}
 use Rattle.std.specs.Option.{option_to_list}
 use Rattle.std.proofs.lemmas.Bool.{cases_Bool, cond-true, cond-false, eqb-true}
 use Rattle.std.proofs.lemmas.Grind.{flat_map-append}
@@ -12,7 +12,6 @@ use Rattle.fol_base.proofs.ListLemmas.{take_more_item}
 use Rattle.fol_base.specs.declared.clause.Side.TheVariants.{Left}
 use Rattle.literal_selection.specs.Mode.{mode_of}
 use Rattle.kernel_steps.specs.declared.key.Key.{Key}
-use Rattle.bank_clause.specs.Clause.{clause_at}
 use Rattle.bank_clause.specs.declared.member.Member.{Member}
 use Rattle.eq_rules.specs.Trying.{IsTried}
 use Rattle.eq_rules.specs.declared.inference.Inference.{Inference}

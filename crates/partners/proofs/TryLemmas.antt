@@ -1,10 +1,10 @@
 -- What trying one candidate adds.
-use Rattle.std.proofs.Common.{◌≡◌, ℕ, ◌+◌, ◌<◌, ◌≤◌, ◌/◌, ◌%◌, Option, None, Some, List, [], ◌∷◌, ◌++◌, length, ap, ap₂, sym, ◌∙◌, subst}
+use Rattle.std.proofs.Common.{◌≡◌, ℕ, ◌≤◌, ◌/◌, ◌%◌, Option, None, Some, List, [], ◌∷◌, ◌++◌, length, ap, ap₂, sym, ◌∙◌, subst, arith}
 use Rattle.std.specs.Prelude.{slice_get}
-use Rattle.std.proofs.lemmas.Option.{slice_get_past}
+use Rattle.std.proofs.lemmas.Option.{none-some, same_Some, slice_get_past}
+use Rattle.fol_base.specs.Tree.{Tree}
 use Rattle.literal_selection.specs.Mode.{mode_of}
 use Rattle.literal_selection.specs.declared.choice.Selection.{Selection}
-use Rattle.kernel_steps.specs.declared.key.Key.{Key}
 use Rattle.term_bank.specs.declared.bank.Bank.{Bank}
 use Rattle.bank_clause.specs.Clause.{IsMemberOf}
 use Rattle.bank_clause.specs.declared.member.Member.{Member}
@@ -16,11 +16,12 @@ use Rattle.superpose.specs.Sites.{enter_sites, start_sites}
 use Rattle.superpose.specs.Superposing.{IsSuperposition, para_key}
 use Rattle.superpose.specs.declared.sites.LiteralPlace.{LiteralPlace}
 use Rattle.superpose.specs.declared.sites.Sites.{Sites}
-use Rattle.partners.specs.Meeting.{AddsNamed, name_from, name_into, names}
-use Rattle.partners.specs.Partners.{AreOfBank, AreSitesFor, PartnerSet, Placed, literals_of, partner_before}
+use Rattle.partners.specs.Meeting.{AddsNamed, AreCandidates, HasCandidates, MeetsPlaces, MeetsStarts, name_from, name_into, names}
+use Rattle.partners.specs.Partners.{AreOfBank, AreSitesFor, PartnerSet, literals_of, partner_before}
+use Rattle.partners.specs.SiteTerms.{place_term, start_term}
 use Rattle.partners.specs.declared.index.TheConstants.{MOST_SITES}
 use Rattle.partners.proofs.KnownLemmas.{from-sites, into-sites}
-use Rattle.partners.proofs.NamedLemmas.{from-named, from-none, from-past, from-tried, into-named, into-none, into-past, into-tried, named-none, named-some, partner-is}
+use Rattle.partners.proofs.NamedLemmas.{from-named, from-none, from-past, from-tried, into-named, into-none, into-past, into-tried, named-none, named-nothing, named-some, partner-is}
 
 pub partner-of-bank : (bank : Bank) (bound : ℕ) (set : PartnerSet) (n : ℕ) (m : Member) → AreOfBank bank set → Some m ≡ partner_before bound set n → IsMemberOf bank m
 partner-of-bank bank bound set n m all h =
@@ -90,3 +91,47 @@ module _ (bound : ℕ) (set : PartnerSet) (g : Member) (c n i : ℕ) (n_is : n �
       → AddsNamed bound set g (names (name_from bound set g.number t) (c ∷ [])) found now
   start-absent t found now h is =
       named-none bound set g c (name_from bound set g.number t) found now (from-none bound set g c t (at_number None h)) is
+
+-- ---- a site without candidates, and one with them
+
+pub places-none :
+    (bound : ℕ) (set : PartnerSet) (g : Member) (s : LiteralSide) (found : List Inference) → start_term (literals_of g) s ≡ None
+    → MeetsPlaces bound set g s found found
+places-none bound set g s found none = record {
+  entries = [];
+  rise = λ k less. absurd (omega (arith, less));
+  all = λ query is. absurd (none-some query (sym none ∙ is));
+  adds = named-nothing bound set g found;
+}
+
+pub places-met :
+    (bound : ℕ) (set : PartnerSet) (g : Member) (s : LiteralSide) (query : Tree) (entries : List ℕ) (found now : List Inference)
+    → start_term (literals_of g) s ≡ Some query → AreCandidates enter_sites place_term set query entries
+    → AddsNamed bound set g (names (name_into bound set g.number s) entries) found now → MeetsPlaces bound set g s found now
+places-met bound set g s query entries found now there are adds = record {
+  entries = entries;
+  rise = are.rise;
+  all = λ other is. subst (λ (t : Tree). HasCandidates enter_sites place_term set t entries) (same_Some query other (sym there ∙ is)) are.all;
+  adds = adds;
+}
+
+pub starts-none :
+    (bound : ℕ) (set : PartnerSet) (g : Member) (t : LiteralPlace) (found : List Inference) → place_term (literals_of g) t ≡ None
+    → MeetsStarts bound set g t found found
+starts-none bound set g t found none = record {
+  entries = [];
+  rise = λ k less. absurd (omega (arith, less));
+  all = λ query is. absurd (none-some query (sym none ∙ is));
+  adds = named-nothing bound set g found;
+}
+
+pub starts-met :
+    (bound : ℕ) (set : PartnerSet) (g : Member) (t : LiteralPlace) (query : Tree) (entries : List ℕ) (found now : List Inference)
+    → place_term (literals_of g) t ≡ Some query → AreCandidates start_sites start_term set query entries
+    → AddsNamed bound set g (names (name_from bound set g.number t) entries) found now → MeetsStarts bound set g t found now
+starts-met bound set g t query entries found now there are adds = record {
+  entries = entries;
+  rise = are.rise;
+  all = λ other is. subst (λ (u : Tree). HasCandidates start_sites start_term set u entries) (same_Some query other (sym there ∙ is)) are.all;
+  adds = adds;
+}

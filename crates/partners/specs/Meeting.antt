@@ -1,5 +1,5 @@
 -- The superpositions between a clause and the members of a set that come before it.
-use Rattle.std.specs.Prelude.{◌≡◌, ℕ, ◌==◌, ◌&&◌, ◌||◌, ◌/◌, ◌%◌, ◌<◌, Bool, true, false, List, [], ◌∷◌, ◌++◌, flat_map, slice_get, Contains, Option, None, Some, option_map, option_and_then, IsTrue}
+use Rattle.std.specs.Prelude.{◌≡◌, ℕ, ◌==◌, ◌&&◌, ◌||◌, ◌/◌, ◌%◌, ◌<◌, Bool, true, false, List, [], ◌∷◌, ◌++◌, flat_map, slice_get, Contains, Option, Some, option_map, option_and_then, IsTrue}
 use Rattle.std.specs.Option.{is_some, option_to_list}
 use Rattle.std.specs.List.Sorted.{IsStrictlyIncreasing}
 use Rattle.fol_base.specs.Tree.{Tree}

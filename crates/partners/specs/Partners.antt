@@ -1,12 +1,7 @@
 -- Sets of members with positions: what contracts see of one, and what its index has.
-use Rattle.std.specs.Prelude.{◌≡◌, ℕ, ◌==◌, ◌<◌, nat_lt, nat_eq, List, [], ◌∷◌, map, slice_get, Contains, Option, None, Some, option_and_then, if◌then◌else◌}
+use Rattle.std.specs.Prelude.{◌≡◌, ℕ, ◌==◌, nat_lt, List, [], ◌∷◌, Option, None, Some, option_and_then, if◌then◌else◌}
 use Rattle.std.specs.Coded.{Coded, codes}
-use Rattle.std.specs.Map.{lookup}
-use Rattle.fol_base.specs.Tree.{Tree}
-use Rattle.fol_base.specs.Clause.{TreeLiteral, TreeClause}
-use Rattle.fol_base.specs.Compatible.{compatible}
-use Rattle.fol_base.specs.Selection.{SelectionMode}
-use Rattle.literal_selection.specs.Mode.{mode_of}
+use Rattle.fol_base.specs.Clause.{TreeLiteral}
 use Rattle.literal_selection.specs.declared.choice.Selection.{Selection}
 use Rattle.term_bank.specs.Reference.{reference_code}
 use Rattle.term_bank.specs.declared.bank.Bank.{Bank}
@@ -14,8 +9,6 @@ use Rattle.bank_clause.specs.Clause.{clause_at, IsMemberOf}
 use Rattle.bank_clause.specs.declared.member.Member.{Member}
 use Rattle.superpose.specs.Sites.{AreSitesOf}
 use Rattle.superpose.specs.declared.sites.Sites.{Sites}
-use Rattle.partners.specs.SiteTerms.{place_term, start_term}
-use Rattle.partners.specs.Index.{AreIndexed, site_number}
 
 -- ---- members
 

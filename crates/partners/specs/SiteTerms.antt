@@ -1,5 +1,5 @@
 -- Sites as terms.
-use Rattle.std.specs.Prelude.{ℕ, List, Option, option_map, option_and_then, slice_get}
+use Rattle.std.specs.Prelude.{List, Option, option_map, option_and_then, slice_get}
 use Rattle.fol_base.specs.Tree.{Tree}
 use Rattle.fol_base.specs.Clause.{TreeLiteral}
 use Rattle.fol_base.specs.Place.{subterm}

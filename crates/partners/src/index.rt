@@ -27,10 +27,7 @@ pub(crate) fn site_of(entry: u64) -> (u32, usize)
     ensures number { result.0 ≡ entry / MOST_SITES }
     ensures index { result.1 ≡ entry % MOST_SITES }
 {
-    (
-        (entry / MOST_SITES) as u32,
-        (entry % MOST_SITES) as usize,
-    )
+    ((entry / MOST_SITES) as u32, (entry % MOST_SITES) as usize)
 }
 
 /// Adds the sites of a member. After want of memory some may have been added.

@@ -118,7 +118,13 @@ impl Partners {
         self.known.reserve(1)?;
         let number = member.number;
         let literals = member.clause.lend(bank);
-        put_all(&mut self.starts, &mut self.places, &literals, number, &sites)?;
+        put_all(
+            &mut self.starts,
+            &mut self.places,
+            &literals,
+            number,
+            &sites,
+        )?;
         let member = Member { number, clause };
         let partner = Partner {
             position,

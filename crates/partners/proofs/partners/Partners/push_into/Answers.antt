@@ -4,7 +4,7 @@ use Rattle.superpose.specs.declared.sites.LiteralPlace.{LiteralPlace}
 use Rattle.superpose.proofs.TriedLemmas.{begins-again, begins-self}
 use Rattle.partners.specs.Meeting.{MeetsAllStarts}
 use Rattle.partners.proofs.NamedLemmas.{starts-more}
-use Rattle.partners.proofs.meeting.Partners.push_into.Goals as goal
+use Rattle.partners.proofs.partners.Partners.push_into.Goals as goal
 
 pub loop-into-init : goal.loop-into-init
 loop-into-init c = (refl, begins-self c.args.found.now.items)

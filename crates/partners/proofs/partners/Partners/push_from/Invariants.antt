@@ -1,7 +1,7 @@
 use Rattle.std.proofs.Common.{take}
 use Rattle.superpose.specs.Pairing.{Begins}
 use Rattle.partners.specs.Meeting.{MeetsAllPlaces}
-use Rattle.partners.proofs.meeting.Partners.push_from.Given as goal
+use Rattle.partners.proofs.partners.Partners.push_from.Given as goal
 
 abbrev pub invariant-loop-from : goal.invariant-loop-from
 invariant-loop-from l =

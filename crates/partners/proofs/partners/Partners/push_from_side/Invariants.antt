@@ -3,7 +3,7 @@ use Rattle.std.specs.Prelude.{slice_get}
 use Rattle.eq_rules.specs.declared.concluding.LiteralSide.{LiteralSide}
 use Rattle.superpose.specs.Pairing.{Begins}
 use Rattle.partners.specs.Meeting.{AddsNamed, name_into, names}
-use Rattle.partners.proofs.meeting.Partners.push_from_side.Given as goal
+use Rattle.partners.proofs.partners.Partners.push_from_side.Given as goal
 
 abbrev pub invariant-loop-candidate : goal.invariant-loop-candidate
 invariant-loop-candidate l =

@@ -1,7 +1,7 @@
 use Rattle.std.proofs.Common.{take}
 use Rattle.superpose.specs.Pairing.{Begins}
 use Rattle.partners.specs.Meeting.{MeetsAllStarts}
-use Rattle.partners.proofs.meeting.Partners.push_into.Given as goal
+use Rattle.partners.proofs.partners.Partners.push_into.Given as goal
 
 abbrev pub invariant-loop-into : goal.invariant-loop-into
 invariant-loop-into l =

@@ -3,7 +3,7 @@ use Rattle.std.specs.Prelude.{slice_get}
 use Rattle.superpose.specs.Pairing.{Begins}
 use Rattle.superpose.specs.declared.sites.LiteralPlace.{LiteralPlace}
 use Rattle.partners.specs.Meeting.{AddsNamed, name_from, names}
-use Rattle.partners.proofs.meeting.Partners.push_into_place.Given as goal
+use Rattle.partners.proofs.partners.Partners.push_into_place.Given as goal
 
 abbrev pub invariant-loop-candidate : goal.invariant-loop-candidate
 invariant-loop-candidate l =

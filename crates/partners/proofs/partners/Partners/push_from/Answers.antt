@@ -4,7 +4,7 @@ use Rattle.eq_rules.specs.declared.concluding.LiteralSide.{LiteralSide}
 use Rattle.superpose.proofs.TriedLemmas.{begins-again, begins-self}
 use Rattle.partners.specs.Meeting.{MeetsAllPlaces}
 use Rattle.partners.proofs.NamedLemmas.{places-more}
-use Rattle.partners.proofs.meeting.Partners.push_from.Goals as goal
+use Rattle.partners.proofs.partners.Partners.push_from.Goals as goal
 
 pub loop-from-init : goal.loop-from-init
 loop-from-init c = (refl, begins-self c.args.found.now.items)
