@@ -12,7 +12,7 @@ use kernel_steps::Key;
 use literal_selection::Selection;
 use partners::Partners;
 use plain_types::Mem;
-use sample_terms::clauses;
+use sample_terms::{clause, clauses};
 use std::alloc::Global;
 use std::sync::Wait;
 use std::test::Fail;
@@ -184,5 +184,39 @@ fn set_finds_what_a_plain_pass_finds(rt: HostRuntime) -> Result<(), Fail> {
     let alloc = rt.alloc();
     assert_eq!(rt; meetings(&rt, alloc, "p(a);~p(X0) | q(X0)")?, Some(1));
     assert!(rt; meetings(&rt, alloc, GROUP)?.is_some());
+    Ok(())
+}
+
+/// How many superpositions `~p(X0) | q(X0)` has with the set of `p(a)` alone, and how many once that is taken away. None where the set's
+/// calls tell otherwise.
+fn around_removal<R: Wait>(rt: &R, alloc: Global) -> Mem<Option<(usize, usize)>> {
+    let (bank, mut table) = Bank::new(alloc)?;
+    let mut set = Partners::new(alloc, MODE)?;
+    let fact = clause(alloc, "p(a)")?;
+    let rule = clause(alloc, "~p(X0) | q(X0)")?;
+    let Some(fact) = member(rt, alloc, &bank, &mut table, 3, &fact)? else {
+        return Ok(None);
+    };
+    let Some(rule) = member(rt, alloc, &bank, &mut table, 5, &rule)? else {
+        return Ok(None);
+    };
+    if !learn(&bank, &mut set, &fact, 0)? {
+        return Ok(None);
+    }
+    let Some(before) = met(alloc, &bank, &set, &rule, 1)? else {
+        return Ok(None);
+    };
+    if !set.remove(&bank, 3) || set.remove(&bank, 3) {
+        return Ok(None);
+    }
+    let Some(after) = met(alloc, &bank, &set, &rule, 1)? else {
+        return Ok(None);
+    };
+    Ok(Some((before.len(), after.len())))
+}
+
+#[test]
+fn removed_member_is_not_met(rt: HostRuntime) -> Result<(), Fail> {
+    assert_eq!(rt; around_removal(&rt, rt.alloc())?, Some((1, 0)));
     Ok(())
 }

@@ -3,6 +3,7 @@
 ghost use Rattle.std.specs.Prelude.{◌≡◌, [], None, Some, nat_lt, IfOk, IfSome, OnErr, if◌then◌else◌};
 ghost use Rattle.std.specs.Option.{is_some, option_map};
 ghost use Rattle.fol_base.specs.Term.{tree_of};
+ghost use Rattle.term_bank.specs.declared.bank.Bank.{Bank};
 ghost use Rattle.bank_clause.specs.Clause.{IsMemberOf};
 ghost use Rattle.superpose.specs.Sites.{enter_sites, start_sites};
 ghost use Rattle.partners.specs.Index.{KeepsAll, KeepsOthers};
@@ -89,7 +90,8 @@ impl Partner {
 impl Partners {
     /// No members, and the mode by which the literals of those to come are chosen. It keeps the allocator for its later calls.
     pub fn new(alloc: Global, mode: Selection) -> Mem<Partners>
-        ensures { IfOk result (λ set. set ≡ record { mode = mode; members = [] }) }
+        ensures none { IfOk result (λ set. set ≡ record { mode = mode; members = [] }) }
+        ensures of_bank { IfOk result (λ set. (bank : Bank) → AreOfBank bank set) }
     {
         let starts = DiscTree::new(alloc)?;
         let places = DiscTree::new(alloc)?;
