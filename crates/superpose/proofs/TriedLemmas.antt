@@ -36,7 +36,7 @@ use Rattle.superpose.proofs.SitesThere.{starts_once, enters_once, start_in, ente
 -- ---- one after another
 
 module _ (p : ℕ → Bool) (mode : SelectionMode) (clauses : ℕ → Option TreeClause) where
-  tried-append :
+  pub tried-append :
       (keys more : List Key) (found others : List Inference)
       → AreTried p mode clauses keys found → AreTried p mode clauses more others → AreTried p mode clauses (keys ++ more) (found ++ others)
   tried-append [] more found others h k = subst (λ (es : List Inference). AreTried p mode clauses more (es ++ others)) (sym h) k
@@ -48,7 +48,7 @@ module _ (p : ℕ → Bool) (mode : SelectionMode) (clauses : ℕ → Option Tre
     tried-append keys more h.1 others h.4 k,
   )
 
-  tried-one : (key : Key) (made : Option Made) → IsTried p mode clauses key made → AreTried p mode clauses (key ∷ []) (entry_of key made)
+  pub tried-one : (key : Key) (made : Option Made) → IsTried p mode clauses key made → AreTried p mode clauses (key ∷ []) (entry_of key made)
   tried-one key made h = (made, [], sym (append-nil (entry_of key made)), h, refl)
 
   -- ---- what the list then has
@@ -152,7 +152,7 @@ module _ (p : ℕ → Bool) (mode : SelectionMode) (clauses : ℕ → Option Tre
       first k (Some made) rest (suc i) (suc j) later new again at_i at_j = ap suc (again i j at_i at_j)
 
   -- all that have names that pass
-  tried-all :
+  pub tried-all :
       (passes : Key → Bool) (keys : List Key) (found : List Inference)
       → Once keys → ((key : Key) → In key keys → passes key ≡ true)
       → ((key : Key) (c : TreeClause) → passes key ≡ true → IsInference p mode clauses key c → In key keys)

@@ -11,7 +11,7 @@ mod superposing;
 
 pub use bank_clause::{Member, Members};
 pub use eq_rules::{Inference, Inferences, LiteralSide, Made};
-pub use pairing::{between, para_key, superpositions, within};
+pub use pairing::{between, para_key, push_made, superpositions, within};
 pub use settled::SettledSides;
 pub use sites::{LiteralPlace, Premise, Sites};
 pub use superposing::superposition;

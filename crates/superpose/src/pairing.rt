@@ -164,7 +164,7 @@ fn superpositions_from(
 }
 
 /// Adds the inference of a name, if there is one. After want of memory the list is as before.
-fn push_made(
+pub fn push_made(
     alloc: Global,
     first: &Member,
     from: LiteralSide,

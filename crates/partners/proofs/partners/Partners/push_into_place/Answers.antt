@@ -1,0 +1,55 @@
+use Rattle.std.proofs.Common.{◌≡◌, List, ℕ, length, ap₂, refl, sym, ◌∙◌, subst, arith}
+use Rattle.std.proofs.lemmas.List.{take_all}
+use Rattle.std.proofs.lemmas.Option.{same_Some, slice_get_read}
+use Rattle.fol_base.specs.Term.{tree_of}
+use Rattle.superpose.proofs.TriedLemmas.{begins-again, begins-self}
+use Rattle.partners.specs.Meeting.{AddsNamed, name_from, names}
+use Rattle.partners.specs.SiteTerms.{place_term}
+use Rattle.partners.proofs.NamedLemmas.{named-next, named-nothing}
+use Rattle.partners.proofs.TryLemmas.{starts-met, starts-none}
+use Rattle.partners.proofs.partners.Partners.push_into_place.Goals as goal
+
+pub loop-candidate-init : goal.loop-candidate-init
+loop-candidate-init c = (
+  (λ t at. named-nothing c.args.bound c.args.self.now c.args.given.now.member.now c.args.found.now.items),
+  begins-self c.args.found.now.items,
+)
+
+pub loop-candidate-preserved : goal.loop-candidate-preserved
+loop-candidate-preserved c =
+    let items = c.as_slice-candidate-items.result.now in (
+      (λ t at.
+          named-next c.args.bound c.args.self.now c.args.given.now.member.now
+          (name_from c.args.bound c.args.self.now c.args.given.now.member.now.number t) items c.loop-candidate.candidate-index
+          c.args.found.now.items c.loop-candidate.found.items c.try_start.new.found.items c.loop-candidate-test.true
+          (c.loop-candidate.invariant.0 t at) (c.in_ok-try_start.ensures.ok t at)),
+      begins-again c.args.found.now.items c.loop-candidate.found.items c.try_start.new.found.items c.loop-candidate.invariant.1
+          c.try_start.ensures.begins,
+    )
+
+pub returns-in_default-clause-ok : goal.returns-in_default-clause-ok
+returns-in_default-clause-ok c = λ t at.
+    let sites = c.args.given.now.sites.now in
+    let read = c.index.result.now in
+    let same : read ≡ t =
+    same_Some read t (sym (slice_get_read sites.into.items (length sites.into.items) c.args.into read refl c.requires.inside c.index.ensures) ∙ at) in
+    starts-none c.args.bound c.args.self.now c.args.given.now.member.now t c.args.found.now.items
+    (ap₂ place_term (sym c.lend-literals.ensures) (sym same) ∙ sym c.in_default.ensures)
+
+pub returns-clause-ok : goal.returns-clause-ok
+returns-clause-ok c = λ t at.
+    let g = c.args.given.now.member.now in
+    let sites = c.args.given.now.sites.now in
+    let items = c.as_slice-candidate-items.result.now in
+    let read = c.index.result.now in
+    let same : read ≡ t =
+    same_Some read t (sym (slice_get_read sites.into.items (length sites.into.items) c.args.into read refl c.requires.inside c.index.ensures) ∙ at) in
+    starts-met c.args.bound c.args.self.now g t (tree_of c.in-Some.term.now) c.in_ok-candidates.candidates c.args.found.now.items
+    c.loop-candidate.found.items
+    (ap₂ place_term (sym c.lend-literals.ensures) (sym same) ∙ sym c.in-Some.ensures) c.in_ok-candidates.ensures
+    (subst
+    (λ (es : List ℕ).
+    AddsNamed c.args.bound c.args.self.now g (names (name_from c.args.bound c.args.self.now g.number t) es) c.args.found.now.items
+    c.loop-candidate.found.items)
+    (take_all c.loop-candidate.candidate-index items (omega arith) ∙ c.as_slice-candidate-items.ensures)
+    (c.loop-candidate.invariant.0 t at))

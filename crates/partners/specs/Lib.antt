@@ -1,0 +1,6 @@
+pub mod SiteTerms
+pub mod Index
+pub mod Partners
+pub mod Known
+pub mod Meeting
+pub mod Examples
