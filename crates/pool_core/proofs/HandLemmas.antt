@@ -50,7 +50,7 @@ apart-filter keep (j ∷ js) apart = by (keep j) (apart-filter keep js apart.1)
     by true rest = (none-filter (λ (k : GivenJob). j.number == k.number) keep js apart.0, rest)
     by false rest = rest
 
-all-filter : (P : GivenJob → Type 0) (keep : GivenJob → Bool) (js : List GivenJob) → AllByRecursion P js → AllByRecursion P (filter keep js)
+pub all-filter : (P : GivenJob → Type 0) (keep : GivenJob → Bool) (js : List GivenJob) → AllByRecursion P js → AllByRecursion P (filter keep js)
 all-filter P keep [] all = tt
 all-filter P keep (j ∷ js) all = by (keep j) (all-filter P keep js all.1)
   where
@@ -58,7 +58,7 @@ all-filter P keep (j ∷ js) all = by (keep j) (all-filter P keep js all.1)
     by true rest = (all.0, rest)
     by false rest = rest
 
-all-end : (P : GivenJob → Type 0) (js : List GivenJob) (j : GivenJob) → AllByRecursion P js → P j → AllByRecursion P (js ++ j ∷ [])
+pub all-end : (P : GivenJob → Type 0) (js : List GivenJob) (j : GivenJob) → AllByRecursion P js → P j → AllByRecursion P (js ++ j ∷ [])
 all-end P [] j all last = (last, tt)
 all-end P (k ∷ ks) j all last = (all.0, all-end P ks j all.1 last)
 
@@ -237,7 +237,7 @@ module _ (is_predicate : ℕ → Bool) (options : Options) where
   retold-number : (job : ℕ) (r : PoolRecord) (j : GivenJob) → (if j.job == job then retold r j else j).number ≡ j.number
   retold-number job r j = by-if (λ (i : GivenJob). i.number ≡ j.number) (j.job == job) (retold r j) j refl refl
 
-  after-in-hand : (r : PoolRecord) (e : Event) → IsAllowed is_predicate options r e → AreInHand r → AreInHand (after options r e)
+  pub after-in-hand : (r : PoolRecord) (e : Event) → IsAllowed is_predicate options r e → AreInHand r → AreInHand (after options r e)
   after-in-hand r (Claim job) allowed hands =
       by (next_given r) refl allowed.2
     where

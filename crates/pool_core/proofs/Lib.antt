@@ -33,6 +33,21 @@ mod HandLemmas
 mod GiveUpLemmas
 -- MemberLemmas (what a pool hands out).
 mod MemberLemmas
+-- Whole clauses and lines: JoinedLemmas (lists put together), FormedLemmas (what steps conclude), SizeLemmas (reducing steps), PoolLineLemmas
+-- (lines put among the pool's), SoundLemmas (events), BeginningLemmas (inputs).
+mod JoinedLemmas
+mod FormedLemmas
+mod SizeLemmas
+mod PoolLineLemmas
+mod SoundLemmas
+mod BeginningLemmas
+-- PlaceLemmas (positions).
+mod PlaceLemmas
+-- CountedLemmas (no key is counted twice).
+mod CountedLemmas
+-- NumberLemmas (the numbers of clauses, positions and jobs), FitLemmas (which have 32 bits).
+mod NumberLemmas
+mod FitLemmas
 -- Worked examples.
 mod GoingExample
 mod MeetingExample

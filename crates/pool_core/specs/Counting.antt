@@ -41,13 +41,14 @@ result_comes split r lines = unless_ended (comes_by split lines (result_of lines
 
 -- ---- countings
 
--- the lines lead to the empty clause without assertions
+-- the empty clause without assertions
+abbrev pub is_refuting : Option TreeClause → Bool
+is_refuting None = false
+is_refuting (Some c) = has_none c.literals && has_none c.names
+
+-- the lines lead to it
 abbrev pub refutes : List Line → Bool
 refutes lines = is_refuting (result_of lines)
-  where
-    is_refuting : Option TreeClause → Bool
-    is_refuting None = false
-    is_refuting (Some c) = has_none c.literals && has_none c.names
 
 -- what a counting that reaches the limit ends: spent, but where an empty clause without assertions is among the results that were just
 -- counted, which is registered and refutes

@@ -1,19 +1,23 @@
 -- Laws of lawful histories, for every list of events.
-use Rattle.std.specs.Prelude.{◌≡◌, ℕ, ◌+◌, ◌*◌, ◌<◌, ◌≤◌, Bool, true, false, not, ◌&&◌, ◌==◌, nat_lt, List, [], ◌∷◌, ◌++◌, map, length, take, Some, filter, All, Contains, IsTrue, IsFalse}
-use Rattle.std.specs.List.{list_any, list_all}
+use Rattle.std.specs.Prelude.{◌≡◌, ◌≢◌, ◌⊎◌, ℕ, ◌+◌, ◌*◌, ◌^◌, ◌<◌, ◌≤◌, Bool, true, false, not, ◌&&◌, ◌==◌, nat_lt, List, [], ◌∷◌, ◌++◌, map, length, take, Some, filter, All, AllPairs, Contains, IsTrue, IsFalse}
+use Rattle.std.specs.List.{list_any, list_all, range_with_len}
 use Rattle.fol_base.specs.Clause.{TreeClause, clause_size}
+use Rattle.kernel_steps.specs.Named.{IsInference}
 use Rattle.kernel_steps.specs.Sized.{IsSizedInference}
 use Rattle.kernel_steps.specs.declared.key.Key.{Key}
+use Rattle.kernel_steps.specs.declared.key.Key.TheVariants.{Replaced}
 use Rattle.literal_selection.specs.Mode.{mode_of}
 use Rattle.clause_queue.specs.Pick.{IsPick}
-use Rattle.pool_core.specs.Record.{PoolRecord, Death, clauses_of, clause_numbered, has_died, lives, waits, is_awake}
+use Rattle.pool_core.specs.Record.{PoolRecord, Death, clauses_of, clause_numbered, has_died, lives, is_dead, waits, is_awake}
 use Rattle.pool_core.specs.Claiming.{ready, next_choice, next_given}
 use Rattle.pool_core.specs.Outcomes.{outcome_of}
 use Rattle.pool_core.specs.Replay.{Origin, replay}
 use Rattle.pool_core.specs.Lawful.{IsLawful}
+use Rattle.pool_core.specs.Events.{job_of}
+use Rattle.pool_core.specs.Inputs.{AreInputs, IsLimit}
 use Rattle.pool_core.specs.declared.options.Options.{Options}
 use Rattle.pool_core.specs.declared.event.Event.{Event}
-use Rattle.pool_core.specs.declared.event.Event.TheVariants.{Claim, Abandon}
+use Rattle.pool_core.specs.declared.event.Event.TheVariants.{Claim, ClaimSolve, Abandon}
 use Rattle.pool_core.specs.declared.outcome.Outcome.{Outcome}
 use Rattle.pool_core.specs.declared.outcome.Outcome.TheVariants.{Spent}
 
@@ -43,6 +47,40 @@ PicksAreChosen =
     (r : PoolRecord) (n : ℕ)
     → next_given r ≡ Some n → IsPick (next_choice r) (map (λ k. (k, clause_size (clause_numbered r k))) (ready r)) n
 
+-- A job is never given twice: the first one that is given has the number 1, and each further one the next number.
+abbrev pub is_given : Event → Bool
+is_given (Claim job) = true
+is_given (ClaimSolve job) = true
+is_given e = false
+
+abbrev pub JobsAreCounted : Type 0
+JobsAreCounted =
+    (is_predicate : ℕ → Bool) (origin : Origin) (history : List Event)
+    → IsLawful is_predicate origin history
+    → let given = filter is_given history in map job_of given ≡ range_with_len 1 (length given)
+
+-- each event is of a job that was given: so the next job is of none
+abbrev pub JobsWereGiven : Type 0
+JobsWereGiven =
+    (is_predicate : ℕ → Bool) (origin : Origin) (history : List Event)
+    → IsLawful is_predicate origin history
+    → All (λ e. (1 ≤ job_of e) × (job_of e ≤ (replay origin history).jobs)) history
+
+-- ---- positions
+
+-- A position that was given stays: so for every list of events, lawful or not.
+abbrev pub PositionsStay : Type 0
+PositionsStay =
+    (origin : Origin) (history later : List Event)
+    → (more : List ℕ) × ((replay origin (history ++ later)).positions ≡ (replay origin history).positions ++ more)
+
+-- Where nothing is split, the numbers of clauses and their positions have 32 bits, for every list of events, lawful or not.
+abbrev pub NumbersFit : Type 0
+NumbersFit =
+    (origin : Origin) (history : List Event)
+    → AreInputs origin.inputs → IsLimit origin.options → origin.options.split ≡ false
+    → let r = replay origin history in (length r.registered < 2 ^ 32) × (length r.positions ≤ length r.registered)
+
 -- ---- outcomes
 
 -- Once an outcome stands it stays.
@@ -60,6 +98,20 @@ SpentIsTheCount =
     (origin : Origin) (history : List Event) (count : ℕ)
     → (replay origin history).ended ≡ Some (Spent count)
     → (count ≡ length (replay origin history).counted) × (origin.options.inferences ≤ count)
+
+-- the key names an inference of registered clauses, or a clause that was replaced, and so has died
+abbrev pub IsCounted : (ℕ → Bool) → Options → PoolRecord → Key → Type 0
+IsCounted is_predicate options r key =
+    ((c : TreeClause) × IsInference is_predicate (mode_of options.select) (clauses_of r) key c)
+    ⊎ ((n : ℕ) × (key ≡ Replaced n) × IsTrue (is_dead r n))
+
+-- No key is counted twice.
+abbrev pub CountedOnce : Type 0
+CountedOnce =
+    (is_predicate : ℕ → Bool) (origin : Origin) (history : List Event)
+    → IsLawful is_predicate origin history
+    → let r = replay origin history in
+    AllPairs (λ k l. k ≢ l) r.counted × All (IsCounted is_predicate origin.options r) r.counted
 
 -- ---- what is set aside
 

@@ -46,15 +46,15 @@ impl Pool {
         }
         match self.next_given() {
             Some(number) => Ok(Claimed::Given(self.give(alloc, number, told)?)),
-            None => Ok(Claimed::Idle(self.jobs_out()?)),
+            None => Ok(Claimed::Idle(self.jobs_out())),
         }
     }
 
-    /// How many jobs are out. A count past 32 bits is told as want of memory.
-    fn jobs_out(&self) -> Mem<u32>
-        ensures { IfOk result (λ count. count ≡ jobs_out (replay self.now.origin self.now.history)) }
+    /// How many jobs are out. They are on different clauses, so there are few.
+    fn jobs_out(&self) -> u32
+        ensures { result ≡ jobs_out (replay self.now.origin self.now.history) }
     {
-        short(self.jobs.len())
+        self.jobs.len() as u32
     }
 
     /// Gives out the clause that is next.
@@ -134,7 +134,7 @@ impl Pool {
         match registration.position {
             Some(position) => Ok(position),
             None => {
-                let position = short(self.positions.len())?;
+                let position = self.positions.len() as u32;
                 let clause = registration.clause.copied()?;
                 news.push(Change::Activated(Member { number, clause }))?;
                 Ok(position)
@@ -261,15 +261,5 @@ fn one_more(number: u64) -> Mem<u64>
     match number.checked_add(1) {
         Some(next) => Ok(next),
         None => Err(NoMemory),
-    }
-}
-
-/// A count in 32 bits. One that doesn't fit is told as want of memory.
-fn short(count: usize) -> Mem<u32>
-    ensures { IfOk result (λ number. number ≡ count) }
-{
-    match u32::try_from(count) {
-        Ok(number) => Ok(number),
-        Err(_) => Err(NoMemory),
     }
 }

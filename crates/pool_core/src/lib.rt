@@ -5,6 +5,7 @@ mod batch;
 mod claiming;
 mod event;
 mod giving_up;
+mod historied;
 mod history;
 mod members;
 mod options;

@@ -13,8 +13,8 @@ pub give-requires-clause-open : goal.give-requires-clause-open
 give-requires-clause-open c =
     open-without (replay c.args.self.now.origin c.args.self.now.history) (sym c.outcome.ensures ∙ no-value c.outcome.result c.in_default.not-Some)
 
-pub returns-in_ok-jobs_out-in-None : goal.returns-in_ok-jobs_out-in-None
-returns-in_ok-jobs_out-in-None c =
+pub returns-in-None : goal.returns-in-None
+returns-in-None c =
     let r : PoolRecord = replay c.args.self.now.origin c.args.self.now.history in
     let none : outcome_of r ≡ None = sym c.outcome.ensures ∙ no-value c.outcome.result c.in_default.not-Some in
     let nothing = sym c.next_given.ensures.next ∙ c.in-None.is in
@@ -25,8 +25,8 @@ returns-in_ok-jobs_out-in-None c =
         open-without r none,
         c.next_given.ensures.solved,
         ap (λ (o : Option ℕ). is_some o) nothing,
-        c.in_ok-jobs_out-in-None.ensures,
-        (let some = some-out r none c.next_given.ensures.solved nothing in let same = c.in_ok-jobs_out-in-None.ensures in omega (arith, some, same)),
+        c.jobs_out.ensures,
+        (let some = some-out r none c.next_given.ensures.solved nothing in let same = c.jobs_out.ensures in omega (arith, some, same)),
         refl,
       );
       of_bank = tt;

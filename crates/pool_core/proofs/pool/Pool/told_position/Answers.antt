@@ -13,6 +13,7 @@ use Rattle.pool_core.specs.Replay.{replay}
 use Rattle.pool_core.specs.View.{PoolView}
 use Rattle.pool_core.specs.declared.ticket.Change.TheVariants.{Activated}
 use Rattle.pool_core.proofs.ClaimLemmas.{given-registered, told-before, told-now}
+use Rattle.pool_core.proofs.FitLemmas.{positions-fit}
 use Rattle.pool_core.proofs.StateLemmas.{record_of, one-of-bank}
 use Rattle.pool_core.proofs.pool.Pool.told_position.Goals as goal
 
@@ -38,8 +39,8 @@ returns-in-Some-clause-position c =
 pub returns-in_ok-push-in-None-clause-position : goal.returns-in_ok-push-in-None-clause-position
 returns-in_ok-push-in-None-clause-position c =
     let r : PoolRecord = record_of c.self.inside in
-    let len : c.len.result ≡ length c.self.inside.positions.items = omega (arith, c.self.inside.positions.ok.0) in
-    c.in_ok-position-in-None.ensures ∙ len
+    let len : c.len-position.result ≡ length c.self.inside.positions.items = omega (arith, c.self.inside.positions.ok.0) in
+    len
     ∙ (told-now c.self.inside r c.args.number c.get-registration.result.now c.self.invariant.state c.get-registration.ensures c.in-None.is).1
     ∙ ap (λ (v : PoolView). position_of (replay v.origin v.history) c.args.number) c.self.view_is
 
@@ -64,3 +65,9 @@ returns-in_ok-push-in-None-clause-of_bank c = λ all.
     (subst (λ (v : PoolView). IsClauseOf v.bank c.in_ok-clause-in-None.clause) c.self.view_is
     (one-of-bank c.self.inside (record_of c.self.inside) c.args.number c.get-registration.result.now c.in_ok-clause-in-None.clause
     c.self.invariant.state c.get-registration.ensures c.in_ok-clause-in-None.ensures)))
+
+pub overflow_cast-position : goal.overflow_cast-position
+overflow_cast-position c =
+    let few = positions-fit c.self.inside c.self.invariant in
+    let len : c.len-position.result ≡ length c.self.inside.positions.items = omega (arith, c.self.inside.positions.ok.0) in
+    omega (arith, few, len)

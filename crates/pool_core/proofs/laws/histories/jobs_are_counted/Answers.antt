@@ -1,0 +1,5 @@
+use Rattle.pool_core.proofs.NumberLemmas.{jobs_are_counted}
+use Rattle.pool_core.proofs.laws.histories.jobs_are_counted.Goals as goal
+
+pub returns : goal.returns
+returns c = jobs_are_counted

@@ -1,0 +1,5 @@
+use Rattle.pool_core.proofs.NumberLemmas.{positions_stay}
+use Rattle.pool_core.proofs.laws.histories.positions_stay.Goals as goal
+
+pub returns : goal.returns
+returns c = positions_stay
