@@ -36,7 +36,8 @@ use Rattle.kernel_steps.specs.Lines.{is_small_term, has_small_sides}
 use Rattle.tstp_writer.specs.ReadableLines.{is_nameless_step, is_symbol_in, is_literal_over, is_term_over, bound_by, line_variables, Fits, IsReadableLine}
 use Rattle.tstp_writer.specs.WrittenLaws.{IsReadableRefutation}
 use Rattle.tstp_writer.proofs.PlaceLemmas.{all-there}
-use Rattle.prover_main.proofs.FormSymbols.{form-symbols-pass}
+use Rattle.pool_writer.proofs.FormSymbols.{form-symbols-pass}
+use Rattle.pool_writer.proofs.FormUse.{literals-over, form-used}
 
 -- ---- one line
 
@@ -98,19 +99,6 @@ literals-none (l ∷ ls) plain =
     let sides = and_parts (is_ground l.left) (is_truth l.right) parts.0 in
     ap₂ ◌++◌ (ap₂ ◌++◌ (ground-none l.left sides.0) (ap tree_variables (tree_eq-true l.right true_tree sides.1))) (literals-none ls parts.1)
 
-literals-over :
-    (symbols : List Symbol) (ls : List TreeLiteral)
-    → are_literals_of (use_of symbols) ls ≡ true → list_all (literal_symbols_pass (is_symbol_in symbols)) ls ≡ true
-    → list_all (is_literal_over symbols) ls ≡ true
-literals-over symbols [] used known = refl
-literals-over symbols (l ∷ ls) used known =
-    let one = and_parts (is_literal_of (use_of symbols) l) (are_literals_of (use_of symbols) ls) used in
-    let two = and_parts (literal_symbols_pass (is_symbol_in symbols) l) (list_all (literal_symbols_pass (is_symbol_in symbols)) ls) known in
-    let kind = (and_parts (is_literal (is_predicate_in symbols) l) _ one.0).0 in
-    and_from (is_literal_over symbols l) (list_all (is_literal_over symbols) ls)
-    (and_from (is_literal (is_predicate_in symbols) l) (literal_symbols_pass (is_symbol_in symbols) l) kind two.0)
-    (literals-over symbols ls one.1 two.1)
-
 sides-small :
     (ls : List TreeLiteral)
     → list_all is_ground_with_truth ls ≡ true → list_all (λ (l : TreeLiteral). nat_le (tree_size l.left) MOST_SYMBOLS) ls ≡ true
@@ -158,13 +146,6 @@ all-pass test [] all = All-nil (λ (c : TreeClause). clause_symbols_pass test c 
 all-pass test (c ∷ cs) all =
     let parts = and_parts (clause_symbols_pass test c) (list_all (clause_symbols_pass test) cs) all in
     All-cons (λ (d : TreeClause). clause_symbols_pass test d ≡ true) c cs parts.0 (all-pass test cs parts.1)
-
-form-used :
-    (problem : List Annotated)
-    → list_all (λ (c : TreeClause). are_literals_of (use_of (clausal_form problem).symbols) c.literals) (clausal_form problem).clauses ≡ true
-form-used problem =
-    let formed = forms-are-well-formed problem in
-    subst (λ (u : SymbolUse). list_all (λ (c : TreeClause). are_literals_of u c.literals) (clausal_form problem).clauses ≡ true) formed.1 formed.0.used
 
 readable-lines :
     (problem : List Annotated) (lines : List Line)
