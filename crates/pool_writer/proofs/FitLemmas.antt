@@ -1,11 +1,12 @@
 -- Variables below a bound are counted by a machine word.
-use Rattle.std.proofs.Common.{◌≡◌, ℕ, ◌+◌, ◌≤◌, ◌<◌, ◌^◌, max, List, [], ◌∷◌, ◌++◌, refl, ap, sym, ◌∙◌, subst, arith}
-use Rattle.std.specs.Prelude.{flat_map}
+use Rattle.std.proofs.Common.{◌≡◌, ℕ, ◌+◌, ◌≤◌, ◌<◌, ◌^◌, max, List, [], ◌∷◌, ◌++◌, zero, suc, take, length, refl, ap, sym, ◌∙◌, subst, arith}
+use Rattle.std.specs.Prelude.{flat_map, slice_get, Some}
 use Rattle.std.specs.List.{AllByRecursion}
 use Rattle.fol_base.specs.Tree.{Tree, Trees, trees_of, tree_variables, trees_variables}
 use Rattle.fol_base.specs.Clause.{TreeClause, clause_variables}
 use Rattle.fol_base.specs.Canonical.{bound_of}
 use Rattle.kernel_steps.specs.declared.step.Step.{Step}
+use Rattle.kernel_steps.proofs.LoopLemmas.{take_more_there}
 use Rattle.tstp_writer.specs.ReadableLines.{Fits, bound_by, line_variables}
 
 fits-below : (vs : List ℕ) → bound_of vs ≤ 2 ^ 32 → AllByRecursion Fits vs
@@ -54,3 +55,23 @@ pub line-fits :
     → AllByRecursion Fits (flat_map tree_variables (bound_by step)) → AllByRecursion Fits (line_variables step c)
 line-fits step c bound is low terms =
     fits-append (clause_variables c) (flat_map tree_variables (bound_by step)) (fits-below (clause_variables c) (omega (arith, is, low))) terms
+
+-- ---- lines, one after another
+
+all-pushed : {X : Type 0} (P : X → Type 0) (xs : List X) (x : X) → AllByRecursion P xs → P x → AllByRecursion P (xs ++ x ∷ [])
+all-pushed P [] x all one = (one, tt)
+all-pushed P (y ∷ ys) x all one = (all.0, all-pushed P ys x all.1 one)
+
+pub all-more :
+    {X : Type 0} (P : X → Type 0) (xs : List X) (k : ℕ) (x : X)
+    → slice_get xs k ≡ Some x → AllByRecursion P (take k xs) → P x → AllByRecursion P (take (k + 1) xs)
+all-more P xs k x at all one = subst (AllByRecursion P) (sym (take_more_there xs k x at)) (all-pushed P (take k xs) x all one)
+
+take-past : {X : Type 0} (xs : List X) (k : ℕ) → length xs ≤ k → take k xs ≡ xs
+take-past [] zero long = refl
+take-past [] (suc k) long = refl
+take-past (x ∷ xs) zero long = absurd (omega (arith, long))
+take-past (x ∷ xs) (suc k) long = ap (λ ys. x ∷ ys) (take-past xs k (omega (arith, long)))
+
+pub all-taken : {X : Type 0} (P : X → Type 0) (xs : List X) (k : ℕ) → length xs ≤ k → AllByRecursion P (take k xs) → AllByRecursion P xs
+all-taken P xs k long all = subst (AllByRecursion P) (take-past xs k long) all
