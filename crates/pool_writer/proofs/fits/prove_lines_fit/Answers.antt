@@ -1,4 +1,4 @@
-use Rattle.std.proofs.Common.{refl, arith, length}
+use Rattle.std.proofs.Common.{refl, length}
 use Rattle.std.specs.List.{AllByRecursion}
 use Rattle.std.proofs.lemmas.Option.{slice_get_read}
 use Rattle.fol_base.specs.Literal.{clause_of}
@@ -8,7 +8,10 @@ use Rattle.pool_writer.proofs.FitLemmas.{all-more, all-taken}
 use Rattle.pool_writer.proofs.fits.prove_lines_fit.Goals as goal
 
 pub loop-line-preserved : goal.loop-line-preserved
-loop-line-preserved c = ?
+loop-line-preserved c =
+    all-more (λ (k : Line). AllByRecursion Fits (line_variables k.step (clause_of k.clause))) c.args.lines.now c.loop-line.line-index c.line-item.result
+    (slice_get_read c.args.lines.now (length c.args.lines.now) c.loop-line.line-index c.line-item.result refl c.loop-line-test.true c.line-item.is)
+    c.loop-line.invariant c.prove_line_fits.ensures
 
 pub returns : goal.returns
 returns c =
