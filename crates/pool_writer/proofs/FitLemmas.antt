@@ -1,8 +1,8 @@
 -- Variables below a bound are counted by a machine word.
-use Rattle.std.proofs.Common.{◌≡◌, ℕ, ◌+◌, ◌≤◌, ◌<◌, ◌^◌, max, List, [], ◌∷◌, ◌++◌, zero, suc, take, length, refl, ap, sym, ◌∙◌, subst, arith}
+use Rattle.std.proofs.Common.{◌≡◌, ℕ, ◌+◌, ◌≤◌, ◌^◌, List, [], ◌∷◌, ◌++◌, zero, suc, take, length, refl, ap, sym, subst, arith}
 use Rattle.std.specs.Prelude.{flat_map, slice_get, Some}
 use Rattle.std.specs.List.{AllByRecursion}
-use Rattle.fol_base.specs.Tree.{Tree, Trees, trees_of, tree_variables, trees_variables}
+use Rattle.fol_base.specs.Tree.{Tree, trees_of, tree_variables, trees_variables}
 use Rattle.fol_base.specs.Clause.{TreeClause, clause_variables}
 use Rattle.fol_base.specs.Canonical.{bound_of}
 use Rattle.kernel_steps.specs.declared.step.Step.{Step}

@@ -1,7 +1,7 @@
 -- The lines of a refuted pool: a refutation of the problem's form that can be made anew, and read again.
-use Rattle.std.proofs.Common.{◌≡◌, ℕ, Bool, ◌+◌, ◌-◌, ◌<◌, List, [], ◌∷◌, ◌++◌, true, false, length, Option, None, Some, refl, ap, sym, ◌∙◌, subst, arith, length-append}
+use Rattle.std.proofs.Common.{◌≡◌, ℕ, Bool, ◌+◌, ◌-◌, ◌<◌, List, [], ◌∷◌, true, false, length, Option, None, Some, refl, ap, sym, ◌∙◌, subst, arith, length-append}
 use Rattle.std.specs.Prelude.{slice_get, position, if◌then◌else◌}
-use Rattle.std.specs.List.{list_all, AllByRecursion}
+use Rattle.std.specs.List.{AllByRecursion}
 use Rattle.std.proofs.lemmas.Option.{none-some}
 use Rattle.fol_base.specs.Clause.{TreeClause}
 use Rattle.fol_base.specs.Literal.{clause_of}
@@ -21,8 +21,8 @@ use Rattle.pool_core.specs.Record.{PoolRecord}
 use Rattle.pool_core.specs.Replay.{Origin, replay}
 use Rattle.pool_core.specs.declared.event.Event.{Event}
 use Rattle.pool_core.specs.declared.outcome.Outcome.{Outcome}
-use Rattle.pool_core.specs.declared.outcome.Outcome.TheVariants.{Refuted, Saturated, Heavy}
-use Rattle.retracing.specs.Retraced.{steps_of, AreRefutingSteps, AreRetraced, IsRetracing}
+use Rattle.pool_core.specs.declared.outcome.Outcome.TheVariants.{Refuted}
+use Rattle.retracing.specs.Retraced.{steps_of, AreRefutingSteps, IsRetracing}
 use Rattle.pool_writer.specs.Refuted.{IsPoolRefutation}
 use Rattle.pool_writer.proofs.FormUse.{form-used}
 use Rattle.pool_writer.proofs.ReadableLines.{plain-steps, readable-anew}

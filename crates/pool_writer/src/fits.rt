@@ -1,4 +1,4 @@
-// The variables of lines are counted by a machine word: their numbers are read once.
+// The variables of lines are counted by a machine word, as they must be to be read again: their numbers are looked at once.
 
 ghost use Rattle.std.specs.Prelude.{flat_map};
 ghost use Rattle.std.specs.List.{AllByRecursion};
@@ -9,7 +9,7 @@ ghost use Rattle.tstp_writer.specs.ReadableLines.{Fits, bound_by, line_variables
 
 use kernel_steps::{Line, Step};
 
-/// Reads the variables of lines.
+/// The variables of lines are counted by a machine word.
 pub(crate) fn prove_lines_fit(lines: &[Line])
     ensures { AllByRecursion (λ (l : Line). AllByRecursion Fits (line_variables l.step (clause_of l.clause))) lines.now }
 {
@@ -18,6 +18,7 @@ pub(crate) fn prove_lines_fit(lines: &[Line])
     }
 }
 
+/// So are those of one line.
 fn prove_line_fits(line: &Line)
     ensures { AllByRecursion Fits (line_variables line.now.step (clause_of line.now.clause)) }
 {
@@ -25,6 +26,7 @@ fn prove_line_fits(line: &Line)
     prove_step_fits(&line.step);
 }
 
+/// So are those of what a step binds.
 fn prove_step_fits(step: &Step)
     ensures { AllByRecursion Fits (flat_map tree_variables (bound_by step.now)) }
 {

@@ -16,9 +16,9 @@ ghost use Rattle.pool_writer.specs.Refuted.{IsPoolRefutation, IsRefutationText};
 
 use crate::fits::prove_lines_fit;
 use clausal_form::Clausal;
+use plain_types::{Mem, Text};
 use pool_core::Pool;
 use pool_core::laws::{lines_are_derived, refuted_is_refutation};
-use plain_types::{Mem, Text};
 use retracing::refutation;
 use std::alloc::Global;
 use tptp_tree::Problem;

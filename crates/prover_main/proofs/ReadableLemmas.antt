@@ -6,12 +6,11 @@ use Rattle.std.proofs.lemmas.Bool.{and_parts, and_from, eqb-true, le-leb, trueâ‰
 use Rattle.std.proofs.lemmas.List.Elements.{All-nil, All-cons}
 use Rattle.fol_base.specs.Tree.{Tree, variable, application, Trees, no_trees, tree_then, tree_size, tree_variables, trees_variables, true_tree, is_truth}
 use Rattle.fol_base.specs.Ground.{is_ground, are_ground}
-use Rattle.fol_base.specs.Kind.{is_literal}
 use Rattle.fol_base.specs.Clause.{TreeLiteral, TreeClause, literal_variables, clause_variables}
 use Rattle.fol_base.specs.Canonical.{distinct, numbers_from}
 use Rattle.fol_base.specs.Literal.{clause_of}
 use Rattle.fol_base.specs.GroundForm.{IsGroundForm, form_size}
-use Rattle.fol_base.specs.WellFormed.{SymbolUse, is_literal_of, are_literals_of}
+use Rattle.fol_base.specs.WellFormed.{are_literals_of}
 use Rattle.fol_base.specs.declared.limits.TheConstants.{MOST_SYMBOLS}
 use Rattle.fol_base.proofs.TestLemmas.{list_all-item}
 use Rattle.fol_base.proofs.TreeLemmas.{tree_eq-true}
@@ -20,7 +19,7 @@ use Rattle.signature.specs.declared.symbol.Symbol.{Symbol}
 use Rattle.signature.specs.Form.{clausal_form}
 use Rattle.kernel_steps.specs.Derivation.{IsRefutation}
 use Rattle.kernel_steps.specs.Soundness.{bindings_of, binds_each}
-use Rattle.kernel_steps.specs.Symbols.{literal_symbols_pass, clause_symbols_pass}
+use Rattle.kernel_steps.specs.Symbols.{clause_symbols_pass}
 use Rattle.kernel_steps.specs.declared.step.Step.{Step}
 use Rattle.kernel_steps.specs.declared.step.Step.TheVariants.{Input, Negate, Clausify, Para, Refl, Factor, Merge, Component, Opposite, Split, Chain}
 use Rattle.kernel_steps.specs.declared.step.Line.{Line}
@@ -28,12 +27,10 @@ use Rattle.kernel_steps.proofs.LineLemmas.{last-there}
 use Rattle.ground_loop.specs.Lines.{is_loop_step}
 use Rattle.ground_loop.specs.GroundLines.{is_ground_with_truth, IsPlainClause, has_lefts_up_to, AreGroundLines}
 use Rattle.ground_loop.proofs.GroundLineLemmas.{ground_steps_keep_use, ground_steps_keep_symbols, ground_steps_stay_small}
-use Rattle.clausal_form.specs.FormFunctions.{is_predicate_in}
 use Rattle.clausal_form.specs.FormLaws.{use_of}
 use Rattle.clausal_form.proofs.MeasureLemmas.{length-append}
-use Rattle.clausal_form.proofs.WellFormedLemmas.{forms-are-well-formed}
 use Rattle.kernel_steps.specs.Lines.{is_small_term, has_small_sides}
-use Rattle.tstp_writer.specs.ReadableLines.{is_nameless_step, is_symbol_in, is_literal_over, is_term_over, bound_by, line_variables, Fits, IsReadableLine}
+use Rattle.tstp_writer.specs.ReadableLines.{is_nameless_step, is_symbol_in, is_term_over, bound_by, line_variables, Fits, IsReadableLine}
 use Rattle.tstp_writer.specs.WrittenLaws.{IsReadableRefutation}
 use Rattle.tstp_writer.proofs.PlaceLemmas.{all-there}
 use Rattle.pool_writer.proofs.FormSymbols.{form-symbols-pass}

@@ -1,4 +1,4 @@
-use Rattle.std.proofs.Common.{map, ap, ◌∙◌}
+use Rattle.std.proofs.Common.{map, ap}
 use Rattle.fol_base.specs.Literal.{clause_of}
 use Rattle.signature.specs.Form.{ClausalForm}
 use Rattle.pool_writer.proofs.PoolRefutations.{pool-refutation}

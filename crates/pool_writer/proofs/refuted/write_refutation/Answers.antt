@@ -1,4 +1,4 @@
-use Rattle.std.proofs.Common.{◌≡◌, ℕ, ◌-◌, map, length, sym, subst, arith}
+use Rattle.std.proofs.Common.{ℕ, ◌-◌, map, sym, subst, arith}
 use Rattle.std.specs.List.{AllByRecursion}
 use Rattle.std.proofs.lemmas.Result.{IfOk-weaker}
 use Rattle.fol_base.specs.Literal.{clause_of}
