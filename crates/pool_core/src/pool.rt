@@ -219,6 +219,7 @@ impl Pool {
         ensures lawful { IsHistoryOf self.now.origin self.now.history }
         ensures inputs { AreInputs self.now.origin.inputs }
         ensures limit { IsLimit self.now.origin.options }
+        ensures unsplit { self.now.origin.options.split ≡ false }
     {
         &self.history
     }

@@ -3,7 +3,6 @@ pub mod PageLemmas
 pub mod AnswerLemmas
 pub mod WordLemmas
 pub mod OriginLemmas
-pub mod FormSymbols
 pub mod ReadableLemmas
 pub mod TextLemmas
 pub mod SatisfiedLemmas

@@ -6,12 +6,11 @@ use Rattle.std.proofs.lemmas.Bool.{and_parts, and_from, eqb-true, le-leb, true�
 use Rattle.std.proofs.lemmas.List.Elements.{All-nil, All-cons}
 use Rattle.fol_base.specs.Tree.{Tree, variable, application, Trees, no_trees, tree_then, tree_size, tree_variables, trees_variables, true_tree, is_truth}
 use Rattle.fol_base.specs.Ground.{is_ground, are_ground}
-use Rattle.fol_base.specs.Kind.{is_literal}
 use Rattle.fol_base.specs.Clause.{TreeLiteral, TreeClause, literal_variables, clause_variables}
 use Rattle.fol_base.specs.Canonical.{distinct, numbers_from}
 use Rattle.fol_base.specs.Literal.{clause_of}
 use Rattle.fol_base.specs.GroundForm.{IsGroundForm, form_size}
-use Rattle.fol_base.specs.WellFormed.{SymbolUse, is_literal_of, are_literals_of}
+use Rattle.fol_base.specs.WellFormed.{are_literals_of}
 use Rattle.fol_base.specs.declared.limits.TheConstants.{MOST_SYMBOLS}
 use Rattle.fol_base.proofs.TestLemmas.{list_all-item}
 use Rattle.fol_base.proofs.TreeLemmas.{tree_eq-true}
@@ -20,7 +19,7 @@ use Rattle.signature.specs.declared.symbol.Symbol.{Symbol}
 use Rattle.signature.specs.Form.{clausal_form}
 use Rattle.kernel_steps.specs.Derivation.{IsRefutation}
 use Rattle.kernel_steps.specs.Soundness.{bindings_of, binds_each}
-use Rattle.kernel_steps.specs.Symbols.{literal_symbols_pass, clause_symbols_pass}
+use Rattle.kernel_steps.specs.Symbols.{clause_symbols_pass}
 use Rattle.kernel_steps.specs.declared.step.Step.{Step}
 use Rattle.kernel_steps.specs.declared.step.Step.TheVariants.{Input, Negate, Clausify, Para, Refl, Factor, Merge, Component, Opposite, Split, Chain}
 use Rattle.kernel_steps.specs.declared.step.Line.{Line}
@@ -28,15 +27,14 @@ use Rattle.kernel_steps.proofs.LineLemmas.{last-there}
 use Rattle.ground_loop.specs.Lines.{is_loop_step}
 use Rattle.ground_loop.specs.GroundLines.{is_ground_with_truth, IsPlainClause, has_lefts_up_to, AreGroundLines}
 use Rattle.ground_loop.proofs.GroundLineLemmas.{ground_steps_keep_use, ground_steps_keep_symbols, ground_steps_stay_small}
-use Rattle.clausal_form.specs.FormFunctions.{is_predicate_in}
 use Rattle.clausal_form.specs.FormLaws.{use_of}
 use Rattle.clausal_form.proofs.MeasureLemmas.{length-append}
-use Rattle.clausal_form.proofs.WellFormedLemmas.{forms-are-well-formed}
 use Rattle.kernel_steps.specs.Lines.{is_small_term, has_small_sides}
-use Rattle.tstp_writer.specs.ReadableLines.{is_nameless_step, is_symbol_in, is_literal_over, is_term_over, bound_by, line_variables, Fits, IsReadableLine}
+use Rattle.tstp_writer.specs.ReadableLines.{is_nameless_step, is_symbol_in, is_term_over, bound_by, line_variables, Fits, IsReadableLine}
 use Rattle.tstp_writer.specs.WrittenLaws.{IsReadableRefutation}
 use Rattle.tstp_writer.proofs.PlaceLemmas.{all-there}
-use Rattle.prover_main.proofs.FormSymbols.{form-symbols-pass}
+use Rattle.pool_writer.proofs.FormSymbols.{form-symbols-pass}
+use Rattle.pool_writer.proofs.FormUse.{literals-over, form-used}
 
 -- ---- one line
 
@@ -98,19 +96,6 @@ literals-none (l ∷ ls) plain =
     let sides = and_parts (is_ground l.left) (is_truth l.right) parts.0 in
     ap₂ ◌++◌ (ap₂ ◌++◌ (ground-none l.left sides.0) (ap tree_variables (tree_eq-true l.right true_tree sides.1))) (literals-none ls parts.1)
 
-literals-over :
-    (symbols : List Symbol) (ls : List TreeLiteral)
-    → are_literals_of (use_of symbols) ls ≡ true → list_all (literal_symbols_pass (is_symbol_in symbols)) ls ≡ true
-    → list_all (is_literal_over symbols) ls ≡ true
-literals-over symbols [] used known = refl
-literals-over symbols (l ∷ ls) used known =
-    let one = and_parts (is_literal_of (use_of symbols) l) (are_literals_of (use_of symbols) ls) used in
-    let two = and_parts (literal_symbols_pass (is_symbol_in symbols) l) (list_all (literal_symbols_pass (is_symbol_in symbols)) ls) known in
-    let kind = (and_parts (is_literal (is_predicate_in symbols) l) _ one.0).0 in
-    and_from (is_literal_over symbols l) (list_all (is_literal_over symbols) ls)
-    (and_from (is_literal (is_predicate_in symbols) l) (literal_symbols_pass (is_symbol_in symbols) l) kind two.0)
-    (literals-over symbols ls one.1 two.1)
-
 sides-small :
     (ls : List TreeLiteral)
     → list_all is_ground_with_truth ls ≡ true → list_all (λ (l : TreeLiteral). nat_le (tree_size l.left) MOST_SYMBOLS) ls ≡ true
@@ -158,13 +143,6 @@ all-pass test [] all = All-nil (λ (c : TreeClause). clause_symbols_pass test c 
 all-pass test (c ∷ cs) all =
     let parts = and_parts (clause_symbols_pass test c) (list_all (clause_symbols_pass test) cs) all in
     All-cons (λ (d : TreeClause). clause_symbols_pass test d ≡ true) c cs parts.0 (all-pass test cs parts.1)
-
-form-used :
-    (problem : List Annotated)
-    → list_all (λ (c : TreeClause). are_literals_of (use_of (clausal_form problem).symbols) c.literals) (clausal_form problem).clauses ≡ true
-form-used problem =
-    let formed = forms-are-well-formed problem in
-    subst (λ (u : SymbolUse). list_all (λ (c : TreeClause). are_literals_of u c.literals) (clausal_form problem).clauses ≡ true) formed.1 formed.0.used
 
 readable-lines :
     (problem : List Annotated) (lines : List Line)

@@ -684,3 +684,7 @@ pub form-symbols-pass :
 form-symbols-pass fs =
     formed-right (form_test fs) (symbol_numbers fs) 0 fs nothing_made (knows-problem fs) (all-known (true_symbol ∷ []) fs)
     (record { skolem = skolem-at fs; naming = naming-at fs })
+
+-- and `$true`
+pub truth-passes : (fs : List Annotated) → is_symbol_in (clausal_form fs).symbols 0 0 ≡ true
+truth-passes fs = (knows-problem fs).first

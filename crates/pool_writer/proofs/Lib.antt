@@ -1,0 +1,7 @@
+-- The symbols of a form (FormSymbols) and their use (FormUse); lines that can be read again (ReadableLines), and the refutation of a
+-- pool (PoolRefutations).
+pub mod FormSymbols
+pub mod FormUse
+mod FitLemmas
+mod ReadableLines
+mod PoolRefutations

@@ -1,0 +1,7 @@
+// What is written of a pool that has ended.
+#![tactic(auto)]
+
+mod fits;
+mod refuted;
+
+pub use refuted::write_refutation;
