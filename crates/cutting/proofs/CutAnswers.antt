@@ -7,13 +7,12 @@ use Rattle.std.proofs.lemmas.Option.{none-some, same_Some, slice_get_within}
 use Rattle.plain_types.specs.declared.sequence.NameLit.{NameLit}
 use Rattle.fol_base.specs.Tree.{Tree, tree_variables}
 use Rattle.fol_base.specs.Instance.{substitution}
-use Rattle.fol_base.specs.Clause.{TreeLiteral, TreeClause, LiteralVariablesBelow, literal_instance, literal_variables}
+use Rattle.fol_base.specs.Clause.{TreeLiteral, TreeClause, LiteralVariablesBelow, literal_variables}
 use Rattle.fol_base.specs.Ground.{literals_instance}
 use Rattle.fol_base.specs.Canonical.{renaming}
 use Rattle.fol_base.specs.Kind.{is_literal}
 use Rattle.fol_base.specs.Literal.{clause_of}
 use Rattle.fol_base.specs.Numbering.{with_variables}
-use Rattle.fol_base.specs.Order.{equivalent_literals}
 use Rattle.fol_base.specs.Rules.{resolved}
 use Rattle.fol_base.specs.Sides.{other_side_of}
 use Rattle.fol_base.specs.Subsumption.{assertions, is_among}
@@ -40,7 +39,6 @@ use Rattle.cutting.specs.Removing.{IsOwnStep, IsTrivialAt, own_terms}
 use Rattle.cutting.specs.declared.cutting.Cut.{Cut}
 use Rattle.cutting.specs.declared.cut_lines.CutLines.{CutLines}
 use Rattle.cutting.proofs.OwnLemmas.{own-below, own-literals}
-use Rattle.cutting.proofs.SuperposingLemmas.{under-renamed}
 use Rattle.cutting.proofs.CutLemmas.{negative-unit, positive-unit, signs, unit-below}
 use Rattle.cutting.proofs.LeavingLemmas.{FirstShape, first-shape, left-canonical}
 use Rattle.cutting.proofs.CutStepLemmas.{cut-by, cut-lines, cut-to, first-negative, first-positive}
@@ -328,12 +326,12 @@ pub cut-made :
     → is_among unit.clause.names (assertions c.names) ≡ true → AreLinesOfCut unit c number cut lines → AreCutOrNone unit c number (Some lines)
 cut-made unit c number cut lines of among are = record {
   loses = λ fit. record {
-      j = cut.index;
-      literal = of.cuts.literal;
-      there = of.cuts.there;
-      canonical =
-          left-canonical c fit number of.cuts.literal cut.index of.cuts.there of.cuts.literal.positive lines.first lines.second are.names
-          (shape-is (clause_at unit.clause) c cut of unit.number number lines.first are.first) (are.second of.cuts.literal of.cuts.there);
+    j = cut.index;
+    literal = of.cuts.literal;
+    there = of.cuts.there;
+    canonical =
+        left-canonical c fit number of.cuts.literal cut.index of.cuts.there of.cuts.literal.positive lines.first lines.second are.names
+        (shape-is (clause_at unit.clause) c cut of unit.number number lines.first are.first) (are.second of.cuts.literal of.cuts.there);
   };
   makes = λ usage clauses low there wf fit past. makes-cut unit c number cut lines of among are usage clauses low there wf fit past;
 }

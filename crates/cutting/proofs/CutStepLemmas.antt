@@ -1,6 +1,6 @@
 -- A cut as a move: the unit's line, the line of the resolution, and what they lead to.
 use Rattle.std.proofs.Common.{◌≡◌, ℕ, zero, suc, ◌+◌, ◌-◌, ◌<◌, ◌≤◌, Bool, true, false, ◌&&◌, ◌||◌, ◌==◌, not, nat_lt, Option, None, Some, List, [], ◌∷◌, ◌++◌, map, refl, ap, ap₂, sym, ◌∙◌, subst, inl, inr, ⊎_elim, arith}
-use Rattle.std.specs.Prelude.{filter, flat_map, option_map, slice_get, sum_by, remove, if◌then◌else◌}
+use Rattle.std.specs.Prelude.{filter, option_map, slice_get, sum_by, remove, if◌then◌else◌}
 use Rattle.std.specs.List.{list_any}
 use Rattle.std.proofs.lemmas.Bool.{true≢false, and_from, and_parts, cond-true, cond-false, le-ltb, lt-ltb, not-true, or_cases}
 use Rattle.std.proofs.lemmas.List.Elements.{All-cons, All-nil, filter-append}
@@ -9,21 +9,18 @@ use Rattle.std.proofs.lemmas.List.Sums.{sum_by-cons}
 use Rattle.std.proofs.lemmas.Option.{none-some, same_Some}
 use Rattle.plain_types.specs.declared.sequence.NameLit.{NameLit}
 use Rattle.plain_types.specs.Names.{has_name, same_name}
-use Rattle.fol_base.specs.Tree.{Tree, trees_of, trees_variables, is_truth}
+use Rattle.fol_base.specs.Tree.{Tree, is_truth}
 use Rattle.fol_base.specs.Instance.{Substitution, instance, substitution}
-use Rattle.fol_base.specs.Clause.{TreeLiteral, TreeClause, literal_instance, literal_size, literal_variables, clause_size}
-use Rattle.fol_base.specs.Ground.{literals_instance}
+use Rattle.fol_base.specs.Clause.{TreeLiteral, TreeClause, literal_instance, literal_size, clause_size}
 use Rattle.fol_base.specs.Canonical.{canonical_clause}
 use Rattle.fol_base.specs.Kind.{is_function_term, is_literal}
 use Rattle.fol_base.specs.Literal.{clause_of}
-use Rattle.fol_base.specs.Numbering.{with_variables}
 use Rattle.fol_base.specs.Order.{equivalent_literals}
 use Rattle.fol_base.specs.Rules.{resolved}
 use Rattle.fol_base.specs.Sides.{other_side_of}
 use Rattle.fol_base.specs.Subsumption.{assertions, is_among}
 use Rattle.fol_base.specs.declared.clause.Side.{Side}
 use Rattle.fol_base.specs.declared.limits.TheConstants.{MOST_SYMBOLS, MOST_BOUND_SYMBOLS}
-use Rattle.fol_base.proofs.InferenceLemmas.{map-remove}
 use Rattle.fol_base.proofs.OrderLemmas.{equivalent_literals-decided}
 use Rattle.kernel_steps.specs.Conclusion.{concludes, verdict}
 use Rattle.kernel_steps.specs.Derivation.{AreSteps, complement, continued, introduces_name, is_clause_step, line_parent, line_parents}
@@ -37,13 +34,12 @@ use Rattle.kernel_steps.specs.declared.step.TheConstants.{CLAUSE_NUMBERS}
 use Rattle.kernel_steps.specs.declared.step.Step.{Step}
 use Rattle.kernel_steps.specs.declared.step.Step.TheVariants.{Para, Refl}
 use Rattle.kernel_steps.specs.declared.step.Line.{Line}
-use Rattle.kernel_steps.proofs.NameRanks.{sorted_names-same, sorted-same}
+use Rattle.kernel_steps.proofs.NameRanks.{sorted_names-same}
 use Rattle.kernel_steps.proofs.NameTruth.{same_name-says}
 use Rattle.bank_clause.specs.Parts.{assertion}
 use Rattle.unifier.specs.Matching.{by_pairs}
 use Rattle.unifier.proofs.KindLemmas.{matchers_put_function_terms}
 use Rattle.subsume.specs.Kinds.{are_alike}
-use Rattle.eq_rules.proofs.WideLemmas.{renamed-literals_size}
 use Rattle.reduction.specs.Extending.{AreLinesOfMove, parents_with}
 use Rattle.cutting.specs.Cutting.{IsFirstLine, IsFitting, before_last, fitting_side, last_index, open_side, turned, unit_terms}
 use Rattle.cutting.specs.CutSteps.{CutsTo}

@@ -1,5 +1,5 @@
 -- Where no unit of the set cuts a literal.
-use Rattle.std.proofs.Common.{◌≡◌, ℕ, ◌+◌, ◌<◌, ◌≤◌, Bool, true, false, ◌||◌, List, [], ◌∷◌, length, ap, sym, ◌∙◌, subst, ⊎_elim, arith}
+use Rattle.std.proofs.Common.{◌≡◌, ℕ, ◌+◌, ◌<◌, ◌≤◌, Bool, true, false, List, [], ◌∷◌, length, ap, sym, ◌∙◌, subst, ⊎_elim, arith}
 use Rattle.std.specs.Prelude.{Option, Some, slice_get, MatchBool}
 use Rattle.std.proofs.lemmas.Bool.{or_left, or_right, cases_order}
 use Rattle.std.proofs.lemmas.Option.{same_Some, slice_get_within}

@@ -34,10 +34,10 @@ loop-member-preserved c = λ usage of_unit of_members.
     (c.loop-member.invariant usage of_unit of_members)
     (c.in_ok-is_cut.ensures usage of_unit (member-formed usage c.args.clauses.now read i m c.as_slice-member-items.ensures c.loop-member-test.true c.member-item.is of_members))
     (elim c.if-branch.branch [
-      then-branch+in_ok-push w ↦
-        pushed c.in_ok-is_cut.field-0 old c.if-branch.found.items w.from.result m.number w.if-branch.true (rw w.found-is w.in_ok-push.ensures.items)
-        w.from.ensures
-    | else-branch w ↦ stayed c.in_ok-is_cut.field-0 old c.if-branch.found.items m.number w.if-branch.false (rw w.found-is refl)
+      | then-branch+in_ok-push w ↦
+          pushed c.in_ok-is_cut.field-0 old c.if-branch.found.items w.from.result m.number w.if-branch.true (rw w.found-is w.in_ok-push.ensures.items)
+          w.from.ensures
+      | else-branch w ↦ stayed c.in_ok-is_cut.field-0 old c.if-branch.found.items m.number w.if-branch.false (rw w.found-is refl)
     ]))
 
 pub returns : goal.returns

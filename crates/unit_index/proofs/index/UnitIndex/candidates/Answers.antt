@@ -1,4 +1,4 @@
-use Rattle.std.proofs.Common.{List, ℕ, ◌++◌, ap, ap₂, sym, ◌∙◌}
+use Rattle.std.proofs.Common.{List, ℕ, ◌++◌, ap₂, ◌∙◌}
 use Rattle.fol_base.specs.Lent.{lent_of}
 use Rattle.unit_index.specs.Indexed.{HasCandidates}
 use Rattle.unit_index.proofs.IndexedLemmas.{candidates}

@@ -3,7 +3,6 @@ use Rattle.std.specs.Prelude.{slice_get}
 use Rattle.fol_base.specs.Lent.{lent_of}
 use Rattle.fol_base.specs.Literal.{clause_of}
 use Rattle.kernel_steps.specs.declared.step.Reduced.{Reduced}
-use Rattle.disc_tree.specs.Entries.{IsIn}
 use Rattle.unit_index.specs.Indexed.{HasCandidates}
 use Rattle.unit_index.specs.Cuts.{CutsNoneAt, IsCutOrNoneOf}
 use Rattle.unit_index.proofs.CutLemmas.{none-of-all, none-over, one-more}
