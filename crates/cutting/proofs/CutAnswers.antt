@@ -1,5 +1,5 @@
 -- What the calls that cut answer.
-use Rattle.std.proofs.Common.{◌≡◌, ℕ, zero, suc, ◌+◌, ◌<◌, ◌≤◌, Bool, true, false, ◌&&◌, ◌||◌, ◌==◌, not, Option, Some, List, [], ◌∷◌, ◌++◌, length, refl, ap, sym, ◌∙◌, subst, ⊎_elim, arith}
+use Rattle.std.proofs.Common.{◌≡◌, ℕ, zero, suc, ◌+◌, ◌<◌, ◌≤◌, Bool, true, false, ◌&&◌, ◌||◌, ◌==◌, not, Option, None, Some, List, [], ◌∷◌, ◌++◌, length, refl, ap, sym, ◌∙◌, subst, ⊎_elim, arith}
 use Rattle.std.specs.Prelude.{flat_map, slice_get, slice_set, remove, is_some}
 use Rattle.std.specs.List.{AllByRecursion, list_any}
 use Rattle.std.proofs.lemmas.Bool.{true≢false, cases_Bool, cond-true, cond-false, not-true, not-false}
@@ -7,13 +7,12 @@ use Rattle.std.proofs.lemmas.Option.{none-some, same_Some, slice_get_within}
 use Rattle.plain_types.specs.declared.sequence.NameLit.{NameLit}
 use Rattle.fol_base.specs.Tree.{Tree, tree_variables}
 use Rattle.fol_base.specs.Instance.{substitution}
-use Rattle.fol_base.specs.Clause.{TreeLiteral, TreeClause, LiteralVariablesBelow, literal_instance, literal_variables}
+use Rattle.fol_base.specs.Clause.{TreeLiteral, TreeClause, LiteralVariablesBelow, literal_variables}
 use Rattle.fol_base.specs.Ground.{literals_instance}
 use Rattle.fol_base.specs.Canonical.{renaming}
 use Rattle.fol_base.specs.Kind.{is_literal}
 use Rattle.fol_base.specs.Literal.{clause_of}
 use Rattle.fol_base.specs.Numbering.{with_variables}
-use Rattle.fol_base.specs.Order.{equivalent_literals}
 use Rattle.fol_base.specs.Rules.{resolved}
 use Rattle.fol_base.specs.Sides.{other_side_of}
 use Rattle.fol_base.specs.Subsumption.{assertions, is_among}
@@ -32,17 +31,17 @@ use Rattle.subsume.proofs.SubsumingLemmas.{asserted}
 use Rattle.eq_rules.proofs.PremiseLemmas.{literal-kind}
 use Rattle.eq_rules.proofs.RenumberedLemmas.{met_onward, variables_between}
 use Rattle.eq_rules.proofs.StepLemmas.{exchanged-variables, others-variables}
-use Rattle.cutting.specs.Cutting.{FitsNot, IsFirstLine, IsFitting, before_last, fitting_side, last_index, open_side, unit_terms, unsolvable}
+use Rattle.cutting.specs.Cutting.{IsCut, IsCutOrNone, IsFirstLine, IsFitting, before_last, fitting_side, last_index, open_side, unit_terms, unsolvable}
 use Rattle.cutting.specs.Superposing.{IsSuperposed, superposed_under}
 use Rattle.cutting.specs.Fit.{IsFit}
-use Rattle.cutting.specs.CutSteps.{AreCutOrNone, AreLinesOfCut, CutsNone, IsCutOf, MakesCut, before_last_variables}
+use Rattle.cutting.specs.CutSteps.{AreCutOrNone, AreLinesOfCut, CutsNone, CutsOrNot, IsCutOf, IsCutOfOrNone, MakesCut, before_last_variables}
 use Rattle.cutting.specs.Removing.{IsOwnStep, IsTrivialAt, own_terms}
 use Rattle.cutting.specs.declared.cutting.Cut.{Cut}
 use Rattle.cutting.specs.declared.cut_lines.CutLines.{CutLines}
 use Rattle.cutting.proofs.OwnLemmas.{own-below, own-literals}
-use Rattle.cutting.proofs.SuperposingLemmas.{under-renamed}
 use Rattle.cutting.proofs.CutLemmas.{negative-unit, positive-unit, signs, unit-below}
-use Rattle.cutting.proofs.CutStepLemmas.{cut-lines, cut-to, first-negative, first-positive}
+use Rattle.cutting.proofs.LeavingLemmas.{FirstShape, first-shape, left-canonical}
+use Rattle.cutting.proofs.CutStepLemmas.{cut-by, cut-lines, cut-to, first-negative, first-positive}
 
 -- ---- assertions
 
@@ -125,8 +124,12 @@ trivial-renamed positive ls j l t order d there is =
     let parts = resolved-parts d.literals k (literals_instance (renaming order) (remove plain k)) renamed in
     (slice_get_within d.literals k parts.literal parts.literal_there, ap is_some renamed)
 
+not-swapped : (a b : Bool) → not a ≡ b → a ≡ not b
+not-swapped true b h = ap not h
+not-swapped false b h = ap not h
+
 module _
-    (uc c : TreeClause) (cut : Cut) (of : IsCutOf uc c cut) (n number : ℕ) (line : Line)
+    (uc c : TreeClause) (cut : Cut) (of : IsCutOf uc c.literals cut) (n number : ℕ) (line : Line)
     (first : (l : TreeLiteral) → slice_get c.literals cut.index ≡ Some l → IsFirstLine l.positive uc n c number l cut line) where
   abbrev u : TreeLiteral
   u = of.literal
@@ -137,28 +140,16 @@ module _
   sign : not u.positive ≡ lit.positive
   sign = signs uc u of.is_unit lit cut.fitting of.cuts.fits
 
-  by_sign : (b : Bool) → lit.positive ≡ b → IsFirstLine b uc n c number lit cut line → IsTrivialAt (clause_of line.clause) (last_index b cut.index)
-  by_sign true positive it =
-      let plain : List TreeLiteral = before_last true c.literals cut.index (other_side_of (open_side lit) lit) in
-      trivial-renamed true c.literals cut.index lit (other_side_of (open_side lit) lit) it.order (clause_of line.clause) of.cuts.there
-      (same_Some (clause_of line.clause).literals (literals_instance (renaming it.order) plain)
-      (sym it.gives
-      ∙ under-renamed c.literals uc.literals _ _ _ _ _ _ it.first_bind it.second_bind it.order (own-below c)
-      (unit-below uc u of.is_unit lit cut.fitting of.cuts.fits) it.first_renamed it.second_renamed plain
-      (negative-unit uc u of.is_unit lit cut.fitting of.cuts.fits c cut.index of.cuts.there (not-true u.positive (sign ∙ positive)))))
-  by_sign false negative it =
-      let plain : List TreeLiteral = before_last false c.literals cut.index (other_side_of (open_side lit) lit) in
-      trivial-renamed false c.literals cut.index lit (other_side_of (open_side lit) lit) it.order (clause_of line.clause) of.cuts.there
-      (same_Some (clause_of line.clause).literals (literals_instance (renaming it.order) plain)
-      (sym it.gives
-      ∙ under-renamed uc.literals c.literals _ _ _ _ _ _ it.first_bind it.second_bind it.order
-      (unit-below uc u of.is_unit lit cut.fitting of.cuts.fits) (own-below c) it.first_renamed it.second_renamed plain
-      (positive-unit uc u of.is_unit lit cut.fitting of.cuts.fits c cut.index of.cuts.there (not-false u.positive (sign ∙ negative)))))
+  shape-is : FirstShape (before_last lit.positive c.literals cut.index (other_side_of (open_side lit) lit)) line
+  shape-is =
+      first-shape uc u of.is_unit c lit cut of.cuts.there of.cuts.fits n number line lit.positive (not-swapped u.positive lit.positive sign)
+      (first lit of.cuts.there)
 
   pub trivial-after : (l : TreeLiteral) → slice_get c.literals cut.index ≡ Some l → IsTrivialAt (clause_of line.clause) (last_index l.positive cut.index)
   trivial-after l there =
       subst (λ (k : TreeLiteral). IsTrivialAt (clause_of line.clause) (last_index k.positive cut.index)) (same_Some lit l (sym of.cuts.there ∙ there))
-      (by_sign lit.positive refl (first lit of.cuts.there))
+      (trivial-renamed lit.positive c.literals cut.index lit (other_side_of (open_side lit) lit) shape-is.order (clause_of line.clause) of.cuts.there
+      shape-is.literals)
 
 -- ---- the first line
 
@@ -192,7 +183,7 @@ superposed-same ls ls' left left' i s s' a a' ks ks' right right' j z z' b b' me
     (subst (λ x. IsSuperposed x left i s a ks right j z b met line) e1 it))))))))
 
 module _
-    (uc c : TreeClause) (cut : Cut) (of : IsCutOf uc c cut) (m : TreeLiteral) (m_there : slice_get c.literals cut.index ≡ Some m)
+    (uc c : TreeClause) (cut : Cut) (of : IsCutOf uc c.literals cut) (m : TreeLiteral) (m_there : slice_get c.literals cut.index ≡ Some m)
     (own terms : List Tree) (lent : List TreeLiteral) (side turned_side : Side) (own_is : own ≡ own_terms c)
     (terms_are : terms ≡ unit_terms uc cut.fitting.terms) (lent_is : lent ≡ uc.literals) (side_is : side ≡ open_side m)
     (turned_is : turned_side ≡ fitting_side cut.fitting.crossed side) where
@@ -270,7 +261,7 @@ module _
 -- ---- the cut
 
 module _
-    (unit : Member) (c : TreeClause) (number : ℕ) (cut : Cut) (lines : CutLines) (of : IsCutOf (clause_at unit.clause) c cut)
+    (unit : Member) (c : TreeClause) (number : ℕ) (cut : Cut) (lines : CutLines) (of : IsCutOf (clause_at unit.clause) c.literals cut)
     (among : is_among unit.clause.names (assertions c.names) ≡ true) (are : AreLinesOfCut unit c number cut lines)
     (usage : SymbolUse) (clauses : ℕ → Option TreeClause) (low : unit.number < CLAUSE_NUMBERS) (there : clauses unit.number ≡ Some (clause_at unit.clause))
     (wf : AreOfUse usage (clause_at unit.clause) c) (fit : IsFit c) (past : CLAUSE_NUMBERS ≤ number) where
@@ -331,10 +322,19 @@ module _
   makes-cut = by cut_literal.positive refl (are.first cut_literal of.cuts.there) (are.second cut_literal of.cuts.there)
 
 pub cut-made :
-    (unit : Member) (c : TreeClause) (number : ℕ) (cut : Cut) (lines : CutLines) → IsCutOf (clause_at unit.clause) c cut
+    (unit : Member) (c : TreeClause) (number : ℕ) (cut : Cut) (lines : CutLines) → IsCutOf (clause_at unit.clause) c.literals cut
     → is_among unit.clause.names (assertions c.names) ≡ true → AreLinesOfCut unit c number cut lines → AreCutOrNone unit c number (Some lines)
-cut-made unit c number cut lines of among are usage clauses low there wf fit past =
-    makes-cut unit c number cut lines of among are usage clauses low there wf fit past
+cut-made unit c number cut lines of among are = record {
+  loses = λ fit. record {
+    j = cut.index;
+    literal = of.cuts.literal;
+    there = of.cuts.there;
+    canonical =
+        left-canonical c fit number of.cuts.literal cut.index of.cuts.there of.cuts.literal.positive lines.first lines.second are.names
+        (shape-is (clause_at unit.clause) c cut of unit.number number lines.first are.first) (are.second of.cuts.literal of.cuts.there);
+  };
+  makes = λ usage clauses low there wf fit past. makes-cut unit c number cut lines of among are usage clauses low there wf fit past;
+}
 
 -- ---- where nothing is cut
 
@@ -342,15 +342,43 @@ pub none-asserted : (unit : Member) (c : TreeClause) → is_among unit.clause.na
 none-asserted unit c missing usage wf d cuts =
     true≢false (sym cuts.asserted ∙ ap (λ xs. is_among xs (assertions c.names)) (asserted unit.clause.names) ∙ missing)
 
-pub none-fits :
-    (unit : Member) (c : TreeClause) (u : TreeLiteral) → (clause_at unit.clause).literals ≡ u ∷ []
-    → ((j : ℕ) (l : TreeLiteral) → slice_get c.literals j ≡ Some l → FitsNot (complement u) l) → CutsNone unit c
-none-fits unit c u is_unit none usage wf d cuts =
-    let same : cuts.unit_literal ≡ u = same_Some cuts.unit_literal u (ap (λ (ls : List TreeLiteral). slice_get ls 0) (sym cuts.is_unit ∙ is_unit)) in
-    none cuts.j cuts.literal cuts.literal_there usage.is_predicate
-    (literal-kind usage (clause_at unit.clause) 0 u wf.first (ap (λ (ls : List TreeLiteral). slice_get ls 0) is_unit))
-    (literal-kind usage c cuts.j cuts.literal wf.second cuts.literal_there) cuts.matcher cuts.function_terms
-    (ap (λ k. equivalent_literals (literal_instance cuts.matcher (complement k)) cuts.literal) (sym same) ∙ cuts.matches) cuts.no_truths
+pub none-fits : (unit : Member) (c : TreeClause) → IsCutOfOrNone (clause_at unit.clause) c.literals None → CutsNone unit c
+none-fits unit c none usage wf d cuts =
+    none cuts.unit_literal cuts.is_unit cuts.j cuts.literal cuts.literal_there usage.is_predicate
+    (literal-kind usage (clause_at unit.clause) 0 cuts.unit_literal wf.first (ap (λ (ls : List TreeLiteral). slice_get ls 0) cuts.is_unit))
+    (literal-kind usage c cuts.j cuts.literal wf.second cuts.literal_there) cuts.matcher cuts.function_terms cuts.matches cuts.no_truths
+
+-- ---- whether something is cut
+
+-- what a search finds for the complement of a unit's literal
+pub of-unit :
+    (uc : TreeClause) (u wanted : TreeLiteral) (ls : List TreeLiteral) → uc.literals ≡ u ∷ [] → wanted ≡ complement u
+    → (found : Option Cut) → IsCutOrNone wanted ls found → IsCutOfOrNone uc ls found
+of-unit uc u wanted ls is_unit is None none = λ k alone.
+    let same : u ≡ k = same_Some u k (ap (λ (ms : List TreeLiteral). slice_get ms 0) (sym is_unit ∙ alone)) in
+    subst (λ (w : TreeLiteral). IsCutOrNone w ls None) (is ∙ ap complement same) none
+of-unit uc u wanted ls is_unit is (Some cut) it =
+    record { literal = u; is_unit = is_unit; cuts = subst (λ (w : TreeLiteral). IsCut w ls cut) is it }
+
+pub cuts-or-not :
+    (unit : Member) (c : TreeClause) (ls : List TreeLiteral) (found : Option Cut) (answer : Bool)
+    → is_among unit.clause.names (assertions c.names) ≡ true → ls ≡ c.literals → IsCutOfOrNone (clause_at unit.clause) ls found → answer ≡ is_some found
+    → CutsOrNot unit c answer
+cuts-or-not unit c ls None answer among same it is =
+    subst (CutsOrNot unit c) (sym is)
+    (none-fits unit c (subst (λ (ks : List TreeLiteral). IsCutOfOrNone (clause_at unit.clause) ks None) same it))
+cuts-or-not unit c ls (Some cut) answer among same it is =
+    subst (CutsOrNot unit c) (sym is)
+    (λ usage wf.
+    let of : IsCutOf (clause_at unit.clause) c.literals cut = subst (λ (ks : List TreeLiteral). IsCutOf (clause_at unit.clause) ks cut) same it in
+    record {
+      result = record { literals = remove c.literals cut.index; names = c.names };
+      cuts =
+          cut-by usage.is_predicate (clause_at unit.clause) of.literal of.is_unit c of.cuts.literal cut of.cuts.there of.cuts.fits
+          (literal-kind usage (clause_at unit.clause) 0 of.literal wf.first (ap (λ (ks : List TreeLiteral). slice_get ks 0) of.is_unit))
+          (literal-kind usage c cut.index of.cuts.literal wf.second of.cuts.there)
+          (ap (λ xs. is_among xs (assertions c.names)) (asserted unit.clause.names) ∙ among);
+    })
 
 -- a list of one
 pub single : (ls : List TreeLiteral) (u : TreeLiteral) → length ls ≡ 1 → slice_get ls 0 ≡ Some u → ls ≡ u ∷ []

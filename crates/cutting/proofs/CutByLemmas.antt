@@ -1,8 +1,9 @@
 -- A clause that is reduced by a cut.
-use Rattle.std.proofs.Common.{◌≡◌, ℕ, ◌≤◌, Bool, true, Option, Some, [], ◌∷◌, refl, ap, sym, ◌∙◌, subst, arith}
+use Rattle.std.proofs.Common.{◌≡◌, ℕ, ◌<◌, ◌≤◌, Bool, true, Option, Some, [], ◌∷◌, refl, ap, sym, ◌∙◌, subst, arith}
 use Rattle.fol_base.specs.Clause.{TreeClause}
 use Rattle.fol_base.specs.Canonical.{distinct}
 use Rattle.fol_base.specs.Literal.{clause_of}
+use Rattle.fol_base.specs.WellFormed.{SymbolUse}
 use Rattle.kernel_steps.specs.Lines.{clauses_named}
 use Rattle.kernel_steps.specs.declared.step.TheConstants.{CLAUSE_NUMBERS}
 use Rattle.kernel_steps.specs.declared.step.Reduced.{Reduced}
@@ -12,30 +13,40 @@ use Rattle.reduction.specs.Reduced.{IsReduced}
 use Rattle.reduction.specs.Extending.{AreLinesOfMove, IsExtended, last_number, noted}
 use Rattle.reduction.proofs.ExtendingLemmas.{steps_go_on}
 use Rattle.subsume.specs.Target.{AreOfUse}
-use Rattle.cutting.specs.CutSteps.{AreCutOrNone, CutsTo, IsCutStep, IsCutUnit}
-use Rattle.cutting.specs.Fit.{IsFit}
+use Rattle.cutting.specs.CutSteps.{AreCutOrNone, CutsTo, GoesOnByCut, IsCutStep, IsCutUnit}
+use Rattle.cutting.specs.Fit.{IsFit, LosesLiteral}
 use Rattle.cutting.specs.declared.cut_lines.CutLines.{CutLines}
 
 pub went-on :
     (unit : Member) (old new : Reduced) (lines : CutLines) (number : ℕ) → number ≡ last_number old.lines
     → AreCutOrNone unit (clause_of old.clause) number (Some lines)
     → IsExtended old (Some unit.number) (lines.first ∷ lines.second ∷ []) new → IsCutStep unit old new true
-went-on unit old new lines number last makes extended usage clauses low there wf fit =
-    let past : CLAUSE_NUMBERS ≤ number = omega (arith, last) in
-    let made = makes usage clauses low there wf fit past in
-    record {
-      goes_on = record {
-        move = record { by = Some unit.number; gives = clause_of lines.second.clause };
-        lines = lines.first ∷ lines.second ∷ [];
-        of_unit = refl;
-        makes =
-            subst
-            (λ n. AreLinesOfMove usage.is_predicate clauses (clause_of old.clause) n (record { by = Some unit.number; gives = clause_of lines.second.clause })
-            (lines.first ∷ lines.second ∷ [])) last made.makes;
-        extended = extended;
-      };
-      cuts = subst (CutsTo usage.is_predicate (clause_at unit.clause) (clause_of old.clause)) (sym extended.clause) made.cuts;
-    }
+went-on unit old new lines number last are extended = record {
+  loses = λ fit. subst (LosesLiteral (clause_of old.clause)) (sym extended.clause) (are.loses fit);
+  goes_on = goes;
+}
+  where
+    goes :
+        (usage : SymbolUse) (clauses : ℕ → Option TreeClause)
+        → unit.number < CLAUSE_NUMBERS → clauses unit.number ≡ Some (clause_at unit.clause)
+        → AreOfUse usage (clause_at unit.clause) (clause_of old.clause) → IsFit (clause_of old.clause)
+        → GoesOnByCut usage.is_predicate clauses unit old new
+    goes usage clauses low there wf fit =
+        let past : CLAUSE_NUMBERS ≤ number = omega (arith, last) in
+        let made = are.makes usage clauses low there wf fit past in
+        record {
+          goes_on = record {
+            move = record { by = Some unit.number; gives = clause_of lines.second.clause };
+            lines = lines.first ∷ lines.second ∷ [];
+            of_unit = refl;
+            makes =
+                subst
+                (λ n. AreLinesOfMove usage.is_predicate clauses (clause_of old.clause) n (record { by = Some unit.number; gives = clause_of lines.second.clause })
+                (lines.first ∷ lines.second ∷ [])) last made.makes;
+            extended = extended;
+          };
+          cuts = subst (CutsTo usage.is_predicate (clause_at unit.clause) (clause_of old.clause)) (sym extended.clause) made.cuts;
+        }
 
 pub cut-once :
     (unit : Member) (c : TreeClause) (old new : Reduced)
@@ -43,7 +54,7 @@ pub cut-once :
     → clause_of old.clause ≡ c → old.lines ≡ [] → IsCutStep unit old new true → IsCutUnit unit c (Some new)
 cut-once unit c old new reduced same no_lines step usage clauses low there wf fit =
     let went =
-    step usage clauses low there (subst (AreOfUse usage (clause_at unit.clause)) (sym same) wf) (subst IsFit (sym same) fit) in
+    step.goes_on usage clauses low there (subst (AreOfUse usage (clause_at unit.clause)) (sym same) wf) (subst IsFit (sym same) fit) in
     let it = reduced usage.is_predicate clauses in
     let none : old.used ≡ [] = it.used ∙ ap (λ ls. distinct (clauses_named ls)) no_lines in
     record {

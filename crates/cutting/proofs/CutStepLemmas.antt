@@ -1,6 +1,6 @@
 -- A cut as a move: the unit's line, the line of the resolution, and what they lead to.
 use Rattle.std.proofs.Common.{◌≡◌, ℕ, zero, suc, ◌+◌, ◌-◌, ◌<◌, ◌≤◌, Bool, true, false, ◌&&◌, ◌||◌, ◌==◌, not, nat_lt, Option, None, Some, List, [], ◌∷◌, ◌++◌, map, refl, ap, ap₂, sym, ◌∙◌, subst, inl, inr, ⊎_elim, arith}
-use Rattle.std.specs.Prelude.{filter, flat_map, option_map, slice_get, sum_by, remove, if◌then◌else◌}
+use Rattle.std.specs.Prelude.{filter, option_map, slice_get, sum_by, remove, if◌then◌else◌}
 use Rattle.std.specs.List.{list_any}
 use Rattle.std.proofs.lemmas.Bool.{true≢false, and_from, and_parts, cond-true, cond-false, le-ltb, lt-ltb, not-true, or_cases}
 use Rattle.std.proofs.lemmas.List.Elements.{All-cons, All-nil, filter-append}
@@ -9,21 +9,18 @@ use Rattle.std.proofs.lemmas.List.Sums.{sum_by-cons}
 use Rattle.std.proofs.lemmas.Option.{none-some, same_Some}
 use Rattle.plain_types.specs.declared.sequence.NameLit.{NameLit}
 use Rattle.plain_types.specs.Names.{has_name, same_name}
-use Rattle.fol_base.specs.Tree.{Tree, trees_of, trees_variables, is_truth}
+use Rattle.fol_base.specs.Tree.{Tree, is_truth}
 use Rattle.fol_base.specs.Instance.{Substitution, instance, substitution}
-use Rattle.fol_base.specs.Clause.{TreeLiteral, TreeClause, literal_instance, literal_size, literal_variables, clause_size}
-use Rattle.fol_base.specs.Ground.{literals_instance}
-use Rattle.fol_base.specs.Canonical.{distinct, renaming}
+use Rattle.fol_base.specs.Clause.{TreeLiteral, TreeClause, literal_instance, literal_size, clause_size}
+use Rattle.fol_base.specs.Canonical.{canonical_clause}
 use Rattle.fol_base.specs.Kind.{is_function_term, is_literal}
 use Rattle.fol_base.specs.Literal.{clause_of}
-use Rattle.fol_base.specs.Numbering.{with_variables}
 use Rattle.fol_base.specs.Order.{equivalent_literals}
 use Rattle.fol_base.specs.Rules.{resolved}
 use Rattle.fol_base.specs.Sides.{other_side_of}
 use Rattle.fol_base.specs.Subsumption.{assertions, is_among}
 use Rattle.fol_base.specs.declared.clause.Side.{Side}
 use Rattle.fol_base.specs.declared.limits.TheConstants.{MOST_SYMBOLS, MOST_BOUND_SYMBOLS}
-use Rattle.fol_base.proofs.InferenceLemmas.{map-remove}
 use Rattle.fol_base.proofs.OrderLemmas.{equivalent_literals-decided}
 use Rattle.kernel_steps.specs.Conclusion.{concludes, verdict}
 use Rattle.kernel_steps.specs.Derivation.{AreSteps, complement, continued, introduces_name, is_clause_step, line_parent, line_parents}
@@ -37,13 +34,12 @@ use Rattle.kernel_steps.specs.declared.step.TheConstants.{CLAUSE_NUMBERS}
 use Rattle.kernel_steps.specs.declared.step.Step.{Step}
 use Rattle.kernel_steps.specs.declared.step.Step.TheVariants.{Para, Refl}
 use Rattle.kernel_steps.specs.declared.step.Line.{Line}
-use Rattle.kernel_steps.proofs.NameRanks.{sorted_names-same, sorted-same}
+use Rattle.kernel_steps.proofs.NameRanks.{sorted_names-same}
 use Rattle.kernel_steps.proofs.NameTruth.{same_name-says}
 use Rattle.bank_clause.specs.Parts.{assertion}
 use Rattle.unifier.specs.Matching.{by_pairs}
 use Rattle.unifier.proofs.KindLemmas.{matchers_put_function_terms}
 use Rattle.subsume.specs.Kinds.{are_alike}
-use Rattle.eq_rules.proofs.WideLemmas.{renamed-literals_size}
 use Rattle.reduction.specs.Extending.{AreLinesOfMove, parents_with}
 use Rattle.cutting.specs.Cutting.{IsFirstLine, IsFitting, before_last, fitting_side, last_index, open_side, turned, unit_terms}
 use Rattle.cutting.specs.CutSteps.{CutsTo}
@@ -51,11 +47,12 @@ use Rattle.cutting.specs.Fit.{IsFit}
 use Rattle.cutting.specs.Removing.{IsOwnStep, own_terms}
 use Rattle.cutting.specs.declared.cutting.Cut.{Cut}
 use Rattle.cutting.proofs.RemovalLemmas.{resolved-removes}
-use Rattle.cutting.proofs.MoveLemmas.{IsGood, IsOnOne, d-canonical, good-line, no-symbols, right-step, smaller-removed, number-there}
-use Rattle.cutting.proofs.TwoLemmas.{AreTerms, two-good, two-literals, two-symbols, two-verdict}
+use Rattle.cutting.proofs.MoveLemmas.{IsGood, IsOnOne, good-line, no-symbols, right-step, number-there}
+use Rattle.cutting.proofs.TwoLemmas.{AreTerms, two-good, two-symbols, two-verdict}
 use Rattle.cutting.proofs.CutLemmas.{negative-unit, positive-unit, signs}
 use Rattle.cutting.proofs.UnitLemmas.{own-terms, unit-are, unit-symbols}
-use Rattle.cutting.proofs.CutLineLemmas.{canonical-left, left-before, literal-passes, negative-there, sides-before, size-before}
+use Rattle.cutting.proofs.CutLineLemmas.{literal-passes, negative-there, sides-before}
+use Rattle.cutting.proofs.LeavingLemmas.{FirstShape, bounded-first, first-shape, left-canonical, left-small, on-last}
 use Rattle.cutting.proofs.OwnLemmas.{own-at}
 
 -- ---- names
@@ -95,19 +92,13 @@ names-behind ns ms h =
 
 -- ---- the lines
 
-abbrev canon : List TreeLiteral → List TreeLiteral
-canon ls = literals_instance (renaming (distinct (flat_map literal_variables ls))) ls
-
 abbrev as_parent : TreeClause → Option Parent
 as_parent c = Some (record { clause = c; introduces = false })
 
 -- what is known of the first line
 pub record FirstFacts (p : ℕ → Bool) (n number : ℕ) (uc c : TreeClause) (plain : List TreeLiteral) (line : Line) : Type 0 where
   pub good : IsGood p line
-  pub order : List ℕ
-  pub others : List ℕ
-  pub met : order ≡ with_variables (with_variables [] (flat_map literal_variables plain)) others
-  pub literals : (clause_of line.clause).literals ≡ literals_instance (renaming order) plain
+  pub shape : FirstShape plain line
   pub right : (parents : Parents) → parents n ≡ as_parent uc → parents number ≡ as_parent c → verdict line.step parents ≡ concludes (clause_of line.clause)
   pub named : filter (λ m. nat_lt m CLAUSE_NUMBERS) (step_parents line.step) ≡ n ∷ []
   pub parent : line_parent line ≡ as_parent (clause_of line.clause)
@@ -169,11 +160,7 @@ module _
       record {
         good = two-good p uc c n number 0 cut.index z s (unit_terms uc cut.fitting.terms) (own_terms c) of_unit of_clause line plain given it
             (sides-before false c.literals cut.index l there fit.small);
-        order = it.order;
-        others = trees_variables (trees_of (unit_terms uc cut.fitting.terms ++ own_terms c));
-        met = it.order_met;
-        literals =
-            two-literals p uc c n number 0 cut.index z s (unit_terms uc cut.fitting.terms) (own_terms c) of_unit of_clause line plain given it;
+        shape = first-shape uc u is_unit c l cut there fits n number line false sign it;
         right = λ parents unit_there clause_there.
             two-verdict p uc c n number 0 cut.index z s (unit_terms uc cut.fitting.terms) (own_terms c) of_unit of_clause line plain given it
             parents unit_there clause_there
@@ -202,11 +189,7 @@ module _
       record {
         good = two-good p c uc number n cut.index 0 s z (own_terms c) (unit_terms uc cut.fitting.terms) of_clause of_unit line plain given it
             (sides-before true c.literals cut.index l there fit.small);
-        order = it.order;
-        others = trees_variables (trees_of (own_terms c ++ unit_terms uc cut.fitting.terms));
-        met = it.order_met;
-        literals =
-            two-literals p c uc number n cut.index 0 s z (own_terms c) (unit_terms uc cut.fitting.terms) of_clause of_unit line plain given it;
+        shape = first-shape uc u is_unit c l cut there fits n number line true sign it;
         right = λ parents unit_there clause_there.
             two-verdict p c uc number n cut.index 0 s z (own_terms c) (unit_terms uc cut.fitting.terms) of_clause of_unit line plain given it
             parents clause_there unit_there
@@ -233,6 +216,28 @@ matched :
     → equivalent_literals (literal_instance σ (complement u)) l ≡ true
 matched u l σ true sign left right = (equivalent_literals-decided (literal_instance σ (complement u)) l).1 (sign, inr (left, right))
 matched u l σ false sign left right = (equivalent_literals-decided (literal_instance σ (complement u)) l).1 (sign, inl (left, right))
+
+-- where a literal fits the unit's complement, the unit cuts it
+pub cut-by :
+    (p : ℕ → Bool) (uc : TreeClause) (u : TreeLiteral) → uc.literals ≡ u ∷ [] → (c : TreeClause) (l : TreeLiteral) (cut : Cut)
+    → slice_get c.literals cut.index ≡ Some l → IsFitting (complement u) l cut.fitting → is_literal p u ≡ true → is_literal p l ≡ true
+    → is_among (assertions uc.names) (assertions c.names) ≡ true
+    → CutsBy p uc c (record { literals = remove c.literals cut.index; names = c.names })
+cut-by p uc u is_unit c l cut there fits unit_kind kind among = record {
+  unit_literal = u;
+  is_unit = is_unit;
+  j = cut.index;
+  literal = l;
+  literal_there = there;
+  no_truths = not-true (is_truth l.left && is_truth l.right)
+      (and_parts (are_alike (complement u) l) (not (is_truth l.left && is_truth l.right)) fits.may).1;
+  matcher = by_pairs cut.fitting.terms;
+  function_terms = (matchers_put_function_terms p cut.fitting.terms 0 (fits.function_terms p unit_kind kind)).0;
+  matches = matched u l (by_pairs cut.fitting.terms) cut.fitting.crossed (signs uc u is_unit l cut.fitting fits) fits.turns.left fits.turns.right;
+  asserted = among;
+  gives = refl;
+  names = refl;
+}
 
 module _
     (p : ℕ → Bool) (clauses : ℕ → Option TreeClause) (n : ℕ) (low : n < CLAUSE_NUMBERS) (uc : TreeClause) (unit_there : clauses n ≡ Some uc)
@@ -262,26 +267,13 @@ module _
   outer = parents_with (clause_parents clauses) number c
 
   on : IsOnOne rule (number + 1) own.bind second.step
-  on =
-      subst (λ st. IsOnOne rule (number + 1) own.bind st) (sym own.of_step)
-      (record { on_literals = refl; by_rule = λ parents. refl; binds = refl; parent = refl })
+  on = on-last c fit number l cut.index there positive first second names facts.shape own
 
   bounded : clause_size d ≤ MOST_BOUND_SYMBOLS
-  bounded =
-      let size : clause_size d ≡ sum_by literal_size plain = ap (sum_by literal_size) facts.literals ∙ renamed-literals_size facts.order plain in
-      omega (arith, size, size-before positive c.literals cut.index l there fit.small)
-
-  left-renamed : remove d.literals k ≡ literals_instance (renaming facts.order) (remove c.literals cut.index)
-  left-renamed =
-      ap (λ ls. remove ls k) facts.literals
-      ∙ map-remove (literal_instance (renaming facts.order)) plain k
-      ∙ ap (literals_instance (renaming facts.order)) (left-before positive c.literals cut.index (other_side_of (open_side l) l))
+  bounded = bounded-first c fit number l cut.index there positive first second names facts.shape own
 
   left_small : sum_by literal_size (remove d.literals k) ≤ MOST_SYMBOLS
-  left_small =
-      let size : sum_by literal_size (remove d.literals k) ≡ sum_by literal_size (remove c.literals cut.index) =
-      ap (sum_by literal_size) left-renamed ∙ renamed-literals_size facts.order (remove c.literals cut.index) in
-      omega (arith, size, smaller-removed c.literals cut.index, fit.small)
+  left_small = left-small c fit number l cut.index there positive first second names facts.shape own
 
   good : IsGood p second
   good = good-line rule k (resolved-removes k) (number + 1) d bounded left_small second own.bind on own.gives p
@@ -321,33 +313,11 @@ module _
   abbrev left : TreeClause
   left = record { literals = remove c.literals cut.index; names = c.names }
 
-  e-canonical : e.literals ≡ canon (remove c.literals cut.index)
-  e-canonical =
-      d-canonical rule k (resolved-removes k) (number + 1) d bounded left_small second own.bind on own.gives
-      ∙ ap (λ ls. canon (remove ls k)) facts.literals
-      ∙ canonical-left plain (remove c.literals cut.index) facts.others facts.order k
-      (left-before positive c.literals cut.index (other_side_of (open_side l) l)) facts.met
-
-  e-names : e.names ≡ c.names
-  e-names =
-      own.gives.names ∙ ap sorted_names (names ∙ sym (sorted-same c.names fit.names)) ∙ sym (sorted-same c.names fit.names)
+  is-left : e ≡ canonical_clause left
+  is-left = left-canonical c fit number l cut.index there positive first second names facts.shape own
 
   cuts : CutsBy p uc c left
-  cuts = record {
-    unit_literal = u;
-    is_unit = is_unit;
-    j = cut.index;
-    literal = l;
-    literal_there = there;
-    no_truths = not-true (is_truth l.left && is_truth l.right)
-        (and_parts (are_alike (complement u) l) (not (is_truth l.left && is_truth l.right)) fits.may).1;
-    matcher = by_pairs cut.fitting.terms;
-    function_terms = (matchers_put_function_terms p cut.fitting.terms 0 (fits.function_terms p unit_kind kind)).0;
-    matches = matched u l (by_pairs cut.fitting.terms) cut.fitting.crossed (signs uc u is_unit l cut.fitting fits) fits.turns.left fits.turns.right;
-    asserted = among;
-    gives = refl;
-    names = refl;
-  }
+  cuts = cut-by p uc u is_unit c l cut there fits unit_kind kind among
 
   pub cut-lines : AreLinesOfMove p clauses c number (record { by = Some n; gives = e }) (first ∷ second ∷ [])
   cut-lines = record {
@@ -374,8 +344,7 @@ module _
         there = unit_there;
         infers = inr cuts;
       };
-      canonical =
-          ap₂ (λ (ls : List TreeLiteral) (ms : List NameLit). let f : TreeClause = record { literals = ls; names = ms } in f) e-canonical e-names;
+      canonical = is-left;
     };
   }
 
@@ -383,5 +352,5 @@ module _
   cut-to = record {
     result = left;
     cuts = cuts;
-    canonical = ap₂ (λ (ls : List TreeLiteral) (ms : List NameLit). let f : TreeClause = record { literals = ls; names = ms } in f) e-canonical e-names;
+    canonical = is-left;
   }

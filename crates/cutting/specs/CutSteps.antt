@@ -17,8 +17,8 @@ use Rattle.bank_clause.specs.declared.member.Member.{Member}
 use Rattle.subsume.specs.Target.{AreOfUse}
 use Rattle.reduction.specs.Reduced.{IsReduced}
 use Rattle.reduction.specs.Extending.{AreLinesOfMove, GoesOn}
-use Rattle.cutting.specs.Cutting.{IsCut, IsFirstLine, before_last, last_index}
-use Rattle.cutting.specs.Fit.{IsFit}
+use Rattle.cutting.specs.Cutting.{IsCut, IsCutOrNone, IsFirstLine, before_last, last_index}
+use Rattle.cutting.specs.Fit.{IsFit, LosesLiteral}
 use Rattle.cutting.specs.Removing.{IsOwnStep}
 use Rattle.cutting.specs.declared.cutting.Cut.{Cut}
 use Rattle.cutting.specs.declared.cut_lines.CutLines.{CutLines}
@@ -26,11 +26,16 @@ use Rattle.fol_base.specs.Rules.{resolved}
 
 -- ---- the lines
 
--- the clause is one literal, and a literal of the other clause fits its complement
-pub record IsCutOf (unit c : TreeClause) (cut : Cut) : Type 0 where
+-- the clause is one literal, and a literal of a list fits its complement
+pub record IsCutOf (unit : TreeClause) (ls : List TreeLiteral) (cut : Cut) : Type 0 where
   pub literal : TreeLiteral
   pub is_unit : unit.literals ≡ literal ∷ []
-  pub cuts : IsCut (complement literal) c.literals cut
+  pub cuts : IsCut (complement literal) ls cut
+
+-- or none does
+abbrev pub IsCutOfOrNone : TreeClause → List TreeLiteral → Option Cut → Type 0
+IsCutOfOrNone unit ls None = (u : TreeLiteral) → unit.literals ≡ u ∷ [] → IsCutOrNone (complement u) ls None
+IsCutOfOrNone unit ls (Some cut) = IsCutOf unit ls cut
 
 abbrev pub before_last_variables : Bool → TreeClause → ℕ → Tree → List ℕ
 before_last_variables positive c j t = flat_map literal_variables (before_last positive c.literals j t)
@@ -57,6 +62,16 @@ abbrev pub CutsNone : Member → TreeClause → Type 0
 CutsNone unit c =
     (usage : SymbolUse) → AreOfUse usage (clause_at unit.clause) c → (d : TreeClause) → CutsBy usage.is_predicate (clause_at unit.clause) c d → ⊥
 
+-- some literal is
+pub record CutsSome (is_predicate : ℕ → Bool) (unit c : TreeClause) : Type 0 where
+  pub result : TreeClause
+  pub cuts : CutsBy is_predicate unit c result
+
+-- whether some literal is
+abbrev pub CutsOrNot : Member → TreeClause → Bool → Type 0
+CutsOrNot unit c true = (usage : SymbolUse) → AreOfUse usage (clause_at unit.clause) c → CutsSome usage.is_predicate (clause_at unit.clause) c
+CutsOrNot unit c false = CutsNone unit c
+
 -- the canonical form of what a cut leads to
 pub record CutsTo (is_predicate : ℕ → Bool) (unit c d : TreeClause) : Type 0 where
   pub result : TreeClause
@@ -71,13 +86,18 @@ pub record MakesCut
       (lines.first ∷ lines.second ∷ [])
   pub cuts : CutsTo is_predicate (clause_at unit.clause) c (clause_of lines.second.clause)
 
--- they do so where the clauses are well-formed and the one that is cut isn't too large; or no literal is cut
+-- they do so where the clauses are well-formed; that a literal goes needs no use of the symbols
+pub record AreCut (unit : Member) (c : TreeClause) (number : ℕ) (lines : CutLines) : Type 0 where
+  pub loses : IsFit c → LosesLiteral c (clause_of lines.second.clause)
+  pub makes :
+      (usage : SymbolUse) (clauses : ℕ → Option TreeClause)
+      → unit.number < CLAUSE_NUMBERS → clauses unit.number ≡ Some (clause_at unit.clause) → AreOfUse usage (clause_at unit.clause) c → IsFit c
+      → CLAUSE_NUMBERS ≤ number → MakesCut usage.is_predicate clauses unit c number lines
+
+-- or no literal is cut
 abbrev pub AreCutOrNone : Member → TreeClause → ℕ → Option CutLines → Type 0
 AreCutOrNone unit c number None = CutsNone unit c
-AreCutOrNone unit c number (Some lines) =
-    (usage : SymbolUse) (clauses : ℕ → Option TreeClause)
-    → unit.number < CLAUSE_NUMBERS → clauses unit.number ≡ Some (clause_at unit.clause) → AreOfUse usage (clause_at unit.clause) c → IsFit c
-    → CLAUSE_NUMBERS ≤ number → MakesCut usage.is_predicate clauses unit c number lines
+AreCutOrNone unit c number (Some lines) = AreCut unit c number lines
 
 -- the clause that is reduced goes on by a cut
 pub record GoesOnByCut
@@ -85,12 +105,18 @@ pub record GoesOnByCut
   pub goes_on : GoesOn is_predicate clauses (Some unit.number) old new
   pub cuts : CutsTo is_predicate (clause_at unit.clause) (clause_of old.clause) (clause_of new.clause)
 
+-- a literal goes, and it does so by a cut where the clauses are well-formed
+pub record IsCutMade (unit : Member) (old new : Reduced) : Type 0 where
+  pub loses : IsFit (clause_of old.clause) → LosesLiteral (clause_of old.clause) (clause_of new.clause)
+  pub goes_on :
+      (usage : SymbolUse) (clauses : ℕ → Option TreeClause)
+      → unit.number < CLAUSE_NUMBERS → clauses unit.number ≡ Some (clause_at unit.clause)
+      → AreOfUse usage (clause_at unit.clause) (clause_of old.clause) → IsFit (clause_of old.clause)
+      → GoesOnByCut usage.is_predicate clauses unit old new
+
 -- the unit cuts a literal of the result so far, or none, and nothing has changed
 abbrev pub IsCutStep : Member → Reduced → Reduced → Bool → Type 0
-IsCutStep unit old new true =
-    (usage : SymbolUse) (clauses : ℕ → Option TreeClause)
-    → unit.number < CLAUSE_NUMBERS → clauses unit.number ≡ Some (clause_at unit.clause) → AreOfUse usage (clause_at unit.clause) (clause_of old.clause)
-    → IsFit (clause_of old.clause) → GoesOnByCut usage.is_predicate clauses unit old new
+IsCutStep unit old new true = IsCutMade unit old new
 IsCutStep unit old new false = (new ≡ old) × CutsNone unit (clause_of old.clause)
 
 -- a clause that was reduced by a cut

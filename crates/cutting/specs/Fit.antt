@@ -1,6 +1,7 @@
 -- Which clauses the steps are made for, and what a step answers.
-use Rattle.std.specs.Prelude.{◌≡◌, ℕ, ◌≤◌, Bool, true, false, Option, None, IsTrue}
-use Rattle.fol_base.specs.Clause.{TreeClause, clause_size}
+use Rattle.std.specs.Prelude.{◌≡◌, ℕ, ◌≤◌, Bool, true, false, Option, None, Some, IsTrue, remove, slice_get}
+use Rattle.fol_base.specs.Clause.{TreeLiteral, TreeClause, clause_size}
+use Rattle.fol_base.specs.Canonical.{canonical_clause}
 use Rattle.fol_base.specs.Literal.{clause_of}
 use Rattle.fol_base.specs.declared.limits.TheConstants.{MOST_SYMBOLS}
 use Rattle.kernel_steps.specs.Inference.{DropsTrivial, MergesEqual}
@@ -12,6 +13,13 @@ use Rattle.reduction.specs.Extending.{GoesOn}
 pub record IsFit (c : TreeClause) : Type 0 where
   pub small : clause_size c ≤ MOST_SYMBOLS
   pub names : IsTrue (are_sorted c.names)
+
+-- a literal goes, and the clause is numbered anew
+pub record LosesLiteral (c d : TreeClause) : Type 0 where
+  pub j : ℕ
+  pub literal : TreeLiteral
+  pub there : slice_get c.literals j ≡ Some literal
+  pub canonical : d ≡ canonical_clause (record { literals = remove c.literals j; names = c.names })
 
 -- The clause goes on by a move without a unit, whatever clauses there are.
 abbrev pub GoesOnAlone : Reduced → Reduced → Type 0

@@ -39,7 +39,7 @@ pub(crate) fn cut_lines(
     cut: &Cut<'_>,
 ) -> Mem<CutLines>
     requires member { IsMemberOf bank.now unit.now }
-    requires cut { IsCutOf (clause_at unit.now.clause) (clause_of clause.now) cut.now }
+    requires cut { IsCutOf (clause_at unit.now.clause) (clause_of clause.now).literals cut.now }
     ensures { IfOk result (AreLinesOfCut unit.now (clause_of clause.now) number cut.now) }
 {
     let first = first_line(alloc, bank, unit, clause, number, cut)?;
@@ -66,7 +66,7 @@ fn first_line(
     cut: &Cut<'_>,
 ) -> Mem<Line>
     requires member { IsMemberOf bank.now unit.now }
-    requires cut { IsCutOf (clause_at unit.now.clause) (clause_of clause.now) cut.now }
+    requires cut { IsCutOf (clause_at unit.now.clause) (clause_of clause.now).literals cut.now }
     ensures made { IfOk result (IsFirstLineOf unit.now (clause_of clause.now) number cut.now) }
     ensures names { IfOk result (λ line. line.clause.names ≡ sorted_names clause.now.names) }
 {

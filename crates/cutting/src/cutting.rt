@@ -1,19 +1,19 @@
 // Units that cut a literal of a clause: it is the complement of an instance of the unit's literal, and goes by two lines, a superposition
 // that makes it a literal without solution, and an equality resolution.
 
-ghost use Rattle.std.specs.Prelude.{◌≡◌, IfOk, IfSome, OnErr, map};
+ghost use Rattle.std.specs.Prelude.{◌≡◌, IfOk, OnErr};
 ghost use Rattle.fol_base.specs.Lent.{lent_of};
-ghost use Rattle.fol_base.specs.Literal.{clause_of, literal_of};
-ghost use Rattle.bank_clause.specs.Clause.{clause_at, IsMemberOf};
+ghost use Rattle.fol_base.specs.Literal.{clause_of};
+ghost use Rattle.bank_clause.specs.Clause.{clause_at, IsClauseOf, IsMemberOf};
 ghost use Rattle.kernel_steps.specs.Derivation.{complement};
 ghost use Rattle.cutting.specs.Cutting.{IsCutOrNone};
-ghost use Rattle.cutting.specs.CutSteps.{AreCutOrNone, IsCutStep, IsCutUnit};
+ghost use Rattle.cutting.specs.CutSteps.{AreCutOrNone, CutsOrNot, IsCutOfOrNone, IsCutStep, IsCutUnit};
 
-use crate::asserted::has_asserted;
+use crate::asserted::{are_among, has_asserted};
 use crate::cut_lines::{CutLines, cut_lines};
 use crate::matching::{Fitting, fit};
-use bank_clause::Member;
-use fol_base::{Clause, LendsLiterals, LiteralRef, Literals};
+use bank_clause::{BankClause, Member};
+use fol_base::{Clause, LendsLiterals, LiteralRef};
 use kernel_steps::Reduced;
 use plain_types::Mem;
 use reduction::{extend, last_number, unreduced};
@@ -69,20 +69,47 @@ fn find_lines(
     requires { IsMemberOf bank.now unit.now }
     ensures { IfOk result (AreCutOrNone unit.now (clause_of clause.now) number) }
 {
-    if unit.clause.literals().len() != 1 {
-        return Ok(None);
-    }
     if !has_asserted(clause.names.as_slice(), unit.clause.names()) {
         return Ok(None);
     }
-    let literals = unit.clause.lend(bank);
-    match find_cut(alloc, complement(literals.literal(0)), &clause.literals)? {
+    match find_cut_by(alloc, bank, unit, &clause.literals)? {
         None => Ok(None),
         Some(cut) => {
             let lines = cut_lines(alloc, bank, unit, clause, number, &cut)?;
             Ok(Some(lines))
         }
     }
+}
+
+/// Whether a unit cuts a literal of a clause of the bank.
+pub fn cuts(alloc: Global, bank: &Bank, unit: &Member, clause: &BankClause) -> Mem<bool>
+    requires unit { IsMemberOf bank.now unit.now }
+    requires clause { IsClauseOf bank.now clause.now }
+    ensures { IfOk result (CutsOrNot unit.now (clause_at clause.now)) }
+{
+    if !are_among(unit.clause.names(), clause.names()) {
+        return Ok(false);
+    }
+    let literals = clause.lend(bank);
+    let found = find_cut_by(alloc, bank, unit, &literals)?;
+    Ok(found.is_some())
+}
+
+/// The first literal that a unit cuts, whatever the unit asserts. None exactly where it cuts none; a clause that is no unit cuts none.
+fn find_cut_by<'t, L: LendsLiterals>(
+    alloc: Global,
+    bank: &Bank,
+    unit: &Member,
+    literals: &'t L,
+) -> Mem<Option<Cut<'t>>>
+    requires { IsMemberOf bank.now unit.now }
+    ensures { IfOk result (IsCutOfOrNone (clause_at unit.now.clause) (L.meaning literals.now)) }
+{
+    if unit.clause.literals().len() != 1 {
+        return Ok(None);
+    }
+    let own = unit.clause.lend(bank);
+    find_cut(alloc, complement(own.literal(0)), literals)
 }
 
 /// The literal with the other sign.
@@ -97,12 +124,12 @@ fn complement(literal: LiteralRef<'_>) -> LiteralRef<'_>
 }
 
 /// The first literal that is an instance of a wanted one. None exactly where there is none.
-fn find_cut<'t>(
+fn find_cut<'t, L: LendsLiterals>(
     alloc: Global,
     wanted: LiteralRef<'_>,
-    literals: &'t Literals,
+    literals: &'t L,
 ) -> Mem<Option<Cut<'t>>>
-    ensures { IfOk result (IsCutOrNone (lent_of wanted.entry) (map literal_of literals.now)) }
+    ensures { IfOk result (IsCutOrNone (lent_of wanted.entry) (L.meaning literals.now)) }
 {
     for index in 0..literals.count() {
         if let Some(fitting) = fit(alloc, wanted, literals.literal(index))? {

@@ -11,6 +11,6 @@ mod removing;
 mod superposing;
 mod tautology;
 
-pub use cutting::{cut_by, cut_unit};
+pub use cutting::{cut_by, cut_unit, cuts};
 pub use dropping::{drop_trivial, merge_equal};
 pub use tautology::is_tautology;

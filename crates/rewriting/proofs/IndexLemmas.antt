@@ -10,11 +10,11 @@ use Rattle.disc_tree.proofs.EditLemmas.{is_in-append}
 use Rattle.rewriting.specs.Units.{side_number}
 use Rattle.rewriting.specs.Index.{KeepsOthers}
 
-in-left : {X : Type 0} (x : X) (xs ys : List X) → IsIn x xs → IsIn x (xs ++ ys)
+pub in-left : {X : Type 0} (x : X) (xs ys : List X) → IsIn x xs → IsIn x (xs ++ ys)
 in-left x [] ys h = absurd h
 in-left x (z ∷ xs) ys h = ⊎_elim (λ e. inl e) (λ later. inr (in-left x xs ys later)) h
 
-in-right : {X : Type 0} (x : X) (xs ys : List X) → IsIn x ys → IsIn x (xs ++ ys)
+pub in-right : {X : Type 0} (x : X) (xs ys : List X) → IsIn x ys → IsIn x (xs ++ ys)
 in-right x [] ys h = h
 in-right x (z ∷ xs) ys h = inr (in-right x xs ys h)
 

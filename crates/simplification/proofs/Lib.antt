@@ -1,6 +1,5 @@
--- The scan for a cut (CutLemmas). Literals that go (ShorterLemmas); a bound of the symbols (BoundLemmas); single steps (StepLemmas), and the loop over them (LoopLemmas).
+-- Literals that go (ShorterLemmas); a bound of the symbols (BoundLemmas); single steps (StepLemmas), and the loop over them (LoopLemmas).
 -- What becomes of a clause (SimplifiedLemmas).
-mod CutLemmas
 mod ShorterLemmas
 mod BoundLemmas
 mod StepLemmas

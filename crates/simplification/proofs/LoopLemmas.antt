@@ -16,8 +16,9 @@ use Rattle.demodulate.specs.Rank.{RanksKept, clause_rank, has_symbols_below}
 use Rattle.demodulate.specs.Normal.{IsRewritten, kept}
 use Rattle.cutting.specs.Fit.{GoesOnAlone, IsFit}
 use Rattle.simplification.specs.Reducing.{GoesFurther, IsFurther, IsIrreducibleBySteps, NoStepBy}
-use Rattle.simplification.specs.Steps.{IsCutBySome, IsStep, NoStep}
-use Rattle.simplification.specs.Usable.{AreFormed, AreOfClauses, HaveUse, without}
+use Rattle.unit_index.specs.Cuts.{IsCutBySome}
+use Rattle.simplification.specs.Steps.{IsStep, NoStep}
+use Rattle.simplification.specs.Usable.{AreFormed, AreOfClauses, without}
 use Rattle.simplification.proofs.BoundLemmas.{Below, bound_for, clause-below, members-below}
 use Rattle.simplification.proofs.ShorterLemmas.{Shortens, shorter-canonical, shorter-formed, shorter-names, shorter-passes, shorter-rank, shorter-size}
 use Rattle.simplification.proofs.StepLemmas.{equations-among, formed-equations, formed-unit, none-applies, shortens-alone, shortens-cut, unit-among}
@@ -49,7 +50,7 @@ begins equations units out first canonical = record {
 module _
     (law : StepsGoOn) (ranks : RanksKept) (equations units : List Member) (out : Option ℕ) (first old new : Reduced)
     (sorted : IsTrue (are_sorted (clause_of first.clause).names)) (small : clause_size (clause_of first.clause) ≤ MOST_SYMBOLS)
-    (use_ : HaveUse equations units (clause_of first.clause)) (before : Lasts equations units out first old) where
+    (before : Lasts equations units out first old) where
   abbrev bound : ℕ
   bound = bound_for (clause_of first.clause) equations
 
@@ -105,11 +106,11 @@ module _
 
   cut : IsCutBySome units out old new → Both
   cut h =
-      by-shorter (shortens-cut use_.usage equations units out old new (formed-now use_.usage use_.formed) fit h)
+      by-shorter (shortens-cut units out old new fit h)
       (λ usage clauses formed are c reduced.
-      law usage.is_predicate (without out clauses) c (Some h.unit.number) old new reduced
-      (h.cut.step usage (without out clauses) h.cut.numbered (unit-among clauses equations units out are h.unit h.there h.cut.kept)
-      (formed-unit usage equations units (clause_of old.clause) (formed-now usage formed) h.unit h.there) fit).goes_on)
+      law usage.is_predicate (without out clauses) c (Some h.number) old new reduced
+      (h.step.goes_on usage (without out clauses) h.low (unit-among clauses equations units out are h.number h.clause h.there h.kept)
+      (formed-unit usage equations units (clause_of old.clause) (formed-now usage formed) h.number h.clause h.there) fit).goes_on)
 
   rewritten : IsRewritten (kept equations out) old new → Both
   rewritten h =

@@ -89,7 +89,7 @@ module _
   member-of :
       (clauses : ℕ → Option TreeClause) → HasAll clauses members → (n : ℕ) (d : TreeClause) → without out clauses n ≡ Some d
       → IsMemberWith members n d
-  member-of clauses all n d there = (all n d).1 ((without-parts out clauses n d there).1, tt)
+  member-of clauses all n d there = (all n d).1 (without-parts out clauses n d there).1
 
   subsumer-of :
       (usage : SymbolUse) (clauses : ℕ → Option TreeClause) (n : ℕ) (d : TreeClause) → without out clauses n ≡ Some d
@@ -111,7 +111,7 @@ module _
             without-from out clauses n (clause_at some.member.clause)
             (ap (is_kept out) (sym some.number) ∙ kept-from out some.member.number some.does.other)
             ((all n (clause_at some.member.clause)).0
-            (record { member = some.member; there = some.there; number = some.number; clause = refl })).0;
+            (record { member = some.member; there = some.there; number = some.number; clause = refl }));
         subsumes = some.does.subsumes;
         lowest = λ k d there subsumes.
             let m = member-of clauses all k d there in

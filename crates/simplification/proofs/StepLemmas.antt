@@ -1,8 +1,7 @@
 -- Single steps: what they do to the clause, and what no step means.
 use Rattle.std.proofs.Common.{◌≡◌, ◌⊎◌, ℕ, Bool, true, false, List, [], ◌∷◌, length, Option, None, Some, refl, ap, sym, ◌∙◌, subst, inr, ⊎_elim}
-use Rattle.std.specs.Prelude.{Contains, MatchBool, option_map, if◌then◌else◌}
+use Rattle.std.specs.Prelude.{MatchBool, option_map, remove, if◌then◌else◌}
 use Rattle.std.proofs.lemmas.Bool.{cond-true}
-use Rattle.std.proofs.lemmas.List.Elements.{All-contains}
 use Rattle.std.proofs.lemmas.Option.{none-some, same_Some}
 use Rattle.fol_base.specs.Clause.{TreeLiteral, TreeClause, literal_instance}
 use Rattle.fol_base.specs.Ground.{literals_instance}
@@ -14,16 +13,18 @@ use Rattle.kernel_steps.specs.Inference.{CutsBy, DropsTrivial, MergesEqual, Rewr
 use Rattle.kernel_steps.specs.Moves.{IsMove}
 use Rattle.kernel_steps.specs.declared.step.Reduced.{Reduced}
 use Rattle.bank_clause.specs.Clause.{clause_at}
+use Rattle.bank_clause.specs.declared.clause.BankClause.{BankClause}
 use Rattle.bank_clause.specs.declared.member.Member.{Member}
 use Rattle.rewriting.specs.Laws.{AreWellFormed, NoneRewrites}
 use Rattle.rewriting.specs.Units.{IsUnit, clause_numbered, is_kept}
-use Rattle.subsume.specs.Searching.{IsMemberOfUse}
+use Rattle.rewriting.proofs.NumberedLemmas.{from-map}
 use Rattle.subsume.specs.Target.{AreOfUse}
 use Rattle.demodulate.specs.Normal.{AreSomeOf, kept}
 use Rattle.cutting.specs.Fit.{GoesOnAlone, HasNoEqual, HasNoTrivial, IsFit}
 use Rattle.simplification.specs.Reducing.{NoStepBy}
-use Rattle.simplification.specs.Steps.{IsCutBySome, IsCutOrNone, IsDone, IsStep, NoStep, NoneCuts}
-use Rattle.simplification.specs.Usable.{AreFormed, AreOfClauses, IsAmong, IsMemberWith, without}
+use Rattle.unit_index.specs.Cuts.{IsCutBySome, IsCutOrNone, NoneCuts}
+use Rattle.simplification.specs.Steps.{IsDone, IsStep, NoStep}
+use Rattle.simplification.specs.Usable.{AreFormed, AreOfClauses, IsAmong, without}
 use Rattle.simplification.proofs.BoundLemmas.{kept-there}
 use Rattle.simplification.proofs.ShorterLemmas.{Shortens}
 
@@ -53,11 +54,10 @@ equations-among clauses equations units out are n c h =
 
 pub unit-among :
     (clauses : ℕ → Option TreeClause) (equations units : List Member) (out : Option ℕ)
-    → AreOfClauses clauses equations units → (unit : Member) → Contains units unit → is_kept out unit.number ≡ true
-    → without out clauses unit.number ≡ Some (clause_at unit.clause)
-unit-among clauses equations units out are unit there may =
-    without-from out clauses unit.number (clause_at unit.clause) may
-    ((are.units unit.number (clause_at unit.clause)).0 (record { member = unit; there = there; number = refl; clause = refl })).0
+    → AreOfClauses clauses equations units → (n : ℕ) (u : BankClause) → clause_numbered n units ≡ Some u → is_kept out n ≡ true
+    → without out clauses n ≡ Some (clause_at u)
+unit-among clauses equations units out are n u there may =
+    without-from out clauses n (clause_at u) may ((are.units n (clause_at u)).0 (ap (option_map clause_at) there)).0
 
 -- ---- well-formed clauses
 
@@ -73,9 +73,8 @@ formed-equations usage equations units out c formed = (
 
 pub formed-unit :
     (usage : SymbolUse) (equations units : List Member) (c : TreeClause)
-    → AreFormed usage equations units c → (unit : Member) → Contains units unit → AreOfUse usage (clause_at unit.clause) c
-formed-unit usage equations units c formed unit there =
-    record { first = All-contains (IsMemberOfUse usage) units unit formed.units there; second = formed.clause }
+    → AreFormed usage equations units c → (n : ℕ) (u : BankClause) → clause_numbered n units ≡ Some u → AreOfUse usage (clause_at u) c
+formed-unit usage equations units c formed n u there = record { first = formed.units n u there; second = formed.clause }
 
 -- ---- a literal goes
 
@@ -113,23 +112,19 @@ shortens-alone old new fit alone =
     step
 
 pub shortens-cut :
-    (usage : SymbolUse) (equations units : List Member) (out : Option ℕ) (old new : Reduced)
-    → AreFormed usage equations units (clause_of old.clause) → IsFit (clause_of old.clause) → IsCutBySome units out old new
+    (units : List Member) (out : Option ℕ) (old new : Reduced) → IsFit (clause_of old.clause) → IsCutBySome units out old new
     → Shortens (clause_of old.clause) (clause_of new.clause)
-shortens-cut usage equations units out old new formed fit cut =
+shortens-cut units out old new fit cut =
     let c : TreeClause = clause_of old.clause in
-    let went =
-    cut.cut.step usage (λ n. Some (clause_at cut.unit.clause)) cut.cut.numbered refl
-    (formed-unit usage equations units c formed cut.unit cut.there) fit in
-    let to = went.cuts in
+    let loses = cut.step.loses fit in
     record {
-      j = to.cuts.j;
-      literal = to.cuts.literal;
-      there = to.cuts.literal_there;
-      result = to.result;
-      literals = sym to.cuts.gives;
-      names = to.cuts.names;
-      canonical = to.canonical;
+      j = loses.j;
+      literal = loses.literal;
+      there = loses.there;
+      result = record { literals = remove c.literals loses.j; names = c.names };
+      literals = refl;
+      names = refl;
+      canonical = loses.canonical;
     }
 
 -- ---- no step
@@ -171,9 +166,10 @@ none-applies usage clauses equations units out c formed are none d step =
     cuts : (unit : TreeClause) → IsAmong (without out clauses) unit → CutsBy usage.is_predicate unit c d → ⊥
     cuts unit among cut =
         let parts = without-parts out clauses among.number unit among.there in
-        let m : IsMemberWith units among.number unit = (are.units among.number unit).1 (parts.1, ap length cut.is_unit) in
-        none.none_cuts m.member m.there (ap (is_kept out) m.number ∙ parts.0) usage (formed-unit usage equations units c formed m.member m.there) d
-        (subst (λ (u : TreeClause). CutsBy usage.is_predicate u c d) (sym m.clause) cut)
+        let found =
+        from-map clause_at (clause_numbered among.number units) unit ((are.units among.number unit).1 (parts.1, ap length cut.is_unit)) in
+        none.none_cuts among.number found.0 found.1 parts.0 usage (formed-unit usage equations units c formed among.number found.0 found.1) d
+        (subst (λ (u : TreeClause). CutsBy usage.is_predicate u c d) (sym found.2) cut)
 
 -- ---- the answer of one step
 

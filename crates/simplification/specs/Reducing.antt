@@ -1,14 +1,16 @@
 -- Clauses that are reduced further, and to the end.
-use Rattle.std.specs.Prelude.{◌≡◌, ℕ, ◌≤◌, Bool, List, Option, IsTrue}
+use Rattle.std.specs.Prelude.{◌≡◌, ℕ, ◌≤◌, Bool, List, Option, IsTrue, IsFalse}
 use Rattle.fol_base.specs.Clause.{TreeClause, clause_size}
 use Rattle.fol_base.specs.Canonical.{IsCanonical}
 use Rattle.fol_base.specs.Literal.{clause_of}
 use Rattle.fol_base.specs.WellFormed.{SymbolUse, are_literals_of}
-use Rattle.kernel_steps.specs.Inference.{Reduces}
+use Rattle.kernel_steps.specs.Inference.{Reduces, is_tautology}
 use Rattle.kernel_steps.specs.declared.step.Reduced.{Reduced}
 use Rattle.bank_clause.specs.declared.member.Member.{Member}
 use Rattle.reduction.specs.Reduced.{IsReduced}
 use Rattle.simplification.specs.Usable.{AreFormed, AreOfClauses, IsAmong, without}
+use Rattle.simplification.specs.declared.reducing.Reduction.{Reduction}
+use Rattle.simplification.specs.declared.reducing.Reduction.TheVariants.{Tautology, Irreducible}
 
 -- what was reduced is reduced further, by clauses
 abbrev pub GoesFurther : (ℕ → Bool) → (ℕ → Option TreeClause) → Reduced → Reduced → Type 0
@@ -37,3 +39,10 @@ IsIrreducibleBySteps equations units out old new =
     (usage : SymbolUse) (clauses : ℕ → Option TreeClause)
     → AreFormed usage equations units (clause_of old.clause) → AreOfClauses clauses equations units
     → NoStepBy usage.is_predicate (without out clauses) (clause_of new.clause)
+
+-- how reducing ended: no step led to a tautology from a clause that was none
+abbrev pub IsReduction : List Member → List Member → Option ℕ → Reduced → Reduced → Reduction → Type 0
+IsReduction equations units out old new Tautology = IsTrue (is_tautology (clause_of new.clause))
+IsReduction equations units out old new Irreducible =
+    IsIrreducibleBySteps equations units out old new
+    × (IsFalse (is_tautology (clause_of old.clause)) → IsFalse (is_tautology (clause_of new.clause)))

@@ -1,13 +1,12 @@
 // Simplifying: a clause is reduced by other clauses until no reducing step applies to it (Bachmair and Ganzinger 1994).
 #![tactic(auto)]
 
-mod cuts;
 mod reducing;
 mod simplifiers;
 mod simplifying;
 mod stepping;
 
-pub use reducing::reduce;
+pub use reducing::{Reduction, reduce};
 pub use simplifiers::Simplifiers;
 pub use simplifying::{Simplified, simplify};
 

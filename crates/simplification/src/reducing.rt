@@ -6,13 +6,12 @@ ghost use Rattle.fol_base.specs.Clause.{clause_size};
 ghost use Rattle.fol_base.specs.Literal.{clause_of};
 ghost use Rattle.fol_base.specs.declared.limits.TheConstants.{MOST_SYMBOLS};
 ghost use Rattle.kernel_steps.specs.Names.{are_sorted};
-ghost use Rattle.bank_clause.specs.Clause.{AreMembersOf};
 ghost use Rattle.rewriting.specs.Units.{AreClausesOf};
-ghost use Rattle.simplification.specs.Usable.{HaveUse};
-ghost use Rattle.simplification.specs.Reducing.{IsFurther, IsIrreducibleBySteps};
+ghost use Rattle.simplification.specs.Reducing.{IsFurther, IsReduction};
 
 use crate::simplifiers::Simplifiers;
 use crate::stepping::step;
+use cutting::is_tautology;
 use demodulate::laws::rewriting_ends;
 use kernel_steps::Reduced;
 use plain_types::{Mem, NameLit};
@@ -20,17 +19,25 @@ use reduction::laws::moves_extend_reductions;
 use rewriting::Rewriters;
 use std::alloc::Global;
 
-/// Reduces a clause until no reducing step applies: literals `t != t` go, equal literals are merged, and units rewrite and cut, but for the
-/// one that is left out. After want of memory the clause is reduced by fewer steps.
-pub fn reduce(alloc: Global, by: &Simplifiers<'_>, reduced: &mut Reduced) -> Mem<()>
+/// How reducing ended.
+#[derive(Clone, Copy)]
+pub enum Reduction {
+    /// A step led to a tautology.
+    Tautology,
+    /// No step applies, and none led to a tautology.
+    Irreducible,
+}
+
+/// Reduces a clause until no reducing step applies, or one leads to a tautology: literals `t != t` go, equal literals are merged, and units
+/// rewrite and cut, but for the one that is left out. After want of memory the clause is reduced by fewer steps.
+pub fn reduce(alloc: Global, by: &Simplifiers<'_>, reduced: &mut Reduced) -> Mem<Reduction>
     requires equations { AreClausesOf by.now.bank.now by.now.equations.now }
-    requires units { AreMembersOf by.now.bank.now by.now.units.now }
+    requires units { AreClausesOf by.now.bank.now by.now.units.now }
     requires canonical { IsCanonical (clause_of reduced.old.clause) }
     requires names { IsTrue (are_sorted reduced.old.clause.names) }
     requires size { clause_size (clause_of reduced.old.clause) ≤ MOST_SYMBOLS }
-    requires formed { HaveUse by.now.equations.now by.now.units.now (clause_of reduced.old.clause) }
     ensures further { IsFurther by.now.equations.now by.now.units.now by.now.left_out reduced.old reduced.new }
-    ensures ok { IfOk result (λ _. IsIrreducibleBySteps by.now.equations.now by.now.units.now by.now.left_out reduced.old reduced.new) }
+    ensures ok { IfOk result (IsReduction by.now.equations.now by.now.units.now by.now.left_out reduced.old reduced.new) }
 {
     let asserted = asserted_numbers(alloc, reduced.clause.names.as_slice())?;
     let rewriters = Rewriters {
@@ -44,7 +51,10 @@ pub fn reduce(alloc: Global, by: &Simplifiers<'_>, reduced: &mut Reduced) -> Mem
     'steps: loop {
         let stepped = step(alloc, &rewriters, by.units, reduced)?;
         if !stepped {
-            return Ok(());
+            return Ok(Reduction::Irreducible);
+        }
+        if is_tautology(&reduced.clause) {
+            return Ok(Reduction::Tautology);
         }
     }
 }

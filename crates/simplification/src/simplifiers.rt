@@ -1,9 +1,9 @@
 // The clauses by which others are simplified.
 
-use bank_clause::Member;
 use rewriting::Units;
 use subsume::Subsumers;
 use term_bank::Bank;
+use unit_index::UnitIndex;
 
 /// The clauses that may be used, in the sets in which they are looked for.
 #[derive(Clone, Copy)]
@@ -12,7 +12,7 @@ pub struct Simplifiers<'a> {
     /// Those that are one equation, which rewrite.
     pub equations: &'a Units,
     /// Those with one literal, of either sign, which cut.
-    pub units: &'a [Member],
+    pub units: &'a UnitIndex,
     /// All of them, which subsume.
     pub members: &'a Subsumers,
     /// The number of a clause that isn't used, so that none simplifies itself.

@@ -10,10 +10,9 @@ ghost use Rattle.kernel_steps.specs.Names.{are_sorted};
 ghost use Rattle.bank_clause.specs.Clause.{AreMembersOf};
 ghost use Rattle.rewriting.specs.Units.{AreClausesOf};
 ghost use Rattle.subsume.specs.Searching.{AreMembersOfUse, IsLowest, IsSubsumer};
-ghost use Rattle.simplification.specs.Usable.{HaveUse};
 ghost use Rattle.simplification.specs.Simplified.{IsSimplified, ResultKeepsForm};
 
-use crate::reducing::reduce;
+use crate::reducing::{Reduction, reduce};
 use crate::simplifiers::Simplifiers;
 use cutting::is_tautology;
 use fol_base::Clause;
@@ -38,12 +37,11 @@ pub enum Simplified {
 /// then looked up among the clauses that subsume it.
 pub fn simplify(alloc: Global, by: &Simplifiers<'_>, clause: &Clause) -> Mem<Simplified>
     requires equations { AreClausesOf by.now.bank.now by.now.equations.now }
-    requires units { AreMembersOf by.now.bank.now by.now.units.now }
+    requires units { AreClausesOf by.now.bank.now by.now.units.now }
     requires members { AreMembersOf by.now.bank.now by.now.members.now }
     requires canonical { IsCanonical (clause_of clause.now) }
     requires names { IsTrue (are_sorted clause.now.names) }
     requires size { clause_size (clause_of clause.now) ≤ MOST_SYMBOLS }
-    requires formed { HaveUse by.now.equations.now by.now.units.now (clause_of clause.now) }
     ensures outcome { IfOk result (IsSimplified by.now.equations.now by.now.units.now by.now.members.now by.now.left_out (clause_of clause.now)) }
     ensures form { IfOk result (ResultKeepsForm (clause_of clause.now)) }
 {
@@ -51,13 +49,12 @@ pub fn simplify(alloc: Global, by: &Simplifiers<'_>, clause: &Clause) -> Mem<Sim
         return Ok(Simplified::Tautology);
     }
     let mut reduced = unreduced(alloc, clause)?;
-    reduce(alloc, by, &mut reduced)?;
-    if is_tautology(&reduced.clause) {
-        return Ok(Simplified::Tautology);
-    }
-    match lowest_subsumer(alloc, by, &reduced.clause)? {
-        Some(number) => Ok(Simplified::Subsumed(number)),
-        None => Ok(Simplified::Reduced(reduced)),
+    match reduce(alloc, by, &mut reduced)? {
+        Reduction::Tautology => Ok(Simplified::Tautology),
+        Reduction::Irreducible => match lowest_subsumer(alloc, by, &reduced.clause)? {
+            Some(number) => Ok(Simplified::Subsumed(number)),
+            None => Ok(Simplified::Reduced(reduced)),
+        },
     }
 }
 

@@ -7,29 +7,27 @@ ghost use Rattle.fol_base.specs.Literal.{clause_of};
 ghost use Rattle.fol_base.specs.Subsumption.{assertions};
 ghost use Rattle.fol_base.specs.declared.limits.TheConstants.{MOST_SYMBOLS};
 ghost use Rattle.kernel_steps.specs.Names.{are_sorted};
-ghost use Rattle.bank_clause.specs.Clause.{AreMembersOf};
 ghost use Rattle.rewriting.specs.Units.{AreClausesOf};
 ghost use Rattle.simplification.specs.Steps.{IsDone, IsStep};
 
-use crate::cuts::cut_once;
-use bank_clause::Member;
 use cutting::{drop_trivial, merge_equal};
 use demodulate::rewrite_once;
 use kernel_steps::Reduced;
 use plain_types::Mem;
 use rewriting::Rewriters;
 use std::alloc::Global;
+use unit_index::UnitIndex;
 
 /// One reducing step: the first that applies of dropping a literal `t != t`, merging equal literals, rewriting, and cutting. False exactly
 /// where none applies, and then nothing has changed, as after want of memory.
 pub(crate) fn step(
     alloc: Global,
     by: &Rewriters<'_>,
-    units: &[Member],
+    units: &UnitIndex,
     reduced: &mut Reduced,
 ) -> Mem<bool>
     requires equations { AreClausesOf by.now.bank.now by.now.units.now }
-    requires units { AreMembersOf by.now.bank.now units.now }
+    requires units { AreClausesOf by.now.bank.now units.now }
     requires asserted { by.now.asserted.now ≡ assertions reduced.old.clause.names }
     requires canonical { IsCanonical (clause_of reduced.old.clause) }
     requires names { IsTrue (are_sorted reduced.old.clause.names) }
@@ -48,6 +46,5 @@ pub(crate) fn step(
     if rewrite_once(alloc, by, reduced)? {
         return Ok(true);
     }
-    let cut = cut_once(alloc, by.bank, units, by.left_out, reduced)?;
-    Ok(cut)
+    units.cut_once(alloc, by.bank, by.left_out, reduced)
 }

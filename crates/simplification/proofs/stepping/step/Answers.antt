@@ -1,4 +1,5 @@
 use Rattle.std.proofs.Common.{◌∙◌, subst}
+use Rattle.std.proofs.lemmas.Result.{IfOk-weaker}
 use Rattle.fol_base.specs.Literal.{clause_of}
 use Rattle.fol_base.specs.WellFormed.{SymbolUse}
 use Rattle.kernel_steps.specs.declared.step.Reduced.{Reduced}
@@ -19,11 +20,12 @@ returns-clause-ok c =
     let merged = subst (λ b. IsMadeOrNone first second HasNoEqual b) c.if-branch-2.false c.in_ok-merge_equal.ensures.step in
     let left =
     refused (IsRewritten clauses second third) (IsLeft clauses second third) c.in_ok-rewrite_once.field-0 c.in_ok-rewrite_once.ensures.ok c.if-branch-3.false in
-    step-answer c.args.by.now.units.now c.args.units.now c.args.by.now.left_out old third c.cut_once.new.reduced
+    IfOk-weaker c.cut_once.result _ _
+    (step-answer c.args.by.now.units.now c.args.units.now c.args.by.now.left_out old third c.cut_once.new.reduced
     (left.same ∙ merged.0 ∙ dropped.0)
     dropped.1
     (subst (λ (r : Reduced). HasNoEqual (clause_of r.clause)) dropped.0 merged.1)
     (subst
     (λ (r : Reduced). (usage : SymbolUse) → AreWellFormed usage clauses (clause_of r.clause) → NoneRewrites usage.is_predicate clauses (clause_of r.clause))
-    (merged.0 ∙ dropped.0) left.normal)
-    c.in_ok-cut.cut c.in_ok-cut.ensures.ok
+    (merged.0 ∙ dropped.0) left.normal))
+    c.cut_once.ensures.ok

@@ -4,7 +4,8 @@ use Rattle.std.specs.Map.{lookup}
 use Rattle.fol_base.specs.Lent.{lent_of}
 use Rattle.rewriting.specs.declared.units.Unit.{Unit}
 use Rattle.rewriting.proofs.TryLemmas.{alone-lent}
-use Rattle.rewriting.proofs.UnitLemmas.{absent-kept, made-unit, put-unit, put-numbered, put-of-bank, on_ok-at}
+use Rattle.rewriting.proofs.NumberedLemmas.{put-numbered, put-of-bank, on_ok-at}
+use Rattle.rewriting.proofs.UnitLemmas.{absent-kept, clause_of_unit, made-unit, put-unit}
 use Rattle.rewriting.proofs.units.Units.insert.Goals as goal
 
 pub invariant_of-self : goal.invariant_of-self
@@ -35,7 +36,7 @@ returns-clause-ok c =
     let unit : Unit = record { clause = c.in_ok-clause.clause; by = c.in_ok-by.by } in
     let updates = on_ok-at c.insert.result c.unwrap.result c.unwrap.ensures c.insert.ensures.updates in
     rw (← c.self.view_is)
-    (put-numbered c.args.member.now.number c.from.result c.self.inside.clauses.entries c.insert.new.self.entries unit c.args.member.now.clause
+    (put-numbered clause_of_unit c.args.member.now.number c.from.result c.self.inside.clauses.entries c.insert.new.self.entries unit c.args.member.now.clause
     c.from.ensures c.in_ok-clause.ensures
     (λ n. updates.0 n ∙ ap (λ es. cond (nat_eq c.from.result n) (Some unit) (lookup (nat_eq n) es)) c.reserve.ensures.entries))
 

@@ -3,14 +3,15 @@ use Rattle.std.specs.Prelude.{option_map}
 use Rattle.std.specs.Option.{is_some}
 use Rattle.fol_base.specs.Clause.{TreeLiteral}
 use Rattle.rewriting.specs.Units.{clause_numbered}
-use Rattle.rewriting.proofs.UnitLemmas.{clause_of_unit, taken-units, taken-numbered, taken-of-bank, found-numbered}
+use Rattle.rewriting.proofs.NumberedLemmas.{found-numbered, taken-numbered, taken-of-bank}
+use Rattle.rewriting.proofs.UnitLemmas.{clause_of_unit, taken-units}
 use Rattle.rewriting.proofs.units.Units.remove.Goals as goal
 
 pub lend-literals-requires : goal.lend-literals-requires
 lend-literals-requires c =
     c.requires c.args.number c.in-Some.unit.clause
     (rw (← c.self.view_is)
-    (found-numbered c.args.number c.from.result c.self.inside.clauses.entries c.swap_remove.result c.from.ensures c.swap_remove.ensures.value
+    (found-numbered clause_of_unit c.args.number c.from.result c.self.inside.clauses.entries c.swap_remove.result c.from.ensures c.swap_remove.ensures.value
     ∙ ap (option_map clause_of_unit) c.in-Some.is))
 
 pub literal-requires : goal.literal-requires
@@ -34,13 +35,13 @@ returns-in-None-clause-there c =
     let o = c.swap_remove.result in
     let there : clause_numbered c.args.number c.args.self.now ≡ option_map clause_of_unit o =
     rw (← c.self.view_is)
-    (found-numbered c.args.number c.from.result c.self.inside.clauses.entries o c.from.ensures c.swap_remove.ensures.value) in
+    (found-numbered clause_of_unit c.args.number c.from.result c.self.inside.clauses.entries o c.from.ensures c.swap_remove.ensures.value) in
     sym (ap is_some (there ∙ ap (option_map clause_of_unit) c.in-None.is))
 
 pub returns-in-None-clause-removed : goal.returns-in-None-clause-removed
 returns-in-None-clause-removed c =
     rw (← c.self.view_is)
-    (taken-numbered c.args.number c.from.result c.self.inside.clauses.entries c.swap_remove.new.self.entries c.from.ensures
+    (taken-numbered clause_of_unit c.args.number c.from.result c.self.inside.clauses.entries c.swap_remove.new.self.entries c.from.ensures
     c.swap_remove.ensures.updates.0)
 
 pub returns-in-Some-clause-there : goal.returns-in-Some-clause-there
@@ -48,13 +49,13 @@ returns-in-Some-clause-there c =
     let o = c.swap_remove.result in
     let there : clause_numbered c.args.number c.args.self.now ≡ option_map clause_of_unit o =
     rw (← c.self.view_is)
-    (found-numbered c.args.number c.from.result c.self.inside.clauses.entries o c.from.ensures c.swap_remove.ensures.value) in
+    (found-numbered clause_of_unit c.args.number c.from.result c.self.inside.clauses.entries o c.from.ensures c.swap_remove.ensures.value) in
     sym (ap is_some (there ∙ ap (option_map clause_of_unit) c.in-Some.is))
 
 pub returns-in-Some-clause-removed : goal.returns-in-Some-clause-removed
 returns-in-Some-clause-removed c =
     rw (← c.self.view_is)
-    (taken-numbered c.args.number c.from.result c.self.inside.clauses.entries c.swap_remove.new.self.entries c.from.ensures
+    (taken-numbered clause_of_unit c.args.number c.from.result c.self.inside.clauses.entries c.swap_remove.new.self.entries c.from.ensures
     c.swap_remove.ensures.updates.0)
 
 pub returns-in-None-clause-of_bank : goal.returns-in-None-clause-of_bank

@@ -1,9 +1,10 @@
-use Rattle.rewriting.proofs.UnitLemmas.{lent-clause, lent-recorded, lent-numbered}
+use Rattle.rewriting.proofs.NumberedLemmas.{lent-clause}
+use Rattle.rewriting.proofs.UnitLemmas.{clause_of_unit, lent-recorded, lent-numbered}
 use Rattle.rewriting.proofs.units.Units.unit.Goals as goal
 
 pub returns-clause-clause : goal.returns-clause-clause
 returns-clause-clause c =
-    rw (← c.self.view_is) (lent-clause c.args.number c.self.inside.clauses.entries c.get.result c.get.ensures.value)
+    rw (← c.self.view_is) (lent-clause clause_of_unit c.args.number c.self.inside.clauses.entries c.get.result c.get.ensures.value)
 
 pub returns-clause-recorded : goal.returns-clause-recorded
 returns-clause-recorded c =
