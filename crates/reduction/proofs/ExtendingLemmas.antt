@@ -63,14 +63,14 @@ noted-distinct None ns = ap distinct (sym (append-nil ns))
 noted-distinct (Some n) ns = noted-more n ns
 
 -- what was noted stays, and the unit is there
-with_number-keeps : (n m : ℕ) (ns : List ℕ) → Contains ns m → Contains (with_number n ns) m
+pub with_number-keeps : (n m : ℕ) (ns : List ℕ) → Contains ns m → Contains (with_number n ns) m
 with_number-keeps n m ns there =
     ⊎_elim
     (λ listed. subst (λ ks. Contains ks m) (sym (cond-true (has_number ns n) ns (ns ++ n ∷ []) listed)) there)
     (λ new. subst (λ ks. Contains ks m) (sym (cond-false (has_number ns n) ns (ns ++ n ∷ []) new)) (Contains-append_left ns (n ∷ []) m there))
     (cases_Bool (has_number ns n))
 
-with_number-has : (n : ℕ) (ns : List ℕ) → Contains (with_number n ns) n
+pub with_number-has : (n : ℕ) (ns : List ℕ) → Contains (with_number n ns) n
 with_number-has n ns =
     ⊎_elim
     (λ listed. subst (λ ks. Contains ks n) (sym (cond-true (has_number ns n) ns (ns ++ n ∷ []) listed)) (Contains-has n ns listed))
@@ -86,7 +86,7 @@ noted-has None ns = All-nil (Contains ns)
 noted-has (Some n) ns = All-cons (Contains (with_number n ns)) n [] (with_number-has n ns) (All-nil (Contains (with_number n ns)))
 
 -- each number that is noted is one of those before, or the new one
-noted-all : (ms : List ℕ) (by : Option ℕ) (ns : List ℕ) → All (Contains ms) ns → All (Contains (ms ++ unit_numbers by)) (noted by ns)
+pub noted-all : (ms : List ℕ) (by : Option ℕ) (ns : List ℕ) → All (Contains ms) ns → All (Contains (ms ++ unit_numbers by)) (noted by ns)
 noted-all ms None ns all = subst (λ ks. All (Contains ks) ns) (sym (append-nil ms)) all
 noted-all ms (Some n) ns all =
     let before : All (Contains (ms ++ n ∷ [])) ns =
