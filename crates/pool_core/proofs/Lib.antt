@@ -33,6 +33,16 @@ mod HandLemmas
 mod GiveUpLemmas
 -- MemberLemmas (what a pool hands out).
 mod MemberLemmas
+-- Whole clauses and lines: JoinedLemmas (lists put together), FormedLemmas (what steps conclude), SizeLemmas (reducing steps), PoolLineLemmas
+-- (lines put among the pool's), SoundLemmas (events), BeginningLemmas (inputs).
+mod JoinedLemmas
+mod FormedLemmas
+mod SizeLemmas
+mod PoolLineLemmas
+mod SoundLemmas
+mod BeginningLemmas
+-- PlaceLemmas (positions).
+mod PlaceLemmas
 -- Worked examples.
 mod GoingExample
 mod MeetingExample

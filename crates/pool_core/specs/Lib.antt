@@ -18,6 +18,8 @@ pub mod Answers
 pub mod Saturated
 pub mod Inputs
 pub mod Laws
+pub mod Wholeness
+pub mod Derived
 pub mod Events
 pub mod RegisterCode
 pub mod Register

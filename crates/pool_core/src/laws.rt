@@ -14,8 +14,9 @@ pub use claiming::{answer_examples, claim_examples, given_up_examples};
 pub use components::{component_examples, line_name_examples};
 pub use counting::{after_spent_examples, heavy_examples, spent_examples};
 pub use histories::{
-    claimed_in_time, deaths_are_justified, outcomes_stay, picks_are_chosen, set_aside_are_heavy,
-    spent_is_the_count,
+    claimed_in_time, deaths_are_justified, lines_are_derived, outcomes_stay, picks_are_chosen,
+    positions_are_registered, refuted_is_refutation, registered_are_whole, set_aside_are_heavy,
+    spent_is_the_count, told_have_positions,
 };
 pub use lawful::{lawful_examples, unlawful_examples};
 pub use resolving::{cut_unit, resolved_units};

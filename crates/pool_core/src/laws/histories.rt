@@ -1,6 +1,8 @@
 // Laws of lawful histories: each is the contract of a function without arguments and with an empty body.
 
+ghost use Rattle.pool_core.specs.Derived.{LinesAreDerived, RefutedIsRefutation};
 ghost use Rattle.pool_core.specs.Laws.{ClaimedInTime, DeathsAreJustified, OutcomesStay, PicksAreChosen, SetAsideAreHeavy, SpentIsTheCount};
+ghost use Rattle.pool_core.specs.Wholeness.{PositionsAreRegistered, RegisteredAreWhole, ToldHavePositions};
 
 /// A clause that stays awake and alive, with m older ones, is claimed within 6(m + 1) given claims, while no job is given up.
 pub fn claimed_in_time()
@@ -30,4 +32,29 @@ pub fn outcomes_stay()
 /// What was set aside was counted, and names a heavy inference of registered clauses.
 pub fn set_aside_are_heavy()
     ensures { SetAsideAreHeavy }
+{}
+
+/// Where nothing is split, the registered clauses are canonical, small, without names, and well-formed together.
+pub fn registered_are_whole()
+    ensures { RegisteredAreWhole }
+{}
+
+/// Where nothing is split, the lines are a derivation from the inputs, of small terms over their symbols alone.
+pub fn lines_are_derived()
+    ensures { LinesAreDerived }
+{}
+
+/// Where nothing is split, the lines of a pool that is refuted are a refutation of the inputs.
+pub fn refuted_is_refutation()
+    ensures { RefutedIsRefutation }
+{}
+
+/// Positions are of registered clauses, each once.
+pub fn positions_are_registered()
+    ensures { PositionsAreRegistered }
+{}
+
+/// The clause of a job that is out, and those that it was told, have positions.
+pub fn told_have_positions()
+    ensures { ToldHavePositions }
 {}
