@@ -29,6 +29,7 @@ use Rattle.kernel_steps.proofs.SymbolLemmas.{steps_keep_symbols}
 use Rattle.reduction.proofs.VerdictLemmas.{by_one-onward, conclusion-onward}
 use Rattle.reduction.proofs.LineLemmas.{line_parent-plain}
 use Rattle.pool_core.specs.Lines.{with_parents}
+use Rattle.given_work.specs.Going.{batch_line, batch_lines, number_beside}
 
 abbrev Lookup : Type 0
 Lookup = ℕ → Option TreeClause
@@ -131,16 +132,6 @@ all-pass told lines test steps passes bound =
     outer-passes n p h =
         option_map-some (λ d. let q : Parent = record { clause = d; introduces = false } in q) (told n) p h λ d there is.
         ap (λ (q : Parent). clause_symbols_pass test q.clause) (sym is) ∙ passes n d there
-
--- the number of a parent in a batch: the clause that was handed in has its own number, and each line the number before
-abbrev pub number_beside : ℕ → ℕ → ℕ
-number_beside victim n = if nat_lt n CLAUSE_NUMBERS then n else (if n == CLAUSE_NUMBERS then victim else n - 1)
-
-abbrev pub batch_line : ℕ → Line → Line
-batch_line victim l = record l { step = with_parents (number_beside victim) l.step }
-
-abbrev pub batch_lines : ℕ → List Line → List Line
-batch_lines victim lines = map (batch_line victim) lines
 
 abbrev plain : TreeClause → Parent
 plain c = record { clause = c; introduces = false }

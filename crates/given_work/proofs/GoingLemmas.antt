@@ -2,18 +2,18 @@
 use Rattle.std.proofs.Common.{◌≡◌, ◌⊎◌, ℕ, ◌<◌, ◌≤◌, ◌==◌, not, Bool, true, false, List, [], ◌∷◌, ◌++◌, map, Option, Some, None, refl, ap, sym, ◌∙◌, subst, ⊎_elim, inl, inr, arith, append-nil}
 use Rattle.std.specs.Prelude.{filter, All, Contains, ◌&&◌, nat_lt, option_map, if◌then◌else◌, IsTrue}
 use Rattle.std.proofs.Math.Path.{fun_ext}
-use Rattle.std.proofs.lemmas.Bool.{cond-true, cond-false, cases_Bool, eq-eqb, true≢false, false_from_ne_true, lt-ltb}
+use Rattle.std.proofs.lemmas.Bool.{cond-true, cond-false, cases_Bool, eq-eqb, eqb-true, true≢false, false_from_ne_true, lt-ltb}
 use Rattle.std.proofs.lemmas.List.Elements.{All-append, All-cons, All-nil, All-weaker, All-contains, Contains-append_left}
 use Rattle.std.proofs.lemmas.Option.{none-some, same_Some}
 use Rattle.fol_base.specs.Clause.{TreeClause}
 use Rattle.fol_base.specs.Literal.{clause_of}
-use Rattle.fol_base.specs.Subsumption.{Subsumes}
+use Rattle.fol_base.specs.Subsumption.{Subsumes, is_among}
 use Rattle.fol_base.specs.WellFormed.{SymbolUse, are_literals_of}
 use Rattle.fol_base.specs.declared.clause.Clause.{Clause}
 use Rattle.fol_base.proofs.TestLemmas.{if_some}
 use Rattle.kernel_steps.specs.Inference.{CutsBy, IsIrreducible, Reduces, RewritesBy, SomeClause, is_tautology}
 use Rattle.kernel_steps.specs.Lines.{clauses_named}
-use Rattle.kernel_steps.specs.Moves.{Move, end_of_moves, units_of}
+use Rattle.kernel_steps.specs.Moves.{Move, AreMoves, end_of_moves, units_of}
 use Rattle.kernel_steps.specs.declared.step.TheConstants.{CLAUSE_NUMBERS}
 use Rattle.kernel_steps.specs.declared.step.Line.{Line}
 use Rattle.kernel_steps.specs.declared.step.Reduced.{Reduced}
@@ -23,20 +23,20 @@ use Rattle.rewriting.specs.Units.{is_kept}
 use Rattle.calculus.specs.Lifting.{among, IsMember}
 use Rattle.reduction.specs.Reduced.{IsReduced, last_clause, with_number}
 use Rattle.reduction.proofs.ExtendingLemmas.{noted-all, with_number-has, with_number-keeps}
-use Rattle.subsume.specs.Searching.{IsLowest, IsSubsumer}
+use Rattle.subsume.specs.Searching.{AreMembersOfUse, IsLowest, IsMemberOfUse, IsSubsumer}
 use Rattle.simplification.specs.Reducing.{IsFurther, IsIrreducibleBySteps}
 use Rattle.simplification.specs.Usable.{AreFormed, IsAmong, IsMemberWith, without}
 use Rattle.pool_core.specs.Record.{GivenJob}
 use Rattle.pool_core.specs.Lines.{result_of}
 use Rattle.pool_core.specs.Reduction.{Lookup, AreLinesFrom, HaveSymbolsOf, clauses_used, handed_back}
 use Rattle.pool_core.specs.Components.{is_to_split}
-use Rattle.pool_core.specs.Batches.{IsReducedBeside, is_told, is_told_beside, clauses_beside}
+use Rattle.pool_core.specs.Batches.{IsReducedBeside, IsRightlyReplaced, is_told, is_told_beside}
 use Rattle.pool_core.specs.declared.options.Options.{Options}
 use Rattle.pool_core.specs.declared.batch.Redundancy.TheVariants.{Tautology, Subsumed}
 use Rattle.pool_core.specs.declared.batch.Fate.TheVariants.{Kept, Dropped}
-use Rattle.given_work.specs.Reducing.{IsReducedBy}
-use Rattle.given_work.specs.Telling.{AreToldSets, IsRemovalOf, StaysOrGoes, told_of}
-use Rattle.given_work.proofs.BatchLines.{all-pass, batch_lines, victim-bound, victim-lines}
+use Rattle.given_work.specs.Going.{IsReducedBy, IsRemovalOf, StaysOrGoes, batch_lines}
+use Rattle.given_work.specs.Telling.{AreToldSets, told_of}
+use Rattle.given_work.proofs.BatchLines.{all-pass, victim-bound, victim-lines}
 use Rattle.given_work.proofs.Justifiers.{Contains-distinct, all-from, named-before, result-is, same-from}
 use Rattle.given_work.proofs.Slots.{Contains-filtered}
 
@@ -49,11 +49,11 @@ reduces-weaker p H K c d onward step =
     ⊎_elim (λ drops. inl drops)
     (λ more. ⊎_elim (λ merges. inr (inl merges))
     (λ units. ⊎_elim
-    (λ rewrites. inr (inr (inl (by (λ u. RewritesBy p u c d) rewrites))))
-    (λ cuts. inr (inr (inr (by (λ u. CutsBy p u c d) cuts)))) units) more) step
+    (λ rewrites. inr (inr (inl (by H K onward (λ u. RewritesBy p u c d) rewrites))))
+    (λ cuts. inr (inr (inr (by H K onward (λ u. CutsBy p u c d) cuts)))) units) more) step
   where
-    by : (Does : TreeClause → Type 0) → SomeClause _ Does → SomeClause _ Does
-    by Does some = record { clause = some.clause; holds = onward some.clause some.holds; does = some.does }
+    by : (H K : TreeClause → Type 0) → ((e : TreeClause) → H e → K e) → (Does : TreeClause → Type 0) → SomeClause H Does → SomeClause K Does
+    by H K onward Does some = record { clause = some.clause; holds = onward some.clause some.holds; does = some.does }
 
 pub irreducible-among :
     (p : ℕ → Bool) (looked : Lookup) (is_member : ℕ → Bool) (clauses : Lookup) (c : TreeClause)
@@ -81,9 +81,6 @@ beside-is clauses j n =
     by false true o = refl
     by false false o = refl
 
-abbrev Above : (ℕ → Bool) → Options → Lookup → GivenJob → Type 0
-Above p options clauses j = Unit {0}
-
 module _
     (usage : SymbolUse) (options : Options) (clauses : Lookup) (j : GivenJob) (es us ms : List Member)
     (sets : AreToldSets usage clauses j es us ms) (unsplit : options.split ≡ false)
@@ -95,15 +92,22 @@ module _
   abbrev beside : Lookup
   beside = among (is_told_beside j n) clauses
 
-  formed : AreFormed usage es us c
+  formed-told : (k : ℕ) (d : TreeClause) → told_of clauses j k ≡ Some d → IsTrue (are_literals_of usage d.literals)
+  formed-told k d at = (sets.whole k d at).formed
+
+  pub formed : AreFormed usage es us c
   formed = record {
-    clause =
-        let at = (sets.has_all n c).1 (there, tt) in
-        ap (λ (d : TreeClause). are_literals_of usage d.literals) (sym at.clause)
-        ∙ All-contains (λ (m : Member). are_literals_of usage (clause_at m.clause).literals ≡ true) ms at.member sets.members_formed at.there;
-    equations = sets.equations_formed;
-    units = sets.units_formed;
+    clause = formed-told n c there;
+    equations = λ k u found. formed-told k (clause_at u) ((sets.of_clauses.equations k (clause_at u)).0 (ap (option_map clause_at) found)).0;
+    units = all-from (IsMemberOfUse usage) us λ m at.
+        formed-told m.number (clause_at m.clause)
+        ((sets.of_clauses.units m.number (clause_at m.clause)).0 (record { member = m; there = at; number = refl; clause = refl })).0;
   }
+
+  pub members-formed : AreMembersOfUse usage ms
+  members-formed = all-from (IsMemberOfUse usage) ms λ m at.
+      formed-told m.number (clause_at m.clause)
+      ((sets.has_all m.number (clause_at m.clause)).0 (record { member = m; there = at; number = refl; clause = refl })).0
 
   pub result-formed : IsTrue (are_literals_of usage (clause_of r.clause).literals)
   result-formed = by.formed usage formed
@@ -112,20 +116,14 @@ module _
   is-reduced =
       subst (λ (f : Lookup). IsReduced p f c r) (sym (beside-is clauses j n)) (by.reduced usage (told_of clauses j) formed sets.of_clauses)
 
-  abbrev it : IsReduced p beside c r
-  it = is-reduced
-
-  units-used : All (Contains r.used) (units_of is-reduced.moves)
-  units-used = is-reduced.by_used
-
   -- ---- redundant
 
   pub goes-tautology :
       is_tautology (clause_of r.clause) ≡ true
       → StaysOrGoes p options clauses j n c (Some (record { victim = n; justifiers = r.used; fate = Dropped Tautology }))
-  goes-tautology tautology = (
-    refl,
-    record {
+  goes-tautology tautology = record {
+    victim = refl;
+    right = record {
       clause = c;
       there = there;
       moves = is-reduced.moves;
@@ -135,9 +133,9 @@ module _
           same-from r.used (units_of is-reduced.moves ++ [])
           (subst (λ ns. All (Contains ns) r.used) (sym (append-nil (units_of is-reduced.moves))) is-reduced.all_used)
           (subst (λ ns. All (Contains r.used) ns) (sym (append-nil (units_of is-reduced.moves))) is-reduced.by_used);
-    },
-    tt,
-  )
+    };
+    leaves = tt;
+  }
 
   -- a member that subsumes the result is told beside the clause
   beside-there : (m : Member) → Contains ms m → (Some n ≡ Some m.number → ⊥) → beside m.number ≡ Some (clause_at m.clause)
@@ -154,9 +152,9 @@ module _
       → IsLowest (IsSubsumer usage (Some n) (clause_of r.clause)) ms (Some k)
       → StaysOrGoes p options clauses j n c (Some (record { victim = n; justifiers = justifiers; fate = Dropped (Subsumed k) }))
   goes-subsumed k justifiers is lowest =
-      let found = lowest.0 in (
-        refl,
-        record {
+      let found = lowest.0 in record {
+        victim = refl;
+        right = record {
           clause = c;
           there = there;
           moves = is-reduced.moves;
@@ -174,9 +172,9 @@ module _
               (All-append (Contains (with_number k r.used)) (units_of is-reduced.moves) (k ∷ [])
               (All-weaker (Contains r.used) (Contains (with_number k r.used)) (λ m h. with_number-keeps k m r.used h) (units_of is-reduced.moves) is-reduced.by_used)
               (All-cons (Contains (with_number k r.used)) k [] (with_number-has k r.used) (All-nil (Contains (with_number k r.used))))));
-        },
-        tt,
-      )
+        };
+        leaves = tt;
+      }
 
   -- ---- irreducible
 
@@ -247,14 +245,14 @@ module _
       (results : List Clause) → map clause_of results ≡ clause_of r.clause ∷ []
       → (r.lines ≡ [] → ⊥) → is_tautology (clause_of r.clause) ≡ false → IsLowest (IsSubsumer usage (Some n) (clause_of r.clause)) ms None
       → StaysOrGoes p options clauses j n c (Some (record { victim = n; justifiers = r.used; fate = Kept lines results }))
-  goes-replaced results are some no_tautology not_subsumed = (
-    refl,
-    split-moves is-reduced.moves is-reduced.moved is-reduced.moved_to is-reduced.by_used is-reduced.all_used (λ e. some (is-reduced.some_moved e)),
-    (λ result led.
+  goes-replaced results are some no_tautology not_subsumed = record {
+    victim = refl;
+    right = split-moves is-reduced.moves is-reduced.moved is-reduced.moved_to is-reduced.by_used is-reduced.all_used (λ e. some (is-reduced.some_moved e));
+    leaves = λ result led.
         subst (IsReducedBeside p options clauses j n)
         (is-reduced.ends ∙ same_Some (last_clause c r.lines) result (sym (result-led r.lines some) ∙ led))
-        (irreducible-result no_tautology not_subsumed)),
-  )
+        (irreducible-result no_tautology not_subsumed);
+  }
     where
       split-moves :
           (moves : List Move) → AreMoves p beside c moves → clause_of r.clause ≡ end_of_moves c moves

@@ -17,7 +17,7 @@ use Rattle.reduction.specs.Reduced.{last_clause}
 use Rattle.reduction.proofs.SymbolLemmas.{has-distinct, Contains-has}
 use Rattle.reduction.proofs.VerdictLemmas.{has_number}
 use Rattle.pool_core.specs.Lines.{with_parents}
-use Rattle.given_work.proofs.BatchLines.{number_beside, batch_line, batch_lines}
+use Rattle.given_work.specs.Going.{number_beside, batch_line, batch_lines}
 use Rattle.given_work.proofs.Slots.{Contains-cons_cases, Contains-here, Contains-later, Contains-none, Contains-filter, Contains-filtered}
 
 -- ---- lists of numbers

@@ -1,4 +1,13 @@
 -- A map of the proofs.
--- Lists with empty places, and sets that have what a list has: Slots, Kept. What the index keeps: StoreLemmas, SetLemmas.
+-- Lists with empty places, and sets that have what a list has: Slots, Kept; the index's own: StoreLemmas, SetLemmas. What an index tells of a job: TellingLemmas.
 mod Slots
 mod Kept
+mod StoreLemmas
+mod SetLemmas
+mod TellingLemmas
+-- Lines of batches (BatchLines), the clauses that they use (Justifiers), and told clauses that go (GoingLemmas).
+mod BatchLines
+mod Justifiers
+mod GoingLemmas
+-- Lists of inferences: InferenceLemmas.
+mod InferenceLemmas

@@ -4,3 +4,6 @@ pub mod Store
 pub mod Sets
 pub mod Kept
 pub mod Index
+pub mod Telling
+pub mod Going
+pub mod Meeting

