@@ -33,8 +33,9 @@ use Rattle.pool_core.specs.Components.{is_to_split}
 use Rattle.pool_core.specs.Batches.{IsReducedBeside, IsRightlyReplaced, is_told, is_told_beside}
 use Rattle.pool_core.specs.declared.options.Options.{Options}
 use Rattle.pool_core.specs.declared.batch.Redundancy.TheVariants.{Tautology, Subsumed}
+use Rattle.pool_core.specs.declared.batch.Removal.{Removal}
 use Rattle.pool_core.specs.declared.batch.Fate.TheVariants.{Kept, Dropped}
-use Rattle.given_work.specs.Going.{IsReducedBy, IsRemovalOf, StaysOrGoes, batch_lines}
+use Rattle.given_work.specs.Going.{GoesRightly, IsReducedBy, IsRemovalOf, IsReplacedOrSame, StaysOrGoes, batch_lines}
 use Rattle.given_work.specs.Telling.{AreToldSets, told_of}
 use Rattle.given_work.proofs.BatchLines.{all-pass, victim-bound, victim-lines}
 use Rattle.given_work.proofs.Justifiers.{Contains-distinct, all-from, named-before, result-is, same-from}
@@ -67,6 +68,14 @@ irreducible-among p looked is_member clauses c same no_step no_tautology none = 
   not_subsumed = λ some. none (some.holds).0 some.clause (ap (λ (f : Lookup). f (some.holds).0) (sym same) ∙ (some.holds).1) some.does;
 }
 
+-- what is irreducible by the told clauses
+pub irreducible-told :
+    (p : ℕ → Bool) (is_member : ℕ → Bool) (clauses : Lookup) (c : TreeClause)
+    → IsIrreducible p (IsAmong (among is_member clauses)) c → IsIrreducible p (IsMember is_member clauses) c
+irreducible-told p is_member clauses c it =
+    irreducible-among p (among is_member clauses) is_member clauses c refl it.no_step it.no_tautology
+    λ n d there subsumes. it.not_subsumed (record { clause = d; holds = record { number = n; there = there }; does = subsumes })
+
 -- ---- look-ups
 
 -- the told clauses but for one
@@ -81,6 +90,31 @@ beside-is clauses j n =
     by false true o = refl
     by false false o = refl
 
+-- ---- told clauses are well-formed
+
+module _
+    (usage : SymbolUse) (clauses : Lookup) (j : GivenJob) (es us ms : List Member) (sets : AreToldSets usage clauses j es us ms) where
+  formed-at : (k : ℕ) (d : TreeClause) → told_of clauses j k ≡ Some d → IsTrue (are_literals_of usage d.literals)
+  formed-at k d at = (sets.whole k d at).formed
+
+  -- each clause together with the sets
+  pub sets-formed : (c : TreeClause) → IsTrue (are_literals_of usage c.literals) → AreFormed usage es us c
+  sets-formed c clause = record {
+    clause = clause;
+    equations = λ k u found. formed-at k (clause_at u) ((sets.of_clauses.equations k (clause_at u)).0 (ap (option_map clause_at) found)).0;
+    units = all-from (IsMemberOfUse usage) us λ m at.
+        formed-at m.number (clause_at m.clause)
+        ((sets.of_clauses.units m.number (clause_at m.clause)).0 (record { member = m; there = at; number = refl; clause = refl })).0;
+  }
+
+  pub told-formed : (n : ℕ) (c : TreeClause) → told_of clauses j n ≡ Some c → AreFormed usage es us c
+  told-formed n c there = sets-formed c (formed-at n c there)
+
+  pub members-formed : AreMembersOfUse usage ms
+  members-formed = all-from (IsMemberOfUse usage) ms λ m at.
+      formed-at m.number (clause_at m.clause)
+      ((sets.has_all m.number (clause_at m.clause)).0 (record { member = m; there = at; number = refl; clause = refl })).0
+
 module _
     (usage : SymbolUse) (options : Options) (clauses : Lookup) (j : GivenJob) (es us ms : List Member)
     (sets : AreToldSets usage clauses j es us ms) (unsplit : options.split ≡ false)
@@ -92,22 +126,8 @@ module _
   abbrev beside : Lookup
   beside = among (is_told_beside j n) clauses
 
-  formed-told : (k : ℕ) (d : TreeClause) → told_of clauses j k ≡ Some d → IsTrue (are_literals_of usage d.literals)
-  formed-told k d at = (sets.whole k d at).formed
-
-  pub formed : AreFormed usage es us c
-  formed = record {
-    clause = formed-told n c there;
-    equations = λ k u found. formed-told k (clause_at u) ((sets.of_clauses.equations k (clause_at u)).0 (ap (option_map clause_at) found)).0;
-    units = all-from (IsMemberOfUse usage) us λ m at.
-        formed-told m.number (clause_at m.clause)
-        ((sets.of_clauses.units m.number (clause_at m.clause)).0 (record { member = m; there = at; number = refl; clause = refl })).0;
-  }
-
-  pub members-formed : AreMembersOfUse usage ms
-  members-formed = all-from (IsMemberOfUse usage) ms λ m at.
-      formed-told m.number (clause_at m.clause)
-      ((sets.has_all m.number (clause_at m.clause)).0 (record { member = m; there = at; number = refl; clause = refl })).0
+  formed : AreFormed usage es us c
+  formed = told-formed usage clauses j es us ms sets n c there
 
   pub result-formed : IsTrue (are_literals_of usage (clause_of r.clause).literals)
   result-formed = by.formed usage formed
@@ -289,3 +309,35 @@ reduced-by es us out c old new same first further steps = record {
   where
     at : (usage : SymbolUse) → AreFormed usage es us c → AreFormed usage es us (clause_of old.clause)
     at usage formed = subst (AreFormed usage es us) (sym same) formed
+
+pub goes-dropped :
+    (es us ms : List Member) (n : ℕ) (c : TreeClause) (r : Reduced) → IsReducedBy es us (Some n) c r → is_tautology (clause_of r.clause) ≡ true
+    → IsRemovalOf es us ms n c (Some (record { victim = n; justifiers = r.used; fate = Dropped Tautology }))
+goes-dropped es us ms n c r by tautology usage options clauses j sets unsplit there =
+    goes-tautology usage options clauses j es us ms sets unsplit n c there r by tautology
+
+-- what a search for subsumers finds, under each use
+abbrev pub IsFound : List Member → ℕ → Reduced → Option ℕ → Type 0
+IsFound ms n r found =
+    (usage : SymbolUse) → IsTrue (are_literals_of usage (clause_of r.clause).literals) → AreMembersOfUse usage ms
+    → IsLowest (IsSubsumer usage (Some n) (clause_of r.clause)) ms found
+
+pub goes-redundant :
+    (es us ms : List Member) (n : ℕ) (c : TreeClause) (r : Reduced) (k : ℕ) (justifiers : List ℕ)
+    → IsReducedBy es us (Some n) c r → IsFound ms n r (Some k) → justifiers ≡ with_number k r.used
+    → IsRemovalOf es us ms n c (Some (record { victim = n; justifiers = justifiers; fate = Dropped (Subsumed k) }))
+goes-redundant es us ms n c r k justifiers by found is usage options clauses j sets unsplit there =
+    goes-subsumed usage options clauses j es us ms sets unsplit n c there r by k justifiers is
+    (found usage (result-formed usage options clauses j es us ms sets unsplit n c there r by) (members-formed usage clauses j es us ms sets))
+
+pub goes-or-stays :
+    (es us ms : List Member) (n : ℕ) (c : TreeClause) (r : Reduced) (gone : Option Removal)
+    → IsReducedBy es us (Some n) c r → IsFound ms n r None → is_tautology (clause_of r.clause) ≡ false → IsReplacedOrSame n r gone
+    → IsRemovalOf es us ms n c gone
+goes-or-stays es us ms n c r None by found no_tautology same usage options clauses j sets unsplit there =
+    stays usage options clauses j es us ms sets unsplit n c there r by same no_tautology
+    (found usage (result-formed usage options clauses j es us ms sets unsplit n c there r by) (members-formed usage clauses j es us ms sets))
+goes-or-stays es us ms n c r (Some m) by found no_tautology it usage options clauses j sets unsplit there =
+    subst (λ (k : Removal). GoesRightly usage.is_predicate options clauses j n k) (sym it.removal)
+    (goes-replaced usage options clauses j es us ms sets unsplit n c there r by it.results it.one it.some no_tautology
+    (found usage (result-formed usage options clauses j es us ms sets unsplit n c there r by) (members-formed usage clauses j es us ms sets)))

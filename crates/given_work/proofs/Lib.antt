@@ -9,5 +9,6 @@ mod TellingLemmas
 mod BatchLines
 mod Justifiers
 mod GoingLemmas
--- Lists of inferences: InferenceLemmas.
+-- Lists of inferences (InferenceLemmas), and what becomes of them (EntryLemmas).
 mod InferenceLemmas
+mod EntryLemmas

@@ -1,5 +1,5 @@
 -- The inferences of a given clause, and what becomes of them.
-use Rattle.std.specs.Prelude.{◌≡◌, ◌⊎◌, ℕ, ◌≤◌, Bool, false, ◌||◌, ◌==◌, List, [], ◌∷◌, map, length, take, Option, Some, IsTrue}
+use Rattle.std.specs.Prelude.{◌≡◌, ◌⊎◌, ℕ, ◌≤◌, Bool, false, ◌||◌, ◌==◌, List, [], ◌∷◌, ◌++◌, map, length, take, Option, Some, IsTrue}
 use Rattle.std.specs.List.{list_any}
 use Rattle.fol_base.specs.Clause.{TreeClause}
 use Rattle.fol_base.specs.Literal.{clause_of}
@@ -24,7 +24,10 @@ use Rattle.pool_core.specs.Batches.{IsRightFate}
 use Rattle.pool_core.specs.declared.options.Options.{Options}
 use Rattle.pool_core.specs.declared.batch.Entry.{Entry}
 use Rattle.pool_core.specs.declared.batch.Fate.{Fate}
-use Rattle.pool_core.specs.declared.batch.Fate.TheVariants.{Kept}
+use Rattle.pool_core.specs.declared.batch.Fate.TheVariants.{Dropped, Kept}
+use Rattle.pool_core.specs.declared.batch.Redundancy.TheVariants.{Tautology, Subsumed}
+use Rattle.simplification.specs.declared.simplifying.Simplified.{Simplified}
+use Rattle.simplification.specs.declared.simplifying.Simplified.TheVariants as outcome
 use Rattle.given_work.specs.Store.{members_in}
 use Rattle.given_work.specs.Telling.{AreToldSets, Tells, told_of}
 use Rattle.given_work.specs.declared.store.Told.{Told}
@@ -103,6 +106,12 @@ pub record IsKeptWith (by : Step) (clause : Clause) (r : Reduced) (fate : Fate) 
   pub one : map clause_of results ≡ clause_of r.clause ∷ []
   pub is : fate ≡ Kept (record { step = by; clause = clause } ∷ r.lines) results
 
+-- a conclusion is dropped or kept by what it was simplified to
+abbrev pub IsFateBy : Step → Clause → Simplified → Fate → Type 0
+IsFateBy by clause outcome.Tautology fate = fate ≡ Dropped Tautology
+IsFateBy by clause (outcome.Subsumed n) fate = fate ≡ Dropped (Subsumed n)
+IsFateBy by clause (outcome.Reduced r) fate = IsKeptWith by clause r fate
+
 -- what becomes of a conclusion is right
 abbrev pub IsFateOf : List Member → List Member → List Member → Step → TreeClause → Fate → Type 0
 IsFateOf es us ms by c fate =
@@ -128,6 +137,8 @@ AreEntriesOf es us ms (from ∷ found) entries =
 
 -- of all inferences, or of the first ones, as many as are left
 pub record AreFirstEntries (es us ms : List Member) (found : List Inference) (left : ℕ) (entries : List Entry) : Type 0 where
-  pub count : ℕ
-  pub entered : AreEntriesOf es us ms (take count found) entries
-  pub enough : (left ≤ length entries) ⊎ (count ≡ length found)
+  pub done : List Inference
+  pub rest : List Inference
+  pub all : found ≡ done ++ rest
+  pub entered : AreEntriesOf es us ms done entries
+  pub enough : (left ≤ length entries) ⊎ (rest ≡ [])

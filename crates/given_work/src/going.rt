@@ -73,7 +73,10 @@ fn removal_by(
             let removal = dropped(number, justifiers, Redundancy::Subsumed(subsumer));
             Ok(Some(removal))
         }
-        None => replaced(alloc, number, reduced),
+        None => {
+            let gone = replaced(alloc, number, reduced)?;
+            Ok(gone)
+        }
     }
 }
 
