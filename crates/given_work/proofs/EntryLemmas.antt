@@ -51,7 +51,9 @@ use Rattle.pool_core.specs.declared.batch.Fate.{Fate}
 use Rattle.pool_core.specs.declared.batch.Fate.TheVariants.{Dropped}
 use Rattle.pool_core.specs.declared.batch.Redundancy.TheVariants.{Tautology, Subsumed}
 use Rattle.pool_core.proofs.FormedLemmas.{IsFormed, result-formed}
-use Rattle.given_work.specs.Meeting.{IsFateBy, IsKeptWith}
+use Rattle.given_work.specs.Meeting.{AreEntriesOf, IsEntryOf, IsFateBy, IsKeptWith}
+use Rattle.eq_rules.specs.declared.inference.Inference.{Inference}
+use Rattle.pool_core.specs.declared.batch.Entry.{Entry}
 use Rattle.given_work.specs.Telling.{AreToldSets, told_of}
 use Rattle.given_work.proofs.BatchLines.{all-pass, inference-lines}
 use Rattle.given_work.proofs.GoingLemmas.{irreducible-told, members-formed, sets-formed}
@@ -230,3 +232,26 @@ module _
           irreducible = irreducible-told usage.is_predicate (is_told j) clauses (clause_of r.clause) out.1;
           given = is.one ∙ sym (ap (λ (b : Bool). handed_back b (clause_of r.clause)) unsplit);
         })
+
+-- ---- lists of entries
+
+pub entries-push :
+    (es us ms : List Member) (done : List Inference) (entries : List Entry) (from : Inference) (e : Entry)
+    → AreEntriesOf es us ms done entries → IsEntryOf es us ms from e → AreEntriesOf es us ms (done ++ from ∷ []) (entries ++ e ∷ [])
+entries-push es us ms [] entries from e none entry =
+    (e, [], ap (λ (xs : List Entry). xs ++ e ∷ []) none, entry, refl)
+entries-push es us ms (d ∷ ds) entries from e some entry =
+    let rest = entries-push es us ms ds some.1 from e some.4 entry in
+    (some.0, some.1 ++ e ∷ [], ap (λ (xs : List Entry). xs ++ e ∷ []) some.2, some.3, rest)
+
+-- one inference more has its entry
+pub entries-more :
+    (es us ms : List Member) (found left now : List Inference) (entries after : List Entry) (from : Inference) (e : Entry)
+    → (done : List Inference) × (found ≡ done ++ left) × AreEntriesOf es us ms done entries
+    → left ≡ from ∷ now → after ≡ entries ++ e ∷ [] → IsEntryOf es us ms from e
+    → (done : List Inference) × (found ≡ done ++ now) × AreEntriesOf es us ms done after
+entries-more es us ms found left now entries after from e was next pushed entry = (
+  was.0 ++ from ∷ [],
+  was.1 ∙ ap (λ xs. was.0 ++ xs) next ∙ sym (append_assoc was.0 (from ∷ []) now),
+  subst (λ (xs : List Entry). AreEntriesOf es us ms (was.0 ++ from ∷ []) xs) (sym pushed) (entries-push es us ms was.0 entries from e was.2 entry),
+)

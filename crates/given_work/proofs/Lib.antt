@@ -9,6 +9,7 @@ mod TellingLemmas
 mod BatchLines
 mod Justifiers
 mod GoingLemmas
--- Lists of inferences (InferenceLemmas), and what becomes of them (EntryLemmas).
+-- Lists of inferences (InferenceLemmas), and what becomes of them (EntryLemmas), partners one after another (MeetLemmas).
 mod InferenceLemmas
 mod EntryLemmas
+mod MeetLemmas

@@ -4,6 +4,7 @@
 mod entries;
 mod going;
 mod index;
+mod inferences;
 mod learning;
 mod sets;
 mod store;

@@ -1,4 +1,6 @@
-use Rattle.std.proofs.Common.{◌≡◌, ap, ◌∙◌, refl}
+use Rattle.std.proofs.Common.{ℕ, Option, ap, refl, subst}
+use Rattle.literal_selection.specs.Mode.{mode_of}
+use Rattle.simplification.specs.Simplified.{IsSimplified}
 use Rattle.fol_base.specs.Literal.{clause_of}
 use Rattle.kernel_steps.specs.Names.{are_sorted}
 use Rattle.given_work.proofs.EntryLemmas.{conclusion-formed, conclusion-small, outcome-right}
@@ -33,4 +35,10 @@ simplify-requires-clause-formed c =
     }
 
 pub returns : goal.returns
-returns c = ?
+returns c = λ usage options clauses j key sets unsplit it.
+    let by = c.args.by.now in
+    outcome-right usage (mode_of options.select) clauses j by.equations.now by.units.now by.members.now sets key c.args.step c.args.clause it options unsplit refl
+    c.in_ok-outcome.outcome
+    (subst (λ (o : Option ℕ). IsSimplified by.equations.now by.units.now by.members.now o (clause_of c.args.clause) c.in_ok-outcome.outcome)
+    c.requires.all c.in_ok-outcome.ensures.outcome)
+    c.in_ok-fate.fate c.in_ok-fate.ensures
