@@ -22,7 +22,7 @@ use Rattle.given_work.proofs.Slots.{Contains-cons_cases, Contains-here, Contains
 
 -- ---- lists of numbers
 
-any-from : (p : ℕ → Bool) (ms : List ℕ) (n : ℕ) → Contains ms n → p n ≡ true → list_any p ms ≡ true
+pub any-from : (p : ℕ → Bool) (ms : List ℕ) (n : ℕ) → Contains ms n → p n ≡ true → list_any p ms ≡ true
 any-from p [] n h passes = absurd (Contains-none n h)
 any-from p (m ∷ ms) n h passes =
     ⊎_elim

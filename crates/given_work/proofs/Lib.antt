@@ -13,3 +13,4 @@ mod GoingLemmas
 mod InferenceLemmas
 mod EntryLemmas
 mod MeetLemmas
+mod RemovalLemmas

@@ -7,3 +7,4 @@ pub mod Index
 pub mod Telling
 pub mod Going
 pub mod Meeting
+pub mod Removing

@@ -14,7 +14,8 @@ returns c = λ usage clauses formed there.
     let resolved : List Inference = c.in_ok-resolved.resolved in
     let factored : List Inference = c.in_ok-factored.factored in
     let within = c.in_ok-superpositions.ensures.all usage clauses formed formed there there in
-    let before : c.append.new.self.items ≡ resolved ++ factored = ? in
+    let before : c.append.new.self.items ≡ resolved ++ factored =
+    c.in_ok-append.ensures.items ∙ ap₂ (λ (xs ys : List Inference). xs ++ ys) c.into_vec-found.ensures c.into_vec-others.ensures in
     subst (λ (xs : List Inference). AreInferences p mode clauses (is_alone m.number) xs)
     (sym (within.1 ∙ ap (λ (xs : List Inference). xs ++ within.0) before))
     (alone-joined p mode clauses m.number resolved factored within.0
