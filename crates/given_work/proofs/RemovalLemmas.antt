@@ -1,8 +1,8 @@
 -- The removals of told clauses that a given one simplifies, as the clauses are gone through.
-use Rattle.std.proofs.Common.{◌≡◌, ◌⊎◌, ℕ, ◌<◌, ◌==◌, not, Bool, true, false, List, [], ◌∷◌, ◌++◌, append-nil, length, Option, Some, None, refl, ap, sym, ◌∙◌, subst, ⊎_elim, inl, inr}
+use Rattle.std.proofs.Common.{◌≡◌, ◌⊎◌, ℕ, ◌<◌, ◌==◌, not, Bool, true, false, List, [], ◌∷◌, ◌++◌, append-nil, length, take, Option, Some, None, refl, ap, sym, ◌∙◌, subst, ⊎_elim, inl, inr}
 use Rattle.std.specs.Prelude.{All, Contains, ◌&&◌, ◌||◌, ◌↔◌, option_to_list, IsTrue, if◌then◌else◌}
 use Rattle.std.specs.List.{list_any}
-use Rattle.std.proofs.lemmas.Bool.{cond-true, cases_Bool, eq-eqb, eqb-true, true≢false, false_from_ne_true, or_cases, or_left, or_right, and_from}
+use Rattle.std.proofs.lemmas.Bool.{cond-true, cases_Bool, eq-eqb, eqb-true, true≢false, false_from_ne_true, or_cases, or_left, or_right, and_from, and_parts}
 use Rattle.std.proofs.lemmas.List.Elements.{All-append, All-cons, All-nil, All-contains, Contains-push_cases}
 use Rattle.fol_base.specs.Clause.{TreeClause}
 use Rattle.fol_base.specs.Subsumption.{Subsumes}
@@ -20,7 +20,7 @@ use Rattle.pool_core.specs.Batches.{IsReducedBeside, Simplifies, is_told, is_tol
 use Rattle.pool_core.specs.Wholeness.{IsWhole}
 use Rattle.pool_core.specs.declared.options.Options.{Options}
 use Rattle.pool_core.specs.declared.batch.Removal.{Removal}
-use Rattle.given_work.specs.Going.{GoesRightly}
+use Rattle.given_work.specs.Going.{GoesRightly, StaysOrGoes}
 use Rattle.given_work.specs.Removing.{AreRemovalsAmong, IsConsidered, Removes, may_go}
 use Rattle.given_work.specs.Sets.{AreSetsOf}
 use Rattle.given_work.specs.Telling.{AreToldSets, Tells, told_of}
@@ -89,9 +89,9 @@ module _
         → ((given.number ≡ m.number → ⊥) → Subsumes p (clause_at given.clause) (clause_at m.clause) → Contains subsumed m.number)
         → may_go given.number is_unit subsumed m.number ≡ false
         → Simplifies p options clauses j (clause_at given.clause) (clause_at m.clause) → ⊥
-    simplifies-none subsumed m differ found no simplifies =
+    simplifies-none subsumed m differ found refused simplifies =
         let allowed = (λ (h : (is_unit || list_any (λ k. k == m.number) subsumed) ≡ true).
-        true≢false (sym (and_from (not (m.number == given.number)) (is_unit || list_any (λ k. k == m.number) subsumed) (not-same m.number given.number differ) h) ∙ no)) in
+        true≢false (sym (and_from (not (m.number == given.number)) (is_unit || list_any (λ k. k == m.number) subsumed) (not-same m.number given.number differ) h) ∙ refused)) in
         let not_unit = (λ (one : HasOneLiteral (clause_at given.clause)). allowed (or_left is_unit (list_any (λ k. k == m.number) subsumed) (unit.1 one))) in
         ⊎_elim
         (λ subsumes.
@@ -137,5 +137,68 @@ removal-more ms sets given m is_unit subsumed seen before now are numbered given
         → Contains (seen ++ m ∷ []) k → (k.number ≡ given.number → ⊥)
         → Simplifies usage.is_predicate options clauses j (clause_at given.clause) (clause_at k.clause)
         → list_any (λ (r : Removal). r.victim == k.number) now ≡ true)
-    by false no still = ?
-    by true yes adds = ?
+    by false refused still = let old = was usage options clauses j tells unsplit same in (
+      subst (λ (rs : List Removal). All (Removes usage.is_predicate options clauses j) rs) (sym still) old.0,
+      (λ k there differ simplifies.
+          subst (λ (rs : List Removal). list_any (λ (r : Removal). r.victim == k.number) rs ≡ true) (sym still)
+          (⊎_elim
+          (λ before_it. old.1 k before_it differ simplifies)
+          (λ last.
+          absurd
+          (simplifies-none usage options clauses j ms tells given given_there same is_unit unit subsumed m
+          (λ e. differ (ap (λ (l : Member). l.number) (sym last) ∙ e))
+          (λ other subsumes. found subsumes other) refused
+          (subst (λ (l : Member). Simplifies usage.is_predicate options clauses j (clause_at given.clause) (clause_at l.clause)) (sym last) simplifies)))
+          (Contains-push_cases seen m k there))),
+    )
+    by true allowed adds = gone-by adds.gone adds.added
+        (adds.right usage options clauses j (told usage clauses j tells) unsplit (member-told usage clauses j ms tells m m_there))
+      where
+        differs : m.number ≡ given.number → ⊥
+        differs e =
+            true≢false
+            (sym (and_parts (not (m.number == given.number)) (is_unit || list_any (λ k. k == m.number) subsumed) allowed).0
+            ∙ ap not (eq-eqb m.number given.number e))
+
+        gone-by :
+            (gone : Option Removal) → now ≡ before ++ option_to_list gone
+            → StaysOrGoes usage.is_predicate options clauses j m.number (clause_at m.clause) gone
+            → All (Removes usage.is_predicate options clauses j) now
+            × ((k : Member)
+            → Contains (seen ++ m ∷ []) k → (k.number ≡ given.number → ⊥)
+            → Simplifies usage.is_predicate options clauses j (clause_at given.clause) (clause_at k.clause)
+            → list_any (λ (r : Removal). r.victim == k.number) now ≡ true)
+        gone-by None added stays =
+            let old = was usage options clauses j tells unsplit same in
+            let still : now ≡ before = added ∙ append-nil before in (
+              subst (λ (rs : List Removal). All (Removes usage.is_predicate options clauses j) rs) (sym still) old.0,
+              (λ k there differ simplifies.
+                  subst (λ (rs : List Removal). list_any (λ (r : Removal). r.victim == k.number) rs ≡ true) (sym still)
+                  (⊎_elim
+                  (λ before_it. old.1 k before_it differ simplifies)
+                  (λ last.
+                  absurd
+                  (not-stays usage options clauses j ms tells given given_there same m m_there differs stays
+                  (subst (λ (l : Member). Simplifies usage.is_predicate options clauses j (clause_at given.clause) (clause_at l.clause)) (sym last) simplifies)))
+                  (Contains-push_cases seen m k there))),
+            )
+        gone-by (Some r) added goes =
+            let old = was usage options clauses j tells unsplit same in (
+              subst (λ (rs : List Removal). All (Removes usage.is_predicate options clauses j) rs) (sym added)
+                  (All-append (Removes usage.is_predicate options clauses j) before (r ∷ []) old.0
+                  (All-cons (Removes usage.is_predicate options clauses j) r []
+                  (removes usage options clauses j ms tells given given_there same m m_there differs r goes)
+                  (All-nil (Removes usage.is_predicate options clauses j)))),
+              (λ k there differ simplifies.
+                  subst (λ (rs : List Removal). list_any (λ (q : Removal). q.victim == k.number) rs ≡ true) (sym added)
+                  (⊎_elim
+                  (λ before_it. any-append (λ (q : Removal). q.victim == k.number) before (r ∷ []) (old.1 k before_it differ simplifies))
+                  (λ last.
+                  any-last (λ (q : Removal). q.victim == k.number) before r
+                  (eq-eqb r.victim k.number (goes.victim ∙ ap (λ (l : Member). l.number) last)))
+                  (Contains-push_cases seen m k there))),
+            )
+
+pub take-whole : {X : Type 0} (xs : List X) → take (length xs) xs ≡ xs
+take-whole [] = refl
+take-whole (x ∷ xs) = ap (λ ys. x ∷ ys) (take-whole xs)
