@@ -14,3 +14,6 @@ mod InferenceLemmas
 mod EntryLemmas
 mod MeetLemmas
 mod RemovalLemmas
+-- The names of what is met (KeyLemmas), and the work on a given clause (WorkLemmas).
+mod KeyLemmas
+mod WorkLemmas

@@ -29,7 +29,7 @@ use Rattle.given_work.proofs.Slots.{Contains-cons_cases, Contains-here, Contains
 
 -- ---- members by their numbers
 
-numbered-member : (ms : List Member) (n : ℕ) → has_number n (numbers_of ms) ≡ true → (m : Member) × Contains ms m × (m.number ≡ n)
+pub numbered-member : (ms : List Member) (n : ℕ) → has_number n (numbers_of ms) ≡ true → (m : Member) × Contains ms m × (m.number ≡ n)
 numbered-member [] n h = absurd (true≢false (sym h))
 numbered-member (m ∷ ms) n h =
     ⊎_elim

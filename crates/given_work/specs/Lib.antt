@@ -8,3 +8,4 @@ pub mod Telling
 pub mod Going
 pub mod Meeting
 pub mod Removing
+pub mod Working

@@ -9,5 +9,7 @@ mod learning;
 mod removing;
 mod sets;
 mod store;
+mod working;
 
 pub use index::Index;
+pub use working::work;
