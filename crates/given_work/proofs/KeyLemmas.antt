@@ -5,6 +5,9 @@ use Rattle.std.specs.List.{list_all, list_any, prefix_len}
 use Rattle.std.proofs.lemmas.Bool.{cond-true, cond-false, true≢false, eq-eqb, eqb-true, or_cases, or_left, or_right, or_parts, and_from, and_parts, not_from_true, not_from_false}
 use Rattle.std.proofs.lemmas.Option.{none-some, same_Some, slice_get_read}
 use Rattle.std.proofs.lemmas.List.Kept.{AllPairs-cons}
+use Rattle.fol_base.specs.Clause.{TreeClause}
+use Rattle.fol_base.specs.Selection.{SelectionMode}
+use Rattle.kernel_steps.specs.Named.{IsInference}
 use Rattle.kernel_steps.specs.Split.{has_number}
 use Rattle.kernel_steps.specs.declared.key.Key.{Key}
 use Rattle.kernel_steps.specs.declared.key.Key.TheVariants.{Para, Refl, Factor, Replaced}
@@ -94,16 +97,19 @@ met-meets g ns key h =
     (λ some. let at = any-some (λ n. is_pair g n key) ns some in pair-meets g at.0 ns key at.1 at.2)
     (or_cases (is_alone g key) (list_any (λ n. is_pair g n key) ns) h)
 
-pub meets-met : (g : ℕ) (ns : List ℕ) (key : Key) → to_meet g ns key ≡ true → is_met g ns key ≡ true
-meets-met g ns (Refl c l) h =
+-- where it is the name of an inference
+pub meets-met :
+    (q : ℕ → Bool) (mode : SelectionMode) (looked : ℕ → Option TreeClause) (d : TreeClause) (g : ℕ) (ns : List ℕ) (key : Key)
+    → IsInference q mode looked key d → to_meet g ns key ≡ true → is_met g ns key ≡ true
+meets-met q mode looked d g ns (Refl c l) inferred h =
     let e : g ≡ c = eqb-true g c (drop-false (g == c) (and_parts (has_number g (c ∷ [])) (list_all (λ n. (n == g) || has_number n ns) (c ∷ [])) h).0) in
     or_left (is_alone g (Refl c l)) (list_any (λ n. is_pair g n (Refl c l)) ns)
     (or_left ((c == g) || false) false (or_left (c == g) false (eq-eqb c g (sym e))))
-meets-met g ns (Factor c b s o t) h =
+meets-met q mode looked d g ns (Factor c b s o t) inferred h =
     let e : g ≡ c = eqb-true g c (drop-false (g == c) (and_parts (has_number g (c ∷ [])) (list_all (λ n. (n == g) || has_number n ns) (c ∷ [])) h).0) in
     or_left (is_alone g (Factor c b s o t)) (list_any (λ n. is_pair g n (Factor c b s o t)) ns) (or_left (c == g) false (eq-eqb c g (sym e)))
-meets-met g ns (Replaced c) h = absurd (true≢false (sym h))
-meets-met g ns (Para f a i s b k z) h =
+meets-met q mode looked d g ns (Replaced c) inferred h = absurd inferred
+meets-met q mode looked d g ns (Para f a i s b k z) inferred h =
     ⊎_elim
     (λ first. by-first (sym (eqb-true g f first)))
     (λ later. by-second (sym (eqb-true g s (drop-false (g == s) later))))
@@ -119,7 +125,7 @@ meets-met g ns (Para f a i s b k z) h =
     each = and_parts (fits g ns f) (fits g ns s && true) parts.1
 
     both : f ≡ g → s ≡ g → is_met g ns (Para f a i s b k z) ≡ true
-    both e d = or_left (is_alone g key) (list_any (λ n. is_pair g n key) ns) (and_from (f == g) (s == g) (eq-eqb f g e) (eq-eqb s g d))
+    both e same = or_left (is_alone g key) (list_any (λ n. is_pair g n key) ns) (and_from (f == g) (s == g) (eq-eqb f g e) (eq-eqb s g same))
 
     with-one : (n : ℕ) → has_number n ns ≡ true → is_pair g n key ≡ true → is_met g ns (Para f a i s b k z) ≡ true
     with-one n there pair = or_right (is_alone g key) (list_any (λ m. is_pair g m key) ns) (any-has (λ m. is_pair g m key) ns n there pair)

@@ -170,9 +170,11 @@ module _ (usage : SymbolUse) (options : Options) (clauses : Lookup) (j : GivenJo
         subst (λ k. to_meet k (told_before j) key ≡ true) (sym same)
         (subst (λ ns. to_meet given.member.number ns key ≡ true) (sym lower-is) (met-meets given.member.number lower key h))
 
-    to-is-met : (key : Key) → is_to_meet p options clauses j key ≡ true → is_met given.member.number lower key ≡ true
-    to-is-met key h =
-        meets-met given.member.number lower key
+    to-is-met :
+        (key : Key) (c : TreeClause) → IsInference p (mode_of options.select) (told_of clauses j) key c
+        → is_to_meet p options clauses j key ≡ true → is_met given.member.number lower key ≡ true
+    to-is-met key c inferred h =
+        meets-met p (mode_of options.select) (told_of clauses j) c given.member.number lower key inferred
         (subst (λ ns. to_meet given.member.number ns key ≡ true) lower-is (subst (λ k. to_meet k (told_before j) key ≡ true) same h))
 
     abbrev Finds : List Inference → Type 0
@@ -210,7 +212,7 @@ module _ (usage : SymbolUse) (options : Options) (clauses : Lookup) (j : GivenJo
 
       meets-all : first.rest ≡ [] → MeetsAll p options clauses j entries
       meets-all none key c meets inferred =
-          let e = finds.complete key c (to-is-met key meets) inferred in
+          let e = finds.complete key c (to-is-met key c inferred meets) inferred in
           let there : Contains first.done e.0 =
           subst (λ (xs : List Inference). Contains xs e.0) (first.all ∙ ap (λ (r : List Inference). first.done ++ r) none ∙ append-nil first.done) e.1 in
           subst (λ k. Contains (keys_of entries) k) e.2
