@@ -17,3 +17,5 @@ mod RemovalLemmas
 -- The names of what is met (KeyLemmas), and the work on a given clause (WorkLemmas).
 mod KeyLemmas
 mod WorkLemmas
+-- Laws of indexes that were told the clauses of a job.
+pub mod LawProofs

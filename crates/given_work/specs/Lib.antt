@@ -9,3 +9,4 @@ pub mod Going
 pub mod Meeting
 pub mod Removing
 pub mod Working
+pub mod Laws
