@@ -1,12 +1,12 @@
 -- The lines of reduced clauses as lines of a batch: those of an inference's conclusion stand behind the line of the inference; in those of a
 -- told clause it has its number, and each line has the number before.
-use Rattle.std.proofs.Common.{◌≡◌, ◌⊎◌, ℕ, zero, suc, ◌+◌, ◌-◌, ◌<◌, ◌≤◌, ◌==◌, Bool, true, false, List, [], ◌∷◌, take, Option, Some, None, refl, ap, ap₂, sym, ◌∙◌, subst, ⊎_elim, inl, inr, arith}
-use Rattle.std.specs.Prelude.{map, flat_map, ◌&&◌, ◌++◌, length, slice_get, nat_lt, All, option_map, option_and_then, if◌then◌else◌, IsTrue}
+use Rattle.std.proofs.Common.{◌≡◌, ◌⊎◌, ℕ, zero, suc, ◌+◌, ◌-◌, ◌≤◌, ◌==◌, Bool, true, false, List, [], ◌∷◌, take, Option, Some, None, refl, ap, ap₂, sym, ◌∙◌, subst, ⊎_elim, inl, inr, arith}
+use Rattle.std.specs.Prelude.{map, flat_map, ◌&&◌, ◌++◌, length, slice_get, nat_lt, option_map, option_and_then, if◌then◌else◌}
 use Rattle.std.specs.List.{list_all}
-use Rattle.std.proofs.lemmas.Bool.{cond-true, cond-false, cases_Bool, eq-eqb, eqb-true, lt-ltb, ltb-true, ltb-false, le-ltb, true≢false, false_from_ne_true, and_parts, and_from}
+use Rattle.std.proofs.lemmas.Bool.{cond-true, cond-false, cases_Bool, eqb-true, ltb-false, le-ltb, true≢false, false_from_ne_true, and_parts, and_from}
 use Rattle.std.proofs.lemmas.List.{take-map}
 use Rattle.std.proofs.lemmas.List.Elements.{All-map, All-weaker, All-cons}
-use Rattle.std.proofs.lemmas.Option.{none-some, same_Some, slice_get-map, option_and_then_some}
+use Rattle.std.proofs.lemmas.Option.{same_Some, slice_get-map, option_and_then_some}
 use Rattle.fol_base.specs.Tree.{Tree, trees_of, trees_variables}
 use Rattle.fol_base.specs.Clause.{TreeLiteral, TreeClause, clause_variables}
 use Rattle.fol_base.specs.Canonical.{distinct, numbers_from}
@@ -15,8 +15,8 @@ use Rattle.fol_base.specs.Literal.{clause_of}
 use Rattle.fol_base.specs.Rules.{superposed, resolved, factored, merged}
 use Rattle.fol_base.proofs.TestLemmas.{if_some, list_all-item, option_map-some}
 use Rattle.kernel_steps.specs.Parents.{Parent, Parents}
-use Rattle.kernel_steps.specs.Conclusion.{verdict, concludes, by_one, by_two}
-use Rattle.kernel_steps.specs.Derivation.{AreSteps, continued, line_parent, line_parents, reduced_parents, is_clause_step, introduces_name}
+use Rattle.kernel_steps.specs.Conclusion.{verdict, concludes, by_two}
+use Rattle.kernel_steps.specs.Derivation.{AreSteps, continued, line_parent, line_parents, reduced_parents}
 use Rattle.kernel_steps.specs.Lines.{AreLines, IsNumbered, clause_parents, has_small_sides, has_small_terms, is_on_literals, is_small_term}
 use Rattle.kernel_steps.specs.Soundness.{bindings_of, binds_each}
 use Rattle.kernel_steps.specs.Symbols.{symbols_pass, clause_symbols_pass, bound_symbols_pass}
@@ -24,7 +24,7 @@ use Rattle.kernel_steps.specs.declared.step.TheConstants.{CLAUSE_NUMBERS}
 use Rattle.kernel_steps.specs.declared.step.Step.{Step}
 use Rattle.kernel_steps.specs.declared.step.Step.TheVariants.{Para, Refl, Factor, Merge}
 use Rattle.kernel_steps.specs.declared.step.Line.{Line}
-use Rattle.kernel_steps.proofs.VerdictParts.{by_one-parts, by_two-parts}
+use Rattle.kernel_steps.proofs.VerdictParts.{by_two-parts}
 use Rattle.kernel_steps.proofs.SymbolLemmas.{steps_keep_symbols}
 use Rattle.reduction.proofs.VerdictLemmas.{by_one-onward, conclusion-onward}
 use Rattle.reduction.proofs.LineLemmas.{line_parent-plain}
@@ -160,8 +160,11 @@ reduced-cases outer c lines m p h =
     (λ above.
     let past : CLAUSE_NUMBERS + 1 ≤ m = ltb-false m (CLAUSE_NUMBERS + 1) above in
     let is : m ≡ CLAUSE_NUMBERS + 1 + (m - (CLAUSE_NUMBERS + 1)) = omega (arith, past) in
-    inr (inr (m - (CLAUSE_NUMBERS + 1), is,
-    sym (cond-false (nat_lt m (CLAUSE_NUMBERS + 1)) (reduced_parents outer c m) (line_parents lines (m - (CLAUSE_NUMBERS + 1))) above) ∙ h)))
+    inr (inr (
+      m - (CLAUSE_NUMBERS + 1),
+      is,
+      sym (cond-false (nat_lt m (CLAUSE_NUMBERS + 1)) (reduced_parents outer c m) (line_parents lines (m - (CLAUSE_NUMBERS + 1))) above) ∙ h,
+    )))
     (cases_Bool (nat_lt m (CLAUSE_NUMBERS + 1)))
 
 -- a clause, and a line, as parents of lines of a batch

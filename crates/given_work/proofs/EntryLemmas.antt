@@ -1,11 +1,11 @@
 -- What becomes of the conclusion of an inference.
-use Rattle.std.proofs.Common.{◌≡◌, ◌⊎◌, ℕ, zero, suc, ◌+◌, ◌<◌, ◌≤◌, Bool, true, false, List, [], ◌∷◌, ◌++◌, append-nil, append_assoc, Option, Some, None, refl, ap, ap₂, sym, ◌∙◌, subst, ⊎_elim, inl, inr, arith}
-use Rattle.std.specs.Prelude.{map, flat_map, length, sum_by, All, nat_lt, nat_le, ◌&&◌, ◌||◌, slice_get, IsTrue}
+use Rattle.std.proofs.Common.{◌≡◌, ℕ, ◌+◌, ◌≤◌, Bool, true, false, List, [], ◌∷◌, ◌++◌, append-nil, append_assoc, Some, None, refl, ap, sym, ◌∙◌, subst, ⊎_elim, arith}
+use Rattle.std.specs.Prelude.{flat_map, length, sum_by, nat_lt, ◌||◌}
 use Rattle.std.specs.List.{list_all}
-use Rattle.std.proofs.lemmas.Bool.{and_from, lt-ltb, le-leb, leb-false, ltb-false, true≢false}
+use Rattle.std.proofs.lemmas.Bool.{and_from, lt-ltb, le-leb, ltb-false, true≢false}
 use Rattle.std.proofs.lemmas.List.Elements.{All-nil}
 use Rattle.std.proofs.lemmas.List.Sums.{sum_by-cons}
-use Rattle.std.proofs.lemmas.Option.{none-some, same_Some}
+use Rattle.std.proofs.lemmas.Option.{none-some}
 use Rattle.fol_base.specs.Tree.{Tree, true_symbol, tree_size, trees_of, trees_variables, tree_variables}
 use Rattle.fol_base.specs.Canonical.{distinct, numbers_from}
 use Rattle.fol_base.specs.Clause.{TreeLiteral, TreeClause, clause_size, clause_variables, literal_size}
@@ -15,10 +15,8 @@ use Rattle.fol_base.specs.Subsumption.{Subsumes}
 use Rattle.fol_base.specs.WellFormed.{SymbolUse}
 use Rattle.fol_base.specs.declared.clause.Clause.{Clause}
 use Rattle.fol_base.specs.declared.limits.TheConstants.{MOST_SYMBOLS}
-use Rattle.kernel_steps.specs.Conclusion.{verdict}
 use Rattle.kernel_steps.specs.Inference.{is_tautology}
 use Rattle.kernel_steps.specs.Lines.{AreLines, IsNumbered, clause_parents, has_small_sides, has_small_terms, is_on_literals, is_small_term, key_of}
-use Rattle.kernel_steps.specs.Moves.{end_of_moves}
 use Rattle.kernel_steps.specs.Parents.{Parent}
 use Rattle.kernel_steps.specs.Sized.{IsSizedInference, is_large}
 use Rattle.kernel_steps.specs.Soundness.{bindings_of, binds_each}
@@ -36,22 +34,17 @@ use Rattle.literal_selection.specs.Mode.{mode_of}
 use Rattle.fol_base.proofs.TestLemmas.{option_map-some}
 use Rattle.eq_rules.specs.Inferences.{IsConcluded, IsPremise, bindings_of as bound_of_step}
 use Rattle.bank_clause.specs.declared.member.Member.{Member}
-use Rattle.calculus.specs.Lifting.{IsMember}
-use Rattle.reduction.specs.Reduced.{IsReduced, last_clause}
-use Rattle.simplification.specs.Usable.{IsAmong}
+use Rattle.reduction.specs.Reduced.{IsReduced}
 use Rattle.simplification.specs.Simplified.{IsSimplified}
 use Rattle.simplification.specs.declared.simplifying.Simplified.{Simplified}
 use Rattle.simplification.specs.declared.simplifying.Simplified.TheVariants as outcome
 use Rattle.pool_core.specs.Record.{GivenJob}
-use Rattle.pool_core.specs.Lines.{result_of}
 use Rattle.pool_core.specs.Reduction.{AreLinesFrom, Lookup, handed_back}
 use Rattle.pool_core.specs.Batches.{IsRightFate, is_told}
 use Rattle.pool_core.specs.declared.options.Options.{Options}
 use Rattle.pool_core.specs.declared.batch.Fate.{Fate}
-use Rattle.pool_core.specs.declared.batch.Fate.TheVariants.{Dropped}
-use Rattle.pool_core.specs.declared.batch.Redundancy.TheVariants.{Tautology, Subsumed}
 use Rattle.pool_core.proofs.FormedLemmas.{IsFormed, result-formed}
-use Rattle.given_work.specs.Meeting.{AreEntriesOf, IsEntryOf, IsFateBy, IsKeptWith}
+use Rattle.given_work.specs.Meeting.{AreEntriesOf, IsEntryOf, IsFateBy}
 use Rattle.eq_rules.specs.declared.inference.Inference.{Inference}
 use Rattle.pool_core.specs.declared.batch.Entry.{Entry}
 use Rattle.given_work.specs.Telling.{AreToldSets, told_of}

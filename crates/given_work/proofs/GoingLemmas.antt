@@ -1,10 +1,10 @@
 -- What becomes of a told clause that was reduced by the others.
-use Rattle.std.proofs.Common.{◌≡◌, ◌⊎◌, ℕ, ◌<◌, ◌≤◌, ◌==◌, not, Bool, true, false, List, [], ◌∷◌, ◌++◌, map, Option, Some, None, refl, ap, sym, ◌∙◌, subst, ⊎_elim, inl, inr, arith, append-nil}
-use Rattle.std.specs.Prelude.{filter, All, Contains, ◌&&◌, nat_lt, option_map, if◌then◌else◌, IsTrue}
+use Rattle.std.proofs.Common.{◌≡◌, ℕ, ◌==◌, not, Bool, true, false, List, [], ◌∷◌, ◌++◌, map, Option, Some, None, refl, ap, sym, ◌∙◌, subst, ⊎_elim, inl, inr, append-nil}
+use Rattle.std.specs.Prelude.{All, Contains, ◌&&◌, nat_lt, option_map, if◌then◌else◌, IsTrue}
 use Rattle.std.proofs.Math.Path.{fun_ext}
-use Rattle.std.proofs.lemmas.Bool.{cond-true, cond-false, cases_Bool, eq-eqb, eqb-true, true≢false, false_from_ne_true, lt-ltb}
-use Rattle.std.proofs.lemmas.List.Elements.{All-append, All-cons, All-nil, All-weaker, All-contains, Contains-append_left}
-use Rattle.std.proofs.lemmas.Option.{none-some, same_Some}
+use Rattle.std.proofs.lemmas.Bool.{cond-true, eq-eqb, eqb-true, true≢false, false_from_ne_true, lt-ltb}
+use Rattle.std.proofs.lemmas.List.Elements.{All-append, All-cons, All-nil, All-weaker, Contains-append_left}
+use Rattle.std.proofs.lemmas.Option.{same_Some}
 use Rattle.fol_base.specs.Clause.{TreeClause}
 use Rattle.fol_base.specs.Literal.{clause_of}
 use Rattle.fol_base.specs.Subsumption.{Subsumes, is_among}
@@ -25,11 +25,10 @@ use Rattle.reduction.specs.Reduced.{IsReduced, last_clause, with_number}
 use Rattle.reduction.proofs.ExtendingLemmas.{noted-all, with_number-has, with_number-keeps}
 use Rattle.subsume.specs.Searching.{AreMembersOfUse, IsLowest, IsMemberOfUse, IsSubsumer}
 use Rattle.simplification.specs.Reducing.{IsFurther, IsIrreducibleBySteps}
-use Rattle.simplification.specs.Usable.{AreFormed, IsAmong, IsMemberWith, without}
+use Rattle.simplification.specs.Usable.{AreFormed, IsAmong, without}
 use Rattle.pool_core.specs.Record.{GivenJob}
 use Rattle.pool_core.specs.Lines.{result_of}
-use Rattle.pool_core.specs.Reduction.{Lookup, AreLinesFrom, HaveSymbolsOf, clauses_used, handed_back}
-use Rattle.pool_core.specs.Components.{is_to_split}
+use Rattle.pool_core.specs.Reduction.{Lookup, AreLinesFrom, clauses_used, handed_back}
 use Rattle.pool_core.specs.Batches.{IsReducedBeside, IsRightlyReplaced, is_told, is_told_beside}
 use Rattle.pool_core.specs.declared.options.Options.{Options}
 use Rattle.pool_core.specs.declared.batch.Redundancy.TheVariants.{Tautology, Subsumed}

@@ -1,16 +1,14 @@
 -- Lists of inferences, looked up among more clauses, and joined.
-use Rattle.std.proofs.Common.{◌≡◌, ◌⊎◌, ℕ, zero, suc, ◌+◌, ◌<◌, ◌≤◌, ◌==◌, Bool, true, false, Option, Some, None, List, [], ◌∷◌, ◌++◌, length, refl, ap, sym, ◌∙◌, subst, inl, inr, ⊎_elim, arith}
-use Rattle.std.specs.Prelude.{slice_get, All, Contains, option_map, ◌&&◌, ◌||◌}
+use Rattle.std.proofs.Common.{◌≡◌, ◌⊎◌, ℕ, zero, suc, ◌+◌, ◌==◌, Bool, true, false, Option, Some, None, List, [], ◌∷◌, ◌++◌, length, refl, ap, sym, ◌∙◌, inl, inr, ⊎_elim, arith}
+use Rattle.std.specs.Prelude.{slice_get, Contains, option_map, ◌||◌}
 use Rattle.std.specs.List.{list_any}
-use Rattle.std.proofs.lemmas.Bool.{cond-true, true≢false, or_cases, or_left, or_right, eqb-true, eq-eqb, and_parts, and_from, cases_Bool}
+use Rattle.std.proofs.lemmas.Bool.{cond-true, true≢false, or_cases, or_left, or_right, eqb-true, eq-eqb, and_parts}
 use Rattle.std.proofs.lemmas.List.Elements.{All-append, All-contains, All-weaker, Contains-append_left, Contains-append_right}
 use Rattle.std.proofs.lemmas.Option.{none-some, same_Some, slice_get_within, get_or_from_slice_get}
 use Rattle.fol_base.specs.Clause.{TreeClause}
 use Rattle.fol_base.specs.Selection.{SelectionMode}
-use Rattle.fol_base.specs.WellFormed.{SymbolUse, are_literals_of}
 use Rattle.fol_base.proofs.TestLemmas.{option_map-some, if_some}
 use Rattle.kernel_steps.specs.Parents.{Parent}
-use Rattle.kernel_steps.specs.Conclusion.{verdict, concludes}
 use Rattle.kernel_steps.specs.Lines.{clause_parents, is_on_literals, key_of}
 use Rattle.kernel_steps.specs.Named.{IsInference}
 use Rattle.kernel_steps.specs.Sized.{IsSizedInference}
@@ -20,7 +18,7 @@ use Rattle.kernel_steps.specs.declared.step.Step.{Step}
 use Rattle.kernel_steps.specs.declared.step.Step.TheVariants as step
 use Rattle.bank_clause.specs.Clause.{clause_at}
 use Rattle.bank_clause.specs.declared.member.Member.{Member}
-use Rattle.eq_rules.specs.Inferences.{AreInferences, AreInferencesOf, IsConcluded, IsMade, IsPremise, alone, is_factoring, is_resolution}
+use Rattle.eq_rules.specs.Inferences.{AreInferences, IsConcluded, IsMade, IsPremise, alone, is_factoring, is_resolution}
 use Rattle.eq_rules.specs.declared.inference.Inference.{Inference}
 use Rattle.eq_rules.specs.declared.inference.Made.{Made}
 use Rattle.eq_rules.specs.declared.inference.Made.TheVariants.{Conclusion, Heavy}

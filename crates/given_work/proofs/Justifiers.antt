@@ -1,9 +1,9 @@
 -- The clauses that lines of a batch use: those that the lines of the reduced clause use, and the clause itself.
-use Rattle.std.proofs.Common.{◌≡◌, ◌⊎◌, ℕ, zero, suc, ◌+◌, ◌-◌, ◌<◌, ◌≤◌, ◌==◌, not, Bool, true, false, List, [], ◌∷◌, ◌++◌, Option, Some, None, refl, ap, ap₂, sym, ◌∙◌, subst, ⊎_elim, inl, inr, arith}
-use Rattle.std.specs.Prelude.{map, filter, flat_map, nat_lt, All, Contains, ◌&&◌, option_map, if◌then◌else◌}
+use Rattle.std.proofs.Common.{◌≡◌, ℕ, ◌-◌, ◌<◌, ◌≤◌, ◌==◌, Bool, true, List, [], ◌∷◌, Some, None, refl, ap, sym, ◌∙◌, subst, ⊎_elim, arith}
+use Rattle.std.specs.Prelude.{map, flat_map, nat_lt, All, Contains, ◌&&◌, option_map, if◌then◌else◌}
 use Rattle.std.specs.List.{list_all, list_any, last_or}
-use Rattle.std.proofs.lemmas.Bool.{cond-true, cond-false, cases_Bool, eq-eqb, eqb-true, ltb-true, ltb-false, true≢false, false_from_ne_true, or_left, or_right, and_from, and_parts}
-use Rattle.std.proofs.lemmas.List.Elements.{All-head, All-tail, All-nil, All-cons, All-contains, Contains-append_left, Contains-append_right, Contains-append_cases}
+use Rattle.std.proofs.lemmas.Bool.{cond-true, cond-false, cases_Bool, eq-eqb, ltb-true, ltb-false, true≢false, or_left, or_right, and_from, and_parts}
+use Rattle.std.proofs.lemmas.List.Elements.{All-head, All-tail, All-nil, All-cons, Contains-append_left, Contains-append_right, Contains-append_cases}
 use Rattle.fol_base.specs.Clause.{TreeClause}
 use Rattle.fol_base.specs.Canonical.{distinct}
 use Rattle.fol_base.specs.Literal.{clause_of}
@@ -15,7 +15,6 @@ use Rattle.kernel_steps.specs.declared.step.Step.TheVariants.{Para, Refl, Factor
 use Rattle.kernel_steps.specs.declared.step.Line.{Line}
 use Rattle.reduction.specs.Reduced.{last_clause}
 use Rattle.reduction.proofs.SymbolLemmas.{has-distinct, Contains-has}
-use Rattle.reduction.proofs.VerdictLemmas.{has_number}
 use Rattle.pool_core.specs.Lines.{with_parents}
 use Rattle.given_work.specs.Going.{number_beside, batch_line, batch_lines}
 use Rattle.given_work.proofs.Slots.{Contains-cons_cases, Contains-here, Contains-later, Contains-none, Contains-filter, Contains-filtered}

@@ -1,5 +1,5 @@
 -- The laws of indexes that were told the clauses of a job.
-use Rattle.std.proofs.Common.{◌≡◌, ℕ, zero, suc, false, List, [], ◌∷◌, Option, Some, ap, sym, ◌∙◌, subst}
+use Rattle.std.proofs.Common.{◌≡◌, ℕ, zero, suc, false, List, [], ◌∷◌, Some, ap, sym, ◌∙◌, subst}
 use Rattle.std.specs.Prelude.{All, slice_get}
 use Rattle.std.proofs.lemmas.Option.{none-some, same_Some}
 use Rattle.std.proofs.lemmas.List.Elements.{All-contains, All-head, All-tail}
@@ -7,7 +7,7 @@ use Rattle.fol_base.specs.WellFormed.{SymbolUse}
 use Rattle.fol_base.proofs.TestLemmas.{option_map-some}
 use Rattle.bank_clause.specs.Clause.{clause_at}
 use Rattle.bank_clause.specs.declared.member.Member.{Member}
-use Rattle.pool_core.specs.Record.{PoolRecord, Registered, clauses_of, given_job}
+use Rattle.pool_core.specs.Record.{Registered, clauses_of, given_job}
 use Rattle.pool_core.specs.Replay.{Origin, replay}
 use Rattle.pool_core.specs.Inputs.{AreInputs, IsHistoryOf, IsUseOf}
 use Rattle.pool_core.specs.Wholeness.{IsWhole}

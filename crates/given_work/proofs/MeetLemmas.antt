@@ -1,14 +1,13 @@
 -- The inferences of a given clause as its partners are gone through.
-use Rattle.std.proofs.Common.{◌≡◌, ◌⊎◌, ℕ, zero, suc, ◌+◌, ◌<◌, ◌≤◌, ◌==◌, nat_eq, Bool, true, false, List, [], ◌∷◌, ◌++◌, length, take, map, Option, Some, None, refl, ap, sym, ◌∙◌, subst, ⊎_elim, inl, inr, arith}
-use Rattle.std.specs.Prelude.{slice_get, Contains, ◌||◌, IsTrue, filter_map}
+use Rattle.std.proofs.Common.{◌≡◌, ℕ, zero, suc, ◌+◌, ◌<◌, ◌==◌, true, false, List, [], ◌∷◌, ◌++◌, take, Option, Some, None, refl, ap, sym, ◌∙◌, subst, ⊎_elim, arith}
+use Rattle.std.specs.Prelude.{slice_get, Contains, IsTrue}
 use Rattle.std.specs.List.{list_any}
 use Rattle.std.proofs.lemmas.Bool.{true≢false, or_left, or_cases, false_from_ne_true, eqb-true}
 use Rattle.std.proofs.lemmas.List.{map-append}
-use Rattle.std.proofs.lemmas.Option.{none-some, same_Some, slice_get_within}
+use Rattle.std.proofs.lemmas.Option.{none-some, same_Some}
 use Rattle.std.proofs.lemmas.List.Elements.{All-contains}
 use Rattle.fol_base.specs.WellFormed.{SymbolUse, are_literals_of}
 use Rattle.kernel_steps.proofs.LineLemmas.{slice_get-take}
-use Rattle.kernel_steps.specs.declared.key.Key.{Key}
 use Rattle.literal_selection.specs.Mode.{mode_of}
 use Rattle.literal_selection.specs.declared.choice.Selection.{Selection}
 use Rattle.bank_clause.specs.Clause.{clause_at}
@@ -21,7 +20,7 @@ use Rattle.pool_core.specs.Record.{GivenJob}
 use Rattle.pool_core.specs.Reduction.{Lookup}
 use Rattle.pool_core.specs.Wholeness.{IsWhole}
 use Rattle.given_work.specs.Meeting.{AddsPair, AreAlone, AreMetWith, before_place, is_alone, is_met}
-use Rattle.given_work.specs.Store.{ArePlaced, IsAt, members_in, told_member}
+use Rattle.given_work.specs.Store.{ArePlaced, members_in}
 use Rattle.given_work.specs.Telling.{Tells, told_of}
 use Rattle.given_work.specs.declared.store.Told.{Told}
 use Rattle.given_work.specs.declared.store.Store.{Store}

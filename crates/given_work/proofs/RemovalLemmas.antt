@@ -1,17 +1,16 @@
 -- The removals of told clauses that a given one simplifies, as the clauses are gone through.
-use Rattle.std.proofs.Common.{◌≡◌, ◌⊎◌, ℕ, ◌<◌, ◌==◌, not, Bool, true, false, List, [], ◌∷◌, ◌++◌, append-nil, length, take, Option, Some, None, refl, ap, sym, ◌∙◌, subst, ⊎_elim, inl, inr}
-use Rattle.std.specs.Prelude.{All, Contains, ◌&&◌, ◌||◌, ◌↔◌, option_to_list, IsTrue, if◌then◌else◌}
+use Rattle.std.proofs.Common.{◌≡◌, ℕ, ◌<◌, ◌==◌, not, Bool, true, false, List, [], ◌∷◌, ◌++◌, append-nil, length, take, Option, Some, None, refl, ap, sym, ◌∙◌, subst, ⊎_elim, inl, inr}
+use Rattle.std.specs.Prelude.{All, Contains, ◌||◌, ◌↔◌, option_to_list}
 use Rattle.std.specs.List.{list_any}
-use Rattle.std.proofs.lemmas.Bool.{cond-true, cases_Bool, eq-eqb, eqb-true, true≢false, false_from_ne_true, or_cases, or_left, or_right, and_from, and_parts}
+use Rattle.std.proofs.lemmas.Bool.{cond-true, eq-eqb, eqb-true, true≢false, false_from_ne_true, or_cases, or_left, or_right, and_from, and_parts}
 use Rattle.std.proofs.lemmas.List.Elements.{All-append, All-cons, All-nil, All-contains, Contains-push_cases}
-use Rattle.fol_base.specs.Clause.{TreeClause}
 use Rattle.fol_base.specs.Subsumption.{Subsumes}
 use Rattle.fol_base.specs.WellFormed.{SymbolUse}
 use Rattle.fol_base.proofs.TestLemmas.{if_some}
 use Rattle.kernel_steps.specs.declared.step.TheConstants.{CLAUSE_NUMBERS}
 use Rattle.bank_clause.specs.Clause.{clause_at}
 use Rattle.bank_clause.specs.declared.member.Member.{Member}
-use Rattle.calculus.specs.Lifting.{IsMember, among}
+use Rattle.calculus.specs.Lifting.{IsMember}
 use Rattle.subsume.specs.Searching.{AreMembersOfUse, AreNumbersOf, IsMemberOfUse, IsSubsumedBy}
 use Rattle.simplification.specs.Usable.{HasOneLiteral}
 use Rattle.pool_core.specs.Record.{GivenJob}
@@ -23,7 +22,7 @@ use Rattle.pool_core.specs.declared.batch.Removal.{Removal}
 use Rattle.given_work.specs.Going.{GoesRightly, StaysOrGoes}
 use Rattle.given_work.specs.Removing.{AreRemovalsAmong, IsConsidered, Removes, may_go}
 use Rattle.given_work.specs.Sets.{AreSetsOf}
-use Rattle.given_work.specs.Telling.{AreToldSets, Tells, told_of}
+use Rattle.given_work.specs.Telling.{AreToldSets, Tells}
 use Rattle.given_work.specs.declared.sets.Sets.{Sets}
 use Rattle.given_work.proofs.GoingLemmas.{members-formed}
 use Rattle.given_work.proofs.Justifiers.{any-from}

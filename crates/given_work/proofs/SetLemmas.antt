@@ -1,6 +1,6 @@
 -- The sets of told clauses, after one more and after one less.
-use Rattle.std.proofs.Common.{◌≡◌, ℕ, ◌==◌, not, cond, List, [], ◌∷◌, ◌++◌, Option, Some, None, refl, ap, ap₂}
-use Rattle.std.specs.Prelude.{filter, All, Contains, IsPermutation}
+use Rattle.std.proofs.Common.{◌≡◌, ℕ, ◌==◌, not, cond, List, [], ◌∷◌, ◌++◌, Some, None, refl, ap₂}
+use Rattle.std.specs.Prelude.{filter, Contains, IsPermutation}
 use Rattle.std.proofs.lemmas.List.Elements.{All-contains}
 use Rattle.bank_clause.specs.Clause.{clause_at}
 use Rattle.bank_clause.specs.declared.clause.BankClause.{BankClause}

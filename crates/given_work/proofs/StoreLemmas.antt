@@ -1,6 +1,6 @@
 -- The told clauses by their places, after one is put behind the others and after one is taken away.
-use Rattle.std.proofs.Common.{◌≡◌, ℕ, ◌<◌, ◌==◌, not, nat_eq, cond, List, [], ◌∷◌, ◌++◌, length, Option, Some, None, refl, ap, sym, ◌∙◌, subst, ⊎_elim, Bool, true, false}
-use Rattle.std.specs.Prelude.{filter, slice_get, slice_set, All, Contains, ◌↔◌}
+use Rattle.std.proofs.Common.{◌≡◌, ℕ, ◌<◌, ◌==◌, not, nat_eq, cond, List, [], ◌∷◌, ◌++◌, length, Option, Some, None, refl, ap, sym, ◌∙◌, subst, ⊎_elim, false}
+use Rattle.std.specs.Prelude.{filter, slice_get, slice_set}
 use Rattle.std.proofs.lemmas.Bool.{cases_Bool, cond-true, cond-false, eqb-true}
 use Rattle.std.proofs.lemmas.Option.{same_Some, none-some, slice_get_within}
 use Rattle.std.proofs.lemmas.List.Elements.{All-contains}
@@ -8,10 +8,10 @@ use Rattle.indexmap.specs.IndexMap.{get}
 use Rattle.bank_clause.specs.declared.member.Member.{Member}
 use Rattle.literal_selection.specs.declared.choice.Selection.{Selection}
 use Rattle.subsume.specs.Editing.{HasNoNumber}
-use Rattle.given_work.specs.Store.{ArePlaced, IsAt, IsSited, IsStore, members_in, told_member}
+use Rattle.given_work.specs.Store.{ArePlaced, IsSited, IsStore, members_in}
 use Rattle.given_work.specs.declared.store.Told.{Told}
 use Rattle.given_work.specs.declared.store.Store.{Store}
-use Rattle.given_work.proofs.Slots.{Placed, Stands, at-member, filter-all, member-at, put-members, put-placed, slice_get-push_cases, slice_get-set_other, slice_get-set_same, take-members, take-placed}
+use Rattle.given_work.proofs.Slots.{Placed, at-member, filter-all, member-at, put-members, put-placed, slice_get-push_cases, slice_get-set_other, slice_get-set_same, take-members, take-placed}
 
 abbrev number : Told → ℕ
 number t = t.member.number
@@ -64,7 +64,6 @@ pub place-inside : (before : Store) (k i : ℕ) → ArePlaced before → finds b
 place-inside before k i was found = let at = (was k i).0 found in slice_get_within before.slots.items i (Some at.told) at.there
 
 module _ (before now : Store) (k i : ℕ) (was : ArePlaced before) (found : finds before k ≡ Some i) (slots : now.slots.items ≡ slice_set before.slots.items i None) where
-
   pub members-taken : members_in now.slots.items ≡ filter (λ (m : Member). not (m.number == k)) (members_in before.slots.items)
   members-taken =
       ap members_in slots
@@ -113,13 +112,13 @@ pub store-same :
     → IsStore mode before → IsStore mode now
 store-same mode before now slots places old = record {
   placed = λ n place. (
-      (λ e.
-          let at = (old.placed n place).0 (sym (places n) ∙ e) in
-          record { told = at.told; there = ap (λ (ss : List (Option Told)). slice_get ss place) slots ∙ at.there; numbered = at.numbered }),
-      (λ at.
-          places n
-          ∙ (old.placed n place).1 (record { told = at.told; there = ap (λ (ss : List (Option Told)). slice_get ss place) (sym slots) ∙ at.there; numbered = at.numbered })),
-    );
+    (λ e.
+        let at = (old.placed n place).0 (sym (places n) ∙ e) in
+        record { told = at.told; there = ap (λ (ss : List (Option Told)). slice_get ss place) slots ∙ at.there; numbered = at.numbered }),
+    (λ at.
+        places n
+        ∙ (old.placed n place).1 (record { told = at.told; there = ap (λ (ss : List (Option Told)). slice_get ss place) (sym slots) ∙ at.there; numbered = at.numbered })),
+  );
   sited = λ place s at. old.sited place s (ap (λ (ss : List (Option Told)). slice_get ss place) (sym slots) ∙ at);
 }
 

@@ -1,9 +1,8 @@
 -- What a list of members tells of a job, and its sets with it.
-use Rattle.std.proofs.Common.{◌≡◌, ◌⊎◌, ℕ, ◌<◌, ◌==◌, not, Bool, true, false, List, [], ◌∷◌, map, Option, Some, None, refl, ap, sym, ◌∙◌, subst, ⊎_elim, inl, inr}
-use Rattle.std.specs.Prelude.{All, Contains, option_map, if◌then◌else◌, ◌↔◌}
-use Rattle.std.specs.List.{list_any}
+use Rattle.std.proofs.Common.{◌≡◌, ℕ, ◌<◌, ◌==◌, true, List, [], ◌∷◌, Some, None, refl, ap, sym, ◌∙◌, subst, ⊎_elim}
+use Rattle.std.specs.Prelude.{All, Contains, option_map}
 use Rattle.std.proofs.lemmas.Bool.{cond-true, or_cases, or_left, or_right, eqb-true, eq-eqb, true≢false}
-use Rattle.std.proofs.lemmas.List.Elements.{All-contains, All-head, All-tail, All-weaker}
+use Rattle.std.proofs.lemmas.List.Elements.{All-contains}
 use Rattle.std.proofs.lemmas.Option.{same_Some}
 use Rattle.fol_base.specs.Clause.{TreeClause}
 use Rattle.fol_base.specs.WellFormed.{SymbolUse}
@@ -11,12 +10,11 @@ use Rattle.fol_base.proofs.TestLemmas.{if_some, option_map-some}
 use Rattle.kernel_steps.specs.Split.{has_number}
 use Rattle.kernel_steps.specs.declared.step.TheConstants.{CLAUSE_NUMBERS}
 use Rattle.bank_clause.specs.Clause.{AreMembersOf, IsMemberOf, clause_at}
-use Rattle.bank_clause.specs.declared.clause.BankClause.{BankClause}
 use Rattle.bank_clause.specs.declared.member.Member.{Member}
 use Rattle.term_bank.specs.declared.bank.Bank.{Bank}
-use Rattle.rewriting.specs.Units.{AreClausesOf, IsUnit, clause_numbered}
+use Rattle.rewriting.specs.Units.{IsUnit, clause_numbered}
 use Rattle.subsume.specs.Members.{numbers_of}
-use Rattle.simplification.specs.Usable.{AreOfClauses, HasAll, HasEquations, HasOneLiteral, HasThose, IsMemberWith}
+use Rattle.simplification.specs.Usable.{HasAll, HasEquations, HasOneLiteral, HasThose, IsMemberWith}
 use Rattle.pool_core.specs.Record.{GivenJob}
 use Rattle.pool_core.specs.Reduction.{Lookup}
 use Rattle.pool_core.specs.Wholeness.{IsWhole}

@@ -1,16 +1,16 @@
 -- The work on a given clause is right.
-use Rattle.std.proofs.Common.{◌≡◌, ◌⊎◌, ℕ, ◌+◌, ◌<◌, ◌≤◌, ◌==◌, nat_eq, not, Bool, true, false, List, [], ◌∷◌, ◌++◌, append-nil, length, take, map, Option, Some, None, refl, ap, ap₂, sym, ◌∙◌, subst, ⊎_elim, inl, inr, arith}
-use Rattle.std.specs.Prelude.{All, AllPairs, Contains, slice_get, take_while, ◌&&◌, ◌||◌, IsTrue}
+use Rattle.std.proofs.Common.{◌≡◌, ◌⊎◌, ℕ, ◌<◌, ◌≤◌, ◌==◌, nat_eq, not, Bool, true, false, List, [], ◌∷◌, ◌++◌, append-nil, length, map, Option, Some, None, refl, ap, ap₂, sym, ◌∙◌, subst, ⊎_elim, inl, inr}
+use Rattle.std.specs.Prelude.{All, AllPairs, Contains, slice_get, take_while, IsTrue}
 use Rattle.std.specs.List.{list_all, list_any}
 use Rattle.std.proofs.lemmas.Bool.{cond-true, and_from, and_parts, eq-eqb, true≢false}
-use Rattle.std.proofs.lemmas.Option.{none-some, same_Some}
-use Rattle.std.proofs.lemmas.List.Elements.{All-nil, All-cons, All-head, All-tail, All-contains, All-weaker, Contains-append_left}
+use Rattle.std.proofs.lemmas.Option.{same_Some}
+use Rattle.std.proofs.lemmas.List.Elements.{All-nil, All-cons, All-head, All-tail, All-contains, Contains-append_left}
 use Rattle.indexmap.specs.IndexMap.{get}
 use Rattle.fol_base.specs.Clause.{TreeClause}
 use Rattle.fol_base.specs.WellFormed.{SymbolUse}
 use Rattle.fol_base.proofs.TestLemmas.{if_some}
 use Rattle.kernel_steps.specs.Split.{has_number}
-use Rattle.kernel_steps.specs.Named.{OfOne, IsInference}
+use Rattle.kernel_steps.specs.Named.{IsInference}
 use Rattle.kernel_steps.specs.declared.key.Key.{Key}
 use Rattle.kernel_steps.specs.declared.step.TheConstants.{CLAUSE_NUMBERS}
 use Rattle.literal_selection.specs.Mode.{mode_of}
@@ -23,17 +23,17 @@ use Rattle.eq_rules.specs.declared.inference.Inference.{Inference}
 use Rattle.pool_core.specs.Record.{GivenJob}
 use Rattle.pool_core.specs.Counting.{keys_of}
 use Rattle.pool_core.specs.Reduction.{Lookup}
-use Rattle.pool_core.specs.Batches.{IsGoneFor, IsReducedBeside, IsRightFate, IsRightMeeting, IsRightRemoval, IsRightWork, MeetsAll, RemovesAll, Simplifies, clauses_beside, is_to_meet, is_told, is_told_beside, told_before, told_clauses}
+use Rattle.pool_core.specs.Batches.{IsGoneFor, IsReducedBeside, IsRightFate, IsRightRemoval, IsRightWork, MeetsAll, RemovesAll, Simplifies, is_to_meet, is_told, is_told_beside, told_before}
 use Rattle.pool_core.specs.declared.options.Options.{Options}
 use Rattle.pool_core.specs.declared.batch.Entry.{Entry}
 use Rattle.pool_core.specs.declared.batch.Fate.{Fate}
 use Rattle.pool_core.specs.declared.batch.Fate.TheVariants.{Dropped, Heavy, Kept}
 use Rattle.pool_core.specs.declared.batch.Removal.{Removal}
 use Rattle.pool_core.specs.declared.batch.Work.{Work}
-use Rattle.pool_core.specs.declared.batch.Work.TheVariants.{Gone, Met}
+use Rattle.pool_core.specs.declared.batch.Work.TheVariants.{Gone}
 use Rattle.given_work.specs.Going.{GoesRightly, IsRemovalOf, LeavesIrreducible}
 use Rattle.given_work.specs.Meeting.{AreEntriesOf, AreFirstEntries, AreMetWith, IsMadeWith, before_place, is_met}
-use Rattle.given_work.specs.Removing.{AreRemovalsAmong, AreTold, Removes}
+use Rattle.given_work.specs.Removing.{AreTold, Removes}
 use Rattle.given_work.specs.Sets.{AreSetsOf}
 use Rattle.given_work.specs.Store.{ArePlaced, IsAt, IsStore, members_in}
 use Rattle.given_work.specs.Telling.{AreToldSets, Tells, told_of}

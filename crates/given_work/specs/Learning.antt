@@ -1,5 +1,5 @@
 -- What changes do to the list of told clauses.
-use Rattle.std.specs.Prelude.{ℕ, not, ◌==◌, List, [], ◌∷◌, ◌++◌, filter, fold}
+use Rattle.std.specs.Prelude.{not, ◌==◌, List, [], ◌∷◌, ◌++◌, filter, fold}
 use Rattle.bank_clause.specs.declared.member.Member.{Member}
 use Rattle.subsume.specs.Editing.{HasNoNumber}
 use Rattle.pool_core.specs.declared.ticket.Change.{Change}

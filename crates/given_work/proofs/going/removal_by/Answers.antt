@@ -1,4 +1,4 @@
-use Rattle.std.proofs.Common.{◌≡◌, ℕ, Option, Some, None, sym, ◌∙◌, subst}
+use Rattle.std.proofs.Common.{ℕ, Option, Some, sym, ◌∙◌, subst}
 use Rattle.pool_core.specs.declared.batch.Removal.{Removal}
 use Rattle.given_work.specs.Going.{IsRemovalOf}
 use Rattle.given_work.proofs.GoingLemmas.{IsFound, goes-dropped, goes-or-stays, goes-redundant}
@@ -17,6 +17,7 @@ returns-in_ok-put_used-in-Some c = λ d reduced.
     (goes-redundant by.equations.now by.units.now by.members.now c.args.number d c.args.reduced c.in-Some.subsumer c.put_used.new.used reduced
     (subst (λ (o : Option ℕ). IsFound by.members.now c.args.number c.args.reduced o) c.in-Some.is c.in_ok-subsumer.ensures)
     c.in_ok-put_used-in-Some.ensures.ok)
+
 pub returns-in_ok-gone-in-None : goal.returns-in_ok-gone-in-None
 returns-in_ok-gone-in-None c = λ d reduced.
     let by = c.args.by.now in

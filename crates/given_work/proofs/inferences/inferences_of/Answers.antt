@@ -1,9 +1,8 @@
-use Rattle.std.proofs.Common.{◌≡◌, ◌+◌, ◌<◌, List, length, Option, Some, None, refl, sym, ◌∙◌, ap, subst, arith}
+use Rattle.std.proofs.Common.{◌≡◌, ◌+◌, ◌<◌, length, Option, Some, refl, sym, ◌∙◌, ap, subst, arith}
 use Rattle.std.specs.Prelude.{slice_get}
 use Rattle.std.proofs.lemmas.Option.{slice_get_read, slice_get_within}
 use Rattle.std.proofs.lemmas.List.Elements.{All-contains}
 use Rattle.bank_clause.specs.Clause.{IsMemberOf}
-use Rattle.eq_rules.specs.declared.inference.Inference.{Inference}
 use Rattle.given_work.specs.Meeting.{AreMetWith, before_place}
 use Rattle.given_work.specs.Store.{members_in}
 use Rattle.given_work.specs.declared.store.Told.{Told}

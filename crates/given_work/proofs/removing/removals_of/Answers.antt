@@ -2,7 +2,7 @@ use Rattle.std.proofs.Common.{◌≡◌, ◌+◌, ◌<◌, List, length, take, O
 use Rattle.std.specs.Prelude.{slice_get}
 use Rattle.std.proofs.lemmas.Option.{slice_get_read}
 use Rattle.std.proofs.lemmas.List.Elements.{All-contains}
-use Rattle.bank_clause.specs.Clause.{IsMemberOf, clause_at}
+use Rattle.bank_clause.specs.Clause.{IsMemberOf}
 use Rattle.bank_clause.specs.declared.member.Member.{Member}
 use Rattle.pool_core.specs.declared.batch.Removal.{Removal}
 use Rattle.given_work.specs.Removing.{AreRemovalsAmong, IsConsidered, may_go}

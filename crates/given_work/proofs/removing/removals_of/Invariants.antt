@@ -1,7 +1,6 @@
 use Rattle.std.proofs.Common.{take}
 use Rattle.given_work.specs.Removing.{AreRemovalsAmong}
 use Rattle.given_work.specs.Store.{members_in}
-use Rattle.given_work.proofs.RemovalLemmas.{none-removed}
 use Rattle.given_work.proofs.removing.removals_of.Given as goal
 
 abbrev pub invariant-loop-at : goal.invariant-loop-at

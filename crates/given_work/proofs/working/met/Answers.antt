@@ -1,4 +1,4 @@
-use Rattle.std.proofs.Common.{◌≡◌, List, sym, subst}
+use Rattle.std.proofs.Common.{List, sym, subst}
 use Rattle.std.specs.Prelude.{All}
 use Rattle.bank_clause.specs.declared.member.Member.{Member}
 use Rattle.given_work.specs.Meeting.{IsMadeWith, before_place}

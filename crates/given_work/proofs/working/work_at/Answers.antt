@@ -1,4 +1,4 @@
-use Rattle.std.proofs.Common.{◌≡◌, List, Option, Some, None, sym, subst}
+use Rattle.std.proofs.Common.{List, Option, sym, subst}
 use Rattle.std.proofs.lemmas.List.Elements.{All-contains}
 use Rattle.bank_clause.specs.Clause.{IsMemberOf, clause_at}
 use Rattle.bank_clause.specs.declared.member.Member.{Member}

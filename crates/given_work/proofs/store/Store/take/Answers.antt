@@ -1,4 +1,4 @@
-use Rattle.std.proofs.Common.{◌≡◌, nat_eq, Some, None, refl, sym, ◌∙◌, arith}
+use Rattle.std.proofs.Common.{◌≡◌, nat_eq, Some, refl, sym, ◌∙◌, arith}
 use Rattle.indexmap.specs.IndexMap.{get}
 use Rattle.given_work.specs.declared.store.Store.{Store}
 use Rattle.given_work.proofs.StoreLemmas.{finds-same, members-same, members-taken, place-inside, store-same, store-taken}
