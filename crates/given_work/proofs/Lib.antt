@@ -19,3 +19,4 @@ mod KeyLemmas
 mod WorkLemmas
 -- Laws of indexes that were told the clauses of a job.
 pub mod LawProofs
+mod Examples
