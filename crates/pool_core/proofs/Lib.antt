@@ -31,8 +31,14 @@ mod PickLemmas
 mod ClaimLemmas
 mod HandLemmas
 mod GiveUpLemmas
--- The work of a batch: ProofStateLemmas (clauses die, are done and come).
+-- The work of a batch: ProofStateLemmas (clauses die, are done and come), CountedLemmas (what was counted comes),
+-- ProposedLemmas (removals), InternedLemmas (results in the bank), FitLemmas (what is right of
+-- a batch serves its return).
 mod ProofStateLemmas
+mod CountedLemmas
+mod ProposedLemmas
+mod InternedLemmas
+mod FitLemmas
 -- MemberLemmas (what a pool hands out).
 mod MemberLemmas
 -- Worked examples.

@@ -3,10 +3,12 @@
 
 mod batch;
 mod claiming;
+mod counting;
 mod event;
 mod giving_up;
 mod history;
 mod interning;
+mod keys;
 mod members;
 mod options;
 mod outcome;
