@@ -58,7 +58,7 @@ all-both p q (x ∷ xs) one other =
     and_from (p x && q x) (list_all (λ y. p y && q y) xs) (and_from (p x) (q x) first.0 second.0) (all-both p q xs first.1 second.1)
 
 -- what all numbers of a list pass, those among them pass
-among-pass : (p : ℕ → Bool) (ns ms : List ℕ) → is_among ns ms ≡ true → list_all p ms ≡ true → list_all p ns ≡ true
+pub among-pass : (p : ℕ → Bool) (ns ms : List ℕ) → is_among ns ms ≡ true → list_all p ms ≡ true → list_all p ns ≡ true
 among-pass p [] ms are all = refl
 among-pass p (n ∷ ns) ms are all =
     let parts = and_parts (list_any (λ m. n == m) ms) (is_among ns ms) are in

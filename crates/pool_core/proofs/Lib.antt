@@ -31,8 +31,14 @@ pub mod PickLemmas
 pub mod ClaimLemmas
 pub mod HandLemmas
 pub mod GiveUpLemmas
--- The work of a batch: ProofStateLemmas (clauses die, are done and come).
+-- The work of a batch: ProofStateLemmas (clauses die, are done and come), ArrivalLemmas (what was counted comes),
+-- ProposedLemmas (removals), InternedLemmas (results in the bank), RightBatchLemmas (what is right of
+-- a batch serves its return).
 pub mod ProofStateLemmas
+pub mod ArrivalLemmas
+pub mod ProposedLemmas
+pub mod InternedLemmas
+pub mod RightBatchLemmas
 -- MemberLemmas (what a pool hands out).
 pub mod MemberLemmas
 -- Whole clauses and lines: JoinedLemmas (lists put together), FormedLemmas (what steps conclude), SizeLemmas (reducing steps), PoolLineLemmas

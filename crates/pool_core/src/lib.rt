@@ -3,11 +3,13 @@
 
 mod batch;
 mod claiming;
+mod counting;
 mod event;
 mod giving_up;
 mod historied;
 mod history;
 mod interning;
+mod keys;
 mod members;
 mod options;
 mod outcome;

@@ -1,6 +1,7 @@
 // The registered clauses of a pool: by number, and the living ones by what they say.
 
 ghost use Rattle.std.specs.Prelude.{◌≡◌, ℕ, ◌+◌, ◌<◌, ◌≤◌, ◌^◌, ◌++◌, [], ◌∷◌, None, Some, false, is_none, true, length, position, slice_get, slice_set, IfSome, OnOk};
+ghost use Rattle.std.specs.List.{list_all};
 ghost use Rattle.pool_core.specs.Register.{is_living_copy, death_at, is_living_at, at_position, dead_in, made_active};
 ghost use Rattle.pool_core.specs.declared.register.Registration.{Registration};
 
@@ -98,6 +99,13 @@ impl Register {
         ensures { result ≡ is_living_at self.now.clauses number }
     {
         number < self.len() as u64 && self.death(number).is_none()
+    }
+
+    /// Whether there are clauses of all these numbers, and they live.
+    pub(crate) fn are_living(&self, numbers: &[u64]) -> bool
+        ensures { result ≡ list_all (is_living_at self.now.clauses) numbers.now }
+    {
+        numbers.iter().all(|number| self.is_living(*number))
     }
 
     /// Makes room for so many more clauses, and leaves the clauses as they are. Past 2^32 clauses there are no numbers for more.

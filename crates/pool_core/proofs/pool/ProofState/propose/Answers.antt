@@ -1,0 +1,124 @@
+use Rattle.std.proofs.Common.{◌≡◌, ℕ, ◌+◌, ◌≤◌, Bool, true, ◌&&◌, List, [], ◌∷◌, ◌++◌, length, append-nil, refl, ap, sym, ◌∙◌, subst, arith}
+use Rattle.std.specs.Prelude.{fold, is_none, option_to_list}
+use Rattle.pool_core.specs.Returning.{proposed}
+use Rattle.std.specs.Vec.Iter.{into_iter_items}
+use Rattle.pool_core.specs.Counting.{lines_of_fate}
+use Rattle.pool_core.specs.Placing.{HasRoom, NotesDeaths, IsCountedStateOf, lines_of_removals}
+use Rattle.pool_core.specs.Record.{PoolRecord}
+use Rattle.pool_core.specs.declared.batch.Removal.{Removal}
+use Rattle.pool_core.specs.declared.pool.ProofState.{ProofState}
+use Rattle.pool_core.proofs.ArrivalLemmas.{nothing-left}
+use Rattle.pool_core.proofs.ProposedLemmas.{AreProposedSoFar, proposals-begin, taken-result, state-died, one-removed, one-left-out, some-proposal, room-less, room-of-one, room-with-more}
+use Rattle.pool_core.proofs.pool.ProofState.propose.Goals as goal
+
+pub loop-removal-init : goal.loop-removal-init
+loop-removal-init c =
+    let same : into_iter_items c.into_iter-removal-iterator.result ≡ c.args.removals = c.into_iter-removal-iterator.ensures.into_iter_gives.0 ∙ c.into_vec-removal-items.ensures in
+    let long = ap length same in
+    record {
+      so_far = proposals-begin c.args.bank.now c.args.options c.args.event c.args.self.now c.args.counted.now.items c.args.removals c.args.results.items (into_iter_items c.into_iter-removal-iterator.result) (into_iter_items c.into_iter-results.result) same c.into_iter-results.ensures.rest;
+      len = omega (arith, long);
+      room = refl;
+    }
+
+pub die-requires-clause-room : goal.die-requires-clause-room
+die-requires-clause-room c =
+    let so_far = (subst (λ (ms : List Removal). AreProposedSoFar c.args.bank.now c.args.options c.args.event c.args.self.now c.args.counted.now.items c.args.removals c.args.results.items
+    c.loop-removal.self c.loop-removal.counted.items ms (into_iter_items c.loop-removal.results)) c.in-Some.ensures.steps.0 c.loop-removal.invariant.so_far) in
+    room-less c.loop-removal.self (length (into_iter_items c.next.new.self)) 0 (lines_of_removals (c.in-Some.removal ∷ into_iter_items c.next.new.self)) (so_far.room 0 c.requires.room)
+
+pub replace-requires-clause-interned : goal.replace-requires-clause-interned
+replace-requires-clause-interned c =
+    let so_far = (subst (λ (ms : List Removal). AreProposedSoFar c.args.bank.now c.args.options c.args.event c.args.self.now c.args.counted.now.items c.args.removals c.args.results.items
+    c.loop-removal.self c.loop-removal.counted.items ms (into_iter_items c.loop-removal.results)) c.in-Some.ensures.steps.0 c.loop-removal.invariant.so_far) in
+    let some = some-proposal c.args.bank.now c.args.options c.args.event c.args.self.now c.args.counted.now.items c.args.removals c.args.results.items c.loop-removal.self c.loop-removal.counted.items (c.in-Some.removal ∷ into_iter_items c.next.new.self) (into_iter_items c.loop-removal.results) c.requires.results so_far in
+    let result = taken-result c.args.bank.now c.args.options c.args.event c.args.self.now c.args.counted.now.items c.args.removals c.args.results.items c.in-Some.removal (into_iter_items c.next.new.self) (into_iter_items c.loop-removal.results)
+    (into_iter_items c.next_result-interned.new.results) c.next_result-interned.result c.next_result-interned.ensures some.0 some.3 in (
+      some.0,
+      _,
+      result.0,
+      c.die.ensures.died c.args.bank.now some.0 some.1 c.in-Some.removal.justifiers c.loop-removal.self.queue.pairs some.4 refl some.2.proof,
+    )
+
+pub replace-requires-clause-room : goal.replace-requires-clause-room
+replace-requires-clause-room c =
+    let so_far = (subst (λ (ms : List Removal). AreProposedSoFar c.args.bank.now c.args.options c.args.event c.args.self.now c.args.counted.now.items c.args.removals c.args.results.items
+    c.loop-removal.self c.loop-removal.counted.items ms (into_iter_items c.loop-removal.results)) c.in-Some.ensures.steps.0 c.loop-removal.invariant.so_far) in
+    room-of-one c.die.new.self (lines_of_fate c.in-Some.removal.fate) (lines_of_removals (into_iter_items c.next.new.self)) (length (into_iter_items c.next.new.self)) 0
+    (room-with-more c.die.new.self (lines_of_fate c.in-Some.removal.fate) (lines_of_removals (into_iter_items c.next.new.self)) (length (into_iter_items c.next.new.self)) 0
+    (c.die.ensures.room (lines_of_removals (c.in-Some.removal ∷ into_iter_items c.next.new.self)) (length (into_iter_items c.next.new.self)) 0 (so_far.room 0 c.requires.room)))
+
+pub replace-requires-clause-counted_room : goal.replace-requires-clause-counted_room
+replace-requires-clause-counted_room c =
+    let left : length (into_iter_items c.loop-removal.removal-iterator) ≡ length (c.in-Some.removal ∷ into_iter_items c.next.new.self) = ap length c.in-Some.ensures.steps.0 in
+    let few = c.loop-removal.invariant.len in
+    let room = c.requires.counted_room in
+    omega (arith, left, few, room, c.loop-removal.invariant.room)
+
+pub loop-removal-preserved-then-takes_effect : goal.loop-removal-preserved-then-takes_effect
+loop-removal-preserved-then-takes_effect c =
+    let left : length (into_iter_items c.loop-removal.removal-iterator) ≡ length (c.in-Some.removal ∷ into_iter_items c.next.new.self) = ap length c.in-Some.ensures.steps.0 in
+    record {
+      so_far =
+          one-removed c.args.bank.now c.args.options c.args.event c.args.self.now c.args.counted.now.items c.args.removals c.args.results.items
+          c.in-Some.removal (into_iter_items c.next.new.self) (into_iter_items c.loop-removal.results) (into_iter_items c.next_result-interned.new.results) c.next_result-interned.result
+          c.next_result-interned.ensures
+          c.loop-removal.self c.die.new.self c.replace.new.self c.loop-removal.counted.items c.replace.new.counted.items (sym c.takes_effect.ensures ∙ c.if-takes_effect.true)
+          c.die.ensures.died c.replace.ensures.replaced c.die.ensures.notes c.replace.ensures.notes c.die.ensures.room c.replace.ensures.room
+          (subst (λ (ms : List Removal). AreProposedSoFar c.args.bank.now c.args.options c.args.event c.args.self.now c.args.counted.now.items c.args.removals c.args.results.items
+          c.loop-removal.self c.loop-removal.counted.items ms (into_iter_items c.loop-removal.results)) c.in-Some.ensures.steps.0 c.loop-removal.invariant.so_far);
+      len = let few = c.loop-removal.invariant.len in let more = c.replace.ensures.counted_len in omega (arith, left, few, more);
+      room = c.replace.ensures.counted_room ∙ c.loop-removal.invariant.room;
+    }
+
+pub loop-removal-preserved-else-takes_effect : goal.loop-removal-preserved-else-takes_effect
+loop-removal-preserved-else-takes_effect c =
+    let left : length (into_iter_items c.loop-removal.removal-iterator) ≡ length (c.in-Some.removal ∷ into_iter_items c.next.new.self) = ap length c.in-Some.ensures.steps.0 in
+    record {
+      so_far =
+          one-left-out c.args.bank.now c.args.options c.args.event c.args.self.now c.args.counted.now.items c.args.removals c.args.results.items
+          c.in-Some.removal (into_iter_items c.next.new.self) (into_iter_items c.loop-removal.results) (into_iter_items c.next_result-interned.new.results) c.next_result-interned.result
+          c.next_result-interned.ensures
+          c.loop-removal.self c.loop-removal.counted.items (sym c.takes_effect.ensures ∙ c.if-takes_effect.false)
+          (subst (λ (ms : List Removal). AreProposedSoFar c.args.bank.now c.args.options c.args.event c.args.self.now c.args.counted.now.items c.args.removals c.args.results.items
+          c.loop-removal.self c.loop-removal.counted.items ms (into_iter_items c.loop-removal.results)) c.in-Some.ensures.steps.0 c.loop-removal.invariant.so_far);
+      len = let few = c.loop-removal.invariant.len in omega (arith, left, few);
+      room = c.loop-removal.invariant.room;
+    }
+
+pub loop-removal-preserved : goal.loop-removal-preserved
+loop-removal-preserved c =
+    let left : length (into_iter_items c.loop-removal.removal-iterator) ≡ length (c.in-Some.removal ∷ into_iter_items c.next.new.self) = ap length c.in-Some.ensures.steps.0 in
+    record {
+      so_far =
+          one-left-out c.args.bank.now c.args.options c.args.event c.args.self.now c.args.counted.now.items c.args.removals c.args.results.items
+          c.in-Some.removal (into_iter_items c.next.new.self) (into_iter_items c.loop-removal.results) (into_iter_items c.next_result-interned.new.results) c.next_result-interned.result
+          c.next_result-interned.ensures
+          c.loop-removal.self c.loop-removal.counted.items (sym c.takes_effect.ensures ∙ c.if-takes_effect.false)
+          (subst (λ (ms : List Removal). AreProposedSoFar c.args.bank.now c.args.options c.args.event c.args.self.now c.args.counted.now.items c.args.removals c.args.results.items
+          c.loop-removal.self c.loop-removal.counted.items ms (into_iter_items c.loop-removal.results)) c.in-Some.ensures.steps.0 c.loop-removal.invariant.so_far);
+      len = let few = c.loop-removal.invariant.len in omega (arith, left, few);
+      room = c.loop-removal.invariant.room;
+    }
+
+pub returns-clause-proposed : goal.returns-clause-proposed
+returns-clause-proposed c = λ table r moment interned is.
+    let none : into_iter_items c.loop-removal.removal-iterator ≡ [] =
+    nothing-left (into_iter_items c.loop-removal.removal-iterator) (omega (arith, c.in-None.ensures.steps.0, c.loop-removal.removal-iterator.rest.ok.0)) in
+    let was = c.loop-removal.invariant.so_far.came table r moment interned is in
+    subst (IsCountedStateOf c.args.bank.now table c.loop-removal.self c.loop-removal.counted.items)
+    (ap (λ (ms : List Removal). fold (proposed c.args.options) was.0 ms) (sym none) ∙ was.4) was.1
+
+pub returns-clause-noted : goal.returns-clause-noted
+returns-clause-noted c = λ table r moment interned is.
+    let none : into_iter_items c.loop-removal.removal-iterator ≡ [] =
+    nothing-left (into_iter_items c.loop-removal.removal-iterator) (omega (arith, c.in-None.ensures.steps.0, c.loop-removal.removal-iterator.rest.ok.0)) in
+    let was = c.loop-removal.invariant.so_far.came table r moment interned is in
+    subst (λ (s : PoolRecord). NotesDeaths r s c.args.self.now.notes.items c.loop-removal.self.notes.items)
+    (ap (λ (ms : List Removal). fold (proposed c.args.options) was.0 ms) (sym none) ∙ was.4) was.5
+
+pub returns-clause-room : goal.returns-clause-room
+returns-clause-room c = λ out enough.
+    let none : into_iter_items c.loop-removal.removal-iterator ≡ [] =
+    nothing-left (into_iter_items c.loop-removal.removal-iterator) (omega (arith, c.in-None.ensures.steps.0, c.loop-removal.removal-iterator.rest.ok.0)) in
+    subst (λ (ms : List Removal). HasRoom c.loop-removal.self (lines_of_removals ms) (length ms) out) none (c.loop-removal.invariant.so_far.room out enough)

@@ -1,0 +1,44 @@
+use Rattle.std.proofs.Common.{◌≡◌, ℕ, ◌++◌, List, [], ◌∷◌, length, refl, ap, sym, ◌∙◌, subst, arith}
+use Rattle.std.specs.Prelude.{Option, None, Some, nat_le, option_to_list}
+use Rattle.kernel_steps.specs.declared.step.Line.{Line}
+use Rattle.pool_core.specs.Counting.{lines_of_fate}
+use Rattle.pool_core.specs.Placing.{IsInterned, IsResultOf, IsCountedStateOf, HasRoom}
+use Rattle.pool_core.specs.Returning.{replaced}
+use Rattle.pool_core.specs.declared.batch.Fate.{Fate}
+use Rattle.pool_core.specs.declared.batch.Fate.TheVariants.{Kept}
+use Rattle.pool_core.specs.declared.interning.Interned.{Interned}
+use Rattle.pool_core.proofs.ArrivalLemmas.{not-kept, replaced-other, one-replaced}
+use Rattle.pool_core.proofs.pool.ProofState.replace.Goals as goal
+
+pub returns-in_default : goal.returns-in_default
+returns-in_default c =
+    let none : lines_of_fate c.args.fate ≡ None = not-kept c.args.fate c.in_default.not-Kept in
+    record {
+      replaced = λ table r interned is.
+          subst (IsCountedStateOf c.args.bank.now table c.args.self.now c.args.counted.now.items)
+          (sym (replaced-other c.args.options c.args.victim c.args.fate r none)) is;
+      room = λ lss deaths out enough. subst (λ (o : Option (List Line)). HasRoom c.args.self.now (option_to_list o ++ lss) deaths out) none enough;
+      counted_len = omega arith;
+      counted_room = refl;
+      notes = refl;
+    }
+
+pub returns-clause-replaced : goal.returns-clause-replaced
+returns-clause-replaced c = λ table r interned is.
+    let one : IsInterned c.args.bank.now table c.in-Kept.lines c.in-Some.interned =
+    subst (λ (o : Option Interned). IsResultOf c.args.bank.now table (Kept c.in-Kept.lines c.in-Kept.results) o) c.in-Some.is
+    (subst (λ (f : Fate). IsResultOf c.args.bank.now table f c.args.interned) c.in-Kept.is interned) in
+    let many : c.len.result ≡ length c.push_reserved.new.self.items = omega (arith, c.len.ensures, c.push_reserved.new.self.ok.0) in
+    let again : c.len-2.result ≡ c.len.result = omega (arith, c.len.ensures, c.len-2.ensures) in
+    subst (λ (f : Fate). IsCountedStateOf c.args.bank.now table c.spend.new.self c.push_reserved.new.self.items (replaced c.args.options c.args.victim f r)) (sym c.in-Kept.is)
+    (one-replaced c.args.bank.now table c.args.options c.args.victim c.in-Kept.lines c.in-Kept.results (nat_le c.args.options.inferences c.len.result) c.len.result
+    c.args.self.now c.arrive_counted.new.self c.spend.new.self c.args.counted.now.items c.push_reserved.new.self.items c.in-Some.interned r
+    c.requires.unsplit c.requires.open c.push_reserved.ensures.items many refl one
+    (λ s state. c.arrive_counted.ensures.arrived table s one state)
+    (λ s count state. c.spend.ensures.spent c.args.bank.now table s (again ∙ count) state) is)
+
+pub returns-clause-room : goal.returns-clause-room
+returns-clause-room c = λ lss deaths out enough.
+    c.spend.ensures.room lss deaths out
+    (c.arrive_counted.ensures.room lss deaths out
+    (subst (λ (f : Fate). HasRoom c.args.self.now (option_to_list (lines_of_fate f) ++ lss) deaths out) c.in-Kept.is enough))
