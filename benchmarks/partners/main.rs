@@ -20,7 +20,7 @@ use term_bank::{Bank, Table};
 
 const MEMBERS: u32 = 1_000;
 
-const QUERIES: usize = 10;
+const QUERIES: usize = 3;
 
 #[derive(Drop)]
 pub struct Sample {
