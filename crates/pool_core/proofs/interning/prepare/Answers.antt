@@ -1,4 +1,4 @@
-use Rattle.std.proofs.Common.{◌≡◌, List, [], ◌∷◌, ap, sym, ◌∙◌, subst}
+use Rattle.std.proofs.Common.{List, [], ap, sym, ◌∙◌, subst}
 use Rattle.kernel_steps.specs.declared.step.Line.{Line}
 use Rattle.pool_core.specs.Counting.{lines_of_fate, lines_of_entries, keys_of}
 use Rattle.pool_core.specs.Placing.{AreResults, IsPrepared, lines_of_removals}
