@@ -24,7 +24,9 @@ use Rattle.calculus.specs.Lifting.{among, IsMember}
 use Rattle.reduction.specs.Reduced.{IsReduced, last_clause, with_number}
 use Rattle.reduction.proofs.ExtendingLemmas.{noted-all, with_number-has, with_number-keeps}
 use Rattle.subsume.specs.Searching.{AreMembersOfUse, IsLowest, IsMemberOfUse, IsSubsumer}
-use Rattle.simplification.specs.Reducing.{IsFurther, IsIrreducibleBySteps}
+use Rattle.simplification.specs.Reducing.{IsFurther, IsIrreducibleBySteps, IsReduction}
+use Rattle.simplification.specs.declared.reducing.Reduction.{Reduction}
+use Rattle.simplification.specs.declared.reducing.Reduction.TheVariants as ended
 use Rattle.simplification.specs.Usable.{AreFormed, IsAmong, without}
 use Rattle.pool_core.specs.Record.{GivenJob}
 use Rattle.pool_core.specs.Lines.{result_of}
@@ -101,9 +103,7 @@ module _
   sets-formed c clause = record {
     clause = clause;
     equations = λ k u found. formed-at k (clause_at u) ((sets.of_clauses.equations k (clause_at u)).0 (ap (option_map clause_at) found)).0;
-    units = all-from (IsMemberOfUse usage) us λ m at.
-        formed-at m.number (clause_at m.clause)
-        ((sets.of_clauses.units m.number (clause_at m.clause)).0 (record { member = m; there = at; number = refl; clause = refl })).0;
+    units = λ k u found. formed-at k (clause_at u) ((sets.of_clauses.units k (clause_at u)).0 (ap (option_map clause_at) found)).0;
   }
 
   pub told-formed : (n : ℕ) (c : TreeClause) → told_of clauses j n ≡ Some c → AreFormed usage es us c
@@ -112,7 +112,7 @@ module _
   pub members-formed : AreMembersOfUse usage ms
   members-formed = all-from (IsMemberOfUse usage) ms λ m at.
       formed-at m.number (clause_at m.clause)
-      ((sets.has_all m.number (clause_at m.clause)).0 (record { member = m; there = at; number = refl; clause = refl })).0
+      ((sets.has_all m.number (clause_at m.clause)).0 (record { member = m; there = at; number = refl; clause = refl }))
 
 module _
     (usage : SymbolUse) (options : Options) (clauses : Lookup) (j : GivenJob) (es us ms : List Member)
@@ -160,7 +160,7 @@ module _
   beside-there : (m : Member) → Contains ms m → (Some n ≡ Some m.number → ⊥) → beside m.number ≡ Some (clause_at m.clause)
   beside-there m contains other =
       let told : told_of clauses j m.number ≡ Some (clause_at m.clause) =
-      ((sets.has_all m.number (clause_at m.clause)).0 (record { member = m; there = contains; number = refl; clause = refl })).0 in
+      (sets.has_all m.number (clause_at m.clause)).0 (record { member = m; there = contains; number = refl; clause = refl }) in
       ap (λ (f : Lookup). f m.number) (beside-is clauses j n)
       ∙ cond-true (is_kept (Some n) m.number) (told_of clauses j m.number) None
       (ap not (false_from_ne_true (m.number == n) (λ e. other (ap Some (sym (eqb-true m.number n e))))))
@@ -202,10 +202,10 @@ module _
       → IsReducedBeside p options clauses j n (clause_of r.clause)
   irreducible-result no_tautology none =
       irreducible-among p (without (Some n) (told_of clauses j)) (is_told_beside j n) clauses (clause_of r.clause) (beside-is clauses j n)
-      (by.irreducible usage (told_of clauses j) formed sets.of_clauses) no_tautology
+      (by.irreducible no_tautology usage (told_of clauses j) formed sets.of_clauses) no_tautology
       λ k d at subsumes.
       let parts = if_some (is_kept (Some n) k) (told_of clauses j k) d at in
-      let member = (sets.has_all k d).1 (parts.1, tt) in
+      let member = (sets.has_all k d).1 parts.1 in
       none member.member member.there (record {
         other = λ e. true≢false (sym parts.0 ∙ ap not (eq-eqb k n (sym member.number ∙ sym (same_Some n (member.member).number e))));
         subsumes = subst (λ (e : TreeClause). Subsumes p e (clause_of r.clause)) (sym member.clause) subsumes;
@@ -297,15 +297,20 @@ module _
 -- ---- what the calls give
 
 pub reduced-by :
-    (es us : List Member) (out : Option ℕ) (c : TreeClause) (old new : Reduced)
+    (es us : List Member) (out : Option ℕ) (c : TreeClause) (old new : Reduced) (reduction : Reduction)
     → clause_of old.clause ≡ c → ((q : ℕ → Bool) (looked : Lookup) → IsReduced q looked c old)
-    → IsFurther es us out old new → IsIrreducibleBySteps es us out old new → IsReducedBy es us out c new
-reduced-by es us out c old new same first further steps = record {
+    → IsFurther es us out old new → IsReduction es us out old new reduction → IsReducedBy es us out c new
+reduced-by es us out c old new reduction same first further ends = record {
   formed = λ usage formed. further.formed usage (at usage formed);
   reduced = λ usage looked formed of. further.reduced usage looked (at usage formed) of c (first usage.is_predicate (without out looked));
-  irreducible = λ usage looked formed of. steps usage looked (at usage formed) of;
+  irreducible = λ no_tautology usage looked formed of. steps reduction ends no_tautology usage looked (at usage formed) of;
 }
   where
+    steps :
+        (reduction : Reduction) → IsReduction es us out old new reduction → is_tautology (clause_of new.clause) ≡ false → IsIrreducibleBySteps es us out old new
+    steps ended.Tautology tautology no_tautology = absurd (true≢false (sym tautology ∙ no_tautology))
+    steps ended.Irreducible irreducible no_tautology = irreducible.0
+
     at : (usage : SymbolUse) → AreFormed usage es us c → AreFormed usage es us (clause_of old.clause)
     at usage formed = subst (AreFormed usage es us) (sym same) formed
 

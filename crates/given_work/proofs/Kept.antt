@@ -98,49 +98,6 @@ module _ {M C : Type 0} (number : M → ℕ) (clause : M → C) (same : (a b : M
           let m = made c in
           absurd (new m.0 ((finds m.0).0 (ap find m.1 ∙ e ∙ ap Some (sym m.2))).0 m.1)
 
-  -- ---- a list
-
-  abbrev pub HasThose : List M → List M → Type 0
-  HasThose ms us = (m : M) → Contains us m ↔ (Contains ms m × U m)
-
-  pub has-none : HasThose [] []
-  has-none m = ((λ h. absurd (Contains-none m h)), (λ h. absurd (Contains-none m h.0)))
-
-  pub has-put : (ms us : List M) (x : M) → HasThose ms us → U x → HasThose (ms ++ x ∷ []) (us ++ x ∷ [])
-  has-put ms us x has unit m = (
-    (λ h.
-        ⊎_elim
-        (λ before. let k = (has m).0 before in (Contains-append_left ms (x ∷ []) m k.0, k.1))
-        (λ last. (subst (λ y. Contains (ms ++ x ∷ []) y) last (Contains-push ms x), subst U last unit))
-        (Contains-push_cases us x m h)),
-    (λ h.
-        ⊎_elim
-        (λ before. Contains-append_left us (x ∷ []) m ((has m).1 (before, h.1)))
-        (λ last. subst (λ y. Contains (us ++ x ∷ []) y) last (Contains-push us x))
-        (Contains-push_cases ms x m h.0)),
-  )
-
-  pub has-skip : (ms us : List M) (x : M) → HasThose ms us → (U x → ⊥) → HasThose (ms ++ x ∷ []) us
-  has-skip ms us x has none m = (
-    (λ h. let k = (has m).0 h in (Contains-append_left ms (x ∷ []) m k.0, k.1)),
-    (λ h.
-        ⊎_elim
-        (λ before. (has m).1 (before, h.1))
-        (λ last. absurd (none (subst U (sym last) h.1)))
-        (Contains-push_cases ms x m h.0)),
-  )
-
-  pub has-take : (ms us : List M) (k : ℕ) → HasThose ms us → HasThose (filter (others k) ms) (filter (others k) us)
-  has-take ms us k has m = (
-    (λ h.
-        let there = Contains-filtered (others k) us m h in
-        let both = (has m).0 there.0 in
-        (Contains-filter (others k) ms m both.0 there.1, both.1)),
-    (λ h.
-        let there = Contains-filtered (others k) ms m h.0 in
-        Contains-filter (others k) us m ((has m).1 (there.0, h.1)) there.1),
-  )
-
   -- ---- all, in any order
 
   abbrev pub HasSame : List M → List M → Type 0

@@ -12,7 +12,7 @@ use Rattle.bank_clause.specs.Clause.{clause_at}
 use Rattle.bank_clause.specs.declared.member.Member.{Member}
 use Rattle.calculus.specs.Lifting.{IsMember}
 use Rattle.subsume.specs.Searching.{AreMembersOfUse, AreNumbersOf, IsMemberOfUse, IsSubsumedBy}
-use Rattle.simplification.specs.Usable.{HasOneLiteral}
+use Rattle.unit_index.specs.Indexed.{HasOneLiteral}
 use Rattle.pool_core.specs.Record.{GivenJob}
 use Rattle.pool_core.specs.Reduction.{Lookup}
 use Rattle.pool_core.specs.Batches.{IsReducedBeside, Simplifies, is_told, is_told_beside}
@@ -113,24 +113,24 @@ pub removal-more :
     → AreSetsOf ms sets → All (λ (k : Member). k.number < CLAUSE_NUMBERS) ms → Contains ms given → Contains ms m
     → (is_unit ≡ true) ↔ HasOneLiteral (clause_at given.clause)
     → ((usage : SymbolUse) → IsMemberOfUse usage given → AreMembersOfUse usage sets.subsumers → AreNumbersOf (IsSubsumedBy usage given) sets.subsumers subsumed)
-    → IsConsidered sets.equations sets.units.items sets.subsumers (may_go given.number is_unit subsumed m.number) m before now
+    → IsConsidered sets.equations sets.units sets.subsumers (may_go given.number is_unit subsumed m.number) m before now
     → AreRemovalsAmong ms given seen before → AreRemovalsAmong ms given (seen ++ m ∷ []) now
 removal-more ms sets given m is_unit subsumed seen before now are numbered given_there m_there unit exact considered was usage options clauses j tells unsplit same =
     by (may_go given.number is_unit subsumed m.number) refl considered
   where
-    told : (usage : SymbolUse) (clauses : Lookup) (j : GivenJob) → Tells usage clauses j ms → AreToldSets usage clauses j sets.equations sets.units.items sets.subsumers
+    told : (usage : SymbolUse) (clauses : Lookup) (j : GivenJob) → Tells usage clauses j ms → AreToldSets usage clauses j sets.equations sets.units sets.subsumers
     told usage clauses j tells = sets-told usage clauses j ms tells sets are numbered
 
     found : Subsumes usage.is_predicate (clause_at given.clause) (clause_at m.clause) → (given.number ≡ m.number → ⊥) → Contains subsumed m.number
     found subsumes other =
         ((exact usage
         (All-contains (λ (k : Member). IsWhole usage (clause_at k.clause)) ms given tells.whole given_there).formed
-        (members-formed usage clauses j sets.equations sets.units.items sets.subsumers (told usage clauses j tells))).exact m.number).1
+        (members-formed usage clauses j sets.equations sets.units sets.subsumers (told usage clauses j tells))).exact m.number).1
         (record { member = m; there = (are.subsumers m).1 m_there; does = record { other = other; subsumed = subsumes }; number = refl })
 
     by :
         (b : Bool) → may_go given.number is_unit subsumed m.number ≡ b
-        → IsConsidered sets.equations sets.units.items sets.subsumers b m before now
+        → IsConsidered sets.equations sets.units sets.subsumers b m before now
         → All (Removes usage.is_predicate options clauses j) now
         × ((k : Member)
         → Contains (seen ++ m ∷ []) k → (k.number ≡ given.number → ⊥)

@@ -14,12 +14,13 @@ use Rattle.bank_clause.specs.declared.member.Member.{Member}
 use Rattle.term_bank.specs.declared.bank.Bank.{Bank}
 use Rattle.rewriting.specs.Units.{IsUnit, clause_numbered}
 use Rattle.subsume.specs.Members.{numbers_of}
-use Rattle.simplification.specs.Usable.{HasAll, HasEquations, HasOneLiteral, HasThose, IsMemberWith}
+use Rattle.unit_index.specs.Indexed.{HasOneLiteral}
+use Rattle.simplification.specs.Usable.{HasAll, HasNumbered, IsMemberWith}
 use Rattle.pool_core.specs.Record.{GivenJob}
 use Rattle.pool_core.specs.Reduction.{Lookup}
 use Rattle.pool_core.specs.Wholeness.{IsWhole}
 use Rattle.pool_core.specs.Batches.{is_told}
-use Rattle.given_work.specs.Sets.{AreSetsOf, FindsEquations, HasMembers, HasUnits}
+use Rattle.given_work.specs.Sets.{AreSetsOf, FindsThose, HasMembers}
 use Rattle.given_work.specs.Telling.{AreSetsOfBank, AreToldSets, Tells, told_of}
 use Rattle.given_work.specs.declared.sets.Sets.{Sets}
 use Rattle.given_work.proofs.Justifiers.{all-from}
@@ -73,51 +74,37 @@ module _ (usage : SymbolUse) (clauses : Lookup) (j : GivenJob) (ms : List Member
   with-told : (m : Member) (n : ℕ) (c : TreeClause) → Contains ms m → m.number ≡ n → clause_at m.clause ≡ c → told_of clauses j n ≡ Some c
   with-told m n c there number clause = ap (told_of clauses j) (sym number) ∙ member-told m there ∙ ap Some clause
 
-  equations-told : (es : List Member) → FindsEquations ms es → HasEquations (told_of clauses j) es
-  equations-told es finds n c = (
+  those-told :
+      (Fits : TreeClause → Type 0) (found : List Member) → FindsThose Fits ms found → HasNumbered Fits (told_of clauses j) found
+  those-told Fits found finds n c = (
     (λ h.
-        option_map-some clause_at (clause_numbered n es) c h λ u found is.
+        option_map-some clause_at (clause_numbered n found) c h λ u at is.
         let m : Member = record { number = n; clause = u } in
-        let there = (finds m).0 found in
-        (with-told m n c there.0 refl is, subst IsUnit is there.1)),
+        let there = (finds m).0 at in
+        (with-told m n c there.0 refl is, subst Fits is there.1)),
     (λ h.
         let at = told-member n c h.0 in
-        let found = (finds at.member).1 (at.there, subst IsUnit (sym at.clause) h.1) in
-        ap (λ k. option_map clause_at (clause_numbered k es)) (sym at.number) ∙ ap (option_map clause_at) found ∙ ap Some at.clause),
-  )
-
-  units-told : (us : List Member) → HasUnits ms us → HasThose HasOneLiteral (told_of clauses j) us
-  units-told us has n c = (
-    (λ at.
-        let there = (has at.member).0 at.there in
-        (with-told at.member n c there.0 at.number at.clause, subst HasOneLiteral at.clause there.1)),
-    (λ h.
-        let at = told-member n c h.0 in
-        record {
-          member = at.member;
-          there = (has at.member).1 (at.there, subst HasOneLiteral (sym at.clause) h.1);
-          number = at.number;
-          clause = at.clause;
-        }),
+        let fits = (finds at.member).1 (at.there, subst Fits (sym at.clause) h.1) in
+        ap (λ k. option_map clause_at (clause_numbered k found)) (sym at.number) ∙ ap (option_map clause_at) fits ∙ ap Some at.clause),
   )
 
   members-told : (ss : List Member) → HasMembers ms ss → HasAll (told_of clauses j) ss
   members-told ss has n c = (
-    (λ at. (with-told at.member n c ((has at.member).0 at.there) at.number at.clause, tt)),
+    (λ at. with-told at.member n c ((has at.member).0 at.there) at.number at.clause),
     (λ h.
-        let at = told-member n c h.0 in
+        let at = told-member n c h in
         record { member = at.member; there = (has at.member).1 at.there; number = at.number; clause = at.clause }),
   )
 
   pub sets-told :
       (sets : Sets) → AreSetsOf ms sets → All (λ (m : Member). m.number < CLAUSE_NUMBERS) ms
-      → AreToldSets usage clauses j sets.equations sets.units.items sets.subsumers
+      → AreToldSets usage clauses j sets.equations sets.units sets.subsumers
   sets-told sets are numbered = record {
     whole = whole-told;
     numbered = λ n c h.
         let at = told-member n c h in
         subst (λ k. k < CLAUSE_NUMBERS) at.number (All-contains (λ (m : Member). m.number < CLAUSE_NUMBERS) ms at.member numbered at.there);
-    of_clauses = record { equations = equations-told sets.equations are.equations; units = units-told sets.units.items are.units };
+    of_clauses = record { equations = those-told IsUnit sets.equations are.equations; units = those-told HasOneLiteral sets.units are.units };
     has_all = members-told sets.subsumers are.subsumers;
   }
 
@@ -125,11 +112,13 @@ module _ (usage : SymbolUse) (clauses : Lookup) (j : GivenJob) (ms : List Member
 
 pub sets-of-bank :
     (bank : Bank) (ms : List Member) (sets : Sets) → AreMembersOf bank ms → AreSetsOf ms sets
-    → AreSetsOfBank bank sets.equations sets.units.items sets.subsumers
+    → AreSetsOfBank bank sets.equations sets.units sets.subsumers
 sets-of-bank bank ms sets of_bank are = record {
   equations = λ n u found.
       let m : Member = record { number = n; clause = u } in
       All-contains (IsMemberOf bank) ms m of_bank ((are.equations m).0 found).0;
-  units = all-from (IsMemberOf bank) sets.units.items λ m there. All-contains (IsMemberOf bank) ms m of_bank ((are.units m).0 there).0;
+  units = λ n u found.
+      let m : Member = record { number = n; clause = u } in
+      All-contains (IsMemberOf bank) ms m of_bank ((are.units m).0 found).0;
   members = all-from (IsMemberOf bank) sets.subsumers λ m there. All-contains (IsMemberOf bank) ms m of_bank ((are.subsumers m).0 there);
 }

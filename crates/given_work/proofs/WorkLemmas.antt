@@ -69,9 +69,9 @@ same-clause slots place n t is at =
 pub all-made :
     (mode : Selection) (ms : List Member) (sets : Sets) (g : ℕ) (ns : List ℕ) (found : List Inference)
     → AreTold ms → AreSetsOf ms sets → All (λ (m : Member). m.number < CLAUSE_NUMBERS) ms → AreMetWith mode ms g ns found
-    → All (IsMadeWith sets.equations sets.units.items sets.subsumers) found
+    → All (IsMadeWith sets.equations sets.units sets.subsumers) found
 all-made mode ms sets g ns found told are numbered met =
-    all-from (IsMadeWith sets.equations sets.units.items sets.subsumers) found λ e there. record {
+    all-from (IsMadeWith sets.equations sets.units sets.subsumers) found λ e there. record {
       mode = mode_of mode;
       usage = told.usage;
       clauses = told.clauses;
@@ -153,7 +153,7 @@ module _ (usage : SymbolUse) (options : Options) (clauses : Lookup) (j : GivenJo
     given-there : Contains all_members given.member
     given-there = at-member (λ (t : Told). t.member) store.slots.items place given at
 
-    told-sets : AreToldSets usage clauses j sets.equations sets.units.items sets.subsumers
+    told-sets : AreToldSets usage clauses j sets.equations sets.units sets.subsumers
     told-sets = sets-told usage clauses j all_members tells sets are numbered
 
     given-told : told_of clauses j given.member.number ≡ Some (clause_at given.member.clause)
@@ -181,9 +181,9 @@ module _ (usage : SymbolUse) (options : Options) (clauses : Lookup) (j : GivenJo
     Finds found = AreInferences p (mode_of options.select) (told_of clauses j) (is_met given.member.number lower) found
 
     module _ (found : List Inference) (finds : Finds found) (entries : List Entry)
-        (first : AreFirstEntries sets.equations sets.units.items sets.subsumers found left entries) where
+        (first : AreFirstEntries sets.equations sets.units sets.subsumers found left entries) where
       keys-are : keys_of entries ≡ map (λ (e : Inference). e.key) first.done
-      keys-are = entered-keys sets.equations sets.units.items sets.subsumers first.done entries first.entered
+      keys-are = entered-keys sets.equations sets.units sets.subsumers first.done entries first.entered
 
       each-done : (e : Inference) → Contains first.done e → (is_met given.member.number lower e.key ≡ true) × Makes e
       each-done e there =
@@ -207,7 +207,7 @@ module _ (usage : SymbolUse) (options : Options) (clauses : Lookup) (j : GivenJo
 
       all-right : All Right entries
       all-right =
-          fates-right sets.equations sets.units.items sets.subsumers first.done entries told-sets unsplit first.entered
+          fates-right sets.equations sets.units sets.subsumers first.done entries told-sets unsplit first.entered
           (all-from Makes first.done (λ e there. (each-done e there).1))
 
       meets-all : first.rest ≡ [] → MeetsAll p options clauses j entries
@@ -303,7 +303,7 @@ pub meeting-right :
     (mode : Selection) (store : Store) (sets : Sets) (place : ℕ) (given : Told) (left : ℕ) (work : Work)
     → IsStore mode store → AreSetsOf (members_in store.slots.items) sets → All (λ (m : Member). m.number < CLAUSE_NUMBERS) (members_in store.slots.items)
     → slice_get store.slots.items place ≡ Some (Some given)
-    → IsRemovalOf sets.equations sets.units.items sets.subsumers given.member.number (clause_at given.member.clause) None
+    → IsRemovalOf sets.equations sets.units sets.subsumers given.member.number (clause_at given.member.clause) None
     → IsMetBy mode sets (members_in store.slots.items) (before_place store.slots.items place) given.member left work
     → IsRightWorkOf mode (members_in store.slots.items) given.member.number left work
 meeting-right mode store sets place given left work stored are numbered at stays by usage options clauses j tells same_mode unsplit same same_left =
@@ -317,7 +317,7 @@ pub going-right :
     (mode : Selection) (store : Store) (sets : Sets) (place : ℕ) (given : Told) (left : ℕ) (m : Removal)
     → AreSetsOf (members_in store.slots.items) sets → All (λ (k : Member). k.number < CLAUSE_NUMBERS) (members_in store.slots.items)
     → slice_get store.slots.items place ≡ Some (Some given)
-    → IsRemovalOf sets.equations sets.units.items sets.subsumers given.member.number (clause_at given.member.clause) (Some m)
+    → IsRemovalOf sets.equations sets.units sets.subsumers given.member.number (clause_at given.member.clause) (Some m)
     → IsRightWorkOf mode (members_in store.slots.items) given.member.number left (Gone m)
 going-right mode store sets place given left m are numbered at goes usage options clauses j tells same_mode unsplit same same_left =
     let told = sets-told usage clauses j (members_in store.slots.items) tells sets are numbered in

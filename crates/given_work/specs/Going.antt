@@ -1,9 +1,10 @@
 -- What becomes of a told clause beside the others.
-use Rattle.std.specs.Prelude.{◌≡◌, ℕ, ◌-◌, ◌==◌, nat_lt, Bool, false, List, [], ◌∷◌, map, Option, None, Some, IsTrue, if◌then◌else◌}
+use Rattle.std.specs.Prelude.{◌≡◌, ℕ, ◌-◌, ◌==◌, nat_lt, Bool, false, List, [], ◌∷◌, map, Option, None, Some, IsTrue, IsFalse, if◌then◌else◌}
 use Rattle.fol_base.specs.Clause.{TreeClause}
 use Rattle.fol_base.specs.Literal.{clause_of}
 use Rattle.fol_base.specs.WellFormed.{SymbolUse, are_literals_of}
 use Rattle.fol_base.specs.declared.clause.Clause.{Clause}
+use Rattle.kernel_steps.specs.Inference.{is_tautology}
 use Rattle.kernel_steps.specs.declared.step.TheConstants.{CLAUSE_NUMBERS}
 use Rattle.kernel_steps.specs.declared.step.Line.{Line}
 use Rattle.kernel_steps.specs.declared.step.Reduced.{Reduced}
@@ -36,14 +37,14 @@ batch_lines victim lines = map (batch_line victim) lines
 
 -- ---- reduced clauses
 
--- A clause was reduced by the clauses of two sets but for the one that is left out, until no step applies.
+-- A clause was reduced by the clauses of two sets but for the one that is left out, until no step applies or it is a tautology.
 pub record IsReducedBy (es us : List Member) (out : Option ℕ) (c : TreeClause) (r : Reduced) : Type 0 where
   pub formed : (usage : SymbolUse) → AreFormed usage es us c → IsTrue (are_literals_of usage (clause_of r.clause).literals)
   pub reduced :
       (usage : SymbolUse) (clauses : ℕ → Option TreeClause)
       → AreFormed usage es us c → AreOfClauses clauses es us → IsReduced usage.is_predicate (without out clauses) c r
   pub irreducible :
-      (usage : SymbolUse) (clauses : ℕ → Option TreeClause)
+      IsFalse (is_tautology (clause_of r.clause)) → (usage : SymbolUse) (clauses : ℕ → Option TreeClause)
       → AreFormed usage es us c → AreOfClauses clauses es us → NoStepBy usage.is_predicate (without out clauses) (clause_of r.clause)
 
 -- the reduced clause takes the place of a clause, or nothing was reduced

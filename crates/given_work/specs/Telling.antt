@@ -36,7 +36,7 @@ pub record AreToldSets (usage : SymbolUse) (clauses : Lookup) (j : GivenJob) (es
 -- their clauses are of the bank
 pub record AreSetsOfBank (bank : Bank) (es us ms : List Member) : Type 0 where
   pub equations : AreClausesOf bank es
-  pub units : AreMembersOf bank us
+  pub units : AreClausesOf bank us
   pub members : AreMembersOf bank ms
 
 -- they are told for some job, and so is a clause

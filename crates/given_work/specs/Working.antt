@@ -36,7 +36,7 @@ pub record IsMetBy (mode : Selection) (sets : Sets) (ms : List Member) (numbers 
   pub removals : List Removal
   pub is : work ≡ Met entries removals
   pub met : AreMetWith mode ms given.number numbers found
-  pub entered : AreFirstEntries sets.equations sets.units.items sets.subsumers found left entries
+  pub entered : AreFirstEntries sets.equations sets.units sets.subsumers found left entries
   pub removed : HasRemovals ms given left entries removals
 
 -- right for each job for which the members are told

@@ -1,9 +1,8 @@
 // The told clauses that a given clause removes.
 
-ghost use Rattle.std.specs.Prelude.{◌≡◌, ◌==◌, ◌&&◌, ◌||◌, ◌↔◌, ◌++◌, not, Some, IfOk, IsTrue, option_to_list, slice_get};
+ghost use Rattle.std.specs.Prelude.{◌≡◌, ◌==◌, ◌&&◌, ◌||◌, ◌++◌, not, Some, IfOk, option_to_list, slice_get};
 ghost use Rattle.std.specs.List.{list_any};
 ghost use Rattle.bank_clause.specs.Clause.{IsMemberOf, clause_at};
-ghost use Rattle.simplification.specs.Usable.{HasOneLiteral};
 ghost use Rattle.given_work.specs.Kept.{IsKept};
 ghost use Rattle.given_work.specs.Store.{members_in};
 ghost use Rattle.given_work.specs.Telling.{AreSetsOfBank, AreToldWith};
@@ -12,13 +11,13 @@ ghost use Rattle.given_work.specs.Removing.{AddsRemoval, AreRemovalsAmong, AreTo
 use crate::going::removal_of;
 use crate::sets::Sets;
 use crate::store::{Store, Told};
-use bank_clause::BankClause;
 use plain_types::Mem;
 use pool_core::{Removal, Removals};
 use simplification::Simplifiers;
 use std::alloc::Global;
 use subsume::backward;
 use term_bank::Bank;
+use unit_index::has_one_literal;
 
 /// The removals of the told clauses that a given one simplifies.
 pub(crate) fn removals_of(
@@ -59,13 +58,6 @@ pub(crate) struct Candidates<'a> {
     subsumed: &'a [u64],
 }
 
-/// Whether a clause has one literal.
-fn has_one_literal(clause: &BankClause) -> bool
-    ensures { IsTrue result ↔ HasOneLiteral (clause_at clause.now) }
-{
-    clause.literals().len() == 1
-}
-
 /// Adds the removal of a clause that the given one may simplify, if it goes.
 fn consider(
     alloc: Global,
@@ -75,10 +67,10 @@ fn consider(
     told: &Told,
     removals: &mut Vec<Removal>,
 ) -> Mem<()>
-    requires of_bank { AreSetsOfBank bank.now sets.now.equations sets.now.units.items sets.now.subsumers }
+    requires of_bank { AreSetsOfBank bank.now sets.now.equations sets.now.units sets.now.subsumers }
     requires member { IsMemberOf bank.now told.now.member }
-    requires told { AreToldWith sets.now.equations sets.now.units.items sets.now.subsumers told.now.member.number (clause_at told.now.member.clause) }
-    ensures { IfOk result (λ _. IsConsidered sets.now.equations sets.now.units.items sets.now.subsumers
+    requires told { AreToldWith sets.now.equations sets.now.units sets.now.subsumers told.now.member.number (clause_at told.now.member.clause) }
+    ensures { IfOk result (λ _. IsConsidered sets.now.equations sets.now.units sets.now.subsumers
         (may_go candidates.now.given candidates.now.is_unit candidates.now.subsumed.now told.now.member.number)
         told.now.member removals.old.items removals.new.items) }
 {
@@ -88,7 +80,7 @@ fn consider(
     let by = Simplifiers {
         bank,
         equations: &sets.equations,
-        units: sets.units.as_slice(),
+        units: &sets.units,
         members: &sets.subsumers,
         left_out: Some(told.member.number),
     };

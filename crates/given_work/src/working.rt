@@ -95,7 +95,7 @@ fn work_at(
     let by = Simplifiers {
         bank,
         equations: &sets.equations,
-        units: sets.units.as_slice(),
+        units: &sets.units,
         members: &sets.subsumers,
         left_out: Some(given.member.number),
     };
@@ -129,7 +129,7 @@ fn met(
     let by = Simplifiers {
         bank,
         equations: &sets.equations,
-        units: sets.units.as_slice(),
+        units: &sets.units,
         members: &sets.subsumers,
         left_out: None,
     };

@@ -4,7 +4,6 @@ use Rattle.simplification.specs.Simplified.{IsSimplified}
 use Rattle.fol_base.specs.Literal.{clause_of}
 use Rattle.kernel_steps.specs.Names.{are_sorted}
 use Rattle.given_work.proofs.EntryLemmas.{conclusion-formed, conclusion-small, outcome-right}
-use Rattle.given_work.proofs.GoingLemmas.{sets-formed}
 use Rattle.given_work.proofs.entries.fate_of.Goals as goal
 
 pub simplify-requires-clause-canonical : goal.simplify-requires-clause-canonical
@@ -22,17 +21,6 @@ simplify-requires-clause-size c =
     let t = c.requires.concluded in
     let by = c.args.by.now in
     conclusion-small t.usage t.mode t.clauses t.job by.equations.now by.units.now by.members.now t.sets t.key c.args.step c.args.clause t.concluded
-
-pub simplify-requires-clause-formed : goal.simplify-requires-clause-formed
-simplify-requires-clause-formed c =
-    let t = c.requires.concluded in
-    let by = c.args.by.now in
-    record {
-      usage = t.usage;
-      formed =
-          sets-formed t.usage t.clauses t.job by.equations.now by.units.now by.members.now t.sets (clause_of c.args.clause)
-          (conclusion-formed t.usage t.mode t.clauses t.job by.equations.now by.units.now by.members.now t.sets t.key c.args.step c.args.clause t.concluded).literals;
-    }
 
 pub returns : goal.returns
 returns c = λ usage options clauses j key sets unsplit it.

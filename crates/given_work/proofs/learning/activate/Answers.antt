@@ -6,14 +6,20 @@ use Rattle.bank_clause.specs.Clause.{IsMemberOf, clause_at}
 use Rattle.bank_clause.specs.declared.clause.BankClause.{BankClause}
 use Rattle.bank_clause.specs.declared.member.Member.{Member}
 use Rattle.superpose.specs.Sites.{AreSitesOf}
+use Rattle.rewriting.specs.Units.{IsUnit}
+use Rattle.unit_index.specs.Indexed.{HasOneLiteral}
 use Rattle.given_work.specs.Sets.{AreSetsOf}
 use Rattle.given_work.specs.Store.{members_in}
-use Rattle.given_work.proofs.SetLemmas.{equations-new, members-new}
+use Rattle.given_work.proofs.SetLemmas.{members-new, those-new}
 use Rattle.given_work.proofs.learning.activate.Goals as goal
 
 pub insert-requires-clause-new_equation : goal.insert-requires-clause-new_equation
 insert-requires-clause-new_equation c =
-    equations-new (members_in c.args.store.now.slots.items) c.args.sets.now.equations c.args.member.now.number c.requires.kept.kept.equations c.requires.new
+    those-new IsUnit (members_in c.args.store.now.slots.items) c.args.sets.now.equations c.args.member.now.number c.requires.kept.kept.equations c.requires.new
+
+pub insert-requires-clause-new_unit : goal.insert-requires-clause-new_unit
+insert-requires-clause-new_unit c =
+    those-new HasOneLiteral (members_in c.args.store.now.slots.items) c.args.sets.now.units c.args.member.now.number c.requires.kept.kept.units c.requires.new
 
 pub insert-requires-clause-new_member : goal.insert-requires-clause-new_member
 insert-requires-clause-new_member c =

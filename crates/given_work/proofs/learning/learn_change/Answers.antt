@@ -9,9 +9,13 @@ use Rattle.given_work.specs.Store.{members_in}
 use Rattle.given_work.proofs.TellingLemmas.{sets-of-bank}
 use Rattle.given_work.proofs.learning.learn_change.Goals as goal
 
-pub remove-requires : goal.remove-requires
-remove-requires c =
+pub remove-requires-clause-equations : goal.remove-requires-clause-equations
+remove-requires-clause-equations c =
     (sets-of-bank c.args.bank.now (members_in c.args.store.now.slots.items) c.args.sets.now c.requires.kept.of_bank c.requires.kept.kept).equations
+
+pub remove-requires-clause-units : goal.remove-requires-clause-units
+remove-requires-clause-units c =
+    (sets-of-bank c.args.bank.now (members_in c.args.store.now.slots.items) c.args.sets.now c.requires.kept.of_bank c.requires.kept.kept).units
 
 pub returns-in-Died-clause-kept : goal.returns-in-Died-clause-kept
 returns-in-Died-clause-kept c =

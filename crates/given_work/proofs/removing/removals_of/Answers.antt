@@ -80,7 +80,7 @@ loop-at-preserved c =
           (at-member (λ (t : Told). t.member) slots c.args.place c.args.given.now c.requires.given)
           (at-member (λ (t : Told). t.member) slots place w.in-Some.told here)
           c.has_one_literal-is_unit.ensures c.in_ok-subsumed.ensures
-          (subst (λ ns. IsConsidered sets.equations sets.units.items sets.subsumers (may_go given.number c.has_one_literal-is_unit.result ns m.number) m c.loop-at.removals.items w.consider.new.removals.items)
+          (subst (λ ns. IsConsidered sets.equations sets.units sets.subsumers (may_go given.number c.has_one_literal-is_unit.result ns m.number) m c.loop-at.removals.items w.consider.new.removals.items)
           w.as_slice.ensures w.in_ok-consider.ensures)
           c.loop-at.invariant)))
       | in_default w ↦

@@ -1,27 +1,15 @@
-use Rattle.std.proofs.Common.{◌≡◌, ◌++◌, [], ◌∷◌, List, length, ap, sym, ◌∙◌, subst, arith}
-use Rattle.std.proofs.lemmas.List.{length-map}
-use Rattle.term_bank.specs.Literal.{literal_at}
-use Rattle.bank_clause.specs.Clause.{clause_at}
-use Rattle.bank_clause.specs.declared.clause.BankClause.{BankClause}
-use Rattle.bank_clause.specs.declared.member.Member.{Member}
-use Rattle.given_work.specs.Sets.{HasUnits}
-use Rattle.given_work.proofs.SetLemmas.{units-put, units-skip}
+use Rattle.std.proofs.Common.{sym, ◌∙◌}
+use Rattle.std.proofs.lemmas.Bool.{true≢false}
+use Rattle.unit_index.specs.Indexed.{HasOneLiteral}
+use Rattle.given_work.proofs.SetLemmas.{those-put, those-skip}
 use Rattle.given_work.proofs.sets.put_unit.Goals as goal
 
-pub returns-in_ok-push : goal.returns-in_ok-push
-returns-in_ok-push c = λ ms has.
-    let m : Member = c.args.member.now in
-    let one : length (clause_at m.clause).literals ≡ 1 =
-    length-map m.clause.literals literal_at ∙ ap length (sym c.literals.ensures.literals) ∙ c.if-literals-eq1.true in
-    let items : c.push.new.self.items ≡ c.args.units.now.items ++ m ∷ [] =
-    c.in_ok-push.ensures.items
-    ∙ ap (λ (d : BankClause). let k : Member = record { number = m.number; clause = d } in c.args.units.now.items ++ k ∷ []) c.in_ok-clause.ensures in
-    subst (λ (us : List Member). HasUnits (ms ++ m ∷ []) us) (sym items) (units-put ms c.args.units.now.items m has one)
+pub returns-in_ok-insert : goal.returns-in_ok-insert
+returns-in_ok-insert c = λ ms new finds.
+    those-put HasOneLiteral ms c.args.units.now c.insert.new.self c.args.member.now finds (c.has_one_literal.ensures.0 c.if-has_one_literal.true) new
+    c.in_ok-insert.ensures.ok
 
-pub returns-else-literals-eq1 : goal.returns-else-literals-eq1
-returns-else-literals-eq1 c = λ ms has.
-    let m : Member = c.args.member.now in
-    units-skip ms c.args.units.now.items m has
-    (λ one.
-    let many : length c.literals.result.now ≡ 1 = ap length c.literals.ensures.literals ∙ sym (length-map m.clause.literals literal_at) ∙ one in
-    omega (arith, many))
+pub returns-else-has_one_literal : goal.returns-else-has_one_literal
+returns-else-has_one_literal c = λ ms new finds.
+    those-skip HasOneLiteral ms c.args.units.now c.args.member.now finds
+    (λ one. true≢false (sym (c.has_one_literal.ensures.1 one) ∙ c.if-has_one_literal.false))
