@@ -1,61 +1,61 @@
 -- A map of the proofs.
 -- Records: FrameLemmas (what registering changes), GrowthLemmas (what the work of a batch keeps).
-mod FrameLemmas
-mod GrowthLemmas
+pub mod FrameLemmas
+pub mod GrowthLemmas
 -- The bound on claims: JobLemmas (the numbers of jobs), CountedClaims (how many of the first clauses pass), WaitLemmas (what waits after an
 -- event), TimeLemmas (the bound).
-mod JobLemmas
-mod CountedClaims
-mod WaitLemmas
-mod TimeLemmas
+pub mod JobLemmas
+pub mod CountedClaims
+pub mod WaitLemmas
+pub mod TimeLemmas
 -- The count and the deaths: CountLemmas, SpentLemmas, DeathLemmas, JustifiedLemmas.
-mod CountLemmas
-mod SpentLemmas
-mod DeathLemmas
-mod JustifiedLemmas
+pub mod CountLemmas
+pub mod SpentLemmas
+pub mod DeathLemmas
+pub mod JustifiedLemmas
 -- OutcomeLemmas (outcomes stay), HeavyLemmas (what is set aside).
-mod OutcomeLemmas
-mod HeavyLemmas
+pub mod OutcomeLemmas
+pub mod HeavyLemmas
 -- The pool: EditLemmas (lists after one change), RegisterLemmas (the register), StartLemmas (the inputs), BegunLemmas (the new pool), LivingLemmas (what lives,
 -- and how it ends).
-mod EditLemmas
-mod RegisterLemmas
-mod StartLemmas
-mod BegunLemmas
-mod LivingLemmas
+pub mod EditLemmas
+pub mod RegisterLemmas
+pub mod StartLemmas
+pub mod BegunLemmas
+pub mod LivingLemmas
 -- Claims: HistoryLemmas (one more event), StateLemmas (what an event keeps), PickLemmas (what is given next),
 -- ClaimLemmas (the pool after a claim), HandLemmas (clauses whose jobs are out), GiveUpLemmas (the pool after a job is given up).
-mod HistoryLemmas
-mod StateLemmas
-mod PickLemmas
-mod ClaimLemmas
-mod HandLemmas
-mod GiveUpLemmas
+pub mod HistoryLemmas
+pub mod StateLemmas
+pub mod PickLemmas
+pub mod ClaimLemmas
+pub mod HandLemmas
+pub mod GiveUpLemmas
 -- The work of a batch: ProofStateLemmas (clauses die, are done and come).
-mod ProofStateLemmas
+pub mod ProofStateLemmas
 -- MemberLemmas (what a pool hands out).
-mod MemberLemmas
+pub mod MemberLemmas
 -- Whole clauses and lines: JoinedLemmas (lists put together), FormedLemmas (what steps conclude), SizeLemmas (reducing steps), PoolLineLemmas
 -- (lines put among the pool's), SoundLemmas (events), BeginningLemmas (inputs).
-mod JoinedLemmas
-mod FormedLemmas
-mod SizeLemmas
-mod PoolLineLemmas
-mod SoundLemmas
-mod BeginningLemmas
+pub mod JoinedLemmas
+pub mod FormedLemmas
+pub mod SizeLemmas
+pub mod PoolLineLemmas
+pub mod SoundLemmas
+pub mod BeginningLemmas
 -- PlaceLemmas (positions).
-mod PlaceLemmas
+pub mod PlaceLemmas
 -- CountedLemmas (no key is counted twice).
-mod CountedLemmas
+pub mod CountedLemmas
 -- NumberLemmas (the numbers of clauses, positions and jobs), FitLemmas (which have 32 bits).
-mod NumberLemmas
-mod FitLemmas
+pub mod NumberLemmas
+pub mod FitLemmas
 -- NewsLemmas (what is told).
-mod NewsLemmas
+pub mod NewsLemmas
 -- Worked examples.
-mod GoingExample
-mod MeetingExample
-mod EntryExample
-mod AnswerExamples
-mod LawfulExamples
-mod SaturatedExamples
+pub mod GoingExample
+pub mod MeetingExample
+pub mod EntryExample
+pub mod AnswerExamples
+pub mod LawfulExamples
+pub mod SaturatedExamples

@@ -88,6 +88,9 @@ step_by number l m made side place old unit there kind matches greater none nega
   canonical = canonical;
 }
 
+cons-some : {X : Type 0} (x : X) (xs : List X) → x ∷ xs ≡ [] → ⊥
+cons-some x xs none = cc
+
 symbols_kept : BindsSymbolsOf units given (0 ∷ 1 ∷ []) (rewriting_lines (CLAUSE_NUMBERS + 1))
 symbols_kept test truth pass all = refl
 
@@ -123,6 +126,10 @@ rewritten =
       by_used =
           All-cons (Contains (0 ∷ 1 ∷ [])) 0 (1 ∷ []) (0, omega arith, refl)
           (All-cons (Contains (0 ∷ 1 ∷ [])) 1 [] (1, omega arith, refl) (All-nil (Contains (0 ∷ 1 ∷ []))));
+      all_used =
+          All-cons (Contains (0 ∷ 1 ∷ [])) 0 (1 ∷ []) (0, omega arith, refl)
+          (All-cons (Contains (0 ∷ 1 ∷ [])) 1 [] (1, omega arith, refl) (All-nil (Contains (0 ∷ 1 ∷ []))));
+      some_moved = λ none. absurd (cons-some _ _ none);
     }
 
 -- a line that isn't there yet is no parent

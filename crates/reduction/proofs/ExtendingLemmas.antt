@@ -63,14 +63,14 @@ noted-distinct None ns = ap distinct (sym (append-nil ns))
 noted-distinct (Some n) ns = noted-more n ns
 
 -- what was noted stays, and the unit is there
-with_number-keeps : (n m : ℕ) (ns : List ℕ) → Contains ns m → Contains (with_number n ns) m
+pub with_number-keeps : (n m : ℕ) (ns : List ℕ) → Contains ns m → Contains (with_number n ns) m
 with_number-keeps n m ns there =
     ⊎_elim
     (λ listed. subst (λ ks. Contains ks m) (sym (cond-true (has_number ns n) ns (ns ++ n ∷ []) listed)) there)
     (λ new. subst (λ ks. Contains ks m) (sym (cond-false (has_number ns n) ns (ns ++ n ∷ []) new)) (Contains-append_left ns (n ∷ []) m there))
     (cases_Bool (has_number ns n))
 
-with_number-has : (n : ℕ) (ns : List ℕ) → Contains (with_number n ns) n
+pub with_number-has : (n : ℕ) (ns : List ℕ) → Contains (with_number n ns) n
 with_number-has n ns =
     ⊎_elim
     (λ listed. subst (λ ks. Contains ks n) (sym (cond-true (has_number ns n) ns (ns ++ n ∷ []) listed)) (Contains-has n ns listed))
@@ -85,6 +85,20 @@ noted-has : (by : Option ℕ) (ns : List ℕ) → All (Contains (noted by ns)) (
 noted-has None ns = All-nil (Contains ns)
 noted-has (Some n) ns = All-cons (Contains (with_number n ns)) n [] (with_number-has n ns) (All-nil (Contains (with_number n ns)))
 
+-- each number that is noted is one of those before, or the new one
+pub noted-all : (ms : List ℕ) (by : Option ℕ) (ns : List ℕ) → All (Contains ms) ns → All (Contains (ms ++ unit_numbers by)) (noted by ns)
+noted-all ms None ns all = subst (λ ks. All (Contains ks) ns) (sym (append-nil ms)) all
+noted-all ms (Some n) ns all =
+    let before : All (Contains (ms ++ n ∷ [])) ns =
+    All-weaker (Contains ms) (Contains (ms ++ n ∷ [])) (λ k there. Contains-append_left ms (n ∷ []) k there) ns all in
+    ⊎_elim
+    (λ listed. subst (All (Contains (ms ++ n ∷ []))) (sym (cond-true (has_number ns n) ns (ns ++ n ∷ []) listed)) before)
+    (λ new.
+    subst (All (Contains (ms ++ n ∷ []))) (sym (cond-false (has_number ns n) ns (ns ++ n ∷ []) new))
+    (All-append (Contains (ms ++ n ∷ [])) ns (n ∷ []) before
+    (All-cons (Contains (ms ++ n ∷ [])) n [] (Contains-push ms n) (All-nil (Contains (ms ++ n ∷ []))))))
+    (cases_Bool (has_number ns n))
+
 -- ---- lists that are joined
 
 named-append : (ls ks : List Line) → clauses_named (ls ++ ks) ≡ clauses_named ls ++ clauses_named ks
@@ -95,6 +109,10 @@ named-append ls ks =
 last-append : (c : TreeClause) (ls ks : List Line) → last_clause c (ls ++ ks) ≡ last_clause (last_clause c ls) ks
 last-append c [] ks = refl
 last-append c (l ∷ ls) ks = last-append (clause_of l.clause) ls ks
+
+push-some : (ms : List Move) (m : Move) → ms ++ m ∷ [] ≡ [] → ⊥
+push-some [] m none = cc
+push-some (k ∷ ms) m none = cc
 
 module _ (is_predicate : ℕ → Bool) (clauses : ℕ → Option TreeClause) where
   moves-push :
@@ -181,6 +199,11 @@ module _
         (All-append (Contains (noted m.by old.used)) (units_of it.moves) (unit_numbers m.by)
         (All-weaker (Contains old.used) (Contains (noted m.by old.used)) (λ n there. noted-keeps m.by n old.used there) (units_of it.moves) it.by_used)
         (noted-has m.by old.used)));
+    all_used =
+        subst (λ ns. All (Contains (units_of (it.moves ++ m ∷ []))) ns) (sym is.used)
+        (subst (λ ns. All (Contains ns) (noted m.by old.used)) (sym (units-push it.moves m))
+        (noted-all (units_of it.moves) m.by old.used it.all_used));
+    some_moved = λ none. absurd (push-some it.moves m none);
   }
 
 pub moves_extend : MovesExtend

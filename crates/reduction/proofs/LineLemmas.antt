@@ -55,14 +55,14 @@ slice_get-append_cases (z ∷ xs) ys (suc n) x h =
 
 -- ---- the last line as a parent
 
-is_clause : (step : Step) → is_on_literals step ≡ true → is_clause_step step ≡ true
+pub is_clause : (step : Step) → is_on_literals step ≡ true → is_clause_step step ≡ true
 is_clause (Para first second from from_side into into_side place first_bind second_bind) h = refl
 is_clause (Refl parent literal bind) h = refl
 is_clause (Factor parent becomes becomes_side other other_side bind) h = refl
 is_clause (Merge parent stays goes bind) h = refl
 is_clause _ h = absurd (true≢false (sym h))
 
-no_name : (step : Step) → is_on_literals step ≡ true → introduces_name step ≡ false
+pub no_name : (step : Step) → is_on_literals step ≡ true → introduces_name step ≡ false
 no_name (Para first second from from_side into into_side place first_bind second_bind) h = refl
 no_name (Refl parent literal bind) h = refl
 no_name (Factor parent becomes becomes_side other other_side bind) h = refl
@@ -73,7 +73,7 @@ no_name _ h = absurd (true≢false (sym h))
 abbrev pub plain_parent : TreeClause → Parent
 plain_parent c = record { clause = c; introduces = false }
 
-line_parent-plain : (l : Line) → is_on_literals l.step ≡ true → line_parent l ≡ Some (plain_parent (clause_of l.clause))
+pub line_parent-plain : (l : Line) → is_on_literals l.step ≡ true → line_parent l ≡ Some (plain_parent (clause_of l.clause))
 line_parent-plain l kind =
     cond-true (is_clause_step l.step) (Some (record { clause = clause_of l.clause; introduces = introduces_name l.step })) None (is_clause l.step kind)
     ∙ ap (λ (b : Bool). let p : Parent = record { clause = clause_of l.clause; introduces = b } in Some p) (no_name l.step kind)

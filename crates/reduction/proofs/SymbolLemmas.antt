@@ -150,7 +150,7 @@ module _
       (sym (inner-there i line there n parent)) ∙ at)
       (steps i line there)
 
-  lines-pass : (n : ℕ) (line : Line) → slice_get lines n ≡ Some line → clause_symbols_pass test (clause_of line.clause) ≡ true
+  pub lines-pass : (n : ℕ) (line : Line) → slice_get lines n ≡ Some line → clause_symbols_pass test (clause_of line.clause) ≡ true
   lines-pass = steps_keep_symbols test (CLAUSE_NUMBERS + 1) inner lines inner-passes bound inner-steps
 
   pub last-passes : clause_symbols_pass test (last_clause c lines) ≡ true

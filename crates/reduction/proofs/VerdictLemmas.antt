@@ -22,7 +22,7 @@ has-first n ns = or_left (n == n) (has_number ns n) (eq-eqb n n refl)
 has-second : (n m : ℕ) (ns : List ℕ) → has_number (n ∷ m ∷ ns) m ≡ true
 has-second n m ns = or_right (n == m) (has_number (m ∷ ns) m) (has-first m ns)
 
-by_one-onward :
+pub by_one-onward :
     (before after : Option Parent) (bind : List Tree) (rule : List TreeLiteral → Option (List TreeLiteral)) (c : TreeClause)
     → ((p : Parent) → before ≡ Some p → after ≡ Some p)
     → by_one before bind rule ≡ concludes c → by_one after bind rule ≡ concludes c

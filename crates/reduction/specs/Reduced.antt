@@ -42,8 +42,8 @@ BindsSymbolsOf clauses c used lines =
     → IsTrue (bound_symbols_pass test lines)
 
 -- A clause that was reduced by clauses, which are looked up by their numbers. Each line is what its step gives of these clauses, the
--- clause that was handed in and earlier lines, and the last line is the result. Moves by the clauses that the lines name, and by no
--- others, lead to the result, and `used` has the numbers of these, each once.
+-- clause that was handed in and earlier lines, and the last line is the result. Moves by the clauses that the lines name, each of them
+-- and no others, lead to the result, and `used` has the numbers of these, each once. There are lines only where there are moves.
 pub record IsReduced (is_predicate : ℕ → Bool) (clauses : ℕ → Option TreeClause) (c : TreeClause) (r : Reduced) : Type 0 where
   pub are_lines : AreLines is_predicate (CLAUSE_NUMBERS + 1) (reduced_parents (clause_parents clauses) c) r.lines
   pub ends : clause_of r.clause ≡ last_clause c r.lines
@@ -53,3 +53,5 @@ pub record IsReduced (is_predicate : ℕ → Bool) (clauses : ℕ → Option Tre
   pub moved : AreMoves is_predicate clauses c moves
   pub moved_to : clause_of r.clause ≡ end_of_moves c moves
   pub by_used : All (Contains r.used) (units_of moves)
+  pub all_used : All (Contains (units_of moves)) r.used
+  pub some_moved : moves ≡ [] → r.lines ≡ []

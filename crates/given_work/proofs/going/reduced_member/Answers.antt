@@ -1,0 +1,45 @@
+use Rattle.std.proofs.Common.{◌≡◌, ◌≤◌, ap, sym, ◌∙◌, subst}
+use Rattle.fol_base.specs.Clause.{TreeClause, clause_size}
+use Rattle.fol_base.specs.Literal.{clause_of}
+use Rattle.fol_base.specs.declared.limits.TheConstants.{MOST_SYMBOLS}
+use Rattle.kernel_steps.specs.Names.{are_sorted}
+use Rattle.reduction.specs.Reduced.{IsReduced}
+use Rattle.bank_clause.specs.Clause.{clause_at}
+use Rattle.simplification.specs.Usable.{AreFormed}
+use Rattle.given_work.proofs.GoingLemmas.{reduced-by, told-formed}
+use Rattle.given_work.proofs.going.reduced_member.Goals as goal
+
+pub reduce-requires-clause-names : goal.reduce-requires-clause-names
+reduce-requires-clause-names c =
+    let t = c.requires.told in
+    let whole = t.sets.whole c.args.member.now.number (clause_at c.args.member.now.clause) t.there in
+    let e : clause_of c.in_ok-reduced.reduced.clause ≡ clause_at c.args.member.now.clause = c.in_ok-reduced.ensures.same ∙ c.in_ok-clause.ensures.same in
+    ap (λ (d : TreeClause). are_sorted d.names) e ∙ ap are_sorted whole.no_names
+
+pub reduce-requires-clause-size : goal.reduce-requires-clause-size
+reduce-requires-clause-size c =
+    let t = c.requires.told in
+    let whole = t.sets.whole c.args.member.now.number (clause_at c.args.member.now.clause) t.there in
+    let e : clause_of c.in_ok-reduced.reduced.clause ≡ clause_at c.args.member.now.clause = c.in_ok-reduced.ensures.same ∙ c.in_ok-clause.ensures.same in
+    subst (λ (d : TreeClause). clause_size d ≤ MOST_SYMBOLS) (sym e) whole.small
+
+pub reduce-requires-clause-formed : goal.reduce-requires-clause-formed
+reduce-requires-clause-formed c =
+    let t = c.requires.told in
+    let by = c.args.by.now in
+    let e : clause_of c.in_ok-reduced.reduced.clause ≡ clause_at c.args.member.now.clause = c.in_ok-reduced.ensures.same ∙ c.in_ok-clause.ensures.same in
+    record {
+      usage = t.usage;
+      formed =
+          subst (AreFormed t.usage by.equations.now by.units.now) (sym e)
+          (told-formed t.usage t.clauses t.job by.equations.now by.units.now by.members.now t.sets
+          c.args.member.now.number (clause_at c.args.member.now.clause) t.there);
+    }
+
+pub returns : goal.returns
+returns c =
+    let by = c.args.by.now in
+    let e : clause_of c.in_ok-reduced.reduced.clause ≡ clause_at c.args.member.now.clause = c.in_ok-reduced.ensures.same ∙ c.in_ok-clause.ensures.same in
+    reduced-by by.equations.now by.units.now by.left_out (clause_at c.args.member.now.clause) c.in_ok-reduced.reduced c.reduce.new.reduced e
+    (λ q looked. subst (λ (d : TreeClause). IsReduced q looked d c.in_ok-reduced.reduced) c.in_ok-clause.ensures.same (c.in_ok-reduced.ensures.reduced q looked))
+    c.in_ok-reduce.ensures.further c.in_ok-reduce.ensures.ok

@@ -1,0 +1,62 @@
+use Rattle.std.proofs.Common.{List, Option, sym, subst}
+use Rattle.std.proofs.lemmas.List.Elements.{All-contains}
+use Rattle.bank_clause.specs.Clause.{IsMemberOf, clause_at}
+use Rattle.bank_clause.specs.declared.member.Member.{Member}
+use Rattle.pool_core.specs.declared.batch.Removal.{Removal}
+use Rattle.given_work.specs.Going.{IsRemovalOf}
+use Rattle.given_work.specs.Store.{members_in}
+use Rattle.given_work.specs.Telling.{AreSetsOfBank, AreToldWith}
+use Rattle.given_work.specs.declared.store.Told.{Told}
+use Rattle.given_work.proofs.Slots.{at-member}
+use Rattle.given_work.proofs.TellingLemmas.{member-told, sets-of-bank, sets-told}
+use Rattle.given_work.proofs.WorkLemmas.{going-right, meeting-right}
+use Rattle.given_work.proofs.working.work_at.Goals as goal
+
+pub removal_of-requires-clause-of_bank : goal.removal_of-requires-clause-of_bank
+removal_of-requires-clause-of_bank c =
+    let sets = c.args.sets.now in
+    subst (λ (us : List Member). AreSetsOfBank c.args.bank.now sets.equations us sets.subsumers) (sym c.as_slice.ensures.value)
+    (sets-of-bank c.args.bank.now (members_in c.args.store.now.slots.items) sets c.requires.kept.of_bank c.requires.kept.kept)
+
+pub removal_of-requires-clause-member : goal.removal_of-requires-clause-member
+removal_of-requires-clause-member c =
+    All-contains (IsMemberOf c.args.bank.now) (members_in c.args.store.now.slots.items) c.args.given.now.member c.requires.kept.of_bank
+    (at-member (λ (t : Told). t.member) c.args.store.now.slots.items c.args.place c.args.given.now c.requires.given)
+
+pub removal_of-requires-clause-told : goal.removal_of-requires-clause-told
+removal_of-requires-clause-told c =
+    let sets = c.args.sets.now in
+    let slots = c.args.store.now.slots.items in
+    let m : Member = c.args.given.now.member in
+    let t = c.requires.told in
+    subst (λ (us : List Member). AreToldWith sets.equations us sets.subsumers m.number (clause_at m.clause)) (sym c.as_slice.ensures.value)
+    (record {
+      usage = t.usage;
+      clauses = t.clauses;
+      job = t.job;
+      sets = sets-told t.usage t.clauses t.job (members_in slots) t.tells sets c.requires.kept.kept c.requires.kept.numbered;
+      there =
+          member-told t.usage t.clauses t.job (members_in slots) t.tells m
+          (at-member (λ (s : Told). s.member) slots c.args.place c.args.given.now c.requires.given);
+    })
+
+pub returns-in-Some : goal.returns-in-Some
+returns-in-Some c =
+    let sets = c.args.sets.now in
+    let m : Member = c.args.given.now.member in
+    going-right c.args.given.now.sites.mode c.args.store.now sets c.args.place c.args.given.now c.args.left c.in-Some.removal
+    c.requires.kept.kept c.requires.kept.numbered c.requires.given
+    (subst (λ (gone : Option Removal). IsRemovalOf sets.equations sets.units.items sets.subsumers m.number (clause_at m.clause) gone) c.in-Some.is
+    (subst (λ (us : List Member). IsRemovalOf sets.equations us sets.subsumers m.number (clause_at m.clause) c.in_ok-gone.gone)
+    c.as_slice.ensures.value c.in_ok-gone.ensures))
+
+pub returns-in_ok-work-in-None : goal.returns-in_ok-work-in-None
+returns-in_ok-work-in-None c =
+    let sets = c.args.sets.now in
+    let m : Member = c.args.given.now.member in
+    meeting-right c.args.given.now.sites.mode c.args.store.now sets c.args.place c.args.given.now c.args.left c.in_ok-work-in-None.work
+    c.requires.kept.stored c.requires.kept.kept c.requires.kept.numbered c.requires.given
+    (subst (λ (gone : Option Removal). IsRemovalOf sets.equations sets.units.items sets.subsumers m.number (clause_at m.clause) gone) c.in-None.is
+    (subst (λ (us : List Member). IsRemovalOf sets.equations us sets.subsumers m.number (clause_at m.clause) c.in_ok-gone.gone)
+    c.as_slice.ensures.value c.in_ok-gone.ensures))
+    c.in_ok-work-in-None.ensures

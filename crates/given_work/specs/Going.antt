@@ -1,0 +1,85 @@
+-- What becomes of a told clause beside the others.
+use Rattle.std.specs.Prelude.{◌≡◌, ℕ, ◌-◌, ◌==◌, nat_lt, Bool, false, List, [], ◌∷◌, map, Option, None, Some, IsTrue, if◌then◌else◌}
+use Rattle.fol_base.specs.Clause.{TreeClause}
+use Rattle.fol_base.specs.Literal.{clause_of}
+use Rattle.fol_base.specs.WellFormed.{SymbolUse, are_literals_of}
+use Rattle.fol_base.specs.declared.clause.Clause.{Clause}
+use Rattle.kernel_steps.specs.declared.step.TheConstants.{CLAUSE_NUMBERS}
+use Rattle.kernel_steps.specs.declared.step.Line.{Line}
+use Rattle.kernel_steps.specs.declared.step.Reduced.{Reduced}
+use Rattle.bank_clause.specs.declared.member.Member.{Member}
+use Rattle.reduction.specs.Reduced.{IsReduced}
+use Rattle.simplification.specs.Usable.{AreFormed, AreOfClauses, without}
+use Rattle.simplification.specs.Reducing.{NoStepBy}
+use Rattle.pool_core.specs.Record.{GivenJob}
+use Rattle.pool_core.specs.Lines.{result_of, with_parents}
+use Rattle.pool_core.specs.Reduction.{Lookup}
+use Rattle.pool_core.specs.Batches.{IsReducedBeside, IsRightRemoval}
+use Rattle.pool_core.specs.declared.options.Options.{Options}
+use Rattle.pool_core.specs.declared.batch.Fate.{Fate}
+use Rattle.pool_core.specs.declared.batch.Fate.TheVariants.{Kept, Dropped, Heavy}
+use Rattle.pool_core.specs.declared.batch.Removal.{Removal}
+use Rattle.given_work.specs.Telling.{AreToldSets, told_of}
+
+-- ---- lines
+
+-- The number in a batch of a parent of a line of a reduced clause: the clause that was handed in has its own number, and each line the
+-- number before.
+abbrev pub number_beside : ℕ → ℕ → ℕ
+number_beside victim n = if nat_lt n CLAUSE_NUMBERS then n else (if n == CLAUSE_NUMBERS then victim else n - 1)
+
+abbrev pub batch_line : ℕ → Line → Line
+batch_line victim l = record l { step = with_parents (number_beside victim) l.step }
+
+abbrev pub batch_lines : ℕ → List Line → List Line
+batch_lines victim lines = map (batch_line victim) lines
+
+-- ---- reduced clauses
+
+-- A clause was reduced by the clauses of two sets but for the one that is left out, until no step applies.
+pub record IsReducedBy (es us : List Member) (out : Option ℕ) (c : TreeClause) (r : Reduced) : Type 0 where
+  pub formed : (usage : SymbolUse) → AreFormed usage es us c → IsTrue (are_literals_of usage (clause_of r.clause).literals)
+  pub reduced :
+      (usage : SymbolUse) (clauses : ℕ → Option TreeClause)
+      → AreFormed usage es us c → AreOfClauses clauses es us → IsReduced usage.is_predicate (without out clauses) c r
+  pub irreducible :
+      (usage : SymbolUse) (clauses : ℕ → Option TreeClause)
+      → AreFormed usage es us c → AreOfClauses clauses es us → NoStepBy usage.is_predicate (without out clauses) (clause_of r.clause)
+
+-- the reduced clause takes the place of a clause, or nothing was reduced
+pub record IsReplacement (victim : ℕ) (r : Reduced) (m : Removal) : Type 0 where
+  pub some : r.lines ≡ [] → ⊥
+  pub results : List Clause
+  pub one : map clause_of results ≡ clause_of r.clause ∷ []
+  pub removal : m ≡ record { victim = victim; justifiers = r.used; fate = Kept (batch_lines victim r.lines) results }
+
+abbrev pub IsReplacedOrSame : ℕ → Reduced → Option Removal → Type 0
+IsReplacedOrSame victim r None = r.lines ≡ []
+IsReplacedOrSame victim r (Some m) = IsReplacement victim r m
+
+-- ---- clauses that go
+
+module _ (is_predicate : ℕ → Bool) (options : Options) (clauses : Lookup) (j : GivenJob) where
+  -- a result to which the lines lead is irreducible beside the clause of a number
+  abbrev pub LeavesIrreducible : ℕ → Fate → Type 0
+  LeavesIrreducible n (Kept lines results) =
+      (result : TreeClause) → result_of lines ≡ Some result → IsReducedBeside is_predicate options clauses j n result
+  LeavesIrreducible n (Dropped redundancy) = Unit {0}
+  LeavesIrreducible n Heavy = ⊥
+
+  pub record GoesRightly (n : ℕ) (m : Removal) : Type 0 where
+    pub victim : m.victim ≡ n
+    pub right : IsRightRemoval is_predicate options clauses j m
+    pub leaves : LeavesIrreducible n m.fate
+
+  -- a told clause is irreducible by the others and stays, or it goes
+  abbrev pub StaysOrGoes : ℕ → TreeClause → Option Removal → Type 0
+  StaysOrGoes n c None = IsReducedBeside is_predicate options clauses j n c
+  StaysOrGoes n c (Some m) = GoesRightly n m
+
+-- for each job for which the sets are told
+abbrev pub IsRemovalOf : List Member → List Member → List Member → ℕ → TreeClause → Option Removal → Type 0
+IsRemovalOf es us ms n c gone =
+    (usage : SymbolUse) (options : Options) (clauses : Lookup) (j : GivenJob)
+    → AreToldSets usage clauses j es us ms → options.split ≡ false → told_of clauses j n ≡ Some c
+    → StaysOrGoes usage.is_predicate options clauses j n c gone

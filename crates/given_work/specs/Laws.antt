@@ -1,0 +1,35 @@
+-- What an index that was told the clauses of a job makes of its ticket.
+use Rattle.std.specs.Prelude.{◌≡◌, false, List, Some, All}
+use Rattle.bank_clause.specs.Clause.{clause_at}
+use Rattle.bank_clause.specs.declared.member.Member.{Member}
+use Rattle.subsume.specs.Members.{numbers_of}
+use Rattle.pool_core.specs.Record.{GivenJob, clauses_of, given_job}
+use Rattle.pool_core.specs.Replay.{Origin, replay}
+use Rattle.pool_core.specs.Inputs.{AreInputs, IsHistoryOf, IsRightBatch}
+use Rattle.pool_core.specs.declared.batch.Batch.{Batch}
+use Rattle.pool_core.specs.declared.event.Event.{Event}
+use Rattle.pool_core.specs.declared.ticket.Ticket.{Ticket}
+use Rattle.given_work.specs.Removing.{AreTold}
+use Rattle.given_work.specs.Working.{IsRightUnder}
+
+-- Members are the clauses that the job of a ticket was told, in its order. The job is out after the history.
+pub record AreToldFor (origin : Origin) (history : List Event) (ticket : Ticket) (ms : List Member) : Type 0 where
+  pub job : GivenJob
+  pub out : given_job (replay origin history) ticket.job ≡ Some job
+  pub number : ticket.number ≡ job.number
+  pub left : ticket.left ≡ job.left
+  pub numbers : numbers_of ms ≡ job.told
+  pub looked_up : All (λ (m : Member). clauses_of (replay origin history) m.number ≡ Some (clause_at m.clause)) ms
+
+-- Where nothing is split, they may be worked with.
+abbrev pub ToldForJobsAreTold : Type 0
+ToldForJobsAreTold =
+    (origin : Origin) (history : List Event) (ticket : Ticket) (ms : List Member)
+    → AreInputs origin.inputs → origin.options.split ≡ false → IsHistoryOf origin history → AreToldFor origin history ticket ms → AreTold ms
+
+-- And work that is right for all jobs for which they are told makes a right batch.
+abbrev pub WorkMakesRightBatches : Type 0
+WorkMakesRightBatches =
+    (origin : Origin) (history : List Event) (ticket : Ticket) (ms : List Member) (batch : Batch)
+    → AreInputs origin.inputs → origin.options.split ≡ false → IsHistoryOf origin history → AreToldFor origin history ticket ms
+    → batch.job ≡ ticket.job → IsRightUnder origin.options ms ticket.number ticket.left batch.work → IsRightBatch origin history batch

@@ -1,0 +1,12 @@
+pub mod View
+pub mod Learning
+pub mod Store
+pub mod Sets
+pub mod Kept
+pub mod Index
+pub mod Telling
+pub mod Going
+pub mod Meeting
+pub mod Removing
+pub mod Working
+pub mod Laws

@@ -1,0 +1,48 @@
+-- The told clauses of a job, as an index and its sets tell them.
+use Rattle.std.specs.Prelude.{◌≡◌, ℕ, ◌<◌, List, Some, All}
+use Rattle.fol_base.specs.Clause.{TreeClause}
+use Rattle.fol_base.specs.WellFormed.{SymbolUse}
+use Rattle.kernel_steps.specs.declared.step.TheConstants.{CLAUSE_NUMBERS}
+use Rattle.bank_clause.specs.Clause.{AreMembersOf, clause_at}
+use Rattle.bank_clause.specs.declared.member.Member.{Member}
+use Rattle.term_bank.specs.declared.bank.Bank.{Bank}
+use Rattle.rewriting.specs.Units.{AreClausesOf}
+use Rattle.calculus.specs.Lifting.{among}
+use Rattle.subsume.specs.Members.{numbers_of}
+use Rattle.simplification.specs.Usable.{AreOfClauses, HasAll}
+use Rattle.pool_core.specs.Record.{GivenJob}
+use Rattle.pool_core.specs.Wholeness.{IsWhole}
+use Rattle.pool_core.specs.Reduction.{Lookup}
+use Rattle.pool_core.specs.Batches.{is_told}
+
+-- ---- told clauses
+
+abbrev pub told_of : Lookup → GivenJob → Lookup
+told_of clauses j = among (is_told j) clauses
+
+-- A list of members tells the clauses of a job, in its order. They are whole under a use of the symbols.
+pub record Tells (usage : SymbolUse) (clauses : Lookup) (j : GivenJob) (ms : List Member) : Type 0 where
+  pub numbers : numbers_of ms ≡ j.told
+  pub looked_up : All (λ (m : Member). clauses m.number ≡ Some (clause_at m.clause)) ms
+  pub whole : All (λ (m : Member). IsWhole usage (clause_at m.clause)) ms
+
+-- The sets of equations, of units and of all have the told clauses of a job.
+pub record AreToldSets (usage : SymbolUse) (clauses : Lookup) (j : GivenJob) (es us ms : List Member) : Type 0 where
+  pub whole : (n : ℕ) (c : TreeClause) → told_of clauses j n ≡ Some c → IsWhole usage c
+  pub numbered : (n : ℕ) (c : TreeClause) → told_of clauses j n ≡ Some c → n < CLAUSE_NUMBERS
+  pub of_clauses : AreOfClauses (told_of clauses j) es us
+  pub has_all : HasAll (told_of clauses j) ms
+
+-- their clauses are of the bank
+pub record AreSetsOfBank (bank : Bank) (es us ms : List Member) : Type 0 where
+  pub equations : AreClausesOf bank es
+  pub units : AreMembersOf bank us
+  pub members : AreMembersOf bank ms
+
+-- they are told for some job, and so is a clause
+pub record AreToldWith (es us ms : List Member) (n : ℕ) (c : TreeClause) : Type 0 where
+  pub usage : SymbolUse
+  pub clauses : Lookup
+  pub job : GivenJob
+  pub sets : AreToldSets usage clauses job es us ms
+  pub there : told_of clauses job n ≡ Some c

@@ -1,0 +1,54 @@
+-- The work on a given clause.
+use Rattle.std.specs.Prelude.{◌≡◌, ◌⊎◌, ℕ, ◌≤◌, false, List, [], length}
+use Rattle.term_bank.specs.declared.bank.Bank.{Bank}
+use Rattle.fol_base.specs.WellFormed.{SymbolUse}
+use Rattle.literal_selection.specs.declared.choice.Selection.{Selection}
+use Rattle.bank_clause.specs.declared.member.Member.{Member}
+use Rattle.eq_rules.specs.declared.inference.Inference.{Inference}
+use Rattle.pool_core.specs.Record.{GivenJob}
+use Rattle.pool_core.specs.Reduction.{Lookup}
+use Rattle.pool_core.specs.Batches.{IsRightWork}
+use Rattle.pool_core.specs.declared.options.Options.{Options}
+use Rattle.pool_core.specs.declared.batch.Entry.{Entry}
+use Rattle.pool_core.specs.declared.batch.Removal.{Removal}
+use Rattle.pool_core.specs.declared.batch.Work.{Work}
+use Rattle.pool_core.specs.declared.batch.Work.TheVariants.{Met}
+use Rattle.given_work.specs.Kept.{IsKept}
+use Rattle.given_work.specs.Meeting.{AreFirstEntries, AreMetWith}
+use Rattle.given_work.specs.Removing.{AreRemovalsAmong}
+use Rattle.given_work.specs.Telling.{Tells}
+use Rattle.given_work.specs.declared.sets.Sets.{Sets}
+use Rattle.given_work.specs.declared.store.Store.{Store}
+
+-- kept under some mode
+pub record HasKept (bank : Bank) (store : Store) (sets : Sets) : Type 0 where
+  pub mode : Selection
+  pub kept : IsKept bank mode store sets
+
+-- the removals, or none where the entries are enough
+abbrev pub HasRemovals : List Member → Member → ℕ → List Entry → List Removal → Type 0
+HasRemovals ms given left entries removals = ((left ≤ length entries) × (removals ≡ [])) ⊎ AreRemovalsAmong ms given ms removals
+
+-- the inferences of a clause that stays with the clauses of some numbers, and the removals
+pub record IsMetBy (mode : Selection) (sets : Sets) (ms : List Member) (numbers : List ℕ) (given : Member) (left : ℕ) (work : Work) : Type 0 where
+  pub found : List Inference
+  pub entries : List Entry
+  pub removals : List Removal
+  pub is : work ≡ Met entries removals
+  pub met : AreMetWith mode ms given.number numbers found
+  pub entered : AreFirstEntries sets.equations sets.units.items sets.subsumers found left entries
+  pub removed : HasRemovals ms given left entries removals
+
+-- right for each job for which the members are told
+abbrev pub IsRightWorkOf : Selection → List Member → ℕ → ℕ → Work → Type 0
+IsRightWorkOf mode ms number left work =
+    (usage : SymbolUse) (options : Options) (clauses : Lookup) (j : GivenJob)
+    → Tells usage clauses j ms → options.select ≡ mode → options.split ≡ false → j.number ≡ number → j.left ≡ left
+    → IsRightWork usage.is_predicate options clauses j work
+
+-- under the options of an index
+abbrev pub IsRightUnder : Options → List Member → ℕ → ℕ → Work → Type 0
+IsRightUnder options ms number left work =
+    (usage : SymbolUse) (clauses : Lookup) (j : GivenJob)
+    → Tells usage clauses j ms → j.number ≡ number → j.left ≡ left
+    → IsRightWork usage.is_predicate options clauses j work

@@ -1,0 +1,214 @@
+// Told clauses that go: they are reduced by the others, or aren't needed beside them.
+
+ghost use Rattle.std.specs.Prelude.{◌≡◌, ◌∷◌, [], Some, IfOk, map};
+ghost use Rattle.fol_base.specs.Clause.{TreeClause};
+ghost use Rattle.fol_base.specs.Literal.{clause_of};
+ghost use Rattle.bank_clause.specs.Clause.{IsMemberOf, clause_at};
+ghost use Rattle.pool_core.specs.Lines.{with_parents};
+ghost use Rattle.pool_core.specs.declared.batch.Fate.TheVariants.{Dropped};
+ghost use Rattle.given_work.specs.Telling.{AreSetsOfBank, AreToldWith};
+ghost use Rattle.given_work.specs.Going.{IsReducedBy, IsRemovalOf, IsReplacedOrSame, batch_lines, number_beside};
+
+use bank_clause::Member;
+use cutting::is_tautology;
+use fol_base::{Clause, Clauses};
+use kernel_steps::{CLAUSE_NUMBERS, Derivation, Line, Reduced, Step};
+use plain_types::{Mem, Numbers};
+use pool_core::{Fate, Redundancy, Removal};
+use reduction::{put_used, unreduced};
+use simplification::{Simplifiers, reduce};
+use std::alloc::Global;
+use subsume::forward_except;
+
+/// How a told clause goes: it is reduced by the others, or it is redundant beside them, once it is reduced. None exactly where no reducing
+/// step applies to it and it isn't redundant. It is the clause that is left out.
+pub(crate) fn removal_of(
+    alloc: Global,
+    by: &Simplifiers<'_>,
+    member: &Member,
+) -> Mem<Option<Removal>>
+    requires of_bank { AreSetsOfBank by.now.bank.now by.now.equations.now by.now.units.now by.now.members.now }
+    requires member { IsMemberOf by.now.bank.now member.now }
+    requires itself { by.now.left_out ≡ Some member.now.number }
+    requires told { AreToldWith by.now.equations.now by.now.units.now by.now.members.now member.now.number (clause_at member.now.clause) }
+    ensures { IfOk result
+        (IsRemovalOf by.now.equations.now by.now.units.now by.now.members.now member.now.number (clause_at member.now.clause)) }
+{
+    let reduced = reduced_member(alloc, by, member)?;
+    removal_by(alloc, by, member.number, reduced)
+}
+
+/// A told clause reduced by the others.
+fn reduced_member(alloc: Global, by: &Simplifiers<'_>, member: &Member) -> Mem<Reduced>
+    requires of_bank { AreSetsOfBank by.now.bank.now by.now.equations.now by.now.units.now by.now.members.now }
+    requires member { IsMemberOf by.now.bank.now member.now }
+    requires told { AreToldWith by.now.equations.now by.now.units.now by.now.members.now member.now.number (clause_at member.now.clause) }
+    ensures { IfOk result (IsReducedBy by.now.equations.now by.now.units.now by.now.left_out (clause_at member.now.clause)) }
+{
+    let clause = member.clause.to_clause(by.bank)?;
+    let mut reduced = unreduced(alloc, &clause)?;
+    reduce(alloc, by, &mut reduced)?;
+    Ok(reduced)
+}
+
+/// What becomes of a clause that was reduced.
+fn removal_by(
+    alloc: Global,
+    by: &Simplifiers<'_>,
+    number: u32,
+    reduced: Reduced,
+) -> Mem<Option<Removal>>
+    requires of_bank { AreSetsOfBank by.now.bank.now by.now.equations.now by.now.units.now by.now.members.now }
+    ensures { IfOk result (λ gone. (c : TreeClause) → IsReducedBy by.now.equations.now by.now.units.now (Some number) c reduced
+        → IsRemovalOf by.now.equations.now by.now.units.now by.now.members.now number c gone) }
+{
+    if is_tautology(&reduced.clause) {
+        let removal = dropped(number, reduced.used, Redundancy::Tautology);
+        return Ok(Some(removal));
+    }
+    match forward_except(alloc, by.bank, by.members, &reduced.clause, number)? {
+        Some(subsumer) => {
+            let mut justifiers = reduced.used;
+            put_used(&mut justifiers, subsumer)?;
+            let removal = dropped(number, justifiers, Redundancy::Subsumed(subsumer));
+            Ok(Some(removal))
+        }
+        None => {
+            let gone = replaced(alloc, number, reduced)?;
+            Ok(gone)
+        }
+    }
+}
+
+/// A clause that is redundant.
+fn dropped(victim: u32, justifiers: Numbers, redundancy: Redundancy) -> Removal
+    ensures { result ≡ record { victim = victim; justifiers = justifiers; fate = Dropped redundancy } }
+{
+    Removal {
+        victim,
+        justifiers,
+        fate: Fate::Dropped(redundancy),
+    }
+}
+
+/// A clause with the result of its reduction in its place. None where nothing was reduced.
+fn replaced(alloc: Global, victim: u32, reduced: Reduced) -> Mem<Option<Removal>>
+    ensures { IfOk result (IsReplacedOrSame victim reduced) }
+{
+    if reduced.lines.is_empty() {
+        return Ok(None);
+    }
+    let Reduced {
+        clause,
+        lines,
+        used,
+    } = reduced;
+    let lines = lines_of_victim(alloc, victim, lines)?;
+    let results = one_clause(alloc, clause)?;
+    Ok(Some(Removal {
+        victim,
+        justifiers: used,
+        fate: Fate::Kept { lines, results },
+    }))
+}
+
+/// The list of one clause.
+pub(crate) fn one_clause(alloc: Global, clause: Clause) -> Mem<Clauses>
+    ensures { IfOk result (λ clauses. map clause_of clauses ≡ clause_of clause ∷ []) }
+{
+    let mut clauses = Clauses::new(alloc);
+    clauses.push(clause)?;
+    Ok(clauses)
+}
+
+/// Lines of a reduced clause, by the numbers of a batch.
+fn lines_of_victim(alloc: Global, victim: u32, lines: Derivation) -> Mem<Derivation>
+    ensures { IfOk result (λ renumbered. renumbered ≡ batch_lines victim lines) }
+{
+    let mut renumbered = Vec::with_capacity(alloc, lines.len())?;
+    for line in lines.into_vec() {
+        let Line { step, clause } = line;
+        let step = beside_victim(victim, step);
+        renumbered.push(Line { step, clause })?;
+    }
+    Ok(Derivation::from_vec(renumbered))
+}
+
+/// The number in a batch of a parent of a line of a reduced clause: the clause that was handed in is the victim, and each line has the
+/// number before.
+fn parent_beside(victim: u32, parent: u64) -> u64
+    ensures { result ≡ number_beside victim parent }
+{
+    if parent < CLAUSE_NUMBERS {
+        parent
+    } else if parent == CLAUSE_NUMBERS {
+        u64::from(victim)
+    } else {
+        parent - 1
+    }
+}
+
+/// A step of a reduction with the numbers of a batch.
+fn beside_victim(victim: u32, step: Step) -> Step
+    ensures { result ≡ with_parents (number_beside victim) step }
+{
+    match step {
+        Step::Para {
+            first,
+            second,
+            from,
+            from_side,
+            into,
+            into_side,
+            place,
+            first_bind,
+            second_bind,
+        } => Step::Para {
+            first: parent_beside(victim, first),
+            second: parent_beside(victim, second),
+            from,
+            from_side,
+            into,
+            into_side,
+            place,
+            first_bind,
+            second_bind,
+        },
+        Step::Refl {
+            parent,
+            literal,
+            bind,
+        } => Step::Refl {
+            parent: parent_beside(victim, parent),
+            literal,
+            bind,
+        },
+        Step::Factor {
+            parent,
+            becomes,
+            becomes_side,
+            other,
+            other_side,
+            bind,
+        } => Step::Factor {
+            parent: parent_beside(victim, parent),
+            becomes,
+            becomes_side,
+            other,
+            other_side,
+            bind,
+        },
+        Step::Merge {
+            parent,
+            stays,
+            goes,
+            bind,
+        } => Step::Merge {
+            parent: parent_beside(victim, parent),
+            stays,
+            goes,
+            bind,
+        },
+        step => step,
+    }
+}

@@ -1,0 +1,86 @@
+// What a worker was told: the activated clauses that live, in the sets in which they are looked for.
+
+ghost use Rattle.std.specs.Prelude.{◌≡◌, [], false, All, IfOk};
+ghost use Rattle.bank_clause.specs.Clause.{AreMembersOf};
+ghost use Rattle.pool_core.specs.Answers.{IsChangeOf};
+ghost use Rattle.given_work.specs.Learning.{AreNews, learned};
+
+use crate::learning::learn_all;
+use crate::sets::Sets;
+use crate::store::Store;
+use plain_types::Mem;
+use pool_core::{News, Options};
+use std::alloc::Global;
+use std::marker::Model;
+use term_bank::Bank;
+
+/// A worker's own sets of the living activated clauses that it was told. Contracts see it as its options, the place in the history up to
+/// which it was told, and the list of the clauses in the order of their positions.
+#[derive(Drop)]
+pub struct Index {
+    pub(crate) options: Options,
+    pub(crate) told: u64,
+    pub(crate) store: Store,
+    pub(crate) sets: Sets,
+}
+
+impl Model for Index {
+    ghost use Rattle.given_work.specs.View.{IndexView, index_code};
+
+    ghost Value = { IndexView };
+
+    ghost coded = { index_code };
+
+    ghost use Rattle.given_work.specs.Index.{IsIndex, view_of};
+
+    ghost view = { view_of };
+
+    ghost invariant = { IsIndex };
+}
+
+impl Index {
+    /// No clauses, told up to place 0. Clauses aren't split.
+    pub fn new(alloc: Global, options: Options) -> Mem<Index>
+        requires { options.split ≡ false }
+        ensures { IfOk result (λ index. index ≡ record { options = options; told = 0; members = [] }) }
+    {
+        Ok(Index {
+            options,
+            told: 0,
+            store: Store::new(alloc),
+            sets: Sets::new(alloc)?,
+        })
+    }
+
+    /// Learns what changed up to a place in the history. After want of memory the index is gone.
+    pub fn learn(self, alloc: Global, bank: &Bank, news: &News, as_of: u64) -> Mem<Index>
+        requires of_bank { AreMembersOf bank.now self.members }
+        requires changes { All (IsChangeOf bank.now) news.now }
+        requires new { AreNews self.members news.now }
+        ensures index { IfOk result (λ index. index
+            ≡ record { options = self.options; told = as_of; members = learned self.members news.now }) }
+        ensures of_bank { IfOk result (λ index. AreMembersOf bank.now index.members) }
+    {
+        let Index {
+            options,
+            told: _,
+            mut store,
+            mut sets,
+        } = self;
+        let mode = options.select;
+        learn_all(alloc, bank, mode, news.as_slice(), &mut store, &mut sets)?;
+        Ok(Index {
+            options,
+            told: as_of,
+            store,
+            sets,
+        })
+    }
+
+    /// The place in the history up to which it was told. It takes no memory.
+    pub fn told(&self) -> u64
+        ensures { result ≡ self.now.told }
+    {
+        self.told
+    }
+}

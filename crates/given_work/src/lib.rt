@@ -1,0 +1,15 @@
+// The work on one given clause: what a worker was told, and the batch that it hands back.
+#![tactic(auto)]
+
+mod entries;
+mod going;
+mod index;
+mod inferences;
+mod learning;
+mod removing;
+mod sets;
+mod store;
+mod working;
+
+pub use index::Index;
+pub use working::work;

@@ -1,0 +1,145 @@
+// The work on a given clause: the batch for its ticket.
+
+ghost use Rattle.std.specs.Prelude.{◌≡◌, Some, IfOk, IsTrue, slice_get};
+ghost use Rattle.kernel_steps.specs.Split.{has_number};
+ghost use Rattle.bank_clause.specs.Clause.{AreMembersOf, clause_at};
+ghost use Rattle.literal_selection.specs.declared.choice.Selection.{Selection};
+ghost use Rattle.subsume.specs.Members.{numbers_of};
+ghost use Rattle.given_work.specs.Kept.{IsKept};
+ghost use Rattle.given_work.specs.Store.{IsStore, members_in};
+ghost use Rattle.given_work.specs.Meeting.{before_place};
+ghost use Rattle.given_work.specs.Removing.{AreTold};
+ghost use Rattle.given_work.specs.Working.{HasKept, IsMetBy, IsRightUnder, IsRightWorkOf};
+
+use crate::entries::entries_of;
+use crate::going::removal_of;
+use crate::index::Index;
+use crate::inferences::inferences_of;
+use crate::removing::removals_of;
+use crate::sets::Sets;
+use crate::store::{Store, Told};
+use plain_types::Mem;
+use pool_core::{Batch, Removals, Ticket, Work};
+use simplification::Simplifiers;
+use std::alloc::Global;
+use term_bank::Bank;
+
+/// The batch for the ticket of a given clause, by an index that was told the clauses that are told for it.
+pub fn work(alloc: Global, bank: &Bank, ticket: &Ticket, index: &Index) -> Mem<Batch>
+    requires of_bank { AreMembersOf bank.now index.now.members }
+    requires told { AreTold index.now.members }
+    requires given { IsTrue (has_number ticket.now.number (numbers_of index.now.members)) }
+    ensures job { IfOk result (λ batch. batch.job ≡ ticket.now.job) }
+    ensures work { IfOk result (λ batch. IsRightUnder index.now.options index.now.members ticket.now.number ticket.now.left batch.work) }
+{
+    let work = index.work_on(alloc, bank, ticket.number, ticket.left)?;
+    Ok(Batch {
+        job: ticket.job,
+        work,
+    })
+}
+
+impl Index {
+    /// The work on the clause of a number.
+    fn work_on(&self, alloc: Global, bank: &Bank, number: u32, left: u32) -> Mem<Work>
+        requires of_bank { AreMembersOf bank.now self.now.members }
+        requires told { AreTold self.now.members }
+        requires given { IsTrue (has_number number (numbers_of self.now.members)) }
+        ensures { IfOk result (IsRightUnder self.now.options self.now.members number left) }
+    {
+        let work = work_in(alloc, bank, &self.store, &self.sets, number, left)?;
+        Ok(work)
+    }
+}
+
+/// The work on the clause of a number.
+fn work_in(
+    alloc: Global,
+    bank: &Bank,
+    store: &Store,
+    sets: &Sets,
+    number: u32,
+    left: u32,
+) -> Mem<Work>
+    requires kept { HasKept bank.now store.now sets.now }
+    requires told { AreTold (members_in store.now.slots.items) }
+    requires given { IsTrue (has_number number (numbers_of (members_in store.now.slots.items))) }
+    ensures { IfOk result (λ work. (mode : Selection) → IsStore mode store.now
+        → IsRightWorkOf mode (members_in store.now.slots.items) number left work) }
+{
+    let Some(place) = store.places.get(&number) else {
+        unreachable!();
+    };
+    let Some(given) = &store.slots[*place] else {
+        unreachable!();
+    };
+    let work = work_at(alloc, bank, store, sets, *place, given, left)?;
+    Ok(work)
+}
+
+/// The work on the clause at a place.
+fn work_at(
+    alloc: Global,
+    bank: &Bank,
+    store: &Store,
+    sets: &Sets,
+    place: usize,
+    given: &Told,
+    left: u32,
+) -> Mem<Work>
+    requires kept { IsKept bank.now given.now.sites.mode store.now sets.now }
+    requires told { AreTold (members_in store.now.slots.items) }
+    requires given { slice_get store.now.slots.items place ≡ Some (Some given.now) }
+    ensures { IfOk result (IsRightWorkOf given.now.sites.mode (members_in store.now.slots.items) given.now.member.number left) }
+{
+    let by = Simplifiers {
+        bank,
+        equations: &sets.equations,
+        units: sets.units.as_slice(),
+        members: &sets.subsumers,
+        left_out: Some(given.member.number),
+    };
+    let gone = removal_of(alloc, &by, &given.member)?;
+    match gone {
+        Some(removal) => Ok(Work::Gone(removal)),
+        None => {
+            let work = met(alloc, bank, store, sets, place, given, left)?;
+            Ok(work)
+        }
+    }
+}
+
+/// The work on a clause that stays.
+fn met(
+    alloc: Global,
+    bank: &Bank,
+    store: &Store,
+    sets: &Sets,
+    place: usize,
+    given: &Told,
+    left: u32,
+) -> Mem<Work>
+    requires kept { IsKept bank.now given.now.sites.mode store.now sets.now }
+    requires told { AreTold (members_in store.now.slots.items) }
+    requires given { slice_get store.now.slots.items place ≡ Some (Some given.now) }
+    ensures { IfOk result (IsMetBy given.now.sites.mode sets.now (members_in store.now.slots.items)
+        (before_place store.now.slots.items place) given.now.member left) }
+{
+    let inferences = inferences_of(alloc, bank, store, place, given)?;
+    let by = Simplifiers {
+        bank,
+        equations: &sets.equations,
+        units: sets.units.as_slice(),
+        members: &sets.subsumers,
+        left_out: None,
+    };
+    let entries = entries_of(alloc, &by, inferences, left)?;
+    if entries.len() >= left as usize {
+        return Ok(Work::Met {
+            entries,
+            removals: Removals::new(alloc),
+        });
+    }
+    let removals = removals_of(alloc, bank, store, sets, place, given)?;
+    Ok(Work::Met { entries, removals })
+}
