@@ -146,7 +146,7 @@ module _
     formed = list_all-item (λ (d : TreeClause). are_literals_of usage d.literals) origin.inputs k c there used;
   }
 
-  replay-sound : Sound usage origin.inputs (replay origin history)
+  pub replay-sound : Sound usage origin.inputs (replay origin history)
   replay-sound =
       history-sound usage origin.inputs origin.options unsplit history (start origin) lawful
       (inputs-sound usage origin.inputs origin.options.split 0 origin.inputs nothing_registered unsplit

@@ -54,14 +54,14 @@ none-died clause [] = refl
 none-died clause (n ∷ ns) = none-died clause ns
 
 -- what an event adds
-record Adds (r s : PoolRecord) : Type 0 where
+pub record Adds (r s : PoolRecord) : Type 0 where
   pub places : (ns : List ℕ) × (s.positions ≡ r.positions ++ ns)
   pub deaths : (ds : List Death) × (s.deaths ≡ r.deaths ++ ds)
 
-new-places : (r s : PoolRecord) (adds : Adds r s) → drop (length r.positions) s.positions ≡ adds.places.0
+pub new-places : (r s : PoolRecord) (adds : Adds r s) → drop (length r.positions) s.positions ≡ adds.places.0
 new-places r s adds = ap (drop (length r.positions)) adds.places.1 ∙ drop-append_seam r.positions adds.places.0
 
-new-deaths : (r s : PoolRecord) (adds : Adds r s) → drop (length r.deaths) s.deaths ≡ adds.deaths.0
+pub new-deaths : (r s : PoolRecord) (adds : Adds r s) → drop (length r.deaths) s.deaths ≡ adds.deaths.0
 new-deaths r s adds = ap (drop (length r.deaths)) adds.deaths.1 ∙ drop-append_seam r.deaths adds.deaths.0
 
 between-activated : (r s : PoolRecord) (adds : Adds r s) → r.positions ++ activated_numbers (changes_between r s) ≡ s.positions
@@ -132,7 +132,7 @@ module _ (options : Options) where
   after-both r (ReturnRefuted job chains) = refuted-both r.solver chains r
   after-both r (Abandon job) = same-both r
 
-  event-adds : (r : PoolRecord) (e : Event) → Adds r (after options r e)
+  pub event-adds : (r : PoolRecord) (e : Event) → Adds r (after options r e)
   event-adds r e = record { places = after-positions options r e; deaths = (after-both r e).0 }
 
   -- ---- the numbers of all changes
@@ -244,7 +244,7 @@ module _ (options : Options) where
       (all-weaker (IsTold r.events (told_now r)) (IsTold (r.events + 1) (told_now s)) (told-before r.events (told_now r) (told_now s)) r.given told)
       (omega arith, λ same. refl))
 
-  worked-given : (job n : ℕ) (work : Work) (r : PoolRecord) → (worked options n work (without job r)).given ≡ without_job job r.given
+  pub worked-given : (job n : ℕ) (work : Work) (r : PoolRecord) → (worked options n work (without job r)).given ≡ without_job job r.given
   worked-given job n (Gone m) r = (removed-grows options m (without job r)).given
   worked-given job n (Met entries removals) r = (met-grows options n entries removals (without job r)).given
 
@@ -291,7 +291,7 @@ module _ (options : Options) where
 -- ---- the laws
 
 -- of registered clauses, those that live are those that didn't die
-living-kept : (r : PoolRecord) (ns : List ℕ) → list_all (λ n. nat_lt n (length r.registered)) ns ≡ true → filter (lives r) ns ≡ filter (λ n. not (has_died r.deaths n)) ns
+pub living-kept : (r : PoolRecord) (ns : List ℕ) → list_all (λ n. nat_lt n (length r.registered)) ns ≡ true → filter (lives r) ns ≡ filter (λ n. not (has_died r.deaths n)) ns
 living-kept r [] below = refl
 living-kept r (n ∷ ns) below =
     let parts = and_parts (nat_lt n (length r.registered)) (list_all (λ m. nat_lt m (length r.registered)) ns) below in
@@ -302,7 +302,7 @@ module _ (origin : Origin) (history : List Event) where
   abbrev changes : List TreeChange
   changes = news_since origin history 0
 
-  start-is : (r : PoolRecord) → r ≡ start origin → (r.positions ≡ []) × (r.deaths ≡ [])
+  pub start-is : (r : PoolRecord) → r ≡ start origin → (r.positions ≡ []) × (r.deaths ≡ [])
   start-is r is =
       let grown = registers-grows nothing_registered (start origin) (inputs-register origin.options.split 0 origin.inputs nothing_registered) in (
         ap (λ (s : PoolRecord). s.positions) is ∙ grown.positions,

@@ -280,7 +280,7 @@ module _ (options : Options) where
       by-if (λ s. Extends r.positions (given_out options job n s).positions) (has_number n r.positions) r (record r { positions = r.positions ++ n ∷ [] })
       (same-positions r r refl) (n ∷ [], refl)
 
-  returned-positions : (batch : Batch) (o : Option GivenJob) (r : PoolRecord) → (returns_to options batch o r).positions ≡ r.positions
+  pub returned-positions : (batch : Batch) (o : Option GivenJob) (r : PoolRecord) → (returns_to options batch o r).positions ≡ r.positions
   returned-positions batch None r = refl
   returned-positions batch (Some j) r =
       let s : PoolRecord = record r { given = without_job batch.job r.given } in
@@ -291,11 +291,11 @@ module _ (options : Options) where
       by s (Gone m) = (removed-grows options m s).positions
       by s (Met entries removals) = (met-grows options j.number entries removals s).positions
 
-  modelled-positions : (o : Option SolverJob) (truths : List Bool) (r : PoolRecord) → (modelled_by o truths r).positions ≡ r.positions
+  pub modelled-positions : (o : Option SolverJob) (truths : List Bool) (r : PoolRecord) → (modelled_by o truths r).positions ≡ r.positions
   modelled-positions None truths r = refl
   modelled-positions (Some s) truths r = refl
 
-  refuted-positions : (o : Option SolverJob) (chains : List log.Chain) (r : PoolRecord) → (refuted_by o chains r).positions ≡ r.positions
+  pub refuted-positions : (o : Option SolverJob) (chains : List log.Chain) (r : PoolRecord) → (refuted_by o chains r).positions ≡ r.positions
   refuted-positions None chains r = refl
   refuted-positions (Some s) chains r = by-if (λ (t : PoolRecord). t.positions ≡ r.positions) (is_none r.ended) _ _ refl refl
 

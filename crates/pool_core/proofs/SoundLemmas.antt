@@ -315,7 +315,7 @@ module _ (usage : SymbolUse) (inputs : List TreeClause) where
     claimed-sound job (Some n) r sound =
         by-if (λ s. Holds (given_out options job n s)) (has_number n r.positions) r (record r { positions = r.positions ++ n ∷ [] }) sound sound
 
-    no-solve : (r : PoolRecord) → Holds r → must_solve r ≡ true → ⊥
+    pub no-solve : (r : PoolRecord) → Holds r → must_solve r ≡ true → ⊥
     no-solve r sound h =
         none (and_parts (nat_lt r.modelled (length r.propositional)) (is_none r.solver) h).0
       where

@@ -1,0 +1,8 @@
+// One worker on a pool: what it claims, and the work on what it is given.
+#![tactic(auto)]
+
+mod claim;
+mod job;
+
+pub use claim::claim_next;
+pub use job::{Done, work_on};
