@@ -1,6 +1,6 @@
 -- The results of a batch in the bank, one after another.
 use Rattle.std.proofs.Common.{◌≡◌, ℕ, suc, ◌+◌, ◌<◌, Bool, true, false, List, [], ◌∷◌, ◌++◌, map, length, take, get_or, append-nil, refl, ap, ap₂, sym, ◌∙◌, subst, arith}
-use Rattle.std.specs.Prelude.{Option, None, Some, cond, filter, filter_map, option_to_list, All, if◌then◌else◌}
+use Rattle.std.specs.Prelude.{Option, None, Some, cond, filter_map, option_to_list, All}
 use Rattle.std.specs.List.{cons_option}
 use Rattle.std.proofs.lemmas.List.{take_more, length-append}
 use Rattle.std.proofs.lemmas.List.Sums.{sum_by-append, sum_by-cons}
@@ -16,7 +16,7 @@ use Rattle.bank_clause.specs.Parts.{assertion}
 use Rattle.bank_clause.specs.Clause.{clause_at, IsKnown}
 use Rattle.pool_core.specs.Counting.{is_heavy, keys_of}
 use Rattle.pool_core.specs.Returning.{heavy_entries}
-use Rattle.pool_core.specs.Placing.{IsInterned, AreInterned, AreResults, KnowsMore, IsFitResult}
+use Rattle.pool_core.specs.Placing.{IsInterned, AreInterned, AreResults, KnowsMore, IsFitResult, line_count}
 use Rattle.pool_core.specs.declared.batch.Entry.{Entry}
 use Rattle.pool_core.specs.declared.batch.Fate.{Fate}
 use Rattle.pool_core.specs.declared.batch.Fate.TheVariants.{Kept, Dropped, Heavy}
