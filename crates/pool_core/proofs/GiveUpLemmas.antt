@@ -26,6 +26,7 @@ use Rattle.pool_core.specs.Started.{registered_at, IsOfTable}
 use Rattle.pool_core.specs.Events.{events_of}
 use Rattle.pool_core.specs.Lawful.{IsOut}
 use Rattle.pool_core.specs.State.{origin_of, AreOfRegistered, IsStateOf, IsPool, pair_of}
+use Rattle.pool_core.specs.declared.event.Event.{Event}
 use Rattle.pool_core.specs.declared.event.Event.TheVariants.{Abandon}
 use Rattle.pool_core.specs.declared.options.Options.{Options}
 use Rattle.pool_core.specs.declared.pool.OutJob.{OutJob}
@@ -243,13 +244,13 @@ entry-out a r job j is rise found =
 -- ---- the pool
 
 -- what giving up a job changes, and what it keeps
-pub record IsGivenUpBy (a b : Inside) (job : ℕ) : Type 0 where
+pub record IsGivenUpBy (a b : Inside) (job : ℕ) (e : Event) : Type 0 where
   pub origin : origin_of b ≡ origin_of a
   pub table : b.table ≡ a.table
   pub register : b.proof.register.clauses ≡ a.proof.register.clauses
   pub positions : b.positions.items ≡ a.positions.items
   pub jobs : b.jobs.entries ≡ remove_entry (is_at (nat_cmp job)) a.jobs.entries
-  pub history : events_of b.history ≡ events_of a.history ++ Abandon job ∷ []
+  pub history : events_of b.history ≡ events_of a.history ++ e ∷ []
   pub history_len : vec_len b.history.events ≡ vec_len a.history.events + 1
   pub history_room : vec_capacity b.history.events ≡ vec_capacity a.history.events
   pub notes : b.proof.notes.items ≡ a.proof.notes.items
@@ -273,12 +274,12 @@ told-without job r told = record {
   victims = told.victims;
 }
 
-given-up-state :
-    (a b : Inside) (r : PoolRecord) (job : ℕ) (j : GivenJob)
-    → IsStateOf a r → Rising 0 r.jobs r.given → given_job r job ≡ Some j → IsGivenUpBy a b job
+pub given-up-state :
+    (a b : Inside) (r : PoolRecord) (job : ℕ) (e : Event) (j : GivenJob)
+    → IsStateOf a r → Rising 0 r.jobs r.given → given_job r job ≡ Some j → IsGivenUpBy a b job e
     → b.proof.queue.pairs ≡ map (pair_of (given_up a.options job r)) (ready (given_up a.options job r)) → a.proof.queue.spare ≤ b.proof.queue.spare + 1
     → IsStateOf b (given_up a.options job r)
-given-up-state a b r job j is rise found by queue spare = record {
+given-up-state a b r job e j is rise found by queue spare = record {
   proof = record {
     registered = ap (map registered_at) by.register ∙ is.proof.registered;
     of_table =
@@ -316,13 +317,13 @@ given-up-state a b r job j is rise found by queue spare = record {
 
 pub given-up-pool :
     (a b : Inside) (job : ℕ) (j : GivenJob)
-    → IsPool a → given_job (record_of a) job ≡ Some j → IsGivenUpBy a b job
+    → IsPool a → given_job (record_of a) job ≡ Some j → IsGivenUpBy a b job (Abandon job)
     → b.proof.queue.pairs ≡ map (pair_of (given_up a.options job (record_of a))) (ready (given_up a.options job (record_of a))) → a.proof.queue.spare ≤ b.proof.queue.spare + 1
     → IsPool b
 given-up-pool a b job j is found by queue spare =
     one-more-event a b (Abandon job) [] is by.origin by.history
     (λ is_predicate. inl (record { given = j; out = found; says = tt }))
-    (given-up-state a b (record_of a) job j is.state (pool-rises a is) found by queue spare)
+    (given-up-state a b (record_of a) job (Abandon job) j is.state (pool-rises a is) found by queue spare)
     (ap (map registered_at) by.register)
     (by.notes ∙ sym (append-nil a.proof.notes.items))
     (sym (ap₂ (λ (ns : List ℕ) (ds : List Death). map (λ k. TreeChange.activated k (clause_numbered (record_of a) k)) ns ++ map (λ (d : Death). TreeChange.died d.victim) ds)
@@ -379,7 +380,7 @@ absent-out a job n by is same there =
 -- where its clause lives it comes back into the queue
 pub given-up-living :
     (a b : Inside) (job n size : ℕ) (s : Registration) (by : IsOutBy a job)
-    → IsPool a → IsGivenUpBy a b job → n ≡ by.given.number → slice_get a.proof.register.clauses n ≡ Some s → is_none s.death ≡ true → size ≡ clause_size (clause_at s.clause)
+    → IsPool a → IsGivenUpBy a b job (Abandon job) → n ≡ by.given.number → slice_get a.proof.register.clauses n ≡ Some s → is_none s.death ≡ true → size ≡ clause_size (clause_at s.clause)
     → b.proof.queue.pairs ≡ with_pair (n, size) a.proof.queue.pairs → b.proof.queue.spare ≡ a.proof.queue.spare - 1
     → IsPool b
 given-up-living a b job n size s by is changed same there alive weight pairs spare =
@@ -403,7 +404,7 @@ given-up-living a b job n size s by is changed same there alive weight pairs spa
 -- where it has died the queue stays
 pub given-up-dead :
     (a b : Inside) (job n : ℕ) (s : Registration) (by : IsOutBy a job)
-    → IsPool a → IsGivenUpBy a b job → n ≡ by.given.number → slice_get a.proof.register.clauses n ≡ Some s → is_none s.death ≡ false
+    → IsPool a → IsGivenUpBy a b job (Abandon job) → n ≡ by.given.number → slice_get a.proof.register.clauses n ≡ Some s → is_none s.death ≡ false
     → b.proof.queue ≡ a.proof.queue
     → IsPool b
 given-up-dead a b job n s by is changed same there dead queue =

@@ -1,13 +1,12 @@
 -- The results of a batch in the bank, one after another.
-use Rattle.std.proofs.Common.{◌≡◌, ℕ, ◌+◌, ◌<◌, Bool, true, false, List, [], ◌∷◌, ◌++◌, map, length, take, get_or, append-nil, refl, ap, ap₂, sym, ◌∙◌, subst, arith}
-use Rattle.std.specs.Prelude.{Option, None, Some, cond, filter, filter_map, option_to_list, All, if◌then◌else◌}
+use Rattle.std.proofs.Common.{◌≡◌, ℕ, suc, ◌+◌, ◌<◌, Bool, true, false, List, [], ◌∷◌, ◌++◌, map, length, take, get_or, append-nil, refl, ap, ap₂, sym, ◌∙◌, subst, arith}
+use Rattle.std.specs.Prelude.{Option, None, Some, cond, filter_map, option_to_list, All}
 use Rattle.std.specs.List.{cons_option}
-use Rattle.std.proofs.lemmas.List.{take_more}
+use Rattle.std.proofs.lemmas.List.{take_more, length-append}
 use Rattle.std.proofs.lemmas.List.Sums.{sum_by-append, sum_by-cons}
 use Rattle.fol_base.specs.Literal.{clause_of}
 use Rattle.fol_base.specs.Clause.{TreeClause}
 use Rattle.fol_base.specs.declared.clause.Clause.{Clause}
-use Rattle.plain_types.specs.declared.sequence.NameLit.{NameLit}
 use Rattle.kernel_steps.specs.declared.key.Key.{Key}
 use Rattle.kernel_steps.specs.declared.step.Line.{Line}
 use Rattle.term_bank.specs.Literal.{AreLiteralsOf}
@@ -155,3 +154,21 @@ none-heavy es i e before below read light was =
     by (Kept lines results) other = refl
     by (Dropped redundancy) other = refl
     by Heavy other = absurd (other refl)
+
+-- ---- how many there are
+
+results-length : (bank : Bank) (table : Table) (lss : List (List Line)) (xs : List Interned) → AreInterned bank table lss xs → length lss ≡ length xs
+results-length bank table [] [] are = refl
+results-length bank table (lines ∷ lss) (x ∷ xs) are = ap suc (results-length bank table lss xs are.1)
+results-length bank table [] (x ∷ xs) are = absurd are
+results-length bank table (lines ∷ lss) [] are = absurd are
+
+-- one result for each list, and all their lines
+pub results-count :
+    (bank : Bank) (table : Table) (kss lss : List (List Line)) (xs ys : Results) → AreResults bank table kss xs → AreResults bank table lss ys
+    → (length (kss ++ lss) ≡ length xs.clauses.items + length ys.clauses.items) × (line_count (kss ++ lss) ≡ xs.lines + ys.lines)
+results-count bank table kss lss xs ys some others = (
+  length-append kss lss
+      ∙ ap₂ (λ (m n : ℕ). m + n) (results-length bank table kss xs.clauses.items some.interned) (results-length bank table lss ys.clauses.items others.interned),
+  sum_by-append length kss lss ∙ ap₂ (λ (m n : ℕ). m + n) (sym some.count) (sym others.count),
+)

@@ -39,6 +39,12 @@ pub mod ArrivalLemmas
 pub mod ProposedLemmas
 pub mod InternedLemmas
 pub mod RightBatchLemmas
+-- ReturnLemmas (the pool after a return).
+pub mod ReturnLemmas
+-- TakenLemmas (a batch that was taken).
+pub mod TakenLemmas
+-- StaleLemmas (a batch that was refused).
+pub mod StaleLemmas
 -- MemberLemmas (what a pool hands out).
 pub mod MemberLemmas
 -- Whole clauses and lines: JoinedLemmas (lists put together), FormedLemmas (what steps conclude), SizeLemmas (reducing steps), PoolLineLemmas

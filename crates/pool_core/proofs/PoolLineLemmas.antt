@@ -39,7 +39,7 @@ use Rattle.pool_core.specs.declared.outcome.Outcome.TheVariants.{Refuted}
 use Rattle.pool_core.proofs.FormedLemmas.{IsFormed, result-formed, result-canonical, each-formed, lines-fit}
 use Rattle.pool_core.proofs.JoinedLemmas.{get-left, get-right, get-taken, BehindAt, get-cases, get-mapped, EndsIn, last-ends, last-there, ends-behind, all-from}
 use Rattle.pool_core.proofs.StartLemmas.{all-at}
-use Rattle.pool_core.proofs.StateLemmas.{get-end}
+use Rattle.pool_core.proofs.EditLemmas.{get-end}
 
 -- ---- steps with other parents
 

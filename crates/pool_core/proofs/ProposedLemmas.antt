@@ -1,8 +1,8 @@
 -- The removals of a batch, one after another, and the work of a whole batch.
-use Rattle.std.proofs.Common.{◌≡◌, ℕ, suc, ◌+◌, ◌≤◌, Bool, true, false, not, ◌&&◌, ◌==◌, List, [], ◌∷◌, ◌++◌, map, length, append-nil, append_assoc, refl, ap, ap₂, sym, ◌∙◌, subst, arith}
-use Rattle.std.specs.Prelude.{Option, None, Some, cond, fold, filter, is_none, option_to_list, if◌then◌else◌}
+use Rattle.std.proofs.Common.{◌≡◌, ℕ, suc, Bool, true, false, not, ◌&&◌, ◌==◌, List, [], ◌∷◌, ◌++◌, map, length, append-nil, append_assoc, refl, ap, ap₂, sym, ◌∙◌, subst, arith}
+use Rattle.std.specs.Prelude.{Option, None, Some, cond, fold, is_none, option_to_list}
 use Rattle.std.specs.List.{list_all, cons_option}
-use Rattle.std.proofs.lemmas.Bool.{and_parts, and_from, cond-true, cond-false, not-true}
+use Rattle.std.proofs.lemmas.Bool.{cond-true, cond-false}
 use Rattle.std.proofs.lemmas.List.{map-append}
 use Rattle.kernel_steps.specs.declared.key.Key.{Key}
 use Rattle.kernel_steps.specs.declared.step.Line.{Line}
@@ -13,7 +13,7 @@ use Rattle.pool_core.specs.Record.{PoolRecord, Death, lives}
 use Rattle.pool_core.specs.Counting.{lines_of_fate, counts}
 use Rattle.pool_core.specs.Register.{is_living_at}
 use Rattle.pool_core.specs.Returning.{dies, replaced, removed, proposed, takes_effect}
-use Rattle.pool_core.specs.Placing.{AreInterned, AreArrivals, IsResultOf, IsReplacement, IsCountedStateOf, NotesDeaths, HasRoom, lines_of_removals, line_count, with_queue}
+use Rattle.pool_core.specs.Placing.{AreInterned, AreArrivals, IsResultOf, IsCountedStateOf, NotesDeaths, HasRoom, lines_of_removals, with_queue}
 use Rattle.pool_core.specs.State.{IsProofStateOf}
 use Rattle.pool_core.specs.declared.options.Options.{Options}
 use Rattle.pool_core.specs.declared.batch.Fate.{Fate}

@@ -1,11 +1,10 @@
 -- What is right of a batch serves its return: one nameless canonical result for each list of lines, whose parents are there, and justifiers
 -- that are registered.
-use Rattle.std.proofs.Common.{◌≡◌, ℕ, zero, suc, ◌+◌, ◌-◌, ◌<◌, ◌≤◌, Bool, true, false, not, ◌&&◌, ◌==◌, List, [], ◌∷◌, ◌++◌, map, length, take, get_or, refl, ap, ap₂, sym, ◌∙◌, subst, ⊎_elim, arith}
+use Rattle.std.proofs.Common.{◌≡◌, ℕ, zero, suc, ◌+◌, ◌-◌, ◌<◌, Bool, true, false, not, ◌==◌, List, [], ◌∷◌, ◌++◌, map, length, take, get_or, refl, ap, ap₂, sym, ◌∙◌, subst, ⊎_elim, arith}
 use Rattle.std.specs.Prelude.{Option, None, Some, cond, nat_lt, filter, flat_map, option_map, option_and_then, is_some, slice_get, if◌then◌else◌, All}
 use Rattle.std.specs.List.{list_all, AllByRecursion, cons_option}
-use Rattle.std.proofs.lemmas.Bool.{and_parts, and_from, true≢false, ltb-true, ltb-false, cond-false, cond-true}
+use Rattle.std.proofs.lemmas.Bool.{and_parts, and_from, true≢false, ltb-true}
 use Rattle.std.proofs.lemmas.List.{length-take}
-use Rattle.std.proofs.lemmas.List.Folds.{list_all-append}
 use Rattle.std.proofs.lemmas.Option.{none-some, same_Some, slice_get_within, get_or_from_slice_get}
 use Rattle.fol_base.specs.Clause.{TreeClause}
 use Rattle.fol_base.specs.Literal.{clause_of}
@@ -32,10 +31,9 @@ use Rattle.calculus.specs.Lifting.{among}
 use Rattle.pool_core.specs.Record.{GivenJob}
 use Rattle.pool_core.specs.Lines.{result_of}
 use Rattle.pool_core.specs.Reduction.{Lookup, AreLinesFrom, clauses_used, handed_back, IsRedundant, subsumers, same_numbers}
-use Rattle.pool_core.specs.Batches.{is_told, is_told_beside, IsReducedTo, IsRightFate, IsRightRemovalBy, IsRightRemoval, IsRightWork}
+use Rattle.pool_core.specs.Batches.{is_told, is_told_beside, IsRightFate, IsRightRemovalBy, IsRightWork}
 use Rattle.pool_core.specs.Placing.{HasParentsBelow, IsFitResult, IsFit, IsFitWork}
 use Rattle.pool_core.specs.declared.options.Options.{Options}
-use Rattle.pool_core.specs.declared.batch.Entry.{Entry}
 use Rattle.pool_core.specs.declared.batch.Fate.{Fate}
 use Rattle.pool_core.specs.declared.batch.Fate.TheVariants.{Kept, Dropped, Heavy}
 use Rattle.pool_core.specs.declared.batch.Redundancy.{Redundancy}

@@ -10,7 +10,6 @@ use Rattle.fol_base.specs.WellFormed.{SymbolUse}
 use Rattle.kernel_steps.specs.Conclusion.{empty_clause}
 use Rattle.bank_clause.specs.Clause.{clause_at, IsClauseOf}
 use Rattle.bank_clause.specs.declared.clause.BankClause.{BankClause}
-use Rattle.clause_queue.specs.Pairs.{Waiting}
 use Rattle.term_bank.specs.declared.bank.Bank.{Bank}
 use Rattle.term_bank.specs.declared.table.Table.{Table}
 use Rattle.pool_core.specs.Record.{PoolRecord, Registered, clauses_of, clause_numbered}
@@ -20,6 +19,7 @@ use Rattle.pool_core.specs.Noted.{AreOfBank, IsNoted, clause_in, change_at}
 use Rattle.pool_core.specs.Events.{events_of}
 use Rattle.pool_core.specs.Inputs.{AreInputs, IsLimit, IsHistoryOf, IsUseOf}
 use Rattle.pool_core.specs.Lawful.{IsAllowed}
+use Rattle.pool_core.specs.Placing.{KnowsMore}
 use Rattle.pool_core.specs.Started.{registered_at, IsOfTable}
 use Rattle.pool_core.specs.State.{origin_of, IsProofStateOf, IsStateOf, IsPool, job_entry}
 use Rattle.pool_core.specs.declared.options.Options.{Options}
@@ -175,14 +175,16 @@ one-more-event a b e notes is same events allowed state register noted told with
     (subst (λ k. All (IsNoted k) b.proof.notes.items) (sym (long-register a.proof.register.clauses b.proof.register.clauses register)) within)
     before
 
--- ---- a pool that changed nothing but its room
+-- ---- a pool that changed nothing but its room, and what its table knows
 
 pub record KeepsAll (a b : Inside) : Type 0 where
   pub origin : origin_of b ≡ origin_of a
-  pub table : b.table ≡ a.table
+  pub bank : b.table.bank ≡ a.table.bank
+  pub knows : KnowsMore a.table b.table
   pub register : b.proof.register.clauses ≡ a.proof.register.clauses
   pub positions : b.positions.items ≡ a.positions.items
-  pub queue : b.proof.queue ≡ a.proof.queue
+  pub pairs : b.proof.queue.pairs ≡ a.proof.queue.pairs
+  pub spare : a.proof.queue.spare ≤ b.proof.queue.spare
   pub jobs : b.jobs.entries ≡ a.jobs.entries
   pub history : events_of b.history ≡ events_of a.history
   pub history_len : vec_len b.history.events ≡ vec_len a.history.events
@@ -198,14 +200,20 @@ pub record KeepsAll (a b : Inside) : Type 0 where
   pub last_job : b.last_job ≡ a.last_job
   pub place : b.place ≡ a.place
 
--- the fields are of another record that tells the same of them
+-- so they are of another table that knows more
+pub learned-all : (bank : Bank) (known learned : Table) (ss : List Registration) → KnowsMore known learned → All (IsOfTable bank known) ss → All (IsOfTable bank learned) ss
+learned-all bank known learned ss more of =
+    All-weaker (IsOfTable bank known) (IsOfTable bank learned) (λ s is. record { of_bank = is.of_bank; known = more s.clause.literals is.known }) ss of
+
+-- the fields are those of the record where they tell the same
 pub kept-proof :
-    (bank : Bank) (table : Table) (s t : ProofState) (r : PoolRecord)
+    (bank : Bank) (known learned : Table) (s t : ProofState) (r : PoolRecord)
+    → KnowsMore known learned
     → t.register.clauses ≡ s.register.clauses → t.queue.pairs ≡ s.queue.pairs → t.steps.items ≡ s.steps.items → t.ended ≡ s.ended
-    → IsProofStateOf bank table s r → IsProofStateOf bank table t r
-kept-proof bank table s t r register queue steps ended is = record {
+    → IsProofStateOf bank known s r → IsProofStateOf bank learned t r
+kept-proof bank known learned s t r more register queue steps ended is = record {
   registered = ap (map registered_at) register ∙ is.registered;
-  of_table = subst (All (IsOfTable bank table)) (sym register) is.of_table;
+  of_table = subst (All (IsOfTable bank learned)) (sym register) (learned-all bank known learned s.register.clauses more is.of_table);
   registrations = λ n z there. is.registrations n z (ap (λ ss. slice_get ss n) (sym register) ∙ there);
   queue = queue ∙ is.queue;
   steps = steps ∙ is.steps;
@@ -219,8 +227,8 @@ kept-proof bank table s t r register queue steps ended is = record {
 kept-state : (a b : Inside) (r : PoolRecord) → KeepsAll a b → IsStateOf a r → IsStateOf b r
 kept-state a b r kept is = record {
   proof =
-      subst (λ (t : Table). IsProofStateOf t.bank t b.proof r) (sym kept.table)
-      (kept-proof a.table.bank a.table a.proof b.proof r kept.register (ap (λ (q : Waiting). q.pairs) kept.queue) kept.steps kept.ended is.proof);
+      subst (λ (bank : Bank). IsProofStateOf bank b.table b.proof r) (sym kept.bank)
+      (kept-proof a.table.bank a.table b.table a.proof b.proof r kept.knows kept.register kept.pairs kept.steps kept.ended is.proof);
   positions = kept.positions ∙ is.positions;
   jobs = kept.jobs ∙ is.jobs;
   counted = kept.counted ∙ is.counted;
@@ -228,7 +236,7 @@ kept-state a b r kept is = record {
   last_job = kept.last_job ∙ is.last_job;
   place = kept.place ∙ is.place;
   no_solver = is.no_solver;
-  queue_room = let same = ap (λ (q : Waiting). q.spare) kept.queue in let room = is.queue_room in omega (arith, same, room);
+  queue_room = let room = is.queue_room in omega (arith, kept.spare, room);
   history_room = let room = is.history_room in omega (arith, kept.history_len, kept.history_room, room);
   notes_room = let room = is.notes_room in omega (arith, kept.before_len, kept.before_room, room);
 }

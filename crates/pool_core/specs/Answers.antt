@@ -64,6 +64,12 @@ IsClaimedOf bank (Solve ticket) = Unit {0}
 IsClaimedOf bank (Idle n) = Unit {0}
 IsClaimedOf bank (Ended outcome) = Unit {0}
 
+-- those of an answer to a return
+abbrev pub IsBackOf : ℕ → Back → Type 0
+IsBackOf bank Taken = Unit {0}
+IsBackOf bank (Stale justifier event ticket) = IsTicketOf bank ticket
+IsBackOf bank (Void event) = Unit {0}
+
 -- ---- claims
 
 -- An answer to a claim, after which the history is the new one: the first that applies of an outcome that is refuted or spent, clauses for

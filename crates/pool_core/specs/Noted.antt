@@ -4,7 +4,7 @@ use Rattle.fol_base.specs.Clause.{TreeClause}
 use Rattle.kernel_steps.specs.Conclusion.{empty_clause}
 use Rattle.kernel_steps.specs.Split.{has_number}
 use Rattle.bank_clause.specs.Clause.{clause_at, IsClauseOf}
-use Rattle.pool_core.specs.Record.{PoolRecord, clauses_of, clause_numbered, position_of}
+use Rattle.pool_core.specs.Record.{PoolRecord, GivenJob, clauses_of, clause_numbered, position_of}
 use Rattle.pool_core.specs.Replay.{Origin, replay}
 use Rattle.pool_core.specs.News.{TreeChange, activated, died, change_of, news_since}
 use Rattle.pool_core.specs.declared.event.Event.{Event}
@@ -45,4 +45,14 @@ pub record IsNextTicket (origin : Origin) (history : List Event) (told number : 
   pub clause : clauses_of (replay origin history) number ≡ Some (clause_at ticket.clause)
   pub news : map change_of ticket.news ≡ news_since origin history told ++ first_told (replay origin history) number
   pub left : ticket.left ≡ origin.options.inferences - length (replay origin history).counted
+  pub as_of : ticket.as_of ≡ length history + 1
+
+-- the ticket of a job that is out, told anew, before the event by which it is
+pub record IsTicketAgain (origin : Origin) (history : List Event) (told job : ℕ) (given : GivenJob) (ticket : Ticket) : Type 0 where
+  pub same : ticket.job ≡ job
+  pub number : ticket.number ≡ given.number
+  pub position : ticket.position ≡ position_of (replay origin history) given.number
+  pub clause : clauses_of (replay origin history) given.number ≡ Some (clause_at ticket.clause)
+  pub news : map change_of ticket.news ≡ news_since origin history told
+  pub left : ticket.left ≡ given.left
   pub as_of : ticket.as_of ≡ length history + 1

@@ -1,5 +1,5 @@
 -- Results of a batch that are in the bank, and room for them. Only private functions cite this.
-use Rattle.std.specs.Prelude.{◌≡◌, ℕ, ◌+◌, ◌<◌, ◌≤◌, Bool, true, false, not, ◌&&◌, ◌||◌, List, [], ◌∷◌, ◌++◌, length, map, sum_by, filter_map, slice_get, Option, None, Some, is_none, All, vec_len, vec_capacity, if◌then◌else◌}
+use Rattle.std.specs.Prelude.{◌≡◌, ℕ, ◌+◌, ◌<◌, ◌≤◌, Bool, true, false, not, ◌&&◌, ◌||◌, List, [], ◌∷◌, ◌++◌, length, map, sum_by, filter_map, slice_get, Option, None, Some, is_none, All, IsTrue, vec_len, vec_capacity, if◌then◌else◌}
 use Rattle.std.specs.List.{AllByRecursion}
 use Rattle.fol_base.specs.Canonical.{IsCanonical}
 use Rattle.fol_base.specs.Literal.{clause_of}
@@ -14,17 +14,23 @@ use Rattle.term_bank.specs.declared.table.Table.{Table}
 use Rattle.bank_clause.specs.Clause.{clause_at, IsKnown}
 use Rattle.clause_queue.specs.Pairs.{without}
 use Rattle.kernel_steps.specs.declared.key.Key.{Key}
-use Rattle.pool_core.specs.Record.{PoolRecord, Death}
+use Rattle.pool_core.specs.Answers.{dead_justifier}
+use Rattle.pool_core.specs.Inputs.{IsRightBatch}
+use Rattle.pool_core.specs.Lawful.{IsGivenOut}
+use Rattle.pool_core.specs.Record.{PoolRecord, Death, lives}
+use Rattle.pool_core.specs.Replay.{Origin, replay}
 use Rattle.pool_core.specs.Lines.{result_of}
 use Rattle.pool_core.specs.Counting.{lines_of_fate, lines_of_entries, keys_of, refutes, result_comes}
 use Rattle.pool_core.specs.Returning.{heavy_entries}
 use Rattle.pool_core.specs.State.{IsProofStateOf}
+use Rattle.pool_core.specs.declared.batch.Batch.{Batch}
 use Rattle.pool_core.specs.declared.batch.Entry.{Entry}
 use Rattle.pool_core.specs.declared.batch.Fate.{Fate}
 use Rattle.pool_core.specs.declared.batch.Fate.TheVariants.{Kept, Dropped, Heavy}
 use Rattle.pool_core.specs.declared.batch.Removal.{Removal}
 use Rattle.pool_core.specs.declared.batch.Work.{Work}
 use Rattle.pool_core.specs.declared.batch.Work.TheVariants.{Gone, Met}
+use Rattle.pool_core.specs.declared.event.Event.{Event}
 use Rattle.pool_core.specs.declared.interning.Interned.{Interned}
 use Rattle.pool_core.specs.declared.interning.Results.{Results}
 use Rattle.pool_core.specs.declared.interning.Prepared.{Prepared}
@@ -111,11 +117,25 @@ pub record IsFitWork (work : Work) : Type 0 where
   pub entries : All (λ (e : Entry). IsFit e.fate) (entries_of work)
   pub removals : All (λ (m : Removal). IsFit m.fate) (removals_of work)
 
--- the results of the work are in the bank, and the names of what it sets aside are copied
-pub record IsPrepared (bank : Bank) (table : Table) (work : Work) (prepared : Prepared) : Type 0 where
+-- the results of the work are in the bank
+pub record IsInBank (bank : Bank) (table : Table) (work : Work) (prepared : Prepared) : Type 0 where
   pub entries : AreResults bank table (lines_of_entries (entries_of work)) prepared.entries
   pub removals : AreResults bank table (lines_of_removals (removals_of work)) prepared.removals
-  pub heavy : prepared.heavy.items ≡ keys_of (heavy_entries (entries_of work))
+
+-- the names of what the work sets aside
+abbrev pub heavy_keys_of : Work → List Key
+heavy_keys_of work = keys_of (heavy_entries (entries_of work))
+
+-- and the names of what it sets aside are copied
+pub record IsPrepared (bank : Bank) (table : Table) (work : Work) (prepared : Prepared) : Type 0 where
+  pub in_bank : IsInBank bank table work prepared
+  pub heavy : prepared.heavy.items ≡ heavy_keys_of work
+
+-- The batch is right for its job, whose clause has that number and lives; where the clause goes, its justifiers live.
+pub record IsTakeable (origin : Origin) (history : List Event) (number : ℕ) (batch : Batch) : Type 0 where
+  pub right : IsRightBatch origin history batch
+  pub living : IsGivenOut (replay origin history) batch.job (λ j. (j.number ≡ number) × IsTrue (lives (replay origin history) number))
+  pub justified : dead_justifier (replay origin history) batch.work ≡ None
 
 -- ---- room
 
@@ -152,7 +172,7 @@ pub record NotesDeaths (r r' : PoolRecord) (before now : List Note) : Type 0 whe
 
 -- The given clause isn't in the queue, which else is that of the record without its job.
 pub record IsWorkOf (bank : Bank) (table : Table) (s : ProofState) (number : ℕ) (work : Work) (prepared : Prepared) (pairs : List (ℕ × ℕ)) (r : PoolRecord) : Type 0 where
-  pub in_bank : IsPrepared bank table work prepared
+  pub in_bank : IsInBank bank table work prepared
   pub queue : s.queue.pairs ≡ without number pairs
   pub proof : IsProofStateOf bank table (with_queue pairs s) r
 

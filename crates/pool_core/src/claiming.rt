@@ -143,7 +143,7 @@ impl Pool {
     }
 
     /// The activations and deaths since a place in the history.
-    fn news(&self, alloc: Global, told: usize) -> Mem<News>
+    pub(crate) fn news(&self, alloc: Global, told: usize) -> Mem<News>
         requires { told ≤ length self.now.history }
         ensures told { IfOk result (λ news. map change_of news ≡ news_since self.now.origin self.now.history told) }
         ensures of_bank { IfOk result (All (IsChangeOf self.now.bank)) }
@@ -256,7 +256,7 @@ fn activate(
 }
 
 /// The next number. One past 64 bits is told as want of memory.
-fn one_more(number: u64) -> Mem<u64>
+pub(crate) fn one_more(number: u64) -> Mem<u64>
     ensures { IfOk result (λ next. next ≡ number + 1) }
 {
     match number.checked_add(1) {

@@ -1,5 +1,9 @@
 // The events of a pool's history. Contracts see a history as the list of them.
 
+ghost use Rattle.std.specs.Prelude.{◌≡◌, Some};
+ghost use Rattle.pool_core.specs.declared.batch.Batch.{Batch};
+ghost use Rattle.pool_core.specs.declared.event.Event.TheVariants.{Return};
+
 use crate::batch::Batch;
 use sat_core::{Log, Truths};
 
@@ -22,4 +26,16 @@ pub enum Event {
     ReturnRefuted { job: u64, log: Log },
     /// A job was given up.
     Abandon(u64),
+}
+
+impl Event {
+    /// The batch that was taken, if one was.
+    pub(crate) fn into_batch(self) -> Option<Batch>
+        ensures { (batch : Batch) → self ≡ Return batch → result ≡ Some batch }
+    {
+        match self {
+            Event::Return(batch) => Some(batch),
+            _other => None,
+        }
+    }
 }

@@ -2,7 +2,9 @@
 
 ghost use Rattle.std.specs.Prelude.{◌≡◌, ◌+◌, ◌<◌, ◌≤◌, ◌++◌, [], ◌∷◌, length, vec_len, vec_capacity, OnOk};
 ghost use Rattle.pool_core.specs.Events.{events_of};
+ghost use Rattle.pool_core.specs.declared.event.Event.TheVariants.{Return};
 
+use crate::batch::Batch;
 use crate::event::Event;
 use plain_types::Mem;
 use std::alloc::Global;
@@ -51,5 +53,20 @@ impl History {
         ensures room { vec_capacity self.new.events ≡ vec_capacity self.old.events }
     {
         self.events.push_reserved(Snapshot::of(event));
+    }
+    /// Adds the return of a batch, which comes back. There is room for it.
+    pub(crate) fn push_return(&mut self, batch: Batch) -> Batch
+        requires { vec_len self.old.events < vec_capacity self.old.events }
+        ensures batch { result ≡ batch }
+        ensures events { events_of self.new ≡ events_of self.old ++ Return batch ∷ [] }
+        ensures len { vec_len self.new.events ≡ vec_len self.old.events + 1 }
+        ensures room { vec_capacity self.new.events ≡ vec_capacity self.old.events }
+    {
+        let event = Event::Return(batch);
+        self.push(&event);
+        let Some(batch) = event.into_batch() else {
+            unreachable!();
+        };
+        batch
     }
 }

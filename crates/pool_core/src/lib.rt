@@ -17,7 +17,9 @@ mod placing;
 mod pool;
 mod proof_state;
 mod register;
+mod returning;
 mod start;
+mod taking;
 mod ticket;
 
 pub use batch::{Batch, Entry, Fate, MetEntries, Redundancy, Removal, Removals, Work};
@@ -26,6 +28,7 @@ pub use history::History;
 pub use options::Options;
 pub use outcome::Outcome;
 pub use pool::{Keys, Pool};
+pub use returning::NotTaken;
 pub use ticket::{Back, Change, Claimed, News, PropTicket, Ticket};
 
 pub mod laws;

@@ -1,6 +1,6 @@
 // The registered clauses of a pool: by number, and the living ones by what they say.
 
-ghost use Rattle.std.specs.Prelude.{◌≡◌, ℕ, ◌+◌, ◌<◌, ◌≤◌, ◌^◌, ◌++◌, [], ◌∷◌, None, Some, false, is_none, true, length, position, slice_get, slice_set, IfSome, OnOk};
+ghost use Rattle.std.specs.Prelude.{◌≡◌, ℕ, ◌+◌, ◌<◌, ◌≤◌, ◌^◌, ◌++◌, [], ◌∷◌, None, Some, false, is_none, is_some, find, true, length, position, slice_get, slice_set, IfSome, OnOk};
 ghost use Rattle.std.specs.List.{list_all};
 ghost use Rattle.pool_core.specs.Register.{is_living_copy, death_at, is_living_at, at_position, dead_in, made_active};
 ghost use Rattle.pool_core.specs.declared.register.Registration.{Registration};
@@ -106,6 +106,16 @@ impl Register {
         ensures { result ≡ list_all (is_living_at self.now.clauses) numbers.now }
     {
         numbers.iter().all(|number| self.is_living(*number))
+    }
+
+    /// The first of the numbers whose clause died.
+    pub(crate) fn first_dead(&self, numbers: &[u64]) -> Option<u64>
+        ensures { result ≡ find (λ n. is_some (death_at self.now.clauses n)) numbers.now }
+    {
+        numbers
+            .iter()
+            .copied()
+            .find(|number| self.death(*number).is_some())
     }
 
     /// Makes room for so many more clauses, and leaves the clauses as they are. Past 2^32 clauses there are no numbers for more.

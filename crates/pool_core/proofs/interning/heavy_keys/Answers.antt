@@ -1,4 +1,4 @@
-use Rattle.std.proofs.Common.{◌≡◌, List, Global, ap, sym, ◌∙◌}
+use Rattle.std.proofs.Common.{List, Global, ap, ◌∙◌}
 use Rattle.std.proofs.lemmas.List.{take_all}
 use Rattle.kernel_steps.specs.declared.key.Key.{Key}
 use Rattle.std.specs.declared.vec.Vec.{Vec}

@@ -1,7 +1,7 @@
-use Rattle.std.proofs.Common.{◌≡◌, List, [], ◌++◌, take, sym, subst}
+use Rattle.std.proofs.Common.{List, take, sym, subst}
 use Rattle.std.proofs.lemmas.List.{take_all}
 use Rattle.kernel_steps.specs.declared.step.Line.{Line}
-use Rattle.pool_core.specs.Counting.{lines_of_fate, lines_of_entries}
+use Rattle.pool_core.specs.Counting.{lines_of_fate}
 use Rattle.pool_core.specs.Placing.{AreResults, lines_of_removals}
 use Rattle.pool_core.specs.declared.batch.Removal.{Removal}
 use Rattle.pool_core.proofs.InternedLemmas.{no-results, mapped-more}

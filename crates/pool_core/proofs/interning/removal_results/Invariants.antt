@@ -1,6 +1,5 @@
 use Rattle.std.proofs.Common.{take}
 use Rattle.term_bank.specs.Table.{IsTableOf}
-use Rattle.pool_core.specs.Counting.{lines_of_entries}
 use Rattle.pool_core.specs.Placing.{AreResults, KnowsMore, lines_of_removals}
 use Rattle.pool_core.proofs.interning.removal_results.Given as goal
 

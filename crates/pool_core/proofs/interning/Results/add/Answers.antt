@@ -1,4 +1,4 @@
-use Rattle.std.proofs.Common.{◌≡◌, List, ◌++◌, get_or, refl, ap, sym, ◌∙◌, subst, arith}
+use Rattle.std.proofs.Common.{List, ◌++◌, get_or, ap, sym, ◌∙◌, subst, arith}
 use Rattle.std.specs.Prelude.{option_to_list}
 use Rattle.fol_base.specs.declared.clause.Clause.{Clause}
 use Rattle.pool_core.specs.Counting.{lines_of_fate}

@@ -20,10 +20,12 @@ pub invariant_of-self : goal.invariant_of-self
 invariant_of-self c =
     kept-pool c.self.inside _ c.self.invariant (record {
       origin = refl;
-      table = refl;
+      bank = refl;
+      knows = λ ls known. known;
       register = refl;
       positions = c.take_memory.ensures.positions;
-      queue = refl;
+      pairs = refl;
+      spare = omega arith;
       jobs = c.in_err-take_memory.ensures.no_job;
       history = c.take_memory.ensures.events;
       history_len = c.take_memory.ensures.events_len;

@@ -1,14 +1,13 @@
-use Rattle.std.proofs.Common.{◌≡◌, ℕ, ◌+◌, ◌≤◌, Bool, true, ◌&&◌, List, [], ◌∷◌, ◌++◌, length, append-nil, refl, ap, sym, ◌∙◌, subst, arith}
-use Rattle.std.specs.Prelude.{fold, is_none, option_to_list}
+use Rattle.std.proofs.Common.{◌≡◌, List, [], ◌∷◌, length, refl, ap, sym, ◌∙◌, subst, arith}
+use Rattle.std.specs.Prelude.{fold}
 use Rattle.pool_core.specs.Returning.{proposed}
 use Rattle.std.specs.Vec.Iter.{into_iter_items}
 use Rattle.pool_core.specs.Counting.{lines_of_fate}
 use Rattle.pool_core.specs.Placing.{HasRoom, NotesDeaths, IsCountedStateOf, lines_of_removals}
 use Rattle.pool_core.specs.Record.{PoolRecord}
 use Rattle.pool_core.specs.declared.batch.Removal.{Removal}
-use Rattle.pool_core.specs.declared.pool.ProofState.{ProofState}
 use Rattle.pool_core.proofs.ArrivalLemmas.{nothing-left}
-use Rattle.pool_core.proofs.ProposedLemmas.{AreProposedSoFar, proposals-begin, taken-result, state-died, one-removed, one-left-out, some-proposal, room-less, room-of-one, room-with-more}
+use Rattle.pool_core.proofs.ProposedLemmas.{AreProposedSoFar, proposals-begin, taken-result, one-removed, one-left-out, some-proposal, room-less, room-of-one, room-with-more}
 use Rattle.pool_core.proofs.pool.ProofState.propose.Goals as goal
 
 pub loop-removal-init : goal.loop-removal-init

@@ -1,5 +1,5 @@
-use Rattle.std.proofs.Common.{◌≡◌, ℕ, ◌++◌, List, [], ◌∷◌, length, refl, ap, sym, ◌∙◌, subst, arith}
-use Rattle.std.specs.Prelude.{Option, None, Some, nat_le, option_to_list}
+use Rattle.std.proofs.Common.{◌≡◌, ◌++◌, List, length, refl, sym, ◌∙◌, subst, arith}
+use Rattle.std.specs.Prelude.{Option, None, nat_le, option_to_list}
 use Rattle.kernel_steps.specs.declared.step.Line.{Line}
 use Rattle.pool_core.specs.Counting.{lines_of_fate}
 use Rattle.pool_core.specs.Placing.{IsInterned, IsResultOf, IsCountedStateOf, HasRoom}

@@ -1,8 +1,7 @@
-use Rattle.std.proofs.Common.{◌≡◌, ℕ, suc, ◌<◌, List, [], ◌∷◌, ◌++◌, length, refl, ap, sym, ◌∙◌, subst, arith}
+use Rattle.std.proofs.Common.{List, [], ◌∷◌, ◌++◌, length, refl, sym, ◌∙◌, subst}
 use Rattle.std.specs.Prelude.{fold}
 use Rattle.std.specs.Vec.Iter.{into_iter_items}
 use Rattle.std.proofs.lemmas.Option.{slice_get_within}
-use Rattle.kernel_steps.specs.declared.step.Line.{Line}
 use Rattle.pool_core.specs.Counting.{counts, keys_of, lines_of_entries, lines_of_fate}
 use Rattle.pool_core.specs.Placing.{AreInterned, IsCountedStateOf, NotesDeaths, HasRoom, IsOfGiven, entries_of, removals_of, lines_of_removals, with_queue}
 use Rattle.pool_core.specs.Record.{PoolRecord}

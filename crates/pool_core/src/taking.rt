@@ -1,0 +1,163 @@
+// Batches that are taken: first all memory that a return needs, and then what takes none.
+
+ghost use Rattle.std.specs.Prelude.{◌≡◌, ◌+◌, ◌≤◌, ◌++◌, [], ◌∷◌, true, is_some, length, IfOk, IfErr, OnOk, OnErr, vec_len, vec_capacity};
+ghost use Rattle.term_bank.specs.Bank.{identity};
+ghost use Rattle.term_bank.specs.Table.{IsTableOf};
+ghost use Rattle.pool_core.specs.Counting.{lines_of_entries};
+ghost use Rattle.pool_core.specs.Placing.{KnowsMore, HasRoom, IsFitWork, IsInBank, IsTakeable, entries_of, removals_of, lines_of_removals, heavy_keys_of};
+ghost use Rattle.pool_core.specs.Replay.{replay};
+ghost use Rattle.pool_core.specs.declared.event.Event.TheVariants.{Return};
+
+use crate::batch::{Batch, Work};
+use crate::event::Event;
+use crate::interning::{Prepared, prepare};
+use crate::pool::{Pool, ProofState};
+use crate::returning::NotTaken;
+use kernel_steps::Key;
+use plain_types::{Mem, NoMemory};
+use std::alloc::Global;
+use std::sync::Wait;
+use term_bank::{Bank, Table};
+
+impl Pool {
+    /// Takes the batch of a job whose given clause lives. After want of memory the pool is as before, and the batch comes back.
+    pub(crate) fn take<R: Wait>(
+        &mut self,
+        rt: &R,
+        alloc: Global,
+        bank: &Bank,
+        number: u32,
+        batch: Batch,
+    ) -> Result<(), NotTaken>
+        requires bank { self.old.bank ≡ identity bank.now }
+        requires takeable { IsTakeable self.old.origin self.old.history number batch }
+        ensures bank { self.new.bank ≡ self.old.bank }
+        ensures origin { self.new.origin ≡ self.old.origin }
+        ensures history { OnOk result (self.new.history ≡ self.old.history ++ Return batch ∷ []) }
+        ensures unchanged { OnErr result (self.new ≡ self.old) }
+        ensures batch { IfErr result (λ refused. refused.batch ≡ batch) }
+    {
+        if self.proof.ended.is_some() {
+            self.close(number, batch);
+            return Ok(());
+        }
+        let memory = take_memory(
+            rt,
+            alloc,
+            bank,
+            &mut self.table,
+            &mut self.proof,
+            &mut self.counted,
+            &mut self.set_aside,
+            self.jobs.len(),
+            &batch.work,
+        );
+        let Ok(prepared) = memory else {
+            return Err(NotTaken { batch });
+        };
+        self.jobs.remove(&batch.job);
+        self.notes_before.push_reserved(self.proof.notes.len());
+        let event = self.history.len();
+        let Batch { work, .. } = self.history.push_return(batch);
+        self.proof.work(
+            bank,
+            self.options,
+            &mut self.counted,
+            number,
+            event,
+            work,
+            prepared,
+        );
+        Ok(())
+    }
+
+    /// Takes the batch of a job once the pool is refuted or spent: the job is done, and that is all.
+    fn close(&mut self, number: u32, batch: Batch)
+        requires ended { is_some (replay self.old.origin self.old.history).ended ≡ true }
+        requires takeable { IsTakeable self.old.origin self.old.history number batch }
+        ensures bank { self.new.bank ≡ self.old.bank }
+        ensures origin { self.new.origin ≡ self.old.origin }
+        ensures history { self.new.history ≡ self.old.history ++ Return batch ∷ [] }
+    {
+        self.jobs.remove(&batch.job);
+        self.notes_before.push_reserved(self.proof.notes.len());
+        self.history.push(&Event::Return(batch));
+        self.proof.finish(number);
+    }
+}
+
+impl Work {
+    /// How many entries there are.
+    fn entry_count(&self) -> usize
+        ensures { result ≡ length (entries_of self.now) }
+    {
+        match self {
+            Work::Gone(_) => 0,
+            Work::Met { entries, .. } => entries.len(),
+        }
+    }
+
+    /// How many clauses may go.
+    fn removal_count(&self) -> usize
+        ensures { result ≡ length (removals_of self.now) }
+    {
+        match self {
+            Work::Gone(_) => 1,
+            Work::Met { removals, .. } => removals.len(),
+        }
+    }
+}
+
+/// Takes the memory of a return: the results in the bank, room for whatever the work may bring and for the clauses of so many jobs that are out,
+/// and at last the names that are set aside, which stay out after want of memory.
+fn take_memory<R: Wait>(
+    rt: &R,
+    alloc: Global,
+    bank: &Bank,
+    table: &mut Table,
+    proof: &mut ProofState,
+    counted: &mut Vec<Key>,
+    set_aside: &mut Vec<Key>,
+    out: usize,
+    work: &Work,
+) -> Mem<Prepared>
+    requires table { IsTableOf bank.now table.old }
+    requires fit { IsFitWork work.now }
+    ensures table { IsTableOf bank.now table.new }
+    ensures knows { KnowsMore table.old table.new }
+    ensures prepared { IfOk result (IsInBank bank.now table.new work.now) }
+    ensures clauses { proof.new.register.clauses ≡ proof.old.register.clauses }
+    ensures pairs { proof.new.queue.pairs ≡ proof.old.queue.pairs }
+    ensures spare { proof.old.queue.spare ≤ proof.new.queue.spare }
+    ensures notes { proof.new.notes.items ≡ proof.old.notes.items }
+    ensures steps { proof.new.steps.items ≡ proof.old.steps.items }
+    ensures ended { proof.new.ended ≡ proof.old.ended }
+    ensures room { OnOk result
+        (HasRoom proof.new (lines_of_entries (entries_of work.now) ++ lines_of_removals (removals_of work.now)) (length (removals_of work.now)) out) }
+    ensures counted { counted.new.items ≡ counted.old.items }
+    ensures counted_room { OnOk result
+        (vec_len counted.new + (length (entries_of work.now) + length (removals_of work.now)) ≤ vec_capacity counted.new) }
+    ensures set_aside { OnOk result (set_aside.new.items ≡ set_aside.old.items ++ heavy_keys_of work.now) }
+    ensures not_set_aside { OnErr result (set_aside.new.items ≡ set_aside.old.items) }
+{
+    let mut prepared = prepare(rt, alloc, bank, table, work)?;
+    let clauses = sum(
+        prepared.entries.clauses.len(),
+        prepared.removals.clauses.len(),
+    )?;
+    let lines = sum(prepared.entries.lines, prepared.removals.lines)?;
+    proof.reserve(clauses, lines, work.removal_count(), out)?;
+    counted.reserve(sum(work.entry_count(), work.removal_count())?)?;
+    set_aside.append(&mut prepared.heavy)?;
+    Ok(prepared)
+}
+
+/// The sum of two sizes. One past 64 bits is told as want of memory.
+fn sum(first: usize, second: usize) -> Mem<usize>
+    ensures { IfOk result (λ all. all ≡ first + second) }
+{
+    match first.checked_add(second) {
+        Some(all) => Ok(all),
+        None => Err(NoMemory),
+    }
+}
