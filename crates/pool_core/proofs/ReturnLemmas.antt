@@ -8,7 +8,6 @@ use Rattle.kernel_steps.specs.Split.{has_number}
 use Rattle.bank_clause.specs.Clause.{clause_at}
 use Rattle.clause_queue.specs.Pairs.{Waiting}
 use Rattle.pool_core.specs.Record.{PoolRecord, GivenJob, SolverJob, Death, clause_numbered, has_died, is_dead, lives, given_job, without_job}
-use Rattle.pool_core.specs.Claiming.{ready}
 use Rattle.pool_core.specs.Register.{death_at}
 use Rattle.pool_core.specs.Replay.{after, without_solver}
 use Rattle.pool_core.specs.News.{TreeChange, activated}
@@ -19,7 +18,7 @@ use Rattle.pool_core.specs.Events.{events_of}
 use Rattle.pool_core.specs.State.{origin_of, IsStateOf, IsPool, pair_of}
 use Rattle.pool_core.specs.declared.batch.Work.{Work}
 use Rattle.pool_core.specs.declared.batch.Work.TheVariants.{Gone, Met}
-use Rattle.pool_core.specs.declared.event.Event.TheVariants.{Void, Abandon}
+use Rattle.pool_core.specs.declared.event.Event.TheVariants.{Void}
 use Rattle.pool_core.specs.declared.options.Options.{Options}
 use Rattle.pool_core.specs.declared.pool.Pool.TheInside.{Inside}
 use Rattle.pool_core.specs.declared.register.Registration.{Registration}

@@ -1,35 +1,30 @@
 -- A pool after a stale return.
-use Rattle.std.proofs.Common.{◌≡◌, ℕ, suc, ◌+◌, ◌<◌, ◌≤◌, Bool, true, false, not, ◌&&◌, ◌||◌, ◌==◌, List, [], ◌∷◌, ◌++◌, map, length, append-nil, refl, ap, ap₂, sym, ◌∙◌, subst, arith}
-use Rattle.std.specs.Prelude.{Option, None, Some, cond, find, filter, vec_len, vec_capacity, All, IsTrue, if◌then◌else◌}
+use Rattle.std.proofs.Common.{◌≡◌, ℕ, ◌+◌, ◌<◌, ◌≤◌, Bool, true, false, not, ◌&&◌, ◌||◌, ◌==◌, List, [], ◌∷◌, ◌++◌, map, length, append-nil, refl, ap, ap₂, sym, ◌∙◌, subst, arith}
+use Rattle.std.specs.Prelude.{Option, Some, cond, find, filter, vec_len, vec_capacity, All, IsTrue, if◌then◌else◌}
 use Rattle.std.specs.List.{list_any}
 use Rattle.std.proofs.Math.Seq.{drop-length}
-use Rattle.std.proofs.lemmas.Bool.{and_parts, and_from, true≢false}
 use Rattle.std.proofs.lemmas.List.{length-append, length-map}
 use Rattle.std.proofs.lemmas.List.Elements.{All-map, All-weaker}
 use Rattle.std.proofs.lemmas.Option.{none-some, same_Some}
-use Rattle.bank_clause.specs.Clause.{clause_at}
 use Rattle.fol_base.specs.WellFormed.{SymbolUse}
 use Rattle.kernel_steps.specs.Split.{has_number}
 use Rattle.term_bank.specs.declared.table.Table.{Table}
 use Rattle.pool_core.specs.Answers.{IsTicket, dead_justifier}
-use Rattle.pool_core.specs.Batches.{IsRightGone, IsRightWork}
+use Rattle.pool_core.specs.Batches.{IsRightWork}
 use Rattle.pool_core.specs.Claiming.{ready}
 use Rattle.pool_core.specs.Events.{events_of}
 use Rattle.pool_core.specs.Inputs.{IsUseOf, IsRightBatch}
 use Rattle.pool_core.specs.Lawful.{IsAllowed, IsGivenOut, IsStale}
-use Rattle.pool_core.specs.News.{TreeChange, change_of, changes_between, news_since}
+use Rattle.pool_core.specs.News.{TreeChange, changes_between, news_since}
 use Rattle.pool_core.specs.Noted.{IsNoted, IsTicketAgain, change_at}
-use Rattle.pool_core.specs.Record.{PoolRecord, GivenJob, Death, clauses_of, clause_numbered, numbers_of, lives, is_dead, is_out, waits, is_awake, position_of, given_job}
-use Rattle.pool_core.specs.Replay.{Origin, after, retold, told_anew, replay}
-use Rattle.pool_core.specs.Started.{registered_at}
+use Rattle.pool_core.specs.Record.{PoolRecord, GivenJob, Death, clauses_of, clause_numbered, numbers_of, lives, is_dead, is_awake, position_of, given_job}
+use Rattle.pool_core.specs.Replay.{Origin, after, retold, replay}
 use Rattle.pool_core.specs.State.{origin_of, IsProofStateOf, IsStateOf, IsPool, pair_of, job_entry}
 use Rattle.pool_core.specs.declared.batch.Batch.{Batch}
-use Rattle.pool_core.specs.declared.batch.Removal.{Removal}
 use Rattle.pool_core.specs.declared.batch.Work.{Work}
 use Rattle.pool_core.specs.declared.batch.Work.TheVariants.{Gone, Met}
 use Rattle.pool_core.specs.declared.event.Event.{Event}
 use Rattle.pool_core.specs.declared.event.Event.TheVariants.{Stale}
-use Rattle.pool_core.specs.declared.options.Options.{Options}
 use Rattle.pool_core.specs.declared.pool.Pool.TheInside.{Inside}
 use Rattle.pool_core.specs.declared.pool.ProofState.{ProofState}
 use Rattle.pool_core.specs.declared.ticket.Ticket.{Ticket}

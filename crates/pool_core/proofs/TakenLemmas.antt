@@ -1,5 +1,5 @@
 -- A pool after a batch was taken.
-use Rattle.std.proofs.Common.{◌≡◌, ℕ, zero, suc, ◌+◌, ◌<◌, ◌≤◌, ◌%◌, Bool, true, false, not, ◌&&◌, List, [], ◌∷◌, ◌++◌, map, length, drop, append-nil, refl, ap, ap₂, sym, ◌∙◌, subst, arith}
+use Rattle.std.proofs.Common.{◌≡◌, ℕ, suc, ◌+◌, ◌<◌, ◌≤◌, ◌%◌, Bool, true, false, not, List, [], ◌∷◌, ◌++◌, map, length, drop, append-nil, refl, ap, ap₂, sym, ◌∙◌, subst, arith}
 use Rattle.std.specs.Prelude.{Option, None, Some, cond, is_none, is_some, nat_lt, nat_le, slice_get, option_map, unwrap_or, find, fold, vec_len, vec_capacity, All, IsTrue, if◌then◌else◌}
 use Rattle.std.specs.List.{list_all}
 use Rattle.std.specs.Ordering.{nat_cmp}
@@ -27,21 +27,19 @@ use Rattle.pool_core.specs.Events.{events_of}
 use Rattle.pool_core.specs.Inputs.{IsUseOf}
 use Rattle.pool_core.specs.Lawful.{IsAllowed, IsGivenOut, justifiers_live}
 use Rattle.pool_core.specs.News.{TreeChange, changes_between}
-use Rattle.pool_core.specs.Noted.{IsNoted, clause_in, change_at}
+use Rattle.pool_core.specs.Noted.{IsNoted, change_at}
 use Rattle.pool_core.specs.Placing.{KnowsMore, NotesDeaths, IsFitWork, IsInBank, IsTakeable, IsWorkOf, IsLiving, IsOfGiven, HasRoom, entries_of, with_queue}
 use Rattle.pool_core.specs.Record.{PoolRecord, Registered, GivenJob, Death, clauses_of, clause_numbered, is_dead, lives, given_job, without_job}
-use Rattle.pool_core.specs.Replay.{Origin, after, with_events, replay}
-use Rattle.pool_core.specs.Returning.{dies, replaced, removed, takes_effect, proposed, becomes_active, heavy_entries, sets_aside, worked, taken, returns_to}
+use Rattle.pool_core.specs.Replay.{after, with_events}
+use Rattle.pool_core.specs.Returning.{dies, replaced, removed, takes_effect, proposed, becomes_active, heavy_entries, sets_aside, worked, returns_to}
 use Rattle.pool_core.specs.Started.{registered_at, IsOfTable}
 use Rattle.pool_core.specs.State.{origin_of, IsProofStateOf, IsStateOf, IsPool, pair_of, job_entry}
 use Rattle.pool_core.specs.declared.batch.Batch.{Batch}
-use Rattle.pool_core.specs.declared.batch.Entry.{Entry}
 use Rattle.pool_core.specs.declared.batch.Fate.{Fate}
 use Rattle.pool_core.specs.declared.batch.Fate.TheVariants.{Kept, Dropped, Heavy}
 use Rattle.pool_core.specs.declared.batch.Removal.{Removal}
 use Rattle.pool_core.specs.declared.batch.Work.{Work}
 use Rattle.pool_core.specs.declared.batch.Work.TheVariants.{Gone, Met}
-use Rattle.pool_core.specs.declared.event.Event.{Event}
 use Rattle.pool_core.specs.declared.event.Event.TheVariants.{Return}
 use Rattle.pool_core.specs.declared.interning.Prepared.{Prepared}
 use Rattle.pool_core.specs.declared.options.Options.{Options}
@@ -58,7 +56,7 @@ use Rattle.pool_core.proofs.CountedLemmas.{lookup-more}
 use Rattle.pool_core.proofs.EditLemmas.{remove-filter}
 use Rattle.pool_core.proofs.FrameLemmas.{Registers, by-if, result-registers, results-register}
 use Rattle.pool_core.proofs.GiveUpLemmas.{length-without, told-without, ready-given_up}
-use Rattle.pool_core.proofs.GrowthLemmas.{Grows, removed-grows, met-grows}
+use Rattle.pool_core.proofs.GrowthLemmas.{removed-grows, met-grows}
 use Rattle.pool_core.proofs.ProofStateLemmas.{lives-here}
 use Rattle.pool_core.proofs.RightBatchLemmas.{fit-work, justifiers-known}
 use Rattle.pool_core.proofs.StartLemmas.{all-at}
@@ -518,7 +516,7 @@ pub work-of :
     → t.register.clauses ≡ a.proof.register.clauses → t.queue.pairs ≡ a.proof.queue.pairs → t.steps.items ≡ a.proof.steps.items → t.ended ≡ a.proof.ended
     → IsInBank bank learned batch.work prepared
     → IsWorkOf bank learned t n batch.work prepared
-        (map (pair_of (without a.options batch.job (record_of a))) (ready (without a.options batch.job (record_of a)))) (without a.options batch.job (record_of a))
+    (map (pair_of (without a.options batch.job (record_of a))) (ready (without a.options batch.job (record_of a)))) (without a.options batch.job (record_of a))
 work-of a batch n bank learned t prepared to is same more register pairs steps ended in_bank = record {
   in_bank = in_bank;
   queue = queue-without a batch.job n to.given t.queue.pairs is to.found to.same pairs;

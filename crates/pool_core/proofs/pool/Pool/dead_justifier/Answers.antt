@@ -1,5 +1,5 @@
 use Rattle.std.proofs.Common.{◌≡◌, ℕ, Bool, ap, sym, ◌∙◌, arith}
-use Rattle.std.specs.Prelude.{Option, Some, find}
+use Rattle.std.specs.Prelude.{Some, find}
 use Rattle.pool_core.specs.Answers.{dead_justifier}
 use Rattle.pool_core.specs.Record.{PoolRecord, is_dead}
 use Rattle.pool_core.specs.Replay.{replay}

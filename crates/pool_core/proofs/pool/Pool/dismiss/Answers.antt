@@ -1,7 +1,7 @@
 use Rattle.std.proofs.Common.{◌≡◌, ◌++◌, [], ◌∷◌, ℕ, length, refl, ap, sym, ◌∙◌, subst, arith}
 use Rattle.std.specs.Prelude.{IsTrue}
 use Rattle.pool_core.specs.Lawful.{IsGivenOut}
-use Rattle.pool_core.specs.Record.{PoolRecord, is_dead}
+use Rattle.pool_core.specs.Record.{is_dead}
 use Rattle.pool_core.specs.Replay.{replay}
 use Rattle.pool_core.specs.View.{PoolView}
 use Rattle.pool_core.proofs.ReturnLemmas.{dismissed-pool, given-some}

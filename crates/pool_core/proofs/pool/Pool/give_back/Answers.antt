@@ -30,8 +30,7 @@ pub returns-in_default-dead_justifier-clause-answer : goal.returns-in_default-de
 returns-in_default-dead_justifier-clause-answer g c =
     let r : PoolRecord = replay c.args.self.now.origin c.args.self.now.history in
     let out = c.out_job-out.ensures in
-    let alive : lives r c.out_job-out.result.number ≡ true = living-of r c.out_job-out.result.number out.says.2 (sym c.death.ensures ∙ c.in_default.is) in
-    (
+    let alive : lives r c.out_job-out.result.number ≡ true = living-of r c.out_job-out.result.number out.says.2 (sym c.death.ensures ∙ c.in_default.is) in (
       record { given = out.given; out = out.out; says = subst (λ k. lives r k ≡ true) (sym out.says.0) alive },
       sym c.dead_justifier.ensures ∙ c.in_default-dead_justifier.is,
       c.in_ok-take.ensures.history,
@@ -53,8 +52,7 @@ pub returns-in-Ok-clause-answer : goal.returns-in-Ok-clause-answer
 returns-in-Ok-clause-answer g c =
     let r : PoolRecord = replay c.args.self.now.origin c.args.self.now.history in
     let out = c.out_job-out.ensures in
-    let alive : lives r c.out_job-out.result.number ≡ true = living-of r c.out_job-out.result.number out.says.2 (sym c.death.ensures ∙ c.in_default.is) in
-    (
+    let alive : lives r c.out_job-out.result.number ≡ true = living-of r c.out_job-out.result.number out.says.2 (sym c.death.ensures ∙ c.in_default.is) in (
       record { given = out.given; out = out.out; says = subst (λ k. lives r k ≡ true) (sym out.says.0) alive },
       sym c.dead_justifier.ensures ∙ c.in-Some-dead_justifier.is,
       sym c.death-2.ensures ∙ c.in-Some-death.is,

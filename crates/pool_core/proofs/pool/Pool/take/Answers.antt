@@ -1,10 +1,10 @@
-use Rattle.std.proofs.Common.{◌≡◌, ◌+◌, ◌≤◌, ◌++◌, [], ◌∷◌, ℕ, List, map, length, append-nil, refl, ap, sym, ◌∙◌, subst, arith}
+use Rattle.std.proofs.Common.{◌≡◌, ◌++◌, [], ◌∷◌, ℕ, List, map, length, refl, ap, sym, ◌∙◌, subst, arith}
 use Rattle.term_bank.specs.declared.bank.Bank.{Bank}
 use Rattle.term_bank.specs.declared.table.Table.{Table}
 use Rattle.pool_core.specs.Claiming.{ready}
 use Rattle.pool_core.specs.Counting.{lines_of_entries}
 use Rattle.pool_core.specs.Events.{events_of}
-use Rattle.pool_core.specs.Placing.{IsTakeable, IsWorkOf, IsSomeWork, IsOfGiven, IsLiving, IsCountedStateOf, NotesDeaths, HasRoom, entries_of, removals_of, lines_of_removals, heavy_keys_of, with_queue}
+use Rattle.pool_core.specs.Placing.{IsTakeable, IsWorkOf, IsSomeWork, IsOfGiven, IsLiving, IsCountedStateOf, NotesDeaths, HasRoom, entries_of, removals_of, lines_of_removals, heavy_keys_of}
 use Rattle.pool_core.specs.Record.{PoolRecord}
 use Rattle.pool_core.specs.Returning.{worked}
 use Rattle.pool_core.specs.State.{origin_of, IsProofStateOf, pair_of}
@@ -72,9 +72,13 @@ work-requires-clause-work g c =
     (subst (λ (v : PoolView). IsTakeable v.origin v.history c.args.number c.args.batch) (sym c.self.view_is) c.requires.takeable) in
     let bank_is : c.self.inside.table.bank ≡ c.args.bank.now = ap (λ (v : PoolView). v.bank) c.self.view_is ∙ c.requires.bank in
     let s : PoolRecord = without c.self.inside.options c.args.batch.job (record_of c.self.inside) in
-    subst (λ (b : Batch). IsSomeWork c.args.bank.now c.take_memory-memory.new.proof c.args.number b.work c.in-Ok.prepared) (sym c.push_return-work.ensures.batch)
-    (c.take_memory-memory.new.table, s, map (pair_of s) (ready s), work-of c.self.inside c.args.batch c.args.number c.args.bank.now c.take_memory-memory.new.table c.take_memory-memory.new.proof c.in-Ok.prepared to c.self.invariant bank_is
-    c.take_memory-memory.ensures.knows c.take_memory-memory.ensures.clauses c.take_memory-memory.ensures.pairs c.take_memory-memory.ensures.steps c.take_memory-memory.ensures.ended c.in-Ok.ensures.prepared)
+    subst (λ (b : Batch). IsSomeWork c.args.bank.now c.take_memory-memory.new.proof c.args.number b.work c.in-Ok.prepared) (sym c.push_return-work.ensures.batch) (
+      c.take_memory-memory.new.table,
+      s,
+      map (pair_of s) (ready s),
+      work-of c.self.inside c.args.batch c.args.number c.args.bank.now c.take_memory-memory.new.table c.take_memory-memory.new.proof c.in-Ok.prepared to c.self.invariant bank_is
+          c.take_memory-memory.ensures.knows c.take_memory-memory.ensures.clauses c.take_memory-memory.ensures.pairs c.take_memory-memory.ensures.steps c.take_memory-memory.ensures.ended c.in-Ok.ensures.prepared,
+    )
 
 pub invariant_of-self-2 : goal.invariant_of-self-2
 invariant_of-self-2 g c =

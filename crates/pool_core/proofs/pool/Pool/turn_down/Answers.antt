@@ -3,13 +3,12 @@ use Rattle.std.specs.Prelude.{IsTrue, true}
 use Rattle.pool_core.specs.Answers.{IsTicket, dead_justifier}
 use Rattle.pool_core.specs.Inputs.{IsRightBatch}
 use Rattle.pool_core.specs.Lawful.{IsGivenOut}
-use Rattle.pool_core.specs.Record.{PoolRecord, GivenJob, lives}
+use Rattle.pool_core.specs.Record.{lives}
 use Rattle.pool_core.specs.Replay.{replay}
 use Rattle.pool_core.specs.View.{PoolView}
 use Rattle.pool_core.specs.declared.event.Event.{Event}
 use Rattle.pool_core.specs.declared.event.Event.TheVariants.{Stale}
 use Rattle.pool_core.proofs.StaleLemmas.{turned-down-pool, turned-down-ticket, stale-allowed}
-use Rattle.pool_core.proofs.StateLemmas.{record_of}
 use Rattle.pool_core.proofs.pool.Pool.turn_down.Goals as goal
 
 pub invariant_of-self-2 : goal.invariant_of-self-2
