@@ -4,6 +4,10 @@ use Rattle.std.specs.Prelude.{Option, None, Some, cond, find, filter, is_none, i
 use Rattle.std.proofs.lemmas.List.{length-append, length-map, take-append-le}
 use Rattle.std.proofs.lemmas.Option.{none-some}
 use mathlib.Core.List.{IsPrefix}
+use Rattle.term_bank.specs.Bank.{identity}
+use Rattle.bank_clause.specs.Clause.{AreMembersOf, IsMemberOf}
+use Rattle.pool_core.specs.declared.options.Options.{Options}
+use Rattle.std.proofs.lemmas.List.Elements.{All-nil}
 use Rattle.fol_base.specs.WellFormed.{SymbolUse}
 use Rattle.term_bank.specs.declared.bank.Bank.{Bank}
 use Rattle.pool_core.specs.View.{PoolView}
@@ -31,7 +35,7 @@ use Rattle.pool_core.proofs.HistoryLemmas.{replay-end}
 use Rattle.pool_core.proofs.NewsLemmas.{worked-given}
 use Rattle.pool_core.proofs.SoundLemmas.{no-solve}
 use Rattle.given_work.specs.View.{IndexView}
-use Rattle.proving.specs.Progress.{HasLearned, HasOut, IsGiven, IsIndexOf, IsLater}
+use Rattle.proving.specs.Progress.{HasLearned, HasNoJob, HasOut, IsGiven, IsIndexOf, IsLater}
 
 -- ---- later pools
 
@@ -143,3 +147,20 @@ given-again p q told justifier event batch ticket bank origin one is of_bank = r
       ap (λ (o : Origin). length (replay o q.history).given) origin ∙ ap (λ es. length (replay p.origin es).given) is.3
       ∙ one-after-stale p.origin p.history batch.job (is.0).given justifier one;
 }
+
+-- ---- the beginning
+
+pub new-index :
+    (bank : Bank) (p : PoolView) (index : IndexView) (options : Options)
+    → p.bank ≡ identity bank → p.origin.options.split ≡ false → options ≡ p.origin.options
+    → index ≡ record { options = options; told = 0; members = [] } → IsIndexOf bank p index
+new-index bank p index options same_bank unsplit of_pool new = record {
+  same_bank = same_bank;
+  of_bank = subst (λ (i : IndexView). AreMembersOf bank i.members) (sym new) (All-nil (IsMemberOf bank));
+  options = ap (λ (i : IndexView). i.options) new ∙ of_pool;
+  unsplit = unsplit;
+  learned = subst (HasLearned p) (sym new) (record { told = omega arith; changes = []; of_history = refl; members = refl });
+}
+
+pub free-given : (p : PoolView) → HasNoJob p → HasOut 0 p
+free-given p none = omega (arith, none)
