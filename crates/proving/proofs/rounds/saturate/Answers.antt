@@ -17,4 +17,11 @@ finish-requires-clause-index g c =
     later-index c.args.bank.now c.rounds.pool c.claim_next.new.pool c.rounds.index c.claim_next.ensures.later c.rounds.invariant.index
 
 pub rounds-preserved : goal.rounds-preserved
-rounds-preserved g c = ?
+rounds-preserved g c =
+    let middle = c.claim_next.new.pool in
+    let last = c.finish.new.pool in
+    record {
+      index = c.in_ok-index-in-Some-2.ensures.index;
+      free = c.in_ok-index-in-Some-2.ensures.free;
+      later = later-then c.args.pool middle last (later-then c.args.pool c.rounds.pool middle c.rounds.invariant.later c.claim_next.ensures.later) c.finish.ensures.later;
+    }
