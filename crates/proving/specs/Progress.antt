@@ -10,8 +10,6 @@ use Rattle.pool_core.specs.Outcomes.{outcome_of}
 use Rattle.pool_core.specs.Replay.{replay}
 use Rattle.pool_core.specs.News.{change_of, news_since}
 use Rattle.pool_core.specs.Answers.{IsTicket, IsTicketOf}
-use Rattle.pool_core.specs.declared.ticket.Back.{Back}
-use Rattle.pool_core.specs.declared.ticket.Back.TheVariants.{Taken, Stale, Void}
 use Rattle.pool_core.specs.declared.ticket.Change.{Change}
 use Rattle.pool_core.specs.declared.ticket.Ticket.{Ticket}
 use Rattle.given_work.specs.View.{IndexView}
@@ -55,9 +53,3 @@ pub record IsLater (before now : PoolView) : Type 0 where
 -- an outcome stands
 abbrev pub IsEnded : PoolView → Type 0
 IsEnded pool = IsSome (outcome_of (replay pool.origin pool.history))
-
--- the clauses that an answer to a return tells are of the bank
-abbrev pub IsBackOf : ℕ → Back → Type 0
-IsBackOf bank Taken = Unit {0}
-IsBackOf bank (Stale justifier event ticket) = IsTicketOf bank ticket
-IsBackOf bank (Void event) = Unit {0}

@@ -8,5 +8,4 @@ mod rounds;
 
 pub use claim::claim_next;
 pub use job::{Done, work_on};
-pub use returning::NotTaken;
 pub use rounds::saturate;
