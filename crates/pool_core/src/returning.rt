@@ -15,7 +15,7 @@ use crate::claiming::one_more;
 use crate::event::Event;
 use crate::pool::{OutJob, Pool};
 use crate::ticket::{Back, Ticket};
-use plain_types::Mem;
+use plain_types::{Mem, NoMemory};
 use std::alloc::Global;
 use std::sync::Wait;
 use term_bank::Bank;
@@ -24,6 +24,13 @@ use term_bank::Bank;
 #[derive(Drop)]
 pub struct NotTaken {
     pub batch: Batch,
+}
+
+/// A caller that has no use for the batch tells want of memory alone.
+impl From<NotTaken> for NoMemory {
+    fn from(_: NotTaken) -> NoMemory {
+        NoMemory
+    }
 }
 
 impl Pool {
