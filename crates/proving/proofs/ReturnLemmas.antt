@@ -46,8 +46,10 @@ pub later-then : (p q r : PoolView) → IsLater p q → IsLater q r → IsLater 
 later-then p q r first second = record {
   bank = second.bank ∙ first.bank;
   origin = second.origin ∙ first.origin;
-  history = ((first.history).0 ++ (second.history).0,
-    sym (append_assoc p.history (first.history).0 (second.history).0) ∙ ap (λ es. es ++ (second.history).0) (first.history).1 ∙ (second.history).1);
+  history = (
+    (first.history).0 ++ (second.history).0,
+    sym (append_assoc p.history (first.history).0 (second.history).0) ∙ ap (λ es. es ++ (second.history).0) (first.history).1 ∙ (second.history).1,
+  );
 }
 
 -- what an index knows stays known
@@ -108,7 +110,6 @@ none-after-return origin history batch j one out =
     (by-if (λ (t : PoolRecord). t.given ≡ without_job batch.job r.given) (is_none r.ended) (worked origin.options j.number batch.work s) (becomes_active j.number s)
     (worked-given origin.options batch.job j.number batch.work r) refl)
     ∙ ap length (none-left batch.job r.given j one out)
-
 
 -- ---- answers to returns
 
