@@ -6,5 +6,3 @@ mod LearnedLemmas
 mod TicketLemmas
 -- What a claim can't answer: ClaimLemmas.
 mod ClaimLemmas
--- What a return leaves: ReturnLemmas.
-mod ReturnLemmas
