@@ -6,3 +6,5 @@ mod LearnedLemmas
 mod TicketLemmas
 -- What a claim can't answer: ClaimLemmas.
 mod ClaimLemmas
+-- What a return leaves: ReturnLemmas.
+mod ReturnLemmas

@@ -3,6 +3,9 @@
 
 mod claim;
 mod job;
+mod returning;
+mod rounds;
 
 pub use claim::claim_next;
 pub use job::{Done, work_on};
+pub use rounds::saturate;
