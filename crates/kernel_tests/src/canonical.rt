@@ -2,67 +2,70 @@
 
 use fol_base::*;
 use plain_types::{Mem, Names};
+use sample_terms::{atom, clause};
 use std::alloc::Global;
-use std::test::Fail;
 
-const P: u32 = 1;
+const P: u32 = 16;
 
-const TRUTH: u32 = 0;
-
-/// The clause of one literal, a predicate applied to these variables.
-fn atom_of(alloc: Global, variables: &[u32]) -> Mem<Clause> {
-    let mut arguments = Terms::new(alloc);
-    for variable in variables {
-        arguments.push(Term::Var(*variable))?;
+/// The rows are a clause and its canonical form.
+#[test]
+fn variables_are_numbered_by_first_occurrence(rt: HostRuntime) {
+    let alloc = rt.alloc();
+    let rows = [
+        ("p(X0,X1,X0)", "p(X0,X1,X0)"),
+        ("p(X0,X2,X0)", "p(X0,X1,X0)"),
+        ("p(X1,X0,X1)", "p(X0,X1,X0)"),
+        ("p(X9) | q(X7,X9) = X3", "p(X0) | q(X1,X0) = X2"),
+    ];
+    for (text, form) in rows {
+        let read = clause(alloc, text).expect(&rt, "memory");
+        let wanted = clause(alloc, form).expect(&rt, "memory");
+        let made = renumbered(alloc, &read).expect(&rt, "memory");
+        assert!(rt; same_clause(&made, &wanted));
+        assert_eq!(rt; is_canonical(&read), text == form);
+        assert!(rt; is_canonical(&wanted));
     }
-    let mut literals = Literals::new(alloc);
-    literals.push(Literal {
-        positive: true,
-        left: Term::App(P, arguments),
-        right: Term::App(TRUTH, Terms::new(alloc)),
-    })?;
+}
+
+/// A renaming stands for each number up to the highest one, also for those that don't occur.
+#[test]
+fn clauses_are_renamed(rt: HostRuntime) {
+    let alloc = rt.alloc();
+    let read = clause(alloc, "p(X3) | q(X1,X3)").expect(&rt, "memory");
+    let wanted = clause(alloc, "p(X0) | q(X1,X0)").expect(&rt, "memory");
+    let (made, renaming) = canonical(alloc, &read).expect(&rt, "memory");
+    assert!(rt; same_clause(&made, &wanted));
+    assert!(rt; renaming.len() == 4);
+    assert!(rt; read.variable_bound() <= 4);
+    let applied = apply_clause(alloc, &renaming, &read).expect(&rt, "memory");
+    assert!(rt; same_clause(&applied, &wanted));
+}
+
+/// The clause of one atom of these arguments.
+fn atom_of(alloc: Global, arguments: Terms) -> Mem<Clause> {
+    let literals = vec![in alloc; atom(alloc, Term::App(P, arguments))]?;
     Ok(Clause {
-        literals,
+        literals: Literals::from_vec(literals),
         names: Names::new(alloc),
     })
 }
 
-/// The rows are the variables of a clause, those of its canonical form, and whether it is canonical.
+/// More variables than are looked for by a scan, twice each, from the highest number that there is downwards.
 #[test]
-fn variables_are_numbered_by_first_occurrence(rt: HostRuntime) -> Result<(), Fail> {
+fn many_variables_are_numbered(rt: HostRuntime) {
     let alloc = rt.alloc();
-    let rows = [
-        ([0, 1, 0], [0, 1, 0], true),
-        ([0, 2, 0], [0, 1, 0], false),
-        ([1, 0, 1], [0, 1, 0], false),
-        ([u32::MAX, 7, u32::MAX], [0, 1, 0], false),
-    ];
-    for (variables, numbers, canonical) in rows {
-        let clause = atom_of(alloc, variables.as_slice())?;
-        let wanted = atom_of(alloc, numbers.as_slice())?;
-        assert!(rt; same_clause(&renumbered(alloc, &clause)?, &wanted));
-        assert_eq!(rt; is_canonical(&clause), canonical);
-        assert!(rt; is_canonical(&wanted));
-    }
-    Ok(())
-}
-
-/// More variables than are looked for by a scan, twice each, from the highest downwards.
-#[test]
-fn many_variables_are_numbered(rt: HostRuntime) -> Result<(), Fail> {
-    let alloc = rt.alloc();
-    let mut variables = Vec::new(alloc);
-    let mut numbers = Vec::new(alloc);
+    let mut arguments = Terms::new(alloc);
+    let mut numbers = Terms::new(alloc);
     for number in 0..2_000u32 {
         for _ in 0..2 {
-            variables.push(2_000 - number)?;
-            numbers.push(number)?;
+            arguments
+                .push(Term::Var(u32::MAX - number))
+                .expect(&rt, "memory");
+            numbers.push(Term::Var(number)).expect(&rt, "memory");
         }
     }
-    let clause = atom_of(alloc, variables.as_slice())?;
-    let wanted = atom_of(alloc, numbers.as_slice())?;
-    let (made, renaming) = canonical(alloc, &clause)?;
+    let read = atom_of(alloc, arguments).expect(&rt, "memory");
+    let wanted = atom_of(alloc, numbers).expect(&rt, "memory");
+    let made = renumbered(alloc, &read).expect(&rt, "memory");
     assert!(rt; same_clause(&made, &wanted));
-    assert_eq!(rt; renaming.len(), 2_001);
-    Ok(())
 }

@@ -1,109 +1,85 @@
-// Each public call once, with ample memory, on rows worked out by hand. Symbol 0 is `$true`.
+// Each rule on a row worked out by hand, and the faults of a step.
 
-ghost use Rattle.std.specs.Prelude.{IsTrue, IfOk};
-ghost use Rattle.kernel_steps.specs.Conclusion.{is_rule_step};
-
-use fol_base::{
-    Clause, Literal, Literals, MOST_BOUND_SYMBOLS, Position, Side, Term, Terms, same_clause,
-};
+use fol_base::{Clause, MOST_BOUND_SYMBOLS, Position, Side, Term, Terms, same_clause};
 use kernel_steps::*;
 use plain_types::{Mem, NameLit, Names, Numbers, Parts};
-use sample_terms::{constant, unary};
+use sample_terms::{clause, constant};
 use std::alloc::Global;
 use std::process::Abort;
-use std::test::Fail;
 
 const A: u32 = 1;
 
-const F: u32 = 2;
+const F: u32 = 6;
 
-const P: u32 = 3;
+/// The literals of a clause, and its names, negated below zero.
+type Row = (&'static str, &'static [i8]);
 
-const Q: u32 = 4;
-
-fn one(alloc: Global, term: Term) -> Mem<Terms> {
-    let mut terms = Terms::new(alloc);
-    terms.push(term)?;
-    Ok(terms)
-}
-
-/// An atom of a predicate with one argument, or its negation.
-fn atom(alloc: Global, positive: bool, predicate: u32, argument: Term) -> Mem<Literal> {
-    Ok(Literal {
-        positive,
-        left: unary(alloc, predicate, argument)?,
-        right: constant(alloc, 0),
-    })
-}
-
-/// The negation of `$true`.
-fn not_true(alloc: Global) -> Literal {
-    Literal {
-        positive: false,
-        left: constant(alloc, 0),
-        right: constant(alloc, 0),
+fn name(number: i8) -> NameLit {
+    NameLit {
+        positive: number > 0,
+        name: u32::from(number.unsigned_abs()),
     }
 }
 
-fn signed(positive: bool, name: u32) -> NameLit {
-    NameLit { positive, name }
+fn names(alloc: Global, numbers: &[i8]) -> Mem<Names> {
+    let mut names = Names::new(alloc);
+    for number in numbers {
+        names.push(name(*number))?;
+    }
+    Ok(names)
 }
 
-/// Adds a line, the step of which doesn't matter where it is a parent.
-fn push_line(
-    alloc: Global,
-    lines: &mut Derivation,
-    literals: Vec<Literal>,
-    names: &[NameLit],
-) -> Mem<()> {
-    lines.push(Line {
-        step: Step::Clausify(0),
-        clause: clause(alloc, literals, names)?,
-    })?;
-    Ok(())
-}
-
-fn clause(alloc: Global, literals: Vec<Literal>, names: &[NameLit]) -> Mem<Clause> {
+fn named_clause(alloc: Global, row: Row) -> Mem<Clause> {
     Ok(Clause {
-        literals: Literals::from_vec(literals),
-        names: Names::from_slice(alloc, names)?,
+        names: names(alloc, row.1)?,
+        ..clause(alloc, row.0)?
     })
 }
 
-fn single(alloc: Global, literal: Literal) -> Mem<Vec<Literal>> {
-    Ok(vec![in alloc; literal]?)
+/// Adds a line. Where it is a parent, its step matters only if it introduces a name.
+fn push_line(alloc: Global, lines: &mut Derivation, step: Step, row: Row) -> Mem<()> {
+    lines.push(Line {
+        step,
+        clause: named_clause(alloc, row)?,
+    })
 }
 
-fn pair(alloc: Global, first: Literal, second: Literal) -> Mem<Vec<Literal>> {
-    Ok(vec![in alloc; first, second]?)
+fn lines_of(alloc: Global, rows: &[Row]) -> Mem<Derivation> {
+    let mut lines = Derivation::new(alloc);
+    for row in rows {
+        push_line(alloc, &mut lines, Step::Clausify(0), *row)?;
+    }
+    Ok(lines)
 }
 
-/// `p(a)`.
-fn fact(alloc: Global) -> Mem<Literal> {
-    atom(alloc, true, P, constant(alloc, A))
+/// One constant for the first variable.
+fn bound_to_a(alloc: Global) -> Mem<Terms> {
+    let mut terms = Terms::new(alloc);
+    terms.push(constant(alloc, A))?;
+    Ok(terms)
 }
 
-fn expect_clause(
-    rt: &impl Abort,
-    alloc: Global,
-    step: &Step,
-    lines: &Derivation,
-    literals: Vec<Literal>,
-    names: &[NameLit],
-) -> Result<(), Fail>
-    requires { IsTrue (is_rule_step step.now) }
-{
-    let wanted = clause(alloc, literals, names)?;
+/// Whether the step concludes this clause.
+fn concludes(rt: &impl Abort, alloc: Global, step: &Step, lines: &Derivation, row: Row) -> bool {
+    let wanted = named_clause(alloc, row).expect(rt, "memory");
     assert!(rt; step.is_rule_step());
-    assert!(rt; same_clause(&conclusion(alloc, step, lines)?, &wanted));
-    Ok(())
+    let made = conclusion(alloc, step, lines).expect(rt, "a right step");
+    same_clause(&made, &wanted)
+}
+
+fn fault(rt: &impl Abort, alloc: Global, step: &Step, lines: &Derivation) -> Option<StepFault> {
+    assert!(rt; step.is_rule_step());
+    conclusion(alloc, step, lines).err()
 }
 
 /// Of `p(a)`, under a name, into `~p(X0) | q(X0)`, under another.
-fn superposition(alloc: Global) -> Mem<Step>
-    ensures { IfOk result (λ step. IsTrue (is_rule_step step)) }
-{
-    Ok(Step::Para {
+#[test]
+fn superposes(rt: HostRuntime) {
+    let alloc = rt.alloc();
+    let lines = lines_of(alloc, &[("p(a)", &[-4]), ("~p(X0) | q(X0)", &[-2])]).expect(
+        &rt, "memory",
+    );
+    let step = Step::Para {
         first: 0,
         second: 1,
         from: 0,
@@ -112,211 +88,13 @@ fn superposition(alloc: Global) -> Mem<Step>
         into_side: Side::Left,
         place: Position::new(alloc),
         first_bind: Terms::new(alloc),
-        second_bind: one(alloc, constant(alloc, A))?,
-    })
+        second_bind: bound_to_a(alloc).expect(&rt, "memory"),
+    };
+    assert!(rt; concludes(&rt, alloc, &step, &lines, ("~$ | q(a)", &[-2, -4])));
 }
 
-#[test]
-fn superposes(rt: HostRuntime) -> Result<(), Fail> {
-    let alloc = rt.alloc();
-    let mut lines = Derivation::new(alloc);
-    push_line(
-        alloc,
-        &mut lines,
-        single(alloc, fact(alloc)?)?,
-        &[signed(false, 3)],
-    )?;
-    let rule = pair(
-        alloc,
-        atom(alloc, false, P, Term::Var(0))?,
-        atom(alloc, true, Q, Term::Var(0))?,
-    )?;
-    push_line(alloc, &mut lines, rule, &[signed(false, 1)])?;
-    let made = pair(
-        alloc,
-        not_true(alloc),
-        atom(alloc, true, Q, constant(alloc, A))?,
-    )?;
-    expect_clause(
-        &rt,
-        alloc,
-        &superposition(alloc)?,
-        &lines,
-        made,
-        &[signed(false, 1), signed(false, 3)],
-    )
-}
-
-/// Equality resolution of `~$true | p(a)`.
-#[test]
-fn resolves(rt: HostRuntime) -> Result<(), Fail> {
-    let alloc = rt.alloc();
-    let mut lines = Derivation::new(alloc);
-    push_line(
-        alloc,
-        &mut lines,
-        pair(alloc, not_true(alloc), fact(alloc)?)?,
-        &[],
-    )?;
-    expect_clause(
-        &rt,
-        alloc,
-        &resolution(Terms::new(alloc)),
-        &lines,
-        single(alloc, fact(alloc)?)?,
-        &[],
-    )
-}
-
-/// `p(X0) | p(a)`.
-fn two_atoms(alloc: Global) -> Mem<Derivation> {
-    let mut lines = Derivation::new(alloc);
-    push_line(
-        alloc,
-        &mut lines,
-        pair(alloc, atom(alloc, true, P, Term::Var(0))?, fact(alloc)?)?,
-        &[],
-    )?;
-    Ok(lines)
-}
-
-fn merging(alloc: Global) -> Mem<Step>
-    ensures { IfOk result (λ step. IsTrue (is_rule_step step)) }
-{
-    Ok(Step::Merge {
-        parent: 0,
-        stays: 0,
-        goes: 1,
-        bind: one(alloc, constant(alloc, A))?,
-    })
-}
-
-#[test]
-fn merges(rt: HostRuntime) -> Result<(), Fail> {
-    let alloc = rt.alloc();
-    let lines = two_atoms(alloc)?;
-    expect_clause(
-        &rt,
-        alloc,
-        &merging(alloc)?,
-        &lines,
-        single(alloc, fact(alloc)?)?,
-        &[],
-    )
-}
-
-/// Factoring of one literal of `p(X0) | p(a)` by the other.
-fn factoring(alloc: Global, becomes: u64, other: u64) -> Mem<Step>
-    ensures { IfOk result (λ step. IsTrue (is_rule_step step)) }
-{
-    Ok(Step::Factor {
-        parent: 0,
-        becomes,
-        becomes_side: Side::Left,
-        other,
-        other_side: Side::Left,
-        bind: one(alloc, constant(alloc, A))?,
-    })
-}
-
-#[test]
-fn factors_both_ways(rt: HostRuntime) -> Result<(), Fail> {
-    let alloc = rt.alloc();
-    let lines = two_atoms(alloc)?;
-    let first = pair(alloc, not_true(alloc), fact(alloc)?)?;
-    expect_clause(&rt, alloc, &factoring(alloc, 0, 1)?, &lines, first, &[])?;
-    let second = pair(alloc, fact(alloc)?, not_true(alloc))?;
-    expect_clause(&rt, alloc, &factoring(alloc, 1, 0)?, &lines, second, &[])
-}
-
-/// The clause `p(X0) | q(X1)`, and the definitions of its parts.
-fn two_parts(alloc: Global) -> Mem<Derivation> {
-    let mut lines = Derivation::new(alloc);
-    let whole = pair(
-        alloc,
-        atom(alloc, true, P, Term::Var(0))?,
-        atom(alloc, true, Q, Term::Var(1))?,
-    )?;
-    push_line(alloc, &mut lines, whole, &[])?;
-    push_component(alloc, &mut lines, 0, atom(alloc, true, P, Term::Var(0))?)?;
-    push_component(alloc, &mut lines, 1, atom(alloc, true, Q, Term::Var(0))?)?;
-    Ok(lines)
-}
-
-fn push_component(alloc: Global, lines: &mut Derivation, name: u32, literal: Literal) -> Mem<()> {
-    lines.push(Line {
-        step: Step::Component(name),
-        clause: clause(alloc, single(alloc, literal)?, &[signed(false, name)])?,
-    })?;
-    Ok(())
-}
-
-fn splitting(alloc: Global) -> Mem<Step>
-    ensures { IfOk result (λ step. IsTrue (is_rule_step step)) }
-{
-    let mut parts = Parts::new(alloc);
-    parts.push(Numbers::from_slice(alloc, [0].as_slice())?)?;
-    parts.push(Numbers::from_slice(alloc, [1].as_slice())?)?;
-    Ok(Step::Split {
-        parent: 0,
-        definitions: Numbers::from_slice(alloc, [1, 2].as_slice())?,
-        parts,
-    })
-}
-
-#[test]
-fn splits(rt: HostRuntime) -> Result<(), Fail> {
-    let alloc = rt.alloc();
-    let lines = two_parts(alloc)?;
-    expect_clause(
-        &rt,
-        alloc,
-        &splitting(alloc)?,
-        &lines,
-        Vec::new(alloc),
-        &[signed(true, 0), signed(true, 1)],
-    )
-}
-
-/// Of the names 0 or 1, not 0 and not 1, by two pivots.
-fn chain(alloc: Global, first: u32, second: u32) -> Mem<Step>
-    ensures { IfOk result (λ step. IsTrue (is_rule_step step)) }
-{
-    Ok(Step::Chain {
-        parents: Numbers::from_slice(alloc, [0, 1, 2].as_slice())?,
-        pivots: Names::from_slice(alloc, &[signed(true, first), signed(true, second)])?,
-    })
-}
-
-#[test]
-fn chains_names(rt: HostRuntime) -> Result<(), Fail> {
-    let alloc = rt.alloc();
-    let mut lines = Derivation::new(alloc);
-    push_line(
-        alloc,
-        &mut lines,
-        Vec::new(alloc),
-        &[signed(true, 0), signed(true, 1)],
-    )?;
-    push_line(alloc, &mut lines, Vec::new(alloc), &[signed(false, 0)])?;
-    push_line(alloc, &mut lines, Vec::new(alloc), &[signed(false, 1)])?;
-    expect_clause(
-        &rt,
-        alloc,
-        &chain(alloc, 0, 1)?,
-        &lines,
-        Vec::new(alloc),
-        &[],
-    )?;
-    let other_order = conclusion(alloc, &chain(alloc, 1, 0)?, &lines);
-    assert_eq!(rt; other_order.err(), Some(StepFault::Rule));
-    Ok(())
-}
-
-/// A resolution of the first literal, by a binding.
-fn resolution(bind: Terms) -> Step
-    ensures { IsTrue (is_rule_step result) }
-{
+/// A resolution of the first literal of the first line.
+fn resolution(bind: Terms) -> Step {
     Step::Refl {
         parent: 0,
         literal: 0,
@@ -324,55 +102,132 @@ fn resolution(bind: Terms) -> Step
     }
 }
 
-/// `p(X0)`, which has no resolution.
-fn one_atom(alloc: Global) -> Mem<Derivation> {
-    let mut lines = Derivation::new(alloc);
-    let literal = atom(alloc, true, P, Term::Var(0))?;
-    push_line(alloc, &mut lines, single(alloc, literal)?, &[])?;
-    Ok(lines)
-}
-
-fn expect_fault(
-    rt: &impl Abort,
-    alloc: Global,
-    lines: &Derivation,
-    bind: Terms,
-    wanted: StepFault,
-) -> Result<(), Fail> {
-    let step = resolution(bind);
-    assert_eq!(rt; conclusion(alloc, &step, lines).err(), Some(wanted));
-    Ok(())
+#[test]
+fn resolves(rt: HostRuntime) {
+    let alloc = rt.alloc();
+    let lines = lines_of(alloc, &[("~$ | p(a)", &[])]).expect(&rt, "memory");
+    let step = resolution(Terms::new(alloc));
+    assert!(rt; concludes(&rt, alloc, &step, &lines, ("p(a)", &[])));
 }
 
 #[test]
-fn finds_faults(rt: HostRuntime) -> Result<(), Fail> {
+fn merges(rt: HostRuntime) {
     let alloc = rt.alloc();
-    let lines = one_atom(alloc)?;
-    let right = one(alloc, constant(alloc, A))?;
-    expect_fault(&rt, alloc, &lines, right, StepFault::Rule)?;
-    let truth = one(alloc, Term::truth(alloc))?;
-    expect_fault(&rt, alloc, &lines, truth, StepFault::Binding)?;
-    expect_fault(&rt, alloc, &lines, Terms::new(alloc), StepFault::Binding)?;
-    let mut long = one(alloc, constant(alloc, A))?;
-    long.push(constant(alloc, A))?;
-    expect_fault(&rt, alloc, &lines, long, StepFault::Binding)
+    let lines = lines_of(alloc, &[("p(X0) | p(a)", &[])]).expect(&rt, "memory");
+    let step = Step::Merge {
+        parent: 0,
+        stays: 0,
+        goes: 1,
+        bind: bound_to_a(alloc).expect(&rt, "memory"),
+    };
+    assert!(rt; concludes(&rt, alloc, &step, &lines, ("p(a)", &[])));
 }
 
-/// `f(a, .., a)` of that size.
-fn wide(alloc: Global, size: u64) -> Mem<Term> {
+/// One literal by the other, both ways.
+#[test]
+fn factors(rt: HostRuntime) {
+    let alloc = rt.alloc();
+    let lines = lines_of(alloc, &[("p(X0) | p(a)", &[])]).expect(&rt, "memory");
+    for (becomes, other, text) in [(0, 1, "~$ | p(a)"), (1, 0, "p(a) | ~$")] {
+        let step = Step::Factor {
+            parent: 0,
+            becomes,
+            becomes_side: Side::Left,
+            other,
+            other_side: Side::Left,
+            bind: bound_to_a(alloc).expect(&rt, "memory"),
+        };
+        assert!(rt; concludes(&rt, alloc, &step, &lines, (text, &[])));
+    }
+}
+
+/// Of the literals with these numbers, each a part.
+fn splitting(alloc: Global) -> Mem<Step> {
+    let mut parts = Parts::new(alloc);
+    parts.push(Numbers::from_slice(alloc, &[0])?)?;
+    parts.push(Numbers::from_slice(alloc, &[1])?)?;
+    Ok(Step::Split {
+        parent: 0,
+        definitions: Numbers::from_slice(alloc, &[1, 2])?,
+        parts,
+    })
+}
+
+#[test]
+fn splits(rt: HostRuntime) {
+    let alloc = rt.alloc();
+    let mut lines = lines_of(alloc, &[("p(X0) | q(X1)", &[])]).expect(&rt, "memory");
+    push_line(alloc, &mut lines, Step::Component(1), ("p(X0)", &[-1])).expect(&rt, "memory");
+    push_line(alloc, &mut lines, Step::Component(2), ("q(X0)", &[-2])).expect(&rt, "memory");
+    let step = splitting(alloc).expect(&rt, "memory");
+    assert!(rt; concludes(&rt, alloc, &step, &lines, ("", &[1, 2])));
+}
+
+/// Of three lines, by these pivots.
+fn chain(alloc: Global, pivots: &[i8]) -> Mem<Step> {
+    Ok(Step::Chain {
+        parents: Numbers::from_slice(alloc, &[0, 1, 2])?,
+        pivots: names(alloc, pivots)?,
+    })
+}
+
+#[test]
+fn chains_names(rt: HostRuntime) {
+    let alloc = rt.alloc();
+    let lines = lines_of(alloc, &[("", &[1, 2]), ("", &[-1]), ("", &[-2])]).expect(&rt, "memory");
+    let right = chain(alloc, &[1, 2]).expect(&rt, "memory");
+    assert!(rt; concludes(&rt, alloc, &right, &lines, ("", &[])));
+    let wrong = chain(alloc, &[2, 1]).expect(&rt, "memory");
+    assert_eq!(rt; fault(&rt, alloc, &wrong, &lines), Some(StepFault::Rule));
+}
+
+/// `f(a, .., a)` with so many arguments.
+fn wide(alloc: Global, count: u64) -> Mem<Term> {
     let mut arguments = Terms::new(alloc);
-    for _ in 1..size {
+    for _ in 0..count {
         arguments.push(constant(alloc, A))?;
     }
     Ok(Term::App(F, arguments))
 }
 
+/// What is wrong with the resolution of `p(X0)`, which has none, by a binding of these terms.
+fn fault_of_binding(rt: &impl Abort, alloc: Global, terms: Vec<Term>) -> Option<StepFault> {
+    let lines = lines_of(alloc, &[("p(X0)", &[])]).expect(rt, "memory");
+    fault(rt, alloc, &resolution(Terms::from_vec(terms)), &lines)
+}
+
+/// The rows are how many bindings of a constant there are.
 #[test]
-fn bounds_sizes(rt: HostRuntime) -> Result<(), Fail> {
+fn finds_faults(rt: HostRuntime) {
     let alloc = rt.alloc();
-    let lines = one_atom(alloc)?;
-    let largest = one(alloc, wide(alloc, MOST_BOUND_SYMBOLS - 2)?)?;
-    expect_fault(&rt, alloc, &lines, largest, StepFault::Rule)?;
-    let larger = one(alloc, wide(alloc, MOST_BOUND_SYMBOLS - 1)?)?;
-    expect_fault(&rt, alloc, &lines, larger, StepFault::Binding)
+    for (count, wanted) in [
+        (0, StepFault::Binding),
+        (1, StepFault::Rule),
+        (2, StepFault::Binding),
+    ] {
+        let mut terms = Vec::new(alloc);
+        for _ in 0..count {
+            terms.push(constant(alloc, A)).expect(&rt, "memory");
+        }
+        assert_eq!(rt; fault_of_binding(&rt, alloc, terms), Some(wanted));
+    }
+    let truth = vec![in alloc; Term::truth(alloc)].expect(&rt, "memory");
+    assert_eq!(rt;
+        fault_of_binding(&rt, alloc, truth),
+        Some(StepFault::Binding)
+    );
+}
+
+/// The rows are how many arguments the term has that stands for the variable of `p(X0)`.
+#[test]
+fn bounds_sizes(rt: HostRuntime) {
+    let alloc = rt.alloc();
+    for (count, wanted) in [
+        (MOST_BOUND_SYMBOLS - 3, StepFault::Rule),
+        (MOST_BOUND_SYMBOLS - 2, StepFault::Binding),
+    ] {
+        let term = wide(alloc, count).expect(&rt, "memory");
+        let terms = vec![in alloc; term].expect(&rt, "memory");
+        assert_eq!(rt; fault_of_binding(&rt, alloc, terms), Some(wanted));
+    }
 }

@@ -3,11 +3,10 @@
 // that would contain itself.
 
 use fol_base::Term;
-use plain_types::Mem;
 use sample_numbers::Random;
 use sample_terms::{binary, constant, unary};
 use std::alloc::Global;
-use std::test::Fail;
+use std::process::Abort;
 use unifier::unify;
 
 const A: u32 = 1;
@@ -40,22 +39,22 @@ fn leaf(alloc: Global, numbers: &mut Random, given: Option<u32>) -> Term {
 }
 
 /// Makes one term of the last two, where there are two.
-fn join(alloc: Global, terms: &mut Vec<Term>) -> Mem<()> {
+fn join(rt: &impl Abort, alloc: Global, terms: &mut Vec<Term>) {
     if let Some(second) = terms.pop() {
-        match terms.pop() {
-            Some(first) => terms.push(binary(alloc, F, first, second)?)?,
-            None => terms.push(second)?,
-        }
+        let made = match terms.pop() {
+            Some(first) => binary(alloc, F, first, second).expect(rt, "memory"),
+            None => second,
+        };
+        terms.push(made).expect(rt, "memory");
     }
-    Ok(())
 }
 
 /// Makes one term of all. X0 where there is none.
-fn joined(alloc: Global, mut terms: Vec<Term>) -> Mem<Term> {
+fn joined(rt: &impl Abort, alloc: Global, mut terms: Vec<Term>) -> Term {
     for _ in 0..terms.len() {
-        join(alloc, &mut terms)?;
+        join(rt, alloc, &mut terms);
     }
-    Ok(terms.pop().unwrap_or(Term::Var(0)))
+    terms.pop().unwrap_or(Term::Var(0))
 }
 
 #[derive(Drop)]
@@ -65,69 +64,69 @@ struct Pair {
 }
 
 /// Two terms of one shape with leaves of their own, which clash at one leaf where that is asked for.
-fn same_shape(alloc: Global, numbers: &mut Random, clashes: bool) -> Mem<Pair> {
+fn same_shape(rt: &impl Abort, alloc: Global, numbers: &mut Random, clashes: bool) -> Pair {
     let mut left = Vec::new(alloc);
     let mut right = Vec::new(alloc);
     let leaves = numbers.below(10).saturating_add(5);
     let place = numbers.below(leaves);
     for index in 0..leaves {
         let here = clashes && index == place;
-        left.push(leaf(alloc, numbers, if here { Some(B) } else { None }))?;
-        right.push(leaf(alloc, numbers, if here { Some(C) } else { None }))?;
+        left.push(leaf(alloc, numbers, here.then_some(B)))
+            .expect(rt, "memory");
+        right
+            .push(leaf(alloc, numbers, here.then_some(C)))
+            .expect(rt, "memory");
         if numbers.below(2) == 0 {
-            join(alloc, &mut left)?;
-            join(alloc, &mut right)?;
+            join(rt, alloc, &mut left);
+            join(rt, alloc, &mut right);
         }
     }
-    Ok(Pair {
-        left: joined(alloc, left)?,
-        right: joined(alloc, right)?,
-    })
+    Pair {
+        left: joined(rt, alloc, left),
+        right: joined(rt, alloc, right),
+    }
 }
 
 /// The pair behind `f(X4,X4)` and `f(X4,g(X4))`, which don't unify.
-fn with_circle(alloc: Global, pair: Pair) -> Mem<Pair> {
-    let variables = binary(alloc, F, Term::Var(4), Term::Var(4))?;
-    let contained = unary(alloc, G, Term::Var(4))?;
-    let circle = binary(alloc, F, Term::Var(4), contained)?;
-    Ok(Pair {
-        left: binary(alloc, F, variables, pair.left)?,
-        right: binary(alloc, F, circle, pair.right)?,
-    })
+fn with_circle(rt: &impl Abort, alloc: Global, pair: Pair) -> Pair {
+    let variables = binary(alloc, F, Term::Var(4), Term::Var(4)).expect(rt, "memory");
+    let contained = unary(alloc, G, Term::Var(4)).expect(rt, "memory");
+    let circle = binary(alloc, F, Term::Var(4), contained).expect(rt, "memory");
+    Pair {
+        left: binary(alloc, F, variables, pair.left).expect(rt, "memory"),
+        right: binary(alloc, F, circle, pair.right).expect(rt, "memory"),
+    }
 }
 
-fn pairs(alloc: Global) -> Mem<Vec<Pair>> {
+fn pairs(rt: &impl Abort, alloc: Global) -> Vec<Pair> {
     let mut numbers = Random::new(1);
     let mut made = Vec::new(alloc);
     for index in 0..PAIRS {
-        let pair = same_shape(alloc, &mut numbers, index % 10 < 5)?;
-        made.push(if index % 10 == 5 {
-            with_circle(alloc, pair)?
-        } else {
-            pair
-        })?;
+        let mut pair = same_shape(rt, alloc, &mut numbers, index % 10 < 5);
+        if index % 10 == 5 {
+            pair = with_circle(rt, alloc, pair);
+        }
+        made.push(pair).expect(rt, "memory");
     }
-    Ok(made)
+    made
 }
 
 /// How many pairs unify.
-fn unified(alloc: Global, pairs: &[Pair], apart: bool) -> Mem<u64> {
+fn unified(rt: &impl Abort, alloc: Global, pairs: &[Pair], apart: bool) -> u64 {
     let mut count: u64 = 0;
     for pair in pairs {
-        if unify(alloc, &pair.left, &pair.right, apart)?.is_some() {
-            count = count.saturating_add(1);
-        }
+        let found = unify(alloc, &pair.left, &pair.right, apart).expect(rt, "memory");
+        count = count.saturating_add(u64::from(found.is_some()));
     }
-    Ok(count)
+    count
 }
 
 #[test]
-fn generated_pairs(rt: HostRuntime) -> Result<(), Fail> {
+fn generated_pairs(rt: HostRuntime) {
     let alloc = rt.alloc();
-    let made = pairs(alloc)?;
+    let made = pairs(&rt, alloc);
     for _ in 0..ROUNDS {
-        assert_eq!(rt; unified(alloc, made.as_slice(), true)?, 80);
-        assert_eq!(rt; unified(alloc, made.as_slice(), false)?, 80);
+        assert_eq!(rt; unified(&rt, alloc, made.as_slice(), true), 80);
+        assert_eq!(rt; unified(&rt, alloc, made.as_slice(), false), 80);
     }
-    Ok(())
 }

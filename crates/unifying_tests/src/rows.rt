@@ -1,14 +1,11 @@
 // Rows worked out by hand, and a table of small pairs against a plain unifier.
 
-ghost use Rattle.term_bank.specs.Bank.{IsOf};
-
-use fol_base::{Side, Subst, Term, same_term};
-use plain_types::Mem;
+use fol_base::{Side, Term, same_terms};
 use sample_terms::{binary, constant, unary};
 use std::alloc::Global;
-use std::test::Fail;
-use term_bank::{Bank, BankLit, TermRef};
-use unifier::{Bindings, Matched, match_onto, unify};
+use std::process::Abort;
+use term_bank::{Bank, BankLit};
+use unifier::{Matched, match_onto, unify};
 
 const A: u32 = 1;
 
@@ -22,26 +19,32 @@ const H: u32 = 5;
 
 /// The terms of a text, by a stack: x, y, z are variables and a, b constants, f takes one term from the stack (its symbol is H here)
 /// and g two.
-fn terms_of(alloc: Global, text: &str) -> Mem<Vec<Term>> {
+fn terms_of(rt: &impl Abort, alloc: Global, text: &str) -> Vec<Term> {
     let mut stack = Vec::new(alloc);
     for byte in text.as_bytes() {
-        step(alloc, &mut stack, *byte)?;
+        step(rt, alloc, &mut stack, *byte);
     }
-    Ok(stack)
+    stack
 }
 
-/// Whether two lists of terms are the same.
-fn are(terms: &Subst, wanted: &[Term]) -> bool {
-    let terms = terms.as_slice();
-    if terms.len() != wanted.len() {
-        return false;
-    }
-    for index in 0..terms.len() {
-        if !same_term(&terms[index], &wanted[index]) {
-            return false;
+fn step(rt: &impl Abort, alloc: Global, stack: &mut Vec<Term>, byte: u8) {
+    let made = match byte {
+        b'x' => Term::Var(0),
+        b'y' => Term::Var(1),
+        b'z' => Term::Var(2),
+        b'a' => constant(alloc, A),
+        b'b' => constant(alloc, B),
+        b'f' => unary(alloc, H, popped(rt, stack)).expect(rt, "memory"),
+        _ => {
+            let second = popped(rt, stack);
+            binary(alloc, G, popped(rt, stack), second).expect(rt, "memory")
         }
-    }
-    true
+    };
+    stack.push(made).expect(rt, "memory");
+}
+
+fn popped(rt: &impl Abort, stack: &mut Vec<Term>) -> Term {
+    stack.pop().expect(rt, "an argument")
 }
 
 /// Two terms, whether their sides are taken apart, and counts above their variables; and the terms for so many first variables of each
@@ -85,117 +88,75 @@ const UNIFIED: &[Unified] = &[
     },
 ];
 
-/// Whether two terms have the most general unifier of a row.
-fn has_its_unifier(alloc: Global, row: &Unified) -> Mem<bool> {
-    let terms = terms_of(alloc, row.terms)?;
-    let (Some(left), Some(right)) = (terms.first(), terms.last()) else {
-        return Ok(false);
-    };
-    let (first, second) = (u32::from(row.counts.0), u32::from(row.counts.1));
-    match unify(alloc, left, right, row.apart)? {
-        Some(found) if found.fits(first, second) => {
-            let (one, other) = found.substs(first, second)?;
-            let wanted = terms_of(alloc, row.left)?;
-            let wanted_right = terms_of(alloc, row.right)?;
-            Ok(are(&one, wanted.as_slice()) && are(&other, wanted_right.as_slice()))
-        }
-        _ => Ok(false),
-    }
-}
-
 #[test]
-fn pairs_are_unified(rt: HostRuntime) -> Result<(), Fail> {
-    for (index, row) in UNIFIED.iter().enumerate() {
-        assert!(rt; has_its_unifier(rt.alloc(), row)?, "{index}");
+fn pairs_are_unified(rt: HostRuntime) {
+    let alloc = rt.alloc();
+    for row in UNIFIED {
+        let terms = terms_of(&rt, alloc, row.terms);
+        let left = terms.first().expect(&rt, "a term");
+        let right = terms.last().expect(&rt, "a term");
+        let (first, second) = (u32::from(row.counts.0), u32::from(row.counts.1));
+        let found = unify(alloc, left, right, row.apart).expect(&rt, "memory");
+        let found = found.expect(&rt, "a unifier");
+        assert!(rt; found.fits(first, second));
+        let (one, other) = found.substs(first, second).expect(&rt, "memory");
+        let wanted = terms_of(&rt, alloc, row.left);
+        assert!(rt; same_terms(one.as_slice(), wanted.as_slice()));
+        let wanted = terms_of(&rt, alloc, row.right);
+        assert!(rt; same_terms(other.as_slice(), wanted.as_slice()));
     }
-    Ok(())
 }
 
-/// The size of an equation after a unifier.
-pub fn size_of_equation(
-    found: &Bindings,
-    bank: &Bank,
-    side: Side,
-    terms: (&TermRef, &TermRef),
-) -> Mem<u64>
-    requires left { IsOf bank.now terms.0.now }
-    requires right { IsOf bank.now terms.1.now }
-{
-    let literal = BankLit {
+/// The size of `f(X0,b) = b` on each side, after the unifier of `f(X0,b)` and `f(a,X0)` apart.
+#[test]
+fn the_size_of_an_instance(rt: HostRuntime) {
+    let alloc = rt.alloc();
+    let left = binary(alloc, G, Term::Var(0), constant(alloc, B)).expect(&rt, "memory");
+    let right = binary(alloc, G, constant(alloc, A), Term::Var(0)).expect(&rt, "memory");
+    let found = unify(alloc, &left, &right, true).expect(&rt, "memory");
+    let found = found.expect(&rt, "a unifier");
+    let (bank, mut table) = Bank::new(alloc).expect(&rt, "memory");
+    let term = bank
+        .intern(&rt, alloc, &mut table, &left)
+        .expect(&rt, "memory");
+    let b = bank
+        .intern(&rt, alloc, &mut table, &constant(alloc, B))
+        .expect(&rt, "memory");
+    let literals = [BankLit {
         positive: true,
-        left: terms.0.copy(),
-        right: terms.1.copy(),
-    };
-    found.instance_size(bank, side, &[literal])
+        left: term,
+        right: b,
+    }];
+    for side in [Side::Left, Side::Right] {
+        let size = found
+            .instance_size(&bank, side, &literals)
+            .expect(&rt, "memory");
+        assert_eq!(rt; size, 4);
+    }
+    let size = found.term_size(Side::Left, &left).expect(&rt, "memory");
+    assert_eq!(rt; size, 3);
 }
 
-/// The sizes of `f(X0,b) = b` and of `f(X0,b) = f(X0,b)` on the left, and of `b = f(X0,b)` on the right, after the unifier of
-/// `f(X0,b)` and `f(a,X0)` apart.
+/// `f(X0,X0)` is no pattern of `f(a,b)`, and one of `f(a,a)`. Then X0 stands for no b, and X1 may.
 #[test]
-fn the_size_of_an_instance(rt: HostRuntime) -> Result<(), Fail> {
+fn a_pattern_is_matched(rt: HostRuntime) {
     let alloc = rt.alloc();
-    let left = binary(alloc, G, Term::Var(0), constant(alloc, B))?;
-    let right = binary(alloc, G, constant(alloc, A), Term::Var(0))?;
-    let (bank, mut table) = Bank::new(alloc)?;
-    let term = bank.intern(&rt, alloc, &mut table, &left)?;
-    let b = bank.intern(&rt, alloc, &mut table, &constant(alloc, B))?;
-    let Some(found) = unify(alloc, &left, &right, true)? else {
-        return Err(Fail::new("no unifier"));
-    };
-    let small = size_of_equation(&found, &bank, Side::Left, (&term, &b))?;
-    let large = size_of_equation(&found, &bank, Side::Left, (&term, &term))?;
-    let other = size_of_equation(&found, &bank, Side::Right, (&b, &term))?;
-    assert!(rt; (small, large, other) == (4, 6, 4));
-    Ok(())
-}
-
-/// The terms for the first variables that turn a pattern into a target. None where there are none, or the
-/// count isn't above the pattern's variables.
-fn matched_terms(alloc: Global, pattern: &Term, target: &Term, count: u32) -> Mem<Option<Subst>> {
-    if pattern.variable_bound() > u64::from(count) {
-        return Ok(None);
-    }
-    let empty = Matched::empty(alloc);
-    match match_onto(alloc, pattern, target, &empty)? {
-        Some(pairs) => Ok(Some(pairs.subst(count)?)),
-        None => Ok(None),
-    }
-}
-
-/// Whether a further pattern can be turned into a further target with the same variables.
-fn can_go_on<'a>(
-    alloc: Global,
-    patterns: (&Term, &Term),
-    target: &'a Term,
-    further: &'a Term,
-) -> Mem<bool> {
-    let empty = Matched::empty(alloc);
-    let found = match_onto(alloc, patterns.0, target, &empty)?;
-    match found {
-        Some(pairs) => {
-            let more = match_onto(alloc, patterns.1, further, &pairs)?;
-            Ok(more.is_some())
-        }
-        None => Ok(false),
-    }
-}
-
-#[test]
-fn a_pattern_is_matched(rt: HostRuntime) -> Result<(), Fail> {
-    let alloc = rt.alloc();
-    let pattern = binary(alloc, G, Term::Var(0), Term::Var(0))?;
-    let differs = binary(alloc, G, constant(alloc, A), constant(alloc, B))?;
-    let same = binary(alloc, G, constant(alloc, A), constant(alloc, A))?;
+    let pattern = binary(alloc, G, Term::Var(0), Term::Var(0)).expect(&rt, "memory");
+    let differs = binary(alloc, G, constant(alloc, A), constant(alloc, B)).expect(&rt, "memory");
+    let same = binary(alloc, G, constant(alloc, A), constant(alloc, A)).expect(&rt, "memory");
     let b = constant(alloc, B);
-    assert!(rt; matched_terms(alloc, &pattern, &differs, 1)?.is_none());
-    let Some(terms) = matched_terms(alloc, &pattern, &same, 1)? else {
-        return Err(Fail::new("no matcher"));
-    };
-    assert!(rt; are(&terms, &[constant(alloc, A)]));
-    let known = can_go_on(alloc, (&pattern, &Term::Var(0)), &same, &b)?;
-    let further = can_go_on(alloc, (&pattern, &Term::Var(1)), &same, &b)?;
-    assert!(rt; !known && further);
-    Ok(())
+    let empty = Matched::empty(alloc);
+    let none = match_onto(alloc, &pattern, &differs, &empty).expect(&rt, "memory");
+    assert!(rt; none.is_none());
+    assert!(rt; pattern.variable_bound() <= 1);
+    let pairs = match_onto(alloc, &pattern, &same, &empty).expect(&rt, "memory");
+    let pairs = pairs.expect(&rt, "a matcher");
+    let terms = pairs.subst(1).expect(&rt, "memory");
+    assert!(rt; same_terms(terms.as_slice(), &[constant(alloc, A)]));
+    let known = match_onto(alloc, &Term::Var(0), &b, &pairs).expect(&rt, "memory");
+    assert!(rt; known.is_none());
+    let further = match_onto(alloc, &Term::Var(1), &b, &pairs).expect(&rt, "memory");
+    assert!(rt; further.is_some());
 }
 
 /// Pairs of terms, by a stack. Then a letter says what is known of the two: p where they unify, q where they do apart
@@ -236,22 +197,23 @@ const TABLE: [&str; 31] = [
 ];
 
 #[test]
-fn a_table_of_small_pairs(rt: HostRuntime) -> Result<(), Fail> {
+fn a_table_of_small_pairs(rt: HostRuntime) {
     let alloc = rt.alloc();
     let mut stack = Vec::new(alloc);
     let mut rows: u64 = 0;
     for line in TABLE {
         for byte in line.as_bytes() {
             if is_answer(*byte) {
-                assert!(rt; row(alloc, &mut stack)? == Some(wanted(*byte)));
+                let right = popped(&rt, &mut stack);
+                let left = popped(&rt, &mut stack);
+                assert!(rt; answers(&rt, alloc, &left, &right) == wanted(*byte));
                 rows = rows.saturating_add(1);
             } else {
-                step(alloc, &mut stack, *byte)?;
+                step(&rt, alloc, &mut stack, *byte);
             }
         }
     }
     assert_eq!(rt; rows, 302);
-    Ok(())
 }
 
 /// Whether two terms unify, whether they do apart, and whether the first one matches the second.
@@ -271,49 +233,10 @@ fn wanted(byte: u8) -> Answers {
     }
 }
 
-/// Takes the pair from the stack.
-fn row(alloc: Global, stack: &mut Vec<Term>) -> Mem<Option<Answers>> {
-    match stack.pop() {
-        Some(right) => match stack.pop() {
-            Some(left) => Ok(Some(row_of(alloc, &left, &right)?)),
-            None => Ok(None),
-        },
-        None => Ok(None),
-    }
-}
-
-fn row_of(alloc: Global, left: &Term, right: &Term) -> Mem<Answers> {
-    let together = unify(alloc, left, right, false)?;
-    let apart = unify(alloc, left, right, true)?;
+fn answers(rt: &impl Abort, alloc: Global, left: &Term, right: &Term) -> Answers {
+    let together = unify(alloc, left, right, false).expect(rt, "memory");
+    let apart = unify(alloc, left, right, true).expect(rt, "memory");
     let empty = Matched::empty(alloc);
-    let matched = match_onto(alloc, left, right, &empty)?;
-    Ok((together.is_some(), apart.is_some(), matched.is_some()))
-}
-
-fn step(alloc: Global, stack: &mut Vec<Term>, byte: u8) -> Mem<()> {
-    match byte {
-        b'x' => Ok(stack.push(Term::Var(0))?),
-        b'y' => Ok(stack.push(Term::Var(1))?),
-        b'z' => Ok(stack.push(Term::Var(2))?),
-        b'a' => Ok(stack.push(constant(alloc, A))?),
-        b'b' => Ok(stack.push(constant(alloc, B))?),
-        b'f' => push_unary(alloc, stack),
-        _ => push_binary(alloc, stack),
-    }
-}
-
-fn push_unary(alloc: Global, stack: &mut Vec<Term>) -> Mem<()> {
-    if let Some(argument) = stack.pop() {
-        stack.push(unary(alloc, H, argument)?)?;
-    }
-    Ok(())
-}
-
-fn push_binary(alloc: Global, stack: &mut Vec<Term>) -> Mem<()> {
-    if let Some(second) = stack.pop() {
-        if let Some(first) = stack.pop() {
-            stack.push(binary(alloc, G, first, second)?)?;
-        }
-    }
-    Ok(())
+    let matched = match_onto(alloc, left, right, &empty).expect(rt, "memory");
+    (together.is_some(), apart.is_some(), matched.is_some())
 }

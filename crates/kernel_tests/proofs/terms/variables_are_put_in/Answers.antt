@@ -6,7 +6,7 @@ use Rattle.kernel_tests.proofs.terms.variables_are_put_in.Goals as goal
 
 pub apply-requires : goal.apply-requires
 apply-requires g c =
-    VariablesBelow-bound (length c.push.new.self) (tree_of c.in_ok-term.term)
+    VariablesBelow-bound (length c.push.new.self) (tree_of c.atom-literal.result.left)
     (omega (arith, c.variable_bound.ensures.value, c.len.ensures))
 
 pub apply_literal-requires : goal.apply_literal-requires
