@@ -1,163 +1,91 @@
-// The comparisons on rows worked out by hand.
+// The comparisons on rows worked out by hand. Symbols rise as their letters.
 
-use fol_base::{Clause, Literal, Literals, Term, Terms};
+use fol_base::{Clause, Literal, Term, Terms};
 use kbo_order::*;
-use plain_types::Names;
-use sample_terms::{binary, constant, unary};
+use sample_terms::{binary, clause, constant, unary};
 use std::alloc::Global;
-use std::test::Fail;
+use std::process::Abort;
 
-/// The number of a symbol: they rise in the order a, b, f, g, p, q.
-fn symbol(letter: u8) -> u32 {
-    match letter {
-        b't' => 0,
-        b'a' => 1,
-        b'b' => 2,
-        b'f' | b'F' => 3,
-        b'g' | b'G' => 4,
-        b'p' => 5,
-        _ => 6,
-    }
+const A: u32 = 1;
+
+const B: u32 = 2;
+
+const F: u32 = 6;
+
+const G: u32 = 7;
+
+/// The first literal of a clause.
+fn first<'a>(rt: &impl Abort, clause: &'a Clause) -> &'a Literal {
+    clause.literals.as_slice().first().expect(rt, "a literal")
 }
 
-/// A term in postfix notation: a digit is a variable, `t` is `$true`, `a` and `b` are constants, `F` and `G` are f and g
-/// with two arguments, and any other letter is a symbol with one.
-fn term(alloc: Global, text: &str) -> Result<Term, Fail> {
-    let mut stack = Vec::new(alloc);
-    for letter in text.bytes() {
-        let made = match letter {
-            b'0'..=b'9' => Term::Var(u32::from(letter - b'0')),
-            b't' | b'a' | b'b' => constant(alloc, symbol(letter)),
-            b'F' | b'G' => {
-                let second = stack.pop().ok_or("no argument")?;
-                let first = stack.pop().ok_or("no argument")?;
-                binary(alloc, symbol(letter), first, second)?
-            }
-            _ => unary(alloc, symbol(letter), stack.pop().ok_or("no argument")?)?,
-        };
-        stack.push(made)?;
-    }
-    Ok(stack.pop().ok_or("no term")?)
+fn compared(rt: &impl Abort, left: &Term, right: &Term) -> Cmp {
+    assert!(rt; left.size() < COMPARED_SIZE_LIMIT);
+    assert!(rt; right.size() < COMPARED_SIZE_LIMIT);
+    compare(left, right)
 }
 
-fn literal(alloc: Global, positive: bool, left: &str, right: &str) -> Result<Literal, Fail> {
-    let left = term(alloc, left)?;
-    let right = term(alloc, right)?;
-    Ok(Literal {
-        positive,
-        left,
-        right,
-    })
-}
-
-/// A clause of atoms, each by its predicate term; the empty text is none.
-fn clause(alloc: Global, atoms: [&str; 2]) -> Result<Clause, Fail> {
-    let mut literals = Literals::new(alloc);
-    for atom in atoms {
-        if !atom.is_empty() {
-            literals.push(literal(alloc, true, atom, "t")?)?;
-        }
+/// The rows are equations, and how the left side compares with the right one.
+#[test]
+fn terms_are_compared(rt: HostRuntime) {
+    let rows = [
+        ("f(X0) = X0", Cmp::Greater),
+        ("X0 = f(X0)", Cmp::Less),
+        ("f(X0) = f(X1)", Cmp::Unordered),
+        ("X0 = a", Cmp::Unordered),
+        ("g(a) = f(a)", Cmp::Greater),
+        ("f(a,b) = f(b,a)", Cmp::Less),
+        ("f(b,a) = f(a,b)", Cmp::Greater),
+        ("f(a) = b", Cmp::Greater),
+        ("f(g(X0),X1) = f(g(X1),X0)", Cmp::Unordered),
+        ("f(g(X0),X1) = f(g(X0),X1)", Cmp::Equal),
+    ];
+    for (text, answer) in rows {
+        let read = clause(rt.alloc(), text).expect(&rt, "memory");
+        let equation = first(&rt, &read);
+        assert!(rt;
+            compared(&rt, &equation.left, &equation.right) == answer,
+            "{text}"
+        );
     }
-    Ok(Clause {
-        literals,
-        names: Names::new(alloc),
-    })
 }
 
 /// A symbol applied to the variables of a range.
-fn row(alloc: Global, symbol: u32, from: u32, to: u32) -> Result<Term, Fail> {
+fn row(rt: &impl Abort, alloc: Global, symbol: u32, from: u32, to: u32) -> Term {
     let mut arguments = Terms::new(alloc);
     for variable in from..to {
-        arguments.push(Term::Var(variable))?;
+        arguments.push(Term::Var(variable)).expect(rt, "memory");
     }
-    Ok(Term::App(symbol, arguments))
-}
-
-fn compared(left: &Term, right: &Term) -> Option<Cmp> {
-    if left.size() < COMPARED_SIZE_LIMIT && right.size() < COMPARED_SIZE_LIMIT {
-        return Some(compare(left, right));
-    }
-    None
-}
-
-fn compared_literals(left: &Literal, right: &Literal) -> Option<Cmp> {
-    if left.size() < COMPARED_SIZE_LIMIT && right.size() < COMPARED_SIZE_LIMIT {
-        return Some(compare_literals(left.lend(), right.lend()));
-    }
-    None
-}
-
-fn compared_clauses(left: &Clause, right: &Clause) -> Option<Cmp> {
-    if left.size() < COMPARED_SIZE_LIMIT && right.size() < COMPARED_SIZE_LIMIT {
-        return Some(compare_clauses(&left.literals, &right.literals.as_slice()));
-    }
-    None
-}
-
-#[test]
-fn terms_are_compared(rt: HostRuntime) -> Result<(), Fail> {
-    let alloc = rt.alloc();
-    let rows = [
-        ("0f", "0", Cmp::Greater),
-        ("0", "0f", Cmp::Less),
-        ("0f", "1f", Cmp::Unordered),
-        ("0", "a", Cmp::Unordered),
-        ("ag", "af", Cmp::Greater),
-        ("abF", "baF", Cmp::Less),
-        ("baF", "abF", Cmp::Greater),
-        ("af", "b", Cmp::Greater),
-        ("0g1F", "1g0F", Cmp::Unordered),
-        ("0g1F", "0g1F", Cmp::Equal),
-    ];
-    for (left, right, answer) in rows {
-        let left = term(alloc, left)?;
-        let right = term(alloc, right)?;
-        assert_eq!(rt; compared(&left, &right), Some(answer));
-    }
-    Ok(())
+    Term::App(symbol, arguments)
 }
 
 /// Variables in several blocks, and numbers near the end of u32. In the third and the fourth row the first block alone
 /// would answer Greater and Less.
 #[test]
-fn many_variables_are_compared(rt: HostRuntime) -> Result<(), Fail> {
+fn many_variables_are_compared(rt: HostRuntime) {
     let alloc = rt.alloc();
     let rows = [
-        (4, 0, 200, 3, 0, 200, Cmp::Greater),
-        (3, 0, 200, 3, 0, 200, Cmp::Equal),
-        (4, 0, 200, 3, 1, 201, Cmp::Unordered),
-        (3, 1, 201, 4, 0, 200, Cmp::Unordered),
-        (4, 1, 201, 3, 0, 200, Cmp::Unordered),
-        (4, 0, 200, 3, 0, 201, Cmp::Less),
+        (G, 0, 200, F, 0, 200, Cmp::Greater),
+        (F, 0, 200, F, 0, 200, Cmp::Equal),
+        (G, 0, 200, F, 1, 201, Cmp::Unordered),
+        (F, 1, 201, G, 0, 200, Cmp::Unordered),
+        (G, 1, 201, F, 0, 200, Cmp::Unordered),
+        (G, 0, 200, F, 0, 201, Cmp::Less),
         (
-            3,
-            4_294_967_293,
-            4_294_967_295,
-            4,
-            4_294_967_293,
-            4_294_967_295,
+            F,
+            u32::MAX - 2,
+            u32::MAX,
+            G,
+            u32::MAX - 2,
+            u32::MAX,
             Cmp::Less,
         ),
     ];
     for (head, from, to, other, other_from, other_to, answer) in rows {
-        let left = row(alloc, head, from, to)?;
-        let right = row(alloc, other, other_from, other_to)?;
-        assert_eq!(rt; compared(&left, &right), Some(answer));
+        let left = row(&rt, alloc, head, from, to);
+        let right = row(&rt, alloc, other, other_from, other_to);
+        assert!(rt; compared(&rt, &left, &right) == answer);
     }
-    Ok(())
-}
-
-/// The depth that the recursion has to stand.
-#[test]
-fn tall_terms_are_compared(rt: HostRuntime) -> Result<(), Fail> {
-    let alloc = rt.alloc();
-    let (mut left, mut right) = (term(alloc, "b")?, term(alloc, "a")?);
-    for _ in 0..4_000 {
-        left = unary(alloc, 3, left)?;
-        right = unary(alloc, 3, right)?;
-    }
-    assert_eq!(rt; compared(&left, &right), Some(Cmp::Greater));
-    Ok(())
 }
 
 /// How often each pair of large terms is compared. The benchmark raises it.
@@ -166,7 +94,7 @@ const COMPARISONS: u32 = 1;
 /// How large terms are built.
 #[derive(Clone, Copy)]
 enum Shape {
-    /// Unary symbols over a constant.
+    /// Unary symbols over a constant: as deep as the recursion has to stand.
     Tower,
     /// A binary symbol, so many levels deep.
     Balanced,
@@ -176,60 +104,65 @@ enum Shape {
     Variables(u32),
 }
 
-fn tower(alloc: Global, height: u32, last: u32) -> Result<Term, Fail> {
+fn tower(rt: &impl Abort, alloc: Global, height: u32, last: u32) -> Term {
     let mut made = constant(alloc, last);
     for _ in 0..height {
-        made = unary(alloc, 3, made)?;
+        made = unary(alloc, F, made).expect(rt, "memory");
     }
-    Ok(made)
+    made
 }
 
 /// A full binary tree of that depth, the last leaf of which is given.
-fn balanced(alloc: Global, depth: u32, last: u32) -> Result<Term, Fail> {
-    let mut whole = constant(alloc, 1);
+fn balanced(rt: &impl Abort, alloc: Global, depth: u32, last: u32) -> Term {
+    let mut whole = constant(alloc, A);
     let mut edge = constant(alloc, last);
     for _ in 0..depth {
-        edge = binary(alloc, 3, whole.copy(alloc)?, edge)?;
-        whole = binary(alloc, 3, whole.copy(alloc)?, whole)?;
+        let left = whole.copy(alloc).expect(rt, "memory");
+        edge = binary(alloc, F, left, edge).expect(rt, "memory");
+        let left = whole.copy(alloc).expect(rt, "memory");
+        whole = binary(alloc, F, left, whole).expect(rt, "memory");
     }
-    Ok(edge)
+    edge
 }
 
-fn wide(alloc: Global, count: u32, last: u32) -> Result<Term, Fail> {
+fn wide(rt: &impl Abort, alloc: Global, count: u32, last: u32) -> Term {
     let mut arguments = Terms::new(alloc);
     for _ in 1..count {
-        arguments.push(constant(alloc, 1))?;
+        arguments.push(constant(alloc, A)).expect(rt, "memory");
     }
-    arguments.push(constant(alloc, last))?;
-    Ok(Term::App(3, arguments))
+    arguments.push(constant(alloc, last)).expect(rt, "memory");
+    Term::App(F, arguments)
 }
 
 /// A symbol over that many occurrences of different variables in turn.
-fn over_variables(alloc: Global, head: u32, count: u32, different: u32) -> Result<Term, Fail> {
+fn over_variables(rt: &impl Abort, alloc: Global, head: u32, count: u32, different: u32) -> Term {
     let mut arguments = Terms::new(alloc);
     for index in 0..count {
-        arguments.push(Term::Var(index.checked_rem(different).unwrap_or(0)))?;
+        let variable = index.checked_rem(different).unwrap_or(0);
+        arguments.push(Term::Var(variable)).expect(rt, "memory");
     }
-    Ok(Term::App(head, arguments))
+    Term::App(head, arguments)
 }
 
 /// Two terms of a shape, the first of which is greater.
-fn large_pair(alloc: Global, shape: Shape, measure: u32) -> Result<(Term, Term), Fail> {
-    Ok(match shape {
-        Shape::Tower => (tower(alloc, measure, 2)?, tower(alloc, measure, 1)?),
-        Shape::Balanced => (balanced(alloc, measure, 2)?, balanced(alloc, measure, 1)?),
-        Shape::Wide => (wide(alloc, measure, 2)?, wide(alloc, measure, 1)?),
-        Shape::Variables(different) => {
-            let greater = over_variables(alloc, 4, measure, different)?;
-            (greater, over_variables(alloc, 3, measure, different)?)
-        }
-    })
+fn large_pair(rt: &impl Abort, alloc: Global, shape: Shape, measure: u32) -> (Term, Term) {
+    match shape {
+        Shape::Tower => (tower(rt, alloc, measure, B), tower(rt, alloc, measure, A)),
+        Shape::Balanced => (
+            balanced(rt, alloc, measure, B),
+            balanced(rt, alloc, measure, A),
+        ),
+        Shape::Wide => (wide(rt, alloc, measure, B), wide(rt, alloc, measure, A)),
+        Shape::Variables(different) => (
+            over_variables(rt, alloc, G, measure, different),
+            over_variables(rt, alloc, F, measure, different),
+        ),
+    }
 }
 
 /// Terms of some 100, 1,000 and 4,000 symbols that differ in their last symbol, or in their head over many variables.
 #[test]
-fn large_terms_are_compared(rt: HostRuntime) -> Result<(), Fail> {
-    let alloc = rt.alloc();
+fn large_terms_are_compared(rt: HostRuntime) {
     let rows = [
         (Shape::Tower, [99, 999, 3_999]),
         (Shape::Balanced, [6, 9, 11]),
@@ -239,50 +172,50 @@ fn large_terms_are_compared(rt: HostRuntime) -> Result<(), Fail> {
     ];
     for (shape, measures) in rows {
         for measure in measures {
-            let (greater, less) = large_pair(alloc, shape, measure)?;
+            let (greater, less) = large_pair(&rt, rt.alloc(), shape, measure);
             for _ in 0..COMPARISONS {
-                assert_eq!(rt; compared(&greater, &less), Some(Cmp::Greater));
+                assert!(rt; compared(&rt, &greater, &less) == Cmp::Greater);
             }
-            assert_eq!(rt; compared(&less, &less), Some(Cmp::Equal));
+            assert!(rt; compared(&rt, &less, &less) == Cmp::Equal);
         }
     }
-    Ok(())
 }
 
 #[test]
-fn literals_are_compared(rt: HostRuntime) -> Result<(), Fail> {
-    let alloc = rt.alloc();
+fn literals_are_compared(rt: HostRuntime) {
     let rows = [
-        (true, "af", "b", false, "af", "b", Cmp::Less),
-        (false, "af", "b", true, "af", "b", Cmp::Greater),
-        (true, "af", "b", true, "b", "af", Cmp::Equal),
-        (true, "af", "b", true, "af", "a", Cmp::Greater),
-        (true, "af", "b", false, "a", "b", Cmp::Greater),
-        (false, "a", "b", false, "af", "b", Cmp::Less),
-        (true, "0f", "a", true, "1f", "a", Cmp::Unordered),
-    ];
-    for (positive, left, right, other_positive, other_left, other_right, answer) in rows {
-        let first = literal(alloc, positive, left, right)?;
-        let second = literal(alloc, other_positive, other_left, other_right)?;
-        assert_eq!(rt; compared_literals(&first, &second), Some(answer));
-    }
-    Ok(())
-}
-
-#[test]
-fn clauses_are_compared(rt: HostRuntime) -> Result<(), Fail> {
-    let alloc = rt.alloc();
-    let rows = [
-        (["ap", ""], ["ap", "aq"], Cmp::Less),
-        (["ap", "aq"], ["aq", "ap"], Cmp::Equal),
-        (["ap", "ap"], ["ap", ""], Cmp::Greater),
-        (["ap", "ap"], ["ap", "aq"], Cmp::Less),
-        (["0p", ""], ["ap", ""], Cmp::Unordered),
+        ("f(a) = b", "f(a) != b", Cmp::Less),
+        ("f(a) != b", "f(a) = b", Cmp::Greater),
+        ("f(a) = b", "b = f(a)", Cmp::Equal),
+        ("f(a) = b", "f(a) = a", Cmp::Greater),
+        ("f(a) = b", "a != b", Cmp::Greater),
+        ("a != b", "f(a) != b", Cmp::Less),
+        ("f(X0) = a", "f(X1) = a", Cmp::Unordered),
     ];
     for (left, right, answer) in rows {
-        let left = clause(alloc, left)?;
-        let right = clause(alloc, right)?;
-        assert_eq!(rt; compared_clauses(&left, &right), Some(answer));
+        let left = clause(rt.alloc(), left).expect(&rt, "memory");
+        let right = clause(rt.alloc(), right).expect(&rt, "memory");
+        let (left, right) = (first(&rt, &left), first(&rt, &right));
+        assert!(rt; left.size() < COMPARED_SIZE_LIMIT);
+        assert!(rt; right.size() < COMPARED_SIZE_LIMIT);
+        assert!(rt; compare_literals(left.lend(), right.lend()) == answer);
     }
-    Ok(())
+}
+
+#[test]
+fn clauses_are_compared(rt: HostRuntime) {
+    let rows = [
+        ("p(a)", "p(a) | q(a)", Cmp::Less),
+        ("p(a) | q(a)", "q(a) | p(a)", Cmp::Equal),
+        ("p(a) | p(a)", "p(a)", Cmp::Greater),
+        ("p(a) | p(a)", "p(a) | q(a)", Cmp::Less),
+        ("p(X0)", "p(a)", Cmp::Unordered),
+    ];
+    for (left, right, answer) in rows {
+        let left = clause(rt.alloc(), left).expect(&rt, "memory");
+        let right = clause(rt.alloc(), right).expect(&rt, "memory");
+        assert!(rt; left.size() < COMPARED_SIZE_LIMIT);
+        assert!(rt; right.size() < COMPARED_SIZE_LIMIT);
+        assert!(rt; compare_clauses(&left.literals, &right.literals.as_slice()) == answer);
+    }
 }
