@@ -1,66 +1,54 @@
 // What no clause says of clausal forms: outside rows, and that calls succeed.
 
 use crate::printing::print_clauses;
-use crate::texts::{conjunctions, equivalences, falsities, literals, named_clause, problem_of};
+use crate::texts::{conjunctions, equivalences, named_clause, problem_of, repeated};
 use clausal_form::{Clausal, FormFault, clausal};
-use plain_types::{Mem, NoMemory};
 use std::alloc::Global;
-use std::test::Fail;
+use std::process::Abort;
 
-/// The form of a text, or the cause and the formula of the fault. Want of memory is handed on, so that no row is taken for another answer.
-fn form_of(alloc: Global, text: &[u8]) -> Mem<Result<Clausal, Vec<u8>>> {
-    let problem = problem_of(alloc, text)?;
+/// The form of a text, or the cause and the formula of the fault.
+fn form_of(rt: &impl Abort, alloc: Global, text: &[u8]) -> Result<Clausal, Vec<u8>> {
+    let problem = problem_of(rt, alloc, text);
     match clausal(alloc, &problem) {
-        Ok(form) => Ok(Ok(form)),
-        Err(FormFault::NoMemory) => Err(NoMemory),
+        Ok(form) => Ok(form),
+        Err(FormFault::NoMemory) => rt.panic("memory"),
         Err(FormFault::Refused(cause, name)) => {
-            let mut page = format!(in alloc; "{cause:?} ")?.into_bytes();
-            page.extend_from_slice(name.as_slice())?;
-            Ok(Err(page))
+            let cause = format!(in alloc; "{cause:?} ").expect(rt, "memory");
+            let mut page = cause.into_bytes();
+            page.extend_from_slice(name.as_slice()).expect(rt, "memory");
+            Err(page)
         }
     }
 }
 
-/// How many clauses and symbols the form of a text has, and its last symbol; or the fault.
-fn counts(alloc: Global, text: &[u8]) -> Mem<Vec<u8>> {
-    let form = match form_of(alloc, text)? {
-        Ok(form) => form,
-        Err(fault) => return Ok(fault),
-    };
-    let clauses = form.clauses.len();
-    let symbols = form.signature.len();
-    let mut page = format!(in alloc; "{clauses} {symbols} ")?.into_bytes();
-    if let Some(last) = form.signature.as_slice().last() {
-        page.extend_from_slice(last.name.as_slice())?;
+/// How many clauses and symbols a form has, and its last symbol; or the fault.
+fn counts(rt: &impl Abort, alloc: Global, form: Result<Clausal, Vec<u8>>) -> Vec<u8> {
+    match form {
+        Ok(form) => {
+            let clauses = form.clauses.len();
+            let symbols = form.signature.len();
+            let counted = format!(in alloc; "{clauses} {symbols} ").expect(rt, "memory");
+            let mut page = counted.into_bytes();
+            if let Some(last) = form.signature.as_slice().last() {
+                page.extend_from_slice(last.name.as_slice())
+                    .expect(rt, "memory");
+            }
+            page
+        }
+        Err(fault) => fault,
     }
-    Ok(page)
 }
 
-/// The clauses of the form of a text, or the fault.
-fn clauses(alloc: Global, text: &[u8]) -> Mem<Vec<u8>> {
-    match form_of(alloc, text)? {
-        Ok(form) => print_clauses(alloc, &form),
-        Err(fault) => Ok(fault),
+/// The clauses of the form of a text.
+fn clauses(rt: &impl Abort, alloc: Global, text: &[u8]) -> Vec<u8> {
+    match form_of(rt, alloc, text) {
+        Ok(form) => print_clauses(rt, alloc, &form),
+        Err(fault) => fault,
     }
 }
 
 /// A text, its clauses, and how many clauses and symbols there are, with the last symbol.
 type Row = (&'static [u8], &'static [u8], &'static [u8]);
-
-/// The index of the first row that is answered otherwise; the number of rows where there is none.
-fn first_failure(alloc: Global, rows: &[Row]) -> Mem<usize> {
-    for (index, (text, listed, counted)) in rows.iter().enumerate() {
-        let found = clauses(alloc, text)?;
-        if found.as_slice() != *listed {
-            return Ok(index);
-        }
-        let found = counts(alloc, text)?;
-        if found.as_slice() != *counted {
-            return Ok(index);
-        }
-    }
-    Ok(rows.len())
-}
 
 /// Short problems: an equivalence, a conjecture, Skolem symbols, how far a quantifier reaches, and problems with constants of their own.
 const PROBLEMS: &[Row] = &[
@@ -85,74 +73,75 @@ const PROBLEMS: &[Row] = &[
 ];
 
 #[test]
-fn forms_of_short_problems(rt: HostRuntime) -> Result<(), Fail> {
-    assert_eq!(rt; first_failure(rt.alloc(), PROBLEMS)?, PROBLEMS.len());
-    Ok(())
+fn forms_of_short_problems(rt: HostRuntime) {
+    let alloc = rt.alloc();
+    for (index, (text, listed, counted)) in PROBLEMS.iter().enumerate() {
+        assert!(rt;
+            clauses(&rt, alloc, text).as_slice() == *listed,
+            "row {index}"
+        );
+        let found = counts(&rt, alloc, form_of(&rt, alloc, text));
+        assert!(rt; found.as_slice() == *counted, "row {index}");
+    }
+}
+
+/// The counts of a text.
+fn expect_counts(rt: &impl Abort, alloc: Global, text: &[u8], wanted: &str) {
+    let found = counts(rt, alloc, form_of(rt, alloc, text));
+    assert!(rt; found.as_slice() == wanted.as_bytes(), "{wanted}");
 }
 
 /// Products of over 64 clauses are named, and clauses of over 4,000 symbols, also of those that define a name, and formulas of over
-/// 1,000,000 atoms are refused. A literal without arguments has 2 symbols.
+/// 1,000,000 atoms are refused. A literal without arguments has 2 symbols. Many times `$false` take no room.
 #[test]
-fn limits_of_formulas(rt: HostRuntime) -> Result<(), Fail> {
+fn limits_of_formulas(rt: HostRuntime) {
     let alloc = rt.alloc();
-    let rows: [(Vec<u8>, &'static [u8]); 9] = [
-        (conjunctions(alloc, 6, "", "")?, b"64 14 hc0"),
-        (conjunctions(alloc, 7, "", "")?, b"66 17 hc0"),
-        (conjunctions(alloc, 13, "", "")?, b"130 30 hc0"),
-        (literals(alloc, 1_999, b"p")?, b"1 3 hc0"),
-        (literals(alloc, 1_999, b"q(a)")?, b"TooHeavy a"),
-        (literals(alloc, 2_000, b"p")?, b"TooHeavy a"),
-        (named_clause(alloc, 1_999)?, b"17 6 hc0"),
-        (named_clause(alloc, 2_000)?, b"TooHeavy a"),
-        (equivalences(alloc, 19)?, b"Expansion a"),
-    ];
-    for (text, wanted) in rows.as_slice() {
-        assert!(rt; counts(alloc, text.as_slice())?.as_slice() == *wanted);
+    for (count, wanted) in [(6, "64 14 hc0"), (7, "66 17 hc0"), (13, "130 30 hc0")] {
+        let text = conjunctions(&rt, alloc, count, "", "");
+        expect_counts(&rt, alloc, text.as_slice(), wanted);
     }
-    Ok(())
+    for (before, part, count, after, wanted) in [
+        ("cnf(a,axiom,", "p|", 1_999, "p).", "1 3 hc0"),
+        ("cnf(a,axiom,", "p|", 1_999, "q(a)).", "TooHeavy a"),
+        ("cnf(a,axiom,", "p|", 2_000, "p).", "TooHeavy a"),
+        ("fof(a,axiom,p", "|$false", 50_000, ").", "1 3 hc0"),
+    ] {
+        let text = repeated(&rt, alloc, before, part, count, after);
+        expect_counts(&rt, alloc, text.as_slice(), wanted);
+    }
+    for (count, wanted) in [(1_999, "17 6 hc0"), (2_000, "TooHeavy a")] {
+        let text = named_clause(&rt, alloc, count);
+        expect_counts(&rt, alloc, text.as_slice(), wanted);
+    }
+    let text = equivalences(&rt, alloc, 19);
+    expect_counts(&rt, alloc, text.as_slice(), "Expansion a");
 }
 
 /// The clauses with names come first, and those that define them behind. A name has the variables that were made before its product.
 #[test]
-fn named_products(rt: HostRuntime) -> Result<(), Fail> {
+fn named_products(rt: HostRuntime) {
     let alloc = rt.alloc();
-    let seven = conjunctions(alloc, 7, "![X]:", "(X)")?;
-    let listed = clauses(alloc, seven.as_slice())?;
+    let seven = conjunctions(&rt, alloc, 7, "![X]:", "(X)");
+    let listed = clauses(&rt, alloc, seven.as_slice());
     assert!(rt;
         listed.as_slice().starts_with(
             b"nm0(X0)|p6(X0) nm0(X0)|q6(X0) ~nm0(X0)|p0(X0)|p1(X0)|p2(X0)|p3(X0)|p4(X0)|p5(X0) "
         )
     );
-    let thirteen = conjunctions(alloc, 13, "", "")?;
-    let listed = clauses(alloc, thirteen.as_slice())?;
+    let thirteen = conjunctions(&rt, alloc, 13, "", "");
+    let listed = clauses(&rt, alloc, thirteen.as_slice());
     assert!(rt;
         listed.as_slice().starts_with(
             b"nm1|p12 nm1|q12 ~nm0|p0|p1|p2|p3|p4|p5 ~nm0|p0|p1|p2|p3|p4|q5 "
         )
     );
     assert!(rt; listed.as_slice().ends_with(b"~nm1|nm0|q6|q7|q8|q9|q10|q11"));
-    Ok(())
-}
-
-/// Many times `$false` take no room.
-#[test]
-fn falsities_take_no_room(rt: HostRuntime) -> Result<(), Fail> {
-    let alloc = rt.alloc();
-    let text = falsities(alloc, 50_000)?;
-    assert!(rt; counts(alloc, text.as_slice())?.as_slice() == b"1 3 hc0".as_slice());
-    Ok(())
 }
 
 /// Each clause has the place of its formula.
 #[test]
-fn clauses_have_origins(rt: HostRuntime) -> Result<(), Fail> {
-    let alloc = rt.alloc();
-    match form_of(
-        alloc,
-        b"fof(a,axiom,p&q).cnf(b,axiom,r(X)).fof(c,axiom,$true).fof(d,axiom,s).",
-    )? {
-        Ok(form) => assert!(rt; form.origins.as_slice() == [0, 0, 1, 3].as_slice()),
-        Err(_) => assert!(rt; false),
-    }
-    Ok(())
+fn clauses_have_origins(rt: HostRuntime) {
+    let text = b"fof(a,axiom,p&q).cnf(b,axiom,r(X)).fof(c,axiom,$true).fof(d,axiom,s).";
+    let form = form_of(&rt, rt.alloc(), text).ok().expect(&rt, "a form");
+    assert!(rt; form.origins.as_slice() == [0, 0, 1, 3].as_slice());
 }

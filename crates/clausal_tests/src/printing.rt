@@ -5,37 +5,36 @@ use fol_base::{Clause, Term};
 use plain_types::Mem;
 use signature::Signature;
 use std::alloc::Global;
+use std::process::Abort;
 
 /// The clauses of a form, a space between them.
-pub(crate) fn print_clauses(alloc: Global, form: &Clausal) -> Mem<Vec<u8>> {
+pub(crate) fn print_clauses(rt: &impl Abort, alloc: Global, form: &Clausal) -> Vec<u8> {
     let mut page = Vec::new(alloc);
     for clause in form.clauses.as_slice() {
         if !page.is_empty() {
-            page.push(b' ')?;
+            page.push(b' ').expect(rt, "memory");
         }
-        print_clause(alloc, &form.signature, clause, &mut page)?;
+        print_clause(rt, alloc, &form.signature, clause, &mut page);
     }
-    Ok(page)
+    page
 }
 
 fn print_clause(
+    rt: &impl Abort,
     alloc: Global,
     signature: &Signature,
     clause: &Clause,
     page: &mut Vec<u8>,
-) -> Mem<()> {
-    let mut is_first = true;
-    for literal in clause.literals.as_slice() {
-        if !is_first {
-            page.push(b'|')?;
+) {
+    for (index, literal) in clause.literals.as_slice().iter().enumerate() {
+        if index > 0 {
+            page.push(b'|').expect(rt, "memory");
         }
-        is_first = false;
         if !literal.positive {
-            page.push(b'~')?;
+            page.push(b'~').expect(rt, "memory");
         }
-        print_term(alloc, signature, &literal.left, page)?;
+        print_term(alloc, signature, &literal.left, page).expect(rt, "memory");
     }
-    Ok(())
 }
 
 #[cycle(print_term)]

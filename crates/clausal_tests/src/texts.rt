@@ -1,92 +1,78 @@
 // Texts of large formulas, and how a text is read.
 
-ghost use Rattle.std.specs.Prelude.{IfOk};
 ghost use Rattle.tptp_tree.specs.ProblemSize.{HasProblemSize};
 
 use outside::{Files, MemFile, MemLibrary};
-use plain_types::{Mem, NoMemory, Numbers};
+use plain_types::Numbers;
 use std::alloc::Global;
+use std::process::Abort;
 use tptp_problem::read_problem;
 use tptp_tree::Problem;
 
 /// The problem of a text, which has to be one.
-pub(crate) fn problem_of(alloc: Global, text: &[u8]) -> Mem<Problem>
-    ensures { IfOk result (λ problem. HasProblemSize problem.formulas) }
+pub(crate) fn problem_of(rt: &impl Abort, alloc: Global, text: &[u8]) -> Problem
+    ensures { HasProblemSize result.formulas }
 {
+    let file = MemFile::new(alloc, "a.p", text).expect(rt, "memory");
     let mut files = Files::new(alloc);
-    files.push(MemFile::new(alloc, "a.p", text)?)?;
+    files.push(file).expect(rt, "memory");
     let mut library = MemLibrary::new(alloc, files, Numbers::new(alloc));
     match read_problem(alloc, &mut library, "a.p", None) {
-        Ok(problem) => Ok(problem),
-        Err(_) => Err(NoMemory),
+        Ok(problem) => problem,
+        Err(_) => rt.panic("no problem"),
     }
 }
 
 /// `(p0&q0)|(p1&q1)|..`, so many conjunctions, behind a quantifier or nothing. Each predicate has the arguments, or none.
 pub(crate) fn conjunctions(
+    rt: &impl Abort,
     alloc: Global,
     count: u32,
     quantifier: &str,
     arguments: &str,
-) -> Mem<Vec<u8>> {
-    let mut text = Vec::new(alloc);
-    text.extend_from_slice(format!(in alloc; "fof(a,axiom,{quantifier}(")?.as_bytes())?;
+) -> Vec<u8> {
+    let mut text = format!(in alloc; "fof(a,axiom,{quantifier}(").expect(rt, "memory");
     for number in 0..count {
-        if number > 0 {
-            text.push(b'|')?;
-        }
-        let member = format!(in alloc; "(p{number}{arguments}&q{number}{arguments})")?;
-        text.extend_from_slice(member.as_bytes())?;
+        let sign = if number > 0 { "|" } else { "" };
+        let member = format!(in alloc; "{sign}(p{number}{arguments}&q{number}{arguments})");
+        text.push_str(member.expect(rt, "memory").as_str())
+            .expect(rt, "memory");
     }
-    text.extend_from_slice(b")).")?;
-    Ok(text)
+    text.push_str(")).").expect(rt, "memory");
+    text.into_bytes()
+}
+
+/// A text with a part that is repeated so many times.
+pub(crate) fn repeated(
+    rt: &impl Abort,
+    alloc: Global,
+    before: &str,
+    part: &str,
+    count: usize,
+    after: &str,
+) -> Vec<u8> {
+    let middle = part.repeat(alloc, count).expect(rt, "memory");
+    format!(in alloc; "{before}{middle}{after}")
+        .expect(rt, "memory")
+        .into_bytes()
 }
 
 /// `((p|p|..)&q&..&q)|(r&..&r)`: so many times `p`, eight times `q` and eight times `r`. The nine clauses of the first part get a name.
-pub(crate) fn named_clause(alloc: Global, count: u32) -> Mem<Vec<u8>> {
-    let mut text = Vec::new(alloc);
-    text.extend_from_slice(b"fof(a,axiom,((p")?;
-    for _ in 1..count {
-        text.extend_from_slice(b"|p")?;
-    }
-    text.extend_from_slice(b")&q&q&q&q&q&q&q&q)|(r&r&r&r&r&r&r&r)).")?;
-    Ok(text)
-}
-
-/// `p|p|..`, so many literals, and then a last one.
-pub(crate) fn literals(alloc: Global, count: u32, last: &[u8]) -> Mem<Vec<u8>> {
-    let mut text = Vec::new(alloc);
-    text.extend_from_slice(b"cnf(a,axiom,")?;
-    for _ in 0..count {
-        text.extend_from_slice(b"p|")?;
-    }
-    text.extend_from_slice(last)?;
-    text.extend_from_slice(b").")?;
-    Ok(text)
-}
-
-/// `p|$false|$false|..`, so many times `$false`.
-pub(crate) fn falsities(alloc: Global, count: u32) -> Mem<Vec<u8>> {
-    let mut text = Vec::new(alloc);
-    text.extend_from_slice(b"fof(a,axiom,p")?;
-    for _ in 0..count {
-        text.extend_from_slice(b"|$false")?;
-    }
-    text.extend_from_slice(b").")?;
-    Ok(text)
+pub(crate) fn named_clause(rt: &impl Abort, alloc: Global, count: usize) -> Vec<u8> {
+    let after = "p)&q&q&q&q&q&q&q&q)|(r&r&r&r&r&r&r&r)).";
+    repeated(
+        rt,
+        alloc,
+        "fof(a,axiom,((",
+        "p|",
+        count.saturating_sub(1),
+        after,
+    )
 }
 
 /// `p<=>(p<=>(..))`, so many equivalences.
-pub(crate) fn equivalences(alloc: Global, count: u32) -> Mem<Vec<u8>> {
-    let mut text = Vec::new(alloc);
-    text.extend_from_slice(b"fof(a,axiom,")?;
-    for _ in 0..count {
-        text.extend_from_slice(b"p<=>(")?;
-    }
-    text.push(b'p')?;
-    for _ in 0..count {
-        text.push(b')')?;
-    }
-    text.extend_from_slice(b").")?;
-    Ok(text)
+pub(crate) fn equivalences(rt: &impl Abort, alloc: Global, count: usize) -> Vec<u8> {
+    let close = ")".repeat(alloc, count).expect(rt, "memory");
+    let after = format!(in alloc; "p{close}).").expect(rt, "memory");
+    repeated(rt, alloc, "fof(a,axiom,", "p<=>(", count, after.as_str())
 }

@@ -1,16 +1,24 @@
-// The conclusions of small clauses, worked out by hand.
+// The conclusions of small clauses, worked out by hand, and the size from which one is heavy.
 
 use crate::samples::member;
 use eq_rules::{Inference, Inferences, Made, factorings, resolutions};
-use fol_base::{Clause, same_clause};
+use fol_base::{Clause, Literals, Side, same_clause};
+use kernel_steps::Key;
 use literal_selection::Selection;
-use plain_types::Mem;
-use sample_terms::{clause, clauses};
+use plain_types::Names;
+use sample_terms::{atom, binary, clause, clauses, constant, unary};
 use std::alloc::Global;
+use std::process::Abort;
 use std::sync::Wait;
-use std::test::Fail;
 use superpose::{between, within};
 use term_bank::Bank;
+
+/// The symbols of p, f and a, as `clause` numbers them.
+const P: u32 = 16;
+
+const F: u32 = 6;
+
+const A: u32 = 1;
 
 /// Whether the inference has this conclusion.
 fn concludes(found: &Inference, wanted: &Clause) -> bool {
@@ -21,54 +29,32 @@ fn concludes(found: &Inference, wanted: &Clause) -> bool {
 }
 
 /// Whether there are just so many inferences as clauses, and each of these is the conclusion of one.
-fn conclude(alloc: Global, found: &Inferences, wanted: &str) -> Mem<bool> {
-    let wanted = clauses(alloc, wanted)?;
-    if found.len() != wanted.len() {
-        return Ok(false);
-    }
+fn conclude(rt: &impl Abort, alloc: Global, found: &Inferences, wanted: &str) -> bool {
+    let wanted = clauses(alloc, wanted).expect(rt, "memory");
     let found = found.as_slice();
-    Ok(
-        wanted.as_slice().iter().all(|clause| found
+    found.len() == wanted.len()
+        && wanted.as_slice().iter().all(|clause| found
             .iter()
-            .any(|inference| concludes(inference, clause))),
-    )
+            .any(|inference| concludes(inference, clause)))
 }
 
-/// The superpositions between two clauses with the numbers 0 and 1, where the first negative literal of greatest size is chosen. None
-/// where they can't be members.
-pub(crate) fn found_between<R: Wait>(
+/// The superpositions between two clauses with the numbers 0 and 1, where the first negative literal of greatest size is chosen.
+fn found_between<R: Wait + Abort>(
     rt: &R,
     alloc: Global,
     first: &Clause,
     second: &Clause,
-) -> Mem<Option<Inferences>> {
-    let (bank, mut table) = Bank::new(alloc)?;
-    let Some(first) = member(rt, alloc, &bank, &mut table, 0, first)? else {
-        return Ok(None);
-    };
-    let Some(second) = member(rt, alloc, &bank, &mut table, 1, second)? else {
-        return Ok(None);
-    };
-    if first.number == second.number {
-        return Ok(None);
-    }
-    Ok(Some(between(alloc, &bank, &first, &second, Selection::Negative)?))
+) -> Inferences {
+    let (bank, mut table) = Bank::new(alloc).expect(rt, "memory");
+    let first = member(rt, alloc, &bank, &mut table, 0, first);
+    let second = member(rt, alloc, &bank, &mut table, 1, second);
+    assert!(rt; first.number != second.number);
+    between(alloc, &bank, &first, &second, Selection::Negative).expect(rt, "memory")
 }
 
-/// Whether the superpositions between two clauses have these conclusions.
-fn are_between<R: Wait>(rt: &R, alloc: Global, row: &Row) -> Mem<bool> {
-    let (first, second, wanted) = row;
-    match found_between(rt, alloc, &clause(alloc, first)?, &clause(alloc, second)?)? {
-        Some(found) => conclude(alloc, &found, wanted),
-        None => Ok(false),
-    }
-}
-
-/// Two clauses, and the conclusions of the superpositions between them.
-type Row = (&'static str, &'static str, &'static str);
-
-/// f, g are functions and a to c constants; p, q, r are predicates. The later letter is greater.
-const BETWEEN: &[Row] = &[
+/// Two clauses, and the conclusions of the superpositions between them. f, g are functions and a to c constants; p, q, r are predicates.
+/// The later letter is greater.
+const BETWEEN: &[(&str, &str, &str)] = &[
     ("p(a)", "~p(X0) | q(X0)", "~$ | q(a)"),
     ("p(X0)", "~q(X0)", ""),
     // Nothing is entered below a variable, and the copies' variables are different ones.
@@ -89,45 +75,41 @@ const BETWEEN: &[Row] = &[
 ];
 
 #[test]
-fn two_clauses_conclude(rt: HostRuntime) -> Result<(), Fail> {
-    for (index, row) in BETWEEN.iter().enumerate() {
-        assert!(rt; are_between(&rt, rt.alloc(), row)?, "row {index}");
+fn two_clauses_conclude(rt: HostRuntime) {
+    let alloc = rt.alloc();
+    for (index, (first, second, wanted)) in BETWEEN.iter().enumerate() {
+        let first = clause(alloc, first).expect(&rt, "memory");
+        let second = clause(alloc, second).expect(&rt, "memory");
+        let found = found_between(&rt, alloc, &first, &second);
+        assert!(rt; conclude(&rt, alloc, &found, wanted), "row {index}");
     }
-    Ok(())
 }
 
 /// The rules on one clause.
 #[derive(Clone, Copy)]
 enum Alone {
     Within,
-    Resolve(Selection),
+    Resolve,
     Factor(Selection),
 }
 
-/// Whether a rule on one clause has these conclusions.
-fn are_alone<R: Wait>(rt: &R, alloc: Global, rule: Alone, given: &str, wanted: &str) -> Mem<bool> {
-    let (bank, mut table) = Bank::new(alloc)?;
-    let Some(given) = member(rt, alloc, &bank, &mut table, 3, &clause(alloc, given)?)? else {
-        return Ok(false);
-    };
+fn found_alone<R: Wait + Abort>(rt: &R, alloc: Global, rule: Alone, given: &Clause) -> Inferences {
+    let (bank, mut table) = Bank::new(alloc).expect(rt, "memory");
+    let given = member(rt, alloc, &bank, &mut table, 3, given);
     let found = match rule {
-        Alone::Within => within(alloc, &bank, &given, Selection::Negative)?,
-        Alone::Resolve(mode) => resolutions(alloc, &bank, &given, mode)?,
-        Alone::Factor(mode) => factorings(alloc, &bank, &given, mode)?,
+        Alone::Within => within(alloc, &bank, &given, Selection::Negative),
+        Alone::Resolve => resolutions(alloc, &bank, &given, Selection::Negative),
+        Alone::Factor(mode) => factorings(alloc, &bank, &given, mode),
     };
-    conclude(alloc, &found, wanted)
+    found.expect(rt, "memory")
 }
 
 const ALONE: &[(Alone, &str, &str)] = &[
     (Alone::Within, "p(a)", ""),
     (Alone::Within, "f(f(X0)) = X0", "f(X0) = f(X0)"),
-    (
-        Alone::Resolve(Selection::Negative),
-        "X0 != a | p(X0)",
-        "p(a)",
-    ),
-    (Alone::Resolve(Selection::Negative), "a != b", ""),
-    (Alone::Resolve(Selection::Negative), "X0 != f(X0)", ""),
+    (Alone::Resolve, "X0 != a | p(X0)", "p(a)"),
+    (Alone::Resolve, "a != b", ""),
+    (Alone::Resolve, "X0 != f(X0)", ""),
     (
         Alone::Factor(Selection::Nothing),
         "p(X0) | p(a)",
@@ -142,12 +124,68 @@ const ALONE: &[(Alone, &str, &str)] = &[
 ];
 
 #[test]
-fn one_clause_concludes(rt: HostRuntime) -> Result<(), Fail> {
+fn one_clause_concludes(rt: HostRuntime) {
+    let alloc = rt.alloc();
     for (index, (rule, given, wanted)) in ALONE.iter().enumerate() {
-        assert!(rt;
-            are_alone(&rt, rt.alloc(), *rule, given, wanted)?,
-            "row {index}"
-        );
+        let given = clause(alloc, given).expect(&rt, "memory");
+        let found = found_alone(&rt, alloc, *rule, &given);
+        assert!(rt; conclude(&rt, alloc, &found, wanted), "row {index}");
     }
-    Ok(())
+}
+
+/// `p(t)`, t the full binary tree of constants of this depth.
+fn tree_unit(rt: &impl Abort, alloc: Global, depth: u64) -> Clause {
+    let mut tree = constant(alloc, A);
+    for _ in 0..depth {
+        let other = tree.copy(alloc).expect(rt, "memory");
+        tree = binary(alloc, F, tree, other).expect(rt, "memory");
+    }
+    let mut literals = Literals::new(alloc);
+    let predicate_term = unary(alloc, P, tree).expect(rt, "memory");
+    literals
+        .push(atom(alloc, predicate_term))
+        .expect(rt, "memory");
+    Clause {
+        literals,
+        names: Names::new(alloc),
+    }
+}
+
+/// Whether this is the superposition from the left side of the first literal of clause 0 into the root of that of clause 1.
+fn is_into_root(key: &Key) -> bool {
+    match key {
+        Key::Para {
+            first: 0,
+            from: 0,
+            from_side: Side::Left,
+            second: 1,
+            into: 0,
+            into_side: Side::Left,
+            place,
+        } => place.is_empty(),
+        _ => false,
+    }
+}
+
+/// The size of an inference's conclusion; None where it is heavy.
+fn size_of(found: &Inference) -> Option<u64> {
+    match &found.result {
+        Made::Conclusion(_, clause) => Some(clause.size()),
+        Made::Heavy => None,
+    }
+}
+
+/// The rows are the depth of the tree, and the size of the conclusion.
+#[test]
+fn large_conclusions_are_heavy(rt: HostRuntime) {
+    let alloc = rt.alloc();
+    let rule = clause(alloc, "~p(X0) | p(f(X0,X0))").expect(&rt, "memory");
+    for (depth, size) in [(9, Some(2_051)), (10, None)] {
+        let unit = tree_unit(&rt, alloc, depth);
+        let found = found_between(&rt, alloc, &unit, &rule);
+        assert!(rt; found.len() == 1);
+        let inference = found.as_slice().first().expect(&rt, "an inference");
+        assert!(rt; is_into_root(&inference.key));
+        assert!(rt; size_of(inference) == size);
+    }
 }

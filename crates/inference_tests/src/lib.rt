@@ -7,6 +7,8 @@ mod conclusions;
 #[cfg(test)]
 mod cuts;
 #[cfg(test)]
+mod meetings;
+#[cfg(test)]
 mod normal_forms;
 #[cfg(test)]
 mod random_clauses;
@@ -14,7 +16,5 @@ mod random_clauses;
 mod samples;
 #[cfg(test)]
 mod simplified;
-#[cfg(test)]
-mod sizes;
 #[cfg(test)]
 mod subsumption;

@@ -2,28 +2,24 @@
 
 use crate::samples::{equations, members};
 use demodulate::normal_form;
-use fol_base::{MOST_SYMBOLS, is_canonical, same_clause};
+use fol_base::{Clause, MOST_SYMBOLS, is_canonical, same_clause};
 use kernel_steps::Reduced;
-use plain_types::Mem;
 use rewriting::{is_unit, rewritable};
 use sample_terms::clause;
 use std::alloc::Global;
+use std::process::Abort;
 use std::sync::Wait;
-use std::test::Fail;
 use term_bank::Bank;
 
-/// The normal form of a clause by units, both as text. None where they can't be brought to it.
-fn normal<R: Wait>(rt: &R, alloc: Global, units: &str, given: &str) -> Mem<Option<Reduced>> {
-    let (bank, mut table) = Bank::new(alloc)?;
-    let Some(units) = members(rt, alloc, &bank, &mut table, units)? else {
-        return Ok(None);
-    };
-    let units = equations(alloc, &bank, units.as_slice())?;
-    let given = clause(alloc, given)?;
-    if !is_canonical(&given) || given.size() > MOST_SYMBOLS {
-        return Ok(None);
-    }
-    Ok(Some(normal_form(alloc, &bank, &given, &units, None)?))
+/// The normal form of a clause by the units of a text.
+fn normal<R: Wait + Abort>(rt: &R, alloc: Global, units: &str, given: &Clause) -> Reduced {
+    let (bank, mut table) = Bank::new(alloc).expect(rt, "memory");
+    let units = members(rt, alloc, &bank, &mut table, units);
+    let units = equations(rt, alloc, &bank, units.as_slice());
+    assert!(rt; given.names.is_empty());
+    assert!(rt; is_canonical(given));
+    assert!(rt; given.size() <= MOST_SYMBOLS);
+    normal_form(alloc, &bank, given, &units, None).expect(rt, "memory")
 }
 
 /// Units, a clause, its normal form, and the numbers of the units that are used.
@@ -48,51 +44,39 @@ const ROWS: &[Row] = &[
     ("X0 = a", "p(b)", "p(a)", &[0]),
 ];
 
-/// Whether the clause has this normal form, by so many lines as units are used at least.
-fn is_row<R: Wait>(rt: &R, alloc: Global, row: &Row) -> Mem<bool> {
-    let (units, given, wanted, used) = row;
-    match normal(rt, alloc, units, given)? {
-        Some(made) => Ok(
-            same_clause(&made.clause, &clause(alloc, wanted)?)
-                && made.used.as_slice() == *used
-                && made.lines.len() >= used.len(),
-        ),
-        None => Ok(false),
+/// There are at least as many lines as units that are used.
+#[test]
+fn clauses_have_normal_forms(rt: HostRuntime) {
+    let alloc = rt.alloc();
+    for (index, (units, given, wanted, used)) in ROWS.iter().enumerate() {
+        let given = clause(alloc, given).expect(&rt, "memory");
+        let wanted = clause(alloc, wanted).expect(&rt, "memory");
+        let made = normal(&rt, alloc, units, &given);
+        assert!(rt; same_clause(&made.clause, &wanted), "row {index}");
+        assert!(rt; made.used.as_slice() == *used, "row {index}");
+        assert!(rt; made.lines.len() >= used.len(), "row {index}");
     }
+}
+
+/// The numbers of the clauses of a text that its first clause rewrites.
+fn rewritten<R: Wait + Abort>(rt: &R, alloc: Global, text: &str) -> Vec<u64> {
+    let (bank, mut table) = Bank::new(alloc).expect(rt, "memory");
+    let members = members(rt, alloc, &bank, &mut table, text);
+    let by = members.as_slice().first().expect(rt, "a unit");
+    assert!(rt; is_unit(&by.clause));
+    rewritable(alloc, &bank, by, &members)
+        .expect(rt, "memory")
+        .into_vec()
 }
 
 #[test]
-fn clauses_have_normal_forms(rt: HostRuntime) -> Result<(), Fail> {
-    for (index, row) in ROWS.iter().enumerate() {
-        assert!(rt; is_row(&rt, rt.alloc(), row)?, "row {index}");
-    }
-    Ok(())
-}
-
-/// The numbers of the clauses of a text that its first clause rewrites. None where they can't be told.
-fn rewritten<R: Wait>(rt: &R, alloc: Global, text: &str) -> Mem<Option<Vec<u64>>> {
-    let (bank, mut table) = Bank::new(alloc)?;
-    let Some(members) = members(rt, alloc, &bank, &mut table, text)? else {
-        return Ok(None);
-    };
-    match members.as_slice().first() {
-        Some(by) if is_unit(&by.clause) => {
-            Ok(Some(rewritable(alloc, &bank, by, &members)?.into_vec()))
-        }
-        _ => Ok(None),
-    }
-}
-
-#[test]
-fn a_unit_rewrites_members(rt: HostRuntime) -> Result<(), Fail> {
+fn a_unit_rewrites_members(rt: HostRuntime) {
+    let alloc = rt.alloc();
     for (text, wanted) in [
         ("f(a) = b;g(f(a)) = c;g(b) = c", [1].as_slice()),
         ("f(a) = b;f(f(a)) = a;g(f(a)) = c", [1, 2].as_slice()),
     ] {
-        match rewritten(&rt, rt.alloc(), text)? {
-            Some(found) => assert!(rt; found.as_slice() == wanted),
-            None => assert!(rt; false),
-        }
+        let found = rewritten(&rt, alloc, text);
+        assert!(rt; found.as_slice() == wanted, "{text}");
     }
-    Ok(())
 }

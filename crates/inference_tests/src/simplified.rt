@@ -1,13 +1,12 @@
 // Clauses simplified by all rules, worked out by hand. Letters rise in the order.
 
 use crate::samples::{equations, members, subsumers, units};
-use fol_base::{MOST_SYMBOLS, is_canonical, same_clause};
-use plain_types::Mem;
+use fol_base::{Clause, MOST_SYMBOLS, is_canonical, same_clause};
 use sample_terms::clause;
 use simplification::{Simplified, Simplifiers, simplify};
 use std::alloc::Global;
+use std::process::Abort;
 use std::sync::Wait;
-use std::test::Fail;
 use term_bank::Bank;
 
 /// What a clause is to become.
@@ -38,47 +37,47 @@ const ROWS: &[Row] = &[
     ("p(a);~p(X0)", Some(0), "p(a)", Wanted::Reduced("")),
 ];
 
-/// Whether this becomes of the clause.
-fn is_row<R: Wait>(rt: &R, alloc: Global, row: &Row) -> Mem<bool> {
-    let (texts, left_out, given, wanted) = row;
-    let (bank, mut table) = Bank::new(alloc)?;
-    let Some(clauses) = members(rt, alloc, &bank, &mut table, texts)? else {
-        return Ok(false);
-    };
-    let equations = equations(alloc, &bank, clauses.as_slice())?;
-    let units = units(alloc, &bank, clauses.as_slice())?;
-    let members = subsumers(alloc, &bank, clauses.as_slice())?;
+/// What becomes of a clause by those of a text.
+fn outcome<R: Wait + Abort>(
+    rt: &R,
+    alloc: Global,
+    texts: &str,
+    left_out: Option<u32>,
+    given: &Clause,
+) -> Simplified {
+    let (bank, mut table) = Bank::new(alloc).expect(rt, "memory");
+    let clauses = members(rt, alloc, &bank, &mut table, texts);
     let by = Simplifiers {
         bank: &bank,
-        equations: &equations,
-        units: &units,
-        members: &members,
-        left_out: *left_out,
+        equations: &equations(rt, alloc, &bank, clauses.as_slice()),
+        units: &units(rt, alloc, &bank, clauses.as_slice()),
+        members: &subsumers(rt, alloc, &bank, clauses.as_slice()),
+        left_out,
     };
-    let given = clause(alloc, given)?;
-    if !is_canonical(&given) || given.size() > MOST_SYMBOLS {
-        return Ok(false);
-    }
-    let outcome = simplify(alloc, &by, &given)?;
-    is_wanted(alloc, &outcome, *wanted)
+    assert!(rt; given.names.is_empty());
+    assert!(rt; is_canonical(given));
+    assert!(rt; given.size() <= MOST_SYMBOLS);
+    simplify(alloc, &by, given).expect(rt, "memory")
 }
 
 /// Whether an outcome is the one that is wanted.
-fn is_wanted(alloc: Global, outcome: &Simplified, wanted: Wanted) -> Mem<bool> {
+fn is_wanted(rt: &impl Abort, alloc: Global, outcome: &Simplified, wanted: Wanted) -> bool {
     match (outcome, wanted) {
-        (Simplified::Tautology, Wanted::Tautology) => Ok(true),
-        (Simplified::Subsumed(by), Wanted::Subsumed(number)) => Ok(*by == number),
+        (Simplified::Tautology, Wanted::Tautology) => true,
+        (Simplified::Subsumed(by), Wanted::Subsumed(number)) => *by == number,
         (Simplified::Reduced(made), Wanted::Reduced(text)) => {
-            Ok(same_clause(&made.clause, &clause(alloc, text)?))
+            same_clause(&made.clause, &clause(alloc, text).expect(rt, "memory"))
         }
-        _ => Ok(false),
+        _ => false,
     }
 }
 
 #[test]
-fn clauses_are_simplified(rt: HostRuntime) -> Result<(), Fail> {
-    for (index, row) in ROWS.iter().enumerate() {
-        assert!(rt; is_row(&rt, rt.alloc(), row)?, "row {index}");
+fn clauses_are_simplified(rt: HostRuntime) {
+    let alloc = rt.alloc();
+    for (index, (texts, left_out, given, wanted)) in ROWS.iter().enumerate() {
+        let given = clause(alloc, given).expect(&rt, "memory");
+        let found = outcome(&rt, alloc, texts, *left_out, &given);
+        assert!(rt; is_wanted(&rt, alloc, &found, *wanted), "row {index}");
     }
-    Ok(())
 }

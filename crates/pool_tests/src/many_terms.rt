@@ -7,7 +7,7 @@ use plain_types::{Mem, Numbers};
 use sample_numbers::Random;
 use sample_terms::random_terms;
 use std::alloc::Global;
-use std::test::Fail;
+use std::process::Abort;
 
 /// How many entries there are.
 const ENTRIES: u64 = 1000;
@@ -24,22 +24,12 @@ enum Kind {
 }
 
 /// A tree of the terms, each under the number of its place.
-fn filled(alloc: Global, terms: &[Term]) -> Mem<DiscTree> {
-    let mut tree = DiscTree::new(alloc)?;
-    for index in 0..terms.len() {
-        tree.insert(&terms[index], index as u64)?;
+fn filled(rt: &impl Abort, alloc: Global, terms: &[Term]) -> DiscTree {
+    let mut tree = DiscTree::new(alloc).expect(rt, "memory");
+    for (index, term) in terms.iter().enumerate() {
+        tree.insert(term, index as u64).expect(rt, "memory");
     }
-    Ok(tree)
-}
-
-/// Removes each term under the number of its place, and says whether all were there.
-fn empties(tree: &mut DiscTree, terms: &[Term]) -> bool {
-    for index in 0..terms.len() {
-        if !tree.remove(&terms[index], index as u64) {
-            return false;
-        }
-    }
-    true
+    tree
 }
 
 fn answered(tree: &DiscTree, query: &Term, kind: Kind) -> Mem<Numbers> {
@@ -51,13 +41,13 @@ fn answered(tree: &DiscTree, query: &Term, kind: Kind) -> Mem<Numbers> {
 }
 
 /// How many entries all queries find.
-fn found(tree: &DiscTree, queries: &[Term], kind: Kind) -> Mem<u64> {
+fn found(rt: &impl Abort, tree: &DiscTree, queries: &[Term], kind: Kind) -> u64 {
     let mut count: u64 = 0;
     for query in queries {
-        let numbers = answered(tree, query, kind)?;
-        count = count.wrapping_add(numbers.as_slice().len() as u64);
+        let numbers = answered(tree, query, kind).expect(rt, "memory");
+        count = count.wrapping_add(numbers.len() as u64);
     }
-    Ok(count)
+    count
 }
 
 /// How many entries a scan finds for one query.
@@ -82,23 +72,18 @@ fn scanned(entries: &[Term], queries: &[Term], kind: Kind) -> u64 {
 }
 
 #[test]
-fn queries_find_as_many_entries_as_a_scan(rt: HostRuntime) -> Result<(), Fail> {
-    let entries = random_terms(rt.alloc(), &mut Random::new(1), ENTRIES)?;
-    let queries = random_terms(rt.alloc(), &mut Random::new(2), QUERIES)?;
-    let tree = filled(rt.alloc(), entries.as_slice())?;
+fn queries_find_as_many_entries_as_a_scan(rt: HostRuntime) {
+    let entries = random_terms(rt.alloc(), &mut Random::new(1), ENTRIES).expect(&rt, "memory");
+    let queries = random_terms(rt.alloc(), &mut Random::new(2), QUERIES).expect(&rt, "memory");
+    let mut tree = filled(&rt, rt.alloc(), entries.as_slice());
     for kind in [Kind::Unifiable, Kind::Generalisations, Kind::Instances] {
-        let count = found(&tree, queries.as_slice(), kind)?;
+        let count = found(&rt, &tree, queries.as_slice(), kind);
         assert!(rt; count > 0);
         assert!(rt; count == scanned(entries.as_slice(), queries.as_slice(), kind));
     }
-    Ok(())
-}
-
-#[test]
-fn each_entry_is_removed(rt: HostRuntime) -> Result<(), Fail> {
-    let entries = random_terms(rt.alloc(), &mut Random::new(1), ENTRIES)?;
-    let mut tree = filled(rt.alloc(), entries.as_slice())?;
-    assert!(rt; empties(&mut tree, entries.as_slice()));
-    assert!(rt; tree.unifiable(&Term::Var(0))?.as_slice().is_empty());
-    Ok(())
+    for (index, entry) in entries.iter().enumerate() {
+        assert!(rt; tree.remove(entry, index as u64));
+    }
+    let left = tree.unifiable(&Term::Var(0)).expect(&rt, "memory");
+    assert!(rt; left.is_empty());
 }

@@ -1,53 +1,47 @@
 // What no clause says of annotated formulas: outside rows, and that calls succeed.
 
-use plain_types::{Mem, NoMemory};
 use std::alloc::Global;
-use std::test::Fail;
+use std::process::Abort;
 use tptp_reader::{Read, ReadFault, annotated};
 use tptp_token::{MOST_TEXT_BYTES, tokens};
 use tptp_tree::{MOST_NESTING, Role, print_formula};
 
-/// The formula of the entry that begins at a token, as it is printed, or the cause that it isn't read for and its place.
-fn outcome(alloc: Global, text: &[u8], first: usize, nesting: u32) -> Mem<Vec<u8>> {
-    if text.len() > MOST_TEXT_BYTES {
-        return Ok(Vec::new(alloc));
-    }
-    let lexed = tokens(alloc, text)?;
-    if lexed.tokens.len() <= first {
-        return Ok(Vec::new(alloc));
-    }
-    let answer = annotated(alloc, text, &lexed, first, nesting);
-    shown(alloc, &answer)
+/// What comes of the entry that begins at a token of a text.
+fn answer(
+    rt: &impl Abort,
+    alloc: Global,
+    text: &[u8],
+    first: usize,
+    nesting: u32,
+) -> Result<Read, ReadFault> {
+    assert!(rt; text.len() <= MOST_TEXT_BYTES);
+    let lexed = tokens(alloc, text).expect(rt, "memory");
+    assert!(rt; first < lexed.tokens.len());
+    annotated(alloc, text, &lexed, first, nesting)
 }
 
-/// What is shown of an answer.
-fn shown(alloc: Global, answer: &Result<Read, ReadFault>) -> Mem<Vec<u8>> {
+/// The formula as it is printed, or the cause that the entry isn't read for and its place.
+fn shown(rt: &impl Abort, alloc: Global, answer: &Result<Read, ReadFault>) -> Vec<u8> {
     match answer {
-        Ok(read) => Ok(print_formula(alloc, &read.annotated.formula)?.into_vec()),
-        Err(fault) => shown_fault(alloc, fault),
+        Ok(read) => print_formula(alloc, &read.annotated.formula)
+            .expect(rt, "memory")
+            .into_vec(),
+        Err(ReadFault::At(cause, _, place)) => format!(in alloc; "{cause:?}@{place}")
+            .expect(rt, "memory")
+            .into_bytes(),
+        Err(ReadFault::NoMemory) => rt.panic("memory"),
     }
 }
 
-/// A cause and its place. Want of memory is handed on, so that no row is taken for another answer.
-fn shown_fault(alloc: Global, fault: &ReadFault) -> Mem<Vec<u8>> {
-    match fault {
-        ReadFault::NoMemory => Err(NoMemory),
-        ReadFault::At(cause, _, place) => Ok(format!(in alloc; "{cause:?}@{place}")?.into_bytes()),
-    }
-}
-
-/// A text, and its outcome.
+/// A text, and what is shown of its answer.
 type Row = (&'static [u8], &'static [u8]);
 
-/// The index of the first row whose text has another outcome at a limit of nesting; the number of rows where there is none.
-fn first_failure(alloc: Global, rows: &[Row], nesting: u32) -> Mem<usize> {
+/// Each row's text has its answer at a limit of nesting.
+fn expect_answers(rt: &impl Abort, alloc: Global, rows: &[Row], nesting: u32) {
     for (index, (text, wanted)) in rows.iter().enumerate() {
-        let found = outcome(alloc, text, 0, nesting)?;
-        if found.as_slice() != *wanted {
-            return Ok(index);
-        }
+        let found = shown(rt, alloc, &answer(rt, alloc, text, 0, nesting));
+        assert!(rt; found.as_slice() == *wanted, "row {index}");
     }
-    Ok(rows.len())
 }
 
 /// How formulas are read, and at which connective they can't go on.
@@ -145,11 +139,10 @@ const CLAUSES: &[Row] = &[
 ];
 
 #[test]
-fn reads_entries(rt: HostRuntime) -> Result<(), Fail> {
+fn reads_entries(rt: HostRuntime) {
     for rows in [FORMULAS, FAULTS, CLAUSES] {
-        assert_eq!(rt; first_failure(rt.alloc(), rows, MOST_NESTING)?, rows.len());
+        expect_answers(&rt, rt.alloc(), rows, MOST_NESTING);
     }
-    Ok(())
 }
 
 /// The answer at a limit of nesting of two.
@@ -169,80 +162,42 @@ const LEVELS: &[Row] = &[
 ];
 
 #[test]
-fn limits_levels(rt: HostRuntime) -> Result<(), Fail> {
-    assert_eq!(rt; first_failure(rt.alloc(), LEVELS, 2)?, LEVELS.len());
-    Ok(())
+fn limits_levels(rt: HostRuntime) {
+    expect_answers(&rt, rt.alloc(), LEVELS, 2);
 }
 
-/// Whether `p` below 5,000 levels is read within a limit, and printed in so many bytes; and whether within 500
-/// levels the reading ends so.
-fn reads_deep(
-    alloc: Global,
-    open: &str,
-    close: &str,
-    limit: u32,
-    length: usize,
-    refused: &[u8],
-) -> Mem<bool> {
-    let (open, close) = (open.repeat(alloc, 5_000)?, close.repeat(alloc, 5_000)?);
-    let text = format!(in alloc; "fof(a,axiom,{open}p{close}).")?;
-    let found = outcome(alloc, text.as_bytes(), 0, limit)?;
-    let stopped = outcome(alloc, text.as_bytes(), 0, MOST_NESTING)?;
-    Ok(found.len() == length && stopped.as_slice() == refused)
-}
-
-/// Brackets, negations, quantifiers and terms. A quantifier's bracket is a level more, so the last one needs 5,001.
+/// Brackets, negations, quantifiers and terms round `p`, 5,000 levels deep: what opens and closes a level, the limit within which they are
+/// read, the length of the printed formula, and where the reading ends within 500 levels. A quantifier's bracket is a level more, so the
+/// last one needs 5,001.
 #[test]
-fn reads_deep_formulas(rt: HostRuntime) -> Result<(), Fail> {
+fn reads_deep_formulas(rt: HostRuntime) {
+    let alloc = rt.alloc();
     for (open, close, limit, length, refused) in [
         ("(", ")", 5_000, 1, b"Nesting@512".as_slice()),
         ("~", "", 5_000, 5_001, b"Nesting@512"),
         ("![X]:", "", 5_001, 40_001, b"Nesting@2508"),
         ("f(", ")", 5_000, 15_001, b"Nesting@1013"),
     ] {
-        let read = reads_deep(rt.alloc(), open, close, limit, length, refused)?;
-        assert!(rt; read);
-    }
-    Ok(())
-}
-
-/// The parts of the entry that begins at the tenth token, as they are shown.
-fn second_parts(alloc: Global, text: &[u8]) -> Mem<Vec<u8>> {
-    if text.len() > MOST_TEXT_BYTES {
-        return Ok(Vec::new(alloc));
-    }
-    let lexed = tokens(alloc, text)?;
-    if lexed.tokens.len() <= 9 {
-        return Ok(Vec::new(alloc));
-    }
-    let answer = annotated(alloc, text, &lexed, 9, 1);
-    match &answer {
-        Ok(read) => shown_parts(alloc, read),
-        Err(fault) => shown_fault(alloc, fault),
+        let open = open.repeat(alloc, 5_000).expect(&rt, "memory");
+        let close = close.repeat(alloc, 5_000).expect(&rt, "memory");
+        let text = format!(in alloc; "fof(a,axiom,{open}p{close}).").expect(&rt, "memory");
+        let found = shown(&rt, alloc, &answer(&rt, alloc, text.as_bytes(), 0, limit));
+        assert!(rt; found.len() == length);
+        let stopped = answer(&rt, alloc, text.as_bytes(), 0, MOST_NESTING);
+        assert!(rt; shown(&rt, alloc, &stopped).as_slice() == refused);
     }
 }
 
-/// What is shown of an entry besides its formula: its name, whether it is a clause and of that role, the length of its
-/// file's name, its place, the range of its notes, and the token behind it.
-fn shown_parts(alloc: Global, read: &Read) -> Mem<Vec<u8>> {
-    let annotated = &read.annotated;
-    let mut page = Vec::from_slice(alloc, annotated.name.as_slice())?;
-    let clause = annotated.clause && annotated.role == Role::NegatedConjecture;
-    let (file, place) = (annotated.file.len(), annotated.place);
-    let (start, end, next) = (read.notes_start, read.notes_end, read.next);
-    let rest = format!(in alloc; " {clause} {file} {place} {start} {end} {next}")?;
-    page.extend_from_slice(rest.as_bytes())?;
-    Ok(page)
-}
-
-/// The parts of an entry besides its formula.
+/// The parts of the second entry besides its formula. It begins at the tenth token.
 #[test]
-fn keeps_names_roles_and_ranges(rt: HostRuntime) -> Result<(), Fail> {
+fn keeps_names_roles_and_ranges(rt: HostRuntime) {
     let alloc = rt.alloc();
     let text = b"cnf(a,axiom,p). cnf(012,negated_conjecture,q,b(c)).".as_slice();
-    let refused = outcome(alloc, text, 9, 0)?;
-    assert!(rt; refused.as_slice() == b"Nesting@46".as_slice());
-    let parts = second_parts(alloc, text)?;
-    assert!(rt; parts.as_slice() == b"012 true 0 16 17 21 23".as_slice());
-    Ok(())
+    let refused = answer(&rt, alloc, text, 9, 0);
+    assert!(rt; shown(&rt, alloc, &refused).as_slice() == b"Nesting@46".as_slice());
+    let read = answer(&rt, alloc, text, 9, 1).ok().expect(&rt, "an entry");
+    assert!(rt; read.annotated.name.as_slice() == b"012".as_slice());
+    assert!(rt; read.annotated.clause && read.annotated.role == Role::NegatedConjecture);
+    assert!(rt; read.annotated.file.is_empty() && read.annotated.place == 16);
+    assert!(rt; (read.notes_start, read.notes_end, read.next) == (17, 21, 23));
 }

@@ -1,12 +1,12 @@
 // What no clause says of whole problems: outside rows, and that calls succeed.
 
 use outside::{Files, MemFile, MemLibrary};
-use plain_types::{Mem, Numbers};
+use plain_types::Numbers;
 use std::alloc::Global;
-use std::test::Fail;
+use std::process::Abort;
 use tptp_problem::read_problem;
 use tptp_reader::ReadFault;
-use tptp_tree::{AnnotatedList, Problem};
+use tptp_tree::Problem;
 
 /// A file's name and its bytes.
 type File = (&'static str, &'static [u8]);
@@ -21,79 +21,61 @@ struct Row {
     answer: &'static [u8],
 }
 
-/// The text of a first file alone, and the answer.
+/// The text of a file `a.p` alone, and the answer.
 type Alone = (&'static [u8], &'static [u8]);
 
-fn library_of(alloc: Global, files: &[File]) -> Mem<MemLibrary> {
+fn library_of(rt: &impl Abort, alloc: Global, files: &[File]) -> MemLibrary {
     let mut list = Files::new(alloc);
     for (name, bytes) in files {
-        list.push(MemFile::new(alloc, name, bytes)?)?;
+        let file = MemFile::new(alloc, name, bytes).expect(rt, "memory");
+        list.push(file).expect(rt, "memory");
     }
-    Ok(MemLibrary::new(alloc, list, Numbers::new(alloc)))
+    MemLibrary::new(alloc, list, Numbers::new(alloc))
 }
 
 /// What is shown of an answer.
-fn shown(alloc: Global, answer: &Result<Problem, ReadFault>) -> Mem<Vec<u8>> {
+fn shown(rt: &impl Abort, alloc: Global, answer: &Result<Problem, ReadFault>) -> Vec<u8> {
+    let mut page = Vec::new(alloc);
     match answer {
-        Ok(problem) => shown_formulas(alloc, &problem.formulas),
-        Err(fault) => shown_fault(alloc, fault),
+        Ok(problem) => {
+            for formula in problem.formulas.as_slice() {
+                push_item(rt, &mut page, formula.name.as_slice());
+                push_place(rt, alloc, &mut page, formula.file.as_slice(), formula.place);
+            }
+        }
+        Err(ReadFault::At(cause, file, place)) => {
+            let cause = format!(in alloc; "{cause:?}").expect(rt, "memory");
+            push_item(rt, &mut page, cause.as_bytes());
+            push_place(rt, alloc, &mut page, file.as_slice(), *place);
+        }
+        Err(ReadFault::NoMemory) => rt.panic("memory"),
     }
+    page
 }
 
-fn shown_formulas(alloc: Global, formulas: &AnnotatedList) -> Mem<Vec<u8>> {
-    let mut page = Vec::new(alloc);
-    for formula in formulas.as_slice() {
-        page.extend_from_slice(formula.name.as_slice())?;
-        page.push(b'@')?;
-        page.extend_from_slice(formula.file.as_slice())?;
-        push_place(alloc, &mut page, formula.place)?;
-    }
-    Ok(page)
+fn push_item(rt: &impl Abort, page: &mut Vec<u8>, item: &[u8]) {
+    page.extend_from_slice(item).expect(rt, "memory");
 }
 
-fn shown_fault(alloc: Global, fault: &ReadFault) -> Mem<Vec<u8>> {
-    let mut page = Vec::new(alloc);
-    if let ReadFault::At(cause, file, place) = fault {
-        page.extend_from_slice(format!(in alloc; "{cause:?}@")?.as_bytes())?;
-        page.extend_from_slice(file.as_slice())?;
-        push_place(alloc, &mut page, *place)?;
-    }
-    Ok(page)
-}
-
-/// A place between a `:` and a blank.
-fn push_place(alloc: Global, page: &mut Vec<u8>, place: u32) -> Mem<()> {
-    page.extend_from_slice(format!(in alloc; ":{place} ")?.as_bytes())?;
-    Ok(())
+/// A file and a place in it, between a `@` and a blank.
+fn push_place(rt: &impl Abort, alloc: Global, page: &mut Vec<u8>, file: &[u8], place: u32) {
+    push_item(rt, page, b"@");
+    push_item(rt, page, file);
+    let place = format!(in alloc; ":{place} ").expect(rt, "memory");
+    push_item(rt, page, place.as_bytes());
 }
 
 /// What reading a file of a library tells.
-fn outcome(alloc: Global, files: &[File], file: &str, root: Option<&str>) -> Mem<Vec<u8>> {
-    let mut library = library_of(alloc, files)?;
+fn outcome(
+    rt: &impl Abort,
+    alloc: Global,
+    files: &[File],
+    file: &str,
+    root: Option<&str>,
+) -> Vec<u8> {
+    let mut library = library_of(rt, alloc, files);
     let answer = read_problem(alloc, &mut library, file, root);
-    shown(alloc, &answer)
-}
-
-/// The index of the first row that is answered otherwise; the number of rows where there is none.
-fn first_failure(alloc: Global, rows: &[Row]) -> Mem<usize> {
-    for (index, row) in rows.iter().enumerate() {
-        let found = outcome(alloc, row.files, row.file, row.root)?;
-        if found.as_slice() != row.answer {
-            return Ok(index);
-        }
-    }
-    Ok(rows.len())
-}
-
-/// The same for texts of one file each, `a.p`.
-fn first_failure_alone(alloc: Global, rows: &[Alone]) -> Mem<usize> {
-    for (index, (text, wanted)) in rows.iter().enumerate() {
-        let found = outcome(alloc, &[("a.p", *text)], "a.p", None)?;
-        if found.as_slice() != *wanted {
-            return Ok(index);
-        }
-    }
-    Ok(rows.len())
+    shown(rt, alloc, &answer)
 }
 
 /// Problems of one file, and their faults.
@@ -148,11 +130,13 @@ const INCLUDES: &[Alone] = &[
 ];
 
 #[test]
-fn reads_one_file(rt: HostRuntime) -> Result<(), Fail> {
+fn reads_one_file(rt: HostRuntime) {
     for rows in [ONE_FILE, INCLUDES] {
-        assert_eq!(rt; first_failure_alone(rt.alloc(), rows)?, rows.len());
+        for (index, (text, wanted)) in rows.iter().enumerate() {
+            let found = outcome(&rt, rt.alloc(), &[("a.p", *text)], "a.p", None);
+            assert!(rt; found.as_slice() == *wanted, "row {index}");
+        }
     }
-    Ok(())
 }
 
 /// Under which names included files are loaded.
@@ -315,11 +299,13 @@ const DEPTHS: &[Row] = &[
 ];
 
 #[test]
-fn reads_several_files(rt: HostRuntime) -> Result<(), Fail> {
+fn reads_several_files(rt: HostRuntime) {
     for rows in [NAMES, SELECTIONS, CONJECTURES, DEPTHS] {
-        assert_eq!(rt; first_failure(rt.alloc(), rows)?, rows.len());
+        for (index, row) in rows.iter().enumerate() {
+            let found = outcome(&rt, rt.alloc(), row.files, row.file, row.root);
+            assert!(rt; found.as_slice() == row.answer, "row {index}");
+        }
     }
-    Ok(())
 }
 
 /// Files from `a` to `q`, 16 includes deep, and one before them.

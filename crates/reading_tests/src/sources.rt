@@ -1,49 +1,47 @@
 // What no clause says: that calls succeed, and outside rows.
 
-use plain_types::{Mem, Text};
 use std::alloc::Global;
-use std::test::Fail;
+use std::process::Abort;
 use tptp_source::*;
 use tptp_token::{MOST_TEXT_BYTES, tokens};
 
 /// The source that a text spells.
-fn source_of_text(alloc: Global, text: &[u8]) -> Mem<Option<Source>> {
-    if text.len() > MOST_TEXT_BYTES {
-        return Ok(None);
-    }
-    let lexed = tokens(alloc, text)?;
-    read_source(alloc, text, lexed.tokens.as_slice())
+fn source_of_text(rt: &impl Abort, alloc: Global, text: &[u8]) -> Option<Source> {
+    assert!(rt; text.len() <= MOST_TEXT_BYTES);
+    let lexed = tokens(alloc, text).expect(rt, "memory");
+    read_source(alloc, text, lexed.tokens.as_slice()).expect(rt, "memory")
 }
 
 /// What is shown of a source: its kind, and its names.
-fn shown(alloc: Global, read: &Option<Source>) -> Mem<Vec<u8>> {
+fn shown(rt: &impl Abort, alloc: Global, read: &Option<Source>) -> Vec<u8> {
     let mut page = Vec::new(alloc);
     match read {
-        None => page.extend_from_slice(b"none")?,
-        Some(Source::File { name, .. }) => {
-            page.extend_from_slice(b"file ")?;
-            page.extend_from_slice(name.as_slice())?;
-        }
+        None => push(rt, &mut page, b"none"),
+        Some(Source::File { name, .. }) => push_both(rt, &mut page, b"file ", name.as_slice()),
         Some(Source::Inference { parents, items, .. }) => {
-            page.extend_from_slice(b"inference")?;
+            push(rt, &mut page, b"inference");
             for parent in parents.iter() {
-                page.push(b' ')?;
-                page.extend_from_slice(parent.as_slice())?;
+                push_both(rt, &mut page, b" ", parent.as_slice());
             }
             for _ in items.iter() {
-                page.push(b'+')?;
+                push(rt, &mut page, b"+");
             }
         }
         Some(Source::Component(name)) => {
-            page.extend_from_slice(b"component ")?;
-            page.extend_from_slice(name.as_slice())?;
+            push_both(rt, &mut page, b"component ", name.as_slice());
         }
-        Some(Source::Opposite(name)) => {
-            page.extend_from_slice(b"opposite ")?;
-            page.extend_from_slice(name.as_slice())?;
-        }
+        Some(Source::Opposite(name)) => push_both(rt, &mut page, b"opposite ", name.as_slice()),
     }
-    Ok(page)
+    page
+}
+
+fn push(rt: &impl Abort, page: &mut Vec<u8>, part: &[u8]) {
+    page.extend_from_slice(part).expect(rt, "memory");
+}
+
+fn push_both(rt: &impl Abort, page: &mut Vec<u8>, first: &[u8], second: &[u8]) {
+    push(rt, page, first);
+    push(rt, page, second);
 }
 
 /// Texts, and what is shown of their sources.
@@ -79,64 +77,57 @@ const ROWS: &[(&[u8], &[u8])] = &[
 ];
 
 #[test]
-fn reads_sources(rt: HostRuntime) -> Result<(), Fail> {
-    for (text, wanted) in ROWS {
-        let read = source_of_text(rt.alloc(), text)?;
-        let page = shown(rt.alloc(), &read)?;
-        assert!(rt; page.as_slice() == *wanted);
+fn reads_sources(rt: HostRuntime) {
+    let alloc = rt.alloc();
+    for (index, (text, wanted)) in ROWS.iter().enumerate() {
+        let read = source_of_text(&rt, alloc, text);
+        assert!(rt;
+            shown(&rt, alloc, &read).as_slice() == *wanted,
+            "row {index}"
+        );
     }
-    Ok(())
 }
 
 /// The items of an inference, as a text spells them.
-fn items_of_text(alloc: Global, text: &[u8]) -> Mem<GeneralTerms> {
-    match source_of_text(alloc, text)? {
-        Some(Source::Inference { items, .. }) => Ok(items),
-        _ => Ok(GeneralTerms::new(alloc)),
+fn items_of_text(rt: &impl Abort, alloc: Global, text: &[u8]) -> GeneralTerms {
+    match source_of_text(rt, alloc, text) {
+        Some(Source::Inference { items, .. }) => items,
+        _ => GeneralTerms::new(alloc),
     }
 }
 
 #[test]
-fn reads_items(rt: HostRuntime) -> Result<(), Fail> {
-    let numbers = items_of_text(rt.alloc(), b"inference(r,[7,0,18446744073709551615],[])")?;
-    let Some(found) = numbers_of(rt.alloc(), &numbers)? else {
-        return Err(Fail::new("numbers"));
-    };
+fn reads_items(rt: HostRuntime) {
+    let alloc = rt.alloc();
+    let numbers = items_of_text(&rt, alloc, b"inference(r,[7,0,18446744073709551615],[])");
+    let found = numbers_of(alloc, &numbers).expect(&rt, "memory");
+    let found = found.expect(&rt, "numbers");
     assert!(rt; found.as_slice() == [7, 0, u64::MAX].as_slice());
-    let items = items_of_text(rt.alloc(), b"inference(r,[~spl0,right,f(X,'a')],[])")?;
-    assert!(rt; numbers_of(rt.alloc(), &items)?.is_none());
-    let terms = items.into_vec();
+    let items = items_of_text(&rt, alloc, b"inference(r,[~spl0,right,f(X,'a')],[])");
+    let none = numbers_of(alloc, &items).expect(&rt, "memory");
+    assert!(rt; none.is_none());
+    let terms = items.as_slice();
     assert!(rt; terms.len() == 3);
     assert!(rt;
         matches!(signed_name_of(&terms[0]), Some((false, name)) if name == b"spl0".as_slice())
     );
     assert!(rt; matches!(side_of(&terms[1]), Some(SideName::Right)));
-    assert!(rt; formula_term_of(rt.alloc(), &terms[0])?.is_none());
-    assert!(rt; formula_terms_of(rt.alloc(), &terms[1..])?.is_some_and(|terms| terms.len() == 2));
-    Ok(())
-}
-
-/// A list in so many brackets.
-fn nested_list(alloc: Global, depth: usize) -> Mem<Vec<u8>> {
-    let mut text = Vec::new(alloc);
-    for _ in 0..depth {
-        text.push(b'[')?;
-    }
-    for _ in 0..depth {
-        text.push(b']')?;
-    }
-    Ok(text)
+    let none = formula_term_of(alloc, &terms[0]).expect(&rt, "memory");
+    assert!(rt; none.is_none());
+    let two = formula_terms_of(alloc, &terms[1..]).expect(&rt, "memory");
+    assert!(rt; two.is_some_and(|terms| terms.len() == 2));
 }
 
 /// Brackets that are nested a thousand deep, a fifth of what a derivation may have.
 #[test]
-fn reads_deep_brackets(rt: HostRuntime) -> Result<(), Fail> {
-    let text = nested_list(rt.alloc(), 1_000)?;
-    if text.len() > MOST_TEXT_BYTES {
-        return Ok(());
-    }
-    let lexed = tokens(rt.alloc(), text.as_slice())?;
-    let term = read_general_term(rt.alloc(), text.as_slice(), lexed.tokens.as_slice())?;
+fn reads_deep_brackets(rt: HostRuntime) {
+    let alloc = rt.alloc();
+    let open = "[".repeat(alloc, 1_000).expect(&rt, "memory");
+    let close = "]".repeat(alloc, 1_000).expect(&rt, "memory");
+    let text = format!(in alloc; "{open}{close}").expect(&rt, "memory");
+    assert!(rt; text.len() <= MOST_TEXT_BYTES);
+    let lexed = tokens(alloc, text.as_bytes()).expect(&rt, "memory");
+    let term = read_general_term(alloc, text.as_bytes(), lexed.tokens.as_slice());
+    let term = term.expect(&rt, "memory");
     assert!(rt; matches!(term, Some(GeneralTerm::Listed(_))));
-    Ok(())
 }

@@ -1,51 +1,39 @@
 // What no clause says: outside rows, and that calls succeed.
 
-use plain_types::Mem;
 use std::alloc::Global;
-use std::test::Fail;
+use std::process::Abort;
 use tptp_token::*;
 
 /// A text's tokens: for each the letter of its kind, a `:`, its bytes and a blank. And the fault.
-fn shown(alloc: Global, text: &[u8]) -> Mem<(Vec<u8>, Option<LexFault>)> {
-    if text.len() > MOST_TEXT_BYTES {
-        return Ok((Vec::new(alloc), None));
-    }
-    let lexed = tokens(alloc, text)?;
+fn shown(rt: &impl Abort, alloc: Global, text: &[u8]) -> (Vec<u8>, Option<LexFault>) {
+    assert!(rt; text.len() <= MOST_TEXT_BYTES);
+    let lexed = tokens(alloc, text).expect(rt, "memory");
     let mut all = Vec::new(alloc);
     for token in lexed.tokens.as_slice() {
-        let letter = match token.kind {
-            Kind::Lower => b'l',
-            Kind::Variable => b'v',
-            Kind::Quoted => b'q',
-            Kind::Distinct => b'd',
-            Kind::Dollar => b's',
-            Kind::Number => b'n',
-            Kind::Connective => b'c',
-            Kind::Mark => b'm',
-            Kind::Other => b'o',
-        };
-        all.push(letter)?;
-        all.push(b':')?;
         let bytes = text.get(token.start as usize..token.end as usize);
-        all.extend_from_slice(bytes.unwrap_or(b"?".as_slice()))?;
-        all.push(b' ')?;
+        for part in [letter(token.kind), b":", bytes.unwrap_or(b"?"), b" "] {
+            all.extend_from_slice(part).expect(rt, "memory");
+        }
     }
-    Ok((all, lexed.fault))
+    (all, lexed.fault)
+}
+
+fn letter(kind: Kind) -> &'static [u8] {
+    match kind {
+        Kind::Lower => b"l",
+        Kind::Variable => b"v",
+        Kind::Quoted => b"q",
+        Kind::Distinct => b"d",
+        Kind::Dollar => b"s",
+        Kind::Number => b"n",
+        Kind::Connective => b"c",
+        Kind::Mark => b"m",
+        Kind::Other => b"o",
+    }
 }
 
 /// A text, what is shown of its tokens, and its fault.
 type Row = (&'static [u8], &'static [u8], Option<LexFault>);
-
-/// The index of the first row whose text has other tokens or another fault; the number of rows where there is none.
-fn first_failure(alloc: Global, rows: &[Row]) -> Mem<usize> {
-    for (index, (text, wanted, fault)) in rows.iter().enumerate() {
-        let (all, found) = shown(alloc, text)?;
-        if all.as_slice() != *wanted || found != *fault {
-            return Ok(index);
-        }
-    }
-    Ok(rows.len())
-}
 
 /// Words of each kind.
 const WORDS: &[Row] = &[
@@ -120,16 +108,19 @@ const COMMENTS: &[Row] = &[
 ];
 
 #[test]
-fn tells_tokens_apart(rt: HostRuntime) -> Result<(), Fail> {
+fn tells_tokens_apart(rt: HostRuntime) {
     for rows in [WORDS, QUOTES, NUMBERS, SIGNS, COMMENTS] {
-        assert_eq!(rt; first_failure(rt.alloc(), rows)?, rows.len());
+        for (index, (text, wanted, fault)) in rows.iter().enumerate() {
+            let (all, found) = shown(&rt, rt.alloc(), text);
+            assert!(rt; all.as_slice() == *wanted, "row {index}");
+            assert!(rt; found == *fault, "row {index}");
+        }
     }
-    Ok(())
 }
 
 /// What a word names, and how a name is printed.
 #[test]
-fn takes_quotes_off_and_puts_them_on(rt: HostRuntime) -> Result<(), Fail> {
+fn takes_quotes_off_and_puts_them_on(rt: HostRuntime) {
     let alloc = rt.alloc();
     for (word, name) in [
         (b"a1".as_slice(), b"a1".as_slice()),
@@ -139,15 +130,13 @@ fn takes_quotes_off_and_puts_them_on(rt: HostRuntime) -> Result<(), Fail> {
         (b"'12'", b"12"),
     ] {
         assert!(rt; word.len() <= MOST_TEXT_BYTES);
-        let lexed = tokens(alloc, word)?;
+        let lexed = tokens(alloc, word).expect(&rt, "memory");
+        let token = TextToken::at(word, lexed.tokens.as_slice(), 0).expect(&rt, "a token");
+        assert!(rt; token.is_name() && !token.is_mark(b"("));
+        let found = token.name(alloc).expect(&rt, "memory");
+        assert!(rt; found.as_slice() == name);
         let mut page = Vec::new(alloc);
-        if let Some(token) = TextToken::at(word, lexed.tokens.as_slice(), 0) {
-            assert!(rt; token.is_name() && !token.is_mark(b"("));
-            let found = token.name(alloc)?;
-            assert!(rt; found.as_slice() == name);
-            push_name(&mut page, found.as_slice())?;
-        }
+        push_name(&mut page, found.as_slice()).expect(&rt, "memory");
         assert!(rt; page.as_slice() == word);
     }
-    Ok(())
 }

@@ -1,12 +1,10 @@
 // What no clause says: outside rows, and that calls succeed.
 
-use plain_types::{Mem, Text};
-use std::alloc::Global;
-use std::test::Fail;
+use plain_types::Text;
 use tptp_tree::*;
 
 #[test]
-fn prints_names(rt: HostRuntime) -> Result<(), Fail> {
+fn prints_names(rt: HostRuntime) {
     for (name, wanted) in [
         (b"it's".as_slice(), b"'it\\'s'".as_slice()),
         (b"a1", b"a1"),
@@ -15,28 +13,22 @@ fn prints_names(rt: HostRuntime) -> Result<(), Fail> {
         (b"a b", b"'a b'"),
         (b"12", b"'12'"),
     ] {
-        let name = Text::from_slice(rt.alloc(), name)?;
-        let text = print_name(rt.alloc(), &name)?;
+        let name = Text::from_slice(rt.alloc(), name).expect(&rt, "memory");
+        let text = print_name(rt.alloc(), &name).expect(&rt, "memory");
         assert!(rt; text.as_slice() == wanted);
     }
-    Ok(())
 }
 
-/// So many negations of `$true`.
-fn negations(alloc: Global, count: usize) -> Mem<Formula> {
-    let mut formula = Formula::True;
-    for _ in 0..count {
-        formula = Formula::Not(FormulaBox::new(alloc, formula)?);
-    }
-    Ok(formula)
-}
-
+/// As many negations of `$true` as a derivation may have.
 #[test]
-fn prints_deep_formulas(rt: HostRuntime) -> Result<(), Fail> {
-    let formula = negations(rt.alloc(), MOST_DERIVATION_NESTING as usize)?;
-    let text = print_formula(rt.alloc(), &formula)?;
+fn prints_deep_formulas(rt: HostRuntime) {
+    let mut formula = Formula::True;
+    for _ in 0..MOST_DERIVATION_NESTING {
+        let inside = FormulaBox::new(rt.alloc(), formula).expect(&rt, "memory");
+        formula = Formula::Not(inside);
+    }
+    let text = print_formula(rt.alloc(), &formula).expect(&rt, "memory");
     assert_eq!(rt; text.len(), 5_005);
-    Ok(())
 }
 
 #[test]

@@ -1,8 +1,8 @@
-use Rattle.std.proofs.Common.{◌≡◌, ℕ, Bool, true, false, Result, Ok, Err, List, ◌∷◌, refl, sym, subst}
-use Rattle.std.specs.Prelude.{All, IfOk, IsTrue}
+use Rattle.std.proofs.Common.{◌≡◌, ℕ, Bool, true, false, List, ◌∷◌, refl, sym, subst}
+use Rattle.std.specs.Prelude.{All, IsTrue}
 use Rattle.std.proofs.lemmas.List.Elements.{All-tail}
 use Rattle.std.proofs.lemmas.List.Sorted.{All-permutation}
-use Rattle.bank_clause.specs.Clause.{IsMemberOf, AreMembersOf}
+use Rattle.bank_clause.specs.Clause.{IsMemberOf}
 use Rattle.bank_clause.specs.declared.member.Member.{Member}
 use Rattle.subsume.specs.Editing.{IsNumbered}
 use Rattle.subsume.proofs.EditLemmas.{all-inserted}
@@ -16,12 +16,7 @@ all-left P true number old new gone same all =
     let g = gone refl in All-tail P g.member new (All-permutation P old (g.member ∷ new) g.gone all)
 all-left P false number old new gone same all = subst (All P) (sym (same refl)) all
 
-always : {T E : Type 0} (r : Result T E) (P : Type 0) → P → IfOk r (λ _. P)
-always (Ok x) P p = p
-always (Err x) P p = tt
-
 pub returns : goal.returns
-returns c =
-    always c.insert.result (AreMembersOf c.args.bank.now c.insert.new.self)
-    (all-inserted (IsMemberOf c.args.bank.now) c.insert.result c.args.member.now c.remove.new.self c.insert.new.self c.insert.ensures.ok c.insert.ensures.err c.requires.of_bank
-    (all-left (IsMemberOf c.args.bank.now) c.remove.result c.args.member.now.number c.args.subsumers.now c.remove.new.self c.remove.ensures.removed c.remove.ensures.unchanged c.requires.subsumers))
+returns g c =
+    all-inserted (IsMemberOf c.args.bank.now) c.insert.result c.args.member.now c.remove.new.self c.insert.new.self c.insert.ensures.ok c.insert.ensures.err c.requires.of_bank
+    (all-left (IsMemberOf c.args.bank.now) c.remove.result c.args.member.now.number c.args.subsumers.now c.remove.new.self c.remove.ensures.removed c.remove.ensures.unchanged c.requires.subsumers)
