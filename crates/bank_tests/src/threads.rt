@@ -11,7 +11,6 @@ use plain_types::{Mem, NoMemory};
 use std::alloc::Global;
 use std::sync::Wait;
 use std::sync::atomic::{AtomicBool, Ordering};
-use std::test::Fail;
 use std::thread;
 use std::thread::Threads;
 use term_bank::{Bank, Table, TermRef};
@@ -137,12 +136,12 @@ fn get_their_own<R: Threads + Wait + Sync>(
 }
 
 #[test]
-fn two_threads_intern_in_one_bank(rt: HostRuntime) -> Result<(), Fail> {
+fn two_threads_intern_in_one_bank(rt: HostRuntime) {
     let alloc = rt.alloc();
-    let terms = variables(alloc, 0, TERMS)?;
-    let (bank, mut table) = Bank::new(alloc)?;
-    assert!(rt; get_their_own(&rt, alloc, &bank, &mut table, terms.as_slice())?);
-    Ok(())
+    let terms = variables(alloc, 0, TERMS).expect(&rt, "memory");
+    let (bank, mut table) = Bank::new(alloc).expect(&rt, "memory");
+    let own = get_their_own(&rt, alloc, &bank, &mut table, terms.as_slice());
+    assert!(rt; own.expect(&rt, "memory"));
 }
 
 /// References that a thread hands to others, which run already, and whether it has ended.
@@ -307,18 +306,19 @@ fn read_while_one_interns<R: Threads + Wait + Sync>(
 }
 
 #[test]
-fn two_threads_read_while_one_interns(rt: HostRuntime) -> Result<(), Fail> {
+fn two_threads_read_while_one_interns(rt: HostRuntime) {
     let alloc = rt.alloc();
-    let known = variables(alloc, 0, KNOWN)?;
-    let new = variables(alloc, KNOWN, TERMS)?;
-    let (bank, mut table) = Bank::new(alloc)?;
-    let references = taken_in(&rt, alloc, &bank, &mut table, known.as_slice())?;
-    let handing = none_handed(alloc, &bank)?;
+    let known = variables(alloc, 0, KNOWN).expect(&rt, "memory");
+    let new = variables(alloc, KNOWN, TERMS).expect(&rt, "memory");
+    let (bank, mut table) = Bank::new(alloc).expect(&rt, "memory");
+    let references = taken_in(&rt, alloc, &bank, &mut table, known.as_slice());
+    let references = references.expect(&rt, "memory");
+    let handing = none_handed(alloc, &bank).expect(&rt, "memory");
     let terms = Terms {
         references: references.as_slice(),
         known: known.as_slice(),
         new: new.as_slice(),
     };
-    assert!(rt; read_while_one_interns(&rt, alloc, &bank, &mut table, &terms, &handing)?);
-    Ok(())
+    let read = read_while_one_interns(&rt, alloc, &bank, &mut table, &terms, &handing);
+    assert!(rt; read.expect(&rt, "memory"));
 }

@@ -1,55 +1,43 @@
 // Texts that are large, or deep.
 
 use crate::outcome::Outcome;
-use plain_types::Mem;
 use std::alloc::Global;
+use std::process::Abort;
 use tstp_checker::Cause;
 
-fn push_times(page: &mut Vec<u8>, byte: u8, times: usize) -> Mem<()> {
-    for _ in 0..times {
-        page.push(byte)?;
-    }
-    Ok(())
-}
-
 /// The derivation of the two units with so many pairs of brackets round the atom of its first line.
-pub(crate) fn bracketed(alloc: Global, lines: &[&[u8]], pairs: usize) -> Mem<Vec<u8>> {
-    let mut page = Vec::new(alloc);
-    page.extend_from_slice(b"cnf(c0,axiom,")?;
-    push_times(&mut page, b'(', pairs)?;
-    page.push(b'p')?;
-    push_times(&mut page, b')', pairs)?;
-    page.extend_from_slice(b",file('r1.p',a)).")?;
+pub(crate) fn bracketed(rt: &impl Abort, alloc: Global, lines: &[&[u8]], pairs: usize) -> Vec<u8> {
+    let open = "(".repeat(alloc, pairs).expect(rt, "memory");
+    let close = ")".repeat(alloc, pairs).expect(rt, "memory");
+    let first = format!(in alloc; "cnf(c0,axiom,{open}p{close},file('r1.p',a)).");
+    let mut page = first.expect(rt, "memory").into_bytes();
     for line in lines.iter().skip(1) {
-        page.extend_from_slice(line)?;
+        page.extend_from_slice(line).expect(rt, "memory");
     }
-    Ok(page)
+    page
 }
 
-/// Lines by which `p(X0)` is bound to a term of so many constants, and refuted by a rule that asks for a negative literal.
-pub(crate) fn bound_to(alloc: Global, constants: usize) -> Mem<Vec<u8>> {
-    let mut page = Vec::new(alloc);
-    page.extend_from_slice(b"cnf(c0,axiom,p(X),file(r,a)).")?;
-    page.extend_from_slice(
-        b"cnf(c1,plain,p(X0),inference(clausify,[status(esa),index(0)],[c0])).",
-    )?;
-    page.extend_from_slice(b"cnf(c2,plain,$false,inference(refl,[status(thm),lit(0),bind([f(a")?;
-    for _ in 1..constants {
-        page.extend_from_slice(b",a")?;
-    }
-    page.extend_from_slice(b")])],[c1])).")?;
-    Ok(page)
+/// Lines by which `p(X0)` is bound to a term of so many constants and one more, and refuted by a rule that asks for a negative literal.
+pub(crate) fn bound_to(rt: &impl Abort, alloc: Global, constants: usize) -> Vec<u8> {
+    let more = ",a".repeat(alloc, constants).expect(rt, "memory");
+    let leaf = "cnf(c0,axiom,p(X),file(r,a)).";
+    let clause = "cnf(c1,plain,p(X0),inference(clausify,[status(esa),index(0)],[c0])).";
+    let before = "cnf(c2,plain,$false,inference(refl,[status(thm),lit(0),bind([f(a";
+    let after = ")])],[c1])).";
+    format!(in alloc; "{leaf}{clause}{before}{more}{after}")
+        .expect(rt, "memory")
+        .into_bytes()
 }
 
 /// A text with a part that is nested so many times.
 pub(crate) struct Nested {
     pub problem: &'static [u8],
-    pub before: &'static [u8],
-    pub opening: &'static [u8],
+    pub before: &'static str,
+    pub opening: &'static str,
     pub times: usize,
-    pub inside: &'static [u8],
-    pub closing: &'static [u8],
-    pub after: &'static [u8],
+    pub inside: &'static str,
+    pub closing: &'static str,
+    pub after: &'static str,
     pub answer: Outcome,
 }
 
@@ -58,57 +46,54 @@ pub(crate) struct Nested {
 pub(crate) const NESTED: &[Nested] = &[
     Nested {
         problem: b"cnf(a,axiom,p(X)).",
-        before: b"cnf(c0,axiom,p(X),file(r,a)).cnf(c1,plain,p(X0),inference(clausify,[status(esa),index(0)],[c0])).cnf(c2,plain,$false,inference(refl,[status(thm),lit(0),bind([",
-        opening: b"f(",
+        before: "cnf(c0,axiom,p(X),file(r,a)).cnf(c1,plain,p(X0),inference(clausify,[status(esa),index(0)],[c0])).cnf(c2,plain,$false,inference(refl,[status(thm),lit(0),bind([",
+        opening: "f(",
         times: 4_990,
-        inside: b"a",
-        closing: b")",
-        after: b"])],[c1])).",
+        inside: "a",
+        closing: ")",
+        after: "])],[c1])).",
         answer: Outcome::Refused(3, Cause::Rule),
     },
     Nested {
         problem: b"cnf(a,axiom,p(X)).",
-        before: b"cnf(c0,axiom,p(X),file(r,a)).cnf(c1,plain,p(",
-        opening: b"f(",
+        before: "cnf(c0,axiom,p(X),file(r,a)).cnf(c1,plain,p(",
+        opening: "f(",
         times: 4_990,
-        inside: b"a",
-        closing: b")",
-        after: b"),inference(clausify,[status(esa),index(0)],[c0])).",
+        inside: "a",
+        closing: ")",
+        after: "),inference(clausify,[status(esa),index(0)],[c0])).",
         answer: Outcome::Refused(2, Cause::Clausify),
     },
     Nested {
         problem: b"cnf(a,axiom,$false).",
-        before: b"cnf(c0,axiom,$false,file(r,a)).cnf(c1,plain,$false,inference(clausify,[status(esa),note(",
-        opening: b"f(",
+        before: "cnf(c0,axiom,$false,file(r,a)).cnf(c1,plain,$false,inference(clausify,[status(esa),note(",
+        opening: "f(",
         times: 4_990,
-        inside: b"a",
-        closing: b")",
-        after: b"),index(0)],[c0])).",
+        inside: "a",
+        closing: ")",
+        after: "),index(0)],[c0])).",
         answer: Outcome::Accepted(2),
     },
     Nested {
         problem: b"fof(a,axiom,p).",
-        before: b"fof(c0,axiom,",
-        opening: b"~",
+        before: "fof(c0,axiom,",
+        opening: "~",
         times: 5_000,
-        inside: b"p",
-        closing: b"",
-        after: b",file(r,a)).",
+        inside: "p",
+        closing: "",
+        after: ",file(r,a)).",
         answer: Outcome::Refused(1, Cause::Leaf),
     },
 ];
 
 /// The text of a nested part and what stands round it.
-pub(crate) fn nested_text(alloc: Global, row: &Nested) -> Mem<Vec<u8>> {
-    let mut page = Vec::new(alloc);
-    page.extend_from_slice(row.before)?;
-    for _ in 0..row.times {
-        page.extend_from_slice(row.opening)?;
-    }
-    page.extend_from_slice(row.inside)?;
-    for _ in 0..row.times {
-        page.extend_from_slice(row.closing)?;
-    }
-    page.extend_from_slice(row.after)?;
-    Ok(page)
+pub(crate) fn nested_text(rt: &impl Abort, alloc: Global, row: &Nested) -> Vec<u8> {
+    let opening = row.opening.repeat(alloc, row.times).expect(rt, "memory");
+    let closing = row.closing.repeat(alloc, row.times).expect(rt, "memory");
+    format!(in alloc;
+        "{}{opening}{}{closing}{}",
+        row.before, row.inside, row.after
+    )
+    .expect(rt, "memory")
+    .into_bytes()
 }

@@ -1,11 +1,10 @@
 // The answer on a derivation of a problem, both as texts.
 
-use clausal_form::{FormFault, clausal};
+use clausal_form::clausal;
 use outside::{Files, MemFile, SureLibrary};
-use plain_types::{Mem, NoMemory};
 use std::alloc::Global;
+use std::process::Abort;
 use tptp_problem::read_problem;
-use tptp_reader::ReadFault;
 use tptp_token::MOST_TEXT_BYTES;
 use tstp_checker::{Accepted, Cause, CheckFault, check};
 
@@ -17,32 +16,31 @@ const FILE: &str = "r.p";
 pub(crate) enum Outcome {
     Accepted(u32),
     Refused(u32, Cause),
-    /// The problem isn't read, or has no clausal form.
-    NoForm,
 }
 
-/// The answer on a derivation of a problem of `r.p`; one over the limit of length is no text, as the program says. Want of
-/// memory is handed on, so that no row is taken for another answer.
-pub(crate) fn answer_on(alloc: Global, problem: &[u8], derivation: &[u8]) -> Mem<Outcome> {
+/// The answer on a derivation of a problem of `r.p`.
+pub(crate) fn answer_on(
+    rt: &impl Abort,
+    alloc: Global,
+    problem: &[u8],
+    derivation: &[u8],
+) -> Outcome {
+    let file = MemFile::new(alloc, FILE, problem).expect(rt, "memory");
     let mut files = Files::new(alloc);
-    files.push(MemFile::new(alloc, FILE, problem)?)?;
+    files.push(file).expect(rt, "memory");
     let mut library = SureLibrary::new(files);
     let problem = match read_problem(alloc, &mut library, FILE, None) {
         Ok(problem) => problem,
-        Err(ReadFault::NoMemory) => return Err(NoMemory),
-        Err(ReadFault::At(..)) => return Ok(Outcome::NoForm),
+        Err(_) => rt.panic("no problem"),
     };
     let form = match clausal(alloc, &problem) {
         Ok(form) => form,
-        Err(FormFault::NoMemory) => return Err(NoMemory),
-        Err(FormFault::Refused(..)) => return Ok(Outcome::NoForm),
+        Err(_) => rt.panic("no form"),
     };
-    if derivation.len() > MOST_TEXT_BYTES {
-        return Ok(Outcome::Refused(0, Cause::Text));
-    }
+    assert!(rt; derivation.len() <= MOST_TEXT_BYTES);
     match check(alloc, &problem, &form, derivation) {
-        Ok(Accepted { lines }) => Ok(Outcome::Accepted(lines)),
-        Err(CheckFault::NoMemory) => Err(NoMemory),
-        Err(CheckFault::Refused { line, cause }) => Ok(Outcome::Refused(line, cause)),
+        Ok(Accepted { lines }) => Outcome::Accepted(lines),
+        Err(CheckFault::NoMemory) => rt.panic("memory"),
+        Err(CheckFault::Refused { line, cause }) => Outcome::Refused(line, cause),
     }
 }

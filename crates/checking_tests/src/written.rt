@@ -10,7 +10,6 @@ use kernel_steps::{Derivation, Line, Step};
 use outside::{Files, MemFile, SureLibrary};
 use plain_types::{Mem, Names};
 use std::alloc::Global;
-use std::test::Fail;
 use tptp_problem::read_problem;
 use tstp_checker::{Accepted, check};
 use tstp_writer::{cone, write_lines};
@@ -46,28 +45,23 @@ fn leaves(alloc: Global) -> Mem<Derivation>
 
 /// Clausify lines that nothing needs are in neither the cone nor the text, and what is written is accepted.
 #[test]
-fn a_leaf_is_written_alone(rt: HostRuntime) -> Result<(), Fail> {
+fn a_leaf_is_written_alone(rt: HostRuntime) {
     let alloc = rt.alloc();
-    let lines = leaves(alloc)?;
-    assert_eq!(rt; cone(alloc, &lines, 1)?.as_slice(), [1u64].as_slice());
+    let lines = leaves(alloc).expect(&rt, "memory");
+    let needed = cone(alloc, &lines, 1).expect(&rt, "memory");
+    assert!(rt; needed.as_slice() == [1u64].as_slice());
+    let file = MemFile::new(alloc, FILE, PROBLEM).expect(&rt, "memory");
     let mut files = Files::new(alloc);
-    files.push(MemFile::new(alloc, FILE, PROBLEM)?)?;
+    files.push(file).expect(&rt, "memory");
     let mut library = SureLibrary::new(files);
-    let Ok(problem) = read_problem(alloc, &mut library, FILE, None) else {
-        return Err(Fail::new("problem"));
-    };
-    let Ok(form) = clausal(alloc, &problem) else {
-        return Err(Fail::new("form"));
-    };
-    let text = write_lines(alloc, &problem, &form, &lines, 1, FILE.as_bytes())?;
+    let problem = read_problem(alloc, &mut library, FILE, None).ok();
+    let problem = problem.expect(&rt, "a problem");
+    let form = clausal(alloc, &problem).ok().expect(&rt, "a form");
+    let text = write_lines(alloc, &problem, &form, &lines, 1, FILE.as_bytes());
+    let text = text.expect(&rt, "memory");
     let written =
         b"cnf(c0,axiom,$false,file('r.p',b)).\ncnf(c1,plain,$false,inference(clausify,[status(esa),index(1)],[c0])).\n";
     assert!(rt; text.as_slice() == written.as_slice());
-    assert!(rt;
-        matches!(
-            check(alloc, &problem, &form, text.as_slice()),
-            Ok(Accepted { lines: 2 })
-        )
-    );
-    Ok(())
+    let answer = check(alloc, &problem, &form, text.as_slice());
+    assert!(rt; matches!(answer, Ok(Accepted { lines: 2 })));
 }
