@@ -1,6 +1,6 @@
 // What an index of partners finds, beside a plain pass over all members.
 
-ghost use Rattle.bank_clause.specs.Clause.{IsMemberOf};
+ghost use Rattle.bank_clause.specs.Clause.{AreMembersOf, IsMemberOf};
 ghost use Rattle.partners.specs.Partners.{AreOfBank};
 
 use crate::samples::{member, members};
@@ -46,7 +46,42 @@ fn met(rt: &impl Abort, alloc: Global, bank: &Bank, set: &Partners, given: &Memb
 const GROUP: &str =
     "f(X0,f(X1,X2)) = f(f(X0,X1),X2);f(a,X0) = X0;f(g(X0),X0) = a;f(X0,a) = X0;~p(f(b,X0)) | q(X0);p(X0) | f(X0,X0) = c;~p(c);p(a)";
 
-/// As many superpositions as between a clause and each member. Without its members the set finds none.
+/// A set of members. With each of them one clause meets as many as a plain pass finds.
+fn learned(
+    rt: &impl Abort,
+    alloc: Global,
+    bank: &Bank,
+    members: &[Member],
+    given: &Member,
+) -> Partners
+    requires members { AreMembersOf bank.now members.now }
+    requires given { IsMemberOf bank.now given.now }
+    ensures { AreOfBank bank.now result }
+{
+    let mut set = Partners::new(alloc, MODE).expect(rt, "memory");
+    let mut count = 0usize;
+    for one in members {
+        learn(rt, bank, &mut set, one);
+        assert!(rt; one.number != given.number);
+        let plain = between(alloc, bank, given, one, MODE).expect(rt, "memory");
+        count = count.saturating_add(plain.len());
+        assert!(rt; met(rt, alloc, bank, &set, given) == count);
+    }
+    assert!(rt; count > 0);
+    set
+}
+
+/// Removes each member, which is there once.
+fn forget(rt: &impl Abort, bank: &Bank, set: &mut Partners, members: &[Member])
+    requires { AreOfBank bank.now set.old }
+    ensures { AreOfBank bank.now set.new }
+{
+    for one in members {
+        assert!(rt; set.remove(bank, one.number));
+        assert!(rt; !set.remove(bank, one.number));
+    }
+}
+
 #[test]
 fn a_set_finds_what_a_plain_pass_finds(rt: HostRuntime) {
     let alloc = rt.alloc();
@@ -54,19 +89,7 @@ fn a_set_finds_what_a_plain_pass_finds(rt: HostRuntime) {
     let members = members(&rt, alloc, &bank, &mut table, GROUP);
     let given = clause(alloc, "g(f(b,X0)) = X0 | ~p(f(X0,a))").expect(&rt, "memory");
     let given = member(&rt, alloc, &bank, &mut table, 100, &given);
-    let mut set = Partners::new(alloc, MODE).expect(&rt, "memory");
-    let mut count = 0usize;
-    for one in members.as_slice() {
-        learn(&rt, &bank, &mut set, one);
-        assert!(rt; one.number != given.number);
-        let plain = between(alloc, &bank, &given, one, MODE).expect(&rt, "memory");
-        count = count.saturating_add(plain.len());
-        assert!(rt; met(&rt, alloc, &bank, &set, &given) == count);
-    }
-    assert!(rt; count > 0);
-    for other in members.as_slice() {
-        assert!(rt; set.remove(&bank, other.number));
-        assert!(rt; !set.remove(&bank, other.number));
-    }
+    let mut set = learned(&rt, alloc, &bank, members.as_slice(), &given);
+    forget(&rt, &bank, &mut set, members.as_slice());
     assert!(rt; met(&rt, alloc, &bank, &set, &given) == 0);
 }

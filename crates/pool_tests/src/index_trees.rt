@@ -40,18 +40,25 @@ fn are(rt: &impl Abort, numbers: Mem<Numbers>, wanted: &[u64]) -> bool {
     numbers.expect(rt, "memory").as_slice() == wanted
 }
 
+/// In whatever order they are found.
+fn alike(rt: &impl Abort, numbers: Mem<Numbers>, wanted: &[u64]) -> bool {
+    let mut found = numbers.expect(rt, "memory").into_vec();
+    found.sort().expect(rt, "memory");
+    found.as_slice() == wanted
+}
+
 #[test]
 fn queries_find_entries(rt: HostRuntime) {
     let tree = tree_of(&rt, rt.alloc(), ENTRIES);
     for (text, unifiable, generalisations, instances) in QUERIES {
         let read = clause(rt.alloc(), text).expect(&rt, "memory");
         let query = &read.literals.as_slice().first().expect(&rt, "a term").left;
-        assert!(rt; are(&rt, tree.unifiable(query), unifiable), "{text}");
+        assert!(rt; alike(&rt, tree.unifiable(query), unifiable), "{text}");
         assert!(rt;
-            are(&rt, tree.generalisations(query), generalisations),
+            alike(&rt, tree.generalisations(query), generalisations),
             "{text}"
         );
-        assert!(rt; are(&rt, tree.instances(query), instances), "{text}");
+        assert!(rt; alike(&rt, tree.instances(query), instances), "{text}");
     }
 }
 
@@ -64,11 +71,11 @@ fn counted_calls_agree<L: Ledger>(rt: &impl Abort, alloc: Global, blank: Blank) 
     let tree = tree_of(rt, alloc, ENTRIES);
     let query = Term::Var(0);
     let mut steps = Steps::<L>::new(blank);
-    are(
+    alike(
         rt,
         tree.unifiable_counted(&query, &mut steps),
         &[0, 1, 2, 3],
-    ) && are(rt, tree.generalisations_counted(&query, &mut steps), &[])
+    ) && alike(rt, tree.generalisations_counted(&query, &mut steps), &[])
 }
 
 #[test]
@@ -114,12 +121,6 @@ fn scanned(
     }
     found.sort().expect(rt, "memory");
     found
-}
-
-fn alike(rt: &impl Abort, numbers: Mem<Numbers>, wanted: &[u64]) -> bool {
-    let mut found = numbers.expect(rt, "memory").into_vec();
-    found.sort().expect(rt, "memory");
-    found.as_slice() == wanted
 }
 
 /// Whether the three queries find what a scan finds.

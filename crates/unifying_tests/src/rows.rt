@@ -1,6 +1,7 @@
 // Rows worked out by hand, and a table of small pairs against a plain unifier.
 
-use fol_base::{Side, Term, same_terms};
+use fol_base::{Side, Subst, Term, same_terms};
+use plain_types::Mem;
 use sample_terms::{binary, constant, unary};
 use std::alloc::Global;
 use std::process::Abort;
@@ -137,6 +138,37 @@ fn the_size_of_an_instance(rt: HostRuntime) {
     assert_eq!(rt; size, 3);
 }
 
+/// The terms for the first variables that turn a pattern into a target. None where there are none, or the
+/// count isn't above the pattern's variables.
+fn matched_terms(alloc: Global, pattern: &Term, target: &Term, count: u32) -> Mem<Option<Subst>> {
+    if pattern.variable_bound() > u64::from(count) {
+        return Ok(None);
+    }
+    let empty = Matched::empty(alloc);
+    match match_onto(alloc, pattern, target, &empty)? {
+        Some(pairs) => Ok(Some(pairs.subst(count)?)),
+        None => Ok(None),
+    }
+}
+
+/// Whether a further pattern can be turned into a further target with the same variables.
+fn can_go_on<'a>(
+    alloc: Global,
+    patterns: (&Term, &Term),
+    target: &'a Term,
+    further: &'a Term,
+) -> Mem<bool> {
+    let empty = Matched::empty(alloc);
+    let found = match_onto(alloc, patterns.0, target, &empty)?;
+    match found {
+        Some(pairs) => {
+            let more = match_onto(alloc, patterns.1, further, &pairs)?;
+            Ok(more.is_some())
+        }
+        None => Ok(false),
+    }
+}
+
 /// `f(X0,X0)` is no pattern of `f(a,b)`, and one of `f(a,a)`. Then X0 stands for no b, and X1 may.
 #[test]
 fn a_pattern_is_matched(rt: HostRuntime) {
@@ -145,18 +177,15 @@ fn a_pattern_is_matched(rt: HostRuntime) {
     let differs = binary(alloc, G, constant(alloc, A), constant(alloc, B)).expect(&rt, "memory");
     let same = binary(alloc, G, constant(alloc, A), constant(alloc, A)).expect(&rt, "memory");
     let b = constant(alloc, B);
-    let empty = Matched::empty(alloc);
-    let none = match_onto(alloc, &pattern, &differs, &empty).expect(&rt, "memory");
+    let none = matched_terms(alloc, &pattern, &differs, 1).expect(&rt, "memory");
     assert!(rt; none.is_none());
-    assert!(rt; pattern.variable_bound() <= 1);
-    let pairs = match_onto(alloc, &pattern, &same, &empty).expect(&rt, "memory");
-    let pairs = pairs.expect(&rt, "a matcher");
-    let terms = pairs.subst(1).expect(&rt, "memory");
+    let found = matched_terms(alloc, &pattern, &same, 1).expect(&rt, "memory");
+    let terms = found.expect(&rt, "a matcher");
     assert!(rt; same_terms(terms.as_slice(), &[constant(alloc, A)]));
-    let known = match_onto(alloc, &Term::Var(0), &b, &pairs).expect(&rt, "memory");
-    assert!(rt; known.is_none());
-    let further = match_onto(alloc, &Term::Var(1), &b, &pairs).expect(&rt, "memory");
-    assert!(rt; further.is_some());
+    let known = can_go_on(alloc, (&pattern, &Term::Var(0)), &same, &b).expect(&rt, "memory");
+    assert!(rt; !known);
+    let further = can_go_on(alloc, (&pattern, &Term::Var(1)), &same, &b).expect(&rt, "memory");
+    assert!(rt; further);
 }
 
 /// Pairs of terms, by a stack. Then a letter says what is known of the two: p where they unify, q where they do apart
