@@ -150,7 +150,7 @@ fn push_more_names(page: &mut Page, prefix: &[u8], names: &[NameLit]) -> Mem<()>
 }
 
 /// Adds a clause: its literals, then its names, and `$false` where there are neither.
-pub(crate) fn push_clause(
+pub fn push_clause(
     page: &mut Page,
     symbols: &[Symbol],
     prefix: &[u8],
