@@ -62,8 +62,9 @@ pub mod CountedLemmas
 -- NumberLemmas (the numbers of clauses, positions and jobs), FitLemmas (which have 32 bits).
 pub mod NumberLemmas
 pub mod FitLemmas
--- NewsLemmas (what is told).
+-- NewsLemmas (what is told), StayingLemmas (batches stay right).
 pub mod NewsLemmas
+pub mod StayingLemmas
 -- Worked examples.
 pub mod GoingExample
 pub mod MeetingExample

@@ -155,23 +155,24 @@ moves-names is_predicate clauses c (m ∷ ms) moved =
     moves-names is_predicate clauses m.gives ms moved.1 ∙ ap (λ (d : TreeClause). d.names) moved.0.canonical
     ∙ move-names is_predicate clauses c m.by moved.0.result moved.0.step
 
-module _ (is_predicate : ℕ → Bool) (options : Options) (clauses : Lookup) (j : GivenJob) (unsplit : options.split ≡ false) (nameless : (n : ℕ) (c : TreeClause) → clauses n ≡ Some c → c.names ≡ []) where
-  among-there : (p : ℕ → Bool) (n : ℕ) (c : TreeClause) → among p clauses n ≡ Some c → clauses n ≡ Some c
-  among-there p n c there = by (p n) there
-    where
-      by : (b : Bool) → (if b then clauses n else None) ≡ Some c → clauses n ≡ Some c
-      by true h = h
-      by false h = absurd (none-some c h)
+-- what is looked up among clauses is one of them
+among-there : (clauses : Lookup) (p : ℕ → Bool) (n : ℕ) (c : TreeClause) → among p clauses n ≡ Some c → clauses n ≡ Some c
+among-there clauses p n c there = by (p n) there
+  where
+    by : (b : Bool) → (if b then clauses n else None) ≡ Some c → clauses n ≡ Some c
+    by true h = h
+    by false h = absurd (none-some c h)
 
+module _ (is_predicate : ℕ → Bool) (options : Options) (clauses : Lookup) (j : GivenJob) (unsplit : options.split ≡ false) (nameless : (n : ℕ) (c : TreeClause) → clauses n ≡ Some c → c.names ≡ []) where
   inference-names : (key : Key) (c : TreeClause) → IsSizedInference is_predicate (mode_of options.select) (among (is_told j) clauses) key c false → c.names ≡ []
   inference-names (key.Para first from from_side second into into_side place) c of =
       of.infers.named.names
-      ∙ ap₂ (λ ns ms. sorted_names (ns ++ ms)) (nameless first of.first_clause (among-there (is_told j) first of.first_clause of.first_there))
-      (nameless second of.second_clause (among-there (is_told j) second of.second_clause of.second_there))
+      ∙ ap₂ (λ ns ms. sorted_names (ns ++ ms)) (nameless first of.first_clause (among-there clauses (is_told j) first of.first_clause of.first_there))
+      (nameless second of.second_clause (among-there clauses (is_told j) second of.second_clause of.second_there))
   inference-names (key.Refl clause literal) c of =
-      of.infers.named.names ∙ ap sorted_names (nameless clause of.clause (among-there (is_told j) clause of.clause of.there))
+      of.infers.named.names ∙ ap sorted_names (nameless clause of.clause (among-there clauses (is_told j) clause of.clause of.there))
   inference-names (key.Factor clause becomes becomes_side other other_side) c of =
-      of.infers.named.names ∙ ap sorted_names (nameless clause of.clause (among-there (is_told j) clause of.clause of.there))
+      of.infers.named.names ∙ ap sorted_names (nameless clause of.clause (among-there clauses (is_told j) clause of.clause of.there))
   inference-names (key.Replaced clause) c of = absurd of
 
   -- ---- results
@@ -215,7 +216,7 @@ module _ (is_predicate : ℕ → Bool) (options : Options) (clauses : Lookup) (j
       fit (among (is_told j) clauses) lines results right.result right.are_lines right.reduced.led
       (ap (λ (d : TreeClause). d.names) (sym right.reduced.ends)
       ∙ moves-names is_predicate (among (is_told_beside j victim) clauses) right.clause (right.move ∷ right.moves) right.reduced.moved
-      ∙ nameless victim right.clause (among-there (is_told j) victim right.clause right.there))
+      ∙ nameless victim right.clause (among-there clauses (is_told j) victim right.clause right.there))
       right.given
   fit-removal victim justifiers (Dropped redundancy) right = tt
   fit-removal victim justifiers Heavy right = tt
@@ -234,13 +235,14 @@ module _ (is_predicate : ℕ → Bool) (options : Options) (clauses : Lookup) (j
     removals = λ k d below. fit-removal (get_or removals k d).victim (get_or removals k d).justifiers (get_or removals k d).fate (right.right_removals k d below);
   }
 
-  -- ---- justifiers
+-- ---- justifiers
 
+module _ (is_predicate : ℕ → Bool) (options : Options) (clauses : Lookup) (j : GivenJob) where
   abbrev known : ℕ → Bool
   known n = is_some (clauses n)
 
   known-from : (p : ℕ → Bool) (n : ℕ) (c : TreeClause) → among p clauses n ≡ Some c → known n ≡ true
-  known-from p n c there = ap is_some (among-there p n c there)
+  known-from p n c there = ap is_some (among-there clauses p n c there)
 
   units-known : (p : ℕ → Bool) (c : TreeClause) (ms : List Move) → AreMoves is_predicate (among p clauses) c ms → list_all known (units_of ms) ≡ true
   units-known p c [] moved = refl
@@ -281,6 +283,12 @@ module _ (is_predicate : ℕ → Bool) (options : Options) (clauses : Lookup) (j
 
   same-known : (ns ms : List ℕ) → same_numbers ns ms ≡ true → list_all known ms ≡ true → list_all known ns ≡ true
   same-known ns ms same all = among-pass known ns ms (and_parts (is_among ns ms) (is_among ms ns) same).0 all
+
+  -- the victim of a removal, and those by which it goes
+  pub victim-known : (victim : ℕ) (justifiers : List ℕ) (fate : Fate) → IsRightRemovalBy is_predicate options clauses j victim justifiers fate → known victim ≡ true
+  victim-known victim justifiers (Kept lines results) right = known-from (is_told j) victim right.clause right.there
+  victim-known victim justifiers (Dropped redundancy) right = known-from (is_told j) victim right.clause right.there
+  victim-known victim justifiers Heavy right = absurd right
 
   pub justifiers-known : (victim : ℕ) (justifiers : List ℕ) (fate : Fate) → IsRightRemovalBy is_predicate options clauses j victim justifiers fate → list_all known justifiers ≡ true
   justifiers-known victim justifiers (Kept lines results) right =
