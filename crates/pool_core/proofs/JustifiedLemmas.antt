@@ -36,7 +36,7 @@ use Rattle.pool_core.proofs.RightBatchLemmas.{victim-known, justifiers-known}
 module _ (is_predicate : ℕ → Bool) (options : Options) where
   -- ---- removals
 
-  removal-others :
+  pub removal-others :
       (clauses : Lookup) (j : GivenJob) (victim : ℕ) (justifiers : List ℕ) (fate : Fate)
       → IsRightRemovalBy is_predicate options clauses j victim justifiers fate → are_others victim justifiers ≡ true
   removal-others clauses j victim justifiers (Kept lines results) right =

@@ -71,4 +71,5 @@ pub mod MeetingExample
 pub mod EntryExample
 pub mod AnswerExamples
 pub mod LawfulExamples
+pub mod ReturnExamples
 pub mod SaturatedExamples
