@@ -72,4 +72,6 @@ pub mod EntryExample
 pub mod AnswerExamples
 pub mod LawfulExamples
 pub mod ReturnExamples
+pub mod CuttingExample
+pub mod SteppingExample
 pub mod SaturatedExamples

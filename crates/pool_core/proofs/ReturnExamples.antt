@@ -1,33 +1,30 @@
 -- Worked returns that aren't right, each for one reason.
-use Rattle.std.proofs.Common.{◌≡◌, ℕ, suc, Bool, true, false, not, ◌&&◌, ◌||◌, ◌==◌, ◌≤◌, List, [], ◌∷◌, ◌++◌, map, take, None, Some, refl, ap, ap₂, sym, ◌∙◌, subst, ⊎_elim, inl, inr, arith, lit<}
-use Rattle.std.specs.Prelude.{Option, slice_get, remove, IsTrue}
+use Rattle.std.proofs.Common.{◌≡◌, ℕ, Bool, true, false, not, ◌||◌, ◌==◌, ◌≤◌, List, [], ◌∷◌, ◌++◌, take, None, Some, refl, ap, ap₂, sym, ◌∙◌, subst, ⊎_elim, inl, inr, arith, lit<}
+use Rattle.std.specs.Prelude.{Option, slice_get, IsTrue}
 use Rattle.std.specs.List.{list_any, list_all, cons_option}
 use Rattle.std.proofs.lemmas.Bool.{true≢false, and_parts, and_from, ne_eqb}
 use Rattle.std.proofs.lemmas.Option.{none-some, same_Some}
-use Rattle.fol_base.specs.Tree.{Tree, tree_eq}
-use Rattle.fol_base.specs.Clause.{TreeLiteral, TreeClause, clause_size, clause_instance}
+use Rattle.fol_base.specs.Tree.{tree_eq}
+use Rattle.fol_base.specs.Clause.{TreeLiteral, TreeClause, clause_instance}
 use Rattle.fol_base.specs.Ground.{literals_instance}
 use Rattle.fol_base.specs.Instance.{instance}
 use Rattle.fol_base.specs.Rules.{disequation}
 use Rattle.fol_base.specs.Selection.{select_negative}
 use Rattle.fol_base.specs.Subsumption.{Subsumes, is_among}
 use Rattle.fol_base.specs.Examples.{x, a, b, c, f, p, equation, clause, all_a, is_predicate}
-use Rattle.fol_base.specs.declared.limits.TheConstants.{MOST_SYMBOLS}
 use Rattle.fol_base.proofs.RuleLemmas.{resolved-parts, merged-parts}
 use Rattle.fol_base.proofs.TestLemmas.{list_all-joined}
 use Rattle.kernel_steps.specs.Examples.{not_p, not_true, opposites}
 use Rattle.kernel_steps.specs.Inference.{CutsBy, DropsTrivial, NamedResolution, IsIrreducible, is_tautology}
 use Rattle.kernel_steps.specs.Moves.{Move, AreMoves, IsMove, end_of_moves, units_of}
-use Rattle.kernel_steps.specs.Named.{OfOne}
 use Rattle.kernel_steps.specs.Sized.{SizedResolution, is_large}
 use Rattle.kernel_steps.specs.declared.key.Key.TheVariants as key
-use Rattle.literal_selection.specs.Mode.{mode_of}
-use Rattle.calculus.specs.Lifting.{among, IsMember}
+use Rattle.calculus.specs.Lifting.{IsMember}
 use Rattle.pool_core.specs.Record.{PoolRecord, GivenJob, clauses_of, given_job}
 use Rattle.pool_core.specs.Reduction.{Lookup, handed_back}
 use Rattle.pool_core.specs.Batches.{is_told_beside}
 use Rattle.pool_core.specs.Lawful.{IsGivenOut, IsLawful}
-use Rattle.pool_core.specs.Replay.{Origin, start}
+use Rattle.pool_core.specs.Replay.{start}
 use Rattle.pool_core.specs.Examples.{pool_of, three, rewrites, rewrites_history, rewritten_to_itself, left_uncut, cut_halfway, subsuming, left_subsumed, growing, growing_history, half_step, towering, towering_goes, unequal, partners, entry, at_roots, return, removal}
 use Rattle.pool_core.specs.declared.batch.Fate.TheVariants.{Dropped, Heavy}
 use Rattle.pool_core.specs.declared.batch.Redundancy.TheVariants.{Tautology, Subsumed}
@@ -37,7 +34,7 @@ use Rattle.pool_core.proofs.DeathLemmas.{among-pass}
 use Rattle.pool_core.proofs.JustifiedLemmas.{removal-others}
 
 -- what is said of the job that is out
-said_of : (r : PoolRecord) (job : ℕ) (Says : GivenJob → Type 0) (j : GivenJob) → given_job r job ≡ Some j → IsGivenOut r job Says → Says j
+pub said_of : (r : PoolRecord) (job : ℕ) (Says : GivenJob → Type 0) (j : GivenJob) → given_job r job ≡ Some j → IsGivenOut r job Says → Says j
 said_of r job Says j out is = subst Says (sym (same_Some j is.given (sym out ∙ is.out))) is.says
 
 -- a job that may count 100
@@ -52,7 +49,7 @@ second_job = job_on 2 1 (0 ∷ 1 ∷ []) 3
 abbrev opposite : Lookup
 opposite = clauses_of (start (pool_of opposites))
 
-cutting : CutsBy is_predicate (clause (p a ∷ [])) (clause (not_p a ∷ [])) (clause [])
+pub cutting : CutsBy is_predicate (clause (p a ∷ [])) (clause (not_p a ∷ [])) (clause [])
 cutting = record {
   unit_literal = p a;
   is_unit = refl;
@@ -76,7 +73,7 @@ stays_uncut h =
     irreducible.no_step (clause []) (inr (inr (inr (record { clause = clause (p a ∷ []); holds = (0, refl); does = cutting }))))
 
 -- p(X0) subsumes p(a)
-subsumption : Subsumes is_predicate (clause (p (x 0) ∷ [])) (clause (p a ∷ []))
+pub subsumption : Subsumes is_predicate (clause (p (x 0) ∷ [])) (clause (p a ∷ []))
 subsumption = record { matcher = all_a; function_terms = λ v. refl; places = 0 ∷ []; different = refl; mapped = refl; asserted = refl }
 
 pub left_there : IsLawful is_predicate subsuming left_subsumed → ⊥

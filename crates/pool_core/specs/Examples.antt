@@ -84,8 +84,11 @@ units_history = Claim 1 ∷ return 1 (Met [] []) ∷ Claim 2 ∷ return 2 (Met (
 
 -- ---- a unit that cuts another: p(a) and its negation
 
+abbrev pub cut : Removal
+cut = removal 1 (0 ∷ []) (kept (resolved 0 1 [] [] [] []) (clause []))
+
 abbrev pub cut_away : List Event
-cut_away = Claim 1 ∷ return 1 (Met [] []) ∷ Claim 2 ∷ return 2 (Gone (removal 1 (0 ∷ []) (kept (resolved 0 1 [] [] [] []) (clause [])))) ∷ []
+cut_away = Claim 1 ∷ return 1 (Met [] []) ∷ Claim 2 ∷ return 2 (Gone cut) ∷ []
 
 -- where it stays beside the unit that cuts it
 abbrev pub left_uncut : List Event
