@@ -65,6 +65,10 @@ pub mod FitLemmas
 -- NewsLemmas (what is told), StayingLemmas (batches stay right).
 pub mod NewsLemmas
 pub mod StayingLemmas
+-- Components: FilterLemmas (lists that a test keeps), ReachedLemmas (what is reached in steps), FinestLemmas (they are the finest).
+pub mod FilterLemmas
+pub mod ReachedLemmas
+pub mod FinestLemmas
 -- Worked examples.
 pub mod GoingExample
 pub mod MeetingExample

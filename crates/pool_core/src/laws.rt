@@ -14,7 +14,7 @@ mod stale;
 mod telling;
 
 pub use claiming::{answer_examples, claim_examples, given_up_examples};
-pub use components::{component_examples, line_name_examples};
+pub use components::{component_examples, components_are_finest, line_name_examples};
 pub use counting::{after_spent_examples, heavy_examples, removal_examples, spent_examples};
 pub use histories::{
     batches_stay_right, claimed_in_time, counted_once, deaths_are_justified, jobs_are_counted,
