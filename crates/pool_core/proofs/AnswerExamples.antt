@@ -1,8 +1,11 @@
 -- Worked answers to claims and returns.
-use Rattle.std.proofs.Common.{[], ◌∷◌, ◌++◌, take, refl, arith}
-use Rattle.std.proofs.lemmas.Option.{none-some}
-use Rattle.pool_core.specs.Answers.{IsAnswerToClaim, IsAnswerToReturn}
-use Rattle.pool_core.specs.Examples.{pool_of, three, units, units_history, justified, removing}
+use Rattle.std.proofs.Common.{◌≡◌, [], ◌∷◌, ◌++◌, take, Some, refl, sym, ◌∙◌, subst, arith}
+use Rattle.std.proofs.lemmas.Option.{none-some, same_Some}
+use Rattle.fol_base.specs.Examples.{a}
+use Rattle.pool_core.specs.Record.{GivenJob}
+use Rattle.pool_core.specs.Replay.{replay}
+use Rattle.pool_core.specs.Answers.{IsAnswerToClaim, IsAnswerToReturn, death_of, dead_justifier}
+use Rattle.pool_core.specs.Examples.{pool_of, three, units, units_history, justified, removing, cut_by, return}
 use Rattle.pool_core.specs.declared.batch.Work.TheVariants as work
 use Rattle.pool_core.specs.declared.event.Event.TheVariants as event
 use Rattle.pool_core.specs.declared.outcome.Outcome.TheVariants.{Refuted, Saturated}
@@ -30,3 +33,27 @@ nothing_out h = absurd (omega (arith, h.4))
 
 pub saturated : IsAnswerToClaim (pool_of []) [] 0 (answer.Ended Saturated) []
 saturated = (refl, refl)
+
+-- the third job, which was told all three clauses
+abbrev third_job : GivenJob
+third_job = record { job = 3; number = 2; told = 0 ∷ 1 ∷ 2 ∷ []; as_of = 3; left = 100 }
+
+pub not_void :
+    IsAnswerToReturn justified removing 0
+    (record { job = 3; work = work.Gone (cut_by 1 (a ∷ [])) }) (back.Void 3) (removing ++ event.Void 3 ∷ []) → ⊥
+not_void h =
+    let is : third_job ≡ h.0.given = same_Some third_job h.0.given h.0.out in
+    none-some 3 (subst (λ (j : GivenJob). death_of (replay justified removing) j.number ≡ Some 3) (sym is) h.0.says)
+
+pub taken :
+    IsAnswerToReturn justified removing 0
+    (record { job = 3; work = work.Gone (cut_by 1 (a ∷ [])) }) back.Taken (removing ++ return 3 (work.Gone (cut_by 1 (a ∷ []))) ∷ [])
+taken = (record { given = third_job; out = refl; says = refl }, refl, refl)
+
+pub not_taken :
+    IsAnswerToReturn justified removing 0
+    (record { job = 3; work = work.Gone (cut_by 0 []) }) back.Taken (removing ++ return 3 (work.Gone (cut_by 0 [])) ∷ []) → ⊥
+not_taken h = none-some 0 (sym h.1 ∙ died)
+  where
+    died : dead_justifier (replay justified removing) (work.Gone (cut_by 0 [])) ≡ Some 0
+    died = refl

@@ -59,7 +59,7 @@ each-weaker P Q weaker [] all = tt
 each-weaker P Q weaker (x ∷ xs) all = (weaker x all.0, each-weaker P Q weaker xs all.1)
 
 -- what all numbers of a list pass, one of them passes
-number-passes : (p : ℕ → Bool) (n : ℕ) (ks : List ℕ) → has_number n ks ≡ true → list_all p ks ≡ true → p n ≡ true
+pub number-passes : (p : ℕ → Bool) (n : ℕ) (ks : List ℕ) → has_number n ks ≡ true → list_all p ks ≡ true → p n ≡ true
 number-passes p n [] there all = absurd (true≢false (sym there))
 number-passes p n (k ∷ ks) there all =
     let parts = and_parts (p k) (list_all p ks) all in

@@ -1,28 +1,29 @@
 -- Deaths are justified: it holds at the start, and each event of a lawful history keeps it.
-use Rattle.std.proofs.Common.{◌≡◌, ℕ, ◌<◌, ◌≤◌, Bool, true, false, not, ◌&&◌, ◌==◌, List, [], ◌∷◌, ◌++◌, length, append-nil, append_assoc, refl, ap, sym, ◌∙◌, ⊎_elim, arith}
-use Rattle.std.specs.Prelude.{Option, None, Some, nat_le, nat_lt, cond, fold, find, filter, if◌then◌else◌}
+use Rattle.std.proofs.Common.{◌≡◌, ℕ, ◌≤◌, Bool, true, false, not, ◌&&◌, ◌==◌, List, [], ◌∷◌, ◌++◌, length, append-nil, append_assoc, refl, ap, sym, ◌∙◌, ⊎_elim, arith}
+use Rattle.std.specs.Prelude.{Option, None, Some, nat_le, nat_lt, cond, fold, find, filter, is_some, option_map, slice_get, if◌then◌else◌}
 use Rattle.std.specs.List.{list_any, list_all, cons_option}
-use Rattle.std.proofs.lemmas.Bool.{and_parts, and_from, or_cases, eqb-true, true≢false, ltb-true, lt-ltb}
+use Rattle.std.proofs.lemmas.Bool.{and_parts, and_from, or_cases, eqb-true, eq-eqb, true≢false, ltb-true, lt-ltb}
 use Rattle.std.proofs.lemmas.List.{length-append}
-use Rattle.std.proofs.lemmas.Option.{none-some}
+use Rattle.std.proofs.lemmas.Option.{none-some, slice_get_within}
 use Rattle.fol_base.specs.Clause.{TreeClause}
 use Rattle.fol_base.specs.Subsumption.{is_among}
 use Rattle.kernel_steps.specs.declared.key.Key.{Key}
 use Rattle.kernel_steps.specs.declared.key.Key.TheVariants.{Replaced}
 use Rattle.kernel_steps.specs.declared.step.Line.{Line}
 use Rattle.calculus.specs.Lifting.{among}
-use Rattle.pool_core.specs.Record.{PoolRecord, Death, has_died, lives}
+use Rattle.pool_core.specs.Record.{PoolRecord, Registered, Death, clauses_of, has_died, lives}
 use Rattle.pool_core.specs.Counting.{refutes, spends, counts, result_comes}
 use Rattle.pool_core.specs.Returning.{dies, replaced}
 use Rattle.kernel_steps.specs.Lines.{clauses_named}
 use Rattle.kernel_steps.specs.Moves.{Move, AreMoves, IsMove, units_of}
 use Rattle.pool_core.specs.Reduction.{Lookup, clauses_used, IsRedundant, subsumers, same_numbers}
-use Rattle.pool_core.specs.Laws.{is_justified, are_justified, is_known}
+use Rattle.pool_core.specs.Laws.{is_justified, are_justified}
 use Rattle.pool_core.specs.declared.options.Options.{Options}
 use Rattle.pool_core.specs.declared.batch.Fate.{Fate}
 use Rattle.pool_core.specs.declared.batch.Fate.TheVariants.{Kept, Dropped, Heavy}
 use Rattle.pool_core.specs.declared.batch.Redundancy.{Redundancy}
 use Rattle.pool_core.specs.declared.batch.Redundancy.TheVariants.{Tautology, Subsumed}
+use Rattle.pool_core.proofs.GrowthLemmas.{lives-before}
 use Rattle.pool_core.proofs.FrameLemmas.{Registers, by-if, result-registers, results-register}
 
 -- ---- lists
@@ -81,27 +82,20 @@ justified-end earlier (e ∷ es) d before last =
     and_from (is_justified earlier e) (are_justified (earlier ++ e ∷ []) (es ++ d ∷ [])) parts.0
     (justified-end (earlier ++ e ∷ []) es d parts.1 (ap (λ ds. is_justified ds d) (append_assoc earlier (e ∷ []) es) ∙ last))
 
-pub known-more :
-    (clauses more events later : ℕ) → clauses ≤ more → events ≤ later → (d : Death)
-    → is_known clauses events d ≡ true → is_known more later d ≡ true
-known-more clauses more events later wider longer d known =
-    let parts = and_parts (nat_lt d.event events) (nat_lt d.victim clauses && list_all (λ n. nat_lt n clauses) d.justifiers) known in
-    let rest = and_parts (nat_lt d.victim clauses) (list_all (λ n. nat_lt n clauses) d.justifiers) parts.1 in
-    and_from (nat_lt d.event later) (nat_lt d.victim more && list_all (λ n. nat_lt n more) d.justifiers)
-    (below d.event events later longer parts.0)
-    (and_from (nat_lt d.victim more) (list_all (λ n. nat_lt n more) d.justifiers)
-    (below d.victim clauses more wider rest.0)
-    (all-weaker (λ n. nat_lt n clauses) (λ n. nat_lt n more) (λ n. below n clauses more wider) d.justifiers rest.1))
-  where
-    below : (n a b : ℕ) → a ≤ b → nat_lt n a ≡ true → nat_lt n b ≡ true
-    below n a b wide is = lt-ltb n b (let low : n < a = ltb-true n a is in omega (arith, low, wide))
-
 -- ---- records
 
--- the deaths of a record are justified, and known with so many events
-pub record AreRight (events : ℕ) (r : PoolRecord) : Type 0 where
+-- the death came in the event after a record, in which the victim and the justifiers live
+abbrev pub is_death_after : PoolRecord → Death → Bool
+is_death_after before d = (d.event == before.events) && list_all (lives before) (d.victim ∷ d.justifiers)
+
+-- the deaths of a record are justified, and come in the event after another one, as far as that didn't have them
+pub record AreRight (before r : PoolRecord) : Type 0 where
   pub justified : are_justified [] r.deaths ≡ true
-  pub known : list_all (is_known (length r.registered) events) r.deaths ≡ true
+  pub more : (ds : List Death) × (r.deaths ≡ before.deaths ++ ds) × (list_all (is_death_after before) ds ≡ true)
+  pub events : r.events ≡ before.events
+
+pub none-yet : (r : PoolRecord) → are_justified [] r.deaths ≡ true → AreRight r r
+none-yet r justified = record { justified = justified; more = ([], sym (append-nil r.deaths), refl); events = refl }
 
 -- r' has the deaths and the number of events of r, and no fewer clauses
 pub record Keeps (r r' : PoolRecord) : Type 0 where
@@ -119,13 +113,11 @@ keeps-then r s t first second = record {
   clauses = omega (arith, first.clauses, second.clauses);
 }
 
-pub keeps-right : (events : ℕ) (r r' : PoolRecord) → Keeps r r' → AreRight events r → AreRight events r'
-keeps-right events r r' keeps right = record {
+pub keeps-right : (before r r' : PoolRecord) → Keeps r r' → AreRight before r → AreRight before r'
+keeps-right before r r' keeps right = record {
   justified = ap (are_justified []) keeps.deaths ∙ right.justified;
-  known =
-      ap (list_all (is_known (length r'.registered) events)) keeps.deaths
-      ∙ all-weaker (is_known (length r.registered) events) (is_known (length r'.registered) events)
-      (known-more (length r.registered) (length r'.registered) events events keeps.clauses (omega arith)) r.deaths right.known;
+  more = ((right.more).0, keeps.deaths ∙ (right.more).1, (right.more).2);
+  events = keeps.events ∙ right.events;
 }
 
 pub registers-keeps : (r r' : PoolRecord) → Registers r r' → Keeps r r'
@@ -163,30 +155,38 @@ abbrev pub are_others : ℕ → List ℕ → Bool
 are_others victim ns = list_all (λ n. not (n == victim)) ns
 
 pub dies-right :
-    (events victim : ℕ) (justifiers : List ℕ) (r : PoolRecord)
-    → r.events < events → lives r victim ≡ true → list_all (lives r) justifiers ≡ true → are_others victim justifiers ≡ true
-    → AreRight events r → AreRight events (dies victim justifiers r)
-dies-right events victim justifiers r before victim_lives live others right =
+    (before : PoolRecord) (victim : ℕ) (justifiers : List ℕ) (r : PoolRecord)
+    → list_all (λ n. nat_lt n (length before.registered)) (victim ∷ justifiers) ≡ true → list_all (lives r) (victim ∷ justifiers) ≡ true
+    → are_others victim justifiers ≡ true
+    → AreRight before r → AreRight before (dies victim justifiers r)
+dies-right before victim justifiers r registered alive others right =
     let new : Death = record { victim = victim; event = r.events; justifiers = justifiers } in
-    let of_victim = and_parts (nat_lt victim (length r.registered)) (not (has_died r.deaths victim)) victim_lives in
-    let none_dead : list_all (λ n. not (has_died r.deaths n)) justifiers ≡ true =
+    let none_dead : list_all (λ n. not (has_died r.deaths n)) (victim ∷ justifiers) ≡ true =
     all-weaker (lives r) (λ n. not (has_died r.deaths n)) (λ n h. (and_parts (nat_lt n (length r.registered)) (not (has_died r.deaths n)) h).1)
-    justifiers live in
-    let all_there : list_all (λ n. nat_lt n (length r.registered)) justifiers ≡ true =
-    all-weaker (lives r) (λ n. nat_lt n (length r.registered)) (λ n h. (and_parts (nat_lt n (length r.registered)) (not (has_died r.deaths n)) h).0)
-    justifiers live in
+    (victim ∷ justifiers) alive in
+    let parts = and_parts (not (has_died r.deaths victim)) (list_all (λ n. not (has_died r.deaths n)) justifiers) none_dead in
     record {
       justified =
           justified-end [] r.deaths new right.justified
           (and_from (not (has_died r.deaths victim)) (list_all (λ n. not (n == victim) && not (has_died r.deaths n)) justifiers)
-          of_victim.1
-          (all-both (λ n. not (n == victim)) (λ n. not (has_died r.deaths n)) justifiers others none_dead));
-      known =
-          all-end (is_known (length r.registered) events) r.deaths new right.known
-          (and_from (nat_lt r.events events) (nat_lt victim (length r.registered) && list_all (λ n. nat_lt n (length r.registered)) justifiers)
-          (lt-ltb r.events events before)
-          (and_from (nat_lt victim (length r.registered)) (list_all (λ n. nat_lt n (length r.registered)) justifiers) of_victim.0 all_there));
+          parts.0
+          (all-both (λ n. not (n == victim)) (λ n. not (has_died r.deaths n)) justifiers others parts.1));
+      more = (
+        (right.more).0 ++ new ∷ [],
+        ap (λ ds. ds ++ new ∷ []) (right.more).1 ∙ append_assoc before.deaths (right.more).0 (new ∷ []),
+        all-end (is_death_after before) (right.more).0 new (right.more).2
+            (and_from (r.events == before.events) (list_all (lives before) (victim ∷ justifiers)) (eq-eqb r.events before.events right.events) lived),
+      );
+      events = right.events;
     }
+  where
+    lived : list_all (lives before) (victim ∷ justifiers) ≡ true
+    lived =
+        all-weaker (λ n. nat_lt n (length before.registered) && lives r n) (lives before)
+        (λ n h.
+        let both = and_parts (nat_lt n (length before.registered)) (lives r n) h in
+        lives-before before r n ((right.more).0, (right.more).1) (ltb-true n (length before.registered) both.0) both.1)
+        (victim ∷ justifiers) (all-both (λ n. nat_lt n (length before.registered)) (lives r) (victim ∷ justifiers) registered alive)
 
 -- ---- justifiers of right removals
 
@@ -231,3 +231,13 @@ append-others victim (n ∷ ns) ms one other =
 pub same-others : (victim : ℕ) (ns ms : List ℕ) → same_numbers ns ms ≡ true → are_others victim ms ≡ true → are_others victim ns ≡ true
 same-others victim ns ms same others =
     among-pass (λ n. not (n == victim)) ns ms (and_parts (is_among ns ms) (is_among ms ns) same).0 others
+
+-- ---- registered clauses
+
+-- a clause that is looked up is registered
+pub below-count : (r : PoolRecord) (n : ℕ) → is_some (clauses_of r n) ≡ true → nat_lt n (length r.registered) ≡ true
+below-count r n there = by (slice_get r.registered n) refl there
+  where
+    by : (o : Option Registered) → slice_get r.registered n ≡ o → is_some (option_map (λ (x : Registered). x.clause) o) ≡ true → nat_lt n (length r.registered) ≡ true
+    by None none h = absurd (true≢false (sym h))
+    by (Some x) here h = lt-ltb n (length r.registered) (slice_get_within r.registered n x here)

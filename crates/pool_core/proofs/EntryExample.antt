@@ -108,27 +108,27 @@ irreducible = record {
 abbrev empty : TreeClause
 empty = clause []
 
-no_subsuming : Subsumes is_predicate the_clause empty → ⊥
-no_subsuming s = by s.places s.mapped
+pub no_subsuming : (l : TreeLiteral) (ls : List TreeLiteral) → Subsumes is_predicate (clause (l ∷ ls)) empty → ⊥
+no_subsuming l ls s = by s.places s.mapped
   where
-    by : (places : List ℕ) → stand_at s.matcher (literal ∷ []) places [] ≡ true → ⊥
+    by : (places : List ℕ) → stand_at s.matcher (l ∷ ls) places [] ≡ true → ⊥
     by [] mapped = true≢false (sym mapped)
     by (k ∷ ks) mapped = true≢false (sym mapped)
 
-no_step_of_empty : (d : TreeClause) → Reduces is_predicate (IsMember (is_told job) registered) empty d → ⊥
-no_step_of_empty d (inl trivial) =
+pub no_step_of_empty : (Holds : TreeClause → Type 0) (d : TreeClause) → Reduces is_predicate Holds empty d → ⊥
+no_step_of_empty Holds d (inl trivial) =
     let parts = resolved-parts [] trivial.i d.literals trivial.gives in none-some parts.literal parts.literal_there
-no_step_of_empty d (inr (inl equal)) =
+no_step_of_empty Holds d (inr (inl equal)) =
     let parts = merged-parts [] equal.stays equal.goes d.literals equal.gives in none-some parts.literal_i parts.i_there
-no_step_of_empty d (inr (inr (inl rewriting))) = none-some rewriting.does.literal rewriting.does.literal_there
-no_step_of_empty d (inr (inr (inr cutting))) = none-some cutting.does.literal cutting.does.literal_there
+no_step_of_empty Holds d (inr (inr (inl rewriting))) = none-some rewriting.does.literal rewriting.does.literal_there
+no_step_of_empty Holds d (inr (inr (inr cutting))) = none-some cutting.does.literal cutting.does.literal_there
 
 empty_irreducible : IsReduced is_predicate unequal.options registered job empty
 empty_irreducible = record {
-  no_step = no_step_of_empty;
+  no_step = no_step_of_empty (IsMember (is_told job) registered);
   no_tautology = refl;
   not_subsumed = λ s.
-      no_subsuming
+      no_subsuming literal []
       (subst (λ (c : TreeClause). Subsumes is_predicate c empty) (sym (only_told s.holds.0 s.clause s.holds.1)) s.does);
 }
 

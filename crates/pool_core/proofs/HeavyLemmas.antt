@@ -123,7 +123,7 @@ there-more [] ys n x there = absurd (none-some x there)
 there-more (y ∷ xs) ys zero x there = there
 there-more (y ∷ xs) ys (suc n) x there = there-more xs ys n x there
 
-clause-more : (r s : PoolRecord) → ((cs : List Registered) × (s.registered ≡ r.registered ++ cs)) → (n : ℕ) (c : TreeClause) → clauses_of r n ≡ Some c → clauses_of s n ≡ Some c
+pub clause-more : (r s : PoolRecord) → ((cs : List Registered) × (s.registered ≡ r.registered ++ cs)) → (n : ℕ) (c : TreeClause) → clauses_of r n ≡ Some c → clauses_of s n ≡ Some c
 clause-more r s clauses n c there = by (slice_get r.registered n) refl there
   where
     by : (o : Option Registered) → slice_get r.registered n ≡ o → option_map (λ (x : Registered). x.clause) o ≡ Some c → clauses_of s n ≡ Some c

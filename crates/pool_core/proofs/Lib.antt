@@ -62,12 +62,20 @@ pub mod CountedLemmas
 -- NumberLemmas (the numbers of clauses, positions and jobs), FitLemmas (which have 32 bits).
 pub mod NumberLemmas
 pub mod FitLemmas
--- NewsLemmas (what is told).
+-- NewsLemmas (what is told), StayingLemmas (batches stay right).
 pub mod NewsLemmas
+pub mod StayingLemmas
+-- Components: FilterLemmas (lists that a test keeps), ReachedLemmas (what is reached in steps), FinestLemmas (they are the finest).
+pub mod FilterLemmas
+pub mod ReachedLemmas
+pub mod FinestLemmas
 -- Worked examples.
 pub mod GoingExample
 pub mod MeetingExample
 pub mod EntryExample
 pub mod AnswerExamples
 pub mod LawfulExamples
+pub mod ReturnExamples
+pub mod CuttingExample
+pub mod SteppingExample
 pub mod SaturatedExamples

@@ -122,7 +122,7 @@ module _ (options : Options) where
   refuted-both None chains r = same-both r
   refuted-both (Some s) chains r = by-if (MoreOfBoth r) (is_none r.ended) _ _ (same-both r) (same-both r)
 
-  after-both : (r : PoolRecord) (e : Event) → MoreOfBoth r (after options r e)
+  pub after-both : (r : PoolRecord) (e : Event) → MoreOfBoth r (after options r e)
   after-both r (Claim job) = claimed-both job (next_given r) r
   after-both r (Return batch) = returned-both batch (given_job r batch.job) r
   after-both r (Stale job justifier) = same-both r
@@ -163,7 +163,7 @@ module _ (options : Options) where
   IsOf r (activated n c) = clauses_of r n ≡ Some c
   IsOf r (died n) = Unit {0}
 
-  numbered-there : (r : PoolRecord) (n : ℕ) → nat_lt n (length r.registered) ≡ true → clauses_of r n ≡ Some (clause_numbered r n)
+  pub numbered-there : (r : PoolRecord) (n : ℕ) → nat_lt n (length r.registered) ≡ true → clauses_of r n ≡ Some (clause_numbered r n)
   numbered-there r n below =
       let none : Registered = record { clause = empty_clause; line = 0 } in
       let there : slice_get r.registered n ≡ Some (get_or r.registered n none) =
@@ -194,7 +194,7 @@ module _ (options : Options) where
           behind p [] ys all = all
           behind p (x ∷ xs) ys all = behind p xs ys (and_parts (p x) (list_all p (xs ++ ys)) all).1
 
-  clauses-more : (es : List Event) (r : PoolRecord) → MoreClauses r (fold (after options) r es)
+  pub clauses-more : (es : List Event) (r : PoolRecord) → MoreClauses r (fold (after options) r es)
   clauses-more [] r = ([], sym (append-nil r.registered))
   clauses-more (e ∷ es) r =
       more-then r.registered (after options r e).registered (fold (after options) r (e ∷ es)).registered (after-both r e).1 (clauses-more es (after options r e))

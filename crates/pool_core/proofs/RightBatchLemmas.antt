@@ -1,12 +1,13 @@
 -- What is right of a batch serves its return: one nameless canonical result for each list of lines, whose parents are there, and justifiers
 -- that are registered.
-use Rattle.std.proofs.Common.{◌≡◌, ℕ, zero, suc, ◌+◌, ◌-◌, ◌<◌, Bool, true, false, not, ◌==◌, List, [], ◌∷◌, ◌++◌, map, length, take, get_or, refl, ap, ap₂, sym, ◌∙◌, subst, ⊎_elim, arith}
+use Rattle.std.proofs.Common.{◌≡◌, ℕ, zero, suc, ◌+◌, ◌-◌, ◌<◌, ◌≤◌, Bool, true, false, not, ◌==◌, List, [], ◌∷◌, ◌++◌, map, length, take, get_or, refl, ap, ap₂, sym, ◌∙◌, subst, ⊎_elim, arith}
 use Rattle.std.specs.Prelude.{Option, None, Some, cond, nat_lt, filter, flat_map, option_map, option_and_then, is_some, slice_get, if◌then◌else◌, All}
 use Rattle.std.specs.List.{list_all, AllByRecursion, cons_option}
 use Rattle.std.proofs.lemmas.Bool.{and_parts, and_from, true≢false, ltb-true}
 use Rattle.std.proofs.lemmas.List.{length-take}
 use Rattle.std.proofs.lemmas.Option.{none-some, same_Some, slice_get_within, get_or_from_slice_get}
-use Rattle.fol_base.specs.Clause.{TreeClause}
+use Rattle.fol_base.specs.Clause.{TreeClause, clause_size}
+use Rattle.fol_base.specs.declared.limits.TheConstants.{MOST_SYMBOLS}
 use Rattle.fol_base.specs.Literal.{clause_of}
 use Rattle.fol_base.specs.Canonical.{IsCanonical}
 use Rattle.fol_base.specs.Subsumption.{is_among}
@@ -43,6 +44,7 @@ use Rattle.pool_core.specs.declared.batch.Work.{Work}
 use Rattle.pool_core.specs.declared.batch.Work.TheVariants.{Gone, Met}
 use Rattle.pool_core.proofs.StateLemmas.{item-at}
 use Rattle.pool_core.proofs.DeathLemmas.{among-pass}
+use Rattle.pool_core.proofs.SizeLemmas.{moves-size, conclusion-small}
 
 -- ---- lists
 
@@ -155,23 +157,24 @@ moves-names is_predicate clauses c (m ∷ ms) moved =
     moves-names is_predicate clauses m.gives ms moved.1 ∙ ap (λ (d : TreeClause). d.names) moved.0.canonical
     ∙ move-names is_predicate clauses c m.by moved.0.result moved.0.step
 
-module _ (is_predicate : ℕ → Bool) (options : Options) (clauses : Lookup) (j : GivenJob) (unsplit : options.split ≡ false) (nameless : (n : ℕ) (c : TreeClause) → clauses n ≡ Some c → c.names ≡ []) where
-  among-there : (p : ℕ → Bool) (n : ℕ) (c : TreeClause) → among p clauses n ≡ Some c → clauses n ≡ Some c
-  among-there p n c there = by (p n) there
-    where
-      by : (b : Bool) → (if b then clauses n else None) ≡ Some c → clauses n ≡ Some c
-      by true h = h
-      by false h = absurd (none-some c h)
+-- what is looked up among clauses is one of them
+among-there : (clauses : Lookup) (p : ℕ → Bool) (n : ℕ) (c : TreeClause) → among p clauses n ≡ Some c → clauses n ≡ Some c
+among-there clauses p n c there = by (p n) there
+  where
+    by : (b : Bool) → (if b then clauses n else None) ≡ Some c → clauses n ≡ Some c
+    by true h = h
+    by false h = absurd (none-some c h)
 
+module _ (is_predicate : ℕ → Bool) (options : Options) (clauses : Lookup) (j : GivenJob) (unsplit : options.split ≡ false) (nameless : (n : ℕ) (c : TreeClause) → clauses n ≡ Some c → c.names ≡ []) (sized : (n : ℕ) (c : TreeClause) → clauses n ≡ Some c → clause_size c ≤ MOST_SYMBOLS) where
   inference-names : (key : Key) (c : TreeClause) → IsSizedInference is_predicate (mode_of options.select) (among (is_told j) clauses) key c false → c.names ≡ []
   inference-names (key.Para first from from_side second into into_side place) c of =
       of.infers.named.names
-      ∙ ap₂ (λ ns ms. sorted_names (ns ++ ms)) (nameless first of.first_clause (among-there (is_told j) first of.first_clause of.first_there))
-      (nameless second of.second_clause (among-there (is_told j) second of.second_clause of.second_there))
+      ∙ ap₂ (λ ns ms. sorted_names (ns ++ ms)) (nameless first of.first_clause (among-there clauses (is_told j) first of.first_clause of.first_there))
+      (nameless second of.second_clause (among-there clauses (is_told j) second of.second_clause of.second_there))
   inference-names (key.Refl clause literal) c of =
-      of.infers.named.names ∙ ap sorted_names (nameless clause of.clause (among-there (is_told j) clause of.clause of.there))
+      of.infers.named.names ∙ ap sorted_names (nameless clause of.clause (among-there clauses (is_told j) clause of.clause of.there))
   inference-names (key.Factor clause becomes becomes_side other other_side) c of =
-      of.infers.named.names ∙ ap sorted_names (nameless clause of.clause (among-there (is_told j) clause of.clause of.there))
+      of.infers.named.names ∙ ap sorted_names (nameless clause of.clause (among-there clauses (is_told j) clause of.clause of.there))
   inference-names (key.Replaced clause) c of = absurd of
 
   -- ---- results
@@ -183,9 +186,9 @@ module _ (is_predicate : ℕ → Bool) (options : Options) (clauses : Lookup) (j
 
   fit :
       (lookup : Lookup) (lines : List Line) (results : List Clause) (c : TreeClause)
-      → AreLinesFrom is_predicate lookup lines → result_of lines ≡ Some c → c.names ≡ [] → map clause_of results ≡ handed_back options.split c
+      → AreLinesFrom is_predicate lookup lines → result_of lines ≡ Some c → c.names ≡ [] → clause_size c ≤ MOST_SYMBOLS → map clause_of results ≡ handed_back options.split c
       → IsFitResult lines results
-  fit lookup lines results c from led no_names given =
+  fit lookup lines results c from led no_names small given =
       let one = one-result results c (given ∙ ap (λ b. handed_back b c) unsplit) in
       let last = result-at lines c led in
       record {
@@ -194,6 +197,7 @@ module _ (is_predicate : ℕ → Bool) (options : Options) (clauses : Lookup) (j
         led = led ∙ ap (λ (d : TreeClause). let o : Option TreeClause = Some d in o) (sym one.2);
         canonical = subst IsCanonical (last.3 ∙ sym one.2) (numbered-at last.0 last.1 last.2).canonical;
         no_names = ap (λ (d : TreeClause). d.names) one.2 ∙ no_names;
+        small = subst (λ (d : TreeClause). clause_size d ≤ MOST_SYMBOLS) (sym one.2) small;
         parents = parents-below is_predicate lookup lines from.lines_right;
       }
     where
@@ -206,6 +210,10 @@ module _ (is_predicate : ℕ → Bool) (options : Options) (clauses : Lookup) (j
       (ap (λ (d : TreeClause). d.names) (sym right.reduced.ends)
       ∙ moves-names is_predicate (among (is_told j) clauses) (clause_of right.first.clause) right.moves right.reduced.moved
       ∙ inference-names key (clause_of right.first.clause) right.inferred)
+      (let first = conclusion-small is_predicate options (among (is_told j) clauses) key (clause_of right.first.clause) right.inferred in
+      let less = moves-size is_predicate (among (is_told j) clauses) (clause_of right.first.clause) right.moves right.reduced.moved in
+      let same : clause_size (end_of_moves (clause_of right.first.clause) right.moves) ≡ clause_size right.result = ap clause_size right.reduced.ends in
+      omega (arith, first, less, same))
       right.given
   fit-entry key (Dropped redundancy) right = tt
   fit-entry key Heavy right = tt
@@ -215,7 +223,11 @@ module _ (is_predicate : ℕ → Bool) (options : Options) (clauses : Lookup) (j
       fit (among (is_told j) clauses) lines results right.result right.are_lines right.reduced.led
       (ap (λ (d : TreeClause). d.names) (sym right.reduced.ends)
       ∙ moves-names is_predicate (among (is_told_beside j victim) clauses) right.clause (right.move ∷ right.moves) right.reduced.moved
-      ∙ nameless victim right.clause (among-there (is_told j) victim right.clause right.there))
+      ∙ nameless victim right.clause (among-there clauses (is_told j) victim right.clause right.there))
+      (let first = sized victim right.clause (among-there clauses (is_told j) victim right.clause right.there) in
+      let less = moves-size is_predicate (among (is_told_beside j victim) clauses) right.clause (right.move ∷ right.moves) right.reduced.moved in
+      let same : clause_size (end_of_moves right.clause (right.move ∷ right.moves)) ≡ clause_size right.result = ap clause_size right.reduced.ends in
+      omega (arith, first, less, same))
       right.given
   fit-removal victim justifiers (Dropped redundancy) right = tt
   fit-removal victim justifiers Heavy right = tt
@@ -234,13 +246,14 @@ module _ (is_predicate : ℕ → Bool) (options : Options) (clauses : Lookup) (j
     removals = λ k d below. fit-removal (get_or removals k d).victim (get_or removals k d).justifiers (get_or removals k d).fate (right.right_removals k d below);
   }
 
-  -- ---- justifiers
+-- ---- justifiers
 
+module _ (is_predicate : ℕ → Bool) (options : Options) (clauses : Lookup) (j : GivenJob) where
   abbrev known : ℕ → Bool
   known n = is_some (clauses n)
 
   known-from : (p : ℕ → Bool) (n : ℕ) (c : TreeClause) → among p clauses n ≡ Some c → known n ≡ true
-  known-from p n c there = ap is_some (among-there p n c there)
+  known-from p n c there = ap is_some (among-there clauses p n c there)
 
   units-known : (p : ℕ → Bool) (c : TreeClause) (ms : List Move) → AreMoves is_predicate (among p clauses) c ms → list_all known (units_of ms) ≡ true
   units-known p c [] moved = refl
@@ -281,6 +294,12 @@ module _ (is_predicate : ℕ → Bool) (options : Options) (clauses : Lookup) (j
 
   same-known : (ns ms : List ℕ) → same_numbers ns ms ≡ true → list_all known ms ≡ true → list_all known ns ≡ true
   same-known ns ms same all = among-pass known ns ms (and_parts (is_among ns ms) (is_among ms ns) same).0 all
+
+  -- the victim of a removal, and those by which it goes
+  pub victim-known : (victim : ℕ) (justifiers : List ℕ) (fate : Fate) → IsRightRemovalBy is_predicate options clauses j victim justifiers fate → known victim ≡ true
+  victim-known victim justifiers (Kept lines results) right = known-from (is_told j) victim right.clause right.there
+  victim-known victim justifiers (Dropped redundancy) right = known-from (is_told j) victim right.clause right.there
+  victim-known victim justifiers Heavy right = absurd right
 
   pub justifiers-known : (victim : ℕ) (justifiers : List ℕ) (fate : Fate) → IsRightRemovalBy is_predicate options clauses j victim justifiers fate → list_all known justifiers ≡ true
   justifiers-known victim justifiers (Kept lines results) right =

@@ -1,11 +1,12 @@
--- Reducing steps make no clause larger.
-use Rattle.std.proofs.Common.{◌≡◌, ℕ, zero, suc, ◌+◌, ◌≤◌, Bool, true, List, [], ◌∷◌, append-nil, ap, ap₂, sym, ◌∙◌, ⊎_elim, arith}
+-- Reducing steps make no clause larger, and an inference that isn't heavy has a small conclusion.
+use Rattle.std.proofs.Common.{◌≡◌, ℕ, zero, suc, ◌+◌, ◌≤◌, Bool, true, false, ◌||◌, List, [], ◌∷◌, append-nil, ap, ap₂, sym, ◌∙◌, ⊎_elim, arith}
 use Rattle.std.specs.Prelude.{Option, None, Some, remove, slice_set, sum_by}
+use Rattle.std.proofs.lemmas.Bool.{ltb-false, or_parts}
 use Rattle.std.proofs.lemmas.List.Sums.{sum_by-cons, sum_by-set}
 use Rattle.std.proofs.lemmas.Option.{same_Some, slice_get_within, get_or_from_slice_get}
 use Rattle.fol_base.specs.Tree.{Tree, tree_size}
 use Rattle.fol_base.specs.Instance.{Substitution}
-use Rattle.fol_base.specs.Clause.{TreeLiteral, TreeClause, literal_instance, literal_size, clause_size}
+use Rattle.fol_base.specs.Clause.{TreeLiteral, TreeClause, literal_instance, literal_size, clause_size, clause_instance}
 use Rattle.fol_base.specs.Ground.{literals_instance}
 use Rattle.fol_base.specs.Order.{tree_greater}
 use Rattle.fol_base.specs.Rules.{superposed, superposed_literal}
@@ -19,6 +20,13 @@ use Rattle.fol_base.proofs.RuleLemmas.{superposed_literal-parts, superposed-part
 use Rattle.kbo_order.proofs.SubtermLemmas.{greater-size, smaller_subterms_make_smaller}
 use Rattle.kernel_steps.specs.Inference.{RewritesBy}
 use Rattle.kernel_steps.specs.Moves.{Move, IsMove, AreMoves, end_of_moves}
+use Rattle.kernel_steps.specs.Sized.{IsSizedInference, is_large}
+use Rattle.kernel_steps.specs.declared.key.Key.{Key}
+use Rattle.kernel_steps.specs.declared.key.Key.TheVariants.{Para, Refl, Factor, Replaced}
+use Rattle.fol_base.specs.declared.limits.TheConstants.{MOST_SYMBOLS}
+use Rattle.literal_selection.specs.Mode.{mode_of}
+use Rattle.pool_core.specs.Reduction.{Lookup}
+use Rattle.pool_core.specs.declared.options.Options.{Options}
 
 -- ---- literals that go or change
 
@@ -90,3 +98,23 @@ moves-size is_predicate clauses c (m ∷ ms) moved =
     let same : clause_size m.gives ≡ clause_size (moved.0).result = ap clause_size (moved.0).canonical ∙ canonical_forms_keep_sizes (moved.0).result in
     let rest = moves-size is_predicate clauses m.gives ms moved.1 in
     omega (arith, first, same, rest)
+
+-- ---- conclusions
+
+-- a light inference has a conclusion that isn't too large
+not-large : (c : TreeClause) → is_large c ≡ false → clause_size c ≤ MOST_SYMBOLS
+not-large c h = ltb-false MOST_SYMBOLS (clause_size c) h
+
+module _ (is_predicate : ℕ → Bool) (options : Options) (clauses : Lookup) where
+  pub conclusion-small :
+      (key : Key) (c : TreeClause) → IsSizedInference is_predicate (mode_of options.select) clauses key c false → clause_size c ≤ MOST_SYMBOLS
+  conclusion-small (Para first i s second j z place) c is =
+      let size = is.infers.size in
+      let named = is.infers.named in
+      not-large c
+      (or_parts (is_large (clause_instance named.second_unifier is.second_clause)) (is_large c)
+      (or_parts (is_large (clause_instance named.first_unifier is.first_clause))
+      (is_large (clause_instance named.second_unifier is.second_clause) || is_large c) size).1).1
+  conclusion-small (Refl n i) c is = not-large c (or_parts (is_large (clause_instance is.infers.named.unifier is.clause)) (is_large c) is.infers.size).1
+  conclusion-small (Factor n i s j z) c is = not-large c (or_parts (is_large (clause_instance is.infers.named.unifier is.clause)) (is_large c) is.infers.size).1
+  conclusion-small (Replaced n) c is = absurd is

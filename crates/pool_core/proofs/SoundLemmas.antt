@@ -1,23 +1,21 @@
 -- Where nothing is split, each event of a lawful history keeps the registered clauses whole and the lines a derivation.
-use Rattle.std.proofs.Common.{◌≡◌, ℕ, ◌<◌, ◌≤◌, Bool, true, false, ◌||◌, List, [], ◌∷◌, ◌++◌, map, length, refl, ap, ap₂, sym, ◌∙◌, subst, arith}
+use Rattle.std.proofs.Common.{◌≡◌, ℕ, ◌<◌, ◌≤◌, Bool, true, false, List, [], ◌∷◌, ◌++◌, map, length, refl, ap, ap₂, sym, ◌∙◌, subst, arith}
 use Rattle.std.specs.Prelude.{Option, None, Some, is_none, slice_get, nat_lt, nat_le, fold, find, if◌then◌else◌}
 use Rattle.std.specs.List.{AllByRecursion, cons_option}
-use Rattle.std.proofs.lemmas.Bool.{true≢false, and_parts, eqb-true, or_parts, ltb-true, ltb-false}
+use Rattle.std.proofs.lemmas.Bool.{true≢false, and_parts, eqb-true, ltb-true}
 use Rattle.std.proofs.lemmas.List.Elements.{recursion_from_All}
 use Rattle.std.proofs.lemmas.Option.{none-some, same_Some}
-use Rattle.fol_base.specs.Clause.{TreeClause, clause_size, clause_instance}
+use Rattle.fol_base.specs.Clause.{TreeClause, clause_size}
 use Rattle.fol_base.specs.Literal.{clause_of}
 use Rattle.fol_base.specs.WellFormed.{SymbolUse}
 use Rattle.fol_base.specs.declared.limits.TheConstants.{MOST_SYMBOLS}
 use Rattle.fol_base.proofs.TestLemmas.{option_map-some}
 use Rattle.kernel_steps.specs.Conclusion.{empty_clause}
 use Rattle.kernel_steps.specs.Moves.{end_of_moves}
-use Rattle.kernel_steps.specs.Sized.{IsSizedInference, is_large}
 use Rattle.kernel_steps.specs.Split.{has_number}
 use Rattle.kernel_steps.specs.declared.key.Key.{Key}
-use Rattle.kernel_steps.specs.declared.key.Key.TheVariants.{Para, Refl, Factor, Replaced}
+use Rattle.kernel_steps.specs.declared.key.Key.TheVariants.{Replaced}
 use Rattle.kernel_steps.specs.declared.step.Line.{Line}
-use Rattle.literal_selection.specs.Mode.{mode_of}
 use Rattle.calculus.specs.Lifting.{among}
 use Rattle.pool_core.specs.Record.{PoolRecord, Registered, GivenJob, clauses_of, given_job, has_living, without_job}
 use Rattle.pool_core.specs.Tags.{line_names}
@@ -28,7 +26,6 @@ use Rattle.pool_core.specs.Returning.{dies, replaced, removed, takes_effect, pro
 use Rattle.pool_core.specs.Solving.{must_solve}
 use Rattle.pool_core.specs.Claiming.{next_given, given_out, claimed_by}
 use Rattle.pool_core.specs.Batches.{is_told, is_told_beside, IsRightFate, IsRightRemovalBy, IsRightRemoval, IsRightWork}
-use Rattle.pool_core.specs.Reduction.{Lookup}
 use Rattle.pool_core.specs.Replay.{without_solver, after}
 use Rattle.pool_core.specs.Lawful.{IsAllowed, IsLawfulFrom}
 use Rattle.pool_core.specs.Wholeness.{IsWhole}
@@ -48,7 +45,7 @@ use Rattle.pool_core.proofs.FrameLemmas.{by-if, result-registers}
 use Rattle.pool_core.proofs.GrowthLemmas.{all-proposed-grows, counts-grows}
 use Rattle.pool_core.proofs.JoinedLemmas.{by-test, found-holds}
 use Rattle.pool_core.proofs.PoolLineLemmas.{Sound, Continue, EndsWith, ends_behind, continued-sound, Arrives, arrives-more, batch-continues}
-use Rattle.pool_core.proofs.SizeLemmas.{moves-size}
+use Rattle.pool_core.proofs.SizeLemmas.{moves-size, conclusion-small}
 use Rattle.pool_core.proofs.StartLemmas.{all-at}
 
 none-in : {X : Type 0} (xs : List X) → has_none xs ≡ true → xs ≡ []
@@ -61,24 +58,6 @@ no-parts c literals names = ap₂ over literals names
 pub open-is : (o : Option Outcome) → is_none o ≡ true → o ≡ None
 open-is None h = refl
 open-is (Some outcome) h = absurd (true≢false (sym h))
-
--- a light inference has a conclusion that isn't too large
-not-large : (c : TreeClause) → is_large c ≡ false → clause_size c ≤ MOST_SYMBOLS
-not-large c h = ltb-false MOST_SYMBOLS (clause_size c) h
-
-module _ (is_predicate : ℕ → Bool) (options : Options) (clauses : Lookup) where
-  conclusion-small :
-      (key : Key) (c : TreeClause) → IsSizedInference is_predicate (mode_of options.select) clauses key c false → clause_size c ≤ MOST_SYMBOLS
-  conclusion-small (Para first i s second j z place) c is =
-      let size = is.infers.size in
-      let named = is.infers.named in
-      not-large c
-      (or_parts (is_large (clause_instance named.second_unifier is.second_clause)) (is_large c)
-      (or_parts (is_large (clause_instance named.first_unifier is.first_clause))
-      (is_large (clause_instance named.second_unifier is.second_clause) || is_large c) size).1).1
-  conclusion-small (Refl n i) c is = not-large c (or_parts (is_large (clause_instance is.infers.named.unifier is.clause)) (is_large c) is.infers.size).1
-  conclusion-small (Factor n i s j z) c is = not-large c (or_parts (is_large (clause_instance is.infers.named.unifier is.clause)) (is_large c) is.infers.size).1
-  conclusion-small (Replaced n) c is = absurd is
 
 module _ (usage : SymbolUse) (inputs : List TreeClause) where
   abbrev Holds : PoolRecord → Type 0

@@ -6,10 +6,10 @@ use Rattle.std.specs.Ordering.{nat_cmp}
 use Rattle.std.specs.BTreeMap.{is_at}
 use Rattle.std.specs.Map.{remove_entry}
 use Rattle.std.proofs.Math.Seq.{drop-length, drop-append_seam}
-use Rattle.std.proofs.lemmas.Bool.{and_parts, and_from, true≢false, lt-ltb, ltb-true}
+use Rattle.std.proofs.lemmas.Bool.{and_parts, and_from, true≢false, ltb-true}
 use Rattle.std.proofs.lemmas.List.{length-append, length-map}
 use Rattle.std.proofs.lemmas.List.Elements.{All-append, All-map, All-weaker}
-use Rattle.std.proofs.lemmas.Option.{none-some, same_Some, slice_get_within}
+use Rattle.std.proofs.lemmas.Option.{none-some, same_Some}
 use Rattle.fol_base.specs.Clause.{TreeClause}
 use Rattle.fol_base.specs.WellFormed.{SymbolUse, WellFormed}
 use Rattle.kernel_steps.specs.Conclusion.{empty_clause}
@@ -59,6 +59,9 @@ use Rattle.pool_core.proofs.GiveUpLemmas.{length-without, told-without, ready-gi
 use Rattle.pool_core.proofs.GrowthLemmas.{removed-grows, met-grows}
 use Rattle.pool_core.proofs.ProofStateLemmas.{lives-here}
 use Rattle.pool_core.proofs.RightBatchLemmas.{fit-work, justifiers-known}
+use Rattle.pool_core.proofs.BeginningLemmas.{registered_are_whole}
+use Rattle.pool_core.proofs.DeathLemmas.{below-count}
+use Rattle.pool_core.specs.Wholeness.{IsWhole}
 use Rattle.pool_core.proofs.StartLemmas.{all-at}
 use Rattle.pool_core.proofs.StateLemmas.{clause-in, record_of, pool-rises, event-added, registered-count, item-at, learned-all}
 
@@ -338,21 +341,13 @@ module _ (a b : Inside) (batch : Batch) (j : GivenJob) (aside : List Key) (s : P
 
 -- ---- a batch that is to be taken
 
--- its clauses are registered, without names
-nameless : (r : PoolRecord) → All (λ (x : Registered). x.clause.names ≡ []) r.registered → (n : ℕ) (c : TreeClause) → clauses_of r n ≡ Some c → c.names ≡ []
-nameless r no_names n c there = by (slice_get r.registered n) refl there
+-- what holds of all registered clauses holds of one that is looked up
+registered-holds : (P : TreeClause → Type 0) (r : PoolRecord) → All (λ (x : Registered). P x.clause) r.registered → (n : ℕ) (c : TreeClause) → clauses_of r n ≡ Some c → P c
+registered-holds P r all n c there = by (slice_get r.registered n) refl there
   where
-    by : (o : Option Registered) → slice_get r.registered n ≡ o → option_map (λ (x : Registered). x.clause) o ≡ Some c → c.names ≡ []
+    by : (o : Option Registered) → slice_get r.registered n ≡ o → option_map (λ (x : Registered). x.clause) o ≡ Some c → P c
     by None none h = absurd (none-some c h)
-    by (Some x) here h =
-        ap (λ (d : TreeClause). d.names) (sym (same_Some x.clause c h)) ∙ all-at (λ (y : Registered). y.clause.names ≡ []) r.registered n x no_names here
-
-below-count : (r : PoolRecord) (n : ℕ) → is_some (clauses_of r n) ≡ true → nat_lt n (length r.registered) ≡ true
-below-count r n there = by (slice_get r.registered n) refl there
-  where
-    by : (o : Option Registered) → slice_get r.registered n ≡ o → is_some (option_map (λ (x : Registered). x.clause) o) ≡ true → nat_lt n (length r.registered) ≡ true
-    by None none h = absurd (true≢false (sym h))
-    by (Some x) here h = lt-ltb n (length r.registered) (slice_get_within r.registered n x here)
+    by (Some x) here h = subst P (same_Some x.clause c h) (all-at (λ (y : Registered). P y.clause) r.registered n x all here)
 
 -- those of which none died live
 all-live :
@@ -390,8 +385,8 @@ to-be-taken a batch n is takeable = record {
   found = right.out;
   same = same;
   fit =
-      fit-work wf.usage.is_predicate a.options (clauses_of r) right.given is.unsplit (nameless r is.state.proof.no_names) batch.work
-      (right.says wf.usage wf.used);
+      fit-work wf.usage.is_predicate a.options (clauses_of r) right.given is.unsplit (λ n c there. (whole n c there).no_names) (λ n c there. (whole n c there).small)
+      batch.work (right.says wf.usage wf.used);
   allowed = λ usage used. record {
     given = right.given;
     out = right.out;
@@ -423,6 +418,11 @@ to-be-taken a batch n is takeable = record {
     wf : WellFormed (origin_of a).inputs
     wf = is.inputs.well_formed
 
+    whole : (n : ℕ) (c : TreeClause) → clauses_of r n ≡ Some c → IsWhole wf.usage c
+    whole =
+        registered-holds (IsWhole wf.usage) r
+        (registered_are_whole wf.usage (origin_of a) (events_of a.history) is.inputs wf.used is.unsplit (is.lawful wf.usage wf.used))
+
     same : right.given.number ≡ n
     same = ap (λ (j : GivenJob). j.number) (same_Some right.given out.given (sym right.out ∙ out.out)) ∙ out.says.0
 
@@ -441,7 +441,7 @@ to-be-taken a batch n is takeable = record {
         → justifiers_live r work ≡ true
     live is_predicate (Gone m) is_right none_dead =
         all-live r m.justifiers
-        (justifiers-known is_predicate a.options (clauses_of r) right.given is.unsplit (nameless r is.state.proof.no_names) m.victim m.justifiers m.fate is_right.right)
+        (justifiers-known is_predicate a.options (clauses_of r) right.given m.victim m.justifiers m.fate is_right.right)
         none_dead
     live is_predicate (Met entries removals) is_right none_dead = refl
 

@@ -1,8 +1,6 @@
 -- The answers of a pool to claims and returns, and what each adds to the history.
 use Rattle.std.specs.Prelude.{◌≡◌, ℕ, suc, ◌<◌, ◌==◌, List, [], ◌∷◌, ◌++◌, map, find, length, Option, None, Some, option_map, All, IsTrue, IsFalse}
 use Rattle.bank_clause.specs.Clause.{clause_at, IsClauseOf, IsMemberOf}
-use Rattle.sat_core.specs.declared.answer.Answer.{Answer}
-use Rattle.sat_core.specs.declared.answer.Answer.TheVariants.{Model, Refuted}
 use Rattle.pool_core.specs.Tags.{name_count}
 use Rattle.pool_core.specs.Record.{PoolRecord, GivenJob, Death, clauses_of, given_job, lives, is_dead, position_of, propositional_clauses, jobs_out}
 use Rattle.pool_core.specs.Solving.{must_solve}
@@ -12,7 +10,7 @@ use Rattle.pool_core.specs.Replay.{Origin, replay}
 use Rattle.pool_core.specs.Lawful.{IsGivenOut}
 use Rattle.pool_core.specs.News.{change_of, news_since}
 use Rattle.pool_core.specs.declared.event.Event.{Event}
-use Rattle.pool_core.specs.declared.event.Event.TheVariants.{Claim, ClaimSolve, Return, ReturnModel, ReturnRefuted, Stale as StaleReturn, Void as VoidReturn}
+use Rattle.pool_core.specs.declared.event.Event.TheVariants.{Claim, ClaimSolve, Return, Stale as StaleReturn, Void as VoidReturn}
 use Rattle.pool_core.specs.declared.batch.Batch.{Batch}
 use Rattle.pool_core.specs.declared.batch.Work.{Work}
 use Rattle.pool_core.specs.declared.batch.Work.TheVariants.{Gone, Met}
@@ -112,8 +110,3 @@ IsAnswerToReturn origin history told batch (Stale justifier event ticket) new =
 IsAnswerToReturn origin history told batch Taken new =
     let r = replay origin history in
     IsGivenOut r batch.job (λ j. IsTrue (lives r j.number)) × (dead_justifier r batch.work ≡ None) × (new ≡ history ++ Return batch ∷ [])
-
--- the event by which an answer of the solver comes back
-abbrev pub event_of : ℕ → Answer → Event
-event_of job (Model truths) = ReturnModel job truths
-event_of job (Refuted log) = ReturnRefuted job log

@@ -38,7 +38,7 @@ parts_of ls = map (λ ks. canonical_literals (literals_at ls ks)) (components_of
 abbrev pub is_to_split : Bool → List TreeLiteral → Bool
 is_to_split split ls = split && nat_lt 1 (length (components_of ls))
 
--- ---- to be proved
+-- ---- a law
 
 -- the components are the finest parts that share no variables
 abbrev pub ComponentsAreFinest : Type 0

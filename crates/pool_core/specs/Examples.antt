@@ -7,7 +7,7 @@ use Rattle.fol_base.specs.Examples.{x, a, b, c, f, p, q, q₂, r, equation, clau
 use Rattle.fol_base.specs.Rules.{disequation}
 use Rattle.fol_base.specs.declared.clause.Side.TheVariants.{Left}
 use Rattle.kernel_steps.specs.Derivation.{complement, negative_of}
-use Rattle.kernel_steps.specs.Examples.{not_p, not_q, not_true, with, components, four_clauses}
+use Rattle.kernel_steps.specs.Examples.{not_p, not_q, not_true, with, tower, components, four_clauses}
 use Rattle.kernel_steps.specs.declared.step.TheConstants.{CLAUSE_NUMBERS}
 use Rattle.kernel_steps.specs.declared.step.Step.{Step}
 use Rattle.kernel_steps.specs.declared.step.Step.TheVariants.{Para, Refl}
@@ -22,7 +22,7 @@ use Rattle.pool_core.specs.Replay.{Origin}
 use Rattle.pool_core.specs.declared.batch.Entry.{Entry}
 use Rattle.pool_core.specs.declared.batch.Fate.{Fate}
 use Rattle.pool_core.specs.declared.batch.Fate.TheVariants.{Kept, Dropped, Heavy}
-use Rattle.pool_core.specs.declared.batch.Redundancy.TheVariants.{Subsumed}
+use Rattle.pool_core.specs.declared.batch.Redundancy.TheVariants.{Tautology, Subsumed}
 use Rattle.pool_core.specs.declared.batch.Removal.{Removal}
 use Rattle.pool_core.specs.declared.batch.Work.{Work}
 use Rattle.pool_core.specs.declared.batch.Work.TheVariants.{Gone, Met}
@@ -84,8 +84,30 @@ units_history = Claim 1 ∷ return 1 (Met [] []) ∷ Claim 2 ∷ return 2 (Met (
 
 -- ---- a unit that cuts another: p(a) and its negation
 
+abbrev pub cut : Removal
+cut = removal 1 (0 ∷ []) (kept (resolved 0 1 [] [] [] []) (clause []))
+
 abbrev pub cut_away : List Event
-cut_away = Claim 1 ∷ return 1 (Met [] []) ∷ Claim 2 ∷ return 2 (Gone (removal 1 (0 ∷ []) (kept (resolved 0 1 [] [] [] []) (clause [])))) ∷ []
+cut_away = Claim 1 ∷ return 1 (Met [] []) ∷ Claim 2 ∷ return 2 (Gone cut) ∷ []
+
+-- where it stays beside the unit that cuts it
+abbrev pub left_uncut : List Event
+left_uncut = take 3 cut_away ++ return 2 (Met [] []) ∷ []
+
+-- by a line whose clause can be reduced further
+abbrev pub cut_halfway : List Event
+cut_halfway =
+    take 3 cut_away
+    ++ return 2 (Gone (removal 1 (0 ∷ []) (kept (take 1 (resolved 0 1 [] [] [] [])) (clause (not_true ∷ []))))) ∷ []
+
+-- ---- a clause that subsumes one that was told before it: p(X0), and p(a)
+
+abbrev pub subsuming : Origin
+subsuming = pool_of (clause (p a ∷ []) ∷ clause (p (x 0) ∷ []) ∷ [])
+
+-- which stays
+abbrev pub left_subsumed : List Event
+left_subsumed = Claim 1 ∷ return 1 (Met [] []) ∷ Claim 2 ∷ return 2 (Met [] []) ∷ []
 
 -- ---- two rewrites: f(a) = b and f(a) = c, where the first rewrites the second to b = c
 
@@ -104,6 +126,20 @@ rewritten =
 -- both are out, the second goes, then the first returns
 abbrev pub rewrites_history : List Event
 rewrites_history = Claim 1 ∷ Claim 2 ∷ return 2 (Gone rewritten) ∷ return 1 (Met [] []) ∷ []
+
+-- the same with another result, the clause itself
+abbrev pub rewritten_to_itself : Removal
+rewritten_to_itself =
+    removal 1 (0 ∷ [])
+    (kept (line_of (para_at_roots 0 1 [] []) (clause (equation b c ∷ [])) ∷ []) (clause (equation (f a) c ∷ [])))
+
+-- and then f(a) = c comes again: the replay asks nothing of a batch
+abbrev pub comes_again : List Event
+comes_again =
+    rewrites_history
+    ++ Claim 3
+    ∷ return 3 (Met (entry (at_roots 0 2) (kept (line_of (para_at_roots 0 2 [] []) (clause (equation (f a) c ∷ [])) ∷ []) (clause (equation (f a) c ∷ []))) ∷ []) [])
+    ∷ []
 
 -- where b = c is there before
 abbrev pub thrice : Origin
@@ -129,6 +165,16 @@ removing = Claim 1 ∷ Claim 2 ∷ Claim 3 ∷ return 2 (Met [] (removal 0 (1 �
 abbrev pub removing_by_dead : List Event
 removing_by_dead =
     take 3 removing ++ return 2 (Met [] (removal 0 (1 ∷ []) (Dropped (Subsumed 1)) ∷ cut_by 0 [] ∷ [])) ∷ []
+
+-- the same return with the same removal twice, and with an inference
+abbrev pub removing_twice : List Event
+removing_twice =
+    take 3 removing ++ return 2 (Met [] (removal 0 (1 ∷ []) (Dropped (Subsumed 1)) ∷ removal 0 (1 ∷ []) (Dropped (Subsumed 1)) ∷ [])) ∷ []
+
+abbrev pub removing_and_meeting : List Event
+removing_and_meeting =
+    take 3 removing
+    ++ return 2 (Met (entry (at_roots 1 2) (Dropped Tautology) ∷ []) (removal 0 (1 ∷ []) (Dropped (Subsumed 1)) ∷ [])) ∷ []
 
 -- which is refused, and cut by q(X0) then; and the first job is void
 abbrev pub stale_history : List Event
@@ -193,6 +239,15 @@ one_step = entry (at_roots 0 1) (kept (resolved 0 1 [] (a ∷ []) (p (f a) ∷ [
 abbrev pub growing_history : List Event
 growing_history = Claim 1 ∷ return 1 (Met [] []) ∷ Claim 2 ∷ return 2 (Met (one_step ∷ []) []) ∷ []
 
+-- the same inference without its last line
+abbrev pub half_step : Entry
+half_step =
+    entry (at_roots 0 1) (kept (take 1 (resolved 0 1 [] (a ∷ []) (p (f a) ∷ []) [])) (clause (not_true ∷ p (f a) ∷ [])))
+
+-- with a removal: the replay asks nothing of a batch
+abbrev pub growing_with : Removal → List Event
+growing_with m = take 3 growing_history ++ return 2 (Met (one_step ∷ []) (m ∷ [])) ∷ []
+
 -- the same inference set aside, as if it were heavy: the replay asks nothing of a batch
 abbrev pub heavy_history : List Event
 heavy_history = Claim 1 ∷ return 1 (Met [] []) ∷ Claim 2 ∷ return 2 (Met (entry (at_roots 0 1) Heavy ∷ []) []) ∷ []
@@ -246,3 +301,11 @@ unequal_resolved = entry (key.Refl 0 0) (kept (line_of (Refl 0 0 (a ∷ [])) (cl
 
 abbrev pub partners : Origin
 partners = pool_of (clause (p a ∷ []) ∷ clause (not_p (x 0) ∷ q (x 0) ∷ []) ∷ [])
+
+-- ---- a clause that the first subsumes, where three were told: p(X0), not q(a) or r, and p of f(f(f(f(a))))
+
+abbrev pub towering : Origin
+towering = pool_up_to 100 false (clause (p (x 0) ∷ []) ∷ clause (not_q a ∷ r ∷ []) ∷ clause (p (tower 4) ∷ []) ∷ [])
+
+abbrev pub towering_goes : List ℕ → List Event
+towering_goes justifiers = Claim 1 ∷ Claim 2 ∷ Claim 3 ∷ return 3 (Gone (removal 2 justifiers (Dropped (Subsumed 0)))) ∷ []

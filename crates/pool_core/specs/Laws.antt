@@ -14,8 +14,9 @@ use Rattle.pool_core.specs.Outcomes.{outcome_of}
 use Rattle.pool_core.specs.Replay.{Origin, replay}
 use Rattle.pool_core.specs.Lawful.{IsLawful}
 use Rattle.pool_core.specs.Events.{job_of}
-use Rattle.pool_core.specs.Inputs.{AreInputs, IsLimit}
+use Rattle.pool_core.specs.Inputs.{AreInputs, IsLimit, IsRightBatch}
 use Rattle.pool_core.specs.declared.options.Options.{Options}
+use Rattle.pool_core.specs.declared.batch.Batch.{Batch}
 use Rattle.pool_core.specs.declared.event.Event.{Event}
 use Rattle.pool_core.specs.declared.event.Event.TheVariants.{Claim, ClaimSolve, Abandon}
 use Rattle.pool_core.specs.declared.outcome.Outcome.{Outcome}
@@ -139,15 +140,24 @@ abbrev pub are_justified : List Death → List Death → Bool
 are_justified earlier [] = true
 are_justified earlier (d ∷ ds) = is_justified earlier d && are_justified (earlier ++ d ∷ []) ds
 
--- the victim and the justifiers are below a count of clauses, the event below a count of events
-abbrev pub is_known : ℕ → ℕ → Death → Bool
-is_known clauses events d =
-    nat_lt d.event events && (nat_lt d.victim clauses && list_all (λ n. nat_lt n clauses) d.justifiers)
+-- The victim and its justifiers were registered and alive just before the event in which the victim died.
+abbrev pub lived_before : Origin → List Event → Death → Bool
+lived_before origin history d =
+    nat_lt d.event (length history) && list_all (lives (replay origin (take d.event history))) (d.victim ∷ d.justifiers)
 
--- So a clause dies once, by other clauses alone, which die later or never.
+-- So a clause dies once, by other clauses alone, which lived then: they die later or never. Within one event deaths come in order.
 abbrev pub DeathsAreJustified : Type 0
 DeathsAreJustified =
     (is_predicate : ℕ → Bool) (origin : Origin) (history : List Event)
     → IsLawful is_predicate origin history
     → let r = replay origin history in
-    IsTrue (are_justified [] r.deaths) × IsTrue (list_all (is_known (length r.registered) (length history)) r.deaths)
+    IsTrue (are_justified [] r.deaths) × IsTrue (list_all (lived_before origin history) r.deaths)
+
+-- ---- batches
+
+-- A batch that is right for a job stays right through events of other jobs: so for every list of events, lawful or not.
+abbrev pub BatchesStayRight : Type 0
+BatchesStayRight =
+    (origin : Origin) (history later : List Event) (batch : Batch)
+    → IsRightBatch origin history batch → IsFalse (list_any (λ e. job_of e == batch.job) later)
+    → IsRightBatch origin (history ++ later) batch

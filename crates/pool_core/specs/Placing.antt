@@ -1,7 +1,9 @@
 -- Results of a batch that are in the bank, and room for them. Only private functions cite this.
 use Rattle.std.specs.Prelude.{◌≡◌, ℕ, ◌+◌, ◌<◌, ◌≤◌, Bool, true, false, not, ◌&&◌, ◌||◌, List, [], ◌∷◌, ◌++◌, length, map, sum_by, filter_map, slice_get, Option, None, Some, is_none, All, IsTrue, vec_len, vec_capacity, if◌then◌else◌}
 use Rattle.std.specs.List.{AllByRecursion}
+use Rattle.fol_base.specs.Clause.{clause_size}
 use Rattle.fol_base.specs.Canonical.{IsCanonical}
+use Rattle.fol_base.specs.declared.limits.TheConstants.{MOST_SYMBOLS}
 use Rattle.fol_base.specs.Literal.{clause_of}
 use Rattle.fol_base.specs.declared.clause.Clause.{Clause}
 use Rattle.kernel_steps.specs.Lines.{step_parents}
@@ -91,13 +93,15 @@ KnowsMore known learned = (ls : List BankLit) → All (IsKnown known) ls → All
 
 -- ---- batches
 
--- There is one result, to which the lines lead. It is canonical and without names, and the parents are clauses and lines among them.
+-- There is one result, to which the lines lead. It is canonical, without names and no larger than a clause may be that is kept, and the
+-- parents are clauses and lines among them.
 pub record IsFitResult (lines : List Line) (results : List Clause) : Type 0 where
   pub result : Clause
   pub given : results ≡ result ∷ []
   pub led : result_of lines ≡ Some (clause_of result)
   pub canonical : IsCanonical (clause_of result)
   pub no_names : result.names ≡ []
+  pub small : clause_size (clause_of result) ≤ MOST_SYMBOLS
   pub parents : All (HasParentsBelow (CLAUSE_NUMBERS + length lines)) lines
 
 abbrev pub IsFit : Fate → Type 0

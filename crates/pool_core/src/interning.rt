@@ -12,7 +12,6 @@ ghost use Rattle.pool_core.specs.declared.batch.Removal.{Removal};
 use crate::batch::{Entry, Fate, Removal, Work};
 use crate::keys::copied_key;
 use bank_clause::BankClause;
-use fol_base::SIZE_LIMIT;
 use kernel_steps::Key;
 use plain_types::{Mem, NoMemory};
 use std::alloc::Global;
@@ -52,7 +51,7 @@ impl Results {
         }
     }
 
-    /// Interns the result of a fate, where there is one. One past the sizes of the bank's clauses is told as want of memory.
+    /// Interns the result of a fate, where there is one.
     fn add<R: Wait>(
         &mut self,
         rt: &R,
@@ -72,9 +71,6 @@ impl Results {
             return Ok(());
         };
         let clause = &results.as_slice()[0];
-        if clause.size() >= SIZE_LIMIT {
-            return Err(NoMemory);
-        }
         let Some(count) = self.lines.checked_add(lines.len()) else {
             return Err(NoMemory);
         };

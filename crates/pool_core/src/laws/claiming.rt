@@ -7,7 +7,8 @@ ghost use Rattle.pool_core.specs.Claiming.{ready, picked, next_choice, next_give
 ghost use Rattle.pool_core.specs.Outcomes.{outcome_of};
 ghost use Rattle.pool_core.specs.Record.{nothing_registered, jobs_out};
 ghost use Rattle.pool_core.specs.Replay.{start, replay};
-ghost use Rattle.pool_core.specs.Examples.{pool_of, three, abandon_history, given_up_from, units, units_history, justified, removing};
+ghost use Rattle.pool_core.specs.Examples.{pool_of, three, abandon_history, given_up_from, units, units_history, justified, removing, cut_by, return};
+ghost use Rattle.fol_base.specs.Examples.{a};
 ghost use Rattle.pool_core.specs.declared.batch.Work.TheVariants as work;
 ghost use Rattle.pool_core.specs.declared.event.Event.TheVariants as event;
 ghost use Rattle.pool_core.specs.declared.outcome.Outcome.TheVariants.{Refuted, Saturated};
@@ -41,7 +42,7 @@ pub fn given_up_examples()
 {}
 
 /// Answers: three jobs are out and nothing is to be given; a pool without clauses is saturated; the pool is refuted; a job is still to be given, so that it isn't saturated. Where
-/// the given clause has died, that is told, whatever the batch is.
+/// the given clause has died, that is told, whatever the batch is, and else not; a batch by a living justifier is taken, and one by a dead one isn't.
 pub fn answer_examples()
     ensures idle { IsAnswerToClaim three (event.Claim 1 ∷ event.Claim 2 ∷ event.Claim 3 ∷ []) 0
         (answer.Idle 3) (event.Claim 1 ∷ event.Claim 2 ∷ event.Claim 3 ∷ []) }
@@ -51,4 +52,10 @@ pub fn answer_examples()
     ensures not_saturated { IsAnswerToClaim units (take 2 units_history) 0 (answer.Ended Saturated) (take 2 units_history) → ⊥ }
     ensures void { IsAnswerToReturn justified removing 0
         (record { job = 1; work = work.Met [] [] }) (back.Void 3) (removing ++ event.Void 1 ∷ []) }
+    ensures not_void { IsAnswerToReturn justified removing 0
+        (record { job = 3; work = work.Gone (cut_by 1 (a ∷ [])) }) (back.Void 3) (removing ++ event.Void 3 ∷ []) → ⊥ }
+    ensures taken { IsAnswerToReturn justified removing 0
+        (record { job = 3; work = work.Gone (cut_by 1 (a ∷ [])) }) back.Taken (removing ++ return 3 (work.Gone (cut_by 1 (a ∷ []))) ∷ []) }
+    ensures not_taken { IsAnswerToReturn justified removing 0
+        (record { job = 3; work = work.Gone (cut_by 0 []) }) back.Taken (removing ++ return 3 (work.Gone (cut_by 0 [])) ∷ []) → ⊥ }
 {}

@@ -4,7 +4,7 @@ ghost use Rattle.std.specs.Prelude.{◌≡◌, true, false, [], ◌∷◌, IsTru
 ghost use Rattle.fol_base.specs.Examples.{x, a, p, q, equation};
 ghost use Rattle.kernel_steps.specs.Derivation.{positive_of, negative_of};
 ghost use Rattle.kernel_steps.specs.Examples.{not_p, not_q};
-ghost use Rattle.pool_core.specs.Components.{components_of, parts_of, is_to_split};
+ghost use Rattle.pool_core.specs.Components.{components_of, parts_of, is_to_split, ComponentsAreFinest};
 ghost use Rattle.pool_core.specs.Tags.{name_count, line_names};
 
 /// Literals that share variables with one another, directly or through others.
@@ -24,4 +24,9 @@ pub fn line_name_examples()
     ensures count { name_count ((not_p a ∷ []) ∷ (p a ∷ []) ∷ (not_q (x 0) ∷ []) ∷ []) ≡ 2 }
     ensures opposites { line_names ((not_p a ∷ []) ∷ (q (x 0) ∷ []) ∷ []) (negative_of 0 ∷ negative_of 1 ∷ [])
         ≡ positive_of 0 ∷ negative_of 1 ∷ [] }
+{}
+
+/// Whatever the literals are, the components are the finest parts that share no variables.
+pub fn components_are_finest()
+    ensures { ComponentsAreFinest }
 {}

@@ -1,9 +1,13 @@
 // Histories in which the limit is reached, or an inference is set aside.
 
-ghost use Rattle.std.specs.Prelude.{◌≡◌, [], ◌∷◌, ◌++◌, true, Some, None, length, take};
+ghost use Rattle.std.specs.Prelude.{◌≡◌, [], ◌∷◌, ◌++◌, true, Some, None, length, take, option_map, slice_get};
+ghost use Rattle.fol_base.specs.Examples.{a, b, f, p, clause};
+ghost use Rattle.kernel_steps.specs.declared.key.Key.TheVariants as key;
+ghost use Rattle.pool_core.specs.Lines.{line_of};
 ghost use Rattle.pool_core.specs.Outcomes.{outcome_of};
+ghost use Rattle.pool_core.specs.Record.{Registered};
 ghost use Rattle.pool_core.specs.Replay.{replay};
-ghost use Rattle.pool_core.specs.Examples.{pool_up_to, growing, growing_history, heavy_history, unifying, units_history, limited, rewrites_history, return, removal, at_roots};
+ghost use Rattle.pool_core.specs.Examples.{pool_up_to, growing, growing_history, heavy_history, unifying, units_history, limited, rewrites_history, return, removal, kept, growing_with, at_roots, para_at_roots};
 ghost use Rattle.pool_core.specs.declared.batch.Fate.TheVariants.{Dropped};
 ghost use Rattle.pool_core.specs.declared.batch.Redundancy.TheVariants.{Tautology};
 ghost use Rattle.pool_core.specs.declared.batch.Work.TheVariants as work;
@@ -33,4 +37,23 @@ pub fn heavy_examples()
     ensures counted { (replay (growing 100) heavy_history).counted ≡ at_roots 0 1 ∷ [] }
     ensures set_aside { (replay (growing 100) heavy_history).set_aside ≡ at_roots 0 1 ∷ [] }
     ensures heavy { outcome_of (replay (growing 100) heavy_history) ≡ Some (Heavy 0) }
+{}
+
+/// The results of a batch's entries are registered before its removals take effect, and so before their results; where they reach the limit,
+/// no clause dies.
+pub fn removal_examples()
+    ensures one_death { (replay (growing 100) (growing_with (removal 0 (1 ∷ []) (Dropped Tautology)))).deaths
+        ≡ record { victim = 0; event = 3; justifiers = 1 ∷ [] } ∷ [] }
+    ensures registered { length (replay (growing 100) (growing_with (removal 0 (1 ∷ []) (Dropped Tautology)))).registered ≡ 3 }
+    ensures result_dies { (replay (growing 100) (growing_with (removal 2 [] (Dropped Tautology)))).deaths
+        ≡ record { victim = 2; event = 3; justifiers = [] } ∷ [] }
+    ensures entry_first { option_map (λ (c : Registered). c.clause)
+        (slice_get (replay (growing 100) (growing_with (removal 0 (1 ∷ []) (kept (line_of (para_at_roots 0 1 [] []) (clause (p b ∷ [])) ∷ []) (clause (p b ∷ [])))))).registered 2)
+        ≡ Some (clause (p (f a) ∷ [])) }
+    ensures removal_next { option_map (λ (c : Registered). c.clause)
+        (slice_get (replay (growing 100) (growing_with (removal 0 (1 ∷ []) (kept (line_of (para_at_roots 0 1 [] []) (clause (p b ∷ [])) ∷ []) (clause (p b ∷ [])))))).registered 3)
+        ≡ Some (clause (p b ∷ [])) }
+    ensures counted_after { (replay (growing 100) (growing_with (removal 0 (1 ∷ []) (kept (line_of (para_at_roots 0 1 [] []) (clause (p b ∷ [])) ∷ []) (clause (p b ∷ [])))))).counted
+        ≡ at_roots 0 1 ∷ key.Replaced 0 ∷ [] }
+    ensures none_dies { (replay (growing 1) (growing_with (removal 0 (1 ∷ []) (Dropped Tautology)))).deaths ≡ [] }
 {}

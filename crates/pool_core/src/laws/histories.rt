@@ -1,7 +1,7 @@
 // Laws of lawful histories: each is the contract of a function without arguments and with an empty body.
 
 ghost use Rattle.pool_core.specs.Derived.{LinesAreDerived, RefutedIsRefutation};
-ghost use Rattle.pool_core.specs.Laws.{ClaimedInTime, CountedOnce, DeathsAreJustified, JobsAreCounted, JobsWereGiven, NumbersFit, OutcomesStay, PicksAreChosen, PositionsStay, SetAsideAreHeavy, SpentIsTheCount};
+ghost use Rattle.pool_core.specs.Laws.{BatchesStayRight, ClaimedInTime, CountedOnce, DeathsAreJustified, JobsAreCounted, JobsWereGiven, NumbersFit, OutcomesStay, PicksAreChosen, PositionsStay, SetAsideAreHeavy, SpentIsTheCount};
 ghost use Rattle.pool_core.specs.Wholeness.{PositionsAreRegistered, RegisteredAreWhole, ToldHavePositions};
 
 /// A clause that stays awake and alive, with m older ones, is claimed within 6(m + 1) given claims, while no job is given up.
@@ -14,7 +14,7 @@ pub fn spent_is_the_count()
     ensures { SpentIsTheCount }
 {}
 
-/// Each clause that died was justified by other clauses alone, all alive at that moment.
+/// Each clause that died was justified by other clauses alone, all registered and alive at that moment.
 pub fn deaths_are_justified()
     ensures { DeathsAreJustified }
 {}
@@ -82,4 +82,9 @@ pub fn numbers_fit()
 /// Each event is of a job that was given, so the next job is of no event.
 pub fn jobs_were_given()
     ensures { JobsWereGiven }
+{}
+
+/// A batch that is right for a job stays right through events of other jobs.
+pub fn batches_stay_right()
+    ensures { BatchesStayRight }
 {}

@@ -1,4 +1,4 @@
-use Rattle.pool_core.proofs.AnswerExamples.{idle, nothing_out, saturated, ended, not_saturated, void}
+use Rattle.pool_core.proofs.AnswerExamples.{idle, nothing_out, saturated, ended, not_saturated, void, not_void, taken, not_taken}
 use Rattle.pool_core.proofs.laws.claiming.answer_examples.Goals as goal
 
 pub returns-clause-idle : goal.returns-clause-idle
@@ -18,3 +18,12 @@ returns-clause-nothing_out c = nothing_out
 
 pub returns-clause-saturated : goal.returns-clause-saturated
 returns-clause-saturated c = saturated
+
+pub returns-clause-not_void : goal.returns-clause-not_void
+returns-clause-not_void c = not_void
+
+pub returns-clause-taken : goal.returns-clause-taken
+returns-clause-taken c = taken
+
+pub returns-clause-not_taken : goal.returns-clause-not_taken
+returns-clause-not_taken c = not_taken

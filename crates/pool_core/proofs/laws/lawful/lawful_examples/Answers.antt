@@ -2,6 +2,8 @@ use Rattle.pool_core.proofs.MeetingExample.{r_stays}
 use Rattle.pool_core.proofs.EntryExample.{met}
 use Rattle.pool_core.proofs.GoingExample.{rewritten_goes}
 use Rattle.pool_core.proofs.LawfulExamples.{tautology_goes, subsumed_goes, given_up, solver_and_clause}
+use Rattle.pool_core.proofs.CuttingExample.{cut_goes}
+use Rattle.pool_core.proofs.SteppingExample.{step_met}
 use Rattle.pool_core.proofs.laws.lawful.lawful_examples.Goals as goal
 
 pub returns-clause-tautology : goal.returns-clause-tautology
@@ -24,3 +26,9 @@ returns-clause-stays c = r_stays
 
 pub returns-clause-met : goal.returns-clause-met
 returns-clause-met c = met
+
+pub returns-clause-cut_goes : goal.returns-clause-cut_goes
+returns-clause-cut_goes c = cut_goes
+
+pub returns-clause-one_step : goal.returns-clause-one_step
+returns-clause-one_step c = step_met

@@ -1,0 +1,5 @@
+use Rattle.pool_core.proofs.FinestLemmas.{computed-finest}
+use Rattle.pool_core.proofs.laws.components.components_are_finest.Goals as goal
+
+pub returns : goal.returns
+returns c = computed-finest
