@@ -18,5 +18,5 @@ pub take-requires-clause-right : goal.take-requires-clause-right
 take-requires-clause-right g c =
     let origin = c.in_ok-stale.ensures.origin ∙ c.in_ok-void.ensures.origin ∙ c.in_ok-pool.ensures.origin in
     let before = c.in_ok-void.ensures.history ∙ ap₂ (λ h (b : Batch). h ++ Void b.job ∷ []) c.in_ok-pool.ensures.history c.in_ok-dead.ensures in
-    let history = c.in_ok-stale.ensures.history ∙ ap₂ (λ h (b : Batch). h ++ Stale b.job _ ∷ []) before c.in_ok-other.ensures in
-    moved-right _ _ _ _ _ _ origin history c.in_ok-again.ensures (again-right _)
+    let history = c.in_ok-stale.ensures.history ∙ ap₂ (λ h (b : Batch). h ++ Stale b.job c.in_ok-stale.stale.0 ∷ []) before c.in_ok-other.ensures in
+    moved-right _ _ _ _ _ _ origin history c.in_ok-again.ensures (again-right c.in_ok-stale.stale.0)
