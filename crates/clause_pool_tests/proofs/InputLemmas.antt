@@ -5,14 +5,21 @@ use Rattle.std.proofs.lemmas.List.Elements.{All-nil, All-cons}
 use Rattle.fol_base.specs.Tree.{variable, application, no_trees}
 use Rattle.fol_base.specs.Clause.{TreeClause, clause_size}
 use Rattle.fol_base.specs.Canonical.{IsCanonical}
+use Rattle.fol_base.specs.Examples.{a as a_term, b as b_term, r as r_atom, clause}
+use Rattle.fol_base.specs.Rules.{disequation}
+use Rattle.fol_base.specs.WellFormed.{WellFormed}
 use Rattle.fol_base.specs.declared.limits.TheConstants.{MOST_SYMBOLS}
 use Rattle.pool_core.specs.Inputs.{AreInputs}
+use Rattle.clause_pool_tests.specs.Returns.{trivial, doubled, subsuming, s, t}
 use Rattle.clause_pool_tests.specs.Inputs.{literal_with, clause_with, unary_tree, three_inputs}
 
 -- what is said of three clauses is said of all in their list
 all_three : (P : TreeClause → Type 0) (a b c : TreeClause) → P a → P b → P c → All P (a ∷ b ∷ c ∷ [])
 all_three P a b c ha hb hc =
     All-cons P a (b ∷ c ∷ []) ha (All-cons P b (c ∷ []) hb (All-cons P c [] hc (All-nil P)))
+
+all_two : (P : TreeClause → Type 0) (a b : TreeClause) → P a → P b → All P (a ∷ b ∷ [])
+all_two P a b ha hb = All-cons P a (b ∷ []) ha (All-cons P b [] hb (All-nil P))
 
 pub are_inputs : AreInputs three_inputs
 are_inputs =
@@ -38,3 +45,43 @@ no_inputs = record {
   few = lit≤ tt;
   well_formed = record { usage = record { is_predicate = λ n. false; arity = λ n. 0 }; used = refl };
 }
+
+-- the symbols of the tests of returns: those above 5 are predicates
+well-formed-three : WellFormed (subsuming).inputs
+well-formed-three = record { usage = record { is_predicate = λ n. nat_lt 5 n; arity = λ n. 0 }; used = refl }
+
+pub are_subsuming : AreInputs (subsuming).inputs
+are_subsuming =
+    let p : TreeClause = clause (r_atom ∷ s ∷ t ∷ []) in
+    let q : TreeClause = clause (r_atom ∷ s ∷ []) in
+    let r : TreeClause = clause (r_atom ∷ []) in
+    record {
+      canonical = all_three IsCanonical p q r refl refl refl;
+      no_names = all_three (λ c. c.names ≡ []) p q r refl refl refl;
+      small = all_three (λ c. clause_size c ≤ MOST_SYMBOLS) p q r (lit≤ tt) (lit≤ tt) (lit≤ tt);
+      few = lit≤ tt;
+      well_formed = well-formed-three;
+    }
+
+pub are_doubled : AreInputs (doubled 10).inputs
+are_doubled =
+    let p : TreeClause = clause (r_atom ∷ disequation a_term a_term ∷ []) in
+    let q : TreeClause = clause (r_atom ∷ disequation b_term b_term ∷ []) in
+    record {
+      canonical = all_two IsCanonical p q refl refl;
+      no_names = all_two (λ c. c.names ≡ []) p q refl refl;
+      small = all_two (λ c. clause_size c ≤ MOST_SYMBOLS) p q (lit≤ tt) (lit≤ tt);
+      few = lit≤ tt;
+      well_formed = record { usage = record { is_predicate = λ n. nat_lt 5 n; arity = λ n. 0 }; used = refl };
+    }
+
+pub are_trivial : AreInputs (trivial).inputs
+are_trivial =
+    let p : TreeClause = clause (disequation a_term a_term ∷ []) in
+    record {
+      canonical = All-cons IsCanonical p [] refl (All-nil IsCanonical);
+      no_names = All-cons (λ c. c.names ≡ []) p [] refl (All-nil (λ c. c.names ≡ []));
+      small = All-cons (λ c. clause_size c ≤ MOST_SYMBOLS) p [] (lit≤ tt) (All-nil (λ c. clause_size c ≤ MOST_SYMBOLS));
+      few = lit≤ tt;
+      well_formed = record { usage = record { is_predicate = λ n. nat_lt 5 n; arity = λ n. 0 }; used = refl };
+    }

@@ -1,1 +1,3 @@
 mod InputLemmas
+mod ResolvingLemmas
+mod SubsumingLemmas

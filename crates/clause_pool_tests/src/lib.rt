@@ -2,8 +2,14 @@
 #![tactic(auto)]
 
 #[cfg(test)]
+mod batches;
+#[cfg(test)]
+mod calls;
+#[cfg(test)]
 mod claiming;
 #[cfg(test)]
 mod inputs;
+#[cfg(test)]
+mod returning;
 #[cfg(test)]
 mod starting;

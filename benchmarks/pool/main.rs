@@ -1,0 +1,167 @@
+// Claims and returns of a pool: batches of made-up entries, each with a result of 25 symbols of its own. It tells the time of `claim` and
+// `give_back` together for each returned entry, and of the interning of as many clauses alone. There is a batch for each word
+// of the command line. The batches aren't right ones, so it can't be proved: `rt try` runs it.
+#![tactic(auto)]
+
+use bank_clause::BankClause;
+use fol_base::{Clause, Clauses, Literal, Literals, Term, Terms};
+use kernel_steps::{Derivation, Key, Line, Step};
+use literal_selection::Selection;
+use plain_types::{Mem, Names, NoMemory};
+use pool_core::{Back, Batch, Claimed, Entry, Fate, MetEntries, Options, Pool, Removals, Work};
+use std::alloc::Global;
+use std::env;
+use std::process::ExitCode;
+use std::sync::Wait;
+use std::time::Instant;
+use term_bank::Bank;
+
+/// A clause has the predicate, `$true` and so many symbols of a term.
+const TERM_SYMBOLS: u32 = 23;
+
+/// So many entries has a batch.
+const ENTRIES: u64 = 1_000;
+
+const TRUTH: u32 = 0;
+const CONSTANT: u32 = 1;
+const ZERO: u32 = 2;
+const ONE: u32 = 3;
+const PREDICATE: u32 = 4;
+
+fn applied(alloc: Global, symbol: u32, argument: Term) -> Mem<Term> {
+    let mut arguments = Terms::new(alloc);
+    arguments.push(argument)?;
+    Ok(Term::App(symbol, arguments))
+}
+
+/// A clause of its own for each number: the term writes its digits, the last one outermost.
+fn numbered(alloc: Global, number: u64) -> Mem<Clause> {
+    let mut term = Term::App(CONSTANT, Terms::new(alloc));
+    for place in 1..TERM_SYMBOLS {
+        let bit = (number >> (TERM_SYMBOLS - 1 - place)) & 1;
+        term = applied(alloc, if bit == 0 { ZERO } else { ONE }, term)?;
+    }
+    let mut literals = Literals::new(alloc);
+    literals.push(Literal {
+        positive: true,
+        left: applied(alloc, PREDICATE, term)?,
+        right: Term::App(TRUTH, Terms::new(alloc)),
+    })?;
+    Ok(Clause {
+        literals,
+        names: Names::new(alloc),
+    })
+}
+
+fn entry(alloc: Global, given: u32, number: u64) -> Mem<Entry> {
+    let mut lines = Derivation::new(alloc);
+    lines.push(Line {
+        step: Step::Refl {
+            parent: u64::from(given),
+            literal: number,
+            bind: Terms::new(alloc),
+        },
+        clause: numbered(alloc, number)?,
+    })?;
+    let mut results = Clauses::new(alloc);
+    results.push(numbered(alloc, number)?)?;
+    Ok(Entry {
+        key: Key::Refl {
+            clause: given,
+            literal: number,
+        },
+        fate: Fate::Kept { lines, results },
+    })
+}
+
+fn batch(alloc: Global, job: u64, given: u32, first: u64, count: u64) -> Mem<Batch> {
+    let mut entries = MetEntries::new(alloc);
+    for number in first..first + count {
+        entries.push(entry(alloc, given, number)?)?;
+    }
+    Ok(Batch {
+        job,
+        work: Work::Met {
+            entries,
+            removals: Removals::new(alloc),
+        },
+    })
+}
+
+fn nanoseconds(since: Instant, until: Instant) -> u128 {
+    until.duration_since(since).as_nanos()
+}
+
+/// The time of the claims and returns of so many batches, without the making of them.
+fn time_of_pool<R: Wait>(clock: &HostRuntime, rt: &R, alloc: Global, batches: u64) -> Mem<u128> {
+    let (bank, table) = Bank::new(alloc)?;
+    let mut inputs = Clauses::new(alloc);
+    inputs.push(numbered(alloc, ENTRIES * batches)?)?;
+    let options = Options {
+        select: Selection::Nothing,
+        split: false,
+        inferences: 4_000_000,
+    };
+    let mut pool = Pool::new(rt, alloc, &bank, table, &inputs, options)?;
+    let mut spent = 0;
+    for turn in 0..batches {
+        let start = now(clock)?;
+        let Claimed::Given(ticket) = pool.claim(alloc, pool.history().len())? else {
+            return Err(NoMemory);
+        };
+        let claimed = now(clock)?;
+        let made = batch(alloc, ticket.job, ticket.number, turn * ENTRIES, ENTRIES)?;
+        let told = pool.history().len();
+        let given = now(clock)?;
+        let Back::Taken = pool.give_back(rt, alloc, &bank, made, told)? else {
+            return Err(NoMemory);
+        };
+        let taken = now(clock)?;
+        spent += nanoseconds(start, claimed) + nanoseconds(given, taken);
+    }
+    Ok(spent)
+}
+
+/// The time of the interning of as many clauses, without the making of them.
+fn time_of_interning<R: Wait>(clock: &HostRuntime, rt: &R, alloc: Global, count: u64) -> Mem<u128> {
+    let (bank, table) = Bank::new(alloc)?;
+    let mut table = table;
+    let mut clauses = Clauses::new(alloc);
+    for number in 0..count {
+        clauses.push(numbered(alloc, number)?)?;
+    }
+    let mut interned = Vec::new(alloc);
+    let start = now(clock)?;
+    for clause in clauses.as_slice() {
+        interned.push(BankClause::of_clause(rt, alloc, &bank, &mut table, clause)?)?;
+    }
+    Ok(nanoseconds(start, now(clock)?))
+}
+
+fn now(clock: &HostRuntime) -> Mem<Instant> {
+    match Instant::now(clock) {
+        Ok(time) => Ok(time),
+        Err(_) => Err(NoMemory),
+    }
+}
+
+fn main(rt: HostRuntime) -> ExitCode {
+    let alloc = rt.alloc();
+    let mut batches: u64 = 0;
+    if let Ok(words) = env::args(&rt) {
+        for _word in words.skip(1) {
+            batches = batches.saturating_add(1);
+        }
+    }
+    let entries = batches.saturating_mul(ENTRIES);
+    let (Ok(pool), Ok(interning)) = (
+        time_of_pool(&rt, &rt, alloc, batches),
+        time_of_interning(&rt, &rt, alloc, entries),
+    ) else {
+        return ExitCode::from(7);
+    };
+    match println!(rt; "{entries} entries: {pool} ns, their interning {interning} ns") {
+        Ok(()) => ExitCode::SUCCESS,
+        Err(_) => ExitCode::from(8),
+    }
+}
