@@ -2,6 +2,8 @@
 #![tactic(auto)]
 
 mod fits;
+mod key;
 mod refuted;
 
+pub use key::write_key;
 pub use refuted::write_refutation;
