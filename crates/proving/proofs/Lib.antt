@@ -9,5 +9,5 @@ mod ClaimLemmas
 -- What a return leaves: ReturnLemmas.
 mod ReturnLemmas
 -- How pools end (EndLemmas), and one from its beginning to its end (ProvedLemmas).
-mod EndLemmas
+pub mod EndLemmas
 mod ProvedLemmas

@@ -4,12 +4,6 @@ use Rattle.prover_main.specs.Reports.{load_line, formula_line}
 use Rattle.prover_main.proofs.PageLemmas.{two_added_by, told}
 use Rattle.prover_main.proofs.report.push_report.Goals as goal
 
-pub returns-in_ok-push_status-in-NotBuilt : goal.returns-in_ok-push_status-in-NotBuilt
-returns-in_ok-push_status-in-NotBuilt c =
-    told c.push_formula.result c.args.file.now c.args.page.now _ _ _ c.in-NotBuilt.is
-    (two_added_by c.push_formula.result c.args.page.now _ _ _ formula_line (codes "NotBuilt") (codes "NotBuilt") _ _ refl c.as_slice-in-NotBuilt.ensures
-    c.in_ok-push_status-in-NotBuilt.ensures c.push_formula.ensures)
-
 pub returns-in_ok-push_status-in-Unloaded : goal.returns-in_ok-push_status-in-Unloaded
 returns-in_ok-push_status-in-Unloaded c =
     told c.push_load.result c.args.file.now c.args.page.now _ _ _ c.in-Unloaded.is
