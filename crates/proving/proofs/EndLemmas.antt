@@ -1,6 +1,6 @@
 -- How pools end: events make them refuted or spent, and no other outcome is kept.
-use Rattle.std.proofs.Common.{◌≡◌, ⊤, ℕ, Bool, true, List, [], ◌∷◌, ◌++◌, length, refl, ap, sym, ◌∙◌, subst, ⊎_elim}
-use Rattle.std.specs.Prelude.{Option, None, Some, nat_le, is_none, fold, find, position}
+use Rattle.std.proofs.Common.{◌≡◌, ◌≤◌, ℕ, Bool, true, List, [], ◌∷◌, ◌++◌, length, refl, ap, sym, ◌∙◌, subst, ⊎_elim}
+use Rattle.std.specs.Prelude.{⊤, Option, None, Some, nat_le, is_none, fold, find, position}
 use Rattle.std.proofs.lemmas.Option.{same_Some, cond_some}
 use Rattle.kernel_steps.specs.Split.{has_number}
 use Rattle.kernel_steps.specs.declared.key.Key.{Key}
@@ -129,23 +129,26 @@ rest-cause :
 rest-cause options r None found rests = (rests, found)
 rest-cause options r (Some place) found rests = (rests, found)
 
-pub outcomes-have-causes : OutcomesHaveCauses
-outcomes-have-causes origin history outcome stands = by r.ended refl (replay-ends origin history)
+cause-of :
+    (options : Options) (r : PoolRecord) (outcome : Outcome)
+    → Ends r → ((count : ℕ) → r.ended ≡ Some (Spent count) → (count ≡ length r.counted) × (options.inferences ≤ count))
+    → outcome_of r ≡ Some outcome → HasCause options r outcome
+cause-of options r outcome ends spent stands = by r.ended refl ends
   where
-    abbrev r : PoolRecord
-    r = replay origin history
-
     same : (o : Option Outcome) → r.ended ≡ o → outcome_by o r ≡ Some outcome
     same o is = ap (λ p. outcome_by p r) (sym is) ∙ stands
 
-    by : (o : Option Outcome) → r.ended ≡ o → IsEnd o → HasCause origin.options r outcome
+    by : (o : Option Outcome) → r.ended ≡ o → IsEnd o → HasCause options r outcome
     by None is end =
         let found : Option ℕ = position (is_of_living r) r.set_aside in
         let rests = cond_some (is_at_rest r) (heavy_or_saturated found) outcome (same None is) in
-        subst (HasCause origin.options r) rests.1 (rest-cause origin.options r found refl rests.0)
-    by (Some Refuted) is end = subst (HasCause origin.options r) (same_Some Refuted outcome (same (Some Refuted) is)) is
+        subst (HasCause options r) rests.1 (rest-cause options r found refl rests.0)
+    by (Some Refuted) is end = subst (HasCause options r) (same_Some Refuted outcome (same (Some Refuted) is)) is
     by (Some (Spent count)) is end =
-        let counted = spent_is_the_count origin history count is in
-        subst (HasCause origin.options r) (same_Some (Spent count) outcome (same (Some (Spent count)) is)) (counted.0, counted.1)
+        let counted = spent count is in subst (HasCause options r) (same_Some (Spent count) outcome (same (Some (Spent count)) is)) (counted.0, counted.1)
     by (Some Saturated) is end = absurd end
     by (Some (Heavy place)) is end = absurd end
+
+pub outcomes-have-causes : OutcomesHaveCauses
+outcomes-have-causes origin history outcome stands =
+    cause-of origin.options (replay origin history) outcome (replay-ends origin history) (spent_is_the_count origin history) stands

@@ -18,7 +18,13 @@ pub(crate) struct Done {
 }
 
 /// Learns what a ticket tells, and works on its clause. The batch is right for the job, which is out.
-pub(crate) fn work_on(alloc: Global, bank: &Bank, pool: &Pool, index: Index, ticket: &Ticket) -> Mem<Done>
+pub(crate) fn work_on(
+    alloc: Global,
+    bank: &Bank,
+    pool: &Pool,
+    index: Index,
+    ticket: &Ticket,
+) -> Mem<Done>
     requires index { IsIndexOf bank.now pool.now index }
     requires ticket { IsGiven pool.now index.told ticket.now }
     ensures index { IfOk result (λ done. IsIndexOf bank.now pool.now done.index) }
