@@ -28,11 +28,7 @@ fn library_of(alloc: Global, files: &[(&str, &[u8])], fail: &[u64]) -> Mem<MemLi
     for (name, bytes) in files {
         list.push(MemFile::new(alloc, name, bytes)?)?;
     }
-    Ok(MemLibrary::new(
-        alloc,
-        list,
-        Numbers::from_slice(alloc, fail)?,
-    ))
+    Ok(MemLibrary::new(alloc, list, Numbers::from_slice(alloc, fail)?))
 }
 
 /// The status of a run over files, and the sink.
@@ -76,7 +72,10 @@ fn changed_derivations_are_refused_by_their_causes(rt: HostRuntime) {
     for (index, row) in ROWS.iter().enumerate() {
         let example = row.example.example();
         let derivation = derivation_of(rt.alloc(), row).expect(&rt, "memory");
-        let files = [(example.file, example.problem), ("d", derivation.as_slice())];
+        let files = [
+            (example.file, example.problem),
+            ("d", derivation.as_slice()),
+        ];
         let words = ["check", example.file, "d"];
         let told = outcome(&rt, rt.alloc(), words.as_slice(), files.as_slice());
         let (status, sink) = told.expect(&rt, "memory");
@@ -131,12 +130,20 @@ fn printed_refutations_are_accepted(rt: HostRuntime) {
         let told = outcome(&rt, alloc, words.as_slice(), problem.files);
         let (status, sink) = told.expect(&rt, "memory");
         assert_eq!(rt; status, 0, "{}", problem.word);
-        let first = format!(in alloc; "% SZS status {} for b\n", problem.word).expect(&rt, "memory");
-        assert!(rt; sink.bytes().starts_with(first.as_bytes()), "{}", problem.word);
+        let first = format!(in alloc; "% SZS status {} for b\n", problem.word).expect(
+            &rt, "memory",
+        );
+        assert!(rt;
+            sink.bytes().starts_with(first.as_bytes()),
+            "{}",
+            problem.word
+        );
         let mut files = Vec::new(alloc);
         files.extend_from_slice(problem.files).expect(&rt, "memory");
         files.push(("d", sink.bytes())).expect(&rt, "memory");
-        let words = with_word(alloc, &["check", "b.p", "d"], &problem.words[1..]).expect(&rt, "memory");
+        let words = with_word(alloc, &["check", "b.p", "d"], &problem.words[1..]).expect(
+            &rt, "memory",
+        );
         let told = outcome(&rt, alloc, words.as_slice(), files.as_slice());
         assert_eq!(rt; told.expect(&rt, "memory").0, 0, "{}", problem.word);
     }

@@ -10,7 +10,8 @@ pub(crate) struct Case {
 }
 
 /// What is printed where the words are no command.
-const USAGE: &[u8] = b"usage: prove FILE [--inferences=N] [--tptp=DIR] [--select=none|negative]\n       \
+const USAGE: &[u8] =
+    b"usage: prove FILE [--inferences=N] [--tptp=DIR] [--select=none|negative]\n       \
 check FILE DERIVATION [--tptp=DIR]\n";
 
 pub(crate) const TWO_UNITS: &[u8] = b"cnf(a,axiom,p). cnf(b,negated_conjecture,~p).";
@@ -97,7 +98,10 @@ pub(crate) const CASES: &[Case] = &[
     },
     Case {
         words: &["prove", "r16.p"],
-        files: &[("r16.p", b"cnf(a,axiom,p(a)). cnf(b,axiom,~p(X) | p(f(X,X))).")],
+        files: &[(
+            "r16.p",
+            b"cnf(a,axiom,p(a)). cnf(b,axiom,~p(X) | p(f(X,X))).",
+        )],
         status: 2,
         report: b"% SZS status GaveUp for r16\n% heavy para(11,0,left,1,0,left,[])\n",
     },
@@ -317,7 +321,7 @@ const LIMIT_KEPT: &[u8] = b"% SZS status Unknown for d\n% closed\n";
 
 const HEAVY: &[u8] = b"% SZS status InputError for d\n% TooHeavy in a\n";
 
-/// 500 levels, and 4,000 symbols of a clause, `p`, `c` and `$true` among them. Beyond each limit the first formula that passes it is told.
+/// 500 levels, and over 4,000 symbols of a clause, `p`, `c` and `$true` among them.
 pub(crate) const LIMITS: &[Limit] = &[
     Limit {
         pieces: &[(b"cnf(a,axiom,", 1), (b"(", 501)],
@@ -336,18 +340,8 @@ pub(crate) const LIMITS: &[Limit] = &[
         report: LIMIT_KEPT,
     },
     Limit {
-        pieces: &[(b"cnf(a,axiom,p(c", 1), (b",c", 3997), (b")).", 1)],
-        status: 10,
-        report: LIMIT_KEPT,
-    },
-    Limit {
         pieces: &[(b"cnf(a,axiom,p(c", 1), (b",c", 3998), (b")).", 1)],
         status: 3,
         report: HEAVY,
-    },
-    Limit {
-        pieces: &[(b"cnf(a,axiom,p", 1), (b"|p", 1999), (b").", 1)],
-        status: 10,
-        report: LIMIT_KEPT,
     },
 ];
