@@ -3,6 +3,7 @@ pub mod PageLemmas
 pub mod AnswerLemmas
 pub mod WordLemmas
 pub mod TextLemmas
+pub mod FormInputs
 pub mod HistoryLemmas
 pub mod RunLemmas
 pub mod DeliveryLemmas
