@@ -1,7 +1,8 @@
 -- The symbols of a form (FormSymbols) and their use (FormUse); lines that can be read again (ReadableLines), and the refutation of a
--- pool (PoolRefutations).
+-- pool (PoolRefutations); names of inferences from their parts (KeyLemmas).
 pub mod FormSymbols
 pub mod FormUse
 mod FitLemmas
 mod ReadableLines
 mod PoolRefutations
+mod KeyLemmas

@@ -2,9 +2,9 @@
 
 ghost use Rattle.std.specs.Prelude.{◌≡◌, ◌++◌, codes, map, IfOk};
 ghost use Rattle.std.specs.Fmt.{decimal};
-ghost use Rattle.kernel_steps.specs.Keys.{side_word, commas_before, with_commas, key_text};
+ghost use Rattle.kernel_steps.specs.Keys.{side_word, commas_before, with_commas, place_text, key_text};
 
-use fol_base::Side;
+use fol_base::{Position, Side};
 use kernel_steps::Key;
 use plain_types::{Mem, Text};
 use std::alloc::Global;
@@ -38,9 +38,9 @@ fn push_key(page: &mut Page, key: &Key) -> Mem<()>
             push_clause_side(page, *first, *from, *from_side)?;
             page.bytes(b",")?;
             push_clause_side(page, *second, *into, *into_side)?;
-            page.bytes(b",[")?;
-            push_numbers(page, place.as_slice())?;
-            page.bytes(b"])")
+            page.bytes(b",")?;
+            push_place(page, place)?;
+            page.bytes(b")")
         }
         Key::Refl { clause, literal } => {
             page.bytes(b"refl(")?;
@@ -92,6 +92,15 @@ fn push_side(page: &mut Page, literal: u64, side: Side) -> Mem<()>
         Side::Left => b",left",
         Side::Right => b",right",
     })
+}
+
+/// Adds a place between brackets.
+fn push_place(page: &mut Page, place: &Position) -> Mem<()>
+    ensures { IfOk result (λ _. page.new ≡ page.old ++ place_text place.now) }
+{
+    page.bytes(b"[")?;
+    push_numbers(page, place.as_slice())?;
+    page.bytes(b"]")
 }
 
 /// Adds numbers with a comma between two of them.
