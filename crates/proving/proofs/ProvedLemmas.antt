@@ -1,6 +1,5 @@
 -- A pool from its beginning to its end.
-use Rattle.std.proofs.Common.{◌≡◌, ℕ, List, [], ap, sym, ◌∙◌, Some}
-use Rattle.std.specs.Prelude.{Option}
+use Rattle.std.proofs.Common.{◌≡◌, ℕ, List, [], ap, ◌∙◌, Some}
 use Rattle.fol_base.specs.Clause.{TreeClause}
 use Rattle.term_bank.specs.Bank.{identity}
 use Rattle.term_bank.specs.declared.bank.Bank.{Bank}
