@@ -11,12 +11,13 @@ ghost use Rattle.tptp_reader.specs.declared.cause.Form.TheVariants.{Typed, RoleF
 ghost use Rattle.tptp_reader.specs.declared.cause.ReadCause.TheVariants as read;
 ghost use Rattle.tstp_checker.specs.declared.cause.Cause.TheVariants as line;
 ghost use Rattle.prover_main.specs.declared.answer.Answer.TheVariants.{Refuted, Saturated, Spent, Heavy, Accepted, Refused, Unloaded, Unread, Unformed};
+ghost use Rattle.literal_selection.specs.declared.choice.Selection.TheVariants.{Nothing};
 ghost use Rattle.prover_main.specs.Words.{command_of, prove, check};
 ghost use Rattle.prover_main.specs.Names.{shown, problem_name};
 ghost use Rattle.prover_main.specs.Answer.{has_conjecture};
 ghost use Rattle.prover_main.specs.Reports.{status_of, read_status, read_status_word, report_of, memory_out_report, usage_report, read_word, form_word, limit_word, cause_word};
 ghost use Rattle.prover_main.specs.Laws.{is_exact, IsTold, ChecksHaveOneAnswer, FaultsAreTheOnlyAnswer, UsageIsTold, CommandsAreAnswered, FaultsAreCounted, FaultsComeForCauses, StatusesAreTrue, FormedIsValid, ValidProblemsAreAnswered, LoadedDerivationsAreAnswered};
-ghost use Rattle.prover_main.specs.Examples.{formula_in, holding_nothing, AreWritesBy, DeliversInPiecesBy};
+ghost use Rattle.prover_main.specs.Examples.{counting, formula_in, holding_nothing, AreWritesBy, DeliversInPiecesBy};
 ghost use Rattle.prover_main.specs.Run.{IsDue};
 ghost use Rattle.prover_main.specs.declared.status.TheConstants.{SINK_FAILED, USAGE_SHOWN, MEMORY_OUT};
 
@@ -62,18 +63,21 @@ pub fn valid_inputs_are_answered()
 
 /// Words that are a command: options stand in any place behind it.
 pub fn command_examples()
-    ensures plain { command_of (codes "prove" ∷ codes "a" ∷ []) ≡ Some (prove (codes "a") None 100000) }
-    ensures root { command_of (codes "prove" ∷ codes "--tptp=D" ∷ codes "a" ∷ []) ≡ Some (prove (codes "a") (Some (codes "D")) 100000) }
-    ensures least { command_of (codes "prove" ∷ codes "a" ∷ codes "--inferences=1" ∷ []) ≡ Some (prove (codes "a") None 1) }
+    ensures plain { command_of (codes "prove" ∷ codes "a" ∷ []) ≡ Some (prove (codes "a") None (counting 100000)) }
+    ensures root { command_of (codes "prove" ∷ codes "--tptp=D" ∷ codes "a" ∷ []) ≡ Some (prove (codes "a") (Some (codes "D")) (counting 100000)) }
+    ensures least { command_of (codes "prove" ∷ codes "a" ∷ codes "--inferences=1" ∷ []) ≡ Some (prove (codes "a") None (counting 1)) }
     ensures most { command_of (codes "prove" ∷ codes "--inferences=1000000" ∷ codes "--tptp=D" ∷ codes "a" ∷ [])
-        ≡ Some (prove (codes "a") (Some (codes "D")) 1000000) }
+        ≡ Some (prove (codes "a") (Some (codes "D")) (counting 1000000)) }
+    ensures negative { command_of (codes "prove" ∷ codes "a" ∷ codes "--select=negative" ∷ []) ≡ Some (prove (codes "a") None (counting 100000)) }
+    ensures nothing { command_of (codes "prove" ∷ codes "--select=none" ∷ codes "a" ∷ codes "--inferences=5" ∷ [])
+        ≡ Some (prove (codes "a") None (record { select = Nothing; split = false; inferences = 5 })) }
     ensures checked { command_of (codes "check" ∷ codes "a" ∷ codes "d" ∷ []) ≡ Some (check (codes "a") (codes "d") None) }
     ensures checked_with_root { command_of (codes "check" ∷ codes "a" ∷ codes "d" ∷ codes "--tptp=D" ∷ [])
         ≡ Some (check (codes "a") (codes "d") (Some (codes "D"))) }
 {}
 
 /// Words that are usage: another command; a number of files that isn't the command's, or one that is empty; an option that isn't
-/// the command's, stands twice, has no value, or has no number from 1 to 1,000,000 in plain digits.
+/// the command's, stands twice, has no value, has no number from 1 to 1,000,000 in plain digits, or names no mode.
 pub fn usage_examples()
     ensures none { command_of [] ≡ None }
     ensures other { command_of (codes "bench" ∷ codes "1" ∷ []) ≡ None }
@@ -91,6 +95,10 @@ pub fn usage_examples()
     ensures unknown { command_of (codes "prove" ∷ codes "a" ∷ codes "--workers=2" ∷ []) ≡ None }
     ensures twice { command_of (codes "prove" ∷ codes "--inferences=1" ∷ codes "a" ∷ codes "--inferences=1" ∷ []) ≡ None }
     ensures two_roots { command_of (codes "prove" ∷ codes "--tptp=D" ∷ codes "a" ∷ codes "--tptp=E" ∷ []) ≡ None }
+    ensures two_modes { command_of (codes "prove" ∷ codes "a" ∷ codes "--select=none" ∷ codes "--select=none" ∷ []) ≡ None }
+    ensures no_mode { command_of (codes "prove" ∷ codes "a" ∷ codes "--select=" ∷ []) ≡ None }
+    ensures other_mode { command_of (codes "prove" ∷ codes "a" ∷ codes "--select=positive" ∷ []) ≡ None }
+    ensures check_selects { command_of (codes "check" ∷ codes "a" ∷ codes "d" ∷ codes "--select=none" ∷ []) ≡ None }
     ensures no_inferences { command_of (codes "prove" ∷ codes "a" ∷ codes "--inferences=0" ∷ []) ≡ None }
     ensures too_many { command_of (codes "prove" ∷ codes "a" ∷ codes "--inferences=1000001" ∷ []) ≡ None }
     ensures leading_zero { command_of (codes "prove" ∷ codes "a" ∷ codes "--inferences=01" ∷ []) ≡ None }

@@ -12,6 +12,6 @@ returns-in_ok-push_status-in-Unloaded c =
 
 pub returns-in_ok-push_status-in-Unformed : goal.returns-in_ok-push_status-in-Unformed
 returns-in_ok-push_status-in-Unformed c =
-    told c.push_formula-in-Unformed.result c.args.file.now c.args.page.now _ _ _ c.in-Unformed.is
-    (two_added_by c.push_formula-in-Unformed.result c.args.page.now _ _ _ formula_line _ _ _ _ c.limit_word.ensures c.as_slice-in-Unformed.ensures
-    c.in_ok-push_status-in-Unformed.ensures c.push_formula-in-Unformed.ensures)
+    told c.push_formula.result c.args.file.now c.args.page.now _ _ _ c.in-Unformed.is
+    (two_added_by c.push_formula.result c.args.page.now _ _ _ formula_line _ _ _ _ c.limit_word.ensures c.as_slice-in-Unformed.ensures
+    c.in_ok-push_status-in-Unformed.ensures c.push_formula.ensures)
