@@ -1,1 +1,3 @@
 pub mod Refuted
+pub mod Saturation
+pub mod SaturationExamples

@@ -150,12 +150,7 @@ fn push_more_names(page: &mut Page, prefix: &[u8], names: &[NameLit]) -> Mem<()>
 }
 
 /// Adds a clause: its literals, then its names, and `$false` where there are neither.
-pub(crate) fn push_clause(
-    page: &mut Page,
-    symbols: &[Symbol],
-    prefix: &[u8],
-    clause: &Clause,
-) -> Mem<()>
+pub fn push_clause(page: &mut Page, symbols: &[Symbol], prefix: &[u8], clause: &Clause) -> Mem<()>
     requires { IsTrue (is_lower_word prefix.now) }
     ensures { IfOk result (λ _. page.new ≡ page.old ++ formula_text (clause_formula symbols.now prefix.now (clause_of clause.now))) }
 {

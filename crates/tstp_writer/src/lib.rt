@@ -16,6 +16,7 @@ mod sources;
 mod text;
 mod write;
 
+pub use clauses::push_clause;
 pub use lines::push_formula_name;
 pub use needed::cone;
 pub use page::Page;
