@@ -1,0 +1,3 @@
+-- A map of the proofs.
+pub mod ConclusionLemmas
+pub mod MoveLemmas

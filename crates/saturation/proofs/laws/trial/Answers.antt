@@ -1,0 +1,6 @@
+use Rattle.saturation.proofs.ConclusionLemmas.{conclusion-passes}
+use Rattle.saturation.proofs.MoveLemmas.{moves-reached, subsumed-covered, away-covered, tautology-covered}
+use Rattle.saturation.proofs.laws.trial.Goals as goal
+
+pub returns : goal.returns
+returns c = conclusion-passes
