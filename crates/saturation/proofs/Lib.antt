@@ -1,3 +1,4 @@
 -- A map of the proofs.
 pub mod ConclusionLemmas
 pub mod MoveLemmas
+pub mod CarriedLemmas
