@@ -2,3 +2,5 @@
 pub mod ConclusionLemmas
 pub mod MoveLemmas
 pub mod CarriedLemmas
+pub mod ArrivalLemmas
+pub mod TallyLemmas

@@ -2,6 +2,8 @@ use Rattle.saturation.proofs.ConclusionLemmas.{conclusion-passes}
 use Rattle.saturation.proofs.MoveLemmas.{moves-reached, subsumed-covered, away-covered, tautology-covered}
 use Rattle.saturation.proofs.laws.trial.Goals as goal
 use Rattle.saturation.proofs.CarriedLemmas.{registered-carried, dead-carried, counted-carried}
+use Rattle.saturation.proofs.ArrivalLemmas.{counts-open}
+use Rattle.saturation.proofs.TallyLemmas.{met-tallies, never-tallies}
 
 pub returns : goal.returns
 returns c = conclusion-passes
