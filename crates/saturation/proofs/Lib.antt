@@ -4,3 +4,5 @@ pub mod MoveLemmas
 pub mod CarriedLemmas
 pub mod ArrivalLemmas
 pub mod TallyLemmas
+pub mod RemovalLemmas
+pub mod EntryLemmas

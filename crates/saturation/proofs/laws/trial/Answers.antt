@@ -4,6 +4,8 @@ use Rattle.saturation.proofs.laws.trial.Goals as goal
 use Rattle.saturation.proofs.CarriedLemmas.{registered-carried, dead-carried, counted-carried}
 use Rattle.saturation.proofs.ArrivalLemmas.{counts-open}
 use Rattle.saturation.proofs.TallyLemmas.{met-tallies, never-tallies}
+use Rattle.saturation.proofs.RemovalLemmas.{all-proposed-held}
+use Rattle.saturation.proofs.EntryLemmas.{entries-settled, entries-nameless}
 
 pub returns : goal.returns
 returns c = conclusion-passes
