@@ -6,3 +6,4 @@ pub mod ArrivalLemmas
 pub mod TallyLemmas
 pub mod RemovalLemmas
 pub mod EntryLemmas
+pub mod MeetingLemmas

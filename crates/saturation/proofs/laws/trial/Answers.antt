@@ -6,6 +6,7 @@ use Rattle.saturation.proofs.ArrivalLemmas.{counts-open}
 use Rattle.saturation.proofs.TallyLemmas.{met-tallies, never-tallies}
 use Rattle.saturation.proofs.RemovalLemmas.{all-proposed-held}
 use Rattle.saturation.proofs.EntryLemmas.{entries-settled, entries-nameless}
+use Rattle.saturation.proofs.MeetingLemmas.{in-order, job-meets, met-more, met-later, told-now, told-later}
 
 pub returns : goal.returns
 returns c = conclusion-passes
