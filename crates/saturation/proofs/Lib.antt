@@ -7,3 +7,4 @@ pub mod TallyLemmas
 pub mod RemovalLemmas
 pub mod EntryLemmas
 pub mod MeetingLemmas
+pub mod StateLemmas
