@@ -2,7 +2,7 @@
 use Rattle.std.proofs.Common.{◌≡◌, ℕ, ◌≤◌, ◌<◌, Bool, true, false, ◌&&◌, List, [], ◌∷◌, ◌++◌, map, length, refl, ap, sym, ◌∙◌, subst, arith, if◌then◌else◌}
 use Rattle.std.specs.Prelude.{Option, None, Some, cond, is_none, nat_le, nat_lt, fold, find, filter_map}
 use Rattle.std.specs.List.{AllByRecursion, cons_option}
-use Rattle.std.proofs.lemmas.Bool.{true≢false, and_parts, ltb-true, lt-ltb}
+use Rattle.std.proofs.lemmas.Bool.{true≢false, and_parts, ltb-true, lt-ltb, le-leb}
 use Rattle.std.proofs.lemmas.Option.{none-some, same_Some}
 use Rattle.fol_base.specs.Clause.{TreeClause}
 use Rattle.fol_base.specs.Symbols.{FunctionSymbols}
@@ -151,3 +151,14 @@ module _ {is_predicate : ℕ → Bool} (functions : FunctionSymbols is_predicate
       (fold (result_comes options.split) s results)
       (λ reached h. absurd (spends-ends options.split results s h))
       (λ few. results-open options.split results s unsplit no_names known before)
+
+-- a counting that reaches the limit
+pub counts-ends :
+    (options : Options) (keys : List Key) (results : List (List Line)) (r : PoolRecord)
+    → options.inferences ≤ length (r.counted ++ keys) → (counts options keys results r).ended ≡ None → ⊥
+counts-ends options keys results r reached =
+    let s : PoolRecord = record r { counted = r.counted ++ keys } in
+    by-test (λ (t : PoolRecord). t.ended ≡ None → ⊥) (nat_le options.inferences (length s.counted)) (spends options.split (find refutes results) s)
+    (fold (result_comes options.split) s results)
+    (λ is. spends-ends options.split results s)
+    (λ few. absurd (true≢false (sym (le-leb options.inferences (length s.counted) reached) ∙ few)))

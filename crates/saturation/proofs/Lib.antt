@@ -8,3 +8,5 @@ pub mod RemovalLemmas
 pub mod EntryLemmas
 pub mod MeetingLemmas
 pub mod StateLemmas
+pub mod ReturnLemmas
+pub mod HistoryLemmas

@@ -8,6 +8,8 @@ use Rattle.saturation.proofs.RemovalLemmas.{all-proposed-held}
 use Rattle.saturation.proofs.EntryLemmas.{entries-settled, entries-nameless}
 use Rattle.saturation.proofs.MeetingLemmas.{in-order, job-meets, met-more, met-later, told-now, told-later}
 use Rattle.saturation.proofs.StateLemmas.{claimed-state, retold-told, registered-pass, registered-formed, without-state}
+use Rattle.saturation.proofs.ReturnLemmas.{returned-state}
+use Rattle.saturation.proofs.HistoryLemmas.{history-reaches, started-state, started-never}
 
 pub returns : goal.returns
 returns c = conclusion-passes
