@@ -10,3 +10,4 @@ pub mod MeetingLemmas
 pub mod StateLemmas
 pub mod ReturnLemmas
 pub mod HistoryLemmas
+pub mod OutcomeLemmas

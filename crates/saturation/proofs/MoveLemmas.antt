@@ -48,7 +48,7 @@ module _ {is_predicate : ℕ → Bool} (functions : FunctionSymbols is_predicate
       Covered-across is_predicate functions Middle Holds g (ground_instances_are_ground is_predicate functions c g made)
       (λ d middle h of_d. each d middle h of_d) (covers g made)
 
-all-in : {X : Type 0} (P : X → Type 0) (xs : List X) → ((x : X) → In x xs → P x) → All P xs
+pub all-in : {X : Type 0} (P : X → Type 0) (xs : List X) → ((x : X) → In x xs → P x) → All P xs
 all-in P xs h = λ k d in_range. h (get_or xs k d) (In-at xs k d in_range)
 
 -- ---- moves

@@ -1,2 +1,3 @@
 pub mod Cover
+pub mod Carried
 pub mod Laws

@@ -10,6 +10,7 @@ use Rattle.saturation.proofs.MeetingLemmas.{in-order, job-meets, met-more, met-l
 use Rattle.saturation.proofs.StateLemmas.{claimed-state, retold-told, registered-pass, registered-formed, without-state}
 use Rattle.saturation.proofs.ReturnLemmas.{returned-state}
 use Rattle.saturation.proofs.HistoryLemmas.{history-reaches, started-state, started-never}
+use Rattle.saturation.proofs.OutcomeLemmas.{members-saturated}
 
 pub returns : goal.returns
 returns c = conclusion-passes
