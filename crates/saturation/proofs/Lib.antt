@@ -11,3 +11,4 @@ pub mod StateLemmas
 pub mod ReturnLemmas
 pub mod HistoryLemmas
 pub mod OutcomeLemmas
+pub mod LawLemmas
