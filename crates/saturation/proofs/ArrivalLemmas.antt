@@ -17,11 +17,12 @@ use Rattle.pool_core.specs.Counting.{comes_by, result_comes, is_refuting, refute
 use Rattle.pool_core.specs.declared.options.Options.{Options}
 use Rattle.pool_core.specs.declared.outcome.Outcome.{Outcome}
 use Rattle.pool_core.specs.declared.outcome.Outcome.TheVariants.{Refuted, Spent}
-use Rattle.pool_core.proofs.DeathLemmas.{Keeps, registers-keeps}
+use Rattle.pool_core.proofs.DeathLemmas.{registers-keeps}
 use Rattle.pool_core.proofs.FrameLemmas.{result-registers}
 use Rattle.pool_core.proofs.JoinedLemmas.{by-test}
 use Rattle.pool_core.proofs.SoundLemmas.{open-is}
-use Rattle.saturation.proofs.CarriedLemmas.{Known, Open, lived, registered-carried, living-carried}
+use Rattle.saturation.proofs.VictimLemmas.{Victims, victims-keep}
+use Rattle.saturation.proofs.CarriedLemmas.{Open, lived, registered-carried, living-carried}
 
 -- the clauses to which results lead
 abbrev pub results_due : List (List Line) → List TreeClause
@@ -37,13 +38,6 @@ not-open ended o is is_open = none-some o (sym is_open ∙ is)
 
 pub is-closed : (ended : Option Outcome) → is_none ended ≡ false → ended ≡ None → ⊥
 is-closed ended closed is_open = true≢false (sym (ap is_none is_open) ∙ closed)
-
--- ---- what died was registered
-
-pub known-keeps : (r s : PoolRecord) → Keeps r s → Known r.registered r.deaths → Known s.registered s.deaths
-known-keeps r s keeps known n died =
-    let less : n < length r.registered = ltb-true n (length r.registered) (known n (ap (λ (ds : List Death). has_died ds n) (sym keeps.deaths) ∙ died)) in
-    lt-ltb n (length s.registered) (omega (arith, less, keeps.clauses))
 
 -- ---- a limit that is reached
 
@@ -90,9 +84,9 @@ module _ {is_predicate : ℕ → Bool} (functions : FunctionSymbols is_predicate
 
   pub comes-open :
       (split : Bool) (lines : List Line) (c : TreeClause) (due : List TreeClause) (r : PoolRecord)
-      → split ≡ false → c.names ≡ [] → Known r.registered r.deaths → Open functions mode inputs r (c ∷ due)
+      → split ≡ false → c.names ≡ [] → Victims r → Open functions mode inputs r (c ∷ due)
       → OpenWith due (comes split lines c r)
-  comes-open split lines c due r unsplit no_names known is_open =
+  comes-open split lines c due r unsplit no_names victims is_open =
       subst (λ b. OpenWith due (comes b lines c r)) (sym unsplit)
       (by-test (OpenWith due) (has_none c.literals) (empty_comes c more) (if has_living r c then r else registered_last c more)
       (λ none.
@@ -102,7 +96,7 @@ module _ {is_predicate : ℕ → Bool} (functions : FunctionSymbols is_predicate
       by-test (OpenWith due) (has_living r c) r (registered_last c more)
       (λ has h. living-carried functions mode inputs r.registered r.deaths r.counted r.set_aside c due (lived r c no_names has) is_open)
       (λ new h.
-      registered-carried functions mode inputs r.registered r.deaths r.counted r.set_aside (record { clause = c; line = last_number more }) due known some
+      registered-carried functions mode inputs r.registered r.deaths r.counted r.set_aside (record { clause = c; line = last_number more }) due victims some
       is_open)))
     where
       more : PoolRecord
@@ -110,9 +104,9 @@ module _ {is_predicate : ℕ → Bool} (functions : FunctionSymbols is_predicate
 
   result-open :
       (split : Bool) (lines : List Line) (rest : List (List Line)) (r : PoolRecord)
-      → split ≡ false → LeadsToNoNames lines → Known r.registered r.deaths → OpenWith (results_due (lines ∷ rest)) r
+      → split ≡ false → LeadsToNoNames lines → Victims r → OpenWith (results_due (lines ∷ rest)) r
       → OpenWith (results_due rest) (result_comes split r lines)
-  result-open split lines rest r unsplit no_names known before =
+  result-open split lines rest r unsplit no_names victims before =
       by-test (OpenWith (results_due rest)) (is_none r.ended) (comes_by split lines (result_of lines) r) r
       (λ is_open. by (result_of lines) refl (before (open-is r.ended is_open)))
       (λ closed h. absurd (is-closed r.ended closed h))
@@ -122,19 +116,19 @@ module _ {is_predicate : ℕ → Bool} (functions : FunctionSymbols is_predicate
           → OpenWith (results_due rest) (comes_by split lines o r)
       by None led is_open = λ h. subst (λ o. Open functions mode inputs r (cons_option o (results_due rest))) led is_open
       by (Some c) led is_open =
-          comes-open split (map (pool_line r) lines) c (results_due rest) r unsplit (no_names c led) known
+          comes-open split (map (pool_line r) lines) c (results_due rest) r unsplit (no_names c led) victims
           (subst (λ o. Open functions mode inputs r (cons_option o (results_due rest))) led is_open)
 
   pub results-open :
       (split : Bool) (results : List (List Line)) (r : PoolRecord)
-      → split ≡ false → AllByRecursion LeadsToNoNames results → Known r.registered r.deaths → OpenWith (results_due results) r
+      → split ≡ false → AllByRecursion LeadsToNoNames results → Victims r → OpenWith (results_due results) r
       → OpenWith [] (fold (result_comes split) r results)
-  results-open split [] r unsplit no_names known before = before
-  results-open split (lines ∷ rest) r unsplit no_names known before =
+  results-open split [] r unsplit no_names victims before = before
+  results-open split (lines ∷ rest) r unsplit no_names victims before =
       let s : PoolRecord = result_comes split r lines in
       results-open split rest s unsplit no_names.1
-      (known-keeps r s (registers-keeps r s (result-registers split r lines)) known)
-      (result-open split lines rest r unsplit no_names.0 known before)
+      (victims-keep r s (registers-keeps r s (result-registers split r lines)) victims)
+      (result-open split lines rest r unsplit no_names.0 victims before)
 
   -- ---- countings
 
@@ -143,14 +137,14 @@ module _ {is_predicate : ℕ → Bool} (functions : FunctionSymbols is_predicate
 
   pub counts-open :
       (options : Options) (keys : List Key) (results : List (List Line)) (r : PoolRecord)
-      → options.split ≡ false → AllByRecursion LeadsToNoNames results → Known r.registered r.deaths → OpenWith (results_due results) (with_keys keys r)
+      → options.split ≡ false → AllByRecursion LeadsToNoNames results → Victims r → OpenWith (results_due results) (with_keys keys r)
       → OpenWith [] (counts options keys results r)
-  counts-open options keys results r unsplit no_names known before =
+  counts-open options keys results r unsplit no_names victims before =
       let s : PoolRecord = with_keys keys r in
       by-test (OpenWith []) (nat_le options.inferences (length s.counted)) (spends options.split (find refutes results) s)
       (fold (result_comes options.split) s results)
       (λ reached h. absurd (spends-ends options.split results s h))
-      (λ few. results-open options.split results s unsplit no_names known before)
+      (λ few. results-open options.split results s unsplit no_names victims before)
 
 -- a counting that reaches the limit
 pub counts-ends :

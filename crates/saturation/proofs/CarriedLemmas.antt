@@ -24,6 +24,7 @@ use Rattle.pool_core.proofs.StartLemmas.{clause_eq-says}
 use Rattle.pool_core.proofs.StateLemmas.{clause-numbered, item-at}
 use Rattle.saturation.specs.Cover.{CoversEach}
 use Rattle.saturation.proofs.MoveLemmas.{each-held, each-across}
+use Rattle.saturation.proofs.VictimLemmas.{VictimsRegistered}
 
 -- ---- what is held
 
@@ -38,10 +39,6 @@ pub record Living (registered : List Registered) (deaths : List Death) (c : Tree
 -- it lives, or is due
 abbrev pub HeldBy : List Registered → List Death → List TreeClause → TreeClause → Type 0
 HeldBy registered deaths due c = Living registered deaths c ⊎ In c due
-
--- what died was registered
-abbrev pub Known : List Registered → List Death → Type 0
-Known registered deaths = (n : ℕ) → has_died deaths n ≡ true → nat_lt n (length registered) ≡ true
 
 -- ---- lists of clauses
 
@@ -79,13 +76,13 @@ alive-more registered more deaths n is =
 
 alive-last :
     (registered : List Registered) (deaths : List Death) (x : Registered)
-    → Known registered deaths → alive (registered ++ x ∷ []) deaths (length registered) ≡ true
-alive-last registered deaths x known =
+    → VictimsRegistered registered deaths → alive (registered ++ x ∷ []) deaths (length registered) ≡ true
+alive-last registered deaths x victims =
     let last : ℕ = length registered in
     and_from (nat_lt last (length (registered ++ x ∷ []))) (not (has_died deaths last))
     (lt-ltb last (length (registered ++ x ∷ [])) (omega (arith, length-append registered (x ∷ []))))
     (not_from_false (has_died deaths last)
-    (false_from_ne_true (has_died deaths last) (λ died. let less : last < last = ltb-true last last (known last died) in absurd (omega (arith, less)))))
+    (false_from_ne_true (has_died deaths last) (λ died. let less : last < last = ltb-true last last (victims last died) in absurd (omega (arith, less)))))
 
 -- a number that lives and isn't the victim's lives on
 pub alive-on :
@@ -198,14 +195,14 @@ module _ {is_predicate : ℕ → Bool} (functions : FunctionSymbols is_predicate
   -- it is registered
   pub registered-carried :
       (registered : List Registered) (deaths : List Death) (counted set_aside : List Key) (x : Registered) (due : List TreeClause)
-      → Known registered deaths → has_none x.clause.literals ≡ false
+      → VictimsRegistered registered deaths → has_none x.clause.literals ≡ false
       → IsCarried registered counted set_aside (HeldBy registered deaths (x.clause ∷ due))
       → IsCarried (registered ++ x ∷ []) counted set_aside (HeldBy (registered ++ x ∷ []) deaths due)
-  registered-carried registered deaths counted set_aside x due known some carried =
+  registered-carried registered deaths counted set_aside x due victims some carried =
       let now : List Registered = registered ++ x ∷ [] in
       let Holds : TreeClause → Type 0 = HeldBy now deaths due in
       let new : Living now deaths x.clause =
-      record { number = length registered; lives = alive-last registered deaths x known; there = lookup-last registered x } in
+      record { number = length registered; lives = alive-last registered deaths x victims; there = lookup-last registered x } in
       let held : (d : TreeClause) → HeldBy registered deaths (x.clause ∷ due) d → Holds d = λ d h.
       ⊎_elim
       (λ (living : Living registered deaths d).

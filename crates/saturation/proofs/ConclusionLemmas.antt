@@ -24,7 +24,7 @@ use Rattle.kernel_steps.specs.Symbols.{symbols_pass, all_symbols_pass, literal_s
 use Rattle.kernel_steps.specs.declared.key.Key.{Key}
 use Rattle.kernel_steps.specs.declared.key.Key.TheVariants.{Para, Refl, Factor, Replaced}
 use Rattle.kernel_steps.proofs.SymbolLemmas.{passes-argument, side-passes, superposed-passes}
-use Rattle.saturation.specs.Laws.{ScrubTest}
+use Rattle.saturation.specs.Laws.{InferencesKeepSymbols}
 
 subterm-passes :
     (test : ℕ → ℕ → Bool) (place : List ℕ) (t u : Tree) → subterm place t ≡ Some u → symbols_pass test t ≡ true → symbols_pass test u ≡ true
@@ -211,12 +211,12 @@ module _ (test : ℕ → ℕ → Bool) where
 
 -- ---- of each name
 
-pub conclusion-passes : ScrubTest
-conclusion-passes is_predicate mode test clauses (Para n i s m j z place) c pass is =
+pub inferences_keep_symbols : InferencesKeepSymbols
+inferences_keep_symbols is_predicate mode test clauses (Para n i s m j z place) c pass is =
     superposition-passes test is_predicate mode is.first_clause i s is.second_clause j z place c (pass n is.first_clause is.first_there)
     (pass m is.second_clause is.second_there) is.infers
-conclusion-passes is_predicate mode test clauses (Refl n i) c pass is =
+inferences_keep_symbols is_predicate mode test clauses (Refl n i) c pass is =
     resolution-passes test mode is.clause i c (pass n is.clause is.there) is.infers
-conclusion-passes is_predicate mode test clauses (Factor n i s j z) c pass is =
+inferences_keep_symbols is_predicate mode test clauses (Factor n i s j z) c pass is =
     factoring-passes test is_predicate mode is.clause i s j z c (pass n is.clause is.there) is.infers
-conclusion-passes is_predicate mode test clauses (Replaced n) c pass is = absurd is
+inferences_keep_symbols is_predicate mode test clauses (Replaced n) c pass is = absurd is

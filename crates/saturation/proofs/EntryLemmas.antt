@@ -34,7 +34,7 @@ use Rattle.pool_core.specs.declared.batch.Redundancy.TheVariants.{Tautology, Sub
 use Rattle.pool_core.proofs.CountedLemmas.{Lookup}
 use Rattle.pool_core.proofs.FormedLemmas.{IsFormed}
 use Rattle.saturation.specs.Cover.{CoversEach}
-use Rattle.saturation.proofs.ConclusionLemmas.{conclusion-passes}
+use Rattle.saturation.proofs.ConclusionLemmas.{inferences_keep_symbols}
 use Rattle.saturation.proofs.MoveLemmas.{CalculusLaws, Beside, each-held, each-more, each-across, moves-reached, tautology-covered, subsumed-covered, away-covered}
 use Rattle.saturation.proofs.CarriedLemmas.{HeldBy, IsCarried, IsSettled, inference-more}
 use Rattle.saturation.proofs.ArrivalLemmas.{LeadsToNoNames, results_due}
@@ -43,7 +43,7 @@ use Rattle.saturation.proofs.RemovalLemmas.{among-parts, lines-nameless}
 -- ---- inferences without their sizes
 
 module _ (is_predicate : ℕ → Bool) (mode : SelectionMode) where
-  sized-inference :
+  pub sized-inference :
       (clauses : ℕ → Option TreeClause) (key : Key) (c : TreeClause) (heavy : Bool)
       → IsSizedInference is_predicate mode clauses key c heavy → IsInference is_predicate mode clauses key c
   sized-inference clauses (Para first i s second j z place) c heavy is = record {
@@ -97,7 +97,7 @@ module _
 
   told-passes :
       (key : Key) (c : TreeClause) → IsInference usage.is_predicate the_mode (Lookup registered) key c → HasSymbolsOf functions c
-  told-passes key c is = conclusion-passes usage.is_predicate the_mode (is_allowed functions) (Lookup registered) key c symbols is
+  told-passes key c is = inferences_keep_symbols usage.is_predicate the_mode (is_allowed functions) (Lookup registered) key c symbols is
 
   redundant-covered :
       (c : TreeClause) (redundancy : Redundancy) → HasSymbolsOf functions c → IsRedundant usage.is_predicate clauses c redundancy → CoversEach functions Used c

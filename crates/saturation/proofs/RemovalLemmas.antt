@@ -32,15 +32,16 @@ use Rattle.pool_core.specs.declared.batch.Redundancy.{Redundancy}
 use Rattle.pool_core.specs.declared.batch.Redundancy.TheVariants.{Tautology, Subsumed}
 use Rattle.pool_core.specs.declared.batch.Removal.{Removal}
 use Rattle.pool_core.proofs.CountedLemmas.{Lookup, lookup-more}
-use Rattle.pool_core.proofs.DeathLemmas.{among-pass, replaced-keeps}
+use Rattle.pool_core.proofs.DeathLemmas.{among-pass}
 use Rattle.pool_core.proofs.FormedLemmas.{IsFormed, result-formed}
 use Rattle.pool_core.proofs.GrowthLemmas.{all-proposed-grows}
 use Rattle.pool_core.proofs.JoinedLemmas.{by-test}
 use Rattle.pool_core.proofs.SoundLemmas.{open-is}
 use Rattle.saturation.specs.Cover.{CoversEach}
 use Rattle.saturation.proofs.MoveLemmas.{CalculusLaws, Beside, each-more, moves-reached, tautology-covered, subsumed-covered, away-covered}
-use Rattle.saturation.proofs.CarriedLemmas.{alive, Living, HeldBy, Known, Open, alive-on, dead-carried, keys-carried}
-use Rattle.saturation.proofs.ArrivalLemmas.{LeadsToNoNames, OpenWith, known-keeps, counts-open}
+use Rattle.saturation.proofs.CarriedLemmas.{alive, Living, HeldBy, Open, alive-on, dead-carried, keys-carried}
+use Rattle.saturation.proofs.VictimLemmas.{Victims, victims-die, effect-parts, living-registered, proposed-victims}
+use Rattle.saturation.proofs.ArrivalLemmas.{LeadsToNoNames, OpenWith, counts-open}
 
 -- ---- clauses that are looked up
 
@@ -52,21 +53,6 @@ among-parts test clauses n c there = by (test n) refl there
     by : (b : Bool) → test n ≡ b → (if b then clauses n else None) ≡ Some c → (test n ≡ true) × (clauses n ≡ Some c)
     by true is h = (is, h)
     by false is h = absurd (none-some c h)
-
--- ---- what died was registered
-
-known-dies :
-    (registered : List Registered) (deaths : List Death) (d : Death)
-    → Known registered deaths → nat_lt d.victim (length registered) ≡ true → Known registered (deaths ++ d ∷ [])
-known-dies registered deaths d known below n died =
-    ⊎_elim
-    (λ (before : has_died deaths n ≡ true). known n before)
-    (λ (now : ((n == d.victim) || false) ≡ true).
-    ⊎_elim
-    (λ (same : (n == d.victim) ≡ true). ap (λ k. nat_lt k (length registered)) (eqb-true n d.victim same) ∙ below)
-    (λ (none : false ≡ true). absurd (true≢false (sym none)))
-    (or_cases (n == d.victim) false now))
-    (or_cases (has_died deaths n) ((n == d.victim) || false) (sym (list_any-append (λ (e : Death). n == e.victim) deaths (d ∷ [])) ∙ died))
 
 module _
     (laws : CalculusLaws) (usage : SymbolUse) (functions : FunctionSymbols usage.is_predicate) (inputs : List TreeClause)
@@ -162,16 +148,16 @@ module _
 
   pub removed-open :
       (m : Removal) (r : PoolRecord)
-      → KeepsTold r → Known r.registered r.deaths → Open functions the_mode inputs r [] → lives r m.victim ≡ true → list_all (lives r) m.justifiers ≡ true
+      → KeepsTold r → Victims r → Open functions the_mode inputs r [] → lives r m.victim ≡ true → list_all (lives r) m.justifiers ≡ true
       → IsRightRemoval usage.is_predicate options (Lookup told) j m
       → OpenWith functions the_mode inputs [] (removed options m r)
-  removed-open m r kept known is_open victim_lives live right = by m.fate right
+  removed-open m r kept victims is_open victim_lives live right = by m.fate right
     where
       d : Death
       d = the_death m r
 
       below : nat_lt m.victim (length r.registered) ≡ true
-      below = (and_parts (nat_lt m.victim (length r.registered)) (not (has_died r.deaths m.victim)) victim_lives).0
+      below = living-registered r m.victim victim_lives
 
       by :
           (fate : Fate) → IsRightRemovalBy usage.is_predicate options (Lookup told) j m.victim m.justifiers fate
@@ -187,7 +173,7 @@ module _
           keys-carried functions the_mode inputs r.registered r.counted r.set_aside keys (HeldBy r.registered (r.deaths ++ d ∷ []) due)
           (λ key there. ⊎_elim (λ (same : key ≡ Replaced m.victim). inr (inl (m.victim, same))) (λ none. absurd none) there) dead in
           counts-open functions the_mode inputs options keys (lines ∷ []) (dies m.victim m.justifiers r) unsplit
-          (lines-nameless lines right.are_lines, tt) (known-dies r.registered r.deaths d known below)
+          (lines-nameless lines right.are_lines, tt) (victims-die r.registered r.deaths d victims below)
           (λ h.
           subst (λ o. Open functions the_mode inputs (record r { deaths = r.deaths ++ d ∷ []; counted = r.counted ++ keys }) (cons_option o []))
           (sym right.reduced.led) counted)
@@ -197,36 +183,19 @@ module _
           (victim-dropped r.registered r.deaths kept d live redundancy right) is_open
       by Heavy right = absurd right
 
-  pub removed-known : (m : Removal) (r : PoolRecord) → Known r.registered r.deaths → lives r m.victim ≡ true → Known (removed options m r).registered (removed options m r).deaths
-  removed-known m r known victim_lives =
-      known-keeps (dies m.victim m.justifiers r) (removed options m r) (replaced-keeps options m.victim m.fate (dies m.victim m.justifiers r))
-      (known-dies r.registered r.deaths (the_death m r) known
-      (and_parts (nat_lt m.victim (length r.registered)) (not (has_died r.deaths m.victim)) victim_lives).0)
-
   -- ---- proposed removals
 
-  record TakesEffect (r : PoolRecord) (m : Removal) : Type 0 where
-    is_open : r.ended ≡ None
-    victim : lives r m.victim ≡ true
-    justifiers : list_all (lives r) m.justifiers ≡ true
-
-  effect-parts : (r : PoolRecord) (m : Removal) → takes_effect r m ≡ true → TakesEffect r m
-  effect-parts r m effect =
-      let first = and_parts (is_none r.ended) (lives r m.victim && list_all (lives r) m.justifiers) effect in
-      let rest = and_parts (lives r m.victim) (list_all (lives r) m.justifiers) first.1 in
-      record { is_open = open-is r.ended first.0; victim = rest.0; justifiers = rest.1 }
-
-  -- what is open and known after removals
+  -- what is open after removals, and what they keep
   pub record IsHeld (r : PoolRecord) : Type 0 where
     pub kept : KeepsTold r
-    pub known : Known r.registered r.deaths
+    pub victims : Victims r
     pub opened : OpenWith functions the_mode inputs [] r
 
   pub all-proposed-held :
       (ms : List Removal) (r : PoolRecord)
       → AllByRecursion (IsRightRemoval usage.is_predicate options (Lookup told) j) ms → IsHeld r → IsHeld (fold (proposed options) r ms)
   all-proposed-held [] r right held = held
-  all-proposed-held (m ∷ ms) r right held = all-proposed-held ms s right.1 (record { kept = s_kept; known = s_known; opened = s_open })
+  all-proposed-held (m ∷ ms) r right held = all-proposed-held ms s right.1 (record { kept = s_kept; victims = s_victims; opened = s_open })
     where
       s : PoolRecord
       s = proposed options r m
@@ -234,13 +203,11 @@ module _
       s_open : OpenWith functions the_mode inputs [] s
       s_open =
           by-test (OpenWith functions the_mode inputs []) (takes_effect r m) (removed options m r) r
-          (λ effect. let is = effect-parts r m effect in removed-open m r held.kept held.known (held.opened is.is_open) is.victim is.justifiers right.0)
+          (λ effect. let is = effect-parts r m effect in removed-open m r held.kept held.victims (held.opened is.is_open) is.victim is.justifiers right.0)
           (λ none. held.opened)
 
-      s_known : Known s.registered s.deaths
-      s_known =
-          by-test (λ (t : PoolRecord). Known t.registered t.deaths) (takes_effect r m) (removed options m r) r
-          (λ effect. removed-known m r held.known (effect-parts r m effect).victim) (λ none. held.known)
+      s_victims : Victims s
+      s_victims = proposed-victims options m r held.victims
 
       s_kept : KeepsTold s
       s_kept n c there =

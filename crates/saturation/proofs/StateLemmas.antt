@@ -1,37 +1,25 @@
--- The state of a pool that is open: what is carried, what jobs are told, and what clauses met. Each event but a return keeps it.
+-- The state of a pool that is open, beside what is covered: who died, what jobs are told, and what clauses met. Each event but a return keeps
+-- it.
 use Rattle.std.proofs.Common.{◌≡◌, ℕ, ◌+◌, ◌-◌, ◌<◌, ◌≤◌, Bool, true, false, not, ◌&&◌, ◌==◌, List, [], ◌∷◌, ◌++◌, length, map, append-nil, refl, ap, sym, ◌∙◌, subst, arith, if◌then◌else◌}
 use Rattle.std.specs.Prelude.{Option, None, Some, nat_lt, filter, slice_get}
 use Rattle.std.specs.List.{list_all, AllByRecursion}
 use Rattle.std.proofs.lemmas.Bool.{true≢false}
 use Rattle.std.proofs.lemmas.Option.{none-some}
-use Rattle.fol_base.specs.Clause.{TreeClause}
-use Rattle.fol_base.specs.Literal.{clause_of}
-use Rattle.fol_base.specs.Symbols.{FunctionSymbols}
 use Rattle.fol_base.specs.Selection.{SelectionMode}
-use Rattle.fol_base.specs.WellFormed.{SymbolUse}
-use Rattle.fol_base.proofs.TestLemmas.{option_map-some, list_all-item}
 use Rattle.kernel_steps.specs.Split.{has_number}
-use Rattle.kernel_steps.specs.Symbols.{clause_symbols_pass}
 use Rattle.kernel_steps.specs.declared.key.Key.{Key}
-use Rattle.kernel_steps.specs.declared.step.Line.{Line}
 use Rattle.literal_selection.specs.Mode.{mode_of}
-use Rattle.calculus.specs.Symbols.{is_allowed, HasSymbolsOf}
 use Rattle.pool_core.specs.Record.{PoolRecord, Registered, Death, GivenJob, without_job}
 use Rattle.pool_core.specs.Claiming.{new_job, next_given, claimed_by}
 use Rattle.pool_core.specs.Replay.{retold, with_events, after}
-use Rattle.pool_core.specs.Wholeness.{IsWhole}
 use Rattle.pool_core.specs.declared.options.Options.{Options}
 use Rattle.pool_core.specs.declared.event.Event.{Event}
 use Rattle.pool_core.specs.declared.event.Event.TheVariants.{Claim}
 use Rattle.pool_core.proofs.ClaimLemmas.{positions_with, claim_after, after-claim}
-use Rattle.pool_core.proofs.CountedLemmas.{Lookup}
-use Rattle.pool_core.proofs.FormedLemmas.{IsFormed}
 use Rattle.pool_core.proofs.FrameLemmas.{by-if}
 use Rattle.pool_core.proofs.HandLemmas.{all-filter, all-end, all-weaker}
 use Rattle.pool_core.proofs.PlaceLemmas.{Placed, has-right, has-first}
-use Rattle.pool_core.proofs.PoolLineLemmas.{Sound}
-use Rattle.pool_core.proofs.StartLemmas.{all-at}
-use Rattle.saturation.proofs.CarriedLemmas.{Known, Open}
+use Rattle.saturation.proofs.VictimLemmas.{Victims}
 use Rattle.saturation.proofs.MeetingLemmas.{IsToldRight, HaveMet, told-later, told-now, met-later}
 
 -- ---- lists that are continued
@@ -65,50 +53,28 @@ met-grown is_predicate mode cs xs ps qs active actives ds es ks ls within clause
     (subst (λ zs. HaveMet is_predicate mode (cs ++ clauses.0) (ps ++ places.0) active (ds ++ deaths.0) zs) (sym counted.1)
     (met-later is_predicate mode cs clauses.0 ps places.0 active ds deaths.0 ks counted.0 within met)))))
 
-module _
-    (usage : SymbolUse) (functions : FunctionSymbols usage.is_predicate) (inputs : List TreeClause)
-    (inputs_pass : list_all (clause_symbols_pass (is_allowed functions)) inputs ≡ true) (options : Options) where
+module _ (is_predicate : ℕ → Bool) (options : Options) where
   abbrev the_mode : SelectionMode
   the_mode = mode_of options.select
-
-  -- ---- registered clauses
-
-  pub registered-pass :
-      (r : PoolRecord) → Sound usage inputs r → (n : ℕ) (c : TreeClause) → Lookup r.registered n ≡ Some c → HasSymbolsOf functions c
-  registered-pass r sound n c there =
-      option_map-some (λ (x : Registered). x.clause) (slice_get r.registered n) c there λ x x_is gives.
-      let line = sound.lined n x x_is in
-      subst (HasSymbolsOf functions) (line.gives ∙ gives)
-      (list_all-item (λ (l : Line). clause_symbols_pass (is_allowed functions) (clause_of l.clause)) r.lines x.line line.line line.there
-      (sound.symbols (is_allowed functions) refl inputs_pass).0)
-
-  pub registered-formed :
-      (r : PoolRecord) → Sound usage inputs r → (n : ℕ) (c : TreeClause) → Lookup r.registered n ≡ Some c → IsFormed usage c
-  registered-formed r sound n c there =
-      option_map-some (λ (x : Registered). x.clause) (slice_get r.registered n) c there λ x x_is gives.
-      let whole = all-at (λ (y : Registered). IsWhole usage y.clause) r.registered n x sound.whole x_is in
-      subst (IsFormed usage) gives (record { literals = whole.formed; no_names = whole.no_names })
 
   -- ---- states
 
   pub record IsState (r : PoolRecord) : Type 0 where
-    pub known : Known r.registered r.deaths
-    pub carried : Open functions the_mode inputs r []
+    pub victims : Victims r
     pub told : AllByRecursion (IsToldRight options.inferences r.positions r.deaths r.counted) r.given
-    pub met : HaveMet usage.is_predicate the_mode r.registered r.positions r.active r.deaths r.counted
+    pub met : HaveMet is_predicate the_mode r.registered r.positions r.active r.deaths r.counted
 
   abbrev pub HasState : PoolRecord → Type 0
   HasState r = r.ended ≡ None → IsState r
 
   -- what an event leaves that changes nothing of it
   pub same-state : (r : PoolRecord) (events : ℕ) → IsState r → IsState (with_events events r)
-  same-state r events state = record { known = state.known; carried = state.carried; told = state.told; met = state.met }
+  same-state r events state = record { victims = state.victims; told = state.told; met = state.met }
 
   -- a job is no longer out
   pub without-state : (r : PoolRecord) (job : ℕ) → IsState r → IsState (record r { given = without_job job r.given })
   without-state r job state = record {
-    known = state.known;
-    carried = state.carried;
+    victims = state.victims;
     told = all-filter (IsToldRight options.inferences r.positions r.deaths r.counted) (λ (j : GivenJob). not (j.job == job)) r.given state.told;
     met = state.met;
   }
@@ -148,15 +114,14 @@ module _
   given-state job n r ps by before within state =
       let new : GivenJob = new_job options job n (record r { positions = ps }) in
       record {
-        known = state.known;
-        carried = state.carried;
+        victims = state.victims;
         told =
             all-end (IsToldRight options.inferences ps r.deaths r.counted) r.given new
             (told-grown options.inferences r.positions ps r.deaths r.deaths r.counted r.counted r.given by.longer (extends-same r.deaths r.deaths refl)
             (extends-same r.counted r.counted refl) state.told)
             (told-now options.inferences r.registered ps r.deaths r.counted new by.there within refl (omega arith));
         met =
-            met-grown usage.is_predicate the_mode r.registered r.registered r.positions ps r.active r.active r.deaths r.deaths r.counted r.counted before
+            met-grown is_predicate the_mode r.registered r.registered r.positions ps r.active r.active r.deaths r.deaths r.counted r.counted before
             (extends-same r.registered r.registered refl) by.longer refl (extends-same r.deaths r.deaths refl) (extends-same r.counted r.counted refl)
             state.met;
       }

@@ -1,5 +1,4 @@
--- What the work of a batch keeps: the counted list grows, and a pool that is open after it was open before. No outcome is fixed but refuted
--- and spent.
+-- What the work of a batch keeps: the counted list grows, and a pool that is open after it was open before.
 use Rattle.std.proofs.Common.{◌≡◌, ℕ, Bool, true, false, List, [], ◌∷◌, ◌++◌, length, append-nil, refl, ap, sym, ◌∙◌, subst, inl, inr, ◌⊎◌, ⊎_elim}
 use Rattle.std.specs.Prelude.{Option, None, Some, is_none, nat_le, fold, find}
 use Rattle.kbo_order.proofs.MemberLemmas.{In, In-left}
@@ -11,7 +10,7 @@ use Rattle.pool_core.specs.Counting.{refutes, spends, counts, result_comes, keys
 use Rattle.pool_core.specs.Returning.{dies, replaced, removed, takes_effect, proposed, becomes_active, sets_aside, worked}
 use Rattle.pool_core.specs.declared.options.Options.{Options}
 use Rattle.pool_core.specs.declared.outcome.Outcome.{Outcome}
-use Rattle.pool_core.specs.declared.outcome.Outcome.TheVariants.{Refuted, Saturated, Spent}
+use Rattle.pool_core.specs.declared.outcome.Outcome.TheVariants.{Refuted, Spent}
 use Rattle.pool_core.specs.declared.batch.Entry.{Entry}
 use Rattle.pool_core.specs.declared.batch.Fate.{Fate}
 use Rattle.pool_core.specs.declared.batch.Fate.TheVariants.{Kept, Dropped, Heavy}
@@ -56,20 +55,6 @@ open-before r s so_far is_open =
 -- what was counted stays
 pub counted-stays : (r s : PoolRecord) → Tallies r s → (key : Key) → In key r.counted → In key s.counted
 counted-stays r s so_far key there = subst (λ ks. In key ks) (sym so_far.counted.1) (In-left key r.counted so_far.counted.0 there)
-
-refuted-saturated : Some Refuted ≡ Some Saturated → ⊥
-refuted-saturated h = cc
-
-spent-saturated : (count : ℕ) → Some (Spent count) ≡ Some Saturated → ⊥
-spent-saturated count h = cc
-
-pub never-tallies : (r s : PoolRecord) → Tallies r s → (r.ended ≡ Some Saturated → ⊥) → s.ended ≡ Some Saturated → ⊥
-never-tallies r s so_far never is =
-    ⊎_elim (λ (kept : s.ended ≡ r.ended). never (sym kept ∙ is))
-    (λ (fixed : IsFixed s.ended).
-    ⊎_elim (λ (refuted : s.ended ≡ Some Refuted). refuted-saturated (sym refuted ∙ is))
-    (λ (spent : (count : ℕ) × (s.ended ≡ Some (Spent count))). spent-saturated spent.0 (sym spent.1 ∙ is)) fixed)
-    so_far.ends
 
 pub registers-tallies : (r s : PoolRecord) → Registers r s → Tallies r s
 registers-tallies r s is = record {
