@@ -1,8 +1,8 @@
 -- Results that come: each is registered, lives already or refutes, and is due no more. A counting that reaches the limit ends the pool.
-use Rattle.std.proofs.Common.{◌≡◌, ℕ, ◌≤◌, ◌<◌, Bool, true, false, ◌&&◌, List, [], ◌∷◌, ◌++◌, map, length, refl, ap, sym, ◌∙◌, subst, arith, if◌then◌else◌}
-use Rattle.std.specs.Prelude.{Option, None, Some, cond, is_none, nat_le, nat_lt, fold, find, filter_map}
+use Rattle.std.proofs.Common.{◌≡◌, ℕ, ◌≤◌, Bool, true, false, List, [], ◌∷◌, ◌++◌, map, length, refl, ap, sym, ◌∙◌, subst, if◌then◌else◌}
+use Rattle.std.specs.Prelude.{Option, None, Some, cond, is_none, nat_le, fold, find, filter_map}
 use Rattle.std.specs.List.{AllByRecursion, cons_option}
-use Rattle.std.proofs.lemmas.Bool.{true≢false, and_parts, ltb-true, lt-ltb, le-leb}
+use Rattle.std.proofs.lemmas.Bool.{true≢false, and_parts, le-leb}
 use Rattle.std.proofs.lemmas.Option.{none-some, same_Some}
 use Rattle.fol_base.specs.Clause.{TreeClause}
 use Rattle.fol_base.specs.Symbols.{FunctionSymbols}
@@ -10,7 +10,7 @@ use Rattle.fol_base.specs.Selection.{SelectionMode}
 use Rattle.kernel_steps.specs.declared.key.Key.{Key}
 use Rattle.kernel_steps.specs.declared.step.Line.{Line}
 use Rattle.pool_core.specs.Tags.{line_names}
-use Rattle.pool_core.specs.Record.{PoolRecord, Death, has_died, has_living}
+use Rattle.pool_core.specs.Record.{PoolRecord, has_living}
 use Rattle.pool_core.specs.Lines.{with_lines, pool_line, result_of, last_number}
 use Rattle.pool_core.specs.Registering.{registered_last, has_none, with_refutation, with_propositional, empty_comes, comes}
 use Rattle.pool_core.specs.Counting.{comes_by, result_comes, is_refuting, refutes, spends, counts}

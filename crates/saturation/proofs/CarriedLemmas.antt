@@ -1,11 +1,10 @@
 -- What is carried through a history, over the parts of a record: inputs, registered clauses and the conclusions of counted inferences are
 -- covered by what is held. Held are the living clauses, and in the middle of an event those that are due. One lemma for each kind of
 -- step: a clause is registered, or lives already, dies, or inferences are counted.
-use Rattle.std.proofs.Common.{◌≡◌, ℕ, ◌<◌, Bool, true, false, not, ◌&&◌, ◌||◌, ◌==◌, ◌⊎◌, List, [], ◌∷◌, ◌++◌, length, append-nil, refl, ap, sym, ◌∙◌, subst, inl, inr, ⊎_elim, arith}
-use Rattle.std.specs.Prelude.{Option, None, Some, option_map, slice_get, nat_lt}
-use Rattle.std.specs.List.{list_any}
-use Rattle.std.proofs.lemmas.Bool.{true≢false, and_parts, and_from, or_cases, or_from, cases_Bool, not-true, not_from_false, eqb-true, ltb-true, lt-ltb, false_from_ne_true}
-use Rattle.std.proofs.lemmas.Option.{none-some, same_Some}
+use Rattle.std.proofs.Common.{◌≡◌, ℕ, ◌<◌, Bool, true, false, not, ◌&&◌, ◌||◌, ◌==◌, ◌⊎◌, List, [], ◌∷◌, ◌++◌, length, refl, ap, sym, ◌∙◌, subst, inl, inr, ⊎_elim, arith}
+use Rattle.std.specs.Prelude.{Option, Some, option_map, slice_get, nat_lt}
+use Rattle.std.proofs.lemmas.Bool.{and_parts, and_from, or_from, cases_Bool, not-true, not_from_false, eqb-true, ltb-true, lt-ltb, false_from_ne_true}
+use Rattle.std.proofs.lemmas.Option.{same_Some}
 use Rattle.std.proofs.lemmas.List.{length-append}
 use Rattle.std.proofs.lemmas.List.Folds.{list_any-append}
 use Rattle.fol_base.specs.Clause.{TreeClause, clause_eq}

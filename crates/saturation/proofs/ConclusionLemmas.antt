@@ -1,5 +1,5 @@
 -- What an inference concludes has no symbols but those of its premises: a most general unifier brings in none.
-use Rattle.std.proofs.Common.{◌≡◌, ℕ, ◌+◌, Bool, true, false, ◌&&◌, List, [], ◌∷◌, Option, Some, map, refl, ap, ap₂, sym, ◌∙◌, ⊎_elim, if◌then◌else◌}
+use Rattle.std.proofs.Common.{◌≡◌, ℕ, ◌+◌, Bool, true, false, List, [], ◌∷◌, Some, refl, ap, ap₂, sym, ◌∙◌, if◌then◌else◌}
 use Rattle.std.specs.Prelude.{slice_get}
 use Rattle.std.specs.List.{list_all}
 use Rattle.std.proofs.lemmas.Bool.{and_parts, and_from, cond-true}
@@ -19,9 +19,7 @@ use Rattle.fol_base.proofs.InstanceLemmas.{trees_count-instances}
 use Rattle.fol_base.proofs.RuleLemmas.{resolved-parts, factored-parts}
 use Rattle.fol_base.proofs.TestLemmas.{list_all-item, list_all-set, list_all-remove}
 use Rattle.kernel_steps.specs.Inference.{NamedSuperposition, NamedResolution, NamedFactoring}
-use Rattle.kernel_steps.specs.Named.{IsInference}
-use Rattle.kernel_steps.specs.Symbols.{symbols_pass, all_symbols_pass, literal_symbols_pass, clause_symbols_pass}
-use Rattle.kernel_steps.specs.declared.key.Key.{Key}
+use Rattle.kernel_steps.specs.Symbols.{symbols_pass, all_symbols_pass, literal_symbols_pass}
 use Rattle.kernel_steps.specs.declared.key.Key.TheVariants.{Para, Refl, Factor, Replaced}
 use Rattle.kernel_steps.proofs.SymbolLemmas.{passes-argument, side-passes, superposed-passes}
 use Rattle.saturation.specs.Laws.{InferencesKeepSymbols}

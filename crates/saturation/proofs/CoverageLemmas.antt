@@ -1,5 +1,5 @@
 -- A batch that is returned keeps what is covered: where the given clause goes, and where it met the told ones.
-use Rattle.std.proofs.Common.{◌≡◌, ℕ, Bool, true, false, List, [], ◌∷◌, ◌++◌, ap, sym, ◌∙◌, subst, inl, ⊎_elim}
+use Rattle.std.proofs.Common.{◌≡◌, ℕ, true, false, List, [], ◌++◌, ap, sym, ◌∙◌, subst, inl, ⊎_elim}
 use Rattle.std.specs.Prelude.{None, Some, is_none}
 use Rattle.std.specs.List.{list_all, AllByRecursion}
 use Rattle.std.proofs.lemmas.List.Elements.{recursion_from_All}
@@ -34,7 +34,7 @@ use Rattle.saturation.proofs.MoveLemmas.{CalculusLaws}
 use Rattle.saturation.proofs.VictimLemmas.{Victims, victims-keep}
 use Rattle.saturation.proofs.CarriedLemmas.{HeldBy, Open, carried-more, counted-carried}
 use Rattle.saturation.proofs.ArrivalLemmas.{results_due, OpenWith, is-closed, counts-open}
-use Rattle.saturation.proofs.RemovalLemmas.{IsHeld, removed-open, all-proposed-held}
+use Rattle.saturation.proofs.RemovalLemmas.{removed-open, all-proposed-held}
 use Rattle.saturation.proofs.EntryLemmas.{entries-settled, entries-nameless}
 use Rattle.saturation.proofs.RegisteredLemmas.{registered-pass, registered-formed}
 

@@ -1,16 +1,15 @@
 -- The entries of a batch: the conclusion of each inference is covered by the told clauses, which are covered themselves, and by its result,
 -- which is due; or the inference is set aside.
-use Rattle.std.proofs.Common.{◌≡◌, ℕ, Bool, true, false, ◌⊎◌, List, [], ◌∷◌, ◌++◌, map, refl, ap, sym, ◌∙◌, subst, inl, inr, ⊎_elim}
+use Rattle.std.proofs.Common.{◌≡◌, ℕ, Bool, true, false, List, [], ◌∷◌, map, refl, sym, ◌∙◌, subst, inl, inr, ⊎_elim}
 use Rattle.std.specs.Prelude.{Option, None, Some, cond}
 use Rattle.std.specs.List.{list_all, cons_option, AllByRecursion}
-use Rattle.std.proofs.lemmas.Bool.{and_parts}
 use Rattle.fol_base.specs.Clause.{TreeClause}
 use Rattle.fol_base.specs.Literal.{clause_of}
 use Rattle.fol_base.specs.Symbols.{FunctionSymbols}
 use Rattle.fol_base.specs.Selection.{SelectionMode}
 use Rattle.fol_base.specs.WellFormed.{SymbolUse}
 use Rattle.kbo_order.proofs.MemberLemmas.{In}
-use Rattle.kernel_steps.specs.Moves.{Move, end_of_moves, units_of}
+use Rattle.kernel_steps.specs.Moves.{end_of_moves, units_of}
 use Rattle.kernel_steps.specs.Named.{IsInference}
 use Rattle.kernel_steps.specs.Sized.{IsSizedInference}
 use Rattle.kernel_steps.specs.declared.key.Key.{Key}

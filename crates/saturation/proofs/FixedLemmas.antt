@@ -1,5 +1,5 @@
 -- No event fixes another outcome than Refuted and Spent.
-use Rattle.std.proofs.Common.{◌≡◌, ℕ, Bool, true, false, List, [], ◌∷◌, ◌++◌, refl, sym, ◌∙◌, subst, inl, inr, ◌⊎◌, ⊎_elim}
+use Rattle.std.proofs.Common.{◌≡◌, ℕ, Bool, List, [], ◌∷◌, ◌++◌, refl, sym, subst, inl, inr, ◌⊎◌, ⊎_elim}
 use Rattle.std.specs.Prelude.{Option, None, Some, is_none, fold}
 use Rattle.kernel_steps.specs.Split.{has_number}
 use Rattle.sat_core.specs.declared.answer.Chain as log

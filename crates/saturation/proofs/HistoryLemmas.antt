@@ -1,35 +1,28 @@
 -- Each event of a lawful history keeps the state of an open pool, and what is covered. The inputs that are registered first make both.
-use Rattle.std.proofs.Common.{◌≡◌, ℕ, zero, suc, Bool, true, false, not, ◌==◌, List, [], ◌∷◌, ◌++◌, length, map, refl, ap, sym, ◌∙◌, subst, inl, inr, if◌then◌else◌}
-use Rattle.std.specs.Prelude.{Option, None, Some, is_none, fold, slice_get}
+use Rattle.std.proofs.Common.{◌≡◌, ℕ, suc, Bool, true, false, List, [], ◌∷◌, ◌++◌, refl, sym, ◌∙◌, subst, inr}
+use Rattle.std.specs.Prelude.{Option, None, Some, is_none, fold}
 use Rattle.std.specs.List.{list_all, AllByRecursion}
 use Rattle.std.proofs.lemmas.Bool.{true≢false}
 use Rattle.std.proofs.lemmas.Option.{none-some}
 use Rattle.fol_base.specs.Clause.{TreeClause}
 use Rattle.fol_base.specs.Symbols.{FunctionSymbols}
-use Rattle.fol_base.specs.Selection.{SelectionMode}
 use Rattle.fol_base.specs.WellFormed.{SymbolUse}
-use Rattle.kbo_order.proofs.MemberLemmas.{In}
 use Rattle.kernel_steps.specs.Split.{has_number}
 use Rattle.kernel_steps.specs.Symbols.{clause_symbols_pass}
 use Rattle.kernel_steps.specs.declared.step.Step.TheVariants.{Clausify}
 use Rattle.kernel_steps.specs.declared.step.Line.{Line}
 use Rattle.literal_selection.specs.Mode.{mode_of}
 use Rattle.calculus.specs.Symbols.{is_allowed}
-use Rattle.pool_core.specs.Record.{PoolRecord, Registered, GivenJob, given_job, without_job, nothing_registered}
+use Rattle.pool_core.specs.Record.{PoolRecord, given_job, nothing_registered}
 use Rattle.pool_core.specs.Lines.{line_of}
 use Rattle.pool_core.specs.Registering.{comes, unless_ended, with_inputs}
 use Rattle.pool_core.specs.Claiming.{next_given, given_out, claimed_by}
-use Rattle.pool_core.specs.Returning.{removed, becomes_active, worked, returns_to}
-use Rattle.pool_core.specs.Counting.{keys_of}
-use Rattle.pool_core.specs.Replay.{Origin, with_events, after, start}
+use Rattle.pool_core.specs.Returning.{returns_to}
+use Rattle.pool_core.specs.Replay.{after}
 use Rattle.pool_core.specs.Lawful.{IsAllowed, IsLawfulFrom}
 use Rattle.pool_core.specs.declared.options.Options.{Options}
-use Rattle.pool_core.specs.declared.batch.Batch.{Batch}
-use Rattle.pool_core.specs.declared.batch.Work.{Work}
-use Rattle.pool_core.specs.declared.batch.Work.TheVariants.{Gone, Met}
 use Rattle.pool_core.specs.declared.event.Event.{Event}
 use Rattle.pool_core.specs.declared.event.Event.TheVariants.{Claim, Return, Stale, Void, ClaimSolve, ReturnModel, ReturnRefuted, Abandon}
-use Rattle.pool_core.specs.declared.outcome.Outcome.TheVariants.{Saturated}
 use Rattle.pool_core.proofs.DeathLemmas.{registers-keeps}
 use Rattle.pool_core.proofs.FrameLemmas.{by-if, comes-registers, inputs-register, unless_ended-registers}
 use Rattle.pool_core.proofs.GrowthLemmas.{registers-grows}

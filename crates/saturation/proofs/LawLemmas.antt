@@ -1,6 +1,6 @@
 -- The laws, over whole histories.
-use Rattle.std.proofs.Common.{◌≡◌, ℕ, Bool, true, false, List, [], refl, sym, ◌∙◌, subst, inl, inr, ◌⊎◌, ⊎_elim}
-use Rattle.std.specs.Prelude.{None, Some, All, Contains, IsTrue}
+use Rattle.std.proofs.Common.{◌≡◌, ℕ, Bool, true, false, List, [], subst, ◌⊎◌, ⊎_elim}
+use Rattle.std.specs.Prelude.{None, All, Contains}
 use Rattle.std.specs.List.{list_all}
 use Rattle.std.proofs.lemmas.List.Elements.{recursion_from_All, All-contains}
 use Rattle.fol_base.specs.Clause.{TreeClause}
@@ -16,7 +16,7 @@ use Rattle.literal_selection.specs.Mode.{mode_of}
 use Rattle.sat_core.specs.Clause.{Valuation}
 use Rattle.calculus.specs.Symbols.{is_allowed, HasSymbolsOf}
 use Rattle.calculus.specs.Variants.{ConclusionsAreVariants}
-use Rattle.pool_core.specs.Record.{PoolRecord, clauses_of, is_awake_under}
+use Rattle.pool_core.specs.Record.{PoolRecord, clauses_of}
 use Rattle.pool_core.specs.Inputs.{AreInputs, IsUseOf}
 use Rattle.pool_core.specs.Lawful.{IsLawful}
 use Rattle.pool_core.specs.Replay.{Origin, start, replay}

@@ -1,11 +1,11 @@
 -- Clauses that met: of two clauses whose jobs are done the one of the later position met the other, while both live. So each inference of
 -- living clauses whose jobs are done was counted. It stands on positions that stay, and on what jobs are told.
-use Rattle.std.proofs.Common.{◌≡◌, ℕ, zero, suc, ◌+◌, ◌-◌, ◌<◌, ◌≤◌, ◌⊎◌, Bool, true, false, not, ◌&&◌, ◌||◌, ◌==◌, List, [], ◌∷◌, ◌++◌, length, take, append-nil, refl, ap, sym, ◌∙◌, inl, inr, ⊎_elim, subst, arith, if◌then◌else◌}
-use Rattle.std.specs.Prelude.{Option, None, Some, cond, nat_lt, filter, take_while, slice_get, option_map, Contains}
-use Rattle.std.specs.List.{prefix_len, list_all, list_any, AllByRecursion}
-use Rattle.std.proofs.lemmas.Bool.{true≢false, and_parts, and_from, or_cases, or_parts, or_left, or_right, not-true, not_from_false, eqb-true, eq-eqb, cases_Bool, ltb-true, cond-true}
+use Rattle.std.proofs.Common.{◌≡◌, ℕ, suc, ◌+◌, ◌<◌, ◌≤◌, ◌⊎◌, Bool, true, false, not, ◌&&◌, ◌||◌, ◌==◌, List, [], ◌∷◌, ◌++◌, length, take, refl, ap, sym, ◌∙◌, inl, inr, ⊎_elim, arith}
+use Rattle.std.specs.Prelude.{Option, None, Some, cond, nat_lt, filter, take_while, slice_get, option_map}
+use Rattle.std.specs.List.{prefix_len, list_all}
+use Rattle.std.proofs.lemmas.Bool.{true≢false, and_parts, and_from, or_cases, or_parts, or_left, or_right, not-true, not_from_false, eqb-true, eq-eqb, ltb-true, cond-true}
 use Rattle.std.proofs.lemmas.List.{length-append}
-use Rattle.std.proofs.lemmas.List.Folds.{list_any-append, list_all-append}
+use Rattle.std.proofs.lemmas.List.Folds.{list_any-append}
 use Rattle.fol_base.specs.Clause.{TreeClause}
 use Rattle.fol_base.specs.Selection.{SelectionMode}
 use Rattle.fol_base.proofs.TestLemmas.{option_map-some, list_all-joined}
@@ -25,7 +25,7 @@ use Rattle.pool_core.specs.declared.batch.Entry.{Entry}
 use Rattle.pool_core.proofs.CountedLemmas.{Lookup}
 use Rattle.pool_core.proofs.EditLemmas.{eq-sym}
 use Rattle.pool_core.proofs.JoinedLemmas.{by-test, BehindAt, get-cases}
-use Rattle.pool_core.proofs.PlaceLemmas.{has-left, has-right, has-first}
+use Rattle.pool_core.proofs.PlaceLemmas.{has-left, has-first}
 use Rattle.saturation.proofs.CarriedLemmas.{alive}
 
 -- ---- what stands before a number

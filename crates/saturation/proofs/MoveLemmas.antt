@@ -1,15 +1,13 @@
 -- Clauses that are reduced by moves, or found redundant: their ground instances are covered by the result and the clauses used. The laws of
 -- the calculus are handed in.
-use Rattle.std.proofs.Common.{◌≡◌, ℕ, Bool, true, ◌&&◌, ◌⊎◌, List, [], ◌∷◌, get_or, refl, sym, subst, inl, inr, ⊎_elim}
+use Rattle.std.proofs.Common.{◌≡◌, ℕ, Bool, true, ◌⊎◌, List, [], ◌∷◌, get_or, refl, sym, subst, inl, inr, ⊎_elim}
 use Rattle.std.specs.Prelude.{Option, None, Some, All, Contains, IsTrue}
 use Rattle.std.specs.List.{list_all, cons_option}
 use Rattle.std.proofs.lemmas.Bool.{and_parts}
 use Rattle.fol_base.specs.Clause.{TreeClause}
 use Rattle.fol_base.specs.Canonical.{canonical_clause}
 use Rattle.fol_base.specs.Symbols.{FunctionSymbols}
-use Rattle.fol_base.specs.Ground.{GroundInstance}
 use Rattle.fol_base.specs.Subsumption.{Subsumes}
-use Rattle.fol_base.specs.Covered.{Covered}
 use Rattle.fol_base.proofs.CoverageLemmas.{Covered-instance, Covered-more, Covered-across}
 use Rattle.fol_base.proofs.MeaningLemmas.{ground_instances_are_ground}
 use Rattle.kbo_order.proofs.MemberLemmas.{In, In-at, In-contains, contains-In}

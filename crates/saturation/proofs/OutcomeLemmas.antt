@@ -1,11 +1,11 @@
 -- Where the outcome is Saturated nothing waits and nothing is out: all living clauses have met, so that each inference among them was counted,
 -- and none was set aside. So they are saturated. Where it is Heavy an inference among them was set aside.
-use Rattle.std.proofs.Common.{◌≡◌, ℕ, zero, suc, ◌+◌, ◌<◌, ◌≤◌, ◌⊎◌, Bool, true, false, not, ◌&&◌, ◌||◌, ◌==◌, List, [], ◌∷◌, ◌++◌, length, map, get_or, refl, ap, sym, ◌∙◌, subst, inl, inr, ⊎_elim, arith, if◌then◌else◌}
-use Rattle.std.specs.Prelude.{Option, None, Some, cond, is_some, nat_lt, filter, position, option_map, slice_get, All, Contains, IsTrue}
+use Rattle.std.proofs.Common.{◌≡◌, ℕ, zero, suc, ◌+◌, ◌<◌, ◌≤◌, ◌⊎◌, Bool, true, false, not, ◌&&◌, ◌||◌, ◌==◌, List, [], ◌∷◌, length, refl, ap, sym, ◌∙◌, subst, inl, inr, ⊎_elim, arith, if◌then◌else◌}
+use Rattle.std.specs.Prelude.{Option, None, Some, cond, is_some, nat_lt, filter, position, option_map, Contains}
 use Rattle.std.specs.List.{list_all, list_any, range_with_len}
-use Rattle.std.proofs.lemmas.Bool.{true≢false, and_parts, and_from, or_cases, or_left, or_right, not-true, not_from_false, cases_Bool, eqb-true, eq-eqb, ltb-true, cond-true}
+use Rattle.std.proofs.lemmas.Bool.{true≢false, and_parts, and_from, or_left, or_right, not-true, not_from_false, eqb-true, eq-eqb, ltb-true, cond-true}
 use Rattle.std.proofs.lemmas.List.Quantifiers.{position-Some}
-use Rattle.std.proofs.lemmas.Option.{none-some, same_Some, cond_some}
+use Rattle.std.proofs.lemmas.Option.{none-some, cond_some}
 use Rattle.fol_base.specs.Clause.{TreeLiteral, TreeClause}
 use Rattle.fol_base.specs.Symbols.{FunctionSymbols}
 use Rattle.fol_base.specs.Ground.{GroundClause}
@@ -13,22 +13,19 @@ use Rattle.fol_base.specs.Selection.{SelectionMode}
 use Rattle.fol_base.specs.GroundInference.{GroundConclusion, GroundSuperposition, GroundResolution, GroundFactoring}
 use Rattle.fol_base.specs.Subsumption.{assertions}
 use Rattle.fol_base.specs.WellFormed.{SymbolUse}
-use Rattle.kbo_order.proofs.MemberLemmas.{In, In-at, In-contains, contains-In, In-map, map-In, In-all, none-In}
+use Rattle.kbo_order.proofs.MemberLemmas.{In, In-contains, contains-In, In-map, map-In, In-all, none-In}
 use Rattle.kernel_steps.specs.Named.{IsInference}
 use Rattle.kernel_steps.specs.Sized.{IsSizedInference}
 use Rattle.kernel_steps.specs.Split.{has_number}
-use Rattle.kernel_steps.specs.Symbols.{clause_symbols_pass}
 use Rattle.kernel_steps.specs.declared.key.Key.{Key}
 use Rattle.kernel_steps.specs.declared.key.Key.TheVariants.{Para, Refl, Factor, Replaced}
 use Rattle.literal_selection.specs.Mode.{mode_of}
 use Rattle.sat_core.specs.Clause.{Valuation, literal_true, valuation_of}
 use Rattle.clause_queue.specs.declared.choice.Choice.{Choice}
 use Rattle.clause_queue.specs.declared.choice.Choice.TheVariants.{Light, Old}
-use Rattle.calculus.specs.Symbols.{is_allowed}
 use Rattle.calculus.specs.Coverage.{CoversInstancesOf}
 use Rattle.calculus.specs.Lifting.{among, IsMember, HasConclusionsOf}
-use Rattle.pool_core.specs.Record.{PoolRecord, Registered, GivenJob, clauses_of, clause_numbered, numbers_of, has_died, lives, is_out, waits, is_awake_under, is_awake, jobs_out}
-use Rattle.pool_core.specs.Registering.{has_none}
+use Rattle.pool_core.specs.Record.{PoolRecord, Registered, GivenJob, clauses_of, clause_numbered, numbers_of, has_died, lives, waits, is_awake_under, is_awake, jobs_out}
 use Rattle.pool_core.specs.Solving.{must_solve}
 use Rattle.pool_core.specs.Claiming.{ready, next_choice, picked, can_give}
 use Rattle.pool_core.specs.Laws.{IsHeavyAmong}
@@ -36,7 +33,6 @@ use Rattle.pool_core.specs.Replay.{replay}
 use Rattle.pool_core.specs.Outcomes.{premises, is_of_living, heavy_or_saturated, is_at_rest, outcome_by, outcome_of}
 use Rattle.pool_core.specs.Saturated.{IsSaturated, members_of}
 use Rattle.pool_core.specs.Tags.{name_of_tag}
-use Rattle.pool_core.specs.Wholeness.{IsWhole}
 use Rattle.pool_core.specs.declared.options.Options.{Options}
 use Rattle.pool_core.specs.declared.outcome.Outcome.{Outcome}
 use Rattle.pool_core.specs.declared.outcome.Outcome.TheVariants.{Refuted, Saturated, Spent, Heavy}
@@ -44,16 +40,15 @@ use Rattle.pool_core.proofs.ClaimLemmas.{in-filter}
 use Rattle.pool_core.proofs.CountedLemmas.{Lookup}
 use Rattle.pool_core.proofs.GrowthLemmas.{waiting-from}
 use Rattle.pool_core.proofs.PlaceLemmas.{has-first}
-use Rattle.pool_core.proofs.PoolLineLemmas.{Sound}
 use Rattle.pool_core.proofs.StartLemmas.{all-at, none-passes, passes-at}
 use Rattle.pool_core.proofs.StateLemmas.{clause-numbered, item-at}
 use Rattle.pool_core.proofs.HeavyLemmas.{set_aside_are_heavy}
 use Rattle.saturation.specs.Cover.{CoversEach}
 use Rattle.saturation.specs.Laws.{is_member, HeavyIsNamed}
 use Rattle.saturation.proofs.MoveLemmas.{CalculusLaws, all-in, each-more}
-use Rattle.saturation.proofs.CarriedLemmas.{Living, HeldBy, Open, IsSettled, inference-more}
+use Rattle.saturation.proofs.CarriedLemmas.{Living, HeldBy, Open, inference-more}
 use Rattle.saturation.proofs.RemovalLemmas.{among-parts}
-use Rattle.saturation.proofs.MeetingLemmas.{front, InOrder, in-order, number-passes, all-numbered}
+use Rattle.saturation.proofs.MeetingLemmas.{front, in-order, number-passes, all-numbered}
 use Rattle.saturation.proofs.StateLemmas.{IsState}
 use Rattle.saturation.proofs.HistoryLemmas.{Reaches}
 use Rattle.saturation.proofs.FixedLemmas.{OnlyFixed, fixed_are_refuted_or_spent}

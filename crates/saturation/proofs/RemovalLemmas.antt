@@ -1,10 +1,10 @@
 -- Clauses that go: each is covered by the clauses that justify it, which live, and by its result, which is due. So each death is one step
 -- across what is covered.
-use Rattle.std.proofs.Common.{◌≡◌, ℕ, Bool, true, false, not, ◌&&◌, ◌||◌, ◌==◌, ◌⊎◌, List, [], ◌∷◌, ◌++◌, length, map, refl, ap, sym, ◌∙◌, subst, inl, inr, ⊎_elim, if◌then◌else◌}
-use Rattle.std.specs.Prelude.{Option, None, Some, is_none, nat_lt, fold}
+use Rattle.std.proofs.Common.{◌≡◌, ℕ, Bool, true, false, not, ◌==◌, List, [], ◌∷◌, ◌++◌, length, map, refl, ap, sym, ◌∙◌, subst, inl, inr, ⊎_elim, if◌then◌else◌}
+use Rattle.std.specs.Prelude.{Option, None, Some, nat_lt, fold}
 use Rattle.std.specs.List.{list_all, cons_option, AllByRecursion}
-use Rattle.std.proofs.lemmas.Bool.{true≢false, and_parts, or_cases, not-true, eqb-true}
-use Rattle.std.proofs.lemmas.List.Folds.{list_any-append, list_all-append}
+use Rattle.std.proofs.lemmas.Bool.{and_parts, not-true}
+use Rattle.std.proofs.lemmas.List.Folds.{list_all-append}
 use Rattle.std.proofs.lemmas.Option.{none-some}
 use Rattle.fol_base.specs.Clause.{TreeClause}
 use Rattle.fol_base.specs.Literal.{clause_of}
@@ -12,7 +12,6 @@ use Rattle.fol_base.specs.Symbols.{FunctionSymbols}
 use Rattle.fol_base.specs.Selection.{SelectionMode}
 use Rattle.fol_base.specs.Subsumption.{is_among}
 use Rattle.fol_base.specs.WellFormed.{SymbolUse}
-use Rattle.kbo_order.proofs.MemberLemmas.{In}
 use Rattle.kernel_steps.specs.Moves.{end_of_moves, units_of}
 use Rattle.kernel_steps.specs.declared.key.Key.{Key}
 use Rattle.kernel_steps.specs.declared.key.Key.TheVariants.{Replaced}
@@ -20,8 +19,7 @@ use Rattle.kernel_steps.specs.declared.step.Line.{Line}
 use Rattle.literal_selection.specs.Mode.{mode_of}
 use Rattle.calculus.specs.Symbols.{HasSymbolsOf}
 use Rattle.calculus.specs.Lifting.{among}
-use Rattle.pool_core.specs.Record.{PoolRecord, Registered, Death, GivenJob, has_died, lives}
-use Rattle.pool_core.specs.Lines.{result_of}
+use Rattle.pool_core.specs.Record.{PoolRecord, Registered, Death, GivenJob, lives}
 use Rattle.pool_core.specs.Reduction.{AreLinesFrom, clauses_used, IsRedundant, subsumers, same_numbers}
 use Rattle.pool_core.specs.Batches.{is_told, is_told_beside, IsRightlyReplaced, IsRightlyRemoved, IsRightRemovalBy, IsRightRemoval}
 use Rattle.pool_core.specs.Returning.{dies, replaced, removed, takes_effect, proposed}
@@ -36,7 +34,6 @@ use Rattle.pool_core.proofs.DeathLemmas.{among-pass}
 use Rattle.pool_core.proofs.FormedLemmas.{IsFormed, result-formed}
 use Rattle.pool_core.proofs.GrowthLemmas.{all-proposed-grows}
 use Rattle.pool_core.proofs.JoinedLemmas.{by-test}
-use Rattle.pool_core.proofs.SoundLemmas.{open-is}
 use Rattle.saturation.specs.Cover.{CoversEach}
 use Rattle.saturation.proofs.MoveLemmas.{CalculusLaws, Beside, each-more, moves-reached, tautology-covered, subsumed-covered, away-covered}
 use Rattle.saturation.proofs.CarriedLemmas.{alive, Living, HeldBy, Open, alive-on, dead-carried, keys-carried}

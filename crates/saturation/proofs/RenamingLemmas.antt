@@ -4,7 +4,7 @@ use Rattle.std.specs.Prelude.{All, IsTrue, flat_map}
 use Rattle.fol_base.specs.Tree.{Tree, variable, application, Trees, no_trees, tree_then, tree_variables, trees_variables}
 use Rattle.fol_base.specs.Instance.{Substitution, instance, instances}
 use Rattle.fol_base.specs.InstanceLaws.{after}
-use Rattle.fol_base.specs.Clause.{TreeLiteral, TreeClause, literal_instance, clause_instance, literal_variables, clause_variables}
+use Rattle.fol_base.specs.Clause.{TreeLiteral, TreeClause, literal_instance, literal_variables, clause_variables}
 use Rattle.fol_base.specs.Symbols.{FunctionSymbols}
 use Rattle.fol_base.specs.Ground.{is_over, GroundInstance, literals_instance}
 use Rattle.fol_base.proofs.GroundInstanceLemmas.{ground_instances_of_instances}

@@ -1,10 +1,8 @@
 -- The state of a pool that is open, beside what is covered: who died, what jobs are told, and what clauses met. Each event but a return keeps
 -- it.
-use Rattle.std.proofs.Common.{◌≡◌, ℕ, ◌+◌, ◌-◌, ◌<◌, ◌≤◌, Bool, true, false, not, ◌&&◌, ◌==◌, List, [], ◌∷◌, ◌++◌, length, map, append-nil, refl, ap, sym, ◌∙◌, subst, arith, if◌then◌else◌}
-use Rattle.std.specs.Prelude.{Option, None, Some, nat_lt, filter, slice_get}
+use Rattle.std.proofs.Common.{◌≡◌, ℕ, ◌+◌, Bool, true, false, not, ◌==◌, List, [], ◌∷◌, ◌++◌, length, map, append-nil, refl, sym, ◌∙◌, subst, arith, if◌then◌else◌}
+use Rattle.std.specs.Prelude.{Option, None, Some, nat_lt}
 use Rattle.std.specs.List.{list_all, AllByRecursion}
-use Rattle.std.proofs.lemmas.Bool.{true≢false}
-use Rattle.std.proofs.lemmas.Option.{none-some}
 use Rattle.fol_base.specs.Selection.{SelectionMode}
 use Rattle.kernel_steps.specs.Split.{has_number}
 use Rattle.kernel_steps.specs.declared.key.Key.{Key}
@@ -13,7 +11,6 @@ use Rattle.pool_core.specs.Record.{PoolRecord, Registered, Death, GivenJob, with
 use Rattle.pool_core.specs.Claiming.{new_job, next_given, claimed_by}
 use Rattle.pool_core.specs.Replay.{retold, with_events, after}
 use Rattle.pool_core.specs.declared.options.Options.{Options}
-use Rattle.pool_core.specs.declared.event.Event.{Event}
 use Rattle.pool_core.specs.declared.event.Event.TheVariants.{Claim}
 use Rattle.pool_core.proofs.ClaimLemmas.{positions_with, claim_after, after-claim}
 use Rattle.pool_core.proofs.FrameLemmas.{by-if}
