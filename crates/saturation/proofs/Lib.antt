@@ -24,3 +24,5 @@ pub mod HistoryLemmas
 -- The laws: OutcomeLemmas (saturated and heavy), LawLemmas.
 pub mod OutcomeLemmas
 pub mod LawLemmas
+-- Worked examples.
+pub mod ExampleLemmas

@@ -1,10 +1,9 @@
-use Rattle.saturation.proofs.LawLemmas.{carried_through}
-use Rattle.saturation.proofs.laws.carried_through.Goals as goal
+use Rattle.saturation.proofs.LawLemmas.{saturated_is_saturated}
+use Rattle.saturation.proofs.laws.outcomes.saturated_is_saturated.Goals as goal
 
 pub returns : goal.returns
 returns c =
-    carried_through
-    (record {
+    saturated_is_saturated (record {
       reductions = c.reductions_covered.ensures;
       symbols = c.reductions_keep.ensures.symbols;
       subsumed = c.subsumed_covered.ensures;
@@ -12,4 +11,3 @@ returns c =
       renamed = c.renamed_covered.ensures;
       lifted = c.ground_conclusions_covered.ensures.covered;
     })
-    c.conclusions_have_variants.ensures.no_others
