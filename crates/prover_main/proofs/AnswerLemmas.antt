@@ -1,23 +1,25 @@
 -- From the answers of the stages to the answer of a command.
 use Rattle.std.proofs.Common.{◌≡◌, ℕ, List, None, Some, subst, sym, inl}
-use Rattle.signature.specs.Form.{clausal_form}
-use Rattle.ground_loop.specs.Scope.{first_outside}
 use Rattle.tptp_tree.specs.declared.problem.Annotated.{Annotated}
+use Rattle.tptp_tree.specs.declared.problem.Problem.{Problem}
+use Rattle.clausal_form.specs.Fault.{form_fault}
+use Rattle.clausal_form.specs.declared.fault.FormCause.{FormCause}
+use Rattle.pool_core.specs.declared.options.Options.{Options}
 use Rattle.prover_main.specs.Outside.{Outside}
 use Rattle.prover_main.specs.declared.answer.Answer.{Answer}
-use Rattle.prover_main.specs.declared.answer.Answer.TheVariants.{Refuted, Spent, Closed, NotBuilt, Accepted, Refused, Unloaded, Unread, Unformed}
-use Rattle.prover_main.specs.Answer.{Source, IsFormed, OfFormed, IsGroundProof, IsProofAnswer, IsLoaded, IsJudgement, IsProveAnswer, IsCheckAnswer}
-use Rattle.prover_main.specs.AnswerShape.{IsFormedFrom, IsStop, IsStopAnswer, IsNotBuiltAnswer}
+use Rattle.prover_main.specs.declared.answer.Answer.TheVariants.{Refuted, Saturated, Spent, Heavy, Accepted, Refused, Unloaded, Unread, Unformed}
+use Rattle.prover_main.specs.Answer.{Source, IsFormed, OfFormed, IsUnformed, IsProofAnswer, IsLoaded, IsJudgement, IsProveAnswer, IsCheckAnswer}
+use Rattle.prover_main.specs.AnswerShape.{IsReadFrom, IsFormedFrom, IsStop, IsStopAnswer}
 use Rattle.prover_main.specs.declared.problem.FormedProblem.{FormedProblem}
 use Rattle.prover_main.specs.declared.problem.Stop.{Stop}
 use Rattle.prover_main.specs.declared.problem.Stop.TheVariants.{NoMemory, Unread as NotRead, Unformed as NotFormed}
 
 pub stop_proves :
-    (outside : Outside) (source : Source) (limit : ℕ) (stop : Stop) (answer : Answer)
-    → IsStop outside source stop → IsStopAnswer stop answer → IsProveAnswer outside source limit answer
-stop_proves outside source limit NoMemory answer h e = absurd e
-stop_proves outside source limit (NotRead cause file place) answer h e = subst (IsProveAnswer outside source limit) (sym e) h
-stop_proves outside source limit (NotFormed cause name) answer h e = subst (IsProveAnswer outside source limit) (sym e) h
+    (outside : Outside) (source : Source) (options : Options) (stop : Stop) (answer : Answer)
+    → IsStop outside source stop → IsStopAnswer stop answer → IsProveAnswer outside source options answer
+stop_proves outside source options NoMemory answer h e = absurd e
+stop_proves outside source options (NotRead cause file place) answer h e = subst (IsProveAnswer outside source options) (sym e) h
+stop_proves outside source options (NotFormed cause name) answer h e = subst (IsProveAnswer outside source options) (sym e) h
 
 pub stop_checks :
     (outside : Outside) (source : Source) (derivation : List ℕ) (stop : Stop) (answer : Answer)
@@ -27,7 +29,7 @@ stop_checks outside source derivation (NotRead cause file place) answer h e = su
 stop_checks outside source derivation (NotFormed cause name) answer h e = subst (IsCheckAnswer outside source derivation) (sym e) h
 
 is_formed : (outside : Outside) (source : Source) (formed : FormedProblem) → IsFormedFrom outside.told source formed → IsFormed outside source formed.problem.formulas
-is_formed outside source formed h = record { read = h.read; within = h.within }
+is_formed outside source formed h = record { read = h.read_from.read; within = h.within }
 
 -- what is said of the formulas of a problem that was formed
 of_formed :
@@ -35,39 +37,33 @@ of_formed :
     → IsFormedFrom outside.told source formed → Says formed.problem.formulas → OfFormed outside source Says
 of_formed outside source formed Says h says = record { formulas = formed.problem.formulas; formed = is_formed outside source formed h; says = says }
 
--- what the ground loop answers, where it takes the form
-pub ground_proves :
-    (file : List ℕ) (formulas : List Annotated) (limit : ℕ) (answer : Answer)
-    → first_outside (clausal_form formulas).clauses ≡ None → IsGroundProof file formulas limit answer → IsProofAnswer file formulas limit answer
-ground_proves file formulas limit (NotBuilt name) none p = absurd p
-ground_proves file formulas limit (Refuted conjecture derivation) none p = (none, p)
-ground_proves file formulas limit (Spent count allowed) none p = (none, p)
-ground_proves file formulas limit Closed none p = (none, p)
-ground_proves file formulas limit (Accepted lines) none p = absurd p
-ground_proves file formulas limit (Refused line cause) none p = absurd p
-ground_proves file formulas limit (Unloaded name) none p = absurd p
-ground_proves file formulas limit (Unread cause name place) none p = absurd p
-ground_proves file formulas limit (Unformed cause name) none p = absurd p
+-- the formula of a problem that passes a limit
+pub unformed_proves :
+    (outside : Outside) (source : Source) (options : Options) (problem : Problem) (cause : FormCause) (name : List ℕ)
+    → IsReadFrom outside.told source problem → form_fault problem.formulas ≡ Some (cause, name)
+    → IsProveAnswer outside source options (Unformed cause name)
+unformed_proves outside source options problem cause name h fault = record { formulas = problem.formulas; read = h.read; fault = fault }
 
--- and what the first other clause answers
-pub not_built_proves :
-    (file : List ℕ) (formulas : List Annotated) (limit index : ℕ) (answer : Answer)
-    → first_outside (clausal_form formulas).clauses ≡ Some index → IsNotBuiltAnswer formulas index answer → IsProofAnswer file formulas limit answer
-not_built_proves file formulas limit index answer first h =
-    subst (IsProofAnswer file formulas limit) (sym h.1) (record { index = index; is_outside = first; name_is = h.2 })
-
+-- what the pool of a problem answers
 pub proof_proves :
-    (outside : Outside) (source : Source) (limit : ℕ) (formed : FormedProblem) (answer : Answer)
-    → IsFormedFrom outside.told source formed → IsProofAnswer source.file formed.problem.formulas limit answer → IsProveAnswer outside source limit answer
-proof_proves outside source limit formed (Refuted conjecture derivation) h p = of_formed outside source formed _ h p
-proof_proves outside source limit formed (Spent count allowed) h p = of_formed outside source formed _ h p
-proof_proves outside source limit formed Closed h p = of_formed outside source formed _ h p
-proof_proves outside source limit formed (NotBuilt name) h p = of_formed outside source formed _ h p
-proof_proves outside source limit formed (Accepted lines) h p = absurd p.1
-proof_proves outside source limit formed (Refused line cause) h p = absurd p.1
-proof_proves outside source limit formed (Unloaded name) h p = absurd p.1
-proof_proves outside source limit formed (Unread cause name place) h p = absurd p.1
-proof_proves outside source limit formed (Unformed cause name) h p = absurd p.1
+    (outside : Outside) (source : Source) (options : Options) (problem : Problem) (answer : Answer)
+    → IsReadFrom outside.told source problem → form_fault problem.formulas ≡ None
+    → IsProofAnswer source.file problem.formulas options answer → IsProveAnswer outside source options answer
+proof_proves outside source options problem answer h within p = by answer p
+  where
+    formed : IsFormed outside source problem.formulas
+    formed = record { read = h.read; within = within }
+
+    by : (a : Answer) → IsProofAnswer source.file problem.formulas options a → IsProveAnswer outside source options a
+    by (Refuted conjecture derivation) q = record { formulas = problem.formulas; formed = formed; says = q }
+    by (Spent count allowed) q = record { formulas = problem.formulas; formed = formed; says = q }
+    by (Heavy key) q = record { formulas = problem.formulas; formed = formed; says = q }
+    by Saturated q = record { formulas = problem.formulas; formed = formed; says = q }
+    by (Accepted lines) q = absurd q
+    by (Refused line cause) q = absurd q
+    by (Unloaded name) q = absurd q
+    by (Unread cause name place) q = absurd q
+    by (Unformed cause name) q = absurd q
 
 pub judgement_checks :
     (outside : Outside) (source : Source) (derivation text : List ℕ) (formed : FormedProblem) (answer : Answer)
@@ -82,5 +78,5 @@ judgement_checks outside source derivation text formed (Unread cause name place)
 judgement_checks outside source derivation text formed (Unformed cause name) h l j = absurd j
 judgement_checks outside source derivation text formed (Refuted conjecture t) h l j = absurd j
 judgement_checks outside source derivation text formed (Spent count allowed) h l j = absurd j
-judgement_checks outside source derivation text formed Closed h l j = absurd j
-judgement_checks outside source derivation text formed (NotBuilt name) h l j = absurd j
+judgement_checks outside source derivation text formed Saturated h l j = absurd j
+judgement_checks outside source derivation text formed (Heavy key) h l j = absurd j

@@ -2,10 +2,9 @@ pub mod NameLemmas
 pub mod PageLemmas
 pub mod AnswerLemmas
 pub mod WordLemmas
-pub mod OriginLemmas
-pub mod ReadableLemmas
 pub mod TextLemmas
-pub mod SatisfiedLemmas
+pub mod FormInputs
+pub mod HistoryLemmas
 pub mod RunLemmas
 pub mod DeliveryLemmas
 pub mod PlacedLemmas

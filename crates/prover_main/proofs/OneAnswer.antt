@@ -10,7 +10,6 @@ use Rattle.tptp_problem.specs.Formulas.{placed}
 use Rattle.tptp_problem.specs.Problem.{IsProblem, IsProblemFault}
 use Rattle.tptp_problem.proofs.OutcomeLemmas.{problem-one, problem-or-fault, problem-fault-one}
 use Rattle.signature.specs.Form.{clausal_form}
-use Rattle.ground_loop.specs.Scope.{first_outside}
 use Rattle.clausal_form.specs.Fault.{form_fault}
 use Rattle.clausal_form.specs.DerivationCauses.{Cause as LineCause, text, order, unknown_parent, leaf, clausification, binding, rule, conclusion, new_symbol, no_empty_clause}
 use Rattle.clausal_form.specs.DerivationLines.{Answer as LineAnswer, accepted, refused_line}
@@ -20,10 +19,11 @@ use Rattle.clausal_form.specs.DerivationLaws.{TextsHaveOneAnswer}
 use Rattle.tstp_checker.specs.Causes.{cause_meant}
 use Rattle.tstp_checker.specs.declared.cause.Cause.{Cause}
 use Rattle.tstp_checker.specs.declared.cause.Cause.TheVariants.{Text, Order, UnknownParent, Leaf, Clausify, Binding, Rule, Conclusion, NewSymbol, NoEmptyClause}
+use Rattle.pool_core.specs.declared.options.Options.{Options}
 use Rattle.prover_main.specs.Outside.{Outside}
 use Rattle.prover_main.specs.declared.answer.Answer.{Answer}
-use Rattle.prover_main.specs.declared.answer.Answer.TheVariants.{Refuted, Spent, Closed, NotBuilt, Accepted, Refused, Unloaded, Unread, Unformed}
-use Rattle.prover_main.specs.Answer.{Source, IsRead, IsFormed, IsUnread, IsUnformed, IsNotBuilt, IsLoaded, IsJudged, IsTooLong, IsProveAnswer, IsCheckAnswer, formula_of_clause}
+use Rattle.prover_main.specs.declared.answer.Answer.TheVariants.{Refuted, Saturated, Spent, Heavy, Accepted, Refused, Unloaded, Unread, Unformed}
+use Rattle.prover_main.specs.Answer.{Source, IsRead, IsFormed, IsUnread, IsUnformed, IsLoaded, IsJudged, IsTooLong, IsProveAnswer, IsCheckAnswer}
 use Rattle.prover_main.specs.Reports.{status_of}
 use Rattle.prover_main.specs.Laws.{IsTold, is_exact, ChecksHaveOneAnswer, FaultsAreTheOnlyAnswer}
 use Rattle.prover_main.proofs.PlacedLemmas.{placed-one}
@@ -66,7 +66,7 @@ unread-one outside source t c d f g p q h k =
 
 -- the answer of a fault
 of_fault : Option (FormCause × List ℕ) → Answer
-of_fault None = Closed
+of_fault None = Saturated
 of_fault (Some x) = Unformed x.0 x.1
 
 unformed-one : (outside : Outside) (source : Source) (t : IsTold outside) (c d : FormCause) (n m : List ℕ) → IsUnformed outside source c n → IsUnformed outside source d m → Unformed c n ≡ Unformed d m
@@ -99,48 +99,29 @@ stage-one outside source behind a b t one (at_work fs h v) (at_forming d m k i) 
 stage-one outside source behind a b t one (at_work fs h v) (at_work gs k w) =
     one gs (subst (λ (xs : List Annotated). behind xs a) (read-one outside source t fs gs h.read k.read) v) w
 
--- ---- `prove`: a clause isn't built, or the loop takes all
+-- ---- `prove`: behind the form no answer is exact
 
-data Worked (fs : List Annotated) (a : Answer) : Type 0 where
-  out_of_scope : (n : List ℕ) → IsNotBuilt fs n → a ≡ NotBuilt n → Worked fs a
-  in_scope : first_outside (clausal_form fs).clauses ≡ None → is_exact (status_of a) ≡ false → Worked fs a
-
-of_name : Option (List ℕ) → Answer
-of_name None = Closed
-of_name (Some n) = NotBuilt n
-
-of_clause : List Annotated → Option ℕ → Answer
-of_clause fs None = Closed
-of_clause fs (Some i) = of_name (option_map (λ (a : Annotated). a.name) (formula_of_clause fs i))
-
-not-built-one : (fs : List Annotated) (n m : List ℕ) → IsNotBuilt fs n → IsNotBuilt fs m → NotBuilt n ≡ NotBuilt m
-unfolding of_name of_clause
-not-built-one fs n m h k =
-    let same : Some h.index ≡ Some k.index = sym h.is_outside ∙ k.is_outside in
-    ap of_name (sym h.name_is) ∙ ap (of_clause fs) same ∙ ap of_name k.name_is
+abbrev Worked : List Annotated → Answer → Type 0
+Worked fs a = is_exact (status_of a) ≡ false
 
 true-false : {A : Type 0} (b : Bool) → b ≡ true → b ≡ false → A
 true-false b e f = absurd (let w : true ≡ false = sym e ∙ f in cc)
 
-worked-one : (fs : List Annotated) (a b : Answer) → is_exact (status_of a) ≡ true → Worked fs a → Worked fs b → a ≡ b
-worked-one fs a b x (out_of_scope n h e) (out_of_scope m k i) = e ∙ not-built-one fs n m h k ∙ sym i
-worked-one fs a b x (out_of_scope n h e) (in_scope none i) = absurd (some-none h.index (sym h.is_outside ∙ none))
-worked-one fs a b x (in_scope none e) w = true-false (is_exact (status_of a)) x e
-
-prove-stage : (outside : Outside) (source : Source) (limit : ℕ) (a : Answer) → IsProveAnswer outside source limit a → Stage outside source Worked a
-prove-stage outside source limit (Refuted c d) h = at_work h.formulas h.formed (in_scope h.says.0 refl)
-prove-stage outside source limit (Spent n m) h = at_work h.formulas h.formed (in_scope h.says.0 refl)
-prove-stage outside source limit Closed h = at_work h.formulas h.formed (in_scope h.says.0 refl)
-prove-stage outside source limit (NotBuilt n) h = at_work h.formulas h.formed (out_of_scope n h.says refl)
-prove-stage outside source limit (Unread c f p) h = at_reading c f p h refl
-prove-stage outside source limit (Unformed c n) h = at_forming c n h refl
-prove-stage outside source limit (Accepted n) h = absurd h.says.1
-prove-stage outside source limit (Refused n c) h = absurd h.says.1
-prove-stage outside source limit (Unloaded n) h = absurd h.says.1
+prove-stage : (outside : Outside) (source : Source) (options : Options) (a : Answer) → IsProveAnswer outside source options a → Stage outside source Worked a
+prove-stage outside source options (Refuted c d) h = at_work h.formulas h.formed refl
+prove-stage outside source options (Spent n m) h = at_work h.formulas h.formed refl
+prove-stage outside source options (Heavy k) h = at_work h.formulas h.formed refl
+prove-stage outside source options Saturated h = at_work h.formulas h.formed refl
+prove-stage outside source options (Unread c f p) h = at_reading c f p h refl
+prove-stage outside source options (Unformed c n) h = at_forming c n h refl
+prove-stage outside source options (Accepted n) h = absurd h.says
+prove-stage outside source options (Refused n c) h = absurd h.says
+prove-stage outside source options (Unloaded n) h = absurd h.says
 
 pub faults-are-the-only-answer : FaultsAreTheOnlyAnswer
-faults-are-the-only-answer outside source limit a b t x h k =
-    stage-one outside source Worked a b t (λ fs v w. worked-one fs a b x v w) (prove-stage outside source limit a h) (prove-stage outside source limit b k)
+faults-are-the-only-answer outside source options a b t x h k =
+    stage-one outside source Worked a b t (λ fs v w. true-false (is_exact (status_of a)) x v) (prove-stage outside source options a h)
+    (prove-stage outside source options b k)
 
 -- ---- `check`: the text has one answer, or it is too long
 
@@ -221,8 +202,8 @@ check-stage outside source derivation t (Unread c f p) h = at_reading c f p h re
 check-stage outside source derivation t (Unformed c n) h = at_forming c n h refl
 check-stage outside source derivation t (Refuted c d) h = absurd h.says.judgement
 check-stage outside source derivation t (Spent n m) h = absurd h.says.judgement
-check-stage outside source derivation t Closed h = absurd h.says.judgement
-check-stage outside source derivation t (NotBuilt n) h = absurd h.says.judgement
+check-stage outside source derivation t Saturated h = absurd h.says.judgement
+check-stage outside source derivation t (Heavy k) h = absurd h.says.judgement
 
 pub checks-have-one-answer : TextsHaveOneAnswer → ChecksHaveOneAnswer
 checks-have-one-answer one outside source derivation a b t h k =

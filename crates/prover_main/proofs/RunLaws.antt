@@ -12,14 +12,15 @@ use Rattle.clausal_form.specs.DerivationTexts.{IsAcceptedDerivation, IsRefusedDe
 use Rattle.clausal_form.specs.DerivationLaws.{TextsHaveOneAnswer}
 use Rattle.tstp_checker.specs.Causes.{cause_meant}
 use Rattle.tstp_checker.specs.declared.cause.Cause.{Cause}
+use Rattle.pool_core.specs.declared.options.Options.{Options}
 use Rattle.prover_main.specs.Outside.{Outside}
 use Rattle.prover_main.specs.Words.{Command, prove, check, command_of}
 use Rattle.prover_main.specs.declared.answer.Answer.{Answer}
-use Rattle.prover_main.specs.declared.answer.Answer.TheVariants.{Refuted, Spent, Closed, NotBuilt, Accepted, Refused, Unloaded, Unread, Unformed}
+use Rattle.prover_main.specs.declared.answer.Answer.TheVariants.{Refuted, Saturated, Spent, Heavy, Accepted, Refused, Unloaded, Unread, Unformed}
 use Rattle.prover_main.specs.Answer.{Source, IsUnread, IsLoaded, IsJudged, IsTooLong, IsProveAnswer, IsCheckAnswer, IsAnswer}
 use Rattle.prover_main.specs.Reports.{status_of, read_status, report_of, status_line, load_line}
 use Rattle.prover_main.specs.Run.{file_of, Taken, IsDueTo, IsDue, IsDelivery, status_after, IsRun}
-use Rattle.prover_main.specs.Laws.{IsTold, is_exact, EndsWith, EndsInMemoryOut, EndsInUsage, UsageIsTold, CommandsAreAnswered, EndsInLoadFault, FaultsAreCounted, HasCause, FaultsComeForCauses, IsValid, FormedIsValid, Reported, ProveEnds, with_refutation, with_limit_reached, with_closed_sets, with_clause_not_built, without_memory, ValidProblemsAreAnswered, CheckEnds, with_acceptance, with_refusal, check_without_memory, LoadedDerivationsAreAnswered}
+use Rattle.prover_main.specs.Laws.{IsTold, is_exact, EndsWith, EndsInMemoryOut, EndsInUsage, UsageIsTold, CommandsAreAnswered, EndsInLoadFault, FaultsAreCounted, HasCause, FaultsComeForCauses, IsValid, FormedIsValid, Reported, ProveEnds, with_refutation, with_limit_reached, with_heavy_inference, with_nothing_left, without_memory, ValidProblemsAreAnswered, CheckEnds, with_acceptance, with_refusal, check_without_memory, LoadedDerivationsAreAnswered}
 use Rattle.prover_main.proofs.OneAnswer.{fault-read, not-load, unformed-formed, text-one, loaded-short, faults-are-the-only-answer, checks-have-one-answer}
 
 -- ---- the statuses of answers
@@ -32,8 +33,8 @@ cause-not-five c e = omega (arith, e)
 answer-not-five : (a : Answer) → status_of a ≡ 5 → ⊥
 answer-not-five (Refuted c d) e = omega (arith, e)
 answer-not-five (Spent n m) e = omega (arith, e)
-answer-not-five Closed e = omega (arith, e)
-answer-not-five (NotBuilt n) e = omega (arith, e)
+answer-not-five Saturated e = omega (arith, e)
+answer-not-five (Heavy k) e = omega (arith, e)
 answer-not-five (Accepted n) e = omega (arith, e)
 answer-not-five (Refused n c) e = omega (arith, e)
 answer-not-five (Unloaded n) e = omega (arith, e)
@@ -48,8 +49,8 @@ cause-not-six c e = omega (arith, e)
 answer-not-six : (a : Answer) → status_of a ≡ 6 → ⊥
 answer-not-six (Refuted c d) e = omega (arith, e)
 answer-not-six (Spent n m) e = omega (arith, e)
-answer-not-six Closed e = omega (arith, e)
-answer-not-six (NotBuilt n) e = omega (arith, e)
+answer-not-six Saturated e = omega (arith, e)
+answer-not-six (Heavy k) e = omega (arith, e)
 answer-not-six (Accepted n) e = omega (arith, e)
 answer-not-six (Refused n c) e = omega (arith, e)
 answer-not-six (Unloaded n) e = omega (arith, e)
@@ -160,18 +161,18 @@ unread-load outside source command taken c f p h s told = absurd (omega (arith, 
 load-fault :
     (outside : Outside) (command : Command) (taken : Taken) (a : Answer) → IsAnswer outside command a → status_of a ≡ 4 → Reported command taken a
     → EndsInLoadFault command outside taken
-load-fault outside (prove file root limit) taken (Unread c f p) h s told =
-    unread-load outside (record { file = file; root = root }) (prove file root limit) taken c f p h s told
+load-fault outside (prove file root options) taken (Unread c f p) h s told =
+    unread-load outside (record { file = file; root = root }) (prove file root options) taken c f p h s told
 load-fault outside (check file derivation root) taken (Unread c f p) h s told =
     unread-load outside (record { file = file; root = root }) (check file derivation root) taken c f p h s told
-load-fault outside (prove file root limit) taken (Unloaded n) h s told = absurd h.says.1
+load-fault outside (prove file root options) taken (Unloaded n) h s told = absurd h.says
 load-fault outside (check file derivation root) taken (Unloaded n) h s told =
     load-told outside (check file derivation root) taken (Unloaded n) n told refl h.says.rose
     (subst (λ (m : List ℕ). IfSome outside.failed_after (λ failed. failed ≡ m)) (sym h.says.name_is) h.says.failed)
 load-fault outside command taken (Refuted c d) h s told = absurd (omega (arith, s))
 load-fault outside command taken (Spent n m) h s told = absurd (omega (arith, s))
-load-fault outside command taken Closed h s told = absurd (omega (arith, s))
-load-fault outside command taken (NotBuilt n) h s told = absurd (omega (arith, s))
+load-fault outside command taken Saturated h s told = absurd (omega (arith, s))
+load-fault outside command taken (Heavy k) h s told = absurd (omega (arith, s))
 load-fault outside command taken (Accepted n) h s told = absurd (omega (arith, s))
 load-fault outside command taken (Refused n c) h s told = absurd (omega (arith, s))
 load-fault outside command taken (Unformed c n) h s told = absurd (omega (arith, s))
@@ -204,7 +205,7 @@ faults-are-counted = record { of_sink = sink-rose; of_library = library-rose }
 one-answer :
     TextsHaveOneAnswer → (outside : Outside) (command : Command) (a b : Answer) → IsTold outside → is_exact (status_of a) ≡ true
     → IsAnswer outside command a → IsAnswer outside command b → a ≡ b
-one-answer one outside (prove file root limit) a b t x h k = faults-are-the-only-answer outside (record { file = file; root = root }) limit a b t x h k
+one-answer one outside (prove file root options) a b t x h k = faults-are-the-only-answer outside (record { file = file; root = root }) options a b t x h k
 one-answer one outside (check file derivation root) a b t x h k = checks-have-one-answer one outside (record { file = file; root = root }) derivation a b t h k
 
 five-not-exact : (fault : ℕ) → 5 ≡ fault → is_exact fault ≡ true → ⊥
@@ -248,25 +249,25 @@ formed-is-valid outside source fs t h = record {
 }
 
 prove-end :
-    (outside : Outside) (source : Source) (limit : ℕ) (taken : Taken) (status : ℕ) (a : Answer) → IsTold outside → IsValid outside source
-    → IsProveAnswer outside source limit a → status ≡ status_of a → Reported (prove source.file source.root limit) taken a
-    → ProveEnds outside source limit taken status
-prove-end outside source limit taken status (Refuted c d) t v h s w = with_refutation c d s h w
-prove-end outside source limit taken status (Spent n m) t v h s w = with_limit_reached n m s h w
-prove-end outside source limit taken status Closed t v h s w = with_closed_sets s h w
-prove-end outside source limit taken status (NotBuilt n) t v h s w = with_clause_not_built n s h w
-prove-end outside source limit taken status (Unread c f p) t v h s w = absurd (v.read c f p (not-load outside source t c f p h) h.fault)
-prove-end outside source limit taken status (Unformed c n) t v h s w = absurd (v.formed c n h)
-prove-end outside source limit taken status (Accepted n) t v h s w = absurd h.says.1
-prove-end outside source limit taken status (Refused n c) t v h s w = absurd h.says.1
-prove-end outside source limit taken status (Unloaded n) t v h s w = absurd h.says.1
+    (outside : Outside) (source : Source) (options : Options) (taken : Taken) (status : ℕ) (a : Answer) → IsTold outside → IsValid outside source
+    → IsProveAnswer outside source options a → status ≡ status_of a → Reported (prove source.file source.root options) taken a
+    → ProveEnds outside source options taken status
+prove-end outside source options taken status (Refuted c d) t v h s w = with_refutation c d s h w
+prove-end outside source options taken status (Spent n m) t v h s w = with_limit_reached n m s h w
+prove-end outside source options taken status (Heavy k) t v h s w = with_heavy_inference k s h w
+prove-end outside source options taken status Saturated t v h s w = with_nothing_left s h w
+prove-end outside source options taken status (Unread c f p) t v h s w = absurd (v.read c f p (not-load outside source t c f p h) h.fault)
+prove-end outside source options taken status (Unformed c n) t v h s w = absurd (v.formed c n h)
+prove-end outside source options taken status (Accepted n) t v h s w = absurd h.says
+prove-end outside source options taken status (Refused n c) t v h s w = absurd h.says
+prove-end outside source options taken status (Unloaded n) t v h s w = absurd h.says
 
 pub valid-problems-are-answered : ValidProblemsAreAnswered
-valid-problems-are-answered words outside taken status source limit t written e r v =
-    by (commands-are-answered words outside taken status (prove source.file source.root limit) e r written)
+valid-problems-are-answered words outside taken status source options t written e r v =
+    by (commands-are-answered words outside taken status (prove source.file source.root options) e r written)
   where
-    by : Ended outside (prove source.file source.root limit) taken status → ProveEnds outside source limit taken status
-    by (inl (a, h, w)) = prove-end outside source limit taken status a t v h w.status_is w.report_is
+    by : Ended outside (prove source.file source.root options) taken status → ProveEnds outside source options taken status
+    by (inl (a, h, w)) = prove-end outside source options taken status a t v h w.status_is w.report_is
     by (inr m) = without_memory m
 
 -- a text that is refused isn't accepted
@@ -299,8 +300,8 @@ check-end one outside source derivation x taken status (Unread c f p) t v loaded
 check-end one outside source derivation x taken status (Unformed c n) t v loaded h s w = absurd (v.formed c n h)
 check-end one outside source derivation x taken status (Refuted c d) t v loaded h s w = absurd h.says.judgement
 check-end one outside source derivation x taken status (Spent n m) t v loaded h s w = absurd h.says.judgement
-check-end one outside source derivation x taken status Closed t v loaded h s w = absurd h.says.judgement
-check-end one outside source derivation x taken status (NotBuilt n) t v loaded h s w = absurd h.says.judgement
+check-end one outside source derivation x taken status Saturated t v loaded h s w = absurd h.says.judgement
+check-end one outside source derivation x taken status (Heavy k) t v loaded h s w = absurd h.says.judgement
 
 pub loaded-derivations-are-answered : TextsHaveOneAnswer → LoadedDerivationsAreAnswered
 loaded-derivations-are-answered one words outside taken status source derivation x t written e r v loaded =

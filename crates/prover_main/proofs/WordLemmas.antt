@@ -8,7 +8,8 @@ use Rattle.plain_types.specs.declared.limits.TheConstants.{DEFAULT_INFERENCES, M
 use Rattle.tptp_source.specs.Items.{decimal_in}
 use Rattle.std.proofs.lemmas.List.{take-append-drop}
 use Rattle.std.proofs.lemmas.Slice.Eq.{bytes_eq-Decides}
-use Rattle.prover_main.specs.Words.{Options, Command, prove, check, is_option, is_filled, file_words, value_behind, no_options, within_limits, limit_in, with_root, with_inferences, with_limit, with_option_by, with_option, options_in, prove_with, check_with, command_of}
+use Rattle.literal_selection.specs.declared.choice.Selection.{Selection}
+use Rattle.prover_main.specs.Words.{Given, Command, prove, check, is_option, is_filled, file_words, value_behind, no_options, within_limits, limit_in, selection_in, with_root, with_inferences, with_selection, with_selection_by, with_inferences_by, with_option_by, with_option, options_in, options_by, is_root_alone, prove_with, check_with, command_of}
 use Rattle.prover_main.specs.WordParts.{IsFit, FewWords, more_words, few_with, few_of, prove_few, check_few}
 
 -- ---- counted words
@@ -17,14 +18,14 @@ more-stays : (ws : List (List ℕ)) → fold few_with more_words ws ≡ more_wor
 more-stays [] = refl
 more-stays (w ∷ ws) = more-stays ws
 
-pub prove-counted : (files : List (List ℕ)) (given : Option Options) → prove_few (few_of files) given ≡ prove_with files given
+pub prove-counted : (files : List (List ℕ)) (given : Option Given) → prove_few (few_of files) given ≡ prove_with files given
 prove-counted [] given = refl
 prove-counted (f ∷ []) None = refl
 prove-counted (f ∷ []) (Some given) = refl
 prove-counted (f ∷ g ∷ []) given = refl
 prove-counted (f ∷ g ∷ h ∷ fs) given = ap (λ n. prove_few n given) (more-stays fs)
 
-pub check-counted : (files : List (List ℕ)) (given : Option Options) → check_few (few_of files) given ≡ check_with files given
+pub check-counted : (files : List (List ℕ)) (given : Option Given) → check_few (few_of files) given ≡ check_with files given
 check-counted [] given = refl
 check-counted (f ∷ []) given = refl
 check-counted (f ∷ g ∷ []) None = refl
@@ -62,55 +63,70 @@ value-some name word value k e front v =
     ∙ ap (λ b. if b && is_filled (drop (length name) word) then Some (drop (length name) word) else None)
     (sym (starts name word (drop k word) front))
 
--- ---- the number of inferences is at least one
+-- ---- the number of inferences is within its limits
 
-abbrev AtLeastOne : Option ℕ → Type 0
-AtLeastOne None = ⊤
-AtLeastOne (Some n) = 1 ≤ n
+abbrev AreWithin : ℕ → Type 0
+AreWithin n = (1 ≤ n) × (n ≤ MOST_INFERENCES)
 
-abbrev Counts : Option Options → Type 0
+abbrev IsWithin : Option ℕ → Type 0
+IsWithin None = ⊤
+IsWithin (Some n) = AreWithin n
+
+abbrev Counts : Option Given → Type 0
 Counts None = ⊤
-Counts (Some given) = AtLeastOne given.inferences
+Counts (Some given) = IsWithin given.inferences
 
-within-counts : (n : ℕ) → AtLeastOne (within_limits n)
-within-counts n = by (nat_le 1 n) refl (nat_le n MOST_INFERENCES)
+within-counts : (n : ℕ) → IsWithin (within_limits n)
+within-counts n = by (nat_le 1 n) refl (nat_le n MOST_INFERENCES) refl
   where
-    by : (b : Bool) → nat_le 1 n ≡ b → (c : Bool) → AtLeastOne (if b && c then Some n else None)
-    by true h true = leb-true 1 n h
-    by true h false = tt
-    by false h c = tt
+    by : (b : Bool) → nat_le 1 n ≡ b → (c : Bool) → nat_le n MOST_INFERENCES ≡ c → IsWithin (if b && c then Some n else None)
+    by true h true k = (leb-true 1 n h, leb-true n MOST_INFERENCES k)
+    by true h false k = tt
+    by false h c k = tt
 
-limit-counts : (o : Option ℕ) → AtLeastOne (option_and_then within_limits o)
+limit-counts : (o : Option ℕ) → IsWithin (option_and_then within_limits o)
 limit-counts None = tt
 limit-counts (Some n) = within-counts n
 
-root-counts : (given : Options) (root : List ℕ) → AtLeastOne given.inferences → Counts (with_root given root)
+root-counts : (given : Given) (root : List ℕ) → IsWithin given.inferences → Counts (with_root given root)
 root-counts given root h = by (is_some given.root)
   where
-    by : (b : Bool) → Counts (if b then None else Some (record { inferences = given.inferences; root = Some root }))
+    by : (b : Bool) → Counts (if b then None else Some (record given { root = Some root }))
     by true = tt
     by false = h
 
-inferences-count : (given : Options) (o : Option ℕ) → AtLeastOne o → Counts (option_and_then (with_inferences given) o)
+inferences-count : (given : Given) (o : Option ℕ) → IsWithin o → Counts (option_and_then (with_inferences given) o)
 inferences-count given None h = tt
 inferences-count given (Some n) h = by (is_some given.inferences)
   where
-    by : (b : Bool) → Counts (if b then None else Some (record { inferences = Some n; root = given.root }))
+    by : (b : Bool) → Counts (if b then None else Some (record given { inferences = Some n }))
     by true = tt
     by false = h
 
-option-counts : (given : Options) (word : List ℕ) → AtLeastOne given.inferences → Counts (with_option given word)
+selection-counts : (given : Given) (o : Option Selection) → IsWithin given.inferences → Counts (option_and_then (with_selection given) o)
+selection-counts given None h = tt
+selection-counts given (Some select) h = by (is_some given.select)
+  where
+    by : (b : Bool) → Counts (if b then None else Some (record given { select = Some select }))
+    by true = tt
+    by false = h
+
+option-counts : (given : Given) (word : List ℕ) → IsWithin given.inferences → Counts (with_option given word)
 option-counts given word h = by (value_behind (codes "--tptp=") word)
   where
-    limit : (o : Option (List ℕ)) → Counts (with_limit given o)
-    limit None = tt
-    limit (Some value) = inferences-count given (limit_in value) (limit-counts (decimal_in value))
+    selection : (o : Option (List ℕ)) → Counts (with_selection_by given o)
+    selection None = tt
+    selection (Some value) = selection-counts given (selection_in value) h
+
+    inferences : (o : Option (List ℕ)) → Counts (with_inferences_by given word o)
+    inferences None = selection (value_behind (codes "--select=") word)
+    inferences (Some value) = inferences-count given (limit_in value) (limit-counts (decimal_in value))
 
     by : (o : Option (List ℕ)) → Counts (with_option_by given word o)
     by (Some root) = root-counts given root h
-    by None = limit (value_behind (codes "--inferences=") word)
+    by None = inferences (value_behind (codes "--inferences=") word)
 
-options-count : (words : List (List ℕ)) (given : Option Options) → Counts given → Counts (fold (λ g w. option_and_then (λ o. with_option o w) g) given words)
+options-count : (words : List (List ℕ)) (given : Option Given) → Counts given → Counts (fold (λ g w. option_and_then (λ o. with_option o w) g) given words)
 options-count [] given h = h
 options-count (w ∷ ws) None h = options-count ws None tt
 options-count (w ∷ ws) (Some given) h = options-count ws (with_option given w) (option-counts given w h)
@@ -119,24 +135,25 @@ abbrev Fits : Option Command → Type 0
 Fits None = ⊤
 Fits (Some command) = IsFit command
 
-prove-fits : (files : List (List ℕ)) (given : Option Options) → Counts given → Fits (prove_with files given)
+prove-fits : (files : List (List ℕ)) (given : Option Given) → Counts given → Fits (prove_with files given)
 prove-fits [] given h = tt
 prove-fits (f ∷ []) None h = tt
-prove-fits (f ∷ []) (Some given) h = by (is_filled f) refl given.inferences h
+prove-fits (f ∷ []) (Some given) h = by (is_filled f) refl
   where
-    by :
-        (b : Bool) → is_filled f ≡ b → (o : Option ℕ) → AtLeastOne o
-        → Fits (if b then Some (prove f given.root (unwrap_or o DEFAULT_INFERENCES)) else None)
-    by true e None k = (omega arith, e)
-    by true e (Some n) k = (k, e)
-    by false e o k = tt
+    limit : (o : Option ℕ) → IsWithin o → AreWithin (unwrap_or o DEFAULT_INFERENCES)
+    limit None k = (omega arith, omega arith)
+    limit (Some n) k = k
+
+    by : (b : Bool) → is_filled f ≡ b → Fits (if b then Some (prove f given.root (options_by given)) else None)
+    by true e = (limit given.inferences h, refl, e)
+    by false e = tt
 prove-fits (f ∷ g ∷ fs) given h = tt
 
-check-fits : (files : List (List ℕ)) (given : Option Options) → Fits (check_with files given)
+check-fits : (files : List (List ℕ)) (given : Option Given) → Fits (check_with files given)
 check-fits [] given = tt
 check-fits (f ∷ []) given = tt
 check-fits (f ∷ g ∷ []) None = tt
-check-fits (f ∷ g ∷ []) (Some given) = by (is_filled f && (is_filled g && not (is_some given.inferences)))
+check-fits (f ∷ g ∷ []) (Some given) = by (is_filled f && (is_filled g && is_root_alone given))
   where
     by : (b : Bool) → Fits (if b then Some (check f g given.root) else None)
     by true = tt
@@ -175,7 +192,7 @@ value-filled name word value (n, (e, front, b), v, l) h =
 
 -- ---- words by kinds
 
-abbrev kept : Option Options → List (List ℕ) → Option Options
+abbrev kept : Option Given → List (List ℕ) → Option Given
 kept given words = fold (λ g w. option_and_then (λ o. with_option o w) g) given (filter is_option words)
 
 pub file-skipped :
@@ -193,14 +210,14 @@ file-added x total all rest w e o h =
     ∙ sym (ap (λ ws. fold few_with x (file_words ws)) e) ∙ h
 
 pub option-skipped :
-    (given total : Option Options) (all rest : List (List ℕ)) (w : List ℕ)
+    (given total : Option Given) (all rest : List (List ℕ)) (w : List ℕ)
     → all ≡ w ∷ rest → false ≡ is_option w → kept given all ≡ total → kept given rest ≡ total
 option-skipped given total all rest w e o h =
     ap (λ (b : Bool). fold (λ g v. option_and_then (λ p. with_option p v) g) given (if b then w ∷ filter is_option rest else filter is_option rest)) o
     ∙ sym (ap (kept given) e) ∙ h
 
 pub option-added :
-    (given total : Option Options) (all rest : List (List ℕ)) (w : List ℕ)
+    (given total : Option Given) (all rest : List (List ℕ)) (w : List ℕ)
     → all ≡ w ∷ rest → true ≡ is_option w → kept given all ≡ total → kept (option_and_then (λ o. with_option o w) given) rest ≡ total
 option-added given total all rest w e o h =
     ap (λ (b : Bool). fold (λ g v. option_and_then (λ p. with_option p v) g) given (if b then w ∷ filter is_option rest else filter is_option rest)) o
@@ -209,7 +226,7 @@ option-added given total all rest w e o h =
 -- ---- commands
 
 pub command-proves :
-    (all words : List (List ℕ)) (word : List ℕ) (files : FewWords) (given : Option Options) (command : Option Command)
+    (all words : List (List ℕ)) (word : List ℕ) (files : FewWords) (given : Option Given) (command : Option Command)
     → all ≡ word ∷ words → word ≡ codes "prove" → files ≡ few_of (file_words words) → given ≡ options_in words
     → command ≡ prove_few files given → command ≡ command_of all
 command-proves all words word files given command a w f g c =
@@ -220,7 +237,7 @@ command-proves all words word files given command a w f g c =
     ∙ sym (ap command_of (a ∙ ap (λ v. v ∷ words) w))
 
 pub command-checks :
-    (all words : List (List ℕ)) (word : List ℕ) (files : FewWords) (given : Option Options) (command : Option Command)
+    (all words : List (List ℕ)) (word : List ℕ) (files : FewWords) (given : Option Given) (command : Option Command)
     → all ≡ word ∷ words → word ≡ codes "check" → files ≡ few_of (file_words words) → given ≡ options_in words
     → command ≡ check_few files given → command ≡ command_of all
 command-checks all words word files given command a w f g c =

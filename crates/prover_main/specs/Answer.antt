@@ -1,5 +1,5 @@
 -- When each answer of a command comes.
-use Rattle.std.specs.Prelude.{◌≡◌, ◌≤◌, ◌⊎◌, ℕ, Bool, List, length, map, Option, None, Some, IfSome, option_map, option_and_then, slice_get}
+use Rattle.std.specs.Prelude.{◌≡◌, ◌≢◌, ◌≤◌, ◌⊎◌, ℕ, Bool, List, length, map, Option, None, Some, IfSome, slice_get, AllPairs, IsTrue}
 use Rattle.std.specs.List.{list_any}
 use Rattle.outside.specs.Faults.{Rose}
 use Rattle.outside.specs.Library.{HoldsExactly, FoundMore}
@@ -11,23 +11,31 @@ use Rattle.tptp_problem.specs.Formulas.{placed}
 use Rattle.tptp_problem.specs.Problem.{IsProblem, IsProblemFault}
 use Rattle.tptp_problem.specs.Shape.{IsLoadTold}
 use Rattle.signature.specs.Form.{clausal_form}
+use Rattle.kernel_steps.specs.Keys.{key_text}
+use Rattle.kernel_steps.specs.declared.key.Key.{Key}
 use Rattle.clausal_form.specs.Fault.{form_fault}
 use Rattle.clausal_form.specs.FormFunctions.{is_predicate_in, IsHerbrandRefuted}
 use Rattle.clausal_form.specs.DerivationTexts.{IsAcceptedDerivation, IsRefusedDerivation}
 use Rattle.clausal_form.specs.declared.fault.FormCause.{FormCause}
-use Rattle.kernel_steps.specs.declared.step.Line.{Line}
-use Rattle.ground_loop.specs.Answer.{HasClosedSets, HasTriples}
-use Rattle.ground_loop.specs.Satisfaction.{Satisfied}
-use Rattle.ground_loop.specs.Scope.{first_outside}
+use Rattle.pool_core.specs.Inputs.{IsHistoryOf}
+use Rattle.pool_core.specs.Laws.{IsHeavyAmong}
+use Rattle.pool_core.specs.Outcomes.{is_at_rest, is_of_living, outcome_of}
+use Rattle.pool_core.specs.Record.{PoolRecord}
+use Rattle.pool_core.specs.Replay.{Origin, replay}
+use Rattle.pool_core.specs.declared.event.Event.{Event}
+use Rattle.pool_core.specs.declared.options.Options.{Options}
+use Rattle.pool_core.specs.declared.outcome.Outcome.{Outcome}
+use Rattle.pool_core.specs.declared.outcome.Outcome.TheVariants as outcome
+use Rattle.retracing.specs.Retraced.{steps_of}
 use Rattle.tstp_checker.specs.Causes.{cause_meant}
 use Rattle.tstp_checker.specs.declared.cause.Cause.{Cause}
 use Rattle.tstp_checker.specs.declared.cause.Cause.TheVariants.{Text}
-use Rattle.tstp_writer.specs.Written.{IsWritten}
+use Rattle.pool_writer.specs.Refuted.{IsRefutationText}
 use Rattle.prover_main.specs.Names.{shown}
 use Rattle.prover_main.specs.Outside.{Outside}
 use Rattle.prover_main.specs.Words.{Command, prove, check}
 use Rattle.prover_main.specs.declared.answer.Answer.{Answer}
-use Rattle.prover_main.specs.declared.answer.Answer.TheVariants.{Refuted, Spent, Closed, NotBuilt, Accepted, Refused, Unloaded, Unread, Unformed}
+use Rattle.prover_main.specs.declared.answer.Answer.TheVariants.{Refuted, Saturated, Spent, Heavy, Accepted, Refused, Unloaded, Unread, Unformed}
 
 -- ---- the problem
 
@@ -66,63 +74,60 @@ pub record OfFormed (outside : Outside) (source : Source) (Says : List Annotated
 abbrev pub has_conjecture : List Annotated → Bool
 has_conjecture formulas = list_any (λ (a : Annotated). is_conjecture a.role) formulas
 
--- the formula from which a clause of the form comes
-abbrev pub formula_of_clause : List Annotated → ℕ → Option Annotated
-formula_of_clause formulas i = option_and_then (slice_get formulas) (slice_get (clausal_form formulas).origins i)
+-- what a pool of the problem's clausal form begins with
+abbrev pub origin_of : List Annotated → Options → Origin
+origin_of formulas options = record { inputs = (clausal_form formulas).clauses; options = options }
 
--- each clause of the form is one that the ground loop takes
-abbrev pub IsBuilt : List Annotated → Type 0
-IsBuilt formulas = first_outside (clausal_form formulas).clauses ≡ None
+-- The record is what a lawful history of the problem's clausal form and the options amounts to, and the outcome stands on it.
+pub record HasHistory (formulas : List Annotated) (options : Options) (outcome : Outcome) (r : PoolRecord) : Type 0 where
+  pub events : List Event
+  pub lawful : IsHistoryOf (origin_of formulas options) events
+  pub replayed : r ≡ replay (origin_of formulas options) events
+  pub ends : outcome_of r ≡ Some outcome
 
--- The text is what is written of the lines that some line needs, with the problem's file as it is shown.
-pub record IsDerivationText (file : List ℕ) (formulas : List Annotated) (text : List ℕ) : Type 0 where
-  pub lines : List Line
-  pub last : ℕ
-  pub written : IsWritten (shown file) formulas lines last text
-
--- The derivation is accepted, and so some finite list of ground instances of the clausal form is true in no interpretation.
-pub record IsRefuted (file : List ℕ) (formulas : List Annotated) (conjecture : Bool) (derivation : List ℕ) : Type 0 where
+-- The derivation is what is written of the lines of such a history in which the empty clause was derived, with the problem's file as it is
+-- shown. It is accepted, and so some finite list of ground instances of the clausal form is true in no interpretation.
+pub record IsRefuted (file : List ℕ) (formulas : List Annotated) (options : Options) (conjecture : Bool) (derivation : List ℕ) : Type 0 where
+  pub r : PoolRecord
+  pub history : HasHistory formulas options outcome.Refuted r
+  pub printed : IsRefutationText (shown file) formulas (steps_of r.lines) derivation
   pub conjecture_is : conjecture ≡ has_conjecture formulas
-  pub printed : IsDerivationText file formulas derivation
   pub count : ℕ
   pub accepted : IsAcceptedDerivation formulas derivation count
   pub herbrand : IsHerbrandRefuted formulas
 
--- As many different inferences as the limit.
-pub record IsSpent (formulas : List Annotated) (limit count allowed : ℕ) : Type 0 where
-  pub count_is : count ≡ limit
-  pub allowed_is : allowed ≡ limit
-  pub triples : HasTriples (clausal_form formulas).clauses limit
+-- So many inferences were counted in such a history, all different, and at least as many as the limit.
+pub record IsSpent (formulas : List Annotated) (options : Options) (count allowed : ℕ) : Type 0 where
+  pub r : PoolRecord
+  pub history : HasHistory formulas options (outcome.Spent count) r
+  pub counted : count ≡ length r.counted
+  pub different : AllPairs (λ k l. k ≢ l) r.counted
+  pub reached : allowed ≤ count
+  pub allowed_is : allowed ≡ options.inferences
 
--- a finite interpretation makes all clauses of the form true
-abbrev pub IsSatisfied : List Annotated → Type 0
-IsSatisfied formulas = Satisfied (is_predicate_in (clausal_form formulas).symbols) (clausal_form formulas).clauses
+-- Nothing was left to do in such a history, but the inference of that key was set aside as too heavy, and its premises live and are awake. It
+-- is the one at the place that the outcome names.
+pub record IsHeavy (formulas : List Annotated) (options : Options) (text : List ℕ) : Type 0 where
+  pub r : PoolRecord
+  pub place : ℕ
+  pub history : HasHistory formulas options (outcome.Heavy place) r
+  pub key : Key
+  pub set_aside : slice_get r.set_aside place ≡ Some key
+  pub printed : text ≡ key_text key
+  pub at_rest : IsTrue (is_at_rest r)
+  pub of_living : IsTrue (is_of_living r key)
+  pub heavy : IsHeavyAmong (is_predicate_in (clausal_form formulas).symbols) options r key
 
--- A closed list of sets without the empty set, and so a finite interpretation that makes all clauses true.
-pub record IsClosed (formulas : List Annotated) : Type 0 where
-  pub sets : HasClosedSets (clausal_form formulas).clauses
-  pub satisfied : IsSatisfied formulas
+-- Nothing was left to do in such a history, and no inference of living clauses was set aside.
+abbrev pub IsAtEnd : List Annotated → Options → Type 0
+IsAtEnd formulas options = (r : PoolRecord) × HasHistory formulas options outcome.Saturated r
 
--- what the ground loop answers
-abbrev pub IsGroundProof : List ℕ → List Annotated → ℕ → Answer → Type 0
-IsGroundProof file formulas limit (Refuted conjecture derivation) = IsRefuted file formulas conjecture derivation
-IsGroundProof file formulas limit (Spent count allowed) = IsSpent formulas limit count allowed
-IsGroundProof file formulas limit Closed = IsClosed formulas
-IsGroundProof file formulas limit other = ⊥
-
--- the clause of that number is one of the formula of this name
-abbrev pub IsClauseOfName : List Annotated → ℕ → List ℕ → Type 0
-IsClauseOfName formulas index name = option_map (λ (a : Annotated). a.name) (formula_of_clause formulas index) ≡ Some name
-
--- The first clause that has a variable, an equation or a name, or with which the form has too many symbols, is one of that formula.
-pub record IsNotBuilt (formulas : List Annotated) (name : List ℕ) : Type 0 where
-  pub index : ℕ
-  pub is_outside : first_outside (clausal_form formulas).clauses ≡ Some index
-  pub name_is : IsClauseOfName formulas index name
-
-abbrev pub IsProofAnswer : List ℕ → List Annotated → ℕ → Answer → Type 0
-IsProofAnswer file formulas limit (NotBuilt name) = IsNotBuilt formulas name
-IsProofAnswer file formulas limit answer = IsBuilt formulas × IsGroundProof file formulas limit answer
+abbrev pub IsProofAnswer : List ℕ → List Annotated → Options → Answer → Type 0
+IsProofAnswer file formulas options (Refuted conjecture derivation) = IsRefuted file formulas options conjecture derivation
+IsProofAnswer file formulas options (Spent count allowed) = IsSpent formulas options count allowed
+IsProofAnswer file formulas options (Heavy text) = IsHeavy formulas options text
+IsProofAnswer file formulas options Saturated = IsAtEnd formulas options
+IsProofAnswer file formulas options other = ⊥
 
 -- ---- what `check` says of the formulas
 
@@ -163,10 +168,10 @@ IsLoadAnswer outside derivation formulas answer = IsJudged outside derivation fo
 
 -- ---- by the command: the first stage that fails answers
 
-abbrev pub IsProveAnswer : Outside → Source → ℕ → Answer → Type 0
-IsProveAnswer outside source limit (Unread cause file place) = IsUnread outside source cause file place
-IsProveAnswer outside source limit (Unformed cause name) = IsUnformed outside source cause name
-IsProveAnswer outside source limit answer = OfFormed outside source (λ formulas. IsProofAnswer source.file formulas limit answer)
+abbrev pub IsProveAnswer : Outside → Source → Options → Answer → Type 0
+IsProveAnswer outside source options (Unread cause file place) = IsUnread outside source cause file place
+IsProveAnswer outside source options (Unformed cause name) = IsUnformed outside source cause name
+IsProveAnswer outside source options answer = OfFormed outside source (λ formulas. IsProofAnswer source.file formulas options answer)
 
 abbrev pub IsCheckAnswer : Outside → Source → List ℕ → Answer → Type 0
 IsCheckAnswer outside source derivation (Unread cause file place) = IsUnread outside source cause file place
@@ -174,5 +179,5 @@ IsCheckAnswer outside source derivation (Unformed cause name) = IsUnformed outsi
 IsCheckAnswer outside source derivation answer = OfFormed outside source (λ formulas. IsLoadAnswer outside derivation formulas answer)
 
 abbrev pub IsAnswer : Outside → Command → Answer → Type 0
-IsAnswer outside (prove file root limit) answer = IsProveAnswer outside (record { file = file; root = root }) limit answer
+IsAnswer outside (prove file root options) answer = IsProveAnswer outside (record { file = file; root = root }) options answer
 IsAnswer outside (check file derivation root) answer = IsCheckAnswer outside (record { file = file; root = root }) derivation answer

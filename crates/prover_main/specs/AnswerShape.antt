@@ -1,27 +1,37 @@
 -- What the stages of a command answer, in the words of the definitions.
-use Rattle.std.specs.Prelude.{◌≡◌, ⊤, ℕ, List, map, Option, None}
+use Rattle.std.specs.Prelude.{◌≡◌, ⊤, ℕ, List, map, Option, None, Some}
 use Rattle.outside.specs.Library.{Holdings}
 use Rattle.tptp_tree.specs.ProblemSize.{HasProblemSize}
 use Rattle.tptp_tree.specs.declared.problem.Annotated.{Annotated}
+use Rattle.tptp_tree.specs.declared.problem.Problem.{Problem}
 use Rattle.tptp_problem.specs.Formulas.{placed}
 use Rattle.tptp_problem.specs.Problem.{IsProblem}
 use Rattle.signature.specs.Form.{clausal_form}
 use Rattle.clausal_form.specs.Form.{form_of}
 use Rattle.clausal_form.specs.Fault.{form_fault}
+use Rattle.pool_core.specs.declared.options.Options.{Options}
+use Rattle.proving.specs.Proved.{IsProvedFrom}
 use Rattle.prover_main.specs.Outside.{Outside}
-use Rattle.prover_main.specs.Answer.{Source, IsUnread, IsUnformed, IsClauseOfName}
+use Rattle.prover_main.specs.Answer.{Source, IsUnread, IsUnformed}
 use Rattle.prover_main.specs.declared.answer.Answer.{Answer}
-use Rattle.prover_main.specs.declared.answer.Answer.TheVariants.{NotBuilt, Unread, Unformed}
+use Rattle.prover_main.specs.declared.answer.Answer.TheVariants.{Unread, Unformed}
 use Rattle.prover_main.specs.declared.problem.FormedProblem.{FormedProblem}
 use Rattle.prover_main.specs.declared.problem.Stop.{Stop}
 use Rattle.prover_main.specs.declared.problem.Stop.TheVariants.{NoMemory, Unread as NotRead, Unformed as NotFormed}
+use Rattle.prover_main.specs.declared.proved.ProveFault.{ProveFault}
+use Rattle.prover_main.specs.declared.proved.ProveFault.TheVariants.{NoMemory as WithoutMemory, Form}
+use Rattle.prover_main.specs.declared.proved.Proved.{Proved}
 
 -- ---- stages
 
--- The problem is that of the file, with its clausal form.
+-- The problem is that of the file.
+pub record IsReadFrom (told : Option Holdings) (source : Source) (problem : Problem) : Type 0 where
+  pub read : IsProblem told source.file source.root (map placed problem.formulas)
+  pub size : HasProblemSize problem.formulas
+
+-- and it is with its clausal form.
 pub record IsFormedFrom (told : Option Holdings) (source : Source) (formed : FormedProblem) : Type 0 where
-  pub read : IsProblem told source.file source.root (map placed formed.problem.formulas)
-  pub size : HasProblemSize formed.problem.formulas
+  pub read_from : IsReadFrom told source formed.problem
   pub within : form_fault formed.problem.formulas ≡ None
   pub form : form_of formed.form ≡ clausal_form formed.problem.formulas
 
@@ -38,13 +48,21 @@ IsStopAnswer (NotFormed cause name) answer = answer ≡ Unformed cause name
 
 -- ---- proofs
 
--- the problem was read, from some files, and is brought to its clausal form
-pub record WasFormed (formed : FormedProblem) : Type 0 where
+-- The form is the problem's, within its limits, and the pool of its clauses with these options has ended.
+pub record IsProvedProblem (formulas : List Annotated) (options : Options) (proved : Proved) : Type 0 where
+  pub within : form_fault formulas ≡ None
+  pub form : form_of proved.form ≡ clausal_form formulas
+  pub pool :
+      IsProvedFrom (clausal_form formulas).clauses options
+      (record { outcome = proved.outcome; pool = proved.pool; bank = proved.bank })
+
+-- The problem has no clausal form, because of the formula of that name; or memory was wanted.
+abbrev pub IsProveFault : List Annotated → ProveFault → Type 0
+IsProveFault formulas (Form cause name) = form_fault formulas ≡ Some (cause, name)
+IsProveFault formulas WithoutMemory = ⊤
+
+-- the problem was read, from some files
+pub record WasRead (problem : Problem) : Type 0 where
   pub told : Option Holdings
   pub source : Source
-  pub formed_from : IsFormedFrom told source formed
-
--- the answer for the clause of that number
-abbrev pub IsNotBuiltAnswer : List Annotated → ℕ → Answer → Type 0
-IsNotBuiltAnswer formulas index answer =
-    (name : List ℕ) × (answer ≡ NotBuilt name) × IsClauseOfName formulas index name
+  pub read_from : IsReadFrom told source problem

@@ -1,5 +1,7 @@
 -- The values of the worked examples.
 use Rattle.std.specs.Prelude.{ℕ, List, [], false, Some, None, codes, Result}
+use Rattle.literal_selection.specs.declared.choice.Selection.TheVariants.{Negative}
+use Rattle.pool_core.specs.declared.options.Options.{Options}
 use Rattle.outside.specs.Examples.{script_gives}
 use Rattle.outside.specs.declared.fault.SinkFault.{SinkFault}
 use Rattle.tptp_tree.specs.declared.formula.Formula.TheVariants.{Pred}
@@ -7,6 +9,10 @@ use Rattle.tptp_tree.specs.declared.problem.Annotated.{Annotated}
 use Rattle.tptp_tree.specs.declared.role.Role.{Role}
 use Rattle.prover_main.specs.Outside.{Outside}
 use Rattle.prover_main.specs.Run.{AreWrites, DeliversInPieces}
+
+-- a pool counts so many inferences, and chooses negative literals
+abbrev pub counting : ℕ → Options
+counting n = record { select = Negative; split = false; inferences = n }
 
 -- the proposition p in this role
 abbrev pub formula_in : Role → Annotated

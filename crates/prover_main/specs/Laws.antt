@@ -15,9 +15,12 @@ use Rattle.tstp_checker.specs.declared.cause.Cause.{Cause}
 use Rattle.prover_main.specs.Outside.{Outside}
 use Rattle.prover_main.specs.Words.{Command, prove, check, command_of}
 use Rattle.prover_main.specs.declared.answer.Answer.{Answer}
-use Rattle.prover_main.specs.declared.answer.Answer.TheVariants.{Refuted, Spent, Closed, NotBuilt, Accepted, Refused}
+use Rattle.prover_main.specs.declared.answer.Answer.TheVariants.{Refuted, Saturated, Spent, Heavy, Accepted, Refused}
 use Rattle.prover_main.specs.declared.status.TheConstants.{SINK_FAILED, USAGE_SHOWN, MEMORY_OUT}
-use Rattle.prover_main.specs.Answer.{Source, IsFormed, IsUnformed, IsLoaded, OfFormed, IsSatisfied, IsProveAnswer, IsCheckAnswer, IsAnswer}
+use Rattle.pool_core.specs.Record.{PoolRecord}
+use Rattle.pool_core.specs.declared.options.Options.{Options}
+use Rattle.pool_core.specs.declared.outcome.Outcome.TheVariants as outcome
+use Rattle.prover_main.specs.Answer.{Source, IsFormed, IsUnformed, IsLoaded, OfFormed, HasHistory, IsAtEnd, IsProveAnswer, IsCheckAnswer, IsAnswer}
 use Rattle.prover_main.specs.Reports.{status_of, report_of, memory_out_report, usage_report, status_line, load_line}
 use Rattle.prover_main.specs.Run.{file_of, Taken, IsRun}
 
@@ -44,8 +47,8 @@ ChecksHaveOneAnswer =
 -- and what `prove` answers where something is wrong with the problem.
 abbrev pub FaultsAreTheOnlyAnswer : Type 0
 FaultsAreTheOnlyAnswer =
-    (outside : Outside) (source : Source) (limit : ℕ) (a b : Answer)
-    → IsTold outside → is_exact (status_of a) ≡ true → IsProveAnswer outside source limit a → IsProveAnswer outside source limit b
+    (outside : Outside) (source : Source) (options : Options) (a b : Answer)
+    → IsTold outside → is_exact (status_of a) ≡ true → IsProveAnswer outside source options a → IsProveAnswer outside source options b
     → a ≡ b
 
 -- ---- statuses and causes
@@ -119,20 +122,30 @@ FaultsComeForCauses =
 -- ---- soundness
 
 abbrev pub source_of : Command → Source
-source_of (prove file root limit) = record { file = file; root = root }
+source_of (prove file root options) = record { file = file; root = root }
 source_of (check file derivation root) = record { file = file; root = root }
 
--- What 0 and 10 say of the problem: 0 comes only where some finite list of ground instances of its clausal form is true in no
--- interpretation, and 10 only where a finite interpretation makes all its clauses true.
+-- a pool of the problem gave up: so many inferences were counted, or one was set aside
+abbrev pub HasGivenUp : Options → List Annotated → Type 0
+HasGivenUp options formulas =
+    (r : PoolRecord)
+    × (((count : ℕ) × HasHistory formulas options (outcome.Spent count) r) ⊎ ((place : ℕ) × HasHistory formulas options (outcome.Heavy place) r))
+
+-- What 0, 2 and 10 say of the problem: 0 comes only where some finite list of ground instances of its clausal form is true in no
+-- interpretation, and 2 and 10 only where some lawful history of its clausal form and the options ends so.
 pub record StatusesAreTrue : Type 0 where
   pub refuted :
       (words : List (List ℕ)) (outside : Outside) (taken : Taken) (status : ℕ) (command : Command)
       → command_of words ≡ Some command → IsRun words outside taken status → status ≡ 0
       → OfFormed outside (source_of command) IsHerbrandRefuted
-  pub satisfied :
-      (words : List (List ℕ)) (outside : Outside) (taken : Taken) (status : ℕ) (command : Command)
-      → command_of words ≡ Some command → IsRun words outside taken status → status ≡ 10
-      → OfFormed outside (source_of command) IsSatisfied
+  pub gave_up :
+      (words : List (List ℕ)) (outside : Outside) (taken : Taken) (status : ℕ) (source : Source) (options : Options)
+      → command_of words ≡ Some (prove source.file source.root options) → IsRun words outside taken status → status ≡ 2
+      → OfFormed outside source (HasGivenUp options)
+  pub saturated :
+      (words : List (List ℕ)) (outside : Outside) (taken : Taken) (status : ℕ) (source : Source) (options : Options)
+      → command_of words ≡ Some (prove source.file source.root options) → IsRun words outside taken status → status ≡ 10
+      → OfFormed outside source (λ formulas. IsAtEnd formulas options)
 
 -- ---- completeness
 
@@ -150,27 +163,27 @@ FormedIsValid =
     → IsValid outside source
 
 -- How `prove` ends on a valid input: its report is that of an answer that is so, or memory was wanted.
-pub data ProveEnds (outside : Outside) (source : Source) (limit : ℕ) (taken : Taken) (status : ℕ) : Type 0 where
+pub data ProveEnds (outside : Outside) (source : Source) (options : Options) (taken : Taken) (status : ℕ) : Type 0 where
   with_refutation :
       (conjecture : Bool) (derivation : List ℕ) → status ≡ 0
-      → IsProveAnswer outside source limit (Refuted conjecture derivation)
-      → Reported (prove source.file source.root limit) taken (Refuted conjecture derivation) → ProveEnds outside source limit taken status
+      → IsProveAnswer outside source options (Refuted conjecture derivation)
+      → Reported (prove source.file source.root options) taken (Refuted conjecture derivation) → ProveEnds outside source options taken status
   with_limit_reached :
-      (count allowed : ℕ) → status ≡ 2 → IsProveAnswer outside source limit (Spent count allowed)
-      → Reported (prove source.file source.root limit) taken (Spent count allowed) → ProveEnds outside source limit taken status
-  with_closed_sets :
-      status ≡ 10 → IsProveAnswer outside source limit Closed → Reported (prove source.file source.root limit) taken Closed
-      → ProveEnds outside source limit taken status
-  with_clause_not_built :
-      (name : List ℕ) → status ≡ 3 → IsProveAnswer outside source limit (NotBuilt name)
-      → Reported (prove source.file source.root limit) taken (NotBuilt name) → ProveEnds outside source limit taken status
-  without_memory : EndsInMemoryOut (prove source.file source.root limit) taken status → ProveEnds outside source limit taken status
+      (count allowed : ℕ) → status ≡ 2 → IsProveAnswer outside source options (Spent count allowed)
+      → Reported (prove source.file source.root options) taken (Spent count allowed) → ProveEnds outside source options taken status
+  with_heavy_inference :
+      (key : List ℕ) → status ≡ 2 → IsProveAnswer outside source options (Heavy key)
+      → Reported (prove source.file source.root options) taken (Heavy key) → ProveEnds outside source options taken status
+  with_nothing_left :
+      status ≡ 10 → IsProveAnswer outside source options Saturated → Reported (prove source.file source.root options) taken Saturated
+      → ProveEnds outside source options taken status
+  without_memory : EndsInMemoryOut (prove source.file source.root options) taken status → ProveEnds outside source options taken status
 
 abbrev pub ValidProblemsAreAnswered : Type 0
 ValidProblemsAreAnswered =
-    (words : List (List ℕ)) (outside : Outside) (taken : Taken) (status : ℕ) (source : Source) (limit : ℕ)
-    → IsTold outside → (status ≡ SINK_FAILED → ⊥) → command_of words ≡ Some (prove source.file source.root limit) → IsRun words outside taken status
-    → IsValid outside source → ProveEnds outside source limit taken status
+    (words : List (List ℕ)) (outside : Outside) (taken : Taken) (status : ℕ) (source : Source) (options : Options)
+    → IsTold outside → (status ≡ SINK_FAILED → ⊥) → command_of words ≡ Some (prove source.file source.root options)
+    → IsRun words outside taken status → IsValid outside source → ProveEnds outside source options taken status
 
 -- How `check` ends on a valid input and the text of a derivation: it tells whether the text is an accepted derivation of the
 -- problem's formulas, or memory was wanted.

@@ -11,7 +11,7 @@ use Rattle.tstp_checker.specs.declared.cause.Cause.{Cause}
 use Rattle.tstp_checker.specs.declared.cause.Cause.TheVariants.{Text, Order, UnknownParent, Leaf, Clausify, Binding, Rule, Conclusion, NewSymbol, NoEmptyClause}
 use Rattle.tstp_writer.specs.LineTexts.{formula_name_text}
 use Rattle.prover_main.specs.declared.answer.Answer.{Answer}
-use Rattle.prover_main.specs.declared.answer.Answer.TheVariants.{Refuted, Spent, Closed, NotBuilt, Accepted, Refused, Unloaded, Unread, Unformed}
+use Rattle.prover_main.specs.declared.answer.Answer.TheVariants.{Refuted, Saturated, Spent, Heavy, Accepted, Refused, Unloaded, Unread, Unformed}
 use Rattle.prover_main.specs.Names.{shown, problem_name}
 
 -- ---- causes by their names
@@ -71,6 +71,9 @@ output_line word file = codes "% SZS output " ++ word ++ codes " CNFRefutation" 
 abbrev pub spent_line : ℕ → ℕ → List ℕ
 spent_line count limit = codes "% spent " ++ decimal count ++ codes " of " ++ decimal limit ++ codes "\n"
 
+abbrev pub heavy_line : List ℕ → List ℕ
+heavy_line key = codes "% heavy " ++ key ++ codes "\n"
+
 abbrev pub load_line : List ℕ → List ℕ
 load_line file = codes "% Load " ++ shown file ++ codes "\n"
 
@@ -119,28 +122,28 @@ abbrev pub status_of : Answer → ℕ
 status_of (Refuted conjecture derivation) = 0
 status_of (Accepted lines) = 0
 status_of (Spent count allowed) = 2
-status_of (NotBuilt name) = 3
+status_of (Heavy key) = 2
 status_of (Unformed cause name) = 3
 status_of (Unloaded name) = 4
 status_of (Unread cause name place) = read_status cause
 status_of (Refused line cause) = 9
-status_of Closed = 10
+status_of Saturated = 10
 
 -- what is told of the problem in a file
 abbrev pub report_of : List ℕ → Answer → List ℕ
 report_of file (Refuted conjecture derivation) = refuted_report file conjecture derivation
 report_of file (Accepted lines) = accepted_line lines
 report_of file (Spent count allowed) = status_line (codes "GaveUp") file ++ spent_line count allowed
-report_of file (NotBuilt name) = status_line (codes "InputError") file ++ formula_line (codes "NotBuilt") name
+report_of file (Heavy key) = status_line (codes "GaveUp") file ++ heavy_line key
 report_of file (Unformed cause name) = status_line (codes "InputError") file ++ formula_line (limit_word cause) name
 report_of file (Unloaded name) = status_line (codes "OSError") file ++ load_line name
 report_of file (Unread cause name place) = status_line (read_status_word cause) file ++ fault_line cause name place
 report_of file (Refused line cause) = refused_line line cause
-report_of file Closed = status_line (codes "Unknown") file ++ codes "% closed\n"
+report_of file Saturated = status_line (codes "Unknown") file ++ codes "% closed\n"
 
 -- memory was wanted
 abbrev pub memory_out_report : List ℕ → List ℕ
 memory_out_report file = status_line (codes "MemoryOut") file
 
 abbrev pub usage_report : List ℕ
-usage_report = codes "usage: prove FILE [--inferences=N] [--tptp=DIR]\n       check FILE DERIVATION [--tptp=DIR]\n"
+usage_report = codes "usage: prove FILE [--inferences=N] [--tptp=DIR] [--select=none|negative]\n       check FILE DERIVATION [--tptp=DIR]\n"

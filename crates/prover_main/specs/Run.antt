@@ -14,7 +14,7 @@ use Rattle.prover_main.specs.Reports.{status_of, report_of, memory_out_report, u
 
 -- the problem's file
 abbrev pub file_of : Command → List ℕ
-file_of (prove file root limit) = file
+file_of (prove file root options) = file
 file_of (check file derivation root) = file
 
 -- An answer with its cause is told.

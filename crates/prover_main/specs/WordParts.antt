@@ -1,11 +1,12 @@
 -- The words behind a command as the program counts them: none, one, two, or more; and its values.
-use Rattle.std.specs.Prelude.{⊤, ℕ, ◌≤◌, IsTrue, List, [], ◌∷◌, fold, Option}
+use Rattle.std.specs.Prelude.{◌≡◌, ⊤, ℕ, IsTrue, false, List, [], ◌∷◌, fold, Option}
 use Rattle.std.specs.Borrow.{Bor}
 use Rattle.std.specs.Option.{option_map}
-use Rattle.prover_main.specs.Words.{Options as GivenOptions, Command as Commanded, prove, check, is_filled, prove_with, check_with}
+use Rattle.pool_core.specs.Inputs.{IsLimit}
+use Rattle.prover_main.specs.Words.{Given as GivenOptions, Command as Commanded, prove, check, is_filled, prove_with, check_with}
 use Rattle.prover_main.specs.declared.words.Command.{Command}
 use Rattle.prover_main.specs.declared.words.Command.TheVariants.{Prove, Check}
-use Rattle.prover_main.specs.declared.words.Options.{Options}
+use Rattle.prover_main.specs.declared.words.Given.{Given}
 use Rattle.prover_main.specs.declared.words.FileWords.{FileWords}
 use Rattle.prover_main.specs.declared.words.FileWords.TheVariants.{None as NoWord, One, Two, More}
 
@@ -34,11 +35,11 @@ few_meant More = more_words
 abbrev pub lent : Option (Bor (List ℕ)) → Option (List ℕ)
 lent o = option_map (λ x. x.now) o
 
-abbrev pub options_meant : Options → GivenOptions
-options_meant o = record { inferences = o.inferences; root = lent o.root }
+abbrev pub given_meant : Given → GivenOptions
+given_meant o = record { inferences = o.inferences; select = o.select; root = lent o.root }
 
 abbrev pub command_meant : Command → Commanded
-command_meant (Prove file root inferences) = prove file.now (lent root) inferences
+command_meant (Prove file root options) = prove file.now (lent root) options
 command_meant (Check file derivation root) = check file.now derivation.now (lent root)
 
 -- words that are counted so; for more than two, three that are empty
@@ -55,7 +56,7 @@ prove_few words given = prove_with (few_listed words) given
 abbrev pub check_few : FewWords → Option GivenOptions → Option Commanded
 check_few words given = check_with (few_listed words) given
 
--- some inference may be counted, and the file has a name
+-- the options are such as a pool takes without splitting, and the file has a name
 abbrev pub IsFit : Commanded → Type 0
-IsFit (prove file root inferences) = (1 ≤ inferences) × IsTrue (is_filled file)
+IsFit (prove file root options) = IsLimit options × (options.split ≡ false) × IsTrue (is_filled file)
 IsFit (check file derivation root) = ⊤

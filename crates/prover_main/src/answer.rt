@@ -16,16 +16,15 @@ pub enum Answer {
         conjecture: bool,
         derivation: Text,
     },
-    /// So many inferences were counted, of so many that are allowed. The ground loop stops at the limit, so today the two are one
-    /// number.
+    /// Nothing is left to do, and the empty clause wasn't derived.
+    Saturated,
+    /// So many inferences were counted, at least as many as are allowed.
     Spent {
-        count: u32,
+        count: u64,
         allowed: u32,
     },
-    /// No inference is left, and the empty clause wasn't derived.
-    Closed,
-    /// The clauses of the formula of a name aren't built yet.
-    NotBuilt(Text),
+    /// Nothing is left to do but an inference that is too heavy, by the text of its name.
+    Heavy(Text),
     /// The derivation is accepted, with so many lines.
     Accepted(u32),
     /// The derivation's first bad line, and the first cause there. A file over the limit is refused as a text, at line 0.
@@ -52,12 +51,12 @@ impl Answer {
     {
         match self {
             Answer::Refuted { .. } | Answer::Accepted(_) => 0,
-            Answer::Spent { .. } => 2,
-            Answer::NotBuilt(_) | Answer::Unformed(_, _) => 3,
+            Answer::Spent { .. } | Answer::Heavy(_) => 2,
+            Answer::Unformed(_, _) => 3,
             Answer::Unloaded(_) => 4,
             Answer::Unread { cause, .. } => read_status(*cause),
             Answer::Refused { .. } => 9,
-            Answer::Closed => 10,
+            Answer::Saturated => 10,
         }
     }
 }

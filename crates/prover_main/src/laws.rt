@@ -10,13 +10,14 @@ ghost use Rattle.clausal_form.specs.declared.fault.FormCause.TheVariants.{Expans
 ghost use Rattle.tptp_reader.specs.declared.cause.Form.TheVariants.{Typed, RoleForm, Number, Distinct, Dollar};
 ghost use Rattle.tptp_reader.specs.declared.cause.ReadCause.TheVariants as read;
 ghost use Rattle.tstp_checker.specs.declared.cause.Cause.TheVariants as line;
-ghost use Rattle.prover_main.specs.declared.answer.Answer.TheVariants.{Refuted, Spent, Closed, NotBuilt, Accepted, Refused, Unloaded, Unread, Unformed};
+ghost use Rattle.prover_main.specs.declared.answer.Answer.TheVariants.{Refuted, Saturated, Spent, Heavy, Accepted, Refused, Unloaded, Unread, Unformed};
+ghost use Rattle.literal_selection.specs.declared.choice.Selection.TheVariants.{Nothing};
 ghost use Rattle.prover_main.specs.Words.{command_of, prove, check};
 ghost use Rattle.prover_main.specs.Names.{shown, problem_name};
 ghost use Rattle.prover_main.specs.Answer.{has_conjecture};
 ghost use Rattle.prover_main.specs.Reports.{status_of, read_status, read_status_word, report_of, memory_out_report, usage_report, read_word, form_word, limit_word, cause_word};
 ghost use Rattle.prover_main.specs.Laws.{is_exact, IsTold, ChecksHaveOneAnswer, FaultsAreTheOnlyAnswer, UsageIsTold, CommandsAreAnswered, FaultsAreCounted, FaultsComeForCauses, StatusesAreTrue, FormedIsValid, ValidProblemsAreAnswered, LoadedDerivationsAreAnswered};
-ghost use Rattle.prover_main.specs.Examples.{formula_in, holding_nothing, AreWritesBy, DeliversInPiecesBy};
+ghost use Rattle.prover_main.specs.Examples.{counting, formula_in, holding_nothing, AreWritesBy, DeliversInPiecesBy};
 ghost use Rattle.prover_main.specs.Run.{IsDue};
 ghost use Rattle.prover_main.specs.declared.status.TheConstants.{SINK_FAILED, USAGE_SHOWN, MEMORY_OUT};
 
@@ -44,14 +45,14 @@ pub fn statuses_come_for_causes()
 }
 
 /// Soundness: 0 comes only where some finite list of ground instances of the problem's clausal form is true in no
-/// interpretation, and 10 only where a finite interpretation makes all its clauses true.
+/// interpretation, and 2 and 10 only where some lawful history of that form and the options ends so.
 pub fn statuses_are_true()
     ensures { StatusesAreTrue }
 {}
 
 /// Completeness: where the library tells, nothing failed and nothing is wrong with the problem, `prove` ends with 0, 2 or
-/// 10 and what each means, names a clause that isn't built, or wants memory; and `check` ends with 0 where the derivation is accepted
-/// and with 9 where it isn't, or wants memory.
+/// 10 and what each means, or wants memory; and `check` ends with 0 where the derivation is accepted and with 9 where it isn't, or
+/// wants memory.
 pub fn valid_inputs_are_answered()
     ensures formed { FormedIsValid }
     ensures prove { ValidProblemsAreAnswered }
@@ -62,18 +63,21 @@ pub fn valid_inputs_are_answered()
 
 /// Words that are a command: options stand in any place behind it.
 pub fn command_examples()
-    ensures plain { command_of (codes "prove" ∷ codes "a" ∷ []) ≡ Some (prove (codes "a") None 100000) }
-    ensures root { command_of (codes "prove" ∷ codes "--tptp=D" ∷ codes "a" ∷ []) ≡ Some (prove (codes "a") (Some (codes "D")) 100000) }
-    ensures least { command_of (codes "prove" ∷ codes "a" ∷ codes "--inferences=1" ∷ []) ≡ Some (prove (codes "a") None 1) }
+    ensures plain { command_of (codes "prove" ∷ codes "a" ∷ []) ≡ Some (prove (codes "a") None (counting 100000)) }
+    ensures root { command_of (codes "prove" ∷ codes "--tptp=D" ∷ codes "a" ∷ []) ≡ Some (prove (codes "a") (Some (codes "D")) (counting 100000)) }
+    ensures least { command_of (codes "prove" ∷ codes "a" ∷ codes "--inferences=1" ∷ []) ≡ Some (prove (codes "a") None (counting 1)) }
     ensures most { command_of (codes "prove" ∷ codes "--inferences=1000000" ∷ codes "--tptp=D" ∷ codes "a" ∷ [])
-        ≡ Some (prove (codes "a") (Some (codes "D")) 1000000) }
+        ≡ Some (prove (codes "a") (Some (codes "D")) (counting 1000000)) }
+    ensures negative { command_of (codes "prove" ∷ codes "a" ∷ codes "--select=negative" ∷ []) ≡ Some (prove (codes "a") None (counting 100000)) }
+    ensures nothing { command_of (codes "prove" ∷ codes "--select=none" ∷ codes "a" ∷ codes "--inferences=5" ∷ [])
+        ≡ Some (prove (codes "a") None (record { select = Nothing; split = false; inferences = 5 })) }
     ensures checked { command_of (codes "check" ∷ codes "a" ∷ codes "d" ∷ []) ≡ Some (check (codes "a") (codes "d") None) }
     ensures checked_with_root { command_of (codes "check" ∷ codes "a" ∷ codes "d" ∷ codes "--tptp=D" ∷ [])
         ≡ Some (check (codes "a") (codes "d") (Some (codes "D"))) }
 {}
 
 /// Words that are usage: another command; a number of files that isn't the command's, or one that is empty; an option that isn't
-/// the command's, stands twice, has no value, or has no number from 1 to 1,000,000 in plain digits.
+/// the command's, stands twice, has no value, has no number from 1 to 1,000,000 in plain digits, or names no mode.
 pub fn usage_examples()
     ensures none { command_of [] ≡ None }
     ensures other { command_of (codes "bench" ∷ codes "1" ∷ []) ≡ None }
@@ -91,6 +95,10 @@ pub fn usage_examples()
     ensures unknown { command_of (codes "prove" ∷ codes "a" ∷ codes "--workers=2" ∷ []) ≡ None }
     ensures twice { command_of (codes "prove" ∷ codes "--inferences=1" ∷ codes "a" ∷ codes "--inferences=1" ∷ []) ≡ None }
     ensures two_roots { command_of (codes "prove" ∷ codes "--tptp=D" ∷ codes "a" ∷ codes "--tptp=E" ∷ []) ≡ None }
+    ensures two_modes { command_of (codes "prove" ∷ codes "a" ∷ codes "--select=none" ∷ codes "--select=none" ∷ []) ≡ None }
+    ensures no_mode { command_of (codes "prove" ∷ codes "a" ∷ codes "--select=" ∷ []) ≡ None }
+    ensures other_mode { command_of (codes "prove" ∷ codes "a" ∷ codes "--select=positive" ∷ []) ≡ None }
+    ensures check_selects { command_of (codes "check" ∷ codes "a" ∷ codes "d" ∷ codes "--select=none" ∷ []) ≡ None }
     ensures no_inferences { command_of (codes "prove" ∷ codes "a" ∷ codes "--inferences=0" ∷ []) ≡ None }
     ensures too_many { command_of (codes "prove" ∷ codes "a" ∷ codes "--inferences=1000001" ∷ []) ≡ None }
     ensures leading_zero { command_of (codes "prove" ∷ codes "a" ∷ codes "--inferences=01" ∷ []) ≡ None }
@@ -142,12 +150,12 @@ pub fn report_examples()
     ensures unsatisfiable { report_of (codes "r1.p") (Refuted false (codes "cnf(c0,axiom,p).\n"))
         ≡ codes "% SZS status Unsatisfiable for r1\n% SZS output start CNFRefutation for r1\ncnf(c0,axiom,p).\n% SZS output end CNFRefutation for r1\n" }
     ensures accepted { report_of (codes "r5.p") (Accepted 11) ≡ codes "% accepted 11 lines\n" }
-    ensures spent { report_of (codes "r15.p") (Spent 10 10) ≡ codes "% SZS status GaveUp for r15\n% spent 10 of 10\n" }
+    ensures spent { report_of (codes "r15.p") (Spent 12 10) ≡ codes "% SZS status GaveUp for r15\n% spent 12 of 10\n" }
     ensures syntax { report_of (codes "r13.p") (Unread read.Syntax (codes "r13.p") 18)
         ≡ codes "% SZS status InputError for r13\n% Syntax at r13.p:18\n" }
     ensures too_heavy { report_of (codes "h.p") (Unformed TooHeavy (codes "it's"))
         ≡ codes "% SZS status InputError for h\n% TooHeavy in 'it\\'s'\n" }
-    ensures not_built { report_of (codes "r4.p") (NotBuilt (codes "12")) ≡ codes "% SZS status InputError for r4\n% NotBuilt in 12\n" }
+    ensures heavy { report_of (codes "r16.p") (Heavy (codes "refl(3,0)")) ≡ codes "% SZS status GaveUp for r16\n% heavy refl(3,0)\n" }
     ensures problem_lost { report_of (codes "none.p") (Unread read.Load (codes "none.p") 0)
         ≡ codes "% SZS status OSError for none\n% Load none.p\n" }
     ensures derivation_lost { report_of (codes "r1.p") (Unloaded (codes "d")) ≡ codes "% SZS status OSError for r1\n% Load d\n" }
@@ -157,15 +165,15 @@ pub fn report_examples()
     ensures typed { report_of (codes "r21.p") (Unread (read.Inappropriate Typed) (codes "r21.p") 0)
         ≡ codes "% SZS status Inappropriate for r21\n% Typed at r21.p:0\n" }
     ensures refused { report_of (codes "r5.p") (Refused 8 line.Rule) ≡ codes "% refused at line 8: Rule\n" }
-    ensures closed { report_of (codes "q.p") Closed ≡ codes "% SZS status Unknown for q\n% closed\n" }
+    ensures saturated { report_of (codes "q.p") Saturated ≡ codes "% SZS status Unknown for q\n% closed\n" }
 {}
 
 /// The statuses of the answers, and which of all statuses come exactly for their causes.
 pub fn status_examples()
     ensures refuted { status_of (Refuted true (codes "cnf(c0,axiom,p).\n")) ≡ 0 }
     ensures accepted { status_of (Accepted 11) ≡ 0 }
-    ensures spent { status_of (Spent 10 10) ≡ 2 }
-    ensures not_built { status_of (NotBuilt (codes "12")) ≡ 3 }
+    ensures spent { status_of (Spent 12 10) ≡ 2 }
+    ensures heavy { status_of (Heavy (codes "refl(3,0)")) ≡ 2 }
     ensures unformed { status_of (Unformed TotalLimit (codes "a")) ≡ 3 }
     ensures syntax { status_of (Unread read.Syntax (codes "r13.p") 18) ≡ 3 }
     ensures too_long { status_of (Unread read.TooLong (codes "r13.p") 0) ≡ 3 }
@@ -179,7 +187,7 @@ pub fn status_examples()
         ≡ 8 ∷ 8 ∷ 8 ∷ 8 ∷ 8 ∷ [] }
     ensures typed { status_of (Unread (read.Inappropriate Typed) (codes "r21.p") 0) ≡ 8 }
     ensures refused { status_of (Refused 8 line.Rule) ≡ 9 }
-    ensures closed { status_of Closed ≡ 10 }
+    ensures saturated { status_of Saturated ≡ 10 }
     ensures without_answer { SINK_FAILED ∷ USAGE_SHOWN ∷ MEMORY_OUT ∷ [] ≡ 5 ∷ 6 ∷ 7 ∷ [] }
     ensures exact { map is_exact (0 ∷ 2 ∷ 3 ∷ 4 ∷ 5 ∷ 6 ∷ 7 ∷ 8 ∷ 9 ∷ 10 ∷ [])
         ≡ false ∷ false ∷ true ∷ false ∷ false ∷ false ∷ false ∷ true ∷ true ∷ false ∷ [] }

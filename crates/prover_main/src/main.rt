@@ -8,6 +8,7 @@ mod memory_out;
 mod names;
 mod problem;
 mod prove;
+mod proved;
 mod report;
 mod report_words;
 mod run;
@@ -16,6 +17,7 @@ mod words;
 
 use outside::{FileLibrary, StdoutSink};
 use plain_types::{Mem, NoMemory};
+pub use proved::{ProveFault, Proved, prove_problem};
 pub use run::run;
 use status::MEMORY_OUT;
 use std::env;
@@ -44,7 +46,7 @@ fn main(rt: HostRuntime) -> ExitCode {
     };
     let mut library = FileLibrary::new(&rt);
     let mut sink = StdoutSink::new(&rt);
-    ExitCode::from(run(rt.alloc(), &words, &mut library, &mut sink))
+    ExitCode::from(run(&rt, rt.alloc(), &words, &mut library, &mut sink))
 }
 
 #[cfg(test)]

@@ -1,9 +1,9 @@
-// The first stages of each command: a problem is read and brought to clausal form.
+// The first stages of each command: a problem is read, and for `check` it is brought to clausal form.
 
 ghost use Rattle.std.specs.Prelude.{◌≡◌, ◌≤◌, IfOk, IfErr};
 ghost use Rattle.std.specs.Option.{option_copied};
 ghost use Rattle.prover_main.specs.Outside.{outside_by};
-ghost use Rattle.prover_main.specs.AnswerShape.{IsFormedFrom, IsStop, IsStopAnswer};
+ghost use Rattle.prover_main.specs.AnswerShape.{IsFormedFrom, IsReadFrom, IsStop, IsStopAnswer};
 
 use crate::answer::Answer;
 use clausal_form::{Clausal, FormCause, FormFault, clausal};
@@ -44,6 +44,28 @@ impl Stop {
     }
 }
 
+/// Reads the problem of a file.
+pub fn problem_in<L: Library>(
+    alloc: Global,
+    library: &mut L,
+    file: &str,
+    root: Option<&str>,
+) -> Result<Problem, Stop>
+    ensures read { IfOk result (IsReadFrom (L.told library.old)
+        (record { file = file.now; root = option_copied root.entry })) }
+    ensures stopped { IfErr result (IsStop
+        (outside_by L.told L.faults L.found L.failed library.old library.new)
+        (record { file = file.now; root = option_copied root.entry })) }
+    ensures told { L.told library.new ≡ L.told library.old }
+    ensures later { L.faults library.old ≤ L.faults library.new }
+{
+    match read_problem(alloc, library, file, root) {
+        Ok(problem) => Ok(problem),
+        Err(ReadFault::NoMemory) => Err(Stop::NoMemory),
+        Err(ReadFault::At(cause, name, place)) => Err(Stop::Unread(cause, name, place)),
+    }
+}
+
 /// Reads the problem of a file, and brings it to clausal form.
 pub fn formed_problem<L: Library>(
     alloc: Global,
@@ -59,11 +81,7 @@ pub fn formed_problem<L: Library>(
     ensures told { L.told library.new ≡ L.told library.old }
     ensures later { L.faults library.old ≤ L.faults library.new }
 {
-    let problem = match read_problem(alloc, library, file, root) {
-        Ok(problem) => problem,
-        Err(ReadFault::NoMemory) => return Err(Stop::NoMemory),
-        Err(ReadFault::At(cause, name, place)) => return Err(Stop::Unread(cause, name, place)),
-    };
+    let problem = problem_in(alloc, library, file, root)?;
     match clausal(alloc, &problem) {
         Ok(form) => Ok(FormedProblem { problem, form }),
         Err(FormFault::NoMemory) => Err(Stop::NoMemory),

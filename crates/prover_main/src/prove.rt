@@ -1,112 +1,93 @@
-// What `prove` answers: the ground loop runs on the clausal form, where each clause is ground and has predicates alone.
+// What `prove` answers: a pool of the clausal form is worked on until an outcome stands, and the answer is made of it.
 
-ghost use Rattle.std.specs.Prelude.{◌≡◌, ◌≤◌, ◌<◌, ◌^◌, ℕ, IfOk, IsTrue, Some, slice_get, length, map};
-ghost use Rattle.std.specs.Option.{option_copied, option_map};
-ghost use Rattle.fol_base.specs.Literal.{clause_of};
-ghost use Rattle.kernel_steps.specs.Derivation.{IsRefutation};
-ghost use Rattle.ground_loop.specs.GroundLines.{AreGroundLines};
-ghost use Rattle.ground_loop.specs.Scope.{IsInScope};
+ghost use Rattle.std.specs.Prelude.{◌≡◌, false, IfOk, IsTrue};
+ghost use Rattle.std.specs.Option.{option_copied};
+ghost use Rattle.pool_core.specs.Inputs.{IsLimit};
 ghost use Rattle.prover_main.specs.Words.{is_filled};
 ghost use Rattle.prover_main.specs.Outside.{outside_by};
 ghost use Rattle.prover_main.specs.Names.{shown};
-ghost use Rattle.clausal_form.specs.DerivationTexts.{IsAcceptedDerivation};
-ghost use Rattle.signature.specs.Form.{clausal_form};
-ghost use Rattle.clausal_form.specs.Form.{form_of};
-ghost use Rattle.prover_main.specs.Answer.{IsDerivationText, IsGroundProof, IsProveAnswer, IsProofAnswer, has_conjecture};
-ghost use Rattle.prover_main.specs.AnswerShape.{WasFormed, IsNotBuiltAnswer};
+ghost use Rattle.prover_main.specs.Answer.{IsProveAnswer, IsProofAnswer, has_conjecture};
+ghost use Rattle.prover_main.specs.AnswerShape.{IsProvedProblem, WasRead};
 
 use crate::answer::Answer;
 use crate::names::push_shown;
-use crate::problem::{FormedProblem, formed_problem};
-use clausal_form::Clausal;
-use ground_loop::{Ground, first_outside, prove_ground};
-use kernel_steps::Derivation;
+use crate::problem::problem_in;
+use crate::proved::{ProveFault, Proved, prove_problem};
 use outside::Library;
-use plain_types::{Mem, Text};
+use plain_types::{Mem, NoMemory, Text};
+use pool_core::{Options, Outcome};
+use pool_writer::{write_key, write_refutation};
 use std::alloc::Global;
-use tptp_tree::Annotated;
-use tstp_writer::{Page, write_lines};
+use std::sync::Wait;
+use tptp_tree::{Annotated, Problem};
+use tstp_writer::Page;
 
-/// Reads the problem of a file, brings it to clausal form, and proves or gives up. The first stage that fails answers.
-pub fn prove_answer<L: Library>(
+/// Reads the problem of a file, and proves or gives up. The first stage that fails answers.
+pub fn prove_answer<R: Wait, L: Library>(
+    rt: &R,
     alloc: Global,
     library: &mut L,
     file: &str,
     root: Option<&str>,
-    limit: u32,
+    options: Options,
 ) -> Mem<Answer>
-    requires counted { 1 ≤ limit }
+    requires limit { IsLimit options }
+    requires unsplit { options.split ≡ false }
     requires filled { IsTrue (is_filled file.now) }
     ensures { IfOk result (λ answer. IsProveAnswer
         (outside_by L.told L.faults L.found L.failed library.old library.new)
         (record { file = file.now; root = option_copied root.entry })
-        limit answer) }
+        options answer) }
 {
-    match formed_problem(alloc, library, file, root) {
-        Ok(formed) => proof_answer(alloc, file, &formed, limit),
-        Err(stop) => stop.answer(),
+    let problem = match problem_in(alloc, library, file, root) {
+        Ok(problem) => problem,
+        Err(stop) => return stop.answer(),
+    };
+    match prove_problem(rt, alloc, &problem, options) {
+        Ok(proved) => proof_answer(alloc, file, &problem, &proved, options),
+        Err(ProveFault::Form(cause, name)) => Ok(Answer::Unformed(cause, name)),
+        Err(ProveFault::NoMemory) => Err(NoMemory),
     }
 }
 
-/// The answer on a problem with its clausal form.
-fn proof_answer(alloc: Global, file: &str, formed: &FormedProblem, limit: u32) -> Mem<Answer>
-    requires formed { WasFormed formed.now }
-    requires counted { 1 ≤ limit }
+/// The answer that a problem's pool ends with.
+fn proof_answer(
+    alloc: Global,
+    file: &str,
+    problem: &Problem,
+    proved: &Proved,
+    options: Options,
+) -> Mem<Answer>
+    requires read { WasRead problem.now }
     requires filled { IsTrue (is_filled file.now) }
-    ensures { IfOk result (λ answer. IsProofAnswer file.now formed.now.problem.formulas limit answer) }
+    requires proved { IsProvedProblem problem.now.formulas options proved.now }
+    ensures { IfOk result (λ answer. IsProofAnswer file.now problem.now.formulas options answer) }
 {
-    match first_outside(&formed.form.clauses) {
-        Some(index) => not_built(alloc, formed, index),
-        None => ground_answer(alloc, file, formed, limit),
-    }
-}
-
-/// The answer on a problem whose clauses the ground loop takes.
-fn ground_answer(alloc: Global, file: &str, formed: &FormedProblem, limit: u32) -> Mem<Answer>
-    requires formed { WasFormed formed.now }
-    requires counted { 1 ≤ limit }
-    requires filled { IsTrue (is_filled file.now) }
-    requires scope { IsInScope (map clause_of formed.now.form.clauses) }
-    ensures { IfOk result (λ answer. IsGroundProof file.now formed.now.problem.formulas limit answer) }
-{
-    match prove_ground(alloc, &formed.form.clauses, limit)? {
-        Ground::Refuted(lines) => Ok(Answer::Refuted {
-            conjecture: has_conjecture(formed.problem.formulas.as_slice()),
-            derivation: derivation_text(alloc, file, formed, &lines)?,
-        }),
-        Ground::Closed => Ok(Answer::Closed),
-        Ground::Spent(count) => Ok(Answer::Spent {
+    match proved.outcome {
+        Outcome::Refuted => {
+            let name = shown_name(alloc, file)?;
+            let derivation = write_refutation(
+                alloc,
+                problem,
+                &proved.form,
+                &proved.pool,
+                name.as_slice(),
+            )?;
+            Ok(Answer::Refuted {
+                conjecture: has_conjecture(problem.formulas.as_slice()),
+                derivation,
+            })
+        }
+        Outcome::Saturated => Ok(Answer::Saturated),
+        Outcome::Spent(count) => Ok(Answer::Spent {
             count,
-            allowed: limit,
+            allowed: options.inferences,
         }),
+        Outcome::Heavy(place) => {
+            let key = proved.pool.heavy_key(place);
+            Ok(Answer::Heavy(write_key(alloc, key)?))
+        }
     }
-}
-
-/// The answer where the clause of that number isn't built.
-fn not_built(alloc: Global, formed: &FormedProblem, index: usize) -> Mem<Answer>
-    requires form { form_of formed.now.form ≡ clausal_form formed.now.problem.formulas }
-    requires index { index < length formed.now.form.clauses }
-    ensures { IfOk result (λ answer. IsNotBuiltAnswer formed.now.problem.formulas index answer) }
-{
-    let place = origin(formed.form.origins.as_slice(), index);
-    let name = name_at(alloc, formed.problem.formulas.as_slice(), place)?;
-    Ok(Answer::NotBuilt(name))
-}
-
-/// The place of the formula from which a clause comes.
-fn origin(origins: &[u64], index: usize) -> usize
-    requires { index < length origins.now }
-    ensures { slice_get origins.now index ≡ Some result }
-{
-    origins[index] as usize
-}
-
-/// The name of the formula at a place.
-fn name_at(alloc: Global, formulas: &[Annotated], place: usize) -> Mem<Text>
-    requires { place < length formulas.now }
-    ensures { IfOk result (λ name. option_map (λ a. a.name) (slice_get formulas.now place) ≡ Some name) }
-{
-    formulas[place].name.copy(alloc)
 }
 
 /// Whether one of the formulas is a conjecture.
@@ -114,33 +95,6 @@ fn has_conjecture(formulas: &[Annotated]) -> bool
     ensures { result ≡ has_conjecture formulas.now }
 {
     formulas.iter().any(|formula| formula.role.is_conjecture())
-}
-
-/// The text of the derivation that the lines are.
-fn derivation_text(
-    alloc: Global,
-    file: &str,
-    formed: &FormedProblem,
-    lines: &Derivation,
-) -> Mem<Text>
-    requires formed { WasFormed formed.now }
-    requires refutation { IsRefutation (map clause_of formed.now.form.clauses) lines.now }
-    requires ground { AreGroundLines lines.now }
-    requires filled { IsTrue (is_filled file.now) }
-    requires scope { IsInScope (map clause_of formed.now.form.clauses) }
-    ensures accepted { IfOk result (λ text. (count : ℕ) × IsAcceptedDerivation formed.now.problem.formulas text count) }
-    ensures printed { IfOk result (IsDerivationText file.now formed.now.problem.formulas) }
-{
-    let name = shown_name(alloc, file)?;
-    let last = lines.len() as u64 - 1;
-    write_lines(
-        alloc,
-        &formed.problem,
-        &formed.form,
-        lines,
-        last,
-        name.as_slice(),
-    )
 }
 
 /// A file's name as it is shown.

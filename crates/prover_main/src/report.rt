@@ -1,7 +1,7 @@
 // The reports.
 
 ghost use Rattle.std.specs.Prelude.{◌≡◌, ◌++◌, IfOk};
-ghost use Rattle.prover_main.specs.Reports.{for_problem, status_line, output_line, spent_line, load_line, place_line, formula_line, accepted_line, refused_line, refutation_word, refuted_report, read_status_word, fault_line, report_of};
+ghost use Rattle.prover_main.specs.Reports.{for_problem, status_line, output_line, spent_line, heavy_line, load_line, place_line, formula_line, accepted_line, refused_line, refutation_word, refuted_report, read_status_word, fault_line, report_of};
 
 use crate::answer::Answer;
 use crate::names::{push_problem_name, push_shown};
@@ -42,13 +42,22 @@ fn push_output(page: &mut Page, word: &[u8], file: &str) -> Mem<()>
 }
 
 /// Adds how many inferences were counted.
-fn push_spent(page: &mut Page, count: u32, allowed: u32) -> Mem<()>
+fn push_spent(page: &mut Page, count: u64, allowed: u32) -> Mem<()>
     ensures { IfOk result (λ _. page.new ≡ page.old ++ spent_line count allowed) }
 {
     page.bytes(b"% spent ")?;
-    page.number(u64::from(count))?;
+    page.number(count)?;
     page.bytes(b" of ")?;
     page.number(u64::from(allowed))?;
+    page.bytes(b"\n")
+}
+
+/// Adds the name of the inference that is too heavy.
+fn push_heavy(page: &mut Page, key: &[u8]) -> Mem<()>
+    ensures { IfOk result (λ _. page.new ≡ page.old ++ heavy_line key.now) }
+{
+    page.bytes(b"% heavy ")?;
+    page.bytes(key)?;
     page.bytes(b"\n")
 }
 
@@ -169,13 +178,13 @@ fn push_report(page: &mut Page, file: &str, answer: &Answer) -> Mem<()>
             push_status(page, b"GaveUp", file)?;
             push_spent(page, *count, *allowed)
         }
-        Answer::Closed => {
+        Answer::Heavy(key) => {
+            push_status(page, b"GaveUp", file)?;
+            push_heavy(page, key.as_slice())
+        }
+        Answer::Saturated => {
             push_status(page, b"Unknown", file)?;
             page.bytes(b"% closed\n")
-        }
-        Answer::NotBuilt(name) => {
-            push_status(page, b"InputError", file)?;
-            push_formula(page, b"NotBuilt", name.as_slice())
         }
         Answer::Accepted(lines) => push_accepted(page, *lines),
         Answer::Refused { line, cause } => push_refused(page, *line, *cause),

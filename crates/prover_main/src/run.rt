@@ -17,9 +17,10 @@ use crate::words::{Command, Words};
 use outside::{Library, Sink, SinkFault, deliver};
 use plain_types::{Mem, NoMemory, Text};
 use std::alloc::Global;
+use std::sync::Wait;
 
 const USAGE: &[u8] =
-    b"usage: prove FILE [--inferences=N] [--tptp=DIR]\n       check FILE DERIVATION [--tptp=DIR]\n";
+    b"usage: prove FILE [--inferences=N] [--tptp=DIR] [--select=none|negative]\n       check FILE DERIVATION [--tptp=DIR]\n";
 
 /// A report, and the status with which the program ends.
 #[derive(Drop)]
@@ -31,7 +32,13 @@ struct Report {
 /// What the program does with the words of its command line: it proves a problem or checks a derivation, and writes the
 /// report. The answer is the status of the report, or `SINK_FAILED`. For words that are usage it takes no memory,
 /// and none for the report that memory was wanted.
-pub fn run<L: Library, S: Sink>(alloc: Global, words: &Words, library: &mut L, sink: &mut S) -> u8
+pub fn run<R: Wait, L: Library, S: Sink>(
+    rt: &R,
+    alloc: Global,
+    words: &Words,
+    library: &mut L,
+    sink: &mut S,
+) -> u8
     ensures { IsRunBy S.gives sink.old sink.new words.now
         (outside_by L.told L.faults L.found L.failed library.old library.new)
         (taken_by S.taken S.faults sink.old sink.new)
@@ -39,7 +46,7 @@ pub fn run<L: Library, S: Sink>(alloc: Global, words: &Words, library: &mut L, s
 {
     match words.command() {
         None => deliver_report(sink, USAGE, USAGE_SHOWN),
-        Some(command) => match report_to(alloc, command, library) {
+        Some(command) => match report_to(rt, alloc, command, library) {
             Ok(report) => deliver_report(sink, report.text.as_slice(), report.status),
             Err(NoMemory) => report_memory_out(sink, file_of(command)),
         },
@@ -75,14 +82,19 @@ fn status_after(due: u8, delivered: Result<(), SinkFault>) -> u8
 }
 
 /// The report that is due to a command.
-fn report_to<L: Library>(alloc: Global, command: Command<'_>, library: &mut L) -> Mem<Report>
+fn report_to<R: Wait, L: Library>(
+    rt: &R,
+    alloc: Global,
+    command: Command<'_>,
+    library: &mut L,
+) -> Mem<Report>
     requires fit { IsFit (command_meant command) }
     ensures { IfOk result (λ report.
         IsAnswered (command_meant command.entry)
         (outside_by L.told L.faults L.found L.failed library.old library.new)
         report.status report.text) }
 {
-    let answer = answer_to(alloc, command, library)?;
+    let answer = answer_to(rt, alloc, command, library)?;
     Ok(Report {
         status: answer.status(),
         text: report_of(alloc, file_of(command), &answer)?,
@@ -100,7 +112,12 @@ fn file_of<'a>(command: Command<'a>) -> &'a str
 }
 
 /// The answer to a command.
-fn answer_to<L: Library>(alloc: Global, command: Command<'_>, library: &mut L) -> Mem<Answer>
+fn answer_to<R: Wait, L: Library>(
+    rt: &R,
+    alloc: Global,
+    command: Command<'_>,
+    library: &mut L,
+) -> Mem<Answer>
     requires fit { IsFit (command_meant command) }
     ensures { IfOk result (λ answer. IsAnswer
         (outside_by L.told L.faults L.found L.failed library.old library.new)
@@ -110,8 +127,8 @@ fn answer_to<L: Library>(alloc: Global, command: Command<'_>, library: &mut L) -
         Command::Prove {
             file,
             root,
-            inferences,
-        } => prove_answer(alloc, library, file, root, inferences),
+            options,
+        } => prove_answer(rt, alloc, library, file, root, options),
         Command::Check {
             file,
             derivation,

@@ -1,11 +1,13 @@
 // The words of the command line, and the rule on them.
 
-ghost use Rattle.std.specs.Prelude.{◌≡◌, [], ◌∷◌, ◌++◌, map, IfOk, OnErr, string_bytes};
+ghost use Rattle.std.specs.Prelude.{◌≡◌, not, [], ◌∷◌, ◌++◌, map, IfOk, OnErr, string_bytes};
 ghost use Rattle.std.specs.Option.{option_map, option_and_then};
-ghost use Rattle.prover_main.specs.Words.{command_of, is_option as option_word, value_behind, limit_in, with_root, with_limit, with_option, file_words, options_in};
-ghost use Rattle.prover_main.specs.WordParts.{few_with, few_of, few_meant, lent, options_meant, command_meant, prove_few, check_few};
+ghost use Rattle.prover_main.specs.Words.{command_of, is_option as option_word, value_behind, limit_in, selection_in, with_root, with_inferences, with_inferences_by, with_selection, with_option, is_root_alone, file_words, options_in, options_by};
+ghost use Rattle.prover_main.specs.WordParts.{few_with, few_of, few_meant, lent, given_meant, command_meant, prove_few, check_few};
 
+use literal_selection::Selection;
 use plain_types::{DEFAULT_INFERENCES, MOST_INFERENCES, Mem};
+use pool_core::Options;
 use std::alloc::Global;
 use std::marker::Model;
 use tptp_source::decimal;
@@ -27,11 +29,11 @@ impl Model for Words {
 /// A command with its values.
 #[derive(Clone, Copy)]
 pub enum Command<'a> {
-    /// Prove the problem of a file, with so many inferences at most. Includes are loaded from the root, where it is given.
+    /// Prove the problem of a file, on a pool that works by the options. Includes are loaded from the root, where it is given.
     Prove {
         file: &'a str,
         root: Option<&'a str>,
-        inferences: u32,
+        options: Options,
     },
     /// Check a derivation of the problem of a file. Includes are loaded from the root, where it is given.
     Check {
@@ -63,46 +65,90 @@ impl<'a> FileWords<'a> {
     }
 }
 
-/// What options give: how many inferences are counted, and the folder from which includes are loaded.
+/// What options give: how many inferences are counted, which literal of a clause is chosen, and the folder from which includes are
+/// loaded.
 #[derive(Clone, Copy)]
-struct Options<'a> {
+struct Given<'a> {
     inferences: Option<u32>,
+    select: Option<Selection>,
     root: Option<&'a str>,
 }
 
-impl<'a> Options<'a> {
+impl<'a> Given<'a> {
     /// These options and one more. None where it isn't one, or stands twice.
-    fn with(self, word: &'a str) -> Option<Options<'a>>
-        ensures { option_map options_meant result ≡ with_option (options_meant self.entry) word.now }
+    fn with(self, word: &'a str) -> Option<Given<'a>>
+        ensures { option_map given_meant result ≡ with_option (given_meant self.entry) word.now }
     {
         match value_behind("--tptp=", word) {
             Some(root) => self.with_root(root),
-            None => self.with_limit(value_behind("--inferences=", word)),
+            None => self.with_inferences(word, value_behind("--inferences=", word)),
         }
     }
 
-    fn with_root(self, root: &'a str) -> Option<Options<'a>>
-        ensures { option_map options_meant result ≡ with_root (options_meant self.entry) root.now }
+    fn with_root(self, root: &'a str) -> Option<Given<'a>>
+        ensures { option_map given_meant result ≡ with_root (given_meant self.entry) root.now }
     {
         match self.root {
             Some(_) => None,
-            None => Some(Options {
+            None => Some(Given {
                 inferences: self.inferences,
+                select: self.select,
                 root: Some(root),
             }),
         }
     }
 
-    fn with_limit(self, value: Option<&str>) -> Option<Options<'a>>
-        ensures { option_map options_meant result ≡ with_limit (options_meant self.entry) (lent value.entry) }
+    /// By the value of `--inferences`, where the word has one.
+    fn with_inferences(self, word: &'a str, value: Option<&str>) -> Option<Given<'a>>
+        ensures { option_map given_meant result ≡ with_inferences_by (given_meant self.entry) word.now (lent value.entry) }
     {
-        let limit = limit_in(value?)?;
+        match value {
+            Some(value) => self.with_limit(limit_in(value)?),
+            None => self.with_selection(selection_in(value_behind("--select=", word)?)?),
+        }
+    }
+
+    fn with_limit(self, limit: u32) -> Option<Given<'a>>
+        ensures { option_map given_meant result ≡ with_inferences (given_meant self.entry) limit }
+    {
         match self.inferences {
             Some(_) => None,
-            None => Some(Options {
+            None => Some(Given {
                 inferences: Some(limit),
+                select: self.select,
                 root: self.root,
             }),
+        }
+    }
+
+    fn with_selection(self, select: Selection) -> Option<Given<'a>>
+        ensures { option_map given_meant result ≡ with_selection (given_meant self.entry) select }
+    {
+        match self.select {
+            Some(_) => None,
+            None => Some(Given {
+                inferences: self.inferences,
+                select: Some(select),
+                root: self.root,
+            }),
+        }
+    }
+
+    /// Whether an option is given that only `prove` has.
+    fn is_for_proving(self) -> bool
+        ensures { result ≡ not (is_root_alone (given_meant self.entry)) }
+    {
+        self.inferences.is_some() || self.select.is_some()
+    }
+
+    /// How a pool works by these options. Clauses aren't split.
+    fn options(self) -> Options
+        ensures { result ≡ options_by (given_meant self.entry) }
+    {
+        Options {
+            select: self.select.unwrap_or(Selection::Negative),
+            split: false,
+            inferences: self.inferences.unwrap_or(DEFAULT_INFERENCES),
         }
     }
 }
@@ -112,7 +158,7 @@ impl<'a> Options<'a> {
 struct Arguments<'a> {
     files: FileWords<'a>,
     /// None where a word that begins with `-` is no option.
-    options: Option<Options<'a>>,
+    options: Option<Given<'a>>,
 }
 
 /// Whether a word is an option: it begins with `-`.
@@ -145,9 +191,20 @@ fn limit_in(value: &str) -> Option<u32>
     }
 }
 
+/// The mode that a value names: `none` or `negative`.
+fn selection_in(value: &str) -> Option<Selection>
+    ensures { result ≡ selection_in value.now }
+{
+    match value {
+        "none" => Some(Selection::Nothing),
+        "negative" => Some(Selection::Negative),
+        _ => None,
+    }
+}
+
 /// The options and one word more.
-fn options_with<'a>(options: Option<Options<'a>>, word: &'a str) -> Option<Options<'a>>
-    ensures { option_map options_meant result ≡ option_and_then (λ g. with_option g word.now) (option_map options_meant options.entry) }
+fn options_with<'a>(options: Option<Given<'a>>, word: &'a str) -> Option<Given<'a>>
+    ensures { option_map given_meant result ≡ option_and_then (λ g. with_option g word.now) (option_map given_meant options.entry) }
 {
     options?.with(word)
 }
@@ -155,11 +212,12 @@ fn options_with<'a>(options: Option<Options<'a>>, word: &'a str) -> Option<Optio
 /// The words by kinds.
 fn arguments_of(words: &[String]) -> Arguments<'_>
     ensures files { few_meant result.files ≡ few_of (file_words (map string_bytes words.now)) }
-    ensures options { option_map options_meant result.options ≡ options_in (map string_bytes words.now) }
+    ensures options { option_map given_meant result.options ≡ options_in (map string_bytes words.now) }
 {
     let mut files = FileWords::None;
-    let mut options = Some(Options {
+    let mut options = Some(Given {
         inferences: None,
+        select: None,
         root: None,
     });
     for word in words {
@@ -175,7 +233,7 @@ fn arguments_of(words: &[String]) -> Arguments<'_>
 
 /// `prove FILE`, with its options. None exactly where the words are usage.
 fn prove_command(arguments: Arguments<'_>) -> Option<Command<'_>>
-    ensures { option_map command_meant result ≡ prove_few (few_meant arguments.entry.files) (option_map options_meant arguments.entry.options) }
+    ensures { option_map command_meant result ≡ prove_few (few_meant arguments.entry.files) (option_map given_meant arguments.entry.options) }
 {
     match arguments.files {
         FileWords::One(file) if !file.is_empty() => {
@@ -183,7 +241,7 @@ fn prove_command(arguments: Arguments<'_>) -> Option<Command<'_>>
             Some(Command::Prove {
                 file,
                 root: given.root,
-                inferences: given.inferences.unwrap_or(DEFAULT_INFERENCES),
+                options: given.options(),
             })
         }
         _ => None,
@@ -192,13 +250,13 @@ fn prove_command(arguments: Arguments<'_>) -> Option<Command<'_>>
 
 /// `check FILE DERIVATION`, with the option for includes. None exactly where the words are usage.
 fn check_command(arguments: Arguments<'_>) -> Option<Command<'_>>
-    ensures { option_map command_meant result ≡ check_few (few_meant arguments.entry.files) (option_map options_meant arguments.entry.options) }
+    ensures { option_map command_meant result ≡ check_few (few_meant arguments.entry.files) (option_map given_meant arguments.entry.options) }
 {
     let FileWords::Two(file, derivation) = arguments.files else {
         return None;
     };
     let given = arguments.options?;
-    if file.is_empty() || derivation.is_empty() || given.inferences.is_some() {
+    if file.is_empty() || derivation.is_empty() || given.is_for_proving() {
         return None;
     }
     Some(Command::Check {

@@ -8,3 +8,6 @@ mod TicketLemmas
 mod ClaimLemmas
 -- What a return leaves: ReturnLemmas.
 mod ReturnLemmas
+-- How pools end (EndLemmas), and one from its beginning to its end (ProvedLemmas).
+pub mod EndLemmas
+mod ProvedLemmas

@@ -1,39 +1,28 @@
 -- What a return leaves, and what stays known in a later pool.
-use Rattle.std.proofs.Common.{◌≡◌, ℕ, zero, suc, ◌+◌, ◌<◌, ◌≤◌, Bool, true, false, not, ◌==◌, List, [], ◌∷◌, ◌++◌, map, length, take, append-nil, append_assoc, refl, ap, sym, ◌∙◌, subst, ◌⊎◌, ⊎_elim, arith}
-use Rattle.std.specs.Prelude.{Option, None, Some, cond, find, filter, is_none, is_some, IsSome, if◌then◌else◌}
+use Rattle.std.proofs.Common.{◌≡◌, ℕ, ◌+◌, Bool, true, false, not, ◌==◌, List, [], ◌∷◌, ◌++◌, length, take, append-nil, append_assoc, refl, ap, sym, ◌∙◌, subst, arith}
+use Rattle.std.specs.Prelude.{None, Some, cond, find, is_none, if◌then◌else◌}
 use Rattle.std.proofs.lemmas.List.{length-append, length-map, take-append-le}
 use Rattle.std.proofs.lemmas.Option.{none-some}
-use mathlib.Core.List.{IsPrefix}
 use Rattle.term_bank.specs.Bank.{identity}
 use Rattle.bank_clause.specs.Clause.{AreMembersOf, IsMemberOf}
 use Rattle.pool_core.specs.declared.options.Options.{Options}
 use Rattle.std.proofs.lemmas.List.Elements.{All-nil}
-use Rattle.fol_base.specs.WellFormed.{SymbolUse}
 use Rattle.term_bank.specs.declared.bank.Bank.{Bank}
 use Rattle.pool_core.specs.View.{PoolView}
-use Rattle.pool_core.specs.Record.{PoolRecord, GivenJob, given_job, without_job, jobs_out}
-use Rattle.pool_core.specs.Solving.{must_solve}
-use Rattle.pool_core.specs.Claiming.{next_given}
-use Rattle.pool_core.specs.Replay.{Origin, retold, after, replay}
+use Rattle.pool_core.specs.Record.{PoolRecord, GivenJob, given_job, without_job}
+use Rattle.pool_core.specs.Replay.{Origin, retold, replay}
 use Rattle.pool_core.specs.Returning.{becomes_active, worked, returns_to}
 use Rattle.pool_core.specs.News.{news_since}
-use Rattle.pool_core.specs.Inputs.{AreInputs, IsHistoryOf}
-use Rattle.pool_core.specs.Outcomes.{outcome_of}
 use Rattle.pool_core.specs.Answers.{IsTicket, IsTicketOf, IsAnswerToReturn}
-use Rattle.pool_core.specs.declared.outcome.Outcome.{Outcome}
 use Rattle.pool_core.specs.declared.ticket.Ticket.{Ticket}
-use Rattle.pool_core.specs.declared.ticket.PropTicket.{PropTicket}
 use Rattle.pool_core.specs.declared.ticket.Back.{Back}
 use Rattle.pool_core.specs.declared.ticket.Back.TheVariants as back
 use Rattle.pool_core.specs.declared.batch.Batch.{Batch}
 use Rattle.pool_core.specs.declared.event.Event.{Event}
-use Rattle.pool_core.specs.declared.event.Event.TheVariants.{Claim, Return, Stale, Void}
-use Rattle.pool_core.proofs.BeginningLemmas.{replay-sound}
-use Rattle.pool_core.proofs.ClaimLemmas.{after-claim}
+use Rattle.pool_core.specs.declared.event.Event.TheVariants.{Return, Stale, Void}
 use Rattle.pool_core.proofs.FrameLemmas.{by-if}
 use Rattle.pool_core.proofs.HistoryLemmas.{replay-end}
 use Rattle.pool_core.proofs.NewsLemmas.{worked-given}
-use Rattle.pool_core.proofs.SoundLemmas.{no-solve}
 use Rattle.given_work.specs.View.{IndexView}
 use Rattle.proving.specs.Progress.{HasLearned, HasNoJob, HasOut, IsGiven, IsIndexOf, IsLater}
 

@@ -9,7 +9,7 @@ use std::alloc::Global;
 
 /// The next clause to work on, or None where an outcome stands. Since no job is out, nothing is to be waited for, and since nothing is
 /// split, nothing is to be solved.
-pub fn claim_next(alloc: Global, pool: &mut Pool, told: u64) -> Mem<Option<Ticket>>
+pub(crate) fn claim_next(alloc: Global, pool: &mut Pool, told: u64) -> Mem<Option<Ticket>>
     requires told { told ≤ length pool.old.history }
     requires unsplit { pool.old.origin.options.split ≡ false }
     requires free { HasOut 0 pool.old }

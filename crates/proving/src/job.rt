@@ -12,13 +12,19 @@ use term_bank::Bank;
 
 /// A batch, and the index that knows what its ticket told.
 #[derive(Drop)]
-pub struct Done {
+pub(crate) struct Done {
     pub index: Index,
     pub batch: Batch,
 }
 
 /// Learns what a ticket tells, and works on its clause. The batch is right for the job, which is out.
-pub fn work_on(alloc: Global, bank: &Bank, pool: &Pool, index: Index, ticket: &Ticket) -> Mem<Done>
+pub(crate) fn work_on(
+    alloc: Global,
+    bank: &Bank,
+    pool: &Pool,
+    index: Index,
+    ticket: &Ticket,
+) -> Mem<Done>
     requires index { IsIndexOf bank.now pool.now index }
     requires ticket { IsGiven pool.now index.told ticket.now }
     ensures index { IfOk result (λ done. IsIndexOf bank.now pool.now done.index) }

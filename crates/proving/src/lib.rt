@@ -1,11 +1,11 @@
-// One worker on a pool: what it claims, and the work on what it is given.
+// One worker on a pool: what it claims, the work on what it is given, and the loop until an outcome stands.
 #![tactic(auto)]
 
 mod claim;
 mod job;
+pub mod laws;
+mod proved;
 mod returning;
 mod rounds;
 
-pub use claim::claim_next;
-pub use job::{Done, work_on};
-pub use rounds::saturate;
+pub use proved::{Proved, prove_clauses};

@@ -11,12 +11,12 @@ returns c = record {
   spent = refl;
   syntax = refl;
   too_heavy = refl;
-  not_built = refl;
+  heavy = refl;
   problem_lost = refl;
   derivation_lost = refl;
   memory_out = refl;
   lost_under_a_name_of_other_bytes = refl;
   typed = refl;
   refused = refl;
-  closed = refl;
+  saturated = refl;
 }

@@ -1,42 +1,36 @@
-use Rattle.std.proofs.Common.{◌≡◌, ℕ, List, Option, Some, None, ◌<◌, map, ap, sym, subst, ◌∙◌}
-use Rattle.std.proofs.lemmas.List.{length-map}
-use Rattle.std.proofs.lemmas.Result.{IfOk-weaker}
-use Rattle.fol_base.specs.Literal.{clause_of}
-use Rattle.tptp_tree.specs.declared.problem.Annotated.{Annotated}
-use Rattle.signature.specs.Form.{ClausalForm, clausal_form}
-use Rattle.clausal_form.specs.Form.{form_of}
-use Rattle.ground_loop.specs.Scope.{first_outside}
-use Rattle.ground_loop.proofs.ScopeLemmas.{first_outside_is_first}
-use Rattle.prover_main.specs.Answer.{IsGroundProof, IsProofAnswer}
-use Rattle.prover_main.specs.AnswerShape.{IsNotBuiltAnswer}
-use Rattle.prover_main.proofs.AnswerLemmas.{ground_proves, not_built_proves}
+use Rattle.std.proofs.Common.{refl, ap, subst, sym, ◌∙◌, Some}
+use Rattle.tstp_writer.specs.Printable.{IsShown}
+use Rattle.prover_main.specs.Answer.{has_conjecture}
+use Rattle.prover_main.proofs.HistoryLemmas.{has-history, heavy-there, inputs-are, is-heavy, is-refuted, is-spent}
+use Rattle.prover_main.proofs.TextLemmas.{file-shown, read-printable}
 use Rattle.prover_main.proofs.prove.proof_answer.Goals as goal
 
-pub not_built-requires-clause-index : goal.not_built-requires-clause-index
-not_built-requires-clause-index c =
-    subst (λ n. c.in-Some.index < n) (length-map c.args.formed.now.form.clauses clause_of)
-    (first_outside_is_first (map clause_of c.args.formed.now.form.clauses) c.in-Some.index (sym c.in-Some.ensures.first)).there
+pub write_refutation-requires-clause-refuted : goal.write_refutation-requires-clause-refuted
+write_refutation-requires-clause-refuted c = c.requires.proved.pool.outcome ∙ ap Some c.in-Refuted.is
 
--- which clause is outside, by the form's own clauses
-is_first :
-    (form : ClausalForm) (formulas : List Annotated) (found : Option ℕ)
-    → form ≡ clausal_form formulas → first_outside form.clauses ≡ found → first_outside (clausal_form formulas).clauses ≡ found
-is_first form formulas found is_form first = ap (λ (f : ClausalForm). first_outside f.clauses) (sym is_form) ∙ first
+pub write_refutation-requires-clause-inputs : goal.write_refutation-requires-clause-inputs
+write_refutation-requires-clause-inputs c = inputs-are c.args.problem.now.formulas c.args.options c.args.proved.now c.requires.proved
 
-pub returns-in-Some : goal.returns-in-Some
-returns-in-Some c =
-    IfOk-weaker c.not_built.result
-    (λ answer. IsNotBuiltAnswer c.args.formed.now.problem.formulas c.in-Some.index answer)
-    (λ answer. IsProofAnswer c.args.file.now c.args.formed.now.problem.formulas c.args.limit answer)
-    (λ answer h. not_built_proves c.args.file.now c.args.formed.now.problem.formulas c.args.limit c.in-Some.index answer
-    (is_first (form_of c.args.formed.now.form) c.args.formed.now.problem.formulas (Some c.in-Some.index)
-    c.requires.formed.formed_from.form (sym c.in-Some.ensures.first)) h) c.not_built.ensures
+pub write_refutation-requires-clause-printable : goal.write_refutation-requires-clause-printable
+write_refutation-requires-clause-printable c = read-printable c.args.problem.now c.requires.read
 
-pub returns-in-None : goal.returns-in-None
-returns-in-None c =
-    IfOk-weaker c.ground_answer.result
-    (λ answer. IsGroundProof c.args.file.now c.args.formed.now.problem.formulas c.args.limit answer)
-    (λ answer. IsProofAnswer c.args.file.now c.args.formed.now.problem.formulas c.args.limit answer)
-    (λ answer h. ground_proves c.args.file.now c.args.formed.now.problem.formulas c.args.limit answer
-    (is_first (form_of c.args.formed.now.form) c.args.formed.now.problem.formulas None
-    c.requires.formed.formed_from.form (sym c.in-None.ensures.first)) h) c.ground_answer.ensures
+pub write_refutation-requires-clause-file : goal.write_refutation-requires-clause-file
+write_refutation-requires-clause-file c =
+    subst IsShown (sym (c.as_slice.ensures ∙ c.in_ok-name-in-Refuted.ensures)) (file-shown c.args.file.now c.requires.filled)
+
+pub heavy_key-key-requires : goal.heavy_key-key-requires
+heavy_key-key-requires c = heavy-there c.args.problem.now.formulas c.args.options c.args.proved.now c.requires.proved c.in-Heavy.place c.in-Heavy.is
+
+pub returns-in_ok-derivation-in-Refuted : goal.returns-in_ok-derivation-in-Refuted
+returns-in_ok-derivation-in-Refuted c =
+    is-refuted c.args.problem.now.formulas c.args.options c.args.proved.now c.requires.proved c.args.file.now c.as_slice.result.now
+    c.in_ok-derivation-in-Refuted.derivation c.has_conjecture.result c.in-Refuted.is (c.has_conjecture.ensures ∙ ap has_conjecture c.as_slice-in-Refuted.ensures)
+    (c.as_slice.ensures ∙ c.in_ok-name-in-Refuted.ensures) c.in_ok-derivation-in-Refuted.ensures.written c.in_ok-derivation-in-Refuted.ensures.accepted
+
+pub returns-in-Spent : goal.returns-in-Spent
+returns-in-Spent c = is-spent c.args.problem.now.formulas c.args.options c.args.proved.now c.requires.proved c.in-Spent.count c.args.options.inferences c.in-Spent.is refl
+
+pub returns-in_ok-write_key-in-Heavy : goal.returns-in_ok-write_key-in-Heavy
+returns-in_ok-write_key-in-Heavy c =
+    is-heavy c.args.problem.now.formulas c.args.options c.args.proved.now c.requires.proved c.in-Heavy.place c.heavy_key-key.result.now
+    c.in_ok-write_key-in-Heavy.field-0 c.in-Heavy.is c.heavy_key-key.ensures c.in_ok-write_key-in-Heavy.ensures

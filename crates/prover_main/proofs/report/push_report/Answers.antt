@@ -4,12 +4,6 @@ use Rattle.prover_main.specs.Reports.{load_line, formula_line}
 use Rattle.prover_main.proofs.PageLemmas.{two_added_by, told}
 use Rattle.prover_main.proofs.report.push_report.Goals as goal
 
-pub returns-in_ok-push_status-in-NotBuilt : goal.returns-in_ok-push_status-in-NotBuilt
-returns-in_ok-push_status-in-NotBuilt c =
-    told c.push_formula.result c.args.file.now c.args.page.now _ _ _ c.in-NotBuilt.is
-    (two_added_by c.push_formula.result c.args.page.now _ _ _ formula_line (codes "NotBuilt") (codes "NotBuilt") _ _ refl c.as_slice-in-NotBuilt.ensures
-    c.in_ok-push_status-in-NotBuilt.ensures c.push_formula.ensures)
-
 pub returns-in_ok-push_status-in-Unloaded : goal.returns-in_ok-push_status-in-Unloaded
 returns-in_ok-push_status-in-Unloaded c =
     told c.push_load.result c.args.file.now c.args.page.now _ _ _ c.in-Unloaded.is
@@ -18,6 +12,6 @@ returns-in_ok-push_status-in-Unloaded c =
 
 pub returns-in_ok-push_status-in-Unformed : goal.returns-in_ok-push_status-in-Unformed
 returns-in_ok-push_status-in-Unformed c =
-    told c.push_formula-in-Unformed.result c.args.file.now c.args.page.now _ _ _ c.in-Unformed.is
-    (two_added_by c.push_formula-in-Unformed.result c.args.page.now _ _ _ formula_line _ _ _ _ c.limit_word.ensures c.as_slice-in-Unformed.ensures
-    c.in_ok-push_status-in-Unformed.ensures c.push_formula-in-Unformed.ensures)
+    told c.push_formula.result c.args.file.now c.args.page.now _ _ _ c.in-Unformed.is
+    (two_added_by c.push_formula.result c.args.page.now _ _ _ formula_line _ _ _ _ c.limit_word.ensures c.as_slice-in-Unformed.ensures
+    c.in_ok-push_status-in-Unformed.ensures c.push_formula.ensures)

@@ -2,12 +2,12 @@ use Rattle.std.proofs.Common.{◌≡◌, drop, map}
 use Rattle.std.specs.Prelude.{fold, string_bytes, option_and_then, option_map}
 use Rattle.std.specs.List.{filter}
 use Rattle.prover_main.specs.Words.{is_option, file_words, with_option, options_in}
-use Rattle.prover_main.specs.WordParts.{few_with, few_of, few_meant, options_meant}
+use Rattle.prover_main.specs.WordParts.{few_with, few_of, few_meant, given_meant}
 use Rattle.prover_main.proofs.words.arguments_of.Given as goal
 
 abbrev pub invariant-loop-word : goal.invariant-loop-word
 invariant-loop-word l =
     (fold few_with (few_meant l.files) (file_words (map string_bytes (drop l.word-index l.words))) ≡ few_of (file_words (map string_bytes l.words)))
-    × (fold (λ g w. option_and_then (λ o. with_option o w) g) (option_map options_meant l.options)
+    × (fold (λ g w. option_and_then (λ o. with_option o w) g) (option_map given_meant l.options)
     (filter is_option (map string_bytes (drop l.word-index l.words)))
     ≡ options_in (map string_bytes l.words))

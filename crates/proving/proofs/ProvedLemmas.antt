@@ -1,0 +1,35 @@
+-- A pool from its beginning to its end.
+use Rattle.std.proofs.Common.{◌≡◌, ℕ, List, [], ap, ◌∙◌, Some}
+use Rattle.fol_base.specs.Clause.{TreeClause}
+use Rattle.term_bank.specs.Bank.{identity}
+use Rattle.term_bank.specs.declared.bank.Bank.{Bank}
+use Rattle.pool_core.specs.View.{PoolView}
+use Rattle.pool_core.specs.Record.{jobs_out, nothing_registered}
+use Rattle.pool_core.specs.Inputs.{IsHistoryOf}
+use Rattle.pool_core.specs.Outcomes.{outcome_of}
+use Rattle.pool_core.specs.Replay.{Origin, start, replay}
+use Rattle.pool_core.specs.declared.options.Options.{Options}
+use Rattle.pool_core.specs.declared.outcome.Outcome.{Outcome}
+use Rattle.pool_core.proofs.FrameLemmas.{inputs-register}
+use Rattle.proving.specs.Progress.{HasNoJob, IsLater}
+use Rattle.proving.specs.Proved.{IsProvedFrom}
+
+-- at the beginning no job is out
+none-out : (origin : Origin) → jobs_out (start origin) ≡ 0
+none-out origin = ap jobs_out (inputs-register origin.options.split 0 origin.inputs nothing_registered).same
+
+pub begun-free : (pool : PoolView) (bank : ℕ) (origin : Origin) → pool ≡ record { bank = bank; origin = origin; history = [] } → HasNoJob pool
+begun-free pool bank origin is = ap (λ (p : PoolView). jobs_out (replay p.origin p.history)) is ∙ none-out origin
+
+-- what a later pool on which an outcome stands comes from
+pub ended-from :
+    (inputs : List TreeClause) (options : Options) (begun pool : PoolView) (bank : Bank) (outcome : Outcome)
+    → begun ≡ record { bank = identity bank; origin = record { inputs = inputs; options = options }; history = [] } → IsLater begun pool
+    → IsHistoryOf pool.origin pool.history → outcome_of (replay pool.origin pool.history) ≡ Some outcome
+    → IsProvedFrom inputs options (record { outcome = outcome; pool = pool; bank = bank })
+ended-from inputs options begun pool bank outcome is later lawful stands = record {
+  bank = later.bank ∙ ap (λ (p : PoolView). p.bank) is;
+  origin = later.origin ∙ ap (λ (p : PoolView). p.origin) is;
+  lawful = lawful;
+  outcome = stands;
+}

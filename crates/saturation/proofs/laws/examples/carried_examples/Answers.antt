@@ -1,0 +1,5 @@
+use Rattle.saturation.proofs.ExampleLemmas.{begun, not_begun}
+use Rattle.saturation.proofs.laws.examples.carried_examples.Goals as goal
+
+pub returns : goal.returns
+returns c = record { begun = begun; none = not_begun }

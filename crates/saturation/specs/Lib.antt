@@ -1,0 +1,4 @@
+pub mod Cover
+pub mod Carried
+pub mod Laws
+pub mod Examples

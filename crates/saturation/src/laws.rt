@@ -1,0 +1,12 @@
+// Laws of the saturation of a pool, and worked examples: each is the contract of a function without arguments. Bodies only call the laws of the
+// calculus, on which the proofs stand.
+
+mod carried;
+mod examples;
+mod outcomes;
+
+pub use carried::{carried_through, inferences_keep_symbols};
+pub use examples::{carried_examples, held_examples, saturated_example};
+pub use outcomes::{
+    fixed_are_refuted_or_spent, heavy_is_named, members_were_counted, saturated_is_saturated,
+};

@@ -1,0 +1,41 @@
+// What the outcomes say that come where nothing is left to do.
+
+ghost use Rattle.saturation.specs.Laws.{
+  FixedAreRefutedOrSpent,
+  SaturatedIsSaturated,
+  MembersWereCounted,
+  HeavyIsNamed,
+};
+
+use calculus::laws::{
+    ground_conclusions_covered, reductions_covered, reductions_keep, renamed_covered,
+    subsumed_covered, tautologies_covered,
+};
+
+/// No event fixes another outcome than Refuted and Spent.
+pub fn fixed_are_refuted_or_spent()
+    ensures { FixedAreRefutedOrSpent }
+{}
+
+/// The outcome Saturated says that the members are saturated for the inputs: none is empty, and they cover each ground instance of the inputs
+/// and the conclusion of each ground inference among them.
+pub fn saturated_is_saturated()
+    ensures { SaturatedIsSaturated }
+{
+    reductions_covered();
+    reductions_keep();
+    subsumed_covered();
+    tautologies_covered();
+    renamed_covered();
+    ground_conclusions_covered();
+}
+
+/// Under the outcome Saturated each inference that is named among the members was counted, and not set aside.
+pub fn members_were_counted()
+    ensures { MembersWereCounted }
+{}
+
+/// The outcome Heavy tells an inference among the members that was set aside, since it is too large.
+pub fn heavy_is_named()
+    ensures { HeavyIsNamed }
+{}
