@@ -1,0 +1,5 @@
+% A group is told by a left unit and left inverses. The left unit is a right one too.
+fof(left_unit,axiom,! [X] : times(one,X) = X).
+fof(left_inverse,axiom,! [X] : times(inverse(X),X) = one).
+fof(associative,axiom,! [X,Y,Z] : times(times(X,Y),Z) = times(X,times(Y,Z))).
+fof(right_unit,conjecture,! [X] : times(X,one) = X).

@@ -1,0 +1,4 @@
+cnf(detachment,axiom,~holds(implies(X,Y)) | ~holds(X) | holds(Y)).
+cnf(weaker,axiom,holds(implies(X,implies(Y,X)))).
+cnf(distributes,axiom,holds(implies(implies(X,implies(Y,Z)),implies(implies(X,Y),implies(X,Z))))).
+cnf(syllogism,negated_conjecture,~holds(implies(implies(a,b),implies(implies(b,c),implies(a,c))))).

@@ -1,0 +1,1 @@
+fof(russell,conjecture,~ ? [X] : ! [Y] : (in(Y,X) <=> ~ in(Y,Y))).
