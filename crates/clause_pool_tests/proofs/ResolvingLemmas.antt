@@ -15,7 +15,7 @@ use Rattle.fol_base.specs.Examples.{a, b, r, clause}
 use Rattle.fol_base.proofs.RuleLemmas.{resolved-parts, merged-parts}
 use Rattle.kernel_steps.specs.Conclusion.{verdict, concludes}
 use Rattle.kernel_steps.specs.Derivation.{continued}
-use Rattle.kernel_steps.specs.Inference.{RewritesBy, CutsBy, Reduces, IsIrreducible}
+use Rattle.kernel_steps.specs.Inference.{Reduces, IsIrreducible}
 use Rattle.kernel_steps.specs.Lines.{clause_parents, has_small_terms, IsNumbered}
 use Rattle.kernel_steps.specs.Symbols.{symbols_pass, clause_symbols_pass}
 use Rattle.kernel_steps.specs.declared.step.Line.{Line}
@@ -26,7 +26,7 @@ use Rattle.pool_core.specs.Batches.{is_told_beside, told_clauses, IsReducedBesid
 use Rattle.pool_core.specs.Inputs.{IsRightBatch}
 use Rattle.pool_core.specs.Lines.{line_of, written}
 use Rattle.pool_core.specs.Record.{GivenJob, clauses_of}
-use Rattle.pool_core.specs.Reduction.{Lookup, AreLinesFrom, HaveSymbolsOf, clauses_used, handed_back, same_numbers}
+use Rattle.pool_core.specs.Reduction.{Lookup, HaveSymbolsOf, clauses_used, handed_back, same_numbers}
 use Rattle.pool_core.specs.Replay.{replay}
 use Rattle.pool_core.specs.declared.batch.Fate.TheVariants.{Kept}
 use Rattle.pool_core.specs.declared.event.Event.TheVariants.{Claim}

@@ -1,6 +1,6 @@
 -- The batches of the tests by which a clause goes that another subsumes are right.
-use Rattle.std.proofs.Common.{◌≡◌, ℕ, zero, suc, Bool, true, false, not, ◌&&◌, ◌||◌, ◌==◌, List, [], ◌∷◌, ◌++◌, None, Some, refl, sym, ap, ◌∙◌, subst, inl, inr, arith}
-use Rattle.std.specs.Prelude.{Option, slice_get, IsTrue, IsFalse}
+use Rattle.std.proofs.Common.{◌≡◌, ℕ, zero, suc, Bool, true, false, not, ◌&&◌, ◌||◌, ◌==◌, List, [], ◌∷◌, ◌++◌, Some, refl, sym, ap, ◌∙◌, subst, inl, inr, arith}
+use Rattle.std.specs.Prelude.{slice_get, IsTrue, IsFalse}
 use Rattle.std.specs.List.{list_any, list_all}
 use Rattle.std.proofs.lemmas.Bool.{true≢false, and_parts}
 use Rattle.std.proofs.lemmas.Option.{none-some, same_Some}
@@ -23,7 +23,7 @@ use Rattle.kernel_steps.specs.Split.{has_number}
 use Rattle.kernel_steps.specs.declared.key.Key.{Key}
 use Rattle.kernel_steps.specs.declared.key.Key.TheVariants.{Para, Refl, Factor, Replaced}
 use Rattle.calculus.specs.Lifting.{among, IsMember}
-use Rattle.pool_core.specs.Batches.{is_told, is_told_beside, is_to_meet, told_before, told_clauses, clauses_beside, Simplifies, IsRightGone, IsRightMeeting, IsRightRemoval}
+use Rattle.pool_core.specs.Batches.{is_told, is_told_beside, told_before, told_clauses, clauses_beside, Simplifies, IsRightGone, IsRightMeeting, IsRightRemoval}
 use Rattle.pool_core.specs.Inputs.{IsRightBatch}
 use Rattle.pool_core.specs.Outcomes.{premises}
 use Rattle.pool_core.specs.Record.{GivenJob, clauses_of}

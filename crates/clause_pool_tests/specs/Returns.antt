@@ -1,5 +1,5 @@
 -- The pools and the batches of the tests of returns. The symbols are those of the base's examples, and s and t.
-use Rattle.std.specs.Prelude.{ℕ, true, false, List, [], ◌∷◌, ◌++◌}
+use Rattle.std.specs.Prelude.{ℕ, false, List, [], ◌∷◌, ◌++◌}
 use Rattle.fol_base.specs.Tree.{application, no_trees, true_tree}
 use Rattle.fol_base.specs.Clause.{TreeLiteral, TreeClause}
 use Rattle.fol_base.specs.Examples.{a, b, r, equation, clause}
