@@ -297,6 +297,14 @@ unequal = pool_of (clause (disequation (x 0) a ∷ []) ∷ [])
 abbrev pub unequal_resolved : Entry
 unequal_resolved = entry (key.Refl 0 0) (kept (line_of (Refl 0 0 (a ∷ [])) (clause []) ∷ []) (clause []))
 
+-- ---- one whose inference is dropped: X0 != a or f(X0) = f(a), which resolves to f(a) = f(a)
+
+abbrev pub dropping : Origin
+dropping = pool_up_to 1 true (clause (disequation (x 0) a ∷ equation (f (x 0)) (f a) ∷ []) ∷ [])
+
+abbrev pub tautology_dropped : Entry
+tautology_dropped = entry (key.Refl 0 0) (Dropped Tautology)
+
 -- ---- two clauses that meet: p(a), and p(X0) implies q(X0)
 
 abbrev pub partners : Origin
