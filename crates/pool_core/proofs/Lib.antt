@@ -79,4 +79,5 @@ pub mod ReturnExamples
 pub mod CuttingExample
 pub mod SteppingExample
 pub mod DroppingExample
+pub mod RemovingExample
 pub mod SaturatedExamples

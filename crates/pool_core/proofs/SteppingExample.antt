@@ -187,10 +187,10 @@ are_lines = record {
 -- ---- what p(a) doesn't do
 
 -- a term without p(a) at any place
-abbrev HasNone : Tree → Type 0
+abbrev pub HasNone : Tree → Type 0
 HasNone t = (place : List ℕ) (old : Tree) → subterm place t ≡ Some old → (p a).left ≡ old → ⊥
 
-none_in_truth : HasNone true_tree
+pub none_in_truth : HasNone true_tree
 none_in_truth [] old there is = true≢false (ap (tree_eq (p a).left) is ∙ ap (tree_eq (p a).left) (sym (same_Some true_tree old there)))
 none_in_truth (k ∷ place) old there is = none-some old there
 
@@ -198,7 +198,7 @@ none_in_a : HasNone a
 none_in_a [] old there is = true≢false (ap (tree_eq (p a).left) is ∙ ap (tree_eq (p a).left) (sym (same_Some a old there)))
 none_in_a (k ∷ place) old there is = none-some old there
 
-none_in_variable : HasNone (x 0)
+pub none_in_variable : HasNone (x 0)
 none_in_variable [] old there is = true≢false (ap (tree_eq (p a).left) is ∙ ap (tree_eq (p a).left) (sym (same_Some (x 0) old there)))
 none_in_variable (k ∷ place) old there is = none-some old there
 
@@ -207,7 +207,7 @@ none_under_f t none [] old there is = true≢false (ap (tree_eq (p a).left) is �
 none_under_f t none (zero ∷ place) old there is = none place old there is
 none_under_f t none (suc k ∷ place) old there is = none-some old there
 
-none_under_p : (t : Tree) → tree_eq a t ≡ false → HasNone t → HasNone (p t).left
+pub none_under_p : (t : Tree) → tree_eq a t ≡ false → HasNone t → HasNone (p t).left
 none_under_p t differs none [] old there is =
     true≢false
     (ap (tree_eq (p a).left) is ∙ ap (tree_eq (p a).left) (sym (same_Some (p t).left old there)) ∙ ap (λ same. same && true) differs)
@@ -215,7 +215,7 @@ none_under_p t differs none (zero ∷ place) old there is = none place old there
 none_under_p t differs none (suc k ∷ place) old there is = none-some old there
 
 -- p(a) rewrites no literal without it
-no_rewriting :
+pub no_rewriting :
     (c d : TreeClause) → ((n : ℕ) (l : TreeLiteral) → slice_get c.literals n ≡ Some l → HasNone l.left × HasNone l.right)
     → RewritesBy is_predicate (clause (p a ∷ [])) c d → ⊥
 no_rewriting c d none w =
@@ -232,7 +232,7 @@ no_rewriting c d none w =
     by Right z there is greater = true≢false (sym greater ∙ ap (λ t. tree_greater t (p a).left) (sym is))
 
 -- nor does it cut one that its complement isn't
-no_cutting :
+pub no_cutting :
     (c d : TreeClause) → ((n : ℕ) (l : TreeLiteral) → slice_get c.literals n ≡ Some l → equivalent_literals (not_p a) l ≡ false)
     → CutsBy is_predicate (clause (p a ∷ [])) c d → ⊥
 no_cutting c d none w =
@@ -284,7 +284,7 @@ denial_not_there σ zero = refl
 denial_not_there σ (suc k) = refl
 
 -- a first literal that stands nowhere subsumes nothing
-no_subsuming :
+pub no_subsuming :
     (l : TreeLiteral) (ls ks : List TreeLiteral)
     → ((σ : Substitution) (k : ℕ) → is_there (literal_instance σ l) (slice_get ks k) ≡ false) → Subsumes is_predicate (clause (l ∷ ls)) (clause ks) → ⊥
 no_subsuming l ls ks none s = by s.places s.mapped

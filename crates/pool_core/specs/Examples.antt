@@ -105,6 +105,10 @@ cut_halfway =
 abbrev pub subsuming : Origin
 subsuming = pool_of (clause (p a ∷ []) ∷ clause (p (x 0) ∷ []) ∷ [])
 
+-- which goes
+abbrev pub subsumed_removed : List Event
+subsumed_removed = Claim 1 ∷ Claim 2 ∷ return 2 (Met [] (removal 0 (1 ∷ []) (Dropped (Subsumed 1)) ∷ [])) ∷ []
+
 -- which stays
 abbrev pub left_subsumed : List Event
 left_subsumed = Claim 1 ∷ return 1 (Met [] []) ∷ Claim 2 ∷ return 2 (Met [] []) ∷ []
