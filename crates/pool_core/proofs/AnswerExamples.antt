@@ -1,5 +1,5 @@
 -- Worked answers to claims and returns.
-use Rattle.std.proofs.Common.{◌≡◌, [], ◌∷◌, ◌++◌, take, Some, refl, sym, ◌∙◌, subst, arith}
+use Rattle.std.proofs.Common.{◌≡◌, ℕ, List, [], ◌∷◌, ◌++◌, take, Some, refl, sym, ◌∙◌, subst, arith}
 use Rattle.std.proofs.lemmas.Option.{none-some, same_Some}
 use Rattle.fol_base.specs.Examples.{a}
 use Rattle.pool_core.specs.Record.{GivenJob}
@@ -7,6 +7,8 @@ use Rattle.pool_core.specs.Replay.{replay}
 use Rattle.pool_core.specs.Answers.{IsAnswerToClaim, IsAnswerToReturn, death_of, dead_justifier}
 use Rattle.pool_core.specs.Examples.{pool_of, three, units, units_history, justified, removing, cut_by, return}
 use Rattle.pool_core.specs.declared.batch.Work.TheVariants as work
+use Rattle.pool_core.specs.declared.event.Event.{Event}
+use Rattle.pool_core.specs.declared.ticket.Ticket.{Ticket}
 use Rattle.pool_core.specs.declared.event.Event.TheVariants as event
 use Rattle.pool_core.specs.declared.outcome.Outcome.TheVariants.{Refuted, Saturated}
 use Rattle.pool_core.specs.declared.ticket.Back.TheVariants as back
@@ -50,10 +52,16 @@ pub taken :
     (record { job = 3; work = work.Gone (cut_by 1 (a ∷ [])) }) back.Taken (removing ++ return 3 (work.Gone (cut_by 1 (a ∷ []))) ∷ [])
 taken = (record { given = third_job; out = refl; says = refl }, refl, refl)
 
+-- the justifier that has died
+died : dead_justifier (replay justified removing) (work.Gone (cut_by 0 [])) ≡ Some 0
+died = refl
+
 pub not_taken :
     IsAnswerToReturn justified removing 0
     (record { job = 3; work = work.Gone (cut_by 0 []) }) back.Taken (removing ++ return 3 (work.Gone (cut_by 0 [])) ∷ []) → ⊥
 not_taken h = none-some 0 (sym h.1 ∙ died)
-  where
-    died : dead_justifier (replay justified removing) (work.Gone (cut_by 0 [])) ≡ Some 0
-    died = refl
+
+pub first_dead :
+    (ticket : Ticket) (new : List Event)
+    → IsAnswerToReturn justified removing 0 (record { job = 3; work = work.Gone (cut_by 0 []) }) (back.Stale 1 3 ticket) new → ⊥
+first_dead ticket new h = let same : ◌≡◌ {A = ℕ} 0 1 = same_Some 0 1 (sym died ∙ h.1) in absurd (omega (arith, same))

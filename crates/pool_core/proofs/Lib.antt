@@ -78,4 +78,6 @@ pub mod LawfulExamples
 pub mod ReturnExamples
 pub mod CuttingExample
 pub mod SteppingExample
+pub mod DroppingExample
+pub mod RemovingExample
 pub mod SaturatedExamples

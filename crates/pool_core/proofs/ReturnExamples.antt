@@ -235,3 +235,9 @@ others_met h = true≢false (sym (said_of _ 1 _ (job_on 1 2 (2 ∷ []) 1) refl h
 pub removes_itself :
     IsLawful is_predicate three (event.Claim 1 ∷ return 1 (work.Met [] (removal 2 [] (Dropped Tautology) ∷ [])) ∷ []) → ⊥
 removes_itself h = true≢false (sym (said_of _ 1 _ (job_on 1 2 (2 ∷ []) 1) refl h.1.0).2.others_removed)
+
+pub subsumed_by_itself :
+    IsLawful is_predicate subsuming (take 3 left_subsumed ++ return 2 (work.Met [] (removal 0 (1 ∷ []) (Dropped (Subsumed 0)) ∷ [])) ∷ []) → ⊥
+subsumed_by_itself h =
+    let right = (said_of _ 2 _ second_job refl h.1.1.1.0).2.right_removals 0 (removal 0 (1 ∷ []) (Dropped (Subsumed 0))) (lit< tt) in
+    none-some right.redundant.clause right.redundant.there

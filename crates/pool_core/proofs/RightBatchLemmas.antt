@@ -1,4 +1,4 @@
--- What is right of a batch serves its return: one nameless canonical result for each list of lines, whose parents are there, and justifiers
+-- What is right of a batch serves its return: one nameless, canonical and small result for each list of lines, whose parents are there, and justifiers
 -- that are registered.
 use Rattle.std.proofs.Common.{◌≡◌, ℕ, zero, suc, ◌+◌, ◌-◌, ◌<◌, ◌≤◌, Bool, true, false, not, ◌==◌, List, [], ◌∷◌, ◌++◌, map, length, take, get_or, refl, ap, ap₂, sym, ◌∙◌, subst, ⊎_elim, arith}
 use Rattle.std.specs.Prelude.{Option, None, Some, cond, nat_lt, filter, flat_map, option_map, option_and_then, is_some, slice_get, if◌then◌else◌, All}

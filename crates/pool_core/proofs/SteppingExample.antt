@@ -187,10 +187,10 @@ are_lines = record {
 -- ---- what p(a) doesn't do
 
 -- a term without p(a) at any place
-abbrev HasNone : Tree → Type 0
+abbrev pub HasNone : Tree → Type 0
 HasNone t = (place : List ℕ) (old : Tree) → subterm place t ≡ Some old → (p a).left ≡ old → ⊥
 
-none_in_truth : HasNone true_tree
+pub none_in_truth : HasNone true_tree
 none_in_truth [] old there is = true≢false (ap (tree_eq (p a).left) is ∙ ap (tree_eq (p a).left) (sym (same_Some true_tree old there)))
 none_in_truth (k ∷ place) old there is = none-some old there
 
@@ -198,7 +198,7 @@ none_in_a : HasNone a
 none_in_a [] old there is = true≢false (ap (tree_eq (p a).left) is ∙ ap (tree_eq (p a).left) (sym (same_Some a old there)))
 none_in_a (k ∷ place) old there is = none-some old there
 
-none_in_variable : HasNone (x 0)
+pub none_in_variable : HasNone (x 0)
 none_in_variable [] old there is = true≢false (ap (tree_eq (p a).left) is ∙ ap (tree_eq (p a).left) (sym (same_Some (x 0) old there)))
 none_in_variable (k ∷ place) old there is = none-some old there
 
@@ -207,7 +207,7 @@ none_under_f t none [] old there is = true≢false (ap (tree_eq (p a).left) is �
 none_under_f t none (zero ∷ place) old there is = none place old there is
 none_under_f t none (suc k ∷ place) old there is = none-some old there
 
-none_under_p : (t : Tree) → tree_eq a t ≡ false → HasNone t → HasNone (p t).left
+pub none_under_p : (t : Tree) → tree_eq a t ≡ false → HasNone t → HasNone (p t).left
 none_under_p t differs none [] old there is =
     true≢false
     (ap (tree_eq (p a).left) is ∙ ap (tree_eq (p a).left) (sym (same_Some (p t).left old there)) ∙ ap (λ same. same && true) differs)
@@ -215,7 +215,7 @@ none_under_p t differs none (zero ∷ place) old there is = none place old there
 none_under_p t differs none (suc k ∷ place) old there is = none-some old there
 
 -- p(a) rewrites no literal without it
-no_rewriting :
+pub no_rewriting :
     (c d : TreeClause) → ((n : ℕ) (l : TreeLiteral) → slice_get c.literals n ≡ Some l → HasNone l.left × HasNone l.right)
     → RewritesBy is_predicate (clause (p a ∷ [])) c d → ⊥
 no_rewriting c d none w =
@@ -232,7 +232,7 @@ no_rewriting c d none w =
     by Right z there is greater = true≢false (sym greater ∙ ap (λ t. tree_greater t (p a).left) (sym is))
 
 -- nor does it cut one that its complement isn't
-no_cutting :
+pub no_cutting :
     (c d : TreeClause) → ((n : ℕ) (l : TreeLiteral) → slice_get c.literals n ≡ Some l → equivalent_literals (not_p a) l ≡ false)
     → CutsBy is_predicate (clause (p a ∷ [])) c d → ⊥
 no_cutting c d none w =
@@ -284,7 +284,7 @@ denial_not_there σ zero = refl
 denial_not_there σ (suc k) = refl
 
 -- a first literal that stands nowhere subsumes nothing
-no_subsuming :
+pub no_subsuming :
     (l : TreeLiteral) (ls ks : List TreeLiteral)
     → ((σ : Substitution) (k : ℕ) → is_there (literal_instance σ l) (slice_get ks k) ≡ false) → Subsumes is_predicate (clause (l ∷ ls)) (clause ks) → ⊥
 no_subsuming l ls ks none s = by s.places s.mapped
@@ -327,24 +327,29 @@ is-unit d (suc zero) there = absurd (none-some d there)
 is-unit d (suc (suc n)) there =
     absurd (none-some d (sym (none-when (is_told_beside job 1 (suc (suc n))) (registered (suc (suc n))) refl) ∙ there))
 
--- what holds of both literals holds of each
-each_literal : (P : TreeLiteral → Type 0) → P (not_p (x 0)) → P (p (f (x 0))) → (n : ℕ) (l : TreeLiteral) → slice_get implication n ≡ Some l → P l
-each_literal P one other zero l there = subst P (same_Some (not_p (x 0)) l there) one
-each_literal P one other (suc zero) l there = subst P (same_Some (p (f (x 0))) l there) other
-each_literal P one other (suc (suc n)) l there = absurd (none-some l there)
+-- what holds of two literals holds of each
+pub each_of_two :
+    (l m : TreeLiteral) (P : TreeLiteral → Type 0) → P l → P m → (n : ℕ) (k : TreeLiteral) → slice_get (l ∷ m ∷ []) n ≡ Some k → P k
+each_of_two l m P one other zero k there = subst P (same_Some l k there) one
+each_of_two l m P one other (suc zero) k there = subst P (same_Some m k there) other
+each_of_two l m P one other (suc (suc n)) k there = absurd (none-some k there)
 
-unmerged : (i j : ℕ) (l m : TreeLiteral) → slice_get implication i ≡ Some l → slice_get implication j ≡ Some m → (i == j) ≡ false → equivalent_literals l m ≡ true → ⊥
-unmerged zero zero l m at_i at_j differ same = true≢false differ
-unmerged zero (suc zero) l m at_i at_j differ same =
+-- two literals that aren't the same aren't merged
+pub none_merged :
+    (l m : TreeLiteral) → equivalent_literals l m ≡ false → equivalent_literals m l ≡ false
+    → (i j : ℕ) (k o : TreeLiteral)
+    → slice_get (l ∷ m ∷ []) i ≡ Some k → slice_get (l ∷ m ∷ []) j ≡ Some o → (i == j) ≡ false → equivalent_literals k o ≡ true → ⊥
+none_merged l m one other zero zero k o at_i at_j differ same = true≢false differ
+none_merged l m one other zero (suc zero) k o at_i at_j differ same =
     true≢false
-    (sym same ∙ ap (λ k. equivalent_literals k m) (sym (same_Some (not_p (x 0)) l at_i)) ∙ ap (equivalent_literals (not_p (x 0))) (sym (same_Some (p (f (x 0))) m at_j)))
-unmerged zero (suc (suc j)) l m at_i at_j differ same = none-some m at_j
-unmerged (suc zero) zero l m at_i at_j differ same =
+    (sym same ∙ ap (λ n. equivalent_literals n o) (sym (same_Some l k at_i)) ∙ ap (equivalent_literals l) (sym (same_Some m o at_j)) ∙ one)
+none_merged l m one other zero (suc (suc j)) k o at_i at_j differ same = none-some o at_j
+none_merged l m one other (suc zero) zero k o at_i at_j differ same =
     true≢false
-    (sym same ∙ ap (λ k. equivalent_literals k m) (sym (same_Some (p (f (x 0))) l at_i)) ∙ ap (equivalent_literals (p (f (x 0)))) (sym (same_Some (not_p (x 0)) m at_j)))
-unmerged (suc zero) (suc zero) l m at_i at_j differ same = true≢false differ
-unmerged (suc zero) (suc (suc j)) l m at_i at_j differ same = none-some m at_j
-unmerged (suc (suc i)) j l m at_i at_j differ same = none-some l at_i
+    (sym same ∙ ap (λ n. equivalent_literals n o) (sym (same_Some m k at_i)) ∙ ap (equivalent_literals m) (sym (same_Some l o at_j)) ∙ other)
+none_merged l m one other (suc zero) (suc zero) k o at_i at_j differ same = true≢false differ
+none_merged l m one other (suc zero) (suc (suc j)) k o at_i at_j differ same = none-some o at_j
+none_merged l m one other (suc (suc i)) j k o at_i at_j differ same = none-some k at_i
 
 not_in_implication : (k : ℕ) → is_there (p a) (slice_get implication k) ≡ false
 not_in_implication zero = refl
@@ -354,20 +359,20 @@ not_in_implication (suc (suc k)) = refl
 no_step_of_implication : (d : TreeClause) → Reduces is_predicate (IsMember (is_told_beside job 1) registered) (clause implication) d → ⊥
 no_step_of_implication d (inl trivial) =
     let parts = resolved-parts implication trivial.i d.literals trivial.gives in
-    each_literal (λ (l : TreeLiteral). l.positive ≡ false → l.left ≡ l.right → ⊥)
+    each_of_two (not_p (x 0)) (p (f (x 0))) (λ (l : TreeLiteral). l.positive ≡ false → l.left ≡ l.right → ⊥)
     (λ negative same. true≢false (ap (tree_eq (p (x 0)).left) same))
     (λ negative same. true≢false negative) trivial.i parts.literal parts.literal_there parts.negative parts.same
 no_step_of_implication d (inr (inl equal)) =
     let parts = merged-parts implication equal.stays equal.goes d.literals equal.gives in
-    unmerged equal.stays equal.goes parts.literal_i parts.literal_j parts.i_there parts.j_there parts.differ parts.same
+    none_merged (not_p (x 0)) (p (f (x 0))) refl refl equal.stays equal.goes parts.literal_i parts.literal_j parts.i_there parts.j_there parts.differ parts.same
 no_step_of_implication d (inr (inr (inl w))) =
     no_rewriting (clause implication) d
-    (each_literal (λ (l : TreeLiteral). HasNone l.left × HasNone l.right)
+    (each_of_two (not_p (x 0)) (p (f (x 0))) (λ (l : TreeLiteral). HasNone l.left × HasNone l.right)
     (none_under_p (x 0) refl none_in_variable, none_in_truth)
     (none_under_p (f (x 0)) refl (none_under_f (x 0) none_in_variable), none_in_truth))
     (subst (λ (u : TreeClause). RewritesBy is_predicate u (clause implication) d) (sym (is-unit w.clause w.holds.0 w.holds.1)) w.does)
 no_step_of_implication d (inr (inr (inr w))) =
-    no_cutting (clause implication) d (each_literal (λ (l : TreeLiteral). equivalent_literals (not_p a) l ≡ false) refl refl)
+    no_cutting (clause implication) d (each_of_two (not_p (x 0)) (p (f (x 0))) (λ (l : TreeLiteral). equivalent_literals (not_p a) l ≡ false) refl refl)
     (subst (λ (u : TreeClause). CutsBy is_predicate u (clause implication) d) (sym (is-unit w.clause w.holds.0 w.holds.1)) w.does)
 
 given_irreducible : IsReducedBeside is_predicate origin.options registered job 1 (clause implication)

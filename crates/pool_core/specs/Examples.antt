@@ -105,6 +105,10 @@ cut_halfway =
 abbrev pub subsuming : Origin
 subsuming = pool_of (clause (p a ∷ []) ∷ clause (p (x 0) ∷ []) ∷ [])
 
+-- which goes
+abbrev pub subsumed_removed : List Event
+subsumed_removed = Claim 1 ∷ Claim 2 ∷ return 2 (Met [] (removal 0 (1 ∷ []) (Dropped (Subsumed 1)) ∷ [])) ∷ []
+
 -- which stays
 abbrev pub left_subsumed : List Event
 left_subsumed = Claim 1 ∷ return 1 (Met [] []) ∷ Claim 2 ∷ return 2 (Met [] []) ∷ []
@@ -296,6 +300,14 @@ unequal = pool_of (clause (disequation (x 0) a ∷ []) ∷ [])
 
 abbrev pub unequal_resolved : Entry
 unequal_resolved = entry (key.Refl 0 0) (kept (line_of (Refl 0 0 (a ∷ [])) (clause []) ∷ []) (clause []))
+
+-- ---- one whose inference is dropped: X0 != a or f(X0) = f(a), which resolves to f(a) = f(a)
+
+abbrev pub dropping : Origin
+dropping = pool_up_to 1 true (clause (disequation (x 0) a ∷ equation (f (x 0)) (f a) ∷ []) ∷ [])
+
+abbrev pub tautology_dropped : Entry
+tautology_dropped = entry (key.Refl 0 0) (Dropped Tautology)
 
 -- ---- two clauses that meet: p(a), and p(X0) implies q(X0)
 

@@ -1,6 +1,6 @@
 // Which clause is claimed, and jobs that are given up.
 
-ghost use Rattle.std.specs.Prelude.{◌≡◌, [], ◌∷◌, ◌++◌, Some, None, take};
+ghost use Rattle.std.specs.Prelude.{◌≡◌, List, [], ◌∷◌, ◌++◌, Some, None, take};
 ghost use Rattle.clause_queue.specs.declared.choice.Choice.TheVariants.{Light, Old};
 ghost use Rattle.pool_core.specs.Answers.{IsAnswerToClaim, IsAnswerToReturn};
 ghost use Rattle.pool_core.specs.Claiming.{ready, picked, next_choice, next_given};
@@ -10,7 +10,9 @@ ghost use Rattle.pool_core.specs.Replay.{start, replay};
 ghost use Rattle.pool_core.specs.Examples.{pool_of, three, abandon_history, given_up_from, units, units_history, justified, removing, cut_by, return};
 ghost use Rattle.fol_base.specs.Examples.{a};
 ghost use Rattle.pool_core.specs.declared.batch.Work.TheVariants as work;
+ghost use Rattle.pool_core.specs.declared.event.Event.{Event};
 ghost use Rattle.pool_core.specs.declared.event.Event.TheVariants as event;
+ghost use Rattle.pool_core.specs.declared.ticket.Ticket.{Ticket};
 ghost use Rattle.pool_core.specs.declared.outcome.Outcome.TheVariants.{Refuted, Saturated};
 ghost use Rattle.pool_core.specs.declared.ticket.Back.TheVariants as back;
 ghost use Rattle.pool_core.specs.declared.ticket.Claimed.TheVariants as answer;
@@ -42,7 +44,7 @@ pub fn given_up_examples()
 {}
 
 /// Answers: three jobs are out and nothing is to be given; a pool without clauses is saturated; the pool is refuted; a job is still to be given, so that it isn't saturated. Where
-/// the given clause has died, that is told, whatever the batch is, and else not; a batch by a living justifier is taken, and one by a dead one isn't.
+/// the given clause has died, that is told, whatever the batch is, and else not; a batch by a living justifier is taken, and one by a dead one isn't: that justifier is told, and no other.
 pub fn answer_examples()
     ensures idle { IsAnswerToClaim three (event.Claim 1 ∷ event.Claim 2 ∷ event.Claim 3 ∷ []) 0
         (answer.Idle 3) (event.Claim 1 ∷ event.Claim 2 ∷ event.Claim 3 ∷ []) }
@@ -54,6 +56,8 @@ pub fn answer_examples()
         (record { job = 1; work = work.Met [] [] }) (back.Void 3) (removing ++ event.Void 1 ∷ []) }
     ensures not_void { IsAnswerToReturn justified removing 0
         (record { job = 3; work = work.Gone (cut_by 1 (a ∷ [])) }) (back.Void 3) (removing ++ event.Void 3 ∷ []) → ⊥ }
+    ensures first_dead { (ticket : Ticket) (new : List Event) → IsAnswerToReturn justified removing 0
+        (record { job = 3; work = work.Gone (cut_by 0 []) }) (back.Stale 1 3 ticket) new → ⊥ }
     ensures taken { IsAnswerToReturn justified removing 0
         (record { job = 3; work = work.Gone (cut_by 1 (a ∷ [])) }) back.Taken (removing ++ return 3 (work.Gone (cut_by 1 (a ∷ []))) ∷ []) }
     ensures not_taken { IsAnswerToReturn justified removing 0

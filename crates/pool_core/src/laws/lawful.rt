@@ -5,7 +5,7 @@ ghost use Rattle.fol_base.specs.Examples.{x, a, p, equation, clause, is_predicat
 ghost use Rattle.pool_core.specs.Lawful.{IsLawful};
 ghost use Rattle.pool_core.specs.Replay.{replay};
 ghost use Rattle.pool_core.specs.Saturated.{members_of};
-ghost use Rattle.pool_core.specs.Examples.{pool_of, alone, alone_history, three, rewrites, rewrites_history, split, justified, removing, unequal, unequal_resolved, partners, cut, growing, one_step, return, removal};
+ghost use Rattle.pool_core.specs.Examples.{pool_of, alone, alone_history, three, rewrites, rewrites_history, split, justified, removing, unequal, unequal_resolved, partners, cut, growing, one_step, subsuming, subsumed_removed, dropping, tautology_dropped, return, removal};
 ghost use Rattle.kernel_steps.specs.Examples.{opposites};
 ghost use Rattle.pool_core.specs.declared.batch.Fate.TheVariants.{Dropped};
 ghost use Rattle.pool_core.specs.declared.batch.Redundancy.TheVariants.{Tautology, Subsumed};
@@ -13,7 +13,7 @@ ghost use Rattle.pool_core.specs.declared.batch.Work.TheVariants as work;
 ghost use Rattle.pool_core.specs.declared.event.Event.TheVariants as event;
 
 /// A tautology goes; a clause that another subsumes goes; so does one that another rewrites, by a line to an irreducible
-/// result, or cuts; one stays with an inference whose result was reduced, and stops early, as no more may be counted; one that is alone and meets nothing stays, and one that meets itself does with an entry for that; a job is given up; a clause is
+/// result, or cuts; one stays with an inference whose result was reduced, and stops early, as no more may be counted; one with an inference that was dropped; one that removes a clause that it subsumes, and meets nothing; one that is alone and meets nothing stays, and one that meets itself does with an entry for that; a job is given up; a clause is
 /// given while the solver is out.
 pub fn lawful_examples()
     ensures tautology { IsLawful is_predicate (pool_of (clause (equation a a ∷ []) ∷ []))
@@ -25,6 +25,8 @@ pub fn lawful_examples()
     ensures rewritten { IsLawful is_predicate rewrites (take 3 rewrites_history) }
     ensures cut_goes { IsLawful is_predicate (pool_of opposites) (event.Claim 1 ∷ event.Claim 2 ∷ return 2 (work.Gone cut) ∷ []) }
     ensures one_step { IsLawful is_predicate (growing 1) (event.Claim 1 ∷ event.Claim 2 ∷ return 2 (work.Met (one_step ∷ []) []) ∷ []) }
+    ensures dropped { IsLawful is_predicate dropping (event.Claim 1 ∷ return 1 (work.Met (tautology_dropped ∷ []) []) ∷ []) }
+    ensures removes { IsLawful is_predicate subsuming subsumed_removed }
     ensures solver_and_clause { IsLawful is_predicate split (event.ClaimSolve 1 ∷ event.Claim 2 ∷ []) }
     ensures stays { IsLawful is_predicate alone alone_history }
     ensures met { IsLawful is_predicate unequal (event.Claim 1 ∷ return 1 (work.Met (unequal_resolved ∷ []) []) ∷ []) }

@@ -14,7 +14,7 @@ ghost use Rattle.pool_core.specs.declared.event.Event.TheVariants as event;
 /// A clause that stays, though a told unit cuts it; one that leaves a told clause that it subsumes; a result that can be reduced further, of a
 /// clause that goes and of an inference; a small inference as a heavy one; one dropped as a tautology, or as subsumed by a clause that wasn't
 /// told; a victim among its justifiers, or a clause that the removal doesn't rest on; another result than the lines lead to; an inference of
-/// two other clauses; and a removal of the given clause beside its meeting.
+/// two other clauses; a removal as subsumed by the victim itself; and a removal of the given clause beside its meeting.
 pub fn wrong_return_examples()
     ensures stays_uncut { IsLawful is_predicate (pool_of opposites) left_uncut → ⊥ }
     ensures left_there { IsLawful is_predicate subsuming left_subsumed → ⊥ }
@@ -32,6 +32,8 @@ pub fn wrong_return_examples()
     ensures other_result { IsLawful is_predicate rewrites (take 2 rewrites_history ++ return 2 (work.Gone rewritten_to_itself) ∷ []) → ⊥ }
     ensures others_met { IsLawful is_predicate three
         (event.Claim 1 ∷ return 1 (work.Met (entry (at_roots 0 1) (Dropped Tautology) ∷ []) []) ∷ []) → ⊥ }
+    ensures subsumed_by_itself { IsLawful is_predicate subsuming
+        (take 3 left_subsumed ++ return 2 (work.Met [] (removal 0 (1 ∷ []) (Dropped (Subsumed 0)) ∷ [])) ∷ []) → ⊥ }
     ensures removes_itself { IsLawful is_predicate three
         (event.Claim 1 ∷ return 1 (work.Met [] (removal 2 [] (Dropped Tautology) ∷ [])) ∷ []) → ⊥ }
 {}

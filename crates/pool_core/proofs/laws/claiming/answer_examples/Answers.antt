@@ -1,4 +1,4 @@
-use Rattle.pool_core.proofs.AnswerExamples.{idle, nothing_out, saturated, ended, not_saturated, void, not_void, taken, not_taken}
+use Rattle.pool_core.proofs.AnswerExamples.{idle, nothing_out, saturated, ended, not_saturated, void, not_void, taken, not_taken, first_dead}
 use Rattle.pool_core.proofs.laws.claiming.answer_examples.Goals as goal
 
 pub returns-clause-idle : goal.returns-clause-idle
@@ -27,3 +27,6 @@ returns-clause-taken c = taken
 
 pub returns-clause-not_taken : goal.returns-clause-not_taken
 returns-clause-not_taken c = not_taken
+
+pub returns-clause-first_dead : goal.returns-clause-first_dead
+returns-clause-first_dead c = first_dead

@@ -4,6 +4,8 @@ use Rattle.pool_core.proofs.GoingExample.{rewritten_goes}
 use Rattle.pool_core.proofs.LawfulExamples.{tautology_goes, subsumed_goes, given_up, solver_and_clause}
 use Rattle.pool_core.proofs.CuttingExample.{cut_goes}
 use Rattle.pool_core.proofs.SteppingExample.{step_met}
+use Rattle.pool_core.proofs.RemovingExample.{removal_met}
+use Rattle.pool_core.proofs.DroppingExample.{dropped_met}
 use Rattle.pool_core.proofs.laws.lawful.lawful_examples.Goals as goal
 
 pub returns-clause-tautology : goal.returns-clause-tautology
@@ -32,3 +34,9 @@ returns-clause-cut_goes c = cut_goes
 
 pub returns-clause-one_step : goal.returns-clause-one_step
 returns-clause-one_step c = step_met
+
+pub returns-clause-dropped : goal.returns-clause-dropped
+returns-clause-dropped c = dropped_met
+
+pub returns-clause-removes : goal.returns-clause-removes
+returns-clause-removes c = removal_met

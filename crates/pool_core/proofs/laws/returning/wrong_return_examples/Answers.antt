@@ -1,4 +1,4 @@
-use Rattle.pool_core.proofs.ReturnExamples.{stays_uncut, left_there, gone_reducible, kept_reducible, small_heavy, no_tautology, subsumed_by_untold, justifies_itself, superfluous_justifier, other_result, others_met, removes_itself}
+use Rattle.pool_core.proofs.ReturnExamples.{stays_uncut, left_there, gone_reducible, kept_reducible, small_heavy, no_tautology, subsumed_by_untold, justifies_itself, superfluous_justifier, other_result, others_met, removes_itself, subsumed_by_itself}
 use Rattle.pool_core.proofs.laws.returning.wrong_return_examples.Goals as goal
 
 pub returns-clause-stays_uncut : goal.returns-clause-stays_uncut
@@ -36,3 +36,6 @@ returns-clause-others_met c = others_met
 
 pub returns-clause-removes_itself : goal.returns-clause-removes_itself
 returns-clause-removes_itself c = removes_itself
+
+pub returns-clause-subsumed_by_itself : goal.returns-clause-subsumed_by_itself
+returns-clause-subsumed_by_itself c = subsumed_by_itself
