@@ -8,7 +8,7 @@ use Rattle.pool_core.specs.declared.options.Options.{Options}
 use Rattle.prover_main.specs.Outside.{Outside}
 use Rattle.prover_main.specs.declared.answer.Answer.{Answer}
 use Rattle.prover_main.specs.declared.answer.Answer.TheVariants.{Refuted, Saturated, Spent, Heavy, Accepted, Refused, Unloaded, Unread, Unformed}
-use Rattle.prover_main.specs.Answer.{Source, IsFormed, OfFormed, IsUnformed, IsProofAnswer, IsLoaded, IsJudgement, IsProveAnswer, IsCheckAnswer}
+use Rattle.prover_main.specs.Answer.{Source, IsFormed, OfFormed, IsProofAnswer, IsLoaded, IsJudgement, IsProveAnswer, IsCheckAnswer}
 use Rattle.prover_main.specs.AnswerShape.{IsReadFrom, IsFormedFrom, IsStop, IsStopAnswer}
 use Rattle.prover_main.specs.declared.problem.FormedProblem.{FormedProblem}
 use Rattle.prover_main.specs.declared.problem.Stop.{Stop}

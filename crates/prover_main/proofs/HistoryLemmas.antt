@@ -1,5 +1,5 @@
 -- What the pool of a problem tells once it has ended.
-use Rattle.std.proofs.Common.{◌≡◌, ◌<◌, ◌≤◌, ℕ, true, List, length, ap, sym, ◌∙◌, subst}
+use Rattle.std.proofs.Common.{◌≡◌, ◌<◌, ◌≤◌, ℕ, List, length, ap, sym, ◌∙◌, subst}
 use Rattle.std.specs.Prelude.{Bool, Some, slice_get, position, map, Contains, IsTrue}
 use Rattle.std.proofs.lemmas.List.Quantifiers.{position-Some}
 use Rattle.fol_base.specs.Clause.{TreeClause}
@@ -10,11 +10,8 @@ use Rattle.signature.specs.Form.{ClausalForm, clausal_form}
 use Rattle.kernel_steps.specs.Keys.{key_text}
 use Rattle.kernel_steps.specs.declared.key.Key.{Key}
 use Rattle.kernel_steps.specs.declared.key.Key.TheVariants.{Replaced}
-use Rattle.clausal_form.specs.Form.{form_of}
-use Rattle.clausal_form.specs.Fault.{form_fault}
 use Rattle.clausal_form.specs.DerivationTexts.{IsAcceptedDerivation}
 use Rattle.clausal_form.specs.FormFunctions.{is_predicate_in}
-use Rattle.clausal_form.specs.FormLaws.{use_of}
 use Rattle.clausal_form.proofs.WellFormedLemmas.{forms-are-well-formed}
 use Rattle.clausal_form.proofs.RefutationLemmas.{accepted_derivations_refute}
 use Rattle.pool_core.specs.Inputs.{IsHistoryOf, IsUseOf}
@@ -34,7 +31,7 @@ use Rattle.proving.proofs.EndLemmas.{outcomes-have-causes}
 use Rattle.pool_writer.specs.Refuted.{IsRefutationText}
 use Rattle.retracing.specs.Retraced.{steps_of}
 use Rattle.prover_main.specs.Names.{shown}
-use Rattle.prover_main.specs.Answer.{origin_of, has_conjecture, HasHistory, IsRefuted, IsSpent, IsHeavy}
+use Rattle.prover_main.specs.Answer.{has_conjecture, HasHistory, IsRefuted, IsSpent, IsHeavy}
 use Rattle.prover_main.specs.AnswerShape.{IsProvedProblem}
 use Rattle.prover_main.specs.declared.proved.Proved.{Proved}
 

@@ -1,6 +1,6 @@
 -- The bytes that a library tells decide which answer a command has, where something is wrong with the problem and in `check`.
 use Rattle.std.proofs.Common.{◌≡◌, ◌<◌, ◌≤◌, ◌⊎◌, inl, inr, ℕ, List, length, Option, None, Some, refl, ap, ap₂, sym, subst, ◌∙◌, arith}
-use Rattle.std.specs.Prelude.{Bool, true, false, map, unwrap_or, option_map, IfSome, IsSomeAnd, []}
+use Rattle.std.specs.Prelude.{Bool, true, false, map, unwrap_or, IfSome, IsSomeAnd, []}
 use Rattle.outside.specs.Library.{Holdings, FoundMore}
 use Rattle.tptp_token.specs.declared.limits.TheConstants.{MOST_TEXT_BYTES}
 use Rattle.tptp_tree.specs.declared.problem.Annotated.{Annotated}
@@ -9,7 +9,6 @@ use Rattle.tptp_reader.specs.declared.cause.ReadCause.TheVariants.{Load}
 use Rattle.tptp_problem.specs.Formulas.{placed}
 use Rattle.tptp_problem.specs.Problem.{IsProblem, IsProblemFault}
 use Rattle.tptp_problem.proofs.OutcomeLemmas.{problem-one, problem-or-fault, problem-fault-one}
-use Rattle.signature.specs.Form.{clausal_form}
 use Rattle.clausal_form.specs.Fault.{form_fault}
 use Rattle.clausal_form.specs.DerivationCauses.{Cause as LineCause, text, order, unknown_parent, leaf, clausification, binding, rule, conclusion, new_symbol, no_empty_clause}
 use Rattle.clausal_form.specs.DerivationLines.{Answer as LineAnswer, accepted, refused_line}

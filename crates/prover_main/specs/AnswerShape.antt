@@ -1,5 +1,5 @@
 -- What the stages of a command answer, in the words of the definitions.
-use Rattle.std.specs.Prelude.{◌≡◌, ⊤, ℕ, List, map, Option, None, Some}
+use Rattle.std.specs.Prelude.{◌≡◌, ⊤, List, map, Option, None, Some}
 use Rattle.outside.specs.Library.{Holdings}
 use Rattle.tptp_tree.specs.ProblemSize.{HasProblemSize}
 use Rattle.tptp_tree.specs.declared.problem.Annotated.{Annotated}
