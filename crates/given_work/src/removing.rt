@@ -1,6 +1,6 @@
 // The told clauses that a given clause removes.
 
-ghost use Rattle.std.specs.Prelude.{◌≡◌, ◌==◌, ◌&&◌, ◌||◌, ◌++◌, not, Some, IfOk, option_to_list, slice_get};
+ghost use Rattle.std.specs.Prelude.{◌≡◌, ◌==◌, ◌&&◌, ◌||◌, ◌++◌, not, Contains, IfOk, option_to_list};
 ghost use Rattle.std.specs.List.{list_any};
 ghost use Rattle.bank_clause.specs.Clause.{IsMemberOf, clause_at};
 ghost use Rattle.given_work.specs.Kept.{IsKept};
@@ -10,7 +10,8 @@ ghost use Rattle.given_work.specs.Removing.{AddsRemoval, AreRemovalsAmong, AreTo
 
 use crate::going::removal_of;
 use crate::sets::Sets;
-use crate::store::{Store, Told};
+use crate::store::Store;
+use bank_clause::Member;
 use plain_types::Mem;
 use pool_core::{Removal, Removals};
 use simplification::Simplifiers;
@@ -25,26 +26,25 @@ pub(crate) fn removals_of(
     bank: &Bank,
     store: &Store,
     sets: &Sets,
-    place: usize,
-    given: &Told,
+    given: &Member,
 ) -> Mem<Removals>
-    requires kept { IsKept bank.now given.now.sites.mode store.now sets.now }
+    requires kept { IsKept bank.now store.now sets.now }
     requires told { AreTold (members_in store.now.slots.items) }
-    requires given { slice_get store.now.slots.items place ≡ Some (Some given.now) }
-    ensures { IfOk result (AreRemovalsAmong (members_in store.now.slots.items) given.now.member (members_in store.now.slots.items)) }
+    requires given { Contains (members_in store.now.slots.items) given.now }
+    ensures { IfOk result (AreRemovalsAmong (members_in store.now.slots.items) given.now (members_in store.now.slots.items)) }
 {
-    let is_unit = has_one_literal(&given.member.clause);
-    let subsumed = backward(alloc, bank, &sets.subsumers, &given.member)?;
+    let is_unit = has_one_literal(&given.clause);
+    let subsumed = backward(alloc, bank, &sets.subsumers, given)?;
     let count = store.slots.len();
     let mut removals = Vec::new(alloc);
     for at in 0..count {
-        if let Some(told) = &store.slots[at] {
+        if let Some(member) = &store.slots[at] {
             let candidates = Candidates {
-                given: given.member.number,
+                given: given.number,
                 is_unit,
                 subsumed: subsumed.as_slice(),
             };
-            consider(alloc, bank, sets, &candidates, told, &mut removals)?;
+            consider(alloc, bank, sets, &candidates, member, &mut removals)?;
         }
     }
     Ok(Removals::from_vec(removals))
@@ -64,17 +64,17 @@ fn consider(
     bank: &Bank,
     sets: &Sets,
     candidates: &Candidates<'_>,
-    told: &Told,
+    member: &Member,
     removals: &mut Vec<Removal>,
 ) -> Mem<()>
     requires of_bank { AreSetsOfBank bank.now sets.now.equations sets.now.units sets.now.subsumers }
-    requires member { IsMemberOf bank.now told.now.member }
-    requires told { AreToldWith sets.now.equations sets.now.units sets.now.subsumers told.now.member.number (clause_at told.now.member.clause) }
+    requires member { IsMemberOf bank.now member.now }
+    requires told { AreToldWith sets.now.equations sets.now.units sets.now.subsumers member.now.number (clause_at member.now.clause) }
     ensures { IfOk result (λ _. IsConsidered sets.now.equations sets.now.units sets.now.subsumers
-        (may_go candidates.now.given candidates.now.is_unit candidates.now.subsumed.now told.now.member.number)
-        told.now.member removals.old.items removals.new.items) }
+        (may_go candidates.now.given candidates.now.is_unit candidates.now.subsumed.now member.now.number)
+        member.now removals.old.items removals.new.items) }
 {
-    if !may_go(candidates, told.member.number) {
+    if !may_go(candidates, member.number) {
         return Ok(());
     }
     let by = Simplifiers {
@@ -82,9 +82,9 @@ fn consider(
         equations: &sets.equations,
         units: &sets.units,
         members: &sets.subsumers,
-        left_out: Some(told.member.number),
+        left_out: Some(member.number),
     };
-    let gone = removal_of(alloc, &by, &told.member)?;
+    let gone = removal_of(alloc, &by, member)?;
     push_gone(removals, gone)?;
     Ok(())
 }

@@ -6,7 +6,7 @@ use Rattle.given_work.proofs.removing.consider.Goals as goal
 pub returns : goal.returns
 returns c =
     let sets = c.args.sets.now in
-    let m : Member = c.args.told.now.member in
+    let m : Member = c.args.member.now in
     let allowed : c.may_go.result ≡ true = search rules in
     subst (λ b. IsConsidered sets.equations sets.units sets.subsumers b m c.args.removals.now.items c.push_gone.new.removals.items)
     (sym allowed ∙ c.may_go.ensures)

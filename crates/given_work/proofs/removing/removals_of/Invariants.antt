@@ -5,4 +5,4 @@ use Rattle.given_work.proofs.removing.removals_of.Given as goal
 
 abbrev pub invariant-loop-at : goal.invariant-loop-at
 invariant-loop-at l =
-    AreRemovalsAmong (members_in l.store.slots.items) l.given.member (members_in (take l.at l.store.slots.items)) l.removals.items
+    AreRemovalsAmong (members_in l.store.slots.items) l.given (members_in (take l.at l.store.slots.items)) l.removals.items
