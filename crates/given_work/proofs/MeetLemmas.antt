@@ -3,7 +3,7 @@ use Rattle.std.proofs.Common.{◌≡◌, ◌⊎◌, ℕ, zero, suc, ◌+◌, ◌
 use Rattle.std.specs.Prelude.{slice_get, Contains, IsTrue, option_and_then, ◌&&◌, ◌||◌}
 use Rattle.std.specs.List.{list_any}
 use Rattle.std.specs.Option.{is_some}
-use Rattle.std.proofs.lemmas.Bool.{true≢false, and_from, and_parts, or_left, or_right, or_cases, false_from_ne_true, eq-eqb, eqb-true, cond-true, cond-false}
+use Rattle.std.proofs.lemmas.Bool.{true≢false, and_from, and_parts, or_left, or_right, or_cases, false_from_ne_true, eq-eqb, eqb-true, cond-true, cond-false, lt-ltb, le-ltb, ltb-true}
 use Rattle.std.proofs.lemmas.Option.{none-some, same_Some, option_and_then_some}
 use Rattle.std.proofs.lemmas.List.Elements.{All-contains}
 use Rattle.fol_base.specs.WellFormed.{SymbolUse, are_literals_of}
@@ -112,12 +112,6 @@ is-some : {X : Type 0} (o : Option X) → is_some o ≡ true → (x : X) × (o �
 is-some None h = absurd (true≢false (sym h))
 is-some (Some x) h = (x, refl)
 
-less-true : (a b : ℕ) → nat_lt a b ≡ true → a < b
-less-true a b h = omega (arith, h)
-
-true-less : (a b : ℕ) → a < b → nat_lt a b ≡ true
-true-less a b h = omega (arith, h)
-
 module _ (store : Store) (place : ℕ) (given : Member) (placed : ArePlaced store) (at : slice_get store.slots.items place ≡ Some (Some given)) where
   abbrev g : ℕ
   g = given.number
@@ -135,7 +129,7 @@ module _ (store : Store) (place : ℕ) (given : Member) (placed : ArePlaced stor
       let same = same_Some p.member m parts.1 in
       let there = (placed n p).0 found in (
         p.position,
-        less-true p.position place parts.0,
+        ltb-true p.position place parts.0,
         there.there ∙ ap (λ (k : Member). Some (Some k)) same,
         ap (λ (k : Member). k.number) (sym same) ∙ there.numbered,
       )
@@ -146,7 +140,7 @@ module _ (store : Store) (place : ℕ) (given : Member) (placed : ArePlaced stor
       let found : placed_numbered n store.partners.members ≡ Some (placed_at low.0 low.1) =
       ap (λ k. placed_numbered k store.partners.members) (sym low.4) ∙ found-placed store low.0 low.1 placed low.3 in
       ap (λ (o : Option Placed). is_some (option_and_then (before place) o)) found
-      ∙ ap is_some (cond-true (nat_lt low.0 place) (Some low.1) None (true-less low.0 place low.2))
+      ∙ ap is_some (cond-true (nat_lt low.0 place) (Some low.1) None (lt-ltb low.0 place low.2))
 
   partner-lower : (n : ℕ) → is_partner place store.partners n ≡ true → has_number n lower ≡ true
   partner-lower n h =
@@ -160,10 +154,7 @@ module _ (store : Store) (place : ℕ) (given : Member) (placed : ArePlaced stor
   pub no-partner : is_partner place store.partners g ≡ false
   no-partner =
       ap (λ (o : Option Placed). is_some (option_and_then (before place) o)) (found-placed store place given placed at)
-      ∙ ap is_some (cond-false (nat_lt place place) (Some given) None (not-less place))
-    where
-      not-less : (a : ℕ) → nat_lt a a ≡ false
-      not-less a = omega arith
+      ∙ ap is_some (cond-false (nat_lt place place) (Some given) None (le-ltb place place (omega arith)))
 
   met-of : (key : Key) → is_meeting place store.partners g key ≡ true → list_any (λ n. is_pair g n key) lower ≡ true
   met-of (Para first from from_side second into into_side at_place) h =

@@ -48,6 +48,10 @@ fn alone(alloc: Global, bank: &Bank, given: &Premise<'_>) -> Mem<Vec<Inference>>
     let mut found = resolved.into_vec();
     let mut others = factored.into_vec();
     found.append(&mut others)?;
-    superpositions(alloc, bank, given, given, &mut found)?;
+    let again = Premise {
+        member: given.member,
+        sites: given.sites,
+    };
+    superpositions(alloc, bank, given, &again, &mut found)?;
     Ok(found)
 }

@@ -2,6 +2,7 @@ use Rattle.std.proofs.Common.{◌≡◌, ◌++◌, [], ◌∷◌, length, List, 
 use Rattle.bank_clause.specs.declared.clause.BankClause.{BankClause}
 use Rattle.bank_clause.specs.declared.member.Member.{Member}
 use Rattle.partners.specs.Partners.{HasAlso}
+use Rattle.given_work.specs.declared.store.Store.{Store}
 use Rattle.given_work.proofs.StoreLemmas.{members-put, none-found, placed_at, store-put}
 use Rattle.given_work.proofs.store.Store.put.Goals as goal
 
@@ -18,8 +19,9 @@ returns-clause-members c =
 pub returns-clause-placed : goal.returns-clause-placed
 returns-clause-placed c =
     let m : Member = c.args.member.now in
+    let now : Store = record { slots = c.push.new.self; partners = c.insert.new.self } in
     let place : c.len.result ≡ length c.args.self.now.slots.items = omega (arith, c.len.ensures, c.args.self.now.slots.ok.0) in
-    store-put c.args.self.now _ m c.requires.placed c.requires.new
+    store-put c.args.self.now now m c.requires.placed c.requires.new
     (c.in_ok-push.ensures.items
     ∙ ap (λ (d : BankClause). let k : Member = record { number = m.number; clause = d } in c.args.self.now.slots.items ++ Some k ∷ []) c.in_ok-clause.ensures)
     (subst (λ i. HasAlso (placed_at i m) c.args.self.now.partners c.insert.new.self) place c.in_ok-insert.ensures.ok)
