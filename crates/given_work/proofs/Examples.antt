@@ -9,7 +9,6 @@ use Rattle.pool_core.specs.declared.ticket.Change.TheVariants.{Activated, Died}
 use Rattle.given_work.specs.Going.{number_beside}
 use Rattle.given_work.specs.Learning.{learned}
 use Rattle.given_work.specs.Meeting.{is_met}
-use Rattle.given_work.specs.Removing.{may_go}
 
 -- ---- what changes do
 
@@ -44,14 +43,3 @@ victim-parent = refl
 
 line-parent : number_beside 7 (CLAUSE_NUMBERS + 1) ≡ CLAUSE_NUMBERS
 line-parent = refl
-
--- ---- which clauses a given one may simplify
-
-not-itself : may_go 1 true [] 1 ≡ false
-not-itself = refl
-
-by-a-unit : may_go 1 true [] 3 ≡ true
-by-a-unit = refl
-
-listed : may_go 1 false (3 ∷ []) 3 ≡ true
-listed = refl

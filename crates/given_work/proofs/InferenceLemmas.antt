@@ -1,8 +1,7 @@
 -- Lists of inferences, looked up among more clauses, and joined.
 use Rattle.std.proofs.Common.{◌≡◌, ◌⊎◌, ℕ, zero, suc, ◌+◌, ◌==◌, Bool, true, false, Option, Some, None, List, [], ◌∷◌, ◌++◌, length, refl, ap, sym, ◌∙◌, inl, inr, ⊎_elim, arith}
 use Rattle.std.specs.Prelude.{slice_get, Contains, option_map, ◌||◌}
-use Rattle.std.specs.List.{list_any}
-use Rattle.std.proofs.lemmas.Bool.{cond-true, true≢false, or_cases, or_left, or_right, eqb-true, eq-eqb, and_parts}
+use Rattle.std.proofs.lemmas.Bool.{cond-true, true≢false, or_cases, or_left, or_right, eqb-true, eq-eqb}
 use Rattle.std.proofs.lemmas.List.Elements.{All-append, All-contains, All-weaker, Contains-append_left, Contains-append_right}
 use Rattle.std.proofs.lemmas.Option.{none-some, same_Some, slice_get_within, get_or_from_slice_get}
 use Rattle.fol_base.specs.Clause.{TreeClause}

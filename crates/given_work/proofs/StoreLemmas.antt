@@ -1,9 +1,10 @@
 -- The told clauses by their places, after one is put behind the others and after one is taken away.
-use Rattle.std.proofs.Common.{◌≡◌, ◌⊎◌, ℕ, ◌<◌, ◌==◌, not, cond, List, [], ◌∷◌, ◌++◌, length, Option, Some, None, refl, ap, ap₂, sym, ◌∙◌, subst, ⊎_elim, false}
+use Rattle.std.proofs.Common.{◌≡◌, ◌⊎◌, ℕ, ◌<◌, ◌==◌, not, List, [], ◌∷◌, ◌++◌, length, Option, Some, None, refl, ap, ap₂, sym, ◌∙◌, subst, ⊎_elim, false}
 use Rattle.std.specs.Prelude.{filter, slice_get, slice_set, option_map, Contains}
 use Rattle.std.proofs.lemmas.Bool.{cases_Bool, cond-true, cond-false, eq-eqb, eqb-true, false_from_ne_true, true≢false}
 use Rattle.std.proofs.lemmas.Option.{same_Some, none-some, slice_get_within}
 use Rattle.std.proofs.lemmas.List.Elements.{All-contains}
+use Rattle.fol_base.proofs.TestLemmas.{option_map-some}
 use Rattle.bank_clause.specs.Clause.{AreMembersOf, IsMemberOf}
 use Rattle.bank_clause.specs.declared.member.Member.{Member}
 use Rattle.term_bank.specs.declared.bank.Bank.{Bank}
@@ -39,6 +40,25 @@ found-placed store i m placed at = (placed m.number (placed_at i m)).1 (record {
 
 pub placed-there : (store : Store) (n : ℕ) (p : Placed) → ArePlaced store → finds store n ≡ Some p → IsAt store.slots.items n p
 placed-there store n p placed found = (placed n p).0 found
+
+-- the clause that is found by a number, and none
+pub member-there :
+    (store : Store) (n : ℕ) (m : Member) → ArePlaced store → option_map (λ (p : Placed). p.member) (finds store n) ≡ Some m
+    → Contains (members_in store.slots.items) m × (m.number ≡ n)
+member-there store n m placed h =
+    option_map-some (λ (p : Placed). p.member) (finds store n) m h λ p found is.
+    let at = (placed n p).0 found in (
+      subst (λ (k : Member). Contains (members_in store.slots.items) k) is (at-living store.slots.items p.position p.member at.there),
+      ap (λ (k : Member). k.number) (sym is) ∙ at.numbered,
+    )
+
+pub no-member :
+    (store : Store) (n : ℕ) → ArePlaced store → option_map (λ (p : Placed). p.member) (finds store n) ≡ None
+    → (m : Member) → Contains (members_in store.slots.items) m → m.number ≡ n → ⊥
+no-member store n placed h m there same =
+    let at = living-at store.slots.items m there in
+    none-some (placed_at at.0 m)
+    (sym (option_map-none (λ (p : Placed). p.member) (finds store n) h) ∙ ap (finds store) (sym same) ∙ found-placed store at.0 m placed at.1)
 
 -- a number that no clause has isn't found
 pub none-found : (store : Store) (n : ℕ) → ArePlaced store → HasNoNumber n (members_in store.slots.items) → finds store n ≡ None

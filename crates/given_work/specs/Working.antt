@@ -13,13 +13,13 @@ use Rattle.pool_core.specs.declared.batch.Removal.{Removal}
 use Rattle.pool_core.specs.declared.batch.Work.{Work}
 use Rattle.pool_core.specs.declared.batch.Work.TheVariants.{Met}
 use Rattle.given_work.specs.Meeting.{AreFirstEntries, AreMetWith}
-use Rattle.given_work.specs.Removing.{AreRemovalsAmong}
+use Rattle.given_work.specs.Removing.{AreRemovalsOf}
 use Rattle.given_work.specs.Telling.{Tells}
 use Rattle.given_work.specs.declared.sets.Sets.{Sets}
 
 -- the removals, or none where the entries are enough
 abbrev pub HasRemovals : List Member → Member → ℕ → List Entry → List Removal → Type 0
-HasRemovals ms given left entries removals = ((left ≤ length entries) × (removals ≡ [])) ⊎ AreRemovalsAmong ms given ms removals
+HasRemovals ms given left entries removals = ((left ≤ length entries) × (removals ≡ [])) ⊎ AreRemovalsOf ms given removals
 
 -- the inferences of a clause that stays with the clauses of some numbers, and the removals
 pub record IsMetBy (mode : Selection) (sets : Sets) (ms : List Member) (numbers : List ℕ) (given : Member) (left : ℕ) (work : Work) : Type 0 where

@@ -1,13 +1,16 @@
-// The told clauses in the order of their positions, and as partners of superposition.
+// The told clauses in the order of their positions, as partners of superposition, and by the terms that occur in them.
 
 ghost use Rattle.std.specs.Prelude.{◌≡◌, ◌==◌, ◌<◌, ◌++◌, [], ◌∷◌, None, not, filter, slice_set, vec_len, IfOk};
 ghost use Rattle.bank_clause.specs.Clause.{IsMemberOf};
 ghost use Rattle.bank_clause.specs.declared.member.Member.{Member};
 ghost use Rattle.partners.specs.Partners.{AreOfBank};
 ghost use Rattle.subsume.specs.Editing.{HasNoNumber};
+ghost use Rattle.given_work.specs.Occurring.{KeepsOthers, ListsMembers};
 ghost use Rattle.given_work.specs.Store.{ArePlaced, members_in};
 
+use crate::occurring::{put_literals, take_literals};
 use bank_clause::Member;
+use disc_tree::DiscTree;
 use literal_selection::Selection;
 use partners::Partners;
 use plain_types::Mem;
@@ -21,6 +24,8 @@ pub(crate) struct Store {
     pub(crate) slots: Vec<Option<Member>>,
     /// The same clauses with what superposition asks of each, which is found once. Their positions are their places.
     pub(crate) partners: Partners,
+    /// The terms that occur in them.
+    pub(crate) terms: DiscTree,
 }
 
 impl Store {
@@ -28,11 +33,13 @@ impl Store {
     pub(crate) fn new(alloc: Global, mode: Selection) -> Mem<Store>
         ensures none { IfOk result (λ store. members_in store.slots.items ≡ []) }
         ensures placed { IfOk result ArePlaced }
+        ensures listed { IfOk result (λ store. ListsMembers store.terms []) }
         ensures mode { IfOk result (λ store. store.partners.mode ≡ mode) }
     {
         Ok(Store {
             slots: Vec::new(alloc),
             partners: Partners::new(alloc, mode)?,
+            terms: DiscTree::new(alloc)?,
         })
     }
 
@@ -43,11 +50,14 @@ impl Store {
         requires new { HasNoNumber member.now.number (members_in self.old.slots.items) }
         ensures members { IfOk result (λ _. members_in self.new.slots.items ≡ members_in self.old.slots.items ++ member.now ∷ []) }
         ensures placed { IfOk result (λ _. ArePlaced self.new) }
+        ensures listed { IfOk result (λ _. ListsMembers self.old.terms (members_in self.old.slots.items)
+            → ListsMembers self.new.terms (members_in self.new.slots.items)) }
         ensures mode { IfOk result (λ _. self.new.partners.mode ≡ self.old.partners.mode) }
     {
         let number = member.number;
         let clause = member.clause.copied()?;
         self.partners.insert(bank, member, self.slots.len())?;
+        put_literals(&mut self.terms, &member.clause.lend(bank), number)?;
         self.slots.push(Some(Member { number, clause }))?;
         Ok(())
     }
@@ -59,11 +69,24 @@ impl Store {
         ensures members { members_in self.new.slots.items
             ≡ filter (λ (m : Member). not (m.number == number)) (members_in self.old.slots.items) }
         ensures placed { ArePlaced self.new }
+        ensures listed { ListsMembers self.old.terms (members_in self.old.slots.items)
+            → ListsMembers self.new.terms (members_in self.new.slots.items) }
         ensures mode { self.new.partners.mode ≡ self.old.partners.mode }
     {
+        take_terms(&mut self.terms, &self.partners, bank, number);
         if let Some(place) = self.partners.remove(bank, number) {
             empty_slot(&mut self.slots, place);
         }
+    }
+}
+
+/// Takes away the terms of the clause with a number, if it is there.
+fn take_terms(terms: &mut DiscTree, partners: &Partners, bank: &Bank, number: u32)
+    requires { AreOfBank bank.now partners.now }
+    ensures { KeepsOthers number terms.old terms.new }
+{
+    if let Some(premise) = partners.premise(number) {
+        take_literals(terms, &premise.member.clause.lend(bank), number);
     }
 }
 

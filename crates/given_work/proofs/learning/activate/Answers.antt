@@ -34,6 +34,7 @@ returns-clause-kept c =
     let small : m.number < CLAUSE_NUMBERS = c.below_lines.ensures in
     record {
       placed = c.in_ok-put.ensures.placed;
+      listed = c.in_ok-put.ensures.listed c.requires.kept.listed;
       kept = subst (λ (ms : List Member). AreSetsOf ms c.insert.new.self) (sym members) (c.in_ok-insert.ensures before c.requires.new c.requires.kept.kept);
       of_bank =
           subst (λ (ms : List Member). All (IsMemberOf c.args.bank.now) ms) (sym members)

@@ -30,6 +30,7 @@ returns-in-Died-clause-kept c =
     let before : List Member = members_in c.args.store.now.slots.items in
     record {
       placed = c.take.ensures.placed;
+      listed = c.take.ensures.listed c.requires.kept.listed;
       kept = subst (λ (ms : List Member). AreSetsOf ms c.remove.new.self) (sym c.take.ensures.members) (c.remove.ensures before c.requires.kept.kept);
       of_bank =
           subst (λ (ms : List Member). All (IsMemberOf c.args.bank.now) ms) (sym c.take.ensures.members)

@@ -1,11 +1,10 @@
-use Rattle.std.proofs.Common.{None, ap, sym, ◌∙◌, subst}
+use Rattle.std.proofs.Common.{ap, sym, ◌∙◌, subst}
 use Rattle.std.specs.Prelude.{option_map}
 use Rattle.std.proofs.lemmas.Option.{none-some}
 use Rattle.superpose.specs.declared.sites.Premise.{Premise}
-use Rattle.partners.specs.Partners.{Placed, placed_numbered}
-use Rattle.given_work.specs.Store.{IsAt, members_in}
+use Rattle.partners.specs.Partners.{Placed}
+use Rattle.given_work.specs.Store.{members_in}
 use Rattle.given_work.specs.Working.{IsRightWorkOf}
-use Rattle.given_work.proofs.StoreLemmas.{placed_at}
 use Rattle.given_work.proofs.WorkLemmas.{found-at, given-at}
 use Rattle.given_work.proofs.working.work_in.Goals as goal
 

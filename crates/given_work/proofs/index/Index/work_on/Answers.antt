@@ -1,4 +1,4 @@
-use Rattle.std.proofs.Common.{refl, sym, subst}
+use Rattle.std.proofs.Common.{sym, subst}
 use Rattle.given_work.specs.View.{IndexView}
 use Rattle.given_work.specs.Working.{IsRightUnder}
 use Rattle.given_work.proofs.index.Index.work_on.Goals as goal
