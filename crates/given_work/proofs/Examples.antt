@@ -1,5 +1,6 @@
 -- Examples of what the definitions say.
 use Rattle.std.proofs.Common.{◌≡◌, ℕ, ◌+◌, true, false, [], ◌∷◌, refl}
+use Rattle.fol_base.specs.Examples.{a, b, equation, f, x}
 use Rattle.fol_base.specs.declared.clause.Side.TheVariants.{Left, Right}
 use Rattle.kernel_steps.specs.declared.key.Key.TheVariants.{Para, Refl}
 use Rattle.kernel_steps.specs.declared.step.TheConstants.{CLAUSE_NUMBERS}
@@ -9,6 +10,7 @@ use Rattle.pool_core.specs.declared.ticket.Change.TheVariants.{Activated, Died}
 use Rattle.given_work.specs.Going.{number_beside}
 use Rattle.given_work.specs.Learning.{learned}
 use Rattle.given_work.specs.Meeting.{is_met}
+use Rattle.given_work.specs.Occurring.{numbers_by_unit}
 
 -- ---- what changes do
 
@@ -43,3 +45,11 @@ victim-parent = refl
 
 line-parent : number_beside 7 (CLAUSE_NUMBERS + 1) ≡ CLAUSE_NUMBERS
 line-parent = refl
+
+-- ---- the clauses that a unit asks for
+
+instance-asked : numbers_by_unit ((f b, 3) ∷ (a, 4) ∷ []) (equation (f (x 0)) a ∷ []) ≡ 3 ∷ []
+instance-asked = refl
+
+by-two-literals : numbers_by_unit ((f a, 3) ∷ []) (equation (f (x 0)) b ∷ equation a b ∷ []) ≡ []
+by-two-literals = refl

@@ -1,7 +1,7 @@
 -- The terms of clauses in an index, and those that a unit's steps need.
-use Rattle.std.proofs.Common.{◌≡◌, ◌⊎◌, ℕ, zero, suc, ◌+◌, ◌<◌, ◌≤◌, ◌==◌, not, below_more, Bool, true, false, Some, List, [], ◌∷◌, ◌++◌, map, length, get_or, refl, ap, sym, ◌∙◌, subst, inl, inr, ⊎_elim, arith}
+use Rattle.std.proofs.Common.{◌≡◌, ◌⊎◌, ℕ, zero, suc, ◌+◌, ◌<◌, ◌≤◌, ◌==◌, not, cond, below_more, Bool, true, false, Some, List, [], ◌∷◌, ◌++◌, map, length, get_or, refl, ap, sym, ◌∙◌, subst, inl, inr, ⊎_elim, arith}
 use Rattle.std.specs.Prelude.{slice_get, filter, option_map, Contains}
-use Rattle.std.proofs.lemmas.Bool.{eq-eqb, true≢false}
+use Rattle.std.proofs.lemmas.Bool.{cases_Bool, cond-false, cond-true, eq-eqb, false_from_ne_true, true≢false}
 use Rattle.std.proofs.lemmas.Option.{none-some, same_Some, option_and_then_some, slice_get-map, slice_get_read, slice_get_within}
 use Rattle.std.proofs.lemmas.List.{length-map}
 use Rattle.std.proofs.lemmas.List.Elements.{Contains-push_cases}
@@ -11,7 +11,7 @@ use Rattle.fol_base.specs.declared.term.Term.{Term}
 use Rattle.fol_base.specs.Place.{subterm}
 use Rattle.fol_base.specs.Clause.{TreeClause, TreeLiteral, literal_instance}
 use Rattle.fol_base.specs.Compatible.{compatible_instance}
-use Rattle.fol_base.specs.Instance.{instance}
+use Rattle.fol_base.specs.Instance.{Substitution, instance}
 use Rattle.fol_base.specs.Order.{tree_greater}
 use Rattle.fol_base.specs.Sides.{other_side_of, side_of}
 use Rattle.fol_base.specs.declared.clause.Side.{Side}
@@ -19,6 +19,8 @@ use Rattle.fol_base.specs.declared.clause.Side.TheVariants.{Left, Right}
 use Rattle.fol_base.proofs.OrderLemmas.{SameLiteral, equivalent_literals-decided}
 use Rattle.kernel_steps.specs.Derivation.{complement}
 use Rattle.kernel_steps.specs.Inference.{CutsBy, RewritesBy}
+use Rattle.fol_base.proofs.TreeOrderLemmas.{tree_greater-itself, tree_greater-trans}
+use Rattle.kbo_order.proofs.StableLemmas.{trees_stable}
 use Rattle.kbo_order.proofs.HeadLemmas.{low_head-not_greater, smaller-not_greater}
 use Rattle.fol_base.proofs.TreeLemmas.{list_of-trees_of, tree_size-positive}
 use Rattle.bank_clause.specs.Clause.{clause_at}
@@ -26,10 +28,10 @@ use Rattle.bank_clause.specs.declared.member.Member.{Member}
 use Rattle.disc_tree.specs.Entries.{IsIn, IsWith, numbers_where}
 use Rattle.disc_tree.proofs.EntryLemmas.{in-with}
 use Rattle.disc_tree.proofs.UnifierLemmas.{instance-compatible}
-use Rattle.superpose.proofs.ListLemmas.{In-contained, In-left, In-right}
+use Rattle.superpose.proofs.ListLemmas.{In, In-contained, In-left, In-right}
 use Rattle.partners.specs.Index.{KeepsAll}
 use Rattle.partners.proofs.IndexLemmas.{in-found}
-use Rattle.given_work.specs.Occurring.{KeepsOthers, ListsLiterals, ListsMembers, ListsSide, ListsTerm, ListsTerms, numbers_with_instances}
+use Rattle.given_work.specs.Occurring.{KeepsOthers, ListsLiterals, ListsMembers, ListsSide, ListsTerm, ListsTerms, numbers_of_instances, numbers_with_instances}
 use Rattle.given_work.proofs.Slots.{Contains-filtered}
 
 -- ---- one term
@@ -167,26 +169,75 @@ not-variable (variable v) new h =
 one-literal : (k l : TreeLiteral) → k ∷ [] ≡ l ∷ [] → k ≡ l
 one-literal k l h = same_Some k l (ap (λ (ls : List TreeLiteral). slice_get ls 0) h)
 
+-- by a side that is smaller than the other one nothing is rewritten
+not-smaller :
+    (side other old : Tree) (σ : Substitution) → instance σ side ≡ old → tree_greater old (instance σ other) ≡ true → tree_greater other side ≡ true → ⊥
+not-smaller side other old σ matches above smaller =
+    let back : tree_greater (instance σ other) old ≡ true = ap (tree_greater (instance σ other)) (sym matches) ∙ trees_stable σ other side smaller in
+    true≢false (sym (tree_greater-trans old (instance σ other) old above back) ∙ tree_greater-itself old)
+
+not-both : (s t : Tree) → tree_greater s t ≡ true → tree_greater t s ≡ true → ⊥
+not-both s t one other = true≢false (sym (tree_greater-trans s t s one other) ∙ tree_greater-itself s)
+
 module _ (es : List (Tree × ℕ)) (n : ℕ) (l : TreeLiteral) where
-  found-by : (side : Side) (t : Tree) → IsIn (t, n) es → compatible_instance t (side_of side l) ≡ true → Contains (numbers_with_instances es l) n
-  found-by Left t there pass =
-      In-contained n (numbers_with_instances es l)
-      (In-left n (numbers_where (λ u. compatible_instance u l.left) es) (numbers_where (λ u. compatible_instance u l.right) es)
-      (in-found (λ u. compatible_instance u l.left) es t n there pass))
-  found-by Right t there pass =
-      In-contained n (numbers_with_instances es l)
-      (In-right n (numbers_where (λ u. compatible_instance u l.left) es) (numbers_where (λ u. compatible_instance u l.right) es)
-      (in-found (λ u. compatible_instance u l.right) es t n there pass))
+  abbrev of_left : List ℕ
+  of_left = numbers_of_instances es l.left
+
+  abbrev of_right : List ℕ
+  of_right = numbers_of_instances es l.right
+
+  pub by-left : tree_greater l.left l.right ≡ true → numbers_with_instances es l ≡ of_left
+  by-left h = cond-true (tree_greater l.left l.right) of_left (cond (tree_greater l.right l.left) of_right (of_left ++ of_right)) h
+
+  pub by-right : tree_greater l.left l.right ≡ false → tree_greater l.right l.left ≡ true → numbers_with_instances es l ≡ of_right
+  by-right h k =
+      cond-false (tree_greater l.left l.right) of_left (cond (tree_greater l.right l.left) of_right (of_left ++ of_right)) h
+      ∙ cond-true (tree_greater l.right l.left) of_right (of_left ++ of_right) k
+
+  pub by-both : tree_greater l.left l.right ≡ false → tree_greater l.right l.left ≡ false → numbers_with_instances es l ≡ of_left ++ of_right
+  by-both h k =
+      cond-false (tree_greater l.left l.right) of_left (cond (tree_greater l.right l.left) of_right (of_left ++ of_right)) h
+      ∙ cond-false (tree_greater l.right l.left) of_right (of_left ++ of_right) k
+
+  in-numbers : (ns : List ℕ) → numbers_with_instances es l ≡ ns → In n ns → Contains (numbers_with_instances es l) n
+  in-numbers ns is there = subst (λ (ms : List ℕ). Contains ms n) (sym is) (In-contained n ns there)
+
+  found-left : (t : Tree) → (tree_greater l.right l.left ≡ true → ⊥) → IsIn (t, n) es → compatible_instance t l.left ≡ true → Contains (numbers_with_instances es l) n
+  found-left t not_smaller there pass =
+      let here : In n of_left = in-found (λ u. compatible_instance u l.left) es t n there pass in
+      ⊎_elim
+      (λ yes. in-numbers of_left (by-left yes) here)
+      (λ no_it. in-numbers (of_left ++ of_right) (by-both no_it (false_from_ne_true (tree_greater l.right l.left) not_smaller)) (In-left n of_left of_right here))
+      (cases_Bool (tree_greater l.left l.right))
+
+  found-right : (t : Tree) → (tree_greater l.left l.right ≡ true → ⊥) → IsIn (t, n) es → compatible_instance t l.right ≡ true → Contains (numbers_with_instances es l) n
+  found-right t not_smaller there pass =
+      let here : In n of_right = in-found (λ u. compatible_instance u l.right) es t n there pass in
+      let first : tree_greater l.left l.right ≡ false = false_from_ne_true (tree_greater l.left l.right) not_smaller in
+      ⊎_elim
+      (λ yes. in-numbers of_right (by-right first yes) here)
+      (λ no_it. in-numbers (of_left ++ of_right) (by-both first no_it) (In-right n of_left of_right here))
+      (cases_Bool (tree_greater l.right l.left))
+
+  found-by :
+      (side : Side) (t : Tree) → (tree_greater (other_side_of side l) (side_of side l) ≡ true → ⊥) → IsIn (t, n) es
+      → compatible_instance t (side_of side l) ≡ true → Contains (numbers_with_instances es l) n
+  found-by Left t not_smaller there pass = found-left t not_smaller there pass
+  found-by Right t not_smaller there pass = found-right t not_smaller there pass
 
   module _ (p : ℕ → Bool) (by c d : TreeClause) (alone : by.literals ≡ l ∷ []) (lists : ListsLiterals n es c.literals) where
     pub rewritten-found : RewritesBy p by c d → Contains (numbers_with_instances es l) n
     rewritten-found r =
         let same : r.equation ≡ l = one-literal r.equation l (sym r.is_unit ∙ alone) in
+        let matches : instance r.matcher (side_of r.from_side l) ≡ r.old =
+        ap (λ (e : TreeLiteral). instance r.matcher (side_of r.from_side e)) (sym same) ∙ r.matches in
+        let above : tree_greater r.old (instance r.matcher (other_side_of r.from_side l)) ≡ true =
+        ap (λ (e : TreeLiteral). tree_greater r.old (instance r.matcher (other_side_of r.from_side e))) (sym same) ∙ r.greater in
         found-by r.from_side r.old
+        (not-smaller (side_of r.from_side l) (other_side_of r.from_side l) r.old r.matcher matches above)
         ((lists r.j r.literal r.literal_there r.into_side).within r.place r.old r.old_there
-        (not-variable r.old (instance r.matcher (other_side_of r.from_side r.equation)) r.greater))
-        (ap (λ (e : TreeLiteral). compatible_instance r.old (side_of r.from_side e)) (sym same)
-        ∙ instance-compatible r.old (side_of r.from_side r.equation) r.matcher r.matches)
+        (not-variable r.old (instance r.matcher (other_side_of r.from_side l)) above))
+        (instance-compatible r.old (side_of r.from_side l) r.matcher matches)
 
     pub cut-found : CutsBy p by c d → Contains (numbers_with_instances es l) n
     cut-found r =
@@ -194,13 +245,24 @@ module _ (es : List (Tree × ℕ)) (n : ℕ) (l : TreeLiteral) where
         let same : u ≡ l = one-literal u l (sym r.is_unit ∙ alone) in
         let parts : SameLiteral (literal_instance r.matcher (complement u)) r.literal =
         (equivalent_literals-decided (literal_instance r.matcher (complement u)) r.literal).0 r.matches in
+        let left_is = ap (λ (e : TreeLiteral). instance r.matcher e.left) (sym same) in
+        let right_is = ap (λ (e : TreeLiteral). instance r.matcher e.right) (sym same) in
         ⊎_elim
-        (λ straight.
-        found-by Left (r.literal).left ((lists r.j r.literal r.literal_there Left).whole)
-        (ap (λ (e : TreeLiteral). compatible_instance (r.literal).left e.left) (sym same)
-        ∙ instance-compatible (r.literal).left u.left r.matcher straight.0))
-        (λ crossed.
-        found-by Left (r.literal).right ((lists r.j r.literal r.literal_there Right).whole)
-        (ap (λ (e : TreeLiteral). compatible_instance (r.literal).right e.left) (sym same)
-        ∙ instance-compatible (r.literal).right u.left r.matcher crossed.0))
+        (λ straight. sides r Left Right (left_is ∙ straight.0) (right_is ∙ straight.1))
+        (λ crossed. sides r Right Left (left_is ∙ crossed.0) (right_is ∙ crossed.1))
         parts.1
+      where
+        -- an instance of each side is a side of the literal, and one of them is asked for
+        sides :
+            (r : CutsBy p by c d) (one other : Side)
+            → instance r.matcher l.left ≡ side_of one r.literal → instance r.matcher l.right ≡ side_of other r.literal
+            → Contains (numbers_with_instances es l) n
+        sides r one other left_is right_is =
+            ⊎_elim
+            (λ yes.
+            found-right (side_of other r.literal) (λ h. not-both l.left l.right h yes) ((lists r.j r.literal r.literal_there other).whole)
+            (instance-compatible (side_of other r.literal) l.right r.matcher right_is))
+            (λ no_it.
+            found-left (side_of one r.literal) (λ h. true≢false (sym h ∙ no_it)) ((lists r.j r.literal r.literal_there one).whole)
+            (instance-compatible (side_of one r.literal) l.left r.matcher left_is))
+            (cases_Bool (tree_greater l.right l.left))

@@ -1,12 +1,13 @@
 -- The removals of told clauses that a given one simplifies, as their numbers are gone through.
-use Rattle.std.proofs.Common.{◌≡◌, ℕ, ◌<◌, ◌==◌, not, Bool, true, false, List, [], ◌∷◌, ◌++◌, append-nil, length, Option, Some, None, refl, ap, sym, ◌∙◌, subst, ⊎_elim, inl, inr, arith}
-use Rattle.std.specs.Prelude.{All, Contains, option_to_list, slice_get}
+use Rattle.std.proofs.Common.{◌≡◌, ℕ, ◌<◌, ◌≤◌, ◌==◌, not, Bool, true, false, List, [], ◌∷◌, ◌++◌, append-nil, length, Option, Some, None, refl, ap, sym, ◌∙◌, subst, ⊎_elim, inl, inr, arith}
+use Rattle.std.specs.Prelude.{All, Contains, option_to_list, slice_get, sum_by}
 use Rattle.std.specs.List.{list_any}
 use Rattle.std.proofs.lemmas.Bool.{cond-true, eq-eqb, eqb-true, true≢false, false_from_ne_true, or_cases, or_left, or_right, and_from}
+use Rattle.std.proofs.lemmas.List.Sums.{sum_by-cons}
 use Rattle.std.proofs.lemmas.List.Elements.{All-append, All-cons, All-nil, All-contains, Contains-append_left, Contains-append_right, Contains-push_cases}
 use Rattle.std.proofs.lemmas.Option.{none-some, same_Some}
 use Rattle.fol_base.specs.Tree.{Tree}
-use Rattle.fol_base.specs.Clause.{TreeClause, TreeLiteral}
+use Rattle.fol_base.specs.Clause.{TreeClause, TreeLiteral, literal_size}
 use Rattle.fol_base.specs.Subsumption.{Subsumes}
 use Rattle.fol_base.specs.WellFormed.{SymbolUse}
 use Rattle.fol_base.proofs.TestLemmas.{if_some}
@@ -203,6 +204,12 @@ pub by-unit : (es : List (Tree × ℕ)) (ls : List TreeLiteral) (l : TreeLiteral
 by-unit es [] l one at = absurd (none-some l at)
 by-unit es (k ∷ []) l one at = ap (numbers_with_instances es) (same_Some k l at)
 by-unit es (k ∷ m ∷ ls) l one at = absurd (omega (arith, one))
+
+-- the first literal is no larger than all of them
+pub first-small : (ls : List TreeLiteral) (l : TreeLiteral) → slice_get ls 0 ≡ Some l → literal_size l ≤ sum_by literal_size ls
+first-small [] l at = absurd (none-some l at)
+first-small (k ∷ ls) l at =
+    let same = ap literal_size (same_Some k l at) in omega (arith, same, sum_by-cons literal_size k ls)
 
 pub by-no-unit : (es : List (Tree × ℕ)) (ls : List TreeLiteral) → (length ls ≡ 1 → ⊥) → numbers_by_unit es ls ≡ []
 by-no-unit es [] none = refl

@@ -1,9 +1,10 @@
 -- The terms that occur in clauses, as entries of an index: each is a term with the number of a clause.
-use Rattle.std.specs.Prelude.{◌≡◌, ℕ, false, List, [], ◌∷◌, ◌++◌, Contains, slice_get, Some}
+use Rattle.std.specs.Prelude.{◌≡◌, ℕ, false, List, [], ◌∷◌, ◌++◌, Contains, slice_get, Some, if◌then◌else◌}
 use Rattle.fol_base.specs.Tree.{Tree, is_variable}
 use Rattle.fol_base.specs.Place.{subterm}
 use Rattle.fol_base.specs.Clause.{TreeLiteral}
 use Rattle.fol_base.specs.Compatible.{compatible_instance}
+use Rattle.fol_base.specs.Order.{tree_greater}
 use Rattle.fol_base.specs.Sides.{side_of}
 use Rattle.fol_base.specs.declared.clause.Side.{Side}
 use Rattle.bank_clause.specs.Clause.{clause_at}
@@ -41,10 +42,18 @@ KeepsOthers number old new = (t : Tree) (n : ℕ) → (n ≡ number → ⊥) →
 
 -- ---- a query
 
--- the numbers of clauses in which, by its heads, an instance of a side of a literal may occur
+-- the numbers of clauses in which, by its heads, an instance of a term may occur
+abbrev pub numbers_of_instances : List (Tree × ℕ) → Tree → List ℕ
+numbers_of_instances entries s = numbers_where (λ t. compatible_instance t s) entries
+
+-- of the greater side of a literal, or of both where neither is greater: by the other one nothing is rewritten
 abbrev pub numbers_with_instances : List (Tree × ℕ) → TreeLiteral → List ℕ
 numbers_with_instances entries l =
-    numbers_where (λ t. compatible_instance t l.left) entries ++ numbers_where (λ t. compatible_instance t l.right) entries
+    if tree_greater l.left l.right
+    then numbers_of_instances entries l.left
+    else (if tree_greater l.right l.left
+    then numbers_of_instances entries l.right
+    else numbers_of_instances entries l.left ++ numbers_of_instances entries l.right)
 
 -- of the literal of a unit, and none by another clause
 abbrev pub numbers_by_unit : List (Tree × ℕ) → List TreeLiteral → List ℕ

@@ -1,14 +1,19 @@
 // An index of the terms that occur in the told clauses. A unit can rewrite or cut only clauses in which an instance of one of its sides occurs.
 
-ghost use Rattle.std.specs.Prelude.{◌++◌, ◌≡◌, map, IfOk};
+ghost use Rattle.std.specs.Prelude.{◌++◌, ◌≡◌, ◌<◌, map, IfOk};
+ghost use Rattle.fol_base.specs.Clause.{literal_size};
 ghost use Rattle.fol_base.specs.Lent.{lent_of};
+ghost use Rattle.fol_base.specs.Order.{tree_greater};
 ghost use Rattle.fol_base.specs.Term.{tree_of};
+ghost use Rattle.fol_base.specs.Tree.{tree_size};
+ghost use Rattle.fol_base.specs.declared.limits.TheConstants.{SIZE_LIMIT};
 ghost use Rattle.partners.specs.Index.{KeepsAll};
-ghost use Rattle.given_work.specs.Occurring.{KeepsOthers, ListsLiterals, ListsSide, ListsTerm, ListsTerms, numbers_with_instances};
+ghost use Rattle.given_work.specs.Occurring.{KeepsOthers, ListsLiterals, ListsSide, ListsTerm, ListsTerms, numbers_of_instances, numbers_with_instances};
 
 use bank_clause::BankLiterals;
 use disc_tree::DiscTree;
 use fol_base::{LendsLiterals, LiteralRef, Term};
+use kbo_order::{Unbound, greater_under};
 use plain_types::Mem;
 
 /// Adds the sides of literals and the terms in them, but for the variables in them, with the number of a clause.
@@ -115,17 +120,43 @@ fn take_arguments(terms: &mut DiscTree, arguments: &[Term], number: u32)
     }
 }
 
-/// Adds the numbers of the clauses in which, by its heads, an instance of a side of a literal may occur.
+/// Adds the numbers of the clauses in which, by its heads, an instance of the greater side of a literal may occur, or of either side where
+/// neither is greater. A unit rewrites by no smaller side, and cuts only where an instance of each side occurs.
 pub(crate) fn push_with_instances(
     terms: &DiscTree,
     literal: LiteralRef<'_>,
     numbers: &mut Vec<u64>,
 ) -> Mem<()>
+    requires { literal_size (lent_of literal) < SIZE_LIMIT }
     ensures { IfOk result (λ _. numbers.new.items ≡ numbers.old.items ++ numbers_with_instances terms.now (lent_of literal.entry)) }
 {
-    let left = terms.instances(literal.left)?;
-    numbers.extend_from_slice(left.as_slice())?;
-    let right = terms.instances(literal.right)?;
-    numbers.extend_from_slice(right.as_slice())?;
+    if is_greater(literal.left, literal.right) {
+        push_instances(terms, literal.left, numbers)?;
+        return Ok(());
+    }
+    if is_greater(literal.right, literal.left) {
+        push_instances(terms, literal.right, numbers)?;
+        return Ok(());
+    }
+    push_instances(terms, literal.left, numbers)?;
+    push_instances(terms, literal.right, numbers)?;
     Ok(())
+}
+
+/// The same of one term.
+fn push_instances(terms: &DiscTree, term: &Term, numbers: &mut Vec<u64>) -> Mem<()>
+    ensures { IfOk result (λ _. numbers.new.items ≡ numbers.old.items ++ numbers_of_instances terms.now (tree_of term.now)) }
+{
+    let found = terms.instances(term)?;
+    numbers.extend_from_slice(found.as_slice())?;
+    Ok(())
+}
+
+/// Whether a term is greater than another one.
+fn is_greater(one: &Term, other: &Term) -> bool
+    requires one { tree_size (tree_of one.now) < SIZE_LIMIT }
+    requires other { tree_size (tree_of other.now) < SIZE_LIMIT }
+    ensures { result ≡ tree_greater (tree_of one.now) (tree_of other.now) }
+{
+    greater_under(one, &Unbound, other, &Unbound)
 }

@@ -13,7 +13,7 @@ use crate::sets::Sets;
 use crate::store::Store;
 use bank_clause::Member;
 use disc_tree::DiscTree;
-use fol_base::LendsLiterals;
+use fol_base::{LendsLiterals, SIZE_LIMIT};
 use kernel_steps::CLAUSE_NUMBERS;
 use partners::in_order;
 use plain_types::{Mem, Numbers};
@@ -78,6 +78,8 @@ fn push_by_unit(bank: &Bank, terms: &DiscTree, given: &Member, found: &mut Vec<u
     ensures { IfOk result (λ _. found.new.items ≡ found.old.items ++ numbers_by_unit terms.now (clause_at given.now.clause).literals) }
 {
     if has_one_literal(&given.clause) {
+        let is_small = u64::from(given.clause.size()) < SIZE_LIMIT;
+        prove!(is_small);
         let literals = given.clause.lend(bank);
         push_with_instances(terms, literals.literal(0), found)?;
     }

@@ -1,11 +1,18 @@
-use Rattle.std.proofs.Common.{◌++◌, List, ℕ, append-nil, ap, sym, ◌∙◌}
+use Rattle.std.proofs.Common.{◌≡◌, ◌++◌, List, ℕ, Some, append-nil, ap, sym, ◌∙◌, arith}
 use Rattle.std.specs.Prelude.{slice_get}
 use Rattle.std.proofs.lemmas.Bool.{true≢false}
 use Rattle.fol_base.specs.Lent.{lent_of}
 use Rattle.fol_base.specs.Clause.{TreeLiteral}
 use Rattle.bank_clause.specs.Clause.{clause_at}
-use Rattle.given_work.proofs.RemovalLemmas.{by-no-unit, by-unit}
+use Rattle.given_work.proofs.RemovalLemmas.{by-no-unit, by-unit, first-small}
 use Rattle.given_work.proofs.removing.push_by_unit.Goals as goal
+
+pub push_with_instances-requires : goal.push_with_instances-requires
+push_with_instances-requires c =
+    let ls = (clause_at c.args.given.now.clause).literals in
+    let at : slice_get ls 0 ≡ Some (lent_of c.literal.result) =
+    ap (λ (ks : List TreeLiteral). slice_get ks 0) (sym c.lend-literals.ensures) ∙ c.literal.ensures in
+    omega (arith, first-small ls (lent_of c.literal.result) at, c.size.ensures.size, c.size.ensures.limit)
 
 pub returns-in_ok-push_with_instances : goal.returns-in_ok-push_with_instances
 returns-in_ok-push_with_instances c =
