@@ -1,5 +1,5 @@
 -- Each event of a lawful history keeps the state of an open pool, and what is covered. The inputs that are registered first make both.
-use Rattle.std.proofs.Common.{◌≡◌, ℕ, suc, Bool, true, false, List, [], ◌∷◌, ◌++◌, refl, sym, ◌∙◌, subst, inr}
+use Rattle.std.proofs.Common.{◌≡◌, ℕ, suc, Bool, true, false, List, [], ◌∷◌, ◌++◌, append-nil, append_assoc, refl, sym, ◌∙◌, subst, inr}
 use Rattle.std.specs.Prelude.{Option, None, Some, is_none, fold}
 use Rattle.std.specs.List.{list_all, AllByRecursion}
 use Rattle.std.proofs.lemmas.Bool.{true≢false}
@@ -30,70 +30,88 @@ use Rattle.pool_core.proofs.JoinedLemmas.{by-test}
 use Rattle.pool_core.proofs.PlaceLemmas.{Placed, after-placed}
 use Rattle.pool_core.proofs.PoolLineLemmas.{Sound}
 use Rattle.pool_core.proofs.SoundLemmas.{open-is, no-solve, history-sound}
+use Rattle.saturation.specs.Found.{Find, event_finds, finds_from}
 use Rattle.saturation.proofs.MoveLemmas.{CalculusLaws, each-held}
 use Rattle.saturation.proofs.CarriedLemmas.{HeldBy, Open}
 use Rattle.saturation.proofs.ArrivalLemmas.{OpenWith, is-closed, comes-open}
 use Rattle.saturation.proofs.VictimLemmas.{Victims, none-registered, victims-keep}
 use Rattle.saturation.proofs.MeetingLemmas.{IsToldRight, HaveMet}
-use Rattle.saturation.proofs.StateLemmas.{IsState, HasState, same-state, without-state, retold-told, claimed-state}
+use Rattle.saturation.proofs.StateLemmas.{WasFound, IsState, HasState, same-state, without-state, retold-told, claimed-state}
 use Rattle.saturation.proofs.ReturnLemmas.{returned-state}
 use Rattle.saturation.proofs.CoverageLemmas.{returned-covered}
 
 module _ (usage : SymbolUse) (inputs : List TreeClause) (options : Options) (unsplit : options.split ≡ false) where
   -- ---- the state
 
-  abbrev State : PoolRecord → Type 0
-  State r = IsState usage.is_predicate options r
+  -- with what the events so far found
+  abbrev Stated : List Find → PoolRecord → Type 0
+  Stated finds r = HasState usage.is_predicate options finds r
 
-  abbrev Stated : PoolRecord → Type 0
-  Stated r = HasState usage.is_predicate options r
+  -- an event that finds nothing
+  nothing-found : (finds : List Find) (r : PoolRecord) → Stated finds r → Stated (finds ++ []) r
+  nothing-found finds r stated = subst (λ fs. Stated fs r) (sym (append-nil finds)) stated
 
   after-state :
-      (r : PoolRecord) (e : Event) → IsAllowed usage.is_predicate options r e → Sound usage inputs r → Placed r → Stated r → Stated (after options r e)
-  after-state r (Claim job) allowed sound placed stated =
-      claimed-state usage.is_predicate options job r placed (after-placed options r (Claim job) placed) stated
-  after-state r (Return batch) allowed sound placed stated = λ h.
-      same-state usage.is_predicate options (returns_to options batch (given_job r batch.job) r) _
-      (returned-state usage.is_predicate options batch allowed.given r placed allowed.out allowed.says stated h)
-  after-state r (Stale job justifier) allowed sound placed stated = λ h.
+      (finds : List Find) (r : PoolRecord) (e : Event) → IsAllowed usage.is_predicate options r e → Sound usage inputs r → Placed r
+      → Stated finds r → Stated (finds ++ event_finds r e) (after options r e)
+  after-state finds r (Claim job) allowed sound placed stated =
+      nothing-found finds (after options r (Claim job))
+      (claimed-state usage.is_predicate options finds job r placed (after-placed options r (Claim job) placed) stated)
+  after-state finds r (Return batch) allowed sound placed stated = λ h.
+      same-state usage.is_predicate options (finds ++ event_finds r (Return batch)) (returns_to options batch (given_job r batch.job) r) _
+      (returned-state usage.is_predicate options finds batch allowed.given r placed allowed.out allowed.says stated h)
+  after-state finds r (Stale job justifier) allowed sound placed stated =
+      nothing-found finds (after options r (Stale job justifier))
+      (λ h.
       let state = stated h in
       record {
         victims = state.victims;
-        told = retold-told usage.is_predicate options job r r.given placed.registered state.told;
+        told = retold-told usage.is_predicate options finds job r r.given placed.registered state.told;
         met = state.met;
-      }
-  after-state r (Void job) allowed sound placed stated = λ h.
-      let state = without-state usage.is_predicate options r job (stated h) in
-      record { victims = state.victims; told = state.told; met = state.met }
-  after-state r (ClaimSolve job) allowed sound placed stated = absurd (no-solve usage inputs options unsplit r sound allowed.1)
-  after-state r (ReturnModel job truths) allowed sound placed stated = absurd (none-some allowed.solver (sym sound.no_solver ∙ allowed.out))
-  after-state r (ReturnRefuted job chains) allowed sound placed stated = absurd (none-some allowed.solver (sym sound.no_solver ∙ allowed.out))
-  after-state r (Abandon job) allowed sound placed stated = λ h.
-      let state = without-state usage.is_predicate options r job (stated h) in
-      record { victims = state.victims; told = state.told; met = state.met }
+      })
+  after-state finds r (Void job) allowed sound placed stated =
+      nothing-found finds (after options r (Void job))
+      (λ h.
+      let state = without-state usage.is_predicate options finds r job (stated h) in
+      record { victims = state.victims; told = state.told; met = state.met })
+  after-state finds r (ClaimSolve job) allowed sound placed stated = absurd (no-solve usage inputs options unsplit r sound allowed.1)
+  after-state finds r (ReturnModel job truths) allowed sound placed stated = absurd (none-some allowed.solver (sym sound.no_solver ∙ allowed.out))
+  after-state finds r (ReturnRefuted job chains) allowed sound placed stated = absurd (none-some allowed.solver (sym sound.no_solver ∙ allowed.out))
+  after-state finds r (Abandon job) allowed sound placed stated =
+      nothing-found finds (after options r (Abandon job))
+      (λ h.
+      let state = without-state usage.is_predicate options finds r job (stated h) in
+      record { victims = state.victims; told = state.told; met = state.met })
 
   -- what histories reach
-  pub record Reaches (r : PoolRecord) : Type 0 where
+  pub record Reaches (finds : List Find) (r : PoolRecord) : Type 0 where
     pub sound : Sound usage inputs r
     pub placed : Placed r
-    pub stated : Stated r
+    pub stated : Stated finds r
 
-  after-reaches : (r : PoolRecord) (e : Event) → IsAllowed usage.is_predicate options r e → Reaches r → Reaches (after options r e)
-  after-reaches r e allowed reaches = record {
+  after-reaches :
+      (finds : List Find) (r : PoolRecord) (e : Event) → IsAllowed usage.is_predicate options r e → Reaches finds r
+      → Reaches (finds ++ event_finds r e) (after options r e)
+  after-reaches finds r e allowed reaches = record {
     sound = history-sound usage inputs options unsplit (e ∷ []) r (allowed, tt) reaches.sound;
     placed = after-placed options r e reaches.placed;
-    stated = after-state r e allowed reaches.sound reaches.placed reaches.stated;
+    stated = after-state finds r e allowed reaches.sound reaches.placed reaches.stated;
   }
 
-  pub history-reaches : (es : List Event) (r : PoolRecord) → IsLawfulFrom usage.is_predicate options r es → Reaches r → Reaches (fold (after options) r es)
-  history-reaches [] r lawful reaches = reaches
-  history-reaches (e ∷ es) r lawful reaches = history-reaches es (after options r e) lawful.1 (after-reaches r e lawful.0 reaches)
+  pub history-reaches :
+      (finds : List Find) (es : List Event) (r : PoolRecord) → IsLawfulFrom usage.is_predicate options r es → Reaches finds r
+      → Reaches (finds ++ finds_from options r es) (fold (after options) r es)
+  history-reaches finds [] r lawful reaches = subst (λ fs. Reaches fs r) (sym (append-nil finds)) reaches
+  history-reaches finds (e ∷ es) r lawful reaches =
+      subst (λ fs. Reaches fs (fold (after options) (after options r e) es))
+      (append_assoc finds (event_finds r e) (finds_from options (after options r e) es))
+      (history-reaches (finds ++ event_finds r e) es (after options r e) lawful.1 (after-reaches finds r e lawful.0 reaches))
 
   -- the beginning
   abbrev begun : PoolRecord
   begun = with_inputs options.split 0 inputs nothing_registered
 
-  pub started-state : State begun
+  pub started-state : IsState usage.is_predicate options [] begun
   started-state =
       let registers = inputs-register options.split 0 inputs nothing_registered in
       let grown = registers-grows nothing_registered begun registers in
@@ -101,7 +119,7 @@ module _ (usage : SymbolUse) (inputs : List TreeClause) (options : Options) (uns
         victims = victims-keep nothing_registered begun (registers-keeps nothing_registered begun registers) none-registered;
         told = subst (AllByRecursion (IsToldRight options.inferences begun.positions begun.deaths begun.counted)) (sym grown.given) tt;
         met =
-            subst (λ ns. HaveMet usage.is_predicate (mode_of options.select) begun.registered begun.positions ns begun.deaths begun.counted) (sym grown.active)
+            subst (λ ns. HaveMet usage.is_predicate (mode_of options.select) begun.registered begun.positions ns begun.deaths (WasFound begun.counted [])) (sym grown.active)
             (record { placed = refl; met = λ last there. absurd (true≢false (sym there)) });
       }
 
@@ -113,28 +131,30 @@ module _ (usage : SymbolUse) (inputs : List TreeClause) (options : Options) (uns
     abbrev Carries : PoolRecord → Type 0
     Carries r = OpenWith functions (mode_of options.select) inputs [] r
 
-    after-covered : (r : PoolRecord) (e : Event) → IsAllowed usage.is_predicate options r e → Reaches r → Carries r → Carries (after options r e)
-    after-covered r (Claim job) allowed reaches carries = claimed-covered (next_given r)
+    after-covered : (r : PoolRecord) (e : Event) → IsAllowed usage.is_predicate options r e → (finds : List Find) → Reaches finds r → Carries r → Carries (after options r e)
+    after-covered r (Claim job) allowed finds reaches carries = claimed-covered (next_given r)
       where
         claimed-covered : (o : Option ℕ) → Carries (claimed_by options job o r)
         claimed-covered None = carries
         claimed-covered (Some n) =
             by-if (λ s. Carries (given_out options job n s)) (has_number n r.positions) r (record r { positions = r.positions ++ n ∷ [] }) carries carries
-    after-covered r (Return batch) allowed reaches carries =
+    after-covered r (Return batch) allowed finds reaches carries =
         returned-covered laws usage functions inputs inputs_pass options unsplit batch allowed.given r reaches.sound (λ h. (reaches.stated h).victims)
         allowed.out allowed.says carries
-    after-covered r (Stale job justifier) allowed reaches carries = carries
-    after-covered r (Void job) allowed reaches carries = carries
-    after-covered r (ClaimSolve job) allowed reaches carries = carries
-    after-covered r (ReturnModel job truths) allowed reaches carries = absurd (none-some allowed.solver (sym reaches.sound.no_solver ∙ allowed.out))
-    after-covered r (ReturnRefuted job chains) allowed reaches carries = absurd (none-some allowed.solver (sym reaches.sound.no_solver ∙ allowed.out))
-    after-covered r (Abandon job) allowed reaches carries = carries
+    after-covered r (Stale job justifier) allowed finds reaches carries = carries
+    after-covered r (Void job) allowed finds reaches carries = carries
+    after-covered r (ClaimSolve job) allowed finds reaches carries = carries
+    after-covered r (ReturnModel job truths) allowed finds reaches carries = absurd (none-some allowed.solver (sym reaches.sound.no_solver ∙ allowed.out))
+    after-covered r (ReturnRefuted job chains) allowed finds reaches carries = absurd (none-some allowed.solver (sym reaches.sound.no_solver ∙ allowed.out))
+    after-covered r (Abandon job) allowed finds reaches carries = carries
 
     pub history-covered :
-        (es : List Event) (r : PoolRecord) → IsLawfulFrom usage.is_predicate options r es → Reaches r → Carries r → Carries (fold (after options) r es)
-    history-covered [] r lawful reaches carries = carries
-    history-covered (e ∷ es) r lawful reaches carries =
-        history-covered es (after options r e) lawful.1 (after-reaches r e lawful.0 reaches) (after-covered r e lawful.0 reaches carries)
+        (finds : List Find) (es : List Event) (r : PoolRecord) → IsLawfulFrom usage.is_predicate options r es → Reaches finds r → Carries r
+        → Carries (fold (after options) r es)
+    history-covered finds [] r lawful reaches carries = carries
+    history-covered finds (e ∷ es) r lawful reaches carries =
+        history-covered (finds ++ event_finds r e) es (after options r e) lawful.1 (after-reaches finds r e lawful.0 reaches)
+        (after-covered r e lawful.0 finds reaches carries)
 
     -- the inputs are registered in order
     inputs-open :

@@ -26,7 +26,8 @@ use Rattle.pool_core.proofs.CountedLemmas.{Lookup}
 use Rattle.pool_core.proofs.PlaceLemmas.{start-placed}
 use Rattle.saturation.specs.Cover.{CoversEach}
 use Rattle.saturation.specs.Carried.{IsHeld}
-use Rattle.saturation.specs.Laws.{CarriedThrough, SaturatedIsSaturated, MembersWereCounted}
+use Rattle.saturation.specs.Found.{finds_of}
+use Rattle.saturation.specs.Laws.{CarriedThrough, SaturatedIsSaturated, MembersHaveMet}
 use Rattle.saturation.proofs.MoveLemmas.{CalculusLaws, all-in, each-more}
 use Rattle.saturation.proofs.RenamingLemmas.{variant-covers}
 use Rattle.saturation.proofs.CarriedLemmas.{Living, HeldBy, Open}
@@ -52,20 +53,20 @@ module _
   abbrev r : PoolRecord
   r = replay origin history
 
-  start-reaches : Reaches usage origin.inputs origin.options unsplit (start origin)
+  start-reaches : Reaches usage origin.inputs origin.options unsplit [] (start origin)
   start-reaches = record {
     sound = replay-sound usage origin [] inputs used unsplit tt;
     placed = start-placed origin;
     stated = λ is_open. started-state usage origin.inputs origin.options unsplit;
   }
 
-  replay-reaches : Reaches usage origin.inputs origin.options unsplit r
-  replay-reaches = history-reaches usage origin.inputs origin.options unsplit history (start origin) lawful start-reaches
+  replay-reaches : Reaches usage origin.inputs origin.options unsplit (finds_of origin history) r
+  replay-reaches = history-reaches usage origin.inputs origin.options unsplit [] history (start origin) lawful start-reaches
 
   module _ (laws : CalculusLaws) (functions : FunctionSymbols usage.is_predicate) (symbols : All (HasSymbolsOf functions) origin.inputs) where
     replay-covered : OpenWith functions the_mode origin.inputs [] r
     replay-covered =
-        history-covered usage origin.inputs origin.options unsplit laws functions (all-pass functions origin.inputs symbols) history (start origin) lawful
+        history-covered usage origin.inputs origin.options unsplit laws functions (all-pass functions origin.inputs symbols) [] history (start origin) lawful
         start-reaches
         (started-covered usage origin.inputs origin.options unsplit laws functions (all-pass functions origin.inputs symbols)
         (recursion_from_All (λ (c : TreeClause). c.names ≡ []) origin.inputs inputs.no_names))
@@ -121,11 +122,11 @@ carried_through laws variants usage functions origin history truth inputs used u
 
 pub saturated_is_saturated : CalculusLaws → SaturatedIsSaturated
 saturated_is_saturated laws usage functions origin history inputs used unsplit symbols lawful saturated =
-    members-saturated usage origin.inputs origin.options unsplit (replay origin history) (replay-reaches usage origin history inputs used unsplit lawful)
+    members-saturated usage origin.inputs origin.options unsplit (finds_of origin history) (replay origin history) (replay-reaches usage origin history inputs used unsplit lawful)
     (fixed_are_refuted_or_spent origin history) saturated laws functions
     (replay-covered usage origin history inputs used unsplit lawful laws functions symbols)
 
-pub members_were_counted : MembersWereCounted
-members_were_counted usage origin history key c inputs used unsplit lawful saturated inferred =
-    members-counted usage origin.inputs origin.options unsplit (replay origin history) (replay-reaches usage origin history inputs used unsplit lawful)
+pub members_have_met : MembersHaveMet
+members_have_met usage origin history key c inputs used unsplit lawful saturated inferred =
+    members-counted usage origin.inputs origin.options unsplit (finds_of origin history) (replay origin history) (replay-reaches usage origin history inputs used unsplit lawful)
     (fixed_are_refuted_or_spent origin history) saturated key c inferred

@@ -1,15 +1,15 @@
 -- Clauses that met: of two clauses whose jobs are done the one of the later position met the other, while both live. So each inference of
 -- living clauses whose jobs are done was counted. It stands on positions that stay, and on what jobs are told.
-use Rattle.std.proofs.Common.{◌≡◌, ℕ, suc, ◌+◌, ◌<◌, ◌≤◌, ◌⊎◌, Bool, true, false, not, ◌&&◌, ◌||◌, ◌==◌, List, [], ◌∷◌, ◌++◌, length, take, refl, ap, sym, ◌∙◌, inl, inr, ⊎_elim, arith}
+use Rattle.std.proofs.Common.{◌≡◌, ℕ, suc, ◌+◌, ◌<◌, ◌≤◌, ◌⊎◌, Bool, true, false, not, ◌&&◌, ◌||◌, ◌==◌, List, [], ◌∷◌, ◌++◌, length, take, refl, ap, sym, ◌∙◌, inl, inr, ⊎_elim, arith, subst}
 use Rattle.std.specs.Prelude.{Option, None, Some, cond, nat_lt, filter, take_while, slice_get, option_map}
-use Rattle.std.specs.List.{prefix_len, list_all}
+use Rattle.std.specs.List.{position_or_len, prefix_len, list_all}
 use Rattle.std.proofs.lemmas.Bool.{true≢false, and_parts, and_from, or_cases, or_parts, or_left, or_right, not-true, not_from_false, eqb-true, eq-eqb, ltb-true, cond-true}
 use Rattle.std.proofs.lemmas.List.{length-append}
 use Rattle.std.proofs.lemmas.List.Folds.{list_any-append}
 use Rattle.fol_base.specs.Clause.{TreeClause}
 use Rattle.fol_base.specs.Selection.{SelectionMode}
 use Rattle.fol_base.proofs.TestLemmas.{option_map-some, list_all-joined}
-use Rattle.kbo_order.proofs.MemberLemmas.{In, In-left, In-right, contains-In}
+use Rattle.kbo_order.proofs.MemberLemmas.{In, contains-In}
 use Rattle.kernel_steps.specs.Named.{IsInference}
 use Rattle.kernel_steps.specs.Split.{has_number}
 use Rattle.kernel_steps.specs.declared.key.Key.{Key}
@@ -107,6 +107,21 @@ in-order n m (k ∷ ks) first second = by (k == m) (k == n) refl refl (in-order 
         ⊎_elim (λ (before : has_number n (front m ks) ≡ true). inr (inl (or_right (n == k) (has_number n (front m ks)) before)))
         (λ (after : has_number m (front n ks) ≡ true). inr (inr (or_right (m == k) (has_number m (front n ks)) after))) apart)
         (rest (behind n k ks first is_n) (behind m k ks second is_m))
+
+-- what stands before a number has a lower position
+pub front-lower : (n m : ℕ) (ks : List ℕ) → has_number n (front m ks) ≡ true → position_or_len (λ k. n == k) ks ≤ position_or_len (λ k. m == k) ks
+front-lower n m [] there = absurd (true≢false (sym there))
+front-lower n m (k ∷ ks) there = by (k == m) (n == k) (m == k) refl refl (eq-sym m k) there (front-lower n m ks)
+  where
+    by :
+        (b c d : Bool) → (k == m) ≡ b → (n == k) ≡ c → d ≡ b → has_number n (cond b [] (k ∷ front m ks)) ≡ true
+        → (has_number n (front m ks) ≡ true → position_or_len (λ i. n == i) ks ≤ position_or_len (λ i. m == i) ks)
+        → cond (not c) (1 + position_or_len (λ i. n == i) ks) 0 ≤ cond (not d) (1 + position_or_len (λ i. m == i) ks) 0
+    by true c d is_m is_n same h rest = absurd (true≢false (sym h))
+    by false true d is_m is_n same h rest = omega arith
+    by false false true is_m is_n same h rest = absurd (true≢false same)
+    by false false false is_m is_n same h rest =
+        let low = rest (behind n k (front m ks) h (eq-sym k n ∙ is_n)) in omega (arith, low)
 
 -- what is kept is there still
 pub has-kept : (p : ℕ → Bool) (n : ℕ) (ks : List ℕ) → p n ≡ true → has_number n ks ≡ true → has_number n (filter p ks) ≡ true
@@ -239,26 +254,27 @@ meets-placed positions last key placed is n there =
     (and_parts (has_number last (premises key)) (list_all (λ k. (k == last) || has_number k (front last positions)) (premises key)) is).1))
 
 module _ (is_predicate : ℕ → Bool) (mode : SelectionMode) where
-  -- what a clause met was counted
-  abbrev pub Meets : List Registered → List ℕ → List Death → ℕ → List Key → Type 0
-  Meets registered positions deaths last counted =
+  -- what a clause met satisfies the predicate
+  abbrev pub Meets : List Registered → List ℕ → List Death → ℕ → (Key → Type 0) → Type 0
+  Meets registered positions deaths last Found =
       (key : Key) (c : TreeClause)
       → meets positions last key ≡ true → none_died deaths (premises key) ≡ true → IsInference is_predicate mode (Lookup registered) key c
-      → In key counted
+      → Found key
 
-  pub record HaveMet (registered : List Registered) (positions active : List ℕ) (deaths : List Death) (counted : List Key) : Type 0 where
+  pub record HaveMet (registered : List Registered) (positions active : List ℕ) (deaths : List Death) (Found : ℕ → Key → Type 0) : Type 0 where
     pub placed : list_all (λ n. has_number n positions) active ≡ true
-    pub met : (last : ℕ) → has_number last active ≡ true → Meets registered positions deaths last counted
+    pub met : (last : ℕ) → has_number last active ≡ true → Meets registered positions deaths last (Found last)
 
   meets-later :
-      (registered more : List Registered) (positions further : List ℕ) (deaths later : List Death) (counted keys : List Key) (last : ℕ)
+      (registered more : List Registered) (positions further : List ℕ) (deaths later : List Death) (last : ℕ) (Few Many : Key → Type 0)
+      → ((key : Key) → Few key → Many key)
       → list_all (λ n. nat_lt n (length registered)) positions ≡ true → has_number last positions ≡ true
-      → Meets registered positions deaths last counted
-      → Meets (registered ++ more) (positions ++ further) (deaths ++ later) last (counted ++ keys)
-  meets-later registered more positions further deaths later counted keys last within placed before key c is lives inferred =
+      → Meets registered positions deaths last Few
+      → Meets (registered ++ more) (positions ++ further) (deaths ++ later) last Many
+  meets-later registered more positions further deaths later last Few Many grows within placed before key c is lives inferred =
       let is_met : meets positions last key ≡ true =
       ap (λ ks. has_number last (premises key) && list_all (λ n. (n == last) || has_number n ks) (premises key)) (sym (front-longer last positions further placed)) ∙ is in
-      In-left key counted keys
+      grows key
       (before key c is_met
       (all-numbered (λ n. not (has_died deaths n)) (premises key)
       (λ n there. not_from_false (has_died deaths n) (died-less deaths later n (undead (deaths ++ later) (premises key) n there lives))))
@@ -269,35 +285,38 @@ module _ (is_predicate : ℕ → Bool) (mode : SelectionMode) where
       inferred))
 
   pub met-later :
-      (registered more : List Registered) (positions further active : List ℕ) (deaths later : List Death) (counted keys : List Key)
+      (registered more : List Registered) (positions further active : List ℕ) (deaths later : List Death) (Few Many : ℕ → Key → Type 0)
+      → ((last : ℕ) (key : Key) → Few last key → Many last key)
       → list_all (λ n. nat_lt n (length registered)) positions ≡ true
-      → HaveMet registered positions active deaths counted
-      → HaveMet (registered ++ more) (positions ++ further) active (deaths ++ later) (counted ++ keys)
-  met-later registered more positions further active deaths later counted keys within met = record {
+      → HaveMet registered positions active deaths Few
+      → HaveMet (registered ++ more) (positions ++ further) active (deaths ++ later) Many
+  met-later registered more positions further active deaths later Few Many grows within met = record {
     placed =
         all-numbered (λ n. has_number n (positions ++ further)) active
         (λ n there. has-left n positions further (number-passes (λ k. has_number k positions) n active there met.placed));
     met = λ last there.
-        meets-later registered more positions further deaths later counted keys last within
+        meets-later registered more positions further deaths later last (Few last) (Many last) (grows last) within
         (number-passes (λ k. has_number k positions) last active there met.placed) (met.met last there);
   }
 
   -- one more clause whose job is done
   pub met-more :
-      (registered : List Registered) (positions active : List ℕ) (deaths : List Death) (counted keys : List Key) (n : ℕ)
-      → has_number n positions ≡ true → Meets registered positions deaths n keys
-      → HaveMet registered positions active deaths counted
-      → HaveMet registered positions (active ++ n ∷ []) deaths (counted ++ keys)
-  met-more registered positions active deaths counted keys n there new met = record {
+      (registered : List Registered) (positions active : List ℕ) (deaths : List Death) (n : ℕ) (Few Many : ℕ → Key → Type 0)
+      → ((last : ℕ) (key : Key) → Few last key → Many last key)
+      → has_number n positions ≡ true → Meets registered positions deaths n (Many n)
+      → HaveMet registered positions active deaths Few
+      → HaveMet registered positions (active ++ n ∷ []) deaths Many
+  met-more registered positions active deaths n Few Many grows there new met = record {
     placed =
         list_all-joined (λ k. has_number k positions) active (n ∷ []) met.placed (and_from (has_number n positions) true there refl);
     met = λ last last_in key c is lives inferred.
         ⊎_elim
-        (λ (old : has_number last active ≡ true). In-left key counted keys (met.met last old key c is lives inferred))
+        (λ (old : has_number last active ≡ true). grows last key (met.met last old key c is lives inferred))
         (λ (late : has_number last (n ∷ []) ≡ true).
         ⊎_elim
         (λ (same : (last == n) ≡ true).
-        In-right key counted keys (new key c (ap (λ k. meets positions k key) (sym (eqb-true last n same)) ∙ is) lives inferred))
+        let is_n : last ≡ n = eqb-true last n same in
+        subst (λ k. Many k key) (sym is_n) (new key c (ap (λ k. meets positions k key) (sym is_n) ∙ is) lives inferred))
         (λ (none : false ≡ true). absurd (true≢false (sym none)))
         (or_cases (last == n) false late))
         (or_cases (has_number last active) (has_number last (n ∷ [])) (sym (list_any-append (λ k. last == k) active (n ∷ [])) ∙ last_in));
@@ -310,7 +329,7 @@ module _ (is_predicate : ℕ → Bool) (options : Options) where
       (limit : ℕ) (registered : List Registered) (positions : List ℕ) (deaths : List Death) (counted : List Key) (j : GivenJob) (entries : List Entry)
       → has_died deaths j.number ≡ false → IsToldRight limit positions deaths counted j
       → MeetsAll is_predicate options (Lookup registered) j entries
-      → Meets is_predicate (mode_of options.select) registered positions deaths j.number (keys_of entries)
+      → Meets is_predicate (mode_of options.select) registered positions deaths j.number (λ key. In key (keys_of entries))
   job-meets limit registered positions deaths counted j entries lives told all key c is none inferred =
       contains-In key (keys_of entries) (all key c to_meet
       (inference-less is_predicate (mode_of options.select) (Lookup registered) (among (is_told j) (Lookup registered)) key c

@@ -1,9 +1,9 @@
 -- Where the outcome is Saturated nothing waits and nothing is out: all living clauses have met, so that each inference among them was counted,
 -- and none was set aside. So they are saturated. Where it is Heavy an inference among them was set aside.
 use Rattle.std.proofs.Common.{◌≡◌, ℕ, zero, suc, ◌+◌, ◌<◌, ◌≤◌, ◌⊎◌, Bool, true, false, not, ◌&&◌, ◌||◌, ◌==◌, List, [], ◌∷◌, length, refl, ap, sym, ◌∙◌, subst, inl, inr, ⊎_elim, arith, if◌then◌else◌}
-use Rattle.std.specs.Prelude.{Option, None, Some, cond, is_some, nat_lt, filter, position, option_map, Contains}
+use Rattle.std.specs.Prelude.{Option, None, Some, cond, is_some, nat_lt, filter, position, option_map, Contains, nat_le}
 use Rattle.std.specs.List.{list_all, list_any, range_with_len}
-use Rattle.std.proofs.lemmas.Bool.{true≢false, and_parts, and_from, or_left, or_right, not-true, not_from_false, eqb-true, eq-eqb, ltb-true, cond-true}
+use Rattle.std.proofs.lemmas.Bool.{true≢false, and_parts, and_from, or_left, or_right, not-true, not_from_false, eqb-true, eq-eqb, ltb-true, cond-true, le-leb, or_cases}
 use Rattle.std.proofs.lemmas.List.Quantifiers.{position-Some}
 use Rattle.std.proofs.lemmas.Option.{none-some, cond_some}
 use Rattle.fol_base.specs.Clause.{TreeLiteral, TreeClause}
@@ -25,7 +25,7 @@ use Rattle.clause_queue.specs.declared.choice.Choice.{Choice}
 use Rattle.clause_queue.specs.declared.choice.Choice.TheVariants.{Light, Old}
 use Rattle.calculus.specs.Coverage.{CoversInstancesOf}
 use Rattle.calculus.specs.Lifting.{among, IsMember, HasConclusionsOf}
-use Rattle.pool_core.specs.Record.{PoolRecord, Registered, GivenJob, clauses_of, clause_numbered, numbers_of, has_died, lives, waits, is_awake_under, is_awake, jobs_out}
+use Rattle.pool_core.specs.Record.{PoolRecord, Registered, GivenJob, clauses_of, clause_numbered, numbers_of, has_died, lives, waits, is_awake_under, is_awake, jobs_out, position_of}
 use Rattle.pool_core.specs.Solving.{must_solve}
 use Rattle.pool_core.specs.Claiming.{ready, next_choice, picked, can_give}
 use Rattle.pool_core.specs.Laws.{IsHeavyAmong}
@@ -44,12 +44,13 @@ use Rattle.pool_core.proofs.StartLemmas.{all-at, none-passes, passes-at}
 use Rattle.pool_core.proofs.StateLemmas.{clause-numbered, item-at}
 use Rattle.pool_core.proofs.HeavyLemmas.{set_aside_are_heavy}
 use Rattle.saturation.specs.Cover.{CoversEach}
+use Rattle.saturation.specs.Found.{Find, is_last_premise, WasMet}
 use Rattle.saturation.specs.Laws.{is_member, HeavyIsNamed}
 use Rattle.saturation.proofs.MoveLemmas.{CalculusLaws, all-in, each-more}
 use Rattle.saturation.proofs.CarriedLemmas.{Living, HeldBy, Open, inference-more}
 use Rattle.saturation.proofs.RemovalLemmas.{among-parts}
-use Rattle.saturation.proofs.MeetingLemmas.{front, in-order, number-passes, all-numbered}
-use Rattle.saturation.proofs.StateLemmas.{IsState}
+use Rattle.saturation.proofs.MeetingLemmas.{front, front-lower, in-order, number-passes, all-numbered}
+use Rattle.saturation.proofs.StateLemmas.{WasFound, IsState}
 use Rattle.saturation.proofs.HistoryLemmas.{Reaches}
 use Rattle.saturation.proofs.FixedLemmas.{OnlyFixed, fixed_are_refuted_or_spent}
 use Rattle.saturation.proofs.TallyLemmas.{IsFixed}
@@ -258,7 +259,7 @@ last-premise is_predicate mode clauses positions (Replaced n) c is placed = absu
 
 module _
     (usage : SymbolUse) (inputs : List TreeClause) (options : Options) (unsplit : options.split ≡ false)
-    (r : PoolRecord) (reaches : Reaches usage inputs options unsplit r) (fixed : OnlyFixed r) (saturated : outcome_of r ≡ Some Saturated) where
+    (finds : List Find) (r : PoolRecord) (reaches : Reaches usage inputs options unsplit finds r) (fixed : OnlyFixed r) (saturated : outcome_of r ≡ Some Saturated) where
   abbrev the_mode : SelectionMode
   the_mode = mode_of options.select
 
@@ -268,7 +269,7 @@ module _
   none_aside : list_any (is_of_living r) r.set_aside ≡ false
   none_aside = none-passes (is_of_living r) r.set_aside (none-heavy (position (is_of_living r) r.set_aside) done.tells)
 
-  state : IsState usage.is_predicate options r
+  state : IsState usage.is_predicate options finds r
   state = reaches.stated done.is_open
 
   -- ---- living clauses
@@ -315,8 +316,14 @@ module _
   abbrev AmongMembers : Key → TreeClause → Type 0
   AmongMembers key c = IsInference usage.is_predicate the_mode (among (is_member r) (clauses_of r)) key c
 
-  counted-key : (key : Key) (c : TreeClause) → AmongMembers key c → In key r.counted
-  counted-key key c is =
+  -- its last premise, whose job found it
+  record FoundBy (key : Key) : Type 0 where
+    last : ℕ
+    is_last : is_last_premise r last key ≡ true
+    was_found : WasFound r.counted finds last key
+
+  found-key : (key : Key) (c : TreeClause) → AmongMembers key c → FoundBy key
+  found-key key c is =
       let all = members-premises usage.is_predicate the_mode r key c is in
       let alive : (n : ℕ) → has_number n (premises key) ≡ true → lives r n ≡ true =
       λ n premise. (and_parts (lives r n) (is_awake r n) (number-passes (is_member r) n (premises key) premise all)).0 in
@@ -324,18 +331,44 @@ module _
       all-numbered (λ n. has_number n r.positions) (premises key)
       (λ n premise. number-passes (λ k. has_number k r.positions) n r.active (active n (alive n premise)) state.met.placed) in
       let at = last-premise usage.is_predicate the_mode (among (is_member r) (clauses_of r)) r.positions key c is placed in
-      state.met.met at.last (active at.last (alive at.last at.is_premise)) key c
-      (and_from (has_number at.last (premises key)) (list_all (λ n. (n == at.last) || has_number n (front at.last r.positions)) (premises key)) at.is_premise at.earlier)
-      (all-numbered (λ n. not (has_died r.deaths n)) (premises key)
-      (λ n premise. (and_parts (nat_lt n (length r.registered)) (not (has_died r.deaths n)) (alive n premise)).1))
-      (member-inference usage.is_predicate the_mode r key c is)
+      record {
+        last = at.last;
+        is_last =
+            and_from (has_number at.last (premises key)) (list_all (λ n. nat_le (position_of r n) (position_of r at.last)) (premises key)) at.is_premise
+            (all-numbered (λ n. nat_le (position_of r n) (position_of r at.last)) (premises key)
+            (λ n premise.
+            ⊎_elim
+            (λ (same : (n == at.last) ≡ true).
+            le-leb (position_of r n) (position_of r at.last) (let e : position_of r n ≡ position_of r at.last = ap (position_of r) (eqb-true n at.last same) in omega (arith, e)))
+            (λ (before : has_number n (front at.last r.positions) ≡ true).
+            le-leb (position_of r n) (position_of r at.last) (front-lower n at.last r.positions before))
+            (or_cases (n == at.last) (has_number n (front at.last r.positions))
+            (number-passes (λ k. (k == at.last) || has_number k (front at.last r.positions)) n (premises key) premise at.earlier))));
+        was_found =
+            state.met.met at.last (active at.last (alive at.last at.is_premise)) key c
+            (and_from (has_number at.last (premises key)) (list_all (λ n. (n == at.last) || has_number n (front at.last r.positions)) (premises key)) at.is_premise at.earlier)
+            (all-numbered (λ n. not (has_died r.deaths n)) (premises key)
+            (λ n premise. (and_parts (nat_lt n (length r.registered)) (not (has_died r.deaths n)) (alive n premise)).1))
+            (member-inference usage.is_predicate the_mode r key c is);
+      }
+
+  counted-key : (key : Key) (c : TreeClause) → AmongMembers key c → In key r.counted
+  counted-key key c is = (found-key key c is).was_found.0
 
   not-aside : (key : Key) (c : TreeClause) → AmongMembers key c → In key r.set_aside → ⊥
   not-aside key c is aside =
       true≢false (sym (members-premises usage.is_predicate the_mode r key c is) ∙ none-In (is_of_living r) r.set_aside none_aside key aside)
 
-  pub members-counted : (key : Key) (c : TreeClause) → AmongMembers key c → Contains r.counted key × (Contains r.set_aside key → ⊥)
-  members-counted key c is = (In-contains key r.counted (counted-key key c is), λ aside. not-aside key c is (contains-In key r.set_aside aside))
+  pub members-counted : (key : Key) (c : TreeClause) → AmongMembers key c → WasMet r finds key
+  members-counted key c is =
+      let found = found-key key c is in
+      record {
+        counted = In-contains key r.counted found.was_found.0;
+        not_aside = λ aside. not-aside key c is (contains-In key r.set_aside aside);
+        last = found.last;
+        is_last = found.is_last;
+        found = In-contains (record { by = found.last; key = key }) finds found.was_found.1;
+      }
 
   -- ---- what members cover
 

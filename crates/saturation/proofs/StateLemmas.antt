@@ -4,6 +4,7 @@ use Rattle.std.proofs.Common.{◌≡◌, ℕ, ◌+◌, Bool, true, false, not, �
 use Rattle.std.specs.Prelude.{Option, None, Some, nat_lt}
 use Rattle.std.specs.List.{list_all, AllByRecursion}
 use Rattle.fol_base.specs.Selection.{SelectionMode}
+use Rattle.kbo_order.proofs.MemberLemmas.{In, In-left}
 use Rattle.kernel_steps.specs.Split.{has_number}
 use Rattle.kernel_steps.specs.declared.key.Key.{Key}
 use Rattle.literal_selection.specs.Mode.{mode_of}
@@ -16,6 +17,7 @@ use Rattle.pool_core.proofs.ClaimLemmas.{positions_with, claim_after, after-clai
 use Rattle.pool_core.proofs.FrameLemmas.{by-if}
 use Rattle.pool_core.proofs.HandLemmas.{all-filter, all-end, all-weaker}
 use Rattle.pool_core.proofs.PlaceLemmas.{Placed, has-right, has-first}
+use Rattle.saturation.specs.Found.{Find}
 use Rattle.saturation.proofs.VictimLemmas.{Victims}
 use Rattle.saturation.proofs.MeetingLemmas.{IsToldRight, HaveMet, told-later, told-now, met-later}
 
@@ -39,18 +41,31 @@ told-grown limit ps qs ds es ks ls js places deaths counted told =
     (told-later limit ps places.0 ds deaths.0 ks counted.0) js told)))
 
 pub met-grown :
-    (is_predicate : ℕ → Bool) (mode : SelectionMode) (cs xs : List Registered) (ps qs active actives : List ℕ) (ds es : List Death) (ks ls : List Key)
-    → list_all (λ n. nat_lt n (length cs)) ps ≡ true → Extends cs xs → Extends ps qs → actives ≡ active → Extends ds es → Extends ks ls
-    → HaveMet is_predicate mode cs ps active ds ks → HaveMet is_predicate mode xs qs actives es ls
-met-grown is_predicate mode cs xs ps qs active actives ds es ks ls within clauses places same deaths counted met =
-    subst (λ zs. HaveMet is_predicate mode zs qs actives es ls) (sym clauses.1)
-    (subst (λ zs. HaveMet is_predicate mode (cs ++ clauses.0) zs actives es ls) (sym places.1)
-    (subst (λ zs. HaveMet is_predicate mode (cs ++ clauses.0) (ps ++ places.0) zs es ls) (sym same)
-    (subst (λ zs. HaveMet is_predicate mode (cs ++ clauses.0) (ps ++ places.0) active zs ls) (sym deaths.1)
-    (subst (λ zs. HaveMet is_predicate mode (cs ++ clauses.0) (ps ++ places.0) active (ds ++ deaths.0) zs) (sym counted.1)
-    (met-later is_predicate mode cs clauses.0 ps places.0 active ds deaths.0 ks counted.0 within met)))))
+    (is_predicate : ℕ → Bool) (mode : SelectionMode) (cs xs : List Registered) (ps qs active actives : List ℕ) (ds es : List Death)
+    (Few Many : ℕ → Key → Type 0)
+    → ((last : ℕ) (key : Key) → Few last key → Many last key)
+    → list_all (λ n. nat_lt n (length cs)) ps ≡ true → Extends cs xs → Extends ps qs → actives ≡ active → Extends ds es
+    → HaveMet is_predicate mode cs ps active ds Few → HaveMet is_predicate mode xs qs actives es Many
+met-grown is_predicate mode cs xs ps qs active actives ds es Few Many grows within clauses places same deaths met =
+    subst (λ zs. HaveMet is_predicate mode zs qs actives es Many) (sym clauses.1)
+    (subst (λ zs. HaveMet is_predicate mode (cs ++ clauses.0) zs actives es Many) (sym places.1)
+    (subst (λ zs. HaveMet is_predicate mode (cs ++ clauses.0) (ps ++ places.0) zs es Many) (sym same)
+    (subst (λ zs. HaveMet is_predicate mode (cs ++ clauses.0) (ps ++ places.0) active zs Many) (sym deaths.1)
+    (met-later is_predicate mode cs clauses.0 ps places.0 active ds deaths.0 Few Many grows within met))))
 
-module _ (is_predicate : ℕ → Bool) (options : Options) where
+-- an inference was counted, and found by the job of a clause
+abbrev pub WasFound : List Key → List Find → ℕ → Key → Type 0
+WasFound counted finds last key = In key counted × In (record { by = last; key = key }) finds
+
+pub found-more :
+    (ks ls : List Key) (finds more : List Find) → Extends ks ls → Extends finds more → (last : ℕ) (key : Key) → WasFound ks finds last key → WasFound ls more last key
+found-more ks ls finds more counted found last key was = (
+  subst (λ xs. In key xs) (sym counted.1) (In-left key ks counted.0 was.0),
+  subst (λ xs. In (record { by = last; key = key }) xs) (sym found.1) (In-left (record { by = last; key = key }) finds found.0 was.1),
+)
+
+-- the finds are those of the events so far
+module _ (is_predicate : ℕ → Bool) (options : Options) (finds : List Find) where
   abbrev the_mode : SelectionMode
   the_mode = mode_of options.select
 
@@ -59,7 +74,7 @@ module _ (is_predicate : ℕ → Bool) (options : Options) where
   pub record IsState (r : PoolRecord) : Type 0 where
     pub victims : Victims r
     pub told : AllByRecursion (IsToldRight options.inferences r.positions r.deaths r.counted) r.given
-    pub met : HaveMet is_predicate the_mode r.registered r.positions r.active r.deaths r.counted
+    pub met : HaveMet is_predicate the_mode r.registered r.positions r.active r.deaths (WasFound r.counted finds)
 
   abbrev pub HasState : PoolRecord → Type 0
   HasState r = r.ended ≡ None → IsState r
@@ -118,9 +133,9 @@ module _ (is_predicate : ℕ → Bool) (options : Options) where
             (extends-same r.counted r.counted refl) state.told)
             (told-now options.inferences r.registered ps r.deaths r.counted new by.there within refl (omega arith));
         met =
-            met-grown is_predicate the_mode r.registered r.registered r.positions ps r.active r.active r.deaths r.deaths r.counted r.counted before
-            (extends-same r.registered r.registered refl) by.longer refl (extends-same r.deaths r.deaths refl) (extends-same r.counted r.counted refl)
-            state.met;
+            met-grown is_predicate the_mode r.registered r.registered r.positions ps r.active r.active r.deaths r.deaths (WasFound r.counted finds)
+            (WasFound r.counted finds) (λ last key was. was) before (extends-same r.registered r.registered refl) by.longer refl
+            (extends-same r.deaths r.deaths refl) state.met;
       }
 
   pub claimed-state :

@@ -1,7 +1,6 @@
 -- What the work of a batch keeps: the counted list grows, and a pool that is open after it was open before.
 use Rattle.std.proofs.Common.{◌≡◌, ℕ, List, [], ◌∷◌, ◌++◌, length, append-nil, refl, ap, sym, ◌∙◌, subst, inl, inr, ◌⊎◌, ⊎_elim}
 use Rattle.std.specs.Prelude.{Option, None, Some, nat_le, fold, find}
-use Rattle.kbo_order.proofs.MemberLemmas.{In, In-left}
 use Rattle.kernel_steps.specs.declared.key.Key.{Key}
 use Rattle.kernel_steps.specs.declared.key.Key.TheVariants.{Replaced}
 use Rattle.kernel_steps.specs.declared.step.Line.{Line}
@@ -51,10 +50,6 @@ open-before r s so_far is_open =
     (⊎_elim (λ (refuted : s.ended ≡ Some Refuted). not-open s.ended Refuted refuted is_open)
     (λ (spent : (count : ℕ) × (s.ended ≡ Some (Spent count))). not-open s.ended (Spent spent.0) spent.1 is_open) fixed))
     so_far.ends
-
--- what was counted stays
-pub counted-stays : (r s : PoolRecord) → Tallies r s → (key : Key) → In key r.counted → In key s.counted
-counted-stays r s so_far key there = subst (λ ks. In key ks) (sym so_far.counted.1) (In-left key r.counted so_far.counted.0 there)
 
 pub registers-tallies : (r s : PoolRecord) → Registers r s → Tallies r s
 registers-tallies r s is = record {

@@ -1,5 +1,5 @@
 -- Laws of the saturation of a pool, for every list of events. A law says where it is for pools that don't split alone.
-use Rattle.std.specs.Prelude.{◌≡◌, ◌⊎◌, ℕ, Bool, true, false, ◌&&◌, List, Option, None, Some, slice_get, All, Contains, IsTrue}
+use Rattle.std.specs.Prelude.{◌≡◌, ◌⊎◌, ℕ, Bool, true, false, ◌&&◌, List, Option, None, Some, slice_get, All, IsTrue}
 use Rattle.fol_base.specs.Clause.{TreeClause}
 use Rattle.fol_base.specs.Symbols.{FunctionSymbols}
 use Rattle.fol_base.specs.Selection.{SelectionMode}
@@ -21,6 +21,7 @@ use Rattle.pool_core.specs.Saturated.{IsSaturated, members_of}
 use Rattle.pool_core.specs.declared.event.Event.{Event}
 use Rattle.pool_core.specs.declared.outcome.Outcome.TheVariants.{Refuted, Saturated, Spent, Heavy}
 use Rattle.saturation.specs.Carried.{IsCarried}
+use Rattle.saturation.specs.Found.{finds_of, WasMet}
 
 -- ---- inferences
 
@@ -67,16 +68,17 @@ SaturatedIsSaturated =
     → outcome_of (replay origin history) ≡ Some Saturated
     → IsSaturated functions (mode_of origin.options.select) origin.inputs (members_of (replay origin history))
 
--- And each inference that is named among the members was counted and not set aside. Where nothing is split.
-abbrev pub MembersWereCounted : Type 0
-MembersWereCounted =
+-- And each inference that is named among the members was met: it was counted and not set aside, and the job of its last premise found it.
+-- Where nothing is split.
+abbrev pub MembersHaveMet : Type 0
+MembersHaveMet =
     (usage : SymbolUse) (origin : Origin) (history : List Event) (key : Key) (c : TreeClause)
     → AreInputs origin.inputs → IsUseOf origin.inputs usage → origin.options.split ≡ false
     → IsLawful usage.is_predicate origin history
     → let r = replay origin history in
     outcome_of r ≡ Some Saturated
     → IsInference usage.is_predicate (mode_of origin.options.select) (among (is_member r) (clauses_of r)) key c
-    → Contains r.counted key × (Contains r.set_aside key → ⊥)
+    → WasMet r (finds_of origin history) key
 
 -- The outcome Heavy tells the place of an inference that was set aside: it is named among the members, and is too large.
 abbrev pub HeavyIsNamed : Type 0

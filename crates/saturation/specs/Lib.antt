@@ -1,4 +1,5 @@
 pub mod Cover
 pub mod Carried
+pub mod Found
 pub mod Laws
 pub mod Examples

@@ -6,7 +6,7 @@ mod examples;
 mod outcomes;
 
 pub use carried::{carried_through, inferences_keep_symbols};
-pub use examples::{carried_examples, held_examples, saturated_example};
+pub use examples::{carried_examples, found_examples, held_examples, saturated_example};
 pub use outcomes::{
-    fixed_are_refuted_or_spent, heavy_is_named, members_were_counted, saturated_is_saturated,
+    fixed_are_refuted_or_spent, heavy_is_named, members_have_met, saturated_is_saturated,
 };

@@ -4,7 +4,7 @@ ghost use Rattle.std.specs.Prelude.{◌≡◌, [], ◌∷◌, Some, true, false,
 ghost use Rattle.fol_base.specs.Examples.{x, a, q, r, clause, is_predicate, functions};
 ghost use Rattle.fol_base.specs.Selection.{select_negative};
 ghost use Rattle.kernel_steps.specs.declared.key.Key.TheVariants.{Refl};
-ghost use Rattle.pool_core.specs.Examples.{justified, stale_history, parted, parted_history, at_roots};
+ghost use Rattle.pool_core.specs.Examples.{justified, stale_history, parted, parted_history, units, units_history, rewrites, rewrites_history, at_roots};
 ghost use Rattle.pool_core.specs.Lawful.{IsLawful};
 ghost use Rattle.pool_core.specs.Outcomes.{outcome_of};
 ghost use Rattle.pool_core.specs.Record.{nothing_registered};
@@ -12,6 +12,7 @@ ghost use Rattle.pool_core.specs.Replay.{start, replay};
 ghost use Rattle.pool_core.specs.Saturated.{IsSaturated, members_of};
 ghost use Rattle.pool_core.specs.declared.outcome.Outcome.TheVariants.{Saturated};
 ghost use Rattle.saturation.specs.Carried.{IsHeld, has_awake_premises, IsCarried};
+ghost use Rattle.saturation.specs.Found.{finds_of, is_last_premise};
 ghost use Rattle.saturation.specs.Laws.{is_member};
 ghost use Rattle.saturation.specs.Examples.{all_true, first_true, one_atom, one_tautology, tautology_history};
 
@@ -27,6 +28,16 @@ pub fn held_examples()
     ensures both_awake { IsTrue (has_awake_premises all_true (start parted) (at_roots 0 1)) }
     ensures member { IsTrue (is_member (replay parted parted_history) 0) }
     ensures no_member { IsFalse (is_member (replay parted parted_history) 1) }
+{}
+
+/// Of two units that meet, the job of the second finds their superposition, and is that of its last premise. A job whose clause goes finds
+/// nothing, nor does one that meets nothing.
+pub fn found_examples()
+    ensures found { finds_of units units_history ≡ record { by = 1; key = at_roots 0 1 } ∷ [] }
+    ensures nothing { finds_of rewrites rewrites_history ≡ [] }
+    ensures last { IsTrue (is_last_premise (replay units units_history) 1 (at_roots 0 1)) }
+    ensures earlier { IsFalse (is_last_premise (replay units units_history) 0 (at_roots 0 1)) }
+    ensures no_premise { IsFalse (is_last_premise (replay units units_history) 1 (Refl 0 0)) }
 {}
 
 /// What is held covers `r` where `r` was registered, and not where nothing was.

@@ -3,7 +3,7 @@
 ghost use Rattle.saturation.specs.Laws.{
   FixedAreRefutedOrSpent,
   SaturatedIsSaturated,
-  MembersWereCounted,
+  MembersHaveMet,
   HeavyIsNamed,
 };
 
@@ -30,9 +30,10 @@ pub fn saturated_is_saturated()
     ground_conclusions_covered();
 }
 
-/// Under the outcome Saturated each inference that is named among the members was counted, and not set aside.
-pub fn members_were_counted()
-    ensures { MembersWereCounted }
+/// Under the outcome Saturated each inference that is named among the members was counted and not set aside, and the job of its last
+/// premise, the one of the latest position, found it.
+pub fn members_have_met()
+    ensures { MembersHaveMet }
 {}
 
 /// The outcome Heavy tells an inference among the members that was set aside, since it is too large.
