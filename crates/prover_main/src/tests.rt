@@ -67,15 +67,31 @@ fn derivation_of(alloc: Global, row: &Row) -> Mem<Vec<u8>> {
     Ok(text)
 }
 
+/// A problem's file and a derivation's.
+fn files_with<'a>(
+    alloc: Global,
+    file: &'a str,
+    problem: &'a [u8],
+    derivation: &'a [u8],
+) -> Mem<Vec<(&'a str, &'a [u8])>> {
+    let mut files = Vec::new(alloc);
+    files.push((file, problem))?;
+    files.push(("d", derivation))?;
+    Ok(files)
+}
+
 #[test]
 fn changed_derivations_are_refused_by_their_causes(rt: HostRuntime) {
     for (index, row) in ROWS.iter().enumerate() {
         let example = row.example.example();
         let derivation = derivation_of(rt.alloc(), row).expect(&rt, "memory");
-        let files = [
-            (example.file, example.problem),
-            ("d", derivation.as_slice()),
-        ];
+        let files = files_with(
+            rt.alloc(),
+            example.file,
+            example.problem,
+            derivation.as_slice(),
+        )
+        .expect(&rt, "memory");
         let words = ["check", example.file, "d"];
         let told = outcome(&rt, rt.alloc(), words.as_slice(), files.as_slice());
         let (status, sink) = told.expect(&rt, "memory");
