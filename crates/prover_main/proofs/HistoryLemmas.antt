@@ -1,6 +1,6 @@
 -- What the pool of a problem tells once it has ended.
 use Rattle.std.proofs.Common.{◌≡◌, ◌<◌, ◌≤◌, ℕ, List, length, ap, sym, ◌∙◌, subst}
-use Rattle.std.specs.Prelude.{Bool, Some, slice_get, position, map, Contains, IsTrue}
+use Rattle.std.specs.Prelude.{Bool, Some, slice_get, position, map, All, Contains, IsTrue}
 use Rattle.std.proofs.lemmas.List.Quantifiers.{position-Some}
 use Rattle.fol_base.specs.Clause.{TreeClause}
 use Rattle.fol_base.specs.Literal.{clause_of}
@@ -15,7 +15,7 @@ use Rattle.clausal_form.specs.FormFunctions.{is_predicate_in}
 use Rattle.clausal_form.proofs.WellFormedLemmas.{forms-are-well-formed}
 use Rattle.clausal_form.proofs.RefutationLemmas.{accepted_derivations_refute}
 use Rattle.pool_core.specs.Inputs.{IsHistoryOf, IsUseOf}
-use Rattle.pool_core.specs.Laws.{IsHeavyAmong}
+use Rattle.pool_core.specs.Laws.{IsCounted, IsHeavyAmong}
 use Rattle.pool_core.specs.Lawful.{IsLawful}
 use Rattle.pool_core.specs.Outcomes.{is_at_rest, is_of_living}
 use Rattle.pool_core.specs.Record.{PoolRecord}
@@ -31,7 +31,7 @@ use Rattle.proving.proofs.EndLemmas.{outcomes-have-causes}
 use Rattle.pool_writer.specs.Refuted.{IsRefutationText}
 use Rattle.retracing.specs.Retraced.{steps_of}
 use Rattle.prover_main.specs.Names.{shown}
-use Rattle.prover_main.specs.Answer.{has_conjecture, HasHistory, IsRefuted, IsSpent, IsHeavy}
+use Rattle.prover_main.specs.Answer.{has_conjecture, HasHistory, IsRefuted, HasCounted, IsSpent, IsHeavy}
 use Rattle.prover_main.specs.AnswerShape.{IsProvedProblem}
 use Rattle.prover_main.specs.declared.proved.Proved.{Proved}
 
@@ -52,14 +52,14 @@ module _ (formulas : List Annotated) (options : Options) (proved : Proved) (is :
   inputs-are = ap (λ (f : ClausalForm). f.clauses) is.form ∙ sym (ap (λ (begun : Origin). begun.inputs) is.pool.origin)
 
   -- lawful where the predicates are those of the form's signature
-  lawful : IsLawful (is_predicate_in (clausal_form formulas).symbols) proved.pool.origin proved.pool.history
+  pub lawful : IsLawful (is_predicate_in (clausal_form formulas).symbols) proved.pool.origin proved.pool.history
   lawful =
       let form : WellFormed (clausal_form formulas).clauses = (forms-are-well-formed formulas).0 in
       subst (λ (u : SymbolUse). IsLawful u.is_predicate proved.pool.origin proved.pool.history) (forms-are-well-formed formulas).1
       (is.pool.lawful form.usage
       (subst (λ (cs : List TreeClause). IsUseOf cs form.usage) (sym (ap (λ (begun : Origin). begun.inputs) is.pool.origin)) form.used))
 
-  cause : (o : Outcome) → proved.outcome ≡ o → HasCause options ended o
+  pub cause : (o : Outcome) → proved.outcome ≡ o → HasCause options ended o
   cause o same =
       subst (λ (begun : Origin). HasCause begun.options ended o) is.pool.origin
       (outcomes-have-causes proved.pool.origin proved.pool.history o (is.pool.outcome ∙ ap Some same))
@@ -81,19 +81,27 @@ module _ (formulas : List Annotated) (options : Options) (proved : Proved) (is :
     herbrand = accepted_derivations_refute formulas text accepted.0 accepted.1;
   }
 
-  pub is-spent : (count allowed : ℕ) → proved.outcome ≡ outcome.Spent count → allowed ≡ options.inferences → IsSpent formulas options count allowed
-  is-spent count allowed same limit =
+  pub has-counted : (count : ℕ) → proved.outcome ≡ outcome.Spent count → HasCounted formulas options count ended
+  has-counted count same =
+      let is_predicate : ℕ → Bool = is_predicate_in (clausal_form formulas).symbols in
       let counted : (count ≡ length ended.counted) × (options.inferences ≤ count) = cause (outcome.Spent count) same in
+      let once = counted_once is_predicate proved.pool.origin proved.pool.history lawful in
       record {
-        r = ended;
-        history = has-history (outcome.Spent count) same;
         counted = counted.0;
-        different = (counted_once (is_predicate_in (clausal_form formulas).symbols) proved.pool.origin proved.pool.history lawful).0;
-        reached = subst (λ n. n ≤ count) (sym limit) counted.1;
-        allowed_is = limit;
+        different = once.0;
+        named = subst (λ (begun : Origin). All (IsCounted is_predicate begun.options ended) ended.counted) is.pool.origin once.1;
+        reached = counted.1;
       }
 
-  heavy-cause : (place : ℕ) → proved.outcome ≡ outcome.Heavy place → IsTrue (is_at_rest ended) × (position (is_of_living ended) ended.set_aside ≡ Some place)
+  pub is-spent : (count allowed : ℕ) → proved.outcome ≡ outcome.Spent count → allowed ≡ options.inferences → IsSpent formulas options count allowed
+  is-spent count allowed same limit = record {
+    r = ended;
+    history = has-history (outcome.Spent count) same;
+    counts = has-counted count same;
+    allowed_is = limit;
+  }
+
+  pub heavy-cause : (place : ℕ) → proved.outcome ≡ outcome.Heavy place → IsTrue (is_at_rest ended) × (position (is_of_living ended) ended.set_aside ≡ Some place)
   heavy-cause place same = cause (outcome.Heavy place) same
 
   pub heavy-there : (place : ℕ) → proved.outcome ≡ outcome.Heavy place → place < length ended.set_aside

@@ -14,3 +14,5 @@ pub mod PieceExamples
 pub mod TruthLaws
 pub mod FormSymbols
 pub mod SaturatedLemmas
+pub mod RefutedLemmas
+pub mod OutcomeLemmas

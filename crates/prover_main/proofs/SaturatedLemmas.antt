@@ -61,7 +61,10 @@ module _
   inputs : AreInputs (clausal_form formulas).clauses
   inputs = form-inputs formulas is.within
 
-  module _ (saturates : SaturatedIsSaturated) (meet : MembersHaveMet) where
+  have-met : MembersHaveMet → HaveMet formulas options events (replay begun events)
+  have-met meet key c inferred = meet usage begun events key c inputs used unsplit lawful ends inferred
+
+  module _ (saturates : SaturatedIsSaturated) where
     over-each :
         (functions : FunctionSymbols (is_predicate_in (clausal_form formulas).symbols)) → All (HasSymbolsOf functions) (clausal_form formulas).clauses
         → IsSaturated functions (mode_of options.select) (clausal_form formulas).clauses (members_of (replay begun events))
@@ -78,13 +81,13 @@ module _
       over_each = over-each;
     }
 
-    have-met : HaveMet formulas options events (replay begun events)
-    have-met key c inferred = meet usage begun events key c inputs used unsplit lawful ends inferred
+    pub ended-saturated : AreSaturatedFor formulas options (members_of (ended formulas options proved is))
+    ended-saturated = subst (λ (r : PoolRecord). AreSaturatedFor formulas options (members_of r)) (sym history.replayed) saturated-for
 
     pub is-saturation :
-        (text : List ℕ) → text ≡ saturation_text proved.form.signature (members_of (ended formulas options proved is))
+        MembersHaveMet → (text : List ℕ) → text ≡ saturation_text proved.form.signature (members_of (ended formulas options proved is))
         → IsSaturation formulas options text
-    is-saturation text printed = record {
+    is-saturation meet text printed = record {
       r = replay begun events;
       history = record { events = events; lawful = history.lawful; replayed = refl; ends = ends };
       printed =
@@ -93,5 +96,5 @@ module _
           (ap (λ (f : ClausalForm). f.symbols) is.form)
           ∙ ap (λ (r : PoolRecord). saturation_text (clausal_form formulas).symbols (members_of r)) history.replayed;
       saturated = saturated-for;
-      met = have-met;
+      met = have-met meet;
     }

@@ -24,7 +24,7 @@ use Rattle.clausal_form.specs.FormFunctions.{is_predicate_in, OwnFunctions, IsHe
 use Rattle.clausal_form.specs.DerivationTexts.{IsAcceptedDerivation, IsRefusedDerivation}
 use Rattle.clausal_form.specs.declared.fault.FormCause.{FormCause}
 use Rattle.pool_core.specs.Inputs.{IsHistoryOf}
-use Rattle.pool_core.specs.Laws.{IsHeavyAmong}
+use Rattle.pool_core.specs.Laws.{IsCounted, IsHeavyAmong}
 use Rattle.pool_core.specs.Outcomes.{is_at_rest, is_of_living, outcome_of}
 use Rattle.pool_core.specs.Record.{PoolRecord, clauses_of}
 use Rattle.pool_core.specs.Replay.{Origin, replay}
@@ -106,13 +106,19 @@ pub record IsRefuted (file : List ℕ) (formulas : List Annotated) (options : Op
   pub accepted : IsAcceptedDerivation formulas derivation count
   pub herbrand : IsHerbrandRefuted formulas
 
--- So many inferences were counted in such a history, all different, and at least as many as the limit.
+-- So many entries were counted, all different, and at least as many as the limit. Each is an inference of registered clauses or a clause that
+-- was replaced.
+pub record HasCounted (formulas : List Annotated) (options : Options) (count : ℕ) (r : PoolRecord) : Type 0 where
+  pub counted : count ≡ length r.counted
+  pub different : AllPairs (λ k l. k ≢ l) r.counted
+  pub named : All (IsCounted (is_predicate_in (clausal_form formulas).symbols) options r) r.counted
+  pub reached : options.inferences ≤ count
+
+-- So many entries were counted in such a history.
 pub record IsSpent (formulas : List Annotated) (options : Options) (count allowed : ℕ) : Type 0 where
   pub r : PoolRecord
   pub history : HasHistory formulas options (outcome.Spent count) r
-  pub counted : count ≡ length r.counted
-  pub different : AllPairs (λ k l. k ≢ l) r.counted
-  pub reached : allowed ≤ count
+  pub counts : HasCounted formulas options count r
   pub allowed_is : allowed ≡ options.inferences
 
 -- Nothing was left to do in such a history, but the inference of that key was set aside as too heavy, and its premises live and are awake. It

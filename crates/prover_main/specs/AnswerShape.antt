@@ -1,5 +1,5 @@
 -- What the stages of a command answer, in the words of the definitions.
-use Rattle.std.specs.Prelude.{◌≡◌, ⊤, List, map, Option, None, Some}
+use Rattle.std.specs.Prelude.{◌≡◌, ⊤, List, map, position, Option, None, Some, IsTrue}
 use Rattle.outside.specs.Library.{Holdings}
 use Rattle.tptp_tree.specs.ProblemSize.{HasProblemSize}
 use Rattle.tptp_tree.specs.declared.problem.Annotated.{Annotated}
@@ -9,10 +9,16 @@ use Rattle.tptp_problem.specs.Problem.{IsProblem}
 use Rattle.signature.specs.Form.{clausal_form}
 use Rattle.clausal_form.specs.Form.{form_of}
 use Rattle.clausal_form.specs.Fault.{form_fault}
+use Rattle.clausal_form.specs.FormFunctions.{IsHerbrandRefuted}
+use Rattle.pool_core.specs.Outcomes.{is_at_rest, is_of_living}
+use Rattle.pool_core.specs.Record.{PoolRecord}
+use Rattle.pool_core.specs.Saturated.{members_of}
 use Rattle.pool_core.specs.declared.options.Options.{Options}
+use Rattle.pool_core.specs.declared.outcome.Outcome.{Outcome}
+use Rattle.pool_core.specs.declared.outcome.Outcome.TheVariants.{Refuted, Saturated, Spent, Heavy}
 use Rattle.proving.specs.Proved.{IsProvedFrom}
 use Rattle.prover_main.specs.Outside.{Outside}
-use Rattle.prover_main.specs.Answer.{Source, IsUnread, IsUnformed}
+use Rattle.prover_main.specs.Answer.{Source, IsUnread, IsUnformed, HasCounted, AreSaturatedFor}
 use Rattle.prover_main.specs.declared.answer.Answer.{Answer}
 use Rattle.prover_main.specs.declared.answer.Answer.TheVariants.{Unread, Unformed}
 use Rattle.prover_main.specs.declared.problem.FormedProblem.{FormedProblem}
@@ -55,6 +61,14 @@ pub record IsProvedProblem (formulas : List Annotated) (options : Options) (prov
   pub pool :
       IsProvedFrom (clausal_form formulas).clauses options
       (record { outcome = proved.outcome; pool = proved.pool; bank = proved.bank })
+
+-- What the outcome says of the problem: finitely many ground instances of its form are true in no interpretation; or the members are saturated
+-- for it; or so many entries were counted; or nothing is left to do but the first inference of living awake clauses that was set aside.
+abbrev pub OutcomeSays : List Annotated → Options → PoolRecord → Outcome → Type 0
+OutcomeSays formulas options r Refuted = IsHerbrandRefuted formulas
+OutcomeSays formulas options r Saturated = AreSaturatedFor formulas options (members_of r)
+OutcomeSays formulas options r (Spent count) = HasCounted formulas options count r
+OutcomeSays formulas options r (Heavy place) = IsTrue (is_at_rest r) × (position (is_of_living r) r.set_aside ≡ Some place)
 
 -- The problem has no clausal form, because of the formula of that name; or memory was wanted.
 abbrev pub IsProveFault : List Annotated → ProveFault → Type 0

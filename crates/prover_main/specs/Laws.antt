@@ -125,7 +125,7 @@ abbrev pub source_of : Command → Source
 source_of (prove file root options) = record { file = file; root = root }
 source_of (check file derivation root) = record { file = file; root = root }
 
--- a pool of the problem gave up: so many inferences were counted, or one was set aside
+-- a pool of the problem gave up: so many entries were counted, or an inference was set aside
 abbrev pub HasGivenUp : Options → List Annotated → Type 0
 HasGivenUp options formulas =
     (r : PoolRecord)

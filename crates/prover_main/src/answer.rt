@@ -21,7 +21,7 @@ pub enum Answer {
         conjecture: bool,
         members: Text,
     },
-    /// So many inferences were counted, at least as many as are allowed.
+    /// So many entries were counted, each an inference or a clause that was replaced, at least as many as are allowed.
     Spent {
         count: u64,
         allowed: u32,

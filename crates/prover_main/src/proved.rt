@@ -3,12 +3,14 @@
 ghost use Rattle.std.specs.Prelude.{◌≡◌, false, IfOk, IfErr};
 ghost use Rattle.tptp_tree.specs.ProblemSize.{HasProblemSize};
 ghost use Rattle.pool_core.specs.Inputs.{IsLimit};
-ghost use Rattle.prover_main.specs.AnswerShape.{IsProvedProblem, IsProveFault};
+ghost use Rattle.pool_core.specs.Replay.{replay};
+ghost use Rattle.prover_main.specs.AnswerShape.{IsProvedProblem, IsProveFault, OutcomeSays};
 
 use clausal_form::{Clausal, FormCause, FormFault, clausal};
 use plain_types::Text;
 use pool_core::{Options, Outcome, Pool};
 use proving::prove_clauses;
+use saturation::laws::saturated_is_saturated;
 use std::alloc::Global;
 use std::sync::Wait;
 use term_bank::Bank;
@@ -31,7 +33,8 @@ pub enum ProveFault {
     Form(FormCause, Text),
 }
 
-/// Brings a problem to clausal form, and works on a pool of its clauses until an outcome stands. Clauses aren't split.
+/// Brings a problem to clausal form, and works on a pool of its clauses until an outcome stands. Clauses aren't split. What
+/// the outcome says of the problem is told here; that the members of a saturated pool are saturated stands by the laws of saturation.
 pub fn prove_problem<R: Wait>(
     rt: &R,
     alloc: Global,
@@ -42,8 +45,10 @@ pub fn prove_problem<R: Wait>(
     requires limit { IsLimit options }
     requires unsplit { options.split ≡ false }
     ensures proved { IfOk result (IsProvedProblem problem.now.formulas options) }
+    ensures says { IfOk result (λ p. OutcomeSays problem.now.formulas options (replay p.pool.origin p.pool.history) p.outcome) }
     ensures refused { IfErr result (IsProveFault problem.now.formulas) }
 {
+    saturated_is_saturated();
     match clausal(alloc, problem) {
         Ok(form) => match prove_clauses(rt, alloc, &form.clauses, options) {
             Ok(proved) => Ok(Proved {

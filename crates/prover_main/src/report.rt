@@ -42,7 +42,7 @@ fn push_output(page: &mut Page, place: &[u8], form: &[u8], file: &str) -> Mem<()
     push_for(page, file)
 }
 
-/// Adds how many inferences were counted.
+/// Adds how many entries were counted, of how many.
 fn push_spent(page: &mut Page, count: u64, allowed: u32) -> Mem<()>
     ensures { IfOk result (λ _. page.new ≡ page.old ++ spent_line count allowed) }
 {

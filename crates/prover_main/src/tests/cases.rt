@@ -58,6 +58,17 @@ const ONE_UNIT_SATURATED: &[u8] = b"% SZS status Satisfiable for r1\n\
 cnf(s0,plain,p).\n\
 % SZS output end Saturation for r1\n";
 
+/// A quantifier that ends before the arrow.
+const NARROW: &[u8] = b"fof(a,axiom,! [X] : p(X) => q).";
+
+const NARROW_SATURATED: &[u8] = b"% SZS status Satisfiable for r12\n\
+% SZS output start Saturation for r12\n\
+cnf(s0,plain,~p(sk0) | q).\n\
+% SZS output end Saturation for r12\n";
+
+/// A conjecture whose negation has one clause, which its Skolem constant makes empty.
+const EQUAL_TO_SOME: &[u8] = b"fof(g,conjecture,! [X] : ? [Y] : X = Y).";
+
 pub(crate) const CASES: &[Case] = &[
     // What ends with a saturated set.
     Case {
@@ -86,13 +97,16 @@ cnf(s1,plain,b = c).\n\
 % SZS output end Saturation for r9\n",
     },
     Case {
-        words: &["prove", "--select=none", "r12.p"],
-        files: &[("r12.p", b"fof(a,axiom,! [X] : p(X) => q).")],
+        words: &["prove", "r12.p"],
+        files: &[("r12.p", NARROW)],
         status: 1,
-        report: b"% SZS status Satisfiable for r12\n\
-% SZS output start Saturation for r12\n\
-cnf(s0,plain,~p(sk0) | q).\n\
-% SZS output end Saturation for r12\n",
+        report: NARROW_SATURATED,
+    },
+    Case {
+        words: &["prove", "--select=none", "r12.p"],
+        files: &[("r12.p", NARROW)],
+        status: 1,
+        report: NARROW_SATURATED,
     },
     Case {
         words: &["prove", "--select=negative", "r12.p"],
@@ -226,6 +240,19 @@ cnf(c0,axiom,$false,file('dir/r3.p',a)).\n\
 cnf(c1,plain,$false,inference(clausify,[status(esa),index(0)],[c0])).\n\
 % SZS output end CNFRefutation for r3\n",
     },
+    // A refutation of one step, by a term for a variable.
+    Case {
+        words: &["prove", "r6.p"],
+        files: &[("r6.p", EQUAL_TO_SOME)],
+        status: 0,
+        report: b"% SZS status Theorem for r6\n\
+% SZS output start CNFRefutation for r6\n\
+fof(c0,conjecture,! [X] : ? [Y] : X = Y,file('r6.p',g)).\n\
+fof(c1,negated_conjecture,~(! [X] : ? [Y] : X = Y),inference(negate,[status(cth)],[c0])).\n\
+cnf(c2,plain,sk0 != X0,inference(clausify,[status(esa),index(0)],[c1])).\n\
+cnf(c3,plain,$false,inference(refl,[status(thm),lit(0),bind([sk0])],[c2])).\n\
+% SZS output end CNFRefutation for r6\n",
+    },
     // Derivations.
     Case {
         words: &["check", "r1.p", "d"],
@@ -280,7 +307,7 @@ pub(crate) const REFUTED: &[Refuted] = &[
     },
     Refuted {
         words: &["b.p"],
-        files: &[("b.p", b"fof(g,conjecture,! [X] : ? [Y] : X = Y).")],
+        files: &[("b.p", EQUAL_TO_SOME)],
         word: "Theorem",
     },
     Refuted {
@@ -371,6 +398,23 @@ pub(crate) struct Limit {
 
 /// 500 levels, and over 4,000 symbols of a clause, `p`, `c` and `$true` among them.
 pub(crate) const LIMITS: &[Limit] = &[
+    Limit {
+        pieces: &[
+            (b"cnf(a,axiom,", 1),
+            (b"(", 500),
+            (b"p", 1),
+            (b")", 500),
+            (b").", 1),
+        ],
+        status: 1,
+        report: &[(
+            b"% SZS status Satisfiable for d\n\
+% SZS output start Saturation for d\n\
+cnf(s0,plain,p).\n\
+% SZS output end Saturation for d\n",
+            1,
+        )],
+    },
     Limit {
         pieces: &[(b"cnf(a,axiom,", 1), (b"(", 501)],
         status: 3,
