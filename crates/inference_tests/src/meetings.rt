@@ -23,7 +23,8 @@ fn learn(rt: &impl Abort, bank: &Bank, set: &mut Partners, member: &Member)
     ensures { AreOfBank bank.now set.new }
 {
     assert!(rt; set.premise(member.number).is_none());
-    set.insert(bank, member, member.number).expect(rt, "memory");
+    set.insert(bank, member, member.number as usize)
+        .expect(rt, "memory");
 }
 
 /// How many superpositions a clause has with the members of a set, found by its index.
@@ -31,14 +32,14 @@ fn met(rt: &impl Abort, alloc: Global, bank: &Bank, set: &Partners, given: &Memb
     requires given { IsMemberOf bank.now given.now }
     requires set { AreOfBank bank.now set.now }
 {
-    assert!(rt; set.partner(given.number, u32::MAX).is_none());
+    assert!(rt; set.partner(given.number, usize::MAX).is_none());
     let sites = Sites::of_member(alloc, bank, given, set.mode()).expect(rt, "memory");
     let premise = Premise {
         member: given,
         sites: &sites,
     };
     let mut found = Vec::new(alloc);
-    set.superpositions(alloc, bank, &premise, u32::MAX, &mut found)
+    set.superpositions(alloc, bank, &premise, usize::MAX, &mut found)
         .expect(rt, "memory");
     found.len()
 }
@@ -77,8 +78,8 @@ fn forget(rt: &impl Abort, bank: &Bank, set: &mut Partners, members: &[Member])
     ensures { AreOfBank bank.now set.new }
 {
     for one in members {
-        assert!(rt; set.remove(bank, one.number));
-        assert!(rt; !set.remove(bank, one.number));
+        assert!(rt; set.remove(bank, one.number) == Some(one.number as usize));
+        assert!(rt; set.remove(bank, one.number).is_none());
     }
 }
 
