@@ -1,6 +1,7 @@
 // Clauses of 25 symbols that no unit rewrites, among 1,000 units: a search for a redex and a whole normal form, over the tree of the units' sides,
-// and beside them a plain scan of the units at each subterm. It tells the time of a clause, the best of so many rounds. As a crate it needs the
-// invariant of the loop in `make_units`: the table is of the bank, and so are the units.
+// and beside them a plain scan of the units at each subterm. It tells the time of a clause: the clauses are timed in short batches, and of each
+// batch the best of so many rounds counts, since other processes interrupt the rest. With a word on its command line it leaves out the scan.
+// As a crate it needs the invariant of the loop in `make_units`: the table is of the bank, and so are the units.
 #![tactic(auto)]
 
 ghost use Rattle.std.specs.Prelude.{IfOk};
@@ -19,6 +20,7 @@ use rewriting::{Rewriters, Units, is_unit};
 use sample_numbers::Random;
 use sample_terms::random_term;
 use std::alloc::Global;
+use std::env;
 use std::process::ExitCode;
 use std::sync::Wait;
 use std::time::Instant;
@@ -27,9 +29,32 @@ use unifier::{Matched, match_onto};
 
 const UNITS: u32 = 1_000;
 
-const CLAUSES: u64 = 20_000;
+/// So many random clauses are made, at most.
+const TRIED: u64 = 50_000;
 
-const ROUNDS: u32 = 20;
+/// So many that no unit rewrites are taken, at most.
+const CLAUSES: usize = 1_000;
+
+/// So many clauses are timed together.
+const BATCH: usize = 25;
+
+const ROUNDS: u32 = 50;
+
+/// So many clauses are looked up by the plain scan, each a batch of its own.
+const SCANNED: usize = 100;
+
+const SCAN_ROUNDS: u32 = 5;
+
+/// More nanoseconds than a batch takes.
+const LONGEST: u64 = 1_000_000_000_000;
+
+/// What is timed.
+#[derive(Clone, Copy)]
+enum Way {
+    Search,
+    NormalForm,
+    PlainScan,
+}
 
 /// The clause of an equation, or of a disequation, of so many symbols on each side, canonical.
 fn random_clause(
@@ -51,6 +76,11 @@ fn random_clause(
     };
     let (clause, _) = canonical(alloc, &clause)?;
     Ok(clause)
+}
+
+fn random_unit(alloc: Global, random: &mut Random) -> Mem<Clause> {
+    let size = 9 + random.below(7);
+    random_clause(alloc, random, true, size, 3)
 }
 
 /// Adds the clause to the units, under a number, if it can be one.
@@ -79,13 +109,24 @@ fn add_unit<R: Wait>(
     units.insert(bank, &Member { number, clause })
 }
 
-/// Units of 9 to 15 symbols on the left side and three on the right one, and the list of their clauses.
+/// Whether the left side of a clause's first equation is greater than the right one.
+fn falls(clause: &Clause) -> bool {
+    match clause.literals.as_slice().first() {
+        Some(equation) => greater_under(&equation.left, &Unbound, &equation.right, &Unbound),
+        None => false,
+    }
+}
+
+/// Units of 9 to 15 symbols on the left side and three on the right one, and the list of their clauses. Where only those are wanted whose
+/// left side is the greater one, the others are made again; else some rewrite from their right side, as `f(X0, X1) = t` does for a large
+/// ground term `t`.
 fn make_units<R: Wait>(
     rt: &R,
     alloc: Global,
     bank: &Bank,
     table: &mut Table,
     random: &mut Random,
+    only_falling: bool,
     scanned: &mut Vec<Clause>,
 ) -> Mem<Units>
     requires { IsTableOf bank.now table.old }
@@ -93,16 +134,18 @@ fn make_units<R: Wait>(
 {
     let mut units = Units::new(alloc)?;
     for number in 0..UNITS {
-        let size = 9 + random.below(7);
-        let clause = random_clause(alloc, random, true, size, 3)?;
+        let mut clause = random_unit(alloc, random)?;
+        while only_falling && !falls(&clause) {
+            clause = random_unit(alloc, random)?;
+        }
         add_unit(rt, alloc, bank, table, &mut units, number, &clause)?;
         scanned.push(clause)?;
     }
     Ok(units)
 }
 
-/// Whether the left side of some equation matches a term and the right side is smaller, by a scan. The left sides are so much larger than
-/// the right ones that no equation rewrites from right to left.
+/// Whether the left side of some equation matches a term and the right side is smaller, by a scan. The left sides are the greater ones, so
+/// no equation rewrites from right to left.
 fn scan_at(alloc: Global, clauses: &[Clause], term: &Term) -> Mem<bool> {
     let size = term.size();
     for clause in clauses {
@@ -173,9 +216,9 @@ fn normal_clauses(
     requires { AreClausesOf bank.now units.now }
 {
     let mut clauses = Vec::new(alloc);
-    for _ in 0..CLAUSES {
+    for _ in 0..TRIED {
         let clause = random_clause(alloc, random, false, 13, 12)?;
-        if !has_redex(alloc, bank, units, &clause)? {
+        if clauses.len() < CLAUSES && !has_redex(alloc, bank, units, &clause)? {
             clauses.push(clause)?;
         }
     }
@@ -216,22 +259,46 @@ fn scan_all(alloc: Global, units: &[Clause], clauses: &[Clause]) -> Mem<u64> {
     Ok(found)
 }
 
-/// Prints the least time of a clause, in nanoseconds, and what was found.
-fn tell(rt: &HostRuntime, what: &str, best: u64, clauses: usize, found: u64) {
-    let each = best / (clauses as u64).max(1);
-    let _ = println!(rt; "{what}: {clauses} clauses, {found} found, {each} ns each");
+/// How many redexes, or lines, the clauses have, by a way.
+fn find_all(
+    way: Way,
+    alloc: Global,
+    bank: &Bank,
+    units: &Units,
+    scanned: &[Clause],
+    clauses: &[Clause],
+) -> Mem<u64>
+    requires { AreClausesOf bank.now units.now }
+{
+    match way {
+        Way::Search => search_all(alloc, bank, units, clauses),
+        Way::NormalForm => reduce_all(alloc, bank, units, clauses),
+        Way::PlainScan => scan_all(alloc, scanned, clauses),
+    }
 }
 
 /// The nanoseconds since then.
 fn passed(rt: &HostRuntime, start: &Instant) -> u64 {
     match start.elapsed(rt) {
-        Ok(time) => u64::try_from(time.as_nanos()).unwrap_or(1_000_000_000_000),
-        Err(_) => 1_000_000_000_000,
+        Ok(time) => u64::try_from(time.as_nanos()).unwrap_or(LONGEST),
+        Err(_) => LONGEST,
     }
 }
 
+/// Prints the nanoseconds of a clause, each batch at its best, and what was found.
+fn tell(rt: &HostRuntime, what: &str, least: &[u64], batch: usize, found: u64) {
+    let clauses = (least.len() * batch) as u64;
+    let each = least.iter().sum::<u64>() / clauses.max(1);
+    let _ = println!(rt; "{what}: {clauses} clauses, {found} found, {each} ns each");
+}
+
+/// Times a way in batches of so many clauses, in so many rounds.
 fn timed(
     rt: &HostRuntime,
+    what: &str,
+    way: Way,
+    batch: usize,
+    rounds: u32,
     bank: &Bank,
     units: &Units,
     scanned: &[Clause],
@@ -239,32 +306,33 @@ fn timed(
 ) -> Mem<()>
     requires { AreClausesOf bank.now units.now }
 {
-    let alloc = rt.alloc();
-    let mut search = 1_000_000_000_000u64;
-    let mut reduce = 1_000_000_000_000u64;
+    let mut least = Vec::new(rt.alloc());
+    least.resize(clauses.len() / batch, LONGEST)?;
     let mut found = 0;
-    let mut lines = 0;
-    for _ in 0..ROUNDS {
-        if let Ok(start) = Instant::now(rt) {
-            found = search_all(alloc, bank, units, clauses)?;
-            search = search.min(passed(rt, &start));
-        }
-        if let Ok(start) = Instant::now(rt) {
-            lines = reduce_all(alloc, bank, units, clauses)?;
-            reduce = reduce.min(passed(rt, &start));
+    for _ in 0..rounds {
+        found = 0;
+        for at in 0..least.len() {
+            let part = &clauses[at * batch..(at + 1) * batch];
+            if let Ok(start) = Instant::now(rt) {
+                found += find_all(way, rt.alloc(), bank, units, scanned, part)?;
+                least[at] = least[at].min(passed(rt, &start));
+            }
         }
     }
-    tell(rt, "search", search, clauses.len(), found);
-    tell(rt, "normal form", reduce, clauses.len(), lines);
-    if let Ok(start) = Instant::now(rt) {
-        let plain = scan_all(alloc, scanned, clauses)?;
-        let time = passed(rt, &start);
-        tell(rt, "plain scan", time, clauses.len(), plain);
-    }
+    tell(rt, what, least.as_slice(), batch, found);
     Ok(())
 }
 
-fn run<R: Wait>(wait: &R, rt: &HostRuntime) -> Mem<()> {
+/// Whether there is a word on the command line.
+fn has_word(rt: &HostRuntime) -> bool {
+    match env::args(rt) {
+        Ok(words) => words.len() > 1,
+        Err(_) => false,
+    }
+}
+
+/// Times the clauses that none of 1,000 units rewrites.
+fn run<R: Wait>(wait: &R, rt: &HostRuntime, only_falling: bool) -> Mem<()> {
     let alloc = rt.alloc();
     let (bank, mut table) = Bank::new(alloc)?;
     let mut random = Random::new(1);
@@ -275,20 +343,71 @@ fn run<R: Wait>(wait: &R, rt: &HostRuntime) -> Mem<()> {
         &bank,
         &mut table,
         &mut random,
+        only_falling,
         &mut scanned,
     )?;
     let clauses = normal_clauses(alloc, &bank, &units, &mut random)?;
+    let (scanned, clauses) = (scanned.as_slice(), clauses.as_slice());
     timed(
         rt,
+        "search",
+        Way::Search,
+        BATCH,
+        ROUNDS,
         &bank,
         &units,
-        scanned.as_slice(),
-        clauses.as_slice(),
+        scanned,
+        clauses,
+    )?;
+    timed(
+        rt,
+        "normal form",
+        Way::NormalForm,
+        BATCH,
+        ROUNDS,
+        &bank,
+        &units,
+        scanned,
+        clauses,
+    )?;
+    if has_word(rt) || !only_falling {
+        return Ok(());
+    }
+    let some = &clauses[..SCANNED.min(clauses.len())];
+    timed(
+        rt,
+        "search of these",
+        Way::Search,
+        1,
+        ROUNDS,
+        &bank,
+        &units,
+        scanned,
+        some,
+    )?;
+    timed(
+        rt,
+        "plain scan",
+        Way::PlainScan,
+        1,
+        SCAN_ROUNDS,
+        &bank,
+        &units,
+        scanned,
+        some,
     )
 }
 
+/// Times both kinds of units.
+fn run_both<R: Wait>(wait: &R, rt: &HostRuntime) -> Mem<()> {
+    let _ = println!(rt; "units whose left side is the greater one");
+    run(wait, rt, true)?;
+    let _ = println!(rt; "units as they come");
+    run(wait, rt, false)
+}
+
 fn main(rt: HostRuntime) -> ExitCode {
-    match run(&rt, &rt) {
+    match run_both(&rt, &rt) {
         Ok(()) => ExitCode::SUCCESS,
         Err(_) => ExitCode::from(7),
     }

@@ -1,7 +1,8 @@
-// Superpositions between random clauses of three literals, from sites whose terms unify, as an index of sites hands them out. It tells the
-// time of a candidate that gives a conclusion, and of one that the order refuses, the best of so many rounds. As a crate it needs, in
-// specs/Samples.antt, the record IsSampleOf of a bank and a sample (the member is of the bank, the sites are those of its clause, their mode
-// is Nothing), and the invariant of the loop in `samples` that the table is of the bank and all that was made are such samples.
+// Superpositions between random clauses of three literals, from pairs of sites that an index of sites hands out: those whose terms agree but for
+// what variables stand for. It tells the time of a candidate that gives a conclusion, of one that the order refuses, and of one whose terms don't
+// unify: the candidates are timed in short batches, and of each batch the best of so many rounds counts, since other processes interrupt the rest.
+// As a crate it needs, in specs/Samples.antt, the record IsSampleOf of a bank and a sample (the member is of the bank, the sites are those of its
+// clause, their mode is Nothing), and the invariant of the loop in `samples` that the table is of the bank and all that was made are such samples.
 #![tactic(auto)]
 
 ghost use Rattle.std.specs.Prelude.{IfOk, IfSome};
@@ -13,6 +14,7 @@ ghost use Rattle.superpose.specs.Sites.{AreSitesOf};
 ghost use Rattle.superpose_speed.specs.Samples.{IsSampleOf};
 
 use bank_clause::{BankClause, Member};
+use disc_tree::is_compatible;
 use eq_rules::Made;
 use fol_base::{
     Clause, LendsLiterals, Literal, Literals, SIZE_LIMIT, Term, at, canonical, is_canonical,
@@ -33,7 +35,13 @@ const CLAUSES: u64 = 300;
 
 const CANDIDATES: usize = 10_000;
 
+/// So many candidates are timed together.
+const BATCH: usize = 100;
+
 const ROUNDS: u32 = 20;
+
+/// More nanoseconds than a batch takes.
+const LONGEST: u64 = 1_000_000_000_000;
 
 #[derive(Drop)]
 pub struct Sample {
@@ -135,27 +143,35 @@ fn samples<R: Wait>(rt: &R, alloc: Global, bank: &Bank, table: &mut Table) -> Me
     Ok(made)
 }
 
-/// Whether the terms of two sites unify.
-fn unifies(
+/// What the terms of two sites are to each other.
+#[derive(Clone, Copy, PartialEq, Eq)]
+enum Fit {
+    Unify,
+    /// They agree but for what variables stand for, so that an index hands them out; but they don't unify.
+    Agree,
+    Clash,
+}
+
+fn fit_of(
     alloc: Global,
     bank: &Bank,
     first: &Sample,
     from: usize,
     second: &Sample,
     into: usize,
-) -> Mem<bool>
+) -> Mem<Fit>
     requires first { IsSampleOf bank.now first.now }
     requires second { IsSampleOf bank.now second.now }
 {
     if from >= first.sites.from.len() || into >= second.sites.into.len() {
-        return Ok(false);
+        return Ok(Fit::Clash);
     }
     let start = first.sites.from[from];
     let target = &second.sites.into[into];
     let first_literals = first.member.clause.lend(bank);
     let second_literals = second.member.clause.lend(bank);
     if start.literal >= first_literals.count() || target.at.literal >= second_literals.count() {
-        return Ok(false);
+        return Ok(Fit::Clash);
     }
     let host = second_literals
         .literal(target.at.literal)
@@ -163,9 +179,16 @@ fn unifies(
     match at(host, &target.place) {
         Some(old) => {
             let side = first_literals.literal(start.literal).side(start.side);
-            Ok(unify(alloc, side, old, true)?.is_some())
+            if unify(alloc, side, old, true)?.is_some() {
+                return Ok(Fit::Unify);
+            }
+            if is_compatible(side, old, true, true) {
+                Ok(Fit::Agree)
+            } else {
+                Ok(Fit::Clash)
+            }
         }
-        None => Ok(false),
+        None => Ok(Fit::Clash),
     }
 }
 
@@ -198,6 +221,14 @@ fn tried(
     }
 }
 
+/// The candidates, by what becomes of them.
+#[derive(Drop)]
+struct Candidates {
+    concluded: Vec<Candidate>,
+    refused: Vec<Candidate>,
+    not_unified: Vec<Candidate>,
+}
+
 /// Adds the candidates between two clauses, one way.
 fn push_candidates(
     alloc: Global,
@@ -205,8 +236,7 @@ fn push_candidates(
     samples: &[Sample],
     first: usize,
     second: usize,
-    concluded: &mut Vec<Candidate>,
-    refused: &mut Vec<Candidate>,
+    found: &mut Candidates,
 ) -> Mem<()>
     requires { All (IsSampleOf bank.now) samples.now }
 {
@@ -221,11 +251,16 @@ fn push_candidates(
                 second,
                 into,
             };
-            if unifies(alloc, bank, &samples[first], from, &samples[second], into)? {
-                if tried(alloc, bank, &samples[first], from, &samples[second], into)? == 0 {
-                    refused.push(candidate)?;
-                } else {
-                    concluded.push(candidate)?;
+            let (one, other) = (&samples[first], &samples[second]);
+            match fit_of(alloc, bank, one, from, other, into)? {
+                Fit::Clash => {}
+                Fit::Agree => found.not_unified.push(candidate)?,
+                Fit::Unify => {
+                    if tried(alloc, bank, one, from, other, into)? == 0 {
+                        found.refused.push(candidate)?;
+                    } else {
+                        found.concluded.push(candidate)?;
+                    }
                 }
             }
         }
@@ -257,7 +292,22 @@ fn try_all(alloc: Global, bank: &Bank, samples: &[Sample], candidates: &[Candida
     Ok(found)
 }
 
-/// The nanoseconds of a candidate, in the best round.
+/// The nanoseconds since then.
+fn passed(rt: &HostRuntime, start: &Instant) -> u64 {
+    match start.elapsed(rt) {
+        Ok(time) => u64::try_from(time.as_nanos()).unwrap_or(LONGEST),
+        Err(_) => LONGEST,
+    }
+}
+
+/// Prints the nanoseconds of a candidate, each batch at its best, and what was found.
+fn tell(rt: &HostRuntime, what: &str, least: &[u64], found: u64) {
+    let count = (least.len() * BATCH) as u64;
+    let each = least.iter().sum::<u64>() / count.max(1);
+    let _ = println!(rt; "{what}: {count} candidates, {found} inferences, {each} ns each");
+}
+
+/// Times candidates in batches.
 fn timed(
     rt: &HostRuntime,
     bank: &Bank,
@@ -267,19 +317,20 @@ fn timed(
 ) -> Mem<()>
     requires { All (IsSampleOf bank.now) samples.now }
 {
-    let mut best: u64 = 1_000_000_000;
+    let mut least = Vec::new(rt.alloc());
+    least.resize(candidates.len() / BATCH, LONGEST)?;
     let mut found = 0;
     for _ in 0..ROUNDS {
-        if let Ok(start) = Instant::now(rt) {
-            found = try_all(rt.alloc(), bank, samples, candidates)?;
-            if let Ok(time) = start.elapsed(rt) {
-                best = best.min(u64::try_from(time.as_micros()).unwrap_or(best));
+        found = 0;
+        for at in 0..least.len() {
+            let part = &candidates[at * BATCH..(at + 1) * BATCH];
+            if let Ok(start) = Instant::now(rt) {
+                found += try_all(rt.alloc(), bank, samples, part)?;
+                least[at] = least[at].min(passed(rt, &start));
             }
         }
     }
-    let count = (candidates.len() as u64).max(1);
-    let each = best.saturating_mul(1000) / count;
-    let _ = println!(rt; "{what}: {count} candidates, {found} inferences, {each} ns each");
+    tell(rt, what, least.as_slice(), found);
     Ok(())
 }
 
@@ -288,25 +339,33 @@ fn run(rt: &HostRuntime, bank: &Bank, samples: &[Sample]) -> Mem<()>
     requires { All (IsSampleOf bank.now) samples.now }
 {
     let alloc = rt.alloc();
-    let mut concluded = Vec::new(alloc);
-    let mut refused = Vec::new(alloc);
+    let mut found = Candidates {
+        concluded: Vec::new(alloc),
+        refused: Vec::new(alloc),
+        not_unified: Vec::new(alloc),
+    };
     for first in 0..samples.len() {
         for second in 0..samples.len() {
-            if concluded.len() < CANDIDATES {
-                push_candidates(
-                    alloc,
-                    bank,
-                    samples,
-                    first,
-                    second,
-                    &mut concluded,
-                    &mut refused,
-                )?;
+            if found.concluded.len() < CANDIDATES {
+                push_candidates(alloc, bank, samples, first, second, &mut found)?;
             }
         }
     }
-    timed(rt, bank, samples, concluded.as_slice(), "concluded")?;
-    timed(rt, bank, samples, refused.as_slice(), "refused")
+    timed(rt, bank, samples, found.concluded.as_slice(), "concluded")?;
+    timed(
+        rt,
+        bank,
+        samples,
+        found.refused.as_slice(),
+        "refused by the order",
+    )?;
+    timed(
+        rt,
+        bank,
+        samples,
+        found.not_unified.as_slice(),
+        "not unified",
+    )
 }
 
 fn main(rt: HostRuntime) -> ExitCode {

@@ -1,5 +1,6 @@
 -- Examples of what the definitions say.
 use Rattle.std.proofs.Common.{◌≡◌, ℕ, ◌+◌, true, false, [], ◌∷◌, refl}
+use Rattle.fol_base.specs.Examples.{a, b, equation, f, x}
 use Rattle.fol_base.specs.declared.clause.Side.TheVariants.{Left, Right}
 use Rattle.kernel_steps.specs.declared.key.Key.TheVariants.{Para, Refl}
 use Rattle.kernel_steps.specs.declared.step.TheConstants.{CLAUSE_NUMBERS}
@@ -9,7 +10,7 @@ use Rattle.pool_core.specs.declared.ticket.Change.TheVariants.{Activated, Died}
 use Rattle.given_work.specs.Going.{number_beside}
 use Rattle.given_work.specs.Learning.{learned}
 use Rattle.given_work.specs.Meeting.{is_met}
-use Rattle.given_work.specs.Removing.{may_go}
+use Rattle.given_work.specs.Occurring.{numbers_by_unit}
 
 -- ---- what changes do
 
@@ -45,13 +46,10 @@ victim-parent = refl
 line-parent : number_beside 7 (CLAUSE_NUMBERS + 1) ≡ CLAUSE_NUMBERS
 line-parent = refl
 
--- ---- which clauses a given one may simplify
+-- ---- the clauses that a unit asks for
 
-not-itself : may_go 1 true [] 1 ≡ false
-not-itself = refl
+instance-asked : numbers_by_unit ((f b, 3) ∷ (a, 4) ∷ []) (equation (f (x 0)) a ∷ []) ≡ 3 ∷ []
+instance-asked = refl
 
-by-a-unit : may_go 1 true [] 3 ≡ true
-by-a-unit = refl
-
-listed : may_go 1 false (3 ∷ []) 3 ≡ true
-listed = refl
+by-two-literals : numbers_by_unit ((f a, 3) ∷ []) (equation (f (x 0)) b ∷ equation a b ∷ []) ≡ []
+by-two-literals = refl

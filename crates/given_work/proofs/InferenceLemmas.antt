@@ -1,8 +1,7 @@
 -- Lists of inferences, looked up among more clauses, and joined.
 use Rattle.std.proofs.Common.{◌≡◌, ◌⊎◌, ℕ, zero, suc, ◌+◌, ◌==◌, Bool, true, false, Option, Some, None, List, [], ◌∷◌, ◌++◌, length, refl, ap, sym, ◌∙◌, inl, inr, ⊎_elim, arith}
 use Rattle.std.specs.Prelude.{slice_get, Contains, option_map, ◌||◌}
-use Rattle.std.specs.List.{list_any}
-use Rattle.std.proofs.lemmas.Bool.{cond-true, true≢false, or_cases, or_left, or_right, eqb-true, eq-eqb, and_parts}
+use Rattle.std.proofs.lemmas.Bool.{cond-true, true≢false, or_cases, or_left, or_right, eqb-true, eq-eqb}
 use Rattle.std.proofs.lemmas.List.Elements.{All-append, All-contains, All-weaker, Contains-append_left, Contains-append_right}
 use Rattle.std.proofs.lemmas.Option.{none-some, same_Some, slice_get_within, get_or_from_slice_get}
 use Rattle.fol_base.specs.Clause.{TreeClause}
@@ -24,7 +23,7 @@ use Rattle.eq_rules.specs.declared.inference.Made.{Made}
 use Rattle.eq_rules.specs.declared.inference.Made.TheVariants.{Conclusion, Heavy}
 use Rattle.reduction.proofs.VerdictLemmas.{conclusion-onward}
 use Rattle.superpose.specs.Pairing.{is_from_into}
-use Rattle.given_work.specs.Meeting.{is_alone, is_factoring_of, is_met, is_pair, is_resolution_of}
+use Rattle.given_work.specs.Meeting.{is_alone, is_factoring_of, is_resolution_of}
 
 abbrev Lookup : Type 0
 Lookup = ℕ → Option TreeClause
@@ -213,11 +212,7 @@ module _ (p : ℕ → Bool) (mode : SelectionMode) (clauses : Lookup) (P Q R : K
       passed : (T : Key → Bool) (zs : List Inference) → AreInferences p mode clauses T zs → (i : ℕ) (e : Inference) → slice_get zs i ≡ Some e → T e.key ≡ true
       passed T zs are i e at = (All-contains (Fact T) zs e are.made (Contains-at zs i e at)).0
 
--- ---- the inferences of a clause, as they grow
-
-or_false : (a b : Bool) → (a || b) ≡ false → (a ≡ false) × (b ≡ false)
-or_false true b h = absurd (true≢false h)
-or_false false b h = (refl, h)
+-- ---- the inferences of a clause by itself
 
 not-resolution : (g n m : ℕ) (k : Key) → is_from_into n m k ≡ true → (is_resolution_of g k || is_factoring_of g k) ≡ true → ⊥
 not-resolution g n m (Para first from from_side second into into_side place) h k = true≢false (sym k)
@@ -230,16 +225,6 @@ not-both g (Refl clause literal) h k = true≢false (sym k)
 not-both g (Para first from from_side second into into_side place) h k = true≢false (sym h)
 not-both g (Factor clause becomes becomes_side other other_side) h k = true≢false (sym h)
 not-both g (Replaced clause) h k = true≢false (sym h)
-
--- the two clauses of a superposition
-numbers-same : (a b c d : ℕ) (k : Key) → is_from_into a b k ≡ true → is_from_into c d k ≡ true → (a ≡ c) × (b ≡ d)
-numbers-same a b c d (Para first from from_side second into into_side place) h k =
-    let one = and_parts (first == a) (second == b) h in
-    let two = and_parts (first == c) (second == d) k in
-    (sym (eqb-true first a one.0) ∙ eqb-true first c two.0, sym (eqb-true second b one.1) ∙ eqb-true second d two.1)
-numbers-same a b c d (Refl clause literal) h k = absurd (true≢false (sym h))
-numbers-same a b c d (Factor clause becomes becomes_side other other_side) h k = absurd (true≢false (sym h))
-numbers-same a b c d (Replaced clause) h k = absurd (true≢false (sym h))
 
 module _ (p : ℕ → Bool) (mode : SelectionMode) (clauses : Lookup) (g : ℕ) where
   -- equality resolutions, equality factorings, superpositions into itself
@@ -258,97 +243,3 @@ module _ (p : ℕ → Bool) (mode : SelectionMode) (clauses : Lookup) (g : ℕ) 
       (λ k h. or_right (is_resolution_of g k || is_factoring_of g k) (is_from_into g g k) h)
       (λ k h. or_cases (is_resolution_of g k || is_factoring_of g k) (is_from_into g g k) h)
       (λ k h into. not-resolution g g g k into h)
-
-  -- a number of which a superposition is met is one of them
-  met-number : (ns : List ℕ) (n : ℕ) (k : Key) → (n ≡ g → ⊥) → list_any (λ m. m == n) ns ≡ false → is_pair g n k ≡ true → is_met g ns k ≡ true → ⊥
-  met-number ns n k other new pair met =
-      ⊎_elim
-      (λ by_itself.
-      ⊎_elim
-      (λ one. ⊎_elim (λ forth. not-resolution g g n k forth one) (λ back. not-resolution g n g k back one) (or_cases (is_from_into g n k) (is_from_into n g k) pair))
-      (λ within.
-      ⊎_elim (λ forth. other (numbers-same g n g g k forth within).1) (λ back. other (numbers-same n g g g k back within).0)
-      (or_cases (is_from_into g n k) (is_from_into n g k) pair))
-      (or_cases (is_resolution_of g k || is_factoring_of g k) (is_from_into g g k) by_itself))
-      (λ with_one. later ns new with_one)
-      (or_cases (is_alone g k) (list_any (λ m. is_pair g m k) ns) met)
-    where
-      same-pair : (m : ℕ) → is_pair g m k ≡ true → m ≡ n
-      same-pair m h =
-          ⊎_elim
-          (λ forth.
-          ⊎_elim
-          (λ also. (numbers-same g m g n k forth also).1)
-          (λ back. let both = numbers-same g m n g k forth back in absurd (other (sym both.0)))
-          (or_cases (is_from_into g n k) (is_from_into n g k) pair))
-          (λ back.
-          ⊎_elim
-          (λ forth. let both = numbers-same m g g n k back forth in absurd (other (sym both.1)))
-          (λ also. (numbers-same m g n g k back also).0)
-          (or_cases (is_from_into g n k) (is_from_into n g k) pair))
-          (or_cases (is_from_into g m k) (is_from_into m g k) h)
-
-      later : (ms : List ℕ) → list_any (λ m. m == n) ms ≡ false → list_any (λ m. is_pair g m k) ms ≡ true → ⊥
-      later [] none h = true≢false (sym h)
-      later (m ∷ ms) none h =
-          let parts = or_false (m == n) (list_any (λ m. m == n) ms) none in
-          ⊎_elim
-          (λ here. true≢false (sym (eq-eqb m n (same-pair m here)) ∙ parts.0))
-          (λ rest. later ms parts.1 rest)
-          (or_cases (is_pair g m k) (list_any (λ m. is_pair g m k) ms) h)
-
-  -- one partner more
-  pub partner-joined :
-      (ns : List ℕ) (n : ℕ) (before forth back : List Inference)
-      → (n ≡ g → ⊥) → list_any (λ m. m == n) ns ≡ false
-      → AreInferences p mode clauses (is_met g ns) before
-      → AreInferences p mode clauses (is_from_into g n) forth → AreInferences p mode clauses (is_from_into n g) back
-      → AreInferences p mode clauses (is_met g (ns ++ n ∷ [])) ((before ++ forth) ++ back)
-  partner-joined ns n before forth back other new were one two =
-      inferences-joined p mode clauses (λ k. is_met g ns k || is_from_into g n k) (is_from_into n g) (is_met g (ns ++ n ∷ [])) (before ++ forth) back
-      (inferences-joined p mode clauses (is_met g ns) (is_from_into g n) (λ k. is_met g ns k || is_from_into g n k) before forth were one
-      (λ k h. or_left (is_met g ns k) (is_from_into g n k) h) (λ k h. or_right (is_met g ns k) (is_from_into g n k) h)
-      (λ k h. or_cases (is_met g ns k) (is_from_into g n k) h)
-      (λ k met forth. met-number ns n k other new (or_left (is_from_into g n k) (is_from_into n g k) forth) met))
-      two
-      (λ k h.
-      ⊎_elim (λ met. more k (inl met)) (λ forth. more k (inr (or_left (is_from_into g n k) (is_from_into n g k) forth)))
-      (or_cases (is_met g ns k) (is_from_into g n k) h))
-      (λ k h. more k (inr (or_right (is_from_into g n k) (is_from_into n g k) h)))
-      (λ k h.
-      ⊎_elim
-      (λ met. inl (or_left (is_met g ns k) (is_from_into g n k) met))
-      (λ pair.
-      ⊎_elim (λ forth. inl (or_right (is_met g ns k) (is_from_into g n k) forth)) (λ back. inr back)
-      (or_cases (is_from_into g n k) (is_from_into n g k) pair))
-      (less k h))
-      (λ k h back.
-      ⊎_elim
-      (λ met. met-number ns n k other new (or_right (is_from_into g n k) (is_from_into n g k) back) met)
-      (λ forth. other (numbers-same n g g n k back forth).0)
-      (or_cases (is_met g ns k) (is_from_into g n k) h))
-    where
-      any-push : (k : Key) (ms : List ℕ) → list_any (λ m. is_pair g m k) (ms ++ n ∷ []) ≡ (list_any (λ m. is_pair g m k) ms || is_pair g n k)
-      any-push k [] = or-false (is_pair g n k)
-        where
-          or-false : (b : Bool) → (b || false) ≡ b
-          or-false true = refl
-          or-false false = refl
-      any-push k (m ∷ ms) = ap (λ b. is_pair g m k || b) (any-push k ms) ∙ sym (or-assoc (is_pair g m k) (list_any (λ m. is_pair g m k) ms) (is_pair g n k))
-        where
-          or-assoc : (a b c : Bool) → ((a || b) || c) ≡ (a || (b || c))
-          or-assoc true b c = refl
-          or-assoc false b c = refl
-
-      or-assoc3 : (a b c : Bool) → ((a || b) || c) ≡ (a || (b || c))
-      or-assoc3 true b c = refl
-      or-assoc3 false b c = refl
-
-      is-more : (k : Key) → is_met g (ns ++ n ∷ []) k ≡ (is_met g ns k || is_pair g n k)
-      is-more k = ap (λ b. is_alone g k || b) (any-push k ns) ∙ sym (or-assoc3 (is_alone g k) (list_any (λ m. is_pair g m k) ns) (is_pair g n k))
-
-      more : (k : Key) → (is_met g ns k ≡ true) ⊎ (is_pair g n k ≡ true) → is_met g (ns ++ n ∷ []) k ≡ true
-      more k h = is-more k ∙ ⊎_elim (λ met. or_left (is_met g ns k) (is_pair g n k) met) (λ pair. or_right (is_met g ns k) (is_pair g n k) pair) h
-
-      less : (k : Key) → is_met g (ns ++ n ∷ []) k ≡ true → (is_met g ns k ≡ true) ⊎ (is_pair g n k ≡ true)
-      less k h = or_cases (is_met g ns k) (is_pair g n k) (sym (is-more k) ∙ h)

@@ -16,7 +16,7 @@ use Rattle.eq_rules.specs.declared.inference.Inference.{Inference}
 use Rattle.pool_core.specs.Outcomes.{premises}
 use Rattle.given_work.specs.Meeting.{before_place, is_alone, is_met, is_pair}
 use Rattle.given_work.specs.Store.{members_in}
-use Rattle.given_work.specs.declared.store.Told.{Told}
+use Rattle.bank_clause.specs.declared.member.Member.{Member}
 use Rattle.given_work.proofs.Justifiers.{all-from}
 use Rattle.given_work.proofs.Slots.{Contains-cons_cases, Contains-here, Contains-later, Contains-none}
 
@@ -33,7 +33,7 @@ drop-false : (b : Bool) → (b || false) ≡ true → b ≡ true
 drop-false true h = refl
 drop-false false h = h
 
-any-some : (p : ℕ → Bool) (ns : List ℕ) → list_any p ns ≡ true → (n : ℕ) × (has_number n ns ≡ true) × (p n ≡ true)
+pub any-some : (p : ℕ → Bool) (ns : List ℕ) → list_any p ns ≡ true → (n : ℕ) × (has_number n ns ≡ true) × (p n ≡ true)
 any-some p [] h = absurd (true≢false (sym h))
 any-some p (m ∷ ms) h =
     ⊎_elim
@@ -41,7 +41,7 @@ any-some p (m ∷ ms) h =
     (λ later. let at = any-some p ms later in (at.0, or_right (at.0 == m) (has_number at.0 ms) at.1, at.2))
     (or_cases (p m) (list_any p ms) h)
 
-any-has : (p : ℕ → Bool) (ns : List ℕ) (n : ℕ) → has_number n ns ≡ true → p n ≡ true → list_any p ns ≡ true
+pub any-has : (p : ℕ → Bool) (ns : List ℕ) (n : ℕ) → has_number n ns ≡ true → p n ≡ true → list_any p ns ≡ true
 any-has p [] n h passes = absurd (true≢false (sym h))
 any-has p (m ∷ ms) n h passes =
     ⊎_elim
@@ -157,20 +157,20 @@ while-false : (p : ℕ → Bool) (x : ℕ) (xs : List ℕ) → p x ≡ false →
 while-false p x xs h = ap (λ n. take n (x ∷ xs)) (cond-false (p x) (1 + prefix_len p xs) 0 h)
 
 pub before-is :
-    (slots : List (Option Told)) (place : ℕ) (t : Told) → slice_get slots place ≡ Some (Some t)
-    → list_any (λ k. k == t.member.number) (before_place slots place) ≡ false
-    → take_while (λ n. not (n == t.member.number)) (numbers_of (members_in slots)) ≡ before_place slots place
+    (slots : List (Option Member)) (place : ℕ) (t : Member) → slice_get slots place ≡ Some (Some t)
+    → list_any (λ k. k == t.number) (before_place slots place) ≡ false
+    → take_while (λ n. not (n == t.number)) (numbers_of (members_in slots)) ≡ before_place slots place
 before-is [] place t at new = absurd (none-some (Some t) at)
 before-is (None ∷ ss) zero t at new = absurd (none-some t (same_Some None (Some t) at))
 before-is (Some r ∷ ss) zero t at new =
-    while-false (λ n. not (n == t.member.number)) r.member.number (numbers_of (members_in ss))
-    (not_from_true (r.member.number == t.member.number)
-    (eq-eqb r.member.number t.member.number (ap (λ (s : Told). s.member.number) (same_Some r t (same_Some (Some r) (Some t) at)))))
+    while-false (λ n. not (n == t.number)) r.number (numbers_of (members_in ss))
+    (not_from_true (r.number == t.number)
+    (eq-eqb r.number t.number (ap (λ (s : Member). s.number) (same_Some r t (same_Some (Some r) (Some t) at)))))
 before-is (None ∷ ss) (suc i) t at new = before-is ss i t at new
 before-is (Some r ∷ ss) (suc i) t at new =
-    let apart = or_parts (r.member.number == t.member.number) (list_any (λ k. k == t.member.number) (before_place ss i)) new in
-    while-true (λ n. not (n == t.member.number)) r.member.number (numbers_of (members_in ss)) (not_from_false (r.member.number == t.member.number) apart.0)
-    ∙ ap (λ ns. r.member.number ∷ ns) (before-is ss i t at apart.1)
+    let apart = or_parts (r.number == t.number) (list_any (λ k. k == t.number) (before_place ss i)) new in
+    while-true (λ n. not (n == t.number)) r.number (numbers_of (members_in ss)) (not_from_false (r.number == t.number) apart.0)
+    ∙ ap (λ ns. r.number ∷ ns) (before-is ss i t at apart.1)
 
 -- ---- lists of names
 

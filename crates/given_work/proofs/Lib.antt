@@ -1,8 +1,9 @@
 -- A map of the proofs.
--- Lists with empty places, and sets that have what a list has: Slots, Kept; the index's own: StoreLemmas, SetLemmas. What an index tells of a job: TellingLemmas.
+-- Lists with empty places, and sets that have what a list has: Slots, Kept; the index's own: StoreLemmas, SetLemmas; the terms of its clauses: OccurringLemmas. What an index tells of a job: TellingLemmas.
 mod Slots
 mod Kept
 mod StoreLemmas
+mod OccurringLemmas
 mod SetLemmas
 mod TellingLemmas
 -- Lines of batches (BatchLines), the clauses that they use (Justifiers), and told clauses that go (GoingLemmas).

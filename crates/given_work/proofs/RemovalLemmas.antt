@@ -1,18 +1,22 @@
--- The removals of told clauses that a given one simplifies, as the clauses are gone through.
-use Rattle.std.proofs.Common.{◌≡◌, ℕ, ◌<◌, ◌==◌, not, Bool, true, false, List, [], ◌∷◌, ◌++◌, append-nil, length, take, Option, Some, None, refl, ap, sym, ◌∙◌, subst, ⊎_elim, inl, inr}
-use Rattle.std.specs.Prelude.{All, Contains, ◌||◌, ◌↔◌, option_to_list}
+-- The removals of told clauses that a given one simplifies, as their numbers are gone through.
+use Rattle.std.proofs.Common.{◌≡◌, ℕ, ◌<◌, ◌≤◌, ◌==◌, not, Bool, true, false, List, [], ◌∷◌, ◌++◌, append-nil, length, Option, Some, None, refl, ap, sym, ◌∙◌, subst, ⊎_elim, inl, inr, arith}
+use Rattle.std.specs.Prelude.{All, Contains, option_to_list, slice_get, sum_by}
 use Rattle.std.specs.List.{list_any}
-use Rattle.std.proofs.lemmas.Bool.{cond-true, eq-eqb, eqb-true, true≢false, false_from_ne_true, or_cases, or_left, or_right, and_from, and_parts}
-use Rattle.std.proofs.lemmas.List.Elements.{All-append, All-cons, All-nil, All-contains, Contains-push_cases}
+use Rattle.std.proofs.lemmas.Bool.{cond-true, eq-eqb, eqb-true, true≢false, false_from_ne_true, or_cases, or_left, or_right, and_from}
+use Rattle.std.proofs.lemmas.List.Sums.{sum_by-cons}
+use Rattle.std.proofs.lemmas.List.Elements.{All-append, All-cons, All-nil, All-contains, Contains-append_left, Contains-append_right, Contains-push_cases}
+use Rattle.std.proofs.lemmas.Option.{none-some, same_Some}
+use Rattle.fol_base.specs.Tree.{Tree}
+use Rattle.fol_base.specs.Clause.{TreeClause, TreeLiteral, literal_size}
 use Rattle.fol_base.specs.Subsumption.{Subsumes}
 use Rattle.fol_base.specs.WellFormed.{SymbolUse}
 use Rattle.fol_base.proofs.TestLemmas.{if_some}
+use Rattle.kernel_steps.specs.Inference.{CutsBy, RewritesBy}
 use Rattle.kernel_steps.specs.declared.step.TheConstants.{CLAUSE_NUMBERS}
 use Rattle.bank_clause.specs.Clause.{clause_at}
 use Rattle.bank_clause.specs.declared.member.Member.{Member}
 use Rattle.calculus.specs.Lifting.{IsMember}
 use Rattle.subsume.specs.Searching.{AreMembersOfUse, AreNumbersOf, IsMemberOfUse, IsSubsumedBy}
-use Rattle.unit_index.specs.Indexed.{HasOneLiteral}
 use Rattle.pool_core.specs.Record.{GivenJob}
 use Rattle.pool_core.specs.Reduction.{Lookup}
 use Rattle.pool_core.specs.Batches.{IsReducedBeside, Simplifies, is_told, is_told_beside}
@@ -20,12 +24,13 @@ use Rattle.pool_core.specs.Wholeness.{IsWhole}
 use Rattle.pool_core.specs.declared.options.Options.{Options}
 use Rattle.pool_core.specs.declared.batch.Removal.{Removal}
 use Rattle.given_work.specs.Going.{GoesRightly, StaysOrGoes}
-use Rattle.given_work.specs.Removing.{AreRemovalsAmong, IsConsidered, Removes, may_go}
+use Rattle.given_work.specs.Occurring.{ListsMembers, numbers_by_unit, numbers_with_instances}
+use Rattle.given_work.specs.Removing.{AddsNone, AreRemovalsAmong, AreRemovalsOf, HasSimplified, IsConsidered, Removes}
 use Rattle.given_work.specs.Sets.{AreSetsOf}
-use Rattle.given_work.specs.Telling.{AreToldSets, Tells}
+use Rattle.given_work.specs.Telling.{Tells, told_of}
 use Rattle.given_work.specs.declared.sets.Sets.{Sets}
 use Rattle.given_work.proofs.GoingLemmas.{members-formed}
-use Rattle.given_work.proofs.Justifiers.{any-from}
+use Rattle.given_work.proofs.OccurringLemmas.{cut-found, rewritten-found}
 use Rattle.given_work.proofs.Slots.{Contains-none}
 use Rattle.given_work.proofs.TellingLemmas.{member-told, sets-told}
 
@@ -80,124 +85,165 @@ module _
     right = goes.right;
   }
 
-  -- one clause that simplifies nothing by being a unit or by subsumption simplifies nothing
-  module _ (is_unit : Bool) (unit : (is_unit ≡ true) ↔ HasOneLiteral (clause_at given.clause)) where
-    simplifies-none :
-        (subsumed : List ℕ) (m : Member)
-        → (m.number ≡ given.number → ⊥)
-        → ((given.number ≡ m.number → ⊥) → Subsumes p (clause_at given.clause) (clause_at m.clause) → Contains subsumed m.number)
-        → may_go given.number is_unit subsumed m.number ≡ false
-        → Simplifies p options clauses j (clause_at given.clause) (clause_at m.clause) → ⊥
-    simplifies-none subsumed m differ found refused simplifies =
-        let allowed = (λ (h : (is_unit || list_any (λ k. k == m.number) subsumed) ≡ true).
-        true≢false (sym (and_from (not (m.number == given.number)) (is_unit || list_any (λ k. k == m.number) subsumed) (not-same m.number given.number differ) h) ∙ refused)) in
-        let not_unit = (λ (one : HasOneLiteral (clause_at given.clause)). allowed (or_left is_unit (list_any (λ k. k == m.number) subsumed) (unit.1 one))) in
-        ⊎_elim
-        (λ subsumes.
-        allowed (or_right is_unit (list_any (λ k. k == m.number) subsumed)
-        (any-from (λ k. k == m.number) subsumed m.number (found (λ e. differ (sym e)) subsumes) (eq-eqb m.number m.number refl))))
-        (λ units.
-        ⊎_elim (λ rewrites. not_unit (ap length (rewrites.1).is_unit)) (λ cuts. not_unit (ap length (cuts.1).is_unit)) units)
-        simplifies
-
--- ---- one clause more
+-- ---- one number more
 
 pub none-removed : (ms : List Member) (given : Member) → AreRemovalsAmong ms given [] []
 none-removed ms given usage options clauses j tells unsplit same = (
   All-nil (Removes usage.is_predicate options clauses j),
-  (λ m there differ simplifies. absurd (Contains-none m there)),
+  (λ m there listed differ simplifies. absurd (Contains-none m.number listed)),
 )
 
-pub removal-more :
-    (ms : List Member) (sets : Sets) (given m : Member) (is_unit : Bool) (subsumed : List ℕ) (seen : List Member) (before now : List Removal)
-    → AreSetsOf ms sets → All (λ (k : Member). k.number < CLAUSE_NUMBERS) ms → Contains ms given → Contains ms m
-    → (is_unit ≡ true) ↔ HasOneLiteral (clause_at given.clause)
-    → ((usage : SymbolUse) → IsMemberOfUse usage given → AreMembersOfUse usage sets.subsumers → AreNumbersOf (IsSubsumedBy usage given) sets.subsumers subsumed)
-    → IsConsidered sets.equations sets.units sets.subsumers (may_go given.number is_unit subsumed m.number) m before now
-    → AreRemovalsAmong ms given seen before → AreRemovalsAmong ms given (seen ++ m ∷ []) now
-removal-more ms sets given m is_unit subsumed seen before now are numbered given_there m_there unit exact considered was usage options clauses j tells unsplit same =
-    by (may_go given.number is_unit subsumed m.number) refl considered
-  where
-    told : (usage : SymbolUse) (clauses : Lookup) (j : GivenJob) → Tells usage clauses j ms → AreToldSets usage clauses j sets.equations sets.units sets.subsumers
-    told usage clauses j tells = sets-told usage clauses j ms tells sets are numbered
+module _
+    (ms : List Member) (sets : Sets) (given : Member) (seen : List ℕ) (n : ℕ) (before now : List Removal)
+    (are : AreSetsOf ms sets) (numbered : All (λ (k : Member). k.number < CLAUSE_NUMBERS) ms) (given_there : Contains ms given)
+    (was : AreRemovalsAmong ms given seen before)
+    (usage : SymbolUse) (options : Options) (clauses : Lookup) (j : GivenJob)
+    (tells : Tells usage clauses j ms) (unsplit : options.split ≡ false) (same : j.number ≡ given.number) where
+  abbrev Right : Removal → Type 0
+  Right = Removes usage.is_predicate options clauses j
 
-    found : Subsumes usage.is_predicate (clause_at given.clause) (clause_at m.clause) → (given.number ≡ m.number → ⊥) → Contains subsumed m.number
-    found subsumes other =
+  abbrev Simplified : TreeClause → Type 0
+  Simplified c = Simplifies usage.is_predicate options clauses j (clause_at given.clause) c
+
+  abbrev Done : List ℕ → List Removal → Type 0
+  Done ns rs =
+      All Right rs
+      × ((m : Member)
+      → Contains ms m → Contains ns m.number → (m.number ≡ given.number → ⊥) → Simplified (clause_at m.clause)
+      → list_any (λ (r : Removal). r.victim == m.number) rs ≡ true)
+
+  old : Done seen before
+  old = was usage options clauses j tells unsplit same
+
+  none-more : AddsNone ms given.number n before now → Done (seen ++ n ∷ []) now
+  none-more none = (
+    subst (λ (rs : List Removal). All Right rs) (sym none.same) old.0,
+    (λ m there listed differ simplifies.
+        subst (λ (rs : List Removal). list_any (λ (r : Removal). r.victim == m.number) rs ≡ true) (sym none.same)
+        (⊎_elim
+        (λ earlier. old.1 m there earlier differ simplifies)
+        (λ last. absurd (differ (sym last ∙ none.none m there (sym last))))
+        (Contains-push_cases seen n m.number listed))),
+  )
+
+  module _ (v : Member) (there : Contains ms v) (number : v.number ≡ n) (another : n ≡ given.number → ⊥) where
+    differs : v.number ≡ given.number → ⊥
+    differs e = another (sym number ∙ e)
+
+    told : told_of clauses j n ≡ Some (clause_at v.clause)
+    told = ap (told_of clauses j) (sym number) ∙ member-told usage clauses j ms tells v there
+
+    -- members with one number have one clause
+    same-clause : (m : Member) → Contains ms m → n ≡ m.number → clause_at m.clause ≡ clause_at v.clause
+    same-clause m m_there last =
+        same_Some (clause_at m.clause) (clause_at v.clause)
+        (sym (member-told usage clauses j ms tells m m_there) ∙ ap (told_of clauses j) (sym last) ∙ told)
+
+    one-more :
+        (gone : Option Removal) → now ≡ before ++ option_to_list gone
+        → StaysOrGoes usage.is_predicate options clauses j n (clause_at v.clause) gone → Done (seen ++ n ∷ []) now
+    one-more None added stays =
+        let still : now ≡ before = added ∙ append-nil before in (
+          subst (λ (rs : List Removal). All Right rs) (sym still) old.0,
+          (λ m m_there listed differ simplifies.
+              subst (λ (rs : List Removal). list_any (λ (r : Removal). r.victim == m.number) rs ≡ true) (sym still)
+              (⊎_elim
+              (λ earlier. old.1 m m_there earlier differ simplifies)
+              (λ last.
+              absurd
+              (not-stays usage options clauses j ms tells given given_there same v there differs
+              (subst (λ k. IsReducedBeside usage.is_predicate options clauses j k (clause_at v.clause)) (sym number) stays)
+              (subst Simplified (same-clause m m_there last) simplifies)))
+              (Contains-push_cases seen n m.number listed))),
+        )
+    one-more (Some r) added goes = (
+      subst (λ (rs : List Removal). All Right rs) (sym added)
+          (All-append Right before (r ∷ []) old.0
+          (All-cons Right r []
+          (removes usage options clauses j ms tells given given_there same v there differs r
+          (subst (λ k. GoesRightly usage.is_predicate options clauses j k r) (sym number) goes))
+          (All-nil Right))),
+      (λ m m_there listed differ simplifies.
+          subst (λ (rs : List Removal). list_any (λ (q : Removal). q.victim == m.number) rs ≡ true) (sym added)
+          (⊎_elim
+          (λ earlier. any-append (λ (q : Removal). q.victim == m.number) before (r ∷ []) (old.1 m m_there earlier differ simplifies))
+          (λ last. any-last (λ (q : Removal). q.victim == m.number) before r (eq-eqb r.victim m.number (goes.victim ∙ last)))
+          (Contains-push_cases seen n m.number listed))),
+    )
+
+  considered-more : IsConsidered ms sets.equations sets.units sets.subsumers given.number n before now → Done (seen ++ n ∷ []) now
+  considered-more considered =
+      ⊎_elim none-more
+      (λ one.
+      one-more one.member one.there one.numbered one.another (one.adds).gone (one.adds).added
+      ((one.adds).right usage options clauses j (sets-told usage clauses j ms tells sets are numbered) unsplit
+      (told one.member one.there one.numbered one.another)))
+      considered
+
+pub removal-more :
+    (ms : List Member) (sets : Sets) (given : Member) (seen : List ℕ) (n : ℕ) (before now : List Removal)
+    → AreSetsOf ms sets → All (λ (k : Member). k.number < CLAUSE_NUMBERS) ms → Contains ms given
+    → IsConsidered ms sets.equations sets.units sets.subsumers given.number n before now
+    → AreRemovalsAmong ms given seen before → AreRemovalsAmong ms given (seen ++ n ∷ []) now
+removal-more ms sets given seen n before now are numbered given_there considered was usage options clauses j tells unsplit same =
+    considered-more ms sets given seen n before now are numbered given_there was usage options clauses j tells unsplit same considered
+
+-- the members that it simplifies are among those of the list
+pub removals-all :
+    (ms : List Member) (given : Member) (numbers : List ℕ) (removals : List Removal)
+    → HasSimplified ms given numbers → AreRemovalsAmong ms given numbers removals → AreRemovalsOf ms given removals
+removals-all ms given numbers removals has among usage options clauses j tells unsplit same =
+    let of_list = among usage options clauses j tells unsplit same in (
+      of_list.0,
+      (λ m there differ simplifies. of_list.1 m there (has usage options clauses j tells m there differ simplifies) differ simplifies),
+    )
+
+-- ---- the numbers of those that are simplified
+
+pub by-unit : (es : List (Tree × ℕ)) (ls : List TreeLiteral) (l : TreeLiteral) → length ls ≡ 1 → slice_get ls 0 ≡ Some l → numbers_by_unit es ls ≡ numbers_with_instances es l
+by-unit es [] l one at = absurd (none-some l at)
+by-unit es (k ∷ []) l one at = ap (numbers_with_instances es) (same_Some k l at)
+by-unit es (k ∷ m ∷ ls) l one at = absurd (omega (arith, one))
+
+-- the first literal is no larger than all of them
+pub first-small : (ls : List TreeLiteral) (l : TreeLiteral) → slice_get ls 0 ≡ Some l → literal_size l ≤ sum_by literal_size ls
+first-small [] l at = absurd (none-some l at)
+first-small (k ∷ ls) l at =
+    let same = ap literal_size (same_Some k l at) in omega (arith, same, sum_by-cons literal_size k ls)
+
+pub by-no-unit : (es : List (Tree × ℕ)) (ls : List TreeLiteral) → (length ls ≡ 1 → ⊥) → numbers_by_unit es ls ≡ []
+by-no-unit es [] none = refl
+by-no-unit es (l ∷ []) none = absurd (none refl)
+by-no-unit es (l ∷ k ∷ ls) none = refl
+
+pub has-simplified :
+    (ms : List Member) (sets : Sets) (es : List (Tree × ℕ)) (given : Member) (subsumed numbers : List ℕ)
+    → AreSetsOf ms sets → All (λ (k : Member). k.number < CLAUSE_NUMBERS) ms → ListsMembers es ms → Contains ms given
+    → ((usage : SymbolUse) → IsMemberOfUse usage given → AreMembersOfUse usage sets.subsumers → AreNumbersOf (IsSubsumedBy usage given) sets.subsumers subsumed)
+    → ((n : ℕ) → Contains (subsumed ++ numbers_by_unit es (clause_at given.clause).literals) n → Contains numbers n)
+    → HasSimplified ms given numbers
+has-simplified ms sets es given subsumed numbers are small listed given_there exact into usage options clauses j tells m there differ simplifies =
+    ⊎_elim
+    (λ subsumes. into m.number (Contains-append_left subsumed by_unit m.number (found subsumes)))
+    (λ units. into m.number (Contains-append_right subsumed by_unit m.number (⊎_elim rewritten cut units)))
+    simplifies
+  where
+    by_unit : List ℕ
+    by_unit = numbers_by_unit es (clause_at given.clause).literals
+
+    found : Subsumes usage.is_predicate (clause_at given.clause) (clause_at m.clause) → Contains subsumed m.number
+    found subsumes =
         ((exact usage
         (All-contains (λ (k : Member). IsWhole usage (clause_at k.clause)) ms given tells.whole given_there).formed
-        (members-formed usage clauses j sets.equations sets.units sets.subsumers (told usage clauses j tells))).exact m.number).1
-        (record { member = m; there = (are.subsumers m).1 m_there; does = record { other = other; subsumed = subsumes }; number = refl })
+        (members-formed usage clauses j sets.equations sets.units sets.subsumers (sets-told usage clauses j ms tells sets are small))).exact m.number).1
+        (record { member = m; there = (are.subsumers m).1 there; does = record { other = λ e. differ (sym e); subsumed = subsumes }; number = refl })
 
-    by :
-        (b : Bool) → may_go given.number is_unit subsumed m.number ≡ b
-        → IsConsidered sets.equations sets.units sets.subsumers b m before now
-        → All (Removes usage.is_predicate options clauses j) now
-        × ((k : Member)
-        → Contains (seen ++ m ∷ []) k → (k.number ≡ given.number → ⊥)
-        → Simplifies usage.is_predicate options clauses j (clause_at given.clause) (clause_at k.clause)
-        → list_any (λ (r : Removal). r.victim == k.number) now ≡ true)
-    by false refused still = let old = was usage options clauses j tells unsplit same in (
-      subst (λ (rs : List Removal). All (Removes usage.is_predicate options clauses j) rs) (sym still) old.0,
-      (λ k there differ simplifies.
-          subst (λ (rs : List Removal). list_any (λ (r : Removal). r.victim == k.number) rs ≡ true) (sym still)
-          (⊎_elim
-          (λ before_it. old.1 k before_it differ simplifies)
-          (λ last.
-          absurd
-          (simplifies-none usage options clauses j ms tells given given_there same is_unit unit subsumed m
-          (λ e. differ (ap (λ (l : Member). l.number) (sym last) ∙ e))
-          (λ other subsumes. found subsumes other) refused
-          (subst (λ (l : Member). Simplifies usage.is_predicate options clauses j (clause_at given.clause) (clause_at l.clause)) (sym last) simplifies)))
-          (Contains-push_cases seen m k there))),
-    )
-    by true allowed adds = gone-by adds.gone adds.added
-        (adds.right usage options clauses j (told usage clauses j tells) unsplit (member-told usage clauses j ms tells m m_there))
-      where
-        differs : m.number ≡ given.number → ⊥
-        differs e =
-            true≢false
-            (sym (and_parts (not (m.number == given.number)) (is_unit || list_any (λ k. k == m.number) subsumed) allowed).0
-            ∙ ap not (eq-eqb m.number given.number e))
+    rewritten : (d : TreeClause) × RewritesBy usage.is_predicate (clause_at given.clause) (clause_at m.clause) d → Contains by_unit m.number
+    rewritten r =
+        subst (λ (ls : List TreeLiteral). Contains (numbers_by_unit es ls) m.number) (sym (r.1).is_unit)
+        (rewritten-found es m.number (r.1).equation usage.is_predicate (clause_at given.clause) (clause_at m.clause) r.0 (r.1).is_unit (listed m there) r.1)
 
-        gone-by :
-            (gone : Option Removal) → now ≡ before ++ option_to_list gone
-            → StaysOrGoes usage.is_predicate options clauses j m.number (clause_at m.clause) gone
-            → All (Removes usage.is_predicate options clauses j) now
-            × ((k : Member)
-            → Contains (seen ++ m ∷ []) k → (k.number ≡ given.number → ⊥)
-            → Simplifies usage.is_predicate options clauses j (clause_at given.clause) (clause_at k.clause)
-            → list_any (λ (r : Removal). r.victim == k.number) now ≡ true)
-        gone-by None added stays =
-            let old = was usage options clauses j tells unsplit same in
-            let still : now ≡ before = added ∙ append-nil before in (
-              subst (λ (rs : List Removal). All (Removes usage.is_predicate options clauses j) rs) (sym still) old.0,
-              (λ k there differ simplifies.
-                  subst (λ (rs : List Removal). list_any (λ (r : Removal). r.victim == k.number) rs ≡ true) (sym still)
-                  (⊎_elim
-                  (λ before_it. old.1 k before_it differ simplifies)
-                  (λ last.
-                  absurd
-                  (not-stays usage options clauses j ms tells given given_there same m m_there differs stays
-                  (subst (λ (l : Member). Simplifies usage.is_predicate options clauses j (clause_at given.clause) (clause_at l.clause)) (sym last) simplifies)))
-                  (Contains-push_cases seen m k there))),
-            )
-        gone-by (Some r) added goes =
-            let old = was usage options clauses j tells unsplit same in (
-              subst (λ (rs : List Removal). All (Removes usage.is_predicate options clauses j) rs) (sym added)
-                  (All-append (Removes usage.is_predicate options clauses j) before (r ∷ []) old.0
-                  (All-cons (Removes usage.is_predicate options clauses j) r []
-                  (removes usage options clauses j ms tells given given_there same m m_there differs r goes)
-                  (All-nil (Removes usage.is_predicate options clauses j)))),
-              (λ k there differ simplifies.
-                  subst (λ (rs : List Removal). list_any (λ (q : Removal). q.victim == k.number) rs ≡ true) (sym added)
-                  (⊎_elim
-                  (λ before_it. any-append (λ (q : Removal). q.victim == k.number) before (r ∷ []) (old.1 k before_it differ simplifies))
-                  (λ last.
-                  any-last (λ (q : Removal). q.victim == k.number) before r
-                  (eq-eqb r.victim k.number (goes.victim ∙ ap (λ (l : Member). l.number) last)))
-                  (Contains-push_cases seen m k there))),
-            )
-
-pub take-whole : {X : Type 0} (xs : List X) → take (length xs) xs ≡ xs
-take-whole [] = refl
-take-whole (x ∷ xs) = ap (λ ys. x ∷ ys) (take-whole xs)
+    cut : (d : TreeClause) × CutsBy usage.is_predicate (clause_at given.clause) (clause_at m.clause) d → Contains by_unit m.number
+    cut r =
+        subst (λ (ls : List TreeLiteral). Contains (numbers_by_unit es ls) m.number) (sym (r.1).is_unit)
+        (cut-found es m.number (r.1).unit_literal usage.is_predicate (clause_at given.clause) (clause_at m.clause) r.0 (r.1).is_unit (listed m there) r.1)

@@ -1,14 +1,13 @@
 -- The work on a given clause is right.
-use Rattle.std.proofs.Common.{◌≡◌, ◌⊎◌, ℕ, ◌<◌, ◌≤◌, ◌==◌, nat_eq, not, Bool, true, false, List, [], ◌∷◌, ◌++◌, append-nil, length, map, Option, Some, None, refl, ap, ap₂, sym, ◌∙◌, subst, ⊎_elim, inl, inr}
-use Rattle.std.specs.Prelude.{All, AllPairs, Contains, slice_get, take_while, IsTrue}
+use Rattle.std.proofs.Common.{◌≡◌, ◌⊎◌, ℕ, ◌<◌, ◌≤◌, ◌==◌, not, Bool, true, false, List, [], ◌∷◌, ◌++◌, append-nil, length, map, Some, None, refl, ap, ap₂, sym, ◌∙◌, subst, ⊎_elim, inl, inr}
+use Rattle.std.specs.Prelude.{All, AllPairs, Contains, slice_get, take_while, option_map, IsTrue}
 use Rattle.std.specs.List.{list_all, list_any}
 use Rattle.std.proofs.lemmas.Bool.{cond-true, and_from, and_parts, eq-eqb, true≢false}
 use Rattle.std.proofs.lemmas.Option.{same_Some}
 use Rattle.std.proofs.lemmas.List.Elements.{All-nil, All-cons, All-head, All-tail, All-contains, Contains-append_left}
-use Rattle.indexmap.specs.IndexMap.{get}
 use Rattle.fol_base.specs.Clause.{TreeClause}
 use Rattle.fol_base.specs.WellFormed.{SymbolUse}
-use Rattle.fol_base.proofs.TestLemmas.{if_some}
+use Rattle.fol_base.proofs.TestLemmas.{if_some, option_map-some}
 use Rattle.kernel_steps.specs.Split.{has_number}
 use Rattle.kernel_steps.specs.Named.{IsInference}
 use Rattle.kernel_steps.specs.declared.key.Key.{Key}
@@ -17,6 +16,7 @@ use Rattle.literal_selection.specs.Mode.{mode_of}
 use Rattle.literal_selection.specs.declared.choice.Selection.{Selection}
 use Rattle.bank_clause.specs.Clause.{clause_at}
 use Rattle.bank_clause.specs.declared.member.Member.{Member}
+use Rattle.partners.specs.Partners.{Placed, placed_numbered}
 use Rattle.subsume.specs.Members.{numbers_of}
 use Rattle.eq_rules.specs.Inferences.{AreInferences, IsMade}
 use Rattle.eq_rules.specs.declared.inference.Inference.{Inference}
@@ -35,34 +35,45 @@ use Rattle.given_work.specs.Going.{GoesRightly, IsRemovalOf, LeavesIrreducible}
 use Rattle.given_work.specs.Meeting.{AreEntriesOf, AreFirstEntries, AreMetWith, IsMadeWith, before_place, is_met}
 use Rattle.given_work.specs.Removing.{AreTold, Removes}
 use Rattle.given_work.specs.Sets.{AreSetsOf}
-use Rattle.given_work.specs.Store.{ArePlaced, IsAt, IsStore, members_in}
+use Rattle.given_work.specs.Store.{ArePlaced, IsAt, members_in}
 use Rattle.given_work.specs.Telling.{AreToldSets, Tells, told_of}
 use Rattle.given_work.specs.Working.{HasRemovals, IsMetBy, IsRightWorkOf}
 use Rattle.given_work.specs.declared.sets.Sets.{Sets}
 use Rattle.given_work.specs.declared.store.Store.{Store}
-use Rattle.given_work.specs.declared.store.Told.{Told}
 use Rattle.given_work.proofs.Justifiers.{all-from}
 use Rattle.given_work.proofs.KeyLemmas.{Contains-map, before-is, keys-differ, meets-met, met-meets, once-first, to_meet}
 use Rattle.given_work.proofs.MeetLemmas.{not-before}
-use Rattle.given_work.proofs.Slots.{at-member, member-at}
+use Rattle.given_work.proofs.Slots.{at-living, living-at}
+use Rattle.given_work.proofs.StoreLemmas.{found-placed, placed_at}
 use Rattle.given_work.proofs.TellingLemmas.{member-told, numbered-member, sets-told, told-member}
 
 -- ---- the place of a clause
 
 pub found-at :
     (store : Store) (n : ℕ) → ArePlaced store → has_number n (numbers_of (members_in store.slots.items)) ≡ true
-    → (place : ℕ) × (get nat_eq store.places n ≡ Some place)
+    → (p : Placed) × (placed_numbered n store.partners.members ≡ Some p)
 found-at store n placed there =
     let found = numbered-member (members_in store.slots.items) n there in
-    let at = member-at (λ (t : Told). t.member) store.slots.items found.0 found.1 in (
-      at.0,
-      (placed n at.0).1 (record { told = at.1; there = at.2; numbered = ap (λ (m : Member). m.number) at.3 ∙ found.2 }),
+    let at = living-at store.slots.items found.0 found.1 in (
+      placed_at at.0 found.0,
+      ap (λ k. placed_numbered k store.partners.members) (sym found.2) ∙ found-placed store at.0 found.0 placed at.1,
     )
 
-pub same-clause :
-    (slots : List (Option Told)) (place n : ℕ) (t : Told) → IsAt slots place n → slice_get slots place ≡ Some (Some t) → t.member.number ≡ n
-same-clause slots place n t is at =
-    ap (λ (s : Told). s.member.number) (sym (same_Some is.told t (same_Some (Some is.told) (Some t) (sym is.there ∙ at)))) ∙ is.numbered
+-- its position and its member tell where it stands
+pub given-at :
+    (store : Store) (n place : ℕ) (m : Member) → ArePlaced store
+    → option_map (λ (p : Placed). p.position) (placed_numbered n store.partners.members) ≡ Some place
+    → option_map (λ (p : Placed). p.member) (placed_numbered n store.partners.members) ≡ Some m
+    → IsAt store.slots.items n (placed_at place m)
+given-at store n place m placed position member =
+    option_map-some (λ (p : Placed). p.position) (placed_numbered n store.partners.members) place position λ p found at_place.
+    let at = (placed n p).0 found in
+    let is : p.member ≡ m =
+    same_Some p.member m (sym (ap (option_map (λ (q : Placed). q.member)) found) ∙ member) in
+    record {
+      there = ap (slice_get store.slots.items) (sym at_place) ∙ at.there ∙ ap (λ (k : Member). Some (Some k)) is;
+      numbered = ap (λ (k : Member). k.number) (sym is) ∙ at.numbered;
+    }
 
 -- ---- inferences for some job
 
@@ -138,56 +149,56 @@ module _ (usage : SymbolUse) (options : Options) (clauses : Lookup) (j : GivenJo
   -- ---- a clause that stays
 
   module _
-      (mode : Selection) (store : Store) (sets : Sets) (place : ℕ) (given : Told) (left : ℕ)
-      (stored : IsStore mode store) (are : AreSetsOf (members_in store.slots.items) sets)
+      (mode : Selection) (store : Store) (sets : Sets) (place : ℕ) (given : Member) (left : ℕ)
+      (placed : ArePlaced store) (are : AreSetsOf (members_in store.slots.items) sets)
       (numbered : All (λ (m : Member). m.number < CLAUSE_NUMBERS) (members_in store.slots.items))
       (at : slice_get store.slots.items place ≡ Some (Some given))
       (tells : Tells usage clauses j (members_in store.slots.items))
-      (same_mode : options.select ≡ mode) (unsplit : options.split ≡ false) (same : j.number ≡ given.member.number) where
+      (same_mode : options.select ≡ mode) (unsplit : options.split ≡ false) (same : j.number ≡ given.number) where
     abbrev all_members : List Member
     all_members = members_in store.slots.items
 
     abbrev lower : List ℕ
     lower = before_place store.slots.items place
 
-    given-there : Contains all_members given.member
-    given-there = at-member (λ (t : Told). t.member) store.slots.items place given at
+    given-there : Contains all_members given
+    given-there = at-living store.slots.items place given at
 
     told-sets : AreToldSets usage clauses j sets.equations sets.units sets.subsumers
     told-sets = sets-told usage clauses j all_members tells sets are numbered
 
-    given-told : told_of clauses j given.member.number ≡ Some (clause_at given.member.clause)
-    given-told = member-told usage clauses j all_members tells given.member given-there
+    given-told : told_of clauses j given.number ≡ Some (clause_at given.clause)
+    given-told = member-told usage clauses j all_members tells given given-there
 
     lower-is : told_before j ≡ lower
     lower-is =
         ap (λ k. take_while (λ n. not (n == k)) j.told) same
-        ∙ ap (λ ns. take_while (λ n. not (n == given.member.number)) ns) (sym tells.numbers)
-        ∙ before-is store.slots.items place given at (not-before store place given stored.placed at)
+        ∙ ap (λ ns. take_while (λ n. not (n == given.number)) ns) (sym tells.numbers)
+        ∙ before-is store.slots.items place given at (not-before store place given placed at)
 
-    met-is-to : (key : Key) → is_met given.member.number lower key ≡ true → is_to_meet p options clauses j key ≡ true
+    met-is-to : (key : Key) → is_met given.number lower key ≡ true → is_to_meet p options clauses j key ≡ true
     met-is-to key h =
         subst (λ k. to_meet k (told_before j) key ≡ true) (sym same)
-        (subst (λ ns. to_meet given.member.number ns key ≡ true) (sym lower-is) (met-meets given.member.number lower key h))
+        (subst (λ ns. to_meet given.number ns key ≡ true) (sym lower-is) (met-meets given.number lower key h))
 
     to-is-met :
         (key : Key) (c : TreeClause) → IsInference p (mode_of options.select) (told_of clauses j) key c
-        → is_to_meet p options clauses j key ≡ true → is_met given.member.number lower key ≡ true
+        → is_to_meet p options clauses j key ≡ true → is_met given.number lower key ≡ true
     to-is-met key c inferred h =
-        meets-met p (mode_of options.select) (told_of clauses j) c given.member.number lower key inferred
-        (subst (λ ns. to_meet given.member.number ns key ≡ true) lower-is (subst (λ k. to_meet k (told_before j) key ≡ true) same h))
+        meets-met p (mode_of options.select) (told_of clauses j) c given.number lower key inferred
+        (subst (λ ns. to_meet given.number ns key ≡ true) lower-is (subst (λ k. to_meet k (told_before j) key ≡ true) same h))
 
     abbrev Finds : List Inference → Type 0
-    Finds found = AreInferences p (mode_of options.select) (told_of clauses j) (is_met given.member.number lower) found
+    Finds found = AreInferences p (mode_of options.select) (told_of clauses j) (is_met given.number lower) found
 
     module _ (found : List Inference) (finds : Finds found) (entries : List Entry)
         (first : AreFirstEntries sets.equations sets.units sets.subsumers found left entries) where
       keys-are : keys_of entries ≡ map (λ (e : Inference). e.key) first.done
       keys-are = entered-keys sets.equations sets.units sets.subsumers first.done entries first.entered
 
-      each-done : (e : Inference) → Contains first.done e → (is_met given.member.number lower e.key ≡ true) × Makes e
+      each-done : (e : Inference) → Contains first.done e → (is_met given.number lower e.key ≡ true) × Makes e
       each-done e there =
-          All-contains (λ (d : Inference). (is_met given.member.number lower d.key ≡ true) × Makes d) found e finds.made
+          All-contains (λ (d : Inference). (is_met given.number lower d.key ≡ true) × Makes d) found e finds.made
           (subst (λ (xs : List Inference). Contains xs e) (sym first.all) (Contains-append_left first.done first.rest e there))
 
       differ : AllPairs (λ (k l : Key). k ≡ l → ⊥) (keys_of entries)
@@ -223,8 +234,8 @@ module _ (usage : SymbolUse) (options : Options) (clauses : Lookup) (j : GivenJo
       Removed =
           All (Removes p options clauses j) removals
           × ((m : Member)
-          → Contains all_members m → (m.number ≡ given.member.number → ⊥)
-          → Simplifies p options clauses j (clause_at given.member.clause) (clause_at m.clause)
+          → Contains all_members m → (m.number ≡ given.number → ⊥)
+          → Simplifies p options clauses j (clause_at given.clause) (clause_at m.clause)
           → list_any (λ (r : Removal). r.victim == m.number) removals ≡ true)
 
       removes-all : Removed → RemovesAll p options clauses j removals
@@ -232,11 +243,11 @@ module _ (usage : SymbolUse) (options : Options) (clauses : Lookup) (j : GivenJo
           let parts = if_some (is_told_beside j j.number n) (clauses n) c beside in
           let told = and_parts (is_told j n) (not (n == j.number)) parts.0 in
           let m = told-member usage clauses j all_members tells n c (both n c told.0 parts.1) in
-          let is_given : by ≡ clause_at given.member.clause =
-          same_Some by (clause_at given.member.clause) (sym there ∙ ap (told_of clauses j) same ∙ given-told) in
+          let is_given : by ≡ clause_at given.clause =
+          same_Some by (clause_at given.clause) (sym there ∙ ap (told_of clauses j) same ∙ given-told) in
           subst (λ k. list_any (λ (r : Removal). r.victim == k) removals ≡ true) m.number
           (removed.1 m.member m.there (λ e. other n told.1 (sym m.number ∙ e ∙ sym same))
-          (subst (λ d. Simplifies p options clauses j (clause_at given.member.clause) d) (sym m.clause)
+          (subst (λ d. Simplifies p options clauses j (clause_at given.clause) d) (sym m.clause)
           (subst (λ d. Simplifies p options clauses j d c) is_given simplifies)))
         where
           both : (n : ℕ) (c : TreeClause) → is_told j n ≡ true → clauses n ≡ Some c → told_of clauses j n ≡ Some c
@@ -254,15 +265,15 @@ module _ (usage : SymbolUse) (options : Options) (clauses : Lookup) (j : GivenJo
       )
 
     meeting :
-        IsReducedBeside p options clauses j given.member.number (clause_at given.member.clause)
-        → (met : Work) → IsMetBy mode sets all_members lower given.member left met → j.left ≡ left → IsRightWork p options clauses j met
+        IsReducedBeside p options clauses j given.number (clause_at given.clause)
+        → (met : Work) → IsMetBy mode sets all_members lower given left met → j.left ≡ left → IsRightWork p options clauses j met
     meeting irreducible met by same_left =
         subst (λ (w : Work). IsRightWork p options clauses j w) (sym by.is)
         (record {
           given_irreducible = record {
-            clause = clause_at given.member.clause;
+            clause = clause_at given.clause;
             there = ap (told_of clauses j) same ∙ given-told;
-            infers = subst (λ k. IsReducedBeside p options clauses j k (clause_at given.member.clause)) (sym same) irreducible;
+            infers = subst (λ k. IsReducedBeside p options clauses j k (clause_at given.clause)) (sym same) irreducible;
           };
           keys_differ = differ by.found finds by.entries by.entered;
           keys_met = all-to-meet by.found finds by.entries by.entered;
@@ -275,7 +286,7 @@ module _ (usage : SymbolUse) (options : Options) (clauses : Lookup) (j : GivenJo
         finds : Finds by.found
         finds =
             subst
-            (λ (m : Selection). AreInferences p (mode_of m) (told_of clauses j) (is_met given.member.number lower) by.found)
+            (λ (m : Selection). AreInferences p (mode_of m) (told_of clauses j) (is_met given.number lower) by.found)
             (sym same_mode) (by.met usage clauses j tells)
 
         removed : All (Removes p options clauses j) by.removals
@@ -285,7 +296,7 @@ module _ (usage : SymbolUse) (options : Options) (clauses : Lookup) (j : GivenJo
             (λ all. (all usage options clauses j tells unsplit same).0)
             by.removed
 
-        enough : HasRemovals all_members given.member left by.entries by.removals → (j.left ≤ length by.entries) ⊎ (MeetsAll p options clauses j by.entries × RemovesAll p options clauses j by.removals)
+        enough : HasRemovals all_members given left by.entries by.removals → (j.left ≤ length by.entries) ⊎ (MeetsAll p options clauses j by.entries × RemovesAll p options clauses j by.removals)
         enough (inl stopped) = inl (subst (λ n. n ≤ length by.entries) (sym same_left) stopped.0)
         enough (inr all) =
             ⊎_elim
@@ -300,27 +311,27 @@ module _ (usage : SymbolUse) (options : Options) (clauses : Lookup) (j : GivenJo
 -- ---- work
 
 pub meeting-right :
-    (mode : Selection) (store : Store) (sets : Sets) (place : ℕ) (given : Told) (left : ℕ) (work : Work)
-    → IsStore mode store → AreSetsOf (members_in store.slots.items) sets → All (λ (m : Member). m.number < CLAUSE_NUMBERS) (members_in store.slots.items)
+    (mode : Selection) (store : Store) (sets : Sets) (place : ℕ) (given : Member) (left : ℕ) (work : Work)
+    → ArePlaced store → AreSetsOf (members_in store.slots.items) sets → All (λ (m : Member). m.number < CLAUSE_NUMBERS) (members_in store.slots.items)
     → slice_get store.slots.items place ≡ Some (Some given)
-    → IsRemovalOf sets.equations sets.units sets.subsumers given.member.number (clause_at given.member.clause) None
-    → IsMetBy mode sets (members_in store.slots.items) (before_place store.slots.items place) given.member left work
-    → IsRightWorkOf mode (members_in store.slots.items) given.member.number left work
-meeting-right mode store sets place given left work stored are numbered at stays by usage options clauses j tells same_mode unsplit same same_left =
+    → IsRemovalOf sets.equations sets.units sets.subsumers given.number (clause_at given.clause) None
+    → IsMetBy mode sets (members_in store.slots.items) (before_place store.slots.items place) given left work
+    → IsRightWorkOf mode (members_in store.slots.items) given.number left work
+meeting-right mode store sets place given left work placed are numbered at stays by usage options clauses j tells same_mode unsplit same same_left =
     let told = sets-told usage clauses j (members_in store.slots.items) tells sets are numbered in
     let given_told =
-    member-told usage clauses j (members_in store.slots.items) tells given.member (at-member (λ (t : Told). t.member) store.slots.items place given at) in
-    meeting usage options clauses j mode store sets place given left stored are numbered at tells same_mode unsplit same
+    member-told usage clauses j (members_in store.slots.items) tells given (at-living store.slots.items place given at) in
+    meeting usage options clauses j mode store sets place given left placed are numbered at tells same_mode unsplit same
     (stays usage options clauses j told unsplit given_told) work by same_left
 
 pub going-right :
-    (mode : Selection) (store : Store) (sets : Sets) (place : ℕ) (given : Told) (left : ℕ) (m : Removal)
+    (mode : Selection) (store : Store) (sets : Sets) (place : ℕ) (given : Member) (left : ℕ) (m : Removal)
     → AreSetsOf (members_in store.slots.items) sets → All (λ (k : Member). k.number < CLAUSE_NUMBERS) (members_in store.slots.items)
     → slice_get store.slots.items place ≡ Some (Some given)
-    → IsRemovalOf sets.equations sets.units sets.subsumers given.member.number (clause_at given.member.clause) (Some m)
-    → IsRightWorkOf mode (members_in store.slots.items) given.member.number left (Gone m)
+    → IsRemovalOf sets.equations sets.units sets.subsumers given.number (clause_at given.clause) (Some m)
+    → IsRightWorkOf mode (members_in store.slots.items) given.number left (Gone m)
 going-right mode store sets place given left m are numbered at goes usage options clauses j tells same_mode unsplit same same_left =
     let told = sets-told usage clauses j (members_in store.slots.items) tells sets are numbered in
     let given_told =
-    member-told usage clauses j (members_in store.slots.items) tells given.member (at-member (λ (t : Told). t.member) store.slots.items place given at) in
-    goes-right usage options clauses j given.member.number m same (goes usage options clauses j told unsplit given_told)
+    member-told usage clauses j (members_in store.slots.items) tells given (at-living store.slots.items place given at) in
+    goes-right usage options clauses j given.number m same (goes usage options clauses j told unsplit given_told)

@@ -1,6 +1,7 @@
 pub mod View
 pub mod Learning
 pub mod Store
+pub mod Occurring
 pub mod Sets
 pub mod Kept
 pub mod Index

@@ -17,7 +17,7 @@ use Rattle.bank_clause.specs.declared.member.Member.{Member}
 use Rattle.subsume.specs.Members.{numbers_of}
 use Rattle.eq_rules.specs.Inferences.{AreInferences, IsConcluded, IsMade}
 use Rattle.eq_rules.specs.declared.inference.Inference.{Inference}
-use Rattle.superpose.specs.Pairing.{AddsSuperpositions, is_from_into}
+use Rattle.superpose.specs.Pairing.{is_from_into}
 use Rattle.pool_core.specs.Record.{GivenJob}
 use Rattle.pool_core.specs.Reduction.{Lookup}
 use Rattle.pool_core.specs.Batches.{IsRightFate}
@@ -30,7 +30,6 @@ use Rattle.simplification.specs.declared.simplifying.Simplified.{Simplified}
 use Rattle.simplification.specs.declared.simplifying.Simplified.TheVariants as outcome
 use Rattle.given_work.specs.Store.{members_in}
 use Rattle.given_work.specs.Telling.{AreToldSets, Tells, told_of}
-use Rattle.given_work.specs.declared.store.Told.{Told}
 
 -- ---- names of inferences
 
@@ -69,14 +68,8 @@ AreAlone mode m found =
     → IsTrue (are_literals_of usage (clause_at m.clause).literals) → clauses m.number ≡ Some (clause_at m.clause)
     → AreInferences usage.is_predicate (mode_of mode) clauses (is_alone m.number) found
 
--- the list grew by the superpositions between two clauses, both ways
-pub record AddsPair (mode : Selection) (m n : Member) (before now : List Inference) : Type 0 where
-  pub middle : List Inference
-  pub forth : AddsSuperpositions (mode_of mode) m n before middle
-  pub back : AddsSuperpositions (mode_of mode) n m middle now
-
 -- the numbers of those before a place
-abbrev pub before_place : List (Option Told) → ℕ → List ℕ
+abbrev pub before_place : List (Option Member) → ℕ → List ℕ
 before_place slots place = numbers_of (members_in (take place slots))
 
 -- ---- entries

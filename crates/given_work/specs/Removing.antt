@@ -1,5 +1,5 @@
 -- The told clauses that a given clause removes.
-use Rattle.std.specs.Prelude.{◌≡◌, ℕ, Bool, true, false, not, ◌&&◌, ◌||◌, ◌==◌, List, ◌++◌, Option, option_to_list, All, Contains, IsTrue}
+use Rattle.std.specs.Prelude.{◌≡◌, ◌⊎◌, ℕ, Bool, false, ◌==◌, List, ◌++◌, Option, option_to_list, All, Contains, IsTrue}
 use Rattle.std.specs.List.{list_any}
 use Rattle.fol_base.specs.Clause.{TreeClause}
 use Rattle.fol_base.specs.WellFormed.{SymbolUse}
@@ -26,27 +26,52 @@ pub record AddsRemoval (es us ms : List Member) (n : ℕ) (c : TreeClause) (befo
   pub added : now ≡ before ++ option_to_list gone
   pub right : IsRemovalOf es us ms n c gone
 
--- Which clauses a given one may simplify: any other where it has one literal, and those that it subsumes.
-abbrev pub may_go : ℕ → Bool → List ℕ → ℕ → Bool
-may_go given is_unit subsumed n = not (n == given) && (is_unit || list_any (λ k. k == n) subsumed)
+-- another member than the given one with a number adds its removal, if it goes
+pub record AddsRemovalOf (ms es us ss : List Member) (given n : ℕ) (before now : List Removal) : Type 0 where
+  pub member : Member
+  pub there : Contains ms member
+  pub numbered : member.number ≡ n
+  pub another : n ≡ given → ⊥
+  pub adds : AddsRemoval es us ss n (clause_at member.clause) before now
 
--- a clause that may go adds its removal, another one nothing
-abbrev pub IsConsidered : List Member → List Member → List Member → Bool → Member → List Removal → List Removal → Type 0
-IsConsidered es us ms true m before now = AddsRemoval es us ms m.number (clause_at m.clause) before now
-IsConsidered es us ms false m before now = now ≡ before
+-- or none has it, and nothing is added
+pub record AddsNone (ms : List Member) (given n : ℕ) (before now : List Removal) : Type 0 where
+  pub none : (m : Member) → Contains ms m → m.number ≡ n → n ≡ given
+  pub same : now ≡ before
+
+abbrev pub IsConsidered : List Member → List Member → List Member → List Member → ℕ → ℕ → List Removal → List Removal → Type 0
+IsConsidered ms es us ss given n before now = AddsNone ms given n before now ⊎ AddsRemovalOf ms es us ss given n before now
 
 -- a right removal of another told clause
 pub record Removes (is_predicate : ℕ → Bool) (options : Options) (clauses : Lookup) (j : GivenJob) (m : Removal) : Type 0 where
   pub another : IsTrue (is_told_beside j j.number m.victim)
   pub right : IsRightRemoval is_predicate options clauses j m
 
--- Right removals, one for each of some members that the given clause simplifies.
-abbrev pub AreRemovalsAmong : List Member → Member → List Member → List Removal → Type 0
-AreRemovalsAmong ms given seen removals =
+-- Right removals, one for each member that the given clause simplifies.
+abbrev pub AreRemovalsOf : List Member → Member → List Removal → Type 0
+AreRemovalsOf ms given removals =
     (usage : SymbolUse) (options : Options) (clauses : Lookup) (j : GivenJob)
     → Tells usage clauses j ms → options.split ≡ false → j.number ≡ given.number
     → All (Removes usage.is_predicate options clauses j) removals
     × ((m : Member)
-    → Contains seen m → (m.number ≡ given.number → ⊥)
+    → Contains ms m → (m.number ≡ given.number → ⊥)
     → Simplifies usage.is_predicate options clauses j (clause_at given.clause) (clause_at m.clause)
     → IsTrue (list_any (λ (r : Removal). r.victim == m.number) removals))
+
+-- The same of those whose numbers are in a list.
+abbrev pub AreRemovalsAmong : List Member → Member → List ℕ → List Removal → Type 0
+AreRemovalsAmong ms given numbers removals =
+    (usage : SymbolUse) (options : Options) (clauses : Lookup) (j : GivenJob)
+    → Tells usage clauses j ms → options.split ≡ false → j.number ≡ given.number
+    → All (Removes usage.is_predicate options clauses j) removals
+    × ((m : Member)
+    → Contains ms m → Contains numbers m.number → (m.number ≡ given.number → ⊥)
+    → Simplifies usage.is_predicate options clauses j (clause_at given.clause) (clause_at m.clause)
+    → IsTrue (list_any (λ (r : Removal). r.victim == m.number) removals))
+
+-- the list has the number of each member that the given clause simplifies
+abbrev pub HasSimplified : List Member → Member → List ℕ → Type 0
+HasSimplified ms given numbers =
+    (usage : SymbolUse) (options : Options) (clauses : Lookup) (j : GivenJob)
+    → Tells usage clauses j ms → (m : Member) → Contains ms m → (m.number ≡ given.number → ⊥)
+    → Simplifies usage.is_predicate options clauses j (clause_at given.clause) (clause_at m.clause) → Contains numbers m.number

@@ -1,6 +1,5 @@
 -- The work on a given clause.
 use Rattle.std.specs.Prelude.{◌≡◌, ◌⊎◌, ℕ, ◌≤◌, false, List, [], length}
-use Rattle.term_bank.specs.declared.bank.Bank.{Bank}
 use Rattle.fol_base.specs.WellFormed.{SymbolUse}
 use Rattle.literal_selection.specs.declared.choice.Selection.{Selection}
 use Rattle.bank_clause.specs.declared.member.Member.{Member}
@@ -13,21 +12,14 @@ use Rattle.pool_core.specs.declared.batch.Entry.{Entry}
 use Rattle.pool_core.specs.declared.batch.Removal.{Removal}
 use Rattle.pool_core.specs.declared.batch.Work.{Work}
 use Rattle.pool_core.specs.declared.batch.Work.TheVariants.{Met}
-use Rattle.given_work.specs.Kept.{IsKept}
 use Rattle.given_work.specs.Meeting.{AreFirstEntries, AreMetWith}
-use Rattle.given_work.specs.Removing.{AreRemovalsAmong}
+use Rattle.given_work.specs.Removing.{AreRemovalsOf}
 use Rattle.given_work.specs.Telling.{Tells}
 use Rattle.given_work.specs.declared.sets.Sets.{Sets}
-use Rattle.given_work.specs.declared.store.Store.{Store}
-
--- kept under some mode
-pub record HasKept (bank : Bank) (store : Store) (sets : Sets) : Type 0 where
-  pub mode : Selection
-  pub kept : IsKept bank mode store sets
 
 -- the removals, or none where the entries are enough
 abbrev pub HasRemovals : List Member → Member → ℕ → List Entry → List Removal → Type 0
-HasRemovals ms given left entries removals = ((left ≤ length entries) × (removals ≡ [])) ⊎ AreRemovalsAmong ms given ms removals
+HasRemovals ms given left entries removals = ((left ≤ length entries) × (removals ≡ [])) ⊎ AreRemovalsOf ms given removals
 
 -- the inferences of a clause that stays with the clauses of some numbers, and the removals
 pub record IsMetBy (mode : Selection) (sets : Sets) (ms : List Member) (numbers : List ℕ) (given : Member) (left : ℕ) (work : Work) : Type 0 where

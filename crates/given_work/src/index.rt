@@ -47,7 +47,7 @@ impl Index {
         Ok(Index {
             options,
             told: 0,
-            store: Store::new(alloc),
+            store: Store::new(alloc, options.select)?,
             sets: Sets::new(alloc)?,
         })
     }
@@ -61,14 +61,15 @@ impl Index {
             ≡ record { options = self.options; told = as_of; members = learned self.members news.now }) }
         ensures of_bank { IfOk result (λ index. AreMembersOf bank.now index.members) }
     {
+        // What the index is made of keeps the allocator.
+        let _ = alloc;
         let Index {
             options,
             told: _,
             mut store,
             mut sets,
         } = self;
-        let mode = options.select;
-        learn_all(alloc, bank, mode, news.as_slice(), &mut store, &mut sets)?;
+        learn_all(bank, news.as_slice(), &mut store, &mut sets)?;
         Ok(Index {
             options,
             told: as_of,

@@ -11,62 +11,48 @@ ghost use Rattle.given_work.specs.Kept.{IsKept};
 ghost use Rattle.pool_core.specs.declared.ticket.Change.TheVariants.{Activated};
 
 use crate::sets::Sets;
-use crate::store::{Store, Told};
+use crate::store::Store;
 use bank_clause::Member;
-use literal_selection::Selection;
 use plain_types::Mem;
 use pool_core::Change;
-use std::alloc::Global;
-use superpose::Sites;
 use term_bank::Bank;
 
 /// Learns one change.
 pub(crate) fn learn_change(
-    alloc: Global,
     bank: &Bank,
-    mode: Selection,
     change: &Change,
     store: &mut Store,
     sets: &mut Sets,
 ) -> Mem<()>
-    requires kept { IsKept bank.now mode store.old sets.old }
+    requires kept { IsKept bank.now store.old sets.old }
     requires change { IsChangeOf bank.now change.now }
     requires new { IsNew (members_in store.old.slots.items) change.now }
-    ensures kept { IfOk result (λ _. IsKept bank.now mode store.new sets.new) }
+    ensures kept { IfOk result (λ _. IsKept bank.now store.new sets.new) }
     ensures members { IfOk result (λ _. members_in store.new.slots.items ≡ learns (members_in store.old.slots.items) change.now) }
+    ensures mode { IfOk result (λ _. store.new.partners.mode ≡ store.old.partners.mode) }
 {
     match change {
-        Change::Activated(member) => activate(alloc, bank, mode, member, store, sets),
+        Change::Activated(member) => activate(bank, member, store, sets),
         Change::Died(number) => {
-            store.take(*number);
+            store.take(bank, *number);
             sets.remove(bank, *number);
             Ok(())
         }
     }
 }
 
-/// Learns a clause that was activated. Its sites are found here, once.
-fn activate(
-    alloc: Global,
-    bank: &Bank,
-    mode: Selection,
-    member: &Member,
-    store: &mut Store,
-    sets: &mut Sets,
-) -> Mem<()>
-    requires kept { IsKept bank.now mode store.old sets.old }
+/// Learns a clause that was activated.
+fn activate(bank: &Bank, member: &Member, store: &mut Store, sets: &mut Sets) -> Mem<()>
+    requires kept { IsKept bank.now store.old sets.old }
     requires member { IsMemberOf bank.now member.now }
     requires new { HasNoNumber member.now.number (members_in store.old.slots.items) }
-    ensures kept { IfOk result (λ _. IsKept bank.now mode store.new sets.new) }
+    ensures kept { IfOk result (λ _. IsKept bank.now store.new sets.new) }
     ensures members { IfOk result (λ _. members_in store.new.slots.items ≡ learns (members_in store.old.slots.items) (Activated member.now)) }
+    ensures mode { IfOk result (λ _. store.new.partners.mode ≡ store.old.partners.mode) }
 {
-    let sites = Sites::of_member(alloc, bank, member, mode)?;
+    below_lines(member.number);
     sets.insert(bank, member)?;
-    let clause = member.clause.copied()?;
-    let number = member.number;
-    below_lines(number);
-    let member = Member { number, clause };
-    store.put(Told { member, sites })?;
+    store.put(bank, member)?;
     Ok(())
 }
 
@@ -79,21 +65,20 @@ fn below_lines(number: u32)
 
 /// Learns changes, one after another.
 pub(crate) fn learn_all(
-    alloc: Global,
     bank: &Bank,
-    mode: Selection,
     changes: &[Change],
     store: &mut Store,
     sets: &mut Sets,
 ) -> Mem<()>
-    requires kept { IsKept bank.now mode store.old sets.old }
+    requires kept { IsKept bank.now store.old sets.old }
     requires changes { All (IsChangeOf bank.now) changes.now }
     requires new { AreNews (members_in store.old.slots.items) changes.now }
-    ensures kept { IfOk result (λ _. IsKept bank.now mode store.new sets.new) }
+    ensures kept { IfOk result (λ _. IsKept bank.now store.new sets.new) }
     ensures members { IfOk result (λ _. members_in store.new.slots.items ≡ learned (members_in store.old.slots.items) changes.now) }
+    ensures mode { IfOk result (λ _. store.new.partners.mode ≡ store.old.partners.mode) }
 {
     for change in changes {
-        learn_change(alloc, bank, mode, change, store, sets)?;
+        learn_change(bank, change, store, sets)?;
     }
     Ok(())
 }

@@ -6,6 +6,7 @@ mod going;
 mod index;
 mod inferences;
 mod learning;
+mod occurring;
 mod removing;
 mod sets;
 mod store;

@@ -1,17 +1,22 @@
 // The told clauses that a given clause removes.
 
-ghost use Rattle.std.specs.Prelude.{◌≡◌, ◌==◌, ◌&&◌, ◌||◌, ◌++◌, not, Some, IfOk, option_to_list, slice_get};
-ghost use Rattle.std.specs.List.{list_any};
+ghost use Rattle.std.specs.Prelude.{◌≡◌, ◌++◌, Contains, IfOk, option_to_list};
 ghost use Rattle.bank_clause.specs.Clause.{IsMemberOf, clause_at};
 ghost use Rattle.given_work.specs.Kept.{IsKept};
+ghost use Rattle.given_work.specs.Occurring.{numbers_by_unit};
 ghost use Rattle.given_work.specs.Store.{members_in};
-ghost use Rattle.given_work.specs.Telling.{AreSetsOfBank, AreToldWith};
-ghost use Rattle.given_work.specs.Removing.{AddsRemoval, AreRemovalsAmong, AreTold, IsConsidered, may_go};
+ghost use Rattle.given_work.specs.Removing.{AreRemovalsOf, AreTold, HasSimplified, IsConsidered};
 
 use crate::going::removal_of;
+use crate::occurring::push_with_instances;
 use crate::sets::Sets;
-use crate::store::{Store, Told};
-use plain_types::Mem;
+use crate::store::Store;
+use bank_clause::Member;
+use disc_tree::DiscTree;
+use fol_base::{LendsLiterals, SIZE_LIMIT};
+use kernel_steps::CLAUSE_NUMBERS;
+use partners::in_order;
+use plain_types::{Mem, Numbers};
 use pool_core::{Removal, Removals};
 use simplification::Simplifiers;
 use std::alloc::Global;
@@ -25,83 +30,93 @@ pub(crate) fn removals_of(
     bank: &Bank,
     store: &Store,
     sets: &Sets,
-    place: usize,
-    given: &Told,
+    given: &Member,
 ) -> Mem<Removals>
-    requires kept { IsKept bank.now given.now.sites.mode store.now sets.now }
+    requires kept { IsKept bank.now store.now sets.now }
     requires told { AreTold (members_in store.now.slots.items) }
-    requires given { slice_get store.now.slots.items place ≡ Some (Some given.now) }
-    ensures { IfOk result (AreRemovalsAmong (members_in store.now.slots.items) given.now.member (members_in store.now.slots.items)) }
+    requires given { Contains (members_in store.now.slots.items) given.now }
+    ensures { IfOk result (AreRemovalsOf (members_in store.now.slots.items) given.now) }
 {
-    let is_unit = has_one_literal(&given.member.clause);
-    let subsumed = backward(alloc, bank, &sets.subsumers, &given.member)?;
-    let count = store.slots.len();
+    let candidates = candidates_of(alloc, bank, store, sets, given)?;
     let mut removals = Vec::new(alloc);
-    for at in 0..count {
-        if let Some(told) = &store.slots[at] {
-            let candidates = Candidates {
-                given: given.member.number,
-                is_unit,
-                subsumed: subsumed.as_slice(),
-            };
-            consider(alloc, bank, sets, &candidates, told, &mut removals)?;
-        }
+    for candidate in candidates.as_slice() {
+        consider(
+            alloc,
+            bank,
+            store,
+            sets,
+            given.number,
+            *candidate,
+            &mut removals,
+        )?;
     }
     Ok(Removals::from_vec(removals))
 }
 
-/// Which clauses a given one may simplify: any other where it has one literal, and those that it subsumes.
-#[derive(Clone, Copy)]
-pub(crate) struct Candidates<'a> {
-    given: u32,
-    is_unit: bool,
-    subsumed: &'a [u64],
+/// The numbers of the told clauses that a given one may simplify, each once: those that it subsumes, and by a unit those in which an instance
+/// of a side of it may occur.
+fn candidates_of(
+    alloc: Global,
+    bank: &Bank,
+    store: &Store,
+    sets: &Sets,
+    given: &Member,
+) -> Mem<Numbers>
+    requires kept { IsKept bank.now store.now sets.now }
+    requires given { Contains (members_in store.now.slots.items) given.now }
+    ensures { IfOk result (HasSimplified (members_in store.now.slots.items) given.now) }
+{
+    let subsumed = backward(alloc, bank, &sets.subsumers, given)?;
+    let mut found = subsumed.into_vec();
+    push_by_unit(bank, &store.terms, given, &mut found)?;
+    Ok(in_order(Numbers::from_vec(found)))
 }
 
-/// Adds the removal of a clause that the given one may simplify, if it goes.
+/// Adds the numbers of the clauses in which an instance of a side of a unit may occur. Another clause adds none.
+fn push_by_unit(bank: &Bank, terms: &DiscTree, given: &Member, found: &mut Vec<u64>) -> Mem<()>
+    requires { IsMemberOf bank.now given.now }
+    ensures { IfOk result (λ _. found.new.items ≡ found.old.items ++ numbers_by_unit terms.now (clause_at given.now.clause).literals) }
+{
+    if has_one_literal(&given.clause) {
+        let is_small = u64::from(given.clause.size()) < SIZE_LIMIT;
+        prove!(is_small);
+        let literals = given.clause.lend(bank);
+        push_with_instances(terms, literals.literal(0), found)?;
+    }
+    Ok(())
+}
+
+/// Adds the removal of the told clause with a number, if there is one, it is another one than the given clause, and it goes.
 fn consider(
     alloc: Global,
     bank: &Bank,
+    store: &Store,
     sets: &Sets,
-    candidates: &Candidates<'_>,
-    told: &Told,
+    given: u32,
+    candidate: u64,
     removals: &mut Vec<Removal>,
 ) -> Mem<()>
-    requires of_bank { AreSetsOfBank bank.now sets.now.equations sets.now.units sets.now.subsumers }
-    requires member { IsMemberOf bank.now told.now.member }
-    requires told { AreToldWith sets.now.equations sets.now.units sets.now.subsumers told.now.member.number (clause_at told.now.member.clause) }
-    ensures { IfOk result (λ _. IsConsidered sets.now.equations sets.now.units sets.now.subsumers
-        (may_go candidates.now.given candidates.now.is_unit candidates.now.subsumed.now told.now.member.number)
-        told.now.member removals.old.items removals.new.items) }
+    requires kept { IsKept bank.now store.now sets.now }
+    requires told { AreTold (members_in store.now.slots.items) }
+    ensures { IfOk result (λ _. IsConsidered (members_in store.now.slots.items) sets.now.equations sets.now.units sets.now.subsumers
+        given candidate removals.old.items removals.new.items) }
 {
-    if !may_go(candidates, told.member.number) {
+    if candidate >= CLAUSE_NUMBERS || candidate == u64::from(given) {
         return Ok(());
     }
+    let Some(victim) = store.partners.premise(candidate as u32) else {
+        return Ok(());
+    };
     let by = Simplifiers {
         bank,
         equations: &sets.equations,
         units: &sets.units,
         members: &sets.subsumers,
-        left_out: Some(told.member.number),
+        left_out: Some(victim.member.number),
     };
-    let gone = removal_of(alloc, &by, &told.member)?;
+    let gone = removal_of(alloc, &by, victim.member)?;
     push_gone(removals, gone)?;
     Ok(())
-}
-
-/// Whether the given clause may simplify the clause of a number.
-fn may_go(candidates: &Candidates<'_>, number: u32) -> bool
-    ensures { result ≡ may_go candidates.now.given candidates.now.is_unit candidates.now.subsumed.now number }
-{
-    number != candidates.given
-        && (candidates.is_unit || is_listed(candidates.subsumed, u64::from(number)))
-}
-
-/// Whether a number stands in a list.
-fn is_listed(numbers: &[u64], number: u64) -> bool
-    ensures { result ≡ list_any (λ k. k == number) numbers.now }
-{
-    numbers.iter().any(|known| *known == number)
 }
 
 /// Adds a removal, if there is one.

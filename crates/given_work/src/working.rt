@@ -3,13 +3,13 @@
 ghost use Rattle.std.specs.Prelude.{◌≡◌, Some, IfOk, IsTrue, slice_get};
 ghost use Rattle.kernel_steps.specs.Split.{has_number};
 ghost use Rattle.bank_clause.specs.Clause.{AreMembersOf, clause_at};
-ghost use Rattle.literal_selection.specs.declared.choice.Selection.{Selection};
 ghost use Rattle.subsume.specs.Members.{numbers_of};
+ghost use Rattle.partners.specs.Partners.{AreSitesFor};
 ghost use Rattle.given_work.specs.Kept.{IsKept};
-ghost use Rattle.given_work.specs.Store.{IsStore, members_in};
+ghost use Rattle.given_work.specs.Store.{members_in};
 ghost use Rattle.given_work.specs.Meeting.{before_place};
 ghost use Rattle.given_work.specs.Removing.{AreTold};
-ghost use Rattle.given_work.specs.Working.{HasKept, IsMetBy, IsRightUnder, IsRightWorkOf};
+ghost use Rattle.given_work.specs.Working.{IsMetBy, IsRightUnder, IsRightWorkOf};
 
 use crate::entries::entries_of;
 use crate::going::removal_of;
@@ -17,11 +17,12 @@ use crate::index::Index;
 use crate::inferences::inferences_of;
 use crate::removing::removals_of;
 use crate::sets::Sets;
-use crate::store::{Store, Told};
+use crate::store::Store;
 use plain_types::Mem;
 use pool_core::{Batch, Removals, Ticket, Work};
 use simplification::Simplifiers;
 use std::alloc::Global;
+use superpose::Premise;
 use term_bank::Bank;
 
 /// The batch for the ticket of a given clause, by an index that was told the clauses that are told for it.
@@ -61,19 +62,18 @@ fn work_in(
     number: u32,
     left: u32,
 ) -> Mem<Work>
-    requires kept { HasKept bank.now store.now sets.now }
+    requires kept { IsKept bank.now store.now sets.now }
     requires told { AreTold (members_in store.now.slots.items) }
     requires given { IsTrue (has_number number (numbers_of (members_in store.now.slots.items))) }
-    ensures { IfOk result (λ work. (mode : Selection) → IsStore mode store.now
-        → IsRightWorkOf mode (members_in store.now.slots.items) number left work) }
+    ensures { IfOk result (IsRightWorkOf store.now.partners.mode (members_in store.now.slots.items) number left) }
 {
-    let Some(place) = store.places.get(&number) else {
+    let Some(place) = store.partners.position(number) else {
         unreachable!();
     };
-    let Some(given) = &store.slots[*place] else {
+    let Some(given) = store.partners.premise(number) else {
         unreachable!();
     };
-    let work = work_at(alloc, bank, store, sets, *place, given, left)?;
+    let work = work_at(alloc, bank, store, sets, place, &given, left)?;
     Ok(work)
 }
 
@@ -84,13 +84,14 @@ fn work_at(
     store: &Store,
     sets: &Sets,
     place: usize,
-    given: &Told,
+    given: &Premise<'_>,
     left: u32,
 ) -> Mem<Work>
-    requires kept { IsKept bank.now given.now.sites.mode store.now sets.now }
+    requires kept { IsKept bank.now store.now sets.now }
     requires told { AreTold (members_in store.now.slots.items) }
-    requires given { slice_get store.now.slots.items place ≡ Some (Some given.now) }
-    ensures { IfOk result (IsRightWorkOf given.now.sites.mode (members_in store.now.slots.items) given.now.member.number left) }
+    requires given { slice_get store.now.slots.items place ≡ Some (Some given.now.member.now) }
+    requires sites { AreSitesFor store.now.partners.mode given.now.member.now given.now.sites.now }
+    ensures { IfOk result (IsRightWorkOf store.now.partners.mode (members_in store.now.slots.items) given.now.member.now.number left) }
 {
     let by = Simplifiers {
         bank,
@@ -99,7 +100,7 @@ fn work_at(
         members: &sets.subsumers,
         left_out: Some(given.member.number),
     };
-    let gone = removal_of(alloc, &by, &given.member)?;
+    let gone = removal_of(alloc, &by, given.member)?;
     match gone {
         Some(removal) => Ok(Work::Gone(removal)),
         None => {
@@ -116,14 +117,15 @@ fn met(
     store: &Store,
     sets: &Sets,
     place: usize,
-    given: &Told,
+    given: &Premise<'_>,
     left: u32,
 ) -> Mem<Work>
-    requires kept { IsKept bank.now given.now.sites.mode store.now sets.now }
+    requires kept { IsKept bank.now store.now sets.now }
     requires told { AreTold (members_in store.now.slots.items) }
-    requires given { slice_get store.now.slots.items place ≡ Some (Some given.now) }
-    ensures { IfOk result (IsMetBy given.now.sites.mode sets.now (members_in store.now.slots.items)
-        (before_place store.now.slots.items place) given.now.member left) }
+    requires given { slice_get store.now.slots.items place ≡ Some (Some given.now.member.now) }
+    requires sites { AreSitesFor store.now.partners.mode given.now.member.now given.now.sites.now }
+    ensures { IfOk result (IsMetBy store.now.partners.mode sets.now (members_in store.now.slots.items)
+        (before_place store.now.slots.items place) given.now.member.now left) }
 {
     let inferences = inferences_of(alloc, bank, store, place, given)?;
     let by = Simplifiers {
@@ -140,6 +142,6 @@ fn met(
             removals: Removals::new(alloc),
         });
     }
-    let removals = removals_of(alloc, bank, store, sets, place, given)?;
+    let removals = removals_of(alloc, bank, store, sets, given.member)?;
     Ok(Work::Met { entries, removals })
 }

@@ -97,7 +97,7 @@ fn take_site<S: Site>(
 }
 
 /// The same numbers in order, each once. So what is tried doesn't depend on the form of the tree.
-pub(crate) fn in_order(found: Numbers) -> Numbers
+pub fn in_order(found: Numbers) -> Numbers
     ensures rise { IsStrictlyIncreasing result }
     ensures same { (n : ℕ) → Contains result n ↔ Contains found n }
 {

@@ -7,4 +7,5 @@ mod meeting;
 mod partners;
 mod site;
 
+pub use index::in_order;
 pub use partners::Partners;

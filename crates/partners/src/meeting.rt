@@ -38,7 +38,7 @@ impl Partners {
         alloc: Global,
         bank: &Bank,
         given: &Premise<'_>,
-        bound: u32,
+        bound: usize,
         found: &mut Vec<Inference>,
     ) -> Mem<()>
         requires members { AreOfBank bank.now self.now }
@@ -64,7 +64,7 @@ impl Partners {
         alloc: Global,
         bank: &Bank,
         given: &Premise<'_>,
-        bound: u32,
+        bound: usize,
         found: &mut Vec<Inference>,
     ) -> Mem<()>
         requires members { AreOfBank bank.now self.now }
@@ -84,7 +84,7 @@ impl Partners {
         alloc: Global,
         bank: &Bank,
         given: &Premise<'_>,
-        bound: u32,
+        bound: usize,
         found: &mut Vec<Inference>,
     ) -> Mem<()>
         requires members { AreOfBank bank.now self.now }
@@ -107,7 +107,7 @@ impl Partners {
         bank: &Bank,
         given: &Premise<'_>,
         from: usize,
-        bound: u32,
+        bound: usize,
         found: &mut Vec<Inference>,
     ) -> Mem<()>
         requires members { AreOfBank bank.now self.now }
@@ -137,7 +137,7 @@ impl Partners {
         given: &Premise<'_>,
         from: usize,
         candidate: u64,
-        bound: u32,
+        bound: usize,
         found: &mut Vec<Inference>,
     ) -> Mem<()>
         requires members { AreOfBank bank.now self.now }
@@ -176,7 +176,7 @@ impl Partners {
         alloc: Global,
         bank: &Bank,
         given: &Premise<'_>,
-        bound: u32,
+        bound: usize,
         found: &mut Vec<Inference>,
     ) -> Mem<()>
         requires members { AreOfBank bank.now self.now }
@@ -199,7 +199,7 @@ impl Partners {
         bank: &Bank,
         given: &Premise<'_>,
         into: usize,
-        bound: u32,
+        bound: usize,
         found: &mut Vec<Inference>,
     ) -> Mem<()>
         requires members { AreOfBank bank.now self.now }
@@ -229,7 +229,7 @@ impl Partners {
         given: &Premise<'_>,
         into: usize,
         candidate: u64,
-        bound: u32,
+        bound: usize,
         found: &mut Vec<Inference>,
     ) -> Mem<()>
         requires members { AreOfBank bank.now self.now }

@@ -1,7 +1,7 @@
 // The set: members by their numbers, each with its position and its sites, and two trees of the terms at their sites.
 
 ghost use Rattle.std.specs.Prelude.{◌≡◌, [], None, Some, nat_lt, IfOk, IfSome, OnErr, if◌then◌else◌};
-ghost use Rattle.std.specs.Option.{is_some, option_map};
+ghost use Rattle.std.specs.Option.{option_map};
 ghost use Rattle.fol_base.specs.Term.{tree_of};
 ghost use Rattle.term_bank.specs.declared.bank.Bank.{Bank};
 ghost use Rattle.bank_clause.specs.Clause.{IsMemberOf};
@@ -40,7 +40,7 @@ pub struct Partners {
 /// A member, its position, and its sites.
 #[derive(Drop)]
 pub(crate) struct Partner {
-    pub(crate) position: u32,
+    pub(crate) position: usize,
     pub(crate) member: Member,
     pub(crate) sites: Sites,
 }
@@ -75,7 +75,7 @@ impl Partner {
     }
 
     /// The same, if its position is below the bound.
-    fn premise_before(&self, bound: u32) -> Option<Premise<'_>>
+    fn premise_before(&self, bound: usize) -> Option<Premise<'_>>
         ensures member { option_map (λ p. p.member.now) result ≡ (if nat_lt self.now.position bound then Some self.now.member else None) }
         ensures sites { IfSome result (λ p. p.sites.now ≡ self.now.sites) }
     {
@@ -106,7 +106,7 @@ impl Partners {
 
     /// Adds an equal member, and finds its sites. The condition is that none with its number is there. After want of memory the set is as
     /// before. Its time is in proportion to the terms at the sites, with a search among the children of the trees' nodes.
-    pub fn insert(&mut self, bank: &Bank, member: &Member, position: u32) -> Mem<()>
+    pub fn insert(&mut self, bank: &Bank, member: &Member, position: usize) -> Mem<()>
         requires member { IsMemberOf bank.now member.now }
         requires number { placed_numbered member.now.number self.old.members ≡ None }
         ensures ok { IfOk result (λ _. HasAlso (record { position = position; member = member.now }) self.old self.new) }
@@ -137,20 +137,20 @@ impl Partners {
         Ok(())
     }
 
-    /// Takes away the member with a number. True exactly where there is one. It takes no memory.
-    pub fn remove(&mut self, bank: &Bank, number: u32) -> bool
+    /// Takes away the member with a number, and tells its position. None exactly where there is none. It takes no memory.
+    pub fn remove(&mut self, bank: &Bank, number: u32) -> Option<usize>
         requires { AreOfBank bank.now self.old }
-        ensures there { result ≡ is_some (placed_numbered number self.old.members) }
+        ensures position { result ≡ option_map (λ p. p.position) (placed_numbered number self.old.members) }
         ensures removed { HasNoMore number self.old self.new }
         ensures of_bank { AreOfBank bank.now self.new }
     {
         match self.known.swap_remove(&number) {
-            None => false,
+            None => None,
             Some(partner) => {
                 let literals = partner.member.clause.lend(bank);
                 let sites = &partner.sites;
                 take_all(&mut self.starts, &mut self.places, &literals, number, sites);
-                true
+                Some(partner.position)
             }
         }
     }
@@ -160,6 +160,16 @@ impl Partners {
         ensures { result ≡ self.now.mode }
     {
         self.mode
+    }
+
+    /// The position of the member with a number.
+    pub fn position(&self, number: u32) -> Option<usize>
+        ensures { result ≡ option_map (λ p. p.position) (placed_numbered number self.now.members) }
+    {
+        match self.known.get(&number) {
+            None => None,
+            Some(partner) => Some(partner.position),
+        }
     }
 
     /// The member with a number, and its sites.
@@ -174,7 +184,7 @@ impl Partners {
     }
 
     /// The same, if its position is below the bound.
-    pub fn partner(&self, number: u32, bound: u32) -> Option<Premise<'_>>
+    pub fn partner(&self, number: u32, bound: usize) -> Option<Premise<'_>>
         ensures member { option_map (λ p. p.member.now) result ≡ partner_before bound self.now number }
         ensures sites { IfSome result (λ p. AreSitesFor self.now.mode p.member.now p.sites.now) }
     {

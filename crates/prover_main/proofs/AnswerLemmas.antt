@@ -58,7 +58,7 @@ proof_proves outside source options problem answer h within p = by answer p
     by (Refuted conjecture derivation) q = record { formulas = problem.formulas; formed = formed; says = q }
     by (Spent count allowed) q = record { formulas = problem.formulas; formed = formed; says = q }
     by (Heavy key) q = record { formulas = problem.formulas; formed = formed; says = q }
-    by Saturated q = record { formulas = problem.formulas; formed = formed; says = q }
+    by (Saturated conjecture members) q = record { formulas = problem.formulas; formed = formed; says = q }
     by (Accepted lines) q = absurd q
     by (Refused line cause) q = absurd q
     by (Unloaded name) q = absurd q
@@ -78,5 +78,5 @@ judgement_checks outside source derivation text formed (Unread cause name place)
 judgement_checks outside source derivation text formed (Unformed cause name) h l j = absurd j
 judgement_checks outside source derivation text formed (Refuted conjecture t) h l j = absurd j
 judgement_checks outside source derivation text formed (Spent count allowed) h l j = absurd j
-judgement_checks outside source derivation text formed Saturated h l j = absurd j
+judgement_checks outside source derivation text formed (Saturated conjecture t) h l j = absurd j
 judgement_checks outside source derivation text formed (Heavy key) h l j = absurd j

@@ -12,3 +12,5 @@ pub mod OneAnswer
 pub mod RunLaws
 pub mod PieceExamples
 pub mod TruthLaws
+pub mod FormSymbols
+pub mod SaturatedLemmas

@@ -65,7 +65,7 @@ unread-one outside source t c d f g p q h k =
 
 -- the answer of a fault
 of_fault : Option (FormCause × List ℕ) → Answer
-of_fault None = Saturated
+of_fault None = Accepted 0
 of_fault (Some x) = Unformed x.0 x.1
 
 unformed-one : (outside : Outside) (source : Source) (t : IsTold outside) (c d : FormCause) (n m : List ℕ) → IsUnformed outside source c n → IsUnformed outside source d m → Unformed c n ≡ Unformed d m
@@ -110,7 +110,7 @@ prove-stage : (outside : Outside) (source : Source) (options : Options) (a : Ans
 prove-stage outside source options (Refuted c d) h = at_work h.formulas h.formed refl
 prove-stage outside source options (Spent n m) h = at_work h.formulas h.formed refl
 prove-stage outside source options (Heavy k) h = at_work h.formulas h.formed refl
-prove-stage outside source options Saturated h = at_work h.formulas h.formed refl
+prove-stage outside source options (Saturated c m) h = at_work h.formulas h.formed refl
 prove-stage outside source options (Unread c f p) h = at_reading c f p h refl
 prove-stage outside source options (Unformed c n) h = at_forming c n h refl
 prove-stage outside source options (Accepted n) h = absurd h.says
@@ -201,7 +201,7 @@ check-stage outside source derivation t (Unread c f p) h = at_reading c f p h re
 check-stage outside source derivation t (Unformed c n) h = at_forming c n h refl
 check-stage outside source derivation t (Refuted c d) h = absurd h.says.judgement
 check-stage outside source derivation t (Spent n m) h = absurd h.says.judgement
-check-stage outside source derivation t Saturated h = absurd h.says.judgement
+check-stage outside source derivation t (Saturated c m) h = absurd h.says.judgement
 check-stage outside source derivation t (Heavy k) h = absurd h.says.judgement
 
 pub checks-have-one-answer : TextsHaveOneAnswer → ChecksHaveOneAnswer

@@ -20,7 +20,7 @@ use Rattle.prover_main.specs.declared.answer.Answer.TheVariants.{Refuted, Satura
 use Rattle.prover_main.specs.Answer.{Source, IsUnread, IsLoaded, IsJudged, IsTooLong, IsProveAnswer, IsCheckAnswer, IsAnswer}
 use Rattle.prover_main.specs.Reports.{status_of, read_status, report_of, status_line, load_line}
 use Rattle.prover_main.specs.Run.{file_of, Taken, IsDueTo, IsDue, IsDelivery, status_after, IsRun}
-use Rattle.prover_main.specs.Laws.{IsTold, is_exact, EndsWith, EndsInMemoryOut, EndsInUsage, UsageIsTold, CommandsAreAnswered, EndsInLoadFault, FaultsAreCounted, HasCause, FaultsComeForCauses, IsValid, FormedIsValid, Reported, ProveEnds, with_refutation, with_limit_reached, with_heavy_inference, with_nothing_left, without_memory, ValidProblemsAreAnswered, CheckEnds, with_acceptance, with_refusal, check_without_memory, LoadedDerivationsAreAnswered}
+use Rattle.prover_main.specs.Laws.{IsTold, is_exact, EndsWith, EndsInMemoryOut, EndsInUsage, UsageIsTold, CommandsAreAnswered, EndsInLoadFault, FaultsAreCounted, HasCause, FaultsComeForCauses, IsValid, FormedIsValid, Reported, ProveEnds, with_refutation, with_limit_reached, with_heavy_inference, with_saturated_set, without_memory, ValidProblemsAreAnswered, CheckEnds, with_acceptance, with_refusal, check_without_memory, LoadedDerivationsAreAnswered}
 use Rattle.prover_main.proofs.OneAnswer.{fault-read, not-load, unformed-formed, text-one, loaded-short, faults-are-the-only-answer, checks-have-one-answer}
 
 -- ---- the statuses of answers
@@ -33,7 +33,7 @@ cause-not-five c e = omega (arith, e)
 answer-not-five : (a : Answer) → status_of a ≡ 5 → ⊥
 answer-not-five (Refuted c d) e = omega (arith, e)
 answer-not-five (Spent n m) e = omega (arith, e)
-answer-not-five Saturated e = omega (arith, e)
+answer-not-five (Saturated c m) e = omega (arith, e)
 answer-not-five (Heavy k) e = omega (arith, e)
 answer-not-five (Accepted n) e = omega (arith, e)
 answer-not-five (Refused n c) e = omega (arith, e)
@@ -49,7 +49,7 @@ cause-not-six c e = omega (arith, e)
 answer-not-six : (a : Answer) → status_of a ≡ 6 → ⊥
 answer-not-six (Refuted c d) e = omega (arith, e)
 answer-not-six (Spent n m) e = omega (arith, e)
-answer-not-six Saturated e = omega (arith, e)
+answer-not-six (Saturated c m) e = omega (arith, e)
 answer-not-six (Heavy k) e = omega (arith, e)
 answer-not-six (Accepted n) e = omega (arith, e)
 answer-not-six (Refused n c) e = omega (arith, e)
@@ -171,7 +171,7 @@ load-fault outside (check file derivation root) taken (Unloaded n) h s told =
     (subst (λ (m : List ℕ). IfSome outside.failed_after (λ failed. failed ≡ m)) (sym h.says.name_is) h.says.failed)
 load-fault outside command taken (Refuted c d) h s told = absurd (omega (arith, s))
 load-fault outside command taken (Spent n m) h s told = absurd (omega (arith, s))
-load-fault outside command taken Saturated h s told = absurd (omega (arith, s))
+load-fault outside command taken (Saturated c m) h s told = absurd (omega (arith, s))
 load-fault outside command taken (Heavy k) h s told = absurd (omega (arith, s))
 load-fault outside command taken (Accepted n) h s told = absurd (omega (arith, s))
 load-fault outside command taken (Refused n c) h s told = absurd (omega (arith, s))
@@ -255,7 +255,7 @@ prove-end :
 prove-end outside source options taken status (Refuted c d) t v h s w = with_refutation c d s h w
 prove-end outside source options taken status (Spent n m) t v h s w = with_limit_reached n m s h w
 prove-end outside source options taken status (Heavy k) t v h s w = with_heavy_inference k s h w
-prove-end outside source options taken status Saturated t v h s w = with_nothing_left s h w
+prove-end outside source options taken status (Saturated c m) t v h s w = with_saturated_set c m s h w
 prove-end outside source options taken status (Unread c f p) t v h s w = absurd (v.read c f p (not-load outside source t c f p h) h.fault)
 prove-end outside source options taken status (Unformed c n) t v h s w = absurd (v.formed c n h)
 prove-end outside source options taken status (Accepted n) t v h s w = absurd h.says
@@ -300,7 +300,7 @@ check-end one outside source derivation x taken status (Unread c f p) t v loaded
 check-end one outside source derivation x taken status (Unformed c n) t v loaded h s w = absurd (v.formed c n h)
 check-end one outside source derivation x taken status (Refuted c d) t v loaded h s w = absurd h.says.judgement
 check-end one outside source derivation x taken status (Spent n m) t v loaded h s w = absurd h.says.judgement
-check-end one outside source derivation x taken status Saturated t v loaded h s w = absurd h.says.judgement
+check-end one outside source derivation x taken status (Saturated c m) t v loaded h s w = absurd h.says.judgement
 check-end one outside source derivation x taken status (Heavy k) t v loaded h s w = absurd h.says.judgement
 
 pub loaded-derivations-are-answered : TextsHaveOneAnswer → LoadedDerivationsAreAnswered

@@ -1,4 +1,4 @@
--- What the statuses 0, 2 and 10 of runs say of the problem.
+-- What the statuses 0, 1 and 2 of runs say of the problem.
 use Rattle.std.proofs.Common.{◌≡◌, ◌⊎◌, inl, inr, ℕ, List, Some, sym, ◌∙◌, arith}
 use Rattle.clausal_form.specs.FormFunctions.{IsHerbrandRefuted}
 use Rattle.tptp_reader.specs.declared.cause.ReadCause.{ReadCause}
@@ -6,12 +6,12 @@ use Rattle.tptp_reader.specs.declared.cause.ReadCause.TheVariants.{Inappropriate
 use Rattle.pool_core.specs.declared.options.Options.{Options}
 use Rattle.prover_main.specs.Outside.{Outside}
 use Rattle.prover_main.specs.Words.{Command, prove, check, command_of}
-use Rattle.prover_main.specs.Answer.{Source, OfFormed, IsAtEnd, IsAnswer}
+use Rattle.prover_main.specs.Answer.{Source, OfFormed, IsAnswer}
 use Rattle.prover_main.specs.declared.answer.Answer.{Answer}
 use Rattle.prover_main.specs.declared.answer.Answer.TheVariants.{Refuted, Saturated, Spent, Heavy, Accepted, Refused, Unloaded, Unread, Unformed}
 use Rattle.prover_main.specs.Reports.{status_of, read_status}
 use Rattle.prover_main.specs.Run.{Taken, IsRun}
-use Rattle.prover_main.specs.Laws.{EndsWith, EndsInMemoryOut, source_of, HasGivenUp, StatusesAreTrue}
+use Rattle.prover_main.specs.Laws.{EndsWith, EndsInMemoryOut, source_of, HasGivenUp, HasSaturation, StatusesAreTrue}
 use Rattle.prover_main.proofs.RunLaws.{commands-are-answered}
 
 cause-not-zero : (c : ReadCause) → read_status c ≡ 0 → ⊥
@@ -19,10 +19,10 @@ cause-not-zero (Inappropriate form) e = omega (arith, e)
 cause-not-zero Load e = omega (arith, e)
 cause-not-zero c e = omega (arith, e)
 
-cause-not-ten : (c : ReadCause) → read_status c ≡ 10 → ⊥
-cause-not-ten (Inappropriate form) e = omega (arith, e)
-cause-not-ten Load e = omega (arith, e)
-cause-not-ten c e = omega (arith, e)
+cause-not-one : (c : ReadCause) → read_status c ≡ 1 → ⊥
+cause-not-one (Inappropriate form) e = omega (arith, e)
+cause-not-one Load e = omega (arith, e)
+cause-not-one c e = omega (arith, e)
 
 cause-not-two : (c : ReadCause) → read_status c ≡ 2 → ⊥
 cause-not-two (Inappropriate form) e = omega (arith, e)
@@ -39,7 +39,7 @@ zero-refutes outside (check file derivation root) (Refuted c d) h s = absurd h.s
 zero-refutes outside command (Unread c f p) h s = absurd (cause-not-zero c s)
 zero-refutes outside command (Spent n m) h s = absurd (omega (arith, s))
 zero-refutes outside command (Heavy k) h s = absurd (omega (arith, s))
-zero-refutes outside command Saturated h s = absurd (omega (arith, s))
+zero-refutes outside command (Saturated c m) h s = absurd (omega (arith, s))
 zero-refutes outside command (Refused n c) h s = absurd (omega (arith, s))
 zero-refutes outside command (Unloaded n) h s = absurd (omega (arith, s))
 zero-refutes outside command (Unformed c n) h s = absurd (omega (arith, s))
@@ -54,24 +54,24 @@ two-gives-up outside source options (Heavy k) h s =
 two-gives-up outside source options (Unread c f p) h s = absurd (cause-not-two c s)
 two-gives-up outside source options (Refuted c d) h s = absurd (omega (arith, s))
 two-gives-up outside source options (Accepted n) h s = absurd (omega (arith, s))
-two-gives-up outside source options Saturated h s = absurd (omega (arith, s))
+two-gives-up outside source options (Saturated c m) h s = absurd (omega (arith, s))
 two-gives-up outside source options (Refused n c) h s = absurd (omega (arith, s))
 two-gives-up outside source options (Unloaded n) h s = absurd (omega (arith, s))
 two-gives-up outside source options (Unformed c n) h s = absurd (omega (arith, s))
 
-ten-ends :
+one-saturated :
     (outside : Outside) (source : Source) (options : Options) (a : Answer)
-    → IsAnswer outside (prove source.file source.root options) a → status_of a ≡ 10
-    → OfFormed outside source (λ formulas. IsAtEnd formulas options)
-ten-ends outside source options Saturated h s = h
-ten-ends outside source options (Unread c f p) h s = absurd (cause-not-ten c s)
-ten-ends outside source options (Refuted c d) h s = absurd (omega (arith, s))
-ten-ends outside source options (Accepted n) h s = absurd (omega (arith, s))
-ten-ends outside source options (Spent n m) h s = absurd (omega (arith, s))
-ten-ends outside source options (Heavy k) h s = absurd (omega (arith, s))
-ten-ends outside source options (Refused n c) h s = absurd (omega (arith, s))
-ten-ends outside source options (Unloaded n) h s = absurd (omega (arith, s))
-ten-ends outside source options (Unformed c n) h s = absurd (omega (arith, s))
+    → IsAnswer outside (prove source.file source.root options) a → status_of a ≡ 1
+    → OfFormed outside source (HasSaturation options)
+one-saturated outside source options (Saturated c m) h s = record { formulas = h.formulas; formed = h.formed; says = (m, h.says.1) }
+one-saturated outside source options (Unread c f p) h s = absurd (cause-not-one c s)
+one-saturated outside source options (Refuted c d) h s = absurd (omega (arith, s))
+one-saturated outside source options (Accepted n) h s = absurd (omega (arith, s))
+one-saturated outside source options (Spent n m) h s = absurd (omega (arith, s))
+one-saturated outside source options (Heavy k) h s = absurd (omega (arith, s))
+one-saturated outside source options (Refused n c) h s = absurd (omega (arith, s))
+one-saturated outside source options (Unloaded n) h s = absurd (omega (arith, s))
+one-saturated outside source options (Unformed c n) h s = absurd (omega (arith, s))
 
 -- a run that ends with the status of an answer, and not of a failed write or want of memory, has that answer
 answered :
@@ -96,6 +96,6 @@ statuses-are-true = record {
       let x = answered words outside taken status 2 (prove source.file source.root options) e r s (λ f. omega (arith, f)) (λ f. omega (arith, f)) in
       two-gives-up outside source options x.0 x.1 x.2;
   saturated = λ words outside taken status source options e r s.
-      let x = answered words outside taken status 10 (prove source.file source.root options) e r s (λ f. omega (arith, f)) (λ f. omega (arith, f)) in
-      ten-ends outside source options x.0 x.1 x.2;
+      let x = answered words outside taken status 1 (prove source.file source.root options) e r s (λ f. omega (arith, f)) (λ f. omega (arith, f)) in
+      one-saturated outside source options x.0 x.1 x.2;
 }

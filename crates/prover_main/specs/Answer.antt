@@ -1,8 +1,10 @@
 -- When each answer of a command comes.
-use Rattle.std.specs.Prelude.{◌≡◌, ◌≢◌, ◌≤◌, ◌⊎◌, ℕ, Bool, List, length, map, Option, None, Some, IfSome, slice_get, AllPairs, IsTrue}
+use Rattle.std.specs.Prelude.{◌≡◌, ◌≢◌, ◌≤◌, ◌⊎◌, ℕ, Bool, List, length, map, Option, None, Some, IfSome, slice_get, All, AllPairs, IsTrue}
 use Rattle.std.specs.List.{list_any}
 use Rattle.outside.specs.Faults.{Rose}
 use Rattle.outside.specs.Library.{HoldsExactly, FoundMore}
+use Rattle.fol_base.specs.Clause.{TreeClause}
+use Rattle.fol_base.specs.Symbols.{FunctionSymbols}
 use Rattle.tptp_token.specs.declared.limits.TheConstants.{MOST_TEXT_BYTES}
 use Rattle.tptp_tree.specs.Entries.{is_conjecture}
 use Rattle.tptp_tree.specs.declared.problem.Annotated.{Annotated}
@@ -12,25 +14,33 @@ use Rattle.tptp_problem.specs.Problem.{IsProblem, IsProblemFault}
 use Rattle.tptp_problem.specs.Shape.{IsLoadTold}
 use Rattle.signature.specs.Form.{clausal_form}
 use Rattle.kernel_steps.specs.Keys.{key_text}
+use Rattle.kernel_steps.specs.Named.{IsInference}
 use Rattle.kernel_steps.specs.declared.key.Key.{Key}
+use Rattle.literal_selection.specs.Mode.{mode_of}
+use Rattle.calculus.specs.Lifting.{among}
+use Rattle.calculus.specs.Symbols.{HasSymbolsOf}
 use Rattle.clausal_form.specs.Fault.{form_fault}
-use Rattle.clausal_form.specs.FormFunctions.{is_predicate_in, IsHerbrandRefuted}
+use Rattle.clausal_form.specs.FormFunctions.{is_predicate_in, OwnFunctions, IsHerbrandRefuted}
 use Rattle.clausal_form.specs.DerivationTexts.{IsAcceptedDerivation, IsRefusedDerivation}
 use Rattle.clausal_form.specs.declared.fault.FormCause.{FormCause}
 use Rattle.pool_core.specs.Inputs.{IsHistoryOf}
 use Rattle.pool_core.specs.Laws.{IsHeavyAmong}
 use Rattle.pool_core.specs.Outcomes.{is_at_rest, is_of_living, outcome_of}
-use Rattle.pool_core.specs.Record.{PoolRecord}
+use Rattle.pool_core.specs.Record.{PoolRecord, clauses_of}
 use Rattle.pool_core.specs.Replay.{Origin, replay}
+use Rattle.pool_core.specs.Saturated.{IsSaturated, members_of}
 use Rattle.pool_core.specs.declared.event.Event.{Event}
 use Rattle.pool_core.specs.declared.options.Options.{Options}
 use Rattle.pool_core.specs.declared.outcome.Outcome.{Outcome}
 use Rattle.pool_core.specs.declared.outcome.Outcome.TheVariants as outcome
 use Rattle.retracing.specs.Retraced.{steps_of}
+use Rattle.saturation.specs.Found.{finds_of, WasMet}
+use Rattle.saturation.specs.Laws.{is_member}
 use Rattle.tstp_checker.specs.Causes.{cause_meant}
 use Rattle.tstp_checker.specs.declared.cause.Cause.{Cause}
 use Rattle.tstp_checker.specs.declared.cause.Cause.TheVariants.{Text}
 use Rattle.pool_writer.specs.Refuted.{IsRefutationText}
+use Rattle.pool_writer.specs.Saturation.{saturation_text}
 use Rattle.prover_main.specs.Names.{shown}
 use Rattle.prover_main.specs.Outside.{Outside}
 use Rattle.prover_main.specs.Words.{Command, prove, check}
@@ -118,15 +128,37 @@ pub record IsHeavy (formulas : List Annotated) (options : Options) (text : List 
   pub of_living : IsTrue (is_of_living r key)
   pub heavy : IsHeavyAmong (is_predicate_in (clausal_form formulas).symbols) options r key
 
--- Nothing was left to do in such a history, and no inference of living clauses was set aside.
-abbrev pub IsAtEnd : List Annotated → Options → Type 0
-IsAtEnd formulas options = (r : PoolRecord) × HasHistory formulas options outcome.Saturated r
+-- Clauses are saturated for the clausal form: over the function symbols of the form's own signature, the spare constant included, and over
+-- each list that has the function symbols of the form's clauses.
+pub record AreSaturatedFor (formulas : List Annotated) (options : Options) (members : List TreeClause) : Type 0 where
+  pub own : OwnFunctions (clausal_form formulas).symbols
+  pub over_own : IsSaturated own.functions (mode_of options.select) (clausal_form formulas).clauses members
+  pub over_each :
+      (functions : FunctionSymbols (is_predicate_in (clausal_form formulas).symbols)) → All (HasSymbolsOf functions) (clausal_form formulas).clauses
+      → IsSaturated functions (mode_of options.select) (clausal_form formulas).clauses members
+
+-- Each inference that is named among the members was counted in the history and not set aside, and the job of its last premise found it.
+abbrev pub HaveMet : List Annotated → Options → List Event → PoolRecord → Type 0
+HaveMet formulas options events r =
+    (key : Key) (c : TreeClause)
+    → IsInference (is_predicate_in (clausal_form formulas).symbols) (mode_of options.select) (among (is_member r) (clauses_of r)) key c
+    → WasMet r (finds_of (origin_of formulas options) events) key
+
+-- Nothing was left to do in such a history, and no inference of living clauses was set aside. The text is what is written of its members, and
+-- they are saturated.
+pub record IsSaturation (formulas : List Annotated) (options : Options) (text : List ℕ) : Type 0 where
+  pub r : PoolRecord
+  pub history : HasHistory formulas options outcome.Saturated r
+  pub printed : text ≡ saturation_text (clausal_form formulas).symbols (members_of r)
+  pub saturated : AreSaturatedFor formulas options (members_of r)
+  pub met : HaveMet formulas options history.events r
 
 abbrev pub IsProofAnswer : List ℕ → List Annotated → Options → Answer → Type 0
 IsProofAnswer file formulas options (Refuted conjecture derivation) = IsRefuted file formulas options conjecture derivation
 IsProofAnswer file formulas options (Spent count allowed) = IsSpent formulas options count allowed
 IsProofAnswer file formulas options (Heavy text) = IsHeavy formulas options text
-IsProofAnswer file formulas options Saturated = IsAtEnd formulas options
+IsProofAnswer file formulas options (Saturated conjecture members) =
+    (conjecture ≡ has_conjecture formulas) × IsSaturation formulas options members
 IsProofAnswer file formulas options other = ⊥
 
 -- ---- what `check` says of the formulas

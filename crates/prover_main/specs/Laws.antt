@@ -20,7 +20,7 @@ use Rattle.prover_main.specs.declared.status.TheConstants.{SINK_FAILED, USAGE_SH
 use Rattle.pool_core.specs.Record.{PoolRecord}
 use Rattle.pool_core.specs.declared.options.Options.{Options}
 use Rattle.pool_core.specs.declared.outcome.Outcome.TheVariants as outcome
-use Rattle.prover_main.specs.Answer.{Source, IsFormed, IsUnformed, IsLoaded, OfFormed, HasHistory, IsAtEnd, IsProveAnswer, IsCheckAnswer, IsAnswer}
+use Rattle.prover_main.specs.Answer.{Source, IsFormed, IsUnformed, IsLoaded, OfFormed, HasHistory, IsSaturation, IsProveAnswer, IsCheckAnswer, IsAnswer}
 use Rattle.prover_main.specs.Reports.{status_of, report_of, memory_out_report, usage_report, status_line, load_line}
 use Rattle.prover_main.specs.Run.{file_of, Taken, IsRun}
 
@@ -131,8 +131,12 @@ HasGivenUp options formulas =
     (r : PoolRecord)
     × (((count : ℕ) × HasHistory formulas options (outcome.Spent count) r) ⊎ ((place : ℕ) × HasHistory formulas options (outcome.Heavy place) r))
 
--- What 0, 2 and 10 say of the problem: 0 comes only where some finite list of ground instances of its clausal form is true in no
--- interpretation, and 2 and 10 only where some lawful history of its clausal form and the options ends so.
+-- a pool of the problem has saturated members
+abbrev pub HasSaturation : Options → List Annotated → Type 0
+HasSaturation options formulas = (members : List ℕ) × IsSaturation formulas options members
+
+-- What 0, 1 and 2 say of the problem: 0 comes only where some finite list of ground instances of its clausal form is true in no
+-- interpretation, and 1 and 2 only where some lawful history of its clausal form and the options ends so; with 1 its members are saturated for the form.
 pub record StatusesAreTrue : Type 0 where
   pub refuted :
       (words : List (List ℕ)) (outside : Outside) (taken : Taken) (status : ℕ) (command : Command)
@@ -144,8 +148,8 @@ pub record StatusesAreTrue : Type 0 where
       → OfFormed outside source (HasGivenUp options)
   pub saturated :
       (words : List (List ℕ)) (outside : Outside) (taken : Taken) (status : ℕ) (source : Source) (options : Options)
-      → command_of words ≡ Some (prove source.file source.root options) → IsRun words outside taken status → status ≡ 10
-      → OfFormed outside source (λ formulas. IsAtEnd formulas options)
+      → command_of words ≡ Some (prove source.file source.root options) → IsRun words outside taken status → status ≡ 1
+      → OfFormed outside source (HasSaturation options)
 
 -- ---- completeness
 
@@ -174,9 +178,10 @@ pub data ProveEnds (outside : Outside) (source : Source) (options : Options) (ta
   with_heavy_inference :
       (key : List ℕ) → status ≡ 2 → IsProveAnswer outside source options (Heavy key)
       → Reported (prove source.file source.root options) taken (Heavy key) → ProveEnds outside source options taken status
-  with_nothing_left :
-      status ≡ 10 → IsProveAnswer outside source options Saturated → Reported (prove source.file source.root options) taken Saturated
-      → ProveEnds outside source options taken status
+  with_saturated_set :
+      (conjecture : Bool) (members : List ℕ) → status ≡ 1
+      → IsProveAnswer outside source options (Saturated conjecture members)
+      → Reported (prove source.file source.root options) taken (Saturated conjecture members) → ProveEnds outside source options taken status
   without_memory : EndsInMemoryOut (prove source.file source.root options) taken status → ProveEnds outside source options taken status
 
 abbrev pub ValidProblemsAreAnswered : Type 0

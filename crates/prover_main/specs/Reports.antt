@@ -64,9 +64,9 @@ for_problem file = codes " for " ++ problem_name file ++ codes "\n"
 abbrev pub status_line : List ℕ → List ℕ → List ℕ
 status_line word file = codes "% SZS status " ++ word ++ for_problem file
 
--- the lines around a derivation
-abbrev pub output_line : List ℕ → List ℕ → List ℕ
-output_line word file = codes "% SZS output " ++ word ++ codes " CNFRefutation" ++ for_problem file
+-- the lines around what is printed, by the words for where they stand and for what is printed
+abbrev pub output_line : List ℕ → List ℕ → List ℕ → List ℕ
+output_line place form file = codes "% SZS output " ++ place ++ codes " " ++ form ++ for_problem file
 
 abbrev pub spent_line : ℕ → ℕ → List ℕ
 spent_line count limit = codes "% spent " ++ decimal count ++ codes " of " ++ decimal limit ++ codes "\n"
@@ -98,10 +98,22 @@ abbrev pub refutation_word : Bool → List ℕ
 refutation_word true = codes "Theorem"
 refutation_word false = codes "Unsatisfiable"
 
--- a derivation between its two lines
+abbrev pub saturation_word : Bool → List ℕ
+saturation_word true = codes "CounterSatisfiable"
+saturation_word false = codes "Satisfiable"
+
+-- a text between its two lines, behind a status
+abbrev pub printed_report : List ℕ → List ℕ → List ℕ → List ℕ → List ℕ
+printed_report file word form text =
+    status_line word file ++ output_line (codes "start") form file ++ text ++ output_line (codes "end") form file
+
+-- a derivation
 abbrev pub refuted_report : List ℕ → Bool → List ℕ → List ℕ
-refuted_report file conjecture derivation =
-    status_line (refutation_word conjecture) file ++ output_line (codes "start") file ++ derivation ++ output_line (codes "end") file
+refuted_report file conjecture derivation = printed_report file (refutation_word conjecture) (codes "CNFRefutation") derivation
+
+-- the members of a saturated set
+abbrev pub saturated_report : List ℕ → Bool → List ℕ → List ℕ
+saturated_report file conjecture members = printed_report file (saturation_word conjecture) (codes "Saturation") members
 
 -- the status of a text that isn't read, and the word for it
 abbrev pub read_status : ReadCause → ℕ
@@ -121,25 +133,25 @@ fault_line cause name place = place_line (read_word cause) name place
 abbrev pub status_of : Answer → ℕ
 status_of (Refuted conjecture derivation) = 0
 status_of (Accepted lines) = 0
+status_of (Saturated conjecture members) = 1
 status_of (Spent count allowed) = 2
 status_of (Heavy key) = 2
 status_of (Unformed cause name) = 3
 status_of (Unloaded name) = 4
 status_of (Unread cause name place) = read_status cause
 status_of (Refused line cause) = 9
-status_of Saturated = 10
 
 -- what is told of the problem in a file
 abbrev pub report_of : List ℕ → Answer → List ℕ
 report_of file (Refuted conjecture derivation) = refuted_report file conjecture derivation
 report_of file (Accepted lines) = accepted_line lines
+report_of file (Saturated conjecture members) = saturated_report file conjecture members
 report_of file (Spent count allowed) = status_line (codes "GaveUp") file ++ spent_line count allowed
 report_of file (Heavy key) = status_line (codes "GaveUp") file ++ heavy_line key
 report_of file (Unformed cause name) = status_line (codes "InputError") file ++ formula_line (limit_word cause) name
 report_of file (Unloaded name) = status_line (codes "OSError") file ++ load_line name
 report_of file (Unread cause name place) = status_line (read_status_word cause) file ++ fault_line cause name place
 report_of file (Refused line cause) = refused_line line cause
-report_of file Saturated = status_line (codes "Unknown") file ++ codes "% closed\n"
 
 -- memory was wanted
 abbrev pub memory_out_report : List ℕ → List ℕ

@@ -16,8 +16,11 @@ pub enum Answer {
         conjecture: bool,
         derivation: Text,
     },
-    /// Nothing is left to do, and the empty clause wasn't derived.
-    Saturated,
+    /// Nothing is left to do, and the empty clause wasn't derived. The members of the pool are a saturated set.
+    Saturated {
+        conjecture: bool,
+        members: Text,
+    },
     /// So many inferences were counted, at least as many as are allowed.
     Spent {
         count: u64,
@@ -51,12 +54,12 @@ impl Answer {
     {
         match self {
             Answer::Refuted { .. } | Answer::Accepted(_) => 0,
+            Answer::Saturated { .. } => 1,
             Answer::Spent { .. } | Answer::Heavy(_) => 2,
             Answer::Unformed(_, _) => 3,
             Answer::Unloaded(_) => 4,
             Answer::Unread { cause, .. } => read_status(*cause),
             Answer::Refused { .. } => 9,
-            Answer::Saturated => 10,
         }
     }
 }

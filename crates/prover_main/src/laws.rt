@@ -45,13 +45,14 @@ pub fn statuses_come_for_causes()
 }
 
 /// Soundness: 0 comes only where some finite list of ground instances of the problem's clausal form is true in no
-/// interpretation, and 2 and 10 only where some lawful history of that form and the options ends so.
+/// interpretation, and 1 and 2 only where some lawful history of that form and the options ends so; with 1 the living awake clauses are
+/// saturated for the form.
 pub fn statuses_are_true()
     ensures { StatusesAreTrue }
 {}
 
-/// Completeness: where the library tells, nothing failed and nothing is wrong with the problem, `prove` ends with 0, 2 or
-/// 10 and what each means, or wants memory; and `check` ends with 0 where the derivation is accepted and with 9 where it isn't, or
+/// Completeness: where the library tells, nothing failed and nothing is wrong with the problem, `prove` ends with 0, 1 or
+/// 2 and what each means, or wants memory; and `check` ends with 0 where the derivation is accepted and with 9 where it isn't, or
 /// wants memory.
 pub fn valid_inputs_are_answered()
     ensures formed { FormedIsValid }
@@ -165,7 +166,10 @@ pub fn report_examples()
     ensures typed { report_of (codes "r21.p") (Unread (read.Inappropriate Typed) (codes "r21.p") 0)
         ≡ codes "% SZS status Inappropriate for r21\n% Typed at r21.p:0\n" }
     ensures refused { report_of (codes "r5.p") (Refused 8 line.Rule) ≡ codes "% refused at line 8: Rule\n" }
-    ensures saturated { report_of (codes "q.p") Saturated ≡ codes "% SZS status Unknown for q\n% closed\n" }
+    ensures counter_satisfiable { report_of (codes "dir/q.p") (Saturated true (codes "cnf(s0,plain,p(X0)).\n"))
+        ≡ codes "% SZS status CounterSatisfiable for q\n% SZS output start Saturation for q\ncnf(s0,plain,p(X0)).\n% SZS output end Saturation for q\n" }
+    ensures satisfiable { report_of (codes "r2.p") (Saturated false [])
+        ≡ codes "% SZS status Satisfiable for r2\n% SZS output start Saturation for r2\n% SZS output end Saturation for r2\n" }
 {}
 
 /// The statuses of the answers, and which of all statuses come exactly for their causes.
@@ -187,10 +191,10 @@ pub fn status_examples()
         ≡ 8 ∷ 8 ∷ 8 ∷ 8 ∷ 8 ∷ [] }
     ensures typed { status_of (Unread (read.Inappropriate Typed) (codes "r21.p") 0) ≡ 8 }
     ensures refused { status_of (Refused 8 line.Rule) ≡ 9 }
-    ensures saturated { status_of Saturated ≡ 10 }
+    ensures saturated { status_of (Saturated false []) ≡ 1 }
     ensures without_answer { SINK_FAILED ∷ USAGE_SHOWN ∷ MEMORY_OUT ∷ [] ≡ 5 ∷ 6 ∷ 7 ∷ [] }
-    ensures exact { map is_exact (0 ∷ 2 ∷ 3 ∷ 4 ∷ 5 ∷ 6 ∷ 7 ∷ 8 ∷ 9 ∷ 10 ∷ [])
-        ≡ false ∷ false ∷ true ∷ false ∷ false ∷ false ∷ false ∷ true ∷ true ∷ false ∷ [] }
+    ensures exact { map is_exact (0 ∷ 1 ∷ 2 ∷ 3 ∷ 4 ∷ 5 ∷ 6 ∷ 7 ∷ 8 ∷ 9 ∷ [])
+        ≡ false ∷ false ∷ false ∷ true ∷ false ∷ false ∷ false ∷ false ∷ true ∷ true ∷ [] }
 {}
 
 /// A problem has a conjecture in whatever place it stands.

@@ -16,7 +16,8 @@ use crate::proved::{ProveFault, Proved, prove_problem};
 use outside::Library;
 use plain_types::{Mem, NoMemory, Text};
 use pool_core::{Options, Outcome};
-use pool_writer::{write_key, write_refutation};
+use pool_writer::{write_key, write_refutation, write_saturation};
+use saturation::laws::{members_have_met, saturated_is_saturated};
 use std::alloc::Global;
 use std::sync::Wait;
 use tptp_tree::{Annotated, Problem};
@@ -50,7 +51,7 @@ pub fn prove_answer<R: Wait, L: Library>(
     }
 }
 
-/// The answer that a problem's pool ends with.
+/// The answer that a problem's pool ends with. By the laws of saturation the members of a saturated pool are a saturated set.
 fn proof_answer(
     alloc: Global,
     file: &str,
@@ -60,9 +61,11 @@ fn proof_answer(
 ) -> Mem<Answer>
     requires read { WasRead problem.now }
     requires filled { IsTrue (is_filled file.now) }
+    requires unsplit { options.split ≡ false }
     requires proved { IsProvedProblem problem.now.formulas options proved.now }
     ensures { IfOk result (λ answer. IsProofAnswer file.now problem.now.formulas options answer) }
 {
+    let conjecture = has_conjecture(problem.formulas.as_slice());
     match proved.outcome {
         Outcome::Refuted => {
             let name = shown_name(alloc, file)?;
@@ -74,11 +77,19 @@ fn proof_answer(
                 name.as_slice(),
             )?;
             Ok(Answer::Refuted {
-                conjecture: has_conjecture(problem.formulas.as_slice()),
+                conjecture,
                 derivation,
             })
         }
-        Outcome::Saturated => Ok(Answer::Saturated),
+        Outcome::Saturated => {
+            saturated_is_saturated();
+            members_have_met();
+            let members = write_saturation(alloc, &proved.form, &proved.bank, &proved.pool)?;
+            Ok(Answer::Saturated {
+                conjecture,
+                members,
+            })
+        }
         Outcome::Spent(count) => Ok(Answer::Spent {
             count,
             allowed: options.inferences,

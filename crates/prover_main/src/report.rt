@@ -1,7 +1,7 @@
 // The reports.
 
 ghost use Rattle.std.specs.Prelude.{◌≡◌, ◌++◌, IfOk};
-ghost use Rattle.prover_main.specs.Reports.{for_problem, status_line, output_line, spent_line, heavy_line, load_line, place_line, formula_line, accepted_line, refused_line, refutation_word, refuted_report, read_status_word, fault_line, report_of};
+ghost use Rattle.prover_main.specs.Reports.{for_problem, status_line, output_line, spent_line, heavy_line, load_line, place_line, formula_line, accepted_line, refused_line, refutation_word, saturation_word, printed_report, refuted_report, saturated_report, read_status_word, fault_line, report_of};
 
 use crate::answer::Answer;
 use crate::names::{push_problem_name, push_shown};
@@ -31,13 +31,14 @@ fn push_status(page: &mut Page, word: &[u8], file: &str) -> Mem<()>
     push_for(page, file)
 }
 
-/// Adds a line before or after a derivation.
-fn push_output(page: &mut Page, word: &[u8], file: &str) -> Mem<()>
-    ensures { IfOk result (λ _. page.new ≡ page.old ++ output_line word.now file.now) }
+/// Adds a line before or after what is printed, by the word for where it stands and that for what is printed.
+fn push_output(page: &mut Page, place: &[u8], form: &[u8], file: &str) -> Mem<()>
+    ensures { IfOk result (λ _. page.new ≡ page.old ++ output_line place.now form.now file.now) }
 {
     page.bytes(b"% SZS output ")?;
-    page.bytes(word)?;
-    page.bytes(b" CNFRefutation")?;
+    page.bytes(place)?;
+    page.bytes(b" ")?;
+    page.bytes(form)?;
     push_for(page, file)
 }
 
@@ -125,14 +126,41 @@ fn refutation_word(conjecture: bool) -> &'static [u8]
     }
 }
 
-/// Adds a derivation between its two lines, behind its status.
+/// The word of a saturated set's status, with a conjecture and without.
+fn saturation_word(conjecture: bool) -> &'static [u8]
+    ensures { result.now ≡ saturation_word conjecture }
+{
+    if conjecture {
+        b"CounterSatisfiable"
+    } else {
+        b"Satisfiable"
+    }
+}
+
+/// Adds a text between its two lines, behind the status of a word.
+fn push_printed(page: &mut Page, file: &str, word: &[u8], form: &[u8], text: &[u8]) -> Mem<()>
+    ensures { IfOk result (λ _. page.new ≡ page.old ++ printed_report file.now word.now form.now text.now) }
+{
+    push_status(page, word, file)?;
+    push_output(page, b"start", form, file)?;
+    page.bytes(text)?;
+    push_output(page, b"end", form, file)
+}
+
+/// Adds a derivation behind its status.
 fn push_refuted(page: &mut Page, file: &str, conjecture: bool, derivation: &[u8]) -> Mem<()>
     ensures { IfOk result (λ _. page.new ≡ page.old ++ refuted_report file.now conjecture derivation.now) }
 {
-    push_status(page, refutation_word(conjecture), file)?;
-    push_output(page, b"start", file)?;
-    page.bytes(derivation)?;
-    push_output(page, b"end", file)
+    let word = refutation_word(conjecture);
+    push_printed(page, file, word, b"CNFRefutation", derivation)
+}
+
+/// Adds the members of a saturated set behind their status.
+fn push_saturated(page: &mut Page, file: &str, conjecture: bool, members: &[u8]) -> Mem<()>
+    ensures { IfOk result (λ _. page.new ≡ page.old ++ saturated_report file.now conjecture members.now) }
+{
+    let word = saturation_word(conjecture);
+    push_printed(page, file, word, b"Saturation", members)
 }
 
 /// The word of the status of a text that isn't read.
@@ -174,6 +202,10 @@ fn push_report(page: &mut Page, file: &str, answer: &Answer) -> Mem<()>
             conjecture,
             derivation,
         } => push_refuted(page, file, *conjecture, derivation.as_slice()),
+        Answer::Saturated {
+            conjecture,
+            members,
+        } => push_saturated(page, file, *conjecture, members.as_slice()),
         Answer::Spent { count, allowed } => {
             push_status(page, b"GaveUp", file)?;
             push_spent(page, *count, *allowed)
@@ -181,10 +213,6 @@ fn push_report(page: &mut Page, file: &str, answer: &Answer) -> Mem<()>
         Answer::Heavy(key) => {
             push_status(page, b"GaveUp", file)?;
             push_heavy(page, key.as_slice())
-        }
-        Answer::Saturated => {
-            push_status(page, b"Unknown", file)?;
-            page.bytes(b"% closed\n")
         }
         Answer::Accepted(lines) => push_accepted(page, *lines),
         Answer::Refused { line, cause } => push_refused(page, *line, *cause),

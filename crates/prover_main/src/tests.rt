@@ -184,7 +184,8 @@ fn limits_of_a_problem_are_told(rt: HostRuntime) {
         let files = [("d.p", text.as_slice())];
         let told = outcome(&rt, alloc, &["prove", "d.p"], files.as_slice());
         let (status, sink) = told.expect(&rt, "memory");
+        let report = text_of(alloc, limit.report).expect(&rt, "memory");
         assert_eq!(rt; status, limit.status, "{}", text.len());
-        assert!(rt; sink.bytes() == limit.report, "{}", text.len());
+        assert!(rt; sink.bytes() == report.as_slice(), "{}", text.len());
     }
 }

@@ -1,6 +1,6 @@
 -- What a return leaves, and what stays known in a later pool.
 use Rattle.std.proofs.Common.{◌≡◌, ℕ, ◌+◌, Bool, true, false, not, ◌==◌, List, [], ◌∷◌, ◌++◌, length, take, append-nil, append_assoc, refl, ap, sym, ◌∙◌, subst, arith}
-use Rattle.std.specs.Prelude.{None, Some, cond, find, is_none, if◌then◌else◌}
+use Rattle.std.specs.Prelude.{Result, Ok, Err, IsErrAnd, OnOk, None, Some, cond, find, is_none, if◌then◌else◌}
 use Rattle.std.proofs.lemmas.List.{length-append, length-map, take-append-le}
 use Rattle.std.proofs.lemmas.Option.{none-some}
 use Rattle.term_bank.specs.Bank.{identity}
@@ -154,3 +154,10 @@ new-index bank p index options same_bank unsplit of_pool new = record {
 
 pub free-given : (p : PoolView) → HasNoJob p → HasOut 0 p
 free-given p none = omega (arith, none)
+
+-- ---- want of memory
+
+-- what is said of an answer holds where there is none
+pub no-answer : {Y E : Type 0} (q : Result Y E) (P : E → Type 0) (Q : Type 0) → IsErrAnd q P → OnOk q Q
+no-answer (Ok y) P Q e = absurd e
+no-answer (Err x) P Q e = tt

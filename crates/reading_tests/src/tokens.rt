@@ -10,25 +10,27 @@ fn shown(rt: &impl Abort, alloc: Global, text: &[u8]) -> (Vec<u8>, Option<LexFau
     let lexed = tokens(alloc, text).expect(rt, "memory");
     let mut all = Vec::new(alloc);
     for token in lexed.tokens.as_slice() {
+        all.push(letter(token.kind)).expect(rt, "memory");
+        all.push(b':').expect(rt, "memory");
         let bytes = text.get(token.start as usize..token.end as usize);
-        for part in [letter(token.kind), b":", bytes.unwrap_or(b"?"), b" "] {
-            all.extend_from_slice(part).expect(rt, "memory");
-        }
+        all.extend_from_slice(bytes.unwrap_or(b"?".as_slice()))
+            .expect(rt, "memory");
+        all.push(b' ').expect(rt, "memory");
     }
     (all, lexed.fault)
 }
 
-fn letter(kind: Kind) -> &'static [u8] {
+fn letter(kind: Kind) -> u8 {
     match kind {
-        Kind::Lower => b"l",
-        Kind::Variable => b"v",
-        Kind::Quoted => b"q",
-        Kind::Distinct => b"d",
-        Kind::Dollar => b"s",
-        Kind::Number => b"n",
-        Kind::Connective => b"c",
-        Kind::Mark => b"m",
-        Kind::Other => b"o",
+        Kind::Lower => b'l',
+        Kind::Variable => b'v',
+        Kind::Quoted => b'q',
+        Kind::Distinct => b'd',
+        Kind::Dollar => b's',
+        Kind::Number => b'n',
+        Kind::Connective => b'c',
+        Kind::Mark => b'm',
+        Kind::Other => b'o',
     }
 }
 

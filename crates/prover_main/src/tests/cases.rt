@@ -48,37 +48,60 @@ pub(crate) const GROUP_AXIOMS: &[u8] =
 fof(left_inv,axiom,! [X] : mult(inv(X),X) = e).\n\
 cnf(assoc,axiom,( mult(mult(X,Y),Z) = mult(X,mult(Y,Z)) )).\n";
 
+/// What is printed of an empty problem.
+const NO_MEMBERS: &[u8] = b"% SZS status Satisfiable for r2\n\
+% SZS output start Saturation for r2\n\
+% SZS output end Saturation for r2\n";
+
+const ONE_UNIT_SATURATED: &[u8] = b"% SZS status Satisfiable for r1\n\
+% SZS output start Saturation for r1\n\
+cnf(s0,plain,p).\n\
+% SZS output end Saturation for r1\n";
+
 pub(crate) const CASES: &[Case] = &[
-    // What ends without the empty clause.
+    // What ends with a saturated set.
     Case {
         words: &["prove", "r2.p"],
         files: &[("r2.p", b"")],
-        status: 10,
-        report: b"% SZS status Unknown for r2\n% closed\n",
+        status: 1,
+        report: NO_MEMBERS,
     },
     Case {
         words: &["prove", "r4.p"],
         files: &[("r4.p", b"cnf(a,axiom,p(X)).")],
-        status: 10,
-        report: b"% SZS status Unknown for r4\n% closed\n",
+        status: 1,
+        report: b"% SZS status Satisfiable for r4\n\
+% SZS output start Saturation for r4\n\
+cnf(s0,plain,p(X0)).\n\
+% SZS output end Saturation for r4\n",
     },
     Case {
         words: &["prove", "r9.p"],
         files: &[("r9.p", b"cnf(a,axiom,f(a) = b). cnf(b,axiom,f(a) = c).")],
-        status: 10,
-        report: b"% SZS status Unknown for r9\n% closed\n",
+        status: 1,
+        report: b"% SZS status Satisfiable for r9\n\
+% SZS output start Saturation for r9\n\
+cnf(s0,plain,f(a) = b).\n\
+cnf(s1,plain,b = c).\n\
+% SZS output end Saturation for r9\n",
     },
     Case {
         words: &["prove", "--select=none", "r12.p"],
         files: &[("r12.p", b"fof(a,axiom,! [X] : p(X) => q).")],
-        status: 10,
-        report: b"% SZS status Unknown for r12\n% closed\n",
+        status: 1,
+        report: b"% SZS status Satisfiable for r12\n\
+% SZS output start Saturation for r12\n\
+cnf(s0,plain,~p(sk0) | q).\n\
+% SZS output end Saturation for r12\n",
     },
     Case {
         words: &["prove", "--select=negative", "r12.p"],
         files: &[("r12.p", b"fof(a,axiom,! [X] : (p(X) => q)).")],
-        status: 10,
-        report: b"% SZS status Unknown for r12\n% closed\n",
+        status: 1,
+        report: b"% SZS status Satisfiable for r12\n\
+% SZS output start Saturation for r12\n\
+cnf(s0,plain,~p(X0) | q).\n\
+% SZS output end Saturation for r12\n",
     },
     Case {
         words: &["prove", "r18.p"],
@@ -86,8 +109,37 @@ pub(crate) const CASES: &[Case] = &[
             "r18.p",
             b"cnf(a,axiom,p(a)). cnf(b,axiom,~p(X) | q(X)). cnf(c,axiom,r).",
         )],
-        status: 10,
-        report: b"% SZS status Unknown for r18\n% closed\n",
+        status: 1,
+        report: b"% SZS status Satisfiable for r18\n\
+% SZS output start Saturation for r18\n\
+cnf(s0,plain,p(a)).\n\
+cnf(s1,plain,~p(X0) | q(X0)).\n\
+cnf(s2,plain,r).\n\
+cnf(s3,plain,q(a)).\n\
+% SZS output end Saturation for r18\n",
+    },
+    Case {
+        words: &["prove", "c.p"],
+        files: &[("c.p", b"cnf(a,axiom,p). fof(c,conjecture,q).")],
+        status: 1,
+        report: b"% SZS status CounterSatisfiable for c\n\
+% SZS output start Saturation for c\n\
+cnf(s0,plain,p).\n\
+cnf(s1,plain,~q).\n\
+% SZS output end Saturation for c\n",
+    },
+    // The problem of two units cut after 15 bytes and after 16.
+    Case {
+        words: &["prove", "r1.p"],
+        files: &[("r1.p", b"cnf(a,axiom,p).")],
+        status: 1,
+        report: ONE_UNIT_SATURATED,
+    },
+    Case {
+        words: &["prove", "r1.p"],
+        files: &[("r1.p", b"cnf(a,axiom,p). ")],
+        status: 1,
+        report: ONE_UNIT_SATURATED,
     },
     // What gives up.
     Case {
@@ -298,7 +350,7 @@ pub(crate) const FAILURES: &[Failure] = &[
         writes: &[3],
         most: 8,
         status: 5,
-        report: b"% SZS status Unk",
+        report: b"% SZS status Sat",
     },
     Failure {
         words: &["prove", "r2.p"],
@@ -310,23 +362,19 @@ pub(crate) const FAILURES: &[Failure] = &[
     },
 ];
 
-/// A problem `d.p` of pieces, each so many times, with the status and the report of its proof.
+/// A problem `d.p` of pieces, each so many times, with the status and the report of its proof, in pieces too.
 pub(crate) struct Limit {
     pub pieces: &'static [(&'static [u8], usize)],
     pub status: u8,
-    pub report: &'static [u8],
+    pub report: &'static [(&'static [u8], usize)],
 }
-
-const LIMIT_KEPT: &[u8] = b"% SZS status Unknown for d\n% closed\n";
-
-const HEAVY: &[u8] = b"% SZS status InputError for d\n% TooHeavy in a\n";
 
 /// 500 levels, and over 4,000 symbols of a clause, `p`, `c` and `$true` among them.
 pub(crate) const LIMITS: &[Limit] = &[
     Limit {
         pieces: &[(b"cnf(a,axiom,", 1), (b"(", 501)],
         status: 3,
-        report: b"% SZS status InputError for d\n% Nesting at d.p:512\n",
+        report: &[(b"% SZS status InputError for d\n% Nesting at d.p:512\n", 1)],
     },
     Limit {
         pieces: &[
@@ -336,12 +384,23 @@ pub(crate) const LIMITS: &[Limit] = &[
             (b")", 499),
             (b")).", 1),
         ],
-        status: 10,
-        report: LIMIT_KEPT,
+        status: 1,
+        report: &[
+            (
+                b"% SZS status Satisfiable for d\n\
+% SZS output start Saturation for d\n\
+cnf(s0,plain,p(",
+                1,
+            ),
+            (b"f(", 499),
+            (b"c", 1),
+            (b")", 499),
+            (b")).\n% SZS output end Saturation for d\n", 1),
+        ],
     },
     Limit {
         pieces: &[(b"cnf(a,axiom,p(c", 1), (b",c", 3998), (b")).", 1)],
         status: 3,
-        report: HEAVY,
+        report: &[(b"% SZS status InputError for d\n% TooHeavy in a\n", 1)],
     },
 ];

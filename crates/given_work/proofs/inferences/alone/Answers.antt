@@ -8,9 +8,9 @@ use Rattle.given_work.proofs.inferences.alone.Goals as goal
 
 pub returns : goal.returns
 returns c = λ usage clauses formed there.
-    let m = c.args.given.now.member in
+    let m = c.args.given.now.member.now in
     let p = usage.is_predicate in
-    let mode = mode_of c.args.given.now.sites.mode in
+    let mode = mode_of c.args.given.now.sites.now.mode in
     let resolved : List Inference = c.in_ok-resolved.resolved in
     let factored : List Inference = c.in_ok-factored.factored in
     let within = c.in_ok-superpositions.ensures.all usage clauses formed formed there there in

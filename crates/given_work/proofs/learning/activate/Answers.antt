@@ -1,11 +1,9 @@
-use Rattle.std.proofs.Common.{◌≡◌, ◌<◌, ◌++◌, [], ◌∷◌, List, ap, sym, ◌∙◌, subst}
+use Rattle.std.proofs.Common.{◌≡◌, ◌<◌, ◌++◌, [], ◌∷◌, List, sym, subst}
 use Rattle.std.specs.Prelude.{All}
 use Rattle.std.proofs.lemmas.List.Elements.{All-push}
 use Rattle.kernel_steps.specs.declared.step.TheConstants.{CLAUSE_NUMBERS}
-use Rattle.bank_clause.specs.Clause.{IsMemberOf, clause_at}
-use Rattle.bank_clause.specs.declared.clause.BankClause.{BankClause}
+use Rattle.bank_clause.specs.Clause.{IsMemberOf}
 use Rattle.bank_clause.specs.declared.member.Member.{Member}
-use Rattle.superpose.specs.Sites.{AreSitesOf}
 use Rattle.rewriting.specs.Units.{IsUnit}
 use Rattle.unit_index.specs.Indexed.{HasOneLiteral}
 use Rattle.given_work.specs.Sets.{AreSetsOf}
@@ -25,21 +23,18 @@ pub insert-requires-clause-new_member : goal.insert-requires-clause-new_member
 insert-requires-clause-new_member c =
     members-new (members_in c.args.store.now.slots.items) c.args.sets.now.subsumers c.args.member.now.number c.requires.kept.kept.subsumers c.requires.new
 
+pub put-requires-clause-placed : goal.put-requires-clause-placed
+put-requires-clause-placed c = c.requires.kept.placed
+
 pub returns-clause-kept : goal.returns-clause-kept
 returns-clause-kept c =
     let m : Member = c.args.member.now in
     let before : List Member = members_in c.args.store.now.slots.items in
-    let same : c.in_ok-clause.clause ≡ m.clause = c.in_ok-clause.ensures in
-    let members : members_in c.put.new.self.slots.items ≡ before ++ m ∷ [] =
-    c.in_ok-put.ensures.members ∙ ap (λ (d : BankClause). let k : Member = record { number = m.number; clause = d } in before ++ k ∷ []) same in
+    let members : members_in c.put.new.self.slots.items ≡ before ++ m ∷ [] = c.in_ok-put.ensures.members in
     let small : m.number < CLAUSE_NUMBERS = c.below_lines.ensures in
     record {
-      stored =
-          c.in_ok-put.ensures.store c.args.mode c.requires.kept.stored
-          (record {
-            sites = subst (λ (d : BankClause). AreSitesOf (clause_at d) c.in_ok-sites.sites) (sym same) c.in_ok-sites.ensures.sites;
-            same_mode = c.in_ok-sites.ensures.mode;
-          });
+      placed = c.in_ok-put.ensures.placed;
+      listed = c.in_ok-put.ensures.listed c.requires.kept.listed;
       kept = subst (λ (ms : List Member). AreSetsOf ms c.insert.new.self) (sym members) (c.in_ok-insert.ensures before c.requires.new c.requires.kept.kept);
       of_bank =
           subst (λ (ms : List Member). All (IsMemberOf c.args.bank.now) ms) (sym members)

@@ -3,6 +3,6 @@ use Rattle.given_work.specs.Removing.{AreRemovalsAmong}
 use Rattle.given_work.specs.Store.{members_in}
 use Rattle.given_work.proofs.removing.removals_of.Given as goal
 
-abbrev pub invariant-loop-at : goal.invariant-loop-at
-invariant-loop-at l =
-    AreRemovalsAmong (members_in l.store.slots.items) l.given.member (members_in (take l.at l.store.slots.items)) l.removals.items
+abbrev pub invariant-loop-candidate : goal.invariant-loop-candidate
+invariant-loop-candidate l =
+    AreRemovalsAmong (members_in l.store.slots.items) l.given (take l.candidate-index l.candidate-items) l.removals.items

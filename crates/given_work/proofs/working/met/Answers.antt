@@ -1,5 +1,6 @@
 use Rattle.given_work.specs.Meeting.{before_place}
 use Rattle.given_work.specs.Store.{members_in}
+use Rattle.given_work.proofs.Slots.{at-living}
 use Rattle.given_work.proofs.TellingLemmas.{sets-of-bank}
 use Rattle.given_work.proofs.WorkLemmas.{all-made}
 use Rattle.given_work.proofs.working.met.Goals as goal
@@ -11,5 +12,9 @@ entries_of-requires-clause-of_bank c =
 pub entries_of-requires-clause-made : goal.entries_of-requires-clause-made
 entries_of-requires-clause-made c =
     let slots = c.args.store.now.slots.items in
-    all-made c.args.given.now.sites.mode (members_in slots) c.args.sets.now c.args.given.now.member.number (before_place slots c.args.place)
+    all-made c.args.store.now.partners.mode (members_in slots) c.args.sets.now c.args.given.now.member.now.number (before_place slots c.args.place)
     c.in_ok-inferences.inferences.items c.requires.told c.requires.kept.kept c.requires.kept.numbered c.in_ok-inferences.ensures
+
+pub removals_of-requires-clause-given : goal.removals_of-requires-clause-given
+removals_of-requires-clause-given c =
+    at-living c.args.store.now.slots.items c.args.place c.args.given.now.member.now c.requires.given

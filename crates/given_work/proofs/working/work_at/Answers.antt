@@ -5,8 +5,7 @@ use Rattle.bank_clause.specs.declared.member.Member.{Member}
 use Rattle.pool_core.specs.declared.batch.Removal.{Removal}
 use Rattle.given_work.specs.Going.{IsRemovalOf}
 use Rattle.given_work.specs.Store.{members_in}
-use Rattle.given_work.specs.declared.store.Told.{Told}
-use Rattle.given_work.proofs.Slots.{at-member}
+use Rattle.given_work.proofs.Slots.{at-living}
 use Rattle.given_work.proofs.TellingLemmas.{member-told, sets-of-bank, sets-told}
 use Rattle.given_work.proofs.WorkLemmas.{going-right, meeting-right}
 use Rattle.given_work.proofs.working.work_at.Goals as goal
@@ -17,8 +16,8 @@ removal_of-requires-clause-of_bank c =
 
 pub removal_of-requires-clause-member : goal.removal_of-requires-clause-member
 removal_of-requires-clause-member c =
-    All-contains (IsMemberOf c.args.bank.now) (members_in c.args.store.now.slots.items) c.args.given.now.member c.requires.kept.of_bank
-    (at-member (λ (t : Told). t.member) c.args.store.now.slots.items c.args.place c.args.given.now c.requires.given)
+    All-contains (IsMemberOf c.args.bank.now) (members_in c.args.store.now.slots.items) c.args.given.now.member.now c.requires.kept.of_bank
+    (at-living c.args.store.now.slots.items c.args.place c.args.given.now.member.now c.requires.given)
 
 pub removal_of-requires-clause-told : goal.removal_of-requires-clause-told
 removal_of-requires-clause-told c =
@@ -31,15 +30,15 @@ removal_of-requires-clause-told c =
       job = t.job;
       sets = sets-told t.usage t.clauses t.job (members_in slots) t.tells sets c.requires.kept.kept c.requires.kept.numbered;
       there =
-          member-told t.usage t.clauses t.job (members_in slots) t.tells c.args.given.now.member
-          (at-member (λ (s : Told). s.member) slots c.args.place c.args.given.now c.requires.given);
+          member-told t.usage t.clauses t.job (members_in slots) t.tells c.args.given.now.member.now
+          (at-living slots c.args.place c.args.given.now.member.now c.requires.given);
     }
 
 pub returns-in-Some : goal.returns-in-Some
 returns-in-Some c =
     let sets = c.args.sets.now in
-    let m : Member = c.args.given.now.member in
-    going-right c.args.given.now.sites.mode c.args.store.now sets c.args.place c.args.given.now c.args.left c.in-Some.removal
+    let m : Member = c.args.given.now.member.now in
+    going-right c.args.store.now.partners.mode c.args.store.now sets c.args.place c.args.given.now.member.now c.args.left c.in-Some.removal
     c.requires.kept.kept c.requires.kept.numbered c.requires.given
     (subst (λ (gone : Option Removal). IsRemovalOf sets.equations sets.units sets.subsumers m.number (clause_at m.clause) gone) c.in-Some.is
     c.in_ok-gone.ensures)
@@ -47,9 +46,9 @@ returns-in-Some c =
 pub returns-in_ok-work-in-None : goal.returns-in_ok-work-in-None
 returns-in_ok-work-in-None c =
     let sets = c.args.sets.now in
-    let m : Member = c.args.given.now.member in
-    meeting-right c.args.given.now.sites.mode c.args.store.now sets c.args.place c.args.given.now c.args.left c.in_ok-work-in-None.work
-    c.requires.kept.stored c.requires.kept.kept c.requires.kept.numbered c.requires.given
+    let m : Member = c.args.given.now.member.now in
+    meeting-right c.args.store.now.partners.mode c.args.store.now sets c.args.place c.args.given.now.member.now c.args.left c.in_ok-work-in-None.work
+    c.requires.kept.placed c.requires.kept.kept c.requires.kept.numbered c.requires.given
     (subst (λ (gone : Option Removal). IsRemovalOf sets.equations sets.units sets.subsumers m.number (clause_at m.clause) gone) c.in-None.is
     c.in_ok-gone.ensures)
     c.in_ok-work-in-None.ensures

@@ -18,5 +18,6 @@ returns c = record {
   lost_under_a_name_of_other_bytes = refl;
   typed = refl;
   refused = refl;
-  saturated = refl;
+  counter_satisfiable = refl;
+  satisfiable = refl;
 }

@@ -2,6 +2,7 @@ use Rattle.std.proofs.Common.{refl, ap, subst, sym, ◌∙◌, Some}
 use Rattle.tstp_writer.specs.Printable.{IsShown}
 use Rattle.prover_main.specs.Answer.{has_conjecture}
 use Rattle.prover_main.proofs.HistoryLemmas.{heavy-there, inputs-are, is-heavy, is-refuted, is-spent}
+use Rattle.prover_main.proofs.SaturatedLemmas.{is-saturation}
 use Rattle.prover_main.proofs.TextLemmas.{file-shown, read-printable}
 use Rattle.prover_main.proofs.prove.proof_answer.Goals as goal
 
@@ -16,16 +17,16 @@ write_refutation-requires-clause-printable c = read-printable c.args.problem.now
 
 pub write_refutation-requires-clause-file : goal.write_refutation-requires-clause-file
 write_refutation-requires-clause-file c =
-    subst IsShown (sym (c.as_slice.ensures ∙ c.in_ok-name-in-Refuted.ensures)) (file-shown c.args.file.now c.requires.filled)
+    subst IsShown (sym (c.as_slice-in-Refuted.ensures ∙ c.in_ok-name-in-Refuted.ensures)) (file-shown c.args.file.now c.requires.filled)
 
 pub heavy_key-key-requires : goal.heavy_key-key-requires
 heavy_key-key-requires c = heavy-there c.args.problem.now.formulas c.args.options c.args.proved.now c.requires.proved c.in-Heavy.place c.in-Heavy.is
 
 pub returns-in_ok-derivation-in-Refuted : goal.returns-in_ok-derivation-in-Refuted
 returns-in_ok-derivation-in-Refuted c =
-    is-refuted c.args.problem.now.formulas c.args.options c.args.proved.now c.requires.proved c.args.file.now c.as_slice.result.now
-    c.in_ok-derivation-in-Refuted.derivation c.has_conjecture.result c.in-Refuted.is (c.has_conjecture.ensures ∙ ap has_conjecture c.as_slice-in-Refuted.ensures)
-    (c.as_slice.ensures ∙ c.in_ok-name-in-Refuted.ensures) c.in_ok-derivation-in-Refuted.ensures.written c.in_ok-derivation-in-Refuted.ensures.accepted
+    is-refuted c.args.problem.now.formulas c.args.options c.args.proved.now c.requires.proved c.args.file.now c.as_slice-in-Refuted.result.now
+    c.in_ok-derivation-in-Refuted.derivation c.has_conjecture-conjecture.result c.in-Refuted.is (c.has_conjecture-conjecture.ensures ∙ ap has_conjecture c.as_slice.ensures)
+    (c.as_slice-in-Refuted.ensures ∙ c.in_ok-name-in-Refuted.ensures) c.in_ok-derivation-in-Refuted.ensures.written c.in_ok-derivation-in-Refuted.ensures.accepted
 
 pub returns-in-Spent : goal.returns-in-Spent
 returns-in-Spent c = is-spent c.args.problem.now.formulas c.args.options c.args.proved.now c.requires.proved c.in-Spent.count c.args.options.inferences c.in-Spent.is refl
@@ -34,3 +35,11 @@ pub returns-in_ok-write_key-in-Heavy : goal.returns-in_ok-write_key-in-Heavy
 returns-in_ok-write_key-in-Heavy c =
     is-heavy c.args.problem.now.formulas c.args.options c.args.proved.now c.requires.proved c.in-Heavy.place c.heavy_key-key.result.now
     c.in_ok-write_key-in-Heavy.field-0 c.in-Heavy.is c.heavy_key-key.ensures c.in_ok-write_key-in-Heavy.ensures
+
+pub returns-in_ok-members-in-Saturated : goal.returns-in_ok-members-in-Saturated
+returns-in_ok-members-in-Saturated c = (
+  c.has_conjecture-conjecture.ensures ∙ ap has_conjecture c.as_slice.ensures,
+  is-saturation c.args.problem.now.formulas c.args.options c.args.proved.now c.requires.proved c.in-Saturated.is c.requires.unsplit
+      c.saturated_is_saturated.ensures c.members_have_met.ensures c.in_ok-members-in-Saturated.members
+      c.in_ok-members-in-Saturated.ensures,
+)

@@ -2,8 +2,12 @@ use Rattle.std.proofs.Common.{ℕ, subst}
 use Rattle.std.specs.Prelude.{Option, MatchOption}
 use Rattle.pool_core.specs.declared.ticket.Ticket.{Ticket}
 use Rattle.proving.specs.Progress.{HasOut, IsGiven}
-use Rattle.proving.proofs.ReturnLemmas.{later-index, later-then}
+use Rattle.proving.proofs.ReturnLemmas.{later-index, later-then, no-answer}
 use Rattle.proving.proofs.rounds.finish.Goals as goal
+
+pub returns-in_err-return_batch-clause-free : goal.returns-in_err-return_batch-clause-free
+returns-in_err-return_batch-clause-free g c =
+    no-answer c.from_residual-in_err-return_batch.result _ (HasOut 0 c.return_batch.new.pool) c.from_residual-in_err-return_batch.ensures.1
 
 pub returns-in_err-return_batch-clause-later : goal.returns-in_err-return_batch-clause-later
 returns-in_err-return_batch-clause-later g c =

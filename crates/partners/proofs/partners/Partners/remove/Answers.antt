@@ -1,5 +1,5 @@
-use Rattle.std.proofs.Common.{◌≡◌, true, false, Some, ap, sym, subst}
-use Rattle.std.specs.Option.{is_some}
+use Rattle.std.proofs.Common.{◌≡◌, None, Some, ap, sym, subst}
+use Rattle.std.specs.Prelude.{option_map}
 use Rattle.partners.specs.Partners.{HasNoMore, PartnerSet, Placed, placed_numbered}
 use Rattle.partners.proofs.KnownLemmas.{absent-known, fewer-of-bank, found-known, seen, taken-known, taken-seen}
 use Rattle.partners.proofs.partners.Partners.remove.Goals as goal
@@ -28,10 +28,10 @@ invariant_of-self-in-Some c =
     taken-known a.mode c.args.number a.starts a.places c.take_all.new.starts c.take_all.new.places a.known.entries c.swap_remove.new.self.entries
     c.swap_remove.ensures.updates.0 c.take_all.ensures.starts_kept c.take_all.ensures.places_kept c.self.invariant
 
-pub returns-in-None-clause-there : goal.returns-in-None-clause-there
-returns-in-None-clause-there c =
-    subst (λ (s : PartnerSet). false ≡ is_some (placed_numbered c.args.number s.members)) c.self.view_is
-    (sym (ap is_some (absent-known c.args.number c.self.inside.known.entries c.in-None.ensures.value)))
+pub returns-in-None-clause-position : goal.returns-in-None-clause-position
+returns-in-None-clause-position c =
+    subst (λ (s : PartnerSet). None ≡ option_map (λ (p : Placed). p.position) (placed_numbered c.args.number s.members)) c.self.view_is
+    (sym (ap (option_map (λ (p : Placed). p.position)) (absent-known c.args.number c.self.inside.known.entries c.in-None.ensures.value)))
 
 pub returns-in-None-clause-removed : goal.returns-in-None-clause-removed
 returns-in-None-clause-removed c =
@@ -44,11 +44,11 @@ returns-in-None-clause-of_bank c =
     fewer-of-bank c.args.bank.now c.args.number c.args.self.now (seen c.self.inside.mode c.swap_remove.new.self.entries)
     (returns-in-None-clause-removed c) c.requires
 
-pub returns-in-Some-clause-there : goal.returns-in-Some-clause-there
-returns-in-Some-clause-there c =
+pub returns-in-Some-clause-position : goal.returns-in-Some-clause-position
+returns-in-Some-clause-position c =
     let a = c.self.inside in
-    subst (λ (s : PartnerSet). true ≡ is_some (placed_numbered c.args.number s.members)) c.self.view_is
-    (sym (ap is_some
+    subst (λ (s : PartnerSet). Some c.in-Some.partner.position ≡ option_map (λ (p : Placed). p.position) (placed_numbered c.args.number s.members)) c.self.view_is
+    (sym (ap (option_map (λ (p : Placed). p.position))
     (found-known a.mode a.starts a.places c.args.number a.known.entries c.in-Some.partner c.self.invariant c.in-Some.ensures.value)))
 
 pub returns-in-Some-clause-removed : goal.returns-in-Some-clause-removed

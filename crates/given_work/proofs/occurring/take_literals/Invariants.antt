@@ -1,0 +1,5 @@
+use Rattle.given_work.specs.Occurring.{KeepsOthers}
+use Rattle.given_work.proofs.occurring.take_literals.Given as goal
+
+abbrev pub invariant-loop-index : goal.invariant-loop-index
+invariant-loop-index l = KeepsOthers l.number l.initial.terms l.terms
