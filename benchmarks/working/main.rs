@@ -4,8 +4,7 @@
 // are. The index relies on what the pool says, so this program can't be proved as it stands.
 #![tactic(auto)]
 
-use bank_clause::Member;
-use bank_clause::Members;
+use bank_clause::{Member, Members};
 use cutting::{cut_unit, cuts, drop_trivial, is_tautology, merge_equal};
 use demodulate::normal_form;
 use eq_rules::{Inference, factorings, resolutions};
