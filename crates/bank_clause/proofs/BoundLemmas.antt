@@ -6,7 +6,7 @@ use Rattle.std.proofs.lemmas.List.Sums.{sum_by-cons}
 use Rattle.fol_base.specs.Tree.{Tree, variable, application, Trees, no_trees, tree_then, tree_size, trees_size, tree_variables, trees_variables}
 use Rattle.fol_base.specs.Clause.{TreeLiteral, TreeClause, literal_size, literal_variables, clause_size, clause_variables}
 use Rattle.fol_base.specs.Canonical.{distinct, numbers_from, bound_of, IsCanonical}
-use Rattle.fol_base.proofs.NumberingLemmas.{bound_of-distinct}
+use Rattle.fol_base.proofs.AboutCanonical.NumberingLemmas.{bound_of-distinct}
 
 mutual
   tree-few : (t : Tree) → length (tree_variables t) ≤ tree_size t

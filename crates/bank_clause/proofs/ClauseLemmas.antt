@@ -7,7 +7,7 @@ use Rattle.plain_types.specs.declared.sequence.NameLit.{NameLit}
 use Rattle.fol_base.specs.Clause.{TreeLiteral, TreeClause, clause_size, clause_variables}
 use Rattle.fol_base.specs.declared.limits.TheConstants.{SIZE_LIMIT}
 use Rattle.fol_base.specs.Canonical.{canonical_clause, IsCanonical, bound_of}
-use Rattle.fol_base.proofs.CanonicalLemmas.{canonical_forms_are_canonical}
+use Rattle.fol_base.proofs.AboutCanonical.CanonicalLemmas.{canonical_forms_are_canonical}
 use Rattle.fol_base.specs.Literal.{literal_of, clause_of}
 use Rattle.fol_base.specs.declared.clause.Literal.{Literal}
 use Rattle.fol_base.specs.declared.clause.Clause.{Clause}

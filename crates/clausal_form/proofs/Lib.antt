@@ -1,28 +1,11 @@
-pub mod PairLemmas
-pub mod AgendaLemmas
-pub mod ResultLemmas
-pub mod MeasureLemmas
-pub mod OccurringLemmas
-pub mod NamingLemmas
-pub mod FrameLemmas
-pub mod NameLemmas
-pub mod WritingLemmas
-pub mod StepLemmas
-pub mod RefusalLemmas
-pub mod LoopLemmas
-pub mod LastSymbols
-pub mod CountingLemmas
-pub mod FaultLemmas
-pub mod StepBinds
-pub mod GivenLemmas
-pub mod TakenLemmas
-pub mod SymbolTerms
-pub mod FunctionLemmas
-pub mod RefutationLemmas
-pub mod TextLemmas
-pub mod SpelledLemmas
-pub mod LengthLemmas
-pub mod SomeAnswer
-pub mod ShapeLemmas
-pub mod FormLemmas
-pub mod WellFormedLemmas
+-- A map of the proofs, by topic; what is proved of one function stands in the folder of its module.
+-- AboutCounts: sizes and faults.
+pub mod AboutCounts
+-- AboutNaming: products, and which lists are named.
+pub mod AboutNaming
+-- AboutWriting: the written clauses and their loops.
+pub mod AboutWriting
+-- AboutForms: the whole form: symbols, shapes, what it is well formed over.
+pub mod AboutForms
+-- AboutDerivations: derivations of a form as text.
+pub mod AboutDerivations

@@ -12,7 +12,7 @@ use Rattle.fol_base.specs.Literal.{clause_of}
 use Rattle.fol_base.specs.Rules.{resolved as resolved_literals, disequation}
 use Rattle.fol_base.specs.Subsumption.{Subsumes, stand_at, is_there}
 use Rattle.fol_base.specs.Examples.{a, b, r, clause}
-use Rattle.fol_base.proofs.RuleLemmas.{resolved-parts, merged-parts}
+use Rattle.fol_base.proofs.AboutClauses.RuleLemmas.{resolved-parts, merged-parts}
 use Rattle.kernel_steps.specs.Conclusion.{verdict, concludes}
 use Rattle.kernel_steps.specs.Derivation.{continued}
 use Rattle.kernel_steps.specs.Inference.{Reduces, IsIrreducible}

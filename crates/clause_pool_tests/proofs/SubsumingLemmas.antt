@@ -16,7 +16,7 @@ use Rattle.fol_base.specs.Subsumption.{Subsumes, is_there}
 use Rattle.fol_base.specs.Examples.{r, clause}
 use Rattle.fol_base.specs.declared.clause.Side.{Side}
 use Rattle.fol_base.specs.declared.clause.Side.TheVariants.{Left, Right}
-use Rattle.fol_base.proofs.RuleLemmas.{resolved-parts, factored-parts}
+use Rattle.fol_base.proofs.AboutClauses.RuleLemmas.{resolved-parts, factored-parts}
 use Rattle.kernel_steps.specs.Inference.{are_of_one_kind, NamedSuperposition, NamedResolution, NamedFactoring}
 use Rattle.kernel_steps.specs.Named.{IsInference}
 use Rattle.kernel_steps.specs.Split.{has_number}

@@ -1,12 +1,7 @@
-pub mod LabelLemmas
-pub mod SlotLemmas
-pub mod PathLemmas
-pub mod PrefixLemmas
-pub mod VisitLemmas
-pub mod FoundLemmas
-pub mod EntryLemmas
-pub mod RemoveLemmas
-pub mod FrontLemmas
-pub mod ChildLemmas
-pub mod EditLemmas
-pub mod UnifierLemmas
+-- A map of the proofs, by topic; what is proved of one function stands in the folder of its module.
+-- AboutPaths: labels, paths and what a tree of nodes holds.
+pub mod AboutPaths
+-- AboutChanges: an entry put in or taken out.
+pub mod AboutChanges
+-- AboutQueries: what a query visits and finds.
+pub mod AboutQueries

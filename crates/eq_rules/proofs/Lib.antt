@@ -1,18 +1,9 @@
-pub mod RenumberedLemmas
-pub mod WideLemmas
-pub mod ConclusionLemmas
-pub mod BindingLemmas
-pub mod PremiseLemmas
-pub mod InferenceLists
-pub mod StepLemmas
-pub mod ResolutionLemmas
-pub mod MadeLemmas
-pub mod ResolutionLists
-pub mod ResolutionAnswers
-pub mod SideLemmas
-pub mod FactoringLemmas
-pub mod FactoringLists
-pub mod ExampleLemmas
-pub mod FactorStepLemmas
-pub mod FactorRefused
-pub mod FactorAnswers
+-- A map of the proofs, by topic; what is proved of one function stands in the folder of its module.
+-- AboutFactoring: equality factoring, from its pairs to its lists.
+pub mod AboutFactoring
+-- AboutResolution: equality resolution.
+pub mod AboutResolution
+-- AboutConclusions: what any inference makes: bindings, sizes, the step and its key.
+pub mod AboutConclusions
+-- WorkedExamples: worked examples.
+pub mod WorkedExamples

@@ -1,29 +1,14 @@
+-- A map of the proofs, by topic; what is proved of one function stands in the folder of its module.
+-- AboutTerms: trees of terms: variables, kinds, equality.
+pub mod AboutTerms
+-- AboutOrders: the total order of trees and clauses, by which lists are kept.
+pub mod AboutOrders
+-- AboutClauses: clauses: what they say, rules on their literals, ground inferences.
+pub mod AboutClauses
+-- AboutInstances: instances, their sizes and places, ground instances and what they cover.
+pub mod AboutInstances
+-- AboutCanonical: the canonical form and its one walk.
+pub mod AboutCanonical
+-- WorkedExamples: worked examples.
+pub mod WorkedExamples
 pub mod ListLemmas
-pub mod TreeLemmas
-pub mod TermLemmas
-pub mod PlaceLemmas
-pub mod ClauseLemmas
-pub mod TestLemmas
-pub mod MeaningLemmas
-pub mod CountLemmas
-pub mod TotalLemmas
-pub mod OrderLemmas
-pub mod TreeOrderLemmas
-pub mod ClauseOrderLemmas
-pub mod InstanceLemmas
-pub mod InstancePlaces
-pub mod RuleLemmas
-pub mod InferenceLemmas
-pub mod ConversePlaces
-pub mod KindLemmas
-pub mod WellFormedLemmas
-pub mod GroundInstanceLemmas
-pub mod CoverageLemmas
-pub mod ExampleLemmas
-pub mod MatchingExamples
-pub mod VariableLemmas
-pub mod NumberingLemmas
-pub mod WalkLemmas
-pub mod CanonicalLemmas
-pub mod EqualityLemmas
-pub mod InstanceSizes

@@ -1,20 +1,7 @@
-pub mod BitLemmas
-pub mod LevelLemmas
-pub mod ReadingLemmas
-pub mod MetLemmas
-pub mod BlockLemmas
-pub mod BalanceLemmas
-pub mod FurtherLemmas
-pub mod MemberLemmas
-pub mod MultisetLemmas
-pub mod StrictOrderLemmas
-pub mod StableLemmas
-pub mod SubtermLemmas
-pub mod GroundLemmas
-pub mod AnswerLemmas
-pub mod TruthLemmas
-pub mod LiteralLemmas
-pub mod HeadLemmas
-pub mod SideLemmas
-pub mod PartLemmas
-pub mod ClauseLoops
+-- A map of the proofs, by topic; what is proved of one function stands in the folder of its module.
+-- AboutReading: reading two terms side by side: variables met, their balance, blocks of bits.
+pub mod AboutReading
+-- AboutMultisets: literals and clauses as multisets, their loops.
+pub mod AboutMultisets
+-- AboutLaws: laws of the order: total on ground terms, strict, stable, above its subterms.
+pub mod AboutLaws

@@ -1,37 +1,13 @@
-pub mod DerivationExamples
-pub mod NameLemmas
-pub mod NameTruth
-pub mod SortedNames
-pub mod NameRanks
-pub mod NameSorts
-pub mod SplitTables
-pub mod NameSetLemmas
-pub mod BoundLemmas
-pub mod PushLemmas
-pub mod ItemLemmas
-pub mod RuleTruth
-pub mod VerdictParts
-pub mod SplitTests
-pub mod OverValues
-pub mod StepTruth
-pub mod GroundTrees
-pub mod LineLemmas
-pub mod SoundLemmas
-pub mod RefutationLemmas
-pub mod ChangedExamples
-pub mod NameExamples
-pub mod InferenceExamples
-pub mod SuperpositionExamples
-pub mod ReductionExamples
-pub mod SymbolLemmas
-pub mod SplitLemmas
-pub mod GroundedLemmas
-pub mod GroundedLemmasNames
-pub mod GroundedLemmasChain
-pub mod GroundedLemmasSplit
-pub mod GroundedLemmasSteps
-pub mod GroundedLemmasLines
-pub mod LoopLemmas
-pub mod ChainLemmas
-pub mod SplitLoops
-pub mod CallLemmas
+-- A map of the proofs, by topic; what is proved of one function stands in the folder of its module.
+-- AboutNames: names of parts: their order, their sets, their truth.
+pub mod AboutNames
+-- AboutSplits: splitting steps and their tables.
+pub mod AboutSplits
+-- AboutCalls: the loops and calls that make a verdict.
+pub mod AboutCalls
+-- AboutSoundness: what a right step means: truth of rules, steps and whole refutations.
+pub mod AboutSoundness
+-- AboutGrounding: lines of a derivation as ground instances.
+pub mod AboutGrounding
+-- WorkedExamples: worked examples.
+pub mod WorkedExamples

@@ -14,10 +14,10 @@ use Rattle.fol_base.specs.Selection.{is_maximal, is_maximal_at, eligible}
 use Rattle.kbo_order.specs.declared.cmp.Cmp.{Cmp}
 use Rattle.kbo_order.specs.declared.cmp.Cmp.TheVariants.{Greater, Less, Equal, Unordered}
 use Rattle.kbo_order.specs.Cmp.{comparison_of, is_greater, is_equal}
-use Rattle.kbo_order.proofs.FurtherLemmas.{by_tests}
-use Rattle.kbo_order.proofs.ClauseLoops.{greater-is, take-more, In-index, some-fails}
-use Rattle.kbo_order.proofs.MemberLemmas.{In, In-map, all-In, In-all}
-use Rattle.kbo_order.proofs.StableLemmas.{literals_stable, equivalent_stable}
+use Rattle.kbo_order.proofs.AboutReading.FurtherLemmas.{by_tests}
+use Rattle.kbo_order.proofs.AboutMultisets.ClauseLoops.{greater-is, take-more, In-index, some-fails}
+use Rattle.kbo_order.proofs.AboutMultisets.MemberLemmas.{In, In-map, all-In, In-all}
+use Rattle.kbo_order.proofs.AboutLaws.StableLemmas.{literals_stable, equivalent_stable}
 use Rattle.literal_selection.specs.Laws.{EligibleLifts}
 
 remove-map : {X Y : Type 0} (f : X → Y) (xs : List X) (i : ℕ) → remove (map f xs) i ≡ map f (remove xs i)

@@ -6,9 +6,9 @@ use Rattle.std.proofs.lemmas.Bool.{cases_lt, cond-true, cond-false, false_from_n
 use Rattle.std.proofs.lemmas.Option.{slice_get_within}
 use Rattle.fol_base.specs.Clause.{TreeLiteral, literal_size}
 use Rattle.fol_base.specs.Selection.{select_negative, greatest_negative_size, first_index, chosen}
-use Rattle.fol_base.proofs.TreeLemmas.{tree_size-positive}
-use Rattle.kbo_order.proofs.MemberLemmas.{In}
-use Rattle.kbo_order.proofs.ClauseLoops.{take-more}
+use Rattle.fol_base.proofs.AboutTerms.TreeLemmas.{tree_size-positive}
+use Rattle.kbo_order.proofs.AboutMultisets.MemberLemmas.{In}
+use Rattle.kbo_order.proofs.AboutMultisets.ClauseLoops.{take-more}
 use Rattle.literal_selection.specs.Mode.{negative_size}
 
 -- ---- sizes

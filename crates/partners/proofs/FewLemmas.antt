@@ -11,7 +11,7 @@ use Rattle.fol_base.specs.Selection.{SelectionMode}
 use Rattle.fol_base.specs.Sides.{side_of}
 use Rattle.fol_base.specs.declared.clause.Side.TheVariants.{Left, Right}
 use Rattle.fol_base.specs.declared.limits.TheConstants.{SIZE_LIMIT}
-use Rattle.fol_base.proofs.TreeLemmas.{tree_size-positive}
+use Rattle.fol_base.proofs.AboutTerms.TreeLemmas.{tree_size-positive}
 use Rattle.literal_selection.specs.Mode.{mode_of}
 use Rattle.eq_rules.specs.declared.concluding.LiteralSide.{LiteralSide}
 use Rattle.superpose.specs.Sites.{AreSitesOf, all_sides, both_sides, below_path, can_enter, can_start, enter_sites, entered_places, places, places_from, side_places, start_sites}

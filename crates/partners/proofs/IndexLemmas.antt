@@ -6,8 +6,8 @@ use Rattle.std.proofs.lemmas.Option.{same_Some, slice_get_within}
 use Rattle.fol_base.specs.Tree.{Tree}
 use Rattle.fol_base.specs.Clause.{TreeLiteral}
 use Rattle.disc_tree.specs.Entries.{IsIn, IsWith, numbers_where}
-use Rattle.disc_tree.proofs.EntryLemmas.{in-with}
-use Rattle.superpose.proofs.ListLemmas.{In}
+use Rattle.disc_tree.proofs.AboutPaths.EntryLemmas.{in-with}
+use Rattle.superpose.proofs.AboutLists.ListLemmas.{In}
 use Rattle.partners.specs.declared.index.TheConstants.{MOST_SITES}
 use Rattle.partners.specs.Index.{AreIndexed, KeepsAll, KeepsOthers, site_number}
 

@@ -19,7 +19,7 @@ use Rattle.disc_tree.specs.Entries.{IsIn, numbers_where}
 use Rattle.superpose.specs.Sites.{AreSitesOf, enter_sites, start_sites}
 use Rattle.superpose.specs.declared.sites.Sites.{Sites}
 use Rattle.superpose.specs.declared.sites.Premise.{Premise}
-use Rattle.superpose.proofs.ListLemmas.{In-contained}
+use Rattle.superpose.proofs.AboutLists.ListLemmas.{In-contained}
 use Rattle.partners.specs.Index.{AreIndexed, KeepsOthers, site_number}
 use Rattle.partners.specs.Known.{AreAllIndexed, HaveFewSites, IsKnown, placed_of}
 use Rattle.partners.specs.Meeting.{AreCandidates}

@@ -19,16 +19,16 @@ use Rattle.kernel_steps.specs.declared.key.Key.{Key}
 use Rattle.kernel_steps.specs.declared.key.Key.TheVariants.{Para, Refl, Factor, Replaced}
 use Rattle.bank_clause.specs.Clause.{clause_at}
 use Rattle.bank_clause.specs.declared.member.Member.{Member}
-use Rattle.disc_tree.proofs.UnifierLemmas.{unifiable-compatible}
+use Rattle.disc_tree.proofs.AboutQueries.UnifierLemmas.{unifiable-compatible}
 use Rattle.eq_rules.specs.declared.concluding.LiteralSide.{LiteralSide}
 use Rattle.eq_rules.specs.declared.inference.Inference.{Inference}
 use Rattle.superpose.specs.Sites.{enter_sites, start_sites}
 use Rattle.superpose.specs.Superposing.{para_key}
 use Rattle.superpose.specs.declared.sites.LiteralPlace.{LiteralPlace}
 use Rattle.superpose.specs.declared.sites.Sites.{Sites}
-use Rattle.superpose.proofs.ListLemmas.{In, In-either, In-left, In-right, Once, Once-append}
-use Rattle.superpose.proofs.SitesThere.{enter_in, enters_once, start_in, starts_once}
-use Rattle.superpose.proofs.TriedLemmas.{tried-all}
+use Rattle.superpose.proofs.AboutLists.ListLemmas.{In, In-either, In-left, In-right, Once, Once-append}
+use Rattle.superpose.proofs.AboutSites.SitesThere.{enter_in, enters_once, start_in, starts_once}
+use Rattle.superpose.proofs.AboutSites.TriedLemmas.{tried-all}
 use Rattle.partners.specs.Meeting.{AddsMeetings, AddsNamed, AreLookedUp, MeetsAllPlaces, MeetsAllStarts, is_meeting, is_partner, name_from, name_into, names}
 use Rattle.partners.specs.Partners.{AreSitesFor, PartnerSet, literals_of, partner_before}
 use Rattle.partners.specs.SiteTerms.{place_term, start_term}

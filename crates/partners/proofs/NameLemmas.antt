@@ -15,8 +15,8 @@ use Rattle.eq_rules.specs.declared.concluding.LiteralSide.{LiteralSide}
 use Rattle.superpose.specs.Sites.{enter_sites, start_sites}
 use Rattle.superpose.specs.Superposing.{para_key}
 use Rattle.superpose.specs.declared.sites.LiteralPlace.{LiteralPlace}
-use Rattle.superpose.proofs.ListLemmas.{In, In-flat_map, In-flat_mapped, Once, Once-flat_map, Once-place}
-use Rattle.superpose.proofs.SitesThere.{enters_once, starts_once}
+use Rattle.superpose.proofs.AboutLists.ListLemmas.{In, In-flat_map, In-flat_mapped, Once, Once-flat_map, Once-place}
+use Rattle.superpose.proofs.AboutSites.SitesThere.{enters_once, starts_once}
 use Rattle.partners.specs.Index.{site_number}
 use Rattle.partners.specs.Meeting.{HasCandidates, name_from, name_into, names}
 use Rattle.partners.specs.Partners.{PartnerSet, literals_of, partner_before}

@@ -21,7 +21,7 @@ use Rattle.superpose.specs.Pairing.{entry_of}
 use Rattle.superpose.specs.Sites.{enter_sites, start_sites}
 use Rattle.superpose.specs.Superposing.{IsSuperposition, para_key}
 use Rattle.superpose.specs.declared.sites.LiteralPlace.{LiteralPlace}
-use Rattle.superpose.proofs.TriedLemmas.{tried-append, tried-one}
+use Rattle.superpose.proofs.AboutSites.TriedLemmas.{tried-append, tried-one}
 use Rattle.partners.specs.Meeting.{AddsNamed, AreLookedUp, MeetsAllPlaces, MeetsAllStarts, MeetsPlaces, MeetsStarts, name_from, name_into, names}
 use Rattle.partners.specs.Partners.{PartnerSet, Placed, before, literals_of, partner_before, placed_numbered}
 use Rattle.partners.specs.declared.index.TheConstants.{MOST_SITES}

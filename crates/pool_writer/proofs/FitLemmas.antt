@@ -6,7 +6,7 @@ use Rattle.fol_base.specs.Tree.{Tree, trees_of, tree_variables, trees_variables}
 use Rattle.fol_base.specs.Clause.{TreeClause, clause_variables}
 use Rattle.fol_base.specs.Canonical.{bound_of}
 use Rattle.kernel_steps.specs.declared.step.Step.{Step}
-use Rattle.kernel_steps.proofs.LoopLemmas.{take_more_there}
+use Rattle.kernel_steps.proofs.AboutCalls.LoopLemmas.{take_more_there}
 use Rattle.tstp_writer.specs.ReadableLines.{Fits, bound_by, line_variables}
 
 fits-below : (vs : List ℕ) → bound_of vs ≤ 2 ^ 32 → AllByRecursion Fits vs

@@ -16,8 +16,8 @@ use Rattle.fol_base.specs.Tree.{Tree, variable, application, Trees, no_trees, tr
 use Rattle.fol_base.specs.Instance.{Substitution, instance, instances}
 use Rattle.fol_base.specs.Clause.{TreeLiteral, TreeClause, literal_variables, literal_instance}
 use Rattle.fol_base.specs.Canonical.{canonical_renaming}
-use Rattle.fol_base.proofs.InstanceLemmas.{trees_count-instances}
-use Rattle.fol_base.proofs.TestLemmas.{list_all-map_from}
+use Rattle.fol_base.proofs.AboutInstances.InstanceLemmas.{trees_count-instances}
+use Rattle.fol_base.proofs.WorkedExamples.TestLemmas.{list_all-map_from}
 use Rattle.signature.specs.declared.symbol.Symbol.{Symbol}
 use Rattle.signature.specs.Symbol.{predicate_symbol, function_symbol, true_symbol, same_symbol, has_symbol, with_symbol, number_of}
 use Rattle.signature.specs.SymbolLaws.{same_symbol-true}
@@ -28,12 +28,12 @@ use Rattle.signature.specs.Clausal.{SymbolNumbers, Made, Worked, Scope, Literals
 use Rattle.signature.specs.Form.{numbered_symbols, symbol_numbers, nothing_made, problem_form, clausal_form, with_skolem, with_naming, problem_skolem_count}
 use Rattle.signature.proofs.SkolemLemmas.{skolem_symbols_of_problem_are_counted}
 use Rattle.kernel_steps.specs.Symbols.{symbols_pass, all_symbols_pass, literal_symbols_pass, clause_symbols_pass}
-use Rattle.kernel_steps.proofs.LineLemmas.{slice_get-last}
-use Rattle.clausal_form.proofs.FunctionLemmas.{truth-first}
-use Rattle.clausal_form.proofs.LoopLemmas.{all-come, fold-append}
-use Rattle.clausal_form.proofs.MeasureLemmas.{length-append}
-use Rattle.clausal_form.proofs.NameLemmas.{closed-known}
-use Rattle.clausal_form.proofs.ShapeLemmas.{product_by}
+use Rattle.kernel_steps.proofs.AboutCalls.LineLemmas.{slice_get-last}
+use Rattle.clausal_form.proofs.AboutForms.FunctionLemmas.{truth-first}
+use Rattle.clausal_form.proofs.AboutWriting.LoopLemmas.{all-come, fold-append}
+use Rattle.clausal_form.proofs.AboutCounts.MeasureLemmas.{length-append}
+use Rattle.clausal_form.proofs.AboutNaming.NameLemmas.{closed-known}
+use Rattle.clausal_form.proofs.AboutForms.ShapeLemmas.{product_by}
 use Rattle.tstp_writer.specs.ReadableLines.{is_symbol_in}
 
 -- ---- places in lists

@@ -11,7 +11,7 @@ use Rattle.signature.specs.Form.{clausal_form}
 use Rattle.kernel_steps.specs.Symbols.{literal_symbols_pass}
 use Rattle.clausal_form.specs.FormFunctions.{is_predicate_in}
 use Rattle.clausal_form.specs.FormLaws.{use_of}
-use Rattle.clausal_form.proofs.WellFormedLemmas.{forms-are-well-formed}
+use Rattle.clausal_form.proofs.AboutForms.WellFormedLemmas.{forms-are-well-formed}
 use Rattle.tstp_writer.specs.ReadableLines.{is_symbol_in, is_literal_over}
 
 pub literals-over :

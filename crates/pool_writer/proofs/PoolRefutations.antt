@@ -10,7 +10,7 @@ use Rattle.tptp_tree.specs.declared.problem.Annotated.{Annotated}
 use Rattle.signature.specs.Form.{clausal_form}
 use Rattle.kernel_steps.specs.Derivation.{IsRefutation}
 use Rattle.kernel_steps.specs.declared.step.Line.{Line}
-use Rattle.kernel_steps.proofs.LineLemmas.{last-there}
+use Rattle.kernel_steps.proofs.AboutCalls.LineLemmas.{last-there}
 use Rattle.clausal_form.specs.FormLaws.{use_of}
 use Rattle.tstp_writer.specs.ReadableLines.{line_variables, Fits}
 use Rattle.tstp_writer.specs.WrittenLaws.{IsReadableRefutation}

@@ -11,7 +11,7 @@ use Rattle.fol_base.specs.Clause.{TreeClause}
 use Rattle.fol_base.specs.Canonical.{IsCanonical}
 use Rattle.fol_base.specs.Literal.{clause_of}
 use Rattle.fol_base.specs.WellFormed.{has_arities, are_literals_of}
-use Rattle.fol_base.proofs.TestLemmas.{list_all-item}
+use Rattle.fol_base.proofs.WorkedExamples.TestLemmas.{list_all-item}
 use Rattle.tptp_tree.specs.declared.problem.Annotated.{Annotated}
 use Rattle.signature.specs.declared.symbol.Symbol.{Symbol}
 use Rattle.signature.specs.Form.{clausal_form}
@@ -24,7 +24,7 @@ use Rattle.kernel_steps.specs.declared.step.Line.{Line}
 use Rattle.clausal_form.specs.FormFunctions.{is_predicate_in}
 use Rattle.clausal_form.specs.FormLaws.{use_of}
 use Rattle.tstp_writer.specs.ReadableLines.{is_nameless_step, is_symbol_in, is_term_over, line_variables, Fits, IsReadable, IsReadableLine}
-use Rattle.tstp_writer.proofs.PlaceLemmas.{all-there}
+use Rattle.tstp_writer.proofs.AboutPrinted.PlaceLemmas.{all-there}
 use Rattle.pool_core.specs.Derived.{is_plain_step, is_function_term_of, IsPlainLine, ArePoolLines}
 use Rattle.retracing.specs.Needed.{is_plain_step as is_retraced_step}
 use Rattle.retracing.specs.Renumbered.{renumbered}

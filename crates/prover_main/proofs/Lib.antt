@@ -1,18 +1,7 @@
-pub mod NameLemmas
-pub mod PageLemmas
-pub mod AnswerLemmas
-pub mod WordLemmas
-pub mod TextLemmas
-pub mod FormInputs
-pub mod HistoryLemmas
-pub mod RunLemmas
-pub mod DeliveryLemmas
-pub mod PlacedLemmas
-pub mod OneAnswer
-pub mod RunLaws
-pub mod PieceExamples
-pub mod TruthLaws
-pub mod FormSymbols
-pub mod SaturatedLemmas
-pub mod RefutedLemmas
-pub mod OutcomeLemmas
+-- A map of the proofs, by topic; what is proved of one function stands in the folder of its module.
+-- AboutPages: texts and pages of a report, and how they are delivered.
+pub mod AboutPages
+-- AboutOutcomes: what each outcome says of the problem.
+pub mod AboutOutcomes
+-- AboutRuns: the whole run and its laws.
+pub mod AboutRuns

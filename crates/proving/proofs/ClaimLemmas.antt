@@ -12,8 +12,8 @@ use Rattle.pool_core.specs.declared.ticket.PropTicket.{PropTicket}
 use Rattle.pool_core.specs.declared.ticket.Claimed.{Claimed}
 use Rattle.pool_core.specs.declared.ticket.Claimed.TheVariants.{Solve, Idle}
 use Rattle.pool_core.specs.declared.event.Event.{Event}
-use Rattle.pool_core.proofs.BeginningLemmas.{replay-sound}
-use Rattle.pool_core.proofs.SoundLemmas.{no-solve}
+use Rattle.pool_core.proofs.AboutBeginnings.BeginningLemmas.{replay-sound}
+use Rattle.pool_core.proofs.AboutLines.SoundLemmas.{no-solve}
 use Rattle.proving.specs.Progress.{HasOut}
 
 -- ---- claims

@@ -25,8 +25,8 @@ use Rattle.pool_core.specs.declared.event.Event.{Event}
 use Rattle.pool_core.specs.declared.event.Event.TheVariants.{Claim, Return, Stale, Void, ClaimSolve, ReturnModel, ReturnRefuted, Abandon}
 use Rattle.pool_core.specs.declared.outcome.Outcome.{Outcome}
 use Rattle.pool_core.specs.declared.outcome.Outcome.TheVariants.{Refuted, Saturated, Spent, Heavy}
-use Rattle.pool_core.proofs.FrameLemmas.{Registers, by-if, inputs-register, result-registers, results-register}
-use Rattle.pool_core.proofs.SpentLemmas.{spent_is_the_count}
+use Rattle.pool_core.proofs.AboutRecords.FrameLemmas.{Registers, by-if, inputs-register, result-registers, results-register}
+use Rattle.pool_core.proofs.AboutCounting.SpentLemmas.{spent_is_the_count}
 use Rattle.proving.specs.Causes.{HasCause, OutcomesHaveCauses}
 
 -- what events may make of a pool

@@ -15,11 +15,11 @@ use Rattle.pool_core.specs.Replay.{Origin, after, start, replay}
 use Rattle.pool_core.specs.declared.options.Options.{Options}
 use Rattle.pool_core.specs.declared.event.Event.{Event}
 use Rattle.pool_core.specs.declared.event.Event.TheVariants.{Claim, Return, Stale, Void, ClaimSolve, ReturnModel, ReturnRefuted, Abandon}
-use Rattle.pool_core.proofs.ClaimLemmas.{after-claim, given-waits, claim_after}
-use Rattle.pool_core.proofs.GrowthLemmas.{living-not-dead, waiting-parts}
-use Rattle.pool_core.proofs.NewsLemmas.{Adds, new-deaths, event-adds, living-kept, start-is}
-use Rattle.pool_core.proofs.NumberLemmas.{returned-positions, modelled-positions, refuted-positions}
-use Rattle.pool_core.proofs.PlaceLemmas.{Placed, after-placed, start-placed}
+use Rattle.pool_core.proofs.AboutClaims.ClaimLemmas.{after-claim, given-waits, claim_after}
+use Rattle.pool_core.proofs.AboutRecords.GrowthLemmas.{living-not-dead, waiting-parts}
+use Rattle.pool_core.proofs.AboutRecords.NewsLemmas.{Adds, new-deaths, event-adds, living-kept, start-is}
+use Rattle.pool_core.proofs.AboutRecords.NumberLemmas.{returned-positions, modelled-positions, refuted-positions}
+use Rattle.pool_core.proofs.AboutRecords.PlaceLemmas.{Placed, after-placed, start-placed}
 use Rattle.proving.proofs.ToldLemmas.{filter-twice, filter-every, neither, told_by, told_all, AreNewNumbers, new-append, told-both, new-both}
 
 -- the clauses that an event activates didn't die before

@@ -10,7 +10,7 @@ use Rattle.pool_core.specs.Outcomes.{outcome_of}
 use Rattle.pool_core.specs.Replay.{Origin, start, replay}
 use Rattle.pool_core.specs.declared.options.Options.{Options}
 use Rattle.pool_core.specs.declared.outcome.Outcome.{Outcome}
-use Rattle.pool_core.proofs.FrameLemmas.{inputs-register}
+use Rattle.pool_core.proofs.AboutRecords.FrameLemmas.{inputs-register}
 use Rattle.proving.specs.Progress.{HasNoJob, IsLater}
 use Rattle.proving.specs.Proved.{IsProvedFrom}
 

@@ -20,9 +20,9 @@ use Rattle.pool_core.specs.declared.ticket.Back.TheVariants as back
 use Rattle.pool_core.specs.declared.batch.Batch.{Batch}
 use Rattle.pool_core.specs.declared.event.Event.{Event}
 use Rattle.pool_core.specs.declared.event.Event.TheVariants.{Return, Stale, Void}
-use Rattle.pool_core.proofs.FrameLemmas.{by-if}
-use Rattle.pool_core.proofs.HistoryLemmas.{replay-end}
-use Rattle.pool_core.proofs.NewsLemmas.{worked-given}
+use Rattle.pool_core.proofs.AboutRecords.FrameLemmas.{by-if}
+use Rattle.pool_core.proofs.AboutClaims.HistoryLemmas.{replay-end}
+use Rattle.pool_core.proofs.AboutRecords.NewsLemmas.{worked-given}
 use Rattle.given_work.specs.View.{IndexView}
 use Rattle.proving.specs.Progress.{HasLearned, HasNoJob, HasOut, IsGiven, IsIndexOf, IsLater}
 

@@ -22,10 +22,10 @@ use Rattle.pool_core.specs.Inputs.{AreInputs, IsHistoryOf}
 use Rattle.pool_core.specs.declared.event.Event.{Event}
 use Rattle.pool_core.specs.declared.ticket.Change.{Change}
 use Rattle.pool_core.specs.declared.ticket.Ticket.{Ticket}
-use Rattle.pool_core.proofs.CountedLemmas.{given_are_told}
-use Rattle.pool_core.proofs.HistoryLemmas.{changes-append}
-use Rattle.pool_core.proofs.NewsLemmas.{news_are_registered, jobs_are_told_now}
-use Rattle.pool_core.proofs.PlaceLemmas.{replay-placed}
+use Rattle.pool_core.proofs.AboutCounting.CountedLemmas.{given_are_told}
+use Rattle.pool_core.proofs.AboutClaims.HistoryLemmas.{changes-append}
+use Rattle.pool_core.proofs.AboutRecords.NewsLemmas.{news_are_registered, jobs_are_told_now}
+use Rattle.pool_core.proofs.AboutRecords.PlaceLemmas.{replay-placed}
 use Rattle.given_work.specs.View.{IndexView}
 use Rattle.given_work.specs.Laws.{AreToldFor}
 use Rattle.given_work.specs.Learning.{learns, learned, AreNews}

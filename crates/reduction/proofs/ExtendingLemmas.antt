@@ -10,8 +10,8 @@ use Rattle.fol_base.specs.Literal.{clause_of}
 use Rattle.fol_base.specs.Canonical.{distinct, place_of}
 use Rattle.fol_base.specs.Kind.{is_function_term}
 use Rattle.fol_base.specs.Numbering.{with_variable}
-use Rattle.fol_base.proofs.NumberingLemmas.{all_met}
-use Rattle.fol_base.proofs.TestLemmas.{list_all-joined}
+use Rattle.fol_base.proofs.AboutCanonical.NumberingLemmas.{all_met}
+use Rattle.fol_base.proofs.WorkedExamples.TestLemmas.{list_all-joined}
 use Rattle.kernel_steps.specs.Derivation.{reduced_parents}
 use Rattle.kernel_steps.specs.Lines.{AreLines, IsNumbered, clause_parents, clauses_named, has_small_terms, is_on_literals, step_parents}
 use Rattle.kernel_steps.specs.Moves.{Move, AreMoves, MovesTo, end_of_moves, units_of}

@@ -8,7 +8,7 @@ use Rattle.std.proofs.lemmas.Option.{none-some, option_and_then_some}
 use Rattle.std.proofs.Math.Seq.{take-append-add}
 use Rattle.fol_base.specs.Clause.{TreeClause}
 use Rattle.fol_base.specs.Literal.{clause_of}
-use Rattle.fol_base.proofs.TestLemmas.{if_some, list_all-item}
+use Rattle.fol_base.proofs.WorkedExamples.TestLemmas.{if_some, list_all-item}
 use Rattle.kernel_steps.specs.Parents.{Parent, Parents}
 use Rattle.kernel_steps.specs.Conclusion.{verdict}
 use Rattle.kernel_steps.specs.Derivation.{AreSteps, continued, line_parent, line_parents, reduced_parents, is_clause_step, introduces_name}

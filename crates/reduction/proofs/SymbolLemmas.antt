@@ -7,15 +7,15 @@ use Rattle.std.proofs.lemmas.Option.{none-some, same_Some}
 use Rattle.fol_base.specs.Clause.{TreeClause}
 use Rattle.fol_base.specs.Literal.{clause_of}
 use Rattle.fol_base.specs.Canonical.{distinct}
-use Rattle.fol_base.proofs.TestLemmas.{else_some, if_some, list_all-item, option_map-some}
+use Rattle.fol_base.proofs.WorkedExamples.TestLemmas.{else_some, if_some, list_all-item, option_map-some}
 use Rattle.kernel_steps.specs.Parents.{Parent, Parents}
 use Rattle.kernel_steps.specs.Derivation.{AreSteps, continued, line_parents, reduced_parents}
 use Rattle.kernel_steps.specs.Lines.{is_on_literals, step_parents, clause_parents, clauses_named}
 use Rattle.kernel_steps.specs.Symbols.{clause_symbols_pass, bound_symbols_pass}
 use Rattle.kernel_steps.specs.declared.step.TheConstants.{CLAUSE_NUMBERS}
 use Rattle.kernel_steps.specs.declared.step.Line.{Line}
-use Rattle.kernel_steps.proofs.ItemLemmas.{Contains-item}
-use Rattle.kernel_steps.proofs.SymbolLemmas.{steps_keep_symbols}
+use Rattle.kernel_steps.proofs.AboutCalls.ItemLemmas.{Contains-item}
+use Rattle.kernel_steps.proofs.AboutCalls.SymbolLemmas.{steps_keep_symbols}
 use Rattle.reduction.specs.Reduced.{IsOneOf, last_clause}
 use Rattle.reduction.proofs.VerdictLemmas.{has_number, conclusion-onward}
 

@@ -10,7 +10,7 @@ use Rattle.kernel_steps.specs.Conclusion.{verdict, concludes, by_one, by_two}
 use Rattle.kernel_steps.specs.Lines.{is_on_literals, step_parents}
 use Rattle.kernel_steps.specs.declared.step.Step.{Step}
 use Rattle.kernel_steps.specs.declared.step.Step.TheVariants.{Para, Refl, Factor, Merge}
-use Rattle.kernel_steps.proofs.VerdictParts.{by_one-parts, by_two-parts}
+use Rattle.kernel_steps.proofs.AboutCalls.VerdictParts.{by_one-parts, by_two-parts}
 
 -- whether a number is in a list
 abbrev pub has_number : List ℕ → ℕ → Bool

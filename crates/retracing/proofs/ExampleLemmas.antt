@@ -1,7 +1,7 @@
 -- The worked refutation: each line computes.
 use Rattle.std.proofs.Common.{take, refl}
 use Rattle.kernel_steps.specs.Examples.{opposites}
-use Rattle.kernel_steps.proofs.DerivationExamples.{derivation-from}
+use Rattle.kernel_steps.proofs.WorkedExamples.DerivationExamples.{derivation-from}
 use Rattle.retracing.specs.Retraced.{AreRefutingSteps, steps_of}
 use Rattle.retracing.specs.Examples.{with_unneeded}
 

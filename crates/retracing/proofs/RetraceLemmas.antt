@@ -14,7 +14,7 @@ use Rattle.kernel_steps.specs.Lines.{step_parents}
 use Rattle.kernel_steps.specs.Split.{has_number}
 use Rattle.kernel_steps.specs.declared.step.Step.{Step}
 use Rattle.kernel_steps.specs.declared.step.Line.{Line}
-use Rattle.kernel_steps.proofs.LineLemmas.{ParentLine, parent_line, last-there}
+use Rattle.kernel_steps.proofs.AboutCalls.LineLemmas.{ParentLine, parent_line, last-there}
 use Rattle.retracing.specs.Needed.{is_plain_step, HaveEarlierParents, AreNeeded}
 use Rattle.retracing.specs.Renumbered.{place_among, renumbered, IsRetraced}
 use Rattle.retracing.specs.Retraced.{steps_of, AreRefutingSteps, IsRetracing}

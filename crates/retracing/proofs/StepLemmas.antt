@@ -7,7 +7,7 @@ use Rattle.std.proofs.lemmas.Option.{same_Some, slice_get-map}
 use Rattle.fol_base.specs.Clause.{TreeClause}
 use Rattle.fol_base.specs.Literal.{clause_of}
 use Rattle.fol_base.specs.Rules.{superposed, resolved, factored, merged}
-use Rattle.fol_base.proofs.TestLemmas.{option_map-some, list_all-item}
+use Rattle.fol_base.proofs.WorkedExamples.TestLemmas.{option_map-some, list_all-item}
 use Rattle.kernel_steps.specs.Parents.{Parent, Parents}
 use Rattle.kernel_steps.specs.Conclusion.{concludes, by_one, by_two}
 use Rattle.kernel_steps.specs.Derivation.{is_clause_step, introduces_name, line_parents, ComesBy, IsDerivation}
@@ -17,8 +17,8 @@ use Rattle.kernel_steps.specs.Split.{has_number}
 use Rattle.kernel_steps.specs.declared.step.Step.{Step}
 use Rattle.kernel_steps.specs.declared.step.Step.TheVariants.{Input, Negate, Clausify, Para, Refl, Factor, Merge, Component, Opposite, Split, Chain}
 use Rattle.kernel_steps.specs.declared.step.Line.{Line}
-use Rattle.kernel_steps.proofs.LineLemmas.{parent_line}
-use Rattle.kernel_steps.proofs.VerdictParts.{by_one-parts, by_two-parts}
+use Rattle.kernel_steps.proofs.AboutCalls.LineLemmas.{parent_line}
+use Rattle.kernel_steps.proofs.AboutCalls.VerdictParts.{by_one-parts, by_two-parts}
 use Rattle.retracing.specs.Needed.{is_plain_step, HaveEarlierParents}
 use Rattle.retracing.specs.Renumbered.{renumbered}
 use Rattle.retracing.specs.Retraced.{steps_of}

@@ -6,7 +6,7 @@ use Rattle.fol_base.specs.Tree.{Tree}
 use Rattle.fol_base.specs.declared.clause.Side.{Side}
 use Rattle.fol_base.specs.declared.clause.Side.TheVariants.{Left, Right}
 use Rattle.disc_tree.specs.Entries.{IsIn, IsWith, numbers_where}
-use Rattle.disc_tree.proofs.EditLemmas.{is_in-append}
+use Rattle.disc_tree.proofs.AboutChanges.EditLemmas.{is_in-append}
 use Rattle.rewriting.specs.Units.{side_number}
 use Rattle.rewriting.specs.Index.{KeepsOthers}
 

@@ -12,10 +12,10 @@ use Rattle.fol_base.specs.Order.{tree_greater, TreeGreater}
 use Rattle.fol_base.specs.Sides.{side_of, other_side_of}
 use Rattle.fol_base.specs.declared.clause.Side.{Side}
 use Rattle.fol_base.specs.declared.clause.Side.TheVariants.{Left, Right}
-use Rattle.fol_base.proofs.TreeLemmas.{tree_eq-true, and_left}
-use Rattle.fol_base.proofs.OrderLemmas.{tree_greater_decided}
-use Rattle.fol_base.proofs.KindLemmas.{is_function_term-parts, is_predicate_term-parts, function_term-no_truth, predicate_term-no_truth, is_function_term-subterm, is_predicate_term-subterm}
-use Rattle.fol_base.proofs.WellFormedLemmas.{IsEquation, IsAtom, is_literal-cases}
+use Rattle.fol_base.proofs.AboutTerms.TreeLemmas.{tree_eq-true, and_left}
+use Rattle.fol_base.proofs.AboutOrders.OrderLemmas.{tree_greater_decided}
+use Rattle.fol_base.proofs.AboutTerms.KindLemmas.{is_function_term-parts, is_predicate_term-parts, function_term-no_truth, predicate_term-no_truth, is_function_term-subterm, is_predicate_term-subterm}
+use Rattle.fol_base.proofs.AboutTerms.WellFormedLemmas.{IsEquation, IsAtom, is_literal-cases}
 use Rattle.kernel_steps.specs.Inference as kernel
 use Rattle.kernel_steps.specs.Inference.{has_predicate_head}
 use Rattle.unifier.specs.Laws as unifier

@@ -20,16 +20,16 @@ use Rattle.fol_base.specs.Order.{tree_greater, TreeGreater}
 use Rattle.fol_base.specs.Subsumption.{assertions}
 use Rattle.fol_base.specs.declared.clause.Side.{Side}
 use Rattle.fol_base.specs.declared.clause.Side.TheVariants.{Left, Right}
-use Rattle.fol_base.proofs.TestLemmas.{list_all-item}
-use Rattle.fol_base.proofs.ConversePlaces.{replaced_where_there}
-use Rattle.fol_base.proofs.RuleLemmas.{superposed-parts, superposed_literal-parts, superposed-from, superposed_literal-from}
-use Rattle.fol_base.proofs.InferenceLemmas.{side_of-instance}
-use Rattle.fol_base.proofs.KindLemmas.{function_term-no_truth, no_predicate_term}
-use Rattle.fol_base.proofs.OrderLemmas.{tree_equality_decided, tree_greater_decided}
-use Rattle.fol_base.proofs.WellFormedLemmas.{IsAtom, is_literal-cases, is_literal_of-parts}
+use Rattle.fol_base.proofs.WorkedExamples.TestLemmas.{list_all-item}
+use Rattle.fol_base.proofs.AboutInstances.ConversePlaces.{replaced_where_there}
+use Rattle.fol_base.proofs.AboutClauses.RuleLemmas.{superposed-parts, superposed_literal-parts, superposed-from, superposed_literal-from}
+use Rattle.fol_base.proofs.AboutClauses.InferenceLemmas.{side_of-instance}
+use Rattle.fol_base.proofs.AboutTerms.KindLemmas.{function_term-no_truth, no_predicate_term}
+use Rattle.fol_base.proofs.AboutOrders.OrderLemmas.{tree_equality_decided, tree_greater_decided}
+use Rattle.fol_base.proofs.AboutTerms.WellFormedLemmas.{IsAtom, is_literal-cases, is_literal_of-parts}
 use Rattle.kernel_steps.specs.Inference.{RewritesBy, AllowsRoot, has_predicate_head, are_of_one_kind}
 use Rattle.unifier.specs.Matching.{by_pairs}
-use Rattle.unifier.proofs.KindLemmas.{matchers_put_function_terms}
+use Rattle.unifier.proofs.AboutLayouts.KindLemmas.{matchers_put_function_terms}
 use Rattle.rewriting.specs.Redex.{spot_at, root_spot, is_within}
 use Rattle.rewriting.specs.Laws.{MayRewrite, AreWellFormed, Becomes, NormalClausesStay, RedexesRewrite, RedexesGive}
 use Rattle.rewriting.proofs.KindLemmas.{kind-at, redex-kinds, predicate-head}

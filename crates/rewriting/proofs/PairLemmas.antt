@@ -11,7 +11,7 @@ use Rattle.fol_base.specs.Clause.{TreeLiteral}
 use Rattle.fol_base.specs.Sides.{side_of, other_side_of}
 use Rattle.fol_base.specs.Unifier.{IsMatcher}
 use Rattle.fol_base.specs.declared.clause.Side.{Side}
-use Rattle.fol_base.proofs.InstanceLemmas.{instances_agree}
+use Rattle.fol_base.proofs.AboutInstances.InstanceLemmas.{instances_agree}
 use Rattle.unifier.specs.Matching.{variables_of, term_for, by_pairs, NoVariableTwice, HasPairs, with_further, IsMatched}
 use Rattle.rewriting.specs.Units.{has_other_variables}
 

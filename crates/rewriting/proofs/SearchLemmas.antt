@@ -11,15 +11,15 @@ use Rattle.fol_base.specs.Instance.{instance}
 use Rattle.fol_base.specs.Place.{subterm}
 use Rattle.fol_base.specs.Clause.{TreeLiteral, TreeClause}
 use Rattle.fol_base.specs.Sides.{side_of, other_side_of}
-use Rattle.fol_base.proofs.TreeLemmas.{tree_size-positive, list_of-trees_of}
-use Rattle.kbo_order.proofs.HeadLemmas.{smaller-not_greater, low_head-not_greater}
+use Rattle.fol_base.proofs.AboutTerms.TreeLemmas.{tree_size-positive, list_of-trees_of}
+use Rattle.kbo_order.proofs.AboutReading.HeadLemmas.{smaller-not_greater, low_head-not_greater}
 use Rattle.disc_tree.specs.Entries.{IsIn}
-use Rattle.disc_tree.proofs.EditLemmas.{is_in-append}
+use Rattle.disc_tree.proofs.AboutChanges.EditLemmas.{is_in-append}
 use Rattle.bank_clause.specs.Clause.{clause_at}
 use Rattle.bank_clause.specs.declared.clause.BankClause.{BankClause}
 use Rattle.bank_clause.specs.declared.member.Member.{Member}
 use Rattle.fol_base.specs.Subsumption.{assertions, is_among}
-use Rattle.disc_tree.proofs.UnifierLemmas.{generalisation-compatible}
+use Rattle.disc_tree.proofs.AboutQueries.UnifierLemmas.{generalisation-compatible}
 use Rattle.rewriting.proofs.TryLemmas.{redex-may}
 use Rattle.rewriting.specs.Units.{HasCandidates, usable, usable_clause, clause_numbered, side_number, is_kept}
 use Rattle.rewriting.specs.Redex.{Spot, spot_at, inner, root_spot, HasRedex, IsNormal, IsNormalLiteral}

@@ -14,8 +14,8 @@ use Rattle.fol_base.specs.Clause.{TreeLiteral, TreeClause}
 use Rattle.fol_base.specs.Sides.{side_of, other_side_of}
 use Rattle.fol_base.specs.Order.{tree_greater}
 use Rattle.fol_base.specs.declared.clause.Side.{Side}
-use Rattle.fol_base.proofs.TreeOrderLemmas.{tree_greater-itself, tree_greater-trans}
-use Rattle.kbo_order.proofs.StableLemmas.{trees_stable}
+use Rattle.fol_base.proofs.AboutOrders.TreeOrderLemmas.{tree_greater-itself, tree_greater-trans}
+use Rattle.kbo_order.proofs.AboutLaws.StableLemmas.{trees_stable}
 use Rattle.unifier.specs.Laws.{are_of_one_kind, AreFunctionPairs}
 use Rattle.unifier.specs.Matching.{by_pairs, are_below, IsMatched, NoMatcher}
 use Rattle.rewriting.specs.Units.{has_other_variables, may_rewrite, side_number, usable, usable_clause, is_kept, clause_numbered}

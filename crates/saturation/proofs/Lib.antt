@@ -1,28 +1,5 @@
--- A map of the proofs.
--- The calculus: ConclusionLemmas (the symbols of conclusions), MoveLemmas (clauses that are reduced or redundant), RenamingLemmas (variants).
-pub mod ConclusionLemmas
-pub mod MoveLemmas
-pub mod RenamingLemmas
--- What is carried, one lemma for each kind of step: CarriedLemmas (on parts of records), VictimLemmas (who died), ArrivalLemmas (results come),
--- TallyLemmas (what a batch counts and ends).
-pub mod VictimLemmas
-pub mod CarriedLemmas
-pub mod ArrivalLemmas
-pub mod TallyLemmas
--- Right batches: RegisteredLemmas (what told clauses are), RemovalLemmas (clauses that go), EntryLemmas (conclusions).
-pub mod RegisteredLemmas
-pub mod RemovalLemmas
-pub mod EntryLemmas
--- Clauses that met: MeetingLemmas (by positions), StateLemmas (the state of an open pool), ReturnLemmas (after a return).
-pub mod MeetingLemmas
-pub mod StateLemmas
-pub mod ReturnLemmas
--- Histories: CoverageLemmas (what a return keeps covered), FixedLemmas (outcomes that events fix), HistoryLemmas (each event).
-pub mod CoverageLemmas
-pub mod FixedLemmas
-pub mod HistoryLemmas
--- The laws: OutcomeLemmas (saturated and heavy), LawLemmas.
-pub mod OutcomeLemmas
-pub mod LawLemmas
--- Worked examples.
-pub mod ExampleLemmas
+-- A map of the proofs, by topic; what is proved of one function stands in the folder of its module.
+-- AboutCarried: what is carried through a history, event by event.
+pub mod AboutCarried
+-- AboutClosing: closed sets, covered clauses, the laws and examples.
+pub mod AboutClosing

@@ -11,11 +11,11 @@ use Rattle.fol_base.specs.Clause.{TreeLiteral, TreeClause, clause_size, clause_v
 use Rattle.fol_base.specs.Canonical.{IsCanonical, canonical_clause, canonical_renaming, distinct, renaming}
 use Rattle.fol_base.specs.Ground.{literals_instance}
 use Rattle.fol_base.specs.WellFormed.{SymbolUse, are_literals_of, is_literal_of}
-use Rattle.fol_base.proofs.CanonicalLemmas.{canonical_forms_are_canonical, canonical_forms_keep_sizes}
-use Rattle.fol_base.proofs.InstanceLemmas.{trees_count-instances}
-use Rattle.fol_base.proofs.TestLemmas.{list_all-remove}
-use Rattle.fol_base.proofs.TreeLemmas.{tree_size-positive}
-use Rattle.fol_base.proofs.WellFormedLemmas.{well_formed_instances}
+use Rattle.fol_base.proofs.AboutCanonical.CanonicalLemmas.{canonical_forms_are_canonical, canonical_forms_keep_sizes}
+use Rattle.fol_base.proofs.AboutInstances.InstanceLemmas.{trees_count-instances}
+use Rattle.fol_base.proofs.WorkedExamples.TestLemmas.{list_all-remove}
+use Rattle.fol_base.proofs.AboutTerms.TreeLemmas.{tree_size-positive}
+use Rattle.fol_base.proofs.AboutTerms.WellFormedLemmas.{well_formed_instances}
 use Rattle.kernel_steps.specs.Symbols.{symbols_pass, all_symbols_pass, literal_symbols_pass, clause_symbols_pass}
 use Rattle.demodulate.specs.Rank.{RanksKept, clause_rank, literal_rank}
 

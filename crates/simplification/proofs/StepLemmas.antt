@@ -8,7 +8,7 @@ use Rattle.fol_base.specs.Ground.{literals_instance}
 use Rattle.fol_base.specs.Literal.{clause_of}
 use Rattle.fol_base.specs.Rules.{superposed}
 use Rattle.fol_base.specs.WellFormed.{SymbolUse, are_literals_of}
-use Rattle.fol_base.proofs.RuleLemmas.{resolved-parts, merged-parts, superposed-parts, superposed_literal-parts}
+use Rattle.fol_base.proofs.AboutClauses.RuleLemmas.{resolved-parts, merged-parts, superposed-parts, superposed_literal-parts}
 use Rattle.kernel_steps.specs.Inference.{CutsBy, DropsTrivial, MergesEqual, RewritesBy}
 use Rattle.kernel_steps.specs.Moves.{IsMove}
 use Rattle.kernel_steps.specs.declared.step.Reduced.{Reduced}

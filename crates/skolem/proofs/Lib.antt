@@ -1,12 +1,5 @@
-pub mod ListLemmas
-pub mod BoundTermLemmas
-pub mod BindingsLemmas
-pub mod OccurringLemmas
-pub mod OrderLemmas
-pub mod SymbolLemmas
-pub mod TermLemmas
-pub mod LiteralLemmas
-pub mod FormLemmas
-pub mod CountLemmas
-pub mod ClauseLemmas
-pub mod ProblemLemmas
+-- A map of the proofs, by topic; what is proved of one function stands in the folder of its module.
+-- AboutFormulas: formulas, problems, their symbols and counts.
+pub mod AboutFormulas
+-- AboutBindings: what stands for a bound variable, in order.
+pub mod AboutBindings

@@ -1,13 +1,5 @@
-pub mod PlaceLemmas
-pub mod ForestLemmas
-pub mod GroupLemmas
-pub mod ComponentLemmas
-pub mod UniqueLemmas
-pub mod SplitLemmas
-pub mod ComponentExamples
-pub mod TagLemmas
-pub mod TagLawLemmas
-pub mod SignedLemmas
-pub mod EntryLemmas
-pub mod SignedLawLemmas
-pub mod OppositeLemmas
+-- A map of the proofs, by topic; what is proved of one function stands in the folder of its module.
+-- AboutParts: the finest parts of a clause.
+pub mod AboutParts
+-- AboutTags: tags and signed names.
+pub mod AboutTags

@@ -8,9 +8,9 @@ use Rattle.std.proofs.lemmas.Bool.{and_from}
 use Rattle.fol_base.specs.Tree.{tree_eq}
 use Rattle.fol_base.specs.Clause.{TreeLiteral, literal_eq, literals_eq}
 use Rattle.fol_base.specs.Literal.{literal_of}
-use Rattle.fol_base.proofs.TreeLemmas.{tree_eq-refl}
+use Rattle.fol_base.proofs.AboutTerms.TreeLemmas.{tree_eq-refl}
 use Rattle.kernel_steps.specs.Derivation.{complement}
-use Rattle.kernel_steps.proofs.SplitTests.{literals_eq-says}
+use Rattle.kernel_steps.proofs.AboutSplits.SplitTests.{literals_eq-says}
 use Rattle.split_parts.specs.PartHash.{part_hash}
 use Rattle.split_parts.specs.declared.key.PartKey.{PartKey}
 use Rattle.split_parts.specs.declared.key.PartRef.{PartRef}

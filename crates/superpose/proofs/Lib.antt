@@ -1,15 +1,7 @@
-pub mod SettledLemmas
-pub mod ApartLemmas
-pub mod AllowLemmas
-pub mod KindLemmas
-pub mod PlaceLemmas
-pub mod TermsLemmas
-pub mod NumberingLemmas
-pub mod StepLemmas
-pub mod BoundLemmas
-pub mod SuperposeLemmas
-pub mod SizeLemmas
-pub mod ListLemmas
-pub mod SiteLemmas
-pub mod SitesThere
-pub mod TriedLemmas
+-- A map of the proofs, by topic; what is proved of one function stands in the folder of its module.
+-- AboutSites: sites of a clause: sides that start, places that are entered.
+pub mod AboutSites
+-- AboutSteps: one superposition: terms, sizes, numbering, the step.
+pub mod AboutSteps
+-- AboutLists: all superpositions of two clauses.
+pub mod AboutLists

@@ -5,7 +5,7 @@ use Rattle.std.proofs.lemmas.List.{get_or_append_left, length-append, take_all}
 use Rattle.std.specs.Option.{unwrap_or}
 use Rattle.std.specs.Map.{lookup}
 use Rattle.fol_base.specs.Tree.{Tree, variable, tree_eq}
-use Rattle.fol_base.proofs.TreeLemmas.{tree_eq-true}
+use Rattle.fol_base.proofs.AboutTerms.TreeLemmas.{tree_eq-true}
 use Rattle.term_bank.specs.Hash.{tree_hash}
 use Rattle.term_bank.specs.Entry.{NoTreeTwice}
 use Rattle.term_bank.specs.Chain.{hash_at, newest_below, IsChained}

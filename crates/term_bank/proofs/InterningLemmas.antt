@@ -8,7 +8,7 @@ use Rattle.std.specs.List.{All, list_any}
 use Rattle.std.specs.Option.{unwrap_or}
 use Rattle.std.specs.Map.{lookup}
 use Rattle.fol_base.specs.Tree.{Tree, tree_eq}
-use Rattle.fol_base.proofs.TreeLemmas.{tree_eq-refl}
+use Rattle.fol_base.proofs.AboutTerms.TreeLemmas.{tree_eq-refl}
 use Rattle.term_bank.specs.Table.{entries, number_in}
 use Rattle.term_bank.proofs.LookupLemmas.{lookup-more}
 use Rattle.term_bank.specs.Laws.{InternsNone, InternsOne, InternsOnward, InternsPartlyOnward, InternsFirstOfMore, LearnsOnlyThese, InternedAgain, KeepsAllNumbers, KeepsNumbersOnTheWay, NumbersOnce, NumbersThese, InternsAfterFirst}

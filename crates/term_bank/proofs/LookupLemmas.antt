@@ -2,7 +2,7 @@
 use Rattle.std.proofs.Common.{◌≡◌, ℕ, zero, suc, Bool, true, false, cond, List, [], ◌∷◌, ◌++◌, length, take, get_or, None, Some, is_some, refl, sym, ap, ◌∙◌, true≢false, arith, ◌<◌, if◌then◌else◌}
 use Rattle.std.specs.Map.{lookup}
 use Rattle.fol_base.specs.Tree.{Tree, variable, tree_eq}
-use Rattle.fol_base.proofs.TreeLemmas.{tree_eq-true, tree_eq-refl}
+use Rattle.fol_base.proofs.AboutTerms.TreeLemmas.{tree_eq-true, tree_eq-refl}
 use Rattle.term_bank.specs.Entry.{interned, NoTreeTwice}
 
 module _ {K X : Type 0} (test : K → Bool) where

@@ -1,13 +1,5 @@
-pub mod NameLemmas
-pub mod AwaitLemmas
-pub mod IncludeLemmas
-pub mod AsciiLemmas
-pub mod OnwardLemmas
-pub mod FaultLemmas
-pub mod ReadLemmas
-pub mod FileLemmas
-pub mod PassedLemmas
-pub mod OutcomeLemmas
-pub mod ConjectureLemmas
-pub mod ClosedLemmas
-pub mod SizeLemmas
+-- A map of the proofs, by topic; what is proved of one function stands in the folder of its module.
+-- AboutFiles: files, includes and names.
+pub mod AboutFiles
+-- AboutReading: reading on from file to file, and how it ends.
+pub mod AboutReading

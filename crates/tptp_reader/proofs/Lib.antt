@@ -1,34 +1,9 @@
-pub mod TraceLemmas
-pub mod FollowLemmas
-pub mod RunTerms
-pub mod RunFormulas
-pub mod RunEntries
-pub mod Spelled
-pub mod TokenTests
-pub mod StepTerms
-pub mod StepFormulas
-pub mod StepEntries
-pub mod ReachLemmas
-pub mod HaltLemmas
-pub mod StopLemmas
-pub mod AnswerLemmas
-pub mod VerdictLemmas
-pub mod PlacedLemmas
-pub mod TellingLemmas
-pub mod StepLemmas
-pub mod LoopLemmas
-pub mod TermReads
-pub mod AtomSteps
-pub mod AtomReads
-pub mod FormulaSteps
-pub mod VariableReads
-pub mod FormulaReads
-pub mod ClauseSteps
-pub mod ClauseReads
-pub mod NotesReads
-pub mod EntryReads
-pub mod EntryWhole
-pub mod AnnotatingLemmas
-pub mod PrintedLemmas
-pub mod TextLemmas
-pub mod OutcomeLemmas
+-- A map of the proofs, by topic; what is proved of one function stands in the folder of its module.
+-- AboutSteps: one step of the machine that reads.
+pub mod AboutSteps
+-- AboutRuns: runs of steps, how they end.
+pub mod AboutRuns
+-- AboutReads: what a run reads, by kind.
+pub mod AboutReads
+-- AboutTexts: tokens and texts, spelled and printed.
+pub mod AboutTexts

@@ -1,13 +1,5 @@
-mod TokenTests
-mod RunLemmas
-mod PartReads
-mod ItemReads
-mod Begun
-mod Complete
-mod Sound
-mod WholeReads
-mod PartTerms
-mod SourceLemmas
-mod SourceReads
-mod ItemLemmas
-mod FormulaTerms
+-- A map of the proofs, by topic; what is proved of one function stands in the folder of its module.
+-- AboutParts: parts of a general term, read and made.
+pub mod AboutParts
+-- AboutWholes: whole sources: read exactly.
+pub mod AboutWholes

@@ -1,13 +1,5 @@
-pub mod TestLemmas
-pub mod LongestLemmas
-pub mod KindLemmas
-pub mod CountLemmas
-pub mod WordLemmas
-pub mod NumberLemmas
-pub mod SignLemmas
-pub mod FillLemmas
-pub mod QuoteLemmas
-pub mod PieceLemmas
-pub mod LexemeLemmas
-pub mod FrontLemmas
-pub mod TextTokenLemmas
+-- A map of the proofs, by topic; what is proved of one function stands in the folder of its module.
+-- AboutLexemes: one lexeme: kinds, words, quotes, numbers.
+pub mod AboutLexemes
+-- AboutTexts: texts as tokens.
+pub mod AboutTexts

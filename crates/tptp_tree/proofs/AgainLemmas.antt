@@ -1,7 +1,7 @@
 -- A printed text spells again what some text spells.
 use Rattle.std.proofs.Common.{◌≡◌, ℕ, List, [], ◌∷◌, ◌++◌, ap, sym, ◌∙◌, subst, append-nil}
 use Rattle.tptp_token.specs.Lexemes.{IsLexedAs, word_lexeme}
-use Rattle.tptp_token.proofs.LexemeLemmas.{lexes-whole, lexes-nothing}
+use Rattle.tptp_token.proofs.AboutLexemes.LexemeLemmas.{lexes-whole, lexes-nothing}
 use Rattle.tptp_tree.specs.Formula.{FormulaTree}
 use Rattle.tptp_token.specs.Words.{name_text, name_of}
 use Rattle.tptp_tree.specs.Printing.{formula_text}

@@ -7,9 +7,9 @@ use Rattle.tptp_token.specs.Spelling.{is_lower, is_lower_word, is_variable_word,
 use Rattle.tptp_token.specs.Pieces.{starts_with_either}
 use Rattle.tptp_token.specs.Lexemes.{Lexeme, lexeme, word_lexeme}
 use Rattle.tptp_token.specs.declared.token.Kind.TheVariants.{Variable, Connective, Mark}
-use Rattle.tptp_token.proofs.SignLemmas.{not_equal, equal_sign, negation_sign, lone_sign, long_arrow, short_arrow}
-use Rattle.tptp_token.proofs.LexemeLemmas.{Lexes}
-use Rattle.tptp_token.proofs.FrontLemmas.{EndsWord, lexes-space, lexes-plain, lexes-variable, lexes-dollar, lexes-mark}
+use Rattle.tptp_token.proofs.AboutLexemes.SignLemmas.{not_equal, equal_sign, negation_sign, lone_sign, long_arrow, short_arrow}
+use Rattle.tptp_token.proofs.AboutLexemes.LexemeLemmas.{Lexes}
+use Rattle.tptp_token.proofs.AboutTexts.FrontLemmas.{EndsWord, lexes-space, lexes-plain, lexes-variable, lexes-dollar, lexes-mark}
 use Rattle.tptp_tree.specs.Term.{TermTree, variable, application, TermTrees, no_terms, term_then}
 use Rattle.tptp_tree.specs.Formula.{BinaryConnective, implies, implied, equivalent, different, nor, nand, Quantifier, for_all, exists_some, FormulaTree, truth, falsity, predicate, equation, negation, conjunction, disjunction, connected, quantified, FormulaTrees, no_formulas, formula_then}
 use Rattle.tptp_token.specs.Words.{name_text, quoted_text}

@@ -6,9 +6,9 @@ use Rattle.std.proofs.lemmas.Bool.{and_parts, and_from, or_cases, eqb-false}
 use Rattle.tptp_token.specs.Spelling.{is_between, is_lower, is_upper, is_digit, is_word_byte, is_printable, is_end, begins, is_lower_word, is_quoted_rest, is_quoted_word}
 use Rattle.tptp_token.specs.Pieces.{fills}
 use Rattle.tptp_token.specs.Lexemes.{Lexeme, word_lexeme}
-use Rattle.tptp_token.proofs.FillLemmas.{fills-then, fills-nothing, pair-right, byte-right}
-use Rattle.tptp_token.proofs.LexemeLemmas.{Lexes}
-use Rattle.tptp_token.proofs.FrontLemmas.{EndsWord, lexes-lower, lexes-quoted}
+use Rattle.tptp_token.proofs.AboutTexts.FillLemmas.{fills-then, fills-nothing, pair-right, byte-right}
+use Rattle.tptp_token.proofs.AboutLexemes.LexemeLemmas.{Lexes}
+use Rattle.tptp_token.proofs.AboutTexts.FrontLemmas.{EndsWord, lexes-lower, lexes-quoted}
 use Rattle.tptp_token.specs.Words.{escaped_byte, quoted_text, name_text, Word, bare, quoted, unescaped, name_of}
 
 -- bytes that are shown, at least one

@@ -1,24 +1,7 @@
-pub mod TableLemmas
-pub mod NumberLemmas
-pub mod WalkLemmas
-pub mod WrittenLemmas
-pub mod ClauseLemmas
-pub mod BindingLemmas
-pub mod FormulaLemmas
-pub mod ItemLemmas
-pub mod InputLemmas
-pub mod PartLemmas
-pub mod StepLemmas
-pub mod ReadingLemmas
-pub mod CheckLemmas
-pub mod TakenLemmas
-pub mod ClassLemmas
-pub mod RuleStepLemmas
-pub mod FormulaLineLemmas
-pub mod ClauseLineLemmas
-pub mod RuleLineLemmas
-pub mod KernelLineLemmas
-pub mod LinesLemmas
-pub mod AtomLemmas
-pub mod ComponentLemmas
-pub mod VerdictLemmas
+-- A map of the proofs, by topic; what is proved of one function stands in the folder of its module.
+-- AboutReadings: what a line's text says: clauses, formulas, bindings, names.
+pub mod AboutReadings
+-- AboutVerdicts: the verdict on a line, by its kind.
+pub mod AboutVerdicts
+-- AboutDerivations: the whole text.
+pub mod AboutDerivations

@@ -1,37 +1,7 @@
-pub mod MarkLemmas
-pub mod EarlierLemmas
-pub mod ProblemLevels
-pub mod ProblemForms
-pub mod ProblemLemmas
-pub mod ProblemTrees
-pub mod ShownSymbols
-pub mod ReadableTexts
-pub mod ReadableSources
-pub mod StepTrees
-pub mod ReadableTrees
-pub mod TermTexts
-pub mod NoteLemmas
-pub mod CauseLemmas
-pub mod ClausePhrases
-pub mod LineLemmas
-pub mod TextLemmas
-pub mod VariableNames
-pub mod LiteralKinds
-pub mod RenamedSteps
-pub mod WrittenNumbers
-pub mod WrittenClauses
-pub mod WrittenSteps
-pub mod WrittenBounds
-pub mod OriginLemmas
-pub mod DerivedLemmas
-pub mod SameLemmas
-pub mod PlaceLemmas
-pub mod WalkLemmas
-pub mod InputLines
-pub mod ConeLemmas
-pub mod DerivedLines
-pub mod WrittenLines
-pub mod AcceptedTexts
-pub mod LayoutLemmas
-pub mod CitedLemmas
-pub mod ScriptLemmas
+-- A map of the proofs, by topic; what is proved of one function stands in the folder of its module.
+-- AboutNeeded: the lines that the last one needs.
+pub mod AboutNeeded
+-- AboutPrinted: printed clauses, terms, names and sources.
+pub mod AboutPrinted
+-- ReadAgain: what is printed is read again as it was.
+pub mod ReadAgain

@@ -1,26 +1,9 @@
-pub mod MatchLemmas
-pub mod PlaceLemmas
-pub mod LayoutLemmas
-pub mod CodeLemmas
-pub mod ClassLemmas
-pub mod ClosingLemmas
-pub mod JoiningLemmas
-pub mod PlacingLemmas
-pub mod ValueLemmas
-pub mod SolutionLemmas
-pub mod EquationLemmas
-pub mod WalkLemmas
-pub mod ResolveLemmas
-pub mod CellLemmas
-pub mod OccursLemmas
-pub mod SolveLemmas
-pub mod SolvedLemmas
-pub mod UnifyLemmas
-pub mod FoundLemmas
-pub mod SizeLemmas
-pub mod RenameLemmas
-pub mod BoundLemmas
-pub mod KindLemmas
-pub mod ExampleLemmas
-pub mod SharedLemmas
-pub mod ClashLemmas
+-- A map of the proofs, by topic; what is proved of one function stands in the folder of its module.
+-- AboutClasses: unifying by classes of cells.
+pub mod AboutClasses
+-- AboutEquations: unifying by equations, and what is solved.
+pub mod AboutEquations
+-- AboutLayouts: bindings laid out: places, values, sizes, names.
+pub mod AboutLayouts
+-- AboutMatching: matching, and worked examples.
+pub mod AboutMatching

@@ -7,13 +7,13 @@ use Rattle.fol_base.specs.Clause.{TreeLiteral, TreeClause, literal_instance}
 use Rattle.fol_base.specs.Compatible.{compatible_generalisation}
 use Rattle.fol_base.specs.Instance.{Substitution}
 use Rattle.fol_base.specs.Order.{equivalent_literals}
-use Rattle.fol_base.proofs.OrderLemmas.{SameLiteral, equivalent_literals-decided}
+use Rattle.fol_base.proofs.AboutOrders.OrderLemmas.{SameLiteral, equivalent_literals-decided}
 use Rattle.kernel_steps.specs.Derivation.{complement}
 use Rattle.bank_clause.specs.Clause.{clause_at}
 use Rattle.bank_clause.specs.declared.clause.BankClause.{BankClause}
 use Rattle.bank_clause.specs.declared.member.Member.{Member}
 use Rattle.disc_tree.specs.Entries.{IsIn}
-use Rattle.disc_tree.proofs.UnifierLemmas.{generalisation-compatible}
+use Rattle.disc_tree.proofs.AboutQueries.UnifierLemmas.{generalisation-compatible}
 use Rattle.rewriting.specs.Units.{clause_numbered, is_kept}
 use Rattle.kernel_steps.specs.declared.step.TheConstants.{CLAUSE_NUMBERS}
 use Rattle.kernel_steps.specs.declared.step.Reduced.{Reduced}

@@ -4,7 +4,7 @@ use Rattle.std.proofs.lemmas.Result.{IfOk-weaker}
 use Rattle.std.proofs.lemmas.List.Sorted.{IsPermutation-trans}
 use Rattle.bank_clause.specs.declared.member.Member.{Member}
 use Rattle.subsume.specs.Tree.{member_feature, members_of, content}
-use Rattle.subsume.proofs.EditLemmas.{all-inserted, inserted-low, inserted-high, entry-pushed}
+use Rattle.subsume.proofs.AboutTree.EditLemmas.{all-inserted, inserted-low, inserted-high, entry-pushed}
 use Rattle.subsume.proofs.+insert.Goals as goal
 
 pub editing::insert_beside-returns-then-value-division-clause-sound : goal.editing::insert_beside-returns-then-value-division-clause-sound

@@ -1,7 +1,7 @@
 use Rattle.std.proofs.Common.{◌≤◌, ◌<◌}
 use Rattle.bank_clause.specs.declared.member.Member.{Member}
 use Rattle.subsume.specs.Tree.{member_feature}
-use Rattle.subsume.proofs.EditLemmas.{all-removed, removed-low, removed-high}
+use Rattle.subsume.proofs.AboutTree.EditLemmas.{all-removed, removed-low, removed-high}
 use Rattle.subsume.proofs.+remove.Goals as goal
 
 pub editing::remove_beside-returns-then-value-division-clause-sound : goal.editing::remove_beside-returns-then-value-division-clause-sound

@@ -1,5 +1,5 @@
 use Rattle.std.proofs.Common.{arith}
-use Rattle.clausal_form.proofs.AgendaLemmas.{member-size}
+use Rattle.clausal_form.proofs.AboutWriting.AgendaLemmas.{member-size}
 use Rattle.clausal_form.proofs.arguments.+push_matrix_variables.Goals as goal
 
 pub push_listed_variables-push_matrix_variables-requires : goal.push_listed_variables-push_matrix_variables-requires

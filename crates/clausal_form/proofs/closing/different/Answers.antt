@@ -1,5 +1,5 @@
 use Rattle.std.proofs.Common.{sym, ◌∙◌}
-use Rattle.clausal_form.proofs.NameLemmas.{met-begin, met-again, met-first}
+use Rattle.clausal_form.proofs.AboutNaming.NameLemmas.{met-begin, met-again, met-first}
 use Rattle.clausal_form.proofs.closing.different.Goals as goal
 
 pub loop-name-init : goal.loop-name-init

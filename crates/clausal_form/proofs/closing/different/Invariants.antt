@@ -1,4 +1,4 @@
-use Rattle.clausal_form.proofs.NameLemmas.{IsMet}
+use Rattle.clausal_form.proofs.AboutNaming.NameLemmas.{IsMet}
 use Rattle.clausal_form.proofs.closing.different.Given as goal
 
 abbrev pub invariant-loop-name : goal.invariant-loop-name

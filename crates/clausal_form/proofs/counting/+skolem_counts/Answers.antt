@@ -1,6 +1,6 @@
 use Rattle.std.proofs.Common.{arith, true, false}
 use Rattle.tptp_tree.proofs.SizeLemmas.{formula-item-is}
-use Rattle.clausal_form.proofs.CountingLemmas.{count-then}
+use Rattle.clausal_form.proofs.AboutCounts.CountingLemmas.{count-then}
 use Rattle.clausal_form.proofs.counting.+skolem_counts.Goals as goal
 
 pub all_skolem_counts-skolem_counts-requires : goal.all_skolem_counts-skolem_counts-requires

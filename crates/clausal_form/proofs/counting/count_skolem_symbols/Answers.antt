@@ -1,5 +1,5 @@
 use Rattle.std.proofs.Common.{sym}
-use Rattle.clausal_form.proofs.CountingLemmas.{counted-end, counted-stop}
+use Rattle.clausal_form.proofs.AboutCounts.CountingLemmas.{counted-end, counted-stop}
 use Rattle.clausal_form.proofs.counting.count_skolem_symbols.Goals as goal
 
 pub returns : goal.returns

@@ -1,4 +1,4 @@
-use Rattle.clausal_form.proofs.CountingLemmas.{IsCounted}
+use Rattle.clausal_form.proofs.AboutCounts.CountingLemmas.{IsCounted}
 use Rattle.clausal_form.proofs.counting.count_skolem_symbols.Given as goal
 
 abbrev pub invariant-loop-annotated : goal.invariant-loop-annotated

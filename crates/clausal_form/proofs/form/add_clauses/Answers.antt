@@ -7,8 +7,8 @@ use Rattle.clausal_form.specs.Agenda.{placed}
 use Rattle.clausal_form.specs.Formula.{form_by_itself}
 use Rattle.clausal_form.specs.Naming.{defining_clauses}
 use Rattle.clausal_form.specs.Written.{written}
-use Rattle.clausal_form.proofs.StepLemmas.{IsNamed, named-formula, fault-so, counted-so}
-use Rattle.clausal_form.proofs.RefusalLemmas.{refusal-so}
+use Rattle.clausal_form.proofs.AboutWriting.StepLemmas.{IsNamed, named-formula, fault-so, counted-so}
+use Rattle.clausal_form.proofs.AboutCounts.RefusalLemmas.{refusal-so}
 use Rattle.clausal_form.proofs.form.add_clauses.Goals as goal
 
 pub returns-in-Err-clause-refused : goal.returns-in-Err-clause-refused

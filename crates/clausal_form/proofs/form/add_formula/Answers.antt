@@ -2,7 +2,7 @@ use Rattle.std.proofs.Common.{◌+◌, ◌++◌, length, ap, ◌∙◌}
 use Rattle.signature.specs.Symbol.{function_symbol}
 use Rattle.signature.specs.Form.{numbered_symbols}
 use Rattle.clausal_form.specs.Progress.{IsAddition}
-use Rattle.clausal_form.proofs.StepLemmas.{made-then}
+use Rattle.clausal_form.proofs.AboutWriting.StepLemmas.{made-then}
 use Rattle.clausal_form.proofs.form.add_formula.Goals as goal
 
 pub returns-in-Err-clause-refused : goal.returns-in-Err-clause-refused

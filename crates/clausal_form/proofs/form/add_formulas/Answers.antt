@@ -1,4 +1,4 @@
-use Rattle.clausal_form.proofs.LoopLemmas.{under-begin, under-known, under-unused, under-then, under-refused}
+use Rattle.clausal_form.proofs.AboutWriting.LoopLemmas.{under-begin, under-known, under-unused, under-then, under-refused}
 use Rattle.clausal_form.proofs.form.add_formulas.Goals as goal
 
 pub loop-place-init : goal.loop-place-init

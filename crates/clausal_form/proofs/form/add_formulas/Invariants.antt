@@ -1,4 +1,4 @@
-use Rattle.clausal_form.proofs.LoopLemmas.{IsUnder}
+use Rattle.clausal_form.proofs.AboutWriting.LoopLemmas.{IsUnder}
 use Rattle.clausal_form.proofs.form.add_formulas.Given as goal
 
 abbrev pub invariant-loop-place : goal.invariant-loop-place

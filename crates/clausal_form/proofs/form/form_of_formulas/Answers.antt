@@ -1,4 +1,4 @@
-use Rattle.clausal_form.proofs.LoopLemmas.{begun-so, prefix-so}
+use Rattle.clausal_form.proofs.AboutWriting.LoopLemmas.{begun-so, prefix-so}
 use Rattle.clausal_form.proofs.form.form_of_formulas.Goals as goal
 
 pub add_formulas-requires-clause-begun : goal.add_formulas-requires-clause-begun

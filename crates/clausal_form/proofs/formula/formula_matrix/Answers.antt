@@ -3,8 +3,8 @@ use Rattle.tptp_tree.specs.Entries.{is_conjecture}
 use Rattle.signature.specs.Occurrences.{formula_symbols}
 use Rattle.signature.specs.Environment.{closed}
 use Rattle.skolem.specs.Skolemized.{AreKnown}
-use Rattle.skolem.proofs.ProblemLemmas.{normal_form_keeps_known_symbols}
-use Rattle.clausal_form.proofs.NameLemmas.{closed-known}
+use Rattle.skolem.proofs.AboutFormulas.ProblemLemmas.{normal_form_keeps_known_symbols}
+use Rattle.clausal_form.proofs.AboutNaming.NameLemmas.{closed-known}
 use Rattle.clausal_form.proofs.formula.formula_matrix.Goals as goal
 
 pub skolemize-requires : goal.skolemize-requires

@@ -1,6 +1,6 @@
 use Rattle.std.proofs.Common.{refl}
-use Rattle.clausal_form.proofs.ResultLemmas.{ok-then}
-use Rattle.clausal_form.proofs.WritingLemmas.{definition-written, definition-placed}
+use Rattle.clausal_form.proofs.AboutForms.ResultLemmas.{ok-then}
+use Rattle.clausal_form.proofs.AboutWriting.WritingLemmas.{definition-written, definition-placed}
 use Rattle.clausal_form.proofs.formula.write_definition.Goals as goal
 
 pub returns-clause-clauses : goal.returns-clause-clauses

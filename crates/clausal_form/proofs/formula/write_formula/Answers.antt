@@ -5,8 +5,8 @@ use Rattle.skolem.specs.Shape.{matrix_tree}
 use Rattle.clausal_form.specs.Agenda.{placed}
 use Rattle.clausal_form.specs.Formula.{definitions_clauses}
 use Rattle.clausal_form.specs.Written.{written}
-use Rattle.clausal_form.proofs.ResultLemmas.{ok-then}
-use Rattle.clausal_form.proofs.WritingLemmas.{matrix-clauses, matrix-places, both-written}
+use Rattle.clausal_form.proofs.AboutForms.ResultLemmas.{ok-then}
+use Rattle.clausal_form.proofs.AboutWriting.WritingLemmas.{matrix-clauses, matrix-places, both-written}
 use Rattle.clausal_form.proofs.formula.write_formula.Goals as goal
 
 pub returns-clause-clauses : goal.returns-clause-clauses

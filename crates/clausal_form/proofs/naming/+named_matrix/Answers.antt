@@ -4,7 +4,7 @@ use Rattle.skolem.specs.Shape.{matrix_tree}
 use Rattle.skolem.specs.MatrixClauses.{product_of_matrices}
 use Rattle.clausal_form.specs.Measure.{capped_measured}
 use Rattle.clausal_form.specs.Naming.{naming_made, naming_numbers}
-use Rattle.clausal_form.proofs.NamingLemmas.{listing-begin, listing-then, product-then, first-size}
+use Rattle.clausal_form.proofs.AboutNaming.NamingLemmas.{listing-begin, listing-then, product-then, first-size}
 use Rattle.clausal_form.proofs.naming.+named_matrix.Goals as goal
 
 pub named_list-loop-member-init : goal.named_list-loop-member-init

@@ -5,7 +5,7 @@ use Rattle.skolem.specs.Shape.{matrix_tree}
 use Rattle.skolem.specs.MatrixClauses.{listed_matrices, product_of_matrices}
 use Rattle.clausal_form.specs.Written.{written}
 use Rattle.clausal_form.specs.Naming.{IsMeasured, defining_clauses, naming_made, naming_numbers}
-use Rattle.clausal_form.proofs.NamingLemmas.{IsListing}
+use Rattle.clausal_form.proofs.AboutNaming.NamingLemmas.{IsListing}
 use Rattle.clausal_form.proofs.naming.+named_matrix.Given as goal
 
 abbrev pub decreases-named_matrix : goal.decreases-named_matrix

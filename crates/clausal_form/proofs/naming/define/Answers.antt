@@ -1,4 +1,4 @@
-use Rattle.clausal_form.proofs.MeasureLemmas.{literal-measured, defining-then}
+use Rattle.clausal_form.proofs.AboutCounts.MeasureLemmas.{literal-measured, defining-then}
 use Rattle.clausal_form.proofs.naming.define.Goals as goal
 
 pub returns-clause-measured : goal.returns-clause-measured

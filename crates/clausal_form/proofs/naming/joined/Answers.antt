@@ -1,6 +1,6 @@
 use Rattle.std.proofs.Common.{ap, ◌∙◌}
 use Rattle.clausal_form.specs.Measure.{capped_measured}
-use Rattle.clausal_form.proofs.MeasureLemmas.{measured-sum, none-first, none-last}
+use Rattle.clausal_form.proofs.AboutCounts.MeasureLemmas.{measured-sum, none-first, none-last}
 use Rattle.clausal_form.proofs.naming.joined.Goals as goal
 
 pub returns-then-second-eq0-clause-clauses : goal.returns-then-second-eq0-clause-clauses

@@ -1,5 +1,5 @@
 use Rattle.skolem.specs.Shape.{matrix_tree}
-use Rattle.clausal_form.proofs.PairLemmas.{listed-then}
+use Rattle.clausal_form.proofs.AboutNaming.PairLemmas.{listed-then}
 use Rattle.clausal_form.proofs.naming.joined_matrix.Goals as goal
 
 pub returns : goal.returns

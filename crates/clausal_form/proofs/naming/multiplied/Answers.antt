@@ -1,7 +1,7 @@
 use Rattle.std.proofs.Common.{sym}
 use Rattle.clausal_form.specs.Naming.{naming_made, naming_numbers}
-use Rattle.clausal_form.proofs.ResultLemmas.{ok-both}
-use Rattle.clausal_form.proofs.NamingLemmas.{large-so, longer-so, work-first}
+use Rattle.clausal_form.proofs.AboutForms.ResultLemmas.{ok-both}
+use Rattle.clausal_form.proofs.AboutNaming.NamingLemmas.{large-so, longer-so, work-first}
 use Rattle.clausal_form.proofs.naming.multiplied.Goals as goal
 
 pub returns-clause-work : goal.returns-clause-work

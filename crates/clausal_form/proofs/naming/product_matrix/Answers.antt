@@ -1,5 +1,5 @@
 use Rattle.skolem.specs.Shape.{matrix_tree}
-use Rattle.clausal_form.proofs.PairLemmas.{factors-then}
+use Rattle.clausal_form.proofs.AboutNaming.PairLemmas.{factors-then}
 use Rattle.clausal_form.proofs.naming.product_matrix.Goals as goal
 
 pub returns : goal.returns

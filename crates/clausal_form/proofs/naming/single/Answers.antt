@@ -1,4 +1,4 @@
-use Rattle.clausal_form.proofs.PairLemmas.{single-listed, single-written}
+use Rattle.clausal_form.proofs.AboutNaming.PairLemmas.{single-listed, single-written}
 use Rattle.clausal_form.proofs.naming.single.Goals as goal
 
 pub returns-clause-list : goal.returns-clause-list

@@ -1,6 +1,6 @@
 use Rattle.std.proofs.Common.{ap, sym, ◌∙◌}
 use Rattle.clausal_form.specs.Measure.{capped_measured}
-use Rattle.clausal_form.proofs.MeasureLemmas.{measured-product, none-measured, unit-first, unit-last}
+use Rattle.clausal_form.proofs.AboutCounts.MeasureLemmas.{measured-product, none-measured, unit-first, unit-last}
 use Rattle.clausal_form.proofs.naming.written_out.Goals as goal
 
 pub returns-then-is_empty_clause-clause-clauses : goal.returns-then-is_empty_clause-clause-clauses

@@ -1,5 +1,5 @@
 use Rattle.std.specs.Prelude.{codes}
-use Rattle.clausal_form.proofs.LastSymbols.{prefix-of, names-are-new, spare-is-new, form-so}
+use Rattle.clausal_form.proofs.AboutForms.LastSymbols.{prefix-of, names-are-new, spare-is-new, form-so}
 use Rattle.clausal_form.proofs.problem.clausal.Goals as goal
 
 pub form_of_formulas-requires-clause-prefix : goal.form_of_formulas-requires-clause-prefix

@@ -1,6 +1,6 @@
 use Rattle.std.proofs.Common.{get_or}
-use Rattle.skolem.proofs.SymbolLemmas.{same-item}
-use Rattle.clausal_form.proofs.LastSymbols.{names-then}
+use Rattle.skolem.proofs.AboutFormulas.SymbolLemmas.{same-item}
+use Rattle.clausal_form.proofs.AboutForms.LastSymbols.{names-then}
 use Rattle.clausal_form.proofs.symbols.add_naming_symbols.Goals as goal
 
 pub loop-arity-preserved : goal.loop-arity-preserved

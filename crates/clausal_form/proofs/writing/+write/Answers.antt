@@ -1,8 +1,8 @@
 use Rattle.std.proofs.Common.{arith, ap, map, refl}
 use Rattle.skolem.specs.Shape.{matrix_tree}
 use Rattle.clausal_form.specs.Agenda.{lent_literal, agenda_size, canonical_after, placed}
-use Rattle.clausal_form.proofs.ResultLemmas.{ok-then}
-use Rattle.clausal_form.proofs.AgendaLemmas.{taken-last, false-left, literal-left, literal-place, lent-last, popped-size, member-size}
+use Rattle.clausal_form.proofs.AboutForms.ResultLemmas.{ok-then}
+use Rattle.clausal_form.proofs.AboutWriting.AgendaLemmas.{taken-last, false-left, literal-left, literal-place, lent-last, popped-size, member-size}
 use Rattle.clausal_form.proofs.writing.+write.Goals as goal
 
 pub write_agenda-write_matrix-requires : goal.write_agenda-write_matrix-requires

@@ -1,8 +1,8 @@
 use Rattle.std.proofs.Common.{arith}
 use Rattle.std.proofs.lemmas.List.{take_all}
-use Rattle.skolem.proofs.ListLemmas.{take-kept, longer-kept}
+use Rattle.skolem.proofs.AboutBindings.ListLemmas.{take-kept, longer-kept}
 use Rattle.clausal_form.specs.Agenda.{agenda_size}
-use Rattle.clausal_form.proofs.AgendaLemmas.{pushed-clauses, pushed-size, pushed-none, size-none}
+use Rattle.clausal_form.proofs.AboutWriting.AgendaLemmas.{pushed-clauses, pushed-size, pushed-none, size-none}
 use Rattle.clausal_form.proofs.writing.push_members.Goals as goal
 
 pub loop-left-init : goal.loop-left-init

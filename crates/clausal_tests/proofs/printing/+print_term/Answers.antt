@@ -1,5 +1,5 @@
 use Rattle.std.proofs.Common.{arith, refl}
-use Rattle.fol_base.proofs.TermLemmas.{tree_size-item}
+use Rattle.fol_base.proofs.AboutTerms.TermLemmas.{tree_size-item}
 use Rattle.clausal_tests.proofs.printing.+print_term.Goals as goal
 
 pub print_arguments-print_term-requires : goal.print_arguments-print_term-requires

@@ -1,5 +1,5 @@
 use Rattle.std.proofs.Common.{◌∙◌}
-use Rattle.cutting.proofs.CutAnswers.{asserted-any}
+use Rattle.cutting.proofs.AboutCuts.CutAnswers.{asserted-any}
 use Rattle.cutting.proofs.asserted.is_asserted.Goals as goal
 
 pub returns : goal.returns

@@ -4,7 +4,7 @@ use Rattle.fol_base.specs.Literal.{clause_of}
 use Rattle.bank_clause.specs.Clause.{clause_at}
 use Rattle.cutting.specs.Cutting.{last_index}
 use Rattle.cutting.specs.Removing.{IsTrivialAt}
-use Rattle.cutting.proofs.CutAnswers.{trivial-after}
+use Rattle.cutting.proofs.AboutCuts.CutAnswers.{trivial-after}
 use Rattle.cutting.proofs.cut_lines.cut_lines.Goals.{then-literal, else-literal}
 use Rattle.cutting.proofs.cut_lines.cut_lines.Goals as goal
 

@@ -7,8 +7,8 @@ use Rattle.fol_base.specs.Lent.{lent_of}
 use Rattle.fol_base.specs.Literal.{clause_of}
 use Rattle.bank_clause.specs.Clause.{clause_at}
 use Rattle.unifier.specs.Matching.{are_below, by_pairs}
-use Rattle.eq_rules.proofs.PremiseLemmas.{literal-below}
-use Rattle.cutting.proofs.CutAnswers.{applies-first, applies-second, own-covered, unit-covered}
+use Rattle.eq_rules.proofs.AboutConclusions.PremiseLemmas.{literal-below}
+use Rattle.cutting.proofs.AboutCuts.CutAnswers.{applies-first, applies-second, own-covered, unit-covered}
 use Rattle.cutting.proofs.cut_lines.first_line.Goals as goal
 
 pub subst-requires : goal.subst-requires

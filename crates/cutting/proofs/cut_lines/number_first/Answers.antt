@@ -1,6 +1,6 @@
 use Rattle.fol_base.specs.Literal.{clause_of}
 use Rattle.fol_base.specs.Term.{tree_of}
-use Rattle.cutting.proofs.CutAnswers.{numbered-first}
+use Rattle.cutting.proofs.AboutCuts.CutAnswers.{numbered-first}
 use Rattle.cutting.proofs.cut_lines.number_first.Goals as goal
 
 pub returns : goal.returns

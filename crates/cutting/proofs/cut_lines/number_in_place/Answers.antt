@@ -1,6 +1,6 @@
 use Rattle.fol_base.specs.Literal.{clause_of}
 use Rattle.fol_base.specs.Term.{tree_of}
-use Rattle.cutting.proofs.CutAnswers.{numbered-in_place}
+use Rattle.cutting.proofs.AboutCuts.CutAnswers.{numbered-in_place}
 use Rattle.cutting.proofs.cut_lines.number_in_place.Goals as goal
 
 pub returns : goal.returns

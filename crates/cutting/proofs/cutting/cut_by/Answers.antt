@@ -1,4 +1,4 @@
-use Rattle.cutting.proofs.CutByLemmas.{went-on}
+use Rattle.cutting.proofs.AboutCuts.CutByLemmas.{went-on}
 use Rattle.cutting.proofs.cutting.cut_by.Goals as goal
 
 pub returns-in_ok-extend-in-Some-clause-step : goal.returns-in_ok-extend-in-Some-clause-step

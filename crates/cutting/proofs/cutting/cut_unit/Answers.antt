@@ -1,7 +1,7 @@
 use Rattle.std.proofs.Common.{subst}
 use Rattle.fol_base.specs.Literal.{clause_of}
 use Rattle.cutting.specs.CutSteps.{CutsNone, IsCutStep}
-use Rattle.cutting.proofs.CutByLemmas.{cut-once}
+use Rattle.cutting.proofs.AboutCuts.CutByLemmas.{cut-once}
 use Rattle.cutting.proofs.cutting.cut_unit.Goals as goal
 
 pub returns-then-branch : goal.returns-then-branch

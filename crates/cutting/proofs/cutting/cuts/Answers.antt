@@ -1,8 +1,8 @@
 use Rattle.std.proofs.Common.{List, ℕ, ap, sym, ◌∙◌}
 use Rattle.fol_base.specs.Subsumption.{assertions, is_among}
 use Rattle.bank_clause.specs.Clause.{clause_at}
-use Rattle.subsume.proofs.SubsumingLemmas.{asserted}
-use Rattle.cutting.proofs.CutAnswers.{cuts-or-not, none-asserted}
+use Rattle.subsume.proofs.AboutSearch.SubsumingLemmas.{asserted}
+use Rattle.cutting.proofs.AboutCuts.CutAnswers.{cuts-or-not, none-asserted}
 use Rattle.cutting.proofs.cutting.cuts.Goals as goal
 
 pub returns-then-not-are_among : goal.returns-then-not-are_among

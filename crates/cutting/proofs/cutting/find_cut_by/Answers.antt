@@ -6,7 +6,7 @@ use Rattle.fol_base.specs.Clause.{TreeLiteral}
 use Rattle.fol_base.specs.Lent.{lent_of}
 use Rattle.term_bank.specs.Literal.{literal_at}
 use Rattle.bank_clause.specs.Clause.{clause_at}
-use Rattle.cutting.proofs.CutAnswers.{of-unit, single}
+use Rattle.cutting.proofs.AboutCuts.CutAnswers.{of-unit, single}
 use Rattle.cutting.proofs.cutting.find_cut_by.Goals as goal
 
 pub returns-then-literals-ne1 : goal.returns-then-literals-ne1

@@ -1,7 +1,7 @@
 use Rattle.std.proofs.Common.{ap, sym, ◌∙◌}
 use Rattle.fol_base.specs.Literal.{clause_of}
 use Rattle.fol_base.specs.Subsumption.{assertions, is_among}
-use Rattle.cutting.proofs.CutAnswers.{cut-made, none-asserted, none-fits}
+use Rattle.cutting.proofs.AboutCuts.CutAnswers.{cut-made, none-asserted, none-fits}
 use Rattle.cutting.proofs.cutting.find_lines.Goals as goal
 
 pub returns-then-not-has_asserted : goal.returns-then-not-has_asserted

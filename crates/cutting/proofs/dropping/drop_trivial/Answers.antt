@@ -1,4 +1,4 @@
-use Rattle.cutting.proofs.DroppingLemmas.{dropped}
+use Rattle.cutting.proofs.AboutLeaving.DroppingLemmas.{dropped}
 use Rattle.cutting.proofs.dropping.drop_trivial.Goals as goal
 
 pub returns-clause-step : goal.returns-clause-step

@@ -3,8 +3,8 @@ use Rattle.std.specs.Prelude.{slice_get}
 use Rattle.std.proofs.lemmas.List.{length-map}
 use Rattle.fol_base.specs.Literal.{clause_of, literal_of}
 use Rattle.fol_base.specs.Order.{equivalent_literals}
-use Rattle.subsume.proofs.PlacingLemmas.{item}
-use Rattle.cutting.proofs.DroppingLemmas.{before-more, equal-there}
+use Rattle.subsume.proofs.AboutSearch.PlacingLemmas.{item}
+use Rattle.cutting.proofs.AboutLeaving.DroppingLemmas.{before-more, equal-there}
 use Rattle.cutting.proofs.dropping.find_before.Goals as goal
 
 pub returns-then-equivalent_literals : goal.returns-then-equivalent_literals

@@ -1,7 +1,7 @@
 use Rattle.std.proofs.Common.{◌≡◌, map, length, ap, sym, ◌∙◌, subst, arith}
 use Rattle.std.proofs.lemmas.List.{length-map}
 use Rattle.fol_base.specs.Literal.{clause_of, literal_of}
-use Rattle.cutting.proofs.DroppingLemmas.{NoneBefore, none-equal}
+use Rattle.cutting.proofs.AboutLeaving.DroppingLemmas.{NoneBefore, none-equal}
 use Rattle.cutting.proofs.dropping.find_equal.Goals as goal
 
 pub returns : goal.returns

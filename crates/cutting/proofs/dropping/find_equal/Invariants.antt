@@ -1,5 +1,5 @@
 use Rattle.fol_base.specs.Literal.{clause_of}
-use Rattle.cutting.proofs.DroppingLemmas.{NoneBefore}
+use Rattle.cutting.proofs.AboutLeaving.DroppingLemmas.{NoneBefore}
 use Rattle.cutting.proofs.dropping.find_equal.Given as goal
 
 abbrev pub invariant-loop-goes : goal.invariant-loop-goes

@@ -3,8 +3,8 @@ use Rattle.std.specs.Prelude.{slice_get}
 use Rattle.std.proofs.lemmas.List.{length-map}
 use Rattle.std.proofs.lemmas.Option.{slice_get_within}
 use Rattle.fol_base.specs.Literal.{literal_of}
-use Rattle.subsume.proofs.PlacingLemmas.{item}
-use Rattle.cutting.proofs.DroppingLemmas.{trivial-all, trivial-more, trivial-not, trivial-there}
+use Rattle.subsume.proofs.AboutSearch.PlacingLemmas.{item}
+use Rattle.cutting.proofs.AboutLeaving.DroppingLemmas.{trivial-all, trivial-more, trivial-not, trivial-there}
 use Rattle.cutting.proofs.dropping.find_trivial.Goals as goal
 
 pub loop-index-preserved : goal.loop-index-preserved

@@ -1,4 +1,4 @@
-use Rattle.cutting.proofs.DroppingLemmas.{merged-dropped}
+use Rattle.cutting.proofs.AboutLeaving.DroppingLemmas.{merged-dropped}
 use Rattle.cutting.proofs.dropping.merge_equal.Goals as goal
 
 pub returns-clause-step : goal.returns-clause-step

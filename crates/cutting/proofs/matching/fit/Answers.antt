@@ -3,7 +3,7 @@ use Rattle.fol_base.specs.Instance.{Substitution}
 use Rattle.fol_base.specs.Lent.{lent_of}
 use Rattle.unifier.specs.Matching.{HasPairs}
 use Rattle.subsume.specs.Kinds.{TurnsInto}
-use Rattle.cutting.proofs.FittingLemmas.{Matches, fits-not, fits-neither, fitting-straight, fitting-crossed}
+use Rattle.cutting.proofs.AboutCuts.FittingLemmas.{Matches, fits-not, fits-neither, fitting-straight, fitting-crossed}
 use Rattle.cutting.proofs.matching.fit.Goals as goal
 
 pub returns-then-not-may_fit : goal.returns-then-not-may_fit

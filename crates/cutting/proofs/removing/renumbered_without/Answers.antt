@@ -1,5 +1,5 @@
 use Rattle.fol_base.specs.Literal.{clause_of}
-use Rattle.cutting.proofs.RemovalLemmas.{renumbered}
+use Rattle.cutting.proofs.AboutLeaving.RemovalLemmas.{renumbered}
 use Rattle.cutting.proofs.removing.renumbered_without.Goals as goal
 
 pub returns : goal.returns

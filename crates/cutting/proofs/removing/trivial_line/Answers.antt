@@ -2,7 +2,7 @@ use Rattle.std.proofs.Common.{Some, map, ap, refl, sym, ◌∙◌}
 use Rattle.std.specs.Option.{option_map}
 use Rattle.fol_base.specs.Literal.{clause_of, literal_of}
 use Rattle.fol_base.specs.Rules.{resolved}
-use Rattle.cutting.proofs.RemovalLemmas.{removal-applies, removal-numbered, resolved-removes}
+use Rattle.cutting.proofs.AboutLeaving.RemovalLemmas.{removal-applies, removal-numbered, resolved-removes}
 use Rattle.cutting.proofs.removing.trivial_line.Goals as goal
 
 pub unreachable-requires : goal.unreachable-requires

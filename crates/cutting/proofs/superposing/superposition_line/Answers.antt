@@ -7,7 +7,7 @@ use Rattle.fol_base.specs.Canonical.{renaming}
 use Rattle.fol_base.specs.Literal.{literal_of}
 use Rattle.fol_base.specs.Rules.{superposed}
 use Rattle.kernel_steps.specs.declared.step.Step.TheVariants.{Para}
-use Rattle.cutting.proofs.SuperposingLemmas.{both-met, renamed-onward, superposition-applies}
+use Rattle.cutting.proofs.AboutCuts.SuperposingLemmas.{both-met, renamed-onward, superposition-applies}
 use Rattle.cutting.proofs.superposing.superposition_line.Goals as goal
 
 pub unreachable-requires : goal.unreachable-requires

@@ -2,7 +2,7 @@ use Rattle.std.proofs.Common.{sym, ◌∙◌}
 use Rattle.fol_base.specs.Lent.{lent_of}
 use Rattle.fol_base.specs.Literal.{literal_of}
 use Rattle.fol_base.specs.Order.{equivalent_literals}
-use Rattle.fol_base.proofs.TestLemmas.{list_any-map}
+use Rattle.fol_base.proofs.WorkedExamples.TestLemmas.{list_any-map}
 use Rattle.cutting.proofs.tautology.has_equivalent.Goals as goal
 
 pub returns : goal.returns

@@ -2,7 +2,7 @@ use Rattle.std.proofs.Common.{List, map, ap, sym, ◌∙◌}
 use Rattle.std.specs.List.{list_any}
 use Rattle.fol_base.specs.Literal.{literal_of}
 use Rattle.fol_base.specs.declared.clause.Literal.{Literal}
-use Rattle.fol_base.proofs.TestLemmas.{list_any-map}
+use Rattle.fol_base.proofs.WorkedExamples.TestLemmas.{list_any-map}
 use Rattle.kernel_steps.specs.Inference.{makes_tautology}
 use Rattle.cutting.proofs.tautology.is_tautology.Goals as goal
 

@@ -1,4 +1,4 @@
-use Rattle.demodulate.proofs.RankLemmas.{ranks_fall, ranks_kept}
+use Rattle.demodulate.proofs.AboutRanks.RankLemmas.{ranks_fall, ranks_kept}
 use Rattle.demodulate.proofs.laws.rewriting_ends.Goals as goal
 
 pub returns-clause-falls : goal.returns-clause-falls

@@ -3,7 +3,7 @@ use Rattle.std.proofs.lemmas.List.{map-append}
 use Rattle.fol_base.specs.Tree.{variable}
 use Rattle.fol_base.specs.Term.{tree_of}
 use Rattle.fol_base.specs.declared.term.Term.TheVariants.{Var}
-use Rattle.fol_base.proofs.CanonicalLemmas.{terms_from_more}
+use Rattle.fol_base.proofs.AboutCanonical.CanonicalLemmas.{terms_from_more}
 use Rattle.demodulate.proofs.line.own_terms.Goals as goal
 
 pub loop-number-preserved : goal.loop-number-preserved

@@ -6,7 +6,7 @@ use Rattle.fol_base.specs.Tree.{variable}
 use Rattle.kernel_steps.specs.declared.step.Step.TheVariants.{Para}
 use Rattle.unifier.specs.Matching.{by_pairs}
 use Rattle.bank_clause.specs.Clause.{clause_at}
-use Rattle.demodulate.proofs.CallLemmas.{pairs-below, line-is}
+use Rattle.demodulate.proofs.AboutSteps.CallLemmas.{pairs-below, line-is}
 use Rattle.demodulate.proofs.line.rewriting_line.Goals as goal
 
 pub subst-requires : goal.subst-requires

@@ -2,7 +2,7 @@ use Rattle.std.proofs.Common.{map, ap, sym, ◌∙◌, refl}
 use Rattle.std.specs.Option.{option_map}
 use Rattle.fol_base.specs.Literal.{literal_of, clause_of}
 use Rattle.bank_clause.specs.Clause.{clause_at}
-use Rattle.demodulate.proofs.CallLemmas.{gives-some, becomes}
+use Rattle.demodulate.proofs.AboutSteps.CallLemmas.{gives-some, becomes}
 use Rattle.demodulate.proofs.line.rewritten.Goals as goal
 
 pub unreachable-requires : goal.unreachable-requires

@@ -3,7 +3,7 @@ use Rattle.plain_types.specs.declared.sequence.NameLit.{NameLit}
 use Rattle.fol_base.specs.Literal.{clause_of}
 use Rattle.fol_base.specs.Subsumption.{assertions}
 use Rattle.demodulate.specs.Normal.{kept, IsRewritten, IsLeft}
-use Rattle.demodulate.proofs.NormalLemmas.{asserted-are, begins, goes_on, ranks_lower, ends, held, refused}
+use Rattle.demodulate.proofs.AboutSteps.NormalLemmas.{asserted-are, begins, goes_on, ranks_lower, ends, held, refused}
 use Rattle.demodulate.proofs.normal.normal_form.Goals as goal
 
 pub steps-init : goal.steps-init

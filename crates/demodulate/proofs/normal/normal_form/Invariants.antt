@@ -1,7 +1,7 @@
 use Rattle.fol_base.specs.Clause.{clause_size}
 use Rattle.fol_base.specs.Literal.{clause_of}
 use Rattle.demodulate.specs.Rank.{clause_rank}
-use Rattle.demodulate.proofs.NormalLemmas.{Lasts, bound_for}
+use Rattle.demodulate.proofs.AboutSteps.NormalLemmas.{Lasts, bound_for}
 use Rattle.demodulate.proofs.normal.normal_form.Given as goal
 
 abbrev pub invariant-steps : goal.invariant-steps

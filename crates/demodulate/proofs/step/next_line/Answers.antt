@@ -4,7 +4,7 @@ use Rattle.fol_base.specs.Literal.{clause_of}
 use Rattle.rewriting.specs.Redex.{AreNormal}
 use Rattle.rewriting.specs.Searching.{IsFoundOf, usable_by}
 use Rattle.rewriting.specs.declared.searching.Found.{Found}
-use Rattle.demodulate.proofs.CallLemmas.{next-is}
+use Rattle.demodulate.proofs.AboutSteps.CallLemmas.{next-is}
 use Rattle.demodulate.proofs.step.next_line.Goals as goal
 
 pub returns-in_ok-line-in-Some-clause : goal.returns-in_ok-line-in-Some-clause

@@ -4,7 +4,7 @@ use Rattle.fol_base.specs.Literal.{clause_of}
 use Rattle.rewriting.specs.Searching.{usable_by}
 use Rattle.demodulate.specs.Normal.{IsNext}
 use Rattle.demodulate.specs.declared.step.NextLine.{NextLine}
-use Rattle.demodulate.proofs.StepLemmas.{left-normal, rewritten}
+use Rattle.demodulate.proofs.AboutSteps.StepLemmas.{left-normal, rewritten}
 use Rattle.demodulate.proofs.step.rewrite_once.Goals as goal
 
 pub returns-in-None-clause-ok : goal.returns-in-None-clause-ok

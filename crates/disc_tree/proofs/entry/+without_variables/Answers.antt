@@ -1,10 +1,10 @@
 use Rattle.std.proofs.Common.{map, take, arith, ap, sym, ◌∙◌, Some}
 use Rattle.fol_base.specs.Tree.{trees_of, tree_variables, trees_variables}
 use Rattle.fol_base.specs.Term.{tree_of}
-use Rattle.fol_base.proofs.TermLemmas.{tree_size-item}
-use Rattle.fol_base.proofs.VariableLemmas.{trees_variables-take_more}
+use Rattle.fol_base.proofs.AboutTerms.TermLemmas.{tree_size-item}
+use Rattle.fol_base.proofs.AboutTerms.VariableLemmas.{trees_variables-take_more}
 use Rattle.disc_tree.specs.Entries.{without_front}
-use Rattle.disc_tree.proofs.FrontLemmas.{front-then, front-item-none}
+use Rattle.disc_tree.proofs.AboutQueries.FrontLemmas.{front-then, front-item-none}
 use Rattle.disc_tree.proofs.entry.+without_variables.Goals as goal
 
 pub without_all_variables-without_variables-requires : goal.without_all_variables-without_variables-requires

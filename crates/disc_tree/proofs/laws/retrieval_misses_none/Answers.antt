@@ -1,4 +1,4 @@
-use Rattle.disc_tree.proofs.UnifierLemmas.{unifiable-compatible, generalisation-compatible, instance-compatible}
+use Rattle.disc_tree.proofs.AboutQueries.UnifierLemmas.{unifiable-compatible, generalisation-compatible, instance-compatible}
 use Rattle.disc_tree.proofs.laws.retrieval_misses_none.Goals as goal
 
 pub returns : goal.returns

@@ -3,7 +3,7 @@ use Rattle.disc_tree.specs.declared.node.Branch.{Branch}
 use Rattle.disc_tree.specs.Path.{comes_before}
 use Rattle.disc_tree.specs.Rows.{AreNotBefore, IsBefore}
 use Rattle.disc_tree.specs.Children.{child_of, children_of}
-use Rattle.disc_tree.proofs.SlotLemmas.{front-before, back-not-before, at-slot, gap-before, gap-at-end, child-get, children-length}
+use Rattle.disc_tree.proofs.AboutPaths.SlotLemmas.{front-before, back-not-before, at-slot, gap-before, gap-at-end, child-get, children-length}
 use Rattle.disc_tree.proofs.node.slot.Goals as goal
 use Rattle.disc_tree.proofs.node.slot.Goals.{else-low-branches-via-then-low-branches+else-not-comes_before, else-low-branches-via-else-low-branches}
 

@@ -6,9 +6,9 @@ use Rattle.disc_tree.specs.declared.label.Label.TheVariants.{Star}
 use Rattle.disc_tree.specs.Path.{head, arity}
 use Rattle.disc_tree.specs.Work.{trees_left, terms_left}
 use Rattle.disc_tree.specs.Rows.{rows, rows_at, weight, found_in, all_below}
-use Rattle.disc_tree.proofs.FoundLemmas.{if_ok-map, end-step, variable-step, star-step, application-step, children-more, found-passing}
-use Rattle.disc_tree.proofs.PrefixLemmas.{application-is, stays-star, stays-application, follows-child}
-use Rattle.disc_tree.proofs.VisitLemmas.{visits-application, visits-end, follows-each, follows-none}
+use Rattle.disc_tree.proofs.AboutQueries.FoundLemmas.{if_ok-map, end-step, variable-step, star-step, application-step, children-more, found-passing}
+use Rattle.disc_tree.proofs.AboutPaths.PrefixLemmas.{application-is, stays-star, stays-application, follows-child}
+use Rattle.disc_tree.proofs.AboutQueries.VisitLemmas.{visits-application, visits-end, follows-each, follows-none}
 use Rattle.disc_tree.proofs.query.+collect.Goals as goal
 
 pub collect-returns-in_default-rest-clause-found : goal.collect-returns-in_default-rest-clause-found

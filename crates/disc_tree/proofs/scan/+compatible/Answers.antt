@@ -1,7 +1,7 @@
 use Rattle.std.proofs.Common.{◌≡◌, arith, map, sym, ◌∙◌, refl}
 use Rattle.fol_base.specs.Term.{tree_of}
-use Rattle.fol_base.proofs.TermLemmas.{tree_size-item, length-trees}
-use Rattle.disc_tree.proofs.PathLemmas.{lists-of-lengths}
+use Rattle.fol_base.proofs.AboutTerms.TermLemmas.{tree_size-item, length-trees}
+use Rattle.disc_tree.proofs.AboutPaths.PathLemmas.{lists-of-lengths}
 use Rattle.disc_tree.proofs.scan.+compatible.Goals as goal
 
 pub are_compatible-returns-then-entries-queries : goal.are_compatible-returns-then-entries-queries

@@ -1,7 +1,7 @@
 use Rattle.std.proofs.Common.{◌∙◌, arith}
 use Rattle.fol_base.specs.Tree.{tree_variables}
 use Rattle.fol_base.specs.Term.{tree_of}
-use Rattle.disc_tree.proofs.RemoveLemmas.{none-past, none-within}
+use Rattle.disc_tree.proofs.AboutChanges.RemoveLemmas.{none-past, none-within}
 use Rattle.disc_tree.proofs.sorted.place.Goals as goal
 
 pub returns-then-number : goal.returns-then-number

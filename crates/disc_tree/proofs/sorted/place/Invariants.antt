@@ -3,7 +3,7 @@ use Rattle.std.specs.List.{AllWithin}
 use Rattle.fol_base.specs.Tree.{tree_variables}
 use Rattle.fol_base.specs.Term.{tree_of}
 use Rattle.disc_tree.specs.Rows.{number_of}
-use Rattle.disc_tree.proofs.RemoveLemmas.{IsOther}
+use Rattle.disc_tree.proofs.AboutChanges.RemoveLemmas.{IsOther}
 use Rattle.disc_tree.proofs.sorted.place.Given as goal
 
 abbrev pub invariant-loop-index : goal.invariant-loop-index

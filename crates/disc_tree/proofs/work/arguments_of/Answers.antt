@@ -1,6 +1,6 @@
 use Rattle.std.proofs.Common.{ap, sym, ◌∙◌}
 use Rattle.fol_base.specs.Term.{tree_of}
-use Rattle.fol_base.proofs.TreeLemmas.{list_of-trees_of}
+use Rattle.fol_base.proofs.AboutTerms.TreeLemmas.{list_of-trees_of}
 use Rattle.disc_tree.specs.Path.{arguments}
 use Rattle.disc_tree.proofs.work.arguments_of.Goals as goal
 

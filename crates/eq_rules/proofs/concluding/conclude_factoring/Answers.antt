@@ -4,7 +4,7 @@ use Rattle.fol_base.specs.Clause.{TreeClause}
 use Rattle.fol_base.specs.Literal.{literal_of, clause_of}
 use Rattle.kernel_steps.specs.declared.step.Step.TheVariants as step
 use Rattle.bank_clause.specs.Clause.{clause_at}
-use Rattle.eq_rules.proofs.FactorStepLemmas.{factoring-applies, factoring-numbered}
+use Rattle.eq_rules.proofs.AboutFactoring.FactorStepLemmas.{factoring-applies, factoring-numbered}
 use Rattle.eq_rules.proofs.concluding.conclude_factoring.Goals as goal
 
 pub unreachable-requires : goal.unreachable-requires

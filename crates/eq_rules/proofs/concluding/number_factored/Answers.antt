@@ -7,8 +7,8 @@ use Rattle.fol_base.specs.Clause.{literal_variables}
 use Rattle.fol_base.specs.Lent.{lent_of}
 use Rattle.fol_base.specs.Numbering.{with_variables}
 use Rattle.eq_rules.specs.Steps.{factored_plain}
-use Rattle.eq_rules.proofs.RenumberedLemmas.{variables_between}
-use Rattle.eq_rules.proofs.FactorStepLemmas.{factored_met}
+use Rattle.eq_rules.proofs.AboutConclusions.RenumberedLemmas.{variables_between}
+use Rattle.eq_rules.proofs.AboutFactoring.FactorStepLemmas.{factored_met}
 use Rattle.eq_rules.proofs.concluding.number_factored.Goals as goal
 
 pub returns : goal.returns

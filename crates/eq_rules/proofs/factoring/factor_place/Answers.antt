@@ -3,7 +3,7 @@ use Rattle.eq_rules.specs.Factoring.{factor_key, factors_before, number_of}
 use Rattle.eq_rules.specs.Inferences.{AreInferences, alone}
 use Rattle.eq_rules.specs.Trying.{IsTried}
 use Rattle.eq_rules.specs.declared.inference.Inference.{Inference}
-use Rattle.eq_rules.proofs.FactoringLists.{factorings-push, factorings-none}
+use Rattle.eq_rules.proofs.AboutFactoring.FactoringLists.{factorings-push, factorings-none}
 use Rattle.eq_rules.proofs.factoring.factor_place.Goals as goal
 
 pub returns-in_ok-push : goal.returns-in_ok-push

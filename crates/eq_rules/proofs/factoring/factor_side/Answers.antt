@@ -5,9 +5,9 @@ use Rattle.term_bank.specs.declared.literal.BankLit.{BankLit}
 use Rattle.bank_clause.specs.Clause.{clause_at}
 use Rattle.eq_rules.specs.Factoring.{AreFactoringsBefore, factors_before, number_of}
 use Rattle.eq_rules.specs.Inferences.{AreInferences, alone}
-use Rattle.eq_rules.proofs.FactoringLists.{factorings-skip, factorings-row}
-use Rattle.eq_rules.proofs.FactorRefused.{side_unfactored}
-use Rattle.eq_rules.proofs.MadeLemmas.{alone_there}
+use Rattle.eq_rules.proofs.AboutFactoring.FactoringLists.{factorings-skip, factorings-row}
+use Rattle.eq_rules.proofs.AboutFactoring.FactorRefused.{side_unfactored}
+use Rattle.eq_rules.proofs.AboutConclusions.MadeLemmas.{alone_there}
 use Rattle.eq_rules.proofs.factoring.factor_side.Goals as goal
 
 pub returns-then-not-may_become : goal.returns-then-not-may_become

@@ -10,11 +10,11 @@ use Rattle.fol_base.specs.Sides.{side_of}
 use Rattle.bank_clause.specs.Clause.{clause_at}
 use Rattle.unifier.specs.Bindings.{IsUnified}
 use Rattle.eq_rules.specs.Inferences.{alone}
-use Rattle.eq_rules.proofs.FactorRefused.{unlike_unfactored}
-use Rattle.eq_rules.proofs.SideLemmas.{side-below}
-use Rattle.eq_rules.proofs.MadeLemmas.{alone_there}
-use Rattle.eq_rules.proofs.PremiseLemmas.{literal-below, literal-kind}
-use Rattle.eq_rules.proofs.ResolutionAnswers.{fits_one}
+use Rattle.eq_rules.proofs.AboutFactoring.FactorRefused.{unlike_unfactored}
+use Rattle.eq_rules.proofs.AboutConclusions.SideLemmas.{side-below}
+use Rattle.eq_rules.proofs.AboutConclusions.MadeLemmas.{alone_there}
+use Rattle.eq_rules.proofs.AboutConclusions.PremiseLemmas.{literal-below, literal-kind}
+use Rattle.eq_rules.proofs.AboutResolution.ResolutionAnswers.{fits_one}
 use Rattle.eq_rules.proofs.factoring.factoring.Goals as goal
 
 pub returns-then-not-are_alike : goal.returns-then-not-are_alike

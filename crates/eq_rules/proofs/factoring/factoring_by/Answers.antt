@@ -16,13 +16,13 @@ use Rattle.term_bank.specs.Literal.{literals_at}
 use Rattle.bank_clause.specs.Clause.{clause_at}
 use Rattle.unifier.specs.Renaming.{AreNamedTerms}
 use Rattle.unifier.specs.Sizes.{stopped}
-use Rattle.unifier.proofs.BoundLemmas.{fits-above}
+use Rattle.unifier.proofs.AboutLayouts.BoundLemmas.{fits-above}
 use Rattle.eq_rules.specs.Inferences.{alone}
-use Rattle.eq_rules.proofs.FactorAnswers.{lent_there, part_size, sides_size, total_size, told_size}
-use Rattle.eq_rules.proofs.FactoringLemmas.{factor_terms, factoring_not_eligible, factoring_not_ordered, factoring_applies, plain_size, factoring_heavy, factoring_concluded}
-use Rattle.eq_rules.proofs.SideLemmas.{alike-kinds}
-use Rattle.eq_rules.proofs.MadeLemmas.{size_above, size_within, alone_there, made_by_factoring}
-use Rattle.eq_rules.proofs.PremiseLemmas.{own_terms, literal-kind}
+use Rattle.eq_rules.proofs.AboutFactoring.FactorAnswers.{lent_there, part_size, sides_size, total_size, told_size}
+use Rattle.eq_rules.proofs.AboutFactoring.FactoringLemmas.{factor_terms, factoring_not_eligible, factoring_not_ordered, factoring_applies, plain_size, factoring_heavy, factoring_concluded}
+use Rattle.eq_rules.proofs.AboutConclusions.SideLemmas.{alike-kinds}
+use Rattle.eq_rules.proofs.AboutConclusions.MadeLemmas.{size_above, size_within, alone_there, made_by_factoring}
+use Rattle.eq_rules.proofs.AboutConclusions.PremiseLemmas.{own_terms, literal-kind}
 use Rattle.eq_rules.proofs.factoring.factoring_by.Goals as goal
 use Rattle.unifier.specs.SolvedForm.{substitution_of}
 

@@ -7,8 +7,8 @@ use Rattle.term_bank.specs.declared.literal.BankLit.{BankLit}
 use Rattle.bank_clause.specs.Clause.{clause_at}
 use Rattle.eq_rules.specs.Inferences.{AreInferences, alone, is_factoring}
 use Rattle.eq_rules.specs.declared.inference.Inference.{Inference}
-use Rattle.eq_rules.proofs.FactorAnswers.{none_there}
-use Rattle.eq_rules.proofs.FactoringLists.{factorings-end}
+use Rattle.eq_rules.proofs.AboutFactoring.FactorAnswers.{none_there}
+use Rattle.eq_rules.proofs.AboutFactoring.FactoringLists.{factorings-end}
 use Rattle.eq_rules.proofs.factoring.factorings.Goals as goal
 
 pub loop-number-preserved : goal.loop-number-preserved

@@ -5,7 +5,7 @@ use Rattle.fol_base.specs.Clause.{TreeLiteral, literal_size, literal_instance}
 use Rattle.fol_base.specs.Lent.{lent_of}
 use Rattle.kbo_order.specs.declared.limits.TheConstants.{COMPARED_SIZE_LIMIT}
 use Rattle.bank_clause.specs.Clause.{clause_at}
-use Rattle.eq_rules.proofs.FactorAnswers.{item_size, unbound_size}
+use Rattle.eq_rules.proofs.AboutFactoring.FactorAnswers.{item_size, unbound_size}
 use Rattle.eq_rules.proofs.factoring.may_become.Goals as goal
 
 pub is_not_below-requires : goal.is_not_below-requires

@@ -1,4 +1,4 @@
-use Rattle.eq_rules.proofs.ExampleLemmas.{resolution, factoring}
+use Rattle.eq_rules.proofs.WorkedExamples.ExampleLemmas.{resolution, factoring}
 use Rattle.eq_rules.proofs.laws.size_examples.Goals as goal
 
 pub returns-clause-resolution : goal.returns-clause-resolution

@@ -1,4 +1,4 @@
-use Rattle.eq_rules.proofs.ExampleLemmas.{concluded, no_predicates_bound}
+use Rattle.eq_rules.proofs.WorkedExamples.ExampleLemmas.{concluded, no_predicates_bound}
 use Rattle.eq_rules.proofs.laws.step_examples.Goals as goal
 
 pub returns-clause-concluded : goal.returns-clause-concluded

@@ -4,9 +4,9 @@ use Rattle.std.proofs.lemmas.List.{take_all}
 use Rattle.fol_base.specs.Tree.{tree_size, trees_size, trees_of}
 use Rattle.fol_base.specs.Numbering.{with_variables}
 use Rattle.fol_base.specs.Term.{tree_of}
-use Rattle.fol_base.proofs.TermLemmas.{tree_size-item}
-use Rattle.fol_base.proofs.WalkLemmas.{met_more}
-use Rattle.eq_rules.proofs.RenumberedLemmas.{instance_parts, instances_variables}
+use Rattle.fol_base.proofs.AboutTerms.TermLemmas.{tree_size-item}
+use Rattle.fol_base.proofs.AboutCanonical.WalkLemmas.{met_more}
+use Rattle.eq_rules.proofs.AboutConclusions.RenumberedLemmas.{instance_parts, instances_variables}
 use Rattle.eq_rules.proofs.renaming.+number_instance.Goals as goal
 
 pub number_instances-number_instance-requires : goal.number_instances-number_instance-requires

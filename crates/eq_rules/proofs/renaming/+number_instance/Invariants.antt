@@ -3,7 +3,7 @@ use Rattle.std.specs.Prelude.{flat_map}
 use Rattle.fol_base.specs.Tree.{tree_size, trees_size, trees_of}
 use Rattle.fol_base.specs.Numbering.{with_variables}
 use Rattle.fol_base.specs.Term.{tree_of}
-use Rattle.eq_rules.proofs.RenumberedLemmas.{instance_parts}
+use Rattle.eq_rules.proofs.AboutConclusions.RenumberedLemmas.{instance_parts}
 use Rattle.eq_rules.proofs.renaming.+number_instance.Given as goal
 
 abbrev pub decreases-number_instance : goal.decreases-number_instance

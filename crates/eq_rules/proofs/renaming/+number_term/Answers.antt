@@ -3,8 +3,8 @@ use Rattle.std.specs.Prelude.{flat_map}
 use Rattle.std.proofs.lemmas.List.{take_all}
 use Rattle.fol_base.specs.Tree.{trees_of, trees_variables}
 use Rattle.fol_base.specs.Numbering.{with_variables}
-use Rattle.fol_base.proofs.TermLemmas.{tree_size-item}
-use Rattle.fol_base.proofs.WalkLemmas.{term_parts, terms_variables, met_more}
+use Rattle.fol_base.proofs.AboutTerms.TermLemmas.{tree_size-item}
+use Rattle.fol_base.proofs.AboutCanonical.WalkLemmas.{term_parts, terms_variables, met_more}
 use Rattle.eq_rules.proofs.renaming.+number_term.Goals as goal
 
 pub number_terms-number_term-requires : goal.number_terms-number_term-requires

@@ -3,7 +3,7 @@ use Rattle.std.specs.Prelude.{flat_map}
 use Rattle.fol_base.specs.Tree.{tree_size, trees_size, trees_of}
 use Rattle.fol_base.specs.Numbering.{with_variables}
 use Rattle.fol_base.specs.Term.{tree_of}
-use Rattle.fol_base.proofs.WalkLemmas.{term_parts}
+use Rattle.fol_base.proofs.AboutCanonical.WalkLemmas.{term_parts}
 use Rattle.eq_rules.proofs.renaming.+number_term.Given as goal
 
 abbrev pub decreases-number_term : goal.decreases-number_term

@@ -1,5 +1,5 @@
 use Rattle.fol_base.specs.Lent.{lent_of}
-use Rattle.eq_rules.proofs.RenumberedLemmas.{literals_met}
+use Rattle.eq_rules.proofs.AboutConclusions.RenumberedLemmas.{literals_met}
 use Rattle.eq_rules.proofs.renaming.number_literals.Goals as goal
 
 pub loop-index-preserved : goal.loop-index-preserved

@@ -5,8 +5,8 @@ use Rattle.fol_base.specs.Canonical.{bound_of}
 use Rattle.fol_base.specs.Lent.{lent_of}
 use Rattle.bank_clause.specs.Clause.{clause_at}
 use Rattle.unifier.specs.Bindings.{IsUnified}
-use Rattle.eq_rules.proofs.PremiseLemmas.{literal-below}
-use Rattle.eq_rules.proofs.ResolutionAnswers.{fits_one}
+use Rattle.eq_rules.proofs.AboutConclusions.PremiseLemmas.{literal-below}
+use Rattle.eq_rules.proofs.AboutResolution.ResolutionAnswers.{fits_one}
 use Rattle.eq_rules.proofs.resolving.resolution.Goals as goal
 
 pub resolution_by-requires-clause-unified : goal.resolution_by-requires-clause-unified

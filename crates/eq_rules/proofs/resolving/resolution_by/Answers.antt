@@ -12,11 +12,11 @@ use Rattle.term_bank.specs.Literal.{literals_at}
 use Rattle.bank_clause.specs.Clause.{clause_at}
 use Rattle.unifier.specs.Renaming.{AreNamedTerms}
 use Rattle.unifier.specs.Sizes.{stopped}
-use Rattle.unifier.proofs.BoundLemmas.{fits-above}
+use Rattle.unifier.proofs.AboutLayouts.BoundLemmas.{fits-above}
 use Rattle.eq_rules.specs.Inferences.{alone}
-use Rattle.eq_rules.proofs.MadeLemmas.{size_above, size_within, alone_there, made_by_resolution}
-use Rattle.eq_rules.proofs.PremiseLemmas.{own_terms, Terms, terms_of, literal-below, literal-kind}
-use Rattle.eq_rules.proofs.ResolutionLemmas.{chosen_eligible, resolution_heavy, eligible_before, resolution_not_eligible, resolution_applies, resolution_concluded}
+use Rattle.eq_rules.proofs.AboutConclusions.MadeLemmas.{size_above, size_within, alone_there, made_by_resolution}
+use Rattle.eq_rules.proofs.AboutConclusions.PremiseLemmas.{own_terms, Terms, terms_of, literal-below, literal-kind}
+use Rattle.eq_rules.proofs.AboutResolution.ResolutionLemmas.{chosen_eligible, resolution_heavy, eligible_before, resolution_not_eligible, resolution_applies, resolution_concluded}
 use Rattle.eq_rules.proofs.resolving.resolution_by.Goals as goal
 use Rattle.unifier.specs.SolvedForm.{substitution_of}
 

@@ -8,7 +8,7 @@ use Rattle.bank_clause.specs.Clause.{clause_at}
 use Rattle.eq_rules.specs.Inferences.{AreInferences, alone, is_resolution}
 use Rattle.eq_rules.specs.Trying.{IsTried}
 use Rattle.eq_rules.specs.declared.inference.Inference.{Inference}
-use Rattle.eq_rules.proofs.ResolutionLists.{resolves_below, resolutions-skip, resolutions-push, resolutions-end}
+use Rattle.eq_rules.proofs.AboutResolution.ResolutionLists.{resolves_below, resolutions-skip, resolutions-push, resolutions-end}
 use Rattle.eq_rules.proofs.resolving.resolutions.Goals as goal
 use Rattle.eq_rules.proofs.resolving.resolutions.Goals.{in-Some+in_ok-push, in_default}
 

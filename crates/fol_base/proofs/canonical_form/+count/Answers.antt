@@ -3,8 +3,8 @@ use Rattle.std.specs.Prelude.{flat_map}
 use Rattle.std.proofs.lemmas.List.{take_all}
 use Rattle.fol_base.specs.Tree.{trees_of, trees_variables}
 use Rattle.fol_base.specs.Numbering.{count_after}
-use Rattle.fol_base.proofs.TermLemmas.{tree_size-item}
-use Rattle.fol_base.proofs.WalkLemmas.{term_parts, terms_variables, count_more, count_stops}
+use Rattle.fol_base.proofs.AboutTerms.TermLemmas.{tree_size-item}
+use Rattle.fol_base.proofs.AboutCanonical.WalkLemmas.{term_parts, terms_variables, count_more, count_stops}
 use Rattle.fol_base.proofs.canonical_form.+count.Goals as goal
 
 pub count_in_terms-count_in_term-requires : goal.count_in_terms-count_in_term-requires

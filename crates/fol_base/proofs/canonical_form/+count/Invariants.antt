@@ -3,7 +3,7 @@ use Rattle.std.specs.Prelude.{flat_map}
 use Rattle.fol_base.specs.Tree.{tree_size, trees_size, trees_of}
 use Rattle.fol_base.specs.Numbering.{count_after}
 use Rattle.fol_base.specs.Term.{tree_of}
-use Rattle.fol_base.proofs.WalkLemmas.{term_parts}
+use Rattle.fol_base.proofs.AboutCanonical.WalkLemmas.{term_parts}
 use Rattle.fol_base.proofs.canonical_form.+count.Given as goal
 
 abbrev pub decreases-count_in_term : goal.decreases-count_in_term

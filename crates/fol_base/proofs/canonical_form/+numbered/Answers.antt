@@ -6,9 +6,9 @@ use Rattle.fol_base.specs.Instance.{instance}
 use Rattle.fol_base.specs.Canonical.{renaming}
 use Rattle.fol_base.specs.Numbering.{with_variables}
 use Rattle.fol_base.specs.Term.{tree_of}
-use Rattle.fol_base.proofs.TermLemmas.{tree_size-item}
-use Rattle.fol_base.proofs.TreeLemmas.{instances-trees_of}
-use Rattle.fol_base.proofs.WalkLemmas.{term_parts, term_instance, terms_variables, terms_instances, term-agree, met_more, made_more}
+use Rattle.fol_base.proofs.AboutTerms.TermLemmas.{tree_size-item}
+use Rattle.fol_base.proofs.AboutTerms.TreeLemmas.{instances-trees_of}
+use Rattle.fol_base.proofs.AboutCanonical.WalkLemmas.{term_parts, term_instance, terms_variables, terms_instances, term-agree, met_more, made_more}
 use Rattle.fol_base.proofs.canonical_form.+numbered.Goals as goal
 
 pub numbered_term-returns-in_ok-numbered_terms-in-App-clause-form :

@@ -4,7 +4,7 @@ use Rattle.fol_base.specs.Tree.{tree_size, trees_size, trees_of}
 use Rattle.fol_base.specs.Canonical.{renaming}
 use Rattle.fol_base.specs.Numbering.{with_variables}
 use Rattle.fol_base.specs.Term.{tree_of}
-use Rattle.fol_base.proofs.WalkLemmas.{term_parts, term_instance}
+use Rattle.fol_base.proofs.AboutCanonical.WalkLemmas.{term_parts, term_instance}
 use Rattle.fol_base.proofs.canonical_form.+numbered.Given as goal
 
 abbrev pub decreases-numbered_term : goal.decreases-numbered_term

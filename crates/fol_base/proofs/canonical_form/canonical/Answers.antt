@@ -1,6 +1,6 @@
 use Rattle.std.proofs.Common.{◌∙◌}
 use Rattle.fol_base.specs.Literal.{clause_of}
-use Rattle.fol_base.proofs.CanonicalLemmas.{canonical_walked, renaming_walked}
+use Rattle.fol_base.proofs.AboutCanonical.CanonicalLemmas.{canonical_walked, renaming_walked}
 use Rattle.fol_base.proofs.canonical_form.canonical.Goals as goal
 
 pub returns-clause-form : goal.returns-clause-form

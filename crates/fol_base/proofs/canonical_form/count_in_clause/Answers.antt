@@ -4,7 +4,7 @@ use Rattle.std.proofs.lemmas.List.{take_all}
 use Rattle.fol_base.specs.Clause.{literal_variables}
 use Rattle.fol_base.specs.Numbering.{count_after}
 use Rattle.fol_base.specs.Literal.{literal_of}
-use Rattle.fol_base.proofs.WalkLemmas.{literal_parts, literals_variables, count_more, count_stops}
+use Rattle.fol_base.proofs.AboutCanonical.WalkLemmas.{literal_parts, literals_variables, count_more, count_stops}
 use Rattle.fol_base.proofs.canonical_form.count_in_clause.Goals as goal
 
 pub returns-in_err-count : goal.returns-in_err-count

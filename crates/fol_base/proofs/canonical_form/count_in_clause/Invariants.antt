@@ -1,7 +1,7 @@
 use Rattle.std.proofs.Common.{◌≡◌, ◌≤◌, ◌^◌, Some, take}
 use Rattle.std.specs.Prelude.{flat_map}
 use Rattle.fol_base.specs.Numbering.{count_after}
-use Rattle.fol_base.proofs.WalkLemmas.{literal_parts}
+use Rattle.fol_base.proofs.AboutCanonical.WalkLemmas.{literal_parts}
 use Rattle.fol_base.proofs.canonical_form.count_in_clause.Given as goal
 
 abbrev pub invariant-loop-literal : goal.invariant-loop-literal

@@ -3,7 +3,7 @@ use Rattle.std.specs.Prelude.{option_and_then}
 use Rattle.fol_base.specs.Tree.{tree_variables}
 use Rattle.fol_base.specs.Numbering.{count_after}
 use Rattle.fol_base.specs.Term.{tree_of}
-use Rattle.fol_base.proofs.WalkLemmas.{count_after-append}
+use Rattle.fol_base.proofs.AboutCanonical.WalkLemmas.{count_after-append}
 use Rattle.fol_base.proofs.canonical_form.count_in_literal.Goals as goal
 
 pub returns-in_err-met-clause-value : goal.returns-in_err-met-clause-value

@@ -1,7 +1,7 @@
 use Rattle.std.proofs.Common.{ap, sym, ◌∙◌}
 use Rattle.std.specs.Option.{is_some}
 use Rattle.fol_base.specs.Literal.{clause_of}
-use Rattle.fol_base.proofs.CanonicalLemmas.{counted-canonical}
+use Rattle.fol_base.proofs.AboutCanonical.CanonicalLemmas.{counted-canonical}
 use Rattle.fol_base.proofs.canonical_form.is_canonical.Goals as goal
 
 pub returns : goal.returns

@@ -6,7 +6,7 @@ use Rattle.fol_base.specs.Clause.{TreeLiteral, TreeClause, literal_variables, li
 use Rattle.fol_base.specs.Canonical.{renaming}
 use Rattle.fol_base.specs.Numbering.{with_variables}
 use Rattle.fol_base.specs.Literal.{literal_of}
-use Rattle.fol_base.proofs.WalkLemmas.{literal_parts, literal_instance_of, literals_variables, literals_instances, literal-agree, met_more, made_more}
+use Rattle.fol_base.proofs.AboutCanonical.WalkLemmas.{literal_parts, literal_instance_of, literals_variables, literals_instances, literal-agree, met_more, made_more}
 use Rattle.fol_base.proofs.canonical_form.numbered_clause.Goals as goal
 
 pub loop-literal-preserved : goal.loop-literal-preserved

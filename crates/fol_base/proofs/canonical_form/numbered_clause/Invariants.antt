@@ -3,7 +3,7 @@ use Rattle.std.specs.Prelude.{flat_map}
 use Rattle.fol_base.specs.Canonical.{renaming}
 use Rattle.fol_base.specs.Numbering.{with_variables}
 use Rattle.fol_base.specs.Literal.{literal_of}
-use Rattle.fol_base.proofs.WalkLemmas.{literal_parts, literal_instance_of}
+use Rattle.fol_base.proofs.AboutCanonical.WalkLemmas.{literal_parts, literal_instance_of}
 use Rattle.fol_base.proofs.canonical_form.numbered_clause.Given as goal
 
 abbrev pub invariant-loop-literal : goal.invariant-loop-literal

@@ -2,7 +2,7 @@ use Rattle.std.proofs.Common.{ap₂, ◌∙◌}
 use Rattle.fol_base.specs.Tree.{Tree, tree_variables}
 use Rattle.fol_base.specs.Clause.{TreeLiteral}
 use Rattle.fol_base.specs.Term.{tree_of}
-use Rattle.fol_base.proofs.WalkLemmas.{left-kept}
+use Rattle.fol_base.proofs.AboutCanonical.WalkLemmas.{left-kept}
 use Rattle.fol_base.proofs.canonical_form.numbered_literal.Goals as goal
 
 pub returns-clause-form : goal.returns-clause-form

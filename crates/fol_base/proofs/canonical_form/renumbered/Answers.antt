@@ -1,5 +1,5 @@
 use Rattle.fol_base.specs.Literal.{clause_of}
-use Rattle.fol_base.proofs.CanonicalLemmas.{canonical_result}
+use Rattle.fol_base.proofs.AboutCanonical.CanonicalLemmas.{canonical_result}
 use Rattle.fol_base.proofs.canonical_form.renumbered.Goals as goal
 
 pub returns : goal.returns

@@ -1,7 +1,7 @@
 use Rattle.std.proofs.Common.{◌≡◌, arith, map, sym, ◌∙◌, refl}
 use Rattle.fol_base.specs.Term.{tree_of}
-use Rattle.fol_base.proofs.TreeLemmas.{trees_eq-lengths}
-use Rattle.fol_base.proofs.TermLemmas.{tree_size-item, length-trees}
+use Rattle.fol_base.proofs.AboutTerms.TreeLemmas.{trees_eq-lengths}
+use Rattle.fol_base.proofs.AboutTerms.TermLemmas.{tree_size-item, length-trees}
 use Rattle.fol_base.proofs.equality.+same.Goals as goal
 
 pub same_terms-returns-then-left-right : goal.same_terms-returns-then-left-right

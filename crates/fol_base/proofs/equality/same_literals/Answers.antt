@@ -1,7 +1,7 @@
 use Rattle.std.proofs.Common.{◌+◌, ◌&&◌, Bool, drop, ap, sym, ◌∙◌}
 use Rattle.fol_base.specs.Clause.{literals_eq}
 use Rattle.fol_base.specs.Lent.{lent_of}
-use Rattle.fol_base.proofs.EqualityLemmas.{literals_eq-lengths, literals_eq-drop}
+use Rattle.fol_base.proofs.AboutTerms.EqualityLemmas.{literals_eq-lengths, literals_eq-drop}
 use Rattle.fol_base.proofs.equality.same_literals.Goals as goal
 
 pub returns-then-count : goal.returns-then-count

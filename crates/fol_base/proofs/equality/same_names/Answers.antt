@@ -1,4 +1,4 @@
-use Rattle.fol_base.proofs.EqualityLemmas.{names_eq-lengths}
+use Rattle.fol_base.proofs.AboutTerms.EqualityLemmas.{names_eq-lengths}
 use Rattle.fol_base.proofs.equality.same_names.Goals as goal
 
 pub returns-then-length-right : goal.returns-then-length-right

@@ -2,8 +2,8 @@ use Rattle.std.proofs.Common.{arith, rules, ◌<◌, ◌+◌, ◌*◌, ◌∙◌
 use Rattle.fol_base.specs.Tree.{tree_size, trees_size, trees_of}
 use Rattle.fol_base.specs.Term.{tree_of}
 use Rattle.fol_base.proofs.ListLemmas.{stopped_sum}
-use Rattle.fol_base.proofs.TermLemmas.{tree_size-item}
-use Rattle.fol_base.proofs.InstanceSizes.{instances_size-take_more}
+use Rattle.fol_base.proofs.AboutTerms.TermLemmas.{tree_size-item}
+use Rattle.fol_base.proofs.AboutInstances.InstanceSizes.{instances_size-take_more}
 use Rattle.fol_base.proofs.instance.+instance_size.Goals as goal
 
 pub instance_sizes-instance_size-requires : goal.instance_sizes-instance_size-requires

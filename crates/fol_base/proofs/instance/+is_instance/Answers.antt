@@ -3,8 +3,8 @@ use Rattle.fol_base.specs.Term.{tree_of}
 use Rattle.fol_base.specs.Tree.{tree_size, trees_size, trees_eq, trees_of}
 use Rattle.fol_base.specs.Instance.{instance}
 use Rattle.std.proofs.lemmas.List.{length-map}
-use Rattle.fol_base.proofs.TreeLemmas.{trees_eq-lengths, instances-trees_of}
-use Rattle.fol_base.proofs.TermLemmas.{tree_size-item, length-trees}
+use Rattle.fol_base.proofs.AboutTerms.TreeLemmas.{trees_eq-lengths, instances-trees_of}
+use Rattle.fol_base.proofs.AboutTerms.TermLemmas.{tree_size-item, length-trees}
 use Rattle.fol_base.proofs.instance.+is_instance.Goals as goal
 
 pub are_instances-returns-then-terms-targets : goal.are_instances-returns-then-terms-targets

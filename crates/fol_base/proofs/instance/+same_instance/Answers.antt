@@ -3,8 +3,8 @@ use Rattle.fol_base.specs.Term.{tree_of}
 use Rattle.fol_base.specs.Tree.{tree_size, trees_size, tree_eq, trees_eq, trees_of}
 use Rattle.fol_base.specs.Instance.{instance}
 use Rattle.std.proofs.lemmas.List.{length-map}
-use Rattle.fol_base.proofs.TreeLemmas.{tree_eq-sym, trees_eq-lengths, instances-trees_of}
-use Rattle.fol_base.proofs.TermLemmas.{tree_size-item, length-trees}
+use Rattle.fol_base.proofs.AboutTerms.TreeLemmas.{tree_eq-sym, trees_eq-lengths, instances-trees_of}
+use Rattle.fol_base.proofs.AboutTerms.TermLemmas.{tree_size-item, length-trees}
 use Rattle.fol_base.proofs.instance.+same_instance.Goals as goal
 
 pub same_instances-returns-then-left-right : goal.same_instances-returns-then-left-right

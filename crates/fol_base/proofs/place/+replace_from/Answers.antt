@@ -3,7 +3,7 @@ use Rattle.std.specs.Option.{option_map}
 use Rattle.std.specs.Prelude.{slice_set}
 use Rattle.fol_base.specs.Place.{argument, replaced, with_argument}
 use Rattle.fol_base.specs.Term.{tree_of}
-use Rattle.fol_base.proofs.PlaceLemmas.{argument-item, argument-past, replaced_step, replaced_stop, replaced-made}
+use Rattle.fol_base.proofs.AboutInstances.PlaceLemmas.{argument-item, argument-past, replaced_step, replaced_stop, replaced-made}
 use Rattle.fol_base.proofs.place.+replace_from.Goals as goal
 
 pub returns-then-index-items : goal.returns-then-index-items

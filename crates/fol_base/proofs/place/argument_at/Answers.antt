@@ -1,7 +1,7 @@
 use Rattle.std.proofs.Common.{ap, sym, ◌∙◌}
 use Rattle.fol_base.specs.Place.{argument}
 use Rattle.fol_base.specs.Term.{tree_of}
-use Rattle.fol_base.proofs.PlaceLemmas.{argument-item, argument-past}
+use Rattle.fol_base.proofs.AboutInstances.PlaceLemmas.{argument-item, argument-past}
 use Rattle.fol_base.proofs.place.argument_at.Goals as goal
 
 pub returns-then-index-items : goal.returns-then-index-items

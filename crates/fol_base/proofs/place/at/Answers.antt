@@ -1,4 +1,4 @@
-use Rattle.fol_base.proofs.PlaceLemmas.{subterm_step, subterm_stop}
+use Rattle.fol_base.proofs.AboutInstances.PlaceLemmas.{subterm_step, subterm_stop}
 use Rattle.fol_base.proofs.place.at.Goals as goal
 
 pub loop-number-preserved : goal.loop-number-preserved

@@ -2,8 +2,8 @@ use Rattle.std.proofs.Common.{arith, ap, sym, ◌∙◌}
 use Rattle.fol_base.specs.Tree.{application, trees_of}
 use Rattle.fol_base.specs.Instance.{substitution, instance}
 use Rattle.fol_base.specs.Term.{tree_of}
-use Rattle.fol_base.proofs.TreeLemmas.{instances-trees_of}
-use Rattle.fol_base.proofs.TermLemmas.{tree_size-item, VariablesBelow-item}
+use Rattle.fol_base.proofs.AboutTerms.TreeLemmas.{instances-trees_of}
+use Rattle.fol_base.proofs.AboutTerms.TermLemmas.{tree_size-item, VariablesBelow-item}
 use Rattle.fol_base.proofs.substitution.+apply.Goals as goal
 
 pub apply-returns-in_ok-apply_all-in-App : goal.apply-returns-in_ok-apply_all-in-App

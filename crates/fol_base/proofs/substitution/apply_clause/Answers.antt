@@ -1,4 +1,4 @@
-use Rattle.fol_base.proofs.ClauseLemmas.{LiteralVariablesBelow-item}
+use Rattle.fol_base.proofs.AboutClauses.ClauseLemmas.{LiteralVariablesBelow-item}
 use Rattle.fol_base.proofs.substitution.apply_clause.Goals as goal
 
 pub apply_literal-requires : goal.apply_literal-requires

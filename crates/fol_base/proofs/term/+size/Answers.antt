@@ -1,6 +1,6 @@
 use Rattle.std.proofs.Common.{arith, ◌∙◌, ap, sym, min, ◌^◌, ◌-◌}
 use Rattle.fol_base.proofs.ListLemmas.{stopped_sum}
-use Rattle.fol_base.proofs.TermLemmas.{tree_size-item, trees_size-take_more}
+use Rattle.fol_base.proofs.AboutTerms.TermLemmas.{tree_size-item, trees_size-take_more}
 use Rattle.fol_base.proofs.term.+size.Goals as goal
 
 pub Terms::size-size-requires : goal.Terms::size-size-requires

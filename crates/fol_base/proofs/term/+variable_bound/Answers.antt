@@ -2,8 +2,8 @@ use Rattle.std.proofs.Common.{map, take, arith, ap, ◌∙◌}
 use Rattle.fol_base.specs.Canonical.{bound_of}
 use Rattle.fol_base.specs.Tree.{trees_of, tree_variables, trees_variables}
 use Rattle.fol_base.specs.Term.{tree_of}
-use Rattle.fol_base.proofs.TermLemmas.{tree_size-item}
-use Rattle.fol_base.proofs.VariableLemmas.{trees_variables-take_more, bound_of-append}
+use Rattle.fol_base.proofs.AboutTerms.TermLemmas.{tree_size-item}
+use Rattle.fol_base.proofs.AboutTerms.VariableLemmas.{trees_variables-take_more, bound_of-append}
 use Rattle.fol_base.proofs.term.+variable_bound.Goals as goal
 
 pub Terms::variable_bound-variable_bound-requires : goal.Terms::variable_bound-variable_bound-requires

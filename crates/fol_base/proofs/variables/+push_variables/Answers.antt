@@ -1,8 +1,8 @@
 use Rattle.std.proofs.Common.{◌++◌, map, take, append_assoc, arith, ap, sym, ◌∙◌}
 use Rattle.fol_base.specs.Tree.{trees_of, tree_variables, trees_variables}
 use Rattle.fol_base.specs.Term.{tree_of}
-use Rattle.fol_base.proofs.TermLemmas.{tree_size-item}
-use Rattle.fol_base.proofs.VariableLemmas.{trees_variables-take_more}
+use Rattle.fol_base.proofs.AboutTerms.TermLemmas.{tree_size-item}
+use Rattle.fol_base.proofs.AboutTerms.VariableLemmas.{trees_variables-take_more}
 use Rattle.fol_base.proofs.variables.+push_variables.Goals as goal
 
 pub push_all_variables-push_variables-requires : goal.push_all_variables-push_variables-requires

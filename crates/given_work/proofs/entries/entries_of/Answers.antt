@@ -1,4 +1,4 @@
-use Rattle.given_work.proofs.EntryLemmas.{entries-more}
+use Rattle.given_work.proofs.AboutBatches.EntryLemmas.{entries-more}
 use Rattle.given_work.proofs.entries.entries_of.Goals as goal
 
 pub loop-inference-preserved : goal.loop-inference-preserved

@@ -3,7 +3,7 @@ use Rattle.literal_selection.specs.Mode.{mode_of}
 use Rattle.simplification.specs.Simplified.{IsSimplified}
 use Rattle.fol_base.specs.Literal.{clause_of}
 use Rattle.kernel_steps.specs.Names.{are_sorted}
-use Rattle.given_work.proofs.EntryLemmas.{conclusion-formed, conclusion-small, outcome-right}
+use Rattle.given_work.proofs.AboutBatches.EntryLemmas.{conclusion-formed, conclusion-small, outcome-right}
 use Rattle.given_work.proofs.entries.fate_of.Goals as goal
 
 pub simplify-requires-clause-canonical : goal.simplify-requires-clause-canonical

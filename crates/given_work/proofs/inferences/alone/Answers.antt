@@ -3,7 +3,7 @@ use Rattle.literal_selection.specs.Mode.{mode_of}
 use Rattle.eq_rules.specs.Inferences.{AreInferences}
 use Rattle.eq_rules.specs.declared.inference.Inference.{Inference}
 use Rattle.given_work.specs.Meeting.{is_alone}
-use Rattle.given_work.proofs.InferenceLemmas.{alone-joined, factorings-lifted, resolutions-lifted}
+use Rattle.given_work.proofs.AboutMeeting.InferenceLemmas.{alone-joined, factorings-lifted, resolutions-lifted}
 use Rattle.given_work.proofs.inferences.alone.Goals as goal
 
 pub returns : goal.returns

@@ -4,9 +4,9 @@ use Rattle.bank_clause.specs.Clause.{IsMemberOf}
 use Rattle.literal_selection.specs.declared.choice.Selection.{Selection}
 use Rattle.given_work.specs.Meeting.{AreAlone}
 use Rattle.given_work.specs.Store.{members_in}
-use Rattle.given_work.proofs.MeetLemmas.{all-met, no-partner}
-use Rattle.given_work.proofs.Slots.{at-living}
-use Rattle.given_work.proofs.StoreLemmas.{partners-of-bank}
+use Rattle.given_work.proofs.AboutMeeting.MeetLemmas.{all-met, no-partner}
+use Rattle.given_work.proofs.AboutIndexes.Slots.{at-living}
+use Rattle.given_work.proofs.AboutIndexes.StoreLemmas.{partners-of-bank}
 use Rattle.given_work.proofs.inferences.inferences_of.Goals as goal
 
 pub alone-requires-clause-member : goal.alone-requires-clause-member

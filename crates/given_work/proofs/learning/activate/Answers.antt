@@ -8,7 +8,7 @@ use Rattle.rewriting.specs.Units.{IsUnit}
 use Rattle.unit_index.specs.Indexed.{HasOneLiteral}
 use Rattle.given_work.specs.Sets.{AreSetsOf}
 use Rattle.given_work.specs.Store.{members_in}
-use Rattle.given_work.proofs.SetLemmas.{members-new, those-new}
+use Rattle.given_work.proofs.AboutIndexes.SetLemmas.{members-new, those-new}
 use Rattle.given_work.proofs.learning.activate.Goals as goal
 
 pub insert-requires-clause-new_equation : goal.insert-requires-clause-new_equation

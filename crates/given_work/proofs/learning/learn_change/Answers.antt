@@ -6,8 +6,8 @@ use Rattle.bank_clause.specs.Clause.{IsMemberOf}
 use Rattle.bank_clause.specs.declared.member.Member.{Member}
 use Rattle.given_work.specs.Sets.{AreSetsOf}
 use Rattle.given_work.specs.Store.{members_in}
-use Rattle.given_work.proofs.StoreLemmas.{partners-of-bank}
-use Rattle.given_work.proofs.TellingLemmas.{sets-of-bank}
+use Rattle.given_work.proofs.AboutIndexes.StoreLemmas.{partners-of-bank}
+use Rattle.given_work.proofs.AboutIndexes.TellingLemmas.{sets-of-bank}
 use Rattle.given_work.proofs.learning.learn_change.Goals as goal
 
 pub take-requires-clause-placed : goal.take-requires-clause-placed

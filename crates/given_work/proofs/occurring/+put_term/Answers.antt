@@ -1,12 +1,12 @@
 use Rattle.std.proofs.Common.{◌≡◌, ◌<◌, ◌+◌, ◌*◌, List, map, refl, ap, sym, ◌∙◌, subst, arith, rules}
 use Rattle.fol_base.specs.Tree.{Tree, application, tree_size, trees_size, trees_of}
 use Rattle.fol_base.specs.Term.{tree_of}
-use Rattle.fol_base.proofs.TermLemmas.{tree_size-item}
+use Rattle.fol_base.proofs.AboutTerms.TermLemmas.{tree_size-item}
 use Rattle.fol_base.specs.declared.term.Term.{Term}
 use Rattle.disc_tree.specs.Entries.{IsIn}
 use Rattle.partners.proofs.IndexLemmas.{put-keeps}
 use Rattle.given_work.specs.Occurring.{ListsTerm}
-use Rattle.given_work.proofs.OccurringLemmas.{application-listed, kept-then, put-in, term-at, terms-all, terms-more, variable-listed}
+use Rattle.given_work.proofs.AboutMeeting.OccurringLemmas.{application-listed, kept-then, put-in, term-at, terms-all, terms-more, variable-listed}
 use Rattle.given_work.proofs.occurring.+put_term.Goals as goal
 
 pub put_arguments-put_term-requires : goal.put_arguments-put_term-requires

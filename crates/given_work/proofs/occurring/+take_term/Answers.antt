@@ -1,8 +1,8 @@
 use Rattle.std.proofs.Common.{◌<◌, ◌+◌, ◌*◌, map, refl, arith, rules}
 use Rattle.fol_base.specs.Tree.{tree_size, trees_size, trees_of}
 use Rattle.fol_base.specs.Term.{tree_of}
-use Rattle.fol_base.proofs.TermLemmas.{tree_size-item}
-use Rattle.given_work.proofs.OccurringLemmas.{others-then, removed-others}
+use Rattle.fol_base.proofs.AboutTerms.TermLemmas.{tree_size-item}
+use Rattle.given_work.proofs.AboutMeeting.OccurringLemmas.{others-then, removed-others}
 use Rattle.given_work.proofs.occurring.+take_term.Goals as goal
 
 pub take_arguments-take_term-requires : goal.take_arguments-take_term-requires

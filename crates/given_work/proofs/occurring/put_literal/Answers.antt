@@ -1,5 +1,5 @@
 use Rattle.fol_base.specs.Lent.{lent_of}
-use Rattle.given_work.proofs.OccurringLemmas.{kept-then, side-kept}
+use Rattle.given_work.proofs.AboutMeeting.OccurringLemmas.{kept-then, side-kept}
 use Rattle.given_work.proofs.occurring.put_literal.Goals as goal
 
 pub returns-clause-left : goal.returns-clause-left

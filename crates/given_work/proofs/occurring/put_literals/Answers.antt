@@ -1,6 +1,6 @@
 use Rattle.std.proofs.Common.{arith}
 use Rattle.fol_base.specs.Lent.{lent_of}
-use Rattle.given_work.proofs.OccurringLemmas.{kept-then, literals-all, literals-more}
+use Rattle.given_work.proofs.AboutMeeting.OccurringLemmas.{kept-then, literals-all, literals-more}
 use Rattle.given_work.proofs.occurring.put_literals.Goals as goal
 
 pub loop-index-init : goal.loop-index-init

@@ -1,5 +1,5 @@
 use Rattle.partners.specs.Index.{KeepsAll}
-use Rattle.given_work.proofs.OccurringLemmas.{ListsLiteralsBelow}
+use Rattle.given_work.proofs.AboutMeeting.OccurringLemmas.{ListsLiteralsBelow}
 use Rattle.given_work.proofs.occurring.put_literals.Given as goal
 
 abbrev pub invariant-loop-index : goal.invariant-loop-index

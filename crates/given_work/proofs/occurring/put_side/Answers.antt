@@ -3,7 +3,7 @@ use Rattle.fol_base.specs.Term.{tree_of}
 use Rattle.fol_base.specs.declared.term.Term.{Term}
 use Rattle.partners.proofs.IndexLemmas.{put-keeps}
 use Rattle.given_work.specs.Occurring.{ListsTerm}
-use Rattle.given_work.proofs.OccurringLemmas.{application-side, put-in, variable-listed}
+use Rattle.given_work.proofs.AboutMeeting.OccurringLemmas.{application-side, put-in, variable-listed}
 use Rattle.given_work.proofs.occurring.put_side.Goals as goal
 
 pub returns-in_ok-insert-in-Var-clause-put : goal.returns-in_ok-insert-in-Var-clause-put

@@ -1,4 +1,4 @@
-use Rattle.given_work.proofs.OccurringLemmas.{others-then}
+use Rattle.given_work.proofs.AboutMeeting.OccurringLemmas.{others-then}
 use Rattle.given_work.proofs.occurring.take_literal.Goals as goal
 
 pub returns : goal.returns

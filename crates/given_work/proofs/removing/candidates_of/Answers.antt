@@ -4,8 +4,8 @@ use Rattle.std.proofs.lemmas.List.Elements.{All-contains}
 use Rattle.bank_clause.specs.Clause.{IsMemberOf, clause_at}
 use Rattle.given_work.specs.Occurring.{numbers_by_unit}
 use Rattle.given_work.specs.Store.{members_in}
-use Rattle.given_work.proofs.RemovalLemmas.{has-simplified}
-use Rattle.given_work.proofs.TellingLemmas.{sets-of-bank}
+use Rattle.given_work.proofs.AboutBatches.RemovalLemmas.{has-simplified}
+use Rattle.given_work.proofs.AboutIndexes.TellingLemmas.{sets-of-bank}
 use Rattle.given_work.proofs.removing.candidates_of.Goals as goal
 
 pub backward-requires-clause-set : goal.backward-requires-clause-set

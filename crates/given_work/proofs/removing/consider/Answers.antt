@@ -6,8 +6,8 @@ use Rattle.bank_clause.specs.declared.member.Member.{Member}
 use Rattle.superpose.specs.declared.sites.Premise.{Premise}
 use Rattle.given_work.specs.Going.{IsRemovalOf}
 use Rattle.given_work.specs.Store.{members_in}
-use Rattle.given_work.proofs.StoreLemmas.{member-there, no-member}
-use Rattle.given_work.proofs.TellingLemmas.{member-told, sets-of-bank, sets-told}
+use Rattle.given_work.proofs.AboutIndexes.StoreLemmas.{member-there, no-member}
+use Rattle.given_work.proofs.AboutIndexes.TellingLemmas.{member-told, sets-of-bank, sets-told}
 use Rattle.given_work.proofs.removing.consider.Goals as goal
 
 pub returns-in_default : goal.returns-in_default

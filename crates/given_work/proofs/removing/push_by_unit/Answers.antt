@@ -4,7 +4,7 @@ use Rattle.std.proofs.lemmas.Bool.{true≢false}
 use Rattle.fol_base.specs.Lent.{lent_of}
 use Rattle.fol_base.specs.Clause.{TreeLiteral}
 use Rattle.bank_clause.specs.Clause.{clause_at}
-use Rattle.given_work.proofs.RemovalLemmas.{by-no-unit, by-unit, first-small}
+use Rattle.given_work.proofs.AboutBatches.RemovalLemmas.{by-no-unit, by-unit, first-small}
 use Rattle.given_work.proofs.removing.push_by_unit.Goals as goal
 
 pub push_with_instances-requires : goal.push_with_instances-requires

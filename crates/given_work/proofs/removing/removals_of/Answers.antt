@@ -3,7 +3,7 @@ use Rattle.std.proofs.lemmas.List.{take_all, take_more}
 use Rattle.pool_core.specs.declared.batch.Removal.{Removal}
 use Rattle.given_work.specs.Removing.{AreRemovalsAmong, AreRemovalsOf}
 use Rattle.given_work.specs.Store.{members_in}
-use Rattle.given_work.proofs.RemovalLemmas.{none-removed, removal-more, removals-all}
+use Rattle.given_work.proofs.AboutBatches.RemovalLemmas.{none-removed, removal-more, removals-all}
 use Rattle.given_work.proofs.removing.removals_of.Goals as goal
 
 pub loop-candidate-init : goal.loop-candidate-init

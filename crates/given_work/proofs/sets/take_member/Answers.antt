@@ -3,7 +3,7 @@ use Rattle.std.specs.Prelude.{filter}
 use Rattle.std.proofs.lemmas.Bool.{cases_Bool}
 use Rattle.bank_clause.specs.declared.member.Member.{Member}
 use Rattle.given_work.specs.Sets.{HasMembers}
-use Rattle.given_work.proofs.SetLemmas.{members-absent, members-take}
+use Rattle.given_work.proofs.AboutIndexes.SetLemmas.{members-absent, members-take}
 use Rattle.given_work.proofs.sets.take_member.Goals as goal
 
 pub returns : goal.returns

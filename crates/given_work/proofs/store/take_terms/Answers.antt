@@ -1,6 +1,6 @@
 use Rattle.std.proofs.Common.{sym, ap, ◌∙◌, subst}
 use Rattle.std.specs.Prelude.{option_map}
-use Rattle.fol_base.proofs.TestLemmas.{option_map-some}
+use Rattle.fol_base.proofs.WorkedExamples.TestLemmas.{option_map-some}
 use Rattle.bank_clause.specs.Clause.{IsMemberOf}
 use Rattle.bank_clause.specs.declared.member.Member.{Member}
 use Rattle.superpose.specs.declared.sites.Premise.{Premise}

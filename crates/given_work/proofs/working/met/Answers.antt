@@ -1,8 +1,8 @@
 use Rattle.given_work.specs.Meeting.{before_place}
 use Rattle.given_work.specs.Store.{members_in}
-use Rattle.given_work.proofs.Slots.{at-living}
-use Rattle.given_work.proofs.TellingLemmas.{sets-of-bank}
-use Rattle.given_work.proofs.WorkLemmas.{all-made}
+use Rattle.given_work.proofs.AboutIndexes.Slots.{at-living}
+use Rattle.given_work.proofs.AboutIndexes.TellingLemmas.{sets-of-bank}
+use Rattle.given_work.proofs.AboutWhole.WorkLemmas.{all-made}
 use Rattle.given_work.proofs.working.met.Goals as goal
 
 pub entries_of-requires-clause-of_bank : goal.entries_of-requires-clause-of_bank

@@ -5,9 +5,9 @@ use Rattle.bank_clause.specs.declared.member.Member.{Member}
 use Rattle.pool_core.specs.declared.batch.Removal.{Removal}
 use Rattle.given_work.specs.Going.{IsRemovalOf}
 use Rattle.given_work.specs.Store.{members_in}
-use Rattle.given_work.proofs.Slots.{at-living}
-use Rattle.given_work.proofs.TellingLemmas.{member-told, sets-of-bank, sets-told}
-use Rattle.given_work.proofs.WorkLemmas.{going-right, meeting-right}
+use Rattle.given_work.proofs.AboutIndexes.Slots.{at-living}
+use Rattle.given_work.proofs.AboutIndexes.TellingLemmas.{member-told, sets-of-bank, sets-told}
+use Rattle.given_work.proofs.AboutWhole.WorkLemmas.{going-right, meeting-right}
 use Rattle.given_work.proofs.working.work_at.Goals as goal
 
 pub removal_of-requires-clause-of_bank : goal.removal_of-requires-clause-of_bank

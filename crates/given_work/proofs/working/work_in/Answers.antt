@@ -5,7 +5,7 @@ use Rattle.superpose.specs.declared.sites.Premise.{Premise}
 use Rattle.partners.specs.Partners.{Placed}
 use Rattle.given_work.specs.Store.{members_in}
 use Rattle.given_work.specs.Working.{IsRightWorkOf}
-use Rattle.given_work.proofs.WorkLemmas.{found-at, given-at}
+use Rattle.given_work.proofs.AboutWhole.WorkLemmas.{found-at, given-at}
 use Rattle.given_work.proofs.working.work_in.Goals as goal
 
 pub unreachable-requires : goal.unreachable-requires

@@ -5,7 +5,7 @@ use Rattle.std.proofs.lemmas.List.Sorted.{All-permutation}
 use Rattle.bank_clause.specs.Clause.{IsMemberOf}
 use Rattle.bank_clause.specs.declared.member.Member.{Member}
 use Rattle.subsume.specs.Editing.{IsNumbered}
-use Rattle.subsume.proofs.EditLemmas.{all-inserted}
+use Rattle.subsume.proofs.AboutTree.EditLemmas.{all-inserted}
 use Rattle.inference_tests.proofs.samples.add_subsumer.Goals as goal
 
 -- what a removal leaves, where it takes one out or none

@@ -4,7 +4,7 @@ use Rattle.fol_base.specs.Clause.{TreeLiteral}
 use Rattle.fol_base.specs.Lent.{lent_of}
 use Rattle.fol_base.specs.Multiset.{times}
 use Rattle.fol_base.specs.Order.{equivalent_literals}
-use Rattle.kbo_order.proofs.ClauseLoops.{all-more, all-stop}
+use Rattle.kbo_order.proofs.AboutMultisets.ClauseLoops.{all-more, all-stop}
 use Rattle.kbo_order.proofs.clauses.are_counted_alike.Goals as goal
 
 pub returns-then-occurrences : goal.returns-then-occurrences

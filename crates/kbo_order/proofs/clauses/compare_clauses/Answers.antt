@@ -3,8 +3,8 @@ use Rattle.std.specs.List.{list_all}
 use Rattle.std.proofs.lemmas.Bool.{and_from, and_right}
 use Rattle.fol_base.specs.Multiset.{outdone}
 use Rattle.fol_base.specs.Order.{equivalent_literals, literal_greater, equivalent_clauses, clause_greater}
-use Rattle.fol_base.proofs.OrderLemmas.{clauses_equivalence}
-use Rattle.kbo_order.proofs.FurtherLemmas.{tests-agree}
+use Rattle.fol_base.proofs.AboutOrders.OrderLemmas.{clauses_equivalence}
+use Rattle.kbo_order.proofs.AboutReading.FurtherLemmas.{tests-agree}
 use Rattle.kbo_order.proofs.clauses.compare_clauses.Goals as goal
 
 pub returns-then-outdoes-2 : goal.returns-then-outdoes-2

@@ -3,7 +3,7 @@ use Rattle.fol_base.specs.Clause.{TreeLiteral}
 use Rattle.fol_base.specs.Lent.{lent_of}
 use Rattle.fol_base.specs.Multiset.{more_often}
 use Rattle.fol_base.specs.Order.{equivalent_literals, literal_greater}
-use Rattle.kbo_order.proofs.ClauseLoops.{any-more, any-stop, item-size}
+use Rattle.kbo_order.proofs.AboutMultisets.ClauseLoops.{any-more, any-stop, item-size}
 use Rattle.kbo_order.proofs.clauses.has_above.Goals as goal
 
 pub is_outdoing-requires-clause-other_size : goal.is_outdoing-requires-clause-other_size

@@ -1,6 +1,6 @@
 use Rattle.std.proofs.Common.{◌∙◌}
 use Rattle.fol_base.specs.Lent.{lent_of}
-use Rattle.kbo_order.proofs.ClauseLoops.{greater-is}
+use Rattle.kbo_order.proofs.AboutMultisets.ClauseLoops.{greater-is}
 use Rattle.kbo_order.proofs.clauses.is_above.Goals as goal
 
 pub returns : goal.returns

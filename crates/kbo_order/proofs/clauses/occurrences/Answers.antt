@@ -1,8 +1,8 @@
 use Rattle.std.proofs.Common.{ap, ◌∙◌, arith}
 use Rattle.fol_base.specs.Lent.{lent_of}
 use Rattle.fol_base.specs.Order.{equivalent_literals}
-use Rattle.kbo_order.proofs.ClauseLoops.{times-more}
-use Rattle.kbo_order.proofs.BitLemmas.{bit, byte-bit, bit-most}
+use Rattle.kbo_order.proofs.AboutMultisets.ClauseLoops.{times-more}
+use Rattle.kbo_order.proofs.AboutReading.BitLemmas.{bit, byte-bit, bit-most}
 use Rattle.kbo_order.proofs.clauses.occurrences.Goals as goal
 
 pub loop-index-preserved : goal.loop-index-preserved

@@ -2,7 +2,7 @@ use Rattle.std.proofs.Common.{sym, ◌∙◌, arith}
 use Rattle.fol_base.specs.Lent.{lent_of}
 use Rattle.fol_base.specs.Multiset.{outdone}
 use Rattle.fol_base.specs.Order.{equivalent_literals, literal_greater}
-use Rattle.kbo_order.proofs.ClauseLoops.{all-more, all-stop, item-size}
+use Rattle.kbo_order.proofs.AboutMultisets.ClauseLoops.{all-more, all-stop, item-size}
 use Rattle.kbo_order.proofs.clauses.outdoes.Goals as goal
 
 pub is_outdone-requires-clause-size : goal.is_outdone-requires-clause-size

@@ -1,7 +1,7 @@
 use Rattle.std.proofs.Common.{sym, ◌∙◌, arith}
 use Rattle.fol_base.specs.Instance.{instance}
 use Rattle.fol_base.specs.Term.{tree_of}
-use Rattle.kbo_order.proofs.HeadLemmas.{smaller-not_greater, low_head-not_greater, greater-answer}
+use Rattle.kbo_order.proofs.AboutReading.HeadLemmas.{smaller-not_greater, low_head-not_greater, greater-answer}
 use Rattle.kbo_order.proofs.greater.greater_under.Goals as goal
 
 pub returns-then-left_size-right_size : goal.returns-then-left_size-right_size

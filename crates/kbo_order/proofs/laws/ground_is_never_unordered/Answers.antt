@@ -1,4 +1,4 @@
-use Rattle.kbo_order.proofs.GroundLemmas.{ground_trees_compare, ground_literals_compare, ground_clauses_compare}
+use Rattle.kbo_order.proofs.AboutLaws.GroundLemmas.{ground_trees_compare, ground_literals_compare, ground_clauses_compare}
 use Rattle.kbo_order.proofs.laws.ground_is_never_unordered.Goals as goal
 
 pub returns-clause-trees : goal.returns-clause-trees

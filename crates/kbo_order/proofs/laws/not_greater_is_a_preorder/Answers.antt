@@ -1,4 +1,4 @@
-use Rattle.kbo_order.proofs.GroundLemmas.{ground_literals_preordered, ground_clauses_preordered}
+use Rattle.kbo_order.proofs.AboutLaws.GroundLemmas.{ground_literals_preordered, ground_clauses_preordered}
 use Rattle.kbo_order.proofs.laws.not_greater_is_a_preorder.Goals as goal
 
 pub returns-clause-literals : goal.returns-clause-literals

@@ -1,4 +1,4 @@
-use Rattle.kbo_order.proofs.StableLemmas.{trees_stable, literals_stable, clauses_stable}
+use Rattle.kbo_order.proofs.AboutLaws.StableLemmas.{trees_stable, literals_stable, clauses_stable}
 use Rattle.kbo_order.proofs.laws.order_is_stable.Goals as goal
 
 pub returns-clause-trees : goal.returns-clause-trees

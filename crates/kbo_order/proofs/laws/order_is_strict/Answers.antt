@@ -1,4 +1,4 @@
-use Rattle.kbo_order.proofs.StrictOrderLemmas.{trees_ordered, literals_ordered, clauses_ordered}
+use Rattle.kbo_order.proofs.AboutLaws.StrictOrderLemmas.{trees_ordered, literals_ordered, clauses_ordered}
 use Rattle.kbo_order.proofs.laws.order_is_strict.Goals as goal
 
 pub returns-clause-trees : goal.returns-clause-trees

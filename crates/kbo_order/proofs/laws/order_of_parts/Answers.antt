@@ -1,4 +1,4 @@
-use Rattle.kbo_order.proofs.PartLemmas.{parts_are_not_greater, proper_parts_are_smaller}
+use Rattle.kbo_order.proofs.AboutMultisets.PartLemmas.{parts_are_not_greater, proper_parts_are_smaller}
 use Rattle.kbo_order.proofs.laws.order_of_parts.Goals as goal
 
 pub returns-clause-not_greater : goal.returns-clause-not_greater

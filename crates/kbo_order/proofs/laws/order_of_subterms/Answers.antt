@@ -1,4 +1,4 @@
-use Rattle.kbo_order.proofs.SubtermLemmas.{proper_subterms_are_smaller, smaller_subterms_make_smaller}
+use Rattle.kbo_order.proofs.AboutLaws.SubtermLemmas.{proper_subterms_are_smaller, smaller_subterms_make_smaller}
 use Rattle.kbo_order.proofs.laws.order_of_subterms.Goals as goal
 
 pub returns-clause-smaller : goal.returns-clause-smaller

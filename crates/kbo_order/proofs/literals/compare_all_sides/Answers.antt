@@ -2,9 +2,9 @@ use Rattle.std.proofs.Common.{true, false, refl, sym, ◌∙◌}
 use Rattle.fol_base.specs.Clause.{literal_instance}
 use Rattle.fol_base.specs.Lent.{lent_of}
 use Rattle.fol_base.specs.Order.{equivalent_literals, literal_greater}
-use Rattle.fol_base.proofs.OrderLemmas.{literals_equivalence}
-use Rattle.kbo_order.proofs.FurtherLemmas.{tests-agree}
-use Rattle.kbo_order.proofs.SideLemmas.{exceed-is, equivalent-is, compares-reversed}
+use Rattle.fol_base.proofs.AboutOrders.OrderLemmas.{literals_equivalence}
+use Rattle.kbo_order.proofs.AboutReading.FurtherLemmas.{tests-agree}
+use Rattle.kbo_order.proofs.AboutReading.SideLemmas.{exceed-is, equivalent-is, compares-reversed}
 use Rattle.kbo_order.proofs.literals.compare_all_sides.Goals as goal
 
 pub returns-then-are_equivalent : goal.returns-then-are_equivalent

@@ -2,7 +2,7 @@ use Rattle.std.proofs.Common.{ap, ap₂, ◌∙◌, arith}
 use Rattle.fol_base.specs.Clause.{literal_size}
 use Rattle.fol_base.specs.Lent.{lent_of}
 use Rattle.fol_base.specs.Order.{compare_literals}
-use Rattle.kbo_order.proofs.LiteralLemmas.{literal-itself}
+use Rattle.kbo_order.proofs.AboutMultisets.LiteralLemmas.{literal-itself}
 use Rattle.kbo_order.proofs.literals.compare_literals.Goals as goal
 
 pub compare_literals_under-requires : goal.compare_literals_under-requires

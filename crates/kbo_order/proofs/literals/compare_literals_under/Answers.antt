@@ -1,7 +1,7 @@
 use Rattle.std.proofs.Common.{sym, ◌∙◌}
 use Rattle.fol_base.specs.Clause.{literal_instance}
 use Rattle.fol_base.specs.Lent.{lent_of}
-use Rattle.kbo_order.proofs.LiteralLemmas.{same-sign, left-decides, right-decides, equal-is, greater-compared, less-compared}
+use Rattle.kbo_order.proofs.AboutMultisets.LiteralLemmas.{same-sign, left-decides, right-decides, equal-is, greater-compared, less-compared}
 use Rattle.kbo_order.proofs.literals.compare_literals_under.Goals as goal
 
 pub returns-then-is_equal : goal.returns-then-is_equal

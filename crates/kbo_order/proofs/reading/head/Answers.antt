@@ -1,6 +1,6 @@
 use Rattle.std.proofs.Common.{ap, sym, ◌∙◌}
 use Rattle.fol_base.specs.Term.{tree_of}
-use Rattle.kbo_order.proofs.ReadingLemmas.{instance-itself, seen-bound}
+use Rattle.kbo_order.proofs.AboutReading.ReadingLemmas.{instance-itself, seen-bound}
 use Rattle.kbo_order.proofs.reading.head.Goals as goal
 use Rattle.kbo_order.proofs.reading.head.Goals.{in-Some, in-None}
 

@@ -3,8 +3,8 @@ use Rattle.fol_base.specs.Term.{tree_of}
 use Rattle.fol_base.specs.Tree.{true_tree}
 use Rattle.fol_base.specs.Order.{compare_trees}
 use Rattle.kbo_order.specs.Reading.{reading}
-use Rattle.kbo_order.proofs.ReadingLemmas.{seen-variable}
-use Rattle.kbo_order.proofs.TruthLemmas.{against-variable, against-equal, against-greater}
+use Rattle.kbo_order.proofs.AboutReading.ReadingLemmas.{seen-variable}
+use Rattle.kbo_order.proofs.AboutLaws.TruthLemmas.{against-variable, against-equal, against-greater}
 use Rattle.kbo_order.proofs.terms.against_truth.Goals as goal
 
 pub returns-in-Var : goal.returns-in-Var

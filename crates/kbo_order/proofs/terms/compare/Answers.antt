@@ -2,7 +2,7 @@ use Rattle.std.proofs.Common.{ap, ap₂, ◌∙◌, arith}
 use Rattle.fol_base.specs.Tree.{tree_size}
 use Rattle.fol_base.specs.Term.{tree_of}
 use Rattle.fol_base.specs.Order.{compare_trees}
-use Rattle.kbo_order.proofs.ReadingLemmas.{instance-itself}
+use Rattle.kbo_order.proofs.AboutReading.ReadingLemmas.{instance-itself}
 use Rattle.kbo_order.proofs.terms.compare.Goals as goal
 
 pub compare_under-requires : goal.compare_under-requires

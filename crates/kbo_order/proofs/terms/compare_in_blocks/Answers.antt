@@ -7,8 +7,8 @@ use Rattle.fol_base.specs.Term.{tree_of}
 use Rattle.kbo_order.specs.declared.cmp.Cmp.{Cmp}
 use Rattle.kbo_order.specs.declared.cmp.Cmp.TheVariants.{Unordered}
 use Rattle.kbo_order.specs.Block.{Answers, InBlock, Below, GreaterOn}
-use Rattle.kbo_order.proofs.BlockLemmas.{sameb-itself, sameb-says}
-use Rattle.kbo_order.proofs.FurtherLemmas.{answer-split, answer-compared, answer-next, answer-last}
+use Rattle.kbo_order.proofs.AboutReading.BlockLemmas.{sameb-itself, sameb-says}
+use Rattle.kbo_order.proofs.AboutReading.FurtherLemmas.{answer-split, answer-compared, answer-next, answer-last}
 use Rattle.kbo_order.proofs.terms.compare_in_blocks.Goals as goal
 
 pub returns-then-ne : goal.returns-then-ne

@@ -4,8 +4,8 @@ use Rattle.fol_base.specs.Instance.{instance}
 use Rattle.fol_base.specs.Term.{tree_of}
 use Rattle.fol_base.specs.Order.{compare_trees}
 use Rattle.kbo_order.specs.Cmp.{comparison_of}
-use Rattle.kbo_order.proofs.AnswerLemmas.{compared-reversed}
-use Rattle.kbo_order.proofs.TruthLemmas.{truth-is}
+use Rattle.kbo_order.proofs.AboutReading.AnswerLemmas.{compared-reversed}
+use Rattle.kbo_order.proofs.AboutLaws.TruthLemmas.{truth-is}
 use Rattle.kbo_order.proofs.terms.compare_under.Goals as goal
 
 pub returns-then-is_equal : goal.returns-then-is_equal

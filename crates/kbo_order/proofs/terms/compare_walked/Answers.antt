@@ -2,7 +2,7 @@ use Rattle.std.proofs.Common.{sym, subst, ⊎_elim}
 use Rattle.fol_base.specs.Instance.{instance}
 use Rattle.fol_base.specs.Term.{tree_of}
 use Rattle.kbo_order.specs.Block.{IsStrict, InBlock}
-use Rattle.kbo_order.proofs.FurtherLemmas.{answer-plain, answer-compared, answer-first}
+use Rattle.kbo_order.proofs.AboutReading.FurtherLemmas.{answer-plain, answer-compared, answer-first}
 use Rattle.kbo_order.proofs.terms.compare_walked.Goals as goal
 
 pub compare_in_blocks-requires-clause-answered : goal.compare_in_blocks-requires-clause-answered

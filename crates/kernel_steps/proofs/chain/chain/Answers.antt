@@ -2,7 +2,7 @@ use Rattle.std.proofs.Common.{map, ap, sym, ◌∙◌}
 use Rattle.std.specs.Prelude.{option_map}
 use Rattle.std.proofs.lemmas.List.{length-map}
 use Rattle.kernel_steps.specs.Conclusion.{names_at, clause_of_names, verdict_of}
-use Rattle.kernel_steps.proofs.ChainLemmas.{no_chain}
+use Rattle.kernel_steps.proofs.AboutCalls.ChainLemmas.{no_chain}
 use Rattle.kernel_steps.proofs.chain.chain.Goals as goal
 
 pub returns-then-numbers-pivots : goal.returns-then-numbers-pivots

@@ -1,6 +1,6 @@
 use Rattle.std.proofs.Common.{◌^◌, ◌-◌}
 use Rattle.fol_base.specs.Lent.{lent_of}
-use Rattle.kernel_steps.proofs.LoopLemmas.{sizes_more, stopped_by_two}
+use Rattle.kernel_steps.proofs.AboutCalls.LoopLemmas.{sizes_more, stopped_by_two}
 use Rattle.kernel_steps.proofs.conclude.bound_size.Goals as goal
 
 pub loop-index-preserved : goal.loop-index-preserved

@@ -11,7 +11,7 @@ use Rattle.fol_base.specs.declared.clause.Literal.{Literal}
 use Rattle.kernel_steps.specs.Names.{sorted_names}
 use Rattle.kernel_steps.specs.Parents.{parent_of}
 use Rattle.kernel_steps.specs.Conclusion.{verdict_of, concludes, clause_with}
-use Rattle.kernel_steps.proofs.CallLemmas.{by_two-there}
+use Rattle.kernel_steps.proofs.AboutCalls.CallLemmas.{by_two-there}
 use Rattle.kernel_steps.proofs.conclude.conclude_para.Goals as goal
 
 pub returns-in-None : goal.returns-in-None

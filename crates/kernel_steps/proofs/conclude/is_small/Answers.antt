@@ -1,5 +1,5 @@
 use Rattle.std.proofs.Common.{◌^◌, ◌-◌, ap, ◌∙◌, nat_le, arith}
-use Rattle.kernel_steps.proofs.LoopLemmas.{stopped_within}
+use Rattle.kernel_steps.proofs.AboutCalls.LoopLemmas.{stopped_within}
 use Rattle.kernel_steps.proofs.conclude.is_small.Goals as goal
 
 pub returns : goal.returns

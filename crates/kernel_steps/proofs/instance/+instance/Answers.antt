@@ -2,8 +2,8 @@ use Rattle.std.proofs.Common.{arith, rules, ◌<◌, ◌+◌, ◌*◌, ◌∙◌
 use Rattle.fol_base.specs.Tree.{application, tree_size, trees_size, trees_of}
 use Rattle.fol_base.specs.Term.{tree_of}
 use Rattle.fol_base.specs.Instance.{instance}
-use Rattle.fol_base.proofs.TreeLemmas.{instances-trees_of}
-use Rattle.fol_base.proofs.TermLemmas.{tree_size-item}
+use Rattle.fol_base.proofs.AboutTerms.TreeLemmas.{instances-trees_of}
+use Rattle.fol_base.proofs.AboutTerms.TermLemmas.{tree_size-item}
 use Rattle.kernel_steps.proofs.instance.+instance.Goals as goal
 
 pub instance-returns-in_ok-instances-in-App : goal.instance-returns-in_ok-instances-in-App

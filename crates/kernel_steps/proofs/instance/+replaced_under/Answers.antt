@@ -3,7 +3,7 @@ use Rattle.std.specs.Prelude.{option_map}
 use Rattle.fol_base.specs.Tree.{variable}
 use Rattle.fol_base.specs.Term.{tree_of}
 use Rattle.kernel_steps.specs.Bound.{under}
-use Rattle.kernel_steps.proofs.BoundLemmas.{replaced_stop-under, replaced_past-under, replaced_none-under, replaced_some-under}
+use Rattle.kernel_steps.proofs.AboutCalls.BoundLemmas.{replaced_stop-under, replaced_past-under, replaced_none-under, replaced_some-under}
 use Rattle.kernel_steps.proofs.instance.+replaced_under.Goals as goal
 
 pub returns-then-is_bound : goal.returns-then-is_bound

@@ -4,7 +4,7 @@ use Rattle.fol_base.specs.Tree.{trees_of}
 use Rattle.fol_base.specs.Place.{argument}
 use Rattle.fol_base.specs.Term.{tree_of}
 use Rattle.kernel_steps.specs.Bound.{under}
-use Rattle.kernel_steps.proofs.BoundLemmas.{argument-under}
+use Rattle.kernel_steps.proofs.AboutCalls.BoundLemmas.{argument-under}
 use Rattle.kernel_steps.proofs.instance.argument_under.Goals as goal
 
 pub returns-in-Some-argument_of-2 : goal.returns-in-Some-argument_of-2

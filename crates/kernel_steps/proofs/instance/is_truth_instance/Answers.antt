@@ -2,7 +2,7 @@ use Rattle.std.proofs.Common.{ap, sym, ◌∙◌}
 use Rattle.fol_base.specs.Tree.{is_truth, trees_of}
 use Rattle.fol_base.specs.Instance.{instance}
 use Rattle.fol_base.specs.Term.{tree_of}
-use Rattle.kernel_steps.proofs.BoundLemmas.{is_truth-application}
+use Rattle.kernel_steps.proofs.AboutCalls.BoundLemmas.{is_truth-application}
 use Rattle.kernel_steps.proofs.instance.is_truth_instance.Goals as goal
 
 pub returns-in-App : goal.returns-in-App

@@ -5,7 +5,7 @@ use Rattle.fol_base.specs.Tree.{tree_eq}
 use Rattle.fol_base.specs.Instance.{instance}
 use Rattle.fol_base.specs.Place.{subterm}
 use Rattle.fol_base.specs.Term.{tree_of}
-use Rattle.fol_base.proofs.TreeLemmas.{tree_eq-sym}
+use Rattle.fol_base.proofs.AboutTerms.TreeLemmas.{tree_eq-sym}
 use Rattle.kernel_steps.specs.Bound.{under}
 use Rattle.kernel_steps.proofs.instance.stands_at.Goals as goal
 

@@ -1,7 +1,7 @@
 use Rattle.std.proofs.Common.{◌∙◌}
 use Rattle.fol_base.specs.Term.{tree_of}
 use Rattle.kernel_steps.specs.Bound.{under}
-use Rattle.kernel_steps.proofs.PushLemmas.{set-pushed_by}
+use Rattle.kernel_steps.proofs.AboutCalls.PushLemmas.{set-pushed_by}
 use Rattle.kernel_steps.proofs.instance.with_item.Goals as goal
 
 pub returns : goal.returns

@@ -1,6 +1,6 @@
 use Rattle.std.proofs.Common.{◌≡◌, ◌+◌, ◌-◌, drop, ap, sym, ◌∙◌, arith}
 use Rattle.kernel_steps.specs.Names.{are_sorted}
-use Rattle.kernel_steps.proofs.NameSorts.{unsorted-here, sorted-here, are_sorted-last}
+use Rattle.kernel_steps.proofs.AboutNames.NameSorts.{unsorted-here, sorted-here, are_sorted-last}
 use Rattle.kernel_steps.proofs.names.are_sorted.Goals as goal
 
 pub returns-then-rank : goal.returns-then-rank

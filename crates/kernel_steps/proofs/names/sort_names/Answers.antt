@@ -2,8 +2,8 @@ use Rattle.std.proofs.Common.{refl, ap, sym, ◌∙◌, rules}
 use Rattle.std.proofs.lemmas.List.Filters.{dedup_is}
 use Rattle.std.proofs.lemmas.List.Sorted.{IsNonDecreasingBy-from_sort_by_key}
 use Rattle.kernel_steps.specs.Names.{name_rank, are_sorted}
-use Rattle.kernel_steps.proofs.NameRanks.{sorted-same}
-use Rattle.kernel_steps.proofs.NameSorts.{sorted-deduped}
+use Rattle.kernel_steps.proofs.AboutNames.NameRanks.{sorted-same}
+use Rattle.kernel_steps.proofs.AboutNames.NameSorts.{sorted-deduped}
 use Rattle.kernel_steps.proofs.names.sort_names.Goals as goal
 
 pub returns-then-not-are_sorted : goal.returns-then-not-are_sorted

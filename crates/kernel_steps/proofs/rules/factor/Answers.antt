@@ -2,7 +2,7 @@ use Rattle.std.proofs.Common.{map, ap, sym, ◌∙◌}
 use Rattle.fol_base.specs.Instance.{instance}
 use Rattle.fol_base.specs.Literal.{literal_of}
 use Rattle.fol_base.specs.Lent.{lent_of}
-use Rattle.kernel_steps.proofs.CallLemmas.{factored-called}
+use Rattle.kernel_steps.proofs.AboutCalls.CallLemmas.{factored-called}
 use Rattle.kernel_steps.proofs.rules.factor.Goals as goal
 
 pub returns : goal.returns

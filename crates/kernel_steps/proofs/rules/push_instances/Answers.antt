@@ -1,7 +1,7 @@
 use Rattle.fol_base.specs.Clause.{literal_instance}
 use Rattle.fol_base.specs.Literal.{literal_of}
 use Rattle.fol_base.specs.Lent.{lent_of}
-use Rattle.kernel_steps.proofs.LoopLemmas.{pushed_more}
+use Rattle.kernel_steps.proofs.AboutCalls.LoopLemmas.{pushed_more}
 use Rattle.kernel_steps.proofs.rules.push_instances.Goals as goal
 
 pub loop-index-preserved : goal.loop-index-preserved

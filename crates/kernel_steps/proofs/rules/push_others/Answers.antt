@@ -3,7 +3,7 @@ use Rattle.std.specs.Prelude.{remove}
 use Rattle.std.proofs.lemmas.Result.{IfOk-weaker}
 use Rattle.fol_base.specs.Clause.{literal_instance}
 use Rattle.fol_base.specs.Literal.{literal_of}
-use Rattle.kernel_steps.proofs.PushLemmas.{remove-pushed_by}
+use Rattle.kernel_steps.proofs.AboutCalls.PushLemmas.{remove-pushed_by}
 use Rattle.kernel_steps.proofs.rules.push_others.Goals as goal
 
 pub returns : goal.returns

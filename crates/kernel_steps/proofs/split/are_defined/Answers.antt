@@ -2,7 +2,7 @@ use Rattle.std.proofs.Common.{map, sym, ◌∙◌}
 use Rattle.std.proofs.lemmas.List.{length-map}
 use Rattle.fol_base.specs.Literal.{literal_of}
 use Rattle.kernel_steps.specs.Split.{literals_at}
-use Rattle.kernel_steps.proofs.SplitLoops.{are_defined-lengths}
+use Rattle.kernel_steps.proofs.AboutSplits.SplitLoops.{are_defined-lengths}
 use Rattle.kernel_steps.proofs.split.are_defined.Goals as goal
 
 pub returns-then-definitions-parts : goal.returns-then-definitions-parts

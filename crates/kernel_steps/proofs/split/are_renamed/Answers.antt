@@ -4,7 +4,7 @@ use Rattle.fol_base.specs.Clause.{literal_instance}
 use Rattle.kernel_steps.specs.Split.{renamed}
 use Rattle.fol_base.specs.Literal.{literal_of}
 use Rattle.fol_base.specs.Lent.{lent_of}
-use Rattle.fol_base.proofs.EqualityLemmas.{literals_eq-lengths}
+use Rattle.fol_base.proofs.AboutTerms.EqualityLemmas.{literals_eq-lengths}
 use Rattle.kernel_steps.proofs.split.are_renamed.Goals as goal
 
 pub returns-then-part-targets : goal.returns-then-part-targets

@@ -6,7 +6,7 @@ use Rattle.fol_base.specs.Canonical.{distinct, place_of, renaming}
 use Rattle.fol_base.specs.Literal.{literal_of}
 use Rattle.fol_base.specs.Lent.{lent_of}
 use Rattle.fol_base.specs.declared.clause.Literal.{Literal}
-use Rattle.kernel_steps.proofs.SplitTables.{renamed-places}
+use Rattle.kernel_steps.proofs.AboutSplits.SplitTables.{renamed-places}
 use Rattle.kernel_steps.proofs.split.defines.Goals as goal
 
 pub returns : goal.returns

@@ -4,7 +4,7 @@ use Rattle.std.specs.Map.{lookup}
 use Rattle.std.specs.Option.{is_some}
 use Rattle.std.proofs.lemmas.List.{take_all}
 use Rattle.fol_base.specs.Canonical.{distinct, place_of}
-use Rattle.kernel_steps.proofs.SplitTables.{HasPlaces, places-old, places-new}
+use Rattle.kernel_steps.proofs.AboutSplits.SplitTables.{HasPlaces, places-old, places-new}
 use Rattle.kernel_steps.proofs.split.first_places.Goals.{then-not-contains_key+in_ok-insert, else-not-contains_key}
 use Rattle.kernel_steps.proofs.split.first_places.Goals as goal
 

@@ -1,5 +1,5 @@
 use Rattle.std.proofs.Common.{take}
-use Rattle.kernel_steps.proofs.SplitTables.{HasPlaces}
+use Rattle.kernel_steps.proofs.AboutSplits.SplitTables.{HasPlaces}
 use Rattle.kernel_steps.proofs.split.first_places.Given as goal
 
 abbrev pub invariant-loop-number : goal.invariant-loop-number

@@ -2,7 +2,7 @@ use Rattle.std.proofs.Common.{ap, ◌∙◌}
 use Rattle.std.proofs.lemmas.List.{take_all}
 use Rattle.std.specs.List.{list_all}
 use Rattle.kernel_steps.specs.Split.{has_number}
-use Rattle.kernel_steps.proofs.SplitLoops.{all_found-whole}
+use Rattle.kernel_steps.proofs.AboutSplits.SplitLoops.{all_found-whole}
 use Rattle.kernel_steps.proofs.split.has_all_below.Goals as goal
 
 pub returns : goal.returns

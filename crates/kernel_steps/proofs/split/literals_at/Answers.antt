@@ -1,7 +1,7 @@
 use Rattle.std.proofs.Common.{◌∷◌, [], ◌++◌, map, ap, ◌∙◌}
 use Rattle.std.proofs.lemmas.List.{map-append}
 use Rattle.fol_base.specs.Lent.{lent_of}
-use Rattle.kernel_steps.proofs.SplitLoops.{literals_at-read, literals_at-missing}
+use Rattle.kernel_steps.proofs.AboutSplits.SplitLoops.{literals_at-read, literals_at-missing}
 use Rattle.kernel_steps.proofs.split.literals_at.Goals.{then-index-literals+in_ok-push, else-index-literals}
 use Rattle.kernel_steps.proofs.split.literals_at.Goals as goal
 

@@ -3,7 +3,7 @@ use Rattle.std.specs.Prelude.{option_map}
 use Rattle.plain_types.specs.Names.{opposite}
 use Rattle.kernel_steps.specs.Parents.{parent_of}
 use Rattle.kernel_steps.specs.Split.{opposites}
-use Rattle.kernel_steps.proofs.SplitLoops.{opposites-read, opposites-missing}
+use Rattle.kernel_steps.proofs.AboutSplits.SplitLoops.{opposites-read, opposites-missing}
 use Rattle.kernel_steps.proofs.split.push_opposites.Goals.{in-Some+in_ok-push_opposites_of, in_default}
 use Rattle.kernel_steps.proofs.split.push_opposites.Goals as goal
 

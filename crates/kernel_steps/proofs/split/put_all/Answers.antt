@@ -1,6 +1,6 @@
 use Rattle.std.proofs.Common.{nat_eq}
 use Rattle.std.specs.HashSet.{contains}
-use Rattle.kernel_steps.proofs.SplitTables.{met-more}
+use Rattle.kernel_steps.proofs.AboutSplits.SplitTables.{met-more}
 use Rattle.kernel_steps.proofs.split.put_all.Goals as goal
 
 pub loop-number-preserved : goal.loop-number-preserved

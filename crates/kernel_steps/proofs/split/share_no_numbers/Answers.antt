@@ -2,7 +2,7 @@ use Rattle.std.proofs.Common.{◌&&◌, ◌||◌, nat_eq, map, ap, sym, ◌∙�
 use Rattle.std.specs.HashSet.{contains}
 use Rattle.std.specs.List.{list_any}
 use Rattle.kernel_steps.specs.Split.{has_number, share_no_numbers}
-use Rattle.kernel_steps.proofs.SplitTables.{none_passes-no, apart-met, apart-next}
+use Rattle.kernel_steps.proofs.AboutSplits.SplitTables.{none_passes-no, apart-met, apart-next}
 use Rattle.kernel_steps.proofs.split.share_no_numbers.Goals as goal
 
 pub loop-list-init : goal.loop-list-init

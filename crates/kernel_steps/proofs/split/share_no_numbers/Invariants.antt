@@ -1,7 +1,7 @@
 use Rattle.std.proofs.Common.{◌≡◌, ◌&&◌, nat_eq, map, drop}
 use Rattle.std.specs.HashSet.{contains}
 use Rattle.kernel_steps.specs.Split.{share_no_numbers}
-use Rattle.kernel_steps.proofs.SplitTables.{none_passes}
+use Rattle.kernel_steps.proofs.AboutSplits.SplitTables.{none_passes}
 use Rattle.kernel_steps.proofs.split.share_no_numbers.Given as goal
 
 abbrev pub invariant-loop-list : goal.invariant-loop-list

@@ -1,7 +1,7 @@
 use Rattle.std.proofs.Common.{map, ap, ◌∙◌}
 use Rattle.std.proofs.lemmas.Result.{IfOk-weaker}
 use Rattle.fol_base.specs.Literal.{literal_of}
-use Rattle.kernel_steps.proofs.SplitLoops.{share_no_variables-read}
+use Rattle.kernel_steps.proofs.AboutSplits.SplitLoops.{share_no_variables-read}
 use Rattle.kernel_steps.proofs.split.share_no_variables.Goals as goal
 
 pub returns : goal.returns

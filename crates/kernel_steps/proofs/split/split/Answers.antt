@@ -6,7 +6,7 @@ use Rattle.kernel_steps.specs.Names.{sorted_names}
 use Rattle.kernel_steps.specs.Parents.{parent_of}
 use Rattle.kernel_steps.specs.Split.{can_split, opposites}
 use Rattle.kernel_steps.specs.Conclusion.{verdict_of, concludes}
-use Rattle.kernel_steps.proofs.SplitLemmas.{split-made, split-none}
+use Rattle.kernel_steps.proofs.AboutSplits.SplitLemmas.{split-made, split-none}
 use Rattle.kernel_steps.proofs.split.split.Goals as goal
 
 pub returns-then-not-branch : goal.returns-then-not-branch

@@ -1,6 +1,6 @@
 use Rattle.std.proofs.Common.{length, arith}
 use Rattle.fol_base.specs.Literal.{clause_of}
-use Rattle.fol_base.proofs.VariableLemmas.{ClauseVariablesBelow-bound}
+use Rattle.fol_base.proofs.AboutTerms.VariableLemmas.{ClauseVariablesBelow-bound}
 use Rattle.kernel_tests.proofs.canonical.clauses_are_renamed.Goals as goal
 
 pub apply_clause-requires : goal.apply_clause-requires

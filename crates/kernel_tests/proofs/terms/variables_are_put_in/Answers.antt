@@ -1,7 +1,7 @@
 use Rattle.std.proofs.Common.{length, arith}
 use Rattle.fol_base.specs.Literal.{literal_of}
 use Rattle.fol_base.specs.Term.{tree_of}
-use Rattle.fol_base.proofs.VariableLemmas.{VariablesBelow-bound, LiteralVariablesBelow-bound}
+use Rattle.fol_base.proofs.AboutTerms.VariableLemmas.{VariablesBelow-bound, LiteralVariablesBelow-bound}
 use Rattle.kernel_tests.proofs.terms.variables_are_put_in.Goals as goal
 
 pub apply-requires : goal.apply-requires

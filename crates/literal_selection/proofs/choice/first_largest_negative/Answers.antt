@@ -1,6 +1,6 @@
 use Rattle.std.proofs.Common.{sym, ◌∙◌, arith}
 use Rattle.fol_base.specs.Lent.{lent_of}
-use Rattle.kbo_order.proofs.ClauseLoops.{item-size}
+use Rattle.kbo_order.proofs.AboutMultisets.ClauseLoops.{item-size}
 use Rattle.literal_selection.proofs.SelectedLemmas.{step-larger, step-no_larger}
 use Rattle.literal_selection.proofs.choice.first_largest_negative.Goals as goal
 use Rattle.literal_selection.proofs.choice.first_largest_negative.Goals.{then-size-largest, else-size-largest}

@@ -2,7 +2,7 @@ use Rattle.std.proofs.Common.{ap, ◌∙◌, arith}
 use Rattle.std.specs.Prelude.{sum_by}
 use Rattle.fol_base.specs.Clause.{literal_size}
 use Rattle.fol_base.specs.Selection.{eligible}
-use Rattle.kbo_order.proofs.LiteralLemmas.{literals-themselves}
+use Rattle.kbo_order.proofs.AboutMultisets.LiteralLemmas.{literals-themselves}
 use Rattle.literal_selection.proofs.eligibility.eligible.Goals as goal
 
 pub eligible_under-requires-clause-size : goal.eligible_under-requires-clause-size

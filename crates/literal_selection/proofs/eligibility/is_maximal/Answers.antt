@@ -2,7 +2,7 @@ use Rattle.std.proofs.Common.{ap, not, sym, ◌∙◌, arith}
 use Rattle.fol_base.specs.Clause.{literal_instance}
 use Rattle.fol_base.specs.Ground.{literals_instance}
 use Rattle.fol_base.specs.Lent.{lent_of}
-use Rattle.kbo_order.proofs.ClauseLoops.{item-size}
+use Rattle.kbo_order.proofs.AboutMultisets.ClauseLoops.{item-size}
 use Rattle.literal_selection.proofs.EligibleLemmas.{instance-item, itself-passed, other-passed, other-outdoes}
 use Rattle.literal_selection.proofs.eligibility.is_maximal.Goals as goal
 use Rattle.literal_selection.proofs.eligibility.is_maximal.Goals.{else-other-index-via-then-other-index+else-outdoes, else-other-index-via-else-other-index}

@@ -5,7 +5,7 @@ use Rattle.std.specs.declared.vec.Vec.{Vec}
 use Rattle.pool_core.specs.Counting.{keys_of}
 use Rattle.pool_core.specs.Returning.{heavy_entries}
 use Rattle.pool_core.specs.declared.batch.Entry.{Entry}
-use Rattle.pool_core.proofs.InternedLemmas.{one-heavy, none-heavy}
+use Rattle.pool_core.proofs.AboutReturns.InternedLemmas.{one-heavy, none-heavy}
 use Rattle.pool_core.proofs.interning.heavy_keys.Goals as goal
 use Rattle.pool_core.proofs.interning.heavy_keys.Goals.{in-Heavy+in_ok-copied_key+in_ok-push, in_default}
 

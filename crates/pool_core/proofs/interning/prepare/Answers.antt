@@ -6,7 +6,7 @@ use Rattle.pool_core.specs.Returning.{heavy_entries}
 use Rattle.pool_core.specs.declared.batch.Entry.{Entry}
 use Rattle.pool_core.specs.declared.batch.Removal.{Removal}
 use Rattle.pool_core.specs.declared.batch.Work.{Work}
-use Rattle.pool_core.proofs.InternedLemmas.{no-results, lone-lines, learned-results}
+use Rattle.pool_core.proofs.AboutReturns.InternedLemmas.{no-results, lone-lines, learned-results}
 use Rattle.pool_core.proofs.interning.prepare.Goals as goal
 
 pub returns-in_ok-add-in-Gone-clause-prepared : goal.returns-in_ok-add-in-Gone-clause-prepared

@@ -7,7 +7,7 @@ use Rattle.fol_base.specs.declared.limits.TheConstants.{MOST_SYMBOLS}
 use Rattle.pool_core.specs.Record.{nothing_registered}
 use Rattle.pool_core.specs.Registering.{with_inputs}
 use Rattle.pool_core.specs.Started.{IsStarted}
-use Rattle.pool_core.proofs.StartLemmas.{input-at, inputs-more}
+use Rattle.pool_core.proofs.AboutBeginnings.StartLemmas.{input-at, inputs-more}
 use Rattle.pool_core.proofs.start.started.Goals as goal
 
 pub add-requires-clause-canonical : goal.add-requires-clause-canonical

@@ -6,7 +6,7 @@ use Rattle.kernel_steps.specs.declared.step.Line.{Line}
 use Rattle.clausal_form.specs.DerivationTexts.{IsAcceptedDerivation}
 use Rattle.tstp_writer.specs.ReadableLines.{Fits, line_variables}
 use Rattle.tstp_writer.specs.Written.{IsAcceptedWhereReadable}
-use Rattle.tstp_writer.proofs.EarlierLemmas.{need-earlier}
+use Rattle.tstp_writer.proofs.AboutNeeded.EarlierLemmas.{need-earlier}
 use Rattle.pool_core.specs.Replay.{replay}
 use Rattle.retracing.specs.Retraced.{AreRefutingSteps, IsRetracing}
 use Rattle.pool_writer.proofs.PoolRefutations.{refuting-steps, is-readable}

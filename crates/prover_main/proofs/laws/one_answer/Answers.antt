@@ -1,4 +1,4 @@
-use Rattle.prover_main.proofs.OneAnswer.{checks-have-one-answer, faults-are-the-only-answer}
+use Rattle.prover_main.proofs.AboutPages.OneAnswer.{checks-have-one-answer, faults-are-the-only-answer}
 use Rattle.prover_main.proofs.laws.one_answer.Goals as goal
 
 pub returns : goal.returns

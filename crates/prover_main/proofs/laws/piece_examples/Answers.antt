@@ -1,9 +1,9 @@
 use Rattle.std.proofs.Common.{◌≡◌, ◌∷◌, [], inl, inr, length, sym, refl, lit<, codes, ap, arith}
 use Rattle.outside.specs.Sink.{none_left, takes, fails}
 use Rattle.prover_main.specs.Run.{at_once}
-use Rattle.prover_main.proofs.DeliveryLemmas.{pieces-both, pieces-cut}
+use Rattle.prover_main.proofs.AboutPages.DeliveryLemmas.{pieces-both, pieces-cut}
 use Rattle.outside.specs.Examples.{Script, script_gives}
-use Rattle.prover_main.proofs.PieceExamples.{pieces-begin, nothing, one_write, no-more, heads, handed-first}
+use Rattle.prover_main.proofs.AboutPages.PieceExamples.{pieces-begin, nothing, one_write, no-more, heads, handed-first}
 use Rattle.prover_main.proofs.laws.piece_examples.Goals as goal
 
 pub returns-clause-two : goal.returns-clause-two

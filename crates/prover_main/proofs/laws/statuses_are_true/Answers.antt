@@ -1,4 +1,4 @@
-use Rattle.prover_main.proofs.TruthLaws.{statuses-are-true}
+use Rattle.prover_main.proofs.AboutRuns.TruthLaws.{statuses-are-true}
 use Rattle.prover_main.proofs.laws.statuses_are_true.Goals as goal
 
 pub returns : goal.returns

@@ -1,4 +1,4 @@
-use Rattle.prover_main.proofs.RunLaws.{usage-is-told, commands-are-answered, faults-are-counted, faults-come-for-causes}
+use Rattle.prover_main.proofs.AboutRuns.RunLaws.{usage-is-told, commands-are-answered, faults-are-counted, faults-come-for-causes}
 use Rattle.prover_main.proofs.laws.statuses_come_for_causes.Goals as goal
 
 pub returns : goal.returns

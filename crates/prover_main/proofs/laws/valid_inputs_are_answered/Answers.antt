@@ -1,4 +1,4 @@
-use Rattle.prover_main.proofs.RunLaws.{formed-is-valid, valid-problems-are-answered, loaded-derivations-are-answered}
+use Rattle.prover_main.proofs.AboutRuns.RunLaws.{formed-is-valid, valid-problems-are-answered, loaded-derivations-are-answered}
 use Rattle.prover_main.proofs.laws.valid_inputs_are_answered.Goals as goal
 
 pub returns : goal.returns

@@ -2,7 +2,7 @@ use Rattle.std.proofs.Common.{◌++◌, codes}
 use Rattle.std.specs.Prelude.{Ok}
 use Rattle.prover_main.specs.Names.{problem_name}
 use Rattle.prover_main.specs.Run.{at_once}
-use Rattle.prover_main.proofs.DeliveryLemmas.{delivered, handed_on, cut_short, then_cut, three_pieces, pieces-both, pieces-cut, pieces-handed_on}
+use Rattle.prover_main.proofs.AboutPages.DeliveryLemmas.{delivered, handed_on, cut_short, then_cut, three_pieces, pieces-both, pieces-cut, pieces-handed_on}
 use Rattle.prover_main.proofs.memory_out.deliver_for.Goals as goal
 
 pub returns-in_err-deliver-clause-taken : goal.returns-in_err-deliver-clause-taken

@@ -1,7 +1,7 @@
 use Rattle.std.proofs.Common.{codes}
 use Rattle.prover_main.specs.Reports.{for_problem}
 use Rattle.prover_main.specs.Run.{at_once}
-use Rattle.prover_main.proofs.DeliveryLemmas.{handed_on, cut_short, then_piece, pieces-both, pieces-cut, pieces-handed_on}
+use Rattle.prover_main.proofs.AboutPages.DeliveryLemmas.{handed_on, cut_short, then_piece, pieces-both, pieces-cut, pieces-handed_on}
 use Rattle.prover_main.proofs.memory_out.deliver_memory_out.Goals as goal
 
 pub returns-in_err-deliver-clause-taken : goal.returns-in_err-deliver-clause-taken

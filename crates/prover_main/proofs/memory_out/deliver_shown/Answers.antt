@@ -1,5 +1,5 @@
 use Rattle.std.proofs.Common.{refl, ◌∙◌, arith}
-use Rattle.prover_main.proofs.DeliveryLemmas.{handed_on, rose_since, none_taken, one_more, cut_at, pieces-handed_on, pieces-none, pieces-byte, pieces-byte_cut}
+use Rattle.prover_main.proofs.AboutPages.DeliveryLemmas.{handed_on, rose_since, none_taken, one_more, cut_at, pieces-handed_on, pieces-none, pieces-byte, pieces-byte_cut}
 use Rattle.prover_main.proofs.memory_out.deliver_shown.Goals as goal
 
 pub loop-byte-init : goal.loop-byte-init

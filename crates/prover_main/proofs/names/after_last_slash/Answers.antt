@@ -1,5 +1,5 @@
 use Rattle.std.proofs.Common.{arith}
-use Rattle.prover_main.proofs.NameLemmas.{behind_start, from_front}
+use Rattle.prover_main.proofs.AboutPages.NameLemmas.{behind_start, from_front}
 use Rattle.prover_main.proofs.names.after_last_slash.Goals as goal
 use Rattle.prover_main.proofs.names.after_last_slash.Goals.{then-loop-start-test+else-bytes-start-ne47, else-loop-start-test}
 

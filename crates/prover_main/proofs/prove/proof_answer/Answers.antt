@@ -1,9 +1,9 @@
 use Rattle.std.proofs.Common.{refl, ap, subst, sym, ◌∙◌, Some}
 use Rattle.tstp_writer.specs.Printable.{IsShown}
 use Rattle.prover_main.specs.Answer.{has_conjecture}
-use Rattle.prover_main.proofs.HistoryLemmas.{heavy-there, inputs-are, is-heavy, is-refuted, is-spent}
-use Rattle.prover_main.proofs.SaturatedLemmas.{is-saturation}
-use Rattle.prover_main.proofs.TextLemmas.{file-shown, read-printable}
+use Rattle.prover_main.proofs.AboutOutcomes.HistoryLemmas.{heavy-there, inputs-are, is-heavy, is-refuted, is-spent}
+use Rattle.prover_main.proofs.AboutOutcomes.SaturatedLemmas.{is-saturation}
+use Rattle.prover_main.proofs.AboutPages.TextLemmas.{file-shown, read-printable}
 use Rattle.prover_main.proofs.prove.proof_answer.Goals as goal
 
 pub write_refutation-requires-clause-refuted : goal.write_refutation-requires-clause-refuted

@@ -1,5 +1,5 @@
 use Rattle.std.proofs.lemmas.Result.{IfOk-weaker}
-use Rattle.prover_main.proofs.AnswerLemmas.{proof_proves}
+use Rattle.prover_main.proofs.AboutPages.AnswerLemmas.{proof_proves}
 use Rattle.prover_main.proofs.prove.prove_answer.Goals as goal
 
 pub returns-in-Ok-prove_problem : goal.returns-in-Ok-prove_problem

@@ -3,8 +3,8 @@ use Rattle.fol_base.specs.Clause.{TreeClause}
 use Rattle.signature.specs.Form.{ClausalForm, clausal_form}
 use Rattle.pool_core.specs.Inputs.{AreInputs}
 use Rattle.proving.specs.Proved.{IsProvedFrom}
-use Rattle.prover_main.proofs.FormInputs.{form-inputs}
-use Rattle.prover_main.proofs.OutcomeLemmas.{outcome-says}
+use Rattle.prover_main.proofs.AboutOutcomes.FormInputs.{form-inputs}
+use Rattle.prover_main.proofs.AboutOutcomes.OutcomeLemmas.{outcome-says}
 use Rattle.prover_main.proofs.proved.prove_problem.Goals as goal
 
 pub prove_clauses-requires-clause-inputs : goal.prove_clauses-requires-clause-inputs

@@ -1,4 +1,4 @@
-use Rattle.prover_main.proofs.PageLemmas.{five_added}
+use Rattle.prover_main.proofs.AboutPages.PageLemmas.{five_added}
 use Rattle.prover_main.proofs.report.push_output.Goals as goal
 
 pub returns : goal.returns

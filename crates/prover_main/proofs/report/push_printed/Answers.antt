@@ -1,4 +1,4 @@
-use Rattle.prover_main.proofs.PageLemmas.{four_added}
+use Rattle.prover_main.proofs.AboutPages.PageLemmas.{four_added}
 use Rattle.prover_main.proofs.report.push_printed.Goals as goal
 
 pub returns : goal.returns

@@ -1,7 +1,7 @@
 use Rattle.std.proofs.Common.{refl}
 use Rattle.std.specs.Prelude.{codes}
 use Rattle.prover_main.specs.Reports.{load_line, formula_line}
-use Rattle.prover_main.proofs.PageLemmas.{two_added_by, told}
+use Rattle.prover_main.proofs.AboutPages.PageLemmas.{two_added_by, told}
 use Rattle.prover_main.proofs.report.push_report.Goals as goal
 
 pub returns-in_ok-push_status-in-Unloaded : goal.returns-in_ok-push_status-in-Unloaded

@@ -1,4 +1,4 @@
-use Rattle.prover_main.proofs.PageLemmas.{three_added}
+use Rattle.prover_main.proofs.AboutPages.PageLemmas.{three_added}
 use Rattle.prover_main.proofs.report.push_status.Goals as goal
 
 pub returns : goal.returns

@@ -1,5 +1,5 @@
 use Rattle.std.proofs.Common.{inl}
-use Rattle.prover_main.proofs.DeliveryLemmas.{delivered}
+use Rattle.prover_main.proofs.AboutPages.DeliveryLemmas.{delivered}
 use Rattle.prover_main.proofs.run.deliver_report.Goals as goal
 
 pub returns : goal.returns

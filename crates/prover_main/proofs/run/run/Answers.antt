@@ -1,8 +1,8 @@
 use Rattle.std.proofs.Common.{refl, sym, inl, inr, ap}
 use Rattle.prover_main.specs.Reports.{memory_out_report}
 use Rattle.prover_main.specs.WordParts.{command_meant}
-use Rattle.prover_main.proofs.WordLemmas.{commands-fit}
-use Rattle.prover_main.proofs.RunLemmas.{run_usage, run_due, due_text}
+use Rattle.prover_main.proofs.AboutPages.WordLemmas.{commands-fit}
+use Rattle.prover_main.proofs.AboutRuns.RunLemmas.{run_usage, run_due, due_text}
 use Rattle.prover_main.proofs.run.run.Goals as goal
 
 pub returns-in-None : goal.returns-in-None

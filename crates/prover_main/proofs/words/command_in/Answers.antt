@@ -1,6 +1,6 @@
 use Rattle.std.proofs.Common.{map, ap, ◌∙◌, sym}
 use Rattle.std.specs.Prelude.{string_bytes}
-use Rattle.prover_main.proofs.WordLemmas.{command-proves, command-checks}
+use Rattle.prover_main.proofs.AboutPages.WordLemmas.{command-proves, command-checks}
 use Rattle.prover_main.proofs.words.command_in.Goals as goal
 
 pub returns-in-prove : goal.returns-in-prove

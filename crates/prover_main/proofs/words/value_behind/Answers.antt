@@ -1,6 +1,6 @@
 use Rattle.std.proofs.Common.{ap, ◌∙◌, sym}
 use Rattle.prover_main.specs.WordParts.{lent}
-use Rattle.prover_main.proofs.WordLemmas.{value-none, value-filled}
+use Rattle.prover_main.proofs.AboutPages.WordLemmas.{value-none, value-filled}
 use Rattle.prover_main.proofs.words.value_behind.Goals as goal
 
 pub returns-in_err-value : goal.returns-in_err-value

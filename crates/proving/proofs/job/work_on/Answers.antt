@@ -1,6 +1,6 @@
 use Rattle.std.proofs.Common.{subst}
 use Rattle.pool_core.specs.declared.options.Options.{Options}
-use Rattle.given_work.proofs.LawProofs.{told_for_jobs_are_told, work_makes_right_batches}
+use Rattle.given_work.proofs.AboutWhole.LawProofs.{told_for_jobs_are_told, work_makes_right_batches}
 use Rattle.given_work.specs.Working.{IsRightUnder}
 use Rattle.proving.proofs.TicketLemmas.{given-known, knows-told, news-are-new, prepared}
 use Rattle.proving.proofs.job.work_on.Goals as goal

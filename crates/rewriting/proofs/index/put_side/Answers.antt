@@ -1,5 +1,5 @@
 use Rattle.fol_base.specs.Term.{tree_of}
-use Rattle.disc_tree.proofs.EntryLemmas.{in-with}
+use Rattle.disc_tree.proofs.AboutPaths.EntryLemmas.{in-with}
 use Rattle.rewriting.proofs.IndexLemmas.{in-more}
 use Rattle.rewriting.proofs.index.put_side.Goals as goal
 

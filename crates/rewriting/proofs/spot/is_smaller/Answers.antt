@@ -5,7 +5,7 @@ use Rattle.fol_base.specs.Tree.{tree_size, variable}
 use Rattle.fol_base.specs.Instance.{instance}
 use Rattle.fol_base.specs.Term.{tree_of}
 use Rattle.kbo_order.specs.declared.limits.TheConstants.{COMPARED_SIZE_LIMIT}
-use Rattle.kbo_order.proofs.ReadingLemmas.{instance-itself}
+use Rattle.kbo_order.proofs.AboutReading.ReadingLemmas.{instance-itself}
 use Rattle.rewriting.proofs.spot.is_smaller.Goals as goal
 
 pub greater_under-requires-clause-left_size : goal.greater_under-requires-clause-left_size

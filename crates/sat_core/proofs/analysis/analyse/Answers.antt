@@ -1,8 +1,8 @@
 use Rattle.std.proofs.Common.{subst, sym, ◌∙◌, arith}
 use Rattle.sat_core.specs.Clause.{PropClause}
 use Rattle.sat_core.specs.Conflict.{IsTurnOf}
-use Rattle.sat_core.proofs.ResolveLemmas.{analysis_of_none}
-use Rattle.sat_core.proofs.ReduceLemmas.{last_marked, analysis_of_turn}
+use Rattle.sat_core.proofs.AboutConflicts.ResolveLemmas.{analysis_of_none}
+use Rattle.sat_core.proofs.AboutConflicts.ReduceLemmas.{last_marked, analysis_of_turn}
 use Rattle.sat_core.proofs.analysis.analyse.Goals as goal
 
 pub minimise-requires-clause-resolving : goal.minimise-requires-clause-resolving

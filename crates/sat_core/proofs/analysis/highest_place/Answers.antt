@@ -1,6 +1,6 @@
 use Rattle.std.proofs.Common.{arith, get_or}
 use Rattle.std.proofs.lemmas.List.{get_or_default}
-use Rattle.sat_core.proofs.AnalysisLemmas.{no_literal, has_name_read, highest_more}
+use Rattle.sat_core.proofs.AboutConflicts.AnalysisLemmas.{no_literal, has_name_read, highest_more}
 use Rattle.sat_core.proofs.analysis.highest_place.Goals as goal
 use Rattle.sat_core.proofs.analysis.highest_place.Goals.{then-highest-place+then-place-bound, else-highest-place, else-highest-place-via-then-highest-place+else-place-bound, else-highest-place-via-else-highest-place}
 

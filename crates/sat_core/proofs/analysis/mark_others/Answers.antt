@@ -1,6 +1,6 @@
 use Rattle.std.proofs.Common.{arith, sym, ◌∙◌}
 use Rattle.std.proofs.lemmas.List.{get_or_default}
-use Rattle.sat_core.proofs.AnalysisLemmas.{has_name_read, false_of_one_name, adds_false, adds_one, adds_no}
+use Rattle.sat_core.proofs.AboutConflicts.AnalysisLemmas.{has_name_read, false_of_one_name, adds_false, adds_one, adds_no}
 use Rattle.sat_core.proofs.analysis.mark_others.Goals as goal
 use Rattle.sat_core.proofs.analysis.mark_others.Goals.{then-is_other+in_ok-mark, else-is_other}
 

@@ -1,6 +1,6 @@
 use Rattle.std.proofs.Common.{◌≡◌, take, length}
 use Rattle.sat_core.specs.State.{AreMarks}
-use Rattle.sat_core.proofs.AnalysisLemmas.{Adds}
+use Rattle.sat_core.proofs.AboutConflicts.AnalysisLemmas.{Adds}
 use Rattle.sat_core.proofs.analysis.mark_others.Given as goal
 
 abbrev pub invariant-loop-literal : goal.invariant-loop-literal

@@ -1,4 +1,4 @@
-use Rattle.sat_core.proofs.AnalysisLemmas.{named_at}
+use Rattle.sat_core.proofs.AboutConflicts.AnalysisLemmas.{named_at}
 use Rattle.sat_core.proofs.minimise.indices_below.Goals as goal
 
 pub place-place-requires : goal.place-place-requires

@@ -1,4 +1,4 @@
-use Rattle.sat_core.proofs.AnalysisLemmas.{named_at}
+use Rattle.sat_core.proofs.AboutConflicts.AnalysisLemmas.{named_at}
 use Rattle.sat_core.proofs.minimise.marked_within.Goals as goal
 
 pub is_left-requires-clause-named : goal.is_left-requires-clause-named

@@ -1,6 +1,6 @@
 use Rattle.std.proofs.Common.{take}
 use Rattle.sat_core.specs.Conflict.{is_left}
-use Rattle.sat_core.proofs.AnalysisLemmas.{Keeps}
+use Rattle.sat_core.proofs.AboutConflicts.AnalysisLemmas.{Keeps}
 use Rattle.sat_core.proofs.minimise.marked_within.Given as goal
 
 abbrev pub invariant-loop-literal : goal.invariant-loop-literal

@@ -1,4 +1,4 @@
-use Rattle.sat_core.proofs.AnalysisLemmas.{named_at}
+use Rattle.sat_core.proofs.AboutConflicts.AnalysisLemmas.{named_at}
 use Rattle.sat_core.proofs.watches.examine.Goals as goal
 
 pub is_true-requires : goal.is_true-requires

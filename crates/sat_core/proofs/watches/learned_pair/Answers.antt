@@ -1,4 +1,4 @@
-use Rattle.sat_core.proofs.AnalysisLemmas.{named_at}
+use Rattle.sat_core.proofs.AboutConflicts.AnalysisLemmas.{named_at}
 use Rattle.sat_core.proofs.watches.learned_pair.Goals as goal
 
 pub place-requires : goal.place-requires

@@ -1,7 +1,7 @@
 use Rattle.std.proofs.Common.{get_or, sym, ◌∙◌}
 use Rattle.std.proofs.lemmas.List.{get_or_default}
-use Rattle.sat_core.proofs.AnalysisLemmas.{no_literal, named_at}
-use Rattle.sat_core.proofs.PropagationLemmas.{others_more}
+use Rattle.sat_core.proofs.AboutConflicts.AnalysisLemmas.{no_literal, named_at}
+use Rattle.sat_core.proofs.AboutTrails.PropagationLemmas.{others_more}
 use Rattle.sat_core.proofs.watches.open_literal.Goals as goal
 
 pub is_open-requires : goal.is_open-requires

@@ -1,7 +1,7 @@
 use Rattle.std.proofs.Common.{subst, arith}
 use Rattle.sat_core.specs.Clause.{PropClause}
 use Rattle.sat_core.specs.Search.{IsUnit}
-use Rattle.sat_core.proofs.PropagationLemmas.{propagates_one}
+use Rattle.sat_core.proofs.AboutTrails.PropagationLemmas.{propagates_one}
 use Rattle.sat_core.proofs.watches.settle.Goals as goal
 
 pub returns-in_ok-push-in-Implied-clause-propagates : goal.returns-in_ok-push-in-Implied-clause-propagates

@@ -7,8 +7,8 @@ use Rattle.signature.specs.Occurrences.{term_symbols}
 use Rattle.skolem.specs.BoundTerm.{bound_tree}
 use Rattle.skolem.specs.Skolemized.{AreKnown}
 use Rattle.skolem.specs.Literal.{filled}
-use Rattle.skolem.proofs.TermLemmas.{listed, known-then, head-known}
-use Rattle.skolem.proofs.LiteralLemmas.{fills_left, head-filled}
+use Rattle.skolem.proofs.AboutBindings.TermLemmas.{listed, known-then, head-known}
+use Rattle.skolem.proofs.AboutFormulas.LiteralLemmas.{fills_left, head-filled}
 use Rattle.skolem.proofs.filling.+filled.Goals as goal
 
 pub filled-number_in-requires : goal.filled-number_in-requires

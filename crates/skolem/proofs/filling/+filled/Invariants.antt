@@ -7,7 +7,7 @@ use Rattle.signature.specs.Environment.{terms_names}
 use Rattle.skolem.specs.BoundTerm.{bound_tree}
 use Rattle.skolem.specs.Skolemized.{AreKnown}
 use Rattle.skolem.specs.Literal.{filled_terms}
-use Rattle.skolem.proofs.LiteralLemmas.{fills_left, names_left}
+use Rattle.skolem.proofs.AboutFormulas.LiteralLemmas.{fills_left, names_left}
 use Rattle.skolem.proofs.filling.+filled.Given as goal
 
 abbrev pub decreases-filled : goal.decreases-filled

@@ -1,7 +1,7 @@
 use Rattle.std.proofs.Common.{◌++◌, arith, ap, refl, ◌∙◌}
 use Rattle.skolem.specs.Matrix.{matrices_of}
-use Rattle.skolem.proofs.OccurringLemmas.{form-item-is}
-use Rattle.skolem.proofs.FormLemmas.{listed, matrices_left, forms-known}
+use Rattle.skolem.proofs.AboutBindings.OccurringLemmas.{form-item-is}
+use Rattle.skolem.proofs.AboutFormulas.FormLemmas.{listed, matrices_left, forms-known}
 use Rattle.skolem.proofs.forms.+matrix_of.Goals as goal
 
 pub matrices_of-loop-form-init : goal.matrices_of-loop-form-init

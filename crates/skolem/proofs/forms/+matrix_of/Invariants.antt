@@ -5,7 +5,7 @@ use Rattle.formula_nnf.specs.Shape.{nnf_tree}
 use Rattle.skolem.specs.Matrix.{matrices_of}
 use Rattle.skolem.specs.Skolemized.{skolemized_list, numbers_after, AreKnown}
 use Rattle.skolem.specs.Progress.{environment_of, made_of}
-use Rattle.skolem.proofs.FormLemmas.{matrices_left, made_left}
+use Rattle.skolem.proofs.AboutFormulas.FormLemmas.{matrices_left, made_left}
 use Rattle.skolem.proofs.forms.+matrix_of.Given as goal
 
 abbrev pub decreases-matrix_of : goal.decreases-matrix_of

@@ -1,6 +1,6 @@
 use Rattle.tptp_tree.specs.Term.{terms_of}
 use Rattle.skolem.specs.Progress.{environment_of, made_of}
-use Rattle.skolem.proofs.FormLemmas.{atom-matrix}
+use Rattle.skolem.proofs.AboutFormulas.FormLemmas.{atom-matrix}
 use Rattle.skolem.proofs.forms.atom.Goals as goal
 
 pub returns : goal.returns

@@ -1,7 +1,7 @@
 use Rattle.std.proofs.Common.{ℕ, Vec, Global, ap, ◌+◌, ◌∙◌, length}
 use Rattle.signature.specs.Clausal.{applied}
 use Rattle.skolem.specs.declared.bound_term.BoundTerm.TheVariants.{Skolem}
-use Rattle.skolem.proofs.FormLemmas.{scope-step}
+use Rattle.skolem.proofs.AboutFormulas.FormLemmas.{scope-step}
 use Rattle.skolem.proofs.forms.bind_skolem_term.Goals as goal
 
 pub returns-clause-scope : goal.returns-clause-scope

@@ -2,8 +2,8 @@ use Rattle.std.proofs.Common.{ℕ, Vec, Global, ◌∙◌, ap}
 use Rattle.signature.specs.Environment.{free_names}
 use Rattle.skolem.specs.Skolemized.{numbers_after}
 use Rattle.skolem.specs.Progress.{scope_of_progress, skolem_steps}
-use Rattle.skolem.proofs.FormLemmas.{terms-bound}
-use Rattle.skolem.proofs.OrderLemmas.{if-ok}
+use Rattle.skolem.proofs.AboutFormulas.FormLemmas.{terms-bound}
+use Rattle.skolem.proofs.AboutBindings.OrderLemmas.{if-ok}
 use Rattle.skolem.proofs.forms.bind_skolem_terms.Goals as goal
 
 pub returns-clause-scope : goal.returns-clause-scope

@@ -1,5 +1,5 @@
-use Rattle.skolem.proofs.ListLemmas.{take-kept, longer-kept}
-use Rattle.skolem.proofs.FormLemmas.{variables-then}
+use Rattle.skolem.proofs.AboutBindings.ListLemmas.{take-kept, longer-kept}
+use Rattle.skolem.proofs.AboutFormulas.FormLemmas.{variables-then}
 use Rattle.skolem.proofs.forms.bind_variables.Goals as goal
 
 pub loop-name-preserved : goal.loop-name-preserved

@@ -1,4 +1,4 @@
-use Rattle.skolem.proofs.ProblemLemmas.{later_names_are_unused}
+use Rattle.skolem.proofs.AboutFormulas.ProblemLemmas.{later_names_are_unused}
 use Rattle.skolem.proofs.laws.later_names_are_unused.Goals as goal
 
 pub returns : goal.returns

@@ -1,4 +1,4 @@
-use Rattle.skolem.proofs.ClauseLemmas.{matrix_keeps_clauses}
+use Rattle.skolem.proofs.AboutFormulas.ClauseLemmas.{matrix_keeps_clauses}
 use Rattle.skolem.proofs.laws.matrix_keeps_clauses.Goals as goal
 
 pub returns : goal.returns

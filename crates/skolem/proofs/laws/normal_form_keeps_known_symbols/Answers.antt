@@ -1,4 +1,4 @@
-use Rattle.skolem.proofs.ProblemLemmas.{normal_form_keeps_known_symbols}
+use Rattle.skolem.proofs.AboutFormulas.ProblemLemmas.{normal_form_keeps_known_symbols}
 use Rattle.skolem.proofs.laws.normal_form_keeps_known_symbols.Goals as goal
 
 pub returns : goal.returns

@@ -1,4 +1,4 @@
-use Rattle.skolem.proofs.CountLemmas.{skolem_symbols_of_matrix_are_counted}
+use Rattle.skolem.proofs.AboutFormulas.CountLemmas.{skolem_symbols_of_matrix_are_counted}
 use Rattle.skolem.proofs.laws.skolem_symbols_of_matrix_are_counted.Goals as goal
 
 pub returns : goal.returns

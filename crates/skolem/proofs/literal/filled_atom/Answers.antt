@@ -1,8 +1,8 @@
 use Rattle.std.proofs.Common.{map}
 use Rattle.signature.specs.declared.symbol.SymbolKind.TheVariants.{Predicate}
 use Rattle.skolem.specs.BoundTerm.{bound_tree}
-use Rattle.skolem.proofs.TermLemmas.{head-known}
-use Rattle.skolem.proofs.LiteralLemmas.{head-filled}
+use Rattle.skolem.proofs.AboutBindings.TermLemmas.{head-known}
+use Rattle.skolem.proofs.AboutFormulas.LiteralLemmas.{head-filled}
 use Rattle.skolem.proofs.literal.filled_atom.Goals as goal
 
 pub number_in-requires : goal.number_in-requires

@@ -1,5 +1,5 @@
 use Rattle.std.proofs.Common.{arith}
-use Rattle.skolem.proofs.OccurringLemmas.{form-item-is}
+use Rattle.skolem.proofs.AboutBindings.OccurringLemmas.{form-item-is}
 use Rattle.skolem.proofs.occurring.+push_occurring.Goals as goal
 
 pub push_all_occurring-push_occurring-requires : goal.push_all_occurring-push_occurring-requires

@@ -1,7 +1,7 @@
 use Rattle.std.proofs.Common.{refl}
 use Rattle.skolem.specs.declared.bound_term.BoundTerm.TheVariants.{Closed}
-use Rattle.skolem.proofs.ListLemmas.{take-kept, longer-kept}
-use Rattle.skolem.proofs.OccurringLemmas.{closed-then}
+use Rattle.skolem.proofs.AboutBindings.ListLemmas.{take-kept, longer-kept}
+use Rattle.skolem.proofs.AboutBindings.OccurringLemmas.{closed-then}
 use Rattle.skolem.proofs.occurring.close_names.Goals as goal
 
 pub loop-name-preserved : goal.loop-name-preserved

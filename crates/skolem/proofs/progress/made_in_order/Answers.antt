@@ -2,7 +2,7 @@ use Rattle.std.proofs.Common.{sym, ◌∙◌, ap, subst}
 use Rattle.std.specs.List.Sorted.{IsNonDecreasingBy}
 use Rattle.std.proofs.lemmas.List.Sorted.{IsNonDecreasingBy-from_sort}
 use Rattle.signature.specs.Clausal.{made_in_order}
-use Rattle.skolem.proofs.OrderLemmas.{order-of-sorted, if-ok}
+use Rattle.skolem.proofs.AboutBindings.OrderLemmas.{order-of-sorted, if-ok}
 use Rattle.skolem.proofs.progress.made_in_order.Goals as goal
 
 pub once_each-requires : goal.once_each-requires

@@ -1,6 +1,6 @@
 use Rattle.std.proofs.Common.{get_or, arith}
-use Rattle.skolem.proofs.SymbolLemmas.{same-item}
-use Rattle.skolem.proofs.OrderLemmas.{found-skip, found-again, found-more, found-all}
+use Rattle.skolem.proofs.AboutFormulas.SymbolLemmas.{same-item}
+use Rattle.skolem.proofs.AboutBindings.OrderLemmas.{found-skip, found-again, found-more, found-all}
 use Rattle.skolem.proofs.progress.once_each.Goals.{then-variable-next-via-then-variable-next, then-variable-next-via-else-variable-next+then-variable-variables}
 use Rattle.skolem.proofs.progress.once_each.Goals as goal
 

@@ -1,4 +1,4 @@
-use Rattle.skolem.proofs.OrderLemmas.{Found}
+use Rattle.skolem.proofs.AboutBindings.OrderLemmas.{Found}
 use Rattle.skolem.proofs.progress.once_each.Given as goal
 
 abbrev pub invariant-loop-variable : goal.invariant-loop-variable

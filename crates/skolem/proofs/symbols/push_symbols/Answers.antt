@@ -1,5 +1,5 @@
 use Rattle.std.proofs.Common.{get_or}
-use Rattle.skolem.proofs.SymbolLemmas.{symbols-then, same-item}
+use Rattle.skolem.proofs.AboutFormulas.SymbolLemmas.{symbols-then, same-item}
 use Rattle.skolem.proofs.symbols.push_symbols.Goals as goal
 
 pub loop-arity-preserved : goal.loop-arity-preserved

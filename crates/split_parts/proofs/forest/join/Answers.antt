@@ -1,6 +1,6 @@
 use Rattle.std.proofs.Common.{◌≡◌, arith}
 use Rattle.split_parts.specs.Forest.{IsColouring}
-use Rattle.split_parts.proofs.ForestLemmas.{linked-roots}
+use Rattle.split_parts.proofs.AboutParts.ForestLemmas.{linked-roots}
 use Rattle.split_parts.proofs.forest.join.Goals as goal
 
 pub returns-then-one-other-clause-colouring : goal.returns-then-one-other-clause-colouring

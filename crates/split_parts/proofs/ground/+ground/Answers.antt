@@ -1,6 +1,6 @@
 use Rattle.std.proofs.Common.{◌≡◌, arith, map, refl}
 use Rattle.fol_base.specs.Term.{tree_of}
-use Rattle.fol_base.proofs.TermLemmas.{tree_size-item}
+use Rattle.fol_base.proofs.AboutTerms.TermLemmas.{tree_size-item}
 use Rattle.split_parts.proofs.ground.+ground.Goals as goal
 
 pub are_ground_terms-is_ground_term-requires : goal.are_ground_terms-is_ground_term-requires

@@ -1,4 +1,4 @@
-use Rattle.split_parts.proofs.SignedLawLemmas.{complements_are_opposite}
+use Rattle.split_parts.proofs.AboutTags.SignedLawLemmas.{complements_are_opposite}
 use Rattle.split_parts.proofs.laws.complements_are_opposite.Goals as goal
 
 pub returns : goal.returns

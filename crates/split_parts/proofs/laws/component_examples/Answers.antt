@@ -1,4 +1,4 @@
-use Rattle.split_parts.proofs.ComponentExamples.{shared, ground_literals, chained, none}
+use Rattle.split_parts.proofs.AboutParts.ComponentExamples.{shared, ground_literals, chained, none}
 use Rattle.split_parts.proofs.laws.component_examples.Goals as goal
 
 pub returns-clause-shared : goal.returns-clause-shared

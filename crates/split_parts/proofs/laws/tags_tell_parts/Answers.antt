@@ -1,4 +1,4 @@
-use Rattle.split_parts.proofs.TagLawLemmas.{tags-tell}
+use Rattle.split_parts.proofs.AboutTags.TagLawLemmas.{tags-tell}
 use Rattle.split_parts.proofs.laws.tags_tell_parts.Goals as goal
 
 pub returns : goal.returns

@@ -4,7 +4,7 @@ use Rattle.fol_base.specs.Literal.{literal_of}
 use Rattle.fol_base.specs.declared.clause.Literal.{Literal}
 use Rattle.split_parts.specs.Components.{IsComponents}
 use Rattle.split_parts.specs.Forest.{IsColouring, IsGrouped, IsLinked}
-use Rattle.split_parts.proofs.ComponentLemmas.{grouped-components}
+use Rattle.split_parts.proofs.AboutParts.ComponentLemmas.{grouped-components}
 use Rattle.split_parts.proofs.parts.components.Goals as goal
 
 pub returns : goal.returns

@@ -2,7 +2,7 @@ use Rattle.std.proofs.Common.{◌≡◌, ℕ, ◌<◌, ◌+◌, ◌++◌, ◌∷
 use Rattle.std.specs.Prelude.{slice_index, slice_index_or, slice_set}
 use Rattle.std.proofs.lemmas.List.{length_push, length-set, get_or_default, take-append-le, take_all}
 use Rattle.split_parts.specs.Forest.{IsGrouped}
-use Rattle.split_parts.proofs.GroupLemmas.{grouped-root, grouped-more, slots-within}
+use Rattle.split_parts.proofs.AboutParts.GroupLemmas.{grouped-root, grouped-more, slots-within}
 use Rattle.split_parts.proofs.parts.grouped.Goals.{then-root-place+in_ok-push+in_ok-from_slice+in_ok-push-2, else-root-place+in_ok-push-3+in_ok-add_place}
 use Rattle.split_parts.proofs.parts.grouped.Goals as goal
 

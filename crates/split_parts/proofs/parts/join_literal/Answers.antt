@@ -1,8 +1,8 @@
 use Rattle.std.proofs.Common.{◌≡◌, ℕ, ◌<◌, ◌+◌, length, map, get_or, ap, sym, ◌∙◌, arith, subst}
 use Rattle.fol_base.specs.Literal.{literal_of}
 use Rattle.split_parts.specs.Forest.{IsJoined, variables_at, Falls}
-use Rattle.split_parts.proofs.PlaceLemmas.{variables_at-read}
-use Rattle.split_parts.proofs.ForestLemmas.{joined-again, joined-new, joined-next}
+use Rattle.split_parts.proofs.AboutParts.PlaceLemmas.{variables_at-read}
+use Rattle.split_parts.proofs.AboutParts.ForestLemmas.{joined-again, joined-new, joined-next}
 use Rattle.split_parts.proofs.parts.join_literal.Goals.{in-Some, in-None+in_ok-insert-in-None}
 use Rattle.split_parts.proofs.parts.join_literal.Goals as goal
 

@@ -2,7 +2,7 @@ use Rattle.std.proofs.Common.{map, nat_eq, ap, arith}
 use Rattle.std.specs.Map.{lookup}
 use Rattle.std.proofs.lemmas.List.{length-map}
 use Rattle.fol_base.specs.Literal.{literal_of}
-use Rattle.split_parts.proofs.ForestLemmas.{joined-first, joined-all}
+use Rattle.split_parts.proofs.AboutParts.ForestLemmas.{joined-first, joined-all}
 use Rattle.split_parts.proofs.parts.linked.Goals as goal
 
 pub loop-place-init : goal.loop-place-init

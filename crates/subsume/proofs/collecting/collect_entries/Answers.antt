@@ -5,8 +5,8 @@ use Rattle.fol_base.proofs.ListLemmas.{map-take_more_item}
 use Rattle.subsume.specs.declared.entry.Entry.{Entry}
 use Rattle.subsume.specs.Searching.{AddsSubsumed}
 use Rattle.subsume.specs.Tree.{members_of}
-use Rattle.subsume.proofs.PlacingLemmas.{item, below-item}
-use Rattle.subsume.proofs.SearchLemmas.{adds-answered}
+use Rattle.subsume.proofs.AboutSearch.PlacingLemmas.{item, below-item}
+use Rattle.subsume.proofs.AboutSearch.SearchLemmas.{adds-answered}
 use Rattle.subsume.proofs.collecting.collect_entries.Goals.{then-branch+in_ok-push, else-branch}
 use Rattle.subsume.proofs.collecting.collect_entries.Goals as goal
 

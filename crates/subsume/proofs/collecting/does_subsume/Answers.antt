@@ -2,8 +2,8 @@ use Rattle.std.proofs.Common.{◌++◌, sym, ◌∙◌, ap}
 use Rattle.std.proofs.lemmas.Bool.{true≢false}
 use Rattle.std.proofs.lemmas.Result.{IfOk-weaker}
 use Rattle.bank_clause.specs.Clause.{clause_at}
-use Rattle.subsume.proofs.SubsumingLemmas.{asserted}
-use Rattle.subsume.proofs.SearchLemmas.{entry-unsubsumed}
+use Rattle.subsume.proofs.AboutSearch.SubsumingLemmas.{asserted}
+use Rattle.subsume.proofs.AboutSearch.SearchLemmas.{entry-unsubsumed}
 use Rattle.subsume.proofs.collecting.does_subsume.Goals as goal
 
 pub returns-then-not-are_at_most : goal.returns-then-not-are_at_most

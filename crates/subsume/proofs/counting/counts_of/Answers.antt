@@ -4,7 +4,7 @@ use Rattle.std.specs.Prelude.{if◌then◌else◌}
 use Rattle.fol_base.specs.Clause.{TreeLiteral, literal_size}
 use Rattle.fol_base.specs.Lent.{lent_of}
 use Rattle.subsume.specs.declared.counting.Counts.{Counts}
-use Rattle.subsume.proofs.CountingLemmas.{counting-step, counting-yes, counting-no}
+use Rattle.subsume.proofs.AboutSearch.CountingLemmas.{counting-step, counting-yes, counting-no}
 use Rattle.subsume.proofs.counting.counts_of.Goals.{then-literal-positive, else-literal-positive}
 use Rattle.subsume.proofs.counting.counts_of.Goals as goal
 

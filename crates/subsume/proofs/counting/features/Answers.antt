@@ -2,7 +2,7 @@ use Rattle.std.proofs.Common.{◌≡◌, ℕ, ◌-◌, ◌^◌, ◌≤◌, ◌�
 use Rattle.fol_base.specs.Clause.{TreeLiteral, literal_size}
 use Rattle.bank_clause.specs.Clause.{clause_at}
 use Rattle.subsume.specs.Features.{measured}
-use Rattle.subsume.proofs.CountingLemmas.{measured-part, counted-few, four-pushed}
+use Rattle.subsume.proofs.AboutSearch.CountingLemmas.{measured-part, counted-few, four-pushed}
 use Rattle.subsume.proofs.counting.features.Goals as goal
 
 pub returns : goal.returns

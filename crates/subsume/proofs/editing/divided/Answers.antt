@@ -3,8 +3,8 @@ use Rattle.std.specs.Prelude.{IsPermutation}
 use Rattle.std.proofs.lemmas.List.Sorted.{All-permutation}
 use Rattle.subsume.specs.declared.tree.Division.{Division}
 use Rattle.subsume.specs.Tree.{IsEntry, members_of}
-use Rattle.subsume.proofs.SearchLemmas.{All-front, All-back}
-use Rattle.subsume.proofs.EditLemmas.{division-made, sides-permuted}
+use Rattle.subsume.proofs.AboutSearch.SearchLemmas.{All-front, All-back}
+use Rattle.subsume.proofs.AboutTree.EditLemmas.{division-made, sides-permuted}
 use Rattle.subsume.proofs.editing.divided.Goals as goal
 
 pub set_sides-requires-clause-low : goal.set_sides-requires-clause-low

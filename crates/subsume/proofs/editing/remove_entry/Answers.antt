@@ -4,7 +4,7 @@ use Rattle.std.proofs.lemmas.List.Sorted.{IsPermutation-swap_remove}
 use Rattle.bank_clause.specs.declared.member.Member.{Member}
 use Rattle.subsume.specs.Editing.{HasNoNumber, IsPlaceOf}
 use Rattle.subsume.specs.Tree.{members_of}
-use Rattle.subsume.proofs.EditLemmas.{all-members, entry-taken}
+use Rattle.subsume.proofs.AboutTree.EditLemmas.{all-members, entry-taken}
 use Rattle.subsume.proofs.editing.remove_entry.Goals as goal
 
 pub returns-in-None-clause-absent : goal.returns-in-None-clause-absent

@@ -3,7 +3,7 @@ use Rattle.std.specs.Prelude.{All, IsPermutation}
 use Rattle.std.proofs.lemmas.List.Elements.{All-push}
 use Rattle.subsume.specs.declared.entry.Entry.{Entry}
 use Rattle.subsume.specs.Editing.{HasAtMost, HasMore}
-use Rattle.subsume.proofs.EditLemmas.{shared-low, shared-high}
+use Rattle.subsume.proofs.AboutTree.EditLemmas.{shared-low, shared-high}
 use Rattle.subsume.proofs.editing.share_out.Goals as goal
 
 pub loop-entry-preserved-then-value-cut : goal.loop-entry-preserved-then-value-cut

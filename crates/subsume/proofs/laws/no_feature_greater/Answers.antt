@@ -1,4 +1,4 @@
-use Rattle.subsume.proofs.FeatureLemmas.{no_feature_greater, no_measure_greater}
+use Rattle.subsume.proofs.AboutTree.FeatureLemmas.{no_feature_greater, no_measure_greater}
 use Rattle.subsume.proofs.laws.no_feature_greater.Goals as goal
 
 pub returns-clause-features : goal.returns-clause-features

@@ -1,6 +1,6 @@
 use Rattle.std.proofs.Common.{sym}
 use Rattle.std.proofs.lemmas.Bool.{true≢false}
-use Rattle.subsume.proofs.SearchLemmas.{entry-excluded}
+use Rattle.subsume.proofs.AboutSearch.SearchLemmas.{entry-excluded}
 use Rattle.subsume.proofs.lowest.does_lower.Goals as goal
 
 pub returns-then-not-are_at_most : goal.returns-then-not-are_at_most

@@ -6,8 +6,8 @@ use Rattle.subsume.specs.declared.entry.Entry.{Entry}
 use Rattle.subsume.specs.Tree.{members_of}
 use Rattle.subsume.specs.Searching.{IsSubsumer}
 use Rattle.subsume.specs.Query.{IsLowestSubsumer}
-use Rattle.subsume.proofs.PlacingLemmas.{item, below-item}
-use Rattle.subsume.proofs.SearchLemmas.{lowest-stays, lowest-answered, nobody}
+use Rattle.subsume.proofs.AboutSearch.PlacingLemmas.{item, below-item}
+use Rattle.subsume.proofs.AboutSearch.SearchLemmas.{lowest-stays, lowest-answered, nobody}
 use Rattle.std.proofs.lemmas.Bool.{true≢false}
 use Rattle.subsume.proofs.lowest.lowest_entry.Goals.{then-branch, else-branch}
 use Rattle.subsume.proofs.lowest.lowest_entry.Goals as goal

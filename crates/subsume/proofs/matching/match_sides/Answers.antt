@@ -6,8 +6,8 @@ use Rattle.fol_base.specs.Clause.{TreeLiteral}
 use Rattle.fol_base.specs.Lent.{lent_of}
 use Rattle.unifier.specs.Matching.{HasPairs, IsMatched, NoMatcher, variables_of}
 use Rattle.fol_base.specs.Subsumption.{all_different}
-use Rattle.subsume.proofs.OnceLemmas.{matched-once}
-use Rattle.unifier.proofs.MatchLemmas.{Pairs}
+use Rattle.subsume.proofs.AboutSearch.OnceLemmas.{matched-once}
+use Rattle.unifier.proofs.AboutMatching.MatchLemmas.{Pairs}
 use Rattle.subsume.specs.Kinds.{TurnsInto}
 use Rattle.subsume.proofs.matching.match_sides.Goals as goal
 

@@ -3,7 +3,7 @@ use Rattle.std.proofs.lemmas.Bool.{true≢false}
 use Rattle.fol_base.specs.Clause.{TreeLiteral}
 use Rattle.fol_base.specs.Lent.{lent_of}
 use Rattle.subsume.specs.Kinds.{TurnsInto}
-use Rattle.subsume.proofs.OrderingLemmas.{stands}
+use Rattle.subsume.proofs.AboutSearch.OrderingLemmas.{stands}
 use Rattle.subsume.proofs.ordering.may_stand.Goals as goal
 
 pub returns-else-may_turn : goal.returns-else-may_turn

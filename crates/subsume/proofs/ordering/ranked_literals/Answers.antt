@@ -2,8 +2,8 @@ use Rattle.std.proofs.Common.{◌∷◌, ◌++◌, [], map, sym, ◌∙◌, ap}
 use Rattle.std.proofs.lemmas.List.{map-append}
 use Rattle.fol_base.specs.Lent.{lent_of}
 use Rattle.subsume.specs.Ordering.{literal_ranked}
-use Rattle.subsume.proofs.ListLemmas.{take-got}
-use Rattle.subsume.proofs.OrderingLemmas.{no-partner-none}
+use Rattle.subsume.proofs.AboutSearch.ListLemmas.{take-got}
+use Rattle.subsume.proofs.AboutSearch.OrderingLemmas.{no-partner-none}
 use Rattle.subsume.proofs.ordering.ranked_literals.Goals as goal
 
 pub returns-then-partners-eq0 : goal.returns-then-partners-eq0

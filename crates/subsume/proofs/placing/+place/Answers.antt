@@ -4,12 +4,12 @@ use Rattle.std.proofs.lemmas.Result.{IfOk-weaker}
 use Rattle.fol_base.specs.Clause.{TreeLiteral, LiteralVariablesBelow}
 use Rattle.fol_base.specs.Kind.{is_literal}
 use Rattle.fol_base.specs.Lent.{lent_of}
-use Rattle.fol_base.proofs.TestLemmas.{list_all-item}
+use Rattle.fol_base.proofs.WorkedExamples.TestLemmas.{list_all-item}
 use Rattle.fol_base.specs.Sides.{exchanged}
 use Rattle.unifier.specs.Laws.{are_of_one_kind}
 use Rattle.subsume.specs.Kinds.{TurnsInto, are_alike}
 use Rattle.subsume.specs.Placing.{IsFoundFor, Places}
-use Rattle.subsume.proofs.PlacingLemmas.{StandsAtNone, sides-then, onto-first, onto-second, one_kind, place-target, none-found, none-alike, none-free, nowhere, item, below-item, set-back, free-unmarked, taken-marked, marks-kept, length-mapped}
+use Rattle.subsume.proofs.AboutSearch.PlacingLemmas.{StandsAtNone, sides-then, onto-first, onto-second, one_kind, place-target, none-found, none-alike, none-free, nowhere, item, below-item, set-back, free-unmarked, taken-marked, marks-kept, length-mapped}
 use Rattle.subsume.proofs.placing.+place.Goals.{place-then-not-used-at+then-are_alike+in_ok-found+else-is_some, place-else-not-used-at, place-else-not-used-at-via-then-not-used-at+else-are_alike, place-else-not-used-at-via-else-not-used-at, place_onto-then-is_some-via-then-is_some, place_onto-then-is_some-via-else-is_some+then-is_truth}
 use Rattle.subsume.proofs.placing.+place.Goals as goal
 

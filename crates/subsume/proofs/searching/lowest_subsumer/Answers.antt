@@ -3,7 +3,7 @@ use Rattle.std.proofs.lemmas.Result.{IfOk-weaker}
 use Rattle.fol_base.specs.Literal.{clause_of}
 use Rattle.fol_base.specs.Subsumption.{assertions}
 use Rattle.subsume.specs.Searching.{AreMembersOfUse, IsLowest, IsSubsumer}
-use Rattle.subsume.proofs.SearchLemmas.{lowest-of-all}
+use Rattle.subsume.proofs.AboutSearch.SearchLemmas.{lowest-of-all}
 use Rattle.subsume.proofs.searching.lowest_subsumer.Goals as goal
 
 pub returns : goal.returns

@@ -8,7 +8,7 @@ use Rattle.fol_base.specs.Subsumption.{is_among}
 use Rattle.subsume.specs.Target.{IsMapped}
 use Rattle.subsume.specs.Placing.{IsFoundFor}
 use Rattle.subsume.specs.Kinds.{AreLiterals}
-use Rattle.subsume.proofs.OrderingLemmas.{found-in-order, literals-permutation}
+use Rattle.subsume.proofs.AboutSearch.OrderingLemmas.{found-in-order, literals-permutation}
 use Rattle.subsume.proofs.subsuming.find_matcher.Goals as goal
 
 pub returns-in-None-clause-found : goal.returns-in-None-clause-found

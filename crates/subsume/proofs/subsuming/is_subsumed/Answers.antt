@@ -4,7 +4,7 @@ use Rattle.fol_base.specs.Lent.{lent_of}
 use Rattle.fol_base.specs.Subsumption.{assertions, Subsumes}
 use Rattle.bank_clause.specs.Clause.{clause_at}
 use Rattle.subsume.specs.Kinds.{AreLiterals}
-use Rattle.subsume.proofs.SubsumingLemmas.{of_use, asserted, decided, converted}
+use Rattle.subsume.proofs.AboutSearch.SubsumingLemmas.{of_use, asserted, decided, converted}
 use Rattle.subsume.proofs.subsuming.is_subsumed.Goals as goal
 
 pub returns : goal.returns

@@ -4,10 +4,10 @@ use Rattle.fol_base.specs.Clause.{LiteralVariablesBelow}
 use Rattle.fol_base.specs.Literal.{clause_of}
 use Rattle.fol_base.specs.Lent.{lent_of}
 use Rattle.fol_base.specs.Subsumption.{assertions}
-use Rattle.fol_base.proofs.VariableLemmas.{ClauseVariablesBelow-bound}
+use Rattle.fol_base.proofs.AboutTerms.VariableLemmas.{ClauseVariablesBelow-bound}
 use Rattle.bank_clause.specs.Clause.{clause_at}
 use Rattle.subsume.specs.Kinds.{AreLiterals}
-use Rattle.subsume.proofs.SubsumingLemmas.{of_use, asserted, none_subsumes, some_subsumes, converted}
+use Rattle.subsume.proofs.AboutSearch.SubsumingLemmas.{of_use, asserted, none_subsumes, some_subsumes, converted}
 use Rattle.subsume.proofs.subsuming.subsumes.Goals as goal
 
 pub returns-in-None : goal.returns-in-None

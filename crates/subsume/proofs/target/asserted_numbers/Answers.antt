@@ -3,7 +3,7 @@ use Rattle.std.specs.Prelude.{slice_index_or}
 use Rattle.std.proofs.lemmas.List.{take_more}
 use Rattle.plain_types.specs.declared.sequence.NameLit.{NameLit}
 use Rattle.fol_base.specs.Subsumption.{assertions}
-use Rattle.subsume.proofs.SubsumingLemmas.{one_asserted, none_asserted}
+use Rattle.subsume.proofs.AboutSearch.SubsumingLemmas.{one_asserted, none_asserted}
 use Rattle.subsume.proofs.target.asserted_numbers.Goals.{then-not-name+in_ok-push, else-not-name}
 use Rattle.subsume.proofs.target.asserted_numbers.Goals as goal
 

@@ -1,7 +1,7 @@
 use Rattle.std.proofs.Common.{◌∷◌, ◌++◌, [], map, sym, ◌∙◌, ap}
 use Rattle.std.proofs.lemmas.List.{map-append}
 use Rattle.fol_base.specs.Lent.{lent_of}
-use Rattle.subsume.proofs.ListLemmas.{take-got}
+use Rattle.subsume.proofs.AboutSearch.ListLemmas.{take-got}
 use Rattle.subsume.proofs.target.lent_literals.Goals as goal
 
 pub loop-index-preserved : goal.loop-index-preserved

@@ -4,7 +4,7 @@ use Rattle.fol_base.specs.Clause.{TreeClause}
 use Rattle.fol_base.specs.Literal.{literal_of, clause_of}
 use Rattle.kernel_steps.specs.declared.step.Step.TheVariants as step
 use Rattle.bank_clause.specs.Clause.{clause_at}
-use Rattle.superpose.proofs.StepLemmas.{superposition-applies, superposition-numbered}
+use Rattle.superpose.proofs.AboutSteps.StepLemmas.{superposition-applies, superposition-numbered}
 use Rattle.superpose.proofs.concluding.conclude_superposition.Goals as goal
 
 pub unreachable-requires : goal.unreachable-requires

@@ -1,4 +1,4 @@
-use Rattle.superpose.proofs.SitesThere.{superpositions_have_sites, sites_differ}
+use Rattle.superpose.proofs.AboutSites.SitesThere.{superpositions_have_sites, sites_differ}
 use Rattle.superpose.proofs.laws.superpositions_have_sites.Goals as goal
 
 pub returns-clause-there : goal.returns-clause-there

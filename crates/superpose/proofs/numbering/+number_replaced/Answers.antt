@@ -8,7 +8,7 @@ use Rattle.fol_base.specs.Place.{subterm, replaced}
 use Rattle.fol_base.specs.Numbering.{with_variables}
 use Rattle.fol_base.specs.Term.{tree_of}
 use Rattle.superpose.specs.Concluding.{instance_variables}
-use Rattle.superpose.proofs.NumberingLemmas.{no_variable_there, item_there, next_there, replaced_below, three_parts}
+use Rattle.superpose.proofs.AboutSteps.NumberingLemmas.{no_variable_there, item_there, next_there, replaced_below, three_parts}
 use Rattle.superpose.proofs.numbering.+number_replaced.Goals as goal
 
 pub unreachable-requires : goal.unreachable-requires

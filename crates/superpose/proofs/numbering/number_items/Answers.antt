@@ -1,6 +1,6 @@
 use Rattle.std.proofs.Common.{length, refl, arith}
 use Rattle.std.proofs.lemmas.Option.{slice_get_read}
-use Rattle.superpose.proofs.NumberingLemmas.{items_met}
+use Rattle.superpose.proofs.AboutSteps.NumberingLemmas.{items_met}
 use Rattle.superpose.proofs.numbering.number_items.Goals as goal
 
 pub loop-index-preserved : goal.loop-index-preserved

@@ -5,9 +5,9 @@ use Rattle.fol_base.specs.Clause.{TreeLiteral, literal_variables}
 use Rattle.fol_base.specs.Ground.{literals_instance}
 use Rattle.fol_base.specs.Lent.{lent_of}
 use Rattle.fol_base.specs.Numbering.{with_variables}
-use Rattle.eq_rules.proofs.RenumberedLemmas.{variables_between}
+use Rattle.eq_rules.proofs.AboutConclusions.RenumberedLemmas.{variables_between}
 use Rattle.superpose.specs.Concluding.{superposed_at}
-use Rattle.superpose.proofs.NumberingLemmas.{superposed_met}
+use Rattle.superpose.proofs.AboutSteps.NumberingLemmas.{superposed_met}
 use Rattle.superpose.proofs.numbering.number_superposed.Goals as goal
 
 pub returns : goal.returns

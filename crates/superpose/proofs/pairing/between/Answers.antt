@@ -4,7 +4,7 @@ use Rattle.literal_selection.specs.Mode.{mode_of}
 use Rattle.eq_rules.specs.Inferences.{AreInferences}
 use Rattle.eq_rules.specs.declared.inference.Inference.{Inference}
 use Rattle.superpose.specs.Pairing.{AddsTried, pair_keys, is_between, two}
-use Rattle.superpose.proofs.TriedLemmas.{between_all}
+use Rattle.superpose.proofs.AboutSites.TriedLemmas.{between_all}
 use Rattle.superpose.proofs.pairing.between.Goals as goal
 
 pub returns : goal.returns

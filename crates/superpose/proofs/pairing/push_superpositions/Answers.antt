@@ -1,7 +1,7 @@
 use Rattle.std.proofs.Common.{◌≡◌, ◌<◌, length, take, arith}
 use Rattle.std.proofs.lemmas.List.{take_all}
 use Rattle.literal_selection.specs.Mode.{mode_of}
-use Rattle.superpose.proofs.TriedLemmas.{adds-nothing, adds-next, adds-all, begins-again, begins-self}
+use Rattle.superpose.proofs.AboutSites.TriedLemmas.{adds-nothing, adds-next, adds-all, begins-again, begins-self}
 use Rattle.superpose.proofs.pairing.push_superpositions.Goals as goal
 
 pub loop-from-init : goal.loop-from-init

@@ -1,5 +1,5 @@
 use Rattle.literal_selection.specs.Mode.{mode_of}
-use Rattle.superpose.proofs.TriedLemmas.{pair_all}
+use Rattle.superpose.proofs.AboutSites.TriedLemmas.{pair_all}
 use Rattle.superpose.proofs.pairing.superpositions.Goals as goal
 
 pub returns-in-Ok-clause-all : goal.returns-in-Ok-clause-all

@@ -7,7 +7,7 @@ use Rattle.superpose.specs.Pairing.{AddsTried, entry_of, keys_from}
 use Rattle.superpose.specs.Superposing.{para_key}
 use Rattle.eq_rules.specs.declared.concluding.LiteralSide.{LiteralSide}
 use Rattle.superpose.specs.declared.sites.LiteralPlace.{LiteralPlace}
-use Rattle.superpose.proofs.TriedLemmas.{adds-nothing, adds-place, begins-again, begins-pushed, begins-self}
+use Rattle.superpose.proofs.AboutSites.TriedLemmas.{adds-nothing, adds-place, begins-again, begins-pushed, begins-self}
 use Rattle.superpose.proofs.pairing.superpositions_from.Goals as goal
 
 pub loop-into-init : goal.loop-into-init

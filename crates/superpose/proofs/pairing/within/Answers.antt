@@ -4,7 +4,7 @@ use Rattle.literal_selection.specs.Mode.{mode_of}
 use Rattle.eq_rules.specs.Inferences.{AreInferences, alone}
 use Rattle.eq_rules.specs.declared.inference.Inference.{Inference}
 use Rattle.superpose.specs.Pairing.{AddsTried, pair_keys, is_superposition}
-use Rattle.superpose.proofs.TriedLemmas.{within_all}
+use Rattle.superpose.proofs.AboutSites.TriedLemmas.{within_all}
 use Rattle.superpose.proofs.pairing.within.Goals as goal
 
 pub returns : goal.returns

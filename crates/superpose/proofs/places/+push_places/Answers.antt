@@ -2,9 +2,9 @@ use Rattle.std.proofs.Common.{arith, rules, ◌≡◌, ◌<◌, ◌+◌, ◌*◌
 use Rattle.std.proofs.lemmas.List.{length_push}
 use Rattle.fol_base.specs.Tree.{tree_size, trees_size, trees_of}
 use Rattle.fol_base.specs.Term.{tree_of}
-use Rattle.fol_base.proofs.TermLemmas.{tree_size-item}
-use Rattle.superpose.proofs.ListLemmas.{popped}
-use Rattle.superpose.proofs.SiteLemmas.{arguments_more}
+use Rattle.fol_base.proofs.AboutTerms.TermLemmas.{tree_size-item}
+use Rattle.superpose.proofs.AboutLists.ListLemmas.{popped}
+use Rattle.superpose.proofs.AboutSites.SiteLemmas.{arguments_more}
 use Rattle.superpose.proofs.places.+push_places.Goals as goal
 
 pub push_argument_places-push_places-requires : goal.push_argument_places-push_places-requires

@@ -1,8 +1,8 @@
 use Rattle.std.proofs.Common.{true, false, refl, sym, ◌∙◌, arith}
 use Rattle.fol_base.specs.Lent.{lent_of}
-use Rattle.kbo_order.proofs.ClauseLoops.{greater-is}
-use Rattle.eq_rules.proofs.FactorAnswers.{item_size}
-use Rattle.superpose.proofs.SettledLemmas.{greatest-itself, greatest-more, greatest-done, greatest-fails}
+use Rattle.kbo_order.proofs.AboutMultisets.ClauseLoops.{greater-is}
+use Rattle.eq_rules.proofs.AboutFactoring.FactorAnswers.{item_size}
+use Rattle.superpose.proofs.AboutSites.SettledLemmas.{greatest-itself, greatest-more, greatest-done, greatest-fails}
 use Rattle.superpose.proofs.settled.is_greatest.Goals as goal
 use Rattle.superpose.proofs.settled.is_greatest.Goals.{else-other-index-via-then-other-index+else-not-is_greater, else-other-index-via-else-other-index}
 

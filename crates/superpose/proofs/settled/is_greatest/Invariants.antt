@@ -1,5 +1,5 @@
 use Rattle.fol_base.specs.Lent.{lent_of}
-use Rattle.superpose.proofs.SettledLemmas.{IsGreaterBelow}
+use Rattle.superpose.proofs.AboutSites.SettledLemmas.{IsGreaterBelow}
 use Rattle.superpose.proofs.settled.is_greatest.Given as goal
 
 abbrev pub invariant-loop-other : goal.invariant-loop-other

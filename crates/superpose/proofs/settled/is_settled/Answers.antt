@@ -5,11 +5,11 @@ use Rattle.fol_base.specs.Term.{tree_of}
 use Rattle.fol_base.specs.Clause.{TreeLiteral}
 use Rattle.fol_base.specs.Lent.{lent_of}
 use Rattle.fol_base.specs.Order.{tree_greater}
-use Rattle.kbo_order.proofs.HeadLemmas.{greater-answer}
+use Rattle.kbo_order.proofs.AboutReading.HeadLemmas.{greater-answer}
 use Rattle.bank_clause.specs.Clause.{clause_at}
-use Rattle.eq_rules.proofs.FactorAnswers.{item_size}
-use Rattle.eq_rules.proofs.SideLemmas.{sides-size}
-use Rattle.superpose.proofs.SettledLemmas.{is-settled-no}
+use Rattle.eq_rules.proofs.AboutFactoring.FactorAnswers.{item_size}
+use Rattle.eq_rules.proofs.AboutConclusions.SideLemmas.{sides-size}
+use Rattle.superpose.proofs.AboutSites.SettledLemmas.{is-settled-no}
 use Rattle.superpose.proofs.settled.is_settled.Goals as goal
 
 pub compare-requires-clause-left_size : goal.compare-requires-clause-left_size

@@ -2,7 +2,7 @@ use Rattle.std.proofs.Common.{◌≡◌, ◌↔◌, true, subst}
 use Rattle.bank_clause.specs.Clause.{clause_at}
 use Rattle.eq_rules.specs.declared.concluding.LiteralSide.{LiteralSide}
 use Rattle.superpose.specs.Settled.{IsSettled}
-use Rattle.superpose.proofs.SettledLemmas.{settled-more}
+use Rattle.superpose.proofs.AboutSites.SettledLemmas.{settled-more}
 use Rattle.superpose.proofs.settled.settled_sides.Goals as goal
 
 pub loop-literal-preserved : goal.loop-literal-preserved

@@ -1,5 +1,5 @@
 use Rattle.bank_clause.specs.Clause.{clause_at}
-use Rattle.superpose.proofs.SettledLemmas.{AreSettledBelow}
+use Rattle.superpose.proofs.AboutSites.SettledLemmas.{AreSettledBelow}
 use Rattle.superpose.proofs.settled.settled_sides.Given as goal
 
 abbrev pub invariant-loop-literal : goal.invariant-loop-literal

@@ -3,7 +3,7 @@ use Rattle.std.specs.Prelude.{slice_get}
 use Rattle.fol_base.specs.Clause.{TreeLiteral}
 use Rattle.fol_base.specs.Lent.{lent_of}
 use Rattle.bank_clause.specs.Clause.{clause_at}
-use Rattle.eq_rules.proofs.FactorAnswers.{item_size}
+use Rattle.eq_rules.proofs.AboutFactoring.FactorAnswers.{item_size}
 use Rattle.superpose.proofs.sites.can_start.Goals as goal
 
 pub is_usable-requires : goal.is_usable-requires

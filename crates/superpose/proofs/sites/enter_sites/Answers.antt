@@ -6,7 +6,7 @@ use Rattle.term_bank.specs.declared.literal.BankLit.{BankLit}
 use Rattle.bank_clause.specs.Clause.{clause_at}
 use Rattle.superpose.specs.Sites.{all_sides, entered_places}
 use Rattle.eq_rules.specs.declared.concluding.LiteralSide.{LiteralSide}
-use Rattle.superpose.proofs.SiteLemmas.{enters_more}
+use Rattle.superpose.proofs.AboutSites.SiteLemmas.{enters_more}
 use Rattle.superpose.proofs.sites.enter_sites.Goals as goal
 
 pub loop-literal-preserved : goal.loop-literal-preserved

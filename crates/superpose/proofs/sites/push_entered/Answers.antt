@@ -9,7 +9,7 @@ use Rattle.fol_base.specs.Term.{tree_of}
 use Rattle.fol_base.specs.Lent.{lent_of}
 use Rattle.bank_clause.specs.Clause.{clause_at}
 use Rattle.superpose.specs.Sites.{literal_enters, below_path, places, entered_places}
-use Rattle.superpose.proofs.SiteLemmas.{places_entered, places_left_out}
+use Rattle.superpose.proofs.AboutSites.SiteLemmas.{places_entered, places_left_out}
 use Rattle.superpose.proofs.sites.push_entered.Goals as goal
 
 pub returns-then-not-can_enter : goal.returns-then-not-can_enter

@@ -1,6 +1,6 @@
 use Rattle.std.proofs.Common.{sym, ◌∙◌}
 use Rattle.bank_clause.specs.Clause.{clause_at}
-use Rattle.superpose.proofs.SiteLemmas.{start_test, start_pushed, start_left_out}
+use Rattle.superpose.proofs.AboutSites.SiteLemmas.{start_test, start_pushed, start_left_out}
 use Rattle.superpose.proofs.sites.push_start.Goals as goal
 
 pub returns-in_ok-push : goal.returns-in_ok-push

@@ -8,7 +8,7 @@ use Rattle.term_bank.specs.declared.literal.BankLit.{BankLit}
 use Rattle.bank_clause.specs.Clause.{clause_at}
 use Rattle.superpose.specs.Sites.{all_sides, can_start}
 use Rattle.eq_rules.specs.declared.concluding.LiteralSide.{LiteralSide}
-use Rattle.superpose.proofs.SiteLemmas.{no_starts, starts_more}
+use Rattle.superpose.proofs.AboutSites.SiteLemmas.{no_starts, starts_more}
 use Rattle.superpose.proofs.sites.start_sites.Goals as goal
 
 pub returns-then-is_some : goal.returns-then-is_some

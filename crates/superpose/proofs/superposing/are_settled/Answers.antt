@@ -3,7 +3,7 @@ use Rattle.std.specs.Prelude.{slice_get}
 use Rattle.fol_base.specs.Clause.{TreeLiteral}
 use Rattle.fol_base.specs.Lent.{lent_of}
 use Rattle.bank_clause.specs.Clause.{clause_at}
-use Rattle.superpose.proofs.SettledLemmas.{settled-allows}
+use Rattle.superpose.proofs.AboutSites.SettledLemmas.{settled-allows}
 use Rattle.superpose.proofs.superposing.are_settled.Goals as goal
 
 pub returns : goal.returns

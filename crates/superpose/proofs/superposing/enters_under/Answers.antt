@@ -1,8 +1,8 @@
 use Rattle.std.proofs.Common.{sym, arith}
 use Rattle.fol_base.specs.Instance.{substitution}
 use Rattle.fol_base.specs.Lent.{lent_of}
-use Rattle.eq_rules.proofs.FactorAnswers.{part_size}
-use Rattle.superpose.proofs.SettledLemmas.{settled-enters}
+use Rattle.eq_rules.proofs.AboutFactoring.FactorAnswers.{part_size}
+use Rattle.superpose.proofs.AboutSites.SettledLemmas.{settled-enters}
 use Rattle.superpose.proofs.superposing.enters_under.Goals as goal
 
 pub is_settled-requires : goal.is_settled-requires

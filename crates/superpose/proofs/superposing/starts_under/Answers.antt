@@ -1,8 +1,8 @@
 use Rattle.std.proofs.Common.{sym, arith}
 use Rattle.fol_base.specs.Instance.{substitution}
 use Rattle.fol_base.specs.Lent.{lent_of}
-use Rattle.eq_rules.proofs.FactorAnswers.{part_size}
-use Rattle.superpose.proofs.SettledLemmas.{settled-starts}
+use Rattle.eq_rules.proofs.AboutFactoring.FactorAnswers.{part_size}
+use Rattle.superpose.proofs.AboutSites.SettledLemmas.{settled-starts}
 use Rattle.superpose.proofs.superposing.starts_under.Goals as goal
 
 pub starts_settled-requires : goal.starts_settled-requires

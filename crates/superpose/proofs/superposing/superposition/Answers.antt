@@ -9,7 +9,7 @@ use Rattle.superpose.specs.Sites.{can_enter}
 use Rattle.superpose.specs.Superposing.{AreSites, IsSuperposition}
 use Rattle.eq_rules.specs.declared.concluding.LiteralSide.{LiteralSide}
 use Rattle.superpose.specs.declared.sites.LiteralPlace.{LiteralPlace}
-use Rattle.superpose.proofs.SitesThere.{start_at, enter_at, start_there}
+use Rattle.superpose.proofs.AboutSites.SitesThere.{start_at, enter_at, start_there}
 use Rattle.superpose.proofs.superposing.superposition.Goals as goal
 
 pub superposition_at-requires-clause-starts : goal.superposition_at-requires-clause-starts

@@ -12,11 +12,11 @@ use Rattle.bank_clause.specs.Clause.{clause_at}
 use Rattle.unifier.specs.Bindings.{IsUnified}
 use Rattle.unifier.specs.Renaming.{fits}
 use Rattle.unifier.specs.SolvedForm.{SolvedForm}
-use Rattle.eq_rules.proofs.PremiseLemmas.{literal-below}
-use Rattle.eq_rules.proofs.SideLemmas.{side-below}
+use Rattle.eq_rules.proofs.AboutConclusions.PremiseLemmas.{literal-below}
+use Rattle.eq_rules.proofs.AboutConclusions.SideLemmas.{side-below}
 use Rattle.superpose.specs.Superposing.{are_alike}
-use Rattle.superpose.proofs.TermsLemmas.{subterm-below}
-use Rattle.superpose.proofs.SizeLemmas.{unlike_none, apart_none}
+use Rattle.superpose.proofs.AboutSteps.TermsLemmas.{subterm-below}
+use Rattle.superpose.proofs.AboutSteps.SizeLemmas.{unlike_none, apart_none}
 use Rattle.superpose.proofs.superposing.superposition_at.Goals as goal
 
 pub unreachable-requires : goal.unreachable-requires

@@ -15,11 +15,11 @@ use Rattle.term_bank.specs.Literal.{literals_at}
 use Rattle.bank_clause.specs.Clause.{clause_at}
 use Rattle.unifier.specs.Renaming.{AreNamedTerms}
 use Rattle.unifier.specs.Sizes.{stopped}
-use Rattle.unifier.proofs.BoundLemmas.{fits-above}
+use Rattle.unifier.proofs.AboutLayouts.BoundLemmas.{fits-above}
 use Rattle.unifier.specs.SolvedForm.{substitution_of}
 use Rattle.superpose.specs.Superposing.{starts_under, enters_under}
-use Rattle.superpose.proofs.TermsLemmas.{own_both, left-many, right-many, superposition_gives}
-use Rattle.superpose.proofs.SizeLemmas.{heavy_settled, left_sum, right_sum, side_low, made_size, allowed_none, heavy_by_size, concluded_by_step}
+use Rattle.superpose.proofs.AboutSteps.TermsLemmas.{own_both, left-many, right-many, superposition_gives}
+use Rattle.superpose.proofs.AboutSteps.SizeLemmas.{heavy_settled, left_sum, right_sum, side_low, made_size, allowed_none, heavy_by_size, concluded_by_step}
 use Rattle.superpose.proofs.superposing.superposition_by.Goals as goal
 
 pub returns-then-are_settled : goal.returns-then-are_settled

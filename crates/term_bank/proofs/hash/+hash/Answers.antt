@@ -1,6 +1,6 @@
 use Rattle.std.proofs.Common.{◌≡◌, arith, map, refl}
 use Rattle.fol_base.specs.Term.{tree_of}
-use Rattle.fol_base.proofs.TermLemmas.{tree_size-item}
+use Rattle.fol_base.proofs.AboutTerms.TermLemmas.{tree_size-item}
 use Rattle.term_bank.proofs.hash.+hash.Goals as goal
 
 pub terms_hash-term_hash-all-requires : goal.terms_hash-term_hash-all-requires

@@ -1,5 +1,5 @@
 use Rattle.std.proofs.Common.{arith}
-use Rattle.tptp_problem.proofs.FaultLemmas.{fault-then, include-stopped, include-cut, include-whole, whole-wide}
+use Rattle.tptp_problem.proofs.AboutReading.FaultLemmas.{fault-then, include-stopped, include-cut, include-whole, whole-wide}
 use Rattle.tptp_problem.proofs.include.include_at.Goals as goal
 
 pub overflow_add-first : goal.overflow_add-first

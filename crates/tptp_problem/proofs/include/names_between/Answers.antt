@@ -1,7 +1,7 @@
 use Rattle.std.proofs.Common.{◌+◌, sym, subst}
 use Rattle.tptp_problem.specs.Awaiting.{StillReads}
 use Rattle.tptp_problem.specs.Shape.{lexemes_told}
-use Rattle.tptp_problem.proofs.IncludeLemmas.{names-step, names-end}
+use Rattle.tptp_problem.proofs.AboutFiles.IncludeLemmas.{names-step, names-end}
 use Rattle.tptp_problem.proofs.include.names_between.Goals as goal
 
 pub loop-at-preserved : goal.loop-at-preserved

@@ -1,4 +1,4 @@
-use Rattle.tptp_problem.proofs.ConjectureLemmas.{one-conjecture, no-conjecture-clause}
+use Rattle.tptp_problem.proofs.AboutReading.ConjectureLemmas.{one-conjecture, no-conjecture-clause}
 use Rattle.tptp_problem.proofs.laws.at_most_one_conjecture.Goals as goal
 
 pub returns : goal.returns

@@ -1,4 +1,4 @@
-use Rattle.tptp_problem.proofs.ClosedLemmas.{problem-closed}
+use Rattle.tptp_problem.proofs.AboutReading.ClosedLemmas.{problem-closed}
 use Rattle.tptp_problem.proofs.laws.closed_formulas.Goals as goal
 
 pub returns : goal.returns

@@ -1,4 +1,4 @@
-use Rattle.tptp_problem.proofs.OutcomeLemmas.{problem-one, problem-or-fault, problem-fault-one}
+use Rattle.tptp_problem.proofs.AboutReading.OutcomeLemmas.{problem-one, problem-or-fault, problem-fault-one}
 use Rattle.tptp_problem.proofs.laws.one_outcome.Goals as goal
 
 pub returns : goal.returns

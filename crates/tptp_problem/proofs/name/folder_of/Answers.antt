@@ -1,5 +1,5 @@
 use Rattle.std.proofs.Common.{◌≡◌, ◌∙◌, ◌-◌, ◌<◌, ◌≤◌, ℕ, List, get_or, take, ap, subst, arith}
-use Rattle.tptp_problem.proofs.NameLemmas.{folder-boundary, folder-is}
+use Rattle.tptp_problem.proofs.AboutFiles.NameLemmas.{folder-boundary, folder-is}
 use Rattle.tptp_problem.proofs.name.folder_of.Goals as goal
 
 pub range-requires-clause-end_boundary : goal.range-requires-clause-end_boundary

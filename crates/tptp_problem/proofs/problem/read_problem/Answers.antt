@@ -1,9 +1,9 @@
 use Rattle.std.proofs.Common.{sym, ◌∙◌, subst}
 use Rattle.std.specs.Option.{option_copied}
-use Rattle.tptp_problem.proofs.FaultLemmas.{fault-then}
-use Rattle.tptp_problem.proofs.FileLemmas.{problem-fault}
-use Rattle.tptp_problem.proofs.PassedLemmas.{passed}
-use Rattle.tptp_problem.proofs.SizeLemmas.{size-read}
+use Rattle.tptp_problem.proofs.AboutReading.FaultLemmas.{fault-then}
+use Rattle.tptp_problem.proofs.AboutFiles.FileLemmas.{problem-fault}
+use Rattle.tptp_problem.proofs.AboutReading.PassedLemmas.{passed}
+use Rattle.tptp_problem.proofs.AboutFiles.SizeLemmas.{size-read}
 use Rattle.tptp_tree.specs.ProblemSize.{HasProblemSize}
 use Rattle.tptp_problem.proofs.problem.read_problem.Goals as goal
 

@@ -1,5 +1,5 @@
-use Rattle.tptp_reader.proofs.AnnotatingLemmas.{reading-by, halt-within, fault-of}
-use Rattle.tptp_reader.proofs.EntryWhole.{answer-fault}
+use Rattle.tptp_reader.proofs.AboutReads.AnnotatingLemmas.{reading-by, halt-within, fault-of}
+use Rattle.tptp_reader.proofs.AboutReads.EntryWhole.{answer-fault}
 use Rattle.tptp_reader.proofs.entry.annotated.Goals as goal
 
 pub returns-in-Ok-clause-read : goal.returns-in-Ok-clause-read

@@ -1,4 +1,4 @@
-use Rattle.tptp_reader.proofs.PlacedLemmas.{the-answer-from}
+use Rattle.tptp_reader.proofs.AboutTexts.PlacedLemmas.{the-answer-from}
 use Rattle.tptp_reader.proofs.laws.one_placed_answer.Goals as goal
 
 pub returns : goal.returns

@@ -1,4 +1,4 @@
-use Rattle.tptp_reader.proofs.PlacedLemmas.{read-from, refused-from, runs-out-from}
+use Rattle.tptp_reader.proofs.AboutTexts.PlacedLemmas.{read-from, refused-from, runs-out-from}
 use Rattle.tptp_reader.proofs.laws.placed_answers.Goals as goal
 
 pub returns : goal.returns

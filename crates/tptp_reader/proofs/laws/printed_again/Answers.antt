@@ -1,5 +1,5 @@
-use Rattle.tptp_reader.proofs.PrintedLemmas.{text-again, reading-again}
-use Rattle.tptp_reader.proofs.TextLemmas.{spelled-name, read-name}
+use Rattle.tptp_reader.proofs.AboutTexts.PrintedLemmas.{text-again, reading-again}
+use Rattle.tptp_reader.proofs.AboutTexts.TextLemmas.{spelled-name, read-name}
 use Rattle.tptp_reader.proofs.laws.printed_again.Goals as goal
 
 pub returns : goal.returns

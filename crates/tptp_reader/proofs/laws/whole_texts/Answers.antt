@@ -1,4 +1,4 @@
-use Rattle.tptp_reader.proofs.TextLemmas.{read-is-spelled, spelled-is-read}
+use Rattle.tptp_reader.proofs.AboutTexts.TextLemmas.{read-is-spelled, spelled-is-read}
 use Rattle.tptp_reader.proofs.laws.whole_texts.Goals as goal
 
 pub returns : goal.returns

@@ -1,4 +1,4 @@
-use Rattle.tptp_reader.proofs.NotesReads.{none-closes, last-closes}
+use Rattle.tptp_reader.proofs.AboutReads.NotesReads.{none-closes, last-closes}
 use Rattle.tptp_reader.proofs.notes.closes_innermost.Goals as goal
 
 pub returns-in-None : goal.returns-in-None

@@ -1,4 +1,4 @@
-use Rattle.tptp_reader.proofs.NotesReads.{none-end, some-end}
+use Rattle.tptp_reader.proofs.AboutReads.NotesReads.{none-end, some-end}
 use Rattle.tptp_reader.proofs.notes.ends_notes.Goals as goal
 
 pub returns-in-None : goal.returns-in-None

@@ -2,7 +2,7 @@ use Rattle.std.proofs.Common.{sym, ap, ◌∙◌, arith}
 use Rattle.std.specs.Option.{option_map}
 use Rattle.std.proofs.Math.ListN.{drop_of_length-le}
 use Rattle.tptp_tree.specs.Shape.{term_of}
-use Rattle.tptp_source.proofs.FormulaTerms.{tree-item-is, terms-more, terms-none, terms-all}
+use Rattle.tptp_source.proofs.AboutParts.FormulaTerms.{tree-item-is, terms-more, terms-none, terms-all}
 use Rattle.tptp_source.proofs.items.+formula_terms.Goals as goal
 
 pub formula_terms_of-formula_term_of-requires : goal.formula_terms_of-formula_term_of-requires

@@ -2,7 +2,7 @@ use Rattle.std.proofs.Common.{◌≡◌, ◌+◌, ◌*◌, drop, map}
 use Rattle.tptp_source.specs.General.{tree_size, trees_size, trees_of}
 use Rattle.tptp_source.specs.Shape.{tree_of}
 use Rattle.tptp_source.specs.Items.{terms_in}
-use Rattle.tptp_source.proofs.FormulaTerms.{front_terms}
+use Rattle.tptp_source.proofs.AboutParts.FormulaTerms.{front_terms}
 use Rattle.tptp_source.proofs.items.+formula_terms.Given as goal
 
 abbrev pub decreases-formula_term_of : goal.decreases-formula_term_of

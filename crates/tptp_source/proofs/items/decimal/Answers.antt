@@ -1,6 +1,6 @@
 use Rattle.std.proofs.Common.{sym, ◌∙◌, arith}
 use Rattle.std.proofs.Math.ListN.{drop_of_length-le}
-use Rattle.tptp_source.proofs.ItemLemmas.{too-large, whole-value}
+use Rattle.tptp_source.proofs.AboutParts.ItemLemmas.{too-large, whole-value}
 use Rattle.tptp_source.proofs.items.decimal.Goals as goal
 
 pub returns-in_err-tens : goal.returns-in_err-tens

@@ -1,7 +1,7 @@
 use Rattle.std.proofs.Common.{◌≡◌, drop, map, Some}
 use Rattle.tptp_source.specs.Shape.{tree_of}
 use Rattle.tptp_source.specs.Items.{all_numbers}
-use Rattle.tptp_source.proofs.ItemLemmas.{joined_numbers}
+use Rattle.tptp_source.proofs.AboutParts.ItemLemmas.{joined_numbers}
 use Rattle.tptp_source.proofs.items.numbers_of.Given as goal
 
 abbrev pub invariant-loop-term : goal.invariant-loop-term

@@ -1,5 +1,5 @@
 use Rattle.std.proofs.Common.{◌≡◌, true, false, sym, ◌∙◌}
-use Rattle.tptp_source.proofs.ItemLemmas.{no_signed_name}
+use Rattle.tptp_source.proofs.AboutParts.ItemLemmas.{no_signed_name}
 use Rattle.tptp_source.proofs.items.positive_name.Goals as goal
 
 pub returns-else-is_empty : goal.returns-else-is_empty

@@ -1,5 +1,5 @@
 use Rattle.std.proofs.Common.{◌≡◌, true, false, sym, ◌∙◌}
-use Rattle.tptp_source.proofs.ItemLemmas.{no_side}
+use Rattle.tptp_source.proofs.AboutParts.ItemLemmas.{no_side}
 use Rattle.tptp_source.proofs.items.side_of_word.Goals as goal
 
 pub returns-then-not-is_empty : goal.returns-then-not-is_empty

@@ -1,4 +1,4 @@
-use Rattle.tptp_source.proofs.WholeReads.{one-term}
+use Rattle.tptp_source.proofs.AboutWholes.WholeReads.{one-term}
 use Rattle.tptp_source.proofs.laws.one_term.Goals as goal
 
 pub returns : goal.returns

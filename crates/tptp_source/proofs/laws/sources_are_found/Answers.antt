@@ -1,4 +1,4 @@
-use Rattle.tptp_source.proofs.SourceLemmas.{source-is, source-shape}
+use Rattle.tptp_source.proofs.AboutWholes.SourceLemmas.{source-is, source-shape}
 use Rattle.tptp_source.proofs.laws.sources_are_found.Goals as goal
 
 pub returns : goal.returns

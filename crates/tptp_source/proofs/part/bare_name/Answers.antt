@@ -1,5 +1,5 @@
 use Rattle.std.proofs.Common.{◌≡◌, true, false, sym, ◌∙◌}
-use Rattle.tptp_source.proofs.PartTerms.{no_bare_name}
+use Rattle.tptp_source.proofs.AboutParts.PartTerms.{no_bare_name}
 use Rattle.tptp_source.proofs.part.bare_name.Goals as goal
 
 pub returns-else-is_empty : goal.returns-else-is_empty

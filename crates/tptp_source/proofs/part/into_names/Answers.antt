@@ -1,7 +1,7 @@
 use Rattle.std.proofs.Common.{◌≡◌, map, ap, ◌∙◌}
 use Rattle.std.specs.Vec.Iter.{into_iter_items}
 use Rattle.tptp_source.specs.Shape.{tree_of}
-use Rattle.tptp_source.proofs.PartTerms.{names-more, names-none, names-first}
+use Rattle.tptp_source.proofs.AboutParts.PartTerms.{names-more, names-none, names-first}
 use Rattle.tptp_source.proofs.part.into_names.Goals as goal
 
 pub loop-term-init : goal.loop-term-init

@@ -2,7 +2,7 @@ use Rattle.std.proofs.Common.{◌≡◌, map, Some}
 use Rattle.std.specs.Vec.Iter.{into_iter_items}
 use Rattle.tptp_source.specs.Shape.{tree_of}
 use Rattle.tptp_source.specs.Sources.{names_in}
-use Rattle.tptp_source.proofs.PartTerms.{joined_names}
+use Rattle.tptp_source.proofs.AboutParts.PartTerms.{joined_names}
 use Rattle.tptp_source.proofs.part.into_names.Given as goal
 
 abbrev pub invariant-loop-term : goal.invariant-loop-term

@@ -1,5 +1,5 @@
 use Rattle.tptp_source.specs.Shape.{tree_of}
-use Rattle.tptp_source.proofs.SourceReads.{some-holds, none-holds, answer-spelled, answer-none, no_term-none}
+use Rattle.tptp_source.proofs.AboutWholes.SourceReads.{some-holds, none-holds, answer-spelled, answer-none, no_term-none}
 use Rattle.tptp_source.proofs.source.read_source.Goals as goal
 
 pub returns-in-Some-clause-spelled : goal.returns-in-Some-clause-spelled

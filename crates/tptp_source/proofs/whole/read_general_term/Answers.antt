@@ -1,4 +1,4 @@
-use Rattle.tptp_source.proofs.WholeReads.{more-none, all-spelled, halted-none}
+use Rattle.tptp_source.proofs.AboutWholes.WholeReads.{more-none, all-spelled, halted-none}
 use Rattle.tptp_source.proofs.whole.read_general_term.Goals as goal
 
 pub returns-then-next-tokens-clause-none : goal.returns-then-next-tokens-clause-none

@@ -1,7 +1,7 @@
 use Rattle.std.proofs.Common.{◌≡◌, ◌+◌, ◌-◌, ◌==◌, Some, suc, get_or, drop, sym, ap, ◌∙◌, arith, eq-eqb, ne_eqb}
 use Rattle.std.proofs.lemmas.Bool.{and_left, and_right}
 use Rattle.tptp_token.specs.Pieces.{block_end}
-use Rattle.tptp_token.proofs.PieceLemmas.{later, later-none, block-found, block-later, block-last}
+use Rattle.tptp_token.proofs.AboutTexts.PieceLemmas.{later, later-none, block-found, block-later, block-last}
 use Rattle.tptp_token.proofs.comment.block_end.Goals as goal
 use Rattle.tptp_token.proofs.comment.block_end.Goals.{else-bytes-at-eq42-via-then-bytes-at-eq42+else-bytes-at-eq47, else-bytes-at-eq42-via-else-bytes-at-eq42}
 

@@ -1,6 +1,6 @@
 use Rattle.std.proofs.Common.{◌≡◌, ◌-◌, drop}
 use Rattle.tptp_token.specs.Pieces.{block_end}
-use Rattle.tptp_token.proofs.PieceLemmas.{later}
+use Rattle.tptp_token.proofs.AboutTexts.PieceLemmas.{later}
 use Rattle.tptp_token.proofs.comment.block_end.Given as goal
 
 abbrev pub invariant-loop-at : goal.invariant-loop-at

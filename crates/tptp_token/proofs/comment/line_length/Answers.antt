@@ -2,7 +2,7 @@ use Rattle.std.proofs.Common.{rules, tests, ◌∙◌, ◌==◌, ap, length, not
 use Rattle.std.proofs.lemmas.Iterator.{YieldsList-from_slice}
 use Rattle.std.proofs.lemmas.Iterator.Search.{position_from_yields_List}
 use Rattle.tptp_token.specs.Pieces.{line_length}
-use Rattle.tptp_token.proofs.CountLemmas.{unwrap_or-position}
+use Rattle.tptp_token.proofs.AboutTexts.CountLemmas.{unwrap_or-position}
 use Rattle.tptp_token.proofs.comment.line_length.Goals as goal
 
 pub returns-clause-length : goal.returns-clause-length

@@ -1,4 +1,4 @@
-use Rattle.tptp_token.proofs.LexemeLemmas.{tokens-spelled}
+use Rattle.tptp_token.proofs.AboutLexemes.LexemeLemmas.{tokens-spelled}
 use Rattle.tptp_token.proofs.laws.tokens_are_spelled.Goals as goal
 
 pub returns : goal.returns

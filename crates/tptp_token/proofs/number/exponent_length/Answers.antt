@@ -1,6 +1,6 @@
 use Rattle.std.proofs.Common.{◌-◌, length, take, drop, sym, ◌∙◌}
-use Rattle.tptp_token.proofs.NumberLemmas.{no_exponent, exponent-signed, exponent-plain}
-use Rattle.tptp_token.proofs.WordLemmas.{suffix}
+use Rattle.tptp_token.proofs.AboutLexemes.NumberLemmas.{no_exponent, exponent-signed, exponent-plain}
+use Rattle.tptp_token.proofs.AboutLexemes.WordLemmas.{suffix}
 use Rattle.tptp_token.proofs.number.exponent_length.Goals as goal
 
 pub returns-then-not-starts_with_either-clause-length : goal.returns-then-not-starts_with_either-clause-length

@@ -1,6 +1,6 @@
 use Rattle.std.proofs.Common.{sym, ◌∙◌}
-use Rattle.tptp_token.proofs.NumberLemmas.{fraction, fraction-none}
-use Rattle.tptp_token.proofs.WordLemmas.{suffix}
+use Rattle.tptp_token.proofs.AboutLexemes.NumberLemmas.{fraction, fraction-none}
+use Rattle.tptp_token.proofs.AboutLexemes.WordLemmas.{suffix}
 use Rattle.tptp_token.proofs.number.fraction_length.Goals as goal
 
 pub returns-then-starts_with_either-clause-length : goal.returns-then-starts_with_either-clause-length

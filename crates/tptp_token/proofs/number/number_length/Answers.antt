@@ -1,5 +1,5 @@
-use Rattle.tptp_token.proofs.NumberLemmas.{number-length}
-use Rattle.tptp_token.proofs.WordLemmas.{suffix}
+use Rattle.tptp_token.proofs.AboutLexemes.NumberLemmas.{number-length}
+use Rattle.tptp_token.proofs.AboutLexemes.WordLemmas.{suffix}
 use Rattle.tptp_token.proofs.number.number_length.Goals as goal
 
 pub returns-clause-length : goal.returns-clause-length

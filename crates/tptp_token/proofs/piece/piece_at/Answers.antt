@@ -2,8 +2,8 @@ use Rattle.std.proofs.Common.{◌+◌, ◌==◌, length, sym, ap, subst, ◌∙�
 use Rattle.std.proofs.lemmas.Bool.{and_left, and_right}
 use Rattle.tptp_token.specs.Pieces.{StaysWithin}
 use Rattle.tptp_token.specs.declared.piece.Piece.TheVariants.{Space}
-use Rattle.tptp_token.proofs.PieceLemmas.{blank-piece, line-piece, comment-piece, other-piece-of, piece-within}
-use Rattle.tptp_token.proofs.WordLemmas.{suffix}
+use Rattle.tptp_token.proofs.AboutTexts.PieceLemmas.{blank-piece, line-piece, comment-piece, other-piece-of, piece-within}
+use Rattle.tptp_token.proofs.AboutLexemes.WordLemmas.{suffix}
 use Rattle.tptp_token.proofs.piece.piece_at.Goals as goal
 use Rattle.tptp_token.proofs.piece.piece_at.Goals.{else-first-eq47-via-then-first-eq47+else-starts_with, else-first-eq47-via-else-first-eq47}
 

@@ -1,6 +1,6 @@
 use Rattle.std.proofs.Common.{sym, ◌∙◌}
-use Rattle.tptp_token.proofs.WordLemmas.{lower-piece, variable-piece, mark-piece}
-use Rattle.tptp_token.proofs.NumberLemmas.{number-piece}
+use Rattle.tptp_token.proofs.AboutLexemes.WordLemmas.{lower-piece, variable-piece, mark-piece}
+use Rattle.tptp_token.proofs.AboutLexemes.NumberLemmas.{number-piece}
 use Rattle.tptp_token.proofs.piece.token_at.Goals as goal
 
 pub returns-then-is_lower : goal.returns-then-is_lower

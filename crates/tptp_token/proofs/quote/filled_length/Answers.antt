@@ -1,6 +1,6 @@
 use Rattle.std.proofs.Common.{arith}
-use Rattle.tptp_token.proofs.FillLemmas.{fills-more, fills-end}
-use Rattle.tptp_token.proofs.WordLemmas.{suffix, length-suffix}
+use Rattle.tptp_token.proofs.AboutTexts.FillLemmas.{fills-more, fills-end}
+use Rattle.tptp_token.proofs.AboutLexemes.WordLemmas.{suffix, length-suffix}
 use Rattle.tptp_token.proofs.quote.filled_length.Goals as goal
 
 pub returns-in-0-clause-length : goal.returns-in-0-clause-length

@@ -1,7 +1,7 @@
 use Rattle.std.proofs.Common.{◌+◌, inl, inr, sym, ap, ◌∙◌, arith}
 use Rattle.tptp_token.specs.declared.piece.Piece.TheVariants.{Bad}
-use Rattle.tptp_token.proofs.QuoteLemmas.{quote-open, quote-bad, quote-closed, closing}
-use Rattle.tptp_token.proofs.WordLemmas.{suffix}
+use Rattle.tptp_token.proofs.AboutLexemes.QuoteLemmas.{quote-open, quote-bad, quote-closed, closing}
+use Rattle.tptp_token.proofs.AboutLexemes.WordLemmas.{suffix}
 use Rattle.tptp_token.proofs.quote.quote_piece.Goals as goal
 use Rattle.tptp_token.proofs.quote.quote_piece.Goals.{else-filled-eq0-via-then-filled-eq0+else-quote-eq39, else-filled-eq0-via-else-filled-eq0}
 

@@ -1,5 +1,5 @@
 use Rattle.std.proofs.Common.{sym, ◌∙◌}
-use Rattle.tptp_token.proofs.FillLemmas.{pair-right, pair-stopped, byte-right, byte-stopped, quote-stopped}
+use Rattle.tptp_token.proofs.AboutTexts.FillLemmas.{pair-right, pair-stopped, byte-right, byte-stopped, quote-stopped}
 use Rattle.tptp_token.proofs.quote.unit_length.Goals as goal
 
 pub returns-then-starts_with_either-clause-right : goal.returns-then-starts_with_either-clause-right

@@ -1,7 +1,7 @@
 use Rattle.std.proofs.Common.{◌≡◌, ◌-◌, length, sym, ap, ◌∙◌, arith}
 use Rattle.tptp_token.specs.Lexing.{lexed_from}
-use Rattle.tptp_token.proofs.PieceLemmas.{after, start, token-next, space-next, bad-last, unclosed-last, end-last}
-use Rattle.tptp_token.proofs.WordLemmas.{suffix, length-suffix}
+use Rattle.tptp_token.proofs.AboutTexts.PieceLemmas.{after, start, token-next, space-next, bad-last, unclosed-last, end-last}
+use Rattle.tptp_token.proofs.AboutLexemes.WordLemmas.{suffix, length-suffix}
 use Rattle.tptp_token.proofs.scan.tokens.Goals as goal
 
 pub loop-first-init : goal.loop-first-init

@@ -1,6 +1,6 @@
 use Rattle.std.proofs.Common.{◌≡◌, ◌-◌, ◌≤◌, length}
 use Rattle.tptp_token.specs.Lexing.{lexed_from, lexed_of}
-use Rattle.tptp_token.proofs.PieceLemmas.{after}
+use Rattle.tptp_token.proofs.AboutTexts.PieceLemmas.{after}
 use Rattle.tptp_token.proofs.scan.tokens.Given as goal
 
 abbrev pub invariant-loop-first : goal.invariant-loop-first

@@ -1,6 +1,6 @@
 use Rattle.std.proofs.Common.{sym, ◌∙◌}
-use Rattle.tptp_token.proofs.SignLemmas.{long_arrow, short_arrow, less_sign-alone, less_sign-before_tilde}
-use Rattle.tptp_token.proofs.WordLemmas.{suffix}
+use Rattle.tptp_token.proofs.AboutLexemes.SignLemmas.{long_arrow, short_arrow, less_sign-alone, less_sign-before_tilde}
+use Rattle.tptp_token.proofs.AboutLexemes.WordLemmas.{suffix}
 use Rattle.tptp_token.proofs.sign.arrow_piece.Goals as goal
 
 pub returns-then-not-starts_with_either : goal.returns-then-not-starts_with_either

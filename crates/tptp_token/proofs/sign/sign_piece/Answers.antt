@@ -1,6 +1,6 @@
 use Rattle.std.proofs.Common.{sym, ◌∙◌, ap, arith}
 use Rattle.tptp_token.specs.Pieces.{plain_piece}
-use Rattle.tptp_token.proofs.SignLemmas.{not_equal, equal_sign, negation_sign, lone_sign, other_sign, no_sign}
+use Rattle.tptp_token.proofs.AboutLexemes.SignLemmas.{not_equal, equal_sign, negation_sign, lone_sign, other_sign, no_sign}
 use Rattle.tptp_token.proofs.sign.sign_piece.Goals as goal
 
 pub returns-in-126 : goal.returns-in-126

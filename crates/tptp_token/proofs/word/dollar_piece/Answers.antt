@@ -1,5 +1,5 @@
 use Rattle.std.proofs.Common.{sym, ◌∙◌, arith}
-use Rattle.tptp_token.proofs.WordLemmas.{one_dollar-piece, one_dollar-bad, two_dollars-piece, two_dollars-bad, suffix}
+use Rattle.tptp_token.proofs.AboutLexemes.WordLemmas.{one_dollar-piece, one_dollar-bad, two_dollars-piece, two_dollars-bad, suffix}
 use Rattle.tptp_token.proofs.word.dollar_piece.Goals as goal
 
 pub returns-in-0 : goal.returns-in-0

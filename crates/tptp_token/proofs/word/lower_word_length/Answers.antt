@@ -2,7 +2,7 @@ use Rattle.std.proofs.Common.{ap, sym, ◌∙◌}
 use Rattle.std.proofs.lemmas.Bool.{and_left}
 use Rattle.tptp_token.specs.Spelling.{is_lower, is_lower_word}
 use Rattle.tptp_token.specs.Longest.{longest}
-use Rattle.tptp_token.proofs.WordLemmas.{lower_word-length, none_begins, no_bytes}
+use Rattle.tptp_token.proofs.AboutLexemes.WordLemmas.{lower_word-length, none_begins, no_bytes}
 use Rattle.tptp_token.proofs.word.lower_word_length.Goals as goal
 
 pub returns-in-Some-clause-length : goal.returns-in-Some-clause-length

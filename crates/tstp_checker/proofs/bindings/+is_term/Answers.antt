@@ -1,5 +1,5 @@
 use Rattle.std.proofs.Common.{◌∙◌, arith}
-use Rattle.tstp_checker.proofs.BindingLemmas.{general-item-is, word-terms}
+use Rattle.tstp_checker.proofs.AboutReadings.BindingLemmas.{general-item-is, word-terms}
 use Rattle.tstp_checker.proofs.bindings.+is_term.Goals as goal
 
 pub are_terms-is_term-requires : goal.are_terms-is_term-requires

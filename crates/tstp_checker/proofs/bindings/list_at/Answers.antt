@@ -2,7 +2,7 @@ use Rattle.std.proofs.Common.{◌∙◌, ap, sym}
 use Rattle.std.specs.Prelude.{Some}
 use Rattle.tptp_source.specs.Shape.{tree_of}
 use Rattle.tstp_checker.specs.Bindings.{list_at}
-use Rattle.tstp_checker.proofs.BindingLemmas.{listed-generals}
+use Rattle.tstp_checker.proofs.AboutReadings.BindingLemmas.{listed-generals}
 use Rattle.tstp_checker.proofs.bindings.list_at.Goals as goal
 
 pub returns-in-Listed : goal.returns-in-Listed

@@ -2,7 +2,7 @@ use Rattle.std.proofs.Common.{◌≡◌, ◌++◌, map}
 use Rattle.std.specs.Prelude.{filter_map}
 use Rattle.tptp_tree.specs.Shape.{formula_of}
 use Rattle.clausal_form.specs.DerivationClause.{literal_name}
-use Rattle.tstp_checker.proofs.ClauseLemmas.{names_left}
+use Rattle.tstp_checker.proofs.AboutReadings.ClauseLemmas.{names_left}
 use Rattle.tstp_checker.proofs.clause.clause_names.Given as goal
 
 abbrev pub invariant-loop-literal : goal.invariant-loop-literal

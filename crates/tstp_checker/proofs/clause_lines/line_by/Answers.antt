@@ -3,7 +3,7 @@ use Rattle.std.specs.Prelude.{if◌then◌else◌}
 use Rattle.fol_base.specs.Literal.{clause_of}
 use Rattle.clausal_form.specs.DerivationLine.{kernel_line}
 use Rattle.clausal_form.specs.DerivationCauses.{new_symbol, refused, taken}
-use Rattle.tstp_checker.proofs.KernelLineLemmas.{line-back}
+use Rattle.tstp_checker.proofs.AboutVerdicts.KernelLineLemmas.{line-back}
 use Rattle.tstp_checker.proofs.clause_lines.line_by.Goals as goal
 
 pub returns-clause-verdict : goal.returns-clause-verdict

@@ -1,5 +1,5 @@
 use Rattle.std.proofs.Common.{◌∙◌}
-use Rattle.tstp_checker.proofs.CheckLemmas.{accepted-so, refused-so, accepted-refutes}
+use Rattle.tstp_checker.proofs.AboutDerivations.CheckLemmas.{accepted-so, refused-so, accepted-refutes}
 use Rattle.tstp_checker.proofs.derivation.check.Goals as goal
 
 pub returns-clause-accepted : goal.returns-clause-accepted

@@ -2,7 +2,7 @@ use Rattle.std.proofs.Common.{◌≤◌, ◌∙◌, length, subst, arith, ap}
 use Rattle.tptp_token.specs.declared.token.Lexed.{Lexed}
 use Rattle.tstp_checker.specs.Lines.{setting_in, taken_in}
 use Rattle.tstp_checker.specs.Checking.{IsTakenAt}
-use Rattle.tstp_checker.proofs.CheckLemmas.{text-tokens-few, one-more, ended-accepted, ended-refused, fault-told, passed}
+use Rattle.tstp_checker.proofs.AboutDerivations.CheckLemmas.{text-tokens-few, one-more, ended-accepted, ended-refused, fault-told, passed}
 use Rattle.tstp_checker.proofs.derivation.check_lines.Goals as goal
 
 pub returns-in_err-next-clause-refused : goal.returns-in_err-next-clause-refused

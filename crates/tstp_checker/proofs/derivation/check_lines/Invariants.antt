@@ -1,6 +1,6 @@
 use Rattle.std.proofs.Common.{◌≡◌, ◌-◌, length}
 use Rattle.tstp_checker.specs.Lines.{setting_in, taken_in, IsReady}
-use Rattle.tstp_checker.proofs.CheckLemmas.{AreTakenTo}
+use Rattle.tstp_checker.proofs.AboutDerivations.CheckLemmas.{AreTakenTo}
 use Rattle.tstp_checker.proofs.derivation.check_lines.Given as goal
 
 abbrev pub invariant-loop-next : goal.invariant-loop-next

@@ -1,6 +1,6 @@
 use Rattle.std.proofs.Common.{ap, length, arith}
 use Rattle.tptp_token.specs.declared.token.Lexed.{Lexed}
-use Rattle.tstp_checker.proofs.CheckLemmas.{text-tokens-few}
+use Rattle.tstp_checker.proofs.AboutDerivations.CheckLemmas.{text-tokens-few}
 use Rattle.tstp_checker.proofs.derivation.take_line.Goals as goal
 
 -- a text has at most one token for each byte, so the lines are few enough

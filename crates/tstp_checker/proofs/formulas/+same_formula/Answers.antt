@@ -1,8 +1,8 @@
 use Rattle.std.proofs.Common.{arith, map, sym, ◌∙◌}
 use Rattle.tptp_tree.specs.Shape.{formula_of}
 use Rattle.tptp_tree.proofs.SizeLemmas.{formula-item-is}
-use Rattle.tstp_checker.proofs.TableLemmas.{length-mapped}
-use Rattle.tstp_checker.proofs.FormulaLemmas.{formulas-lengths}
+use Rattle.tstp_checker.proofs.AboutReadings.TableLemmas.{length-mapped}
+use Rattle.tstp_checker.proofs.AboutReadings.FormulaLemmas.{formulas-lengths}
 use Rattle.tstp_checker.proofs.formulas.+same_formula.Goals as goal
 
 pub same_formulas-returns-then-left-right : goal.same_formulas-returns-then-left-right

@@ -1,8 +1,8 @@
 use Rattle.std.proofs.Common.{arith, map, sym, ◌∙◌}
 use Rattle.tptp_tree.specs.Shape.{term_of}
 use Rattle.tptp_tree.proofs.SizeLemmas.{term-item-is}
-use Rattle.tstp_checker.proofs.TableLemmas.{length-mapped}
-use Rattle.tstp_checker.proofs.FormulaLemmas.{terms-lengths}
+use Rattle.tstp_checker.proofs.AboutReadings.TableLemmas.{length-mapped}
+use Rattle.tstp_checker.proofs.AboutReadings.FormulaLemmas.{terms-lengths}
 use Rattle.tstp_checker.proofs.formulas.+same_term.Goals as goal
 
 pub same_terms-returns-then-left-right : goal.same_terms-returns-then-left-right

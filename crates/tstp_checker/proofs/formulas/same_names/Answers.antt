@@ -1,4 +1,4 @@
-use Rattle.tstp_checker.proofs.FormulaLemmas.{names-lengths}
+use Rattle.tstp_checker.proofs.AboutReadings.FormulaLemmas.{names-lengths}
 use Rattle.tstp_checker.proofs.formulas.same_names.Goals as goal
 
 pub returns-then-left-right : goal.returns-then-left-right

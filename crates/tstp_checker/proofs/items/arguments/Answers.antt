@@ -1,7 +1,7 @@
 use Rattle.std.proofs.Common.{ap, sym, ◌∙◌}
 use Rattle.tptp_source.specs.Shape.{tree_of}
 use Rattle.clausal_form.specs.DerivationItems.{arguments}
-use Rattle.tstp_checker.proofs.BindingLemmas.{listed-generals}
+use Rattle.tstp_checker.proofs.AboutReadings.BindingLemmas.{listed-generals}
 use Rattle.tstp_checker.proofs.items.arguments.Goals as goal
 
 pub returns-in-Word : goal.returns-in-Word

@@ -1,6 +1,6 @@
 use Rattle.std.proofs.Common.{map}
 use Rattle.tstp_checker.specs.Items.{item_word}
-use Rattle.tstp_checker.proofs.ItemLemmas.{argument-added, argument-skipped, arguments-end}
+use Rattle.tstp_checker.proofs.AboutVerdicts.ItemLemmas.{argument-added, argument-skipped, arguments-end}
 use Rattle.tstp_checker.proofs.items.arguments_with.Goals as goal
 
 pub loop-item-preserved-then-not-has_one_of : goal.loop-item-preserved-then-not-has_one_of

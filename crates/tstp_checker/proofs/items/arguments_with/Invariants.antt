@@ -2,7 +2,7 @@ use Rattle.std.proofs.Common.{◌≡◌, ◌++◌, map}
 use Rattle.tptp_source.specs.Shape.{tree_of}
 use Rattle.clausal_form.specs.DerivationItems.{arguments, items_with}
 use Rattle.tstp_checker.specs.Items.{item_word, terms_lent}
-use Rattle.tstp_checker.proofs.ItemLemmas.{row_left}
+use Rattle.tstp_checker.proofs.AboutVerdicts.ItemLemmas.{row_left}
 use Rattle.tstp_checker.proofs.items.arguments_with.Given as goal
 
 abbrev pub invariant-loop-item : goal.invariant-loop-item

@@ -1,7 +1,7 @@
 use Rattle.std.proofs.Common.{◌∷◌, map}
 use Rattle.std.specs.Prelude.{codes}
 use Rattle.tstp_checker.specs.Items.{item_word}
-use Rattle.tstp_checker.proofs.ItemLemmas.{asked-skip, asked-none, asked-next, asked-end}
+use Rattle.tstp_checker.proofs.AboutVerdicts.ItemLemmas.{asked-skip, asked-none, asked-next, asked-end}
 use Rattle.tstp_checker.proofs.items.have_words.Goals as goal
 
 pub loop-item-preserved-then-not-is_of_row : goal.loop-item-preserved-then-not-is_of_row

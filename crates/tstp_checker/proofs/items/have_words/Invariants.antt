@@ -3,7 +3,7 @@ use Rattle.std.specs.Prelude.{codes}
 use Rattle.tptp_source.specs.Shape.{tree_of}
 use Rattle.clausal_form.specs.DerivationItems.{have_words, items_with}
 use Rattle.tstp_checker.specs.Items.{item_word}
-use Rattle.tstp_checker.proofs.ItemLemmas.{Asked}
+use Rattle.tstp_checker.proofs.AboutVerdicts.ItemLemmas.{Asked}
 use Rattle.tstp_checker.proofs.items.have_words.Given as goal
 
 abbrev pub invariant-loop-item : goal.invariant-loop-item

@@ -1,7 +1,7 @@
 use Rattle.std.proofs.Common.{ap, sym, ◌∙◌}
 use Rattle.tptp_source.specs.Shape.{tree_of}
 use Rattle.clausal_form.specs.DerivationItems.{is_plain}
-use Rattle.tstp_checker.proofs.ItemLemmas.{not-plain}
+use Rattle.tstp_checker.proofs.AboutVerdicts.ItemLemmas.{not-plain}
 use Rattle.tstp_checker.proofs.items.is_plain.Goals as goal
 
 pub returns-else-is_empty : goal.returns-else-is_empty

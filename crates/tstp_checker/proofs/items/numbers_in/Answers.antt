@@ -1,6 +1,6 @@
 use Rattle.std.proofs.Common.{ap}
 use Rattle.tptp_source.specs.Shape.{tree_of}
-use Rattle.tstp_checker.proofs.ItemLemmas.{numbers-read}
+use Rattle.tstp_checker.proofs.AboutVerdicts.ItemLemmas.{numbers-read}
 use Rattle.tstp_checker.proofs.items.numbers_in.Goals as goal
 
 pub returns-in-Listed : goal.returns-in-Listed

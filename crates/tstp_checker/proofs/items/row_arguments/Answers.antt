@@ -1,6 +1,6 @@
 use Rattle.std.proofs.Common.{ap, map}
 use Rattle.tptp_source.specs.Shape.{tree_of}
-use Rattle.tstp_checker.proofs.ItemLemmas.{no-items, row-nothing, row-not-status, row-not-words, row-there}
+use Rattle.tstp_checker.proofs.AboutVerdicts.ItemLemmas.{no-items, row-nothing, row-not-status, row-not-words, row-there}
 use Rattle.tstp_checker.proofs.items.row_arguments.Goals as goal
 
 pub returns-in_default : goal.returns-in_default

@@ -1,4 +1,4 @@
-use Rattle.tstp_checker.proofs.LinesLemmas.{clause-empty, clause-not-empty}
+use Rattle.tstp_checker.proofs.AboutDerivations.LinesLemmas.{clause-empty, clause-not-empty}
 use Rattle.tstp_checker.proofs.lines.is_empty.Goals as goal
 
 pub returns-then-is_empty : goal.returns-then-is_empty

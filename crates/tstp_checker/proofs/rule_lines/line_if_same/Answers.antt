@@ -2,7 +2,7 @@ use Rattle.std.proofs.Common.{Bool, ap, sym}
 use Rattle.std.specs.Prelude.{not, if◌then◌else◌}
 use Rattle.fol_base.specs.Literal.{clause_of}
 use Rattle.clausal_form.specs.DerivationCauses.{conclusion, refused}
-use Rattle.tstp_checker.proofs.ClauseLineLemmas.{line_of, same-so, verdict-as}
+use Rattle.tstp_checker.proofs.AboutVerdicts.ClauseLineLemmas.{line_of, same-so, verdict-as}
 use Rattle.tstp_checker.proofs.rule_lines.line_if_same.Goals as goal
 
 pub returns-then-not-same_clause-clause-verdict : goal.returns-then-not-same_clause-clause-verdict

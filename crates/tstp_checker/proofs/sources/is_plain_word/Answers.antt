@@ -2,7 +2,7 @@ use Rattle.std.proofs.Common.{ap, sym, ◌∙◌}
 use Rattle.std.specs.Prelude.{is_some}
 use Rattle.tptp_source.specs.Shape.{tree_of}
 use Rattle.clausal_form.specs.DerivationItems.{plain_word}
-use Rattle.tstp_checker.proofs.ItemLemmas.{word-plain}
+use Rattle.tstp_checker.proofs.AboutVerdicts.ItemLemmas.{word-plain}
 use Rattle.tstp_checker.proofs.sources.is_plain_word.Goals as goal
 
 pub returns-in-Word : goal.returns-in-Word

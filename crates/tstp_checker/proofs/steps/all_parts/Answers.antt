@@ -1,6 +1,6 @@
 use Rattle.std.proofs.Common.{sym, ◌∙◌}
 use Rattle.clausal_form.specs.DerivationItems.{numbers_in}
-use Rattle.tstp_checker.proofs.ItemLemmas.{all-starts, all-none, all-more, all-end}
+use Rattle.tstp_checker.proofs.AboutVerdicts.ItemLemmas.{all-starts, all-none, all-more, all-end}
 use Rattle.tstp_checker.proofs.steps.all_parts.Goals as goal
 
 pub loop-list-init : goal.loop-list-init

@@ -2,7 +2,7 @@ use Rattle.std.proofs.Common.{◌≡◌, map}
 use Rattle.kernel_steps.specs.Parents.{all_there}
 use Rattle.tptp_source.specs.Shape.{tree_of}
 use Rattle.clausal_form.specs.DerivationItems.{numbers_in}
-use Rattle.tstp_checker.proofs.ItemLemmas.{joined, all_left}
+use Rattle.tstp_checker.proofs.AboutVerdicts.ItemLemmas.{joined, all_left}
 use Rattle.tstp_checker.proofs.steps.all_parts.Given as goal
 
 abbrev pub invariant-loop-list : goal.invariant-loop-list

@@ -1,5 +1,5 @@
 use Rattle.clausal_form.specs.DerivationItems.{introduced_in}
-use Rattle.tstp_checker.proofs.ItemLemmas.{all-starts, all-none, all-more, all-end}
+use Rattle.tstp_checker.proofs.AboutVerdicts.ItemLemmas.{all-starts, all-none, all-more, all-end}
 use Rattle.tstp_checker.proofs.steps.all_pivots.Goals as goal
 
 pub loop-term-init : goal.loop-term-init

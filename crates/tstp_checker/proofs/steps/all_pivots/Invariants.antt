@@ -2,7 +2,7 @@ use Rattle.std.proofs.Common.{◌≡◌, map}
 use Rattle.kernel_steps.specs.Parents.{all_there}
 use Rattle.tptp_source.specs.Shape.{tree_of}
 use Rattle.clausal_form.specs.DerivationItems.{introduced_in}
-use Rattle.tstp_checker.proofs.ItemLemmas.{joined, all_left}
+use Rattle.tstp_checker.proofs.AboutVerdicts.ItemLemmas.{joined, all_left}
 use Rattle.tstp_checker.proofs.steps.all_pivots.Given as goal
 
 abbrev pub invariant-loop-term : goal.invariant-loop-term

@@ -1,7 +1,7 @@
 use Rattle.std.proofs.Common.{ap, sym, ◌∙◌}
 use Rattle.std.specs.Prelude.{option_map}
 use Rattle.tstp_checker.specs.Items.{into_meant}
-use Rattle.tstp_checker.proofs.StepLemmas.{para-is}
+use Rattle.tstp_checker.proofs.AboutVerdicts.StepLemmas.{para-is}
 use Rattle.tstp_checker.proofs.steps.para_step.Goals as goal
 
 pub returns-in_default-read : goal.returns-in_default-read

@@ -1,5 +1,5 @@
 use Rattle.clausal_form.specs.DerivationItems.{introduced_in}
-use Rattle.tstp_checker.proofs.ItemLemmas.{list-read}
+use Rattle.tstp_checker.proofs.AboutVerdicts.ItemLemmas.{list-read}
 use Rattle.tstp_checker.proofs.steps.pivots_in.Goals as goal
 
 pub returns-in-Some : goal.returns-in-Some

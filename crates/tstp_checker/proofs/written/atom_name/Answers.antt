@@ -1,7 +1,7 @@
 use Rattle.std.proofs.Common.{sym, ap, ◌∙◌}
 use Rattle.tptp_tree.specs.Shape.{formula_of}
 use Rattle.clausal_form.specs.DerivationClause.{atom_name}
-use Rattle.tstp_checker.proofs.WrittenLemmas.{no-name}
+use Rattle.tstp_checker.proofs.AboutReadings.WrittenLemmas.{no-name}
 use Rattle.tstp_checker.proofs.written.atom_name.Goals as goal
 
 pub returns-in_default : goal.returns-in_default

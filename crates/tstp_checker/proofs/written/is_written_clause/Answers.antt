@@ -1,4 +1,4 @@
-use Rattle.tstp_checker.proofs.WrittenLemmas.{written-not-after}
+use Rattle.tstp_checker.proofs.AboutReadings.WrittenLemmas.{written-not-after}
 use Rattle.tstp_checker.proofs.written.is_written_clause.Goals as goal
 
 pub returns-then-not-may_follow : goal.returns-then-not-may_follow

@@ -1,7 +1,7 @@
 use Rattle.std.proofs.Common.{◌≡◌}
 use Rattle.tptp_tree.specs.Shape.{formula_of}
 use Rattle.clausal_form.specs.DerivationClause.{is_written_clause}
-use Rattle.tstp_checker.proofs.WrittenLemmas.{written_from}
+use Rattle.tstp_checker.proofs.AboutReadings.WrittenLemmas.{written_from}
 use Rattle.tstp_checker.proofs.written.is_written_clause.Given as goal
 
 abbrev pub invariant-loop-literal : goal.invariant-loop-literal

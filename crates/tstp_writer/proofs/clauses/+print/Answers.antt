@@ -1,6 +1,6 @@
 use Rattle.std.proofs.Common.{◌≡◌, map, refl, arith}
 use Rattle.fol_base.specs.Term.{tree_of}
-use Rattle.fol_base.proofs.TermLemmas.{tree_size-item}
+use Rattle.fol_base.proofs.AboutTerms.TermLemmas.{tree_size-item}
 use Rattle.tstp_writer.proofs.clauses.+print.Goals as goal
 
 pub push_more_arguments-push_term-requires : goal.push_more_arguments-push_term-requires

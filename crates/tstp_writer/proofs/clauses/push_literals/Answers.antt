@@ -1,6 +1,6 @@
 use Rattle.std.proofs.Common.{map}
 use Rattle.fol_base.specs.Literal.{literal_of}
-use Rattle.tstp_writer.proofs.TextLemmas.{three_added, added, clause_of_parts}
+use Rattle.tstp_writer.proofs.AboutPrinted.TextLemmas.{three_added, added, clause_of_parts}
 use Rattle.tstp_writer.proofs.clauses.push_literals.Goals as goal
 
 pub returns : goal.returns

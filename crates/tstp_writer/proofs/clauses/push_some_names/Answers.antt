@@ -1,4 +1,4 @@
-use Rattle.tstp_writer.proofs.TextLemmas.{two_added, added, names_of_parts}
+use Rattle.tstp_writer.proofs.AboutPrinted.TextLemmas.{two_added, added, names_of_parts}
 use Rattle.tstp_writer.proofs.clauses.push_some_names.Goals as goal
 
 pub returns : goal.returns

@@ -1,6 +1,6 @@
 use Rattle.std.proofs.Common.{map}
 use Rattle.fol_base.specs.Term.{tree_of}
-use Rattle.tstp_writer.proofs.TextLemmas.{three_added, added, bind-text}
+use Rattle.tstp_writer.proofs.AboutPrinted.TextLemmas.{three_added, added, bind-text}
 use Rattle.tstp_writer.proofs.items.push_bind.Goals as goal
 
 pub returns : goal.returns

@@ -1,4 +1,4 @@
-use Rattle.tstp_writer.proofs.TextLemmas.{three_added, added, pivots_of_parts}
+use Rattle.tstp_writer.proofs.AboutPrinted.TextLemmas.{three_added, added, pivots_of_parts}
 use Rattle.tstp_writer.proofs.items.push_pivots.Goals as goal
 
 pub returns : goal.returns

@@ -1,4 +1,4 @@
-use Rattle.tstp_writer.proofs.EarlierLemmas.{need-earlier}
+use Rattle.tstp_writer.proofs.AboutNeeded.EarlierLemmas.{need-earlier}
 use Rattle.tstp_writer.proofs.laws.derivations_need_earlier.Goals as goal
 
 pub returns : goal.returns

@@ -1,4 +1,4 @@
-use Rattle.tstp_writer.proofs.ShownSymbols.{form-symbols-shown}
+use Rattle.tstp_writer.proofs.ReadAgain.ShownSymbols.{form-symbols-shown}
 use Rattle.tstp_writer.proofs.laws.form_symbols_are_shown.Goals as goal
 
 pub returns : goal.returns

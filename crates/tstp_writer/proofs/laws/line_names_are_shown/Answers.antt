@@ -1,4 +1,4 @@
-use Rattle.tstp_writer.proofs.ProblemLemmas.{line_name-shown}
+use Rattle.tstp_writer.proofs.ReadAgain.ProblemLemmas.{line_name-shown}
 use Rattle.tstp_writer.proofs.laws.line_names_are_shown.Goals as goal
 
 pub returns : goal.returns

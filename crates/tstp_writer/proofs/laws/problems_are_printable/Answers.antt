@@ -1,5 +1,5 @@
-use Rattle.tstp_writer.proofs.ProblemLemmas.{formulas-printable, problem-lines-printable}
-use Rattle.tstp_writer.proofs.ProblemTrees.{script-printable, beginning-printable}
+use Rattle.tstp_writer.proofs.ReadAgain.ProblemLemmas.{formulas-printable, problem-lines-printable}
+use Rattle.tstp_writer.proofs.ReadAgain.ProblemTrees.{script-printable, beginning-printable}
 use Rattle.tstp_writer.proofs.laws.problems_are_printable.Goals as goal
 
 pub returns : goal.returns

@@ -4,8 +4,8 @@ use Rattle.std.proofs.lemmas.List.{length-map}
 use Rattle.clausal_form.specs.DerivationLine.{entry_of}
 use Rattle.tstp_writer.specs.LineTrees.{lines_at, is_conjecture_at}
 use Rattle.tstp_writer.specs.Scripts.{script_in}
-use Rattle.tstp_writer.proofs.CitedLemmas.{cited-below}
-use Rattle.tstp_writer.proofs.PlaceLemmas.{all-passing}
+use Rattle.tstp_writer.proofs.AboutNeeded.CitedLemmas.{cited-below}
+use Rattle.tstp_writer.proofs.AboutPrinted.PlaceLemmas.{all-passing}
 use Rattle.tstp_writer.proofs.layout.lay_out.Goals as goal
 
 pub of-requires : goal.of-requires

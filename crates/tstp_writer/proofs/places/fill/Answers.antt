@@ -2,7 +2,7 @@ use Rattle.std.proofs.Common.{◌≡◌, ℕ, ◌+◌, ◌-◌, length, drop, �
 use Rattle.std.proofs.lemmas.Option.{slice_get-get_or}
 use Rattle.tstp_writer.specs.LineTrees.{place_in}
 use Rattle.tstp_writer.specs.Places.{told_place}
-use Rattle.tstp_writer.proofs.LayoutLemmas.{one-earlier}
+use Rattle.tstp_writer.proofs.AboutPrinted.LayoutLemmas.{one-earlier}
 use Rattle.tstp_writer.proofs.places.fill.Goals as goal
 
 pub loop-left-preserved : goal.loop-left-preserved

@@ -4,9 +4,9 @@ use Rattle.tptp_token.specs.Spelling.{is_lower_word}
 use Rattle.clausal_form.specs.Form.{form_of}
 use Rattle.kernel_steps.specs.declared.step.Line.{Line}
 use Rattle.tstp_writer.specs.Written.{IsWritten}
-use Rattle.tstp_writer.proofs.AcceptedTexts.{text-accepted}
-use Rattle.tstp_writer.proofs.LayoutLemmas.{cone-below}
-use Rattle.tstp_writer.proofs.ScriptLemmas.{prefix-lower, script_with, script-is, written, numbered}
+use Rattle.tstp_writer.proofs.AboutPrinted.AcceptedTexts.{text-accepted}
+use Rattle.tstp_writer.proofs.AboutPrinted.LayoutLemmas.{cone-below}
+use Rattle.tstp_writer.proofs.AboutPrinted.ScriptLemmas.{prefix-lower, script_with, script-is, written, numbered}
 use Rattle.tstp_writer.proofs.write.write_lines.Goals as goal
 
 pub lay_out-requires : goal.lay_out-requires

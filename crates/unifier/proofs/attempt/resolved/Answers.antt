@@ -1,6 +1,6 @@
 use Rattle.std.proofs.Common.{arith}
 use Rattle.fol_base.specs.Term.{tree_of}
-use Rattle.unifier.proofs.FoundLemmas.{equations-found, equations-in-order}
+use Rattle.unifier.proofs.AboutClasses.FoundLemmas.{equations-found, equations-in-order}
 use Rattle.unifier.proofs.attempt.resolved.Goals as goal
 
 pub returns : goal.returns

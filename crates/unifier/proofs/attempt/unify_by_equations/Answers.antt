@@ -1,5 +1,5 @@
 use Rattle.fol_base.specs.Term.{tree_of}
-use Rattle.unifier.proofs.FoundLemmas.{forced-from-none, clashed-unified}
+use Rattle.unifier.proofs.AboutClasses.FoundLemmas.{forced-from-none, clashed-unified}
 use Rattle.unifier.proofs.attempt.unify_by_equations.Goals as goal
 
 pub resolved-requires : goal.resolved-requires

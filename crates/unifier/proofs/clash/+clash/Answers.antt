@@ -1,7 +1,7 @@
 use Rattle.std.proofs.Common.{◌≡◌, map, refl, sym, ◌∙◌, arith}
 use Rattle.fol_base.specs.Term.{tree_of}
-use Rattle.fol_base.proofs.TermLemmas.{tree_size-item, length-trees}
-use Rattle.unifier.proofs.ClashLemmas.{clash_in-lengths}
+use Rattle.fol_base.proofs.AboutTerms.TermLemmas.{tree_size-item, length-trees}
+use Rattle.unifier.proofs.AboutClasses.ClashLemmas.{clash_in-lengths}
 use Rattle.unifier.proofs.clash.+clash.Goals as goal
 
 pub clash_in-clash-requires : goal.clash_in-clash-requires

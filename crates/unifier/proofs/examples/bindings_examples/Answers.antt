@@ -1,4 +1,4 @@
-use Rattle.unifier.proofs.ExampleLemmas.{is_unified, leaves_others, are_renamed}
+use Rattle.unifier.proofs.AboutMatching.ExampleLemmas.{is_unified, leaves_others, are_renamed}
 use Rattle.unifier.proofs.examples.bindings_examples.Goals as goal
 
 pub returns-clause-unified : goal.returns-clause-unified

@@ -1,4 +1,4 @@
-use Rattle.unifier.proofs.ExampleLemmas.{contains_itself, clashes, after_both, function_pair, predicate_pair}
+use Rattle.unifier.proofs.AboutMatching.ExampleLemmas.{contains_itself, clashes, after_both, function_pair, predicate_pair}
 use Rattle.unifier.proofs.examples.law_examples.Goals as goal
 
 pub returns-clause-contains_itself : goal.returns-clause-contains_itself

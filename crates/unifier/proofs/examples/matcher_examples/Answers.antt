@@ -1,4 +1,4 @@
-use Rattle.unifier.proofs.ExampleLemmas.{matched, two_terms, other_pair}
+use Rattle.unifier.proofs.AboutMatching.ExampleLemmas.{matched, two_terms, other_pair}
 use Rattle.unifier.proofs.examples.matcher_examples.Goals as goal
 
 pub returns-clause-matched : goal.returns-clause-matched

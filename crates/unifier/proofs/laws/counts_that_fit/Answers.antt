@@ -1,4 +1,4 @@
-use Rattle.unifier.proofs.BoundLemmas.{fit-leaves-others, fit-leaves-others-apart, fits-above}
+use Rattle.unifier.proofs.AboutLayouts.BoundLemmas.{fit-leaves-others, fit-leaves-others-apart, fits-above}
 use Rattle.unifier.proofs.laws.counts_that_fit.Goals as goal
 
 pub returns-clause-together : goal.returns-clause-together

@@ -1,4 +1,4 @@
-use Rattle.unifier.proofs.SharedLemmas.{shared_keep_sizes}
+use Rattle.unifier.proofs.AboutClasses.SharedLemmas.{shared_keep_sizes}
 use Rattle.unifier.proofs.laws.shared_substitutions_keep_sizes.Goals as goal
 
 pub returns : goal.returns

@@ -1,4 +1,4 @@
-use Rattle.unifier.proofs.SharedLemmas.{shared_unify, shared_unify_apart, shared_unify_one}
+use Rattle.unifier.proofs.AboutClasses.SharedLemmas.{shared_unify, shared_unify_apart, shared_unify_one}
 use Rattle.unifier.proofs.laws.shared_substitutions_unify.Goals as goal
 
 pub returns-clause-together : goal.returns-clause-together

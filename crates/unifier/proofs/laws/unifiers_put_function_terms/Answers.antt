@@ -1,4 +1,4 @@
-use Rattle.unifier.proofs.KindLemmas.{unifiers_put_function_terms, unifiers_apart_put_function_terms}
+use Rattle.unifier.proofs.AboutLayouts.KindLemmas.{unifiers_put_function_terms, unifiers_apart_put_function_terms}
 use Rattle.unifier.proofs.laws.unifiers_put_function_terms.Goals as goal
 
 pub returns-clause-together : goal.returns-clause-together

@@ -2,8 +2,8 @@ use Rattle.std.proofs.Common.{◌≡◌, refl, List, ℕ, ◌++◌, map, take, a
 use Rattle.std.proofs.lemmas.List.{map-append}
 use Rattle.fol_base.specs.Tree.{trees_of, tree_variables, trees_variables}
 use Rattle.fol_base.specs.Term.{tree_of}
-use Rattle.fol_base.proofs.TermLemmas.{tree_size-item}
-use Rattle.fol_base.proofs.VariableLemmas.{trees_variables-take_more}
+use Rattle.fol_base.proofs.AboutTerms.TermLemmas.{tree_size-item}
+use Rattle.fol_base.proofs.AboutTerms.VariableLemmas.{trees_variables-take_more}
 use Rattle.unifier.specs.SolvedForm.{code_of}
 use Rattle.unifier.proofs.layout.+push_codes.Goals as goal
 

@@ -1,7 +1,7 @@
 use Rattle.std.proofs.Common.{Ok, Err, sym, rules}
 use Rattle.std.proofs.lemmas.List.Sorted.{answers_always}
 use Rattle.unifier.specs.declared.layout.Place.{Place}
-use Rattle.unifier.proofs.PlaceLemmas.{halved}
+use Rattle.unifier.proofs.AboutLayouts.PlaceLemmas.{halved}
 use Rattle.unifier.proofs.layout.find_place.Goals as goal
 
 pub returns-in-Ok : goal.returns-in-Ok

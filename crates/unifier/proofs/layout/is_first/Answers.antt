@@ -1,7 +1,7 @@
 use Rattle.std.proofs.Common.{ℕ, ◌<◌, ◌-◌, not, get_or, ap, sym, ◌∙◌, ⊎_elim, arith}
 use Rattle.std.proofs.lemmas.Bool.{cases_lt}
-use Rattle.unifier.proofs.PlaceLemmas.{ltb-is, ltb-not}
-use Rattle.unifier.proofs.CodeLemmas.{first-above, first-equal}
+use Rattle.unifier.proofs.AboutLayouts.PlaceLemmas.{ltb-is, ltb-not}
+use Rattle.unifier.proofs.AboutClasses.CodeLemmas.{first-above, first-equal}
 use Rattle.unifier.proofs.layout.is_first.Goals as goal
 
 pub returns : goal.returns

@@ -1,7 +1,7 @@
 use Rattle.std.proofs.Common.{ap, ◌∙◌, subst, sym}
 use Rattle.unifier.specs.Laws.{AreFunctionPairs}
 use Rattle.unifier.specs.Matching.{are_below}
-use Rattle.unifier.proofs.MatchLemmas.{extended-found, extended-none}
+use Rattle.unifier.proofs.AboutMatching.MatchLemmas.{extended-found, extended-none}
 use Rattle.unifier.proofs.matching.match_onto.Goals as goal
 
 pub returns-then-branch-clause-found : goal.returns-then-branch-clause-found

@@ -1,9 +1,9 @@
 use Rattle.std.proofs.Common.{Option, length, refl, subst}
 use Rattle.unifier.specs.declared.placing.Placing.{Placing}
 use Rattle.unifier.specs.Placing.{IsOrdering}
-use Rattle.unifier.proofs.ClassLemmas.{when-true, when-false}
-use Rattle.unifier.proofs.SolvedLemmas.{Given, given-refuted, given-stuck, given-solved, given-in-order}
-use Rattle.unifier.proofs.BoundLemmas.{relocated-passes}
+use Rattle.unifier.proofs.AboutClasses.ClassLemmas.{when-true, when-false}
+use Rattle.unifier.proofs.AboutEquations.SolvedLemmas.{Given, given-refuted, given-stuck, given-solved, given-in-order}
+use Rattle.unifier.proofs.AboutLayouts.BoundLemmas.{relocated-passes}
 use Rattle.unifier.proofs.solving.solve.Goals as goal
 
 pub returns-then-not-branch : goal.returns-then-not-branch

@@ -4,8 +4,8 @@ use Rattle.fol_base.specs.Term.{tree_of}
 use Rattle.fol_base.specs.declared.clause.Side.TheVariants.{Right}
 use Rattle.unifier.specs.declared.layout.Place.{Place}
 use Rattle.unifier.specs.Layout.{HavePlaces}
-use Rattle.unifier.proofs.CodeLemmas.{left-have-places, right-have-places}
-use Rattle.unifier.proofs.UnifyLemmas.{found-answer}
+use Rattle.unifier.proofs.AboutClasses.CodeLemmas.{left-have-places, right-have-places}
+use Rattle.unifier.proofs.AboutEquations.UnifyLemmas.{found-answer}
 use Rattle.unifier.proofs.solving.unify_by_classes.Goals as goal
 
 pub lay_term-requires-clause-places : goal.lay_term-requires-clause-places

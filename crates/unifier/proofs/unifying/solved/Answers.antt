@@ -1,6 +1,6 @@
 use Rattle.std.proofs.Common.{sym}
 use Rattle.fol_base.specs.Term.{tree_of}
-use Rattle.unifier.proofs.ClashLemmas.{clash-answer}
+use Rattle.unifier.proofs.AboutClasses.ClashLemmas.{clash-answer}
 use Rattle.unifier.proofs.unifying.solved.Goals as goal
 
 pub returns-then-clash : goal.returns-then-clash

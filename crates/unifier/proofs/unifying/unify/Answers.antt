@@ -1,5 +1,5 @@
 use Rattle.fol_base.specs.Term.{tree_of}
-use Rattle.unifier.proofs.BoundLemmas.{found-some, found-leaves, found-fits, found-fits-together}
+use Rattle.unifier.proofs.AboutLayouts.BoundLemmas.{found-some, found-leaves, found-fits, found-fits-together}
 use Rattle.unifier.proofs.unifying.unify.Goals as goal
 
 pub returns-in-Some-clause-others : goal.returns-in-Some-clause-others

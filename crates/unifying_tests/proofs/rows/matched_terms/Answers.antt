@@ -1,7 +1,7 @@
 use Rattle.std.proofs.Common.{◌≡◌, Option, true, ap, subst, arith}
 use Rattle.std.specs.Prelude.{IfSome}
 use Rattle.fol_base.specs.Term.{tree_of}
-use Rattle.fol_base.proofs.VariableLemmas.{VariablesBelow-bound}
+use Rattle.fol_base.proofs.AboutTerms.VariableLemmas.{VariablesBelow-bound}
 use Rattle.unifier.specs.declared.matched.Matched.{Matched}
 use Rattle.unifier.specs.Matching.{are_below}
 use Rattle.unifying_tests.proofs.rows.matched_terms.Goals as goal

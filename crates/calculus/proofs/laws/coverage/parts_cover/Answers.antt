@@ -1,4 +1,4 @@
-use Rattle.calculus.proofs.CoverLemmas.{parts_cover}
+use Rattle.calculus.proofs.AboutCovering.CoverLemmas.{parts_cover}
 use Rattle.calculus.proofs.laws.coverage.parts_cover.Goals as goal
 
 pub returns : goal.returns

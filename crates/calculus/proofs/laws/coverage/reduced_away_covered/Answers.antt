@@ -1,4 +1,4 @@
-use Rattle.calculus.proofs.RewriteLemmas.{reduced_away_covered}
+use Rattle.calculus.proofs.AboutCovering.RewriteLemmas.{reduced_away_covered}
 use Rattle.calculus.proofs.laws.coverage.reduced_away_covered.Goals as goal
 
 pub returns : goal.returns

@@ -1,4 +1,4 @@
-use Rattle.calculus.proofs.RewriteLemmas.{reductions_compose}
+use Rattle.calculus.proofs.AboutCovering.RewriteLemmas.{reductions_compose}
 use Rattle.calculus.proofs.laws.coverage.reductions_compose.Goals as goal
 
 pub returns : goal.returns

@@ -1,4 +1,4 @@
-use Rattle.calculus.proofs.RewriteLemmas.{reductions_covered}
+use Rattle.calculus.proofs.AboutCovering.RewriteLemmas.{reductions_covered}
 use Rattle.calculus.proofs.laws.coverage.reductions_covered.Goals as goal
 
 pub returns : goal.returns

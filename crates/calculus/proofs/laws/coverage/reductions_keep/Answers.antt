@@ -1,4 +1,4 @@
-use Rattle.calculus.proofs.RewriteLemmas.{reductions_keep_symbols, reductions_keep_names}
+use Rattle.calculus.proofs.AboutCovering.RewriteLemmas.{reductions_keep_symbols, reductions_keep_names}
 use Rattle.calculus.proofs.laws.coverage.reductions_keep.Goals as goal
 
 pub returns-clause-symbols : goal.returns-clause-symbols

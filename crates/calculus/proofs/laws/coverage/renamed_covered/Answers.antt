@@ -1,4 +1,4 @@
-use Rattle.calculus.proofs.CoverLemmas.{renamed_covered}
+use Rattle.calculus.proofs.AboutCovering.CoverLemmas.{renamed_covered}
 use Rattle.calculus.proofs.laws.coverage.renamed_covered.Goals as goal
 
 pub returns : goal.returns

@@ -1,4 +1,4 @@
-use Rattle.calculus.proofs.CoverLemmas.{subsumed_covered}
+use Rattle.calculus.proofs.AboutCovering.CoverLemmas.{subsumed_covered}
 use Rattle.calculus.proofs.laws.coverage.subsumed_covered.Goals as goal
 
 pub returns : goal.returns

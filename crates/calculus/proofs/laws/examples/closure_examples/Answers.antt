@@ -1,4 +1,4 @@
-use Rattle.calculus.proofs.ClosureExamples.{member, not_a_member, nothing_named, one_missing, no_member, one_listed, one_covered}
+use Rattle.calculus.proofs.WorkedExamples.ClosureExamples.{member, not_a_member, nothing_named, one_missing, no_member, one_listed, one_covered}
 use Rattle.calculus.proofs.laws.examples.closure_examples.Goals as goal
 
 pub returns-clause-member : goal.returns-clause-member

@@ -1,4 +1,4 @@
-use Rattle.calculus.proofs.ExampleLemmas.{subsumed_instances}
+use Rattle.calculus.proofs.WorkedExamples.ExampleLemmas.{subsumed_instances}
 use Rattle.calculus.proofs.laws.examples.covering_example.Goals as goal
 
 pub returns : goal.returns

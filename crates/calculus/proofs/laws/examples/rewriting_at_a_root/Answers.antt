@@ -1,4 +1,4 @@
-use Rattle.calculus.proofs.ExampleLemmas.{entailed, not_covered, instances_not_covered}
+use Rattle.calculus.proofs.WorkedExamples.ExampleLemmas.{entailed, not_covered, instances_not_covered}
 use Rattle.calculus.proofs.laws.examples.rewriting_at_a_root.Goals as goal
 
 pub returns-clause-entailed : goal.returns-clause-entailed

@@ -1,4 +1,4 @@
-use Rattle.calculus.proofs.ClosureExamples.{by_left_side, negative_cut, two_steps}
+use Rattle.calculus.proofs.WorkedExamples.ClosureExamples.{by_left_side, negative_cut, two_steps}
 use Rattle.calculus.proofs.laws.examples.steps_examples.Goals as goal
 
 pub returns-clause-by_left_side : goal.returns-clause-by_left_side

@@ -1,5 +1,5 @@
-use Rattle.calculus.proofs.LiftRules.{factorings_lift}
-use Rattle.calculus.proofs.ReachLemmas.{factorings_reach_all}
+use Rattle.calculus.proofs.AboutLifting.LiftRules.{factorings_lift}
+use Rattle.calculus.proofs.AboutCovering.ReachLemmas.{factorings_reach_all}
 use Rattle.calculus.proofs.laws.lifting.factorings_lift.Goals as goal
 
 pub returns-clause-to_one : goal.returns-clause-to_one

@@ -1,4 +1,4 @@
-use Rattle.calculus.proofs.ClosureLemmas.{ground_conclusions_covered, ground_conclusions_listed}
+use Rattle.calculus.proofs.AboutCovering.ClosureLemmas.{ground_conclusions_covered, ground_conclusions_listed}
 use Rattle.calculus.proofs.laws.lifting.ground_conclusions_covered.Goals as goal
 
 pub returns-clause-covered : goal.returns-clause-covered

@@ -1,5 +1,5 @@
-use Rattle.calculus.proofs.LiftRules.{resolutions_lift}
-use Rattle.calculus.proofs.ReachLemmas.{resolutions_reach_all}
+use Rattle.calculus.proofs.AboutLifting.LiftRules.{resolutions_lift}
+use Rattle.calculus.proofs.AboutCovering.ReachLemmas.{resolutions_reach_all}
 use Rattle.calculus.proofs.laws.lifting.resolutions_lift.Goals as goal
 
 pub returns-clause-to_one : goal.returns-clause-to_one

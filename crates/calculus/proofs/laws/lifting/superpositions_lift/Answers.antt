@@ -1,5 +1,5 @@
-use Rattle.calculus.proofs.LiftRules.{superpositions_lift}
-use Rattle.calculus.proofs.ReachLemmas.{superpositions_reach_all}
+use Rattle.calculus.proofs.AboutLifting.LiftRules.{superpositions_lift}
+use Rattle.calculus.proofs.AboutCovering.ReachLemmas.{superpositions_reach_all}
 use Rattle.calculus.proofs.laws.lifting.superpositions_lift.Goals as goal
 
 pub returns-clause-to_one : goal.returns-clause-to_one

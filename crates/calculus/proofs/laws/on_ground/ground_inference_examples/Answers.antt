@@ -1,4 +1,4 @@
-use Rattle.calculus.proofs.RefusedExamples.{by_right_side, named_by_right_side, named_resolution, named_factoring, of_one_clause}
+use Rattle.calculus.proofs.WorkedExamples.RefusedExamples.{by_right_side, named_by_right_side, named_resolution, named_factoring, of_one_clause}
 use Rattle.calculus.proofs.laws.on_ground.ground_inference_examples.Goals as goal
 
 pub returns-clause-by_right_side : goal.returns-clause-by_right_side

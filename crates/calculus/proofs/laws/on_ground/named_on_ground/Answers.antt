@@ -1,4 +1,4 @@
-use Rattle.calculus.proofs.OnGroundLemmas.{resolutions_on_ground, factorings_on_ground, superpositions_on_ground}
+use Rattle.calculus.proofs.AboutCovering.OnGroundLemmas.{resolutions_on_ground, factorings_on_ground, superpositions_on_ground}
 use Rattle.calculus.proofs.laws.on_ground.named_on_ground.Goals as goal
 
 pub returns-clause-resolutions : goal.returns-clause-resolutions

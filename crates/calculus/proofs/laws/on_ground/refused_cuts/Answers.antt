@@ -1,4 +1,4 @@
-use Rattle.calculus.proofs.RefusedExamples.{not_asserted, of_truths}
+use Rattle.calculus.proofs.WorkedExamples.RefusedExamples.{not_asserted, of_truths}
 use Rattle.calculus.proofs.laws.on_ground.refused_cuts.Goals as goal
 
 pub returns-clause-not_asserted : goal.returns-clause-not_asserted

@@ -1,4 +1,4 @@
-use Rattle.calculus.proofs.RefusedExamples.{factoring_smaller_side, factoring_not_maximal, factoring_other_kind, factoring_lost_name, factoring_made_smaller}
+use Rattle.calculus.proofs.WorkedExamples.RefusedExamples.{factoring_smaller_side, factoring_not_maximal, factoring_other_kind, factoring_lost_name, factoring_made_smaller}
 use Rattle.calculus.proofs.laws.on_ground.refused_factorings.Goals as goal
 
 pub returns-clause-smaller_side : goal.returns-clause-smaller_side

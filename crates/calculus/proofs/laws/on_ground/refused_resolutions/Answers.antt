@@ -1,4 +1,4 @@
-use Rattle.calculus.proofs.RefusedExamples.{resolution_not_maximal, resolution_not_chosen, resolution_lost_name, resolution_not_maximal_made}
+use Rattle.calculus.proofs.WorkedExamples.RefusedExamples.{resolution_not_maximal, resolution_not_chosen, resolution_lost_name, resolution_not_maximal_made}
 use Rattle.calculus.proofs.laws.on_ground.refused_resolutions.Goals as goal
 
 pub returns-clause-not_maximal : goal.returns-clause-not_maximal

@@ -1,4 +1,4 @@
-use Rattle.calculus.proofs.RefusedExamples.{smaller_side, not_maximal, not_chosen, other_kind, made_smaller, made_equal, superposition_lost_name}
+use Rattle.calculus.proofs.WorkedExamples.RefusedExamples.{smaller_side, not_maximal, not_chosen, other_kind, made_smaller, made_equal, superposition_lost_name}
 use Rattle.calculus.proofs.laws.on_ground.refused_superpositions.Goals as goal
 
 pub returns-clause-smaller_side : goal.returns-clause-smaller_side

@@ -1,5 +1,5 @@
-use Rattle.calculus.proofs.VariantLemmas.{canonical_forms_are_variants, resolutions_have_variants, factorings_have_variants, superpositions_have_variants, inferences_have_variants}
-use Rattle.calculus.proofs.ConclusionLemmas.{conclusions_are_variants}
+use Rattle.calculus.proofs.AboutLifting.VariantLemmas.{canonical_forms_are_variants, resolutions_have_variants, factorings_have_variants, superpositions_have_variants, inferences_have_variants}
+use Rattle.calculus.proofs.AboutLifting.ConclusionLemmas.{conclusions_are_variants}
 use Rattle.calculus.proofs.laws.variants.conclusions_have_variants.Goals as goal
 
 pub returns-clause-canonical : goal.returns-clause-canonical

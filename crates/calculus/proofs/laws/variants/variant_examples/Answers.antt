@@ -1,4 +1,4 @@
-use Rattle.calculus.proofs.VariantLemmas.{renamed_example, bound_example, merged_example}
+use Rattle.calculus.proofs.AboutLifting.VariantLemmas.{renamed_example, bound_example, merged_example}
 use Rattle.calculus.proofs.laws.variants.variant_examples.Goals as goal
 
 pub returns-clause-renamed : goal.returns-clause-renamed

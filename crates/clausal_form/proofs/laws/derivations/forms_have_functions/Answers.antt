@@ -1,4 +1,4 @@
-use Rattle.clausal_form.proofs.FunctionLemmas.{form-functions}
+use Rattle.clausal_form.proofs.AboutForms.FunctionLemmas.{form-functions}
 use Rattle.clausal_form.proofs.laws.derivations.forms_have_functions.Goals as goal
 
 pub returns : goal.returns

@@ -1,4 +1,4 @@
-use Rattle.clausal_form.proofs.RefutationLemmas.{taken_lines_are_steps, taken_lines_are_grounded, accepted_lines_refute}
+use Rattle.clausal_form.proofs.AboutDerivations.RefutationLemmas.{taken_lines_are_steps, taken_lines_are_grounded, accepted_lines_refute}
 use Rattle.clausal_form.proofs.laws.derivations.taken_lines_are_steps.Goals as goal
 
 pub returns-clause-steps : goal.returns-clause-steps

@@ -1,5 +1,5 @@
-use Rattle.clausal_form.proofs.TextLemmas.{texts_have_one_answer}
-use Rattle.clausal_form.proofs.SomeAnswer.{texts_have_some_answer}
+use Rattle.clausal_form.proofs.AboutDerivations.TextLemmas.{texts_have_one_answer}
+use Rattle.clausal_form.proofs.AboutDerivations.SomeAnswer.{texts_have_some_answer}
 use Rattle.clausal_form.proofs.laws.derivations.texts_have_one_answer.Goals as goal
 
 pub returns-clause-at_most_one : goal.returns-clause-at_most_one

@@ -1,4 +1,4 @@
-use Rattle.clausal_form.proofs.FormLemmas.{forms-are-canonical, forms-have-small-clauses, forms-are-small}
+use Rattle.clausal_form.proofs.AboutForms.FormLemmas.{forms-are-canonical, forms-have-small-clauses, forms-are-small}
 use Rattle.clausal_form.proofs.laws.forms.clauses_of_forms.Goals as goal
 
 pub returns : goal.returns

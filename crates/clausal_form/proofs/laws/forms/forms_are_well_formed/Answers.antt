@@ -1,4 +1,4 @@
-use Rattle.clausal_form.proofs.WellFormedLemmas.{forms-are-well-formed}
+use Rattle.clausal_form.proofs.AboutForms.WellFormedLemmas.{forms-are-well-formed}
 use Rattle.clausal_form.proofs.laws.forms.forms_are_well_formed.Goals as goal
 
 pub returns : goal.returns

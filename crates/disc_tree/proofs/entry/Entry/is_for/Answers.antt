@@ -3,7 +3,7 @@ use Rattle.std.proofs.lemmas.Bool.{eqb-true}
 use Rattle.fol_base.specs.Tree.{Tree, tree_variables}
 use Rattle.fol_base.specs.Term.{tree_of}
 use Rattle.disc_tree.specs.Entries.{without_front}
-use Rattle.disc_tree.proofs.FrontLemmas.{front-whole, front-itself}
+use Rattle.disc_tree.proofs.AboutQueries.FrontLemmas.{front-whole, front-itself}
 use Rattle.disc_tree.proofs.entry.Entry.is_for.Goals as goal
 
 none-left : (xs : List ℕ) → length xs ≡ 0 → xs ≡ []

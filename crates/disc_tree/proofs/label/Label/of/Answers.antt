@@ -1,6 +1,6 @@
 use Rattle.std.proofs.Common.{length, ap, sym, ◌∙◌}
 use Rattle.fol_base.specs.Term.{tree_of}
-use Rattle.fol_base.proofs.TreeLemmas.{list_of-trees_of}
+use Rattle.fol_base.proofs.AboutTerms.TreeLemmas.{list_of-trees_of}
 use Rattle.disc_tree.specs.Path.{head}
 use Rattle.disc_tree.specs.declared.label.Label.TheVariants.{Symbol}
 use Rattle.disc_tree.proofs.label.Label.of.Goals as goal

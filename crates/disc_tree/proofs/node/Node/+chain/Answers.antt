@@ -4,7 +4,7 @@ use Rattle.disc_tree.specs.declared.label.Label.{Label}
 use Rattle.disc_tree.specs.Path.{path_of_all}
 use Rattle.disc_tree.specs.Rows.{Row}
 use Rattle.disc_tree.specs.Work.{trees_left}
-use Rattle.disc_tree.proofs.EditLemmas.{work-falls, path-step, rows-of-branch}
+use Rattle.disc_tree.proofs.AboutChanges.EditLemmas.{work-falls, path-step, rows-of-branch}
 use Rattle.disc_tree.proofs.node.Node.+chain.Goals as goal
 
 pub chain-requires : goal.chain-requires

@@ -10,10 +10,10 @@ use Rattle.disc_tree.specs.Path.{head, arguments, path_of_all}
 use Rattle.disc_tree.specs.Rows.{Row, Child, rows, weight, IsAt, IsGap, IsSound}
 use Rattle.disc_tree.specs.Children.{child_of, children_of}
 use Rattle.disc_tree.specs.Work.{trees_left}
-use Rattle.disc_tree.proofs.SlotLemmas.{child-get, children-length}
-use Rattle.disc_tree.proofs.ChildLemmas.{child-lighter}
-use Rattle.disc_tree.proofs.EditLemmas.{path-step, with-some, sound-edited, rows-with-more, sound-inserted, rows-inserted, rows-with-entry}
-use Rattle.disc_tree.proofs.FoundLemmas.{if_ok-map}
+use Rattle.disc_tree.proofs.AboutPaths.SlotLemmas.{child-get, children-length}
+use Rattle.disc_tree.proofs.AboutPaths.ChildLemmas.{child-lighter}
+use Rattle.disc_tree.proofs.AboutChanges.EditLemmas.{path-step, with-some, sound-edited, rows-with-more, sound-inserted, rows-inserted, rows-with-entry}
+use Rattle.disc_tree.proofs.AboutQueries.FoundLemmas.{if_ok-map}
 use Rattle.disc_tree.proofs.node.Node.+insert.Goals as goal
 
 abbrev Content : Type 0

@@ -9,10 +9,10 @@ use Rattle.disc_tree.specs.Path.{path_of_all}
 use Rattle.disc_tree.specs.Rows.{Row, Child, IsNamed, rows, weight, IsAt, IsGap, IsSound, IsTaken, IsNone, IsEntryTaken}
 use Rattle.disc_tree.specs.Children.{child_of, children_of}
 use Rattle.disc_tree.specs.Work.{trees_left}
-use Rattle.disc_tree.proofs.SlotLemmas.{child-get, children-length}
-use Rattle.disc_tree.proofs.RemoveLemmas.{read-set}
-use Rattle.disc_tree.proofs.ChildLemmas.{child-lighter}
-use Rattle.disc_tree.proofs.EditLemmas.{path-step, sound-edited, sound-pruned, rows-with-fewer, rows-with-branch, rows-with-entry, none-in-gap, none-in-child, none-at-end}
+use Rattle.disc_tree.proofs.AboutPaths.SlotLemmas.{child-get, children-length}
+use Rattle.disc_tree.proofs.AboutChanges.RemoveLemmas.{read-set}
+use Rattle.disc_tree.proofs.AboutPaths.ChildLemmas.{child-lighter}
+use Rattle.disc_tree.proofs.AboutChanges.EditLemmas.{path-step, sound-edited, sound-pruned, rows-with-fewer, rows-with-branch, rows-with-entry, none-in-gap, none-in-child, none-at-end}
 use Rattle.disc_tree.proofs.node.Node.+remove.Goals as goal
 
 abbrev Content : Type 0

@@ -2,8 +2,8 @@ use Rattle.std.proofs.Common.{◌<◌, List, ap, sym, subst, ◌∙◌, arith}
 use Rattle.fol_base.specs.Tree.{Tree}
 use Rattle.disc_tree.specs.Rows.{Child, rows, rows_at, weight, IsAt, IsGap}
 use Rattle.disc_tree.specs.Children.{child_of, children_of}
-use Rattle.disc_tree.proofs.SlotLemmas.{child-get, children-length, some-rows-at}
-use Rattle.disc_tree.proofs.ChildLemmas.{at-rows, gap-rows, child-lighter}
+use Rattle.disc_tree.proofs.AboutPaths.SlotLemmas.{child-get, children-length, some-rows-at}
+use Rattle.disc_tree.proofs.AboutPaths.ChildLemmas.{at-rows, gap-rows, child-lighter}
 use Rattle.disc_tree.proofs.node.Node.child.Goals as goal
 
 pub returns-in-Ok-clause-child : goal.returns-in-Ok-clause-child

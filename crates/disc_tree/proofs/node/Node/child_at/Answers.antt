@@ -2,8 +2,8 @@ use Rattle.std.proofs.Common.{◌<◌, List, length, sym, subst, arith}
 use Rattle.fol_base.specs.Tree.{Tree}
 use Rattle.disc_tree.specs.Rows.{Child, rows, weight}
 use Rattle.disc_tree.specs.Children.{child_of, children_of}
-use Rattle.disc_tree.proofs.SlotLemmas.{child-get, children-length}
-use Rattle.disc_tree.proofs.ChildLemmas.{child-lighter}
+use Rattle.disc_tree.proofs.AboutPaths.SlotLemmas.{child-get, children-length}
+use Rattle.disc_tree.proofs.AboutPaths.ChildLemmas.{child-lighter}
 use Rattle.disc_tree.proofs.node.Node.child_at.Goals as goal
 
 pub returns-clause-smaller : goal.returns-clause-smaller

@@ -3,8 +3,8 @@ use Rattle.std.proofs.lemmas.Bool.{eqb-true}
 use Rattle.fol_base.specs.Tree.{Tree}
 use Rattle.disc_tree.specs.Rows.{Child, rows}
 use Rattle.disc_tree.specs.Children.{children_of}
-use Rattle.disc_tree.proofs.SlotLemmas.{children-length}
-use Rattle.disc_tree.proofs.EditLemmas.{rows-empty, rows-of-none}
+use Rattle.disc_tree.proofs.AboutPaths.SlotLemmas.{children-length}
+use Rattle.disc_tree.proofs.AboutChanges.EditLemmas.{rows-empty, rows-of-none}
 use Rattle.disc_tree.proofs.node.Node.is_empty.Goals as goal
 
 abbrev Content : Type 0

@@ -5,7 +5,7 @@ use Rattle.fol_base.specs.Tree.{Tree, tree_variables}
 use Rattle.fol_base.specs.Term.{tree_of}
 use Rattle.disc_tree.specs.Entries.{IsWith}
 use Rattle.disc_tree.specs.Rows.{IsNamed}
-use Rattle.disc_tree.proofs.RemoveLemmas.{entry-taken}
+use Rattle.disc_tree.proofs.AboutChanges.RemoveLemmas.{entry-taken}
 use Rattle.disc_tree.proofs.sorted.SortedEntries.take.Goals as goal
 
 pub returns-clause-removed : goal.returns-clause-removed

@@ -5,9 +5,9 @@ use Rattle.fol_base.specs.Compatible.{compatible_by}
 use Rattle.disc_tree.specs.Entries.{numbers_where}
 use Rattle.disc_tree.specs.Rows.{rows, found_in}
 use Rattle.disc_tree.specs.Prefixes.{compatible_prefixes}
-use Rattle.disc_tree.proofs.PrefixLemmas.{stays-counted}
-use Rattle.disc_tree.proofs.VisitLemmas.{visits-counted}
-use Rattle.disc_tree.proofs.FoundLemmas.{found-compatible}
+use Rattle.disc_tree.proofs.AboutPaths.PrefixLemmas.{stays-counted}
+use Rattle.disc_tree.proofs.AboutQueries.VisitLemmas.{visits-counted}
+use Rattle.disc_tree.proofs.AboutQueries.FoundLemmas.{found-compatible}
 use Rattle.disc_tree.proofs.tree.DiscTree.find.Goals as goal
 
 pub returns-clause-found : goal.returns-clause-found

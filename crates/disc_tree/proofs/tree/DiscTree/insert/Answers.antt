@@ -4,7 +4,7 @@ use Rattle.fol_base.specs.Term.{tree_of}
 use Rattle.disc_tree.specs.Path.{path, path_of_all}
 use Rattle.disc_tree.specs.Entries.{IsWith}
 use Rattle.disc_tree.specs.Rows.{Row, rows, entries_of}
-use Rattle.disc_tree.proofs.EntryLemmas.{row-path, entries-with, have-paths-more}
+use Rattle.disc_tree.proofs.AboutPaths.EntryLemmas.{row-path, entries-with, have-paths-more}
 use Rattle.disc_tree.proofs.tree.DiscTree.insert.Goals as goal
 
 pub invariant_of-self-2 : goal.invariant_of-self-2

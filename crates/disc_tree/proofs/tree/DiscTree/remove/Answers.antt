@@ -5,7 +5,7 @@ use Rattle.fol_base.specs.Term.{tree_of}
 use Rattle.disc_tree.specs.Path.{path}
 use Rattle.disc_tree.specs.Entries.{IsIn, IsWith}
 use Rattle.disc_tree.specs.Rows.{Row, rows, entries_of, HavePaths}
-use Rattle.disc_tree.proofs.EntryLemmas.{entries-with, have-paths-fewer, in-with, taken-entry, none-there}
+use Rattle.disc_tree.proofs.AboutPaths.EntryLemmas.{entries-with, have-paths-fewer, in-with, taken-entry, none-there}
 use Rattle.disc_tree.proofs.tree.DiscTree.remove.Goals as goal
 
 pub invariant_of-self : goal.invariant_of-self

@@ -1,7 +1,7 @@
 use Rattle.std.proofs.Common.{◌≡◌, None, Some, length, slice_index_or, arith, ap, sym, ◌∙◌}
 use Rattle.fol_base.specs.Canonical.{place_of}
-use Rattle.fol_base.proofs.NumberingLemmas.{place_of-push}
-use Rattle.eq_rules.proofs.RenumberedLemmas.{is_new, numbered_also}
+use Rattle.fol_base.proofs.AboutCanonical.NumberingLemmas.{place_of-push}
+use Rattle.eq_rules.proofs.AboutConclusions.RenumberedLemmas.{is_new, numbered_also}
 use Rattle.eq_rules.proofs.renumbering.Renumbering.number.Goals as goal
 
 pub invariant_of-self-in_default-put_number : goal.invariant_of-self-in_default-put_number

@@ -3,7 +3,7 @@ use Rattle.fol_base.specs.Canonical.{bound_of}
 use Rattle.std.specs.Prelude.{flat_map}
 use Rattle.fol_base.specs.Clause.{literal_variables}
 use Rattle.fol_base.specs.Literal.{literal_of}
-use Rattle.fol_base.proofs.VariableLemmas.{literals_variables-take_more, bound_of-append}
+use Rattle.fol_base.proofs.AboutTerms.VariableLemmas.{literals_variables-take_more, bound_of-append}
 use Rattle.fol_base.proofs.clause.Clause.variable_bound.Goals as goal
 
 pub loop-literal-preserved : goal.loop-literal-preserved

@@ -4,7 +4,7 @@ use Rattle.std.specs.Prelude.{flat_map}
 use Rattle.fol_base.specs.Clause.{literal_variables}
 use Rattle.fol_base.specs.Literal.{literal_of}
 use Rattle.fol_base.specs.Term.{tree_of}
-use Rattle.fol_base.proofs.VariableLemmas.{literals_variables-take_more}
+use Rattle.fol_base.proofs.AboutTerms.VariableLemmas.{literals_variables-take_more}
 use Rattle.fol_base.proofs.clause.Clause.variables.Goals as goal
 
 pub loop-literal-preserved : goal.loop-literal-preserved

@@ -1,4 +1,4 @@
-use Rattle.fol_base.proofs.CoverageLemmas.{covers_more}
+use Rattle.fol_base.proofs.AboutInstances.CoverageLemmas.{covers_more}
 use Rattle.fol_base.proofs.laws.coverage.coverage_by_more.Goals as goal
 
 pub returns : goal.returns

@@ -1,4 +1,4 @@
-use Rattle.fol_base.proofs.CoverageLemmas.{covers_instances}
+use Rattle.fol_base.proofs.AboutInstances.CoverageLemmas.{covers_instances}
 use Rattle.fol_base.proofs.laws.coverage.coverage_of_instances.Goals as goal
 
 pub returns : goal.returns

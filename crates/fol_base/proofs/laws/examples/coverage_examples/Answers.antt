@@ -1,4 +1,4 @@
-use Rattle.fol_base.proofs.ExampleLemmas.{inner_rewritten, listed_rewritten, chosen_dropped, greater_factored, repeated_by_single, single_not_by_repeated}
+use Rattle.fol_base.proofs.WorkedExamples.ExampleLemmas.{inner_rewritten, listed_rewritten, chosen_dropped, greater_factored, repeated_by_single, single_not_by_repeated}
 use Rattle.fol_base.proofs.laws.examples.coverage_examples.Goals as goal
 
 pub returns-clause-inference : goal.returns-clause-inference

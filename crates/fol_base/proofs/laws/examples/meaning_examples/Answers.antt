@@ -1,4 +1,4 @@
-use Rattle.fol_base.proofs.ExampleLemmas.{instance_over_the_list, p_of_a_without_p_of_b, contradiction, no_contradiction}
+use Rattle.fol_base.proofs.WorkedExamples.ExampleLemmas.{instance_over_the_list, p_of_a_without_p_of_b, contradiction, no_contradiction}
 use Rattle.fol_base.proofs.laws.examples.meaning_examples.Goals as goal
 
 pub returns-clause-instance_over_the_list : goal.returns-clause-instance_over_the_list

@@ -1,4 +1,4 @@
-use Rattle.fol_base.proofs.InstanceLemmas.{instances_agree, instances_agree_below}
+use Rattle.fol_base.proofs.AboutInstances.InstanceLemmas.{instances_agree, instances_agree_below}
 use Rattle.fol_base.proofs.laws.instances.agreement_of_instances.Goals as goal
 
 pub returns-clause-on_variables : goal.returns-clause-on_variables

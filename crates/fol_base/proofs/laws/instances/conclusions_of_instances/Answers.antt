@@ -1,4 +1,4 @@
-use Rattle.fol_base.proofs.InferenceLemmas.{superpositions_in_instances, resolutions_in_instances, factorings_in_instances, merges_in_instances}
+use Rattle.fol_base.proofs.AboutClauses.InferenceLemmas.{superpositions_in_instances, resolutions_in_instances, factorings_in_instances, merges_in_instances}
 use Rattle.fol_base.proofs.laws.instances.conclusions_of_instances.Goals as goal
 
 pub returns-clause-superposition : goal.returns-clause-superposition

@@ -1,4 +1,4 @@
-use Rattle.fol_base.proofs.GroundInstanceLemmas.{ground_instances_of_instances}
+use Rattle.fol_base.proofs.AboutInstances.GroundInstanceLemmas.{ground_instances_of_instances}
 use Rattle.fol_base.proofs.laws.instances.ground_instances_of_instances.Goals as goal
 
 pub returns : goal.returns

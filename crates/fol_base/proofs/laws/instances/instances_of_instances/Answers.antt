@@ -1,4 +1,4 @@
-use Rattle.fol_base.proofs.InstanceLemmas.{instances_of_instances, clause_instances_of_instances}
+use Rattle.fol_base.proofs.AboutInstances.InstanceLemmas.{instances_of_instances, clause_instances_of_instances}
 use Rattle.fol_base.proofs.laws.instances.instances_of_instances.Goals as goal
 
 pub returns-clause-trees : goal.returns-clause-trees

@@ -1,5 +1,5 @@
-use Rattle.fol_base.proofs.InstancePlaces.{subterms_of_instances, replacements_in_instances}
-use Rattle.fol_base.proofs.ConversePlaces.{places_in_instances}
+use Rattle.fol_base.proofs.AboutInstances.InstancePlaces.{subterms_of_instances, replacements_in_instances}
+use Rattle.fol_base.proofs.AboutInstances.ConversePlaces.{places_in_instances}
 use Rattle.fol_base.proofs.laws.instances.places_in_instances.Goals as goal
 
 pub returns-clause-subterms : goal.returns-clause-subterms

@@ -1,4 +1,4 @@
-use Rattle.fol_base.proofs.InstanceLemmas.{sizes_of_instances, sizes_of_clause_instances}
+use Rattle.fol_base.proofs.AboutInstances.InstanceLemmas.{sizes_of_instances, sizes_of_clause_instances}
 use Rattle.fol_base.proofs.laws.instances.sizes_of_instances.Goals as goal
 
 pub returns-clause-trees : goal.returns-clause-trees

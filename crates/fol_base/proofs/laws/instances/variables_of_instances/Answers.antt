@@ -1,4 +1,4 @@
-use Rattle.fol_base.proofs.InstanceLemmas.{variables_of_instances, occurrences_in_instances}
+use Rattle.fol_base.proofs.AboutInstances.InstanceLemmas.{variables_of_instances, occurrences_in_instances}
 use Rattle.fol_base.proofs.laws.instances.variables_of_instances.Goals as goal
 
 pub returns-clause-variables : goal.returns-clause-variables

@@ -1,4 +1,4 @@
-use Rattle.fol_base.proofs.MatchingExamples.{subsumes_in_other_order, variables_by_no_atom}
+use Rattle.fol_base.proofs.WorkedExamples.MatchingExamples.{subsumes_in_other_order, variables_by_no_atom}
 use Rattle.fol_base.proofs.laws.matching_examples.subsumption_examples.Goals as goal
 
 pub returns-clause-in_other_order : goal.returns-clause-in_other_order

@@ -1,4 +1,4 @@
-use Rattle.fol_base.proofs.MatchingExamples.{apart_general, variable_occurs, first_is_a_general}
+use Rattle.fol_base.proofs.WorkedExamples.MatchingExamples.{apart_general, variable_occurs, first_is_a_general}
 use Rattle.fol_base.proofs.laws.matching_examples.unifier_examples.Goals as goal
 
 pub returns-clause-most_general_apart : goal.returns-clause-most_general_apart

@@ -1,4 +1,4 @@
-use Rattle.fol_base.proofs.MatchingExamples.{used_together, two_numbers_of_arguments, predicate_and_function}
+use Rattle.fol_base.proofs.WorkedExamples.MatchingExamples.{used_together, two_numbers_of_arguments, predicate_and_function}
 use Rattle.fol_base.proofs.laws.matching_examples.well_formed_examples.Goals as goal
 
 pub returns-clause-together : goal.returns-clause-together

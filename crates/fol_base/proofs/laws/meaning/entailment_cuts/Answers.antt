@@ -1,4 +1,4 @@
-use Rattle.fol_base.proofs.MeaningLemmas.{entails_cut}
+use Rattle.fol_base.proofs.AboutClauses.MeaningLemmas.{entails_cut}
 use Rattle.fol_base.proofs.laws.meaning.entailment_cuts.Goals as goal
 
 pub returns : goal.returns

@@ -1,4 +1,4 @@
-use Rattle.fol_base.proofs.OrderLemmas.{trees_equivalence, literals_equivalence, clauses_equivalence, clauses_counted}
+use Rattle.fol_base.proofs.AboutOrders.OrderLemmas.{trees_equivalence, literals_equivalence, clauses_equivalence, clauses_counted}
 use Rattle.fol_base.proofs.laws.order.order_equivalences.Goals as goal
 
 pub returns-clause-trees : goal.returns-clause-trees

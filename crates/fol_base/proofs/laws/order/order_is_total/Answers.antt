@@ -1,5 +1,5 @@
-use Rattle.fol_base.proofs.TreeOrderLemmas.{trees_totally_ordered}
-use Rattle.fol_base.proofs.ClauseOrderLemmas.{literals_totally_ordered, clauses_totally_ordered, not_greater_is_transitive}
+use Rattle.fol_base.proofs.AboutOrders.TreeOrderLemmas.{trees_totally_ordered}
+use Rattle.fol_base.proofs.AboutOrders.ClauseOrderLemmas.{literals_totally_ordered, clauses_totally_ordered, not_greater_is_transitive}
 use Rattle.fol_base.proofs.laws.order.order_is_total.Goals as goal
 
 pub returns-clause-trees : goal.returns-clause-trees

@@ -1,4 +1,4 @@
-use Rattle.fol_base.proofs.OrderLemmas.{tree_equality_decided, tree_greater_decided, literal_greater_decided, clause_greater_decided}
+use Rattle.fol_base.proofs.AboutOrders.OrderLemmas.{tree_equality_decided, tree_greater_decided, literal_greater_decided, clause_greater_decided}
 use Rattle.fol_base.proofs.laws.order.order_tests_decide.Goals as goal
 
 pub returns-clause-equal_trees : goal.returns-clause-equal_trees

@@ -1,4 +1,4 @@
-use Rattle.fol_base.proofs.WellFormedLemmas.{well_formed_instances, well_formed_superpositions, well_formed_resolutions, well_formed_factorings, well_formed_merges}
+use Rattle.fol_base.proofs.AboutTerms.WellFormedLemmas.{well_formed_instances, well_formed_superpositions, well_formed_resolutions, well_formed_factorings, well_formed_merges}
 use Rattle.fol_base.proofs.laws.well_formed.conclusions_are_well_formed.Goals as goal
 
 pub returns-clause-instances : goal.returns-clause-instances

@@ -1,4 +1,4 @@
-use Rattle.fol_base.proofs.KindLemmas.{ground_trees_are_function_terms}
+use Rattle.fol_base.proofs.AboutTerms.KindLemmas.{ground_trees_are_function_terms}
 use Rattle.fol_base.proofs.laws.well_formed.ground_trees_are_function_terms.Goals as goal
 
 pub returns : goal.returns

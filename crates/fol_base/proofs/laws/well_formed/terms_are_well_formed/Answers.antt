@@ -1,4 +1,4 @@
-use Rattle.fol_base.proofs.WellFormedLemmas.{well_formed_sides, ground_trees_are_of_use}
+use Rattle.fol_base.proofs.AboutTerms.WellFormedLemmas.{well_formed_sides, ground_trees_are_of_use}
 use Rattle.fol_base.proofs.laws.well_formed.terms_are_well_formed.Goals as goal
 
 pub returns-clause-sides : goal.returns-clause-sides

@@ -1,7 +1,7 @@
 use Rattle.std.proofs.Common.{arith}
 use Rattle.fol_base.specs.Tree.{tree_variables}
 use Rattle.fol_base.specs.Term.{tree_of}
-use Rattle.fol_base.proofs.VariableLemmas.{bound_of-append}
+use Rattle.fol_base.proofs.AboutTerms.VariableLemmas.{bound_of-append}
 use Rattle.fol_base.proofs.literal_ref.LiteralRef.variable_bound.Goals as goal
 
 pub returns-clause-value : goal.returns-clause-value

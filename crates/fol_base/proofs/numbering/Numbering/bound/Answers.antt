@@ -1,7 +1,7 @@
 use Rattle.std.proofs.Common.{◌∷◌, [], take, get_or, ap, ◌∙◌, arith}
 use Rattle.std.proofs.lemmas.List.{take_more}
 use Rattle.fol_base.specs.Canonical.{bound_of}
-use Rattle.fol_base.proofs.VariableLemmas.{bound_of-append}
+use Rattle.fol_base.proofs.AboutTerms.VariableLemmas.{bound_of-append}
 use Rattle.fol_base.proofs.numbering.Numbering.bound.Goals as goal
 
 pub loop-variable-preserved : goal.loop-variable-preserved

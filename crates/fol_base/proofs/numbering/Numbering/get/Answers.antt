@@ -1,7 +1,7 @@
 use Rattle.std.proofs.Common.{◌≡◌, ◌==◌, Some, None, take, position, ap, sym, ◌∙◌}
 use Rattle.fol_base.specs.Canonical.{place_of}
 use Rattle.fol_base.specs.declared.numbering.TheConstants.{SCANNED}
-use Rattle.fol_base.proofs.NumberingLemmas.{position-place_of, scanned}
+use Rattle.fol_base.proofs.AboutCanonical.NumberingLemmas.{position-place_of, scanned}
 use Rattle.fol_base.proofs.numbering.Numbering.get.Goals as goal
 
 pub returns-in-None : goal.returns-in-None

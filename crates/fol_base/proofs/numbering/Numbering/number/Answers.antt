@@ -3,7 +3,7 @@ use Rattle.std.specs.Option.{is_some}
 use Rattle.fol_base.specs.Canonical.{place_of}
 use Rattle.fol_base.specs.Numbering.{IsNumbering}
 use Rattle.fol_base.specs.declared.numbering.TheConstants.{SCANNED}
-use Rattle.fol_base.proofs.NumberingLemmas.{number_left, place_of-push, numbering-scanned, numbering-mapped}
+use Rattle.fol_base.proofs.AboutCanonical.NumberingLemmas.{number_left, place_of-push, numbering-scanned, numbering-mapped}
 use Rattle.fol_base.proofs.numbering.Numbering.number.Goals as goal
 
 pub overflow_cast-number : goal.overflow_cast-number

@@ -5,7 +5,7 @@ use Rattle.fol_base.specs.Tree.{variable}
 use Rattle.fol_base.specs.Canonical.{renaming}
 use Rattle.fol_base.specs.Term.{tree_of}
 use Rattle.fol_base.specs.declared.term.Term.TheVariants.{Var}
-use Rattle.fol_base.proofs.CanonicalLemmas.{terms_from_more}
+use Rattle.fol_base.proofs.AboutCanonical.CanonicalLemmas.{terms_from_more}
 use Rattle.fol_base.proofs.numbering.Numbering.renaming.Goals as goal
 
 pub loop-index-preserved : goal.loop-index-preserved

@@ -1,7 +1,7 @@
 use Rattle.std.proofs.Common.{ap, sym, ◌∙◌}
 use Rattle.fol_base.specs.Tree.{application, is_truth, trees_of}
 use Rattle.fol_base.specs.Term.{tree_of}
-use Rattle.fol_base.proofs.TreeLemmas.{is_truth-arguments}
+use Rattle.fol_base.proofs.AboutTerms.TreeLemmas.{is_truth-arguments}
 use Rattle.fol_base.proofs.term.Term.is_truth.Goals as goal
 
 pub returns-then-symbol-eq-TRUE_SYMBOL : goal.returns-then-symbol-eq-TRUE_SYMBOL

@@ -1,4 +1,4 @@
-use Rattle.given_work.proofs.SetLemmas.{members-put}
+use Rattle.given_work.proofs.AboutIndexes.SetLemmas.{members-put}
 use Rattle.given_work.proofs.sets.Sets.insert.Goals as goal
 
 pub returns : goal.returns

@@ -1,6 +1,6 @@
 use Rattle.rewriting.specs.Units.{IsUnit}
 use Rattle.unit_index.specs.Indexed.{HasOneLiteral}
-use Rattle.given_work.proofs.SetLemmas.{those-take}
+use Rattle.given_work.proofs.AboutIndexes.SetLemmas.{those-take}
 use Rattle.given_work.proofs.sets.Sets.remove.Goals as goal
 
 pub returns : goal.returns

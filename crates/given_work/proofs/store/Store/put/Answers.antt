@@ -6,8 +6,8 @@ use Rattle.partners.specs.Partners.{HasAlso}
 use Rattle.given_work.specs.Occurring.{ListsLiterals, ListsMembers}
 use Rattle.given_work.specs.Store.{members_in}
 use Rattle.given_work.specs.declared.store.Store.{Store}
-use Rattle.given_work.proofs.OccurringLemmas.{members-listed-more}
-use Rattle.given_work.proofs.StoreLemmas.{members-put, none-found, placed_at, store-put}
+use Rattle.given_work.proofs.AboutMeeting.OccurringLemmas.{members-listed-more}
+use Rattle.given_work.proofs.AboutIndexes.StoreLemmas.{members-put, none-found, placed_at, store-put}
 use Rattle.given_work.proofs.store.Store.put.Goals as goal
 
 pub insert-requires-clause-number : goal.insert-requires-clause-number

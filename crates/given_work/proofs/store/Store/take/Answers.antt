@@ -1,13 +1,13 @@
 use Rattle.std.proofs.Common.{List, None, refl, ap, sym, ◌∙◌, subst, arith}
 use Rattle.std.specs.Prelude.{slice_set}
-use Rattle.fol_base.proofs.TestLemmas.{option_map-some}
+use Rattle.fol_base.proofs.WorkedExamples.TestLemmas.{option_map-some}
 use Rattle.partners.specs.Partners.{Placed}
 use Rattle.bank_clause.specs.declared.member.Member.{Member}
 use Rattle.given_work.specs.Occurring.{ListsMembers}
 use Rattle.given_work.specs.Store.{members_in}
 use Rattle.given_work.specs.declared.store.Store.{Store}
-use Rattle.given_work.proofs.OccurringLemmas.{members-listed-less}
-use Rattle.given_work.proofs.StoreLemmas.{finds, members-same, members-taken, option_map-none, place-inside, store-same, store-taken}
+use Rattle.given_work.proofs.AboutMeeting.OccurringLemmas.{members-listed-less}
+use Rattle.given_work.proofs.AboutIndexes.StoreLemmas.{finds, members-same, members-taken, option_map-none, place-inside, store-same, store-taken}
 use Rattle.given_work.proofs.store.Store.take.Goals as goal
 
 pub empty_slot-requires : goal.empty_slot-requires

@@ -3,8 +3,8 @@ use Rattle.fol_base.specs.Term.{tree_of}
 use Rattle.fol_base.specs.Tree.{tree_size, trees_size}
 use Rattle.kbo_order.specs.Reading.{seen, seen_from}
 use Rattle.kbo_order.specs.Balance.{Consistent, HasRoom}
-use Rattle.kbo_order.proofs.ReadingLemmas.{seen-variable, seen-application, seen-more, seen-all, seen-size, occurrences-within}
-use Rattle.kbo_order.proofs.MetLemmas.{MetOn-application, MetOn-more, MetOn-consistent, MetOn-variable, HasRoom-then, HasRoom-less, HasRoom-same, MetOn-all}
+use Rattle.kbo_order.proofs.AboutReading.ReadingLemmas.{seen-variable, seen-application, seen-more, seen-all, seen-size, occurrences-within}
+use Rattle.kbo_order.proofs.AboutReading.MetLemmas.{MetOn-application, MetOn-more, MetOn-consistent, MetOn-variable, HasRoom-then, HasRoom-less, HasRoom-same, MetOn-all}
 use Rattle.kbo_order.proofs.balance.Balance.+add.Goals as goal
 
 pub add-add_from-requires : goal.add-add_from-requires

@@ -6,10 +6,10 @@ use Rattle.kbo_order.specs.declared.cmp.Cmp.TheVariants.{Equal, Unordered}
 use Rattle.kbo_order.specs.Reading.{seen, seen_from}
 use Rattle.kbo_order.specs.Balance.{IsLevel}
 use Rattle.kbo_order.specs.Block.{Answers, InBlock, GreaterOn}
-use Rattle.kbo_order.proofs.ReadingLemmas.{seen-application, seen-more, seen-all, seen-ended, seen-size, occurrences-within}
-use Rattle.kbo_order.proofs.BlockLemmas.{answer_ended}
-use Rattle.kbo_order.proofs.MetLemmas.{Met-applications, Met-more, Met-same_trees, met-room}
-use Rattle.kbo_order.proofs.BalanceLemmas.{compared, level-met, rest-answer_here, rest-answer_later}
+use Rattle.kbo_order.proofs.AboutReading.ReadingLemmas.{seen-application, seen-more, seen-all, seen-ended, seen-size, occurrences-within}
+use Rattle.kbo_order.proofs.AboutReading.BlockLemmas.{answer_ended}
+use Rattle.kbo_order.proofs.AboutReading.MetLemmas.{Met-applications, Met-more, Met-same_trees, met-room}
+use Rattle.kbo_order.proofs.AboutReading.BalanceLemmas.{compared, level-met, rest-answer_here, rest-answer_later}
 use Rattle.kbo_order.proofs.balance.Balance.+compare.Goals as goal
 
 pub compare-tie-tie-requires : goal.compare-tie-tie-requires

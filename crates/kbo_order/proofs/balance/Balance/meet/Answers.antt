@@ -3,8 +3,8 @@ use Rattle.fol_base.specs.declared.clause.Side.TheVariants.{Left}
 use Rattle.fol_base.specs.Term.{tree_of}
 use Rattle.fol_base.specs.Tree.{tree_size}
 use Rattle.kbo_order.specs.Reading.{seen}
-use Rattle.kbo_order.proofs.ReadingLemmas.{occurrences-within}
-use Rattle.kbo_order.proofs.MetLemmas.{Met-sides, HasRoom-then, HasRoom-less}
+use Rattle.kbo_order.proofs.AboutReading.ReadingLemmas.{occurrences-within}
+use Rattle.kbo_order.proofs.AboutReading.MetLemmas.{Met-sides, HasRoom-then, HasRoom-less}
 use Rattle.kbo_order.proofs.balance.Balance.meet.Goals as goal
 
 pub add-requires-clause-room : goal.add-requires-clause-room

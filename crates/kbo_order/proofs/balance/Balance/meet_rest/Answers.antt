@@ -2,8 +2,8 @@ use Rattle.std.proofs.Common.{arith}
 use Rattle.fol_base.specs.declared.clause.Side.TheVariants.{Left}
 use Rattle.fol_base.specs.Tree.{trees_size}
 use Rattle.kbo_order.specs.Reading.{seen_from}
-use Rattle.kbo_order.proofs.ReadingLemmas.{all_occurrences-within}
-use Rattle.kbo_order.proofs.MetLemmas.{Met-sides, HasRoom-then, HasRoom-less}
+use Rattle.kbo_order.proofs.AboutReading.ReadingLemmas.{all_occurrences-within}
+use Rattle.kbo_order.proofs.AboutReading.MetLemmas.{Met-sides, HasRoom-then, HasRoom-less}
 use Rattle.kbo_order.proofs.balance.Balance.meet_rest.Goals as goal
 
 pub add_from-requires-clause-room : goal.add_from-requires-clause-room

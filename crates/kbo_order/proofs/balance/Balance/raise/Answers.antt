@@ -1,7 +1,7 @@
 use Rattle.std.proofs.Common.{ℕ, ◌==◌, ◌+◌, ◌^◌, get_or, arith}
 use Rattle.std.proofs.Math.ListN.{length-set}
-use Rattle.kbo_order.proofs.BitLemmas.{byte-bit, bit-most}
-use Rattle.kbo_order.proofs.LevelLemmas.{raised-above, raised-below, above-bound}
+use Rattle.kbo_order.proofs.AboutReading.BitLemmas.{byte-bit, bit-most}
+use Rattle.kbo_order.proofs.AboutReading.LevelLemmas.{raised-above, raised-below, above-bound}
 use Rattle.kbo_order.proofs.balance.Balance.raise.Goals as goal
 
 pub overflow_add-self : goal.overflow_add-self

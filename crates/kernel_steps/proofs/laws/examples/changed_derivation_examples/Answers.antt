@@ -1,4 +1,4 @@
-use Rattle.kernel_steps.proofs.ChangedExamples.{other_parent, other_index, one_literal_fewer, last_line_left_out}
+use Rattle.kernel_steps.proofs.WorkedExamples.ChangedExamples.{other_parent, other_index, one_literal_fewer, last_line_left_out}
 use Rattle.kernel_steps.proofs.laws.examples.changed_derivation_examples.Goals as goal
 
 pub returns-clause-other_parent : goal.returns-clause-other_parent

@@ -1,4 +1,4 @@
-use Rattle.kernel_steps.proofs.NameExamples.{component_of_literals, introduced_twice, component_without_literals, opposite, opposite_of_nothing, opposite_of_variable, opposite_of_two_literals, opposite_of_negative_literal}
+use Rattle.kernel_steps.proofs.WorkedExamples.NameExamples.{component_of_literals, introduced_twice, component_without_literals, opposite, opposite_of_nothing, opposite_of_variable, opposite_of_two_literals, opposite_of_negative_literal}
 use Rattle.kernel_steps.proofs.laws.examples.definition_examples.Goals as goal
 
 pub returns-clause-component_of_literals : goal.returns-clause-component_of_literals

@@ -1,4 +1,4 @@
-use Rattle.kernel_steps.proofs.DerivationExamples.{opposites_refuted, implication_refuted, rewrites_refuted, components_refuted, four_clauses_refuted}
+use Rattle.kernel_steps.proofs.WorkedExamples.DerivationExamples.{opposites_refuted, implication_refuted, rewrites_refuted, components_refuted, four_clauses_refuted}
 use Rattle.kernel_steps.proofs.laws.examples.derivation_examples.Goals as goal
 
 pub returns-clause-opposites : goal.returns-clause-opposites

@@ -1,4 +1,4 @@
-use Rattle.kernel_steps.proofs.NameExamples.{reduced}
+use Rattle.kernel_steps.proofs.WorkedExamples.NameExamples.{reduced}
 use Rattle.kernel_steps.proofs.laws.examples.number_examples.Goals as goal
 
 pub returns-clause-reduced : goal.returns-clause-reduced

@@ -1,4 +1,4 @@
-use Rattle.kernel_steps.proofs.GroundedLemmasLines.{lines_are_grounded, refutations_herbrand_refute}
+use Rattle.kernel_steps.proofs.AboutGrounding.GroundedLemmasLines.{lines_are_grounded, refutations_herbrand_refute}
 use Rattle.kernel_steps.proofs.laws.grounded.lines_are_grounded.Goals as goal
 
 pub returns-clause-lines : goal.returns-clause-lines

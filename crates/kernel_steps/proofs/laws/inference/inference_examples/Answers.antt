@@ -1,4 +1,4 @@
-use Rattle.kernel_steps.proofs.InferenceExamples.{resolution, first_factored, second_factored}
+use Rattle.kernel_steps.proofs.WorkedExamples.InferenceExamples.{resolution, first_factored, second_factored}
 use Rattle.kernel_steps.proofs.laws.inference.inference_examples.Goals as goal
 
 pub returns-clause-resolution : goal.returns-clause-resolution

@@ -1,4 +1,4 @@
-use Rattle.kernel_steps.proofs.ReductionExamples.{rewritten, rewritten_root, no_greater_term, smaller_other_side, cut}
+use Rattle.kernel_steps.proofs.WorkedExamples.ReductionExamples.{rewritten, rewritten_root, no_greater_term, smaller_other_side, cut}
 use Rattle.kernel_steps.proofs.laws.inference.reduction_examples.Goals as goal
 
 pub returns-clause-rewritten : goal.returns-clause-rewritten

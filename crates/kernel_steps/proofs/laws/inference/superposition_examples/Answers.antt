@@ -1,4 +1,4 @@
-use Rattle.kernel_steps.proofs.SuperpositionExamples.{superposition, names_of_both}
+use Rattle.kernel_steps.proofs.WorkedExamples.SuperpositionExamples.{superposition, names_of_both}
 use Rattle.kernel_steps.proofs.laws.inference.superposition_examples.Goals as goal
 
 pub returns-clause-superposition : goal.returns-clause-superposition

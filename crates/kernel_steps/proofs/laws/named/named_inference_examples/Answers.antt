@@ -3,8 +3,8 @@ use Rattle.std.proofs.lemmas.Option.{none-some}
 use Rattle.fol_base.specs.Examples.{x, a, p, q, clause}
 use Rattle.fol_base.specs.Rules.{disequation}
 use Rattle.kernel_steps.specs.Examples.{not_p}
-use Rattle.kernel_steps.proofs.InferenceExamples.{resolution, second_factored}
-use Rattle.kernel_steps.proofs.SuperpositionExamples.{superposition}
+use Rattle.kernel_steps.proofs.WorkedExamples.InferenceExamples.{resolution, second_factored}
+use Rattle.kernel_steps.proofs.WorkedExamples.SuperpositionExamples.{superposition}
 use Rattle.kernel_steps.proofs.laws.named.named_inference_examples.Goals as goal
 
 pub returns-clause-para : goal.returns-clause-para

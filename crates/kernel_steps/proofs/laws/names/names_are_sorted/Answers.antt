@@ -1,4 +1,4 @@
-use Rattle.kernel_steps.proofs.SortedNames.{sorted_names_law}
+use Rattle.kernel_steps.proofs.AboutNames.SortedNames.{sorted_names_law}
 use Rattle.kernel_steps.proofs.laws.names.names_are_sorted.Goals as goal
 
 pub returns : goal.returns

@@ -1,4 +1,4 @@
-use Rattle.kernel_steps.proofs.SoundLemmas.{derivations_are_sound}
+use Rattle.kernel_steps.proofs.AboutSoundness.SoundLemmas.{derivations_are_sound}
 use Rattle.kernel_steps.proofs.laws.soundness.derivations_are_sound.Goals as goal
 
 pub returns : goal.returns

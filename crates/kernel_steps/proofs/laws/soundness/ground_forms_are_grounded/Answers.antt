@@ -1,4 +1,4 @@
-use Rattle.kernel_steps.proofs.RefutationLemmas.{ground_lines_are_grounded, ground_refutations_herbrand_refute}
+use Rattle.kernel_steps.proofs.AboutSoundness.RefutationLemmas.{ground_lines_are_grounded, ground_refutations_herbrand_refute}
 use Rattle.kernel_steps.proofs.laws.soundness.ground_forms_are_grounded.Goals as goal
 
 pub returns-clause-lines : goal.returns-clause-lines

@@ -1,4 +1,4 @@
-use Rattle.kernel_steps.proofs.ChangedExamples.{general_refuted, unrelated_not_refuted}
+use Rattle.kernel_steps.proofs.WorkedExamples.ChangedExamples.{general_refuted, unrelated_not_refuted}
 use Rattle.kernel_steps.proofs.laws.soundness.herbrand_examples.Goals as goal
 
 pub returns-clause-by_instances : goal.returns-clause-by_instances

@@ -1,4 +1,4 @@
-use Rattle.kernel_steps.proofs.RefutationLemmas.{refutations_refute, ground_refutations_refute}
+use Rattle.kernel_steps.proofs.AboutSoundness.RefutationLemmas.{refutations_refute, ground_refutations_refute}
 use Rattle.kernel_steps.proofs.laws.soundness.refutations_refute.Goals as goal
 
 pub returns-clause-any_form : goal.returns-clause-any_form

@@ -1,5 +1,5 @@
-use Rattle.kernel_steps.proofs.RuleTruth.{para_is_sound, refl_is_sound, factor_is_sound, merge_is_sound}
-use Rattle.kernel_steps.proofs.NameTruth.{chain_is_sound}
+use Rattle.kernel_steps.proofs.AboutSoundness.RuleTruth.{para_is_sound, refl_is_sound, factor_is_sound, merge_is_sound}
+use Rattle.kernel_steps.proofs.AboutNames.NameTruth.{chain_is_sound}
 use Rattle.kernel_steps.proofs.laws.soundness.rules_are_sound.Goals as goal
 
 pub returns-clause-para : goal.returns-clause-para

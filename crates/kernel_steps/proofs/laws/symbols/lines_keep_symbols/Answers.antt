@@ -1,4 +1,4 @@
-use Rattle.kernel_steps.proofs.SymbolLemmas.{conclusions_keep_symbols, steps_keep_symbols, derivations_keep_symbols}
+use Rattle.kernel_steps.proofs.AboutCalls.SymbolLemmas.{conclusions_keep_symbols, steps_keep_symbols, derivations_keep_symbols}
 use Rattle.kernel_steps.proofs.laws.symbols.lines_keep_symbols.Goals as goal
 
 pub returns-clause-conclusions : goal.returns-clause-conclusions

@@ -1,6 +1,6 @@
 use Rattle.std.proofs.Common.{ap, ◌∙◌}
 use Rattle.kernel_steps.specs.Names.{with_name}
-use Rattle.kernel_steps.proofs.NameSetLemmas.{put-positive, put-negative}
+use Rattle.kernel_steps.proofs.AboutNames.NameSetLemmas.{put-positive, put-negative}
 use Rattle.kernel_steps.proofs.name_set.NameSet.put.Goals as goal
 
 pub returns-in_ok-insert : goal.returns-in_ok-insert

@@ -1,6 +1,6 @@
 use Rattle.std.proofs.Common.{ap, ◌∙◌}
 use Rattle.plain_types.specs.Names.{without}
-use Rattle.kernel_steps.proofs.NameSetLemmas.{remove-positive, remove-negative}
+use Rattle.kernel_steps.proofs.AboutNames.NameSetLemmas.{remove-positive, remove-negative}
 use Rattle.kernel_steps.proofs.name_set.NameSet.remove.Goals as goal
 
 pub returns-then-name : goal.returns-then-name

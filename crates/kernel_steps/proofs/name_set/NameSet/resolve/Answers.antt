@@ -1,7 +1,7 @@
 use Rattle.std.proofs.Common.{ap, sym, ◌∙◌}
 use Rattle.plain_types.specs.Names.{has_name, without}
 use Rattle.kernel_steps.specs.Names.{with_names}
-use Rattle.kernel_steps.proofs.NameSetLemmas.{resolvent-made}
+use Rattle.kernel_steps.proofs.AboutNames.NameSetLemmas.{resolvent-made}
 use Rattle.kernel_steps.proofs.name_set.NameSet.resolve.Goals as goal
 
 pub returns : goal.returns

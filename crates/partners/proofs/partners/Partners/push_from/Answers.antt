@@ -1,7 +1,7 @@
 use Rattle.std.proofs.Common.{◌≡◌, ◌<◌, List, length, take, refl, subst, arith}
 use Rattle.std.proofs.lemmas.List.{take_all}
 use Rattle.eq_rules.specs.declared.concluding.LiteralSide.{LiteralSide}
-use Rattle.superpose.proofs.TriedLemmas.{begins-again, begins-self}
+use Rattle.superpose.proofs.AboutSites.TriedLemmas.{begins-again, begins-self}
 use Rattle.partners.specs.Meeting.{MeetsAllPlaces}
 use Rattle.partners.proofs.NamedLemmas.{places-more}
 use Rattle.partners.proofs.partners.Partners.push_from.Goals as goal

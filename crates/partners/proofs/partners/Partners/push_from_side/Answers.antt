@@ -2,7 +2,7 @@ use Rattle.std.proofs.Common.{◌≡◌, List, ℕ, length, ap₂, refl, sym, �
 use Rattle.std.proofs.lemmas.List.{take_all}
 use Rattle.std.proofs.lemmas.Option.{same_Some, slice_get_read}
 use Rattle.fol_base.specs.Term.{tree_of}
-use Rattle.superpose.proofs.TriedLemmas.{begins-again, begins-self}
+use Rattle.superpose.proofs.AboutSites.TriedLemmas.{begins-again, begins-self}
 use Rattle.partners.specs.Meeting.{AddsNamed, name_into, names}
 use Rattle.partners.specs.SiteTerms.{start_term}
 use Rattle.partners.proofs.NamedLemmas.{named-next, named-nothing}

@@ -1,7 +1,7 @@
 use Rattle.std.proofs.Common.{◌≡◌, ◌<◌, List, length, take, refl, subst, arith}
 use Rattle.std.proofs.lemmas.List.{take_all}
 use Rattle.superpose.specs.declared.sites.LiteralPlace.{LiteralPlace}
-use Rattle.superpose.proofs.TriedLemmas.{begins-again, begins-self}
+use Rattle.superpose.proofs.AboutSites.TriedLemmas.{begins-again, begins-self}
 use Rattle.partners.specs.Meeting.{MeetsAllStarts}
 use Rattle.partners.proofs.NamedLemmas.{starts-more}
 use Rattle.partners.proofs.partners.Partners.push_into.Goals as goal

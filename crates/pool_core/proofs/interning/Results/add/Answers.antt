@@ -6,7 +6,7 @@ use Rattle.pool_core.specs.Placing.{AreResults, IsFit, IsFitResult}
 use Rattle.pool_core.specs.declared.batch.Fate.{Fate}
 use Rattle.pool_core.specs.declared.interning.Interned.{Interned}
 use Rattle.pool_core.specs.declared.interning.Results.{Results}
-use Rattle.pool_core.proofs.InternedLemmas.{one-more-result}
+use Rattle.pool_core.proofs.AboutReturns.InternedLemmas.{one-more-result}
 use Rattle.bank_clause.proofs.SidesLemmas.{known-literals-kept, literals-kept-on-the-way}
 use Rattle.pool_core.proofs.interning.Results.add.Goals as goal
 

@@ -1,4 +1,4 @@
-use Rattle.pool_core.proofs.AnswerExamples.{idle, nothing_out, saturated, ended, not_saturated, void, not_void, taken, not_taken, first_dead}
+use Rattle.pool_core.proofs.WorkedExamples.AnswerExamples.{idle, nothing_out, saturated, ended, not_saturated, void, not_void, taken, not_taken, first_dead}
 use Rattle.pool_core.proofs.laws.claiming.answer_examples.Goals as goal
 
 pub returns-clause-idle : goal.returns-clause-idle

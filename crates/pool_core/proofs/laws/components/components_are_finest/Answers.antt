@@ -1,4 +1,4 @@
-use Rattle.pool_core.proofs.FinestLemmas.{computed-finest}
+use Rattle.pool_core.proofs.AboutLines.FinestLemmas.{computed-finest}
 use Rattle.pool_core.proofs.laws.components.components_are_finest.Goals as goal
 
 pub returns : goal.returns

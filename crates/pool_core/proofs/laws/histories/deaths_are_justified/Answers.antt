@@ -1,4 +1,4 @@
-use Rattle.pool_core.proofs.JustifiedLemmas.{deaths_are_justified}
+use Rattle.pool_core.proofs.AboutCounting.JustifiedLemmas.{deaths_are_justified}
 use Rattle.pool_core.proofs.laws.histories.deaths_are_justified.Goals as goal
 
 pub returns : goal.returns

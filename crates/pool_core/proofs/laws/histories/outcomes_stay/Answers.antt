@@ -1,4 +1,4 @@
-use Rattle.pool_core.proofs.OutcomeLemmas.{outcomes_stay}
+use Rattle.pool_core.proofs.AboutOutcomes.OutcomeLemmas.{outcomes_stay}
 use Rattle.pool_core.proofs.laws.histories.outcomes_stay.Goals as goal
 
 pub returns : goal.returns

@@ -1,4 +1,4 @@
-use Rattle.pool_core.proofs.BeginningLemmas.{registered_are_whole}
+use Rattle.pool_core.proofs.AboutBeginnings.BeginningLemmas.{registered_are_whole}
 use Rattle.pool_core.proofs.laws.histories.registered_are_whole.Goals as goal
 
 pub returns : goal.returns

@@ -1,4 +1,4 @@
-use Rattle.pool_core.proofs.SpentLemmas.{spent_is_the_count}
+use Rattle.pool_core.proofs.AboutCounting.SpentLemmas.{spent_is_the_count}
 use Rattle.pool_core.proofs.laws.histories.spent_is_the_count.Goals as goal
 
 pub returns : goal.returns

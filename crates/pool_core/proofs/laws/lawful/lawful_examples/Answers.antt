@@ -1,11 +1,11 @@
-use Rattle.pool_core.proofs.MeetingExample.{r_stays}
-use Rattle.pool_core.proofs.EntryExample.{met}
-use Rattle.pool_core.proofs.GoingExample.{rewritten_goes}
-use Rattle.pool_core.proofs.LawfulExamples.{tautology_goes, subsumed_goes, given_up, solver_and_clause}
-use Rattle.pool_core.proofs.CuttingExample.{cut_goes}
-use Rattle.pool_core.proofs.SteppingExample.{step_met}
-use Rattle.pool_core.proofs.RemovingExample.{removal_met}
-use Rattle.pool_core.proofs.DroppingExample.{dropped_met}
+use Rattle.pool_core.proofs.WorkedExamples.MeetingExample.{r_stays}
+use Rattle.pool_core.proofs.WorkedExamples.EntryExample.{met}
+use Rattle.pool_core.proofs.WorkedExamples.GoingExample.{rewritten_goes}
+use Rattle.pool_core.proofs.WorkedExamples.LawfulExamples.{tautology_goes, subsumed_goes, given_up, solver_and_clause}
+use Rattle.pool_core.proofs.WorkedExamples.CuttingExample.{cut_goes}
+use Rattle.pool_core.proofs.WorkedExamples.SteppingExample.{step_met}
+use Rattle.pool_core.proofs.WorkedExamples.RemovingExample.{removal_met}
+use Rattle.pool_core.proofs.WorkedExamples.DroppingExample.{dropped_met}
 use Rattle.pool_core.proofs.laws.lawful.lawful_examples.Goals as goal
 
 pub returns-clause-tautology : goal.returns-clause-tautology

@@ -1,5 +1,5 @@
-use Rattle.pool_core.proofs.EntryExample.{itself_left_out, partner_left_out, met_twice}
-use Rattle.pool_core.proofs.LawfulExamples.{number_twice, number_of_solver, number_given_up, justifier_lives, solver_first, nothing_to_solve, not_out, not_void, never_given, justifier_missing}
+use Rattle.pool_core.proofs.WorkedExamples.EntryExample.{itself_left_out, partner_left_out, met_twice}
+use Rattle.pool_core.proofs.WorkedExamples.LawfulExamples.{number_twice, number_of_solver, number_given_up, justifier_lives, solver_first, nothing_to_solve, not_out, not_void, never_given, justifier_missing}
 use Rattle.pool_core.proofs.laws.lawful.unlawful_examples.Goals as goal
 
 pub returns-clause-number_twice : goal.returns-clause-number_twice

@@ -1,4 +1,4 @@
-use Rattle.pool_core.proofs.ReturnExamples.{stays_uncut, left_there, gone_reducible, kept_reducible, small_heavy, no_tautology, subsumed_by_untold, justifies_itself, superfluous_justifier, other_result, others_met, removes_itself, subsumed_by_itself}
+use Rattle.pool_core.proofs.WorkedExamples.ReturnExamples.{stays_uncut, left_there, gone_reducible, kept_reducible, small_heavy, no_tautology, subsumed_by_untold, justifies_itself, superfluous_justifier, other_result, others_met, removes_itself, subsumed_by_itself}
 use Rattle.pool_core.proofs.laws.returning.wrong_return_examples.Goals as goal
 
 pub returns-clause-stays_uncut : goal.returns-clause-stays_uncut

@@ -1,4 +1,4 @@
-use Rattle.pool_core.proofs.SaturatedExamples.{denial_saturated, empty_not_saturated}
+use Rattle.pool_core.proofs.WorkedExamples.SaturatedExamples.{denial_saturated, empty_not_saturated}
 use Rattle.pool_core.proofs.laws.saturated.saturated_examples.Goals as goal
 
 pub returns : goal.returns

@@ -1,4 +1,4 @@
-use Rattle.pool_core.proofs.NewsLemmas.{told_are_news}
+use Rattle.pool_core.proofs.AboutRecords.NewsLemmas.{told_are_news}
 use Rattle.pool_core.proofs.laws.telling.told_are_news.Goals as goal
 
 pub returns : goal.returns

@@ -3,9 +3,9 @@ use Rattle.std.proofs.lemmas.Option.{none-some}
 use Rattle.pool_core.specs.Lawful.{IsOut}
 use Rattle.pool_core.specs.Replay.{replay}
 use Rattle.pool_core.specs.View.{PoolView}
-use Rattle.pool_core.proofs.GiveUpLemmas.{IsOutBy, out-by, number-out, absent-out, given-up-living, given-up-dead}
-use Rattle.pool_core.proofs.LivingLemmas.{not-some}
-use Rattle.pool_core.proofs.StateLemmas.{at-ok}
+use Rattle.pool_core.proofs.AboutClaims.GiveUpLemmas.{IsOutBy, out-by, number-out, absent-out, given-up-living, given-up-dead}
+use Rattle.pool_core.proofs.AboutBeginnings.LivingLemmas.{not-some}
+use Rattle.pool_core.proofs.AboutClaims.StateLemmas.{at-ok}
 use Rattle.pool_core.proofs.pool.Pool.abandon.Goals as goal
 
 pub unreachable-requires : goal.unreachable-requires

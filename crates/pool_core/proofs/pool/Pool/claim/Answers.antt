@@ -3,7 +3,7 @@ use Rattle.std.specs.Prelude.{Option, None, is_some}
 use Rattle.pool_core.specs.Outcomes.{outcome_of}
 use Rattle.pool_core.specs.Record.{PoolRecord}
 use Rattle.pool_core.specs.Replay.{replay}
-use Rattle.pool_core.proofs.ClaimLemmas.{open-without, some-out, no-value}
+use Rattle.pool_core.proofs.AboutClaims.ClaimLemmas.{open-without, some-out, no-value}
 use Rattle.pool_core.proofs.pool.Pool.claim.Goals as goal
 
 pub returns-in-Some-clause-answer : goal.returns-in-Some-clause-answer

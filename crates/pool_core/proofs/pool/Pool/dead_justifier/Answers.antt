@@ -4,8 +4,8 @@ use Rattle.pool_core.specs.Answers.{dead_justifier}
 use Rattle.pool_core.specs.Record.{PoolRecord, is_dead}
 use Rattle.pool_core.specs.Replay.{replay}
 use Rattle.pool_core.specs.View.{PoolView}
-use Rattle.pool_core.proofs.ReturnLemmas.{dead-at, dead-fits, found-one}
-use Rattle.pool_core.proofs.StateLemmas.{record_of}
+use Rattle.pool_core.proofs.AboutReturns.ReturnLemmas.{dead-at, dead-fits, found-one}
+use Rattle.pool_core.proofs.AboutClaims.StateLemmas.{record_of}
 use Rattle.pool_core.proofs.pool.Pool.dead_justifier.Goals as goal
 
 pub overflow_cast-result : goal.overflow_cast-result

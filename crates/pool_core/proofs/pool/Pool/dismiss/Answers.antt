@@ -4,8 +4,8 @@ use Rattle.pool_core.specs.Lawful.{IsGivenOut}
 use Rattle.pool_core.specs.Record.{is_dead}
 use Rattle.pool_core.specs.Replay.{replay}
 use Rattle.pool_core.specs.View.{PoolView}
-use Rattle.pool_core.proofs.ReturnLemmas.{dismissed-pool, given-some}
-use Rattle.pool_core.proofs.StateLemmas.{record_of}
+use Rattle.pool_core.proofs.AboutReturns.ReturnLemmas.{dismissed-pool, given-some}
+use Rattle.pool_core.proofs.AboutClaims.StateLemmas.{record_of}
 use Rattle.pool_core.proofs.pool.Pool.dismiss.Goals as goal
 
 pub push_reserved-requires : goal.push_reserved-requires

@@ -10,10 +10,10 @@ use Rattle.pool_core.specs.Events.{events_of}
 use Rattle.pool_core.specs.View.{PoolView}
 use Rattle.pool_core.specs.declared.event.Event.{Event}
 use Rattle.pool_core.specs.declared.event.Event.TheVariants.{Claim}
-use Rattle.pool_core.proofs.ClaimLemmas.{claimed-pool, claimed-ticket, activated-by, given-registered, in-queue, one-spare}
-use Rattle.pool_core.proofs.JobLemmas.{Rising}
-use Rattle.pool_core.proofs.LivingLemmas.{nothing-to-solve}
-use Rattle.pool_core.proofs.StateLemmas.{record_of, kept-pool, pool-rises, item-at}
+use Rattle.pool_core.proofs.AboutClaims.ClaimLemmas.{claimed-pool, claimed-ticket, activated-by, given-registered, in-queue, one-spare}
+use Rattle.pool_core.proofs.AboutBounds.JobLemmas.{Rising}
+use Rattle.pool_core.proofs.AboutBeginnings.LivingLemmas.{nothing-to-solve}
+use Rattle.pool_core.proofs.AboutClaims.StateLemmas.{record_of, kept-pool, pool-rises, item-at}
 use Rattle.pool_core.proofs.pool.Pool.give.Goals as goal
 
 pub invariant_of-self : goal.invariant_of-self

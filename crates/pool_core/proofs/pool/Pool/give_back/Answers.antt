@@ -2,7 +2,7 @@ use Rattle.std.proofs.Common.{◌≡◌, true, ap, sym, ◌∙◌, subst}
 use Rattle.pool_core.specs.Answers.{death_of}
 use Rattle.pool_core.specs.Record.{PoolRecord, lives}
 use Rattle.pool_core.specs.Replay.{replay}
-use Rattle.pool_core.proofs.ReturnLemmas.{dead-of, living-of, dead-has-event, first-died}
+use Rattle.pool_core.proofs.AboutReturns.ReturnLemmas.{dead-of, living-of, dead-has-event, first-died}
 use Rattle.pool_core.proofs.pool.Pool.give_back.Goals as goal
 
 pub dismiss-requires : goal.dismiss-requires

@@ -4,7 +4,7 @@ use Rattle.pool_core.specs.Replay.{replay}
 use Rattle.pool_core.specs.Events.{events_of}
 use Rattle.pool_core.specs.View.{PoolView}
 use Rattle.pool_core.specs.State.{origin_of}
-use Rattle.pool_core.proofs.LivingLemmas.{lives-there, not-some}
+use Rattle.pool_core.proofs.AboutBeginnings.LivingLemmas.{lives-there, not-some}
 use Rattle.pool_core.proofs.pool.Pool.is_living.Goals as goal
 
 pub returns-then-number-len : goal.returns-then-number-len

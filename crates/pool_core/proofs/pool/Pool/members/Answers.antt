@@ -3,9 +3,9 @@ use Rattle.pool_core.specs.Record.{PoolRecord, clause_numbered}
 use Rattle.pool_core.specs.Replay.{replay}
 use Rattle.pool_core.specs.State.{IsStateOf}
 use Rattle.pool_core.specs.View.{PoolView}
-use Rattle.pool_core.proofs.LivingLemmas.{not-some}
-use Rattle.pool_core.proofs.MemberLemmas.{AreMembersUpTo, no-members, one-member, no-member, first_members}
-use Rattle.pool_core.proofs.StateLemmas.{registered-count}
+use Rattle.pool_core.proofs.AboutBeginnings.LivingLemmas.{not-some}
+use Rattle.pool_core.proofs.AboutClaims.MemberLemmas.{AreMembersUpTo, no-members, one-member, no-member, first_members}
+use Rattle.pool_core.proofs.AboutClaims.StateLemmas.{registered-count}
 use Rattle.pool_core.proofs.pool.Pool.members.Goals as goal
 use Rattle.pool_core.proofs.pool.Pool.members.Goals.{then-is_none+in_ok-copied+in_ok-push, else-is_none}
 

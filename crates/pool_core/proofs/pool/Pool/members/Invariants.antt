@@ -1,5 +1,5 @@
 use Rattle.pool_core.specs.Replay.{replay}
-use Rattle.pool_core.proofs.MemberLemmas.{AreMembersUpTo}
+use Rattle.pool_core.proofs.AboutClaims.MemberLemmas.{AreMembersUpTo}
 use Rattle.pool_core.proofs.pool.Pool.members.Given as goal
 
 abbrev pub invariant-loop-number : goal.invariant-loop-number

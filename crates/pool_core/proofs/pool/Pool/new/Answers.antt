@@ -6,7 +6,7 @@ use Rattle.pool_core.specs.Inputs.{AreInputs}
 use Rattle.pool_core.specs.Record.{nothing_registered}
 use Rattle.pool_core.specs.Registering.{with_inputs}
 use Rattle.pool_core.specs.Started.{IsStarted}
-use Rattle.pool_core.proofs.BegunLemmas.{begun}
+use Rattle.pool_core.proofs.AboutBeginnings.BegunLemmas.{begun}
 use Rattle.pool_core.proofs.pool.Pool.new.Goals as goal
 
 pub invariant_of-result : goal.invariant_of-result

@@ -10,8 +10,8 @@ use Rattle.pool_core.specs.Replay.{start}
 use Rattle.pool_core.specs.View.{PoolView}
 use Rattle.pool_core.specs.declared.pool.Note.{Note}
 use Rattle.pool_core.specs.declared.ticket.Change.{Change}
-use Rattle.pool_core.proofs.StartLemmas.{all-at}
-use Rattle.pool_core.proofs.StateLemmas.{news-told, all-of-bank, record_of}
+use Rattle.pool_core.proofs.AboutBeginnings.StartLemmas.{all-at}
+use Rattle.pool_core.proofs.AboutClaims.StateLemmas.{news-told, all-of-bank, record_of}
 use Rattle.pool_core.proofs.pool.Pool.news.Goals as goal
 
 pub change-requires : goal.change-requires

@@ -6,8 +6,8 @@ use Rattle.pool_core.specs.Replay.{replay}
 use Rattle.pool_core.specs.Solving.{must_solve}
 use Rattle.pool_core.specs.View.{PoolView}
 use Rattle.pool_core.specs.State.{origin_of}
-use Rattle.pool_core.proofs.LivingLemmas.{nothing-to-solve}
-use Rattle.pool_core.proofs.PickLemmas.{peek-is-given, old-choice, light-choice}
+use Rattle.pool_core.proofs.AboutBeginnings.LivingLemmas.{nothing-to-solve}
+use Rattle.pool_core.proofs.AboutClaims.PickLemmas.{peek-is-given, old-choice, light-choice}
 use Rattle.pool_core.proofs.pool.Pool.next_given.Goals as goal
 use Rattle.pool_core.proofs.pool.Pool.next_given.Goals.{then-self, else-self}
 

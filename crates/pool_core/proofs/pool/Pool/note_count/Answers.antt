@@ -4,7 +4,7 @@ use Rattle.std.proofs.lemmas.Option.{slice_get_read}
 use Rattle.pool_core.specs.News.{changes_from}
 use Rattle.pool_core.specs.Replay.{start}
 use Rattle.pool_core.specs.View.{PoolView}
-use Rattle.pool_core.proofs.StateLemmas.{count-before, count-all}
+use Rattle.pool_core.proofs.AboutClaims.StateLemmas.{count-before, count-all}
 use Rattle.pool_core.proofs.pool.Pool.note_count.Goals as goal
 
 pub returns-in-Some : goal.returns-in-Some

@@ -6,9 +6,9 @@ use Rattle.pool_core.specs.Record.{GivenJob, given_job}
 use Rattle.pool_core.specs.Replay.{replay}
 use Rattle.pool_core.specs.View.{PoolView}
 use Rattle.pool_core.specs.declared.pool.OutJob.{OutJob}
-use Rattle.pool_core.proofs.GiveUpLemmas.{entry-out}
-use Rattle.pool_core.proofs.ReturnLemmas.{out-below}
-use Rattle.pool_core.proofs.StateLemmas.{record_of, pool-rises}
+use Rattle.pool_core.proofs.AboutClaims.GiveUpLemmas.{entry-out}
+use Rattle.pool_core.proofs.AboutReturns.ReturnLemmas.{out-below}
+use Rattle.pool_core.proofs.AboutClaims.StateLemmas.{record_of, pool-rises}
 use Rattle.pool_core.proofs.pool.Pool.out_job.Goals as goal
 
 pub unreachable-requires : goal.unreachable-requires

@@ -12,9 +12,9 @@ use Rattle.pool_core.specs.View.{PoolView}
 use Rattle.pool_core.specs.declared.batch.Batch.{Batch}
 use Rattle.pool_core.specs.declared.event.Event.TheVariants.{Return}
 use Rattle.pool_core.specs.declared.register.Registration.{Registration}
-use Rattle.pool_core.proofs.HistoryLemmas.{event-count}
-use Rattle.pool_core.proofs.StateLemmas.{record_of, kept-pool, given-count}
-use Rattle.pool_core.proofs.TakenLemmas.{IsToBeTaken, to-be-taken, taken-pool, without, worked-follows, after-worked, open-record, work-of, noted-since}
+use Rattle.pool_core.proofs.AboutClaims.HistoryLemmas.{event-count}
+use Rattle.pool_core.proofs.AboutClaims.StateLemmas.{record_of, kept-pool, given-count}
+use Rattle.pool_core.proofs.AboutReturns.TakenLemmas.{IsToBeTaken, to-be-taken, taken-pool, without, worked-follows, after-worked, open-record, work-of, noted-since}
 use Rattle.pool_core.proofs.pool.Pool.take.Goals as goal
 
 pub take_memory-memory-requires-clause-fit : goal.take_memory-memory-requires-clause-fit

@@ -11,8 +11,8 @@ use Rattle.pool_core.specs.Record.{PoolRecord}
 use Rattle.pool_core.specs.Replay.{replay}
 use Rattle.pool_core.specs.State.{IsStateOf}
 use Rattle.pool_core.specs.View.{PoolView}
-use Rattle.pool_core.proofs.ClaimLemmas.{given-registered}
-use Rattle.pool_core.proofs.StateLemmas.{clause-there, one-of-bank, record_of}
+use Rattle.pool_core.proofs.AboutClaims.ClaimLemmas.{given-registered}
+use Rattle.pool_core.proofs.AboutClaims.StateLemmas.{clause-there, one-of-bank, record_of}
 use Rattle.pool_core.proofs.pool.Pool.ticket.Goals as goal
 
 pub get-requires : goal.get-requires

@@ -7,9 +7,9 @@ use Rattle.pool_core.specs.Record.{PoolRecord, clauses_of, position_of, given_jo
 use Rattle.pool_core.specs.Replay.{replay}
 use Rattle.pool_core.specs.State.{IsStateOf}
 use Rattle.pool_core.specs.View.{PoolView}
-use Rattle.pool_core.proofs.ClaimLemmas.{told-before}
-use Rattle.pool_core.proofs.ReturnLemmas.{out-below, out-placed}
-use Rattle.pool_core.proofs.StateLemmas.{record_of, registered-count, clause-there, one-of-bank}
+use Rattle.pool_core.proofs.AboutClaims.ClaimLemmas.{told-before}
+use Rattle.pool_core.proofs.AboutReturns.ReturnLemmas.{out-below, out-placed}
+use Rattle.pool_core.proofs.AboutClaims.StateLemmas.{record_of, registered-count, clause-there, one-of-bank}
 use Rattle.pool_core.proofs.pool.Pool.ticket_again.Goals as goal
 
 pub get-registration-requires : goal.get-registration-requires

@@ -12,9 +12,9 @@ use Rattle.pool_core.specs.Record.{PoolRecord, position_of}
 use Rattle.pool_core.specs.Replay.{replay}
 use Rattle.pool_core.specs.View.{PoolView}
 use Rattle.pool_core.specs.declared.ticket.Change.TheVariants.{Activated}
-use Rattle.pool_core.proofs.ClaimLemmas.{given-registered, told-before, told-now}
-use Rattle.pool_core.proofs.FitLemmas.{positions-fit}
-use Rattle.pool_core.proofs.StateLemmas.{record_of, one-of-bank}
+use Rattle.pool_core.proofs.AboutClaims.ClaimLemmas.{given-registered, told-before, told-now}
+use Rattle.pool_core.proofs.AboutRecords.FitLemmas.{positions-fit}
+use Rattle.pool_core.proofs.AboutClaims.StateLemmas.{record_of, one-of-bank}
 use Rattle.pool_core.proofs.pool.Pool.told_position.Goals as goal
 
 pub get-registration-requires : goal.get-registration-requires

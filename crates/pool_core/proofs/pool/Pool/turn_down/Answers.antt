@@ -8,7 +8,7 @@ use Rattle.pool_core.specs.Replay.{replay}
 use Rattle.pool_core.specs.View.{PoolView}
 use Rattle.pool_core.specs.declared.event.Event.{Event}
 use Rattle.pool_core.specs.declared.event.Event.TheVariants.{Stale}
-use Rattle.pool_core.proofs.StaleLemmas.{turned-down-pool, turned-down-ticket, stale-allowed}
+use Rattle.pool_core.proofs.AboutReturns.StaleLemmas.{turned-down-pool, turned-down-ticket, stale-allowed}
 use Rattle.pool_core.proofs.pool.Pool.turn_down.Goals as goal
 
 pub invariant_of-self-2 : goal.invariant_of-self-2

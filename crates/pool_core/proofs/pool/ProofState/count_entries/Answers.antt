@@ -7,7 +7,7 @@ use Rattle.pool_core.specs.Placing.{HasRoom}
 use Rattle.pool_core.specs.declared.batch.Entry.{Entry}
 use Rattle.pool_core.specs.declared.interning.Interned.{Interned}
 use Rattle.pool_core.specs.declared.pool.ProofState.{ProofState}
-use Rattle.pool_core.proofs.ArrivalLemmas.{AreCountedSoFar, so-far-begins, one-left, next-arrival, room-for-next, one-kept, one-other, all-counted, not-kept, nothing-left}
+use Rattle.pool_core.proofs.AboutReturns.ArrivalLemmas.{AreCountedSoFar, so-far-begins, one-left, next-arrival, room-for-next, one-kept, one-other, all-counted, not-kept, nothing-left}
 use Rattle.pool_core.proofs.pool.ProofState.count_entries.Goals as goal
 use Rattle.pool_core.proofs.pool.ProofState.count_entries.Goals.{in-Kept+in-Some-next, in_default}
 

@@ -1,6 +1,6 @@
 use Rattle.std.proofs.Common.{◌≡◌, ◌+◌, length, vec_len, vec_capacity}
 use Rattle.std.specs.Vec.Iter.{into_iter_items}
-use Rattle.pool_core.proofs.ArrivalLemmas.{AreCountedSoFar}
+use Rattle.pool_core.proofs.AboutReturns.ArrivalLemmas.{AreCountedSoFar}
 use Rattle.pool_core.proofs.pool.ProofState.count_entries.Given as goal
 
 abbrev pub invariant-loop-entry : goal.invariant-loop-entry

@@ -1,6 +1,6 @@
 use Rattle.std.proofs.Common.{refl, ◌∙◌}
 use Rattle.pool_core.specs.declared.register.Registration.{Registration}
-use Rattle.pool_core.proofs.ProofStateLemmas.{died-state}
+use Rattle.pool_core.proofs.AboutReturns.ProofStateLemmas.{died-state}
 use Rattle.pool_core.proofs.pool.ProofState.die.Goals as goal
 
 pub returns-clause-died : goal.returns-clause-died

@@ -6,8 +6,8 @@ use Rattle.pool_core.specs.Counting.{lines_of_fate}
 use Rattle.pool_core.specs.Placing.{HasRoom, NotesDeaths, IsCountedStateOf, lines_of_removals}
 use Rattle.pool_core.specs.Record.{PoolRecord}
 use Rattle.pool_core.specs.declared.batch.Removal.{Removal}
-use Rattle.pool_core.proofs.ArrivalLemmas.{nothing-left}
-use Rattle.pool_core.proofs.ProposedLemmas.{AreProposedSoFar, proposals-begin, taken-result, one-removed, one-left-out, some-proposal, room-less, room-of-one, room-with-more}
+use Rattle.pool_core.proofs.AboutReturns.ArrivalLemmas.{nothing-left}
+use Rattle.pool_core.proofs.AboutReturns.ProposedLemmas.{AreProposedSoFar, proposals-begin, taken-result, one-removed, one-left-out, some-proposal, room-less, room-of-one, room-with-more}
 use Rattle.pool_core.proofs.pool.ProofState.propose.Goals as goal
 
 pub loop-removal-init : goal.loop-removal-init

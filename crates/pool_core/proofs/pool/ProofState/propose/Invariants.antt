@@ -1,6 +1,6 @@
 use Rattle.std.proofs.Common.{◌≡◌, ◌+◌, ◌≤◌, length, vec_len, vec_capacity}
 use Rattle.std.specs.Vec.Iter.{into_iter_items}
-use Rattle.pool_core.proofs.ProposedLemmas.{AreProposedSoFar}
+use Rattle.pool_core.proofs.AboutReturns.ProposedLemmas.{AreProposedSoFar}
 use Rattle.pool_core.proofs.pool.ProofState.propose.Given as goal
 
 abbrev pub invariant-loop-removal : goal.invariant-loop-removal

@@ -7,7 +7,7 @@ use Rattle.pool_core.specs.Returning.{replaced}
 use Rattle.pool_core.specs.declared.batch.Fate.{Fate}
 use Rattle.pool_core.specs.declared.batch.Fate.TheVariants.{Kept}
 use Rattle.pool_core.specs.declared.interning.Interned.{Interned}
-use Rattle.pool_core.proofs.ArrivalLemmas.{not-kept, replaced-other, one-replaced}
+use Rattle.pool_core.proofs.AboutReturns.ArrivalLemmas.{not-kept, replaced-other, one-replaced}
 use Rattle.pool_core.proofs.pool.ProofState.replace.Goals as goal
 
 pub returns-in_default : goal.returns-in_default

@@ -8,9 +8,9 @@ use Rattle.pool_core.specs.Record.{PoolRecord}
 use Rattle.pool_core.specs.Returning.{dies, becomes_active, sets_aside, proposed, worked}
 use Rattle.pool_core.specs.declared.batch.Work.{Work}
 use Rattle.pool_core.specs.declared.interning.Interned.{Interned}
-use Rattle.pool_core.proofs.ArrivalLemmas.{recounted}
-use Rattle.pool_core.proofs.DeathLemmas.{counts-keeps}
-use Rattle.pool_core.proofs.ProposedLemmas.{gone-queue, lone-result, room-of-one, room-with-more, room-front, notes-one, notes-then, notes-counted}
+use Rattle.pool_core.proofs.AboutReturns.ArrivalLemmas.{recounted}
+use Rattle.pool_core.proofs.AboutCounting.DeathLemmas.{counts-keeps}
+use Rattle.pool_core.proofs.AboutReturns.ProposedLemmas.{gone-queue, lone-result, room-of-one, room-with-more, room-front, notes-one, notes-then, notes-counted}
 use Rattle.pool_core.proofs.pool.ProofState.work.Goals as goal
 
 pub replace-requires-clause-interned : goal.replace-requires-clause-interned

@@ -8,7 +8,7 @@ use Rattle.pool_core.specs.Register.{is_living_copy, dead_in}
 use Rattle.pool_core.specs.RegisterLiving.{IsOnlyCopy}
 use Rattle.pool_core.specs.RegisterCode.{Registrations}
 use Rattle.pool_core.specs.declared.register.Registration.{Registration}
-use Rattle.pool_core.proofs.RegisterLemmas.{found-after-burial, only-after-burial}
+use Rattle.pool_core.proofs.AboutRecords.RegisterLemmas.{found-after-burial, only-after-burial}
 use Rattle.pool_core.proofs.register.Register.bury.Goals as goal
 
 pub invariant_of-self : goal.invariant_of-self

@@ -8,8 +8,8 @@ use Rattle.pool_core.specs.RegisterCode.{Registrations}
 use Rattle.pool_core.specs.RegisterLiving.{IsOnlyCopy}
 use Rattle.pool_core.specs.declared.register.Registration.{Registration}
 use Rattle.std.proofs.lemmas.List.{length-append}
-use Rattle.pool_core.proofs.RegisterLemmas.{registered-found, only-with-new}
-use Rattle.pool_core.proofs.StateLemmas.{at-ok}
+use Rattle.pool_core.proofs.AboutRecords.RegisterLemmas.{registered-found, only-with-new}
+use Rattle.pool_core.proofs.AboutClaims.StateLemmas.{at-ok}
 use Rattle.pool_core.proofs.register.Register.push.Goals as goal
 
 pub invariant_of-self : goal.invariant_of-self

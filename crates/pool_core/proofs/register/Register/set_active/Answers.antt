@@ -6,7 +6,7 @@ use Rattle.std.proofs.lemmas.Option.{get_or_from_slice_get, slice_get_read}
 use Rattle.pool_core.specs.Register.{made_active}
 use Rattle.pool_core.specs.RegisterCode.{Registrations}
 use Rattle.pool_core.specs.declared.register.Registration.{Registration}
-use Rattle.pool_core.proofs.RegisterLemmas.{found-as-before, only-as-before}
+use Rattle.pool_core.proofs.AboutRecords.RegisterLemmas.{found-as-before, only-as-before}
 use Rattle.pool_core.proofs.register.Register.set_active.Goals as goal
 
 pub invariant_of-self : goal.invariant_of-self

@@ -11,7 +11,7 @@ use Rattle.pool_core.specs.Register.{is_living_copy}
 use Rattle.pool_core.specs.declared.outcome.Outcome.TheVariants.{Refuted}
 use Rattle.pool_core.specs.declared.register.Registration.{Registration}
 use Rattle.pool_core.specs.declared.start.Start.{Start}
-use Rattle.pool_core.proofs.StartLemmas.{living-equal, no-outcome, no-literals, started-with, copy-of-bank, again, pushed-clause, pushed-empty, next-absent}
+use Rattle.pool_core.proofs.AboutBeginnings.StartLemmas.{living-equal, no-outcome, no-literals, started-with, copy-of-bank, again, pushed-clause, pushed-empty, next-absent}
 use Rattle.pool_core.proofs.start.Start.add.Goals as goal
 
 pub agree-requires-clause-second : goal.agree-requires-clause-second

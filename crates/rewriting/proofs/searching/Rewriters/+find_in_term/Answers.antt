@@ -4,7 +4,7 @@ use Rattle.std.proofs.lemmas.Option.{slice_get_within}
 use Rattle.fol_base.specs.Tree.{tree_size, trees_size, trees_of}
 use Rattle.fol_base.specs.Term.{tree_of}
 use Rattle.fol_base.specs.declared.limits.TheConstants.{SIZE_LIMIT}
-use Rattle.fol_base.proofs.TermLemmas.{tree_size-item, length-trees}
+use Rattle.fol_base.proofs.AboutTerms.TermLemmas.{tree_size-item, length-trees}
 use Rattle.rewriting.specs.Redex.{inner}
 use Rattle.rewriting.specs.Spots.{spot_of}
 use Rattle.rewriting.specs.Searching.{IsFoundIn, IsFoundInSome, IsPlaced, usable_by}

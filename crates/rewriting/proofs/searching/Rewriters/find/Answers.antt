@@ -2,7 +2,7 @@ use Rattle.std.proofs.Common.{subst, arith}
 use Rattle.std.specs.Prelude.{Option}
 use Rattle.std.proofs.lemmas.Option.{slice_get_within}
 use Rattle.fol_base.specs.Lent.{lent_of}
-use Rattle.kbo_order.proofs.ClauseLoops.{item-size}
+use Rattle.kbo_order.proofs.AboutMultisets.ClauseLoops.{item-size}
 use Rattle.rewriting.specs.Searching.{IsFoundOfLiteral, usable_by}
 use Rattle.rewriting.specs.declared.searching.Found.{Found}
 use Rattle.rewriting.proofs.SearchLemmas.{found-of, one-more-literal}

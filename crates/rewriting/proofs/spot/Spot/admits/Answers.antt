@@ -7,7 +7,7 @@ use Rattle.fol_base.specs.Term.{tree_of}
 use Rattle.fol_base.specs.declared.term.Term.{Term}
 use Rattle.fol_base.specs.declared.limits.TheConstants.{SIZE_LIMIT}
 use Rattle.kbo_order.specs.declared.limits.TheConstants.{COMPARED_SIZE_LIMIT}
-use Rattle.kbo_order.proofs.ReadingLemmas.{instance-itself}
+use Rattle.kbo_order.proofs.AboutReading.ReadingLemmas.{instance-itself}
 use Rattle.unifier.specs.Matching.{by_pairs}
 use Rattle.rewriting.specs.Redex.{is_within}
 use Rattle.rewriting.proofs.spot.Spot.admits.Goals as goal

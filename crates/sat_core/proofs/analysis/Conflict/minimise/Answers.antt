@@ -1,5 +1,5 @@
 use Rattle.std.proofs.Common.{refl}
-use Rattle.sat_core.proofs.ReduceLemmas.{reduced_from}
+use Rattle.sat_core.proofs.AboutConflicts.ReduceLemmas.{reduced_from}
 use Rattle.sat_core.proofs.analysis.Conflict.minimise.Goals as goal
 
 pub loop-index-init : goal.loop-index-init

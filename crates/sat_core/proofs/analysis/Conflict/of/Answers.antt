@@ -2,7 +2,7 @@ use Rattle.std.proofs.Common.{subst, ◌∙◌}
 use Rattle.sat_core.specs.Clause.{PropClause}
 use Rattle.sat_core.specs.Conflict.{AddsOthers}
 use Rattle.std.specs.Prelude.{None}
-use Rattle.sat_core.proofs.ResolveLemmas.{begun}
+use Rattle.sat_core.proofs.AboutConflicts.ResolveLemmas.{begun}
 use Rattle.sat_core.proofs.analysis.Conflict.of.Goals as goal
 
 pub returns-clause-resolving : goal.returns-clause-resolving

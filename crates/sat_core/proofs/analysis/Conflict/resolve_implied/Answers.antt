@@ -1,6 +1,6 @@
 use Rattle.std.proofs.Common.{arith, length, sym, ◌∙◌}
-use Rattle.sat_core.proofs.ResolveLemmas.{entry_read, entry_named}
-use Rattle.sat_core.proofs.ReduceLemmas.{implied_read, entry_away}
+use Rattle.sat_core.proofs.AboutConflicts.ResolveLemmas.{entry_read, entry_named}
+use Rattle.sat_core.proofs.AboutConflicts.ReduceLemmas.{implied_read, entry_away}
 use Rattle.sat_core.proofs.analysis.Conflict.resolve_implied.Goals as goal
 
 pub is_marked-requires : goal.is_marked-requires

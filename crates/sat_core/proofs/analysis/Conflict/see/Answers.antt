@@ -1,6 +1,6 @@
 use Rattle.std.proofs.Common.{arith}
 use Rattle.std.proofs.lemmas.List.{get_or_default}
-use Rattle.sat_core.proofs.AnalysisLemmas.{has_name_read}
+use Rattle.sat_core.proofs.AboutConflicts.AnalysisLemmas.{has_name_read}
 use Rattle.sat_core.proofs.analysis.Conflict.see.Goals as goal
 
 pub place-place-requires : goal.place-place-requires

@@ -1,5 +1,5 @@
 use Rattle.std.proofs.Common.{arith, ◌-◌, length, ◌∙◌}
-use Rattle.sat_core.proofs.ResolveLemmas.{entry_read, entry_named, mark_read, passed_entry, turned_entry, implied_entry, others_false, resolved_entry}
+use Rattle.sat_core.proofs.AboutConflicts.ResolveLemmas.{entry_read, entry_named, mark_read, passed_entry, turned_entry, implied_entry, others_false, resolved_entry}
 use Rattle.sat_core.proofs.analysis.Conflict.step_back.Goals as goal
 
 pub index-requires : goal.index-requires

@@ -1,4 +1,4 @@
-use Rattle.sat_core.proofs.LogLemmas.{right_log}
+use Rattle.sat_core.proofs.AboutConflicts.LogLemmas.{right_log}
 use Rattle.sat_core.proofs.clauses.Clauses.into_log.Goals as goal
 
 pub returns : goal.returns

@@ -1,4 +1,4 @@
-use Rattle.sat_core.proofs.LogLemmas.{learned}
+use Rattle.sat_core.proofs.AboutConflicts.LogLemmas.{learned}
 use Rattle.sat_core.proofs.clauses.Clauses.learn.Goals as goal
 
 pub returns-clause-derived : goal.returns-clause-derived

@@ -1,6 +1,6 @@
 use Rattle.std.proofs.Common.{refl, arith, ◌∙◌}
 use Rattle.std.proofs.lemmas.List.{length-set}
-use Rattle.sat_core.proofs.MarkLemmas.{last_within, left_after}
+use Rattle.sat_core.proofs.AboutConflicts.MarkLemmas.{last_within, left_after}
 use Rattle.sat_core.proofs.marks.Marks.clear.Goals as goal
 
 pub loop-literal-init : goal.loop-literal-init

@@ -1,4 +1,4 @@
-use Rattle.sat_core.proofs.AnalysisLemmas.{named_at}
+use Rattle.sat_core.proofs.AboutConflicts.AnalysisLemmas.{named_at}
 use Rattle.sat_core.proofs.marks.Marks.have_others.Goals as goal
 
 pub is_covered-requires : goal.is_covered-requires

@@ -1,6 +1,6 @@
 use Rattle.std.proofs.Common.{false, sym, ◌∙◌}
 use Rattle.std.proofs.lemmas.List.{get_or_read}
-use Rattle.sat_core.proofs.MarkLemmas.{marked_already}
+use Rattle.sat_core.proofs.AboutConflicts.MarkLemmas.{marked_already}
 use Rattle.sat_core.proofs.marks.Marks.mark.Goals as goal
 
 pub returns-else-not-index-clause-literals : goal.returns-else-not-index-clause-literals

@@ -1,7 +1,7 @@
 use Rattle.std.proofs.Common.{◌≡◌, length, refl, ap, sym, ◌∙◌, arith}
 use Rattle.std.proofs.lemmas.List.{length-set}
-use Rattle.sat_core.proofs.SoundLemmas.{pushed_remaining}
-use Rattle.sat_core.proofs.SolverLemmas.{decided}
+use Rattle.sat_core.proofs.AboutAnswers.SoundLemmas.{pushed_remaining}
+use Rattle.sat_core.proofs.AboutAnswers.SolverLemmas.{decided}
 use Rattle.sat_core.proofs.solver.Solver.decide.Goals as goal
 
 pub returns : goal.returns

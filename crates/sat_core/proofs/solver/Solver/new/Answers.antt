@@ -3,8 +3,8 @@ use Rattle.std.proofs.lemmas.List.{get_or_read, take_all}
 use Rattle.sat_core.specs.Clause.{PropClause}
 use Rattle.sat_core.specs.State.{clause_at}
 use Rattle.sat_core.specs.Search.{HaveLists}
-use Rattle.sat_core.proofs.MarkLemmas.{left_of_marks}
-use Rattle.sat_core.proofs.SolverLemmas.{lists_of, begun_derived, begun_sound}
+use Rattle.sat_core.proofs.AboutConflicts.MarkLemmas.{left_of_marks}
+use Rattle.sat_core.proofs.AboutAnswers.SolverLemmas.{lists_of, begun_derived, begun_sound}
 use Rattle.sat_core.proofs.solver.Solver.new.Goals as goal
 
 pub add_input-requires : goal.add_input-requires

@@ -1,7 +1,7 @@
 use Rattle.std.proofs.Common.{◌≡◌, length, refl, ap, sym, ◌∙◌, arith}
 use Rattle.std.proofs.lemmas.List.{length-set}
-use Rattle.sat_core.proofs.SoundLemmas.{turn_remaining}
-use Rattle.sat_core.proofs.SolverLemmas.{derives_of, turn_of, learned_within, learned_lists, turn_sound, same_inputs}
+use Rattle.sat_core.proofs.AboutAnswers.SoundLemmas.{turn_remaining}
+use Rattle.sat_core.proofs.AboutAnswers.SolverLemmas.{derives_of, turn_of, learned_within, learned_lists, turn_sound, same_inputs}
 use Rattle.sat_core.proofs.solver.Solver.turn.Goals as goal
 
 pub add_learned-requires-clause-within : goal.add_learned-requires-clause-within

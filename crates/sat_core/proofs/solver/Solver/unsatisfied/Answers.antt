@@ -2,7 +2,7 @@ use Rattle.std.proofs.Common.{sym, ap, ◌∙◌, arith}
 use Rattle.std.specs.List.{list_any}
 use Rattle.sat_core.specs.Clause.{PropClause}
 use Rattle.sat_core.specs.Trail.{is_true}
-use Rattle.sat_core.proofs.SolverLemmas.{no_true_literal, clauses_true_more}
+use Rattle.sat_core.proofs.AboutAnswers.SolverLemmas.{no_true_literal, clauses_true_more}
 use Rattle.sat_core.proofs.solver.Solver.unsatisfied.Goals as goal
 
 pub returns-then-not-has_true_literal-clause-no_true : goal.returns-then-not-has_true_literal-clause-no_true

@@ -1,6 +1,6 @@
 use Rattle.std.proofs.Common.{arith, ℕ, ◌≡◌, subst, length}
 use Rattle.sat_core.specs.Trail.{Cuts}
-use Rattle.sat_core.proofs.TrailLemmas.{cut_none, cut_more, cut_length}
+use Rattle.sat_core.proofs.AboutTrails.TrailLemmas.{cut_none, cut_more, cut_length}
 use Rattle.sat_core.proofs.trail.Trail.cut.Goals as goal
 
 pub loop-self-init : goal.loop-self-init

@@ -1,4 +1,4 @@
-use Rattle.sat_core.proofs.TrailLemmas.{popped_at}
+use Rattle.sat_core.proofs.AboutTrails.TrailLemmas.{popped_at}
 use Rattle.sat_core.proofs.trail.Trail.pop.Goals as goal
 
 pub returns-in-Some : goal.returns-in-Some

@@ -1,5 +1,5 @@
 use Rattle.std.proofs.Common.{arith}
-use Rattle.sat_core.proofs.TrailLemmas.{pushed_at}
+use Rattle.sat_core.proofs.AboutTrails.TrailLemmas.{pushed_at}
 use Rattle.sat_core.proofs.trail.Trail.push.Goals as goal
 
 pub returns-clause-trail : goal.returns-clause-trail

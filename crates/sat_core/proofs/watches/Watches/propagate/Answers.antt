@@ -1,6 +1,6 @@
 use Rattle.std.proofs.Common.{length, refl, ap, arith}
 use Rattle.plain_types.specs.declared.sequence.NameLit.{NameLit}
-use Rattle.sat_core.proofs.ResolveLemmas.{entry_read, entry_named}
+use Rattle.sat_core.proofs.AboutConflicts.ResolveLemmas.{entry_read, entry_named}
 use Rattle.sat_core.proofs.watches.Watches.propagate.Goals as goal
 
 pub visit_list-requires-clause-named : goal.visit_list-requires-clause-named

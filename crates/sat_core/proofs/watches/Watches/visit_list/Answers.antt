@@ -1,5 +1,5 @@
 use Rattle.std.proofs.Common.{length, ap, ◌∙◌, arith}
-use Rattle.sat_core.proofs.PropagationLemmas.{propagates_then, propagates_one}
+use Rattle.sat_core.proofs.AboutTrails.PropagationLemmas.{propagates_then, propagates_one}
 use Rattle.sat_core.proofs.watches.Watches.visit_list.Goals as goal
 use Rattle.sat_core.proofs.watches.Watches.visit_list.Goals.{in-Kept, in-Moved+in_ok-move_watch-in-Moved, in-Implied+in_ok-push-in-Implied}
 

@@ -1,5 +1,5 @@
 use Rattle.std.proofs.Common.{arith}
-use Rattle.sat_core.proofs.AnalysisLemmas.{has_name_at}
+use Rattle.sat_core.proofs.AboutConflicts.AnalysisLemmas.{has_name_at}
 use Rattle.sat_core.proofs.watches.Watches.watch.Goals as goal
 
 pub index_mut-requires : goal.index_mut-requires

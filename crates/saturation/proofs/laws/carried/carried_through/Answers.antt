@@ -1,4 +1,4 @@
-use Rattle.saturation.proofs.LawLemmas.{carried_through}
+use Rattle.saturation.proofs.AboutClosing.LawLemmas.{carried_through}
 use Rattle.saturation.proofs.laws.carried.carried_through.Goals as goal
 
 pub returns : goal.returns

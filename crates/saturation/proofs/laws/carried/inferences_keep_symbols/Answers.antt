@@ -1,4 +1,4 @@
-use Rattle.saturation.proofs.ConclusionLemmas.{inferences_keep_symbols}
+use Rattle.saturation.proofs.AboutClosing.ConclusionLemmas.{inferences_keep_symbols}
 use Rattle.saturation.proofs.laws.carried.inferences_keep_symbols.Goals as goal
 
 pub returns : goal.returns

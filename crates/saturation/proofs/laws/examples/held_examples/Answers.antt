@@ -1,5 +1,5 @@
 use Rattle.std.proofs.Common.{refl}
-use Rattle.saturation.proofs.ExampleLemmas.{held, dead}
+use Rattle.saturation.proofs.AboutClosing.ExampleLemmas.{held, dead}
 use Rattle.saturation.proofs.laws.examples.held_examples.Goals as goal
 
 pub returns : goal.returns

@@ -1,5 +1,5 @@
 use Rattle.std.proofs.Common.{refl}
-use Rattle.saturation.proofs.ExampleLemmas.{tautology_goes, nothing_saturated}
+use Rattle.saturation.proofs.AboutClosing.ExampleLemmas.{tautology_goes, nothing_saturated}
 use Rattle.saturation.proofs.laws.examples.saturated_example.Goals as goal
 
 pub returns : goal.returns

@@ -1,4 +1,4 @@
-use Rattle.saturation.proofs.OutcomeLemmas.{heavy_is_named}
+use Rattle.saturation.proofs.AboutClosing.OutcomeLemmas.{heavy_is_named}
 use Rattle.saturation.proofs.laws.outcomes.heavy_is_named.Goals as goal
 
 pub returns : goal.returns

@@ -1,4 +1,4 @@
-use Rattle.saturation.proofs.LawLemmas.{saturated_is_saturated}
+use Rattle.saturation.proofs.AboutClosing.LawLemmas.{saturated_is_saturated}
 use Rattle.saturation.proofs.laws.outcomes.saturated_is_saturated.Goals as goal
 
 pub returns : goal.returns

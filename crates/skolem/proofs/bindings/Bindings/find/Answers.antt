@@ -1,6 +1,6 @@
 use Rattle.std.proofs.Common.{arith, ap, sym, length, ◌∙◌, get_or, ◌-◌, ◌<◌, subst}
 use Rattle.skolem.specs.Bindings.{no_entry}
-use Rattle.skolem.proofs.BindingsLemmas.{found-none, found-place, found-some}
+use Rattle.skolem.proofs.AboutBindings.BindingsLemmas.{found-none, found-place, found-some}
 use Rattle.skolem.proofs.bindings.Bindings.find.Goals as goal
 
 pub returns-then-place-eq0 : goal.returns-then-place-eq0

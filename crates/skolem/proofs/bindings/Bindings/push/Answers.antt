@@ -4,7 +4,7 @@ use Rattle.skolem.specs.declared.name.VariableName.{VariableName}
 use Rattle.skolem.specs.declared.bindings.Entry.{Entry}
 use Rattle.skolem.specs.Name.{same_name}
 use Rattle.skolem.specs.Bindings.{place_in}
-use Rattle.skolem.proofs.BindingsLemmas.{chained-push, when-ok}
+use Rattle.skolem.proofs.AboutBindings.BindingsLemmas.{chained-push, when-ok}
 use Rattle.skolem.proofs.bindings.Bindings.push.Goals as goal
 
 pub invariant_of-self-2 : goal.invariant_of-self-2

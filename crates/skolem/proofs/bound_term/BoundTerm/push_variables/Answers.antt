@@ -1,6 +1,6 @@
 use Rattle.std.proofs.Common.{ℕ, Vec, Global, ◌++◌, ap, ◌∙◌}
 use Rattle.skolem.specs.BoundTerm.{bound_tree}
-use Rattle.skolem.proofs.BoundTermLemmas.{arguments-added}
+use Rattle.skolem.proofs.AboutBindings.BoundTermLemmas.{arguments-added}
 use Rattle.skolem.proofs.bound_term.BoundTerm.push_variables.Goals as goal
 
 pub returns-in_ok-extend_from_slice-in-Skolem : goal.returns-in_ok-extend_from_slice-in-Skolem

@@ -1,6 +1,6 @@
 use Rattle.std.proofs.Common.{ℕ, Vec, Global, length, ap, ◌∙◌}
 use Rattle.skolem.specs.BoundTerm.{bound_tree}
-use Rattle.skolem.proofs.BoundTermLemmas.{size-of-applied}
+use Rattle.skolem.proofs.AboutBindings.BoundTermLemmas.{size-of-applied}
 use Rattle.skolem.proofs.bound_term.BoundTerm.size.Goals as goal
 
 pub returns-in-Skolem : goal.returns-in-Skolem

@@ -1,5 +1,5 @@
 use Rattle.skolem.specs.Progress.{environment_of}
-use Rattle.skolem.proofs.LiteralLemmas.{literal-bound, literal-filled}
+use Rattle.skolem.proofs.AboutFormulas.LiteralLemmas.{literal-bound, literal-filled}
 use Rattle.skolem.proofs.literal.MatrixLiteral.of_atom.Goals as goal
 
 pub invariant_of-result : goal.invariant_of-result

@@ -1,7 +1,7 @@
 use Rattle.std.proofs.Common.{◌++◌, ◌∙◌, ap}
 use Rattle.skolem.specs.Progress.{environment_of, made_of, with_closed, occurring}
-use Rattle.skolem.proofs.OccurringLemmas.{arguments-found}
-use Rattle.skolem.proofs.OrderLemmas.{if-ok}
+use Rattle.skolem.proofs.AboutBindings.OccurringLemmas.{arguments-found}
+use Rattle.skolem.proofs.AboutBindings.OrderLemmas.{if-ok}
 use Rattle.skolem.proofs.progress.Progress.arguments.Goals as goal
 
 pub returns-clause-found : goal.returns-clause-found

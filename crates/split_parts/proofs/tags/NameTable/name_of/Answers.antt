@@ -8,8 +8,8 @@ use Rattle.split_parts.specs.declared.key.PartKey.{PartKey}
 use Rattle.split_parts.specs.PartKeys.{key_part}
 use Rattle.split_parts.specs.TagEntries.{AreEntriesOf}
 use Rattle.split_parts.specs.Tags.{has_part, with_part, tag_of}
-use Rattle.split_parts.proofs.EntryLemmas.{entries-end}
-use Rattle.split_parts.proofs.TagLemmas.{has-key, tag-new, tag-found, parts-same, parts-more, key_parts-end, key_parts-length}
+use Rattle.split_parts.proofs.AboutTags.EntryLemmas.{entries-end}
+use Rattle.split_parts.proofs.AboutTags.TagLemmas.{has-key, tag-new, tag-found, parts-same, parts-more, key_parts-end, key_parts-length}
 use Rattle.split_parts.proofs.tags.NameTable.name_of.Goals as goal
 
 -- what a look-up tells of the parts

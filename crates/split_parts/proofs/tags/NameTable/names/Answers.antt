@@ -1,9 +1,9 @@
 use Rattle.std.proofs.Common.{◌≡◌, ◌+◌, ◌-◌, ◌∙◌, sym, ap, length, arith}
 use Rattle.std.specs.Prelude.{slice_get}
 use Rattle.split_parts.specs.SignedNames.{named}
-use Rattle.split_parts.proofs.SignedLemmas.{named-few}
-use Rattle.split_parts.proofs.EntryLemmas.{names-told}
-use Rattle.split_parts.proofs.TagLemmas.{key_parts, key_parts-length}
+use Rattle.split_parts.proofs.AboutTags.SignedLemmas.{named-few}
+use Rattle.split_parts.proofs.AboutTags.EntryLemmas.{names-told}
+use Rattle.split_parts.proofs.AboutTags.TagLemmas.{key_parts, key_parts-length}
 use Rattle.split_parts.proofs.tags.NameTable.names.Goals as goal
 
 pub overflow_add-result : goal.overflow_add-result

@@ -7,9 +7,9 @@ use Rattle.kernel_steps.specs.Derivation.{complement}
 use Rattle.split_parts.specs.Tags.{has_part}
 use Rattle.split_parts.specs.SignedNames.{is_ground_unit}
 use Rattle.split_parts.specs.TagEntries.{entry_at}
-use Rattle.split_parts.proofs.SignedLemmas.{named-few}
-use Rattle.split_parts.proofs.EntryLemmas.{entry-anew, entry-before, names-some}
-use Rattle.split_parts.proofs.TagLemmas.{key_parts}
+use Rattle.split_parts.proofs.AboutTags.SignedLemmas.{named-few}
+use Rattle.split_parts.proofs.AboutTags.EntryLemmas.{entry-anew, entry-before, names-some}
+use Rattle.split_parts.proofs.AboutTags.TagLemmas.{key_parts}
 use Rattle.split_parts.proofs.tags.NameTable.next_entry.Goals as goal
 
 pub overflow_sub-result : goal.overflow_sub-result

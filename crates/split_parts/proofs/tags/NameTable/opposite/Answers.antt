@@ -5,8 +5,8 @@ use Rattle.fol_base.specs.Literal.{literal_of}
 use Rattle.kernel_steps.specs.Derivation.{complement}
 use Rattle.split_parts.specs.Tags.{has_part}
 use Rattle.split_parts.specs.SignedNames.{is_ground_unit}
-use Rattle.split_parts.proofs.TagLemmas.{key_parts, has-key}
-use Rattle.split_parts.proofs.OppositeLemmas.{one-literal, found-part}
+use Rattle.split_parts.proofs.AboutTags.TagLemmas.{key_parts, has-key}
+use Rattle.split_parts.proofs.AboutTags.OppositeLemmas.{one-literal, found-part}
 use Rattle.split_parts.proofs.tags.NameTable.opposite.Goals as goal
 
 pub returns-clause-found : goal.returns-clause-found

@@ -1,7 +1,7 @@
 use Rattle.std.proofs.Common.{◌≡◌, ◌<◌, ◌∙◌, ap, length, get_or, [], arith}
 use Rattle.split_parts.specs.SignedNames.{signed_name}
-use Rattle.split_parts.proofs.EntryLemmas.{signed-at}
-use Rattle.split_parts.proofs.TagLemmas.{key_parts}
+use Rattle.split_parts.proofs.AboutTags.EntryLemmas.{signed-at}
+use Rattle.split_parts.proofs.AboutTags.TagLemmas.{key_parts}
 use Rattle.split_parts.proofs.tags.NameTable.signed.Goals as goal
 
 pub returns : goal.returns

@@ -3,8 +3,8 @@ use Rattle.std.proofs.lemmas.List.{take-map, length-take}
 use Rattle.std.proofs.Math.Nat.{min-le_right}
 use Rattle.split_parts.specs.PartKeys.{key_part}
 use Rattle.split_parts.specs.TagEntries.{AreEntriesOf}
-use Rattle.split_parts.proofs.EntryLemmas.{entries-take}
-use Rattle.split_parts.proofs.TagLemmas.{key_parts}
+use Rattle.split_parts.proofs.AboutTags.EntryLemmas.{entries-take}
+use Rattle.split_parts.proofs.AboutTags.TagLemmas.{key_parts}
 use Rattle.split_parts.proofs.tags.NameTable.truncate.Goals as goal
 
 pub invariant_of-self : goal.invariant_of-self

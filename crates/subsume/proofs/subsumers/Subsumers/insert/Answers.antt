@@ -6,7 +6,7 @@ use Rattle.bank_clause.specs.Clause.{clause_at}
 use Rattle.subsume.specs.Editing.{HasNoNumber}
 use Rattle.subsume.specs.Features.{AreFeaturesOf}
 use Rattle.subsume.specs.Members.{AreKnown}
-use Rattle.subsume.proofs.MembersLemmas.{known-inserted, on-ok}
+use Rattle.subsume.proofs.AboutTree.MembersLemmas.{known-inserted, on-ok}
 use Rattle.subsume.proofs.subsumers.Subsumers.insert.Goals as goal
 
 pub returns-clause-ok : goal.returns-clause-ok

@@ -1,6 +1,6 @@
 use Rattle.std.proofs.Common.{sym, subst}
 use Rattle.subsume.specs.Editing.{HasNoNumber}
-use Rattle.subsume.proofs.MembersLemmas.{known-taken, taken-gone, unknown-number, unfound-number}
+use Rattle.subsume.proofs.AboutTree.MembersLemmas.{known-taken, taken-gone, unknown-number, unfound-number}
 use Rattle.subsume.proofs.subsumers.Subsumers.remove.Goals as goal
 
 pub invariant_of-self-in-Some : goal.invariant_of-self-in-Some

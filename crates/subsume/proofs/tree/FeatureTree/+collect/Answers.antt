@@ -5,7 +5,7 @@ use Rattle.bank_clause.specs.declared.member.Member.{Member}
 use Rattle.subsume.specs.declared.tree.Division.{Division}
 use Rattle.subsume.specs.Tree.{content, IsSound, IsDivision, member_feature}
 use Rattle.subsume.specs.Searching.{AddsSubsumed}
-use Rattle.subsume.proofs.SearchLemmas.{adds-append, less-stays, All-back}
+use Rattle.subsume.proofs.AboutSearch.SearchLemmas.{adds-append, less-stays, All-back}
 use Rattle.subsume.proofs.tree.FeatureTree.+collect.Goals.{then-value-division+in_ok-collect-in-Branch, else-value-division}
 use Rattle.subsume.proofs.tree.FeatureTree.+collect.Goals as goal
 

@@ -5,7 +5,7 @@ use Rattle.bank_clause.specs.declared.member.Member.{Member}
 use Rattle.subsume.specs.declared.tree.Division.{Division}
 use Rattle.subsume.specs.Tree.{content, IsSound, IsDivision, feature}
 use Rattle.subsume.specs.Searching.{IsLowestBelow, IsSubsumer, IsMemberOfUse, AreMembersOfUse}
-use Rattle.subsume.proofs.SearchLemmas.{lowest-append, more-stays, All-front, All-back}
+use Rattle.subsume.proofs.AboutSearch.SearchLemmas.{lowest-append, more-stays, All-front, All-back}
 use Rattle.subsume.proofs.tree.FeatureTree.+lowest.Goals as goal
 
 pub lowest-requires-in-Branch : goal.lowest-requires-in-Branch

@@ -1,7 +1,7 @@
 use mathlib.Core.Bool.{beq}
 use Rattle.std.proofs.Common.{arith}
-use Rattle.fol_base.proofs.TermLemmas.{tree_size-item}
-use Rattle.subsume.proofs.CountingLemmas.{measure-take_more, saturated}
+use Rattle.fol_base.proofs.AboutTerms.TermLemmas.{tree_size-item}
+use Rattle.subsume.proofs.AboutSearch.CountingLemmas.{measure-take_more, saturated}
 use Rattle.subsume.proofs.vector.Features.+count_term.Goals as goal
 
 pub count_terms-count_term-requires : goal.count_terms-count_term-requires

@@ -1,6 +1,6 @@
 use Rattle.std.proofs.Common.{◌/◌, true, false, ⊎_elim, arith, ap}
 use Rattle.std.specs.Prelude.{slice_index}
-use Rattle.subsume.proofs.CountingLemmas.{slot-of}
+use Rattle.subsume.proofs.AboutSearch.CountingLemmas.{slot-of}
 use Rattle.subsume.proofs.vector.Features.are_at_most.Goals as goal
 
 pub returns-then-self-index : goal.returns-then-self-index

@@ -1,5 +1,5 @@
 use Rattle.fol_base.specs.Lent.{lent_of}
-use Rattle.subsume.proofs.CountingLemmas.{features-more}
+use Rattle.subsume.proofs.AboutSearch.CountingLemmas.{features-more}
 use Rattle.subsume.proofs.vector.Features.of.Goals as goal
 
 pub loop-index-preserved : goal.loop-index-preserved

@@ -1,7 +1,7 @@
 use Rattle.std.proofs.Common.{◌∙◌, sym, ap, map}
 use Rattle.fol_base.specs.Tree.{tree_eq}
 use Rattle.fol_base.specs.Term.{tree_of}
-use Rattle.fol_base.proofs.TreeLemmas.{tree_eq-true}
+use Rattle.fol_base.proofs.AboutTerms.TreeLemmas.{tree_eq-true}
 use Rattle.term_bank.specs.Bank.{tree_at}
 use Rattle.term_bank.specs.Entry.{entry_of}
 use Rattle.term_bank.proofs.ChainLemmas.{looks-first}

@@ -5,9 +5,9 @@ use Rattle.tptp_tree.specs.declared.problem.Annotated.{Annotated}
 use Rattle.tptp_problem.specs.Files.{loaded_name}
 use Rattle.tptp_problem.specs.Formulas.{placed, missing, selected}
 use Rattle.tptp_problem.specs.Shape.{progress_of, selections}
-use Rattle.tptp_problem.proofs.FaultLemmas.{fault-then}
-use Rattle.tptp_problem.proofs.FileLemmas.{missing-within, Included, one-less, included-fault, missing-fault, include-step, include-on, formula-on}
-use Rattle.tptp_problem.proofs.PassedLemmas.{passed}
+use Rattle.tptp_problem.proofs.AboutReading.FaultLemmas.{fault-then}
+use Rattle.tptp_problem.proofs.AboutFiles.FileLemmas.{missing-within, Included, one-less, included-fault, missing-fault, include-step, include-on, formula-on}
+use Rattle.tptp_problem.proofs.AboutReading.PassedLemmas.{passed}
 use Rattle.tptp_problem.proofs.reading.Reading.+reading.Goals as goal
 
 -- ---- include

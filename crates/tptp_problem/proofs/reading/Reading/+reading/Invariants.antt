@@ -2,7 +2,7 @@ use Rattle.std.proofs.Common.{◌≡◌, ◌≤◌, ◌+◌, ◌-◌, ◌*◌, l
 use Rattle.tptp_problem.specs.Formulas.{placed}
 use Rattle.tptp_problem.specs.Problem.{ReadsNamed}
 use Rattle.tptp_problem.specs.Shape.{file_of, progress_of}
-use Rattle.tptp_problem.proofs.ReadLemmas.{ReadsUpTo}
+use Rattle.tptp_problem.proofs.AboutReading.ReadLemmas.{ReadsUpTo}
 use Rattle.tptp_problem.proofs.reading.Reading.+reading.Given as goal
 
 abbrev pub decreases-file : goal.decreases-file

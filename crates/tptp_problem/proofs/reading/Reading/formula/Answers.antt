@@ -6,8 +6,8 @@ use Rattle.tptp_problem.specs.Formulas.{placed_in}
 use Rattle.tptp_problem.specs.Problem.{is_second}
 use Rattle.tptp_problem.specs.declared.reading.Reading.{Reading}
 use Rattle.tptp_problem.specs.Shape.{file_of, progress_of, selections}
-use Rattle.tptp_problem.proofs.FaultLemmas.{fault-then, second-true, second-none, second-clear, second-fault, formula-fault, formula-added, formula-step, met-then}
-use Rattle.tptp_problem.proofs.OnwardLemmas.{reading-onward}
+use Rattle.tptp_problem.proofs.AboutReading.FaultLemmas.{fault-then, second-true, second-none, second-clear, second-fault, formula-fault, formula-added, formula-step, met-then}
+use Rattle.tptp_problem.proofs.AboutReading.OnwardLemmas.{reading-onward}
 use Rattle.tptp_problem.proofs.reading.Reading.formula.Goals as goal
 use Rattle.tptp_problem.proofs.reading.Reading.formula.Goals.{else-self-via-then-self+in_ok-begins_conjecture+else-branch, else-self-via-else-self, then-counts_as_conjecture, else-counts_as_conjecture}
 

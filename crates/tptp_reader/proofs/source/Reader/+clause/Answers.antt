@@ -1,6 +1,6 @@
 use Rattle.std.proofs.Common.{sym, ◌∙◌}
-use Rattle.tptp_reader.proofs.LoopLemmas.{passed}
-use Rattle.tptp_reader.proofs.ClauseReads.{clause-too_deep, clause-inside-halted, clause-unclosed, clause-bracketed-read, clause-plain-read, clause-plain-halted}
+use Rattle.tptp_reader.proofs.AboutRuns.LoopLemmas.{passed}
+use Rattle.tptp_reader.proofs.AboutReads.ClauseReads.{clause-too_deep, clause-inside-halted, clause-unclosed, clause-bracketed-read, clause-plain-read, clause-plain-halted}
 use Rattle.tptp_reader.proofs.source.Reader.+clause.Goals as goal
 
 pub returns-in_err-inside-clause-halted : goal.returns-in_err-inside-clause-halted

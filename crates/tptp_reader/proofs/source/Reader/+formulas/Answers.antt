@@ -1,9 +1,9 @@
 use Rattle.std.proofs.Common.{refl, sym, ap, take, arith, ◌∙◌}
 use Rattle.tptp_reader.specs.Machine.{a_unit, maybe_more_units}
-use Rattle.tptp_reader.proofs.LoopLemmas.{passed, first-halts, kept-reads, kept-halts}
-use Rattle.tptp_reader.proofs.FormulaSteps.{quantifier-is}
-use Rattle.tptp_reader.proofs.FormulaReads.{negation-read, negation-halted, negation-too_deep, quantifier-read, quantifier-halted, quantifier-too_deep, brackets-too_deep, brackets-halted, brackets-open, brackets-read, atom_unit-read, atom_unit-halted, units-first, units-more, units-read, units-cut_off, units-halted, unit_first-halted, formula-cut_off, alone-read, conjunction-read, conjunction-halted, disjunction-read, disjunction-halted, connected-read, connected-halted}
-use Rattle.tptp_reader.proofs.VariableReads.{bound-read, colon-halted, bound_unit-halted, cut_back}
+use Rattle.tptp_reader.proofs.AboutRuns.LoopLemmas.{passed, first-halts, kept-reads, kept-halts}
+use Rattle.tptp_reader.proofs.AboutSteps.FormulaSteps.{quantifier-is}
+use Rattle.tptp_reader.proofs.AboutReads.FormulaReads.{negation-read, negation-halted, negation-too_deep, quantifier-read, quantifier-halted, quantifier-too_deep, brackets-too_deep, brackets-halted, brackets-open, brackets-read, atom_unit-read, atom_unit-halted, units-first, units-more, units-read, units-cut_off, units-halted, unit_first-halted, formula-cut_off, alone-read, conjunction-read, conjunction-halted, disjunction-read, disjunction-halted, connected-read, connected-halted}
+use Rattle.tptp_reader.proofs.AboutReads.VariableReads.{bound-read, colon-halted, bound_unit-halted, cut_back}
 use Rattle.tptp_reader.proofs.source.Reader.+formulas.Goals as goal
 
 -- ---- formula

@@ -5,7 +5,7 @@ use Rattle.tptp_tree.specs.Spelling.{unit_lexemes, unit_meant}
 use Rattle.tptp_tree.specs.Shape.{formula_of}
 use Rattle.tptp_reader.specs.Machine.{maybe_more_units}
 use Rattle.tptp_reader.specs.Telling.{one, further_units}
-use Rattle.tptp_reader.proofs.LoopLemmas.{SoFar}
+use Rattle.tptp_reader.proofs.AboutRuns.LoopLemmas.{SoFar}
 use Rattle.tptp_reader.proofs.source.Reader.+formulas.Given as goal
 
 abbrev pub decreases-formula : goal.decreases-formula

@@ -4,7 +4,7 @@ use Rattle.tptp_token.specs.Lexemes.{lexeme}
 use Rattle.tptp_tree.specs.Spelling.{term_lexemes, term_meant}
 use Rattle.tptp_reader.specs.Machine.{arguments, more_arguments}
 use Rattle.tptp_reader.specs.Telling.{one}
-use Rattle.tptp_reader.proofs.LoopLemmas.{SoFar}
+use Rattle.tptp_reader.proofs.AboutRuns.LoopLemmas.{SoFar}
 use Rattle.tptp_reader.proofs.source.Reader.+terms.Given as goal
 
 abbrev pub decreases-term : goal.decreases-term

@@ -1,5 +1,5 @@
 use Rattle.std.proofs.Common.{◌∙◌, sym}
-use Rattle.tptp_reader.proofs.StepLemmas.{mark-leads, mark-ends}
+use Rattle.tptp_reader.proofs.AboutSteps.StepLemmas.{mark-leads, mark-ends}
 use Rattle.tptp_reader.proofs.source.Reader.after.Goals as goal
 
 pub returns-then-is_mark-clause-leads : goal.returns-then-is_mark-clause-leads

@@ -3,7 +3,7 @@ use Rattle.tptp_reader.specs.Machine.{an_atom}
 use Rattle.tptp_reader.specs.Telling.{one, Halts}
 use Rattle.tptp_reader.specs.declared.cause.Halt.TheVariants.{At}
 use Rattle.tptp_reader.specs.declared.cause.Refusal.{Refusal as ToldRefusal}
-use Rattle.tptp_reader.proofs.AtomReads.{true-read, false-read, no_atom-halted}
+use Rattle.tptp_reader.proofs.AboutReads.AtomReads.{true-read, false-read, no_atom-halted}
 use Rattle.tptp_reader.proofs.source.Reader.atom.Goals as goal
 
 pub returns-then-is_exactly-clause-read : goal.returns-then-is_exactly-clause-read

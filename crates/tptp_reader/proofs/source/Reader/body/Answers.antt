@@ -1,6 +1,6 @@
 use Rattle.std.proofs.Common.{refl}
-use Rattle.tptp_reader.proofs.LoopLemmas.{passed}
-use Rattle.tptp_reader.proofs.EntryReads.{formula_body-read, formula_body-halted, clause_body-read, clause_body-halted}
+use Rattle.tptp_reader.proofs.AboutRuns.LoopLemmas.{passed}
+use Rattle.tptp_reader.proofs.AboutReads.EntryReads.{formula_body-read, formula_body-halted, clause_body-read, clause_body-halted}
 use Rattle.tptp_reader.proofs.source.Reader.body.Goals as goal
 
 pub returns-in_err-plain-clause-halted : goal.returns-in_err-plain-clause-halted

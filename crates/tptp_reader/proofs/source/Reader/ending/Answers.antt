@@ -1,6 +1,6 @@
 use Rattle.std.proofs.Common.{sym, ◌∙◌}
-use Rattle.tptp_reader.proofs.LoopLemmas.{passed}
-use Rattle.tptp_reader.proofs.EntryReads.{ending-refused, notes-halted, noted-stop-halted, noted-read, plain-stop-halted, plain-read}
+use Rattle.tptp_reader.proofs.AboutRuns.LoopLemmas.{passed}
+use Rattle.tptp_reader.proofs.AboutReads.EntryReads.{ending-refused, notes-halted, noted-stop-halted, noted-read, plain-stop-halted, plain-read}
 use Rattle.tptp_reader.proofs.source.Reader.ending.Goals as goal
 
 pub returns-in_err-close-clause-halted : goal.returns-in_err-close-clause-halted

@@ -1,7 +1,7 @@
 use Rattle.std.proofs.Common.{refl, sym, ap, ◌∙◌}
 use Rattle.tptp_token.specs.TextTokens.{lexeme_of}
 use Rattle.tptp_reader.specs.TellingNotes.{told_bracket, stack_of}
-use Rattle.tptp_reader.proofs.NotesReads.{enters-none, enters-some, enters-too_deep}
+use Rattle.tptp_reader.proofs.AboutReads.NotesReads.{enters-none, enters-some, enters-too_deep}
 use Rattle.tptp_reader.proofs.source.Reader.enter.Goals as goal
 
 pub returns-in-None-clause-goes_on : goal.returns-in-None-clause-goes_on

@@ -1,6 +1,6 @@
 use Rattle.std.proofs.Common.{refl}
-use Rattle.tptp_reader.proofs.LoopLemmas.{passed}
-use Rattle.tptp_reader.proofs.EntryWhole.{open-halted, name-halted, comma-halted, role-halted, second_comma-halted, body-halted, ending-halted, entry-read}
+use Rattle.tptp_reader.proofs.AboutRuns.LoopLemmas.{passed}
+use Rattle.tptp_reader.proofs.AboutReads.EntryWhole.{open-halted, name-halted, comma-halted, role-halted, second_comma-halted, body-halted, ending-halted, entry-read}
 use Rattle.tptp_reader.proofs.source.Reader.entry.Goals as goal
 
 pub returns-in_err-open-clause-halted : goal.returns-in_err-open-clause-halted

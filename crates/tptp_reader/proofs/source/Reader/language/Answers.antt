@@ -1,5 +1,5 @@
 use Rattle.std.proofs.Common.{false, true, sym, ◌∙◌}
-use Rattle.tptp_reader.proofs.EntryReads.{language-read, no_lower-ends, typed-ends, no_language-ends}
+use Rattle.tptp_reader.proofs.AboutReads.EntryReads.{language-read, no_lower-ends, typed-ends, no_language-ends}
 use Rattle.tptp_reader.proofs.source.Reader.language.Goals as goal
 
 pub returns-then-not-is_lower-clause-halted : goal.returns-then-not-is_lower-clause-halted

@@ -1,6 +1,6 @@
 use Rattle.std.proofs.Common.{sym, ◌∙◌}
-use Rattle.tptp_reader.proofs.LoopLemmas.{passed}
-use Rattle.tptp_reader.proofs.ClauseReads.{literal-too_deep, literal-negated-halted, literal-negated-read, literal-atom-read, literal-atom-halted}
+use Rattle.tptp_reader.proofs.AboutRuns.LoopLemmas.{passed}
+use Rattle.tptp_reader.proofs.AboutReads.ClauseReads.{literal-too_deep, literal-negated-halted, literal-negated-read, literal-atom-read, literal-atom-halted}
 use Rattle.tptp_reader.proofs.source.Reader.literal.Goals as goal
 
 pub returns-in_err-under-clause-halted : goal.returns-in_err-under-clause-halted

@@ -1,6 +1,6 @@
 use Rattle.std.proofs.Common.{sym, ◌∙◌}
-use Rattle.tptp_reader.proofs.LoopLemmas.{passed}
-use Rattle.tptp_reader.proofs.ClauseReads.{literals-first-halted, literals-out, one_literal-read, more_literals-halted, more_literals-read}
+use Rattle.tptp_reader.proofs.AboutRuns.LoopLemmas.{passed}
+use Rattle.tptp_reader.proofs.AboutReads.ClauseReads.{literals-first-halted, literals-out, one_literal-read, more_literals-halted, more_literals-read}
 use Rattle.tptp_reader.proofs.source.Reader.literals.Goals as goal
 
 pub returns-in_err-first-clause-halted : goal.returns-in_err-first-clause-halted

@@ -1,5 +1,5 @@
 use Rattle.std.proofs.Common.{arith}
-use Rattle.tptp_reader.proofs.TellingLemmas.{out-ends}
+use Rattle.tptp_reader.proofs.AboutTexts.TellingLemmas.{out-ends}
 use Rattle.tptp_reader.proofs.source.Reader.look.Goals as goal
 
 pub returns-in-None-clause-ended : goal.returns-in-None-clause-ended

@@ -1,7 +1,7 @@
 use Rattle.std.proofs.Common.{sym, ◌∙◌}
 use Rattle.tptp_reader.specs.Machine.{a_literal, maybe_more_literals}
-use Rattle.tptp_reader.proofs.LoopLemmas.{passed, first-halts}
-use Rattle.tptp_reader.proofs.ClauseReads.{literals-first, literals-more, literals-read, literals-cut_off, literals-halted}
+use Rattle.tptp_reader.proofs.AboutRuns.LoopLemmas.{passed, first-halts}
+use Rattle.tptp_reader.proofs.AboutReads.ClauseReads.{literals-first, literals-more, literals-read, literals-cut_off, literals-halted}
 use Rattle.tptp_reader.proofs.source.Reader.more_literals.Goals as goal
 
 pub returns-in_err-second-clause-halted : goal.returns-in_err-second-clause-halted

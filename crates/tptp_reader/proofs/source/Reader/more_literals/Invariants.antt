@@ -5,7 +5,7 @@ use Rattle.tptp_tree.specs.Entries.{literal_lexemes, literal_meant}
 use Rattle.tptp_tree.specs.Shape.{formula_of}
 use Rattle.tptp_reader.specs.Machine.{maybe_more_literals}
 use Rattle.tptp_reader.specs.Telling.{one, further_literals}
-use Rattle.tptp_reader.proofs.LoopLemmas.{SoFar}
+use Rattle.tptp_reader.proofs.AboutRuns.LoopLemmas.{SoFar}
 use Rattle.tptp_reader.proofs.source.Reader.more_literals.Given as goal
 
 abbrev pub invariant-loop-literals : goal.invariant-loop-literals

@@ -1,5 +1,5 @@
 use Rattle.std.proofs.Common.{sym, ◌∙◌}
-use Rattle.tptp_reader.proofs.EntryReads.{name-read, no_name-ends}
+use Rattle.tptp_reader.proofs.AboutReads.EntryReads.{name-read, no_name-ends}
 use Rattle.tptp_reader.proofs.source.Reader.name.Goals as goal
 
 pub returns-then-not-is_name-clause-halted : goal.returns-then-not-is_name-clause-halted

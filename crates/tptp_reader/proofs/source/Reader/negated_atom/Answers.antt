@@ -1,6 +1,6 @@
 use Rattle.std.proofs.Common.{sym, ◌∙◌}
-use Rattle.tptp_reader.proofs.LoopLemmas.{passed}
-use Rattle.tptp_reader.proofs.ClauseReads.{negated-too_deep, negated-inside-halted, negated-unclosed, negated-bracketed-read, negated-plain-read, negated-plain-halted}
+use Rattle.tptp_reader.proofs.AboutRuns.LoopLemmas.{passed}
+use Rattle.tptp_reader.proofs.AboutReads.ClauseReads.{negated-too_deep, negated-inside-halted, negated-unclosed, negated-bracketed-read, negated-plain-read, negated-plain-halted}
 use Rattle.tptp_reader.proofs.source.Reader.negated_atom.Goals as goal
 
 pub returns-in_err-inside-clause-halted : goal.returns-in_err-inside-clause-halted

@@ -1,5 +1,5 @@
 use Rattle.std.proofs.Common.{sym, ◌∙◌}
-use Rattle.tptp_reader.proofs.VariableReads.{one_variable-read, no_variable-halted}
+use Rattle.tptp_reader.proofs.AboutReads.VariableReads.{one_variable-read, no_variable-halted}
 use Rattle.tptp_reader.proofs.source.Reader.next_variable.Goals as goal
 
 pub returns-then-not-is_variable-clause-halted : goal.returns-then-not-is_variable-clause-halted

@@ -1,8 +1,8 @@
 use Rattle.std.proofs.Common.{true, false, ap}
 use Rattle.tptp_token.specs.TextTokens.{lexeme_of}
 use Rattle.tptp_reader.specs.TellingNotes.{stack_of}
-use Rattle.tptp_reader.proofs.LoopLemmas.{passed}
-use Rattle.tptp_reader.proofs.NotesReads.{first-note, more-notes, notes-read, notes-refused, notes-cut_off, first-too_deep, notes-too_deep, first-refused, goes, lent-ends}
+use Rattle.tptp_reader.proofs.AboutRuns.LoopLemmas.{passed}
+use Rattle.tptp_reader.proofs.AboutReads.NotesReads.{first-note, more-notes, notes-read, notes-refused, notes-cut_off, first-too_deep, notes-too_deep, first-refused, goes, lent-ends}
 use Rattle.tptp_reader.proofs.source.Reader.notes.Goals as goal
 
 pub returns-in_err-begins-clause-halted : goal.returns-in_err-begins-clause-halted

@@ -1,6 +1,6 @@
 use Rattle.std.proofs.Common.{◌-◌, length}
 use Rattle.tptp_reader.specs.TellingNotes.{stack_of}
-use Rattle.tptp_reader.proofs.NotesReads.{NotesSoFar}
+use Rattle.tptp_reader.proofs.AboutReads.NotesReads.{NotesSoFar}
 use Rattle.tptp_reader.proofs.source.Reader.notes.Given as goal
 
 abbrev pub invariant-loop-unclosed : goal.invariant-loop-unclosed

@@ -1,5 +1,5 @@
 use Rattle.std.proofs.Common.{sym, ◌∙◌}
-use Rattle.tptp_reader.proofs.EntryReads.{role-read, no_role-ends, untaken-ends}
+use Rattle.tptp_reader.proofs.AboutReads.EntryReads.{role-read, no_role-ends, untaken-ends}
 use Rattle.tptp_reader.proofs.source.Reader.role.Goals as goal
 
 pub returns-then-not-is_lower-clause-halted : goal.returns-then-not-is_lower-clause-halted

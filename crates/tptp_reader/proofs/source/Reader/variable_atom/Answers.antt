@@ -1,6 +1,6 @@
 use Rattle.std.proofs.Common.{sym, ◌∙◌}
-use Rattle.tptp_reader.proofs.AtomReads.{variable_free-halted, variable_cut-halted, variable_alone-halted, variable_equation-read, variable_equation-halted}
-use Rattle.tptp_reader.proofs.LoopLemmas.{passed}
+use Rattle.tptp_reader.proofs.AboutReads.AtomReads.{variable_free-halted, variable_cut-halted, variable_alone-halted, variable_equation-read, variable_equation-halted}
+use Rattle.tptp_reader.proofs.AboutRuns.LoopLemmas.{passed}
 use Rattle.tptp_reader.proofs.source.Reader.variable_atom.Goals as goal
 
 pub returns-then-is_free-clause-halted : goal.returns-then-is_free-clause-halted

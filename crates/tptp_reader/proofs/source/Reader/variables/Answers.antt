@@ -1,6 +1,6 @@
 use Rattle.std.proofs.Common.{refl, sym, ◌∙◌}
-use Rattle.tptp_reader.proofs.LoopLemmas.{passed}
-use Rattle.tptp_reader.proofs.VariableReads.{variables-first, variables-more, variables-read, variables-refused, variables-cut_off, variables-halted, bracket-halted, bracket_deep-halted, first_variable-halted}
+use Rattle.tptp_reader.proofs.AboutRuns.LoopLemmas.{passed}
+use Rattle.tptp_reader.proofs.AboutReads.VariableReads.{variables-first, variables-more, variables-read, variables-refused, variables-cut_off, variables-halted, bracket-halted, bracket_deep-halted, first_variable-halted}
 use Rattle.tptp_reader.proofs.source.Reader.variables.Goals as goal
 
 pub returns-then-not-is_mark-clause-halted : goal.returns-then-not-is_mark-clause-halted

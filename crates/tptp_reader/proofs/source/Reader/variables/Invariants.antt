@@ -1,5 +1,5 @@
 use Rattle.std.proofs.Common.{◌-◌, length}
-use Rattle.tptp_reader.proofs.VariableReads.{VariablesSoFar}
+use Rattle.tptp_reader.proofs.AboutReads.VariableReads.{VariablesSoFar}
 use Rattle.tptp_reader.proofs.source.Reader.variables.Given as goal
 
 abbrev pub invariant-loop-variables : goal.invariant-loop-variables

@@ -1,6 +1,6 @@
 use Rattle.std.proofs.Common.{sym, ◌∙◌}
-use Rattle.tptp_reader.proofs.AtomReads.{applied-halted, applied-cut_off, predicate-read, word_equation-read, word_equation-halted}
-use Rattle.tptp_reader.proofs.LoopLemmas.{passed}
+use Rattle.tptp_reader.proofs.AboutReads.AtomReads.{applied-halted, applied-cut_off, predicate-read, word_equation-read, word_equation-halted}
+use Rattle.tptp_reader.proofs.AboutRuns.LoopLemmas.{passed}
 use Rattle.tptp_reader.proofs.source.Reader.word_atom.Goals as goal
 
 pub returns-in_err-arguments-clause-halted : goal.returns-in_err-arguments-clause-halted

@@ -1,6 +1,6 @@
 use Rattle.std.proofs.Common.{◌+◌, ◌-◌, ◌*◌, length}
 use Rattle.tptp_source.specs.Shape.{tree_of}
-use Rattle.tptp_source.proofs.ItemReads.{PartsSoFar, ItemsSoFar}
+use Rattle.tptp_source.proofs.AboutParts.ItemReads.{PartsSoFar, ItemsSoFar}
 use Rattle.tptp_source.proofs.reader.Reader.+general_terms.Given as goal
 
 abbrev pub decreases-part : goal.decreases-part

@@ -1,6 +1,6 @@
 use Rattle.std.proofs.Common.{sym, ◌∙◌, refl}
-use Rattle.tptp_source.proofs.RunLemmas.{passed}
-use Rattle.tptp_source.proofs.PartReads.{number-out, number-halts, number-read}
+use Rattle.tptp_source.proofs.AboutWholes.RunLemmas.{passed}
+use Rattle.tptp_source.proofs.AboutParts.PartReads.{number-out, number-halts, number-read}
 use Rattle.tptp_source.proofs.reader.Reader.number.Goals as goal
 
 pub returns-in_err-token-clause-halted : goal.returns-in_err-token-clause-halted

@@ -1,7 +1,7 @@
 use Rattle.std.proofs.Common.{slice_index_or, refl, arith}
 use Rattle.tptp_token.specs.declared.token.Kind.TheVariants.{Lower}
 use Rattle.tptp_token.specs.declared.token.Token.{Token}
-use Rattle.tptp_token.proofs.TextTokenLemmas.{next-token}
+use Rattle.tptp_token.proofs.AboutTexts.TextTokenLemmas.{next-token}
 use Rattle.tptp_token.proofs.text_token.TextToken.at.Goals as goal
 
 pub returns-clause-next : goal.returns-clause-next

@@ -3,7 +3,7 @@ use Rattle.std.specs.Prelude.{position}
 use Rattle.tptp_tree.specs.declared.problem.Annotated.{Annotated}
 use Rattle.clausal_form.specs.DerivationLine.{same_entry, entry_of}
 use Rattle.tstp_checker.specs.Classes.{class_of}
-use Rattle.tstp_checker.proofs.ClassLemmas.{map-starts, map-more, map-ends}
+use Rattle.tstp_checker.proofs.AboutReadings.ClassLemmas.{map-starts, map-more, map-ends}
 use Rattle.tstp_checker.proofs.classes.Classes.new.Goals as goal
 
 pub loop-formula-init : goal.loop-formula-init

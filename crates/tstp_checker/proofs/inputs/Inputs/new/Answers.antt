@@ -3,7 +3,7 @@ use Rattle.indexmap.specs.IndexMap.{get}
 use Rattle.tstp_checker.specs.Entries.{same_meant}
 use Rattle.tstp_checker.specs.Inputs.{first_from, says}
 use Rattle.tstp_checker.specs.declared.entries.Entry.{Entry}
-use Rattle.tstp_checker.proofs.InputLemmas.{knows-more}
+use Rattle.tstp_checker.proofs.AboutVerdicts.InputLemmas.{knows-more}
 use Rattle.tstp_checker.proofs.inputs.Inputs.new.Goals as goal
 
 pub loop-place-preserved : goal.loop-place-preserved

@@ -1,6 +1,6 @@
 use Rattle.std.proofs.Common.{◌∙◌}
 use Rattle.tstp_checker.specs.Inputs.{says}
-use Rattle.tstp_checker.proofs.InputLemmas.{whole-search}
+use Rattle.tstp_checker.proofs.AboutVerdicts.InputLemmas.{whole-search}
 use Rattle.tstp_checker.proofs.inputs.Inputs.place_of.Goals as goal
 
 pub returns : goal.returns

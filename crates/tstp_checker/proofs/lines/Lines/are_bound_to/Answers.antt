@@ -3,8 +3,8 @@ use Rattle.kernel_steps.specs.Derivation.{line_parents}
 use Rattle.clausal_form.specs.DerivationParts.{parent_lines}
 use Rattle.clausal_form.specs.DerivationCauses.{is_bound}
 use Rattle.tstp_checker.specs.Lines.{taken_in}
-use Rattle.tstp_checker.proofs.TakenLemmas.{lines-of}
-use Rattle.tstp_checker.proofs.RuleLineLemmas.{Bound, bound-starts, bound-next, bound-none, bound-ends}
+use Rattle.tstp_checker.proofs.AboutDerivations.TakenLemmas.{lines-of}
+use Rattle.tstp_checker.proofs.AboutVerdicts.RuleLineLemmas.{Bound, bound-starts, bound-next, bound-none, bound-ends}
 use Rattle.tstp_checker.proofs.lines.Lines.are_bound_to.Goals as goal
 
 pub loop-bind-init : goal.loop-bind-init

@@ -4,7 +4,7 @@ use Rattle.std.specs.List.{list_all}
 use Rattle.clausal_form.specs.DerivationParts.{parent_lines}
 use Rattle.clausal_form.specs.DerivationCauses.{is_bound}
 use Rattle.tstp_checker.specs.Lines.{taken_in}
-use Rattle.tstp_checker.proofs.RuleLineLemmas.{Bound, bound_left}
+use Rattle.tstp_checker.proofs.AboutVerdicts.RuleLineLemmas.{Bound, bound_left}
 use Rattle.tstp_checker.proofs.lines.Lines.are_bound_to.Given as goal
 
 abbrev pub invariant-loop-bind : goal.invariant-loop-bind

@@ -3,7 +3,7 @@ use Rattle.tptp_source.specs.SourceShape.{source_of}
 use Rattle.clausal_form.specs.DerivationCauses.{cited, place_of_entry}
 use Rattle.tstp_checker.specs.FormulaLines.{cited_at}
 use Rattle.tstp_checker.specs.Lines.{line_meant, setting_in}
-use Rattle.tstp_checker.proofs.FormulaLineLemmas.{cited-there}
+use Rattle.tstp_checker.proofs.AboutVerdicts.FormulaLineLemmas.{cited-there}
 use Rattle.tstp_checker.proofs.lines.Lines.cited_place.Goals as goal
 
 pub returns : goal.returns

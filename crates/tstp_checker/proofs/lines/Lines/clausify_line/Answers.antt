@@ -1,7 +1,7 @@
 use Rattle.std.proofs.Common.{true, false, map, sym, ◌∙◌}
 use Rattle.tptp_source.specs.Shape.{tree_of}
 use Rattle.tstp_checker.specs.Lines.{setting_in, taken_in}
-use Rattle.tstp_checker.proofs.ClauseLineLemmas.{clausify-none, clausify-so, verdict-as}
+use Rattle.tstp_checker.proofs.AboutVerdicts.ClauseLineLemmas.{clausify-none, clausify-so, verdict-as}
 use Rattle.tstp_checker.proofs.lines.Lines.clausify_line.Goals as goal
 
 pub returns-in_default-clause-verdict : goal.returns-in_default-clause-verdict

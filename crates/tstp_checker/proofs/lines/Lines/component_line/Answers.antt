@@ -10,8 +10,8 @@ use Rattle.kernel_steps.specs.declared.step.Step.TheVariants.{Component}
 use Rattle.clausal_form.specs.DerivationClause.{ordinary_literals, symbols_in, numbering, clause_by}
 use Rattle.clausal_form.specs.DerivationLine.{NamedLine}
 use Rattle.tstp_checker.specs.Lines.{setting_in, taken_in}
-use Rattle.tstp_checker.proofs.ClauseLineLemmas.{line_of, verdict-as}
-use Rattle.tstp_checker.proofs.ComponentLemmas.{component-so}
+use Rattle.tstp_checker.proofs.AboutVerdicts.ClauseLineLemmas.{line_of, verdict-as}
+use Rattle.tstp_checker.proofs.AboutVerdicts.ComponentLemmas.{component-so}
 use Rattle.tstp_checker.proofs.lines.Lines.component_line.Goals.{then-parts, else-parts}
 use Rattle.tstp_checker.proofs.lines.Lines.component_line.Goals as goal
 

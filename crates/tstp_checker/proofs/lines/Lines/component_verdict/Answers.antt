@@ -1,6 +1,6 @@
 use Rattle.std.proofs.Common.{refl, sym, ◌∙◌}
 use Rattle.tstp_checker.specs.Lines.{line_meant, setting_in, taken_in}
-use Rattle.tstp_checker.proofs.VerdictLemmas.{fresh-name, component-line, component-step}
+use Rattle.tstp_checker.proofs.AboutVerdicts.VerdictLemmas.{fresh-name, component-line, component-step}
 use Rattle.tstp_checker.proofs.lines.Lines.component_verdict.Goals as goal
 
 pub returns-in-Ok-clause-next : goal.returns-in-Ok-clause-next

@@ -2,7 +2,7 @@ use Rattle.std.proofs.Common.{ap, ◌∙◌}
 use Rattle.kernel_steps.specs.Conclusion.{verdict}
 use Rattle.kernel_steps.specs.Derivation.{line_parents}
 use Rattle.clausal_form.specs.DerivationCauses.{concluded}
-use Rattle.tstp_checker.proofs.TakenLemmas.{lines-of}
+use Rattle.tstp_checker.proofs.AboutDerivations.TakenLemmas.{lines-of}
 use Rattle.tstp_checker.proofs.lines.Lines.concluded.Goals as goal
 
 pub returns-in-Ok : goal.returns-in-Ok

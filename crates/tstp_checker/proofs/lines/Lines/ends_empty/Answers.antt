@@ -1,6 +1,6 @@
 use Rattle.std.proofs.Common.{ap, ◌-◌, length, ◌∙◌}
 use Rattle.std.specs.Prelude.{slice_get}
-use Rattle.tstp_checker.proofs.LinesLemmas.{ends-there}
+use Rattle.tstp_checker.proofs.AboutDerivations.LinesLemmas.{ends-there}
 use Rattle.tstp_checker.proofs.lines.Lines.ends_empty.Goals as goal
 
 pub returns-in-Some : goal.returns-in-Some

@@ -2,7 +2,7 @@ use Rattle.std.proofs.Common.{ap, sym, ◌∙◌}
 use Rattle.tptp_source.specs.SourceShape.{source_of}
 use Rattle.clausal_form.specs.DerivationCauses.{taken}
 use Rattle.tstp_checker.specs.Lines.{line_meant, setting_in, taken_in}
-use Rattle.tstp_checker.proofs.FormulaLineLemmas.{input-taken}
+use Rattle.tstp_checker.proofs.AboutVerdicts.FormulaLineLemmas.{input-taken}
 use Rattle.tstp_checker.proofs.lines.Lines.input_line.Goals as goal
 
 pub returns-in-Some-clause-verdict : goal.returns-in-Some-clause-verdict

@@ -1,5 +1,5 @@
 use Rattle.tstp_checker.specs.Lines.{line_meant, setting_in}
-use Rattle.tstp_checker.proofs.LinesLemmas.{name-new}
+use Rattle.tstp_checker.proofs.AboutDerivations.LinesLemmas.{name-new}
 use Rattle.tstp_checker.proofs.lines.Lines.judge.Goals as goal
 
 pub add-requires-clause-new : goal.add-requires-clause-new

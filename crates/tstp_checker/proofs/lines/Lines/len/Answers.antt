@@ -1,5 +1,5 @@
 use Rattle.std.proofs.Common.{sym, ◌∙◌}
-use Rattle.tstp_checker.proofs.TakenLemmas.{named-length}
+use Rattle.tstp_checker.proofs.AboutDerivations.TakenLemmas.{named-length}
 use Rattle.tstp_checker.proofs.lines.Lines.len.Goals as goal
 
 pub returns : goal.returns

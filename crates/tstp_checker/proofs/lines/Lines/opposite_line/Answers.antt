@@ -3,7 +3,7 @@ use Rattle.fol_base.specs.Literal.{literal_of}
 use Rattle.kernel_steps.specs.declared.step.Step.TheVariants.{Opposite}
 use Rattle.tstp_checker.specs.ClauseLines.{opposite_clause}
 use Rattle.tstp_checker.specs.Lines.{setting_in, taken_in}
-use Rattle.tstp_checker.proofs.ClauseLineLemmas.{opposite-gives, clause-equal, verdict-as}
+use Rattle.tstp_checker.proofs.AboutVerdicts.ClauseLineLemmas.{opposite-gives, clause-equal, verdict-as}
 use Rattle.tstp_checker.proofs.lines.Lines.opposite_line.Goals as goal
 
 pub returns-clause-verdict : goal.returns-clause-verdict

@@ -5,7 +5,7 @@ use Rattle.std.specs.Prelude.{bytes_eq}
 use Rattle.std.specs.List.{list_any}
 use Rattle.clausal_form.specs.DerivationParts.{line_place}
 use Rattle.tstp_checker.specs.Lines.{line_meant, taken_in}
-use Rattle.tstp_checker.proofs.FormulaLineLemmas.{parents-there, parents-missing}
+use Rattle.tstp_checker.proofs.AboutVerdicts.FormulaLineLemmas.{parents-there, parents-missing}
 use Rattle.tstp_checker.proofs.lines.Lines.parents.Goals as goal
 
 pub returns-in-Some : goal.returns-in-Some

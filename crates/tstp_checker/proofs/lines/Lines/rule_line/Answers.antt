@@ -4,9 +4,9 @@ use Rattle.tptp_source.specs.Shape.{tree_of}
 use Rattle.clausal_form.specs.DerivationCauses.{concluded, gives_clause}
 use Rattle.tstp_checker.specs.Lines.{setting_in, taken_in}
 use Rattle.tstp_checker.specs.Steps.{kind_meant, bound_terms}
-use Rattle.tstp_checker.proofs.ClauseLineLemmas.{clause-compared, verdict-as}
-use Rattle.tstp_checker.proofs.RuleStepLemmas.{step-is}
-use Rattle.tstp_checker.proofs.RuleLineLemmas.{right_bindings, rule-unbound, rule-none, rule-gives, rule-refused}
+use Rattle.tstp_checker.proofs.AboutVerdicts.ClauseLineLemmas.{clause-compared, verdict-as}
+use Rattle.tstp_checker.proofs.AboutVerdicts.RuleStepLemmas.{step-is}
+use Rattle.tstp_checker.proofs.AboutVerdicts.RuleLineLemmas.{right_bindings, rule-unbound, rule-none, rule-gives, rule-refused}
 use Rattle.tstp_checker.proofs.lines.Lines.rule_line.Goals as goal
 
 pub returns-then-not-are_bound-clause-verdict : goal.returns-then-not-are_bound-clause-verdict

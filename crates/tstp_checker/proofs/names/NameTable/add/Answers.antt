@@ -1,5 +1,5 @@
 use Rattle.std.proofs.Common.{◌++◌, ◌∙◌, ap}
-use Rattle.tstp_checker.proofs.TableLemmas.{text-added, text-numbered}
+use Rattle.tstp_checker.proofs.AboutReadings.TableLemmas.{text-added, text-numbered}
 use Rattle.tstp_checker.proofs.names.NameTable.add.Goals as goal
 
 pub returns-clause-number : goal.returns-clause-number

@@ -1,7 +1,7 @@
 use Rattle.std.proofs.Common.{refl}
 use Rattle.std.specs.Prelude.{bytes_eq}
 use Rattle.std.proofs.lemmas.Cmp.{nat_list_eq_equiv}
-use Rattle.tstp_checker.proofs.TableLemmas.{added-number}
+use Rattle.tstp_checker.proofs.AboutReadings.TableLemmas.{added-number}
 use Rattle.tstp_checker.proofs.names.NameTable.meet.Goals as goal
 
 pub returns-in-None-clause-number : goal.returns-in-None-clause-number

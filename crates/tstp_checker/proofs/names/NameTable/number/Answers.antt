@@ -1,6 +1,6 @@
 use Rattle.std.proofs.Common.{◌∙◌, ap}
 use Rattle.std.specs.Prelude.{is_some}
-use Rattle.tstp_checker.proofs.TableLemmas.{place-of-text, text-found}
+use Rattle.tstp_checker.proofs.AboutReadings.TableLemmas.{place-of-text, text-found}
 use Rattle.tstp_checker.proofs.names.NameTable.number.Goals as goal
 
 pub returns-in_err-place-clause-value : goal.returns-in_err-place-clause-value

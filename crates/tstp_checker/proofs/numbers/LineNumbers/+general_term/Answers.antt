@@ -1,5 +1,5 @@
 use Rattle.std.proofs.Common.{◌∙◌, refl, arith}
-use Rattle.tstp_checker.proofs.BindingLemmas.{general-item-is, next-general, word-size, word-terms, word-met, word-tree, variable-general, generals-go}
+use Rattle.tstp_checker.proofs.AboutReadings.BindingLemmas.{general-item-is, next-general, word-size, word-terms, word-met, word-tree, variable-general, generals-go}
 use Rattle.tstp_checker.proofs.numbers.LineNumbers.+general_term.Goals as goal
 
 pub general_term-general_terms-requires : goal.general_term-general_terms-requires

@@ -1,7 +1,7 @@
 use Rattle.std.proofs.Common.{◌+◌, ◌*◌, map}
 use Rattle.tptp_source.specs.General.{tree_size, trees_size, trees_of}
 use Rattle.tptp_source.specs.Shape.{tree_of}
-use Rattle.tstp_checker.proofs.BindingLemmas.{GeneralWalk}
+use Rattle.tstp_checker.proofs.AboutReadings.BindingLemmas.{GeneralWalk}
 use Rattle.tstp_checker.proofs.numbers.LineNumbers.+general_term.Given as goal
 
 abbrev pub decreases-general_term : goal.decreases-general_term

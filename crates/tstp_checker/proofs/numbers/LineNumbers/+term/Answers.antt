@@ -1,6 +1,6 @@
 use Rattle.std.proofs.Common.{refl, arith}
 use Rattle.tptp_tree.proofs.SizeLemmas.{term-item-is}
-use Rattle.tstp_checker.proofs.NumberLemmas.{variable-term, term-met, term-tree, walk-begins, walk-goes}
+use Rattle.tstp_checker.proofs.AboutReadings.NumberLemmas.{variable-term, term-met, term-tree, walk-begins, walk-goes}
 use Rattle.tstp_checker.proofs.numbers.LineNumbers.+term.Goals as goal
 
 pub term-returns-in_ok-meet-in-Var-clause-tree : goal.term-returns-in_ok-meet-in-Var-clause-tree

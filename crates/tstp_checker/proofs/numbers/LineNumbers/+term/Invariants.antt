@@ -1,7 +1,7 @@
 use Rattle.std.proofs.Common.{◌+◌, ◌*◌, map}
 use Rattle.tptp_tree.specs.Term.{term_size, terms_size, terms_of}
 use Rattle.tptp_tree.specs.Shape.{term_of}
-use Rattle.tstp_checker.proofs.NumberLemmas.{Walk}
+use Rattle.tstp_checker.proofs.AboutReadings.NumberLemmas.{Walk}
 use Rattle.tstp_checker.proofs.numbers.LineNumbers.+term.Given as goal
 
 abbrev pub decreases-term : goal.decreases-term

@@ -1,5 +1,5 @@
 use Rattle.tptp_source.specs.Shape.{tree_of}
-use Rattle.tstp_checker.proofs.BindingLemmas.{unbound, unbound-met, unbound-binding, bound, bound-met, bound-binding}
+use Rattle.tstp_checker.proofs.AboutReadings.BindingLemmas.{unbound, unbound-met, unbound-binding, bound, bound-met, bound-binding}
 use Rattle.tstp_checker.proofs.numbers.LineNumbers.binding.Goals as goal
 
 pub returns-then-not-are_terms-clause-met : goal.returns-then-not-are_terms-clause-met

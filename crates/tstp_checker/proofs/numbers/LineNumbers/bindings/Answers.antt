@@ -1,5 +1,5 @@
-use Rattle.tstp_checker.proofs.BindingLemmas.{binds-then, binds-met, binds-made}
-use Rattle.tstp_checker.proofs.WalkLemmas.{walks-go}
+use Rattle.tstp_checker.proofs.AboutReadings.BindingLemmas.{binds-then, binds-met, binds-made}
+use Rattle.tstp_checker.proofs.AboutReadings.WalkLemmas.{walks-go}
 use Rattle.tstp_checker.proofs.numbers.LineNumbers.bindings.Goals as goal
 
 pub loop-item-preserved : goal.loop-item-preserved

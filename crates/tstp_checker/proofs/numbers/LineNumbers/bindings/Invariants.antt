@@ -1,4 +1,4 @@
-use Rattle.tstp_checker.proofs.BindingLemmas.{BindWalk}
+use Rattle.tstp_checker.proofs.AboutReadings.BindingLemmas.{BindWalk}
 use Rattle.tstp_checker.proofs.numbers.LineNumbers.bindings.Given as goal
 
 abbrev pub invariant-loop-item : goal.invariant-loop-item

@@ -1,5 +1,5 @@
 use Rattle.tptp_tree.specs.Shape.{formula_of}
-use Rattle.tstp_checker.proofs.WrittenLemmas.{written-literals}
+use Rattle.tstp_checker.proofs.AboutReadings.WrittenLemmas.{written-literals}
 use Rattle.tstp_checker.proofs.numbers.LineNumbers.clause.Goals as goal
 
 pub literals-requires : goal.literals-requires

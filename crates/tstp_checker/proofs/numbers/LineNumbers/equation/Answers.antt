@@ -1,4 +1,4 @@
-use Rattle.tstp_checker.proofs.ClauseLemmas.{equation-literal}
+use Rattle.tstp_checker.proofs.AboutReadings.ClauseLemmas.{equation-literal}
 use Rattle.tstp_checker.proofs.numbers.LineNumbers.equation.Goals as goal
 
 pub returns-clause-literal : goal.returns-clause-literal

@@ -1,5 +1,5 @@
 use Rattle.fol_base.specs.Literal.{literal_of}
-use Rattle.tstp_checker.proofs.ClauseLemmas.{is-ordinary, mapped-last, literals-go}
+use Rattle.tstp_checker.proofs.AboutReadings.ClauseLemmas.{is-ordinary, mapped-last, literals-go}
 use Rattle.tstp_checker.proofs.numbers.LineNumbers.literals.Goals as goal
 
 pub loop-literal-preserved : goal.loop-literal-preserved

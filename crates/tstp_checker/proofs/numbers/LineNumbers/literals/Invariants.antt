@@ -1,6 +1,6 @@
 use Rattle.std.proofs.Common.{map}
 use Rattle.fol_base.specs.Literal.{literal_of}
-use Rattle.tstp_checker.proofs.ClauseLemmas.{LiteralWalk}
+use Rattle.tstp_checker.proofs.AboutReadings.ClauseLemmas.{LiteralWalk}
 use Rattle.tstp_checker.proofs.numbers.LineNumbers.literals.Given as goal
 
 abbrev pub invariant-loop-literal : goal.invariant-loop-literal

@@ -3,7 +3,7 @@ use Rattle.std.specs.Prelude.{nat_lt}
 use Rattle.tptp_tree.specs.Shape.{formula_of}
 use Rattle.tptp_source.specs.Shape.{tree_of}
 use Rattle.clausal_form.specs.DerivationClause.{ordinary_literals}
-use Rattle.tstp_checker.proofs.PartLemmas.{parts-clause, parts-bindings, parts-new, parts-front}
+use Rattle.tstp_checker.proofs.AboutReadings.PartLemmas.{parts-clause, parts-bindings, parts-new, parts-front}
 use Rattle.tstp_checker.proofs.numbers.LineNumbers.parts.Goals as goal
 
 pub returns-clause-clause : goal.returns-clause-clause

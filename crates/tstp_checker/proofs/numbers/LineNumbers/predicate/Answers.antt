@@ -1,6 +1,6 @@
 use Rattle.signature.specs.declared.symbol.SymbolKind.TheVariants.{Predicate}
-use Rattle.tstp_checker.proofs.NumberLemmas.{head-met}
-use Rattle.tstp_checker.proofs.ClauseLemmas.{predicate-literal}
+use Rattle.tstp_checker.proofs.AboutReadings.NumberLemmas.{head-met}
+use Rattle.tstp_checker.proofs.AboutReadings.ClauseLemmas.{predicate-literal}
 use Rattle.tstp_checker.proofs.numbers.LineNumbers.predicate.Goals as goal
 
 pub returns-clause-met : goal.returns-clause-met

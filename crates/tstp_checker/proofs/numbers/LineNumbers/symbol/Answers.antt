@@ -2,7 +2,7 @@ use Rattle.std.proofs.Common.{ap}
 use Rattle.signature.specs.Symbol.{same_symbol}
 use Rattle.signature.specs.SymbolLaws.{same_symbols}
 use Rattle.tstp_checker.specs.Numbers.{symbol_for}
-use Rattle.tstp_checker.proofs.TableLemmas.{added-number}
+use Rattle.tstp_checker.proofs.AboutReadings.TableLemmas.{added-number}
 use Rattle.tstp_checker.proofs.numbers.LineNumbers.symbol.Goals as goal
 
 pub returns-clause-number : goal.returns-clause-number

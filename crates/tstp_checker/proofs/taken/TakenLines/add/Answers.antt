@@ -1,5 +1,5 @@
 use Rattle.std.proofs.Common.{[], ◌∷◌, ◌++◌, ap, ◌∙◌}
-use Rattle.tstp_checker.proofs.TakenLemmas.{added-kept, added-lines}
+use Rattle.tstp_checker.proofs.AboutDerivations.TakenLemmas.{added-kept, added-lines}
 use Rattle.tstp_checker.proofs.taken.TakenLines.add.Goals as goal
 
 pub returns-clause-kept : goal.returns-clause-kept

@@ -3,7 +3,7 @@ use Rattle.std.specs.Prelude.{option_map}
 use Rattle.fol_base.specs.Literal.{clause_of}
 use Rattle.kernel_steps.specs.declared.step.Line.{Line}
 use Rattle.tstp_checker.specs.Taken.{clause_at}
-use Rattle.tstp_checker.proofs.TakenLemmas.{component-there}
+use Rattle.tstp_checker.proofs.AboutDerivations.TakenLemmas.{component-there}
 use Rattle.tstp_checker.proofs.taken.TakenLines.component.Goals as goal
 
 pub returns-in_err-place : goal.returns-in_err-place

@@ -1,5 +1,5 @@
 use Rattle.std.proofs.Common.{sym, ◌∙◌}
-use Rattle.tstp_checker.proofs.TakenLemmas.{named-any}
+use Rattle.tstp_checker.proofs.AboutDerivations.TakenLemmas.{named-any}
 use Rattle.tstp_checker.proofs.taken.TakenLines.has.Goals as goal
 
 pub returns-clause-value : goal.returns-clause-value

@@ -3,7 +3,7 @@ use Rattle.std.specs.Prelude.{option_map, option_and_then, slice_get}
 use Rattle.kernel_steps.specs.declared.step.Line.{Line}
 use Rattle.clausal_form.specs.DerivationLine.{NamedLine}
 use Rattle.tstp_checker.specs.Taken.{taken_of}
-use Rattle.tstp_checker.proofs.TakenLemmas.{step-there}
+use Rattle.tstp_checker.proofs.AboutDerivations.TakenLemmas.{step-there}
 use Rattle.tstp_checker.proofs.taken.TakenLines.only_step.Goals as goal
 
 pub returns-in_err-line : goal.returns-in_err-line

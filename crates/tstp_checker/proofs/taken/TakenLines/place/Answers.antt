@@ -1,5 +1,5 @@
 use Rattle.std.proofs.Common.{Some, ap, ◌∙◌}
-use Rattle.tstp_checker.proofs.TakenLemmas.{named-place}
+use Rattle.tstp_checker.proofs.AboutDerivations.TakenLemmas.{named-place}
 use Rattle.tstp_checker.proofs.taken.TakenLines.place.Goals as goal
 
 pub returns-in_err-number : goal.returns-in_err-number

@@ -1,7 +1,7 @@
 use Rattle.std.proofs.Common.{ap, ◌∙◌}
 use Rattle.clausal_form.specs.DerivationParts.{line_place}
 use Rattle.tstp_checker.specs.Taken.{taken_of}
-use Rattle.tstp_checker.proofs.TakenLemmas.{walk-starts, walk-none, walk-more, walk-ends}
+use Rattle.tstp_checker.proofs.AboutDerivations.TakenLemmas.{walk-starts, walk-none, walk-more, walk-ends}
 use Rattle.tstp_checker.proofs.taken.TakenLines.places.Goals as goal
 
 pub loop-name-init : goal.loop-name-init

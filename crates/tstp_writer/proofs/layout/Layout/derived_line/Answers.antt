@@ -1,5 +1,5 @@
 use Rattle.std.proofs.Common.{arith}
-use Rattle.tstp_writer.proofs.LayoutLemmas.{place-le}
+use Rattle.tstp_writer.proofs.AboutPrinted.LayoutLemmas.{place-le}
 use Rattle.tstp_writer.proofs.layout.Layout.derived_line.Goals as goal
 
 pub overflow_add-result-2 : goal.overflow_add-result-2

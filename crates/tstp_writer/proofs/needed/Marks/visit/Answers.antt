@@ -1,5 +1,5 @@
 use Rattle.std.proofs.Common.{◌∙◌, sym, subst, ◌<◌}
-use Rattle.tstp_writer.proofs.MarkLemmas.{visited-by-marking}
+use Rattle.tstp_writer.proofs.AboutNeeded.MarkLemmas.{visited-by-marking}
 use Rattle.tstp_writer.proofs.needed.Marks.visit.Goals as goal
 
 pub returns-in_ok-add_parents-clause-visited : goal.returns-in_ok-add_parents-clause-visited

@@ -2,11 +2,11 @@ use Rattle.std.proofs.Common.{map, drop, get_or, ◌+◌, ap, sym, ◌∙◌, su
 use Rattle.fol_base.specs.Tree.{Trees, application, no_trees, tree_then, trees_of}
 use Rattle.fol_base.specs.Term.{tree_of}
 use Rattle.fol_base.specs.declared.term.Term.{Term}
-use Rattle.fol_base.proofs.TermLemmas.{length-trees}
+use Rattle.fol_base.proofs.AboutTerms.TermLemmas.{length-trees}
 use Rattle.unifier.specs.declared.agreeing.Walked.{Walked}
 use Rattle.unifier.specs.Equations.{item_of}
 use Rattle.unifier.specs.Agreeing.{Agrees}
-use Rattle.unifier.proofs.WalkLemmas.{Agreeing, left-variable, right-variable, with-bound, applications, lengths-clash, agreeing-more, agreeing-done, rest-from, rest-none}
+use Rattle.unifier.proofs.AboutLayouts.WalkLemmas.{Agreeing, left-variable, right-variable, with-bound, applications, lengths-clash, agreeing-more, agreeing-done, rest-from, rest-none}
 use Rattle.unifier.proofs.agreeing.Walk.+agree.Goals as goal
 
 pub agree-returns-in-Var : goal.agree-returns-in-Var

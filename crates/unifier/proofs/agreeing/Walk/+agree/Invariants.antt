@@ -1,7 +1,7 @@
 use Rattle.std.proofs.Common.{◌+◌, ◌*◌, map, drop}
 use Rattle.fol_base.specs.Tree.{trees_of}
 use Rattle.fol_base.specs.Term.{tree_of}
-use Rattle.unifier.proofs.WalkLemmas.{Agreeing}
+use Rattle.unifier.proofs.AboutLayouts.WalkLemmas.{Agreeing}
 use Rattle.unifier.proofs.agreeing.Walk.+agree.Given as goal
 
 abbrev pub decreases-agree : goal.decreases-agree

@@ -1,7 +1,7 @@
 use Rattle.std.proofs.Common.{ap}
 use Rattle.fol_base.specs.Term.{tree_of}
 use Rattle.unifier.specs.Equations.{item_of}
-use Rattle.unifier.proofs.WalkLemmas.{with-bound-variable, with-equation}
+use Rattle.unifier.proofs.AboutLayouts.WalkLemmas.{with-bound-variable, with-equation}
 use Rattle.unifier.proofs.agreeing.Walk.+bind.Goals as goal
 
 pub returns-in-Some : goal.returns-in-Some

@@ -2,7 +2,7 @@ use Rattle.std.proofs.Common.{ap, sym, ◌∙◌}
 use Rattle.fol_base.specs.declared.limits.TheConstants.{SIZE_LIMIT}
 use Rattle.unifier.specs.SolvedForm.{SolvedForm}
 use Rattle.unifier.specs.Renaming.{fits, is_within}
-use Rattle.unifier.proofs.SolutionLemmas.{variables-pass}
+use Rattle.unifier.proofs.AboutEquations.SolutionLemmas.{variables-pass}
 use Rattle.unifier.proofs.bindings.Bindings.apply.Goals as goal
 
 pub apply-requires-clause-fits : goal.apply-requires-clause-fits

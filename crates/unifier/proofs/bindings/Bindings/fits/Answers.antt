@@ -1,7 +1,7 @@
 use Rattle.std.proofs.Common.{ap, sym, ◌∙◌}
 use Rattle.unifier.specs.SolvedForm.{SolvedForm}
 use Rattle.unifier.specs.Renaming.{fits, is_within}
-use Rattle.unifier.proofs.SolutionLemmas.{variables-pass}
+use Rattle.unifier.proofs.AboutEquations.SolutionLemmas.{variables-pass}
 use Rattle.unifier.proofs.bindings.Bindings.fits.Goals as goal
 
 pub returns : goal.returns

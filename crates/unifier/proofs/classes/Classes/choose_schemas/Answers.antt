@@ -1,8 +1,8 @@
 use Rattle.std.proofs.Common.{◌<◌, length, refl, ap, ◌∙◌, sym, arith}
 use Rattle.std.specs.Vec.{with_item}
 use Rattle.unifier.specs.declared.classes.Classes.{Classes}
-use Rattle.unifier.proofs.ClassLemmas.{read}
-use Rattle.unifier.proofs.ClosingLemmas.{chosen-variable, chosen-other}
+use Rattle.unifier.proofs.AboutClasses.ClassLemmas.{read}
+use Rattle.unifier.proofs.AboutClasses.ClosingLemmas.{chosen-variable, chosen-other}
 use Rattle.unifier.proofs.classes.Classes.choose_schemas.Goals as goal
 use Rattle.unifier.proofs.classes.Classes.choose_schemas.Goals.{then-not-is_variable, else-not-is_variable}
 

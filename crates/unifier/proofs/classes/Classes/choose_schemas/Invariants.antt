@@ -1,5 +1,5 @@
 use Rattle.std.proofs.Common.{◌≡◌}
-use Rattle.unifier.proofs.ClosingLemmas.{AreChosen}
+use Rattle.unifier.proofs.AboutClasses.ClosingLemmas.{AreChosen}
 use Rattle.unifier.proofs.classes.Classes.choose_schemas.Given as goal
 
 abbrev pub invariant-loop-cell : goal.invariant-loop-cell

@@ -1,6 +1,6 @@
 use Rattle.unifier.specs.declared.classes.Classes.{Classes}
-use Rattle.unifier.proofs.ClassLemmas.{when-true}
-use Rattle.unifier.proofs.ClosingLemmas.{from-itself, from-on, closed-at-last, refuted-at-last, closed-before, cannot-before}
+use Rattle.unifier.proofs.AboutClasses.ClassLemmas.{when-true}
+use Rattle.unifier.proofs.AboutClasses.ClosingLemmas.{from-itself, from-on, closed-at-last, refuted-at-last, closed-before, cannot-before}
 use Rattle.unifier.proofs.classes.Classes.close.Goals as goal
 
 pub loop-init : goal.loop-init

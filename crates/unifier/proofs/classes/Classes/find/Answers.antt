@@ -1,5 +1,5 @@
 use Rattle.std.proofs.Common.{◌<◌, length, arith}
-use Rattle.unifier.proofs.ClassLemmas.{read, one-up}
+use Rattle.unifier.proofs.AboutClasses.ClassLemmas.{read, one-up}
 use Rattle.unifier.proofs.classes.Classes.find.Goals as goal
 
 pub loop-at-preserved : goal.loop-at-preserved

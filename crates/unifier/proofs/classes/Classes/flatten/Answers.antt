@@ -1,7 +1,7 @@
 use Rattle.std.proofs.Common.{◌<◌, length, refl, arith}
 use Rattle.unifier.specs.declared.classes.Classes.{Classes}
-use Rattle.unifier.proofs.ClassLemmas.{read}
-use Rattle.unifier.proofs.ClosingLemmas.{flattening-step}
+use Rattle.unifier.proofs.AboutClasses.ClassLemmas.{read}
+use Rattle.unifier.proofs.AboutClasses.ClosingLemmas.{flattening-step}
 use Rattle.unifier.proofs.classes.Classes.flatten.Goals as goal
 
 pub loop-cell-preserved : goal.loop-cell-preserved

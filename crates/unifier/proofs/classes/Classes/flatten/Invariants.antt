@@ -1,5 +1,5 @@
 use Rattle.std.proofs.Common.{length}
-use Rattle.unifier.proofs.ClosingLemmas.{IsFlattening}
+use Rattle.unifier.proofs.AboutClasses.ClosingLemmas.{IsFlattening}
 use Rattle.unifier.proofs.classes.Classes.flatten.Given as goal
 
 abbrev pub invariant-loop-cell : goal.invariant-loop-cell

@@ -1,5 +1,5 @@
 use Rattle.std.proofs.Common.{length, sym}
-use Rattle.unifier.proofs.ClassLemmas.{found-meet}
+use Rattle.unifier.proofs.AboutClasses.ClassLemmas.{found-meet}
 use Rattle.unifier.proofs.classes.Classes.join.Goals as goal
 
 pub returns-then-first_root-second_root-2-clause-sound :

@@ -1,5 +1,5 @@
 use Rattle.std.proofs.Common.{◌≡◌, ℕ, List, [], ◌∷◌, ◌++◌, length, ap, ◌∙◌, arith}
-use Rattle.unifier.proofs.JoiningLemmas.{due-starts, due-taken, due-same, due-parts, due-clash, same-falls, parts-fall}
+use Rattle.unifier.proofs.AboutClasses.JoiningLemmas.{due-starts, due-taken, due-same, due-parts, due-clash, same-falls, parts-fall}
 use Rattle.unifier.proofs.classes.Classes.join_with_parts.Goals as goal
 
 pub loop-one-init : goal.loop-one-init

@@ -1,6 +1,6 @@
 use Rattle.std.proofs.Common.{◌+◌, ◌*◌, length}
 use Rattle.unifier.specs.Classes.{total}
-use Rattle.unifier.proofs.JoiningLemmas.{AreDue}
+use Rattle.unifier.proofs.AboutClasses.JoiningLemmas.{AreDue}
 use Rattle.unifier.proofs.classes.Classes.join_with_parts.Given as goal
 
 abbrev pub invariant-loop-one : goal.invariant-loop-one

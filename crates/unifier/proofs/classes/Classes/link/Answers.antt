@@ -1,7 +1,7 @@
 use Rattle.std.proofs.Common.{length, set, inl, inr, refl, ap, ◌∙◌, arith}
 use Rattle.unifier.specs.Classes.{schema}
 use Rattle.unifier.specs.declared.classes.Classes.{Classes}
-use Rattle.unifier.proofs.ClassLemmas.{linked, read, set-itself}
+use Rattle.unifier.proofs.AboutClasses.ClassLemmas.{linked, read, set-itself}
 use Rattle.unifier.proofs.classes.Classes.link.Goals as goal
 use Rattle.unifier.proofs.classes.Classes.link.Goals.{then-is_variable, else-is_variable}
 

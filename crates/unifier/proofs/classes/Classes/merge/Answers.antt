@@ -1,8 +1,8 @@
 use Rattle.std.proofs.Common.{length, refl, sym, subst, arith}
 use Rattle.unifier.specs.Joining.{IsMerged}
 use Rattle.unifier.specs.declared.classes.Classes.{Classes}
-use Rattle.unifier.proofs.ClassLemmas.{read}
-use Rattle.unifier.proofs.JoiningLemmas.{AreFound, found-by, same-class, classes-merged}
+use Rattle.unifier.proofs.AboutClasses.ClassLemmas.{read}
+use Rattle.unifier.proofs.AboutClasses.JoiningLemmas.{AreFound, found-by, same-class, classes-merged}
 use Rattle.unifier.proofs.classes.Classes.merge.Goals as goal
 use Rattle.unifier.proofs.classes.Classes.merge.Goals.{then-first_root-second_root-2, else-first_root-second_root-2}
 

@@ -1,5 +1,5 @@
 use Rattle.std.proofs.Common.{◌≡◌, subst, arith}
-use Rattle.unifier.proofs.ClassLemmas.{IsIdentity, identity-push, discrete-classes}
+use Rattle.unifier.proofs.AboutClasses.ClassLemmas.{IsIdentity, identity-push, discrete-classes}
 use Rattle.unifier.proofs.classes.Classes.new.Goals as goal
 
 pub loop-cell-preserved : goal.loop-cell-preserved

@@ -1,4 +1,4 @@
-use Rattle.unifier.proofs.ClassLemmas.{IsIdentity}
+use Rattle.unifier.proofs.AboutClasses.ClassLemmas.{IsIdentity}
 use Rattle.unifier.proofs.classes.Classes.new.Given as goal
 
 abbrev pub invariant-loop-cell : goal.invariant-loop-cell

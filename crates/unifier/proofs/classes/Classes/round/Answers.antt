@@ -1,4 +1,4 @@
-use Rattle.unifier.proofs.ClassLemmas.{follows-on, refuted-before, round-joined, round-unchanged}
+use Rattle.unifier.proofs.AboutClasses.ClassLemmas.{follows-on, refuted-before, round-joined, round-unchanged}
 use Rattle.unifier.proofs.classes.Classes.round.Goals as goal
 
 pub loop-cell-preserved-in-Joined : goal.loop-cell-preserved-in-Joined

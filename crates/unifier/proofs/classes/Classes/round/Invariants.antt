@@ -1,5 +1,5 @@
 use Rattle.unifier.specs.Classes.{Follows}
-use Rattle.unifier.proofs.ClassLemmas.{RoundSoFar}
+use Rattle.unifier.proofs.AboutClasses.ClassLemmas.{RoundSoFar}
 use Rattle.unifier.proofs.classes.Classes.round.Given as goal
 
 abbrev pub invariant-loop-cell : goal.invariant-loop-cell

@@ -1,6 +1,6 @@
 use Rattle.std.proofs.Common.{subst}
 use Rattle.unifier.specs.Classes.{IsFlattened}
-use Rattle.unifier.proofs.ClosingLemmas.{settled-follows}
+use Rattle.unifier.proofs.AboutClasses.ClosingLemmas.{settled-follows}
 use Rattle.unifier.proofs.classes.Classes.settle.Goals as goal
 
 pub returns-clause-follows : goal.returns-clause-follows

@@ -1,8 +1,8 @@
 use Rattle.std.proofs.Common.{◌≡◌, ◌<◌, ◌+◌, ℕ, length, refl, sym, ◌∙◌, arith}
 use Rattle.unifier.specs.Classes.{parent}
 use Rattle.unifier.specs.declared.classes.Classes.{Classes}
-use Rattle.unifier.proofs.ClassLemmas.{read}
-use Rattle.unifier.proofs.JoiningLemmas.{way-starts, way-on}
+use Rattle.unifier.proofs.AboutClasses.ClassLemmas.{read}
+use Rattle.unifier.proofs.AboutClasses.JoiningLemmas.{way-starts, way-on}
 use Rattle.unifier.proofs.classes.Classes.shorten.Goals as goal
 
 pub loop-at-init : goal.loop-at-init

@@ -1,6 +1,6 @@
 use Rattle.std.proofs.Common.{◌≡◌, arith}
 use Rattle.unifier.specs.Classes.{schema}
-use Rattle.unifier.proofs.ClassLemmas.{read, both-joined, step-refuted}
+use Rattle.unifier.proofs.AboutClasses.ClassLemmas.{read, both-joined, step-refuted}
 use Rattle.unifier.proofs.classes.Classes.step.Goals as goal
 
 pub returns-in-Clash-clause-done : goal.returns-in-Clash-clause-done

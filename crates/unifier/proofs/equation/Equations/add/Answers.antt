@@ -1,6 +1,6 @@
 use Rattle.std.proofs.Common.{◌+◌, min, ap, refl, take, ◌∙◌, arith}
 use Rattle.unifier.specs.declared.equation.Equation.{Equation}
-use Rattle.unifier.proofs.EquationLemmas.{stored, added}
+use Rattle.unifier.proofs.AboutEquations.EquationLemmas.{stored, added}
 use Rattle.unifier.proofs.equation.Equations.add.Goals as goal
 
 pub returns : goal.returns

@@ -1,6 +1,6 @@
 use Rattle.std.proofs.Common.{ap, take, ◌∙◌, arith}
 use Rattle.unifier.specs.Equations.{bound_to}
-use Rattle.unifier.proofs.EquationLemmas.{here-found}
+use Rattle.unifier.proofs.AboutEquations.EquationLemmas.{here-found}
 use Rattle.unifier.proofs.equation.Equations.find.Goals as goal
 
 pub returns-then-equation-code : goal.returns-then-equation-code

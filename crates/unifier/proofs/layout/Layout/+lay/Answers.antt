@@ -1,12 +1,12 @@
 use Rattle.std.proofs.Common.{◌≡◌, ℕ, List, map, drop, refl, ap, sym, subst, arith}
 use Rattle.fol_base.specs.Tree.{Tree, Trees, tree_variables, trees_of}
 use Rattle.fol_base.specs.Term.{tree_of}
-use Rattle.fol_base.proofs.TermLemmas.{tree_size-item}
+use Rattle.fol_base.proofs.AboutTerms.TermLemmas.{tree_size-item}
 use Rattle.unifier.specs.declared.layout.Place.{Place}
 use Rattle.unifier.specs.SolvedForm.{code_of}
 use Rattle.unifier.specs.Layout.{has_place, HavePlaces, TermLaidOut, TermsLaidOut}
-use Rattle.unifier.proofs.CodeLemmas.{item-has-places}
-use Rattle.unifier.proofs.LayoutLemmas.{variable-laid_out, application-answer, more-terms-laid_out, drop-before}
+use Rattle.unifier.proofs.AboutClasses.CodeLemmas.{item-has-places}
+use Rattle.unifier.proofs.AboutLayouts.LayoutLemmas.{variable-laid_out, application-answer, more-terms-laid_out, drop-before}
 use Rattle.unifier.proofs.layout.Layout.+lay.Goals as goal
 
 pub lay_term-returns-in_ok-list-in-App : goal.lay_term-returns-in_ok-list-in-App

@@ -1,12 +1,12 @@
 use Rattle.std.proofs.Common.{◌≡◌, length, map, drop, refl, sym, subst, arith}
 use Rattle.fol_base.specs.Tree.{Trees, trees_of, trees_variables}
 use Rattle.fol_base.specs.Term.{tree_of}
-use Rattle.fol_base.proofs.TermLemmas.{tree_size-item}
+use Rattle.fol_base.proofs.AboutTerms.TermLemmas.{tree_size-item}
 use Rattle.unifier.specs.Agreeing.{ItemsPass}
 use Rattle.unifier.specs.Resolving.{AreResolved}
-use Rattle.unifier.proofs.LayoutLemmas.{drop-before}
-use Rattle.unifier.proofs.WalkLemmas.{rest-none}
-use Rattle.unifier.proofs.ResolveLemmas.{nothing-resolved, more-resolved}
+use Rattle.unifier.proofs.AboutLayouts.LayoutLemmas.{drop-before}
+use Rattle.unifier.proofs.AboutLayouts.WalkLemmas.{rest-none}
+use Rattle.unifier.proofs.AboutEquations.ResolveLemmas.{nothing-resolved, more-resolved}
 use Rattle.unifier.proofs.layout.Layout.+resolve_all.Goals as goal
 
 pub resolve_all_variables-loop-index-init : goal.resolve_all_variables-loop-index-init

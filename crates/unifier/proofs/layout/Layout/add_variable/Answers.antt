@@ -1,5 +1,5 @@
 use Rattle.std.proofs.Common.{refl, arith}
-use Rattle.unifier.proofs.LayoutLemmas.{with-variable}
+use Rattle.unifier.proofs.AboutLayouts.LayoutLemmas.{with-variable}
 use Rattle.unifier.proofs.layout.Layout.add_variable.Goals as goal
 
 pub returns : goal.returns

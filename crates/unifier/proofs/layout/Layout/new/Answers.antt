@@ -2,7 +2,7 @@ use Rattle.std.proofs.Common.{sym, subst}
 use Rattle.std.specs.List.Sorted.{IsNonDecreasing}
 use Rattle.std.proofs.lemmas.List.Sorted.{IsNonDecreasingBy-from_sort}
 use Rattle.fol_base.specs.Term.{tree_of}
-use Rattle.unifier.proofs.CodeLemmas.{sorted-variables}
+use Rattle.unifier.proofs.AboutClasses.CodeLemmas.{sorted-variables}
 use Rattle.unifier.proofs.layout.Layout.new.Goals as goal
 
 pub with_variables-requires : goal.with_variables-requires

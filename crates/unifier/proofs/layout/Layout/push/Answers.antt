@@ -1,5 +1,5 @@
 use Rattle.std.proofs.Common.{refl, arith}
-use Rattle.unifier.proofs.LayoutLemmas.{layout-push}
+use Rattle.unifier.proofs.AboutLayouts.LayoutLemmas.{layout-push}
 use Rattle.unifier.proofs.layout.Layout.push.Goals as goal
 
 pub returns : goal.returns

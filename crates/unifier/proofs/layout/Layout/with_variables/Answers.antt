@@ -5,7 +5,7 @@ use Rattle.std.proofs.lemmas.List.{take_more}
 use Rattle.std.proofs.lemmas.Bool.{not-true}
 use Rattle.unifier.specs.declared.layout.Layout.{Layout}
 use Rattle.unifier.specs.Layout.{HasVariables}
-use Rattle.unifier.proofs.CodeLemmas.{above-earlier, same-variables, more-variables}
+use Rattle.unifier.proofs.AboutClasses.CodeLemmas.{above-earlier, same-variables, more-variables}
 use Rattle.unifier.proofs.layout.Layout.with_variables.Goals as goal
 use Rattle.unifier.proofs.layout.Layout.with_variables.Goals.{then-is_first+in_ok-add_variable, else-is_first}
 

@@ -2,8 +2,8 @@ use Rattle.std.proofs.Common.{◌≡◌, ◌∙◌, map, ap, refl, sym, arith}
 use Rattle.fol_base.specs.Tree.{application, trees_of}
 use Rattle.fol_base.specs.Instance.{instance}
 use Rattle.fol_base.specs.Term.{tree_of}
-use Rattle.fol_base.proofs.TermLemmas.{tree_size-item}
-use Rattle.fol_base.proofs.TreeLemmas.{instances-trees_of}
+use Rattle.fol_base.proofs.AboutTerms.TermLemmas.{tree_size-item}
+use Rattle.fol_base.proofs.AboutTerms.TreeLemmas.{instances-trees_of}
 use Rattle.unifier.specs.Matching.{by_pairs}
 use Rattle.unifier.proofs.matched.Matched.+apply.Goals as goal
 

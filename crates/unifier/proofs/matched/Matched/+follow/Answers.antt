@@ -1,7 +1,7 @@
 use Rattle.std.proofs.Common.{◌≡◌, map, refl, sym, ◌∙◌, arith}
 use Rattle.fol_base.specs.Term.{tree_of}
-use Rattle.fol_base.proofs.TermLemmas.{tree_size-item, length-trees}
-use Rattle.unifier.proofs.MatchLemmas.{walk_all-lengths}
+use Rattle.fol_base.proofs.AboutTerms.TermLemmas.{tree_size-item, length-trees}
+use Rattle.unifier.proofs.AboutMatching.MatchLemmas.{walk_all-lengths}
 use Rattle.unifier.proofs.matched.Matched.+follow.Goals as goal
 
 pub follow_all-returns-then-patterns-targets-clause-found : goal.follow_all-returns-then-patterns-targets-clause-found

@@ -1,4 +1,4 @@
-use Rattle.unifier.proofs.MatchLemmas.{NoVariableTwice-cut, cut-pairs}
+use Rattle.unifier.proofs.AboutMatching.MatchLemmas.{NoVariableTwice-cut, cut-pairs}
 use Rattle.unifier.proofs.matched.Matched.cut.Goals as goal
 
 pub invariant_of-self : goal.invariant_of-self

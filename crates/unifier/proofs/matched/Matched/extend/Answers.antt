@@ -1,7 +1,7 @@
 use Rattle.std.proofs.Common.{take, ap, refl, ◌∙◌}
 use Rattle.fol_base.specs.Term.{tree_of}
-use Rattle.unifier.proofs.MatchLemmas.{answer-below, extended, not-extended}
-use Rattle.unifier.proofs.KindLemmas.{answer-functions}
+use Rattle.unifier.proofs.AboutMatching.MatchLemmas.{answer-below, extended, not-extended}
+use Rattle.unifier.proofs.AboutLayouts.KindLemmas.{answer-functions}
 use Rattle.unifier.proofs.matched.Matched.extend.Goals as goal
 
 pub returns-in-Ok-true-clause-found : goal.returns-in-Ok-true-clause-found

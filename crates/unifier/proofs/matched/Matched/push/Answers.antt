@@ -1,6 +1,6 @@
 use Rattle.std.proofs.Common.{ap, ◌∙◌}
 use Rattle.unifier.specs.Matching.{term_for}
-use Rattle.unifier.proofs.MatchLemmas.{NoVariableTwice-pushed}
+use Rattle.unifier.proofs.AboutMatching.MatchLemmas.{NoVariableTwice-pushed}
 use Rattle.unifier.proofs.matched.Matched.push.Goals as goal
 
 pub invariant_of-self-2 : goal.invariant_of-self-2

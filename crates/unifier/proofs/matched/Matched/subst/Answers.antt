@@ -2,9 +2,9 @@ use Rattle.std.proofs.Common.{◌≡◌, ◌++◌, ◌∷◌, [], map, ap, ap₂
 use Rattle.std.proofs.lemmas.List.{map-append}
 use Rattle.fol_base.specs.Canonical.{terms_from}
 use Rattle.fol_base.specs.Term.{tree_of}
-use Rattle.fol_base.proofs.CanonicalLemmas.{terms_from_more}
+use Rattle.fol_base.proofs.AboutCanonical.CanonicalLemmas.{terms_from_more}
 use Rattle.unifier.specs.Matching.{NoVariableTwice, by_pairs}
-use Rattle.unifier.proofs.MatchLemmas.{HasPairs-subst}
+use Rattle.unifier.proofs.AboutMatching.MatchLemmas.{HasPairs-subst}
 use Rattle.unifier.proofs.matched.Matched.subst.Goals as goal
 
 pub loop-variable-preserved : goal.loop-variable-preserved

@@ -1,7 +1,7 @@
 use Rattle.std.proofs.Common.{length, rules, refl, subst, arith}
 use Rattle.unifier.specs.declared.placing.Sweep.{Sweep}
 use Rattle.unifier.specs.Placing.{SweepDone}
-use Rattle.unifier.proofs.PlacingLemmas.{placing-starts, stuck-at-last}
+use Rattle.unifier.proofs.AboutLayouts.PlacingLemmas.{placing-starts, stuck-at-last}
 use Rattle.unifier.proofs.placing.Placing.order.Goals as goal
 
 pub loop-placing-init : goal.loop-placing-init

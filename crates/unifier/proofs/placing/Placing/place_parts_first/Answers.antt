@@ -2,8 +2,8 @@ use Rattle.std.proofs.Common.{◌<◌, ℕ, Bool, List, true, Vec, Global, lengt
 use Rattle.std.specs.Prelude.{All}
 use Rattle.std.proofs.lemmas.List.{length-set}
 use Rattle.std.proofs.lemmas.List.Elements.{All-nil}
-use Rattle.unifier.proofs.ClassLemmas.{read}
-use Rattle.unifier.proofs.PlacingLemmas.{IsWalk, walk-visits, walk-enters, below-push, below-last}
+use Rattle.unifier.proofs.AboutClasses.ClassLemmas.{read}
+use Rattle.unifier.proofs.AboutLayouts.PlacingLemmas.{IsWalk, walk-visits, walk-enters, below-push, below-last}
 use Rattle.unifier.proofs.placing.Placing.place_parts_first.Goals as goal
 use Rattle.unifier.proofs.placing.Placing.place_parts_first.Goals.{then-matches+then-not-index+in_ok-push-2+in_ok-push_parts, else-matches}
 

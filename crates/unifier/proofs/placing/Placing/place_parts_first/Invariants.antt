@@ -1,6 +1,6 @@
 use Rattle.std.proofs.Common.{◌<◌, length}
 use Rattle.std.specs.Prelude.{All}
-use Rattle.unifier.proofs.PlacingLemmas.{IsWalk}
+use Rattle.unifier.proofs.AboutLayouts.PlacingLemmas.{IsWalk}
 use Rattle.unifier.proofs.placing.Placing.place_parts_first.Given as goal
 
 abbrev pub invariant-loop-cell : goal.invariant-loop-cell

@@ -1,7 +1,7 @@
 use Rattle.std.proofs.Common.{◌+◌, Bool, true, subst, sym}
 use Rattle.unifier.specs.declared.placing.Visit.{Visit}
 use Rattle.unifier.specs.Placing.{VisitDone}
-use Rattle.unifier.proofs.PlacingLemmas.{SweepSoFar, sweep-placed, sweep-waits, sweep-kept}
+use Rattle.unifier.proofs.AboutLayouts.PlacingLemmas.{SweepSoFar, sweep-placed, sweep-waits, sweep-kept}
 use Rattle.unifier.proofs.placing.Placing.sweep.Goals as goal
 use Rattle.unifier.proofs.placing.Placing.sweep.Goals.{in-Placed, in-Waiting, in-Kept}
 

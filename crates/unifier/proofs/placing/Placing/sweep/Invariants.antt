@@ -1,4 +1,4 @@
-use Rattle.unifier.proofs.PlacingLemmas.{SweepSoFar}
+use Rattle.unifier.proofs.AboutLayouts.PlacingLemmas.{SweepSoFar}
 use Rattle.unifier.proofs.placing.Placing.sweep.Given as goal
 
 abbrev pub invariant-loop-cell : goal.invariant-loop-cell

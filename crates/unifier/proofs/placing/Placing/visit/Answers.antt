@@ -2,8 +2,8 @@ use Rattle.std.proofs.Common.{◌≡◌, None, Vec, Global, refl, ap, sym, ◌�
 use Rattle.unifier.specs.declared.cells.Cell.{Cell}
 use Rattle.unifier.specs.Placing.{place}
 use Rattle.unifier.specs.Classes.{parent, schema}
-use Rattle.unifier.proofs.ClassLemmas.{read}
-use Rattle.unifier.proofs.PlacingLemmas.{NextPlace, place-read, read-some, read-none, visit-from, placing-next, visit-placed}
+use Rattle.unifier.proofs.AboutClasses.ClassLemmas.{read}
+use Rattle.unifier.proofs.AboutLayouts.PlacingLemmas.{NextPlace, place-read, read-some, read-none, visit-from, placing-next, visit-placed}
 use Rattle.unifier.proofs.placing.Placing.visit.Goals as goal
 
 pub returns-then-is_some-clause-done : goal.returns-then-is_some-clause-done

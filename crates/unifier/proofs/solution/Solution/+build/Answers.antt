@@ -1,7 +1,7 @@
 use Rattle.std.proofs.Common.{refl, ap, sym, ◌∙◌, arith}
 use Rattle.fol_base.specs.Tree.{variable}
 use Rattle.unifier.specs.Cells.{list_parts}
-use Rattle.unifier.proofs.RenameLemmas.{renamed-variable, renamed-application, renamed-nothing, building-starts, building-more, building-done}
+use Rattle.unifier.proofs.AboutLayouts.RenameLemmas.{renamed-variable, renamed-application, renamed-nothing, building-starts, building-more, building-done}
 use Rattle.unifier.proofs.solution.Solution.+build.Goals as goal
 
 pub term_at-name-requires : goal.term_at-name-requires

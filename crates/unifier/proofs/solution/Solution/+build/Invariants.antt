@@ -1,4 +1,4 @@
-use Rattle.unifier.proofs.RenameLemmas.{Building}
+use Rattle.unifier.proofs.AboutLayouts.RenameLemmas.{Building}
 use Rattle.unifier.proofs.solution.Solution.+build.Given as goal
 
 abbrev pub decreases-term_at : goal.decreases-term_at

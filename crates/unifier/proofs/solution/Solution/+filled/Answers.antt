@@ -2,12 +2,12 @@ use Rattle.std.proofs.Common.{◌≡◌, ◌∙◌, map, ap, refl, sym, arith}
 use Rattle.fol_base.specs.Tree.{application, trees_of}
 use Rattle.fol_base.specs.Instance.{instance}
 use Rattle.fol_base.specs.Term.{tree_of}
-use Rattle.fol_base.proofs.TermLemmas.{tree_size-item}
-use Rattle.fol_base.proofs.TreeLemmas.{instances-trees_of}
+use Rattle.fol_base.proofs.AboutTerms.TermLemmas.{tree_size-item}
+use Rattle.fol_base.proofs.AboutTerms.TreeLemmas.{instances-trees_of}
 use Rattle.fol_base.specs.declared.limits.TheConstants.{SIZE_LIMIT}
 use Rattle.unifier.specs.Solution.{solved_form}
 use Rattle.unifier.specs.SolvedForm.{substitution_of}
-use Rattle.unifier.proofs.RenameLemmas.{filled-variable, item-below}
+use Rattle.unifier.proofs.AboutLayouts.RenameLemmas.{filled-variable, item-below}
 use Rattle.unifier.proofs.solution.Solution.+filled.Goals as goal
 
 pub filled-returns-in_ok-all_filled-in-App : goal.filled-returns-in_ok-all_filled-in-App

@@ -1,9 +1,9 @@
 use Rattle.std.proofs.Common.{◌≡◌, map, refl, arith}
 use Rattle.fol_base.specs.Term.{tree_of}
-use Rattle.fol_base.proofs.TermLemmas.{tree_size-item}
+use Rattle.fol_base.proofs.AboutTerms.TermLemmas.{tree_size-item}
 use Rattle.unifier.specs.Solution.{solved_form}
 use Rattle.unifier.specs.SolvedForm.{substitution_of}
-use Rattle.unifier.proofs.SizeLemmas.{size-more}
+use Rattle.unifier.proofs.AboutLayouts.SizeLemmas.{size-more}
 use Rattle.unifier.proofs.solution.Solution.+instance.Goals as goal
 
 pub terms_size-loop-term-preserved : goal.terms_size-loop-term-preserved

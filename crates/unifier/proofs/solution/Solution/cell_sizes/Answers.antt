@@ -1,6 +1,6 @@
 use Rattle.std.proofs.Common.{◌<◌, List, ℕ, length, ap, ◌∙◌, arith}
 use Rattle.unifier.specs.Sizes.{size_by}
-use Rattle.unifier.proofs.SizeLemmas.{sizes-push, cell-read, after-parts}
+use Rattle.unifier.proofs.AboutLayouts.SizeLemmas.{sizes-push, cell-read, after-parts}
 use Rattle.unifier.proofs.solution.Solution.cell_sizes.Goals as goal
 
 pub size_from_parts-size-requires : goal.size_from_parts-size-requires

@@ -1,7 +1,7 @@
 use Rattle.std.proofs.Common.{◌<◌, length, ap, refl, ◌∙◌, arith}
 use Rattle.std.proofs.lemmas.List.{length-set}
 use Rattle.unifier.specs.Sizes.{size_by}
-use Rattle.unifier.proofs.SizeLemmas.{sizes-set, cell-read, after-parts}
+use Rattle.unifier.proofs.AboutLayouts.SizeLemmas.{sizes-set, cell-read, after-parts}
 use Rattle.unifier.proofs.solution.Solution.few_sizes.Goals as goal
 
 pub size_from_parts-requires : goal.size_from_parts-requires

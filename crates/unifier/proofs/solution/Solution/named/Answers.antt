@@ -1,6 +1,6 @@
 use Rattle.std.proofs.Common.{ap, sym}
 use Rattle.fol_base.specs.Tree.{variable}
-use Rattle.unifier.proofs.RenameLemmas.{renamed-answer, renamed-free}
+use Rattle.unifier.proofs.AboutLayouts.RenameLemmas.{renamed-answer, renamed-free}
 use Rattle.unifier.proofs.solution.Solution.named.Goals as goal
 
 pub term_at-requires-clause-inside : goal.term_at-requires-clause-inside

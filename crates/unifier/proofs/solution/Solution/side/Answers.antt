@@ -1,7 +1,7 @@
 use Rattle.std.proofs.Common.{◌++◌, ◌∷◌, [], map, ap, ap₂, sym, ◌∙◌}
 use Rattle.std.proofs.lemmas.List.{map-append}
 use Rattle.fol_base.specs.Term.{tree_of}
-use Rattle.fol_base.proofs.CanonicalLemmas.{terms_from_more}
+use Rattle.fol_base.proofs.AboutCanonical.CanonicalLemmas.{terms_from_more}
 use Rattle.unifier.specs.Solution.{solved_form}
 use Rattle.unifier.specs.SolvedForm.{joint, substitution_of}
 use Rattle.unifier.specs.Renaming.{renamed}

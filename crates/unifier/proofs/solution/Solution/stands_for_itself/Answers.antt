@@ -1,5 +1,5 @@
 use Rattle.std.proofs.Common.{sym, ◌∙◌}
-use Rattle.unifier.proofs.RenameLemmas.{itself-bound, itself-free}
+use Rattle.unifier.proofs.AboutLayouts.RenameLemmas.{itself-bound, itself-free}
 use Rattle.unifier.proofs.solution.Solution.stands_for_itself.Goals as goal
 
 pub cell-requires : goal.cell-requires

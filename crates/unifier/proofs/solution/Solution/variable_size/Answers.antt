@@ -1,7 +1,7 @@
 use Rattle.std.proofs.Common.{ap, sym, ◌∙◌, arith}
 use Rattle.unifier.specs.SolvedForm.{code_of}
 use Rattle.unifier.specs.Layout.{cell_of}
-use Rattle.unifier.proofs.SizeLemmas.{size-bound, size-free}
+use Rattle.unifier.proofs.AboutLayouts.SizeLemmas.{size-bound, size-free}
 use Rattle.unifier.proofs.solution.Solution.variable_size.Goals as goal
 
 pub size_at-requires : goal.size_at-requires

@@ -1,0 +1,8 @@
+-- What is covered, reached and closed.
+pub mod ClauseLemmas
+pub mod ClosureLemmas
+pub mod CoverLemmas
+pub mod OnGroundLemmas
+pub mod ReachLemmas
+pub mod RewriteLemmas
+pub mod SymbolLemmas

@@ -1,0 +1,4 @@
+-- Worked examples.
+pub mod ClosureExamples
+pub mod ExampleLemmas
+pub mod RefusedExamples

@@ -1,0 +1,4 @@
+-- Rewriting ends: a number falls.
+pub mod RankLemmas
+pub mod RankLists
+pub mod TermLemmas

@@ -1,0 +1,8 @@
+-- One rewrite step and the lines of all.
+pub mod CallLemmas
+pub mod LineLemmas
+pub mod NameLemmas
+pub mod NormalLemmas
+pub mod StepLemmas
+pub mod StepParts
+pub mod SymbolLemmas

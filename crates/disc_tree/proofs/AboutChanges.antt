@@ -1,0 +1,3 @@
+-- An entry put in or taken out.
+pub mod EditLemmas
+pub mod RemoveLemmas

@@ -1,0 +1,5 @@
+-- What a query visits and finds.
+pub mod FoundLemmas
+pub mod FrontLemmas
+pub mod UnifierLemmas
+pub mod VisitLemmas

@@ -1,0 +1,6 @@
+-- Equality factoring, from its pairs to its lists.
+pub mod FactorAnswers
+pub mod FactorRefused
+pub mod FactorStepLemmas
+pub mod FactoringLemmas
+pub mod FactoringLists

@@ -1,0 +1,63 @@
+-- From the calls of factoring to the lemmas.
+use Rattle.std.proofs.Common.{◌≡◌, ℕ, ◌+◌, ◌-◌, ◌^◌, ◌<◌, ◌≤◌, min, false, Option, None, Some, List, refl, ap, ap₂, sym, ◌∙◌, arith}
+use Rattle.std.specs.Prelude.{sum_by, slice_get}
+use Rattle.std.specs.Option.{is_some}
+use Rattle.std.proofs.lemmas.Bool.{true≢false}
+use Rattle.std.proofs.lemmas.List.Sums.{sum_by-remove}
+use Rattle.std.proofs.lemmas.Option.{same_Some, slice_get_within, get_or_from_slice_get}
+use Rattle.fol_base.specs.Tree.{variable, tree_size}
+use Rattle.fol_base.specs.Instance.{Substitution, instance}
+use Rattle.fol_base.specs.Clause.{TreeLiteral, literal_size, literal_instance}
+use Rattle.fol_base.specs.Ground.{literals_instance}
+use Rattle.fol_base.specs.Sides.{side_of, other_side_of}
+use Rattle.fol_base.specs.declared.clause.Side.{Side}
+use Rattle.fol_base.specs.declared.limits.TheConstants.{MOST_SYMBOLS, SIZE_LIMIT}
+use Rattle.fol_base.proofs.AboutClauses.InferenceLemmas.{literal_in_instance, side_of-instance, other_side_of-instance}
+use Rattle.unifier.specs.Sizes.{stopped}
+use Rattle.eq_rules.proofs.AboutConclusions.SideLemmas.{sides-size}
+use Rattle.eq_rules.proofs.AboutConclusions.WideLemmas.{itself}
+
+-- the literal that is lent is the one that is there
+pub lent_there :
+    (lent ls : List TreeLiteral) (i : ℕ) (l k : TreeLiteral)
+    → lent ≡ ls → slice_get lent i ≡ Some l → slice_get ls i ≡ Some k → l ≡ k
+lent_there lent ls i l k same at there = same_Some l k (sym at ∙ ap (λ ms. slice_get ms i) same ∙ there)
+
+-- a literal is no larger than the list
+pub item_size : (ls : List TreeLiteral) (i : ℕ) (l : TreeLiteral) → slice_get ls i ≡ Some l → literal_size l ≤ sum_by literal_size ls
+item_size ls i l at =
+    let whole = sum_by-remove literal_size ls i l (slice_get_within ls i l at) in
+    let read = ap literal_size (get_or_from_slice_get ls i l l at) in
+    omega (arith, whole, read)
+
+pub part_size :
+    (σ : Substitution) (ls : List TreeLiteral) (i : ℕ) (l : TreeLiteral)
+    → slice_get ls i ≡ Some l → literal_size (literal_instance σ l) ≤ sum_by literal_size (literals_instance σ ls)
+part_size σ ls i l at = item_size (literals_instance σ ls) i (literal_instance σ l) (literal_in_instance σ ls i l at)
+
+pub unbound_size : (l : TreeLiteral) → literal_size (literal_instance variable l) ≡ literal_size l
+unbound_size l = ap₂ (λ t u. tree_size t + tree_size u) (itself l.left) (itself l.right)
+
+pub sides_size :
+    (σ : Substitution) (s : Side) (l : TreeLiteral)
+    → literal_size (literal_instance σ l) ≡ tree_size (instance σ (side_of s l)) + tree_size (instance σ (other_side_of s l))
+sides_size σ s l =
+    sides-size s (literal_instance σ l) ∙ ap₂ (λ t u. tree_size t + tree_size u) (side_of-instance σ s l) (other_side_of-instance σ s l)
+
+pub total_size : (size n : ℕ) → size ≡ stopped n → size < SIZE_LIMIT → n ≡ size
+total_size size n is h = omega (arith, is, h)
+
+-- the conclusion's size as it is told
+pub told_size :
+    (sum goes_in comes_in total size goes comes : ℕ)
+    → sum + goes_in ≡ total + comes_in → total ≡ size → goes_in ≤ size → comes_in ≤ size → size ≤ MOST_SYMBOLS
+    → goes ≡ min goes_in (2 ^ 64 - 1) → comes ≡ min comes_in (2 ^ 64 - 1)
+    → (goes ≤ size) × (size - goes + comes ≡ sum) × (comes ≤ MOST_SYMBOLS)
+told_size sum goes_in comes_in total size goes comes whole is goes_low comes_low small goes_is comes_is =
+    let g : goes ≡ goes_in = omega (arith, goes_low, small, goes_is) in
+    let k : comes ≡ comes_in = omega (arith, comes_low, small, comes_is) in
+    (omega (arith, g, goes_low), omega (arith, g, k, whole, is, goes_low), omega (arith, k, comes_low, small))
+
+pub none_there : {X : Type 0} (o : Option X) → is_some o ≡ false → o ≡ None
+none_there None h = refl
+none_there (Some x) h = absurd (true≢false h)

@@ -1,0 +1,4 @@
+-- Equality resolution.
+pub mod ResolutionAnswers
+pub mod ResolutionLemmas
+pub mod ResolutionLists

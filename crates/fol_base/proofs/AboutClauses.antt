@@ -1,0 +1,6 @@
+-- Clauses: what they say, rules on their literals, ground inferences.
+pub mod ClauseLemmas
+pub mod RuleLemmas
+pub mod CountLemmas
+pub mod MeaningLemmas
+pub mod InferenceLemmas

@@ -1,0 +1,8 @@
+-- Instances, their sizes and places, ground instances and what they cover.
+pub mod InstanceLemmas
+pub mod InstanceSizes
+pub mod InstancePlaces
+pub mod ConversePlaces
+pub mod PlaceLemmas
+pub mod GroundInstanceLemmas
+pub mod CoverageLemmas

@@ -1,0 +1,4 @@
+-- Worked examples.
+pub mod ExampleLemmas
+pub mod MatchingExamples
+pub mod TestLemmas

@@ -1,0 +1,7 @@
+-- Entries and lines of a batch, what goes and what stays.
+pub mod BatchLines
+pub mod EntryLemmas
+pub mod GoingLemmas
+pub mod Justifiers
+pub mod Kept
+pub mod RemovalLemmas

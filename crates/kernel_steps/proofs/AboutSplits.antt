@@ -1,0 +1,5 @@
+-- Splitting steps and their tables.
+pub mod SplitLemmas
+pub mod SplitLoops
+pub mod SplitTables
+pub mod SplitTests

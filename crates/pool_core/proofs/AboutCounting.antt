@@ -1,0 +1,6 @@
+-- The count, deaths and their justifiers.
+pub mod CountLemmas
+pub mod CountedLemmas
+pub mod SpentLemmas
+pub mod DeathLemmas
+pub mod JustifiedLemmas

@@ -1,0 +1,12 @@
+-- Worked histories, lawful and unlawful.
+pub mod AnswerExamples
+pub mod CuttingExample
+pub mod DroppingExample
+pub mod EntryExample
+pub mod GoingExample
+pub mod LawfulExamples
+pub mod MeetingExample
+pub mod RemovingExample
+pub mod ReturnExamples
+pub mod SaturatedExamples
+pub mod SteppingExample

@@ -1,0 +1,21 @@
+-- What the outcome of a problem's pool says of the problem.
+use Rattle.std.proofs.Common.{◌≡◌, List, false}
+use Rattle.tptp_tree.specs.declared.problem.Annotated.{Annotated}
+use Rattle.pool_core.specs.declared.options.Options.{Options}
+use Rattle.pool_core.specs.declared.outcome.Outcome.{Outcome}
+use Rattle.pool_core.specs.declared.outcome.Outcome.TheVariants.{Refuted, Saturated, Spent, Heavy}
+use Rattle.saturation.specs.Laws.{SaturatedIsSaturated}
+use Rattle.prover_main.specs.AnswerShape.{IsProvedProblem, OutcomeSays}
+use Rattle.prover_main.specs.declared.proved.Proved.{Proved}
+use Rattle.prover_main.proofs.AboutOutcomes.HistoryLemmas.{ended, has-counted, heavy-cause}
+use Rattle.prover_main.proofs.AboutOutcomes.RefutedLemmas.{herbrand-refuted}
+use Rattle.prover_main.proofs.AboutOutcomes.SaturatedLemmas.{ended-saturated}
+
+pub outcome-says :
+    (formulas : List Annotated) (options : Options) (proved : Proved) (is : IsProvedProblem formulas options proved)
+    → options.split ≡ false → SaturatedIsSaturated → (o : Outcome) → proved.outcome ≡ o
+    → OutcomeSays formulas options (ended formulas options proved is) o
+outcome-says formulas options proved is unsplit saturates Refuted same = herbrand-refuted formulas options proved is same unsplit
+outcome-says formulas options proved is unsplit saturates Saturated same = ended-saturated formulas options proved is same unsplit saturates
+outcome-says formulas options proved is unsplit saturates (Spent count) same = has-counted formulas options proved is count same
+outcome-says formulas options proved is unsplit saturates (Heavy place) same = heavy-cause formulas options proved is place same

@@ -1,0 +1,3 @@
+-- Right answers.
+pub mod SolverLemmas
+pub mod SoundLemmas

@@ -1,0 +1,6 @@
+-- A conflict, what is learned, and the log.
+pub mod AnalysisLemmas
+pub mod LogLemmas
+pub mod MarkLemmas
+pub mod ReduceLemmas
+pub mod ResolveLemmas

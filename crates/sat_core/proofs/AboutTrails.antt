@@ -1,0 +1,6 @@
+-- Literals, their truth, the trail and propagation.
+pub mod LiteralLemmas
+pub mod TruthLemmas
+pub mod TrailLemmas
+pub mod PropagationLemmas
+pub mod MeasureLemmas

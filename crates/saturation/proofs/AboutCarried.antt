@@ -1,0 +1,14 @@
+-- What is carried through a history, event by event.
+pub mod ArrivalLemmas
+pub mod CarriedLemmas
+pub mod EntryLemmas
+pub mod FixedLemmas
+pub mod HistoryLemmas
+pub mod MeetingLemmas
+pub mod MoveLemmas
+pub mod RegisteredLemmas
+pub mod RemovalLemmas
+pub mod ReturnLemmas
+pub mod StateLemmas
+pub mod TallyLemmas
+pub mod VictimLemmas

@@ -1,0 +1,7 @@
+-- What stands for a bound variable, in order.
+pub mod BindingsLemmas
+pub mod BoundTermLemmas
+pub mod ListLemmas
+pub mod OccurringLemmas
+pub mod OrderLemmas
+pub mod TermLemmas

@@ -1,0 +1,7 @@
+-- The finest parts of a clause.
+pub mod ComponentExamples
+pub mod ComponentLemmas
+pub mod ForestLemmas
+pub mod GroupLemmas
+pub mod PlaceLemmas
+pub mod SplitLemmas

@@ -1,0 +1,8 @@
+-- The search for a matcher of all literals.
+pub mod CountingLemmas
+pub mod OnceLemmas
+pub mod OrderingLemmas
+pub mod PlacingLemmas
+pub mod SearchLemmas
+pub mod SubsumingLemmas
+pub mod ListLemmas

@@ -1,0 +1,3 @@
+-- All superpositions of two clauses.
+pub mod ListLemmas
+pub mod SuperposeLemmas

@@ -1,0 +1,72 @@
+-- What the terms of a most general unifier of two trees of different variables are like: no larger than what is unified, and of its
+-- symbols alone.
+use Rattle.std.proofs.Common.{◌≡◌, ℕ, ◌<◌, ◌≤◌, Bool, true, ◌&&◌, List, [], ◌∷◌, length, Some, refl, ap, sym, ◌∙◌, ⊎_elim, arith}
+use Rattle.std.proofs.lemmas.Bool.{and_from}
+use Rattle.std.proofs.lemmas.Option.{same_Some, option_and_then_some}
+use Rattle.fol_base.specs.Tree.{Tree, tree_size}
+use Rattle.fol_base.specs.Instance.{Substitution, instance, substitution}
+use Rattle.fol_base.specs.Place.{argument, subterm}
+use Rattle.kernel_steps.specs.Symbols.{symbols_pass}
+use Rattle.kernel_steps.proofs.AboutCalls.SymbolLemmas.{passes-argument}
+use Rattle.eq_rules.proofs.AboutConclusions.BindingLemmas.{SymbolTest, changed, changed_there, smaller_or_same, variable_size, cleaned, cleaned-passes, cleaned-instance, before-passes}
+use Rattle.superpose.proofs.AboutSteps.ApartLemmas.{IsGeneralApart}
+
+-- of the two lists that a step binds
+pub binds_two : (first second : Bool) → first ≡ true → second ≡ true → (first && (second && true)) ≡ true
+binds_two first second h k = and_from first (second && true) h (and_from second true k refl)
+
+pub subterm-passes :
+    (test : SymbolTest) (place : List ℕ) (t u : Tree) → subterm place t ≡ Some u → symbols_pass test t ≡ true → symbols_pass test u ≡ true
+subterm-passes test [] t u there h = ap (symbols_pass test) (sym (same_Some t u there)) ∙ h
+subterm-passes test (k ∷ place) t u there h =
+    option_and_then_some (subterm place) (argument k t) u there λ a a_is a_there.
+    subterm-passes test place a u a_there (passes-argument test k t a a_is h)
+
+module _ (s t : Tree) (left right : List Tree) (general : IsGeneralApart s t left right) where
+  abbrev σ : Substitution
+  σ = substitution left
+
+  abbrev τ : Substitution
+  τ = substitution right
+
+  -- ---- sizes
+
+  pub left_terms_small :
+      (most : ℕ) → tree_size (instance σ s) ≤ most → 1 ≤ most → (v : ℕ) → v < length left → tree_size (substitution left v) ≤ most
+  left_terms_small most small some v within =
+      ⊎_elim
+      (λ less. omega (arith, less, small))
+      (λ same.
+      let by = general.is_general (changed σ v) τ (same ∙ general.unifies) in
+      let size : tree_size (σ v) ≡ 1 = variable_size by.0 (σ v) 0 (sym (by.1 v within) ∙ changed_there σ v) in
+      omega (arith, size, some))
+      (smaller_or_same σ v s)
+
+  pub right_terms_small :
+      (most : ℕ) → tree_size (instance σ s) ≤ most → 1 ≤ most → (v : ℕ) → v < length right → tree_size (substitution right v) ≤ most
+  right_terms_small most small some v within =
+      let one : tree_size (instance σ s) ≡ tree_size (instance τ t) = ap tree_size general.unifies in
+      ⊎_elim
+      (λ less. omega (arith, less, one, small))
+      (λ same.
+      let by = general.is_general σ (changed τ v) (general.unifies ∙ sym same) in
+      let size : tree_size (τ v) ≡ 1 = variable_size by.0 (τ v) 0 (sym (by.2 v within) ∙ changed_there τ v) in
+      omega (arith, size, some))
+      (smaller_or_same τ v t)
+
+  -- ---- symbols
+
+  module _ (test : SymbolTest) (s_passes : symbols_pass test s ≡ true) (t_passes : symbols_pass test t ≡ true) where
+    cleaned_unify : instance (λ v. cleaned test (σ v)) s ≡ instance (λ v. cleaned test (τ v)) t
+    cleaned_unify =
+        cleaned-instance test σ s s_passes ∙ ap (cleaned test) general.unifies ∙ sym (cleaned-instance test τ t t_passes)
+
+    pub left_terms_pass : (v : ℕ) → v < length left → symbols_pass test (substitution left v) ≡ true
+    left_terms_pass v within =
+        let by = general.is_general (λ w. cleaned test (σ w)) (λ w. cleaned test (τ w)) cleaned_unify in
+        before-passes test by.0 (σ v) (ap (symbols_pass test) (sym (by.1 v within)) ∙ cleaned-passes test (σ v))
+
+    pub right_terms_pass : (v : ℕ) → v < length right → symbols_pass test (substitution right v) ≡ true
+    right_terms_pass v within =
+        let by = general.is_general (λ w. cleaned test (σ w)) (λ w. cleaned test (τ w)) cleaned_unify in
+        before-passes test by.0 (τ v) (ap (symbols_pass test) (sym (by.2 v within)) ∙ cleaned-passes test (τ v))

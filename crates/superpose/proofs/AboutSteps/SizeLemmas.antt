@@ -1,0 +1,218 @@
+-- From the call with a unifier to the lemmas: sizes as they are told, and what each answer says.
+use Rattle.std.proofs.Common.{◌≡◌, ℕ, ◌+◌, ◌*◌, ◌-◌, ◌<◌, ◌≤◌, max, Bool, true, false, ◌&&◌, not, Option, None, Some, List, refl, ap, sym, ◌∙◌, subst, inl, inr, arith}
+use Rattle.std.specs.Prelude.{sum_by, slice_get}
+use Rattle.std.specs.Option.{is_some}
+use Rattle.std.proofs.lemmas.Bool.{true≢false, and_parts, cases_lt}
+use Rattle.fol_base.specs.Tree.{Tree, tree_size}
+use Rattle.fol_base.specs.Instance.{Substitution, instance, substitution}
+use Rattle.fol_base.specs.Clause.{TreeLiteral, TreeClause, literal_size, clause_size, clause_instance, clause_variables}
+use Rattle.fol_base.specs.Literal.{clause_of}
+use Rattle.fol_base.specs.Ground.{literals_instance}
+use Rattle.fol_base.specs.Canonical.{bound_of, terms_from}
+use Rattle.fol_base.specs.Selection.{SelectionMode, chosen, eligible}
+use Rattle.fol_base.specs.Sides.{side_of}
+use Rattle.fol_base.specs.WellFormed.{SymbolUse, are_literals_of}
+use Rattle.fol_base.specs.declared.clause.Side.TheVariants.{Left, Right}
+use Rattle.fol_base.specs.declared.limits.TheConstants.{MOST_SYMBOLS, SIZE_LIMIT}
+use Rattle.kernel_steps.specs.declared.step.Step.{Step}
+use Rattle.kernel_steps.specs.declared.step.Step.TheVariants as step
+use Rattle.bank_clause.specs.Clause.{clause_at}
+use Rattle.bank_clause.specs.declared.member.Member.{Member}
+use Rattle.unifier.specs.Bindings.{IsUnified}
+use Rattle.unifier.specs.Renaming.{AreNamedTerms}
+use Rattle.unifier.specs.Sizes.{stopped}
+use Rattle.unifier.specs.SolvedForm.{SolvedForm, substitution_of}
+use Rattle.unifier.proofs.AboutClasses.SharedLemmas.{own_terms_are_named}
+use Rattle.eq_rules.specs.Inferences.{IsConcluded, IsMade}
+use Rattle.eq_rules.specs.declared.inference.Made.{Made}
+use Rattle.eq_rules.specs.declared.inference.Made.TheVariants.{Conclusion, Heavy}
+use Rattle.eq_rules.proofs.AboutFactoring.FactorAnswers.{part_size, sides_size, total_size}
+use Rattle.eq_rules.proofs.AboutConclusions.MadeLemmas.{size_above}
+use Rattle.eq_rules.proofs.AboutConclusions.PremiseLemmas.{literal-kind}
+use Rattle.eq_rules.proofs.AboutConclusions.SideLemmas.{Kinds}
+use Rattle.superpose.specs.Sites.{is_usable, can_start, can_enter, literal_starts, literal_enters}
+use Rattle.superpose.specs.Superposing.{para_key, IsSuperposition, AreSites, allows, are_alike, StartsAt, EntersAt, SuperposesBy}
+use Rattle.superpose.specs.Concluding.{IsSuperpositionStep, GivesNumbered}
+use Rattle.eq_rules.specs.declared.concluding.LiteralSide.{LiteralSide}
+use Rattle.superpose.specs.declared.sites.LiteralPlace.{LiteralPlace}
+use Rattle.superpose.proofs.AboutSites.KindLemmas.{alike-kinds}
+use Rattle.superpose.proofs.AboutSteps.TermsLemmas.{left-size, right-size, plain, plain_size}
+use Rattle.superpose.proofs.AboutLists.SuperposeLemmas.{unlike_refused, apart_refused, superposition_not_allowed, superposition_heavy, superposition_concluded}
+
+-- ---- what sites say
+
+none_there : {X : Type 0} (o : Option X) → not (is_some o) ≡ true → o ≡ None
+none_there None h = refl
+none_there (Some x) h = absurd (true≢false (sym h))
+
+pub start_unchosen : (mode : SelectionMode) (ls : List TreeLiteral) (s : LiteralSide) → can_start mode ls s ≡ true → chosen mode ls ≡ None
+start_unchosen mode ls s h =
+    none_there (chosen mode ls)
+    (and_parts (not (is_some (chosen mode ls))) (literal_starts s.side (slice_get ls s.literal) && eligible ls s.literal None true) h).0
+
+unchosen_by : (positive : Bool) (o : Option ℕ) → not (positive && is_some o) ≡ true → positive ≡ true → o ≡ None
+unchosen_by true o h e = none_there o h
+unchosen_by false o h e = absurd (true≢false (sym e))
+
+pub enter_unchosen :
+    (mode : SelectionMode) (ls : List TreeLiteral) (s : LiteralSide) (l : TreeLiteral)
+    → slice_get ls s.literal ≡ Some l → can_enter mode ls s ≡ true → l.positive ≡ true → chosen mode ls ≡ None
+enter_unchosen mode ls s l there h positive =
+    let all : literal_enters ls (chosen mode ls) s (Some l) ≡ true = ap (literal_enters ls (chosen mode ls) s) (sym there) ∙ h in
+    let free : Bool = not (l.positive && is_some (chosen mode ls)) in
+    let rest = and_parts (is_usable s.side l) (free && eligible ls s.literal (chosen mode ls) l.positive) all in
+    unchosen_by l.positive (chosen mode ls) (and_parts free (eligible ls s.literal (chosen mode ls) l.positive) rest.1).0 positive
+
+-- ---- no unifier
+
+module _
+    (m n : Member) (s : LiteralSide) (t : LiteralPlace)
+    (starts : StartsAt (clause_at m.clause).literals s) (enters : EntersAt (clause_at n.clause).literals t) (mode : SelectionMode) where
+  pub unlike_none : are_alike s t starts.literal enters.literal enters.old ≡ false → IsSuperposition mode m s n t None
+  unlike_none refused usage clauses used second_used there second_there =
+      unlike_refused usage.is_predicate mode clauses m.number (clause_at m.clause) there n.number (clause_at n.clause) second_there s t starts enters
+      (literal-kind usage (clause_at m.clause) s.literal starts.literal used starts.there)
+      (literal-kind usage (clause_at n.clause) t.at.literal enters.literal second_used enters.there)
+      refused
+
+  pub apart_none : IsUnified true (side_of s.side starts.literal) enters.old None → IsSuperposition mode m s n t None
+  apart_none none usage clauses used second_used there second_there =
+      apart_refused usage.is_predicate mode clauses m.number (clause_at m.clause) there n.number (clause_at n.clause) second_there s t starts enters none
+
+-- ---- a step
+
+made_by_superposition :
+    (p : ℕ → Bool) (mode : SelectionMode) (clauses : ℕ → Option TreeClause) (number : ℕ) (c : TreeClause) (s : LiteralSide)
+    (partner : ℕ) (d : TreeClause) (t : LiteralPlace) (left right : List Tree) (made : Made)
+    → IsSuperpositionStep number c s partner d t left right made
+    → ((first_bind second_bind : List Tree) (e : TreeClause) → GivesNumbered c s d t left right first_bind second_bind e
+    → IsConcluded p mode clauses (para_key number s partner t)
+    (step.Para number partner s.literal s.side t.at.literal t.at.side t.place first_bind second_bind) e)
+    → IsMade p mode clauses (para_key number s partner t) made
+made_by_superposition p mode clauses number c s partner d t left right Heavy is by = absurd is
+made_by_superposition p mode clauses number c s partner d t left right (Conclusion st clause) is by =
+    subst (λ (k : Step). IsConcluded p mode clauses (para_key number s partner t) k (clause_of clause)) (sym is.2)
+    (by is.0 is.1 (clause_of clause) is.3)
+
+-- ---- by a unifier
+
+-- where the order allows it whatever is put in, a clause that is too large need not be built
+pub heavy_settled :
+    (m n : Member) (s : LiteralSide) (t : LiteralPlace) (b : SolvedForm) (r : SuperposesBy b (clause_at m.clause) s (clause_at n.clause) t)
+    (left_told right_told : ℕ)
+    → left_told ≡ stopped (clause_size (clause_instance (substitution_of b Left) (clause_at m.clause)))
+    → right_told ≡ stopped (clause_size (clause_instance (substitution_of b Right) (clause_at n.clause)))
+    → MOST_SYMBOLS < max left_told right_told
+    → (mode : SelectionMode) (choice : Option ℕ) → AreSites mode (clause_at m.clause) s (clause_at n.clause) t choice
+    → ((σ τ : Substitution) → allows (clause_at m.clause).literals s (clause_at n.clause).literals t choice σ τ ≡ true)
+    → IsSuperposition mode m s n t (Some Heavy)
+heavy_settled m n s t b r left_told right_told left_is right_is over mode choice sites allowed usage clauses used second_used there second_there =
+    let c : TreeClause = clause_at m.clause in
+    let d : TreeClause = clause_at n.clause in
+    let first_bound : ℕ = bound_of (clause_variables c) in
+    let second_bound : ℕ = bound_of (clause_variables d) in
+    let left : List Tree = terms_from 0 first_bound (substitution_of b Left) in
+    let right : List Tree = terms_from 0 second_bound (substitution_of b Right) in
+    superposition_heavy usage.is_predicate mode clauses m.number c there n.number d second_there s t b r left right
+    (own_terms_are_named b first_bound second_bound)
+    (start_unchosen mode c.literals s sites.starts)
+    (enter_unchosen mode d.literals t.at r.enters.literal r.enters.there sites.enters)
+    (alike-kinds usage.is_predicate s t r.starts.literal r.enters.literal r.enters.old
+    (literal-kind usage c s.literal r.starts.literal used r.starts.there)
+    (literal-kind usage d t.at.literal r.enters.literal second_used r.enters.there)
+    r.starts.no_truth r.enters.no_truth r.enters.old_there r.alike)
+    (ap (λ o. allows c.literals s d.literals t o (substitution left) (substitution right)) (sym sites.choice_is)
+    ∙ allowed (substitution left) (substitution right))
+    (elim (cases_lt MOST_SYMBOLS left_told) [
+      | inl first ↦ inl (size_above left_told (clause_size (clause_instance (substitution_of b Left) c)) MOST_SYMBOLS left_is first)
+      | inr first ↦
+          inr (inl (size_above right_told (clause_size (clause_instance (substitution_of b Right) d)) MOST_SYMBOLS right_is (omega (arith, first, over))))
+    ])
+
+module _
+    (m n : Member) (s : LiteralSide) (t : LiteralPlace) (b : SolvedForm) (r : SuperposesBy b (clause_at m.clause) s (clause_at n.clause) t)
+    (left right : List Tree)
+    (h : AreNamedTerms b (bound_of (clause_variables (clause_at m.clause))) (bound_of (clause_variables (clause_at n.clause))) left right)
+    (left_told right_told : ℕ)
+    (left_is : left_told ≡ stopped (clause_size (clause_instance (substitution_of b Left) (clause_at m.clause))))
+    (right_is : right_told ≡ stopped (clause_size (clause_instance (substitution_of b Right) (clause_at n.clause))))
+    (left_low : left_told < SIZE_LIMIT) (right_low : right_told < SIZE_LIMIT) where
+  abbrev c : TreeClause
+  c = clause_at m.clause
+
+  abbrev d : TreeClause
+  d = clause_at n.clause
+
+  left_total : clause_size (clause_instance (substitution_of b Left) c) ≡ left_told
+  left_total = total_size left_told (clause_size (clause_instance (substitution_of b Left) c)) left_is left_low
+
+  right_total : clause_size (clause_instance (substitution_of b Right) d) ≡ right_told
+  right_total = total_size right_told (clause_size (clause_instance (substitution_of b Right) d)) right_is right_low
+
+  pub left_sum : sum_by literal_size (literals_instance (substitution left) c.literals) ≡ left_told
+  left_sum = left-size c s d t b r left right h ∙ left_total
+
+  pub right_sum : sum_by literal_size (literals_instance (substitution right) d.literals) ≡ right_told
+  right_sum = right-size c s d t b r left right h ∙ right_total
+
+  abbrev pub side_size : ℕ
+  side_size = tree_size (instance (substitution left) (side_of s.side r.starts.literal))
+
+  pub side_low : side_size ≤ left_told
+  side_low =
+      let part = part_size (substitution left) c.literals s.literal r.starts.literal r.starts.there in
+      let sides = sides_size (substitution left) s.side r.starts.literal in
+      omega (arith, part, sides, left_sum)
+
+  -- the conclusion's size
+  pub made_size : sum_by literal_size (plain c s d t b r left right h) + 2 * side_size ≡ left_told + right_told
+  made_size = let all = plain_size c s d t b r left right h in omega (arith, all, left_sum, right_sum)
+
+  pub allowed_none :
+      (mode : SelectionMode) (choice : Option ℕ) → AreSites mode c s d t choice
+      → allows c.literals s d.literals t choice (substitution left) (substitution right) ≡ false → IsSuperposition mode m s n t None
+  allowed_none mode choice sites refused usage clauses used second_used there second_there =
+      superposition_not_allowed usage.is_predicate mode clauses m.number c there n.number d second_there s t b r left right h
+      (ap (λ o. allows c.literals s d.literals t o (substitution left) (substitution right)) (sym sites.choice_is) ∙ refused)
+
+  module _ (mode : SelectionMode) (choice : Option ℕ) (sites : AreSites mode c s d t choice)
+      (allowed : allows c.literals s d.literals t choice (substitution left) (substitution right) ≡ true) where
+    allowed_here : allows c.literals s d.literals t (chosen mode d.literals) (substitution left) (substitution right) ≡ true
+    allowed_here = ap (λ o. allows c.literals s d.literals t o (substitution left) (substitution right)) (sym sites.choice_is) ∙ allowed
+
+    kinds_here :
+        (usage : SymbolUse) → are_literals_of usage c.literals ≡ true → are_literals_of usage d.literals ≡ true
+        → Kinds usage.is_predicate (side_of s.side r.starts.literal) r.enters.old
+    kinds_here usage used second_used =
+        alike-kinds usage.is_predicate s t r.starts.literal r.enters.literal r.enters.old
+        (literal-kind usage c s.literal r.starts.literal used r.starts.there)
+        (literal-kind usage d t.at.literal r.enters.literal second_used r.enters.there)
+        r.starts.no_truth r.enters.no_truth r.enters.old_there r.alike
+
+    pub heavy_by_size :
+        (gone : ℕ) → gone ≡ side_size → MOST_SYMBOLS < max (max left_told right_told) (left_told + right_told - 2 * gone)
+        → IsSuperposition mode m s n t (Some Heavy)
+    heavy_by_size gone gone_is over usage clauses used second_used there second_there =
+        superposition_heavy usage.is_predicate mode clauses m.number c there n.number d second_there s t b r left right h
+        (start_unchosen mode c.literals s sites.starts)
+        (enter_unchosen mode d.literals t.at r.enters.literal r.enters.there sites.enters)
+        (kinds_here usage used second_used) allowed_here
+        (elim (cases_lt MOST_SYMBOLS left_told) [
+          | inl first ↦ inl (omega (arith, first, left_total))
+          | inr first ↦
+              (elim (cases_lt MOST_SYMBOLS right_told) [
+                | inl second ↦ inr (inl (omega (arith, second, right_total)))
+                | inr second ↦ inr (inr (omega (arith, first, second, over, gone_is, made_size)))
+              ])
+        ])
+
+    pub concluded_by_step :
+        (gone : ℕ) (made : Made) → gone ≡ side_size → max (max left_told right_told) (left_told + right_told - 2 * gone) ≤ MOST_SYMBOLS
+        → IsSuperpositionStep m.number c s n.number d t left right made → IsSuperposition mode m s n t (Some made)
+    concluded_by_step gone made gone_is small is usage clauses used second_used there second_there =
+        made_by_superposition usage.is_predicate mode clauses m.number c s n.number d t left right made is
+        (superposition_concluded usage.is_predicate mode clauses m.number c there n.number d second_there s t b r left right h
+        (start_unchosen mode c.literals s sites.starts)
+        (enter_unchosen mode d.literals t.at r.enters.literal r.enters.there sites.enters)
+        (kinds_here usage used second_used) allowed_here
+        (omega (arith, small, left_total)) (omega (arith, small, right_total)) (omega (arith, small, gone_is, made_size)))

@@ -1,0 +1,6 @@
+-- Files, includes and names.
+pub mod AsciiLemmas
+pub mod FileLemmas
+pub mod IncludeLemmas
+pub mod NameLemmas
+pub mod SizeLemmas

@@ -1,0 +1,9 @@
+-- Reading on from file to file, and how it ends.
+pub mod AwaitLemmas
+pub mod ClosedLemmas
+pub mod ConjectureLemmas
+pub mod FaultLemmas
+pub mod OnwardLemmas
+pub mod OutcomeLemmas
+pub mod PassedLemmas
+pub mod ReadLemmas

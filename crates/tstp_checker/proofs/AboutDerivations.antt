@@ -1,0 +1,4 @@
+-- The whole text.
+pub mod CheckLemmas
+pub mod LinesLemmas
+pub mod TakenLemmas

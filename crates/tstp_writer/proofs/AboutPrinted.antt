@@ -1,0 +1,19 @@
+-- Printed clauses, terms, names and sources.
+pub mod AcceptedTexts
+pub mod ClausePhrases
+pub mod LayoutLemmas
+pub mod LineLemmas
+pub mod NoteLemmas
+pub mod OriginLemmas
+pub mod PlaceLemmas
+pub mod ScriptLemmas
+pub mod StepTrees
+pub mod TermTexts
+pub mod TextLemmas
+pub mod VariableNames
+pub mod WalkLemmas
+pub mod WrittenBounds
+pub mod WrittenClauses
+pub mod WrittenLines
+pub mod WrittenNumbers
+pub mod WrittenSteps

@@ -1,0 +1,49 @@
+-- Lines that are taken one after another, none of them with a name.
+use Rattle.std.proofs.Common.{◌≡◌, ℕ, suc, ◌+◌, List, [], ◌∷◌, ◌++◌, length, refl, ap, ap₂, sym, ◌∙◌, append_assoc, append-nil, length-append}
+use Rattle.kernel_steps.specs.declared.step.Line.{Line}
+use Rattle.clausal_form.specs.DerivationSteps.{kind_of}
+use Rattle.clausal_form.specs.DerivationLine.{LineTree, NamedLine, Taken, names_with}
+use Rattle.clausal_form.specs.DerivationParts.{Setting}
+use Rattle.clausal_form.specs.DerivationCauses.{LineVerdict, taken, line_verdict}
+use Rattle.clausal_form.specs.DerivationLines.{LinesVerdict, all_taken, after_line, lines_verdict_from}
+use Rattle.clausal_form.proofs.AboutDerivations.TextLemmas.{verdict-joined}
+use Rattle.tstp_writer.specs.ReadableLines.{taken_as}
+
+-- what was taken, where no name was introduced
+abbrev pub state : List NamedLine → Taken
+state ls = record { lines = ls; introduced = [] }
+
+-- Behind the lines that were taken the trees are, each as one of the lines that follow.
+pub record Walks (s : Setting) (ls : List NamedLine) (ts : List LineTree) (ms : List NamedLine) : Type 0 where
+  pub verdict : lines_verdict_from s (all_taken (state ls)) ts ≡ all_taken (state (ls ++ ms))
+  pub lengths : length ts ≡ length ms
+
+pub walk-none : (s : Setting) (ls : List NamedLine) → Walks s ls [] []
+walk-none s ls = record { verdict = ap (λ ks. all_taken (state ks)) (sym (append-nil ls)); lengths = refl }
+
+pub walk-line :
+    (s : Setting) (ls : List NamedLine) (t : LineTree) (name : List ℕ) (line : Line) (ts : List LineTree) (ms : List NamedLine)
+    → (t.entry).name ≡ name → names_with [] (kind_of t.source) ≡ [] → line_verdict s (state ls) t ≡ taken line
+    → Walks s (ls ++ taken_as name line ∷ []) ts ms → Walks s ls (t ∷ ts) (taken_as name line ∷ ms)
+walk-line s ls t name line ts ms named none h rest = record {
+  verdict =
+      ap (λ (v : LineVerdict). lines_verdict_from s (after_line (state ls) t v) ts) h
+      ∙ ap₂
+      (λ (n : List ℕ) (names : List (List ℕ)). lines_verdict_from s (all_taken (record { lines = ls ++ taken_as n line ∷ []; introduced = names })) ts)
+      named none
+      ∙ rest.verdict
+      ∙ ap (λ ks. all_taken (state ks)) (append_assoc ls (taken_as name line ∷ []) ms);
+  lengths = ap suc rest.lengths;
+}
+
+pub walk-both :
+    (s : Setting) (ls : List NamedLine) (ts us : List LineTree) (ms ns : List NamedLine)
+    → Walks s ls ts ms → Walks s (ls ++ ms) us ns → Walks s ls (ts ++ us) (ms ++ ns)
+walk-both s ls ts us ms ns first second = record {
+  verdict =
+      verdict-joined s (all_taken (state ls)) ts us
+      ∙ ap (λ (v : LinesVerdict). lines_verdict_from s v us) first.verdict
+      ∙ second.verdict
+      ∙ ap (λ ks. all_taken (state ks)) (append_assoc ls ms ns);
+  lengths = length-append ts us ∙ ap₂ (λ n m. n + m) first.lengths second.lengths ∙ sym (length-append ms ns);
+}

@@ -1,0 +1,13 @@
+-- What is printed is read again as it was.
+pub mod InputLines
+pub mod LiteralKinds
+pub mod ProblemForms
+pub mod ProblemLemmas
+pub mod ProblemLevels
+pub mod ProblemTrees
+pub mod ReadableSources
+pub mod ReadableTexts
+pub mod ReadableTrees
+pub mod RenamedSteps
+pub mod SameLemmas
+pub mod ShownSymbols

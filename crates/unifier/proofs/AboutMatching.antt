@@ -1,0 +1,3 @@
+-- Matching, and worked examples.
+pub mod MatchLemmas
+pub mod ExampleLemmas
