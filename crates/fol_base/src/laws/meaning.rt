@@ -5,7 +5,7 @@ ghost use Rattle.fol_base.specs.Interpretation.{CongruenceOfValues, ValuesOfInst
 ghost use Rattle.fol_base.specs.Entails.{EntailsMembers, EntailsMonotone, EntailsCut, EmptyClauseEntailed};
 
 /// Some tree is ground over a list of function symbols exactly where the list has a constant.
-#[tactic(auto, using(crate::proofs::MeaningLemmas::constants_give_ground_trees))]
+#[tactic(auto, using(crate::proofs::AboutClauses::MeaningLemmas::constants_give_ground_trees))]
 pub fn ground_trees_need_a_constant()
     ensures { ConstantsGiveGroundTrees }
 {}
@@ -16,25 +16,25 @@ pub fn ground_instances_are_ground()
 {}
 
 /// A subterm replaced by one of equal value keeps the value of the whole.
-#[tactic(auto, using(crate::proofs::MeaningLemmas::congruence_of_values))]
+#[tactic(auto, using(crate::proofs::AboutClauses::MeaningLemmas::congruence_of_values))]
 pub fn congruence()
     ensures { CongruenceOfValues }
 {}
 
 /// The value of an instance is that of the tree, where each variable has the value of what is put in.
-#[tactic(auto, using(crate::proofs::MeaningLemmas::values_of_instances))]
+#[tactic(auto, using(crate::proofs::AboutClauses::MeaningLemmas::values_of_instances))]
 pub fn values_of_instances()
     ensures { ValuesOfInstances }
 {}
 
 /// An instance of a clause is true where the clause is, each variable having the value of what is put in.
-#[tactic(auto, using(crate::proofs::MeaningLemmas::truth_of_instances))]
+#[tactic(auto, using(crate::proofs::AboutClauses::MeaningLemmas::truth_of_instances))]
 pub fn truth_of_instances()
     ensures { TruthOfInstances }
 {}
 
 /// The truth of a ground clause doesn't depend on the values of variables.
-#[tactic(auto, using(crate::proofs::MeaningLemmas::truth_of_ground_clauses))]
+#[tactic(auto, using(crate::proofs::AboutClauses::MeaningLemmas::truth_of_ground_clauses))]
 pub fn truth_of_ground_clauses()
     ensures { TruthOfGroundClauses }
 {}
