@@ -6,3 +6,5 @@ pub mod ResultLemmas
 pub mod ShapeLemmas
 pub mod SymbolTerms
 pub mod WellFormedLemmas
+pub mod FormulaSymbols
+pub mod SymbolPlaces

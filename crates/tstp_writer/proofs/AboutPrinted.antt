@@ -10,6 +10,7 @@ pub mod ScriptLemmas
 pub mod StepTrees
 pub mod TermTexts
 pub mod TextLemmas
+pub mod PieceTexts
 pub mod VariableNames
 pub mod WalkLemmas
 pub mod WrittenBounds

@@ -20,7 +20,8 @@ use Rattle.tptp_problem.specs.Files.{base_of}
 use Rattle.tptp_problem.specs.Formulas.{Placed, placed_in, placed, selects, selected}
 use Rattle.tptp_problem.specs.Includes.{is_include}
 use Rattle.tptp_problem.specs.Problem.{LoadedFile, Progress, Step, Reads, tokens_of, lexemes, with_file, IsStepBy, IsIncludeStep, IsFormulaStep, AreSteps, next_behind, progress_behind, formulas_along, ReadsText, ReadsNamed, IsProblem}
-use Rattle.tptp_problem.proofs.AboutReading.AwaitLemmas.{include-length, width}
+use Rattle.tptp_problem.proofs.AboutReading.AwaitLemmas.{include-length}
+use Rattle.tptp_problem.proofs.AboutReading.IncludeTokens.{width}
 
 -- ---- phrases: each occurrence has a token
 

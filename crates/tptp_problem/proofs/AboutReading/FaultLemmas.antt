@@ -31,7 +31,8 @@ use Rattle.tptp_problem.specs.Includes.{StopsInclude, CutsInclude}
 use Rattle.tptp_problem.specs.Problem.{Progress, tokens_of, lexemes, start_of, place_of, is_second, with_formula, IsFormulaStep, IsFormulaFault, IsIncludeSyntaxFault}
 use Rattle.tptp_problem.specs.Shape.{IsLexed, file_of, lexemes_told, selections}
 use Rattle.tptp_problem.proofs.AboutFiles.AsciiLemmas.{word-there}
-use Rattle.tptp_problem.proofs.AboutReading.AwaitLemmas.{WholeThere, whole-there, stopped-there, cut-there, include-tail, tail_lexemes, width}
+use Rattle.tptp_problem.proofs.AboutReading.AwaitLemmas.{WholeThere, whole-there, stopped-there, cut-there}
+use Rattle.tptp_problem.proofs.AboutReading.IncludeTokens.{include-tail, tail_lexemes, width}
 use Rattle.tptp_problem.proofs.AboutFiles.IncludeLemmas.{word-name}
 
 pub fault-then :

@@ -1,33 +1,30 @@
 -- A line of a derivation that can be read again is taken when it is read.
-use mathlib.Core.Bool.{beq}
-use Rattle.std.proofs.Common.{◌≡◌, ℕ, ◌<◌, Bool, true, false, not, ◌&&◌, ◌||◌, ◌==◌, List, [], ◌∷◌, ◌++◌, map, length, take, Option, Some, None, refl, ap, ap₂, sym, ◌∙◌, subst, arith}
-use Rattle.std.specs.Prelude.{fold, flat_map, filter_map, zip, codes, slice_get, unwrap_or, option_map, option_and_then, is_some, bytes_eq, if◌then◌else◌}
+use Rattle.std.proofs.Common.{◌≡◌, ℕ, ◌<◌, Bool, true, false, not, ◌&&◌, ◌||◌, ◌==◌, List, [], ◌∷◌, ◌++◌, map, length, take, Option, Some, None, refl, ap, ap₂, sym, ◌∙◌, arith}
+use Rattle.std.specs.Prelude.{flat_map, filter_map, zip, codes, slice_get, unwrap_or, option_map, option_and_then, is_some, bytes_eq, if◌then◌else◌}
 use Rattle.std.specs.List.{list_all, list_any}
-use Rattle.std.proofs.lemmas.Bool.{and_parts, and_from, or_right, false≢true}
+use Rattle.std.proofs.lemmas.Bool.{and_from, or_right, false≢true}
 use Rattle.std.proofs.lemmas.Option.{slice_get_within}
 use Rattle.std.proofs.lemmas.List.{map-append}
-use Rattle.std.proofs.lemmas.Grind.{flat_map-append}
 use Rattle.fol_base.specs.Tree.{Tree, tree_variables}
 use Rattle.fol_base.specs.Instance.{Substitution}
 use Rattle.fol_base.specs.InstanceLaws.{PutsNoTruth}
 use Rattle.fol_base.specs.Canonical.{distinct}
 use Rattle.fol_base.specs.Ground.{literals_instance}
-use Rattle.fol_base.specs.Clause.{TreeLiteral, TreeClause, clause_variables, clause_instance, literal_eq, literals_eq, names_eq, clause_eq}
+use Rattle.fol_base.specs.Clause.{TreeLiteral, TreeClause, clause_variables, clause_instance, clause_eq}
 use Rattle.fol_base.specs.Literal.{clause_of}
 use Rattle.fol_base.specs.Rules.{superposed, resolved, factored, merged}
 use Rattle.fol_base.specs.declared.clause.Side.{Side}
-use Rattle.fol_base.proofs.AboutTerms.TreeLemmas.{tree_eq-refl}
 use Rattle.fol_base.proofs.AboutClauses.InferenceLemmas.{superpositions_in_instances, resolutions_in_instances, factorings_in_instances, merges_in_instances}
 use Rattle.fol_base.proofs.WorkedExamples.TestLemmas.{list_all-joined}
-use Rattle.tptp_tree.specs.Term.{TermTree, variable as named_variable, application as named_application, TermTrees, no_terms, term_then}
+use Rattle.tptp_tree.specs.Term.{TermTree}
 use Rattle.tptp_tree.specs.Formula.{FormulaTree}
 use Rattle.tptp_tree.specs.declared.problem.Annotated.{Annotated}
 use Rattle.signature.specs.declared.symbol.Symbol.{Symbol}
-use Rattle.signature.specs.Symbol.{has_symbol, with_symbol, are_different}
+use Rattle.signature.specs.Symbol.{has_symbol}
 use Rattle.signature.specs.Occurrences.{term_symbols, formula_symbols}
-use Rattle.signature.specs.Environment.{Environment, term_names, different_names}
+use Rattle.signature.specs.Environment.{Environment, different_names}
 use Rattle.signature.specs.Form.{clausal_form}
-use Rattle.kernel_steps.specs.Parents.{Parent, all_there}
+use Rattle.kernel_steps.specs.Parents.{Parent}
 use Rattle.kernel_steps.specs.Conclusion.{binds, bound_literals, concludes, verdict, by_one, by_two}
 use Rattle.kernel_steps.specs.Soundness.{bindings_of}
 use Rattle.kernel_steps.specs.Derivation.{is_clause_step, line_parents, ComesBy}
@@ -35,159 +32,25 @@ use Rattle.kernel_steps.specs.declared.step.Step.{Step}
 use Rattle.kernel_steps.specs.declared.step.Step.TheVariants.{Input, Negate, Clausify, Para, Refl, Factor, Merge, Component, Opposite, Split, Chain}
 use Rattle.kernel_steps.specs.declared.step.Line.{Line}
 use Rattle.kernel_steps.proofs.AboutCalls.VerdictParts.{OneParts, TwoParts, by_one-parts, by_two-parts}
-use Rattle.tptp_source.specs.Sources.{list_of}
-use Rattle.tptp_source.specs.Items.{term_in, terms_in, term_before}
 use Rattle.clausal_form.specs.DerivationClause.{ordinary_literals, is_written_clause, numbered_from, symbols_in, variables_in, Numbering, term_by, clause_by}
-use Rattle.clausal_form.specs.DerivationItems.{only_one, list_in}
+use Rattle.clausal_form.specs.DerivationItems.{only_one}
 use Rattle.clausal_form.specs.DerivationSteps.{bindings_count, kind_of, rule_step}
 use Rattle.clausal_form.specs.DerivationSteps as kind
 use Rattle.clausal_form.specs.DerivationLine.{LineTree, NamedLine, Taken, kernel_line, names_with}
 use Rattle.clausal_form.specs.DerivationParts.{Setting, setting_of, line_kind, items_of, parent_places, parents_of as places_of_parents, parent_lines, only_parent_step, line_names, bound_terms, line_literals, all_bound, line_numbering, line_clause, line_bindings, line_place}
 use Rattle.clausal_form.specs.DerivationCauses.{text, order, unknown_parent, clausification, binding, rule, conclusion, new_symbol, fault, gives_clause, is_line_of, is_clausified, index_in, is_bound, are_bound, line_step, concluded, given_by_rule, given_by, is_formula_kind, is_written, has_new_symbol, is_old_name, LineVerdict, refused, taken, compared, line_verdict}
-use Rattle.tstp_writer.specs.ClauseTrees.{variable_name, term_tree, clause_formula}
-use Rattle.tstp_writer.specs.LineTrees.{Script, script_of, Layout, derived_name, term_item, term_items, status_item, step_items, step_source, clause_tree}
+use Rattle.tstp_writer.specs.ClauseTrees.{variable_name, clause_formula}
+use Rattle.tstp_writer.specs.LineTrees.{Script, script_of, Layout, derived_name, status_item, step_items, step_source, clause_tree}
 use Rattle.tstp_writer.specs.ReadableLines.{is_nameless_step, is_term_over, bound_by, line_variables, IsReadable, written_place, read_renaming, read_terms, placed_step, placed_line}
 use Rattle.tstp_writer.specs.DerivedLines.{HasNumberedForm, ParentIsTaken, OriginIsTaken, SourcesAreTaken, IsNewLine, DerivedLinesAreTaken}
-use Rattle.tstp_writer.proofs.ReadAgain.LiteralKinds.{term-over}
 use Rattle.tstp_writer.proofs.AboutPrinted.VariableNames.{IsReadBy, AreReadBy, all-front, all-back, read-by-places}
-use Rattle.tstp_writer.proofs.AboutPrinted.WrittenNumbers.{decimal-back, list-trees}
+use Rattle.tstp_writer.proofs.AboutPrinted.WrittenNumbers.{decimal-back}
 use Rattle.tstp_writer.proofs.ReadAgain.RenamedSteps.{canonical-read, binds-renamed, one-renamed, two-renamed}
-use Rattle.tstp_writer.proofs.AboutPrinted.WrittenClauses.{AreKnown, written_literals, IsClauseFormula, clause-formula, numbered, clause-back, term-names, term-known, term-back, all-known, all-names}
+use Rattle.tstp_writer.proofs.AboutPrinted.WrittenClauses.{AreKnown, written_literals, IsClauseFormula, clause-formula, numbered, clause-back, all-known, all-names}
 use Rattle.tstp_writer.proofs.AboutPrinted.WrittenSteps.{para-back, refl-back, factor-back, merge-back, parent-back}
 use Rattle.tstp_writer.proofs.AboutPrinted.WrittenBounds.{ParaFits, para-fits, refl-fits, factor-fits, merge-fits}
 use Rattle.tstp_writer.proofs.AboutPrinted.OriginLemmas.{origin-there}
-
--- ---- a clause is equal to itself
-
-beq-same : (b : Bool) → beq b b ≡ true
-beq-same true = refl
-beq-same false = refl
-
-literal_eq-same : (l : TreeLiteral) → literal_eq l l ≡ true
-literal_eq-same l = search (beq-same l.positive, tree_eq-refl l.left, tree_eq-refl l.right)
-
-literals_eq-same : (ls : List TreeLiteral) → literals_eq ls ls ≡ true
-literals_eq-same [] = refl
-literals_eq-same (l ∷ ls) = and_from (literal_eq l l) (literals_eq ls ls) (literal_eq-same l) (literals_eq-same ls)
-
-clause_eq-same : (c : TreeClause) → c.names ≡ [] → clause_eq c c ≡ true
-clause_eq-same c no_names =
-    and_from (literals_eq c.literals c.literals) (names_eq c.names c.names) (literals_eq-same c.literals) (ap (λ ns. names_eq ns ns) no_names)
-
--- symbols that are there add none
-fold-known : (known ss : List Symbol) → AreKnown known ss → fold with_symbol known ss ≡ known
-fold-known known [] h = refl
-fold-known known (s ∷ ss) h =
-    let parts = and_parts (has_symbol s known) (list_all (λ u. has_symbol u known) ss) h in
-    ap (λ b. fold with_symbol (if b then known else known ++ s ∷ []) ss) parts.0 ∙ fold-known known ss parts.1
-
--- ---- what a line binds
-
-mutual
-  term-read : (t : TermTree) → term_in (term_item t) ≡ Some t
-  term-read (named_variable x) = refl
-  term-read (named_application f ts) = ap (option_map (named_application f)) (arguments-read ts)
-
-  arguments-read : (ts : TermTrees) → terms_in (term_items ts) ≡ Some ts
-  arguments-read no_terms = refl
-  arguments-read (term_then t ts) = ap₂ term_before (term-read t) (arguments-read ts)
-
-abbrev written_terms : List Symbol → List Tree → List TermTree
-written_terms symbols ts = map (term_tree symbols) ts
-
-terms-read : (symbols : List Symbol) (ts : List Tree) → all_there (map term_in (map (λ t. term_item (term_tree symbols t)) ts)) ≡ Some (written_terms symbols ts)
-terms-read symbols [] = refl
-terms-read symbols (t ∷ ts) =
-    ap₂ (λ (o : Option TermTree) os. option_and_then (λ x. option_map (λ xs. x ∷ xs) os) o) (term-read (term_tree symbols t)) (terms-read symbols ts)
-
-bind-read : (symbols : List Symbol) (ts : List Tree) → list_in term_in (list_of (map (λ t. term_item (term_tree symbols t)) ts)) ≡ Some (written_terms symbols ts)
-bind-read symbols ts =
-    ap (λ us. all_there (map term_in us)) (list-trees (map (λ t. term_item (term_tree symbols t)) ts)) ∙ terms-read symbols ts
-
-abbrev bound_as : List Symbol → List Tree → Option (List TermTree)
-bound_as symbols ts = Some (written_terms symbols ts)
-
--- the terms that are bound are read as they were written
-bound-read :
-    (script : Script) (layout : Layout) (name : List ℕ) (c : TreeClause) (step : Step)
-    → bound_terms (clause_tree script name c (step_source script layout step)) ≡ map (bound_as script.symbols) (bindings_of step)
-bound-read script layout name c (Input place) = refl
-bound-read script layout name c (Negate place) = refl
-bound-read script layout name c (Clausify i) = refl
-bound-read script layout name c (Para first second from from_side into into_side place first_bind second_bind) =
-    ap₂ (λ o p. o ∷ p ∷ []) (bind-read script.symbols first_bind) (bind-read script.symbols second_bind)
-bound-read script layout name c (Refl parent literal bind) = ap (λ o. o ∷ []) (bind-read script.symbols bind)
-bound-read script layout name c (Factor parent becomes becomes_side other other_side bind) = ap (λ o. o ∷ []) (bind-read script.symbols bind)
-bound-read script layout name c (Merge parent stays goes bind) = ap (λ o. o ∷ []) (bind-read script.symbols bind)
-bound-read script layout name c (Component n) = refl
-bound-read script layout name c (Opposite n) = refl
-bound-read script layout name c (Split parent definitions parts) = refl
-bound-read script layout name c (Chain numbers pivots) = refl
-
--- all of them together
-bound-joined :
-    (symbols : List Symbol) (bs : List (List Tree))
-    → flat_map (λ o. unwrap_or o []) (map (bound_as symbols) bs) ≡ written_terms symbols (flat_map (λ ts. ts) bs)
-bound-joined symbols [] = refl
-bound-joined symbols (b ∷ bs) =
-    ap (λ us. written_terms symbols b ++ us) (bound-joined symbols bs) ∙ sym (map-append (term_tree symbols) b (flat_map (λ ts. ts) bs))
-
-bound-names :
-    (symbols : List Symbol) (ts : List Tree) → flat_map term_names (written_terms symbols ts) ≡ map variable_name (flat_map tree_variables ts)
-bound-names symbols [] = refl
-bound-names symbols (t ∷ ts) =
-    ap₂ ◌++◌ (term-names symbols t) (bound-names symbols ts)
-    ∙ sym (map-append variable_name (tree_variables t) (flat_map tree_variables ts))
-
-bound-known :
-    (symbols : List Symbol) (ts : List Tree) → list_all (is_term_over symbols) ts ≡ true
-    → AreKnown symbols (flat_map term_symbols (written_terms symbols ts))
-bound-known symbols [] h = refl
-bound-known symbols (t ∷ ts) h =
-    let parts = and_parts (is_term_over symbols t) (list_all (is_term_over symbols) ts) h in
-    list_all-joined (λ s. has_symbol s symbols) (term_symbols (term_tree symbols t)) (flat_map term_symbols (written_terms symbols ts))
-    (term-known symbols t (term-over symbols t parts.0)) (bound-known symbols ts parts.1)
-
-joined-over :
-    (test : Tree → Bool) (bs : List (List Tree)) → list_all (list_all test) bs ≡ true → list_all test (flat_map (λ ts. ts) bs) ≡ true
-joined-over test [] h = refl
-joined-over test (b ∷ bs) h =
-    let parts = and_parts (list_all test b) (list_all (list_all test) bs) h in
-    list_all-joined test b (flat_map (λ ts. ts) bs) parts.0 (joined-over test bs parts.1)
-
--- what is bound, as it is read
-abbrev read_bindings : Substitution → List (List Tree) → List (Option (List Tree))
-read_bindings σ bs = map (λ ts. Some (read_terms σ ts)) bs
-
-module _ (symbols : List Symbol) (different : are_different symbols ≡ true) (environment : Environment) (σ : Substitution) where
-  abbrev read_term : TermTree → Tree
-  read_term t = term_by (numbered symbols different environment σ) t
-
-  terms-again :
-      (ts : List Tree) → list_all (is_term_over symbols) ts ≡ true → AreReadBy environment σ (flat_map tree_variables ts)
-      → map read_term (written_terms symbols ts) ≡ read_terms σ ts
-  terms-again [] h read = refl
-  terms-again (t ∷ ts) h read =
-      let parts = and_parts (is_term_over symbols t) (list_all (is_term_over symbols) ts) h in
-      ap₂ ◌∷◌
-      (term-back symbols different environment σ t (term-over symbols t parts.0)
-      (all-front (IsReadBy environment σ) (tree_variables t) (flat_map tree_variables ts) read))
-      (terms-again ts parts.1 (all-back (IsReadBy environment σ) (tree_variables t) (flat_map tree_variables ts) read))
-
-  bindings-again :
-      (bs : List (List Tree)) → list_all (list_all (is_term_over symbols)) bs ≡ true
-      → AreReadBy environment σ (flat_map tree_variables (flat_map (λ ts. ts) bs))
-      → map (option_map (map read_term)) (map (bound_as symbols) bs) ≡ read_bindings σ bs
-  bindings-again [] h read = refl
-  bindings-again (b ∷ bs) h read =
-      let parts = and_parts (list_all (is_term_over symbols) b) (list_all (list_all (is_term_over symbols)) bs) h in
-      let rest : List Tree = flat_map (λ ts. ts) bs in
-      let both : AreReadBy environment σ (flat_map tree_variables b ++ flat_map tree_variables rest) =
-      subst (AreReadBy environment σ) (flat_map-append tree_variables b rest) read in
-      ap₂ ◌∷◌
-      (ap (λ ts. Some ts)
-      (terms-again b parts.0 (all-front (IsReadBy environment σ) (flat_map tree_variables b) (flat_map tree_variables rest) both)))
-      (bindings-again bs parts.1 (all-back (IsReadBy environment σ) (flat_map tree_variables b) (flat_map tree_variables rest) both))
+use Rattle.tstp_writer.proofs.AboutNeeded.BindingsAgain.{clause_eq-same, fold-known, written_terms, bound_as, bound-read, bound-joined, bound-names, bound-known, joined-over, read_bindings, bindings-again}
 
 -- a step without names adds none
 pub names-stay :

@@ -29,7 +29,7 @@ use Rattle.tstp_writer.specs.Printable.{IsShown, IsWritable, AreWritable}
 use Rattle.tstp_writer.specs.WrittenTexts.{AreShownSymbols}
 use Rattle.tstp_writer.proofs.ReadAgain.LiteralKinds.{term-over}
 use Rattle.tstp_writer.proofs.ReadAgain.ReadableTexts.{term-well, term-few}
-use Rattle.tstp_writer.proofs.AboutPrinted.TextLemmas.{decimal-digits}
+use Rattle.tstp_writer.proofs.AboutPrinted.PieceTexts.{decimal-digits}
 use Rattle.tstp_writer.proofs.ReadAgain.ProblemLemmas.{line_name-shown, name-writable, name-levels}
 
 -- ---- numbers

@@ -26,7 +26,7 @@ use Rattle.tstp_writer.specs.Printable.{IsShown, is_literal_formula, is_clause_f
 use Rattle.tstp_writer.specs.WrittenTexts.{AreShownSymbols}
 use Rattle.tstp_writer.proofs.ReadAgain.LiteralKinds.{IsTermOver, AreTermsOver, first-term, more-terms, IsHeadOver, function-head, IsEquationOver, by-kind}
 use Rattle.tstp_writer.proofs.AboutPrinted.TermTexts.{well}
-use Rattle.tstp_writer.proofs.AboutPrinted.TextLemmas.{variable_name-word}
+use Rattle.tstp_writer.proofs.AboutPrinted.PieceTexts.{variable_name-word}
 use Rattle.tstp_writer.proofs.ReadAgain.ProblemLevels.{parentheses-some}
 
 -- ---- names

@@ -20,7 +20,7 @@ use Rattle.unifier.specs.Solving.{relocated, IsRelocated}
 use Rattle.plain_types.proofs.Parity.{even-half, odd-half}
 use Rattle.unifier.proofs.AboutLayouts.PlaceLemmas.{ltb-is, ltb-less, ltb-not}
 use Rattle.unifier.proofs.AboutEquations.SolutionLemmas.{unbound}
-use Rattle.unifier.proofs.AboutLayouts.RenameLemmas.{code-within, within-left, within-right}
+use Rattle.unifier.proofs.AboutLayouts.RankLemmas.{code-within, within-left, within-right}
 
 -- ---- places and tests
 

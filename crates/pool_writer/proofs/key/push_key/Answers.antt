@@ -1,6 +1,7 @@
 use Rattle.std.proofs.Common.{ap, sym, ◌∙◌}
 use Rattle.kernel_steps.specs.Keys.{key_text}
-use Rattle.tstp_writer.proofs.AboutPrinted.TextLemmas.{added, three_joined, five_added}
+use Rattle.tstp_writer.proofs.AboutPrinted.TextLemmas.{five_added}
+use Rattle.tstp_writer.proofs.AboutPrinted.PieceTexts.{added, three_joined}
 use Rattle.pool_writer.proofs.KeyLemmas.{para_of_parts, factor_of_parts}
 use Rattle.pool_writer.proofs.key.push_key.Goals as goal
 

@@ -1,6 +1,7 @@
 use Rattle.std.proofs.Common.{map}
 use Rattle.fol_base.specs.Literal.{literal_of}
-use Rattle.tstp_writer.proofs.AboutPrinted.TextLemmas.{three_added, added, clause_of_parts}
+use Rattle.tstp_writer.proofs.AboutPrinted.TextLemmas.{clause_of_parts}
+use Rattle.tstp_writer.proofs.AboutPrinted.PieceTexts.{three_added, added}
 use Rattle.tstp_writer.proofs.clauses.push_literals.Goals as goal
 
 pub returns : goal.returns

@@ -1,4 +1,5 @@
-use Rattle.tstp_writer.proofs.AboutPrinted.TextLemmas.{two_added, added, names_of_parts}
+use Rattle.tstp_writer.proofs.AboutPrinted.TextLemmas.{names_of_parts}
+use Rattle.tstp_writer.proofs.AboutPrinted.PieceTexts.{two_added, added}
 use Rattle.tstp_writer.proofs.clauses.push_some_names.Goals as goal
 
 pub returns : goal.returns

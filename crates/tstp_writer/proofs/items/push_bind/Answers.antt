@@ -1,6 +1,7 @@
 use Rattle.std.proofs.Common.{map}
 use Rattle.fol_base.specs.Term.{tree_of}
-use Rattle.tstp_writer.proofs.AboutPrinted.TextLemmas.{three_added, added, bind-text}
+use Rattle.tstp_writer.proofs.AboutPrinted.TextLemmas.{bind-text}
+use Rattle.tstp_writer.proofs.AboutPrinted.PieceTexts.{three_added, added}
 use Rattle.tstp_writer.proofs.items.push_bind.Goals as goal
 
 pub returns : goal.returns

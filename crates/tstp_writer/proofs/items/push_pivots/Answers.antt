@@ -1,4 +1,5 @@
-use Rattle.tstp_writer.proofs.AboutPrinted.TextLemmas.{three_added, added, pivots_of_parts}
+use Rattle.tstp_writer.proofs.AboutPrinted.TextLemmas.{pivots_of_parts}
+use Rattle.tstp_writer.proofs.AboutPrinted.PieceTexts.{three_added, added}
 use Rattle.tstp_writer.proofs.items.push_pivots.Goals as goal
 
 pub returns : goal.returns

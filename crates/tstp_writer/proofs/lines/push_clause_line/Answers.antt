@@ -4,7 +4,8 @@ use Rattle.tptp_tree.specs.declared.role.Role.TheVariants.{Plain}
 use Rattle.tstp_writer.specs.ClauseTrees.{clause_formula}
 use Rattle.tstp_writer.specs.LineTrees.{line_name, step_source}
 use Rattle.tstp_writer.specs.Scripts.{script_in}
-use Rattle.tstp_writer.proofs.AboutPrinted.TextLemmas.{five_added, added, line_of_parts}
+use Rattle.tstp_writer.proofs.AboutPrinted.TextLemmas.{five_added, line_of_parts}
+use Rattle.tstp_writer.proofs.AboutPrinted.PieceTexts.{added}
 use Rattle.tstp_writer.proofs.lines.push_clause_line.Goals as goal
 
 pub returns : goal.returns

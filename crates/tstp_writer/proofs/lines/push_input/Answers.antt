@@ -4,7 +4,8 @@ use Rattle.tptp_tree.specs.Entries.{AnnotatedTree}
 use Rattle.tptp_source.specs.Sources.{file_source}
 use Rattle.tstp_writer.specs.SourceTexts.{source_text}
 use Rattle.tstp_writer.specs.LineTrees.{line_name, named}
-use Rattle.tstp_writer.proofs.AboutPrinted.TextLemmas.{five_added, added, line_of_parts}
+use Rattle.tstp_writer.proofs.AboutPrinted.TextLemmas.{five_added, line_of_parts}
+use Rattle.tstp_writer.proofs.AboutPrinted.PieceTexts.{added}
 use Rattle.tstp_writer.proofs.lines.push_input.Goals as goal
 
 pub returns : goal.returns

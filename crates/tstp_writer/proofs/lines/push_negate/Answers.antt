@@ -6,7 +6,8 @@ use Rattle.tptp_tree.specs.Formula.{negation}
 use Rattle.tptp_tree.specs.declared.role.Role.TheVariants.{NegatedConjecture}
 use Rattle.tstp_writer.specs.LineTrees.{line_name, step_source}
 use Rattle.tstp_writer.specs.Scripts.{script_in}
-use Rattle.tstp_writer.proofs.AboutPrinted.TextLemmas.{five_added, added, line_of_parts}
+use Rattle.tstp_writer.proofs.AboutPrinted.TextLemmas.{five_added, line_of_parts}
+use Rattle.tstp_writer.proofs.AboutPrinted.PieceTexts.{added}
 use Rattle.tstp_writer.proofs.lines.push_negate.Goals as goal
 
 pub returns : goal.returns

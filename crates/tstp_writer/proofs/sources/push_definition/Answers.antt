@@ -1,4 +1,4 @@
-use Rattle.tstp_writer.proofs.AboutPrinted.TextLemmas.{three_added, three_joined}
+use Rattle.tstp_writer.proofs.AboutPrinted.PieceTexts.{three_added, three_joined}
 use Rattle.tstp_writer.proofs.sources.push_definition.Goals as goal
 
 pub returns : goal.returns

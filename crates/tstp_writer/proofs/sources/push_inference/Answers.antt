@@ -1,5 +1,5 @@
 use Rattle.std.proofs.Common.{ap, ◌∙◌, ◌++◌}
-use Rattle.tstp_writer.proofs.AboutPrinted.TextLemmas.{three_added, three_joined}
+use Rattle.tstp_writer.proofs.AboutPrinted.PieceTexts.{three_added, three_joined}
 use Rattle.tstp_writer.proofs.sources.push_inference.Goals as goal
 
 pub returns : goal.returns

@@ -1,5 +1,5 @@
 use Rattle.tstp_writer.specs.LineTrees.{derived_name}
-use Rattle.tstp_writer.proofs.AboutPrinted.TextLemmas.{next_added}
+use Rattle.tstp_writer.proofs.AboutPrinted.PieceTexts.{next_added}
 use Rattle.tstp_writer.proofs.sources.push_more_parents.Goals as goal
 
 pub loop-parent-preserved : goal.loop-parent-preserved

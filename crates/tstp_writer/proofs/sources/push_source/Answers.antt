@@ -1,5 +1,6 @@
 use Rattle.std.proofs.Common.{sym, ◌∙◌}
-use Rattle.tstp_writer.proofs.AboutPrinted.TextLemmas.{added, source_of_columns, source_of_introduction}
+use Rattle.tstp_writer.proofs.AboutPrinted.TextLemmas.{source_of_columns, source_of_introduction}
+use Rattle.tstp_writer.proofs.AboutPrinted.PieceTexts.{added}
 use Rattle.tstp_writer.specs.Scripts.{script_in}
 use Rattle.tstp_writer.proofs.sources.push_source.Goals as goal
 

@@ -4,7 +4,7 @@ use Rattle.clausal_form.specs.DerivationLine.{entry_of}
 use Rattle.tstp_writer.specs.LineTexts.{shown_text}
 use Rattle.tstp_writer.specs.LineTrees.{line_name, input_tree}
 use Rattle.tstp_writer.specs.Scripts.{script_in}
-use Rattle.tstp_writer.proofs.AboutPrinted.TextLemmas.{added, item_there, item_past}
+use Rattle.tstp_writer.proofs.AboutPrinted.PieceTexts.{added, item_there, item_past}
 use Rattle.tstp_writer.proofs.text.push_input_at.Goals as goal
 
 pub returns-in-Some : goal.returns-in-Some

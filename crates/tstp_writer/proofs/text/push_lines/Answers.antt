@@ -1,6 +1,7 @@
 use Rattle.tstp_writer.specs.LineTrees.{cited_tree, negated_tree, derived_tree}
 use Rattle.tstp_writer.specs.Scripts.{script_in}
-use Rattle.tstp_writer.proofs.AboutPrinted.TextLemmas.{added, three_added, shown_of_parts}
+use Rattle.tstp_writer.proofs.AboutPrinted.TextLemmas.{shown_of_parts}
+use Rattle.tstp_writer.proofs.AboutPrinted.PieceTexts.{added, three_added}
 use Rattle.tstp_writer.proofs.text.push_lines.Goals as goal
 
 pub returns : goal.returns

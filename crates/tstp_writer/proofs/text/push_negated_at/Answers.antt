@@ -4,7 +4,7 @@ use Rattle.clausal_form.specs.DerivationLine.{entry_of}
 use Rattle.tstp_writer.specs.LineTexts.{shown_text}
 use Rattle.tstp_writer.specs.LineTrees.{negated_name, negate_tree}
 use Rattle.tstp_writer.specs.Scripts.{script_in}
-use Rattle.tstp_writer.proofs.AboutPrinted.TextLemmas.{item_past}
+use Rattle.tstp_writer.proofs.AboutPrinted.PieceTexts.{item_past}
 use Rattle.tstp_writer.proofs.text.push_negated_at.Goals as goal
 
 pub returns-in-None : goal.returns-in-None

@@ -1,5 +1,5 @@
 use Rattle.std.proofs.Common.{arith}
-use Rattle.unifier.proofs.AboutLayouts.RenameLemmas.{own-names}
+use Rattle.unifier.proofs.AboutLayouts.RankLemmas.{own-names}
 use Rattle.unifier.proofs.solution.Solution.apply.Goals as goal
 
 pub filled-requires-clause-names : goal.filled-requires-clause-names

@@ -2,7 +2,7 @@ use Rattle.std.proofs.Common.{◌≡◌, ◌+◌, ◌∙◌, Bool, true, false, 
 use mir.Val.{bool_byte}
 use Rattle.unifier.specs.Solution.{solved_form}
 use Rattle.unifier.specs.Renaming.{is_shared}
-use Rattle.unifier.proofs.AboutLayouts.RenameLemmas.{names-start, names-push, names-done}
+use Rattle.unifier.proofs.AboutLayouts.RankLemmas.{names-start, names-push, names-done}
 use Rattle.unifier.proofs.solution.Solution.names.Goals as goal
 
 pub loop-code-init : goal.loop-code-init

@@ -1,6 +1,6 @@
 use Rattle.unifier.specs.Solution.{solved_form}
 use Rattle.unifier.specs.Renaming.{is_shared}
-use Rattle.unifier.proofs.AboutLayouts.RenameLemmas.{SoFar}
+use Rattle.unifier.proofs.AboutLayouts.RankLemmas.{SoFar}
 use Rattle.unifier.proofs.solution.Solution.names.Given as goal
 
 abbrev pub invariant-loop-code : goal.invariant-loop-code

@@ -2,7 +2,8 @@ use Rattle.std.proofs.Common.{List, ℕ, length, slice_index, ap, sym, ◌∙◌
 use Rattle.fol_base.specs.declared.clause.Side.TheVariants.{Left, Right}
 use Rattle.unifier.specs.Solution.{solved_form}
 use Rattle.unifier.specs.Renaming.{HasNames, side_terms}
-use Rattle.unifier.proofs.AboutLayouts.RenameLemmas.{are-renamed, has-names, code-inside}
+use Rattle.unifier.proofs.AboutLayouts.UndoLemmas.{are-renamed}
+use Rattle.unifier.proofs.AboutLayouts.RankLemmas.{has-names, code-inside}
 use Rattle.unifier.proofs.solution.Solution.substs.Goals as goal
 
 pub side-requires-clause-names : goal.side-requires-clause-names

@@ -1,6 +1,7 @@
 use Rattle.std.proofs.Common.{arith}
 use Rattle.unifier.specs.Solution.{solved_form}
-use Rattle.unifier.proofs.AboutLayouts.RenameLemmas.{own-names, own-codes, own-answer}
+use Rattle.unifier.proofs.AboutLayouts.RenameLemmas.{own-answer}
+use Rattle.unifier.proofs.AboutLayouts.RankLemmas.{own-names, own-codes}
 use Rattle.unifier.proofs.solution.Solution.terms.Goals as goal
 
 pub side-requires-clause-names : goal.side-requires-clause-names
