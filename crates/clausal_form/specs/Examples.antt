@@ -1,8 +1,8 @@
--- The matrices of the worked examples.
-use Rattle.std.specs.Prelude.{ℕ, true, List, map}
+-- The matrices of the worked examples, and what was made before a formula.
+use Rattle.std.specs.Prelude.{ℕ, true, List, [], ◌∷◌, map}
 use Rattle.fol_base.specs.Tree.{application, no_trees}
 use Rattle.fol_base.specs.Clause.{TreeLiteral}
-use Rattle.signature.specs.Clausal.{atom_literal}
+use Rattle.signature.specs.Clausal.{Made, atom_literal}
 use Rattle.skolem.specs.Matrix.{MatrixTree, literal, conjunction, disjunction, matrices_of}
 
 -- the proposition of a symbol
@@ -14,3 +14,7 @@ all_of symbols = conjunction (matrices_of (map (λ s. literal (proposition s)) s
 
 abbrev pub one_of : List MatrixTree → MatrixTree
 one_of ms = disjunction 0 (matrices_of ms)
+
+-- one Skolem constant was made so far
+abbrev pub one_skolem_symbol_made : Made
+one_skolem_symbol_made = record { variables = 0; skolem_arities = 0 ∷ []; naming_arities = []; defining = [] }

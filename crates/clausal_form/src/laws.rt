@@ -6,13 +6,14 @@ ghost use Rattle.signature.specs.Form.{symbol_numbers, nothing_made};
 ghost use Rattle.signature.specs.Symbol.{function_symbol};
 ghost use Rattle.skolem.specs.Matrix.{truth, literal, conjunction, disjunction, matrices_of};
 ghost use Rattle.skolem.specs.Examples.{known, p_literal};
-ghost use Rattle.clausal_form.specs.Examples.{proposition, all_of, one_of};
+ghost use Rattle.clausal_form.specs.Examples.{proposition, all_of, one_of, one_skolem_symbol_made};
 ghost use Rattle.clausal_form.specs.FormFunctions.{functions_of};
 ghost use Rattle.clausal_form.specs.Occurring.{matrix_variables};
 ghost use Rattle.clausal_form.specs.Written.{written};
 ghost use Rattle.clausal_form.specs.Measure.{measured};
 ghost use Rattle.clausal_form.specs.Fault.{limit_fault, formula_fault, fault_or, form_fault};
 ghost use Rattle.clausal_form.specs.declared.fault.FormCause.TheVariants.{TooHeavy, TotalLimit};
+ghost use Rattle.clausal_form.specs.declared.fault.TheConstants.{MOST_EXPANDED};
 ghost use Rattle.clausal_form.specs.FaultLaws.{FaultsWithoutNumbers};
 
 mod derivation_examples;
@@ -55,19 +56,22 @@ pub fn occurring_examples()
     ensures functions { functions_of (known ++ function_symbol (codes "f") 2 ∷ []) ≡ record { number = 3; arity = 2 } ∷ [] }
 {}
 
-/// A limit itself isn't passed. Of two limits that are passed the fault is that of the clause.
+/// A limit itself isn't passed. Of two limits that are passed the fault is that of the clause. The limit on what is written out.
 pub fn limit_examples()
+    ensures expanded { MOST_EXPANDED ≡ 1000000 }
     ensures within { limit_fault 4000 (2 ^ 28) ≡ None }
     ensures too_heavy { limit_fault 4001 (2 ^ 28) ≡ Some TooHeavy }
     ensures total_limit { limit_fault 4000 (2 ^ 28 + 1) ≡ Some TotalLimit }
     ensures both { limit_fault 4001 (2 ^ 28 + 1) ≡ Some TooHeavy }
 {}
 
-/// Behind 2^28 less 3 symbols and clauses the clause `p` passes no limit, since it counts 3; behind one more it does. The first fault is
-/// that of the first formula that has one.
+/// Behind 2^28 less 3 symbols and clauses the clause `p` passes no limit, since it counts 3; behind one more it does. Skolem symbols of
+/// earlier formulas count. The first fault is that of the first formula that has one.
 pub fn fault_examples()
     ensures within { formula_fault (symbol_numbers (cnf_axiom p ∷ [])) (cnf_axiom p) (2 ^ 28 - 3) nothing_made ≡ None }
     ensures one_more { formula_fault (symbol_numbers (cnf_axiom p ∷ [])) (cnf_axiom p) (2 ^ 28 - 2) nothing_made ≡ Some TotalLimit }
+    ensures skolem_within { formula_fault (symbol_numbers (cnf_axiom p ∷ [])) (cnf_axiom p) (2 ^ 28 - 4) one_skolem_symbol_made ≡ None }
+    ensures skolem_one_more { formula_fault (symbol_numbers (cnf_axiom p ∷ [])) (cnf_axiom p) (2 ^ 28 - 3) one_skolem_symbol_made ≡ Some TotalLimit }
     ensures no_fault { form_fault mixed ≡ None }
     ensures first { fault_or (Some TooHeavy) (codes "a") (Some (TotalLimit, codes "b")) ≡ Some (TooHeavy, codes "a") }
     ensures second { fault_or None (codes "a") (Some (TotalLimit, codes "b")) ≡ Some (TotalLimit, codes "b") }

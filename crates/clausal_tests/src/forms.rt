@@ -105,6 +105,8 @@ fn limits_of_formulas(rt: HostRuntime) {
         ("cnf(a,axiom,", "p|", 1_999, "q(a)).", "TooHeavy a"),
         ("cnf(a,axiom,", "p|", 2_000, "p).", "TooHeavy a"),
         ("fof(a,axiom,p", "|$false", 50_000, ").", "1 3 hc0"),
+        ("fof(a,axiom,", "![X]:?[Y]:~", 160, "r(X,Y))."),
+        ("", "fof(a,axiom,?[X]:p(X)).", 66_000, ""),
     ] {
         let text = repeated(&rt, alloc, before, part, count, after);
         expect_counts(&rt, alloc, text.as_slice(), wanted);

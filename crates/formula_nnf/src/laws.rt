@@ -1,7 +1,7 @@
 // Worked examples of the definitions: each is the contract of a function with an empty body.
 
-ghost use Rattle.std.specs.Prelude.{◌≡◌, true, false};
-ghost use Rattle.tptp_tree.specs.Formula.{equivalent, connected, conjunction, disjunction, negation, formula_then, no_formulas};
+ghost use Rattle.std.specs.Prelude.{◌≡◌, [], ◌∷◌, codes, true, false};
+ghost use Rattle.tptp_tree.specs.Formula.{equivalent, different, for_all, truth, connected, quantified, conjunction, disjunction, negation, formula_then, no_formulas};
 ghost use Rattle.formula_nnf.specs.NormalForm.{normal_form};
 ghost use Rattle.formula_nnf.specs.NormalFormLaws.{NormalFormKeepsClauses};
 ghost use Rattle.formula_nnf.specs.ClauseCountLaws.{ClausesAreCounted};
@@ -9,11 +9,13 @@ ghost use Rattle.formula_nnf.specs.Expanded.{expanded_count};
 ghost use Rattle.formula_nnf.specs.ClauseCount.{clause_counts};
 ghost use Rattle.formula_nnf.specs.Examples.{p, q, nested, pairs};
 
-/// Equivalences are written out: `p <=> q` has four atoms, 18 nested ones fewer than a million, and 19 more.
+/// Equivalences are written out: `p <=> q` has four atoms, 18 nested ones fewer than a million, and 19 more. Truth values count as atoms
+/// do, and quantified variables too.
 pub fn expanded_examples()
     ensures one { expanded_count (connected equivalent p q) ≡ 4 }
     ensures below { expanded_count (nested 18) ≡ 786430 }
     ensures above { expanded_count (nested 19) ≡ 1572862 }
+    ensures variables { expanded_count (quantified for_all (codes "X" ∷ codes "Y" ∷ []) (connected different p truth)) ≡ 6 }
 {}
 
 /// `p <=> q` has two clauses. The disjunction of 13 pairs has two, and 128 that define two names; that of 6 has 64, and no name.

@@ -16,6 +16,8 @@ use Rattle.fol_base.specs.Canonical.{numbers_from}
 use Rattle.fol_base.specs.Interpretation.{Interpretation}
 use Rattle.signature.specs.declared.symbol.Symbol.{Symbol}
 use Rattle.signature.specs.Occurrences.{problem_symbols}
+use Rattle.signature.specs.Symbol.{true_symbol, predicate_symbol, function_symbol}
+use Rattle.signature.specs.Truth.{formula_true}
 use Rattle.signature.specs.Form.{clausal_form}
 
 -- ---- entries
@@ -106,6 +108,10 @@ a = application (codes "a") no_terms
 abbrev pub b : TermTree
 b = application (codes "b") no_terms
 
+-- f of a term
+abbrev pub f_of : TermTree → TermTree
+f_of t = application (codes "f") (term_then t no_terms)
+
 abbrev pub all_of : List FormulaTree → FormulaTree
 all_of fs = conjunction (formulas_of fs)
 
@@ -181,3 +187,20 @@ p_of_both =
       size = 2;
       rows = record { symbol = 1; arguments = 0 ∷ []; value = 1 } ∷ record { symbol = 1; arguments = 1 ∷ []; value = 1 } ∷ [];
     }
+
+-- whether a formula of the propositions p and q is true where p holds and q doesn't
+abbrev pub where_p_holds : FormulaTree → Bool
+where_p_holds f =
+    formula_true (true_symbol ∷ predicate_symbol (codes "p") 0 ∷ predicate_symbol (codes "q") 0 ∷ [])
+    (record { size = 1; rows = record { symbol = 1; arguments = []; value = 1 } ∷ [] }) f []
+
+-- whether one of the constants a and b and of f is true where they are 0 and 1, and f exchanges them
+abbrev pub where_f_exchanges : FormulaTree → Bool
+where_f_exchanges f =
+    formula_true (true_symbol ∷ function_symbol (codes "a") 0 ∷ function_symbol (codes "b") 0 ∷ function_symbol (codes "f") 1 ∷ [])
+    (record {
+      size = 2;
+      rows =
+          record { symbol = 2; arguments = []; value = 1 } ∷ record { symbol = 3; arguments = 0 ∷ []; value = 1 }
+          ∷ record { symbol = 3; arguments = 1 ∷ []; value = 0 } ∷ [];
+    }) f []

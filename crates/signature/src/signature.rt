@@ -96,14 +96,16 @@ impl Signature {
         self.symbols.as_slice()
     }
 
-    /// Adds a new symbol, and gives its number. After want of memory the signature is as before.
+    /// Adds a new symbol, and gives its number. A symbol over 2^32 is want of memory. After want of memory the signature is as before.
     pub fn add(&mut self, symbol: Symbol) -> Mem<u32>
         requires new { IsFalse (has_symbol symbol self.old) }
-        requires room { length self.old < 2 ^ 32 }
         ensures number { IfOk result (λ number. number ≡ length self.old) }
         ensures added { IfOk result (λ _. self.new ≡ self.old ++ symbol ∷ []) }
         ensures unchanged { OnErr result (self.new ≡ self.old) }
     {
+        if self.len() > u64::from(u32::MAX) {
+            return Err(NoMemory);
+        }
         let (place, _) = self.symbols.insert_full(symbol)?;
         Ok(place as u32)
     }
@@ -127,9 +129,6 @@ impl Signature {
             name: numbered_name(alloc, prefix, number)?,
             arity,
         };
-        if self.len() > u64::from(u32::MAX) {
-            return Err(NoMemory);
-        }
         self.add(symbol)?;
         Ok(())
     }

@@ -17,9 +17,6 @@ use signature::{Signature, SymbolKind, SymbolRef};
 use std::alloc::Global;
 use tptp_tree::TreeTerm;
 
-/// The most symbols that have numbers.
-const MOST_NUMBERS: u64 = 1 << 32;
-
 /// The numbers of a line's symbols and variables: the symbols of the form, behind them the others that were met, and the variables
 /// that were met. More symbols or variables than there are numbers are want of memory; after want of memory, what was met until then
 /// stands.
@@ -45,9 +42,6 @@ impl LineNumbers {
         let symbol = SymbolRef { kind, name, arity };
         if let Some(number) = self.symbols.find(symbol) {
             return Ok(number);
-        }
-        if self.symbols.len() >= MOST_NUMBERS {
-            return Err(NoMemory);
         }
         self.symbols.add(symbol.copy(alloc)?)
     }

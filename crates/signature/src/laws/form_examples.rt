@@ -48,7 +48,8 @@ pub fn equation_examples()
 {}
 
 /// `! [X] : ? [Y] : r(X,Y)` has the clause `r(X0,sk0(X0))`, and its signature ends with the spare constant `hc0`. The
-/// arguments of a Skolem term are the variables of the formula alone, in the order in which they were made.
+/// arguments of a Skolem term are the variables of the formula alone, in the order in which they were made; those that come through
+/// another Skolem term are among them.
 pub fn skolem_examples()
     ensures clauses { clauses (quantified for_all (x ∷ []) (quantified exists_some (y ∷ []) (r_of x y)))
         ≡ clause (literal true 1 (v 0 ∷ term 2 (v 0 ∷ []) ∷ []) ∷ []) ∷ [] }
@@ -63,6 +64,10 @@ pub fn skolem_examples()
         ≡ true_symbol ∷ predicate_symbol (codes "p") 1 ∷ predicate_symbol (codes "r") 2 ∷ function_symbol (codes "sk0") 0 ∷ [] }
     ensures arguments { clauses (quantified for_all (x ∷ y ∷ w ∷ []) (quantified exists_some (z ∷ []) (atom_of (codes "s") (y ∷ x ∷ z ∷ []))))
         ≡ clause (literal true 1 (v 0 ∷ v 1 ∷ term 2 (v 1 ∷ v 0 ∷ []) ∷ []) ∷ []) ∷ [] }
+    ensures through_another { clauses (quantified for_all (x ∷ []) (quantified exists_some (y ∷ [])
+        (all_of (r_of x y ∷ quantified exists_some (z ∷ []) (r_of y z) ∷ []))))
+        ≡ clause (literal true 1 (v 0 ∷ term 2 (v 0 ∷ []) ∷ []) ∷ [])
+        ∷ clause (literal true 1 (term 2 (v 0 ∷ []) ∷ term 3 (v 0 ∷ []) ∷ []) ∷ []) ∷ [] }
     ensures two { clauses (quantified for_all (x ∷ []) (quantified exists_some (y ∷ x ∷ []) (r_of x y)))
         ≡ clause (literal true 1 (term 3 [] ∷ term 2 [] ∷ []) ∷ []) ∷ [] }
 {}

@@ -47,9 +47,10 @@ pub fn name_arguments_examples()
         ≡ before_each (literal true 19 (v 0 ∷ v 1 ∷ [])) 10 9 [] ++ before_each (literal false 19 (v 0 ∷ v 1 ∷ [])) 1 9 (v 1 ∷ v 0 ∷ []) }
 {}
 
-/// A list of one clause makes no name, and of two lists the longer one is named.
+/// A list of one clause makes no name, of two lists the longer one is named, and 65 clauses are enough for a name.
 pub fn large_product_examples()
     ensures one_clause { clauses (one_of (p ∷ all_of (atoms (codes "e") [] 0 65) ∷ [])) ≡ before_each (literal true 1 []) 2 65 [] }
+    ensures smallest { length (clauses (one_of (all_of (atoms (codes "e") [] 0 5) ∷ all_of (atoms (codes "f") [] 0 13) ∷ []))) ≡ 18 }
     ensures second_is_longer { clauses (one_of (all_of (atoms (codes "e") [] 0 2) ∷ all_of (atoms (codes "f") [] 0 33) ∷ []))
         ≡ clause (literal true 1 [] ∷ literal true 36 [] ∷ []) ∷ clause (literal true 2 [] ∷ literal true 36 [] ∷ [])
         ∷ before_each (literal false 36 []) 3 33 [] }

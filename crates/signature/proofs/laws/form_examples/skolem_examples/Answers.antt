@@ -11,5 +11,6 @@ returns c = record {
   name_bound_again = refl;
   no_spare_constant = refl;
   arguments = refl;
+  through_another = refl;
   two = refl;
 }

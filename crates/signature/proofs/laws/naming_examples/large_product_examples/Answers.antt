@@ -6,5 +6,6 @@ pub returns : goal.returns
 unfolding digits
 returns c = record {
   one_clause = refl;
+  smallest = refl;
   second_is_longer = refl;
 }
