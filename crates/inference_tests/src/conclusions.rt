@@ -54,8 +54,7 @@ pub(crate) fn found_between<R: Wait + Abort>(
 }
 
 /// Two clauses, and the conclusions of the superpositions between them, where the first negative literal of greatest size is chosen. f, g are
-/// functions and a to c constants; p, q, r are predicates.
-/// The later letter is greater.
+/// functions and a to c constants; p, q, r are predicates. The later letter is greater.
 const BETWEEN: &[(&str, &str, &str)] = &[
     ("p(a)", "~p(X0) | q(X0)", "~$ | q(a)"),
     ("p(X0)", "~q(X0)", ""),
