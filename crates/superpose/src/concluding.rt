@@ -70,7 +70,7 @@ pub fn conclude_superposition(
     };
     let literal = from.literal as u64;
     let target = into.at.literal as u64;
-    let Some(literals) = para(
+    match para(
         alloc,
         &first_bound,
         literal,
@@ -79,13 +79,14 @@ pub fn conclude_superposition(
         target,
         into.at.side,
         &into.place,
-    )?
-    else {
-        unreachable!();
-    };
-    let names = names_of(alloc, &first.clause, &second.clause)?;
-    let step = para_step(alloc, first, from, second, into, first_bind, second_bind)?;
-    Ok(Made::Conclusion(step, Clause { literals, names }))
+    )? {
+        None => unreachable!(),
+        Some(literals) => {
+            let names = names_of(alloc, &first.clause, &second.clause)?;
+            let step = para_step(alloc, first, from, second, into, first_bind, second_bind)?;
+            Ok(Made::Conclusion(step, Clause { literals, names }))
+        }
+    }
 }
 
 /// The step of the superposition that puts in these terms.

@@ -101,8 +101,8 @@ ordered_superposition-requires-clause-heavy c l there =
     sym (small_not_heavy (size_under b Left first) (size_under b Right second) (tree_size (instance (substitution_of b Left) (side_of s.side l))) small)
 
 
-pub returns-then-max-gt-MOST_SYMBOLS-and-are_settled : goal.returns-then-max-gt-MOST_SYMBOLS-and-are_settled
-returns-then-max-gt-MOST_SYMBOLS-and-are_settled c mode sites =
+pub returns-then-are_settled : goal.returns-then-are_settled
+returns-then-are_settled c mode sites =
     let m = c.args.first.now.member.now in
     let n = c.args.second.now.member.now in
     let first = clause_at m.clause in
@@ -124,8 +124,8 @@ returns-then-max-gt-MOST_SYMBOLS-and-are_settled c mode sites =
     (c.are_settled.ensures c.if-are_settled.true)
 
 
-pub is_heavy-requires-clause-unified : goal.is_heavy-requires-clause-unified
-is_heavy-requires-clause-unified c =
+pub is_heavy-heavy-requires-clause-unified : goal.is_heavy-heavy-requires-clause-unified
+is_heavy-heavy-requires-clause-unified c =
     let m = c.args.first.now.member.now in
     let n = c.args.second.now.member.now in
     let first = clause_at m.clause in
@@ -237,7 +237,7 @@ ordered_superposition-requires-2-clause-heavy c l there =
     let side_same : c.in_ok-unified_size.unified_size ≡ side_size m n s t b r left right h =
     omega (arith, told_is, low, left_same, c.if-left_size-ge-SIZE_LIMIT.false) in
     let literal : r.starts.literal ≡ l = same_Some r.starts.literal l (sym r.starts.there ∙ there) in
-    c.is_heavy.ensures ∙ ap₂ (λ j k. is_heavy j k c.in_ok-unified_size.unified_size) left_same right_same
+    c.is_heavy-heavy.ensures ∙ ap₂ (λ j k. is_heavy j k c.in_ok-unified_size.unified_size) left_same right_same
     ∙ ap (is_heavy (size_under b Left first) (size_under b Right second))
     (side_same ∙ ap (λ (k : TreeLiteral). tree_size (instance (substitution_of b Left) (side_of s.side k))) literal)
 
