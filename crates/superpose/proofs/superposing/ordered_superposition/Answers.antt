@@ -1,5 +1,5 @@
-use Rattle.std.proofs.Common.{◌≡◌, ◌&&◌, refl, ◌≤◌, ◌<◌, List, length, arith, ap, ap₂, sym, ◌∙◌}
-use Rattle.std.specs.Prelude.{sum_by, slice_get}
+use Rattle.std.proofs.Common.{◌≡◌, ◌&&◌, refl, ◌≤◌, List, length, arith, ap, ap₂, sym, ◌∙◌}
+use Rattle.std.specs.Prelude.{sum_by}
 use Rattle.std.specs.Option.{is_some}
 use Rattle.std.proofs.lemmas.Option.{slice_get_within}
 use Rattle.fol_base.specs.Instance.{substitution}
@@ -29,7 +29,6 @@ terms-requires-clause-fits c =
     let second_few : second_bound ≤ SIZE_LIMIT = omega (arith, c.variable_bound-right_bound.ensures.variables, c.variable_bound-right_bound.ensures.limit) in
     fits-above b first_bound second_bound SIZE_LIMIT SIZE_LIMIT few second_few r.counted
 
-
 pub terms-requires-2-clause-fits : goal.terms-requires-2-clause-fits
 terms-requires-2-clause-fits c =
     let b = c.args.unifier.now in
@@ -42,12 +41,10 @@ terms-requires-2-clause-fits c =
     let second_few : second_bound ≤ SIZE_LIMIT = omega (arith, c.variable_bound-right_bound.ensures.variables, c.variable_bound-right_bound.ensures.limit) in
     fits-above b first_bound second_bound SIZE_LIMIT SIZE_LIMIT few second_few r.counted
 
-
 pub starts_under-requires-clause-inside : goal.starts_under-requires-clause-inside
 starts_under-requires-clause-inside c =
     let r = c.requires.unified in
     omega (arith, ap (λ (ls : List TreeLiteral). length ls) c.lend-left_literals.ensures, slice_get_within _ c.args.from.literal r.starts.literal r.starts.there)
-
 
 pub starts_under-requires-clause-size : goal.starts_under-requires-clause-size
 starts_under-requires-clause-size c =
@@ -70,7 +67,6 @@ starts_under-requires-clause-size c =
     ap (λ ls. sum_by literal_size (literals_instance (substitution left) ls)) c.lend-left_literals.ensures in
     omega (arith, lent, left_sum m n s t b r left right h, c.requires.left_small)
 
-
 pub returns-then-not-starts_under : goal.returns-then-not-starts_under
 returns-then-not-starts_under c mode sites =
     let m = c.args.first.now.member.now in
@@ -92,18 +88,15 @@ returns-then-not-starts_under c mode sites =
     allowed_none m n s t b r left right h mode c.args.second.now.sites.now.choice sites
     (ap (λ x. x && enters_under first.literals s second.literals t c.args.second.now.sites.now.choice (substitution left) (substitution right)) starts)
 
-
 pub enters_under-requires-clause-from_inside : goal.enters_under-requires-clause-from_inside
 enters_under-requires-clause-from_inside c =
     let r = c.requires.unified in
     omega (arith, ap (λ (ls : List TreeLiteral). length ls) c.lend-left_literals.ensures, slice_get_within _ c.args.from.literal r.starts.literal r.starts.there)
 
-
 pub enters_under-requires-clause-into_inside : goal.enters_under-requires-clause-into_inside
 enters_under-requires-clause-into_inside c =
     let r = c.requires.unified in
     omega (arith, ap (λ (ls : List TreeLiteral). length ls) c.lend-right_literals.ensures, slice_get_within _ c.args.into.now.at.literal r.enters.literal r.enters.there)
-
 
 pub enters_under-requires-clause-size : goal.enters_under-requires-clause-size
 enters_under-requires-clause-size c =
@@ -126,7 +119,6 @@ enters_under-requires-clause-size c =
     ≡ sum_by literal_size (literals_instance (substitution right) second.literals) =
     ap (λ ls. sum_by literal_size (literals_instance (substitution right) ls)) c.lend-right_literals.ensures in
     omega (arith, lent, right_sum m n s t b r left right h, c.requires.right_small)
-
 
 pub returns-then-not-enters_under : goal.returns-then-not-enters_under
 returns-then-not-enters_under c mode sites =
@@ -153,7 +145,6 @@ returns-then-not-enters_under c mode sites =
     ∙ sym c.if-not-enters_under.ensures in
     let allowed = ap₂ (λ x y. x && y) starts enters in
     allowed_none m n s t b r left right h mode c.args.second.now.sites.now.choice sites allowed
-
 
 pub returns-then-heavy : goal.returns-then-heavy
 returns-then-heavy c mode sites =
@@ -182,11 +173,9 @@ returns-then-heavy c mode sites =
     heavy_by_size m n s t b r left right h mode c.args.second.now.sites.now.choice sites allowed
     (sym (c.requires.heavy r.starts.literal r.starts.there) ∙ c.if-heavy.true)
 
-
 pub conclude_superposition-requires-clause-from_inside : goal.conclude_superposition-requires-clause-from_inside
 conclude_superposition-requires-clause-from_inside c =
     let r = c.requires.unified in slice_get_within _ c.args.from.literal r.starts.literal r.starts.there
-
 
 pub conclude_superposition-requires-clause-first_covers : goal.conclude_superposition-requires-clause-first_covers
 conclude_superposition-requires-clause-first_covers c =
@@ -207,7 +196,6 @@ conclude_superposition-requires-clause-first_covers c =
     c.variable_bound-left_bound.ensures.variables c.variable_bound-right_bound.ensures.variables c.in_ok-left_terms.ensures c.in_ok-right_terms.ensures in
     left-many first s second t b r left right h
 
-
 pub conclude_superposition-requires-clause-second_covers : goal.conclude_superposition-requires-clause-second_covers
 conclude_superposition-requires-clause-second_covers c =
     let m = c.args.first.now.member.now in
@@ -227,7 +215,6 @@ conclude_superposition-requires-clause-second_covers c =
     c.variable_bound-left_bound.ensures.variables c.variable_bound-right_bound.ensures.variables c.in_ok-left_terms.ensures c.in_ok-right_terms.ensures in
     right-many first s second t b r left right h
 
-
 pub conclude_superposition-requires-clause-applies : goal.conclude_superposition-requires-clause-applies
 conclude_superposition-requires-clause-applies c =
     let m = c.args.first.now.member.now in
@@ -246,7 +233,6 @@ conclude_superposition-requires-clause-applies c =
     own_both b first_bound second_bound c.variable_bound-left_bound.result c.variable_bound-right_bound.result left right
     c.variable_bound-left_bound.ensures.variables c.variable_bound-right_bound.ensures.variables c.in_ok-left_terms.ensures c.in_ok-right_terms.ensures in
     ap is_some (superposition_gives first s second t b r left right h)
-
 
 pub returns : goal.returns
 returns c mode sites =
@@ -274,4 +260,3 @@ returns c mode sites =
     let allowed = ap₂ (λ x y. x && y) starts enters in
     concluded_by_step m n s t b r left right h mode c.args.second.now.sites.now.choice sites allowed
     c.in_ok-made.made (sym (c.requires.heavy r.starts.literal r.starts.there) ∙ c.if-heavy.false) c.in_ok-made.ensures
-

@@ -1,4 +1,4 @@
-use Rattle.std.proofs.Common.{◌≡◌, ◌≤◌, ◌<◌, ◌+◌, List, length, arith, ap, ap₂, sym, ◌∙◌}
+use Rattle.std.proofs.Common.{◌≡◌, ◌≤◌, ◌+◌, List, length, arith, ap, ap₂, sym, ◌∙◌}
 use Rattle.std.specs.Prelude.{sum_by, slice_get}
 use Rattle.std.proofs.lemmas.Option.{slice_get_within, same_Some}
 use Rattle.fol_base.specs.Tree.{Tree, tree_size}
@@ -25,7 +25,6 @@ literal-equation-requires c =
     let r = c.requires.unified in
     omega (arith, ap (λ (ls : List TreeLiteral). length ls) c.lend-literals.ensures, slice_get_within _ c.args.from.literal r.starts.literal r.starts.there)
 
-
 pub ordered_superposition-requires-clause-left_small : goal.ordered_superposition-requires-clause-left_small
 ordered_superposition-requires-clause-left_small c =
     let m = c.args.first.now.member.now in
@@ -49,7 +48,6 @@ ordered_superposition-requires-clause-left_small c =
     let small : size_under b Left first + size_under b Right second ≤ MOST_SYMBOLS =
     surely_small m n s t b r left right h c.in_ok-unified_size.unified_size told_is (c.are_surely_small.ensures.0 c.if-are_surely_small.true) in
     omega (arith, small)
-
 
 pub ordered_superposition-requires-clause-right_small : goal.ordered_superposition-requires-clause-right_small
 ordered_superposition-requires-clause-right_small c =
@@ -75,7 +73,6 @@ ordered_superposition-requires-clause-right_small c =
     surely_small m n s t b r left right h c.in_ok-unified_size.unified_size told_is (c.are_surely_small.ensures.0 c.if-are_surely_small.true) in
     omega (arith, small)
 
-
 pub ordered_superposition-requires-clause-heavy : goal.ordered_superposition-requires-clause-heavy
 ordered_superposition-requires-clause-heavy c l there =
     let m = c.args.first.now.member.now in
@@ -100,7 +97,6 @@ ordered_superposition-requires-clause-heavy c l there =
     surely_small m n s t b r left right h c.in_ok-unified_size.unified_size told_is (c.are_surely_small.ensures.0 c.if-are_surely_small.true) in
     sym (small_not_heavy (size_under b Left first) (size_under b Right second) (tree_size (instance (substitution_of b Left) (side_of s.side l))) small)
 
-
 pub returns-then-are_settled : goal.returns-then-are_settled
 returns-then-are_settled c mode sites =
     let m = c.args.first.now.member.now in
@@ -122,7 +118,6 @@ returns-then-are_settled c mode sites =
     heavy_settled m n s t b r left_told right_told left_is right_is
     (omega (arith, c.max.ensures, c.if-max-gt-MOST_SYMBOLS.true)) mode c.args.second.now.sites.now.choice sites
     (c.are_settled.ensures c.if-are_settled.true)
-
 
 pub is_heavy-heavy-requires-clause-unified : goal.is_heavy-heavy-requires-clause-unified
 is_heavy-heavy-requires-clause-unified c =
@@ -158,7 +153,6 @@ is_heavy-heavy-requires-clause-unified c =
     let made = made_size m n s t b r left right h in
     omega (arith, made, side_same, left_same, right_same)
 
-
 pub ordered_superposition-requires-2-clause-left_small : goal.ordered_superposition-requires-2-clause-left_small
 ordered_superposition-requires-2-clause-left_small c =
     let m = c.args.first.now.member.now in
@@ -181,7 +175,6 @@ ordered_superposition-requires-2-clause-left_small c =
     let right_same : right_told ≡ size_under b Right second = stays right_told (size_under b Right second) right_is (omega (arith, c.if-right_size-ge-SIZE_LIMIT.false)) in
     omega (arith, left_same, c.if-left_size-ge-SIZE_LIMIT.false)
 
-
 pub ordered_superposition-requires-2-clause-right_small : goal.ordered_superposition-requires-2-clause-right_small
 ordered_superposition-requires-2-clause-right_small c =
     let m = c.args.first.now.member.now in
@@ -203,7 +196,6 @@ ordered_superposition-requires-2-clause-right_small c =
     let left_same : left_told ≡ size_under b Left first = stays left_told (size_under b Left first) left_is (omega (arith, c.if-left_size-ge-SIZE_LIMIT.false)) in
     let right_same : right_told ≡ size_under b Right second = stays right_told (size_under b Right second) right_is (omega (arith, c.if-right_size-ge-SIZE_LIMIT.false)) in
     omega (arith, right_same, c.if-right_size-ge-SIZE_LIMIT.false)
-
 
 pub ordered_superposition-requires-2-clause-heavy : goal.ordered_superposition-requires-2-clause-heavy
 ordered_superposition-requires-2-clause-heavy c l there =
@@ -240,4 +232,3 @@ ordered_superposition-requires-2-clause-heavy c l there =
     c.is_heavy-heavy.ensures ∙ ap₂ (λ j k. is_heavy j k c.in_ok-unified_size.unified_size) left_same right_same
     ∙ ap (is_heavy (size_under b Left first) (size_under b Right second))
     (side_same ∙ ap (λ (k : TreeLiteral). tree_size (instance (substitution_of b Left) (side_of s.side k))) literal)
-
