@@ -11,10 +11,14 @@ mod meetings;
 #[cfg(test)]
 mod normal_forms;
 #[cfg(test)]
+mod plain_superposition;
+#[cfg(test)]
 mod random_clauses;
 #[cfg(test)]
 mod samples;
 #[cfg(test)]
 mod simplified;
+#[cfg(test)]
+mod small_pairs;
 #[cfg(test)]
 mod subsumption;
