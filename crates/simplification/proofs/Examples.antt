@@ -1,5 +1,5 @@
 -- Worked outcomes, and what is none.
-use Rattle.std.proofs.Common.{◌≡◌, ℕ, zero, suc, Bool, true, false, List, [], ◌∷◌, refl, sym, subst, ◌==◌, inl, inr, ⊎_elim, arith}
+use Rattle.std.proofs.Common.{◌≡◌, ℕ, zero, suc, Bool, true, false, not, List, [], ◌∷◌, refl, sym, subst, ◌==◌, inl, inr, ⊎_elim, arith}
 use Rattle.std.specs.Prelude.{Option, None, Some, if◌then◌else◌}
 use Rattle.std.proofs.lemmas.Bool.{true≢false}
 use Rattle.std.proofs.lemmas.Option.{none-some}
@@ -26,7 +26,7 @@ neither false x e = none-some x e
 
 none_among : (n : ℕ) (d : TreeClause) → without (Some 0) members n ≡ Some d → ⊥
 none_among zero d there = none-some d there
-none_among (suc n) d there = none-some d there
+none_among (suc n) d there = neither (not (suc n == 0)) d there
 
 nothing_dropped : (i : ℕ) (ls : List TreeLiteral) → resolved alone.literals i ≡ Some ls → ⊥
 nothing_dropped zero ls gives = none-some ls gives
@@ -34,8 +34,8 @@ nothing_dropped (suc i) ls gives = none-some ls gives
 
 nothing_merged : (stays goes : ℕ) (ls : List TreeLiteral) → merged alone.literals stays goes ≡ Some ls → ⊥
 nothing_merged zero zero ls gives = none-some ls gives
-nothing_merged zero (suc j) ls gives = none-some ls gives
-nothing_merged (suc i) zero ls gives = none-some ls gives
+nothing_merged zero (suc j) ls gives = neither (0 == suc j) ls gives
+nothing_merged (suc i) zero ls gives = neither (suc i == 0) ls gives
 nothing_merged (suc i) (suc j) ls gives = neither (suc i == suc j) ls gives
 
 no_step : (d : TreeClause) → Reduces is_predicate (IsAmong (without (Some 0) members)) alone d → ⊥
