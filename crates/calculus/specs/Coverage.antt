@@ -124,4 +124,4 @@ MovedAwayCovered =
     (is_predicate : ℕ → Bool) (functions : FunctionSymbols is_predicate) (clauses : ℕ → Option TreeClause) (c : TreeClause) (ms : List Move)
     → All (HasSymbolsOf functions) (used_by_moves clauses ms) → HasSymbolsOf functions c → AreMoves is_predicate clauses c ms
     → (IsTrue (is_tautology (end_of_moves c ms)) → CoversInstancesOf functions (used_by_moves clauses ms) c)
-        × ((d : TreeClause) → Subsumes is_predicate d (end_of_moves c ms) → CoversInstancesOf functions (d ∷ used_by_moves clauses ms) c)
+    × ((d : TreeClause) → Subsumes is_predicate d (end_of_moves c ms) → CoversInstancesOf functions (d ∷ used_by_moves clauses ms) c)

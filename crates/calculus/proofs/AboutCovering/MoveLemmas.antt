@@ -158,6 +158,6 @@ moves_covered is_predicate functions clauses c ms all symbols moves = covered is
 
 pub moved_away_covered : MovedAwayCovered
 moved_away_covered is_predicate functions clauses c ms all symbols moves = (
-    away-by_none is_predicate functions clauses c ms all symbols moves,
-    away-by_one is_predicate functions clauses c ms all symbols moves,
+  away-by_none is_predicate functions clauses c ms all symbols moves,
+  away-by_one is_predicate functions clauses c ms all symbols moves,
 )
