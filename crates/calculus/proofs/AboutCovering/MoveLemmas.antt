@@ -1,5 +1,5 @@
 -- Clauses that are reduced by moves, or found redundant: their ground instances are covered by the result and the clauses used.
-use Rattle.std.proofs.Common.{◌≡◌, ℕ, Bool, true, ◌⊎◌, ◌==◌, List, [], ◌∷◌, refl, sym, ◌∙◌, subst, inl, inr, ⊎_elim}
+use Rattle.std.proofs.Common.{◌≡◌, ℕ, Bool, true, ◌==◌, List, [], ◌∷◌, refl, sym, subst, inl, inr, ⊎_elim}
 use Rattle.std.specs.Prelude.{Option, None, Some, filter_map, All, Contains, IsTrue}
 use Rattle.std.specs.List.{list_all, list_any, cons_option}
 use Rattle.std.proofs.lemmas.Bool.{and_parts, eqb-true, eq-eqb}
@@ -8,7 +8,7 @@ use Rattle.fol_base.specs.Clause.{TreeClause, clause_variables}
 use Rattle.fol_base.specs.Canonical.{canonical_clause, distinct}
 use Rattle.fol_base.specs.Symbols.{FunctionSymbols}
 use Rattle.fol_base.specs.Subsumption.{Subsumes}
-use Rattle.kbo_order.proofs.AboutMultisets.MemberLemmas.{In, In-contains, contains-In, any-In, In-all}
+use Rattle.kbo_order.proofs.AboutMultisets.MemberLemmas.{In, In-contains, any-In, In-all}
 use Rattle.kernel_steps.specs.Inference.{Reduces, is_tautology}
 use Rattle.kernel_steps.specs.Named.{OfOne}
 use Rattle.kernel_steps.specs.Moves.{Move, IsMove, AreMoves, end_of_moves, units_of}
