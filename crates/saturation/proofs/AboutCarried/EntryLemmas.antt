@@ -1,6 +1,6 @@
 -- The entries of a batch: the conclusion of each inference is covered by the told clauses, which are covered themselves, and by its result,
 -- which is due; or the inference is set aside.
-use Rattle.std.proofs.Common.{◌≡◌, ℕ, Bool, true, false, List, [], ◌∷◌, map, refl, sym, ◌∙◌, subst, inl, inr, ⊎_elim}
+use Rattle.std.proofs.Common.{◌≡◌, ℕ, Bool, true, false, List, [], ◌∷◌, map, refl, sym, subst, inl, inr, ⊎_elim}
 use Rattle.std.specs.Prelude.{Option, None, Some, cond}
 use Rattle.std.specs.List.{list_all, cons_option, AllByRecursion}
 use Rattle.fol_base.specs.Clause.{TreeClause}

@@ -1,15 +1,14 @@
 -- Two conclusions of one inference are variants: so what covers the instances of the one covers those of the other.
-use Rattle.std.proofs.Common.{◌≡◌, ℕ, Bool, true, List, [], ◌∷◌, ◌++◌, refl, ap, sym, ◌∙◌, subst, ⊎_elim}
-use Rattle.std.specs.Prelude.{All, IsTrue, flat_map}
-use Rattle.fol_base.specs.Tree.{Tree, variable, application, Trees, no_trees, tree_then, tree_variables, trees_variables}
+use Rattle.std.proofs.Common.{◌≡◌, ℕ, Bool, true, refl, ap, sym, ◌∙◌, subst}
+use Rattle.std.specs.Prelude.{All, IsTrue}
+use Rattle.fol_base.specs.Tree.{Tree, variable, application, Trees}
 use Rattle.fol_base.specs.Instance.{Substitution, instance, instances}
 use Rattle.fol_base.specs.InstanceLaws.{after}
-use Rattle.fol_base.specs.Clause.{TreeLiteral, TreeClause, literal_instance, literal_variables, clause_variables}
+use Rattle.fol_base.specs.Clause.{TreeClause, clause_variables}
 use Rattle.fol_base.specs.Symbols.{FunctionSymbols}
 use Rattle.fol_base.specs.Ground.{is_over, GroundInstance, literals_instance}
 use Rattle.fol_base.proofs.AboutInstances.GroundInstanceLemmas.{ground_instances_of_instances}
 use Rattle.fol_base.proofs.AboutInstances.InstanceLemmas.{literals_instance-again}
-use Rattle.kbo_order.proofs.AboutMultisets.MemberLemmas.{In}
 use Rattle.calculus.specs.Variants.{AreVariants}
 use Rattle.calculus.specs.Coverage.{CoversEach}
 use Rattle.calculus.proofs.AboutCovering.ClauseLemmas.{All-In}

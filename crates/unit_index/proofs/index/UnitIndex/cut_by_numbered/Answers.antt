@@ -3,7 +3,7 @@ use Rattle.std.specs.Prelude.{option_map}
 use Rattle.std.proofs.lemmas.Result.{IfOk-weaker}
 use Rattle.bank_clause.specs.declared.member.Member.{Member}
 use Rattle.rewriting.specs.Units.{is_kept}
-use Rattle.unit_index.proofs.CutLemmas.{by-unit, by-sign}
+use Rattle.unit_index.proofs.CutLemmas.{by-unit}
 use Rattle.unit_index.proofs.index.UnitIndex.cut_by_numbered.Goals as goal
 
 pub returns-clause-ok : goal.returns-clause-ok
