@@ -3,6 +3,7 @@ pub mod FrameLemmas
 pub mod GrowthLemmas
 pub mod EditLemmas
 pub mod RegisterLemmas
+pub mod ChainLemmas
 pub mod FilterLemmas
 pub mod FitLemmas
 pub mod NewsLemmas

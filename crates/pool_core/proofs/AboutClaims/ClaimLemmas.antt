@@ -17,6 +17,7 @@ use Rattle.kernel_steps.specs.Split.{has_number}
 use Rattle.term_bank.specs.declared.table.Table.{Table}
 use Rattle.bank_clause.specs.Clause.{clause_at}
 use Rattle.clause_queue.specs.Pairs.{without, numbers}
+use Rattle.pool_core.specs.CountedList.{keys_in}
 use Rattle.pool_core.specs.Record.{PoolRecord, Registered, Death, GivenJob, clauses_of, clause_numbered, numbers_of, lives, is_out, waits, is_awake, position_of, given_job, jobs_out}
 use Rattle.pool_core.specs.Claiming.{ready, next_given, can_give, new_job, given_out, claimed_by}
 use Rattle.pool_core.specs.Replay.{Origin, with_events, after, replay}
@@ -248,7 +249,7 @@ claimed-state :
     → b.positions.items ≡ ps
     → b.proof.queue.pairs ≡ without n a.proof.queue.pairs → b.proof.queue.spare ≡ a.proof.queue.spare + 1
     → b.jobs.entries ≡ insert_entry nat_cmp a.jobs.entries job (record { number = n; left = left })
-    → b.proof.steps.items ≡ a.proof.steps.items → b.counted.items ≡ a.counted.items → b.set_aside.items ≡ a.set_aside.items
+    → b.proof.steps.items ≡ a.proof.steps.items → keys_in b.counted ≡ keys_in a.counted → b.set_aside.items ≡ a.set_aside.items
     → b.proof.ended ≡ a.proof.ended
     → b.last_job ≡ job → b.place ≡ (a.place + 1) % 6
     → vec_len b.history.events + (length r.given + 1) ≤ vec_capacity b.history.events
@@ -305,7 +306,7 @@ pub record IsGivenOutBy (a b : Inside) (n job left : ℕ) : Type 0 where
   pub before : b.notes_before.items ≡ a.notes_before.items ++ length a.proof.notes.items ∷ []
   pub before_room : vec_len b.notes_before + (length a.jobs.entries + 1) ≤ vec_capacity b.notes_before
   pub steps : b.proof.steps.items ≡ a.proof.steps.items
-  pub counted : b.counted.items ≡ a.counted.items
+  pub counted : keys_in b.counted ≡ keys_in a.counted
   pub set_aside : b.set_aside.items ≡ a.set_aside.items
   pub ended : b.proof.ended ≡ a.proof.ended
   pub last_job : b.last_job ≡ job

@@ -19,6 +19,7 @@ use Rattle.kernel_steps.specs.declared.step.Line.{Line}
 use Rattle.term_bank.specs.declared.bank.Bank.{Bank}
 use Rattle.term_bank.specs.declared.table.Table.{Table}
 use Rattle.clause_queue.specs.Pairs.{without as without_pair}
+use Rattle.pool_core.specs.CountedList.{keys_in}
 use Rattle.pool_core.specs.Answers.{dead_justifier}
 use Rattle.pool_core.specs.Batches.{IsRightWork}
 use Rattle.pool_core.specs.Claiming.{ready}
@@ -271,7 +272,7 @@ module _ (a b : Inside) (batch : Batch) (j : GivenJob) (aside : List Key) (s : P
 
   taken-state :
       IsTakenBy a b batch → Follows a.options batch.job aside r s
-      → IsProofStateOf b.table.bank b.table b.proof s → b.counted.items ≡ s.counted → b.set_aside.items ≡ a.set_aside.items ++ aside
+      → IsProofStateOf b.table.bank b.table b.proof s → keys_in b.counted ≡ s.counted → b.set_aside.items ≡ a.set_aside.items ++ aside
       → length r.given ≤ b.proof.queue.spare → IsStateOf b now
   taken-state by follows proof counted set_aside spare = record {
     proof = recounted b.table.bank b.table b.proof s s.counted s.set_aside (r.events + 1) proof;
@@ -303,7 +304,7 @@ module _ (a b : Inside) (batch : Batch) (j : GivenJob) (aside : List Key) (s : P
       after a.options r (Return batch) ≡ now
       → ((usage : SymbolUse) → IsUseOf (origin_of a).inputs usage → IsAllowed usage.is_predicate a.options r (Return batch))
       → IsTakenBy a b batch → Follows a.options batch.job aside r s
-      → IsProofStateOf b.table.bank b.table b.proof s → b.counted.items ≡ s.counted → b.set_aside.items ≡ a.set_aside.items ++ aside
+      → IsProofStateOf b.table.bank b.table b.proof s → keys_in b.counted ≡ s.counted → b.set_aside.items ≡ a.set_aside.items ++ aside
       → NotesDeaths r s a.proof.notes.items b.proof.notes.items
       → length r.given ≤ b.proof.queue.spare → IsPool b
   taken-pool comes allowed by follows proof counted set_aside noted spare =
