@@ -8,4 +8,5 @@ pub mod FilterLemmas
 pub mod FitLemmas
 pub mod NewsLemmas
 pub mod NumberLemmas
+pub mod JobNumberLemmas
 pub mod PlaceLemmas

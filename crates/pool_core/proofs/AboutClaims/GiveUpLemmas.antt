@@ -34,7 +34,7 @@ use Rattle.pool_core.specs.declared.pool.OutJob.{OutJob}
 use Rattle.pool_core.specs.declared.pool.Pool.TheInside.{Inside}
 use Rattle.pool_core.specs.declared.register.Registration.{Registration}
 use Rattle.pool_core.proofs.AboutRecords.EditLemmas.{filter-less, filter-pairs, remove-filter, lookup-find}
-use Rattle.pool_core.proofs.AboutClaims.ClaimLemmas.{rising-by}
+use Rattle.pool_core.proofs.AboutClaims.ClaimedRecords.{rising-by}
 use Rattle.pool_core.proofs.AboutClaims.HandLemmas.{AreInHand, hands-of, others-apart, all-none, all-found}
 use Rattle.pool_core.proofs.AboutBounds.JobLemmas.{Rising, none-removed}
 use Rattle.pool_core.proofs.AboutBeginnings.LivingLemmas.{lives-there, awake-there, registered-there}

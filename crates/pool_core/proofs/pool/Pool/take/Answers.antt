@@ -15,7 +15,8 @@ use Rattle.pool_core.specs.declared.event.Event.TheVariants.{Return}
 use Rattle.pool_core.specs.declared.register.Registration.{Registration}
 use Rattle.pool_core.proofs.AboutClaims.HistoryLemmas.{event-count}
 use Rattle.pool_core.proofs.AboutClaims.StateLemmas.{record_of, kept-pool, given-count}
-use Rattle.pool_core.proofs.AboutReturns.TakenLemmas.{IsToBeTaken, to-be-taken, taken-pool, without, worked-follows, after-worked, open-record, work-of, noted-since}
+use Rattle.pool_core.proofs.AboutReturns.TakenLemmas.{taken-pool, without, worked-follows}
+use Rattle.pool_core.proofs.AboutReturns.TakeableLemmas.{IsToBeTaken, to-be-taken, after-worked, open-record, work-of, noted-since}
 use Rattle.pool_core.proofs.pool.Pool.take.Goals as goal
 
 pub take_memory-memory-requires-clause-fit : goal.take_memory-memory-requires-clause-fit
