@@ -2,6 +2,7 @@
 pub mod CountLemmas
 pub mod CountedLemmas
 pub mod CountedRecords
+pub mod SizedLemmas
 pub mod SpentLemmas
 pub mod DeathLemmas
 pub mod JustifiedLemmas

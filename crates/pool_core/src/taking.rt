@@ -1,6 +1,6 @@
 // Batches that are taken: first all memory that a return needs, and then what takes none.
 
-ghost use Rattle.std.specs.Prelude.{◌≡◌, ◌+◌, ◌≤◌, ◌++◌, [], ◌∷◌, true, is_some, length, IfOk, IfErr, OnOk, OnErr, vec_len, vec_capacity};
+ghost use Rattle.std.specs.Prelude.{◌≡◌, ◌+◌, ◌≤◌, ◌++◌, [], ◌∷◌, None, true, is_some, length, IfOk, IfErr, OnOk, OnErr, vec_len, vec_capacity};
 ghost use Rattle.term_bank.specs.Bank.{identity};
 ghost use Rattle.term_bank.specs.Table.{IsTableOf};
 ghost use Rattle.pool_core.specs.CountedList.{keys_in};
@@ -36,6 +36,7 @@ impl Pool {
         ensures bank { self.new.bank ≡ self.old.bank }
         ensures origin { self.new.origin ≡ self.old.origin }
         ensures history { OnOk result (self.new.history ≡ self.old.history ++ Return batch ∷ []) }
+        ensures open { OnErr result ((replay self.old.origin self.old.history).ended ≡ None) }
         ensures unchanged { OnErr result (self.new ≡ self.old) }
         ensures batch { IfErr result (λ refused. refused.batch ≡ batch) }
     {

@@ -213,6 +213,12 @@ module _ (c : BankClause) (hash : ℕ) (ss : List Registration) (is : clause_has
   pub looks-none : (next : ℕ) → Looks c hash ss next → next ≡ 0 → None ≡ position (is_living_copy c) ss
   looks-none next looks e = sym (no-place (is_living_copy c) ss (λ m s at. looks.above m s (omega (arith, e)) at))
 
+-- each number below the length is of a clause
+pub there-is : (ss : List Registration) (n : ℕ) → n < length ss → (s : Registration) × (slice_get ss n ≡ Some s)
+there-is [] n below = absurd (omega arith)
+there-is (s ∷ ss) zero below = (s, refl)
+there-is (s ∷ ss) (suc n) below = there-is ss n (omega arith)
+
 -- a living copy is the one
 pub copy-found :
     (c : BankClause) (ss : List Registration) (n : ℕ) (s : Registration) → IsOnlyCopy ss → slice_get ss n ≡ Some s → is_living_copy c s ≡ true

@@ -375,9 +375,9 @@ with_pair-above n size w p from (suc count) numbered_so within = by (p from) (wi
 
 pub get-front : {X : Type 0} (xs : List X) (x : X) (k : ℕ) → k < length xs → slice_get (xs ++ x ∷ []) k ≡ slice_get xs k
 get-front [] x k below = absurd (omega (arith, below))
-pub get-front (y ∷ ys) x zero below = refl
-pub get-front (y ∷ ys) x (suc k) below = get-front ys x k (omega (arith, below))
+get-front (y ∷ ys) x zero below = refl
+get-front (y ∷ ys) x (suc k) below = get-front ys x k (omega (arith, below))
 
 pub get-last : {X : Type 0} (xs : List X) (x : X) → slice_get (xs ++ x ∷ []) (length xs) ≡ Some x
 get-last [] x = refl
-pub get-last (y ∷ ys) x = get-last ys x
+get-last (y ∷ ys) x = get-last ys x

@@ -1,3 +1,4 @@
+use Rattle.std.specs.Prelude.{None}
 use Rattle.std.proofs.Common.{◌≡◌, ◌++◌, [], ◌∷◌, ℕ, List, map, length, refl, ap, sym, ◌∙◌, subst, arith}
 use Rattle.term_bank.specs.declared.bank.Bank.{Bank}
 use Rattle.term_bank.specs.declared.table.Table.{Table}
@@ -7,6 +8,7 @@ use Rattle.pool_core.specs.Counting.{lines_of_entries}
 use Rattle.pool_core.specs.Events.{events_of}
 use Rattle.pool_core.specs.Placing.{IsTakeable, IsWorkOf, IsSomeWork, IsOfGiven, IsLiving, IsCountedStateOf, NotesDeaths, HasRoom, entries_of, removals_of, lines_of_removals, heavy_keys_of}
 use Rattle.pool_core.specs.Record.{PoolRecord}
+use Rattle.pool_core.specs.Replay.{replay}
 use Rattle.pool_core.specs.Returning.{worked}
 use Rattle.pool_core.specs.State.{origin_of, IsProofStateOf, pair_of}
 use Rattle.pool_core.specs.View.{PoolView}
@@ -52,6 +54,11 @@ invariant_of-self g c =
       last_job = refl;
       place = refl;
     })
+
+pub returns-in_default-clause-open : goal.returns-in_default-clause-open
+returns-in_default-clause-open g c =
+    subst (λ (v : PoolView). (replay v.origin v.history).ended ≡ None) c.self.view_is
+    (open-record c.self.inside (record_of c.self.inside) c.self.invariant.state (sym c.is_some.ensures ∙ c.if-is_some.false))
 
 pub work-requires-clause-living : goal.work-requires-clause-living
 work-requires-clause-living g c =

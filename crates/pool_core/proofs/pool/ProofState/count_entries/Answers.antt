@@ -90,39 +90,6 @@ loop-entry-preserved-after-fate c =
       room = c.push.ensures.room ∙ c.loop-entry.invariant.room;
     }
 
-pub loop-entry-preserved-after-fate-2 : goal.loop-entry-preserved-after-fate-2
-loop-entry-preserved-after-fate-2 c =
-    let bank = c.args.bank.now in
-    let left : length (into_iter_items c.loop-entry.entry-iterator) ≡ length (c.in-Some.entry ∷ into_iter_items c.next.new.self) = ap length c.in-Some.ensures.steps.0 in
-    let is_spent : Bool = nat_le c.args.options.inferences (c.len.result + c.len-2.result) in
-    let so_far =
-    subst (λ (es : List Entry). AreCountedSoFar bank is_spent c.args.self.now (keys_in c.args.counted.now) c.args.entries c.args.results.items
-    c.loop-entry.self (keys_in c.loop-entry.counted) es (into_iter_items c.loop-entry.results)) c.in-Some.ensures.steps.0 c.loop-entry.invariant.so_far in
-    record {
-      so_far = elim c.match-fate.branch [
-        | in-Kept+in-Some-next w ↦
-            subst (λ (s : ProofState). AreCountedSoFar bank is_spent c.args.self.now (keys_in c.args.counted.now) c.args.entries c.args.results.items
-            s (keys_in c.push.new.self) (into_iter_items c.next.new.self) (into_iter_items c.match-fate.results)) (sym w.self-is)
-            (subst (λ (it : IntoIter Interned Global). AreCountedSoFar bank is_spent c.args.self.now (keys_in c.args.counted.now) c.args.entries c.args.results.items
-            w.arrive_counted.new.self (keys_in c.push.new.self) (into_iter_items c.next.new.self) (into_iter_items it)) (sym w.results-is)
-            (one-kept bank is_spent c.args.self.now (keys_in c.args.counted.now) c.args.entries c.args.results.items
-            c.loop-entry.self w.arrive_counted.new.self (keys_in c.loop-entry.counted) (keys_in c.push.new.self) c.in-Some.entry (into_iter_items c.next.new.self)
-            (into_iter_items c.loop-entry.results) (into_iter_items w.next-in-Kept.new.self) w.in-Some-next.interned w.in-Kept.lines w.in-Kept.results
-            w.in-Kept.is w.in-Some-next.ensures.items c.push.ensures.keys
-            w.arrive_counted.ensures.arrived w.arrive_counted.ensures.room w.arrive_counted.ensures.notes so_far))
-        | in_default w ↦
-            subst (λ (s : ProofState). AreCountedSoFar bank is_spent c.args.self.now (keys_in c.args.counted.now) c.args.entries c.args.results.items
-            s (keys_in c.push.new.self) (into_iter_items c.next.new.self) (into_iter_items c.match-fate.results)) (sym w.self-is)
-            (subst (λ (it : IntoIter Interned Global). AreCountedSoFar bank is_spent c.args.self.now (keys_in c.args.counted.now) c.args.entries c.args.results.items
-            c.loop-entry.self (keys_in c.push.new.self) (into_iter_items c.next.new.self) (into_iter_items it)) (sym w.results-is)
-            (one-other bank is_spent c.args.self.now (keys_in c.args.counted.now) c.args.entries c.args.results.items
-            c.loop-entry.self (keys_in c.loop-entry.counted) (keys_in c.push.new.self) c.in-Some.entry (into_iter_items c.next.new.self)
-            (into_iter_items c.loop-entry.results) (not-kept c.in-Some.entry.fate w.in_default.not-Kept) c.push.ensures.keys so_far))
-      ];
-      len = omega (arith, left, c.push.ensures.len, c.loop-entry.invariant.len);
-      room = c.push.ensures.room ∙ c.loop-entry.invariant.room;
-    }
-
 pub loop-entry-preserved : goal.loop-entry-preserved
 loop-entry-preserved c =
     let bank = c.args.bank.now in
